@@ -1,0 +1,4 @@
+pub mod Command
+pub mod Mask
+pub mod Name
+pub mod Refusal

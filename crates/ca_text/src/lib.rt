@@ -1,0 +1,23 @@
+//! Words of Channel Access: commands, statuses, refusals, masks, names and limits.
+//!
+//! Each stands once in the protocol specification (minor version 13), and every crate above takes it from here.
+#![tactic(auto)]
+
+mod command;
+mod limits;
+mod mask;
+mod name;
+mod refusal;
+mod status;
+
+pub use command::Command;
+pub use limits::{
+    ARENA_SLOTS, BEACON_SERVERS, BOARD_CELLS, CHANNEL_NAME_LIMIT, CIRCUIT_QUEUES, DATAGRAM_LIMIT,
+    ELEMENT_LIMIT, ENGINE_TURNS, MINOR_VERSION, OUTPUT_LIMIT, PAYLOAD_LIMIT, PRIORITY_LIMIT,
+    QUEUE_LOW_PLACES, QUEUE_PLACES, QUEUE_SUBSCRIPTIONS, RECORD_NAME_LIMIT, REPEATER_MEMBERS,
+    REPEATER_PORT, SERVER_PORT, WAITING_PUTS,
+};
+pub use mask::Mask;
+pub use name::{ChannelName, Name, RecordName};
+pub use refusal::Refusal;
+pub use status::Status;
