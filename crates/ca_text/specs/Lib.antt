@@ -1,4 +1,5 @@
 pub mod Command
+pub mod Limits
 pub mod Mask
 pub mod Name
 pub mod Refusal
