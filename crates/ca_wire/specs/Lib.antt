@@ -1,0 +1,6 @@
+pub mod Header
+pub mod Fields
+pub mod Message
+pub mod Stream
+pub mod Reading
+pub mod Traces

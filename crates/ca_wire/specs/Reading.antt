@@ -1,0 +1,74 @@
+-- What reading gives.
+use Rattle.std.specs.Prelude.{ℕ, ◌≡◌, ◌≢◌, ◌+◌, ◌%◌, ◌≤◌, ◌++◌, List, [], length, take, true, false, Option, Some, None, Result, Ok, Err}
+use Rattle.ca_text.specs.Limits.{payload_limit}
+use Rattle.ca_text.specs.declared.refusal.Refusal.{Refusal}
+use Rattle.ca_text.specs.declared.refusal.Refusal.TheVariants.{OutOfMemory, Misaligned, TooLarge, CircuitClosed}
+use Rattle.ca_wire.specs.declared.header.Header.{Header}
+use Rattle.ca_wire.specs.declared.reading.Head.{Head}
+use Rattle.ca_wire.specs.declared.reading.One.{One}
+use Rattle.ca_wire.specs.declared.reading.One.TheVariants as one
+use Rattle.ca_wire.specs.Header.{HeaderSpells}
+use Rattle.ca_wire.specs.Fields.{Fields}
+use Rattle.ca_wire.specs.Message.{Spells}
+use Rattle.ca_wire.specs.Stream.{Held, NoneBegins, BadAt, NotBad}
+
+-- no whole header begins these bytes
+abbrev pub NoHeader : List ℕ → Type 0
+NoHeader bytes = (h : Header) (front back : List ℕ) → HeaderSpells front h → bytes ≡ front ++ back → ⊥
+
+-- a whole header begins these bytes
+pub record BeginsHeader (bytes : List ℕ) (head : Head) : Type 0 where
+  pub header : HeaderSpells (take head.start bytes) head.header
+  pub room : head.start ≤ length bytes
+
+-- A whole message begins these bytes: its header in the first `start` bytes, then `size` bytes of payload.
+pub record IsWhole (bytes : List ℕ) (head : Head) : Type 0 where
+  pub header : HeaderSpells (take head.start bytes) head.header
+  pub room : head.start + head.header.size ≤ length bytes
+  pub aligned : head.header.size % 8 ≡ 0
+  pub within : head.header.size ≤ payload_limit
+
+abbrev pub IsOne : List ℕ → One → Type 0
+IsOne bytes (one.Whole head) = IsWhole bytes head
+IsOne bytes one.More = NoneBegins bytes × NotBad bytes
+IsOne bytes (one.Bad e) = BadAt bytes e
+
+-- From old, these bytes were given, with this answer, and left new.
+abbrev pub Gives : Held → List ℕ → Result (Unit {0}) Refusal → Held → Type 0
+Gives old bytes (Ok _) new = (old.closed ≡ false) × (new ≡ record { bytes = old.bytes ++ bytes; closed = false })
+Gives old bytes (Err CircuitClosed) new = (old.closed ≡ true) × (new ≡ old)
+Gives old bytes (Err OutOfMemory) new = (old.closed ≡ false) × (new ≡ old)
+Gives old bytes (Err _) new = ⊥
+
+-- a message was taken from the front
+pub record Takes (old : Held) (m : Fields) (new : Held) : Type 0 where
+  pub was_open : old.closed ≡ false
+  pub front : List ℕ
+  pub spells : Spells front m
+  pub bytes : old.bytes ≡ front ++ new.bytes
+  pub stays : new.closed ≡ false
+
+-- a message with a payload begins the bytes
+pub record HasPayload (bytes : List ℕ) : Type 0 where
+  pub m : Fields
+  pub front : List ℕ
+  pub back : List ℕ
+  pub spells : Spells front m
+  pub some : m.payload ≢ []
+  pub are : bytes ≡ front ++ back
+
+-- the bytes are bad, and the reader is closed for good
+pub record Closes (old : Held) (e : Refusal) (new : Held) : Type 0 where
+  pub was_open : old.closed ≡ false
+  pub bad : BadAt old.bytes e
+  pub closed : new ≡ record { bytes = old.bytes; closed = true }
+
+-- From old, the next message was asked for, with this answer, and left new. Only a payload takes memory.
+abbrev pub Nexts : Held → Result (Option Fields) Refusal → Held → Type 0
+Nexts old (Ok (Some m)) new = Takes old m new
+Nexts old (Ok None) new = (old.closed ≡ false) × NoneBegins old.bytes × NotBad old.bytes × (new ≡ old)
+Nexts old (Err CircuitClosed) new = (old.closed ≡ true) × (new ≡ old)
+Nexts old (Err Misaligned) new = Closes old Misaligned new
+Nexts old (Err TooLarge) new = Closes old TooLarge new
+Nexts old (Err OutOfMemory) new = (old.closed ≡ false) × HasPayload old.bytes × (new ≡ old)
+Nexts old (Err _) new = ⊥

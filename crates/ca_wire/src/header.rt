@@ -1,0 +1,85 @@
+ghost use Rattle.std.specs.Prelude.{◌≡◌, ◌+◌, ◌<◌, ◌≤◌, ◌++◌, OnErr, OnOk, vec_capacity, vec_len};
+ghost use Rattle.ca_wire.specs.Header.{header_spelling};
+
+use std::alloc::AllocError;
+
+/// What stands before the payload of a message (section "Message Structure").
+#[derive(Clone, Copy, Debug, PartialEq, Eq)]
+pub struct Header {
+    pub command: u16,
+    pub data_type: u16,
+    /// Bytes of the payload, its padding included.
+    pub size: u32,
+    /// Elements of the payload.
+    pub count: u32,
+    /// Parameter 1.
+    pub p1: u32,
+    /// Parameter 2.
+    pub p2: u32,
+}
+
+/// Sizes and counts from this one on take the extended form.
+const EXTENDED: u32 = 0xffff;
+
+/// Writes the header at the end: in 16 bytes where size and count are both below 65,535, else in 24.
+pub fn spell_header(header: &Header, out: &mut Vec<u8>) -> Result<(), AllocError>
+    ensures ok { OnOk result (out.new.items ≡ out.old.items ++ header_spelling header.now) }
+    ensures err { OnErr result (out.new.items ≡ out.old.items) }
+    ensures room { OnErr result (vec_capacity out.old < vec_len out.old + 24) }
+    ensures capacity { vec_capacity out.old ≤ vec_capacity out.new }
+{
+    let command = header.command.to_be_bytes();
+    let data_type = header.data_type.to_be_bytes();
+    let p1 = header.p1.to_be_bytes();
+    let p2 = header.p2.to_be_bytes();
+    if header.size < EXTENDED && header.count < EXTENDED {
+        let size = (header.size as u16).to_be_bytes();
+        let count = (header.count as u16).to_be_bytes();
+        return out.extend_from_slice(&[
+            command[0],
+            command[1],
+            size[0],
+            size[1],
+            data_type[0],
+            data_type[1],
+            count[0],
+            count[1],
+            p1[0],
+            p1[1],
+            p1[2],
+            p1[3],
+            p2[0],
+            p2[1],
+            p2[2],
+            p2[3],
+        ]);
+    }
+    let size = header.size.to_be_bytes();
+    let count = header.count.to_be_bytes();
+    out.extend_from_slice(&[
+        command[0],
+        command[1],
+        0xff,
+        0xff,
+        data_type[0],
+        data_type[1],
+        0,
+        0,
+        p1[0],
+        p1[1],
+        p1[2],
+        p1[3],
+        p2[0],
+        p2[1],
+        p2[2],
+        p2[3],
+        size[0],
+        size[1],
+        size[2],
+        size[3],
+        count[0],
+        count[1],
+        count[2],
+        count[3],
+    ])
+}

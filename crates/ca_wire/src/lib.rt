@@ -1,0 +1,18 @@
+//! Messages and bytes: the one spelling of a message, its reading in either header form, and the reading of a
+//! stream of messages that comes in any pieces.
+#![tactic(auto)]
+
+mod deframer;
+mod header;
+mod laws;
+mod message;
+mod reading;
+
+pub use deframer::Deframer;
+pub use header::{Header, spell_header};
+pub use laws::{one_reading, read_again};
+pub use message::{Message, spell};
+pub use reading::{Head, One, read_one};
+
+#[cfg(test)]
+mod tests;

@@ -1,0 +1,149 @@
+ghost use Rattle.std.specs.Prelude.{◌≡◌, ◌≢◌, ◌+◌, ◌%◌, ◌<◌, ◌≤◌, ◌++◌, [], length, MatchResult, OnErr, OnOk, vec_capacity, vec_len};
+ghost use Rattle.ca_wire.specs.Fields.{IsPayload};
+ghost use Rattle.ca_wire.specs.Message.{IsMade, IsMessage, header_of, spelling};
+
+use crate::header::{Header, spell_header};
+use ca_text::{PAYLOAD_LIMIT, Refusal};
+use std::alloc::{AllocError, Global};
+use std::marker::Model;
+
+/// A message: its header's fields, and a payload of at most 1,048,576 bytes, a multiple of 8 of them.
+#[derive(Debug, Drop)]
+pub struct Message {
+    command: u16,
+    data_type: u16,
+    count: u32,
+    p1: u32,
+    p2: u32,
+    payload: Vec<u8>,
+}
+
+impl Model for Message {
+    ghost use Rattle.ca_wire.specs.Fields.{Fields};
+    ghost use Rattle.ca_wire.specs.Message.{IsMessage};
+
+    ghost Value = { Fields };
+
+    ghost view = { λ m. record { command = m.command; data_type = m.data_type; count = m.count; p1 = m.p1; p2 = m.p2; payload = m.payload.items } };
+
+    ghost invariant = { λ m. IsMessage (record { command = m.command; data_type = m.data_type; count = m.count; p1 = m.p1; p2 = m.p2; payload = m.payload.items }) };
+}
+
+impl Message {
+    /// The message of these fields, its payload filled with zeros up to a multiple of 8.
+    ///
+    /// Refused by 3 where the payload is over the limit.
+    pub fn new(
+        command: u16,
+        data_type: u16,
+        count: u32,
+        p1: u32,
+        p2: u32,
+        payload: Vec<u8>,
+    ) -> Result<Message, Refusal>
+        ensures { IsMade (record { command = command; data_type = data_type; count = count; p1 = p1; p2 = p2; payload = payload.items }) result }
+    {
+        if payload.len() > PAYLOAD_LIMIT {
+            return Err(Refusal::TooLarge);
+        }
+        let mut payload = payload;
+        let over = payload.len() % 8;
+        if over != 0 {
+            payload.extend_from_slice(&[0u8; 8][over..])?;
+        }
+        Ok(Message {
+            command,
+            data_type,
+            count,
+            p1,
+            p2,
+            payload,
+        })
+    }
+
+    /// The message of this header, whose payload has its size.
+    pub(crate) fn of_header(header: Header, payload: Vec<u8>) -> Message
+        requires size { length payload.items ≡ header.size }
+        requires payload { IsPayload payload.items }
+        ensures header { header_of result ≡ header }
+        ensures payload { result.payload ≡ payload.items }
+    {
+        Message {
+            command: header.command,
+            data_type: header.data_type,
+            count: header.count,
+            p1: header.p1,
+            p2: header.p2,
+            payload,
+        }
+    }
+
+    /// The number of its command.
+    pub fn command(&self) -> u16
+        ensures { result ≡ self.now.command }
+    {
+        self.command
+    }
+
+    /// Its data type.
+    pub fn data_type(&self) -> u16
+        ensures { result ≡ self.now.data_type }
+    {
+        self.data_type
+    }
+
+    /// Its element count.
+    pub fn count(&self) -> u32
+        ensures { result ≡ self.now.count }
+    {
+        self.count
+    }
+
+    /// Parameter 1.
+    pub fn p1(&self) -> u32
+        ensures { result ≡ self.now.p1 }
+    {
+        self.p1
+    }
+
+    /// Parameter 2.
+    pub fn p2(&self) -> u32
+        ensures { result ≡ self.now.p2 }
+    {
+        self.p2
+    }
+
+    /// The payload, with its padding.
+    pub fn payload(&self) -> &[u8]
+        ensures { result.now ≡ self.now.payload }
+    {
+        &self.payload
+    }
+
+    /// Its header.
+    pub fn header(&self) -> Header
+        ensures header { result ≡ header_of self.now }
+        ensures message { IsMessage self.now }
+    {
+        Header {
+            command: self.command,
+            data_type: self.data_type,
+            size: self.payload.len() as u32,
+            count: self.count,
+            p1: self.p1,
+            p2: self.p2,
+        }
+    }
+}
+
+/// Writes the one spelling of the message at the end. It grows the buffer once, before it writes.
+pub fn spell(message: &Message, out: &mut Vec<u8>) -> Result<(), AllocError>
+    ensures ok { OnOk result (out.new.items ≡ out.old.items ++ spelling message.now) }
+    ensures err { OnErr result (out.new.items ≡ out.old.items) }
+    ensures room { OnErr result (vec_capacity out.old < vec_len out.old + (24 + length message.now.payload)) }
+    ensures capacity { vec_capacity out.old ≤ vec_capacity out.new }
+{
+    out.reserve(24 + message.payload.len())?;
+    spell_header(&message.header(), out)?;
+    out.extend_from_slice(&message.payload)
+}

@@ -1,0 +1,110 @@
+ghost use Rattle.std.specs.Prelude.{◌≡◌, ◌+◌, ◌≤◌, ◌++◌, length, MatchOption};
+ghost use Rattle.ca_wire.specs.Header.{number16, number32};
+ghost use Rattle.ca_wire.specs.Reading.{BeginsHeader, IsOne, NoHeader};
+
+use crate::header::Header;
+use ca_text::{PAYLOAD_LIMIT, Refusal};
+
+/// The header of a whole message, and where its payload starts.
+#[derive(Clone, Copy, Debug, PartialEq, Eq)]
+pub struct Head {
+    pub header: Header,
+    /// Bytes before the payload: 16, or 24 in the extended form.
+    pub start: usize,
+}
+
+/// What stands at the front of bytes.
+#[derive(Clone, Copy, Debug, PartialEq, Eq)]
+pub enum One {
+    /// A whole message.
+    Whole(Head),
+    /// Less than one.
+    More,
+    /// A whole header that is refused: by 2 for a size that is no multiple of 8, else by 3 for one over the limit.
+    Bad(Refusal),
+}
+
+/// What begins these bytes. A bad header is told as soon as it is whole.
+pub fn read_one(bytes: &[u8]) -> One
+    ensures { IsOne bytes.now result }
+{
+    let Some(head) = head_at(bytes) else {
+        return One::More;
+    };
+    let size = head.header.size as usize;
+    if size % 8 != 0 {
+        return One::Bad(Refusal::Misaligned);
+    }
+    if size > PAYLOAD_LIMIT {
+        return One::Bad(Refusal::TooLarge);
+    }
+    if bytes.len() - head.start < size {
+        return One::More;
+    }
+    One::Whole(head)
+}
+
+/// The header at the front, where a whole one is there.
+fn head_at(bytes: &[u8]) -> Option<Head>
+    ensures { MatchOption result (NoHeader bytes.now) (BeginsHeader bytes.now) }
+{
+    if bytes.len() < 16 {
+        return None;
+    }
+    let (command, rest) = number16_at(bytes);
+    let (size16, rest) = number16_at(rest);
+    let (data_type, rest) = number16_at(rest);
+    let (count16, rest) = number16_at(rest);
+    let (p1, rest) = number32_at(rest);
+    let (p2, rest) = number32_at(rest);
+    if size16 != 0xffff {
+        let size = u32::from(size16);
+        let count = u32::from(count16);
+        let header = Header {
+            command,
+            data_type,
+            size,
+            count,
+            p1,
+            p2,
+        };
+        return Some(Head { header, start: 16 });
+    }
+    if rest.len() < 8 {
+        return None;
+    }
+    let (size, rest) = number32_at(rest);
+    let (count, _rest) = number32_at(rest);
+    let header = Header {
+        command,
+        data_type,
+        size,
+        count,
+        p1,
+        p2,
+    };
+    Some(Head { header, start: 24 })
+}
+
+/// The two-byte number at the front, and what stands behind it.
+fn number16_at(bytes: &[u8]) -> (u16, &[u8])
+    requires { 2 ≤ length bytes.now }
+    ensures front { bytes.now ≡ number16 result.0 ++ result.1.now }
+    ensures len { length result.1.now + 2 ≡ length bytes.now }
+{
+    let (front, rest) = bytes.split_at(2);
+    (u16::from_be_bytes([front[0], front[1]]), rest)
+}
+
+/// The four-byte number at the front, and what stands behind it.
+fn number32_at(bytes: &[u8]) -> (u32, &[u8])
+    requires { 4 ≤ length bytes.now }
+    ensures front { bytes.now ≡ number32 result.0 ++ result.1.now }
+    ensures len { length result.1.now + 4 ≡ length bytes.now }
+{
+    let (front, rest) = bytes.split_at(4);
+    (
+        u32::from_be_bytes([front[0], front[1], front[2], front[3]]),
+        rest,
+    )
+}
