@@ -40,7 +40,8 @@ impl Mask {
         ensures bits { result ≡ self }
         ensures event { HasEvent result }
     {
-        self.bits
+        let Mask { bits } = self;
+        bits
     }
 
     /// Whether the two share one of the four.

@@ -11,17 +11,29 @@ pub struct Status {
 
 impl Status {
     pub const NORMAL: Status = Status { number: 1 };
+
     pub const ALLOCMEM: Status = Status { number: 48 };
+
     pub const BADTYPE: Status = Status { number: 114 };
+
     pub const INTERNAL: Status = Status { number: 142 };
+
     pub const GETFAIL: Status = Status { number: 152 };
+
     pub const PUTFAIL: Status = Status { number: 160 };
+
     pub const ADDFAIL: Status = Status { number: 168 };
+
     pub const BADCOUNT: Status = Status { number: 176 };
+
     pub const DISCONN: Status = Status { number: 192 };
+
     pub const NORDACCESS: Status = Status { number: 368 };
+
     pub const NOWTACCESS: Status = Status { number: 376 };
+
     pub const NOCONVERT: Status = Status { number: 400 };
+
     pub const BADCHID: Status = Status { number: 410 };
 }
 
