@@ -1,0 +1,12 @@
+//! The records of a server: each has a name, a greatest element count, and a value.
+#![tactic(auto)]
+
+mod record;
+mod records;
+mod room;
+
+pub use record::Record;
+pub use records::Records;
+
+#[cfg(test)]
+mod tests;

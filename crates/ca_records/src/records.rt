@@ -1,0 +1,108 @@
+ghost use Rattle.std.specs.Prelude.{◌≡◌, ◌<◌, ◌↔◌, [], IfSome, IsTrue, MatchOption, MatchResult, length};
+ghost use Rattle.ca_text.specs.Place.{At};
+ghost use Rattle.ca_text.specs.declared.refusal.Refusal.TheVariants.{UnknownRecord};
+ghost use Rattle.ca_records.specs.Record.{RecordState};
+ghost use Rattle.ca_records.specs.Records.{AreApart, Defines, Holds, IsServed, Names};
+
+use crate::record::{Record, check};
+use crate::room::push_within;
+use ca_text::Refusal;
+use std::alloc::Global;
+use std::collections::BTreeMap;
+use std::marker::Model;
+
+/// The records that a server serves, each under a name of its own, in the order in which they were defined.
+///
+/// A name is looked up in a map, by as many comparisons as the logarithm of the number of records.
+#[derive(Debug, Drop)]
+pub struct Records {
+    list: Vec<Record>,
+    places: BTreeMap<Vec<u8>, usize>,
+}
+
+impl Model for Records {
+    ghost use Rattle.std.specs.Prelude.{List};
+    ghost use Rattle.ca_records.specs.Record.{RecordState};
+    ghost use Rattle.ca_records.specs.Index.{IsIndex, place_of};
+
+    ghost Value = { List RecordState };
+
+    ghost view = { λ r. r.list.items };
+
+    ghost invariant = { λ r. IsIndex r.list.items (place_of (λ k. k.items) r.places.entries) };
+}
+
+impl Records {
+    /// No records.
+    pub fn new(alloc: Global) -> Records
+        ensures { result ≡ [] }
+    {
+        Records {
+            list: Vec::new(alloc),
+            places: BTreeMap::new(alloc),
+        }
+    }
+
+    /// How many there are.
+    pub fn len(&self) -> usize
+        ensures len { result ≡ length self.now }
+        ensures apart { AreApart self.now }
+    {
+        self.list.len()
+    }
+
+    /// The record at this place.
+    pub fn at(&self, place: usize) -> &Record
+        requires { place < length self.now }
+        ensures { At self.now place result.now }
+    {
+        &self.list[place]
+    }
+
+    /// Whether some record has this name.
+    pub fn has(&self, name: &[u8]) -> bool
+        ensures { IsTrue result ↔ IsServed self.now name.now }
+    {
+        self.find(name).is_some()
+    }
+
+    /// The place of the record of this name.
+    pub fn find(&self, name: &[u8]) -> Option<usize>
+        ensures found { MatchOption result (IsServed self.now name.now → ⊥) (λ place. Names self.now name.now place) }
+        ensures within { IfSome result (λ place. place < length self.now) }
+        ensures apart { AreApart self.now }
+    {
+        self.places.get(name).copied()
+    }
+
+    /// The present value of the record of this name.
+    pub fn read(&self, name: &[u8]) -> Result<&[i32], Refusal>
+        ensures { MatchResult result (λ longs. Holds self.now name.now longs.now) (λ e. (e ≡ UnknownRecord) × (IsServed self.now name.now → ⊥)) }
+    {
+        match self.find(name) {
+            Some(place) => Ok(self.at(place).longs()),
+            None => Err(Refusal::UnknownRecord),
+        }
+    }
+
+    /// Adds a record behind the others. A refusal changes nothing.
+    pub fn define(
+        &mut self,
+        name: &[u8],
+        count: u32,
+        slow: bool,
+        longs: Vec<i32>,
+    ) -> Result<(), Refusal>
+        requires { IsServed self.old name.now → ⊥ }
+        ensures { Defines self.old (record { name = name.now; count = count; slow = slow; longs = longs.items }) result self.new }
+    {
+        check(name, count, &longs)?;
+        let alloc = *self.list.allocator();
+        let own = Vec::from_slice(alloc, name)?;
+        let key = Vec::from_slice(alloc, name)?;
+        self.list.reserve(1)?;
+        self.places.insert(key, self.list.len())?;
+        push_within(&mut self.list, Record::new(own, count, slow, longs));
+        Ok(())
+    }
+}

@@ -1,0 +1,103 @@
+use crate::Records;
+use ca_text::Refusal;
+use std::test::Fail;
+
+/// A definition: a name, a greatest count, how many elements, and the refusal.
+#[derive(Drop)]
+struct Defined {
+    name: &'static [u8],
+    count: u32,
+    elements: usize,
+    refusal: Option<Refusal>,
+}
+
+const fn row(
+    name: &'static [u8],
+    count: u32,
+    elements: usize,
+    refusal: Option<Refusal>,
+) -> Defined {
+    Defined {
+        name,
+        count,
+        elements,
+        refusal,
+    }
+}
+
+#[test]
+fn records_are_defined(rt: HostRuntime) -> Result<(), Fail> {
+    let rows = [
+        row(b"a", 1, 1, None),
+        row(
+            b"123456789_123456789_123456789_123456789_123456789_123456789_",
+            1,
+            1,
+            None,
+        ),
+        row(
+            b"123456789_123456789_123456789_123456789_123456789_123456789_1",
+            1,
+            1,
+            Some(Refusal::NameLength),
+        ),
+        row(b"", 1, 1, Some(Refusal::NameLength)),
+        row(b"a\0b", 1, 1, Some(Refusal::NameLength)),
+        row(b"a", 0, 0, Some(Refusal::BadCount)),
+        row(b"a", 0, 1, Some(Refusal::BadCount)),
+        row(b"a", 3, 0, Some(Refusal::BadCount)),
+        row(b"a", 3, 3, None),
+        row(b"a", 3, 4, Some(Refusal::BadCount)),
+        row(b"a", 262_144, 1, None),
+        row(b"a", 262_144, 262_144, None),
+        row(b"a", 262_145, 1, Some(Refusal::BadCount)),
+        // The name is judged before the value.
+        row(b"", 0, 0, Some(Refusal::NameLength)),
+    ];
+    for row in &rows {
+        let mut records = Records::new(rt.alloc());
+        assert!(rt; !records.has(row.name));
+        let longs = vec![in rt.alloc(); -7; row.elements]?;
+        match row.refusal {
+            None => {
+                records.define(row.name, row.count, false, longs)?;
+                assert_eq!(rt; records.find(row.name), Some(0));
+                assert_eq!(rt; records.read(row.name)?.len(), row.elements);
+            }
+            Some(refusal) => {
+                let outcome = records.define(row.name, row.count, false, longs);
+                assert_eq!(rt; outcome, Err(refusal));
+                assert_eq!(rt; records.len(), 0);
+            }
+        }
+    }
+    Ok(())
+}
+
+#[test]
+fn records_are_found(rt: HostRuntime) -> Result<(), Fail> {
+    let names: [&[u8]; 5] = [b"beam:current", b"beam", b"shutter", b"Beam", b"a"];
+    let mut records = Records::new(rt.alloc());
+    for (i, name) in names.iter().enumerate() {
+        assert!(rt; !records.has(name));
+        let longs = vec![in rt.alloc(); i as i32]?;
+        records.define(name, 4, i % 2 == 1, longs)?;
+    }
+    assert_eq!(rt; records.len(), 5);
+    for (i, name) in names.iter().enumerate() {
+        assert!(rt; records.has(name));
+        assert_eq!(rt; records.find(name), Some(i));
+        assert_eq!(rt; records.read(name)?, [i as i32].as_slice());
+        assert!(rt; i < records.len());
+        let record = records.at(i);
+        assert_eq!(rt; record.name(), *name);
+        assert_eq!(rt; record.count(), 4);
+        assert_eq!(rt; record.is_slow(), i % 2 == 1);
+        assert_eq!(rt; record.longs(), [i as i32].as_slice());
+    }
+    for name in [b"bea".as_slice(), b"", b"beam:", b"z"] {
+        assert_eq!(rt; records.find(name), None);
+        assert_eq!(rt; records.read(name), Err(Refusal::UnknownRecord));
+    }
+    Ok(())
+}
