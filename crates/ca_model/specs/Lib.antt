@@ -1,0 +1,5 @@
+pub mod Image
+pub mod History
+pub mod Replies
+pub mod Due
+pub mod Answer

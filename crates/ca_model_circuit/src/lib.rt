@@ -1,0 +1,2 @@
+//! Laws over one circuit's two lists.
+#![tactic(auto)]
