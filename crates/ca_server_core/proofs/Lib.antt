@@ -1,0 +1,5 @@
+mod Answerings
+mod Handling
+mod Images
+mod Servings
+mod Slots

@@ -1,0 +1,4 @@
+pub mod Answering
+pub mod Channels
+pub mod End
+pub mod Serving

@@ -1,0 +1,273 @@
+ghost use Rattle.std.specs.Prelude.{◌≡◌, ◌<◌, ◌≤◌, ◌*◌, ◌++◌, ◌∷◌, ℕ, [], OnOk, false, length};
+ghost use Rattle.ca_text.specs.Command.{command_number};
+ghost use Rattle.ca_text.specs.Place.{At};
+ghost use Rattle.ca_wire.specs.Message.{spelled};
+ghost use Rattle.ca_model.specs.History.{text_in};
+ghost use Rattle.ca_model.specs.Replies.{failed_reply, read_reply, refused_reply};
+ghost use Rattle.ca_server_core.specs.Channels.{Holds};
+ghost use Rattle.ca_server_core.specs.End.{AreKnown, HandlesOne, IsCleared, IsSeated, bare, greeted, long_reply};
+
+use crate::channels::{CHANNEL_LIMIT, Channel, Channels};
+use crate::image::{put_longs, put_zeros, text_of};
+use ca_records::{Record, Records};
+use ca_text::{Command, PAYLOAD_LIMIT, Status};
+use ca_wire::{Header, Message, spell_header};
+use std::alloc::{AllocError, Global};
+use std::marker::Model;
+
+/// The data type LONG.
+const LONG: u16 = 5;
+
+/// The minor version that a VERSION has as its count.
+const MINOR_VERSION: u32 = 13;
+
+/// The rights to read and to write.
+const READ_WRITE: u32 = 3;
+
+/// What the server's end knows of a circuit, and the bytes that wait to be sent on it.
+#[derive(Debug, Drop)]
+pub struct Circuit {
+    channels: Channels,
+    greeted: bool,
+    output: Vec<u8>,
+}
+
+impl Model for Circuit {
+    ghost use Rattle.ca_server_core.specs.End.{End};
+
+    ghost Value = { End };
+
+    ghost view = { λ c. record { greeted = c.greeted; slots = c.channels; output = c.output.items } };
+}
+
+impl Circuit {
+    /// One on which no message came yet.
+    pub fn new(alloc: Global) -> Circuit
+        ensures { result ≡ record { greeted = false; slots = []; output = [] } }
+    {
+        Circuit {
+            channels: Channels::new(alloc),
+            greeted: false,
+            output: Vec::new(alloc),
+        }
+    }
+
+    /// The bytes that wait.
+    pub fn output(&self) -> &[u8]
+        ensures { result.now ≡ self.now.output }
+    {
+        &self.output
+    }
+
+    /// All bytes that waited were sent.
+    pub fn sent(&mut self)
+        ensures { self.new ≡ record self.old { output = [] } }
+    {
+        self.output.clear();
+    }
+
+    /// Answers one message. Where there is no memory for it, the circuit is to be closed.
+    pub fn handle(&mut self, records: &Records, message: &Message) -> Result<(), AllocError>
+        requires known { AreKnown records.now self.old.slots }
+        ensures ok { OnOk result (HandlesOne records.now self.old message.now self.new) }
+        ensures known { OnOk result (AreKnown records.now self.new.slots) }
+    {
+        let Some(command) = Command::of(message.command()) else {
+            return Ok(());
+        };
+        match command {
+            Command::Version => self.version(),
+            Command::CreateChannel => self.create(records, message),
+            Command::ReadNotify => self.read(records, message),
+            Command::ClearChannel => self.clear(message),
+            _ => Ok(()),
+        }
+    }
+
+    /// VERSION: the first is answered by ours.
+    fn version(&mut self) -> Result<(), AllocError>
+        ensures ok { OnOk result (self.new ≡ greeted self.old) }
+    {
+        if self.greeted {
+            return Ok(());
+        }
+        put_bare(&mut self.output, Command::Version, 0, MINOR_VERSION, 0, 0)?;
+        self.greeted = true;
+        Ok(())
+    }
+
+    /// CREATE_CHAN: refused for a name that no record has, a CID that is in use, or where no SID is left.
+    fn create(&mut self, records: &Records, message: &Message) -> Result<(), AllocError>
+        requires known { AreKnown records.now self.old.slots }
+        requires command { message.now.command ≡ command_number Command.CreateChannel }
+        ensures ok { OnOk result (HandlesOne records.now self.old message.now self.new) }
+        ensures known { OnOk result (AreKnown records.now self.new.slots) }
+    {
+        match records.find(text_of(message.payload())) {
+            None => self.refuse_channel(message),
+            Some(place) => {
+                if self.channels.has_cid(message.p1()) || self.channels.made() >= CHANNEL_LIMIT {
+                    return self.refuse_channel(message);
+                }
+                self.seat(records, message, place)
+            }
+        }
+    }
+
+    /// Opens a channel to the record at this place.
+    fn seat(&mut self, records: &Records, message: &Message, place: usize) -> Result<(), AllocError>
+        requires place { place < length records.now }
+        requires room { length self.old.slots < 65536 }
+        requires new { (sid : ℕ) (other : Channel) → Holds self.old.slots sid other → other.cid ≡ message.now.p1 → ⊥ }
+        ensures ok { OnOk result (IsSeated records.now self.old message.now place self.new) }
+    {
+        let record = records.at(place);
+        let cid = message.p1();
+        let sid = self.channels.open(Channel { cid, record: place })?;
+        put_bare(
+            &mut self.output,
+            Command::AccessRights,
+            0,
+            0,
+            cid,
+            READ_WRITE,
+        )?;
+        put_bare(
+            &mut self.output,
+            Command::CreateChannel,
+            LONG,
+            record.count(),
+            cid,
+            sid,
+        )?;
+        Ok(())
+    }
+
+    fn refuse_channel(&mut self, message: &Message) -> Result<(), AllocError>
+        ensures ok { OnOk result (self.new ≡ record self.old { output = self.old.output ++ spelled (failed_reply message.now ∷ []) }) }
+    {
+        put_bare(
+            &mut self.output,
+            Command::CreateChannelFail,
+            0,
+            0,
+            message.p1(),
+            0,
+        )?;
+        Ok(())
+    }
+
+    /// READ_NOTIFY: answered from the record of its channel.
+    fn read(&mut self, records: &Records, message: &Message) -> Result<(), AllocError>
+        requires known { AreKnown records.now self.old.slots }
+        requires command { message.now.command ≡ command_number Command.ReadNotify }
+        ensures ok { OnOk result (HandlesOne records.now self.old message.now self.new) }
+        ensures same { OnOk result (self.new.slots ≡ self.old.slots) }
+    {
+        match self.channels.get(message.p1()) {
+            None => refuse_read(&mut self.output, message, Status::BADCHID),
+            Some(channel) => answer_read(&mut self.output, records.at(channel.record), message),
+        }
+    }
+
+    /// CLEAR_CHANNEL: always answered, and the SID alone decides what is cleared.
+    fn clear(&mut self, message: &Message) -> Result<(), AllocError>
+        ensures ok { OnOk result (IsCleared self.old message.now self.new) }
+    {
+        put_bare(
+            &mut self.output,
+            Command::ClearChannel,
+            0,
+            0,
+            message.p1(),
+            message.p2(),
+        )?;
+        self.channels.close(message.p1());
+        Ok(())
+    }
+}
+
+/// Writes a message with no payload.
+fn put_bare(
+    out: &mut Vec<u8>,
+    command: Command,
+    data_type: u16,
+    count: u32,
+    p1: u32,
+    p2: u32,
+) -> Result<(), AllocError>
+    ensures ok { OnOk result (out.new.items ≡ out.old.items ++ spelled (bare (command_number command) data_type count p1 p2 ∷ [])) }
+{
+    let command = command.number();
+    let header = Header {
+        command,
+        data_type,
+        size: 0,
+        count,
+        p1,
+        p2,
+    };
+    spell_header(&header, out)?;
+    Ok(())
+}
+
+/// Writes the refusal of a read.
+fn refuse_read(out: &mut Vec<u8>, message: &Message, status: Status) -> Result<(), AllocError>
+    ensures ok { OnOk result (out.new.items ≡ out.old.items ++ spelled (refused_reply message.now status.number ∷ [])) }
+{
+    put_bare(
+        out,
+        Command::ReadNotify,
+        message.data_type(),
+        message.count(),
+        status.number,
+        message.p2(),
+    )?;
+    Ok(())
+}
+
+/// Writes the reply to a read of this record: the first fault in order, or the value.
+fn answer_read(out: &mut Vec<u8>, record: &Record, message: &Message) -> Result<(), AllocError>
+    ensures ok { OnOk result (out.new.items ≡ out.old.items ++ spelled (read_reply record.now message.now ∷ [])) }
+{
+    if message.data_type() != LONG {
+        return refuse_read(out, message, Status::BADTYPE);
+    }
+    let longs = record.longs();
+    let wanted = if message.count() == 0 {
+        longs.len() as u32
+    } else {
+        message.count()
+    };
+    if wanted > record.count() || 4 * wanted as usize > PAYLOAD_LIMIT {
+        return refuse_read(out, message, Status::BADCOUNT);
+    }
+    put_value(out, longs, wanted, message)
+}
+
+/// Writes a read's reply with the image of so many elements: the first ones, and zeros behind them.
+fn put_value(
+    out: &mut Vec<u8>,
+    longs: &[i32],
+    wanted: u32,
+    message: &Message,
+) -> Result<(), AllocError>
+    requires within { 4 * wanted ≤ 1048576 }
+    ensures ok { OnOk result (out.new.items ≡ out.old.items ++ spelled (long_reply message.now wanted longs.now ∷ [])) }
+{
+    let first = longs.len().min(wanted as usize);
+    let size = (4 * wanted as usize).next_multiple_of(8);
+    let header = Header {
+        command: Command::ReadNotify.number(),
+        data_type: LONG,
+        size: size as u32,
+        count: wanted,
+        p1: Status::NORMAL.number,
+        p2: message.p2(),
+    };
+    out.reserve(24 + size)?;
+    spell_header(&header, out)?;
+    put_longs(out, &longs[..first])?;
+    put_zeros(out, size - 4 * first)?;
+    Ok(())
+}
