@@ -1,0 +1,12 @@
+-- The exit statuses of the program.
+use Rattle.std.specs.Prelude.{ℕ, Result, Ok, Err}
+use Rattle.ca_text.specs.declared.refusal.Refusal.{Refusal}
+
+-- 0: done; 1: refused
+abbrev pub status_of : Result (Unit {0}) Refusal → ℕ
+status_of (Ok _) = 0
+status_of (Err _) = 1
+
+-- the line was not understood
+abbrev pub not_understood : ℕ
+not_understood = 2

@@ -1,0 +1,30 @@
+use crate::answer::report;
+use crate::console::answer_console;
+use crate::line::{Line, read_line};
+use std::alloc::Global;
+use std::io::{Read, Write};
+
+/// The exit status of a line that is not understood.
+const NOT_UNDERSTOOD: u8 = 2;
+
+/// Runs the program on the words behind its name, and gives the exit status.
+pub fn run<I: Read + Drop, O: Write + Drop, E: Write>(
+    alloc: Global,
+    words: &[String],
+    input: I,
+    output: O,
+    err: &mut E,
+) -> u8 {
+    match read_line(alloc, words) {
+        Ok(Some(Line::Answer)) => answer_console(alloc, None, input, output, err),
+        Ok(None) => not_understood(err),
+        Err(refusal) => report(Err(refusal), err),
+    }
+}
+
+/// Tells that the words were not understood, and gives the exit status for that.
+pub fn not_understood<E: Write>(err: &mut E) -> u8 {
+    // Where this cannot be written the status alone tells.
+    let _told = writeln!(err, "not understood");
+    NOT_UNDERSTOOD
+}

@@ -1,0 +1,34 @@
+// The program `ca`: its words and the system's streams, handed to the library of that name.
+#![tactic(auto)]
+
+use ca_text::Refusal;
+use std::env;
+use std::io::ErrorKind;
+use std::process::ExitCode;
+
+fn main(rt: HostRuntime) -> ExitCode {
+    let mut err = rt.stderr();
+    let status = match words(&rt) {
+        Ok(Some(words)) => ca::run(
+            rt.alloc(),
+            words.as_slice(),
+            rt.stdin(),
+            rt.stdout(),
+            &mut err,
+        ),
+        Ok(None) => ca::not_understood(&mut err),
+        Err(refusal) => ca::report(Err(refusal), &mut err),
+    };
+    ExitCode::from(status)
+}
+
+/// The words behind the program's name: none where one of them is no text.
+fn words(rt: &HostRuntime) -> Result<Option<Vec<String>>, Refusal> {
+    match env::args(rt) {
+        Ok(words) => Ok(Some(words.skip(1).collect(rt.alloc())?)),
+        Err(error) => match error.kind() {
+            ErrorKind::OutOfMemory => Err(Refusal::OutOfMemory),
+            _ => Ok(None),
+        },
+    }
+}
