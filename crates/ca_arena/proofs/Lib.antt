@@ -1,0 +1,4 @@
+pub mod Places
+pub mod Runs
+mod Slots
+pub mod Stale

@@ -1,0 +1,132 @@
+-- What the fields of an arena stand for, before and after each change.
+use Rattle.std.proofs.Common.{◌≡◌, ℕ, ◌+◌, ◌<◌, List, [], ◌∷◌, ◌++◌, length, map, get_or, set, Some, None, is_some, cond, eqb, refl, sym, ap, ◌∙◌, subst, arith, reverse, length-set}
+use Rattle.std.proofs.lemmas.List.{get_or-map, length-map, map-set, length_push}
+use Rattle.ca_arena.specs.declared.arena.Slot.{Slot}
+use Rattle.ca_arena.specs.declared.handle.Handle.{Handle}
+use Rattle.ca_arena.specs.declared.handle.TheConstants.{LAST_GENERATION}
+use Rattle.ca_arena.specs.Arena.{Place, Contents, place_at, find, IsLive, blank, last_at, free_slots, next_handle, inserted, inserted_from, removed, written}
+use Rattle.ca_arena.specs.Lending.{filled}
+use Rattle.ca_arena.specs.Sound.{IsSound}
+use Rattle.ca_arena.specs.Layout.{place_of, contents_of, IsLaidOut}
+use Rattle.ca_arena.proofs.Places.{one_if, reverse_push, value_for-some, within_from_value, live_count-set, live_value, IsSound-filled, IsSound-removed, IsSound-written}
+
+module _ {T : Type 0} where
+  -- a slot that was read stands for the place at its index
+  pub place_at-read : (slots : List (Slot T)) (index : ℕ) (slot : Slot T) → index < length slots → slot ≡ get_or slots index slot → place_at (map place_of slots) index ≡ place_of slot
+  place_at-read slots index slot within read =
+      get_or-map place_of slots index slot blank within ∙ ap place_of (sym read)
+
+  -- what filling the slot that was freed last leaves
+  pub record Filled (slots : List (Slot T)) (freed rest : List ℕ) (index retired room : ℕ) (new : Slot T) (value : T) : Type 0 where
+    pub laid_out : IsLaidOut (set slots index new) rest retired room
+    pub contents : contents_of (set slots index new) rest ≡ inserted (contents_of slots freed) value
+    pub handle : ◌≡◌ {A = Handle} (record { index = index; generation = new.generation }) (next_handle (contents_of slots freed))
+    pub free : 0 < free_slots (contents_of slots freed)
+
+  pub fills : (slots : List (Slot T)) (freed rest : List ℕ) (index retired room : ℕ) (old new : Slot T) (value : T) → IsLaidOut slots freed retired room → freed ≡ rest ++ index ∷ [] → old ≡ get_or slots index old → new ≡ record { generation = old.generation + 1; value = Some value } → Filled slots freed rest index retired room new value
+  fills slots freed rest index retired room old new value laid_out split read made =
+      let given : List (Place T) = map place_of slots in
+      let reversed : reverse freed ≡ index ∷ reverse rest = ap reverse split ∙ reverse_push rest index in
+      let sound : IsSound (record { given = given; freed = index ∷ reverse rest }) =
+      subst (λ (indices : List ℕ). IsSound (record { given = given; freed = indices })) reversed laid_out.sound in
+      let same_length : length given ≡ length slots = length-map slots place_of in
+      let within : index < length slots = omega (arith, sound.free.0.within) in
+      let there : place_at given index ≡ place_of old = place_at-read slots index old within read in
+      let place : Place T = record { generation = (place_at given index).generation + 1; value = Some value } in
+      let stands : place_of new ≡ place = ap place_of made ∙ ap (λ (p : Place T). let q : Place T = record { generation = p.generation + 1; value = Some value } in q) (sym there) in
+      let written : map place_of (set slots index new) ≡ set given index place = map-set place_of slots index new ∙ ap (set given index) stands in
+      let after : contents_of (set slots index new) rest ≡ inserted_from given (index ∷ reverse rest) value =
+      ap (λ (places : List (Place T)). let a : Contents T = record { given = places; freed = reverse rest } in a) written in
+      let vacant : one_if (place_at given index) ≡ 0 = ap (λ o. cond (is_some o) 1 0) sound.free.0.vacant in
+      let counted = live_count-set given index place (omega arith) in
+      let before = laid_out.counted in
+      record {
+        laid_out = record {
+          sound = subst IsSound (sym after) (IsSound-filled given index (reverse rest) value sound);
+          counted = rw written (omega (arith, ap length split, length_push rest index, length-set slots index new));
+          roomy = omega (arith, length-set slots index new, laid_out.roomy);
+        };
+        contents = after ∙ ap (λ indices. inserted_from given indices value) (sym reversed);
+        handle = rw (reversed, made, last_at, there) refl;
+        free = rw reversed (omega arith);
+      }
+
+  -- what is known where the slot of a live handle was read
+  pub record ReadLive (slots : List (Slot T)) (freed : List ℕ) (handle : Handle) (old : Slot T) (value : T) : Type 0 where
+    pub within : handle.index < length slots
+    pub generation : old.generation ≡ handle.generation
+    pub there : (place_at (map place_of slots) handle.index).value ≡ Some value
+    pub found : find (contents_of slots freed) handle ≡ Some value
+
+  pub read_live : (slots : List (Slot T)) (freed : List ℕ) (handle : Handle) (old : Slot T) (value : T) → IsLive (contents_of slots freed) handle → old ≡ get_or slots handle.index old → old.value ≡ Some value → ReadLive slots freed handle old value
+  read_live slots freed handle old value alive read had =
+      let given : List (Place T) = map place_of slots in
+      let found = live_value (contents_of slots freed) handle alive in
+      let there = value_for-some handle.generation (place_at given handle.index) found.0 found.1 in
+      let inside = within_from_value given handle.index found.0 there.1 in
+      let same_length : length given ≡ length slots = length-map slots place_of in
+      let within : handle.index < length slots = omega arith in
+      let stands : place_at given handle.index ≡ place_of old = place_at-read slots handle.index old within read in
+      let has : (place_at given handle.index).value ≡ Some value = ap (λ p. p.value) stands ∙ had in
+      record {
+        within = within;
+        generation = sym (ap (λ p. p.generation) stands) ∙ there.0;
+        there = has;
+        found = found.1 ∙ (sym there.1 ∙ has);
+      }
+
+  -- what emptying the slot of a live handle leaves
+  pub record Vacated (slots : List (Slot T)) (freed after : List ℕ) (handle : Handle) (retired room : ℕ) (new : Slot T) (value : T) : Type 0 where
+    pub laid_out : IsLaidOut (set slots handle.index new) after retired room
+    pub found : find (contents_of slots freed) handle ≡ Some value
+    pub contents : contents_of (set slots handle.index new) after ≡ removed (contents_of slots freed) handle
+
+  pub vacated : (slots : List (Slot T)) (freed after : List ℕ) (handle : Handle) (retired then room : ℕ) (old new : Slot T) (value : T) → IsLaidOut slots freed retired room → IsLive (contents_of slots freed) handle → old ≡ get_or slots handle.index old → old.value ≡ Some value → new ≡ record { generation = old.generation; value = None } → reverse after ≡ cond (eqb handle.generation LAST_GENERATION) (reverse freed) (handle.index ∷ reverse freed) → length after + then ≡ length freed + retired + 1 → Vacated slots freed after handle then room new value
+  vacated slots freed after handle retired then room old new value laid_out alive read had made moved one_more =
+      let given : List (Place T) = map place_of slots in
+      let before : Contents T = contents_of slots freed in
+      let known = read_live slots freed handle old value alive read had in
+      let same_length : length given ≡ length slots = length-map slots place_of in
+      let place : Place T = record { generation = handle.generation; value = None } in
+      let stands : place_of new ≡ place = ap place_of made ∙ ap (λ (n : ℕ). let q : Place T = record { generation = n; value = None } in q) known.generation in
+      let written : map place_of (set slots handle.index new) ≡ set given handle.index place = map-set place_of slots handle.index new ∙ ap (set given handle.index) stands in
+      let contents : contents_of (set slots handle.index new) after ≡ removed before handle = rw (written, moved) refl in
+      let one : one_if (place_at given handle.index) ≡ 1 = ap (λ o. cond (is_some o) 1 0) known.there in
+      let counted = live_count-set given handle.index place (omega (arith, known.within)) in
+      let was = laid_out.counted in
+      record {
+        laid_out = record {
+          sound = subst IsSound (sym contents) (IsSound-removed before handle alive laid_out.sound);
+          counted = rw written (omega (arith, length-set slots handle.index new));
+          roomy = omega (arith, length-set slots handle.index new, laid_out.roomy);
+        };
+        found = known.found;
+        contents = contents;
+      }
+
+  -- what a write over the value of a live handle leaves
+  pub record Rewritten (slots : List (Slot T)) (freed : List ℕ) (handle : Handle) (retired room : ℕ) (old : Slot T) (new : T) : Type 0 where
+    pub laid_out : IsLaidOut (set slots handle.index (filled old new)) freed retired room
+    pub contents : contents_of (set slots handle.index (filled old new)) freed ≡ written (contents_of slots freed) handle new
+
+  pub rewritten : (slots : List (Slot T)) (freed : List ℕ) (handle : Handle) (retired room : ℕ) (old : Slot T) (value new : T) → IsLaidOut slots freed retired room → IsLive (contents_of slots freed) handle → old ≡ get_or slots handle.index old → old.value ≡ Some value → Rewritten slots freed handle retired room old new
+  rewritten slots freed handle retired room old value new laid_out alive read had =
+      let given : List (Place T) = map place_of slots in
+      let before : Contents T = contents_of slots freed in
+      let known = read_live slots freed handle old value alive read had in
+      let same_length : length given ≡ length slots = length-map slots place_of in
+      let place : Place T = record { generation = handle.generation; value = Some new } in
+      let stands : place_of (filled old new) ≡ place = ap (λ (n : ℕ). let q : Place T = record { generation = n; value = Some new } in q) known.generation in
+      let places : map place_of (set slots handle.index (filled old new)) ≡ set given handle.index place = map-set place_of slots handle.index (filled old new) ∙ ap (set given handle.index) stands in
+      let contents : contents_of (set slots handle.index (filled old new)) freed ≡ written before handle new = rw places refl in
+      let one : one_if (place_at given handle.index) ≡ 1 = ap (λ o. cond (is_some o) 1 0) known.there in
+      let counted = live_count-set given handle.index place (omega (arith, known.within)) in
+      let was = laid_out.counted in
+      record {
+        laid_out = record {
+          sound = subst IsSound (sym contents) (IsSound-written before handle new alive laid_out.sound);
+          counted = rw places (omega (arith, length-set slots handle.index (filled old new)));
+          roomy = omega (arith, length-set slots handle.index (filled old new), laid_out.roomy);
+        };
+        contents = contents;
+      }

@@ -1,0 +1,5 @@
+pub mod Arena
+pub mod Sound
+pub mod Traces
+pub mod Layout
+pub mod Lending

@@ -1,0 +1,277 @@
+ghost use Rattle.std.specs.Prelude.{◌≡◌, ◌+◌, ◌<◌, ◌==◌, ◌↔◌, ℕ, IsTrue, IsNone, IsSome, IfOk, Some, None, option_copied, []};
+ghost use Rattle.std.specs.Option.{option_copied_mut};
+ghost use Rattle.std.specs.Borrow.{sem};
+ghost use Rattle.ca_arena.specs.Sound.{IsSound};
+ghost use Rattle.ca_arena.specs.Arena.{empty, find, live_count, free_slots, IsLive, Inserts, Removes, IsFresh, IsFirstFrom, IsHandleAt, walk_start};
+
+use crate::handle::{Handle, LAST_GENERATION};
+use ca_text::{ARENA_SLOTS, Refusal};
+#[cfg(test)]
+use std::alloc::AllocError;
+use std::alloc::Global;
+use std::marker::Model;
+use std::mem;
+
+/// Values under handles, at most 65,536 at a time.
+///
+/// The index freed last is given first, then those never given, in order. A removed value's index comes back with the
+/// next generation; at its last generation it is retired.
+#[derive(Drop)]
+pub struct Arena<T> {
+    slots: Vec<Slot<T>>,
+    // The indices that are free again. The one freed last stands at the end.
+    freed: Vec<u16>,
+    // How many indices are never given again.
+    retired: usize,
+}
+
+// What stands at an index: the generation given last, and the value, until it is removed.
+#[derive(Drop)]
+struct Slot<T> {
+    generation: u32,
+    value: Option<T>,
+}
+
+impl<T> Model for Arena<T> {
+    ghost use Rattle.std.specs.Vec.{vec_capacity};
+    ghost use Rattle.ca_arena.specs.Arena.{Contents, contents_code};
+
+    ghost Value = { Contents T };
+
+    ghost coded = { contents_code T.code };
+
+    ghost use Rattle.ca_arena.specs.Layout.{contents_of, IsLaidOut};
+
+    ghost view = { λ a. contents_of a.slots.items a.freed.items };
+
+    ghost invariant = { λ a. IsLaidOut a.slots.items a.freed.items a.retired (vec_capacity a.freed) };
+}
+
+impl<T> Arena<T> {
+    ghost use Rattle.ca_arena.specs.Lending.{lends_live, lends_found};
+
+    /// An arena with no value. It takes no memory yet.
+    pub fn new(alloc: Global) -> Self
+        ensures { result ≡ empty }
+    {
+        Arena {
+            slots: Vec::new(alloc),
+            freed: Vec::new(alloc),
+            retired: 0,
+        }
+    }
+
+    /// How many values there are.
+    pub fn len(&self) -> usize
+        ensures count { result ≡ live_count self.now.given }
+        ensures sound { IsSound self.now }
+    {
+        self.slots.len() - self.freed.len() - self.retired
+    }
+
+    /// Whether there is no value.
+    pub fn is_empty(&self) -> bool
+        ensures { result ≡ (live_count self.now.given == 0) }
+    {
+        self.len() == 0
+    }
+
+    /// How many values can still be inserted if nothing is removed.
+    pub fn free_slots(&self) -> usize
+        ensures { result ≡ free_slots self.now }
+    {
+        self.freed.len() + (ARENA_SLOTS - self.slots.len())
+    }
+
+    /// The value of this handle, unless it is stale.
+    pub fn get(&self, handle: Handle) -> Option<&T>
+        ensures { option_copied result ≡ find self.now handle }
+    {
+        match self.slots.get(usize::from(handle.index)) {
+            Some(slot) if slot.generation == handle.generation => slot.value.as_ref(),
+            _ => None,
+        }
+    }
+
+    /// The value of this handle for writing, unless it is stale.
+    pub fn get_mut(&mut self, handle: Handle) -> Option<&mut T>
+        ensures* writes_back { sem 𝓛 (lends_found T.row self.entry handle result) }
+        ensures value { option_copied_mut result ≡ find self.old handle }
+    {
+        if self.is_live(handle) {
+            Some(self.value_mut(handle))
+        } else {
+            None
+        }
+    }
+
+    fn value_mut(&mut self, handle: Handle) -> &mut T
+        requires { IsLive self.old handle }
+        ensures* writes_back { sem 𝓛 (lends_live T.row self.entry handle result) }
+        ensures value { find self.old handle ≡ Some result.now }
+    {
+        self.slots[usize::from(handle.index)].value_mut()
+    }
+
+    /// The live handle with the least index, or with the least one above that of `after`.
+    pub fn next_of(&self, after: Option<Handle>) -> Option<Handle>
+        ensures { IsFirstFrom self.now (walk_start after) result }
+    {
+        let start = match after {
+            Some(handle) => usize::from(handle.index) + 1,
+            None => 0,
+        };
+        for index in start..self.slots.len() {
+            let slot = &self.slots[index];
+            if slot.value.is_some() {
+                return Some(Handle {
+                    index: index as u16,
+                    generation: slot.generation,
+                });
+            }
+        }
+        None
+    }
+
+    /// The live handle with this index, if there is one.
+    pub fn handle_at(&self, index: u16) -> Option<Handle>
+        ensures found { IsHandleAt self.now index result }
+        ensures sound { IsSound self.now }
+    {
+        match self.slots.get(usize::from(index)) {
+            Some(slot) if slot.value.is_some() => Some(Handle {
+                index,
+                generation: slot.generation,
+            }),
+            _ => None,
+        }
+    }
+
+    /// Puts `value` under a handle that was never given before.
+    ///
+    /// It is refused, and handed back, where no index is free, and where the room for one more is missing.
+    pub fn insert(&mut self, value: T) -> Result<Handle, (T, Refusal)>
+        ensures inserts { Inserts self.old value result self.new }
+        ensures fresh { IfOk result (IsFresh self.old) }
+        ensures sound { IsSound self.new }
+    {
+        match self.freed.pop() {
+            None => self.append(value),
+            Some(index) => {
+                let slot = &mut self.slots[usize::from(index)];
+                slot.fill(value);
+                let generation = slot.generation;
+                Ok(Handle { index, generation })
+            }
+        }
+    }
+
+    // `insert` at the first index that was never given. It makes all room before it changes anything.
+    fn append(&mut self, value: T) -> Result<Handle, (T, Refusal)>
+        requires { self.old.freed ≡ [] }
+        ensures inserts { Inserts self.old value result self.new }
+        ensures fresh { IfOk result (IsFresh self.old) }
+        ensures sound { IsSound self.new }
+    {
+        let index = self.slots.len();
+        if index == ARENA_SLOTS {
+            return Err((value, Refusal::ArenaFull));
+        }
+        if self.freed.reserve(index + 1).is_err() || self.slots.reserve(1).is_err() {
+            return Err((value, Refusal::OutOfMemory));
+        }
+        self.slots.push_reserved(Slot {
+            generation: 1,
+            value: Some(value),
+        });
+        Ok(Handle {
+            index: index as u16,
+            generation: 1,
+        })
+    }
+
+    /// Takes the value of this handle out. The handle is stale from then on.
+    ///
+    /// A stale handle is refused. No memory is asked for: `insert` made the room.
+    pub fn remove(&mut self, handle: Handle) -> Result<T, Refusal>
+        ensures { Removes self.old handle result self.new }
+    {
+        if !self.is_live(handle) {
+            return Err(Refusal::StaleHandle);
+        }
+        let value = self.slots[usize::from(handle.index)].vacate();
+        if handle.generation == LAST_GENERATION {
+            self.retired += 1;
+            return Ok(value);
+        }
+        self.freed.push_reserved(handle.index);
+        Ok(value)
+    }
+
+    fn is_live(&self, handle: Handle) -> bool
+        ensures { IsTrue result ↔ IsLive self.now handle }
+    {
+        self.get(handle).is_some()
+    }
+}
+
+#[cfg(test)]
+impl Arena<u32> {
+    /// An arena of which index 0 is free, and has one generation left.
+    pub(crate) fn with_one_generation_left(alloc: Global) -> Result<Self, AllocError> {
+        let mut slots = Vec::new(alloc);
+        slots.push(Slot {
+            generation: LAST_GENERATION - 1,
+            value: None,
+        })?;
+        let mut freed = Vec::new(alloc);
+        freed.push(0)?;
+        let retired = 0;
+        Ok(Arena {
+            slots,
+            freed,
+            retired,
+        })
+    }
+}
+
+impl<T> Slot<T> {
+    ghost use Rattle.ca_arena.specs.Lending.{lends_filled};
+
+    // Puts a value there, in the next generation.
+    fn fill(&mut self, value: T)
+        requires vacant { IsNone self.old.value }
+        requires lasting { self.old.generation < LAST_GENERATION }
+        ensures { self.new ≡ record { generation = self.old.generation + 1; value = Some value } }
+    {
+        self.generation += 1;
+        match mem::replace(&mut self.value, Some(value)) {
+            None => {}
+            Some(_) => unreachable!(),
+        }
+    }
+
+    // The value for writing.
+    fn value_mut(&mut self) -> &mut T
+        requires { IsSome self.old.value }
+        ensures* writes_back { sem 𝓛 (lends_filled T.row self.entry result) }
+        ensures value { self.old.value ≡ Some result.now }
+    {
+        match &mut self.value {
+            Some(value) => value,
+            None => unreachable!(),
+        }
+    }
+
+    // Takes the value out.
+    fn vacate(&mut self) -> T
+        requires { IsSome self.old.value }
+        ensures value { self.old.value ≡ Some result }
+        ensures vacant { self.new ≡ record { generation = self.old.generation; value = None } }
+    {
+        match self.value.take() {
+            Some(value) => value,
+            None => unreachable!(),
+        }
+    }
+}

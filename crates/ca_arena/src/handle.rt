@@ -1,0 +1,13 @@
+/// The last generation of an index. Once its value is removed the index is never given again.
+pub const LAST_GENERATION: u32 = 4_294_967_295;
+
+/// The name of a value in an arena.
+///
+/// It is stale once its value was removed, and names nothing from then on.
+#[derive(Clone, Copy, Debug, PartialEq, Eq)]
+pub struct Handle {
+    /// The place in the arena, from 0.
+    pub index: u16,
+    /// How many times the index was given, this time too: from 1.
+    pub generation: u32,
+}

@@ -1,0 +1,15 @@
+//! An arena: values under handles, and no handle is ever given twice.
+//!
+//! A handle is an index and a generation. The index of a removed value is given again, with the next generation,
+//! so the handle that stood there before finds nothing. All tables of both ends stand on it.
+#![tactic(auto)]
+
+mod arena;
+mod handle;
+mod laws;
+#[cfg(test)]
+mod tests;
+
+pub use arena::Arena;
+pub use handle::{Handle, LAST_GENERATION};
+pub use laws::{no_handle_twice, stale_stays_stale};
