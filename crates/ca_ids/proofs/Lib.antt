@@ -1,0 +1,2 @@
+pub mod Wires
+mod Walks

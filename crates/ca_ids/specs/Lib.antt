@@ -1,0 +1,4 @@
+pub use Rattle.ca_arena.specs.Arena
+pub mod Wire
+pub mod Ids
+pub mod Lending
