@@ -1,0 +1,11 @@
+use Rattle.std.proofs.Common.{◌≡◌, ◌+◌, ◌*◌, ◌++◌, All, length}
+use Rattle.std.specs.List.{flat_map}
+use Rattle.ca_dbr.proofs.element.read_all.Given as goal
+
+abbrev pub invariant-loop : goal.invariant-loop
+invariant-loop g l = record {
+  again : flat_map g.E.Element.spelled l.items.items ++ l.rest ≡ l.bytes;
+  count : length l.items.items ≡ l.counter;
+  len : length l.rest + l.counter * g.E.Element.SIZE ≡ length l.bytes;
+  fits : All g.E.Element.fits l.items.items;
+}

@@ -1,0 +1,232 @@
+ghost use Rattle.std.specs.Prelude.{[], ◌∷◌, ◌≡◌, ℕ, ◌≤◌, ◌<◌, ◌^◌, ◌+◌, ◌*◌, ◌++◌, List, length, take, All, IfOk, FitsSigned, vec_len, vec_capacity};
+ghost use Rattle.std.specs.List.{flat_map};
+ghost use Rattle.std.specs.Int.{w16, w32};
+ghost use Rattle.ca_dbr.specs.Elements.{string_bytes, byte_1, bytes_2, bytes_4, bytes_8, signed_bytes_2, signed_bytes_4};
+
+use std::alloc::{AllocError, Global};
+
+/// An element as it stands in an image.
+pub trait Element: Copy + Drop {
+    ghost SIZE: { ℕ };
+
+    /// How many bytes it takes.
+    const SIZE: usize;
+
+    ghost spelled: { Self → List ℕ };
+
+    ghost fits: { Self → Type 0 };
+
+    /// Puts its bytes at the end, where room was made for them.
+    fn put(self, out: &mut Vec<u8>)
+        requires { vec_len out.old + SIZE ≤ vec_capacity out.old }
+        ensures after { out.new.items ≡ out.old.items ++ spelled self }
+        ensures len { vec_len out.new ≡ vec_len out.old + SIZE }
+        ensures capacity { vec_capacity out.old ≤ vec_capacity out.new }
+        ensures fits { fits self };
+
+    /// The element that has these bytes.
+    fn read(bytes: &[u8]) -> Self
+        requires { length bytes.now ≡ SIZE }
+        ensures again { spelled result ≡ bytes.now }
+        ensures fits { fits result };
+}
+
+/// Puts these bytes at the end, where room was made for them.
+pub fn put_bytes(bytes: &[u8], out: &mut Vec<u8>)
+    requires { vec_len out.old + length bytes.now ≤ vec_capacity out.old }
+    ensures after { out.new.items ≡ out.old.items ++ bytes.now }
+    ensures len { vec_len out.new ≡ vec_len out.old + length bytes.now }
+    ensures capacity { vec_capacity out.old ≤ vec_capacity out.new }
+{
+    match out.extend_from_slice(bytes) {
+        Ok(()) => {}
+        Err(_) => unreachable!(),
+    }
+}
+
+/// Adds x at the end, where room was made for it.
+pub fn push_within<T: Drop>(items: &mut Vec<T>, x: T)
+    requires { vec_len items.old < vec_capacity items.old }
+    ensures after { items.new.items ≡ items.old.items ++ x ∷ [] }
+    ensures len { vec_len items.new ≡ vec_len items.old + 1 }
+    ensures capacity { vec_capacity items.old ≤ vec_capacity items.new }
+{
+    match items.push(x) {
+        Ok(()) => {}
+        Err(_) => unreachable!(),
+    }
+}
+
+impl Element for [u8; 40] {
+    ghost SIZE = { 40 };
+
+    ghost spelled = { string_bytes };
+
+    ghost fits = { λ x. length x ≡ 40 };
+
+    const SIZE: usize = 40;
+
+    #[tactic(auto, unfolding(crate::specs::Elements::string_bytes))]
+    fn put(self, out: &mut Vec<u8>) {
+        put_bytes(&self, out);
+    }
+
+    #[tactic(auto, unfolding(crate::specs::Elements::string_bytes))]
+    fn read(bytes: &[u8]) -> [u8; 40] {
+        let mut text = [0; 40];
+        text.copy_from_slice(bytes);
+        text
+    }
+}
+
+impl Element for i16 {
+    ghost SIZE = { 2 };
+
+    ghost spelled = { signed_bytes_2 };
+
+    ghost fits = { λ z. FitsSigned w16 z };
+
+    const SIZE: usize = 2;
+
+    #[tactic(auto, unfolding(crate::specs::Elements::signed_bytes_2))]
+    fn put(self, out: &mut Vec<u8>) {
+        put_bytes(&self.to_be_bytes(), out);
+    }
+
+    #[tactic(auto, unfolding(crate::specs::Elements::signed_bytes_2))]
+    fn read(bytes: &[u8]) -> i16 {
+        i16::from_be_bytes([bytes[0], bytes[1]])
+    }
+}
+
+impl Element for u32 {
+    ghost SIZE = { 4 };
+
+    ghost spelled = { bytes_4 };
+
+    ghost fits = { λ n. n < 2 ^ 32 };
+
+    const SIZE: usize = 4;
+
+    #[tactic(auto, unfolding(crate::specs::Elements::bytes_4))]
+    fn put(self, out: &mut Vec<u8>) {
+        put_bytes(&self.to_be_bytes(), out);
+    }
+
+    #[tactic(auto, unfolding(crate::specs::Elements::bytes_4))]
+    fn read(bytes: &[u8]) -> u32 {
+        u32::from_be_bytes([bytes[0], bytes[1], bytes[2], bytes[3]])
+    }
+}
+
+impl Element for u16 {
+    ghost SIZE = { 2 };
+
+    ghost spelled = { bytes_2 };
+
+    ghost fits = { λ n. n < 2 ^ 16 };
+
+    const SIZE: usize = 2;
+
+    #[tactic(auto, unfolding(crate::specs::Elements::bytes_2))]
+    fn put(self, out: &mut Vec<u8>) {
+        put_bytes(&self.to_be_bytes(), out);
+    }
+
+    #[tactic(auto, unfolding(crate::specs::Elements::bytes_2))]
+    fn read(bytes: &[u8]) -> u16 {
+        u16::from_be_bytes([bytes[0], bytes[1]])
+    }
+}
+
+impl Element for u8 {
+    ghost SIZE = { 1 };
+
+    ghost spelled = { byte_1 };
+
+    ghost fits = { λ n. n < 2 ^ 8 };
+
+    const SIZE: usize = 1;
+
+    #[tactic(auto, unfolding(crate::specs::Elements::byte_1))]
+    fn put(self, out: &mut Vec<u8>) {
+        put_bytes(&[self], out);
+    }
+
+    #[tactic(auto, unfolding(crate::specs::Elements::byte_1))]
+    fn read(bytes: &[u8]) -> u8 {
+        bytes[0]
+    }
+}
+
+impl Element for i32 {
+    ghost SIZE = { 4 };
+
+    ghost spelled = { signed_bytes_4 };
+
+    ghost fits = { λ z. FitsSigned w32 z };
+
+    const SIZE: usize = 4;
+
+    #[tactic(auto, unfolding(crate::specs::Elements::signed_bytes_4))]
+    fn put(self, out: &mut Vec<u8>) {
+        put_bytes(&self.to_be_bytes(), out);
+    }
+
+    #[tactic(auto, unfolding(crate::specs::Elements::signed_bytes_4))]
+    fn read(bytes: &[u8]) -> i32 {
+        i32::from_be_bytes([bytes[0], bytes[1], bytes[2], bytes[3]])
+    }
+}
+
+impl Element for u64 {
+    ghost SIZE = { 8 };
+
+    ghost spelled = { bytes_8 };
+
+    ghost fits = { λ n. n < 2 ^ 64 };
+
+    const SIZE: usize = 8;
+
+    #[tactic(auto, unfolding(crate::specs::Elements::bytes_8))]
+    fn put(self, out: &mut Vec<u8>) {
+        put_bytes(&self.to_be_bytes(), out);
+    }
+
+    #[tactic(auto, unfolding(crate::specs::Elements::bytes_8))]
+    fn read(bytes: &[u8]) -> u64 {
+        u64::from_be_bytes([
+            bytes[0], bytes[1], bytes[2], bytes[3], bytes[4], bytes[5], bytes[6], bytes[7],
+        ])
+    }
+}
+
+/// Puts the bytes of all elements at the end, where room was made for them.
+pub fn put_all<E: Element>(items: &[E], out: &mut Vec<u8>)
+    requires { vec_len out.old + length items.now * E.SIZE ≤ vec_capacity out.old }
+    ensures after { out.new.items ≡ out.old.items ++ flat_map E.spelled items.now }
+    ensures len { vec_len out.new ≡ vec_len out.old + length items.now * E.SIZE }
+    ensures capacity { vec_capacity out.old ≤ vec_capacity out.new }
+    ensures fits { All E.fits items.now }
+{
+    for item in items {
+        item.put(out);
+    }
+}
+
+/// Reads so many elements from the front.
+pub fn read_all<E: Element>(alloc: Global, count: usize, bytes: &[u8]) -> Result<Vec<E>, AllocError>
+    requires { count * E.SIZE ≤ length bytes.now }
+    ensures again { IfOk result (λ v. flat_map E.spelled v.items ≡ take (count * E.SIZE) bytes.now) }
+    ensures count { IfOk result (λ v. length v.items ≡ count) }
+    ensures fits { IfOk result (λ v. All E.fits v.items) }
+{
+    let mut items = Vec::with_capacity(alloc, count)?;
+    let mut rest = bytes;
+    for _ in 0..count {
+        let (front, behind) = rest.split_at(E::SIZE);
+        items.push(E::read(front))?;
+        rest = behind;
+    }
+    Ok(items)
+}

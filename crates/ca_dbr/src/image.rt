@@ -1,0 +1,123 @@
+ghost use Rattle.std.specs.Prelude.{◌≡◌, ◌≤◌, ◌<◌, ◌+◌, ◌-◌, ◌*◌, ◌^◌, ◌++◌, min, replicate, MatchResult, OnOk, vec_len, vec_capacity, IfErr, ◌⊎◌};
+ghost use Rattle.ca_dbr.specs.declared.data_type.DataType.{DataType};
+ghost use Rattle.ca_dbr.specs.Types.{type_number, element_size, meta_size, size_of_image};
+ghost use Rattle.ca_dbr.specs.Elements.{elements, base_of, count_of, bytes_of, IsValue};
+ghost use Rattle.ca_dbr.specs.Image.{meta_bytes, Writes};
+ghost use Rattle.ca_dbr.specs.Reading.{IsMeta};
+ghost use Rattle.ca_text.specs.declared.refusal.Refusal.TheVariants.{BadType, OutOfMemory};
+
+use crate::data_type::{DataType, Form};
+use crate::element::{Element, put_all, put_bytes};
+use crate::value::{Meta, Value};
+use ca_text::Refusal;
+
+/// How many bytes an image of so many elements takes. Refused by 4 where the type does not exist.
+pub fn image_size(number: u16, count: u32) -> Result<usize, Refusal>
+    ensures { MatchResult result
+        (λ size. (t : DataType) × (type_number t ≡ number) × (size ≡ size_of_image t count))
+        (λ e. (e ≡ BadType) × (20 < number)) }
+{
+    match DataType::of(number) {
+        None => Err(Refusal::BadType),
+        Some(data_type) => Ok(size_for(data_type, count as usize)),
+    }
+}
+
+/// The size of an image, or the greatest number where it is over that.
+pub fn size_for(data_type: DataType, count: usize) -> usize
+    ensures { result ≡ min (size_of_image data_type count) (2 ^ 64 - 1) }
+{
+    let front = data_type.meta_size() + data_type.padding_size();
+    let size = data_type.base.element_size();
+    count.saturating_mul(size).saturating_add(front)
+}
+
+/// Puts the metadata that the form carries at the end, where room was made for it.
+pub fn put_meta(form: Form, meta: Meta, out: &mut Vec<u8>)
+    requires { vec_len out.old + meta_size form ≤ vec_capacity out.old }
+    ensures after { out.new.items ≡ out.old.items ++ meta_bytes form meta }
+    ensures meta { IsMeta meta }
+    ensures len { vec_len out.new ≡ vec_len out.old + meta_size form }
+    ensures capacity { vec_capacity out.old ≤ vec_capacity out.new }
+{
+    match form {
+        Form::Plain => {}
+        Form::Status => {
+            meta.status.put(out);
+            meta.severity.put(out);
+        }
+        Form::Time => {
+            meta.status.put(out);
+            meta.severity.put(out);
+            meta.seconds.put(out);
+            meta.nanos.put(out);
+        }
+    }
+}
+
+/// Puts so many zero bytes at the end, where room was made for them.
+pub fn put_zeros(count: usize, out: &mut Vec<u8>)
+    requires { vec_len out.old + count ≤ vec_capacity out.old }
+    ensures after { out.new.items ≡ out.old.items ++ replicate count 0 }
+    ensures len { vec_len out.new ≡ vec_len out.old + count }
+    ensures capacity { vec_capacity out.old ≤ vec_capacity out.new }
+{
+    for _ in 0..count {
+        put_bytes(&[0], out);
+    }
+}
+
+/// Puts the elements at the end, where room was made for them.
+fn put_elements(value: &Value, out: &mut Vec<u8>)
+    requires { vec_len out.old + count_of (elements value.now) * element_size (base_of (elements value.now)) ≤ vec_capacity out.old }
+    ensures after { out.new.items ≡ out.old.items ++ bytes_of (elements value.now) }
+    ensures fits { IsValue (elements value.now) }
+{
+    match value {
+        Value::Strings(items) => put_all(items, out),
+        Value::Ints(items) => put_all(items, out),
+        Value::Floats(items) => put_all(items, out),
+        Value::Enums(items) => put_all(items, out),
+        Value::Chars(items) => put_all(items, out),
+        Value::Longs(items) => put_all(items, out),
+        Value::Doubles(items) => put_all(items, out),
+    }
+}
+
+/// Writes the image of a value at the end of the bytes. Refused by 4 where the type does not exist or is not
+/// the value's own, then by 1; the bytes are then as before.
+pub fn write_value(
+    number: u16,
+    value: &Value,
+    meta: &Meta,
+    out: &mut Vec<u8>,
+) -> Result<(), Refusal>
+    ensures written { Writes number (elements value.now) meta.now out.old.items result out.new.items }
+    ensures value { OnOk result (IsValue (elements value.now)) }
+    ensures meta { OnOk result (IsMeta meta.now) }
+{
+    let data_type = match DataType::of(number) {
+        None => return Err(Refusal::BadType),
+        Some(data_type) => data_type,
+    };
+    if data_type.base != value.base_type() {
+        return Err(Refusal::BadType);
+    }
+    out.reserve(size_for(data_type, value.count()))?;
+    put_meta(data_type.form, *meta, out);
+    put_zeros(data_type.padding_size(), out);
+    put_elements(value, out);
+    Ok(())
+}
+
+/// Writes as many zero bytes as an image of so many elements takes. Refused by 4 where the type does not exist,
+/// then by 1; the bytes are then as before.
+pub fn write_zero_image(number: u16, count: u32, out: &mut Vec<u8>) -> Result<(), Refusal>
+    ensures ok { OnOk result ((t : DataType) × (type_number t ≡ number) × (out.new.items ≡ out.old.items ++ replicate (size_of_image t count) 0)) }
+    ensures err { IfErr result (λ e. (out.new.items ≡ out.old.items) × (((20 < number) × (e ≡ BadType)) ⊎ ((number < 21) × (e ≡ OutOfMemory)))) }
+{
+    let size = image_size(number, count)?;
+    out.reserve(size)?;
+    put_zeros(size, out);
+    Ok(())
+}

@@ -1,0 +1,25 @@
+//! Values of channels: the seven base types, their images in payloads with and without metadata, and the
+//! conversions between them.
+#![tactic(auto)]
+
+mod conversion;
+mod data_type;
+mod element;
+mod image;
+mod laws;
+mod number;
+mod numeric;
+mod reading;
+mod shown;
+mod value;
+
+pub use conversion::{convert, convert_to, has_conversion};
+pub use data_type::{BaseType, DataType, Form};
+pub use image::{image_size, write_value, write_zero_image};
+pub use laws::{one_number, one_reading, wanted_shown, why_not_shown};
+pub use reading::read_value;
+pub use shown::write_shown;
+pub use value::{Meta, Outcome, Value};
+
+#[cfg(test)]
+mod tests;

@@ -1,0 +1,110 @@
+ghost use Rattle.std.specs.Prelude.{◌≡◌, ◌≤◌, ◌<◌, ◌+◌, ◌-◌, ◌*◌, ◌++◌, length, take, drop, replicate, IfOk, IfErr};
+ghost use Rattle.ca_dbr.specs.declared.data_type.DataType.{DataType};
+ghost use Rattle.ca_dbr.specs.Types.{type_number, meta_size};
+ghost use Rattle.ca_dbr.specs.Elements.{elements};
+ghost use Rattle.ca_dbr.specs.Image.{meta_bytes};
+ghost use Rattle.ca_dbr.specs.Reading.{carried, IsMeta, ReadsElements, Reads, ReadRefused, least_size};
+
+use crate::data_type::{BaseType, DataType, Form};
+use crate::element::{Element, read_all};
+use crate::value::{Meta, Value};
+use ca_text::Refusal;
+use std::alloc::{AllocError, Global};
+
+/// How many bytes so many elements take at least: a single STRING may come in any number.
+fn least_size(base: BaseType, count: u32) -> usize
+    ensures { result ≡ least_size base count }
+{
+    match base {
+        BaseType::String if count == 1 => 0,
+        _ => count as usize * base.element_size(),
+    }
+}
+
+/// The metadata at the front, as far as the form carries it.
+fn read_meta(form: Form, bytes: &[u8]) -> Meta
+    requires { meta_size form ≤ length bytes.now }
+    ensures front { bytes.now ≡ meta_bytes form result ++ drop (meta_size form) bytes.now }
+    ensures meta { IsMeta result }
+    ensures only { carried form result ≡ result }
+{
+    match form {
+        Form::Plain => Meta::ZERO,
+        Form::Status => Meta {
+            status: u16::read(&bytes[..2]),
+            severity: u16::read(&bytes[2..4]),
+            seconds: 0,
+            nanos: 0,
+        },
+        Form::Time => Meta {
+            status: u16::read(&bytes[..2]),
+            severity: u16::read(&bytes[2..4]),
+            seconds: u32::read(&bytes[4..8]),
+            nanos: u32::read(&bytes[8..12]),
+        },
+    }
+}
+
+/// The text at the front, filled with zero bytes.
+fn read_text(bytes: &[u8]) -> [u8; 40]
+    ensures { result ≡ take 40 (bytes.now ++ replicate (40 - length bytes.now) 0) }
+{
+    let mut text = [0; 40];
+    let size = bytes.len().min(40);
+    text[..size].copy_from_slice(&bytes[..size]);
+    text
+}
+
+/// The elements at the front.
+fn read_elements(
+    alloc: Global,
+    base: BaseType,
+    count: u32,
+    bytes: &[u8],
+) -> Result<Value, AllocError>
+    requires { least_size base count ≤ length bytes.now }
+    ensures { IfOk result (λ value. ReadsElements base count bytes.now (elements value)) }
+{
+    let count = count as usize;
+    match base {
+        BaseType::String if count == 1 => {
+            let mut items = Vec::new(alloc);
+            items.push(read_text(bytes))?;
+            Ok(Value::Strings(items))
+        }
+        BaseType::String => Ok(Value::Strings(read_all(alloc, count, bytes)?)),
+        BaseType::Int => Ok(Value::Ints(read_all(alloc, count, bytes)?)),
+        BaseType::Float => Ok(Value::Floats(read_all(alloc, count, bytes)?)),
+        BaseType::Enum => Ok(Value::Enums(read_all(alloc, count, bytes)?)),
+        BaseType::Char => Ok(Value::Chars(read_all(alloc, count, bytes)?)),
+        BaseType::Long => Ok(Value::Longs(read_all(alloc, count, bytes)?)),
+        BaseType::Double => Ok(Value::Doubles(read_all(alloc, count, bytes)?)),
+    }
+}
+
+/// Reads the image of so many elements. Refused by 4 where the type does not exist, by 5 where the bytes are
+/// too few, then by 1.
+///
+/// A STRING of count 1 may come in fewer than 40 bytes, the missing ones are zero. Padding, and bytes behind the
+/// last element, are not read. Metadata that the type does not carry is zero.
+pub fn read_value(
+    alloc: Global,
+    number: u16,
+    count: u32,
+    bytes: &[u8],
+) -> Result<(Value, Meta), Refusal>
+    ensures read { IfOk result (λ r. (t : DataType) × (type_number t ≡ number) × Reads t count bytes.now (elements r.0) r.1) }
+    ensures refused { IfErr result (ReadRefused number count bytes.now) }
+{
+    let data_type = match DataType::of(number) {
+        None => return Err(Refusal::BadType),
+        Some(data_type) => data_type,
+    };
+    let front = data_type.meta_size() + data_type.padding_size();
+    if bytes.len() < front + least_size(data_type.base, count) {
+        return Err(Refusal::Short);
+    }
+    let meta = read_meta(data_type.form, bytes);
+    let value = read_elements(alloc, data_type.base, count, &bytes[front..])?;
+    Ok((value, meta))
+}

@@ -1,0 +1,105 @@
+ghost use Rattle.std.specs.Prelude.{◌≡◌, IfOk, IfErr};
+ghost use Rattle.ca_text.specs.declared.refusal.Refusal.TheVariants.{OutOfMemory};
+ghost use Rattle.ca_dbr.specs.Elements.{elements, base_of, count_of};
+
+use crate::data_type::BaseType;
+use ca_text::{Refusal, Status};
+use std::alloc::Global;
+
+/// The elements of one channel's value: all of one type.
+#[derive(Debug, Drop, PartialEq, Eq)]
+pub enum Value {
+    /// Texts: the bytes before the first zero.
+    Strings(Vec<[u8; 40]>),
+    Ints(Vec<i16>),
+    /// Bit patterns.
+    Floats(Vec<u32>),
+    Enums(Vec<u16>),
+    Chars(Vec<u8>),
+    Longs(Vec<i32>),
+    /// Bit patterns.
+    Doubles(Vec<u64>),
+}
+
+/// What goes with a value: its alarm's status and severity, and when it was written.
+#[derive(Clone, Copy, Debug, PartialEq, Eq)]
+pub struct Meta {
+    pub status: u16,
+    pub severity: u16,
+    /// Seconds since 1990-01-01 00:00:00 UTC.
+    pub seconds: u32,
+    pub nanos: u32,
+}
+
+/// What became of a request, or of a subscription's update.
+#[derive(Debug, Drop, PartialEq, Eq)]
+pub enum Outcome {
+    /// A read, or an update, with its value.
+    Value(Value, Meta),
+    /// A put with notification was done.
+    Done,
+    /// The server answered with this status.
+    Failed(Status),
+    /// The payload has no value of its type and count.
+    Unreadable(Refusal),
+    /// The circuit was lost, or the channel was cleared.
+    Disconnected,
+}
+
+impl Meta {
+    /// What plain types come with.
+    pub const ZERO: Meta = Meta {
+        status: 0,
+        severity: 0,
+        seconds: 0,
+        nanos: 0,
+    };
+}
+
+impl Value {
+    /// The type of its elements.
+    pub fn base_type(&self) -> BaseType
+        ensures { result ≡ base_of (elements self.now) }
+    {
+        match self {
+            Value::Strings(_) => BaseType::String,
+            Value::Ints(_) => BaseType::Int,
+            Value::Floats(_) => BaseType::Float,
+            Value::Enums(_) => BaseType::Enum,
+            Value::Chars(_) => BaseType::Char,
+            Value::Longs(_) => BaseType::Long,
+            Value::Doubles(_) => BaseType::Double,
+        }
+    }
+
+    /// How many elements it has.
+    pub fn count(&self) -> usize
+        ensures { result ≡ count_of (elements self.now) }
+    {
+        match self {
+            Value::Strings(items) => items.len(),
+            Value::Ints(items) => items.len(),
+            Value::Floats(items) => items.len(),
+            Value::Enums(items) => items.len(),
+            Value::Chars(items) => items.len(),
+            Value::Longs(items) => items.len(),
+            Value::Doubles(items) => items.len(),
+        }
+    }
+
+    /// The same elements again. Refused by 1.
+    pub fn copy(&self, alloc: Global) -> Result<Value, Refusal>
+        ensures ok { IfOk result (λ v. elements v ≡ elements self.now) }
+        ensures err { IfErr result (λ e. e ≡ OutOfMemory) }
+    {
+        match self {
+            Value::Strings(items) => Ok(Value::Strings(Vec::from_slice(alloc, items)?)),
+            Value::Ints(items) => Ok(Value::Ints(Vec::from_slice(alloc, items)?)),
+            Value::Floats(items) => Ok(Value::Floats(Vec::from_slice(alloc, items)?)),
+            Value::Enums(items) => Ok(Value::Enums(Vec::from_slice(alloc, items)?)),
+            Value::Chars(items) => Ok(Value::Chars(Vec::from_slice(alloc, items)?)),
+            Value::Longs(items) => Ok(Value::Longs(Vec::from_slice(alloc, items)?)),
+            Value::Doubles(items) => Ok(Value::Doubles(Vec::from_slice(alloc, items)?)),
+        }
+    }
+}
