@@ -1,0 +1,73 @@
+ghost use Rattle.std.specs.Prelude.{◌≡◌, ◌+◌, ◌≤◌, ◌++◌, length, vec_capacity};
+ghost use Rattle.ca_dgram.specs.Search.{Searches, begun};
+
+use crate::fixed::header_bytes;
+use ca_text::{ChannelName, Command, DATAGRAM_LIMIT, MINOR_VERSION, Refusal};
+use std::alloc::Global;
+
+/// Data type of a search that wants no answer where the name is unknown.
+const NO_REPLY_WANTED: u16 = 5;
+
+/// Bytes of a header.
+const HEADER: usize = 16;
+
+/// Writes the search for this name at the end of the datagram; where that is empty, the VERSION first.
+///
+/// Refused by 19 where the datagram would have more than 1,024 bytes. A refusal changes nothing.
+pub fn search_into(cid: u32, name: &ChannelName, out: &mut Vec<u8>) -> Result<(), Refusal>
+    ensures { Searches out.old.items cid name.now result out.new.items }
+{
+    let name = name.bytes();
+    let zeros = 8 - name.len() % 8;
+    let size = name.len() + zeros;
+    let growth = opening(out) + HEADER + size;
+    if out.len() > DATAGRAM_LIMIT - growth {
+        return Err(Refusal::DatagramTooLong);
+    }
+    out.reserve(growth)?;
+    begin(out);
+    let header = header_bytes(
+        Command::Search,
+        NO_REPLY_WANTED,
+        size as u16,
+        MINOR_VERSION,
+        cid,
+        cid,
+    );
+    append(&header, out);
+    append(name, out);
+    append(&[0; 8][..zeros], out);
+    Ok(())
+}
+
+/// The bytes of the VERSION that a datagram lacks.
+fn opening(datagram: &[u8]) -> usize
+    ensures opens { length datagram.now + result ≡ length (begun datagram.now) }
+    ensures small { result ≤ 16 }
+{
+    if datagram.is_empty() { HEADER } else { 0 }
+}
+
+/// Writes the VERSION where the datagram is empty.
+fn begin(out: &mut Vec<u8>)
+    requires { length (begun out.old.items) ≤ vec_capacity out.old }
+    ensures items { out.new.items ≡ begun out.old.items }
+    ensures capacity { vec_capacity out.old ≤ vec_capacity out.new }
+{
+    if out.is_empty() {
+        let header = header_bytes(Command::Version, 0, 0, MINOR_VERSION, 0, 0);
+        append(&header, out);
+    }
+}
+
+/// Writes the bytes at the end of a buffer that has room for them.
+fn append(part: &[u8], out: &mut Vec<u8>)
+    requires { length out.old.items + length part.now ≤ vec_capacity out.old }
+    ensures items { out.new.items ≡ out.old.items ++ part.now }
+    ensures capacity { vec_capacity out.old ≤ vec_capacity out.new }
+{
+    match out.extend_from_slice(part) {
+        Ok(()) => {}
+        Err(_) => unreachable!(),
+    }
+}
