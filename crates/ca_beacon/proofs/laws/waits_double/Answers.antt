@@ -1,0 +1,11 @@
+use Rattle.ca_beacon.proofs.Runs.{wait-closed, fresh-number, fresh-due}
+use Rattle.ca_beacon.proofs.laws.waits_double.Goals as goal
+
+pub returns-clause-doubled : goal.returns-clause-doubled
+returns-clause-doubled c = wait-closed
+
+pub returns-clause-number : goal.returns-clause-number
+returns-clause-number c = fresh-number
+
+pub returns-clause-due : goal.returns-clause-due
+returns-clause-due c = fresh-due

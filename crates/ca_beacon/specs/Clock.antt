@@ -1,0 +1,29 @@
+-- When beacons are due. Moments are milliseconds; a sum of them stops at the greatest u64.
+use Rattle.std.specs.Prelude.{ℕ, ◌+◌, ◌*◌, ◌-◌, ◌%◌, ◌^◌, List, [], ◌∷◌, zero, suc, min}
+
+-- the milliseconds after a beacon: the first wait, doubled after each beacon up to the longest; n beacons went before it
+abbrev pub wait : ℕ → ℕ → ℕ → ℕ
+wait first longest zero = first
+wait first longest (suc n) = min (2 * wait first longest n) longest
+
+-- the last moment
+abbrev pub latest : ℕ
+latest = 2 ^ 64 - 1
+
+-- the number of the next beacon, the wait after it, and the moment from which it is due
+pub record Clock : Type 0 where
+  pub number : ℕ
+  pub wait : ℕ
+  pub due : ℕ
+
+abbrev pub fresh : ℕ → Clock
+fresh start = record { number = 0; wait = 20; due = start }
+
+-- the clock after a beacon that was sent now
+abbrev pub sent_at : Clock → ℕ → Clock
+sent_at c now = record { number = (c.number + 1) % 2 ^ 32; wait = min (2 * c.wait) 15000; due = min (now + c.wait) latest }
+
+-- the clock after beacons of these moments
+abbrev pub run : Clock → List ℕ → Clock
+run c [] = c
+run c (now ∷ moments) = run (sent_at c now) moments

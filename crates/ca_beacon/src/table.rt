@@ -1,0 +1,77 @@
+ghost use Rattle.std.specs.Prelude.{◌≡◌, ◌+◌, ◌*◌};
+ghost use Rattle.std.specs.FinMap as map;
+ghost use Rattle.std.specs.Net.Addr.{ipv4_bits};
+ghost use Rattle.ca_beacon.specs.Table.{Hears, anomaly, server};
+
+use ca_text::{BEACON_SERVERS, Refusal};
+use std::alloc::Global;
+use std::collections::BTreeMap;
+use std::marker::Model;
+use std::net::Ipv4Addr;
+
+/// The last beacon numbers of the servers that were heard, of 1,024 servers at most.
+#[derive(Debug, Drop)]
+pub struct BeaconTable {
+    last: BTreeMap<u64, u32>,
+}
+
+impl Model for BeaconTable {
+    ghost use Rattle.std.specs.Prelude.{ℕ};
+    ghost use Rattle.std.specs.Ordering.{nat_cmp};
+    ghost use Rattle.std.specs.FinMap as map;
+    ghost use Rattle.std.specs.Coded.{coded_ℕ};
+
+    ghost Value = { map.FinMap nat_cmp ℕ };
+
+    ghost coded = { map.code coded_ℕ coded_ℕ };
+
+    ghost use Rattle.ca_beacon.specs.Table.{IsTable};
+
+    ghost view = { λ t. map.from_entries t.last.entries };
+
+    ghost invariant = { λ t. IsTable t.last.entries };
+}
+
+impl BeaconTable {
+    /// The table of a client that heard no server.
+    pub fn new(alloc: Global) -> BeaconTable
+        ensures { result ≡ map.empty }
+    {
+        BeaconTable {
+            last: BTreeMap::new(alloc),
+        }
+    }
+
+    /// Notes a beacon of the server at this address and TCP port, and tells whether it is an anomaly: the first one of
+    /// its server, or one whose number does not follow the last. A server beyond the 1,024 is an anomaly each time.
+    ///
+    /// A refusal changes nothing.
+    pub fn heard(&mut self, address: Ipv4Addr, port: u16, number: u32) -> Result<bool, Refusal>
+        ensures { Hears self.old (server (ipv4_bits address) port) number result self.new }
+    {
+        let server = key(address, port);
+        let last = self.last.get(&server).copied();
+        if last.is_none() && self.last.len() >= BEACON_SERVERS {
+            return Ok(true);
+        }
+        self.last.insert(server, number)?;
+        Ok(is_anomaly(last, number))
+    }
+}
+
+/// A server as one number.
+fn key(address: Ipv4Addr, port: u16) -> u64
+    ensures { result ≡ server (ipv4_bits address) port }
+{
+    u64::from(address.to_bits()) * 0x1_0000 + u64::from(port)
+}
+
+/// Whether a number does not follow the last one of its server.
+fn is_anomaly(last: Option<u32>, number: u32) -> bool
+    ensures { result ≡ anomaly last number }
+{
+    match last {
+        None => true,
+        Some(last) => number != last.wrapping_add(1),
+    }
+}
