@@ -1,3 +1,5 @@
+pub mod Grammar
 pub mod Runs
 pub mod Standing
 pub mod Status
+pub mod Words

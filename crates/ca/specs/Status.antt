@@ -6,7 +6,3 @@ use Rattle.ca_text.specs.declared.refusal.Refusal.{Refusal}
 abbrev pub status_of : Result (Unit {0}) Refusal → ℕ
 status_of (Ok _) = 0
 status_of (Err _) = 1
-
--- the line was not understood
-abbrev pub not_understood : ℕ
-not_understood = 2

@@ -1,4 +1,4 @@
-ghost use Rattle.std.specs.Prelude.{IsNone};
+ghost use Rattle.std.specs.Prelude.{◌≤◌, IsNone};
 
 use crate::answer::{report, serve};
 use ca_link::{Reader, Writer};
@@ -60,6 +60,7 @@ pub fn answer_console<I: Read + Drop, O: Write + Drop, E: Write>(
     err: &mut E,
 ) -> u8
     requires { IsNone records }
+    ensures { result ≤ 1 }
 {
     report(serve_gathered(alloc, records, input, output), err)
 }

@@ -1,3 +1,6 @@
+ghost use Rattle.std.specs.Prelude.{◌≡◌, ◌≤◌, map, string_bytes};
+ghost use Rattle.ca.specs.Words.{answer_words};
+
 use crate::answer::report;
 use crate::console::answer_console;
 use crate::line::{Line, read_line};
@@ -14,7 +17,11 @@ pub fn run<I: Read + Drop, O: Write + Drop, E: Write>(
     input: I,
     output: O,
     err: &mut E,
-) -> u8 {
+) -> u8
+    ensures within { result ≤ 2 }
+    ensures understood { map string_bytes words.now ≡ answer_words → result ≤ 1 }
+    ensures refused { (map string_bytes words.now ≡ answer_words → ⊥) → 1 ≤ result }
+{
     match read_line(alloc, words) {
         Ok(Some(Line::Answer)) => answer_console(alloc, None, input, output, err),
         Ok(None) => not_understood(err),
@@ -23,7 +30,9 @@ pub fn run<I: Read + Drop, O: Write + Drop, E: Write>(
 }
 
 /// Tells that the words were not understood, and gives the exit status for that.
-pub fn not_understood<E: Write>(err: &mut E) -> u8 {
+pub fn not_understood<E: Write>(err: &mut E) -> u8
+    ensures { result ≡ 2 }
+{
     // Where this cannot be written the status alone tells.
     let _told = writeln!(err, "not understood");
     NOT_UNDERSTOOD

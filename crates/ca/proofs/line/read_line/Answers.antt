@@ -1,0 +1,16 @@
+use Rattle.std.proofs.Common.{◌≡◌, false, map, string_bytes, true, sym, ap, ◌∙◌}
+use Rattle.ca.specs.Words.{has_escape}
+use Rattle.ca.proofs.Reading.{no-escape, texts-escape}
+use Rattle.ca.proofs.line.read_line.Goals as goal
+
+pub returns-then-escapes-clause-answer : goal.returns-then-escapes-clause-answer
+returns-then-escapes-clause-answer c = (
+  λ e. absurd cc,
+  λ e.
+      let some : has_escape (map string_bytes c.args.words.now) ≡ true = sym (texts-escape string_bytes c.args.words.now _ c.escapes.ensures) ∙ c.if-escapes.true in
+      let none = ap has_escape e ∙ no-escape in
+      absurd cc,
+)
+
+pub asks_answer-requires : goal.asks_answer-requires
+asks_answer-requires c = sym (texts-escape string_bytes c.args.words.now _ c.escapes.ensures) ∙ c.if-escapes.false
