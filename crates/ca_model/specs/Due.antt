@@ -1,5 +1,5 @@
 -- The replies that are due for a message.
-use Rattle.std.specs.Prelude.{ℕ, ◌≡◌, ◌≢◌, ◌<◌, ◌≤◌, ◌^◌, ◌⊎◌, Bool, true, false, List, [], ◌∷◌, if◌then◌else◌, ◌+◌, ◌||◌, count_by}
+use Rattle.std.specs.Prelude.{ℕ, ◌≡◌, ◌≢◌, ◌<◌, ◌≤◌, ◌^◌, ◌⊎◌, Bool, List, [], ◌∷◌, if◌then◌else◌, ◌+◌, ◌||◌, count_by}
 use Rattle.ca_text.specs.Command.{command_number}
 use Rattle.ca_text.specs.declared.command.Command.TheVariants.{Version, CreateChannel, ReadNotify, ClearChannel}
 use Rattle.ca_text.specs.Limits.{channel_limit}

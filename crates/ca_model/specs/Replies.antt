@@ -1,5 +1,5 @@
 -- The messages by which a server answers (sections "CA Protocol Messages"). Fields that a message does not name are 0.
-use Rattle.std.specs.Prelude.{ℕ, ◌==◌, ◌*◌, ◌||◌, not, List, [], if◌then◌else◌, length, nat_lt, Option, Some, None}
+use Rattle.std.specs.Prelude.{ℕ, ◌==◌, ◌*◌, ◌||◌, not, [], if◌then◌else◌, length, nat_lt, Option, Some, None}
 use Rattle.ca_text.specs.Command.{command_number}
 use Rattle.ca_text.specs.declared.command.Command.TheVariants.{Version, AccessRights, CreateChannel, CreateChannelFail, ReadNotify, ClearChannel}
 use Rattle.ca_text.specs.Limits.{payload_limit}

@@ -1,8 +1,8 @@
 -- Which channels are open after one more message and its replies.
-use Rattle.std.proofs.Common.{◌≡◌, ℕ, suc, ◌+◌, ◌<◌, ◌⊎◌, inl, inr, List, [], ◌∷◌, ◌++◌, length, refl, sym, ap, ◌∙◌, subst, arith}
+use Rattle.std.proofs.Common.{◌≡◌, ℕ, ◌+◌, ◌<◌, inl, inr, List, [], ◌∷◌, ◌++◌, length, refl, sym, ap, ◌∙◌, subst, arith}
 use Rattle.std.proofs.lemmas.List.{length-append}
 use Rattle.ca_text.specs.Place.{At}
-use Rattle.ca_text.proofs.Places.{some_is, At-one, At-within, At-append, At-after, At-parts, At-snoc, At-last, At-back, At-mapped, At-map}
+use Rattle.ca_text.proofs.Places.{At-one, At-within, At-append, At-after, At-parts, At-snoc, At-last, At-back, At-mapped, At-map}
 use Rattle.ca_wire.specs.Fields.{Fields}
 use Rattle.ca_model.specs.declared.data.Cause.{Cause}
 use Rattle.ca_model.specs.declared.data.Cause.TheVariants.{Reply}
@@ -68,20 +68,23 @@ open-split ups downs m replies seat stand o =
     elim (At-parts downs (told (length ups) replies) o.j o.told o.answered) [
       | inl old ↦
           (let lt : o.k < length ups = stand o.j o.k o.told old o.cause in
-          inl (record {
-            j = o.j;
-            told = o.told;
-            answered = old;
-            creates = o.creates;
-            k = o.k;
-            cause = o.cause;
-            asked = o.asked;
-            sent = At-back ups (m ∷ []) o.k o.asked o.sent lt;
-            cid = o.cid;
-            name = o.name;
-            last = λ i t after at creates. o.last i t after (At-append downs (told (length ups) replies) i t at) creates;
-            uncleared = λ l n after at clears. o.uncleared l n after (At-append ups (m ∷ []) l n at) clears;
-          }, λ clears. o.uncleared (length ups) m lt (At-last ups m) clears))
+          inl (
+            record {
+              j = o.j;
+              told = o.told;
+              answered = old;
+              creates = o.creates;
+              k = o.k;
+              cause = o.cause;
+              asked = o.asked;
+              sent = At-back ups (m ∷ []) o.k o.asked o.sent lt;
+              cid = o.cid;
+              name = o.name;
+              last = λ i t after at creates. o.last i t after (At-append downs (told (length ups) replies) i t at) creates;
+              uncleared = λ l n after at clears. o.uncleared l n after (At-append ups (m ∷ []) l n at) clears;
+            },
+            λ clears. o.uncleared (length ups) m lt (At-last ups m) clears,
+          ))
       | inr new ↦
           (let r = told-At (length ups) replies new.0 o.told new.2 in
           let here : o.k ≡ length ups = reply_is o.k (length ups) (sym o.cause ∙ r.3) in

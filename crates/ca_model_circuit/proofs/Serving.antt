@@ -1,8 +1,7 @@
 -- One more exchange.
-use Rattle.std.proofs.Common.{◌≡◌, ℕ, zero, suc, ◌+◌, ◌<◌, ◌≤◌, ◌⊎◌, inl, inr, Bool, List, [], ◌∷◌, ◌++◌, length, take, refl, sym, ap, ◌∙◌, subst, arith, append_assoc}
-use Rattle.std.specs.Prelude.{map}
+use Rattle.std.proofs.Common.{◌≡◌, ℕ, suc, ◌+◌, ◌<◌, ◌≤◌, inl, inr, Bool, List, [], ◌∷◌, ◌++◌, length, take, refl, sym, ap, ◌∙◌, subst, arith, append_assoc}
 use Rattle.std.specs.List.{flat_map}
-use Rattle.std.proofs.lemmas.List.{append-nil, take-append-le, take_all, length-map, map-append}
+use Rattle.std.proofs.lemmas.List.{append-nil, take-append-le, take_all}
 use Rattle.std.proofs.lemmas.List.Concat.{flat_map-append}
 use Rattle.ca_text.specs.Place.{At}
 use Rattle.ca_text.proofs.Places.{At-within, At-snoc}
@@ -11,7 +10,7 @@ use Rattle.ca_wire.specs.Message.{spelled, spelling}
 use Rattle.ca_records.specs.Record.{RecordState}
 use Rattle.ca_model.specs.declared.data.Told.{Told}
 use Rattle.ca_model.specs.History.{Seat, IsOpen, created_by, greeted_by}
-use Rattle.ca_model.specs.Due.{Due, Handles, IsCreated, IsNotCreated, IsRead, IsStray}
+use Rattle.ca_model.specs.Due.{Due, Handles}
 use Rattle.ca_model.specs.Answer.{Exchange, AreDue, answer_text, asked_in, told, told_from}
 use Rattle.ca_model_circuit.specs.Knows.{Knows, Serves}
 use Rattle.ca_model_circuit.proofs.Steps.{knows-after}

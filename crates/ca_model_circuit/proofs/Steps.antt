@@ -1,22 +1,20 @@
 -- What a server's end knows stays true from message to message.
-use Rattle.std.proofs.Common.{◌≡◌, ℕ, zero, suc, ◌+◌, ◌<◌, ◌≤◌, ◌⊎◌, ◌==◌, ◌||◌, inl, inr, Bool, true, false, cond, List, [], ◌∷◌, ◌++◌, length, take, Option, Some, None, if◌then◌else◌, refl, sym, ap, ◌∙◌, subst, arith, append_assoc, zero-add}
-use Rattle.std.specs.Prelude.{count_by, map}
-use Rattle.std.specs.List.{list_any}
+use Rattle.std.proofs.Common.{◌≡◌, ℕ, zero, suc, ◌+◌, ◌<◌, ◌⊎◌, ◌||◌, inl, inr, Bool, true, false, cond, List, [], ◌∷◌, ◌++◌, length, Option, Some, None, if◌then◌else◌, refl, sym, ap, ◌∙◌, subst, arith}
+use Rattle.std.specs.Prelude.{count_by}
 use Rattle.std.proofs.lemmas.List.Folds.{list_any-append}
 use Rattle.std.proofs.lemmas.List.Sums.{sum_by-append, sum_by-cons}
-use Rattle.std.proofs.lemmas.List.{length-append, append-nil, take-append-le, take_all}
 use Rattle.ca_text.specs.Place.{At}
 use Rattle.ca_text.specs.Command.{command_number}
-use Rattle.ca_text.specs.declared.command.Command.TheVariants.{Version, CreateChannel, ReadNotify, ClearChannel}
-use Rattle.ca_text.proofs.Places.{some_is, At-one, At-within, At-snoc, At-append}
+use Rattle.ca_text.specs.declared.command.Command.TheVariants.{CreateChannel}
+use Rattle.ca_text.proofs.Places.{some_is}
 use Rattle.ca_wire.specs.Fields.{Fields}
 use Rattle.ca_records.specs.Record.{RecordState}
 use Rattle.ca_model.specs.declared.data.Cause.TheVariants.{Reply}
 use Rattle.ca_model.specs.declared.data.Told.{Told}
-use Rattle.ca_model.specs.History.{Seat, Creates, Clears, IsOpen, creates_one, created_by, greeted_by, is_version, text_in}
-use Rattle.ca_model.specs.Due.{Due, Handles, IsCreated, IsMade, IsNotCreated, IsRead, IsStray, OpenAfter, SidIsFree}
+use Rattle.ca_model.specs.History.{Seat, Creates, creates_one, created_by, greeted_by, is_version}
+use Rattle.ca_model.specs.Due.{Due, Handles, SidIsFree}
 use Rattle.ca_model.specs.Replies.{version_reply, rights_reply, created_reply, failed_reply, cleared_reply, refused_reply, read_reply, read_fault, reply_for}
-use Rattle.ca_model.specs.Answer.{Exchange, AreDue, asked_in, told, told_from}
+use Rattle.ca_model.specs.Answer.{told}
 use Rattle.ca_model_circuit.specs.Knows.{Knows}
 use Rattle.ca_model_circuit.proofs.Opens.{open-grows, open-split, open-made, causes-grow}
 

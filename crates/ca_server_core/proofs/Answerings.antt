@@ -1,11 +1,10 @@
 -- What the engine answers, by how a turn ended.
-use Rattle.std.proofs.Common.{◌≡◌, ℕ, ◌+◌, ◌<◌, ◌≤◌, ◌⊎◌, Bool, true, false, inl, inr, List, [], ◌∷◌, ◌++◌, length, length-append, refl, sym, ap, ◌∙◌, subst, arith}
-use Rattle.std.specs.Prelude.{Result, Ok, Err}
+use Rattle.std.proofs.Common.{◌≡◌, ℕ, ◌+◌, ◌<◌, Bool, true, false, inl, inr, List, [], ◌∷◌, ◌++◌, length, length-append, refl, sym, ap, subst, arith}
+use Rattle.std.specs.Prelude.{Err}
 use Rattle.std.specs.List.{concat}
 use Rattle.std.proofs.lemmas.List.{append-nil}
 use Rattle.ca_text.specs.declared.refusal.Refusal.{Refusal}
 use Rattle.ca_text.specs.declared.refusal.Refusal.TheVariants.{OutOfMemory, Misaligned, TooLarge, CircuitClosed, Device}
-use Rattle.ca_text.specs.Limits.{engine_turns}
 use Rattle.ca_wire.specs.Stream.{BadAt, Held, NoneBegins, NotBad}
 use Rattle.ca_wire.specs.Reading.{Gives}
 use Rattle.ca_wire.proofs.Headers.{header-long}
@@ -60,7 +59,7 @@ reads-all gives takes records s0 s t k0 k chunks rest e came last sent whole goo
       chunks = chunks;
       rest = rest;
       turned = turned-all gives takes records s0 t k0 k (chunks ++ [] ∷ []) rest e (moves-more gives s0 s t chunks [] came last) sent
-      (subst (λ (r : List ℕ). Serving takes records k0 (concat (chunks ++ [] ∷ [])) k r e) (append-nil rest) (serving-chunk takes records k0 k chunks [] rest e serving));
+          (subst (λ (r : List ℕ). Serving takes records k0 (concat (chunks ++ [] ∷ [])) k r e) (append-nil rest) (serving-chunk takes records k0 k chunks [] rest e serving));
       whole = whole;
       good = good;
     }

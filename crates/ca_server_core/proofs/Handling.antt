@@ -1,9 +1,9 @@
 -- What each handler makes of the server's end, as the handling of one message.
-use Rattle.std.proofs.Common.{◌≡◌, ℕ, zero, suc, ◌+◌, ◌<◌, ◌≤◌, ◌⊎◌, ◌==◌, ◌||◌, inl, inr, Bool, true, false, cond, if◌then◌else◌, List, [], ◌∷◌, ◌++◌, length, Option, Some, None, refl, sym, ap, ◌∙◌, subst, arith}
+use Rattle.std.proofs.Common.{◌≡◌, ℕ, zero, suc, ◌+◌, ◌<◌, ◌⊎◌, ◌||◌, inl, inr, Bool, true, false, cond, if◌then◌else◌, List, [], ◌∷◌, ◌++◌, length, Option, Some, None, refl, sym, ap, ◌∙◌, subst, arith}
 use Rattle.std.specs.Prelude.{count_by, OnOk, Result, Ok, Err}
 use Rattle.std.proofs.lemmas.List.{append-nil}
 use Rattle.std.proofs.lemmas.List.Sums.{sum_by-cons}
-use Rattle.std.proofs.lemmas.Bool.{eq-eqb, eqb-true}
+use Rattle.std.proofs.lemmas.Bool.{eq-eqb}
 use Rattle.std.proofs.lemmas.Bool.Decides.{eqb_tells}
 use Rattle.ca_text.specs.Place.{At}
 use Rattle.ca_text.specs.Status.{bad_channel}
@@ -11,12 +11,12 @@ use Rattle.ca_text.proofs.Places.{some_is, At-one, At-or, At-within}
 use Rattle.ca_wire.specs.Fields.{Fields}
 use Rattle.ca_wire.specs.Message.{spelled}
 use Rattle.ca_records.specs.Record.{RecordState}
-use Rattle.ca_records.specs.Records.{IsServed, Names}
-use Rattle.ca_model.specs.History.{Seat, Clears, Creates, creates_one, is_version, text_in}
+use Rattle.ca_records.specs.Records.{Names}
+use Rattle.ca_model.specs.History.{Seat, Creates, creates_one, is_version, text_in}
 use Rattle.ca_model.specs.Replies.{cleared_reply, created_reply, failed_reply, read_fault, read_reply, refused_reply, reply_for, rights_reply, version_reply}
-use Rattle.ca_model.specs.Due.{Due, Handles, IsCreated, IsMade, IsNotCreated, IsRead, IsStray, OpenAfter}
+use Rattle.ca_model.specs.Due.{Due, IsMade, IsNotCreated, IsRead, IsStray}
 use Rattle.ca_server_core.specs.declared.channels.Channel.{Channel}
-use Rattle.ca_server_core.specs.Channels.{Closes, Holds, Opens}
+use Rattle.ca_server_core.specs.Channels.{Holds}
 use Rattle.ca_server_core.specs.End.{AreKnown, End, HandlesOne, IsAmong, IsCleared, IsSeated, greeted}
 
 -- the replies create no channel

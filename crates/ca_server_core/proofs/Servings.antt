@@ -1,6 +1,6 @@
 -- What holds between two messages, message by message and write by write.
 use Rattle.ca_text.specs.Place.{At}
-use Rattle.std.proofs.Common.{◌≡◌, ℕ, ◌+◌, ◌<◌, ◌⊎◌, Bool, true, false, length-append, List, [], ◌∷◌, ◌++◌, length, take, drop, refl, sym, ap, ◌∙◌, subst, arith, append_assoc}
+use Rattle.std.proofs.Common.{◌≡◌, ℕ, ◌<◌, ◌⊎◌, Bool, true, false, length-append, List, [], ◌∷◌, ◌++◌, length, take, drop, refl, sym, ap, ◌∙◌, subst, arith, append_assoc}
 use Rattle.std.specs.Prelude.{Result, Ok, Err, IsErrAnd}
 use Rattle.std.specs.List.{concat}
 use Rattle.ca_text.specs.declared.refusal.Refusal.{Refusal}
@@ -14,10 +14,8 @@ use Rattle.ca_wire.proofs.Messages.{spells-long}
 use Rattle.ca_text.specs.Limits.{engine_turns}
 use Rattle.ca_link.specs.Steps.{Moves}
 use Rattle.ca_records.specs.Record.{RecordState}
-use Rattle.ca_model.specs.Answer.{Exchange, answer_text, asked_in, told_from}
-use Rattle.ca_model_circuit.specs.Knows.{Knows, Serves}
+use Rattle.ca_model.specs.Answer.{Exchange, asked_in}
 use Rattle.ca_model_circuit.proofs.Serving.{answer-more, asked-more, serves-more, serves-none}
-use Rattle.ca_server_core.specs.Answering.{Written}
 use Rattle.ca_server_core.specs.End.{End, HandlesOne, IsAmong}
 use Rattle.ca_server_core.specs.Serving.{BreaksAt, Drains, Flushes, Partly, Serving, ServesOn}
 
@@ -57,7 +55,7 @@ serving-message takes records k0 bytes k rest front back m old new e spells hand
         writes = serving.written.writes;
         wrote = serving.written.wrote;
         text = ap (λ (t : List ℕ). concat serving.written.writes ++ t) handles.waits ∙ sym (append_assoc (concat serving.written.writes) old.output (spelled handles.replies))
-        ∙ ap (λ (t : List ℕ). t ++ spelled handles.replies) serving.written.text ∙ sym (answer-more es x);
+            ∙ ap (λ (t : List ℕ). t ++ spelled handles.replies) serving.written.text ∙ sym (answer-more es x);
       };
       knows = more.knows;
     }
@@ -92,7 +90,7 @@ partly-write takes records k0 bytes k k' rest e n took serving =
         writes = serving.written.writes ++ take n e.output ∷ [];
         wrote = moves-more takes k0 k k' serving.written.writes (take n e.output) serving.written.wrote took;
         text = ap (λ (t : List ℕ). t ++ drop n e.output) (concat-more serving.written.writes (take n e.output)) ∙ append_assoc (concat serving.written.writes) (take n e.output) (drop n e.output)
-        ∙ ap (λ (t : List ℕ). concat serving.written.writes ++ t) (take-append-drop n e.output) ∙ serving.written.text;
+            ∙ ap (λ (t : List ℕ). concat serving.written.writes ++ t) (take-append-drop n e.output) ∙ serving.written.text;
       };
     }
 

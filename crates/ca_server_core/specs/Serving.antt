@@ -1,10 +1,8 @@
 -- What holds between two messages of a circuit.
-use Rattle.std.specs.Prelude.{ℕ, ◌≡◌, ◌+◌, ◌<◌, ◌++◌, ◌⊎◌, Bool, false, List, [], length, Result, Ok, Err}
-use Rattle.std.specs.List.{concat}
+use Rattle.std.specs.Prelude.{ℕ, ◌≡◌, ◌<◌, ◌⊎◌, false, List, [], length, Result, Ok, Err}
 use Rattle.ca_text.specs.declared.refusal.Refusal.{Refusal}
 use Rattle.ca_text.specs.declared.refusal.Refusal.TheVariants.{OutOfMemory, Misaligned, TooLarge, Device}
 use Rattle.ca_text.specs.Limits.{engine_turns}
-use Rattle.ca_wire.specs.Fields.{Fields}
 use Rattle.ca_wire.specs.Stream.{BadAt, Held, NoneBegins, NotBad}
 use Rattle.ca_records.specs.Record.{RecordState}
 use Rattle.ca_model.specs.Answer.{Exchange, asked_in, told_from}

@@ -1,12 +1,11 @@
-use Rattle.std.proofs.Common.{◌≡◌, ◌+◌, ◌<◌, ◌≤◌, ◌∷◌, ◌++◌, ℕ, List, [], false, inl, inr, refl, sym, ap, ◌∙◌, subst, arith, take, rules}
-use Rattle.std.specs.Prelude.{Result, Ok, Err}
+use Rattle.std.proofs.Common.{◌≡◌, ◌<◌, ◌∷◌, ◌++◌, ℕ, List, [], false, inl, refl, sym, ap, ◌∙◌, subst, arith, take, rules}
+use Rattle.std.specs.Prelude.{Result}
 use Rattle.std.specs.List.{concat}
 use Rattle.std.proofs.lemmas.List.{with_items_is}
 use Rattle.ca_text.specs.declared.refusal.Refusal.{Refusal}
 use Rattle.ca_text.specs.declared.refusal.Refusal.TheVariants.{OutOfMemory, Device}
 use Rattle.ca_wire.specs.Stream.{Held}
 use Rattle.ca_server_core.specs.Answering.{Answers}
-use Rattle.ca_server_core.specs.End.{End}
 use Rattle.ca_server_core.specs.Serving.{Serving}
 use Rattle.ca_server_core.proofs.Answerings.{answers-refused, answers-ungiven, breaks-first, known-none, none-begins-empty, not-bad-empty, reads-all, serving-chunk, source-fails}
 use Rattle.ca_server_core.proofs.Servings.{moves-more, same-error, serving-none}
@@ -33,7 +32,7 @@ loop-turns-init g c =
       sink_calls = omega arith;
       source_faults = refl;
       sink_faults = refl;
-      size = search rules
+      size = search rules;
     })
 
 pub returns-in_err-n-clause-answers : goal.returns-in_err-n-clause-answers
@@ -94,7 +93,7 @@ loop-turns-preserved g c =
       sink_calls = (let s = inv.sink_calls in omega (arith, drain_calls, s));
       source_faults = (let s = inv.source_faults in omega (arith, read_faults, s));
       sink_faults = drained.faultless ∙ inv.sink_faults;
-      size = search rules
+      size = search rules;
     }
 
 pub returns-in_err-drain-clause-answers : goal.returns-in_err-drain-clause-answers

@@ -21,7 +21,7 @@ invariant-loop-turns g l = record {
   sink_calls : g.K.Sink.call_count l.sink ≤ g.K.Sink.call_count l.fn.sink + l.turns;
   source_faults : g.S.Source.fault_count l.source ≡ g.S.Source.fault_count l.fn.source;
   sink_faults : g.K.Sink.fault_count l.sink ≡ g.K.Sink.fault_count l.fn.sink;
-  size : vec_len l.buffer ≡ 65536
+  size : vec_len l.buffer ≡ 65536;
 }
 
 abbrev pub decreases-loop-turns : goal.decreases-loop-turns

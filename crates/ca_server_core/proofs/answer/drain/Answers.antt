@@ -1,12 +1,12 @@
-use Rattle.std.proofs.Common.{◌≡◌, ◌+◌, ◌<◌, ◌≤◌, ◌⊎◌, ℕ, List, [], inl, inr, false, refl, sym, ap, ◌∙◌, subst, arith, length}
-use Rattle.std.specs.Prelude.{Option, Some, None, Result, Ok, Err}
+use Rattle.std.proofs.Common.{◌≡◌, inl, inr, sym, ap, ◌∙◌, subst, arith}
+use Rattle.std.specs.Prelude.{Option, Result, Ok, Err}
 use Rattle.ca_text.specs.declared.refusal.Refusal.{Refusal}
-use Rattle.ca_text.specs.declared.refusal.Refusal.TheVariants.{OutOfMemory, Device}
+use Rattle.ca_text.specs.declared.refusal.Refusal.TheVariants.{OutOfMemory}
 use Rattle.ca_wire.specs.Fields.{Fields}
-use Rattle.ca_wire.specs.Reading.{Nexts, Takes}
+use Rattle.ca_wire.specs.Reading.{Nexts}
 use Rattle.ca_wire.specs.Stream.{Held, NoneBegins, NotBad}
 use Rattle.ca_server_core.specs.End.{AreKnown, End}
-use Rattle.ca_server_core.specs.Serving.{Drains, Flushes, Serving}
+use Rattle.ca_server_core.specs.Serving.{Drains, Serving}
 use Rattle.ca_server_core.proofs.Servings.{drains-refused, flush-failed, partly-here, same-error, serves-next, takes-less}
 use Rattle.ca_server_core.proofs.answer.drain.Goals as goal
 
@@ -35,8 +35,7 @@ returns-in_err-flush-clause-drains g c =
     let taken = subst (λ (o : Option Fields). Nexts loop.input (Ok o) c.next_message.new.self) c.in-Some.is c.in_ok-message.ensures in
     let next = serves-next g.K.Sink.takes records c.args.sink.now loop.sink c.args.input.now.bytes loop.input c.next_message.new.self c.args.circuit.now loop.circuit c.handle.new.self c.in-Some.message inv.serves taken c.in_ok-handle.ensures.ok in
     subst (λ (r : Result (Unit {0}) Refusal). Drains g.K.Sink.takes g.K.Sink.fault_count records c.args.sink.now c.flush.new.sink c.args.input.now c.next_message.new.self c.args.circuit.now c.flush.new.circuit c.flush.new.turns r)
-    (sym (same-error c.from_residual-in_err-flush.result c.in_err-flush.field-0.0 c.from_residual-in_err-flush.ensures.1 ∙ ap (λ (e : Refusal). Err e) failed.0))
-    (
+    (sym (same-error c.from_residual-in_err-flush.result c.in_err-flush.field-0.0 c.from_residual-in_err-flush.ensures.1 ∙ ap (λ (e : Refusal). Err e) failed.0)) (
       elim failed.1 [
         | inl risen ↦ inl (let same = inv.faults in omega arith)
         | inr used ↦ inr used
@@ -65,7 +64,7 @@ loop-message-preserved g c =
       rises = (let step = c.in_ok-flush.ensures.rises in let before = inv.rises in omega (arith, step, before));
       within = c.in_ok-flush.ensures.within;
       calls = (let before = inv.calls in omega (arith, calls, before));
-      faults = flushed.0 ∙ inv.faults
+      faults = flushed.0 ∙ inv.faults;
     }
 
 pub returns-clause-drains : goal.returns-clause-drains

@@ -1,4 +1,4 @@
-use Rattle.std.proofs.Common.{◌≡◌, ◌+◌, ◌<◌, ◌≤◌, [], false, length}
+use Rattle.std.proofs.Common.{◌≡◌, ◌+◌, ◌≤◌, [], false, length}
 use Rattle.ca_text.specs.Limits.{engine_turns}
 use Rattle.ca_server_core.specs.End.{AreKnown}
 use Rattle.ca_server_core.specs.Serving.{ServesOn}
@@ -13,7 +13,7 @@ invariant-loop-message g l = record {
   rises : l.fn.turns ≤ l.turns;
   within : l.turns ≤ engine_turns;
   calls : g.K.Sink.call_count l.sink + l.fn.turns ≡ g.K.Sink.call_count l.fn.sink + l.turns;
-  faults : g.K.Sink.fault_count l.sink ≡ g.K.Sink.fault_count l.fn.sink
+  faults : g.K.Sink.fault_count l.sink ≡ g.K.Sink.fault_count l.fn.sink;
 }
 
 abbrev pub decreases-loop-message : goal.decreases-loop-message

@@ -1,6 +1,4 @@
-use Rattle.std.proofs.Common.{◌≡◌, ◌≤◌, ◌<◌, ◌+◌, ◌-◌, ◌*◌, ◌%◌, ◌++◌, ℕ, List, arith, refl, ◌∙◌, ap, take, rules}
-use Rattle.std.specs.List.{flat_map}
-use Rattle.ca_model.specs.Image.{long_bytes}
+use Rattle.std.proofs.Common.{◌++◌, ℕ, List, arith, ◌∙◌, ap, rules}
 use Rattle.ca_wire.specs.Header.{header_spelling}
 use Rattle.ca_server_core.proofs.Images.{value-spelled}
 use Rattle.ca_server_core.proofs.circuit.put_value.Goals as goal

@@ -1,5 +1,4 @@
-use Rattle.std.proofs.Common.{◌≡◌, ◌+◌, ◌-◌, ℕ, List, Option, Some, sym, subst, arith}
-use Rattle.ca_text.specs.Place.{At}
+use Rattle.std.proofs.Common.{◌≡◌, ◌+◌, ◌-◌, ℕ, List, Option, arith}
 use Rattle.ca_server_core.specs.declared.channels.Channel.{Channel}
 use Rattle.ca_server_core.specs.Channels.{Holds}
 use Rattle.ca_server_core.proofs.Slots.{indexed-close, closes}

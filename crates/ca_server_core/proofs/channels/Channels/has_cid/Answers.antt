@@ -1,7 +1,5 @@
-use Rattle.std.proofs.Common.{◌≡◌, ◌∙◌, ◌+◌, refl, ℕ, Bool, true, false, nat_eq, sym, subst}
-use Rattle.std.specs.Bool.{IsTrue}
+use Rattle.std.proofs.Common.{◌≡◌, ◌∙◌, ◌+◌, refl, ℕ, true, nat_eq, sym, subst}
 use Rattle.std.specs.HashSet.{contains}
-use Rattle.ca_server_core.specs.declared.channels.Channel.{Channel}
 use Rattle.ca_server_core.specs.Channels.{Holds}
 use Rattle.ca_server_core.proofs.channels.Channels.has_cid.Goals as goal
 

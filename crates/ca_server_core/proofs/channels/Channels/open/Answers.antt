@@ -1,6 +1,4 @@
-use Rattle.std.proofs.Common.{◌≡◌, ◌∙◌, ap, sym, subst, ◌+◌, ◌++◌, ◌∷◌, [], ℕ, length, List, Option, Some, arith, rules}
-use Rattle.ca_server_core.specs.declared.channels.Channel.{Channel}
-use Rattle.ca_server_core.specs.Channels.{IsIndexed, Opens}
+use Rattle.std.proofs.Common.{◌≡◌, length, rules}
 use Rattle.ca_server_core.proofs.Slots.{indexed-open, opens}
 use Rattle.ca_server_core.proofs.channels.Channels.open.Goals as goal
 

@@ -1,6 +1,6 @@
-use Rattle.std.proofs.Common.{◌≡◌, ◌∙◌, ◌<◌, ◌≤◌, ℕ, List, ◌∷◌, [], length, inl, inr, refl, sym, ap, subst, arith, Bool, true, false}
+use Rattle.std.proofs.Common.{◌≡◌, ◌∙◌, ◌<◌, ℕ, List, ◌∷◌, [], length, inl, inr, refl, sym, ap, subst, arith, Bool, true, false}
 use Rattle.ca_records.specs.Records.{IsServed, Names}
-use Rattle.ca_model.specs.History.{Seat, text_in}
+use Rattle.ca_model.specs.History.{text_in}
 use Rattle.ca_model.specs.Replies.{failed_reply}
 use Rattle.ca_model.specs.Due.{IsNotCreated}
 use Rattle.ca_server_core.specs.declared.channels.Channel.{Channel}

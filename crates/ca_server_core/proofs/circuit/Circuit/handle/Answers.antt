@@ -1,9 +1,9 @@
-use Rattle.std.proofs.Common.{◌≡◌, ◌∙◌, ℕ, sym, ap, subst}
+use Rattle.std.proofs.Common.{◌≡◌, ◌∙◌, sym, ap, subst}
 use Rattle.ca_text.specs.Command.{command_number}
 use Rattle.ca_text.specs.declared.command.Command.{Command}
 use Rattle.ca_text.specs.declared.command.Command.TheVariants.{Version, CreateChannel, ReadNotify, ClearChannel}
 use Rattle.ca_text.proofs.Commands.{number-version, number-create, number-read, number-clear}
-use Rattle.ca_server_core.specs.End.{AreKnown, End, HandlesOne, greeted}
+use Rattle.ca_server_core.specs.End.{AreKnown, End, HandlesOne}
 use Rattle.ca_server_core.proofs.Handling.{handles-clear, handles-other, handles-version, known-cleared, ok-then}
 use Rattle.ca_server_core.proofs.circuit.Circuit.handle.Goals as goal
 

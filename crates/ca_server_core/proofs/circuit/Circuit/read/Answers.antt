@@ -1,11 +1,5 @@
-use Rattle.std.proofs.Common.{◌≡◌, ◌∙◌, ◌++◌, ◌∷◌, [], ℕ, List, inl, inr, refl, sym, ap, subst}
-use Rattle.ca_text.specs.Status.{bad_channel}
-use Rattle.ca_wire.specs.Fields.{Fields}
-use Rattle.ca_wire.specs.Message.{spelled}
-use Rattle.ca_model.specs.Replies.{read_reply, refused_reply}
-use Rattle.ca_server_core.specs.declared.channels.Channel.{Channel}
-use Rattle.ca_server_core.specs.Channels.{Holds}
-use Rattle.ca_server_core.specs.End.{AreKnown, End, HandlesOne}
+use Rattle.std.proofs.Common.{ℕ, List, sym, subst}
+use Rattle.ca_server_core.specs.End.{End, HandlesOne}
 use Rattle.ca_server_core.proofs.Handling.{handles-stray, handles-value, ok-then}
 use Rattle.ca_server_core.proofs.circuit.Circuit.read.Goals as goal
 
