@@ -1,0 +1,126 @@
+//! Rounds of calls, to be timed from outside: `ca_bench WHAT SIZE ROUNDS`. Without words it does nothing.
+#![tactic(auto)]
+
+use ca_dbr::{Meta, Value, read_value, write_value};
+use ca_ids::IdTable;
+use ca_text::Refusal;
+use std::alloc::Global;
+use std::env;
+use std::process::ExitCode;
+
+/// The number of the type DOUBLE.
+const DOUBLE: u16 = 6;
+
+/// The number of the type STRING.
+const STRING: u16 = 0;
+
+const META: Meta = Meta {
+    status: 0,
+    severity: 0,
+    seconds: 0,
+    nanos: 0,
+};
+
+fn main(rt: HostRuntime) -> ExitCode {
+    match run(&rt) {
+        Ok(()) => ExitCode::SUCCESS,
+        Err(_) => ExitCode::FAILURE,
+    }
+}
+
+fn run(rt: &HostRuntime) -> Result<(), Refusal> {
+    let words: Vec<String> = match env::args(rt) {
+        Ok(words) => words.skip(1).collect(rt.alloc())?,
+        Err(_) => return Err(Refusal::Device),
+    };
+    let [what, size, rounds] = words.as_slice() else {
+        return if words.is_empty() {
+            Ok(())
+        } else {
+            Err(Refusal::BadText)
+        };
+    };
+    match (size.as_str().parse::<u32>(), rounds.as_str().parse::<u32>()) {
+        (Ok(size), Ok(rounds)) => measured(rt.alloc(), what.as_str(), size, rounds),
+        _ => Err(Refusal::BadText),
+    }
+}
+
+fn measured(alloc: Global, what: &str, size: u32, rounds: u32) -> Result<(), Refusal> {
+    match what.as_bytes() {
+        b"ids" => ids(alloc, size, rounds),
+        b"write-doubles" => writes(alloc, DOUBLE, &doubles(alloc, size)?, rounds),
+        b"write-strings" => writes(alloc, STRING, &strings(alloc, size)?, rounds),
+        b"read-doubles" => reads(alloc, DOUBLE, &doubles(alloc, size)?, size, rounds),
+        b"read-strings" => reads(alloc, STRING, &strings(alloc, size)?, size, rounds),
+        b"copy" => copies(alloc, size as usize, rounds),
+        _ => Err(Refusal::BadText),
+    }
+}
+
+/// Rounds of look-up, retirement, draining and opening in a table of so many open ids.
+fn ids(alloc: Global, live: u32, rounds: u32) -> Result<(), Refusal> {
+    let mut table = IdTable::new(alloc);
+    let mut last = None;
+    for i in 0..live {
+        match table.open(i) {
+            Ok((_, wire)) => last = Some(wire),
+            Err((_, refusal)) => return Err(refusal),
+        }
+    }
+    let Some(mut wire) = last else {
+        return Ok(());
+    };
+    for _ in 0..rounds {
+        let handle = table.by_wire(wire)?;
+        let value = table.retire(handle)?;
+        table.drained(wire)?;
+        match table.open(value) {
+            Ok((_, given)) => wire = given,
+            Err((_, refusal)) => return Err(refusal),
+        }
+    }
+    Ok(())
+}
+
+fn doubles(alloc: Global, count: u32) -> Result<Value, Refusal> {
+    Ok(Value::Doubles(vec![in alloc; 1; count as usize]?))
+}
+
+fn strings(alloc: Global, count: u32) -> Result<Value, Refusal> {
+    Ok(Value::Strings(vec![in alloc; [65; 40]; count as usize]?))
+}
+
+fn writes(alloc: Global, number: u16, value: &Value, rounds: u32) -> Result<(), Refusal> {
+    let mut out = Vec::new(alloc);
+    for _ in 0..rounds {
+        out.clear();
+        write_value(number, value, &META, &mut out)?;
+    }
+    Ok(())
+}
+
+fn reads(
+    alloc: Global,
+    number: u16,
+    value: &Value,
+    count: u32,
+    rounds: u32,
+) -> Result<(), Refusal> {
+    let mut out = Vec::new(alloc);
+    write_value(number, value, &META, &mut out)?;
+    for _ in 0..rounds {
+        read_value(alloc, number, count, &out)?;
+    }
+    Ok(())
+}
+
+fn copies(alloc: Global, size: usize, rounds: u32) -> Result<(), Refusal> {
+    let bytes: Vec<u8> = vec![in alloc; 1; size]?;
+    let mut out = Vec::new(alloc);
+    for _ in 0..rounds {
+        out.clear();
+        out.extend_from_slice(&bytes)?;
+    }
+    Ok(())
+}

@@ -1,0 +1,6 @@
+use Rattle.std.proofs.Common.{◌≡◌, ◌++◌, drop}
+use Rattle.ca_repeat.specs.Fan.{to_others}
+use Rattle.ca_repeat.proofs.repeater.hand_on.Given as goal
+
+abbrev pub invariant-loop-member : goal.invariant-loop-member
+invariant-loop-member l = l.sends.items ++ to_others l.bytes l.from (drop l.member-index l.members) ≡ l.initial.sends.items ++ to_others l.bytes l.from l.members

@@ -1,0 +1,47 @@
+-- What a repeater sends for a datagram, and its members afterwards (section "CA Repeater").
+use Rattle.std.specs.Prelude.{ℕ, ◌≡◌, Bool, true, false, ◌&&◌, ◌||◌, not, nat_lt, if◌then◌else◌, List, [], ◌∷◌, ◌++◌, length, Vec, Result, Ok, Err}
+use Rattle.std.specs.declared.alloc.Global.{Global}
+use Rattle.ca_text.specs.declared.refusal.Refusal.{Refusal}
+use Rattle.ca_text.specs.declared.refusal.Refusal.TheVariants.{OutOfMemory}
+use Rattle.ca_wire.specs.Message.{spelling}
+use Rattle.ca_dgram.specs.Messages.{confirm_message}
+use Rattle.ca_repeat.specs.declared.address.Address.{Address}
+use Rattle.ca_repeat.specs.declared.first.First.{First}
+use Rattle.ca_repeat.specs.Addresses.{is_member, loopback, same}
+use Rattle.ca_repeat.specs.First.{IsFirst, passed, registers}
+use Rattle.ca_repeat.specs.Sent.{Sent}
+
+-- members, at most
+abbrev pub member_limit : ℕ
+member_limit = 64
+
+-- The registration of this sender is answered: it comes from 127.x.x.x, and the sender is a member or there is room
+-- for one more.
+abbrev pub admits : List Address → Address → First → Bool
+admits members from first = registers first && loopback from && (is_member members from || nat_lt (length members) member_limit)
+
+abbrev pub confirmed : Bool → Address → List Sent
+confirmed true to = record { to = to; bytes = spelling confirm_message } ∷ []
+confirmed false to = []
+
+-- the bytes to each of the members but the sender, in order of registration
+abbrev pub to_others : List ℕ → Address → List Address → List Sent
+to_others bytes from [] = []
+to_others bytes from (m ∷ members) = if same m from then to_others bytes from members else record { to = m; bytes = bytes } ∷ to_others bytes from members
+
+-- nothing is handed on where there is no byte
+abbrev pub handed : List ℕ → Address → List Address → List Sent
+handed [] from members = []
+handed (b ∷ bytes) from members = to_others (b ∷ bytes) from members
+
+abbrev pub enrolled : Bool → List Address → Address → List Address
+enrolled true members from = members ++ from ∷ []
+enrolled false members from = members
+
+-- From these members, a datagram of these bytes came from this address, with this answer, and left new. The
+-- confirmation goes out first.
+abbrev pub Receives : List Address → Address → List ℕ → Result (Vec Sent Global) Refusal → List Address → Type 0
+Receives old from bytes (Ok sends) new =
+    (first : First) × IsFirst bytes first × (sends.items ≡ confirmed (admits old from first) from ++ handed (passed first from.ip bytes) from old) × (new ≡ enrolled (admits old from first && not (is_member old from)) old from)
+Receives old from bytes (Err OutOfMemory) new = new ≡ old
+Receives old from bytes (Err _) new = ⊥

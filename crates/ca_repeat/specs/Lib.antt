@@ -1,0 +1,4 @@
+pub mod Addresses
+pub mod Sent
+pub mod First
+pub mod Fan

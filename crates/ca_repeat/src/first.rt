@@ -1,0 +1,75 @@
+ghost use Rattle.std.specs.Prelude.{◌≡◌, IfOk};
+ghost use Rattle.ca_repeat.specs.First.{IsFirst, passed, registers};
+
+use crate::address::Address;
+use ca_text::Command;
+use ca_wire::{One, read_one};
+use std::alloc::{AllocError, Global};
+
+/// What a datagram begins with.
+#[derive(Clone, Copy)]
+pub(crate) enum First {
+    /// Nothing, or a REPEATER_REGISTER of so many bytes.
+    Registration(usize),
+    /// An RSRV_IS_UP whose address is zero.
+    BlankBeacon,
+    Other,
+}
+
+/// What begins these bytes.
+pub(crate) fn first_of(bytes: &[u8]) -> First
+    ensures { IsFirst bytes.now result }
+{
+    if bytes.is_empty() {
+        return First::Registration(0);
+    }
+    let One::Whole(head) = read_one(bytes) else {
+        return First::Other;
+    };
+    let header = head.header;
+    if header.command == Command::RepeaterRegister.number() {
+        return First::Registration(head.start + header.size as usize);
+    }
+    if header.command != Command::RsrvIsUp.number() {
+        return First::Other;
+    }
+    if header.p2 != 0 {
+        return First::Other;
+    }
+    First::BlankBeacon
+}
+
+/// Whether it asks to register the sender.
+pub(crate) fn is_registration(first: First) -> bool
+    ensures { result ≡ registers first }
+{
+    matches!(first, First::Registration(_))
+}
+
+/// What is handed on of a datagram from this address.
+pub(crate) fn passed_on(
+    alloc: Global,
+    first: First,
+    from: Address,
+    bytes: &[u8],
+) -> Result<Vec<u8>, AllocError>
+    requires { IsFirst bytes.now first }
+    ensures { IfOk result (λ v. v.items ≡ passed first from.ip bytes.now) }
+{
+    match first {
+        First::Registration(end) => Vec::from_slice(alloc, &bytes[end..]),
+        First::BlankBeacon => filled(alloc, from, bytes),
+        First::Other => Vec::from_slice(alloc, bytes),
+    }
+}
+
+/// The beacon with its sender's address, which stands in bytes 12 to 15 of either form of a header.
+fn filled(alloc: Global, from: Address, bytes: &[u8]) -> Result<Vec<u8>, AllocError>
+    requires { IsFirst bytes.now First.BlankBeacon }
+    ensures { IfOk result (λ v. v.items ≡ passed First.BlankBeacon from.ip bytes.now) }
+{
+    let mut beacon = Vec::from_slice(alloc, &bytes[..12])?;
+    beacon.extend_from_slice(&from.ip.to_be_bytes())?;
+    beacon.extend_from_slice(&bytes[16..])?;
+    Ok(beacon)
+}

@@ -1,0 +1,15 @@
+//! The host's repeater: it registers the clients of its host, and hands each datagram on to them, so that all of
+//! them hear beacons at one port.
+#![tactic(auto)]
+
+mod address;
+mod first;
+mod outgoing;
+mod repeater;
+
+pub use address::Address;
+pub use outgoing::Outgoing;
+pub use repeater::RepeaterCore;
+
+#[cfg(test)]
+mod tests;

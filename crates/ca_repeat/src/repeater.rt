@@ -1,0 +1,126 @@
+ghost use Rattle.std.specs.Prelude.{◌≡◌, ◌++◌, ◌&&◌, ◌||◌, [], nat_lt, not, filter, IfOk, OnOk, OnErr};
+ghost use Rattle.ca_repeat.specs.Addresses.{is_member, loopback, same};
+ghost use Rattle.ca_repeat.specs.Fan.{Receives, confirmed, enrolled, handed};
+ghost use Rattle.ca_repeat.specs.First.{registers};
+
+use crate::address::{Address, is_loopback, is_same};
+use crate::first::{First, first_of, is_registration, passed_on};
+use crate::outgoing::Outgoing;
+use ca_dgram::confirm;
+use ca_text::{REPEATER_MEMBERS, Refusal};
+use std::alloc::{AllocError, Global};
+use std::marker::Model;
+
+/// The repeater's members, in order of registration.
+#[derive(Debug, Drop)]
+pub struct RepeaterCore {
+    members: Vec<Address>,
+}
+
+impl Model for RepeaterCore {
+    ghost use Rattle.std.specs.Prelude.{List};
+    ghost use Rattle.ca_repeat.specs.declared.address.Address.{Address};
+
+    ghost Value = { List Address };
+
+    ghost view = { λ r. r.members.items };
+}
+
+impl RepeaterCore {
+    /// A repeater with no member.
+    pub fn new(alloc: Global) -> RepeaterCore
+        ensures { result ≡ [] }
+    {
+        RepeaterCore {
+            members: Vec::new(alloc),
+        }
+    }
+
+    /// What is sent, in order, for a datagram that came from this address.
+    ///
+    /// A refusal changes nothing.
+    pub fn receive(&mut self, from: Address, bytes: &[u8]) -> Result<Vec<Outgoing>, Refusal>
+        ensures { Receives self.old from bytes.now result self.new }
+    {
+        let alloc = *self.members.allocator();
+        let first = first_of(bytes);
+        let passed = passed_on(alloc, first, from, bytes)?;
+        let known = is_among(&self.members, from);
+        let answered = is_admitted(first, from, known, self.members.len());
+        let mut sends = confirmation(alloc, answered, from)?;
+        hand_on(alloc, &self.members, from, &passed, &mut sends)?;
+        enroll(&mut self.members, answered, known, from)?;
+        Ok(sends)
+    }
+
+    /// Drops the member to whom a send was refused.
+    pub fn refused(&mut self, to: Address)
+        ensures { self.new ≡ filter (λ m. not (same m to)) self.old }
+    {
+        self.members.retain(|member| !is_same(*member, to));
+    }
+}
+
+/// Whether the address is a member's.
+fn is_among(members: &[Address], from: Address) -> bool
+    ensures { result ≡ is_member members.now from }
+{
+    members.iter().any(|member| is_same(*member, from))
+}
+
+/// Whether the registration of this sender is answered, among so many members.
+fn is_admitted(first: First, from: Address, known: bool, count: usize) -> bool
+    ensures { result ≡ (registers first && loopback from && (known || nat_lt count 64)) }
+{
+    is_registration(first) && is_loopback(from) && (known || count < REPEATER_MEMBERS)
+}
+
+/// The answer to a registration, where there is one.
+fn confirmation(alloc: Global, answered: bool, to: Address) -> Result<Vec<Outgoing>, AllocError>
+    ensures { IfOk result (λ v. v.items ≡ confirmed answered to) }
+{
+    let mut sends = Vec::new(alloc);
+    if answered {
+        let bytes = Vec::from_slice(alloc, &confirm())?;
+        sends.push(Outgoing::new(to, bytes))?;
+    }
+    Ok(sends)
+}
+
+/// Writes the bytes, where there are any, for each member but the sender.
+fn hand_on(
+    alloc: Global,
+    members: &[Address],
+    from: Address,
+    bytes: &[u8],
+    sends: &mut Vec<Outgoing>,
+) -> Result<(), AllocError>
+    ensures { OnOk result (sends.new.items ≡ sends.old.items ++ handed bytes.now from members.now) }
+{
+    if bytes.is_empty() {
+        return Ok(());
+    }
+    for member in members {
+        if !is_same(*member, from) {
+            let copy = Vec::from_slice(alloc, bytes)?;
+            sends.push(Outgoing::new(*member, copy))?;
+        }
+    }
+    Ok(())
+}
+
+/// Puts a new member behind the others.
+fn enroll(
+    members: &mut Vec<Address>,
+    answered: bool,
+    known: bool,
+    from: Address,
+) -> Result<(), AllocError>
+    ensures ok { OnOk result (members.new.items ≡ enrolled (answered && not known) members.old.items from) }
+    ensures err { OnErr result (members.new.items ≡ members.old.items) }
+{
+    if answered && !known {
+        members.push(from)?;
+    }
+    Ok(())
+}
