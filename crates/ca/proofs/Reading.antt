@@ -1,6 +1,6 @@
 -- Which words clap takes by the program's grammar.
 use Rattle.std.proofs.Common.{◌≡◌, ℕ, zero, suc, Bool, true, false, List, [], ◌∷◌, ◌++◌, Option, None, Some, refl, subst, map, sym, ap, ap₂, ◌∙◌, ◌⊎◌, inl, inr, codes, option_map, append_assoc, ◌||◌, if◌then◌else◌}
-use Rattle.std.specs.Prelude.{find, fold, length, slice_get, is_some}
+use Rattle.std.specs.Prelude.{fold, length, slice_get}
 use Rattle.std.specs.List.{list_any}
 use Rattle.std.specs.Option.{option_map_or}
 use Rattle.std.specs.Str.{bytes_eq, chars}
@@ -9,9 +9,9 @@ use Rattle.std.proofs.lemmas.Slice.Eq.{bytes_eq-Decides}
 use Rattle.clap.specs.Faults.{is_simple_and_free, bundle_fault, bundle_step_fault, entered_fault, fault_of, flag_word_fault, flags_fault, level_fault, step_fault, turn_fault, walk_fault}
 use Rattle.clap.specs.Kinds.{Kinds, or_else}
 use Rattle.clap.specs.Lexer.{long_of, short_of}
-use Rattle.clap.specs.Simple.{App, is_simple, Shape, built, entered, new_shape, subcommand_of}
+use Rattle.clap.specs.Simple.{App, is_simple, Shape, built, new_shape, subcommand_of}
 use Rattle.clap.specs.Takes.{takes}
-use Rattle.clap.specs.Walk.{Held, Names, Outcome, Row, Step, Text, Walk, after_flag, answers_to, bundle_met, bundle_step, idle, long_or_other, nothing_held, plain, short_or_plain, subcommand_met, value, walk_from, walked}
+use Rattle.clap.specs.Walk.{Held, Names, Outcome, Row, Text, Walk, after_flag, bundle_met, bundle_step, idle, long_or_other, nothing_held, plain, short_or_plain, subcommand_met, value, walk_from, walked}
 use Rattle.clap.specs.declared.error.kind.ErrorKind.TheVariants as kind
 use Rattle.clap.proofs.OnLiterals.{clap_on_literals}
 use Rattle.ca.specs.Grammar.{grammar_app}

@@ -1,5 +1,5 @@
 -- What holds before the first call.
-use Rattle.std.proofs.Common.{◌≡◌, ℕ, List, [], refl}
+use Rattle.std.proofs.Common.{ℕ, List, [], refl}
 use Rattle.ca_records.specs.Record.{RecordState}
 use Rattle.ca_server_core.specs.Answering.{BreaksOff}
 

@@ -2,6 +2,7 @@ use crate::{Line, answer_console, answer_run, not_understood, read_line, run, st
 use ca_link::{Fused, Reader, Writer};
 use std::alloc::{AllocError, Global};
 use std::io::{self, Read};
+use std::process::Abort;
 use std::test::Fail;
 
 /// What goes in, and what has to come out: bytes, then so many zero bytes, a line, and the exit status.
@@ -113,84 +114,14 @@ fn bytes_of(alloc: Global, text: &str) -> Result<Vec<u8>, AllocError> {
     Ok(bytes)
 }
 
-#[test]
-fn circuits_are_answered(rt: HostRuntime) -> Result<(), Fail> {
-    let cases = [
-        answered("nothing", "", ""),
-        answered(
-            "a version",
-            "0000 0000 0000 000D 00000000 00000000",
-            "0000 0000 0000 000D 00000000 00000000",
-        ),
-        answered(
-            "a channel to TEMP",
-            "0012 0008 0000 0000 00010000 0000000D 54454D50 00000000",
-            "0016 0000 0000 0000 00010000 00000003 0012 0000 0005 0001 00010000 00010000",
-        ),
-        answered(
-            "a read of TEMP",
-            "0012 0008 0000 0000 00010000 0000000D 54454D50 00000000
-             000F 0000 0005 0001 00010000 00010000",
-            "0016 0000 0000 0000 00010000 00000003 0012 0000 0005 0001 00010000 00010000
-             000F 0008 0005 0001 00000001 00010000 00000015 00000000",
-        ),
-        answered(
-            "a name that no record has",
-            "0012 0008 0000 0000 00010000 0000000D 4E4F4E45 00000000",
-            "001A 0000 0000 0000 00010000 00000000",
-        ),
-        answered(
-            "a count over the greatest",
-            "0012 0008 0000 0000 00010000 0000000D 54454D50 00000000
-             000F FFFF 0005 0000 00010000 00010000 00000000 00011170",
-            "0016 0000 0000 0000 00010000 00000003 0012 0000 0005 0001 00010000 00010000
-             000F FFFF 0005 0000 000000B0 00010000 00000000 00011170",
-        ),
-        answered_at_length(
-            "20,000 elements of WAVE",
-            "0012 0008 0000 0000 00010000 0000000D 57415645 00000000
-             000F 0000 0005 4E20 00010000 00010000",
-            "0016 0000 0000 0000 00010000 00000003 0012 0000 0005 4E20 00010000 00010000
-             000F FFFF 0005 0000 00000001 00010000 00013880 00004E20 00000007",
-            79_996,
-        ),
-        answered_at_length(
-            "the most elements in a short header",
-            "0012 0008 0000 0000 00010000 0000000D 57415645 00000000
-             000F 0000 0005 3FFE 00010000 00010000",
-            "0016 0000 0000 0000 00010000 00000003 0012 0000 0005 4E20 00010000 00010000
-             000F FFF8 0005 3FFE 00000001 00010000 00000007",
-            65_524,
-        ),
-        answered_at_length(
-            "one element more",
-            "0012 0008 0000 0000 00010000 0000000D 57415645 00000000
-             000F 0000 0005 3FFF 00010000 00010000",
-            "0016 0000 0000 0000 00010000 00000003 0012 0000 0005 4E20 00010000 00010000
-             000F FFFF 0005 0000 00000001 00010000 00010000 00003FFF 00000007",
-            65_532,
-        ),
-        refused(
-            "a size of 12",
-            "0004 000C 0005 0001 00010000 00000000",
-            "",
-            "refused: 2 Misaligned\n",
-        ),
-        refused(
-            "a size over the limit, behind a version",
-            "0000 0000 0000 000D 00000000 00000000
-             0004 FFFF 0005 0000 00010000 00000000 00100008 00000001",
-            "0000 0000 0000 000D 00000000 00000000",
-            "refused: 3 TooLarge\n",
-        ),
-    ];
-    for case in &cases {
+/// Runs each case whole, and byte by byte.
+fn hold<R: AllocGlobal + Abort>(rt: &R, cases: &[Case]) -> Result<(), Fail> {
+    for case in cases {
         let name = case.name;
         let input = bytes_of(rt.alloc(), case.input)?;
         let mut output = bytes_of(rt.alloc(), case.output)?;
         output.resize(output.len().saturating_add(case.zeros), 0)?;
         let told = case.told.as_bytes();
-        // Whole, and byte by byte.
         for size in [65_536, 1] {
             let left = outcome(rt.alloc(), &input, size);
             assert!(rt; left.output == output, "output: {name}");
@@ -199,6 +130,100 @@ fn circuits_are_answered(rt: HostRuntime) -> Result<(), Fail> {
         }
     }
     Ok(())
+}
+
+#[test]
+fn circuits_are_answered(rt: HostRuntime) -> Result<(), Fail> {
+    hold(
+        &rt,
+        &[
+            answered("nothing", "", ""),
+            answered(
+                "a version",
+                "0000 0000 0000 000D 00000000 00000000",
+                "0000 0000 0000 000D 00000000 00000000",
+            ),
+            answered(
+                "a channel to TEMP",
+                "0012 0008 0000 0000 00010000 0000000D 54454D50 00000000",
+                "0016 0000 0000 0000 00010000 00000003 0012 0000 0005 0001 00010000 00010000",
+            ),
+            answered(
+                "a read of TEMP",
+                "0012 0008 0000 0000 00010000 0000000D 54454D50 00000000
+                 000F 0000 0005 0001 00010000 00010000",
+                "0016 0000 0000 0000 00010000 00000003 0012 0000 0005 0001 00010000 00010000
+                 000F 0008 0005 0001 00000001 00010000 00000015 00000000",
+            ),
+            answered(
+                "a name that no record has",
+                "0012 0008 0000 0000 00010000 0000000D 4E4F4E45 00000000",
+                "001A 0000 0000 0000 00010000 00000000",
+            ),
+            answered(
+                "a count over the greatest",
+                "0012 0008 0000 0000 00010000 0000000D 54454D50 00000000
+                 000F FFFF 0005 0000 00010000 00010000 00000000 00011170",
+                "0016 0000 0000 0000 00010000 00000003 0012 0000 0005 0001 00010000 00010000
+                 000F FFFF 0005 0000 000000B0 00010000 00000000 00011170",
+            ),
+        ],
+    )
+}
+
+#[test]
+fn long_values_are_answered(rt: HostRuntime) -> Result<(), Fail> {
+    hold(
+        &rt,
+        &[
+            answered_at_length(
+                "20,000 elements of WAVE",
+                "0012 0008 0000 0000 00010000 0000000D 57415645 00000000
+                 000F 0000 0005 4E20 00010000 00010000",
+                "0016 0000 0000 0000 00010000 00000003 0012 0000 0005 4E20 00010000 00010000
+                 000F FFFF 0005 0000 00000001 00010000 00013880 00004E20 00000007",
+                79_996,
+            ),
+            answered_at_length(
+                "the most elements in a short header",
+                "0012 0008 0000 0000 00010000 0000000D 57415645 00000000
+                 000F 0000 0005 3FFE 00010000 00010000",
+                "0016 0000 0000 0000 00010000 00000003 0012 0000 0005 4E20 00010000 00010000
+                 000F FFF8 0005 3FFE 00000001 00010000 00000007",
+                65_524,
+            ),
+            answered_at_length(
+                "one element more",
+                "0012 0008 0000 0000 00010000 0000000D 57415645 00000000
+                 000F 0000 0005 3FFF 00010000 00010000",
+                "0016 0000 0000 0000 00010000 00000003 0012 0000 0005 4E20 00010000 00010000
+                 000F FFFF 0005 0000 00000001 00010000 00010000 00003FFF 00000007",
+                65_532,
+            ),
+        ],
+    )
+}
+
+#[test]
+fn bad_headers_are_refused(rt: HostRuntime) -> Result<(), Fail> {
+    hold(
+        &rt,
+        &[
+            refused(
+                "a size of 12",
+                "0004 000C 0005 0001 00010000 00000000",
+                "",
+                "refused: 2 Misaligned\n",
+            ),
+            refused(
+                "a size over the limit, behind a version",
+                "0000 0000 0000 000D 00000000 00000000
+                 0004 FFFF 0005 0000 00010000 00000000 00100008 00000001",
+                "0000 0000 0000 000D 00000000 00000000",
+                "refused: 3 TooLarge\n",
+            ),
+        ],
+    )
 }
 
 const CREATE: &str = "0012 0008 0000 0000 00010000 0000000D 54454D50 00000000";

@@ -1,4 +1,4 @@
-use Rattle.std.proofs.Common.{◌≡◌, false, map, string_bytes, true, sym, ap, ◌∙◌}
+use Rattle.std.proofs.Common.{◌≡◌, map, string_bytes, true, sym, ap, ◌∙◌}
 use Rattle.ca.specs.Words.{has_escape}
 use Rattle.ca.proofs.Reading.{no-escape, texts-escape}
 use Rattle.ca.proofs.line.read_line.Goals as goal
