@@ -24,11 +24,16 @@ fn main(rt: HostRuntime) -> ExitCode {
 
 /// The words behind the program's name: none where one of them is no text.
 fn words(rt: &HostRuntime) -> Result<Option<Vec<String>>, Refusal> {
-    match env::args(rt) {
-        Ok(words) => Ok(Some(words.skip(1).collect(rt.alloc())?)),
+    let all = match env::args(rt) {
+        Ok(all) => all,
         Err(error) => match error.kind() {
-            ErrorKind::OutOfMemory => Err(Refusal::OutOfMemory),
-            _ => Ok(None),
+            ErrorKind::OutOfMemory => return Err(Refusal::OutOfMemory),
+            _ => return Ok(None),
         },
+    };
+    let mut words = Vec::new(rt.alloc());
+    for word in all.skip(1) {
+        words.push(word)?;
     }
+    Ok(Some(words))
 }
