@@ -8,7 +8,6 @@ ghost use Rattle.ca_dbr.specs.Elements.{elements};
 ghost use Rattle.ca_dbr.specs.Conversion.{gathered, Fails, in_base, converted, ConvertRefused, has_numbers, HasConversion};
 
 use crate::data_type::BaseType;
-use crate::element::push_within;
 use crate::numeric::{Conversion, Source, ToNumber, ToText, Whole};
 use crate::value::Value;
 use ca_text::Refusal;
@@ -39,7 +38,7 @@ fn convert_into<S: Copy + Drop, T: Drop, C: Conversion<S, T>>(
     for item in items {
         match C::convert(*item) {
             Err(refusal) => return Err(refusal),
-            Ok(x) => push_within(out, x),
+            Ok(x) => out.push_reserved(x),
         }
     }
     Ok(())

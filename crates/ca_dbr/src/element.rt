@@ -44,19 +44,6 @@ pub fn put_bytes(bytes: &[u8], out: &mut Vec<u8>)
     }
 }
 
-/// Adds x at the end, where room was made for it.
-pub fn push_within<T: Drop>(items: &mut Vec<T>, x: T)
-    requires { vec_len items.old < vec_capacity items.old }
-    ensures after { items.new.items ≡ items.old.items ++ x ∷ [] }
-    ensures len { vec_len items.new ≡ vec_len items.old + 1 }
-    ensures capacity { vec_capacity items.old ≤ vec_capacity items.new }
-{
-    match items.push(x) {
-        Ok(()) => {}
-        Err(_) => unreachable!(),
-    }
-}
-
 impl Element for [u8; 40] {
     ghost SIZE = { 40 };
 

@@ -3,7 +3,6 @@
 
 mod record;
 mod records;
-mod room;
 
 pub use record::Record;
 pub use records::Records;

@@ -5,7 +5,6 @@ ghost use Rattle.ca_records.specs.Record.{RecordState};
 ghost use Rattle.ca_records.specs.Records.{AreApart, Defines, Holds, IsServed, Names};
 
 use crate::record::{Record, check};
-use crate::room::push_within;
 use ca_text::Refusal;
 use std::alloc::Global;
 use std::collections::BTreeMap;
@@ -102,7 +101,8 @@ impl Records {
         let key = Vec::from_slice(alloc, name)?;
         self.list.reserve(1)?;
         self.places.insert(key, self.list.len())?;
-        push_within(&mut self.list, Record::new(own, count, slow, longs));
+        self.list
+            .push_reserved(Record::new(own, count, slow, longs));
         Ok(())
     }
 }

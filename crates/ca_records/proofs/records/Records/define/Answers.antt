@@ -9,4 +9,4 @@ invariant_of-self-2 c =
     let key : c.in_ok-key.key.items ≡ c.args.name.now = c.in_ok-key.ensures.items in
     let named : c.new.result.name ≡ c.args.name.now = ap (λ (s : RecordState). s.name) c.new.ensures ∙ own in
     let here : c.len.result ≡ length c.self.inside.list.items = search rules in
-    index-defined (λ k. k.items) c.self.inside.places.entries c.insert.new.self.entries c.self.inside.list.items c.push_within.new.items.items c.new.result c.in_ok-key.key c.len.result c.self.invariant (rw (named, c.self.view_is) c.requires) (key ∙ sym named) here c.in_ok-insert.ensures.entries (cc (c.push_within.ensures, c.in_ok-reserve.ensures.items))
+    index-defined (λ k. k.items) c.self.inside.places.entries c.insert.new.self.entries c.self.inside.list.items c.push_reserved.new.self.items c.new.result c.in_ok-key.key c.len.result c.self.invariant (rw (named, c.self.view_is) c.requires) (key ∙ sym named) here c.in_ok-insert.ensures.entries (cc (c.push_reserved.ensures.items, c.in_ok-reserve.ensures.items))
