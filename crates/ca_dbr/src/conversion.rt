@@ -14,7 +14,9 @@ use ca_text::Refusal;
 use std::alloc::Global;
 
 /// Whether all elements convert; the first that does not decides.
-pub fn check_all<S: Copy + Drop, T: Drop, C: Conversion<S, T>>(items: &[S]) -> Result<(), Refusal>
+pub(crate) fn check_all<S: Copy + Drop, T: Drop, C: Conversion<S, T>>(
+    items: &[S],
+) -> Result<(), Refusal>
     ensures { MatchResult result (λ _. IsOk (gathered C.gives items.now)) (λ e. gathered C.gives items.now ≡ Err e) }
 {
     for item in items {

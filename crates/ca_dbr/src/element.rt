@@ -6,7 +6,7 @@ ghost use Rattle.ca_dbr.specs.Elements.{string_bytes, byte_1, bytes_2, bytes_4, 
 use std::alloc::{AllocError, Global};
 
 /// An element as it stands in an image.
-pub trait Element: Copy + Drop {
+pub(crate) trait Element: Copy + Drop {
     ghost SIZE: { ℕ };
 
     /// How many bytes it takes.
@@ -32,7 +32,7 @@ pub trait Element: Copy + Drop {
 }
 
 /// Puts these bytes at the end, where room was made for them.
-pub fn put_bytes(bytes: &[u8], out: &mut Vec<u8>)
+pub(crate) fn put_bytes(bytes: &[u8], out: &mut Vec<u8>)
     requires { vec_len out.old + length bytes.now ≤ vec_capacity out.old }
     ensures after { out.new.items ≡ out.old.items ++ bytes.now }
     ensures len { vec_len out.new ≡ vec_len out.old + length bytes.now }
@@ -189,7 +189,7 @@ impl Element for u64 {
 }
 
 /// Puts the bytes of all elements at the end, where room was made for them.
-pub fn put_all<E: Element>(items: &[E], out: &mut Vec<u8>)
+pub(crate) fn put_all<E: Element>(items: &[E], out: &mut Vec<u8>)
     requires { vec_len out.old + length items.now * E.SIZE ≤ vec_capacity out.old }
     ensures after { out.new.items ≡ out.old.items ++ flat_map E.spelled items.now }
     ensures len { vec_len out.new ≡ vec_len out.old + length items.now * E.SIZE }
@@ -202,7 +202,11 @@ pub fn put_all<E: Element>(items: &[E], out: &mut Vec<u8>)
 }
 
 /// Reads so many elements from the front.
-pub fn read_all<E: Element>(alloc: Global, count: usize, bytes: &[u8]) -> Result<Vec<E>, AllocError>
+pub(crate) fn read_all<E: Element>(
+    alloc: Global,
+    count: usize,
+    bytes: &[u8],
+) -> Result<Vec<E>, AllocError>
     requires { count * E.SIZE ≤ length bytes.now }
     ensures again { IfOk result (λ v. flat_map E.spelled v.items ≡ take (count * E.SIZE) bytes.now) }
     ensures count { IfOk result (λ v. length v.items ≡ count) }

@@ -24,7 +24,7 @@ pub fn image_size(number: u16, count: u32) -> Result<usize, Refusal>
 }
 
 /// The size of an image, or the greatest number where it is over that.
-pub fn size_for(data_type: DataType, count: usize) -> usize
+pub(crate) fn size_for(data_type: DataType, count: usize) -> usize
     ensures { result ≡ min (size_of_image data_type count) (2 ^ 64 - 1) }
 {
     let front = data_type.meta_size() + data_type.padding_size();
@@ -33,7 +33,7 @@ pub fn size_for(data_type: DataType, count: usize) -> usize
 }
 
 /// Puts the metadata that the form carries at the end, where room was made for it.
-pub fn put_meta(form: Form, meta: Meta, out: &mut Vec<u8>)
+pub(crate) fn put_meta(form: Form, meta: Meta, out: &mut Vec<u8>)
     requires { vec_len out.old + meta_size form ≤ vec_capacity out.old }
     ensures after { out.new.items ≡ out.old.items ++ meta_bytes form meta }
     ensures meta { IsMeta meta }
@@ -56,7 +56,7 @@ pub fn put_meta(form: Form, meta: Meta, out: &mut Vec<u8>)
 }
 
 /// Puts so many zero bytes at the end, where room was made for them.
-pub fn put_zeros(count: usize, out: &mut Vec<u8>)
+pub(crate) fn put_zeros(count: usize, out: &mut Vec<u8>)
     requires { vec_len out.old + count ≤ vec_capacity out.old }
     ensures after { out.new.items ≡ out.old.items ++ replicate count 0 }
     ensures len { vec_len out.new ≡ vec_len out.old + count }

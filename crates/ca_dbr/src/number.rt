@@ -13,7 +13,7 @@ const MINUS: u8 = b'-';
 const FAR: u64 = 0x1_0000_0000;
 
 /// The bytes before the first zero.
-pub fn text_of(bytes: &[u8]) -> &[u8]
+pub(crate) fn text_of(bytes: &[u8]) -> &[u8]
     ensures { result.now ≡ text_of bytes.now }
 {
     for (i, byte) in bytes.iter().enumerate() {
@@ -78,7 +78,7 @@ fn read_unsigned(text: &[u8]) -> Option<u64>
 }
 
 /// The number that a text is, or the nearest that matters.
-pub fn read_number(text: &[u8]) -> Option<i64>
+pub(crate) fn read_number(text: &[u8]) -> Option<i64>
     ensures { result ≡ option_map clipped (number_in text.now) }
 {
     let rest = &text[leading_spaces(text)..];
@@ -98,7 +98,7 @@ pub fn read_number(text: &[u8]) -> Option<i64>
 }
 
 /// The decimal text of a number, filled with zero bytes.
-pub fn write_number(number: i64) -> [u8; 40]
+pub(crate) fn write_number(number: i64) -> [u8; 40]
     ensures { result ≡ number_text number }
 {
     let mut buffer = Buffer::new();

@@ -8,7 +8,7 @@ use crate::number::{read_number, text_of, write_number};
 use ca_text::Refusal;
 
 /// An element that may be a number.
-pub trait Source: Copy + Drop {
+pub(crate) trait Source: Copy + Drop {
     /// Its number: none where it is a text that is no number.
     ghost number: { Self → Option ℤ };
 
@@ -18,13 +18,13 @@ pub trait Source: Copy + Drop {
 }
 
 /// An element that is a number.
-pub trait Whole: Source {
+pub(crate) trait Whole: Source {
     fn whole(self) -> i64
         ensures { Self.number self ≡ Some result };
 }
 
 /// An element that a number may be made into.
-pub trait Target: Copy + Drop {
+pub(crate) trait Target: Copy + Drop {
     ghost within: { ℤ → Bool };
 
     ghost made: { ℤ → Self };
@@ -163,7 +163,7 @@ impl Target for i32 {
 }
 
 /// A way from one element to another.
-pub trait Conversion<S: Copy, T> {
+pub(crate) trait Conversion<S: Copy, T> {
     ghost gives: { S → Result T Refusal };
 
     fn convert(from: S) -> Result<T, Refusal>
@@ -171,10 +171,10 @@ pub trait Conversion<S: Copy, T> {
 }
 
 /// Through the number.
-pub struct ToNumber;
+pub(crate) struct ToNumber;
 
 /// From a number to its text.
-pub struct ToText;
+pub(crate) struct ToText;
 
 impl<S: Source, T: Target> Conversion<S, T> for ToNumber {
     ghost gives = { λ x. numbered T.within T.made (S.number x) };
