@@ -1,4 +1,5 @@
 ghost use Rattle.std.specs.Prelude.{◌≡◌, ◌<◌, ◌↔◌, ◌^◌, ℕ, [], IsTrue, MatchOption, IfOk, OnErr, length};
+ghost use Rattle.ca_text.specs.Limits.{channel_limit};
 ghost use Rattle.ca_server_core.specs.Channels.{Closes, Holds, Opens};
 
 use std::alloc::{AllocError, Global};
@@ -11,9 +12,6 @@ pub struct Channel {
     pub cid: u32,
     pub record: usize,
 }
-
-/// Channels of a circuit, at most.
-pub const CHANNEL_LIMIT: usize = 65_536;
 
 /// The SID of the channel that was created first. Each later one has the next.
 const FIRST_SID: u32 = 65_536;
@@ -78,7 +76,7 @@ impl Channels {
 
     /// Opens a channel under the next SID, and says which.
     pub fn open(&mut self, channel: Channel) -> Result<u32, AllocError>
-        requires room { length self.old < 65536 }
+        requires room { length self.old < channel_limit }
         requires new { (sid : ℕ) (other : Channel) → Holds self.old sid other → other.cid ≡ channel.cid → ⊥ }
         ensures ok { IfOk result (λ sid. Opens self.old sid channel self.new) }
         ensures err { OnErr result (self.new ≡ self.old) }

@@ -1,5 +1,6 @@
 ghost use Rattle.std.specs.Prelude.{◌≡◌, ◌<◌, ◌≤◌, ◌*◌, ◌++◌, ◌∷◌, ℕ, [], OnOk, false, length};
 ghost use Rattle.ca_text.specs.Command.{command_number};
+ghost use Rattle.ca_text.specs.Limits.{channel_limit};
 ghost use Rattle.ca_text.specs.Place.{At};
 ghost use Rattle.ca_wire.specs.Message.{spelled};
 ghost use Rattle.ca_model.specs.History.{text_in};
@@ -7,19 +8,16 @@ ghost use Rattle.ca_model.specs.Replies.{failed_reply, read_reply, refused_reply
 ghost use Rattle.ca_server_core.specs.Channels.{Holds};
 ghost use Rattle.ca_server_core.specs.End.{AreKnown, HandlesOne, IsCleared, IsSeated, bare, greeted, long_reply};
 
-use crate::channels::{CHANNEL_LIMIT, Channel, Channels};
+use crate::channels::{Channel, Channels};
 use crate::image::{put_longs, put_zeros, text_of};
 use ca_records::{Record, Records};
-use ca_text::{Command, PAYLOAD_LIMIT, Status};
+use ca_text::{CHANNEL_LIMIT, Command, MINOR_VERSION, PAYLOAD_LIMIT, Status};
 use ca_wire::{Header, Message, spell_header};
 use std::alloc::{AllocError, Global};
 use std::marker::Model;
 
 /// The data type LONG.
 const LONG: u16 = 5;
-
-/// The minor version that a VERSION has as its count.
-const MINOR_VERSION: u32 = 13;
 
 /// The rights to read and to write.
 const READ_WRITE: u32 = 3;
@@ -91,7 +89,8 @@ impl Circuit {
         if self.greeted {
             return Ok(());
         }
-        put_bare(&mut self.output, Command::Version, 0, MINOR_VERSION, 0, 0)?;
+        let version = u32::from(MINOR_VERSION);
+        put_bare(&mut self.output, Command::Version, 0, version, 0, 0)?;
         self.greeted = true;
         Ok(())
     }
@@ -117,7 +116,7 @@ impl Circuit {
     /// Opens a channel to the record at this place.
     fn seat(&mut self, records: &Records, message: &Message, place: usize) -> Result<(), AllocError>
         requires place { place < length records.now }
-        requires room { length self.old.slots < 65536 }
+        requires room { length self.old.slots < channel_limit }
         requires new { (sid : ℕ) (other : Channel) → Holds self.old.slots sid other → other.cid ≡ message.now.p1 → ⊥ }
         ensures ok { OnOk result (IsSeated records.now self.old message.now place self.new) }
     {

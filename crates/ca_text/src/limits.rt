@@ -16,6 +16,9 @@ pub const RECORD_NAME_LIMIT: usize = 60;
 /// Elements of a record's value, at most.
 pub const ELEMENT_LIMIT: usize = 262_144;
 
+/// Channels that are created on a circuit, at most.
+pub const CHANNEL_LIMIT: usize = 65_536;
+
 /// Slots of an arena, and so channels, requests or subscriptions of one table.
 pub const ARENA_SLOTS: usize = 65_536;
 
