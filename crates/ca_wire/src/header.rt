@@ -1,5 +1,5 @@
 ghost use Rattle.std.specs.Prelude.{◌≡◌, ◌+◌, ◌<◌, ◌≤◌, ◌++◌, OnErr, OnOk, vec_capacity, vec_len};
-ghost use Rattle.ca_wire.specs.Header.{header_spelling};
+ghost use Rattle.ca_wire.specs.Header.{extended_header, header_spelling, short_header};
 
 use std::alloc::AllocError;
 
@@ -28,35 +28,55 @@ pub fn spell_header(header: &Header, out: &mut Vec<u8>) -> Result<(), AllocError
     ensures room { OnErr result (vec_capacity out.old < vec_len out.old + 24) }
     ensures capacity { vec_capacity out.old ≤ vec_capacity out.new }
 {
+    if header.size < EXTENDED && header.count < EXTENDED {
+        return out.extend_from_slice(&short_form(header));
+    }
+    out.extend_from_slice(&extended_form(header))
+}
+
+/// The header in 16 bytes.
+fn short_form(header: &Header) -> [u8; 16]
+    requires size { header.now.size < 65535 }
+    requires count { header.now.count < 65535 }
+    ensures { result ≡ short_header header.now }
+{
+    let command = header.command.to_be_bytes();
+    let size = (header.size as u16).to_be_bytes();
+    let data_type = header.data_type.to_be_bytes();
+    let count = (header.count as u16).to_be_bytes();
+    let p1 = header.p1.to_be_bytes();
+    let p2 = header.p2.to_be_bytes();
+    [
+        command[0],
+        command[1],
+        size[0],
+        size[1],
+        data_type[0],
+        data_type[1],
+        count[0],
+        count[1],
+        p1[0],
+        p1[1],
+        p1[2],
+        p1[3],
+        p2[0],
+        p2[1],
+        p2[2],
+        p2[3],
+    ]
+}
+
+/// The header in 24 bytes, with a count of 16 bits that is zero.
+fn extended_form(header: &Header) -> [u8; 24]
+    ensures { result ≡ extended_header 0 header.now }
+{
     let command = header.command.to_be_bytes();
     let data_type = header.data_type.to_be_bytes();
     let p1 = header.p1.to_be_bytes();
     let p2 = header.p2.to_be_bytes();
-    if header.size < EXTENDED && header.count < EXTENDED {
-        let size = (header.size as u16).to_be_bytes();
-        let count = (header.count as u16).to_be_bytes();
-        return out.extend_from_slice(&[
-            command[0],
-            command[1],
-            size[0],
-            size[1],
-            data_type[0],
-            data_type[1],
-            count[0],
-            count[1],
-            p1[0],
-            p1[1],
-            p1[2],
-            p1[3],
-            p2[0],
-            p2[1],
-            p2[2],
-            p2[3],
-        ]);
-    }
     let size = header.size.to_be_bytes();
     let count = header.count.to_be_bytes();
-    out.extend_from_slice(&[
+    [
         command[0],
         command[1],
         0xff,
@@ -81,5 +101,5 @@ pub fn spell_header(header: &Header, out: &mut Vec<u8>) -> Result<(), AllocError
         count[1],
         count[2],
         count[3],
-    ])
+    ]
 }

@@ -1,20 +1,16 @@
 use Rattle.std.proofs.Common.{◌≡◌}
-use Rattle.ca_wire.specs.Header.{extended_header, header_spelling, number16, number32}
+use Rattle.ca_wire.specs.Header.{extended_header, header_spelling}
 use Rattle.ca_wire.proofs.Appends.{appended}
-use Rattle.ca_wire.proofs.Headers.{spelling-short, spelling-long-size, spelling-long-count, short-listed, extended-listed}
+use Rattle.ca_wire.proofs.Headers.{spelling-short, spelling-long-size, spelling-long-count}
 use Rattle.ca_wire.proofs.header.spell_header.Goals as goal
 use Rattle.ca_wire.proofs.header.spell_header.Goals.{else-header-lt-EXTENDED-via-then-header-lt-EXTENDED+else-header-lt-EXTENDED-2, else-header-lt-EXTENDED-via-else-header-lt-EXTENDED}
 
 pub returns-then-header-lt-EXTENDED-2-clause-ok : goal.returns-then-header-lt-EXTENDED-2-clause-ok
-unfolding number16 number32
 returns-then-header-lt-EXTENDED-2-clause-ok c =
-    let h = c.args.header.now in
-    rw (spelling-short h c.if-header-lt-EXTENDED.true c.if-header-lt-EXTENDED-2.true)
-    (appended c.extend_from_slice.result _ _ _ _ c.extend_from_slice.ensures.items
-    (short-listed h _ _ _ _ _ _ c.to_be_bytes-command.ensures c.to_be_bytes-size.ensures c.to_be_bytes-data_type.ensures c.to_be_bytes-count.ensures c.to_be_bytes-p1.ensures c.to_be_bytes-p2.ensures))
+    rw (spelling-short c.args.header.now c.if-header-lt-EXTENDED.true c.if-header-lt-EXTENDED-2.true)
+    (appended c.extend_from_slice.result _ _ _ _ c.extend_from_slice.ensures.items c.short_form.ensures)
 
 pub returns-clause-ok : goal.returns-clause-ok
-unfolding number16 number32
 returns-clause-ok c =
     let h = c.args.header.now in
     let long : header_spelling h ≡ extended_header 0 h = elim c.else-header-lt-EXTENDED.branch [
@@ -22,5 +18,4 @@ returns-clause-ok c =
       | else-header-lt-EXTENDED-via-else-header-lt-EXTENDED w ↦ spelling-long-size h w.if-header-lt-EXTENDED.false
     ] in
     rw long
-    (appended c.extend_from_slice-2.result _ _ _ _ c.extend_from_slice-2.ensures.items
-    (extended-listed h _ _ _ _ _ _ c.to_be_bytes-command.ensures c.to_be_bytes-data_type.ensures c.to_be_bytes-p1.ensures c.to_be_bytes-p2.ensures c.to_be_bytes-size-2.ensures c.to_be_bytes-count-2.ensures))
+    (appended c.extend_from_slice-2.result _ _ _ _ c.extend_from_slice-2.ensures.items c.extended_form.ensures)
