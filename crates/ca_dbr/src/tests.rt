@@ -104,7 +104,7 @@ fn round(
 }
 
 #[test]
-fn each_type(rt: HostRuntime) -> Result<(), Fail> {
+fn signed_numbers(rt: HostRuntime) -> Result<(), Fail> {
     let alloc = rt.alloc();
     round(
         &rt,
@@ -125,6 +125,27 @@ fn each_type(rt: HostRuntime) -> Result<(), Fail> {
     round(
         &rt,
         alloc,
+        &Value::Longs(vec![in alloc; -1]?),
+        &[255, 255, 255, 255],
+        &[],
+        &[],
+    )?;
+    round(
+        &rt,
+        alloc,
+        &Value::Longs(vec![in alloc; 21, -2147483648, 65536]?),
+        &[0, 0, 0, 21, 128, 0, 0, 0, 0, 1, 0, 0],
+        &[],
+        &[],
+    )
+}
+
+#[test]
+fn bit_patterns(rt: HostRuntime) -> Result<(), Fail> {
+    let alloc = rt.alloc();
+    round(
+        &rt,
+        alloc,
         &Value::Floats(vec![in alloc; 0x3f80_0000]?),
         &[63, 128, 0, 0],
         &[],
@@ -138,6 +159,29 @@ fn each_type(rt: HostRuntime) -> Result<(), Fail> {
         &[],
         &[],
     )?;
+    round(
+        &rt,
+        alloc,
+        &Value::Doubles(vec![in alloc; 0x3ff0_0000_0000_0000]?),
+        &[63, 240, 0, 0, 0, 0, 0, 0],
+        &[0, 0, 0, 0],
+        &[0, 0, 0, 0],
+    )?;
+    round(
+        &rt,
+        alloc,
+        &Value::Doubles(vec![in alloc; 1, 2, 0x0102_0304_0506_0708]?),
+        &[
+            0, 0, 0, 0, 0, 0, 0, 1, 0, 0, 0, 0, 0, 0, 0, 2, 1, 2, 3, 4, 5, 6, 7, 8,
+        ],
+        &[0, 0, 0, 0],
+        &[0, 0, 0, 0],
+    )
+}
+
+#[test]
+fn enums_and_chars(rt: HostRuntime) -> Result<(), Fail> {
+    let alloc = rt.alloc();
     round(
         &rt,
         alloc,
@@ -169,41 +213,12 @@ fn each_type(rt: HostRuntime) -> Result<(), Fail> {
         &[0, 255, 7],
         &[0],
         &[0, 0, 0],
-    )?;
-    round(
-        &rt,
-        alloc,
-        &Value::Longs(vec![in alloc; -1]?),
-        &[255, 255, 255, 255],
-        &[],
-        &[],
-    )?;
-    round(
-        &rt,
-        alloc,
-        &Value::Longs(vec![in alloc; 21, -2147483648, 65536]?),
-        &[0, 0, 0, 21, 128, 0, 0, 0, 0, 1, 0, 0],
-        &[],
-        &[],
-    )?;
-    round(
-        &rt,
-        alloc,
-        &Value::Doubles(vec![in alloc; 0x3ff0_0000_0000_0000]?),
-        &[63, 240, 0, 0, 0, 0, 0, 0],
-        &[0, 0, 0, 0],
-        &[0, 0, 0, 0],
-    )?;
-    round(
-        &rt,
-        alloc,
-        &Value::Doubles(vec![in alloc; 1, 2, 0x0102_0304_0506_0708]?),
-        &[
-            0, 0, 0, 0, 0, 0, 0, 1, 0, 0, 0, 0, 0, 0, 0, 2, 1, 2, 3, 4, 5, 6, 7, 8,
-        ],
-        &[0, 0, 0, 0],
-        &[0, 0, 0, 0],
-    )?;
+    )
+}
+
+#[test]
+fn texts(rt: HostRuntime) -> Result<(), Fail> {
+    let alloc = rt.alloc();
     round(
         &rt,
         alloc,
@@ -292,6 +307,12 @@ fn reads_show(rt: HostRuntime) -> Result<(), Fail> {
     assert!(rt; shown(alloc, 34, 1, &temp) == Err(Refusal::BadType));
     assert!(rt; shown(alloc, 2, 1, &temp) == Err(Refusal::NoConvert));
     assert!(rt; shown(alloc, 5, 1, &note) == Err(Refusal::BadText));
+    Ok(())
+}
+
+#[test]
+fn a_fault_leaves_the_bytes(rt: HostRuntime) -> Result<(), Fail> {
+    let alloc = rt.alloc();
     let mut bytes = Vec::from_slice(alloc, b"x")?;
     let many = Value::Longs(vec![in alloc; 1, 256]?);
     assert!(rt; write_shown(4, 2, &many, &META, &mut bytes) == Err(Refusal::OutOfRange));

@@ -1,5 +1,6 @@
 use crate::Records;
 use ca_text::Refusal;
+use std::process::Abort;
 use std::test::Fail;
 
 /// A definition: a name, a greatest count, how many elements, and the refusal.
@@ -23,6 +24,26 @@ const fn row(
         elements,
         refusal,
     }
+}
+
+/// Defines the record of this row alone.
+fn hold<R: AllocGlobal + Abort>(rt: &R, row: &Defined) -> Result<(), Fail> {
+    let mut records = Records::new(rt.alloc());
+    assert!(rt; !records.has(row.name));
+    let longs = vec![in rt.alloc(); -7; row.elements]?;
+    match row.refusal {
+        None => {
+            records.define(row.name, row.count, false, longs)?;
+            assert_eq!(rt; records.find(row.name), Some(0));
+            assert_eq!(rt; records.read(row.name)?.len(), row.elements);
+        }
+        Some(refusal) => {
+            let outcome = records.define(row.name, row.count, false, longs);
+            assert_eq!(rt; outcome, Err(refusal));
+            assert_eq!(rt; records.len(), 0);
+        }
+    }
+    Ok(())
 }
 
 #[test]
@@ -55,21 +76,7 @@ fn records_are_defined(rt: HostRuntime) -> Result<(), Fail> {
         row(b"", 0, 0, Some(Refusal::NameLength)),
     ];
     for row in &rows {
-        let mut records = Records::new(rt.alloc());
-        assert!(rt; !records.has(row.name));
-        let longs = vec![in rt.alloc(); -7; row.elements]?;
-        match row.refusal {
-            None => {
-                records.define(row.name, row.count, false, longs)?;
-                assert_eq!(rt; records.find(row.name), Some(0));
-                assert_eq!(rt; records.read(row.name)?.len(), row.elements);
-            }
-            Some(refusal) => {
-                let outcome = records.define(row.name, row.count, false, longs);
-                assert_eq!(rt; outcome, Err(refusal));
-                assert_eq!(rt; records.len(), 0);
-            }
-        }
+        hold(&rt, row)?;
     }
     Ok(())
 }

@@ -1,5 +1,6 @@
 use crate::{Deframer, Head, Header, Message, One, read_one, spell, spell_header};
 use ca_text::Refusal;
+use std::process::Abort;
 use std::test::Fail;
 
 /// A header, and its bytes as they are written.
@@ -20,6 +21,16 @@ const fn header(command: u16, data_type: u16, size: u32, count: u32, p1: u32, p2
     }
 }
 
+/// Writes the header of each row.
+fn hold<R: AllocGlobal + Abort>(rt: &R, rows: &[Spelled]) -> Result<(), Fail> {
+    for row in rows {
+        let mut out = Vec::new(rt.alloc());
+        spell_header(&row.header, &mut out)?;
+        assert_eq!(rt; out.as_slice(), row.bytes);
+    }
+    Ok(())
+}
+
 #[test]
 fn headers_are_spelled(rt: HostRuntime) -> Result<(), Fail> {
     let rows = [
@@ -33,7 +44,24 @@ fn headers_are_spelled(rt: HostRuntime) -> Result<(), Fail> {
             header: header(15, 5, 8, 1, 1, 0x1_0000),
             bytes: b"\x00\x0f\x00\x08\x00\x05\x00\x01\0\0\0\x01\0\x01\0\0",
         },
-        // The greatest count and size of the short form, and the next two.
+        // A read of 16,383 LONGs.
+        Spelled {
+            header: header(15, 5, 65_536, 16_383, 1, 0x1_0000),
+            bytes: b"\x00\x0f\xff\xff\x00\x05\x00\x00\0\0\0\x01\0\x01\0\0\0\x01\0\0\0\0\x3f\xff",
+        },
+        // A count of 70,000.
+        Spelled {
+            header: header(15, 5, 0, 70_000, 0x1_0000, 0x1_0000),
+            bytes: b"\x00\x0f\xff\xff\x00\x05\x00\x00\0\x01\0\0\0\x01\0\0\0\0\0\0\0\x01\x11\x70",
+        },
+    ];
+    hold(&rt, &rows)
+}
+
+#[test]
+fn the_short_form_ends_at_65534(rt: HostRuntime) -> Result<(), Fail> {
+    let rows = [
+        // The greatest count and size of the short form, and the next ones.
         Spelled {
             header: header(15, 5, 0, 65_534, 1, 2),
             bytes: b"\x00\x0f\x00\x00\x00\x05\xff\xfe\0\0\0\x01\0\0\0\x02",
@@ -54,23 +82,8 @@ fn headers_are_spelled(rt: HostRuntime) -> Result<(), Fail> {
             header: header(4, 4, 65_535, 1, 1, 2),
             bytes: b"\x00\x04\xff\xff\x00\x04\x00\x00\0\0\0\x01\0\0\0\x02\0\0\xff\xff\0\0\0\x01",
         },
-        // A read of 16,383 LONGs.
-        Spelled {
-            header: header(15, 5, 65_536, 16_383, 1, 0x1_0000),
-            bytes: b"\x00\x0f\xff\xff\x00\x05\x00\x00\0\0\0\x01\0\x01\0\0\0\x01\0\0\0\0\x3f\xff",
-        },
-        // A count of 70,000.
-        Spelled {
-            header: header(15, 5, 0, 70_000, 0x1_0000, 0x1_0000),
-            bytes: b"\x00\x0f\xff\xff\x00\x05\x00\x00\0\x01\0\0\0\x01\0\0\0\0\0\0\0\x01\x11\x70",
-        },
     ];
-    for row in &rows {
-        let mut out = Vec::new(rt.alloc());
-        spell_header(&row.header, &mut out)?;
-        assert_eq!(rt; out.as_slice(), row.bytes);
-    }
-    Ok(())
+    hold(&rt, &rows)
 }
 
 /// Bytes, and what stands at their front.
@@ -112,6 +125,15 @@ fn messages_are_read(rt: HostRuntime) {
             bytes: b"\x00\x0f\xff\xff\x00\x05\x12\x34\0\0\0\x01\0\0\0\x02\0\0\0\x08\0\0\0",
             one: One::More,
         },
+    ];
+    for row in &rows {
+        assert!(rt; read_one(row.bytes) == row.one);
+    }
+}
+
+#[test]
+fn bad_sizes_are_refused(rt: HostRuntime) {
+    let rows = [
         // A size of 12.
         Read {
             bytes: b"\x00\x04\x00\x0c\x00\x05\x00\x01\0\x01\0\0\0\0\0\0",
