@@ -1,10 +1,7 @@
 -- Clocks after any number of beacons.
-use Rattle.std.proofs.Common.{◌≡◌, ℕ, ◌+◌, ◌*◌, ◌%◌, ◌^◌, ◌<◌, List, [], ◌∷◌, ◌++◌, length, zero, suc, min, pow-suc, refl, ap, ◌∙◌, arith}
-use Rattle.ca_beacon.specs.Clock.{Clock, fresh, latest, run, sent_at, wait}
-
-pub wait-closed : (n : ℕ) → wait 20 15000 n ≡ min (20 * 2 ^ n) 15000
-wait-closed zero = refl
-wait-closed (suc n) = let same = wait-closed n in omega (arith, same, pow-suc 2 n)
+use Rattle.std.proofs.Common.{◌≡◌, ℕ, ◌+◌, ◌*◌, ◌%◌, ◌^◌, ◌<◌, List, [], ◌∷◌, ◌++◌, length, zero, suc, min, refl, ap, ◌∙◌, arith}
+use Rattle.ca_text.specs.Waits.{latest, wait}
+use Rattle.ca_beacon.specs.Clock.{Clock, fresh, run, sent_at}
 
 run-number : (c : Clock) (moments : List ℕ) → c.number < 2 ^ 32 → (run c moments).number ≡ (c.number + length moments) % 2 ^ 32
 run-number c [] small = omega arith

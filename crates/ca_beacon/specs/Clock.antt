@@ -1,14 +1,6 @@
 -- When beacons are due. Moments are milliseconds; a sum of them stops at the greatest u64.
-use Rattle.std.specs.Prelude.{ℕ, ◌+◌, ◌*◌, ◌-◌, ◌%◌, ◌^◌, List, [], ◌∷◌, zero, suc, min}
-
--- the milliseconds after a beacon: the first wait, doubled after each beacon up to the longest; n beacons went before it
-abbrev pub wait : ℕ → ℕ → ℕ → ℕ
-wait first longest zero = first
-wait first longest (suc n) = min (2 * wait first longest n) longest
-
--- the last moment
-abbrev pub latest : ℕ
-latest = 2 ^ 64 - 1
+use Rattle.std.specs.Prelude.{ℕ, ◌+◌, ◌*◌, ◌%◌, ◌^◌, List, [], ◌∷◌, min}
+use Rattle.ca_text.specs.Waits.{latest}
 
 -- the number of the next beacon, the wait after it, and the moment from which it is due
 pub record Clock : Type 0 where

@@ -1,5 +1,6 @@
 ghost use Rattle.std.specs.Prelude.{◌≡◌, ◌+◌, ◌*◌, ◌^◌, ◌%◌, ◌++◌, ◌∷◌, [], ℕ, List, length, min};
-ghost use Rattle.ca_beacon.specs.Clock.{fresh, latest, run, wait};
+ghost use Rattle.ca_text.specs.Waits.{latest, wait};
+ghost use Rattle.ca_beacon.specs.Clock.{fresh, run};
 
 /// Whatever the moments of the beacons: the first has the number 0 and is due at the start; after the n-th the next
 /// has the number n, modulo 2^32, and is due `20 * 2^(n-1)` milliseconds after it, at most 15,000.

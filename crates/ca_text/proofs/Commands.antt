@@ -1,5 +1,5 @@
 -- Each command has a number of its own.
-use Rattle.std.proofs.Common.{◌≡◌, ℕ, refl, arith}
+use Rattle.std.proofs.Common.{◌≡◌, refl, arith}
 use Rattle.ca_text.specs.Command.{command_number}
 use Rattle.ca_text.specs.declared.command.Command.{Command}
 use Rattle.ca_text.specs.declared.command.Command.TheVariants.{Version, EventAdd, EventCancel, Write, Search, EventsOff, EventsOn, Error, ClearChannel, RsrvIsUp, NotFound, ReadNotify, RepeaterConfirm, CreateChannel, WriteNotify, ClientName, HostName, AccessRights, Echo, RepeaterRegister, CreateChannelFail, ServerDisconnect}

@@ -1,2 +1,3 @@
 pub mod Commands
 pub mod Places
+pub mod Waits

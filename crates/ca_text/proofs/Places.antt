@@ -1,5 +1,5 @@
 -- What stands at the places of lists.
-use Rattle.std.proofs.Common.{◌≡◌, ℕ, zero, suc, ◌+◌, ◌<◌, ◌≤◌, ◌⊎◌, inl, inr, List, [], ◌∷◌, ◌++◌, length, take, Option, Some, refl, sym, ap, arith}
+use Rattle.std.proofs.Common.{◌≡◌, ℕ, zero, suc, ◌+◌, ◌<◌, ◌≤◌, ◌⊎◌, inl, inr, List, [], ◌∷◌, ◌++◌, length, Option, Some, refl, sym, ap, arith}
 use Rattle.std.specs.Prelude.{map, slice_set}
 use Rattle.std.proofs.lemmas.Option.{slice_get_within}
 use Rattle.ca_text.specs.Place.{At}

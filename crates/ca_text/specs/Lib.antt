@@ -5,3 +5,4 @@ pub mod Name
 pub mod Place
 pub mod Refusal
 pub mod Status
+pub mod Waits

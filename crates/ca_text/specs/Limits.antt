@@ -13,6 +13,10 @@ engine_turns = 1048576
 abbrev pub element_limit : ℕ
 element_limit = 262144
 
+-- bytes of a channel's name, at most
+abbrev pub channel_name_limit : ℕ
+channel_name_limit = 500
+
 -- bytes of a record's name, at most
 abbrev pub record_name_limit : ℕ
 record_name_limit = 60
