@@ -1,0 +1,15 @@
+//! Searches: which of a client's channels are searched now, and when each is searched next.
+#![tactic(auto)]
+
+mod clock;
+mod laws;
+mod place;
+mod search;
+mod searcher;
+
+pub use laws::searches_double;
+pub use search::Search;
+pub use searcher::Searcher;
+
+#[cfg(test)]
+mod tests;
