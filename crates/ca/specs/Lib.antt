@@ -1,4 +1,6 @@
+pub mod Decimal
 pub mod Grammar
+pub mod RepeaterWords
 pub mod Runs
 pub mod Standing
 pub mod Status

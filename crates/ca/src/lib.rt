@@ -3,15 +3,22 @@
 
 mod answer;
 mod console;
+mod decimal;
 mod line;
 mod program;
+mod repeater;
+mod repeater_line;
 mod standing;
 
 pub use answer::{answer_run, report, serve};
 pub use console::answer_console;
 pub use line::{Line, read_line};
 pub use program::{not_understood, run};
+pub use repeater::repeater_run;
+pub use repeater_line::RepeaterLine;
 pub use standing::standing_records;
 
 #[cfg(test)]
 mod tests;
+#[cfg(test)]
+mod tests_repeater;

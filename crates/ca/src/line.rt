@@ -1,11 +1,13 @@
-ghost use Rattle.std.specs.Prelude.{◌≡◌, ◌↔◌, IfErr, IfOk, IsTrue, Some, codes, false, map, string_bytes};
+ghost use Rattle.std.specs.Prelude.{◌≡◌, ◌↔◌, ◌∷◌, ℕ, List, MatchOption, IfErr, IfOk, IsTrue, Some, codes, false, map, string_bytes};
 ghost use Rattle.std.specs.List.{list_any};
 ghost use Rattle.std.specs.Str.{bytes_eq};
 ghost use Rattle.ca_text.specs.declared.refusal.Refusal.TheVariants.{OutOfMemory};
 ghost use Rattle.clap.specs.Words.{app_of, subcommand_name_of};
 ghost use Rattle.ca.specs.Grammar.{grammar_app};
+ghost use Rattle.ca.specs.RepeaterWords.{TellsRepeater};
 ghost use Rattle.ca.specs.Words.{answer_words, has_escape};
 
+use crate::repeater_line::{RepeaterLine, read_repeater};
 use ca_text::Refusal;
 use clap::Command;
 use clap::error::ErrorKind;
@@ -16,21 +18,47 @@ use std::alloc::{AllocError, Global};
 pub enum Line {
     /// `answer`: answers one circuit, from standard input to standard output.
     Answer,
+    /// `repeater`: hands datagrams on among the host's clients.
+    Repeater(RepeaterLine),
 }
 
 /// Reads the words behind the program's name: none where they are not understood.
 pub fn read_line<'a>(alloc: Global, words: &'a [String]) -> Result<Option<Line>, Refusal>
     ensures answer { IfOk result (λ r. (r ≡ Some Line.Answer) ↔ (map string_bytes words.entry.now ≡ answer_words)) }
+    ensures repeater { IfOk result (TellsRepeater (map string_bytes words.entry.now)) }
     ensures err { IfErr result (λ e. e ≡ OutOfMemory) }
 {
     // clap ends the options at such a word, which no line has.
     if escapes(words) {
         return Ok(None);
     }
-    match asks_answer(alloc, words) {
-        Ok(true) => Ok(Some(Line::Answer)),
-        Ok(false) => Ok(None),
-        Err(refusal) => Err(refusal),
+    match behind_repeater(words) {
+        Some(rest) => match read_repeater(alloc, rest) {
+            Ok(Some(line)) => Ok(Some(Line::Repeater(line))),
+            Ok(None) => Ok(None),
+            Err(refusal) => Err(refusal),
+        },
+        None => match asks_answer(alloc, words) {
+            Ok(true) => Ok(Some(Line::Answer)),
+            Ok(false) => Ok(None),
+            Err(refusal) => Err(refusal),
+        },
+    }
+}
+
+/// The words behind `repeater`, where that is the first word.
+fn behind_repeater<'a>(words: &'a [String]) -> Option<&'a [String]>
+    ensures { MatchOption result ((rest : List (List ℕ)) → map string_bytes words.entry.now ≡ codes "repeater" ∷ rest → ⊥) (λ rest. map string_bytes words.entry.now ≡ codes "repeater" ∷ map string_bytes rest.now) }
+{
+    match words.split_first() {
+        None => None,
+        Some((first, rest)) => {
+            if first.as_str() == "repeater" {
+                Some(rest)
+            } else {
+                None
+            }
+        }
     }
 }
 

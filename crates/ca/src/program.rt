@@ -1,17 +1,22 @@
 ghost use Rattle.std.specs.Prelude.{◌≡◌, ◌≤◌, map, string_bytes};
+ghost use Rattle.ca.specs.declared.repeater_line.RepeaterLine.{RepeaterLine};
+ghost use Rattle.ca.specs.RepeaterWords.{AsksRepeater};
 ghost use Rattle.ca.specs.Words.{answer_words};
 
 use crate::answer::report;
 use crate::console::answer_console;
 use crate::line::{Line, read_line};
+use crate::repeater::repeater_bound;
 use std::alloc::Global;
 use std::io::{Read, Write};
+use std::net::Net;
 
 /// The exit status of a line that is not understood.
 const NOT_UNDERSTOOD: u8 = 2;
 
 /// Runs the program on the words behind its name, and gives the exit status.
-pub fn run<I: Read + Drop, O: Write + Drop, E: Write>(
+pub fn run<R: Net, I: Read + Drop, O: Write + Drop, E: Write>(
+    net: &R,
     alloc: Global,
     words: &[String],
     input: I,
@@ -20,10 +25,12 @@ pub fn run<I: Read + Drop, O: Write + Drop, E: Write>(
 ) -> u8
     ensures within { result ≤ 2 }
     ensures understood { map string_bytes words.now ≡ answer_words → result ≤ 1 }
-    ensures refused { (map string_bytes words.now ≡ answer_words → ⊥) → 1 ≤ result }
+    ensures repeats { (line : RepeaterLine) → AsksRepeater (map string_bytes words.now) line → result ≤ 1 }
+    ensures refused { (map string_bytes words.now ≡ answer_words → ⊥) → ((line : RepeaterLine) → AsksRepeater (map string_bytes words.now) line → ⊥) → 1 ≤ result }
 {
     match read_line(alloc, words) {
         Ok(Some(Line::Answer)) => answer_console(alloc, None, input, output, err),
+        Ok(Some(Line::Repeater(line))) => repeater_bound(net, alloc, line, err),
         Ok(None) => not_understood(err),
         Err(refusal) => report(Err(refusal), err),
     }

@@ -305,7 +305,7 @@ fn lines_are_refused(rt: HostRuntime) -> Result<(), Fail> {
     let mut output = Vec::new(rt.alloc());
     let mut told = Vec::new(rt.alloc());
     let none: &[u8] = &[];
-    let status = run(rt.alloc(), &[], none, &mut output, &mut told);
+    let status = run(&rt, rt.alloc(), &[], none, &mut output, &mut told);
     assert_eq!(rt; status, 2);
     assert!(rt; output.is_empty());
     assert!(rt; told.as_slice() == "not understood\n".as_bytes());

@@ -10,6 +10,7 @@ fn main(rt: HostRuntime) -> ExitCode {
     let mut err = rt.stderr();
     let status = match words(&rt) {
         Ok(Some(words)) => ca::run(
+            &rt,
             rt.alloc(),
             words.as_slice(),
             rt.stdin(),

@@ -1,0 +1,12 @@
+use Rattle.std.proofs.Common.{ap, Some, ◌∙◌}
+use Rattle.ca.proofs.RepeaterReading.{told-none, told-repeater}
+use Rattle.ca.proofs.program.run.Goals as goal
+
+pub returns-in-Ok-Some-Repeater-clause-refused : goal.returns-in-Ok-Some-Repeater-clause-refused
+returns-in-Ok-Some-Repeater-clause-refused g c =
+    let w = c.in-Ok-Some-Repeater in
+    λ other none. absurd (none w.line (told-repeater _ w.field-0 w.line (w.field-0-is ∙ ap Some w.field-0-0-is) w.ensures.repeater))
+
+pub returns-in-Ok-None-clause-repeats : goal.returns-in-Ok-None-clause-repeats
+returns-in-Ok-None-clause-repeats g c =
+    λ line asks. absurd (told-none _ c.in-Ok-None.field-0 c.in-Ok-None.field-0-is c.in-Ok-None.ensures.repeater line asks)

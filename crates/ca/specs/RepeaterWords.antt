@@ -1,0 +1,52 @@
+-- The words of `repeater [--port P] [--datagrams N]`.
+use Rattle.std.specs.Prelude.{ℕ, ◌≡◌, List, [], ◌∷◌, Option, None, Some, true, false, codes, ⊤}
+use Rattle.clap.specs.Words.{App, Rule, Text, fault_of, first_of, matches_of, new_app, new_rule, with_rule}
+use Rattle.ca.specs.declared.repeater_line.RepeaterLine.{RepeaterLine}
+use Rattle.ca.specs.declared.line.Line.{Line}
+use Rattle.ca.specs.declared.line.Line.TheVariants.{Answer, Repeater}
+use Rattle.ca.specs.Decimal.{IsDecimal}
+use Rattle.ca.specs.Words.{has_escape}
+
+-- an option that takes one value, `--name V` or `--name=V`
+abbrev pub valued : Text → Rule
+valued name = record (new_rule name) { long = Some name }
+
+-- the two options, each at most once, and no help
+abbrev pub repeater_app : App
+repeater_app =
+    let bare = new_app (codes "repeater") in
+    with_rule (with_rule (record bare {
+      top = record bare.top { no_binary_name = true; disable_help_flag = true };
+    }) (valued (codes "port"))) (valued (codes "datagrams"))
+
+-- the value of this option among words that clap takes
+abbrev pub given : List ℕ → List Text → Option Text
+given name words = first_of name (matches_of repeater_app words)
+
+abbrev pub MeansPort : Option Text → ℕ → Type 0
+MeansPort None port = port ≡ 5065
+MeansPort (Some text) port = IsDecimal 16 text port
+
+abbrev pub MeansCount : Option Text → Option ℕ → Type 0
+MeansCount None None = ⊤
+MeansCount None (Some n) = ⊥
+MeansCount (Some text) None = ⊥
+MeansCount (Some text) (Some n) = IsDecimal 64 text n
+
+-- Options of these values mean this line: a port is 5065 where none is given, and each number is decimal.
+abbrev pub Means : Option Text → Option Text → RepeaterLine → Type 0
+Means port datagrams line = MeansPort port line.port × MeansCount datagrams line.datagrams
+
+-- The words behind `repeater` ask for this line: clap finds no fault in them, and their options mean it.
+abbrev pub Asks : List Text → RepeaterLine → Type 0
+Asks words line = (fault_of repeater_app words ≡ []) × Means (given (codes "port") words) (given (codes "datagrams") words) line
+
+-- All words ask for this line.
+abbrev pub AsksRepeater : List Text → RepeaterLine → Type 0
+AsksRepeater words line = (has_escape words ≡ false) × ((rest : List Text) × (words ≡ codes "repeater" ∷ rest) × Asks rest line)
+
+-- What was read tells whether they ask for a repeater, and for which.
+abbrev pub TellsRepeater : List Text → Option Line → Type 0
+TellsRepeater words (Some (Repeater line)) = AsksRepeater words line
+TellsRepeater words (Some Answer) = (line : RepeaterLine) → AsksRepeater words line → ⊥
+TellsRepeater words None = (line : RepeaterLine) → AsksRepeater words line → ⊥
