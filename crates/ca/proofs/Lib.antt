@@ -1,3 +1,4 @@
 pub mod Reading
 pub mod RepeaterReading
+pub mod Repeatings
 pub mod Starts

@@ -1,6 +1,7 @@
 pub mod Decimal
 pub mod Grammar
 pub mod RepeaterWords
+pub mod Repeating
 pub mod Runs
 pub mod Standing
 pub mod Status

@@ -3,6 +3,7 @@
 
 mod answer;
 mod console;
+mod datagrams;
 mod decimal;
 mod line;
 mod program;
@@ -12,9 +13,10 @@ mod standing;
 
 pub use answer::{answer_run, report, serve};
 pub use console::answer_console;
+pub use datagrams::Datagrams;
 pub use line::{Line, read_line};
 pub use program::{not_understood, run};
-pub use repeater::repeater_run;
+pub use repeater::{repeat, repeater_run};
 pub use repeater_line::RepeaterLine;
 pub use standing::standing_records;
 

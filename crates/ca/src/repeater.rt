@@ -1,12 +1,14 @@
 ghost use Rattle.std.specs.Prelude.{◌≤◌};
+ghost use Rattle.ca.specs.Repeating.{Repeats, Sends, SendsOne, Takes};
 
 use crate::answer::report;
+use crate::datagrams::{Datagrams, Socket};
 use crate::repeater_line::RepeaterLine;
-use ca_repeat::{Address, Outgoing, RepeaterCore};
+use ca_repeat::{Outgoing, RepeaterCore};
 use ca_text::Refusal;
 use std::alloc::Global;
 use std::io::Write;
-use std::net::{IpAddr, Ipv4Addr, Net, SocketAddr, UdpSocket};
+use std::net::{Ipv4Addr, Net, UdpSocket};
 
 /// Bytes of the greatest datagram.
 const DATAGRAM: usize = 65_535;
@@ -40,56 +42,60 @@ pub fn repeater_run<W: Write>(
 ) -> u8
     ensures { result ≤ 1 }
 {
-    report(repeat(alloc, socket, datagrams), err)
+    // So many that they never come stand for no end.
+    let count = datagrams.unwrap_or(u64::MAX);
+    report(repeat(alloc, &mut Socket { socket }, count), err)
 }
 
-fn repeat(alloc: Global, socket: &UdpSocket, datagrams: Option<u64>) -> Result<(), Refusal> {
+/// Runs the host's repeater until so many datagrams came. Refused by 23 where a receive fails, and by 1; a send that fails
+/// drops that member.
+pub fn repeat<D: Datagrams>(alloc: Global, datagrams: &mut D, count: u64) -> Result<(), Refusal>
+    ensures { Repeats D.went D.refuses D.came D.fails count datagrams.old result datagrams.new }
+{
     let mut repeater = RepeaterCore::new(alloc);
     let mut buffer = vec![in alloc; 0u8; DATAGRAM]?;
-    // So many that they never come stand for no end.
-    for _ in 0..datagrams.unwrap_or(u64::MAX) {
-        take_one(socket, &mut repeater, &mut buffer)?;
+    for _ in 0..count {
+        match take_one(datagrams, &mut repeater, &mut buffer) {
+            Ok(()) => {}
+            Err(refusal) => return Err(refusal),
+        }
     }
     Ok(())
 }
 
 /// Takes one datagram, and sends what is due for it.
-fn take_one(
-    socket: &UdpSocket,
+fn take_one<D: Datagrams>(
+    datagrams: &mut D,
     repeater: &mut RepeaterCore,
     buffer: &mut [u8],
-) -> Result<(), Refusal> {
-    match socket.recv_from(buffer) {
+) -> Result<(), Refusal>
+    ensures { Takes D.went D.refuses D.came D.fails datagrams.old repeater.old result datagrams.new repeater.new }
+{
+    match datagrams.receive(buffer) {
         Err(_) => Err(Refusal::Device),
-        Ok((size, from)) => {
-            // A socket of IPv4 hears no other addresses.
-            if let Some(from) = address_of(from) {
-                let sends = repeater.receive(from, &buffer[..size])?;
-                send_all(socket, repeater, &sends);
+        Ok((size, from)) => match repeater.receive(from, &buffer[..size]) {
+            Err(_) => Err(Refusal::OutOfMemory),
+            Ok(sends) => {
+                send_all(datagrams, repeater, &sends);
+                Ok(())
             }
-            Ok(())
-        }
+        },
     }
 }
 
-fn send_all(socket: &UdpSocket, repeater: &mut RepeaterCore, sends: &[Outgoing]) {
+fn send_all<D: Datagrams>(datagrams: &mut D, repeater: &mut RepeaterCore, sends: &[Outgoing])
+    ensures { Sends D.went D.refuses datagrams.old repeater.old sends.now datagrams.new repeater.new }
+{
     for send in sends {
-        let to = send.to();
-        if socket
-            .send_to(send.bytes(), (Ipv4Addr::from_bits(to.ip), to.port))
-            .is_err()
-        {
-            repeater.refused(to);
-        }
+        send_one(datagrams, repeater, send);
     }
 }
 
-fn address_of(address: SocketAddr) -> Option<Address> {
-    match address.ip() {
-        IpAddr::V4(ip) => Some(Address {
-            ip: ip.to_bits(),
-            port: address.port(),
-        }),
-        IpAddr::V6(_) => None,
+fn send_one<D: Datagrams>(datagrams: &mut D, repeater: &mut RepeaterCore, send: &Outgoing)
+    ensures { SendsOne D.went D.refuses datagrams.old repeater.old send.now datagrams.new repeater.new }
+{
+    match datagrams.send(send.to(), send.bytes()) {
+        Ok(()) => {}
+        Err(_) => repeater.refused(send.to()),
     }
 }

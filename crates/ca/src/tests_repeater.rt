@@ -1,4 +1,7 @@
-use crate::{Line, RepeaterLine, read_line, repeater_run, run};
+use crate::{Datagrams, Line, RepeaterLine, read_line, repeat, repeater_run, run};
+use ca_link::Fault;
+use ca_repeat::Address;
+use ca_text::Refusal;
 use std::alloc::{AllocError, Global};
 use std::io;
 use std::net::{Ipv4Addr, Net, SocketAddr, UdpSocket};
@@ -160,5 +163,77 @@ fn a_repeater_of_no_datagrams_ends(rt: HostRuntime) -> Result<(), Fail> {
     assert_eq!(rt; status, 0);
     assert!(rt; output.is_empty());
     assert!(rt; told.is_empty());
+    Ok(())
+}
+
+/// Datagrams in memory: those that come, and whither one was tried to be sent. One address takes none.
+#[derive(Drop)]
+struct Script<'a> {
+    coming: &'a [(Address, &'a [u8])],
+    taken: usize,
+    deaf: Address,
+    tried: Vec<Address>,
+}
+
+impl<'a> Datagrams for Script<'a> {
+    ghost use Rattle.std.specs.Prelude.{⊤};
+
+    ghost came = { λ _ _ _ _. ⊤ };
+
+    ghost went = { λ _ _ _ _. ⊤ };
+
+    ghost refuses = { λ _ _ _ _. ⊤ };
+
+    ghost fails = { λ _ _. ⊤ };
+
+    fn receive(&mut self, buffer: &mut [u8]) -> Result<(usize, Address), Fault> {
+        let Some((from, bytes)) = self.coming.get(self.taken) else {
+            return Err(Fault);
+        };
+        self.taken += 1;
+        let size = bytes.len().min(buffer.len());
+        buffer[..size].copy_from_slice(&bytes[..size]);
+        Ok((size, *from))
+    }
+
+    fn send(&mut self, to: Address, _bytes: &[u8]) -> Result<(), Fault> {
+        match self.tried.push(to) {
+            Ok(()) if to != self.deaf => Ok(()),
+            _ => Err(Fault),
+        }
+    }
+}
+
+#[test]
+fn a_member_that_takes_nothing_is_dropped(rt: HostRuntime) -> Result<(), Fail> {
+    let member = Address {
+        ip: 0x7f00_0001,
+        port: 40_000,
+    };
+    let deaf = Address {
+        ip: 0x7f00_0001,
+        port: 40_001,
+    };
+    let server = Address {
+        ip: 0x0a00_0001,
+        port: 5_064,
+    };
+    let coming: [(Address, &[u8]); 4] = [
+        (member, b""),
+        (deaf, b""),
+        (server, BLANK),
+        (server, BLANK),
+    ];
+    let mut script = Script {
+        coming: coming.as_slice(),
+        taken: 0,
+        deaf,
+        tried: Vec::new(rt.alloc()),
+    };
+    assert!(rt; repeat(rt.alloc(), &mut script, 3) == Ok(()));
+    assert!(rt; script.tried.as_slice() == [member, deaf, member].as_slice());
+    // A new run knows no members, and the fifth datagram does not come.
+    assert!(rt; repeat(rt.alloc(), &mut script, 2) == Err(Refusal::Device));
+    assert_eq!(rt; script.tried.len(), 3);
     Ok(())
 }
