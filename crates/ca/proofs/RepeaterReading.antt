@@ -1,13 +1,11 @@
 -- Which words clap takes by the repeater's grammar.
-use Rattle.std.proofs.Common.{◌≡◌, true, List, [], Option, None, Some, MatchOption, refl, subst, ap, ◌∙◌, ◌⊎◌, inl, inr, codes}
-use Rattle.clap.specs.Words.{App, IsAmong, Row, Text, fault_of, first_of, is_simple, is_simple_and_free, matches_of}
-use Rattle.clap.specs.declared.error.kind.ErrorKind.{ErrorKind}
-use Rattle.clap.specs.declared.error.kind.ErrorKind.TheVariants as kind
+use Rattle.std.proofs.Common.{◌≡◌, true, List, [], Option, None, Some, refl, subst, ap, ◌∙◌, codes}
+use Rattle.clap.specs.Words.{App, Row, Text, fault_of, first_of, is_simple, is_simple_and_free, matches_of}
 use Rattle.clap.proofs.OnLiterals.{clap_on_literals}
 use Rattle.ca.specs.declared.repeater_line.RepeaterLine.{RepeaterLine}
 use Rattle.ca.specs.declared.line.Line.{Line}
 use Rattle.ca.specs.declared.line.Line.TheVariants.{Repeater}
-use Rattle.ca.specs.RepeaterWords.{Asks, AsksRepeater, Means, TellsRepeater, given, repeater_app}
+use Rattle.ca.specs.RepeaterWords.{Asks, AsksRepeater, IsAsked, IsMeant, TellsRepeater, given, repeater_app}
 
 is-simple : is_simple repeater_app ≡ true
 unfolding clap_on_literals
@@ -17,30 +15,19 @@ is-free : is_simple_and_free repeater_app ≡ true
 unfolding clap_on_literals
 is-free = refl
 
-means-asks : (words : List Text) (r : Option RepeaterLine) → fault_of repeater_app words ≡ [] → MatchOption r ((line : RepeaterLine) → Means (given (codes "port") words) (given (codes "datagrams") words) line → ⊥) (Means (given (codes "port") words) (given (codes "datagrams") words))
-    → MatchOption r ((line : RepeaterLine) → Asks words line → ⊥) (Asks words)
+means-asks : (words : List Text) (r : Option RepeaterLine) → fault_of repeater_app words ≡ [] → IsMeant (given (codes "port") words) (given (codes "datagrams") words) r → IsAsked words r
 means-asks words None fault means = λ line asks. means line asks.1
 means-asks words (Some line) fault means = (fault, means)
 
 -- what a parse that ended well says of the words
 pub taken-asks : (app : App) (words : List Text) (rows : List Row) (Q : Type 0) (r : Option RepeaterLine) (port datagrams : Option Text) → app ≡ repeater_app → (is_simple_and_free app ≡ true → fault_of app words ≡ []) → (is_simple app ≡ true → (rows ≡ matches_of app words) × Q)
-    → port ≡ first_of (codes "port") rows → datagrams ≡ first_of (codes "datagrams") rows → MatchOption r ((line : RepeaterLine) → Means port datagrams line → ⊥) (Means port datagrams) → MatchOption r ((line : RepeaterLine) → Asks words line → ⊥) (Asks words)
+    → port ≡ first_of (codes "port") rows → datagrams ≡ first_of (codes "datagrams") rows → IsMeant port datagrams r → IsAsked words r
 taken-asks app words rows Q r port datagrams is faultless met p d means =
     let fault : fault_of repeater_app words ≡ [] = subst (λ (a : App). fault_of a words ≡ []) is (faultless (ap is_simple_and_free is ∙ is-free)) in
     let rows_are : rows ≡ matches_of repeater_app words = (met (ap is_simple is ∙ is-simple)).0 ∙ ap (λ (a : App). matches_of a words) is in
     let p_is : port ≡ given (codes "port") words = p ∙ ap (λ (rs : List Row). first_of (codes "port") rs) rows_are in
     let d_is : datagrams ≡ given (codes "datagrams") words = d ∙ ap (λ (rs : List Row). first_of (codes "datagrams") rs) rows_are in
-    means-asks words r fault (subst (λ (x : Option Text). MatchOption r ((line : RepeaterLine) → Means x (given (codes "datagrams") words) line → ⊥) (Means x (given (codes "datagrams") words))) p_is (subst (λ (y : Option Text). MatchOption r ((line : RepeaterLine) → Means port y line → ⊥) (Means port y)) d_is means))
-
-among-none : (k : ErrorKind) (kinds : List ErrorKind) → kinds ≡ [] → IsAmong k kinds → ⊥
-among-none k kinds none among = subst (λ (ks : List ErrorKind). IsAmong k ks) none among
-
--- a parse that failed, and did not want for memory
-pub refused-asks : (app : App) (words : List Text) (k : ErrorKind) → app ≡ repeater_app → (is_simple_and_free app ≡ true → (k ≡ kind.OutOfMemory) ⊎ IsAmong k (fault_of app words)) → (k ≡ kind.OutOfMemory → ⊥) → (line : RepeaterLine) → Asks words line → ⊥
-refused-asks app words k is fails other line asks = elim (fails (ap is_simple_and_free is ∙ is-free)) [
-  | inl e ↦ other e
-  | inr among ↦ among-none k (fault_of app words) (ap (λ (a : App). fault_of a words) is ∙ asks.0) among
-]
+    means-asks words r fault (subst (λ (x : Option Text). IsMeant x (given (codes "datagrams") words) r) p_is (subst (λ (y : Option Text). IsMeant port y r) d_is means))
 
 -- what was read, by its case
 pub told-repeater : (words : List Text) (o : Option Line) (line : RepeaterLine) → o ≡ Some (Repeater line) → TellsRepeater words o → AsksRepeater words line
@@ -49,5 +36,5 @@ told-repeater words o line is told = subst (λ (x : Option Line). TellsRepeater 
 pub told-none : (words : List Text) (o : Option Line) → o ≡ None → TellsRepeater words o → (line : RepeaterLine) → AsksRepeater words line → ⊥
 told-none words o is told = subst (λ (x : Option Line). TellsRepeater words x) is told
 
-pub asks-one : (words : List Text) (r : Option RepeaterLine) (line : RepeaterLine) → r ≡ Some line → MatchOption r ((other : RepeaterLine) → Asks words other → ⊥) (Asks words) → Asks words line
-asks-one words r line is asks = subst (λ (x : Option RepeaterLine). MatchOption x ((other : RepeaterLine) → Asks words other → ⊥) (Asks words)) is asks
+pub asks-one : (words : List Text) (r : Option RepeaterLine) (line : RepeaterLine) → r ≡ Some line → IsAsked words r → Asks words line
+asks-one words r line is asks = subst (λ (x : Option RepeaterLine). IsAsked words x) is asks

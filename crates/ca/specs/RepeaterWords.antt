@@ -5,7 +5,7 @@ use Rattle.ca.specs.declared.repeater_line.RepeaterLine.{RepeaterLine}
 use Rattle.ca.specs.declared.line.Line.{Line}
 use Rattle.ca.specs.declared.line.Line.TheVariants.{Answer, Repeater}
 use Rattle.ca.specs.Decimal.{IsDecimal}
-use Rattle.ca.specs.Words.{has_escape}
+use Rattle.ca.specs.Words.{answer_words, has_escape}
 
 -- an option that takes one value, `--name V` or `--name=V`
 abbrev pub valued : Text → Rule
@@ -37,16 +37,30 @@ MeansCount (Some text) (Some n) = IsDecimal 64 text n
 abbrev pub Means : Option Text → Option Text → RepeaterLine → Type 0
 Means port datagrams line = MeansPort port line.port × MeansCount datagrams line.datagrams
 
+-- What was made of options of these values: the line that they mean, or nothing where they mean none.
+abbrev pub IsMeant : Option Text → Option Text → Option RepeaterLine → Type 0
+IsMeant port datagrams (Some line) = Means port datagrams line
+IsMeant port datagrams None = (line : RepeaterLine) → Means port datagrams line → ⊥
+
 -- The words behind `repeater` ask for this line: clap finds no fault in them, and their options mean it.
 abbrev pub Asks : List Text → RepeaterLine → Type 0
 Asks words line = (fault_of repeater_app words ≡ []) × Means (given (codes "port") words) (given (codes "datagrams") words) line
+
+-- What was read of the words behind `repeater`: the line that they ask for, or nothing where they ask for none.
+abbrev pub IsAsked : List Text → Option RepeaterLine → Type 0
+IsAsked words (Some line) = Asks words line
+IsAsked words None = (line : RepeaterLine) → Asks words line → ⊥
 
 -- All words ask for this line.
 abbrev pub AsksRepeater : List Text → RepeaterLine → Type 0
 AsksRepeater words line = (has_escape words ≡ false) × ((rest : List Text) × (words ≡ codes "repeater" ∷ rest) × Asks rest line)
 
--- What was read tells whether they ask for a repeater, and for which.
+-- What was read of all words tells whether they ask for a repeater, and for which.
 abbrev pub TellsRepeater : List Text → Option Line → Type 0
 TellsRepeater words (Some (Repeater line)) = AsksRepeater words line
 TellsRepeater words (Some Answer) = (line : RepeaterLine) → AsksRepeater words line → ⊥
 TellsRepeater words None = (line : RepeaterLine) → AsksRepeater words line → ⊥
+
+-- no line that is understood
+abbrev pub IsStrange : List Text → Type 0
+IsStrange words = (words ≡ answer_words → ⊥) × ((line : RepeaterLine) → AsksRepeater words line → ⊥)

@@ -1,6 +1,6 @@
 ghost use Rattle.std.specs.Prelude.{◌≡◌, ◌≤◌, map, string_bytes};
 ghost use Rattle.ca.specs.declared.repeater_line.RepeaterLine.{RepeaterLine};
-ghost use Rattle.ca.specs.RepeaterWords.{AsksRepeater};
+ghost use Rattle.ca.specs.RepeaterWords.{AsksRepeater, IsStrange};
 ghost use Rattle.ca.specs.Words.{answer_words};
 
 use crate::answer::report;
@@ -26,7 +26,7 @@ pub fn run<R: Net, I: Read + Drop, O: Write + Drop, E: Write>(
     ensures within { result ≤ 2 }
     ensures understood { map string_bytes words.now ≡ answer_words → result ≤ 1 }
     ensures repeats { (line : RepeaterLine) → AsksRepeater (map string_bytes words.now) line → result ≤ 1 }
-    ensures refused { (map string_bytes words.now ≡ answer_words → ⊥) → ((line : RepeaterLine) → AsksRepeater (map string_bytes words.now) line → ⊥) → 1 ≤ result }
+    ensures refused { IsStrange (map string_bytes words.now) → 1 ≤ result }
 {
     match read_line(alloc, words) {
         Ok(Some(Line::Answer)) => answer_console(alloc, None, input, output, err),

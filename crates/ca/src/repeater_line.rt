@@ -2,7 +2,7 @@ ghost use Rattle.std.specs.Prelude.{◌≡◌, IfErr, IfOk, ℕ, MatchOption, ma
 ghost use Rattle.ca_text.specs.declared.refusal.Refusal.TheVariants.{OutOfMemory};
 ghost use Rattle.clap.specs.Words.{app_of};
 ghost use Rattle.ca.specs.Decimal.{IsDecimal};
-ghost use Rattle.ca.specs.RepeaterWords.{Asks, Means, repeater_app};
+ghost use Rattle.ca.specs.RepeaterWords.{IsAsked, IsMeant, repeater_app};
 
 use crate::decimal::decimal;
 use ca_text::{REPEATER_PORT, Refusal};
@@ -23,7 +23,7 @@ pub(crate) fn read_repeater<'a>(
     alloc: Global,
     words: &'a [String],
 ) -> Result<Option<RepeaterLine>, Refusal>
-    ensures ok { IfOk result (λ r. MatchOption r ((line : RepeaterLine) → Asks (map string_bytes words.entry.now) line → ⊥) (Asks (map string_bytes words.entry.now))) }
+    ensures ok { IfOk result (IsAsked (map string_bytes words.entry.now)) }
     ensures err { IfErr result (λ e. e ≡ OutOfMemory) }
 {
     let command = grammar(alloc)?;
@@ -50,7 +50,7 @@ fn grammar<'a>(alloc: Global) -> Result<Command<'a>, AllocError>
 
 /// What the options' values mean: nothing where one is no number, or too great.
 fn meant(port: Option<&str>, datagrams: Option<&str>) -> Option<RepeaterLine>
-    ensures { MatchOption result ((line : RepeaterLine) → Means (option_map (λ t. t.now) port.entry) (option_map (λ t. t.now) datagrams.entry) line → ⊥) (Means (option_map (λ t. t.now) port.entry) (option_map (λ t. t.now) datagrams.entry)) }
+    ensures { IsMeant (option_map (λ t. t.now) port.entry) (option_map (λ t. t.now) datagrams.entry) result }
 {
     let port = match port {
         None => REPEATER_PORT,

@@ -5,7 +5,7 @@ use Rattle.ca.proofs.program.run.Goals as goal
 pub returns-in-Ok-Some-Repeater-clause-refused : goal.returns-in-Ok-Some-Repeater-clause-refused
 returns-in-Ok-Some-Repeater-clause-refused g c =
     let w = c.in-Ok-Some-Repeater in
-    λ other none. absurd (none w.line (told-repeater _ w.field-0 w.line (w.field-0-is ∙ ap Some w.field-0-0-is) w.ensures.repeater))
+    λ strange. absurd (strange.1 w.line (told-repeater _ w.field-0 w.line (w.field-0-is ∙ ap Some w.field-0-0-is) w.ensures.repeater))
 
 pub returns-in-Ok-None-clause-repeats : goal.returns-in-Ok-None-clause-repeats
 returns-in-Ok-None-clause-repeats g c =
