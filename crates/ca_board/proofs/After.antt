@@ -1,0 +1,121 @@
+-- What a seat is after a step.
+use Rattle.std.proofs.Common.{◌≡◌, ◌≢◌, ℕ, suc, ◌+◌, ◌*◌, ◌<◌, ◌≤◌, List, [], ◌∷◌, ◌++◌, Some, None, ◌⊎◌, inl, sym, ap, ◌∙◌, subst, ⊎_elim}
+use Rattle.std.specs.Prelude.{MatchOption}
+use Rattle.ca_board.specs.Views.{CallerView, with_take, with_give_up}
+use mathlib.Core.Option as maybe
+use Rattle.atomic_table.specs.Table.{step, rest}
+use Rattle.ca_dbr.specs.declared.value.Outcome.{Outcome}
+use Rattle.ca_board.specs.declared.steps.View.{View}
+use mathlib.Core.Option.{some}
+use Rattle.atomic_table.specs.Seated.{TableId}
+use Rattle.atomic_table.proofs.Lists.{at_snoc}
+use Rattle.ca_board.specs.declared.ticket.Ticket.{Ticket}
+use Rattle.ca_text.specs.declared.limits.TheConstants.{BOARD_CELLS}
+use Rattle.ca_board.specs.History.{IsStock, both_parts, ticket, Slot, IsOpen, grabbed, filled, returned, refused_too, took, gave_back, gave_up, Entry, Sat, core_view, core_log, caller_view, caller_log, no_caller}
+use Rattle.ca_board.specs.Seats.{BoardSeat, IsCoreSeat, IsCallerSeat, IsInside, seen_by_core, seen_by_caller}
+
+abbrev pub core_sat : List Ticket → List Entry → List Ticket → List Ticket → ℕ → List (ℕ × Slot) → Sat
+core_sat ts fs rs cs h c = (core_view (core_log ts fs rs cs h) no_caller, c)
+
+abbrev pub caller_sat : List Entry → List Ticket → ℕ → ℕ → List (ℕ × Slot) → Sat
+caller_sat tk gs h q c = (caller_view (caller_log tk gs h q), c)
+
+-- a seat's fields are right, where its view is known
+pub core_sound : (s : BoardSeat) (ts : List Ticket) (fs : List Entry) (rs cs free : List Ticket) (room : ℕ) → s.me ≡ core_sat ts fs rs cs 0 [] → IsInside ts → IsStock ts cs free → BOARD_CELLS ≤ room → IsCoreSeat s free room
+core_sound s ts fs rs cs free room m inside stock wide = record {
+  idle = m ∙ ap (λ (x : Sat). core_sat x.0.core.arms x.0.core.fills x.0.core.refused x.0.core.recycles 0 []) (sym m);
+  inside = subst (λ (x : Sat). IsInside x.0.core.arms) (sym m) inside;
+  stock = subst (λ (x : Sat). IsStock x.0.core.arms x.0.core.recycles free) (sym m) stock;
+  wide = wide;
+}
+
+pub caller_sound : (s : BoardSeat) (tk : List Entry) (gs : List Ticket) → s.me ≡ caller_sat tk gs 0 0 [] → IsCallerSeat s
+caller_sound s tk gs m = m ∙ ap (λ (x : Sat). caller_sat x.0.caller.takes x.0.caller.gives 0 0 []) (sym m)
+
+-- what a contract sees of a seat whose view is known
+pub core_seen : (s : BoardSeat) (z : TableId) (ts : List Ticket) (fs : List Entry) (rs cs : List Ticket) → s.table_id ≡ z → s.me ≡ core_sat ts fs rs cs 0 [] → seen_by_core s ≡ record { board = z; arms = ts; fills = fs; refused = rs; recycles = cs }
+core_seen s z ts fs rs cs e m i = record { board = e i; arms = (m i).0.core.arms; fills = (m i).0.core.fills; refused = (m i).0.core.refused; recycles = (m i).0.core.recycles }
+
+pub caller_seen : (s : BoardSeat) (z : TableId) (tk : List Entry) (gs : List Ticket) → s.table_id ≡ z → s.me ≡ caller_sat tk gs 0 0 [] → seen_by_caller s ≡ record { board = z; takes = tk; gives = gs }
+caller_seen s z tk gs e m i = record { board = e i; takes = (m i).0.caller.takes; gives = (m i).0.caller.gives }
+
+pub inside_snoc : (ts : List Ticket) (t : Ticket) → IsInside ts → t.cell < BOARD_CELLS → IsInside (ts ++ t ∷ [])
+inside_snoc ts t all near i x at = ⊎_elim (λ was. all i x was) (λ (is : t ≡ x). subst (λ (y : Ticket). y.cell < BOARD_CELLS) is near) (at_snoc ts t x i at)
+
+-- the core's steps
+pub armed_after : (m m' : Sat) (ts : List Ticket) (fs : List Entry) (rs cs : List Ticket) (k g : ℕ) → m ≡ core_sat ts fs rs cs 0 [] → m' ≡ (core_view (core_log (m.0.core.arms ++ ticket k g ∷ []) m.0.core.fills m.0.core.refused m.0.core.recycles 0) m.0.caller, m.1) → m' ≡ core_sat (ts ++ ticket k g ∷ []) fs rs cs 0 []
+armed_after m m' ts fs rs cs k g e e' = e' ∙ ap (λ (x : Sat). (core_view (core_log (x.0.core.arms ++ ticket k g ∷ []) x.0.core.fills x.0.core.refused x.0.core.recycles 0) x.0.caller, x.1)) e
+
+pub freed_after : (m m' : Sat) (ts : List Ticket) (fs : List Entry) (rs cs : List Ticket) (k g : ℕ) → m ≡ core_sat ts fs rs cs 0 [] → m' ≡ (core_view (core_log m.0.core.arms m.0.core.fills m.0.core.refused (m.0.core.recycles ++ ticket k g ∷ []) 0) m.0.caller, m.1) → m' ≡ core_sat ts fs rs (cs ++ ticket k g ∷ []) 0 []
+freed_after m m' ts fs rs cs k g e e' = e' ∙ ap (λ (x : Sat). (core_view (core_log x.0.core.arms x.0.core.fills x.0.core.refused (x.0.core.recycles ++ ticket k g ∷ []) 0) x.0.caller, x.1)) e
+
+-- the fill was refused at its first step
+pub missed : (n k g first second r : ℕ) (m m' : Sat) (ts : List Ticket) (fs : List Entry) (rs cs : List Ticket) → m ≡ core_sat ts fs rs cs 0 [] → grabbed (step n k first second maybe.none) m r m' → first ≡ 8 * g + 1 → r ≢ first → m' ≡ core_sat ts fs (rs ++ ticket k g ∷ []) cs 0 []
+missed n k g first second r m m' ts fs rs cs e f one miss = (f g one).1 miss ∙ ap (λ (x : Sat). (refused_too x.0 (ticket k g), x.1)) e
+
+-- the core holds the slot, and has put the outcome into it
+pub granted : (n k g first second r : ℕ) (m m1 m2 : Sat) (ts : List Ticket) (fs : List Entry) (rs cs : List Ticket) (o : Outcome) → m ≡ core_sat ts fs rs cs 0 [] → grabbed (step n k first second maybe.none) m r m1 → first ≡ 8 * g + 1 → r ≡ first → m2 ≡ (m1.0, (k, Some o) ∷ rest m1.1) → m2 ≡ core_sat ts fs rs cs (suc k) ((k, Some o) ∷ [])
+granted n k g first second r m m1 m2 ts fs rs cs o e f one hit e2 = e2 ∙ ap (λ (x : Sat). (x.0, (k, Some o) ∷ rest x.1)) ((f g one).0 hit ∙ ap (λ (x : Sat). (core_view (core_log x.0.core.arms x.0.core.fills x.0.core.refused x.0.core.recycles (suc k)) x.0.caller, (k, None) ∷ x.1)) e)
+
+-- the core has the slot of the word, empty
+pub grabbed_slot : (n k g first second r : ℕ) (m m1 : Sat) (ts : List Ticket) (fs : List Entry) (rs cs : List Ticket) → m ≡ core_sat ts fs rs cs 0 [] → grabbed (step n k first second maybe.none) m r m1 → first ≡ 8 * g + 1 → r ≡ first → m1 ≡ core_sat ts fs rs cs (suc k) ((k, None) ∷ [])
+grabbed_slot n k g first second r m m1 ts fs rs cs e f one hit = (f g one).0 hit ∙ ap (λ (x : Sat). (core_view (core_log x.0.core.arms x.0.core.fills x.0.core.refused x.0.core.recycles (suc k)) x.0.caller, (k, None) ∷ x.1)) e
+
+-- the one slot that a seat holds
+pub holds_one : (m : Sat) (k : ℕ) (v : View) (x : Slot) → m ≡ (v, (k, x) ∷ []) → m.1 ≡ (k, x) ∷ rest m.1
+holds_one m k v x e = ap (λ (y : Sat). y.1) e ∙ ap (λ (y : Sat). (k, x) ∷ rest y.1) (sym e)
+
+-- the outcome was handed over
+pub finished : (n k g first second r : ℕ) (m m' : Sat) (ts : List Ticket) (fs : List Entry) (rs cs : List Ticket) (o : Outcome) → m ≡ core_sat ts fs rs cs (suc k) ((k, Some o) ∷ []) → filled (step n k first second maybe.none) m r m' → first ≡ 8 * g + 1 → r ≡ first
+    → m' ≡ core_sat ts (fs ++ (ticket k g, o) ∷ []) rs cs 0 []
+finished n k g first second r m m' ts fs rs cs o e f one hit = (f g o one (holds_one m k _ (Some o) e)).0 hit ∙ ap (λ (x : Sat). (core_view (core_log x.0.core.arms (x.0.core.fills ++ (ticket k g, o) ∷ []) x.0.core.refused x.0.core.recycles 0) x.0.caller, rest x.1)) e
+
+-- the ticket was given up, and the core holds the slot with the outcome still
+pub outrun : (n k g first second r : ℕ) (m m' : Sat) (ts : List Ticket) (fs : List Entry) (rs cs : List Ticket) (o : Outcome) → m ≡ core_sat ts fs rs cs (suc k) ((k, Some o) ∷ []) → filled (step n k first second maybe.none) m r m' → first ≡ 8 * g + 1 → r ≢ first
+    → m' ≡ core_sat ts fs (rs ++ ticket k g ∷ []) cs (suc k) ((k, Some o) ∷ [])
+outrun n k g first second r m m' ts fs rs cs o e f one miss = (f g o one (holds_one m k _ (Some o) e)).1 miss ∙ ap (λ (x : Sat). (refused_too x.0 (ticket k g), x.1)) e
+
+-- the slot is empty and at home again
+pub put_home : (n k r : ℕ) (m m' : Sat) (ts : List Ticket) (fs : List Entry) (rs cs : List Ticket) → m ≡ core_sat ts fs rs cs (suc k) ((k, None) ∷ []) → returned (step n k 0 0 maybe.none) m r m' → m' ≡ core_sat ts fs rs cs 0 []
+put_home n k r m m' ts fs rs cs e f = f ∙ ap (λ (x : Sat). (core_view (core_log x.0.core.arms x.0.core.fills x.0.core.refused x.0.core.recycles 0) x.0.caller, rest x.1)) e
+
+-- a caller's steps
+abbrev pub Taken : ℕ → ℕ → List Entry → List Ticket → Sat → Type 0
+Taken k g tk gs m = (o : Outcome) × IsOpen tk gs (ticket k g) × (m ≡ caller_sat (tk ++ (ticket k g, o) ∷ []) gs (suc k) g ((k, Some o) ∷ []))
+
+pub taken : (n k g first second r : ℕ) (m m' : Sat) (tk : List Entry) (gs : List Ticket) → m ≡ caller_sat tk gs 0 0 [] → took (step n k first second maybe.none) m r m' → first ≡ 8 * g + 2 → r ≡ first → Taken k g tk gs m'
+taken n k g first second r m m' tk gs e f one hit = let t = (f g one).0 hit in
+    (t.0, subst (λ (x : Sat). IsOpen x.0.caller.takes x.0.caller.gives (ticket k g)) e t.1, t.2 ∙ ap (λ (x : Sat). (caller_view (caller_log (x.0.caller.takes ++ (ticket k g, t.0) ∷ []) x.0.caller.gives (suc k) g), (k, Some t.0) ∷ x.1)) e)
+
+pub emptied : (k : ℕ) (m m' : Sat) (v : View) (x : Slot) → m ≡ (v, (k, x) ∷ []) → m' ≡ (m.0, (k, None) ∷ rest m.1) → m' ≡ (v, (k, None) ∷ [])
+emptied k m m' v x e e' = e' ∙ ap (λ (y : Sat). (y.0, (k, None) ∷ rest y.1)) e
+
+pub given : (n k new r q : ℕ) (m m' : Sat) (tk : List Entry) (gs : List Ticket) → m ≡ caller_sat tk gs (suc k) q ((k, None) ∷ []) → gave_back (step n k new 0 maybe.none) m r m' → m' ≡ caller_sat tk gs 0 0 []
+given n k new r q m m' tk gs e f = f ∙ ap (λ (x : Sat). (caller_view (caller_log x.0.caller.takes x.0.caller.gives 0 0), rest x.1)) e
+
+pub ended : (n k g first second r : ℕ) (m m' : Sat) (tk : List Entry) (gs : List Ticket) → m ≡ caller_sat tk gs 0 0 [] → gave_up (step n k first second maybe.none) m r m' → first ≡ 8 * g + 1 → r ≡ first → IsOpen tk gs (ticket k g) × (m' ≡ caller_sat tk (gs ++ ticket k g ∷ []) 0 0 [])
+ended n k g first second r m m' tk gs e f one hit = let t = (f g one).0 hit in
+    (subst (λ (x : Sat). IsOpen x.0.caller.takes x.0.caller.gives (ticket k g)) e t.0, t.1 ∙ ap (λ (x : Sat). (caller_view (caller_log x.0.caller.takes (x.0.caller.gives ++ ticket k g ∷ []) 0 0), x.1)) e)
+
+abbrev head_or : List (ℕ × Slot) → Slot
+head_or [] = None
+head_or (x ∷ xs) = x.1
+
+-- what was in the slot
+pub found_there : (k : ℕ) (m : Sat) (v : View) (x y : Slot) (l : List (ℕ × Slot)) → m ≡ (v, (k, x) ∷ []) → m.1 ≡ (k, y) ∷ l → y ≡ x
+found_there k m v x y l e f = ap head_or (sym f) ∙ ap (λ (z : Sat). head_or z.1) e
+
+-- the core's seat with a caller's view
+pub together : (m n m' : Sat) (ts : List Ticket) (fs tk : List Entry) (gs rs cs : List Ticket) → m ≡ core_sat ts fs rs cs 0 [] → n ≡ caller_sat tk gs 0 0 [] → m' ≡ (both_parts m.0 n.0, m.1) → m' ≡ (core_view (core_log ts fs rs cs 0) (caller_log tk gs 0 0), [])
+together m n m' ts fs tk gs rs cs e f g = g ∙ (λ i. (both_parts (e i).0 (f i).0, (e i).1))
+
+-- what a give-up says where its ticket did not wait, and it collected
+abbrev pub Gives : CallerView → Ticket → Slot → CallerView → Type 0
+Gives old t r new = MatchOption r ((new ≡ old) ⊎ ((new ≡ with_give_up old t) × IsOpen old.takes old.gives t)) (λ o. (new ≡ with_take old t o) × IsOpen old.takes old.gives t)
+
+or_collected : (old : CallerView) (t : Ticket) (r : Slot) (new : CallerView) → MatchOption r (new ≡ old) (λ o. (new ≡ with_take old t o) × IsOpen old.takes old.gives t) → Gives old t r new
+or_collected old t None new m = inl m
+or_collected old t (Some o) new m = m
+
+pub collected_instead : (old v new : CallerView) (t : Ticket) (r : Slot) → v ≡ old → MatchOption r (new ≡ v) (λ o. (new ≡ with_take v t o) × IsOpen v.takes v.gives t) → Gives old t r new
+collected_instead old v new t r e m = or_collected old t r new (subst (λ (x : CallerView). MatchOption r (new ≡ x) (λ o. (new ≡ with_take x t o) × IsOpen x.takes x.gives t)) e m)

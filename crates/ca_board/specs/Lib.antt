@@ -1,0 +1,4 @@
+pub mod History
+pub mod Views
+pub mod Seats
+pub mod Outstanding

@@ -1,0 +1,91 @@
+-- The seats of a board, as its calls speak of them: which board, and what was done with the seat.
+use Rattle.std.specs.Prelude.{◌≡◌, ◌⊎◌, ◌<◌, ℕ, ◌++◌, List, [], ◌∷◌, Option, Result, MatchOption, MatchResult}
+use Rattle.atomic_table.specs.Seated.{TableId}
+use Rattle.ca_text.specs.declared.limits.TheConstants.{BOARD_CELLS}
+use Rattle.ca_text.specs.declared.refusal.Refusal.{Refusal}
+use Rattle.ca_text.specs.declared.refusal.Refusal.TheVariants.{NoCell}
+use Rattle.ca_board.specs.History.{ticket, Has, IsUnfilled, IsOpen, InUse, IsNext, Frees}
+use Rattle.ca_board.specs.declared.ticket.Ticket.{Ticket}
+use Rattle.ca_board.specs.declared.ticket.Filled.{Filled}
+use Rattle.ca_board.specs.declared.ticket.Filled.TheVariants.{Stored, GivenUp}
+use Rattle.ca_dbr.specs.declared.value.Outcome.{Outcome}
+
+-- The core's seat: the tickets that it armed, its fills with their outcomes, the tickets whose fill came after a
+-- give-up, and the tickets whose cell it freed after them
+pub record CoreView : Type 0 where
+  pub board : TableId
+  pub arms : List Ticket
+  pub fills : List (Ticket × Outcome)
+  pub refused : List Ticket
+  pub recycles : List Ticket
+
+-- A caller's seat: the outcomes that it collected, each with its ticket, and the tickets that it gave up
+pub record CallerView : Type 0 where
+  pub board : TableId
+  pub takes : List (Ticket × Outcome)
+  pub gives : List Ticket
+
+-- nothing was done with the seat yet
+abbrev pub core_start : TableId → CoreView
+core_start z = record { board = z; arms = []; fills = []; refused = []; recycles = [] }
+
+abbrev pub caller_start : TableId → CallerView
+caller_start z = record { board = z; takes = []; gives = [] }
+
+-- one thing more was done with the seat
+abbrev pub with_arm : CoreView → Ticket → CoreView
+with_arm v t =
+    record { board = v.board; arms = v.arms ++ t ∷ []; fills = v.fills; refused = v.refused; recycles = v.recycles }
+
+abbrev pub with_fill : CoreView → Ticket → Outcome → CoreView
+with_fill v t o =
+    record { board = v.board; arms = v.arms; fills = v.fills ++ (t, o) ∷ []; refused = v.refused; recycles = v.recycles }
+
+abbrev pub with_refusal : CoreView → Ticket → CoreView
+with_refusal v t =
+    record { board = v.board; arms = v.arms; fills = v.fills; refused = v.refused ++ t ∷ []; recycles = v.recycles }
+
+abbrev pub with_recycle : CoreView → Ticket → CoreView
+with_recycle v t =
+    record { board = v.board; arms = v.arms; fills = v.fills; refused = v.refused; recycles = v.recycles ++ t ∷ [] }
+
+abbrev pub with_take : CallerView → Ticket → Outcome → CallerView
+with_take v t o = record { board = v.board; takes = v.takes ++ (t, o) ∷ []; gives = v.gives }
+
+abbrev pub with_give_up : CallerView → Ticket → CallerView
+with_give_up v t = record { board = v.board; takes = v.takes; gives = v.gives ++ t ∷ [] }
+
+-- the ticket was armed, and is to be filled
+abbrev pub IsDue : CoreView → Ticket → Type 0
+IsDue v t = Has v.arms t × IsUnfilled v.fills t × ¬ (Has v.refused t)
+
+-- What an arm answers: the next ticket of a cell that is free, which is then to be filled; or refusal 24, where each
+-- cell is in use
+abbrev pub HasArmed : CoreView → Result Ticket Refusal → CoreView → Type 0
+HasArmed old result new = MatchResult result
+    (λ t. (new ≡ with_arm old t) × IsNext old.arms old.recycles t.cell t.generation × IsDue new t)
+    (λ e. (e ≡ NoCell) × (new ≡ old) × ((k : ℕ) → k < BOARD_CELLS → InUse old.arms old.recycles k))
+
+-- What a fill of the ticket answers: it was stored; or the ticket was given up, and the same outcome comes back
+abbrev pub HasFilled : CoreView → Ticket → Outcome → Filled → CoreView → Type 0
+HasFilled old t o Stored new = new ≡ with_fill old t o
+HasFilled old t o (GivenUp back) new = (back ≡ o) × (new ≡ with_refusal old t)
+
+-- the ticket is none that this seat has taken or given up
+abbrev pub IsOwnOpen : CallerView → Ticket → Type 0
+IsOwnOpen v t = IsOpen v.takes v.gives t
+
+-- What a collection answers: an outcome, once for a ticket; or none, and nothing was done
+abbrev pub HasCollected : CallerView → Ticket → Option Outcome → CallerView → Type 0
+HasCollected old t result new = MatchOption result (new ≡ old) (λ o. (new ≡ with_take old t o) × IsOwnOpen old t)
+
+-- What a give-up answers: the outcome that was there, and that is a take; or none, and the ticket was given up, or
+-- nothing was done
+abbrev pub HasGivenUp : CallerView → Ticket → Option Outcome → CallerView → Type 0
+HasGivenUp old t result new = MatchOption result
+    ((new ≡ old) ⊎ ((new ≡ with_give_up old t) × IsOwnOpen old t))
+    (λ o. (new ≡ with_take old t o) × IsOwnOpen old t)
+
+-- What a recycle of the cell did where it answers true: the cell is free for its next generation
+abbrev pub HasRecycled : CoreView → ℕ → CoreView → Type 0
+HasRecycled old k new = (g : ℕ) × Frees old.arms old.recycles k g × (new ≡ with_recycle old (ticket k g))

@@ -1,0 +1,190 @@
+ghost use Rattle.std.specs.Prelude.{◌≡◌, ◌≤◌, [], IfOk, IfErr, IsTrue, IsFalse};
+ghost use Rattle.std.specs.Vec.{vec_capacity};
+ghost use Rattle.ca_text.specs.declared.limits.TheConstants.{BOARD_CELLS};
+ghost use Rattle.ca_text.specs.declared.refusal.Refusal.TheVariants.{OutOfMemory};
+ghost use Rattle.ca_board.specs.History.{IsStock};
+ghost use Rattle.ca_board.specs.Views.{core_start, caller_start, with_give_up, IsDue, IsOwnOpen};
+ghost use Rattle.ca_board.specs.Views.{HasArmed, HasCollected, HasFilled, HasGivenUp, HasRecycled};
+
+use crate::seats::{CallerSeat, CoreSeat};
+use crate::steps::{
+    Arms, Cells, GivesUp, Grabs, HandsBack, Newcomer, Puts, Recycles, Returns, Takes,
+};
+use crate::ticket::{Filled, Ticket};
+use ca_dbr::Outcome;
+use ca_text::{BOARD_CELLS, Refusal};
+use std::alloc::{AllocError, Global};
+use std::marker::Model;
+
+/// The cells in which outcomes are handed over. Contracts see it as which board it is.
+#[derive(Drop)]
+pub struct Board {
+    pub(crate) cells: Cells,
+}
+
+impl Model for Board {
+    ghost use Rattle.atomic_table.specs.Seated.{TableId, table_id_coded};
+    ghost use Rattle.ca_board.specs.Seats.{IsBoard};
+
+    ghost Value = { TableId };
+
+    ghost coded = { table_id_coded };
+
+    ghost view = { λ b. b.cells.shared.table_id };
+
+    ghost invariant = { λ b. IsBoard b.cells.shared.table_id };
+}
+
+impl Board {
+    /// A board with every cell free, and the seat of its core. Refused by 1.
+    pub fn new(alloc: Global) -> Result<(Board, CoreSeat), Refusal>
+        ensures ok { IfOk result (λ r. r.1 ≡ core_start r.0) }
+        ensures err { IfErr result (λ e. e ≡ OutOfMemory) }
+    {
+        let free = first_tickets(alloc)?;
+        let (cells, seat) = Cells::vacant(alloc, &[0; BOARD_CELLS], BOARD_CELLS, &())?;
+        Ok((Board { cells }, CoreSeat { seat, free }))
+    }
+
+    /// A new caller's seat, for any thread.
+    pub fn caller(&self, core: &mut CoreSeat) -> CallerSeat
+        requires { core.old.board ≡ self.now }
+        ensures core { core.new ≡ core.old }
+        ensures new { result ≡ caller_start self.now }
+    {
+        let seat = self.cells.shared.split_seat::<Newcomer>(&mut core.seat);
+        CallerSeat { seat }
+    }
+
+    /// A ticket that was never armed, for a cell that is free. Refused by 24 where every cell is in use: armed and not
+    /// recycled since. A cell at its last generation is never recycled.
+    pub fn arm(&self, core: &mut CoreSeat) -> Result<Ticket, Refusal>
+        requires { core.old.board ≡ self.now }
+        ensures { HasArmed core.old result core.new }
+    {
+        let Some(ticket) = core.free.pop() else {
+            return Err(Refusal::NoCell);
+        };
+        let waiting = u64::from(ticket.generation) * 8 + 1;
+        self.cells
+            .shared
+            .store::<Arms>(&mut core.seat, ticket.cell, waiting);
+        Ok(ticket)
+    }
+
+    /// Hands over the outcome of a ticket that was armed and not filled yet, or gives it back where the ticket was given
+    /// up, also after its cell was recycled.
+    pub fn fill(&self, core: &mut CoreSeat, ticket: Ticket, outcome: Outcome) -> Filled
+        requires board { core.old.board ≡ self.now }
+        requires due { IsDue core.old ticket }
+        ensures { HasFilled core.old ticket outcome result core.new }
+    {
+        let words = &self.cells.shared;
+        let cell = ticket.cell;
+        let waiting = u64::from(ticket.generation) * 8 + 1;
+        if words.compare_exchange::<Grabs>(&mut core.seat, cell, waiting, waiting) != waiting {
+            return Filled::GivenUp(outcome);
+        }
+        match words.exchange(&mut core.seat, cell, Some(outcome)) {
+            None => {}
+            Some(_) => unreachable!(),
+        }
+        if words.compare_exchange::<Puts>(&mut core.seat, cell, waiting, waiting + 1) == waiting {
+            return Filled::Stored;
+        }
+        let outcome = words.exchange(&mut core.seat, cell, None);
+        words.load::<Returns>(&mut core.seat, cell);
+        Filled::GivenUp(outcome.unwrap())
+    }
+
+    /// The outcome of a ticket, if it is there. One holder of a ticket gets it, once.
+    pub fn collect(&self, caller: &mut CallerSeat, ticket: Ticket) -> Option<Outcome>
+        requires { caller.old.board ≡ self.now }
+        ensures { HasCollected caller.old ticket result caller.new }
+    {
+        let words = &self.cells.shared;
+        let cell = ticket.cell;
+        if cell >= BOARD_CELLS {
+            return None;
+        }
+        let done = u64::from(ticket.generation) * 8 + 2;
+        if words.compare_exchange::<Takes>(&mut caller.seat, cell, done, done + 1) != done {
+            return None;
+        }
+        let outcome = words.exchange(&mut caller.seat, cell, None);
+        words.store::<HandsBack>(&mut caller.seat, cell, done + 2);
+        Some(outcome.unwrap())
+    }
+
+    /// Ends a ticket: none, and a later fill of it is given back; or the outcome that was there already, which is then
+    /// taken. On a ticket that was ended it does nothing.
+    pub fn give_up(&self, caller: &mut CallerSeat, ticket: Ticket) -> Option<Outcome>
+        requires { caller.old.board ≡ self.now }
+        ensures { HasGivenUp caller.old ticket result caller.new }
+    {
+        if self.end_wait(caller, ticket) {
+            return None;
+        }
+        self.collect(caller, ticket)
+    }
+
+    // Gives a ticket up if it still waits, and says whether it did.
+    fn end_wait(&self, caller: &mut CallerSeat, ticket: Ticket) -> bool
+        requires { caller.old.board ≡ self.now }
+        ensures ended { IsTrue result → (caller.new ≡ with_give_up caller.old ticket) × IsOwnOpen caller.old ticket }
+        ensures kept { IsFalse result → caller.new ≡ caller.old }
+    {
+        if ticket.cell >= BOARD_CELLS {
+            return false;
+        }
+        let words = &self.cells.shared;
+        let waiting = u64::from(ticket.generation) * 8 + 1;
+        let seat = &mut caller.seat;
+        let word = words.compare_exchange::<GivesUp>(seat, ticket.cell, waiting, waiting + 4);
+        if word != waiting {
+            return false;
+        }
+        true
+    }
+
+    /// Frees a cell whose outcome was taken, or whose ticket was given up, and says whether it did. At its last generation
+    /// a cell stays in use.
+    pub fn recycle(&self, core: &mut CoreSeat, cell: usize) -> bool
+        requires { core.old.board ≡ self.now }
+        ensures freed { IsTrue result → HasRecycled core.old cell core.new }
+        ensures kept { IsFalse result → core.new ≡ core.old }
+    {
+        let words = &self.cells.shared;
+        if cell >= BOARD_CELLS {
+            return false;
+        }
+        let word = words.peek(cell);
+        let generation = word / 8;
+        if word % 8 < 4 || word % 8 > 5 || generation >= 4_294_967_295 {
+            return false;
+        }
+        let next = generation * 8 + 8;
+        if words.compare_exchange::<Recycles>(&mut core.seat, cell, word, next) != word {
+            return false;
+        }
+        core.free.push_reserved(Ticket {
+            cell,
+            generation: generation as u32 + 1,
+        });
+        true
+    }
+}
+
+// The first ticket of each cell.
+fn first_tickets(alloc: Global) -> Result<Vec<Ticket>, AllocError>
+    ensures { IfOk result (λ v. IsStock [] [] v.items × (BOARD_CELLS ≤ vec_capacity v)) }
+{
+    let mut free = Vec::with_capacity(alloc, BOARD_CELLS)?;
+    for cell in 0..BOARD_CELLS {
+        free.push_reserved(Ticket {
+            cell,
+            generation: 0,
+        });
+    }
+    Ok(free)
+}

@@ -1,0 +1,3 @@
+mod racing;
+mod rounds;
+mod tickets;
