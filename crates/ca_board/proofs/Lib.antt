@@ -7,3 +7,4 @@ pub mod Meeting
 pub mod Start
 pub mod After
 pub mod Outstanding
+pub mod Seated

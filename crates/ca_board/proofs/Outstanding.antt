@@ -33,11 +33,6 @@ due_filled old new t u o Stored f d apart = subst (λ (v : CoreView). IsDue v u)
 due_filled old new t u o (GivenUp back) f d apart = subst (λ (v : CoreView). IsDue v u) (sym f.1)
     (d.0, d.1, λ h. ⊎_elim (λ was. d.2 (h.0, was)) (λ (is : t ≡ u). absurd (apart is)) (at_snoc old.refused t u h.0 h.1))
 
--- a fill leaves the seat at its board
-pub filled_board : (old new : CoreView) (t : Ticket) (o : Outcome) (r : Filled) → HasFilled old t o r new → new.board ≡ old.board
-filled_board old new t o Stored f = ap (λ (v : CoreView). v.board) f
-filled_board old new t o (GivenUp back) f = ap (λ (v : CoreView). v.board) f.1
-
 -- a ticket stays due where a cell is recycled
 pub due_recycled : (old new : CoreView) (t u : Ticket) → new ≡ with_recycle old t → IsDue old u → IsDue new u
 due_recycled old new t u e d = subst (λ (v : CoreView). IsDue v u) (sym e) d

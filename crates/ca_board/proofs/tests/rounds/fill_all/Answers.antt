@@ -1,6 +1,7 @@
 use Rattle.std.proofs.Common.{arith, ap, ◌∙◌}
 use mathlib.Core.Option.{some}
-use Rattle.ca_board.proofs.Outstanding.{due_filled, filled_board, at_slice}
+use Rattle.ca_board.proofs.Outstanding.{due_filled, at_slice}
+use Rattle.ca_board.proofs.Seated.{filled_board}
 use Rattle.ca_board.proofs.tests.rounds.fill_all.Goals as goal
 
 pub loop-place-init : goal.loop-place-init
