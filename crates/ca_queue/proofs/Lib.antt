@@ -1,0 +1,6 @@
+mod Counts
+mod Crowds
+mod Entries
+mod Keys
+mod Laid
+mod Soundness

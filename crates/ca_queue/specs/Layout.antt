@@ -1,0 +1,40 @@
+-- What the fields of an event queue stand for. No clause of a caller needs it.
+use Rattle.std.specs.Prelude.{ℕ, ◌≡◌, ◌≤◌, ◌<◌, Bool, if◌then◌else◌, List, [], ◌∷◌, length, map}
+use Rattle.ca_text.specs.declared.limits.TheConstants.{QUEUE_PLACES, QUEUE_SUBSCRIPTIONS}
+use Rattle.ca_queue.specs.declared.entry.SubKey.{SubKey}
+use Rattle.ca_queue.specs.declared.event_queue.Subscription.{Subscription}
+use Rattle.ca_queue.specs.Keys.{same}
+use Rattle.ca_queue.specs.Waiting.{count_of}
+use Rattle.ca_queue.specs.Queue.{Queue}
+use Rattle.ca_queue.specs.Sound.{IsSound}
+
+-- the subscriptions of these counts
+abbrev pub keys_of : List Subscription → List SubKey
+keys_of subscriptions = map (λ s. s.key) subscriptions
+
+-- the count that stands with a subscription, or 0 where it does not stand here
+abbrev pub count_at : SubKey → List Subscription → ℕ
+count_at key [] = 0
+count_at key (s ∷ rest) = if same key s.key then s.waiting else count_at key rest
+
+-- another count with this subscription
+abbrev pub recounted : SubKey → ℕ → Subscription → Subscription
+recounted key count s = if same key s.key then record { key = s.key; waiting = count } else s
+
+-- there is room for all entries and subscriptions that come
+abbrev pub HasRoom : List Subscription → ℕ → ℕ → Type 0
+HasRoom subscriptions places room = 0 < length subscriptions → (QUEUE_PLACES ≤ places) × (QUEUE_SUBSCRIPTIONS ≤ room)
+
+module _ {E : Type 0} where
+  abbrev pub queue_of : List (SubKey × E) → List Subscription → Bool → Queue E
+  queue_of entries subscriptions on = record { waiting = entries; subscriptions = keys_of subscriptions; events_on = on }
+
+  -- each subscription with the number of its entries
+  abbrev pub counts : List SubKey → List (SubKey × E) → List Subscription
+  counts keys entries = map (λ key. record { key = key; waiting = count_of key entries }) keys
+
+  -- the fields stand for something sound, the counts are right, and what comes finds room
+  pub record IsLaidOut (entries : List (SubKey × E)) (subscriptions : List Subscription) (on : Bool) (places room : ℕ) : Type 0 where
+    pub sound : IsSound (queue_of entries subscriptions on)
+    pub counted : subscriptions ≡ counts (keys_of subscriptions) entries
+    pub roomy : HasRoom subscriptions places room

@@ -1,0 +1,5 @@
+pub mod Keys
+pub mod Waiting
+pub mod Queue
+pub mod Sound
+pub mod Layout

@@ -1,0 +1,169 @@
+ghost use Rattle.std.specs.Prelude.{◌≡◌, ◌<◌, ◌≤◌, ◌++◌, ◌∷◌, [], IsTrue, OnOk, OnErr, length, map, filter, not, vec_capacity, nat_lt, nat_le, ◌-◌, ◌&&◌, ◌||◌};
+ghost use Rattle.std.specs.VecDeque.{deque_capacity};
+ghost use Rattle.std.specs.List.{list_any};
+ghost use Rattle.ca_text.specs.declared.limits.TheConstants.{QUEUE_LOW_PLACES, QUEUE_PLACES, QUEUE_SUBSCRIPTIONS};
+ghost use Rattle.ca_queue.specs.Keys.{same};
+ghost use Rattle.ca_queue.specs.Layout.{HasRoom, count_at, recounted};
+
+use crate::entry::{Entry, SubKey, is_same};
+use crate::places::{drop_entries, replace_last};
+use crate::queues::Queues;
+use ca_text::{QUEUE_LOW_PLACES, QUEUE_PLACES, QUEUE_SUBSCRIPTIONS, Refusal};
+use std::alloc::{AllocError, Global};
+use std::collections::VecDeque;
+use std::marker::Model;
+
+/// An event queue as a plain list.
+///
+/// A post that replaces looks for its subscription's last entry from the back; a take looks at no entry but the front.
+#[derive(Drop)]
+pub struct EventQueue {
+    entries: VecDeque<(SubKey, Entry)>,
+    subscriptions: Vec<Subscription>,
+    events_on: bool,
+}
+
+// A subscription, and how many entries it has.
+#[derive(Clone, Copy, Drop)]
+struct Subscription {
+    key: SubKey,
+    waiting: usize,
+}
+
+impl Model for EventQueue {
+    ghost use Rattle.std.specs.Vec.{vec_capacity};
+    ghost use Rattle.std.specs.VecDeque.{deque_capacity};
+    ghost use Rattle.ca_queue.specs.Queue.{Queue};
+    ghost use Rattle.ca_queue.specs.declared.entry.Entry.{Entry};
+
+    ghost Value = { Queue Entry };
+
+    ghost use Rattle.ca_queue.specs.Layout.{queue_of, IsLaidOut};
+
+    ghost view = { λ q. queue_of q.entries.items q.subscriptions.items q.events_on };
+
+    ghost invariant = { λ q. IsLaidOut q.entries.items q.subscriptions.items q.events_on (deque_capacity q.entries) (vec_capacity q.subscriptions) };
+}
+
+impl Queues for EventQueue {
+    ghost contents = { λ q. q };
+
+    fn new(alloc: Global) -> Self {
+        EventQueue {
+            entries: VecDeque::new(alloc),
+            subscriptions: Vec::new(alloc),
+            events_on: true,
+        }
+    }
+
+    fn add(&mut self, key: SubKey) -> Result<(), Refusal> {
+        if self.subscriptions.len() == QUEUE_SUBSCRIPTIONS {
+            return Err(Refusal::TooManySubscriptions);
+        }
+        make_room(&mut self.entries, &mut self.subscriptions)?;
+        self.subscriptions
+            .push_reserved(Subscription { key, waiting: 0 });
+        Ok(())
+    }
+
+    fn post(&mut self, key: SubKey, entry: Entry) {
+        let count = waiting_of(&self.subscriptions, key);
+        if is_replacing(count, self.entries.len(), self.events_on) {
+            replace_last(&mut self.entries, key, entry);
+            return;
+        }
+        self.entries.push_back_reserved((key, entry));
+        recount(&mut self.subscriptions, key, count + 1);
+    }
+
+    fn take(&mut self) -> Option<(SubKey, Entry)> {
+        if !may_take(&self.subscriptions, self.events_on) {
+            return None;
+        }
+        let (key, entry) = self.entries.pop_front()?;
+        let count = waiting_of(&self.subscriptions, key);
+        recount(&mut self.subscriptions, key, count - 1);
+        Some((key, entry))
+    }
+
+    fn cancel(&mut self, key: SubKey) {
+        drop_entries(&mut self.entries, key);
+        forget(&mut self.subscriptions, key);
+    }
+
+    fn set_events(&mut self, on: bool) {
+        self.events_on = on;
+    }
+}
+
+// Makes the room for all entries and subscriptions that come, unless it was made.
+fn make_room(
+    entries: &mut VecDeque<(SubKey, Entry)>,
+    subscriptions: &mut Vec<Subscription>,
+) -> Result<(), AllocError>
+    requires fits { length entries.old.items ≤ QUEUE_PLACES }
+    requires few { length subscriptions.old.items < QUEUE_SUBSCRIPTIONS }
+    requires roomy { HasRoom subscriptions.old.items (deque_capacity entries.old) (vec_capacity subscriptions.old) }
+    ensures entries { entries.new.items ≡ entries.old.items }
+    ensures subscriptions { subscriptions.new.items ≡ subscriptions.old.items }
+    ensures places { OnOk result (QUEUE_PLACES ≤ deque_capacity entries.new) }
+    ensures room { OnOk result (QUEUE_SUBSCRIPTIONS ≤ vec_capacity subscriptions.new) }
+    ensures refused { OnErr result (subscriptions.old.items ≡ []) }
+{
+    entries.reserve(QUEUE_PLACES - entries.len())?;
+    subscriptions.reserve(QUEUE_SUBSCRIPTIONS - subscriptions.len())?;
+    Ok(())
+}
+
+// How many entries this subscription has.
+fn waiting_of(subscriptions: &[Subscription], key: SubKey) -> usize
+    ensures { result ≡ count_at key subscriptions.now }
+{
+    for s in subscriptions {
+        if is_same(key, s.key) {
+            return s.waiting;
+        }
+    }
+    0
+}
+
+// Writes how many entries this subscription has.
+fn recount(subscriptions: &mut [Subscription], key: SubKey, count: usize)
+    ensures { subscriptions.new ≡ map (recounted key count) subscriptions.old }
+{
+    for s in subscriptions.iter_mut() {
+        if is_same(key, s.key) {
+            s.waiting = count;
+        }
+    }
+}
+
+// Whether some subscription has two entries or more.
+fn is_crowded(subscriptions: &[Subscription]) -> bool
+    ensures { result ≡ list_any (λ s. nat_lt 1 s.waiting) subscriptions.now }
+{
+    subscriptions.iter().any(|s| s.waiting > 1)
+}
+
+// Whether an entry may be taken: with events off, only while some subscription has two entries or more.
+fn may_take(subscriptions: &[Subscription], events_on: bool) -> bool
+    ensures { result ≡ (events_on || list_any (λ s. nat_lt 1 s.waiting) subscriptions.now) }
+{
+    events_on || is_crowded(subscriptions)
+}
+
+// Whether a post takes the place of its subscription's last entry: it has so many, of so many that wait.
+fn is_replacing(count: usize, length: usize, events_on: bool) -> bool
+    requires { length ≤ QUEUE_PLACES }
+    ensures { result ≡ (nat_lt 0 count && (nat_le (QUEUE_PLACES - length) QUEUE_LOW_PLACES || not events_on)) }
+{
+    count > 0 && (QUEUE_PLACES - length <= QUEUE_LOW_PLACES || !events_on)
+}
+
+// Takes this subscription out.
+fn forget(subscriptions: &mut Vec<Subscription>, key: SubKey)
+    ensures items { subscriptions.new.items ≡ filter (λ s. not (same key s.key)) subscriptions.old.items }
+    ensures capacity { vec_capacity subscriptions.new ≡ vec_capacity subscriptions.old }
+{
+    subscriptions.retain(|s| !is_same(key, s.key));
+}

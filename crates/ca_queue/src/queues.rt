@@ -1,0 +1,59 @@
+ghost use Rattle.std.specs.Prelude.{◌≡◌, IsTrue, IsFalse};
+ghost use Rattle.ca_queue.specs.Keys.{is_among};
+ghost use Rattle.ca_queue.specs.Waiting.{taken};
+ghost use Rattle.ca_queue.specs.Queue.{Queue, Adds, no_queue, posted, with_front_taken, cancelled, switched};
+ghost use Rattle.ca_queue.specs.Sound.{IsSound};
+ghost use Rattle.ca_queue.specs.declared.entry.Entry.{Entry as Update};
+
+use crate::entry::{Entry, SubKey};
+use ca_text::Refusal;
+use std::alloc::Global;
+
+/// An event queue, however it is kept.
+///
+/// `add` makes the room for all entries that come, so the other calls take no memory.
+pub trait Queues {
+    /// What it is: the entries that wait, the subscriptions, and whether events are on.
+    ghost contents: { Self → Queue Update };
+
+    /// A queue with no subscription, with events on. It takes no memory yet.
+    fn new(alloc: Global) -> Self
+        ensures made { contents result ≡ no_queue }
+        ensures sound { IsSound (contents result) };
+
+    /// Adds a subscription that it does not have.
+    ///
+    /// Refused as `TooManySubscriptions` where it has 36, and as `OutOfMemory` only where it has none. A refusal changes
+    /// nothing.
+    fn add(&mut self, key: SubKey) -> Result<(), Refusal>
+        requires { IsFalse (is_among key (contents self.old).subscriptions) }
+        ensures adds { Adds (contents self.old) key result (contents self.new) }
+        ensures sound { IsSound (contents self.new) };
+
+    /// Puts an entry of a subscription that was added.
+    ///
+    /// It takes the place of the subscription's last entry where there is one and either 36 places or fewer are free or
+    /// events are off; else it goes to the back.
+    fn post(&mut self, key: SubKey, entry: Entry)
+        requires { IsTrue (is_among key (contents self.old).subscriptions) }
+        ensures posts { contents self.new ≡ posted key entry (contents self.old) }
+        ensures sound { IsSound (contents self.new) };
+
+    /// Takes the entry at the front out.
+    ///
+    /// With events off it gives something only while some subscription has two entries or more.
+    fn take(&mut self) -> Option<(SubKey, Entry)>
+        ensures gives { result ≡ taken (contents self.old).events_on (contents self.old).waiting }
+        ensures leaves { contents self.new ≡ with_front_taken (contents self.old) }
+        ensures sound { IsSound (contents self.new) };
+
+    /// Takes out this subscription and all its entries. The other entries keep their order.
+    fn cancel(&mut self, key: SubKey)
+        ensures cancels { contents self.new ≡ cancelled key (contents self.old) }
+        ensures sound { IsSound (contents self.new) };
+
+    /// Turns events on or off.
+    fn set_events(&mut self, on: bool)
+        ensures switches { contents self.new ≡ switched on (contents self.old) }
+        ensures sound { IsSound (contents self.new) };
+}
