@@ -1,3 +1,4 @@
+mod Additions
 mod Counts
 mod Crowds
 mod Entries

@@ -1,9 +1,12 @@
-ghost use Rattle.std.specs.Prelude.{◌≡◌, ◌∷◌, Some, None, [], IsTrue};
+ghost use Rattle.std.specs.Prelude.{◌≡◌, ◌∷◌, Some, None, [], IsTrue, IfOk};
 ghost use Rattle.ca_queue.specs.Keys.{is_among};
+ghost use Rattle.ca_queue.specs.Queue.{added, no_queue};
 
 use crate::{Entry, EventQueue, Queues, SubKey};
 use ca_dbr::{Meta, Value};
+use ca_text::Refusal;
 use std::alloc::{AllocError, Global};
+use std::ops::Range;
 use std::process::Abort;
 use std::test::Fail;
 
@@ -72,15 +75,151 @@ fn number_of(given: &Option<(SubKey, Entry)>) -> Option<i32> {
     }
 }
 
-#[test]
-fn two_posts_come_out_in_order(rt: HostRuntime) -> Result<(), Fail> {
-    let mut queue = EventQueue::new(rt.alloc());
+/// A queue with two subscriptions, in which nothing waits.
+fn queue_of_two(alloc: Global) -> Result<EventQueue, Fail>
+    ensures { IfOk result (λ queue. queue ≡ added OTHER (added KEY no_queue)) }
+{
+    let mut queue = EventQueue::new(alloc);
     queue.add(KEY)?;
+    queue.add(OTHER)?;
+    Ok(queue)
+}
+
+/// Posts updates of these numbers.
+fn post_all(
+    alloc: Global,
+    queue: &mut EventQueue,
+    key: SubKey,
+    numbers: Range<i32>,
+) -> Result<(), Fail>
+    requires { IsTrue (is_among key queue.old.subscriptions) }
+    ensures { queue.new.subscriptions ≡ queue.old.subscriptions }
+{
+    for number in numbers {
+        let entry = update(alloc, number)?;
+        queue.post(key, entry);
+    }
+    Ok(())
+}
+
+/// Takes give these subscriptions and numbers, and then nothing.
+fn check_takes(rt: &impl Abort, queue: &mut EventQueue, expected: &[(SubKey, i32)])
+    ensures { queue.new.subscriptions ≡ queue.old.subscriptions }
+{
+    for (key, number) in expected {
+        let given = queue.take();
+        assert!(rt; matches!(&given, Some((of, _)) if of == key));
+        assert_eq!(rt; number_of(&given), Some(*number));
+    }
+    assert!(rt; queue.take().is_none());
+}
+
+#[test]
+fn posts_come_out_in_order(rt: HostRuntime) -> Result<(), Fail> {
+    let mut queue = queue_of_two(rt.alloc())?;
     let first = update(rt.alloc(), 1)?;
     let second = update(rt.alloc(), 2)?;
     let given = post_two(&mut queue, KEY, first, second);
     assert_eq!(rt; number_of(&given[0]), Some(1));
     assert_eq!(rt; number_of(&given[1]), Some(2));
     assert!(rt; given[2].is_none());
+    Ok(())
+}
+
+#[test]
+fn last_of_two_comes_out_after_a_pause(rt: HostRuntime) -> Result<(), Fail> {
+    let mut queue = queue_of_two(rt.alloc())?;
+    let first = update(rt.alloc(), 1)?;
+    let second = update(rt.alloc(), 2)?;
+    let given = post_two_while_off(&mut queue, KEY, first, second);
+    assert!(rt; given[0].is_none());
+    assert_eq!(rt; number_of(&given[1]), Some(2));
+    assert!(rt; given[2].is_none());
+    Ok(())
+}
+
+// A first value and 200 posts, none taken: the first value, posts 1 to 106, and post 200.
+#[test]
+fn posts_replace_the_last_where_places_are_few(rt: HostRuntime) -> Result<(), Fail> {
+    let mut queue = queue_of_two(rt.alloc())?;
+    post_all(rt.alloc(), &mut queue, KEY, 0..201)?;
+    let mut expected = Vec::new(rt.alloc());
+    for number in 0..107 {
+        expected.push((KEY, number))?;
+    }
+    expected.push((KEY, 200))?;
+    check_takes(&rt, &mut queue, &expected);
+    Ok(())
+}
+
+#[test]
+fn another_subscription_keeps_its_entries(rt: HostRuntime) -> Result<(), Fail> {
+    let mut queue = queue_of_two(rt.alloc())?;
+    post_all(rt.alloc(), &mut queue, OTHER, 0..1)?;
+    post_all(rt.alloc(), &mut queue, KEY, 0..200)?;
+    post_all(rt.alloc(), &mut queue, OTHER, 1..3)?;
+    let mut expected = Vec::new(rt.alloc());
+    expected.push((OTHER, 2))?;
+    for number in 0..106 {
+        expected.push((KEY, number))?;
+    }
+    expected.push((KEY, 199))?;
+    check_takes(&rt, &mut queue, &expected);
+    Ok(())
+}
+
+#[test]
+fn pause_keeps_the_newest_alone(rt: HostRuntime) -> Result<(), Fail> {
+    let mut queue = queue_of_two(rt.alloc())?;
+    queue.set_events(false);
+    post_all(rt.alloc(), &mut queue, KEY, 1..4)?;
+    check_takes(&rt, &mut queue, &[]);
+    queue.set_events(true);
+    check_takes(&rt, &mut queue, &[(KEY, 3)]);
+    post_all(rt.alloc(), &mut queue, KEY, 0..3)?;
+    queue.set_events(false);
+    check_takes(&rt, &mut queue, &[(KEY, 0), (KEY, 1)]);
+    queue.set_events(true);
+    check_takes(&rt, &mut queue, &[(KEY, 2)]);
+    Ok(())
+}
+
+#[test]
+fn pause_gives_the_front_while_one_has_two(rt: HostRuntime) -> Result<(), Fail> {
+    let mut queue = queue_of_two(rt.alloc())?;
+    post_all(rt.alloc(), &mut queue, KEY, 1..2)?;
+    post_all(rt.alloc(), &mut queue, OTHER, 2..4)?;
+    queue.set_events(false);
+    check_takes(&rt, &mut queue, &[(KEY, 1), (OTHER, 2)]);
+    queue.set_events(true);
+    check_takes(&rt, &mut queue, &[(OTHER, 3)]);
+    Ok(())
+}
+
+#[test]
+fn cancel_keeps_the_order_of_the_others(rt: HostRuntime) -> Result<(), Fail> {
+    let mut queue = queue_of_two(rt.alloc())?;
+    post_all(rt.alloc(), &mut queue, KEY, 0..1)?;
+    post_all(rt.alloc(), &mut queue, OTHER, 10..11)?;
+    post_all(rt.alloc(), &mut queue, KEY, 1..3)?;
+    post_all(rt.alloc(), &mut queue, OTHER, 11..13)?;
+    queue.cancel(KEY);
+    check_takes(&rt, &mut queue, &[(OTHER, 10), (OTHER, 11), (OTHER, 12)]);
+    Ok(())
+}
+
+// Run it too with the Nth growth refused, for each N: `rt try --test --fail-alloc N`.
+#[test]
+fn cancel_makes_room_for_a_37th(rt: HostRuntime) -> Result<(), Fail> {
+    let mut queue = EventQueue::new(rt.alloc());
+    for sub in 0..36 {
+        queue.add(SubKey { sid: 1, sub })?;
+    }
+    let refused = queue.add(SubKey { sid: 2, sub: 0 });
+    assert_eq!(rt; refused, Err(Refusal::TooManySubscriptions));
+    queue.cancel(SubKey { sid: 1, sub: 7 });
+    queue.add(SubKey { sid: 2, sub: 1 })?;
+    let refused = queue.add(SubKey { sid: 2, sub: 2 });
+    assert_eq!(rt; refused, Err(Refusal::TooManySubscriptions));
     Ok(())
 }
