@@ -1,7 +1,10 @@
 mod Additions
 mod Counts
 mod Crowds
-mod Entries
-mod Keys
+pub mod Entries
+pub mod Keys
 mod Laid
-mod Soundness
+pub mod Order
+pub mod Subscribers
+pub mod Runs
+pub mod Soundness

@@ -3,3 +3,5 @@ pub mod Waiting
 pub mod Queue
 pub mod Sound
 pub mod Layout
+pub mod Order
+pub mod Runs

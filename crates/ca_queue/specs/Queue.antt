@@ -39,10 +39,14 @@ module _ {E : Type 0} where
   abbrev pub switched : Bool → Queue E → Queue E
   switched on q = record { waiting = q.waiting; subscriptions = q.subscriptions; events_on = on }
 
-  -- From old, this subscription was added, with this answer, and left new. Memory is asked for only where there was
-  -- none before.
+  -- Why one more subscription is refused: there are so many, or a growth was refused, which is asked for only where there
+  -- is none yet.
+  abbrev pub Refuses : Queue E → Refusal → Type 0
+  Refuses q TooManySubscriptions = length q.subscriptions ≡ QUEUE_SUBSCRIPTIONS
+  Refuses q OutOfMemory = q.subscriptions ≡ []
+  Refuses q _ = ⊥
+
+  -- From old, this subscription was added, with this answer, and left new.
   abbrev pub Adds : Queue E → SubKey → Result (Unit {0}) Refusal → Queue E → Type 0
   Adds old key (Ok _) new = (length old.subscriptions < QUEUE_SUBSCRIPTIONS) × (new ≡ added key old)
-  Adds old key (Err TooManySubscriptions) new = (length old.subscriptions ≡ QUEUE_SUBSCRIPTIONS) × (new ≡ old)
-  Adds old key (Err OutOfMemory) new = (old.subscriptions ≡ []) × (new ≡ old)
-  Adds old key (Err _) new = ⊥
+  Adds old key (Err refusal) new = Refuses old refusal × (new ≡ old)

@@ -6,11 +6,13 @@
 
 mod entry;
 mod event_queue;
+mod laws;
 mod places;
 mod queues;
 
 pub use entry::{Entry, SubKey};
 pub use event_queue::EventQueue;
+pub use laws::{cancel_takes_out_its_own, every_run_is_sound, newest_is_kept, post_finds_a_place};
 pub use queues::Queues;
 
 #[cfg(test)]

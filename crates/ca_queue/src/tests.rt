@@ -208,7 +208,6 @@ fn cancel_keeps_the_order_of_the_others(rt: HostRuntime) -> Result<(), Fail> {
     Ok(())
 }
 
-// Run it too with the Nth growth refused, for each N: `rt try --test --fail-alloc N`.
 #[test]
 fn cancel_makes_room_for_a_37th(rt: HostRuntime) -> Result<(), Fail> {
     let mut queue = EventQueue::new(rt.alloc());
@@ -221,5 +220,18 @@ fn cancel_makes_room_for_a_37th(rt: HostRuntime) -> Result<(), Fail> {
     queue.add(SubKey { sid: 2, sub: 1 })?;
     let refused = queue.add(SubKey { sid: 2, sub: 2 });
     assert_eq!(rt; refused, Err(Refusal::TooManySubscriptions));
+    Ok(())
+}
+
+// Run it too with the Nth growth refused, for each N: `rt try --test --fail-alloc N`.
+#[test]
+fn refused_growth_changes_nothing(rt: HostRuntime) -> Result<(), Fail> {
+    let mut queue = EventQueue::new(rt.alloc());
+    if let Err(refusal) = queue.add(KEY) {
+        assert_eq!(rt; refusal, Refusal::OutOfMemory);
+        queue.add(KEY)?;
+    }
+    queue.add(OTHER)?;
+    check_takes(&rt, &mut queue, &[]);
     Ok(())
 }

@@ -1,0 +1,31 @@
+ghost use Rattle.std.specs.Prelude.{◌≡◌, ◌++◌, ◌<◌, ◌≤◌, [], List, IsFalse, IsTrue, length};
+ghost use Rattle.ca_text.specs.declared.limits.TheConstants.{QUEUE_PLACES};
+ghost use Rattle.ca_queue.specs.declared.entry.SubKey.{SubKey};
+ghost use Rattle.ca_queue.specs.Keys.{same, is_among};
+ghost use Rattle.ca_queue.specs.Waiting.{after_cancel, after_post, entries_of};
+ghost use Rattle.ca_queue.specs.Queue.{Queue, no_queue};
+ghost use Rattle.ca_queue.specs.Sound.{IsSound};
+ghost use Rattle.ca_queue.specs.Runs.{Call, Leads, Follows, posts_to, taken_of};
+
+/// Whatever calls a queue sees from its beginning on, free places and subscriptions that have an entry are together at
+/// least 36.
+pub fn every_run_is_sound<T>()
+    ensures { (calls : List (Call T)) (q : Queue T) → Leads no_queue calls q → IsSound q }
+{}
+
+/// So each post finds a place.
+pub fn post_finds_a_place<T>()
+    ensures { (q : Queue T) (key : SubKey) (entry : T) → IsSound q → IsTrue (is_among key q.subscriptions) → length (after_post q.events_on key entry q.waiting) ≤ QUEUE_PLACES }
+{}
+
+/// What was taken of a subscription, and then what waits for it, are its posts with some left out, in their order, and
+/// they end in the newest.
+pub fn newest_is_kept<T>()
+    ensures { (key : SubKey) (calls : List (Call T)) (q : Queue T) → Leads no_queue calls q → Follows (taken_of key [] calls ++ entries_of key q.waiting) (posts_to key [] calls) }
+{}
+
+/// A cancel leaves the entries of each other subscription as they are, and none of its own.
+pub fn cancel_takes_out_its_own<T>()
+    ensures own { (key : SubKey) (q : Queue T) → entries_of key (after_cancel key q.waiting) ≡ [] }
+    ensures others { (key other : SubKey) (q : Queue T) → IsFalse (same key other) → entries_of other (after_cancel key q.waiting) ≡ entries_of other q.waiting }
+{}
