@@ -2,6 +2,7 @@ mod Additions
 mod Counts
 mod Crowds
 pub mod Entries
+pub mod Images
 pub mod Keys
 mod Laid
 pub mod Order

@@ -5,3 +5,4 @@ pub mod Sound
 pub mod Layout
 pub mod Order
 pub mod Runs
+pub mod Images
