@@ -19,7 +19,7 @@ module _ {A : Type 0} where
   Sub-front (x ∷ xs) (y ∷ ys) z (inl both) = inl (both.0, Sub-front xs ys z both.1)
   Sub-front (x ∷ xs) (y ∷ ys) z (inr later) = inr (Sub-front (x ∷ xs) ys z later)
 
-  last_push : (last : Option A) (xs : List A) (z : A) → last_from last (xs ++ z ∷ []) ≡ Some z
+  pub last_push : (last : Option A) (xs : List A) (z : A) → last_from last (xs ++ z ∷ []) ≡ Some z
   last_push last [] z = refl
   last_push last (x ∷ xs) z = last_push (Some x) xs z
 

@@ -1,10 +1,12 @@
 -- Each subscription's entries, after each call.
-use Rattle.std.proofs.Common.{◌≡◌, ◌⊎◌, Bool, true, false, not, ◌&&◌, ◌||◌, cond, List, [], ◌∷◌, ◌++◌, drop, Some, None, refl, ap, ◌∙◌, subst, inl, inr}
+use Rattle.std.proofs.Common.{◌≡◌, ◌⊎◌, Bool, true, false, not, ◌&&◌, ◌||◌, cond, List, [], ◌∷◌, ◌++◌, drop, Some, None, refl, sym, ap, ◌∙◌, subst, inl, inr}
 use Rattle.std.proofs.lemmas.Bool.{cases_Bool, both_ways, or_parts, and_parts}
 use Rattle.std.proofs.lemmas.List.{append-nil}
 use Rattle.ca_queue.specs.declared.entry.SubKey.{SubKey}
 use Rattle.ca_queue.specs.Keys.{same}
 use Rattle.ca_queue.specs.Waiting.{is_of, has_entry, entries_of, replaces, with_last, after_post, front, may_take, taken, after_take, after_cancel}
+use Rattle.ca_queue.specs.Order.{last_of}
+use Rattle.ca_queue.proofs.Order.{last_push}
 use Rattle.ca_queue.proofs.Keys.{same_itself, same_is, other_sym}
 
 module _ {E : Type 0} where
@@ -109,3 +111,22 @@ module _ {E : Type 0} where
             rw (is, not_old) (others_cancelled key k q other)
         | inr not_it ↦ rw not_it (ap (λ (es : List E). cond (is_of k w) (w.1 ∷ es) es) (others_cancelled key k q other))
       ]
+
+  -- so its entry is the last of its subscription
+  pub last_posted : (on : Bool) (key : SubKey) (entry : E) (q : List (SubKey × E)) → last_of (entries_of key (after_post on key entry q)) ≡ Some entry
+  last_posted on key entry q =
+      elim (entries_posted on key entry q) [
+        | inl behind ↦ ap last_of behind ∙ last_push None (entries_of key q) entry
+        | inr replaced ↦ ap last_of replaced.is ∙ last_push None replaced.front entry
+      ]
+
+  -- a take gives its subscription's first entry
+  pub first_taken : (on : Bool) (key : SubKey) (entry : E) (q : List (SubKey × E)) → Some (key, entry) ≡ taken on q → entries_of key q ≡ entry ∷ entries_of key (after_take on q)
+  first_taken on key entry q given =
+      ap (entries_of key) (front_taken on (key, entry) q given)
+      ∙ ap (λ (b : Bool). cond b (entry ∷ entries_of key (after_take on q)) (entries_of key (after_take on q))) (same_itself key)
+
+  pub others_taken : (on : Bool) (key other : SubKey) (entry : E) (q : List (SubKey × E)) → Some (key, entry) ≡ taken on q → same key other ≡ false → entries_of other (after_take on q) ≡ entries_of other q
+  others_taken on key other entry q given differs =
+      sym (ap (entries_of other) (front_taken on (key, entry) q given)
+      ∙ ap (λ (b : Bool). cond b (entry ∷ entries_of other (after_take on q)) (entries_of other (after_take on q))) (other_sym key other differs))

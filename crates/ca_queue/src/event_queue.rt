@@ -15,7 +15,8 @@ use std::marker::Model;
 
 /// An event queue as a plain list.
 ///
-/// A post that replaces looks for its subscription's last entry from the back; a take looks at no entry but the front.
+/// A post that replaces looks for its subscription's last entry from the back. A take looks at no entry but the front, and
+/// at the subscriptions, of which there are at most 36.
 #[derive(Drop)]
 pub struct EventQueue {
     entries: VecDeque<(SubKey, Entry)>,
@@ -24,7 +25,7 @@ pub struct EventQueue {
 }
 
 // A subscription, and how many entries it has.
-#[derive(Clone, Copy, Drop)]
+#[derive(Clone, Copy)]
 struct Subscription {
     key: SubKey,
     waiting: usize,

@@ -1,9 +1,10 @@
-ghost use Rattle.std.specs.Prelude.{◌≡◌, ◌++◌, ◌<◌, ◌≤◌, [], List, IsFalse, IsTrue, length};
+ghost use Rattle.std.specs.Prelude.{◌≡◌, ◌++◌, ◌∷◌, ◌≤◌, [], Bool, List, IsFalse, IsTrue, length};
 ghost use Rattle.ca_text.specs.declared.limits.TheConstants.{QUEUE_PLACES};
 ghost use Rattle.ca_queue.specs.declared.entry.SubKey.{SubKey};
 ghost use Rattle.ca_queue.specs.Keys.{same, is_among};
-ghost use Rattle.ca_queue.specs.Waiting.{after_cancel, after_post, entries_of};
+ghost use Rattle.ca_queue.specs.Waiting.{after_cancel, after_post, after_take, entries_of, taken};
 ghost use Rattle.ca_queue.specs.Queue.{Queue, no_queue};
+ghost use Rattle.ca_queue.specs.Order.{last_of};
 ghost use Rattle.ca_queue.specs.Sound.{IsSound};
 ghost use Rattle.ca_queue.specs.Runs.{Call, Leads, Follows, posts_to, taken_of};
 
@@ -22,6 +23,19 @@ pub fn post_finds_a_place<T>()
 /// they end in the newest.
 pub fn newest_is_kept<T>()
     ensures { (key : SubKey) (calls : List (Call T)) (q : Queue T) → Leads no_queue calls q → Follows (taken_of key [] calls ++ entries_of key q.waiting) (posts_to key [] calls) }
+{}
+
+/// A post ends the entries of its subscription, and leaves those of each other one as they are.
+pub fn post_ends_its_own<T>()
+    ensures own { (on : Bool) (key : SubKey) (entry : T) (q : List (SubKey × T)) → last_of (entries_of key (after_post on key entry q)) ≡ Some entry }
+    ensures others { (on : Bool) (key other : SubKey) (entry : T) (q : List (SubKey × T)) → IsFalse (same key other) → entries_of other (after_post on key entry q) ≡ entries_of other q }
+{}
+
+/// A take gives the first entry of a subscription, and leaves those behind it and those of each other one as they are.
+pub fn take_gives_the_first_of_its_own<T>()
+    ensures own { (on : Bool) (key : SubKey) (entry : T) (q : List (SubKey × T)) → Some (key, entry) ≡ taken on q → entries_of key q ≡ entry ∷ entries_of key (after_take on q) }
+    ensures others { (on : Bool) (key other : SubKey) (entry : T) (q : List (SubKey × T)) → Some (key, entry) ≡ taken on q → IsFalse (same key other) → entries_of other (after_take on q) ≡ entries_of other q }
+    ensures none { (on : Bool) (q : List (SubKey × T)) → None ≡ taken on q → after_take on q ≡ q }
 {}
 
 /// A cancel leaves the entries of each other subscription as they are, and none of its own.

@@ -12,7 +12,10 @@ mod queues;
 
 pub use entry::{Entry, SubKey};
 pub use event_queue::EventQueue;
-pub use laws::{cancel_takes_out_its_own, every_run_is_sound, newest_is_kept, post_finds_a_place};
+pub use laws::{
+    cancel_takes_out_its_own, every_run_is_sound, newest_is_kept, post_ends_its_own,
+    post_finds_a_place, take_gives_the_first_of_its_own,
+};
 pub use queues::Queues;
 
 #[cfg(test)]
