@@ -1,4 +1,6 @@
--- The updates that wait: entries, each with its subscription, the front first.
+-- The updates that wait: entries, each with its subscription, the front first. The protocol specification leaves a
+-- server's event queue open; the rule is our own. Events are off from a client's EVENTS_OFF to its EVENTS_ON (section
+-- "CA Protocol Messages").
 use Rattle.std.specs.Prelude.{ℕ, Bool, ◌&&◌, ◌||◌, not, nat_lt, nat_le, ◌-◌, if◌then◌else◌, List, [], ◌∷◌, ◌++◌, length, count_by, drop, filter, Option, Some, None}
 use Rattle.std.specs.List.{list_any}
 use Rattle.ca_text.specs.declared.limits.TheConstants.{QUEUE_PLACES, QUEUE_LOW_PLACES}
