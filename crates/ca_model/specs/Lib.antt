@@ -3,3 +3,8 @@ pub mod History
 pub mod Replies
 pub mod Due
 pub mod Answer
+pub mod Circuit
+pub mod Requests
+pub mod Client
+pub mod Server
+pub mod World

@@ -24,3 +24,19 @@ record_name_limit = 60
 -- channels of a circuit, at most
 abbrev pub channel_limit : ℕ
 channel_limit = 65536
+
+-- bytes of a channel's name, at most
+abbrev pub channel_name_limit : ℕ
+channel_name_limit = 500
+
+-- slots of a table, and so channels or requests of one client
+abbrev pub arena_slots : ℕ
+arena_slots = 65536
+
+-- bytes that wait to be sent on a circuit, from which on nothing more is queued
+abbrev pub output_limit : ℕ
+output_limit = 262144
+
+-- the greatest priority of a circuit
+abbrev pub priority_limit : ℕ
+priority_limit = 99

@@ -6,12 +6,14 @@ mod deframer;
 mod header;
 mod laws;
 mod message;
+mod pipe;
 mod reading;
 
 pub use deframer::Deframer;
 pub use header::{Header, spell_header};
 pub use laws::{one_reading, read_again};
 pub use message::{Message, spell};
+pub use pipe::Pipe;
 pub use reading::{Head, One, read_one};
 
 #[cfg(test)]
