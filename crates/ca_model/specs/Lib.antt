@@ -8,3 +8,4 @@ pub mod Requests
 pub mod Client
 pub mod Server
 pub mod World
+pub mod Safe
