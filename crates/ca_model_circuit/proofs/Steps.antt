@@ -84,7 +84,7 @@ not_read : (n : ℕ) → n ≡ 15 → n ≡ 18 → ⊥
 not_read n a b = omega arith
 
 -- what is due creates one channel at most, under a SID that was free
-due-one : (records : List RecordState) (greeted : Bool) (made : ℕ) (opened : Seat → Type 0) (m : Fields) (replies : List Fields) → Due records greeted made opened m replies → MakesOne opened replies
+pub due-one : (records : List RecordState) (greeted : Bool) (made : ℕ) (opened : Seat → Type 0) (m : Fields) (replies : List Fields) → Due records greeted made opened m replies → MakesOne opened replies
 due-one records greeted made opened m replies due =
     elim (nat_cases m.command 18) [
       | inl creates ↦

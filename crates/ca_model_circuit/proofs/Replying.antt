@@ -1,0 +1,148 @@
+-- What the replies are that are due for a message.
+use Rattle.std.proofs.Common.{◌≡◌, ◌≢◌, ℕ, zero, suc, ◌<◌, ◌^◌, inl, inr, Bool, true, false, List, [], ◌∷◌, Option, Some, None, if◌then◌else◌, refl, sym, ◌∙◌, subst, arith}
+use Rattle.std.proofs.lemmas.Bool.{cases_eq}
+use Rattle.ca_text.specs.Place.{At}
+use Rattle.ca_text.proofs.Places.{some_is}
+use Rattle.ca_wire.specs.Fields.{Fields}
+use Rattle.ca_records.specs.Record.{RecordState, IsRecord}
+use Rattle.ca_records.specs.Records.{IsServed}
+use Rattle.ca_model.specs.History.{Seat, Creates, text_in}
+use Rattle.ca_model.specs.Circuit.{given_in, spoken_in, WireId, Ioid}
+use Rattle.ca_model.specs.Due.{Due}
+use Rattle.ca_model.specs.Replies.{version_reply, rights_reply, created_reply, failed_reply, cleared_reply, refused_reply, read_reply, read_fault, reply_for}
+use Rattle.ca_model_circuit.proofs.Fits.{created-gives, read-gives, version-gives, clear-gives}
+
+-- each of the list is what a record is
+abbrev pub AreRecords : List RecordState → Type 0
+AreRecords records = (i : ℕ) (r : RecordState) → At records i r → IsRecord r
+
+-- Each reply that can be due for m is one of these.
+record Covers (records : List RecordState) (m : Fields) (P : Fields → Type 0) : Type 0 where
+  pub version : m.command ≡ 0 → P version_reply
+  pub rights : m.command ≡ 18 → P (rights_reply m)
+  pub created : m.command ≡ 18 → (place : ℕ) (state : RecordState) (sid : ℕ) → At records place state → state.name ≡ text_in m.payload → sid < 2 ^ 32 → P (created_reply m state sid)
+  pub failed : m.command ≡ 18 → P (failed_reply m)
+  pub read : m.command ≡ 15 → (place : ℕ) (state : RecordState) → At records place state → P (read_reply state m)
+  pub refused : m.command ≡ 15 → P (refused_reply m 410)
+  pub cleared : m.command ≡ 12 → P (cleared_reply m)
+
+none-each : (P : Fields → Type 0) (i : ℕ) (r : Fields) → At [] i r → P r
+none-each P i r at = absurd cc
+
+one-each : (P : Fields → Type 0) (f : Fields) → P f → (i : ℕ) (r : Fields) → At (f ∷ []) i r → P r
+one-each P f p zero r at = subst P (some_is f r at) p
+one-each P f p (suc i) r at = absurd cc
+
+two-each : (P : Fields → Type 0) (f g : Fields) → P f → P g → (i : ℕ) (r : Fields) → At (f ∷ g ∷ []) i r → P r
+two-each P f g p q zero r at = subst P (some_is f r at) p
+two-each P f g p q (suc i) r at = one-each P g q i r at
+
+version-each : (P : Fields → Type 0) (greeted : Bool) → P version_reply → (i : ℕ) (r : Fields) → At (if greeted then [] else version_reply ∷ []) i r → P r
+version-each P true p i r at = none-each P i r at
+version-each P false p i r at = one-each P version_reply p i r at
+
+-- what holds of each reply that can be due holds of those that are
+due-each : (records : List RecordState) (greeted : Bool) (made : ℕ) (opened : Seat → Type 0) (m : Fields) (replies : List Fields) (P : Fields → Type 0) → Due records greeted made opened m replies → Covers records m P
+    → (i : ℕ) (r : Fields) → At replies i r → P r
+due-each records greeted made opened m replies P due covers i r at =
+    elim (cases_eq m.command 18) [
+      | inl create ↦
+          elim (due.create create) [
+            | inl c ↦
+                two-each P (rights_reply m) (created_reply m c.state c.sid) (covers.rights create) (covers.created create c.place c.state c.sid c.at c.named c.sid_fits) i r (subst (λ (x : List Fields). At x i r) c.are at)
+            | inr f ↦ one-each P (failed_reply m) (covers.failed create) i r (subst (λ (x : List Fields). At x i r) f.are at)
+          ]
+      | inr not_create ↦
+          elim (cases_eq m.command 0) [
+            | inl version ↦ version-each P greeted (covers.version version) i r (subst (λ (x : List Fields). At x i r) (due.version version) at)
+            | inr not_version ↦
+                elim (cases_eq m.command 15) [
+                  | inl read ↦
+                      elim (due.read read) [
+                        | inl x ↦ one-each P (read_reply x.state m) (covers.read read x.place x.state x.at) i r (subst (λ (y : List Fields). At y i r) x.are at)
+                        | inr x ↦ one-each P (refused_reply m 410) (covers.refused read) i r (subst (λ (y : List Fields). At y i r) x.are at)
+                      ]
+                  | inr not_read ↦
+                      elim (cases_eq m.command 12) [
+                        | inl clear ↦ one-each P (cleared_reply m) (covers.cleared clear) i r (subst (λ (y : List Fields). At y i r) (due.clear clear) at)
+                        | inr not_clear ↦ none-each P i r (subst (λ (y : List Fields). At y i r) (due.other not_version not_create not_read not_clear) at)
+                      ]
+                ]
+          ]
+    ]
+
+-- ---- of which id a reply speaks
+
+read-speaks : (m : Fields) (state : RecordState) (fault : Option ℕ) → let id : Option WireId = Some (Ioid m.p2) in spoken_in (reply_for m state fault) ≡ id
+read-speaks m state (Some status) = refl
+read-speaks m state None = refl
+
+-- a reply speaks of the id that its message gives
+pub reply-speaks : (records : List RecordState) (greeted : Bool) (made : ℕ) (opened : Seat → Type 0) (m : Fields) (replies : List Fields) → Due records greeted made opened m replies → (i : ℕ) (r : Fields) → At replies i r
+    → spoken_in r ≡ given_in m
+reply-speaks records greeted made opened m replies due =
+    due-each records greeted made opened m replies (λ (r : Fields). spoken_in r ≡ given_in m) due (record {
+      version = λ is. sym (version-gives m is);
+      rights = λ is. sym (created-gives m is);
+      created = λ is place state sid at named fits. sym (created-gives m is);
+      failed = λ is. sym (created-gives m is);
+      read = λ is place state at. read-speaks m state (read_fault state m) ∙ sym (read-gives m is);
+      refused = λ is. sym (read-gives m is);
+      cleared = λ is. sym (clear-gives m is);
+    })
+
+-- ---- the replies to a read
+
+one-place : (f : Fields) (i j : ℕ) (r s : Fields) → At (f ∷ []) i r → At (f ∷ []) j s → i ≡ j
+one-place f zero zero r s at at' = refl
+one-place f zero (suc j) r s at at' = absurd cc
+one-place f (suc i) j r s at at' = absurd cc
+
+-- a read has one reply at most
+pub reply-once : (records : List RecordState) (greeted : Bool) (made : ℕ) (opened : Seat → Type 0) (m : Fields) (replies : List Fields) → Due records greeted made opened m replies → m.command ≡ 15
+    → (i j : ℕ) (r s : Fields) → At replies i r → At replies j s → i ≡ j
+reply-once records greeted made opened m replies due is i j r s at at' =
+    elim (due.read is) [
+      | inl x ↦ one-place (read_reply x.state m) i j r s (subst (λ (y : List Fields). At y i r) x.are at) (subst (λ (y : List Fields). At y j s) x.are at')
+      | inr x ↦ one-place (refused_reply m 410) i j r s (subst (λ (y : List Fields). At y i r) x.are at) (subst (λ (y : List Fields). At y j s) x.are at')
+    ]
+
+two_commands : (n a b : ℕ) → a < b → n ≡ a → n ≡ b → ⊥
+two_commands n a b lt e f = omega arith
+
+reply_for-command : (m : Fields) (state : RecordState) (fault : Option ℕ) → (reply_for m state fault).command ≡ 15
+reply_for-command m state (Some status) = refl
+reply_for-command m state None = refl
+
+-- and it is a READ_NOTIFY
+pub reply-read : (records : List RecordState) (greeted : Bool) (made : ℕ) (opened : Seat → Type 0) (m : Fields) (replies : List Fields) → Due records greeted made opened m replies → m.command ≡ 15
+    → (i : ℕ) (r : Fields) → At replies i r → r.command ≡ 15
+reply-read records greeted made opened m replies due reads =
+    due-each records greeted made opened m replies (λ (r : Fields). r.command ≡ 15) due (record {
+      version = λ is. absurd (two_commands m.command 0 15 (omega arith) is reads);
+      rights = λ is. absurd (two_commands m.command 15 18 (omega arith) reads is);
+      created = λ is place state sid at named fits. absurd (two_commands m.command 15 18 (omega arith) reads is);
+      failed = λ is. absurd (two_commands m.command 15 18 (omega arith) reads is);
+      read = λ is place state at. reply_for-command m state (read_fault state m);
+      refused = λ is. refl;
+      cleared = λ is. absurd (two_commands m.command 12 15 (omega arith) is reads);
+    })
+
+-- ---- the replies to a CREATE_CHAN
+
+not_creates : (r : Fields) (sid n : ℕ) → r.command ≡ n → n ≢ 18 → Creates r sid → ⊥
+not_creates r sid n is other creates = other (sym is ∙ creates.command)
+
+-- only a CREATE_CHAN of a name that is served creates a channel
+pub reply-created : (records : List RecordState) (greeted : Bool) (made : ℕ) (opened : Seat → Type 0) (m : Fields) (replies : List Fields) → Due records greeted made opened m replies
+    → (i : ℕ) (r : Fields) (sid : ℕ) → At replies i r → Creates r sid → (m.command ≡ 18) × IsServed records (text_in m.payload)
+reply-created records greeted made opened m replies due i r sid at =
+    due-each records greeted made opened m replies (λ (x : Fields). Creates x sid → (m.command ≡ 18) × IsServed records (text_in m.payload)) due (record {
+      version = λ is creates. absurd (not_creates version_reply sid 0 refl (λ e. omega arith) creates);
+      rights = λ is creates. absurd (not_creates (rights_reply m) sid 22 refl (λ e. omega arith) creates);
+      created = λ is place state n at' named fits creates. (is, (place, record { state = state; at = at'; named = named }));
+      failed = λ is creates. absurd (not_creates (failed_reply m) sid 26 refl (λ e. omega arith) creates);
+      read = λ is place state at' creates. absurd (not_creates (read_reply state m) sid 15 (reply_for-command m state (read_fault state m)) (λ e. omega arith) creates);
+      refused = λ is creates. absurd (not_creates (refused_reply m 410) sid 15 refl (λ e. omega arith) creates);
+      cleared = λ is creates. absurd (not_creates (cleared_reply m) sid 12 refl (λ e. omega arith) creates);
+    }) i r at
