@@ -7,6 +7,8 @@ use Rattle.std.proofs.lemmas.List.{length-append}
 use Rattle.ca_text.specs.Limits.{channel_name_limit, payload_limit}
 use Rattle.ca_text.specs.Name.{IsName}
 use Rattle.ca_text.specs.Place.{At}
+use Rattle.ca_text.specs.Command.{command_number}
+use Rattle.ca_text.specs.declared.command.Command.{Command}
 use Rattle.ca_text.specs.declared.command.Command.TheVariants.{ClientName, HostName}
 use Rattle.ca_text.proofs.Places.{some_is}
 use Rattle.ca_wire.specs.Fields.{Fields, IsPayload}
@@ -104,16 +106,22 @@ pub read-fits : (sid ioid data_type count : ℕ) → sid < 2 ^ 32 → ioid < 2 ^
 read-fits sid ioid data_type count a b c d =
     message-of (read_request sid ioid data_type count) (omega arith) (omega arith) d a b empty-payload
 
+text-message : (command : Command) (text : List ℕ) → command_number command < 100 → length text < payload_limit → IsMessage (text_message command text)
+text-message command text small lt =
+    message-of (text_message command text) (omega arith) (omega arith) (omega arith) (omega arith) (omega arith) (text-fits text lt)
+
+-- what holds of the three messages of a set-up holds of each
+set_up-each : (P : Fields → Type 0) (user host : List ℕ) (priority : ℕ) → P (version_request priority) → P (text_message ClientName user) → P (text_message HostName host) → (i : ℕ) (m : Fields) → At (set_up user host priority) i m → P m
+set_up-each P user host priority version client server =
+    let last : List Fields = text_message HostName host ∷ [] in
+    each-more P (version_request priority) (text_message ClientName user ∷ last) version (each-more P (text_message ClientName user) last client (each-one P (text_message HostName host) server))
+
 pub set_up-fits : (user host : List ℕ) (priority : ℕ) → length user < payload_limit → length host < payload_limit → priority ≤ 99 → (i : ℕ) (m : Fields) → At (set_up user host priority) i m → IsMessage m
 set_up-fits user host priority a b c =
-    let client : IsMessage (text_message ClientName user) = message-of (text_message ClientName user) (omega arith) (omega arith) (omega arith) (omega arith) (omega arith) (text-fits user a) in
-    let server : IsMessage (text_message HostName host) = message-of (text_message HostName host) (omega arith) (omega arith) (omega arith) (omega arith) (omega arith) (text-fits host b) in
     let version : IsMessage (version_request priority) = message-of (version_request priority) (omega arith) (omega arith) (omega arith) (omega arith) (omega arith) empty-payload in
-    each-more IsMessage (version_request priority) (text_message ClientName user ∷ text_message HostName host ∷ []) version (each-more IsMessage (text_message ClientName user) (text_message HostName host ∷ []) client (each-one IsMessage (text_message HostName host) server))
+    set_up-each IsMessage user host priority version (text-message ClientName user (omega arith) a) (text-message HostName host (omega arith) b)
 
 -- the set-up gives no id, and clears nothing
 pub set_up-gives : (user host : List ℕ) (priority : ℕ) (i : ℕ) (m : Fields) → At (set_up user host priority) i m → (given_in m ≡ None) × (m.command ≡ 12 → ⊥)
 set_up-gives user host priority =
-    let P : Fields → Type 0 = λ m. (given_in m ≡ None) × (m.command ≡ 12 → ⊥) in
-    each-more P (version_request priority) (text_message ClientName user ∷ text_message HostName host ∷ []) (refl, λ e. omega arith)
-    (each-more P (text_message ClientName user) (text_message HostName host ∷ []) (refl, λ e. omega arith) (each-one P (text_message HostName host) (refl, λ e. omega arith)))
+    set_up-each (λ (m : Fields). (given_in m ≡ None) × (m.command ≡ 12 → ⊥)) user host priority (refl, λ e. omega arith) (refl, λ e. omega arith) (refl, λ e. omega arith)

@@ -1,22 +1,27 @@
 -- What the replies are that are due for a message.
-use Rattle.std.proofs.Common.{◌≡◌, ◌≢◌, ℕ, zero, suc, ◌<◌, ◌^◌, inl, inr, Bool, true, false, List, [], ◌∷◌, Option, Some, None, if◌then◌else◌, refl, sym, ◌∙◌, subst, arith}
-use Rattle.std.proofs.lemmas.Bool.{cases_eq}
+use Rattle.std.proofs.Common.{◌≡◌, ◌≢◌, ℕ, zero, suc, ◌-◌, ◌*◌, ◌<◌, ◌≤◌, ◌^◌, ◌==◌, ◌||◌, inl, inr, Bool, true, false, not, nat_lt, List, [], ◌∷◌, length, take, replicate, ℤ, pos, Option, Some, None, if◌then◌else◌, refl, sym, ap, ◌∙◌, subst, arith}
+use Rattle.std.specs.List.{flat_map}
+use Rattle.std.proofs.lemmas.Bool.{cases_eq, ltb-false, or_parts}
+use Rattle.std.proofs.lemmas.List.{length-append, length-replicate, length-take}
+use Rattle.ca_text.specs.Limits.{payload_limit}
 use Rattle.ca_text.specs.Place.{At}
-use Rattle.ca_text.proofs.Places.{some_is}
 use Rattle.ca_wire.specs.Fields.{Fields}
+use Rattle.ca_wire.specs.Message.{IsMessage}
+use Rattle.ca_wire.proofs.Padding.{message-of, padded-payload}
 use Rattle.ca_records.specs.Record.{RecordState, IsRecord}
 use Rattle.ca_records.specs.Records.{IsServed}
 use Rattle.ca_model.specs.History.{Seat, Creates, text_in}
 use Rattle.ca_model.specs.Circuit.{given_in, spoken_in, WireId, Ioid}
 use Rattle.ca_model.specs.Due.{Due}
-use Rattle.ca_model.specs.Replies.{version_reply, rights_reply, created_reply, failed_reply, cleared_reply, refused_reply, read_reply, read_fault, reply_for}
-use Rattle.ca_model_circuit.proofs.Fits.{created-gives, read-gives, version-gives, clear-gives}
+use Rattle.ca_model.specs.Image.{long_bytes, long_image, shown}
+use Rattle.ca_model.specs.Replies.{version_reply, rights_reply, created_reply, failed_reply, cleared_reply, refused_reply, value_reply, read_reply, read_fault, reply_for, wanted}
+use Rattle.ca_model_circuit.proofs.Fits.{each-more, each-none, each-one, empty-payload, created-gives, read-gives, version-gives, clear-gives}
 
 -- each of the list is what a record is
 abbrev pub AreRecords : List RecordState → Type 0
 AreRecords records = (i : ℕ) (r : RecordState) → At records i r → IsRecord r
 
--- Each reply that can be due for m is one of these.
+-- P holds of each reply that can be due for m.
 record Covers (records : List RecordState) (m : Fields) (P : Fields → Type 0) : Type 0 where
   pub version : m.command ≡ 0 → P version_reply
   pub rights : m.command ≡ 18 → P (rights_reply m)
@@ -26,20 +31,9 @@ record Covers (records : List RecordState) (m : Fields) (P : Fields → Type 0) 
   pub refused : m.command ≡ 15 → P (refused_reply m 410)
   pub cleared : m.command ≡ 12 → P (cleared_reply m)
 
-none-each : (P : Fields → Type 0) (i : ℕ) (r : Fields) → At [] i r → P r
-none-each P i r at = absurd cc
-
-one-each : (P : Fields → Type 0) (f : Fields) → P f → (i : ℕ) (r : Fields) → At (f ∷ []) i r → P r
-one-each P f p zero r at = subst P (some_is f r at) p
-one-each P f p (suc i) r at = absurd cc
-
-two-each : (P : Fields → Type 0) (f g : Fields) → P f → P g → (i : ℕ) (r : Fields) → At (f ∷ g ∷ []) i r → P r
-two-each P f g p q zero r at = subst P (some_is f r at) p
-two-each P f g p q (suc i) r at = one-each P g q i r at
-
 version-each : (P : Fields → Type 0) (greeted : Bool) → P version_reply → (i : ℕ) (r : Fields) → At (if greeted then [] else version_reply ∷ []) i r → P r
-version-each P true p i r at = none-each P i r at
-version-each P false p i r at = one-each P version_reply p i r at
+version-each P true p i r at = each-none P i r at
+version-each P false p i r at = each-one P version_reply p i r at
 
 -- what holds of each reply that can be due holds of those that are
 due-each : (records : List RecordState) (greeted : Bool) (made : ℕ) (opened : Seat → Type 0) (m : Fields) (replies : List Fields) (P : Fields → Type 0) → Due records greeted made opened m replies → Covers records m P
@@ -49,8 +43,8 @@ due-each records greeted made opened m replies P due covers i r at =
       | inl create ↦
           elim (due.create create) [
             | inl c ↦
-                two-each P (rights_reply m) (created_reply m c.state c.sid) (covers.rights create) (covers.created create c.place c.state c.sid c.at c.named c.sid_fits) i r (subst (λ (x : List Fields). At x i r) c.are at)
-            | inr f ↦ one-each P (failed_reply m) (covers.failed create) i r (subst (λ (x : List Fields). At x i r) f.are at)
+                each-more P (rights_reply m) (created_reply m c.state c.sid ∷ []) (covers.rights create) (each-one P (created_reply m c.state c.sid) (covers.created create c.place c.state c.sid c.at c.named c.sid_fits)) i r (subst (λ (x : List Fields). At x i r) c.are at)
+            | inr f ↦ each-one P (failed_reply m) (covers.failed create) i r (subst (λ (x : List Fields). At x i r) f.are at)
           ]
       | inr not_create ↦
           elim (cases_eq m.command 0) [
@@ -59,13 +53,13 @@ due-each records greeted made opened m replies P due covers i r at =
                 elim (cases_eq m.command 15) [
                   | inl read ↦
                       elim (due.read read) [
-                        | inl x ↦ one-each P (read_reply x.state m) (covers.read read x.place x.state x.at) i r (subst (λ (y : List Fields). At y i r) x.are at)
-                        | inr x ↦ one-each P (refused_reply m 410) (covers.refused read) i r (subst (λ (y : List Fields). At y i r) x.are at)
+                        | inl x ↦ each-one P (read_reply x.state m) (covers.read read x.place x.state x.at) i r (subst (λ (y : List Fields). At y i r) x.are at)
+                        | inr x ↦ each-one P (refused_reply m 410) (covers.refused read) i r (subst (λ (y : List Fields). At y i r) x.are at)
                       ]
                   | inr not_read ↦
                       elim (cases_eq m.command 12) [
-                        | inl clear ↦ one-each P (cleared_reply m) (covers.cleared clear) i r (subst (λ (y : List Fields). At y i r) (due.clear clear) at)
-                        | inr not_clear ↦ none-each P i r (subst (λ (y : List Fields). At y i r) (due.other not_version not_create not_read not_clear) at)
+                        | inl clear ↦ each-one P (cleared_reply m) (covers.cleared clear) i r (subst (λ (y : List Fields). At y i r) (due.clear clear) at)
+                        | inr not_clear ↦ each-none P i r (subst (λ (y : List Fields). At y i r) (due.other not_version not_create not_read not_clear) at)
                       ]
                 ]
           ]
@@ -146,3 +140,61 @@ reply-created records greeted made opened m replies due i r sid at =
       refused = λ is creates. absurd (not_creates (refused_reply m 410) sid 15 refl (λ e. omega arith) creates);
       cleared = λ is creates. absurd (not_creates (cleared_reply m) sid 12 refl (λ e. omega arith) creates);
     }) i r at
+
+-- ---- the replies are messages
+
+length-longs : (xs : List ℤ) → length (flat_map long_bytes xs) ≡ 4 * length xs
+length-longs [] = refl
+length-longs (x ∷ xs) =
+    let e = length-longs xs in
+    let here : length (long_bytes x) ≡ 4 = refl in
+    omega (arith, e, here, length-append (long_bytes x) (flat_map long_bytes xs))
+
+length-shown : (n : ℕ) (xs : List ℤ) → length (shown n xs) ≡ n
+length-shown n xs =
+    omega (arith, length-append (take n xs) (replicate (n - length xs) (pos 0)), length-take n xs, length-replicate (n - length xs) (pos 0))
+
+-- an image has four bytes for each element
+pub length-image : (n : ℕ) (xs : List ℤ) → length (long_image n xs) ≡ 4 * n
+length-image n xs = length-longs (shown n xs) ∙ ap (λ (k : ℕ). 4 * k) (length-shown n xs)
+
+value-fits : (m : Fields) (r : RecordState) → IsMessage m → IsRecord r → nat_lt r.count (wanted r m) ≡ false → nat_lt payload_limit (4 * wanted r m) ≡ false → IsMessage (value_reply m r)
+value-fits m r good is within small =
+    let fits : wanted r m ≤ r.count = ltb-false r.count (wanted r m) within in
+    let bytes : 4 * wanted r m ≤ payload_limit = ltb-false payload_limit (4 * wanted r m) small in
+    let most : r.count ≤ 262144 = is.value.limit in
+    let h = good.header in
+    message-of (value_reply m r) (omega arith) h.data_type (omega arith) (omega arith) h.p2 (padded-payload (long_image (wanted r m) r.longs) (omega (arith, length-image (wanted r m) r.longs)))
+
+refused-fits : (m : Fields) (status : ℕ) → IsMessage m → status < 2 ^ 32 → IsMessage (refused_reply m status)
+refused-fits m status good lt =
+    let h = good.header in
+    message-of (refused_reply m status) (omega arith) h.data_type h.count lt h.p2 empty-payload
+
+fault-fits : (m : Fields) (r : RecordState) (x y : Bool) → IsMessage m → (y ≡ false → IsMessage (value_reply m r)) → IsMessage (reply_for m r (if x then Some 114 else if y then Some 176 else None))
+fault-fits m r true y good value = refused-fits m 114 good (omega arith)
+fault-fits m r false true good value = refused-fits m 176 good (omega arith)
+fault-fits m r false false good value = value refl
+
+read-reply-fits : (m : Fields) (r : RecordState) → IsMessage m → IsRecord r → IsMessage (read_reply r m)
+read-reply-fits m r good is =
+    let over : Bool = nat_lt r.count (wanted r m) in
+    let large : Bool = nat_lt payload_limit (4 * wanted r m) in
+    fault-fits m r (not (m.data_type == 5)) (over || large) good (λ e. let p = or_parts over large e in value-fits m r good is p.0 p.1)
+
+-- each reply that is due for a message is a message
+pub reply-fits : (records : List RecordState) (greeted : Bool) (made : ℕ) (opened : Seat → Type 0) (m : Fields) (replies : List Fields) → AreRecords records → IsMessage m → Due records greeted made opened m replies
+    → (i : ℕ) (r : Fields) → At replies i r → IsMessage r
+reply-fits records greeted made opened m replies are good due =
+    let h = good.header in
+    due-each records greeted made opened m replies IsMessage due (record {
+      version = λ is. message-of version_reply (omega arith) (omega arith) (omega arith) (omega arith) (omega arith) empty-payload;
+      rights = λ is. message-of (rights_reply m) (omega arith) (omega arith) (omega arith) h.p1 (omega arith) empty-payload;
+      created = λ is place state sid at named fits.
+          let most : state.count ≤ 262144 = (are place state at).value.limit in
+          message-of (created_reply m state sid) (omega arith) (omega arith) (omega arith) h.p1 fits empty-payload;
+      failed = λ is. message-of (failed_reply m) (omega arith) (omega arith) (omega arith) h.p1 (omega arith) empty-payload;
+      read = λ is place state at. read-reply-fits m state good (are place state at);
+      refused = λ is. refused-fits m 410 good (omega arith);
+      cleared = λ is. message-of (cleared_reply m) (omega arith) (omega arith) (omega arith) h.p1 h.p2 empty-payload;
+    })
