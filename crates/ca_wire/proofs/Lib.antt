@@ -6,3 +6,4 @@ pub mod Streams
 pub mod Padding
 pub mod Appends
 pub mod Taking
+pub mod Backs

@@ -38,6 +38,13 @@ impl Deframer {
         }
     }
 
+    /// The bytes that came and were not taken.
+    pub fn bytes(&self) -> &[u8]
+        ensures { result.now ≡ self.now.bytes }
+    {
+        &self.buffer[self.start..]
+    }
+
     /// Puts the bytes behind those that it holds. A refusal changes nothing.
     pub fn give(&mut self, bytes: &[u8]) -> Result<(), Refusal>
         ensures { Gives self.old bytes.now result self.new }

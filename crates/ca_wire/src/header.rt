@@ -1,4 +1,4 @@
-ghost use Rattle.std.specs.Prelude.{◌≡◌, ◌+◌, ◌<◌, ◌≤◌, ◌++◌, OnErr, OnOk, vec_capacity, vec_len};
+ghost use Rattle.std.specs.Prelude.{◌≡◌, ◌+◌, ◌<◌, ◌≤◌, ◌++◌, length, OnErr, OnOk, vec_capacity, vec_len};
 ghost use Rattle.ca_wire.specs.Header.{extended_header, header_spelling, short_header};
 
 use std::alloc::AllocError;
@@ -20,6 +20,16 @@ pub struct Header {
 
 /// Sizes and counts from this one on take the extended form.
 const EXTENDED: u32 = 0xffff;
+
+/// Bytes that the header takes as it is written: 16 or 24.
+pub(crate) fn header_size(header: &Header) -> usize
+    ensures { result ≡ length (header_spelling header.now) }
+{
+    if header.size < EXTENDED && header.count < EXTENDED {
+        return 16;
+    }
+    24
+}
 
 /// Writes the header at the end: in 16 bytes where size and count are both below 65,535, else in 24.
 pub fn spell_header(header: &Header, out: &mut Vec<u8>) -> Result<(), AllocError>

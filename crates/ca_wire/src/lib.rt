@@ -12,7 +12,7 @@ mod reading;
 pub use deframer::Deframer;
 pub use header::{Header, spell_header};
 pub use laws::{one_reading, read_again};
-pub use message::{Message, spell};
+pub use message::{Message, message_at, spell, spelled_size};
 pub use pipe::Pipe;
 pub use reading::{Head, One, read_one};
 

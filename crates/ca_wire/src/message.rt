@@ -1,8 +1,10 @@
-ghost use Rattle.std.specs.Prelude.{◌≡◌, ◌≢◌, ◌+◌, ◌%◌, ◌<◌, ◌≤◌, ◌++◌, [], length, MatchResult, OnErr, OnOk, vec_capacity, vec_len};
-ghost use Rattle.ca_wire.specs.Fields.{IsPayload};
+ghost use Rattle.std.specs.Prelude.{ℕ, List, ◌≡◌, ◌≢◌, ◌+◌, ◌%◌, ◌<◌, ◌≤◌, ◌++◌, [], length, MatchResult, OnErr, OnOk, vec_capacity, vec_len};
+ghost use Rattle.ca_wire.specs.Fields.{Fields, IsPayload};
+ghost use Rattle.ca_wire.specs.Front.{FrontFits};
 ghost use Rattle.ca_wire.specs.Message.{IsMade, IsMessage, header_of, spelling};
 
-use crate::header::{Header, spell_header};
+use crate::header::{Header, header_size, spell_header};
+use crate::reading::{One, read_one};
 use ca_text::{PAYLOAD_LIMIT, Refusal};
 use std::alloc::{AllocError, Global};
 use std::marker::Model;
@@ -146,4 +148,31 @@ pub fn spell(message: &Message, out: &mut Vec<u8>) -> Result<(), AllocError>
     out.reserve(24 + message.payload.len())?;
     spell_header(&message.header(), out)?;
     out.extend_from_slice(&message.payload)
+}
+
+/// Bytes of its one spelling.
+pub fn spelled_size(message: &Message) -> usize
+    ensures { result ≡ length (spelling message.now) }
+{
+    header_size(&message.header()) + message.payload.len()
+}
+
+/// The message whose one spelling begins the bytes. Its payload is put into the room, and no memory is taken.
+pub fn message_at(bytes: &[u8], room: Vec<u8>) -> Message
+    requires front { FrontFits bytes.now (vec_capacity room) }
+    requires empty { room.items ≡ [] }
+    ensures { (m : Fields) (rest : List ℕ) → IsMessage m → bytes.now ≡ spelling m ++ rest → result ≡ m }
+{
+    match read_one(bytes) {
+        One::Whole(head) => {
+            let mut payload = room;
+            let end = head.start + head.header.size as usize;
+            match payload.extend_from_slice(&bytes[head.start..end]) {
+                Ok(()) => Message::of_header(head.header, payload),
+                Err(_) => unreachable!(),
+            }
+        }
+        One::More => unreachable!(),
+        One::Bad(_) => unreachable!(),
+    }
 }

@@ -33,6 +33,14 @@ impl Pipe {
         }
     }
 
+    /// The bytes from this place on.
+    pub fn of(bytes: Vec<u8>, start: usize) -> Pipe
+        requires { start ≤ length bytes.items }
+        ensures { result ≡ drop start bytes.items }
+    {
+        Pipe { bytes, start }
+    }
+
     /// The bytes that wait.
     pub fn bytes(&self) -> &[u8]
         ensures { result.now ≡ self.now }
