@@ -1,4 +1,5 @@
 mod Answerings
+mod Extending
 mod Handling
 mod Images
 mod Servings

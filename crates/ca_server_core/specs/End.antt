@@ -1,7 +1,7 @@
 -- The server's end of a circuit, and what one message makes of it.
-use Rattle.std.specs.Prelude.{ℕ, ◌≡◌, ◌<◌, ◌++◌, Bool, true, List, [], ◌∷◌, ℤ, Option, if◌then◌else◌, length}
+use Rattle.std.specs.Prelude.{ℕ, ◌≡◌, ◌<◌, ◌++◌, ◌⊎◌, Bool, true, false, List, [], ◌∷◌, ℤ, Option, if◌then◌else◌, length}
 use Rattle.ca_text.specs.Command.{command_number}
-use Rattle.ca_text.specs.declared.command.Command.TheVariants.{ReadNotify}
+use Rattle.ca_text.specs.declared.command.Command.TheVariants.{ClearChannel, CreateChannel, ReadNotify, Version}
 use Rattle.ca_text.specs.Place.{At}
 use Rattle.ca_text.specs.Status.{normal}
 use Rattle.ca_wire.specs.Fields.{Fields, padded}
@@ -37,6 +37,20 @@ pub record HandlesOne (records : List RecordState) (old : End) (m : Fields) (new
   pub replies : List Fields
   pub handles : Handles records old.greeted (length old.slots) (IsAmong records old.slots) m replies new.greeted (length new.slots) (IsAmong records new.slots)
   pub waits : new.output ≡ old.output ++ spelled replies
+
+-- what waited waits still, and perhaps more behind it
+abbrev pub Extends : List ℕ → List ℕ → Type 0
+Extends old new = (more : List ℕ) × (new ≡ old ++ more)
+
+-- The commands that are answered: VERSION where the peer has not greeted, CREATE_CHAN, READ_NOTIFY and CLEAR_CHANNEL.
+abbrev pub IsAnswered : Bool → Fields → Type 0
+IsAnswered greeted m =
+    ((m.command ≡ command_number Version) × (greeted ≡ false)) ⊎ ((m.command ≡ command_number CreateChannel) ⊎ ((m.command ≡ command_number ReadNotify) ⊎ (m.command ≡ command_number ClearChannel)))
+
+-- From old, there was no memory for the answer to the message m, and new is left.
+pub record FailsOne (old : End) (m : Fields) (new : End) : Type 0 where
+  pub answered : IsAnswered old.greeted m
+  pub waits : Extends old.output new.output
 
 -- after a VERSION
 abbrev pub greeted : End → End

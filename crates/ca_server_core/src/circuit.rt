@@ -1,4 +1,4 @@
-ghost use Rattle.std.specs.Prelude.{◌≡◌, ◌<◌, ◌≤◌, ◌*◌, ◌++◌, ◌∷◌, ℕ, [], OnOk, false, length};
+ghost use Rattle.std.specs.Prelude.{◌≡◌, ◌<◌, ◌≤◌, ◌*◌, ◌++◌, ◌∷◌, ℕ, [], OnErr, OnOk, drop, false, length, take};
 ghost use Rattle.ca_text.specs.Command.{command_number};
 ghost use Rattle.ca_text.specs.Limits.{channel_limit};
 ghost use Rattle.ca_text.specs.Place.{At};
@@ -6,7 +6,7 @@ ghost use Rattle.ca_wire.specs.Message.{spelled};
 ghost use Rattle.ca_model.specs.History.{text_in};
 ghost use Rattle.ca_model.specs.Replies.{failed_reply, read_reply, refused_reply};
 ghost use Rattle.ca_server_core.specs.Channels.{Holds};
-ghost use Rattle.ca_server_core.specs.End.{AreKnown, HandlesOne, IsCleared, IsSeated, bare, greeted, long_reply};
+ghost use Rattle.ca_server_core.specs.End.{AreKnown, Extends, FailsOne, HandlesOne, IsCleared, IsSeated, bare, greeted, long_reply};
 
 use crate::channels::{Channel, Channels};
 use crate::image::{put_longs, put_zeros, text_of};
@@ -57,6 +57,30 @@ impl Circuit {
         &self.output
     }
 
+    /// Only the first n of the bytes wait.
+    pub fn truncate(&mut self, n: usize)
+        ensures { self.new ≡ record self.old { output = take n self.old.output } }
+    {
+        self.output.truncate(n);
+    }
+
+    /// The first n of the bytes wait no more. Those behind them are moved to the front.
+    pub fn drop_front(&mut self, n: usize)
+        requires { n ≤ length self.old.output }
+        ensures { self.new ≡ record self.old { output = drop n self.old.output } }
+    {
+        let rest = self.output.len() - n;
+        self.output.copy_within(n.., 0);
+        self.output.truncate(rest);
+    }
+
+    /// The bytes that wait, moved out.
+    pub fn into_output(self) -> Vec<u8>
+        ensures { result.items ≡ self.output }
+    {
+        self.output
+    }
+
     /// All bytes that waited were sent.
     pub fn sent(&mut self)
         ensures { self.new ≡ record self.old { output = [] } }
@@ -64,11 +88,13 @@ impl Circuit {
         self.output.clear();
     }
 
-    /// Answers one message. Where there is no memory for it, the circuit is to be closed.
+    /// Answers one message. Where there is no memory for it, the circuit is to be closed: what waited waits still, and
+    /// a beginning of the replies may stand behind it.
     pub fn handle(&mut self, records: &Records, message: &Message) -> Result<(), AllocError>
         requires known { AreKnown records.now self.old.slots }
         ensures ok { OnOk result (HandlesOne records.now self.old message.now self.new) }
         ensures known { OnOk result (AreKnown records.now self.new.slots) }
+        ensures err { OnErr result (FailsOne self.old message.now self.new) }
     {
         let Some(command) = Command::of(message.command()) else {
             return Ok(());
@@ -85,6 +111,7 @@ impl Circuit {
     /// VERSION: the first is answered by ours.
     fn version(&mut self) -> Result<(), AllocError>
         ensures ok { OnOk result (self.new ≡ greeted self.old) }
+        ensures err { OnErr result ((self.old.greeted ≡ false) × Extends self.old.output self.new.output) }
     {
         if self.greeted {
             return Ok(());
@@ -101,6 +128,7 @@ impl Circuit {
         requires command { message.now.command ≡ command_number Command.CreateChannel }
         ensures ok { OnOk result (HandlesOne records.now self.old message.now self.new) }
         ensures known { OnOk result (AreKnown records.now self.new.slots) }
+        ensures err { OnErr result (Extends self.old.output self.new.output) }
     {
         match records.find(text_of(message.payload())) {
             None => self.refuse_channel(message),
@@ -119,6 +147,7 @@ impl Circuit {
         requires room { length self.old.slots < channel_limit }
         requires new { (sid : ℕ) (other : Channel) → Holds self.old.slots sid other → other.cid ≡ message.now.p1 → ⊥ }
         ensures ok { OnOk result (IsSeated records.now self.old message.now place self.new) }
+        ensures err { OnErr result (Extends self.old.output self.new.output) }
     {
         let record = records.at(place);
         let cid = message.p1();
@@ -144,6 +173,7 @@ impl Circuit {
 
     fn refuse_channel(&mut self, message: &Message) -> Result<(), AllocError>
         ensures ok { OnOk result (self.new ≡ record self.old { output = self.old.output ++ spelled (failed_reply message.now ∷ []) }) }
+        ensures err { OnErr result (Extends self.old.output self.new.output) }
     {
         put_bare(
             &mut self.output,
@@ -162,6 +192,7 @@ impl Circuit {
         requires command { message.now.command ≡ command_number Command.ReadNotify }
         ensures ok { OnOk result (HandlesOne records.now self.old message.now self.new) }
         ensures same { OnOk result (self.new.slots ≡ self.old.slots) }
+        ensures err { OnErr result (Extends self.old.output self.new.output) }
     {
         match self.channels.get(message.p1()) {
             None => refuse_read(&mut self.output, message, Status::BADCHID),
@@ -172,6 +203,7 @@ impl Circuit {
     /// CLEAR_CHANNEL: always answered, and the SID alone decides what is cleared.
     fn clear(&mut self, message: &Message) -> Result<(), AllocError>
         ensures ok { OnOk result (IsCleared self.old message.now self.new) }
+        ensures err { OnErr result (Extends self.old.output self.new.output) }
     {
         put_bare(
             &mut self.output,
@@ -196,6 +228,7 @@ fn put_bare(
     p2: u32,
 ) -> Result<(), AllocError>
     ensures ok { OnOk result (out.new.items ≡ out.old.items ++ spelled (bare (command_number command) data_type count p1 p2 ∷ [])) }
+    ensures err { OnErr result (out.new.items ≡ out.old.items) }
 {
     let command = command.number();
     let header = Header {
@@ -213,6 +246,7 @@ fn put_bare(
 /// Writes the refusal of a read.
 fn refuse_read(out: &mut Vec<u8>, message: &Message, status: Status) -> Result<(), AllocError>
     ensures ok { OnOk result (out.new.items ≡ out.old.items ++ spelled (refused_reply message.now status.number ∷ [])) }
+    ensures err { OnErr result (Extends out.old.items out.new.items) }
 {
     put_bare(
         out,
@@ -228,6 +262,7 @@ fn refuse_read(out: &mut Vec<u8>, message: &Message, status: Status) -> Result<(
 /// Writes the reply to a read of this record: the first fault in order, or the value.
 fn answer_read(out: &mut Vec<u8>, record: &Record, message: &Message) -> Result<(), AllocError>
     ensures ok { OnOk result (out.new.items ≡ out.old.items ++ spelled (read_reply record.now message.now ∷ [])) }
+    ensures err { OnErr result (Extends out.old.items out.new.items) }
 {
     if message.data_type() != LONG {
         return refuse_read(out, message, Status::BADTYPE);
@@ -253,6 +288,7 @@ fn put_value(
 ) -> Result<(), AllocError>
     requires within { 4 * wanted ≤ 1048576 }
     ensures ok { OnOk result (out.new.items ≡ out.old.items ++ spelled (long_reply message.now wanted longs.now ∷ [])) }
+    ensures err { OnErr result (Extends out.old.items out.new.items) }
 {
     let first = longs.len().min(wanted as usize);
     let size = (4 * wanted as usize).next_multiple_of(8);

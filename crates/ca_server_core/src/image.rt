@@ -1,7 +1,8 @@
-ghost use Rattle.std.specs.Prelude.{◌≡◌, ◌≤◌, ◌*◌, ◌++◌, ◌==◌, length, OnOk, position, replicate};
+ghost use Rattle.std.specs.Prelude.{◌≡◌, ◌≤◌, ◌*◌, ◌++◌, ◌==◌, length, OnErr, OnOk, position, replicate};
 ghost use Rattle.std.specs.List.{flat_map};
 ghost use Rattle.ca_model.specs.Image.{long_bytes};
 ghost use Rattle.ca_model.specs.History.{text_in};
+ghost use Rattle.ca_server_core.specs.End.{Extends};
 
 use std::alloc::AllocError;
 
@@ -24,6 +25,7 @@ fn first_zero(payload: &[u8]) -> Option<usize>
 /// Writes the elements at the end, four bytes each.
 pub fn put_longs(out: &mut Vec<u8>, longs: &[i32]) -> Result<(), AllocError>
     ensures ok { OnOk result (out.new.items ≡ out.old.items ++ flat_map long_bytes longs.now) }
+    ensures err { OnErr result (Extends out.old.items out.new.items) }
 {
     for x in longs {
         out.extend_from_slice(&x.to_be_bytes())?;
@@ -35,6 +37,7 @@ pub fn put_longs(out: &mut Vec<u8>, longs: &[i32]) -> Result<(), AllocError>
 pub fn put_zeros(out: &mut Vec<u8>, n: usize) -> Result<(), AllocError>
     requires { n ≤ 1048576 }
     ensures ok { OnOk result (out.new.items ≡ out.old.items ++ replicate n 0) }
+    ensures err { OnErr result (out.new.items ≡ out.old.items) }
 {
     let len = out.len() + n;
     out.resize(len, 0)

@@ -41,4 +41,5 @@ returns-in_default-command c =
       ok = handles-other c.args.records.now c.args.self.now c.args.message.now (λ e. c.in_default-command.not-Version (number-version c.in-Some.command (sym number ∙ e))) (λ e. c.in_default-command.not-CreateChannel (number-create c.in-Some.command (sym number ∙ e)))
           (λ e. c.in_default-command.not-ReadNotify (number-read c.in-Some.command (sym number ∙ e))) (λ e. c.in_default-command.not-ClearChannel (number-clear c.in-Some.command (sym number ∙ e)));
       known = c.requires.known;
+      err = tt;
     }
