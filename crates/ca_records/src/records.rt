@@ -1,4 +1,4 @@
-ghost use Rattle.std.specs.Prelude.{◌≡◌, ◌<◌, ◌↔◌, [], IfSome, IsTrue, MatchOption, MatchResult, length};
+ghost use Rattle.std.specs.Prelude.{◌≡◌, ◌<◌, ◌↔◌, ◌++◌, ◌∷◌, [], IfOk, IfSome, IsTrue, MatchOption, MatchResult, OnOk, length};
 ghost use Rattle.ca_text.specs.Place.{At};
 ghost use Rattle.ca_text.specs.declared.refusal.Refusal.TheVariants.{UnknownRecord};
 ghost use Rattle.ca_records.specs.Record.{RecordState};
@@ -6,7 +6,7 @@ ghost use Rattle.ca_records.specs.Records.{AreApart, Defines, Holds, IsServed, N
 
 use crate::record::{Record, check};
 use ca_text::Refusal;
-use std::alloc::Global;
+use std::alloc::{AllocError, Global};
 use std::collections::BTreeMap;
 use std::marker::Model;
 
@@ -53,7 +53,8 @@ impl Records {
     /// The record at this place.
     pub fn at(&self, place: usize) -> &Record
         requires { place < length self.now }
-        ensures { At self.now place result.now }
+        ensures at { At self.now place result.now }
+        ensures apart { AreApart self.now }
     {
         &self.list[place]
     }
@@ -104,5 +105,29 @@ impl Records {
         self.list
             .push_reserved(Record::new(own, count, slow, longs));
         Ok(())
+    }
+
+    /// The same records once more.
+    pub fn copy(&self) -> Result<Records, AllocError>
+        ensures { IfOk result (λ copy. copy ≡ self.now) }
+    {
+        let mut copy = Records::new(*self.list.allocator());
+        for record in &self.list {
+            copy.put_copy(record)?;
+        }
+        Ok(copy)
+    }
+
+    /// Adds a copy of another's record behind the others.
+    fn put_copy(&mut self, other: &Record) -> Result<(), AllocError>
+        requires { IsServed self.old other.now.name → ⊥ }
+        ensures { OnOk result (self.new ≡ self.old ++ other.now ∷ []) }
+    {
+        let longs = Vec::from_slice(*self.list.allocator(), other.longs())?;
+        match self.define(other.name(), other.count(), other.is_slow(), longs) {
+            Ok(()) => Ok(()),
+            Err(Refusal::OutOfMemory) => Err(AllocError),
+            Err(_) => unreachable!(),
+        }
     }
 }

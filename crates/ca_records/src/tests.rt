@@ -91,6 +91,8 @@ fn records_are_found(rt: HostRuntime) -> Result<(), Fail> {
         records.define(name, 4, i % 2 == 1, longs)?;
     }
     assert_eq!(rt; records.len(), 5);
+    let records = records.copy()?;
+    assert_eq!(rt; records.len(), 5);
     for (i, name) in names.iter().enumerate() {
         assert!(rt; records.has(name));
         assert_eq!(rt; records.find(name), Some(i));
