@@ -1,5 +1,8 @@
-use crate::{Deframer, Head, Header, Message, One, read_one, spell, spell_header};
+use crate::{
+    Deframer, Head, Header, Message, One, message_at, read_one, spell, spell_header, spelled_size,
+};
 use ca_text::Refusal;
+use std::alloc::Global;
 use std::process::Abort;
 use std::test::Fail;
 
@@ -193,5 +196,46 @@ fn a_bad_header_is_final(rt: HostRuntime) -> Result<(), Fail> {
     assert!(rt; matches!(deframer.next_message(), Err(Refusal::Misaligned)));
     assert!(rt; matches!(deframer.next_message(), Err(Refusal::CircuitClosed)));
     assert!(rt; deframer.give(b"") == Err(Refusal::CircuitClosed));
+    Ok(())
+}
+
+/// A message is spelled, with bytes behind it, and read back: so many bytes, of which the first ones are these.
+fn read_back(alloc: Global, message: &Message, bytes: &[u8]) -> Result<Message, Fail> {
+    let mut out = Vec::new(alloc);
+    spell(message, &mut out)?;
+    let front = out.as_slice().starts_with(bytes);
+    if !front || spelled_size(message) != out.len() {
+        return Err("another spelling".into());
+    }
+    let room = Vec::with_capacity(alloc, message.header().size as usize)?;
+    Ok(message_at(&out, room))
+}
+
+#[test]
+fn a_spelled_message_is_read_back(rt: HostRuntime) -> Result<(), Fail> {
+    let rows: [(usize, u32, &[u8]); 3] = [
+        (
+            0,
+            0,
+            b"\x00\x0f\x00\x00\x00\x05\x00\x00\0\x01\0\0\0\0\0\x0d",
+        ),
+        (
+            8,
+            2,
+            b"\x00\x0f\x00\x08\x00\x05\x00\x02\0\x01\0\0\0\0\0\x0d",
+        ),
+        (
+            65_536,
+            16_384,
+            b"\x00\x0f\xff\xff\x00\x05\x00\x00\0\x01\0\0\0\0\0\x0d\0\x01\0\0\0\0\x40\0",
+        ),
+    ];
+    for (size, count, front) in rows {
+        let payload = vec![in rt.alloc(); 7u8; size]?;
+        let message = Message::new(15, 5, count, 0x1_0000, 13, payload)?;
+        let again = read_back(rt.alloc(), &message, front)?;
+        assert!(rt; again.header() == header(15, 5, size as u32, count, 0x1_0000, 13));
+        assert_eq!(rt; again.payload(), message.payload());
+    }
     Ok(())
 }
