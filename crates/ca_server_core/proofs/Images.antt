@@ -95,7 +95,7 @@ payload-parts n first size xs e lo hi multiple =
     ∙ append_assoc (flat_map long_bytes (take first xs)) (replicate (4 * n - 4 * first) 0) (replicate (size - 4 * n) 0)
     ∙ ap (λ (t : List ℕ). flat_map long_bytes (take first xs) ++ t) (replicate-append-replicate (4 * n - 4 * first) (size - 4 * n) 0 ∙ ap (λ (k : ℕ). replicate k 0) all)
 
-length-payload : (n size : ℕ) (xs : List ℤ) → 4 * n ≤ size → size < 4 * n + 8 → size % 8 ≡ 0 → length (padded (long_image n xs)) ≡ size
+pub length-payload : (n size : ℕ) (xs : List ℤ) → 4 * n ≤ size → size < 4 * n + 8 → size % 8 ≡ 0 → length (padded (long_image n xs)) ≡ size
 length-payload n size xs lo hi multiple =
     let len : length (long_image n xs) ≡ 4 * n = length-image n xs in
     let pad : (8 - length (long_image n xs) % 8) % 8 ≡ size - 4 * n = ap (λ (k : ℕ). (8 - k % 8) % 8) len ∙ padding n size lo hi multiple in

@@ -1,6 +1,11 @@
 mod Answerings
+mod Deciding
 mod Extending
 mod Handling
 mod Images
+mod Seating
+mod Serves
 mod Servings
+mod Sizing
 mod Slots
+mod Stepping

@@ -1,23 +1,24 @@
-ghost use Rattle.std.specs.Prelude.{◌≡◌, ◌<◌, ◌≤◌, ◌*◌, ◌++◌, ◌∷◌, ℕ, [], OnErr, OnOk, drop, false, length, take};
+ghost use Rattle.std.specs.Prelude.{◌≡◌, ◌<◌, ◌≤◌, ◌*◌, ◌++◌, ◌∷◌, ℕ, List, [], OnErr, OnOk, drop, false, length, take};
 ghost use Rattle.ca_text.specs.Command.{command_number};
 ghost use Rattle.ca_text.specs.Limits.{channel_limit};
 ghost use Rattle.ca_text.specs.Place.{At};
-ghost use Rattle.ca_wire.specs.Message.{spelled};
+ghost use Rattle.ca_wire.specs.Fields.{Fields};
+ghost use Rattle.ca_wire.specs.Message.{header_of, spelled};
+ghost use Rattle.ca_model.specs.Due.{Due};
 ghost use Rattle.ca_model.specs.History.{text_in};
 ghost use Rattle.ca_model.specs.Replies.{failed_reply, read_reply, refused_reply};
 ghost use Rattle.ca_server_core.specs.Channels.{Holds};
-ghost use Rattle.ca_server_core.specs.End.{AreKnown, Extends, FailsOne, HandlesOne, IsCleared, IsSeated, bare, greeted, long_reply};
+ghost use Rattle.ca_server_core.specs.End.{AreKnown, Extends, FailsOne, HandlesOne, IsAmong, IsCleared, IsSeated, bare, greeted, long_reply};
+ghost use Rattle.ca_server_core.specs.Sizes.{AreWithin};
 
 use crate::channels::{Channel, Channels};
 use crate::image::{put_longs, put_zeros, text_of};
+use crate::read::{LONG, value_size, wanted_of};
 use ca_records::{Record, Records};
-use ca_text::{CHANNEL_LIMIT, Command, MINOR_VERSION, PAYLOAD_LIMIT, Status};
+use ca_text::{CHANNEL_LIMIT, Command, MINOR_VERSION, Status};
 use ca_wire::{Header, Message, spell_header};
 use std::alloc::{AllocError, Global};
 use std::marker::Model;
-
-/// The data type LONG.
-const LONG: u16 = 5;
 
 /// The rights to read and to write.
 const READ_WRITE: u32 = 3;
@@ -79,6 +80,23 @@ impl Circuit {
         ensures { result.items ≡ self.output }
     {
         self.output
+    }
+
+    /// A bound on the payloads of the replies to the message of this header.
+    pub fn answer_size(&self, records: &Records, header: &Header) -> usize
+        requires known { AreKnown records.now self.now.slots }
+        ensures { (m : Fields) (replies : List Fields) → header_of m ≡ header.now → Due records.now self.now.greeted (length self.now.slots) (IsAmong records.now self.now.slots) m replies → AreWithin replies result }
+    {
+        if header.command != Command::ReadNotify.number() {
+            return 0;
+        }
+        match self.channels.get(header.p1) {
+            None => 0,
+            Some(channel) => {
+                let record = records.at(channel.record);
+                value_size(record, header.data_type, header.count)
+            }
+        }
     }
 
     /// All bytes that waited were sent.
@@ -264,19 +282,10 @@ fn answer_read(out: &mut Vec<u8>, record: &Record, message: &Message) -> Result<
     ensures ok { OnOk result (out.new.items ≡ out.old.items ++ spelled (read_reply record.now message.now ∷ [])) }
     ensures err { OnErr result (Extends out.old.items out.new.items) }
 {
-    if message.data_type() != LONG {
-        return refuse_read(out, message, Status::BADTYPE);
+    match wanted_of(record, message.data_type(), message.count()) {
+        Ok(wanted) => put_value(out, record.longs(), wanted, message),
+        Err(status) => refuse_read(out, message, status),
     }
-    let longs = record.longs();
-    let wanted = if message.count() == 0 {
-        longs.len() as u32
-    } else {
-        message.count()
-    };
-    if wanted > record.count() || 4 * wanted as usize > PAYLOAD_LIMIT {
-        return refuse_read(out, message, Status::BADCOUNT);
-    }
-    put_value(out, longs, wanted, message)
 }
 
 /// Writes a read's reply with the image of so many elements: the first ones, and zeros behind them.

@@ -5,5 +5,12 @@ mod answer;
 mod channels;
 mod circuit;
 mod image;
+mod link;
+mod read;
+mod server;
 
 pub use answer::answer_stream;
+pub use server::ServerCore;
+
+#[cfg(test)]
+mod tests;

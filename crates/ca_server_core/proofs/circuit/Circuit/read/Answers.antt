@@ -22,4 +22,4 @@ returns-in-Some-clause-ok c =
     let holds = rw c.p1.ensures at c.in-Some.ensures in
     let end : List ℕ → End = λ o. record { greeted = c.self.inside.greeted; slots = c.self.inside.channels; output = o } in
     rw (← c.self.view_is)
-    (ok-then c.answer_read.result (λ e. subst (λ (o : List ℕ). HandlesOne records (end c.self.inside.output.items) m (end o)) (sym e) (handles-value records (end c.self.inside.output.items) m c.in-Some.channel c.at.result.now c.requires.command holds c.at.ensures)) c.answer_read.ensures.ok)
+    (ok-then c.answer_read.result (λ e. subst (λ (o : List ℕ). HandlesOne records (end c.self.inside.output.items) m (end o)) (sym e) (handles-value records (end c.self.inside.output.items) m c.in-Some.channel c.at.result.now c.requires.command holds c.at.ensures.at)) c.answer_read.ensures.ok)
