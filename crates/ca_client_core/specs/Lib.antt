@@ -1,0 +1,5 @@
+pub mod Takes
+pub mod Finds
+pub mod Sound
+pub mod Calls
+pub mod Hears
