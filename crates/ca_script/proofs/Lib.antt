@@ -1,0 +1,4 @@
+pub mod Partings
+pub mod Numbers
+pub mod Plain
+pub mod Sayings

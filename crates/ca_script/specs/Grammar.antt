@@ -1,0 +1,28 @@
+-- How the lines of a script are read.
+use Rattle.std.specs.Prelude.{ℕ, ◌≡◌, ◌<◌, ◌^◌, ◌==◌, if◌then◌else◌, List, [], ◌∷◌, Option, Some, None}
+use Rattle.std.specs.Str.Parse.{IsNumeral, digits_value}
+
+-- the first piece with this byte in front of it
+abbrev pub longer : ℕ → List (List ℕ) → List (List ℕ)
+longer x [] = (x ∷ []) ∷ []
+longer x (piece ∷ pieces) = (x ∷ piece) ∷ pieces
+
+-- the pieces of a text between separators: one more than there are separators
+unfoldable pub parted : ℕ → List ℕ → List (List ℕ)
+parted separator [] = [] ∷ []
+parted separator (x ∷ xs) = if x == separator then [] ∷ parted separator xs else longer x (parted separator xs)
+
+-- the pieces of what is left, where something is
+abbrev pub pieces_left : ℕ → Option (List ℕ) → List (List ℕ)
+pieces_left separator None = []
+pieces_left separator (Some text) = parted separator text
+
+-- the words of what is left of a line: spaces part them
+abbrev pub words_left : Option (List ℕ) → List (List ℕ)
+words_left rest = pieces_left 32 rest
+
+-- a word is a decimal number: digits alone, and at least one; it has at most 64 bits
+pub record IsNumber (word : List ℕ) (n : ℕ) : Type 0 where
+  pub digits : IsNumeral 10 word
+  pub value : digits_value 10 word ≡ n
+  pub fits : n < 2 ^ 64

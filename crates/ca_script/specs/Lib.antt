@@ -1,0 +1,4 @@
+pub mod Grammar
+pub mod Setting
+pub mod Report
+pub mod Events

@@ -1,0 +1,49 @@
+-- The lines of a report.
+use Rattle.std.specs.Prelude.{ℕ, List, ◌++◌, codes, decimal}
+use Rattle.std.specs.List.{flat_map}
+use Rattle.hex.specs.Hex.{encode_lower}
+use Rattle.ca_text.specs.Refusal.{refusal_number}
+use Rattle.ca_dbr.specs.declared.value.Outcome.{Outcome}
+use Rattle.ca_dbr.specs.declared.value.Outcome.TheVariants as outcome
+use Rattle.ca_dbr.specs.Elements.{Elements, base_of, bytes_of, count_of, elements}
+use Rattle.ca_dbr.specs.Types.{base_number}
+use Rattle.ca_model.specs.declared.data.Logged.{Logged}
+use Rattle.ca_model.specs.declared.data.Logged.TheVariants as logged
+use Rattle.ca_model.specs.declared.data.Notice.{Notice}
+use Rattle.ca_model.specs.declared.data.Notice.TheVariants as notice
+
+-- a word and a number: the number stands behind a space
+abbrev pub counted : List ℕ → ℕ → List ℕ
+counted word n = word ++ decimal n
+
+-- a value: the number of its type, how many elements it has, and their bytes
+abbrev pub value_text : Elements → List ℕ
+value_text e = counted (codes " value ") (base_number (base_of e)) ++ (counted (codes " ") (count_of e) ++ (codes " " ++ encode_lower (bytes_of e)))
+
+-- what became of a request
+abbrev pub outcome_text : Outcome → List ℕ
+outcome_text (outcome.Value v m) = value_text (elements v)
+outcome_text outcome.Done = codes " done"
+outcome_text (outcome.Failed status) = counted (codes " status ") status.number
+outcome_text (outcome.Unreadable refusal) = counted (codes " unreadable ") (refusal_number refusal)
+outcome_text outcome.Disconnected = codes " disconnected"
+
+-- what a client told
+abbrev pub notice_text : Notice → List ℕ
+notice_text (notice.Live channel) = counted (codes " live ") channel
+notice_text (notice.Lost channel) = counted (codes " lost ") channel
+notice_text (notice.Completed request outcome) = counted (codes " completed ") request ++ outcome_text outcome
+
+abbrev pub entry_text : Logged → List ℕ
+entry_text (logged.Told n) = notice_text n
+entry_text (logged.Refused refusal) = counted (codes " refused ") (refusal_number refusal)
+
+-- a line: the client's number, what happened, and a line feed
+abbrev pub line_text : ℕ → Logged → List ℕ
+line_text client entry = decimal client ++ (entry_text entry ++ codes "\n")
+
+abbrev pub log_text : ℕ → List Logged → List ℕ
+log_text client log = flat_map (λ entry. line_text client entry) log
+
+abbrev pub end_text : ℕ → List ℕ
+end_text events = counted (codes "events ") events ++ codes "\n"

@@ -1,0 +1,17 @@
+-- What a world is made of, as a script gives it.
+use Rattle.std.specs.Prelude.{ℕ, ◌<◌, List, length, map}
+use Rattle.ca_text.specs.Limits.{payload_limit}
+use Rattle.ca_records.specs.Record.{RecordState}
+use Rattle.ca_model.specs.World.{Setting}
+use Rattle.ca_script.specs.declared.config.Config.{Config}
+use Rattle.ca_script.specs.declared.config.Served.{Served}
+
+-- a user and a host of which messages can be made
+abbrev pub IsNamed : List ℕ × List ℕ → Type 0
+IsNamed c = (length c.0 < payload_limit) × (length c.1 < payload_limit)
+
+abbrev pub records_of : Served → List RecordState
+records_of s = s.records
+
+abbrev pub setting_of : Config → Setting
+setting_of c = record { clients = c.clients.items; servers = map records_of c.servers.items }

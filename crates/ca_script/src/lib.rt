@@ -1,0 +1,16 @@
+//! Scripts of worlds read, and the reports of their runs written. There is no IO here.
+#![tactic(auto)]
+
+mod config;
+mod event;
+mod lines;
+mod report;
+mod script;
+mod words;
+
+pub use config::{Config, Named, Served};
+pub use report::{write_end, write_log};
+pub use script::{Script, read_script};
+
+#[cfg(test)]
+mod tests;

@@ -1,0 +1,128 @@
+ghost use Rattle.std.specs.Prelude.{◌≡◌, ◌⊎◌, ◌<◌, ◌^◌, ℕ, List, IfErr, IfOk, MatchResult};
+ghost use Rattle.ca_text.specs.declared.refusal.Refusal.TheVariants.{BadText, OutOfMemory};
+
+use crate::config::Named;
+use crate::words::{Pieces, Words, is_word};
+use ca_records::Records;
+use ca_text::Refusal;
+use std::alloc::Global;
+
+/// `USER HOST`, behind the line's first word. Refused by 8, then by 1.
+pub(crate) fn read_client(alloc: Global, mut words: Words<'_>) -> Result<Named, Refusal>
+    ensures { IfErr result (λ e. (e ≡ BadText) ⊎ (e ≡ OutOfMemory)) }
+{
+    let user = words.word()?;
+    let host = words.word()?;
+    words.end()?;
+    let user = Vec::from_slice(alloc, user)?;
+    let host = Vec::from_slice(alloc, host)?;
+    Named::new(user, host)
+}
+
+/// `A.B.C.D:PORT`, behind the line's first word: an IPv4 address and a port. Refused by 8.
+pub(crate) fn read_server(mut words: Words<'_>) -> Result<(u32, u16), Refusal>
+    ensures { IfErr result (λ e. e ≡ BadText) }
+{
+    let word = words.word()?;
+    words.end()?;
+    let mut parts = Pieces::<58>::new(word);
+    let host = parts.word()?;
+    let port = parts.number()?;
+    parts.end()?;
+    let address = address_in(host)?;
+    match u16::try_from(port) {
+        Ok(port) => Ok((address, port)),
+        Err(_) => Err(Refusal::BadText),
+    }
+}
+
+/// The address that a text is: four numbers below 256, parted by dots. Refused by 8.
+fn address_in(text: &[u8]) -> Result<u32, Refusal>
+    ensures { IfErr result (λ e. e ≡ BadText) }
+{
+    let mut parts = Pieces::<46>::new(text);
+    let a = octet(&mut parts)?;
+    let b = octet(&mut parts)?;
+    let c = octet(&mut parts)?;
+    let d = octet(&mut parts)?;
+    parts.end()?;
+    Ok(u32::from_be_bytes([a, b, c, d]))
+}
+
+fn octet(parts: &mut Pieces<'_, 46>) -> Result<u8, Refusal>
+    ensures { IfErr result (λ e. e ≡ BadText) }
+{
+    match u8::try_from(parts.number()?) {
+        Ok(octet) => Ok(octet),
+        Err(_) => Err(Refusal::BadText),
+    }
+}
+
+/// `NAME LONG COUNT quick|slow V1 V2 ..`, behind the line's first word: a record of a new name is defined. Refused by 8, then
+/// by 1, with no record defined.
+pub(crate) fn read_record(
+    alloc: Global,
+    mut words: Words<'_>,
+    records: &mut Records,
+) -> Result<(), Refusal>
+    ensures { IfErr result (λ e. (e ≡ BadText) ⊎ (e ≡ OutOfMemory)) }
+{
+    let name = words.word()?;
+    if !is_word(words.word()?, "LONG") {
+        return Err(Refusal::BadText);
+    }
+    let count = words.number()?;
+    let slow = slow_in(words.word()?)?;
+    let longs = read_longs(alloc, words)?;
+    let Ok(count) = u32::try_from(count) else {
+        return Err(Refusal::BadText);
+    };
+    if records.has(name) {
+        return Err(Refusal::BadText);
+    }
+    match records.define(name, count, slow, longs) {
+        Ok(()) => Ok(()),
+        Err(Refusal::OutOfMemory) => Err(Refusal::OutOfMemory),
+        Err(_) => Err(Refusal::BadText),
+    }
+}
+
+/// Whether a put takes the record time, as a word says. Refused by 8.
+fn slow_in(word: &[u8]) -> Result<bool, Refusal>
+    ensures { IfErr result (λ e. e ≡ BadText) }
+{
+    if is_word(word, "quick") {
+        return Ok(false);
+    }
+    if is_word(word, "slow") {
+        return Ok(true);
+    }
+    Err(Refusal::BadText)
+}
+
+/// The elements that the words left are. Refused by 8, then by 1.
+fn read_longs(alloc: Global, mut words: Words<'_>) -> Result<Vec<i32>, Refusal>
+    ensures { IfErr result (λ e. (e ≡ BadText) ⊎ (e ≡ OutOfMemory)) }
+{
+    let mut longs = Vec::new(alloc);
+    while !words.is_empty() {
+        longs.push(long_in(words.word()?)?)?;
+    }
+    Ok(longs)
+}
+
+/// The LONG element that a word is. Refused by 8.
+fn long_in(word: &[u8]) -> Result<i32, Refusal>
+    ensures { IfErr result (λ e. e ≡ BadText) }
+{
+    if word.first() == Some(&b'+') {
+        return Err(Refusal::BadText);
+    }
+    let Ok(text) = str::from_utf8(word) else {
+        return Err(Refusal::BadText);
+    };
+    match text.parse::<i32>() {
+        Ok(long) => Ok(long),
+        Err(_) => Err(Refusal::BadText),
+    }
+}

@@ -1,0 +1,115 @@
+ghost use Rattle.std.specs.Prelude.{◌≡◌, ◌↔◌, IsTrue, ◌<◌, ◌∷◌, [], ℕ, List, IfErr, IfOk, IfSome, MatchResult, length, option_map};
+ghost use Rattle.ca_text.specs.declared.refusal.Refusal.TheVariants.{BadText};
+ghost use Rattle.ca_script.specs.Grammar.{IsNumber, parted, pieces_left};
+
+use ca_text::Refusal;
+use memchr::memchr;
+use std::marker::Model;
+
+const PLUS: u8 = b'+';
+
+/// What stands before the first separator, and what stands behind it, where there is one.
+pub(crate) fn cut<'a>(text: &'a [u8], separator: u8) -> (&'a [u8], Option<&'a [u8]>)
+    ensures pieces { parted separator text.now ≡ result.0.now ∷ pieces_left separator (option_map (λ r. r.now) result.1) }
+    ensures shorter { IfSome result.1 (λ r. length r.now < length text.now) }
+{
+    match memchr(separator, text) {
+        None => (text, None),
+        Some(place) => (&text[..place], Some(&text[place + 1..])),
+    }
+}
+
+/// The pieces of a text that were not taken yet. One separator parts them.
+#[derive(Drop)]
+pub(crate) struct Pieces<'a, const SEPARATOR: u8> {
+    rest: Option<&'a [u8]>,
+}
+
+/// The words of a line.
+pub(crate) type Words<'a> = Pieces<'a, 32>;
+
+impl<'a, const SEPARATOR: u8> Model for Pieces<'a, SEPARATOR> {
+    ghost use Rattle.std.specs.Prelude.{ℕ, List, option_map};
+    ghost use Rattle.ca_script.specs.Grammar.{pieces_left};
+
+    ghost Value = { List (List ℕ) };
+
+    ghost view = { λ w. pieces_left SEPARATOR (option_map (λ r. r.now) w.rest) };
+}
+
+impl<'a, const SEPARATOR: u8> Pieces<'a, SEPARATOR> {
+    /// All pieces of a text.
+    pub(crate) fn new(text: &'a [u8]) -> Pieces<'a, SEPARATOR>
+        ensures { result ≡ parted SEPARATOR text.now }
+    {
+        Pieces { rest: Some(text) }
+    }
+
+    /// Whether none is left.
+    pub(crate) fn is_empty(&self) -> bool
+        ensures { IsTrue result ↔ (self.now ≡ []) }
+    {
+        match self.rest {
+            None => true,
+            Some(_) => false,
+        }
+    }
+
+    /// Takes the next piece, which has a byte at least. Refused by 8 where there is none.
+    pub(crate) fn word(&mut self) -> Result<&'a [u8], Refusal>
+        ensures ok { IfOk result (λ w. (self.old ≡ w.now ∷ self.new) × (0 < length w.now)) }
+        ensures err { IfErr result (λ e. (e ≡ BadText) × ((w : List ℕ) (ws : List (List ℕ)) → self.old ≡ w ∷ ws → 0 < length w → ⊥)) }
+    {
+        let Some(text) = self.rest else {
+            return Err(Refusal::BadText);
+        };
+        let (word, rest) = cut(text, SEPARATOR);
+        if word.is_empty() {
+            return Err(Refusal::BadText);
+        }
+        self.rest = rest;
+        Ok(word)
+    }
+
+    /// Takes the next piece, which is a decimal number. Refused by 8 where there is none.
+    pub(crate) fn number(&mut self) -> Result<u64, Refusal>
+        ensures ok { IfOk result (λ n. (w : List ℕ) × (self.old ≡ w ∷ self.new) × IsNumber w n) }
+        ensures err { IfErr result (λ e. (e ≡ BadText) × ((w : List ℕ) (ws : List (List ℕ)) (n : ℕ) → self.old ≡ w ∷ ws → IsNumber w n → ⊥)) }
+    {
+        number_in(self.word()?)
+    }
+
+    /// Refused by 8 where a piece is left.
+    pub(crate) fn end(&self) -> Result<(), Refusal>
+        ensures ok { IfOk result (λ _. self.now ≡ []) }
+        ensures err { IfErr result (λ e. (e ≡ BadText) × (self.now ≡ [] → ⊥)) }
+    {
+        if self.is_empty() {
+            return Ok(());
+        }
+        Err(Refusal::BadText)
+    }
+}
+
+/// Whether a word is this one.
+pub(crate) fn is_word(word: &[u8], text: &str) -> bool
+    ensures { IsTrue result ↔ (word.now ≡ text.now) }
+{
+    word == text.as_bytes()
+}
+
+/// The decimal number that a word is. Refused by 8.
+fn number_in(word: &[u8]) -> Result<u64, Refusal>
+    ensures { MatchResult result (λ n. IsNumber word.now n) (λ e. (e ≡ BadText) × ((n : ℕ) → IsNumber word.now n → ⊥)) }
+{
+    if word.first() == Some(&PLUS) {
+        return Err(Refusal::BadText);
+    }
+    let Ok(text) = str::from_utf8(word) else {
+        return Err(Refusal::BadText);
+    };
+    match text.parse::<u64>() {
+        Ok(number) => Ok(number),
+        Err(_) => Err(Refusal::BadText),
+    }
+}
