@@ -2,3 +2,4 @@ pub mod Partings
 pub mod Numbers
 pub mod Plain
 pub mod Sayings
+pub mod Heads

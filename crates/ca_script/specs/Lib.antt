@@ -1,4 +1,6 @@
 pub mod Grammar
-pub mod Setting
-pub mod Report
 pub mod Events
+pub mod Setting
+pub mod Lines
+pub mod Scripts
+pub mod Report

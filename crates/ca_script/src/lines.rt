@@ -1,5 +1,7 @@
-ghost use Rattle.std.specs.Prelude.{◌≡◌, ◌⊎◌, ◌<◌, ◌^◌, ℕ, List, IfErr, IfOk, MatchResult};
+ghost use Rattle.std.specs.Prelude.{◌≡◌, ◌⊎◌, ◌<◌, ◌∷◌, ℕ, List, IfErr, IfOk, OnOk};
 ghost use Rattle.ca_text.specs.declared.refusal.Refusal.TheVariants.{BadText, OutOfMemory};
+ghost use Rattle.ca_script.specs.Grammar.{IsNumber};
+ghost use Rattle.ca_script.specs.Lines.{AreLongs, IsAddress, IsLong, SaysClient, SaysRecord, SaysServer, slow_word};
 
 use crate::config::Named;
 use crate::words::{Pieces, Words, is_word};
@@ -9,7 +11,8 @@ use std::alloc::Global;
 
 /// `USER HOST`, behind the line's first word. Refused by 8, then by 1.
 pub(crate) fn read_client(alloc: Global, mut words: Words<'_>) -> Result<Named, Refusal>
-    ensures { IfErr result (λ e. (e ≡ BadText) ⊎ (e ≡ OutOfMemory)) }
+    ensures ok { IfOk result (λ n. SaysClient words.entry n) }
+    ensures err { IfErr result (λ e. (e ≡ BadText) ⊎ (e ≡ OutOfMemory)) }
 {
     let user = words.word()?;
     let host = words.word()?;
@@ -21,7 +24,8 @@ pub(crate) fn read_client(alloc: Global, mut words: Words<'_>) -> Result<Named, 
 
 /// `A.B.C.D:PORT`, behind the line's first word: an IPv4 address and a port. Refused by 8.
 pub(crate) fn read_server(mut words: Words<'_>) -> Result<(u32, u16), Refusal>
-    ensures { IfErr result (λ e. e ≡ BadText) }
+    ensures ok { IfOk result (λ p. SaysServer words.entry p.0 p.1) }
+    ensures err { IfErr result (λ e. e ≡ BadText) }
 {
     let word = words.word()?;
     words.end()?;
@@ -38,7 +42,8 @@ pub(crate) fn read_server(mut words: Words<'_>) -> Result<(u32, u16), Refusal>
 
 /// The address that a text is: four numbers below 256, parted by dots. Refused by 8.
 fn address_in(text: &[u8]) -> Result<u32, Refusal>
-    ensures { IfErr result (λ e. e ≡ BadText) }
+    ensures ok { IfOk result (λ address. IsAddress text.now address) }
+    ensures err { IfErr result (λ e. e ≡ BadText) }
 {
     let mut parts = Pieces::<46>::new(text);
     let a = octet(&mut parts)?;
@@ -50,7 +55,9 @@ fn address_in(text: &[u8]) -> Result<u32, Refusal>
 }
 
 fn octet(parts: &mut Pieces<'_, 46>) -> Result<u8, Refusal>
-    ensures { IfErr result (λ e. e ≡ BadText) }
+    ensures ok { IfOk result (λ n. (w : List ℕ) × (parts.old ≡ w ∷ parts.new) × IsNumber w n) }
+    ensures small { IfOk result (λ n. n < 256) }
+    ensures err { IfErr result (λ e. e ≡ BadText) }
 {
     match u8::try_from(parts.number()?) {
         Ok(octet) => Ok(octet),
@@ -65,7 +72,8 @@ pub(crate) fn read_record(
     mut words: Words<'_>,
     records: &mut Records,
 ) -> Result<(), Refusal>
-    ensures { IfErr result (λ e. (e ≡ BadText) ⊎ (e ≡ OutOfMemory)) }
+    ensures ok { OnOk result (SaysRecord words.entry records.old records.new) }
+    ensures err { IfErr result (λ e. (e ≡ BadText) ⊎ (e ≡ OutOfMemory)) }
 {
     let name = words.word()?;
     if !is_word(words.word()?, "LONG") {
@@ -89,7 +97,8 @@ pub(crate) fn read_record(
 
 /// Whether a put takes the record time, as a word says. Refused by 8.
 fn slow_in(word: &[u8]) -> Result<bool, Refusal>
-    ensures { IfErr result (λ e. e ≡ BadText) }
+    ensures ok { IfOk result (λ slow. word.now ≡ slow_word slow) }
+    ensures err { IfErr result (λ e. e ≡ BadText) }
 {
     if is_word(word, "quick") {
         return Ok(false);
@@ -102,7 +111,8 @@ fn slow_in(word: &[u8]) -> Result<bool, Refusal>
 
 /// The elements that the words left are. Refused by 8, then by 1.
 fn read_longs(alloc: Global, mut words: Words<'_>) -> Result<Vec<i32>, Refusal>
-    ensures { IfErr result (λ e. (e ≡ BadText) ⊎ (e ≡ OutOfMemory)) }
+    ensures ok { IfOk result (λ v. AreLongs words.entry v.items) }
+    ensures err { IfErr result (λ e. (e ≡ BadText) ⊎ (e ≡ OutOfMemory)) }
 {
     let mut longs = Vec::new(alloc);
     while !words.is_empty() {
@@ -113,7 +123,8 @@ fn read_longs(alloc: Global, mut words: Words<'_>) -> Result<Vec<i32>, Refusal>
 
 /// The LONG element that a word is. Refused by 8.
 fn long_in(word: &[u8]) -> Result<i32, Refusal>
-    ensures { IfErr result (λ e. e ≡ BadText) }
+    ensures ok { IfOk result (λ z. IsLong word.now z) }
+    ensures err { IfErr result (λ e. e ≡ BadText) }
 {
     if word.first() == Some(&b'+') {
         return Err(Refusal::BadText);

@@ -1,5 +1,7 @@
-ghost use Rattle.std.specs.Prelude.{◌≡◌, ◌⊎◌, ◌≤◌, IfErr, IfOk, OnOk, length, vec_len};
+ghost use Rattle.std.specs.Prelude.{◌≡◌, ◌⊎◌, ◌≤◌, ◌∷◌, IfErr, IfOk, OnOk, codes, length};
 ghost use Rattle.ca_text.specs.declared.refusal.Refusal.TheVariants.{BadText, OutOfMemory};
+ghost use Rattle.ca_script.specs.Grammar.{parted};
+ghost use Rattle.ca_script.specs.Scripts.{Adds, AddsAll, AddsClient, AddsRecord, AddsServer, lines_of, nothing, reading};
 
 use crate::config::{Config, Served};
 use crate::event::{Verb, read_event};
@@ -22,6 +24,7 @@ pub struct Script {
 /// Reads a script: lines of a client, of a server and its records, and then of events. Refused by 8 where a line is not
 /// understood, and by 1.
 pub fn read_script(alloc: Global, text: &[u8]) -> Result<Script, Refusal>
+    ensures lines { IfOk result (λ s. AddsAll nothing (lines_of text.now) (reading s)) }
     ensures clients { IfOk result (λ s. length s.config.clients.items ≤ 1) }
     ensures servers { IfOk result (λ s. length s.config.servers.items ≤ 1) }
     ensures err { IfErr result (λ e. (e ≡ BadText) ⊎ (e ≡ OutOfMemory)) }
@@ -46,6 +49,7 @@ pub fn read_script(alloc: Global, text: &[u8]) -> Result<Script, Refusal>
 fn read_line(alloc: Global, line: &[u8], script: &mut Script) -> Result<(), Refusal>
     requires clients { length script.old.config.clients.items ≤ 1 }
     requires servers { length script.old.config.servers.items ≤ 1 }
+    ensures ok { OnOk result (Adds (reading script.old) (parted 32 line.now) (reading script.new)) }
     ensures clients { OnOk result (length script.new.config.clients.items ≤ 1) }
     ensures servers { OnOk result (length script.new.config.servers.items ≤ 1) }
     ensures err { IfErr result (λ e. (e ≡ BadText) ⊎ (e ≡ OutOfMemory)) }
@@ -72,6 +76,7 @@ fn read_line(alloc: Global, line: &[u8], script: &mut Script) -> Result<(), Refu
 /// One client comes before all else.
 fn add_client(alloc: Global, words: Words<'_>, script: &mut Script) -> Result<(), Refusal>
     requires servers { length script.old.config.servers.items ≤ 1 }
+    ensures ok { OnOk result (AddsClient (reading script.old) (codes "client" ∷ words.entry) (reading script.new)) }
     ensures clients { OnOk result (length script.new.config.clients.items ≤ 1) }
     ensures servers { OnOk result (length script.new.config.servers.items ≤ 1) }
     ensures err { IfErr result (λ e. (e ≡ BadText) ⊎ (e ≡ OutOfMemory)) }
@@ -88,6 +93,7 @@ fn add_client(alloc: Global, words: Words<'_>, script: &mut Script) -> Result<()
 /// One server comes before the events.
 fn add_server(alloc: Global, words: Words<'_>, script: &mut Script) -> Result<(), Refusal>
     requires clients { length script.old.config.clients.items ≤ 1 }
+    ensures ok { OnOk result (AddsServer (reading script.old) (codes "server" ∷ words.entry) (reading script.new)) }
     ensures clients { OnOk result (length script.new.config.clients.items ≤ 1) }
     ensures servers { OnOk result (length script.new.config.servers.items ≤ 1) }
     ensures err { IfErr result (λ e. (e ≡ BadText) ⊎ (e ≡ OutOfMemory)) }
@@ -109,6 +115,7 @@ fn add_server(alloc: Global, words: Words<'_>, script: &mut Script) -> Result<()
 fn add_record(alloc: Global, words: Words<'_>, script: &mut Script) -> Result<(), Refusal>
     requires clients { length script.old.config.clients.items ≤ 1 }
     requires servers { length script.old.config.servers.items ≤ 1 }
+    ensures ok { OnOk result (AddsRecord (reading script.old) (codes "record" ∷ words.entry) (reading script.new)) }
     ensures clients { OnOk result (length script.new.config.clients.items ≤ 1) }
     ensures servers { OnOk result (length script.new.config.servers.items ≤ 1) }
     ensures err { IfErr result (λ e. (e ≡ BadText) ⊎ (e ≡ OutOfMemory)) }

@@ -1,8 +1,14 @@
 use Rattle.std.proofs.Common.{◌≤◌, length}
+use Rattle.ca_script.specs.Scripts.{AddsAll, Reading, lines_of, nothing, reading}
 use Rattle.ca_script.proofs.script.read_script.Given as goal
 
+-- What the lines left lead to, all lines lead to.
 abbrev pub invariant-loop-left : goal.invariant-loop-left
-invariant-loop-left l = (length l.script.config.clients.items ≤ 1) × (length l.script.config.servers.items ≤ 1)
+invariant-loop-left l = record {
+  leads : (final : Reading) → AddsAll (reading l.script) (lines_of l.left) final → AddsAll nothing (lines_of l.text) final;
+  clients : length l.script.config.clients.items ≤ 1;
+  servers : length l.script.config.servers.items ≤ 1;
+}
 
 abbrev pub decreases-loop-left : goal.decreases-loop-left
 decreases-loop-left l = length l.left

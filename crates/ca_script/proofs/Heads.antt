@@ -1,0 +1,109 @@
+-- What the lines of a script say together.
+use Rattle.std.proofs.Common.{◌≡◌, ◌<◌, ◌≤◌, ◌-◌, set, ◌++◌, ℕ, ℤ, Bor, Option, Some, None, Bool, true, false, cond, eqb, get_or, List, [], ◌∷◌, length, drop, refl, sym, ap, ◌∙◌, subst, arith, inl, inr}
+use Rattle.std.specs.Prelude.{Result, Ok, Err, OnOk, codes, option_map, unwrap_or}
+use Rattle.std.proofs.lemmas.List.{append-nil}
+use Rattle.ca_text.specs.declared.refusal.Refusal.{Refusal}
+use Rattle.ca_records.specs.Record.{RecordState}
+use Rattle.ca_model.specs.declared.data.Event.{Event}
+use Rattle.ca_script.specs.declared.config.Served.{Served}
+use Rattle.ca_script.specs.Events.{AreNumbers}
+use Rattle.ca_script.specs.Grammar.{IsNumber, longer, parted, pieces_left}
+use Rattle.ca_script.specs.Lines.{AreLongs, IsLong, SaysRecord}
+use Rattle.ca_script.specs.Scripts.{Adds, AddsAll, AddsClient, AddsEvent, AddsRecord, AddsServer, Reading, lines_of, whole_lines}
+use Rattle.ca_script.proofs.Partings.{parted-is-some}
+
+pub ok-then : {T E P Q : Type 0} (r : Result T E) → (P → Q) → OnOk r P → OnOk r Q
+ok-then (Ok x) f p = f p
+ok-then (Err e) f p = tt
+
+pub numbers-more : (words rest : List (List ℕ)) (n : ℕ) (ns : List ℕ) → (w : List ℕ) × (words ≡ w ∷ rest) × IsNumber w n → AreNumbers rest ns → AreNumbers words (n ∷ ns)
+numbers-more words rest n ns first h = subst (λ (x : List (List ℕ)). AreNumbers x (n ∷ ns)) (sym first.1) (first.2, h)
+
+pub longs-more : (words rest : List (List ℕ)) (w : List ℕ) (z : ℤ) (zs : List ℤ) → words ≡ w ∷ rest → IsLong w z → AreLongs rest zs → AreLongs words (z ∷ zs)
+longs-more words rest w z zs e is h = subst (λ (x : List (List ℕ)). AreLongs x (z ∷ zs)) (sym e) (is, h)
+
+pub adds-client : (old new : Reading) (words rest : List (List ℕ)) (first : List ℕ) → words ≡ first ∷ rest → first ≡ codes "client" → AddsClient old (codes "client" ∷ rest) new → Adds old words new
+adds-client old new words rest first e is h = inl (subst (λ (x : List (List ℕ)). AddsClient old x new) (ap (λ (x : List ℕ). x ∷ rest) (sym is) ∙ sym e) h)
+
+pub adds-server : (old new : Reading) (words rest : List (List ℕ)) (first : List ℕ) → words ≡ first ∷ rest → first ≡ codes "server" → AddsServer old (codes "server" ∷ rest) new → Adds old words new
+adds-server old new words rest first e is h = inr (inl (subst (λ (x : List (List ℕ)). AddsServer old x new) (ap (λ (x : List ℕ). x ∷ rest) (sym is) ∙ sym e) h))
+
+pub adds-record : (old new : Reading) (words rest : List (List ℕ)) (first : List ℕ) → words ≡ first ∷ rest → first ≡ codes "record" → AddsRecord old (codes "record" ∷ rest) new → Adds old words new
+adds-record old new words rest first e is h = inr (inr (inl (subst (λ (x : List (List ℕ)). AddsRecord old x new) (ap (λ (x : List ℕ). x ∷ rest) (sym is) ∙ sym e) h)))
+
+-- the lines of nothing
+pub lines-none : (text : List ℕ) → text ≡ [] → lines_of text ≡ []
+unfolding parted
+lines-none text e = ap (λ (x : List ℕ). lines_of x) e
+
+longer-is-longer : (x : ℕ) (pieces : List (List ℕ)) → longer x pieces ≡ [] ∷ [] → ⊥
+longer-is-longer x [] h = absurd (omega (arith, ap (λ (ps : List (List ℕ)). length (get_or ps 0 [])) h))
+longer-is-longer x (piece ∷ pieces) h = absurd (omega (arith, ap (λ (ps : List (List ℕ)). length (get_or ps 0 [])) h))
+
+piece-not-alone : (b : Bool) (x : ℕ) (xs : List ℕ) → cond b ([] ∷ parted 10 xs) (longer x (parted 10 xs)) ≡ [] ∷ [] → ⊥
+piece-not-alone true x xs h = parted-is-some 10 xs (ap (λ (ps : List (List ℕ)). drop 1 ps) h)
+piece-not-alone false x xs h = longer-is-longer x (parted 10 xs) h
+
+-- a text of one empty piece is empty
+alone-empty : (text : List ℕ) → parted 10 text ≡ [] ∷ [] → text ≡ []
+unfolding parted
+alone-empty [] h = refl
+alone-empty (x ∷ xs) h = absurd (piece-not-alone (eqb x 10) x xs h)
+
+alone-whole : (text line : List ℕ) → (text ≡ [] → ⊥) → parted 10 text ≡ line ∷ [] → whole_lines (line ∷ []) ≡ line ∷ []
+alone-whole text [] some e = absurd (some (alone-empty text e))
+alone-whole text (x ∷ xs) some e = refl
+
+line-more : (line : List ℕ) (pieces : List (List ℕ)) → (pieces ≡ [] → ⊥) → whole_lines (line ∷ pieces) ≡ line ∷ whole_lines pieces
+line-more line [] some = absurd (some refl)
+line-more [] (next ∷ lines) some = refl
+line-more (x ∷ xs) (next ∷ lines) some = refl
+
+-- the lines of what is left, where it is not empty
+pub lines-next : (left line left' : List ℕ) (rest : Option (Bor (List ℕ))) (blank : Bor (List ℕ)) → (left ≡ [] → ⊥) → parted 10 left ≡ line ∷ pieces_left 10 (option_map (λ (r : Bor (List ℕ)). r.now) rest) → left' ≡ (unwrap_or rest blank).now → blank.now ≡ [] → lines_of left ≡ line ∷ lines_of left'
+lines-next left line left' None blank some e is none =
+    ap (λ (ps : List (List ℕ)). whole_lines ps) e ∙ alone-whole left line some e ∙ ap (λ (ls : List (List ℕ)). line ∷ ls) (sym (lines-none left' (is ∙ none)))
+lines-next left line left' (Some r) blank some e is none =
+    ap (λ (ps : List (List ℕ)). whole_lines ps) e ∙ line-more line (parted 10 r.now) (parted-is-some 10 r.now) ∙ ap (λ (t : List ℕ). line ∷ lines_of t) (sym is)
+
+-- one line more
+pub leads-on : (old mid final : Reading) (line : List ℕ) (left left' : List ℕ) → lines_of left ≡ line ∷ lines_of left' → Adds old (parted 32 line) mid → AddsAll mid (lines_of left') final → AddsAll old (lines_of left) final
+leads-on old mid final line left left' e adds h = subst (λ (ls : List (List ℕ)). AddsAll old ls final) (sym e) (mid, adds, h)
+
+pub leads-here : (old : Reading) (left : List ℕ) → left ≡ [] → AddsAll old (lines_of left) old
+leads-here old left e = subst (λ (ls : List (List ℕ)). AddsAll old ls old) (sym (lines-none left e)) refl
+
+pub empty-of : (xs : List ℕ) → length xs ≡ 0 → xs ≡ []
+empty-of [] h = refl
+empty-of (x ∷ xs) h = absurd (omega (arith, h))
+
+pub longs-done : (all words : List (List ℕ)) (longs : List ℤ) → ((zs : List ℤ) → AreLongs words zs → AreLongs all (longs ++ zs)) → words ≡ [] → AreLongs all longs
+longs-done all words longs leads e =
+    let here : AreLongs words [] = subst (λ (ws : List (List ℕ)). AreLongs ws []) (sym e) tt in
+    subst (λ (zs : List ℤ). AreLongs all zs) (append-nil longs) (leads [] here)
+
+abbrev made : List (List ℕ × List ℕ) → List Served → List Event → Reading
+made clients servers events = record { clients = clients; servers = servers; events = events }
+
+pub none-of : {A : Type 0} (xs : List A) → length xs ≡ 0 → xs ≡ []
+none-of [] h = refl
+none-of (x ∷ xs) h = absurd (omega (arith, h))
+
+-- a record of the one server
+pub record-added : (r : Result (Unit {0}) Refusal) (clients : List (List ℕ × List ℕ)) (servers : List Served) (events : List Event) (words : List (List ℕ)) (n : ℕ) (server : Served) (records : List RecordState) → length servers ≡ n → length servers ≤ 1 → 0 < n → server ≡ get_or servers (n - 1) server → events ≡ [] → OnOk r (SaysRecord words server.records records) → OnOk r (AddsRecord (made clients servers events) (codes "record" ∷ words) (made clients (set servers (n - 1) (record server { records = records })) events))
+record-added r clients [] events words n server records same few some is none says = absurd (omega (arith, same, some))
+record-added r clients (s ∷ []) events words n server records same few some is none says =
+    let first : n - 1 ≡ 0 = omega (arith, same) in
+    let next : Served = record server { records = records } in
+    let mine : server ≡ s = is ∙ ap (λ (k : ℕ). get_or (s ∷ []) k server) first in
+    let sets : set (s ∷ []) (n - 1) next ≡ next ∷ [] = ap (λ (k : ℕ). set (s ∷ []) k next) first in
+    ok-then r (λ (x : SaysRecord words server.records records). record {
+      behind = words;
+      server = server;
+      records = records;
+      are = refl;
+      says = x;
+      early = (ap (λ (y : Served). y ∷ []) (sym mine), none);
+      after = ap (λ (ss : List Served). made clients ss events) sets ∙ ap (λ (es : List Event). made clients (next ∷ []) es) none;
+    }) says
+record-added r clients (s ∷ t ∷ ts) events words n server records same few some is none says = absurd (omega (arith, few))
