@@ -25,10 +25,6 @@ record_name_limit = 60
 abbrev pub channel_limit : ℕ
 channel_limit = 65536
 
--- bytes of a channel's name, at most
-abbrev pub channel_name_limit : ℕ
-channel_name_limit = 500
-
 -- slots of a table, and so channels or requests of one client
 abbrev pub arena_slots : ℕ
 arena_slots = 65536
