@@ -1,7 +1,8 @@
 -- What a world is made of, as a script gives it.
 use Rattle.std.specs.Prelude.{ℕ, ◌<◌, List, length, map}
 use Rattle.ca_text.specs.Limits.{payload_limit}
-use Rattle.ca_records.specs.Record.{RecordState}
+use Rattle.ca_text.specs.Place.{At}
+use Rattle.ca_records.specs.Record.{IsRecord, RecordState}
 use Rattle.ca_model.specs.World.{Setting}
 use Rattle.ca_script.specs.declared.config.Config.{Config}
 use Rattle.ca_script.specs.declared.config.Served.{Served}
@@ -15,3 +16,7 @@ records_of s = s.records
 
 abbrev pub setting_of : Config → Setting
 setting_of c = record { clients = c.clients.items; servers = map records_of c.servers.items }
+
+-- each of these is a record
+abbrev pub AreRecords : List RecordState → Type 0
+AreRecords records = (i : ℕ) (r : RecordState) → At records i r → IsRecord r
