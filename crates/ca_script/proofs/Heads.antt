@@ -9,7 +9,7 @@ use Rattle.ca_script.specs.declared.config.Served.{Served}
 use Rattle.ca_script.specs.Events.{AreNumbers}
 use Rattle.ca_script.specs.Grammar.{IsNumber, longer, parted, pieces_left}
 use Rattle.ca_script.specs.Lines.{AreLongs, IsLong, SaysRecord}
-use Rattle.ca_script.specs.Scripts.{Adds, AddsAll, AddsClient, AddsEvent, AddsRecord, AddsServer, Reading, lines_of, whole_lines}
+use Rattle.ca_script.specs.Scripts.{Adds, AddsAll, AddsClient, AddsRecord, AddsServer, Reading, lines_of, whole_lines}
 use Rattle.ca_script.proofs.Partings.{parted-is-some}
 
 pub ok-then : {T E P Q : Type 0} (r : Result T E) → (P → Q) → OnOk r P → OnOk r Q

@@ -1,4 +1,4 @@
-use Rattle.std.proofs.Common.{◌≡◌, ◌<◌, ℕ, length, vec_len, rules}
+use Rattle.std.proofs.Common.{◌≡◌, ◌<◌, length, vec_len, rules}
 use Rattle.ca_script.proofs.Heads.{none-of, record-added}
 use Rattle.ca_script.proofs.script.add_record.Goals as goal
 

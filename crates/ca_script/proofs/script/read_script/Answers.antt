@@ -1,4 +1,4 @@
-use Rattle.std.proofs.Common.{◌≡◌, ◌<◌, ℕ, Bor, List, [], length, refl, ap, arith, rules}
+use Rattle.std.proofs.Common.{◌≡◌, ◌<◌, ℕ, Bor, List, length, refl, ap, arith, rules}
 use Rattle.ca_script.specs.Scripts.{reading}
 use Rattle.ca_script.proofs.Heads.{empty-of, leads-here, leads-on, lines-next}
 use Rattle.ca_script.proofs.script.read_script.Goals as goal
