@@ -18,9 +18,11 @@ after_sent n e = record e { output = drop n e.output }
 abbrev pub after_giving : List ℕ → ClientEnd → ClientEnd
 after_giving bytes e = record e { input = e.input ++ bytes }
 
+-- a client whose first n bytes went out
 abbrev pub without_sent : Client → ℕ → Client
 without_sent c n = record c { link = option_map (after_sent n) c.link }
 
+-- a client to which these bytes came
 abbrev pub with_bytes : Client → List ℕ → Client
 with_bytes c bytes = record c { link = option_map (after_giving bytes) c.link }
 

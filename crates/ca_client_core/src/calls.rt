@@ -32,10 +32,7 @@ impl ClientCore {
     pub fn open(&mut self, name: &[u8], priority: u64) -> Result<u64, Refusal>
         ensures { Opens self.old name.now priority result self.new }
     {
-        match ChannelName::read(name) {
-            Err(refusal) => return Err(refusal),
-            Ok(_) => {}
-        }
+        ChannelName::read(name)?;
         if priority > PRIORITY_LIMIT as u64 {
             return Err(Refusal::BadPriority);
         }
