@@ -36,6 +36,7 @@ pub struct View {
     pub caller: CallerLog,
 }
 
+/// The rule of a board's table.
 pub struct Rules;
 
 impl TableRule<Option<Outcome>, View, ()> for Rules {

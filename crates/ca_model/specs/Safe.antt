@@ -39,7 +39,7 @@ ActsOnNames names records h =
 abbrev pub LiveAtServer : ClientSide → ServerSide → CircuitState → Type 0
 LiveAtServer x y c =
     (i : ℕ) (here : ChannelState) (sid native greatest : ℕ) → c.client_open ≡ true → c.server_open ≡ true → At x.core.channels i here → here.phase ≡ phase.Live sid native greatest
-        → (name : List ℕ) × At x.names i name × (e : ServerEnd) × (y.core.link ≡ Some e) × (seat : Seat) × IsSeat e.seats seat × (seat.sid ≡ sid) × (seat.name ≡ name) × IsServed y.core.records name
+    → (name : List ℕ) × At x.names i name × (e : ServerEnd) × (y.core.link ≡ Some e) × (seat : Seat) × IsSeat e.seats seat × (seat.sid ≡ sid) × (seat.name ≡ name) × IsServed y.core.records name
 
 pub record SafeHistory (names : List (List ℕ)) (records : List RecordState) (h : History) : Type 0 where
   pub acts : ActsOnNames names records h

@@ -99,14 +99,14 @@ after_open x name priority cid = record x { core = opened x.core name priority c
 abbrev pub OpensThere : World → ℕ → ClientSide → List ℕ → ℕ → ℕ → World → Bool → Type 0
 OpensThere w client x name priority cid new true =
     (k : ℕ) × (c : CircuitState) × Carries w client priority k c
-        × (new ≡ with_circuit (with_client w client (after_open x name priority cid)) k (with_up (record { message = create_request cid name; intent = intent.Create (length x.names) } ∷ []) c))
+    × (new ≡ with_circuit (with_client w client (after_open x name priority cid)) k (with_up (record { message = create_request cid name; intent = intent.Create (length x.names) } ∷ []) c))
 OpensThere w client x name priority cid new false = new ≡ with_client w client (after_open x name priority cid)
 
 abbrev pub HappensOpen : World → ℕ → List ℕ → ℕ → World → Type 0
 HappensOpen w client name priority new =
     (x : ClientSide) × At w.clients client x
-        × (((e : Refusal) × OpenFault x.core name priority e × (new ≡ with_client w client (logging (logged.Refused e) x)))
-            ⊎ ((cid : ℕ) × CanOpen x.core name priority cid × OpensThere w client x name priority cid new (is_on x.core.link priority)))
+    × (((e : Refusal) × OpenFault x.core name priority e × (new ≡ with_client w client (logging (logged.Refused e) x)))
+    ⊎ ((cid : ℕ) × CanOpen x.core name priority cid × OpensThere w client x name priority cid new (is_on x.core.link priority)))
 
 abbrev pub after_read : ClientSide → ℕ → ℕ → ℕ → ℕ → ClientSide
 after_read x sid ioid data_type count = record x { core = asked x.core sid ioid data_type count }
@@ -126,8 +126,8 @@ pub record HappensRead (w : World) (client channel data_type count : ℕ) (x : C
 abbrev pub HappensReading : World → ℕ → ℕ → ℕ → ℕ → World → Type 0
 HappensReading w client channel data_type count new =
     (x : ClientSide) × At w.clients client x × (here : ChannelState) × At x.core.channels channel here
-        × (((e : Refusal) × (fault_at x.core here data_type count ≡ Some e) × (new ≡ with_client w client (logging (logged.Refused e) x)))
-            ⊎ HappensRead w client channel data_type count x here new)
+    × (((e : Refusal) × (fault_at x.core here data_type count ≡ Some e) × (new ≡ with_client w client (logging (logged.Refused e) x)))
+    ⊎ HappensRead w client channel data_type count x here new)
 
 -- ---- circuits begin
 

@@ -172,12 +172,27 @@ pub enum Event {
         count: u64,
     },
     /// The first circuit that the client wants meets its server.
-    Accept { client: u64 },
+    Accept {
+        client: u64,
+    },
     /// So many bytes reach the server.
-    Up { circuit: u64, bytes: u64 },
+    Up {
+        circuit: u64,
+        bytes: u64,
+    },
     /// So many bytes reach the client.
-    Down { circuit: u64, bytes: u64 },
-    ServerStep { circuit: u64 },
-    ClientStep { circuit: u64 },
-    Cut { circuit: u64, end: End },
+    Down {
+        circuit: u64,
+        bytes: u64,
+    },
+    ServerStep {
+        circuit: u64,
+    },
+    ClientStep {
+        circuit: u64,
+    },
+    Cut {
+        circuit: u64,
+        end: End,
+    },
 }

@@ -353,16 +353,15 @@ keeps-accept w client new h a =
             let u = stands-still w.clients client x' c.client j.0 j.2.client in
             let b = stands-still w.servers 0 y' c.server j.1 j.2.server in
             (u.0, b.0, record { at = at; client = u.1; server = b.1 })
-        | inr fresh ↦
-            (
-              x',
-              y',
-              record {
-                at = at;
-                client = subst (λ (z : CircuitState). At v.clients z.client x') (sym fresh.1) here_x;
-                server = subst (λ (z : CircuitState). At v.servers z.server y') (sym fresh.1) here_y;
-              },
-            )
+        | inr fresh ↦ (
+          x',
+          y',
+          record {
+            at = at;
+            client = subst (λ (z : CircuitState). At v.clients z.client x') (sym fresh.1) here_x;
+            server = subst (λ (z : CircuitState). At v.servers z.server y') (sym fresh.1) here_y;
+          },
+        )
       ];
       past = λ k c at lt. elim (At-snoc w.circuits d k c at) [ inl old ↦ a.alone k c old | inr fresh ↦ absurd (let z = fresh.0 in omega (arith, lt, len, z)) ];
       circuits = λ k c u b j. elim (At-snoc w.circuits d k c j.at) [

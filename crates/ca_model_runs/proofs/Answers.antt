@@ -155,8 +155,7 @@ acts-new names cids issued records h s replies channel request may c means =
         | inl x ↦ absurd (not_create x.channel channel request (sym x.means ∙ means))
         | inr x ↦
             let same : x.channel ≡ channel = read_channel x.channel x.request channel request (sym x.means ∙ means) in
-            let stays : IsOpen (handled_in h) h.down (seat_of s.message.p1 x.s0) = c.stays x.j s.message.p1 x.k0 x.s0 x.created in
-            (
+            let stays : IsOpen (handled_in h) h.down (seat_of s.message.p1 x.s0) = c.stays x.j s.message.p1 x.k0 x.s0 x.created in (
               x.name,
               subst (λ (i : ℕ). At names i x.name) same x.named,
               record {
@@ -176,8 +175,10 @@ acts-new names cids issued records h s replies channel request may c means =
   where
     not_circuit : (a b : ℕ) → intent.Circuit ≡ intent.Read a b → ⊥
     not_circuit a b e = cc
+
     not_create : (x a b : ℕ) → intent.Create x ≡ intent.Read a b → ⊥
     not_create x a b e = cc
+
     read_channel : (x y a b : ℕ) → intent.Read x y ≡ intent.Read a b → x ≡ a
     read_channel x y a b e = cc
 
@@ -271,8 +272,7 @@ circuit-answers names cids issued records h s replies may c =
               (o.0, o.1, acts-old records h replies k r.message.p1 o.0 c.handled_sent o.2))
           | inr new ↦
               let is : r ≡ s = At-one h.up (length h.handled) r s (subst (λ (n : ℕ). At h.up n r) new at) may.at in
-              let o = acts-new names cids issued records h s replies channel request may c (ap (λ (x : Sent). x.intent) (sym is) ∙ means) in
-              (
+              let o = acts-new names cids issued records h s replies channel request may c (ap (λ (x : Sent). x.intent) (sym is) ∙ means) in (
                 o.0,
                 o.1,
                 subst (λ (x : ℕ × Sent). ActsOn records (with_answers h replies) x.0 x.1.message.p1 o.0) (λ i. (sym new i, sym is i)) o.2,

@@ -82,8 +82,7 @@ pub link-kept : (x x' : ClientSide) (y : ServerSide) (c : CircuitState) → x'.c
 link-kept x x' y c same requests lives busy l =
     record {
       client = λ on.
-          let e = l.client on in
-          (
+          let e = l.client on in (
             e.0,
             record {
               linked = same ∙ e.1.linked;
@@ -97,8 +96,7 @@ link-kept x x' y c same requests lives busy l =
             },
           );
       server = λ on.
-          let f = l.server on in
-          (
+          let f = l.server on in (
             f.0,
             record {
               linked = f.1.linked;

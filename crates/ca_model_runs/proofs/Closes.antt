@@ -114,6 +114,7 @@ side-closed x y c e l side =
   where
     nothing : (a : ClientEnd) → (let s : Option ClientEnd = None in let t : Option ClientEnd = Some a in s ≡ t) → ⊥
     nothing a e = cc
+
     adds : (a b : ℕ) → a ≡ b → a + 0 ≡ b
     adds a b e = omega (arith, e)
 

@@ -59,6 +59,7 @@ is_last w k n c d h at last there =
     strict zero (suc b) le ne = omega arith
     strict (suc a) zero le ne = absurd (omega (arith, le))
     strict (suc a) (suc b) le ne = (let r = strict a b (omega (arith, le)) (λ e. ne (ap (λ (z : ℕ). suc z) e)) in omega (arith, r))
+
     lower : (i m total : ℕ) → i < total → m + 1 ≡ total → (i ≡ m → ⊥) → i + 1 < total
     lower i m total lt e ne = (let r = strict i m (omega (arith, lt, e)) ne in omega (arith, r, e))
 

@@ -42,6 +42,7 @@ side-new user host u h =
   where
     nothing : (a : ClientEnd) → (let s : Option ClientEnd = None in let t : Option ClientEnd = Some a in s ≡ t) → ⊥
     nothing a e = cc
+
     first : (number : ℕ) → ◌≡◌ {A = ℕ} 0 (cond (ltb number 0) 1 0)
     first number = grind arith
 

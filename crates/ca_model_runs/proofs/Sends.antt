@@ -75,8 +75,7 @@ server-sent x x' y c s e within on is is' link server_on =
     let l = f.1 in
     let wait : waiting_up x c ≡ e.output = up-open x c e on is in
     let wait' : waiting_up x' (sent_on s c) ≡ e.output ++ spelling s.message = up-open x' (sent_on s c) (sending s.message e) on is' in
-    let bytes = bytes-sent c.history s f.0.input e.output within (l.bytes ∙ ap (λ (t : List ℕ). f.0.input ++ t) wait) in
-    (
+    let bytes = bytes-sent c.history s f.0.input e.output within (l.bytes ∙ ap (λ (t : List ℕ). f.0.input ++ t) wait) in (
       f.0,
       record {
         linked = l.linked;

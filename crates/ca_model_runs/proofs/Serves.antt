@@ -159,8 +159,7 @@ link-answers x y y' c replies f f' on a is circuit link =
           pending-append (λ (t : Told). t.message) h.down (told (length h.handled) replies) (length h.heard) circuit.heard_within ∙ ap (λ (t : List Fields). pending_down h ++ t) (map-told (length h.handled) replies) in
           let before : spelled (pending_down h) ≡ e.0.input ++ f.output = e.1.bytes ∙ ap (λ (t : List ℕ). e.0.input ++ t) down in
           let bytes : spelled (pending_down (with_answers h replies)) ≡ e.0.input ++ waiting_down y' c' =
-          ap spelled pending ∙ spelled-append (pending_down h) replies ∙ ap (λ (t : List ℕ). t ++ spelled replies) before ∙ append_assoc e.0.input f.output (spelled replies) ∙ ap (λ (t : List ℕ). e.0.input ++ t) (sym down') in
-          (
+          ap spelled pending ∙ spelled-append (pending_down h) replies ∙ ap (λ (t : List ℕ). t ++ spelled replies) before ∙ append_assoc e.0.input f.output (spelled replies) ∙ ap (λ (t : List ℕ). e.0.input ++ t) (sym down') in (
             e.0,
             record {
               linked = e.1.linked;
@@ -231,8 +230,7 @@ keeps-server-closed w k c x y core left h j on is left_is =
       circuit = subst (λ (rs : List RecordState). CircuitHolds x.names (cids_in x) x.core.issued rs c.history) (sym records) (h.circuits k c x y j);
       link = record {
         client = λ up.
-            let e = link.client up in
-            (
+            let e = link.client up in (
               e.0,
               record {
                 linked = e.1.linked;

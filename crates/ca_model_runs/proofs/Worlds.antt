@@ -64,8 +64,7 @@ pub Later-set : (v w : World) (k : ℕ) (c c' : CircuitState) → At v.circuits 
 Later-set v w k c c' at f e i d there =
     elim (nat_cases i k) [
       | inl same ↦
-          let is : d ≡ c = At-one v.circuits k d c (subst (λ (n : ℕ). At v.circuits n d) same there) at in
-          (
+          let is : d ≡ c = At-one v.circuits k d c (subst (λ (n : ℕ). At v.circuits n d) same there) at in (
             c',
             subst (λ (ds : List CircuitState). At ds i c') (sym e) (subst (λ (n : ℕ). At (slice_set v.circuits k c') n c') (sym same) (At-set-here v.circuits k c c' at)),
             subst (λ (x : CircuitState). Follows x c') (sym is) f,
@@ -149,16 +148,15 @@ keeps-moved w k c x y c' x' y' m h =
     let here_c : At v.circuits k c' = At-set-here w.circuits k c c' at in
     record {
       joined = λ i d there. elim (At-set w.circuits k c' i d there) [
-        | inl new ↦
-            (
-              x',
-              y',
-              record {
-                at = there;
-                client = subst (λ (a : CircuitState). At v.clients a.client x') (sym new.1) here_x;
-                server = subst (λ (a : CircuitState). At v.servers a.server y') (sym new.1) here_y;
-              },
-            )
+        | inl new ↦ (
+          x',
+          y',
+          record {
+            at = there;
+            client = subst (λ (a : CircuitState). At v.clients a.client x') (sym new.1) here_x;
+            server = subst (λ (a : CircuitState). At v.servers a.server y') (sym new.1) here_y;
+          },
+        )
         | inr old ↦
             let j = h.joined i d old.0 in
             let a = stands-still w.clients c.client x' d.client j.0 j.2.client in
@@ -223,18 +221,21 @@ keeps-moved w k c x y c' x' y' m h =
     strict zero (suc b) le ne = omega arith
     strict (suc a) zero le ne = absurd (omega (arith, le))
     strict (suc a) (suc b) le ne = (let r = strict a b (omega (arith, le)) (λ e. ne (ap (λ (z : ℕ). suc z) e)) in omega (arith, r))
+
     between : (i n total : ℕ) → i < total → n + 1 ≡ total → (i ≡ n → ⊥) → i + 1 < total
     between i n total lt e ne =
         elim (nat_cases (i + 1) total) [
           | inl same ↦ absurd (ne (omega (arith, same, e)))
           | inr other ↦ strict (i + 1) total (omega (arith, lt)) other
         ]
+
     not_last : (i : ℕ) → i < length w.circuits → (i ≡ k → ⊥) → i + 1 < length w.circuits
     not_last i lt ne =
         elim (nat_cases i k) [
           | inl same ↦ absurd (ne same)
           | inr other ↦ between i k (length w.circuits) lt m.last other
         ]
+
     old_circuit : (d : CircuitState) (u : ClientSide) (v' : ServerSide) (a : Was w.clients c.client x x' d.client u) (b : Was w.servers c.server y y' d.server v') → CircuitOf a.before b.before d → CircuitOf u v' d
     old_circuit d u v' a b held =
         let same_v : v'.core.records ≡ b.before.core.records = elim b.is [
