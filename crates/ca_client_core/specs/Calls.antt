@@ -1,5 +1,5 @@
 -- What each call of a client gives, by cases on its answer.
-use Rattle.std.specs.Prelude.{ℕ, ◌≡◌, ◌≢◌, ◌+◌, ◌<◌, ◌++◌, ◌∷◌, List, length, drop, Option, Some, None, Result, Ok, Err}
+use Rattle.std.specs.Prelude.{ℕ, ◌≡◌, ◌≢◌, ◌+◌, ◌<◌, ◌++◌, ◌∷◌, List, length, drop, map, Option, Some, None, Result, Ok, Err}
 use Rattle.std.specs.Option.{option_map}
 use Rattle.ca_text.specs.declared.refusal.Refusal.{Refusal}
 use Rattle.ca_text.specs.declared.refusal.Refusal.TheVariants.{OutOfMemory, StaleHandle, CircuitClosed}
@@ -7,6 +7,9 @@ use Rattle.ca_text.specs.Limits.{arena_slots}
 use Rattle.ca_model.specs.declared.data.Notice.{Notice}
 use Rattle.ca_model.specs.declared.data.Phase.{Phase}
 use Rattle.ca_model.specs.declared.data.Phase.TheVariants as phase
+use Rattle.ca_model.specs.declared.data.Sent.{Sent}
+use Rattle.ca_model.specs.Requests.{set_up}
+use Rattle.ca_model.specs.World.{creates_from, meant_circuit}
 use Rattle.ca_model.specs.Client.{Client, ClientEnd, asked, connected, ended, farewell, opened, read_fault, waits_at}
 use Rattle.ca_client_core.specs.declared.calls.Asked.{Asked}
 
@@ -66,3 +69,7 @@ Connects old (Err _) new = ⊥
 -- From old, the circuit was cut, this was told, these bytes are left, and new is left.
 abbrev pub Cuts : Client → List Notice → List ℕ → Client → Type 0
 Cuts old notices left new = (e : ClientEnd) × (old.link ≡ Some e) × (notices ≡ farewell old) × (left ≡ waits_at old.link) × (new ≡ ended old e.priority)
+
+-- These messages, with what is meant by each, begin the circuit that is wanted first.
+abbrev pub IsGreeting : Client → List Sent → Type 0
+IsGreeting c up = (priority : ℕ) (rest : List ℕ) → c.wanted ≡ priority ∷ rest → up ≡ map meant_circuit (set_up c.user c.host priority) ++ creates_from 0 priority c.channels

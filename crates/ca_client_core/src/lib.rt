@@ -9,6 +9,7 @@ mod client;
 mod hearing;
 mod link;
 mod lists;
+mod meant;
 mod messages;
 mod outcome;
 
