@@ -96,19 +96,19 @@ circuit-same x x' y y' c c' names cids issued records history h =
 
 -- ---- to the server
 
-abbrev sends : ℕ → ClientEnd → ClientEnd
+abbrev pub sends : ℕ → ClientEnd → ClientEnd
 sends n e = record e { output = drop n e.output }
 
-abbrev gets : List ℕ → ServerEnd → ServerEnd
+abbrev pub gets : List ℕ → ServerEnd → ServerEnd
 gets bytes e = record e { input = e.input ++ bytes }
 
-up-true : (w : World) (k n : ℕ) (c : CircuitState) (x : ClientSide) (y : ServerSide) → c.client_open ≡ true → At w.circuits k c
+pub up-true : (w : World) (k n : ℕ) (c : CircuitState) (x : ClientSide) (y : ServerSide) → c.client_open ≡ true → At w.circuits k c
     → with_server (leaving_up w k c x n) c.server (server_given (take n (waiting_up x c)) y) ≡ moved w k c (with_end (sends n) x) (with_server_end (gets (take n (waiting_up x c))) y) c
 up-true w k n c x y on at =
     ap (λ (v : World). with_server v c.server (server_given (take n (waiting_up x c)) y)) (cond-true c.client_open (with_client w c.client (client_sent n x)) (with_circuit w k (record c { left_up = drop n c.left_up })) on)
     ∙ ap (λ (cs : List CircuitState). record { clients = slice_set w.clients c.client (client_sent n x); servers = slice_set w.servers c.server (server_given (take n (waiting_up x c)) y); circuits = cs }) (sym (set-same w.circuits k c at))
 
-up-false : (w : World) (k n : ℕ) (c : CircuitState) (x : ClientSide) (y : ServerSide) → c.client_open ≡ false → At w.clients c.client x
+pub up-false : (w : World) (k n : ℕ) (c : CircuitState) (x : ClientSide) (y : ServerSide) → c.client_open ≡ false → At w.clients c.client x
     → with_server (leaving_up w k c x n) c.server (server_given (take n (waiting_up x c)) y) ≡ moved w k c x (with_server_end (gets (take n (waiting_up x c))) y) (record c { left_up = drop n c.left_up })
 up-false w k n c x y off at =
     ap (λ (v : World). with_server v c.server (server_given (take n (waiting_up x c)) y)) (cond-false c.client_open (with_client w c.client (client_sent n x)) (with_circuit w k (record c { left_up = drop n c.left_up })) off)
@@ -178,19 +178,19 @@ keeps-up w k n new h u =
 
 -- ---- to the client
 
-abbrev reads : List ℕ → ClientEnd → ClientEnd
+abbrev pub reads : List ℕ → ClientEnd → ClientEnd
 reads bytes e = record e { input = e.input ++ bytes }
 
-abbrev hands : ℕ → ServerEnd → ServerEnd
+abbrev pub hands : ℕ → ServerEnd → ServerEnd
 hands n e = record e { output = drop n e.output }
 
-down-true : (w : World) (k n : ℕ) (c : CircuitState) (x : ClientSide) (y : ServerSide) → c.server_open ≡ true → At w.circuits k c
+pub down-true : (w : World) (k n : ℕ) (c : CircuitState) (x : ClientSide) (y : ServerSide) → c.server_open ≡ true → At w.circuits k c
     → with_client (leaving_down w k c y n) c.client (client_given (take n (waiting_down y c)) x) ≡ moved w k c (with_end (reads (take n (waiting_down y c))) x) (with_server_end (hands n) y) c
 down-true w k n c x y on at =
     ap (λ (v : World). with_client v c.client (client_given (take n (waiting_down y c)) x)) (cond-true c.server_open (with_server w c.server (server_sent n y)) (with_circuit w k (record c { left_down = drop n c.left_down })) on)
     ∙ ap (λ (cs : List CircuitState). record { clients = slice_set w.clients c.client (client_given (take n (waiting_down y c)) x); servers = slice_set w.servers c.server (server_sent n y); circuits = cs }) (sym (set-same w.circuits k c at))
 
-down-false : (w : World) (k n : ℕ) (c : CircuitState) (x : ClientSide) (y : ServerSide) → c.server_open ≡ false → At w.servers c.server y
+pub down-false : (w : World) (k n : ℕ) (c : CircuitState) (x : ClientSide) (y : ServerSide) → c.server_open ≡ false → At w.servers c.server y
     → with_client (leaving_down w k c y n) c.client (client_given (take n (waiting_down y c)) x) ≡ moved w k c (with_end (reads (take n (waiting_down y c))) x) y (record c { left_down = drop n c.left_down })
 down-false w k n c x y off at =
     ap (λ (v : World). with_client v c.client (client_given (take n (waiting_down y c)) x)) (cond-false c.server_open (with_server w c.server (server_sent n y)) (with_circuit w k (record c { left_down = drop n c.left_down })) off)

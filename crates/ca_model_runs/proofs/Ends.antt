@@ -47,7 +47,7 @@ last-of w k c h at on =
     elim on [ inl a ↦ not_both c.client_open a closed.0 | inr b ↦ not_both c.server_open b closed.1 ])
 
 -- which circuit it is of those that are there
-is_last : (w : World) (k n : ℕ) (c d : CircuitState) → Holds w → At w.circuits k c → k + 1 ≡ length w.circuits → At w.circuits n d → (d ≡ c) ⊎ ((d.client_open ≡ false) × (d.server_open ≡ false))
+pub is_last : (w : World) (k n : ℕ) (c d : CircuitState) → Holds w → At w.circuits k c → k + 1 ≡ length w.circuits → At w.circuits n d → (d ≡ c) ⊎ ((d.client_open ≡ false) × (d.server_open ≡ false))
 is_last w k n c d h at last there =
     elim (nat_cases n k) [
       | inl same ↦ inl (At-one w.circuits k d c (subst (λ (z : ℕ). At w.circuits z d) same there) at)

@@ -86,7 +86,7 @@ server-sent x x' y c s e within on is is' link server_on =
 
 -- ---- a read
 
-fault-none : (p : Phase) (rights data_type count waits issued sid native greatest : ℕ) → p ≡ phase.Live sid native greatest → read_fault p rights data_type count waits issued ≡ None → (data_type ≤ 20) × (count ≤ greatest)
+pub fault-none : (p : Phase) (rights data_type count waits issued sid native greatest : ℕ) → p ≡ phase.Live sid native greatest → read_fault p rights data_type count waits issued ≡ None → (data_type ≤ 20) × (count ≤ greatest)
 fault-none phase.Connecting rights data_type count waits issued sid native greatest is e = absurd (let bad : phase.Connecting ≡ phase.Live sid native greatest = is in cc)
 fault-none phase.Creating rights data_type count waits issued sid native greatest is e = absurd (let bad : phase.Creating ≡ phase.Live sid native greatest = is in cc)
 fault-none (phase.Live a b g) rights data_type count waits issued sid native greatest is e =

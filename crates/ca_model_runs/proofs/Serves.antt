@@ -146,6 +146,13 @@ answering w k c x y replies core s =
       knows = subst (λ (a : List Fields × ℕ). Knows a.0 (h.down ++ told a.1 replies) f'.greeted f'.made (IsSeat f'.seats)) (λ i. (sym (handled_in-answers h replies first.m at_m) i, len i)) after;
     }
 
+-- the replies are messages
+pub replies-fit : (w : World) (k : ℕ) (c : CircuitState) (x : ClientSide) (y : ServerSide) (replies : List Fields) (core : Server) → Holds w → Joins w k c x y → c.server_open ≡ true → ServerHandles y.core replies core
+    → (i : ℕ) (r : Fields) → At replies i r → IsMessage r
+replies-fit w k c x y replies core h j on g =
+    let s : Handled w k c x y replies core = record { joins = j; on = on; circuit = h.circuits k c x y j; link = h.links k c x y j; records = h.records c.server y j.server; handles = g } in
+    (answering w k c x y replies core s).may.fits
+
 link-answers : (x : ClientSide) (y y' : ServerSide) (c : CircuitState) (replies : List Fields) (f f' : ServerEnd) → c.server_open ≡ true → Answering x y c replies f f' → y'.core.link ≡ Some f' → CircuitOf x y c → LinkHolds x y c → LinkHolds x y' (with_replies replies c)
 link-answers x y y' c replies f f' on a is circuit link =
     let h = c.history in
@@ -175,7 +182,7 @@ link-answers x y y' c replies f f' on a is circuit link =
       server = λ _. (f', record { linked = is; bytes = a.bytes; knows = a.knows });
     }
 
-server-set : (w : World) (k : ℕ) (c : CircuitState) (x : ClientSide) (y' : ServerSide) (c' : CircuitState) → At w.clients c.client x → with_circuit (with_server w c.server y') k c' ≡ moved w k c x y' c'
+pub server-set : (w : World) (k : ℕ) (c : CircuitState) (x : ClientSide) (y' : ServerSide) (c' : CircuitState) → At w.clients c.client x → with_circuit (with_server w c.server y') k c' ≡ moved w k c x y' c'
 server-set w k c x y' c' at = ap (λ (xs : List ClientSide). record { clients = xs; servers = slice_set w.servers c.server y'; circuits = slice_set w.circuits k c' }) (sym (set-same w.clients c.client x at))
 
 keeps-handled : (w : World) (k : ℕ) (c : CircuitState) (x : ClientSide) (y : ServerSide) (replies : List Fields) (core : Server) → Holds w → Joins w k c x y → c.server_open ≡ true → ServerHandles y.core replies core

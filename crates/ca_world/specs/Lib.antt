@@ -1,0 +1,5 @@
+pub mod Seen
+pub mod Does
+pub mod Done
+pub mod Locals
+pub mod Reports
