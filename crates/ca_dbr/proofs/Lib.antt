@@ -6,3 +6,4 @@ pub mod Numbers
 pub mod Readings
 pub mod Shows
 pub mod Texts
+pub mod Valued

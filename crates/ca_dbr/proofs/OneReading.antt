@@ -219,7 +219,7 @@ base_at-number base.Double = refl
 pub base_number-one : (b c : BaseType) → base_number b ≡ base_number c → b ≡ c
 base_number-one b c e = sym (base_at-number b) ∙ ap base_at e ∙ base_at-number c
 
-base_number-small : (b : BaseType) → base_number b < 7
+pub base_number-small : (b : BaseType) → base_number b < 7
 base_number-small base.String = omega arith
 base_number-small base.Int = omega arith
 base_number-small base.Float = omega arith

@@ -1,5 +1,5 @@
 -- Types of values (section "Payload Data Types"): a base type, plain or with metadata before the elements.
-use Rattle.std.specs.Prelude.{ℕ, ◌+◌, ◌*◌}
+use Rattle.std.specs.Prelude.{ℕ, ◌+◌, ◌*◌, ◌/◌, ◌%◌, ◌==◌, if◌then◌else◌}
 use Rattle.ca_dbr.specs.declared.data_type.BaseType.{BaseType}
 use Rattle.ca_dbr.specs.declared.data_type.BaseType.TheVariants as base
 use Rattle.ca_dbr.specs.declared.data_type.Form.{Form}
@@ -24,6 +24,19 @@ form_number form.Time = 14
 
 abbrev pub type_number : DataType → ℕ
 type_number t = base_number t.base + form_number t.form
+
+-- the plain type of this number below 7
+abbrev pub base_at : ℕ → BaseType
+base_at n =
+    if n == 0 then base.String else if n == 1 then base.Int else if n == 2 then base.Float else if n == 3 then base.Enum else if n == 4 then base.Char else if n == 5 then base.Long else base.Double
+
+-- the form of this seven of numbers
+abbrev pub form_at : ℕ → Form
+form_at n = if n == 0 then form.Plain else if n == 1 then form.Status else form.Time
+
+-- the type of this number below 21
+abbrev pub type_at : ℕ → DataType
+type_at n = record { base = base_at (n % 7); form = form_at (n / 7) }
 
 -- how many bytes an element takes
 abbrev pub element_size : BaseType → ℕ

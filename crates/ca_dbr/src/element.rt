@@ -24,6 +24,10 @@ pub(crate) trait Element: Copy + Drop {
         ensures capacity { vec_capacity out.old ≤ vec_capacity out.new }
         ensures fits { fits self };
 
+    /// Tells that it is in its range. It does nothing.
+    fn know(self)
+        ensures { fits self };
+
     /// The element that has these bytes.
     fn read(bytes: &[u8]) -> Self
         requires { length bytes.now ≡ SIZE }
@@ -58,6 +62,8 @@ impl Element for [u8; 40] {
         put_bytes(&self, out);
     }
 
+    fn know(self) {}
+
     #[tactic(auto, unfolding(crate::specs::Elements::string_bytes))]
     fn read(bytes: &[u8]) -> [u8; 40] {
         let mut text = [0; 40];
@@ -80,6 +86,8 @@ impl Element for i16 {
         put_bytes(&self.to_be_bytes(), out);
     }
 
+    fn know(self) {}
+
     #[tactic(auto, unfolding(crate::specs::Elements::signed_bytes_2))]
     fn read(bytes: &[u8]) -> i16 {
         i16::from_be_bytes([bytes[0], bytes[1]])
@@ -99,6 +107,8 @@ impl Element for u32 {
     fn put(self, out: &mut Vec<u8>) {
         put_bytes(&self.to_be_bytes(), out);
     }
+
+    fn know(self) {}
 
     #[tactic(auto, unfolding(crate::specs::Elements::bytes_4))]
     fn read(bytes: &[u8]) -> u32 {
@@ -120,6 +130,8 @@ impl Element for u16 {
         put_bytes(&self.to_be_bytes(), out);
     }
 
+    fn know(self) {}
+
     #[tactic(auto, unfolding(crate::specs::Elements::bytes_2))]
     fn read(bytes: &[u8]) -> u16 {
         u16::from_be_bytes([bytes[0], bytes[1]])
@@ -139,6 +151,8 @@ impl Element for u8 {
     fn put(self, out: &mut Vec<u8>) {
         put_bytes(&[self], out);
     }
+
+    fn know(self) {}
 
     #[tactic(auto, unfolding(crate::specs::Elements::byte_1))]
     fn read(bytes: &[u8]) -> u8 {
@@ -160,6 +174,8 @@ impl Element for i32 {
         put_bytes(&self.to_be_bytes(), out);
     }
 
+    fn know(self) {}
+
     #[tactic(auto, unfolding(crate::specs::Elements::signed_bytes_4))]
     fn read(bytes: &[u8]) -> i32 {
         i32::from_be_bytes([bytes[0], bytes[1], bytes[2], bytes[3]])
@@ -180,11 +196,22 @@ impl Element for u64 {
         put_bytes(&self.to_be_bytes(), out);
     }
 
+    fn know(self) {}
+
     #[tactic(auto, unfolding(crate::specs::Elements::bytes_8))]
     fn read(bytes: &[u8]) -> u64 {
         u64::from_be_bytes([
             bytes[0], bytes[1], bytes[2], bytes[3], bytes[4], bytes[5], bytes[6], bytes[7],
         ])
+    }
+}
+
+/// Tells that all elements are in their ranges. It does nothing.
+pub(crate) fn know_all<E: Element>(items: &[E])
+    ensures { All E.fits items.now }
+{
+    for item in items {
+        item.know();
     }
 }
 

@@ -7,7 +7,7 @@ ghost use Rattle.ca_dbr.specs.Reading.{IsMeta};
 ghost use Rattle.ca_text.specs.declared.refusal.Refusal.TheVariants.{BadType, OutOfMemory};
 
 use crate::data_type::{DataType, Form};
-use crate::element::{Element, put_all, put_bytes};
+use crate::element::{Element, put_all};
 use crate::value::{Meta, Value};
 use ca_text::Refusal;
 
@@ -62,8 +62,10 @@ pub(crate) fn put_zeros(count: usize, out: &mut Vec<u8>)
     ensures len { vec_len out.new ≡ vec_len out.old + count }
     ensures capacity { vec_capacity out.old ≤ vec_capacity out.new }
 {
-    for _ in 0..count {
-        put_bytes(&[0], out);
+    let len = out.len() + count;
+    match out.resize(len, 0) {
+        Ok(()) => {}
+        Err(_) => unreachable!(),
     }
 }
 

@@ -8,7 +8,7 @@ ghost use Rattle.ca_text.specs.declared.refusal.Refusal.{Refusal};
 ghost use Rattle.ca_text.specs.declared.refusal.Refusal.TheVariants.{NoConvert};
 ghost use Rattle.ca_dbr.specs.declared.data_type.DataType.{DataType};
 ghost use Rattle.ca_dbr.specs.declared.value.Meta.{Meta};
-ghost use Rattle.ca_dbr.specs.Types.{type_number, size_of_image};
+ghost use Rattle.ca_dbr.specs.Types.{type_at, type_number, size_of_image};
 ghost use Rattle.ca_dbr.specs.Elements.{Elements, base_of, count_of, IsValue};
 ghost use Rattle.ca_dbr.specs.Image.{image};
 ghost use Rattle.ca_dbr.specs.Reading.{carried, IsMeta, Reads};
@@ -20,6 +20,7 @@ pub fn one_reading()
     ensures only { (t : DataType) (count : ℕ) (bytes : List ℕ) (e f : Elements) (m n : Meta) → Reads t count bytes e m → Reads t count bytes f n → (e ≡ f) × (m ≡ n) }
     ensures size { (t : DataType) (e : Elements) (m : Meta) → t.base ≡ base_of e → IsValue e → length (image t e m) ≡ size_of_image t (count_of e) }
     ensures numbers { (s t : DataType) → type_number s ≡ type_number t → s ≡ t }
+    ensures named { (t : DataType) → type_at (type_number t) ≡ t }
 {}
 
 /// A text is read as the number that it writes, and as no other; a number's own text fits a STRING and is
@@ -31,9 +32,10 @@ pub fn one_number()
     ensures fits { (z : ℤ) → FitsSigned w64 z → length (number_text z) ≡ 40 }
 {}
 
-/// A read shows elements of the wanted type, as many as are wanted.
+/// A read shows elements of the wanted type, as many as are wanted; and what it shows of a value is a value.
 pub fn wanted_shown()
-    ensures { (e : Elements) (count : ℕ) (b : BaseType) (f : Elements) → shown e count b ≡ Ok f → (base_of f ≡ b) × (count_of f ≡ count) }
+    ensures valued { (e : Elements) (count : ℕ) (b : BaseType) (f : Elements) → IsValue e → shown e count b ≡ Ok f → IsValue f }
+    ensures wanted { (e : Elements) (count : ℕ) (b : BaseType) (f : Elements) → shown e count b ≡ Ok f → (base_of f ≡ b) × (count_of f ≡ count) }
 {}
 
 /// No conversion is told exactly where there is none; every other refusal tells of an element at fault.

@@ -1,8 +1,9 @@
 ghost use Rattle.std.specs.Prelude.{◌≡◌, IfOk, IfErr};
 ghost use Rattle.ca_text.specs.declared.refusal.Refusal.TheVariants.{OutOfMemory};
-ghost use Rattle.ca_dbr.specs.Elements.{elements, base_of, count_of};
+ghost use Rattle.ca_dbr.specs.Elements.{elements, base_of, count_of, IsValue};
 
 use crate::data_type::BaseType;
+use crate::element::know_all;
 use ca_text::{Refusal, Status};
 use std::alloc::Global;
 
@@ -84,6 +85,21 @@ impl Value {
             Value::Chars(items) => items.len(),
             Value::Longs(items) => items.len(),
             Value::Doubles(items) => items.len(),
+        }
+    }
+
+    /// Tells that each element is one of its type. It does nothing.
+    pub fn know(&self)
+        ensures { IsValue (elements self.now) }
+    {
+        match self {
+            Value::Strings(items) => know_all(items),
+            Value::Ints(items) => know_all(items),
+            Value::Floats(items) => know_all(items),
+            Value::Enums(items) => know_all(items),
+            Value::Chars(items) => know_all(items),
+            Value::Longs(items) => know_all(items),
+            Value::Doubles(items) => know_all(items),
         }
     }
 

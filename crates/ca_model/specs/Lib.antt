@@ -1,4 +1,3 @@
-pub mod Image
 pub mod History
 pub mod Replies
 pub mod Due

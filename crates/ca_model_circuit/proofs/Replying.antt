@@ -1,20 +1,25 @@
 -- What the replies are that are due for a message.
-use Rattle.std.proofs.Common.{◌≡◌, ◌≢◌, ℕ, zero, suc, ◌-◌, ◌*◌, ◌<◌, ◌≤◌, ◌^◌, ◌==◌, ◌||◌, inl, inr, Bool, true, false, not, nat_lt, List, [], ◌∷◌, length, take, replicate, ℤ, pos, Option, Some, None, if◌then◌else◌, refl, sym, ap, ◌∙◌, subst, arith}
-use Rattle.std.specs.List.{flat_map}
+use Rattle.std.proofs.Common.{◌≡◌, ◌≢◌, ℕ, zero, suc, ◌<◌, ◌≤◌, ◌^◌, ◌||◌, inl, inr, Bool, true, false, nat_lt, List, [], ◌∷◌, length, Option, Some, None, Result, Ok, Err, if◌then◌else◌, refl, sym, ap, ◌∙◌, subst, arith}
 use Rattle.std.proofs.lemmas.Bool.{cases_eq, ltb-false, or_parts}
-use Rattle.std.proofs.lemmas.List.{length-append, length-replicate, length-take}
+use Rattle.ca_text.specs.declared.refusal.Refusal.{Refusal}
+use Rattle.ca_text.specs.declared.refusal.Refusal.TheVariants as refusal
 use Rattle.ca_text.specs.Limits.{payload_limit}
 use Rattle.ca_text.specs.Place.{At}
 use Rattle.ca_wire.specs.Fields.{Fields}
 use Rattle.ca_wire.specs.Message.{IsMessage}
 use Rattle.ca_wire.proofs.Padding.{message-of, padded-payload}
+use Rattle.ca_dbr.specs.declared.data_type.DataType.{DataType}
+use Rattle.ca_dbr.specs.Types.{size_of_image, type_at}
+use Rattle.ca_dbr.specs.Elements.{Elements, base_of}
+use Rattle.ca_dbr.proofs.OneReading.{base_number-small, length-image}
+use Rattle.ca_dbr.proofs.Shows.{shown-is}
+use Rattle.ca_dbr.proofs.Valued.{shown-valued}
 use Rattle.ca_records.specs.Record.{RecordState, IsRecord}
 use Rattle.ca_records.specs.Records.{IsServed}
 use Rattle.ca_model.specs.History.{Seat, Creates, text_in}
 use Rattle.ca_model.specs.Circuit.{given_in, spoken_in, WireId, Ioid}
 use Rattle.ca_model.specs.Due.{Due}
-use Rattle.ca_model.specs.Image.{long_bytes, long_image, shown}
-use Rattle.ca_model.specs.Replies.{version_reply, rights_reply, created_reply, failed_reply, cleared_reply, refused_reply, value_reply, read_reply, read_fault, reply_for, wanted}
+use Rattle.ca_model.specs.Replies.{version_reply, rights_reply, created_reply, failed_reply, cleared_reply, refused_reply, value_reply, read_reply, read_fault, reply_for, wanted, gotten, image_of, fault_of, status_for}
 use Rattle.ca_model_circuit.proofs.Fits.{each-more, each-none, each-one, empty-payload, created-gives, read-gives, version-gives, clear-gives}
 
 -- each of the list is what a record is
@@ -143,44 +148,49 @@ reply-created records greeted made opened m replies due i r sid at =
 
 -- ---- the replies are messages
 
-length-longs : (xs : List ℤ) → length (flat_map long_bytes xs) ≡ 4 * length xs
-length-longs [] = refl
-length-longs (x ∷ xs) =
-    let e = length-longs xs in
-    let here : length (long_bytes x) ≡ 4 = refl in
-    omega (arith, e, here, length-append (long_bytes x) (flat_map long_bytes xs))
+-- the image of elements that were gotten is as large as its type and count say
+image-size : (m : Fields) (r : RecordState) (g : Result Elements Refusal) → IsRecord r → gotten r m ≡ g → let t : DataType = type_at m.data_type in length (image_of t r.meta g) ≤ size_of_image t (wanted r m)
+image-size m r (Ok e) is got =
+    let t : DataType = type_at m.data_type in
+    let kind = shown-is r.value (wanted r m) t.base e got in
+    let size = length-image t e r.meta (sym kind.0) (shown-valued r.value (wanted r m) t.base e is.valued got) in
+    let most = ap (λ (n : ℕ). size_of_image t n) kind.1 in
+    omega (arith, size, most)
+image-size m r (Err e) is got = omega arith
 
-length-shown : (n : ℕ) (xs : List ℤ) → length (shown n xs) ≡ n
-length-shown n xs =
-    omega (arith, length-append (take n xs) (replicate (n - length xs) (pos 0)), length-take n xs, length-replicate (n - length xs) (pos 0))
+pub image-fits : (m : Fields) (r : RecordState) → IsRecord r → let t : DataType = type_at m.data_type in length (image_of t r.meta (gotten r m)) ≤ size_of_image t (wanted r m)
+image-fits m r is = image-size m r (gotten r m) is refl
 
--- an image has four bytes for each element
-pub length-image : (n : ℕ) (xs : List ℤ) → length (long_image n xs) ≡ 4 * n
-length-image n xs = length-longs (shown n xs) ∙ ap (λ (k : ℕ). 4 * k) (length-shown n xs)
-
-value-fits : (m : Fields) (r : RecordState) → IsMessage m → IsRecord r → nat_lt r.count (wanted r m) ≡ false → nat_lt payload_limit (4 * wanted r m) ≡ false → IsMessage (value_reply m r)
+value-fits : (m : Fields) (r : RecordState) → IsMessage m → IsRecord r → nat_lt r.count (wanted r m) ≡ false → nat_lt payload_limit (size_of_image (type_at m.data_type) (wanted r m)) ≡ false → IsMessage (value_reply m r)
 value-fits m r good is within small =
+    let t : DataType = type_at m.data_type in
     let fits : wanted r m ≤ r.count = ltb-false r.count (wanted r m) within in
-    let bytes : 4 * wanted r m ≤ payload_limit = ltb-false payload_limit (4 * wanted r m) small in
+    let bytes : size_of_image t (wanted r m) ≤ payload_limit = ltb-false payload_limit (size_of_image t (wanted r m)) small in
     let most : r.count ≤ 262144 = is.value.limit in
+    let size : length (image_of t r.meta (gotten r m)) ≤ size_of_image t (wanted r m) = image-fits m r is in
     let h = good.header in
-    message-of (value_reply m r) (omega arith) h.data_type (omega arith) (omega arith) h.p2 (padded-payload (long_image (wanted r m) r.longs) (omega (arith, length-image (wanted r m) r.longs)))
+    message-of (value_reply m r) (omega arith) h.data_type (omega arith) (omega arith) h.p2 (padded-payload (image_of t r.meta (gotten r m)) (omega (arith, bytes, size)))
 
 refused-fits : (m : Fields) (status : ℕ) → IsMessage m → status < 2 ^ 32 → IsMessage (refused_reply m status)
 refused-fits m status good lt =
     let h = good.header in
     message-of (refused_reply m status) (omega arith) h.data_type h.count lt h.p2 empty-payload
 
-fault-fits : (m : Fields) (r : RecordState) (x y : Bool) → IsMessage m → (y ≡ false → IsMessage (value_reply m r)) → IsMessage (reply_for m r (if x then Some 114 else if y then Some 176 else None))
-fault-fits m r true y good value = refused-fits m 114 good (omega arith)
-fault-fits m r false true good value = refused-fits m 176 good (omega arith)
-fault-fits m r false false good value = value refl
+status-small : (e : Refusal) → status_for e < 2 ^ 32
+status-small refusal.NoConvert = omega arith
+status-small _ = omega arith
+
+fault-fits : (m : Fields) (r : RecordState) (x y : Bool) (g : Result Elements Refusal) → IsMessage m → (y ≡ false → IsMessage (value_reply m r)) → IsMessage (reply_for m r (if x then Some 114 else if y then Some 176 else fault_of g))
+fault-fits m r true y g good value = refused-fits m 114 good (omega arith)
+fault-fits m r false true g good value = refused-fits m 176 good (omega arith)
+fault-fits m r false false (Ok e) good value = value refl
+fault-fits m r false false (Err e) good value = refused-fits m (status_for e) good (status-small e)
 
 read-reply-fits : (m : Fields) (r : RecordState) → IsMessage m → IsRecord r → IsMessage (read_reply r m)
 read-reply-fits m r good is =
     let over : Bool = nat_lt r.count (wanted r m) in
-    let large : Bool = nat_lt payload_limit (4 * wanted r m) in
-    fault-fits m r (not (m.data_type == 5)) (over || large) good (λ e. let p = or_parts over large e in value-fits m r good is p.0 p.1)
+    let large : Bool = nat_lt payload_limit (size_of_image (type_at m.data_type) (wanted r m)) in
+    fault-fits m r (nat_lt 20 m.data_type) (over || large) (gotten r m) good (λ e. let p = or_parts over large e in value-fits m r good is p.0 p.1)
 
 -- each reply that is due for a message is a message
 pub reply-fits : (records : List RecordState) (greeted : Bool) (made : ℕ) (opened : Seat → Type 0) (m : Fields) (replies : List Fields) → AreRecords records → IsMessage m → Due records greeted made opened m replies
@@ -192,7 +202,8 @@ reply-fits records greeted made opened m replies are good due =
       rights = λ is. message-of (rights_reply m) (omega arith) (omega arith) (omega arith) h.p1 (omega arith) empty-payload;
       created = λ is place state sid at named fits.
           let most : state.count ≤ 262144 = (are place state at).value.limit in
-          message-of (created_reply m state sid) (omega arith) (omega arith) (omega arith) h.p1 fits empty-payload;
+          let native = base_number-small (base_of state.value) in
+          message-of (created_reply m state sid) (omega arith) (omega (arith, native)) (omega arith) h.p1 fits empty-payload;
       failed = λ is. message-of (failed_reply m) (omega arith) (omega arith) (omega arith) h.p1 (omega arith) empty-payload;
       read = λ is place state at. read-reply-fits m state good (are place state at);
       refused = λ is. refused-fits m 410 good (omega arith);

@@ -1,43 +1,49 @@
-ghost use Rattle.std.specs.Prelude.{◌≡◌, MatchResult, length};
+ghost use Rattle.std.specs.Prelude.{◌≡◌, MatchResult};
 ghost use Rattle.ca_text.specs.Limits.{record_name_limit};
 ghost use Rattle.ca_text.specs.Name.{IsName};
 ghost use Rattle.ca_text.specs.declared.refusal.Refusal.TheVariants.{BadCount, NameLength};
+ghost use Rattle.ca_dbr.specs.Elements.{elements};
 ghost use Rattle.ca_records.specs.Record.{HoldsValue, IsRecord, IsUnfit};
 
+use ca_dbr::{Meta, Value};
 use ca_text::{ELEMENT_LIMIT, RecordName, Refusal};
 use std::marker::Model;
 
-/// A record: a name, the greatest element count, whether a put takes it time, and a value of LONG elements.
+/// A record: a name, the greatest element count, whether a put takes it time, and a value with its metadata.
 #[derive(Debug, Drop)]
 pub struct Record {
     name: Vec<u8>,
     count: u32,
     slow: bool,
-    longs: Vec<i32>,
+    value: Value,
+    meta: Meta,
 }
 
 impl Model for Record {
+    ghost use Rattle.ca_dbr.specs.Elements.{elements};
     ghost use Rattle.ca_records.specs.Record.{RecordState, IsRecord};
 
     ghost Value = { RecordState };
 
-    ghost view = { λ r. record { name = r.name.items; count = r.count; slow = r.slow; longs = r.longs.items } };
+    ghost view = { λ r. record { name = r.name.items; count = r.count; slow = r.slow; value = elements r.value; meta = r.meta } };
 
-    ghost invariant = { λ r. IsRecord (record { name = r.name.items; count = r.count; slow = r.slow; longs = r.longs.items }) };
+    ghost invariant = { λ r. IsRecord (record { name = r.name.items; count = r.count; slow = r.slow; value = elements r.value; meta = r.meta }) };
 }
 
 impl Record {
     // A record of parts that are fit for one.
-    pub(crate) fn new(name: Vec<u8>, count: u32, slow: bool, longs: Vec<i32>) -> Record
+    pub(crate) fn new(name: Vec<u8>, count: u32, slow: bool, value: Value, meta: Meta) -> Record
         requires name { IsName record_name_limit name.items }
-        requires value { HoldsValue count longs.items }
-        ensures { result ≡ record { name = name.items; count = count; slow = slow; longs = longs.items } }
+        requires value { HoldsValue count (elements value) }
+        ensures { result ≡ record { name = name.items; count = count; slow = slow; value = elements value; meta = meta } }
     {
+        value.know();
         Record {
             name,
             count,
             slow,
-            longs,
+            value,
+            meta,
         }
     }
 
@@ -64,21 +70,29 @@ impl Record {
     }
 
     /// The present value.
-    pub fn longs(&self) -> &[i32]
-        ensures longs { result.now ≡ self.now.longs }
+    pub fn value(&self) -> &Value
+        ensures value { elements result.now ≡ self.now.value }
         ensures record { IsRecord self.now }
     {
-        &self.longs
+        &self.value
+    }
+
+    /// The alarm of the value, and its stamp.
+    pub fn meta(&self) -> &Meta
+        ensures { result.now ≡ self.now.meta }
+    {
+        &self.meta
     }
 }
 
 // Whether a record may have this name, and this value under this greatest count. The name is judged first.
-pub(crate) fn check(name: &[u8], count: u32, longs: &[i32]) -> Result<(), Refusal>
-    ensures { MatchResult result (λ _. IsName record_name_limit name.now × HoldsValue count longs.now) (IsUnfit name.now count longs.now) }
+pub(crate) fn check(name: &[u8], count: u32, value: &Value) -> Result<(), Refusal>
+    ensures { MatchResult result (λ _. IsName record_name_limit name.now × HoldsValue count (elements value.now)) (IsUnfit name.now count (elements value.now)) }
 {
     RecordName::read(name)?;
     let limit = count as usize;
-    if longs.is_empty() || longs.len() > limit || limit > ELEMENT_LIMIT {
+    let present = value.count();
+    if present == 0 || present > limit || limit > ELEMENT_LIMIT {
         return Err(Refusal::BadCount);
     }
     Ok(())

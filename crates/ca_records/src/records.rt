@@ -1,10 +1,12 @@
 ghost use Rattle.std.specs.Prelude.{◌≡◌, ◌<◌, ◌↔◌, ◌++◌, ◌∷◌, [], IfOk, IfSome, IsTrue, MatchOption, MatchResult, OnOk, length};
 ghost use Rattle.ca_text.specs.Place.{At};
 ghost use Rattle.ca_text.specs.declared.refusal.Refusal.TheVariants.{UnknownRecord};
-ghost use Rattle.ca_records.specs.Record.{RecordState};
+ghost use Rattle.ca_dbr.specs.Elements.{elements};
+ghost use Rattle.ca_records.specs.Record.{unset};
 ghost use Rattle.ca_records.specs.Records.{AreApart, Defines, Holds, IsServed, Names};
 
 use crate::record::{Record, check};
+use ca_dbr::{Meta, Value};
 use ca_text::Refusal;
 use std::alloc::{AllocError, Global};
 use std::collections::BTreeMap;
@@ -76,34 +78,49 @@ impl Records {
     }
 
     /// The present value of the record of this name.
-    pub fn read(&self, name: &[u8]) -> Result<&[i32], Refusal>
-        ensures { MatchResult result (λ longs. Holds self.now name.now longs.now) (λ e. (e ≡ UnknownRecord) × (IsServed self.now name.now → ⊥)) }
+    pub fn read(&self, name: &[u8]) -> Result<&Value, Refusal>
+        ensures { MatchResult result (λ value. Holds self.now name.now (elements value.now)) (λ e. (e ≡ UnknownRecord) × (IsServed self.now name.now → ⊥)) }
     {
         match self.find(name) {
-            Some(place) => Ok(self.at(place).longs()),
+            Some(place) => Ok(self.at(place).value()),
             None => Err(Refusal::UnknownRecord),
         }
     }
 
-    /// Adds a record behind the others. A refusal changes nothing.
+    /// Adds a record behind the others, with metadata of zeros. A refusal changes nothing.
     pub fn define(
         &mut self,
         name: &[u8],
         count: u32,
         slow: bool,
-        longs: Vec<i32>,
+        value: Value,
     ) -> Result<(), Refusal>
         requires { IsServed self.old name.now → ⊥ }
-        ensures { Defines self.old (record { name = name.now; count = count; slow = slow; longs = longs.items }) result self.new }
+        ensures { Defines self.old (record { name = name.now; count = count; slow = slow; value = elements value; meta = unset }) result self.new }
     {
-        check(name, count, &longs)?;
+        self.add(name, count, slow, value, Meta::ZERO)
+    }
+
+    /// Adds a record behind the others.
+    fn add(
+        &mut self,
+        name: &[u8],
+        count: u32,
+        slow: bool,
+        value: Value,
+        meta: Meta,
+    ) -> Result<(), Refusal>
+        requires { IsServed self.old name.now → ⊥ }
+        ensures { Defines self.old (record { name = name.now; count = count; slow = slow; value = elements value; meta = meta }) result self.new }
+    {
+        check(name, count, &value)?;
         let alloc = *self.list.allocator();
         let own = Vec::from_slice(alloc, name)?;
         let key = Vec::from_slice(alloc, name)?;
         self.list.reserve(1)?;
         self.places.insert(key, self.list.len())?;
         self.list
-            .push_reserved(Record::new(own, count, slow, longs));
+            .push_reserved(Record::new(own, count, slow, value, meta));
         Ok(())
     }
 
@@ -123,8 +140,16 @@ impl Records {
         requires { IsServed self.old other.now.name → ⊥ }
         ensures { OnOk result (self.new ≡ self.old ++ other.now ∷ []) }
     {
-        let longs = Vec::from_slice(*self.list.allocator(), other.longs())?;
-        match self.define(other.name(), other.count(), other.is_slow(), longs) {
+        let Ok(value) = other.value().copy(*self.list.allocator()) else {
+            return Err(AllocError);
+        };
+        match self.add(
+            other.name(),
+            other.count(),
+            other.is_slow(),
+            value,
+            *other.meta(),
+        ) {
             Ok(()) => Ok(()),
             Err(Refusal::OutOfMemory) => Err(AllocError),
             Err(_) => unreachable!(),

@@ -1,5 +1,7 @@
 use crate::Records;
+use ca_dbr::{Meta, Value};
 use ca_text::Refusal;
+use std::alloc::Global;
 use std::process::Abort;
 use std::test::Fail;
 
@@ -30,15 +32,15 @@ const fn row(
 fn hold<R: AllocGlobal + Abort>(rt: &R, row: &Defined) -> Result<(), Fail> {
     let mut records = Records::new(rt.alloc());
     assert!(rt; !records.has(row.name));
-    let longs = vec![in rt.alloc(); -7; row.elements]?;
+    let value = Value::Longs(vec![in rt.alloc(); -7; row.elements]?);
     match row.refusal {
         None => {
-            records.define(row.name, row.count, false, longs)?;
+            records.define(row.name, row.count, false, value)?;
             assert_eq!(rt; records.find(row.name), Some(0));
-            assert_eq!(rt; records.read(row.name)?.len(), row.elements);
+            assert_eq!(rt; records.read(row.name)?.count(), row.elements);
         }
         Some(refusal) => {
-            let outcome = records.define(row.name, row.count, false, longs);
+            let outcome = records.define(row.name, row.count, false, value);
             assert_eq!(rt; outcome, Err(refusal));
             assert_eq!(rt; records.len(), 0);
         }
@@ -81,28 +83,56 @@ fn records_are_defined(rt: HostRuntime) -> Result<(), Fail> {
     Ok(())
 }
 
+/// A value of each type.
+fn values(alloc: Global) -> Result<Vec<Value>, Fail> {
+    Ok(vec![in alloc;
+        Value::Strings(vec![in alloc; [b'x'; 40]]?),
+        Value::Ints(vec![in alloc; -1, 2]?),
+        Value::Floats(vec![in alloc; 0x7FC0_0000]?),
+        Value::Enums(vec![in alloc; 65_535]?),
+        Value::Chars(vec![in alloc; 1, 2, 3, 4]?),
+        Value::Longs(vec![in alloc; -5]?),
+        Value::Doubles(vec![in alloc; 0x3FF0_0000_0000_0000]?),
+    ]?)
+}
+
 #[test]
 fn records_are_found(rt: HostRuntime) -> Result<(), Fail> {
-    let names: [&[u8]; 5] = [b"beam:current", b"beam", b"shutter", b"Beam", b"a"];
-    let mut records = Records::new(rt.alloc());
-    for (i, name) in names.iter().enumerate() {
-        assert!(rt; !records.has(name));
-        let longs = vec![in rt.alloc(); i as i32]?;
-        records.define(name, 4, i % 2 == 1, longs)?;
+    let alloc = rt.alloc();
+    let names: [&[u8]; 7] = [
+        b"beam:current",
+        b"beam",
+        b"shutter",
+        b"Beam",
+        b"a",
+        b"note",
+        b"gain",
+    ];
+    let mut records = Records::new(alloc);
+    let mut i = 0;
+    for value in values(alloc)? {
+        assert!(rt; i < names.len());
+        assert!(rt; !records.has(names[i]));
+        records.define(names[i], 4, i % 2 == 1, value)?;
+        i += 1;
     }
-    assert_eq!(rt; records.len(), 5);
+    assert_eq!(rt; records.len(), 7);
     let records = records.copy()?;
-    assert_eq!(rt; records.len(), 5);
-    for (i, name) in names.iter().enumerate() {
+    assert_eq!(rt; records.len(), 7);
+    let values = values(alloc)?;
+    for (i, value) in values.iter().enumerate() {
+        assert!(rt; i < names.len());
+        let name = names[i];
         assert!(rt; records.has(name));
         assert_eq!(rt; records.find(name), Some(i));
-        assert_eq!(rt; records.read(name)?, [i as i32].as_slice());
+        assert_eq!(rt; records.read(name)?, value);
         assert!(rt; i < records.len());
         let record = records.at(i);
-        assert_eq!(rt; record.name(), *name);
+        assert_eq!(rt; record.name(), name);
         assert_eq!(rt; record.count(), 4);
         assert_eq!(rt; record.is_slow(), i % 2 == 1);
-        assert_eq!(rt; record.longs(), [i as i32].as_slice());
+        assert_eq!(rt; record.value(), value);
+        assert_eq!(rt; *record.meta(), Meta::ZERO);
     }
     for name in [b"bea".as_slice(), b"", b"beam:", b"z"] {
         assert_eq!(rt; records.find(name), None);

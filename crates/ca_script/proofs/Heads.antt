@@ -1,5 +1,5 @@
 -- What the lines of a script say together.
-use Rattle.std.proofs.Common.{◌≡◌, ◌<◌, ◌≤◌, ◌-◌, set, ◌++◌, ℕ, ℤ, Bor, Option, Some, None, Bool, true, false, cond, eqb, get_or, List, [], ◌∷◌, length, drop, refl, sym, ap, ◌∙◌, subst, arith, inl, inr}
+use Rattle.std.proofs.Common.{◌≡◌, ◌<◌, ◌≤◌, ◌-◌, set, ◌++◌, ℕ, Bor, Option, Some, None, Bool, true, false, cond, eqb, get_or, List, [], ◌∷◌, length, drop, refl, sym, ap, ◌∙◌, subst, arith, inl, inr}
 use Rattle.std.specs.Prelude.{Result, Ok, Err, OnOk, codes, option_map, unwrap_or}
 use Rattle.std.proofs.lemmas.List.{append-nil}
 use Rattle.ca_text.specs.declared.refusal.Refusal.{Refusal}
@@ -8,7 +8,7 @@ use Rattle.ca_model.specs.declared.data.Event.{Event}
 use Rattle.ca_script.specs.declared.config.Served.{Served}
 use Rattle.ca_script.specs.Events.{AreNumbers}
 use Rattle.ca_script.specs.Grammar.{IsNumber, longer, parted, pieces_left}
-use Rattle.ca_script.specs.Lines.{AreLongs, IsLong, SaysRecord}
+use Rattle.ca_script.specs.Lines.{AreEach, SaysRecord}
 use Rattle.ca_script.specs.Scripts.{Adds, AddsAll, AddsClient, AddsRecord, AddsServer, Reading, lines_of, whole_lines}
 use Rattle.ca_script.proofs.Partings.{parted-is-some}
 
@@ -18,9 +18,6 @@ ok-then (Err e) f p = tt
 
 pub numbers-more : (words rest : List (List ℕ)) (n : ℕ) (ns : List ℕ) → (w : List ℕ) × (words ≡ w ∷ rest) × IsNumber w n → AreNumbers rest ns → AreNumbers words (n ∷ ns)
 numbers-more words rest n ns first h = subst (λ (x : List (List ℕ)). AreNumbers x (n ∷ ns)) (sym first.1) (first.2, h)
-
-pub longs-more : (words rest : List (List ℕ)) (w : List ℕ) (z : ℤ) (zs : List ℤ) → words ≡ w ∷ rest → IsLong w z → AreLongs rest zs → AreLongs words (z ∷ zs)
-longs-more words rest w z zs e is h = subst (λ (x : List (List ℕ)). AreLongs x (z ∷ zs)) (sym e) (is, h)
 
 pub adds-client : (old new : Reading) (words rest : List (List ℕ)) (first : List ℕ) → words ≡ first ∷ rest → first ≡ codes "client" → AddsClient old (codes "client" ∷ rest) new → Adds old words new
 adds-client old new words rest first e is h = inl (subst (λ (x : List (List ℕ)). AddsClient old x new) (ap (λ (x : List ℕ). x ∷ rest) (sym is) ∙ sym e) h)
@@ -77,10 +74,11 @@ pub empty-of : (xs : List ℕ) → length xs ≡ 0 → xs ≡ []
 empty-of [] h = refl
 empty-of (x ∷ xs) h = absurd (omega (arith, h))
 
-pub longs-done : (all words : List (List ℕ)) (longs : List ℤ) → ((zs : List ℤ) → AreLongs words zs → AreLongs all (longs ++ zs)) → words ≡ [] → AreLongs all longs
-longs-done all words longs leads e =
-    let here : AreLongs words [] = subst (λ (ws : List (List ℕ)). AreLongs ws []) (sym e) tt in
-    subst (λ (zs : List ℤ). AreLongs all zs) (append-nil longs) (leads [] here)
+-- all words were read, as the elements of those before them and these
+pub each-done : {A : Type 0} (Is : List ℕ → A → Type 0) (all words : List (List ℕ)) (items : List A) → ((xs : List A) → AreEach Is words xs → AreEach Is all (items ++ xs)) → words ≡ [] → AreEach Is all items
+each-done {A} Is all words items leads e =
+    let here : AreEach Is words [] = subst (λ (ws : List (List ℕ)). AreEach {A = A} Is ws []) (sym e) tt in
+    subst (λ (xs : List A). AreEach Is all xs) (append-nil items) (leads [] here)
 
 abbrev made : List (List ℕ × List ℕ) → List Served → List Event → Reading
 made clients servers events = record { clients = clients; servers = servers; events = events }

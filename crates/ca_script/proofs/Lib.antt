@@ -3,3 +3,4 @@ pub mod Numbers
 pub mod Plain
 pub mod Sayings
 pub mod Heads
+pub mod Elements

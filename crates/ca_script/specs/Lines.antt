@@ -1,8 +1,12 @@
 -- The lines of a script's head, behind their first words.
-use Rattle.std.specs.Prelude.{ℕ, ℤ, ◌≡◌, ◌<◌, ◌^◌, ⊤, Bool, true, false, List, [], ◌∷◌, ◌++◌, length, codes, slice_index, FitsSigned}
-use Rattle.std.specs.Int.{from_be_bytes, w32}
+use Rattle.std.specs.Prelude.{ℕ, ℤ, pos, ◌≡◌, ◌<◌, ◌≤◌, ◌-◌, ◌^◌, ⊤, Bool, true, false, List, [], ◌∷◌, ◌++◌, length, replicate, codes, slice_index, FitsSigned, Ok}
+use Rattle.std.specs.Int.{from_be_bytes, w16, w32}
 use Rattle.std.specs.Str.Parse.{IsNumeral, signed_digits_value, without_leading_sign}
-use Rattle.ca_records.specs.Record.{IsRecord, RecordState}
+use Rattle.hex.specs.Hex.{decode_of}
+use Rattle.ca_dbr.specs.declared.data_type.BaseType.{BaseType}
+use Rattle.ca_dbr.specs.declared.data_type.BaseType.TheVariants as base
+use Rattle.ca_dbr.specs.Elements.{Elements, strings, ints, floats, enums, chars, longs, doubles, base_of, bytes_4, bytes_8}
+use Rattle.ca_records.specs.Record.{IsRecord, RecordState, unset}
 use Rattle.ca_records.specs.Records.{IsServed}
 use Rattle.ca_script.specs.Events.{AreNumbers}
 use Rattle.ca_script.specs.Grammar.{IsNumber, parted}
@@ -36,32 +40,78 @@ pub record SaysServer (words : List (List ℕ)) (address port : ℕ) : Type 0 wh
   pub of : IsNumber last port
   pub small : port < 2 ^ 16
 
--- a word is a LONG element: digits, and before them a minus where it is below zero
-pub record IsLong (word : List ℕ) (z : ℤ) : Type 0 where
+-- a word is a whole number: digits, and before them a minus where it is below zero
+pub record IsWhole (word : List ℕ) (z : ℤ) : Type 0 where
   pub digits : IsNumeral 10 (without_leading_sign word)
   pub plain : slice_index word 0 ≡ 43 → ⊥
   pub value : signed_digits_value 10 word ≡ z
-  pub fits : FitsSigned w32 z
+
+-- a word is a whole number of a type
+abbrev pub IsInt : List ℕ → ℤ → Type 0
+IsInt word z = IsWhole word z × FitsSigned w16 z
+
+abbrev pub IsLong : List ℕ → ℤ → Type 0
+IsLong word z = IsWhole word z × FitsSigned w32 z
+
+abbrev pub IsEnum : List ℕ → ℕ → Type 0
+IsEnum word n = IsWhole word (pos n) × (n < 2 ^ 16)
+
+abbrev pub IsChar : List ℕ → ℕ → Type 0
+IsChar word n = IsWhole word (pos n) × (n < 2 ^ 8)
+
+-- a word is the hexadecimal digits of these bytes, in either case
+abbrev pub IsHex : List ℕ → List ℕ → Type 0
+IsHex word bytes = decode_of word ≡ Ok bytes
+
+-- a word is a bit pattern: all its digits, the highest first
+abbrev pub IsFloat : List ℕ → ℕ → Type 0
+IsFloat word n = IsHex word (bytes_4 n)
+
+abbrev pub IsDouble : List ℕ → ℕ → Type 0
+IsDouble word n = IsHex word (bytes_8 n)
+
+-- a word is the digits of the text's first bytes; zeros stand behind them
+abbrev pub IsString : List ℕ → List ℕ → Type 0
+IsString word text = (bytes : List ℕ) × IsHex word bytes × (length bytes ≤ 40) × (text ≡ bytes ++ replicate (40 - length bytes) 0)
 
 -- these words are these elements, one each
-abbrev pub AreLongs : List (List ℕ) → List ℤ → Type 0
-AreLongs [] [] = ⊤
-AreLongs [] (z ∷ zs) = ⊥
-AreLongs (w ∷ ws) [] = ⊥
-AreLongs (w ∷ ws) (z ∷ zs) = IsLong w z × AreLongs ws zs
+abbrev pub AreEach : {A : Type 0} → (List ℕ → A → Type 0) → List (List ℕ) → List A → Type 0
+AreEach Is [] [] = ⊤
+AreEach Is [] (x ∷ xs) = ⊥
+AreEach Is (w ∷ ws) [] = ⊥
+AreEach Is (w ∷ ws) (x ∷ xs) = Is w x × AreEach Is ws xs
+
+abbrev pub AreElements : List (List ℕ) → Elements → Type 0
+AreElements words (strings xs) = AreEach IsString words xs
+AreElements words (ints xs) = AreEach IsInt words xs
+AreElements words (floats xs) = AreEach IsFloat words xs
+AreElements words (enums xs) = AreEach IsEnum words xs
+AreElements words (chars xs) = AreEach IsChar words xs
+AreElements words (longs xs) = AreEach IsLong words xs
+AreElements words (doubles xs) = AreEach IsDouble words xs
+
+abbrev pub type_word : BaseType → List ℕ
+type_word base.String = codes "STRING"
+type_word base.Int = codes "INT"
+type_word base.Float = codes "FLOAT"
+type_word base.Enum = codes "ENUM"
+type_word base.Char = codes "CHAR"
+type_word base.Long = codes "LONG"
+type_word base.Double = codes "DOUBLE"
 
 abbrev pub slow_word : Bool → List ℕ
 slow_word true = codes "slow"
 slow_word false = codes "quick"
 
--- `record NAME LONG COUNT quick|slow V1 V2 ..`: a record of a new name stands behind the old ones
+-- `record NAME TYPE COUNT quick|slow V1 V2 ..`: a record of a new name stands behind the old ones
 pub record SaysRecord (words : List (List ℕ)) (old new : List RecordState) : Type 0 where
   pub r : RecordState
   pub number : List ℕ
   pub values : List (List ℕ)
-  pub are : words ≡ r.name ∷ codes "LONG" ∷ number ∷ slow_word r.slow ∷ values
+  pub are : words ≡ r.name ∷ type_word (base_of r.value) ∷ number ∷ slow_word r.slow ∷ values
   pub count : IsNumber number r.count
-  pub longs : AreLongs values r.longs
+  pub elements : AreElements values r.value
+  pub meta : r.meta ≡ unset
   pub is : IsRecord r
   pub fresh : IsServed old r.name → ⊥
   pub after : new ≡ old ++ r ∷ []

@@ -2,6 +2,7 @@
 #![tactic(auto)]
 
 mod config;
+mod element;
 mod event;
 mod lines;
 mod report;

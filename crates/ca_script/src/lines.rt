@@ -1,9 +1,10 @@
 ghost use Rattle.std.specs.Prelude.{◌≡◌, ◌⊎◌, ◌<◌, ◌∷◌, ℕ, List, IfErr, IfOk, OnOk};
 ghost use Rattle.ca_text.specs.declared.refusal.Refusal.TheVariants.{BadText, OutOfMemory};
 ghost use Rattle.ca_script.specs.Grammar.{IsNumber};
-ghost use Rattle.ca_script.specs.Lines.{AreLongs, IsAddress, IsLong, SaysClient, SaysRecord, SaysServer, slow_word};
+ghost use Rattle.ca_script.specs.Lines.{IsAddress, SaysClient, SaysRecord, SaysServer, slow_word};
 
 use crate::config::Named;
+use crate::element::{base_in, read_value};
 use crate::words::{Pieces, Words, is_word};
 use ca_records::Records;
 use ca_text::Refusal;
@@ -65,7 +66,7 @@ fn octet(parts: &mut Pieces<'_, 46>) -> Result<u8, Refusal>
     }
 }
 
-/// `NAME LONG COUNT quick|slow V1 V2 ..`, behind the line's first word: a record of a new name is defined. Refused by 8, then
+/// `NAME TYPE COUNT quick|slow V1 V2 ..`, behind the line's first word: a record of a new name is defined. Refused by 8, then
 /// by 1, with no record defined.
 pub(crate) fn read_record(
     alloc: Global,
@@ -76,19 +77,18 @@ pub(crate) fn read_record(
     ensures err { IfErr result (λ e. (e ≡ BadText) ⊎ (e ≡ OutOfMemory)) }
 {
     let name = words.word()?;
-    if !is_word(words.word()?, "LONG") {
-        return Err(Refusal::BadText);
-    }
+    let base = base_in(words.word()?)?;
     let count = words.number()?;
     let slow = slow_in(words.word()?)?;
-    let longs = read_longs(alloc, words)?;
+    let value = read_value(alloc, base, words)?;
     let Ok(count) = u32::try_from(count) else {
         return Err(Refusal::BadText);
     };
     if records.has(name) {
         return Err(Refusal::BadText);
     }
-    match records.define(name, count, slow, longs) {
+    value.know();
+    match records.define(name, count, slow, value) {
         Ok(()) => Ok(()),
         Err(Refusal::OutOfMemory) => Err(Refusal::OutOfMemory),
         Err(_) => Err(Refusal::BadText),
@@ -107,33 +107,4 @@ fn slow_in(word: &[u8]) -> Result<bool, Refusal>
         return Ok(true);
     }
     Err(Refusal::BadText)
-}
-
-/// The elements that the words left are. Refused by 8, then by 1.
-fn read_longs(alloc: Global, mut words: Words<'_>) -> Result<Vec<i32>, Refusal>
-    ensures ok { IfOk result (λ v. AreLongs words.entry v.items) }
-    ensures err { IfErr result (λ e. (e ≡ BadText) ⊎ (e ≡ OutOfMemory)) }
-{
-    let mut longs = Vec::new(alloc);
-    while !words.is_empty() {
-        longs.push(long_in(words.word()?)?)?;
-    }
-    Ok(longs)
-}
-
-/// The LONG element that a word is. Refused by 8.
-fn long_in(word: &[u8]) -> Result<i32, Refusal>
-    ensures ok { IfOk result (λ z. IsLong word.now z) }
-    ensures err { IfErr result (λ e. e ≡ BadText) }
-{
-    if word.first() == Some(&b'+') {
-        return Err(Refusal::BadText);
-    }
-    let Ok(text) = str::from_utf8(word) else {
-        return Err(Refusal::BadText);
-    };
-    match text.parse::<i32>() {
-        Ok(long) => Ok(long),
-        Err(_) => Err(Refusal::BadText),
-    }
 }

@@ -2,6 +2,7 @@ use crate::{read_script, write_end, write_log};
 use ca_dbr::{Meta, Outcome, Value};
 use ca_model::{Event, Logged, Notice};
 use ca_text::{Refusal, Status};
+use std::alloc::Global;
 use std::test::Fail;
 
 const SCRIPT: &[u8] = b"client anna hall
@@ -41,7 +42,8 @@ fn world_is_understood(rt: HostRuntime) -> Result<(), Fail> {
     for server in &script.config.servers {
         assert_eq!(rt; server.address, 0x7F00_0001);
         assert_eq!(rt; server.port, 5064);
-        assert_eq!(rt; server.records.read(b"TEMP")?, [21].as_slice());
+        let temp = Value::Longs(vec![in rt.alloc(); 21]?);
+        assert_eq!(rt; server.records.read(b"TEMP")?, &temp);
     }
     assert_eq!(rt; script.config.clients.len(), 1);
     assert_eq!(rt; script.config.servers.len(), 1);
@@ -84,9 +86,92 @@ fn lines_are_understood(rt: HostRuntime) -> Result<(), Fail> {
     Ok(())
 }
 
+/// The value of a record line of this type, count and values.
+fn value_of(alloc: Global, line: &[u8]) -> Result<Value, Refusal> {
+    let mut text = Vec::from_slice(alloc, HEAD)?;
+    text.extend_from_slice(b"record B ")?;
+    text.extend_from_slice(line)?;
+    let script = read_script(alloc, &text)?;
+    match script.config.servers.first() {
+        None => Err(Refusal::UnknownRecord),
+        Some(server) => server.records.read(b"B")?.copy(alloc),
+    }
+}
+
+#[test]
+fn elements_are_read(rt: HostRuntime) -> Result<(), Fail> {
+    let alloc = rt.alloc();
+    let mut ok = [0; 40];
+    ok[0] = b'O';
+    ok[1] = b'K';
+    let rows: [(&[u8], Value); 9] = [
+        (
+            b"STRING 2 quick 4F4b 00",
+            Value::Strings(vec![in alloc; ok, [0; 40]]?),
+        ),
+        (
+            b"STRING 1 quick 61616161616161616161616161616161616161616161616161616161616161616161616161616161",
+            Value::Strings(vec![in alloc; [b'a'; 40]]?),
+        ),
+        (
+            b"INT 3 slow -32768 32767 -0",
+            Value::Ints(vec![in alloc; -32768, 32767, 0]?),
+        ),
+        (
+            b"FLOAT 2 quick 3F800000 ffc00001",
+            Value::Floats(vec![in alloc; 0x3F80_0000, 0xFFC0_0001]?),
+        ),
+        (
+            b"ENUM 2 quick 65535 -0",
+            Value::Enums(vec![in alloc; 65535, 0]?),
+        ),
+        (
+            b"CHAR 4 quick 255 007 0",
+            Value::Chars(vec![in alloc; 255, 7, 0]?),
+        ),
+        (
+            b"LONG 2 quick -2147483648 2147483647",
+            Value::Longs(vec![in alloc; -2147483648, 2147483647]?),
+        ),
+        (
+            b"DOUBLE 1 quick 3FF0000000000000",
+            Value::Doubles(vec![in alloc; 0x3FF0_0000_0000_0000]?),
+        ),
+        (
+            b"DOUBLE 9 slow 7fF8000000000001 0123456789abcdef",
+            Value::Doubles(vec![in alloc; 0x7FF8_0000_0000_0001, 0x0123_4567_89AB_CDEF]?),
+        ),
+    ];
+    for (line, value) in &rows {
+        assert_eq!(rt; &value_of(alloc, line)?, value);
+    }
+    let refused: [&[u8]; 16] = [
+        b"STRING 1 quick 4F4",
+        b"STRING 1 quick 4G",
+        b"STRING 1 quick 6161616161616161616161616161616161616161616161616161616161616161616161616161616161",
+        b"INT 1 quick 32768",
+        b"INT 1 quick -32769",
+        b"FLOAT 1 quick 3F80000",
+        b"FLOAT 1 quick 3F8000000",
+        b"FLOAT 1 quick 3FF0000000000000",
+        b"ENUM 1 quick 65536",
+        b"ENUM 1 quick -1",
+        b"CHAR 1 quick 256",
+        b"CHAR 1 quick -1",
+        b"DOUBLE 1 quick 3F800000",
+        b"DOUBLE 1 quick 1.0",
+        b"BYTE 1 quick 1",
+        b"long 1 quick 1",
+    ];
+    for line in refused {
+        assert_eq!(rt; value_of(alloc, line), Err(Refusal::BadText));
+    }
+    Ok(())
+}
+
 #[test]
 fn heads_are_refused(rt: HostRuntime) -> Result<(), Fail> {
-    let rows: [&[u8]; 18] = [
+    let rows: [&[u8]; 17] = [
         b"client anna hall\n",
         b"server 10.0.0.1:5064\n",
         b"accept 0\nrecord B LONG 1 quick 1\n",
@@ -98,7 +183,6 @@ fn heads_are_refused(rt: HostRuntime) -> Result<(), Fail> {
         b"record B LONG 1 quick 2147483648\n",
         b"record B LONG 1 quick +1\n",
         b"record B LONG 1 quick -\n",
-        b"record B DOUBLE 1 quick 0000000000000000\n",
         b"record B LONG -1 quick 1\n",
         b"record TEMP LONG 1 quick 21\n",
         b"record 123456789_123456789_123456789_123456789_123456789_123456789_1 LONG 1 quick 1\n",

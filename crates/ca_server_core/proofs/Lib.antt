@@ -1,6 +1,7 @@
 mod Answerings
 mod Deciding
 mod Extending
+mod Gets
 mod Handling
 mod Images
 mod Seating

@@ -1,35 +1,19 @@
 -- How large the replies to a message are.
-use Rattle.std.proofs.Common.{◌≡◌, ℕ, zero, suc, ◌+◌, ◌*◌, ◌%◌, ◌<◌, ◌≤◌, Bool, if◌then◌else◌, true, false, inl, inr, List, [], ◌∷◌, length, Option, Some, refl, sym, ap, ◌∙◌, subst, arith}
-use Rattle.std.specs.Prelude.{Ok, Err}
+use Rattle.std.proofs.Common.{◌≡◌, ℕ, zero, suc, ◌≤◌, Bool, if◌then◌else◌, true, false, inl, inr, List, [], ◌∷◌, length, Option, Some, refl, sym, ap, ◌∙◌, subst, arith}
 use Rattle.std.proofs.lemmas.Bool.Decides.{eqb_tells}
 use Rattle.ca_text.specs.Place.{At}
 use Rattle.ca_text.specs.Status.{bad_channel}
-use Rattle.ca_text.specs.declared.status.Status.{Status}
 use Rattle.ca_text.proofs.Places.{some_is, At-one}
 use Rattle.ca_wire.specs.Fields.{Fields}
 use Rattle.ca_records.specs.Record.{RecordState}
 use Rattle.ca_records.specs.Records.{AreApart}
 use Rattle.ca_model.specs.History.{Seat}
 use Rattle.ca_model.specs.Due.{Due}
-use Rattle.ca_model.specs.Replies.{cleared_reply, created_reply, failed_reply, read_reply, refused_reply, reply_for, rights_reply, version_reply}
+use Rattle.ca_model.specs.Replies.{cleared_reply, created_reply, failed_reply, read_reply, refused_reply, rights_reply, version_reply}
 use Rattle.ca_server_core.specs.declared.channels.Channel.{Channel}
 use Rattle.ca_server_core.specs.Channels.{Holds}
-use Rattle.ca_server_core.specs.End.{IsAmong, long_reply}
-use Rattle.ca_server_core.specs.Sizes.{AreWithin, ReadsSo}
-use Rattle.ca_server_core.proofs.Images.{length-payload}
-
--- the reply to a read without a fault
-pub reads-long : (r : RecordState) (m : Fields) (n : ℕ) → ReadsSo r m (Ok n) → long_reply m n r.longs ≡ read_reply r m
-reads-long r m n s =
-    let made : ℕ → ℕ → Fields = λ t k. record (long_reply m k r.longs) { data_type = t } in
-    ap (λ (t : ℕ). made t n) (sym s.2) ∙ ap (λ (k : ℕ). made m.data_type k) s.1 ∙ sym (ap (λ (f : Option ℕ). reply_for m r f) s.0)
-
-pub reads-refused : (r : RecordState) (m : Fields) (status : Status) → ReadsSo r m (Err status) → refused_reply m status.number ≡ read_reply r m
-reads-refused r m status s = sym (ap (λ (f : Option ℕ). reply_for m r f) s)
-
-pub size-value : (r : RecordState) (m : Fields) (n size : ℕ) → ReadsSo r m (Ok n) → 4 * n ≤ size → size < 4 * n + 8 → size % 8 ≡ 0 → length (read_reply r m).payload ≡ size
-size-value r m n size s lo hi multiple =
-    ap (λ (f : Fields). length f.payload) (sym (reads-long r m n s)) ∙ length-payload n size r.longs lo hi multiple
+use Rattle.ca_server_core.specs.End.{IsAmong}
+use Rattle.ca_server_core.specs.Sizes.{AreWithin}
 
 none_within : (replies : List Fields) (n : ℕ) → replies ≡ [] → AreWithin replies n
 none_within replies n e =
@@ -99,7 +83,7 @@ one_channel slots sid c d h k =
     inner e = cc
 
 -- the replies to a message whose SID this open channel has
-pub size-read : (records : List RecordState) (greeted : Bool) (slots : List (Option Channel)) (m : Fields) (replies : List Fields) (n : ℕ) (channel : Channel) (state : RecordState) → AreApart records → Holds slots m.p1 channel → At records channel.«record» state → length (read_reply state m).payload ≡ n
+pub size-read : (records : List RecordState) (greeted : Bool) (slots : List (Option Channel)) (m : Fields) (replies : List Fields) (n : ℕ) (channel : Channel) (state : RecordState) → AreApart records → Holds slots m.p1 channel → At records channel.«record» state → length (read_reply state m).payload ≤ n
     → Due records greeted (length slots) (IsAmong records slots) m replies → AreWithin replies n
 size-read records greeted slots m replies n channel state apart holds at size due =
     elim (eqb_tells m.command 15) [
@@ -110,7 +94,7 @@ size-read records greeted slots m replies n channel state apart holds at size du
             let here : At records r.is_open.channel.«record» state = subst (λ (c : Channel). At records c.«record» state) one at in
             let place : r.is_open.channel.«record» ≡ r.place = apart r.is_open.channel.«record» r.place r.is_open.state r.state r.is_open.at r.at (r.is_open.named ∙ sym r.named) in
             let same : state ≡ r.state = At-one records r.place state r.state (subst (λ (p : ℕ). At records p state) place here) r.at in
-            let small : length (read_reply r.state m).payload ≡ n = ap (λ (s : RecordState). length (read_reply s m).payload) (sym same) ∙ size in
+            let small : length (read_reply r.state m).payload ≤ n = subst (λ (s : RecordState). length (read_reply s m).payload ≤ n) same size in
             one_within replies (read_reply r.state m) n r.are (omega arith))
         | inr s ↦ one_within replies (refused_reply m bad_channel) n s.are (omega arith)
       ]

@@ -1,5 +1,5 @@
 -- The server's end of a circuit, and what one message makes of it.
-use Rattle.std.specs.Prelude.{ℕ, ◌≡◌, ◌<◌, ◌++◌, ◌⊎◌, Bool, true, false, List, [], ◌∷◌, ℤ, Option, if◌then◌else◌, length}
+use Rattle.std.specs.Prelude.{ℕ, ◌≡◌, ◌<◌, ◌++◌, ◌⊎◌, Bool, true, false, List, [], ◌∷◌, Option, if◌then◌else◌, length}
 use Rattle.ca_text.specs.Command.{command_number}
 use Rattle.ca_text.specs.declared.command.Command.TheVariants.{ClearChannel, CreateChannel, ReadNotify, Version}
 use Rattle.ca_text.specs.Place.{At}
@@ -8,7 +8,6 @@ use Rattle.ca_wire.specs.Fields.{Fields, padded}
 use Rattle.ca_wire.specs.Message.{spelled}
 use Rattle.ca_records.specs.Record.{RecordState}
 use Rattle.ca_model.specs.History.{Seat}
-use Rattle.ca_model.specs.Image.{long_image, long_type}
 use Rattle.ca_model.specs.Replies.{cleared_reply, created_reply, rights_reply, version_reply}
 use Rattle.ca_model.specs.Due.{Handles}
 use Rattle.ca_server_core.specs.declared.channels.Channel.{Channel}
@@ -71,9 +70,9 @@ pub record IsCleared (old : End) (m : Fields) (new : End) : Type 0 where
   pub greets : new.greeted ≡ old.greeted
   pub waits : new.output ≡ old.output ++ spelled (cleared_reply m ∷ [])
 
--- the reply to a read of so many elements
-abbrev pub long_reply : Fields → ℕ → List ℤ → Fields
-long_reply m n longs = record { command = command_number ReadNotify; data_type = long_type; count = n; p1 = normal; p2 = m.p2; payload = padded (long_image n longs) }
+-- the reply to a read of so many elements with this image
+abbrev pub image_reply : Fields → ℕ → List ℕ → Fields
+image_reply m n image = record { command = command_number ReadNotify; data_type = m.data_type; count = n; p1 = normal; p2 = m.p2; payload = padded image }
 
 -- a message with no payload
 abbrev pub bare : ℕ → ℕ → ℕ → ℕ → ℕ → Fields

@@ -8,12 +8,13 @@ ghost use Rattle.ca_model.specs.Due.{Due};
 ghost use Rattle.ca_model.specs.History.{text_in};
 ghost use Rattle.ca_model.specs.Replies.{failed_reply, read_reply, refused_reply};
 ghost use Rattle.ca_server_core.specs.Channels.{Holds};
-ghost use Rattle.ca_server_core.specs.End.{AreKnown, Extends, FailsOne, HandlesOne, IsAmong, IsCleared, IsSeated, bare, greeted, long_reply};
-ghost use Rattle.ca_server_core.specs.Sizes.{AreWithin};
+ghost use Rattle.ca_server_core.specs.End.{AreKnown, Extends, FailsOne, HandlesOne, IsAmong, IsCleared, IsSeated, bare, greeted};
+ghost use Rattle.ca_server_core.specs.Sizes.{AreWithin, IsInOrder};
 
 use crate::channels::{Channel, Channels};
-use crate::image::{put_longs, put_zeros, text_of};
-use crate::read::{LONG, value_size, wanted_of};
+use crate::image::{put_zeros, text_of};
+use crate::read::{Wanted, status_of, value_size, wanted_of};
+use ca_dbr::write_shown;
 use ca_records::{Record, Records};
 use ca_text::{CHANNEL_LIMIT, Command, MINOR_VERSION, Status};
 use ca_wire::{Header, Message, spell_header};
@@ -181,7 +182,7 @@ impl Circuit {
         put_bare(
             &mut self.output,
             Command::CreateChannel,
-            LONG,
+            record.value().base_type().number(),
             record.count(),
             cid,
             sid,
@@ -283,35 +284,44 @@ fn answer_read(out: &mut Vec<u8>, record: &Record, message: &Message) -> Result<
     ensures err { OnErr result (Extends out.old.items out.new.items) }
 {
     match wanted_of(record, message.data_type(), message.count()) {
-        Ok(wanted) => put_value(out, record.longs(), wanted, message),
+        Ok(wanted) => put_value(out, record, wanted, message),
         Err(status) => refuse_read(out, message, status),
     }
 }
 
-/// Writes a read's reply with the image of so many elements: the first ones, and zeros behind them.
+/// Writes a read's reply with the image that it gets, straight behind its header; where an element has no place in the
+/// wanted type the refusal stands in their place.
 fn put_value(
     out: &mut Vec<u8>,
-    longs: &[i32],
-    wanted: u32,
+    record: &Record,
+    wanted: Wanted,
     message: &Message,
 ) -> Result<(), AllocError>
-    requires within { 4 * wanted ≤ 1048576 }
-    ensures ok { OnOk result (out.new.items ≡ out.old.items ++ spelled (long_reply message.now wanted longs.now ∷ [])) }
+    requires { IsInOrder record.now message.now wanted }
+    ensures ok { OnOk result (out.new.items ≡ out.old.items ++ spelled (read_reply record.now message.now ∷ [])) }
     ensures err { OnErr result (Extends out.old.items out.new.items) }
 {
-    let first = longs.len().min(wanted as usize);
-    let size = (4 * wanted as usize).next_multiple_of(8);
+    let start = out.len();
+    let size = wanted.size.next_multiple_of(8);
+    let data_type = message.data_type();
     let header = Header {
         command: Command::ReadNotify.number(),
-        data_type: LONG,
+        data_type,
         size: size as u32,
-        count: wanted,
+        count: wanted.count,
         p1: Status::NORMAL.number,
         p2: message.p2(),
     };
     out.reserve(24 + size)?;
     spell_header(&header, out)?;
-    put_longs(out, &longs[..first])?;
-    put_zeros(out, size - 4 * first)?;
-    Ok(())
+    match write_shown(data_type, wanted.count, record.value(), record.meta(), out) {
+        Ok(()) => put_zeros(out, size - wanted.size),
+        Err(refusal) => match status_of(refusal) {
+            None => Err(AllocError),
+            Some(status) => {
+                out.truncate(start);
+                refuse_read(out, message, status)
+            }
+        },
+    }
 }

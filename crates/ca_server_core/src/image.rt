@@ -1,8 +1,5 @@
-ghost use Rattle.std.specs.Prelude.{◌≡◌, ◌≤◌, ◌*◌, ◌++◌, ◌==◌, length, OnErr, OnOk, position, replicate};
-ghost use Rattle.std.specs.List.{flat_map};
-ghost use Rattle.ca_model.specs.Image.{long_bytes};
+ghost use Rattle.std.specs.Prelude.{◌≡◌, ◌≤◌, ◌++◌, ◌==◌, OnErr, OnOk, position, replicate};
 ghost use Rattle.ca_model.specs.History.{text_in};
-ghost use Rattle.ca_server_core.specs.End.{Extends};
 
 use std::alloc::AllocError;
 
@@ -20,17 +17,6 @@ fn first_zero(payload: &[u8]) -> Option<usize>
     ensures { result ≡ position (λ b. b == 0) payload.now }
 {
     payload.iter().position(|b| *b == 0)
-}
-
-/// Writes the elements at the end, four bytes each.
-pub fn put_longs(out: &mut Vec<u8>, longs: &[i32]) -> Result<(), AllocError>
-    ensures ok { OnOk result (out.new.items ≡ out.old.items ++ flat_map long_bytes longs.now) }
-    ensures err { OnErr result (Extends out.old.items out.new.items) }
-{
-    for x in longs {
-        out.extend_from_slice(&x.to_be_bytes())?;
-    }
-    Ok(())
 }
 
 /// Writes so many zero bytes at the end.

@@ -1,4 +1,5 @@
 use crate::ServerCore;
+use ca_dbr::Value;
 use ca_model::{Closing, ServerStep};
 use ca_records::Records;
 use ca_text::Refusal;
@@ -34,8 +35,8 @@ const fn row(bytes: &'static [u8], size: usize, waits: &'static [u8]) -> Asked {
 /// TEMP, of one element 21, on an open circuit.
 fn server_of_temp(alloc: Global) -> Result<ServerCore, Fail> {
     let mut records = Records::new(alloc);
-    let longs = vec![in alloc; 21; 1]?;
-    records.define(b"TEMP", 1, false, longs)?;
+    let value = Value::Longs(vec![in alloc; 21; 1]?);
+    records.define(b"TEMP", 1, false, value)?;
     let mut server = ServerCore::new(alloc, records);
     server.accept();
     Ok(server)
@@ -76,6 +77,24 @@ fn requests_are_answered(rt: HostRuntime) -> Result<(), Fail> {
         row(VERSION, 0, b""),
         row(CREATE_TEMP, 0, CREATED_TEMP),
         row(READ_TEMP, 8, TEMP_IS_21),
+        // As STS_CHAR.
+        row(
+            b"\0\x0f\0\0\0\x0b\0\x01\0\x01\0\0\0\x01\0\0",
+            8,
+            b"\0\x0f\0\x08\0\x0b\0\x01\0\0\0\x01\0\x01\0\0\0\0\0\0\0\x15\0\0",
+        ),
+        // As FLOAT: no conversion.
+        row(
+            b"\0\x0f\0\0\0\x02\0\x01\0\x01\0\0\0\x01\0\0",
+            8,
+            b"\0\x0f\0\0\0\x02\0\x01\0\0\x01\x90\0\x01\0\0",
+        ),
+        // A type that does not exist, which is told before its count.
+        row(
+            b"\0\x0f\0\0\0\x15\0\x02\0\x01\0\0\0\x01\0\0",
+            0,
+            b"\0\x0f\0\0\0\x15\0\x02\0\0\0\x72\0\x01\0\0",
+        ),
         // A channel that is not open.
         row(
             b"\0\x0f\0\0\0\x05\0\x01\0\x01\0\x01\0\x01\0\0",

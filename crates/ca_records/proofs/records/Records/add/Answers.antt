@@ -1,7 +1,7 @@
 use Rattle.std.proofs.Common.{◌≡◌, length, ap, sym, ◌∙◌, rules}
 use Rattle.ca_records.proofs.Indexes.{index-defined}
 use Rattle.ca_records.specs.Record.{RecordState}
-use Rattle.ca_records.proofs.records.Records.define.Goals as goal
+use Rattle.ca_records.proofs.records.Records.add.Goals as goal
 
 pub invariant_of-self-2 : goal.invariant_of-self-2
 invariant_of-self-2 c =
