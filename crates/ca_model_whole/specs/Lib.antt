@@ -1,0 +1,4 @@
+pub mod Records
+pub mod Log
+pub mod Messages
+pub mod Faults
