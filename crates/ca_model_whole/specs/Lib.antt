@@ -5,3 +5,7 @@ pub mod Faults
 pub mod Posts
 pub mod Ends
 pub mod Due
+pub mod Ids
+pub mod Calls
+pub mod Order
+pub mod Client
