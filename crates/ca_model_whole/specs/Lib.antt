@@ -9,3 +9,7 @@ pub mod Ids
 pub mod Calls
 pub mod Order
 pub mod Client
+pub mod Hears
+pub mod World
+pub mod Events
+pub mod ClientCalls

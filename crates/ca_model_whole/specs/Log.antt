@@ -1,6 +1,6 @@
 -- The two lists of one life of a server, and what is read off them: the present value of a record, and the puts with
 -- notification that make it busy or wait (section "CA_PROTO_WRITE_NOTIFY").
-use Rattle.std.specs.Prelude.{ℕ, ◌==◌, ◌&&◌, ◌||◌, Bool, false, not, unwrap_or, List, [], Option, Some, None, drop, take, filter, filter_map, find, if◌then◌else◌, option_map}
+use Rattle.std.specs.Prelude.{ℕ, ◌==◌, ◌&&◌, ◌||◌, ◌++◌, ◌∷◌, length, map, Bool, false, not, unwrap_or, List, [], Option, Some, None, drop, take, filter, filter_map, find, if◌then◌else◌, option_map}
 use Rattle.std.specs.List.{last_or, list_any}
 use Rattle.std.specs.Str.{bytes_eq}
 use Rattle.ca_model_whole.specs.Records.{Opening, Stored, record_of}
@@ -88,7 +88,26 @@ abbrev pub withdraws : Write → Note → Bool
 withdraws v (Withdrawn circuit place length) = v.circuit == circuit && v.place == place
 withdraws v _ = false
 
--- The puts that wait on a record, in the order in which they came: neither applied since nor taken out.
+-- The puts that wait, in the order in which they came: neither applied since nor taken out.
+abbrev pub all_waiting : ServerLog → List Write
+all_waiting l = filter (λ (w : Write). not (list_any (applies w) l.entries || list_any (withdraws w) l.notes)) (filter_map put_waiting l.notes)
+
+-- those of one record
 abbrev pub waiting : ServerLog → List ℕ → List Write
-waiting l name =
-    filter (λ (w : Write). bytes_eq w.name name && not (list_any (applies w) l.entries || list_any (withdraws w) l.notes)) (filter_map put_waiting l.notes)
+waiting l name = filter (λ (w : Write). bytes_eq w.name name) (all_waiting l)
+
+-- ---- how the lists grow
+
+abbrev pub with_entry : Entry → ServerLog → ServerLog
+with_entry e l = record l { entries = l.entries ++ e ∷ [] }
+
+abbrev pub with_wait : Write → ServerLog → ServerLog
+with_wait w l = record l { notes = l.notes ++ Waits w (length l.entries) ∷ [] }
+
+abbrev pub with_finish : List ℕ → ServerLog → ServerLog
+with_finish name l = record l { notes = l.notes ++ Finished name (length l.entries) ∷ [] }
+
+-- the waiting puts that the test names are taken out, unapplied
+abbrev pub with_withdrawals : (Write → Bool) → ServerLog → ServerLog
+with_withdrawals which l =
+    record l { notes = l.notes ++ map (λ (w : Write). Withdrawn w.circuit w.place (length l.entries)) (filter which (all_waiting l)) }
