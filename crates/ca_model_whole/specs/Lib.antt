@@ -13,3 +13,5 @@ pub mod Hears
 pub mod World
 pub mod Events
 pub mod ClientCalls
+pub mod Moves
+pub mod Steps
