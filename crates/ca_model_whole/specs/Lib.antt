@@ -15,3 +15,5 @@ pub mod Events
 pub mod ClientCalls
 pub mod Moves
 pub mod Steps
+pub mod Endings
+pub mod Runs
