@@ -17,3 +17,9 @@ pub mod Moves
 pub mod Steps
 pub mod Endings
 pub mod Runs
+pub mod Sends
+pub mod ActsOnRecord
+pub mod OwnOnce
+pub mod NotTwice
+pub mod Subscribers
+pub mod Safe
