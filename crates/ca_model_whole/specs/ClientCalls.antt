@@ -59,7 +59,7 @@ pub record Goes (w : World) (client channel : ℕ) (x : ClientSide) (here : Chan
   pub id : ℕ
   pub free : Free id
   pub leaves :
-    new ≡ with_course (with_client w client (calling call (core k id) x)) k (sending (record { message = message sid id; intent = meant } ∷ []) c)
+      new ≡ with_course (with_client w client (calling call (core k id) x)) k (sending (record { message = message sid id; intent = meant } ∷ []) c)
 
 -- A call is refused by its first fault, or it is accepted.
 abbrev pub Issues : World → ℕ → ℕ → ClientSide → Channel → Option Refusal → (ℕ → Type 0) → (ℕ → ℕ → Fields) → Intent → Call → (ℕ → ℕ → Client) → World → Type 0
@@ -71,27 +71,27 @@ abbrev pub HappensRead : World → ℕ → ℕ → ℕ → ℕ → World → Typ
 HappensRead w client channel data_type count new =
     (x : ClientSide) × (here : Channel) × Has w client channel x here
     × Issues w client channel x here (ask_fault here data_type count (waits_on w here.standing) (ioids_taken x.core)) (IoidFree x.core)
-        (λ sid ioid. read_request sid ioid data_type count) (intent.Read channel x.core.issued) (calls.Read channel data_type count) (λ k ioid. asked x.core channel k ioid false) new
+    (λ sid ioid. read_request sid ioid data_type count) (intent.Read channel x.core.issued) (calls.Read channel data_type count) (λ k ioid. asked x.core channel k ioid false) new
 
 -- a plain WRITE has the IOID 0
 abbrev pub HappensWrite : World → ℕ → ℕ → Elements → World → Type 0
 HappensWrite w client channel e new =
     (x : ClientSide) × (here : Channel) × Has w client channel x here
     × Issues w client channel x here (put_fault here e (waits_on w here.standing) false) (λ id. id ≡ 0)
-        (λ sid id. put_request command.Write sid id e) (intent.Write channel x.core.written) (calls.Write channel e) (λ k id. wrote x.core) new
+    (λ sid id. put_request command.Write sid id e) (intent.Write channel x.core.written) (calls.Write channel e) (λ k id. wrote x.core) new
 
 abbrev pub HappensWriteNotify : World → ℕ → ℕ → Elements → World → Type 0
 HappensWriteNotify w client channel e new =
     (x : ClientSide) × (here : Channel) × Has w client channel x here
     × Issues w client channel x here (put_fault here e (waits_on w here.standing) (nat_le arena_slots (ioids_taken x.core))) (IoidFree x.core)
-        (λ sid ioid. put_request command.WriteNotify sid ioid e) (intent.WriteNotify channel x.core.issued) (calls.WriteNotify channel e) (λ k ioid. asked x.core channel k ioid true) new
+    (λ sid ioid. put_request command.WriteNotify sid ioid e) (intent.WriteNotify channel x.core.issued) (calls.WriteNotify channel e) (λ k ioid. asked x.core channel k ioid true) new
 
 abbrev pub HappensSubscribe : World → ℕ → ℕ → ℕ → ℕ → ℕ → World → Type 0
 HappensSubscribe w client channel data_type count mask new =
     (x : ClientSide) × (here : Channel) × Has w client channel x here
     × Issues w client channel x here (ask_fault here data_type count (waits_on w here.standing) (subs_taken x.core)) (SubFree x.core)
-        (λ sid id. event_add_request sid id data_type count mask) (intent.Subscribe channel x.core.subscribed) (calls.Subscribe channel data_type count mask)
-        (λ k id. subscribed_to x.core channel id data_type count mask) new
+    (λ sid id. event_add_request sid id data_type count mask) (intent.Subscribe channel x.core.subscribed) (calls.Subscribe channel data_type count mask)
+    (λ k id. subscribed_to x.core channel id data_type count mask) new
 
 -- ---- to end a subscription
 
@@ -110,7 +110,7 @@ pub record Cancels (w : World) (client : ℕ) (x : ClientSide) (place : ℕ) (s 
   pub c : Course
   pub at : At w.courses k c
   pub leaves :
-    new ≡ with_course (with_client w client (calling (calls.Unsubscribe s.number) (unsubscribed x.core place s (Some k)) x)) k (sending (record { message = event_cancel_request sid s.id s.data_type s.count; intent = intent.Cancel s.channel s.number } ∷ []) c)
+      new ≡ with_course (with_client w client (calling (calls.Unsubscribe s.number) (unsubscribed x.core place s (Some k)) x)) k (sending (record { message = event_cancel_request sid s.id s.data_type s.count; intent = intent.Cancel s.channel s.number } ∷ []) c)
 
 abbrev pub NotLive : Client → ℕ → Channel → Type 0
 NotLive x channel here = (k sid : ℕ) → IsLive x channel here k sid → ⊥
@@ -144,7 +144,7 @@ pub record ClearsLive (w : World) (client n : ℕ) (x : ClientSide) (here : Chan
   pub c : Course
   pub at : At w.courses k c
   pub leaves :
-    new ≡ with_course (with_client w client (clearing n here x)) k (sending (record { message = clear_request sid here.cid; intent = intent.Clear n } ∷ []) c)
+      new ≡ with_course (with_client w client (clearing n here x)) k (sending (record { message = clear_request sid here.cid; intent = intent.Clear n } ∷ []) c)
 
 abbrev pub HappensClear : World → ℕ → ℕ → World → Type 0
 HappensClear w client n new =

@@ -187,8 +187,8 @@ names_it d p = if d.part.basic.made == 0 then Names p else Nothing
 abbrev pub is_known : ℕ → Bool
 is_known n =
     list_any (λ (c : Command). n == command_number c) (
-        command.Version ∷ command.EventAdd ∷ command.EventCancel ∷ command.Write ∷ command.EventsOff ∷ command.EventsOn ∷ command.ClearChannel ∷ command.ReadNotify
-        ∷ command.CreateChannel ∷ command.WriteNotify ∷ command.ClientName ∷ command.HostName ∷ command.Echo ∷ []
+    command.Version ∷ command.EventAdd ∷ command.EventCancel ∷ command.Write ∷ command.EventsOff ∷ command.EventsOn ∷ command.ClearChannel ∷ command.ReadNotify
+    ∷ command.CreateChannel ∷ command.WriteNotify ∷ command.ClientName ∷ command.HostName ∷ command.Echo ∷ []
     )
 
 -- The message at this place of this circuit is due these replies, and does this. A message with any other command is skipped

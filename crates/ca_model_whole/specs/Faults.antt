@@ -123,10 +123,10 @@ abbrev pub subscription_fault : Opening → ℕ → Bool → ℕ → Fields → 
 subscription_fault r rights in_use others m None = Some bad_type
 subscription_fault r rights in_use others m (Some t) =
     first_fault (
-        (not (may_read rights), no_read_access)
-        ∷ (nat_lt (length m.payload) 16 || (mask_in m % 16 == 0 || in_use), add_fail)
-        ∷ (too_many r t (subscribed_count r m), bad_count)
-        ∷ (lacks_conversion (converted r.stored.value t.base), no_convert)
-        ∷ (not (nat_lt others (CIRCUIT_QUEUES * QUEUE_SUBSCRIPTIONS)), add_fail)
-        ∷ []
+    (not (may_read rights), no_read_access)
+    ∷ (nat_lt (length m.payload) 16 || (mask_in m % 16 == 0 || in_use), add_fail)
+    ∷ (too_many r t (subscribed_count r m), bad_count)
+    ∷ (lacks_conversion (converted r.stored.value t.base), no_convert)
+    ∷ (not (nat_lt others (CIRCUIT_QUEUES * QUEUE_SUBSCRIPTIONS)), add_fail)
+    ∷ []
     )

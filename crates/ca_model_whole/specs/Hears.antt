@@ -113,7 +113,7 @@ pub record HearsFailed (x : Client) (k : ℕ) (m : Fields) (sent : List Sent) (t
   pub sends : sent ≡ []
   pub tells : told ≡ []
   pub leaves :
-    ((here.standing ≡ On k phase.Creating) × (new ≡ with_standing x channel here Searching)) ⊎ ((here.standing ≡ Doomed k) × (new ≡ with_standing x channel here Gone))
+      ((here.standing ≡ On k phase.Creating) × (new ≡ with_standing x channel here Searching)) ⊎ ((here.standing ≡ Doomed k) × (new ≡ with_standing x channel here Gone))
 
 -- A channel that was live when it was cleared is gone, and with it all its ids that drained ("CA_PROTO_CLEAR_CHANNEL").
 pub record HearsCleared (x : Client) (k : ℕ) (m : Fields) (sent : List Sent) (told : List Telling) (new : Client) : Type 0 where
@@ -149,8 +149,8 @@ pub record HearsLate (x : Client) (k : ℕ) (m : Fields) (sent : List Sent) (tol
   pub at : At x.draining place d
   pub on : d.circuit ≡ k
   pub ends :
-    (((n : ℕ) × (d.id ≡ Basic (Ioid n))) × (Answers m (command_number command.ReadNotify) d.id ⊎ Answers m (command_number command.WriteNotify) d.id))
-    ⊎ ((n : ℕ) × (d.id ≡ Sub n) × (m.command ≡ command_number command.EventAdd) × (m.payload ≡ []) × (m.p2 ≡ n))
+      (((n : ℕ) × (d.id ≡ Basic (Ioid n))) × (Answers m (command_number command.ReadNotify) d.id ⊎ Answers m (command_number command.WriteNotify) d.id))
+      ⊎ ((n : ℕ) × (d.id ≡ Sub n) × (m.command ≡ command_number command.EventAdd) × (m.payload ≡ []) × (m.p2 ≡ n))
   pub sends : sent ≡ []
   pub tells : told ≡ []
   pub leaves : new ≡ record x { draining = remove x.draining place }

@@ -84,9 +84,9 @@ pub record Connects (w : World) (client : ℕ) (x : ClientSide) (place : ℕ) (v
   pub creations : List Sent
   pub each : AreEach (IsCreation x.core) numbers creations
   pub leaves :
-    let k : ℕ = length w.courses in
-    let c : Course = sending (map meant_circuit (set_up x.core.peer.user x.core.peer.host v.priority) ++ creations) (new_course w client x server y v.priority) in
-    new ≡ record w { clients = slice_set w.clients client (record x { core = connected x.core place v k }); courses = w.courses ++ c ∷ [] }
+      let k : ℕ = length w.courses in
+      let c : Course = sending (map meant_circuit (set_up x.core.peer.user x.core.peer.host v.priority) ++ creations) (new_course w client x server y v.priority) in
+      new ≡ record w { clients = slice_set w.clients client (record x { core = connected x.core place v k }); courses = w.courses ++ c ∷ [] }
 
 -- For want of memory the client's end has ended at once, and its channels are searched for again.
 abbrev pub ConnectsNot : World → ℕ → ClientSide → ℕ → Wanted → ℕ → ServerSide → World → Type 0
@@ -149,9 +149,9 @@ pub record HappensDown (w : World) (k n : ℕ) (new : World) : Type 0 where
   pub receives : c.state.client_open ≡ true
   pub enough : n ≤ length (waiting_down c)
   pub leaves :
-    let more : Bool = nat_lt n (length (waiting_down c)) in
-    let given : Course = client_given (take n (waiting_down c)) (down_taken n c) in
-    new ≡ with_course w k (with_flow more (record given { at_client = counted more (heard_from w.moment n given.at_client) }))
+      let more : Bool = nat_lt n (length (waiting_down c)) in
+      let given : Course = client_given (take n (waiting_down c)) (down_taken n c) in
+      new ≡ with_course w k (with_flow more (record given { at_client = counted more (heard_from w.moment n given.at_client) }))
 
 -- ---- datagrams
 
@@ -187,11 +187,11 @@ pub record Finds (w : World) (client : ℕ) (from : Address) (m : Fields) (new :
   pub cid : here.cid ≡ m.p2
   pub searching : here.standing ≡ Searching
   pub leaves :
-    let v : Wanted = record { address = found_at from m; priority = here.priority } in
-    ((k : ℕ) × (c : Course) × Carries w client (length x.past) v k c
-    × (new ≡ with_course (with_client w client (record x { core = with_standing x.core n (record here { rights = 0 }) (On k phase.Creating) })) k (sending (record { message = create_request here.cid here.name; intent = intent.Create n } ∷ []) c)))
-    ⊎ (((k : ℕ) (c : Course) → Carries w client (length x.past) v k c → ⊥)
-    × (new ≡ with_client w client (record x { core = wanting v (with_standing x.core n here (Connecting v.address)) })))
+      let v : Wanted = record { address = found_at from m; priority = here.priority } in
+      ((k : ℕ) × (c : Course) × Carries w client (length x.past) v k c
+      × (new ≡ with_course (with_client w client (record x { core = with_standing x.core n (record here { rights = 0 }) (On k phase.Creating) })) k (sending (record { message = create_request here.cid here.name; intent = intent.Create n } ∷ []) c)))
+      ⊎ (((k : ℕ) (c : Course) → Carries w client (length x.past) v k c → ⊥)
+      × (new ≡ with_client w client (record x { core = wanting v (with_standing x.core n here (Connecting v.address)) })))
 
 -- One message of a datagram: every SEARCH is taken for a reply, and all others do nothing to circuits.
 abbrev pub TakesOne : ℕ → Address → World → Fields → World → Type 0

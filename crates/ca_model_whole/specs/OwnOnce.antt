@@ -46,8 +46,8 @@ TakesOwn h = (j k : ℕ) (t : Told) (id : Id) → At h.down j t → place_in t.c
 -- The text of the last message of this command that came before a channel was created, or the empty text where none did.
 pub record IsNamed (h : History) (k : ℕ) (c : Command) (text : List ℕ) : Type 0 where
   pub named :
-    ((l before : ℕ) × (m : Fields) × (l < k) × At (sent_in h) l m × (m.command ≡ command_number c) × At h.handled l before × (created_by (take before h.down) ≡ 0) × (text ≡ text_in m.payload))
-    ⊎ (text ≡ [])
+      ((l before : ℕ) × (m : Fields) × (l < k) × At (sent_in h) l m × (m.command ≡ command_number c) × At h.handled l before × (created_by (take before h.down) ≡ 0) × (text ≡ text_in m.payload))
+      ⊎ (text ≡ [])
   pub last : (l before : ℕ) (m : Fields) → l < k → At (sent_in h) l m → m.command ≡ command_number c → At h.handled l before → created_by (take before h.down) ≡ 0 → (n : ℕ) × (r : Fields) × (l ≤ n) × (n < k) × At (sent_in h) n r × (r.command ≡ command_number c) × (text ≡ text_in r.payload)
 
 -- A subscription stands when the message at place k is handled: its EVENT_ADD had no reply, and nothing ended it.

@@ -55,7 +55,7 @@ Concerns e c = concerned e c.at_server.subscriptions ≢ []
 pub record Reaches (records : List Opening) (server : ℕ) (l : ServerLog) (e : Entry) (gone : ℕ → Bool) (k : ℕ) (c new : Course) : Type 0 where
   pub needs : gone k ≡ true → (is_open_at server c ≡ true) × Concerns e c
   pub leaves :
-    new ≡ (if gone k then server_closed c else if is_open_at server c then with_part (ends.with_entry records l e c.at_server) c else c)
+      new ≡ (if gone k then server_closed c else if is_open_at server c then with_part (ends.with_entry records l e c.at_server) c else c)
 
 -- The waiting puts of circuits that have ended are taken out.
 abbrev pub without : (ℕ → Bool) → ServerLog → ServerLog
@@ -80,7 +80,7 @@ pub record TakesIn (s : Subscription) (stored : Stored) (p new : ServerPart) : T
   pub room : length q.subscriptions < QUEUE_SUBSCRIPTIONS
   pub first : (i : ℕ) (r : Queue Item) → i < place → At p.queues i r → QUEUE_SUBSCRIPTIONS ≤ length r.subscriptions
   pub leaves :
-    new ≡ record p { subscriptions = p.subscriptions ++ s ∷ []; queues = slice_set p.queues place (posted s.key (record { place = s.place; item = 0; stored = stored }) (added s.key q)) }
+      new ≡ record p { subscriptions = p.subscriptions ++ s ∷ []; queues = slice_set p.queues place (posted s.key (record { place = s.place; item = 0; stored = stored }) (added s.key q)) }
 
 abbrev pub with_seats : List Seat → ServerPart → ServerPart
 with_seats seats p = record p { basic = record p.basic { seats = seats } }
@@ -214,7 +214,7 @@ pub record Gives (p : ServerPart) (u : Told) (new : ServerPart) : Type 0 where
   pub update : IsUpdate s item.stored u.message
   pub stamped : u.cause ≡ cause.Update item.place item.item
   pub leaves :
-    new ≡ record p { basic = record p.basic { output = p.basic.output ++ spelling u.message }; queues = slice_set p.queues place (with_front_taken q) }
+      new ≡ record p { basic = record p.basic { output = p.basic.output ++ spelling u.message }; queues = slice_set p.queues place (with_front_taken q) }
 
 -- these updates went down
 abbrev pub pumped : List Told → ServerPart → Course → Course
@@ -231,7 +231,7 @@ pub record HappensPump (w : World) (k : ℕ) (new : World) : Type 0 where
   pub part : ServerPart
   pub gives : FoldsTo Gives c.at_server updates part
   pub leaves :
-    (((u : Told) (p : ServerPart) → Gives part u p → ⊥) × (new ≡ with_course w k (pumped updates part c))) ⊎ ((updates ≢ []) × ServerEnds w k c y new)
+      (((u : Told) (p : ServerPart) → Gives part u p → ⊥) × (new ≡ with_course w k (pumped updates part c))) ⊎ ((updates ≢ []) × ServerEnds w k c y new)
 
 -- ---- a step of the client's end
 
