@@ -1,0 +1,11 @@
+//! Examples: for each clause of the whole statement small histories that are safe and that are not, and worked rows of the
+//! definitions that compute.
+#![tactic(auto)]
+
+mod unsafe_worlds;
+
+pub use unsafe_worlds::{
+    a_cleared_channel_is_not_acted_on, a_done_put_is_in_a_log, a_lost_newest_post_shows,
+    a_reply_completes_its_own_request, a_write_stands_at_one_place,
+    an_old_update_is_not_a_new_ones, updates_keep_their_order,
+};
