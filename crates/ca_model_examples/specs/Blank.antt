@@ -5,7 +5,7 @@ use Rattle.ca_model.specs.Circuit.{CircuitState, History}
 use Rattle.ca_model_whole.specs.Records.{Opening, Peer, Stored}
 use Rattle.ca_model_whole.specs.Log.{ServerLog}
 use Rattle.ca_model_whole.specs.Calls.{Line}
-use Rattle.ca_model_whole.specs.Client.{new_client}
+use Rattle.ca_model_whole.specs.Client.{Client, new_client}
 use Rattle.ca_model_whole.specs.Due.{written_meta}
 use Rattle.ca_model_whole.specs.Ends.{ClientPart, ServerPart, new_part}
 use Rattle.ca_model_whole.specs.World.{Course, World}
@@ -44,11 +44,14 @@ course_with h entries p = record { state = state h; entries = entries; notes = [
 abbrev pub course : History → Course
 course h = course_with h [] new_part
 
--- with this log of the client, these lists of the server, and these circuits
-abbrev pub world : List Line → ServerLog → List Course → World
-world log l courses = record {
-  clients = record { core = new_client nobody; log = log; past = [] } ∷ [];
+-- with this client, its log, these lists of the server, and these circuits
+abbrev pub world_of : Client → List Line → ServerLog → List Course → World
+world_of core log l courses = record {
+  clients = record { core = core; log = log; past = [] } ∷ [];
   servers = record { address = record { host = 0; port = 5064 }; records = temp ∷ setp ∷ []; rules = []; log = l; past = [] } ∷ [];
   courses = courses;
   moment = 0;
 }
+
+abbrev pub world : List Line → ServerLog → List Course → World
+world log l courses = world_of (new_client nobody) log l courses
