@@ -5,3 +5,4 @@ pub mod SafeSees
 pub mod SafeWrites
 pub mod SafeOwn
 pub mod Unsafe
+pub mod Worked

@@ -1,3 +1,4 @@
 pub mod Blank
 pub mod Unsafe
 pub mod Safe
+pub mod Rows

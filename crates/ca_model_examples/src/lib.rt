@@ -2,9 +2,14 @@
 //! definitions that compute.
 #![tactic(auto)]
 
+mod rows;
 mod safe_worlds;
 mod unsafe_worlds;
 
+pub use rows::{
+    conversions_are_as_worked, faults_are_as_worked, images_are_as_worked,
+    queued_posts_are_as_worked, spelled_updates_are_as_worked, waiting_puts_are_as_worked,
+};
 pub use safe_worlds::{
     a_read_acts_on_its_record, a_refused_read_completes_with_its_own, a_write_is_applied_once,
     updates_wait_in_order,
