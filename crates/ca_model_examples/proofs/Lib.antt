@@ -6,3 +6,4 @@ pub mod SafeWrites
 pub mod SafeOwn
 pub mod Unsafe
 pub mod Worked
+pub mod Parts

@@ -2,3 +2,4 @@ pub mod Blank
 pub mod Unsafe
 pub mod Safe
 pub mod Rows
+pub mod Small

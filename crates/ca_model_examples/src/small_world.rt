@@ -1,0 +1,8 @@
+ghost use Rattle.ca_model_examples.specs.Small.{ActsAlike, OwnIdsAreOwn, RepliesMeanAlike};
+
+/// On the histories of the small world its clauses give those of the whole statement.
+pub fn the_small_world_is_a_part()
+    ensures own { OwnIdsAreOwn }
+    ensures acts { ActsAlike }
+    ensures means { RepliesMeanAlike }
+{}
