@@ -43,6 +43,7 @@ abbrev pub name_opened : Line → Option (List ℕ)
 name_opened (Called (Open name priority)) = Some name
 name_opened _ = None
 
+-- the names of all channels that the calls of this log opened, by number
 abbrev pub names_in : List Line → List (List ℕ)
 names_in log = filter_map name_opened log
 
@@ -52,6 +53,7 @@ request_made (Called (Read channel data_type count)) = Some None
 request_made (Called (WriteNotify channel e)) = Some (Some e)
 request_made _ = None
 
+-- what the requests of this log put, by number
 abbrev pub requests_in : List Line → List (Option Elements)
 requests_in log = filter_map request_made log
 
@@ -60,6 +62,7 @@ abbrev pub write_made : Line → Option Elements
 write_made (Called (Write channel e)) = Some e
 write_made _ = None
 
+-- the elements of all plain writes of this log, by number
 abbrev pub writes_in : List Line → List Elements
 writes_in log = filter_map write_made log
 
@@ -68,6 +71,7 @@ abbrev pub subscription_made : Line → Option (ℕ × ℕ)
 subscription_made (Called (Subscribe channel data_type count mask)) = Some (channel, mask)
 subscription_made _ = None
 
+-- the subscriptions of this log, by number
 abbrev pub subscriptions_in : List Line → List (ℕ × ℕ)
 subscriptions_in log = filter_map subscription_made log
 

@@ -74,6 +74,7 @@ pub record Draining : Type 0 where
   pub circuit : ℕ
   pub channel : ℕ
 
+-- A client: how it names itself, its channels, requests and subscriptions, the ids that drain, and the circuits that it wants ("Overall Client Operation").
 pub record Client : Type 0 where
   pub peer : Peer
   -- by number
@@ -90,6 +91,7 @@ pub record Client : Type 0 where
   -- the circuits that are wanted and not connected, in the order in which they came to be wanted
   pub wanted : List Wanted
 
+-- a client that did nothing yet
 abbrev pub new_client : Peer → Client
 new_client p = record { peer = p; channels = []; requests = []; subscriptions = []; draining = []; issued = 0; written = 0; subscribed = 0; wanted = [] }
 
@@ -126,6 +128,7 @@ pub record IsLive (x : Client) (channel : ℕ) (here : Channel) (circuit sid : �
   pub greatest : ℕ
   pub live : here.standing ≡ On circuit (phase.Live sid native greatest)
 
+-- the client whose channel of this number stands so
 abbrev pub with_standing : Client → ℕ → Channel → Standing → Client
 with_standing x n here s = record x { channels = slice_set x.channels n (record here { standing = s }) }
 
@@ -139,9 +142,11 @@ CidFree x cid = (cid < 2 ^ 32) × ((i : ℕ) (here : Channel) → At x.channels 
 abbrev pub NotDraining : Client → Id → Type 0
 NotDraining x id = (i : ℕ) (d : Draining) → At x.draining i d → d.id ≢ id
 
+-- An IOID that no open request has, and that is not draining.
 abbrev pub IoidFree : Client → ℕ → Type 0
 IoidFree x ioid = (ioid < 2 ^ 32) × ((i : ℕ) (q : Asked) → At x.requests i q → q.basic.ioid ≢ ioid) × NotDraining x (Basic (Ioid ioid))
 
+-- A subscription id that no subscription has, and that is not draining.
 abbrev pub SubFree : Client → ℕ → Type 0
 SubFree x id = (id < 2 ^ 32) × ((i : ℕ) (s : Subscribed) → At x.subscriptions i s → s.id ≢ id) × NotDraining x (Sub id)
 
@@ -150,21 +155,26 @@ abbrev pub is_ioid : Id → Bool
 is_ioid (Basic (Ioid n)) = true
 is_ioid _ = false
 
+-- the id is that of a subscription
 abbrev pub is_sub : Id → Bool
 is_sub (Sub n) = true
 is_sub _ = false
 
+-- how many CIDs are taken
 abbrev pub cids_taken : Client → ℕ
 cids_taken x = count_by (λ (c : Channel). not (is_gone c.standing)) x.channels
 
+-- how many IOIDs are open or draining
 abbrev pub ioids_taken : Client → ℕ
 ioids_taken x = length x.requests + count_by (λ (d : Draining). is_ioid d.id) x.draining
 
+-- how many subscription ids are open or draining
 abbrev pub subs_taken : Client → ℕ
 subs_taken x = length x.subscriptions + count_by (λ (d : Draining). is_sub d.id) x.draining
 
 -- ---- why a call is refused: by the first fault in order
 
+-- of an opening: a name that is none, a priority over 99, or no CID that is free
 abbrev pub OpenFault : Client → List ℕ → ℕ → Refusal → Type 0
 OpenFault x name priority refusal.NameLength = IsName channel_name_limit name → ⊥
 OpenFault x name priority refusal.BadPriority = IsName channel_name_limit name × (priority_limit < priority)
@@ -183,11 +193,13 @@ put_fault_in (phase.Live sid native greatest) rights e waits full =
     if not (may_write rights) then Some refusal.NoAccess else if count_of e == 0 || (nat_lt greatest (count_of e) || nat_lt payload_limit (length (bytes_of e))) then Some refusal.BadCount else if not (nat_lt waits output_limit) then Some refusal.OutputFull else if full then Some refusal.ArenaFull else None
 put_fault_in _ rights e waits full = Some refusal.NotLive
 
+-- of a put on a channel: that it was cleared, or one of these
 abbrev pub put_fault : Channel → Elements → ℕ → Bool → Option Refusal
 put_fault here e waits full = if is_cleared here.standing then Some refusal.StaleHandle else put_fault_in (phase_of here.standing) here.rights e waits full
 
 -- ---- what calls leave
 
+-- a channel is opened, and searched for
 abbrev pub opened : Client → List ℕ → ℕ → ℕ → Client
 opened x name priority cid = record x { channels = x.channels ++ record { name = name; priority = priority; cid = cid; rights = 0; standing = Searching } ∷ [] }
 
@@ -198,9 +210,11 @@ asked x channel circuit ioid puts = record x {
   issued = x.issued + 1;
 }
 
+-- a plain write was issued
 abbrev pub wrote : Client → Client
 wrote x = record x { written = x.written + 1 }
 
+-- a subscription was issued
 abbrev pub subscribed_to : Client → ℕ → ℕ → ℕ → ℕ → ℕ → Client
 subscribed_to x channel id data_type count mask = record x {
   subscriptions = x.subscriptions ++ record { number = x.subscribed; id = id; channel = channel; data_type = data_type; count = count; mask = mask } ∷ [];
@@ -220,6 +234,7 @@ abbrev pub request_ids : Client → ℕ → ℕ → List Draining
 request_ids x channel k =
     filter_map (λ (q : Asked). if q.channel == channel then Some (record { id = Basic (Ioid q.basic.ioid); circuit = k; channel = channel }) else None) x.requests
 
+-- those of its subscriptions
 abbrev pub sub_ids : Client → ℕ → ℕ → List Draining
 sub_ids x channel k =
     filter_map (λ (s : Subscribed). if s.channel == channel then Some (record { id = Sub s.id; circuit = k; channel = channel }) else None) x.subscriptions
@@ -230,6 +245,7 @@ standing_cleared (On k (phase.Live sid native greatest)) = Clearing k
 standing_cleared (On k _) = Doomed k
 standing_cleared _ = Gone
 
+-- the ids that drain when a channel that stands so is cleared
 abbrev pub ids_cleared : Client → ℕ → Standing → List Draining
 ids_cleared x channel (On k (phase.Live sid native greatest)) = request_ids x channel k ++ sub_ids x channel k
 ids_cleared x channel _ = []
@@ -239,6 +255,7 @@ abbrev pub waits_for : Wanted → Standing → ℕ → Bool
 waits_for v (Connecting a) priority = a.host == v.address.host && (a.port == v.address.port && priority == v.priority)
 waits_for v _ priority = false
 
+-- those of these circuits for which a channel waits still
 abbrev pub still_wanted : List Channel → List Wanted → List Wanted
 still_wanted channels wanted = filter (λ (v : Wanted). list_any (λ (c : Channel). waits_for v c.standing c.priority) channels) wanted
 

@@ -31,6 +31,7 @@ pub record Opens (w : World) (client : ℕ) (name : List ℕ) (priority : ℕ) (
   pub free : CidFree x.core cid
   pub leaves : new ≡ with_client w client (calling (calls.Open name priority) (opened x.core name priority cid) x)
 
+-- An opening is refused by its first fault, or the channel is opened.
 abbrev pub HappensOpen : World → ℕ → List ℕ → ℕ → World → Type 0
 HappensOpen w client name priority new =
     (x : ClientSide) × At w.clients client x
@@ -67,6 +68,7 @@ Issues w client channel x here fault Free message meant call core new =
     ((e : Refusal) × (fault ≡ Some e) × (new ≡ with_client w client (refusing e x)))
     ⊎ ((fault ≡ None) × Goes w client channel x here Free message meant call core new)
 
+-- A read ("CA_PROTO_READ_NOTIFY").
 abbrev pub HappensRead : World → ℕ → ℕ → ℕ → ℕ → World → Type 0
 HappensRead w client channel data_type count new =
     (x : ClientSide) × (here : Channel) × Has w client channel x here
@@ -80,12 +82,14 @@ HappensWrite w client channel e new =
     × Issues w client channel x here (put_fault here e (waits_on w here.standing) false) (λ id. id ≡ 0)
     (λ sid id. put_request command.Write sid id e) (intent.Write channel x.core.written) (calls.Write channel e) (λ k id. wrote x.core) new
 
+-- a put with notification ("CA_PROTO_WRITE_NOTIFY")
 abbrev pub HappensWriteNotify : World → ℕ → ℕ → Elements → World → Type 0
 HappensWriteNotify w client channel e new =
     (x : ClientSide) × (here : Channel) × Has w client channel x here
     × Issues w client channel x here (put_fault here e (waits_on w here.standing) (nat_le arena_slots (ioids_taken x.core))) (IoidFree x.core)
     (λ sid ioid. put_request command.WriteNotify sid ioid e) (intent.WriteNotify channel x.core.issued) (calls.WriteNotify channel e) (λ k ioid. asked x.core channel k ioid true) new
 
+-- a subscription ("CA_PROTO_EVENT_ADD")
 abbrev pub HappensSubscribe : World → ℕ → ℕ → ℕ → ℕ → ℕ → World → Type 0
 HappensSubscribe w client channel data_type count mask new =
     (x : ClientSide) × (here : Channel) × Has w client channel x here
@@ -112,9 +116,11 @@ pub record Cancels (w : World) (client : ℕ) (x : ClientSide) (place : ℕ) (s 
   pub leaves :
       new ≡ with_course (with_client w client (calling (calls.Unsubscribe s.number) (unsubscribed x.core place s (Some k)) x)) k (sending (record { message = event_cancel_request sid s.id s.data_type s.count; intent = intent.Cancel s.channel s.number } ∷ []) c)
 
+-- the channel is live on no circuit
 abbrev pub NotLive : Client → ℕ → Channel → Type 0
 NotLive x channel here = (k sid : ℕ) → IsLive x channel here k sid → ⊥
 
+-- A subscription that stands ends: with its cancel, refused where too much waits for that, or with nothing sent.
 abbrev pub Unsubscribes : World → ℕ → ClientSide → ℕ → World → Type 0
 Unsubscribes w client x number new =
     (place : ℕ) × (s : Subscribed) × (here : Channel) × Holds x.core number place s here
@@ -122,9 +128,11 @@ Unsubscribes w client x number new =
     ⊎ (((k : ℕ) × (sid : ℕ) × IsLive x.core s.channel here k sid × (output_limit ≤ waits_on w here.standing) × (new ≡ with_client w client (refusing refusal.OutputFull x)))
     ⊎ (NotLive x.core s.channel here × (new ≡ with_client w client (calling (calls.Unsubscribe number) (unsubscribed x.core place s None) x)))))
 
+-- no subscription of this number stands
 abbrev pub NotStanding : Client → ℕ → Type 0
 NotStanding x number = (place : ℕ) (s : Subscribed) → At x.subscriptions place s → s.number ≢ number
 
+-- A subscription is to end; one that has ended is refused ("CA_PROTO_EVENT_CANCEL").
 abbrev pub HappensUnsubscribe : World → ℕ → ℕ → World → Type 0
 HappensUnsubscribe w client number new =
     (x : ClientSide) × At w.clients client x × (number < x.core.subscribed)
@@ -146,6 +154,7 @@ pub record ClearsLive (w : World) (client n : ℕ) (x : ClientSide) (here : Chan
   pub leaves :
       new ≡ with_course (with_client w client (clearing n here x)) k (sending (record { message = clear_request sid here.cid; intent = intent.Clear n } ∷ []) c)
 
+-- A channel is to be cleared; one that was cleared is refused.
 abbrev pub HappensClear : World → ℕ → ℕ → World → Type 0
 HappensClear w client n new =
     (x : ClientSide) × (here : Channel) × Has w client n x here
@@ -166,6 +175,7 @@ abbrev pub HandsOut : List Line → ℕ → Option Outcome → Type 0
 HandsOut log number (Some o) = IsThere log number o
 HandsOut log number None = (o : Outcome) → IsThere log number o → ⊥
 
+-- What became of a request is collected, or the request given up, and the log has a line with it.
 abbrev pub HappensHandingOut : World → ℕ → ℕ → (Option Outcome → Line) → World → Type 0
 HappensHandingOut w client number line new =
     (x : ClientSide) × At w.clients client x × (number < x.core.issued)

@@ -1,6 +1,6 @@
 -- The replies that are due for a message, and what it does beside them, by cases on every command (sections "CA Protocol
 -- Messages" and "Status Codes").
-use Rattle.std.specs.Prelude.{ℕ, ◌≡◌, ◌<◌, ◌≤◌, ◌^◌, ◌⊎◌, ◌==◌, ◌&&◌, Bool, true, false, List, [], ◌∷◌, Option, Some, None, Ok, if◌then◌else◌, is_some, length}
+use Rattle.std.specs.Prelude.{ℕ, ◌≡◌, ◌<◌, ◌≤◌, ◌^◌, ◌+◌, ◌⊎◌, ◌==◌, ◌&&◌, Bool, true, false, List, [], ◌∷◌, Option, Some, None, Ok, if◌then◌else◌, is_some, length}
 use Rattle.std.specs.List.{list_any}
 use Rattle.ca_text.specs.Command.{command_number}
 use Rattle.ca_text.specs.declared.command.Command.{Command}
@@ -84,9 +84,10 @@ pub record IsCreated (d : Desk) (m : Fields) (replies : List Fields) (deed : Dee
   pub are : replies ≡ rights_told m (rights_at d state.name) ∷ creation_told m state sid ∷ []
   pub does : deed ≡ Opens (record { sid = sid; cid = m.p1; name = text_in m.payload })
 
--- It is not: no record has its name, its CID is in use, or no SID is free.
+-- It is not: no record has its name, its CID is in use, or no SID is free: so many channels are open, or so many were created that SIDs
+-- are used up.
 pub record IsNotCreated (d : Desk) (m : Fields) (replies : List Fields) (deed : Deed) : Type 0 where
-  pub why : (record_of d.records (text_in m.payload) ≡ None) ⊎ (((seat : Seat) × IsOpenAt d seat × (seat.cid ≡ m.p1)) ⊎ (channel_limit ≤ length d.part.basic.seats))
+  pub why : (record_of d.records (text_in m.payload) ≡ None) ⊎ (((seat : Seat) × IsOpenAt d seat × (seat.cid ≡ m.p1)) ⊎ ((channel_limit ≤ length d.part.basic.seats) ⊎ (2 ^ 32 ≤ d.part.basic.made + 1)))
   pub are : replies ≡ failed_reply m ∷ []
   pub does : deed ≡ Nothing
 
@@ -108,6 +109,7 @@ pub record PutReads (m : Fields) (e : Elements) : Type 0 where
   pub typed : base_type_of m.data_type ≡ Some base
   pub reads : ReadsElements base m.count m.payload e
 
+-- the first fault of a put on an open channel, before its elements are read
 abbrev pub early_fault : (d : Desk) (m : Fields) → Serves d m.p1 → Option ℕ
 early_fault d m c = early_put_fault c.state (rights_at d c.seat.name) m (base_type_of m.data_type)
 
@@ -115,6 +117,7 @@ early_fault d m c = early_put_fault c.state (rights_at d c.seat.name) m (base_ty
 abbrev pub must_wait : (d : Desk) (m : Fields) → Serves d m.p1 → Bool
 must_wait d m c = m.command == command_number command.WriteNotify && is_some (busy d.log c.seat.name)
 
+-- and then of these elements
 abbrev pub late_fault : (d : Desk) (m : Fields) → Serves d m.p1 → Elements → Option ℕ
 late_fault d m c e = late_put_fault c.state (must_wait d m c) (length (waiting d.log c.seat.name)) e
 
@@ -150,6 +153,7 @@ PutDeed d circuit place m c stored replies deed =
     let w : Write = record { circuit = circuit; place = place; name = c.seat.name; stored = stored; busies = c.state.slow } in
     (deed ≡ (if must_wait d m c then Postpones w else Applies w)) × (replies ≡ (if c.state.slow then [] else put_told m normal ∷ []))
 
+-- A put with notification on an open channel is refused in its reply, or taken.
 abbrev pub PutDue : Desk → ℕ → ℕ → Fields → List Fields → Deed → Type 0
 PutDue d circuit place m replies deed =
     (c : Serves d m.p1)
@@ -158,6 +162,7 @@ PutDue d circuit place m replies deed =
 
 -- ---- EVENT_ADD ("CA_PROTO_EVENT_ADD")
 
+-- the SID and the subscription id of a message
 abbrev pub key_in : Fields → SubKey
 key_in m = record { sid = m.p1; sub = m.p2 }
 
@@ -166,6 +171,7 @@ abbrev pub event_fault : (d : Desk) (m : Fields) → Serves d m.p1 → Option �
 event_fault d m c =
     subscription_fault c.state (rights_at d c.seat.name) (list_any (λ (s : Subscription). same (key_in m) s.key) d.part.subscriptions) (length d.part.subscriptions) m (type_of m.data_type)
 
+-- A subscription on an open channel is refused by ERROR, or begins, without a reply.
 abbrev pub EventDue : Desk → ℕ → Fields → List Fields → Deed → Type 0
 EventDue d place m replies deed =
     (c : Serves d m.p1)

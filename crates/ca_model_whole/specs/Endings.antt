@@ -27,10 +27,12 @@ abbrev pub PostRefused : List Opening → List ℕ → Elements → Type 0
 PostRefused records name e =
     (record_of records name ≡ None) ⊎ ((r : Opening) × (record_of records name ≡ Some r) × ((base_of e ≢ native r) ⊎ ((count_of e ≡ 0) ⊎ (r.count < count_of e))))
 
+-- the value is one that the record may hold
 abbrev pub PostFits : List Opening → List ℕ → Elements → Type 0
 PostFits records name e =
     (r : Opening) × (record_of records name ≡ Some r) × (base_of e ≡ native r) × (0 < count_of e) × (count_of e ≤ r.count)
 
+-- A value is posted to a record, with a mask.
 abbrev pub HappensPost : World → ℕ → List ℕ → Elements → ℕ → World → Type 0
 HappensPost w server name e mask new =
     (y : ServerSide) × At w.servers server y
@@ -73,6 +75,7 @@ HappensFinish w server name new =
 
 -- ---- ends are cut
 
+-- the client's end of a circuit is cut
 pub record HappensCutClient (w : World) (k : ℕ) (new : World) : Type 0 where
   pub c : Course
   pub x : ClientSide
@@ -81,6 +84,7 @@ pub record HappensCutClient (w : World) (k : ℕ) (new : World) : Type 0 where
   pub is_open : c.state.client_open ≡ true
   pub ends : ClientEnds w k c x new
 
+-- the server's end of a circuit is cut
 pub record HappensCutServer (w : World) (k : ℕ) (new : World) : Type 0 where
   pub c : Course
   pub x : ClientSide
@@ -95,6 +99,7 @@ pub record HappensCutServer (w : World) (k : ℕ) (new : World) : Type 0 where
 abbrev pub without_client : ℕ → Course → Course
 without_client client c = if c.state.client == client && c.state.client_open then client_closed c else c
 
+-- all open ends of this server end untold
 abbrev pub without_server : ℕ → Course → Course
 without_server server c = if c.state.server == server && c.state.server_open then server_closed c else c
 
@@ -120,9 +125,11 @@ silence moment c = moment - c.at_client.heard_at
 abbrev pub is_lost : ℕ → Course → Bool
 is_lost moment c = c.state.client_open && nat_le 35000 (silence moment c)
 
+-- so long a silence sends an ECHO, once
 abbrev pub echoes : ℕ → Course → Bool
 echoes moment c = c.state.client_open && (nat_le 30000 (silence moment c) && not c.at_client.echoed)
 
+-- a circuit's client end at this moment
 abbrev pub ticked : ℕ → Course → Course
 ticked moment c =
     if is_lost moment c then client_closed c else if echoes moment c then sending (meant_circuit (bare command.Echo) ∷ []) (record c { at_client = record c.at_client { echoed = true } }) else c

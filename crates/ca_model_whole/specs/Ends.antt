@@ -49,6 +49,7 @@ pub record ServerPart : Type 0 where
   pub subscriptions : List Subscription
   pub queues : List (Queue Item)
 
+-- the end of a circuit that was just accepted
 abbrev pub new_part : ServerPart
 new_part = record { basic = new_end; peer = record { user = []; host = [] }; subscriptions = []; queues = replicate CIRCUIT_QUEUES no_queue }
 

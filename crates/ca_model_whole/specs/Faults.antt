@@ -21,29 +21,37 @@ use Rattle.ca_model_whole.specs.Records.{Opening, Stored, native}
 
 -- ---- statuses, as they stand in a message
 
+-- GETFAIL: the value could not be had in the wanted type
 abbrev pub get_fail : ℕ
 get_fail = 152
 
+-- PUTFAIL: the value could not be put
 abbrev pub put_fail : ℕ
 put_fail = 160
 
+-- ADDFAIL: the subscription could not be made
 abbrev pub add_fail : ℕ
 add_fail = 168
 
+-- NORDACCESS: the right to read is missing
 abbrev pub no_read_access : ℕ
 no_read_access = 368
 
+-- NOWTACCESS: the right to write is missing
 abbrev pub no_write_access : ℕ
 no_write_access = 376
 
+-- NOCONVERT: no conversion between these types
 abbrev pub no_convert : ℕ
 no_convert = 400
 
 -- ---- types by their numbers ("Payload Data Types")
 
+-- the types of elements
 abbrev pub base_types : List BaseType
 base_types = base.String ∷ base.Int ∷ base.Float ∷ base.Enum ∷ base.Char ∷ base.Long ∷ base.Double ∷ []
 
+-- plain, with status, and with a time stamp
 abbrev pub all_types : List DataType
 all_types = flat_map (λ (f : Form). map (λ (b : BaseType). record { base = b; form = f }) base_types) (form.Plain ∷ form.Status ∷ form.Time ∷ [])
 
@@ -51,6 +59,7 @@ all_types = flat_map (λ (f : Form). map (λ (b : BaseType). record { base = b; 
 abbrev pub type_of : ℕ → Option DataType
 type_of n = find (λ (t : DataType). type_number t == n) all_types
 
+-- the plain type of this number
 abbrev pub base_type_of : ℕ → Option BaseType
 base_type_of n = find (λ (b : BaseType). base_number b == n) base_types
 
@@ -60,9 +69,11 @@ base_type_of n = find (λ (b : BaseType). base_number b == n) base_types
 abbrev pub first_fault : List (Bool × ℕ) → Option ℕ
 first_fault faults = option_map (λ (f : Bool × ℕ). f.1) (find (λ (f : Bool × ℕ). f.0) faults)
 
+-- the bit 1
 abbrev pub may_read : ℕ → Bool
 may_read rights = rights % 2 == 1
 
+-- the bit 2
 abbrev pub may_write : ℕ → Bool
 may_write rights = rights / 2 % 2 == 1
 

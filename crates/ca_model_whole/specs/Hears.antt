@@ -224,5 +224,6 @@ pub record Skips (x : Client) (k : ℕ) (m : Fields) (sent : List Sent) (told : 
   pub tells : told ≡ []
   pub leaves : new ≡ x
 
+-- What a client makes of a message.
 abbrev pub Hears : Client → ℕ → Fields → List Sent → List Telling → Client → Type 0
 Hears x k m sent told new = Takes x k m sent told new ⊎ Skips x k m sent told new

@@ -67,11 +67,13 @@ channel_in (intent.WriteNotify c r) = Some c
 channel_in (intent.Subscribe c s) = Some c
 channel_in (intent.Cancel c s) = Some c
 
+-- the request that an intent names
 abbrev pub request_in : Intent → Option ℕ
 request_in (intent.Read c r) = Some r
 request_in (intent.WriteNotify c r) = Some r
 request_in _ = None
 
+-- the subscription that an intent names
 abbrev pub subscription_in : Intent → Option ℕ
 subscription_in (intent.Subscribe c s) = Some s
 subscription_in (intent.Cancel c s) = Some s

@@ -21,5 +21,6 @@ pub mod Sends
 pub mod ActsOnRecord
 pub mod OwnOnce
 pub mod NotTwice
+pub mod Legal
 pub mod Subscribers
 pub mod Safe

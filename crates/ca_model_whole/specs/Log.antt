@@ -32,10 +32,12 @@ pub data Note : Type 0 where
   Finished : List ℕ → ℕ → Note
   Withdrawn : ℕ → ℕ → ℕ → Note
 
+-- A server's two lists: the entries of its log, and the notes beside it.
 pub record ServerLog : Type 0 where
   pub entries : List Entry
   pub notes : List Note
 
+-- the lists of a server that did nothing yet
 abbrev pub no_log : ServerLog
 no_log = record { entries = []; notes = [] }
 
@@ -56,14 +58,17 @@ value_of records l name = last_or (option_map (λ (r : Opening). r.stored) (reco
 
 -- ---- busy and waiting puts
 
+-- the write of an entry, if it is one
 abbrev pub write_in : Entry → Option Write
 write_in (Applied w) = Some w
 write_in (Posted p) = None
 
+-- the put of a note that one came to wait
 abbrev pub put_waiting : Note → Option Write
 put_waiting (Waits w at) = Some w
 put_waiting _ = None
 
+-- the log's length at a finish of this record
 abbrev pub finish_of : List ℕ → Note → Option ℕ
 finish_of name (Finished n length) = if bytes_eq n name then Some length else None
 finish_of name _ = None
@@ -80,10 +85,12 @@ busy l name = find (λ (w : Write). w.busies && bytes_eq w.name name) (filter_ma
 abbrev pub same_place : Write → Write → Bool
 same_place v w = v.circuit == w.circuit && v.place == w.place
 
+-- the entry applies this write
 abbrev pub applies : Write → Entry → Bool
 applies v (Applied w) = same_place v w
 applies v (Posted p) = false
 
+-- the note takes this put out
 abbrev pub withdraws : Write → Note → Bool
 withdraws v (Withdrawn circuit place length) = v.circuit == circuit && v.place == place
 withdraws v _ = false
@@ -98,12 +105,15 @@ waiting l name = filter (λ (w : Write). bytes_eq w.name name) (all_waiting l)
 
 -- ---- how the lists grow
 
+-- one more entry
 abbrev pub with_entry : Entry → ServerLog → ServerLog
 with_entry e l = record l { entries = l.entries ++ e ∷ [] }
 
+-- a put that came to wait
 abbrev pub with_wait : Write → ServerLog → ServerLog
 with_wait w l = record l { notes = l.notes ++ Waits w (length l.entries) ∷ [] }
 
+-- the record's busy put was finished
 abbrev pub with_finish : List ℕ → ServerLog → ServerLog
 with_finish name l = record l { notes = l.notes ++ Finished name (length l.entries) ∷ [] }
 

@@ -75,6 +75,7 @@ abbrev pub error_told : ℕ → ℕ → Fields → Fields
 error_told cid status m =
     record { command = command_number command.Error; data_type = 0; count = 0; p1 = cid; p2 = status; payload = header_spelling (header_of m) ++ replicate 8 0 }
 
+-- in place of a CID, where the SID is unknown
 abbrev pub no_cid : ℕ
 no_cid = 2 ^ 32 - 1
 

@@ -20,6 +20,7 @@ use Rattle.ca_model_whole.specs.Client.{Address, Channel, Client, Connecting, On
 use Rattle.ca_model_whole.specs.Ends.{ClientPart, new_part}
 use Rattle.ca_model_whole.specs.World.{ClientSide, Course, ServerSide, World, client_closed, sending, waiting_down, waiting_up, with_client, with_course}
 
+-- both are one address
 abbrev pub same_address : Address → Address → Bool
 same_address a b = a.host == b.host && a.port == b.port
 
@@ -48,6 +49,7 @@ IsCreation x n s = (here : Channel) × At x.channels n here × (s ≡ record { m
 abbrev pub creating : Wanted → ℕ → Channel → Channel
 creating v k c = if waits_for v c.standing c.priority then record c { rights = 0; standing = On k phase.Creating } else c
 
+-- the client whose circuit k that wanted one is
 abbrev pub connected : Client → ℕ → Wanted → ℕ → Client
 connected x place v k = record x { channels = map (creating v k) x.channels; wanted = remove x.wanted place }
 
@@ -107,13 +109,16 @@ abbrev pub up_taken : ℕ → Course → Course
 up_taken n c =
     if c.state.client_open then record c { at_client = record c.at_client { basic = record c.at_client.basic { output = drop n c.at_client.basic.output } } } else record c { state = record c.state { left_up = drop n c.state.left_up } }
 
+-- the first n bytes that wait leave the server's end, or what it left
 abbrev pub down_taken : ℕ → Course → Course
 down_taken n c =
     if c.state.server_open then record c { at_server = record c.at_server { basic = record c.at_server.basic { output = drop n c.at_server.basic.output } } } else record c { state = record c.state { left_down = drop n c.state.left_down } }
 
+-- these bytes reach the server
 abbrev pub server_given : List ℕ → Course → Course
 server_given bytes c = record c { at_server = record c.at_server { basic = record c.at_server.basic { input = c.at_server.basic.input ++ bytes } } }
 
+-- these bytes reach the client
 abbrev pub client_given : List ℕ → Course → Course
 client_given bytes c = record c { at_client = record c.at_client { basic = record c.at_client.basic { input = c.at_client.basic.input ++ bytes } } }
 
@@ -133,6 +138,7 @@ heard_from moment n e = if n == 0 then e else record e { heard_at = moment; echo
 abbrev pub counted : Bool → ClientPart → ClientPart
 counted more e = record e { reads = if more && not e.events_off then e.reads + 1 else 0 }
 
+-- the client asked for a pause, or for their return, and counts anew
 abbrev pub with_events_off : Bool → Course → Course
 with_events_off off c = record c { at_client = record c.at_client { events_off = off; reads = 0 } }
 
@@ -169,6 +175,7 @@ pub record Carries (w : World) (client life : ℕ) (v : Wanted) (k : ℕ) (c : C
   pub y : ServerSide
   pub there : IsAt w v.address c.state.server y
 
+-- both are one circuit
 abbrev pub same_wanted : Wanted → Wanted → Bool
 same_wanted u v = same_address u.address v.address && u.priority == v.priority
 
@@ -212,6 +219,7 @@ HappensServerDatagram w server new = (y : ServerSide) × At w.servers server y �
 abbrev pub search_told : Address → Fields → Fields
 search_told a m = record { command = command_number command.Search; data_type = a.port; count = 0; p1 = 2 ^ 32 - 1; p2 = m.p2; payload = 0 ∷ 13 ∷ 0 ∷ 0 ∷ 0 ∷ 0 ∷ 0 ∷ 0 ∷ [] }
 
+-- what is due for one message of a datagram
 abbrev pub search_due : Address → List Opening → Fields → List Fields
 search_due a records m =
     if m.command == command_number command.Search && is_some (record_of records (text_in m.payload)) then search_told a m ∷ [] else []

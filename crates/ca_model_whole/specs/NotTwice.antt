@@ -34,6 +34,7 @@ IsUnapplied w circuit place = (server life index : ℕ) (v : Write) → IsApplie
 abbrev pub MeansPut : ℕ → Intent → Type 0
 MeansPut number i = (channel : ℕ) × (i ≡ intent.WriteNotify channel number)
 
+-- an intent to write as this plain write
 abbrev pub MeansWrite : ℕ → Intent → Type 0
 MeansWrite number i = (channel : ℕ) × (i ≡ intent.Write channel number)
 

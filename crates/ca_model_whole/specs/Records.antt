@@ -44,6 +44,7 @@ pub record Peer : Type 0 where
   pub user : List ℕ
   pub host : List ℕ
 
+-- the rule meets this client and record
 abbrev pub rule_meets : Peer → List ℕ → Rule → Bool
 rule_meets p name r = meets r.user p.user && (meets r.host p.host && meets r.record_name name)
 

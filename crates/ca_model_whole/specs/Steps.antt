@@ -82,6 +82,7 @@ pub record TakesIn (s : Subscription) (stored : Stored) (p new : ServerPart) : T
   pub leaves :
       new ≡ record p { subscriptions = p.subscriptions ++ s ∷ []; queues = slice_set p.queues place (posted s.key (record { place = s.place; item = 0; stored = stored }) (added s.key q)) }
 
+-- the end with these open channels
 abbrev pub with_seats : List Seat → ServerPart → ServerPart
 with_seats seats p = record p { basic = record p.basic { seats = seats } }
 
@@ -112,6 +113,7 @@ noted k c _ l = l
 
 -- ---- a step of the server's end
 
+-- what the server knows on this circuit
 abbrev pub desk_of : ServerSide → Course → Desk
 desk_of y c = record { records = y.records; rules = y.rules; log = y.log; part = c.at_server }
 
@@ -159,6 +161,7 @@ abbrev pub AppliedUnsaid : World → ℕ → Course → ServerSide → Deed → 
 AppliedUnsaid w k c y (Applies v) new = (gone : ℕ → Bool) × (gone k ≡ false) × ((mid : World) × Enters w c.state.server y (Applied v) gone mid × ((c' : Course) × (y' : ServerSide) × At mid.courses k c' × At mid.servers c.state.server y' × ServerEnds mid k c' y' new))
 AppliedUnsaid w k c y deed new = ⊥
 
+-- memory was wanting for the next message
 pub record LacksMemory (w : World) (k : ℕ) (c : Course) (y : ServerSide) (new : World) : Type 0 where
   pub replies : List Fields
   pub deed : Deed
@@ -176,6 +179,7 @@ pub data ServerSteps (w : World) (k : ℕ) (c : Course) (y : ServerSide) (new : 
   Handled : (replies : List Fields) (deed : Deed) (part : ServerPart) → Handles k c y replies deed part → HandledWith w k c y replies part deed new → ServerSteps w k c y new
   OutOfMemory : LacksMemory w k c y new → ServerSteps w k c y new
 
+-- a step of the server's end of a circuit
 pub record HappensServerStep (w : World) (k : ℕ) (new : World) : Type 0 where
   pub c : Course
   pub x : ClientSide
@@ -195,6 +199,7 @@ abbrev pub update_in : Subscription → Stored → DataType → Result Elements 
 update_in s v t (Ok e) = update_told s.data_type (update_count s v) normal s.key.sub (image t e v.meta)
 update_in s v t (Err r) = update_told s.data_type (update_count s v) get_fail s.key.sub (replicate (size_of_image t (update_count s v)) 0)
 
+-- the message is the update of this subscription with this value
 abbrev pub IsUpdate : Subscription → Stored → Fields → Type 0
 IsUpdate s v m = (t : DataType) × (type_of s.data_type ≡ Some t) × (m ≡ update_in s v t (shown v.value (update_count s v) t.base))
 
@@ -262,6 +267,7 @@ pub data ClientSteps (w : World) (k : ℕ) (c : Course) (x : ClientSide) (new : 
   Read : (sent : List Sent) (told : List Telling) (core : Client) (rest : List ℕ) → Reads k c x sent told core rest → new ≡ with_course (with_client w c.state.client (telling told core x)) k (sending sent (heard x rest c)) → ClientSteps w k c x new
   OutOfMemory : (sent : List Sent) (told : List Telling) (core : Client) (rest : List ℕ) (reads : Reads k c x sent told core rest) → (reads.m.payload ≢ []) ⊎ ((told ≢ []) ⊎ (sent ≢ [])) → ClientEnds w k c x new → ClientSteps w k c x new
 
+-- a step of the client's end of a circuit
 pub record HappensClientStep (w : World) (k : ℕ) (new : World) : Type 0 where
   pub c : Course
   pub x : ClientSide

@@ -35,6 +35,7 @@ abbrev pub is_update_of : ℕ → Cause → Bool
 is_update_of k (cause.Update place item) = place == k
 is_update_of k _ = false
 
+-- its updates among these messages, in order
 abbrev pub updates_of : ℕ → List Told → List Told
 updates_of k down = filter (λ (t : Told). is_update_of k t.cause) down
 
@@ -42,6 +43,7 @@ updates_of k down = filter (λ (t : Told). is_update_of k t.cause) down
 abbrev pub queued_item : ℕ → SubKey × Item → Option Stored
 queued_item k w = if w.1.place == k then Some w.1.stored else None
 
+-- all of them
 abbrev pub queued_for : ℕ → Course → List Stored
 queued_for k c = flat_map (λ (q : Queue Item). filter_map (queued_item k) q.waiting) c.at_server.queues
 

@@ -38,6 +38,7 @@ pub record Course : Type 0 where
   pub at_client : ClientPart
   pub at_server : ServerPart
 
+-- A world: its clients, its servers and its circuits.
 pub record World : Type 0 where
   pub clients : List ClientSide
   pub servers : List ServerSide
@@ -52,16 +53,20 @@ pub record ServerSetting : Type 0 where
   pub records : List Opening
   pub rules : List Rule
 
+-- the clients and servers that a world is made of
 pub record Setting : Type 0 where
   pub clients : List Peer
   pub servers : List ServerSetting
 
+-- a client at the beginning of a world
 abbrev pub new_client_side : Peer → ClientSide
 new_client_side p = record { core = new_client p; log = []; past = [] }
 
+-- a server at the beginning of a world
 abbrev pub new_server_side : ServerSetting → ServerSide
 new_server_side s = record { address = s.address; records = s.records; rules = s.rules; log = no_log; past = [] }
 
+-- the world before any event
 abbrev pub opening : Setting → World
 opening s = record { clients = map new_client_side s.clients; servers = map new_server_side s.servers; courses = []; moment = 0 }
 
@@ -71,6 +76,7 @@ opening s = record { clients = map new_client_side s.clients; servers = map new_
 abbrev pub client_logs : ClientSide → List (List Line)
 client_logs x = x.past ++ x.log ∷ []
 
+-- the lists of each life of a server
 abbrev pub server_logs : ServerSide → List ServerLog
 server_logs y = y.past ++ y.log ∷ []
 
@@ -89,12 +95,15 @@ pub record Served (w : World) (server life : ℕ) (records : List Opening) (log 
 
 -- ---- parts of a world
 
+-- the world with another client i
 abbrev pub with_client : World → ℕ → ClientSide → World
 with_client w i x = record w { clients = slice_set w.clients i x }
 
+-- the world with another server i
 abbrev pub with_server : World → ℕ → ServerSide → World
 with_server w i y = record w { servers = slice_set w.servers i y }
 
+-- the world with another circuit k
 abbrev pub with_course : World → ℕ → Course → World
 with_course w k c = record w { courses = slice_set w.courses k c }
 
@@ -106,17 +115,21 @@ pub record Joins (w : World) (k : ℕ) (c : Course) (x : ClientSide) (y : Server
 
 -- ---- how logs grow
 
+-- a call was accepted
 abbrev pub calling : Call → Client → ClientSide → ClientSide
 calling call core x = record x { core = core; log = x.log ++ Called call ∷ [] }
 
+-- a call was refused
 abbrev pub refusing : Refusal → ClientSide → ClientSide
 refusing e x = record x { log = x.log ++ Refused e ∷ [] }
 
+-- the client told these
 abbrev pub telling : List Telling → Client → ClientSide → ClientSide
 telling told core x = record x { core = core; log = x.log ++ map ToldLine told }
 
 -- ---- how circuits grow
 
+-- the messages, without what was meant by them
 abbrev pub messages_of : List Sent → List Fields
 messages_of sent = map (λ (s : Sent). s.message) sent
 
@@ -138,6 +151,7 @@ answering told c = record c {
 abbrev pub client_closed : Course → Course
 client_closed c = record c { state = record c.state { client_open = false; left_up = c.at_client.basic.output } }
 
+-- the server's end ends
 abbrev pub server_closed : Course → Course
 server_closed c = record c { state = record c.state { server_open = false; left_down = c.at_server.basic.output } }
 
@@ -145,5 +159,6 @@ server_closed c = record c { state = record c.state { server_open = false; left_
 abbrev pub waiting_up : Course → List ℕ
 waiting_up c = if c.state.client_open then c.at_client.basic.output else c.state.left_up
 
+-- the bytes that may still reach the client
 abbrev pub waiting_down : Course → List ℕ
 waiting_down c = if c.state.server_open then c.at_server.basic.output else c.state.left_down
