@@ -7,3 +7,4 @@ pub mod SafeOwn
 pub mod Unsafe
 pub mod Worked
 pub mod Parts
+pub mod Lifts

@@ -110,7 +110,7 @@ found p [] k x at is = absurd cc
 found p (z ∷ xs) zero x at is = (z, ap (λ (b : Bool). cond b (Some z) (find p xs)) (ap p (some_is z x at) ∙ is))
 found p (z ∷ xs) (suc k) x at is = either-found (p z) z (find p xs) (found p xs k x at is)
 
-served-alike : (records : List RecordState) (opening_of : RecordState → Opening) → ((r : RecordState) → (opening_of r).name ≡ r.name) → (name : List ℕ) → IsServedThere records name → IsServed (map opening_of records) name
+pub served-alike : (records : List RecordState) (opening_of : RecordState → Opening) → ((r : RecordState) → (opening_of r).name ≡ r.name) → (name : List ℕ) → IsServedThere records name → IsServed (map opening_of records) name
 served-alike records opening_of named name s =
     let r = s.1.state in
     let name-is : (opening_of r).name ≡ name = named r ∙ s.1.named in

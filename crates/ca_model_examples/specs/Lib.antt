@@ -3,3 +3,4 @@ pub mod Unsafe
 pub mod Safe
 pub mod Rows
 pub mod Small
+pub mod Lifted
