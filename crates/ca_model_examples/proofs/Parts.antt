@@ -31,19 +31,19 @@ unequal a b ne = bool-false (a == b) (λ e. ne (eqb-true a b e))
 second-else : {A : Type 0} (a b : Bool) (x y z : A) → a ≡ false → b ≡ false → (if a then x else if b then y else z) ≡ z
 second-else true b x y z e f = absurd (true-false e)
   where
-  true-false : true ≡ false → ⊥
-  true-false e = cc
+    true-false : true ≡ false → ⊥
+    true-false e = cc
 second-else false true x y z e f = absurd (true-false f)
   where
-  true-false : true ≡ false → ⊥
-  true-false e = cc
+    true-false : true ≡ false → ⊥
+    true-false e = cc
 second-else false false x y z e f = refl
 
 third-else : {A : Type 0} (a b c : Bool) (w x y z : A) → a ≡ false → b ≡ false → c ≡ false → (if a then w else if b then x else if c then y else z) ≡ z
 third-else true b c w x y z e f g = absurd (true-false e)
   where
-  true-false : true ≡ false → ⊥
-  true-false e = cc
+    true-false : true ≡ false → ⊥
+    true-false e = cc
 third-else false b c w x y z e f g = second-else b c x y z f g
 
 given-same : (m : Fields) → m.command ≢ 19 → m.command ≢ 1 → id_given m ≡ option_map Basic (given_in m)
@@ -87,8 +87,8 @@ own-ids h is own j k t id at caused speaks =
         gives = given-same took.sent.message sent.0 sent.1 ∙ (ap (λ (o : Option WireId). option_map Basic o) took.gives ∙ ap (λ (i : Id). Some i) (sym m.2));
         early = took.early;
         last = λ l s after before there gives.
-          let other = is.sent l s there in
-          took.last l s after before there (mapped-back (given_in s.message) m.0 (sym (given-same s.message other.0 other.1) ∙ (gives ∙ ap (λ (i : Id). Some i) m.2)));
+            let other = is.sent l s there in
+            took.last l s after before there (mapped-back (given_in s.message) m.0 (sym (given-same s.message other.0 other.1) ∙ (gives ∙ ap (λ (i : Id). Some i) m.2)));
       };
       own = took.sent;
       at = took.at;

@@ -82,6 +82,10 @@ pub record IsSmallWorld (n : ℕ) (w : small.World) : Type 0 where
   pub histories : (k : ℕ) (c : CircuitState) → At w.circuits k c → IsSmall c.history
   pub replies : (k : ℕ) (c : CircuitState) (j p channel request : ℕ) (t : Told) (s : Sent) → At w.circuits k c → At c.history.down j t → t.cause ≡ cause.Reply p → At c.history.up p s → s.intent ≡ intent.Read channel request → t.message.command ≡ command_number command.ReadNotify
 
+-- each circuit joins a client and a server that are there
+abbrev pub AreJoined : small.World → Type 0
+AreJoined w = (k : ℕ) (c : CircuitState) → At w.circuits k c → (x : small.ClientSide) × (y : small.ServerSide) × small.Joins w k c x y
+
 -- each message that was handled was answered by what the whole statement has as due
 abbrev pub IsAnsweredWhole : World → Type 0
 IsAnsweredWhole w =
@@ -90,4 +94,4 @@ IsAnsweredWhole w =
 -- A world of the small kind that is safe, and whose messages were answered by what is due, is safe in the whole statement's words.
 abbrev pub SafeAlike : Type 0
 SafeAlike =
-    (n : ℕ) (f : RecordState → Opening) → ((r : RecordState) → (f r).name ≡ r.name) → (w : small.World) → IsSmallWorld n w → small_safe.Safe w → IsAnsweredWhole (lifted n f w) → Safe (lifted n f w)
+    (n : ℕ) (f : RecordState → Opening) → ((r : RecordState) → (f r).name ≡ r.name) → (w : small.World) → IsSmallWorld n w → AreJoined w → small_safe.Safe w → IsAnsweredWhole (lifted n f w) → Safe (lifted n f w)
