@@ -163,6 +163,7 @@ knew-first = record {
   host = unnamed 0 command.HostName (differ 21 18 (inr (omega arith))) (differ 21 15 (inr (omega arith)));
   subscriptions = λ s st. absurd (no-subscription 0 0 s st);
   only = λ i s at. absurd (none-at i s at);
+  apart = λ i j r s at at' e. absurd (none-at i r at);
 }
 
 abbrev told_then : List Told
@@ -212,6 +213,7 @@ knew-second = record {
   host = unnamed 1 command.HostName (differ 21 18 (inr (omega arith))) (differ 21 15 (inr (omega arith)));
   subscriptions = λ s st. absurd (no-subscription 1 2 s st);
   only = λ i s at. absurd (none-at i s at);
+  apart = λ i j r s at at' e. absurd (none-at i r at);
 }
 
 abbrev first_replies : List Fields

@@ -58,7 +58,7 @@ pub record IsStanding (c : Course) (k before : ℕ) (s : Subscription) : Type 0 
   pub command : add.command ≡ command_number command.EventAdd
   pub key : s.key ≡ key_in add
   pub accepted : (j : ℕ) (t : Told) → j < before → At c.state.history.down j t → t.cause ≡ cause.Reply s.place → ⊥
-  pub lasts : (sent : ℕ) → EndedAt c.state.history s.place add sent → sent ≤ before → ⊥
+  pub lasts : (sent : ℕ) (e : EndedAt c.state.history s.place add sent) → e.l < k → ⊥
 
 -- What the server knew when it handled the message at place k, of which it had sent so many before: all of it is read off the lists.
 pub record Knew (y : ServerSide) (l : ServerLog) (c : Course) (k before : ℕ) (d : Desk) : Type 0 where
@@ -75,6 +75,7 @@ pub record Knew (y : ServerSide) (l : ServerLog) (c : Course) (k before : ℕ) (
   pub host : IsNamed c.state.history k command.HostName d.part.peer.host
   pub subscriptions : (s : Subscription) → IsStanding c k before s → (i : ℕ) × (r : Subscription) × At d.part.subscriptions i r × (r.key ≡ s.key)
   pub only : (i : ℕ) (s : Subscription) → At d.part.subscriptions i s → IsStanding c k before s
+  pub apart : (i j : ℕ) (r s : Subscription) → At d.part.subscriptions i r → At d.part.subscriptions j s → r.key ≡ s.key → i ≡ j
 
 -- the put's reply comes when its record is finished
 abbrev pub IsDeferred : Deed → Type 0

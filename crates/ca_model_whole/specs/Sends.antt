@@ -1,5 +1,5 @@
 -- What a client and a server may send, by the lists of a circuit alone (sections "Message Identifiers" and "CA Protocol Messages").
-use Rattle.std.specs.Prelude.{ℕ, ◌≡◌, ◌<◌, ◌≤◌, ◌⊎◌, Option, Some, None}
+use Rattle.std.specs.Prelude.{ℕ, ◌≡◌, ◌≢◌, ◌<◌, ◌≤◌, ◌⊎◌, Option, Some, None}
 use Rattle.ca_text.specs.Command.{command_number}
 use Rattle.ca_text.specs.declared.command.Command.TheVariants as command
 use Rattle.ca_text.specs.Place.{At}
@@ -46,12 +46,17 @@ pub record CancelConfirmed (h : History) (k id : ℕ) (t : Told) : Type 0 where
   pub of : m.p2 ≡ id
   pub answers : t.cause ≡ cause.Reply l
 
--- With t the id that the message m at place k gave has come back: an IOID with its reply, a subscription id with its cancel's confirmation or
--- the ERROR that refused it, a CID with its clear's reply or its create's failure; all ids of a channel with its clear's reply.
-abbrev pub ComesBack : History → ℕ → Fields → Id → Told → Type 0
-ComesBack h k m (Basic (Ioid n)) t = (t.cause ≡ cause.Reply k) ⊎ ClearAnswered h k (λ c. c.p1) m.p1 t
-ComesBack h k m (Sub n) t = (t.cause ≡ cause.Reply k) ⊎ (CancelConfirmed h k n t ⊎ ClearAnswered h k (λ c. c.p1) m.p1 t)
-ComesBack h k m (Basic (Cid n)) t =
+-- No EVENT_CANCEL of this subscription id was sent between these places.
+abbrev pub NotCancelled : History → ℕ → ℕ → ℕ → Type 0
+NotCancelled h k l id = (i : ℕ) (m : Fields) → k < i → i < l → At (sent_in h) i m → m.command ≡ command_number command.EventCancel → m.p2 ≢ id
+
+-- With t the id that the message m at place k gave has come back before place l: an IOID with its reply, a subscription id with its cancel's
+-- confirmation or, where it was not cancelled, the ERROR that refused it, a CID with its clear's reply or its create's failure; and
+-- all ids of a channel with its clear's reply.
+abbrev pub ComesBack : History → ℕ → ℕ → Fields → Id → Told → Type 0
+ComesBack h k l m (Basic (Ioid n)) t = (t.cause ≡ cause.Reply k) ⊎ ClearAnswered h k (λ c. c.p1) m.p1 t
+ComesBack h k l m (Sub n) t = ((t.cause ≡ cause.Reply k) × NotCancelled h k l n) ⊎ (CancelConfirmed h k n t ⊎ ClearAnswered h k (λ c. c.p1) m.p1 t)
+ComesBack h k l m (Basic (Cid n)) t =
     ((t.cause ≡ cause.Reply k) × (t.message.command ≡ command_number command.CreateChannelFail)) ⊎ ClearAnswered h k (λ c. c.p2) n t
 
 -- Where two messages give one id, the id of the earlier came back, and that was read, before the later was sent.
@@ -60,7 +65,7 @@ pub record CameBack (h : History) (k l : ℕ) (m : Fields) (id : Id) : Type 0 wh
   pub t : Told
   pub at : At h.down j t
   pub read : ReadBefore h j l
-  pub back : ComesBack h k m id t
+  pub back : ComesBack h k l m id t
 
 -- ---- the client
 
