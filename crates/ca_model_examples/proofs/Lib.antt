@@ -8,3 +8,4 @@ pub mod Unsafe
 pub mod Worked
 pub mod Parts
 pub mod Lifts
+pub mod Makes

@@ -41,7 +41,7 @@ rights = reply_to 0 (rights_told (create_request 1 temp_name) 3)
 abbrev refusal : Told
 refusal = reply_to 1 (refused_reply odd_read 114)
 
-differ : (a b : ℕ) → (a < b) ⊎ (b < a) → a ≡ b → ⊥
+pub differ : (a b : ℕ) → (a < b) ⊎ (b < a) → a ≡ b → ⊥
 differ a b (inl less) e = omega (arith, less, e)
 differ a b (inr less) e = omega (arith, less, e)
 
@@ -247,7 +247,7 @@ first-due = record {
   other = λ e. absurd (true-false e);
 }
 
-second-due : Due second_desk 0 1 odd_read (refusal.message ∷ []) Nothing
+pub second-due : Due second_desk 0 1 odd_read (refusal.message ∷ []) Nothing
 second-due = record {
   version = λ e. absurd (differ 15 0 (inr (omega arith)) e);
   user = λ e. absurd (differ 15 20 (inl (omega arith)) e);

@@ -4,3 +4,4 @@ pub mod Safe
 pub mod Rows
 pub mod Small
 pub mod Lifted
+pub mod Steps

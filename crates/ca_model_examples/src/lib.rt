@@ -5,6 +5,7 @@
 mod rows;
 mod safe_worlds;
 mod small_world;
+mod steps;
 mod unsafe_worlds;
 
 pub use rows::{
@@ -16,6 +17,7 @@ pub use safe_worlds::{
     updates_wait_in_order,
 };
 pub use small_world::{a_safe_small_world_is_safe, the_small_world_is_a_part};
+pub use steps::steps_can_be_made;
 pub use unsafe_worlds::{
     a_cleared_channel_is_not_acted_on, a_done_put_is_in_a_log, a_lost_newest_post_shows,
     a_reply_completes_its_own_request, a_write_stands_at_one_place,
