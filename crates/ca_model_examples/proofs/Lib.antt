@@ -9,3 +9,4 @@ pub mod Worked
 pub mod Parts
 pub mod Lifts
 pub mod Makes
+pub mod Drains

@@ -1,30 +1,26 @@
 -- The steps can be made.
-use Rattle.std.proofs.Common.{◌≡◌, ℕ, zero, suc, ◌+◌, ◌<◌, ◌≤◌, ◌⊎◌, inl, inr, Bool, true, false, List, [], ◌∷◌, ◌++◌, length, refl, sym, ap, subst, ◌∙◌, arith}
-use Rattle.std.specs.Prelude.{Some, None, Option}
+use Rattle.std.proofs.Common.{◌≡◌, ℕ, inl, inr, false, List, [], ◌∷◌, refl, sym, ap, subst, arith}
+use Rattle.std.specs.Prelude.{Some}
 use Rattle.ca_text.specs.Place.{At}
-use Rattle.ca_dbr.specs.declared.value.Outcome.TheVariants as outcome
 use Rattle.std.proofs.lemmas.List.{append-nil}
 use Rattle.ca_wire.specs.Fields.{Fields, IsPayload}
 use Rattle.ca_wire.proofs.Headers.{header-spells}
 use Rattle.ca_model.specs.declared.data.Sent.{Sent}
 use Rattle.ca_model.specs.declared.data.Notice.TheVariants as notice
 use Rattle.ca_model_whole.specs.Calls as telling
-use Rattle.ca_wire.specs.Header.{HeaderFits, header_spelling, number16, number32, short_header}
-use Rattle.ca_wire.specs.Message.{IsMessage, Spells, header_of, spelling}
+use Rattle.ca_wire.specs.Header.{HeaderFits, header_spelling}
+use Rattle.ca_wire.specs.Message.{header_of, spelling}
 use Rattle.ca_model.specs.declared.data.Intent.TheVariants as intent
 use Rattle.ca_model.specs.Client.{TakesFirst}
-use Rattle.ca_model.specs.Replies.{refused_reply}
 use Rattle.ca_model.specs.Requests.{create_request}
-use Rattle.ca_model_whole.specs.Client.{Channel, Wanted}
 use Rattle.ca_model_whole.specs.Due.{Nothing}
 use Rattle.ca_model_whole.specs.Hears.{Answered}
-use Rattle.ca_model_whole.specs.Moves.{Connects, IsCreation, WaitsFor}
+use Rattle.ca_model_whole.specs.Moves.{IsCreation, WaitsFor}
 use Rattle.ca_model_whole.specs.Steps.{Handled, Read}
-use Rattle.ca_model_whole.specs.World.{ClientSide, Course, ServerSide, World}
 use Rattle.ca_model_examples.specs.Blank.{temp_name}
 use Rattle.ca_model_examples.specs.Safe.{bad_type_failure, odd_read, seated}
-use Rattle.ca_model_examples.specs.Steps.{MayAccept, MayHandle, MayHear, asking_client, before_accept, before_client_step, before_server_step, odd_refusal, read_came, reply_came, waiting_channel, waiting_client}
-use Rattle.ca_model_examples.proofs.Lists.{none-at, one-at}
+use Rattle.ca_model_examples.specs.Steps.{MayAccept, MayHandle, MayHear, asking_client, odd_refusal, read_came, reply_came, waiting_channel, waiting_client}
+use Rattle.ca_model_examples.proofs.Lists.{one-at}
 use Rattle.ca_model_examples.proofs.SafeOwn.{differ, second-due}
 
 -- ---- a circuit is accepted

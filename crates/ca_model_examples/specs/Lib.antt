@@ -5,3 +5,4 @@ pub mod Rows
 pub mod Small
 pub mod Lifted
 pub mod Steps
+pub mod Draining

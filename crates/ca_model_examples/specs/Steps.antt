@@ -1,21 +1,16 @@
 -- Small steps of a world: a circuit is accepted, a server answers a read, and a client reads the answer.
-use Rattle.std.specs.Prelude.{ℕ, true, false, List, [], ◌∷◌}
-use Rattle.ca_dbr.specs.declared.value.Outcome.TheVariants as outcome
+use Rattle.std.specs.Prelude.{false, List, [], ◌∷◌}
 use Rattle.ca_wire.specs.Fields.{Fields}
 use Rattle.ca_wire.specs.Message.{spelling}
 use Rattle.ca_model.specs.declared.data.Event.TheVariants as event
 use Rattle.ca_model.specs.declared.data.Intent.TheVariants as intent
 use Rattle.ca_model.specs.declared.data.Sent.{Sent}
-use Rattle.ca_model.specs.Circuit.{History}
 use Rattle.ca_model.specs.Replies.{refused_reply}
-use Rattle.ca_model.specs.Requests.{create_request, set_up}
-use Rattle.ca_model_whole.specs.Calls.{Line}
-use Rattle.ca_model_whole.specs.Client.{Asked, Channel, Client, Connecting, new_client}
+use Rattle.ca_model_whole.specs.Client.{Channel, Client, Connecting, new_client}
 use Rattle.ca_model_whole.specs.Ends.{ServerPart}
-use Rattle.ca_model_whole.specs.Events.{Basic, Event}
+use Rattle.ca_model_whole.specs.Events.{Basic}
 use Rattle.ca_model_whole.specs.Log.{no_log}
 use Rattle.ca_model_whole.specs.Runs.{Happens}
-use Rattle.ca_model_whole.specs.Steps.{HappensClientStep, HappensServerStep}
 use Rattle.ca_model_whole.specs.World.{Course, World}
 use Rattle.ca_model_examples.specs.Blank.{blank_part, course_with, nobody, temp_name, world_of}
 use Rattle.ca_model_examples.specs.Safe.{creating, live_client, odd_read, seated}

@@ -2,12 +2,14 @@
 //! definitions that compute.
 #![tactic(auto)]
 
+mod draining;
 mod rows;
 mod safe_worlds;
 mod small_world;
 mod steps;
 mod unsafe_worlds;
 
+pub use draining::a_cancelled_subscription_drains;
 pub use rows::{
     conversions_are_as_worked, faults_are_as_worked, images_are_as_worked,
     queued_posts_are_as_worked, spelled_updates_are_as_worked, waiting_puts_are_as_worked,
