@@ -1,0 +1,53 @@
+-- The records of a server, and who may read and write them (sections "Process Variables" and "CA_PROTO_ACCESS_RIGHTS").
+use Rattle.std.specs.Prelude.{ℕ, ◌+◌, ◌&&◌, Bool, true, cond, List, Option, Some, None, find, option_map, unwrap_or}
+use Rattle.std.specs.Str.{bytes_eq}
+use Rattle.ca_dbr.specs.declared.data_type.BaseType.{BaseType}
+use Rattle.ca_dbr.specs.declared.value.Meta.{Meta}
+use Rattle.ca_dbr.specs.Elements.{Elements, base_of}
+
+-- a value, with its alarm status and severity and its time stamp
+pub record Stored : Type 0 where
+  pub value : Elements
+  pub meta : Meta
+
+-- A record as it begins: its name, its greatest element count, whether a put with notification makes it busy, and its
+-- opening value.
+pub record Opening : Type 0 where
+  pub name : List ℕ
+  pub count : ℕ
+  pub slow : Bool
+  pub stored : Stored
+
+-- the native type: that of its values
+abbrev pub native : Opening → BaseType
+native r = base_of r.stored.value
+
+-- the record of this name
+abbrev pub record_of : List Opening → List ℕ → Option Opening
+record_of records name = find (λ (r : Opening). bytes_eq r.name name) records
+
+-- A rule on access: whom and what it meets, where none stands for everything, and whether it lets read and write.
+pub record Rule : Type 0 where
+  pub user : Option (List ℕ)
+  pub host : Option (List ℕ)
+  pub record_name : Option (List ℕ)
+  pub reads : Bool
+  pub writes : Bool
+
+-- none meets every word
+abbrev pub meets : Option (List ℕ) → List ℕ → Bool
+meets None word = true
+meets (Some w) word = bytes_eq w word
+
+-- a client as it named itself (sections "CA_PROTO_CLIENT_NAME" and "CA_PROTO_HOST_NAME")
+pub record Peer : Type 0 where
+  pub user : List ℕ
+  pub host : List ℕ
+
+-- the rule meets this client and record
+abbrev pub rule_meets : Peer → List ℕ → Rule → Bool
+rule_meets p name r = meets r.user p.user && (meets r.host p.host && meets r.record_name name)
+
+-- The bits 1 to read and 2 to write: by the first rule that meets, and both where none does.
+abbrev pub rights : List Rule → Peer → List ℕ → ℕ
+rights rules p name = unwrap_or (option_map (λ (r : Rule). cond r.reads 1 0 + cond r.writes 2 0) (find (rule_meets p name) rules)) 3
