@@ -1,5 +1,5 @@
 -- The words of `replay FILE`.
-use Rattle.std.specs.Prelude.{ℕ, ◌≡◌, List, [], ◌∷◌, Option, None, Some, true, false, codes}
+use Rattle.std.specs.Prelude.{◌≡◌, List, [], ◌∷◌, Option, None, Some, true, false, codes}
 use Rattle.clap.specs.Words.{App, Text, fault_of, first_of, matches_of, new_app, new_rule, with_rule}
 use Rattle.ca.specs.declared.replay_line.ReplayLine.{ReplayLine}
 use Rattle.ca.specs.declared.line.Line.{Line}

@@ -59,10 +59,7 @@ fn outcome_of(stop: Option<(u64, Refusal)>) -> Result<(), Refusal>
 }
 
 /// Does a script's events in a world. The answer is the report, with the place of the event that stopped the run and why.
-fn reported(
-    alloc: Global,
-    script: &[u8],
-) -> Result<(Vec<u8>, Option<(u64, Refusal)>), Refusal>
+fn reported(alloc: Global, script: &[u8]) -> Result<(Vec<u8>, Option<(u64, Refusal)>), Refusal>
     ensures ok { IfOk result (λ r. Reported script.now r.1 r.0.items) }
     ensures err { IfErr result (λ e. (e ≡ BadText) ⊎ (e ≡ OutOfMemory)) }
 {

@@ -24,11 +24,7 @@ struct Case {
     status: u8,
 }
 
-const fn done(
-    name: &'static str,
-    script: &'static [&'static str],
-    report: &'static str,
-) -> Case {
+const fn done(name: &'static str, script: &'static [&'static str], report: &'static str) -> Case {
     Case {
         name,
         script,
@@ -68,7 +64,10 @@ fn hold<R: AllocGlobal + Abort>(rt: &R, cases: &[Case]) -> Result<(), Fail> {
         let mut sink = Writer::new(Vec::new(rt.alloc()));
         let mut told = Vec::new(rt.alloc());
         let status = replay_run(rt.alloc(), &script, None, &mut sink, &mut told);
-        assert!(rt; sink.writer.as_slice() == case.report.as_bytes(), "report: {name}");
+        assert!(rt;
+            sink.writer.as_slice() == case.report.as_bytes(),
+            "report: {name}"
+        );
         assert!(rt; told.as_slice() == case.told.as_bytes(), "told: {name}");
         assert_eq!(rt; status, case.status, "status: {name}");
     }
@@ -84,12 +83,22 @@ fn scripts_are_replayed(rt: HostRuntime) -> Result<(), Fail> {
             done("a world alone", &[WORLD], "events 0\n"),
             done(
                 "a read answered, and one cut off",
-                &[WORLD, LIVE, READ, "down 0 24\ncstep 0\nread 0 0 5 1\ncut 0 client\n"],
+                &[
+                    WORLD,
+                    LIVE,
+                    READ,
+                    "down 0 24\ncstep 0\nread 0 0 5 1\ncut 0 client\n",
+                ],
                 "0 live 0\n0 completed 0 value 5 1 00000015\n0 completed 1 disconnected\n0 lost 0\nevents 18\n",
             ),
             refused(
                 "one byte more than waits",
-                &[WORLD, LIVE, READ, "down 0 25\ncstep 0\nread 0 0 5 1\ncut 0 client\n"],
+                &[
+                    WORLD,
+                    LIVE,
+                    READ,
+                    "down 0 25\ncstep 0\nread 0 0 5 1\ncut 0 client\n",
+                ],
                 "0 live 0\nevents 14\n",
                 "refused: 22 BadEvent\n",
             ),
