@@ -1,4 +1,6 @@
 pub mod Reading
 pub mod RepeaterReading
 pub mod Repeatings
+pub mod ReplayReading
+pub mod Replayings
 pub mod Starts

@@ -2,7 +2,10 @@ pub mod Decimal
 pub mod Grammar
 pub mod RepeaterWords
 pub mod Repeating
+pub mod ReplayWords
+pub mod Replaying
 pub mod Runs
 pub mod Standing
 pub mod Status
+pub mod Strange
 pub mod Words

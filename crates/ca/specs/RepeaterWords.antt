@@ -3,9 +3,9 @@ use Rattle.std.specs.Prelude.{ℕ, ◌≡◌, List, [], ◌∷◌, Option, None,
 use Rattle.clap.specs.Words.{App, Rule, Text, fault_of, first_of, matches_of, new_app, new_rule, with_rule}
 use Rattle.ca.specs.declared.repeater_line.RepeaterLine.{RepeaterLine}
 use Rattle.ca.specs.declared.line.Line.{Line}
-use Rattle.ca.specs.declared.line.Line.TheVariants.{Answer, Repeater}
+use Rattle.ca.specs.declared.line.Line.TheVariants.{Answer, Repeater, Replay}
 use Rattle.ca.specs.Decimal.{IsDecimal}
-use Rattle.ca.specs.Words.{answer_words, has_escape}
+use Rattle.ca.specs.Words.{has_escape}
 
 -- an option that takes one value, `--name V` or `--name=V`
 abbrev pub valued : Text → Rule
@@ -59,8 +59,5 @@ AsksRepeater words line = (has_escape words ≡ false) × ((rest : List Text) ×
 abbrev pub TellsRepeater : List Text → Option Line → Type 0
 TellsRepeater words (Some (Repeater line)) = AsksRepeater words line
 TellsRepeater words (Some Answer) = (line : RepeaterLine) → AsksRepeater words line → ⊥
+TellsRepeater words (Some (Replay script)) = (line : RepeaterLine) → AsksRepeater words line → ⊥
 TellsRepeater words None = (line : RepeaterLine) → AsksRepeater words line → ⊥
-
--- no line that is understood
-abbrev pub IsStrange : List Text → Type 0
-IsStrange words = (words ≡ answer_words → ⊥) × ((line : RepeaterLine) → AsksRepeater words line → ⊥)

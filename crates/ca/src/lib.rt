@@ -9,6 +9,9 @@ mod line;
 mod program;
 mod repeater;
 mod repeater_line;
+mod replay;
+mod replay_line;
+mod script_file;
 mod standing;
 
 pub use answer::{answer_run, report, serve};
@@ -18,9 +21,13 @@ pub use line::{Line, read_line};
 pub use program::{not_understood, run};
 pub use repeater::{repeat, repeater_run};
 pub use repeater_line::RepeaterLine;
+pub use replay::replay_run;
+pub use replay_line::ReplayLine;
 pub use standing::standing_records;
 
 #[cfg(test)]
 mod tests;
 #[cfg(test)]
 mod tests_repeater;
+#[cfg(test)]
+mod tests_replay;

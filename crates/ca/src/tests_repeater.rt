@@ -26,12 +26,15 @@ fn words_of(alloc: Global, texts: &[&str]) -> Result<Vec<String>, AllocError> {
     Ok(words)
 }
 
-const fn repeater(port: u16, datagrams: Option<u64>) -> Option<Line> {
+const fn repeater(port: u16, datagrams: Option<u64>) -> Option<Line<'static>> {
     Some(Line::Repeater(RepeaterLine { port, datagrams }))
 }
 
 /// Each of these words is read as this line.
-fn hold<R: AllocGlobal + Abort>(rt: &R, rows: &[(&[&str], Option<Line>)]) -> Result<(), Fail> {
+fn hold<R: AllocGlobal + Abort>(
+    rt: &R,
+    rows: &[(&[&str], Option<Line<'static>>)],
+) -> Result<(), Fail> {
     for (texts, line) in rows {
         let words = words_of(rt.alloc(), texts)?;
         assert!(rt; read_line(rt.alloc(), &words) == Ok(*line));

@@ -2,6 +2,7 @@ use Rattle.std.proofs.Common.{◌≡◌, map, string_bytes, true, sym, ap, ◌�
 use Rattle.ca.specs.Words.{has_escape}
 use Rattle.ca.proofs.Reading.{no-escape, texts-escape}
 use Rattle.ca.proofs.RepeaterReading.{asks-one}
+use Rattle.ca.proofs.ReplayReading.{named-one}
 use Rattle.ca.proofs.line.read_line.Goals as goal
 
 pub returns-then-escapes-clause-answer : goal.returns-then-escapes-clause-answer
@@ -25,4 +26,15 @@ pub returns-in-Ok-Some-clause-repeater : goal.returns-in-Ok-Some-clause-repeater
 returns-in-Ok-Some-clause-repeater c = (
   sym (texts-escape string_bytes c.args.words.now _ c.escapes.ensures) ∙ c.if-escapes.false,
   (map string_bytes c.in-Some.rest.now, c.in-Some.ensures, asks-one _ c.in-Ok-Some.field-0 c.in-Ok-Some.line c.in-Ok-Some.field-0-is c.in-Ok-Some.ensures.ok),
+)
+
+pub returns-then-escapes-clause-replay : goal.returns-then-escapes-clause-replay
+returns-then-escapes-clause-replay c =
+    let some : has_escape (map string_bytes c.args.words.now) ≡ true = sym (texts-escape string_bytes c.args.words.now _ c.escapes.ensures) ∙ c.if-escapes.true in
+    λ file asks. let none = asks.0 in absurd cc
+
+pub returns-in-Ok-Some-read_replay-clause-replay : goal.returns-in-Ok-Some-read_replay-clause-replay
+returns-in-Ok-Some-read_replay-clause-replay c = (
+  sym (texts-escape string_bytes c.args.words.now _ c.escapes.ensures) ∙ c.if-escapes.false,
+  (map string_bytes c.in-Some-behind.rest.now, c.in-Some-behind.ensures, named-one _ c.in-Ok-Some-read_replay.field-0 c.in-Ok-Some-read_replay.line c.in-Ok-Some-read_replay.field-0-is c.in-Ok-Some-read_replay.ensures.ok),
 )
