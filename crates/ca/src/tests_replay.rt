@@ -135,7 +135,7 @@ fn words_of(alloc: Global, texts: &[&str]) -> Result<Vec<String>, AllocError> {
 fn replay_lines_are_read(rt: HostRuntime) -> Result<(), Fail> {
     let rows: [(&[&str], Option<&str>); 12] = [
         (&["replay", "script"], Some("script")),
-        (&["replay", "/tmp/a script"], Some("/tmp/a script")),
+        (&["replay", "a folder/a script"], Some("a folder/a script")),
         (&["replay", "replay"], Some("replay")),
         (&["replay"], None),
         (&["replay", "script", "script"], None),
