@@ -23,3 +23,5 @@ pub use value::{Meta, Outcome, Value};
 
 #[cfg(test)]
 mod tests;
+#[cfg(test)]
+mod tests_greatest;

@@ -7,7 +7,7 @@ use std::alloc::Global;
 use std::process::Abort;
 use std::test::Fail;
 
-const META: Meta = Meta {
+pub(crate) const META: Meta = Meta {
     status: 3,
     severity: 1,
     seconds: 0x0102_0304,
@@ -15,10 +15,10 @@ const META: Meta = Meta {
 };
 
 /// The bytes of META: status, severity, seconds, nanoseconds.
-const STAMPED: [u8; 12] = [0, 3, 0, 1, 1, 2, 3, 4, 10, 11, 12, 13];
+pub(crate) const STAMPED: [u8; 12] = [0, 3, 0, 1, 1, 2, 3, 4, 10, 11, 12, 13];
 
 /// Forty bytes that begin with these.
-fn text(front: &[u8]) -> [u8; 40] {
+pub(crate) fn text(front: &[u8]) -> [u8; 40] {
     let mut all = [0; 40];
     let size = front.len().min(40);
     all[..size].copy_from_slice(&front[..size]);
@@ -26,7 +26,7 @@ fn text(front: &[u8]) -> [u8; 40] {
 }
 
 /// A value in a type has these bytes, and is read again from them with this metadata.
-fn round_in(
+pub(crate) fn round_in(
     rt: &impl Abort,
     alloc: Global,
     value: &Value,
