@@ -1,21 +1,15 @@
 -- The clauses of the small world give those of the whole statement.
-use Rattle.std.proofs.Common.{◌≡◌, ℕ, zero, suc, inl, inr, Bool, true, false, List, [], ◌∷◌, refl, sym, ap, subst, ◌∙◌}
-use Rattle.std.specs.Prelude.{◌==◌, ◌≢◌, Some, None, Option, cond, find, if◌then◌else◌, map, option_map}
-use Rattle.std.proofs.lemmas.Bool.{eq-eqb, eqb-true}
-use Rattle.std.specs.Str.{bytes_eq}
-use Rattle.ca_text.specs.Place.{At}
-use Rattle.ca_text.proofs.Places.{At-map, some_is}
-use Rattle.ca_records.specs.Record.{RecordState}
-use Rattle.ca_records.specs.Records.{IsServed as IsServedThere}
+use Rattle.std.proofs.Common.{◌≡◌, ℕ, inl, inr, Bool, true, false, refl, sym, ap, ◌∙◌}
+use Rattle.std.specs.Prelude.{◌==◌, ◌≢◌, Some, None, Option, if◌then◌else◌, option_map}
+use Rattle.std.proofs.lemmas.Bool.{eqb-true}
+use Rattle.ca_text.proofs.Places.{some_is}
 use Rattle.ca_wire.specs.Fields.{Fields}
 use Rattle.ca_model.specs.declared.data.Cause.{Cause}
 use Rattle.ca_model.specs.declared.data.Cause.TheVariants as cause
 use Rattle.ca_model.specs.declared.data.Intent.{Intent}
 use Rattle.ca_model.specs.declared.data.Intent.TheVariants as intent
 use Rattle.ca_model.specs.Circuit.{WireId, given_in, spoken_in}
-use Rattle.ca_model_whole.specs.ActsOnRecord.{IsServed}
 use Rattle.ca_model_whole.specs.Ids.{Basic, Id, Sub, id_given, id_spoken, place_in}
-use Rattle.ca_model_whole.specs.Records.{Opening}
 use Rattle.ca_model_whole.specs.Sends.{on_channel}
 use Rattle.ca_model_examples.specs.Small.{ActsAlike, IsSmallCause, IsSmallIntent, OwnIdsAreOwn, RepliesMeanAlike}
 
@@ -95,28 +89,6 @@ own-ids h is own j k t id at caused speaks =
       same = refl;
     }
 
--- ---- records
-
-same-text : (xs : List ℕ) → bytes_eq xs xs ≡ true
-same-text [] = refl
-same-text (x ∷ xs) = rw (eq-eqb x x refl) (same-text xs)
-
-either-found : {A : Type 0} (b : Bool) (x : A) (rest : Option A) → (y : A) × (rest ≡ Some y) → (y : A) × (cond b (Some x) rest ≡ Some y)
-either-found true x rest h = (x, refl)
-either-found false x rest h = h
-
-found : {A : Type 0} (p : A → Bool) (xs : List A) (k : ℕ) (x : A) → At xs k x → p x ≡ true → (y : A) × (find p xs ≡ Some y)
-found p [] k x at is = absurd cc
-found p (z ∷ xs) zero x at is = (z, ap (λ (b : Bool). cond b (Some z) (find p xs)) (ap p (some_is z x at) ∙ is))
-found p (z ∷ xs) (suc k) x at is = either-found (p z) z (find p xs) (found p xs k x at is)
-
-pub served-alike : (records : List RecordState) (opening_of : RecordState → Opening) → ((r : RecordState) → (opening_of r).name ≡ r.name) → (name : List ℕ) → IsServedThere records name → IsServed (map opening_of records) name
-served-alike records opening_of named name s =
-    let r = s.1.state in
-    let name-is : (opening_of r).name ≡ name = named r ∙ s.1.named in
-    let f = found (λ (o : Opening). bytes_eq o.name name) (map opening_of records) s.0 (opening_of r) (At-map opening_of records s.0 r s.1.at) (subst (λ (n : List ℕ). bytes_eq n name ≡ true) (sym name-is) (same-text name)) in
-    record { state = f.0; named = f.1 }
-
 -- of the intents of the small world only those to read are on a channel
 reads : (i : Intent) (channel : ℕ) → IsSmallIntent i → on_channel i ≡ Some channel → (request : ℕ) × (i ≡ intent.Read channel request)
 reads intent.Circuit channel is e = absurd cc
@@ -129,10 +101,10 @@ reads (intent.Subscribe c n) channel is e = absurd is
 reads (intent.Cancel c n) channel is e = absurd is
 
 pub acts-alike : ActsAlike
-acts-alike h log records opening_of named is acts k channel s at on handled =
+acts-alike h log records is acts k channel s at on handled =
     let r = reads s.intent channel (is.intents k s at) on in
     let a = acts k s channel r.0 at r.1 handled in
-    (a.0, a.1, record { seat = a.2.seat; acted = a.2.acted; named = a.2.named; served = served-alike records opening_of named a.0 a.2.served })
+    (a.0, a.1, a.2)
 
 -- ---- replies
 

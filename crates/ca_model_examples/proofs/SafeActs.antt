@@ -3,9 +3,10 @@ use Rattle.std.proofs.Common.{◌≡◌, ℕ, inl, inr, List, [], ◌∷◌, ref
 use Rattle.std.specs.Prelude.{Some, None}
 use Rattle.ca_text.specs.Place.{At}
 use Rattle.ca_text.proofs.Places.{some_is}
+use Rattle.ca_model.specs.Safe.{ActsOn}
 use Rattle.ca_model.specs.declared.data.Phase.TheVariants as phase
 use Rattle.ca_model.specs.declared.data.Sent.{Sent}
-use Rattle.ca_model_whole.specs.ActsOnRecord.{ActsOn, ActsOnNames, ActsOnRecord, HasName, LiveAtServer}
+use Rattle.ca_model_whole.specs.ActsOnRecord.{ActsOnNames, ActsOnRecord, HasName, LiveAtServer}
 use Rattle.ca_model_whole.specs.Calls.{Called, Line}
 use Rattle.ca_model_whole.specs.Calls as calls
 use Rattle.ca_model_whole.specs.Client.{Channel, On, Standing}
@@ -45,7 +46,7 @@ read-acted = record {
     under = refl;
   };
   named = refl;
-  served = record { state = temp; named = refl };
+  served = (0, record { state = temp; at = refl; named = refl });
 }
 
 -- of the two messages only the read is on a channel
@@ -81,6 +82,6 @@ acts-on-its-record = record {
         temp_name,
         subst (λ (n : ℕ). HasName x.log n temp_name) (sym there.0) (subst (λ (s : ClientSide). HasName s.log 0 temp_name) (sym side.1) refl),
         subst (λ (d : Course). Rattle.ca_model_whole.specs.ActsOnRecord.HasSeat d sid temp_name) (sym same.1) (temp_seat, (0, refl), under, refl),
-        subst (λ (z : ServerSide). Rattle.ca_model_whole.specs.ActsOnRecord.IsServed z.records temp_name) (sym serving.1) (record { state = temp; named = refl }),
+        subst (λ (z : ServerSide). Rattle.ca_records.specs.Records.IsServed z.records temp_name) (sym serving.1) (0, record { state = temp; at = refl; named = refl }),
       );
 }

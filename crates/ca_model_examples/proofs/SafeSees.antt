@@ -5,13 +5,13 @@ use Rattle.ca_text.specs.Place.{At}
 use Rattle.ca_text.proofs.Places.{some_is}
 use Rattle.ca_dbr.specs.Elements.{bytes_2}
 use Rattle.ca_dbr.specs.declared.value.Outcome.{Outcome}
+use Rattle.ca_records.specs.Record.{RecordState}
 use Rattle.ca_model.specs.declared.data.Intent.TheVariants as intent
 use Rattle.ca_model.specs.declared.data.Sent.{Sent}
 use Rattle.ca_model.specs.Circuit.{Acted}
 use Rattle.ca_model_whole.specs.Calls.{Line}
 use Rattle.ca_model_whole.specs.Log.{ServerLog}
 use Rattle.ca_model_whole.specs.Ids.{subscription_in}
-use Rattle.ca_model_whole.specs.Records.{Opening}
 use Rattle.ca_model_whole.specs.Subscribers.{Adds, Follows, IsAccepted, Saw, SawInOrder, SubscribersSee}
 use Rattle.ca_model_whole.specs.World.{Course}
 use Rattle.ca_model_examples.specs.Blank.{course_with, setp, temp}
@@ -119,7 +119,7 @@ pub waits-in-order : SubscribersSee waits_in_order
 waits-in-order = record {
   follows = λ number k c s records l at accepted served.
       let lists = its-lists _ [] posted_log _ _ _ records l served in
-      subst (λ (rs : List Opening). Follows rs l c k s.message) (sym lists.3) (subst (λ (g : ServerLog). Follows (temp ∷ setp ∷ []) g c k s.message) (sym lists.2) (follows-there number k c s at accepted));
+      subst (λ (rs : List RecordState). Follows rs l c k s.message) (sym lists.3) (subst (λ (g : ServerLog). Follows (temp ∷ setp ∷ []) g c k s.message) (sym lists.2) (follows-there number k c s at accepted));
   saw = λ client life log number lives.
       let g = its-log _ [] posted_log _ client life log lives in
       subst (λ (n : ℕ). SawInOrder waits_in_order n life log number) (sym g.0) (subst (λ (n : ℕ). SawInOrder waits_in_order 0 n log number) (sym g.1) (subst (λ (lines : List Line). SawInOrder waits_in_order 0 0 lines number) (sym g.2) (saw-none number)));

@@ -4,6 +4,7 @@ use Rattle.std.specs.Prelude.{pos, Some, None, Option}
 use Rattle.ca_text.specs.Place.{At}
 use Rattle.ca_text.proofs.Places.{some_is}
 use Rattle.ca_dbr.specs.Elements.{longs}
+use Rattle.ca_records.specs.Record.{RecordState}
 use Rattle.ca_model.specs.declared.data.Cause.TheVariants as cause
 use Rattle.ca_model.specs.declared.data.Intent.{Intent}
 use Rattle.ca_model.specs.declared.data.Intent.TheVariants as intent
@@ -15,7 +16,6 @@ use Rattle.ca_model_whole.specs.Ids.{place_in}
 use Rattle.ca_model_whole.specs.Log.{Applied, Entry, ServerLog, Write}
 use Rattle.ca_model_whole.specs.NotTwice.{AtOnePlace, HasOwnValue, IsApplied, MeansWrite, NotTwice}
 use Rattle.ca_model_whole.specs.OwnOnce.{Stands}
-use Rattle.ca_model_whole.specs.Records.{Opening}
 use Rattle.ca_model_whole.specs.World.{Course, Lives}
 use Rattle.ca_model_examples.specs.Blank.{course_with, setp, temp}
 use Rattle.ca_model_examples.specs.Safe.{applied_log, applied_write, creating, seated, write_history, write_log, writes_once}
@@ -119,7 +119,7 @@ writes-once = record {
       (x.0 ∙ sym y.0, x.1 ∙ sym y.1, x.2 ∙ sym y.2);
   own = λ server life index v a.
       let x = the-write server life index v a in
-      subst (λ (n : ℕ). HasOwnValue writes_once n life a.records v) (sym x.0) (subst (λ (n : ℕ). HasOwnValue writes_once 0 n a.records v) (sym x.1) (subst (λ (rs : List Opening). HasOwnValue writes_once 0 0 rs v) (sym x.4) (subst (λ (u : Write). HasOwnValue writes_once 0 0 (temp ∷ setp ∷ []) u) (sym x.3) its-own-value)));
+      subst (λ (n : ℕ). HasOwnValue writes_once n life a.records v) (sym x.0) (subst (λ (n : ℕ). HasOwnValue writes_once 0 n a.records v) (sym x.1) (subst (λ (rs : List RecordState). HasOwnValue writes_once 0 0 rs v) (sym x.4) (subst (λ (u : Write). HasOwnValue writes_once 0 0 (temp ∷ setp ∷ []) u) (sym x.3) its-own-value)));
   puts = λ client life log n e lives at. absurd (none-at n (Some e) (subst (λ (g : List Line). At (calls.requests_in g) n (Some e)) (its-log _ write_log applied_log _ client life log lives).2 at));
   writes = λ client life log n e lives at.
       let g = its-log _ write_log applied_log _ client life log lives in

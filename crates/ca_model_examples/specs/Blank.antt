@@ -1,8 +1,9 @@
 -- Worlds of one client and one server, from their lists.
 use Rattle.std.specs.Prelude.{ℕ, pos, true, false, List, [], ◌∷◌}
 use Rattle.ca_dbr.specs.Elements.{longs}
+use Rattle.ca_records.specs.Record.{RecordState}
 use Rattle.ca_model.specs.Circuit.{CircuitState, History}
-use Rattle.ca_model_whole.specs.Records.{Opening, Peer, Stored}
+use Rattle.ca_model_whole.specs.Records.{Peer, Stored}
 use Rattle.ca_model_whole.specs.Log.{ServerLog}
 use Rattle.ca_model_whole.specs.Calls.{Line}
 use Rattle.ca_model_whole.specs.Client.{Client, new_client}
@@ -24,11 +25,11 @@ temp_name = 84 ∷ 69 ∷ 77 ∷ 80 ∷ []
 abbrev pub setp_name : List ℕ
 setp_name = 83 ∷ 69 ∷ 84 ∷ 80 ∷ []
 
-abbrev pub temp : Opening
-temp = record { name = temp_name; count = 1; slow = false; stored = long 21 }
+abbrev pub temp : RecordState
+temp = record { name = temp_name; count = 1; slow = false; value = (long 21).value; meta = (long 21).meta }
 
-abbrev pub setp : Opening
-setp = record { name = setp_name; count = 1; slow = false; stored = long 0 }
+abbrev pub setp : RecordState
+setp = record { name = setp_name; count = 1; slow = false; value = (long 0).value; meta = (long 0).meta }
 
 abbrev pub blank_part : ClientPart
 blank_part = record { basic = record { priority = 0; input = []; output = [] }; heard_at = 0; echoed = false; reads = 0; events_off = false }

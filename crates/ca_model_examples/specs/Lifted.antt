@@ -3,7 +3,6 @@ use Rattle.std.specs.Prelude.{ℕ, ◌≡◌, ◌<◌, ◌++◌, true, List, [],
 use Rattle.ca_text.specs.Command.{command_number}
 use Rattle.ca_text.specs.declared.command.Command.TheVariants as command
 use Rattle.ca_text.specs.Place.{At}
-use Rattle.ca_records.specs.Record.{RecordState}
 use Rattle.ca_model.specs.declared.data.Cause.TheVariants as cause
 use Rattle.ca_model.specs.declared.data.Intent.TheVariants as intent
 use Rattle.ca_model.specs.declared.data.Logged.{Logged}
@@ -21,14 +20,13 @@ use Rattle.ca_model_whole.specs.Client.{Channel, On, Searching, Standing, new_cl
 use Rattle.ca_model_whole.specs.Ends.{new_part}
 use Rattle.ca_model_whole.specs.Log.{no_log}
 use Rattle.ca_model_whole.specs.OwnOnce.{AnsweredAt}
-use Rattle.ca_model_whole.specs.Records.{Opening}
 use Rattle.ca_model_whole.specs.Safe.{Safe}
 use Rattle.ca_model_whole.specs.World.{ClientSide, Course, ServerSide, World}
 use Rattle.ca_model_examples.specs.Blank.{blank_part}
 use Rattle.ca_model_examples.specs.Small.{IsSmall}
 
--- The only open circuit is number n, and f says what each record is as it begins.
-module _ (n : ℕ) (f : RecordState → Opening) where
+-- The only open circuit is number n.
+module _ (n : ℕ) where
   abbrev pub standing_of : Phase → Standing
   standing_of phase.Connecting = Searching
   standing_of phase.Creating = On n phase.Creating
@@ -49,7 +47,7 @@ module _ (n : ℕ) (f : RecordState → Opening) where
   }
 
   abbrev pub server_side_of : small.ServerSide → ServerSide
-  server_side_of y = record { address = record { host = 0; port = 5064 }; records = map f y.core.records; rules = []; log = no_log; past = [] }
+  server_side_of y = record { address = record { host = 0; port = 5064 }; records = y.core.records; rules = []; log = no_log; past = [] }
 
   -- the end of the open circuit that a server has
   abbrev pub end_of : Option ServerEnd → ServerEnd
@@ -94,4 +92,4 @@ IsAnsweredWhole w =
 -- A world of the small kind that is safe, and whose messages were answered by what is due, is safe in the whole statement's words.
 abbrev pub SafeAlike : Type 0
 SafeAlike =
-    (n : ℕ) (f : RecordState → Opening) → ((r : RecordState) → (f r).name ≡ r.name) → (w : small.World) → IsSmallWorld n w → AreJoined w → small_safe.Safe w → IsAnsweredWhole (lifted n f w) → Safe (lifted n f w)
+    (n : ℕ) (w : small.World) → IsSmallWorld n w → AreJoined w → small_safe.Safe w → IsAnsweredWhole (lifted n w) → Safe (lifted n w)

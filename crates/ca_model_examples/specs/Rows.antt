@@ -10,12 +10,13 @@ use Rattle.ca_dbr.specs.Conversion.{converted}
 use Rattle.ca_dbr.specs.Elements.{Elements, doubles, longs, strings}
 use Rattle.ca_dbr.specs.Image.{image}
 use Rattle.ca_dbr.specs.Shown.{shown}
+use Rattle.ca_records.specs.Record.{RecordState}
 use Rattle.ca_queue.specs.declared.entry.SubKey.{SubKey}
 use Rattle.ca_queue.specs.Waiting.{after_post, after_take, taken}
 use Rattle.ca_wire.specs.Fields.{Fields, padded}
 use Rattle.ca_wire.specs.Message.{spelling}
 use Rattle.ca_model.specs.Requests.{read_request}
-use Rattle.ca_model_whole.specs.Records.{Opening, Rule, Stored, rights}
+use Rattle.ca_model_whole.specs.Records.{Rule, Stored, rights, stored_in}
 use Rattle.ca_model_whole.specs.Log.{Applied, ServerLog, Write, busy, value_of, waiting, with_entry, with_wait, with_withdrawals}
 use Rattle.ca_model_whole.specs.Messages.{cancel_told, error_told, event_add_request, event_cancel_request, put_request, update_told}
 use Rattle.ca_model_whole.specs.Faults.{base_type_of, early_put_fault, late_put_fault, read_fault, subscription_fault, type_of}
@@ -28,20 +29,20 @@ use Rattle.ca_model_examples.specs.Blank.{long, setp, temp, temp_name}
 abbrev pub one : ℕ
 one = 4607182418800017408
 
-abbrev pub gain : Opening
-gain = record { name = 71 ∷ 65 ∷ 73 ∷ 78 ∷ []; count = 1; slow = false; stored = record { value = doubles (one ∷ []); meta = written_meta } }
+abbrev pub gain : RecordState
+gain = record { name = 71 ∷ 65 ∷ 73 ∷ 78 ∷ []; count = 1; slow = false; value = doubles (one ∷ []); meta = written_meta }
 
-abbrev pub note : Opening
-note = record { name = 78 ∷ 79 ∷ 84 ∷ 69 ∷ []; count = 1; slow = false; stored = record { value = strings ((79 ∷ 75 ∷ replicate 38 0) ∷ []); meta = written_meta } }
+abbrev pub note : RecordState
+note = record { name = 78 ∷ 79 ∷ 84 ∷ 69 ∷ []; count = 1; slow = false; value = strings ((79 ∷ 75 ∷ replicate 38 0) ∷ []); meta = written_meta }
 
-abbrev pub wave : Opening
-wave = record { name = 87 ∷ 65 ∷ 86 ∷ 69 ∷ []; count = 20000; slow = false; stored = long 7 }
+abbrev pub wave : RecordState
+wave = record { name = 87 ∷ 65 ∷ 86 ∷ 69 ∷ []; count = 20000; slow = false; value = (long 7).value; meta = (long 7).meta }
 
 abbrev pub slow_name : List ℕ
 slow_name = 83 ∷ 76 ∷ 79 ∷ 87 ∷ []
 
-abbrev pub big : Opening
-big = record { name = 66 ∷ 73 ∷ 71 ∷ []; count = 262144; slow = false; stored = record { value = doubles (0 ∷ []); meta = written_meta } }
+abbrev pub big : RecordState
+big = record { name = 66 ∷ 73 ∷ 71 ∷ []; count = 262144; slow = false; value = doubles (0 ∷ []); meta = written_meta }
 
 -- ---- images
 
@@ -54,8 +55,8 @@ image_of (Some t) s count = image_in t s (shown s.value count t.base)
 image_of None s count = []
 
 -- what a read of so many elements in the type of this number is shown
-abbrev pub shown_as : ℕ → Opening → ℕ → List ℕ
-shown_as number r count = image_of (type_of number) r.stored count
+abbrev pub shown_as : ℕ → RecordState → ℕ → List ℕ
+shown_as number r count = image_of (type_of number) (stored_in r) count
 
 -- TEMP is 21: as TIME_LONG, as STRING, and as STS_CHAR
 abbrev pub TempAsTimeLong : Type 0
@@ -92,8 +93,8 @@ RefusesMinusOneAsChar = converted (longs (negsuc 0 ∷ [])) base.Char ≡ Err re
 
 -- ---- faults in their order
 
-abbrev pub fault_of : Opening → ℕ → ℕ → Option ℕ
-fault_of r data_type count = let m : Fields = read_request 65536 65536 data_type count in read_fault r 3 r.stored m (type_of m.data_type)
+abbrev pub fault_of : RecordState → ℕ → ℕ → Option ℕ
+fault_of r data_type count = let m : Fields = read_request 65536 65536 data_type count in read_fault r 3 (stored_in r) m (type_of m.data_type)
 
 -- TEMP read as type 34 is BADTYPE, with count 70,000 BADCOUNT, as FLOAT NOCONVERT; NOTE as LONG is GETFAIL
 abbrev pub ReadFaults : Type 0
@@ -102,7 +103,7 @@ ReadFaults = (fault_of temp 34 1 ≡ Some 114) × (fault_of temp 5 70000 ≡ Som
 -- type 34 with count 70,000 and no right is BADTYPE still, and without a right a bad count is NORDACCESS
 abbrev pub FirstFaultDecides : Type 0
 FirstFaultDecides =
-    (read_fault temp 0 temp.stored (read_request 1 1 34 70000) (type_of 34) ≡ Some 114) × (read_fault temp 0 temp.stored (read_request 1 1 5 70000) (type_of 5) ≡ Some 368)
+    (read_fault temp 0 (stored_in temp) (read_request 1 1 34 70000) (type_of 34) ≡ Some 114) × (read_fault temp 0 (stored_in temp) (read_request 1 1 5 70000) (type_of 5) ≡ Some 368)
 
 -- a text put to GAIN is NOCONVERT, "4x2" put to SETP is PUTFAIL, a put of no element BADCOUNT
 abbrev pub PutFaults : Type 0
@@ -185,8 +186,8 @@ slow_put n = record { circuit = 0; place = n; name = slow_name; stored = long n;
 abbrev pub busy_log : ℕ → ServerLog
 busy_log others = fold (λ (l : ServerLog) (n : ℕ). with_wait (slow_put n) l) (with_entry (Applied (slow_put 5)) (record { entries = []; notes = [] })) (range_with_len 6 others)
 
-abbrev pub slow : Opening
-slow = record { name = slow_name; count = 1; slow = true; stored = long 0 }
+abbrev pub slow : RecordState
+slow = record { name = slow_name; count = 1; slow = true; value = (long 0).value; meta = (long 0).meta }
 
 -- Sixteen puts wait, and the next is PUTFAIL.
 abbrev pub SixteenWait : Type 0

@@ -1,5 +1,5 @@
 -- How the small world is a part of the whole statement: what its histories have, and what its clauses give.
-use Rattle.std.specs.Prelude.{ℕ, ◌≡◌, ◌≢◌, List, map}
+use Rattle.std.specs.Prelude.{ℕ, ◌≡◌, ◌≢◌, List}
 use Rattle.ca_text.specs.Command.{command_number}
 use Rattle.ca_text.specs.declared.command.Command.TheVariants as command
 use Rattle.ca_text.specs.Place.{At}
@@ -20,7 +20,6 @@ use Rattle.ca_model_whole.specs.ActsOnRecord.{ActsOnNames}
 use Rattle.ca_model_whole.specs.Calls.{Line, names_in}
 use Rattle.ca_model_whole.specs.Hears.{ReplyMeans}
 use Rattle.ca_model_whole.specs.OwnOnce.{TakesOwn}
-use Rattle.ca_model_whole.specs.Records.{Opening}
 
 -- the intents of the small world: to set up, to create, to read
 abbrev pub IsSmallIntent : Intent → Type 0
@@ -45,11 +44,11 @@ pub record IsSmall (h : History) : Type 0 where
 abbrev pub OwnIdsAreOwn : Type 0
 OwnIdsAreOwn = (h : History) → IsSmall h → small.TakesOwn h → TakesOwn h
 
--- What it says of the records that are acted on is what the whole statement says, of records with the same names.
+-- What it says of the records that are acted on is what the whole statement says.
 abbrev pub ActsAlike : Type 0
 ActsAlike =
-    (h : History) (log : List Line) (records : List RecordState) (opening_of : RecordState → Opening) → ((r : RecordState) → (opening_of r).name ≡ r.name) → IsSmall h
-    → small_safe.ActsOnNames (names_in log) records h → ActsOnNames log (map opening_of records) h
+    (h : History) (log : List Line) (records : List RecordState) → IsSmall h
+    → small_safe.ActsOnNames (names_in log) records h → ActsOnNames log records h
 
 -- What the reply to a read means in the small world is what it means.
 abbrev pub RepliesMeanAlike : Type 0

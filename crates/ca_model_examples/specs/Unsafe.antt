@@ -11,10 +11,10 @@ use Rattle.ca_model.specs.declared.data.Notice.TheVariants as notice
 use Rattle.ca_model.specs.declared.data.Sent.{Sent}
 use Rattle.ca_model.specs.declared.data.Told.{Told}
 use Rattle.ca_model.specs.Circuit.{History}
-use Rattle.ca_model.specs.Replies.{cleared_reply, refused_reply}
+use Rattle.ca_model.specs.Replies.{cleared_reply, created_reply, refused_reply}
 use Rattle.ca_model.specs.Requests.{create_request, read_request}
 use Rattle.ca_model_whole.specs.Log.{Applied, Posted, ServerLog, no_log}
-use Rattle.ca_model_whole.specs.Messages.{clear_request, creation_told, event_add_request, put_request, put_told, update_told}
+use Rattle.ca_model_whole.specs.Messages.{clear_request, event_add_request, put_request, put_told, update_told}
 use Rattle.ca_model_whole.specs.Calls.{Called, Line, Told as ToldLine}
 use Rattle.ca_model_whole.specs.Calls as calls
 use Rattle.ca_model_whole.specs.Ends.{Item, ServerPart, Subscription, new_part}
@@ -34,7 +34,7 @@ cleared_history = record {
       ∷ record { message = clear_request 5 1; intent = intent.Clear 0 }
       ∷ record { message = read_request 5 7 5 1; intent = intent.Read 1 0 }
       ∷ [];
-  down = reply_to 0 (creation_told (create_request 1 temp_name) temp 5) ∷ reply_to 1 (cleared_reply (clear_request 5 1)) ∷ [];
+  down = reply_to 0 (created_reply (create_request 1 temp_name) temp 5) ∷ reply_to 1 (cleared_reply (clear_request 5 1)) ∷ [];
   handled = 0 ∷ 1 ∷ 2 ∷ [];
   heard = [];
 }
@@ -135,7 +135,7 @@ subscribed_up =
     record { message = create_request 1 temp_name; intent = intent.Create 0 } ∷ record { message = subscribing; intent = intent.Subscribe 0 0 } ∷ []
 
 abbrev pub created_told : Told
-created_told = reply_to 0 (creation_told (create_request 1 temp_name) temp 5)
+created_told = reply_to 0 (created_reply (create_request 1 temp_name) temp 5)
 
 abbrev pub update_with : ℕ → ℕ → Told
 update_with item n = record { message = update_told 5 1 1 7 (0 ∷ 0 ∷ 0 ∷ n ∷ []); cause = cause.Update 1 item }

@@ -1,35 +1,25 @@
 -- The first clause: the server acts on the record that the client's channel names.
 use Rattle.std.specs.Prelude.{ℕ, ◌≡◌, ◌<◌, true, List, Some, length}
 use Rattle.ca_text.specs.Place.{At}
+use Rattle.ca_records.specs.Record.{RecordState}
+use Rattle.ca_records.specs.Records.{IsServed}
+use Rattle.ca_model.specs.Safe.{ActsOn}
 use Rattle.ca_model.specs.declared.data.Sent.{Sent}
-use Rattle.ca_model.specs.Circuit.{Acted, History}
+use Rattle.ca_model.specs.Circuit.{History}
 use Rattle.ca_model.specs.History.{Seat}
 use Rattle.ca_model.specs.Server.{IsSeat}
-use Rattle.ca_model_whole.specs.Records.{Opening, record_of}
 use Rattle.ca_model_whole.specs.Log.{ServerLog}
 use Rattle.ca_model_whole.specs.Calls.{Line, names_in}
 use Rattle.ca_model_whole.specs.Client.{Channel, IsLive}
 use Rattle.ca_model_whole.specs.Sends.{on_channel}
 use Rattle.ca_model_whole.specs.World.{ClientSide, Course, Joins, Lives, Served, ServerSide, World}
 
--- a record has this name
-pub record IsServed (records : List Opening) (name : List ℕ) : Type 0 where
-  pub state : Opening
-  pub named : record_of records name ≡ Some state
-
--- The message at place k was acted on as one on the channel of this name, which is a record's.
-pub record ActsOn (records : List Opening) (h : History) (k sid : ℕ) (name : List ℕ) : Type 0 where
-  pub seat : Seat
-  pub acted : Acted h k sid seat
-  pub named : seat.name ≡ name
-  pub served : IsServed records name
-
 -- The channel that a client opened under this number has this name.
 abbrev pub HasName : List Line → ℕ → List ℕ → Type 0
 HasName log channel name = At (names_in log) channel name
 
 -- Each message on a channel that was handled was acted on as one on the record that its channel names.
-abbrev pub ActsOnNames : List Line → List Opening → History → Type 0
+abbrev pub ActsOnNames : List Line → List RecordState → History → Type 0
 ActsOnNames log records h =
     (k channel : ℕ) (s : Sent) → At h.up k s → on_channel s.intent ≡ Some channel → k < length h.handled → (name : List ℕ) × HasName log channel name × ActsOn records h k s.message.p1 name
 
@@ -45,5 +35,5 @@ LiveAtServer w =
 
 -- The whole clause, over all circuits and the lives at their ends.
 pub record ActsOnRecord (w : World) : Type 0 where
-  pub acts : (k : ℕ) (c : Course) (log : List Line) (records : List Opening) (entries : ServerLog) → At w.courses k c → Lives w c.state.client c.state.client_life log → Served w c.state.server c.state.server_life records entries → ActsOnNames log records c.state.history
+  pub acts : (k : ℕ) (c : Course) (log : List Line) (records : List RecordState) (entries : ServerLog) → At w.courses k c → Lives w c.state.client c.state.client_life log → Served w c.state.server c.state.server_life records entries → ActsOnNames log records c.state.history
   pub live : LiveAtServer w

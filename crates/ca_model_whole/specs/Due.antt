@@ -13,22 +13,23 @@ use Rattle.ca_dbr.specs.declared.value.Meta.{Meta}
 use Rattle.ca_dbr.specs.Conversion.{converted}
 use Rattle.ca_dbr.specs.Elements.{Elements}
 use Rattle.ca_dbr.specs.Reading.{ReadsElements}
+use Rattle.ca_records.specs.Record.{RecordState}
 use Rattle.ca_queue.specs.declared.entry.SubKey.{SubKey}
 use Rattle.ca_queue.specs.Keys.{same}
 use Rattle.ca_wire.specs.Fields.{Fields}
 use Rattle.ca_model.specs.Due.{CidIsFree, SidIsFree}
 use Rattle.ca_model.specs.History.{Seat, text_in}
-use Rattle.ca_model.specs.Replies.{cleared_reply, failed_reply, refused_reply, version_reply}
+use Rattle.ca_model.specs.Replies.{cleared_reply, created_reply, failed_reply, refused_reply, version_reply}
 use Rattle.ca_model.specs.Server.{IsSeat}
-use Rattle.ca_model_whole.specs.Records.{Opening, Peer, Rule, Stored, native, record_of, rights}
+use Rattle.ca_model_whole.specs.Records.{Peer, Rule, Stored, native, record_of, rights}
 use Rattle.ca_model_whole.specs.Log.{ServerLog, Write, busy, value_of, waiting}
-use Rattle.ca_model_whole.specs.Messages.{bare, cancel_told, creation_told, error_told, no_cid, put_told, rights_told, value_told}
+use Rattle.ca_model_whole.specs.Messages.{bare, cancel_told, error_told, no_cid, put_told, rights_told, value_told}
 use Rattle.ca_model_whole.specs.Faults.{base_type_of, early_put_fault, late_put_fault, mask_in, read_fault, read_shown, subscription_fault, type_of}
 use Rattle.ca_model_whole.specs.Ends.{ServerPart, Subscription}
 
 -- What a server knows when it handles a message: its records and rules, its two lists, and the circuit's end.
 pub record Desk : Type 0 where
-  pub records : List Opening
+  pub records : List RecordState
   pub rules : List Rule
   pub log : ServerLog
   pub part : ServerPart
@@ -60,7 +61,7 @@ pub record Serves (d : Desk) (sid : ℕ) : Type 0 where
   pub seat : Seat
   pub is_open : IsOpenAt d seat
   pub under : seat.sid ≡ sid
-  pub state : Opening
+  pub state : RecordState
   pub named : record_of d.records seat.name ≡ Some state
   pub stored : Stored
   pub present : value_of d.records d.log seat.name ≡ Some stored
@@ -74,14 +75,14 @@ rights_at d name = rights d.rules d.part.peer name
 -- A channel is created: its name is a record's, its CID is not in use, and it gets a SID that no open channel has. Which one is
 -- the server's choice. ACCESS_RIGHTS goes before the answer.
 pub record IsCreated (d : Desk) (m : Fields) (replies : List Fields) (deed : Deed) : Type 0 where
-  pub state : Opening
+  pub state : RecordState
   pub named : record_of d.records (text_in m.payload) ≡ Some state
   pub cid_free : CidIsFree (IsOpenAt d) m.p1
   pub room : length d.part.basic.seats < channel_limit
   pub sid : ℕ
   pub fits : sid < 2 ^ 32
   pub sid_free : SidIsFree (IsOpenAt d) sid
-  pub are : replies ≡ rights_told m (rights_at d state.name) ∷ creation_told m state sid ∷ []
+  pub are : replies ≡ rights_told m (rights_at d state.name) ∷ created_reply m state sid ∷ []
   pub does : deed ≡ Opens (record { sid = sid; cid = m.p1; name = text_in m.payload })
 
 -- It is not: no record has its name, its CID is in use, or no SID is free: so many channels are open, or so many were created that SIDs

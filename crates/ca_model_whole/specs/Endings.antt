@@ -5,12 +5,13 @@ use Rattle.ca_text.specs.declared.command.Command.TheVariants as command
 use Rattle.ca_text.specs.Place.{At}
 use Rattle.ca_text.specs.Status.{normal}
 use Rattle.ca_dbr.specs.Elements.{Elements, base_of, count_of}
+use Rattle.ca_records.specs.Record.{RecordState}
 use Rattle.ca_wire.specs.Fields.{Fields}
 use Rattle.ca_model.specs.Answer.{told as answers_to}
 use Rattle.ca_model.specs.Circuit.{History, sent_in}
 use Rattle.ca_model.specs.History.{Clears}
 use Rattle.ca_model.specs.World.{meant_circuit}
-use Rattle.ca_model_whole.specs.Records.{Opening, native, record_of}
+use Rattle.ca_model_whole.specs.Records.{native, record_of}
 use Rattle.ca_model_whole.specs.Log.{Applied, Posted, Write, busy, no_log, waiting, with_finish}
 use Rattle.ca_model_whole.specs.Messages.{bare, put_told}
 use Rattle.ca_model_whole.specs.Calls.{Telling}
@@ -23,14 +24,14 @@ use Rattle.ca_model_whole.specs.World.{ClientSide, Course, Joins, ServerSide, Wo
 -- ---- posts and finishes
 
 -- A post is refused, and changes nothing: no record has the name, the value is not of its type, or has no element or too many.
-abbrev pub PostRefused : List Opening → List ℕ → Elements → Type 0
+abbrev pub PostRefused : List RecordState → List ℕ → Elements → Type 0
 PostRefused records name e =
-    (record_of records name ≡ None) ⊎ ((r : Opening) × (record_of records name ≡ Some r) × ((base_of e ≢ native r) ⊎ ((count_of e ≡ 0) ⊎ (r.count < count_of e))))
+    (record_of records name ≡ None) ⊎ ((r : RecordState) × (record_of records name ≡ Some r) × ((base_of e ≢ native r) ⊎ ((count_of e ≡ 0) ⊎ (r.count < count_of e))))
 
 -- the value is one that the record may hold
-abbrev pub PostFits : List Opening → List ℕ → Elements → Type 0
+abbrev pub PostFits : List RecordState → List ℕ → Elements → Type 0
 PostFits records name e =
-    (r : Opening) × (record_of records name ≡ Some r) × (base_of e ≡ native r) × (0 < count_of e) × (count_of e ≤ r.count)
+    (r : RecordState) × (record_of records name ≡ Some r) × (base_of e ≡ native r) × (0 < count_of e) × (count_of e ≤ r.count)
 
 -- A value is posted to a record, with a mask.
 abbrev pub HappensPost : World → ℕ → List ℕ → Elements → ℕ → World → Type 0

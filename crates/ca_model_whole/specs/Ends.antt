@@ -2,12 +2,13 @@
 use Rattle.std.specs.Prelude.{ℕ, Bool, not, List, [], filter, filter_map, if◌then◌else◌, length, map, option_map, replicate}
 use Rattle.std.specs.List.{fold}
 use Rattle.ca_text.specs.declared.limits.TheConstants.{CIRCUIT_QUEUES}
+use Rattle.ca_records.specs.Record.{RecordState}
 use Rattle.ca_queue.specs.declared.entry.SubKey.{SubKey}
 use Rattle.ca_queue.specs.Keys.{is_among}
 use Rattle.ca_queue.specs.Queue.{Queue, cancelled, no_queue, posted, switched}
 use Rattle.ca_model.specs.Client.{ClientEnd}
 use Rattle.ca_model.specs.Server.{ServerEnd, new_end}
-use Rattle.ca_model_whole.specs.Records.{Opening, Peer, Stored}
+use Rattle.ca_model_whole.specs.Records.{Peer, Stored}
 use Rattle.ca_model_whole.specs.Log.{Entry, ServerLog}
 use Rattle.ca_model_whole.specs.Posts.{concerns, matching_posts}
 
@@ -60,11 +61,11 @@ abbrev pub queue_posted : SubKey → Item → Queue Item → Queue Item
 queue_posted key item q = if is_among key q.subscriptions then posted key item q else q
 
 -- the number of the next matching post of a subscription
-abbrev pub next_item : List Opening → ServerLog → Subscription → ℕ
+abbrev pub next_item : List RecordState → ServerLog → Subscription → ℕ
 next_item records l s = length (matching_posts records l s.since s.name s.mask)
 
 -- this value, as the next item, waits for this subscription
-abbrev pub with_update : List Opening → ServerLog → Stored → ServerPart → Subscription → ServerPart
+abbrev pub with_update : List RecordState → ServerLog → Stored → ServerPart → Subscription → ServerPart
 with_update records l stored p s =
     record p { queues = map (queue_posted s.key (record { place = s.place; item = next_item records l s; stored = stored })) p.queues }
 
@@ -73,7 +74,7 @@ abbrev pub concerned : Entry → List Subscription → List (Subscription × Sto
 concerned e subscriptions = filter_map (λ (s : Subscription). option_map (λ (v : Stored). (s, v)) (concerns s.name s.mask e)) subscriptions
 
 -- The entry goes to each subscription that it concerns, in the order of their EVENT_ADDs.
-abbrev pub with_entry : List Opening → ServerLog → Entry → ServerPart → ServerPart
+abbrev pub with_entry : List RecordState → ServerLog → Entry → ServerPart → ServerPart
 with_entry records l e p = fold (λ (q : ServerPart) (c : Subscription × Stored). with_update records l c.1 q c.0) p (concerned e p.subscriptions)
 
 -- the subscriptions that a test names are cancelled: their updates are dropped

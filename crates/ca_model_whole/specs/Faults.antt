@@ -16,14 +16,12 @@ use Rattle.ca_dbr.specs.Elements.{Elements, count_of}
 use Rattle.ca_dbr.specs.Reading.{least_size}
 use Rattle.ca_dbr.specs.Shown.{shown}
 use Rattle.ca_dbr.specs.Types.{base_number, size_of_image, type_number}
+use Rattle.ca_records.specs.Record.{RecordState}
 use Rattle.ca_wire.specs.Fields.{Fields}
-use Rattle.ca_model_whole.specs.Records.{Opening, Stored, native}
+use Rattle.ca_model.specs.Replies.{get_fail, no_convert}
+use Rattle.ca_model_whole.specs.Records.{Stored, native}
 
 -- ---- statuses, as they stand in a message
-
--- GETFAIL: the value could not be had in the wanted type
-abbrev pub get_fail : ℕ
-get_fail = 152
 
 -- PUTFAIL: the value could not be put
 abbrev pub put_fail : ℕ
@@ -40,10 +38,6 @@ no_read_access = 368
 -- NOWTACCESS: the right to write is missing
 abbrev pub no_write_access : ℕ
 no_write_access = 376
-
--- NOCONVERT: no conversion between these types
-abbrev pub no_convert : ℕ
-no_convert = 400
 
 -- ---- types by their numbers ("Payload Data Types")
 
@@ -90,7 +84,7 @@ has_misfit (Err _) = true
 has_misfit (Ok e) = false
 
 -- so many elements are over the greatest count, or their image is over the payload limit
-abbrev pub too_many : Opening → DataType → ℕ → Bool
+abbrev pub too_many : RecordState → DataType → ℕ → Bool
 too_many r t n = nat_lt r.count n || nat_lt payload_limit (size_of_image t n)
 
 -- how many elements a read asks for: a count of 0 means the present count ("CA_PROTO_READ_NOTIFY")
@@ -103,41 +97,41 @@ read_shown s m t = shown s.value (wanted s m) t.base
 
 -- READ_NOTIFY: a type over 20 BADTYPE; no right to read NORDACCESS; a count over the greatest or an image over the payload limit
 -- BADCOUNT; no conversion NOCONVERT; a text or a range GETFAIL.
-abbrev pub read_fault : Opening → ℕ → Stored → Fields → Option DataType → Option ℕ
+abbrev pub read_fault : RecordState → ℕ → Stored → Fields → Option DataType → Option ℕ
 read_fault r rights s m None = Some bad_type
 read_fault r rights s m (Some t) =
     first_fault ((not (may_read rights), no_read_access) ∷ (too_many r t (wanted s m), bad_count) ∷ (lacks_conversion (read_shown s m t), no_convert) ∷ (has_misfit (read_shown s m t), get_fail) ∷ [])
 
 -- WRITE and WRITE_NOTIFY before their elements are read: a type over 6 BADTYPE; no right to write NOWTACCESS; a count of 0 or over
 -- the greatest, or a payload that is too short, BADCOUNT.
-abbrev pub early_put_fault : Opening → ℕ → Fields → Option BaseType → Option ℕ
+abbrev pub early_put_fault : RecordState → ℕ → Fields → Option BaseType → Option ℕ
 early_put_fault r rights m None = Some bad_type
 early_put_fault r rights m (Some b) =
     first_fault ((not (may_write rights), no_write_access) ∷ (m.count == 0 || (nat_lt r.count m.count || nat_lt (length m.payload) (least_size b m.count)), bad_count) ∷ [])
 
 -- And then: no conversion NOCONVERT; a text or a range PUTFAIL; for a WRITE_NOTIFY that would wait, 16 waiting already PUTFAIL.
-abbrev pub late_put_fault : Opening → Bool → ℕ → Elements → Option ℕ
+abbrev pub late_put_fault : RecordState → Bool → ℕ → Elements → Option ℕ
 late_put_fault r waits others e =
     first_fault ((lacks_conversion (converted e (native r)), no_convert) ∷ (has_misfit (converted e (native r)) || (waits && not (nat_lt others WAITING_PUTS)), put_fail) ∷ [])
 
--- the mask in the payload of an EVENT_ADD: two bytes behind twelve
+-- the mask in the payload of an EVENT_ADD, which stands behind three floats
 abbrev pub mask_in : Fields → ℕ
 mask_in m = slice_index m.payload 12 * 256 + slice_index m.payload 13
 
 -- how many elements a subscription's updates have at most: a count of 0 is taken as the greatest
-abbrev pub subscribed_count : Opening → Fields → ℕ
+abbrev pub subscribed_count : RecordState → Fields → ℕ
 subscribed_count r m = if m.count == 0 then r.count else m.count
 
 -- EVENT_ADD: a type over 20 BADTYPE; no right to read NORDACCESS; a payload under 16 bytes, no mask bit, or the id in use on that
 -- channel, ADDFAIL; a count as in a read BADCOUNT; no conversion NOCONVERT; 288 subscriptions on the circuit ADDFAIL.
-abbrev pub subscription_fault : Opening → ℕ → Bool → ℕ → Fields → Option DataType → Option ℕ
+abbrev pub subscription_fault : RecordState → ℕ → Bool → ℕ → Fields → Option DataType → Option ℕ
 subscription_fault r rights in_use others m None = Some bad_type
 subscription_fault r rights in_use others m (Some t) =
     first_fault (
     (not (may_read rights), no_read_access)
     ∷ (nat_lt (length m.payload) 16 || (mask_in m % 16 == 0 || in_use), add_fail)
     ∷ (too_many r t (subscribed_count r m), bad_count)
-    ∷ (lacks_conversion (converted r.stored.value t.base), no_convert)
+    ∷ (lacks_conversion (converted r.value t.base), no_convert)
     ∷ (not (nat_lt others (CIRCUIT_QUEUES * QUEUE_SUBSCRIPTIONS)), add_fail)
     ∷ []
     )

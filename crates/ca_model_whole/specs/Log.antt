@@ -3,7 +3,8 @@
 use Rattle.std.specs.Prelude.{ℕ, ◌==◌, ◌&&◌, ◌||◌, ◌++◌, ◌∷◌, length, map, Bool, false, not, unwrap_or, List, [], Option, Some, None, drop, take, filter, filter_map, find, if◌then◌else◌, option_map}
 use Rattle.std.specs.List.{last_or, list_any}
 use Rattle.std.specs.Str.{bytes_eq}
-use Rattle.ca_model_whole.specs.Records.{Opening, Stored, record_of}
+use Rattle.ca_records.specs.Record.{RecordState}
+use Rattle.ca_model_whole.specs.Records.{Stored, record_of, stored_in}
 
 -- A write or put that came at a place of a circuit: its record, its value in the record's native type, and whether it
 -- makes the record busy.
@@ -53,8 +54,8 @@ stored_by name (Applied w) = if bytes_eq w.name name then Some w.stored else Non
 stored_by name (Posted p) = if bytes_eq p.name name then Some p.stored else None
 
 -- The value of a record is that of its last entry, else its opening value.
-abbrev pub value_of : List Opening → ServerLog → List ℕ → Option Stored
-value_of records l name = last_or (option_map (λ (r : Opening). r.stored) (record_of records name)) (filter_map (stored_by name) l.entries)
+abbrev pub value_of : List RecordState → ServerLog → List ℕ → Option Stored
+value_of records l name = last_or (option_map (λ (r : RecordState). stored_in r) (record_of records name)) (filter_map (stored_by name) l.entries)
 
 -- ---- busy and waiting puts
 

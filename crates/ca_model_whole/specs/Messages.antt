@@ -13,7 +13,6 @@ use Rattle.ca_dbr.specs.Types.{base_number}
 use Rattle.ca_wire.specs.Fields.{Fields, padded}
 use Rattle.ca_wire.specs.Header.{header_spelling}
 use Rattle.ca_wire.specs.Message.{header_of}
-use Rattle.ca_model_whole.specs.Records.{Opening, native}
 
 -- ---- of both ends
 
@@ -49,11 +48,6 @@ event_cancel_request sid id data_type count =
 -- ACCESS_RIGHTS: the CID, and the bits 1 to read and 2 to write ("CA_PROTO_ACCESS_RIGHTS")
 abbrev pub rights_told : Fields → ℕ → Fields
 rights_told m bits = record { command = command_number command.AccessRights; data_type = 0; count = 0; p1 = m.p1; p2 = bits; payload = [] }
-
--- CREATE_CHAN: the native type, the greatest count, the CID and the SID ("CA_PROTO_CREATE_CHAN")
-abbrev pub creation_told : Fields → Opening → ℕ → Fields
-creation_told m r sid =
-    record { command = command_number command.CreateChannel; data_type = base_number (native r); count = r.count; p1 = m.p1; p2 = sid; payload = [] }
 
 -- READ_NOTIFY with status NORMAL: the type, how many elements, the IOID, and the image ("CA_PROTO_READ_NOTIFY")
 abbrev pub value_told : Fields → DataType → Elements → Meta → Fields

@@ -5,6 +5,7 @@ use Rattle.ca_text.specs.Command.{command_number}
 use Rattle.ca_text.specs.declared.command.Command.TheVariants as command
 use Rattle.ca_text.specs.Limits.{arena_slots}
 use Rattle.ca_text.specs.Place.{At}
+use Rattle.ca_records.specs.Record.{RecordState}
 use Rattle.ca_wire.specs.Fields.{Fields}
 use Rattle.ca_wire.specs.Stream.{IsStream}
 use Rattle.ca_model.specs.declared.data.Intent.TheVariants as intent
@@ -13,7 +14,7 @@ use Rattle.ca_model.specs.declared.data.Sent.{Sent}
 use Rattle.ca_model.specs.History.{text_in}
 use Rattle.ca_model.specs.Requests.{create_request, set_up}
 use Rattle.ca_model.specs.World.{meant_circuit}
-use Rattle.ca_model_whole.specs.Records.{Opening, record_of}
+use Rattle.ca_model_whole.specs.Records.{record_of}
 use Rattle.ca_model_whole.specs.Messages.{bare}
 use Rattle.ca_model_whole.specs.Order.{AreEach, AreInOrder}
 use Rattle.ca_model_whole.specs.Client.{Address, Channel, Client, Connecting, On, Searching, Wanted, channel_index, ended, waits_for, with_standing}
@@ -220,10 +221,10 @@ abbrev pub search_told : Address → Fields → Fields
 search_told a m = record { command = command_number command.Search; data_type = a.port; count = 0; p1 = 2 ^ 32 - 1; p2 = m.p2; payload = 0 ∷ 13 ∷ 0 ∷ 0 ∷ 0 ∷ 0 ∷ 0 ∷ 0 ∷ [] }
 
 -- what is due for one message of a datagram
-abbrev pub search_due : Address → List Opening → Fields → List Fields
+abbrev pub search_due : Address → List RecordState → Fields → List Fields
 search_due a records m =
     if m.command == command_number command.Search && is_some (record_of records (text_in m.payload)) then search_told a m ∷ [] else []
 
 -- The replies to a datagram, in the order of its searches: in datagrams of one VERSION and at most 42 replies each.
-abbrev pub Replies : Address → List Opening → List ℕ → List Fields → Type 0
+abbrev pub Replies : Address → List RecordState → List ℕ → List Fields → Type 0
 Replies a records bytes replies = (ms : List Fields) × (rest : List ℕ) × IsStream bytes ms rest × (replies ≡ flat_map (search_due a records) ms)

@@ -5,13 +5,14 @@ use Rattle.ca_dbr.specs.declared.value.Outcome.{Outcome}
 use Rattle.ca_dbr.specs.declared.value.Outcome.TheVariants as outcome
 use Rattle.ca_dbr.specs.Conversion.{converted}
 use Rattle.ca_dbr.specs.Elements.{Elements}
+use Rattle.ca_records.specs.Record.{RecordState}
 use Rattle.ca_model.specs.declared.data.Cause.TheVariants as cause
 use Rattle.ca_model.specs.declared.data.Intent.{Intent}
 use Rattle.ca_model.specs.declared.data.Intent.TheVariants as intent
 use Rattle.ca_model.specs.declared.data.Notice.TheVariants as notice
 use Rattle.ca_model.specs.declared.data.Sent.{Sent}
 use Rattle.ca_model.specs.declared.data.Told.{Told}
-use Rattle.ca_model_whole.specs.Records.{Opening, native, record_of}
+use Rattle.ca_model_whole.specs.Records.{native, record_of}
 use Rattle.ca_model_whole.specs.Log.{Applied, ServerLog, Write}
 use Rattle.ca_model_whole.specs.Calls.{Line, names_in, requests_in, writes_in}
 use Rattle.ca_model_whole.specs.Calls as calls
@@ -21,7 +22,7 @@ use Rattle.ca_model_whole.specs.World.{Course, Lives, Served, World}
 
 -- An entry of the log of some life of some server applies this write.
 pub record IsApplied (w : World) (server life index : ℕ) (v : Write) : Type 0 where
-  pub records : List Opening
+  pub records : List RecordState
   pub log : ServerLog
   pub served : Served w server life records log
   pub at : At log.entries index (Applied v)
@@ -46,7 +47,7 @@ Given log _ e = ⊥
 
 -- A write that was applied stands at its place with its own value, in the native type of its own record, which is the one that its channel
 -- names, at the server and in the life that the circuit joins.
-pub record HasOwnValue (w : World) (server life : ℕ) (records : List Opening) (v : Write) : Type 0 where
+pub record HasOwnValue (w : World) (server life : ℕ) (records : List RecordState) (v : Write) : Type 0 where
   pub c : Course
   pub here : At w.courses v.circuit c
   pub joined : (c.state.server ≡ server) × (c.state.server_life ≡ life)
@@ -57,7 +58,7 @@ pub record HasOwnValue (w : World) (server life : ℕ) (records : List Opening) 
   pub channel : ℕ
   pub on : channel_in s.intent ≡ Some channel
   pub named : At (names_in log) channel v.name
-  pub state : Opening
+  pub state : RecordState
   pub is : record_of records v.name ≡ Some state
   pub given : Elements
   pub gives : Given log s.intent given

@@ -4,27 +4,24 @@ use Rattle.std.specs.Str.{bytes_eq}
 use Rattle.ca_dbr.specs.declared.data_type.BaseType.{BaseType}
 use Rattle.ca_dbr.specs.declared.value.Meta.{Meta}
 use Rattle.ca_dbr.specs.Elements.{Elements, base_of}
+use Rattle.ca_records.specs.Record.{RecordState}
 
 -- a value, with its alarm status and severity and its time stamp
 pub record Stored : Type 0 where
   pub value : Elements
   pub meta : Meta
 
--- A record as it begins: its name, its greatest element count, whether a put with notification makes it busy, and its
--- opening value.
-pub record Opening : Type 0 where
-  pub name : List ℕ
-  pub count : ℕ
-  pub slow : Bool
-  pub stored : Stored
+-- what a record begins with
+abbrev pub stored_in : RecordState → Stored
+stored_in r = record { value = r.value; meta = r.meta }
 
 -- the native type: that of its values
-abbrev pub native : Opening → BaseType
-native r = base_of r.stored.value
+abbrev pub native : RecordState → BaseType
+native r = base_of r.value
 
 -- the record of this name
-abbrev pub record_of : List Opening → List ℕ → Option Opening
-record_of records name = find (λ (r : Opening). bytes_eq r.name name) records
+abbrev pub record_of : List RecordState → List ℕ → Option RecordState
+record_of records name = find (λ (r : RecordState). bytes_eq r.name name) records
 
 -- A rule on access: whom and what it meets, where none stands for everything, and whether it lets read and write.
 pub record Rule : Type 0 where

@@ -11,6 +11,7 @@ use Rattle.ca_dbr.specs.Elements.{Elements, count_of}
 use Rattle.ca_dbr.specs.Image.{image}
 use Rattle.ca_dbr.specs.Shown.{shown}
 use Rattle.ca_dbr.specs.Types.{size_of_image}
+use Rattle.ca_records.specs.Record.{RecordState}
 use Rattle.ca_queue.specs.declared.entry.SubKey.{SubKey}
 use Rattle.ca_queue.specs.Keys.{same}
 use Rattle.ca_queue.specs.Queue.{Queue, added, posted, with_front_taken}
@@ -18,6 +19,7 @@ use Rattle.ca_queue.specs.Waiting.{taken}
 use Rattle.ca_wire.specs.Fields.{Fields}
 use Rattle.ca_wire.specs.Message.{spelling}
 use Rattle.ca_wire.specs.Stream.{BadAt, NoneBegins, NotBad}
+use Rattle.ca_model.specs.Replies.{get_fail}
 use Rattle.ca_model.specs.declared.data.Cause.TheVariants as cause
 use Rattle.ca_model.specs.declared.data.Sent.{Sent}
 use Rattle.ca_model.specs.declared.data.Told.{Told}
@@ -25,10 +27,10 @@ use Rattle.ca_model.specs.Answer.{told as answers_to}
 use Rattle.ca_model.specs.Client.{TakesFirst}
 use Rattle.ca_model.specs.History.{Seat}
 use Rattle.ca_model.specs.Circuit.{sent_in}
-use Rattle.ca_model_whole.specs.Records.{Opening, Stored}
+use Rattle.ca_model_whole.specs.Records.{Stored}
 use Rattle.ca_model_whole.specs.Log.{Applied, Entry, ServerLog, Write, value_of, with_entry, with_wait, with_withdrawals}
 use Rattle.ca_model_whole.specs.Messages.{update_told}
-use Rattle.ca_model_whole.specs.Faults.{get_fail, type_of}
+use Rattle.ca_model_whole.specs.Faults.{type_of}
 use Rattle.ca_model_whole.specs.Calls.{Telling}
 use Rattle.ca_model_whole.specs.Ends as ends
 use Rattle.ca_model_whole.specs.Ends.{Item, ServerPart, Subscription, cancel_each, concerned, with_events}
@@ -52,7 +54,7 @@ abbrev pub Concerns : Entry → Course → Type 0
 Concerns e c = concerned e c.at_server.subscriptions ≢ []
 
 -- A circuit of the server after an entry was put into its log: it gets its updates, or has ended for want of memory for them.
-pub record Reaches (records : List Opening) (server : ℕ) (l : ServerLog) (e : Entry) (gone : ℕ → Bool) (k : ℕ) (c new : Course) : Type 0 where
+pub record Reaches (records : List RecordState) (server : ℕ) (l : ServerLog) (e : Entry) (gone : ℕ → Bool) (k : ℕ) (c new : Course) : Type 0 where
   pub needs : gone k ≡ true → (is_open_at server c ≡ true) × Concerns e c
   pub leaves :
       new ≡ (if gone k then server_closed c else if is_open_at server c then with_part (ends.with_entry records l e c.at_server) c else c)

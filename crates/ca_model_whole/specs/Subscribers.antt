@@ -4,6 +4,7 @@ use Rattle.std.specs.Prelude.{ℕ, ◌≡◌, ◌<◌, ◌==◌, ◌++◌, Bool,
 use Rattle.std.specs.List.{AllZip, flat_map}
 use Rattle.ca_text.specs.Place.{At}
 use Rattle.ca_dbr.specs.declared.value.Outcome.{Outcome}
+use Rattle.ca_records.specs.Record.{RecordState}
 use Rattle.ca_queue.specs.declared.entry.SubKey.{SubKey}
 use Rattle.ca_queue.specs.Order.{Sub, last_of}
 use Rattle.ca_queue.specs.Queue.{Queue}
@@ -16,7 +17,7 @@ use Rattle.ca_model.specs.declared.data.Told.{Told}
 use Rattle.ca_model.specs.Circuit.{Acted, History}
 use Rattle.ca_model.specs.Client.{OutcomeOf}
 use Rattle.ca_model.specs.History.{Seat}
-use Rattle.ca_model_whole.specs.Records.{Opening, Stored}
+use Rattle.ca_model_whole.specs.Records.{Stored}
 use Rattle.ca_model_whole.specs.Log.{ServerLog}
 use Rattle.ca_model_whole.specs.Faults.{mask_in}
 use Rattle.ca_model_whole.specs.Posts.{matching_posts}
@@ -69,7 +70,7 @@ Lasts c k m = (c.state.server_open ≡ true) × ((sent : ℕ) → EndedAt c.stat
 
 -- Its updates and then what waits for it are a part of the matching posts, in order, each update being the image of its post or GETFAIL;
 -- and while it lasts they end in the newest.
-pub record Follows (records : List Opening) (l : ServerLog) (c : Course) (k : ℕ) (m : Fields) : Type 0 where
+pub record Follows (records : List RecordState) (l : ServerLog) (c : Course) (k : ℕ) (m : Fields) : Type 0 where
   pub s : Subscription
   pub makes : Makes c k m s
   pub sent : List Stored
@@ -110,5 +111,5 @@ pub record SawInOrder (w : World) (client life : ℕ) (log : List Line) (number 
 
 -- The whole clause, over all circuits and all lives of clients.
 pub record SubscribersSee (w : World) : Type 0 where
-  pub follows : (number k : ℕ) (c : Course) (s : Sent) (records : List Opening) (l : ServerLog) → At w.courses number c → IsAccepted c k s → Served w c.state.server c.state.server_life records l → Follows records l c k s.message
+  pub follows : (number k : ℕ) (c : Course) (s : Sent) (records : List RecordState) (l : ServerLog) → At w.courses number c → IsAccepted c k s → Served w c.state.server c.state.server_life records l → Follows records l c k s.message
   pub saw : (client life : ℕ) (log : List Line) (number : ℕ) → Lives w client life log → SawInOrder w client life log number

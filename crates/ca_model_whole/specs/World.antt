@@ -2,12 +2,13 @@
 use Rattle.std.specs.Prelude.{ℕ, ◌≡◌, ◌++◌, false, List, [], ◌∷◌, if◌then◌else◌, map, slice_set}
 use Rattle.ca_text.specs.declared.refusal.Refusal.{Refusal}
 use Rattle.ca_text.specs.Place.{At}
+use Rattle.ca_records.specs.Record.{RecordState}
 use Rattle.ca_wire.specs.Fields.{Fields}
 use Rattle.ca_wire.specs.Message.{spelled}
 use Rattle.ca_model.specs.declared.data.Sent.{Sent}
 use Rattle.ca_model.specs.declared.data.Told.{Told}
 use Rattle.ca_model.specs.Circuit.{CircuitState}
-use Rattle.ca_model_whole.specs.Records.{Opening, Peer, Rule}
+use Rattle.ca_model_whole.specs.Records.{Peer, Rule}
 use Rattle.ca_model_whole.specs.Log.{ServerLog, no_log}
 use Rattle.ca_model_whole.specs.Calls.{Call, Line, Telling, Called, Refused, Told as ToldLine}
 use Rattle.ca_model_whole.specs.Client.{Address, Client, new_client}
@@ -22,7 +23,7 @@ pub record ClientSide : Type 0 where
 -- A server: its address, its records and rules as they were given, its two lists, and those of its former lives.
 pub record ServerSide : Type 0 where
   pub address : Address
-  pub records : List Opening
+  pub records : List RecordState
   pub rules : List Rule
   pub log : ServerLog
   pub past : List ServerLog
@@ -50,7 +51,7 @@ pub record World : Type 0 where
 -- What a world is made of.
 pub record ServerSetting : Type 0 where
   pub address : Address
-  pub records : List Opening
+  pub records : List RecordState
   pub rules : List Rule
 
 -- the clients and servers that a world is made of
@@ -87,7 +88,7 @@ pub record Lives (w : World) (client life : ℕ) (log : List Line) : Type 0 wher
   pub kept : At (client_logs side) life log
 
 -- A life of a server, its records and its log.
-pub record Served (w : World) (server life : ℕ) (records : List Opening) (log : ServerLog) : Type 0 where
+pub record Served (w : World) (server life : ℕ) (records : List RecordState) (log : ServerLog) : Type 0 where
   pub side : ServerSide
   pub at : At w.servers server side
   pub kept : At (server_logs side) life log

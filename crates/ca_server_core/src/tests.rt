@@ -77,6 +77,42 @@ fn requests_are_answered(rt: HostRuntime) -> Result<(), Fail> {
         row(VERSION, 0, b""),
         row(CREATE_TEMP, 0, CREATED_TEMP),
         row(READ_TEMP, 8, TEMP_IS_21),
+        // A channel that is not open.
+        row(
+            b"\0\x0f\0\0\0\x05\0\x01\0\x01\0\x01\0\x01\0\0",
+            0,
+            b"\0\x0f\0\0\0\x05\0\x01\0\0\x01\x9a\0\x01\0\0",
+        ),
+        // A name that no record has, under a CID of its own.
+        row(
+            b"\0\x12\0\x08\0\0\0\0\0\x01\0\x01\0\0\0\x0dNONE\0\0\0\0",
+            0,
+            b"\0\x1a\0\0\0\0\0\0\0\x01\0\x01\0\0\0\0",
+        ),
+        row(CLEAR_TEMP, 0, CLEAR_TEMP),
+        row(
+            READ_TEMP,
+            0,
+            b"\0\x0f\0\0\0\x05\0\x01\0\0\x01\x9a\0\x01\0\0",
+        ),
+    ];
+    let mut server = server_of_temp(rt.alloc())?;
+    for row in &rows {
+        server.give(row.bytes)?;
+        assert_eq!(rt; server.answer_size(), row.size);
+        handle(&mut server)?;
+        assert_eq!(rt; server.out_bytes(), row.waits);
+        starve(&mut server)?;
+        send_all(&mut server);
+        assert!(rt; server.out_bytes().is_empty());
+    }
+    Ok(())
+}
+
+#[test]
+fn reads_of_other_types_are_answered(rt: HostRuntime) -> Result<(), Fail> {
+    let rows = [
+        row(CREATE_TEMP, 0, CREATED_TEMP),
         // As STS_CHAR.
         row(
             b"\0\x0f\0\0\0\x0b\0\x01\0\x01\0\0\0\x01\0\0",
@@ -95,29 +131,11 @@ fn requests_are_answered(rt: HostRuntime) -> Result<(), Fail> {
             0,
             b"\0\x0f\0\0\0\x15\0\x02\0\0\0\x72\0\x01\0\0",
         ),
-        // A channel that is not open.
-        row(
-            b"\0\x0f\0\0\0\x05\0\x01\0\x01\0\x01\0\x01\0\0",
-            0,
-            b"\0\x0f\0\0\0\x05\0\x01\0\0\x01\x9a\0\x01\0\0",
-        ),
         // 70,000 elements.
         row(
             b"\0\x0f\xff\xff\0\x05\0\0\0\x01\0\0\0\x01\0\0\0\0\0\0\0\x01\x11\x70",
             0,
             b"\0\x0f\xff\xff\0\x05\0\0\0\0\0\xb0\0\x01\0\0\0\0\0\0\0\x01\x11\x70",
-        ),
-        // A name that no record has, under a CID of its own.
-        row(
-            b"\0\x12\0\x08\0\0\0\0\0\x01\0\x01\0\0\0\x0dNONE\0\0\0\0",
-            0,
-            b"\0\x1a\0\0\0\0\0\0\0\x01\0\x01\0\0\0\0",
-        ),
-        row(CLEAR_TEMP, 0, CLEAR_TEMP),
-        row(
-            READ_TEMP,
-            0,
-            b"\0\x0f\0\0\0\x05\0\x01\0\0\x01\x9a\0\x01\0\0",
         ),
     ];
     let mut server = server_of_temp(rt.alloc())?;
