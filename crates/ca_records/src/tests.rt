@@ -96,24 +96,26 @@ fn values(alloc: Global) -> Result<Vec<Value>, Fail> {
     ]?)
 }
 
+const NAMES: [&[u8]; 7] = [
+    b"beam:current",
+    b"beam",
+    b"shutter",
+    b"Beam",
+    b"a",
+    b"note",
+    b"gain",
+];
+
 #[test]
 fn records_are_found(rt: HostRuntime) -> Result<(), Fail> {
     let alloc = rt.alloc();
-    let names: [&[u8]; 7] = [
-        b"beam:current",
-        b"beam",
-        b"shutter",
-        b"Beam",
-        b"a",
-        b"note",
-        b"gain",
-    ];
     let mut records = Records::new(alloc);
     let mut i = 0;
     for value in values(alloc)? {
-        assert!(rt; i < names.len());
-        assert!(rt; !records.has(names[i]));
-        records.define(names[i], 4, i % 2 == 1, value)?;
+        assert!(rt; i < NAMES.len());
+        let name = NAMES[i];
+        assert!(rt; !records.has(name));
+        records.define(name, 4, i % 2 == 1, value)?;
         i += 1;
     }
     assert_eq!(rt; records.len(), 7);
@@ -121,8 +123,8 @@ fn records_are_found(rt: HostRuntime) -> Result<(), Fail> {
     assert_eq!(rt; records.len(), 7);
     let values = values(alloc)?;
     for (i, value) in values.iter().enumerate() {
-        assert!(rt; i < names.len());
-        let name = names[i];
+        assert!(rt; i < NAMES.len());
+        let name = NAMES[i];
         assert!(rt; records.has(name));
         assert_eq!(rt; records.find(name), Some(i));
         assert_eq!(rt; records.read(name)?, value);
