@@ -23,6 +23,7 @@ may-open old name priority named prior room numbered =
       prior = prior;
       room = room;
       fits = omega arith;
+      index = omega arith;
       free = λ i here at e. absurd (
           let a : here.cid ≡ 65536 + i = numbered i here at in
           let w : i < length old.channels = At-within old.channels i here at in

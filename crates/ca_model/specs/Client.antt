@@ -94,12 +94,13 @@ OpenFault c name priority BadPriority = IsName channel_name_limit name × (prior
 OpenFault c name priority ArenaFull = IsName channel_name_limit name × (priority ≤ priority_limit) × (arena_slots ≤ length c.channels)
 OpenFault c name priority _ = ⊥
 
--- A channel may be opened under this CID, which no channel has.
+-- A channel may be opened under this CID, which no channel has, and whose index is the channel's number.
 pub record CanOpen (c : Client) (name : List ℕ) (priority cid : ℕ) : Type 0 where
   pub named : IsName channel_name_limit name
   pub prior : priority ≤ priority_limit
   pub room : length c.channels < arena_slots
   pub fits : cid < 2 ^ 32
+  pub index : cid % 2 ^ 16 ≡ length c.channels
   pub free : (i : ℕ) (here : ChannelState) → At c.channels i here → here.cid ≡ cid → ⊥
 
 -- From old, a channel of this name and priority was to be opened, with this answer, and left new.

@@ -111,7 +111,7 @@ text-message command text small lt =
     message-of (text_message command text) (omega arith) (omega arith) (omega arith) (omega arith) (omega arith) (text-fits text lt)
 
 -- what holds of the three messages of a set-up holds of each
-set_up-each : (P : Fields → Type 0) (user host : List ℕ) (priority : ℕ) → P (version_request priority) → P (text_message ClientName user) → P (text_message HostName host) → (i : ℕ) (m : Fields) → At (set_up user host priority) i m → P m
+pub set_up-each : (P : Fields → Type 0) (user host : List ℕ) (priority : ℕ) → P (version_request priority) → P (text_message ClientName user) → P (text_message HostName host) → (i : ℕ) (m : Fields) → At (set_up user host priority) i m → P m
 set_up-each P user host priority version client server =
     let last : List Fields = text_message HostName host ∷ [] in
     each-more P (version_request priority) (text_message ClientName user ∷ last) version (each-more P (text_message ClientName user) last client (each-one P (text_message HostName host) server))

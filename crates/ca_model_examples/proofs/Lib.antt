@@ -6,7 +6,5 @@ pub mod SafeWrites
 pub mod SafeOwn
 pub mod Unsafe
 pub mod Worked
-pub mod Parts
-pub mod Lifts
 pub mod Makes
 pub mod Drains

@@ -5,7 +5,6 @@
 mod draining;
 mod rows;
 mod safe_worlds;
-mod small_world;
 mod steps;
 mod unsafe_worlds;
 
@@ -18,7 +17,6 @@ pub use safe_worlds::{
     a_read_acts_on_its_record, a_refused_read_completes_with_its_own, a_write_is_applied_once,
     updates_wait_in_order,
 };
-pub use small_world::{a_safe_small_world_is_safe, the_small_world_is_a_part};
 pub use steps::steps_can_be_made;
 pub use unsafe_worlds::{
     a_cleared_channel_is_not_acted_on, a_done_put_is_in_a_log, a_lost_newest_post_shows,

@@ -20,8 +20,8 @@ use Rattle.ca_model.specs.Requests.{create_request, set_up}
 use Rattle.ca_model.specs.Safe.{ToldRightly}
 use Rattle.ca_model.specs.Server.{accepted, new_end}
 use Rattle.ca_model.specs.World.{ClientSide, HappensAccept, ServerSide, World, creates_from, meant_circuit, new_circuit}
-use Rattle.ca_model_circuit.proofs.Fits.{create-fits, created-gives, set_up-fits, set_up-gives, text-again}
-use Rattle.ca_model_runs.specs.Holds.{AreRecords, ChannelFits, CircuitHolds, Holds, LinkHolds, Means, SideHolds, cid_of, cids_in, name_of}
+use Rattle.ca_model_circuit.proofs.Fits.{create-fits, created-gives, set_up-each, set_up-fits, set_up-gives, text-again}
+use Rattle.ca_model_runs.specs.Holds.{AreRecords, ChannelFits, CircuitHolds, Holds, LinkHolds, Means, SetsUp, SideHolds, cid_of, cids_in, name_of}
 use Rattle.ca_model_runs.proofs.Lists.{At-set-here, Within-self, length-more, none_at}
 use Rattle.ca_model_runs.proofs.Ends.{not_both, some_none}
 use Rattle.ca_model_runs.proofs.Worlds.{CircuitOf, Follows-self, Later, SideGrows, circuit-of-wider, link-ended, stands-still, told-later, was}
@@ -35,7 +35,7 @@ by-kept : {A : Type 0} (f : ChannelState → A) (b : Bool) (d : ChannelState) �
 by-kept f true d e = e
 by-kept f false d e = refl
 
-map-linked : {A : Type 0} (f : ChannelState → A) (p : ℕ) (cs : List ChannelState) → ((d : ChannelState) → f (making d) ≡ f d) → map f (map (linked_one p) cs) ≡ map f cs
+pub map-linked : {A : Type 0} (f : ChannelState → A) (p : ℕ) (cs : List ChannelState) → ((d : ChannelState) → f (making d) ≡ f d) → map f (map (linked_one p) cs) ≡ map f cs
 map-linked f p [] same = refl
 map-linked f p (d ∷ cs) same = rw (by-kept f (eqb d.priority p) d (same d), map-linked f p cs same) refl
 
@@ -129,7 +129,7 @@ map-meant (m ∷ ms) = ap (λ (t : List Fields). m ∷ t) (map-meant ms)
 
 -- ---- the new circuit by its lists
 
-abbrev first_up : ClientSide → ℕ → List Sent
+abbrev pub first_up : ClientSide → ℕ → List Sent
 first_up x p = map meant_circuit (set_up x.core.user x.core.host p) ++ creates_from 0 p x.core.channels
 
 abbrev first_history : ClientSide → ℕ → History
@@ -164,6 +164,9 @@ first-fits x p k s le side at =
           subst (λ (z : Fields). IsMessage z) (sym r.one.message) (create-fits r.one.d.cid r.one.d.name f.cid f.name))
     ]
 
+sets-up : (user host : List ℕ) (priority i : ℕ) (m : Fields) → At (set_up user host priority) i m → SetsUp m.command
+sets-up user host priority = set_up-each (λ (m : Fields). SetsUp m.command) user host priority (inl refl) (inr (inl refl)) (inr (inr refl))
+
 from_zero : (n : ℕ) (P : ℕ → Type 0) → P n → P (0 + n)
 from_zero n P p = (let z : n ≡ 0 + n = omega arith in subst P z p)
 
@@ -174,6 +177,7 @@ first-means x p k s side at =
           (let g = set_up-gives x.core.user x.core.host p r.i r.m r.at in
           inl (record {
             means = ap (λ (z : Sent). z.intent) r.is;
+            sets_up = subst (λ (z : Sent). SetsUp z.message.command) (sym r.is) (sets-up x.core.user x.core.host p r.i r.m r.at);
             gives = ap (λ (z : Sent). given_in z.message) r.is ∙ g.0;
             clears_none = λ e. g.1 (sym (ap (λ (z : Sent). z.message.command) r.is) ∙ e);
           }))
@@ -237,7 +241,7 @@ first-circuit x p records le side =
       };
     }
 
-first-messages : (x : ClientSide) (p : ℕ) → map msg (first_up x p) ≡ set_up x.core.user x.core.host p ++ creates_of p x.core.channels
+pub first-messages : (x : ClientSide) (p : ℕ) → map msg (first_up x p) ≡ set_up x.core.user x.core.host p ++ creates_of p x.core.channels
 first-messages x p =
     map-append msg (map meant_circuit (set_up x.core.user x.core.host p)) (creates_from 0 p x.core.channels) ∙ ap (λ (t : List Fields). t ++ map msg (creates_from 0 p x.core.channels)) (map-meant (set_up x.core.user x.core.host p))
     ∙ ap (λ (t : List Fields). set_up x.core.user x.core.host p ++ t) (creates-messages 0 p x.core.channels)

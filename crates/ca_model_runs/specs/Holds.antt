@@ -1,12 +1,12 @@
 -- What holds of each world that a run reaches.
 use Rattle.std.specs.Prelude.{ℕ, ◌≡◌, ◌+◌, ◌<◌, ◌≤◌, ◌^◌, ◌⊎◌, ◌==◌, true, false, if◌then◌else◌, Bool, List, [], ◌++◌, Some, None, count_by, drop, length, map, nat_lt, take}
 use Rattle.ca_text.specs.Command.{command_number}
-use Rattle.ca_text.specs.declared.command.Command.TheVariants.{ClearChannel, CreateChannel, ReadNotify}
+use Rattle.ca_text.specs.declared.command.Command.TheVariants.{ClearChannel, ClientName, CreateChannel, HostName, ReadNotify, Version}
 use Rattle.ca_text.specs.Limits.{channel_name_limit, payload_limit, priority_limit}
 use Rattle.ca_text.specs.Name.{IsName}
 use Rattle.ca_text.specs.Place.{At}
 use Rattle.ca_records.specs.Record.{IsRecord, RecordState}
-use Rattle.ca_records.specs.Records.{IsServed}
+use Rattle.ca_records.specs.Records.{AreApart, IsServed}
 use Rattle.ca_wire.specs.Fields.{Fields}
 use Rattle.ca_wire.specs.Message.{IsMessage, spelled}
 use Rattle.ca_model.specs.declared.data.Cause.TheVariants.{Reply}
@@ -30,10 +30,11 @@ use Rattle.ca_model_circuit.specs.Knows.{Knows}
 abbrev pub AreRecords : List RecordState → Type 0
 AreRecords records = (i : ℕ) (r : RecordState) → At records i r → IsRecord r
 
--- The users and hosts of the clients fit into messages, and the servers' records are records.
+-- The users and hosts of the clients fit into messages, and the servers' records are records, each under a name of its own.
 pub record IsSetting (s : Setting) : Type 0 where
   pub clients : (i : ℕ) (c : List ℕ × List ℕ) → At s.clients i c → (length c.0 < payload_limit) × (length c.1 < payload_limit)
   pub servers : (i : ℕ) (records : List RecordState) → At s.servers i records → AreRecords records
+  pub apart : (i : ℕ) (records : List RecordState) → At s.servers i records → AreApart records
 
 -- ---- one circuit, by its lists
 
@@ -53,8 +54,13 @@ pub record Created (h : History) (j sid k : ℕ) (s : Sent) : Type 0 where
 abbrev pub seat_of : ℕ → Sent → Seat
 seat_of sid s = record { sid = sid; cid = s.message.p1; name = text_in s.message.payload }
 
+-- the commands by which a client sets a circuit up
+abbrev pub SetsUp : ℕ → Type 0
+SetsUp n = (n ≡ command_number Version) ⊎ ((n ≡ command_number ClientName) ⊎ (n ≡ command_number HostName))
+
 pub record MeansCircuit (s : Sent) : Type 0 where
   pub means : s.intent ≡ intent.Circuit
+  pub sets_up : SetsUp s.message.command
   pub gives : given_in s.message ≡ None
   pub clears_none : s.message.command ≡ command_number ClearChannel → ⊥
 

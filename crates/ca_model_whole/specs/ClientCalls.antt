@@ -68,12 +68,16 @@ Issues w client channel x here fault Free message meant call core new =
     ((e : Refusal) × (fault ≡ Some e) × (new ≡ with_client w client (refusing e x)))
     ⊎ ((fault ≡ None) × Goes w client channel x here Free message meant call core new)
 
--- A read ("CA_PROTO_READ_NOTIFY").
-abbrev pub HappensRead : World → ℕ → ℕ → ℕ → ℕ → World → Type 0
-HappensRead w client channel data_type count new =
+-- A read, while so many IOIDs are taken ("CA_PROTO_READ_NOTIFY").
+abbrev pub ReadsWhile : (Client → ℕ) → World → ℕ → ℕ → ℕ → ℕ → World → Type 0
+ReadsWhile taken w client channel data_type count new =
     (x : ClientSide) × (here : Channel) × Has w client channel x here
-    × Issues w client channel x here (ask_fault here data_type count (waits_on w here.standing) (ioids_taken x.core)) (IoidFree x.core)
+    × Issues w client channel x here (ask_fault here data_type count (waits_on w here.standing) (taken x.core)) (IoidFree x.core)
     (λ sid ioid. read_request sid ioid data_type count) (intent.Read channel x.core.issued) (calls.Read channel data_type count) (λ k ioid. asked x.core channel k ioid false) new
+
+-- those that are open or draining are taken
+abbrev pub HappensRead : World → ℕ → ℕ → ℕ → ℕ → World → Type 0
+HappensRead w client channel data_type count new = ReadsWhile ioids_taken w client channel data_type count new
 
 -- a plain WRITE has the IOID 0
 abbrev pub HappensWrite : World → ℕ → ℕ → Elements → World → Type 0

@@ -149,8 +149,8 @@ abbrev pub with_flow : Bool → Course → Course
 with_flow more c =
     if not c.at_client.events_off && c.at_client.reads == 10 then sending (meant_circuit (bare command.EventsOff) ∷ []) (with_events_off true c) else if c.at_client.events_off && not more then sending (meant_circuit (bare command.EventsOn) ∷ []) (with_events_off false c) else c
 
--- A beginning of what waits reaches the client, which is told whether more waits.
-pub record HappensDown (w : World) (k n : ℕ) (new : World) : Type 0 where
+-- A beginning of what waits reaches the client, which is told whether more waits, and may send something then.
+pub record Delivers (w : World) (k n : ℕ) (sends : Bool → Course → Course) (new : World) : Type 0 where
   pub c : Course
   pub at : At w.courses k c
   pub receives : c.state.client_open ≡ true
@@ -158,7 +158,11 @@ pub record HappensDown (w : World) (k n : ℕ) (new : World) : Type 0 where
   pub leaves :
       let more : Bool = nat_lt n (length (waiting_down c)) in
       let given : Course = client_given (take n (waiting_down c)) (down_taken n c) in
-      new ≡ with_course w k (with_flow more (record given { at_client = counted more (heard_from w.moment n given.at_client) }))
+      new ≡ with_course w k (sends more (record given { at_client = counted more (heard_from w.moment n given.at_client) }))
+
+-- bytes reach the client, which may ask for a pause of updates, or for their return
+abbrev pub HappensDown : World → ℕ → ℕ → World → Type 0
+HappensDown w k n new = Delivers w k n with_flow new
 
 -- ---- datagrams
 

@@ -3,6 +3,7 @@ use Rattle.std.specs.Prelude.{ℕ, ◌<◌, List, length, map}
 use Rattle.ca_text.specs.Limits.{payload_limit}
 use Rattle.ca_text.specs.Place.{At}
 use Rattle.ca_records.specs.Record.{IsRecord, RecordState}
+use Rattle.ca_records.specs.Records.{AreApart}
 use Rattle.ca_model.specs.World.{Setting}
 use Rattle.ca_script.specs.declared.config.Config.{Config}
 use Rattle.ca_script.specs.declared.config.Served.{Served}
@@ -17,6 +18,7 @@ records_of s = s.records
 abbrev pub setting_of : Config → Setting
 setting_of c = record { clients = c.clients.items; servers = map records_of c.servers.items }
 
--- each of these is a record
-abbrev pub AreRecords : List RecordState → Type 0
-AreRecords records = (i : ℕ) (r : RecordState) → At records i r → IsRecord r
+-- each of these is a record, under a name of its own
+pub record AreRecords (records : List RecordState) : Type 0 where
+  pub each : (i : ℕ) (r : RecordState) → At records i r → IsRecord r
+  pub apart : AreApart records

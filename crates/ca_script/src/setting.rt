@@ -3,7 +3,7 @@ ghost use Rattle.ca_script.specs.Setting.{AreRecords};
 
 use ca_records::Records;
 
-/// A law: each of a server's records is one. It looks at each record once.
+/// A law: each of a server's records is one, under a name of its own. It looks at each record once.
 pub fn records_are_records(records: &Records)
     ensures { AreRecords records.now }
 {

@@ -2,6 +2,7 @@ ghost use Rattle.std.specs.Prelude.{◌≡◌, IfErr, IfOk};
 ghost use Rattle.ca_text.specs.declared.refusal.Refusal.TheVariants.{OutOfMemory};
 ghost use Rattle.ca_model.specs.Safe.{Safe};
 ghost use Rattle.ca_model.specs.World.{Runs};
+ghost use Rattle.ca_model_small.specs.Claims.{LeadTo};
 ghost use Rattle.ca_script.specs.Setting.{setting_of};
 ghost use Rattle.ca_world.specs.Done.{Stopped, done};
 
@@ -24,6 +25,8 @@ pub fn run(
     ensures runs { IfOk result (λ r. Runs (setting_of config.now) (done events.now r.1) r.0) }
     // Whatever the events are, it is safe.
     ensures safe { IfOk result (λ r. Safe r.0) }
+    // It tells of the same as a world of the whole statement to which these events lead, and which is safe.
+    ensures whole { IfOk result (λ r. LeadTo (setting_of config.now) (done events.now r.1) r.0) }
     // An event is refused only where it cannot be done, or for want of memory.
     ensures stopped { IfOk result (λ r. Stopped events.now r.0 r.1) }
 {

@@ -6,4 +6,4 @@ pub loop-place-preserved : goal.loop-place-preserved
 loop-place-preserved c = record-next c.args.records.now c.loop-place.place c.at.result.now c.at.ensures.at c.count-count.ensures.record c.loop-place.invariant
 
 pub returns : goal.returns
-returns c = record-all c.args.records.now c.loop-place.place c.len-place-end.result c.loop-place.invariant (sym c.len-place-end.ensures.len) c.loop-place-test.false
+returns c = record { each = record-all c.args.records.now c.loop-place.place c.len-place-end.result c.loop-place.invariant (sym c.len-place-end.ensures.len) c.loop-place-test.false; apart = c.len-place-end.ensures.apart }

@@ -1,9 +1,12 @@
 use Rattle.std.proofs.Common.{◌≡◌, ◌+◌, ◌++◌, List, [], ◌∷◌, take, sym, subst}
+use Rattle.std.proofs.lemmas.List.{take_all}
 use Rattle.ca_world.proofs.Firsts.{take-next}
 use Rattle.ca_model.specs.declared.data.Event.{Event}
 use Rattle.ca_model.specs.Safe.{Safe}
 use Rattle.ca_model.specs.World.{Runs, World, opening}
 use Rattle.ca_model_runs.proofs.Runs.{holds-reached, runs-safe, runs-snoc}
+use Rattle.ca_model_small.specs.Claims.{LeadTo}
+use Rattle.ca_model_small.proofs.Leads.{leads-to}
 use Rattle.ca_script.specs.Setting.{setting_of}
 use Rattle.ca_world.proofs.Seeing.{found}
 use Rattle.ca_world.proofs.Stops.{refused, stays}
@@ -16,6 +19,12 @@ pub returns-in-Err-clause-safe : goal.returns-in-Err-clause-safe
 returns-in-Err-clause-safe c =
     let same : c.happen.new.self ≡ c.loop-place.world = stays c.loop-place.world c.index-events-place.result c.in-Err.stop c.happen.new.self c.in-Err.ensures in
     subst (λ (w : World). Safe w) (sym same) (runs-safe (setting_of c.args.config.now) (take c.loop-place.place c.args.events.now) c.loop-place.world c.in_ok-world.ensures.setting c.loop-place.invariant)
+
+pub returns-in-Err-clause-whole : goal.returns-in-Err-clause-whole
+returns-in-Err-clause-whole c =
+    let same : c.happen.new.self ≡ c.loop-place.world = stays c.loop-place.world c.index-events-place.result c.in-Err.stop c.happen.new.self c.in-Err.ensures in
+    let es : List Event = take c.loop-place.place c.args.events.now in
+    subst (λ (w : World). LeadTo (setting_of c.args.config.now) es w) (sym same) (leads-to (setting_of c.args.config.now) es c.loop-place.world c.in_ok-world.ensures.setting c.loop-place.invariant)
 
 pub returns-in-Err-clause-stopped : goal.returns-in-Err-clause-stopped
 returns-in-Err-clause-stopped c =
@@ -32,3 +41,9 @@ loop-place-preserved c =
 
 pub returns-clause-safe : goal.returns-clause-safe
 returns-clause-safe c = runs-safe (setting_of c.args.config.now) (take c.loop-place.place c.args.events.now) c.loop-place.world c.in_ok-world.ensures.setting c.loop-place.invariant
+
+pub returns-clause-whole : goal.returns-clause-whole
+returns-clause-whole c =
+    let events : List Event = c.args.events.now in
+    let es : List Event = take c.loop-place.place events in
+    subst (λ (t : List Event). LeadTo (setting_of c.args.config.now) t c.loop-place.world) (take_all c.loop-place.place events c.loop-place-test.false) (leads-to (setting_of c.args.config.now) es c.loop-place.world c.in_ok-world.ensures.setting c.loop-place.invariant)

@@ -13,5 +13,6 @@ returns-clause-setting c =
     let served : AreServed config.servers.items = subst (λ (t : List Served). AreServed t) c.deref-2.ensures.value c.in_ok-put_servers.ensures.served in
     record {
       clients = named;
-      servers = λ i records at. (let r = At-mapped records_of config.servers.items i records at in subst (λ (z : List RecordState). AreRecords z) (sym r.2) (served i r.0 r.1));
+      servers = λ i records at. (let r = At-mapped records_of config.servers.items i records at in (subst (λ (z : List RecordState). AreRecords z) (sym r.2) (served i r.0 r.1)).each);
+      apart = λ i records at. (let r = At-mapped records_of config.servers.items i records at in (subst (λ (z : List RecordState). AreRecords z) (sym r.2) (served i r.0 r.1)).apart);
     }

@@ -11,7 +11,7 @@ use Rattle.ca_model.specs.declared.data.Intent.TheVariants as intent
 use Rattle.ca_model.specs.Circuit.{WireId, given_in, spoken_in}
 use Rattle.ca_model_whole.specs.Ids.{Basic, Id, Sub, id_given, id_spoken, place_in}
 use Rattle.ca_model_whole.specs.Sends.{on_channel}
-use Rattle.ca_model_examples.specs.Small.{ActsAlike, IsSmallCause, IsSmallIntent, OwnIdsAreOwn, RepliesMeanAlike}
+use Rattle.ca_model_small.specs.Small.{ActsAlike, IsSmallCause, IsSmallIntent, OwnIdsAreOwn, RepliesMeanAlike}
 
 -- ---- ids
 

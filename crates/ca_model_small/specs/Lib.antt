@@ -1,0 +1,4 @@
+pub mod Happens
+pub mod Matches
+pub mod Small
+pub mod Claims
