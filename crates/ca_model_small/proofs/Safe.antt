@@ -29,12 +29,11 @@ use Rattle.ca_model_whole.specs.Safe.{Safe}
 use Rattle.ca_model_whole.specs.Subscribers.{Adds, SubscribersSee}
 use Rattle.ca_model_whole.specs.World.{ClientSide, Course, Lives, Served, ServerSide, World, client_logs, server_logs}
 use Rattle.ca_model_small.specs.Matches.{Matches, MatchesLog, channel_of, server_of, state_of}
-use Rattle.ca_model_small.specs.Small.{IsSmall, IsSmallCause, IsSmallIntent}
 use Rattle.ca_model_small.proofs.Closes.{live-phase}
 use Rattle.ca_model_small.proofs.Commands.{down-kinds, no-clear, no-error, no-put-reply, no-update, read-kind}
 use Rattle.ca_model_small.proofs.Logs.{count-alike, nothing-put, nothing-updated, nothing-written, told-there}
 use Rattle.ca_model_small.proofs.Moves.{client-of}
-use Rattle.ca_model_small.proofs.Parts.{acts-alike, own-ids}
+use Rattle.ca_model_small.proofs.Parts.{IsSmall, IsSmallCause, IsSmallIntent, acts-alike, own-ids}
 
 -- ---- histories
 

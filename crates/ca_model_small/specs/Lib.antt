@@ -1,4 +1,3 @@
 pub mod Happens
 pub mod Matches
-pub mod Small
 pub mod Claims

@@ -22,7 +22,7 @@ use Rattle.ca_model_whole.specs.World.{ClientSide, Course, World, calling, refus
 
 -- ---- to open
 
--- A channel is opened under a CID that is free, and searched for; which CID is the client's choice.
+-- A channel is opened under a CID that is free, and searched for; which CID is the client's choice ("Channels").
 pub record Opens (w : World) (client : ℕ) (name : List ℕ) (priority : ℕ) (x : ClientSide) (new : World) : Type 0 where
   pub named : IsName channel_name_limit name
   pub prior : priority ≤ priority_limit
@@ -31,7 +31,7 @@ pub record Opens (w : World) (client : ℕ) (name : List ℕ) (priority : ℕ) (
   pub free : CidFree x.core cid
   pub leaves : new ≡ with_client w client (calling (calls.Open name priority) (opened x.core name priority cid) x)
 
--- An opening is refused by its first fault, or the channel is opened.
+-- An opening is refused by its first fault, or the channel is opened ("Channels").
 abbrev pub HappensOpen : World → ℕ → List ℕ → ℕ → World → Type 0
 HappensOpen w client name priority new =
     (x : ClientSide) × At w.clients client x
@@ -39,18 +39,18 @@ HappensOpen w client name priority new =
 
 -- ---- to read, to put, to subscribe
 
--- so many bytes wait on the circuit of a channel that stands so
+-- so many bytes wait on the circuit of a channel that stands so ("Virtual Circuit")
 abbrev pub waits_on : World → Standing → ℕ
 waits_on w (On k p) = unwrap_or (option_map (λ (c : Course). length (waiting_up c)) (slice_get w.courses k)) 0
 waits_on w _ = 0
 
--- the channel of this client
+-- the channel of this client ("Channels")
 pub record Has (w : World) (client channel : ℕ) (x : ClientSide) (here : Channel) : Type 0 where
   pub side : At w.clients client x
   pub at : At x.core.channels channel here
 
 -- A call on a live channel is accepted: it takes an id that is free, which one is the client's choice, and its message goes up the
--- channel's circuit.
+-- channel's circuit ("Overall Client Operation").
 pub record Goes (w : World) (client channel : ℕ) (x : ClientSide) (here : Channel) (Free : ℕ → Type 0) (message : ℕ → ℕ → Fields) (meant : Intent) (call : Call) (core : ℕ → ℕ → Client) (new : World) : Type 0 where
   pub k : ℕ
   pub sid : ℕ
@@ -62,7 +62,7 @@ pub record Goes (w : World) (client channel : ℕ) (x : ClientSide) (here : Chan
   pub leaves :
       new ≡ with_course (with_client w client (calling call (core k id) x)) k (sending (record { message = message sid id; intent = meant } ∷ []) c)
 
--- A call is refused by its first fault, or it is accepted.
+-- A call is refused by its first fault, or it is accepted ("Overall Client Operation").
 abbrev pub Issues : World → ℕ → ℕ → ClientSide → Channel → Option Refusal → (ℕ → Type 0) → (ℕ → ℕ → Fields) → Intent → Call → (ℕ → ℕ → Client) → World → Type 0
 Issues w client channel x here fault Free message meant call core new =
     ((e : Refusal) × (fault ≡ Some e) × (new ≡ with_client w client (refusing e x)))
@@ -75,11 +75,11 @@ ReadsWhile taken w client channel data_type count new =
     × Issues w client channel x here (ask_fault here data_type count (waits_on w here.standing) (taken x.core)) (IoidFree x.core)
     (λ sid ioid. read_request sid ioid data_type count) (intent.Read channel x.core.issued) (calls.Read channel data_type count) (λ k ioid. asked x.core channel k ioid false) new
 
--- those that are open or draining are taken
+-- a read, while the IOIDs that are open or draining are taken ("CA_PROTO_READ_NOTIFY")
 abbrev pub HappensRead : World → ℕ → ℕ → ℕ → ℕ → World → Type 0
 HappensRead w client channel data_type count new = ReadsWhile ioids_taken w client channel data_type count new
 
--- a plain WRITE has the IOID 0
+-- a plain WRITE has the IOID 0 ("CA_PROTO_WRITE")
 abbrev pub HappensWrite : World → ℕ → ℕ → Elements → World → Type 0
 HappensWrite w client channel e new =
     (x : ClientSide) × (here : Channel) × Has w client channel x here
@@ -103,13 +103,13 @@ HappensSubscribe w client channel data_type count mask new =
 
 -- ---- to end a subscription
 
--- The subscription of this number stands at this place, on this channel.
+-- The subscription of this number stands at this place, on this channel ("Monitors").
 pub record Holds (x : Client) (number place : ℕ) (s : Subscribed) (here : Channel) : Type 0 where
   pub at : At x.subscriptions place s
   pub is : s.number ≡ number
   pub on : At x.channels s.channel here
 
--- Its EVENT_CANCEL goes up where its channel is live; else nothing is sent.
+-- Its EVENT_CANCEL goes up where its channel is live; else nothing is sent ("CA_PROTO_EVENT_CANCEL").
 pub record Cancels (w : World) (client : ℕ) (x : ClientSide) (place : ℕ) (s : Subscribed) (here : Channel) (new : World) : Type 0 where
   pub k : ℕ
   pub sid : ℕ
@@ -120,11 +120,11 @@ pub record Cancels (w : World) (client : ℕ) (x : ClientSide) (place : ℕ) (s 
   pub leaves :
       new ≡ with_course (with_client w client (calling (calls.Unsubscribe s.number) (unsubscribed x.core place s (Some k)) x)) k (sending (record { message = event_cancel_request sid s.id s.data_type s.count; intent = intent.Cancel s.channel s.number } ∷ []) c)
 
--- the channel is live on no circuit
+-- the channel is live on no circuit ("Channels")
 abbrev pub NotLive : Client → ℕ → Channel → Type 0
 NotLive x channel here = (k sid : ℕ) → IsLive x channel here k sid → ⊥
 
--- A subscription that stands ends: with its cancel, refused where too much waits for that, or with nothing sent.
+-- A subscription that stands ends: with its cancel, refused where too much waits for that, or with nothing sent ("CA_PROTO_EVENT_CANCEL").
 abbrev pub Unsubscribes : World → ℕ → ClientSide → ℕ → World → Type 0
 Unsubscribes w client x number new =
     (place : ℕ) × (s : Subscribed) × (here : Channel) × Holds x.core number place s here
@@ -132,7 +132,7 @@ Unsubscribes w client x number new =
     ⊎ (((k : ℕ) × (sid : ℕ) × IsLive x.core s.channel here k sid × (output_limit ≤ waits_on w here.standing) × (new ≡ with_client w client (refusing refusal.OutputFull x)))
     ⊎ (NotLive x.core s.channel here × (new ≡ with_client w client (calling (calls.Unsubscribe number) (unsubscribed x.core place s None) x)))))
 
--- no subscription of this number stands
+-- no subscription of this number stands ("Monitors")
 abbrev pub NotStanding : Client → ℕ → Type 0
 NotStanding x number = (place : ℕ) (s : Subscribed) → At x.subscriptions place s → s.number ≢ number
 
@@ -144,7 +144,7 @@ HappensUnsubscribe w client number new =
 
 -- ---- to clear
 
--- what a clear makes of the client's side: its log has the call, and then what it tells
+-- what a clear makes of the client's side: its log has the call, and then what it tells ("CA_PROTO_CLEAR_CHANNEL")
 abbrev pub clearing : ℕ → Channel → ClientSide → ClientSide
 clearing n here x = telling (disconnections (λ (q : Asked). q.channel == n) x.core) (cleared x.core n here) (calling (calls.Clear n) x.core x)
 
@@ -158,7 +158,7 @@ pub record ClearsLive (w : World) (client n : ℕ) (x : ClientSide) (here : Chan
   pub leaves :
       new ≡ with_course (with_client w client (clearing n here x)) k (sending (record { message = clear_request sid here.cid; intent = intent.Clear n } ∷ []) c)
 
--- A channel is to be cleared; one that was cleared is refused.
+-- A channel is to be cleared; one that was cleared is refused ("CA_PROTO_CLEAR_CHANNEL").
 abbrev pub HappensClear : World → ℕ → ℕ → World → Type 0
 HappensClear w client n new =
     (x : ClientSide) × (here : Channel) × Has w client n x here
@@ -168,18 +168,18 @@ HappensClear w client n new =
 
 -- ---- what became of a request
 
--- The request completed with this, and it was neither handed out nor given up.
+-- The request completed with this, and it was neither handed out nor given up (model).
 pub record IsThere (log : List Line) (number : ℕ) (o : Outcome) : Type 0 where
   pub place : ℕ
   pub at : At log place (calls.Told (calls.Basic (notice.Completed number o)))
   pub kept : list_any (hands_out number) log ≡ false
 
--- the outcome that may be handed out, if there is one
+-- the outcome that may be handed out, if there is one (model)
 abbrev pub HandsOut : List Line → ℕ → Option Outcome → Type 0
 HandsOut log number (Some o) = IsThere log number o
 HandsOut log number None = (o : Outcome) → IsThere log number o → ⊥
 
--- What became of a request is collected, or the request given up, and the log has a line with it.
+-- What became of a request is collected, or the request given up, and the log has a line with it (model).
 abbrev pub HappensHandingOut : World → ℕ → ℕ → (Option Outcome → Line) → World → Type 0
 HappensHandingOut w client number line new =
     (x : ClientSide) × At w.clients client x × (number < x.core.issued)

@@ -27,14 +27,14 @@ use Rattle.ca_model_whole.specs.Messages.{bare, cancel_told, error_told, no_cid,
 use Rattle.ca_model_whole.specs.Faults.{base_type_of, early_put_fault, late_put_fault, mask_in, read_fault, read_shown, subscription_fault, type_of}
 use Rattle.ca_model_whole.specs.Ends.{ServerPart, Subscription}
 
--- What a server knows when it handles a message: its records and rules, its two lists, and the circuit's end.
+-- What a server knows when it handles a message: its records and rules, its two lists, and the circuit's end (model).
 pub record Desk : Type 0 where
   pub records : List RecordState
   pub rules : List Rule
   pub log : ServerLog
   pub part : ServerPart
 
--- What a message does beside its replies.
+-- What a message does beside its replies ("CA Protocol Messages").
 pub data Deed : Type 0 where
   Nothing : Deed
   -- the peer greeted, or named itself
@@ -52,11 +52,11 @@ pub data Deed : Type 0 where
   -- events are turned on or off
   Switches : Bool → Deed
 
--- the open channels
+-- the open channels ("Channels")
 abbrev pub IsOpenAt : Desk → Seat → Type 0
 IsOpenAt d = IsSeat d.part.basic.seats
 
--- The channel that is open under this SID, its record, and that record's value.
+-- The channel that is open under this SID, its record, and that record's value ("Channels").
 pub record Serves (d : Desk) (sid : ℕ) : Type 0 where
   pub seat : Seat
   pub is_open : IsOpenAt d seat
@@ -66,14 +66,14 @@ pub record Serves (d : Desk) (sid : ℕ) : Type 0 where
   pub stored : Stored
   pub present : value_of d.records d.log seat.name ≡ Some stored
 
--- the rights on a channel, which stay for its life
+-- the access rights on a channel, which stay for its life ("CA_PROTO_ACCESS_RIGHTS")
 abbrev pub rights_at : (d : Desk) → List ℕ → ℕ
 rights_at d name = rights d.rules d.part.peer name
 
 -- ---- CREATE_CHAN ("CA_PROTO_CREATE_CHAN")
 
 -- A channel is created: its name is a record's, its CID is not in use, and it gets a SID that no open channel has. Which one is
--- the server's choice. ACCESS_RIGHTS goes before the answer.
+-- the server's choice. ACCESS_RIGHTS goes before the answer ("CA_PROTO_CREATE_CHAN").
 pub record IsCreated (d : Desk) (m : Fields) (replies : List Fields) (deed : Deed) : Type 0 where
   pub state : RecordState
   pub named : record_of d.records (text_in m.payload) ≡ Some state
@@ -85,8 +85,8 @@ pub record IsCreated (d : Desk) (m : Fields) (replies : List Fields) (deed : Dee
   pub are : replies ≡ rights_told m (rights_at d state.name) ∷ created_reply m state sid ∷ []
   pub does : deed ≡ Opens (record { sid = sid; cid = m.p1; name = text_in m.payload })
 
--- It is not: no record has its name, its CID is in use, or no SID is free: so many channels are open, or so many were created that SIDs
--- are used up.
+-- A channel is not created: no record has its name, its CID is in use, or no SID is free: so many channels are open, or so many were
+-- created that SIDs are used up ("CA_PROTO_CREATE_CH_FAIL").
 pub record IsNotCreated (d : Desk) (m : Fields) (replies : List Fields) (deed : Deed) : Type 0 where
   pub why : (record_of d.records (text_in m.payload) ≡ None) ⊎ (((seat : Seat) × IsOpenAt d seat × (seat.cid ≡ m.p1)) ⊎ ((channel_limit ≤ length d.part.basic.seats) ⊎ (2 ^ 32 ≤ d.part.basic.made + 1)))
   pub are : replies ≡ failed_reply m ∷ []
@@ -94,7 +94,7 @@ pub record IsNotCreated (d : Desk) (m : Fields) (replies : List Fields) (deed : 
 
 -- ---- READ_NOTIFY ("CA_PROTO_READ_NOTIFY")
 
--- the reply to a read on an open channel: its first fault, or the elements that it is shown
+-- the reply to a read on an open channel: its first fault, or the elements that it is shown ("CA_PROTO_READ_NOTIFY")
 abbrev pub ReadReply : Desk → Fields → List Fields → Type 0
 ReadReply d m replies =
     (c : Serves d m.p1)
@@ -104,34 +104,34 @@ ReadReply d m replies =
 
 -- ---- WRITE and WRITE_NOTIFY ("CA_PROTO_WRITE", "CA_PROTO_WRITE_NOTIFY")
 
--- the elements of a put are those at the front of its payload
+-- the elements of a put are those at the front of its payload ("CA_PROTO_WRITE", "CA_PROTO_WRITE_NOTIFY")
 pub record PutReads (m : Fields) (e : Elements) : Type 0 where
   pub base : BaseType
   pub typed : base_type_of m.data_type ≡ Some base
   pub reads : ReadsElements base m.count m.payload e
 
--- the first fault of a put on an open channel, before its elements are read
+-- the first fault of a put on an open channel, before its elements are read ("CA_PROTO_WRITE", "CA_PROTO_WRITE_NOTIFY")
 abbrev pub early_fault : (d : Desk) (m : Fields) → Serves d m.p1 → Option ℕ
 early_fault d m c = early_put_fault c.state (rights_at d c.seat.name) m (base_type_of m.data_type)
 
--- a put with notification on this record would wait
+-- a put with notification on this record would wait ("CA_PROTO_WRITE_NOTIFY")
 abbrev pub must_wait : (d : Desk) (m : Fields) → Serves d m.p1 → Bool
 must_wait d m c = m.command == command_number command.WriteNotify && is_some (busy d.log c.seat.name)
 
--- and then of these elements
+-- and then the first fault of these elements ("CA_PROTO_WRITE", "CA_PROTO_WRITE_NOTIFY")
 abbrev pub late_fault : (d : Desk) (m : Fields) → Serves d m.p1 → Elements → Option ℕ
 late_fault d m c e = late_put_fault c.state (must_wait d m c) (length (waiting d.log c.seat.name)) e
 
--- the status by which a put on an open channel is refused
+-- the status code by which a put on an open channel is refused ("CA_PROTO_WRITE", "CA_PROTO_WRITE_NOTIFY")
 abbrev pub PutRefused : (d : Desk) (m : Fields) → Serves d m.p1 → ℕ → Type 0
 PutRefused d m c status =
     (early_fault d m c ≡ Some status) ⊎ ((early_fault d m c ≡ None) × ((e : Elements) × PutReads m e × (late_fault d m c e ≡ Some status)))
 
--- the metadata of a write: status and severity 0, and the time stamp that was handed in last, which is 0 in a world
+-- the metadata of a write: status and severity 0, and the time stamp that was handed in last, which is 0 in a world ("Payload Data Types")
 abbrev pub written_meta : Meta
 written_meta = record { status = 0; severity = 0; seconds = 0; nanos = 0 }
 
--- The value that a put without fault writes, in the record's native type.
+-- The value that a put without fault writes, in the record's native type ("CA_PROTO_WRITE", "CA_PROTO_WRITE_NOTIFY").
 pub record PutTaken (d : Desk) (m : Fields) (c : Serves d m.p1) (stored : Stored) : Type 0 where
   pub elements : Elements
   pub early : early_fault d m c ≡ None
@@ -140,7 +140,7 @@ pub record PutTaken (d : Desk) (m : Fields) (c : Serves d m.p1) (stored : Stored
   pub value : converted elements (native c.state) ≡ Ok stored.value
   pub meta : stored.meta ≡ written_meta
 
--- A WRITE is applied at once and has no reply; a refused one is answered by ERROR.
+-- A WRITE is applied at once and has no reply; a refused one is answered by ERROR ("CA_PROTO_WRITE").
 abbrev pub WriteDue : Desk → ℕ → ℕ → Fields → List Fields → Deed → Type 0
 WriteDue d circuit place m replies deed =
     (c : Serves d m.p1)
@@ -148,13 +148,13 @@ WriteDue d circuit place m replies deed =
     ⊎ ((stored : Stored) × PutTaken d m c stored × (replies ≡ []) × (deed ≡ Applies (record { circuit = circuit; place = place; name = c.seat.name; stored = stored; busies = false }))))
 
 -- A put with notification that is taken waits where the record is busy; else it is applied at once, and on a slow record it makes
--- the record busy, and its reply is due when that is finished.
+-- the record busy, and its reply is due when that is finished ("CA_PROTO_WRITE_NOTIFY").
 abbrev pub PutDeed : (d : Desk) (circuit place : ℕ) (m : Fields) → Serves d m.p1 → Stored → List Fields → Deed → Type 0
 PutDeed d circuit place m c stored replies deed =
     let w : Write = record { circuit = circuit; place = place; name = c.seat.name; stored = stored; busies = c.state.slow } in
     (deed ≡ (if must_wait d m c then Postpones w else Applies w)) × (replies ≡ (if c.state.slow then [] else put_told m normal ∷ []))
 
--- A put with notification on an open channel is refused in its reply, or taken.
+-- A put with notification on an open channel is refused in its reply, or taken ("CA_PROTO_WRITE_NOTIFY").
 abbrev pub PutDue : Desk → ℕ → ℕ → Fields → List Fields → Deed → Type 0
 PutDue d circuit place m replies deed =
     (c : Serves d m.p1)
@@ -163,16 +163,16 @@ PutDue d circuit place m replies deed =
 
 -- ---- EVENT_ADD ("CA_PROTO_EVENT_ADD")
 
--- the SID and the subscription id of a message
+-- the SID and the subscription id of a message ("CA_PROTO_EVENT_ADD")
 abbrev pub key_in : Fields → SubKey
 key_in m = record { sid = m.p1; sub = m.p2 }
 
--- the first fault of an EVENT_ADD on an open channel
+-- the first fault of an EVENT_ADD on an open channel ("CA_PROTO_EVENT_ADD")
 abbrev pub event_fault : (d : Desk) (m : Fields) → Serves d m.p1 → Option ℕ
 event_fault d m c =
     subscription_fault c.state (rights_at d c.seat.name) (list_any (λ (s : Subscription). same (key_in m) s.key) d.part.subscriptions) (length d.part.subscriptions) m (type_of m.data_type)
 
--- A subscription on an open channel is refused by ERROR, or begins, without a reply.
+-- A subscription on an open channel is refused by ERROR, or begins, without a reply ("CA_PROTO_EVENT_ADD").
 abbrev pub EventDue : Desk → ℕ → Fields → List Fields → Deed → Type 0
 EventDue d place m replies deed =
     (c : Serves d m.p1)
@@ -182,15 +182,15 @@ EventDue d place m replies deed =
 
 -- ---- every command
 
--- a SID that no open channel has: BADCHID, in the reply that the command has, or by ERROR
+-- a SID that no open channel has: BADCHID, in the reply that the command has, or by ERROR ("Status Codes")
 abbrev pub IsStray : Desk → Fields → List Fields → Fields → Deed → Type 0
 IsStray d m replies reply deed = SidIsFree (IsOpenAt d) m.p1 × (replies ≡ reply ∷ []) × (deed ≡ Nothing)
 
--- a name that the peer gives itself, before a channel was created
+-- a name that the peer gives itself, before a channel was created ("CA_PROTO_CLIENT_NAME", "CA_PROTO_HOST_NAME")
 abbrev pub names_it : Desk → Peer → Deed
 names_it d p = if d.part.basic.made == 0 then Names p else Nothing
 
--- the commands that a server acts on
+-- the commands that a server acts on ("CA Protocol Messages")
 abbrev pub is_known : ℕ → Bool
 is_known n =
     list_any (λ (c : Command). n == command_number c) (
@@ -198,8 +198,8 @@ is_known n =
     ∷ command.CreateChannel ∷ command.WriteNotify ∷ command.ClientName ∷ command.HostName ∷ command.Echo ∷ []
     )
 
--- The message at this place of this circuit is due these replies, and does this. A message with any other command is skipped
--- by its length; every EVENT_CANCEL is confirmed and every CLEAR_CHANNEL is answered; of VERSIONs only the first is.
+-- The message at this place of this circuit is due these replies, and does this. A message with any other command is skipped by its length;
+-- every EVENT_CANCEL is confirmed and every CLEAR_CHANNEL is answered; of VERSIONs only the first is ("CA Protocol Messages").
 pub record Due (d : Desk) (circuit place : ℕ) (m : Fields) (replies : List Fields) (deed : Deed) : Type 0 where
   pub version : m.command ≡ command_number command.Version → (replies ≡ (if d.part.basic.greeted then [] else version_reply ∷ [])) × (deed ≡ Greets)
   pub user : m.command ≡ command_number command.ClientName → (replies ≡ []) × (deed ≡ names_it d (record d.part.peer { user = text_in m.payload }))

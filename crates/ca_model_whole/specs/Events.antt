@@ -5,7 +5,7 @@ use Rattle.ca_dbr.specs.Elements.{Elements}
 use Rattle.ca_model.specs.declared.data.Event.{Event as SmallEvent}
 use Rattle.ca_model_whole.specs.Client.{Address}
 
--- What may happen to a world.
+-- What may happen to a world (model).
 pub data Event : Type 0 where
   -- those of the small world: a channel is opened, a read issued, a circuit accepted, bytes reach the server or the client, an end
   -- steps or is cut

@@ -34,17 +34,18 @@ abbrev pub ErrorMeans : Fields → Outcome → Type 0
 ErrorMeans m (outcome.Failed status) = (m.command ≡ command_number command.Error) × (status.number ≡ m.p2)
 ErrorMeans m _ = ⊥
 
--- The outcome of a reply: of a read, as in the small world, its value, or why its payload has none, or its status.
+-- The outcome of a reply: of a read, as in the small world, its value, or why its payload has none, or its status
+-- ("CA_PROTO_READ_NOTIFY", "CA_PROTO_WRITE_NOTIFY", "CA_PROTO_ERROR").
 abbrev pub ReplyMeans : Fields → Outcome → Type 0
 ReplyMeans m o =
     ((m.command ≡ command_number command.ReadNotify) × OutcomeOf m o) ⊎ (((m.command ≡ command_number command.WriteNotify) × PutMeans m o) ⊎ ErrorMeans m o)
 
--- A message answers a request of this command and id: by its reply, or by an ERROR that quotes it.
+-- A message answers a request of this command and id: by its reply, or by an ERROR that quotes it ("Message Identifiers").
 abbrev pub Answers : Fields → ℕ → Id → Type 0
 Answers m c id =
     ((m.command ≡ c) × (id_spoken m ≡ Some id)) ⊎ ((h : Header) × Quotes m h × (h.command ≡ c) × (id_quoted m.p1 h ≡ Some id))
 
--- the command of a request
+-- the command of a request ("CA_PROTO_READ_NOTIFY", "CA_PROTO_WRITE_NOTIFY")
 abbrev pub command_of : Asked → ℕ
 command_of q = if q.puts then command_number command.WriteNotify else command_number command.ReadNotify
 
@@ -63,15 +64,15 @@ pub record HearsRights (x : Client) (k : ℕ) (m : Fields) (sent : List Sent) (t
   pub tells : told ≡ []
   pub leaves : new ≡ record x { channels = slice_set x.channels channel (record here { rights = m.p2 }) }
 
--- the subscription at this place is one of this channel
+-- the subscription at this place is one of this channel ("Monitors")
 abbrev pub IsOfChannel : Client → ℕ → ℕ → Type 0
 IsOfChannel x channel place = (s : Subscribed) × At x.subscriptions place s × (s.channel ≡ channel)
 
--- the index of the id of the subscription at this place
+-- the index of the id of the subscription at this place (model)
 abbrev pub sub_index : Client → ℕ → ℕ
 sub_index x place = unwrap_or (option_map (λ (s : Subscribed). index_of s.id) (slice_get x.subscriptions place)) 0
 
--- the EVENT_ADD of the subscription at this place, under this SID
+-- the EVENT_ADD of the subscription at this place, under this SID ("CA_PROTO_EVENT_ADD")
 abbrev pub IsEventAdd : Client → ℕ → ℕ → Sent → Type 0
 IsEventAdd x sid place s =
     (here : Subscribed) × At x.subscriptions place here × (s ≡ record { message = event_add_request sid here.id here.data_type here.count here.mask; intent = intent.Subscribe here.channel here.number })
@@ -129,7 +130,7 @@ pub record HearsCleared (x : Client) (k : ℕ) (m : Fields) (sent : List Sent) (
 
 -- ---- requests
 
--- An open request completes with the outcome of its answer.
+-- An open request completes with the outcome of its answer ("CA_PROTO_READ_NOTIFY", "CA_PROTO_WRITE_NOTIFY").
 pub record HearsAnswer (x : Client) (k : ℕ) (m : Fields) (sent : List Sent) (told : List Telling) (new : Client) : Type 0 where
   pub place : ℕ
   pub q : Asked
@@ -142,7 +143,7 @@ pub record HearsAnswer (x : Client) (k : ℕ) (m : Fields) (sent : List Sent) (t
   pub tells : told ≡ telling.Basic (notice.Completed q.basic.number result) ∷ []
   pub leaves : new ≡ record x { requests = remove x.requests place }
 
--- What comes back for an id that drains ends its draining: the answer to a request, the confirmation of a cancel.
+-- What comes back for an id that drains ends its draining: the answer to a request, the confirmation of a cancel ("Message Identifiers").
 pub record HearsLate (x : Client) (k : ℕ) (m : Fields) (sent : List Sent) (told : List Telling) (new : Client) : Type 0 where
   pub place : ℕ
   pub d : Draining
@@ -157,7 +158,7 @@ pub record HearsLate (x : Client) (k : ℕ) (m : Fields) (sent : List Sent) (tol
 
 -- ---- subscriptions and plain writes
 
--- the subscription at this place stands under this id, on a channel that is live on this circuit
+-- the subscription at this place stands under this id, on a channel that is live on this circuit ("Monitors")
 pub record Stands (x : Client) (k place id : ℕ) (s : Subscribed) : Type 0 where
   pub at : At x.subscriptions place s
   pub under : s.id ≡ id
@@ -178,7 +179,7 @@ pub record HearsUpdate (x : Client) (k : ℕ) (m : Fields) (sent : List Sent) (t
   pub tells : told ≡ telling.Update s.number result ∷ []
   pub leaves : new ≡ x
 
--- The server refused a subscription that stands: it ends, and its id is free.
+-- The server refused a subscription that stands: it ends, and its id is free ("CA_PROTO_ERROR").
 pub record HearsRefused (x : Client) (k : ℕ) (m : Fields) (sent : List Sent) (told : List Telling) (new : Client) : Type 0 where
   pub place : ℕ
   pub s : Subscribed
@@ -189,7 +190,7 @@ pub record HearsRefused (x : Client) (k : ℕ) (m : Fields) (sent : List Sent) (
   pub tells : told ≡ telling.SubscriptionEnded s.number m.p2 ∷ []
   pub leaves : new ≡ record x { subscriptions = remove x.subscriptions place }
 
--- The server refused a plain write on a channel that is live.
+-- The server refused a plain write on a channel that is live ("CA_PROTO_ERROR").
 pub record HearsWriteRefused (x : Client) (k : ℕ) (m : Fields) (sent : List Sent) (told : List Telling) (new : Client) : Type 0 where
   pub channel : ℕ
   pub here : Channel
@@ -204,7 +205,7 @@ pub record HearsWriteRefused (x : Client) (k : ℕ) (m : Fields) (sent : List Se
 -- ---- all messages
 
 -- A message that was read on this circuit is for a channel, a request or a subscription: these messages go out on the circuit, this is
--- told, and new is left.
+-- told, and new is left ("CA Protocol Messages").
 pub data Takes (x : Client) (k : ℕ) (m : Fields) (sent : List Sent) (told : List Telling) (new : Client) : Type 0 where
   Rights : HearsRights x k m sent told new → Takes x k m sent told new
   Created : HearsCreated x k m sent told new → Takes x k m sent told new
@@ -217,13 +218,13 @@ pub data Takes (x : Client) (k : ℕ) (m : Fields) (sent : List Sent) (told : Li
   Refused : HearsRefused x k m sent told new → Takes x k m sent told new
   WriteFailed : HearsWriteRefused x k m sent told new → Takes x k m sent told new
 
--- It is for nobody here and is skipped: its id is unknown, its command too, or the direction is wrong.
+-- It is for nobody here and is skipped: its id is unknown, its command too, or the direction is wrong ("CA Protocol Messages").
 pub record Skips (x : Client) (k : ℕ) (m : Fields) (sent : List Sent) (told : List Telling) (new : Client) : Type 0 where
   pub none : (s : List Sent) (t : List Telling) (n : Client) → Takes x k m s t n → ⊥
   pub sends : sent ≡ []
   pub tells : told ≡ []
   pub leaves : new ≡ x
 
--- What a client makes of a message.
+-- What a client makes of a message ("CA Protocol Messages").
 abbrev pub Hears : Client → ℕ → Fields → List Sent → List Telling → Client → Type 0
 Hears x k m sent told new = Takes x k m sent told new ⊎ Skips x k m sent told new

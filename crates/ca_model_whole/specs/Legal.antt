@@ -9,12 +9,12 @@ use Rattle.ca_model_whole.specs.NotTwice.{AtOnePlace, MeansWrite}
 use Rattle.ca_model_whole.specs.Sends.{LegalClient, LegalServer}
 use Rattle.ca_model_whole.specs.World.{Course, World}
 
--- an intent to read or to put as this request
+-- an intent to read or to put as this request ("CA_PROTO_READ_NOTIFY", "CA_PROTO_WRITE_NOTIFY")
 abbrev pub MeansRequest : ℕ → Intent → Type 0
 MeansRequest number i = request_in i ≡ Some number
 
 -- Each end sends on its circuit only what it may; an accepted read or write stands at one place; and a subscription has at most one
--- EVENT_ADD on a circuit: one at its call, and one for each later time that its channel becomes live.
+-- EVENT_ADD on a circuit: one at its call, and one for each later time that its channel becomes live ("Message Identifiers").
 pub record Legal (w : World) : Type 0 where
   pub clients : (k : ℕ) (c : Course) → At w.courses k c → LegalClient c.state.history
   pub servers : (k : ℕ) (c : Course) → At w.courses k c → LegalServer c.state.history

@@ -1,3 +1,5 @@
+-- Each definition's comment ends with the title of its section in the Channel Access Protocol Specification, or with (model) where it is
+-- of this text alone.
 pub mod Records
 pub mod Log
 pub mod Messages

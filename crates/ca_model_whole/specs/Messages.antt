@@ -26,14 +26,14 @@ clear_request sid cid = record { command = command_number command.ClearChannel; 
 
 -- ---- of the client
 
--- WRITE or WRITE_NOTIFY: the value in its own type, the SID, and the IOID, which is 0 in a WRITE ("CA_PROTO_WRITE",
--- "CA_PROTO_WRITE_NOTIFY")
+-- WRITE or WRITE_NOTIFY: the value in its own type, the SID, and the IOID, which is 0 in a WRITE
+-- ("CA_PROTO_WRITE", "CA_PROTO_WRITE_NOTIFY")
 abbrev pub put_request : Command → ℕ → ℕ → Elements → Fields
 put_request c sid ioid e =
     record { command = command_number c; data_type = base_number (base_of e); count = count_of e; p1 = sid; p2 = ioid; payload = padded (bytes_of e) }
 
--- EVENT_ADD: the type and count that are wanted, the SID and the subscription id; in the payload twelve bytes, the mask,
--- and two bytes ("CA_PROTO_EVENT_ADD")
+-- EVENT_ADD: the type and count that are wanted, the SID and the subscription id; in the payload three floats of 0, the mask, and padding
+-- ("CA_PROTO_EVENT_ADD")
 abbrev pub event_add_request : ℕ → ℕ → ℕ → ℕ → ℕ → Fields
 event_add_request sid id data_type count mask =
     record { command = command_number command.EventAdd; data_type = data_type; count = count; p1 = sid; p2 = id; payload = replicate 12 0 ++ (bytes_2 mask ++ replicate 2 0) }
@@ -69,7 +69,7 @@ abbrev pub error_told : ℕ → ℕ → Fields → Fields
 error_told cid status m =
     record { command = command_number command.Error; data_type = 0; count = 0; p1 = cid; p2 = status; payload = header_spelling (header_of m) ++ replicate 8 0 }
 
--- in place of a CID, where the SID is unknown
+-- what stands in place of a CID, where the SID is unknown ("CA_PROTO_ERROR")
 abbrev pub no_cid : ℕ
 no_cid = 2 ^ 32 - 1
 

@@ -21,24 +21,24 @@ use Rattle.ca_model_whole.specs.Client.{Address, Channel, Client, Connecting, On
 use Rattle.ca_model_whole.specs.Ends.{ClientPart, new_part}
 use Rattle.ca_model_whole.specs.World.{ClientSide, Course, ServerSide, World, client_closed, sending, waiting_down, waiting_up, with_client, with_course}
 
--- both are one address
+-- both are one address ("Virtual Circuit")
 abbrev pub same_address : Address → Address → Bool
 same_address a b = a.host == b.host && a.port == b.port
 
 -- ---- a circuit is accepted
 
--- the server at this address
+-- the server at this address ("Virtual Circuit")
 pub record IsAt (w : World) (a : Address) (server : ℕ) (y : ServerSide) : Type 0 where
   pub at : At w.servers server y
   pub addressed : y.address ≡ a
 
--- The client's first wanted circuit whose address has a server.
+-- The client's first wanted circuit whose address has a server ("Virtual Circuit").
 pub record WantsFirst (w : World) (x : ClientSide) (place : ℕ) (v : Wanted) (server : ℕ) (y : ServerSide) : Type 0 where
   pub at : At x.core.wanted place v
   pub there : IsAt w v.address server y
   pub first : (i : ℕ) (u : Wanted) (s : ℕ) (z : ServerSide) → i < place → At x.core.wanted i u → IsAt w u.address s z → ⊥
 
--- the channel of this number waits for that circuit
+-- the channel of this number waits for that circuit ("Virtual Circuit")
 abbrev pub WaitsFor : Client → Wanted → ℕ → Type 0
 WaitsFor x v n = (here : Channel) × At x.channels n here × (waits_for v here.standing here.priority ≡ true)
 
@@ -46,15 +46,15 @@ WaitsFor x v n = (here : Channel) × At x.channels n here × (waits_for v here.s
 abbrev pub IsCreation : Client → ℕ → Sent → Type 0
 IsCreation x n s = (here : Channel) × At x.channels n here × (s ≡ record { message = create_request here.cid here.name; intent = intent.Create n })
 
--- its channels are being created on circuit k, with no rights told yet
+-- its channels are being created on circuit k, with no rights told yet ("CA_PROTO_CREATE_CHAN")
 abbrev pub creating : Wanted → ℕ → Channel → Channel
 creating v k c = if waits_for v c.standing c.priority then record c { rights = 0; standing = On k phase.Creating } else c
 
--- the client whose circuit k that wanted one is
+-- the client whose circuit k that wanted one is ("Virtual Circuit")
 abbrev pub connected : Client → ℕ → Wanted → ℕ → Client
 connected x place v k = record x { channels = map (creating v k) x.channels; wanted = remove x.wanted place }
 
--- a circuit of this client and server, on which nothing was sent
+-- a circuit of this client and server, on which nothing was sent ("Virtual Circuit")
 abbrev pub new_course : World → ℕ → ClientSide → ℕ → ServerSide → ℕ → Course
 new_course w client x server y priority = record {
   state = record {
@@ -76,11 +76,11 @@ new_course w client x server y priority = record {
   at_server = new_part;
 }
 
--- circuits that a server has
+-- circuits that a server has ("Virtual Circuit")
 abbrev pub is_served_by : ℕ → Course → Bool
 is_served_by server c = c.state.server == server && c.state.server_open
 
--- The set-up goes up, and then each of its channels is created, in order of index.
+-- The set-up goes up, and then each of its channels is created, in order of index ("Virtual Circuit").
 pub record Connects (w : World) (client : ℕ) (x : ClientSide) (place : ℕ) (v : Wanted) (server : ℕ) (y : ServerSide) (new : World) : Type 0 where
   pub numbers : List ℕ
   pub order : AreInOrder (WaitsFor x.core v) (channel_index x.core) numbers
@@ -91,13 +91,13 @@ pub record Connects (w : World) (client : ℕ) (x : ClientSide) (place : ℕ) (v
       let c : Course = sending (map meant_circuit (set_up x.core.peer.user x.core.peer.host v.priority) ++ creations) (new_course w client x server y v.priority) in
       new ≡ record w { clients = slice_set w.clients client (record x { core = connected x.core place v k }); courses = w.courses ++ c ∷ [] }
 
--- For want of memory the client's end has ended at once, and its channels are searched for again.
+-- For want of memory the client's end has ended at once, and its channels are searched for again ("Virtual Circuit").
 abbrev pub ConnectsNot : World → ℕ → ClientSide → ℕ → Wanted → ℕ → ServerSide → World → Type 0
 ConnectsNot w client x place v server y new =
     let k : ℕ = length w.courses in
     new ≡ record w { clients = slice_set w.clients client (record x { core = ended (λ j. j == k) (connected x.core place v k) }); courses = w.courses ++ client_closed (new_course w client x server y v.priority) ∷ [] }
 
--- A server that has as many circuits as it may refuses: it makes none and tells nothing.
+-- A server that has as many circuits as it may refuses: it makes none and tells nothing ("Virtual Circuit").
 abbrev pub HappensAccept : World → ℕ → World → Type 0
 HappensAccept w client new =
     (x : ClientSide) × At w.clients client x × (place : ℕ) × (v : Wanted) × (server : ℕ) × (y : ServerSide) × WantsFirst w x place v server y
@@ -105,25 +105,25 @@ HappensAccept w client new =
 
 -- ---- bytes move
 
--- the first n bytes that wait leave the client's end, or what it left
+-- the first n bytes that wait leave the client's end, or what it left ("Virtual Circuit")
 abbrev pub up_taken : ℕ → Course → Course
 up_taken n c =
     if c.state.client_open then record c { at_client = record c.at_client { basic = record c.at_client.basic { output = drop n c.at_client.basic.output } } } else record c { state = record c.state { left_up = drop n c.state.left_up } }
 
--- the first n bytes that wait leave the server's end, or what it left
+-- the first n bytes that wait leave the server's end, or what it left ("Virtual Circuit")
 abbrev pub down_taken : ℕ → Course → Course
 down_taken n c =
     if c.state.server_open then record c { at_server = record c.at_server { basic = record c.at_server.basic { output = drop n c.at_server.basic.output } } } else record c { state = record c.state { left_down = drop n c.state.left_down } }
 
--- these bytes reach the server
+-- these bytes reach the server ("Virtual Circuit")
 abbrev pub server_given : List ℕ → Course → Course
 server_given bytes c = record c { at_server = record c.at_server { basic = record c.at_server.basic { input = c.at_server.basic.input ++ bytes } } }
 
--- these bytes reach the client
+-- these bytes reach the client ("Virtual Circuit")
 abbrev pub client_given : List ℕ → Course → Course
 client_given bytes c = record c { at_client = record c.at_client { basic = record c.at_client.basic { input = c.at_client.basic.input ++ bytes } } }
 
--- A beginning of what waits reaches the server.
+-- A beginning of what waits reaches the server ("Virtual Circuit").
 pub record HappensUp (w : World) (k n : ℕ) (new : World) : Type 0 where
   pub c : Course
   pub at : At w.courses k c
@@ -131,15 +131,15 @@ pub record HappensUp (w : World) (k n : ℕ) (new : World) : Type 0 where
   pub enough : n ≤ length (waiting_up c)
   pub leaves : new ≡ with_course w k (server_given (take n (waiting_up c)) (up_taken n c))
 
--- bytes that came end a silence
+-- bytes that came end a silence ("CA_PROTO_ECHO")
 abbrev pub heard_from : ℕ → ℕ → ClientPart → ClientPart
 heard_from moment n e = if n == 0 then e else record e { heard_at = moment; echoed = false }
 
--- A read that left bytes waiting is counted, and one that left none begins the count anew.
+-- A read that left bytes waiting is counted, and one that left none begins the count anew ("CA_PROTO_EVENTS_OFF").
 abbrev pub counted : Bool → ClientPart → ClientPart
 counted more e = record e { reads = if more && not e.events_off then e.reads + 1 else 0 }
 
--- the client asked for a pause, or for their return, and counts anew
+-- the client asked for a pause, or for their return, and counts anew ("CA_PROTO_EVENTS_OFF", "CA_PROTO_EVENTS_ON")
 abbrev pub with_events_off : Bool → Course → Course
 with_events_off off c = record c { at_client = record c.at_client { events_off = off; reads = 0 } }
 
@@ -149,7 +149,7 @@ abbrev pub with_flow : Bool → Course → Course
 with_flow more c =
     if not c.at_client.events_off && c.at_client.reads == 10 then sending (meant_circuit (bare command.EventsOff) ∷ []) (with_events_off true c) else if c.at_client.events_off && not more then sending (meant_circuit (bare command.EventsOn) ∷ []) (with_events_off false c) else c
 
--- A beginning of what waits reaches the client, which is told whether more waits, and may send something then.
+-- A beginning of what waits reaches the client, which is told whether more waits, and may send something then ("Virtual Circuit").
 pub record Delivers (w : World) (k n : ℕ) (sends : Bool → Course → Course) (new : World) : Type 0 where
   pub c : Course
   pub at : At w.courses k c
@@ -160,7 +160,7 @@ pub record Delivers (w : World) (k n : ℕ) (sends : Bool → Course → Course)
       let given : Course = client_given (take n (waiting_down c)) (down_taken n c) in
       new ≡ with_course w k (sends more (record given { at_client = counted more (heard_from w.moment n given.at_client) }))
 
--- bytes reach the client, which may ask for a pause of updates, or for their return
+-- bytes reach the client, which may ask for a pause of updates, or for their return ("CA_PROTO_EVENTS_OFF", "CA_PROTO_EVENTS_ON")
 abbrev pub HappensDown : World → ℕ → ℕ → World → Type 0
 HappensDown w k n new = Delivers w k n with_flow new
 
@@ -170,7 +170,7 @@ HappensDown w k n new = Delivers w k n with_flow new
 abbrev pub found_at : Address → Fields → Address
 found_at from m = record { host = if m.p1 == 2 ^ 32 - 1 then from.host else m.p1; port = m.data_type }
 
--- circuit k is the open one of this client to this address and priority
+-- circuit k is the open one of this client to this address and priority ("Virtual Circuit")
 pub record Carries (w : World) (client life : ℕ) (v : Wanted) (k : ℕ) (c : Course) : Type 0 where
   pub at : At w.courses k c
   pub mine : c.state.client ≡ client
@@ -180,16 +180,16 @@ pub record Carries (w : World) (client life : ℕ) (v : Wanted) (k : ℕ) (c : C
   pub y : ServerSide
   pub there : IsAt w v.address c.state.server y
 
--- both are one circuit
+-- both are one circuit ("Virtual Circuit")
 abbrev pub same_wanted : Wanted → Wanted → Bool
 same_wanted u v = same_address u.address v.address && u.priority == v.priority
 
--- the circuit stands behind the others that are wanted, where it is not among them
+-- the circuit stands behind the others that are wanted, where it is not among them ("Virtual Circuit")
 abbrev pub wanting : Wanted → Client → Client
 wanting v x = record x { wanted = if list_any (same_wanted v) x.wanted then x.wanted else x.wanted ++ v ∷ [] }
 
 -- A search reply for a channel that is searched for, by its CID: the channel is created at once where its circuit is connected, and else
--- wants that circuit.
+-- wants that circuit ("CA_PROTO_SEARCH").
 pub record Finds (w : World) (client : ℕ) (from : Address) (m : Fields) (new : World) : Type 0 where
   pub x : ClientSide
   pub side : At w.clients client x
@@ -205,18 +205,18 @@ pub record Finds (w : World) (client : ℕ) (from : Address) (m : Fields) (new :
       ⊎ (((k : ℕ) (c : Course) → Carries w client (length x.past) v k c → ⊥)
       × (new ≡ with_client w client (record x { core = wanting v (with_standing x.core n here (Connecting v.address)) })))
 
--- One message of a datagram: every SEARCH is taken for a reply, and all others do nothing to circuits.
+-- One message of a datagram: every SEARCH is taken for a reply, and all others do nothing to circuits ("Name Searching").
 abbrev pub TakesOne : ℕ → Address → World → Fields → World → Type 0
 TakesOne client from w m new =
     ((m.command ≡ command_number command.Search) × Finds w client from m new)
     ⊎ (((m.command ≡ command_number command.Search) → (other : World) → Finds w client from m other → ⊥) × (new ≡ w))
 
--- A datagram is read as far as it is good: its messages, in order.
+-- A datagram is read as far as it is good: its messages, in order ("Name Searching").
 abbrev pub HappensClientDatagram : World → ℕ → Address → List ℕ → World → Type 0
 HappensClientDatagram w client from bytes new =
     (x : ClientSide) × At w.clients client x × (ms : List Fields) × (rest : List ℕ) × IsStream bytes ms rest × FoldsTo (TakesOne client from) w ms new
 
--- A server answers a datagram, and is as it was.
+-- A server answers a datagram, and is as it was ("Name Searching").
 abbrev pub HappensServerDatagram : World → ℕ → World → Type 0
 HappensServerDatagram w server new = (y : ServerSide) × At w.servers server y × (new ≡ w)
 
@@ -224,11 +224,11 @@ HappensServerDatagram w server new = (y : ServerSide) × At w.servers server y �
 abbrev pub search_told : Address → Fields → Fields
 search_told a m = record { command = command_number command.Search; data_type = a.port; count = 0; p1 = 2 ^ 32 - 1; p2 = m.p2; payload = 0 ∷ 13 ∷ 0 ∷ 0 ∷ 0 ∷ 0 ∷ 0 ∷ 0 ∷ [] }
 
--- what is due for one message of a datagram
+-- what is due for one message of a datagram ("CA_PROTO_SEARCH")
 abbrev pub search_due : Address → List RecordState → Fields → List Fields
 search_due a records m =
     if m.command == command_number command.Search && is_some (record_of records (text_in m.payload)) then search_told a m ∷ [] else []
 
--- The replies to a datagram, in the order of its searches: in datagrams of one VERSION and at most 42 replies each.
+-- The replies to a datagram, in the order of its searches: in datagrams of one VERSION and at most 42 replies each ("CA_PROTO_SEARCH").
 abbrev pub Replies : Address → List RecordState → List ℕ → List Fields → Type 0
 Replies a records bytes replies = (ms : List Fields) × (rest : List ℕ) × IsStream bytes ms rest × (replies ≡ flat_map (search_due a records) ms)

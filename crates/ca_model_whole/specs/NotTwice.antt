@@ -20,33 +20,33 @@ use Rattle.ca_model_whole.specs.Ids.{channel_in}
 use Rattle.ca_model_whole.specs.OwnOnce.{Stands}
 use Rattle.ca_model_whole.specs.World.{Course, Lives, Served, World}
 
--- An entry of the log of some life of some server applies this write.
+-- An entry of the log of some life of some server applies this write (model).
 pub record IsApplied (w : World) (server life index : ℕ) (v : Write) : Type 0 where
   pub records : List RecordState
   pub log : ServerLog
   pub served : Served w server life records log
   pub at : At log.entries index (Applied v)
 
--- No log of any life has a write of this place.
+-- No log of any life has a write of this place (model).
 abbrev pub IsUnapplied : World → ℕ → ℕ → Type 0
 IsUnapplied w circuit place = (server life index : ℕ) (v : Write) → IsApplied w server life index v → v.circuit ≡ circuit → v.place ≡ place → ⊥
 
--- An intent to put with notification as this request, or to write as this plain write.
+-- an intent to put with notification as this request ("CA_PROTO_WRITE_NOTIFY")
 abbrev pub MeansPut : ℕ → Intent → Type 0
 MeansPut number i = (channel : ℕ) × (i ≡ intent.WriteNotify channel number)
 
--- an intent to write as this plain write
+-- an intent to write as this plain write ("CA_PROTO_WRITE")
 abbrev pub MeansWrite : ℕ → Intent → Type 0
 MeansWrite number i = (channel : ℕ) × (i ≡ intent.Write channel number)
 
--- the elements that the caller gave with an intent
+-- the elements that the caller gave with an intent ("CA_PROTO_WRITE", "CA_PROTO_WRITE_NOTIFY")
 abbrev pub Given : List Line → Intent → Elements → Type 0
 Given log (intent.Write channel n) e = At (writes_in log) n e
 Given log (intent.WriteNotify channel n) e = At (requests_in log) n (Some e)
 Given log _ e = ⊥
 
 -- A write that was applied stands at its place with its own value, in the native type of its own record, which is the one that its channel
--- names, at the server and in the life that the circuit joins.
+-- names, at the server and in the life that the circuit joins ("CA_PROTO_WRITE", "CA_PROTO_WRITE_NOTIFY").
 pub record HasOwnValue (w : World) (server life : ℕ) (records : List RecordState) (v : Write) : Type 0 where
   pub c : Course
   pub here : At w.courses v.circuit c
@@ -64,16 +64,16 @@ pub record HasOwnValue (w : World) (server life : ℕ) (records : List RecordSta
   pub gives : Given log s.intent given
   pub value : converted given (native state) ≡ Ok v.stored.value
 
--- an intent stands at one place: all places where it stands are one
+-- an intent stands at one place: all places where it stands are one (model)
 abbrev pub AtOnePlace : World → ℕ → ℕ → (Intent → Type 0) → Type 0
 AtOnePlace w client life Meant = (a b : Stands w client life Meant) → (a.which ≡ b.which) × (a.k ≡ b.k)
 
--- the outcome is that the server answered with a status
+-- the outcome is that the server answered with a status code ("Status Codes")
 abbrev pub IsFailed : Outcome → Type 0
 IsFailed (outcome.Failed status) = Unit {0}
 IsFailed _ = ⊥
 
--- The whole clause, over all logs of all lives.
+-- The whole clause, over all logs of all lives ("CA_PROTO_WRITE", "CA_PROTO_WRITE_NOTIFY").
 pub record NotTwice (w : World) : Type 0 where
   pub once : (server life index server' life' index' : ℕ) (v v' : Write) → IsApplied w server life index v → IsApplied w server' life' index' v' → v.circuit ≡ v'.circuit → v.place ≡ v'.place → (server ≡ server') × (life ≡ life') × (index ≡ index')
   pub own : (server life index : ℕ) (v : Write) (a : IsApplied w server life index v) → HasOwnValue w server life a.records v

@@ -29,7 +29,8 @@ use Rattle.ca_model_whole.specs.World.{Course, Lives, ServerSide, World, server_
 
 -- ---- each id is taken for its own
 
--- The ids in the server's messages: what the client gave an id to last, as of the reading, is what the message is about.
+-- The ids in the server's messages: what the client gave an id to last, as of the reading, is what the message is about
+-- ("Message Identifiers").
 pub record TakesOwnAt (h : History) (j k : ℕ) (id : Id) : Type 0 where
   pub last : ℕ
   pub took : Took h j id last
@@ -37,20 +38,22 @@ pub record TakesOwnAt (h : History) (j k : ℕ) (id : Id) : Type 0 where
   pub at : At h.up k own
   pub same : named_in id took.sent.intent ≡ named_in id own.intent
 
--- Each message that speaks of an id, and was sent because of the message at place k, is taken for what that message names.
+-- Each message that speaks of an id, and was sent because of the message at place k, is taken for what that message names
+-- ("Message Identifiers").
 abbrev pub TakesOwn : History → Type 0
 TakesOwn h = (j k : ℕ) (t : Told) (id : Id) → At h.down j t → place_in t.cause ≡ Some k → SpeaksOf t.message id → TakesOwnAt h j k id
 
 -- ---- each message is answered by what is due
 
--- The text of the last message of this command that came before a channel was created, or the empty text where none did.
+-- The text of the last message of this command that came before a channel was created, or the empty text where none did
+-- ("CA_PROTO_CLIENT_NAME", "CA_PROTO_HOST_NAME").
 pub record IsNamed (h : History) (k : ℕ) (c : Command) (text : List ℕ) : Type 0 where
   pub named :
       ((l before : ℕ) × (m : Fields) × (l < k) × At (sent_in h) l m × (m.command ≡ command_number c) × At h.handled l before × (created_by (take before h.down) ≡ 0) × (text ≡ text_in m.payload))
       ⊎ (text ≡ [])
   pub last : (l before : ℕ) (m : Fields) → l < k → At (sent_in h) l m → m.command ≡ command_number c → At h.handled l before → created_by (take before h.down) ≡ 0 → (n : ℕ) × (r : Fields) × (l ≤ n) × (n < k) × At (sent_in h) n r × (r.command ≡ command_number c) × (text ≡ text_in r.payload)
 
--- A subscription stands when the message at place k is handled: its EVENT_ADD had no reply, and nothing ended it.
+-- A subscription stands when the message at place k is handled: its EVENT_ADD had no reply, and nothing ended it ("CA_PROTO_EVENT_ADD").
 pub record IsStanding (c : Course) (k before : ℕ) (s : Subscription) : Type 0 where
   pub early : s.place < k
   pub add : Fields
@@ -60,7 +63,8 @@ pub record IsStanding (c : Course) (k before : ℕ) (s : Subscription) : Type 0 
   pub accepted : (j : ℕ) (t : Told) → j < before → At c.state.history.down j t → t.cause ≡ cause.Reply s.place → ⊥
   pub lasts : (sent : ℕ) (e : EndedAt c.state.history s.place add sent) → e.l < k → ⊥
 
--- What the server knew when it handled the message at place k, of which it had sent so many before: all of it is read off the lists.
+-- What the server knew when it handled the message at place k, of which it had sent so many before: all of it is read
+-- off the lists (model).
 pub record Knew (y : ServerSide) (l : ServerLog) (c : Course) (k before : ℕ) (d : Desk) : Type 0 where
   pub records : d.records ≡ y.records
   pub rules : d.rules ≡ y.rules
@@ -77,12 +81,12 @@ pub record Knew (y : ServerSide) (l : ServerLog) (c : Course) (k before : ℕ) (
   pub only : (i : ℕ) (s : Subscription) → At d.part.subscriptions i s → IsStanding c k before s
   pub apart : (i j : ℕ) (r s : Subscription) → At d.part.subscriptions i r → At d.part.subscriptions j s → r.key ≡ s.key → i ≡ j
 
--- the put's reply comes when its record is finished
+-- the put's reply comes when its record is finished ("CA_PROTO_WRITE_NOTIFY")
 abbrev pub IsDeferred : Deed → Type 0
 IsDeferred deed = ((v : Write) × (deed ≡ Applies v) × (v.busies ≡ true)) ⊎ ((v : Write) × (deed ≡ Postpones v))
 
 -- The message at place k, when it was handled, was answered by the replies that are due for it, by no other and once; the reply to a put
--- that makes its record busy, or waits, comes once later.
+-- that makes its record busy, or waits, comes once later ("CA Protocol Messages").
 pub record AnsweredAt (y : ServerSide) (l : ServerLog) (number : ℕ) (c : Course) (k : ℕ) : Type 0 where
   pub before : ℕ
   pub at : At c.state.history.handled k before
@@ -100,7 +104,7 @@ pub record AnsweredAt (y : ServerSide) (l : ServerLog) (number : ℕ) (c : Cours
 
 -- ---- each request completes once
 
--- the circuit and place where a message of this client's life stands whose intent passes the test
+-- the circuit and place where a message of this client's life stands whose intent passes the test (model)
 pub record Stands (w : World) (client life : ℕ) (Meant : Intent → Type 0) : Type 0 where
   pub which : ℕ
   pub c : Course
@@ -112,7 +116,7 @@ pub record Stands (w : World) (client life : ℕ) (Meant : Intent → Type 0) : 
   pub at : At c.state.history.up k s
   pub means : Meant s.intent
 
--- an answer to the message at place k was read, and means this
+-- an answer to the message at place k was read, and means this ("CA_PROTO_READ_NOTIFY", "CA_PROTO_WRITE_NOTIFY")
 pub record WasRead (h : History) (k : ℕ) (o : Outcome) : Type 0 where
   pub j : ℕ
   pub t : Told
@@ -121,17 +125,17 @@ pub record WasRead (h : History) (k : ℕ) (o : Outcome) : Type 0 where
   pub read : j < length h.heard
   pub means : ReplyMeans t.message o
 
--- the channel of this intent was cleared by its caller
+-- the channel of this intent was cleared by its caller ("CA_PROTO_CLEAR_CHANNEL")
 abbrev pub IsCleared : List Line → Intent → Type 0
 IsCleared log i = (channel place : ℕ) × (channel_in i ≡ Some channel) × At log place (Called (calls.Clear channel))
 
 -- A request completed with the outcome of the reply to its own message, or with Disconnected, and that only where its client's end of the
--- circuit has ended or its channel was cleared.
+-- circuit has ended or its channel was cleared ("CA_PROTO_READ_NOTIFY", "CA_PROTO_WRITE_NOTIFY").
 pub record Completes (w : World) (client life : ℕ) (log : List Line) (number : ℕ) (o : Outcome) : Type 0 where
   pub stands : Stands w client life (λ i. request_in i ≡ Some number)
   pub why : WasRead stands.c.state.history stands.k o ⊎ ((o ≡ outcome.Disconnected) × ((stands.c.state.client_open ≡ false) ⊎ IsCleared log stands.s.intent))
 
--- The whole clause, over all circuits and all lives of clients.
+-- The whole clause, over all circuits and all lives of clients ("CA Protocol Messages").
 pub record OwnOnce (w : World) : Type 0 where
   pub own : (k : ℕ) (c : Course) → At w.courses k c → TakesOwn c.state.history
   pub answered : (number : ℕ) (c : Course) (y : ServerSide) (l : ServerLog) → At w.courses number c → At w.servers c.state.server y → At (server_logs y) c.state.server_life l → (k : ℕ) → k < length c.state.history.handled → AnsweredAt y l number c k

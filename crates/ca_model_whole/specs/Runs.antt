@@ -12,7 +12,7 @@ use Rattle.ca_model_whole.specs.Steps.{HappensClientStep, HappensPump, HappensSe
 use Rattle.ca_model_whole.specs.Endings.{HappensClientRestart, HappensCutClient, HappensCutServer, HappensFinish, HappensPost, HappensServerRestart, HappensTick}
 use Rattle.ca_model_whole.specs.World.{Setting, World, opening}
 
--- From old, this event may leave new. An event that cannot be done has no new.
+-- From old, this event may leave new. An event that cannot be done has no new (model).
 abbrev pub Happens : World → Event → World → Type 0
 Happens w (events.Basic (event.Open client name priority)) new = HappensOpen w client name.items priority new
 Happens w (events.Basic (event.Read client channel data_type count)) new = HappensRead w client channel data_type count new
@@ -39,6 +39,6 @@ Happens w (events.Post server name e mask) new = HappensPost w server name e mas
 Happens w (events.Finish server name) new = HappensFinish w server name new
 Happens w (events.Tick moment) new = HappensTick w moment new
 
--- From the opening world, these events in a row leave this one.
+-- From the opening world, these events in a row leave this one (model).
 abbrev pub Runs : Setting → List Event → World → Type 0
 Runs setting es w = FoldsTo Happens (opening setting) es w

@@ -41,30 +41,31 @@ use Rattle.ca_model_whole.specs.World.{ClientSide, Course, Joins, ServerSide, Wo
 
 -- ---- an entry of a server's log reaches its circuits
 
--- the circuit's end at this server is open
+-- the circuit's end at this server is open ("Virtual Circuit")
 abbrev pub is_open_at : ℕ → Course → Bool
 is_open_at server c = c.state.server == server && c.state.server_open
 
--- the part of a circuit that its server's end has, changed
+-- the part of a circuit that its server's end has, changed ("Virtual Circuit")
 abbrev pub with_part : ServerPart → Course → Course
 with_part p c = record c { at_server = p }
 
--- An entry concerns a circuit where a subscription there sees it.
+-- An entry concerns a circuit where a subscription there sees it ("CA_PROTO_EVENT_ADD").
 abbrev pub Concerns : Entry → Course → Type 0
 Concerns e c = concerned e c.at_server.subscriptions ≢ []
 
--- A circuit of the server after an entry was put into its log: it gets its updates, or has ended for want of memory for them.
+-- A circuit of the server after an entry was put into its log: it gets its updates, or has ended for want of memory for them
+-- ("CA_PROTO_EVENT_ADD").
 pub record Reaches (records : List RecordState) (server : ℕ) (l : ServerLog) (e : Entry) (gone : ℕ → Bool) (k : ℕ) (c new : Course) : Type 0 where
   pub needs : gone k ≡ true → (is_open_at server c ≡ true) × Concerns e c
   pub leaves :
       new ≡ (if gone k then server_closed c else if is_open_at server c then with_part (ends.with_entry records l e c.at_server) c else c)
 
--- The waiting puts of circuits that have ended are taken out.
+-- The waiting puts of circuits that have ended are taken out ("CA_PROTO_WRITE_NOTIFY").
 abbrev pub without : (ℕ → Bool) → ServerLog → ServerLog
 without gone l = with_withdrawals (λ (v : Write). gone v.circuit) l
 
--- A write is applied, or a value posted: the entry goes into the log and to all circuits of the server. Which of those that it concerns have
--- ended for want of memory is free.
+-- A write is applied, or a value posted: the entry goes into the log and to all circuits of the server. Which of those that it concerns
+-- have ended for want of memory is free ("Monitors").
 pub record Enters (w : World) (server : ℕ) (y : ServerSide) (e : Entry) (gone : ℕ → Bool) (new : World) : Type 0 where
   pub clients : new.clients ≡ w.clients
   pub servers : new.servers ≡ slice_set w.servers server (record y { log = without gone (with_entry e y.log) })
@@ -84,7 +85,7 @@ pub record TakesIn (s : Subscription) (stored : Stored) (p new : ServerPart) : T
   pub leaves :
       new ≡ record p { subscriptions = p.subscriptions ++ s ∷ []; queues = slice_set p.queues place (posted s.key (record { place = s.place; item = 0; stored = stored }) (added s.key q)) }
 
--- the end with these open channels
+-- the end with these open channels ("Channels")
 abbrev pub with_seats : List Seat → ServerPart → ServerPart
 with_seats seats p = record p { basic = record p.basic { seats = seats } }
 
@@ -92,7 +93,7 @@ with_seats seats p = record p { basic = record p.basic { seats = seats } }
 abbrev pub closed_channel : ℕ → ServerPart → ServerPart
 closed_channel sid p = cancel_each (λ (k : SubKey). k.sid == sid) (with_seats (filter (λ (s : Seat). not (s.sid == sid)) p.basic.seats) p)
 
--- What a deed makes of the end: a write that is applied or waits leaves it as it is.
+-- What a deed makes of the end: a write that is applied or waits leaves it as it is ("CA Protocol Messages").
 abbrev pub Does : Desk → Deed → ServerPart → Type 0
 Does d Greets new = new ≡ record d.part { basic = record d.part.basic { greeted = true } }
 Does d (Names p) new = new ≡ record d.part { peer = p }
@@ -103,11 +104,11 @@ Does d (Drops key) new = new ≡ cancel_each (same key) d.part
 Does d (Switches on) new = new ≡ with_events on d.part
 Does d _ new = new ≡ d.part
 
--- the put came on this circuit, under this SID
+-- the put came on this circuit, under this SID ("CA_PROTO_WRITE_NOTIFY")
 abbrev pub came_under : ℕ → Course → ℕ → Write → Bool
 came_under k c sid v = v.circuit == k && (unwrap_or (option_map (λ (m : Fields). m.p1 == sid) (slice_get (sent_in c.state.history) v.place)) false)
 
--- What a deed makes of the notes: a put comes to wait, or those of a cleared channel are taken out.
+-- What a deed makes of the notes: a put comes to wait, or those of a cleared channel are taken out ("CA_PROTO_WRITE_NOTIFY").
 abbrev pub noted : ℕ → Course → Deed → ServerLog → ServerLog
 noted k c (Postpones v) l = with_wait v l
 noted k c (Closes sid) l = with_withdrawals (came_under k c sid) l
@@ -115,15 +116,16 @@ noted k c _ l = l
 
 -- ---- a step of the server's end
 
--- what the server knows on this circuit
+-- what the server knows on this circuit (model)
 abbrev pub desk_of : ServerSide → Course → Desk
 desk_of y c = record { records = y.records; rules = y.rules; log = y.log; part = c.at_server }
 
--- the end with other bytes to read
+-- the end with other bytes to read ("Virtual Circuit")
 abbrev pub reading : List ℕ → Course → Course
 reading rest c = record c { at_server = record c.at_server { basic = record c.at_server.basic { input = rest } } }
 
--- The next message of the circuit, whose place is how many were handled before: what is due for it, and what it does.
+-- The next message of the circuit, whose place is how many were handled before: what is due for it, and what it does
+-- ("CA Protocol Messages").
 pub record Handles (k : ℕ) (c : Course) (y : ServerSide) (replies : List Fields) (deed : Deed) (part : ServerPart) : Type 0 where
   pub m : Fields
   pub rest : List ℕ
@@ -131,7 +133,7 @@ pub record Handles (k : ℕ) (c : Course) (y : ServerSide) (replies : List Field
   pub due : Due (desk_of y (reading rest c)) k (length c.state.history.handled) m replies deed
   pub does : Does (desk_of y (reading rest c)) deed part
 
--- the message was handled: how many messages, entries and notes there were before is kept, and the replies go down
+-- the message was handled: how many messages, entries and notes there were before is kept, and the replies go down (model)
 abbrev pub handled : ServerSide → ServerPart → List Fields → Course → Course
 handled y part replies c = answering (answers_to (length c.state.history.handled) replies) (record c {
   state = record c.state { history = record c.state.history { handled = c.state.history.handled ++ length c.state.history.down ∷ [] } };
@@ -140,30 +142,30 @@ handled y part replies c = answering (answers_to (length c.state.history.handled
   at_server = part;
 })
 
--- The message was handled; a write that it applies goes into the log.
+-- The message was handled; a write that it applies goes into the log ("CA Protocol Messages").
 abbrev pub HandledWith : World → ℕ → Course → ServerSide → List Fields → ServerPart → Deed → World → Type 0
 HandledWith w k c y replies part (Applies v) new =
     (gone : ℕ → Bool) × (gone k ≡ false) × Enters (with_course w k (handled y part replies c)) c.state.server y (Applied v) gone new
 HandledWith w k c y replies part deed new =
     new ≡ with_server (with_course w k (handled y part replies c)) c.state.server (record y { log = noted k c deed y.log })
 
--- A step takes memory only where it reads a message with a payload or a WRITE, answers it, or has a put wait or an update queued.
+-- A step takes memory only where it reads a message with a payload or a WRITE, answers it, or has a put wait or an update queued (model).
 abbrev pub NeedsMemory : Fields → List Fields → Deed → Type 0
 NeedsMemory m replies (Applies v) = Unit {0}
 NeedsMemory m replies (Postpones v) = Unit {0}
 NeedsMemory m replies (Adds s) = Unit {0}
 NeedsMemory m replies deed = (m.payload ≢ []) ⊎ (replies ≢ [])
 
--- the circuit's end at the server has ended, and its waiting puts are taken out
+-- the circuit's end at the server has ended, and its waiting puts are taken out ("Virtual Circuit")
 abbrev pub ServerEnds : World → ℕ → Course → ServerSide → World → Type 0
 ServerEnds w k c y new = new ≡ with_server (with_course w k (server_closed c)) c.state.server (record y { log = without (λ j. j == k) y.log })
 
--- For want of memory the end has ended: the replies are not sent, and the write of the step is applied or not.
+-- For want of memory the end has ended: the replies are not sent, and the write of the step is applied or not ("Virtual Circuit").
 abbrev pub AppliedUnsaid : World → ℕ → Course → ServerSide → Deed → World → Type 0
 AppliedUnsaid w k c y (Applies v) new = (gone : ℕ → Bool) × (gone k ≡ false) × ((mid : World) × Enters w c.state.server y (Applied v) gone mid × ((c' : Course) × (y' : ServerSide) × At mid.courses k c' × At mid.servers c.state.server y' × ServerEnds mid k c' y' new))
 AppliedUnsaid w k c y deed new = ⊥
 
--- memory was wanting for the next message
+-- memory was wanting for the next message (model)
 pub record LacksMemory (w : World) (k : ℕ) (c : Course) (y : ServerSide) (new : World) : Type 0 where
   pub replies : List Fields
   pub deed : Deed
@@ -173,7 +175,7 @@ pub record LacksMemory (w : World) (k : ℕ) (c : Course) (y : ServerSide) (new 
   pub leaves : ServerEnds w k c y new ⊎ AppliedUnsaid w k c y deed new
 
 -- One step: so much waits that no message is handled; no whole message is there; a bad header is; a message is handled; or memory is
--- wanting.
+-- wanting ("Overall Server Operation").
 pub data ServerSteps (w : World) (k : ℕ) (c : Course) (y : ServerSide) (new : World) : Type 0 where
   OutputFull : output_limit ≤ length c.at_server.basic.output → new ≡ w → ServerSteps w k c y new
   NeedBytes : NoneBegins c.at_server.basic.input → NotBad c.at_server.basic.input → new ≡ w → ServerSteps w k c y new
@@ -181,7 +183,7 @@ pub data ServerSteps (w : World) (k : ℕ) (c : Course) (y : ServerSide) (new : 
   Handled : (replies : List Fields) (deed : Deed) (part : ServerPart) → Handles k c y replies deed part → HandledWith w k c y replies part deed new → ServerSteps w k c y new
   OutOfMemory : LacksMemory w k c y new → ServerSteps w k c y new
 
--- a step of the server's end of a circuit
+-- a step of the server's end of a circuit ("Overall Server Operation")
 pub record HappensServerStep (w : World) (k : ℕ) (new : World) : Type 0 where
   pub c : Course
   pub x : ClientSide
@@ -196,16 +198,16 @@ pub record HappensServerStep (w : World) (k : ℕ) (new : World) : Type 0 where
 abbrev pub update_count : Subscription → Stored → ℕ
 update_count s v = if s.count == 0 then count_of v.value else s.count
 
--- the update with this image, or GETFAIL and as many zero bytes where the value has none
+-- the update with this image, or GETFAIL and as many zero bytes where the value has none ("CA_PROTO_EVENT_ADD")
 abbrev pub update_in : Subscription → Stored → DataType → Result Elements Refusal → Fields
 update_in s v t (Ok e) = update_told s.data_type (update_count s v) normal s.key.sub (image t e v.meta)
 update_in s v t (Err r) = update_told s.data_type (update_count s v) get_fail s.key.sub (replicate (size_of_image t (update_count s v)) 0)
 
--- the message is the update of this subscription with this value
+-- the message is the update of this subscription with this value ("CA_PROTO_EVENT_ADD")
 abbrev pub IsUpdate : Subscription → Stored → Fields → Type 0
 IsUpdate s v m = (t : DataType) × (type_of s.data_type ≡ Some t) × (m ≡ update_in s v t (shown v.value (update_count s v) t.base))
 
--- An update goes out of the first queue that may give one, while less than so much waits.
+-- An update goes out of the first queue that may give one, while less than so much waits ("CA_PROTO_EVENT_ADD").
 pub record Gives (p : ServerPart) (u : Told) (new : ServerPart) : Type 0 where
   pub room : length p.basic.output < output_limit
   pub place : ℕ
@@ -223,11 +225,11 @@ pub record Gives (p : ServerPart) (u : Told) (new : ServerPart) : Type 0 where
   pub leaves :
       new ≡ record p { basic = record p.basic { output = p.basic.output ++ spelling u.message }; queues = slice_set p.queues place (with_front_taken q) }
 
--- these updates went down
+-- these updates went down ("CA_PROTO_EVENT_ADD")
 abbrev pub pumped : List Told → ServerPart → Course → Course
 pumped us p c = record c { state = record c.state { history = record c.state.history { down = c.state.history.down ++ us } }; at_server = p }
 
--- Updates leave the queues until none may, or so much waits; or the end has ended for want of memory for the first.
+-- Updates leave the queues until none may, or so much waits; or the end has ended for want of memory for the first ("CA_PROTO_EVENT_ADD").
 pub record HappensPump (w : World) (k : ℕ) (new : World) : Type 0 where
   pub c : Course
   pub x : ClientSide
@@ -242,7 +244,7 @@ pub record HappensPump (w : World) (k : ℕ) (new : World) : Type 0 where
 
 -- ---- a step of the client's end
 
--- the client's end with other bytes to read, and one more message read
+-- the client's end with other bytes to read, and one more message read ("Virtual Circuit")
 abbrev pub heard : ClientSide → List ℕ → Course → Course
 heard x rest c = record c {
   state = record c.state { history = record c.state.history { heard = c.state.history.heard ++ length c.state.history.up ∷ [] } };
@@ -250,26 +252,26 @@ heard x rest c = record c {
   at_client = record c.at_client { basic = record c.at_client.basic { input = rest } };
 }
 
--- The client's end has ended, or so it was told: its channels are searched for again, and it tells its farewell.
+-- The client's end has ended, or so it was told: its channels are searched for again, and it tells its farewell ("Virtual Circuit").
 pub record ClientEnds (w : World) (k : ℕ) (c : Course) (x : ClientSide) (new : World) : Type 0 where
   pub told : List Telling
   pub farewell : Farewell x.core k told
   pub leaves : new ≡ with_course (with_client w c.state.client (telling told (ended (λ j. j == k) x.core) x)) k (client_closed c)
 
--- The next message of the circuit, and what the client makes of it.
+-- The next message of the circuit, and what the client makes of it ("CA Protocol Messages").
 pub record Reads (k : ℕ) (c : Course) (x : ClientSide) (sent : List Sent) (told : List Telling) (core : Client) (rest : List ℕ) : Type 0 where
   pub m : Fields
   pub takes : TakesFirst c.at_client.basic.input m rest
   pub hears : Hears x.core k m sent told core
 
--- A step takes memory only where it reads a message with a payload, tells something or sends something.
+-- A step takes memory only where it reads a message with a payload, tells something or sends something ("Overall Client Operation").
 pub data ClientSteps (w : World) (k : ℕ) (c : Course) (x : ClientSide) (new : World) : Type 0 where
   NeedBytes : NoneBegins c.at_client.basic.input → NotBad c.at_client.basic.input → new ≡ w → ClientSteps w k c x new
   Bad : (e : Refusal) → BadAt c.at_client.basic.input e → ClientEnds w k c x new → ClientSteps w k c x new
   Read : (sent : List Sent) (told : List Telling) (core : Client) (rest : List ℕ) → Reads k c x sent told core rest → new ≡ with_course (with_client w c.state.client (telling told core x)) k (sending sent (heard x rest c)) → ClientSteps w k c x new
   OutOfMemory : (sent : List Sent) (told : List Telling) (core : Client) (rest : List ℕ) (reads : Reads k c x sent told core rest) → (reads.m.payload ≢ []) ⊎ ((told ≢ []) ⊎ (sent ≢ [])) → ClientEnds w k c x new → ClientSteps w k c x new
 
--- a step of the client's end of a circuit
+-- a step of the client's end of a circuit ("Overall Client Operation")
 pub record HappensClientStep (w : World) (k : ℕ) (new : World) : Type 0 where
   pub c : Course
   pub x : ClientSide
