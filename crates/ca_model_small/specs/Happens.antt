@@ -2,7 +2,7 @@
 -- bytes reach the server or the client, and an end steps or is cut. What these may leave is what they may leave there, under
 -- four rules of the small world's own:
 -- one circuit is open at a time; a channel is taken as found at one address, when it is opened, and again when its client's end of a
--- circuit has ended; an IOID that was given stays taken; and no client asks for a pause of updates.
+-- circuit has ended; each request that was issued counts as an IOID that is taken; and no client asks for a pause of updates.
 use Rattle.std.specs.Prelude.{ℕ, ◌≡◌, ◌≢◌, ◌≤◌, ◌^◌, ◌-◌, Bool, true, false, List, [], length}
 use Rattle.std.specs.List.{FoldsTo}
 use Rattle.ca_text.specs.Command.{command_number}
@@ -23,7 +23,7 @@ use Rattle.ca_model_whole.specs.World.{ClientSide, Course, Setting, World, openi
 abbrev pub AllEnded : World → Type 0
 AllEnded w = (k : ℕ) (c : Course) → At w.courses k c → (c.state.client_open ≡ false) × (c.state.server_open ≡ false)
 
--- how many requests were issued ("Message Identifiers")
+-- how many IOIDs count as taken: one for each request that was issued ("Message Identifiers")
 abbrev pub issued : Client → ℕ
 issued x = x.issued
 
