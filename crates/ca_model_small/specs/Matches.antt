@@ -1,4 +1,4 @@
--- A world of the cores, and one of the whole statement that tells of the same.
+-- A world of the cores, and one of the whole statement that tells of the same. All of it is of this text alone (model).
 use Rattle.std.specs.Prelude.{ℕ, ◌≡◌, ◌<◌, ◌⊎◌, ◌%◌, ◌^◌, true, false, if◌then◌else◌, List, [], Option, Some, None, filter_map, length, map}
 use Rattle.ca_text.specs.declared.command.Command.TheVariants as command
 use Rattle.ca_text.specs.Place.{At}
@@ -48,6 +48,7 @@ pub record MatchesLog (names : List (List ℕ)) (told : List Logged) (log : List
 
 -- ---- a client
 
+-- a request by its number and IOID alone
 abbrev pub basic_of : Asked → Request
 basic_of q = q.basic
 
@@ -56,9 +57,11 @@ pub record MatchesRequests (n : ℕ) (requests : List Request) (reqs : List Aske
   pub are : map basic_of reqs ≡ requests
   pub on : (i : ℕ) (q : Asked) → At reqs i q → (q.circuit ≡ n) × (q.puts ≡ false)
 
+-- the CID of a channel
 abbrev pub cid_of : ChannelState → ℕ
 cid_of c = c.cid
 
+-- the priority of a channel
 abbrev pub priority_of : ChannelState → ℕ
 priority_of c = c.priority
 
@@ -68,6 +71,7 @@ IsUsed x p = ((i : ℕ) × At x.wanted i p) ⊎ (is_on x.link p ≡ true)
 
 -- ---- a server
 
+-- A server of the cores' world: it is in its first life, and its records have names of their own.
 pub record MatchesServerSide (y : small_world.ServerSide) : Type 0 where
   pub life : y.life ≡ 0
   pub apart : AreApart y.core.records
@@ -87,6 +91,7 @@ pub record MatchesServer (c : CircuitState) (e : ServerEnd) (p : ServerPart) : T
 
 -- ---- a circuit
 
+-- a circuit by its history, its ends' lives and what they left, as the cores' world has it
 abbrev pub state_of : Course → CircuitState
 state_of c = c.state
 
@@ -103,9 +108,11 @@ module _ (home : Address) where
   standing_of n link priority phase.Creating = On n phase.Creating
   standing_of n link priority (phase.Live sid native greatest) = On n (phase.Live sid native greatest)
 
+  -- a channel as the whole statement has it
   abbrev pub channel_of : ℕ → Option ClientEnd → ChannelState → Channel
   channel_of n link c = record { name = c.name; priority = c.priority; cid = c.cid; rights = c.rights; standing = standing_of n link c.priority c.phase }
 
+  -- the circuit of this priority to that address
   abbrev pub wanted_of : ℕ → Wanted
   wanted_of p = record { address = home; priority = p }
 
@@ -123,9 +130,11 @@ module _ (home : Address) where
     wanted = map wanted_of x.wanted;
   }
 
+  -- such a client with this log, in its first life
   abbrev pub side_of : ℕ → List Asked → List Line → small_world.ClientSide → ClientSide
   side_of n reqs log x = record { core = core_of n reqs x.core; log = log; past = [] }
 
+  -- The client is such a one, with the same requests open and the same told and refused.
   pub record MatchesClient (n : ℕ) (x : small_world.ClientSide) (whole : ClientSide) : Type 0 where
     pub reqs : List Asked
     pub log : List Line
@@ -140,11 +149,13 @@ module _ (home : Address) where
 
   -- ---- a server
 
+  -- a server at that address, without rules, to which nothing was written or posted
   abbrev pub server_of : small_world.ServerSide → ServerSide
   server_of y = record { address = home; records = y.core.records; rules = []; log = no_log; past = [] }
 
   -- ---- a circuit and its ends
 
+  -- What each open end holds is what its core holds, and each message that was handled was answered by what is due.
   pub record MatchesCourse (k : ℕ) (x : small_world.ClientSide) (y : small_world.ServerSide) (c : Course) : Type 0 where
     pub entries : length c.entries ≡ length c.state.history.handled
     pub notes : length c.notes ≡ length c.state.history.handled
@@ -154,6 +165,7 @@ module _ (home : Address) where
 
   -- ---- the whole
 
+  -- The two worlds have the same circuits, servers and clients.
   pub record Matches (w : small_world.World) (whole : World) : Type 0 where
     pub circuits : map state_of whole.courses ≡ w.circuits
     pub servers : whole.servers ≡ map server_of w.servers
@@ -164,9 +176,11 @@ module _ (home : Address) where
 
   -- ---- settings
 
+  -- a client by its user and host
   abbrev pub peer_of : List ℕ × List ℕ → Peer
   peer_of c = record { user = c.0; host = c.1 }
 
+  -- a server at that address with these records
   abbrev pub server_setting : List RecordState → ServerSetting
   server_setting records = record { address = home; records = records; rules = [] }
 
