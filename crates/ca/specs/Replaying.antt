@@ -5,7 +5,7 @@ use Rattle.ca_text.specs.declared.refusal.Refusal.TheVariants.{BadEvent, BadText
 use Rattle.ca_model.specs.Safe.{Safe}
 use Rattle.ca_model.specs.World.{Runs, World}
 use Rattle.ca_model_small.specs.Claims.{LeadTo}
-use Rattle.ca_script.specs.Scripts.{AddsAll, lines_of, nothing, reading}
+use Rattle.ca_script.specs.Scripts.{AddsAll, Reading, lines_of, nothing, reading}
 use Rattle.ca_script.specs.Setting.{setting_of}
 use Rattle.ca_script.specs.declared.script.Script.{Script}
 use Rattle.ca_world.specs.Done.{Stopped, done}
@@ -39,10 +39,10 @@ module _ {K : Type 0} (takes : K → List ℕ → K → Type 0) (script : List �
   BreaksOff = (stop : Option (ℕ × Refusal)) × (text : List ℕ) × (n : ℕ) × Reported script stop text × takes k0 (take n text) k
 
   -- The replay ended so: well with the report of all events; at an event that cannot be done with the report of those
-  -- before it; for want of memory with such a report or with nothing; at a line that is not understood with nothing.
+  -- before it; for want of memory with such a report or with nothing; with nothing where the script does not read.
   abbrev pub Replays : Result (Unit {0}) Refusal → Type 0
   Replays (Ok _) = Tells None
-  Replays (Err BadText) = k ≡ k0
+  Replays (Err BadText) = (k ≡ k0) × ((said : Reading) → AddsAll nothing (lines_of script) said → ⊥)
   Replays (Err BadEvent) = (i : ℕ) × Tells (Some (i, BadEvent))
   Replays (Err OutOfMemory) = (k ≡ k0) ⊎ ((i : ℕ) × Tells (Some (i, OutOfMemory)))
   Replays (Err Device) = BreaksOff

@@ -1,6 +1,7 @@
-ghost use Rattle.std.specs.Prelude.{◌≡◌, ◌⊎◌, ◌<◌, ◌≤◌, ◌^◌, IfErr, IfOk, IsNone, length};
-ghost use Rattle.ca_text.specs.declared.refusal.Refusal.TheVariants.{BadText, OutOfMemory};
+ghost use Rattle.std.specs.Prelude.{◌≡◌, ◌<◌, ◌≤◌, ◌^◌, IfErr, IfOk, IsNone, length};
 ghost use Rattle.ca_model.specs.World.{World};
+ghost use Rattle.ca_script.specs.Grammar.{Refuses};
+ghost use Rattle.ca_script.specs.Scripts.{AddsAll, lines_of, nothing};
 ghost use Rattle.ca_world.specs.Done.{Stopped, done};
 ghost use Rattle.ca.specs.Replaying.{Replays, ReplaysTo, Reported, ended};
 
@@ -61,7 +62,7 @@ fn outcome_of(stop: Option<(u64, Refusal)>) -> Result<(), Refusal>
 /// Does a script's events in a world. The answer is the report, with the place of the event that stopped the run and why.
 fn reported(alloc: Global, script: &[u8]) -> Result<(Vec<u8>, Option<(u64, Refusal)>), Refusal>
     ensures ok { IfOk result (λ r. Reported script.now r.1 r.0.items) }
-    ensures err { IfErr result (λ e. (e ≡ BadText) ⊎ (e ≡ OutOfMemory)) }
+    ensures err { IfErr result (λ e. Refuses (AddsAll nothing (lines_of script.now)) e) }
 {
     let script = read_script(alloc, script)?;
     let (world, stop) = run(alloc, &script.config, &script.events)?;

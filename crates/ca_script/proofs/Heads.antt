@@ -63,6 +63,11 @@ lines-next left line left' None blank some e is none =
 lines-next left line left' (Some r) blank some e is none =
     ap (λ (ps : List (List ℕ)). whole_lines ps) e ∙ line-more line (parted 10 r.now) (parted-is-some 10 r.now) ∙ ap (λ (t : List ℕ). line ∷ lines_of t) (sym is)
 
+-- the lines begin with the first one
+pub lines-begin : (left line : List ℕ) (rest : Option (Bor (List ℕ))) → (left ≡ [] → ⊥) → parted 10 left ≡ line ∷ pieces_left 10 (option_map (λ (r : Bor (List ℕ)). r.now) rest) → (lines : List (List ℕ)) × (lines_of left ≡ line ∷ lines)
+lines-begin left line None some e = ([], ap (λ (ps : List (List ℕ)). whole_lines ps) e ∙ alone-whole left line some e)
+lines-begin left line (Some r) some e = (whole_lines (parted 10 r.now), ap (λ (ps : List (List ℕ)). whole_lines ps) e ∙ line-more line (parted 10 r.now) (parted-is-some 10 r.now))
+
 -- one line more
 pub leads-on : (old mid final : Reading) (line : List ℕ) (left left' : List ℕ) → lines_of left ≡ line ∷ lines_of left' → Adds old (parted 32 line) mid → AddsAll mid (lines_of left') final → AddsAll old (lines_of left) final
 leads-on old mid final line left left' e adds h = subst (λ (ls : List (List ℕ)). AddsAll old ls final) (sym e) (mid, adds, h)

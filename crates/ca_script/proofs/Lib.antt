@@ -4,3 +4,8 @@ pub mod Plain
 pub mod Sayings
 pub mod Heads
 pub mod Elements
+pub mod Refusals
+pub mod Alike
+pub mod Following
+pub mod ElementRefusals
+pub mod LineRefusals

@@ -7,8 +7,8 @@ use Rattle.ca_model.specs.declared.data.End.{End}
 use Rattle.ca_model.specs.declared.data.End.TheVariants as end
 use Rattle.ca_model.specs.declared.data.Event.{Event}
 use Rattle.ca_model.specs.declared.data.Event.TheVariants as event
-use Rattle.ca_script.specs.Events.{AreNumbers, Refuses, Says, SaysOpen, end_word}
-use Rattle.ca_script.specs.Grammar.{IsNumber}
+use Rattle.ca_script.specs.Events.{AreNumbers, Says, SaysOpen, end_word}
+use Rattle.ca_script.specs.Grammar.{IsNumber, Refuses}
 use Rattle.ca_script.specs.declared.event.Verb.TheVariants as verb
 
 -- a refusal that was handed on
@@ -41,17 +41,17 @@ no-open words mid rest w name first second nay (event.Open client named priority
     nay priority (subst (λ (xs : List (List ℕ)). AreNumbers xs (priority ∷ [])) (sym is) (h.level, tt))
 no-open words mid rest w name first second nay _ h = absurd h
 
-pub open-refused : (words mid rest : List (List ℕ)) (w name : List ℕ) (e : Refusal) → words ≡ w ∷ mid → mid ≡ name ∷ rest → (e ≡ BadText) × ((n : ℕ) → AreNumbers rest (n ∷ []) → ⊥) → Refuses verb.Open words e
+pub open-refused : (words mid rest : List (List ℕ)) (w name : List ℕ) (e : Refusal) → words ≡ w ∷ mid → mid ≡ name ∷ rest → (e ≡ BadText) × ((n : ℕ) → AreNumbers rest (n ∷ []) → ⊥) → Refuses (Says verb.Open words) e
 open-refused words mid rest w name e first second nay =
-    subst (λ (r : Refusal). Refuses verb.Open words r) (sym nay.0) (λ (x : Event). no-open words mid rest w name first second nay.1 x)
+    subst (λ (r : Refusal). Refuses (Says verb.Open words) r) (sym nay.0) (λ (x : Event). no-open words mid rest w name first second nay.1 x)
 
 no-cut : (words mid rest : List (List ℕ)) (w name : List ℕ) → words ≡ w ∷ mid → mid ≡ name ∷ rest → (rest ≡ [] → ⊥) → (x : Event) → Says verb.Cut words x → ⊥
 no-cut words mid rest w name first second nay (event.Cut circuit e) h = nay (behind-two words mid rest [] w name h.first (end_word e) first second h.are)
 no-cut words mid rest w name first second nay _ h = absurd h
 
-pub cut-refused : (words mid rest : List (List ℕ)) (w name : List ℕ) (e : Refusal) → words ≡ w ∷ mid → mid ≡ name ∷ rest → (e ≡ BadText) × (rest ≡ [] → ⊥) → Refuses verb.Cut words e
+pub cut-refused : (words mid rest : List (List ℕ)) (w name : List ℕ) (e : Refusal) → words ≡ w ∷ mid → mid ≡ name ∷ rest → (e ≡ BadText) × (rest ≡ [] → ⊥) → Refuses (Says verb.Cut words) e
 cut-refused words mid rest w name e first second nay =
-    subst (λ (r : Refusal). Refuses verb.Cut words r) (sym nay.0) (λ (x : Event). no-cut words mid rest w name first second nay.1 x)
+    subst (λ (r : Refusal). Refuses (Says verb.Cut words) r) (sym nay.0) (λ (x : Event). no-cut words mid rest w name first second nay.1 x)
 
 said-by : (words mid : List (List ℕ)) (rest : List (List ℕ)) (w name items : List ℕ) (client priority : ℕ) → words ≡ w ∷ mid → IsNumber w client → mid ≡ name ∷ rest → 0 < length name → AreNumbers rest (priority ∷ []) → items ≡ name → SaysOpen client items priority words
 said-by words mid [] w name items client priority first is second named last same = absurd last
@@ -76,6 +76,6 @@ no-end : (words mid : List (List ℕ)) (w : List ℕ) → words ≡ w ∷ mid �
 no-end words mid w first nay (event.Cut circuit e) h = nay (end_word e) [] (ap (λ (xs : List (List ℕ)). drop 1 xs) (sym first ∙ h.are)) (end-is-some e)
 no-end words mid w first nay _ h = absurd h
 
-pub cut-unended : (words mid : List (List ℕ)) (w : List ℕ) (e : Refusal) → words ≡ w ∷ mid → (e ≡ BadText) × ((v : List ℕ) (ws : List (List ℕ)) → mid ≡ v ∷ ws → 0 < length v → ⊥) → Refuses verb.Cut words e
+pub cut-unended : (words mid : List (List ℕ)) (w : List ℕ) (e : Refusal) → words ≡ w ∷ mid → (e ≡ BadText) × ((v : List ℕ) (ws : List (List ℕ)) → mid ≡ v ∷ ws → 0 < length v → ⊥) → Refuses (Says verb.Cut words) e
 cut-unended words mid w e first nay =
-    subst (λ (r : Refusal). Refuses verb.Cut words r) (sym nay.0) (λ (x : Event). no-end words mid w first nay.1 x)
+    subst (λ (r : Refusal). Refuses (Says verb.Cut words) r) (sym nay.0) (λ (x : Event). no-end words mid w first nay.1 x)

@@ -1,7 +1,5 @@
 -- The lines of events.
 use Rattle.std.specs.Prelude.{ℕ, ◌≡◌, ◌<◌, ⊤, List, [], ◌∷◌, length, codes}
-use Rattle.ca_text.specs.declared.refusal.Refusal.{Refusal}
-use Rattle.ca_text.specs.declared.refusal.Refusal.TheVariants.{BadText, OutOfMemory}
 use Rattle.ca_model.specs.declared.data.End.{End}
 use Rattle.ca_model.specs.declared.data.End.TheVariants as end
 use Rattle.ca_model.specs.declared.data.Event.{Event}
@@ -58,9 +56,3 @@ Says verb.ServerStep words (event.ServerStep circuit) = AreNumbers words (circui
 Says verb.ClientStep words (event.ClientStep circuit) = AreNumbers words (circuit ∷ [])
 Says verb.Cut words (event.Cut circuit e) = SaysCut circuit e words
 Says _ words _ = ⊥
-
--- They are refused: as a text that says no event, or for want of memory.
-abbrev pub Refuses : Verb → List (List ℕ) → Refusal → Type 0
-Refuses v words BadText = (e : Event) → Says v words e → ⊥
-Refuses v words OutOfMemory = ⊤
-Refuses v words _ = ⊥

@@ -1,6 +1,8 @@
 -- How the lines of a script are read.
-use Rattle.std.specs.Prelude.{ℕ, ◌≡◌, ◌<◌, ◌^◌, ◌==◌, if◌then◌else◌, List, [], ◌∷◌, Option, Some, None}
+use Rattle.std.specs.Prelude.{ℕ, ◌≡◌, ◌<◌, ◌^◌, ◌==◌, if◌then◌else◌, ⊤, List, [], ◌∷◌, Option, Some, None}
 use Rattle.std.specs.Str.Parse.{IsNumeral, digits_value}
+use Rattle.ca_text.specs.declared.refusal.Refusal.{Refusal}
+use Rattle.ca_text.specs.declared.refusal.Refusal.TheVariants.{BadText, OutOfMemory}
 
 -- the first piece with this byte in front of it
 abbrev pub longer : ℕ → List (List ℕ) → List (List ℕ)
@@ -26,3 +28,9 @@ pub record IsNumber (word : List ℕ) (n : ℕ) : Type 0 where
   pub digits : IsNumeral 10 word
   pub value : digits_value 10 word ≡ n
   pub fits : n < 2 ^ 64
+
+-- Why a text is refused: as one that says nothing of this kind, or for want of memory.
+abbrev pub Refuses : {A : Type 0} → (A → Type 0) → Refusal → Type 0
+Refuses Says BadText = (x : _) → Says x → ⊥
+Refuses Says OutOfMemory = ⊤
+Refuses Says _ = ⊥

@@ -74,12 +74,12 @@ IsDouble word n = IsHex word (bytes_8 n)
 abbrev pub IsString : List ℕ → List ℕ → Type 0
 IsString word text = (bytes : List ℕ) × IsHex word bytes × (length bytes ≤ 40) × (text ≡ bytes ++ replicate (40 - length bytes) 0)
 
--- these words are these elements, one each
+-- these words are these elements, one each; no word is empty
 abbrev pub AreEach : {A : Type 0} → (List ℕ → A → Type 0) → List (List ℕ) → List A → Type 0
 AreEach Is [] [] = ⊤
 AreEach Is [] (x ∷ xs) = ⊥
 AreEach Is (w ∷ ws) [] = ⊥
-AreEach Is (w ∷ ws) (x ∷ xs) = Is w x × AreEach Is ws xs
+AreEach Is (w ∷ ws) (x ∷ xs) = (0 < length w) × Is w x × AreEach Is ws xs
 
 abbrev pub AreElements : List (List ℕ) → Elements → Type 0
 AreElements words (strings xs) = AreEach IsString words xs

@@ -1,6 +1,9 @@
-ghost use Rattle.std.specs.Prelude.{◌≡◌, ◌⊎◌, ℕ, List, IfErr, IfOk, OnOk, length};
-ghost use Rattle.ca_text.specs.declared.refusal.Refusal.TheVariants.{BadText, OutOfMemory};
-ghost use Rattle.ca_dbr.specs.Elements.{bytes_4, bytes_8, base_of, elements};
+ghost use Rattle.std.specs.Prelude.{◌≡◌, ℕ, ℤ, List, FitsSigned, IfErr, IfOk, OnOk, length};
+ghost use Rattle.std.specs.Int.{w64};
+ghost use Rattle.ca_text.specs.declared.refusal.Refusal.TheVariants.{BadText};
+ghost use Rattle.ca_dbr.specs.Elements.{Elements, bytes_4, bytes_8, base_of, elements};
+ghost use Rattle.ca_dbr.specs.declared.data_type.BaseType.{BaseType};
+ghost use Rattle.ca_script.specs.Grammar.{Refuses};
 ghost use Rattle.ca_script.specs.Lines.{AreEach, AreElements, IsChar, IsDouble, IsEnum, IsFloat, IsHex, IsInt, IsLong, IsString, IsWhole, type_word};
 
 use crate::words::{Words, is_word};
@@ -17,13 +20,13 @@ trait Element: Copy + Drop {
     /// The element that a word is. Refused by 8.
     fn read(word: &[u8]) -> Result<Self, Refusal>
         ensures ok { IfOk result (λ x. says word.now x) }
-        ensures err { IfErr result (λ e. e ≡ BadText) };
+        ensures err { IfErr result (λ e. (e ≡ BadText) × ((x : Self) → says word.now x → ⊥)) };
 }
 
 /// The base type that a word names. Refused by 8.
 pub(crate) fn base_in(word: &[u8]) -> Result<BaseType, Refusal>
     ensures ok { IfOk result (λ b. word.now ≡ type_word b) }
-    ensures err { IfErr result (λ e. e ≡ BadText) }
+    ensures err { IfErr result (λ e. (e ≡ BadText) × ((b : BaseType) → word.now ≡ type_word b → ⊥)) }
 {
     if is_word(word, "STRING") {
         return Ok(BaseType::String);
@@ -53,7 +56,7 @@ pub(crate) fn base_in(word: &[u8]) -> Result<BaseType, Refusal>
 pub(crate) fn read_value(alloc: Global, base: BaseType, words: Words<'_>) -> Result<Value, Refusal>
     ensures ok { IfOk result (λ v. AreElements words.entry (elements v)) }
     ensures base { IfOk result (λ v. base_of (elements v) ≡ base) }
-    ensures err { IfErr result (λ e. (e ≡ BadText) ⊎ (e ≡ OutOfMemory)) }
+    ensures err { IfErr result (λ e. Refuses (λ (v : Elements). (base_of v ≡ base) × AreElements words.entry v) e) }
 {
     match base {
         BaseType::String => Ok(Value::Strings(read_all(alloc, words)?)),
@@ -69,7 +72,7 @@ pub(crate) fn read_value(alloc: Global, base: BaseType, words: Words<'_>) -> Res
 /// The elements that the words left are. Refused by 8, then by 1.
 fn read_all<E: Element>(alloc: Global, mut words: Words<'_>) -> Result<Vec<E>, Refusal>
     ensures ok { IfOk result (λ v. AreEach E.says words.entry v.items) }
-    ensures err { IfErr result (λ e. (e ≡ BadText) ⊎ (e ≡ OutOfMemory)) }
+    ensures err { IfErr result (λ e. Refuses (AreEach E.says words.entry) e) }
 {
     let mut items = Vec::new(alloc);
     while !words.is_empty() {
@@ -81,7 +84,7 @@ fn read_all<E: Element>(alloc: Global, mut words: Words<'_>) -> Result<Vec<E>, R
 /// The whole number that a word is, where it has at most 64 bits. Refused by 8.
 fn whole_in(word: &[u8]) -> Result<i64, Refusal>
     ensures ok { IfOk result (λ z. IsWhole word.now z) }
-    ensures err { IfErr result (λ e. e ≡ BadText) }
+    ensures err { IfErr result (λ e. (e ≡ BadText) × ((z : ℤ) → IsWhole word.now z → FitsSigned w64 z → ⊥)) }
 {
     if word.first() == Some(&PLUS) {
         return Err(Refusal::BadText);
@@ -98,12 +101,19 @@ fn whole_in(word: &[u8]) -> Result<i64, Refusal>
 /// Reads a word's hexadecimal digits into just as many bytes. Refused by 8.
 fn read_hex(word: &[u8], bytes: &mut [u8]) -> Result<(), Refusal>
     ensures ok { OnOk result (IsHex word.now bytes.new) }
-    ensures err { IfErr result (λ e. e ≡ BadText) }
+    ensures err { IfErr result (λ e. (e ≡ BadText) × ((b : List ℕ) → length b ≡ length bytes.old → IsHex word.now b → ⊥)) }
 {
     match hex::decode_to_slice(word, bytes) {
         Ok(()) => Ok(()),
         Err(_) => Err(Refusal::BadText),
     }
+}
+
+/// How many bytes a word's hexadecimal digits are.
+fn byte_count(word: &[u8]) -> usize
+    ensures { (bytes : List ℕ) → IsHex word.now bytes → length bytes ≡ result }
+{
+    word.len() / 2
 }
 
 /// The number of four bytes, the highest first.
@@ -131,7 +141,7 @@ impl Element for [u8; 40] {
 
     fn read(word: &[u8]) -> Result<[u8; 40], Refusal> {
         let mut text = [0; 40];
-        let size = word.len() / 2;
+        let size = byte_count(word);
         if size > 40 {
             return Err(Refusal::BadText);
         }

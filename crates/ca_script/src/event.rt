@@ -1,6 +1,7 @@
 ghost use Rattle.std.specs.Prelude.{◌≡◌, ◌∷◌, [], ℕ, List, IfErr, IfOk, MatchOption};
 ghost use Rattle.ca_text.specs.declared.refusal.Refusal.TheVariants.{BadText};
-ghost use Rattle.ca_script.specs.Events.{AreNumbers, Refuses, Says, verb_word};
+ghost use Rattle.ca_script.specs.Events.{AreNumbers, Says, verb_word};
+ghost use Rattle.ca_script.specs.Grammar.{Refuses};
 ghost use Rattle.ca_script.specs.declared.event.Verb.{Verb};
 ghost use Rattle.ca_script.specs.declared.event.Verb.TheVariants as verb;
 
@@ -58,7 +59,7 @@ impl Verb {
 /// Reads an event from the words behind its verb. Refused by 8 where they are none, then by 1.
 pub(crate) fn read_event(alloc: Global, verb: Verb, words: Words<'_>) -> Result<Event, Refusal>
     ensures ok { IfOk result (λ e. Says verb words.entry e) }
-    ensures err { IfErr result (λ e. Refuses verb words.entry e) }
+    ensures err { IfErr result (λ e. Refuses (Says verb words.entry) e) }
 {
     match verb {
         Verb::Open => read_open(alloc, words),
@@ -98,7 +99,7 @@ pub(crate) fn read_event(alloc: Global, verb: Verb, words: Words<'_>) -> Result<
 /// `open C NAME PRIORITY`, behind the verb.
 fn read_open(alloc: Global, mut words: Words<'_>) -> Result<Event, Refusal>
     ensures ok { IfOk result (λ e. Says verb.Open words.entry e) }
-    ensures err { IfErr result (λ e. Refuses verb.Open words.entry e) }
+    ensures err { IfErr result (λ e. Refuses (Says verb.Open words.entry) e) }
 {
     let client = words.number()?;
     let name = words.word()?;
@@ -114,7 +115,7 @@ fn read_open(alloc: Global, mut words: Words<'_>) -> Result<Event, Refusal>
 /// `cut K client|server`, behind the verb.
 fn read_cut(mut words: Words<'_>) -> Result<Event, Refusal>
     ensures ok { IfOk result (λ e. Says verb.Cut words.entry e) }
-    ensures err { IfErr result (λ e. Refuses verb.Cut words.entry e) }
+    ensures err { IfErr result (λ e. Refuses (Says verb.Cut words.entry) e) }
 {
     let circuit = words.number()?;
     let which = words.word()?;

@@ -1,6 +1,6 @@
-ghost use Rattle.std.specs.Prelude.{◌≡◌, ◌⊎◌, ◌<◌, ◌∷◌, ℕ, List, IfErr, IfOk, OnOk};
-ghost use Rattle.ca_text.specs.declared.refusal.Refusal.TheVariants.{BadText, OutOfMemory};
-ghost use Rattle.ca_script.specs.Grammar.{IsNumber};
+ghost use Rattle.std.specs.Prelude.{◌≡◌, ◌<◌, ◌∷◌, ℕ, Bool, List, IfErr, IfOk, OnOk};
+ghost use Rattle.ca_text.specs.declared.refusal.Refusal.TheVariants.{BadText};
+ghost use Rattle.ca_script.specs.Grammar.{IsNumber, Refuses};
 ghost use Rattle.ca_script.specs.Lines.{IsAddress, SaysClient, SaysRecord, SaysServer, slow_word};
 
 use crate::config::Named;
@@ -13,7 +13,7 @@ use std::alloc::Global;
 /// `USER HOST`, behind the line's first word. Refused by 8, then by 1.
 pub(crate) fn read_client(alloc: Global, mut words: Words<'_>) -> Result<Named, Refusal>
     ensures ok { IfOk result (λ n. SaysClient words.entry n) }
-    ensures err { IfErr result (λ e. (e ≡ BadText) ⊎ (e ≡ OutOfMemory)) }
+    ensures err { IfErr result (λ e. Refuses (SaysClient words.entry) e) }
 {
     let user = words.word()?;
     let host = words.word()?;
@@ -26,7 +26,7 @@ pub(crate) fn read_client(alloc: Global, mut words: Words<'_>) -> Result<Named, 
 /// `A.B.C.D:PORT`, behind the line's first word: an IPv4 address and a port. Refused by 8.
 pub(crate) fn read_server(mut words: Words<'_>) -> Result<(u32, u16), Refusal>
     ensures ok { IfOk result (λ p. SaysServer words.entry p.0 p.1) }
-    ensures err { IfErr result (λ e. e ≡ BadText) }
+    ensures err { IfErr result (λ e. (e ≡ BadText) × ((address port : ℕ) → SaysServer words.entry address port → ⊥)) }
 {
     let word = words.word()?;
     words.end()?;
@@ -44,7 +44,7 @@ pub(crate) fn read_server(mut words: Words<'_>) -> Result<(u32, u16), Refusal>
 /// The address that a text is: four numbers below 256, parted by dots. Refused by 8.
 fn address_in(text: &[u8]) -> Result<u32, Refusal>
     ensures ok { IfOk result (λ address. IsAddress text.now address) }
-    ensures err { IfErr result (λ e. e ≡ BadText) }
+    ensures err { IfErr result (λ e. (e ≡ BadText) × ((address : ℕ) → IsAddress text.now address → ⊥)) }
 {
     let mut parts = Pieces::<46>::new(text);
     let a = octet(&mut parts)?;
@@ -58,7 +58,7 @@ fn address_in(text: &[u8]) -> Result<u32, Refusal>
 fn octet(parts: &mut Pieces<'_, 46>) -> Result<u8, Refusal>
     ensures ok { IfOk result (λ n. (w : List ℕ) × (parts.old ≡ w ∷ parts.new) × IsNumber w n) }
     ensures small { IfOk result (λ n. n < 256) }
-    ensures err { IfErr result (λ e. e ≡ BadText) }
+    ensures err { IfErr result (λ e. (e ≡ BadText) × ((w : List ℕ) (ws : List (List ℕ)) (n : ℕ) → parts.old ≡ w ∷ ws → IsNumber w n → n < 256 → ⊥)) }
 {
     match u8::try_from(parts.number()?) {
         Ok(octet) => Ok(octet),
@@ -74,7 +74,7 @@ pub(crate) fn read_record(
     records: &mut Records,
 ) -> Result<(), Refusal>
     ensures ok { OnOk result (SaysRecord words.entry records.old records.new) }
-    ensures err { IfErr result (λ e. (e ≡ BadText) ⊎ (e ≡ OutOfMemory)) }
+    ensures err { IfErr result (λ e. Refuses (SaysRecord words.entry records.old) e) }
 {
     let name = words.word()?;
     let base = base_in(words.word()?)?;
@@ -90,15 +90,17 @@ pub(crate) fn read_record(
     value.know();
     match records.define(name, count, slow, value) {
         Ok(()) => Ok(()),
-        Err(Refusal::OutOfMemory) => Err(Refusal::OutOfMemory),
-        Err(_) => Err(Refusal::BadText),
+        Err(refusal) => match refusal {
+            Refusal::OutOfMemory => Err(Refusal::OutOfMemory),
+            _ => Err(Refusal::BadText),
+        },
     }
 }
 
 /// Whether a put takes the record time, as a word says. Refused by 8.
 fn slow_in(word: &[u8]) -> Result<bool, Refusal>
     ensures ok { IfOk result (λ slow. word.now ≡ slow_word slow) }
-    ensures err { IfErr result (λ e. e ≡ BadText) }
+    ensures err { IfErr result (λ e. (e ≡ BadText) × ((slow : Bool) → word.now ≡ slow_word slow → ⊥)) }
 {
     if is_word(word, "quick") {
         return Ok(false);

@@ -1,6 +1,5 @@
-ghost use Rattle.std.specs.Prelude.{◌≡◌, ◌⊎◌, ◌≤◌, ◌∷◌, IfErr, IfOk, OnOk, codes, length};
-ghost use Rattle.ca_text.specs.declared.refusal.Refusal.TheVariants.{BadText, OutOfMemory};
-ghost use Rattle.ca_script.specs.Grammar.{parted};
+ghost use Rattle.std.specs.Prelude.{◌≤◌, ◌∷◌, IfErr, IfOk, OnOk, codes, length};
+ghost use Rattle.ca_script.specs.Grammar.{Refuses, parted};
 ghost use Rattle.ca_script.specs.Scripts.{Adds, AddsAll, AddsClient, AddsRecord, AddsServer, lines_of, nothing, reading};
 
 use crate::config::{Config, Served};
@@ -27,7 +26,7 @@ pub fn read_script(alloc: Global, text: &[u8]) -> Result<Script, Refusal>
     ensures lines { IfOk result (λ s. AddsAll nothing (lines_of text.now) (reading s)) }
     ensures clients { IfOk result (λ s. length s.config.clients.items ≤ 1) }
     ensures servers { IfOk result (λ s. length s.config.servers.items ≤ 1) }
-    ensures err { IfErr result (λ e. (e ≡ BadText) ⊎ (e ≡ OutOfMemory)) }
+    ensures err { IfErr result (λ e. Refuses (AddsAll nothing (lines_of text.now)) e) }
 {
     let mut script = Script {
         config: Config {
@@ -52,7 +51,7 @@ fn read_line(alloc: Global, line: &[u8], script: &mut Script) -> Result<(), Refu
     ensures ok { OnOk result (Adds (reading script.old) (parted 32 line.now) (reading script.new)) }
     ensures clients { OnOk result (length script.new.config.clients.items ≤ 1) }
     ensures servers { OnOk result (length script.new.config.servers.items ≤ 1) }
-    ensures err { IfErr result (λ e. (e ≡ BadText) ⊎ (e ≡ OutOfMemory)) }
+    ensures err { IfErr result (λ e. Refuses (Adds (reading script.old) (parted 32 line.now)) e) }
 {
     let mut words = Words::new(line);
     let first = words.word()?;
@@ -79,7 +78,7 @@ fn add_client(alloc: Global, words: Words<'_>, script: &mut Script) -> Result<()
     ensures ok { OnOk result (AddsClient (reading script.old) (codes "client" ∷ words.entry) (reading script.new)) }
     ensures clients { OnOk result (length script.new.config.clients.items ≤ 1) }
     ensures servers { OnOk result (length script.new.config.servers.items ≤ 1) }
-    ensures err { IfErr result (λ e. (e ≡ BadText) ⊎ (e ≡ OutOfMemory)) }
+    ensures err { IfErr result (λ e. Refuses (AddsClient (reading script.old) (codes "client" ∷ words.entry)) e) }
 {
     let Script { config, events } = script;
     if !config.clients.is_empty() || !config.servers.is_empty() || !events.is_empty() {
@@ -96,7 +95,7 @@ fn add_server(alloc: Global, words: Words<'_>, script: &mut Script) -> Result<()
     ensures ok { OnOk result (AddsServer (reading script.old) (codes "server" ∷ words.entry) (reading script.new)) }
     ensures clients { OnOk result (length script.new.config.clients.items ≤ 1) }
     ensures servers { OnOk result (length script.new.config.servers.items ≤ 1) }
-    ensures err { IfErr result (λ e. (e ≡ BadText) ⊎ (e ≡ OutOfMemory)) }
+    ensures err { IfErr result (λ e. Refuses (AddsServer (reading script.old) (codes "server" ∷ words.entry)) e) }
 {
     let Script { config, events } = script;
     if !config.servers.is_empty() || !events.is_empty() {
@@ -118,7 +117,7 @@ fn add_record(alloc: Global, words: Words<'_>, script: &mut Script) -> Result<()
     ensures ok { OnOk result (AddsRecord (reading script.old) (codes "record" ∷ words.entry) (reading script.new)) }
     ensures clients { OnOk result (length script.new.config.clients.items ≤ 1) }
     ensures servers { OnOk result (length script.new.config.servers.items ≤ 1) }
-    ensures err { IfErr result (λ e. (e ≡ BadText) ⊎ (e ≡ OutOfMemory)) }
+    ensures err { IfErr result (λ e. Refuses (AddsRecord (reading script.old) (codes "record" ∷ words.entry)) e) }
 {
     if !script.events.is_empty() {
         return Err(Refusal::BadText);

@@ -1,0 +1,24 @@
+use Rattle.std.proofs.Common.{◌∙◌, sym, rules}
+use Rattle.ca_text.specs.declared.refusal.Refusal.{Refusal}
+use Rattle.ca_script.specs.Grammar.{Refuses, parted}
+use Rattle.ca_script.specs.Scripts.{Adds, reading}
+use Rattle.ca_script.proofs.Following.{client-refused, line-refused, record-refused, server-refused}
+use Rattle.ca_script.proofs.Sayings.{handed-on}
+use Rattle.ca_script.proofs.script.read_line.Goals as goal
+
+pub returns-in_err-first-clause-err : goal.returns-in_err-first-clause-err
+returns-in_err-first-clause-err c =
+    handed-on c.from_residual.result c.in_err-first.field-0.0 (λ (e : Refusal). Refuses (Adds (reading c.args.script.now) (parted 32 c.args.line.now)) e) c.from_residual.ensures.1
+    (line-refused (reading c.args.script.now) (parted 32 c.args.line.now) c.in_err-first.field-0.0 (c.in_err-first.ensures.err.0, λ w ws e long. c.in_err-first.ensures.err.1 w ws (c.new-words.ensures ∙ e) long))
+
+pub returns-then-is_word-clause-err : goal.returns-then-is_word-clause-err
+returns-then-is_word-clause-err c =
+    client-refused c.add_client.result (reading c.args.script.now) (parted 32 c.args.line.now) _ c.in_ok-first.first.now (sym c.new-words.ensures ∙ c.in_ok-first.ensures.ok.0) (search rules) c.add_client.ensures.err
+
+pub returns-then-is_word-2-clause-err : goal.returns-then-is_word-2-clause-err
+returns-then-is_word-2-clause-err c =
+    server-refused c.add_server.result (reading c.args.script.now) (parted 32 c.args.line.now) _ c.in_ok-first.first.now (sym c.new-words.ensures ∙ c.in_ok-first.ensures.ok.0) (search rules) c.add_server.ensures.err
+
+pub returns-then-is_word-3-clause-err : goal.returns-then-is_word-3-clause-err
+returns-then-is_word-3-clause-err c =
+    record-refused c.add_record.result (reading c.args.script.now) (parted 32 c.args.line.now) _ c.in_ok-first.first.now (sym c.new-words.ensures ∙ c.in_ok-first.ensures.ok.0) (search rules) c.add_record.ensures.err
