@@ -24,7 +24,7 @@ pub fn run<R: Net + Files, I: Read + Drop, O: Write + Drop, E: Write>(
     alloc: Global,
     words: &[String],
     input: I,
-    output: O,
+    mut output: O,
     err: &mut E,
 ) -> u8
     ensures within { result ≤ 2 }
@@ -35,7 +35,7 @@ pub fn run<R: Net + Files, I: Read + Drop, O: Write + Drop, E: Write>(
 {
     match read_line(alloc, words) {
         Ok(Some(Line::Answer)) => answer_console(alloc, None, input, output, err),
-        Ok(Some(Line::Repeater(line))) => repeater_bound(system, alloc, line, err),
+        Ok(Some(Line::Repeater(line))) => repeater_bound(system, alloc, line, &mut output, err),
         Ok(Some(Line::Replay(line))) => replay_file(system, alloc, line, output, err),
         Ok(None) => not_understood(err),
         Err(refusal) => report(Err(refusal), err),

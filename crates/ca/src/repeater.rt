@@ -13,20 +13,47 @@ use std::net::{Ipv4Addr, Net, UdpSocket};
 /// Bytes of the greatest datagram.
 const DATAGRAM: usize = 65_535;
 
-/// Binds the port and runs the host's repeater on it, tells a refusal on `err`, and gives the exit status.
-pub(crate) fn repeater_bound<R: Net, W: Write>(
+/// Binds the port and runs the host's repeater on it, tells a refusal on `err`, and gives the exit status. Port 0 is the
+/// system's choice, and a line on `output` says which it is.
+pub(crate) fn repeater_bound<R: Net, O: Write, E: Write>(
     net: &R,
     alloc: Global,
     line: RepeaterLine,
-    err: &mut W,
+    output: &mut O,
+    err: &mut E,
 ) -> u8
     ensures { result ≤ 1 }
 {
-    // Beacons come from other hosts too.
-    match UdpSocket::bind(net, (Ipv4Addr::UNSPECIFIED, line.port)) {
+    match bound(net, line.port, output) {
         Ok(socket) => repeater_run(alloc, &socket, line.datagrams, err),
-        Err(_) => report(Err(Refusal::Device), err),
+        Err(refusal) => report(Err(refusal), err),
     }
+}
+
+/// A socket of this port.
+fn bound<R: Net, O: Write>(net: &R, port: u16, output: &mut O) -> Result<UdpSocket, Refusal> {
+    // Beacons come from other hosts too.
+    let Ok(socket) = UdpSocket::bind(net, (Ipv4Addr::UNSPECIFIED, port)) else {
+        return Err(Refusal::Device);
+    };
+    if port == 0 {
+        tell_port(&socket, output)?;
+    }
+    Ok(socket)
+}
+
+/// Says on which address the repeater hears.
+fn tell_port<O: Write>(socket: &UdpSocket, output: &mut O) -> Result<(), Refusal> {
+    let Ok(address) = socket.local_addr() else {
+        return Err(Refusal::Device);
+    };
+    let Ok(()) = writeln!(output, "repeating {address}") else {
+        return Err(Refusal::Device);
+    };
+    let Ok(()) = output.flush() else {
+        return Err(Refusal::Device);
+    };
+    Ok(())
 }
 
 /// Runs the host's repeater on this socket, until it took so many datagrams, or for good; tells a refusal on `err`, and

@@ -20,8 +20,9 @@ pub(crate) const STAMPED: [u8; 12] = [0, 3, 0, 1, 1, 2, 3, 4, 10, 11, 12, 13];
 /// Forty bytes that begin with these.
 pub(crate) fn text(front: &[u8]) -> [u8; 40] {
     let mut all = [0; 40];
-    let size = front.len().min(40);
-    all[..size].copy_from_slice(&front[..size]);
+    for (to, from) in all.iter_mut().zip(front) {
+        *to = *from;
+    }
     all
 }
 
@@ -37,7 +38,7 @@ pub(crate) fn round_in(
     let count = u32::try_from(value.count())?;
     let number = data_type.number();
     let mut bytes = Vec::new(alloc);
-    write_value(number, value, &META, &mut bytes)?;
+    assert!(rt; write_value(number, value, &META, &mut bytes) == Ok(()));
     assert_eq!(rt; bytes.as_slice(), expected);
     assert!(rt; image_size(number, count) == Ok(bytes.len()));
     bytes.extend_from_slice(b"behind")?;
@@ -229,45 +230,41 @@ fn texts(rt: HostRuntime) -> Result<(), Fail> {
     )
 }
 
+/// A value has an image of this size, and is read again from it.
+fn comes_back(
+    rt: &impl Abort,
+    alloc: Global,
+    number: u16,
+    value: &Value,
+    size: usize,
+) -> Result<(), Fail> {
+    let count = u32::try_from(value.count())?;
+    let mut bytes = Vec::new(alloc);
+    assert!(rt; write_value(number, value, &META, &mut bytes) == Ok(()));
+    assert_eq!(rt; bytes.len(), size);
+    let (again, _meta) = read_value(alloc, number, count, &bytes)?;
+    assert!(rt; again == *value);
+    Ok(())
+}
+
 #[test]
 fn large_counts(rt: HostRuntime) -> Result<(), Fail> {
     let alloc = rt.alloc();
-    let doubles = vec![in alloc; 0x0102_0304_0506_0708; 131_070]?;
-    let mut bytes = Vec::new(alloc);
-    write_value(20, &Value::Doubles(doubles), &META, &mut bytes)?;
-    assert_eq!(rt; bytes.len(), 16 + 8 * 131_070);
-    let (value, meta) = read_value(alloc, 20, 131_070, &bytes)?;
-    assert!(rt; meta == META);
-    assert!(rt; value == Value::Doubles(vec![in alloc; 0x0102_0304_0506_0708; 131_070]?));
-    let mut chars = Vec::new(alloc);
-    write_value(
-        4,
-        &Value::Chars(vec![in alloc; 7; 262_144]?),
-        &META,
-        &mut chars,
-    )?;
-    assert!(rt;
-        read_value(alloc, 4, 262_144, &chars)
-            == Ok((Value::Chars(vec![in alloc; 7; 262_144]?), Meta::ZERO))
-    );
-    let mut texts = Vec::new(alloc);
-    write_value(
-        0,
-        &Value::Strings(vec![in alloc; text(b"seven"); 20_000]?),
-        &META,
-        &mut texts,
-    )?;
-    assert_eq!(rt; texts.len(), 800_000);
-    let (value, _meta) = read_value(alloc, 0, 20_000, &texts)?;
-    assert!(rt; value == Value::Strings(vec![in alloc; text(b"seven"); 20_000]?));
-    Ok(())
+    let doubles = Value::Doubles(vec![in alloc; 0x0102_0304_0506_0708; 131_070]?);
+    comes_back(&rt, alloc, 20, &doubles, 16 + 8 * 131_070)?;
+    let chars = Value::Chars(vec![in alloc; 7; 262_144]?);
+    comes_back(&rt, alloc, 4, &chars, 262_144)?;
+    let texts = Value::Strings(vec![in alloc; text(b"seven"); 20_000]?);
+    comes_back(&rt, alloc, 0, &texts, 800_000)
 }
 
 /// What a read of so many elements in a type shows.
 fn shown(alloc: Global, number: u16, count: u32, value: &Value) -> Result<Vec<u8>, Refusal> {
     let mut bytes = Vec::new(alloc);
-    write_shown(number, count, value, &Meta::ZERO, &mut bytes)?;
-    Ok(bytes)
+    match write_shown(number, count, value, &Meta::ZERO, &mut bytes) {
+        Ok(()) => Ok(bytes),
+        Err(refusal) => Err(refusal),
+    }
 }
 
 #[test]
@@ -317,9 +314,9 @@ fn a_fault_leaves_the_bytes(rt: HostRuntime) -> Result<(), Fail> {
     let many = Value::Longs(vec![in alloc; 1, 256]?);
     assert!(rt; write_shown(4, 2, &many, &META, &mut bytes) == Err(Refusal::OutOfRange));
     assert_eq!(rt; bytes.as_slice(), b"x".as_slice());
-    write_shown(4, 1, &many, &META, &mut bytes)?;
+    assert!(rt; write_shown(4, 1, &many, &META, &mut bytes) == Ok(()));
     assert_eq!(rt; bytes.as_slice(), [b'x', 1].as_slice());
-    write_zero_image(11, 2, &mut bytes)?;
+    assert!(rt; write_zero_image(11, 2, &mut bytes) == Ok(()));
     assert_eq!(rt; bytes.as_slice(), [b'x', 1, 0, 0, 0, 0, 0, 0, 0].as_slice());
     Ok(())
 }

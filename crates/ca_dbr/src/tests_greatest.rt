@@ -38,18 +38,20 @@ fn repeats(
 #[test]
 fn greatest_of_two_bytes_and_one(rt: HostRuntime) -> Result<(), Fail> {
     let alloc = rt.alloc();
-    let ints = Value::Ints(vec![in alloc; -2; 262_144]?);
-    repeats(&rt, alloc, &ints, Form::Plain, &[], &[255, 254])?;
-    repeats(&rt, alloc, &ints, Form::Status, &[], &[255, 254])?;
-    repeats(&rt, alloc, &ints, Form::Time, &[0, 0], &[255, 254])?;
-    let enums = Value::Enums(vec![in alloc; 258; 262_144]?);
-    repeats(&rt, alloc, &enums, Form::Plain, &[], &[1, 2])?;
-    repeats(&rt, alloc, &enums, Form::Status, &[], &[1, 2])?;
-    repeats(&rt, alloc, &enums, Form::Time, &[0, 0], &[1, 2])?;
-    let chars = Value::Chars(vec![in alloc; 200; 262_144]?);
-    repeats(&rt, alloc, &chars, Form::Plain, &[], &[200])?;
-    repeats(&rt, alloc, &chars, Form::Status, &[0], &[200])?;
-    repeats(&rt, alloc, &chars, Form::Time, &[0, 0, 0], &[200])
+    let rows: [(Form, &[u8], &[u8]); 3] = [
+        (Form::Plain, &[], &[]),
+        (Form::Status, &[], &[0]),
+        (Form::Time, &[0, 0], &[0, 0, 0]),
+    ];
+    for (form, padding, char_padding) in &rows {
+        let ints = Value::Ints(vec![in alloc; -2; 262_144]?);
+        repeats(&rt, alloc, &ints, *form, padding, &[255, 254])?;
+        let enums = Value::Enums(vec![in alloc; 258; 262_144]?);
+        repeats(&rt, alloc, &enums, *form, padding, &[1, 2])?;
+        let chars = Value::Chars(vec![in alloc; 200; 262_144]?);
+        repeats(&rt, alloc, &chars, *form, char_padding, &[200])?;
+    }
+    Ok(())
 }
 
 #[test]
