@@ -4,7 +4,9 @@ pub mod Moves
 pub mod Priorities
 pub mod Found
 pub mod Lines
-pub mod Calls
+pub mod Sendings
+pub mod OpenCalls
+pub mod ReadCalls
 pub mod Closes
 pub mod Cuts
 pub mod Accepts

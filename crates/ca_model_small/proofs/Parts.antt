@@ -14,16 +14,13 @@ use Rattle.ca_model_whole.specs.Sends.{on_channel}
 use Rattle.ca_text.specs.Command.{command_number}
 use Rattle.ca_text.specs.declared.command.Command.TheVariants as command
 use Rattle.ca_text.specs.Place.{At}
-use Rattle.ca_dbr.specs.declared.value.Outcome.{Outcome}
 use Rattle.ca_records.specs.Record.{RecordState}
 use Rattle.ca_model.specs.declared.data.Sent.{Sent}
 use Rattle.ca_model.specs.declared.data.Told.{Told}
 use Rattle.ca_model.specs.Circuit as small
-use Rattle.ca_model.specs.Client.{OutcomeOf}
 use Rattle.ca_model.specs.Safe as small_safe
 use Rattle.ca_model_whole.specs.ActsOnRecord.{ActsOnNames}
 use Rattle.ca_model_whole.specs.Calls.{Line, names_in}
-use Rattle.ca_model_whole.specs.Hears.{ReplyMeans}
 use Rattle.ca_model_whole.specs.OwnOnce.{TakesOwn}
 
 -- ---- the histories of the small world

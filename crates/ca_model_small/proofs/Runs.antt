@@ -18,7 +18,8 @@ use Rattle.ca_model_whole.specs.World.{ClientSide, World, new_client_side, new_s
 use Rattle.ca_model_small.specs.Happens.{Happens, Runs}
 use Rattle.ca_model_small.specs.Matches.{Matches, MatchesClient, MatchesServerSide, peer_of, server_of, server_setting, setting_of}
 use Rattle.ca_model_small.proofs.Accepts.{accept-alike}
-use Rattle.ca_model_small.proofs.Calls.{open-alike, read-alike}
+use Rattle.ca_model_small.proofs.OpenCalls.{open-alike}
+use Rattle.ca_model_small.proofs.ReadCalls.{read-alike}
 use Rattle.ca_model_small.proofs.Cuts.{cut-client-alike}
 use Rattle.ca_model_small.proofs.Delivers.{down-alike, up-alike}
 use Rattle.ca_model_small.proofs.Hears.{client-step-alike}

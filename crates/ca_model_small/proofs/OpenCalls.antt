@@ -1,34 +1,28 @@
--- A client opens a channel, or issues a read, in both worlds.
-use Rattle.std.proofs.Common.{◌≡◌, ℕ, zero, suc, ◌+◌, ◌≤◌, ◌⊎◌, inl, inr, Bool, true, false, cond, not, Option, Some, None, List, [], ◌∷◌, ◌++◌, length, refl, sym, ap, subst, ◌∙◌, append-nil, arith}
-use Rattle.std.specs.Prelude.{count_by, map, slice_set, unwrap_or, ◌%◌, ◌^◌, ◌≢◌}
-use Rattle.std.specs.Option.{option_map}
+-- A client opens a channel in both worlds.
+use Rattle.std.proofs.Common.{◌≡◌, ℕ, suc, ◌+◌, ◌≤◌, inl, inr, Bool, true, false, cond, not, Option, List, [], ◌∷◌, ◌++◌, length, refl, sym, ap, subst, ◌∙◌, append-nil, arith}
+use Rattle.std.specs.Prelude.{count_by, map, slice_set, ◌%◌, ◌^◌, ◌≢◌}
 use Rattle.std.proofs.lemmas.Bool.{eq-eqb}
 use Rattle.std.proofs.lemmas.List.{length-map, map-append}
 use Rattle.ca_text.specs.declared.refusal.Refusal.{Refusal}
 use Rattle.ca_text.specs.declared.refusal.Refusal.TheVariants as refusal
 use Rattle.ca_text.specs.Place.{At}
-use Rattle.ca_text.proofs.Places.{At-append, At-last, At-map, At-mapped, At-one, At-snoc, At-within, some_is}
-use Rattle.ca_wire.specs.Fields.{Fields}
-use Rattle.ca_wire.specs.Message.{spelled}
+use Rattle.ca_text.proofs.Places.{At-append, At-last, At-map, At-mapped, At-one, At-snoc, At-within}
 use Rattle.ca_model.specs.declared.data.Intent.TheVariants as intent
 use Rattle.ca_model.specs.declared.data.Logged.TheVariants as logged
 use Rattle.ca_model.specs.declared.data.Phase.{Phase}
 use Rattle.ca_model.specs.declared.data.Phase.TheVariants as phase
-use Rattle.ca_model.specs.declared.data.Request.{Request}
 use Rattle.ca_model.specs.declared.data.Sent.{Sent}
 use Rattle.ca_model.specs.Circuit.{CircuitState}
 use Rattle.ca_model.specs.Client.{CanOpen, ChannelState, ClientEnd, is_on, joined, read_fault, sending, waits_at}
 use Rattle.ca_model.specs.Client as small
-use Rattle.ca_model.specs.Requests.{create_request, read_request}
-use Rattle.ca_model.specs.Server.{ServerEnd}
+use Rattle.ca_model.specs.Requests.{create_request}
 use Rattle.ca_model.specs.World as small_world
 use Rattle.ca_model_runs.specs.Holds.{Holds, name_of}
 use Rattle.ca_model_runs.proofs.Counts.{count-cons}
-use Rattle.ca_model_runs.proofs.Ends.{bool_cases, cond-true, last-of, not_both, spelled-one}
-use Rattle.ca_model_runs.proofs.Lists.{At-set-here, none_at}
+use Rattle.ca_model_runs.proofs.Ends.{cond-true, not_both}
+use Rattle.ca_model_runs.proofs.Lists.{At-set-here}
 use Rattle.ca_model_runs.proofs.Opens.{channel_by, opened-is, opened_by}
-use Rattle.ca_model_runs.proofs.Sends.{moved-is, on_circuit, sent_on}
-use Rattle.ca_model_runs.proofs.Worlds.{nat_cases}
+use Rattle.ca_model_runs.proofs.Sends.{on_circuit, sent_on}
 use Rattle.ca_model_whole.specs.Calls.{Line, Open, Read}
 use Rattle.ca_model_whole.specs.Calls as calls
 use Rattle.ca_model_whole.specs.Client.{Address, Asked, Channel, Connecting, On, Searching, Standing, is_cleared, is_gone, phase_of}
@@ -38,31 +32,13 @@ use Rattle.ca_model_whole.specs.ClientCalls.{ReadsWhile, waits_on}
 use Rattle.ca_model_whole.specs.Moves.{Carries, Finds}
 use Rattle.ca_model_whole.specs.World.{ClientSide, Course, World, calling, refusing, waiting_up, with_client, with_course}
 use Rattle.ca_model_whole.specs.World as whole_world
-use Rattle.ca_model_small.specs.Happens.{AreFound, HappensOpening, IsFound, issued, reply_for}
-use Rattle.ca_model_small.specs.Matches.{IsUsed, Matches, MatchesClient, MatchesCourse, MatchesServer, basic_of, channel_of, cid_of, core_of, priority_of, server_of, side_of, standing_of, state_of, wanted_of}
+use Rattle.ca_model_small.specs.Happens.{AreFound, HappensOpening, IsFound, reply_for}
+use Rattle.ca_model_small.specs.Matches.{IsUsed, Matches, MatchesClient, channel_of, cid_of, core_of, priority_of, server_of, side_of, standing_of, state_of, wanted_of}
 use Rattle.ca_model_small.proofs.Found.{NoneCarries, finds, joined-cases, set-again, set-behind, standing-is, wanting-is, with_parts}
 use Rattle.ca_model_small.proofs.Lines.{lines-one}
 use Rattle.ca_model_small.proofs.Priorities.{channels-same}
-use Rattle.ca_model_small.proofs.Moves.{Client, Moves, Pair, client-of, course-quiet, extends-quiet, matches-alone, matches-moved, pair-of, server-quiet}
-
--- ---- a refused call
-
-side-refused : (home : Address) (n : ℕ) (x : small_world.ClientSide) (side : ClientSide) (e : Refusal) → MatchesClient home n x side → MatchesClient home n (small_world.logging (logged.Refused e) x) (refusing e side)
-side-refused home n x side e m = record {
-  reqs = m.reqs;
-  log = m.log ++ calls.Refused e ∷ [];
-  is = ap (λ (z : ClientSide). refusing e z) m.is;
-  life = m.life;
-  requests = m.requests;
-  lines = lines-one x.names x.names x.log (x.log ++ logged.Refused e ∷ []) m.log (calls.Refused e) tt (append-nil x.names) refl m.lines;
-  indexed = m.indexed;
-  used = m.used;
-}
-
-refused-alike : (home : Address) (w : small_world.World) (whole : World) (client : ℕ) (x : small_world.ClientSide) (e : Refusal) → Matches home w whole → At w.clients client x → (c : Client home w whole client x)
-    → Matches home (small_world.with_client w client (small_world.logging (logged.Refused e) x)) (with_client whole client (refusing e c.side))
-refused-alike home w whole client x e m at c =
-    matches-alone home w whole client c.n x (small_world.logging (logged.Refused e) x) (refusing e c.side) m at c.his (side-refused home c.n x c.side e c.matches) refl
+use Rattle.ca_model_small.proofs.Moves.{client-of, matches-alone}
+use Rattle.ca_model_small.proofs.Sendings.{both-of, his-side, is_on-sent, refused-alike, sends-there}
 
 -- ---- an opening is refused
 
@@ -121,10 +97,6 @@ open-refused home w whole client name priority x e m at fault =
     )
 
 -- ---- a client with one more channel
-
-is_on-sent : (message : Fields) (link : Option ClientEnd) (q : ℕ) → is_on (option_map (sending message) link) q ≡ is_on link q
-is_on-sent message None q = refl
-is_on-sent message (Some e) q = refl
 
 prior-more : (cs : List ChannelState) (d : ChannelState) (p : ℕ) → (i : ℕ) × At (map priority_of cs) i p → (i : ℕ) × At (map priority_of (cs ++ d ∷ [])) i p
 prior-more cs d p h = (h.0, subst (λ (t : List ℕ). At t h.0 p) (sym (map-append priority_of cs (d ∷ []))) (At-append (map priority_of cs) (d.priority ∷ []) h.0 p h.1))
@@ -263,93 +235,6 @@ open-waiting home w whole client name priority cid x h m at can off =
       matches-alone home w whole client n x (opened_by false x name priority cid) final m at c.his (matches-opened home n false x c.side name priority cid c.matches can) refl,
     )
 
--- ---- a message goes up an open circuit
-
--- the open circuit of a client in both worlds, with its ends
-record Both (home : Address) (w : small_world.World) (whole : World) (client priority : ℕ) (x : small_world.ClientSide) (k : ℕ) (c : CircuitState) : Type 0 where
-  d : Course
-  is : d.state ≡ c
-  at : At whole.courses k d
-  y : small_world.ServerSide
-  joins : small_world.Joins w k d.state x y
-  mine : d.state.client ≡ client
-  prior : d.state.priority ≡ priority
-  lives : d.state.client_life ≡ x.life
-  on : d.state.client_open ≡ true
-  e : ClientEnd
-  linked : x.core.link ≡ Some e
-  course : MatchesCourse home k x y d
-  served : At whole.servers d.state.server (server_of home y)
-
-both-of : (home : Address) (w : small_world.World) (whole : World) (client priority : ℕ) (x : small_world.ClientSide) (k : ℕ) (c : CircuitState) → Holds w → Matches home w whole → At w.clients client x
-    → small_world.Carries w client priority k c → Both home w whole client priority x k c
-both-of home w whole client priority x k c h m at car =
-    let o = on_circuit w client priority x k c h at car in
-    let p : Pair home w whole k c x o.y = pair-of home w whole k c x o.y m o.joins in
-    let is : p.d.state ≡ c = p.is in
-    record {
-      d = p.d;
-      is = is;
-      at = p.at;
-      y = o.y;
-      joins = subst (λ (z : CircuitState). small_world.Joins w k z x o.y) (sym is) o.joins;
-      mine = ap (λ (z : CircuitState). z.client) is ∙ car.mine;
-      prior = ap (λ (z : CircuitState). z.priority) is ∙ car.prior;
-      lives = ap (λ (z : CircuitState). z.client_life) is ∙ o.link.lives;
-      on = ap (λ (z : CircuitState). z.client_open) is ∙ car.is_open;
-      e = o.e;
-      linked = o.link.linked;
-      course = p.course;
-      served = subst (λ (z : CircuitState). At whole.servers z.server (server_of home o.y)) (sym is) p.served;
-    }
-
-end-sent : (message : Fields) (link link' : Option ClientEnd) (e : ClientEnd) → link ≡ Some e → link' ≡ option_map (sending message) link → link' ≡ Some (record e { output = e.output ++ spelled (message ∷ []) })
-end-sent message link link' e is is' =
-    is' ∙ ap (λ (o : Option ClientEnd). option_map (sending message) o) is ∙ ap (λ (bytes : List ℕ). Some (record e { output = e.output ++ bytes })) (sym (spelled-one message))
-
--- a client's message goes up its open circuit in both worlds
-sends-alike : (home : Address) (w : small_world.World) (whole : World) (k : ℕ) (x x' : small_world.ClientSide) (y : small_world.ServerSide) (s : Sent) (side' : ClientSide) (d : Course) → Holds w
-    → Matches home w whole → small_world.Joins w k d.state x y → At whole.courses k d → d.state.client_open ≡ true → MatchesCourse home k x y d
-    → x'.core.link ≡ option_map (sending s.message) x.core.link → MatchesClient home k x' side'
-    → Matches home (small_world.with_circuit (small_world.with_client w d.state.client x') k (sent_on s d.state)) (with_course (with_client whole d.state.client side') k (whole_world.sending (s ∷ []) d))
-sends-alike home w whole k x x' y s side' d h m j at on course linked match =
-    let d' : Course = whole_world.sending (s ∷ []) d in
-    let extends = extends-quiet home w k x y d d' (s ∷ []) h j refl refl refl refl refl in
-    let holds = h.circuits k d.state x y j in
-    let client : d'.state.client_open ≡ true → x'.core.link ≡ Some d'.at_client.basic = λ z. end-sent s.message x.core.link x'.core.link d.at_client.basic (course.client on) linked in
-    let server : d'.state.server_open ≡ true → (e : ServerEnd) × (y.core.link ≡ Some e) × MatchesServer d'.state e d'.at_server = λ z.
-    let f = course.server z in
-    (f.0, f.1, server-quiet d.state d'.state (s ∷ []) f.0 d.at_server refl refl refl holds.handled_within holds.handled_sent f.2) in
-    let moves : Moves home w whole k x y d x' y side' d' =
-    record {
-      at = at;
-      client = j.client;
-      server = j.server;
-      last = last-of w k d.state h j.at (inl on);
-      client_same = refl;
-      server_same = refl;
-      records = refl;
-      life = refl;
-      n = k;
-      matches = match;
-      his = λ z. refl;
-      course = course-quiet home k x x' y y d d' course extends refl refl refl refl client server;
-    } in
-    subst (λ (v : small_world.World). Matches home v (with_course (with_client whole d.state.client side') k d')) (sym (moved-is w d.state.client k d.state x' y (sent_on s d.state) refl j.server)) (matches-moved home w whole k x y d x' y side' d' h m moves)
-
--- the same, by the client's number and the circuit of the cores' world
-sends-there : (home : Address) (w : small_world.World) (whole : World) (client priority k : ℕ) (c : CircuitState) (x x' : small_world.ClientSide) (s : Sent) (side' : ClientSide) → Holds w → Matches home w whole
-    → (b : Both home w whole client priority x k c)
-    → x'.core.link ≡ option_map (sending s.message) x.core.link → MatchesClient home k x' side'
-    → Matches home (small_world.with_circuit (small_world.with_client w client x') k (sent_on s c)) (with_course (with_client whole client side') k (whole_world.sending (s ∷ []) b.d))
-sends-there home w whole client priority k c x x' s side' h m b linked match =
-    subst (λ (z : ℕ × CircuitState). Matches home (small_world.with_circuit (small_world.with_client w z.0 x') k (sent_on s z.1)) (with_course (with_client whole z.0 side') k (whole_world.sending (s ∷ []) b.d))) (λ i. (b.mine i, b.is i))
-    (sends-alike home w whole k x x' b.y s side' b.d h m b.joins b.at b.on b.course linked match)
-
--- a client whose end is that of circuit k
-his-side : (home : Address) (w : small_world.World) (whole : World) (client priority : ℕ) (x : small_world.ClientSide) (k : ℕ) (c : CircuitState) (b : Both home w whole client priority x k c) (u : Client home w whole client x) → MatchesClient home k x u.side
-his-side home w whole client priority x k c b u = subst (λ (n : ℕ). MatchesClient home n x u.side) (u.his k b.d b.at b.mine b.on) u.matches
-
 -- ---- a channel is opened whose circuit is connected
 
 -- a message goes up a circuit of a world with other clients
@@ -428,183 +313,3 @@ open-alike home w whole client name priority new h h' m (x, at, inr (cid, can, o
         let r = open-waiting home w whole client name priority cid x h m at can off in
         let e : new ≡ small_world.with_client w client (opened_by false x name priority cid) = is ∙ ap (λ (z : small_world.ClientSide). small_world.with_client w client z) (opened-is false x name priority cid off) in
         (r.0, r.1, subst (λ (v : small_world.World). Matches home v r.0) (sym e) r.2)
-
--- ---- why a read is refused
-
--- the open circuit of a client, if there is one
-open-or-none : (cs : List CircuitState) (client : ℕ)
-    → ((k : ℕ) × (c : CircuitState) × At cs k c × (c.client ≡ client) × (c.client_open ≡ true)) ⊎ ((k : ℕ) (c : CircuitState) → At cs k c → c.client ≡ client → c.client_open ≡ false)
-open-or-none [] client = inr (λ k c at. absurd (none_at k c at))
-open-or-none (d ∷ cs) client =
-    elim (open-or-none cs client) [
-      | inl found ↦ inl (suc found.0, found.1, found.2, found.3, found.4)
-      | inr none ↦ elim (nat_cases d.client client) [
-        | inl mine ↦ elim (bool_cases d.client_open) [
-          | inl on ↦ inl (0, d, refl, mine, on)
-          | inr off ↦ inr (λ k c at his. first none off k c at his)
-        ]
-        | inr other ↦ inr (λ k c at his. others none other k c at his)
-      ]
-    ]
-  where
-    first : ((k : ℕ) (c : CircuitState) → At cs k c → c.client ≡ client → c.client_open ≡ false) → d.client_open ≡ false → (k : ℕ) (c : CircuitState) → At (d ∷ cs) k c → c.client ≡ client → c.client_open ≡ false
-    first none off zero c at his = ap (λ (z : CircuitState). z.client_open) (sym (some_is d c at)) ∙ off
-    first none off (suc k) c at his = none k c at his
-
-    others : ((k : ℕ) (c : CircuitState) → At cs k c → c.client ≡ client → c.client_open ≡ false) → (d.client ≡ client → ⊥) → (k : ℕ) (c : CircuitState) → At (d ∷ cs) k c → c.client ≡ client → c.client_open ≡ false
-    others none other zero c at his = absurd (other (ap (λ (z : CircuitState). z.client) (some_is d c at) ∙ his))
-    others none other (suc k) c at his = none k c at his
-
--- a live channel is on an open circuit of its client
-live-carried : (w : small_world.World) (client channel : ℕ) (x : small_world.ClientSide) (here : ChannelState) (sid native greatest : ℕ) → Holds w → At w.clients client x → At x.core.channels channel here
-    → here.phase ≡ phase.Live sid native greatest
-    → (k : ℕ) × (c : CircuitState) × small_world.Carries w client here.priority k c
-live-carried w client channel x here sid native greatest h at stands is =
-    elim (open-or-none w.circuits client) [
-      | inl f ↦
-          let o = on_circuit w client f.1.priority x f.0 f.1 h at (record { at = f.2; mine = f.3; prior = refl; is_open = f.4 }) in
-          let prior : here.priority ≡ f.1.priority = o.link.mine channel here stands (λ rest. waits (sym is ∙ rest)) in
-          (f.0, f.1, record { at = f.2; mine = f.3; prior = sym prior; is_open = f.4 })
-      | inr none ↦ absurd (waits (sym is ∙ ((h.sides client x at).idle (h.no_client client x at none)).rest channel here stands))
-    ]
-  where
-    waits : phase.Live sid native greatest ≡ phase.Connecting → ⊥
-    waits e = cc
-
--- as many bytes wait there in both worlds
-waits-same : (home : Address) (w : small_world.World) (whole : World) (client priority : ℕ) (x : small_world.ClientSide) (k : ℕ) (c : CircuitState) (p : Phase) → Both home w whole client priority x k c
-    → waits_on whole (On k p) ≡ length (waits_at x.core.link)
-waits-same home w whole client priority x k c p b =
-    ap (λ (o : Option Course). unwrap_or (option_map (λ (d : Course). length (waiting_up d)) o) 0) b.at
-    ∙ ap (λ (bytes : List ℕ). length bytes) (cond-true b.d.state.client_open b.d.at_client.basic.output b.d.state.left_up b.on ∙ ap (λ (o : Option ClientEnd). waits_at o) (sym (b.course.client b.on)))
-
--- the fault of a read on a channel that stands so
-abbrev fault_of : World → Standing → ℕ → ℕ → ℕ → ℕ → Option Refusal
-fault_of whole s rights data_type count taken = cond (is_cleared s) (Some refusal.StaleHandle) (read_fault (phase_of s) rights data_type count (waits_on whole s) taken)
-
--- a channel that stands so has the same fault
-ask-same : (home : Address) (whole : World) (n : ℕ) (link : Option ClientEnd) (priority : ℕ) (p : Phase) (rights data_type count waits taken : ℕ)
-    → ((sid native greatest : ℕ) → p ≡ phase.Live sid native greatest → waits_on whole (On n p) ≡ waits)
-    → fault_of whole (standing_of home n link priority p) rights data_type count taken ≡ read_fault p rights data_type count waits taken
-ask-same home whole n link priority phase.Connecting rights data_type count waits taken live = by (is_on link priority)
-  where
-    by : (b : Bool) → fault_of whole (cond b Searching (Connecting home)) rights data_type count taken ≡ Some refusal.NotLive
-    by true = refl
-    by false = refl
-ask-same home whole n link priority phase.Creating rights data_type count waits taken live = refl
-ask-same home whole n link priority (phase.Live sid native greatest) rights data_type count waits taken live =
-    ap (λ (z : ℕ). read_fault (phase.Live sid native greatest) rights data_type count z taken) (live sid native greatest refl)
-
-fault-same : (home : Address) (w : small_world.World) (whole : World) (client channel data_type count : ℕ) (x : small_world.ClientSide) (here : ChannelState) → Holds w → Matches home w whole
-    → At w.clients client x → At x.core.channels channel here → (u : Client home w whole client x)
-    → whole_client.ask_fault (channel_of home u.n x.core.link here) data_type count (waits_on whole (channel_of home u.n x.core.link here).standing) x.core.issued ≡ small.fault_at x.core here data_type count
-fault-same home w whole client channel data_type count x here h m at stands u =
-    ask-same home whole u.n x.core.link here.priority here.phase here.rights data_type count (length (waits_at x.core.link)) x.core.issued (λ sid native greatest is.
-    let f = live-carried w client channel x here sid native greatest h at stands is in
-    let b = both-of home w whole client here.priority x f.0 f.1 h m at f.2 in
-    ap (λ (n : ℕ). waits_on whole (On n here.phase)) (u.his f.0 b.d b.at b.mine b.on) ∙ waits-same home w whole client here.priority x f.0 f.1 here.phase b)
-
--- ---- a read is issued
-
--- the client of the whole world that issued it
-abbrev asked_side : Address → ℕ → List Asked → List Line → small_world.ClientSide → ℕ → ℕ → ℕ → ℕ → ℕ → ClientSide
-asked_side home k reqs log x channel sid ioid data_type count =
-    calling (Read channel data_type count) (whole_client.asked (core_of home k reqs x.core) channel k ioid false) (side_of home k reqs log x)
-
-matches-asked : (home : Address) (k : ℕ) (x : small_world.ClientSide) (side : ClientSide) (channel sid ioid data_type count : ℕ) → (m : MatchesClient home k x side)
-    → MatchesClient home k (small_world.after_read x sid ioid data_type count) (asked_side home k m.reqs m.log x channel sid ioid data_type count)
-matches-asked home k x side channel sid ioid data_type count m =
-    let x' : small_world.ClientSide = small_world.after_read x sid ioid data_type count in
-    let q : Asked = record { basic = record { number = x.core.issued; ioid = ioid }; channel = channel; circuit = k; puts = false } in
-    let channels : map (channel_of home k x.core.link) x.core.channels ≡ map (channel_of home k x'.core.link) x.core.channels = sym (channels-same home k x.core.link x'.core.link x.core.channels (λ p. is_on-sent (read_request sid ioid data_type count) x.core.link p)) in
-    let final : ClientSide = side_of home k (m.reqs ++ q ∷ []) (m.log ++ calls.Called (Read channel data_type count) ∷ []) x' in
-    record {
-      reqs = m.reqs ++ q ∷ [];
-      log = m.log ++ calls.Called (Read channel data_type count) ∷ [];
-      is = ap (λ (t : List Channel). with_parts final t final.core.wanted) channels;
-      life = m.life;
-      requests = record {
-        are = map-append basic_of m.reqs (q ∷ []) ∙ ap (λ (t : List Request). t ++ record { number = x.core.issued; ioid = ioid } ∷ []) m.requests.are;
-        on = λ i p at. elim (At-snoc m.reqs q i p at) [
-          | inl old ↦ m.requests.on i p old
-          | inr new ↦ (ap (λ (z : Asked). z.circuit) new.1, ap (λ (z : Asked). z.puts) new.1)
-        ];
-      };
-      lines = lines-one x.names x.names x.log x.log m.log (calls.Called (Read channel data_type count)) tt (append-nil x.names) (append-nil x.log) m.lines;
-      indexed = m.indexed;
-      used = λ p used. elim used [ inl waits ↦ m.used p (inl waits) | inr on ↦ m.used p (inr (sym (is_on-sent (read_request sid ioid data_type count) x.core.link p) ∙ on)) ];
-    }
-
-read-issued : (home : Address) (w : small_world.World) (whole : World) (client channel data_type count : ℕ) (x : small_world.ClientSide) (here : ChannelState) (new : small_world.World) → Holds w
-    → Matches home w whole → At w.clients client x → small_world.HappensRead w client channel data_type count x here new
-    → (NEW : World) × ReadsWhile issued whole client channel data_type count NEW × Matches home new NEW
-read-issued home w whole client channel data_type count x here new h m at r =
-    let can = r.can in
-    let u = client-of home w whole client x m at in
-    let b = both-of home w whole client here.priority x r.k r.c h m at r.carries in
-    let match : MatchesClient home r.k x u.side = his-side home w whole client here.priority x r.k r.c b u in
-    let reqs : List Asked = match.reqs in
-    let log : List Line = match.log in
-    let side : ClientSide = side_of home r.k reqs log x in
-    let there : At whole.clients client side = subst (λ (z : ClientSide). At whole.clients client z) match.is u.there in
-    let x' : small_world.ClientSide = small_world.after_read x r.sid r.ioid data_type count in
-    let final : ClientSide = asked_side home r.k reqs log x channel r.sid r.ioid data_type count in
-    let s : Sent = record { message = read_request r.sid r.ioid data_type count; intent = intent.Read channel x.core.issued } in
-    let NEW : World = with_course (with_client whole client final) r.k (whole_world.sending (s ∷ []) b.d) in
-    let HERE : Channel = channel_of home r.k x.core.link here in
-    let stands : At side.core.channels channel HERE = At-map (channel_of home r.k x.core.link) x.core.channels channel here can.at in
-    let standing : HERE.standing ≡ On r.k (phase.Live r.sid can.native can.greatest) = ap (λ (p : Phase). standing_of home r.k x.core.link here.priority p) can.live.live in
-    let fault : whole_client.ask_fault HERE data_type count (waits_on whole HERE.standing) x.core.issued ≡ None =
-    ask-same home whole r.k x.core.link here.priority here.phase here.rights data_type count (length (waits_at x.core.link)) x.core.issued (λ sid native greatest is. waits-same home w whole client here.priority x r.k r.c here.phase b) ∙ can.faultless in
-    let free : whole_client.IoidFree side.core r.ioid = (
-      can.unused.fits,
-      λ i q stands same. can.unused.free i q.basic (subst (λ (t : List Request). At t i q.basic) match.requests.are (At-map basic_of reqs i q stands)) same,
-      λ i d stands same. none_at i d stands,
-    ) in (
-      NEW,
-      (
-        side,
-        HERE,
-        record { side = there; at = stands },
-        inr (
-          fault,
-          record {
-            k = r.k;
-            sid = r.sid;
-            live = record { at = stands; native = can.native; greatest = can.greatest; live = standing };
-            c = b.d;
-            at = b.at;
-            id = r.ioid;
-            free = free;
-            leaves = refl;
-          },
-        ),
-      ),
-      subst (λ (v : small_world.World). Matches home v NEW) (sym r.leaves) (sends-there home w whole client here.priority r.k r.c x x' s final h m b refl (matches-asked home r.k x u.side channel r.sid r.ioid data_type count match)),
-    )
-
-read-refused : (home : Address) (w : small_world.World) (whole : World) (client channel data_type count : ℕ) (x : small_world.ClientSide) (here : ChannelState) (e : Refusal) → Holds w → Matches home w whole
-    → At w.clients client x → At x.core.channels channel here → small.fault_at x.core here data_type count ≡ Some e
-    → (NEW : World) × ReadsWhile issued whole client channel data_type count NEW × Matches home (small_world.with_client w client (small_world.logging (logged.Refused e) x)) NEW
-read-refused home w whole client channel data_type count x here e h m at stands fault =
-    let u = client-of home w whole client x m at in
-    let match = u.matches in
-    let side : ClientSide = side_of home u.n match.reqs match.log x in
-    let there : At whole.clients client side = subst (λ (z : ClientSide). At whole.clients client z) match.is u.there in
-    let HERE : Channel = channel_of home u.n x.core.link here in
-    let standing : At side.core.channels channel HERE = At-map (channel_of home u.n x.core.link) x.core.channels channel here stands in
-    let fault' : whole_client.ask_fault HERE data_type count (waits_on whole HERE.standing) x.core.issued ≡ Some e = fault-same home w whole client channel data_type count x here h m at stands u ∙ fault in
-    let matched = refused-alike home w whole client x e m at u in (
-      with_client whole client (refusing e side),
-      (side, HERE, record { side = there; at = standing }, inl (e, fault', refl)),
-      subst (λ (z : ClientSide). Matches home (small_world.with_client w client (small_world.logging (logged.Refused e) x)) (with_client whole client (refusing e z))) match.is matched,
-    )
-
--- A read is issued in both worlds.
-pub read-alike : (home : Address) (w : small_world.World) (whole : World) (client channel data_type count : ℕ) (new : small_world.World) → Holds w → Holds new → Matches home w whole
-    → small_world.HappensReading w client channel data_type count new
-    → (NEW : World) × ReadsWhile issued whole client channel data_type count NEW × Matches home new NEW
-read-alike home w whole client channel data_type count new h h' m (x, at, here, stands, inl (e, fault, is)) =
-    let r = read-refused home w whole client channel data_type count x here e h m at stands fault in
-    (r.0, r.1, subst (λ (v : small_world.World). Matches home v r.0) (sym is) r.2)
-read-alike home w whole client channel data_type count new h h' m (x, at, here, stands, inr r) = read-issued home w whole client channel data_type count x here new h m at r
