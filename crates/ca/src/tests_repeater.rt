@@ -164,7 +164,8 @@ fn a_repeater_of_no_datagrams_ends(rt: HostRuntime) -> Result<(), Fail> {
     let words = words_of(rt.alloc(), &["repeater", "--port=0", "--datagrams=0"])?;
     let status = run(&rt, rt.alloc(), &words, none, &mut output, &mut told);
     assert_eq!(rt; status, 0);
-    assert!(rt; output.is_empty());
+    // The system chose the port.
+    assert!(rt; output.as_slice().starts_with(b"repeating 0.0.0.0:"));
     assert!(rt; told.is_empty());
     Ok(())
 }
