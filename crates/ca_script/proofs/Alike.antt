@@ -148,14 +148,14 @@ goes a b m words same (inr (inr (inl h))) = goes-record a b m words same h
 goes a b m words same (inr (inr (inr h))) = goes-event a b m words same h
 
 -- what can be read behind one can be read behind the other
-pub reads-too : (a b final : Reading) (lines : List (List ℕ)) → Alike a b → AddsAll a lines final → (end : Reading) × AddsAll b lines end
+reads-too : (a b final : Reading) (lines : List (List ℕ)) → Alike a b → AddsAll a lines final → (end : Reading) × AddsAll b lines end
 reads-too a b final [] same h = (b, refl)
 reads-too a b final (line ∷ lines) same (m, adds, more) =
     let next : Goes b (parted 32 line) m = goes a b m (parted 32 line) same adds in
     let rest = reads-too m next.to final lines next.alike more in
     (rest.0, (next.to, next.adds, rest.1))
 
--- no two first words have one mark
+-- a number for each first word, by which they are told apart
 abbrev mark : List ℕ → ℕ
 mark w = sum w + get_or w 0 0
 
@@ -215,26 +215,21 @@ of-record a m rest words e (inr (inl h)) = absurd (apart (codes "record") (codes
 of-record a m rest words e (inr (inr (inl h))) = h
 of-record a m rest words e (inr (inr (inr h))) = absurd (apart (codes "record") (verb_word h.verb) rest h.behind words (no-record h.verb) e h.are)
 
-pub of-event : (a m : Reading) (v : Verb) (rest words : List (List ℕ)) → words ≡ verb_word v ∷ rest → Adds a words m → AddsEvent a words m
+of-event : (a m : Reading) (v : Verb) (rest words : List (List ℕ)) → words ≡ verb_word v ∷ rest → Adds a words m → AddsEvent a words m
 of-event a m v rest words e (inl h) = absurd (no-client v (ap (λ (ws : List (List ℕ)). mark (get_or ws 0 [])) (sym h.are ∙ e)))
 of-event a m v rest words e (inr (inl h)) = absurd (no-server v (ap (λ (ws : List (List ℕ)). mark (get_or ws 0 [])) (sym h.are ∙ e)))
 of-event a m v rest words e (inr (inr (inl h))) = absurd (no-record v (ap (λ (ws : List (List ℕ)). mark (get_or ws 0 [])) (sym h.are ∙ e)))
 of-event a m v rest words e (inr (inr (inr h))) = h
 
+alike-of : (m n a b : Reading) → m ≡ a → n ≡ b → Alike a b → Alike m n
+alike-of m n a b p q h = subst (λ (z : Reading × Reading). Alike z.0 z.1) (λ i. (sym p i, sym q i)) h
+
 -- what a line leads to is of one shape
 same-client : (a m n : Reading) (words : List (List ℕ)) → AddsClient a words m → AddsClient a words n → Alike m n
-same-client a m n words h k = record {
-  clients = ap (λ (r : Reading). length r.clients) h.after ∙ sym (ap (λ (r : Reading). length r.clients) k.after);
-  servers = ap (λ (r : Reading). map names_of r.servers) h.after ∙ sym (ap (λ (r : Reading). map names_of r.servers) k.after);
-  events = ap (λ (r : Reading). length r.events) h.after ∙ sym (ap (λ (r : Reading). length r.events) k.after);
-}
+same-client a m n words h k = alike-of m n _ _ h.after k.after (record { clients = refl; servers = refl; events = refl })
 
 same-server : (a m n : Reading) (words : List (List ℕ)) → AddsServer a words m → AddsServer a words n → Alike m n
-same-server a m n words h k = record {
-  clients = ap (λ (r : Reading). length r.clients) h.after ∙ sym (ap (λ (r : Reading). length r.clients) k.after);
-  servers = ap (λ (r : Reading). map names_of r.servers) h.after ∙ sym (ap (λ (r : Reading). map names_of r.servers) k.after);
-  events = ap (λ (r : Reading). length r.events) h.after ∙ sym (ap (λ (r : Reading). length r.events) k.after);
-}
+same-server a m n words h k = alike-of m n _ _ h.after k.after (record { clients = refl; servers = refl; events = refl })
 
 same-record : (a m n : Reading) (words : List (List ℕ)) → AddsRecord a words m → AddsRecord a words n → Alike m n
 same-record a m n words h k =
@@ -242,18 +237,11 @@ same-record a m n words h k =
     let server : h.server ≡ k.server = ap (λ (ss : List Served). get_or ss 0 h.server) (sym h.early.0 ∙ k.early.0) in
     let name : h.says.r.name ≡ k.says.r.name = ap (λ (ws : List (List ℕ)). get_or ws 0 []) (sym h.says.are ∙ behind ∙ k.says.are) in
     let names : map name_of h.records ≡ map name_of k.records = names-more h.server.records h.records h.behind h.says ∙ (λ i. map name_of (server i).records ++ name i ∷ []) ∙ sym (names-more k.server.records k.records k.behind k.says) in
-    record {
-      clients = ap (λ (r : Reading). length r.clients) h.after ∙ sym (ap (λ (r : Reading). length r.clients) k.after);
-      servers = ap (λ (r : Reading). map names_of r.servers) h.after ∙ ap (λ (ns : List (List ℕ)). ns ∷ []) names ∙ sym (ap (λ (r : Reading). map names_of r.servers) k.after);
-      events = ap (λ (r : Reading). length r.events) h.after ∙ sym (ap (λ (r : Reading). length r.events) k.after);
-    }
+    alike-of m n _ _ h.after k.after (record { clients = refl; servers = ap (λ (ns : List (List ℕ)). ns ∷ []) names; events = refl })
 
 same-event : (a m n : Reading) (words : List (List ℕ)) → AddsEvent a words m → AddsEvent a words n → Alike m n
-same-event a m n words h k = record {
-  clients = ap (λ (r : Reading). length r.clients) h.after ∙ sym (ap (λ (r : Reading). length r.clients) k.after);
-  servers = ap (λ (r : Reading). map names_of r.servers) h.after ∙ sym (ap (λ (r : Reading). map names_of r.servers) k.after);
-  events = ap (λ (r : Reading). length r.events) h.after ∙ length-append a.events (h.event ∷ []) ∙ sym (length-append a.events (k.event ∷ [])) ∙ sym (ap (λ (r : Reading). length r.events) k.after);
-}
+same-event a m n words h k =
+    alike-of m n _ _ h.after k.after (record { clients = refl; servers = refl; events = length-append a.events (h.event ∷ []) ∙ sym (length-append a.events (k.event ∷ [])) })
 
 same-line : (a m n : Reading) (words : List (List ℕ)) → Adds a words m → Adds a words n → Alike m n
 same-line a m n words (inl h) k = same-client a m n words h (of-client a n h.behind words h.are k)

@@ -1,6 +1,6 @@
 -- What is left of a script that can be read, and what refuses it.
 use Rattle.std.proofs.Common.{◌≡◌, ◌<◌, ℕ, List, [], ◌∷◌, length, drop, get_or, ◌-◌, sym, subst, ap, ◌∙◌, arith, inl, inr}
-use Rattle.std.specs.Prelude.{Result, Ok, Err, IfErr, codes}
+use Rattle.std.specs.Prelude.{Result, IfErr, codes}
 use Rattle.ca_text.specs.declared.refusal.Refusal.{Refusal}
 use Rattle.ca_text.specs.declared.refusal.Refusal.TheVariants.{BadText}
 use Rattle.ca_script.specs.declared.config.Served.{Served}
@@ -9,9 +9,9 @@ use Rattle.ca_script.specs.declared.event.Verb.TheVariants as verb
 use Rattle.ca_script.specs.Events.{verb_word}
 use Rattle.ca_script.specs.Grammar.{Refuses, parted}
 use Rattle.ca_script.specs.Lines.{SaysRecord, SaysServer}
-use Rattle.ca_script.specs.Scripts.{Adds, AddsAll, AddsClient, AddsRecord, AddsServer, Reading, lines_of}
-use Rattle.ca_script.proofs.Alike.{follows-on, of-client, of-record, of-server}
-use Rattle.ca_script.proofs.Refusals.{refuses-whole}
+use Rattle.ca_script.specs.Scripts.{Adds, AddsAll, AddsRecord, AddsServer, Reading, lines_of}
+use Rattle.ca_script.proofs.Alike.{follows-on}
+use Rattle.ca_script.proofs.Refusals.{NoWord, err-then, refuses-whole, says-none}
 
 -- one line more was read
 pub follows-left : (here mid final : Reading) (line left left' : List ℕ) → lines_of left ≡ line ∷ lines_of left' → Adds here (parted 32 line) mid → AddsAll here (lines_of left) final → (end : Reading) × AddsAll mid (lines_of left') end
@@ -39,38 +39,22 @@ verb-is-some verb.ServerStep = omega arith
 verb-is-some verb.ClientStep = omega arith
 verb-is-some verb.Cut = omega arith
 
-no-line : (old : Reading) (words : List (List ℕ)) (new : Reading) → ((w : List ℕ) (ws : List (List ℕ)) → words ≡ w ∷ ws → 0 < length w → ⊥) → Adds old words new → ⊥
+no-line : (old : Reading) (words : List (List ℕ)) (new : Reading) → NoWord words → Adds old words new → ⊥
 no-line old words new nay (inl h) = nay (codes "client") h.behind h.are (omega arith)
 no-line old words new nay (inr (inl h)) = nay (codes "server") h.behind h.are (omega arith)
 no-line old words new nay (inr (inr (inl h))) = nay (codes "record") h.behind h.are (omega arith)
 no-line old words new nay (inr (inr (inr h))) = nay (verb_word h.verb) h.behind h.are (verb-is-some h.verb)
 
 -- a line whose first word is none, or is empty
-pub line-refused : (old : Reading) (words : List (List ℕ)) (e : Refusal) → (e ≡ BadText) × ((w : List ℕ) (ws : List (List ℕ)) → words ≡ w ∷ ws → 0 < length w → ⊥) → Refuses (Adds old words) e
-line-refused old words e nay = subst (λ (r : Refusal). Refuses (Adds old words) r) (sym nay.0) (λ (new : Reading) (h : Adds old words new). no-line old words new nay.1 h)
+pub line-refused : (old : Reading) (words : List (List ℕ)) (e : Refusal) → (e ≡ BadText) × NoWord words → Refuses (Adds old words) e
+line-refused old words e nay = says-none (Adds old words) e nay.0 (λ (new : Reading) (h : Adds old words new). no-line old words new nay.1 h)
 
-err-then : {T : Type 0} (r : Result T Refusal) (P Q : Refusal → Type 0) → ((e : Refusal) → P e → Q e) → IfErr r P → IfErr r Q
-err-then (Ok x) P Q f h = tt
-err-then (Err e) P Q f h = f e h
-
--- a line that begins as one of a client and says none, says nothing
-pub client-refused : {T : Type 0} (r : Result T Refusal) (old : Reading) (words rest : List (List ℕ)) (first : List ℕ) → words ≡ first ∷ rest → first ≡ codes "client" → IfErr r (λ e. Refuses (AddsClient old (codes "client" ∷ rest)) e) → IfErr r (λ e. Refuses (Adds old words) e)
-client-refused r old words rest first split is nay =
-    let are : words ≡ codes "client" ∷ rest = split ∙ ap (λ (w : List ℕ). w ∷ rest) is in
-    err-then r (λ e. Refuses (AddsClient old (codes "client" ∷ rest)) e) (λ e. Refuses (Adds old words) e)
-    (λ e no. refuses-whole (AddsClient old (codes "client" ∷ rest)) (Adds old words) e (λ (new : Reading) (h : Adds old words new). (new, subst (λ (ws : List (List ℕ)). AddsClient old ws new) are (of-client old new rest words are h))) no) nay
-
-pub server-refused : {T : Type 0} (r : Result T Refusal) (old : Reading) (words rest : List (List ℕ)) (first : List ℕ) → words ≡ first ∷ rest → first ≡ codes "server" → IfErr r (λ e. Refuses (AddsServer old (codes "server" ∷ rest)) e) → IfErr r (λ e. Refuses (Adds old words) e)
-server-refused r old words rest first split is nay =
-    let are : words ≡ codes "server" ∷ rest = split ∙ ap (λ (w : List ℕ). w ∷ rest) is in
-    err-then r (λ e. Refuses (AddsServer old (codes "server" ∷ rest)) e) (λ e. Refuses (Adds old words) e)
-    (λ e no. refuses-whole (AddsServer old (codes "server" ∷ rest)) (Adds old words) e (λ (new : Reading) (h : Adds old words new). (new, subst (λ (ws : List (List ℕ)). AddsServer old ws new) are (of-server old new rest words are h))) no) nay
-
-pub record-refused : {T : Type 0} (r : Result T Refusal) (old : Reading) (words rest : List (List ℕ)) (first : List ℕ) → words ≡ first ∷ rest → first ≡ codes "record" → IfErr r (λ e. Refuses (AddsRecord old (codes "record" ∷ rest)) e) → IfErr r (λ e. Refuses (Adds old words) e)
-record-refused r old words rest first split is nay =
-    let are : words ≡ codes "record" ∷ rest = split ∙ ap (λ (w : List ℕ). w ∷ rest) is in
-    err-then r (λ e. Refuses (AddsRecord old (codes "record" ∷ rest)) e) (λ e. Refuses (Adds old words) e)
-    (λ e no. refuses-whole (AddsRecord old (codes "record" ∷ rest)) (Adds old words) e (λ (new : Reading) (h : Adds old words new). (new, subst (λ (ws : List (List ℕ)). AddsRecord old ws new) are (of-record old new rest words are h))) no) nay
+-- a line whose first word is one of its kind, and which says nothing of that kind, says nothing
+pub kind-refused : {T : Type 0} (Kind : Reading → List (List ℕ) → Reading → Type 0) (word : List ℕ) → ((a m : Reading) (rest words : List (List ℕ)) → words ≡ word ∷ rest → Adds a words m → Kind a words m) → (r : Result T Refusal) (old : Reading) (words rest : List (List ℕ)) (first : List ℕ) → words ≡ first ∷ rest → first ≡ word → IfErr r (λ e. Refuses (Kind old (word ∷ rest)) e) → IfErr r (λ e. Refuses (Adds old words) e)
+kind-refused Kind word of r old words rest first split is nay =
+    let are : words ≡ word ∷ rest = split ∙ ap (λ (w : List ℕ). w ∷ rest) is in
+    err-then r (λ e. Refuses (Kind old (word ∷ rest)) e) (λ e. Refuses (Adds old words) e)
+    (λ e no. refuses-whole (Kind old (word ∷ rest)) (Adds old words) e (λ (new : Reading) (h : Adds old words new). (new, subst (λ (ws : List (List ℕ)). Kind old ws new) are (of old new rest words are h))) no) nay
 
 behind : (first : List ℕ) (words rest : List (List ℕ)) → first ∷ words ≡ first ∷ rest → rest ≡ words
 behind first words rest e = ap (λ (ws : List (List ℕ)). drop 1 ws) (sym e)
@@ -78,7 +62,7 @@ behind first words rest e = ap (λ (ws : List (List ℕ)). drop 1 ws) (sym e)
 -- words that give no address give no server
 pub no-server-said : (old : Reading) (words : List (List ℕ)) (e : Refusal) → (e ≡ BadText) × ((address port : ℕ) → SaysServer words address port → ⊥) → Refuses (AddsServer old (codes "server" ∷ words)) e
 no-server-said old words e nay =
-    subst (λ (r : Refusal). Refuses (AddsServer old (codes "server" ∷ words)) r) (sym nay.0)
+    says-none (AddsServer old (codes "server" ∷ words)) e nay.0
     (λ (new : Reading) (h : AddsServer old (codes "server" ∷ words) new). nay.1 h.address h.port (subst (λ (ws : List (List ℕ)). SaysServer ws h.address h.port) (behind (codes "server") words h.behind h.are) h.says))
 
 -- the last one of at most one server

@@ -2,7 +2,7 @@
 use Rattle.std.proofs.Common.{◌≡◌, ◌<◌, ℕ, Bool, true, false, List, [], ◌∷◌, length, refl, sym, ap, ◌∙◌, subst, arith}
 use Rattle.std.specs.Prelude.{Err}
 use Rattle.ca_text.specs.declared.refusal.Refusal.{Refusal}
-use Rattle.ca_text.specs.declared.refusal.Refusal.TheVariants.{BadCount, BadText, NameLength, OutOfMemory}
+use Rattle.ca_text.specs.declared.refusal.Refusal.TheVariants.{BadCount, NameLength, OutOfMemory}
 use Rattle.ca_text.specs.Name.{IsName}
 use Rattle.ca_text.specs.Limits.{record_name_limit}
 use Rattle.ca_dbr.specs.declared.data_type.BaseType.{BaseType}
@@ -11,17 +11,10 @@ use Rattle.ca_dbr.specs.Elements.{Elements, strings, ints, floats, enums, chars,
 use Rattle.ca_records.specs.Record.{HoldsValue, RecordState, unset}
 use Rattle.ca_records.specs.Records.{Defines}
 use Rattle.ca_script.specs.Events.{AreNumbers}
-use Rattle.ca_script.specs.Grammar.{IsNumber, Refuses, parted}
+use Rattle.ca_script.specs.Grammar.{IsNumber, parted}
 use Rattle.ca_script.specs.Lines.{AreEach, AreElements, IsAddress, IsChar, IsDouble, IsEnum, IsFloat, IsInt, IsLong, IsString, SaysRecord, SaysServer, slow_word, type_word}
+use Rattle.ca_script.proofs.Refusals.{NoWord}
 use Rattle.ca_script.proofs.Sayings.{behind-first, no-numbers}
-
--- a text that says nothing of the kind is refused as one
-pub says-none : {A : Type 0} (Says : A → Type 0) (e : Refusal) → e ≡ BadText → ((x : A) → Says x → ⊥) → Refuses Says e
-says-none Says e is none = subst (λ (r : Refusal). Refuses Says r) (sym is) none
-
--- the next piece is none that has a byte
-abbrev pub NoWord : List (List ℕ) → Type 0
-NoWord words = (w : List ℕ) (ws : List (List ℕ)) → words ≡ w ∷ ws → 0 < length w → ⊥
 
 -- a word is one number at most
 one-value : (w v : List ℕ) (m n : ℕ) → w ≡ v → IsNumber w m → IsNumber v n → m ≡ n

@@ -3,7 +3,8 @@ use Rattle.ca_text.specs.declared.refusal.Refusal.{Refusal}
 use Rattle.ca_script.specs.Grammar.{Refuses}
 use Rattle.ca_script.specs.Lines.{SaysRecord}
 use Rattle.ca_dbr.specs.Elements.{elements}
-use Rattle.ca_script.proofs.LineRefusals.{no-pace, no-type, record-unfit, says-none}
+use Rattle.ca_script.proofs.LineRefusals.{no-pace, no-type, record-unfit}
+use Rattle.ca_script.proofs.Refusals.{says-none}
 use Rattle.ca_script.proofs.Sayings.{handed-on}
 use Rattle.ca_script.proofs.lines.read_record.Goals as goal
 
