@@ -230,20 +230,22 @@ fn texts(rt: HostRuntime) -> Result<(), Fail> {
     )
 }
 
-/// A value has an image of this size, and is read again from it.
+/// A value has an image of this size, and is read again from it with this metadata.
 fn comes_back(
     rt: &impl Abort,
     alloc: Global,
     number: u16,
     value: &Value,
     size: usize,
+    meta: Meta,
 ) -> Result<(), Fail> {
     let count = u32::try_from(value.count())?;
     let mut bytes = Vec::new(alloc);
     assert!(rt; write_value(number, value, &META, &mut bytes) == Ok(()));
     assert_eq!(rt; bytes.len(), size);
-    let (again, _meta) = read_value(alloc, number, count, &bytes)?;
+    let (again, with) = read_value(alloc, number, count, &bytes)?;
     assert!(rt; again == *value);
+    assert!(rt; with == meta);
     Ok(())
 }
 
@@ -251,11 +253,11 @@ fn comes_back(
 fn large_counts(rt: HostRuntime) -> Result<(), Fail> {
     let alloc = rt.alloc();
     let doubles = Value::Doubles(vec![in alloc; 0x0102_0304_0506_0708; 131_070]?);
-    comes_back(&rt, alloc, 20, &doubles, 16 + 8 * 131_070)?;
+    comes_back(&rt, alloc, 20, &doubles, 16 + 8 * 131_070, META)?;
     let chars = Value::Chars(vec![in alloc; 7; 262_144]?);
-    comes_back(&rt, alloc, 4, &chars, 262_144)?;
+    comes_back(&rt, alloc, 4, &chars, 262_144, Meta::ZERO)?;
     let texts = Value::Strings(vec![in alloc; text(b"seven"); 20_000]?);
-    comes_back(&rt, alloc, 0, &texts, 800_000)
+    comes_back(&rt, alloc, 0, &texts, 800_000, Meta::ZERO)
 }
 
 /// What a read of so many elements in a type shows.
