@@ -1,4 +1,5 @@
-ghost use Rattle.std.specs.Prelude.{◌≤◌};
+ghost use Rattle.std.specs.Prelude.{◌≡◌, ◌≤◌, IfErr};
+ghost use Rattle.ca_text.specs.declared.refusal.Refusal.TheVariants.{Device};
 ghost use Rattle.ca.specs.Repeating.{Repeats, Sends, SendsOne, Takes};
 
 use crate::answer::report;
@@ -30,8 +31,10 @@ pub(crate) fn repeater_bound<R: Net, O: Write, E: Write>(
     }
 }
 
-/// A socket of this port.
-fn bound<R: Net, O: Write>(net: &R, port: u16, output: &mut O) -> Result<UdpSocket, Refusal> {
+/// A socket of this port, which is told on `output` where the system chose it. Refused by 23 where it cannot be bound or told.
+fn bound<R: Net, O: Write>(net: &R, port: u16, output: &mut O) -> Result<UdpSocket, Refusal>
+    ensures { IfErr result (λ e. e ≡ Device) }
+{
     // Beacons come from other hosts too.
     let Ok(socket) = UdpSocket::bind(net, (Ipv4Addr::UNSPECIFIED, port)) else {
         return Err(Refusal::Device);
@@ -42,8 +45,10 @@ fn bound<R: Net, O: Write>(net: &R, port: u16, output: &mut O) -> Result<UdpSock
     Ok(socket)
 }
 
-/// Says on which address the repeater hears.
-fn tell_port<O: Write>(socket: &UdpSocket, output: &mut O) -> Result<(), Refusal> {
+/// Says on which address the repeater hears. Refused by 23 where it cannot.
+fn tell_port<O: Write>(socket: &UdpSocket, output: &mut O) -> Result<(), Refusal>
+    ensures { IfErr result (λ e. e ≡ Device) }
+{
     let Ok(address) = socket.local_addr() else {
         return Err(Refusal::Device);
     };
