@@ -3,27 +3,25 @@ use Rattle.std.proofs.Common.{◌≡◌, ℕ, List, [], ◌++◌, Option, None, 
 use Rattle.std.specs.Prelude.{length}
 use Rattle.ca_text.specs.declared.refusal.Refusal.{Refusal}
 use Rattle.ca_text.specs.declared.refusal.Refusal.TheVariants.{BadEvent, OutOfMemory}
-use Rattle.ca_model.specs.declared.data.Event.{Event}
-use Rattle.ca_model.specs.Safe.{Safe}
-use Rattle.ca_model.specs.World.{Runs, World}
-use Rattle.ca_model_small.specs.Claims.{LeadTo}
+use Rattle.ca_small_model.specs.declared.data.Event.{Event}
+use Rattle.ca_small_model.specs.Safe.{Safe}
+use Rattle.ca_small_model.specs.World.{Runs, World}
 use Rattle.ca_script.specs.Scripts.{AddsAll, lines_of, nothing, reading}
 use Rattle.ca_script.specs.Setting.{setting_of}
 use Rattle.ca_script.specs.declared.script.Script.{Script}
-use Rattle.ca_world.specs.Done.{Stopped, done}
-use Rattle.ca_world.specs.Reports.{report_text}
+use Rattle.ca_small_world.specs.Done.{Stopped, done}
+use Rattle.ca_small_world.specs.Reports.{report_text}
 use Rattle.ca.specs.Replaying.{Replays, Reported, ended}
 
 -- what the steps of a run give together
-pub made-report : (script : List ℕ) (s : Script) (stop : Option (ℕ × Refusal)) (world : World) (events counted : List Event) (n : ℕ) (before text : List ℕ) → AddsAll nothing (lines_of script) (reading s) → events ≡ s.events.items → Runs (setting_of s.config) (done events stop) world → Safe world → LeadTo (setting_of s.config) (done events stop) world → Stopped events world stop
+pub made-report : (script : List ℕ) (s : Script) (stop : Option (ℕ × Refusal)) (world : World) (events counted : List Event) (n : ℕ) (before text : List ℕ) → AddsAll nothing (lines_of script) (reading s) → events ≡ s.events.items → Runs (setting_of s.config) (done events stop) world → Safe world → Stopped events world stop
     → counted ≡ s.events.items → n ≡ length (done counted stop) → before ≡ [] → text ≡ before ++ report_text world n → Reported script stop text
-made-report script s stop world events counted n before text reads same runs safe whole stopped same_counted count empty is = record {
+made-report script s stop world events counted n before text reads same runs safe stopped same_counted count empty is = record {
   s = s;
   world = world;
   reads = reads;
   runs = subst (λ (es : List Event). Runs (setting_of s.config) (done es stop) world) same runs;
   safe = safe;
-  whole = subst (λ (es : List Event). LeadTo (setting_of s.config) (done es stop) world) same whole;
   stopped = subst (λ (es : List Event). Stopped es world stop) same stopped;
   is = is ∙ ap₂ (λ (b : List ℕ) (m : ℕ). b ++ report_text world m) empty (count ∙ ap (λ (es : List Event). length (done es stop)) same_counted);
 }

@@ -1,7 +1,7 @@
 -- What holds before the first call.
 use Rattle.std.proofs.Common.{ℕ, List, [], refl}
 use Rattle.ca_records.specs.Record.{RecordState}
-use Rattle.ca_server_core.specs.Answering.{BreaksOff}
+use Rattle.ca_small_server.specs.Answering.{BreaksOff}
 
 -- where nothing was read, nothing was answered
 pub breaks-off-at_once : {S K : Type 0} (gives : S → List ℕ → S → Type 0) (takes : K → List ℕ → K → Type 0) (records : List RecordState) (s : S) (k : K) → BreaksOff gives takes records s s k k

@@ -2,25 +2,23 @@
 use Rattle.std.specs.Prelude.{ℕ, ◌≡◌, ◌⊎◌, List, Option, None, Some, Result, Ok, Err, length, take}
 use Rattle.ca_text.specs.declared.refusal.Refusal.{Refusal}
 use Rattle.ca_text.specs.declared.refusal.Refusal.TheVariants.{BadEvent, BadText, Device, OutOfMemory}
-use Rattle.ca_model.specs.Safe.{Safe}
-use Rattle.ca_model.specs.World.{Runs, World}
-use Rattle.ca_model_small.specs.Claims.{LeadTo}
+use Rattle.ca_small_model.specs.Safe.{Safe}
+use Rattle.ca_small_model.specs.World.{Runs, World}
 use Rattle.ca_script.specs.Scripts.{AddsAll, Reading, lines_of, nothing, reading}
 use Rattle.ca_script.specs.Setting.{setting_of}
 use Rattle.ca_script.specs.declared.script.Script.{Script}
-use Rattle.ca_world.specs.Done.{Stopped, done}
-use Rattle.ca_world.specs.Reports.{report_text}
+use Rattle.ca_small_world.specs.Done.{Stopped, done}
+use Rattle.ca_small_world.specs.Reports.{report_text}
 use Rattle.ca.specs.Status.{status_of}
 
--- The script reads, its events were done to the end or up to this stop, the world that they leave is safe, also in the whole
--- statement's words, and this is its report.
+-- The script reads, its events were done to the end or up to this stop, the world that they leave is safe, and
+-- this is its report.
 pub record Reported (script : List ℕ) (stop : Option (ℕ × Refusal)) (text : List ℕ) : Type 0 where
   pub s : Script
   pub world : World
   pub reads : AddsAll nothing (lines_of script) (reading s)
   pub runs : Runs (setting_of s.config) (done s.events.items stop) world
   pub safe : Safe world
-  pub whole : LeadTo (setting_of s.config) (done s.events.items stop) world
   pub stopped : Stopped s.events.items world stop
   pub is : text ≡ report_text world (length (done s.events.items stop))
 

@@ -1,7 +1,7 @@
 -- What a run over one circuit's bytes comes to.
 use Rattle.std.specs.Prelude.{ℕ, ◌≡◌, List, Result}
 use Rattle.ca_text.specs.declared.refusal.Refusal.{Refusal}
-use Rattle.ca_server_core.specs.Answering.{Answers}
+use Rattle.ca_small_server.specs.Answering.{Answers}
 use Rattle.ca.specs.Standing.{standing}
 use Rattle.ca.specs.Status.{status_of}
 

@@ -1,13 +1,13 @@
 ghost use Rattle.std.specs.Prelude.{◌≡◌, ◌+◌, ◌<◌, ◌≤◌, ◌^◌, IsNone};
 ghost use Rattle.ca_text.specs.Limits.{engine_turns};
-ghost use Rattle.ca_server_core.specs.Answering.{Answers};
+ghost use Rattle.ca_small_server.specs.Answering.{Answers};
 ghost use Rattle.ca.specs.Runs.{RunsTo};
 ghost use Rattle.ca.specs.Standing.{standing};
 ghost use Rattle.ca.specs.Status.{status_of};
 
 use crate::standing::standing_records;
 use ca_link::{Sink, Source};
-use ca_server_core::answer_stream;
+use ca_small_server::answer_stream;
 use ca_text::Refusal;
 use std::alloc::Global;
 use std::io::Write;

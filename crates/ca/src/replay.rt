@@ -1,16 +1,16 @@
 ghost use Rattle.std.specs.Prelude.{◌≡◌, ◌<◌, ◌≤◌, ◌^◌, IfErr, IfOk, IsNone, length};
-ghost use Rattle.ca_model.specs.World.{World};
+ghost use Rattle.ca_small_model.specs.World.{World};
 ghost use Rattle.ca_script.specs.Grammar.{Refuses};
 ghost use Rattle.ca_script.specs.Scripts.{AddsAll, lines_of, nothing};
-ghost use Rattle.ca_world.specs.Done.{Stopped, done};
+ghost use Rattle.ca_small_world.specs.Done.{Stopped, done};
 ghost use Rattle.ca.specs.Replaying.{Replays, ReplaysTo, Reported, ended};
 
 use crate::answer::report as tell;
 use ca_link::Sink;
-use ca_model::Event;
+use ca_small_model::Event;
 use ca_script::read_script;
 use ca_text::Refusal;
-use ca_world::{report, run};
+use ca_small_world::{report, run};
 use std::alloc::Global;
 use std::io::Write;
 

@@ -5,14 +5,14 @@ use Rattle.ca_text.specs.Place.{At}
 use Rattle.std.proofs.lemmas.List.{append-nil}
 use Rattle.ca_wire.specs.Fields.{Fields, IsPayload}
 use Rattle.ca_wire.proofs.Headers.{header-spells}
-use Rattle.ca_model.specs.declared.data.Sent.{Sent}
-use Rattle.ca_model.specs.declared.data.Notice.TheVariants as notice
+use Rattle.ca_small_model.specs.declared.data.Sent.{Sent}
+use Rattle.ca_small_model.specs.declared.data.Notice.TheVariants as notice
 use Rattle.ca_model_whole.specs.Calls as telling
 use Rattle.ca_wire.specs.Header.{HeaderFits, header_spelling}
 use Rattle.ca_wire.specs.Message.{header_of, spelling}
-use Rattle.ca_model.specs.declared.data.Intent.TheVariants as intent
-use Rattle.ca_model.specs.Client.{TakesFirst}
-use Rattle.ca_model.specs.Requests.{create_request}
+use Rattle.ca_small_model.specs.declared.data.Intent.TheVariants as intent
+use Rattle.ca_small_model.specs.Client.{TakesFirst}
+use Rattle.ca_small_model.specs.Requests.{create_request}
 use Rattle.ca_model_whole.specs.Due.{Nothing}
 use Rattle.ca_model_whole.specs.Hears.{Answered}
 use Rattle.ca_model_whole.specs.Moves.{IsCreation, WaitsFor}

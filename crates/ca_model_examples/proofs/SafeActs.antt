@@ -3,9 +3,9 @@ use Rattle.std.proofs.Common.{◌≡◌, ℕ, inl, inr, List, [], ◌∷◌, ref
 use Rattle.std.specs.Prelude.{Some, None}
 use Rattle.ca_text.specs.Place.{At}
 use Rattle.ca_text.proofs.Places.{some_is}
-use Rattle.ca_model.specs.Safe.{ActsOn}
-use Rattle.ca_model.specs.declared.data.Phase.TheVariants as phase
-use Rattle.ca_model.specs.declared.data.Sent.{Sent}
+use Rattle.ca_small_model.specs.Safe.{ActsOn}
+use Rattle.ca_small_model.specs.declared.data.Phase.TheVariants as phase
+use Rattle.ca_small_model.specs.declared.data.Sent.{Sent}
 use Rattle.ca_model_whole.specs.ActsOnRecord.{ActsOnNames, ActsOnRecord, HasName, LiveAtServer}
 use Rattle.ca_model_whole.specs.Calls.{Called, Line}
 use Rattle.ca_model_whole.specs.Calls as calls

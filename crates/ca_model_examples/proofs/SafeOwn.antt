@@ -8,15 +8,15 @@ use Rattle.ca_text.specs.Place.{At}
 use Rattle.ca_text.proofs.Places.{some_is}
 use Rattle.ca_dbr.specs.declared.value.Outcome.{Outcome}
 use Rattle.ca_wire.specs.Fields.{Fields}
-use Rattle.ca_model.specs.declared.data.Cause.TheVariants as cause
-use Rattle.ca_model.specs.declared.data.Intent.TheVariants as intent
-use Rattle.ca_model.specs.declared.data.Notice.TheVariants as notice
-use Rattle.ca_model.specs.declared.data.Sent.{Sent}
-use Rattle.ca_model.specs.declared.data.Told.{Told}
-use Rattle.ca_model.specs.Circuit.{Cid, Ioid, sent_in, until}
-use Rattle.ca_model.specs.History.{IsOpen, Seat, text_in}
-use Rattle.ca_model.specs.Replies.{refused_reply}
-use Rattle.ca_model.specs.Requests.{create_request}
+use Rattle.ca_small_model.specs.declared.data.Cause.TheVariants as cause
+use Rattle.ca_small_model.specs.declared.data.Intent.TheVariants as intent
+use Rattle.ca_small_model.specs.declared.data.Notice.TheVariants as notice
+use Rattle.ca_small_model.specs.declared.data.Sent.{Sent}
+use Rattle.ca_small_model.specs.declared.data.Told.{Told}
+use Rattle.ca_small_model.specs.Circuit.{Cid, Ioid, sent_in, until}
+use Rattle.ca_small_model.specs.History.{IsOpen, Seat, text_in}
+use Rattle.ca_small_model.specs.Replies.{refused_reply}
+use Rattle.ca_small_model.specs.Requests.{create_request}
 use Rattle.ca_model_whole.specs.Calls.{Line, ends_request}
 use Rattle.ca_model_whole.specs.Calls as calls
 use Rattle.ca_model_whole.specs.Due.{Desk, Due, Nothing, Opens}

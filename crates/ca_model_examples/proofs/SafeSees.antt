@@ -6,9 +6,9 @@ use Rattle.ca_text.proofs.Places.{some_is}
 use Rattle.ca_dbr.specs.Elements.{bytes_2}
 use Rattle.ca_dbr.specs.declared.value.Outcome.{Outcome}
 use Rattle.ca_records.specs.Record.{RecordState}
-use Rattle.ca_model.specs.declared.data.Intent.TheVariants as intent
-use Rattle.ca_model.specs.declared.data.Sent.{Sent}
-use Rattle.ca_model.specs.Circuit.{Acted}
+use Rattle.ca_small_model.specs.declared.data.Intent.TheVariants as intent
+use Rattle.ca_small_model.specs.declared.data.Sent.{Sent}
+use Rattle.ca_small_model.specs.Circuit.{Acted}
 use Rattle.ca_model_whole.specs.Calls.{Line}
 use Rattle.ca_model_whole.specs.Log.{ServerLog}
 use Rattle.ca_model_whole.specs.Ids.{subscription_in}

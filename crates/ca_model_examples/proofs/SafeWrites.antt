@@ -5,11 +5,11 @@ use Rattle.ca_text.specs.Place.{At}
 use Rattle.ca_text.proofs.Places.{some_is}
 use Rattle.ca_dbr.specs.Elements.{longs}
 use Rattle.ca_records.specs.Record.{RecordState}
-use Rattle.ca_model.specs.declared.data.Cause.TheVariants as cause
-use Rattle.ca_model.specs.declared.data.Intent.{Intent}
-use Rattle.ca_model.specs.declared.data.Intent.TheVariants as intent
-use Rattle.ca_model.specs.declared.data.Sent.{Sent}
-use Rattle.ca_model.specs.declared.data.Told.{Told}
+use Rattle.ca_small_model.specs.declared.data.Cause.TheVariants as cause
+use Rattle.ca_small_model.specs.declared.data.Intent.{Intent}
+use Rattle.ca_small_model.specs.declared.data.Intent.TheVariants as intent
+use Rattle.ca_small_model.specs.declared.data.Sent.{Sent}
+use Rattle.ca_small_model.specs.declared.data.Told.{Told}
 use Rattle.ca_model_whole.specs.Calls.{Line}
 use Rattle.ca_model_whole.specs.Calls as calls
 use Rattle.ca_model_whole.specs.Ids.{place_in}

@@ -12,14 +12,14 @@ use Rattle.ca_dbr.specs.Elements.{Elements, bytes_2, longs, signed_bytes_4}
 use Rattle.ca_dbr.specs.Shown.{shown}
 use Rattle.ca_queue.specs.Order.{Sub as IsPart, last_of}
 use Rattle.ca_wire.specs.Fields.{Fields}
-use Rattle.ca_model.specs.declared.data.Cause.{Cause}
-use Rattle.ca_model.specs.declared.data.Cause.TheVariants as cause
-use Rattle.ca_model.specs.declared.data.Intent.TheVariants as intent
-use Rattle.ca_model.specs.declared.data.Sent.{Sent}
-use Rattle.ca_model.specs.declared.data.Told.{Told}
-use Rattle.ca_model.specs.Circuit.{Acted}
-use Rattle.ca_model.specs.History.{Seat, text_in}
-use Rattle.ca_model.specs.Requests.{create_request}
+use Rattle.ca_small_model.specs.declared.data.Cause.{Cause}
+use Rattle.ca_small_model.specs.declared.data.Cause.TheVariants as cause
+use Rattle.ca_small_model.specs.declared.data.Intent.TheVariants as intent
+use Rattle.ca_small_model.specs.declared.data.Sent.{Sent}
+use Rattle.ca_small_model.specs.declared.data.Told.{Told}
+use Rattle.ca_small_model.specs.Circuit.{Acted}
+use Rattle.ca_small_model.specs.History.{Seat, text_in}
+use Rattle.ca_small_model.specs.Requests.{create_request}
 use Rattle.ca_model_whole.specs.ActsOnRecord.{ActsOnRecord}
 use Rattle.ca_model_whole.specs.Calls.{Called}
 use Rattle.ca_model_whole.specs.Calls as calls

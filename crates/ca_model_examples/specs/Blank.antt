@@ -2,7 +2,7 @@
 use Rattle.std.specs.Prelude.{ℕ, pos, true, false, List, [], ◌∷◌}
 use Rattle.ca_dbr.specs.Elements.{longs}
 use Rattle.ca_records.specs.Record.{RecordState}
-use Rattle.ca_model.specs.Circuit.{CircuitState, History}
+use Rattle.ca_small_model.specs.Circuit.{CircuitState, History}
 use Rattle.ca_model_whole.specs.Records.{Peer, Stored}
 use Rattle.ca_model_whole.specs.Log.{ServerLog}
 use Rattle.ca_model_whole.specs.Calls.{Line}

@@ -1,6 +1,6 @@
 -- A subscription that was cancelled while its updates are in flight.
 use Rattle.std.specs.Prelude.{List, [], ◌∷◌, Some, remove}
-use Rattle.ca_model.specs.declared.data.Sent.{Sent}
+use Rattle.ca_small_model.specs.declared.data.Sent.{Sent}
 use Rattle.ca_model_whole.specs.Calls.{Telling}
 use Rattle.ca_model_whole.specs.Client.{Client, SubFree, Subscribed, unsubscribed}
 use Rattle.ca_model_whole.specs.Hears.{Takes}

@@ -15,7 +15,7 @@ use Rattle.ca_queue.specs.declared.entry.SubKey.{SubKey}
 use Rattle.ca_queue.specs.Waiting.{after_post, after_take, taken}
 use Rattle.ca_wire.specs.Fields.{Fields, padded}
 use Rattle.ca_wire.specs.Message.{spelling}
-use Rattle.ca_model.specs.Requests.{read_request}
+use Rattle.ca_small_model.specs.Requests.{read_request}
 use Rattle.ca_model_whole.specs.Records.{Rule, Stored, rights, stored_in}
 use Rattle.ca_model_whole.specs.Log.{Applied, ServerLog, Write, busy, value_of, waiting, with_entry, with_wait, with_withdrawals}
 use Rattle.ca_model_whole.specs.Messages.{cancel_told, error_told, event_add_request, event_cancel_request, put_request, update_told}

@@ -5,14 +5,14 @@ use Rattle.ca_dbr.specs.declared.value.Outcome.{Outcome}
 use Rattle.ca_dbr.specs.declared.value.Outcome.TheVariants as outcome
 use Rattle.ca_dbr.specs.Elements.{longs}
 use Rattle.ca_wire.specs.Fields.{Fields}
-use Rattle.ca_model.specs.declared.data.Intent.TheVariants as intent
-use Rattle.ca_model.specs.declared.data.Notice.TheVariants as notice
-use Rattle.ca_model.specs.declared.data.Phase.TheVariants as phase
-use Rattle.ca_model.specs.declared.data.Sent.{Sent}
-use Rattle.ca_model.specs.Circuit.{History}
-use Rattle.ca_model.specs.History.{Seat}
-use Rattle.ca_model.specs.Replies.{refused_reply}
-use Rattle.ca_model.specs.Requests.{create_request, read_request}
+use Rattle.ca_small_model.specs.declared.data.Intent.TheVariants as intent
+use Rattle.ca_small_model.specs.declared.data.Notice.TheVariants as notice
+use Rattle.ca_small_model.specs.declared.data.Phase.TheVariants as phase
+use Rattle.ca_small_model.specs.declared.data.Sent.{Sent}
+use Rattle.ca_small_model.specs.Circuit.{History}
+use Rattle.ca_small_model.specs.History.{Seat}
+use Rattle.ca_small_model.specs.Replies.{refused_reply}
+use Rattle.ca_small_model.specs.Requests.{create_request, read_request}
 use Rattle.ca_model_whole.specs.Log.{Applied, ServerLog, Write, no_log}
 use Rattle.ca_model_whole.specs.Messages.{put_request, rights_told}
 use Rattle.ca_model_whole.specs.Calls.{Called, Line, Told as ToldLine}

@@ -2,10 +2,10 @@
 use Rattle.std.specs.Prelude.{false, List, [], ◌∷◌}
 use Rattle.ca_wire.specs.Fields.{Fields}
 use Rattle.ca_wire.specs.Message.{spelling}
-use Rattle.ca_model.specs.declared.data.Event.TheVariants as event
-use Rattle.ca_model.specs.declared.data.Intent.TheVariants as intent
-use Rattle.ca_model.specs.declared.data.Sent.{Sent}
-use Rattle.ca_model.specs.Replies.{refused_reply}
+use Rattle.ca_small_model.specs.declared.data.Event.TheVariants as event
+use Rattle.ca_small_model.specs.declared.data.Intent.TheVariants as intent
+use Rattle.ca_small_model.specs.declared.data.Sent.{Sent}
+use Rattle.ca_small_model.specs.Replies.{refused_reply}
 use Rattle.ca_model_whole.specs.Client.{Channel, Client, Connecting, new_client}
 use Rattle.ca_model_whole.specs.Ends.{ServerPart}
 use Rattle.ca_model_whole.specs.Events.{Basic}

@@ -5,14 +5,14 @@ use Rattle.ca_dbr.specs.declared.value.Outcome.TheVariants as outcome
 use Rattle.ca_dbr.specs.Elements.{longs}
 use Rattle.ca_queue.specs.declared.entry.SubKey.{SubKey}
 use Rattle.ca_wire.specs.Fields.{Fields}
-use Rattle.ca_model.specs.declared.data.Cause.TheVariants as cause
-use Rattle.ca_model.specs.declared.data.Intent.TheVariants as intent
-use Rattle.ca_model.specs.declared.data.Notice.TheVariants as notice
-use Rattle.ca_model.specs.declared.data.Sent.{Sent}
-use Rattle.ca_model.specs.declared.data.Told.{Told}
-use Rattle.ca_model.specs.Circuit.{History}
-use Rattle.ca_model.specs.Replies.{cleared_reply, created_reply, refused_reply}
-use Rattle.ca_model.specs.Requests.{create_request, read_request}
+use Rattle.ca_small_model.specs.declared.data.Cause.TheVariants as cause
+use Rattle.ca_small_model.specs.declared.data.Intent.TheVariants as intent
+use Rattle.ca_small_model.specs.declared.data.Notice.TheVariants as notice
+use Rattle.ca_small_model.specs.declared.data.Sent.{Sent}
+use Rattle.ca_small_model.specs.declared.data.Told.{Told}
+use Rattle.ca_small_model.specs.Circuit.{History}
+use Rattle.ca_small_model.specs.Replies.{cleared_reply, created_reply, refused_reply}
+use Rattle.ca_small_model.specs.Requests.{create_request, read_request}
 use Rattle.ca_model_whole.specs.Log.{Applied, Posted, ServerLog, no_log}
 use Rattle.ca_model_whole.specs.Messages.{clear_request, event_add_request, put_request, put_told, update_told}
 use Rattle.ca_model_whole.specs.Calls.{Called, Line, Told as ToldLine}

@@ -3,11 +3,11 @@ use Rattle.std.specs.Prelude.{ℕ, ◌≡◌, ◌<◌, true, List, Some, length}
 use Rattle.ca_text.specs.Place.{At}
 use Rattle.ca_records.specs.Record.{RecordState}
 use Rattle.ca_records.specs.Records.{IsServed}
-use Rattle.ca_model.specs.Safe.{ActsOn}
-use Rattle.ca_model.specs.declared.data.Sent.{Sent}
-use Rattle.ca_model.specs.Circuit.{History}
-use Rattle.ca_model.specs.History.{Seat}
-use Rattle.ca_model.specs.Server.{IsSeat}
+use Rattle.ca_small_model.specs.Safe.{ActsOn}
+use Rattle.ca_small_model.specs.declared.data.Sent.{Sent}
+use Rattle.ca_small_model.specs.Circuit.{History}
+use Rattle.ca_small_model.specs.History.{Seat}
+use Rattle.ca_small_model.specs.Server.{IsSeat}
 use Rattle.ca_model_whole.specs.Log.{ServerLog}
 use Rattle.ca_model_whole.specs.Calls.{Line, names_in}
 use Rattle.ca_model_whole.specs.Client.{Channel, IsLive}

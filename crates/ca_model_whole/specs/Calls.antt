@@ -3,10 +3,10 @@ use Rattle.std.specs.Prelude.{ℕ, ◌==◌, Bool, false, List, Option, Some, No
 use Rattle.ca_text.specs.declared.refusal.Refusal.{Refusal}
 use Rattle.ca_dbr.specs.declared.value.Outcome.{Outcome}
 use Rattle.ca_dbr.specs.Elements.{Elements}
-use Rattle.ca_model.specs.declared.data.Logged.{Logged}
-use Rattle.ca_model.specs.declared.data.Notice.{Notice}
-use Rattle.ca_model.specs.declared.data.Notice.TheVariants as notice
-use Rattle.ca_model.specs.declared.data.Logged.TheVariants as logged
+use Rattle.ca_small_model.specs.declared.data.Logged.{Logged}
+use Rattle.ca_small_model.specs.declared.data.Notice.{Notice}
+use Rattle.ca_small_model.specs.declared.data.Notice.TheVariants as notice
+use Rattle.ca_small_model.specs.declared.data.Logged.TheVariants as logged
 
 -- A call that was accepted. Channels, requests, plain writes and subscriptions are each counted from 0 by such calls
 -- ("Overall Client Operation").

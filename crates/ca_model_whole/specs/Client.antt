@@ -7,12 +7,12 @@ use Rattle.ca_text.specs.Limits.{arena_slots, channel_name_limit, output_limit, 
 use Rattle.ca_text.specs.Name.{IsName}
 use Rattle.ca_text.specs.Place.{At}
 use Rattle.ca_dbr.specs.Elements.{Elements, bytes_of, count_of}
-use Rattle.ca_model.specs.declared.data.Phase.{Phase}
-use Rattle.ca_model.specs.declared.data.Phase.TheVariants as phase
-use Rattle.ca_model.specs.declared.data.Request.{Request}
-use Rattle.ca_model.specs.declared.data.Notice.TheVariants as notice
-use Rattle.ca_model.specs.Circuit.{Ioid}
-use Rattle.ca_model.specs.Client.{disconnected, read_fault}
+use Rattle.ca_small_model.specs.declared.data.Phase.{Phase}
+use Rattle.ca_small_model.specs.declared.data.Phase.TheVariants as phase
+use Rattle.ca_small_model.specs.declared.data.Request.{Request}
+use Rattle.ca_small_model.specs.declared.data.Notice.TheVariants as notice
+use Rattle.ca_small_model.specs.Circuit.{Ioid}
+use Rattle.ca_small_model.specs.Client.{disconnected, read_fault}
 use Rattle.ca_model_whole.specs.Faults.{may_write}
 use Rattle.ca_model_whole.specs.Records.{Peer}
 use Rattle.ca_model_whole.specs.Ids.{Id, Basic, Sub}

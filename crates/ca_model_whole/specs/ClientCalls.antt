@@ -10,10 +10,10 @@ use Rattle.ca_text.specs.Place.{At}
 use Rattle.ca_dbr.specs.declared.value.Outcome.{Outcome}
 use Rattle.ca_dbr.specs.Elements.{Elements}
 use Rattle.ca_wire.specs.Fields.{Fields}
-use Rattle.ca_model.specs.declared.data.Intent.{Intent}
-use Rattle.ca_model.specs.declared.data.Intent.TheVariants as intent
-use Rattle.ca_model.specs.declared.data.Notice.TheVariants as notice
-use Rattle.ca_model.specs.Requests.{read_request}
+use Rattle.ca_small_model.specs.declared.data.Intent.{Intent}
+use Rattle.ca_small_model.specs.declared.data.Intent.TheVariants as intent
+use Rattle.ca_small_model.specs.declared.data.Notice.TheVariants as notice
+use Rattle.ca_small_model.specs.Requests.{read_request}
 use Rattle.ca_model_whole.specs.Messages.{clear_request, event_add_request, event_cancel_request, put_request}
 use Rattle.ca_model_whole.specs.Calls.{Call, Line, hands_out, requests_in}
 use Rattle.ca_model_whole.specs.Calls as calls

@@ -17,10 +17,10 @@ use Rattle.ca_records.specs.Record.{RecordState}
 use Rattle.ca_queue.specs.declared.entry.SubKey.{SubKey}
 use Rattle.ca_queue.specs.Keys.{same}
 use Rattle.ca_wire.specs.Fields.{Fields}
-use Rattle.ca_model.specs.Due.{CidIsFree, SidIsFree}
-use Rattle.ca_model.specs.History.{Seat, text_in}
-use Rattle.ca_model.specs.Replies.{cleared_reply, created_reply, failed_reply, refused_reply, version_reply}
-use Rattle.ca_model.specs.Server.{IsSeat}
+use Rattle.ca_small_model.specs.Due.{CidIsFree, SidIsFree}
+use Rattle.ca_small_model.specs.History.{Seat, text_in}
+use Rattle.ca_small_model.specs.Replies.{cleared_reply, created_reply, failed_reply, refused_reply, version_reply}
+use Rattle.ca_small_model.specs.Server.{IsSeat}
 use Rattle.ca_model_whole.specs.Records.{Peer, Rule, Stored, native, record_of, rights}
 use Rattle.ca_model_whole.specs.Log.{ServerLog, Write, busy, value_of, waiting}
 use Rattle.ca_model_whole.specs.Messages.{bare, cancel_told, error_told, no_cid, put_told, rights_told, value_told}

@@ -7,10 +7,10 @@ use Rattle.ca_text.specs.Status.{normal}
 use Rattle.ca_dbr.specs.Elements.{Elements, base_of, count_of}
 use Rattle.ca_records.specs.Record.{RecordState}
 use Rattle.ca_wire.specs.Fields.{Fields}
-use Rattle.ca_model.specs.Answer.{told as answers_to}
-use Rattle.ca_model.specs.Circuit.{History, sent_in}
-use Rattle.ca_model.specs.History.{Clears}
-use Rattle.ca_model.specs.World.{meant_circuit}
+use Rattle.ca_small_model.specs.Answer.{told as answers_to}
+use Rattle.ca_small_model.specs.Circuit.{History, sent_in}
+use Rattle.ca_small_model.specs.History.{Clears}
+use Rattle.ca_small_model.specs.World.{meant_circuit}
 use Rattle.ca_model_whole.specs.Records.{native, record_of}
 use Rattle.ca_model_whole.specs.Log.{Applied, Posted, Write, busy, no_log, waiting, with_finish}
 use Rattle.ca_model_whole.specs.Messages.{bare, put_told}

@@ -6,8 +6,8 @@ use Rattle.ca_records.specs.Record.{RecordState}
 use Rattle.ca_queue.specs.declared.entry.SubKey.{SubKey}
 use Rattle.ca_queue.specs.Keys.{is_among}
 use Rattle.ca_queue.specs.Queue.{Queue, cancelled, no_queue, posted, switched}
-use Rattle.ca_model.specs.Client.{ClientEnd}
-use Rattle.ca_model.specs.Server.{ServerEnd, new_end}
+use Rattle.ca_small_model.specs.Client.{ClientEnd}
+use Rattle.ca_small_model.specs.Server.{ServerEnd, new_end}
 use Rattle.ca_model_whole.specs.Records.{Peer, Stored}
 use Rattle.ca_model_whole.specs.Log.{Entry, ServerLog}
 use Rattle.ca_model_whole.specs.Posts.{concerns, matching_posts}

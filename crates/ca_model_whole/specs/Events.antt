@@ -2,7 +2,7 @@
 -- channels, requests and subscriptions by their client's accepted calls in its present life.
 use Rattle.std.specs.Prelude.{ℕ, List}
 use Rattle.ca_dbr.specs.Elements.{Elements}
-use Rattle.ca_model.specs.declared.data.Event.{Event as SmallEvent}
+use Rattle.ca_small_model.specs.declared.data.Event.{Event as SmallEvent}
 use Rattle.ca_model_whole.specs.Client.{Address}
 
 -- What may happen to a world (model).

@@ -18,7 +18,7 @@ use Rattle.ca_dbr.specs.Shown.{shown}
 use Rattle.ca_dbr.specs.Types.{base_number, size_of_image, type_number}
 use Rattle.ca_records.specs.Record.{RecordState}
 use Rattle.ca_wire.specs.Fields.{Fields}
-use Rattle.ca_model.specs.Replies.{get_fail, no_convert}
+use Rattle.ca_small_model.specs.Replies.{get_fail, no_convert}
 use Rattle.ca_model_whole.specs.Records.{Stored, native}
 
 -- ---- statuses, as they stand in a message

@@ -8,12 +8,12 @@ use Rattle.ca_dbr.specs.declared.value.Outcome.{Outcome}
 use Rattle.ca_dbr.specs.declared.value.Outcome.TheVariants as outcome
 use Rattle.ca_wire.specs.declared.header.Header.{Header}
 use Rattle.ca_wire.specs.Fields.{Fields}
-use Rattle.ca_model.specs.declared.data.Intent.TheVariants as intent
-use Rattle.ca_model.specs.declared.data.Notice.TheVariants as notice
-use Rattle.ca_model.specs.declared.data.Phase.TheVariants as phase
-use Rattle.ca_model.specs.declared.data.Sent.{Sent}
-use Rattle.ca_model.specs.Circuit.{Cid, Ioid}
-use Rattle.ca_model.specs.Client.{OutcomeOf}
+use Rattle.ca_small_model.specs.declared.data.Intent.TheVariants as intent
+use Rattle.ca_small_model.specs.declared.data.Notice.TheVariants as notice
+use Rattle.ca_small_model.specs.declared.data.Phase.TheVariants as phase
+use Rattle.ca_small_model.specs.declared.data.Sent.{Sent}
+use Rattle.ca_small_model.specs.Circuit.{Cid, Ioid}
+use Rattle.ca_small_model.specs.Client.{OutcomeOf}
 use Rattle.ca_model_whole.specs.Messages.{clear_request, event_add_request}
 use Rattle.ca_model_whole.specs.Ids.{Id, Basic, Sub, Quotes, id_quoted, id_spoken}
 use Rattle.ca_model_whole.specs.Calls.{Telling}

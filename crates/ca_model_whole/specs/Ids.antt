@@ -6,12 +6,12 @@ use Rattle.ca_text.specs.Place.{At}
 use Rattle.ca_wire.specs.declared.header.Header.{Header}
 use Rattle.ca_wire.specs.Fields.{Fields}
 use Rattle.ca_wire.specs.Header.{HeaderSpells}
-use Rattle.ca_model.specs.declared.data.Cause.{Cause}
-use Rattle.ca_model.specs.declared.data.Cause.TheVariants as cause
-use Rattle.ca_model.specs.declared.data.Intent.{Intent}
-use Rattle.ca_model.specs.declared.data.Intent.TheVariants as intent
-use Rattle.ca_model.specs.declared.data.Sent.{Sent}
-use Rattle.ca_model.specs.Circuit.{History, WireId, Cid, Ioid, given_in, spoken_in, until}
+use Rattle.ca_small_model.specs.declared.data.Cause.{Cause}
+use Rattle.ca_small_model.specs.declared.data.Cause.TheVariants as cause
+use Rattle.ca_small_model.specs.declared.data.Intent.{Intent}
+use Rattle.ca_small_model.specs.declared.data.Intent.TheVariants as intent
+use Rattle.ca_small_model.specs.declared.data.Sent.{Sent}
+use Rattle.ca_small_model.specs.Circuit.{History, WireId, Cid, Ioid, given_in, spoken_in, until}
 
 -- An id that a client gives: to a channel or a request, as in the small world, or to a subscription ("Message Identifiers").
 pub data Id : Type 0 where

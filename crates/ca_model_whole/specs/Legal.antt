@@ -1,9 +1,9 @@
 -- What may be sent on all circuits of a world (section "Message Identifiers").
 use Rattle.std.specs.Prelude.{ℕ, ◌≡◌, Some}
 use Rattle.ca_text.specs.Place.{At}
-use Rattle.ca_model.specs.declared.data.Intent.{Intent}
-use Rattle.ca_model.specs.declared.data.Intent.TheVariants as intent
-use Rattle.ca_model.specs.declared.data.Sent.{Sent}
+use Rattle.ca_small_model.specs.declared.data.Intent.{Intent}
+use Rattle.ca_small_model.specs.declared.data.Intent.TheVariants as intent
+use Rattle.ca_small_model.specs.declared.data.Sent.{Sent}
 use Rattle.ca_model_whole.specs.Ids.{request_in}
 use Rattle.ca_model_whole.specs.NotTwice.{AtOnePlace, MeansWrite}
 use Rattle.ca_model_whole.specs.Sends.{LegalClient, LegalServer}

@@ -8,12 +8,12 @@ use Rattle.ca_text.specs.Place.{At}
 use Rattle.ca_records.specs.Record.{RecordState}
 use Rattle.ca_wire.specs.Fields.{Fields}
 use Rattle.ca_wire.specs.Stream.{IsStream}
-use Rattle.ca_model.specs.declared.data.Intent.TheVariants as intent
-use Rattle.ca_model.specs.declared.data.Phase.TheVariants as phase
-use Rattle.ca_model.specs.declared.data.Sent.{Sent}
-use Rattle.ca_model.specs.History.{text_in}
-use Rattle.ca_model.specs.Requests.{create_request, set_up}
-use Rattle.ca_model.specs.World.{meant_circuit}
+use Rattle.ca_small_model.specs.declared.data.Intent.TheVariants as intent
+use Rattle.ca_small_model.specs.declared.data.Phase.TheVariants as phase
+use Rattle.ca_small_model.specs.declared.data.Sent.{Sent}
+use Rattle.ca_small_model.specs.History.{text_in}
+use Rattle.ca_small_model.specs.Requests.{create_request, set_up}
+use Rattle.ca_small_model.specs.World.{meant_circuit}
 use Rattle.ca_model_whole.specs.Records.{record_of}
 use Rattle.ca_model_whole.specs.Messages.{bare}
 use Rattle.ca_model_whole.specs.Order.{AreEach, AreInOrder}

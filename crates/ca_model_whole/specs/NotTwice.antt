@@ -6,12 +6,12 @@ use Rattle.ca_dbr.specs.declared.value.Outcome.TheVariants as outcome
 use Rattle.ca_dbr.specs.Conversion.{converted}
 use Rattle.ca_dbr.specs.Elements.{Elements}
 use Rattle.ca_records.specs.Record.{RecordState}
-use Rattle.ca_model.specs.declared.data.Cause.TheVariants as cause
-use Rattle.ca_model.specs.declared.data.Intent.{Intent}
-use Rattle.ca_model.specs.declared.data.Intent.TheVariants as intent
-use Rattle.ca_model.specs.declared.data.Notice.TheVariants as notice
-use Rattle.ca_model.specs.declared.data.Sent.{Sent}
-use Rattle.ca_model.specs.declared.data.Told.{Told}
+use Rattle.ca_small_model.specs.declared.data.Cause.TheVariants as cause
+use Rattle.ca_small_model.specs.declared.data.Intent.{Intent}
+use Rattle.ca_small_model.specs.declared.data.Intent.TheVariants as intent
+use Rattle.ca_small_model.specs.declared.data.Notice.TheVariants as notice
+use Rattle.ca_small_model.specs.declared.data.Sent.{Sent}
+use Rattle.ca_small_model.specs.declared.data.Told.{Told}
 use Rattle.ca_model_whole.specs.Records.{native, record_of}
 use Rattle.ca_model_whole.specs.Log.{Applied, ServerLog, Write}
 use Rattle.ca_model_whole.specs.Calls.{Line, names_in, requests_in, writes_in}

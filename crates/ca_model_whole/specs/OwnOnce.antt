@@ -8,14 +8,14 @@ use Rattle.ca_text.specs.Status.{normal}
 use Rattle.ca_dbr.specs.declared.value.Outcome.{Outcome}
 use Rattle.ca_dbr.specs.declared.value.Outcome.TheVariants as outcome
 use Rattle.ca_wire.specs.Fields.{Fields}
-use Rattle.ca_model.specs.declared.data.Cause.TheVariants as cause
-use Rattle.ca_model.specs.declared.data.Intent.{Intent}
-use Rattle.ca_model.specs.declared.data.Notice.TheVariants as notice
-use Rattle.ca_model.specs.declared.data.Sent.{Sent}
-use Rattle.ca_model.specs.declared.data.Told.{Told}
-use Rattle.ca_model.specs.Circuit.{History, sent_in}
-use Rattle.ca_model.specs.History.{IsOpen, Seat, created_by, greeted_by, text_in}
-use Rattle.ca_model.specs.Server.{IsSeat}
+use Rattle.ca_small_model.specs.declared.data.Cause.TheVariants as cause
+use Rattle.ca_small_model.specs.declared.data.Intent.{Intent}
+use Rattle.ca_small_model.specs.declared.data.Notice.TheVariants as notice
+use Rattle.ca_small_model.specs.declared.data.Sent.{Sent}
+use Rattle.ca_small_model.specs.declared.data.Told.{Told}
+use Rattle.ca_small_model.specs.Circuit.{History, sent_in}
+use Rattle.ca_small_model.specs.History.{IsOpen, Seat, created_by, greeted_by, text_in}
+use Rattle.ca_small_model.specs.Server.{IsSeat}
 use Rattle.ca_model_whole.specs.Log.{Applied, ServerLog, Write, as_of}
 use Rattle.ca_model_whole.specs.Messages.{put_told}
 use Rattle.ca_model_whole.specs.Calls.{Call, Called, Line, ends_request}

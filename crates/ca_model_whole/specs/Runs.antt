@@ -1,8 +1,8 @@
 -- Whole runs of a world, event by event.
 use Rattle.std.specs.Prelude.{List}
 use Rattle.std.specs.List.{FoldsTo}
-use Rattle.ca_model.specs.declared.data.End.TheVariants as end
-use Rattle.ca_model.specs.declared.data.Event.TheVariants as event
+use Rattle.ca_small_model.specs.declared.data.End.TheVariants as end
+use Rattle.ca_small_model.specs.declared.data.Event.TheVariants as event
 use Rattle.ca_model_whole.specs.Events.{Event}
 use Rattle.ca_model_whole.specs.Events as events
 use Rattle.ca_model_whole.specs.Calls.{Collected, GaveUp}

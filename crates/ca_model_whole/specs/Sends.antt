@@ -4,13 +4,13 @@ use Rattle.ca_text.specs.Command.{command_number}
 use Rattle.ca_text.specs.declared.command.Command.TheVariants as command
 use Rattle.ca_text.specs.Place.{At}
 use Rattle.ca_wire.specs.Fields.{Fields}
-use Rattle.ca_model.specs.declared.data.Cause.TheVariants as cause
-use Rattle.ca_model.specs.declared.data.Intent.{Intent}
-use Rattle.ca_model.specs.declared.data.Intent.TheVariants as intent
-use Rattle.ca_model.specs.declared.data.Sent.{Sent}
-use Rattle.ca_model.specs.declared.data.Told.{Told}
-use Rattle.ca_model.specs.Circuit.{History, Cid, Ioid, sent_in}
-use Rattle.ca_model.specs.History.{Clears, Creates}
+use Rattle.ca_small_model.specs.declared.data.Cause.TheVariants as cause
+use Rattle.ca_small_model.specs.declared.data.Intent.{Intent}
+use Rattle.ca_small_model.specs.declared.data.Intent.TheVariants as intent
+use Rattle.ca_small_model.specs.declared.data.Sent.{Sent}
+use Rattle.ca_small_model.specs.declared.data.Told.{Told}
+use Rattle.ca_small_model.specs.Circuit.{History, Cid, Ioid, sent_in}
+use Rattle.ca_small_model.specs.History.{Clears, Creates}
 use Rattle.ca_model_whole.specs.Ids.{Id, Basic, Sub, channel_in, id_given}
 
 -- the channel on whose SID a message with this intent goes: none for set-up and creations (model)

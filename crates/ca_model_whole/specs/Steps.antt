@@ -19,14 +19,14 @@ use Rattle.ca_queue.specs.Waiting.{taken}
 use Rattle.ca_wire.specs.Fields.{Fields}
 use Rattle.ca_wire.specs.Message.{spelling}
 use Rattle.ca_wire.specs.Stream.{BadAt, NoneBegins, NotBad}
-use Rattle.ca_model.specs.Replies.{get_fail}
-use Rattle.ca_model.specs.declared.data.Cause.TheVariants as cause
-use Rattle.ca_model.specs.declared.data.Sent.{Sent}
-use Rattle.ca_model.specs.declared.data.Told.{Told}
-use Rattle.ca_model.specs.Answer.{told as answers_to}
-use Rattle.ca_model.specs.Client.{TakesFirst}
-use Rattle.ca_model.specs.History.{Seat}
-use Rattle.ca_model.specs.Circuit.{sent_in}
+use Rattle.ca_small_model.specs.Replies.{get_fail}
+use Rattle.ca_small_model.specs.declared.data.Cause.TheVariants as cause
+use Rattle.ca_small_model.specs.declared.data.Sent.{Sent}
+use Rattle.ca_small_model.specs.declared.data.Told.{Told}
+use Rattle.ca_small_model.specs.Answer.{told as answers_to}
+use Rattle.ca_small_model.specs.Client.{TakesFirst}
+use Rattle.ca_small_model.specs.History.{Seat}
+use Rattle.ca_small_model.specs.Circuit.{sent_in}
 use Rattle.ca_model_whole.specs.Records.{Stored}
 use Rattle.ca_model_whole.specs.Log.{Applied, Entry, ServerLog, Write, value_of, with_entry, with_wait, with_withdrawals}
 use Rattle.ca_model_whole.specs.Messages.{update_told}

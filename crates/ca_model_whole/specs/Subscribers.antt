@@ -9,14 +9,14 @@ use Rattle.ca_queue.specs.declared.entry.SubKey.{SubKey}
 use Rattle.ca_queue.specs.Order.{Sub, last_of}
 use Rattle.ca_queue.specs.Queue.{Queue}
 use Rattle.ca_wire.specs.Fields.{Fields}
-use Rattle.ca_model.specs.declared.data.Cause.{Cause}
-use Rattle.ca_model.specs.declared.data.Cause.TheVariants as cause
-use Rattle.ca_model.specs.declared.data.Intent.TheVariants as intent
-use Rattle.ca_model.specs.declared.data.Sent.{Sent}
-use Rattle.ca_model.specs.declared.data.Told.{Told}
-use Rattle.ca_model.specs.Circuit.{Acted, History}
-use Rattle.ca_model.specs.Client.{OutcomeOf}
-use Rattle.ca_model.specs.History.{Seat}
+use Rattle.ca_small_model.specs.declared.data.Cause.{Cause}
+use Rattle.ca_small_model.specs.declared.data.Cause.TheVariants as cause
+use Rattle.ca_small_model.specs.declared.data.Intent.TheVariants as intent
+use Rattle.ca_small_model.specs.declared.data.Sent.{Sent}
+use Rattle.ca_small_model.specs.declared.data.Told.{Told}
+use Rattle.ca_small_model.specs.Circuit.{Acted, History}
+use Rattle.ca_small_model.specs.Client.{OutcomeOf}
+use Rattle.ca_small_model.specs.History.{Seat}
 use Rattle.ca_model_whole.specs.Records.{Stored}
 use Rattle.ca_model_whole.specs.Log.{ServerLog}
 use Rattle.ca_model_whole.specs.Faults.{mask_in}

@@ -5,9 +5,9 @@ use Rattle.ca_text.specs.Place.{At}
 use Rattle.ca_records.specs.Record.{RecordState}
 use Rattle.ca_wire.specs.Fields.{Fields}
 use Rattle.ca_wire.specs.Message.{spelled}
-use Rattle.ca_model.specs.declared.data.Sent.{Sent}
-use Rattle.ca_model.specs.declared.data.Told.{Told}
-use Rattle.ca_model.specs.Circuit.{CircuitState}
+use Rattle.ca_small_model.specs.declared.data.Sent.{Sent}
+use Rattle.ca_small_model.specs.declared.data.Told.{Told}
+use Rattle.ca_small_model.specs.Circuit.{CircuitState}
 use Rattle.ca_model_whole.specs.Records.{Peer, Rule}
 use Rattle.ca_model_whole.specs.Log.{ServerLog, no_log}
 use Rattle.ca_model_whole.specs.Calls.{Call, Line, Telling, Called, Refused, Told as ToldLine}

@@ -7,7 +7,7 @@ use Rattle.ca_text.specs.Place.{At}
 use Rattle.ca_text.proofs.Places.{At-map, At-mapped}
 use Rattle.ca_records.specs.Record.{RecordState}
 use Rattle.ca_records.specs.Records.{IsServed}
-use Rattle.ca_model.specs.declared.data.Event.{Event}
+use Rattle.ca_small_model.specs.declared.data.Event.{Event}
 use Rattle.ca_script.specs.declared.config.Served.{Served}
 use Rattle.ca_script.specs.declared.event.Verb.{Verb}
 use Rattle.ca_script.specs.declared.event.Verb.TheVariants as verb

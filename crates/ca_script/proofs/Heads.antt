@@ -4,7 +4,7 @@ use Rattle.std.specs.Prelude.{Result, Ok, Err, OnOk, codes, option_map, unwrap_o
 use Rattle.std.proofs.lemmas.List.{append-nil}
 use Rattle.ca_text.specs.declared.refusal.Refusal.{Refusal}
 use Rattle.ca_records.specs.Record.{RecordState}
-use Rattle.ca_model.specs.declared.data.Event.{Event}
+use Rattle.ca_small_model.specs.declared.data.Event.{Event}
 use Rattle.ca_script.specs.declared.config.Served.{Served}
 use Rattle.ca_script.specs.Events.{AreNumbers}
 use Rattle.ca_script.specs.Grammar.{IsNumber, longer, parted, pieces_left}

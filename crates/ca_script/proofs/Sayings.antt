@@ -3,10 +3,10 @@ use Rattle.std.proofs.Common.{◌≡◌, ◌<◌, ℕ, List, [], ◌∷◌, leng
 use Rattle.std.specs.Prelude.{Result, Ok, Err, IfErr, IsErrAnd}
 use Rattle.ca_text.specs.declared.refusal.Refusal.{Refusal}
 use Rattle.ca_text.specs.declared.refusal.Refusal.TheVariants.{BadText}
-use Rattle.ca_model.specs.declared.data.End.{End}
-use Rattle.ca_model.specs.declared.data.End.TheVariants as end
-use Rattle.ca_model.specs.declared.data.Event.{Event}
-use Rattle.ca_model.specs.declared.data.Event.TheVariants as event
+use Rattle.ca_small_model.specs.declared.data.End.{End}
+use Rattle.ca_small_model.specs.declared.data.End.TheVariants as end
+use Rattle.ca_small_model.specs.declared.data.Event.{Event}
+use Rattle.ca_small_model.specs.declared.data.Event.TheVariants as event
 use Rattle.ca_script.specs.Events.{AreNumbers, Says, SaysOpen, end_word}
 use Rattle.ca_script.specs.Grammar.{IsNumber, Refuses}
 use Rattle.ca_script.specs.declared.event.Verb.TheVariants as verb

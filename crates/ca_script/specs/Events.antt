@@ -1,9 +1,9 @@
 -- The lines of events.
 use Rattle.std.specs.Prelude.{ℕ, ◌≡◌, ◌<◌, ⊤, List, [], ◌∷◌, length, codes}
-use Rattle.ca_model.specs.declared.data.End.{End}
-use Rattle.ca_model.specs.declared.data.End.TheVariants as end
-use Rattle.ca_model.specs.declared.data.Event.{Event}
-use Rattle.ca_model.specs.declared.data.Event.TheVariants as event
+use Rattle.ca_small_model.specs.declared.data.End.{End}
+use Rattle.ca_small_model.specs.declared.data.End.TheVariants as end
+use Rattle.ca_small_model.specs.declared.data.Event.{Event}
+use Rattle.ca_small_model.specs.declared.data.Event.TheVariants as event
 use Rattle.ca_script.specs.Grammar.{IsNumber}
 use Rattle.ca_script.specs.declared.event.Verb.{Verb}
 use Rattle.ca_script.specs.declared.event.Verb.TheVariants as verb

@@ -7,10 +7,10 @@ use Rattle.ca_dbr.specs.declared.value.Outcome.{Outcome}
 use Rattle.ca_dbr.specs.declared.value.Outcome.TheVariants as outcome
 use Rattle.ca_dbr.specs.Elements.{Elements, base_of, bytes_of, count_of, elements}
 use Rattle.ca_dbr.specs.Types.{base_number}
-use Rattle.ca_model.specs.declared.data.Logged.{Logged}
-use Rattle.ca_model.specs.declared.data.Logged.TheVariants as logged
-use Rattle.ca_model.specs.declared.data.Notice.{Notice}
-use Rattle.ca_model.specs.declared.data.Notice.TheVariants as notice
+use Rattle.ca_small_model.specs.declared.data.Logged.{Logged}
+use Rattle.ca_small_model.specs.declared.data.Logged.TheVariants as logged
+use Rattle.ca_small_model.specs.declared.data.Notice.{Notice}
+use Rattle.ca_small_model.specs.declared.data.Notice.TheVariants as notice
 
 -- a word and a number: the number stands behind a space
 abbrev pub counted : List ℕ → ℕ → List ℕ

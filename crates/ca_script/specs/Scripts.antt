@@ -1,7 +1,7 @@
 -- Scripts: what their lines say, one after another.
 use Rattle.std.specs.Prelude.{ℕ, ◌≡◌, ◌⊎◌, List, [], ◌∷◌, ◌++◌, codes}
 use Rattle.ca_records.specs.Record.{RecordState}
-use Rattle.ca_model.specs.declared.data.Event.{Event}
+use Rattle.ca_small_model.specs.declared.data.Event.{Event}
 use Rattle.ca_script.specs.declared.config.Served.{Served}
 use Rattle.ca_script.specs.declared.event.Verb.{Verb}
 use Rattle.ca_script.specs.declared.script.Script.{Script}

@@ -4,7 +4,7 @@ use Rattle.ca_text.specs.Limits.{payload_limit}
 use Rattle.ca_text.specs.Place.{At}
 use Rattle.ca_records.specs.Record.{IsRecord, RecordState}
 use Rattle.ca_records.specs.Records.{AreApart}
-use Rattle.ca_model.specs.World.{Setting}
+use Rattle.ca_small_model.specs.World.{Setting}
 use Rattle.ca_script.specs.declared.config.Config.{Config}
 use Rattle.ca_script.specs.declared.config.Served.{Served}
 

@@ -6,7 +6,7 @@ ghost use Rattle.ca_script.specs.declared.event.Verb.{Verb};
 ghost use Rattle.ca_script.specs.declared.event.Verb.TheVariants as verb;
 
 use crate::words::{Words, is_word};
-use ca_model::{End, Event};
+use ca_small_model::{End, Event};
 use ca_text::Refusal;
 use std::alloc::Global;
 

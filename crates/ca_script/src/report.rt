@@ -5,7 +5,7 @@ ghost use Rattle.ca_dbr.specs.Elements.{bytes_of, elements};
 ghost use Rattle.ca_script.specs.Report.{counted, end_text, entry_text, line_text, log_text, notice_text, outcome_text, value_text};
 
 use ca_dbr::{Meta, Outcome, Value, write_value};
-use ca_model::{Logged, Notice};
+use ca_small_model::{Logged, Notice};
 use ca_text::Refusal;
 use itoa::Buffer;
 

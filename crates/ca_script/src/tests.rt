@@ -1,6 +1,6 @@
 use crate::{read_script, write_end, write_log};
 use ca_dbr::{Meta, Outcome, Value};
-use ca_model::{Event, Logged, Notice};
+use ca_small_model::{Event, Logged, Notice};
 use ca_text::{Refusal, Status};
 use std::alloc::Global;
 use std::test::Fail;

@@ -1,3 +1,0 @@
-pub mod Happens
-pub mod Matches
-pub mod Claims

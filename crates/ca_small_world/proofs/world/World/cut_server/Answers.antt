@@ -1,0 +1,65 @@
+use Rattle.std.proofs.Common.{◌≡◌, ◌<◌, ℕ, List, length, sym, subst, arith}
+use Rattle.std.specs.Prelude.{slice_set}
+use Rattle.ca_text.specs.Place.{At}
+use Rattle.ca_text.proofs.Places.{At-map}
+use Rattle.ca_small_model.specs.declared.data.Circuit.{Circuit}
+use Rattle.ca_small_model.specs.Circuit.{circuit_of}
+use Rattle.ca_small_model.specs.World.{HappensCutServer, World}
+use Rattle.ca_small_runs.specs.Holds.{Holds}
+use Rattle.ca_small_world.specs.declared.side.Serving.{Serving}
+use Rattle.ca_small_world.specs.declared.side.Side.{Side}
+use Rattle.ca_small_world.specs.Seen.{serving_of, side_of}
+use Rattle.ca_small_world.proofs.Moving.{server-cut}
+use Rattle.ca_small_world.proofs.Refusing.{ended-cut-server}
+use Rattle.ca_small_world.proofs.Seeing.{client-within, found, joins-of, one-at, server-within, world-circuit, world-served, world_of}
+use Rattle.ca_small_world.proofs.world.World.cut_server.Goals as goal
+
+pub returns-then-not-line : goal.returns-then-not-line
+returns-then-not-line c =
+    let cs : List Side = c.self.inside.clients.items in
+    let ss : List Serving = c.self.inside.servers.items in
+    let ks : List Circuit = c.self.inside.circuits.items in
+    let w : World = world_of cs ss ks in
+    let k : ℕ = c.args.circuit in
+    let line : Circuit = c.index_mut-line.result.now in
+    let within : k < length ks = omega (arith, c.if-circuit-len.false, c.len.ensures) in
+    let here : At ks k line = found ks k line line within c.index_mut-line.ensures.value in
+    let same : world_of cs ss (slice_set ks k line) ≡ w = world-circuit cs ss ks k line here in
+    let no : (new : World) → HappensCutServer w k new → ⊥ = ended-cut-server w k (circuit_of line) (At-map circuit_of ks k line here) c.if-not-line.true in
+    subst (λ (v : World). (world_of cs ss (slice_set ks k line) ≡ v) × ((new : World) → HappensCutServer v k new → ⊥)) c.self.view_is (same, no)
+
+pub index_mut-requires : goal.index_mut-requires
+index_mut-requires c =
+    let cs : List Side = c.self.inside.clients.items in
+    let ss : List Serving = c.self.inside.servers.items in
+    let ks : List Circuit = c.self.inside.circuits.items in
+    let w : World = world_of cs ss ks in
+    let k : ℕ = c.args.circuit in
+    let line : Circuit = c.index_mut-line.result.now in
+    let within : k < length ks = omega (arith, c.if-circuit-len.false, c.len.ensures) in
+    let here : At ks k line = found ks k line line within c.index_mut-line.ensures.value in
+    let h : Holds w = subst (λ (v : World). Holds v) (sym c.self.view_is) c.requires in
+    let lt : line.server < length ss = server-within cs ss ks k line h here in
+    omega (arith, lt)
+
+pub returns : goal.returns
+returns c =
+    let cs : List Side = c.self.inside.clients.items in
+    let ss : List Serving = c.self.inside.servers.items in
+    let ks : List Circuit = c.self.inside.circuits.items in
+    let w : World = world_of cs ss ks in
+    let k : ℕ = c.args.circuit in
+    let line : Circuit = c.index_mut-line.result.now in
+    let within : k < length ks = omega (arith, c.if-circuit-len.false, c.len.ensures) in
+    let here : At ks k line = found ks k line line within c.index_mut-line.ensures.value in
+    let h : Holds w = subst (λ (v : World). Holds v) (sym c.self.view_is) c.requires in
+    let one = one-at cs line.client (client-within cs ss ks k line h here) in
+    let side : Side = one.0 in
+    let client : At cs line.client side = one.1 in
+    let server : Serving = c.index_mut.result.now in
+    let there : At ss line.server server = found ss line.server server server (server-within cs ss ks k line h here) c.index_mut.ensures.value in
+    let j = joins-of cs ss ks k line side server here client there in
+    let is = world-served cs ss ks k line side c.end_server.new.server c.end_server.new.circuit client in
+    let made = server-cut w k (circuit_of line) (circuit_of c.end_server.new.circuit) (side_of side) (serving_of server) (serving_of c.end_server.new.server) j c.if-not-line.false c.end_server.ensures in
+    let v : World = world_of cs (slice_set ss line.server c.end_server.new.server) (slice_set ks k c.end_server.new.circuit) in
+    subst (λ (z : World). HappensCutServer z k v) c.self.view_is (subst (λ (z : World). HappensCutServer w k z) (sym is) made)
