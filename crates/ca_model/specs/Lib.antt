@@ -1,0 +1,2 @@
+pub mod Speech
+pub mod History

@@ -1,0 +1,127 @@
+-- Statement: what is read off the lists: which message is whose, which channels are open or live, which writes were applied.
+use Rattle.std.specs.Prelude.{ℕ, ◌≡◌, ◌<◌, ◌≤◌, ◌++◌, ◌⊎◌, true, false, List, [], Option, Some, None, Ok, length, map, option_map, slice_get, take, unwrap_or}
+use Rattle.ca_text.specs.Place.{At}
+use Rattle.ca_dbr.specs.Conversion.{converted}
+use Rattle.ca_dbr.specs.Elements.{Elements, base_of}
+use Rattle.ca_wire.specs.Fields.{Fields}
+use Rattle.ca_model.specs.Speech.{Id, Cid, Ioid, SubId, Clears, Creates, Ends, In, Stored, name_in, sid_in}
+use Rattle.ca_model.specs.History.{Ask, Create, Clear, Request, Subscribe, Cancel, Intent, On, Cause, Reply, Removal}
+use Rattle.ca_model.specs.History.{Sent, Told, Step, Circuit, Entry, Added, Removed, Applied, Finished, Line, Opened, Called, World}
+
+-- ---- messages and intents
+
+-- Circuit n of a world, and the logs of the two lives that it joins.
+abbrev pub Joins : World → ℕ → Circuit → List Line → List Entry → Type 0
+Joins w n c x y = At w.circuits n c × At w.clients c.client x × At w.servers c.server y
+
+-- A fact holds of each circuit and of the two logs that it joins, which are there.
+abbrev pub OfCircuits : World → (ℕ → Circuit → List Line → List Entry → Type 0) → Type 0
+OfCircuits w P = (n : ℕ) (c : Circuit) → At w.circuits n c → (x : List Line) × (y : List Entry) × Joins w n c x y × P n c x y
+
+-- A fact holds of the log of each life of a client.
+abbrev pub OfClients : World → (ℕ → List Line → Type 0) → Type 0
+OfClients w P = (life : ℕ) (x : List Line) → At w.clients life x → P life x
+
+-- The message at place k was meant so.
+abbrev pub Meant : Circuit → (k : ℕ) → Intent → Type 0
+Meant c k intent = (s : Sent) × At c.up k s × (s.intent ≡ intent)
+
+-- A message meant so is at place k of circuit n, in this life of a client.
+abbrev pub Stands : World → (life : ℕ) → Intent → (n k : ℕ) → Type 0
+Stands w life intent n k = (c : Circuit) × At w.circuits n c × (c.client ≡ life) × Meant c k intent
+
+-- An intent to read or write once.
+abbrev pub IsRequest : Intent → Type 0
+IsRequest (On channel (Request kind number)) = Unit {0}
+IsRequest intent = ⊥
+
+-- What an id names in an intent: the channel, the request or the subscription.
+abbrev pub named : Id → Intent → Option ℕ
+named (Cid id) (On channel ask) = Some channel
+named (Ioid id) (On channel (Request kind number)) = Some number
+named (SubId id) (On channel (Subscribe number)) = Some number
+named (SubId id) (On channel (Cancel number)) = Some number
+named id intent = None
+
+-- How many messages the client had sent when it read the one at place j; or has sent by now, if it has not read it.
+abbrev pub until : Circuit → ℕ → ℕ
+until c j = unwrap_or (option_map (λ (h : Step). h.sent) (slice_get c.heard j)) (length c.up)
+
+-- The circuit as its server knew it when it took the message at place k, in this step.
+abbrev pub before : Circuit → ℕ → Step → Circuit
+before c k h = record c { up = take k c.up; down = take h.sent c.down; handled = take k c.handled; heard = []; queued = [] }
+
+-- The updates that were sent, and then those that are queued, by place and cause.
+abbrev pub updates : Circuit → List (ℕ × Cause)
+updates c = map (λ (t : Told). (t.place, t.cause)) c.down ++ c.queued
+
+-- The server's message at place j is this one, as a reply to the client's at place k.
+abbrev pub IsReply : Circuit → (k j : ℕ) → Fields → Type 0
+IsReply c k j m = At c.down j (record { message = m; place = k; cause = Reply })
+
+-- ---- channels
+
+-- By this log the server has record r, of this name: it was added, and not removed since.
+abbrev pub Has : List Entry → (r : ℕ) → (name : List ℕ) → Type 0
+Has y r name = (v : Stored) × In y (Added r name v) × (In y (Removed r) → ⊥)
+
+-- Record r has the name under which the client opened this channel.
+abbrev pub IsNamed : List Line → List Entry → (channel r : ℕ) → Type 0
+IsNamed x y channel r = (name : List ℕ) × (v : Stored) × In x (Opened channel name) × In y (Added r name v)
+
+-- The CREATE_CHAN at place k was answered at place j with this SID, for record r, which the server had under its name.
+abbrev pub Created : Circuit → List Entry → (j k sid r : ℕ) → Type 0
+Created c y j k sid r =
+    (t : Told) × (s : Sent) × (h : Step) × At c.down j t × (t.place ≡ k) × (t.cause ≡ Reply) × Creates t.message sid
+    × At c.up k s × At c.handled k h × Has (take h.logged y) r (name_in s.message)
+
+-- The channel so created is open: no other was created under its SID later, and no CLEAR_CHANNEL of it was handled.
+abbrev pub IsOpen : Circuit → List Entry → (j k sid r : ℕ) → Type 0
+IsOpen c y j k sid r =
+    Created c y j k sid r × ((i : ℕ) (t : Told) → j < i → At c.down i t → Creates t.message sid → ⊥)
+    × ((l : ℕ) (s : Sent) → k < l → l < length c.handled → At c.up l s → Clears s.message sid → ⊥)
+
+-- The channel is live at the client: its creation was read, no CLEAR_CHANNEL of it was sent since, and the client's end is open.
+abbrev pub IsLive : Circuit → (channel j k sid : ℕ) → Type 0
+IsLive c channel j k sid =
+    (t : Told) × Meant c k (On channel Create) × At c.down j t × (t.place ≡ k) × (t.cause ≡ Reply) × Creates t.message sid
+    × (j < length c.heard) × ((l : ℕ) → k < l → Meant c l (On channel Clear) → ⊥) × (c.client_open ≡ true)
+
+-- The SERVER_DISCONN for the channel created at place k was sent, and is unread.
+abbrev pub IsUnread : Circuit → (k : ℕ) → Type 0
+IsUnread c k = (j : ℕ) × (t : Told) × At c.down j t × (t.place ≡ k) × (t.cause ≡ Removal) × (length c.heard ≤ j)
+
+-- The subscription of the EVENT_ADD s lasts: the server's end is open, record r is there, and no cancel or clear was handled.
+abbrev pub Lasts : Circuit → List Entry → (k r : ℕ) → Sent → Type 0
+Lasts c y k r s =
+    (c.server_open ≡ true) × (In y (Removed r) → ⊥)
+    × ((l : ℕ) (m : Sent) → k < l → l < length c.handled → At c.up l m → Ends s.message m.message → ⊥)
+
+-- ---- writes and endings
+
+-- The write at place k of circuit n is applied, at entry i of the log of server life l, to record r with this value.
+abbrev pub IsApplied : World → (n k l i r : ℕ) → Stored → Type 0
+IsApplied w n k l i r v = (y : List Entry) × At w.servers l y × At y i (Applied n k r v)
+
+-- It has the value that its caller gave, in the type of its record, and that is the record that its channel names. It was handled,
+-- or the server's end closed when it took it.
+abbrev pub HasOwnValue : World → (n k l r : ℕ) → Stored → Type 0
+HasOwnValue w n k l r v =
+    (c : Circuit) × (x : List Line) × (y : List Entry) × (channel : ℕ) × (ask : Ask) × (e : Elements) × Joins w n c x y
+    × (c.server ≡ l) × Meant c k (On channel ask) × In x (Called (On channel ask) (Some e)) × IsNamed x y channel r
+    × ((name : List ℕ) × (first : Stored) × In y (Added r name first) × (converted e (base_of first.value) ≡ Ok v.value))
+    × ((k < length c.handled) ⊎ ((k ≡ length c.handled) × (c.server_open ≡ false)))
+
+-- The put s at place k of circuit n was applied and then finished, before any CLEAR_CHANNEL of its channel was handled.
+abbrev pub IsFinished : (n : ℕ) → Circuit → List Entry → (k : ℕ) → Sent → Type 0
+IsFinished n c y k s =
+    (i e r : ℕ) × (v : Stored) × At y i (Applied n k r v) × At y e (Finished n k) × (i < e)
+    × ((l : ℕ) (m : Sent) (h : Step) → k < l → At c.up l m → At c.handled l h → h.logged ≤ e → Clears m.message (sid_in s.message) → ⊥)
+
+-- What was meant so is lost: its client's end has ended, its channel was cleared, or a SERVER_DISCONN for its channel was read.
+abbrev pub IsLost : World → (life : ℕ) → List Line → Intent → Type 0
+IsLost w life x intent =
+    (n k channel : ℕ) × (ask : Ask) × (c : Circuit) × At w.circuits n c × (c.client ≡ life) × (intent ≡ On channel ask) × Meant c k intent
+    × ((c.client_open ≡ false) ⊎ (In x (Called (On channel Clear) None)
+    ⊎ ((j : ℕ) × (t : Told) × (h : Step) × At c.down j t × At c.heard j h × (t.cause ≡ Removal) × Meant c t.place (On channel Create)
+    × (t.place ≤ k) × (k < h.sent))))
