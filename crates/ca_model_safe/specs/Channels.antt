@@ -1,12 +1,14 @@
 -- Statement: what is read off the lists: which message is whose, which channels are open or live, which writes were applied.
 use Rattle.std.specs.Prelude.{ℕ, ◌≡◌, ◌<◌, ◌≤◌, ◌++◌, ◌⊎◌, true, false, List, [], Option, Some, None, Ok, length, map, option_map, slice_get, take, unwrap_or}
+use Rattle.ca_text.specs.declared.command.Command.TheVariants as command
 use Rattle.ca_text.specs.Place.{At}
 use Rattle.ca_dbr.specs.Conversion.{converted}
 use Rattle.ca_dbr.specs.Elements.{Elements, base_of}
 use Rattle.ca_wire.specs.Fields.{Fields}
-use Rattle.ca_model.specs.Speech.{Id, Cid, Ioid, SubId, Clears, Creates, Ends, In, Stored, name_in, sid_in}
-use Rattle.ca_model.specs.History.{Ask, Create, Clear, Request, Subscribe, Cancel, Intent, On, Cause, Reply, Removal}
-use Rattle.ca_model.specs.History.{Sent, Told, Step, Circuit, Entry, Added, Removed, Applied, Finished, Line, Opened, Called, World}
+use Rattle.ca_model.specs.Speech.{Id, Cid, Ioid, SubId, Clears, Creates, Ends, In, Is, Stored, name_in, sid_in}
+use Rattle.ca_model.specs.History.{Ask, Create, Clear, Request, Subscribe, Cancel, Read, Put, Write, Intent, On, OfCircuit}
+use Rattle.ca_model.specs.History.{Cause, Reply, Removal, Sent, Told, Step, Circuit}
+use Rattle.ca_model.specs.History.{Entry, Added, Removed, Waits, Applied, Finished, Withdrawn, Line, Opened, Called, World}
 
 -- ---- messages and intents
 
@@ -22,6 +24,21 @@ OfCircuits w P = (n : ℕ) (c : Circuit) → At w.circuits n c → (x : List Lin
 abbrev pub OfClients : World → (ℕ → List Line → Type 0) → Type 0
 OfClients w P = (life : ℕ) (x : List Line) → At w.clients life x → P life x
 
+-- A message asks this.
+abbrev pub Asks : Ask → Fields → Type 0
+Asks Create m = Is command.CreateChannel m
+Asks Clear m = Is command.ClearChannel m
+Asks (Request Read number) m = Is command.ReadNotify m
+Asks (Request Put number) m = Is command.WriteNotify m
+Asks (Request Write number) m = Is command.Write m
+Asks (Subscribe number) m = Is command.EventAdd m
+Asks (Cancel number) m = Is command.EventCancel m
+
+-- A message is of the kind that its intent says; one that serves the circuit asks nothing on a channel.
+abbrev pub Suits : Intent → Fields → Type 0
+Suits (On channel ask) m = Asks ask m
+Suits OfCircuit m = (ask : Ask) → Asks ask m → ⊥
+
 -- The message at place k was meant so.
 abbrev pub Meant : Circuit → (k : ℕ) → Intent → Type 0
 Meant c k intent = (s : Sent) × At c.up k s × (s.intent ≡ intent)
@@ -34,6 +51,19 @@ Stands w life intent n k = (c : Circuit) × At w.circuits n c × (c.client ≡ l
 abbrev pub IsRequest : Intent → Type 0
 IsRequest (On channel (Request kind number)) = Unit {0}
 IsRequest intent = ⊥
+
+-- An intent to use a record: to read, to write or to subscribe.
+abbrev pub IsUse : Intent → Type 0
+IsUse (On channel (Request kind number)) = Unit {0}
+IsUse (On channel (Subscribe number)) = Unit {0}
+IsUse intent = ⊥
+
+-- By these lines the caller has not ended what it meant: it cleared no such channel and cancelled no such subscription.
+abbrev pub IsHeld : List Line → Intent → Type 0
+IsHeld x (On channel (Subscribe number)) =
+    (In x (Called (On channel Clear) None) → ⊥) × (In x (Called (On channel (Cancel number)) None) → ⊥)
+IsHeld x (On channel ask) = In x (Called (On channel Clear) None) → ⊥
+IsHeld x OfCircuit = Unit {0}
 
 -- What an id names in an intent: the channel, the request or the subscription.
 abbrev pub named : Id → Intent → Option ℕ
@@ -49,7 +79,15 @@ until c j = unwrap_or (option_map (λ (h : Step). h.sent) (slice_get c.heard j))
 
 -- The circuit as its server knew it when it took the message at place k, in this step.
 abbrev pub before : Circuit → ℕ → Step → Circuit
-before c k h = record c { up = take k c.up; down = take h.sent c.down; handled = take k c.handled; heard = []; queued = [] }
+before c k h = record c {
+  up = take k c.up;
+  down = take h.sent c.down;
+  handled = take k c.handled;
+  heard = [];
+  queued = [];
+  client_open = true;
+  server_open = true;
+}
 
 -- The updates that were sent, and then those that are queued, by place and cause.
 abbrev pub updates : Circuit → List (ℕ × Cause)
@@ -59,11 +97,24 @@ updates c = map (λ (t : Told). (t.place, t.cause)) c.down ++ c.queued
 abbrev pub IsReply : Circuit → (k j : ℕ) → Fields → Type 0
 IsReply c k j m = At c.down j (record { message = m; place = k; cause = Reply })
 
+-- The steps of an end: one for each of the first messages that came to it, in order; each within what it sent and logged.
+pub record AreSteps {A B C : Type 0} (steps : List Step) (came : List A) (sent : List B) (log : List C) : Type 0 where
+  pub one_each : length steps ≤ length came
+  pub within : (k : ℕ) (h : Step) → At steps k h → (h.sent ≤ length sent) × (h.logged ≤ h.after) × (h.after ≤ length log)
+  pub rise : (i j : ℕ) (g h : Step) → i < j → At steps i g → At steps j h → (g.sent ≤ h.sent) × (g.after ≤ h.logged)
+
 -- ---- channels
 
 -- By this log the server has record r, of this name: it was added, and not removed since.
 abbrev pub Has : List Entry → (r : ℕ) → (name : List ℕ) → Type 0
 Has y r name = (v : Stored) × In y (Added r name v) × (In y (Removed r) → ⊥)
+
+-- A channel is opened once. A record is added once, when no other has its name, and removed only while it is there.
+pub record KeepNames (x : List Line) (y : List Entry) : Type 0 where
+  pub one_name : (i j channel : ℕ) (a b : List ℕ) → At x i (Opened channel a) → At x j (Opened channel b) → i ≡ j
+  pub one_record : (i j r : ℕ) (a b : List ℕ) (v u : Stored) → At y i (Added r a v) → At y j (Added r b u) → i ≡ j
+  pub one_at_once : (i r q : ℕ) (name : List ℕ) (v : Stored) → At y i (Added r name v) → Has (take i y) q name → ⊥
+  pub was_there : (i r : ℕ) → At y i (Removed r) → (name : List ℕ) × Has (take i y) r name
 
 -- Record r has the name under which the client opened this channel.
 abbrev pub IsNamed : List Line → List Entry → (channel r : ℕ) → Type 0
@@ -80,6 +131,11 @@ abbrev pub IsOpen : Circuit → List Entry → (j k sid r : ℕ) → Type 0
 IsOpen c y j k sid r =
     Created c y j k sid r × ((i : ℕ) (t : Told) → j < i → At c.down i t → Creates t.message sid → ⊥)
     × ((l : ℕ) (s : Sent) → k < l → l < length c.handled → At c.up l s → Clears s.message sid → ⊥)
+
+-- When the server's log had so many entries, it had handled no CLEAR_CHANNEL of this SID that was sent after place k.
+abbrev pub IsUncleared : Circuit → (k sid logged : ℕ) → Type 0
+IsUncleared c k sid logged =
+    (l : ℕ) (s : Sent) (h : Step) → k < l → At c.up l s → At c.handled l h → h.logged ≤ logged → Clears s.message sid → ⊥
 
 -- The channel is live at the client: its creation was read, no CLEAR_CHANNEL of it was sent since, and the client's end is open.
 abbrev pub IsLive : Circuit → (channel j k sid : ℕ) → Type 0
@@ -103,25 +159,49 @@ Lasts c y k r s =
 abbrev pub IsApplied : World → (n k l i r : ℕ) → Stored → Type 0
 IsApplied w n k l i r v = (y : List Entry) × At w.servers l y × At y i (Applied n k r v)
 
--- It has the value that its caller gave, in the type of its record, and that is the record that its channel names. It was handled,
--- or the server's end closed when it took it.
-abbrev pub HasOwnValue : World → (n k l r : ℕ) → Stored → Type 0
-HasOwnValue w n k l r v =
-    (c : Circuit) × (x : List Line) × (y : List Entry) × (channel : ℕ) × (ask : Ask) × (e : Elements) × Joins w n c x y
-    × (c.server ≡ l) × Meant c k (On channel ask) × In x (Called (On channel ask) (Some e)) × IsNamed x y channel r
-    × ((name : List ℕ) × (first : Stored) × In y (Added r name first) × (converted e (base_of first.value) ≡ Ok v.value))
-    × ((k < length c.handled) ⊎ ((k ≡ length c.handled) × (c.server_open ≡ false)))
+-- Entry i was made when the message at place k was handled, or in the step in which the server's end closed on it.
+abbrev pub IsTaken : Circuit → (k i : ℕ) → Type 0
+IsTaken c k i =
+    ((h : Step) × At c.handled k h × (h.logged ≤ i) × (i < h.after)) ⊎ ((k ≡ length c.handled) × (c.server_open ≡ false))
 
--- The put s at place k of circuit n was applied and then finished, before any CLEAR_CHANNEL of its channel was handled.
+-- The put at place k of circuit n came to wait for record r when it was handled, before entry i, and was never withdrawn.
+abbrev pub HasWaited : (n : ℕ) → Circuit → List Entry → (k i r : ℕ) → Type 0
+HasWaited n c y k i r =
+    (e : ℕ) × (v : Stored) × At y e (Waits n k r v) × (e < i) × IsTaken c k e × (In y (Withdrawn n k) → ⊥)
+
+-- A write that is applied at entry i has the value that its caller gave, in the type of its record; the record was there then,
+-- under the name of the caller's channel; and it was applied when it was handled, or after it had waited.
+pub record IsOwnWrite (w : World) (n k l i r : ℕ) (v : Stored) : Type 0 where
+  pub c : Circuit
+  pub x : List Line
+  pub y : List Entry
+  pub joins : Joins w n c x y × (c.server ≡ l)
+  pub channel : ℕ
+  pub ask : Ask
+  pub given : Elements
+  pub called : Meant c k (On channel ask) × In x (Called (On channel ask) (Some given))
+  pub name : List ℕ
+  pub first : Stored
+  pub there : In x (Opened channel name) × In (take i y) (Added r name first) × (In (take i y) (Removed r) → ⊥)
+  pub value : converted given (base_of first.value) ≡ Ok v.value
+  pub came : IsTaken c k i ⊎ HasWaited n c y k i r
+
+-- The put at place k of circuit n was busy until entry e: it was applied before, and of its record no other put that was finished
+-- was applied between.
+abbrev pub IsBusyUntil : List Entry → (n k e : ℕ) → Type 0
+IsBusyUntil y n k e =
+    (i r : ℕ) × (v : Stored) × At y i (Applied n k r v) × (i < e)
+    × ((j m l f : ℕ) (u : Stored) → At y j (Applied m l r u) → At y f (Finished m l) → i < j → j < e → ⊥)
+
+-- The put s at place k of circuit n was finished, before any CLEAR_CHANNEL of its channel was handled.
 abbrev pub IsFinished : (n : ℕ) → Circuit → List Entry → (k : ℕ) → Sent → Type 0
-IsFinished n c y k s =
-    (i e r : ℕ) × (v : Stored) × At y i (Applied n k r v) × At y e (Finished n k) × (i < e)
-    × ((l : ℕ) (m : Sent) (h : Step) → k < l → At c.up l m → At c.handled l h → h.logged ≤ e → Clears m.message (sid_in s.message) → ⊥)
+IsFinished n c y k s = (e : ℕ) × At y e (Finished n k) × IsBusyUntil y n k e × IsUncleared c k (sid_in s.message) e
 
--- What was meant so is lost: its client's end has ended, its channel was cleared, or a SERVER_DISCONN for its channel was read.
-abbrev pub IsLost : World → (life : ℕ) → List Line → Intent → Type 0
-IsLost w life x intent =
+-- What was meant so is lost in line i: its client's end has ended, or its channel was cleared before, or in the step that told line
+-- i a SERVER_DISCONN was read for the creation of its channel after which it was sent.
+abbrev pub IsLost : World → (life : ℕ) → List Line → (i : ℕ) → Intent → Type 0
+IsLost w life x i intent =
     (n k channel : ℕ) × (ask : Ask) × (c : Circuit) × At w.circuits n c × (c.client ≡ life) × (intent ≡ On channel ask) × Meant c k intent
-    × ((c.client_open ≡ false) ⊎ (In x (Called (On channel Clear) None)
+    × ((c.client_open ≡ false) ⊎ (In (take i x) (Called (On channel Clear) None)
     ⊎ ((j : ℕ) × (t : Told) × (h : Step) × At c.down j t × At c.heard j h × (t.cause ≡ Removal) × Meant c t.place (On channel Create)
-    × (t.place ≤ k) × (k < h.sent))))
+    × (t.place ≤ k) × (k < h.sent) × (h.logged ≤ i) × (i < h.after))))
