@@ -2,6 +2,7 @@
 use Rattle.std.specs.Prelude.{ℕ, Bool, List, Option}
 use Rattle.ca_dbr.specs.declared.value.Outcome.{Outcome}
 use Rattle.ca_dbr.specs.Elements.{Elements}
+use Rattle.ca_records.specs.Record.{RecordState}
 use Rattle.ca_wire.specs.Fields.{Fields}
 use Rattle.ca_model.specs.Speech.{Stored}
 
@@ -55,13 +56,14 @@ pub record Circuit : Type 0 where
   pub client_open : Bool
   pub server_open : Bool
 
--- The log of a server's life: a record of this number was added, with a name and a value, or removed; a record was posted, with a
--- mask; the write at a place of a circuit waits or was applied, to a record with a value; it was finished or withdrawn.
+-- The log of a server's life: a record of this number was added or removed; a record was posted, with a mask; the write at a place
+-- of a circuit waits for a record with a value, or was applied to it and made it busy or not; it was finished or withdrawn.
 pub data Entry : Type 0 where
-  Added : ℕ → List ℕ → Stored → Entry
+  Added : ℕ → RecordState → Entry
   Removed : ℕ → Entry
   Posted : ℕ → ℕ → Stored → Entry
-  Waits Applied : ℕ → ℕ → ℕ → Stored → Entry
+  Waits : ℕ → ℕ → ℕ → Stored → Entry
+  Applied : ℕ → ℕ → ℕ → Stored → Bool → Entry
   Finished Withdrawn : ℕ → ℕ → Entry
 
 -- The log of a client's life: a channel was opened under a name; another call was accepted, with a value if it writes; a notice told

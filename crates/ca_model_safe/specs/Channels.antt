@@ -1,9 +1,10 @@
 -- Statement: what is read off the lists: which message is whose, which channels are open or live, which writes were applied.
-use Rattle.std.specs.Prelude.{ℕ, ◌≡◌, ◌<◌, ◌≤◌, ◌++◌, ◌⊎◌, true, false, List, [], Option, Some, None, Ok, length, map, option_map, slice_get, take, unwrap_or}
+use Rattle.std.specs.Prelude.{ℕ, ◌≡◌, ◌<◌, ◌≤◌, ◌++◌, ◌⊎◌, Bool, true, false, List, [], Option, Some, None, Ok, length, map, option_map, slice_get, take, unwrap_or}
 use Rattle.ca_text.specs.declared.command.Command.TheVariants as command
 use Rattle.ca_text.specs.Place.{At}
 use Rattle.ca_dbr.specs.Conversion.{converted}
 use Rattle.ca_dbr.specs.Elements.{Elements, base_of}
+use Rattle.ca_records.specs.Record.{RecordState}
 use Rattle.ca_wire.specs.Fields.{Fields}
 use Rattle.ca_model.specs.Speech.{Id, Cid, Ioid, SubId, Clears, Creates, Ends, In, Is, Stored, name_in, sid_in}
 use Rattle.ca_model.specs.History.{Ask, Create, Clear, Request, Subscribe, Cancel, Read, Put, Write, Intent, On, OfCircuit}
@@ -107,18 +108,18 @@ pub record AreSteps {A B C : Type 0} (steps : List Step) (came : List A) (sent :
 
 -- By this log the server has record r, of this name: it was added, and not removed since.
 abbrev pub Has : List Entry → (r : ℕ) → (name : List ℕ) → Type 0
-Has y r name = (v : Stored) × In y (Added r name v) × (In y (Removed r) → ⊥)
+Has y r name = (s : RecordState) × In y (Added r s) × (s.name ≡ name) × (In y (Removed r) → ⊥)
 
 -- A channel is opened once. A record is added once, when no other has its name, and removed only while it is there.
 pub record KeepNames (x : List Line) (y : List Entry) : Type 0 where
   pub one_name : (i j channel : ℕ) (a b : List ℕ) → At x i (Opened channel a) → At x j (Opened channel b) → i ≡ j
-  pub one_record : (i j r : ℕ) (a b : List ℕ) (v u : Stored) → At y i (Added r a v) → At y j (Added r b u) → i ≡ j
-  pub one_at_once : (i r q : ℕ) (name : List ℕ) (v : Stored) → At y i (Added r name v) → Has (take i y) q name → ⊥
+  pub one_record : (i j r : ℕ) (a b : RecordState) → At y i (Added r a) → At y j (Added r b) → i ≡ j
+  pub one_at_once : (i r q : ℕ) (s : RecordState) → At y i (Added r s) → Has (take i y) q s.name → ⊥
   pub was_there : (i r : ℕ) → At y i (Removed r) → (name : List ℕ) × Has (take i y) r name
 
 -- Record r has the name under which the client opened this channel.
 abbrev pub IsNamed : List Line → List Entry → (channel r : ℕ) → Type 0
-IsNamed x y channel r = (name : List ℕ) × (v : Stored) × In x (Opened channel name) × In y (Added r name v)
+IsNamed x y channel r = (s : RecordState) × In x (Opened channel s.name) × In y (Added r s)
 
 -- The CREATE_CHAN at place k was answered at place j with this SID, for record r, which the server had under its name.
 abbrev pub Created : Circuit → List Entry → (j k sid r : ℕ) → Type 0
@@ -157,7 +158,7 @@ Lasts c y k r s =
 
 -- The write at place k of circuit n is applied, at entry i of the log of server life l, to record r with this value.
 abbrev pub IsApplied : World → (n k l i r : ℕ) → Stored → Type 0
-IsApplied w n k l i r v = (y : List Entry) × At w.servers l y × At y i (Applied n k r v)
+IsApplied w n k l i r v = (y : List Entry) × (busies : Bool) × At w.servers l y × At y i (Applied n k r v busies)
 
 -- Entry i was made when the message at place k was handled, or in the step in which the server's end closed on it.
 abbrev pub IsTaken : Circuit → (k i : ℕ) → Type 0
@@ -180,18 +181,16 @@ pub record IsOwnWrite (w : World) (n k l i r : ℕ) (v : Stored) : Type 0 where
   pub ask : Ask
   pub given : Elements
   pub called : Meant c k (On channel ask) × In x (Called (On channel ask) (Some given))
-  pub name : List ℕ
-  pub first : Stored
-  pub there : In x (Opened channel name) × In (take i y) (Added r name first) × (In (take i y) (Removed r) → ⊥)
-  pub value : converted given (base_of first.value) ≡ Ok v.value
+  pub to : RecordState
+  pub there : In x (Opened channel to.name) × In (take i y) (Added r to) × (In (take i y) (Removed r) → ⊥)
+  pub value : converted given (base_of to.value) ≡ Ok v.value
   pub came : IsTaken c k i ⊎ HasWaited n c y k i r
 
--- The put at place k of circuit n was busy until entry e: it was applied before, and of its record no other put that was finished
--- was applied between.
+-- Until entry e the put at place k of circuit n made its record busy: it was applied before, and no other made the record busy since.
 abbrev pub IsBusyUntil : List Entry → (n k e : ℕ) → Type 0
 IsBusyUntil y n k e =
-    (i r : ℕ) × (v : Stored) × At y i (Applied n k r v) × (i < e)
-    × ((j m l f : ℕ) (u : Stored) → At y j (Applied m l r u) → At y f (Finished m l) → i < j → j < e → ⊥)
+    (i r : ℕ) × (v : Stored) × At y i (Applied n k r v true) × (i < e)
+    × ((j m l : ℕ) (u : Stored) → i < j → j < e → At y j (Applied m l r u true) → ⊥)
 
 -- The put s at place k of circuit n was finished, before any CLEAR_CHANNEL of its channel was handled.
 abbrev pub IsFinished : (n : ℕ) → Circuit → List Entry → (k : ℕ) → Sent → Type 0

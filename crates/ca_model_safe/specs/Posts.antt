@@ -6,8 +6,8 @@ use Rattle.ca_model.specs.History.{Entry, Added, Applied, Posted}
 
 -- The posts of record r, among these entries, whose mask passes. A record's first value passes, and a write has VALUE and LOG.
 abbrev pub post_in : ℕ → (ℕ → Bool) → Entry → Option Stored
-post_in r passes (Added i name v) = if i == r then Some v else None
-post_in r passes (Applied n k i v) = if i == r && passes 3 then Some v else None
+post_in r passes (Added i s) = if i == r then Some (record { value = s.value; meta = s.meta }) else None
+post_in r passes (Applied n k i v busies) = if i == r && passes 3 then Some v else None
 post_in r passes (Posted i mask v) = if i == r && passes mask then Some v else None
 post_in r passes entry = None
 
