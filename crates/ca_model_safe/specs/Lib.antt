@@ -1,3 +1,4 @@
 pub mod Posts
 pub mod Channels
 pub mod Headline
+pub mod Legal
