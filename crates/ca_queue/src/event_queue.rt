@@ -1,7 +1,7 @@
 ghost use Rattle.std.specs.Prelude.{◌≡◌, ◌<◌, ◌≤◌, ◌++◌, ◌∷◌, [], IsTrue, OnOk, OnErr, length, map, filter, not, vec_capacity, nat_lt, nat_le, ◌-◌, ◌&&◌, ◌||◌};
 ghost use Rattle.std.specs.VecDeque.{deque_capacity};
 ghost use Rattle.std.specs.List.{list_any};
-ghost use Rattle.ca_text.specs.declared.limits.TheConstants.{QUEUE_LOW_PLACES, QUEUE_PLACES, QUEUE_SUBSCRIPTIONS};
+ghost use Rattle.ca_text.specs.Limits.{queue_low_places, queue_places, queue_subscriptions};
 ghost use Rattle.ca_queue.specs.Keys.{same};
 ghost use Rattle.ca_queue.specs.Layout.{HasRoom, count_at, recounted};
 
@@ -102,13 +102,13 @@ fn make_room(
     entries: &mut VecDeque<(SubKey, Entry)>,
     subscriptions: &mut Vec<Subscription>,
 ) -> Result<(), AllocError>
-    requires fits { length entries.old.items ≤ QUEUE_PLACES }
-    requires few { length subscriptions.old.items < QUEUE_SUBSCRIPTIONS }
+    requires fits { length entries.old.items ≤ queue_places }
+    requires few { length subscriptions.old.items < queue_subscriptions }
     requires roomy { HasRoom subscriptions.old.items (deque_capacity entries.old) (vec_capacity subscriptions.old) }
     ensures entries { entries.new.items ≡ entries.old.items }
     ensures subscriptions { subscriptions.new.items ≡ subscriptions.old.items }
-    ensures places { OnOk result (QUEUE_PLACES ≤ deque_capacity entries.new) }
-    ensures room { OnOk result (QUEUE_SUBSCRIPTIONS ≤ vec_capacity subscriptions.new) }
+    ensures places { OnOk result (queue_places ≤ deque_capacity entries.new) }
+    ensures room { OnOk result (queue_subscriptions ≤ vec_capacity subscriptions.new) }
     ensures refused { OnErr result (subscriptions.old.items ≡ []) }
 {
     entries.reserve(QUEUE_PLACES - entries.len())?;
@@ -155,8 +155,8 @@ fn may_take(subscriptions: &[Subscription], events_on: bool) -> bool
 
 // Whether a post takes the place of its subscription's last entry: it has so many, of so many that wait.
 fn is_replacing(count: usize, length: usize, events_on: bool) -> bool
-    requires { length ≤ QUEUE_PLACES }
-    ensures { result ≡ (nat_lt 0 count && (nat_le (QUEUE_PLACES - length) QUEUE_LOW_PLACES || not events_on)) }
+    requires { length ≤ queue_places }
+    ensures { result ≡ (nat_lt 0 count && (nat_le (queue_places - length) queue_low_places || not events_on)) }
 {
     count > 0 && (QUEUE_PLACES - length <= QUEUE_LOW_PLACES || !events_on)
 }

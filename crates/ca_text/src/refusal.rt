@@ -1,5 +1,5 @@
 ghost use Rattle.std.specs.Prelude.{◌≡◌, ℕ};
-ghost use Rattle.ca_text.specs.Refusal.{refusal_number};
+ghost use Rattle.ca_text.specs.Refusal.{refusal_name, refusal_number};
 
 use crate::status::Status;
 use std::alloc::{AllocError, AllocFailed};
@@ -104,7 +104,10 @@ impl Refusal {
         }
     }
 
-    fn name(self) -> &'static str {
+    // The name that is printed after it.
+    fn name(self) -> &'static str
+        ensures { result.now ≡ refusal_name self }
+    {
         match self {
             Refusal::OutOfMemory => "OutOfMemory",
             Refusal::Misaligned => "Misaligned",
@@ -138,6 +141,11 @@ impl Refusal {
 }
 
 impl fmt::Display for Refusal {
+    ghost use Rattle.std.specs.Prelude.{Some};
+    ghost use Rattle.ca_text.specs.Refusal.{refusal_text};
+
+    ghost output = { λ r. Some (refusal_text r) };
+
     fn fmt<W: fmt::Write>(&self, f: &mut fmt::Formatter<W>) -> fmt::Result {
         let number = self.number();
         let name = self.name();
