@@ -89,3 +89,19 @@ repeater_port = 5065
 -- calls of its source and its sink together that one circuit's engine makes, at most
 abbrev pub engine_turns : ℕ
 engine_turns = 1048576
+
+-- milliseconds without received bytes after which a client sends an ECHO
+abbrev pub echo_silence : ℕ
+echo_silence = 30000
+
+-- milliseconds without received bytes after which a client closes the circuit
+abbrev pub close_silence : ℕ
+close_silence = 35000
+
+-- reads in a row that left bytes waiting, after which a client asks for a pause of updates
+abbrev pub flow_reads : ℕ
+flow_reads = 10
+
+-- search replies in one datagram of a server, at most
+abbrev pub datagram_replies : ℕ
+datagram_replies = 42
