@@ -1,5 +1,6 @@
 -- Vocabulary: a table of wire ids by index, as whoever gives the ids sees it (section "Message Identifiers").
-use Rattle.std.specs.Prelude.{ℕ, ◌≡◌, ◌<◌, ◌≤◌, ◌+◌, ◌==◌, ◌&&◌, Bool, List, [], ◌∷◌, ◌++◌, Option, Some, None, filter, find, if◌then◌else◌, length, map, option_map, option_to_list, slice_set}
+use Rattle.std.specs.Prelude.{ℕ, ◌≡◌, ◌<◌, ◌≤◌, ◌+◌, ◌==◌, ◌&&◌, Bool, true, List, [], ◌∷◌, ◌++◌, Option, Some, None, find, if◌then◌else◌, is_some, length, map, nat_le, nat_lt, not, option_map, option_to_list, slice_set}
+use Rattle.std.specs.List.{list_any}
 use Rattle.ca_text.specs.Limits.{arena_slots, last_generation}
 use Rattle.ca_arena.specs.declared.handle.Handle.{Handle}
 use Rattle.ca_arena.specs.Arena.{Place, place_at, value_for}
@@ -40,8 +41,11 @@ module _ {T : Type 0} where
     pub last : h.generation ≤ last_generation
 
   -- No id may be given: each index is held, or had its last generation.
+  abbrev pub is_full : Table T → Bool
+  is_full t = nat_le arena_slots (length t) && not (list_any (λ (p : Place T). not (is_some p.value) && nat_lt p.generation last_generation) t)
+
   abbrev pub IsFull : Table T → Type 0
-  IsFull t = (h : Handle) → MayGive t h → ⊥
+  IsFull t = is_full t ≡ true
 
   -- the table in which this holds the id of a handle
   abbrev pub with_held : Handle → T → Table T → Table T
@@ -67,3 +71,11 @@ module _ {T : Type 0} where
   -- the table in which all ids that the test names are free
   abbrev pub with_all_freed : (T → Bool) → Table T → Table T
   with_all_freed frees t = map (λ (p : Place T). record p { value = kept_of frees p.value }) t
+
+  -- the table with each changed, by its handle
+  abbrev pub with_each_from : ℕ → (Handle → T → T) → Table T → Table T
+  with_each_from i f [] = []
+  with_each_from i f (p ∷ t) = record p { value = option_map (f (record { index = i; generation = p.generation })) p.value } ∷ with_each_from (i + 1) f t
+
+  abbrev pub with_each : (Handle → T → T) → Table T → Table T
+  with_each f t = with_each_from 0 f t
