@@ -3,7 +3,7 @@ use Rattle.std.specs.Prelude.{ℕ}
 
 -- bytes of a payload, at most
 abbrev pub payload_limit : ℕ
-payload_limit = 1048576
+payload_limit = 16777216
 
 -- calls of its source and its sink together that one circuit's engine makes, at most
 abbrev pub engine_turns : ℕ

@@ -1,7 +1,7 @@
 -- The numbers of refusals.
 use Rattle.std.specs.Prelude.{ℕ}
 use Rattle.ca_text.specs.declared.refusal.Refusal.{Refusal}
-use Rattle.ca_text.specs.declared.refusal.Refusal.TheVariants.{OutOfMemory, Misaligned, TooLarge, BadType, Short, NoConvert, OutOfRange, BadText, ArenaFull, StaleHandle, Draining, NameLength, NotLive, NoAccess, BadCount, Disconnected, CircuitClosed, TooManySubscriptions, DatagramTooLong, UnknownRecord, NotBusy, BadEvent, Device, NoCell, BadPriority, OutputFull, ServerRefused}
+use Rattle.ca_text.specs.declared.refusal.Refusal.TheVariants.{OutOfMemory, Misaligned, TooLarge, BadType, Short, NoConvert, OutOfRange, BadText, ArenaFull, StaleHandle, Draining, NameLength, NotLive, NoAccess, BadCount, Disconnected, CircuitClosed, TooManySubscriptions, DatagramTooLong, UnknownRecord, NotBusy, BadEvent, Device, NoCell, BadPriority, OutputFull, ServerRefused, RecordExists}
 
 -- the number by which a program prints a refusal
 abbrev pub refusal_number : Refusal → ℕ
@@ -32,3 +32,4 @@ refusal_number NoCell = 24
 refusal_number BadPriority = 25
 refusal_number OutputFull = 26
 refusal_number (ServerRefused _) = 27
+refusal_number RecordExists = 28
