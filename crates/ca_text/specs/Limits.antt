@@ -8,7 +8,7 @@ minor_version = 13
 
 -- bytes of a payload, at most
 abbrev pub payload_limit : ℕ
-payload_limit = 1048576
+payload_limit = 16777216
 
 -- bytes of a datagram that is written, at most
 abbrev pub datagram_limit : ℕ

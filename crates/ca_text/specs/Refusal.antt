@@ -1,7 +1,7 @@
 -- The numbers and names of refusals.
 use Rattle.std.specs.Prelude.{ℕ, List, [], ◌++◌, codes, decimal}
 use Rattle.ca_text.specs.declared.refusal.Refusal.{Refusal}
-use Rattle.ca_text.specs.declared.refusal.Refusal.TheVariants.{OutOfMemory, Misaligned, TooLarge, BadType, Short, NoConvert, OutOfRange, BadText, ArenaFull, StaleHandle, Draining, NameLength, NotLive, NoAccess, BadCount, Disconnected, CircuitClosed, TooManySubscriptions, DatagramTooLong, UnknownRecord, NotBusy, BadEvent, Device, NoCell, BadPriority, OutputFull, ServerRefused}
+use Rattle.ca_text.specs.declared.refusal.Refusal.TheVariants.{OutOfMemory, Misaligned, TooLarge, BadType, Short, NoConvert, OutOfRange, BadText, ArenaFull, StaleHandle, Draining, NameLength, NotLive, NoAccess, BadCount, Disconnected, CircuitClosed, TooManySubscriptions, DatagramTooLong, UnknownRecord, NotBusy, BadEvent, Device, NoCell, BadPriority, OutputFull, ServerRefused, RecordExists}
 
 -- the number that a program prints first
 abbrev pub refusal_number : Refusal → ℕ
@@ -32,6 +32,7 @@ refusal_number NoCell = 24
 refusal_number BadPriority = 25
 refusal_number OutputFull = 26
 refusal_number (ServerRefused _) = 27
+refusal_number RecordExists = 28
 
 -- the name that it prints after it
 abbrev pub refusal_name : Refusal → List ℕ
@@ -62,6 +63,7 @@ refusal_name NoCell = codes "NoCell"
 refusal_name BadPriority = codes "BadPriority"
 refusal_name OutputFull = codes "OutputFull"
 refusal_name (ServerRefused _) = codes "ServerRefused"
+refusal_name RecordExists = codes "RecordExists"
 
 -- the status of the server, where it has one
 abbrev pub reason : Refusal → List ℕ

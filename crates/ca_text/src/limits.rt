@@ -2,7 +2,7 @@
 pub const MINOR_VERSION: u16 = 13;
 
 /// Bytes of a payload, at most.
-pub const PAYLOAD_LIMIT: usize = 1_048_576;
+pub const PAYLOAD_LIMIT: usize = 16_777_216;
 
 /// Bytes of a datagram that is written, at most.
 pub const DATAGRAM_LIMIT: usize = 1_024;

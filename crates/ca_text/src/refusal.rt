@@ -34,7 +34,7 @@ pub enum Refusal {
     StaleHandle,
     /// A wire id that may still come back.
     Draining,
-    /// A name that is empty, too long, or has a zero byte; or one that is there already.
+    /// A name that is empty, too long, or has a zero byte.
     NameLength,
     /// The channel is not live.
     NotLive,
@@ -66,6 +66,8 @@ pub enum Refusal {
     OutputFull,
     /// The server answered with this status.
     ServerRefused(Status),
+    /// A record of this name is served now.
+    RecordExists,
 }
 
 impl Refusal {
@@ -101,6 +103,7 @@ impl Refusal {
             Refusal::BadPriority => 25,
             Refusal::OutputFull => 26,
             Refusal::ServerRefused(_) => 27,
+            Refusal::RecordExists => 28,
         }
     }
 
@@ -136,6 +139,7 @@ impl Refusal {
             Refusal::BadPriority => "BadPriority",
             Refusal::OutputFull => "OutputFull",
             Refusal::ServerRefused(_) => "ServerRefused",
+            Refusal::RecordExists => "RecordExists",
         }
     }
 }
