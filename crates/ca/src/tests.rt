@@ -290,6 +290,18 @@ fn reads_are_refused(rt: HostRuntime) -> Result<(), Fail> {
 }
 
 #[test]
+fn a_payload_that_does_not_come_is_waited_for(rt: HostRuntime) -> Result<(), Fail> {
+    hold(
+        &rt,
+        &[answered(
+            "a size of 1,048,584 and no payload",
+            "0004 FFFF 0005 0000 00010000 00000000 00100008 00000001",
+            "",
+        )],
+    )
+}
+
+#[test]
 fn bad_headers_are_refused(rt: HostRuntime) -> Result<(), Fail> {
     hold(
         &rt,
@@ -303,7 +315,7 @@ fn bad_headers_are_refused(rt: HostRuntime) -> Result<(), Fail> {
             refused(
                 "a size over the limit, behind a version",
                 "0000 0000 0000 000D 00000000 00000000
-                 0004 FFFF 0005 0000 00010000 00000000 00100008 00000001",
+                 0004 FFFF 0005 0000 00010000 00000000 01000008 00000001",
                 "0000 0000 0000 000D 00000000 00000000",
                 "refused: 3 TooLarge\n",
             ),

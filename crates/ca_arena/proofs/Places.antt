@@ -5,9 +5,9 @@ use Rattle.std.proofs.lemmas.Bool.{eqb-true, eqb-false, cases_eq}
 use Rattle.std.proofs.lemmas.List.{get_or-set_same, get_or-set_other, get_or_past, get_or_append_left, reverse-append, length_push}
 use Rattle.std.proofs.lemmas.Grind.{elements}
 use Rattle.std.proofs.lemmas.List.Sums.{sum_by-set, sum_by_push}
-use Rattle.ca_text.specs.declared.limits.TheConstants.{ARENA_SLOTS}
+use Rattle.ca_text.specs.Limits.{arena_slots}
 use Rattle.ca_arena.specs.declared.handle.Handle.{Handle}
-use Rattle.ca_arena.specs.declared.handle.TheConstants.{LAST_GENERATION}
+use Rattle.ca_text.specs.Limits.{last_generation}
 use Rattle.ca_arena.specs.Arena.{Place, Contents, place_at, value_for, find, IsLive, blank, live_count, inserted_from, removed, written}
 use Rattle.ca_arena.specs.Sound.{IsFree, AreFree, IsSound}
 
@@ -89,14 +89,14 @@ module _ {T : Type 0} where
       )
 
   -- no generation beyond the last, after a change
-  pub fits-set : (given : List (Place T)) (index : ℕ) (place : Place T) → index < length given → place.generation ≤ LAST_GENERATION → ((k : ℕ) → (place_at given k).generation ≤ LAST_GENERATION) → (k : ℕ) → (place_at (set given index place) k).generation ≤ LAST_GENERATION
+  pub fits-set : (given : List (Place T)) (index : ℕ) (place : Place T) → index < length given → place.generation ≤ last_generation → ((k : ℕ) → (place_at given k).generation ≤ last_generation) → (k : ℕ) → (place_at (set given index place) k).generation ≤ last_generation
   fits-set given index place within new all k =
       elim (cases_eq k index) [
         | inl same ↦ rw (same, get_or-set_same given index place blank within) new
         | inr other ↦ rw (get_or-set_other given index k place blank other) (all k)
       ]
 
-  pub fits-push : (given : List (Place T)) (place : Place T) → place.generation ≤ LAST_GENERATION → ((k : ℕ) → (place_at given k).generation ≤ LAST_GENERATION) → (k : ℕ) → (place_at (given ++ place ∷ []) k).generation ≤ LAST_GENERATION
+  pub fits-push : (given : List (Place T)) (place : Place T) → place.generation ≤ last_generation → ((k : ℕ) → (place_at given k).generation ≤ last_generation) → (k : ℕ) → (place_at (given ++ place ∷ []) k).generation ≤ last_generation
   fits-push given place new all k = grind (arith, elements, all k)
 
   -- the values counted after a change
@@ -120,7 +120,7 @@ module _ {T : Type 0} where
       }
 
   -- a value at an index that was never given
-  pub IsSound-appended : (given : List (Place T)) (value : T) → length given < ARENA_SLOTS → IsSound (record { given = given; freed = [] }) → IsSound (inserted_from given [] value)
+  pub IsSound-appended : (given : List (Place T)) (value : T) → length given < arena_slots → IsSound (record { given = given; freed = [] }) → IsSound (inserted_from given [] value)
   IsSound-appended given value below sound =
       let place : Place T = record { generation = 1; value = Some value } in
       let counted = sum_by_push one_if given place in
@@ -150,7 +150,7 @@ module _ {T : Type 0} where
       }
 
   -- no value at an index that had one: the index is free, or retired
-  pub IsSound-vacated : (given : List (Place T)) (freed : List ℕ) (index generation : ℕ) (value : T) (last : Bool) → generation ≤ LAST_GENERATION → (last ≡ false → generation < LAST_GENERATION) → (place_at given index).value ≡ Some value → IsSound (record { given = given; freed = freed }) → IsSound (record { given = set given index (record { generation = generation; value = None }); freed = cond last freed (index ∷ freed) })
+  pub IsSound-vacated : (given : List (Place T)) (freed : List ℕ) (index generation : ℕ) (value : T) (last : Bool) → generation ≤ last_generation → (last ≡ false → generation < last_generation) → (place_at given index).value ≡ Some value → IsSound (record { given = given; freed = freed }) → IsSound (record { given = set given index (record { generation = generation; value = None }); freed = cond last freed (index ∷ freed) })
   IsSound-vacated given freed index generation value last below lasting found sound =
       let place : Place T = record { generation = generation; value = None } in
       let within = within_from_value given index value found in
@@ -175,8 +175,8 @@ module _ {T : Type 0} where
   IsSound-removed a handle live sound =
       let found = live_value a handle live in
       let there = value_for-some handle.generation (place_at a.given handle.index) found.0 found.1 in
-      let below : handle.generation ≤ LAST_GENERATION = omega (arith, there.0, sound.fits handle.index) in
-      IsSound-vacated a.given a.freed handle.index handle.generation found.0 (eqb handle.generation LAST_GENERATION) below (λ differs. not_last handle.generation below differs) there.1 sound
+      let below : handle.generation ≤ last_generation = omega (arith, there.0, sound.fits handle.index) in
+      IsSound-vacated a.given a.freed handle.index handle.generation found.0 (eqb handle.generation last_generation) below (λ differs. not_last handle.generation below differs) there.1 sound
     where
-      not_last : (generation : ℕ) → generation ≤ LAST_GENERATION → eqb generation LAST_GENERATION ≡ false → generation < LAST_GENERATION
-      not_last generation below differs = let other = eqb-false generation LAST_GENERATION differs in omega arith
+      not_last : (generation : ℕ) → generation ≤ last_generation → eqb generation last_generation ≡ false → generation < last_generation
+      not_last generation below differs = let other = eqb-false generation last_generation differs in omega arith

@@ -3,7 +3,7 @@ use Rattle.std.proofs.Common.{◌≡◌, ℕ, ◌+◌, ◌<◌, List, [], ◌∷
 use Rattle.std.proofs.lemmas.List.{get_or-map, length-map, map-set, length_push}
 use Rattle.ca_arena.specs.declared.arena.Slot.{Slot}
 use Rattle.ca_arena.specs.declared.handle.Handle.{Handle}
-use Rattle.ca_arena.specs.declared.handle.TheConstants.{LAST_GENERATION}
+use Rattle.ca_text.specs.Limits.{last_generation}
 use Rattle.ca_arena.specs.Arena.{Place, Contents, place_at, find, IsLive, blank, last_at, free_slots, next_handle, inserted, inserted_from, removed, written}
 use Rattle.ca_arena.specs.Lending.{filled}
 use Rattle.ca_arena.specs.Sound.{IsSound}
@@ -81,7 +81,7 @@ module _ {T : Type 0} where
     pub found : find (contents_of slots freed) handle ≡ Some value
     pub contents : contents_of (set slots handle.index new) after ≡ removed (contents_of slots freed) handle
 
-  pub vacated : (slots : List (Slot T)) (freed after : List ℕ) (handle : Handle) (retired then room : ℕ) (old new : Slot T) (value : T) → IsLaidOut slots freed retired room → IsLive (contents_of slots freed) handle → old ≡ get_or slots handle.index old → old.value ≡ Some value → new ≡ record { generation = old.generation; value = None } → reverse after ≡ cond (eqb handle.generation LAST_GENERATION) (reverse freed) (handle.index ∷ reverse freed) → length after + then ≡ length freed + retired + 1 → Vacated slots freed after handle then room new value
+  pub vacated : (slots : List (Slot T)) (freed after : List ℕ) (handle : Handle) (retired then room : ℕ) (old new : Slot T) (value : T) → IsLaidOut slots freed retired room → IsLive (contents_of slots freed) handle → old ≡ get_or slots handle.index old → old.value ≡ Some value → new ≡ record { generation = old.generation; value = None } → reverse after ≡ cond (eqb handle.generation last_generation) (reverse freed) (handle.index ∷ reverse freed) → length after + then ≡ length freed + retired + 1 → Vacated slots freed after handle then room new value
   vacated slots freed after handle retired then room old new value laid_out alive read had made moved one_more =
       let given : List (Place T) = map place_of slots in
       let before : Contents T = contents_of slots freed in

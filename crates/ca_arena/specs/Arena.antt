@@ -3,9 +3,9 @@ use Rattle.std.specs.Prelude.{ℕ, ◌≡◌, ◌+◌, ◌-◌, ◌<◌, ◌≤�
 use Rattle.std.specs.Coded.{Coded, code_by, coded×, coded_ℕ, coded_list, coded_option}
 use Rattle.ca_text.specs.declared.refusal.Refusal.{Refusal}
 use Rattle.ca_text.specs.declared.refusal.Refusal.TheVariants.{OutOfMemory, ArenaFull, StaleHandle}
-use Rattle.ca_text.specs.declared.limits.TheConstants.{ARENA_SLOTS}
+use Rattle.ca_text.specs.Limits.{arena_slots}
 use Rattle.ca_arena.specs.declared.handle.Handle.{Handle}
-use Rattle.ca_arena.specs.declared.handle.TheConstants.{LAST_GENERATION}
+use Rattle.ca_text.specs.Limits.{last_generation}
 
 -- what stands at an index: the generation given last, and the value, until it is removed
 pub record Place (T : Type 0) : Type 0 where
@@ -82,7 +82,7 @@ module _ {T : Type 0} where
 
   -- how many indices can still be given: those that are free again, and those never given
   abbrev pub free_slots : Contents T → ℕ
-  free_slots a = length a.freed + (ARENA_SLOTS - length a.given)
+  free_slots a = length a.freed + (arena_slots - length a.given)
 
   -- the handle that comes next
   abbrev pub next_handle : Contents T → Handle
@@ -109,7 +109,7 @@ module _ {T : Type 0} where
   abbrev pub removed : Contents T → Handle → Contents T
   removed a handle = record {
     given = slice_set a.given handle.index (record { generation = handle.generation; value = None });
-    freed = if handle.generation == LAST_GENERATION then a.freed else handle.index ∷ a.freed;
+    freed = if handle.generation == last_generation then a.freed else handle.index ∷ a.freed;
   }
 
   -- the handle was never given: its index has no value, and had a lesser generation last

@@ -1,8 +1,8 @@
 -- What holds of the contents of every arena.
 use Rattle.std.specs.Prelude.{ℕ, ◌≡◌, ◌≢◌, ◌+◌, ◌<◌, ◌≤◌, List, [], ◌∷◌, length, None}
 use Rattle.std.specs.List.{AllByRecursion}
-use Rattle.ca_text.specs.declared.limits.TheConstants.{ARENA_SLOTS}
-use Rattle.ca_arena.specs.declared.handle.TheConstants.{LAST_GENERATION}
+use Rattle.ca_text.specs.Limits.{arena_slots}
+use Rattle.ca_text.specs.Limits.{last_generation}
 use Rattle.ca_arena.specs.Arena.{Place, Contents, place_at, live_count}
 
 module _ {T : Type 0} where
@@ -10,7 +10,7 @@ module _ {T : Type 0} where
   pub record IsFree (given : List (Place T)) (index : ℕ) : Type 0 where
     pub within : index < length given
     pub vacant : (place_at given index).value ≡ None
-    pub lasting : (place_at given index).generation < LAST_GENERATION
+    pub lasting : (place_at given index).generation < last_generation
 
   -- all of these are free, and each stands here once
   abbrev pub AreFree : List (Place T) → List ℕ → Type 0
@@ -20,7 +20,7 @@ module _ {T : Type 0} where
   -- there are at most so many indices, and no generation beyond the last; what is listed as free is free; and the
   -- free indices and those with a value are together no more than were given
   pub record IsSound (a : Contents T) : Type 0 where
-    pub limit : length a.given ≤ ARENA_SLOTS
-    pub fits : (index : ℕ) → (place_at a.given index).generation ≤ LAST_GENERATION
+    pub limit : length a.given ≤ arena_slots
+    pub fits : (index : ℕ) → (place_at a.given index).generation ≤ last_generation
     pub free : AreFree a.given a.freed
     pub counted : length a.freed + live_count a.given ≤ length a.given

@@ -1,11 +1,12 @@
 ghost use Rattle.std.specs.Prelude.{◌≡◌, ◌+◌, ◌<◌, ◌==◌, ◌↔◌, ℕ, IsTrue, IsNone, IsSome, IfOk, Some, None, option_copied, []};
 ghost use Rattle.std.specs.Option.{option_copied_mut};
 ghost use Rattle.std.specs.Borrow.{sem};
+ghost use Rattle.ca_text.specs.Limits.{last_generation};
 ghost use Rattle.ca_arena.specs.Sound.{IsSound};
 ghost use Rattle.ca_arena.specs.Arena.{empty, find, live_count, free_slots, IsLive, Inserts, Removes, IsFresh, IsFirstFrom, IsHandleAt, walk_start};
 
-use crate::handle::{Handle, LAST_GENERATION};
-use ca_text::{ARENA_SLOTS, Refusal};
+use crate::handle::Handle;
+use ca_text::{ARENA_SLOTS, LAST_GENERATION, Refusal};
 #[cfg(test)]
 use std::alloc::AllocError;
 use std::alloc::Global;
@@ -241,7 +242,7 @@ impl<T> Slot<T> {
     // Puts a value there, in the next generation.
     fn fill(&mut self, value: T)
         requires vacant { IsNone self.old.value }
-        requires lasting { self.old.generation < LAST_GENERATION }
+        requires lasting { self.old.generation < last_generation }
         ensures { self.new ≡ record { generation = self.old.generation + 1; value = Some value } }
     {
         self.generation += 1;

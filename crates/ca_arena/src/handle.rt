@@ -1,6 +1,3 @@
-/// The last generation of an index. Once its value is removed the index is never given again.
-pub const LAST_GENERATION: u32 = 4_294_967_295;
-
 /// The name of a value in an arena.
 ///
 /// It is stale once its value was removed, and names nothing from then on.

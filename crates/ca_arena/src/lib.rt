@@ -11,5 +11,5 @@ mod laws;
 mod tests;
 
 pub use arena::Arena;
-pub use handle::{Handle, LAST_GENERATION};
+pub use handle::Handle;
 pub use laws::{no_handle_twice, stale_stays_stale};

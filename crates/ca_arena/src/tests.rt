@@ -1,5 +1,5 @@
-use crate::{Arena, Handle, LAST_GENERATION};
-use ca_text::{ARENA_SLOTS, Refusal};
+use crate::{Arena, Handle};
+use ca_text::{ARENA_SLOTS, LAST_GENERATION, Refusal};
 use std::test::Fail;
 
 const fn handle(index: u16, generation: u32) -> Handle {

@@ -10,7 +10,8 @@ use Rattle.std.specs.FinMap.{find, get-from_entries, get-insert, len-insert, len
 use Rattle.std.proofs.lemmas.Bool.{lt-ltb, le-ltb}
 use Rattle.ca_text.specs.declared.refusal.Refusal.{Refusal}
 use Rattle.ca_text.specs.declared.refusal.Refusal.TheVariants.{OutOfMemory}
-use Rattle.ca_beacon.specs.Table.{Hears, IsTable, Servers, noted, server_limit}
+use Rattle.ca_text.specs.Limits.{beacon_servers}
+use Rattle.ca_beacon.specs.Table.{Hears, IsTable, Servers, noted}
 
 -- the number that stands at a server
 abbrev pub last_in : List (ℕ × ℕ) → ℕ → Option ℕ
@@ -47,9 +48,9 @@ length-put es ns k v table puts longer =
 
 -- there is room: the server is known, or fewer than the limit are
 pub record HasRoom (es : List (ℕ × ℕ)) (k : ℕ) : Type 0 where
-  pub room : (is_some (last_in es k) ≡ true) ⊎ (length es < server_limit)
+  pub room : (is_some (last_in es k) ≡ true) ⊎ (length es < beacon_servers)
 
-within-room : (o : Option ℕ) (n m : ℕ) → n ≤ server_limit → (is_some o ≡ true) ⊎ (n < server_limit) → m ≡ n + cond (is_some o) 0 1 → m ≤ server_limit
+within-room : (o : Option ℕ) (n m : ℕ) → n ≤ beacon_servers → (is_some o ≡ true) ⊎ (n < beacon_servers) → m ≡ n + cond (is_some o) 0 1 → m ≤ beacon_servers
 within-room None n m within room longer = elim room [ inl e ↦ absurd (cc) | inr l ↦ omega arith ]
 within-room (Some x) n m within room longer = omega arith
 
@@ -57,14 +58,14 @@ pub put-table : (es ns : List (ℕ × ℕ)) (k v : ℕ) → IsTable es → HasRo
 put-table es ns k v table room puts longer =
     record { once = length-put es ns k v table puts longer; within = within-room (last_in es k) (length es) (length ns) table.within room.room longer }
 
-kept-room : (o : Option ℕ) (n : ℕ) (a b : Servers) → (is_some o ≡ true) ⊎ (n < server_limit) → cond (is_some o || nat_lt n server_limit) a b ≡ a
+kept-room : (o : Option ℕ) (n : ℕ) (a b : Servers) → (is_some o ≡ true) ⊎ (n < beacon_servers) → cond (is_some o || nat_lt n beacon_servers) a b ≡ a
 kept-room (Some x) n a b room = refl
-kept-room None n a b room = elim room [ inl e ↦ absurd (cc) | inr l ↦ ap (λ (t : Bool). cond t a b) (lt-ltb n server_limit l) ]
+kept-room None n a b room = elim room [ inl e ↦ absurd (cc) | inr l ↦ ap (λ (t : Bool). cond t a b) (lt-ltb n beacon_servers l) ]
 
-noted-at : (es : List (ℕ × ℕ)) (k v : ℕ) → IsTable es → noted (mapped es) k v ≡ cond (is_some (last_in es k) || nat_lt (length es) server_limit) (map.insert (mapped es) k v) (mapped es)
+noted-at : (es : List (ℕ × ℕ)) (k v : ℕ) → IsTable es → noted (mapped es) k v ≡ cond (is_some (last_in es k) || nat_lt (length es) beacon_servers) (map.insert (mapped es) k v) (mapped es)
 noted-at es k v table =
-    ap (λ (o : Option ℕ). cond (is_some o || nat_lt (map.len (mapped es)) server_limit) (map.insert (mapped es) k v) (mapped es)) (get-mapped es k)
-    ∙ ap (λ (n : ℕ). cond (is_some (last_in es k) || nat_lt n server_limit) (map.insert (mapped es) k v) (mapped es)) table.once
+    ap (λ (o : Option ℕ). cond (is_some o || nat_lt (map.len (mapped es)) beacon_servers) (map.insert (mapped es) k v) (mapped es)) (get-mapped es k)
+    ∙ ap (λ (n : ℕ). cond (is_some (last_in es k) || nat_lt n beacon_servers) (map.insert (mapped es) k v) (mapped es)) table.once
 
 -- the server is kept
 pub put-noted : (es ns : List (ℕ × ℕ)) (old : Servers) (k v : ℕ) → mapped es ≡ old → IsTable es → HasRoom es k → Puts es k v ns → mapped ns ≡ noted old k v
@@ -72,9 +73,9 @@ put-noted es ns old k v view table room puts =
     subst (λ (m : Servers). mapped ns ≡ noted m k v) view (mapped-insert es ns k v puts ∙ sym (noted-at es k v table ∙ kept-room (last_in es k) (length es) _ _ room.room))
 
 -- it is not, since the table is full
-pub full-noted : (es : List (ℕ × ℕ)) (old : Servers) (k v : ℕ) → mapped es ≡ old → IsTable es → last_in es k ≡ None → server_limit ≤ length es → old ≡ noted old k v
+pub full-noted : (es : List (ℕ × ℕ)) (old : Servers) (k v : ℕ) → mapped es ≡ old → IsTable es → last_in es k ≡ None → beacon_servers ≤ length es → old ≡ noted old k v
 full-noted es old k v view table none full =
-    subst (λ (m : Servers). m ≡ noted m k v) view (sym (noted-at es k v table ∙ ap (λ (o : Option ℕ). cond (is_some o || nat_lt (length es) server_limit) (map.insert (mapped es) k v) (mapped es)) none ∙ ap (λ (t : Bool). cond t (map.insert (mapped es) k v) (mapped es)) (le-ltb (length es) server_limit full)))
+    subst (λ (m : Servers). m ≡ noted m k v) view (sym (noted-at es k v table ∙ ap (λ (o : Option ℕ). cond (is_some o || nat_lt (length es) beacon_servers) (map.insert (mapped es) k v) (mapped es)) none ∙ ap (λ (t : Bool). cond t (map.insert (mapped es) k v) (mapped es)) (le-ltb (length es) beacon_servers full)))
 
 pub get-held : (es : List (ℕ × ℕ)) (old : Servers) (k : ℕ) → mapped es ≡ old → map.get old k ≡ last_in es k
 get-held es old k view = ap (λ (m : Servers). map.get m k) (sym view) ∙ get-mapped es k
@@ -82,7 +83,7 @@ get-held es old k view = ap (λ (m : Servers). map.get m k) (sym view) ∙ get-m
 pub hears-refused : (es ns : List (ℕ × ℕ)) (old : Servers) (k v : ℕ) (r : Result Bool Refusal) → IsErrAnd r (λ e. e ≡ OutOfMemory) → mapped es ≡ old → IsTable es → HasRoom es k → last_in es k ≡ None → ns ≡ es → Hears old k v r (mapped ns)
 hears-refused es ns old k v (Ok x) is view table room none same = absurd is
 hears-refused es ns old k v (Err e) is view table room none same =
-    let few : length es < server_limit = elim room.room [ inl e ↦ absurd (subst (λ (o : Option ℕ). is_some o ≡ true → ⊥) (sym none) (λ f. cc) e) | inr l ↦ l ] in
+    let few : length es < beacon_servers = elim room.room [ inl e ↦ absurd (subst (λ (o : Option ℕ). is_some o ≡ true → ⊥) (sym none) (λ f. cc) e) | inr l ↦ l ] in
     let len : map.len old ≡ length es = ap (λ (m : Servers). map.len m) (sym view) ∙ table.once in
     subst (λ (x : Refusal). Hears old k v (Err x) (mapped ns)) (sym is) (get-held es old k view ∙ none, omega (arith, len, few), ap (λ (t : List (ℕ × ℕ)). mapped t) same ∙ view)
 

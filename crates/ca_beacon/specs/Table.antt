@@ -2,12 +2,9 @@
 use Rattle.std.specs.Prelude.{ℕ, ◌≡◌, ◌+◌, ◌*◌, ◌%◌, ◌^◌, ◌<◌, ◌≤◌, ◌||◌, Bool, true, not, nat_eq, nat_lt, if◌then◌else◌, List, length, is_some, Option, None, Some, Result, Ok, Err}
 use Rattle.std.specs.Ordering.{nat_cmp}
 use Rattle.std.specs.FinMap as map
+use Rattle.ca_text.specs.Limits.{beacon_servers}
 use Rattle.ca_text.specs.declared.refusal.Refusal.{Refusal}
 use Rattle.ca_text.specs.declared.refusal.Refusal.TheVariants.{OutOfMemory}
-
--- servers whose last numbers are kept, at most
-abbrev pub server_limit : ℕ
-server_limit = 1024
 
 -- the server of an IPv4 address and a port, as one number
 abbrev pub server : ℕ → ℕ → ℕ
@@ -25,15 +22,15 @@ anomaly (Some last) number = not (nat_eq number ((last + 1) % 2 ^ 32))
 
 -- the table after a beacon: a server beyond the limit is not kept
 abbrev pub noted : Servers → ℕ → ℕ → Servers
-noted old s number = if is_some (map.get old s) || nat_lt (map.len old) server_limit then map.insert old s number else old
+noted old s number = if is_some (map.get old s) || nat_lt (map.len old) beacon_servers then map.insert old s number else old
 
 -- Hearing this number of this server, with this answer, leaves new. Only a server that is kept anew takes memory.
 abbrev pub Hears : Servers → ℕ → ℕ → Result Bool Refusal → Servers → Type 0
 Hears old s number (Ok told) new = (told ≡ anomaly (map.get old s) number) × (new ≡ noted old s number)
-Hears old s number (Err OutOfMemory) new = (map.get old s ≡ None) × (map.len old < server_limit) × (new ≡ old)
+Hears old s number (Err OutOfMemory) new = (map.get old s ≡ None) × (map.len old < beacon_servers) × (new ≡ old)
 Hears old s number (Err _) new = ⊥
 
 -- no server stands twice, and there are no more than may be
 pub record IsTable (entries : List (ℕ × ℕ)) : Type 0 where
   pub once : map.len (map.from_entries {R = nat_cmp} entries) ≡ length entries
-  pub within : length entries ≤ server_limit
+  pub within : length entries ≤ beacon_servers

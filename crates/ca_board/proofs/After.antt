@@ -10,7 +10,7 @@ use mathlib.Core.Option.{some}
 use Rattle.atomic_table.specs.Seated.{TableId}
 use Rattle.atomic_table.proofs.Lists.{at_snoc}
 use Rattle.ca_board.specs.declared.ticket.Ticket.{Ticket}
-use Rattle.ca_text.specs.declared.limits.TheConstants.{BOARD_CELLS}
+use Rattle.ca_text.specs.Limits.{board_cells}
 use Rattle.ca_board.specs.History.{IsStock, both_parts, ticket, Slot, IsOpen, grabbed, filled, returned, refused_too, took, gave_back, gave_up, Entry, Sat, core_view, core_log, caller_view, caller_log, no_caller}
 use Rattle.ca_board.specs.Seats.{BoardSeat, IsCoreSeat, IsCallerSeat, IsInside, seen_by_core, seen_by_caller}
 
@@ -21,7 +21,7 @@ abbrev pub caller_sat : List Entry → List Ticket → ℕ → ℕ → List (ℕ
 caller_sat tk gs h q c = (caller_view (caller_log tk gs h q), c)
 
 -- a seat's fields are right, where its view is known
-pub core_sound : (s : BoardSeat) (ts : List Ticket) (fs : List Entry) (rs cs free : List Ticket) (room : ℕ) → s.me ≡ core_sat ts fs rs cs 0 [] → IsInside ts → IsStock ts cs free → BOARD_CELLS ≤ room → IsCoreSeat s free room
+pub core_sound : (s : BoardSeat) (ts : List Ticket) (fs : List Entry) (rs cs free : List Ticket) (room : ℕ) → s.me ≡ core_sat ts fs rs cs 0 [] → IsInside ts → IsStock ts cs free → board_cells ≤ room → IsCoreSeat s free room
 core_sound s ts fs rs cs free room m inside stock wide = record {
   idle = m ∙ ap (λ (x : Sat). core_sat x.0.core.arms x.0.core.fills x.0.core.refused x.0.core.recycles 0 []) (sym m);
   inside = subst (λ (x : Sat). IsInside x.0.core.arms) (sym m) inside;
@@ -39,8 +39,8 @@ core_seen s z ts fs rs cs e m i = record { board = e i; arms = (m i).0.core.arms
 pub caller_seen : (s : BoardSeat) (z : TableId) (tk : List Entry) (gs : List Ticket) → s.table_id ≡ z → s.me ≡ caller_sat tk gs 0 0 [] → seen_by_caller s ≡ record { board = z; takes = tk; gives = gs }
 caller_seen s z tk gs e m i = record { board = e i; takes = (m i).0.caller.takes; gives = (m i).0.caller.gives }
 
-pub inside_snoc : (ts : List Ticket) (t : Ticket) → IsInside ts → t.cell < BOARD_CELLS → IsInside (ts ++ t ∷ [])
-inside_snoc ts t all near i x at = ⊎_elim (λ was. all i x was) (λ (is : t ≡ x). subst (λ (y : Ticket). y.cell < BOARD_CELLS) is near) (at_snoc ts t x i at)
+pub inside_snoc : (ts : List Ticket) (t : Ticket) → IsInside ts → t.cell < board_cells → IsInside (ts ++ t ∷ [])
+inside_snoc ts t all near i x at = ⊎_elim (λ was. all i x was) (λ (is : t ≡ x). subst (λ (y : Ticket). y.cell < board_cells) is near) (at_snoc ts t x i at)
 
 -- the core's steps
 pub armed_after : (m m' : Sat) (ts : List Ticket) (fs : List Entry) (rs cs : List Ticket) (k g : ℕ) → m ≡ core_sat ts fs rs cs 0 [] → m' ≡ (core_view (core_log (m.0.core.arms ++ ticket k g ∷ []) m.0.core.fills m.0.core.refused m.0.core.recycles 0) m.0.caller, m.1) → m' ≡ core_sat (ts ++ ticket k g ∷ []) fs rs cs 0 []

@@ -8,7 +8,7 @@ use mathlib.Core.Option.{some, some-ne-none, some-injective}
 use native.Mathlib.Decide.{ℕ_discrete, dec_le}
 use lib.ListN.{get_elem?}
 use Rattle.atomic_table.proofs.Lists.{at_longer, at_last, at_snoc}
-use Rattle.ca_text.specs.declared.limits.TheConstants.{BOARD_CELLS}
+use Rattle.ca_text.specs.Limits.{board_cells}
 use Rattle.ca_board.specs.declared.ticket.Ticket.{Ticket}
 use Rattle.ca_board.specs.History.{ticket, Has, InUse, IsNext, IsStock, Frees}
 
@@ -55,16 +55,16 @@ first_more n free f = (
       f.1 i t (x.1 ∙ (sym (at_longer free (ticket n 0 ∷ []) i x.0 x.1) ∙ at))),
 )
 
-pub first_stock : (n : ℕ) (free : List Ticket) → n ≡ BOARD_CELLS → AreFirst n free → IsStock [] [] free
+pub first_stock : (n : ℕ) (free : List Ticket) → n ≡ board_cells → AreFirst n free → IsStock [] [] free
 first_stock n free is f = record {
   next = λ i t at. let l = at_inside free i t at in let e = f.0 in let same = f.1 i t at in
-      subst (λ (x : Ticket). (x.cell < BOARD_CELLS) × IsNext [] [] x.cell x.generation) (sym same) (omega arith, ((λ h. absurd (some-ne-none _ (sym h.1))), λ h l'. absurd (omega arith)));
+      subst (λ (x : Ticket). (x.cell < board_cells) × IsNext [] [] x.cell x.generation) (sym same) (omega arith, ((λ h. absurd (some-ne-none _ (sym h.1))), λ h l'. absurd (omega arith)));
   once = λ i j t u a b e. sym (ap (λ (x : Ticket). x.cell) (f.1 i t a)) ∙ (e ∙ ap (λ (x : Ticket). x.cell) (f.1 j u b));
   every = λ k l. let e = f.0 in let x = at_some free k (omega arith) in inr (0, (k, x.1 ∙ ap some (f.1 k x.0 x.1)));
 }
 
 -- the last of the list may be armed
-pub last_next : (ts cs free : List Ticket) (t : Ticket) → IsStock ts cs (free ++ t ∷ []) → (t.cell < BOARD_CELLS) × IsNext ts cs t.cell t.generation
+pub last_next : (ts cs free : List Ticket) (t : Ticket) → IsStock ts cs (free ++ t ∷ []) → (t.cell < board_cells) × IsNext ts cs t.cell t.generation
 last_next ts cs free t s = let h = has_last free t in s.next h.0 t h.1
 
 -- a ticket is armed, the last of the list
@@ -84,7 +84,7 @@ armed_stock ts cs free t s new = record {
 }
 
 -- a cell is freed, and its next ticket is added
-pub freed_stock : (ts cs free : List Ticket) (k g : ℕ) → IsStock ts cs free → k < BOARD_CELLS → Frees ts cs k g → IsStock ts (cs ++ ticket k g ∷ []) (free ++ ticket k (g + 1) ∷ [])
+pub freed_stock : (ts cs free : List Ticket) (k g : ℕ) → IsStock ts cs free → k < board_cells → Frees ts cs k g → IsStock ts (cs ++ ticket k g ∷ []) (free ++ ticket k (g + 1) ∷ [])
 freed_stock ts cs free k g s inside f = let t₀ : Ticket = ticket k g in let t₁ : Ticket = ticket k (g + 1) in
     let apart : (u : Ticket) → Has free u → u.cell ≢ k = λ u has e. let n = (s.next has.0 u has.1).1 in
     dite (dec_le u.generation g)
@@ -92,7 +92,7 @@ freed_stock ts cs free k g s inside f = let t₀ : Ticket = ticket k g in let t�
     (λ more. f.1 (subst (λ (x : ℕ). Has cs (ticket x g)) e (n.1 g (lt_of_not-le more)))) in record {
       next = λ i u at. ⊎_elim
           (λ was. let n = s.next i u was in (n.0, (n.1.0, λ h l. has_snoc cs (ticket u.cell h) t₀ (n.1.1 h l))))
-          (λ (is : t₁ ≡ u). subst (λ (x : Ticket). (x.cell < BOARD_CELLS) × IsNext ts (cs ++ t₀ ∷ []) x.cell x.generation) is (inside, f.2))
+          (λ (is : t₁ ≡ u). subst (λ (x : Ticket). (x.cell < board_cells) × IsNext ts (cs ++ t₀ ∷ []) x.cell x.generation) is (inside, f.2))
           (at_snoc free t₁ u i at);
       once = λ i j u v a b e. ⊎_elim
           (λ was. ⊎_elim (λ was'. s.once i j u v was was' e) (λ (q : (j ≡ length free) × (t₁ ≡ v)). absurd (apart u (i, was) (e ∙ sym (ap (λ (x : Ticket). x.cell) q.1)))) (at_snoc_index free t₁ v j b))
@@ -107,7 +107,7 @@ freed_stock ts cs free k g s inside f = let t₀ : Ticket = ticket k g in let t�
     }
 
 -- with no free cell each is in use
-pub none_free : (ts cs : List Ticket) → IsStock ts cs [] → (k : ℕ) → k < BOARD_CELLS → InUse ts cs k
+pub none_free : (ts cs : List Ticket) → IsStock ts cs [] → (k : ℕ) → k < board_cells → InUse ts cs k
 none_free ts cs s k l = ⊎_elim (λ (was : InUse ts cs k). was) (λ (has : (g : ℕ) × Has [] (ticket k g)). absurd (some-ne-none _ (sym has.1.1))) (s.every k l)
 
 -- no more cells are free than there are
@@ -135,8 +135,8 @@ below_cells n (x ∷ xs) all q e = dite (ℕ_discrete q x.cell)
     (λ same. let l = all 0 x refl in omega arith)
     (λ ne. below_cells n xs (λ i t at. all (suc i) t at) q (subst (λ (b : Bool). (b || list_any (eqb q) (cells_of xs)) ≡ true) (ne_eqb q x.cell ne) e))
 
-pub stock_fits : (ts cs free : List Ticket) → IsStock ts cs free → length free ≤ BOARD_CELLS
-stock_fits ts cs free s = let l = length-le_from_distinct_below (cells_of free) BOARD_CELLS (distinct_cells free s.once) (below_cells BOARD_CELLS free (λ i t at. (s.next i t at).0)) in
+pub stock_fits : (ts cs free : List Ticket) → IsStock ts cs free → length free ≤ board_cells
+stock_fits ts cs free s = let l = length-le_from_distinct_below (cells_of free) board_cells (distinct_cells free s.once) (below_cells board_cells free (λ i t at. (s.next i t at).0)) in
     let same : length (cells_of free) ≡ length free = length-map free (λ (t : Ticket). t.cell) in omega arith
 
 pub nothing_left : {A : Type 0} (xs : List A) → length xs ≡ 0 → xs ≡ []

@@ -4,7 +4,7 @@ use mathlib.Core.Option.{some}
 use mathlib.Core.Option as maybe
 use lib.ListN.{get_elem?}
 use Rattle.atomic_table.specs.Table.{State, Me, Step, rest}
-use Rattle.ca_text.specs.declared.limits.TheConstants.{BOARD_CELLS}
+use Rattle.ca_text.specs.Limits.{board_cells}
 use Rattle.ca_board.specs.declared.ticket.Ticket.{Ticket}
 use Rattle.ca_dbr.specs.declared.value.Outcome.{Outcome}
 use Rattle.ca_board.specs.declared.steps.CoreLog.{CoreLog}
@@ -139,9 +139,9 @@ Frees arms recycles k g =
 
 -- The free list: the next ticket of each cell that is not in use, once
 pub record IsStock (arms recycles free : List Ticket) : Type 0 where
-  pub next : (i : ℕ) (t : Ticket) → get_elem? free i ≡ some t → (t.cell < BOARD_CELLS) × IsNext arms recycles t.cell t.generation
+  pub next : (i : ℕ) (t : Ticket) → get_elem? free i ≡ some t → (t.cell < board_cells) × IsNext arms recycles t.cell t.generation
   pub once : (i j : ℕ) (t u : Ticket) → get_elem? free i ≡ some t → get_elem? free j ≡ some u → t.cell ≡ u.cell → i ≡ j
-  pub every : (k : ℕ) → k < BOARD_CELLS → InUse arms recycles k ⊎ ((g : ℕ) × Has free (ticket k g))
+  pub every : (k : ℕ) → k < board_cells → InUse arms recycles k ⊎ ((g : ℕ) × Has free (ticket k g))
 
 -- nothing was done with the ticket but, perhaps, its arm
 abbrev pub IsUntouched : List Entry → List Ticket → List Ticket → Ticket → Type 0

@@ -4,7 +4,7 @@ use mathlib.Core.Option.{some}
 use lib.ListN.{get_elem?}
 use Rattle.atomic_table.specs.Seated.{TableId}
 use Rattle.atomic_table.specs.declared.shared.Seat.{Seat}
-use Rattle.ca_text.specs.declared.limits.TheConstants.{BOARD_CELLS}
+use Rattle.ca_text.specs.Limits.{board_cells}
 use Rattle.ca_board.specs.declared.ticket.Ticket.{Ticket}
 use Rattle.ca_board.specs.declared.steps.View.{View}
 use Rattle.ca_board.specs.History.{Slot, core_view, core_log, caller_view, caller_log, no_caller, IsStock}
@@ -12,7 +12,7 @@ use Rattle.ca_board.specs.Views.{CoreView, CallerView}
 
 -- a board has a word and a slot for each cell
 abbrev pub IsBoard : TableId → Type 0
-IsBoard z = (z.words ≡ BOARD_CELLS) × (z.slots ≡ BOARD_CELLS)
+IsBoard z = (z.words ≡ board_cells) × (z.slots ≡ board_cells)
 
 abbrev pub BoardSeat : Type 0
 BoardSeat = Seat Slot View
@@ -26,14 +26,14 @@ seen_by_caller s = record { board = s.table_id; takes = s.me.0.caller.takes; giv
 
 -- each ticket is of a cell of the board
 abbrev pub IsInside : List Ticket → Type 0
-IsInside ts = (i : ℕ) (t : Ticket) → get_elem? ts i ≡ some t → t.cell < BOARD_CELLS
+IsInside ts = (i : ℕ) (t : Ticket) → get_elem? ts i ≡ some t → t.cell < board_cells
 
 -- The core's seat holds no slot, each of its tickets is of a cell of the board, and its free list is right
 pub record IsCoreSeat (s : BoardSeat) (free : List Ticket) (room : ℕ) : Type 0 where
   pub idle : let log = s.me.0.core in s.me ≡ (core_view (core_log log.arms log.fills log.refused log.recycles 0) no_caller, [])
   pub inside : IsInside s.me.0.core.arms
   pub stock : IsStock s.me.0.core.arms s.me.0.core.recycles free
-  pub wide : BOARD_CELLS ≤ room
+  pub wide : board_cells ≤ room
 
 -- a caller's seat holds no slot
 abbrev pub IsCallerSeat : BoardSeat → Type 0

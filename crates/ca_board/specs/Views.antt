@@ -1,7 +1,7 @@
 -- The seats of a board, as its calls speak of them: which board, and what was done with the seat.
 use Rattle.std.specs.Prelude.{◌≡◌, ◌⊎◌, ◌<◌, ℕ, ◌++◌, List, [], ◌∷◌, Option, Result, MatchOption, MatchResult}
 use Rattle.atomic_table.specs.Seated.{TableId}
-use Rattle.ca_text.specs.declared.limits.TheConstants.{BOARD_CELLS}
+use Rattle.ca_text.specs.Limits.{board_cells}
 use Rattle.ca_text.specs.declared.refusal.Refusal.{Refusal}
 use Rattle.ca_text.specs.declared.refusal.Refusal.TheVariants.{NoCell}
 use Rattle.ca_board.specs.History.{ticket, Has, IsUnfilled, IsOpen, InUse, IsNext, Frees}
@@ -64,7 +64,7 @@ IsDue v t = Has v.arms t × IsUnfilled v.fills t × ¬ (Has v.refused t)
 abbrev pub HasArmed : CoreView → Result Ticket Refusal → CoreView → Type 0
 HasArmed old result new = MatchResult result
     (λ t. (new ≡ with_arm old t) × IsNext old.arms old.recycles t.cell t.generation × IsDue new t)
-    (λ e. (e ≡ NoCell) × (new ≡ old) × ((k : ℕ) → k < BOARD_CELLS → InUse old.arms old.recycles k))
+    (λ e. (e ≡ NoCell) × (new ≡ old) × ((k : ℕ) → k < board_cells → InUse old.arms old.recycles k))
 
 -- What a fill of the ticket answers: it was stored; or the ticket was given up, and the same outcome comes back
 abbrev pub HasFilled : CoreView → Ticket → Outcome → Filled → CoreView → Type 0

@@ -1,6 +1,6 @@
 ghost use Rattle.std.specs.Prelude.{◌≡◌, ◌≤◌, [], IfOk, IfErr, IsTrue, IsFalse};
 ghost use Rattle.std.specs.Vec.{vec_capacity};
-ghost use Rattle.ca_text.specs.declared.limits.TheConstants.{BOARD_CELLS};
+ghost use Rattle.ca_text.specs.Limits.{board_cells};
 ghost use Rattle.ca_text.specs.declared.refusal.Refusal.TheVariants.{OutOfMemory};
 ghost use Rattle.ca_board.specs.History.{IsStock};
 ghost use Rattle.ca_board.specs.Views.{core_start, caller_start, with_give_up, IsDue, IsOwnOpen};
@@ -177,7 +177,7 @@ impl Board {
 
 // The first ticket of each cell.
 fn first_tickets(alloc: Global) -> Result<Vec<Ticket>, AllocError>
-    ensures { IfOk result (λ v. IsStock [] [] v.items × (BOARD_CELLS ≤ vec_capacity v)) }
+    ensures { IfOk result (λ v. IsStock [] [] v.items × (board_cells ≤ vec_capacity v)) }
 {
     let mut free = Vec::with_capacity(alloc, BOARD_CELLS)?;
     for cell in 0..BOARD_CELLS {

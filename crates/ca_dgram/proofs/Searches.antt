@@ -1,6 +1,7 @@
 -- The bytes and the length of a datagram of searches.
-use Rattle.std.proofs.Common.{◌≡◌, ℕ, ◌+◌, ◌-◌, ◌%◌, ◌≤◌, List, [], ◌∷◌, ◌++◌, length, take, replicate, suc, refl, sym, ap, ◌∙◌, append_assoc, subst, Result, Ok, Err, arith}
+use Rattle.std.proofs.Common.{◌≡◌, ℕ, ◌+◌, ◌-◌, ◌%◌, ◌<◌, ◌≤◌, List, [], ◌∷◌, ◌++◌, length, take, replicate, suc, refl, sym, ap, ◌∙◌, append_assoc, subst, Result, Ok, Err, arith}
 use Rattle.std.specs.Result.{IsErrAnd}
+use Rattle.std.specs.Prelude.{IfErr}
 use Rattle.std.proofs.lemmas.List.{length-append, length-replicate, take-replicate}
 use Rattle.ca_wire.specs.declared.header.Header.{Header}
 use Rattle.ca_wire.specs.Header.{short_header}
@@ -10,7 +11,8 @@ use Rattle.ca_wire.proofs.Headers.{length-short}
 use Rattle.ca_dgram.specs.Messages.{search_message, version_message}
 use Rattle.ca_text.specs.declared.refusal.Refusal.{Refusal}
 use Rattle.ca_text.specs.declared.refusal.Refusal.TheVariants.{OutOfMemory}
-use Rattle.ca_dgram.specs.Search.{Searches, begun, datagram_limit, searched}
+use Rattle.ca_dgram.specs.Search.{Searches, begun, searched}
+use Rattle.ca_text.specs.Limits.{datagram_limit}
 use Rattle.ca_dgram.proofs.Spellings.{spelling-bare, spelling-small}
 
 pub version-bytes : spelling version_message ≡ short_header (header_of version_message)
@@ -67,3 +69,7 @@ searched-written bytes a b c d header name cid size zeros within e f i j k l m =
 pub searches-refused : (old new : List ℕ) (cid : ℕ) (name : List ℕ) (r : Result (Unit {0}) Refusal) → IsErrAnd r (λ e. e ≡ OutOfMemory) → length (searched old cid name) ≤ datagram_limit → new ≡ old → Searches old cid name r new
 searches-refused old new cid name (Ok x) is short same = absurd is
 searches-refused old new cid name (Err e) is short same = subst (λ (x : Refusal). Searches old cid name (Err x) new) (sym is) (short, same)
+
+pub room-lacked : (n m : ℕ) (r : Result (Unit {0}) Refusal) → n < m → IfErr r (λ e. e ≡ OutOfMemory → n < m)
+room-lacked n m (Ok x) less = tt
+room-lacked n m (Err e) less = λ _. less

@@ -2,12 +2,9 @@
 use Rattle.std.specs.Prelude.{ℕ, ◌≡◌, ◌<◌, ◌≤◌, ◌++◌, List, [], ◌∷◌, length, Result, Ok, Err}
 use Rattle.ca_text.specs.declared.refusal.Refusal.{Refusal}
 use Rattle.ca_text.specs.declared.refusal.Refusal.TheVariants.{OutOfMemory, DatagramTooLong}
+use Rattle.ca_text.specs.Limits.{datagram_limit}
 use Rattle.ca_wire.specs.Message.{spelling}
 use Rattle.ca_dgram.specs.Messages.{version_message, search_message}
-
--- bytes of a datagram that is written, at most
-abbrev pub datagram_limit : ℕ
-datagram_limit = 1024
 
 -- the datagram up to the next search: its VERSION at least
 abbrev pub begun : List ℕ → List ℕ

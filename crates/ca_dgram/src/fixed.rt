@@ -5,7 +5,7 @@ ghost use Rattle.ca_wire.specs.Header.{short_header};
 ghost use Rattle.ca_wire.specs.Message.{Spells, header_of, spelling};
 ghost use Rattle.ca_dgram.specs.Messages.{beacon_message, confirm_message, register_message};
 
-use ca_text::Command;
+use ca_text::{Command, MINOR_VERSION};
 use std::net::Ipv4Addr;
 
 /// The beacon of this number, of a server that listens at this TCP port (RSRV_IS_UP).
@@ -16,7 +16,7 @@ pub fn beacon(number: u32, port: u16) -> [u8; 16]
     ensures read { Spells result (beacon_message number port) }
     ensures written { port < 65535 → result ≡ spelling (beacon_message number port) }
 {
-    header_bytes(Command::RsrvIsUp, 13, 0, port, number, 0)
+    header_bytes(Command::RsrvIsUp, MINOR_VERSION, 0, port, number, 0)
 }
 
 /// The registration of a client of this address with the repeater of its host (REPEATER_REGISTER).

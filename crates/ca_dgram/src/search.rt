@@ -1,5 +1,6 @@
-ghost use Rattle.std.specs.Prelude.{◌≡◌, ◌+◌, ◌≤◌, ◌++◌, length, vec_capacity};
-ghost use Rattle.ca_dgram.specs.Search.{Searches, begun};
+ghost use Rattle.std.specs.Prelude.{◌≡◌, ◌+◌, ◌<◌, ◌≤◌, ◌++◌, IfErr, length, vec_capacity};
+ghost use Rattle.ca_dgram.specs.Search.{Searches, begun, searched};
+ghost use Rattle.ca_text.specs.declared.refusal.Refusal.TheVariants.{OutOfMemory};
 
 use crate::fixed::header_bytes;
 use ca_text::{ChannelName, Command, DATAGRAM_LIMIT, MINOR_VERSION, Refusal};
@@ -13,9 +14,11 @@ const HEADER: usize = 16;
 
 /// Writes the search for this name at the end of the datagram; where that is empty, the VERSION first.
 ///
-/// Refused by 19 where the datagram would have more than 1,024 bytes. A refusal changes nothing.
+/// Refused by 19 where the datagram would have more than 1,024 bytes. A refusal changes nothing; by 1 only
+/// where the buffer has no room for it.
 pub fn search_into(cid: u32, name: &ChannelName, out: &mut Vec<u8>) -> Result<(), Refusal>
-    ensures { Searches out.old.items cid name.now result out.new.items }
+    ensures searches { Searches out.old.items cid name.now result out.new.items }
+    ensures room { IfErr result (λ e. e ≡ OutOfMemory → vec_capacity out.old < length (searched out.old.items cid name.now)) }
 {
     let name = name.bytes();
     let zeros = 8 - name.len() % 8;

@@ -1,7 +1,7 @@
 -- Which handles of a table have a wire id.
 use Rattle.std.proofs.Common.{◌≡◌, ℕ, ◌%◌, ◌<◌, ◌≤◌, length, refl, sym, ap, ◌∙◌, arith}
 use Rattle.std.proofs.lemmas.Nat.{mod-mul-add}
-use Rattle.ca_text.specs.declared.limits.TheConstants.{ARENA_SLOTS}
+use Rattle.ca_text.specs.Limits.{arena_slots}
 use Rattle.ca_arena.specs.declared.handle.Handle.{Handle}
 use Rattle.ca_arena.specs.Arena.{place_at, IsLive}
 use Rattle.ca_arena.specs.Sound.{IsSound}
@@ -33,7 +33,7 @@ module _ {T : Type 0} where
       ∙ ap (λ (n : ℕ). let h : Handle = record { index = second.index; generation = n } in h) generations
 
   -- handles with one wire id have one index, where they are live
-  pub index_from_wire : (ids : Ids T) (handle : Handle) (wire : ℕ) → length ids.given ≤ ARENA_SLOTS → IsLive ids handle → wire_of handle ≡ wire → handle.index ≡ wire % 65536
+  pub index_from_wire : (ids : Ids T) (handle : Handle) (wire : ℕ) → length ids.given ≤ arena_slots → IsLive ids handle → wire_of handle ≡ wire → handle.index ≡ wire % 65536
   index_from_wire ids handle wire limit live same =
       sym (wire_of-index handle (omega (arith, within_from_live ids handle live))) ∙ ap (λ (n : ℕ). n % 65536) same
 

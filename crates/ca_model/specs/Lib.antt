@@ -1,3 +1,11 @@
 pub mod Speech
 pub mod History
 pub mod Sends
+pub mod Ends
+pub mod Server
+pub mod Faults
+pub mod Due
+pub mod Updates
+pub mod ServerSteps
+pub mod ServerCalls
+pub mod Answer

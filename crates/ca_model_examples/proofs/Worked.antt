@@ -52,7 +52,7 @@ rules-decide = (refl, refl, refl)
 
 pub subscription-faults : SubscriptionFaults
 unfolding bytes_2
-subscription-faults = (refl, refl, refl)
+subscription-faults = (refl, refl, refl, refl)
 
 pub update-spelled : UpdateSpelled
 unfolding bytes_2 signed_bytes_4 spelling header_spelling short_header extended_header number16 number32

@@ -124,12 +124,14 @@ RulesDecide =
 
 -- ---- subscriptions
 
--- an EVENT_ADD of TEMP without a mask bit is ADDFAIL, and one of 262,144 DOUBLEs, whose image is over the limit, BADCOUNT
+-- an EVENT_ADD of TEMP without a mask bit is ADDFAIL, one of 262,144 DOUBLEs is none, and one of
+-- 262,145, which are more than the record may have, is BADCOUNT
 abbrev pub SubscriptionFaults : Type 0
 SubscriptionFaults =
     (subscription_fault temp 3 false 0 (event_add_request 65536 65536 5 1 0) (type_of 5) ≡ Some 168)
     × (subscription_fault temp 3 false 0 (event_add_request 65536 65536 5 1 1) (type_of 5) ≡ None)
-    × (subscription_fault big 3 false 0 (event_add_request 65536 65536 6 0 1) (type_of 6) ≡ Some 176)
+    × (subscription_fault big 3 false 0 (event_add_request 65536 65536 6 262144 1) (type_of 6) ≡ None)
+    × (subscription_fault big 3 false 0 (event_add_request 65536 65536 6 262145 1) (type_of 6) ≡ Some 176)
 
 -- the first update of TEMP, and the confirmation of its cancel, byte by byte
 abbrev pub UpdateSpelled : Type 0

@@ -1,7 +1,7 @@
 -- The two ends of a circuit (section "Virtual Circuit"): what each holds beside its channels.
 use Rattle.std.specs.Prelude.{ℕ, Bool, not, List, [], filter, filter_map, if◌then◌else◌, length, map, option_map, replicate}
 use Rattle.std.specs.List.{fold}
-use Rattle.ca_text.specs.declared.limits.TheConstants.{CIRCUIT_QUEUES}
+use Rattle.ca_text.specs.Limits.{circuit_queues}
 use Rattle.ca_records.specs.Record.{RecordState}
 use Rattle.ca_queue.specs.declared.entry.SubKey.{SubKey}
 use Rattle.ca_queue.specs.Keys.{is_among}
@@ -52,7 +52,7 @@ pub record ServerPart : Type 0 where
 
 -- the end of a circuit that was just accepted ("Virtual Circuit")
 abbrev pub new_part : ServerPart
-new_part = record { basic = new_end; peer = record { user = []; host = [] }; subscriptions = []; queues = replicate CIRCUIT_QUEUES no_queue }
+new_part = record { basic = new_end; peer = record { user = []; host = [] }; subscriptions = []; queues = replicate circuit_queues no_queue }
 
 -- ---- what happens to subscriptions and queues
 

@@ -3,7 +3,7 @@ use Rattle.std.specs.Prelude.{ℕ, ◌==◌, ◌%◌, ◌/◌, ◌*◌, ◌+◌,
 use Rattle.std.specs.List.{flat_map}
 use Rattle.ca_text.specs.declared.refusal.Refusal.{Refusal}
 use Rattle.ca_text.specs.declared.refusal.Refusal.TheVariants as refusal
-use Rattle.ca_text.specs.declared.limits.TheConstants.{WAITING_PUTS, CIRCUIT_QUEUES, QUEUE_SUBSCRIPTIONS}
+use Rattle.ca_text.specs.Limits.{waiting_puts, circuit_queues, queue_subscriptions}
 use Rattle.ca_text.specs.Limits.{payload_limit}
 use Rattle.ca_text.specs.Status.{bad_type, bad_count}
 use Rattle.ca_dbr.specs.declared.data_type.BaseType.{BaseType}
@@ -113,7 +113,7 @@ early_put_fault r rights m (Some b) =
 -- ("CA_PROTO_WRITE", "CA_PROTO_WRITE_NOTIFY", "Status Codes").
 abbrev pub late_put_fault : RecordState → Bool → ℕ → Elements → Option ℕ
 late_put_fault r waits others e =
-    first_fault ((lacks_conversion (converted e (native r)), no_convert) ∷ (has_misfit (converted e (native r)) || (waits && not (nat_lt others WAITING_PUTS)), put_fail) ∷ [])
+    first_fault ((lacks_conversion (converted e (native r)), no_convert) ∷ (has_misfit (converted e (native r)) || (waits && not (nat_lt others waiting_puts)), put_fail) ∷ [])
 
 -- the mask in the payload of an EVENT_ADD, after its three floats ("CA_PROTO_EVENT_ADD")
 abbrev pub mask_in : Fields → ℕ
@@ -134,6 +134,6 @@ subscription_fault r rights in_use others m (Some t) =
     ∷ (nat_lt (length m.payload) 16 || (mask_in m % 16 == 0 || in_use), add_fail)
     ∷ (too_many r t (subscribed_count r m), bad_count)
     ∷ (lacks_conversion (converted r.value t.base), no_convert)
-    ∷ (not (nat_lt others (CIRCUIT_QUEUES * QUEUE_SUBSCRIPTIONS)), add_fail)
+    ∷ (not (nat_lt others (circuit_queues * queue_subscriptions)), add_fail)
     ∷ []
     )

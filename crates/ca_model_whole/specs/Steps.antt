@@ -1,7 +1,7 @@
 -- What the steps of the two ends may leave (section "CA Protocol Messages").
 use Rattle.std.specs.Prelude.{ℕ, ◌≡◌, ◌≢◌, ◌<◌, ◌≤◌, ◌+◌, ◌==◌, ◌&&◌, ◌++◌, ◌⊎◌, Bool, true, false, not, List, [], ◌∷◌, Some, None, Ok, Err, Result, filter, if◌then◌else◌, length, option_map, replicate, slice_get, slice_set, unwrap_or}
 use Rattle.std.specs.List.{FoldsTo}
-use Rattle.ca_text.specs.declared.limits.TheConstants.{QUEUE_SUBSCRIPTIONS}
+use Rattle.ca_text.specs.Limits.{queue_subscriptions}
 use Rattle.ca_text.specs.declared.refusal.Refusal.{Refusal}
 use Rattle.ca_text.specs.Limits.{output_limit}
 use Rattle.ca_text.specs.Place.{At}
@@ -80,8 +80,8 @@ pub record TakesIn (s : Subscription) (stored : Stored) (p new : ServerPart) : T
   pub place : ℕ
   pub q : Queue Item
   pub at : At p.queues place q
-  pub room : length q.subscriptions < QUEUE_SUBSCRIPTIONS
-  pub first : (i : ℕ) (r : Queue Item) → i < place → At p.queues i r → QUEUE_SUBSCRIPTIONS ≤ length r.subscriptions
+  pub room : length q.subscriptions < queue_subscriptions
+  pub first : (i : ℕ) (r : Queue Item) → i < place → At p.queues i r → queue_subscriptions ≤ length r.subscriptions
   pub leaves :
       new ≡ record p { subscriptions = p.subscriptions ++ s ∷ []; queues = slice_set p.queues place (posted s.key (record { place = s.place; item = 0; stored = stored }) (added s.key q)) }
 

@@ -3,7 +3,7 @@ use Rattle.std.proofs.Common.{◌≡◌, ℕ, ◌-◌, Bool, true, false, not, �
 use Rattle.std.specs.List.{list_any, filter}
 use Rattle.std.proofs.lemmas.Bool.{cases_Bool}
 use Rattle.std.proofs.lemmas.List.{length-map, map-append}
-use Rattle.ca_text.specs.declared.limits.TheConstants.{QUEUE_PLACES, QUEUE_LOW_PLACES}
+use Rattle.ca_text.specs.Limits.{queue_places, queue_low_places}
 use Rattle.ca_queue.specs.declared.entry.SubKey.{SubKey}
 use Rattle.ca_queue.specs.Keys.{same}
 use Rattle.ca_queue.specs.Waiting.{is_of, has_entry, count_of, replaces, with_last, after_post, front, may_take, taken, after_take, after_cancel}
@@ -28,8 +28,8 @@ module _ {E F : Type 0} (f : E → F) where
 
   replaces_images : (on : Bool) (key : SubKey) (q : List (SubKey × E)) → replaces on key (images f q) ≡ replaces on key q
   replaces_images on key q =
-      ap (λ (b : Bool). b && (leb (QUEUE_PLACES - length (images f q)) QUEUE_LOW_PLACES || not on)) (has_images key q)
-      ∙ ap (λ (n : ℕ). has_entry key q && (leb (QUEUE_PLACES - n) QUEUE_LOW_PLACES || not on)) (length-map q (λ w. (w.0, f w.1)))
+      ap (λ (b : Bool). b && (leb (queue_places - length (images f q)) queue_low_places || not on)) (has_images key q)
+      ∙ ap (λ (n : ℕ). has_entry key q && (leb (queue_places - n) queue_low_places || not on)) (length-map q (λ w. (w.0, f w.1)))
 
   may_take_images : (on : Bool) (q : List (SubKey × E)) → may_take on (images f q) ≡ may_take on q
   may_take_images on q =

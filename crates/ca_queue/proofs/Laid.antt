@@ -4,7 +4,7 @@ use Rattle.std.specs.List.{list_any, filter}
 use Rattle.std.proofs.lemmas.Bool.{cases_Bool, both_ways, or_left, ltb-false}
 use Rattle.std.proofs.lemmas.List.{map-append, length-map}
 use Rattle.std.proofs.lemmas.List.Sums.{length-filter, count_by-le-length}
-use Rattle.ca_text.specs.declared.limits.TheConstants.{QUEUE_PLACES, QUEUE_LOW_PLACES, QUEUE_SUBSCRIPTIONS}
+use Rattle.ca_text.specs.Limits.{queue_places, queue_low_places, queue_subscriptions}
 use Rattle.ca_queue.specs.declared.entry.SubKey.{SubKey}
 use Rattle.ca_queue.specs.declared.event_queue.Subscription.{Subscription}
 use Rattle.ca_queue.specs.Keys.{same, is_among}
@@ -43,7 +43,7 @@ module _ {E : Type 0} where
     roomy = λ some. absurd (omega arith);
   }
 
-  pub adds : (key : SubKey) (entries : List (SubKey × E)) (subscriptions : List Subscription) (on : Bool) (old_places old_room places room : ℕ) → IsLaidOut entries subscriptions on old_places old_room → length subscriptions < QUEUE_SUBSCRIPTIONS → is_among key (keys_of subscriptions) ≡ false → QUEUE_PLACES ≤ places → QUEUE_SUBSCRIPTIONS ≤ room → AreFor entries (subscriptions ++ record { key = key; waiting = 0 } ∷ []) on places room (added key (queue_of entries subscriptions on))
+  pub adds : (key : SubKey) (entries : List (SubKey × E)) (subscriptions : List Subscription) (on : Bool) (old_places old_room places room : ℕ) → IsLaidOut entries subscriptions on old_places old_room → length subscriptions < queue_subscriptions → is_among key (keys_of subscriptions) ≡ false → queue_places ≤ places → queue_subscriptions ≤ room → AreFor entries (subscriptions ++ record { key = key; waiting = 0 } ∷ []) on places room (added key (queue_of entries subscriptions on))
   adds key entries subscriptions on old_places old_room places room laid_out less new enough_places enough_room =
       let s : Subscription = record { key = key; waiting = 0 } in
       let keys : keys_of (subscriptions ++ s ∷ []) ≡ keys_of subscriptions ++ key ∷ [] = map-append (λ t. t.key) subscriptions (s ∷ []) in
@@ -99,20 +99,20 @@ module _ {E : Type 0} where
       subst (λ (es : List (SubKey × E)). AreFor es new on places room (posted key entry q)) (sym left_is) are
 
   -- whether a post replaces, by the counts
-  pub replaces_by_counts : (key : SubKey) (n len : ℕ) (b : Bool) (entries : List (SubKey × E)) (subscriptions : List Subscription) (on : Bool) (places room : ℕ) → IsLaidOut entries subscriptions on places room → is_among key (keys_of subscriptions) ≡ true → n ≡ count_at key subscriptions → len ≡ length entries → b ≡ (ltb 0 n && (leb (QUEUE_PLACES - len) QUEUE_LOW_PLACES || not on)) → replaces on key entries ≡ b
+  pub replaces_by_counts : (key : SubKey) (n len : ℕ) (b : Bool) (entries : List (SubKey × E)) (subscriptions : List Subscription) (on : Bool) (places room : ℕ) → IsLaidOut entries subscriptions on places room → is_among key (keys_of subscriptions) ≡ true → n ≡ count_at key subscriptions → len ≡ length entries → b ≡ (ltb 0 n && (leb (queue_places - len) queue_low_places || not on)) → replaces on key entries ≡ b
   replaces_by_counts key n len b entries subscriptions on places room laid_out there n_is len_is b_is =
       let had : n ≡ count_of key entries = n_is ∙ ap (count_at key) laid_out.counted ∙ count_at_counts key (keys_of subscriptions) entries there in
-      ap (λ (t : Bool). t && (leb (free_places entries) QUEUE_LOW_PLACES || not on)) (has_count key entries ∙ ap (ltb 0) (sym had))
-      ∙ ap (λ (m : ℕ). ltb 0 n && (leb (QUEUE_PLACES - m) QUEUE_LOW_PLACES || not on)) (sym len_is)
+      ap (λ (t : Bool). t && (leb (free_places entries) queue_low_places || not on)) (has_count key entries ∙ ap (ltb 0) (sym had))
+      ∙ ap (λ (m : ℕ). ltb 0 n && (leb (queue_places - m) queue_low_places || not on)) (sym len_is)
       ∙ sym b_is
 
-  pub count_small : (key : SubKey) (n : ℕ) (entries : List (SubKey × E)) (subscriptions : List Subscription) (on : Bool) (places room : ℕ) → IsLaidOut entries subscriptions on places room → is_among key (keys_of subscriptions) ≡ true → n ≡ count_at key subscriptions → n ≤ QUEUE_PLACES
+  pub count_small : (key : SubKey) (n : ℕ) (entries : List (SubKey × E)) (subscriptions : List Subscription) (on : Bool) (places room : ℕ) → IsLaidOut entries subscriptions on places room → is_among key (keys_of subscriptions) ≡ true → n ≡ count_at key subscriptions → n ≤ queue_places
   count_small key n entries subscriptions on places room laid_out there n_is =
       let had : n ≡ count_of key entries = n_is ∙ ap (count_at key) laid_out.counted ∙ count_at_counts key (keys_of subscriptions) entries there in
       omega (arith, laid_out.sound.fits, count_by-le-length (is_of key) entries)
 
   -- an entry that goes to the back finds a place and room for it
-  pub has_place : (key : SubKey) (entries : List (SubKey × E)) (subscriptions : List Subscription) (on : Bool) (places room : ℕ) → IsLaidOut entries subscriptions on places room → is_among key (keys_of subscriptions) ≡ true → replaces on key entries ≡ false → (length entries < QUEUE_PLACES) × (QUEUE_PLACES ≤ places)
+  pub has_place : (key : SubKey) (entries : List (SubKey × E)) (subscriptions : List Subscription) (on : Bool) (places room : ℕ) → IsLaidOut entries subscriptions on places room → is_among key (keys_of subscriptions) ≡ true → replaces on key entries ≡ false → (length entries < queue_places) × (queue_places ≤ places)
   has_place key entries subscriptions on places room laid_out there goes =
       (finds_place key (queue_of entries subscriptions on) there goes laid_out.sound, (laid_out.roomy (some subscriptions there)).0)
     where

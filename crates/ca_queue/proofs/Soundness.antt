@@ -3,7 +3,7 @@ use Rattle.std.proofs.Common.{◌≡◌, ◌+◌, ◌<◌, ◌≤◌, Bool, true
 use Rattle.std.proofs.lemmas.Bool.{cases_Bool, both_ways, or_cases, or_left, or_right, or_parts, and_cases, leb-false}
 use Rattle.std.proofs.lemmas.List.{length_push}
 use Rattle.std.proofs.lemmas.List.Sums.{count_by-le-length, sum_by_push, length-filter}
-use Rattle.ca_text.specs.declared.limits.TheConstants.{QUEUE_PLACES, QUEUE_LOW_PLACES, QUEUE_SUBSCRIPTIONS}
+use Rattle.ca_text.specs.Limits.{queue_places, queue_low_places, queue_subscriptions}
 use Rattle.ca_queue.specs.declared.entry.SubKey.{SubKey}
 use Rattle.ca_queue.specs.Keys.{same, is_among}
 use Rattle.ca_queue.specs.Waiting.{has_entry, free_places, replaces, with_last, after_cancel, may_take}
@@ -20,7 +20,7 @@ module _ {E : Type 0} where
   sound_switched on q sound =
       record { fits = sound.fits; few = sound.few; apart = sound.apart; known = sound.known; roomy = sound.roomy }
 
-  pub sound_added : (key : SubKey) (q : Queue E) → length q.subscriptions < QUEUE_SUBSCRIPTIONS → is_among key q.subscriptions ≡ false → IsSound q → IsSound (added key q)
+  pub sound_added : (key : SubKey) (q : Queue E) → length q.subscriptions < queue_subscriptions → is_among key q.subscriptions ≡ false → IsSound q → IsSound (added key q)
   sound_added key q room new sound = record {
     fits = sound.fits;
     few = omega (arith, length_push q.subscriptions key);
@@ -43,7 +43,7 @@ module _ {E : Type 0} where
       }
 
   -- a subscription with no entry: then few enough others have one
-  few_occupied : (key : SubKey) (q : Queue E) → is_among key q.subscriptions ≡ true → has_entry key q.waiting ≡ false → IsSound q → occupied q + 1 ≤ QUEUE_SUBSCRIPTIONS
+  few_occupied : (key : SubKey) (q : Queue E) → is_among key q.subscriptions ≡ true → has_entry key q.waiting ≡ false → IsSound q → occupied q + 1 ≤ queue_subscriptions
   few_occupied key q there none sound =
       let p : SubKey → Bool = λ k. has_entry k q.waiting in
       let r : SubKey → Bool = λ k. has_entry k q.waiting || same k key in
@@ -56,12 +56,12 @@ module _ {E : Type 0} where
       or_same false b none = none
 
   -- an entry at the back finds a place
-  pub finds_place : (key : SubKey) (q : Queue E) → is_among key q.subscriptions ≡ true → replaces q.events_on key q.waiting ≡ false → IsSound q → length q.waiting < QUEUE_PLACES
+  pub finds_place : (key : SubKey) (q : Queue E) → is_among key q.subscriptions ≡ true → replaces q.events_on key q.waiting ≡ false → IsSound q → length q.waiting < queue_places
   finds_place key q there goes sound =
-      elim (and_cases (has_entry key q.waiting) (leb (free_places q.waiting) QUEUE_LOW_PLACES || not q.events_on) goes) [
+      elim (and_cases (has_entry key q.waiting) (leb (free_places q.waiting) queue_low_places || not q.events_on) goes) [
         | inl none ↦ omega (arith, sound.roomy, few_occupied key q there none sound)
         | inr many ↦
-            omega (arith, leb-false (free_places q.waiting) QUEUE_LOW_PLACES (or_parts (leb (free_places q.waiting) QUEUE_LOW_PLACES) (not q.events_on) many).0)
+            omega (arith, leb-false (free_places q.waiting) queue_low_places (or_parts (leb (free_places q.waiting) queue_low_places) (not q.events_on) many).0)
       ]
 
   pushed : (key : SubKey) (entry : E) (q : Queue E) → is_among key q.subscriptions ≡ true → replaces q.events_on key q.waiting ≡ false → IsSound q → IsSound (record { waiting = q.waiting ++ (key, entry) ∷ []; subscriptions = q.subscriptions; events_on = q.events_on })
@@ -82,10 +82,10 @@ module _ {E : Type 0} where
               | inl had ↦ sound.known k had
               | inr is ↦ subst (λ (s : SubKey). is_among s q.subscriptions ≡ true) (sym (same_is k key is)) there
             ];
-        roomy = elim (and_cases (has_entry key q.waiting) (leb (free_places q.waiting) QUEUE_LOW_PLACES || not q.events_on) goes) [
+        roomy = elim (and_cases (has_entry key q.waiting) (leb (free_places q.waiting) queue_low_places || not q.events_on) goes) [
           | inl none ↦ omega (arith, sound.roomy, counts_more p r key q.subscriptions sound.apart alike there none now)
           | inr many ↦
-              omega (arith, leb-false (free_places q.waiting) QUEUE_LOW_PLACES (or_parts (leb (free_places q.waiting) QUEUE_LOW_PLACES) (not q.events_on) many).0)
+              omega (arith, leb-false (free_places q.waiting) queue_low_places (or_parts (leb (free_places q.waiting) queue_low_places) (not q.events_on) many).0)
         ];
       }
     where

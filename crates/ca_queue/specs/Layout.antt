@@ -1,6 +1,6 @@
 -- What the fields of an event queue stand for. No clause of a caller needs it.
-use Rattle.std.specs.Prelude.{ℕ, ◌≡◌, ◌≤◌, ◌<◌, Bool, if◌then◌else◌, List, [], ◌∷◌, length, map}
-use Rattle.ca_text.specs.declared.limits.TheConstants.{QUEUE_PLACES, QUEUE_SUBSCRIPTIONS}
+use Rattle.std.specs.Prelude.{ℕ, ◌≡◌, ◌≤◌, ◌<◌, ◌&&◌, nat_le, Bool, if◌then◌else◌, List, [], ◌∷◌, length, map}
+use Rattle.ca_text.specs.Limits.{queue_places, queue_subscriptions}
 use Rattle.ca_queue.specs.declared.entry.SubKey.{SubKey}
 use Rattle.ca_queue.specs.declared.event_queue.Subscription.{Subscription}
 use Rattle.ca_queue.specs.Keys.{same}
@@ -22,8 +22,12 @@ abbrev pub recounted : SubKey → ℕ → Subscription → Subscription
 recounted key count s = if same key s.key then record { key = s.key; waiting = count } else s
 
 -- there is room for all entries and subscriptions that come
+abbrev pub is_roomy : ℕ → ℕ → Bool
+is_roomy places room = nat_le queue_places places && nat_le queue_subscriptions room
+
+-- it was made before the first subscription was added
 abbrev pub HasRoom : List Subscription → ℕ → ℕ → Type 0
-HasRoom subscriptions places room = 0 < length subscriptions → (QUEUE_PLACES ≤ places) × (QUEUE_SUBSCRIPTIONS ≤ room)
+HasRoom subscriptions places room = 0 < length subscriptions → (queue_places ≤ places) × (queue_subscriptions ≤ room)
 
 module _ {E : Type 0} where
   abbrev pub queue_of : List (SubKey × E) → List Subscription → Bool → Queue E

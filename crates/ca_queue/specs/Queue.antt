@@ -2,7 +2,7 @@
 use Rattle.std.specs.Prelude.{◌≡◌, ◌<◌, Bool, true, not, List, [], ◌∷◌, ◌++◌, length, filter, Result, Ok, Err}
 use Rattle.ca_text.specs.declared.refusal.Refusal.{Refusal}
 use Rattle.ca_text.specs.declared.refusal.Refusal.TheVariants.{OutOfMemory, TooManySubscriptions}
-use Rattle.ca_text.specs.declared.limits.TheConstants.{QUEUE_SUBSCRIPTIONS}
+use Rattle.ca_text.specs.Limits.{queue_subscriptions}
 use Rattle.ca_queue.specs.declared.entry.SubKey.{SubKey}
 use Rattle.ca_queue.specs.Keys.{same}
 use Rattle.ca_queue.specs.Waiting.{after_post, after_take, after_cancel}
@@ -42,11 +42,11 @@ module _ {E : Type 0} where
   -- Why one more subscription is refused: there are so many, or a growth was refused, which is asked for only where there
   -- is none yet.
   abbrev pub Refuses : Queue E → Refusal → Type 0
-  Refuses q TooManySubscriptions = length q.subscriptions ≡ QUEUE_SUBSCRIPTIONS
+  Refuses q TooManySubscriptions = length q.subscriptions ≡ queue_subscriptions
   Refuses q OutOfMemory = q.subscriptions ≡ []
   Refuses q _ = ⊥
 
   -- From old, this subscription was added, with this answer, and left new.
   abbrev pub Adds : Queue E → SubKey → Result (Unit {0}) Refusal → Queue E → Type 0
-  Adds old key (Ok _) new = (length old.subscriptions < QUEUE_SUBSCRIPTIONS) × (new ≡ added key old)
+  Adds old key (Ok _) new = (length old.subscriptions < queue_subscriptions) × (new ≡ added key old)
   Adds old key (Err refusal) new = Refuses old refusal × (new ≡ old)

@@ -1,6 +1,6 @@
 -- Whole runs of a queue. Refused calls are left out, since they change nothing.
 use Rattle.std.specs.Prelude.{◌≡◌, ◌<◌, Bool, true, false, if◌then◌else◌, List, [], ◌∷◌, ◌++◌, length, Option, Some, None}
-use Rattle.ca_text.specs.declared.limits.TheConstants.{QUEUE_SUBSCRIPTIONS}
+use Rattle.ca_text.specs.Limits.{queue_subscriptions}
 use Rattle.ca_queue.specs.declared.entry.SubKey.{SubKey}
 use Rattle.ca_queue.specs.Keys.{same, is_among}
 use Rattle.ca_queue.specs.Waiting.{is_of, taken}
@@ -21,7 +21,7 @@ module _ {E : Type 0} where
   abbrev pub Leads : Queue E → List (Call E) → Queue E → Type 0
   Leads old [] new = new ≡ old
   Leads old (Added key ∷ calls) new =
-      (is_among key old.subscriptions ≡ false) × (length old.subscriptions < QUEUE_SUBSCRIPTIONS) × Leads (added key old) calls new
+      (is_among key old.subscriptions ≡ false) × (length old.subscriptions < queue_subscriptions) × Leads (added key old) calls new
   Leads old (Posted key entry ∷ calls) new = (is_among key old.subscriptions ≡ true) × Leads (posted key entry old) calls new
   Leads old (Took given ∷ calls) new = (given ≡ taken old.events_on old.waiting) × Leads (with_front_taken old) calls new
   Leads old (Cancelled key ∷ calls) new = Leads (cancelled key old) calls new

@@ -1,6 +1,6 @@
 -- What holds of every queue.
 use Rattle.std.specs.Prelude.{ℕ, ◌≤◌, ◌+◌, IsTrue, length, count_by}
-use Rattle.ca_text.specs.declared.limits.TheConstants.{QUEUE_PLACES, QUEUE_LOW_PLACES, QUEUE_SUBSCRIPTIONS}
+use Rattle.ca_text.specs.Limits.{queue_places, queue_low_places, queue_subscriptions}
 use Rattle.ca_queue.specs.declared.entry.SubKey.{SubKey}
 use Rattle.ca_queue.specs.Keys.{is_among, AreApart}
 use Rattle.ca_queue.specs.Waiting.{has_entry, free_places}
@@ -14,8 +14,8 @@ module _ {E : Type 0} where
   -- All entries have a place; subscriptions are few enough, and each stands once; each entry's subscription was added;
   -- and free places and subscriptions that have an entry are together so many that every post finds a place.
   pub record IsSound (q : Queue E) : Type 0 where
-    pub fits : length q.waiting ≤ QUEUE_PLACES
-    pub few : length q.subscriptions ≤ QUEUE_SUBSCRIPTIONS
+    pub fits : length q.waiting ≤ queue_places
+    pub few : length q.subscriptions ≤ queue_subscriptions
     pub apart : AreApart q.subscriptions
     pub known : (key : SubKey) → IsTrue (has_entry key q.waiting) → IsTrue (is_among key q.subscriptions)
-    pub roomy : QUEUE_LOW_PLACES ≤ free_places q.waiting + occupied q
+    pub roomy : queue_low_places ≤ free_places q.waiting + occupied q

@@ -3,7 +3,7 @@
 -- "CA Protocol Messages").
 use Rattle.std.specs.Prelude.{ℕ, Bool, ◌&&◌, ◌||◌, not, nat_lt, nat_le, ◌-◌, if◌then◌else◌, List, [], ◌∷◌, ◌++◌, length, count_by, drop, filter, Option, Some, None}
 use Rattle.std.specs.List.{list_any}
-use Rattle.ca_text.specs.declared.limits.TheConstants.{QUEUE_PLACES, QUEUE_LOW_PLACES}
+use Rattle.ca_text.specs.Limits.{queue_places, queue_low_places}
 use Rattle.ca_queue.specs.declared.entry.SubKey.{SubKey}
 use Rattle.ca_queue.specs.Keys.{same}
 
@@ -27,12 +27,12 @@ module _ {E : Type 0} where
 
   -- how many entries find a place yet
   abbrev pub free_places : List (SubKey × E) → ℕ
-  free_places q = QUEUE_PLACES - length q
+  free_places q = queue_places - length q
 
   -- A post to this subscription takes the place of its last entry: there is one, and either free places are few or
   -- events are off.
   abbrev pub replaces : Bool → SubKey → List (SubKey × E) → Bool
-  replaces events_on key q = has_entry key q && (nat_le (free_places q) QUEUE_LOW_PLACES || not events_on)
+  replaces events_on key q = has_entry key q && (nat_le (free_places q) queue_low_places || not events_on)
 
   -- this entry in place of the last one of its subscription
   abbrev pub with_last : SubKey → E → List (SubKey × E) → List (SubKey × E)

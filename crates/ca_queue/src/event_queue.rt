@@ -1,9 +1,9 @@
-ghost use Rattle.std.specs.Prelude.{◌≡◌, ◌<◌, ◌≤◌, ◌++◌, ◌∷◌, [], IsTrue, OnOk, OnErr, length, map, filter, not, vec_capacity, nat_lt, nat_le, ◌-◌, ◌&&◌, ◌||◌};
+ghost use Rattle.std.specs.Prelude.{◌≡◌, ◌<◌, ◌≤◌, ◌++◌, ◌∷◌, [], IsTrue, OnOk, OnErr, length, map, filter, not, vec_capacity, nat_lt, nat_le, true, false, ◌-◌, ◌&&◌, ◌||◌};
 ghost use Rattle.std.specs.VecDeque.{deque_capacity};
 ghost use Rattle.std.specs.List.{list_any};
-ghost use Rattle.ca_text.specs.declared.limits.TheConstants.{QUEUE_LOW_PLACES, QUEUE_PLACES, QUEUE_SUBSCRIPTIONS};
+ghost use Rattle.ca_text.specs.Limits.{queue_low_places, queue_places, queue_subscriptions};
 ghost use Rattle.ca_queue.specs.Keys.{same};
-ghost use Rattle.ca_queue.specs.Layout.{HasRoom, count_at, recounted};
+ghost use Rattle.ca_queue.specs.Layout.{HasRoom, count_at, is_roomy, recounted};
 
 use crate::entry::{Entry, SubKey, is_same};
 use crate::places::{drop_entries, replace_last};
@@ -13,7 +13,7 @@ use std::alloc::{AllocError, Global};
 use std::collections::VecDeque;
 use std::marker::Model;
 
-/// An event queue as a plain list.
+/// An event queue as a plain list. Contracts see it as the queue that it is, and whether its room was made.
 ///
 /// A post that replaces looks for its subscription's last entry from the back. A take looks at no entry but the front, and
 /// at the subscriptions, of which there are at most 36.
@@ -36,18 +36,21 @@ impl Model for EventQueue {
     ghost use Rattle.std.specs.VecDeque.{deque_capacity};
     ghost use Rattle.ca_queue.specs.Queue.{Queue};
     ghost use Rattle.ca_queue.specs.declared.entry.Entry.{Entry};
+    ghost use Rattle.std.specs.Prelude.{Bool};
 
-    ghost Value = { Queue Entry };
+    ghost Value = { Queue Entry × Bool };
 
-    ghost use Rattle.ca_queue.specs.Layout.{queue_of, IsLaidOut};
+    ghost use Rattle.ca_queue.specs.Layout.{queue_of, is_roomy, IsLaidOut};
 
-    ghost view = { λ q. queue_of q.entries.items q.subscriptions.items q.events_on };
+    ghost view = { λ q. (queue_of q.entries.items q.subscriptions.items q.events_on, is_roomy (deque_capacity q.entries) (vec_capacity q.subscriptions)) };
 
     ghost invariant = { λ q. IsLaidOut q.entries.items q.subscriptions.items q.events_on (deque_capacity q.entries) (vec_capacity q.subscriptions) };
 }
 
 impl Queues for EventQueue {
-    ghost contents = { λ q. q };
+    ghost contents = { λ q. q.0 };
+
+    ghost has_room = { λ q. q.1 };
 
     fn new(alloc: Global) -> Self {
         EventQueue {
@@ -102,14 +105,16 @@ fn make_room(
     entries: &mut VecDeque<(SubKey, Entry)>,
     subscriptions: &mut Vec<Subscription>,
 ) -> Result<(), AllocError>
-    requires fits { length entries.old.items ≤ QUEUE_PLACES }
-    requires few { length subscriptions.old.items < QUEUE_SUBSCRIPTIONS }
+    requires fits { length entries.old.items ≤ queue_places }
+    requires few { length subscriptions.old.items < queue_subscriptions }
     requires roomy { HasRoom subscriptions.old.items (deque_capacity entries.old) (vec_capacity subscriptions.old) }
     ensures entries { entries.new.items ≡ entries.old.items }
     ensures subscriptions { subscriptions.new.items ≡ subscriptions.old.items }
-    ensures places { OnOk result (QUEUE_PLACES ≤ deque_capacity entries.new) }
-    ensures room { OnOk result (QUEUE_SUBSCRIPTIONS ≤ vec_capacity subscriptions.new) }
+    ensures places { OnOk result (queue_places ≤ deque_capacity entries.new) }
+    ensures room { OnOk result (queue_subscriptions ≤ vec_capacity subscriptions.new) }
+    ensures roomy { OnOk result (is_roomy (deque_capacity entries.new) (vec_capacity subscriptions.new) ≡ true) }
     ensures refused { OnErr result (subscriptions.old.items ≡ []) }
+    ensures full { OnErr result (is_roomy (deque_capacity entries.old) (vec_capacity subscriptions.old) ≡ false) }
 {
     entries.reserve(QUEUE_PLACES - entries.len())?;
     subscriptions.reserve(QUEUE_SUBSCRIPTIONS - subscriptions.len())?;
@@ -155,8 +160,8 @@ fn may_take(subscriptions: &[Subscription], events_on: bool) -> bool
 
 // Whether a post takes the place of its subscription's last entry: it has so many, of so many that wait.
 fn is_replacing(count: usize, length: usize, events_on: bool) -> bool
-    requires { length ≤ QUEUE_PLACES }
-    ensures { result ≡ (nat_lt 0 count && (nat_le (QUEUE_PLACES - length) QUEUE_LOW_PLACES || not events_on)) }
+    requires { length ≤ queue_places }
+    ensures { result ≡ (nat_lt 0 count && (nat_le (queue_places - length) queue_low_places || not events_on)) }
 {
     count > 0 && (QUEUE_PLACES - length <= QUEUE_LOW_PLACES || !events_on)
 }

@@ -1,5 +1,5 @@
 ghost use Rattle.std.specs.Prelude.{◌≡◌, ◌++◌, ◌∷◌, ◌≤◌, [], Bool, List, IsFalse, IsTrue, length};
-ghost use Rattle.ca_text.specs.declared.limits.TheConstants.{QUEUE_PLACES};
+ghost use Rattle.ca_text.specs.Limits.{queue_places};
 ghost use Rattle.ca_queue.specs.declared.entry.SubKey.{SubKey};
 ghost use Rattle.ca_queue.specs.Keys.{same, is_among};
 ghost use Rattle.ca_queue.specs.Waiting.{after_cancel, after_post, after_take, entries_of, taken};
@@ -16,7 +16,7 @@ pub fn every_run_is_sound<T>()
 
 /// So each post finds a place.
 pub fn post_finds_a_place<T>()
-    ensures { (q : Queue T) (key : SubKey) (entry : T) → IsSound q → IsTrue (is_among key q.subscriptions) → length (after_post q.events_on key entry q.waiting) ≤ QUEUE_PLACES }
+    ensures { (q : Queue T) (key : SubKey) (entry : T) → IsSound q → IsTrue (is_among key q.subscriptions) → length (after_post q.events_on key entry q.waiting) ≤ queue_places }
 {}
 
 /// What was taken of a subscription, and then what waits for it, are its posts with some left out, in their order, and

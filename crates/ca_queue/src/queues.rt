@@ -1,8 +1,9 @@
-ghost use Rattle.std.specs.Prelude.{◌≡◌, IsTrue, IsFalse};
+ghost use Rattle.std.specs.Prelude.{◌≡◌, Bool, IsTrue, IsFalse, MatchResult};
 ghost use Rattle.ca_queue.specs.Keys.{is_among};
 ghost use Rattle.ca_queue.specs.Waiting.{taken};
 ghost use Rattle.ca_queue.specs.Queue.{Queue, Adds, no_queue, posted, with_front_taken, cancelled, switched};
 ghost use Rattle.ca_queue.specs.Sound.{IsSound};
+ghost use Rattle.ca_text.specs.declared.refusal.Refusal.TheVariants.{OutOfMemory};
 ghost use Rattle.ca_queue.specs.declared.entry.Entry.{Entry as Update};
 
 use crate::entry::{Entry, SubKey};
@@ -16,18 +17,23 @@ pub trait Queues {
     /// What it is: the entries that wait, the subscriptions, and whether events are on.
     ghost contents: { Self → Queue Update };
 
+    /// Whether the room for all that comes was made.
+    ghost has_room: { Self → Bool };
+
     /// A queue with no subscription, with events on. It takes no memory yet.
     fn new(alloc: Global) -> Self
         ensures made { contents result ≡ no_queue }
+        ensures room { IsFalse (has_room result) }
         ensures sound { IsSound (contents result) };
 
     /// Adds a subscription that it does not have.
     ///
-    /// Refused as `TooManySubscriptions` where it has 36, and as `OutOfMemory` only where it has none. A refusal changes
-    /// nothing.
+    /// Refused as `TooManySubscriptions` if it has 36, and as `OutOfMemory` only until its room was made: once one was added
+    /// the room stays. A refusal changes nothing.
     fn add(&mut self, key: SubKey) -> Result<(), Refusal>
         requires { IsFalse (is_among key (contents self.old).subscriptions) }
         ensures adds { Adds (contents self.old) key result (contents self.new) }
+        ensures room { MatchResult result (λ _. IsTrue (has_room self.new)) (λ e. (e ≡ OutOfMemory → IsFalse (has_room self.old)) × (IsTrue (has_room self.old) → IsTrue (has_room self.new))) }
         ensures sound { IsSound (contents self.new) };
 
     /// Puts an entry of a subscription that was added.
@@ -37,6 +43,7 @@ pub trait Queues {
     fn post(&mut self, key: SubKey, entry: Entry)
         requires { IsTrue (is_among key (contents self.old).subscriptions) }
         ensures posts { contents self.new ≡ posted key entry (contents self.old) }
+        ensures room { has_room self.new ≡ has_room self.old }
         ensures sound { IsSound (contents self.new) };
 
     /// Takes the entry at the front out.
@@ -45,15 +52,18 @@ pub trait Queues {
     fn take(&mut self) -> Option<(SubKey, Entry)>
         ensures gives { result ≡ taken (contents self.old).events_on (contents self.old).waiting }
         ensures leaves { contents self.new ≡ with_front_taken (contents self.old) }
+        ensures room { has_room self.new ≡ has_room self.old }
         ensures sound { IsSound (contents self.new) };
 
     /// Takes out this subscription and all its entries. The other entries keep their order.
     fn cancel(&mut self, key: SubKey)
         ensures cancels { contents self.new ≡ cancelled key (contents self.old) }
+        ensures room { has_room self.new ≡ has_room self.old }
         ensures sound { IsSound (contents self.new) };
 
     /// Turns events on or off.
     fn set_events(&mut self, on: bool)
         ensures switches { contents self.new ≡ switched on (contents self.old) }
+        ensures room { has_room self.new ≡ has_room self.old }
         ensures sound { IsSound (contents self.new) };
 }

@@ -1,8 +1,9 @@
 -- What a repeater sends for a datagram, and its members afterwards (section "CA Repeater").
-use Rattle.std.specs.Prelude.{ℕ, ◌≡◌, Bool, true, false, ◌&&◌, ◌||◌, not, nat_lt, if◌then◌else◌, List, [], ◌∷◌, ◌++◌, length, Vec, Result, Ok, Err}
+use Rattle.std.specs.Prelude.{ℕ, ◌≡◌, ◌≢◌, Bool, true, false, ◌&&◌, ◌||◌, not, nat_lt, if◌then◌else◌, List, [], ◌∷◌, ◌++◌, length, Vec, Result, Ok, Err}
 use Rattle.std.specs.declared.alloc.Global.{Global}
 use Rattle.ca_text.specs.declared.refusal.Refusal.{Refusal}
 use Rattle.ca_text.specs.declared.refusal.Refusal.TheVariants.{OutOfMemory}
+use Rattle.ca_text.specs.Limits.{repeater_members}
 use Rattle.ca_wire.specs.Message.{spelling}
 use Rattle.ca_dgram.specs.Messages.{confirm_message}
 use Rattle.ca_repeat.specs.declared.address.Address.{Address}
@@ -11,14 +12,10 @@ use Rattle.ca_repeat.specs.Addresses.{is_member, loopback, same}
 use Rattle.ca_repeat.specs.First.{IsFirst, passed, registers}
 use Rattle.ca_repeat.specs.Sent.{Sent}
 
--- members, at most
-abbrev pub member_limit : ℕ
-member_limit = 64
-
 -- The registration of this sender is answered: it comes from 127.x.x.x, and the sender is a member or there is room
 -- for one more.
 abbrev pub admits : List Address → Address → First → Bool
-admits members from first = registers first && loopback from && (is_member members from || nat_lt (length members) member_limit)
+admits members from first = registers first && loopback from && (is_member members from || nat_lt (length members) repeater_members)
 
 abbrev pub confirmed : Bool → Address → List Sent
 confirmed true to = record { to = to; bytes = spelling confirm_message } ∷ []
@@ -38,10 +35,14 @@ abbrev pub enrolled : Bool → List Address → Address → List Address
 enrolled true members from = members ++ from ∷ []
 enrolled false members from = members
 
--- From these members, a datagram of these bytes came from this address, with this answer, and left new. The
--- confirmation goes out first.
+-- what is sent for a datagram: the confirmation goes out first
+abbrev pub sent_for : List Address → Address → First → List ℕ → List Sent
+sent_for members from first bytes = confirmed (admits members from first) from ++ handed (passed first from.ip bytes) from members
+
+-- From these members, a datagram of these bytes came from this address, with this answer, and left new. Memory is asked
+-- for only where something is sent.
 abbrev pub Receives : List Address → Address → List ℕ → Result (Vec Sent Global) Refusal → List Address → Type 0
 Receives old from bytes (Ok sends) new =
-    (first : First) × IsFirst bytes first × (sends.items ≡ confirmed (admits old from first) from ++ handed (passed first from.ip bytes) from old) × (new ≡ enrolled (admits old from first && not (is_member old from)) old from)
-Receives old from bytes (Err OutOfMemory) new = new ≡ old
+    (first : First) × IsFirst bytes first × (sends.items ≡ sent_for old from first bytes) × (new ≡ enrolled (admits old from first && not (is_member old from)) old from)
+Receives old from bytes (Err OutOfMemory) new = (first : First) × IsFirst bytes first × (sent_for old from first bytes ≢ []) × (new ≡ old)
 Receives old from bytes (Err _) new = ⊥

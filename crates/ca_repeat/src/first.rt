@@ -1,4 +1,4 @@
-ghost use Rattle.std.specs.Prelude.{◌≡◌, IfOk};
+ghost use Rattle.std.specs.Prelude.{◌≡◌, ℕ, IfOk, length, nat_eq};
 ghost use Rattle.ca_repeat.specs.First.{IsFirst, passed, registers};
 
 use crate::address::Address;
@@ -44,6 +44,18 @@ pub(crate) fn is_registration(first: First) -> bool
     ensures { result ≡ registers first }
 {
     matches!(first, First::Registration(_))
+}
+
+/// Whether nothing of the datagram is handed on.
+pub(crate) fn is_used_up(first: First, bytes: &[u8]) -> bool
+    requires { IsFirst bytes.now first }
+    ensures { (ip : ℕ) → result ≡ nat_eq (length (passed first ip bytes.now)) 0 }
+{
+    match first {
+        First::Registration(end) => end == bytes.len(),
+        First::BlankBeacon => false,
+        First::Other => false,
+    }
 }
 
 /// What is handed on of a datagram from this address.

@@ -4,10 +4,12 @@
 
 mod address;
 mod first;
+mod laws;
 mod outgoing;
 mod repeater;
 
 pub use address::Address;
+pub use laws::filled_beacon_names_its_sender;
 pub use outgoing::Outgoing;
 pub use repeater::RepeaterCore;
 

@@ -1,10 +1,11 @@
-ghost use Rattle.std.specs.Prelude.{◌≡◌, ◌++◌, ◌&&◌, ◌||◌, [], nat_lt, not, filter, IfOk, OnOk, OnErr};
+ghost use Rattle.std.specs.Prelude.{◌≡◌, ◌≢◌, ◌++◌, ◌&&◌, ◌||◌, [], nat_lt, not, filter, IfOk, OnOk, OnErr};
 ghost use Rattle.ca_repeat.specs.Addresses.{is_member, loopback, same};
 ghost use Rattle.ca_repeat.specs.Fan.{Receives, confirmed, enrolled, handed};
-ghost use Rattle.ca_repeat.specs.First.{registers};
+ghost use Rattle.ca_repeat.specs.First.{IsFirst, passed, registers};
+ghost use Rattle.ca_text.specs.Limits.{repeater_members};
 
 use crate::address::{Address, is_loopback, is_same};
-use crate::first::{First, first_of, is_registration, passed_on};
+use crate::first::{First, first_of, is_registration, is_used_up, passed_on};
 use crate::outgoing::Outgoing;
 use ca_dgram::confirm;
 use ca_text::{REPEATER_MEMBERS, Refusal};
@@ -38,17 +39,16 @@ impl RepeaterCore {
 
     /// What is sent, in order, for a datagram that came from this address.
     ///
-    /// A refusal changes nothing.
+    /// A refusal changes nothing, and there is something to send then.
     pub fn receive(&mut self, from: Address, bytes: &[u8]) -> Result<Vec<Outgoing>, Refusal>
         ensures { Receives self.old from bytes.now result self.new }
     {
         let alloc = *self.members.allocator();
         let first = first_of(bytes);
-        let passed = passed_on(alloc, first, from, bytes)?;
         let known = is_among(&self.members, from);
         let answered = is_admitted(first, from, known, self.members.len());
         let mut sends = confirmation(alloc, answered, from)?;
-        hand_on(alloc, &self.members, from, &passed, &mut sends)?;
+        hand_on(alloc, &self.members, from, first, bytes, &mut sends)?;
         enroll(&mut self.members, answered, known, from)?;
         Ok(sends)
     }
@@ -70,14 +70,15 @@ fn is_among(members: &[Address], from: Address) -> bool
 
 /// Whether the registration of this sender is answered, among so many members.
 fn is_admitted(first: First, from: Address, known: bool, count: usize) -> bool
-    ensures { result ≡ (registers first && loopback from && (known || nat_lt count 64)) }
+    ensures { result ≡ (registers first && loopback from && (known || nat_lt count repeater_members)) }
 {
     is_registration(first) && is_loopback(from) && (known || count < REPEATER_MEMBERS)
 }
 
 /// The answer to a registration, where there is one.
 fn confirmation(alloc: Global, answered: bool, to: Address) -> Result<Vec<Outgoing>, AllocError>
-    ensures { IfOk result (λ v. v.items ≡ confirmed answered to) }
+    ensures ok { IfOk result (λ v. v.items ≡ confirmed answered to) }
+    ensures err { OnErr result (confirmed answered to ≢ []) }
 {
     let mut sends = Vec::new(alloc);
     if answered {
@@ -87,22 +88,25 @@ fn confirmation(alloc: Global, answered: bool, to: Address) -> Result<Vec<Outgoi
     Ok(sends)
 }
 
-/// Writes the bytes, where there are any, for each member but the sender.
+/// Writes what is handed on of the datagram, where there is any of it, for each member but the sender.
 fn hand_on(
     alloc: Global,
     members: &[Address],
     from: Address,
+    first: First,
     bytes: &[u8],
     sends: &mut Vec<Outgoing>,
 ) -> Result<(), AllocError>
-    ensures { OnOk result (sends.new.items ≡ sends.old.items ++ handed bytes.now from members.now) }
+    requires { IsFirst bytes.now first }
+    ensures ok { OnOk result (sends.new.items ≡ sends.old.items ++ handed (passed first from.ip bytes.now) from members.now) }
+    ensures err { OnErr result (handed (passed first from.ip bytes.now) from members.now ≢ []) }
 {
-    if bytes.is_empty() {
+    if is_used_up(first, bytes) {
         return Ok(());
     }
     for member in members {
         if !is_same(*member, from) {
-            let copy = Vec::from_slice(alloc, bytes)?;
+            let copy = passed_on(alloc, first, from, bytes)?;
             sends.push(Outgoing::new(*member, copy))?;
         }
     }
@@ -118,6 +122,7 @@ fn enroll(
 ) -> Result<(), AllocError>
     ensures ok { OnOk result (members.new.items ≡ enrolled (answered && not known) members.old.items from) }
     ensures err { OnErr result (members.new.items ≡ members.old.items) }
+    ensures answered { OnErr result (confirmed answered from ≢ []) }
 {
     if answered && !known {
         members.push(from)?;

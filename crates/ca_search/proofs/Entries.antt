@@ -1,7 +1,8 @@
 -- The entries of a map, as look-ups and loops leave them.
-use Rattle.std.proofs.Common.{◌≡◌, ℕ, ◌≤◌, ◌+◌, zero, suc, Bool, true, false, cond, ◌||◌, nat_eq, List, [], ◌∷◌, ◌++◌, length, drop, max, slice_get, Option, None, Some, is_some, refl, sym, ap, ◌∙◌, append_assoc, arith}
-use Rattle.std.specs.Prelude.{map, filter}
-use Rattle.std.proofs.lemmas.List.{append-nil, drop_all}
+use Rattle.std.proofs.Common.{◌≡◌, ◌≢◌, ℕ, ◌≤◌, ◌+◌, zero, suc, Bool, true, false, cond, ◌||◌, nat_eq, List, [], ◌∷◌, ◌++◌, length, drop, max, slice_get, Option, None, Some, is_some, refl, sym, ap, ◌∙◌, append_assoc, arith}
+use Rattle.std.specs.Prelude.{map, filter, OnErr, Result, Ok, Err}
+use Rattle.std.specs.declared.alloc.AllocError.{AllocError}
+use Rattle.std.proofs.lemmas.List.{append-nil, drop_all, length-append}
 use Rattle.std.specs.Map.{lookup, set_value, remove_entry, values_of}
 use Rattle.indexmap.specs.IndexMap.{set_value_at}
 use Rattle.ca_text.proofs.Places.{some_is}
@@ -125,6 +126,16 @@ pub wanted-later : (now : ℕ) (es : Entries) (n : ℕ) (c : ℕ × Channel) (fo
 wanted-later now es n c found here later before =
     ap (λ (b : Bool). found ++ map wanted (cond b (c ∷ filter (λ e. is_due now e.1) (drop (n + 1) es)) (filter (λ e. is_due now e.1) (drop (n + 1) es)))) (sym later)
     ∙ ap (λ (t : Entries). found ++ wanted_at now t) (sym (drop-at es n c here)) ∙ before
+
+-- one that is due is among all that are
+pub wanted-some : (now : ℕ) (es : Entries) (n : ℕ) (c : ℕ × Channel) (found : List Wanted) → slice_get es n ≡ Some c → is_due now c.1 ≡ true → found ++ wanted_at now (drop n es) ≡ wanted_at now es → wanted_at now es ≢ []
+wanted-some now es n c found here due before none =
+    let all = wanted-due now es n c found here due before ∙ none in
+    omega (arith, ap length all, length-append (found ++ wanted c ∷ []) (wanted_at now (drop (n + 1) es)), length-append found (wanted c ∷ []))
+
+pub on_err : {A : Type 0} {P : Type 0} (r : Result A AllocError) → P → OnErr r P
+on_err (Ok x) p = tt
+on_err (Err e) p = p
 
 -- every entry was looked at
 pub wanted-end : (now : ℕ) (es : Entries) (n : ℕ) (found : List Wanted) → length es ≤ n → found ++ wanted_at now (drop n es) ≡ wanted_at now es → found ≡ wanted_at now es

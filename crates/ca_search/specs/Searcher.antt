@@ -1,5 +1,5 @@
 -- The channels that a client searches, and what each call does to them (section "CA Search").
-use Rattle.std.specs.Prelude.{ℕ, ◌≡◌, Bool, nat_eq, if◌then◌else◌, max, List, [], ◌∷◌, ◌++◌, map, Some, Vec, Result, Ok, Err}
+use Rattle.std.specs.Prelude.{ℕ, ◌≡◌, ◌≢◌, Bool, nat_eq, if◌then◌else◌, max, List, [], ◌∷◌, ◌++◌, map, Some, Vec, Result, Ok, Err}
 use Rattle.std.specs.List.{list_any}
 use Rattle.std.specs.declared.alloc.Global.{Global}
 use Rattle.ca_text.specs.declared.refusal.Refusal.{Refusal}
@@ -40,9 +40,10 @@ Adds old cid name now (Ok _) new =
 Adds old cid name now (Err OutOfMemory) new = new ≡ old
 Adds old cid name now (Err _) new = ⊥
 
--- Asking for the searches that are due at this moment, with this answer, leaves new: they count as made.
+-- Asking for the searches that are due at this moment, with this answer, leaves new: they count as made. Memory
+-- is asked for only if there is one.
 abbrev pub Finds : Searches → ℕ → Result (Vec Wanted Global) Refusal → Searches → Type 0
 Finds old now (Ok found) new =
     (found.items ≡ wanted_at (at old now) old.channels) × (new ≡ record { moment = at old now; channels = with_all (passed (at old now)) old.channels })
-Finds old now (Err OutOfMemory) new = new ≡ old
+Finds old now (Err OutOfMemory) new = (wanted_at (at old now) old.channels ≢ []) × (new ≡ old)
 Finds old now (Err _) new = ⊥

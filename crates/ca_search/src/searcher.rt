@@ -1,4 +1,4 @@
-ghost use Rattle.std.specs.Prelude.{◌≡◌, [], IfOk, false};
+ghost use Rattle.std.specs.Prelude.{◌≡◌, ◌≢◌, [], IfOk, OnErr, false};
 ghost use Rattle.ca_search.specs.Searches.{boosted, passed, paused, resumed, wanted_at};
 ghost use Rattle.ca_search.specs.Searcher.{Adds, Finds, at, holds, with_all, with_one, without};
 
@@ -86,7 +86,7 @@ impl Searcher {
     }
 
     /// The searches that are due, in the order in which their channels were added; they count as made now. Refused by
-    /// 1, which changes nothing.
+    /// 1 only if there is one, which changes nothing.
     pub fn due(&mut self, now: u64) -> Result<Vec<Search>, Refusal>
         ensures { Finds self.old now result self.new }
     {
@@ -110,7 +110,8 @@ impl Searcher {
 
 /// The searches that are due.
 fn find(alloc: Global, places: &IndexMap<u32, Place>, now: u64) -> Result<Vec<Search>, AllocError>
-    ensures { IfOk result (λ v. v.items ≡ wanted_at now places.now.entries) }
+    ensures found { IfOk result (λ v. v.items ≡ wanted_at now places.now.entries) }
+    ensures some { OnErr result (wanted_at now places.now.entries ≢ []) }
 {
     let mut found = Vec::new(alloc);
     for index in 0..places.len() {

@@ -79,8 +79,8 @@ side-heard x c e rest notices core linked a side =
           let dj = At-mapped cid_of x.core.channels j q.cid cj in
           side.cids_once i j di.0 dj.0 di.1 dj.1 (sym di.2 ∙ same ∙ dj.2);
       ioids_once = a.ioids_once;
-      user = subst (λ (t : List ℕ). length t < 1048576) (sym a.user_is) side.user;
-      host = subst (λ (t : List ℕ). length t < 1048576) (sym a.host_is) side.host;
+      user = subst (λ (t : List ℕ). length t < 16777216) (sym a.user_is) side.user;
+      host = subst (λ (t : List ℕ). length t < 16777216) (sym a.host_is) side.host;
       wanted = λ i p at. side.wanted i p (subst (λ (t : List ℕ). At t i p) a.wanted_is at);
       link = λ g is. (let z : Some (record e { input = rest }) ≡ Some g = sym a.link_is ∙ is in let p : e.priority ≡ g.priority = same_priority (record e { input = rest }) g z in let le = side.link e linked in omega (arith, p, le));
       idle = λ is. absurd (some_none core.link (record e { input = rest }) a.link_is is);

@@ -25,7 +25,7 @@ use Rattle.ca_small_runs.proofs.Serves.{keeps-cut-server, keeps-server-step}
 
 -- ---- the opening world
 
-side-new : (user host : List ℕ) → length user < 1048576 → length host < 1048576 → SideHolds (new_side (user, host))
+side-new : (user host : List ℕ) → length user < 16777216 → length host < 16777216 → SideHolds (new_side (user, host))
 side-new user host u h =
     record {
       names_are = refl;

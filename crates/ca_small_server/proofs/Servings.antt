@@ -1,23 +1,23 @@
 -- What holds between two messages, message by message and write by write.
 use Rattle.ca_text.specs.Place.{At}
-use Rattle.std.proofs.Common.{◌≡◌, ℕ, ◌<◌, ◌⊎◌, Bool, true, false, length-append, List, [], ◌∷◌, ◌++◌, length, take, drop, refl, sym, ap, ◌∙◌, subst, arith, append_assoc}
-use Rattle.std.specs.Prelude.{Result, Ok, Err, IsErrAnd}
+use Rattle.std.proofs.Common.{◌≡◌, ℕ, ◌<◌, ◌⊎◌, inl, inr, Bool, true, false, length-append, List, [], ◌∷◌, ◌++◌, length, take, drop, refl, sym, ap, ◌∙◌, subst, arith, append_assoc}
+use Rattle.std.specs.Prelude.{None, Some, Result, Ok, Err, IsErrAnd}
 use Rattle.std.specs.List.{concat}
 use Rattle.ca_text.specs.declared.refusal.Refusal.{Refusal}
 use Rattle.ca_text.specs.declared.refusal.Refusal.TheVariants.{OutOfMemory, Misaligned, TooLarge, CircuitClosed, Device}
 use Rattle.std.proofs.lemmas.List.{append-nil, take-append-drop}
 use Rattle.ca_wire.specs.Fields.{Fields}
 use Rattle.ca_wire.specs.Message.{Spells, spelled}
-use Rattle.ca_wire.specs.Stream.{BadAt, Begins, Held}
-use Rattle.ca_wire.specs.Reading.{Nexts, Takes}
+use Rattle.ca_wire.specs.Stream.{BadAt, Begins, Held, NoneBegins, NotBad}
+use Rattle.ca_wire.specs.Reading.{Closes, Nexts, Takes}
 use Rattle.ca_wire.proofs.Messages.{spells-long}
 use Rattle.ca_text.specs.Limits.{engine_turns}
 use Rattle.ca_link.specs.Steps.{Moves}
 use Rattle.ca_records.specs.Record.{RecordState}
 use Rattle.ca_small_model.specs.Answer.{Exchange, asked_in}
 use Rattle.ca_small_circuit.proofs.Serving.{answer-more, asked-more, serves-more, serves-none}
-use Rattle.ca_small_server.specs.End.{End, HandlesOne, IsAmong}
-use Rattle.ca_small_server.specs.Serving.{BreaksAt, Drains, Flushes, Partly, Serving, ServesOn}
+use Rattle.ca_small_server.specs.End.{AreKnown, End, HandlesOne, IsAmong}
+use Rattle.ca_small_server.specs.Serving.{BreaksAt, Comes, Drains, DrainsAll, DrainsToBad, Flushes, IsFlushed, Partly, Rests, Serving, ServesOn}
 
 -- one more chunk was moved
 pub moves-more : {S : Type 0} (step : S → List ℕ → S → Type 0) (s t u : S) (chunks : List (List ℕ)) (chunk : List ℕ) → Moves step s chunks t → step t chunk u → Moves step s (chunks ++ chunk ∷ []) u
@@ -132,7 +132,7 @@ device-error (Ok x) h = absurd h
 device-error (Err e) h = ap (λ (x : Refusal). Err x) h
 
 -- the same refusal
-pub same-error : (r : Result (Unit {0}) Refusal) (e : Refusal) → IsErrAnd r (λ x. x ≡ e) → r ≡ Err e
+pub same-error : {A : Type 0} (r : Result A Refusal) (e : Refusal) → IsErrAnd r (λ x. x ≡ e) → r ≡ Err e
 same-error (Ok x) e h = absurd h
 same-error (Err x) e h = ap (λ (y : Refusal). Err y) h
 
@@ -142,41 +142,102 @@ takes-less held held' m t =
     let e : length held.bytes ≡ length (t.front ++ held'.bytes) = ap (λ (b : List ℕ). length b) t.bytes in
     omega (arith, e, length-append t.front held'.bytes, spells-long m t.front t.spells)
 
--- the reader refused
-pub drains-refused : {K : Type 0} (takes : K → List ℕ → K → Type 0) (faults : K → ℕ) (records : List RecordState) (k k' : K) (held0 held held' : Held) (e0 e : End) (turns : ℕ) (refusal : Refusal) → ServesOn takes records k held0.bytes e0 k' held.bytes e
-    → held.closed ≡ false → e.output ≡ [] → faults k' ≡ faults k → Nexts held (Err refusal) held' → Drains takes faults records k k' held0 held' e0 e turns (Err refusal)
-drains-refused takes faults records k k' held0 held held' e0 e turns OutOfMemory serves still sent same n =
-    (same, λ k0 bytes s. partly-here takes records k0 bytes k' held.bytes e (serves k0 bytes s))
-drains-refused takes faults records k k' held0 held held' e0 e turns Misaligned serves still sent same n =
+-- a flush of one byte or more leaves nothing
+pub flushed-all : (e e' : End) → IsFlushed 1 e e' → e' ≡ record e { output = [] }
+flushed-all e e' (inl is) = is
+flushed-all e e' (inr few) = few.1 ∙ ap (λ (t : List ℕ). record e { output = t }) (none e.output few.0)
+  where
+    none : (xs : List ℕ) → length xs < 1 → xs ≡ []
+    none [] h = refl
+    none (x ∷ xs) h = absurd (omega (arith, h))
+
+-- no message is complete, and what waited was handed over
+pub comes-none : {K : Type 0} (takes : K → List ℕ → K → Type 0) (faults : K → ℕ) (records : List RecordState) (k k' : K) (held held' : Held) (e e' : End) (turns : ℕ) (u : Unit {0}) → Nexts held (Ok None) held' → Flushes takes faults records 1 k k' e e' turns (Ok u)
+    → Rests takes faults records k k' held held' e e'
+comes-none takes faults records k k' held held' e e' turns u n f =
+    let same : held' ≡ held = n.3 in
+    record {
+      serves = λ k0 bytes s. subst (λ (h : Held). Serving takes records k0 bytes k' h.bytes e') (sym same) (f.2 held.bytes k0 bytes s);
+      whole = subst (λ (h : Held). NoneBegins h.bytes) (sym same) n.1;
+      good = subst (λ (h : Held). NotBad h.bytes) (sym same) n.2;
+      open_still = ap (λ (h : Held). h.closed) same ∙ n.0;
+      left = flushed-all e e' f.1;
+      faultless = f.0;
+    }
+
+-- the next header is bad, and what waited was handed over
+comes-bad : {K : Type 0} (takes : K → List ℕ → K → Type 0) (faults : K → ℕ) (records : List RecordState) (k k' : K) (held held' : Held) (e e' : End) (turns : ℕ) (u : Unit {0}) (r : Refusal) → Closes held r held' → Flushes takes faults records 1 k k' e e' turns (Ok u)
+    → DrainsToBad takes faults records k k' held held' e e' r
+comes-bad takes faults records k k' held held' e e' turns u r n f =
     let is : held.bytes ≡ held'.bytes = ap (λ (h : Held). h.bytes) (sym n.closed) in
     record {
-      serves = λ k0 bytes s. subst (λ (b : List ℕ). Serving takes records k0 bytes k' b e) is (serves k0 bytes s);
-      bad = subst (λ (b : List ℕ). BadAt b Misaligned) is n.bad;
-      sent = sent;
-      faultless = same;
+      serves = λ k0 bytes s. subst (λ (b : List ℕ). Serving takes records k0 bytes k' b e') is (f.2 held.bytes k0 bytes s);
+      bad = subst (λ (b : List ℕ). BadAt b r) is n.bad;
+      sent = ap (λ (x : End). x.output) (flushed-all e e' f.1);
+      faultless = f.0;
     }
-drains-refused takes faults records k k' held0 held held' e0 e turns TooLarge serves still sent same n =
-    let is : held.bytes ≡ held'.bytes = ap (λ (h : Held). h.bytes) (sym n.closed) in
-    record {
-      serves = λ k0 bytes s. subst (λ (b : List ℕ). Serving takes records k0 bytes k' b e) is (serves k0 bytes s);
-      bad = subst (λ (b : List ℕ). BadAt b TooLarge) is n.bad;
-      sent = sent;
-      faultless = same;
-    }
-drains-refused takes faults records k k' held0 held held' e0 e turns CircuitClosed serves still sent same n = absurd (not_both held.closed n.0 still)
+
+-- the reader refused, and what waited was handed over
+pub comes-refused : {K : Type 0} (takes : K → List ℕ → K → Type 0) (faults : K → ℕ) (records : List RecordState) (k k' : K) (held held' : Held) (e e' : End) (turns : ℕ) (u : Unit {0}) (refusal : Refusal) → held.closed ≡ false → Nexts held (Err refusal) held'
+    → Flushes takes faults records 1 k k' e e' turns (Ok u) → Comes takes faults records k k' held held' e e' turns (Err refusal)
+comes-refused takes faults records k k' held held' e e' turns u OutOfMemory still n f =
+    (f.0, λ k0 bytes s. partly-here takes records k0 bytes k' held.bytes e' (f.2 held.bytes k0 bytes s))
+comes-refused takes faults records k k' held held' e e' turns u Misaligned still n f = comes-bad takes faults records k k' held held' e e' turns u Misaligned n f
+comes-refused takes faults records k k' held held' e e' turns u TooLarge still n f = comes-bad takes faults records k k' held held' e e' turns u TooLarge n f
+comes-refused takes faults records k k' held held' e e' turns u CircuitClosed still n f = absurd (not_both held.closed n.0 still)
   where
     not_both : (b : Bool) → b ≡ true → b ≡ false → ⊥
     not_both b t f = cc
-drains-refused takes faults records k k' held0 held held' e0 e turns _ serves still sent same n = absurd n
+comes-refused takes faults records k k' held held' e e' turns u _ still n f = absurd n
+
+-- what waited could not be handed over
+pub comes-stopped : {K : Type 0} (takes : K → List ℕ → K → Type 0) (faults : K → ℕ) (records : List RecordState) (k k' : K) (held held' : Held) (e e' : End) (turns : ℕ) (refusal : Refusal) → Flushes takes faults records 1 k k' e e' turns (Err refusal)
+    → Comes takes faults records k k' held held' e e' turns (Err refusal)
+comes-stopped takes faults records k k' held held' e e' turns Device f = (f.0, f.1 held.bytes)
+comes-stopped takes faults records k k' held held' e e' turns _ f = absurd f
+
+-- no next message came
+pub drains-stopped : {K : Type 0} (takes : K → List ℕ → K → Type 0) (faults : K → ℕ) (records : List RecordState) (k0 k k' : K) (held0 held held' : Held) (e0 e e' : End) (turns : ℕ) (refusal : Refusal) → ServesOn takes records k0 held0.bytes e0 k held.bytes e → faults k ≡ faults k0
+    → Comes takes faults records k k' held held' e e' turns (Err refusal) → Drains takes faults records k0 k' held0 held' e0 e' turns (Err refusal)
+drains-stopped takes faults records k0 k k' held0 held held' e0 e e' turns OutOfMemory serves same c =
+    (c.0 ∙ same, λ start bytes s. c.1 start bytes (serves start bytes s))
+drains-stopped takes faults records k0 k k' held0 held held' e0 e e' turns Misaligned serves same c =
+    record { serves = λ start bytes s. c.serves start bytes (serves start bytes s); bad = c.bad; sent = c.sent; faultless = c.faultless ∙ same }
+drains-stopped takes faults records k0 k k' held0 held held' e0 e e' turns TooLarge serves same c =
+    record { serves = λ start bytes s. c.serves start bytes (serves start bytes s); bad = c.bad; sent = c.sent; faultless = c.faultless ∙ same }
+drains-stopped takes faults records k0 k k' held0 held held' e0 e e' turns Device serves same c =
+    (elim c.0 [ inl risen ↦ inl (subst (λ (n : ℕ). n < faults k') same risen) | inr used ↦ inr used ], λ start bytes s. c.1 start bytes (serves start bytes s))
+drains-stopped takes faults records k0 k k' held0 held held' e0 e e' turns _ serves same c = absurd c
+
+-- all messages were answered
+pub drains-all : {K : Type 0} (takes : K → List ℕ → K → Type 0) (faults : K → ℕ) (records : List RecordState) (k0 k k' : K) (held0 held held' : Held) (e0 e e' : End) → ServesOn takes records k0 held0.bytes e0 k held.bytes e → faults k ≡ faults k0 → AreKnown records e.slots
+    → Rests takes faults records k k' held held' e e' → DrainsAll takes faults records k0 k' held0 held' e0 e'
+drains-all takes faults records k0 k k' held0 held held' e0 e e' serves same known c =
+    record {
+      serves = λ start bytes s. c.serves start bytes (serves start bytes s);
+      whole = c.whole;
+      good = c.good;
+      open_still = c.open_still;
+      sent = ap (λ (x : End). x.output) c.left;
+      known = subst (λ (x : End). AreKnown records x.slots) (sym c.left) known;
+      faultless = c.faultless ∙ same;
+    }
+
+-- a flush keeps the channels
+pub flushed-known : (records : List RecordState) (least : ℕ) (e e' : End) → IsFlushed least e e' → AreKnown records e.slots → AreKnown records e'.slots
+flushed-known records least e e' (inl is) known = subst (λ (x : End). AreKnown records x.slots) (sym is) known
+flushed-known records least e e' (inr few) known = subst (λ (x : End). AreKnown records x.slots) (sym few.1) known
 
 -- what a flush that failed leaves
-pub flush-failed : {K : Type 0} (takes : K → List ℕ → K → Type 0) (faults : K → ℕ) (records : List RecordState) (k k' : K) (e e' : End) (turns : ℕ) (refusal : Refusal) → Flushes takes faults records k k' e e' turns (Err refusal)
+pub flush-failed : {K : Type 0} (takes : K → List ℕ → K → Type 0) (faults : K → ℕ) (records : List RecordState) (least : ℕ) (k k' : K) (e e' : End) (turns : ℕ) (refusal : Refusal) → Flushes takes faults records least k k' e e' turns (Err refusal)
     → (refusal ≡ Device) × ((faults k < faults k') ⊎ (turns ≡ engine_turns)) × ((rest : List ℕ) → BreaksAt takes records k rest e k')
-flush-failed takes faults records k k' e e' turns Device f = (refl, f.0, f.1)
-flush-failed takes faults records k k' e e' turns _ f = absurd f
+flush-failed takes faults records least k k' e e' turns Device f = (refl, f.0, f.1)
+flush-failed takes faults records least k k' e e' turns _ f = absurd f
 
 -- the next message is taken and handled
-pub serves-next : {K : Type 0} (takes : K → List ℕ → K → Type 0) (records : List RecordState) (k k' : K) (start : List ℕ) (held held' : Held) (e0 e new : End) (m : Fields) → ServesOn takes records k start e0 k' held.bytes e → Takes held m held' → HandlesOne records e m new
-    → ServesOn takes records k start e0 k' held'.bytes new
-serves-next takes records k k' start held held' e0 e new m serves t handles =
-    λ k0 bytes s. serving-message takes records k0 bytes k' held.bytes t.front held'.bytes m e new t.bytes t.spells handles (serves k0 bytes s)
+pub serves-next : {K : Type 0} (takes : K → List ℕ → K → Type 0) (faults : K → ℕ) (records : List RecordState) (k0 k k' : K) (start : List ℕ) (held held' : Held) (e0 e e' new : End) (m : Fields) (turns : ℕ) → ServesOn takes records k0 start e0 k held.bytes e
+    → Comes takes faults records k k' held held' e e' turns (Ok (Some m)) → HandlesOne records e' m new → ServesOn takes records k0 start e0 k' held'.bytes new
+serves-next takes faults records k0 k k' start held held' e0 e e' new m turns serves c handles =
+    let t = c.0 in
+    let handled = subst (λ (x : End). HandlesOne records x m new) c.2 handles in
+    λ first bytes s. subst (λ x. Serving takes records first bytes x held'.bytes new) (sym c.1) (serving-message takes records first bytes k held.bytes t.front held'.bytes m e new t.bytes t.spells handled (serves first bytes s))

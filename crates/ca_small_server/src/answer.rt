@@ -3,19 +3,19 @@ ghost use Rattle.ca_text.specs.Limits.{engine_turns};
 ghost use Rattle.ca_records.specs.Record.{RecordState};
 ghost use Rattle.ca_small_server.specs.Answering.{Answers};
 ghost use Rattle.ca_small_server.specs.End.{AreKnown};
-ghost use Rattle.ca_small_server.specs.Serving.{Drains, Flushes};
+ghost use Rattle.ca_small_server.specs.Serving.{Comes, Drains, Flushes};
 
 use crate::circuit::Circuit;
 use ca_link::{Sink, Source};
 use ca_records::Records;
-use ca_text::{ENGINE_TURNS, Refusal};
-use ca_wire::Deframer;
+use ca_text::{ENGINE_TURNS, OUTPUT_LIMIT, Refusal};
+use ca_wire::{Deframer, Message};
 use std::alloc::Global;
 
 /// Bytes that are asked for in a read.
 const READ_SIZE: usize = 65_536;
 
-/// Serves one circuit: reads the messages that the source gives, and writes the replies to the sink after each message.
+/// Serves one circuit: reads the messages that the source gives, and writes the replies to the sink before it reads again.
 ///
 /// It ends without refusal at the end of input, also inside a message. 2 and 3 come at a bad header, after all messages
 /// before it were answered; 23 where the source or the sink failed, or another call of theirs is needed after 1,048,576
@@ -49,7 +49,8 @@ pub fn answer_stream<S: Source, K: Sink>(
     Err(Refusal::Device)
 }
 
-/// Answers the messages that the reader holds, and writes the replies to each.
+/// Answers the messages that the reader holds, and hands the replies to the sink: as soon as many wait, and before it
+/// ends, but for those that wait when there is no memory.
 fn drain<K: Sink>(
     input: &mut Deframer,
     circuit: &mut Circuit,
@@ -68,24 +69,58 @@ fn drain<K: Sink>(
     ensures within { turns.new ≤ engine_turns }
     ensures calls { K.call_count sink.new + turns.old ≡ K.call_count sink.old + turns.new }
 {
-    while let Some(message) = input.next_message()? {
+    while let Some(message) = next(input, circuit, sink, turns)? {
         circuit.handle(records, &message)?;
-        flush(circuit, sink, turns)?;
+        flush(circuit, sink, turns, OUTPUT_LIMIT)?;
     }
     Ok(())
 }
 
-/// Hands what waits to the sink in one call, or makes none where nothing waits.
-fn flush<K: Sink>(circuit: &mut Circuit, sink: &mut K, turns: &mut u64) -> Result<(), Refusal>
+/// The next message. Where none is complete, or the next is bad, all that waits was handed to the sink first.
+fn next<K: Sink>(
+    input: &mut Deframer,
+    circuit: &mut Circuit,
+    sink: &mut K,
+    turns: &mut u64,
+) -> Result<Option<Message>, Refusal>
+    requires reads { input.old.closed ≡ false }
     requires within { turns.old ≤ engine_turns }
     requires calls { K.call_count sink.old < 2 ^ 63 + turns.old }
     requires faults { K.fault_count sink.old < 2 ^ 63 }
-    ensures flushes { (records : List RecordState) → Flushes K.takes K.fault_count records sink.old sink.new circuit.old circuit.new turns.new result }
+    ensures comes { (records : List RecordState) → Comes K.takes K.fault_count records sink.old sink.new input.old input.new circuit.old circuit.new turns.new result }
     ensures rises { turns.old ≤ turns.new }
     ensures within { turns.new ≤ engine_turns }
     ensures calls { K.call_count sink.new + turns.old ≡ K.call_count sink.old + turns.new }
 {
-    if circuit.output().is_empty() {
+    match input.next_message() {
+        Ok(Some(message)) => Ok(Some(message)),
+        Ok(None) => {
+            flush(circuit, sink, turns, 1)?;
+            Ok(None)
+        }
+        Err(refusal) => {
+            flush(circuit, sink, turns, 1)?;
+            Err(refusal)
+        }
+    }
+}
+
+/// Hands what waits to the sink in one call, or makes none where fewer bytes wait than the least.
+fn flush<K: Sink>(
+    circuit: &mut Circuit,
+    sink: &mut K,
+    turns: &mut u64,
+    least: usize,
+) -> Result<(), Refusal>
+    requires within { turns.old ≤ engine_turns }
+    requires calls { K.call_count sink.old < 2 ^ 63 + turns.old }
+    requires faults { K.fault_count sink.old < 2 ^ 63 }
+    ensures flushes { (records : List RecordState) → Flushes K.takes K.fault_count records least sink.old sink.new circuit.old circuit.new turns.new result }
+    ensures rises { turns.old ≤ turns.new }
+    ensures within { turns.new ≤ engine_turns }
+    ensures calls { K.call_count sink.new + turns.old ≡ K.call_count sink.old + turns.new }
+{
+    if circuit.output().len() < least {
         return Ok(());
     }
     if *turns == ENGINE_TURNS {

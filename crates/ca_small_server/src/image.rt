@@ -21,7 +21,7 @@ fn first_zero(payload: &[u8]) -> Option<usize>
 
 /// Writes so many zero bytes at the end.
 pub fn put_zeros(out: &mut Vec<u8>, n: usize) -> Result<(), AllocError>
-    requires { n ≤ 1048576 }
+    requires { n ≤ 16777216 }
     ensures ok { OnOk result (out.new.items ≡ out.old.items ++ replicate n 0) }
     ensures err { OnErr result (out.new.items ≡ out.old.items) }
 {

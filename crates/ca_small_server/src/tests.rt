@@ -1,7 +1,7 @@
 use crate::ServerCore;
 use ca_dbr::Value;
-use ca_small_model::{Closing, ServerStep};
 use ca_records::Records;
+use ca_small_model::{Closing, ServerStep};
 use ca_text::Refusal;
 use std::alloc::Global;
 use std::test::Fail;
@@ -151,6 +151,28 @@ fn reads_of_other_types_are_answered(rt: HostRuntime) -> Result<(), Fail> {
     Ok(())
 }
 
+/// BIG, of 262,144 DOUBLEs of which one is present, is read complete: its bytes are more than a mebibyte.
+#[test]
+fn a_great_value_is_read(rt: HostRuntime) -> Result<(), Fail> {
+    let mut records = Records::new(rt.alloc());
+    let value = Value::Doubles(vec![in rt.alloc(); 0; 1]?);
+    records.define(b"BIG", 262_144, false, value)?;
+    let mut server = ServerCore::new(rt.alloc(), records);
+    server.accept();
+    server.give(b"\0\x12\0\x08\0\0\0\0\0\x01\0\0\0\0\0\x0dBIG\0\0\0\0\0")?;
+    handle(&mut server)?;
+    send_all(&mut server);
+    server.give(b"\0\x0f\xff\xff\0\x06\0\0\0\x01\0\0\0\x01\0\0\0\0\0\0\0\x04\0\0")?;
+    handle(&mut server)?;
+    let mut expected = Vec::from_slice(
+        rt.alloc(),
+        b"\0\x0f\xff\xff\0\x06\0\0\0\0\0\x01\0\x01\0\0\0\x20\0\0\0\x04\0\0",
+    )?;
+    expected.resize(24 + 2_097_152, 0)?;
+    assert!(rt; server.out_bytes() == expected.as_slice());
+    Ok(())
+}
+
 #[test]
 fn a_request_comes_byte_by_byte(rt: HostRuntime) -> Result<(), Fail> {
     let mut server = server_of_temp(rt.alloc())?;
@@ -178,7 +200,7 @@ fn a_bad_header_closes(rt: HostRuntime) -> Result<(), Fail> {
             Closing::Misaligned,
         ),
         (
-            b"\0\x04\xff\xff\0\x05\0\0\0\x01\0\0\0\0\0\0\0\x10\0\x08\0\0\0\x01",
+            b"\0\x04\xff\xff\0\x05\0\0\0\x01\0\0\0\0\0\0\x01\0\0\x08\0\0\0\x01",
             Closing::TooLarge,
         ),
     ];

@@ -1,9 +1,9 @@
--- The numbers of refusals.
-use Rattle.std.specs.Prelude.{ℕ}
+-- The numbers and names of refusals.
+use Rattle.std.specs.Prelude.{ℕ, List, [], ◌++◌, codes, decimal}
 use Rattle.ca_text.specs.declared.refusal.Refusal.{Refusal}
-use Rattle.ca_text.specs.declared.refusal.Refusal.TheVariants.{OutOfMemory, Misaligned, TooLarge, BadType, Short, NoConvert, OutOfRange, BadText, ArenaFull, StaleHandle, Draining, NameLength, NotLive, NoAccess, BadCount, Disconnected, CircuitClosed, TooManySubscriptions, DatagramTooLong, UnknownRecord, NotBusy, BadEvent, Device, NoCell, BadPriority, OutputFull, ServerRefused}
+use Rattle.ca_text.specs.declared.refusal.Refusal.TheVariants.{OutOfMemory, Misaligned, TooLarge, BadType, Short, NoConvert, OutOfRange, BadText, ArenaFull, StaleHandle, Draining, NameLength, NotLive, NoAccess, BadCount, Disconnected, CircuitClosed, TooManySubscriptions, DatagramTooLong, UnknownRecord, NotBusy, BadEvent, Device, NoCell, BadPriority, OutputFull, ServerRefused, RecordExists}
 
--- the number by which a program prints a refusal
+-- the number that a program prints first
 abbrev pub refusal_number : Refusal → ℕ
 refusal_number OutOfMemory = 1
 refusal_number Misaligned = 2
@@ -32,3 +32,44 @@ refusal_number NoCell = 24
 refusal_number BadPriority = 25
 refusal_number OutputFull = 26
 refusal_number (ServerRefused _) = 27
+refusal_number RecordExists = 28
+
+-- the name that it prints after it
+abbrev pub refusal_name : Refusal → List ℕ
+refusal_name OutOfMemory = codes "OutOfMemory"
+refusal_name Misaligned = codes "Misaligned"
+refusal_name TooLarge = codes "TooLarge"
+refusal_name BadType = codes "BadType"
+refusal_name Short = codes "Short"
+refusal_name NoConvert = codes "NoConvert"
+refusal_name OutOfRange = codes "OutOfRange"
+refusal_name BadText = codes "BadText"
+refusal_name ArenaFull = codes "ArenaFull"
+refusal_name StaleHandle = codes "StaleHandle"
+refusal_name Draining = codes "Draining"
+refusal_name NameLength = codes "NameLength"
+refusal_name NotLive = codes "NotLive"
+refusal_name NoAccess = codes "NoAccess"
+refusal_name BadCount = codes "BadCount"
+refusal_name Disconnected = codes "Disconnected"
+refusal_name CircuitClosed = codes "CircuitClosed"
+refusal_name TooManySubscriptions = codes "TooManySubscriptions"
+refusal_name DatagramTooLong = codes "DatagramTooLong"
+refusal_name UnknownRecord = codes "UnknownRecord"
+refusal_name NotBusy = codes "NotBusy"
+refusal_name BadEvent = codes "BadEvent"
+refusal_name Device = codes "Device"
+refusal_name NoCell = codes "NoCell"
+refusal_name BadPriority = codes "BadPriority"
+refusal_name OutputFull = codes "OutputFull"
+refusal_name (ServerRefused _) = codes "ServerRefused"
+refusal_name RecordExists = codes "RecordExists"
+
+-- the status of the server, where it has one
+abbrev pub reason : Refusal → List ℕ
+reason (ServerRefused status) = codes " " ++ decimal status.number
+reason _ = []
+
+-- what it prints: its number, its name, and the server's status where it has one
+abbrev pub refusal_text : Refusal → List ℕ
+refusal_text r = decimal (refusal_number r) ++ codes " " ++ refusal_name r ++ reason r

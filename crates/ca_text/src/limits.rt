@@ -2,7 +2,7 @@
 pub const MINOR_VERSION: u16 = 13;
 
 /// Bytes of a payload, at most.
-pub const PAYLOAD_LIMIT: usize = 1_048_576;
+pub const PAYLOAD_LIMIT: usize = 16_777_216;
 
 /// Bytes of a datagram that is written, at most.
 pub const DATAGRAM_LIMIT: usize = 1_024;
@@ -21,6 +21,9 @@ pub const CHANNEL_LIMIT: usize = 65_536;
 
 /// Slots of an arena, and so channels, requests or subscriptions of one table.
 pub const ARENA_SLOTS: usize = 65_536;
+
+/// The last generation of an index, and of a cell of the board.
+pub const LAST_GENERATION: u32 = 4_294_967_295;
 
 /// Cells of the board on which outcomes pass between threads.
 pub const BOARD_CELLS: usize = 1_024;

@@ -1,5 +1,5 @@
 ghost use Rattle.std.specs.Prelude.{◌≡◌, ℕ};
-ghost use Rattle.ca_text.specs.Refusal.{refusal_number};
+ghost use Rattle.ca_text.specs.Refusal.{refusal_name, refusal_number};
 
 use crate::status::Status;
 use std::alloc::{AllocError, AllocFailed};
@@ -34,7 +34,7 @@ pub enum Refusal {
     StaleHandle,
     /// A wire id that may still come back.
     Draining,
-    /// A name that is empty, too long, or has a zero byte; or one that is there already.
+    /// A name that is empty, too long, or has a zero byte.
     NameLength,
     /// The channel is not live.
     NotLive,
@@ -66,6 +66,8 @@ pub enum Refusal {
     OutputFull,
     /// The server answered with this status.
     ServerRefused(Status),
+    /// A record of this name is served now.
+    RecordExists,
 }
 
 impl Refusal {
@@ -101,10 +103,14 @@ impl Refusal {
             Refusal::BadPriority => 25,
             Refusal::OutputFull => 26,
             Refusal::ServerRefused(_) => 27,
+            Refusal::RecordExists => 28,
         }
     }
 
-    fn name(self) -> &'static str {
+    // The name that is printed after it.
+    fn name(self) -> &'static str
+        ensures { result.now ≡ refusal_name self }
+    {
         match self {
             Refusal::OutOfMemory => "OutOfMemory",
             Refusal::Misaligned => "Misaligned",
@@ -133,11 +139,17 @@ impl Refusal {
             Refusal::BadPriority => "BadPriority",
             Refusal::OutputFull => "OutputFull",
             Refusal::ServerRefused(_) => "ServerRefused",
+            Refusal::RecordExists => "RecordExists",
         }
     }
 }
 
 impl fmt::Display for Refusal {
+    ghost use Rattle.std.specs.Prelude.{Some};
+    ghost use Rattle.ca_text.specs.Refusal.{refusal_text};
+
+    ghost output = { λ r. Some (refusal_text r) };
+
     fn fmt<W: fmt::Write>(&self, f: &mut fmt::Formatter<W>) -> fmt::Result {
         let number = self.number();
         let name = self.name();

@@ -52,6 +52,10 @@ impl Status {
 }
 
 impl fmt::Display for Status {
+    ghost use Rattle.std.specs.Prelude.{Some, decimal};
+
+    ghost output = { λ s. Some (decimal s.number) };
+
     fn fmt<W: fmt::Write>(&self, f: &mut fmt::Formatter<W>) -> fmt::Result {
         let number = self.number;
         write!(f, "{number}")

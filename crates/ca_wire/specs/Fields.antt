@@ -10,7 +10,7 @@ pub record Fields : Type 0 where
   pub p2 : ℕ
   pub payload : List ℕ
 
--- a payload has a multiple of 8 bytes, at most 1,048,576
+-- a payload has a multiple of 8 bytes, at most 16,777,216
 pub record IsPayload (payload : List ℕ) : Type 0 where
   pub aligned : length payload % 8 ≡ 0
   pub within : length payload ≤ payload_limit

@@ -5,3 +5,4 @@ pub mod Front
 pub mod Stream
 pub mod Reading
 pub mod Traces
+pub mod Messages

@@ -9,7 +9,7 @@ use ca_text::{PAYLOAD_LIMIT, Refusal};
 use std::alloc::{AllocError, Global};
 use std::marker::Model;
 
-/// A message: its header's fields, and a payload of at most 1,048,576 bytes, a multiple of 8 of them.
+/// A message: its header's fields, and a payload of at most 16,777,216 bytes, a multiple of 8 of them.
 #[derive(Debug, Drop)]
 pub struct Message {
     command: u16,

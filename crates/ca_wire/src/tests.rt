@@ -128,6 +128,11 @@ fn messages_are_read(rt: HostRuntime) {
             bytes: b"\x00\x0f\xff\xff\x00\x05\x12\x34\0\0\0\x01\0\0\0\x02\0\0\0\x08\0\0\0",
             one: One::More,
         },
+        // A payload of the greatest size, none of which came.
+        Read {
+            bytes: b"\x00\x04\xff\xff\x00\x05\x00\x00\0\x01\0\0\0\0\0\0\x01\0\0\0\0\0\0\x01",
+            one: One::More,
+        },
     ];
     for row in &rows {
         assert!(rt; read_one(row.bytes) == row.one);
@@ -144,7 +149,7 @@ fn bad_sizes_are_refused(rt: HostRuntime) {
         },
         // A size of 8 over the limit.
         Read {
-            bytes: b"\x00\x04\xff\xff\x00\x05\x00\x00\0\x01\0\0\0\0\0\0\0\x10\0\x08\0\0\0\x01",
+            bytes: b"\x00\x04\xff\xff\x00\x05\x00\x00\0\x01\0\0\0\0\0\0\x01\0\0\x08\0\0\0\x01",
             one: One::Bad(Refusal::TooLarge),
         },
     ];
@@ -165,7 +170,7 @@ fn a_payload_is_padded(rt: HostRuntime) -> Result<(), Fail> {
         out.as_slice(),
         b"\x00\x12\x00\x08\x00\x00\x00\x00\0\x01\0\0\0\0\0\x0dTEMP\0\0\0\0".as_slice()
     );
-    let long = vec![in rt.alloc(); 0u8; 1_048_577]?;
+    let long = vec![in rt.alloc(); 0u8; 16_777_217]?;
     assert!(rt; matches!(Message::new(18, 0, 0, 0, 0, long), Err(Refusal::TooLarge)));
     Ok(())
 }

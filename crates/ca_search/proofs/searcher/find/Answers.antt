@@ -1,5 +1,5 @@
 use Rattle.std.proofs.Common.{sym, arith, refl}
-use Rattle.ca_search.proofs.Entries.{wanted-due, wanted-end, wanted-later}
+use Rattle.ca_search.proofs.Entries.{on_err, wanted-due, wanted-some, wanted-end, wanted-later}
 use Rattle.ca_search.proofs.searcher.find.Goals as goal
 use Rattle.ca_search.proofs.searcher.find.Goals.{then-is_due+in_ok-search+in_ok-push, else-is_due}
 
@@ -17,5 +17,13 @@ loop-index-preserved c =
           (wanted-later c.args.now c.args.places.now.entries c.loop-index.index (c.in-Some.cid.now, c.in-Some.place.now) c.loop-index.found.items (sym c.in-Some.ensures.entry) (sym w.if-is_due.ensures) c.loop-index.invariant)
     ]
 
-pub returns : goal.returns
-returns c = wanted-end c.args.now c.args.places.now.entries c.loop-index.index c.loop-index.found.items (omega (arith, c.len-index-end.ensures.len, c.loop-index-test.false)) c.loop-index.invariant
+pub returns-clause-found : goal.returns-clause-found
+returns-clause-found c = wanted-end c.args.now c.args.places.now.entries c.loop-index.index c.loop-index.found.items (omega (arith, c.len-index-end.ensures.len, c.loop-index-test.false)) c.loop-index.invariant
+
+pub returns-in_err-search-clause-some : goal.returns-in_err-search-clause-some
+returns-in_err-search-clause-some c =
+    on_err c.from_residual.result (wanted-some c.args.now c.args.places.now.entries c.loop-index.index (c.in-Some.cid.now, c.in-Some.place.now) c.loop-index.found.items (sym c.in-Some.ensures.entry) (sym c.if-is_due.ensures) c.loop-index.invariant)
+
+pub returns-in_err-push-clause-some : goal.returns-in_err-push-clause-some
+returns-in_err-push-clause-some c =
+    on_err c.from_residual-in_err-push.result (wanted-some c.args.now c.args.places.now.entries c.loop-index.index (c.in-Some.cid.now, c.in-Some.place.now) c.loop-index.found.items (sym c.in-Some.ensures.entry) (sym c.if-is_due.ensures) c.loop-index.invariant)

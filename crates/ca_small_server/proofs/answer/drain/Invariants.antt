@@ -1,4 +1,4 @@
-use Rattle.std.proofs.Common.{◌≡◌, ◌+◌, ◌≤◌, [], false, length}
+use Rattle.std.proofs.Common.{◌≡◌, ◌+◌, ◌≤◌, false, length}
 use Rattle.ca_text.specs.Limits.{engine_turns}
 use Rattle.ca_small_server.specs.End.{AreKnown}
 use Rattle.ca_small_server.specs.Serving.{ServesOn}
@@ -8,7 +8,6 @@ abbrev pub invariant-loop-message : goal.invariant-loop-message
 invariant-loop-message g l = record {
   serves : ServesOn g.K.Sink.takes l.records l.fn.sink l.fn.input.bytes l.fn.circuit l.sink l.input.bytes l.circuit;
   reads : l.input.closed ≡ false;
-  sent : l.circuit.output ≡ [];
   known : AreKnown l.records l.circuit.slots;
   rises : l.fn.turns ≤ l.turns;
   within : l.turns ≤ engine_turns;

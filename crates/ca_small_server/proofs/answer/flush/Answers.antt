@@ -12,7 +12,7 @@ returns-in_err-write-clause-flushes g c = λ records.
     let k' = c.write.new.self in
     let took = rw c.output-2.ensures at c.in_err-write.ensures.begun.1 in
     let risen : g.K.Sink.fault_count c.args.sink.now < g.K.Sink.fault_count k' = (let f = c.in_err-write.ensures.faults in omega (arith, f)) in
-    subst (λ (r : Result (Unit {0}) Refusal). Flushes g.K.Sink.takes g.K.Sink.fault_count records c.args.sink.now k' e e (c.args.turns.now + 1) r) (sym (device-error c.from_residual.result c.from_residual.ensures.1))
+    subst (λ (r : Result (Unit {0}) Refusal). Flushes g.K.Sink.takes g.K.Sink.fault_count records c.args.least c.args.sink.now k' e e (c.args.turns.now + 1) r) (sym (device-error c.from_residual.result c.from_residual.ensures.1))
     (inl risen, λ rest k0 bytes s. partly-write g.K.Sink.takes records k0 bytes c.args.sink.now k' rest e c.in_err-write.ensures.begun.0 took s)
 
 pub returns-clause-flushes : goal.returns-clause-flushes
@@ -21,7 +21,7 @@ returns-clause-flushes g c = λ records.
     let k' = c.write.new.self in
     let took = rw c.output-2.ensures at c.in_ok-write.ensures.taken in (
       (let f = c.in_ok-write.ensures.faults in omega (arith, f)),
-      c.sent.ensures,
+      inl c.sent.ensures,
       λ rest k0 bytes s.
           subst (λ (x : End). Serving g.K.Sink.takes records k0 bytes k' rest x) (sym c.sent.ensures) (serving-write g.K.Sink.takes records k0 bytes c.args.sink.now k' rest e took s),
     )

@@ -1,7 +1,7 @@
 use Rattle.std.proofs.Common.{◌+◌, refl, length, reverse, ◌∙◌, ap, arith}
 use Rattle.std.proofs.lemmas.Bool.{ne_eqb}
 use Rattle.std.proofs.lemmas.List.{length_push}
-use Rattle.ca_arena.specs.declared.handle.TheConstants.{LAST_GENERATION}
+use Rattle.ca_text.specs.Limits.{last_generation}
 use Rattle.ca_arena.proofs.Places.{reverse_push}
 use Rattle.ca_arena.proofs.Slots.{vacated}
 use Rattle.ca_arena.proofs.arena.Arena.remove.Goals as goal
@@ -28,7 +28,7 @@ invariant_of-self-2 g c =
     let read = rw c.from.ensures at c.index_mut.ensures.value in
     let freed = c.self.inside.freed.items in
     let moved = ap reverse c.push_reserved.ensures.items ∙ reverse_push freed c.args.handle.index in
-    let still = ne_eqb c.args.handle.generation LAST_GENERATION c.if-handle-eq-LAST_GENERATION.false in
+    let still = ne_eqb c.args.handle.generation last_generation c.if-handle-eq-LAST_GENERATION.false in
     let after = vacated c.self.inside.slots.items freed c.push_reserved.new.self.items c.args.handle _ c.self.inside.retired _ _ _ _ c.self.invariant alive read c.vacate-value.ensures.value c.vacate-value.ensures.vacant (rw still moved) (omega (arith, ap length c.push_reserved.ensures.items, length_push freed c.args.handle.index)) in
     rw (c.from.ensures, c.push_reserved.ensures.capacity) after.laid_out
 
@@ -38,6 +38,6 @@ returns g c =
     let read = rw c.from.ensures at c.index_mut.ensures.value in
     let freed = c.self.inside.freed.items in
     let moved = ap reverse c.push_reserved.ensures.items ∙ reverse_push freed c.args.handle.index in
-    let still = ne_eqb c.args.handle.generation LAST_GENERATION c.if-handle-eq-LAST_GENERATION.false in
+    let still = ne_eqb c.args.handle.generation last_generation c.if-handle-eq-LAST_GENERATION.false in
     let after = vacated c.self.inside.slots.items freed c.push_reserved.new.self.items c.args.handle _ c.self.inside.retired _ _ _ _ c.self.invariant alive read c.vacate-value.ensures.value c.vacate-value.ensures.vacant (rw still moved) (omega (arith, ap length c.push_reserved.ensures.items, length_push freed c.args.handle.index)) in
     rw (← c.self.view_is, c.from.ensures) (after.found, after.contents)

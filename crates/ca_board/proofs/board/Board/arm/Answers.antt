@@ -1,5 +1,5 @@
 use Rattle.std.proofs.Common.{◌≡◌, arith, refl, sym, ap, ◌∙◌, subst, ℕ, ◌<◌, ◌+◌, ◌*◌}
-use Rattle.ca_text.specs.declared.limits.TheConstants.{BOARD_CELLS}
+use Rattle.ca_text.specs.Limits.{board_cells}
 use Rattle.ca_board.specs.History.{IsNext, IsStock, InUse}
 use Rattle.ca_board.specs.Views.{CoreView, with_arm, IsDue}
 use Rattle.ca_board.proofs.After.{core_sound, core_seen, inside_snoc, armed_after}
@@ -9,7 +9,7 @@ use Rattle.ca_board.proofs.board.Board.arm.Goals as goal
 
 pub returns-in_default : goal.returns-in_default
 returns-in_default c = let none = nothing_left c.core.inside.free.items (let k = c.core.inside.free.ok in let z = c.in_default.ensures.cases.0 in omega arith) in
-    (refl, c.core.view_is, subst (λ (v : CoreView). (k : ℕ) → k < BOARD_CELLS → InUse v.arms v.recycles k) c.core.view_is (none_free _ _ (subst (IsStock _ _) none c.core.invariant.stock)))
+    (refl, c.core.view_is, subst (λ (v : CoreView). (k : ℕ) → k < board_cells → InUse v.arms v.recycles k) c.core.view_is (none_free _ _ (subst (IsStock _ _) none c.core.invariant.stock)))
 
 pub store-requires : goal.store-requires
 store-requires c = let z = c.self.invariant in let s = subst (IsStock _ _) c.in-Some.ensures.items c.core.invariant.stock in let n = last_next _ _ _ _ s in let near = n.0 in let g = c.from.ensures in

@@ -16,7 +16,7 @@ returns c =
           let at : c.if-over-ne0.payload.items ≡ bytes = rw w.payload-is refl in
           at ∙ sym (padded-none bytes (omega (arith, w.if-over-ne0.false)))
     ] in
-    let within : length bytes ≤ 1048576 = omega (arith, c.if-len-gt-PAYLOAD_LIMIT.false, c.len.ensures, c.args.payload.ok) in
+    let within : length bytes ≤ 16777216 = omega (arith, c.if-len-gt-PAYLOAD_LIMIT.false, c.len.ensures, c.args.payload.ok) in
     let payload : IsPayload c.if-over-ne0.payload.items = rw filled (padded-payload bytes within) in
     let made : List ℕ → Fields = λ t. record { command = c.args.command; data_type = c.args.data_type; count = c.args.count; p1 = c.args.p1; p2 = c.args.p2; payload = t } in
     (message-of (made c.if-over-ne0.payload.items) (omega arith) (omega arith) (omega arith) (omega arith) (omega arith) payload, ap made filled)

@@ -1,0 +1,68 @@
+-- Vocabulary: the records of a server with the puts that make them busy or wait (section "CA_PROTO_WRITE_NOTIFY").
+use Rattle.std.specs.Prelude.{ℕ, ◌≡◌, ◌+◌, ◌==◌, Bool, not, List, [], ◌∷◌, ◌++◌, Option, Some, None, filter, find, if◌then◌else◌, map}
+use Rattle.std.specs.Str.{bytes_eq}
+use Rattle.ca_arena.specs.declared.handle.Handle.{Handle}
+use Rattle.ca_dbr.specs.declared.value.Meta.{Meta}
+use Rattle.ca_dbr.specs.Elements.{Elements}
+use Rattle.ca_records.specs.Record.{RecordState}
+
+-- a time stamp, as it goes with an applied write: seconds and nanoseconds
+pub record Stamp : Type 0 where
+  pub seconds : ℕ
+  pub nanos : ℕ
+
+-- a put with notification: its circuit and its channel, by their handles, and what its reply needs of its header
+pub record Put : Type 0 where
+  pub circuit : Handle
+  pub channel : Handle
+  pub data_type : ℕ
+  pub count : ℕ
+  pub ioid : ℕ
+
+-- a put that waits, and its value, converted to the type of its record
+pub record WaitingPut : Type 0 where
+  pub put : Put
+  pub value : Elements
+
+-- A record, the put that made it busy, and the puts that wait, in the order in which they came.
+pub record Record : Type 0 where
+  pub state : RecordState
+  pub busy : Option Put
+  pub waiting : List WaitingPut
+
+-- a record as it begins
+abbrev pub new_record : RecordState → Record
+new_record s = record { state = s; busy = None; waiting = [] }
+
+-- the record of this name
+abbrev pub record_named : List Record → List ℕ → Option Record
+record_named records name = find (λ (r : Record). bytes_eq r.state.name name) records
+
+-- the records with the one of this name changed
+abbrev pub with_record : List ℕ → (Record → Record) → List Record → List Record
+with_record name f records = map (λ (r : Record). if bytes_eq r.state.name name then f r else r) records
+
+-- the metadata of an applied write: no alarm, and the stamp
+abbrev pub written_meta : Stamp → Meta
+written_meta s = record { status = 0; severity = 0; seconds = s.seconds; nanos = s.nanos }
+
+-- the record with this value
+abbrev pub with_value : Elements → Meta → Record → Record
+with_value e meta r = record r { state = record r.state { value = e; meta = meta } }
+
+-- the record with this put, which waits after the others
+abbrev pub with_waiting : WaitingPut → Record → Record
+with_waiting p r = record r { waiting = r.waiting ++ p ∷ [] }
+
+-- The busy put is finished: the next that waits is applied with this stamp and makes the record busy, or the record is free.
+abbrev pub finished : Stamp → Record → List WaitingPut → Record
+finished s r [] = record r { busy = None; waiting = [] }
+finished s r (p ∷ ps) = record (with_value p.value (written_meta s) r) { busy = Some p.put; waiting = ps }
+
+-- the records without the waiting puts that the test names
+abbrev pub withdrawn : (Put → Bool) → List Record → List Record
+withdrawn which records = map (λ (r : Record). record r { waiting = filter (λ (p : WaitingPut). not (which p.put)) r.waiting }) records
+
+-- the records without the one of this name
+abbrev pub removed : List ℕ → List Record → List Record
+removed name records = filter (λ (r : Record). not (bytes_eq r.state.name name)) records
