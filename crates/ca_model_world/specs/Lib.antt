@@ -1,0 +1,3 @@
+pub mod Events
+pub mod World
+pub mod ServerEvents
