@@ -1,3 +1,5 @@
 pub mod Speech
 pub mod History
 pub mod Ends
+pub mod Answers
+pub mod Client
