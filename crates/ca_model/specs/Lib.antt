@@ -9,3 +9,5 @@ pub mod Updates
 pub mod ServerSteps
 pub mod ServerCalls
 pub mod Answer
+pub mod Answers
+pub mod Client

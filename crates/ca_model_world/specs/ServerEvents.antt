@@ -1,6 +1,6 @@
 -- Statement: what a server's calls and steps leave of a world: the core's answer, and how lists and logs grow (sections "Virtual
 -- Circuit", "CA Protocol Messages" and "Monitors").
-use Rattle.std.specs.Prelude.{ℕ, ◌≡◌, ◌<◌, ◌≤◌, ◌+◌, ◌==◌, ◌&&◌, ◌++◌, ◌⊎◌, Bool, true, false, not, List, [], ◌∷◌, Option, Some, None, Ok, Err, Result, cond, filter, filter_map, if◌then◌else◌, is_some, length, map, option_map, slice_get, slice_index_or, slice_set, unwrap_or}
+use Rattle.std.specs.Prelude.{ℕ, ◌≡◌, ◌≢◌, ◌<◌, ◌≤◌, ◌+◌, ◌==◌, ◌&&◌, ◌++◌, ◌⊎◌, Bool, true, false, not, List, [], ◌∷◌, Option, Some, None, Ok, Err, Result, drop, filter, if◌then◌else◌, is_some, length, map, nat_lt, option_and_then, option_map, option_to_list, slice_get, slice_set, take, unwrap_or}
 use Rattle.std.specs.List.{flat_map, fold, list_any}
 use Rattle.std.specs.Str.{bytes_eq}
 use Rattle.ca_arena.specs.declared.handle.Handle.{Handle}
@@ -14,21 +14,23 @@ use Rattle.ca_queue.specs.Queue.{Queue, added, posted, switched, with_front_take
 use Rattle.ca_queue.specs.Waiting.{front}
 use Rattle.ca_records.specs.Puts.{Put, Record, WaitingPut, record_named}
 use Rattle.ca_records.specs.Record.{RecordState, unset}
+use Rattle.ca_text.specs.Command.{command_number}
+use Rattle.ca_text.specs.declared.command.Command.TheVariants as command
 use Rattle.ca_text.specs.declared.refusal.Refusal.{Refusal}
+use Rattle.ca_text.specs.declared.refusal.Refusal.TheVariants as refusal
 use Rattle.ca_text.specs.Limits.{queue_subscriptions}
 use Rattle.ca_text.specs.Place.{At}
 use Rattle.ca_wire.specs.Fields.{Fields}
 use Rattle.ca_model.specs.Due.{Action, Adds, Applies, Clears, Drops, Switches, Waits}
-use Rattle.ca_model.specs.Ends.{Address}
-use Rattle.ca_model.specs.History.{Cause, Circuit, Entry, Removal, Reply, Step, Told}
+use Rattle.ca_model.specs.Ends as why
+use Rattle.ca_model.specs.History.{Cause, Entry, Removal, Reply, Sent, Step, Told}
 use Rattle.ca_model.specs.History as entry
 use Rattle.ca_model.specs.Server.{Ended, Open, OpenChannel, Server, ServerCircuit, ServerEnd, Subscription, concerns, key_of, queue_posted, without_each}
 use Rattle.ca_model.specs.ServerCalls.{AddsRecord, AnswersDatagram, Finish, Finishes, Posts, Removes, channels_of, disconnects}
-use Rattle.ca_model.specs.ServerSteps.{Cuts, Handles, HasEnd, NeedsMemory, Next, Pumps, Reaches, Stepped, StepsOpen, Update, closed, stored_now, write_mask}
+use Rattle.ca_model.specs.ServerSteps.{Cuts, Handles, HasEnd, NeedsMemory, Next, Pumps, Reaches, Stepped, StepsOpen, Update, closed, output_of, stored_now, write_mask}
 use Rattle.ca_model.specs.ServerSteps as stepped
 use Rattle.ca_model.specs.Speech.{In, Stored}
-use Rattle.ca_wire.specs.Messages.{disconnect}
-use Rattle.ca_model_world.specs.World.{Joined, Joins, PutPlace, RecordSide, ServerSide, Standing, World, log_length, numbered, server_begun, log_begun, with_circuit, with_entries, with_server}
+use Rattle.ca_model_world.specs.World.{Joined, Joins, PutPlace, RecordSide, ServerSide, Standing, World, log_begun, log_length, record_begun, server_begun, with_circuit, with_entries, with_server}
 
 -- ---- ends at a server that ended
 
@@ -239,7 +241,7 @@ pub record StepLacks (w : World) (k : ℕ) (j : Joined) (y : ServerSide) (left :
 -- A step of the server's end of a circuit: it takes a message, or none, or closes the circuit.
 abbrev pub ServerStepped : World → (k : ℕ) → Joined → ServerSide → Stepped → World → Type 0
 ServerStepped w k j y stepped.Handled new = StepHandles w k j y new
-ServerStepped w k j y (stepped.Closed Rattle.ca_model.specs.Ends.OutOfMemory left) new = StepLacks w k j y left new
+ServerStepped w k j y (stepped.Closed why.OutOfMemory left) new = StepLacks w k j y left new
 ServerStepped w k j y (stepped.Closed why left) new =
     (e : ServerEnd) × HasEnd y.core j.at_server e × StepsOpen y.core j.at_server e (stepped.Closed why left) (closed j.at_server y.core)
     × (new ≡ server_after j.server y (ends_here k j left j.server y.core) (closed j.at_server y.core) w)
@@ -251,7 +253,7 @@ HappensServerStep w k j y new = (did : Stepped) × ServerStepped w k j y did new
 
 -- the front of a queue of numbers
 abbrev pub front_number : List (Queue (ℕ × Cause)) → (queue : ℕ) → Option (ℕ × Cause)
-front_number queues n = option_map (λ (w : SubKey × (ℕ × Cause)). w.1) (Rattle.std.specs.Prelude.option_and_then (λ (q : Queue (ℕ × Cause)). front q.waiting) (slice_get queues n))
+front_number queues n = option_map (λ (w : SubKey × (ℕ × Cause)). w.1) (option_and_then (λ (q : Queue (ℕ × Cause)). front q.waiting) (slice_get queues n))
 
 -- The updates that left the queues, each with the number that was in front beside it; and the circuit without these numbers.
 abbrev pub stamped : List Update → Joined → Joined
@@ -286,4 +288,131 @@ HappensPost w i y name e mask new =
     × ((Posts y.core name v mask gone (Ok tt) core
     × (let mid : World = with_entries y.life (posted_entry y name v mask) (record w { circuits = map (numbers_posted i y.core name mask) w.circuits }) in
     new ≡ server_after i y (ends_by i core) core mid))
-    ⊎ ((r : Refusal) × (r Rattle.std.specs.Prelude.≢ Rattle.ca_text.specs.declared.refusal.Refusal.TheVariants.OutOfMemory) × Posts y.core name v mask gone (Err r) core × (new ≡ w)))
+    ⊎ ((r : Refusal) × (r ≢ refusal.OutOfMemory) × Posts y.core name v mask gone (Err r) core × (new ≡ w)))
+
+-- ---- finishes
+
+-- the first of a list
+abbrev pub first_of : {A : Type 0} → List A → Option A
+first_of [] = None
+first_of (x ∷ xs) = Some x
+
+-- a record's busy put is finished: the next that waits makes it busy, or none
+abbrev pub next_busy : RecordSide → RecordSide
+next_busy r = record r { busy = first_of r.waiting; waiting = drop 1 r.waiting }
+
+-- the log has the finish, and the next put as applied
+abbrev pub finish_entries : ServerSide → RecordSide → List WaitingPut → List Entry
+finish_entries y r puts = map finished_at (option_to_list r.busy) ++ next_entries (first_of puts) (first_of r.waiting) where
+  finished_at : PutPlace → Entry
+  finished_at p = entry.Finished p.circuit p.place
+  next_entries : Option WaitingPut → Option PutPlace → List Entry
+  next_entries (Some v) (Some p) = entry.Applied p.circuit p.place r.number (stored_now y.core v.value) true ∷ []
+  next_entries v p = []
+
+-- the reply to a finished put goes down, about the place at which that came
+abbrev pub replied_at : PutPlace → List (Handle × Fields) → World → World
+replied_at p sent w =
+    unwrap_or (option_map (λ (j : Joined). with_circuit p.circuit (record j { lists = record j.lists { down = j.lists.down ++ about p.place Reply (map (λ (s : Handle × Fields). s.1) sent) } }) w) (slice_get w.circuits p.circuit)) w
+
+-- the subscriptions of a record see the next put, if there is one
+abbrev pub next_numbers : (i : ℕ) → Server → List ℕ → List WaitingPut → Joined → Joined
+next_numbers i core name [] j = j
+next_numbers i core name (p ∷ ps) j = numbers_posted i core name write_mask j
+
+-- A record's busy put is finished, and the next is applied.
+pub record Finished (w : World) (i : ℕ) (y : ServerSide) (name : List ℕ) (new : World) : Type 0 where
+  pub sent : List (Handle × Fields)
+  pub core : Server
+  pub finishes : Finishes y.core name sent (Ok tt) core
+  pub cr : Record
+  pub named : record_named y.core.records name ≡ Some cr
+  pub r : RecordSide
+  pub at : (place : ℕ) × At y.records place r × (r.name ≡ name)
+  pub p : PutPlace
+  pub busy : r.busy ≡ Some p
+  pub leaves :
+      let side : ServerSide = record y { records = with_record name next_busy y.records } in
+      let mid : World = with_entries y.life (finish_entries y r cr.waiting) (with_server i side (record w { circuits = map (next_numbers i y.core name cr.waiting) w.circuits })) in
+      new ≡ server_after i side (ends_by i core) core (replied_at p sent mid)
+
+-- A finish: of a record that is busy; refused, nothing changes.
+abbrev pub HappensFinish : World → (i : ℕ) → ServerSide → (name : List ℕ) → World → Type 0
+HappensFinish w i y name new =
+    Finished w i y name new ⊎ ((e : Refusal) × Finishes y.core name [] (Err e) y.core × (new ≡ w))
+
+-- ---- records come and go
+
+-- where the channel of this handle was created on a circuit: the place of its CREATE_CHAN
+abbrev pub place_of_cid : (cid : ℕ) → Joined → ℕ
+place_of_cid cid j = last_creation 0 0 j.lists.up where
+  last_creation : ℕ → ℕ → List Sent → ℕ
+  last_creation found place [] = found
+  last_creation found place (s ∷ sent) =
+      if nat_lt place (length j.lists.handled) && (s.message.command == command_number command.CreateChannel && s.message.p1 == cid) then last_creation place (place + 1) sent else last_creation found (place + 1) sent
+
+-- the SERVER_DISCONNs that went down on a circuit, each about the CREATE_CHAN of its channel
+abbrev pub removal_told : List Fields → Joined → Joined
+removal_told ms j = record j {
+  lists = record j.lists { down = j.lists.down ++ map (λ (m : Fields). record { message = m; place = place_of_cid m.p1 j; cause = Removal }) ms };
+}
+
+-- of the SERVER_DISCONNs due at an end those that went down: all, or the beginning that an end left which ended
+abbrev pub disconnects_at : List ℕ → (gone : Handle → Bool) → (left : Handle → ℕ) → Handle → Option ServerCircuit → List Fields
+disconnects_at name gone left h (Some (Open e)) = if gone h then take (left h) (disconnects name e) else disconnects name e
+disconnects_at name gone left h c = []
+
+-- the SIDs of the channels of a record at an end
+abbrev pub sids_of : List ℕ → Option ServerCircuit → List ℕ
+sids_of name (Some (Open e)) = map (λ (c : Handle × OpenChannel). wire_of c.0) (channels_of name e)
+sids_of name c = []
+
+-- a circuit of server i after the removal: its SERVER_DISCONNs went down, and the subscriptions of the record are over
+abbrev pub removed_at : (i : ℕ) → Server → List ℕ → (gone : Handle → Bool) → (left : Handle → ℕ) → Joined → Joined
+removed_at i core name gone left j =
+    let c : Option ServerCircuit = under core.circuits j.at_server in
+    let sids : List ℕ = sids_of name c in
+    let told : Joined = removal_told (disconnects_at name gone left j.at_server c) j in
+    if j.server == i && j.lists.server_open then without_standing (λ (k : SubKey). list_any (λ (sid : ℕ). k.sid == sid) sids) told else j
+
+-- the log has the removal of this record, and its waiting puts as withdrawn
+abbrev pub removal_entries : List ℕ → List RecordSide → List Entry
+removal_entries name records =
+    flat_map (λ (r : RecordSide). entry.Removed r.number ∷ map (λ (p : PutPlace). entry.Withdrawn p.circuit p.place) r.waiting) (filter (λ (r : RecordSide). bytes_eq r.name name) records)
+
+-- A record is removed; refused, nothing changes.
+abbrev pub HappensRemove : World → (i : ℕ) → ServerSide → (name : List ℕ) → World → Type 0
+HappensRemove w i y name new =
+    (gone : Handle → Bool) × (left : Handle → ℕ) × (core : Server)
+    × ((Removes y.core name gone left (Ok tt) core
+    × (let side : ServerSide = record y { records = filter (λ (r : RecordSide). not (bytes_eq r.name name)) y.records } in
+    let mid : World = with_entries y.life (removal_entries name y.records) (with_server i side (record w { circuits = map (removed_at i y.core name gone left) w.circuits })) in
+    new ≡ server_after i side (ends_by i core) core mid))
+    ⊎ (Removes y.core name gone left (Err refusal.UnknownRecord) core × (new ≡ w)))
+
+-- A record is added, with a number that no record of this life had; refused, nothing changes.
+abbrev pub HappensAdd : World → (i : ℕ) → ServerSide → RecordState → World → Type 0
+HappensAdd w i y r new =
+    (core : Server)
+    × ((AddsRecord y.core r (Ok tt) core
+    × (let side : ServerSide = record y { core = core; records = y.records ++ record_begun y.added r ∷ []; added = y.added + 1 } in
+    new ≡ with_entries y.life (entry.Added y.added r ∷ []) (with_server i side w)))
+    ⊎ ((e : Refusal) × (e ≢ refusal.OutOfMemory) × AddsRecord y.core r (Err e) core × (new ≡ w)))
+
+-- ---- datagrams and restarts
+
+-- A datagram comes to a server, which answers it and is as it was.
+abbrev pub HappensServerDatagram : World → ServerSide → List ℕ → World → Type 0
+HappensServerDatagram w y bytes new = (datagrams : List (List ℕ)) × AnswersDatagram y.core bytes (Ok datagrams) × (new ≡ w)
+
+-- what a circuit's open end at a server leaves when that begins anew, untold
+abbrev pub ends_untold : (i : ℕ) → Server → Joined → Option (List ℕ)
+ends_untold i core j = if j.server == i && j.lists.server_open then Some (output_of (under core.circuits j.at_server)) else None
+
+-- A server begins a new life, with its records as they were given.
+abbrev pub HappensServerRestart : World → (i : ℕ) → ServerSide → World → Type 0
+HappensServerRestart w i y new =
+    new ≡ with_server i (server_begun (length w.server_logs) y.setting) (record w {
+      circuits = map (ending (ends_untold i y.core)) w.circuits;
+      server_logs = w.server_logs ++ log_begun y.setting ∷ [];
+    })

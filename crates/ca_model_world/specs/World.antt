@@ -8,7 +8,7 @@ use Rattle.ca_records.specs.Record.{IsRecord, RecordState}
 use Rattle.ca_records.specs.Rules.{Rule}
 use Rattle.ca_text.specs.Place.{At}
 use Rattle.ca_text.specs.Limits.{payload_limit}
-use Rattle.ca_model.specs.Client.{Client, new_client}
+use Rattle.ca_model.specs.Client.{Client}
 use Rattle.ca_model.specs.Ends.{Address, Peer}
 use Rattle.ca_model.specs.History.{Cause, Circuit, Entry, Added, Intent, Line, Sent, Step, Told}
 use Rattle.ca_model.specs.History as history
@@ -128,6 +128,9 @@ numbered n f (x ∷ xs) = f n x ∷ numbered (n + 1) f xs
 -- no handle names anything yet
 abbrev pub no_names : Names
 no_names = record { channels = []; requests = []; subscriptions = []; writes = 0 }
+
+abbrev pub new_client : Peer → List Address → List Address → ℕ → Client
+new_client peer servers name_servers now = record { peer = peer; servers = servers; moment = now; channels = []; requests = []; subscriptions = []; circuits = []; order = []; issued = 0; searches = []; beacons = Rattle.std.specs.FinMap.empty }
 
 -- a client that begins this life now
 abbrev pub client_begun : (servers : List Address) → (moment life : ℕ) → ClientSetting → ClientSide

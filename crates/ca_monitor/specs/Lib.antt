@@ -1,0 +1,2 @@
+pub mod ReadRun
+pub mod Subscriptions

@@ -1,0 +1,2 @@
+//! A client's subscriptions: which are there, whose wire ids drain, and when the client asks for a pause of updates.
+#![tactic(auto)]

@@ -1,0 +1,66 @@
+-- Vocabulary: a client's requests, in their table of IOIDs (sections "CA_PROTO_READ_NOTIFY" and "CA_PROTO_WRITE_NOTIFY").
+use Rattle.std.specs.Prelude.{ℕ, ◌==◌, ◌&&◌, Bool, List, [], ◌∷◌, Option, Some, None, filter_map, fold, if◌then◌else◌, map, nat_lt, option_and_then}
+use Rattle.ca_text.specs.Command.{command_number}
+use Rattle.ca_text.specs.declared.command.Command.{Command}
+use Rattle.ca_text.specs.declared.command.Command.TheVariants as command
+use Rattle.ca_arena.specs.declared.handle.Handle.{Handle}
+use Rattle.ca_ids.specs.Table.{Table, by_wire, held, same_handle}
+
+-- what was asked: a read, of this type and count, or a put with notification
+pub data Asked : Type 0 where
+  Read : ℕ → ℕ → Asked
+  Put : Asked
+
+-- the command of its message, and of the reply
+abbrev pub command_of : Asked → Command
+command_of (Read data_type count) = command.ReadNotify
+command_of Put = command.WriteNotify
+
+-- A request is open, with its number in the order of issue; or it is over, and its IOID drains.
+pub data Stage : Type 0 where
+  Open : ℕ → Stage
+  Draining : Stage
+
+-- a request: the channel that it is on, the circuit on which it was sent, what was asked, and whether it is open
+pub record Request : Type 0 where
+  pub channel : Handle
+  pub circuit : Handle
+  pub asked : Asked
+  pub stage : Stage
+
+-- a request on this channel
+abbrev pub asks_on : Handle → Request → Bool
+asks_on channel q = same_handle q.channel channel
+
+-- a request that was sent on this circuit
+abbrev pub was_sent_on : Handle → Request → Bool
+was_sent_on circuit q = same_handle q.circuit circuit
+
+-- the request is over, and its IOID drains
+abbrev pub drained : Request → Request
+drained q = record q { stage = Draining }
+
+-- The request that a reply of this command and IOID on this circuit is about. A reply of another command is about none.
+abbrev pub answered_by : Handle → (command_read ioid : ℕ) → Table Request → Option (Handle × Request)
+answered_by circuit command_read ioid t =
+    option_and_then
+    (λ (e : Handle × Request). if was_sent_on circuit e.1 && command_number (command_of e.1.asked) == command_read then Some e else None)
+    (by_wire t ioid)
+
+-- ---- in order of issue
+
+-- a handle with its number of issue, while the request is open
+abbrev pub numbered : Handle → Stage → Option (Handle × ℕ)
+numbered h (Open number) = Some (h, number)
+numbered h Draining = None
+
+-- among requests in order of issue, this one in its place
+abbrev pub placed : List (Handle × ℕ) → Handle × ℕ → List (Handle × ℕ)
+placed [] q = q ∷ []
+placed (p ∷ ps) q = if nat_lt q.1 p.1 then q ∷ p ∷ ps else p ∷ placed ps q
+
+-- the open requests that the test names, in order of issue
+abbrev pub in_order_of_issue : (Request → Bool) → Table Request → List Handle
+in_order_of_issue which t =
+    let open_ones : List (Handle × ℕ) = filter_map (λ (e : Handle × Request). if which e.1 then numbered e.0 e.1.stage else None) (held t) in
+    map (λ (q : Handle × ℕ). q.0) (fold placed [] open_ones)
