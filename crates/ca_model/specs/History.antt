@@ -1,5 +1,6 @@
 -- Statement: what happened, as lists. The program keeps these lists beside its clients and servers.
 use Rattle.std.specs.Prelude.{ℕ, Bool, List, Option}
+use Rattle.ca_text.specs.declared.refusal.Refusal.{Refusal}
 use Rattle.ca_dbr.specs.declared.value.Outcome.{Outcome}
 use Rattle.ca_dbr.specs.Elements.{Elements}
 use Rattle.ca_records.specs.Record.{RecordState}
@@ -67,12 +68,14 @@ pub data Entry : Type 0 where
   Finished Withdrawn : ℕ → ℕ → Entry
 
 -- The log of a client's life: a channel was opened under a name; another call was accepted, with a value if it writes; a notice told
--- the outcome of an intent, or an update of a subscription; a request was collected or given up.
+-- the outcome of an intent, or an update of a subscription; a call was refused; a request was collected or given up, with its outcome
+-- if there was one.
 pub data Line : Type 0 where
   Opened : ℕ → List ℕ → Line
   Called : Intent → Option Elements → Line
   Noticed Updated : Intent → Outcome → Line
-  Collected GaveUp : ℕ → Line
+  Refused : Refusal → Line
+  Collected GaveUp : ℕ → Option Outcome → Line
 
 -- A world: its circuits, and the logs of all lives of its clients and its servers. A restart begins a new life.
 pub record World : Type 0 where

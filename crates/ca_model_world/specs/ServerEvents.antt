@@ -1,6 +1,6 @@
 -- Statement: what a server's calls and steps leave of a world: the core's answer, and how lists and logs grow (sections "Virtual
 -- Circuit", "CA Protocol Messages" and "Monitors").
-use Rattle.std.specs.Prelude.{ℕ, ◌≡◌, ◌≢◌, ◌<◌, ◌≤◌, ◌+◌, ◌==◌, ◌&&◌, ◌++◌, ◌⊎◌, Bool, true, false, not, List, [], ◌∷◌, Option, Some, None, Ok, Err, Result, drop, filter, if◌then◌else◌, is_some, length, map, nat_lt, option_and_then, option_map, option_to_list, slice_get, slice_set, take, unwrap_or}
+use Rattle.std.specs.Prelude.{ℕ, ◌≡◌, ◌≢◌, ◌<◌, ◌≤◌, ◌+◌, ◌==◌, ◌&&◌, ◌++◌, ◌⊎◌, Bool, true, false, not, List, [], ◌∷◌, Option, Some, None, Ok, Err, Result, drop, filter, find, if◌then◌else◌, is_some, length, map, nat_lt, option_and_then, option_map, option_to_list, slice_get, slice_set, take, unwrap_or}
 use Rattle.std.specs.List.{flat_map, fold, list_any}
 use Rattle.std.specs.Str.{bytes_eq}
 use Rattle.ca_arena.specs.declared.handle.Handle.{Handle}
@@ -21,16 +21,17 @@ use Rattle.ca_text.specs.declared.refusal.Refusal.TheVariants as refusal
 use Rattle.ca_text.specs.Limits.{queue_subscriptions}
 use Rattle.ca_text.specs.Place.{At}
 use Rattle.ca_wire.specs.Fields.{Fields}
-use Rattle.ca_model.specs.Due.{Action, Adds, Applies, Clears, Drops, Switches, Waits}
+use Rattle.ca_wire.specs.Messages.{disconnect}
+use Rattle.ca_model.specs.Due.{Action, Adds, Applies, Clears, Drops, Opens, Switches, Waits}
 use Rattle.ca_model.specs.Ends as why
 use Rattle.ca_model.specs.History.{Cause, Entry, Removal, Reply, Sent, Step, Told}
 use Rattle.ca_model.specs.History as entry
 use Rattle.ca_model.specs.Server.{Ended, Open, OpenChannel, Server, ServerCircuit, ServerEnd, Subscription, concerns, key_of, queue_posted, without_each}
-use Rattle.ca_model.specs.ServerCalls.{AddsRecord, AnswersDatagram, Finish, Finishes, Posts, Removes, channels_of, disconnects}
+use Rattle.ca_model.specs.ServerCalls.{AddsRecord, AnswersDatagram, Finish, Finishes, Posts, Removes, channels_of}
 use Rattle.ca_model.specs.ServerSteps.{Cuts, Handles, HasEnd, NeedsMemory, Next, Pumps, Reaches, Stepped, StepsOpen, Update, closed, output_of, stored_now, write_mask}
 use Rattle.ca_model.specs.ServerSteps as stepped
 use Rattle.ca_model.specs.Speech.{In, Stored}
-use Rattle.ca_model_world.specs.World.{Joined, Joins, PutPlace, RecordSide, ServerSide, Standing, World, log_begun, log_length, record_begun, server_begun, with_circuit, with_entries, with_server}
+use Rattle.ca_model_world.specs.World.{Creation, Joined, Joins, PutPlace, RecordSide, ServerSide, Standing, World, log_begun, log_length, record_begun, server_begun, with_circuit, with_entries, with_server}
 
 -- ---- ends at a server that ended
 
@@ -45,7 +46,7 @@ ends_by i core j = if j.server == i && j.lists.server_open then left_by (under c
 
 -- the circuit, whose end at the server has ended and left these bytes: nothing waits there now
 abbrev pub server_closed : List ℕ → Joined → Joined
-server_closed left j = record j { lists = record j.lists { server_open = false }; left_down = left; standing = []; queues = [] }
+server_closed left j = record j { lists = record j.lists { server_open = false }; left_down = left; creations = []; standing = []; queues = [] }
 
 -- each circuit that ends, as that
 abbrev pub ending : (Joined → Option (List ℕ)) → Joined → Joined
@@ -155,14 +156,16 @@ number_taken key item (q ∷ qs) =
 abbrev pub without_standing : (SubKey → Bool) → Joined → Joined
 without_standing gone j = record j { standing = filter (λ (s : Standing). not (gone s.key)) j.standing; queues = without_each gone j.queues }
 
--- what it does to the numbers that wait on its circuit
+-- what it does to the places and numbers of its circuit
 abbrev pub numbers_after : (place : ℕ) → Action → Joined → Joined
 numbers_after place (Adds s) j = record j {
   standing = j.standing ++ record { key = key_of s; place = place; posts = 1 } ∷ [];
   queues = number_taken (key_of s) (place, entry.Update 0) j.queues;
 }
+numbers_after place (Opens c) j = record j { creations = j.creations ++ record { sid = c.sid; place = place } ∷ [] }
 numbers_after place (Drops key) j = without_standing (same key) j
-numbers_after place (Clears sid) j = without_standing (λ (k : SubKey). k.sid == sid) j
+numbers_after place (Clears sid) j =
+    without_standing (λ (k : SubKey). k.sid == sid) (record j { creations = filter (λ (c : Creation). not (c.sid == sid)) j.creations })
 numbers_after place (Switches on) j = record j { queues = map (switched on) j.queues }
 numbers_after place action j = j
 
@@ -301,14 +304,14 @@ first_of (x ∷ xs) = Some x
 abbrev pub next_busy : RecordSide → RecordSide
 next_busy r = record r { busy = first_of r.waiting; waiting = drop 1 r.waiting }
 
--- the log has the finish, and the next put as applied
-abbrev pub finish_entries : ServerSide → RecordSide → List WaitingPut → List Entry
-finish_entries y r puts = map finished_at (option_to_list r.busy) ++ next_entries (first_of puts) (first_of r.waiting) where
-  finished_at : PutPlace → Entry
-  finished_at p = entry.Finished p.circuit p.place
-  next_entries : Option WaitingPut → Option PutPlace → List Entry
-  next_entries (Some v) (Some p) = entry.Applied p.circuit p.place r.number (stored_now y.core v.value) true ∷ []
-  next_entries v p = []
+-- the log has the finish of a put
+abbrev pub finish_entry : PutPlace → Entry
+finish_entry p = entry.Finished p.circuit p.place
+
+-- and the next put of this record, if one waits, as applied
+abbrev pub next_entries : ServerSide → RecordSide → Option WaitingPut → Option PutPlace → List Entry
+next_entries y r (Some v) (Some p) = entry.Applied p.circuit p.place r.number (stored_now y.core v.value) true ∷ []
+next_entries y r v p = []
 
 -- the reply to a finished put goes down, about the place at which that came
 abbrev pub replied_at : PutPlace → List (Handle × Fields) → World → World
@@ -333,7 +336,7 @@ pub record Finished (w : World) (i : ℕ) (y : ServerSide) (name : List ℕ) (ne
   pub busy : r.busy ≡ Some p
   pub leaves :
       let side : ServerSide = record y { records = with_record name next_busy y.records } in
-      let mid : World = with_entries y.life (finish_entries y r cr.waiting) (with_server i side (record w { circuits = map (next_numbers i y.core name cr.waiting) w.circuits })) in
+      let mid : World = with_entries y.life (finish_entry p ∷ next_entries y r (first_of cr.waiting) (first_of r.waiting)) (with_server i side (record w { circuits = map (next_numbers i y.core name cr.waiting) w.circuits })) in
       new ≡ server_after i side (ends_by i core) core (replied_at p sent mid)
 
 -- A finish: of a record that is busy; refused, nothing changes.
@@ -343,37 +346,25 @@ HappensFinish w i y name new =
 
 -- ---- records come and go
 
--- where the channel of this handle was created on a circuit: the place of its CREATE_CHAN
-abbrev pub place_of_cid : (cid : ℕ) → Joined → ℕ
-place_of_cid cid j = last_creation 0 0 j.lists.up where
-  last_creation : ℕ → ℕ → List Sent → ℕ
-  last_creation found place [] = found
-  last_creation found place (s ∷ sent) =
-      if nat_lt place (length j.lists.handled) && (s.message.command == command_number command.CreateChannel && s.message.p1 == cid) then last_creation place (place + 1) sent else last_creation found (place + 1) sent
+-- the place of the CREATE_CHAN of the open channel of this SID
+abbrev pub created_at : (sid : ℕ) → List Creation → ℕ
+created_at sid creations = unwrap_or (option_map (λ (c : Creation). c.place) (find (λ (c : Creation). c.sid == sid) creations)) 0
 
--- the SERVER_DISCONNs that went down on a circuit, each about the CREATE_CHAN of its channel
-abbrev pub removal_told : List Fields → Joined → Joined
-removal_told ms j = record j {
-  lists = record j.lists { down = j.lists.down ++ map (λ (m : Fields). record { message = m; place = place_of_cid m.p1 j; cause = Removal }) ms };
-}
+-- the SERVER_DISCONN of a channel went down, about its CREATE_CHAN
+abbrev pub removal_told : List Creation → Handle × OpenChannel → Told
+removal_told creations c = record { message = disconnect c.1.cid; place = created_at (wire_of c.0) creations; cause = Removal }
 
--- of the SERVER_DISCONNs due at an end those that went down: all, or the beginning that an end left which ended
-abbrev pub disconnects_at : List ℕ → (gone : Handle → Bool) → (left : Handle → ℕ) → Handle → Option ServerCircuit → List Fields
-disconnects_at name gone left h (Some (Open e)) = if gone h then take (left h) (disconnects name e) else disconnects name e
-disconnects_at name gone left h c = []
-
--- the SIDs of the channels of a record at an end
-abbrev pub sids_of : List ℕ → Option ServerCircuit → List ℕ
-sids_of name (Some (Open e)) = map (λ (c : Handle × OpenChannel). wire_of c.0) (channels_of name e)
-sids_of name c = []
+-- of the channels of a record at an end those whose SERVER_DISCONN went down: all, or the beginning that an end left which ended
+abbrev pub disconnected_at : List ℕ → (gone : Handle → Bool) → (left : Handle → ℕ) → Handle → Option ServerCircuit → List (Handle × OpenChannel)
+disconnected_at name gone left h (Some (Open e)) = if gone h then take (left h) (channels_of name e) else channels_of name e
+disconnected_at name gone left h c = []
 
 -- a circuit of server i after the removal: its SERVER_DISCONNs went down, and the subscriptions of the record are over
 abbrev pub removed_at : (i : ℕ) → Server → List ℕ → (gone : Handle → Bool) → (left : Handle → ℕ) → Joined → Joined
 removed_at i core name gone left j =
-    let c : Option ServerCircuit = under core.circuits j.at_server in
-    let sids : List ℕ = sids_of name c in
-    let told : Joined = removal_told (disconnects_at name gone left j.at_server c) j in
-    if j.server == i && j.lists.server_open then without_standing (λ (k : SubKey). list_any (λ (sid : ℕ). k.sid == sid) sids) told else j
+    let told : List (Handle × OpenChannel) = disconnected_at name gone left j.at_server (under core.circuits j.at_server) in
+    let over : SubKey → Bool = λ (k : SubKey). list_any (λ (c : Handle × OpenChannel). wire_of c.0 == k.sid) told in
+    if j.server == i && j.lists.server_open then without_standing over (record j { lists = record j.lists { down = j.lists.down ++ map (removal_told j.creations) told } }) else j
 
 -- the log has the removal of this record, and its waiting puts as withdrawn
 abbrev pub removal_entries : List ℕ → List RecordSide → List Entry

@@ -82,8 +82,14 @@ pub record Standing : Type 0 where
   pub place : ℕ
   pub posts : ℕ
 
+-- where a channel that is open at a server's end was created: its SID, and the place of its CREATE_CHAN
+pub record Creation : Type 0 where
+  pub sid : ℕ
+  pub place : ℕ
+
 -- A circuit: its client and its server, and the handles by which their cores know it; its lists; the bytes that ends which have ended
--- left; and at the server's end the subscriptions that stand and the queues, as the numbers of what waits there.
+-- left; and at the server's end where its open channels were created, the subscriptions that stand, and the queues, as the numbers of
+-- what waits there.
 pub record Joined : Type 0 where
   pub client : ℕ
   pub server : ℕ
@@ -92,6 +98,7 @@ pub record Joined : Type 0 where
   pub lists : Circuit
   pub left_up : List ℕ
   pub left_down : List ℕ
+  pub creations : List Creation
   pub standing : List Standing
   pub queues : List (Queue (ℕ × Cause))
 
