@@ -14,7 +14,6 @@ use Rattle.ca_arena.specs.declared.handle.Handle.{Handle}
 use Rattle.ca_ids.specs.Table.{IsFull, MayGive, Table, under, with_all, with_all_freed, with_changed, with_freed, with_held}
 use Rattle.ca_ids.specs.Wire.{wire_of}
 use Rattle.ca_search.specs.Clock.{fresh}
-use Rattle.ca_wire.specs.Fields.{Fields}
 use Rattle.ca_wire.specs.Messages.{Wanted, clear_request, event_add_request, event_cancel_request, put_request, read_request}
 use Rattle.ca_requests.specs.Requests.{Asked, Request, asks_on, drained}
 use Rattle.ca_requests.specs.Requests as request

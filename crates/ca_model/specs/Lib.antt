@@ -6,3 +6,4 @@ pub mod Client
 pub mod ChannelState
 pub mod ClientCalls
 pub mod Hears
+pub mod ClientEnds
