@@ -195,10 +195,11 @@ abbrev pub without_ids : Handle → Client → Client
 without_ids c x =
     record x { requests = with_all_freed (was_sent_on c) x.requests; subscriptions = with_all_freed (drains_on c) x.subscriptions }
 
--- The end of this circuit has ended: cleared channels are gone, the others are searched for again, in order of index; ids are free, and
--- subscriptions stay.
+-- The channels of a circuit that has ended: those that were cleared are gone, the others are searched for again.
+abbrev pub channels_ended : Handle → Client → Client
+channels_ended c x =
+    fold searched_again (fold without_channel x (channels_on is_cleared c x)) (channels_on (λ (p : Phase). not (is_cleared p)) c x)
+
+-- The end of this circuit has ended: its channels are searched for again, its ids are free, and subscriptions stay.
 abbrev pub ended : Handle → Client → Client
-ended c x =
-    let cleared : Client = fold without_channel (without_ids c x) (channels_on is_cleared c x) in
-    let searched : Client = fold searched_again cleared (channels_on (λ (p : Phase). not (is_cleared p)) c x) in
-    unwrap_or (option_map (λ (d : ClientCircuit). let_go c d searched) (under x.circuits c)) searched
+ended c x = unwrap_or (option_map (λ (d : ClientCircuit). let_go c d (channels_ended c (without_ids c x))) (under x.circuits c)) x

@@ -11,3 +11,7 @@ pub mod ServerCalls
 pub mod Answer
 pub mod Answers
 pub mod Client
+pub mod ChannelState
+pub mod ClientCalls
+pub mod Hears
+pub mod ClientEnds

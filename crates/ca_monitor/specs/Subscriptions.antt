@@ -1,7 +1,7 @@
 -- Vocabulary: a client's subscriptions, in their table of subscription ids (sections "CA_PROTO_EVENT_ADD" and "CA_PROTO_EVENT_CANCEL").
 use Rattle.std.specs.Prelude.{ℕ, ◌&&◌, Bool, true, false, Option, Some, None, if◌then◌else◌, option_and_then}
 use Rattle.ca_arena.specs.declared.handle.Handle.{Handle}
-use Rattle.ca_ids.specs.Table.{Table, by_wire, same_handle}
+use Rattle.ca_ids.specs.Table.{Table, by_wire, same_handle, under}
 
 -- A subscription stands; or its caller cancelled it on this circuit, and its id drains until the confirmation; or its id drains on this
 -- circuit until its channel's clear is answered.
@@ -65,3 +65,7 @@ confirmed_by circuit id t =
 -- the subscription of this id that stands
 abbrev pub standing_by : ℕ → Table Subscription → Option (Handle × Subscription)
 standing_by id t = option_and_then (λ (e : Handle × Subscription). if stands_in e.1.stage then Some e else None) (by_wire t id)
+
+-- the subscription of this handle, if it stands
+abbrev pub standing_under : Handle → Table Subscription → Option Subscription
+standing_under h t = option_and_then (λ (s : Subscription). if stands_in s.stage then Some s else None) (under t h)
