@@ -1,6 +1,6 @@
 -- Each of the histories breaks its clause.
-use Rattle.std.proofs.Common.{◌≡◌, ℕ, ◌<◌, ◌≤◌, ◌⊎◌, inl, inr, List, [], ◌∷◌, length, refl, sym, ap, subst, arith}
-use Rattle.std.specs.Prelude.{true, false, Some, take}
+use Rattle.std.proofs.Common.{◌≡◌, ℕ, ◌<◌, ◌≤◌, ◌⊎◌, inl, inr, List, [], ◌∷◌, length, refl, sym, ap, subst, ◌∙◌, arith}
+use Rattle.std.specs.Prelude.{true, false, Some, None, take}
 use Rattle.ca_text.specs.Place.{At}
 use Rattle.ca_text.specs.Status.{bad_channel, normal}
 use Rattle.ca_text.proofs.Places.{some_is}
@@ -9,13 +9,13 @@ use Rattle.ca_text.specs.declared.command.Command.TheVariants as command
 use Rattle.ca_dbr.specs.declared.value.Outcome.TheVariants as outcome
 use Rattle.ca_wire.specs.Fields.{Fields}
 use Rattle.ca_model.specs.Speech.{In, Is, Stored}
-use Rattle.ca_model.specs.History.{Circuit, Entry, Line, Sent, Told, Step, Added, Removed, Finished, Clear, On, Request, Read, Subscribe, Called, Noticed, Update}
+use Rattle.ca_model.specs.History.{Cause, Reply, Removal, Circuit, Entry, Line, Sent, Told, Step, Added, Removed, Finished, Clear, Intent, On, Request, Read, Subscribe, Called, Noticed, Update}
 use Rattle.ca_model_safe.specs.Channels.{IsFinished, IsReply, Lasts, OfCircuits}
 use Rattle.ca_model_safe.specs.Headline.{Acted, ActsOnRecord, Answered, AnswersOwn, IsBadChannel}
 use Rattle.ca_model_safe.specs.Means.{Means}
 use Rattle.ca_model.specs.Updates.{Shows}
 use Rattle.ca_model_examples.specs.Worlds.{AnyDue, Unsafe, adding, circuit, clearing, created_told, creating, disconnected, long, put_told, putting, reading, reply, step, temp, world}
-use Rattle.ca_model_examples.specs.Unsafe.{FollowsNot, SlowDue, UnsafeSlow, answered_cleared, answered_from_new, answered_put, answered_unfinished, answered_withdrawn, applied_early, applied_twice, disconnected_for_nothing, foreign_refusal, invented_answer, lost_for_nothing, read_twice, refused_for_nothing, unanswered_put, unsaid_creation, unsaid_refusal, update_of_refused, update_of_unhandled, updated, updates_sent}
+use Rattle.ca_model_examples.specs.Unsafe.{FollowsNot, SlowDue, UnsafeSlow, answered, answered_cleared, answered_from_new, answered_unfinished, answered_withdrawn, applied_early, applied_twice, cleared, cleared_lines, disconnected_for_nothing, finished_entries, for_nothing, foreign_refusal, from_new, gone_for_nothing, in_other_step, invented_answer, live_lines, lost_for_nothing, lost_lines, put_lines, read_lines, read_twice, refused_for_nothing, refused_write, temp_there, unanswered, unanswered_put, unanswered_read, unfinished_entries, unsaid_creation, unsaid_refusal, update_of_refused, update_of_unhandled, updated, updates_sent, withdrawn_entries, writing}
 use Rattle.ca_model_examples.proofs.Lists.{Each, each-at, none-at, one-at, two-at}
 
 pub zero-one : ◌≡◌ {A = ℕ} 0 1 → ⊥
@@ -23,8 +23,8 @@ zero-one e = omega (arith, e)
 
 -- what holds of each circuit of a world of two lives holds of this one and their two logs
 pub its-own :
-  (P : ℕ → Circuit → List Line → List Entry → Type 0) (cs : List Circuit) (x : List Line) (y : List Entry) → OfCircuits (world cs x y) P
-  → (n : ℕ) (c : Circuit) → At cs n c → c.client ≡ 0 → c.server ≡ 0 → P n c x y
+    (P : ℕ → Circuit → List Line → List Entry → Type 0) (cs : List Circuit) (x : List Line) (y : List Entry) → OfCircuits (world cs x y) P
+    → (n : ℕ) (c : Circuit) → At cs n c → c.client ≡ 0 → c.server ≡ 0 → P n c x y
 its-own P cs x y all n c at e f =
     let h = all n c at in
     let a : x ≡ h.0 = some_is x h.0 (subst (λ (k : ℕ). At (x ∷ []) k h.0) e h.2.1) in
@@ -53,8 +53,8 @@ no-removal e r at = let h = (one-at (Added 0 temp) e (Removed r) at).1 in cc
 
 pub never-disconnected : Unsafe disconnected_for_nothing
 never-disconnected s =
-    let p = its-own (AnswersOwn AnyDue Shows Means) _ _ _ s.own.0 0 _ refl refl refl in
-    let a = p.caused 1 _ refl in
+    let p = its-own (AnswersOwn AnyDue Shows Means) (gone_for_nothing ∷ []) (live_lines []) temp_there s.own.0 0 gone_for_nothing refl refl refl in
+    let a = p.caused 1 disconnected refl in
     no-removal a.0.3 a.0.2 a.0.6
 
 pub never-unsaid-refusal : Unsafe unsaid_refusal
@@ -77,3 +77,142 @@ never-twice v s = zero-one (s.applied.once 0 2 0 0 0 1 0 0 v v (_, true, refl, r
 pub never-read-twice : Unsafe read_twice
 never-read-twice s =
     zero-one ((s.own.1 0 _ refl).at_one (On 0 (Request Read 0)) 0 1 1 1 tt (_, refl, refl, (_, refl, refl)) (_, refl, refl, (_, refl, refl))).0
+
+-- a request that ends with Disconnected is lost, since no message means that
+no-message-means : (m : Fields) → Means m outcome.Disconnected → ⊥
+no-message-means m h =
+    elim h [
+      | inl a ↦ a.1
+      | inr b ↦ elim b [
+        | inl a ↦ a.1
+        | inr d ↦ elim d [
+          | inl a ↦ a.1
+          | inr a ↦ a.1
+        ]
+      ]
+    ]
+
+no-clear-line : (i : ℕ) → At (take 3 lost_lines) i (Called (On 0 Clear) None) → ⊥
+no-clear-line i at =
+    each-at (λ (k : ℕ) (l : Line). l ≡ Called (On 0 Clear) None → ⊥) (take 3 lost_lines) ((λ e. cc), ((λ e. cc), ((λ e. cc), tt))) i _ at refl
+
+abbrev channel-of : Intent → ℕ
+channel-of (On channel ask) = channel
+channel-of i = 0
+
+pub never-lost-for-nothing : Unsafe lost_for_nothing
+never-lost-for-nothing s =
+    elim ((s.own.1 0 lost_lines refl).told 3 _ _ refl) [
+      | inl h ↦ no-message-means h.0.t.message h.0.means
+      | inr h ↦
+          let l = h.1 in
+          let is : unanswered_read ≡ l.4 = sym (one-at unanswered_read l.0 l.4 l.5).1 in
+          let on : l.2 ≡ 0 = ap channel-of (sym l.7) in
+          elim l.9 [
+            | inl shut ↦ (let t : unanswered_read.client_open ≡ false = subst (λ (c : Circuit). c.client_open ≡ false) (sym is) shut in cc)
+            | inr more ↦ elim more [
+              | inl called ↦ no-clear-line called.0 (subst (λ (k : ℕ). At (take 3 lost_lines) called.0 (Called (On k Clear) None)) on called.1)
+              | inr told ↦
+                  let at : At (created_told ∷ []) told.0 told.1 = subst (λ (c : Circuit). At c.down told.0 told.1) (sym is) told.3 in
+                  let e : told.1 ≡ created_told = (one-at created_told told.0 told.1 at).1 in
+                  let f : created_told.cause ≡ told.1.cause = ap (λ (t : Told). t.cause) (sym e) in
+                  let g = told.5 in
+                  cc
+            ]
+          ]
+    ]
+
+-- ---- late replies
+
+-- of a put on a slow record: its only reply is late, once it is finished
+late-alone : (n : ℕ) (c : Circuit) (y : List Entry) (h : Step) → At c.up 1 (putting 0 8 22) → (a : Answered SlowDue Shows Means n c y 1 h)
+    → (j : ℕ) (m : Fields) → h.sent ≤ j → IsReply c 1 j m → IsFinished n c y 1 a.s
+late-alone n c y h at a j m later here =
+    let is : a.s ≡ putting 0 8 22 = some_is a.s (putting 0 8 22) (sym a.at ∙ at) in
+    let put : Is command.WriteNotify a.s.message = subst (λ (s : Sent). Is command.WriteNotify s.message) (sym is) refl in
+    let none : a.replies ≡ [] = (a.due put).0 in
+    let many : length a.replies ≡ 0 = ap (λ (l : List Fields). length l) none in
+    elim (a.only j m here) [
+      | inl early ↦ (let e = early in absurd (omega (arith, e, many, later)))
+      | inr late ↦ late.2
+    ]
+
+no-finish : (y : List Entry) → Each (λ (i : ℕ) (z : Entry). z ≡ Finished 0 1 → ⊥) y → (e : ℕ) → At y e (Finished 0 1) → ⊥
+no-finish y none e at = each-at (λ (i : ℕ) (z : Entry). z ≡ Finished 0 1 → ⊥) y none e _ at refl
+
+pub never-unfinished : UnsafeSlow answered_unfinished
+never-unfinished s =
+    let p = its-own (AnswersOwn SlowDue Shows Means) (answered ∷ []) put_lines unfinished_entries s.own.0 0 answered refl refl refl in
+    let a = p.answered 1 (step 1 1 2) refl in
+    let f = late-alone 0 answered unfinished_entries (step 1 1 2) refl a 1 (put_told 1 8 22).message (omega arith) refl in
+    no-finish unfinished_entries ((λ e. cc), ((λ e. cc), tt)) f.0 f.1
+
+pub never-withdrawn : UnsafeSlow answered_withdrawn
+never-withdrawn s =
+    let p = its-own (AnswersOwn SlowDue Shows Means) (answered ∷ []) put_lines withdrawn_entries s.own.0 0 answered refl refl refl in
+    let a = p.answered 1 (step 1 1 2) refl in
+    let f = late-alone 0 answered withdrawn_entries (step 1 1 2) refl a 1 (put_told 1 8 22).message (omega arith) refl in
+    no-finish withdrawn_entries ((λ e. cc), ((λ e. cc), ((λ e. cc), tt))) f.0 f.1
+
+-- the only place of the finish
+at-two : (e : ℕ) → At finished_entries e (Finished 0 1) → e ≡ 2
+at-two e at =
+    each-at (λ (i : ℕ) (z : Entry). z ≡ Finished 0 1 → i ≡ 2) finished_entries ((λ e. absurd cc), ((λ e. absurd cc), ((λ e. refl), tt))) e _ at refl
+
+pub never-cleared : UnsafeSlow answered_cleared
+never-cleared s =
+    let p = its-own (AnswersOwn SlowDue Shows Means) (cleared ∷ []) cleared_lines finished_entries s.own.0 0 cleared refl refl refl in
+    let a = p.answered 1 (step 1 1 2) refl in
+    let f = late-alone 0 cleared finished_entries (step 1 1 2) refl a 2 (put_told 1 8 22).message (omega arith) refl in
+    let is : putting 0 8 22 ≡ a.s = some_is (putting 0 8 22) a.s a.at in
+    let e = at-two f.0 f.1 in
+    f.3 2 clearing (step 1 2 2) (omega arith) refl refl (omega (arith, e)) (refl, ap (λ (r : Sent). r.message.p1) is)
+
+-- the put was finished, and no clear was handled
+was-finished : (r : Sent) → IsFinished 0 unanswered finished_entries 1 r
+was-finished r = (
+  2,
+  refl,
+  (1, 0, long 22, refl, omega arith, (λ j m l u after early at. absurd (omega (arith, after, early)))),
+  λ l m h later at handled before ends.
+      each-at (λ (i : ℕ) (z : Sent). 1 < i → ⊥) unanswered.up ((λ t. omega (arith, t)), ((λ t. omega (arith, t)), tt)) l m at later,
+)
+
+pub never-unanswered : UnsafeSlow unanswered_put
+never-unanswered s =
+    let p = its-own (AnswersOwn SlowDue Shows Means) (unanswered ∷ []) put_lines finished_entries s.own.0 0 unanswered refl refl refl in
+    let a = p.answered 1 (step 1 1 2) refl in
+    let is : a.s ≡ putting 0 8 22 = some_is a.s (putting 0 8 22) (sym a.at) in
+    let put : Is command.WriteNotify a.s.message = subst (λ (r : Sent). Is command.WriteNotify r.message) (sym is) refl in
+    let here = a.comes _ (a.due put).1 (was-finished a.s) refl in
+    let e = ap (λ (t : Told). t.place) (one-at created_told a.place _ here).1 in
+    zero-one (sym e)
+
+-- ---- the fourth clause
+
+lasts : (ts : List Told) → Lasts (updates_sent ts) temp_there 1 0 (adding 0 9)
+lasts ts = (
+  refl,
+  (λ h. no-removal h.0 0 h.1),
+  λ l m later early at ends.
+      each-at (λ (i : ℕ) (z : Sent). 1 < i → ⊥) (updates_sent ts).up ((λ t. omega (arith, t)), ((λ t. omega (arith, t)), tt)) l m at later,
+)
+
+-- the number of the post of an update
+abbrev item : Cause → ℕ
+item Reply = 0
+item Removal = 0
+item (Update a) = a
+
+pub loses-newest : (v u : Stored) → FollowsNot (updated 1 0 21 ∷ []) (v ∷ u ∷ [])
+loses-newest v u f =
+    let n = f.newest (lasts (updated 1 0 21 ∷ [])) in
+    let is = each-at (λ (i : ℕ) (z : ℕ × Cause). z ≡ (1, Update n.0) → n.0 ≡ 0) ((0, Reply) ∷ (1, Update 0) ∷ []) ((λ e. absurd (zero-one (ap (λ (z : ℕ × Cause). z.0) e))), ((λ e. ap (λ (z : ℕ × Cause). item z.1) (sym e)), tt)) n.1.0 _ n.1.1 refl in
+    let two = n.2 in
+    omega (arith, is, two)
+
+pub repeats : (v : Stored) → FollowsNot (updated 1 0 21 ∷ updated 1 0 21 ∷ []) (v ∷ [])
+repeats v f = (let e = f.rising 1 2 0 0 (omega arith) refl refl in omega (arith, e))
+
+pub reorders : (v u : Stored) → FollowsNot (updated 1 1 22 ∷ updated 1 0 21 ∷ []) (v ∷ u ∷ [])
+reorders v u f = (let e = f.rising 1 2 1 0 (omega arith) refl refl in omega (arith, e))
