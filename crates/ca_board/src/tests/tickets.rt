@@ -43,12 +43,12 @@ fn old_ticket_is_stale_when_its_cell_is_armed_anew(rt: HostRuntime) -> Result<()
     Ok(())
 }
 
-// A cell again and again: each generation is collected, and then gives nothing.
+// A cell again and again, more often than 16 bits count: each generation is collected, and then gives nothing.
 #[test]
 fn each_generation_gives_its_outcome(rt: HostRuntime) -> Result<(), Fail> {
     let (board, mut core) = Board::new(rt.alloc())?;
     let mut caller = board.caller(&mut core);
-    for generation in 0..5u32 {
+    for generation in 0..70_000u32 {
         let ticket = board.arm(&mut core)?;
         assert_eq!(rt; ticket.generation, generation);
         assert_eq!(rt;
