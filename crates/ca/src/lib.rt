@@ -24,10 +24,3 @@ pub use repeater_line::RepeaterLine;
 pub use replay::replay_run;
 pub use replay_line::ReplayLine;
 pub use standing::standing_records;
-
-#[cfg(test)]
-mod tests;
-#[cfg(test)]
-mod tests_repeater;
-#[cfg(test)]
-mod tests_replay;

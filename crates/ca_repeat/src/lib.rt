@@ -10,6 +10,3 @@ mod repeater;
 pub use address::Address;
 pub use outgoing::Outgoing;
 pub use repeater::RepeaterCore;
-
-#[cfg(test)]
-mod tests;

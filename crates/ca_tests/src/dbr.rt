@@ -1,4 +1,4 @@
-use crate::{
+use ca_dbr::{
     BaseType, DataType, Form, Meta, Value, convert, image_size, read_value, write_shown,
     write_value, write_zero_image,
 };

@@ -1,4 +1,4 @@
-use crate::{BeaconClock, BeaconTable};
+use ca_beacon::{BeaconClock, BeaconTable};
 use std::net::Ipv4Addr;
 use std::test::Fail;
 

@@ -1,4 +1,4 @@
-use crate::{Search, Searcher};
+use ca_search::{Search, Searcher};
 use ca_text::{ChannelName, Refusal};
 use std::process::Abort;
 use std::test::Fail;

@@ -1,4 +1,4 @@
-use crate::{Line, answer_console, answer_run, not_understood, read_line, run, standing_records};
+use ca::{Line, answer_console, answer_run, not_understood, read_line, run, standing_records};
 use ca_link::{Fused, Reader, Writer};
 use std::alloc::{AllocError, Global};
 use std::io::{self, Read};

@@ -1,4 +1,4 @@
-use crate::{Address, RepeaterCore};
+use ca_repeat::{Address, RepeaterCore};
 use std::test::Fail;
 
 /// A beacon that names no address, and the same with the address 127.0.0.1.

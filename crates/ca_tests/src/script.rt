@@ -1,4 +1,4 @@
-use crate::{read_script, write_end, write_log};
+use ca_script::{read_script, write_end, write_log};
 use ca_dbr::{Meta, Outcome, Value};
 use ca_small_model::{Event, Logged, Notice};
 use ca_text::{Refusal, Status};

@@ -1,4 +1,4 @@
-use crate::{Arena, Handle, LAST_GENERATION};
+use ca_arena::{Arena, Handle};
 use ca_text::{ARENA_SLOTS, Refusal};
 use std::test::Fail;
 
@@ -57,19 +57,6 @@ fn full_arena_hands_the_value_back(rt: HostRuntime) -> Result<(), Fail> {
     assert_eq!(rt; arena.free_slots(), 0);
     arena.remove(handle(40_000, 1))?;
     assert_eq!(rt; arena.insert(7)?, handle(40_000, 2));
-    Ok(())
-}
-
-#[test]
-fn index_is_retired_at_its_last_generation(rt: HostRuntime) -> Result<(), Fail> {
-    let mut arena = Arena::with_one_generation_left(rt.alloc())?;
-    assert_eq!(rt; arena.free_slots(), 65_536);
-    let last = arena.insert(1)?;
-    assert_eq!(rt; last, handle(0, LAST_GENERATION));
-    assert_eq!(rt; arena.remove(last)?, 1);
-    assert_eq!(rt; arena.get(last).copied(), None);
-    assert_eq!(rt; arena.free_slots(), 65_535);
-    assert_eq!(rt; arena.insert(2)?, handle(1, 1));
     Ok(())
 }
 

@@ -1,4 +1,4 @@
-use crate::{Fault, Fused, Reader, Sink, Source, Writer};
+use ca_link::{Fault, Fused, Reader, Sink, Source, Writer};
 use ca_text::Refusal;
 use std::io::Write;
 use std::test::Fail;

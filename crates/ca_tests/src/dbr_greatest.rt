@@ -1,6 +1,6 @@
 //! Round trips at the greatest count of each type: 262,144 elements, or as many as a payload of 1,048,576 bytes holds.
-use crate::tests::{META, STAMPED, round_in, text};
-use crate::{DataType, Form, Meta, Value};
+use crate::dbr::{META, STAMPED, round_in, text};
+use ca_dbr::{DataType, Form, Meta, Value};
 use std::alloc::Global;
 use std::process::Abort;
 use std::test::Fail;

@@ -1,4 +1,4 @@
-use crate::{Datagrams, Line, RepeaterLine, read_line, repeat, repeater_run, run};
+use ca::{Datagrams, Line, RepeaterLine, read_line, repeat, repeater_run, run};
 use ca_link::Fault;
 use ca_repeat::Address;
 use ca_text::Refusal;

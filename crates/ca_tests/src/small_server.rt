@@ -1,4 +1,4 @@
-use crate::ServerCore;
+use ca_small_server::ServerCore;
 use ca_dbr::Value;
 use ca_small_model::{Closing, ServerStep};
 use ca_records::Records;

@@ -1,4 +1,4 @@
-use crate::{
+use ca_wire::{
     Deframer, Head, Header, Message, One, message_at, read_one, spell, spell_header, spelled_size,
 };
 use ca_text::Refusal;

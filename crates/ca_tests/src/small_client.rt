@@ -1,4 +1,4 @@
-use crate::ClientCore;
+use ca_small_client::ClientCore;
 use ca_dbr::{Meta, Outcome, Value};
 use ca_small_model::{ClientStep, Closing, Notice};
 use ca_text::Refusal;

@@ -1,7 +1,7 @@
 use Rattle.std.proofs.Common.{Ok, refl, arith, eqb, lit≤}
 use Rattle.std.proofs.lemmas.Bool.{ne_eqb, and_left, and_right}
 use Rattle.ca_queue.proofs.Additions.{new_after_add, new_after_cancel}
-use Rattle.ca_queue.proofs.tests.cancel_makes_room_for_a_37th.Goals as goal
+use Rattle.ca_tests.proofs.queue.cancel_makes_room_for_a_37th.Goals as goal
 
 pub loop-sub-preserved : goal.loop-sub-preserved
 loop-sub-preserved g c = (

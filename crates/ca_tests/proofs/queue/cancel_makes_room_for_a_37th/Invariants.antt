@@ -1,6 +1,6 @@
 use Rattle.std.proofs.Common.{◌≡◌, ℕ, ◌≤◌, ◌<◌, false}
 use Rattle.ca_queue.specs.Keys.{is_among}
-use Rattle.ca_queue.proofs.tests.cancel_makes_room_for_a_37th.Given as goal
+use Rattle.ca_tests.proofs.queue.cancel_makes_room_for_a_37th.Given as goal
 
 abbrev pub invariant-loop-sub : goal.invariant-loop-sub
 invariant-loop-sub g l =

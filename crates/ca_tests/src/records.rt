@@ -1,4 +1,4 @@
-use crate::Records;
+use ca_records::Records;
 use ca_dbr::{Meta, Value};
 use ca_text::Refusal;
 use std::alloc::Global;

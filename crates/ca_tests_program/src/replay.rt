@@ -1,4 +1,4 @@
-use crate::{Line, ReplayLine, read_line, replay_run, run};
+use ca::{Line, ReplayLine, read_line, replay_run, run};
 use ca_link::{Fused, Writer};
 use std::alloc::{AllocError, Global};
 use std::process::Abort;

@@ -1,4 +1,4 @@
-use crate::{Datagram, beacon, confirm, register, search_into};
+use ca_dgram::{Datagram, beacon, confirm, register, search_into};
 use ca_text::{ChannelName, Refusal};
 use std::net::Ipv4Addr;
 use std::test::Fail;

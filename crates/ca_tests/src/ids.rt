@@ -1,4 +1,4 @@
-use crate::{IdTable, WireId};
+use ca_ids::{IdTable, WireId};
 use ca_arena::Handle;
 use ca_text::Refusal;
 use std::test::Fail;
