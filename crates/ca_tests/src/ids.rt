@@ -1,5 +1,5 @@
-use ca_ids::{IdTable, WireId};
 use ca_arena::Handle;
+use ca_ids::{IdTable, WireId};
 use ca_text::Refusal;
 use std::test::Fail;
 

@@ -2,8 +2,8 @@ ghost use Rattle.std.specs.Prelude.{◌≡◌, ◌∷◌, Some, None, [], IsTrue
 ghost use Rattle.ca_queue.specs.Keys.{is_among};
 ghost use Rattle.ca_queue.specs.Queue.{added, no_queue};
 
-use ca_queue::{Entry, EventQueue, Queues, SubKey};
 use ca_dbr::{Meta, Value};
+use ca_queue::{Entry, EventQueue, Queues, SubKey};
 use ca_text::Refusal;
 use std::alloc::{AllocError, Global};
 use std::ops::Range;

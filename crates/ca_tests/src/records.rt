@@ -1,5 +1,5 @@
-use ca_records::Records;
 use ca_dbr::{Meta, Value};
+use ca_records::Records;
 use ca_text::Refusal;
 use std::alloc::Global;
 use std::process::Abort;

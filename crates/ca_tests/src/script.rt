@@ -1,5 +1,5 @@
-use ca_script::{read_script, write_end, write_log};
 use ca_dbr::{Meta, Outcome, Value};
+use ca_script::{read_script, write_end, write_log};
 use ca_small_model::{Event, Logged, Notice};
 use ca_text::{Refusal, Status};
 use std::alloc::Global;

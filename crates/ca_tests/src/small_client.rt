@@ -1,5 +1,5 @@
-use ca_small_client::ClientCore;
 use ca_dbr::{Meta, Outcome, Value};
+use ca_small_client::ClientCore;
 use ca_small_model::{ClientStep, Closing, Notice};
 use ca_text::Refusal;
 use std::test::Fail;

@@ -1,7 +1,7 @@
-use ca_small_server::ServerCore;
 use ca_dbr::Value;
-use ca_small_model::{Closing, ServerStep};
 use ca_records::Records;
+use ca_small_model::{Closing, ServerStep};
+use ca_small_server::ServerCore;
 use ca_text::Refusal;
 use std::alloc::Global;
 use std::test::Fail;

@@ -1,7 +1,7 @@
+use ca_text::Refusal;
 use ca_wire::{
     Deframer, Head, Header, Message, One, message_at, read_one, spell, spell_header, spelled_size,
 };
-use ca_text::Refusal;
 use std::alloc::Global;
 use std::process::Abort;
 use std::test::Fail;

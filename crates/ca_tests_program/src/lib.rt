@@ -5,6 +5,8 @@
 #[cfg(test)]
 mod answer;
 #[cfg(test)]
+mod lines;
+#[cfg(test)]
 mod repeater;
 #[cfg(test)]
 mod replay;

@@ -1,89 +1,18 @@
-use ca::{Datagrams, Line, RepeaterLine, read_line, repeat, repeater_run, run};
+use ca::{Datagrams, repeat, repeater_run};
 use ca_link::Fault;
 use ca_repeat::Address;
 use ca_text::Refusal;
-use std::alloc::{AllocError, Global};
+use std::alloc::Global;
 use std::io;
 use std::net::{Ipv4Addr, Net, SocketAddr, UdpSocket};
 use std::process::Abort;
 use std::test::Fail;
 use std::time::Duration;
 
-/// A beacon that names no address, and the same with the address 127.0.0.1.
+/// A beacon that names no address.
 const BLANK: &[u8] = b"\x00\x0d\x00\x00\x00\x0d\x13\xc8\0\0\0\x07\0\0\0\0";
 
-const FILLED: &[u8] = b"\x00\x0d\x00\x00\x00\x0d\x13\xc8\0\0\0\x07\x7f\0\0\x01";
-
-const REGISTER: &[u8] = b"\x00\x18\x00\x00\x00\x00\x00\x00\0\0\0\0\x7f\0\0\x01";
-
 const CONFIRM: &[u8] = b"\x00\x11\x00\x00\x00\x00\x00\x00\0\0\0\0\x7f\0\0\x01";
-
-fn words_of(alloc: Global, texts: &[&str]) -> Result<Vec<String>, AllocError> {
-    let mut words = Vec::new(alloc);
-    for text in texts {
-        words.push(text.to_string(alloc)?)?;
-    }
-    Ok(words)
-}
-
-const fn repeater(port: u16, datagrams: Option<u64>) -> Option<Line<'static>> {
-    Some(Line::Repeater(RepeaterLine { port, datagrams }))
-}
-
-/// Each of these words is read as this line.
-fn hold<R: AllocGlobal + Abort>(
-    rt: &R,
-    rows: &[(&[&str], Option<Line<'static>>)],
-) -> Result<(), Fail> {
-    for (texts, line) in rows {
-        let words = words_of(rt.alloc(), texts)?;
-        assert!(rt; read_line(rt.alloc(), &words) == Ok(*line));
-    }
-    Ok(())
-}
-
-#[test]
-fn repeater_lines_are_read(rt: HostRuntime) -> Result<(), Fail> {
-    let both = repeater(40_000, Some(7));
-    hold(
-        &rt,
-        &[
-            (&["repeater"], repeater(5_065, None)),
-            (&["repeater", "--port", "0"], repeater(0, None)),
-            (&["repeater", "--port=065535"], repeater(65_535, None)),
-            (
-                &["repeater", "--datagrams=18446744073709551615"],
-                repeater(5_065, Some(u64::MAX)),
-            ),
-            (&["repeater", "--port", "40000", "--datagrams", "7"], both),
-            (&["repeater", "--datagrams=7", "--port=40000"], both),
-        ],
-    )
-}
-
-#[test]
-fn other_repeater_lines_are_not_understood(rt: HostRuntime) -> Result<(), Fail> {
-    hold(
-        &rt,
-        &[
-            (&["repeater", "repeater"], None),
-            (&["repeater", "--port"], None),
-            (&["repeater", "--port="], None),
-            (&["repeater", "--port", "+1"], None),
-            (&["repeater", "--port", "-1"], None),
-            (&["repeater", "--port", "65536"], None),
-            (&["repeater", "--port", "0x10"], None),
-            (&["repeater", "--port", "1 "], None),
-            (&["repeater", "--port", "1", "--port", "1"], None),
-            (&["repeater", "--datagrams=18446744073709551616"], None),
-            (&["repeater", "--datagrams", ""], None),
-            (&["repeater", "--help"], None),
-            (&["repeater", "--"], None),
-            (&["--port", "1", "repeater"], None),
-            (&["answer", "--port", "1"], None),
-        ],
-    )
-}
 
 /// A socket on this host, which waits for a datagram for ten seconds.
 fn bound<R: Net>(net: &R) -> io::Result<UdpSocket> {
@@ -111,26 +40,6 @@ fn hears<R: AllocGlobal + Abort>(
 }
 
 #[test]
-fn a_beacon_goes_to_the_other_members(rt: HostRuntime) -> Result<(), Fail> {
-    let repeater = bound(&rt)?;
-    let at = repeater.local_addr()?;
-    let (first, second, third, newcomer) = (bound(&rt)?, bound(&rt)?, bound(&rt)?, bound(&rt)?);
-    first.send_to(REGISTER, at)?;
-    second.send_to(REGISTER, at)?;
-    third.send_to(REGISTER, at)?;
-    first.send_to(BLANK, at)?;
-    newcomer.send_to(b"", at)?;
-    let mut told = Vec::new(rt.alloc());
-    let status = repeater_run(rt.alloc(), &repeater, Some(5), &mut told);
-    assert_eq!(rt; status, 0);
-    assert!(rt; told.is_empty());
-    hears(&rt, &first, at, &[CONFIRM])?;
-    hears(&rt, &second, at, &[CONFIRM, FILLED])?;
-    hears(&rt, &third, at, &[CONFIRM, FILLED])?;
-    hears(&rt, &newcomer, at, &[CONFIRM])
-}
-
-#[test]
 fn the_greatest_datagram_goes_on_whole(rt: HostRuntime) -> Result<(), Fail> {
     let repeater = bound(&rt)?;
     let at = repeater.local_addr()?;
@@ -153,20 +62,6 @@ fn a_failing_receive_is_refused(rt: HostRuntime) -> Result<(), Fail> {
     let status = repeater_run(rt.alloc(), &repeater, None, &mut told);
     assert_eq!(rt; status, 1);
     assert!(rt; told.as_slice() == "refused: 23 Device\n".as_bytes());
-    Ok(())
-}
-
-#[test]
-fn a_repeater_of_no_datagrams_ends(rt: HostRuntime) -> Result<(), Fail> {
-    let mut output = Vec::new(rt.alloc());
-    let mut told = Vec::new(rt.alloc());
-    let none: &[u8] = &[];
-    let words = words_of(rt.alloc(), &["repeater", "--port=0", "--datagrams=0"])?;
-    let status = run(&rt, rt.alloc(), &words, none, &mut output, &mut told);
-    assert_eq!(rt; status, 0);
-    // The system chose the port.
-    assert!(rt; output.as_slice().starts_with(b"repeating 0.0.0.0:"));
-    assert!(rt; told.is_empty());
     Ok(())
 }
 
