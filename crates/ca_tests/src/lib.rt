@@ -1,15 +1,11 @@
-//! The tests of the libraries below, a module for each, in a crate of their own: a crate with tests is proved a second
-//! time, with them, and this one has nothing else to prove.
+//! The tests of the libraries of messages and of tables, a module for each, in a crate of their own: a crate with tests is
+//! proved a second time, with them, and this one has nothing else to prove.
 #![tactic(auto)]
 
 #[cfg(test)]
 mod arena;
 #[cfg(test)]
 mod beacon;
-#[cfg(test)]
-mod dbr;
-#[cfg(test)]
-mod dbr_greatest;
 #[cfg(test)]
 mod dgram;
 #[cfg(test)]
@@ -19,16 +15,8 @@ mod link;
 #[cfg(test)]
 mod queue;
 #[cfg(test)]
-mod records;
-#[cfg(test)]
 mod repeat;
 #[cfg(test)]
-mod script;
-#[cfg(test)]
 mod search;
-#[cfg(test)]
-mod small_client;
-#[cfg(test)]
-mod small_server;
 #[cfg(test)]
 mod wire;

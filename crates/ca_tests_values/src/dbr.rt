@@ -230,82 +230,60 @@ fn texts(rt: HostRuntime) -> Result<(), Fail> {
     )
 }
 
-/// A value has an image of this size, and is read again from it with this metadata.
-fn comes_back(
-    rt: &impl Abort,
-    alloc: Global,
+/// A read of so many elements in a type shows these bytes, or is refused so.
+fn shows<R: AllocGlobal + Abort>(
+    rt: &R,
     number: u16,
+    count: u32,
     value: &Value,
-    size: usize,
-    meta: Meta,
-) -> Result<(), Fail> {
-    let count = u32::try_from(value.count())?;
-    let mut bytes = Vec::new(alloc);
-    assert!(rt; write_value(number, value, &META, &mut bytes) == Ok(()));
-    assert_eq!(rt; bytes.len(), size);
-    let (again, with) = read_value(alloc, number, count, &bytes)?;
-    assert!(rt; again == *value);
-    assert!(rt; with == meta);
-    Ok(())
-}
-
-#[test]
-fn large_counts(rt: HostRuntime) -> Result<(), Fail> {
-    let alloc = rt.alloc();
-    let doubles = Value::Doubles(vec![in alloc; 0x0102_0304_0506_0708; 131_070]?);
-    comes_back(&rt, alloc, 20, &doubles, 16 + 8 * 131_070, META)?;
-    let chars = Value::Chars(vec![in alloc; 7; 262_144]?);
-    comes_back(&rt, alloc, 4, &chars, 262_144, Meta::ZERO)?;
-    let texts = Value::Strings(vec![in alloc; text(b"seven"); 20_000]?);
-    comes_back(&rt, alloc, 0, &texts, 800_000, Meta::ZERO)
-}
-
-/// What a read of so many elements in a type shows.
-fn shown(alloc: Global, number: u16, count: u32, value: &Value) -> Result<Vec<u8>, Refusal> {
-    let mut bytes = Vec::new(alloc);
-    match write_shown(number, count, value, &Meta::ZERO, &mut bytes) {
-        Ok(()) => Ok(bytes),
-        Err(refusal) => Err(refusal),
+    expected: Result<&[u8], Refusal>,
+) {
+    let mut bytes = Vec::new(rt.alloc());
+    let outcome = write_shown(number, count, value, &Meta::ZERO, &mut bytes);
+    match expected {
+        Ok(expected) => {
+            assert!(rt; outcome == Ok(()));
+            assert_eq!(rt; bytes.as_slice(), expected);
+        }
+        Err(refusal) => assert!(rt; outcome == Err(refusal)),
     }
 }
 
 #[test]
-fn reads_show(rt: HostRuntime) -> Result<(), Fail> {
-    let alloc = rt.alloc();
-    let temp = Value::Longs(vec![in alloc; 21]?);
-    let gain = Value::Doubles(vec![in alloc; 0x3ff0_0000_0000_0000]?);
-    let note = Value::Strings(vec![in alloc; text(b"OK")]?);
-    let wave = Value::Longs(vec![in alloc; 7]?);
-    let set = Value::Longs(vec![in alloc; -1]?);
-    assert_eq!(rt;
-        shown(alloc, 5, 1, &temp)?.as_slice(),
-        [0, 0, 0, 21].as_slice()
-    );
-    assert_eq!(rt;
-        shown(alloc, 19, 1, &temp)?.as_slice(),
-        [0, 0, 0, 0, 0, 0, 0, 0, 0, 0, 0, 0, 0, 0, 0, 21].as_slice()
-    );
-    assert_eq!(rt;
-        shown(alloc, 20, 1, &gain)?.as_slice(),
-        [
-            0, 0, 0, 0, 0, 0, 0, 0, 0, 0, 0, 0, 0, 0, 0, 0, 63, 240, 0, 0, 0, 0, 0, 0
-        ]
-        .as_slice()
-    );
-    assert_eq!(rt;
-        shown(alloc, 0, 1, &temp)?.as_slice(),
-        text(b"21").as_slice()
-    );
-    assert_eq!(rt;
-        shown(alloc, 11, 1, &temp)?.as_slice(),
-        [0, 0, 0, 0, 0, 21].as_slice()
-    );
-    assert_eq!(rt; shown(alloc, 4, 3, &wave)?.as_slice(), [7, 0, 0].as_slice());
-    assert_eq!(rt; shown(alloc, 1, 1, &set)?.as_slice(), [255, 255].as_slice());
-    assert!(rt; shown(alloc, 4, 1, &set) == Err(Refusal::OutOfRange));
-    assert!(rt; shown(alloc, 34, 1, &temp) == Err(Refusal::BadType));
-    assert!(rt; shown(alloc, 2, 1, &temp) == Err(Refusal::NoConvert));
-    assert!(rt; shown(alloc, 5, 1, &note) == Err(Refusal::BadText));
+fn reads_of_longs_show(rt: HostRuntime) -> Result<(), Fail> {
+    let number = text(b"21");
+    let rows: [(u16, u32, i32, Result<&[u8], Refusal>); 9] = [
+        (5, 1, 21, Ok(&[0, 0, 0, 21])),
+        (
+            19,
+            1,
+            21,
+            Ok(&[0, 0, 0, 0, 0, 0, 0, 0, 0, 0, 0, 0, 0, 0, 0, 21]),
+        ),
+        (0, 1, 21, Ok(&number)),
+        (11, 1, 21, Ok(&[0, 0, 0, 0, 0, 21])),
+        (4, 3, 7, Ok(&[7, 0, 0])),
+        (1, 1, -1, Ok(&[255, 255])),
+        (4, 1, -1, Err(Refusal::OutOfRange)),
+        (34, 1, 21, Err(Refusal::BadType)),
+        (2, 1, 21, Err(Refusal::NoConvert)),
+    ];
+    for (number, count, element, expected) in rows {
+        let value = Value::Longs(vec![in rt.alloc(); element]?);
+        shows(&rt, number, count, &value, expected);
+    }
+    Ok(())
+}
+
+#[test]
+fn reads_of_doubles_and_texts_show(rt: HostRuntime) -> Result<(), Fail> {
+    let gain = Value::Doubles(vec![in rt.alloc(); 0x3ff0_0000_0000_0000]?);
+    let stamped = [
+        0, 0, 0, 0, 0, 0, 0, 0, 0, 0, 0, 0, 0, 0, 0, 0, 63, 240, 0, 0, 0, 0, 0, 0,
+    ];
+    shows(&rt, 20, 1, &gain, Ok(&stamped));
+    let note = Value::Strings(vec![in rt.alloc(); text(b"OK")]?);
+    shows(&rt, 5, 1, &note, Err(Refusal::BadText));
     Ok(())
 }
 
@@ -364,29 +342,48 @@ fn puts_of_texts(rt: HostRuntime) -> Result<(), Fail> {
     Ok(())
 }
 
+/// What a conversion of these texts to a type is refused by.
+fn convert_texts(alloc: Global, texts: &[[u8; 40]], number: u16) -> Result<Option<Refusal>, Fail> {
+    let value = Value::Strings(Vec::from_slice(alloc, texts)?);
+    Ok(convert(alloc, &value, number).err())
+}
+
 #[test]
 fn first_fault_decides(rt: HostRuntime) -> Result<(), Fail> {
     let alloc = rt.alloc();
-    let texts = Value::Strings(vec![in alloc; text(b"1"), text(b"70000"), text(b"x")]?);
-    assert!(rt; convert(alloc, &texts, 1) == Err(Refusal::OutOfRange));
-    let turned = Value::Strings(vec![in alloc; text(b"1"), text(b"x"), text(b"70000")]?);
-    assert!(rt; convert(alloc, &turned, 1) == Err(Refusal::BadText));
-    assert!(rt; convert(alloc, &turned, 7) == Err(Refusal::BadType));
-    assert!(rt; convert(alloc, &turned, 6) == Err(Refusal::NoConvert));
-    assert!(rt;
-        convert(alloc, &Value::Chars(vec![in alloc; 255]?), 0)
-            == Ok(Value::Strings(vec![in alloc; text(b"255")]?))
-    );
-    assert!(rt; read_value(alloc, 5, 2, &[0; 7]) == Err(Refusal::Short));
-    assert!(rt; read_value(alloc, 0, 2, &[0; 79]) == Err(Refusal::Short));
-    assert!(rt; read_value(alloc, 7, 1, &[0; 3]) == Err(Refusal::Short));
-    assert!(rt; read_value(alloc, 21, 1, &[0; 99]) == Err(Refusal::BadType));
-    assert!(rt;
-        DataType::of(13)
-            == Some(DataType {
-                base: BaseType::Double,
-                form: Form::Status
-            })
-    );
+    let (one, large, word) = (text(b"1"), text(b"70000"), text(b"x"));
+    let rows = [
+        ([one, large, word], 1, Refusal::OutOfRange),
+        ([one, word, large], 1, Refusal::BadText),
+        ([one, word, large], 7, Refusal::BadType),
+        ([one, word, large], 6, Refusal::NoConvert),
+    ];
+    for (texts, number, refusal) in &rows {
+        assert!(rt; convert_texts(alloc, texts, *number)? == Some(*refusal));
+    }
+    let images: [(u16, u32, usize, Refusal); 4] = [
+        (5, 2, 7, Refusal::Short),
+        (0, 2, 79, Refusal::Short),
+        (7, 1, 3, Refusal::Short),
+        (21, 1, 99, Refusal::BadType),
+    ];
+    for (number, count, size, refusal) in images {
+        let bytes = vec![in alloc; 0u8; size]?;
+        assert!(rt; read_value(alloc, number, count, &bytes).err() == Some(refusal));
+    }
+    Ok(())
+}
+
+#[test]
+fn a_char_shows_as_text(rt: HostRuntime) -> Result<(), Fail> {
+    let alloc = rt.alloc();
+    let byte = Value::Chars(vec![in alloc; 255]?);
+    let wanted = Value::Strings(vec![in alloc; text(b"255")]?);
+    assert!(rt; convert(alloc, &byte, 0) == Ok(wanted));
+    let double_status = DataType {
+        base: BaseType::Double,
+        form: Form::Status,
+    };
+    assert!(rt; DataType::of(13) == Some(double_status));
     Ok(())
 }

@@ -1,7 +1,6 @@
 use ca_dbr::{Meta, Value};
 use ca_records::Records;
 use ca_text::Refusal;
-use std::alloc::Global;
 use std::process::Abort;
 use std::test::Fail;
 
@@ -83,57 +82,43 @@ fn records_are_defined(rt: HostRuntime) -> Result<(), Fail> {
     Ok(())
 }
 
-/// A value of each type.
-fn values(alloc: Global) -> Result<Vec<Value>, Fail> {
-    Ok(vec![in alloc;
-        Value::Strings(vec![in alloc; [b'x'; 40]]?),
-        Value::Ints(vec![in alloc; -1, 2]?),
-        Value::Floats(vec![in alloc; 0x7FC0_0000]?),
-        Value::Enums(vec![in alloc; 65_535]?),
-        Value::Chars(vec![in alloc; 1, 2, 3, 4]?),
-        Value::Longs(vec![in alloc; -5]?),
-        Value::Doubles(vec![in alloc; 0x3FF0_0000_0000_0000]?),
-    ]?)
-}
-
-const NAMES: [&[u8]; 7] = [
-    b"beam:current",
-    b"beam",
-    b"shutter",
-    b"Beam",
-    b"a",
-    b"note",
-    b"gain",
+/// Names, and what each record of that name holds.
+const RECORDS: [(&[u8], i32); 7] = [
+    (b"beam:current", 1),
+    (b"beam", -2),
+    (b"shutter", 3),
+    (b"Beam", -4),
+    (b"a", 2_147_483_647),
+    (b"note", -2_147_483_648),
+    (b"gain", 7),
 ];
+
+/// The records of these names, each of four elements at most, of which one is present.
+fn standing<R: AllocGlobal + Abort>(rt: &R) -> Result<Records, Fail> {
+    let mut records = Records::new(rt.alloc());
+    for (i, (name, number)) in RECORDS.iter().enumerate() {
+        assert!(rt; !records.has(name));
+        let value = Value::Longs(vec![in rt.alloc(); *number]?);
+        records.define(name, 4, i % 2 == 1, value)?;
+    }
+    Ok(records)
+}
 
 #[test]
 fn records_are_found(rt: HostRuntime) -> Result<(), Fail> {
-    let alloc = rt.alloc();
-    let mut records = Records::new(alloc);
-    let mut i = 0;
-    for value in values(alloc)? {
-        assert!(rt; i < NAMES.len());
-        let name = NAMES[i];
-        assert!(rt; !records.has(name));
-        records.define(name, 4, i % 2 == 1, value)?;
-        i += 1;
-    }
+    let records = standing(&rt)?.copy()?;
     assert_eq!(rt; records.len(), 7);
-    let records = records.copy()?;
-    assert_eq!(rt; records.len(), 7);
-    let values = values(alloc)?;
-    for (i, value) in values.iter().enumerate() {
-        assert!(rt; i < NAMES.len());
-        let name = NAMES[i];
+    for (i, (name, number)) in RECORDS.iter().enumerate() {
         assert!(rt; records.has(name));
         assert_eq!(rt; records.find(name), Some(i));
-        assert_eq!(rt; records.read(name)?, value);
+        let value = Value::Longs(vec![in rt.alloc(); *number]?);
+        assert_eq!(rt; records.read(name)?, &value);
         assert!(rt; i < records.len());
         let record = records.at(i);
-        assert_eq!(rt; record.name(), name);
+        assert_eq!(rt; record.name(), *name);
         assert_eq!(rt; record.count(), 4);
         assert_eq!(rt; record.is_slow(), i % 2 == 1);
-        assert_eq!(rt; record.value(), value);
+        assert_eq!(rt; record.value(), &value);
         assert_eq!(rt; *record.meta(), Meta::ZERO);
     }
     for name in [b"bea".as_slice(), b"", b"beam:", b"z"] {
