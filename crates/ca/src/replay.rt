@@ -7,10 +7,10 @@ ghost use Rattle.ca.specs.Replaying.{Replays, ReplaysTo, Reported, ended};
 
 use crate::answer::report as tell;
 use ca_link::Sink;
-use ca_small_model::Event;
 use ca_script::read_script;
-use ca_text::Refusal;
+use ca_small_model::Event;
 use ca_small_world::{report, run};
+use ca_text::Refusal;
 use std::alloc::Global;
 use std::io::Write;
 

@@ -6,8 +6,8 @@ use crate::config::{Config, Served};
 use crate::event::{Verb, read_event};
 use crate::lines::{read_client, read_record, read_server};
 use crate::words::{Words, cut, is_word};
-use ca_small_model::Event;
 use ca_records::Records;
+use ca_small_model::Event;
 use ca_text::Refusal;
 use std::alloc::Global;
 

@@ -7,8 +7,8 @@ ghost use Rattle.ca_small_server.specs.Sizes.{AreWithin};
 ghost use Rattle.ca_small_server.specs.Steps.{DueNext, LinkSteps, closing_for};
 
 use crate::circuit::Circuit;
-use ca_small_model::Closing;
 use ca_records::Records;
+use ca_small_model::Closing;
 use ca_text::{OUTPUT_LIMIT, Refusal};
 use ca_wire::{Deframer, One, Pipe, read_one};
 use std::alloc::Global;

@@ -8,8 +8,8 @@ ghost use Rattle.ca_small_server.specs.Seats.{output_of};
 ghost use Rattle.ca_small_server.specs.Sizes.{AreWithin};
 
 use crate::link::{Link, LinkStep};
-use ca_small_model::ServerStep;
 use ca_records::Records;
+use ca_small_model::ServerStep;
 use ca_text::Refusal;
 use ca_wire::Pipe;
 use std::alloc::Global;

@@ -8,8 +8,8 @@ ghost use Rattle.ca_small_world.specs.Locals.{AreNamed, AreServed};
 
 use crate::side::{Serving, Side};
 use crate::world::World;
-use ca_small_client::ClientCore;
 use ca_script::{Config, Named, Served, records_are_records};
+use ca_small_client::ClientCore;
 use ca_small_server::ServerCore;
 use ca_text::Refusal;
 use std::alloc::{AllocError, Global};

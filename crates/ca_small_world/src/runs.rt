@@ -6,8 +6,8 @@ ghost use Rattle.ca_script.specs.Setting.{setting_of};
 ghost use Rattle.ca_small_world.specs.Done.{Stopped, done};
 
 use crate::world::World;
-use ca_small_model::Event;
 use ca_script::Config;
+use ca_small_model::Event;
 use ca_text::Refusal;
 use std::alloc::Global;
 
