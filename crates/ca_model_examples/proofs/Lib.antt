@@ -1,2 +1,4 @@
 pub mod Lists
 pub mod Unsafe
+pub mod UsedActs
+pub mod Speaks
