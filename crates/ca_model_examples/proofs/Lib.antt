@@ -2,3 +2,4 @@ pub mod Lists
 pub mod Unsafe
 pub mod UsedActs
 pub mod Speaks
+pub mod UsedOwn
