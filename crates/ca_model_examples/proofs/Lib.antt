@@ -3,3 +3,4 @@ pub mod Unsafe
 pub mod UsedActs
 pub mod Speaks
 pub mod UsedOwn
+pub mod UsedRest
