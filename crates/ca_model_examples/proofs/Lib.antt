@@ -4,3 +4,4 @@ pub mod UsedActs
 pub mod Speaks
 pub mod UsedOwn
 pub mod UsedRest
+pub mod UsedWhole
