@@ -5,3 +5,4 @@ pub mod Speaks
 pub mod UsedOwn
 pub mod UsedRest
 pub mod UsedWhole
+pub mod UsedDue

@@ -107,7 +107,7 @@ used-names = record {
 }
 
 -- the only creation
-created-at : (j k sid : ℕ) (t : Told) → At used.down j t → t.place ≡ k → Creates t.message sid → (j ≡ 1) × (k ≡ 0) × (sid ≡ 5)
+pub created-at : (j k sid : ℕ) (t : Told) → At used.down j t → t.place ≡ k → Creates t.message sid → (j ≡ 1) × (k ≡ 0) × (sid ≡ 5)
 created-at j k sid t at place creates =
     each-at (λ (i : ℕ) (u : Told). u.place ≡ k → Creates u.message sid → (i ≡ 1) × (k ≡ 0) × (sid ≡ 5)) used.down (
       (λ p e. (let f = e.0 in absurd (omega (arith, f)))), ((λ p e. (refl, sym p, sym e.1)), ((λ p e. (let f = e.0 in absurd (omega (arith, f)))), ((λ p e. (let f = e.0 in absurd (omega (arith, f)))), ((λ p e. (let f = e.0 in absurd (omega (arith, f)))), tt))))) j t at place creates

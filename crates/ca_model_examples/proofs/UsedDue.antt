@@ -1,0 +1,99 @@
+-- What was sent on the used channel was due.
+use Rattle.std.proofs.Common.{◌≡◌, ℕ, zero, suc, ◌<◌, ◌≤◌, ◌+◌, ◌⊎◌, inl, inr, List, [], ◌∷◌, length, refl, sym, ap, subst, ◌∙◌, arith}
+use Rattle.std.specs.Prelude.{true, false, Bool, Option, Some, None, take, pos, if◌then◌else◌}
+use Rattle.std.specs.Str.{bytes_eq}
+use Rattle.std.specs.List.{list_any}
+use Rattle.std.proofs.lemmas.Slice.Eq.{bytes_eq-Decides}
+use Rattle.ca_text.specs.Place.{At}
+use Rattle.ca_text.proofs.Places.{some_is}
+use Rattle.ca_text.specs.Command.{command_number}
+use Rattle.ca_text.specs.declared.command.Command.TheVariants as command
+use Rattle.ca_dbr.specs.declared.data_type.BaseType.TheVariants as base
+use Rattle.ca_dbr.specs.declared.data_type.Form.TheVariants as form
+use Rattle.ca_dbr.specs.Elements as E
+use Rattle.ca_dbr.specs.Elements.{longs}
+use Rattle.ca_wire.specs.Fields.{Fields}
+use Rattle.ca_records.specs.Record.{RecordState}
+use Rattle.ca_records.specs.Rules.{Rule}
+use Rattle.ca_model.specs.Due.{Adds, Applies, Due, KnownChannel, KnownRecord, Knows, Nothing, Opens, Serves, subscription_in}
+use Rattle.ca_model.specs.Speech.{In, Is, Stored}
+use Rattle.ca_model.specs.History.{Intent, On, Subscribe, Circuit, Entry, Sent, Told, Step, Added, Applied, Removed}
+use Rattle.ca_model_safe.specs.Channels.{Has, before}
+use Rattle.ca_model_safe.specs.Known.{AreJust, IsChannel, IsDue, IsEarly, IsKey, IsNow, IsRecordOf, Knew, has_created}
+use Rattle.ca_model_examples.specs.Worlds.{adding, created_told, creating, long, put_told, putting, reading, rights_told, step, temp, temp_name}
+use Rattle.ca_model_examples.specs.Safe.{used, used_entries}
+use Rattle.ca_model_examples.proofs.Lists.{Each, each-at, at-take, at-take-within, none-at, one-at}
+use Rattle.ca_model_examples.proofs.UsedActs.{acted-1, acted-2, acted-3, created-at, no-removed}
+use Rattle.ca_model_examples.proofs.UsedOwn.{value_told}
+
+-- ---- what the server knew
+
+-- TEMP with this value
+abbrev temp_now : Stored → KnownRecord
+temp_now v = record { state = record temp { value = v.value; meta = v.meta }; busy = false; waits = 0 }
+
+abbrev temp_channel : KnownChannel
+temp_channel = record { sid = 5; cid = 1; name = temp_name; retired = false }
+
+abbrev knows : Stored → Bool → List KnownChannel → Knows
+knows v settled channels = record {
+  port = 5064;
+  rules = [];
+  record_of = λ (name : List ℕ). if bytes_eq temp_name name then Some (temp_now v) else None;
+  greeted = false;
+  peer = record { user = []; host = [] };
+  settled = settled;
+  channels = channels;
+  full = false;
+  keys = [];
+}
+
+abbrev state-in : Entry → RecordState
+state-in (Added r s) = s
+state-in e = temp
+
+by-test : (y : List Entry) (name : List ℕ) (k : KnownRecord) (b : Bool) → (b ≡ true → IsRecordOf y name (Some k)) → (b ≡ false → IsRecordOf y name None) → IsRecordOf y name (if b then Some k else None)
+by-test y name k true f g = f refl
+by-test y name k false f g = g refl
+
+-- the log has TEMP alone, now with this value
+records : (n : ℕ) (v : Stored) → Has (take n used_entries) 0 temp_name → IsNow (take n used_entries) 0 (temp_now v) → (name : List ℕ) → IsRecordOf (take n used_entries) name ((knows v true []).record_of name)
+records n v has now name =
+    by-test (take n used_entries) name (temp_now v) (bytes_eq temp_name name) (
+      λ e. (let same : temp_name ≡ name = (bytes_eq-Decides temp_name name).0 e in (0, subst (λ (m : List ℕ). Has (take n used_entries) 0 m) same has, now))) (
+      λ e r h.
+      (let at : At used_entries h.1.0 (Added r h.0) = at-take n used_entries h.1.0 _ h.1.1 in
+      let is : temp ≡ h.0 = each-at (λ (i : ℕ) (z : Entry). z ≡ Added r h.0 → temp ≡ h.0) used_entries ((λ f. ap state-in f), ((λ f. absurd cc), tt)) h.1.0 _ at refl in
+      let same : temp_name ≡ name = ap (λ (s : RecordState). s.name) is ∙ h.2 in
+      let yes-it-is : bytes_eq temp_name name ≡ true = subst (λ (m : List ℕ). bytes_eq temp_name m ≡ true) same refl in
+      cc))
+
+no-names : (n k : ℕ) (h : Step) (m : Fields) → IsEarly (before used n h) k m → (Is command.ClientName m → ⊥) × (Is command.HostName m → ⊥)
+no-names n k h m e =
+    let at : At used.up k e.0 = at-take n used.up k e.0 e.2 in
+    let both = each-at (λ (i : ℕ) (s : Sent). (Is command.ClientName s.message → ⊥) × (Is command.HostName s.message → ⊥)) used.up (
+      (λ f. omega (arith, f), λ f. omega (arith, f)), ((λ f. omega (arith, f), λ f. omega (arith, f)), ((λ f. omega (arith, f), λ f. omega (arith, f)), ((λ f. omega (arith, f), λ f. omega (arith, f)), tt)))) k e.0 at in
+    subst (λ (f : Fields). (Is command.ClientName f → ⊥) × (Is command.HostName f → ⊥)) e.4 both
+
+no-keys : (n : ℕ) (h : Step) (y : List Entry) → n ≤ 3 → AreJust [] (IsKey (before used n h) y)
+no-keys n h y few = record {
+  each = λ x i. absurd (none-at i.0 x i.1);
+  all = λ x key.
+    (let a = key.4 in
+    let at : At used.up key.0 key.2 = at-take n used.up key.0 key.2 a.2 in
+    let is : key.0 ≡ 3 = each-at (λ (i : ℕ) (s : Sent). s.intent ≡ On a.0 (Subscribe a.1) → i ≡ 3) used.up ((λ e. absurd cc), ((λ e. absurd cc), ((λ e. absurd cc), ((λ e. refl), tt)))) key.0 key.2 at a.3 in
+    let within = at-take-within n used.up key.0 key.2 a.2 in
+    absurd (omega (arith, is, within, few)));
+  once = λ i j x p q. absurd (none-at i x p);
+}
+
+is-temp : (x : KnownChannel) → x.sid ≡ 5 → x.cid ≡ 1 → x.name ≡ temp_name → x.retired ≡ false → temp_channel ≡ x
+is-temp x a b c d =
+    subst (λ (s : ℕ). ◌≡◌ {A = KnownChannel} (record { sid = s; cid = 1; name = temp_name; retired = false }) x) a (
+    subst (λ (s : ℕ). ◌≡◌ {A = KnownChannel} (record { sid = x.sid; cid = s; name = temp_name; retired = false }) x) b (
+    subst (λ (s : List ℕ). ◌≡◌ {A = KnownChannel} (record { sid = x.sid; cid = x.cid; name = s; retired = false }) x) c (
+    subst (λ (s : Bool). ◌≡◌ {A = KnownChannel} (record { sid = x.sid; cid = x.cid; name = x.name; retired = s }) x) d refl)))
+
+not-true : (b : Bool) → (b ≡ true → ⊥) → b ≡ false
+not-true true f = absurd (f refl)
+not-true false f = refl
