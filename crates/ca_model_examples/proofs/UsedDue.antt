@@ -1,6 +1,6 @@
 -- What was sent on the used channel was due.
 use Rattle.std.proofs.Common.{◌≡◌, ℕ, zero, suc, ◌<◌, ◌≤◌, ◌+◌, ◌⊎◌, inl, inr, List, [], ◌∷◌, length, refl, sym, ap, subst, ◌∙◌, arith}
-use Rattle.std.specs.Prelude.{true, false, Bool, Option, Some, None, take, pos, if◌then◌else◌}
+use Rattle.std.specs.Prelude.{true, false, Bool, Option, Some, None, take, pos, ◌==◌, if◌then◌else◌}
 use Rattle.std.specs.Str.{bytes_eq}
 use Rattle.std.specs.List.{list_any}
 use Rattle.std.proofs.lemmas.Slice.Eq.{bytes_eq-Decides}
@@ -16,9 +16,9 @@ use Rattle.ca_wire.specs.Fields.{Fields}
 use Rattle.ca_records.specs.Record.{RecordState}
 use Rattle.ca_records.specs.Rules.{Rule}
 use Rattle.ca_model.specs.Due.{Adds, Applies, Due, KnownChannel, KnownRecord, Knows, Nothing, Opens, Serves, subscription_in}
-use Rattle.ca_model.specs.Speech.{In, Is, Stored}
+use Rattle.ca_model.specs.Speech.{In, Is, Stored, name_in}
 use Rattle.ca_model.specs.History.{Intent, On, Subscribe, Circuit, Entry, Sent, Told, Step, Added, Applied, Removed}
-use Rattle.ca_model_safe.specs.Channels.{Has, before}
+use Rattle.ca_model_safe.specs.Channels.{Has, IsOpen, before}
 use Rattle.ca_model_safe.specs.Known.{AreJust, IsChannel, IsDue, IsEarly, IsKey, IsNow, IsRecordOf, Knew, has_created}
 use Rattle.ca_model_examples.specs.Worlds.{adding, created_told, creating, long, put_told, putting, reading, rights_told, step, temp, temp_name}
 use Rattle.ca_model_examples.specs.Safe.{used, used_entries}
@@ -97,3 +97,79 @@ is-temp x a b c d =
 not-true : (b : Bool) → (b ≡ true → ⊥) → b ≡ false
 not-true true f = absurd (f refl)
 not-true false f = refl
+
+-- the only open channel is that to TEMP
+one-channel : (n m : ℕ) (h : Step) → IsOpen (before used n h) (take m used_entries) 1 0 5 0 → At (take n used.up) 0 creating
+    → AreJust (temp_channel ∷ []) (IsChannel (before used n h) (take m used_entries))
+one-channel n m h is-open here = record {
+  each = λ x i.
+    (let e = (one-at temp_channel i.0 x i.1).1 in
+    subst (λ (z : KnownChannel). IsChannel (before used n h) (take m used_entries) z) (sym e) (1, 0, 0, creating, is-open, here, refl, refl, (λ f. absurd cc), (λ g. absurd (no-removed g.0 0 (at-take m used_entries g.0 _ g.1)))));
+  all = λ x c.
+    (let made = c.4.0 in
+    let from = created-at c.0 c.1 x.sid made.0 (at-take h.sent used.down c.0 made.0 made.3) made.4 made.6 in
+    let first : At used.up 0 c.3 = subst (λ (k : ℕ). At used.up k c.3) from.1 (at-take n used.up c.1 c.3 c.5) in
+    let is : c.3 ≡ creating = some_is c.3 creating (sym first ∙ refl) in
+    let cid : x.cid ≡ 1 = c.6 ∙ ap (λ (s : Sent). s.message.p1) is in
+    let name : x.name ≡ temp_name = c.7 ∙ ap (λ (s : Sent). name_in s.message) is in
+    let there : x.retired ≡ false = not-true x.retired (λ e. (let g = c.8 e in no-removed g.0 c.2 (at-take m used_entries g.0 _ g.1))) in
+    (0, subst (λ (z : KnownChannel). At (temp_channel ∷ []) 0 z) (is-temp x from.2 cid name there) refl));
+  once = λ i j x p q. (one-at temp_channel i x p).0 ∙ sym (one-at temp_channel j x q).0;
+}
+
+no-channel : (y : List Entry) → AreJust [] (IsChannel (before used 0 (step 0 1 1)) y)
+no-channel y = record {
+  each = λ x i. absurd (none-at i.0 x i.1);
+  all = λ x c. absurd (none-at c.0 c.4.0.0 c.4.0.3);
+  once = λ i j x p q. absurd (none-at i x p);
+}
+
+now-21 : IsNow (take 1 used_entries) 0 (temp_now (long 21))
+now-21 = record {
+  first = temp;
+  added = (0, refl);
+  v = long 21;
+  last = refl;
+  state = refl;
+  busy = ((λ e. absurd cc), (λ b. absurd (each-at (λ (i : ℕ) (z : Entry). z ≡ Applied b.0 b.1 0 b.2 true → ⊥) (take 1 used_entries) ((λ e. cc), tt) b.3.0 _ b.3.1 refl)));
+  waits = refl;
+}
+
+now-22 : IsNow (take 2 used_entries) 0 (temp_now (long 22))
+now-22 = record {
+  first = temp;
+  added = (0, refl);
+  v = long 22;
+  last = refl;
+  state = refl;
+  busy = ((λ e. absurd cc), (λ b. absurd (each-at (λ (i : ℕ) (z : Entry). z ≡ Applied b.0 b.1 0 b.2 true → ⊥) (take 2 used_entries) ((λ e. cc), ((λ e. cc), tt)) b.3.0 _ b.3.1 refl)));
+  waits = refl;
+}
+
+has-temp : (n : ℕ) → At (take n used_entries) 0 (Added 0 temp) → Has (take n used_entries) 0 temp_name
+has-temp n at = (temp, (0, at), refl, (λ h. no-removed h.0 0 (at-take n used_entries h.0 _ h.1)))
+
+knew : (n m : ℕ) (h : Step) (v : Stored) (settled : Bool) (channels : List KnownChannel) → IsNow (take m used_entries) 0 (temp_now v) → At (take m used_entries) 0 (Added 0 temp)
+    → n ≤ 3 → false ≡ list_any (λ (s : Sent). s.message.command == command_number command.Version) (take n used.up)
+    → settled ≡ has_created (take h.sent used.down)
+    → AreJust channels (IsChannel (before used n h) (take m used_entries)) → Knew 5064 [] (before used n h) (take m used_entries) (knows v settled channels)
+knew n m h v settled channels now at few greets sets open-ones = record {
+  on_port = refl;
+  by_rules = refl;
+  records = records m v (has-temp m at) now;
+  greeted = greets;
+  user = inr (refl, λ k r e is. (no-names n k h r e).0 is);
+  host = inr (refl, λ k r e is. (no-names n k h r e).1 is);
+  settled = sets;
+  channels = open-ones;
+  full = λ e. absurd cc;
+  keys = no-keys n h (take m used_entries) few;
+}
+
+ports : ℕ → ℕ
+ports n = 5064
+
+-- ---- what was due
+
+rules : ℕ → List Rule
+rules n = []
