@@ -63,24 +63,31 @@ no-later k i t after at creates =
 first-only : (n r : ℕ) → In (take n used_entries) (Removed r) → ⊥
 first-only n r h = no-removed h.0 r (at-take n used_entries h.0 _ h.1)
 
--- each of the later messages is handled on TEMP
+-- the channel is open when each of the later messages is handled
+pub open-1 : IsOpen (before used 1 (step 2 1 2)) (take 1 used_entries) 1 0 5 0
+open-1 =
+    ((created_told, creating, step 0 1 1, refl, refl, refl, (refl, refl), refl, refl, (temp, (0, refl), refl, (λ h. first-only 1 0 h))),
+      (λ i t after at. no-later 2 i t after at), (λ l m after early at. no-clears 1 l m at))
+
+pub open-2 : IsOpen (before used 2 (step 3 2 2)) (take 2 used_entries) 1 0 5 0
+open-2 =
+    ((created_told, creating, step 0 1 1, refl, refl, refl, (refl, refl), refl, refl, (temp, (0, refl), refl, (λ h. first-only 1 0 h))),
+      (λ i t after at. no-later 3 i t after at), (λ l m after early at. no-clears 2 l m at))
+
+pub open-3 : IsOpen (before used 3 (step 4 2 2)) (take 2 used_entries) 1 0 5 0
+open-3 =
+    ((created_told, creating, step 0 1 1, refl, refl, refl, (refl, refl), refl, refl, (temp, (0, refl), refl, (λ h. first-only 1 0 h))),
+      (λ i t after at. no-later 4 i t after at), (λ l m after early at. no-clears 3 l m at))
+
+-- so each is handled on TEMP
 pub acted-1 : Acted used used_entries 1 0
-acted-1 =
-    (putting 0 8 22, step 2 1 2, 1, 0, refl, refl, (
-      (created_told, creating, step 0 1 1, refl, refl, refl, (refl, refl), refl, refl, (temp, (0, refl), refl, (λ h. first-only 1 0 h))),
-      (λ i t after at. no-later 2 i t after at), (λ l m after early at. no-clears 1 l m at)))
+acted-1 = (putting 0 8 22, step 2 1 2, 1, 0, refl, refl, open-1)
 
 pub acted-2 : Acted used used_entries 2 0
-acted-2 =
-    (reading 1 7, step 3 2 2, 1, 0, refl, refl, (
-      (created_told, creating, step 0 1 1, refl, refl, refl, (refl, refl), refl, refl, (temp, (0, refl), refl, (λ h. first-only 1 0 h))),
-      (λ i t after at. no-later 3 i t after at), (λ l m after early at. no-clears 2 l m at)))
+acted-2 = (reading 1 7, step 3 2 2, 1, 0, refl, refl, open-2)
 
 pub acted-3 : Acted used used_entries 3 0
-acted-3 =
-    (adding 0 9, step 4 2 2, 1, 0, refl, refl, (
-      (created_told, creating, step 0 1 1, refl, refl, refl, (refl, refl), refl, refl, (temp, (0, refl), refl, (λ h. first-only 1 0 h))),
-      (λ i t after at. no-later 4 i t after at), (λ l m after early at. no-clears 3 l m at)))
+acted-3 = (adding 0 9, step 4 2 2, 1, 0, refl, refl, open-3)
 
 named : (channel : ℕ) → channel ≡ 0 → IsNamed used_lines used_entries channel 0
 named channel e = subst (λ (k : ℕ). IsNamed used_lines used_entries k 0) (sym e) (temp, (0, refl), (0, refl))

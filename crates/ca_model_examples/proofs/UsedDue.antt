@@ -3,6 +3,7 @@ use Rattle.std.proofs.Common.{◌≡◌, ℕ, zero, suc, ◌<◌, ◌≤◌, ◌
 use Rattle.std.specs.Prelude.{true, false, Bool, Option, Some, None, take, pos, ◌==◌, if◌then◌else◌}
 use Rattle.std.specs.Str.{bytes_eq}
 use Rattle.std.specs.List.{list_any}
+use Rattle.std.proofs.Math.Facts.{sfits_lit}
 use Rattle.std.proofs.lemmas.Slice.Eq.{bytes_eq-Decides}
 use Rattle.ca_text.specs.Place.{At}
 use Rattle.ca_text.proofs.Places.{some_is}
@@ -12,6 +13,7 @@ use Rattle.ca_dbr.specs.declared.data_type.BaseType.TheVariants as base
 use Rattle.ca_dbr.specs.declared.data_type.Form.TheVariants as form
 use Rattle.ca_dbr.specs.Elements as E
 use Rattle.ca_dbr.specs.Elements.{longs}
+use Rattle.ca_wire.specs.Header as H
 use Rattle.ca_wire.specs.Fields.{Fields}
 use Rattle.ca_records.specs.Record.{RecordState}
 use Rattle.ca_records.specs.Rules.{Rule}
@@ -19,12 +21,13 @@ use Rattle.ca_model.specs.Due.{Adds, Applies, Due, KnownChannel, KnownRecord, Kn
 use Rattle.ca_model.specs.Speech.{In, Is, Stored, name_in}
 use Rattle.ca_model.specs.History.{Intent, On, Subscribe, Circuit, Entry, Sent, Told, Step, Added, Applied, Removed}
 use Rattle.ca_model_safe.specs.Channels.{Has, IsOpen, before}
-use Rattle.ca_model_safe.specs.Known.{AreJust, IsChannel, IsDue, IsEarly, IsKey, IsNow, IsRecordOf, Knew, has_created}
-use Rattle.ca_model_examples.specs.Worlds.{adding, created_told, creating, long, put_told, putting, reading, rights_told, step, temp, temp_name}
-use Rattle.ca_model_examples.specs.Safe.{used, used_entries}
+use Rattle.ca_model_safe.specs.Known.{AreJust, IsChannel, IsDue, IsEarly, IsKey, IsNow, IsRecordOf, IsSafe, Knew, has_created}
+use Rattle.ca_model_examples.specs.Worlds.{adding, created_told, creating, long, ports, put_told, putting, reading, rights_told, rules, step, temp, temp_name}
+use Rattle.ca_model_examples.specs.Safe.{used, used_entries, used_world}
 use Rattle.ca_model_examples.proofs.Lists.{Each, each-at, at-take, at-take-within, none-at, one-at}
-use Rattle.ca_model_examples.proofs.UsedActs.{acted-1, acted-2, acted-3, created-at, no-removed}
+use Rattle.ca_model_examples.proofs.UsedActs.{created-at, no-removed, open-1, open-2, open-3}
 use Rattle.ca_model_examples.proofs.UsedOwn.{value_told}
+use Rattle.ca_model_examples.proofs.UsedWhole.{used-is-safe}
 
 -- ---- what the server knew
 
@@ -166,10 +169,125 @@ knew n m h v settled channels now at few greets sets open-ones = record {
   keys = no-keys n h (take m used_entries) few;
 }
 
-ports : ℕ → ℕ
-ports n = 5064
-
 -- ---- what was due
 
-rules : ℕ → List Rule
-rules n = []
+fits-22 : E.IsValue (longs (pos 22 ∷ []))
+fits-22 zero d h = sfits_lit tt
+fits-22 (suc k) d h = absurd (omega (arith, h))
+
+due-created : Due (knows (long 21) false []) creating.message (rights_told.message ∷ created_told.message ∷ []) (Opens temp_channel)
+due-created = record {
+  version = λ e. absurd (omega (arith, e));
+  user = λ e. absurd (omega (arith, e));
+  host = λ e. absurd (omega (arith, e));
+  echo = λ e. absurd (omega (arith, e));
+  search = λ e. absurd (omega (arith, e));
+  create = λ e. inl (record {
+    known = temp_now (long 21);
+    named = refl;
+    cid_free = λ h. none-at h.1.0 h.0 h.1.1;
+    sid = 5;
+    fits = omega arith;
+    sid_free = λ c h. absurd (none-at h.0 c h.1);
+    are = refl;
+    does = refl;
+  });
+  read = λ e. absurd (omega (arith, e));
+  write = λ e. absurd (omega (arith, e));
+  put = λ e. absurd (omega (arith, e));
+  subscribe = λ e. absurd (omega (arith, e));
+  cancel = λ e. absurd (omega (arith, e));
+  off = λ e. absurd (omega (arith, e));
+  on = λ e. absurd (omega (arith, e));
+  clear = λ e. absurd (omega (arith, e));
+  other = λ e. absurd cc;
+}
+
+abbrev serves : (v : Stored) → Serves (knows v true (temp_channel ∷ [])) 5
+serves v = record { channel = temp_channel; open_there = (0, refl); under = refl; there = refl; known = temp_now v; named = refl }
+
+due-put : Due (knows (long 21) true (temp_channel ∷ [])) (putting 0 8 22).message ((put_told 1 8 22).message ∷ []) (Applies temp_name (longs (pos 22 ∷ [])) false)
+unfolding E.signed_bytes_4
+due-put = record {
+  version = λ e. absurd (omega (arith, e));
+  user = λ e. absurd (omega (arith, e));
+  host = λ e. absurd (omega (arith, e));
+  echo = λ e. absurd (omega (arith, e));
+  search = λ e. absurd (omega (arith, e));
+  create = λ e. absurd (omega (arith, e));
+  read = λ e. absurd (omega (arith, e));
+  write = λ e. absurd (omega (arith, e));
+  put = λ e. inl (serves (long 21), inr (longs (pos 22 ∷ []), record {
+    elements = longs (pos 22 ∷ []);
+    early = refl;
+    reads = record { base = base.Long; typed = refl; reads = record { behind = 0 ∷ 0 ∷ 0 ∷ 0 ∷ []; spelled = refl; based = refl; counted = refl; valued = fits-22 } };
+    late = refl;
+    is = refl;
+  }, refl, refl));
+  subscribe = λ e. absurd (omega (arith, e));
+  cancel = λ e. absurd (omega (arith, e));
+  off = λ e. absurd (omega (arith, e));
+  on = λ e. absurd (omega (arith, e));
+  clear = λ e. absurd (omega (arith, e));
+  other = λ e. absurd cc;
+}
+
+due-read : Due (knows (long 22) true (temp_channel ∷ [])) (reading 1 7).message (value_told ∷ []) Nothing
+unfolding E.signed_bytes_4
+due-read = record {
+  version = λ e. absurd (omega (arith, e));
+  user = λ e. absurd (omega (arith, e));
+  host = λ e. absurd (omega (arith, e));
+  echo = λ e. absurd (omega (arith, e));
+  search = λ e. absurd (omega (arith, e));
+  create = λ e. absurd (omega (arith, e));
+  read = λ e. inl (serves (long 22), refl, inr (refl, (record { base = base.Long; form = form.Plain }, longs (pos 22 ∷ []), refl, refl, refl)));
+  write = λ e. absurd (omega (arith, e));
+  put = λ e. absurd (omega (arith, e));
+  subscribe = λ e. absurd (omega (arith, e));
+  cancel = λ e. absurd (omega (arith, e));
+  off = λ e. absurd (omega (arith, e));
+  on = λ e. absurd (omega (arith, e));
+  clear = λ e. absurd (omega (arith, e));
+  other = λ e. absurd cc;
+}
+
+due-added : Due (knows (long 22) true (temp_channel ∷ [])) (adding 0 9).message [] (Adds (subscription_in (adding 0 9).message temp_name))
+unfolding H.number16
+due-added = record {
+  version = λ e. absurd (omega (arith, e));
+  user = λ e. absurd (omega (arith, e));
+  host = λ e. absurd (omega (arith, e));
+  echo = λ e. absurd (omega (arith, e));
+  search = λ e. absurd (omega (arith, e));
+  create = λ e. absurd (omega (arith, e));
+  read = λ e. absurd (omega (arith, e));
+  write = λ e. absurd (omega (arith, e));
+  put = λ e. absurd (omega (arith, e));
+  subscribe = λ e. inl (serves (long 22), inr (refl, refl, refl));
+  cancel = λ e. absurd (omega (arith, e));
+  off = λ e. absurd (omega (arith, e));
+  on = λ e. absurd (omega (arith, e));
+  clear = λ e. absurd (omega (arith, e));
+  other = λ e. absurd cc;
+}
+
+pub created-due : IsDue ports rules 0 (before used 0 (step 0 1 1)) (take 1 used_entries) creating.message (rights_told.message ∷ created_told.message ∷ []) None []
+created-due =
+    (knows (long 21) false [], Opens temp_channel, knew 0 1 (step 0 1 1) (long 21) false [] now-21 refl (omega arith) refl refl (no-channel (take 1 used_entries)), due-created, refl, refl)
+
+pub put-due : IsDue ports rules 0 (before used 1 (step 2 1 2)) (take 1 used_entries) (putting 0 8 22).message ((put_told 1 8 22).message ∷ []) None (Applied 0 1 0 (long 22) false ∷ [])
+put-due =
+    (knows (long 21) true (temp_channel ∷ []), Applies temp_name (longs (pos 22 ∷ [])) false, knew 1 1 (step 2 1 2) (long 21) true (temp_channel ∷ []) now-21 refl (omega arith) refl refl (one-channel 1 1 (step 2 1 2) open-1 refl), due-put, refl, (0, long 22, has-temp 1 refl, refl, refl))
+
+pub read-due : IsDue ports rules 0 (before used 2 (step 3 2 2)) (take 2 used_entries) (reading 1 7).message (value_told ∷ []) None []
+read-due =
+    (knows (long 22) true (temp_channel ∷ []), Nothing, knew 2 2 (step 3 2 2) (long 22) true (temp_channel ∷ []) now-22 refl (omega arith) refl refl (one-channel 2 2 (step 3 2 2) open-2 refl), due-read, refl, refl)
+
+pub added-due : IsDue ports rules 0 (before used 3 (step 4 2 2)) (take 2 used_entries) (adding 0 9).message [] None []
+added-due =
+    (knows (long 22) true (temp_channel ∷ []), Adds (subscription_in (adding 0 9).message temp_name), knew 3 2 (step 4 2 2) (long 22) true (temp_channel ∷ []) now-22 refl (omega arith) refl refl (one-channel 3 2 (step 4 2 2) open-3 refl), due-added, refl, refl)
+
+-- The used channel is safe with what is due by the whole definition.
+pub used-safe : IsSafe ports rules used_world
+used-safe = used-is-safe (IsDue ports rules) created-due put-due read-due added-due

@@ -1,8 +1,10 @@
 //! Small histories for each clause of the statement: some are safe, and each of the others breaks one.
 #![tactic(auto)]
 
+mod safe_worlds;
 mod unsafe_worlds;
 
+pub use safe_worlds::a_channel_in_use_is_safe;
 pub use unsafe_worlds::{
     a_disconnection_for_nothing_is_unsafe, a_lost_or_repeated_post_is_unsafe,
     a_read_at_two_places_is_unsafe, a_read_of_another_record_is_unsafe,
