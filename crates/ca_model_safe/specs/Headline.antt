@@ -124,8 +124,9 @@ module _
     pub held : IsHeld (take i x) intent
     pub means : Means t.message o
 
-  -- And in a client's log: a notice tells what the reply to its own message means, or Disconnected if that is lost; a read,
-  -- write or subscription has one notice at most; a call is accepted once; and each accepted request is at one place.
+  -- And in a client's log: a notice tells what the reply to its own message means, or Disconnected if that is lost; a
+  -- read, write or subscription has one notice at most; a call is accepted once; and each accepted request is at one
+  -- place.
   pub record CompletesOnce (w : World) (life : ℕ) (x : List Line) : Type 0 where
     pub told : (i : ℕ) (intent : Intent) (o : Outcome) → At x i (Noticed intent o)
         → ((by : Reads w life x i intent o) × (by.t.cause ≡ Reply)) ⊎ ((o ≡ Disconnected) × IsLost w life x i intent)
