@@ -6,3 +6,4 @@ pub mod UsedOwn
 pub mod UsedRest
 pub mod UsedWhole
 pub mod UsedDue
+pub mod Crossed
