@@ -2,15 +2,17 @@
 use Rattle.std.specs.Prelude.{ℕ, ◌==◌, ◌&&◌, ◌++◌, Bool, true, false, not, List, [], ◌∷◌, Option, Some, None, filter, filter_map, find, fold, if◌then◌else◌, map, max, option_and_then, option_map, unwrap_or}
 use Rattle.ca_dbr.specs.declared.value.Outcome.TheVariants as outcome
 use Rattle.ca_arena.specs.declared.handle.Handle.{Handle}
-use Rattle.ca_ids.specs.Table.{Table, by_wire, held, same_handle, under, with_all_freed, with_changed, with_freed}
+use Rattle.ca_ids.specs.Table.{Table, by_wire, held, same_handle, under, with_changed, with_freed}
 use Rattle.ca_ids.specs.Wire.{wire_of}
 use Rattle.ca_beacon.specs.Table.{Servers}
 use Rattle.ca_link.specs.Link.{LinkState, with_sent}
 use Rattle.ca_search.specs.Searches as search
 use Rattle.ca_search.specs.Searcher.{with_one, without}
 use Rattle.ca_requests.specs.Requests.{Request, in_order_of_issue, was_sent_on}
+use Rattle.ca_requests.specs.Requests as request
 use Rattle.ca_monitor.specs.ReadRun.{ReadRun}
-use Rattle.ca_monitor.specs.Subscriptions.{Subscription, drains_on}
+use Rattle.ca_monitor.specs.Subscriptions.{Subscription}
+use Rattle.ca_monitor.specs.Subscriptions as monitor
 use Rattle.ca_model.specs.Ends.{Address, Peer, Why, same_address}
 use Rattle.ca_model.specs.Answers.{Closing, Notice, Sending}
 use Rattle.ca_model.specs.Answers as notice
@@ -190,10 +192,10 @@ farewell c x = disconnections (was_sent_on c) x ++ map notice.Lost (channels_on 
 abbrev pub closing : Why → Handle → Client → Closing
 closing why c x = record { why = why; notices = farewell c x; left = out_bytes x c }
 
--- the ids that drain on a circuit, and those of its requests, are free
+-- the IOIDs of a circuit's requests are free, and so are the subscription ids that drain on it
 abbrev pub without_ids : Handle → Client → Client
 without_ids c x =
-    record x { requests = with_all_freed (was_sent_on c) x.requests; subscriptions = with_all_freed (drains_on c) x.subscriptions }
+    record x { requests = request.circuit_gone c x.requests; subscriptions = monitor.circuit_gone c x.subscriptions }
 
 -- The channels of a circuit that has ended: those that were cleared are gone, the others are searched for again.
 abbrev pub channels_ended : Handle → Client → Client

@@ -1,5 +1,5 @@
 -- Vocabulary: what a client makes of a message that it reads on a circuit (section "CA Protocol Messages").
-use Rattle.std.specs.Prelude.{ℕ, ◌≡◌, ◌≢◌, ◌-◌, ◌^◌, ◌==◌, ◌&&◌, ◌++◌, ◌⊎◌, Bool, true, false, List, [], ◌∷◌, Option, Some, None, filter_map, if◌then◌else◌, option_and_then}
+use Rattle.std.specs.Prelude.{ℕ, ◌≡◌, ◌≢◌, ◌-◌, ◌^◌, ◌==◌, ◌++◌, ◌⊎◌, Bool, true, false, List, [], ◌∷◌, Option, Some, None, if◌then◌else◌, map, option_and_then}
 use Rattle.std.specs.List.{list_any}
 use Rattle.ca_text.specs.Command.{command_number}
 use Rattle.ca_text.specs.declared.command.Command.{Command}
@@ -7,7 +7,7 @@ use Rattle.ca_text.specs.declared.command.Command.TheVariants as command
 use Rattle.ca_dbr.specs.declared.value.Outcome.{Outcome}
 use Rattle.ca_dbr.specs.declared.value.Outcome.TheVariants as outcome
 use Rattle.ca_arena.specs.declared.handle.Handle.{Handle}
-use Rattle.ca_ids.specs.Table.{IsFull, MayGive, by_wire, held, under, with_all_freed, with_freed, with_held}
+use Rattle.ca_ids.specs.Table.{IsFull, MayGive, by_wire, under, with_freed, with_held}
 use Rattle.ca_ids.specs.Wire.{wire_of}
 use Rattle.ca_wire.specs.declared.header.Header.{Header}
 use Rattle.ca_wire.specs.Fields.{Fields}
@@ -15,14 +15,15 @@ use Rattle.ca_wire.specs.Messages.{create_request}
 use Rattle.ca_requests.specs.Meaning.{Means, QuotesHeader}
 use Rattle.ca_requests.specs.Requests.{Request, Stage, answered_by, asks_on}
 use Rattle.ca_requests.specs.Requests as request
-use Rattle.ca_monitor.specs.Subscriptions.{Subscription, confirmed_by, drains_on, is_to, standing_by, stands_to}
+use Rattle.ca_monitor.specs.Subscriptions.{Subscription, confirmed_by, standing_by, standing_to}
+use Rattle.ca_monitor.specs.Subscriptions as monitor
 use Rattle.ca_model.specs.Ends.{Address}
 use Rattle.ca_model.specs.Speech.{Is}
 use Rattle.ca_model.specs.Answers.{Notice, Sending}
 use Rattle.ca_model.specs.Answers as notice
 use Rattle.ca_model.specs.Client.{Channel, Client, ClientCircuit, Connection, Native, On, Phase, Searching, Standing, channel_on, circuit_to, disconnections, found_on, is_live, is_on_in, new_circuit, phase_on, searched_again, sending, with_standing, without_channel}
 use Rattle.ca_model.specs.Client as phase
-use Rattle.ca_model.specs.ClientCalls.{clear_sent, event_add_sent, requests_over}
+use Rattle.ca_model.specs.ClientCalls.{clear_sent, event_add_sent}
 
 -- what a message does: the client after it, what that sent, and what it tells
 pub record Effect : Type 0 where
@@ -94,7 +95,7 @@ rights_told x c m there = becomes x
 -- the EVENT_ADDs of a channel's subscriptions, in order of index
 abbrev pub event_adds : Handle → ℕ → Handle → Client → List Sending
 event_adds c sid h x =
-    filter_map (λ (e : Handle × Subscription). if stands_to h e.1 then Some (event_add_sent c sid e.0 e.1) else None) (held x.subscriptions)
+    map (λ (e : Handle × Subscription). event_add_sent c sid e.0 e.1) (standing_to h x.subscriptions)
 
 -- what a CREATE_CHAN says of its channel
 abbrev pub native_in : Fields → Native
@@ -116,10 +117,8 @@ failed x there = becomes x
 
 -- the ids of a channel whose clear is answered drain no more
 abbrev pub without_drained : Handle → Handle → Client → Client
-without_drained c h x = record x {
-  requests = with_all_freed (asks_on h) x.requests;
-  subscriptions = with_all_freed (λ (s : Subscription). is_to h s && drains_on c s) x.subscriptions;
-}
+without_drained c h x =
+    record x { requests = request.channel_gone h x.requests; subscriptions = monitor.channel_drained c h x.subscriptions }
 
 -- CLEAR_CHANNEL: a channel that its caller cleared is gone; one that its record left is searched for again ("CA_PROTO_CLEAR_CHANNEL")
 abbrev pub clear_answered : Client → Handle → Option (Handle × Phase) → Effect
@@ -131,7 +130,7 @@ clear_answered x c there = becomes x
 -- ("CA_PROTO_SERVER_DISCONN")
 abbrev pub left : Client → Handle → Option (Handle × Phase) → Effect
 left x c (Some (h, phase.Live n rights)) =
-    doing (clear_sent c n.sid h ∷ []) (disconnections (asks_on h) x ++ notice.Lost h ∷ []) (with_standing (On c phase.Leaving) h (requests_over h x))
+    doing (clear_sent c n.sid h ∷ []) (disconnections (asks_on h) x ++ notice.Lost h ∷ []) (with_standing (On c phase.Leaving) h (record x { requests = request.channel_over h x.requests }))
 left x c there = becomes x
 
 -- ---- requests and subscriptions, each by its id
