@@ -167,10 +167,18 @@ searched_again x h =
 abbrev pub without_channel : Client → Handle → Client
 without_channel x h = record x { channels = with_freed h x.channels; searches = without (wire_of h) x.searches }
 
+-- Nothing has the handle of this circuit.
+abbrev pub without_circuit : Handle → Client → Client
+without_circuit c x =
+    record x { circuits = with_freed c x.circuits; order = filter (λ (d : Handle). not (same_handle d c)) x.order }
+
+-- this circuit is not connected any more
+abbrev pub disconnected : Handle → Client → Client
+disconnected c x = record x { circuits = with_changed (λ (d : ClientCircuit). record d { connection = None }) c x.circuits }
+
 -- of a circuit that has ended nothing is kept, but a name server's is wanted again
 abbrev pub let_go : Handle → ClientCircuit → Client → Client
-let_go c d x =
-    if d.is_name then record x { circuits = with_changed (λ (e : ClientCircuit). record e { connection = None }) c x.circuits } else record x { circuits = with_freed c x.circuits; order = filter (λ (e : Handle). not (same_handle e c)) x.order }
+let_go c d x = if d.is_name then disconnected c x else without_circuit c x
 
 -- ---- an end ends
 

@@ -109,7 +109,12 @@ pub record Shape : Type 0 where
 abbrev pub ask_fault : Client → (full : Bool) → Handle → Shape → Option Refusal
 ask_fault x full h a =
     fault_at
-    (λ (l : LiveChannel). (nat_lt last_type a.data_type, refusal.BadType) ∷ (not (may_read l.rights), refusal.NoAccess) ∷ (nat_lt l.native.count a.count, refusal.BadCount) ∷ (is_over x l.circuit, refusal.OutputFull) ∷ (full, refusal.ArenaFull) ∷ [])
+    (λ (l : LiveChannel). (nat_lt last_type a.data_type, refusal.BadType)
+    ∷ (not (may_read l.rights), refusal.NoAccess)
+    ∷ (nat_lt l.native.count a.count, refusal.BadCount)
+    ∷ (is_over x l.circuit, refusal.OutputFull)
+    ∷ (full, refusal.ArenaFull)
+    ∷ [])
     (standing_at x h)
 
 -- a value with no element, with more than its channel takes, or with more bytes than a payload has
@@ -120,7 +125,11 @@ is_misfit n e = count_of e == 0 || (nat_lt n.count (count_of e) || nat_lt payloa
 abbrev pub put_fault : Client → (full : Bool) → Handle → Elements → Option Refusal
 put_fault x full h e =
     fault_at
-    (λ (l : LiveChannel). (not (may_write l.rights), refusal.NoAccess) ∷ (is_misfit l.native e, refusal.BadCount) ∷ (is_over x l.circuit, refusal.OutputFull) ∷ (full, refusal.ArenaFull) ∷ [])
+    (λ (l : LiveChannel). (not (may_write l.rights), refusal.NoAccess)
+    ∷ (is_misfit l.native e, refusal.BadCount)
+    ∷ (is_over x l.circuit, refusal.OutputFull)
+    ∷ (full, refusal.ArenaFull)
+    ∷ [])
     (standing_at x h)
 
 -- ---- read, write, write_notify
@@ -213,7 +222,8 @@ subscribe_fault x h a = ask_fault x (is_full x.subscriptions) h a
 abbrev pub ClientSubscribes : Client → Handle → Shape → (mask : ℕ) → Result Handle Refusal → List Sending → Client → Type 0
 ClientSubscribes old h a mask (Ok s) sent new =
     (l : LiveChannel) × IsLive old h l × (subscribe_fault old h a ≡ None) × MayGive old.subscriptions s
-    × (let d : Subscription = new_subscription h a mask in Does (event_add_sent l.circuit l.native.sid s d ∷ []) (record old { subscriptions = with_held s d old.subscriptions }) sent new)
+    × (let d : Subscription = new_subscription h a mask in
+    Does (event_add_sent l.circuit l.native.sid s d ∷ []) (record old { subscriptions = with_held s d old.subscriptions }) sent new)
 ClientSubscribes old h a mask (Err refusal.OutOfMemory) sent new = (subscribe_fault old h a ≡ None) × IsUnchanged old sent new
 ClientSubscribes old h a mask (Err e) sent new = (subscribe_fault old h a ≡ Some e) × IsUnchanged old sent new
 
@@ -224,7 +234,8 @@ cancel_sent s d there = []
 
 -- Its id drains until the confirmation, or, on a channel that its record left, until the clear's reply; else it is free.
 abbrev pub unsubscribed : Handle → Option Standing → Client → Client
-unsubscribed s (Some (On c (phase.Live n rights))) x = record x { subscriptions = with_stage (monitor.Cancelled c) s x.subscriptions }
+unsubscribed s (Some (On c (phase.Live n rights))) x =
+    record x { subscriptions = with_stage (monitor.Cancelled c) s x.subscriptions }
 unsubscribed s (Some (On c phase.Leaving)) x = record x { subscriptions = with_stage (monitor.Ended c) s x.subscriptions }
 unsubscribed s there x = record x { subscriptions = with_freed s x.subscriptions }
 
@@ -248,7 +259,8 @@ ClientUnsubscribes old s (Ok _) sent new =
     (d : Subscription) × StandsAs old s d × (cancel_fault old (Some d) ≡ None)
     × Does (cancel_sent s d (standing_at old d.channel)) (unsubscribed s (standing_at old d.channel) old) sent new
 ClientUnsubscribes old s (Err refusal.OutOfMemory) sent new =
-    (d : Subscription) × (l : LiveChannel) × StandsAs old s d × (cancel_fault old (Some d) ≡ None) × IsLive old d.channel l × IsUnchanged old sent new
+    (d : Subscription) × (l : LiveChannel) × StandsAs old s d × (cancel_fault old (Some d) ≡ None)
+    × IsLive old d.channel l × IsUnchanged old sent new
 ClientUnsubscribes old s (Err e) sent new = (cancel_fault old (standing_under s old.subscriptions) ≡ Some e) × IsUnchanged old sent new
 
 -- ---- clear
@@ -265,7 +277,9 @@ clearing_sent h s = []
 -- a circuit that is not connected, and on which no channel is any more, is let go
 abbrev pub unwanted : Handle → Client → Client
 unwanted c x =
-    if length (channels_on (λ (p : Phase). true) c x) == 0 then unwrap_or (option_map (λ (d : ClientCircuit). let_go c d x) (under x.circuits c)) x else x
+    if length (channels_on (λ (p : Phase). true) c x) == 0
+    then unwrap_or (option_map (λ (d : ClientCircuit). let_go c d x) (under x.circuits c)) x
+    else x
 
 -- the ids of the channel's subscriptions are free
 abbrev pub unsubscribed_all : Handle → Client → Client
@@ -286,7 +300,8 @@ cleared h (On c p) x = with_standing (On c phase.Clearing) h (all_over c h x)
 -- `clear`. Its notices are Disconnected for each open request of the channel, in order of issue. Only a CLEAR_CHANNEL takes memory.
 abbrev pub ClientClears : Client → Handle → Result (List Notice) Refusal → List Sending → Client → Type 0
 ClientClears old h (Ok notices) sent new =
-    (s : Standing) × (standing_at old h ≡ Some s) × (notices ≡ disconnections (asks_on h) old) × Does (clearing_sent h s) (cleared h s old) sent new
+    (s : Standing) × (standing_at old h ≡ Some s) × (notices ≡ disconnections (asks_on h) old)
+    × Does (clearing_sent h s) (cleared h s old) sent new
 ClientClears old h (Err refusal.StaleHandle) sent new = (standing_at old h ≡ None) × IsUnchanged old sent new
 ClientClears old h (Err refusal.OutOfMemory) sent new = (l : LiveChannel) × IsLive old h l × IsUnchanged old sent new
 ClientClears old h (Err _) sent new = ⊥

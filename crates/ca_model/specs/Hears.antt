@@ -1,5 +1,5 @@
 -- Vocabulary: what a client makes of a message that it reads on a circuit (section "CA Protocol Messages").
-use Rattle.std.specs.Prelude.{ℕ, ◌≡◌, ◌≢◌, ◌-◌, ◌^◌, ◌==◌, ◌++◌, ◌⊎◌, Bool, true, false, List, [], ◌∷◌, Option, Some, None, if◌then◌else◌, map, option_and_then}
+use Rattle.std.specs.Prelude.{ℕ, ◌≡◌, ◌≢◌, ◌-◌, ◌^◌, ◌==◌, ◌++◌, ◌⊎◌, Bool, true, false, List, [], ◌∷◌, Option, Some, None, if◌then◌else◌, map, option_and_then, option_map, unwrap_or}
 use Rattle.std.specs.List.{list_any}
 use Rattle.ca_text.specs.Command.{command_number}
 use Rattle.ca_text.specs.declared.command.Command.{Command}
@@ -72,7 +72,8 @@ with_circuit c d x = record x { circuits = with_held c d x.circuits; order = x.o
 abbrev pub PutsOn : Client → Address → Handle → Channel → Option (Handle × ClientCircuit) → Effect → Type 0
 PutsOn x a h here (Some (c, d)) e = e ≡ put_on c d.connection h here x
 PutsOn x a h here None e =
-    ((c : Handle) × MayGive x.circuits c × (e ≡ put_on c None h here (with_circuit c (new_circuit a here.priority false) x)))
+    ((c : Handle) × MayGive x.circuits c
+    × (e ≡ put_on c None h here (with_circuit c (new_circuit a here.priority false) x)))
     ⊎ (IsFull x.circuits × (e ≡ becomes x))
 
 -- a channel was found at this address; of a channel that is not searched for nothing happens
@@ -130,7 +131,10 @@ clear_answered x c there = becomes x
 -- ("CA_PROTO_SERVER_DISCONN")
 abbrev pub left : Client → Handle → Option (Handle × Phase) → Effect
 left x c (Some (h, phase.Live n rights)) =
-    doing (clear_sent c n.sid h ∷ []) (disconnections (asks_on h) x ++ notice.Lost h ∷ []) (with_standing (On c phase.Leaving) h (record x { requests = request.channel_over h x.requests }))
+    doing
+    (clear_sent c n.sid h ∷ [])
+    (disconnections (asks_on h) x ++ notice.Lost h ∷ [])
+    (with_standing (On c phase.Leaving) h (record x { requests = request.channel_over h x.requests }))
 left x c there = becomes x
 
 -- ---- requests and subscriptions, each by its id
@@ -158,11 +162,15 @@ abbrev pub confirmed : Client → Option Handle → Effect
 confirmed x (Some s) = becomes (without_subscription s x)
 confirmed x None = becomes x
 
+-- the channel of this handle is live on this circuit
+abbrev pub is_live_on : Client → Handle → Handle → Bool
+is_live_on x c h = unwrap_or (option_map (is_on_in is_live c) (under x.channels h)) false
+
 -- the subscription of this id, if it stands and its channel is live on this circuit
 abbrev pub heard_by : Client → Handle → ℕ → Option Handle
 heard_by x c id =
     option_and_then
-    (λ (e : Handle × Subscription). option_and_then (λ (here : Channel). if is_on_in is_live c here then Some e.0 else None) (under x.channels e.1.channel))
+    (λ (e : Handle × Subscription). if is_live_on x c e.1.channel then Some e.0 else None)
     (standing_by id x.subscriptions)
 
 -- Any other EVENT_ADD is an update ("CA_PROTO_EVENT_ADD").
@@ -196,7 +204,11 @@ any_failed x m None = becomes x
 -- the request with this header failed: a WRITE by the ERROR's CID, an EVENT_ADD, or a request with an answer by its id
 abbrev pub failing : Client → Handle → Fields → Header → Effect
 failing x c m h =
-    if h.command == command_number command.Write then write_failed x m (channel_on x c m.p1) else if h.command == command_number command.EventAdd then subscription_failed x m (heard_by x c h.p2) else any_failed x m (answered_by c h.command h.p2 x.requests)
+    if h.command == command_number command.Write
+    then write_failed x m (channel_on x c m.p1)
+    else if h.command == command_number command.EventAdd
+    then subscription_failed x m (heard_by x c h.p2)
+    else any_failed x m (answered_by c h.command h.p2 x.requests)
 
 -- An ERROR quotes the header of the request that failed. If that is not whole it is skipped ("CA_PROTO_ERROR").
 abbrev pub Fails : Client → Handle → Fields → Effect → Type 0
@@ -208,7 +220,8 @@ Fails x c m e =
 -- the commands that a client understands on a circuit
 abbrev pub understood : List Command
 understood =
-    command.Search ∷ command.AccessRights ∷ command.CreateChannel ∷ command.CreateChannelFail ∷ command.ClearChannel ∷ command.ServerDisconnect ∷ command.ReadNotify ∷ command.WriteNotify ∷ command.EventAdd ∷ command.Error ∷ []
+    command.Search ∷ command.AccessRights ∷ command.CreateChannel ∷ command.CreateChannelFail ∷ command.ClearChannel
+    ∷ command.ServerDisconnect ∷ command.ReadNotify ∷ command.WriteNotify ∷ command.EventAdd ∷ command.Error ∷ []
 
 -- A message that was read on this circuit has this effect. One of another command is skipped, and so is one that is about nothing here.
 pub data Hears (x : Client) (c : Handle) (m : Fields) (e : Effect) : Type 0 where
