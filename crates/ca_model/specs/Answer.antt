@@ -1,6 +1,6 @@
 -- Vocabulary: what one circuit's engine writes for the messages that it read: for each, its replies, then the replies of finishes, and
 -- then the updates of one pump (section "Overall Server Operation"). It is the contract of `answer_stream`.
-use Rattle.std.specs.Prelude.{ℕ, ◌≡◌, ◌++◌, List, [], ◌∷◌, None, Ok, length, map}
+use Rattle.std.specs.Prelude.{ℕ, ◌≡◌, ◌++◌, false, List, [], ◌∷◌, None, Ok, length, map}
 use Rattle.std.specs.List.{FoldsTo}
 use Rattle.ca_arena.specs.declared.handle.Handle.{Handle}
 use Rattle.ca_link.specs.Link.{with_handed}
@@ -29,7 +29,7 @@ pub record Serves (h : Handle) (old : Server) (m : Fields) (new : Server) : Type
   pub handled : Server
   pub handles : Handles old h e m replies action handled
   pub reached : Server
-  pub reaches : Reaches action (λ (g : Handle). Rattle.std.specs.Prelude.false) handled reached
+  pub reaches : Reaches action (λ (g : Handle). false) handled reached
   pub names : List (List ℕ)
   pub idle : Server
   pub finishes : FoldsTo FinishesOne reached names idle

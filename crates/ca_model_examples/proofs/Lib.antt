@@ -1,10 +1,2 @@
 pub mod Lists
-pub mod Worlds
-pub mod SafeActs
-pub mod SafeSees
-pub mod SafeWrites
-pub mod SafeOwn
 pub mod Unsafe
-pub mod Worked
-pub mod Makes
-pub mod Drains

@@ -1,6 +1,2 @@
-pub mod Blank
+pub mod Worlds
 pub mod Unsafe
-pub mod Safe
-pub mod Rows
-pub mod Steps
-pub mod Draining

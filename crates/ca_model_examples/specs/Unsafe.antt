@@ -1,169 +1,201 @@
--- Small histories that break a clause.
-use Rattle.std.specs.Prelude.{ℕ, pos, List, [], ◌∷◌, true, false}
+-- Vocabulary: small histories, each of which breaks a clause.
+use Rattle.std.specs.Prelude.{ℕ, ◌≡◌, List, [], ◌∷◌, Option, Some, None, pos, true, false}
 use Rattle.ca_text.specs.declared.command.Command.TheVariants as command
+use Rattle.ca_text.specs.Status.{bad_channel, bad_type, normal}
 use Rattle.ca_dbr.specs.declared.value.Outcome.TheVariants as outcome
 use Rattle.ca_dbr.specs.Elements.{longs}
-use Rattle.ca_queue.specs.declared.entry.SubKey.{SubKey}
 use Rattle.ca_wire.specs.Fields.{Fields}
-use Rattle.ca_small_model.specs.declared.data.Cause.TheVariants as cause
-use Rattle.ca_small_model.specs.declared.data.Intent.TheVariants as intent
-use Rattle.ca_small_model.specs.declared.data.Notice.TheVariants as notice
-use Rattle.ca_small_model.specs.declared.data.Sent.{Sent}
-use Rattle.ca_small_model.specs.declared.data.Told.{Told}
-use Rattle.ca_small_model.specs.Circuit.{History}
-use Rattle.ca_small_model.specs.Replies.{cleared_reply, created_reply, refused_reply}
-use Rattle.ca_small_model.specs.Requests.{create_request, read_request}
-use Rattle.ca_model_whole.specs.Log.{Applied, Posted, ServerLog, no_log}
-use Rattle.ca_model_whole.specs.Messages.{clear_request, event_add_request, put_request, put_told, update_told}
-use Rattle.ca_model_whole.specs.Calls.{Called, Line, Told as ToldLine}
-use Rattle.ca_model_whole.specs.Calls as calls
-use Rattle.ca_model_whole.specs.Ends.{Item, ServerPart, Subscription, new_part}
-use Rattle.ca_model_whole.specs.World.{World}
-use Rattle.ca_model_examples.specs.Blank.{course, course_with, long, setp_name, temp, temp_name, world}
+use Rattle.ca_wire.specs.Messages.{error_reply, put_request, status_reply, update, value_reply}
+use Rattle.ca_model.specs.Speech.{Is, Stored}
+use Rattle.ca_model.specs.Updates.{Shows}
+use Rattle.ca_model.specs.History.{Clear, Create, Request, Subscribe, Read, Put, Write, On, Update, Sent, Told, Step, Circuit, Entry, Added, Applied, Finished, Removed, Waits, Withdrawn, Line, Called, Noticed, Opened, World}
+use Rattle.ca_model_safe.specs.Headline.{Follows, Safe}
+use Rattle.ca_model_safe.specs.Means.{Means}
+use Rattle.ca_model_examples.specs.Worlds.{AnyDue, Unsafe, adding, circuit, clearing, created_told, creating, disconnected, long, put_told, putting, reading, reply, step, temp, temp_name, wanted, world}
 
-abbrev pub reply_to : ℕ → Fields → Told
-reply_to k m = record { message = m; cause = cause.Reply k }
+-- ---- logs
 
--- ---- a request acted on the record of a channel that was cleared before
+-- TEMP is there.
+abbrev pub temp_there : List Entry
+temp_there = Added 0 temp ∷ []
 
--- Channel 0 is created under SID 5 and cleared; then a read of channel 1, which has another name, goes out under SID 5.
-abbrev pub cleared_history : History
-cleared_history = record {
-  up =
-      record { message = create_request 1 temp_name; intent = intent.Create 0 }
-      ∷ record { message = clear_request 5 1; intent = intent.Clear 0 }
-      ∷ record { message = read_request 5 7 5 1; intent = intent.Read 1 0 }
-      ∷ [];
-  down = reply_to 0 (created_reply (create_request 1 temp_name) temp 5) ∷ reply_to 1 (cleared_reply (clear_request 5 1)) ∷ [];
-  handled = 0 ∷ 1 ∷ 2 ∷ [];
-  heard = [];
-}
+-- A channel to TEMP was opened and became live.
+abbrev pub live_lines : List Line → List Line
+live_lines more = Opened 0 temp_name ∷ Noticed (On 0 Create) outcome.Done ∷ more
 
-abbrev pub acts_on_cleared : World
-acts_on_cleared =
-    world (Called (calls.Open temp_name 0) ∷ Called (calls.Open setp_name 0) ∷ Called (calls.Clear 0) ∷ Called (calls.Read 1 5 1) ∷ []) no_log (course cleared_history ∷ [])
+-- the client sent this after its CREATE_CHAN, and the server this after its reply, which is read
+abbrev pub live_circuit : List Sent → List Told → List Step → Circuit
+live_circuit up down handled = circuit (creating ∷ up) (created_told ∷ down) (step 0 1 1 ∷ handled) (step 1 1 2 ∷ [])
 
--- ---- a reply completed by the request before it
+-- a read of TEMP was accepted
+abbrev pub read_lines : List Line
+read_lines = live_lines (Called (On 0 (Request Read 0)) None ∷ [])
 
--- Two reads; the reply to the second completes the first.
-abbrev pub second_read : Fields
-second_read = read_request 5 8 5 1
+-- the reply to that read with this value
+abbrev pub read_told : ℕ → Told
+read_told value = reply 1 (value_reply (reading 0 7).message 1 (0 ∷ 0 ∷ 0 ∷ value ∷ []))
 
-abbrev pub failure : Rattle.ca_dbr.specs.declared.value.Outcome.Outcome
-failure = outcome.Failed (record { number = 152 })
+-- ---- the first clause
 
-abbrev pub crossed_history : History
-crossed_history = record {
-  up = record { message = read_request 5 7 5 1; intent = intent.Read 0 0 } ∷ record { message = second_read; intent = intent.Read 0 1 } ∷ [];
-  down = reply_to 1 (refused_reply second_read 152) ∷ [];
-  handled = [];
-  heard = 2 ∷ [];
-}
+-- A record was removed and another added under its name; a read on the old channel is answered with the new record's value, 22.
+abbrev pub from_new : Circuit
+from_new = live_circuit (reading 0 7 ∷ []) (disconnected ∷ read_told 22 ∷ []) (step 2 3 3 ∷ [])
 
-abbrev pub crossed_log : List Line
-crossed_log = Called (calls.Read 0 5 1) ∷ Called (calls.Read 0 5 1) ∷ ToldLine (calls.Basic (notice.Completed 0 failure)) ∷ []
+abbrev pub answered_from_new : World
+answered_from_new = world (from_new ∷ []) read_lines (Added 0 temp ∷ Removed 0 ∷ Added 1 temp ∷ [])
 
-abbrev pub completes_the_one_before : World
-completes_the_one_before = world crossed_log no_log (course crossed_history ∷ [])
+-- A read is answered by BADCHID, and nobody removed its record.
+abbrev pub for_nothing : Circuit
+for_nothing = live_circuit (reading 0 7 ∷ []) (reply 1 (status_reply (reading 0 7).message bad_channel) ∷ []) (step 1 1 1 ∷ [])
 
--- ---- an update of a cancelled subscription given to a new one
+abbrev pub refused_for_nothing : World
+refused_for_nothing = world (for_nothing ∷ []) read_lines temp_there
 
--- Subscription 0 is made under id 7 and given up, subscription 1 is made under the same id, and then an update of the first is read.
-abbrev pub old_update_history : History
-old_update_history = record {
-  up =
-      record { message = event_add_request 5 7 5 1 1; intent = intent.Subscribe 0 0 }
-      ∷ record { message = event_add_request 5 7 5 1 1; intent = intent.Subscribe 0 1 }
-      ∷ [];
-  down = record { message = update_told 5 1 1 7 (0 ∷ 0 ∷ 0 ∷ 21 ∷ []); cause = cause.Update 0 0 } ∷ [];
-  handled = [];
-  heard = 2 ∷ [];
-}
+-- ---- the second
 
-abbrev pub gives_old_update_to_new : World
-gives_old_update_to_new = world [] no_log (course old_update_history ∷ [])
+-- The read at place 1 was not handled, and yet a reply to it came.
+abbrev pub invented_answer : World
+invented_answer = world (live_circuit (reading 0 7 ∷ []) (read_told 99 ∷ []) [] ∷ []) read_lines temp_there
 
--- ---- a write applied twice after a reconnect
+-- the update of the EVENT_ADD at this place that carries the post of this number
+abbrev pub updated : (place item value : ℕ) → Told
+updated place item value = record { message = update 5 1 normal 9 (0 ∷ 0 ∷ 0 ∷ value ∷ []); place = place; cause = Update item }
 
--- The plain write 0 went out on two circuits.
-abbrev pub written_history : History
-written_history = record {
-  up = record { message = put_request command.Write 5 0 (longs (pos 42 ∷ [])); intent = intent.Write 0 0 } ∷ [];
-  down = [];
-  handled = 0 ∷ [];
-  heard = [];
-}
+-- a subscription to TEMP was accepted
+abbrev pub subscribed_lines : List Line
+subscribed_lines = live_lines (Called (On 0 (Subscribe 0)) None ∷ [])
 
-abbrev pub applied_on : ℕ → Rattle.ca_model_whole.specs.Log.Entry
-applied_on circuit = Applied (record { circuit = circuit; place = 0; name = temp_name; stored = long 42; busies = false })
+-- The EVENT_ADD was refused by an ERROR, and yet an update of it came.
+abbrev pub update_of_refused : World
+update_of_refused =
+    world (
+    live_circuit (adding 0 9 ∷ []) (reply 1 (error_reply 1 bad_type (adding 0 9).message) ∷ updated 1 0 21 ∷ []) (step 1 1 1 ∷ []) ∷ []
+    ) subscribed_lines temp_there
 
-abbrev pub writes_after_reconnect : World
-writes_after_reconnect =
-    world (Called (calls.Open temp_name 0) ∷ Called (calls.Write 0 (longs (pos 42 ∷ []))) ∷ []) (record { entries = applied_on 0 ∷ applied_on 1 ∷ []; notes = [] }) (course written_history ∷ course written_history ∷ [])
+-- An update came of an EVENT_ADD that was not handled.
+abbrev pub update_of_unhandled : World
+update_of_unhandled = world (live_circuit (adding 0 9 ∷ []) (updated 1 0 21 ∷ []) [] ∷ []) subscribed_lines temp_there
 
--- ---- a put completed Done that is in no log
+-- A SERVER_DISCONN came, and nobody removed the record.
+abbrev pub gone_for_nothing : Circuit
+gone_for_nothing = live_circuit [] (disconnected ∷ []) []
 
-abbrev pub put_message : Fields
-put_message = put_request command.WriteNotify 5 7 (longs (pos 42 ∷ []))
+abbrev pub disconnected_for_nothing : World
+disconnected_for_nothing = world (gone_for_nothing ∷ []) (live_lines []) temp_there
 
-abbrev pub put_history : History
-put_history = record {
-  up = record { message = put_message; intent = intent.WriteNotify 0 0 } ∷ [];
-  down = reply_to 0 (put_told put_message 1) ∷ [];
-  handled = 0 ∷ [];
-  heard = 1 ∷ [];
-}
+-- A write was reported as refused, and no message said so.
+abbrev pub unsaid_refusal : World
+unsaid_refusal = world [] (Noticed (On 0 (Request Write 0)) (outcome.Failed (record { number = 160 })) ∷ []) []
 
-abbrev pub put_log : List Line
-put_log =
-    Called (calls.Open temp_name 0)
-    ∷ Called (calls.WriteNotify 0 (longs (pos 42 ∷ [])))
-    ∷ ToldLine (calls.Basic (notice.Completed 0 outcome.Done))
-    ∷ []
+-- A channel was reported live, and it was never created.
+abbrev pub unsaid_creation : World
+unsaid_creation = world [] (live_lines []) []
 
-abbrev pub done_but_not_applied : World
-done_but_not_applied = world put_log no_log (course put_history ∷ [])
+-- A subscription was reported as ended, by the ERROR that refused a write.
+abbrev pub writing : Sent
+writing = record { message = put_request command.Write (wanted 0) (0 ∷ 0 ∷ 0 ∷ 22 ∷ []); intent = On 0 (Request Write 0) }
 
--- ---- updates out of order, and a queue that lost the newest post
+abbrev pub refused_write : Circuit
+refused_write =
+    record (live_circuit (writing ∷ []) (reply 1 (error_reply 1 160 writing.message) ∷ []) (step 1 1 1 ∷ [])) { heard = step 1 1 2 ∷ step 2 2 3 ∷ [] }
 
--- Channel 0 is created under SID 5, and a subscription to it made under id 7; then 22 is posted.
-abbrev pub subscribing : Fields
-subscribing = event_add_request 5 7 5 1 1
+abbrev pub foreign_refusal : World
+foreign_refusal =
+    world (refused_write ∷ []) (live_lines (Noticed (On 0 (Subscribe 0)) (outcome.Failed (record { number = 160 })) ∷ [])) temp_there
 
-abbrev pub subscribed_up : List Sent
-subscribed_up =
-    record { message = create_request 1 temp_name; intent = intent.Create 0 } ∷ record { message = subscribing; intent = intent.Subscribe 0 0 } ∷ []
+-- A read was reported as disconnected; its circuit and its channel are there, and no SERVER_DISCONN came.
+abbrev pub unanswered_read : Circuit
+unanswered_read = live_circuit (reading 0 7 ∷ []) [] []
 
-abbrev pub created_told : Told
-created_told = reply_to 0 (created_reply (create_request 1 temp_name) temp 5)
+abbrev pub lost_lines : List Line
+lost_lines = live_lines (Called (On 0 (Request Read 0)) None ∷ Noticed (On 0 (Request Read 0)) outcome.Disconnected ∷ [])
 
-abbrev pub update_with : ℕ → ℕ → Told
-update_with item n = record { message = update_told 5 1 1 7 (0 ∷ 0 ∷ 0 ∷ n ∷ []); cause = cause.Update 1 item }
+abbrev pub lost_for_nothing : World
+lost_for_nothing = world (unanswered_read ∷ []) lost_lines temp_there
 
-abbrev pub posted_log : ServerLog
-posted_log = record { entries = Posted (record { name = temp_name; stored = long 22; mask = 1 }) ∷ []; notes = [] }
+-- A read was sent again on another circuit.
+abbrev pub read_twice : World
+read_twice =
+    world (circuit (creating ∷ reading 0 7 ∷ []) [] [] [] ∷ circuit (creating ∷ reading 0 7 ∷ []) [] [] [] ∷ []) (Opened 0 temp_name ∷ []) []
 
-abbrev pub subscribed_history : List Told → History
-subscribed_history updates = record { up = subscribed_up; down = created_told ∷ updates; handled = 0 ∷ 1 ∷ []; heard = [] }
+-- ---- replies to puts on a slow record
 
--- the update with 22 went down before the one with 21
-abbrev pub out_of_order : World
-out_of_order =
-    world [] posted_log (course_with (subscribed_history (update_with 1 22 ∷ update_with 0 21 ∷ [])) (0 ∷ 0 ∷ []) new_part ∷ [])
+-- For a put with notification nothing is due at once, and NORMAL once it is finished.
+abbrev pub SlowDue : ℕ → Circuit → List Entry → Fields → List Fields → Option Fields → List Entry → Type 0
+SlowDue n c y m replies late logs = Is command.WriteNotify m → (replies ≡ []) × (late ≡ Some (status_reply m normal))
 
--- an end whose first queue has these values waiting for that subscription
-abbrev pub key : SubKey
-key = record { sid = 5; sub = 7 }
+-- A world is unsafe if no put with notification is done at once.
+abbrev pub UnsafeSlow : World → Type 0
+UnsafeSlow w = Safe SlowDue Shows Means w → ⊥
 
-abbrev pub subscription : Subscription
-subscription = record { key = key; place = 1; name = temp_name; data_type = 5; count = 1; mask = 1; since = 0 }
+-- a put of TEMP was accepted
+abbrev pub put_lines : List Line
+put_lines = live_lines (Called (On 0 (Request Put 0)) (Some (longs (pos 22 ∷ []))) ∷ [])
 
-abbrev pub waiting_item : ℕ → ℕ → SubKey × Item
-waiting_item number n = (key, record { place = 1; item = number; stored = long n })
+-- The put was handled, and its reply sent.
+abbrev pub answered : Circuit
+answered = live_circuit (putting 0 8 22 ∷ []) (put_told 1 8 22 ∷ []) (step 1 1 2 ∷ [])
 
-abbrev pub with_waiting : List (SubKey × Item) → ServerPart
-with_waiting waiting = record new_part { queues = record { waiting = waiting; subscriptions = key ∷ []; events_on = true } ∷ [] }
+-- It was applied, and is not finished.
+abbrev pub unfinished_entries : List Entry
+unfinished_entries = Added 0 temp ∷ Applied 0 1 0 (long 22) true ∷ []
 
--- 21 waits, and 22 is not there
-abbrev pub loses_the_newest : World
-loses_the_newest = world [] posted_log (course_with (subscribed_history []) (0 ∷ 0 ∷ []) (with_waiting (waiting_item 0 21 ∷ [])) ∷ [])
+abbrev pub answered_unfinished : World
+answered_unfinished = world (answered ∷ []) put_lines unfinished_entries
+
+-- It waited, and was withdrawn.
+abbrev pub withdrawn_entries : List Entry
+withdrawn_entries = Added 0 temp ∷ Waits 0 1 0 (long 22) ∷ Withdrawn 0 1 ∷ []
+
+abbrev pub answered_withdrawn : World
+answered_withdrawn = world (answered ∷ []) put_lines withdrawn_entries
+
+-- It was finished after its channel's CLEAR_CHANNEL was handled, and yet the reply came.
+abbrev pub finished_entries : List Entry
+finished_entries = Added 0 temp ∷ Applied 0 1 0 (long 22) true ∷ Finished 0 1 ∷ []
+
+abbrev pub cleared : Circuit
+cleared =
+    live_circuit (putting 0 8 22 ∷ clearing ∷ []) (reply 2 clearing.message ∷ put_told 1 8 22 ∷ []) (step 1 1 2 ∷ step 1 2 2 ∷ [])
+
+abbrev pub cleared_lines : List Line
+cleared_lines =
+    live_lines (
+    Called (On 0 (Request Put 0)) (Some (longs (pos 22 ∷ []))) ∷ Called (On 0 Clear) None ∷ Noticed (On 0 (Request Put 0)) outcome.Disconnected ∷ []
+    )
+
+abbrev pub answered_cleared : World
+answered_cleared = world (cleared ∷ []) cleared_lines finished_entries
+
+-- It was finished, and the reply did not come.
+abbrev pub unanswered : Circuit
+unanswered = live_circuit (putting 0 8 22 ∷ []) [] (step 1 1 2 ∷ [])
+
+abbrev pub unanswered_put : World
+unanswered_put = world (unanswered ∷ []) put_lines finished_entries
+
+-- ---- the third
+
+-- The write of one place is applied twice.
+abbrev pub applied_twice : Stored → World
+applied_twice v = world [] [] (Applied 0 2 0 v true ∷ Applied 0 2 0 v true ∷ [])
+
+-- A put is applied in the step of another message.
+abbrev pub in_other_step : Circuit
+in_other_step = live_circuit (reading 0 7 ∷ putting 0 8 22 ∷ []) [] (step 1 1 2 ∷ [])
+
+abbrev pub applied_early : World
+applied_early =
+    world (in_other_step ∷ []) (
+    live_lines (Called (On 0 (Request Read 0)) None ∷ Called (On 0 (Request Put 0)) (Some (longs (pos 22 ∷ []))) ∷ [])
+    ) (Added 0 temp ∷ Applied 0 2 0 (long 22) false ∷ [])
+
+-- ---- the fourth
+
+-- the updates of an EVENT_ADD at place 1 that are sent
+abbrev pub updates_sent : List Told → Circuit
+updates_sent ts = live_circuit (adding 0 9 ∷ []) ts (step 1 1 1 ∷ [])
+
+-- These updates do not follow these posts, while TEMP is there.
+abbrev pub FollowsNot : List Told → List Stored → Type 0
+FollowsNot ts posts = Follows AnyDue Shows Means (updates_sent ts) temp_there 1 0 (adding 0 9) posts → ⊥

@@ -1,25 +1,10 @@
-//! Examples: for each clause of the whole statement small histories that are safe and that are not, and worked rows of the
-//! definitions that compute.
+//! Small histories for each clause of the statement: some are safe, and each of the others breaks one.
 #![tactic(auto)]
 
-mod draining;
-mod rows;
-mod safe_worlds;
-mod steps;
 mod unsafe_worlds;
 
-pub use draining::a_cancelled_subscription_drains;
-pub use rows::{
-    conversions_are_as_worked, faults_are_as_worked, images_are_as_worked,
-    queued_posts_are_as_worked, spelled_updates_are_as_worked, waiting_puts_are_as_worked,
-};
-pub use safe_worlds::{
-    a_read_acts_on_its_record, a_refused_read_completes_with_its_own, a_write_is_applied_once,
-    updates_wait_in_order,
-};
-pub use steps::steps_can_be_made;
 pub use unsafe_worlds::{
-    a_cleared_channel_is_not_acted_on, a_done_put_is_in_a_log, a_lost_newest_post_shows,
-    a_reply_completes_its_own_request, a_write_stands_at_one_place,
-    an_old_update_is_not_a_new_ones, updates_keep_their_order,
+    a_disconnection_for_nothing_is_unsafe, a_read_at_two_places_is_unsafe,
+    a_write_applied_twice_is_unsafe, an_invented_answer_is_unsafe, an_unsaid_notice_is_unsafe,
+    an_update_without_its_subscription_is_unsafe,
 };

@@ -9,6 +9,7 @@ use Rattle.ca_records.specs.Rules.{Rule}
 use Rattle.ca_text.specs.Place.{At}
 use Rattle.ca_text.specs.Limits.{payload_limit}
 use Rattle.ca_model.specs.Client.{Client}
+use Rattle.ca_model.specs.ClientEnds.{new_client}
 use Rattle.ca_model.specs.Ends.{Address, Peer}
 use Rattle.ca_model.specs.History.{Cause, Circuit, Entry, Added, Intent, Line, Sent, Step, Told}
 use Rattle.ca_model.specs.History as history
@@ -136,13 +137,10 @@ numbered n f (x ∷ xs) = f n x ∷ numbered (n + 1) f xs
 abbrev pub no_names : Names
 no_names = record { channels = []; requests = []; subscriptions = []; writes = 0 }
 
-abbrev pub new_client : Peer → List Address → List Address → ℕ → Client
-new_client peer servers name_servers now = record { peer = peer; servers = servers; moment = now; channels = []; requests = []; subscriptions = []; circuits = []; order = []; issued = 0; searches = []; beacons = Rattle.std.specs.FinMap.empty }
-
 -- a client that begins this life now
 abbrev pub client_begun : (servers : List Address) → (moment life : ℕ) → ClientSetting → ClientSide
 client_begun servers moment life s =
-    record { setting = s; core = new_client s.peer servers s.name_servers moment; life = life; names = no_names }
+    record { setting = s; core = new_client (record { peer = s.peer; servers = servers; names = s.name_servers; now = moment }); life = life; names = no_names }
 
 -- a record that a server begins with
 abbrev pub record_begun : ℕ → RecordState → RecordSide
