@@ -1,15 +1,13 @@
 -- Vocabulary: what the calls of a client's user answer and leave (section "Overall Client Operation"). Each definition by answer is the
 -- contract of the call that its comment names: from old, with this answer, it sent these messages and left new.
-use Rattle.std.specs.Prelude.{ℕ, ◌≡◌, ◌<◌, ◌≤◌, ◌+◌, ◌/◌, ◌%◌, ◌==◌, ◌||◌, ◌++◌, Bool, true, false, not, List, [], ◌∷◌, Option, Some, None, Result, Ok, Err, if◌then◌else◌, filter_map, is_none, length, nat_le, nat_lt, option_and_then, option_map, unwrap_or}
+use Rattle.std.specs.Prelude.{ℕ, ◌≡◌, ◌<◌, ◌≤◌, ◌+◌, ◌==◌, ◌||◌, ◌++◌, Bool, true, false, not, List, [], ◌∷◌, Option, Some, None, Result, Ok, Err, find, if◌then◌else◌, filter_map, is_none, length, nat_le, nat_lt, option_and_then, option_map, unwrap_or}
 use Rattle.ca_text.specs.declared.command.Command.TheVariants as command
 use Rattle.ca_text.specs.declared.refusal.Refusal.{Refusal}
 use Rattle.ca_text.specs.declared.refusal.Refusal.TheVariants as refusal
 use Rattle.ca_text.specs.Limits.{channel_name_limit, output_limit, payload_limit, priority_limit}
 use Rattle.ca_text.specs.Name.{IsName}
-use Rattle.ca_dbr.specs.declared.data_type.BaseType.TheVariants as base
-use Rattle.ca_dbr.specs.declared.data_type.Form.TheVariants as form
 use Rattle.ca_dbr.specs.Elements.{Elements, base_of, bytes_of, count_of}
-use Rattle.ca_dbr.specs.Types.{base_number, type_number}
+use Rattle.ca_dbr.specs.Types.{base_number}
 use Rattle.ca_arena.specs.declared.handle.Handle.{Handle}
 use Rattle.ca_ids.specs.Table.{IsFull, MayGive, is_full, under, with_freed, with_held}
 use Rattle.ca_ids.specs.Wire.{wire_of}
@@ -19,7 +17,9 @@ use Rattle.ca_requests.specs.Requests.{Asked, Request, asks_on}
 use Rattle.ca_requests.specs.Requests as request
 use Rattle.ca_monitor.specs.Subscriptions.{Subscription, standing_under, with_stage}
 use Rattle.ca_monitor.specs.Subscriptions as monitor
+use Rattle.ca_records.specs.Rules.{may_read, may_write}
 use Rattle.ca_model.specs.Ends.{Address}
+use Rattle.ca_model.specs.Faults.{type_of}
 use Rattle.ca_model.specs.Answers.{Notice, Sending}
 use Rattle.ca_model.specs.Answers as aim
 use Rattle.ca_model.specs.Client.{Channel, Client, ClientCircuit, Native, On, Phase, Searching, Standing, channels_on, disconnections, later, let_go, out_bytes, sending, standing_at, with_standing, without_channel}
@@ -75,32 +75,20 @@ abbrev pub IsLive : Client → Handle → LiveChannel → Type 0
 IsLive x h l = standing_at x h ≡ Some (On l.circuit (phase.Live l.native l.rights))
 
 -- the first of these refusals whose test is true
-abbrev pub first_fault : List (Bool × Refusal) → Option Refusal
-first_fault [] = None
-first_fault (f ∷ faults) = if f.0 then Some f.1 else first_fault faults
+abbrev pub first_refusal : List (Bool × Refusal) → Option Refusal
+first_refusal faults = option_map (λ (f : Bool × Refusal). f.1) (find (λ (f : Bool × Refusal). f.0) faults)
 
 -- The first fault of a call on a channel: a stale handle, a channel that is not live, or one of those of a live one.
 abbrev pub fault_at : (LiveChannel → List (Bool × Refusal)) → Option Standing → Option Refusal
 fault_at faults None = Some refusal.StaleHandle
-fault_at faults (Some (On c (phase.Live n rights))) = first_fault (faults (record { circuit = c; native = n; rights = rights }))
+fault_at faults (Some (On c (phase.Live n rights))) = first_refusal (faults (record { circuit = c; native = n; rights = rights }))
 fault_at faults (Some s) = Some refusal.NotLive
 
--- of the bits of access rights, the one to read and the one to write ("CA_PROTO_ACCESS_RIGHTS")
-abbrev pub may_read : ℕ → Bool
-may_read rights = rights % 2 == 1
-
-abbrev pub may_write : ℕ → Bool
-may_write rights = rights / 2 % 2 == 1
-
--- the number of the last type: DOUBLE with a time stamp
-abbrev pub last_type : ℕ
-last_type = type_number (record { base = base.Double; form = form.Time })
-
--- so many bytes wait on the circuit that no more is queued for a caller
+-- as many bytes wait on the circuit as may: no message of a caller is queued after them
 abbrev pub is_over : Client → Handle → Bool
 is_over x c = nat_le output_limit (length (out_bytes x c))
 
--- the elements that are asked for: of this type, and so many; 0 stands for as many as there are
+-- the elements that are asked for: of this type, and this many; a count of 0 asks for those that there are
 pub record Shape : Type 0 where
   pub data_type : ℕ
   pub count : ℕ
@@ -109,7 +97,7 @@ pub record Shape : Type 0 where
 abbrev pub ask_fault : Client → (full : Bool) → Handle → Shape → Option Refusal
 ask_fault x full h a =
     fault_at
-    (λ (l : LiveChannel). (nat_lt last_type a.data_type, refusal.BadType)
+    (λ (l : LiveChannel). (is_none (type_of a.data_type), refusal.BadType)
     ∷ (not (may_read l.rights), refusal.NoAccess)
     ∷ (nat_lt l.native.count a.count, refusal.BadCount)
     ∷ (is_over x l.circuit, refusal.OutputFull)

@@ -109,8 +109,8 @@ begun c x = record x {
 }
 
 -- The end of this circuit ended for this cause.
-abbrev pub Ends : Why → Client → Handle → Closing → List Sending → Client → Type 0
-Ends cause old c k sent new = (k ≡ closing cause c old) × (sent ≡ []) × (new ≡ ended c old)
+abbrev pub EndsFor : Why → Client → Handle → Closing → List Sending → Client → Type 0
+EndsFor cause old c k sent new = (k ≡ closing cause c old) × (sent ≡ []) × (new ≡ ended c old)
 
 -- the answer about a circuit that is not there: it is cut, with nothing to be told and no bytes left
 abbrev pub gone : Closing
@@ -121,7 +121,7 @@ abbrev pub ConnectsOn : Client → Handle → Option ClientCircuit → Option Cl
 ConnectsOn old c None None sent new = ⊥
 ConnectsOn old c None (Some k) sent new = (k ≡ gone) × IsUnchanged old sent new
 ConnectsOn old c (Some d) None sent new = Does (set_up old.peer c d ++ creations c old) (begun c old) sent new
-ConnectsOn old c (Some d) (Some k) sent new = Ends why.OutOfMemory old c k sent new
+ConnectsOn old c (Some d) (Some k) sent new = EndsFor why.OutOfMemory old c k sent new
 
 -- the circuit of this handle, if it is wanted and not connected
 abbrev pub unconnected : Client → Handle → Option ClientCircuit
@@ -188,7 +188,7 @@ abbrev pub StepsOn : Client → Handle → Option Connection → Stepped → Lis
 StepsOn old c None (Closed k) sent new = (k ≡ gone) × IsUnchanged old sent new
 StepsOn old c (Some d) (Notices told) sent new = Takes old c d (record { core = new; sent = sent; notices = told })
 StepsOn old c (Some d) NeedBytes sent new = NoneBegins d.link.input.bytes × NotBad d.link.input.bytes × IsUnchanged old sent new
-StepsOn old c (Some d) (Closed k) sent new = MayEnd old c d k.why × Ends k.why old c k sent new
+StepsOn old c (Some d) (Closed k) sent new = MayEnd old c d k.why × EndsFor k.why old c k sent new
 StepsOn old c None answer sent new = ⊥
 
 -- `step`. What waited before it is left on a circuit that it ends.
@@ -199,11 +199,11 @@ ClientSteps old c answer sent new = StepsOn old c (connection_at old c) answer s
 
 -- `cut`. It takes no memory.
 abbrev pub ClientCuts : Client → Handle → Closing → List Sending → Client → Type 0
-ClientCuts old c k sent new = Ends why.Cut old c k sent new
+ClientCuts old c k sent new = EndsFor why.Cut old c k sent new
 
 -- `close`. It takes no memory.
 abbrev pub ClientCloses : Client → Handle → Closing → List Sending → Client → Type 0
-ClientCloses old c k sent new = Ends why.Asked old c k sent new
+ClientCloses old c k sent new = EndsFor why.Asked old c k sent new
 
 -- ---- tick
 
