@@ -10,7 +10,7 @@ use Rattle.ca_arena.specs.declared.handle.Handle.{Handle}
 use Rattle.ca_ids.specs.Table.{held, with_held}
 use Rattle.ca_ids.specs.Wire.{wire_of}
 use Rattle.ca_wire.specs.Fields.{Fields}
-use Rattle.ca_wire.specs.Messages.{bare, clear_request, search_request}
+use Rattle.ca_wire.specs.Messages.{bare, clear_request, search_request, update}
 use Rattle.ca_wire.specs.Message.{spelled}
 use Rattle.ca_monitor.specs.ReadRun.{ReadRun, after_read, no_reads, sent_by_read}
 use Rattle.ca_monitor.specs.Subscriptions.{Subscription, confirmed_by}
@@ -26,7 +26,7 @@ use Rattle.ca_model.specs.Client.{Channel, Client, On, Searching, channel_on, cl
 use Rattle.ca_model.specs.Client as phase
 use Rattle.ca_model.specs.ClientCalls.{LiveChannel, Shape, cleared, clearing_sent, event_add_sent, issued, new_subscription, opened, put_fault, read_fault, read_sent, unsubscribed, wanted}
 use Rattle.ca_model.specs.ClientEnds.{Ticking, begun, circuits_ticked, creations, due, new_client, packed, searches_made, set_up, ticked}
-use Rattle.ca_model.specs.Hears.{Effect, clear_answered, confirmed, created, heard_by, left, put_on, rights_told, with_circuit, without_request}
+use Rattle.ca_model.specs.Hears.{Effect, Hears, becomes, clear_answered, confirmed, created, heard_by, left, put_on, rights_told, with_circuit, without_request}
 
 -- the first handle of a table, the second, and the first given again
 abbrev pub first : Handle
@@ -104,6 +104,10 @@ LiveAndRead =
     (alive.notices ≡ notice.Live first ∷ []) × (channel_state alive.core first ≡ Ok (state.Live 5 1 3))
     × (spelled ((read_sent first live_temp one_long first).message ∷ []) ≡ 0 ∷ 15 ∷ 0 ∷ 0 ∷ 0 ∷ 5 ∷ 0 ∷ 1 ∷ 0 ∷ 1 ∷ 0 ∷ 0 ∷ 0 ∷ 1 ∷ 0 ∷ 0 ∷ [])
     × (length (out_bytes reading first) ≡ 104)
+
+-- The reply to its CREATE_CHAN does just this, and is never skipped.
+abbrev pub OnlyLive : Type 0
+OnlyLive = Hears permitted first created_temp alive × ((e : Effect) → Hears permitted first created_temp e → e ≡ alive)
 
 -- why a read of this type and count is refused while TEMP has these rights
 abbrev pub refused : (rights : ℕ) → (data_type count : ℕ) → Option Refusal
@@ -235,6 +239,14 @@ abbrev pub ConfirmationFrees : Type 0
 ConfirmationFrees =
     (confirmed_by first 65536 subscribed.subscriptions ≡ None) × (confirmed_by first 65536 cancelled.subscriptions ≡ Some first)
     × (confirmed_by first 65536 confirmed_now.subscriptions ≡ None)
+
+-- an update of it, of LONG 22
+abbrev pub late_update : Fields
+late_update = update 5 1 1 65536 (0 ∷ 0 ∷ 0 ∷ 22 ∷ [])
+
+-- It is skipped once the subscription is cancelled, and nothing else can happen.
+abbrev pub OnlySkipped : Type 0
+OnlySkipped = Hears cancelled first late_update (becomes cancelled) × ((e : Effect) → Hears cancelled first late_update e → e ≡ becomes cancelled)
 
 -- ---- reads in a row
 

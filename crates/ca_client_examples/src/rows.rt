@@ -1,9 +1,10 @@
-ghost use Rattle.ca_client_examples.specs.Rows.{ClearedAfterLive, ClearedBeforeLive, ConfirmationFrees, CutLoses, DisconnectLeaves, EchoThenClose, FoundAgain, FullDatagrams, Greets, IdsOfSubscriptions, InOrderOfIssue, LateReplyFrees, LeftIsSearchedAgain, LiveAndRead, NameIsWanted, NoPauseAtNine, OneSearch, PauseAtTen, ReadFaults, SearchesOnName, UpdateToNobody, WriteFaults};
+ghost use Rattle.ca_client_examples.specs.Rows.{ClearedAfterLive, ClearedBeforeLive, ConfirmationFrees, CutLoses, DisconnectLeaves, EchoThenClose, FoundAgain, FullDatagrams, Greets, IdsOfSubscriptions, InOrderOfIssue, LateReplyFrees, LeftIsSearchedAgain, LiveAndRead, NameIsWanted, NoPauseAtNine, OneSearch, OnlyLive, OnlySkipped, PauseAtTen, ReadFaults, SearchesOnName, UpdateToNobody, WriteFaults};
 
 /// A channel is found, its circuit is connected and sends 88 bytes, and it becomes live and is read.
 pub fn a_channel_becomes_live()
     ensures greets { Greets }
     ensures live { LiveAndRead }
+    ensures only { OnlyLive }
 {}
 
 /// The first fault of a call decides.
@@ -41,6 +42,7 @@ pub fn a_removed_record_is_left()
 pub fn a_cancelled_subscription_drains()
     ensures ids { IdsOfSubscriptions }
     ensures nobody { UpdateToNobody }
+    ensures only { OnlySkipped }
     ensures frees { ConfirmationFrees }
 {}
 
