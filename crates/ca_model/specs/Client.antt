@@ -25,9 +25,9 @@ pub record Native : Type 0 where
   pub data_type : ℕ
   pub count : ℕ
 
--- How far a channel is on its circuit. It waits for the circuit to be connected; it is being created, with the access rights told so far,
--- or is live, with those told last. It was left by its record, or cleared by its caller, and its clear is not answered; or its caller
--- cleared it while it was being created.
+-- How far a channel is on its circuit. It waits for the circuit to be connected; it is being created, with the access rights that came
+-- so far, or is live, with those that came last. Its record was removed (Leaving), or its caller cleared it (Clearing), and its clear is
+-- not answered. Or its caller cleared it while it was being created (Doomed).
 pub data Phase : Type 0 where
   Connecting : Phase
   Creating : ℕ → Phase
@@ -191,7 +191,7 @@ abbrev pub channels_on : (Phase → Bool) → Handle → Client → List Handle
 channels_on test c x =
     filter_map (λ (e : Handle × Channel). if is_on_in test c e.1 then Some e.0 else None) (held x.channels)
 
--- What a client tells when its end of a circuit ends: its requests complete with Disconnected, in order of issue, and then each live
+-- What a client reports when its end of a circuit ends: its requests complete with Disconnected, in order of issue, and then each live
 -- channel is lost, in order of index.
 abbrev pub farewell : Handle → Client → List Notice
 farewell c x = disconnections (was_sent_on c) x ++ map notice.Lost (channels_on is_live c x)

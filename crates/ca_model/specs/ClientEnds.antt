@@ -112,7 +112,7 @@ begun c x = record x {
 abbrev pub EndsFor : Why → Client → Handle → Closing → List Sending → Client → Type 0
 EndsFor cause old c k sent new = (k ≡ closing cause c old) × (sent ≡ []) × (new ≡ ended c old)
 
--- the answer about a circuit that is not there: it is cut, with nothing to be told and no bytes left
+-- the answer about a circuit that is not there: it is cut, with no notices and no bytes left
 abbrev pub gone : Closing
 gone = record { why = Cut; notices = []; left = [] }
 
@@ -127,7 +127,7 @@ ConnectsOn old c (Some d) (Some k) sent new = EndsFor why.OutOfMemory old c k se
 abbrev pub unconnected : Client → Handle → Option ClientCircuit
 unconnected x c = option_and_then (λ (d : ClientCircuit). if is_none d.connection then Some d else None) (under x.circuits c)
 
--- `connected`. The set-up takes memory; without it the end has ended at once, and nothing of it waits.
+-- `connected`. The set-up takes memory. If there is none the end has ended at once, and no bytes are left.
 abbrev pub ClientConnects : Client → Handle → Option Closing → List Sending → Client → Type 0
 ClientConnects old c answer sent new = ConnectsOn old c (unconnected old c) answer sent new
 
@@ -172,7 +172,7 @@ pub record Takes (old : Client) (c : Handle) (d : Connection) (e : Effect) : Typ
   pub first : TakesFirst d.link m rest
   pub hears : Hears (after_taking c rest old) c m e
 
--- It takes memory if it has a payload, sends or tells something, or makes a circuit wanted.
+-- It takes memory if it has a payload, sends or reports something, or makes a circuit wanted.
 abbrev pub TakesMemory : Client → Fields → Effect → Type 0
 TakesMemory old m e = (m.payload ≢ []) ⊎ ((e.sent ≢ []) ⊎ ((e.notices ≢ []) ⊎ (e.core.order ≢ old.order)))
 
@@ -191,7 +191,7 @@ StepsOn old c (Some d) NeedBytes sent new = NoneBegins d.link.input.bytes × Not
 StepsOn old c (Some d) (Closed k) sent new = MayEnd old c d k.why × EndsFor k.why old c k sent new
 StepsOn old c None answer sent new = ⊥
 
--- `step`. What waited before it is left on a circuit that it ends.
+-- `step`. If it ends the circuit, the bytes that waited before it are left.
 abbrev pub ClientSteps : Client → Handle → Stepped → List Sending → Client → Type 0
 ClientSteps old c answer sent new = StepsOn old c (connection_at old c) answer sent new
 
@@ -207,7 +207,7 @@ ClientCloses old c k sent new = EndsFor why.Asked old c k sent new
 
 -- ---- tick
 
--- how far a tick is: the client now, and what was sent, told and ended so far
+-- how far a tick is: the client now, and what was sent, reported and ended so far
 pub record Ticking : Type 0 where
   pub core : Client
   pub sent : List Sending
@@ -294,7 +294,7 @@ ticked t = record {
   closings = t.closings;
 }
 
--- `tick`: circuits first, and then searches. An ECHO takes memory, an end that ended, and a search.
+-- `tick`: circuits first, and then searches. An ECHO, an end that has ended and a search take memory.
 abbrev pub ClientTicks : Client → ℕ → Result Ticked Refusal → List Sending → Client → Type 0
 ClientTicks old now (Ok answer) sent new =
     let t : Ticking = circuits_ticked now old in

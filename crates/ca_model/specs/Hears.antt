@@ -25,13 +25,13 @@ use Rattle.ca_model.specs.Client.{Channel, Client, ClientCircuit, Connection, Na
 use Rattle.ca_model.specs.Client as phase
 use Rattle.ca_model.specs.ClientCalls.{clear_sent, event_add_sent}
 
--- what a message does: the client after it, what that sent, and what it tells
+-- what a message does: the client after it, what that sent, and its notices
 pub record Effect : Type 0 where
   pub core : Client
   pub sent : List Sending
   pub notices : List Notice
 
--- it sends these messages, tells this, and the client is this one, with them waiting on their circuits
+-- it sends these messages, with these notices, and the client is this one, with the messages waiting on their circuits
 abbrev pub doing : List Sending → List Notice → Client → Effect
 doing sent notices x = record { core = sending sent x; sent = sent; notices = notices }
 
@@ -210,7 +210,7 @@ failing x c m h =
     then subscription_failed x m (heard_by x c h.p2)
     else any_failed x m (answered_by c h.command h.p2 x.requests)
 
--- An ERROR quotes the header of the request that failed. If that is not whole it is skipped ("CA_PROTO_ERROR").
+-- An ERROR quotes the header of the request that failed. If that is not complete the ERROR is skipped ("CA_PROTO_ERROR").
 abbrev pub Fails : Client → Handle → Fields → Effect → Type 0
 Fails x c m e =
     ((h : Header) × QuotesHeader m h × (e ≡ failing x c m h)) ⊎ (((h : Header) → QuotesHeader m h → ⊥) × (e ≡ becomes x))
