@@ -1,4 +1,4 @@
-use crate::{Line, answer_console, answer_run, not_understood, read_line, run, standing_records};
+use crate::{Line, answer_run, not_understood, read_line, run, standing_records};
 use ca_link::{Fused, Reader, Writer};
 use std::alloc::{AllocError, Global};
 use std::io::{self, Read};
@@ -352,7 +352,11 @@ fn failing_output_is_refused(rt: HostRuntime) -> Result<(), Fail> {
     let mut input = bytes_of(rt.alloc(), CREATE)?;
     input.extend_from_slice(&bytes_of(rt.alloc(), READ)?)?;
     for (passes, output) in [(0, ""), (1, CREATED)] {
-        let mut source = Reader::new(input.as_slice());
+        // The first read gives the first request alone.
+        let mut source = Reader::new(Pieces {
+            bytes: &input,
+            size: 24,
+        });
         let mut sink = Fused::new(Writer::new(Vec::new(rt.alloc())), passes);
         let mut told = Vec::new(rt.alloc());
         let status = answer_run(rt.alloc(), None, &mut source, &mut sink, &mut told);
@@ -364,14 +368,29 @@ fn failing_output_is_refused(rt: HostRuntime) -> Result<(), Fail> {
 }
 
 #[test]
-fn console_gives_what_a_run_gives(rt: HostRuntime) -> Result<(), Fail> {
-    let input = bytes_of(rt.alloc(), CREATE)?;
-    let mut output = Vec::new(rt.alloc());
-    let mut told = Vec::new(rt.alloc());
-    let status = answer_console(rt.alloc(), None, input.as_slice(), &mut output, &mut told);
-    assert_eq!(rt; status, 0);
-    assert!(rt; output == bytes_of(rt.alloc(), CREATED)?);
-    assert!(rt; told.is_empty());
+fn the_program_answers_a_circuit(rt: HostRuntime) -> Result<(), Fail> {
+    let rows = [
+        (CREATE, CREATED, "", 0),
+        ("0004 000C", "", "", 0),
+        (
+            "0004 000C 0005 0001 00010000 00000000",
+            "",
+            "refused: 2 Misaligned\n",
+            1,
+        ),
+    ];
+    let mut words = Vec::new(rt.alloc());
+    words.push("answer".to_string(rt.alloc())?)?;
+    for (input, output, line, status) in &rows {
+        let input = bytes_of(rt.alloc(), *input)?;
+        let mut source = Reader::new(input.as_slice());
+        let mut sink = Writer::new(Vec::new(rt.alloc()));
+        let mut told = Vec::new(rt.alloc());
+        let ended = run(&rt, rt.alloc(), &words, &mut source, &mut sink, &mut told);
+        assert_eq!(rt; ended, *status);
+        assert!(rt; sink.writer == bytes_of(rt.alloc(), *output)?);
+        assert!(rt; told.as_slice() == line.as_bytes());
+    }
     Ok(())
 }
 
@@ -399,12 +418,13 @@ fn lines_are_read(rt: HostRuntime) -> Result<(), Fail> {
 
 #[test]
 fn lines_are_refused(rt: HostRuntime) -> Result<(), Fail> {
-    let mut output = Vec::new(rt.alloc());
-    let mut told = Vec::new(rt.alloc());
     let none: &[u8] = &[];
-    let status = run(&rt, rt.alloc(), &[], none, &mut output, &mut told);
+    let mut source = Reader::new(none);
+    let mut sink = Writer::new(Vec::new(rt.alloc()));
+    let mut told = Vec::new(rt.alloc());
+    let status = run(&rt, rt.alloc(), &[], &mut source, &mut sink, &mut told);
     assert_eq!(rt; status, 2);
-    assert!(rt; output.is_empty());
+    assert!(rt; sink.writer.is_empty());
     assert!(rt; told.as_slice() == "not understood\n".as_bytes());
     assert_eq!(rt; not_understood(&mut told), 2);
     assert_eq!(rt; standing_records(rt.alloc())?.len(), 6);

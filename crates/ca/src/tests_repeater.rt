@@ -1,5 +1,5 @@
-use crate::{Datagrams, Line, RepeaterLine, read_line, repeat, repeater_run, run};
-use ca_link::Fault;
+use crate::{Datagrams, Line, RepeaterLine, Socket, read_line, repeat, repeater_run, run};
+use ca_link::{Fault, Reader, Writer};
 use ca_repeat::Address;
 use ca_text::Refusal;
 use std::alloc::{AllocError, Global};
@@ -121,7 +121,7 @@ fn a_beacon_goes_to_the_other_members(rt: HostRuntime) -> Result<(), Fail> {
     first.send_to(BLANK, at)?;
     newcomer.send_to(b"", at)?;
     let mut told = Vec::new(rt.alloc());
-    let status = repeater_run(rt.alloc(), &repeater, Some(5), &mut told);
+    let status = repeater_run(rt.alloc(), &mut Socket::new(repeater), Some(5), &mut told);
     assert_eq!(rt; status, 0);
     assert!(rt; told.is_empty());
     hears(&rt, &first, at, &[CONFIRM])?;
@@ -140,7 +140,7 @@ fn the_greatest_datagram_goes_on_whole(rt: HostRuntime) -> Result<(), Fail> {
     member.send_to(b"", at)?;
     sender.send_to(&datagram, at)?;
     let mut told = Vec::new(rt.alloc());
-    let status = repeater_run(rt.alloc(), &repeater, Some(2), &mut told);
+    let status = repeater_run(rt.alloc(), &mut Socket::new(repeater), Some(2), &mut told);
     assert_eq!(rt; status, 0);
     hears(&rt, &member, at, &[CONFIRM, &datagram])
 }
@@ -150,7 +150,7 @@ fn a_failing_receive_is_refused(rt: HostRuntime) -> Result<(), Fail> {
     let repeater = bound(&rt)?;
     repeater.set_nonblocking(true)?;
     let mut told = Vec::new(rt.alloc());
-    let status = repeater_run(rt.alloc(), &repeater, None, &mut told);
+    let status = repeater_run(rt.alloc(), &mut Socket::new(repeater), None, &mut told);
     assert_eq!(rt; status, 1);
     assert!(rt; told.as_slice() == "refused: 23 Device\n".as_bytes());
     Ok(())
@@ -158,14 +158,15 @@ fn a_failing_receive_is_refused(rt: HostRuntime) -> Result<(), Fail> {
 
 #[test]
 fn a_repeater_of_no_datagrams_ends(rt: HostRuntime) -> Result<(), Fail> {
-    let mut output = Vec::new(rt.alloc());
-    let mut told = Vec::new(rt.alloc());
     let none: &[u8] = &[];
+    let mut source = Reader::new(none);
+    let mut sink = Writer::new(Vec::new(rt.alloc()));
+    let mut told = Vec::new(rt.alloc());
     let words = words_of(rt.alloc(), &["repeater", "--port=0", "--datagrams=0"])?;
-    let status = run(&rt, rt.alloc(), &words, none, &mut output, &mut told);
+    let status = run(&rt, rt.alloc(), &words, &mut source, &mut sink, &mut told);
     assert_eq!(rt; status, 0);
     // The system chose the port.
-    assert!(rt; output.as_slice().starts_with(b"repeating 0.0.0.0:"));
+    assert!(rt; sink.writer.as_slice().starts_with(b"repeating 0.0.0.0:"));
     assert!(rt; told.is_empty());
     Ok(())
 }
@@ -189,6 +190,10 @@ impl<'a> Datagrams for Script<'a> {
     ghost refuses = { λ _ _ _ _. ⊤ };
 
     ghost fails = { λ _ _. ⊤ };
+
+    fn address(&self) -> Result<Address, Fault> {
+        Err(Fault)
+    }
 
     fn receive(&mut self, buffer: &mut [u8]) -> Result<(usize, Address), Fault> {
         let Some((from, bytes)) = self.coming.get(self.taken) else {

@@ -1,5 +1,5 @@
 use crate::{Line, ReplayLine, read_line, replay_run, run};
-use ca_link::{Fused, Writer};
+use ca_link::{Fused, Reader, Writer};
 use std::alloc::{AllocError, Global};
 use std::process::Abort;
 use std::test::Fail;
@@ -160,13 +160,14 @@ fn replay_lines_are_read(rt: HostRuntime) -> Result<(), Fail> {
 
 #[test]
 fn a_file_that_is_not_there_is_refused(rt: HostRuntime) -> Result<(), Fail> {
-    let mut output = Vec::new(rt.alloc());
-    let mut told = Vec::new(rt.alloc());
     let none: &[u8] = &[];
+    let mut source = Reader::new(none);
+    let mut sink = Writer::new(Vec::new(rt.alloc()));
+    let mut told = Vec::new(rt.alloc());
     let words = words_of(rt.alloc(), &["replay", "no/such/script"])?;
-    let status = run(&rt, rt.alloc(), &words, none, &mut output, &mut told);
+    let status = run(&rt, rt.alloc(), &words, &mut source, &mut sink, &mut told);
     assert_eq!(rt; status, 1);
-    assert!(rt; output.is_empty());
+    assert!(rt; sink.writer.is_empty());
     assert!(rt; told.as_slice() == "refused: 23 Device\n".as_bytes());
     Ok(())
 }

@@ -30,6 +30,20 @@ fn freed_index_comes_back_with_next_generation(rt: HostRuntime) -> Result<(), Fa
     Ok(())
 }
 
+// An index again and again: each generation finds its value, and the one before finds nothing.
+#[test]
+fn each_generation_finds_its_value(rt: HostRuntime) -> Result<(), Fail> {
+    let mut arena = Arena::new(rt.alloc());
+    for generation in 1..=70_000u32 {
+        let given = arena.insert(generation)?;
+        assert_eq!(rt; given, handle(0, generation));
+        assert_eq!(rt; arena.get(given).copied(), Some(generation));
+        assert_eq!(rt; arena.get(handle(0, generation - 1)).copied(), None);
+        assert_eq!(rt; arena.remove(given)?, generation);
+    }
+    Ok(())
+}
+
 #[test]
 fn index_freed_last_goes_first(rt: HostRuntime) -> Result<(), Fail> {
     let mut arena = Arena::new(rt.alloc());
