@@ -1,9 +1,10 @@
 -- The worked rows whose bytes have to be computed.
 use Rattle.std.proofs.Common.{refl}
+use Rattle.std.specs.FinMap.{get-empty}
 use Rattle.ca_dbr.specs.Elements.{signed_bytes_4}
 use Rattle.ca_wire.specs.Header.{extended_header, header_spelling, number16, number32, short_header}
 use Rattle.ca_wire.specs.Message.{spelling}
-use Rattle.ca_client_examples.specs.Rows.{CutLoses, FullDatagrams, Greets, LiveAndRead, NameIsWanted, OneSearch, ReadFaults, SearchesOnName, WriteFaults}
+use Rattle.ca_client_examples.specs.Rows.{BeaconBoosts, CutLoses, FullDatagrams, Greets, LiveAndRead, NameIsWanted, OneSearch, ReadFaults, SearchesOnName, WriteFaults}
 
 pub greets : Greets
 unfolding spelling header_spelling short_header extended_header number16 number32
@@ -40,3 +41,6 @@ read-faults = (refl, refl, refl, refl, refl, refl)
 pub write-faults : WriteFaults
 unfolding spelling header_spelling short_header extended_header number16 number32 signed_bytes_4
 write-faults = (refl, refl, refl, refl)
+
+pub beacon-boosts : BeaconBoosts
+beacon-boosts = (refl, rw (get-empty _) refl)

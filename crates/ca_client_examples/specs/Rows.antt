@@ -25,7 +25,7 @@ use Rattle.ca_model.specs.ChannelState as state
 use Rattle.ca_model.specs.Client.{Channel, Client, On, Searching, channel_on, closing, disconnections, ended, new_circuit, out_bytes, sending, with_standing}
 use Rattle.ca_model.specs.Client as phase
 use Rattle.ca_model.specs.ClientCalls.{LiveChannel, Shape, cleared, clearing_sent, event_add_sent, issued, new_subscription, opened, put_fault, read_fault, read_sent, unsubscribed, wanted}
-use Rattle.ca_model.specs.ClientEnds.{Ticking, begun, circuits_ticked, creations, due, new_client, packed, searches_made, set_up, ticked}
+use Rattle.ca_model.specs.ClientEnds.{Ticking, beacon_heard, begun, circuits_ticked, creations, due, new_client, packed, searches_made, set_up, ticked}
 use Rattle.ca_model.specs.Hears.{Effect, Hears, becomes, clear_answered, confirmed, created, heard_by, left, put_on, rights_told, with_circuit, without_request}
 
 -- the first handle of a table, the second, and the first given again
@@ -301,6 +301,20 @@ SearchesOnName =
     (map (λ (s : Sending). s.message) after_all.sent ≡ search_request 65536 temp ∷ []) × (length (ticked before).datagrams ≡ 1)
     × (length (out_bytes after_all.core first) ≡ 88) × (due (circuits_ticked 31 after_all.core).core ≡ [])
     × (length (due (circuits_ticked 32 after_all.core).core) ≡ 1)
+
+-- ---- beacons
+
+-- a beacon of this number
+abbrev pub beacon : ℕ → Fields
+beacon number = record (bare command.RsrvIsUp) { data_type = 13; count = 5064; p1 = number }
+
+-- a client that searched for TEMP at 0, at the moment 10
+abbrev pub searching : Client
+searching = (circuits_ticked 10 (searches_made (circuits_ticked 0 (with_temp (anna [])))).core).core
+
+-- The first beacon of a server is an anomaly: all searches are due at once.
+abbrev pub BeaconBoosts : Type 0
+BeaconBoosts = (due searching ≡ []) × (length (due (beacon_heard home (beacon 5) searching)) ≡ 1)
 
 -- ---- silence
 

@@ -1,4 +1,4 @@
-ghost use Rattle.ca_client_examples.specs.Rows.{ClearedAfterLive, ClearedBeforeLive, ConfirmationFrees, CutLoses, DisconnectLeaves, EchoThenClose, FoundAgain, FullDatagrams, Greets, IdsOfSubscriptions, InOrderOfIssue, LateReplyFrees, LeftIsSearchedAgain, LiveAndRead, NameIsWanted, NoPauseAtNine, OneSearch, OnlyLive, OnlySkipped, PauseAtTen, ReadFaults, SearchesOnName, UpdateToNobody, WriteFaults};
+ghost use Rattle.ca_client_examples.specs.Rows.{BeaconBoosts, ClearedAfterLive, ClearedBeforeLive, ConfirmationFrees, CutLoses, DisconnectLeaves, EchoThenClose, FoundAgain, FullDatagrams, Greets, IdsOfSubscriptions, InOrderOfIssue, LateReplyFrees, LeftIsSearchedAgain, LiveAndRead, NameIsWanted, NoPauseAtNine, OneSearch, OnlyLive, OnlySkipped, PauseAtTen, ReadFaults, SearchesOnName, UpdateToNobody, WriteFaults};
 
 /// A channel is found, its circuit is connected and sends 88 bytes, and it becomes live and is read.
 pub fn a_channel_becomes_live()
@@ -62,6 +62,11 @@ pub fn searches_are_packed()
 pub fn names_are_searched_over_circuits()
     ensures wanted { NameIsWanted }
     ensures searches { SearchesOnName }
+{}
+
+/// A beacon that is an anomaly makes all searches due at once.
+pub fn an_anomaly_boosts_searches()
+    ensures { BeaconBoosts }
 {}
 
 /// A silence of 30,000 milliseconds sends an ECHO, once, and one of 35,000 ends the circuit.
