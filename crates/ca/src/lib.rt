@@ -16,10 +16,3 @@ pub use outcome::{not_understood, report};
 pub use program::run;
 pub use repeater::{Datagrams, RepeaterLine, Socket, repeat, repeater_bound, repeater_run};
 pub use replay::{ReplayLine, replay_file, replay_run};
-
-#[cfg(test)]
-mod tests;
-#[cfg(test)]
-mod tests_repeater;
-#[cfg(test)]
-mod tests_replay;
