@@ -33,7 +33,7 @@ Means m (outcome.Failed status) =
     (HasStatus m × (m.p1 ≢ normal) × (status.number ≡ m.p1)) ⊎ ((m.command ≡ command_number command.Error) × (status.number ≡ m.p2))
 Means m outcome.Disconnected = ⊥
 
--- An ERROR quotes the whole header of the request that failed, before its text.
+-- An ERROR quotes the complete header of the request that failed, before its text.
 pub record QuotesHeader (m : Fields) (h : Header) : Type 0 where
   pub head : List ℕ
   pub text : List ℕ

@@ -4,7 +4,7 @@ use Rattle.ca_text.specs.Command.{command_number}
 use Rattle.ca_text.specs.declared.command.Command.{Command}
 use Rattle.ca_text.specs.declared.command.Command.TheVariants as command
 use Rattle.ca_arena.specs.declared.handle.Handle.{Handle}
-use Rattle.ca_ids.specs.Table.{Table, by_wire, held, same_handle}
+use Rattle.ca_ids.specs.Table.{Table, by_wire, held, same_handle, with_all, with_all_freed}
 
 -- what was asked: a read, of this type and count, or a put with notification
 pub data Asked : Type 0 where
@@ -36,10 +36,6 @@ asks_on channel q = same_handle q.channel channel
 abbrev pub was_sent_on : Handle → Request → Bool
 was_sent_on circuit q = same_handle q.circuit circuit
 
--- the request is over, and its IOID drains
-abbrev pub drained : Request → Request
-drained q = record q { stage = Draining }
-
 -- The request that a reply of this command and IOID on this circuit is about. A reply of another command is about none.
 abbrev pub answered_by : Handle → (command_read ioid : ℕ) → Table Request → Option (Handle × Request)
 answered_by circuit command_read ioid t =
@@ -64,3 +60,21 @@ abbrev pub in_order_of_issue : (Request → Bool) → Table Request → List Han
 in_order_of_issue which t =
     let open_ones : List (Handle × ℕ) = filter_map (λ (e : Handle × Request). if which e.1 then numbered e.0 e.1.stage else None) (held t) in
     map (λ (q : Handle × ℕ). q.0) (fold placed [] open_ones)
+
+-- ---- requests end
+
+-- a request on this channel is over, and its IOID drains
+abbrev pub over_on : Handle → Request → Request
+over_on channel q = if asks_on channel q then record q { stage = Draining } else q
+
+-- the requests on this channel are over, and their IOIDs drain
+abbrev pub channel_over : Handle → Table Request → Table Request
+channel_over channel t = with_all (over_on channel) t
+
+-- the IOIDs of this channel's requests are free
+abbrev pub channel_gone : Handle → Table Request → Table Request
+channel_gone channel t = with_all_freed (asks_on channel) t
+
+-- the IOIDs of the requests that were sent on this circuit are free
+abbrev pub circuit_gone : Handle → Table Request → Table Request
+circuit_gone circuit t = with_all_freed (was_sent_on circuit) t
