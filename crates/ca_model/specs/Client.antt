@@ -61,7 +61,7 @@ pub record ClientCircuit : Type 0 where
 
 -- A client: how it names itself; the servers to which searches go in datagrams; the moment given last; its tables of CIDs, IOIDs and
 -- subscription ids; its circuits, and these in order: those of name servers, in the order of their list, and then the others, in the order
--- in which they came to be wanted; how many requests it accepted; the channels that it searches, by CID; and the beacons that it heard.
+-- in which they came to be wanted; its open requests, in order of issue; the channels that it searches, by CID; and the beacons that it heard.
 pub record Client : Type 0 where
   pub peer : Peer
   pub servers : List Address
@@ -71,7 +71,7 @@ pub record Client : Type 0 where
   pub subscriptions : Table Subscription
   pub circuits : Table ClientCircuit
   pub order : List Handle
-  pub issued : ℕ
+  pub issued : List Handle
   pub searches : List (ℕ × search.Channel)
   pub beacons : Servers
 
@@ -180,11 +180,17 @@ disconnected c x = record x { circuits = with_changed (λ (d : ClientCircuit). r
 abbrev pub let_go : Handle → ClientCircuit → Client → Client
 let_go c d x = if d.is_name then disconnected c x else without_circuit c x
 
+-- ---- requests
+
+-- the client with these requests, of which those that were issued are still in their order while they are open
+abbrev pub with_requests : Table Request → Client → Client
+with_requests t x = record x { requests = t; issued = in_order_of_issue (λ (q : Request). true) t x.issued }
+
 -- ---- an end ends
 
 -- Disconnected, for each open request that the test names, in order of issue
 abbrev pub disconnections : (Request → Bool) → Client → List Notice
-disconnections which x = map (λ (q : Handle). notice.Completed q outcome.Disconnected) (in_order_of_issue which x.requests)
+disconnections which x = map (λ (q : Handle). notice.Completed q outcome.Disconnected) (in_order_of_issue which x.requests x.issued)
 
 -- the channels that are on this circuit in a phase that the test names, in order of index
 abbrev pub channels_on : (Phase → Bool) → Handle → Client → List Handle
@@ -202,8 +208,7 @@ closing why c x = record { why = why; notices = farewell c x; left = out_bytes x
 
 -- the IOIDs of a circuit's requests are free, and so are the subscription ids that drain on it
 abbrev pub without_ids : Handle → Client → Client
-without_ids c x =
-    record x { requests = request.circuit_gone c x.requests; subscriptions = monitor.circuit_gone c x.subscriptions }
+without_ids c x = with_requests (request.circuit_gone c x.requests) (record x { subscriptions = monitor.circuit_gone c x.subscriptions })
 
 -- The channels of a circuit that has ended: those that were cleared are gone, the others are searched for again.
 abbrev pub channels_ended : Handle → Client → Client

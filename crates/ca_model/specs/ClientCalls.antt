@@ -22,7 +22,7 @@ use Rattle.ca_model.specs.Ends.{Address}
 use Rattle.ca_model.specs.Faults.{type_of}
 use Rattle.ca_model.specs.Answers.{Notice, Sending}
 use Rattle.ca_model.specs.Answers as aim
-use Rattle.ca_model.specs.Client.{Channel, Client, ClientCircuit, Native, On, Phase, Searching, Standing, channels_on, disconnections, later, let_go, out_bytes, sending, standing_at, with_standing, without_channel}
+use Rattle.ca_model.specs.Client.{Channel, Client, ClientCircuit, Native, On, Phase, Searching, Standing, channels_on, disconnections, later, let_go, out_bytes, sending, standing_at, with_standing, without_channel, with_requests}
 use Rattle.ca_model.specs.Client as phase
 
 -- Nothing was sent, and the client is as before.
@@ -125,8 +125,8 @@ put_fault x full h e =
 -- the client with this open request
 abbrev pub issued : Handle → LiveChannel → Asked → Handle → Client → Client
 issued h l asked q x = record x {
-  requests = with_held q (record { channel = h; circuit = l.circuit; asked = asked; stage = request.Open x.issued }) x.requests;
-  issued = x.issued + 1;
+  requests = with_held q (record { channel = h; circuit = l.circuit; asked = asked; stage = request.Open }) x.requests;
+  issued = x.issued ++ q ∷ [];
 }
 
 -- the message of a read
@@ -276,7 +276,7 @@ unsubscribed_all h x = record x { subscriptions = monitor.channel_gone h x.subsc
 -- the channel's requests and subscriptions are over, and their ids drain on this circuit
 abbrev pub all_over : Handle → Handle → Client → Client
 all_over c h x =
-    record x { requests = request.channel_over h x.requests; subscriptions = monitor.channel_over c h x.subscriptions }
+    with_requests (request.channel_over h x.requests) (record x { subscriptions = monitor.channel_over c h x.subscriptions })
 
 -- A cleared channel is gone if nothing of it is on the way. Else its CID drains, and if it was live its other ids too.
 abbrev pub cleared : Handle → Standing → Client → Client

@@ -58,7 +58,7 @@ new_client a = record {
   subscriptions = [];
   circuits = name_circuits a.names;
   order = map (λ (e : Handle × ClientCircuit). e.0) (held (name_circuits a.names));
-  issued = 0;
+  issued = [];
   searches = [];
   beacons = finite.empty;
 }

@@ -21,7 +21,7 @@ use Rattle.ca_model.specs.Ends.{Address}
 use Rattle.ca_model.specs.Speech.{Is}
 use Rattle.ca_model.specs.Answers.{Notice, Sending}
 use Rattle.ca_model.specs.Answers as notice
-use Rattle.ca_model.specs.Client.{Channel, Client, ClientCircuit, Connection, Native, On, Phase, Searching, Standing, channel_on, circuit_to, disconnections, found_on, is_live, is_on_in, new_circuit, phase_on, searched_again, sending, with_standing, without_channel}
+use Rattle.ca_model.specs.Client.{Channel, Client, ClientCircuit, Connection, Native, On, Phase, Searching, Standing, channel_on, circuit_to, disconnections, found_on, is_live, is_on_in, new_circuit, phase_on, searched_again, sending, with_standing, without_channel, with_requests}
 use Rattle.ca_model.specs.Client as phase
 use Rattle.ca_model.specs.ClientCalls.{clear_sent, event_add_sent}
 
@@ -119,7 +119,7 @@ failed x there = becomes x
 -- the ids of a channel whose clear is answered drain no more
 abbrev pub without_drained : Handle → Handle → Client → Client
 without_drained c h x =
-    record x { requests = request.channel_gone h x.requests; subscriptions = monitor.channel_drained c h x.subscriptions }
+    with_requests (request.channel_gone h x.requests) (record x { subscriptions = monitor.channel_drained c h x.subscriptions })
 
 -- CLEAR_CHANNEL: a channel that its caller cleared is gone; one that its record left is searched for again ("CA_PROTO_CLEAR_CHANNEL")
 abbrev pub clear_answered : Client → Handle → Option (Handle × Phase) → Effect
@@ -134,14 +134,14 @@ left x c (Some (h, phase.Live n rights)) =
     doing
     (clear_sent c n.sid h ∷ [])
     (disconnections (asks_on h) x ++ notice.Lost h ∷ [])
-    (with_standing (On c phase.Leaving) h (record x { requests = request.channel_over h x.requests }))
+    (with_standing (On c phase.Leaving) h (with_requests (request.channel_over h x.requests) x))
 left x c there = becomes x
 
 -- ---- requests and subscriptions, each by its id
 
 -- nothing has the IOID of this request
 abbrev pub without_request : Handle → Client → Client
-without_request q x = record x { requests = with_freed q x.requests }
+without_request q x = with_requests (with_freed q x.requests) x
 
 -- nothing has the id of this subscription
 abbrev pub without_subscription : Handle → Client → Client
@@ -149,7 +149,7 @@ without_subscription s x = record x { subscriptions = with_freed s x.subscriptio
 
 -- A reply completes an open request with the outcome that it means, and ends the draining of an IOID.
 abbrev pub Completes : Client → Fields → Handle → Stage → Effect → Type 0
-Completes x m q (request.Open number) e = (o : Outcome) × Means m o × (e ≡ doing [] (notice.Completed q o ∷ []) (without_request q x))
+Completes x m q request.Open e = (o : Outcome) × Means m o × (e ≡ doing [] (notice.Completed q o ∷ []) (without_request q x))
 Completes x m q request.Draining e = e ≡ becomes (without_request q x)
 
 -- READ_NOTIFY and WRITE_NOTIFY ("CA_PROTO_READ_NOTIFY", "CA_PROTO_WRITE_NOTIFY")
@@ -192,7 +192,7 @@ subscription_failed x m None = becomes x
 
 -- A request failed; an IOID that drains goes on draining.
 abbrev pub request_failed : Client → Fields → Handle → Stage → Effect
-request_failed x m q (request.Open number) =
+request_failed x m q request.Open =
     doing [] (notice.Completed q (outcome.Failed (record { number = m.p2 })) ∷ []) (without_request q x)
 request_failed x m q request.Draining = becomes x
 
