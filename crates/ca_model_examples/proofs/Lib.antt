@@ -7,3 +7,4 @@ pub mod UsedRest
 pub mod UsedWhole
 pub mod UsedDue
 pub mod Crossed
+pub mod Reopened
