@@ -8,7 +8,7 @@ use Rattle.ca_dbr.specs.declared.value.Outcome.{Outcome}
 use Rattle.ca_wire.specs.Fields.{Fields}
 use Rattle.ca_records.specs.Record.{RecordState}
 use Rattle.ca_model.specs.Speech.{Cid, Clears, Creates, Gives, Id, In, Ioid, Is, SubId}
-use Rattle.ca_model.specs.Sends.{Conduct, HasChannel, IsDisconnect, IsFree, IsOnChannel, LegalClient, LegalServer, ReadsBetween, SameIndex}
+use Rattle.ca_model.specs.Sends.{Conduct, HasChannel, IsConnected, IsDisconnect, IsFree, IsOnChannel, IsOpenAt, LegalClient, LegalServer, ReadsBetween, SameIndex}
 use Rattle.ca_model.specs.History.{Circuit, Intent, On, OfCircuit, Create, Line, Entry, Called, Subscribe, Sent, Told, Step, Added, Removed, Clear, Cancel, Reply, Removal, Cause}
 use Rattle.ca_model_safe.specs.Channels.{Created, IsHeld, Joins, Meant, OfCircuits, OfClients, Stands}
 use Rattle.ca_model_safe.specs.Legal.{BecomesLive, IsSent, Legal, LegalCircuit, client_conduct, server_conduct}
@@ -138,3 +138,109 @@ reopened-client = record {
     (λ e. omega (arith, e)), ((λ e. omega (arith, e)), ((λ e. omega (arith, e)), ((λ e. omega (arith, e)), ((λ e. omega (arith, e)), tt))))) k m at is);
   ids = ids-free;
 }
+
+-- ---- the server
+
+-- the CLEAR_CHANNEL was read after three messages
+clear-read : (i k j : ℕ) (r : Fields) → ReadsBetween sv i k j r → Is command.ClearChannel r → (i < 3) × (3 ≤ k)
+clear-read i k j r reads is =
+    let e = clear-at j r reads.1 is in
+    let b : reads.0 ≡ 3 = some_is reads.0 3 (sym (subst (λ (z : ℕ). At sv.read z reads.0) e reads.2)) in
+    (subst (λ (z : ℕ). i < z) b reads.3, subst (λ (z : ℕ). z ≤ k) b reads.4)
+
+-- the two creations
+creation-at : (i a : ℕ) (m : Fields) → At sv.sent i m → Creates m a → ((i ≡ 0) ⊎ (i ≡ 4)) × (a ≡ 5)
+creation-at i a m at is =
+    each-at (λ (j : ℕ) (z : Fields). Creates z a → ((j ≡ 0) ⊎ (j ≡ 4)) × (a ≡ 5)) sv.sent (
+      (λ e. (inl refl, sym e.1)), ((λ e. (let f = e.0 in absurd (omega (arith, f)))), ((λ e. (let f = e.0 in absurd (omega (arith, f)))), (
+      (λ e. (let f = e.0 in absurd (omega (arith, f)))), ((λ e. (inr refl, sym e.1)), ((λ e. (let f = e.0 in absurd (omega (arith, f)))), tt)))))) i m at is
+
+no-cancel : (j : ℕ) (r : Fields) → At sv.came j r → Is command.EventCancel r → ⊥
+no-cancel j r at is =
+    each-at (λ (i : ℕ) (z : Fields). Is command.EventCancel z → ⊥) sv.came (
+      (λ e. omega (arith, e)), ((λ e. omega (arith, e)), ((λ e. omega (arith, e)), ((λ e. omega (arith, e)), ((λ e. omega (arith, e)), tt))))) j r at is
+
+sids-free : (i k a b : ℕ) (m r : Fields) → i < k → At sv.sent i m → At sv.sent k r → Creates m a → Creates r b → (j : ℕ) × (c : Fields) × ReadsBetween sv i k j c × Clears c a
+sids-free i k a b m r lt p q x y =
+    let f = creation-at i a m p x in
+    let g = creation-at k b r q y in
+    elim f.0 [
+      | inl z ↦ elim g.0 [
+        | inl w ↦ absurd (omega (arith, z, w, lt))
+        | inr w ↦ (2, clearing.message, (3, refl, refl, omega (arith, z), omega (arith, w)), (refl, sym f.1))
+      ]
+      | inr z ↦ elim g.0 [
+        | inl w ↦ absurd (omega (arith, z, w, lt))
+        | inr w ↦ absurd (omega (arith, z, w, lt))
+      ]
+    ]
+
+-- what is said of each update
+abbrev IsMeant : ℕ → Fields → Type 0
+IsMeant k m =
+    Is command.EventAdd m → (m.payload ≡ [] → ⊥)
+    → (i j cid : ℕ) × (add : Fields) × IsOpenAt sv k i cid add.p1 × IsConnected sv i k cid
+    × ReadsBetween sv i k j add × Gives add (SubId m.p2)
+    × ((l : ℕ) (r : Fields) → j < l → ReadsBetween sv i k l r → Is command.EventCancel r → r.p1 ≡ add.p1 → r.p2 ≢ add.p2)
+
+reopened-server : LegalServer sv
+reopened-server = record {
+  sids = λ i k a b m r lt p q x y same. sids-free i k a b m r lt p q x y;
+  updates = λ k m at. each-at IsMeant sv.sent (
+    (λ is. absurd (omega (arith, is))),
+    ((λ is full. (0, 1, 1, (adding 0 9).message, (created_told.message, refl, (refl, refl), refl, omega arith, (λ j r reads clears. (let e = (clear-read 0 1 j r reads clears.0).1 in omega (arith, e)))), (λ l z low high. absurd (omega (arith, low, high))), (1, refl, refl, omega arith, omega arith), (refl, refl), (λ l r after reads is. absurd (no-cancel l r reads.1 is)))),
+    ((λ is. absurd (omega (arith, is))), ((λ is. absurd (omega (arith, is))), ((λ is. absurd (omega (arith, is))),
+    ((λ is full. (4, 4, 1, (adding 0 9).message, (created_told.message, refl, (refl, refl), refl, omega arith, (λ j r reads clears. (let e = (clear-read 4 5 j r reads clears.0).0 in omega (arith, e)))), (λ l z low high. absurd (omega (arith, low, high))), (5, refl, refl, omega arith, omega arith), (refl, refl), (λ l r after reads is. absurd (no-cancel l r reads.1 is)))), tt)))))) k m at;
+  confirmations = λ k m at is none. absurd (each-at (λ (i : ℕ) (z : Fields). Is command.EventAdd z → z.payload ≡ [] → ⊥) sv.sent (
+    (λ e f. omega (arith, e)), ((λ e f. cc), ((λ e f. omega (arith, e)), ((λ e f. omega (arith, e)), ((λ e f. omega (arith, e)), ((λ e f. cc), tt)))))) k m at is none);
+  disconnects = λ k m at is.
+    (let only = each-at (λ (i : ℕ) (z : Fields). Is command.ServerDisconnect z → (i ≡ 2) × (z.p1 ≡ 1)) sv.sent (
+      (λ e. absurd (omega (arith, e))), ((λ e. absurd (omega (arith, e))), ((λ e. (refl, refl)), ((λ e. absurd (omega (arith, e))), ((λ e. absurd (omega (arith, e))), ((λ e. absurd (omega (arith, e))), tt)))))) k m at is in
+    subst (λ (z : ℕ). (i sid : ℕ) × IsOpenAt sv z i m.p1 sid × IsConnected sv i z m.p1) (sym only.0) (
+    subst (λ (z : ℕ). (i sid : ℕ) × IsOpenAt sv 2 i z sid × IsConnected sv i 2 z) (sym only.1) (0, 5,
+      (created_told.message, refl, (refl, refl), refl, omega arith, (λ j r reads clears. (let e = (clear-read 0 2 j r reads clears.0).1 in omega (arith, e)))),
+      (λ l z low high here gone. (let e = disconnect-at l z here gone.0 in omega (arith, e, high))))));
+}
+
+-- ---- the world
+
+abbrev number-of : Intent → ℕ
+number-of (On c (Subscribe n)) = n
+number-of i = 0
+
+abbrev channel-of : Intent → ℕ
+channel-of (On c a) = c
+channel-of i = 0
+
+abbrev intent-of : Line → Intent
+intent-of (Called i e) = i
+intent-of l = OfCircuit
+
+-- the one call
+call-at : (o : Outcome) (i : ℕ) (intent : Intent) → At (reopened_lines o) i (Called intent None) → (i ≡ 2) × (On 0 (Subscribe 0) ≡ intent)
+call-at o i intent at =
+    each-at (λ (k : ℕ) (l : Line). l ≡ Called intent None → (k ≡ 2) × (On 0 (Subscribe 0) ≡ intent)) (reopened_lines o) (
+      (λ e. absurd cc), ((λ e. absurd cc), ((λ e. (refl, ap intent-of e)), ((λ e. absurd cc), ((λ e. absurd cc), ((λ e. absurd cc), tt)))))) i _ at refl
+
+is-held : (o : Outcome) (n channel number : ℕ) → IsHeld (take n (reopened_lines o)) (On channel (Subscribe number))
+is-held o n channel number =
+    ((λ h. (let e = (call-at o h.0 _ (at-take n (reopened_lines o) h.0 _ h.1)).1 in cc)), (λ h. (let e = (call-at o h.0 _ (at-take n (reopened_lines o) h.0 _ h.1)).1 in cc)))
+
+-- where subscriptions were meant
+subscribed-at : (k channel number : ℕ) → Meant reopened k (On channel (Subscribe number)) → (k ≡ 1) ⊎ (k ≡ 4)
+subscribed-at k channel number m =
+    each-at (λ (i : ℕ) (s : Sent). s.intent ≡ On channel (Subscribe number) → (i ≡ 1) ⊎ (i ≡ 4)) reopened.up (
+      (λ e. absurd cc), ((λ e. inl refl), ((λ e. absurd cc), ((λ e. absurd cc), ((λ e. inr refl), tt))))) k m.0 m.1 m.2
+
+-- where creations were meant
+created-on : (k channel : ℕ) → Meant reopened k (On channel Create) → channel ≡ 0
+created-on k channel m =
+    each-at (λ (i : ℕ) (s : Sent). s.intent ≡ On channel Create → channel ≡ 0) reopened.up (
+      (λ e. ap channel-of (sym e)), ((λ e. absurd cc), ((λ e. absurd cc), ((λ e. ap channel-of (sym e)), ((λ e. absurd cc), tt))))) k m.0 m.1 m.2
+
+-- the replies to CREATE_CHAN
+reply-at : (j k sid : ℕ) (t : Told) → At reopened.down j t → t.place ≡ k → Creates t.message sid → ((j ≡ 0) × (k ≡ 0)) ⊎ ((j ≡ 4) × (k ≡ 3))
+reply-at j k sid t at place is =
+    each-at (λ (i : ℕ) (u : Told). u.place ≡ k → Creates u.message sid → ((i ≡ 0) × (k ≡ 0)) ⊎ ((i ≡ 4) × (k ≡ 3))) reopened.down (
+      (λ p e. inl (refl, sym p)), ((λ p e. (let f = e.0 in absurd (omega (arith, f)))), ((λ p e. (let f = e.0 in absurd (omega (arith, f)))), ((λ p e. (let f = e.0 in absurd (omega (arith, f)))), (
+      (λ p e. inr (refl, sym p)), ((λ p e. (let f = e.0 in absurd (omega (arith, f)))), tt)))))) j t at place is
