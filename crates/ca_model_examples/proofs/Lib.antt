@@ -8,3 +8,4 @@ pub mod UsedWhole
 pub mod UsedDue
 pub mod Crossed
 pub mod Reopened
+pub mod ReopenedSafe

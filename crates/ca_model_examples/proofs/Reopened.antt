@@ -208,7 +208,7 @@ abbrev number-of : Intent → ℕ
 number-of (On c (Subscribe n)) = n
 number-of i = 0
 
-abbrev channel-of : Intent → ℕ
+abbrev pub channel-of : Intent → ℕ
 channel-of (On c a) = c
 channel-of i = 0
 
@@ -233,14 +233,99 @@ subscribed-at k channel number m =
       (λ e. absurd cc), ((λ e. inl refl), ((λ e. absurd cc), ((λ e. absurd cc), ((λ e. inr refl), tt))))) k m.0 m.1 m.2
 
 -- where creations were meant
-created-on : (k channel : ℕ) → Meant reopened k (On channel Create) → channel ≡ 0
+pub created-on : (k channel : ℕ) → Meant reopened k (On channel Create) → channel ≡ 0
 created-on k channel m =
     each-at (λ (i : ℕ) (s : Sent). s.intent ≡ On channel Create → channel ≡ 0) reopened.up (
       (λ e. ap channel-of (sym e)), ((λ e. absurd cc), ((λ e. absurd cc), ((λ e. ap channel-of (sym e)), ((λ e. absurd cc), tt))))) k m.0 m.1 m.2
 
 -- the replies to CREATE_CHAN
-reply-at : (j k sid : ℕ) (t : Told) → At reopened.down j t → t.place ≡ k → Creates t.message sid → ((j ≡ 0) × (k ≡ 0)) ⊎ ((j ≡ 4) × (k ≡ 3))
+pub reply-at : (j k sid : ℕ) (t : Told) → At reopened.down j t → t.place ≡ k → Creates t.message sid → ((j ≡ 0) × (k ≡ 0)) ⊎ ((j ≡ 4) × (k ≡ 3))
 reply-at j k sid t at place is =
     each-at (λ (i : ℕ) (u : Told). u.place ≡ k → Creates u.message sid → ((i ≡ 0) × (k ≡ 0)) ⊎ ((i ≡ 4) × (k ≡ 3))) reopened.down (
       (λ p e. inl (refl, sym p)), ((λ p e. (let f = e.0 in absurd (omega (arith, f)))), ((λ p e. (let f = e.0 in absurd (omega (arith, f)))), ((λ p e. (let f = e.0 in absurd (omega (arith, f)))), (
       (λ p e. inr (refl, sym p)), ((λ p e. (let f = e.0 in absurd (omega (arith, f)))), tt)))))) j t at place is
+
+abbrev removed-in : Entry → ℕ
+removed-in (Removed r) = r
+removed-in e = 0
+
+-- the channel of a subscription
+of-channel : (k channel number : ℕ) → Meant reopened k (On channel (Subscribe number)) → 0 ≡ channel
+of-channel k channel number m =
+    each-at (λ (i : ℕ) (s : Sent). s.intent ≡ On channel (Subscribe number) → 0 ≡ channel) reopened.up (
+      (λ e. ap channel-of e), ((λ e. ap channel-of e), ((λ e. ap channel-of e), ((λ e. ap channel-of e), ((λ e. ap channel-of e), tt))))) k m.0 m.1 m.2
+
+-- the removal
+removal-at : (e r : ℕ) → At reopened_entries e (Removed r) → r ≡ 0
+removal-at e r at =
+    each-at (λ (i : ℕ) (z : Entry). z ≡ Removed r → r ≡ 0) reopened_entries ((λ f. absurd cc), ((λ f. ap removed-in (sym f)), ((λ f. absurd cc), tt))) e _ at refl
+
+gone-at-three : (k : ℕ) (h : Step) → k ≡ 3 → At reopened.handled k h → In (take h.logged reopened_entries) (Removed 0)
+gone-at-three k h is at =
+    let e : h ≡ step 4 3 3 = some_is h (step 4 3 3) (sym (subst (λ (i : ℕ). At reopened.handled i h) is at)) in
+    subst (λ (g : Step). In (take g.logged reopened_entries) (Removed 0)) (sym e) (1, refl)
+
+gone-told : (j k sid r e : ℕ) → Created reopened reopened_entries j k sid r → At reopened_entries e (Removed r)
+    → (q : ℕ) × (t : Told) × At reopened.down q t × (t.place ≡ k) × (t.cause ≡ Removal)
+gone-told j k sid r e made gone =
+    elim (reply-at j k sid made.0 made.3 made.4 made.6) [
+      | inl h ↦ (2, disconnected, refl, sym h.1, refl)
+      | inr h ↦
+        let is : r ≡ 0 = removal-at e r gone in
+        let there = gone-at-three k made.2 h.1 made.8 in
+        absurd (made.9.3 (subst (λ (z : ℕ). In (take made.2.logged reopened_entries) (Removed z)) (sym is) there))
+    ]
+
+sent-again : (o : Outcome) (channel k number : ℕ) (h : Step) → BecomesLive reopened channel k h → In (take h.logged (reopened_lines o)) (Called (On channel (Subscribe number)) None)
+    → (l : ℕ) × (h.sent ≤ l) × Meant reopened l (On channel (Subscribe number)) × ((p : ℕ) → k < p → p < l → Meant reopened p (On channel Create) → ⊥)
+sent-again o channel k number h live called =
+    let call = call-at o called.0 _ (at-take h.logged (reopened_lines o) called.0 _ called.1) in
+    let within = at-take-within h.logged (reopened_lines o) called.0 _ called.1 in
+    elim (reply-at live.0 k live.1 live.2 live.4 live.5 live.7) [
+      | inl e ↦
+        let is : h ≡ step 1 1 2 = some_is h (step 1 1 2) (sym (subst (λ (i : ℕ). At reopened.heard i h) e.0 live.8)) in
+        let few : h.logged ≡ 1 = ap (λ (g : Step). g.logged) is in
+        let two = call.0 in
+        absurd (omega (arith, few, two, within))
+      | inr e ↦
+        let is : h ≡ step 4 5 6 = some_is h (step 4 5 6) (sym (subst (λ (i : ℕ). At reopened.heard i h) e.0 live.8)) in
+        let four : h.sent ≡ 4 = ap (λ (g : Step). g.sent) is in
+        let three = e.1 in
+        (4, omega (arith, four), (adding 0 9, refl, call.1), (λ p low high meant. omega (arith, three, low, high)))
+    ]
+
+legal-circuit : (o : Outcome) → LegalCircuit 0 reopened (reopened_lines o) reopened_entries
+legal-circuit o = record {
+  client = reopened-client;
+  server = reopened-server;
+  told = λ j k sid r e made gone uncleared up. gone-told j k sid r e made gone;
+  apart = λ k l channel number lt a b. elim (subscribed-at k channel number a) [
+    | inl x ↦ elim (subscribed-at l channel number b) [
+      | inl y ↦ absurd (omega (arith, x, y, lt))
+      | inr y ↦ (3, omega (arith, x), omega (arith, y), (creating, refl, ap (λ (c : ℕ). On c Create) (of-channel k channel number a)))
+    ]
+    | inr x ↦ elim (subscribed-at l channel number b) [
+      | inl y ↦ absurd (omega (arith, x, y, lt))
+      | inr y ↦ absurd (omega (arith, x, y, lt))
+    ]
+  ];
+  anew = λ channel k number h live standing. sent-again o channel k number h live standing.0;
+  ended = λ channel k l number h live lt meant. is-held o h.logged channel number;
+}
+
+each-circuit : (o : Outcome) (P : ℕ → Circuit → List Line → List Entry → Type 0) → P 0 reopened (reopened_lines o) reopened_entries → OfCircuits (reopened_world o) P
+each-circuit o P h n c at =
+    let e = one-at reopened n c at in
+    subst (λ (d : Circuit). (x : List Line) × (y : List Entry) × Joins (reopened_world o) n d x y × P n d x y) (sym e.1) (
+    subst (λ (m : ℕ). (x : List Line) × (y : List Entry) × Joins (reopened_world o) m reopened x y × P m reopened x y) (sym e.0) (reopened_lines o, reopened_entries, (refl, refl, refl), h))
+
+each-life : (o : Outcome) (P : ℕ → List Line → Type 0) → P 0 (reopened_lines o) → OfClients (reopened_world o) P
+each-life o P h life x at =
+    let e = one-at (reopened_lines o) life x at in
+    subst (λ (y : List Line). P life y) (sym e.1) (subst (λ (m : ℕ). P m (reopened_lines o)) (sym e.0) h)
+
+pub reopened-legal : (o : Outcome) → Legal (reopened_world o)
+reopened-legal o = record {
+  circuits = each-circuit o LegalCircuit (legal-circuit o);
+  subscriptions = each-life o (IsSent (reopened_world o)) (λ channel number h. (0, 1, (reopened, refl, refl, (adding 0 9, refl, (call-at o h.0 _ h.1).1))));
+}
