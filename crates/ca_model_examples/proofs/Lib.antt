@@ -7,3 +7,5 @@ pub mod UsedRest
 pub mod UsedWhole
 pub mod UsedDue
 pub mod Crossed
+pub mod Reopened
+pub mod ReopenedSafe

@@ -63,30 +63,32 @@ by-test y name k false f g = g refl
 records : (n : ℕ) (v : Stored) → Has (take n used_entries) 0 temp_name → IsNow (take n used_entries) 0 (temp_now v) → (name : List ℕ) → IsRecordOf (take n used_entries) name ((knows v true []).record_of name)
 records n v has now name =
     by-test (take n used_entries) name (temp_now v) (bytes_eq temp_name name) (
-      λ e. (let same : temp_name ≡ name = (bytes_eq-Decides temp_name name).0 e in (0, subst (λ (m : List ℕ). Has (take n used_entries) 0 m) same has, now))) (
-      λ e r h.
-      (let at : At used_entries h.1.0 (Added r h.0) = at-take n used_entries h.1.0 _ h.1.1 in
-      let is : temp ≡ h.0 = each-at (λ (i : ℕ) (z : Entry). z ≡ Added r h.0 → temp ≡ h.0) used_entries ((λ f. ap state-in f), ((λ f. absurd cc), tt)) h.1.0 _ at refl in
-      let same : temp_name ≡ name = ap (λ (s : RecordState). s.name) is ∙ h.2 in
-      let yes-it-is : bytes_eq temp_name name ≡ true = subst (λ (m : List ℕ). bytes_eq temp_name m ≡ true) same refl in
-      cc))
+    λ e. (let same : temp_name ≡ name = (bytes_eq-Decides temp_name name).0 e in (0, subst (λ (m : List ℕ). Has (take n used_entries) 0 m) same has, now))) (
+    λ e r h.
+    (let at : At used_entries h.1.0 (Added r h.0) = at-take n used_entries h.1.0 _ h.1.1 in
+    let is : temp ≡ h.0 = each-at (λ (i : ℕ) (z : Entry). z ≡ Added r h.0 → temp ≡ h.0) used_entries ((λ f. ap state-in f), ((λ f. absurd cc), tt)) h.1.0 _ at refl in
+    let same : temp_name ≡ name = ap (λ (s : RecordState). s.name) is ∙ h.2 in
+    let yes-it-is : bytes_eq temp_name name ≡ true = subst (λ (m : List ℕ). bytes_eq temp_name m ≡ true) same refl in
+    cc))
 
 no-names : (n k : ℕ) (h : Step) (m : Fields) → IsEarly (before used n h) k m → (Is command.ClientName m → ⊥) × (Is command.HostName m → ⊥)
 no-names n k h m e =
     let at : At used.up k e.0 = at-take n used.up k e.0 e.2 in
     let both = each-at (λ (i : ℕ) (s : Sent). (Is command.ClientName s.message → ⊥) × (Is command.HostName s.message → ⊥)) used.up (
-      (λ f. omega (arith, f), λ f. omega (arith, f)), ((λ f. omega (arith, f), λ f. omega (arith, f)), ((λ f. omega (arith, f), λ f. omega (arith, f)), ((λ f. omega (arith, f), λ f. omega (arith, f)), tt)))) k e.0 at in
+      (λ f. omega (arith, f), λ f. omega (arith, f)),
+      ((λ f. omega (arith, f), λ f. omega (arith, f)), ((λ f. omega (arith, f), λ f. omega (arith, f)), ((λ f. omega (arith, f), λ f. omega (arith, f)), tt))),
+    ) k e.0 at in
     subst (λ (f : Fields). (Is command.ClientName f → ⊥) × (Is command.HostName f → ⊥)) e.4 both
 
 no-keys : (n : ℕ) (h : Step) (y : List Entry) → n ≤ 3 → AreJust [] (IsKey (before used n h) y)
 no-keys n h y few = record {
   each = λ x i. absurd (none-at i.0 x i.1);
   all = λ x key.
-    (let a = key.4 in
-    let at : At used.up key.0 key.2 = at-take n used.up key.0 key.2 a.2 in
-    let is : key.0 ≡ 3 = each-at (λ (i : ℕ) (s : Sent). s.intent ≡ On a.0 (Subscribe a.1) → i ≡ 3) used.up ((λ e. absurd cc), ((λ e. absurd cc), ((λ e. absurd cc), ((λ e. refl), tt)))) key.0 key.2 at a.3 in
-    let within = at-take-within n used.up key.0 key.2 a.2 in
-    absurd (omega (arith, is, within, few)));
+      (let a = key.4 in
+      let at : At used.up key.0 key.2 = at-take n used.up key.0 key.2 a.2 in
+      let is : key.0 ≡ 3 = each-at (λ (i : ℕ) (s : Sent). s.intent ≡ On a.0 (Subscribe a.1) → i ≡ 3) used.up ((λ e. absurd cc), ((λ e. absurd cc), ((λ e. absurd cc), ((λ e. refl), tt)))) key.0 key.2 at a.3 in
+      let within = at-take-within n used.up key.0 key.2 a.2 in
+      absurd (omega (arith, is, within, few)));
   once = λ i j x p q. absurd (none-at i x p);
 }
 
@@ -106,17 +108,17 @@ one-channel : (n m : ℕ) (h : Step) → IsOpen (before used n h) (take m used_e
     → AreJust (temp_channel ∷ []) (IsChannel (before used n h) (take m used_entries))
 one-channel n m h is-open here = record {
   each = λ x i.
-    (let e = (one-at temp_channel i.0 x i.1).1 in
-    subst (λ (z : KnownChannel). IsChannel (before used n h) (take m used_entries) z) (sym e) (1, 0, 0, creating, is-open, here, refl, refl, (λ f. absurd cc), (λ g. absurd (no-removed g.0 0 (at-take m used_entries g.0 _ g.1)))));
+      (let e = (one-at temp_channel i.0 x i.1).1 in
+      subst (λ (z : KnownChannel). IsChannel (before used n h) (take m used_entries) z) (sym e) (1, 0, 0, creating, is-open, here, refl, refl, (λ f. absurd cc), (λ g. absurd (no-removed g.0 0 (at-take m used_entries g.0 _ g.1)))));
   all = λ x c.
-    (let made = c.4.0 in
-    let from = created-at c.0 c.1 x.sid made.0 (at-take h.sent used.down c.0 made.0 made.3) made.4 made.6 in
-    let first : At used.up 0 c.3 = subst (λ (k : ℕ). At used.up k c.3) from.1 (at-take n used.up c.1 c.3 c.5) in
-    let is : c.3 ≡ creating = some_is c.3 creating (sym first ∙ refl) in
-    let cid : x.cid ≡ 1 = c.6 ∙ ap (λ (s : Sent). s.message.p1) is in
-    let name : x.name ≡ temp_name = c.7 ∙ ap (λ (s : Sent). name_in s.message) is in
-    let there : x.retired ≡ false = not-true x.retired (λ e. (let g = c.8 e in no-removed g.0 c.2 (at-take m used_entries g.0 _ g.1))) in
-    (0, subst (λ (z : KnownChannel). At (temp_channel ∷ []) 0 z) (is-temp x from.2 cid name there) refl));
+      (let made = c.4.0 in
+      let from = created-at c.0 c.1 x.sid made.0 (at-take h.sent used.down c.0 made.0 made.3) made.4 made.6 in
+      let first : At used.up 0 c.3 = subst (λ (k : ℕ). At used.up k c.3) from.1 (at-take n used.up c.1 c.3 c.5) in
+      let is : c.3 ≡ creating = some_is c.3 creating (sym first ∙ refl) in
+      let cid : x.cid ≡ 1 = c.6 ∙ ap (λ (s : Sent). s.message.p1) is in
+      let name : x.name ≡ temp_name = c.7 ∙ ap (λ (s : Sent). name_in s.message) is in
+      let there : x.retired ≡ false = not-true x.retired (λ e. (let g = c.8 e in no-removed g.0 c.2 (at-take m used_entries g.0 _ g.1))) in
+      (0, subst (λ (z : KnownChannel). At (temp_channel ∷ []) 0 z) (is-temp x from.2 cid name there) refl));
   once = λ i j x p q. (one-at temp_channel i x p).0 ∙ sym (one-at temp_channel j x q).0;
 }
 
@@ -217,13 +219,21 @@ due-put = record {
   create = λ e. absurd (omega (arith, e));
   read = λ e. absurd (omega (arith, e));
   write = λ e. absurd (omega (arith, e));
-  put = λ e. inl (serves (long 21), inr (longs (pos 22 ∷ []), record {
-    elements = longs (pos 22 ∷ []);
-    early = refl;
-    reads = record { base = base.Long; typed = refl; reads = record { behind = 0 ∷ 0 ∷ 0 ∷ 0 ∷ []; spelled = refl; based = refl; counted = refl; valued = fits-22 } };
-    late = refl;
-    is = refl;
-  }, refl, refl));
+  put = λ e. inl (
+    serves (long 21),
+    inr (
+      longs (pos 22 ∷ []),
+      record {
+        elements = longs (pos 22 ∷ []);
+        early = refl;
+        reads = record { base = base.Long; typed = refl; reads = record { behind = 0 ∷ 0 ∷ 0 ∷ 0 ∷ []; spelled = refl; based = refl; counted = refl; valued = fits-22 } };
+        late = refl;
+        is = refl;
+      },
+      refl,
+      refl,
+    ),
+  );
   subscribe = λ e. absurd (omega (arith, e));
   cancel = λ e. absurd (omega (arith, e));
   off = λ e. absurd (omega (arith, e));

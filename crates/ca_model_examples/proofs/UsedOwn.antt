@@ -31,7 +31,9 @@ update_told = update 5 1 normal 9 (0 ∷ 0 ∷ 0 ∷ 22 ∷ [])
 last-cid : (l : ℕ) (r : Sent) → 0 < l → At used.up l r → Gives r.message (Cid 1) → ⊥
 last-cid l r after at gives =
     each-at (λ (i : ℕ) (z : Sent). 0 < i → Gives z.message (Cid 1) → ⊥) used.up (
-      (λ a e. omega (arith, a)), ((λ a e. let f = e.0 in omega (arith, f)), ((λ a e. let f = e.0 in omega (arith, f)), ((λ a e. let f = e.0 in omega (arith, f)), tt)))) l r at after gives
+      (λ a e. omega (arith, a)),
+      ((λ a e. let f = e.0 in omega (arith, f)), ((λ a e. let f = e.0 in omega (arith, f)), ((λ a e. let f = e.0 in omega (arith, f)), tt))),
+    ) l r at after gives
 
 last-of : (k : ℕ) (id : Id) → Each (λ (i : ℕ) (z : Sent). k < i → Gives z.message id → ⊥) used.up → (l : ℕ) (r : Sent) → k < l → At used.up l r → Gives r.message id → ⊥
 last-of k id all l r after at gives = each-at (λ (i : ℕ) (z : Sent). k < i → Gives z.message id → ⊥) used.up all l r at after gives
@@ -50,28 +52,89 @@ takes-1 : TakesOwn used 1 0 (Cid 1)
 takes-1 = (0, 0, creating, creating, (creating, refl, (refl, refl), omega arith, (λ l r after early at. last-cid l r after at)), omega arith, refl, refl, refl, refl)
 
 takes-2 : TakesOwn used 2 1 (Ioid 8)
-takes-2 =
-    (1, 0, putting 0 8 22, putting 0 8 22, (putting 0 8 22, refl, (inr refl, refl), omega arith, (λ l r after early at. last-of 1 (Ioid 8) (
-      (λ a e. omega (arith, a)), ((λ a e. omega (arith, a)), ((λ a e. let f = e.1 in omega (arith, f)), ((λ a e. let f = e.1 in omega (arith, f)), tt)))) l r after at)), omega arith, refl, refl, refl, refl)
+takes-2 = (
+  1,
+  0,
+  putting 0 8 22,
+  putting 0 8 22,
+  (
+    putting 0 8 22,
+    refl,
+    (inr refl, refl),
+    omega arith,
+    (λ l r after early at. last-of 1 (Ioid 8) (
+      (λ a e. omega (arith, a)),
+      ((λ a e. omega (arith, a)), ((λ a e. let f = e.1 in omega (arith, f)), ((λ a e. let f = e.1 in omega (arith, f)), tt))),
+    ) l r after at),
+  ),
+  omega arith,
+  refl,
+  refl,
+  refl,
+  refl,
+)
 
 takes-3 : TakesOwn used 3 2 (Ioid 7)
-takes-3 =
-    (2, 1, reading 1 7, reading 1 7, (reading 1 7, refl, (inl refl, refl), omega arith, (λ l r after early at. last-of 2 (Ioid 7) (
-      (λ a e. omega (arith, a)), ((λ a e. omega (arith, a)), ((λ a e. omega (arith, a)), ((λ a e. let f = e.1 in omega (arith, f)), tt)))) l r after at)), omega arith, refl, refl, refl, refl)
+takes-3 = (
+  2,
+  1,
+  reading 1 7,
+  reading 1 7,
+  (
+    reading 1 7,
+    refl,
+    (inl refl, refl),
+    omega arith,
+    (λ l r after early at. last-of 2 (Ioid 7) (
+      (λ a e. omega (arith, a)),
+      ((λ a e. omega (arith, a)), ((λ a e. omega (arith, a)), ((λ a e. let f = e.1 in omega (arith, f)), tt))),
+    ) l r after at),
+  ),
+  omega arith,
+  refl,
+  refl,
+  refl,
+  refl,
+)
 
 takes-4 : TakesOwn used 4 3 (SubId 9)
-takes-4 =
-    (3, 0, adding 0 9, adding 0 9, (adding 0 9, refl, (refl, refl), omega arith, (λ l r after early at. last-of 3 (SubId 9) (
-      (λ a e. omega (arith, a)), ((λ a e. omega (arith, a)), ((λ a e. omega (arith, a)), ((λ a e. omega (arith, a)), tt)))) l r after at)), omega arith, refl, refl, refl, refl)
+takes-4 = (
+  3,
+  0,
+  adding 0 9,
+  adding 0 9,
+  (
+    adding 0 9,
+    refl,
+    (refl, refl),
+    omega arith,
+    (λ l r after early at. last-of 3 (SubId 9) (
+      (λ a e. omega (arith, a)),
+      ((λ a e. omega (arith, a)), ((λ a e. omega (arith, a)), ((λ a e. omega (arith, a)), tt))),
+    ) l r after at),
+  ),
+  omega arith,
+  refl,
+  refl,
+  refl,
+  refl,
+)
 
 used-own : (j : ℕ) (t : Told) (id : Id) → At used.down j t → Speaks t.message id → TakesOwn used j t.place id
 used-own j t id at says =
     each-at (λ (i : ℕ) (u : Told). (d : Id) → Speaks u.message d → TakesOwn used i u.place d) used.down (
       (λ d s. subst (λ (e : Id). TakesOwn used 0 0 e) (sym (of-channel (rights_told.message) d (inl refl) (heads (rights_told.message) d (λ e. omega (arith, e)) s))) takes-0),
-      ((λ d s. subst (λ (e : Id). TakesOwn used 1 0 e) (sym (of-channel (created_told.message) d (inr refl) (heads (created_told.message) d (λ e. omega (arith, e)) s))) takes-1),
-      ((λ d s. subst (λ (e : Id). TakesOwn used 2 1 e) (sym (of-request ((put_told 1 8 22).message) d (inr refl) (heads ((put_told 1 8 22).message) d (λ e. omega (arith, e)) s))) takes-2),
-      ((λ d s. subst (λ (e : Id). TakesOwn used 3 2 e) (sym (of-request (value_told) d (inl refl) (heads (value_told) d (λ e. omega (arith, e)) s))) takes-3),
-      ((λ d s. subst (λ (e : Id). TakesOwn used 4 3 e) (sym (of-update (update_told) d refl (heads (update_told) d (λ e. omega (arith, e)) s))) takes-4), tt))))) j t at id says
+      (
+        (λ d s. subst (λ (e : Id). TakesOwn used 1 0 e) (sym (of-channel (created_told.message) d (inr refl) (heads (created_told.message) d (λ e. omega (arith, e)) s))) takes-1),
+        (
+          (λ d s. subst (λ (e : Id). TakesOwn used 2 1 e) (sym (of-request ((put_told 1 8 22).message) d (inr refl) (heads ((put_told 1 8 22).message) d (λ e. omega (arith, e)) s))) takes-2),
+          (
+            (λ d s. subst (λ (e : Id). TakesOwn used 3 2 e) (sym (of-request (value_told) d (inl refl) (heads (value_told) d (λ e. omega (arith, e)) s))) takes-3),
+            ((λ d s. subst (λ (e : Id). TakesOwn used 4 3 e) (sym (of-update (update_told) d refl (heads (update_told) d (λ e. omega (arith, e)) s))) takes-4), tt),
+          ),
+        ),
+      ),
+    ) j t at id says
 
 -- ---- kinds and causes
 
@@ -81,13 +144,28 @@ used-asked k s at = each-at (λ (i : ℕ) (z : Sent). Suits z.intent z.message) 
 no-reply-3 : (j : ℕ) (t : Told) → At used.down j t → t.place ≡ 3 → t.cause ≡ Reply → ⊥
 no-reply-3 j t at place cause =
     each-at (λ (i : ℕ) (u : Told). u.place ≡ 3 → u.cause ≡ Reply → ⊥) used.down (
-      (λ p e. omega (arith, p)), ((λ p e. omega (arith, p)), ((λ p e. omega (arith, p)), ((λ p e. omega (arith, p)), ((λ p e. cc), tt))))) j t at place cause
+      (λ p e. omega (arith, p)),
+      ((λ p e. omega (arith, p)), ((λ p e. omega (arith, p)), ((λ p e. omega (arith, p)), ((λ p e. cc), tt)))),
+    ) j t at place cause
 
 used-caused : (j : ℕ) (t : Told) → At used.down j t → HasCause used used_entries t t.cause × ((h : Step) × At used.handled t.place h × (h.sent ≤ j))
 used-caused j t at =
     each-at (λ (i : ℕ) (u : Told). HasCause used used_entries u u.cause × ((h : Step) × At used.handled u.place h × (h.sent ≤ i))) used.down (
-      (tt, (step 0 1 1, refl, omega arith)), ((tt, (step 0 1 1, refl, omega arith)), ((tt, (step 2 1 2, refl, omega arith)), ((tt, (step 3 2 2, refl, omega arith)), (
-      ((0, adding 0 9, step 4 2 2, (0, 0, refl, refl, refl, acted-3, no-reply-3)), (step 4 2 2, refl, omega arith)), tt))))) j t at
+      (tt, (step 0 1 1, refl, omega arith)),
+      (
+        (tt, (step 0 1 1, refl, omega arith)),
+        (
+          (tt, (step 2 1 2, refl, omega arith)),
+          (
+            (tt, (step 3 2 2, refl, omega arith)),
+            (
+              ((0, adding 0 9, step 4 2 2, (0, 0, refl, refl, refl, acted-3, no-reply-3)), (step 4 2 2, refl, omega arith)),
+              tt,
+            ),
+          ),
+        ),
+      ),
+    ) j t at
 
 no-disconnects : (j : ℕ) (t : Told) → At used.down j t → t.cause ≡ Removal → ⊥
 no-disconnects j t at cause =
@@ -102,23 +180,35 @@ used-steps : AreSteps used.handled used.up used.down used_entries
 used-steps = record {
   one_each = omega arith;
   within = λ k h at. each-at (λ (i : ℕ) (g : Step). (g.sent ≤ 5) × (g.logged ≤ g.after) × (g.after ≤ 2)) used.handled (
-    (omega arith, omega arith, omega arith), ((omega arith, omega arith, omega arith), ((omega arith, omega arith, omega arith), ((omega arith, omega arith, omega arith), tt)))) k h at;
+    (omega arith, omega arith, omega arith),
+    ((omega arith, omega arith, omega arith), ((omega arith, omega arith, omega arith), ((omega arith, omega arith, omega arith), tt))),
+  ) k h at;
   rise = λ i j g h lt p q. each-at (λ (a : ℕ) (u : Step). (b : ℕ) (v : Step) → At used.handled b v → Before u a b v) used.handled (
     (λ b v z. each-at (Before (step 0 1 1) 0) used.handled ((λ l. (omega arith, omega (arith, l))), ((λ l. (omega arith, omega arith)), ((λ l. (omega arith, omega arith)), ((λ l. (omega arith, omega arith)), tt)))) b v z),
-    ((λ b v z. each-at (Before (step 2 1 2) 1) used.handled ((λ l. absurd (omega (arith, l))), ((λ l. absurd (omega (arith, l))), ((λ l. (omega arith, omega arith)), ((λ l. (omega arith, omega arith)), tt)))) b v z),
-    ((λ b v z. each-at (Before (step 3 2 2) 2) used.handled ((λ l. absurd (omega (arith, l))), ((λ l. absurd (omega (arith, l))), ((λ l. absurd (omega (arith, l))), ((λ l. (omega arith, omega arith)), tt)))) b v z),
-    ((λ b v z. each-at (Before (step 4 2 2) 3) used.handled ((λ l. absurd (omega (arith, l))), ((λ l. absurd (omega (arith, l))), ((λ l. absurd (omega (arith, l))), ((λ l. absurd (omega (arith, l))), tt)))) b v z), tt)))) i g p j h q lt;
+    (
+      (λ b v z. each-at (Before (step 2 1 2) 1) used.handled ((λ l. absurd (omega (arith, l))), ((λ l. absurd (omega (arith, l))), ((λ l. (omega arith, omega arith)), ((λ l. (omega arith, omega arith)), tt)))) b v z),
+      (
+        (λ b v z. each-at (Before (step 3 2 2) 2) used.handled ((λ l. absurd (omega (arith, l))), ((λ l. absurd (omega (arith, l))), ((λ l. absurd (omega (arith, l))), ((λ l. (omega arith, omega arith)), tt)))) b v z),
+        ((λ b v z. each-at (Before (step 4 2 2) 3) used.handled ((λ l. absurd (omega (arith, l))), ((λ l. absurd (omega (arith, l))), ((λ l. absurd (omega (arith, l))), ((λ l. absurd (omega (arith, l))), tt)))) b v z), tt),
+      ),
+    ),
+  ) i g p j h q lt;
 }
 
 used-reads : AreSteps used.heard used.down used.up used_lines
 used-reads = record {
   one_each = omega arith;
   within = λ k h at. each-at (λ (i : ℕ) (g : Step). (g.sent ≤ 4) × (g.logged ≤ g.after) × (g.after ≤ 6)) used.heard (
-    (omega arith, omega arith, omega arith), ((omega arith, omega arith, omega arith), ((omega arith, omega arith, omega arith), tt))) k h at;
+    (omega arith, omega arith, omega arith),
+    ((omega arith, omega arith, omega arith), ((omega arith, omega arith, omega arith), tt)),
+  ) k h at;
   rise = λ i j g h lt p q. each-at (λ (a : ℕ) (u : Step). (b : ℕ) (v : Step) → At used.heard b v → Before u a b v) used.heard (
     (λ b v z. each-at (Before (step 1 1 1) 0) used.heard ((λ l. (omega arith, omega arith)), ((λ l. (omega arith, omega arith)), ((λ l. (omega arith, omega arith)), tt))) b v z),
-    ((λ b v z. each-at (Before (step 1 1 2) 1) used.heard ((λ l. absurd (omega (arith, l))), ((λ l. absurd (omega (arith, l))), ((λ l. (omega arith, omega arith)), tt))) b v z),
-    ((λ b v z. each-at (Before (step 4 5 6) 2) used.heard ((λ l. absurd (omega (arith, l))), ((λ l. absurd (omega (arith, l))), ((λ l. absurd (omega (arith, l))), tt))) b v z), tt))) i g p j h q lt;
+    (
+      (λ b v z. each-at (Before (step 1 1 2) 1) used.heard ((λ l. absurd (omega (arith, l))), ((λ l. absurd (omega (arith, l))), ((λ l. (omega arith, omega arith)), tt))) b v z),
+      ((λ b v z. each-at (Before (step 4 5 6) 2) used.heard ((λ l. absurd (omega (arith, l))), ((λ l. absurd (omega (arith, l))), ((λ l. absurd (omega (arith, l))), tt))) b v z), tt),
+    ),
+  ) i g p j h q lt;
 }
 
 -- ---- answers

@@ -40,9 +40,21 @@ its-post = refl
 update-at : (i a : ℕ) → At (updates used) i (3, Update a) → (i ≡ 4) × (a ≡ 0)
 update-at i a at =
     each-at (λ (k : ℕ) (u : ℕ × Cause). u ≡ (3, Update a) → (k ≡ 4) × (a ≡ 0)) (updates used) (
-      (λ e. absurd (let f = ap (λ (u : ℕ × Cause). u.0) e in omega (arith, f))), ((λ e. absurd (let f = ap (λ (u : ℕ × Cause). u.0) e in omega (arith, f))), (
-      (λ e. absurd (let f = ap (λ (u : ℕ × Cause). u.0) e in omega (arith, f))), ((λ e. absurd (let f = ap (λ (u : ℕ × Cause). u.0) e in omega (arith, f))), (
-      (λ e. (refl, ap (λ (u : ℕ × Cause). item u.1) (sym e))), tt))))) i _ at refl
+      (λ e. absurd (let f = ap (λ (u : ℕ × Cause). u.0) e in omega (arith, f))),
+      (
+        (λ e. absurd (let f = ap (λ (u : ℕ × Cause). u.0) e in omega (arith, f))),
+        (
+          (λ e. absurd (let f = ap (λ (u : ℕ × Cause). u.0) e in omega (arith, f))),
+          (
+            (λ e. absurd (let f = ap (λ (u : ℕ × Cause). u.0) e in omega (arith, f))),
+            (
+              (λ e. (refl, ap (λ (u : ℕ × Cause). item u.1) (sym e))),
+              tt,
+            ),
+          ),
+        ),
+      ),
+    ) i _ at refl
 
 update_sent : Told
 update_sent = record { message = update_told; place = 3; cause = Update 0 }
@@ -50,8 +62,21 @@ update_sent = record { message = update_told; place = 3; cause = Update 0 }
 told-at : (j a : ℕ) (t : Told) → At used.down j t → t.place ≡ 3 → t.cause ≡ Update a → (t ≡ record { message = update_told; place = 3; cause = Update 0 }) × (a ≡ 0)
 told-at j a t at place cause =
     each-at (λ (k : ℕ) (u : Told). u.place ≡ 3 → u.cause ≡ Update a → (u ≡ record { message = update_told; place = 3; cause = Update 0 }) × (a ≡ 0)) used.down (
-      (λ p e. absurd (omega (arith, p))), ((λ p e. absurd (omega (arith, p))), ((λ p e. absurd (omega (arith, p))), ((λ p e. absurd (omega (arith, p))), (
-      (λ p e. (refl, ap item (sym e))), tt))))) j t at place cause
+      (λ p e. absurd (omega (arith, p))),
+      (
+        (λ p e. absurd (omega (arith, p))),
+        (
+          (λ p e. absurd (omega (arith, p))),
+          (
+            (λ p e. absurd (omega (arith, p))),
+            (
+              (λ p e. (refl, ap item (sym e))),
+              tt,
+            ),
+          ),
+        ),
+      ),
+    ) j t at place cause
 
 shows-22 : Shows (adding 0 9).message (long 22) update_told
 unfolding E.signed_bytes_4
@@ -70,7 +95,9 @@ module _
   pub used-follows : FollowsRecord Due Shows Means 0 used used_lines used_entries
   used-follows k r s h accepted =
       let is : (k ≡ 3) × (s ≡ adding 0 9) = each-at (λ (i : ℕ) (z : Sent). z.intent ≡ On accepted.0 (Subscribe accepted.1) → (i ≡ 3) × (z ≡ adding 0 9)) used.up (
-        (λ e. absurd cc), ((λ e. absurd cc), ((λ e. absurd cc), ((λ e. (refl, refl)), tt)))) k s accepted.2 accepted.3 in
+        (λ e. absurd cc),
+        ((λ e. absurd cc), ((λ e. absurd cc), ((λ e. (refl, refl)), tt))),
+      ) k s accepted.2 accepted.3 in
       let at : At used.handled 3 h = subst (λ (j : ℕ). At used.handled j h) is.0 accepted.4 in
       let at-three : h ≡ step 4 2 2 = each-at (λ (i : ℕ) (g : Step). i ≡ 3 → g ≡ step 4 2 2) used.handled ((λ e. absurd (omega (arith, e))), ((λ e. absurd (omega (arith, e))), ((λ e. absurd (omega (arith, e))), ((λ e. refl), tt)))) 3 h at refl in
       let acted = accepted.5 in
@@ -85,7 +112,9 @@ module _
   no-update-line : (i : ℕ) (intent : Intent) (o : Outcome) → At used_lines i (Updated intent o) → ⊥
   no-update-line i intent o at =
       each-at (λ (k : ℕ) (l : Line). l ≡ Updated intent o → ⊥) used_lines (
-        (λ e. cc), ((λ e. cc), ((λ e. cc), ((λ e. cc), ((λ e. cc), ((λ e. cc), tt)))))) i _ at refl
+        (λ e. cc),
+        ((λ e. cc), ((λ e. cc), ((λ e. cc), ((λ e. cc), ((λ e. cc), tt))))),
+      ) i _ at refl
 
   pub used-sees : Sees Due Shows Means used_world 0 used_lines
   used-sees = record {

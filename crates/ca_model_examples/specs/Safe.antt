@@ -6,10 +6,10 @@ use Rattle.ca_dbr.specs.Elements.{longs}
 use Rattle.ca_wire.specs.Fields.{Fields}
 use Rattle.ca_wire.specs.Messages.{create_request, update, value_reply}
 use Rattle.ca_text.specs.Status.{normal}
-use Rattle.ca_model.specs.History.{Create, Request, Subscribe, Read, Put, On, Update, Told, Step, Circuit, Entry, Added, Applied, Line, Called, Noticed, Opened, Updated, World}
+use Rattle.ca_model.specs.History.{Create, Request, Subscribe, Read, Put, On, Update, Told, Step, Circuit, Entry, Added, Applied, Removed, Line, Called, Noticed, Opened, Updated, World}
 use Rattle.ca_model.specs.Updates.{Shows}
 use Rattle.ca_model_safe.specs.Headline.{Sees}
-use Rattle.ca_model_examples.specs.Worlds.{AnyDue, adding, circuit, created_told, creating, long, put_told, putting, reading, reply, rights_told, step, temp, temp_name, world}
+use Rattle.ca_model_examples.specs.Worlds.{AnyDue, adding, circuit, clearing, created_told, creating, disconnected, long, put_told, putting, reading, reply, rights_told, step, temp, temp_name, world}
 
 -- A channel to TEMP is created; a put of 22 is done, and its caller knows; a read is answered with 22, and an update that shows 22 is
 -- sent. Both are unread.
@@ -63,3 +63,32 @@ shared_lines = Opened 0 temp_name ∷ Opened 1 temp_name ∷ []
 
 abbrev pub shared_id : World
 shared_id = world (shared ∷ []) shared_lines (Added 0 temp ∷ [])
+
+-- ---- a record that is removed and added again
+
+-- the update of the EVENT_ADD at this place that carries its first post
+abbrev pub first_update : (place value : ℕ) → Told
+first_update place value = record { message = update 5 1 normal 9 (0 ∷ 0 ∷ 0 ∷ value ∷ []); place = place; cause = Update 0 }
+
+-- A channel is live and subscribed; its record is removed, and the client clears it; the record is added again, the channel is created
+-- on the same circuit under the same SID, and its subscription goes out again.
+abbrev pub reopened : Circuit
+reopened =
+    circuit (creating ∷ adding 0 9 ∷ clearing ∷ creating ∷ adding 0 9 ∷ []) (
+    created_told ∷ first_update 1 21 ∷ disconnected ∷ reply 2 clearing.message ∷ reply 3 created_told.message ∷ first_update 4 5 ∷ []
+    ) (step 0 1 1 ∷ step 1 1 1 ∷ step 3 2 2 ∷ step 4 3 3 ∷ step 5 3 3 ∷ []) (
+    step 1 1 2 ∷ step 2 3 4 ∷ step 2 4 5 ∷ step 3 5 5 ∷ step 4 5 6 ∷ []
+    )
+
+-- The outcome is that of the first update, which was read.
+abbrev pub reopened_lines : Outcome → List Line
+reopened_lines o =
+    Opened 0 temp_name ∷ Noticed (On 0 Create) outcome.Done ∷ Called (On 0 (Subscribe 0)) None ∷ Updated (On 0 (Subscribe 0)) o
+    ∷ Noticed (On 0 Create) outcome.Disconnected ∷ Noticed (On 0 Create) outcome.Done ∷ []
+
+-- TEMP is 5 when it is added again.
+abbrev pub reopened_entries : List Entry
+reopened_entries = Added 0 temp ∷ Removed 0 ∷ Added 1 (record temp { value = (long 5).value }) ∷ []
+
+abbrev pub reopened_world : Outcome → World
+reopened_world o = world (reopened ∷ []) (reopened_lines o) reopened_entries
