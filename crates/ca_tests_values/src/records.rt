@@ -1,5 +1,5 @@
 use ca_dbr::{Meta, Value};
-use ca_records::Records;
+use ca_records::{Record, Records};
 use ca_text::Refusal;
 use std::process::Abort;
 use std::test::Fail;
@@ -104,26 +104,34 @@ fn standing<R: AllocGlobal + Abort>(rt: &R) -> Result<Records, Fail> {
     Ok(records)
 }
 
+/// The record under this name is at this place, and has this value.
+fn is_found<R: Abort>(rt: &R, records: &Records, name: &[u8], place: usize, value: &Value) {
+    assert!(rt; records.has(name));
+    assert_eq!(rt; records.find(name), Some(place));
+    assert!(rt; records.read(name) == Ok(value));
+    assert!(rt; place < records.len());
+    is_as_defined(rt, records.at(place), name, place, value);
+}
+
+fn is_as_defined<R: Abort>(rt: &R, record: &Record, name: &[u8], place: usize, value: &Value) {
+    assert_eq!(rt; record.name(), name);
+    assert_eq!(rt; record.count(), 4);
+    assert_eq!(rt; record.is_slow(), place % 2 == 1);
+    assert!(rt; record.value() == value);
+    assert_eq!(rt; *record.meta(), Meta::ZERO);
+}
+
 #[test]
 fn records_are_found(rt: HostRuntime) -> Result<(), Fail> {
     let records = standing(&rt)?.copy()?;
     assert_eq!(rt; records.len(), 7);
-    for (i, (name, number)) in RECORDS.iter().enumerate() {
-        assert!(rt; records.has(name));
-        assert_eq!(rt; records.find(name), Some(i));
+    for (place, (name, number)) in RECORDS.iter().enumerate() {
         let value = Value::Longs(vec![in rt.alloc(); *number]?);
-        assert_eq!(rt; records.read(name)?, &value);
-        assert!(rt; i < records.len());
-        let record = records.at(i);
-        assert_eq!(rt; record.name(), *name);
-        assert_eq!(rt; record.count(), 4);
-        assert_eq!(rt; record.is_slow(), i % 2 == 1);
-        assert_eq!(rt; record.value(), &value);
-        assert_eq!(rt; *record.meta(), Meta::ZERO);
+        is_found(&rt, &records, name, place, &value);
     }
     for name in [b"bea".as_slice(), b"", b"beam:", b"z"] {
         assert_eq!(rt; records.find(name), None);
-        assert_eq!(rt; records.read(name), Err(Refusal::UnknownRecord));
+        assert!(rt; records.read(name) == Err(Refusal::UnknownRecord));
     }
     Ok(())
 }
