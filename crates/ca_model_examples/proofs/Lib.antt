@@ -1,3 +1,4 @@
 pub mod Lists
 pub mod Unsafe
 pub mod ServerRows
+pub mod DueReplies
