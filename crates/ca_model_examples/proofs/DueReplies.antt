@@ -51,7 +51,7 @@ IsDueFor k m r a command.EventsOn = (r ≡ []) × (a ≡ Switches true)
 IsDueFor k m r a command.ClearChannel = (r ≡ cleared_reply m ∷ []) × (a ≡ Clears m.p1)
 IsDueFor k m r a _ = Unit {0}
 
-due-of : (k : Knows) (m : Fields) (r : List Fields) (a : Action) → IsDueFor k m r a (command_at m.command) → (is_known m.command ≡ false → (r ≡ []) × (a ≡ Nothing)) → Due k m r a
+pub due-of : (k : Knows) (m : Fields) (r : List Fields) (a : Action) → IsDueFor k m r a (command_at m.command) → (is_known m.command ≡ false → (r ≡ []) × (a ≡ Nothing)) → Due k m r a
 due-of k m r a h other =
     let here : (c : Command) → m.command ≡ command_number c → IsDueFor k m r a (command_at (command_number c)) = λ c e. subst (λ (n : ℕ). IsDueFor k m r a (command_at n)) e h in
     record {
@@ -120,19 +120,26 @@ apart a b e (inr h) = let f = ap kind e in absurd (omega (arith, f, h))
 pub greetings-due : AreDue greetings_due
 greetings-due =
     are-due greetings_due (
-    ((refl, refl), known), (((refl, refl), known), (((refl, refl), known), (((refl, refl), known), (((refl, refl), known), (((refl, refl), known), (((refl, refl), known), tt))))))
+      ((refl, refl), known),
+      (((refl, refl), known), (((refl, refl), known), (((refl, refl), known), (((refl, refl), known), (((refl, refl), known), (((refl, refl), known), tt)))))),
     )
 
 pub greetings-not-due : AreNotDue greetings_not_due
 greetings-not-due = (
   (λ d. no-replies (sym (d.version refl).0)),
-  ((λ d. no-replies (d.version refl).0), (
-    (λ d. apart _ _ (d.user refl).1 (inl (omega arith))),
-    ((λ d. apart _ _ (d.host refl).1 (inl (omega arith))), (
-      (λ d. apart _ _ (d.user refl).1 (inr (omega arith))),
-      ((λ d. apart _ _ (d.host refl).1 (inr (omega arith))), ((λ d. no-replies (sym (d.echo refl).0)), tt)),
-    )),
-  )),
+  (
+    (λ d. no-replies (d.version refl).0),
+    (
+      (λ d. apart _ _ (d.user refl).1 (inl (omega arith))),
+      (
+        (λ d. apart _ _ (d.host refl).1 (inl (omega arith))),
+        (
+          (λ d. apart _ _ (d.user refl).1 (inr (omega arith))),
+          ((λ d. apart _ _ (d.host refl).1 (inr (omega arith))), ((λ d. no-replies (sym (d.echo refl).0)), tt)),
+        ),
+      ),
+    ),
+  ),
 )
 
 -- ---- SEARCH
@@ -167,13 +174,23 @@ fourth-index sid is c there =
 pub creations-due : AreDue creations_due
 creations-due =
     are-due creations_due (
-    (inl (record { known = _; named = refl; cid_free = λ h. no-channel h.0 h.1; sid = 65536; fits = omega arith; sid_free = λ c there. no-channel c there; are = refl; does = refl }), known),
-    ((inl (record { known = _; named = refl; cid_free = λ h. free-of-three 3 refl h.0 h.1 h.2; sid = 131075; fits = omega arith; sid_free = fourth-index 131075 refl; are = refl; does = refl }), known),
-    ((inl (record { known = _; named = refl; cid_free = λ h. free-of-three 3 refl h.0 h.1 h.2; sid = 65539; fits = omega arith; sid_free = fourth-index 65539 refl; are = refl; does = refl }), known),
-    ((inr (record { why = inl refl; are = refl; does = refl }), known),
-    ((inr (record { why = inr (inl (temp_channel, (0, refl), refl)); are = refl; does = refl }), known),
-    ((inr (record { why = inr (inl (retired_channel, (2, refl), refl)); are = refl; does = refl }), known),
-    ((inr (record { why = inr (inr refl); are = refl; does = refl }), known), tt))))))
+      (inl (record { known = _; named = refl; cid_free = λ h. no-channel h.0 h.1; sid = 65536; fits = omega arith; sid_free = λ c there. no-channel c there; are = refl; does = refl }), known),
+      (
+        (inl (record { known = _; named = refl; cid_free = λ h. free-of-three 3 refl h.0 h.1 h.2; sid = 131075; fits = omega arith; sid_free = fourth-index 131075 refl; are = refl; does = refl }), known),
+        (
+          (inl (record { known = _; named = refl; cid_free = λ h. free-of-three 3 refl h.0 h.1 h.2; sid = 65539; fits = omega arith; sid_free = fourth-index 65539 refl; are = refl; does = refl }), known),
+          (
+            (inr (record { why = inl refl; are = refl; does = refl }), known),
+            (
+              (inr (record { why = inr (inl (temp_channel, (0, refl), refl)); are = refl; does = refl }), known),
+              (
+                (inr (record { why = inr (inl (retired_channel, (2, refl), refl)); are = refl; does = refl }), known),
+                ((inr (record { why = inr (inr refl); are = refl; does = refl }), known), tt),
+              ),
+            ),
+          ),
+        ),
+      ),
     )
 
 -- the SID in a list of replies, and in an action
@@ -199,24 +216,41 @@ as-created (inr h) = apart _ _ h.does (inr (omega arith))
 
 pub creations-not-due : AreNotDue creations_not_due
 creations-not-due = (
-  (λ d. (let h = as-created (d.create refl) in let e = ap sid_told h.are in h.sid_free retired_channel (2, refl) (ap (λ (n : ℕ). n % 2 ^ 16) e))), (
-  (λ d. (let h = as-created (d.create refl) in let e : 4294967296 ≡ h.sid = ap sid_told h.are in let f = h.fits in omega (arith, e, f))), (
-  (λ d. elim (d.create refl) [ inl h ↦ apart _ _ h.does (inl (omega arith)) | inr h ↦ two-one (sym h.are) ]), (
-  (λ d. (let h = as-created (d.create refl) in let e : 65536 ≡ h.sid = ap sid_told h.are in let f : 65537 ≡ h.sid = ap sid_opened h.does in omega (arith, e, f))), (
-  (λ d. two-one (as-created (d.create refl)).are), (
-  (λ d. (let e : 3 ≡ 0 = ap rights_told (as-created (d.create refl)).are in omega (arith, e))), (
-  (λ d. elim (d.create refl) [
-    | inl h ↦ apart _ _ h.does (inl (omega arith))
-    | inr h ↦ elim h.why [
-      | inl a ↦ there-not a
-      | inr b ↦ elim b [
-        | inl a ↦ no-channel a.0 a.1
-        | inr a ↦ known (sym a)
-      ]
-    ]
-  ]), (
-  (λ d. (as-created (d.create refl)).cid_free (retired_channel, (2, refl), refl)), (
-  (λ d. there-not (sym (as-created (d.create refl)).named)), tt))))))))
+  (λ d. (let h = as-created (d.create refl) in let e = ap sid_told h.are in h.sid_free retired_channel (2, refl) (ap (λ (n : ℕ). n % 2 ^ 16) e))),
+  (
+    (λ d. (let h = as-created (d.create refl) in let e : 4294967296 ≡ h.sid = ap sid_told h.are in let f = h.fits in omega (arith, e, f))),
+    (
+      (λ d. elim (d.create refl) [ inl h ↦ apart _ _ h.does (inl (omega arith)) | inr h ↦ two-one (sym h.are) ]),
+      (
+        (λ d. (let h = as-created (d.create refl) in let e : 65536 ≡ h.sid = ap sid_told h.are in let f : 65537 ≡ h.sid = ap sid_opened h.does in omega (arith, e, f))),
+        (
+          (λ d. two-one (as-created (d.create refl)).are),
+          (
+            (λ d. (let e : 3 ≡ 0 = ap rights_told (as-created (d.create refl)).are in omega (arith, e))),
+            (
+              (λ d. elim (d.create refl) [
+                | inl h ↦ apart _ _ h.does (inl (omega arith))
+                | inr h ↦ elim h.why [
+                  | inl a ↦ there-not a
+                  | inr b ↦ elim b [
+                    | inl a ↦ no-channel a.0 a.1
+                    | inr a ↦ known (sym a)
+                  ]
+                ]
+              ]),
+              (
+                (λ d. (as-created (d.create refl)).cid_free (retired_channel, (2, refl), refl)),
+                (
+                  (λ d. there-not (sym (as-created (d.create refl)).named)),
+                  tt,
+                ),
+              ),
+            ),
+          ),
+        ),
+      ),
+    ),
+  ),
 )
 
 -- ---- who is served
@@ -296,12 +330,20 @@ pub reads-due : AreDue reads_due
 unfolding signed_bytes_4
 reads-due =
     are-due reads_due (
-    (inl (on-temp false 0 [], refl, inr (refl, (_, longs (pos 21 ∷ []), refl, refl, refl))), known),
-    ((inl (on-temp false 0 [], refl, inr (refl, (_, longs (pos 21 ∷ []), refl, refl, refl))), known),
-    ((inl (on-temp false 0 [], refl, inl (114, refl, refl)), known),
-    ((inl (on-temp false 0 no_rights, refl, inl (368, refl, refl)), known),
-    ((inr (4294967295, inl (nobody-has-5, refl), refl, refl), known),
-    ((inr (9, inr (retired_channel, (2, refl), refl, refl, refl), refl, refl), known), tt)))))
+      (inl (on-temp false 0 [], refl, inr (refl, (_, longs (pos 21 ∷ []), refl, refl, refl))), known),
+      (
+        (inl (on-temp false 0 [], refl, inr (refl, (_, longs (pos 21 ∷ []), refl, refl, refl))), known),
+        (
+          (inl (on-temp false 0 [], refl, inl (114, refl, refl)), known),
+          (
+            (inl (on-temp false 0 no_rights, refl, inl (368, refl, refl)), known),
+            (
+              (inr (4294967295, inl (nobody-has-5, refl), refl, refl), known),
+              ((inr (9, inr (retired_channel, (2, refl), refl, refl, refl), refl, refl), known), tt),
+            ),
+          ),
+        ),
+      ),
     )
 
 temp-fault : (rules : List Rule) (c : Serves (ruled false 0 rules) 65536) (f : Option ℕ) → fault_of_read (ruled false 0 rules) (read_on 65536) c ≡ f
@@ -318,31 +360,38 @@ reads-not-due = (
       | inr b ↦ unlike 410 1 (inr (omega arith)) (ap p1_of b.1.4)
     ]
     | inr h ↦ no-stray h.1
-  ]), (
-  (λ d. elim (d.read refl) [
-    | inl h ↦ no-service h.0
-    | inr h ↦ unlike 8 0 (inr (omega arith)) (ap size_of h.2)
-  ]), (
-  (λ d. elim (d.read refl) [
-    | inl h ↦ elim h.2 [
-      | inl a ↦ unlike 8 0 (inr (omega arith)) (ap size_of a.2)
-      | inr b ↦ there-not (temp-fault no_rights h.0 None b.0)
-    ]
-    | inr h ↦ unlike 8 0 (inr (omega arith)) (ap size_of h.2)
-  ]), (
-  (λ d. elim (d.read refl) [
-    | inl h ↦ elim h.2 [
-      | inl a ↦ no-replies (sym a.2)
-      | inr b ↦ no-replies (sym b.1.4)
-    ]
-    | inr h ↦ no-replies (sym h.2)
-  ]), tt)))
+  ]),
+  (
+    (λ d. elim (d.read refl) [
+      | inl h ↦ no-service h.0
+      | inr h ↦ unlike 8 0 (inr (omega arith)) (ap size_of h.2)
+    ]),
+    (
+      (λ d. elim (d.read refl) [
+        | inl h ↦ elim h.2 [
+          | inl a ↦ unlike 8 0 (inr (omega arith)) (ap size_of a.2)
+          | inr b ↦ there-not (temp-fault no_rights h.0 None b.0)
+        ]
+        | inr h ↦ unlike 8 0 (inr (omega arith)) (ap size_of h.2)
+      ]),
+      (
+        (λ d. elim (d.read refl) [
+          | inl h ↦ elim h.2 [
+            | inl a ↦ no-replies (sym a.2)
+            | inr b ↦ no-replies (sym b.1.4)
+          ]
+          | inr h ↦ no-replies (sym h.2)
+        ]),
+        tt,
+      ),
+    ),
+  ),
 )
 
 -- ---- WRITE and WRITE_NOTIFY
 
 -- the payload of a put is read as the value 22
-reads-22 : (m : Fields) → m.data_type ≡ 5 → m.count ≡ 1 → m.payload ≡ 0 ∷ 0 ∷ 0 ∷ 22 ∷ 0 ∷ 0 ∷ 0 ∷ 0 ∷ [] → PutReads m v22
+pub reads-22 : (m : Fields) → m.data_type ≡ 5 → m.count ≡ 1 → m.payload ≡ 0 ∷ 0 ∷ 0 ∷ 22 ∷ 0 ∷ 0 ∷ 0 ∷ 0 ∷ [] → PutReads m v22
 unfolding signed_bytes_4
 reads-22 m type count bytes = record {
   base = base.Long;
@@ -357,11 +406,17 @@ reads-22 m type count bytes = record {
 pub writes-due : AreDue writes_due
 writes-due =
     are-due writes_due (
-    (inl (on-temp false 0 [], inr (v22, record { elements = v22; early = refl; reads = reads-22 _ refl refl refl; late = refl; is = refl }, refl, refl)), known),
-    ((inl (on-slow true 16 [], inr (v22, record { elements = v22; early = refl; reads = reads-22 _ refl refl refl; late = refl; is = refl }, refl, refl)), known),
-    ((inl (on-temp false 0 no_rights, inl (376, inl refl, refl, refl)), known),
-    ((inr (9, inr (retired_channel, (2, refl), refl, refl, refl), refl, refl), known),
-    ((inr (4294967295, inl (nobody-has-5, refl), refl, refl), known), tt))))
+      (inl (on-temp false 0 [], inr (v22, record { elements = v22; early = refl; reads = reads-22 _ refl refl refl; late = refl; is = refl }, refl, refl)), known),
+      (
+        (inl (on-slow true 16 [], inr (v22, record { elements = v22; early = refl; reads = reads-22 _ refl refl refl; late = refl; is = refl }, refl, refl)), known),
+        (
+          (inl (on-temp false 0 no_rights, inl (376, inl refl, refl, refl)), known),
+          (
+            (inr (9, inr (retired_channel, (2, refl), refl, refl, refl), refl, refl), known),
+            ((inr (4294967295, inl (nobody-has-5, refl), refl, refl), known), tt),
+          ),
+        ),
+      ),
     )
 
 -- the first fault of a put on TEMP
@@ -376,27 +431,38 @@ writes-not-due = (
   (λ d. elim (d.write refl) [
     | inl h ↦ no-service h.0
     | inr h ↦ (let e = retired-cid h.1 in let f : 4294967295 ≡ h.0 = ap p1_of h.2 in omega (arith, e, f))
-  ]), (
-  (λ d. elim (d.write refl) [
-    | inl h ↦ nobody-has-5 h.0.channel h.0.open_there h.0.under
-    | inr h ↦ (let e = unknown-cid h.1 in let f : 9 ≡ h.0 = ap p1_of h.2 in omega (arith, e, f))
-  ]), (
-  (λ d. elim (d.write refl) [
-    | inl h ↦ elim h.1 [ inl a ↦ no-replies (sym a.2) | inr b ↦ apart _ _ b.3 (inl (omega arith)) ]
-    | inr h ↦ no-replies (sym h.2)
-  ]), (
-  (λ d. elim (d.write refl) [
-    | inl h ↦ no-service h.0
-    | inr h ↦ no-replies (sym h.2)
-  ]), (
-  (λ d. elim (d.write refl) [
-    | inl h ↦ elim h.1 [ inl a ↦ no-replies (sym a.2) | inr b ↦ there-not (temp-early no_rights (write_on 65536) h.0 None b.1.early) ]
-    | inr h ↦ no-replies (sym h.2)
-  ]), (
-  (λ d. elim (d.write refl) [
-    | inl h ↦ elim h.1 [ inl a ↦ no-replies (sym a.2) | inr b ↦ apart _ _ b.3 (inr (omega arith)) ]
-    | inr h ↦ no-replies (sym h.2)
-  ]), tt)))))
+  ]),
+  (
+    (λ d. elim (d.write refl) [
+      | inl h ↦ nobody-has-5 h.0.channel h.0.open_there h.0.under
+      | inr h ↦ (let e = unknown-cid h.1 in let f : 9 ≡ h.0 = ap p1_of h.2 in omega (arith, e, f))
+    ]),
+    (
+      (λ d. elim (d.write refl) [
+        | inl h ↦ elim h.1 [ inl a ↦ no-replies (sym a.2) | inr b ↦ apart _ _ b.3 (inl (omega arith)) ]
+        | inr h ↦ no-replies (sym h.2)
+      ]),
+      (
+        (λ d. elim (d.write refl) [
+          | inl h ↦ no-service h.0
+          | inr h ↦ no-replies (sym h.2)
+        ]),
+        (
+          (λ d. elim (d.write refl) [
+            | inl h ↦ elim h.1 [ inl a ↦ no-replies (sym a.2) | inr b ↦ there-not (temp-early no_rights (write_on 65536) h.0 None b.1.early) ]
+            | inr h ↦ no-replies (sym h.2)
+          ]),
+          (
+            (λ d. elim (d.write refl) [
+              | inl h ↦ elim h.1 [ inl a ↦ no-replies (sym a.2) | inr b ↦ apart _ _ b.3 (inr (omega arith)) ]
+              | inr h ↦ no-replies (sym h.2)
+            ]),
+            tt,
+          ),
+        ),
+      ),
+    ),
+  ),
 )
 
 pub replies-late : RepliesLate
@@ -405,13 +471,23 @@ replies-late = (refl, refl, refl, refl)
 pub puts-due : AreDue puts_due
 puts-due =
     are-due puts_due (
-    (inl (on-temp false 0 [], inr (v22, record { elements = v22; early = refl; reads = reads-22 _ refl refl refl; late = refl; is = refl }, refl, refl)), known),
-    ((inl (on-slow false 0 [], inr (v22, record { elements = v22; early = refl; reads = reads-22 _ refl refl refl; late = refl; is = refl }, refl, refl)), known),
-    ((inl (on-slow true 15 [], inr (v22, record { elements = v22; early = refl; reads = reads-22 _ refl refl refl; late = refl; is = refl }, refl, refl)), known),
-    ((inl (on-slow true 16 [], inl (160, inr (refl, (v22, reads-22 _ refl refl refl, refl)), refl, refl)), known),
-    ((inl (on-temp false 0 no_rights, inl (376, inl refl, refl, refl)), known),
-    ((inr (4294967295, inl (nobody-has-5, refl), refl, refl), known),
-    ((inr (9, inr (retired_channel, (2, refl), refl, refl, refl), refl, refl), known), tt))))))
+      (inl (on-temp false 0 [], inr (v22, record { elements = v22; early = refl; reads = reads-22 _ refl refl refl; late = refl; is = refl }, refl, refl)), known),
+      (
+        (inl (on-slow false 0 [], inr (v22, record { elements = v22; early = refl; reads = reads-22 _ refl refl refl; late = refl; is = refl }, refl, refl)), known),
+        (
+          (inl (on-slow true 15 [], inr (v22, record { elements = v22; early = refl; reads = reads-22 _ refl refl refl; late = refl; is = refl }, refl, refl)), known),
+          (
+            (inl (on-slow true 16 [], inl (160, inr (refl, (v22, reads-22 _ refl refl refl, refl)), refl, refl)), known),
+            (
+              (inl (on-temp false 0 no_rights, inl (376, inl refl, refl, refl)), known),
+              (
+                (inr (4294967295, inl (nobody-has-5, refl), refl, refl), known),
+                ((inr (9, inr (retired_channel, (2, refl), refl, refl, refl), refl, refl), known), tt),
+              ),
+            ),
+          ),
+        ),
+      ),
     )
 
 -- what a put on SLOW does is what it does while that is busy or not
@@ -433,23 +509,32 @@ puts-not-due = (
   (λ d. elim (d.put refl) [
     | inl h ↦ elim h.1 [ inl a ↦ no-replies (sym a.2) | inr b ↦ apart _ _ (slow-does true 15 h.0 b.0 _ b.3) (inl (omega arith)) ]
     | inr h ↦ no-replies (sym h.2)
-  ]), (
-  (λ d. elim (d.put refl) [
-    | inl h ↦ elim h.1 [ inl a ↦ apart _ _ a.3 (inr (omega arith)) | inr b ↦ no-replies (slow-replies false 0 h.0 _ b.2) ]
-    | inr h ↦ apart _ _ h.3 (inr (omega arith))
-  ]), (
-  (λ d. elim (d.put refl) [
-    | inl h ↦ elim h.1 [ inl a ↦ no-replies (sym a.2) | inr b ↦ no-replies (sym (temp-replies h.0 _ b.2)) ]
-    | inr h ↦ no-replies (sym h.2)
-  ]), (
-  (λ d. elim (d.put refl) [
-    | inl h ↦ no-service h.0
-    | inr h ↦ apart _ _ h.3 (inr (omega arith))
-  ]), (
-  (λ d. elim (d.put refl) [
-    | inl h ↦ elim h.1 [ inl a ↦ no-replies (sym a.2) | inr b ↦ apart _ _ (slow-does false 0 h.0 b.0 _ b.3) (inr (omega arith)) ]
-    | inr h ↦ no-replies (sym h.2)
-  ]), tt))))
+  ]),
+  (
+    (λ d. elim (d.put refl) [
+      | inl h ↦ elim h.1 [ inl a ↦ apart _ _ a.3 (inr (omega arith)) | inr b ↦ no-replies (slow-replies false 0 h.0 _ b.2) ]
+      | inr h ↦ apart _ _ h.3 (inr (omega arith))
+    ]),
+    (
+      (λ d. elim (d.put refl) [
+        | inl h ↦ elim h.1 [ inl a ↦ no-replies (sym a.2) | inr b ↦ no-replies (sym (temp-replies h.0 _ b.2)) ]
+        | inr h ↦ no-replies (sym h.2)
+      ]),
+      (
+        (λ d. elim (d.put refl) [
+          | inl h ↦ no-service h.0
+          | inr h ↦ apart _ _ h.3 (inr (omega arith))
+        ]),
+        (
+          (λ d. elim (d.put refl) [
+            | inl h ↦ elim h.1 [ inl a ↦ no-replies (sym a.2) | inr b ↦ apart _ _ (slow-does false 0 h.0 b.0 _ b.3) (inr (omega arith)) ]
+            | inr h ↦ no-replies (sym h.2)
+          ]),
+          tt,
+        ),
+      ),
+    ),
+  ),
 )
 
 -- ---- EVENT_ADD
@@ -458,12 +543,20 @@ pub subscriptions-due : AreDue subscriptions_due
 unfolding number16
 subscriptions-due =
     are-due subscriptions_due (
-    (inl (on-temp false 0 [], inr (refl, refl, refl)), known),
-    ((inl (on-slow false 0 [], inr (refl, refl, refl)), known),
-    ((inl (on-temp false 0 [], inl (168, refl, refl, refl)), known),
-    ((inl (on-temp false 0 no_rights, inl (368, refl, refl, refl)), known),
-    ((inr (9, inr (retired_channel, (2, refl), refl, refl, refl), refl, refl), known),
-    ((inr (4294967295, inl (nobody-has-5, refl), refl, refl), known), tt)))))
+      (inl (on-temp false 0 [], inr (refl, refl, refl)), known),
+      (
+        (inl (on-slow false 0 [], inr (refl, refl, refl)), known),
+        (
+          (inl (on-temp false 0 [], inl (168, refl, refl, refl)), known),
+          (
+            (inl (on-temp false 0 no_rights, inl (368, refl, refl, refl)), known),
+            (
+              (inr (9, inr (retired_channel, (2, refl), refl, refl, refl), refl, refl), known),
+              ((inr (4294967295, inl (nobody-has-5, refl), refl, refl), known), tt),
+            ),
+          ),
+        ),
+      ),
     )
 
 event-fault : (m : Fields) (c : Serves seated 65536) (f : Option ℕ)
@@ -478,23 +571,32 @@ subscriptions-not-due = (
   (λ d. elim (d.subscribe refl) [
     | inl h ↦ elim h.1 [ inl a ↦ no-replies (sym a.2) | inr b ↦ apart _ _ b.2 (inl (omega arith)) ]
     | inr h ↦ no-replies (sym h.2)
-  ]), (
-  (λ d. elim (d.subscribe refl) [
-    | inl h ↦ elim h.1 [ inl a ↦ no-replies (sym a.2) | inr b ↦ there-not (event-fault (add_on 65536 1) h.0 None b.0) ]
-    | inr h ↦ no-replies (sym h.2)
-  ]), (
-  (λ d. elim (d.subscribe refl) [
-    | inl h ↦ no-service h.0
-    | inr h ↦ no-replies (sym h.2)
-  ]), (
-  (λ d. elim (d.subscribe refl) [
-    | inl h ↦ elim h.1 [ inl a ↦ there-not (sym (event-fault (add_on 65536 2) h.0 (Some a.0) a.1)) | inr b ↦ no-replies b.1 ]
-    | inr h ↦ no-stray h.1
-  ]), (
-  (λ d. elim (d.subscribe refl) [
-    | inl h ↦ no-service h.0
-    | inr h ↦ (let e = retired-cid h.1 in let f : 4294967295 ≡ h.0 = ap p1_of h.2 in omega (arith, e, f))
-  ]), tt))))
+  ]),
+  (
+    (λ d. elim (d.subscribe refl) [
+      | inl h ↦ elim h.1 [ inl a ↦ no-replies (sym a.2) | inr b ↦ there-not (event-fault (add_on 65536 1) h.0 None b.0) ]
+      | inr h ↦ no-replies (sym h.2)
+    ]),
+    (
+      (λ d. elim (d.subscribe refl) [
+        | inl h ↦ no-service h.0
+        | inr h ↦ no-replies (sym h.2)
+      ]),
+      (
+        (λ d. elim (d.subscribe refl) [
+          | inl h ↦ elim h.1 [ inl a ↦ there-not (sym (event-fault (add_on 65536 2) h.0 (Some a.0) a.1)) | inr b ↦ no-replies b.1 ]
+          | inr h ↦ no-stray h.1
+        ]),
+        (
+          (λ d. elim (d.subscribe refl) [
+            | inl h ↦ no-service h.0
+            | inr h ↦ (let e = retired-cid h.1 in let f : 4294967295 ≡ h.0 = ap p1_of h.2 in omega (arith, e, f))
+          ]),
+          tt,
+        ),
+      ),
+    ),
+  ),
 )
 
 -- ---- the others
@@ -502,17 +604,24 @@ subscriptions-not-due = (
 pub others-due : AreDue others_due
 others-due =
     are-due others_due (
-    ((refl, refl), known), (((refl, refl), known), (((refl, refl), known), (((refl, refl), known), (((refl, refl), known), (((refl, refl), known), ((tt, λ e. (refl, refl)), ((tt, λ e. (refl, refl)), tt)))))))
+      ((refl, refl), known),
+      (((refl, refl), known), (((refl, refl), known), (((refl, refl), known), (((refl, refl), known), (((refl, refl), known), ((tt, λ e. (refl, refl)), ((tt, λ e. (refl, refl)), tt))))))),
     )
 
 pub others-not-due : AreNotDue others_not_due
 others-not-due = (
   (λ d. no-replies (sym (d.cancel refl).0)),
-  ((λ d. apart _ _ (d.cancel refl).1 (inl (omega arith))), (
-    (λ d. no-replies (sym (d.clear refl).0)),
-    ((λ d. apart _ _ (d.clear refl).1 (inl (omega arith))), (
-      (λ d. apart _ _ (d.off refl).1 (inr (omega arith))),
-      ((λ d. apart _ _ (d.on refl).1 (inl (omega arith))), ((λ d. no-replies (d.other refl).0), ((λ d. apart _ _ (d.other refl).1 (inr (omega arith))), tt))),
-    )),
-  )),
+  (
+    (λ d. apart _ _ (d.cancel refl).1 (inl (omega arith))),
+    (
+      (λ d. no-replies (sym (d.clear refl).0)),
+      (
+        (λ d. apart _ _ (d.clear refl).1 (inl (omega arith))),
+        (
+          (λ d. apart _ _ (d.off refl).1 (inr (omega arith))),
+          ((λ d. apart _ _ (d.on refl).1 (inl (omega arith))), ((λ d. no-replies (d.other refl).0), ((λ d. apart _ _ (d.other refl).1 (inr (omega arith))), tt))),
+        ),
+      ),
+    ),
+  ),
 )

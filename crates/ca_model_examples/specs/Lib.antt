@@ -2,3 +2,6 @@ pub mod Worlds
 pub mod Unsafe
 pub mod ServerRows
 pub mod DueReplies
+pub mod ServerWorld
+pub mod ServerHappens
+pub mod ServerAnswers

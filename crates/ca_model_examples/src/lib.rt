@@ -2,12 +2,24 @@
 #![tactic(auto)]
 
 mod due_replies;
+mod server_calls;
+mod server_events;
 mod server_rows;
 mod unsafe_worlds;
 
 pub use due_replies::{
-    creations_are_due, greetings_are_due, puts_are_due, reads_are_due, searches_are_due, subscriptions_are_due,
-    others_are_due, writes_are_due,
+    creations_are_due, greetings_are_due, others_are_due, puts_are_due, reads_are_due,
+    searches_are_due, subscriptions_are_due, writes_are_due,
+};
+pub use server_calls::{
+    a_finish_is_answered_if_awaited, a_server_is_found, a_step_answers_why_it_takes_none,
+    circuits_come_and_get_bytes, messages_act_on_their_own, records_are_added_if_they_fit,
+    updates_leave_in_order,
+};
+pub use server_events::{
+    a_finish_applies_the_next_put, a_post_reaches_its_subscriptions,
+    a_write_reaches_its_subscriptions, bytes_of_an_ended_end_come, ends_leave_what_waited,
+    records_come_and_go, what_is_not_there_cannot_be,
 };
 pub use server_rows::{
     conversions_are_as_worked, images_are_as_worked, queued_posts_are_as_worked,
