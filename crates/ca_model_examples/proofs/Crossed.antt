@@ -171,6 +171,7 @@ module _
   shared-completes : CompletesOnce Due Shows Means shared_id 0 shared_lines
   shared-completes = record {
     told = λ i intent o at. absurd (no-line i _ at (λ channel e. cc));
+    lost = λ i channel at. absurd (no-line i _ at (λ c e. cc));
     once = λ i l intent o p uses at. absurd (no-line i _ at (λ channel e. cc));
     one_call = λ i l intent e f at. absurd (no-line i _ at (λ channel g. cc));
     sent = λ intent e asks h. absurd (no-line h.0 _ h.1 (λ channel g. cc));

@@ -9,3 +9,7 @@ pub mod UsedDue
 pub mod Crossed
 pub mod Reopened
 pub mod ReopenedSafe
+pub mod ServerRows
+pub mod DueReplies
+pub mod ServerHappens
+pub mod ServerAnswers

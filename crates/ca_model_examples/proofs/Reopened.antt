@@ -9,7 +9,7 @@ use Rattle.ca_wire.specs.Fields.{Fields}
 use Rattle.ca_records.specs.Record.{RecordState}
 use Rattle.ca_model.specs.Speech.{Cid, Clears, Creates, Gives, Id, In, Ioid, Is, SubId}
 use Rattle.ca_model.specs.Sends.{Conduct, HasChannel, IsConnected, IsDisconnect, IsFree, IsOnChannel, IsOpenAt, LegalClient, LegalServer, ReadsBetween, SameIndex}
-use Rattle.ca_model.specs.History.{Circuit, Intent, On, OfCircuit, Create, Line, Entry, Called, Subscribe, Sent, Told, Step, Added, Removed, Clear, Cancel, Reply, Removal, Cause}
+use Rattle.ca_model.specs.History.{Noticed, Circuit, Intent, On, OfCircuit, Create, Line, Entry, Called, Subscribe, Sent, Told, Step, Added, Removed, Clear, Cancel, Reply, Removal, Cause}
 use Rattle.ca_model_safe.specs.Channels.{Created, IsHeld, Joins, Meant, OfCircuits, OfClients, Stands}
 use Rattle.ca_model_safe.specs.Legal.{BecomesLive, IsSent, Legal, LegalCircuit, client_conduct, server_conduct}
 use Rattle.ca_model_examples.specs.Worlds.{adding, clearing, created_told, creating, disconnected, reply, step, temp, temp_name}
@@ -226,6 +226,20 @@ is-held : (o : Outcome) (n channel number : ℕ) → IsHeld (take n (reopened_li
 is-held o n channel number =
     ((λ h. (let e = (call-at o h.0 _ (at-take n (reopened_lines o) h.0 _ h.1)).1 in cc)), (λ h. (let e = (call-at o h.0 _ (at-take n (reopened_lines o) h.0 _ h.1)).1 in cc)))
 
+-- no line tells what became of a subscription
+abbrev pub noticed-intent : Line → Intent
+noticed-intent (Noticed i o) = i
+noticed-intent l = OfCircuit
+
+no-refusal : (o : Outcome) (i channel number : ℕ) (p : Outcome) → At (reopened_lines o) i (Noticed (On channel (Subscribe number)) p) → ⊥
+no-refusal o i channel number p at =
+    each-at (λ (k : ℕ) (l : Line). l ≡ Noticed (On channel (Subscribe number)) p → ⊥) (reopened_lines o) (
+      (λ e. cc),
+      ((λ e. (let f : On 0 Create ≡ On channel (Subscribe number) = ap noticed-intent e in cc)),
+      ((λ e. cc), ((λ e. cc),
+      ((λ e. (let f : On 0 Create ≡ On channel (Subscribe number) = ap noticed-intent e in cc)),
+      ((λ e. (let f : On 0 Create ≡ On channel (Subscribe number) = ap noticed-intent e in cc)), tt)))))) i _ at refl
+
 -- where subscriptions were meant
 subscribed-at : (k channel number : ℕ) → Meant reopened k (On channel (Subscribe number)) → (k ≡ 1) ⊎ (k ≡ 4)
 subscribed-at k channel number m =
@@ -310,7 +324,7 @@ legal-circuit o = record {
     ]
   ];
   anew = λ channel k number h live standing. sent-again o channel k number h live standing.0;
-  ended = λ channel k l number h live lt meant. is-held o h.logged channel number;
+  ended = λ channel k l number h live lt meant. (is-held o h.logged channel number, (λ p there. no-refusal o there.0 channel number p (at-take h.logged (reopened_lines o) there.0 _ there.1)));
 }
 
 each-circuit : (o : Outcome) (P : ℕ → Circuit → List Line → List Entry → Type 0) → P 0 reopened (reopened_lines o) reopened_entries → OfCircuits (reopened_world o) P

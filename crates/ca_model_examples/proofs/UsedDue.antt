@@ -288,7 +288,7 @@ created-due =
 
 pub put-due : IsDue ports rules 0 (before used 1 (step 2 1 2)) (take 1 used_entries) (putting 0 8 22).message ((put_told 1 8 22).message ∷ []) None (Applied 0 1 0 (long 22) false ∷ [])
 put-due =
-    (knows (long 21) true (temp_channel ∷ []), Applies temp_name (longs (pos 22 ∷ [])) false, knew 1 1 (step 2 1 2) (long 21) true (temp_channel ∷ []) now-21 refl (omega arith) refl refl (one-channel 1 1 (step 2 1 2) open-1 refl), due-put, refl, (0, long 22, has-temp 1 refl, refl, refl))
+    (knows (long 21) true (temp_channel ∷ []), Applies temp_name (longs (pos 22 ∷ [])) false, knew 1 1 (step 2 1 2) (long 21) true (temp_channel ∷ []) now-21 refl (omega arith) refl refl (one-channel 1 1 (step 2 1 2) open-1 refl), due-put, refl, (0, long 22, has-temp 1 refl, refl, (record { seconds = 0; nanos = 0 }, refl), refl))
 
 pub read-due : IsDue ports rules 0 (before used 2 (step 3 2 2)) (take 2 used_entries) (reading 1 7).message (value_told ∷ []) None []
 read-due =

@@ -73,6 +73,13 @@ notices i intent o uses at =
       ((λ f. (let g : On 0 Create ≡ intent = ap intent-of f in absurd (subst IsUse (sym g) uses))), ((λ f. absurd cc), ((λ f. absurd cc), ((λ f. absurd cc), ((λ f. refl), tt))))),
     ) i _ at refl
 
+no-loss : (i channel : ℕ) → At used_lines i (Noticed (On channel Create) outcome.Disconnected) → ⊥
+no-loss i channel at =
+    each-at (λ (k : ℕ) (l : Line). l ≡ Noticed (On channel Create) outcome.Disconnected → ⊥) used_lines (
+      (λ f. cc),
+      ((λ f. (let g : outcome.Done ≡ outcome.Disconnected = ap outcome-of f in cc)), ((λ f. cc), ((λ f. cc), ((λ f. cc), ((λ f. (let g : outcome.Done ≡ outcome.Disconnected = ap outcome-of f in cc)), tt))))),
+    ) i _ at refl
+
 stands-at : (intent : Intent) (n k : ℕ) → Stands used_world 0 intent n k → (n ≡ 0) × (k ≡ sent-at intent)
 stands-at intent n k h =
     let c = one-at used n h.0 h.1 in
@@ -146,6 +153,7 @@ module _
         ),
       ),
     ) i _ at refl;
+    lost = λ i channel at. absurd (no-loss i channel at);
     once = λ i l intent o p uses a b. notices i intent o uses a ∙ sym (notices l intent p uses b);
     one_call = λ i l intent e f a b. calls i intent e a ∙ sym (calls l intent f b);
     sent = λ intent e asks h. each-at (λ (k : ℕ) (l : Line). l ≡ Called intent e → (n j : ℕ) × Stands used_world 0 intent n j) used_lines (

@@ -1,11 +1,35 @@
 //! Small histories for each clause of the statement: some are safe, and each of the others breaks one.
 #![tactic(auto)]
 
+mod due_replies;
+mod server_calls;
+mod server_events;
+mod server_rows;
 mod safe_worlds;
 mod unsafe_worlds;
 
+pub use due_replies::{
+    creations_are_due, greetings_are_due, others_are_due, puts_are_due, reads_are_due,
+    searches_are_due, subscriptions_are_due, writes_are_due,
+};
+pub use server_calls::{
+    a_finish_is_answered_if_awaited, a_server_is_found, a_step_answers_why_it_takes_none,
+    circuits_come_and_get_bytes, messages_act_on_their_own, records_are_added_if_they_fit,
+    updates_leave_in_order,
+};
+pub use server_events::{
+    a_finish_applies_the_next_put, a_post_reaches_its_subscriptions,
+    a_write_reaches_its_subscriptions, bytes_of_an_ended_end_come, ends_leave_what_waited,
+    records_come_and_go, what_is_not_there_cannot_be,
+};
+pub use server_rows::{
+    conversions_are_as_worked, images_are_as_worked, queued_posts_are_as_worked,
+    request_faults_are_as_worked, rights_are_as_worked, spelled_greetings_are_as_worked,
+    spelled_replies_are_as_worked, subscription_faults_are_as_worked, waiting_puts_are_as_worked,
+};
 pub use safe_worlds::{
-    a_channel_in_use_is_safe, a_channel_that_comes_back_is_legal, a_shared_id_is_safe_but_not_legal, updates_of_two_circuits_may_cross,
+    a_channel_in_use_is_safe, a_channel_that_comes_back_is_legal, a_shared_id_is_safe_but_not_legal,
+    updates_of_two_circuits_may_cross,
 };
 pub use unsafe_worlds::{
     a_disconnection_for_nothing_is_unsafe, a_lost_or_repeated_post_is_unsafe,

@@ -171,11 +171,11 @@ Lasts c y k r s =
 abbrev pub IsApplied : World → (n k l i r : ℕ) → Stored → Type 0
 IsApplied w n k l i r v = (y : List Entry) × (busies : Bool) × At w.servers l y × At y i (Applied n k r v busies)
 
--- Entry i was made when the message at place k was handled, or in the step in which the server's end closed on it.
+-- Entry i was made when the message at place k was handled; or after all that were, as the server's end closed on it.
 abbrev pub IsTaken : Circuit → (k i : ℕ) → Type 0
 IsTaken c k i =
     ((h : Step) × At c.handled k h × (h.logged ≤ i) × (i < h.after))
-    ⊎ ((k ≡ length c.handled) × (c.server_open ≡ false))
+    ⊎ ((k ≡ length c.handled) × (c.server_open ≡ false) × ((l : ℕ) (g : Step) → At c.handled l g → g.after ≤ i))
 
 -- The put at place k of circuit n came to wait for record r when it was handled, before entry i, and was never
 -- withdrawn.

@@ -1,5 +1,5 @@
 -- Statement: the heart of what is promised of Channel Access clients and servers.
-use Rattle.std.specs.Prelude.{ℕ, ◌≡◌, ◌<◌, ◌≤◌, ◌+◌, ◌⊎◌, true, List, Option, Some, length, take}
+use Rattle.std.specs.Prelude.{ℕ, ◌≡◌, ◌<◌, ◌≤◌, ◌+◌, ◌⊎◌, false, true, List, Option, Some, length, take}
 use Rattle.ca_text.specs.Place.{At}
 use Rattle.ca_text.specs.Status.{bad_channel}
 use Rattle.ca_text.specs.declared.status.Status.{Status}
@@ -98,7 +98,7 @@ module _
     pub next : (l : ℕ) (g : Step) → k < l → At c.handled l g → h.sent + length replies ≤ g.sent
 
   -- 2. On a circuit each message of the client is what was meant, and each of the server has its cause, handled before;
-  -- no channel has two SERVER_DISCONNs; an id is taken for what the cause is about; each handled message is answered;
+  -- no creation has two SERVER_DISCONNs; an id is taken for what the cause is about; each handled message is answered;
   -- and steps are in order.
   pub record AnswersOwn (n : ℕ) (c : Circuit) (x : List Line) (y : List Entry) : Type 0 where
     pub asked : (k : ℕ) (s : Sent) → At c.up k s → Suits s.intent s.message
@@ -124,12 +124,23 @@ module _
     pub held : IsHeld (take i x) intent
     pub means : Means t.message o
 
+  -- A channel is lost in line i: it was told live before, and was not lost or cleared since; and its circuit has ended
+  -- at the client, or in the step that told line i the SERVER_DISCONN for that creation was read.
+  pub record LosesLive (w : World) (life : ℕ) (x : List Line) (i channel : ℕ) : Type 0 where
+    pub l : ℕ
+    pub by : Reads w life x l (On channel Create) Done
+    pub live : At x l (Noticed (On channel Create) Done) × (l < i) × IsHeld (take i x) (On channel Create)
+    pub since : (m : ℕ) → l < m → m < i → At x m (Noticed (On channel Create) Disconnected) → ⊥
+    pub why : (by.c.client_open ≡ false) ⊎ ((j : ℕ) × (t : Told) × (h : Step) × At by.c.down j t × At by.c.heard j h
+        × (t.cause ≡ Removal) × (t.place ≡ by.t.place) × (h.logged ≤ i) × (i < h.after))
+
   -- And in a client's log: a notice tells what the reply to its own message means, or Disconnected if that is lost; a
   -- read, write or subscription has one notice at most; a call is accepted once; and each accepted request is at one
   -- place.
   pub record CompletesOnce (w : World) (life : ℕ) (x : List Line) : Type 0 where
     pub told : (i : ℕ) (intent : Intent) (o : Outcome) → At x i (Noticed intent o)
         → ((by : Reads w life x i intent o) × (by.t.cause ≡ Reply)) ⊎ ((o ≡ Disconnected) × IsLost w life x i intent)
+    pub lost : (i channel : ℕ) → At x i (Noticed (On channel Create) Disconnected) → LosesLive w life x i channel
     pub once : (i l : ℕ) (intent : Intent) (o p : Outcome) → IsUse intent → At x i (Noticed intent o)
         → At x l (Noticed intent p) → i ≡ l
     pub one_call : (i l : ℕ) (intent : Intent) (e f : Option Elements) → At x i (Called intent e)

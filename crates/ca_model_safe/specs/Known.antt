@@ -1,5 +1,5 @@
 -- Statement: what a server knew when it handled a message, read off the lists; and with that, when a world is safe.
-use Rattle.std.specs.Prelude.{ℕ, ◌≡◌, ◌<◌, ◌≤◌, ◌%◌, ◌==◌, ◌&&◌, ◌++◌, ◌⊎◌, Bool, true, false, not, List, [], ◌∷◌}
+use Rattle.std.specs.Prelude.{ℕ, ◌≡◌, ◌<◌, ◌≤◌, ◌%◌, ◌==◌, ◌&&◌, ◌++◌, ◌⊎◌, Bool, true, false, not, List, [], ◌∷◌, count_by}
 use Rattle.std.specs.Prelude.{Option, Some, None, filter, filter_map, if◌then◌else◌, length, take}
 use Rattle.std.specs.List.{fold, list_any}
 use Rattle.ca_text.specs.Command.{command_number}
@@ -9,6 +9,7 @@ use Rattle.ca_text.specs.Limits.{arena_slots, last_generation}
 use Rattle.ca_text.specs.Place.{At}
 use Rattle.ca_queue.specs.declared.entry.SubKey.{SubKey}
 use Rattle.ca_queue.specs.Order.{last_of}
+use Rattle.ca_records.specs.Puts.{Stamp, written_meta}
 use Rattle.ca_records.specs.Record.{RecordState}
 use Rattle.ca_records.specs.Rules.{Rule}
 use Rattle.ca_wire.specs.Fields.{Fields}
@@ -99,11 +100,15 @@ pub record AreJust {A : Type 0} (xs : List A) (IsSo : A → Type 0) : Type 0 whe
   pub all : (x : A) → IsSo x → In xs x
   pub once : (i j : ℕ) (x : A) → At xs i x → At xs j x → i ≡ j
 
+-- a channel was created under a SID of this index
+abbrev pub creates_at : (index : ℕ) → Told → Bool
+creates_at index t = t.message.command == command_number command.CreateChannel && t.message.p2 % arena_slots == index
+
 -- No SID may be given: each index is an open channel's, or was given as often as there are generations.
 abbrev pub IsFull : Circuit → Knows → Type 0
 IsFull c k =
     (i : ℕ) → i < arena_slots → ((channel : KnownChannel) × In k.channels channel × (channel.sid % arena_slots ≡ i))
-    ⊎ (last_generation ≤ length c.down)
+    ⊎ (last_generation ≤ count_by (creates_at i) c.down)
 
 -- What a server on this port, with these rules, knows on a circuit whose messages it handled, all of them, and by its
 -- log.
@@ -126,12 +131,16 @@ abbrev pub IsWithdrawal : (n : ℕ) → Circuit → List Entry → (sid : ℕ) �
 IsWithdrawal n c y sid e = (k r : ℕ) × (s : Sent) × In (waiting y r) (n, k) × At c.up k s × (sid_in s.message ≡ sid)
     × (e ≡ Withdrawn n k)
 
--- The write at place k is logged, with the stamp of that moment.
+-- a write has no alarm, and some stamp
+abbrev pub IsWritten : Stored → Type 0
+IsWritten v = (stamp : Stamp) × (v.meta ≡ written_meta stamp)
+
+-- The write at place k is logged, with no alarm and some stamp.
 abbrev pub IsLogged : (n k : ℕ) → List Entry → Action → List Entry → Type 0
 IsLogged n k y (Applies name value busies) logs = (r : ℕ) × (v : Stored) × Has y r name × (v.value ≡ value)
-    × (logs ≡ Applied n k r v busies ∷ [])
+    × IsWritten v × (logs ≡ Applied n k r v busies ∷ [])
 IsLogged n k y (action.Waits name value) logs = (r : ℕ) × (v : Stored) × Has y r name × (v.value ≡ value)
-    × (logs ≡ Waits n k r v ∷ [])
+    × IsWritten v × (logs ≡ Waits n k r v ∷ [])
 IsLogged n k y did logs = logs ≡ []
 
 -- What is logged for what a message does: its write, or the withdrawals of the puts that wait on the channel that it

@@ -36,7 +36,7 @@ IsStanding x intent = In x (Called intent None) × IsHeld x intent × ((o : Outc
 -- What goes out on a circuit. Each end sends what it may. A channel that was open when its record was removed has a
 -- SERVER_DISCONN. And for each creation of its channel a subscription has one EVENT_ADD: two are for different
 -- creations; each time that the channel becomes live there is one if the subscription stands, and none if its caller
--- had ended it.
+-- or a refusal had ended it.
 pub record LegalCircuit (n : ℕ) (c : Circuit) (x : List Line) (y : List Entry) : Type 0 where
   pub client : LegalClient (client_conduct c)
   pub server : LegalServer (server_conduct c)
@@ -53,6 +53,7 @@ pub record LegalCircuit (n : ℕ) (c : Circuit) (x : List Line) (y : List Entry)
   pub ended : (channel k l number : ℕ) (h : Step) → BecomesLive c channel k h → k < l
       → Meant c l (On channel (Subscribe number))
       → IsHeld (take h.logged x) (On channel (Subscribe number))
+      × ((o : Outcome) → In (take h.logged x) (Noticed (On channel (Subscribe number)) o) → ⊥)
 
 -- An accepted subscription has an EVENT_ADD.
 abbrev pub IsSent : World → (life : ℕ) → List Line → Type 0

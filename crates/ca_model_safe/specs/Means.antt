@@ -1,5 +1,5 @@
 -- Vocabulary: the outcome that a message of the server means to the request that it answers.
-use Rattle.std.specs.Prelude.{ℕ, ◌≡◌, ◌≢◌, ◌⊎◌}
+use Rattle.std.specs.Prelude.{ℕ, ◌≡◌, ◌≢◌, ◌⊎◌, []}
 use Rattle.ca_text.specs.declared.command.Command.TheVariants as command
 use Rattle.ca_text.specs.declared.refusal.Refusal.TheVariants.{OutOfMemory}
 use Rattle.ca_text.specs.Status.{normal}
@@ -37,9 +37,9 @@ abbrev pub ErrorMeans : Fields → Outcome → Type 0
 ErrorMeans m (outcome.Failed status) = status.number ≡ m.p2
 ErrorMeans m o = ⊥
 
--- A message means an outcome, by its command.
+-- A message means an outcome, by its command. An EVENT_ADD without payload is no update: it confirms a cancel.
 abbrev pub Means : Fields → Outcome → Type 0
 Means m o =
-    ((Is command.ReadNotify m ⊎ Is command.EventAdd m) × ImageMeans m o)
+    ((Is command.ReadNotify m ⊎ (Is command.EventAdd m × (m.payload ≢ []))) × ImageMeans m o)
     ⊎ ((Is command.WriteNotify m × StatusMeans m o) ⊎ ((Is command.CreateChannel m × CreationMeans o)
     ⊎ (Is command.Error m × ErrorMeans m o)))

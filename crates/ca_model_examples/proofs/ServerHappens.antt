@@ -1,0 +1,234 @@
+-- The events leave these worlds.
+use Rattle.std.proofs.Common.{◌≡◌, ◌≢◌, ℕ, ◌<◌, ◌≤◌, ◌⊎◌, inl, inr, Bool, List, [], ◌∷◌, ◌++◌, length, refl, sym, ap, subst, ◌∙◌, arith, rules}
+use Rattle.std.specs.Prelude.{pos, true, false, Option, Some, None}
+use Rattle.std.proofs.lemmas.List.{append-nil}
+use Rattle.ca_arena.specs.declared.handle.Handle.{Handle}
+use Rattle.ca_text.specs.Place.{At}
+use Rattle.ca_text.specs.declared.refusal.Refusal.TheVariants as refusal
+use Rattle.ca_text.specs.Limits.{output_limit}
+use Rattle.ca_text.proofs.Places.{At-within, some_is}
+use Rattle.ca_dbr.specs.Elements.{longs, signed_bytes_4}
+use Rattle.ca_link.specs.Link.{LinkState, TakesFirst}
+use Rattle.ca_queue.specs.Queue.{Queue}
+use Rattle.ca_queue.specs.Waiting.{taken}
+use Rattle.ca_wire.specs.Fields.{Fields, IsPayload}
+use Rattle.ca_wire.specs.Header.{HeaderFits, header_spelling, short_header, extended_header, number16, number32}
+use Rattle.ca_wire.specs.Message.{IsMessage, Spells, header_of, spelling}
+use Rattle.ca_wire.proofs.Headers.{header-spells}
+use Rattle.ca_model.specs.Due.{Applies, Due, KnownChannel, KnownRecord, Knows, Nothing, Serves}
+use Rattle.ca_model.specs.Server.{Open, Server, ServerEnd}
+use Rattle.ca_model.specs.ServerSteps.{HasEnd, Leaves, Pumps, Rests, Update, knows}
+use Rattle.ca_model.specs.ServerSteps as stepped
+use Rattle.ca_model.specs.Speech.{Stored}
+use Rattle.ca_model_world.specs.Events as event
+use Rattle.ca_model_world.specs.Runs.{CanBe, HasServerEnd, IsServer}
+use Rattle.ca_model_world.specs.ClientEvents.{waiting_up}
+use Rattle.ca_text.specs.Name.{IsName}
+use Rattle.ca_model_world.specs.World.{ClientSide, Joined, ServerSide, World}
+use Rattle.ca_model_examples.specs.DueReplies.{v22}
+use Rattle.ca_model_examples.specs.ServerHappens.{AddHappens, AddsRefused, CannotBe, CutHappens, FinishHappens, FinishesRefused, PostHappens, PostsRefused, PumpHappens, RemoveHappens, RestartHappens, UpHappens, WriteHappens, cut, update_told, writing, written_22}
+use Rattle.ca_model_examples.specs.ServerWorld.{before, client, core_before, joined_0, number_2, end_0, entry_2, first, link, on_slow, on_temp, second, written}
+use Rattle.ca_model_examples.specs.Worlds.{long, temp, temp_name}
+use Rattle.ca_model_examples.proofs.DueReplies.{due-of, reads-22}
+use Rattle.ca_model_examples.proofs.Lists.{Each, each-at, none-at, one-at, two-at}
+
+-- ---- messages and their bytes
+
+-- a message begins its spelling, alone
+pub first-of : (m : Fields) → IsMessage m → (l : LinkState) → l.input.bytes ≡ spelling m → TakesFirst l m []
+unfolding spelling
+first-of m good l e = (spelling m, record { good = good; head = header_spelling (header_of m); header = header-spells (header_of m) good.header; are = refl }, e ∙ sym (append-nil (spelling m)))
+
+writing-is : IsMessage writing
+writing-is = record {
+  header = record { command = omega arith; data_type = omega arith; size = omega arith; count = omega arith; p1 = omega arith; p2 = omega arith };
+  payload = record { aligned = refl; within = omega arith };
+}
+
+-- ---- what is there
+
+nowhere : {A : Type 0} → false ≡ true → A
+nowhere e = absurd cc
+
+-- ---- a plain write
+
+write-due : Due (knows (core_before (spelling writing) []) (end_0 (link [] []) (entry_2 ∷ []))) writing [] (Applies temp_name v22 false)
+write-due =
+    due-of (knows (core_before (spelling writing) []) (end_0 (link [] []) (entry_2 ∷ []))) writing [] (Applies temp_name v22 false) (inl (record { channel = record { sid = 65536; cid = 7; name = temp_name; retired = false }; open_there = (0, refl); under = refl; there = refl; known = record { state = temp; busy = false; waits = 0 }; named = refl }, inr (v22, record { elements = v22; early = refl; reads = reads-22 _ refl refl refl; late = refl; is = refl }, refl, refl))) (λ e. absurd cc)
+
+pub write-happens : WriteHappens
+write-happens = (
+  record { j = _; x = _; y = _; joins = record { at = refl; client = refl; server = refl }; is_open = refl },
+  (
+    stepped.Handled,
+    record {
+      e = end_0 (link (spelling writing) []) (entry_2 ∷ []);
+      has = refl;
+      next = record {
+        room = omega arith;
+        m = writing;
+        rest = [];
+        takes = first-of writing writing-is (link (spelling writing) []) refl;
+        replies = [];
+        action = Applies temp_name v22 false;
+        after = _;
+        handles = record { due = write-due; acted = _; acts = refl; recorded = _; records = refl; leaves = refl };
+      };
+      gone = λ h. false;
+      lasts = refl;
+      core = _;
+      reaches = ((λ h e. nowhere e), refl);
+      leaves = refl;
+    },
+  ),
+)
+
+-- ---- updates leave
+
+-- eight queues of which none has an entry that may be taken
+none-taken : (qs : List (Queue Stored)) → Each (λ (i : ℕ) (q : Queue Stored). taken q.events_on q.waiting ≡ None) qs → (e : ServerEnd) → e.queues ≡ qs → Rests e
+none-taken qs none e is u new l =
+    there-not (sym l.taken_is ∙ each-at (λ (i : ℕ) (q : Queue Stored). taken q.events_on q.waiting ≡ None) qs none u.queue l.q (subst (λ (x : List (Queue Stored)). At x u.queue l.q) is l.at))
+  where
+    there-not : {A : Type 0} {x : A} → Some x ≡ None → ⊥
+    there-not e = cc
+
+pub pump-happens : PumpHappens
+unfolding signed_bytes_4 spelling header_spelling short_header extended_header number16 number32
+pump-happens = (
+  record { j = _; x = _; y = _; joins = record { at = refl; client = refl; server = refl }; is_open = refl },
+  record {
+    updates =
+        record { queue = 0; of = on_slow 2 1; carries = long 0; message = (update_told 2 3 0 0).message }
+        ∷ record { queue = 0; of = on_temp 1 1; carries = written 22; message = (update_told 1 2 1 22).message } ∷ [];
+    core = _;
+    pumps = inl (
+      _,
+      refl,
+      (
+        _,
+        (
+          _,
+          record { room = omega arith; q = _; at = refl; first = λ i r less at. absurd (omega (arith, less)); stands = (1, refl); taken_is = refl; shows = (_, refl, refl); leaves = refl },
+          (_, record { room = omega arith; q = _; at = refl; first = λ i r less at. absurd (omega (arith, less)); stands = (0, refl); taken_is = refl; shows = (_, refl, refl); leaves = refl }, refl),
+        ),
+        inl (none-taken _ (refl, (refl, (refl, (refl, (refl, (refl, (refl, (refl, tt)))))))) _ refl, refl),
+      ),
+    );
+    leaves = refl;
+  },
+)
+
+-- ---- ends
+
+pub cut-happens : CutHappens
+cut-happens = (
+  record { j = _; x = _; y = _; joins = record { at = refl; client = refl; server = refl }; is_open = refl },
+  record { core = _; cuts = inl (_, refl, refl); leaves = refl },
+)
+
+pub restart-happens : RestartHappens
+restart-happens = (record { y = _; at = refl }, refl)
+
+-- ---- posts
+
+pub post-happens : PostHappens
+post-happens = (record { y = _; at = refl }, ((λ h. false), _, inl (((_, refl, refl, omega arith, omega arith), (λ h e. nowhere e), refl), refl)))
+
+pub posts-refused : PostsRefused
+posts-refused = (
+  (record { y = _; at = refl }, ((λ h. false), _, inr (refusal.UnknownRecord, (λ e. absurd cc), (refl, refl), refl))),
+  (record { y = _; at = refl }, ((λ h. false), _, inr (refusal.BadCount, (λ e. absurd cc), ((_, refl, refl, inl refl), refl), refl))),
+  (record { y = _; at = refl }, ((λ h. false), _, inr (refusal.BadCount, (λ e. absurd cc), ((_, refl, refl, inr (omega arith)), refl), refl))),
+)
+
+-- ---- finishes
+
+pub finish-happens : FinishHappens
+unfolding spelling header_spelling short_header number16 number32
+finish-happens = (
+  record { y = _; at = refl },
+  inl (record {
+    sent = _;
+    core = _;
+    finishes = (
+      record { r = _; named = refl; p = _; busy = refl; gone = λ h. false; may = λ h e. nowhere e },
+      _,
+      inl (_, (refl, refl), refl, refl),
+      refl,
+    );
+    cr = _;
+    named = refl;
+    r = _;
+    at = (1, refl, refl);
+    p = _;
+    busy = refl;
+    leaves = refl;
+  }),
+)
+
+pub finishes-refused : FinishesRefused
+finishes-refused = (
+  (record { y = _; at = refl }, inr (refusal.UnknownRecord, (refl, refl, refl), refl)),
+  (record { y = _; at = refl }, inr (refusal.NotBusy, ((_, refl, refl), refl, refl), refl)),
+)
+
+-- ---- records come and go
+
+pub remove-happens : RemoveHappens
+unfolding spelling header_spelling short_header number16 number32
+remove-happens = (
+  (record { y = _; at = refl }, ((λ h. false), (λ h. 0), _, inl ((refl, (λ h e. nowhere e), refl), refl))),
+  (record { y = _; at = refl }, ((λ h. false), (λ h. 0), _, inr ((refl, refl), refl))),
+)
+
+wave-name : IsName 60 (87 ∷ 65 ∷ 86 ∷ 69 ∷ [])
+wave-name = record { some = omega arith; within = omega arith; whole = λ h. search rules }
+
+pub add-happens : AddHappens
+add-happens = (
+  record { y = _; at = refl },
+  (_, inl (((wave-name, refl, record { one = omega arith; within = omega arith; limit = omega arith }, refl), refl), refl)),
+)
+
+temp-is : IsName 60 temp_name
+temp-is = record { some = omega arith; within = omega arith; whole = λ h. search rules }
+
+pub adds-refused : AddsRefused
+adds-refused = (
+  (record { y = _; at = refl }, (_, inr (refusal.RecordExists, (λ e. absurd cc), ((temp-is, refl), refl), refl))),
+  (record { y = _; at = refl }, (_, inr (refusal.NameLength, (λ e. absurd cc), ((λ h. (let s = h.some in omega (arith, s))), refl), refl))),
+  (record { y = _; at = refl }, (_, inr (refusal.BadCount, (λ e. absurd cc), ((wave-name, refl, (λ h. (let s = h.one in omega (arith, s)))), refl), refl))),
+)
+
+-- ---- bytes come
+
+pub up-happens : UpHappens
+up-happens = (
+  (record { j = _; x = _; y = _; joins = record { at = refl; client = refl; server = refl }; is_open = refl }, omega arith),
+  (_, (_, refl, refl), refl),
+)
+
+-- ---- what cannot be done
+
+no-server : {w : World} → length w.servers ≡ 1 → IsServer w 1 → ⊥
+no-server one s = (let h = At-within _ 1 _ s.at in omega (arith, one, h))
+
+shut-end : (w : World) (j : Joined) → At w.circuits 0 j → j.lists.server_open ≡ false → HasServerEnd w 0 → ⊥
+shut-end w j at shut h =
+    let is : j ≡ h.j = some_is j h.j (sym at ∙ h.joins.at) in
+    nowhere (sym shut ∙ ap (λ (k : Joined). k.lists.server_open) is ∙ h.is_open)
+
+no-third : HasServerEnd (before [] []) 2 → ⊥
+no-third h = (let l : 2 < 2 = At-within (before [] []).circuits 2 h.j h.joins.at in omega (arith, l))
+
+nothing-up : CanBe (before [] []) (event.Up 0 1) → ⊥
+nothing-up h =
+    let j : joined_0 [] [] 1 1 (number_2 ∷ []) ≡ h.0.j = some_is _ h.0.j h.0.joins.at in
+    let x : client ≡ h.0.x = some_is client h.0.x (subst (λ (k : Joined). At (before [] []).clients k.client h.0.x) (sym j) h.0.joins.client) in
+    let n : 1 ≤ length (waiting_up client (joined_0 [] [] 1 1 (number_2 ∷ []))) = subst (λ (k : Joined). 1 ≤ length (waiting_up client k)) (sym j) (subst (λ (c : ClientSide). 1 ≤ length (waiting_up c h.0.j)) (sym x) h.1) in
+    let m : 1 ≤ 0 = n in
+    omega (arith, m)
+
+pub cannot-be : CannotBe
+cannot-be = (no-server refl, no-server refl, no-third, shut-end cut _ refl refl, shut-end cut _ refl refl, shut-end cut _ refl refl, (λ h. shut-end cut _ refl refl h.0), nothing-up)

@@ -1,0 +1,79 @@
+ghost use Rattle.ca_model_examples.specs.ServerRows.{BigSubscription, CancelSpelled, CancelledEntries, ClearSpelled, Converts, CreationSpelled, DisconnectSpelled, EarlyPutFaults, EarlyPutFaultsInOrder, EchoSpelled, ErrorSpelled, FinishedPuts, GainAsTimeDouble, LatePutFaults, LatePutFaultsInOrder, ManyPosts, MasksShareBits, NoCid, NotFoundSpelled, PausedPosts, PausedTakes, PutSpelled, ReadFaults, ReadFaultsInOrder, ReadSpelled, ReadsUpToTheLimit, RightsAreBits, RulesDecide, SearchSpelled, ShortSubscription, SixteenWait, SubscriptionFaults, SubscriptionFaultsInOrder, TempAsStatusChar, TempAsString, TempAsTimeLong, UpdateSpelled, VersionSpelled, WaitingAfterCut, WaveAsChars, WrittenAsTimeLong};
+
+/// Images: TEMP, which is 21, as TIME_LONG, STRING and STS_CHAR; GAIN, which is 1.0, as TIME_DOUBLE; elements of WAVE, which has one,
+/// as CHAR; and TEMP after a write, with its stamp.
+pub fn images_are_as_worked()
+    ensures temp_as_time_long { TempAsTimeLong }
+    ensures temp_as_string { TempAsString }
+    ensures temp_as_status_char { TempAsStatusChar }
+    ensures gain_as_time_double { GainAsTimeDouble }
+    ensures wave_as_chars { WaveAsChars }
+    ensures written_as_time_long { WrittenAsTimeLong }
+{}
+
+/// Conversions of texts and numbers.
+pub fn conversions_are_as_worked()
+    ensures { Converts }
+{}
+
+/// Faults of reads and puts, and for each two that follow each other which one decides.
+pub fn request_faults_are_as_worked()
+    ensures reads { ReadFaults }
+    ensures reads_in_order { ReadFaultsInOrder }
+    ensures reads_up_to_the_limit { ReadsUpToTheLimit }
+    ensures early_puts { EarlyPutFaults }
+    ensures early_puts_in_order { EarlyPutFaultsInOrder }
+    ensures late_puts { LatePutFaults }
+    ensures late_puts_in_order { LatePutFaultsInOrder }
+{}
+
+/// Faults of subscriptions, and for each two that follow each other which one decides.
+pub fn subscription_faults_are_as_worked()
+    ensures faults { SubscriptionFaults }
+    ensures short { ShortSubscription }
+    ensures in_order { SubscriptionFaultsInOrder }
+    ensures big { BigSubscription }
+{}
+
+/// Access rights, by the first rule that meets.
+pub fn rights_are_as_worked()
+    ensures rules_decide { RulesDecide }
+    ensures bits { RightsAreBits }
+{}
+
+/// The replies to VERSION, ECHO, SEARCH and CREATE_CHAN, byte by byte.
+pub fn spelled_greetings_are_as_worked()
+    ensures version { VersionSpelled }
+    ensures echo { EchoSpelled }
+    ensures search { SearchSpelled }
+    ensures not_found { NotFoundSpelled }
+    ensures creation { CreationSpelled }
+{}
+
+/// The messages of an open channel, byte by byte.
+pub fn spelled_replies_are_as_worked()
+    ensures read { ReadSpelled }
+    ensures put { PutSpelled }
+    ensures update { UpdateSpelled }
+    ensures cancel { CancelSpelled }
+    ensures clear { ClearSpelled }
+    ensures error { ErrorSpelled }
+    ensures no_cid { NoCid }
+    ensures disconnect { DisconnectSpelled }
+{}
+
+/// The queue after many posts, while events are off, and after a cancel; and whom a post concerns.
+pub fn queued_posts_are_as_worked()
+    ensures many_posts { ManyPosts }
+    ensures paused_posts { PausedPosts }
+    ensures paused_takes { PausedTakes }
+    ensures cancelled { CancelledEntries }
+    ensures masks { MasksShareBits }
+{}
+
+/// Puts that wait on a busy record, the end of their circuit, and their finish.
+pub fn waiting_puts_are_as_worked()
+    ensures sixteen_wait { SixteenWait }
+    ensures after_cut { WaitingAfterCut }
+    ensures finished { FinishedPuts }
+{}
