@@ -9,3 +9,4 @@ pub mod UsedDue
 pub mod Crossed
 pub mod Reopened
 pub mod ReopenedSafe
+pub mod ReopenedOwn

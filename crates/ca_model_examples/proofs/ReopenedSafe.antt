@@ -76,7 +76,7 @@ no-clear n l k s bound after at is =
       | inr b ↦ omega (arith, e, after, b)
     ]
 
-first-there : (n : ℕ) → At (take 1 (take n reopened_entries)) 0 (Added 0 temp) → Has (take 1 (take n reopened_entries)) 0 temp_name
+pub first-there : (n : ℕ) → At (take 1 (take n reopened_entries)) 0 (Added 0 temp) → Has (take 1 (take n reopened_entries)) 0 temp_name
 first-there n at =
     (temp, (0, at), refl, (λ h. (let e = (removed-at h.0 0 (at-take n reopened_entries h.0 _ (at-take 1 (take n reopened_entries) h.0 _ h.1))).0 in let l = at-take-within 1 (take n reopened_entries) h.0 _ h.1 in omega (arith, e, l))))
 
@@ -142,7 +142,7 @@ replied-at j k t at place cause is =
       (λ p c. elim is [ | inl e ↦ omega (arith, p, e) | inr e ↦ omega (arith, p, e) ]), ((λ p c. cc), ((λ p c. cc), (
       (λ p c. elim is [ | inl e ↦ omega (arith, p, e) | inr e ↦ omega (arith, p, e) ]), ((λ p c. elim is [ | inl e ↦ omega (arith, p, e) | inr e ↦ omega (arith, p, e) ]), ((λ p c. cc), tt)))))) j t at place cause
 
-opened-at : (o : Outcome) (i channel : ℕ) (a : List ℕ) → At (reopened_lines o) i (Opened channel a) → i ≡ 0
+pub opened-at : (o : Outcome) (i channel : ℕ) (a : List ℕ) → At (reopened_lines o) i (Opened channel a) → i ≡ 0
 opened-at o i channel a at =
     each-at (λ (k : ℕ) (l : Line). l ≡ Opened channel a → k ≡ 0) (reopened_lines o) (
       (λ e. refl), ((λ e. absurd cc), ((λ e. absurd cc), ((λ e. absurd cc), ((λ e. absurd cc), ((λ e. absurd cc), tt)))))) i _ at refl
