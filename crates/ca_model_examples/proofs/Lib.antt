@@ -10,3 +10,4 @@ pub mod Crossed
 pub mod Reopened
 pub mod ReopenedSafe
 pub mod ReopenedOwn
+pub mod ReopenedRest

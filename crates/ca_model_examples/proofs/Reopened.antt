@@ -212,17 +212,17 @@ abbrev pub channel-of : Intent → ℕ
 channel-of (On c a) = c
 channel-of i = 0
 
-abbrev intent-of : Line → Intent
+abbrev pub intent-of : Line → Intent
 intent-of (Called i e) = i
 intent-of l = OfCircuit
 
 -- the one call
-call-at : (o : Outcome) (i : ℕ) (intent : Intent) → At (reopened_lines o) i (Called intent None) → (i ≡ 2) × (On 0 (Subscribe 0) ≡ intent)
+pub call-at : (o : Outcome) (i : ℕ) (intent : Intent) → At (reopened_lines o) i (Called intent None) → (i ≡ 2) × (On 0 (Subscribe 0) ≡ intent)
 call-at o i intent at =
     each-at (λ (k : ℕ) (l : Line). l ≡ Called intent None → (k ≡ 2) × (On 0 (Subscribe 0) ≡ intent)) (reopened_lines o) (
       (λ e. absurd cc), ((λ e. absurd cc), ((λ e. (refl, ap intent-of e)), ((λ e. absurd cc), ((λ e. absurd cc), ((λ e. absurd cc), tt)))))) i _ at refl
 
-is-held : (o : Outcome) (n channel number : ℕ) → IsHeld (take n (reopened_lines o)) (On channel (Subscribe number))
+pub is-held : (o : Outcome) (n channel number : ℕ) → IsHeld (take n (reopened_lines o)) (On channel (Subscribe number))
 is-held o n channel number =
     ((λ h. (let e = (call-at o h.0 _ (at-take n (reopened_lines o) h.0 _ h.1)).1 in cc)), (λ h. (let e = (call-at o h.0 _ (at-take n (reopened_lines o) h.0 _ h.1)).1 in cc)))
 
@@ -313,13 +313,13 @@ legal-circuit o = record {
   ended = λ channel k l number h live lt meant. is-held o h.logged channel number;
 }
 
-each-circuit : (o : Outcome) (P : ℕ → Circuit → List Line → List Entry → Type 0) → P 0 reopened (reopened_lines o) reopened_entries → OfCircuits (reopened_world o) P
+pub each-circuit : (o : Outcome) (P : ℕ → Circuit → List Line → List Entry → Type 0) → P 0 reopened (reopened_lines o) reopened_entries → OfCircuits (reopened_world o) P
 each-circuit o P h n c at =
     let e = one-at reopened n c at in
     subst (λ (d : Circuit). (x : List Line) × (y : List Entry) × Joins (reopened_world o) n d x y × P n d x y) (sym e.1) (
     subst (λ (m : ℕ). (x : List Line) × (y : List Entry) × Joins (reopened_world o) m reopened x y × P m reopened x y) (sym e.0) (reopened_lines o, reopened_entries, (refl, refl, refl), h))
 
-each-life : (o : Outcome) (P : ℕ → List Line → Type 0) → P 0 (reopened_lines o) → OfClients (reopened_world o) P
+pub each-life : (o : Outcome) (P : ℕ → List Line → Type 0) → P 0 (reopened_lines o) → OfClients (reopened_world o) P
 each-life o P h life x at =
     let e = one-at (reopened_lines o) life x at in
     subst (λ (y : List Line). P life y) (sym e.1) (subst (λ (m : ℕ). P m (reopened_lines o)) (sym e.0) h)
