@@ -62,12 +62,16 @@ of-clear m (SubId n) is h = (let e = h.0 in absurd (omega (arith, e, is)))
 cid-at : (l : ℕ) (r : Sent) → At reopened.up l r → Gives r.message (Cid 1) → (l ≡ 0) ⊎ (l ≡ 3)
 cid-at l r at gives =
     each-at (λ (i : ℕ) (z : Sent). Gives z.message (Cid 1) → (i ≡ 0) ⊎ (i ≡ 3)) reopened.up (
-      (λ g. inl refl), ((λ g. (let e = g.0 in absurd (omega (arith, e)))), ((λ g. (let e = g.0 in absurd (omega (arith, e)))), ((λ g. inr refl), ((λ g. (let e = g.0 in absurd (omega (arith, e)))), tt))))) l r at gives
+      (λ g. inl refl),
+      ((λ g. (let e = g.0 in absurd (omega (arith, e)))), ((λ g. (let e = g.0 in absurd (omega (arith, e)))), ((λ g. inr refl), ((λ g. (let e = g.0 in absurd (omega (arith, e)))), tt)))),
+    ) l r at gives
 
 sub-at : (l : ℕ) (r : Sent) → At reopened.up l r → Gives r.message (SubId 9) → (l ≡ 1) ⊎ (l ≡ 4)
 sub-at l r at gives =
     each-at (λ (i : ℕ) (z : Sent). Gives z.message (SubId 9) → (i ≡ 1) ⊎ (i ≡ 4)) reopened.up (
-      (λ g. (let e = g.0 in absurd (omega (arith, e)))), ((λ g. inl refl), ((λ g. (let e = g.0 in absurd (omega (arith, e)))), ((λ g. (let e = g.0 in absurd (omega (arith, e)))), ((λ g. inr refl), tt))))) l r at gives
+      (λ g. (let e = g.0 in absurd (omega (arith, e)))),
+      ((λ g. inl refl), ((λ g. (let e = g.0 in absurd (omega (arith, e)))), ((λ g. (let e = g.0 in absurd (omega (arith, e)))), ((λ g. inr refl), tt)))),
+    ) l r at gives
 
 last-cid : (k bound l : ℕ) (r : Sent) → (bound ≤ 3) ⊎ (3 ≤ k) → k < l → l < bound → At reopened.up l r → Gives r.message (Cid 1) → ⊥
 last-cid k bound l r few after early at gives =
@@ -111,24 +115,45 @@ reopened-own : (j : ℕ) (t : Told) (id : Id) → At reopened.down j t → Speak
 reopened-own j t id at says =
     each-at (λ (i : ℕ) (u : Told). (d : Id) → Speaks u.message d → TakesOwn reopened i u.place d) reopened.down (
       (λ d s. subst (λ (e : Id). TakesOwn reopened 0 0 e) (sym (of-channel created_told.message d (inr refl) (heads created_told.message d (λ e. omega (arith, e)) s))) takes-0),
-      ((λ d s. subst (λ (e : Id). TakesOwn reopened 1 1 e) (sym (of-update (first_update 1 21).message d refl (heads (first_update 1 21).message d (λ e. omega (arith, e)) s))) takes-1),
-      ((λ d s. subst (λ (e : Id). TakesOwn reopened 2 0 e) (sym (of-disconnect disconnected.message d refl (heads disconnected.message d (λ e. omega (arith, e)) s))) takes-2),
-      ((λ d s. subst (λ (e : Id). TakesOwn reopened 3 2 e) (sym (of-clear clearing.message d refl (heads clearing.message d (λ e. omega (arith, e)) s))) takes-3),
-      ((λ d s. subst (λ (e : Id). TakesOwn reopened 4 3 e) (sym (of-channel created_told.message d (inr refl) (heads created_told.message d (λ e. omega (arith, e)) s))) takes-4),
-      ((λ d s. subst (λ (e : Id). TakesOwn reopened 5 4 e) (sym (of-update (first_update 4 5).message d refl (heads (first_update 4 5).message d (λ e. omega (arith, e)) s))) takes-5), tt)))))) j t at id says
+      (
+        (λ d s. subst (λ (e : Id). TakesOwn reopened 1 1 e) (sym (of-update (first_update 1 21).message d refl (heads (first_update 1 21).message d (λ e. omega (arith, e)) s))) takes-1),
+        (
+          (λ d s. subst (λ (e : Id). TakesOwn reopened 2 0 e) (sym (of-disconnect disconnected.message d refl (heads disconnected.message d (λ e. omega (arith, e)) s))) takes-2),
+          (
+            (λ d s. subst (λ (e : Id). TakesOwn reopened 3 2 e) (sym (of-clear clearing.message d refl (heads clearing.message d (λ e. omega (arith, e)) s))) takes-3),
+            (
+              (λ d s. subst (λ (e : Id). TakesOwn reopened 4 3 e) (sym (of-channel created_told.message d (inr refl) (heads created_told.message d (λ e. omega (arith, e)) s))) takes-4),
+              ((λ d s. subst (λ (e : Id). TakesOwn reopened 5 4 e) (sym (of-update (first_update 4 5).message d refl (heads (first_update 4 5).message d (λ e. omega (arith, e)) s))) takes-5), tt),
+            ),
+          ),
+        ),
+      ),
+    ) j t at id says
 
 -- ---- causes
 
 no-reply : (k j : ℕ) (t : Told) → (k ≡ 1) ⊎ (k ≡ 4) → At reopened.down j t → t.place ≡ k → t.cause ≡ Reply → ⊥
 no-reply k j t is at place cause =
     each-at (λ (i : ℕ) (u : Told). u.place ≡ k → u.cause ≡ Reply → ⊥) reopened.down (
-      (λ p c. elim is [ | inl e ↦ omega (arith, p, e) | inr e ↦ omega (arith, p, e) ]), ((λ p c. cc), ((λ p c. cc), (
-      (λ p c. elim is [ | inl e ↦ omega (arith, p, e) | inr e ↦ omega (arith, p, e) ]), ((λ p c. elim is [ | inl e ↦ omega (arith, p, e) | inr e ↦ omega (arith, p, e) ]), ((λ p c. cc), tt)))))) j t at place cause
+      (λ p c. elim is [ inl e ↦ omega (arith, p, e) | inr e ↦ omega (arith, p, e) ]),
+      (
+        (λ p c. cc),
+        (
+          (λ p c. cc),
+          (
+            (λ p c. elim is [ inl e ↦ omega (arith, p, e) | inr e ↦ omega (arith, p, e) ]),
+            ((λ p c. elim is [ inl e ↦ omega (arith, p, e) | inr e ↦ omega (arith, p, e) ]), ((λ p c. cc), tt)),
+          ),
+        ),
+      ),
+    ) j t at place cause
 
 uncleared : IsUncleared reopened 0 5 1
 uncleared l s h after at handled early clears =
     let is : l ≡ 2 = each-at (λ (i : ℕ) (z : Sent). Clears z.message 5 → i ≡ 2) reopened.up (
-      (λ g. (let e = g.0 in absurd (omega (arith, e)))), ((λ g. (let e = g.0 in absurd (omega (arith, e)))), ((λ g. refl), ((λ g. (let e = g.0 in absurd (omega (arith, e)))), ((λ g. (let e = g.0 in absurd (omega (arith, e)))), tt))))) l s at clears in
+      (λ g. (let e = g.0 in absurd (omega (arith, e)))),
+      ((λ g. (let e = g.0 in absurd (omega (arith, e)))), ((λ g. refl), ((λ g. (let e = g.0 in absurd (omega (arith, e)))), ((λ g. (let e = g.0 in absurd (omega (arith, e)))), tt)))),
+    ) l s at clears in
     let g : h ≡ step 3 2 2 = some_is h (step 3 2 2) (sym (subst (λ (i : ℕ). At reopened.handled i h) is handled)) in
     let two : h.logged ≡ 2 = ap (λ (z : Step). z.logged) g in
     omega (arith, two, early)
@@ -137,16 +162,27 @@ reopened-caused : (j : ℕ) (t : Told) → At reopened.down j t → HasCause reo
 reopened-caused j t at =
     each-at (λ (i : ℕ) (u : Told). HasCause reopened reopened_entries u u.cause × ((h : Step) × At reopened.handled u.place h × (h.sent ≤ i))) reopened.down (
       (tt, (step 0 1 1, refl, omega arith)),
-      (((0, adding 0 9, step 1 1 1, (0, 0, refl, refl, refl, (adding 0 9, step 1 1 1, 0, 0, refl, refl, open-1), (λ k u a p c. no-reply 1 k u (inl refl) a p c))), (step 1 1 1, refl, omega arith)),
-      (((0, 5, 0, 1, creating, (created_told, creating, step 0 1 1, refl, refl, refl, (refl, refl), refl, refl, first-there 1 refl), refl, uncleared, refl, (refl, refl)), (step 0 1 1, refl, omega arith)),
-      ((tt, (step 3 2 2, refl, omega arith)),
-      ((tt, (step 4 3 3, refl, omega arith)),
-      (((1, adding 0 9, step 5 3 3, (0, 0, refl, refl, refl, (adding 0 9, step 5 3 3, 4, 3, refl, refl, open-4), (λ k u a p c. no-reply 4 k u (inr refl) a p c))), (step 5 3 3, refl, omega arith)), tt)))))) j t at
+      (
+        ((0, adding 0 9, step 1 1 1, (0, 0, refl, refl, refl, (adding 0 9, step 1 1 1, 0, 0, refl, refl, open-1), (λ k u a p c. no-reply 1 k u (inl refl) a p c))), (step 1 1 1, refl, omega arith)),
+        (
+          ((0, 5, 0, 1, creating, (created_told, creating, step 0 1 1, refl, refl, refl, (refl, refl), refl, refl, first-there 1 refl), refl, uncleared, refl, (refl, refl)), (step 0 1 1, refl, omega arith)),
+          (
+            (tt, (step 3 2 2, refl, omega arith)),
+            (
+              (tt, (step 4 3 3, refl, omega arith)),
+              (((1, adding 0 9, step 5 3 3, (0, 0, refl, refl, refl, (adding 0 9, step 5 3 3, 4, 3, refl, refl, open-4), (λ k u a p c. no-reply 4 k u (inr refl) a p c))), (step 5 3 3, refl, omega arith)), tt),
+            ),
+          ),
+        ),
+      ),
+    ) j t at
 
 removal-at : (j : ℕ) (t : Told) → At reopened.down j t → t.cause ≡ Removal → j ≡ 2
 removal-at j t at cause =
     each-at (λ (i : ℕ) (u : Told). u.cause ≡ Removal → i ≡ 2) reopened.down (
-      (λ e. absurd cc), ((λ e. absurd cc), ((λ e. refl), ((λ e. absurd cc), ((λ e. absurd cc), ((λ e. absurd cc), tt)))))) j t at cause
+      (λ e. absurd cc),
+      ((λ e. absurd cc), ((λ e. refl), ((λ e. absurd cc), ((λ e. absurd cc), ((λ e. absurd cc), tt))))),
+    ) j t at cause
 
 -- ---- steps
 
@@ -157,24 +193,44 @@ server-steps : AreSteps reopened.handled reopened.up reopened.down reopened_entr
 server-steps = record {
   one_each = omega arith;
   within = λ k h at. each-at (λ (i : ℕ) (g : Step). (g.sent ≤ 6) × (g.logged ≤ g.after) × (g.after ≤ 3)) reopened.handled ((omega arith, omega arith, omega arith), ((omega arith, omega arith, omega arith), ((omega arith, omega arith, omega arith), ((omega arith, omega arith, omega arith), ((omega arith, omega arith, omega arith), tt))))) k h at;
-  rise = λ i j g h lt p q. each-at (λ (a : ℕ) (u : Step). (b : ℕ) (v : Step) → At reopened.handled b v → Before u a b v) reopened.handled ((λ b v z. each-at (Before (step 0 1 1) 0) reopened.handled ((λ l. absurd (omega (arith, l))), ((λ l. (omega arith, omega arith)), ((λ l. (omega arith, omega arith)), ((λ l. (omega arith, omega arith)), ((λ l. (omega arith, omega arith)), tt))))) b v z),
-      ((λ b v z. each-at (Before (step 1 1 1) 1) reopened.handled ((λ l. absurd (omega (arith, l))), ((λ l. absurd (omega (arith, l))), ((λ l. (omega arith, omega arith)), ((λ l. (omega arith, omega arith)), ((λ l. (omega arith, omega arith)), tt))))) b v z),
-      ((λ b v z. each-at (Before (step 3 2 2) 2) reopened.handled ((λ l. absurd (omega (arith, l))), ((λ l. absurd (omega (arith, l))), ((λ l. absurd (omega (arith, l))), ((λ l. (omega arith, omega arith)), ((λ l. (omega arith, omega arith)), tt))))) b v z),
-      ((λ b v z. each-at (Before (step 4 3 3) 3) reopened.handled ((λ l. absurd (omega (arith, l))), ((λ l. absurd (omega (arith, l))), ((λ l. absurd (omega (arith, l))), ((λ l. absurd (omega (arith, l))), ((λ l. (omega arith, omega arith)), tt))))) b v z),
-      ((λ b v z. each-at (Before (step 5 3 3) 4) reopened.handled ((λ l. absurd (omega (arith, l))), ((λ l. absurd (omega (arith, l))), ((λ l. absurd (omega (arith, l))), ((λ l. absurd (omega (arith, l))), ((λ l. absurd (omega (arith, l))), tt))))) b v z),
-      tt))))) i g p j h q lt;
+  rise = λ i j g h lt p q. each-at (λ (a : ℕ) (u : Step). (b : ℕ) (v : Step) → At reopened.handled b v → Before u a b v) reopened.handled (
+    (λ b v z. each-at (Before (step 0 1 1) 0) reopened.handled ((λ l. absurd (omega (arith, l))), ((λ l. (omega arith, omega arith)), ((λ l. (omega arith, omega arith)), ((λ l. (omega arith, omega arith)), ((λ l. (omega arith, omega arith)), tt))))) b v z),
+    (
+      (λ b v z. each-at (Before (step 1 1 1) 1) reopened.handled ((λ l. absurd (omega (arith, l))), ((λ l. absurd (omega (arith, l))), ((λ l. (omega arith, omega arith)), ((λ l. (omega arith, omega arith)), ((λ l. (omega arith, omega arith)), tt))))) b v z),
+      (
+        (λ b v z. each-at (Before (step 3 2 2) 2) reopened.handled ((λ l. absurd (omega (arith, l))), ((λ l. absurd (omega (arith, l))), ((λ l. absurd (omega (arith, l))), ((λ l. (omega arith, omega arith)), ((λ l. (omega arith, omega arith)), tt))))) b v z),
+        (
+          (λ b v z. each-at (Before (step 4 3 3) 3) reopened.handled ((λ l. absurd (omega (arith, l))), ((λ l. absurd (omega (arith, l))), ((λ l. absurd (omega (arith, l))), ((λ l. absurd (omega (arith, l))), ((λ l. (omega arith, omega arith)), tt))))) b v z),
+          (
+            (λ b v z. each-at (Before (step 5 3 3) 4) reopened.handled ((λ l. absurd (omega (arith, l))), ((λ l. absurd (omega (arith, l))), ((λ l. absurd (omega (arith, l))), ((λ l. absurd (omega (arith, l))), ((λ l. absurd (omega (arith, l))), tt))))) b v z),
+            tt,
+          ),
+        ),
+      ),
+    ),
+  ) i g p j h q lt;
 }
 
 client-steps : (o : Outcome) → AreSteps reopened.heard reopened.down reopened.up (reopened_lines o)
 client-steps o = record {
   one_each = omega arith;
   within = λ k h at. each-at (λ (i : ℕ) (g : Step). (g.sent ≤ 5) × (g.logged ≤ g.after) × (g.after ≤ 6)) reopened.heard ((omega arith, omega arith, omega arith), ((omega arith, omega arith, omega arith), ((omega arith, omega arith, omega arith), ((omega arith, omega arith, omega arith), ((omega arith, omega arith, omega arith), tt))))) k h at;
-  rise = λ i j g h lt p q. each-at (λ (a : ℕ) (u : Step). (b : ℕ) (v : Step) → At reopened.heard b v → Before u a b v) reopened.heard ((λ b v z. each-at (Before (step 1 1 2) 0) reopened.heard ((λ l. absurd (omega (arith, l))), ((λ l. (omega arith, omega arith)), ((λ l. (omega arith, omega arith)), ((λ l. (omega arith, omega arith)), ((λ l. (omega arith, omega arith)), tt))))) b v z),
-      ((λ b v z. each-at (Before (step 2 3 4) 1) reopened.heard ((λ l. absurd (omega (arith, l))), ((λ l. absurd (omega (arith, l))), ((λ l. (omega arith, omega arith)), ((λ l. (omega arith, omega arith)), ((λ l. (omega arith, omega arith)), tt))))) b v z),
-      ((λ b v z. each-at (Before (step 2 4 5) 2) reopened.heard ((λ l. absurd (omega (arith, l))), ((λ l. absurd (omega (arith, l))), ((λ l. absurd (omega (arith, l))), ((λ l. (omega arith, omega arith)), ((λ l. (omega arith, omega arith)), tt))))) b v z),
-      ((λ b v z. each-at (Before (step 3 5 5) 3) reopened.heard ((λ l. absurd (omega (arith, l))), ((λ l. absurd (omega (arith, l))), ((λ l. absurd (omega (arith, l))), ((λ l. absurd (omega (arith, l))), ((λ l. (omega arith, omega arith)), tt))))) b v z),
-      ((λ b v z. each-at (Before (step 4 5 6) 4) reopened.heard ((λ l. absurd (omega (arith, l))), ((λ l. absurd (omega (arith, l))), ((λ l. absurd (omega (arith, l))), ((λ l. absurd (omega (arith, l))), ((λ l. absurd (omega (arith, l))), tt))))) b v z),
-      tt))))) i g p j h q lt;
+  rise = λ i j g h lt p q. each-at (λ (a : ℕ) (u : Step). (b : ℕ) (v : Step) → At reopened.heard b v → Before u a b v) reopened.heard (
+    (λ b v z. each-at (Before (step 1 1 2) 0) reopened.heard ((λ l. absurd (omega (arith, l))), ((λ l. (omega arith, omega arith)), ((λ l. (omega arith, omega arith)), ((λ l. (omega arith, omega arith)), ((λ l. (omega arith, omega arith)), tt))))) b v z),
+    (
+      (λ b v z. each-at (Before (step 2 3 4) 1) reopened.heard ((λ l. absurd (omega (arith, l))), ((λ l. absurd (omega (arith, l))), ((λ l. (omega arith, omega arith)), ((λ l. (omega arith, omega arith)), ((λ l. (omega arith, omega arith)), tt))))) b v z),
+      (
+        (λ b v z. each-at (Before (step 2 4 5) 2) reopened.heard ((λ l. absurd (omega (arith, l))), ((λ l. absurd (omega (arith, l))), ((λ l. absurd (omega (arith, l))), ((λ l. (omega arith, omega arith)), ((λ l. (omega arith, omega arith)), tt))))) b v z),
+        (
+          (λ b v z. each-at (Before (step 3 5 5) 3) reopened.heard ((λ l. absurd (omega (arith, l))), ((λ l. absurd (omega (arith, l))), ((λ l. absurd (omega (arith, l))), ((λ l. absurd (omega (arith, l))), ((λ l. (omega arith, omega arith)), tt))))) b v z),
+          (
+            (λ b v z. each-at (Before (step 4 5 6) 4) reopened.heard ((λ l. absurd (omega (arith, l))), ((λ l. absurd (omega (arith, l))), ((λ l. absurd (omega (arith, l))), ((λ l. absurd (omega (arith, l))), ((λ l. absurd (omega (arith, l))), tt))))) b v z),
+            tt,
+          ),
+        ),
+      ),
+    ),
+  ) i g p j h q lt;
 }
 
 -- ---- answers

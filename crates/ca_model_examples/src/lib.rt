@@ -5,7 +5,8 @@ mod safe_worlds;
 mod unsafe_worlds;
 
 pub use safe_worlds::{
-    a_channel_in_use_is_safe, a_channel_that_comes_back_is_legal, a_shared_id_is_safe_but_not_legal, updates_of_two_circuits_may_cross,
+    a_channel_in_use_is_safe, a_channel_that_comes_back_is_safe_and_legal,
+    a_shared_id_is_safe_but_not_legal, updates_of_two_circuits_may_cross,
 };
 pub use unsafe_worlds::{
     a_disconnection_for_nothing_is_unsafe, a_lost_or_repeated_post_is_unsafe,
