@@ -1,20 +1,19 @@
 -- What is sent while a record is removed and added again is legal.
-use Rattle.std.proofs.Common.{◌≡◌, ℕ, zero, suc, ◌<◌, ◌≤◌, ◌⊎◌, inl, inr, List, [], ◌∷◌, refl, sym, ap, subst, ◌∙◌, arith}
-use Rattle.std.specs.Prelude.{take, true, Option, Some, None, ◌≢◌}
+use Rattle.std.proofs.Common.{◌≡◌, ℕ, ◌<◌, ◌≤◌, ◌⊎◌, inl, inr, List, [], refl, sym, ap, subst, arith}
+use Rattle.std.specs.Prelude.{take, None, ◌≢◌}
 use Rattle.ca_text.specs.Place.{At}
 use Rattle.ca_text.proofs.Places.{some_is}
 use Rattle.ca_text.specs.declared.command.Command.TheVariants as command
 use Rattle.ca_dbr.specs.declared.value.Outcome.{Outcome}
 use Rattle.ca_wire.specs.Fields.{Fields}
-use Rattle.ca_records.specs.Record.{RecordState}
 use Rattle.ca_model.specs.Speech.{Cid, Clears, Creates, Gives, Id, In, Ioid, Is, SubId}
 use Rattle.ca_model.specs.Sends.{Conduct, HasChannel, IsConnected, IsDisconnect, IsFree, IsOnChannel, IsOpenAt, LegalClient, LegalServer, ReadsBetween, SameIndex}
-use Rattle.ca_model.specs.History.{Circuit, Intent, On, OfCircuit, Create, Line, Entry, Called, Subscribe, Sent, Told, Step, Added, Removed, Clear, Cancel, Reply, Removal, Cause}
-use Rattle.ca_model_safe.specs.Channels.{Created, IsHeld, Joins, Meant, OfCircuits, OfClients, Stands}
+use Rattle.ca_model.specs.History.{Circuit, Intent, On, OfCircuit, Create, Line, Entry, Called, Subscribe, Sent, Told, Step, Removed, Removal}
+use Rattle.ca_model_safe.specs.Channels.{Created, IsHeld, Joins, Meant, OfCircuits, OfClients}
 use Rattle.ca_model_safe.specs.Legal.{BecomesLive, IsSent, Legal, LegalCircuit, client_conduct, server_conduct}
-use Rattle.ca_model_examples.specs.Worlds.{adding, clearing, created_told, creating, disconnected, reply, step, temp, temp_name}
-use Rattle.ca_model_examples.specs.Safe.{first_update, reopened, reopened_entries, reopened_lines, reopened_world}
-use Rattle.ca_model_examples.proofs.Lists.{Each, each-at, at-take, at-take-within, none-at, one-at}
+use Rattle.ca_model_examples.specs.Worlds.{adding, clearing, created_told, creating, disconnected, step}
+use Rattle.ca_model_examples.specs.Safe.{reopened, reopened_entries, reopened_lines, reopened_world}
+use Rattle.ca_model_examples.proofs.Lists.{each-at, at-take, at-take-within, one-at}
 
 abbrev cl : Conduct
 cl = client_conduct reopened

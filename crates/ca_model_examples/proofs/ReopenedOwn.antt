@@ -1,21 +1,20 @@
 -- A channel that comes back keeps the second clause on its circuit, whatever is due.
-use Rattle.std.proofs.Common.{◌≡◌, ℕ, zero, suc, ◌<◌, ◌≤◌, ◌+◌, ◌⊎◌, inl, inr, List, [], ◌∷◌, length, refl, sym, ap, subst, ◌∙◌, arith}
-use Rattle.std.specs.Prelude.{take, true, false, Option, Some, None}
+use Rattle.std.proofs.Common.{◌≡◌, ℕ, ◌<◌, ◌≤◌, ◌+◌, ◌⊎◌, inl, inr, [], ◌∷◌, refl, sym, ap, subst, ◌∙◌, arith}
+use Rattle.std.specs.Prelude.{None}
 use Rattle.ca_text.specs.Place.{At}
 use Rattle.ca_text.proofs.Places.{some_is}
 use Rattle.ca_text.specs.declared.command.Command.TheVariants as command
 use Rattle.ca_dbr.specs.declared.value.Outcome.{Outcome}
 use Rattle.ca_wire.specs.Fields.{Fields}
-use Rattle.ca_records.specs.Record.{RecordState}
-use Rattle.ca_model.specs.Speech.{Cid, Clears, Creates, Gives, Heads, Id, In, Ioid, Is, Speaks, SubId}
-use Rattle.ca_model.specs.History.{Circuit, Intent, On, OfCircuit, Create, Line, Entry, Sent, Told, Step, Added, Removed, Clear, Reply, Removal, Update, Cause}
+use Rattle.ca_model.specs.Speech.{Cid, Clears, Gives, Heads, Id, Ioid, Is, Speaks, SubId}
+use Rattle.ca_model.specs.History.{Sent, Told, Step, Reply, Removal}
 use Rattle.ca_model_safe.specs.Channels.{AreSteps, IsReply, IsUncleared, Suits}
-use Rattle.ca_model_safe.specs.Headline.{Acted, Answered, AnswersOwn, HasCause, TakesOwn}
+use Rattle.ca_model_safe.specs.Headline.{Answered, AnswersOwn, HasCause, TakesOwn}
 use Rattle.ca_model_safe.specs.Means.{Means}
 use Rattle.ca_model.specs.Updates.{Shows}
-use Rattle.ca_model_examples.specs.Worlds.{AnyDue, adding, clearing, created_told, creating, disconnected, step, temp, temp_name}
+use Rattle.ca_model_examples.specs.Worlds.{AnyDue, adding, clearing, created_told, creating, disconnected, step}
 use Rattle.ca_model_examples.specs.Safe.{first_update, reopened, reopened_entries, reopened_lines}
-use Rattle.ca_model_examples.proofs.Lists.{Each, each-at, at-take, at-take-within, none-at, one-at}
+use Rattle.ca_model_examples.proofs.Lists.{Each, each-at, none-at}
 use Rattle.ca_model_examples.proofs.Speaks.{heads, of-channel, of-update}
 use Rattle.ca_model_examples.proofs.ReopenedSafe.{first-there, open-1, open-4}
 

@@ -1,6 +1,6 @@
 -- A channel that comes back keeps the clauses on the client's log, on writes and on subscribers.
-use Rattle.std.proofs.Common.{◌≡◌, ℕ, zero, suc, ◌<◌, ◌≤◌, ◌+◌, ◌⊎◌, inl, inr, List, [], ◌∷◌, length, refl, sym, ap, subst, ◌∙◌, arith}
-use Rattle.std.specs.Prelude.{take, true, false, Bool, Option, Some, None}
+use Rattle.std.proofs.Common.{◌≡◌, ℕ, ◌<◌, ◌⊎◌, inl, inr, List, [], ◌∷◌, refl, sym, ap, subst, ◌∙◌, arith}
+use Rattle.std.specs.Prelude.{take, true, false, Bool, Option, None}
 use Rattle.ca_text.specs.Place.{At}
 use Rattle.ca_text.proofs.Places.{some_is}
 use Rattle.ca_dbr.specs.declared.value.Outcome.{Outcome}
@@ -9,19 +9,17 @@ use Rattle.ca_dbr.specs.declared.data_type.BaseType.TheVariants as base
 use Rattle.ca_dbr.specs.declared.data_type.Form.TheVariants as form
 use Rattle.ca_dbr.specs.Elements.{Elements}
 use Rattle.ca_dbr.specs.Elements as E
-use Rattle.ca_wire.specs.Fields.{Fields}
-use Rattle.ca_records.specs.Record.{RecordState}
 use Rattle.ca_model.specs.Speech.{In, Stored, mask_in}
-use Rattle.ca_model.specs.History.{Circuit, Intent, On, OfCircuit, Create, Request, Subscribe, Put, Line, Entry, Sent, Told, Step, Added, Applied, Finished, Removed, Clear, Reply, Removal, Update, Cause, Called, Noticed, Updated, World}
-use Rattle.ca_model_safe.specs.Channels.{IsApplied, IsHeld, IsLost, IsOpen, IsRequest, IsUse, Joins, OfCircuits, OfClients, Stands, before, updates}
+use Rattle.ca_model.specs.History.{Circuit, Intent, On, OfCircuit, Create, Request, Subscribe, Put, Line, Entry, Sent, Told, Step, Added, Applied, Finished, Removed, Clear, Reply, Update, Cause, Called, Noticed, Updated}
+use Rattle.ca_model_safe.specs.Channels.{IsApplied, IsLost, IsOpen, IsRequest, IsUse, Stands, before, updates}
 use Rattle.ca_model_safe.specs.Headline.{ActsOnRecord, AnswersOwn, CompletesOnce, Follows, FollowsRecord, NotTwice, Reads, Safe, Sees}
 use Rattle.ca_model_safe.specs.Means.{Means}
 use Rattle.ca_model_safe.specs.Posts.{matching}
 use Rattle.ca_model.specs.Updates.{Shows}
-use Rattle.ca_model_examples.specs.Worlds.{AnyDue, adding, clearing, created_told, creating, disconnected, long, step, temp}
+use Rattle.ca_model_examples.specs.Worlds.{AnyDue, adding, clearing, created_told, creating, disconnected, long, step}
 use Rattle.ca_model_examples.specs.Safe.{first_update, reopened, reopened_entries, reopened_lines, reopened_world}
-use Rattle.ca_model_examples.proofs.Lists.{Each, each-at, at-take, at-take-within, none-at, one-at}
-use Rattle.ca_model_examples.proofs.Reopened.{call-at, each-circuit, each-life, intent-of, is-held, reply-at}
+use Rattle.ca_model_examples.proofs.Lists.{each-at, at-take, at-take-within, one-at}
+use Rattle.ca_model_examples.proofs.Reopened.{each-circuit, each-life, intent-of, is-held, reply-at}
 use Rattle.ca_model_examples.proofs.ReopenedSafe.{added-at, reopened-acts}
 use Rattle.ca_model_examples.proofs.ReopenedOwn.{reopened-answers}
 
