@@ -1,24 +1,21 @@
 -- Updates of two circuits are seen in the order in which they were read; and an id that is given too early is safe for now.
-use Rattle.std.proofs.Common.{◌≡◌, ℕ, zero, suc, ◌<◌, ◌≤◌, ◌⊎◌, inl, inr, List, [], ◌∷◌, refl, sym, ap, subst, ◌∙◌, arith}
-use Rattle.std.specs.Prelude.{take, Option, Some, None}
+use Rattle.std.proofs.Common.{◌≡◌, ℕ, ◌<◌, inl, inr, List, [], ◌∷◌, refl, sym, ap, subst, ◌∙◌, arith}
+use Rattle.std.specs.Prelude.{take, Option, None}
 use Rattle.ca_text.specs.Place.{At}
-use Rattle.ca_text.specs.declared.command.Command.TheVariants as command
 use Rattle.ca_dbr.specs.declared.value.Outcome.{Outcome}
 use Rattle.ca_dbr.specs.declared.value.Outcome.TheVariants as outcome
 use Rattle.ca_wire.specs.Fields.{Fields}
-use Rattle.ca_records.specs.Record.{RecordState}
 use Rattle.ca_model.specs.Speech.{Cid, In, Stored}
-use Rattle.ca_model.specs.History.{Circuit, Intent, On, OfCircuit, Create, Line, Entry, Opened, Called, Noticed, Updated, Collected, GaveUp, Subscribe, Request, Put, Sent, Told, Step, Update, Added, Applied, Finished, Removed, Clear, Cancel}
-use Rattle.ca_model.specs.Sends.{IsFree}
+use Rattle.ca_model.specs.History.{Circuit, Intent, On, OfCircuit, Create, Line, Entry, Opened, Called, Noticed, Updated, Subscribe, Request, Put, Sent, Told, Update, Added, Applied, Finished, Clear, Cancel}
 use Rattle.ca_model_safe.specs.Channels.{AreSteps, IsApplied, IsHeld, IsRequest, Joins, OfCircuits, OfClients, Stands, Suits}
-use Rattle.ca_model_safe.specs.Headline.{ActsOnRecord, AnswersOwn, CompletesOnce, Follows, FollowsRecord, NotTwice, Reads, Safe, Sees}
+use Rattle.ca_model_safe.specs.Headline.{ActsOnRecord, AnswersOwn, CompletesOnce, FollowsRecord, NotTwice, Reads, Safe, Sees}
 use Rattle.ca_model_safe.specs.Legal.{Legal}
 use Rattle.ca_model_safe.specs.Known.{IsDue, IsSafe}
 use Rattle.ca_model_safe.specs.Means.{Means}
 use Rattle.ca_model.specs.Updates.{Shows}
-use Rattle.ca_model_examples.specs.Worlds.{AnyDue, adding, creating, ports, rules, step, temp, temp_name}
+use Rattle.ca_model_examples.specs.Worlds.{AnyDue, adding, ports, rules, temp, temp_name}
 use Rattle.ca_model_examples.specs.Safe.{AnyMeans, SeesCrossed, crossed, crossed_lines, shared, shared_id, shared_lines, told_at}
-use Rattle.ca_model_examples.proofs.Lists.{Each, each-at, at-take, none-at, one-at, two-at}
+use Rattle.ca_model_examples.proofs.Lists.{each-at, at-take, none-at, one-at, two-at}
 
 abbrev meant : Line → Intent
 meant (Updated intent o) = intent

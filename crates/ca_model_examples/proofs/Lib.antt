@@ -13,3 +13,5 @@ pub mod ServerRows
 pub mod DueReplies
 pub mod ServerHappens
 pub mod ServerAnswers
+pub mod ReopenedOwn
+pub mod ReopenedRest

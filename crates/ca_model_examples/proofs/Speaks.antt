@@ -1,5 +1,5 @@
 -- The one id of which a message speaks.
-use Rattle.std.proofs.Common.{◌≡◌, ℕ, ◌⊎◌, inl, inr, refl, sym, ap, ◌∙◌, arith}
+use Rattle.std.proofs.Common.{◌≡◌, ℕ, ◌⊎◌, inl, inr, sym, ap, ◌∙◌, arith}
 use Rattle.ca_text.specs.declared.command.Command.TheVariants as command
 use Rattle.ca_wire.specs.Fields.{Fields}
 use Rattle.ca_model.specs.Speech.{Id, Cid, Ioid, SubId, Heads, Is, Speaks}

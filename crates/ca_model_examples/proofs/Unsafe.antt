@@ -1,20 +1,20 @@
 -- Each of the histories breaks its clause.
-use Rattle.std.proofs.Common.{◌≡◌, ℕ, ◌<◌, ◌≤◌, ◌⊎◌, inl, inr, List, [], ◌∷◌, length, refl, sym, ap, subst, ◌∙◌, arith}
-use Rattle.std.specs.Prelude.{true, false, Some, None, take}
+use Rattle.std.proofs.Common.{◌≡◌, ℕ, ◌<◌, ◌≤◌, inl, inr, List, [], ◌∷◌, length, refl, sym, ap, subst, ◌∙◌, arith}
+use Rattle.std.specs.Prelude.{true, false, None, take}
 use Rattle.ca_text.specs.Place.{At}
-use Rattle.ca_text.specs.Status.{bad_channel, normal}
+use Rattle.ca_text.specs.Status.{normal}
 use Rattle.ca_text.proofs.Places.{some_is}
 use Rattle.ca_text.specs.declared.status.Status.{Status}
 use Rattle.ca_text.specs.declared.command.Command.TheVariants as command
 use Rattle.ca_dbr.specs.declared.value.Outcome.TheVariants as outcome
 use Rattle.ca_wire.specs.Fields.{Fields}
 use Rattle.ca_model.specs.Speech.{In, Is, Stored}
-use Rattle.ca_model.specs.History.{Cause, Reply, Removal, Circuit, Entry, Line, Sent, Told, Step, Added, Removed, Applied, Waits, Finished, Clear, Intent, On, Request, Read, Subscribe, Called, Noticed, Update}
+use Rattle.ca_model.specs.History.{Cause, Reply, Removal, Circuit, Entry, Line, Sent, Told, Step, Added, Removed, Applied, Waits, Finished, Clear, Intent, On, Request, Read, Subscribe, Called, Update}
 use Rattle.ca_model_safe.specs.Channels.{IsFinished, IsReply, Lasts, OfCircuits}
 use Rattle.ca_model_safe.specs.Headline.{Acted, ActsOnRecord, Answered, AnswersOwn, IsBadChannel}
 use Rattle.ca_model_safe.specs.Means.{Means}
 use Rattle.ca_model.specs.Updates.{Shows}
-use Rattle.ca_model_examples.specs.Worlds.{AnyDue, Unsafe, adding, circuit, clearing, created_told, creating, disconnected, long, put_told, putting, reading, reply, step, temp, world}
+use Rattle.ca_model_examples.specs.Worlds.{AnyDue, Unsafe, adding, clearing, created_told, creating, disconnected, long, put_told, putting, reading, step, temp, world}
 use Rattle.ca_model_examples.specs.Unsafe.{FollowsNot, SlowDue, UnsafeSlow, answered, answered_cleared, answered_from_new, answered_unfinished, answered_withdrawn, applied_early, applied_twice, cleared, cleared_lines, disconnected_for_nothing, finished_entries, for_nothing, foreign_refusal, from_new, gone_for_nothing, in_other_step, invented_answer, live_lines, lost_for_nothing, lost_lines, put_lines, read_lines, read_told, read_twice, refused_for_nothing, refused_write, temp_there, unanswered, unanswered_put, unanswered_read, unfinished_entries, unsaid_creation, unsaid_refusal, update_of_refused, update_of_unhandled, updated, updates_sent, withdrawn_entries, writing}
 use Rattle.ca_model_examples.proofs.Lists.{Each, each-at, none-at, one-at, two-at}
 

@@ -1,22 +1,22 @@
 -- The used channel keeps the first clause.
-use Rattle.std.proofs.Common.{◌≡◌, ℕ, zero, suc, ◌<◌, ◌≤◌, ◌⊎◌, inl, inr, List, [], ◌∷◌, length, refl, sym, ap, subst, ◌∙◌, arith}
+use Rattle.std.proofs.Common.{◌≡◌, ℕ, ◌<◌, inl, inr, List, refl, sym, ap, subst, ◌∙◌, arith}
 use Rattle.std.specs.Prelude.{true, false, Some, None, take}
 use Rattle.ca_text.specs.Place.{At}
-use Rattle.ca_text.specs.Status.{bad_channel, normal}
+use Rattle.ca_text.specs.Status.{normal}
 use Rattle.ca_text.specs.declared.status.Status.{Status}
 use Rattle.ca_text.specs.declared.command.Command.TheVariants as command
 use Rattle.ca_dbr.specs.declared.value.Outcome.TheVariants as outcome
 use Rattle.ca_wire.specs.Fields.{Fields}
 use Rattle.ca_records.specs.Record.{RecordState}
-use Rattle.ca_model.specs.Speech.{Clears, Creates, In, Is, Stored}
-use Rattle.ca_model.specs.History.{Ask, Create, Intent, On, OfCircuit, Cause, Reply, Removal, Update, Circuit, Entry, Line, Sent, Told, Step, Added, Removed, Opened}
+use Rattle.ca_model.specs.Speech.{Clears, Creates, In, Is}
+use Rattle.ca_model.specs.History.{Ask, Create, Intent, On, OfCircuit, Circuit, Entry, Line, Sent, Told, Added, Removed, Opened}
 use Rattle.ca_model_safe.specs.Channels.{IsNamed, IsOpen, KeepNames, before}
 use Rattle.ca_model_safe.specs.Headline.{Acted, ActsOnRecord}
 use Rattle.ca_model_safe.specs.Means.{Means}
 use Rattle.ca_model.specs.Updates.{Shows}
-use Rattle.ca_model_examples.specs.Worlds.{adding, created_told, creating, putting, reading, step, temp, temp_name}
+use Rattle.ca_model_examples.specs.Worlds.{adding, created_told, creating, putting, reading, step, temp}
 use Rattle.ca_model_examples.specs.Safe.{used, used_entries, used_lines}
-use Rattle.ca_model_examples.proofs.Lists.{Each, each-at, at-take, none-at, one-at}
+use Rattle.ca_model_examples.proofs.Lists.{each-at, at-take, none-at}
 
 -- the channel of an intent
 abbrev pub channel-of : Intent → ℕ

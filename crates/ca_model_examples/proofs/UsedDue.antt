@@ -1,6 +1,6 @@
 -- What was sent on the used channel was due.
-use Rattle.std.proofs.Common.{◌≡◌, ℕ, zero, suc, ◌<◌, ◌≤◌, ◌+◌, ◌⊎◌, inl, inr, List, [], ◌∷◌, length, refl, sym, ap, subst, ◌∙◌, arith}
-use Rattle.std.specs.Prelude.{true, false, Bool, Option, Some, None, take, pos, ◌==◌, if◌then◌else◌}
+use Rattle.std.proofs.Common.{◌≡◌, ℕ, zero, suc, ◌≤◌, inl, inr, List, [], ◌∷◌, refl, sym, ap, subst, ◌∙◌, arith}
+use Rattle.std.specs.Prelude.{true, false, Bool, Some, None, take, pos, ◌==◌, if◌then◌else◌}
 use Rattle.std.specs.Str.{bytes_eq}
 use Rattle.std.specs.List.{list_any}
 use Rattle.std.proofs.Math.Facts.{sfits_lit}
@@ -16,15 +16,14 @@ use Rattle.ca_dbr.specs.Elements.{longs}
 use Rattle.ca_wire.specs.Header as H
 use Rattle.ca_wire.specs.Fields.{Fields}
 use Rattle.ca_records.specs.Record.{RecordState}
-use Rattle.ca_records.specs.Rules.{Rule}
 use Rattle.ca_model.specs.Due.{Adds, Applies, Due, KnownChannel, KnownRecord, Knows, Nothing, Opens, Serves, subscription_in}
-use Rattle.ca_model.specs.Speech.{In, Is, Stored, name_in}
-use Rattle.ca_model.specs.History.{Intent, On, Subscribe, Circuit, Entry, Sent, Told, Step, Added, Applied, Removed}
+use Rattle.ca_model.specs.Speech.{Is, Stored, name_in}
+use Rattle.ca_model.specs.History.{On, Subscribe, Entry, Sent, Step, Added, Applied}
 use Rattle.ca_model_safe.specs.Channels.{Has, IsOpen, before}
 use Rattle.ca_model_safe.specs.Known.{AreJust, IsChannel, IsDue, IsEarly, IsKey, IsNow, IsRecordOf, IsSafe, Knew, has_created}
 use Rattle.ca_model_examples.specs.Worlds.{adding, created_told, creating, long, ports, put_told, putting, reading, rights_told, rules, step, temp, temp_name}
 use Rattle.ca_model_examples.specs.Safe.{used, used_entries, used_world}
-use Rattle.ca_model_examples.proofs.Lists.{Each, each-at, at-take, at-take-within, none-at, one-at}
+use Rattle.ca_model_examples.proofs.Lists.{each-at, at-take, at-take-within, none-at, one-at}
 use Rattle.ca_model_examples.proofs.UsedActs.{created-at, no-removed, open-1, open-2, open-3}
 use Rattle.ca_model_examples.proofs.UsedOwn.{value_told}
 use Rattle.ca_model_examples.proofs.UsedWhole.{used-is-safe}

@@ -1,18 +1,18 @@
 -- The used channel keeps the second clause on its circuit.
-use Rattle.std.proofs.Common.{◌≡◌, ℕ, zero, suc, ◌<◌, ◌≤◌, ◌+◌, ◌⊎◌, inl, inr, List, [], ◌∷◌, length, refl, sym, ap, subst, ◌∙◌, arith}
-use Rattle.std.specs.Prelude.{true, false, Option, Some, None, take}
+use Rattle.std.proofs.Common.{◌≡◌, ℕ, ◌<◌, ◌≤◌, ◌+◌, inl, inr, List, [], ◌∷◌, refl, sym, subst, arith}
+use Rattle.std.specs.Prelude.{false, Option, None, take}
 use Rattle.ca_text.specs.Place.{At}
 use Rattle.ca_text.specs.Status.{normal}
 use Rattle.ca_text.specs.declared.command.Command.TheVariants as command
 use Rattle.ca_wire.specs.Fields.{Fields}
 use Rattle.ca_wire.specs.Messages.{update, value_reply}
-use Rattle.ca_model.specs.Speech.{Id, Cid, Ioid, SubId, Gives, In, Is, Speaks, Stored}
-use Rattle.ca_model.specs.History.{Ask, Create, Intent, On, OfCircuit, Cause, Reply, Removal, Update, Circuit, Entry, Line, Sent, Told, Step, Added, Removed, Applied}
-use Rattle.ca_model_safe.specs.Channels.{AreSteps, IsReply, Suits, before, until}
-use Rattle.ca_model_safe.specs.Headline.{Answered, AnswersOwn, HasCause, TakesOwn, Took}
+use Rattle.ca_model.specs.Speech.{Id, Cid, Ioid, SubId, Gives, Is, Speaks}
+use Rattle.ca_model.specs.History.{Reply, Removal, Circuit, Entry, Sent, Told, Step, Applied}
+use Rattle.ca_model_safe.specs.Channels.{AreSteps, IsReply, Suits, before}
+use Rattle.ca_model_safe.specs.Headline.{Answered, AnswersOwn, HasCause, TakesOwn}
 use Rattle.ca_model_safe.specs.Means.{Means}
 use Rattle.ca_model.specs.Updates.{Shows}
-use Rattle.ca_model_examples.specs.Worlds.{adding, created_told, creating, long, put_told, putting, reading, rights_told, step, temp}
+use Rattle.ca_model_examples.specs.Worlds.{adding, created_told, creating, long, put_told, putting, reading, rights_told, step}
 use Rattle.ca_model_examples.specs.Safe.{used, used_entries, used_lines}
 use Rattle.ca_model_examples.proofs.Lists.{Each, each-at, none-at}
 use Rattle.ca_model_examples.proofs.Speaks.{heads, of-channel, of-request, of-update}

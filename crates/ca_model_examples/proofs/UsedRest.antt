@@ -1,29 +1,21 @@
 -- The used channel keeps the clauses on the client's log, on writes and on subscribers.
-use Rattle.std.proofs.Common.{◌≡◌, ℕ, zero, suc, ◌<◌, ◌≤◌, ◌+◌, ◌⊎◌, inl, inr, List, [], ◌∷◌, length, refl, sym, ap, subst, ◌∙◌, arith}
-use Rattle.std.specs.Prelude.{true, false, Bool, Option, Some, None, take, pos}
+use Rattle.std.proofs.Common.{◌≡◌, ℕ, ◌⊎◌, inl, inr, List, [], ◌∷◌, refl, sym, ap, subst, ◌∙◌, arith}
+use Rattle.std.specs.Prelude.{false, Option, None, take, pos}
 use Rattle.ca_text.specs.Place.{At}
-use Rattle.ca_text.proofs.Places.{some_is}
-use Rattle.ca_text.specs.declared.status.Status.{Status}
-use Rattle.ca_text.specs.declared.command.Command.TheVariants as command
 use Rattle.ca_dbr.specs.declared.value.Outcome.{Outcome}
 use Rattle.ca_dbr.specs.declared.value.Outcome.TheVariants as outcome
-use Rattle.ca_dbr.specs.declared.data_type.BaseType.TheVariants as base
-use Rattle.ca_dbr.specs.declared.data_type.Form.TheVariants as form
 use Rattle.ca_dbr.specs.Elements.{Elements, longs}
 use Rattle.ca_wire.specs.Fields.{Fields}
-use Rattle.ca_records.specs.Record.{RecordState}
-use Rattle.ca_model.specs.Speech.{In, Is, Stored, mask_in}
-use Rattle.ca_model.specs.History.{Ask, Create, Clear, Request, Subscribe, Cancel, Read, Put, Write, Intent, On, OfCircuit, Cause, Reply, Removal, Update, Circuit, Entry, Line, Sent, Told, Step, Added, Removed, Posted, Waits, Applied, Finished, Withdrawn, Opened, Called, Noticed, Updated, Collected, GaveUp}
+use Rattle.ca_model.specs.Speech.{In, Stored}
+use Rattle.ca_model.specs.History.{Create, Clear, Request, Subscribe, Read, Put, Intent, On, OfCircuit, Reply, Circuit, Entry, Line, Sent, Added, Applied, Finished, Called, Noticed, Updated}
 use Rattle.ca_model_safe.specs.Channels.{IsApplied, IsOwnWrite, IsRequest, IsUse, Lasts, Stands, updates}
-use Rattle.ca_model_safe.specs.Headline.{Accepted, CompletesOnce, Follows, FollowsRecord, NotTwice, Reads, Safe, Sees}
+use Rattle.ca_model_safe.specs.Headline.{CompletesOnce, NotTwice, Reads}
 use Rattle.ca_model_safe.specs.Means.{Means}
-use Rattle.ca_model_safe.specs.Posts.{matching}
 use Rattle.ca_model.specs.Updates.{Shows}
-use Rattle.ca_model_examples.specs.Worlds.{adding, created_told, creating, long, put_told, putting, reading, rights_told, step, temp}
+use Rattle.ca_model_examples.specs.Worlds.{created_told, creating, long, put_told, putting, reading, step, temp}
 use Rattle.ca_model_examples.specs.Safe.{used, used_entries, used_lines, used_world}
-use Rattle.ca_model_examples.proofs.Lists.{Each, each-at, at-take, none-at, one-at}
-use Rattle.ca_model_examples.proofs.UsedActs.{no-removed, used-acts}
-use Rattle.ca_model_examples.proofs.UsedOwn.{used-answers, value_told}
+use Rattle.ca_model_examples.proofs.Lists.{each-at, at-take, one-at}
+use Rattle.ca_model_examples.proofs.UsedActs.{no-removed}
 
 -- ---- parts of lines and entries
 

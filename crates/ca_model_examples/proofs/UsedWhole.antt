@@ -1,23 +1,22 @@
 -- The used channel keeps the fourth clause, and so all four.
-use Rattle.std.proofs.Common.{◌≡◌, ℕ, zero, suc, ◌<◌, ◌≤◌, ◌+◌, ◌⊎◌, inl, inr, List, [], ◌∷◌, length, refl, sym, ap, subst, ◌∙◌, arith}
-use Rattle.std.specs.Prelude.{true, false, Bool, Option, Some, None, take, pos}
+use Rattle.std.proofs.Common.{◌≡◌, ℕ, List, [], ◌∷◌, refl, sym, ap, subst, arith}
+use Rattle.std.specs.Prelude.{false, Option, None, take}
 use Rattle.ca_text.specs.Place.{At}
 use Rattle.ca_dbr.specs.declared.value.Outcome.{Outcome}
 use Rattle.ca_dbr.specs.declared.data_type.BaseType.TheVariants as base
 use Rattle.ca_dbr.specs.declared.data_type.Form.TheVariants as form
 use Rattle.ca_dbr.specs.Elements as E
 use Rattle.ca_wire.specs.Fields.{Fields}
-use Rattle.ca_records.specs.Record.{RecordState}
-use Rattle.ca_model.specs.Speech.{In, Stored, mask_in}
+use Rattle.ca_model.specs.Speech.{mask_in}
 use Rattle.ca_model.specs.History.{Intent, On, Subscribe, Cause, Reply, Removal, Update, Circuit, Entry, Line, Sent, Told, Step, Added, Applied, Updated}
 use Rattle.ca_model_safe.specs.Channels.{Joins, OfCircuits, OfClients, before, updates}
-use Rattle.ca_model_safe.specs.Headline.{Accepted, ActsOnRecord, AnswersOwn, CompletesOnce, Follows, FollowsRecord, NotTwice, Reads, Safe, Sees}
+use Rattle.ca_model_safe.specs.Headline.{ActsOnRecord, AnswersOwn, CompletesOnce, Follows, FollowsRecord, Safe, Sees}
 use Rattle.ca_model_safe.specs.Means.{Means}
 use Rattle.ca_model_safe.specs.Posts.{matching}
 use Rattle.ca_model.specs.Updates.{Shows}
-use Rattle.ca_model_examples.specs.Worlds.{adding, created_told, creating, long, put_told, putting, reading, rights_told, step, temp}
+use Rattle.ca_model_examples.specs.Worlds.{adding, created_told, creating, long, put_told, putting, reading, rights_told, step}
 use Rattle.ca_model_examples.specs.Safe.{used, used_entries, used_lines, used_world}
-use Rattle.ca_model_examples.proofs.Lists.{Each, each-at, at-take, none-at, one-at}
+use Rattle.ca_model_examples.proofs.Lists.{each-at, at-take, one-at}
 use Rattle.ca_model_examples.proofs.UsedActs.{used-acts}
 use Rattle.ca_model_examples.proofs.UsedOwn.{update_told, used-answers, value_told}
 use Rattle.ca_model_examples.proofs.UsedRest.{used-completes, used-writes}

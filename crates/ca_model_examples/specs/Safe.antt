@@ -1,12 +1,12 @@
 -- Vocabulary: small histories that keep every clause.
-use Rattle.std.specs.Prelude.{ℕ, ◌+◌, List, [], ◌∷◌, Option, Some, None, pos, false}
+use Rattle.std.specs.Prelude.{ℕ, ◌+◌, List, [], ◌∷◌, Some, None, pos, false}
 use Rattle.ca_dbr.specs.declared.value.Outcome.{Outcome}
 use Rattle.ca_dbr.specs.declared.value.Outcome.TheVariants as outcome
 use Rattle.ca_dbr.specs.Elements.{longs}
 use Rattle.ca_wire.specs.Fields.{Fields}
 use Rattle.ca_wire.specs.Messages.{create_request, update, value_reply}
 use Rattle.ca_text.specs.Status.{normal}
-use Rattle.ca_model.specs.History.{Create, Request, Subscribe, Read, Put, On, Update, Told, Step, Circuit, Entry, Added, Applied, Removed, Line, Called, Noticed, Opened, Updated, World}
+use Rattle.ca_model.specs.History.{Create, Request, Subscribe, Read, Put, On, Update, Told, Circuit, Entry, Added, Applied, Removed, Line, Called, Noticed, Opened, Updated, World}
 use Rattle.ca_model.specs.Updates.{Shows}
 use Rattle.ca_model_safe.specs.Headline.{Sees}
 use Rattle.ca_model_examples.specs.Worlds.{AnyDue, adding, circuit, clearing, created_told, creating, disconnected, long, put_told, putting, reading, reply, rights_told, step, temp, temp_name, world}

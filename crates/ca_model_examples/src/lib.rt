@@ -28,8 +28,8 @@ pub use server_rows::{
     spelled_replies_are_as_worked, subscription_faults_are_as_worked, waiting_puts_are_as_worked,
 };
 pub use safe_worlds::{
-    a_channel_in_use_is_safe, a_channel_that_comes_back_is_legal, a_shared_id_is_safe_but_not_legal,
-    updates_of_two_circuits_may_cross,
+    a_channel_in_use_is_safe, a_channel_that_comes_back_is_safe_and_legal,
+    a_shared_id_is_safe_but_not_legal, updates_of_two_circuits_may_cross,
 };
 pub use unsafe_worlds::{
     a_disconnection_for_nothing_is_unsafe, a_lost_or_repeated_post_is_unsafe,

@@ -1,0 +1,6 @@
+use Rattle.ca_model_examples.proofs.Reopened.{reopened-legal}
+use Rattle.ca_model_examples.proofs.ReopenedRest.{reopened-safe}
+use Rattle.ca_model_examples.proofs.safe_worlds.a_channel_that_comes_back_is_safe_and_legal.Goals as goal
+
+pub returns : goal.returns
+returns c = record { safe = reopened-safe; legal = reopened-legal }
