@@ -12,7 +12,7 @@ use Rattle.ca_dbr.specs.Elements as E
 use Rattle.ca_model.specs.Speech.{In, Stored, mask_in}
 use Rattle.ca_model.specs.History.{Circuit, Intent, On, OfCircuit, Create, Request, Subscribe, Put, Line, Entry, Sent, Told, Step, Added, Applied, Finished, Removed, Clear, Reply, Update, Cause, Called, Noticed, Updated}
 use Rattle.ca_model_safe.specs.Channels.{IsApplied, IsLost, IsOpen, IsRequest, IsUse, Stands, before, updates}
-use Rattle.ca_model_safe.specs.Headline.{ActsOnRecord, AnswersOwn, CompletesOnce, Follows, FollowsRecord, NotTwice, Reads, Safe, Sees}
+use Rattle.ca_model_safe.specs.Headline.{ActsOnRecord, AnswersOwn, CompletesOnce, Follows, FollowsRecord, LosesLive, NotTwice, Reads, Safe, Sees}
 use Rattle.ca_model_safe.specs.Means.{Means}
 use Rattle.ca_model_safe.specs.Posts.{matching}
 use Rattle.ca_model.specs.Updates.{Shows}
@@ -43,22 +43,22 @@ Bears o i intent p =
     ((by : Reads AnyDue Shows Means (reopened_world o) 0 (reopened_lines o) i intent p) × (by.t.cause ≡ Reply))
     ⊎ ((p ≡ outcome.Disconnected) × IsLost (reopened_world o) 0 (reopened_lines o) i intent)
 
+abbrev read-first : (o : Outcome) → Reads AnyDue Shows Means (reopened_world o) 0 (reopened_lines o) 1 (On 0 Create) outcome.Done
+read-first o = record {
+  n = 0;
+  c = reopened;
+  on = (refl, refl);
+  j = 0;
+  t = created_told;
+  h = step 1 1 2;
+  read = (refl, refl, refl, omega arith);
+  own = (creating, refl, refl);
+  held = λ h. no-clear-line o 1 h;
+  means = inr (inr (inl (refl, tt)));
+}
+
 live-first : (o : Outcome) → Bears o 1 (On 0 Create) outcome.Done
-live-first o = inl (
-  record {
-    n = 0;
-    c = reopened;
-    on = (refl, refl);
-    j = 0;
-    t = created_told;
-    h = step 1 1 2;
-    read = (refl, refl, refl, omega arith);
-    own = (creating, refl, refl);
-    held = λ h. no-clear-line o 1 h;
-    means = inr (inr (inl (refl, tt)));
-  },
-  refl,
-)
+live-first o = inl (read-first o, refl)
 
 live-again : (o : Outcome) → Bears o 5 (On 0 Create) outcome.Done
 live-again o = inl (
@@ -100,6 +100,31 @@ no-use o i intent p at uses =
       ),
     ) i _ at refl
 
+abbrev is-done : Outcome → Bool
+is-done outcome.Done = true
+is-done p = false
+
+not-lost : outcome.Done ≡ outcome.Disconnected → ⊥
+not-lost e = (let f : true ≡ false = ap is-done e in cc)
+
+abbrev channel-of : Intent → ℕ
+channel-of (On c a) = c
+channel-of i = 0
+
+lost-line : (o : Outcome) (i channel : ℕ) → At (reopened_lines o) i (Noticed (On channel Create) outcome.Disconnected) → i ≡ 4
+lost-line o i channel at =
+    each-at (λ (k : ℕ) (l : Line). l ≡ Noticed (On channel Create) outcome.Disconnected → k ≡ 4) (reopened_lines o) (
+      (λ e. absurd cc),
+      ((λ e. absurd (not-lost (ap outcome-of e))), ((λ e. absurd cc), ((λ e. absurd cc), ((λ e. refl), ((λ e. absurd (not-lost (ap outcome-of e))), tt))))),
+    ) i _ at refl
+
+lost-channel : (o : Outcome) (i channel : ℕ) → At (reopened_lines o) i (Noticed (On channel Create) outcome.Disconnected) → 0 ≡ channel
+lost-channel o i channel at =
+    each-at (λ (k : ℕ) (l : Line). l ≡ Noticed (On channel Create) outcome.Disconnected → 0 ≡ channel) (reopened_lines o) (
+      (λ e. absurd cc),
+      ((λ e. absurd (not-lost (ap outcome-of e))), ((λ e. absurd cc), ((λ e. absurd cc), ((λ e. ap channel-of (ap noticed-of e)), ((λ e. absurd (not-lost (ap outcome-of e))), tt))))),
+    ) i _ at refl
+
 called-at : (o : Outcome) (i : ℕ) (intent : Intent) (e : Option Elements) → At (reopened_lines o) i (Called intent e) → (i ≡ 2) × (On 0 (Subscribe 0) ≡ intent)
 called-at o i intent e at =
     each-at (λ (k : ℕ) (l : Line). l ≡ Called intent e → (k ≡ 2) × (On 0 (Subscribe 0) ≡ intent)) (reopened_lines o) (
@@ -114,6 +139,16 @@ no-request o intent n k asks h =
       (λ e. subst IsRequest (sym e) asks),
       ((λ e. subst IsRequest (sym e) asks), ((λ e. subst IsRequest (sym e) asks), ((λ e. subst IsRequest (sym e) asks), ((λ e. subst IsRequest (sym e) asks), tt)))),
     ) k h.3.0 at h.3.2
+
+-- the one loss is of the channel that was live
+lost-there : (o : Outcome) → LosesLive AnyDue Shows Means (reopened_world o) 0 (reopened_lines o) 4 0
+lost-there o = record {
+  l = 1;
+  by = read-first o;
+  live = (refl, omega arith, λ h. no-clear-line o 4 h);
+  since = λ m low high at. (let four : m ≡ 4 = lost-line o m 0 at in omega (arith, four, high));
+  why = inr (2, disconnected, step 2 4 5, refl, refl, refl, refl, omega arith, omega arith);
+}
 
 reopened-completes : (o : Outcome) → CompletesOnce AnyDue Shows Means (reopened_world o) 0 (reopened_lines o)
 reopened-completes o = record {
@@ -136,6 +171,11 @@ reopened-completes o = record {
       ),
     ),
   ) i _ at refl;
+  lost = λ i channel at. (
+    let four : i ≡ 4 = lost-line o i channel at in
+    let zero : 0 ≡ channel = lost-channel o i channel at in
+    subst (λ (k : ℕ). LosesLive AnyDue Shows Means (reopened_world o) 0 (reopened_lines o) k channel) (sym four)
+    (subst (λ (c : ℕ). LosesLive AnyDue Shows Means (reopened_world o) 0 (reopened_lines o) 4 c) zero (lost-there o)));
   once = λ i l intent p q uses a b. absurd (no-use o i intent p a uses);
   one_call = λ i l intent e f a b. (called-at o i intent e a).0 ∙ sym (called-at o l intent f b).0;
   sent = λ intent e asks h. absurd (subst IsRequest (sym (called-at o h.0 intent e h.1).1) asks);

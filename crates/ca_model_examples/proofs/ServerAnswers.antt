@@ -71,8 +71,11 @@ output_size (Ended w l) = 0
 
 pub sends-bytes : SendsBytes
 sends-bytes = (
-  (_, refl, omega arith, refl),
-  λ y h. (let is = some_is _ _ h.1 in let l : 3 ≡ length h.0.link.output = ap output_size is in let b = h.2 in omega (arith, l, b)),
+  inl (_, refl, omega arith, refl),
+  λ y h. elim h [
+    | inl s ↦ (let is = some_is _ _ s.1 in let l : 3 ≡ length s.0.link.output = ap output_size is in let b = s.2 in omega (arith, l, b))
+    | inr s ↦ s.0 _ refl
+  ],
 )
 
 -- ---- steps

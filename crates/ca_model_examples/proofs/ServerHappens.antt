@@ -64,20 +64,22 @@ write-happens = (
     record {
       e = end_0 (link (spelling writing) []) (entry_2 ∷ []);
       has = refl;
-      next = record {
-        room = omega arith;
-        m = writing;
-        rest = [];
-        takes = first-of writing writing-is (link (spelling writing) []) refl;
-        replies = [];
-        action = Applies temp_name v22 false;
-        after = _;
-        handles = record { due = write-due; acted = _; acts = refl; recorded = _; records = refl; leaves = refl };
-      };
-      gone = λ h. false;
-      lasts = refl;
       core = _;
-      reaches = ((λ h e. nowhere e), refl);
+      steps = (
+        record {
+          room = omega arith;
+          m = writing;
+          rest = [];
+          takes = first-of writing writing-is (link (spelling writing) []) refl;
+          replies = [];
+          action = Applies temp_name v22 false;
+          after = _;
+          handles = record { due = write-due; acted = _; acts = refl; recorded = _; records = refl; leaves = refl };
+        },
+        (λ h. false),
+        refl,
+        ((λ h e. nowhere e), refl),
+      );
       leaves = refl;
     },
   ),
