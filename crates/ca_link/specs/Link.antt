@@ -1,5 +1,5 @@
 -- Vocabulary: an end's two streams of bytes on a circuit, and its moments (sections "Virtual Circuit" and "CA_PROTO_ECHO").
-use Rattle.std.specs.Prelude.{ℕ, ◌≡◌, ◌+◌, ◌-◌, ◌==◌, ◌&&◌, ◌++◌, Bool, false, true, not, List, [], drop, if◌then◌else◌, nat_le}
+use Rattle.std.specs.Prelude.{ℕ, ◌≡◌, ◌-◌, ◌&&◌, ◌++◌, Bool, false, not, List, [], drop, if◌then◌else◌, nat_le}
 use Rattle.ca_text.specs.Limits.{close_silence, echo_silence}
 use Rattle.ca_wire.specs.Fields.{Fields}
 use Rattle.ca_wire.specs.Message.{Spells, spelled}

@@ -1,13 +1,12 @@
 -- Vocabulary: a server by what its callers and its peers can know of it (sections "Virtual Circuit" and "Overall Server Operation").
-use Rattle.std.specs.Prelude.{ℕ, ◌+◌, ◌==◌, ◌&&◌, Bool, false, true, not, List, [], ◌∷◌, Option, Some, None, filter, if◌then◌else◌, map, option_map, replicate}
+use Rattle.std.specs.Prelude.{ℕ, ◌&&◌, Bool, false, not, List, [], filter, if◌then◌else◌, map, replicate}
 use Rattle.std.specs.List.{fold}
 use Rattle.std.specs.Str.{bytes_eq}
-use Rattle.ca_arena.specs.declared.handle.Handle.{Handle}
 use Rattle.ca_ids.specs.Table.{Table}
 use Rattle.ca_beacon.specs.Clock as beacon
 use Rattle.ca_link.specs.Link.{LinkState, new_link}
 use Rattle.ca_queue.specs.declared.entry.SubKey.{SubKey}
-use Rattle.ca_queue.specs.Keys.{is_among, same}
+use Rattle.ca_queue.specs.Keys.{is_among}
 use Rattle.ca_queue.specs.Queue.{Queue, cancelled, no_queue, posted, switched}
 use Rattle.ca_records.specs.Puts.{Record, Stamp, new_record}
 use Rattle.ca_records.specs.Record.{RecordState}
@@ -106,7 +105,7 @@ concerns name mask s = bytes_eq s.name name && share_bit mask s.mask
 abbrev pub with_post : (name : List ℕ) → (mask : ℕ) → Stored → ServerEnd → ServerEnd
 with_post name mask v e = record e {
   queues =
-    fold (λ (qs : List (Queue Stored)) (s : Subscription). map (queue_posted (key_of s) v) qs) e.queues (filter (concerns name mask) e.subscriptions);
+      fold (λ (qs : List (Queue Stored)) (s : Subscription). map (queue_posted (key_of s) v) qs) e.queues (filter (concerns name mask) e.subscriptions);
 }
 
 -- the end without the subscriptions that a test names ("CA_PROTO_EVENT_CANCEL")

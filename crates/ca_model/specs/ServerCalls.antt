@@ -1,15 +1,14 @@
 -- Vocabulary: the calls of a server beside its circuits, by answer (sections "Process Variables", "CA_PROTO_WRITE_NOTIFY",
 -- "CA_PROTO_SERVER_DISCONN", "CA_PROTO_SEARCH"). Each is the contract of the call of `ServerCore` that its comment names.
-use Rattle.std.specs.Prelude.{ℕ, ◌≡◌, ◌≢◌, ◌<◌, ◌≤◌, ◌+◌, ◌==◌, ◌&&◌, ◌||◌, ◌++◌, ◌⊎◌, Bool, true, false, not, List, [], ◌∷◌, Option, Some, None, Ok, Err, Result, drop, filter, if◌then◌else◌, is_some, length, map, max, nat_le, take, Vec}
+use Rattle.std.specs.Prelude.{ℕ, ◌≡◌, ◌≢◌, ◌<◌, ◌≤◌, ◌+◌, ◌==◌, ◌&&◌, ◌||◌, ◌++◌, ◌⊎◌, Bool, true, not, List, [], ◌∷◌, Option, Some, None, Ok, Err, Result, filter, if◌then◌else◌, is_some, length, map, max, take}
 use Rattle.std.specs.List.{flat_map, list_any, sum_by}
 use Rattle.std.specs.Str.{bytes_eq}
 use Rattle.ca_arena.specs.declared.handle.Handle.{Handle}
 use Rattle.ca_beacon.specs.Clock as beacon
-use Rattle.ca_dbr.specs.declared.value.Meta.{Meta}
 use Rattle.ca_dbr.specs.Elements.{Elements, base_of, count_of}
 use Rattle.ca_dgram.specs.Datagram.{IsDatagram}
 use Rattle.ca_dgram.specs.Messages.{beacon_message, version_message}
-use Rattle.ca_ids.specs.Table.{held, same_handle, under, with_each}
+use Rattle.ca_ids.specs.Table.{held, under, with_each}
 use Rattle.ca_ids.specs.Wire.{wire_of}
 use Rattle.ca_link.specs.Link.{with_sent}
 use Rattle.ca_queue.specs.declared.entry.SubKey.{SubKey}
@@ -27,9 +26,9 @@ use Rattle.ca_wire.specs.Fields.{Fields}
 use Rattle.ca_wire.specs.Message.{spelled, spelling}
 use Rattle.ca_wire.specs.Messages.{disconnect, search_reply, text_in}
 use Rattle.ca_model.specs.Ends as why
-use Rattle.ca_model.specs.Server.{Ended, Open, OpenChannel, Server, ServerCircuit, ServerEnd, concerns, without_subscriptions}
+use Rattle.ca_model.specs.Server.{Ended, Open, OpenChannel, Server, ServerCircuit, ServerEnd, without_subscriptions}
 use Rattle.ca_model.specs.ServerSteps.{HasEnd, MayEnd, after_post, counted, is_concerned, stored_now, with_end, write_mask}
-use Rattle.ca_model.specs.Speech.{In, Stored}
+use Rattle.ca_model.specs.Speech.{Stored}
 
 -- ---- posts
 

@@ -1,6 +1,6 @@
 -- Vocabulary: the calls of a server on one circuit, by answer (sections "Virtual Circuit" and "CA Protocol Messages"). Each is the
 -- contract of the call of `ServerCore` that its comment names.
-use Rattle.std.specs.Prelude.{ℕ, ◌≡◌, ◌≢◌, ◌<◌, ◌≤◌, ◌+◌, ◌==◌, ◌&&◌, ◌++◌, ◌⊎◌, Bool, true, false, not, List, [], ◌∷◌, Option, Some, None, Ok, Err, Result, if◌then◌else◌, is_some, length, map, min, option_map, slice_set, unwrap_or}
+use Rattle.std.specs.Prelude.{ℕ, ◌≡◌, ◌≢◌, ◌<◌, ◌≤◌, ◌+◌, ◌==◌, ◌&&◌, ◌++◌, ◌⊎◌, Bool, true, false, List, [], ◌∷◌, Option, Some, None, Ok, Err, Result, if◌then◌else◌, is_some, length, map, min, option_map, slice_set, unwrap_or}
 use Rattle.std.specs.List.{FoldsTo, list_any}
 use Rattle.ca_arena.specs.declared.handle.Handle.{Handle}
 use Rattle.ca_dbr.specs.Elements.{Elements}
@@ -11,14 +11,14 @@ use Rattle.ca_queue.specs.declared.entry.SubKey.{SubKey}
 use Rattle.ca_queue.specs.Keys.{same}
 use Rattle.ca_queue.specs.Queue.{Queue, added, posted, with_front_taken}
 use Rattle.ca_queue.specs.Waiting.{taken}
-use Rattle.ca_records.specs.Puts.{Put, Record, WaitingPut, record_named, with_record, with_value, with_waiting, withdrawn, written_meta}
+use Rattle.ca_records.specs.Puts.{Put, Record, record_named, with_record, with_value, with_waiting, withdrawn, written_meta}
 use Rattle.ca_text.specs.declared.refusal.Refusal.{Refusal}
 use Rattle.ca_text.specs.declared.refusal.Refusal.TheVariants as refusal
 use Rattle.ca_text.specs.Limits.{applied_limit, output_limit, queue_subscriptions}
 use Rattle.ca_text.specs.Place.{At}
 use Rattle.ca_wire.specs.Fields.{Fields}
 use Rattle.ca_wire.specs.Stream.{BadAt, NoneBegins, NotBad}
-use Rattle.ca_model.specs.Due.{Action, Adds, Applies, Clears, Drops, Due, Greets, KnownChannel, KnownRecord, Knows, Names, Nothing, Opens, Switches, Waits}
+use Rattle.ca_model.specs.Due.{Action, Adds, Applies, Clears, Drops, Due, Greets, KnownChannel, KnownRecord, Knows, Names, Opens, Switches, Waits}
 use Rattle.ca_model.specs.Ends.{Why, why_of}
 use Rattle.ca_model.specs.Ends as why
 use Rattle.ca_model.specs.Server.{Ended, Open, OpenChannel, Server, ServerCircuit, ServerEnd, Subscription, concerns, key_of, new_end, with_events, with_post, without_subscriptions}

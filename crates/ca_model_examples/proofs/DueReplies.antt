@@ -5,26 +5,24 @@ use Rattle.std.specs.Int.{w32}
 use Rattle.ca_text.specs.Command.{command_number}
 use Rattle.ca_text.specs.declared.command.Command.{Command}
 use Rattle.ca_text.specs.declared.command.Command.TheVariants as command
-use Rattle.ca_text.specs.Place.{At}
 use Rattle.ca_text.specs.Status.{bad_channel, normal}
 use Rattle.ca_text.proofs.Places.{some_is}
 use Rattle.ca_dbr.specs.declared.data_type.BaseType.TheVariants as base
 use Rattle.ca_dbr.specs.Reading.{ReadsElements}
 use Rattle.ca_queue.specs.Keys.{is_among}
-use Rattle.ca_dbr.specs.Elements.{Elements, bytes_2, bytes_4, longs, signed_bytes_4}
+use Rattle.ca_dbr.specs.Elements.{Elements, longs, signed_bytes_4}
 use Rattle.ca_wire.specs.Fields.{Fields}
 use Rattle.ca_wire.specs.Header.{number16}
-use Rattle.ca_wire.specs.Messages.{bare, cancel_reply, cleared_reply, created_reply, create_request, error_reply, status_reply, version_reply}
-use Rattle.ca_model.specs.Due.{Action, Adds, Applies, Clears, Drops, Due, EventDue, Greets, IsCreated, IsNotCreated, IsRetired, IsUnknown, KnownChannel, KnownRecord, Knows, Names, Nothing, Opens, PutDue, PutReads, ReadDue, Serves, StrayDue, Switches, Waits, WriteDue, early_fault, fault_of_read, must_wait, is_known, key_in, rights_at, named, search_due}
-use Rattle.ca_model.specs.Ends.{Peer}
+use Rattle.ca_wire.specs.Messages.{bare, cancel_reply, cleared_reply, error_reply, status_reply, version_reply}
+use Rattle.ca_model.specs.Due.{Action, Adds, Applies, Clears, Drops, Due, EventDue, Greets, IsCreated, IsNotCreated, IsRetired, IsUnknown, KnownChannel, KnownRecord, Knows, Names, Nothing, Opens, PutDue, PutReads, ReadDue, Serves, StrayDue, Switches, Waits, WriteDue, fault_of_read, must_wait, is_known, key_in, rights_at, named, search_due}
 use Rattle.ca_model.specs.Faults.{base_type_of, early_put_fault, read_fault, subscription_fault, type_of}
 use Rattle.ca_records.specs.Rules.{Rule, rights}
 use Rattle.ca_wire.specs.Messages.{text_in}
 use Rattle.ca_model.specs.Speech.{In}
 use Rattle.ca_model_examples.specs.Worlds.{temp, temp_name}
 use Rattle.ca_model_examples.specs.ServerRows.{hall, slow, slow_name}
-use Rattle.ca_model_examples.specs.DueReplies.{add_on, AreDue, RepliesLate, Row, created, creations_due, creations_not_due, fresh, greetings_due, greetings_not_due, image_21, knowing, opening, others_due, others_not_due, puts_due, puts_not_due, read_on, reads_due, reads_not_due, retired_channel, searches_due, searches_not_due, seated, served, shut, slow_channel, subscriptions_due, subscriptions_not_due, temp_channel, v22, write_on, writes_due, writes_not_due, put_on, no_rights, AreNotDue}
-use Rattle.ca_model_examples.proofs.Lists.{Each, each-at, none-at}
+use Rattle.ca_model_examples.specs.DueReplies.{add_on, AreDue, RepliesLate, Row, creations_due, creations_not_due, fresh, greetings_due, greetings_not_due, knowing, others_due, others_not_due, puts_due, puts_not_due, read_on, reads_due, reads_not_due, retired_channel, searches_due, searches_not_due, seated, served, slow_channel, subscriptions_due, subscriptions_not_due, temp_channel, v22, write_on, writes_due, writes_not_due, put_on, no_rights, AreNotDue}
+use Rattle.ca_model_examples.proofs.Lists.{each-at, none-at}
 
 -- ---- what is due for one command
 

@@ -315,10 +315,20 @@ no-refusal : (o : Outcome) (i channel number : ℕ) (p : Outcome) → At (reopen
 no-refusal o i channel number p at =
     each-at (λ (k : ℕ) (l : Line). l ≡ Noticed (On channel (Subscribe number)) p → ⊥) (reopened_lines o) (
       (λ e. cc),
-      ((λ e. (let f : On 0 Create ≡ On channel (Subscribe number) = ap noticed-intent e in cc)),
-      ((λ e. cc), ((λ e. cc),
-      ((λ e. (let f : On 0 Create ≡ On channel (Subscribe number) = ap noticed-intent e in cc)),
-      ((λ e. (let f : On 0 Create ≡ On channel (Subscribe number) = ap noticed-intent e in cc)), tt)))))) i _ at refl
+      (
+        (λ e. (let f : On 0 Create ≡ On channel (Subscribe number) = ap noticed-intent e in cc)),
+        (
+          (λ e. cc),
+          (
+            (λ e. cc),
+            (
+              (λ e. (let f : On 0 Create ≡ On channel (Subscribe number) = ap noticed-intent e in cc)),
+              ((λ e. (let f : On 0 Create ≡ On channel (Subscribe number) = ap noticed-intent e in cc)), tt),
+            ),
+          ),
+        ),
+      ),
+    ) i _ at refl
 
 -- where subscriptions were meant
 subscribed-at : (k channel number : ℕ) → Meant reopened k (On channel (Subscribe number)) → (k ≡ 1) ⊎ (k ≡ 4)

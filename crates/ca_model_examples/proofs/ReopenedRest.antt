@@ -172,10 +172,10 @@ reopened-completes o = record {
     ),
   ) i _ at refl;
   lost = λ i channel at. (
-    let four : i ≡ 4 = lost-line o i channel at in
-    let zero : 0 ≡ channel = lost-channel o i channel at in
-    subst (λ (k : ℕ). LosesLive AnyDue Shows Means (reopened_world o) 0 (reopened_lines o) k channel) (sym four)
-    (subst (λ (c : ℕ). LosesLive AnyDue Shows Means (reopened_world o) 0 (reopened_lines o) 4 c) zero (lost-there o)));
+      let four : i ≡ 4 = lost-line o i channel at in
+      let zero : 0 ≡ channel = lost-channel o i channel at in
+      subst (λ (k : ℕ). LosesLive AnyDue Shows Means (reopened_world o) 0 (reopened_lines o) k channel) (sym four)
+      (subst (λ (c : ℕ). LosesLive AnyDue Shows Means (reopened_world o) 0 (reopened_lines o) 4 c) zero (lost-there o)));
   once = λ i l intent p q uses a b. absurd (no-use o i intent p a uses);
   one_call = λ i l intent e f a b. (called-at o i intent e a).0 ∙ sym (called-at o l intent f b).0;
   sent = λ intent e asks h. absurd (subst IsRequest (sym (called-at o h.0 intent e h.1).1) asks);

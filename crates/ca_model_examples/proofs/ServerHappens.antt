@@ -1,22 +1,20 @@
 -- The events leave these worlds.
-use Rattle.std.proofs.Common.{◌≡◌, ◌≢◌, ℕ, ◌<◌, ◌≤◌, ◌⊎◌, inl, inr, Bool, List, [], ◌∷◌, ◌++◌, length, refl, sym, ap, subst, ◌∙◌, arith, rules}
-use Rattle.std.specs.Prelude.{pos, true, false, Option, Some, None}
+use Rattle.std.proofs.Common.{◌≡◌, ℕ, ◌<◌, ◌≤◌, inl, inr, List, [], ◌∷◌, length, refl, sym, ap, subst, ◌∙◌, arith, rules}
+use Rattle.std.specs.Prelude.{true, false, Some, None}
 use Rattle.std.proofs.lemmas.List.{append-nil}
-use Rattle.ca_arena.specs.declared.handle.Handle.{Handle}
 use Rattle.ca_text.specs.Place.{At}
 use Rattle.ca_text.specs.declared.refusal.Refusal.TheVariants as refusal
-use Rattle.ca_text.specs.Limits.{output_limit}
 use Rattle.ca_text.proofs.Places.{At-within, some_is}
-use Rattle.ca_dbr.specs.Elements.{longs, signed_bytes_4}
+use Rattle.ca_dbr.specs.Elements.{signed_bytes_4}
 use Rattle.ca_link.specs.Link.{LinkState, TakesFirst}
 use Rattle.ca_queue.specs.Queue.{Queue}
 use Rattle.ca_queue.specs.Waiting.{taken}
-use Rattle.ca_wire.specs.Fields.{Fields, IsPayload}
-use Rattle.ca_wire.specs.Header.{HeaderFits, header_spelling, short_header, extended_header, number16, number32}
-use Rattle.ca_wire.specs.Message.{IsMessage, Spells, header_of, spelling}
+use Rattle.ca_wire.specs.Fields.{Fields}
+use Rattle.ca_wire.specs.Header.{header_spelling, short_header, extended_header, number16, number32}
+use Rattle.ca_wire.specs.Message.{IsMessage, header_of, spelling}
 use Rattle.ca_wire.proofs.Headers.{header-spells}
-use Rattle.ca_model.specs.Due.{Applies, Due, KnownChannel, KnownRecord, Knows, Nothing, Serves}
-use Rattle.ca_model.specs.Server.{Open, Server, ServerEnd}
+use Rattle.ca_model.specs.Due.{Applies, Due}
+use Rattle.ca_model.specs.Server.{ServerEnd}
 use Rattle.ca_model.specs.ServerSteps.{HasEnd, Leaves, Pumps, Rests, Update, knows}
 use Rattle.ca_model.specs.ServerSteps as stepped
 use Rattle.ca_model.specs.Speech.{Stored}
@@ -24,13 +22,13 @@ use Rattle.ca_model_world.specs.Events as event
 use Rattle.ca_model_world.specs.Runs.{CanBe, HasServerEnd, IsServer}
 use Rattle.ca_model_world.specs.ClientEvents.{waiting_up}
 use Rattle.ca_text.specs.Name.{IsName}
-use Rattle.ca_model_world.specs.World.{ClientSide, Joined, ServerSide, World}
+use Rattle.ca_model_world.specs.World.{ClientSide, Joined, World}
 use Rattle.ca_model_examples.specs.DueReplies.{v22}
-use Rattle.ca_model_examples.specs.ServerHappens.{AddHappens, AddsRefused, CannotBe, CutHappens, FinishHappens, FinishesRefused, PostHappens, PostsRefused, PumpHappens, RemoveHappens, RestartHappens, UpHappens, WriteHappens, cut, update_told, writing, written_22}
-use Rattle.ca_model_examples.specs.ServerWorld.{before, client, core_before, joined_0, number_2, end_0, entry_2, first, link, on_slow, on_temp, second, written}
+use Rattle.ca_model_examples.specs.ServerHappens.{AddHappens, AddsRefused, CannotBe, CutHappens, FinishHappens, FinishesRefused, PostHappens, PostsRefused, PumpHappens, RemoveHappens, RestartHappens, UpHappens, WriteHappens, cut, update_told, writing}
+use Rattle.ca_model_examples.specs.ServerWorld.{before, client, core_before, joined_0, number_2, end_0, entry_2, link, on_slow, on_temp, written}
 use Rattle.ca_model_examples.specs.Worlds.{long, temp, temp_name}
 use Rattle.ca_model_examples.proofs.DueReplies.{due-of, reads-22}
-use Rattle.ca_model_examples.proofs.Lists.{Each, each-at, none-at, one-at, two-at}
+use Rattle.ca_model_examples.proofs.Lists.{Each, each-at}
 
 -- ---- messages and their bytes
 

@@ -1,10 +1,9 @@
 -- Vocabulary: for each command a message that comes to a server, with the replies that are due and what it does.
-use Rattle.std.specs.Prelude.{ℕ, ◌≡◌, ◌==◌, pos, Bool, true, false, List, [], ◌∷◌, ◌++◌, Option, Some, None, if◌then◌else◌, replicate}
+use Rattle.std.specs.Prelude.{ℕ, ◌≡◌, pos, Bool, true, false, List, [], ◌∷◌, Option, Some, None, if◌then◌else◌}
 use Rattle.std.specs.Str.{bytes_eq}
 use Rattle.ca_text.specs.declared.command.Command.TheVariants as command
 use Rattle.ca_text.specs.Status.{bad_channel, bad_type, no_read_access, no_write_access, normal}
 use Rattle.ca_dbr.specs.Elements.{Elements, longs}
-use Rattle.ca_queue.specs.declared.entry.SubKey.{SubKey}
 use Rattle.ca_records.specs.Rules.{Rule}
 use Rattle.ca_wire.specs.Fields.{Fields}
 use Rattle.ca_wire.specs.Messages.{Wanted, bare, cancel_reply, clear_request, create_request, created_reply, error_reply, event_add_request, event_cancel_request, failed_reply, name_request, no_cid, not_found_reply, put_request, read_request, rights_reply, search_reply, search_request, status_reply, value_reply, version_reply, version_request}

@@ -1,28 +1,24 @@
 -- Vocabulary: calls of a small server, with their answers and what they leave, and what they never answer.
-use Rattle.std.specs.Prelude.{ℕ, ◌≡◌, ◌<◌, ◌≤◌, pos, Bool, true, false, List, [], ◌∷◌, ◌++◌, Option, Some, None, Result, Ok, Err, length, replicate}
+use Rattle.std.specs.Prelude.{ℕ, ◌≡◌, ◌≤◌, Bool, true, false, List, [], ◌∷◌, Some, None, Ok, Err, length, replicate}
 use Rattle.ca_arena.specs.declared.handle.Handle.{Handle}
-use Rattle.ca_arena.specs.Arena.{Place}
-use Rattle.ca_beacon.specs.Clock as beacon
 use Rattle.ca_ids.specs.Table.{Table}
-use Rattle.ca_text.specs.declared.command.Command.TheVariants as command
 use Rattle.ca_text.specs.declared.refusal.Refusal.TheVariants as refusal
-use Rattle.ca_dbr.specs.Elements.{Elements, doubles, longs}
-use Rattle.ca_queue.specs.declared.entry.SubKey.{SubKey}
+use Rattle.ca_dbr.specs.Elements.{longs}
 use Rattle.ca_queue.specs.Queue.{Queue, no_queue}
 use Rattle.ca_records.specs.Puts.{Record}
 use Rattle.ca_wire.specs.Fields.{Fields}
-use Rattle.ca_wire.specs.Message.{spelled, spelling}
-use Rattle.ca_wire.specs.Messages.{bare, clear_request, created_reply, create_request, disconnect, event_add_request, not_found_reply, rights_reply, search_reply, search_request, version_reply, version_request}
-use Rattle.ca_model.specs.Due.{Action, Adds, Applies, Clears, Nothing, Opens, Waits}
+use Rattle.ca_wire.specs.Message.{spelled}
+use Rattle.ca_wire.specs.Messages.{clear_request, search_reply, search_request, version_request}
+use Rattle.ca_model.specs.Due.{Adds, Clears}
 use Rattle.ca_model.specs.Ends.{Why}
 use Rattle.ca_model.specs.Ends as why
 use Rattle.ca_model.specs.Server.{Ended, Open, Server, ServerCircuit, ServerEnd, new_end}
-use Rattle.ca_model.specs.ServerCalls.{AddsRecord, ArePacked, Beacons, Finishes, Posts, Removes, search_answer}
+use Rattle.ca_model.specs.ServerCalls.{AddsRecord, ArePacked, Beacons, Finishes, search_answer}
 use Rattle.ca_model.specs.ServerSteps.{Accepts, Acts, Cuts, Gives, HasEnd, Leaves, MayEnd, Pumps, Reaches, Records, Sends, StepsOpen, Steps, Update}
 use Rattle.ca_model.specs.ServerSteps as stepped
 use Rattle.ca_model.specs.Speech.{Stored}
 use Rattle.ca_model_examples.specs.ServerRows.{eve, slow_name, wave}
-use Rattle.ca_model_examples.specs.ServerWorld.{both_open, core_before, core_of, end_0, end_1, end_of, entry_2, first, free, given, link, on_slow, on_temp, put_by, queues, second, slow_busy, slow_key, slow_now, slow_open, temp_key, temp_now, temp_open, waits_by, written}
+use Rattle.ca_model_examples.specs.ServerWorld.{both_open, core_before, core_of, end_0, end_1, end_of, entry_2, first, free, given, link, on_slow, on_temp, put_by, queues, second, slow_busy, slow_key, slow_now, temp_key, temp_now, temp_open, waits_by, written}
 use Rattle.ca_model_examples.specs.Worlds.{long, temp, temp_name}
 
 -- ---- circuits come, and get bytes

@@ -9,12 +9,11 @@ use Rattle.ca_link.specs.Link.{LinkState}
 use Rattle.ca_queue.specs.declared.entry.SubKey.{SubKey}
 use Rattle.ca_queue.specs.Queue.{Queue, no_queue}
 use Rattle.ca_records.specs.Puts.{Put, Record, WaitingPut}
-use Rattle.ca_records.specs.Record.{RecordState}
 use Rattle.ca_wire.specs.Messages.{version_reply}
-use Rattle.ca_model.specs.History.{Cause, Circuit, Entry, Added, Reply, Step, Told, Update}
+use Rattle.ca_model.specs.History.{Cause, Circuit, Entry, Added, Step, Told, Update}
 use Rattle.ca_model.specs.Server.{Open, OpenChannel, Server, ServerCircuit, ServerEnd, Subscription}
 use Rattle.ca_model.specs.Speech.{Stored}
-use Rattle.ca_model_world.specs.World.{ClientSetting, ClientSide, Creation, Joined, PutPlace, RecordSide, ServerSetting, ServerSide, Standing, World, client_begun}
+use Rattle.ca_model_world.specs.World.{ClientSide, Creation, Joined, PutPlace, RecordSide, ServerSetting, ServerSide, Standing, World, client_begun}
 use Rattle.ca_model_examples.specs.ServerRows.{slow, slow_name}
 use Rattle.ca_model_examples.specs.Worlds.{long, reply, step, temp, temp_name}
 

@@ -1,6 +1,6 @@
 -- Statement: what a client's calls and steps leave of a world: the core's answer, and how lists and logs grow (sections "Overall Client
 -- Operation", "Virtual Circuit" and "Name Searching").
-use Rattle.std.specs.Prelude.{ℕ, ◌≡◌, ◌≢◌, ◌<◌, ◌≤◌, ◌+◌, ◌==◌, ◌&&◌, ◌++◌, ◌⊎◌, Bool, true, false, not, List, [], ◌∷◌, Option, Some, None, Ok, Err, Result, drop, filter, find, if◌then◌else◌, is_some, length, map, nat_lt, option_and_then, option_map, replicate, slice_get, take, unwrap_or}
+use Rattle.std.specs.Prelude.{ℕ, ◌≡◌, ◌≢◌, ◌<◌, ◌+◌, ◌==◌, ◌&&◌, ◌++◌, ◌⊎◌, Bool, true, false, List, [], ◌∷◌, Option, Some, None, Ok, Err, Result, drop, filter, find, if◌then◌else◌, length, map, nat_lt, option_and_then, option_map, replicate, slice_get, take, unwrap_or}
 use Rattle.std.specs.List.{list_any}
 use Rattle.ca_arena.specs.declared.handle.Handle.{Handle}
 use Rattle.ca_dbr.specs.declared.value.Outcome.{Outcome}
@@ -12,7 +12,6 @@ use Rattle.ca_text.specs.declared.refusal.Refusal.{Refusal}
 use Rattle.ca_text.specs.declared.refusal.Refusal.TheVariants as refusal
 use Rattle.ca_text.specs.Limits.{circuit_queues}
 use Rattle.ca_text.specs.Place.{At}
-use Rattle.ca_wire.specs.Fields.{Fields}
 use Rattle.ca_model.specs.Answers.{Aim, Closing, Left, Notice, Sending, Stepped, Ticked}
 use Rattle.ca_model.specs.Answers as answer
 use Rattle.ca_model.specs.Client.{Client, out_bytes}
@@ -23,7 +22,7 @@ use Rattle.ca_model.specs.History.{Ask, Circuit, Intent, Line, On, OfCircuit, Se
 use Rattle.ca_model.specs.History as history
 use Rattle.ca_model.specs.Server.{Server}
 use Rattle.ca_model.specs.ServerSteps.{Accepts, Gives, Sends, output_of}
-use Rattle.ca_model_world.specs.World.{ClientSide, Joined, Names, ServerSide, ServerSetting, World, addresses, client_begun, log_length, with_circuit, with_client, with_lines, with_server}
+use Rattle.ca_model_world.specs.World.{ClientSide, Joined, Names, ServerSide, World, addresses, client_begun, log_length, with_circuit, with_client, with_lines, with_server}
 
 -- ---- what handles name
 

@@ -1,6 +1,6 @@
 -- Statement: what may happen to a world. Clients, servers and circuits are counted from 0, circuits in the order in which they were
 -- accepted; channels, requests and subscriptions by their client's accepted calls in its present life.
-use Rattle.std.specs.Prelude.{ℕ, Bool, List}
+use Rattle.std.specs.Prelude.{ℕ, List}
 use Rattle.ca_dbr.specs.Elements.{Elements}
 use Rattle.ca_records.specs.Record.{RecordState}
 use Rattle.ca_model.specs.Ends.{Address}

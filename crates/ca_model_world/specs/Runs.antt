@@ -1,5 +1,5 @@
 -- Statement: which events can be done, what each may leave, and runs of events.
-use Rattle.std.specs.Prelude.{ℕ, ◌≡◌, ◌<◌, ◌≤◌, ◌⊎◌, true, List, [], Option, Some, None, Err, length}
+use Rattle.std.specs.Prelude.{ℕ, ◌≡◌, ◌<◌, ◌≤◌, ◌⊎◌, true, List, [], Option, Some, Err, length}
 use Rattle.std.specs.List.{FoldsTo, range_with_len}
 use Rattle.ca_arena.specs.declared.handle.Handle.{Handle}
 use Rattle.ca_dbr.specs.Elements.{IsValue}

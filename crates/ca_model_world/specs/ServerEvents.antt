@@ -1,21 +1,18 @@
 -- Statement: what a server's calls and steps leave of a world: the core's answer, and how lists and logs grow (sections "Virtual
 -- Circuit", "CA Protocol Messages" and "Monitors").
-use Rattle.std.specs.Prelude.{ℕ, ◌≡◌, ◌≢◌, ◌<◌, ◌≤◌, ◌+◌, ◌==◌, ◌&&◌, ◌++◌, ◌⊎◌, Bool, true, false, not, List, [], ◌∷◌, Option, Some, None, Ok, Err, Result, drop, filter, find, if◌then◌else◌, is_some, length, map, nat_lt, option_and_then, option_map, option_to_list, slice_get, slice_set, take, unwrap_or}
+use Rattle.std.specs.Prelude.{ℕ, ◌≡◌, ◌≢◌, ◌+◌, ◌==◌, ◌&&◌, ◌++◌, ◌⊎◌, Bool, true, false, not, List, [], ◌∷◌, Option, Some, None, Ok, Err, drop, filter, find, if◌then◌else◌, is_some, length, map, nat_lt, option_and_then, option_map, slice_get, slice_set, take, unwrap_or}
 use Rattle.std.specs.List.{flat_map, fold, list_any}
 use Rattle.std.specs.Str.{bytes_eq}
 use Rattle.ca_arena.specs.declared.handle.Handle.{Handle}
 use Rattle.ca_dbr.specs.Elements.{Elements}
 use Rattle.ca_ids.specs.Table.{same_handle, under, with_all_freed}
 use Rattle.ca_ids.specs.Wire.{wire_of}
-use Rattle.ca_link.specs.Link.{LinkState}
 use Rattle.ca_queue.specs.declared.entry.SubKey.{SubKey}
 use Rattle.ca_queue.specs.Keys.{same}
 use Rattle.ca_queue.specs.Queue.{Queue, added, posted, switched, with_front_taken}
 use Rattle.ca_queue.specs.Waiting.{front}
 use Rattle.ca_records.specs.Puts.{Put, Record, WaitingPut, record_named}
 use Rattle.ca_records.specs.Record.{RecordState, unset}
-use Rattle.ca_text.specs.Command.{command_number}
-use Rattle.ca_text.specs.declared.command.Command.TheVariants as command
 use Rattle.ca_text.specs.declared.refusal.Refusal.{Refusal}
 use Rattle.ca_text.specs.declared.refusal.Refusal.TheVariants as refusal
 use Rattle.ca_text.specs.Limits.{queue_subscriptions}
@@ -26,12 +23,12 @@ use Rattle.ca_model.specs.Due.{Action, Adds, Applies, Clears, Drops, Opens, Swit
 use Rattle.ca_model.specs.Ends as why
 use Rattle.ca_model.specs.History.{Cause, Entry, Removal, Reply, Sent, Step, Told}
 use Rattle.ca_model.specs.History as entry
-use Rattle.ca_model.specs.Server.{Ended, Open, OpenChannel, Server, ServerCircuit, ServerEnd, Subscription, concerns, key_of, queue_posted, without_each}
-use Rattle.ca_model.specs.ServerCalls.{AddsRecord, AnswersDatagram, Finish, Finishes, Posts, Removes, channels_of}
+use Rattle.ca_model.specs.Server.{Ended, Open, OpenChannel, Server, ServerCircuit, ServerEnd, concerns, key_of, queue_posted, without_each}
+use Rattle.ca_model.specs.ServerCalls.{AddsRecord, AnswersDatagram, Finishes, Posts, Removes, channels_of}
 use Rattle.ca_model.specs.ServerSteps.{Cuts, Handles, HasEnd, LacksMemory, Next, Pumps, Stepped, StepsOpen, Update, closed, output_of, stored_now, write_mask}
 use Rattle.ca_model.specs.ServerSteps as stepped
-use Rattle.ca_model.specs.Speech.{In, Stored}
-use Rattle.ca_model_world.specs.World.{Creation, Joined, Joins, PutPlace, RecordSide, ServerSide, Standing, World, log_begun, log_length, record_begun, server_begun, with_circuit, with_entries, with_server}
+use Rattle.ca_model.specs.Speech.{Stored}
+use Rattle.ca_model_world.specs.World.{Creation, Joined, PutPlace, RecordSide, ServerSide, Standing, World, log_begun, log_length, record_begun, server_begun, with_circuit, with_entries, with_server}
 
 -- ---- ends at a server that ended
 
@@ -83,7 +80,7 @@ abbrev pub with_number : Joined → SubKey → Joined
 with_number j key = record j {
   standing = map (λ (s : Standing). if same key s.key then record s { posts = s.posts + 1 } else s) j.standing;
   queues =
-    fold (λ (qs : List (Queue (ℕ × Cause))) (s : Standing). if same key s.key then map (queue_posted key (s.place, entry.Update s.posts)) qs else qs) j.queues j.standing;
+      fold (λ (qs : List (Queue (ℕ × Cause))) (s : Standing). if same key s.key then map (queue_posted key (s.place, entry.Update s.posts)) qs else qs) j.queues j.standing;
 }
 
 -- the keys of the subscriptions at an end that a post concerns, in the order of their EVENT_ADDs

@@ -81,10 +81,11 @@ pub fills : (bytes behind : List ℕ) (m : Fields) (ip : ℕ) → StandsFirst by
 fills bytes behind m ip s below =
     let spells = s.spells in
     let new = refilled spells.head (header_of m) ip (m.payload ++ behind) bytes below spells.header (s.are ∙ spells-behind m s.front behind spells) in
-    let good : IsMessage (record m { p2 = ip }) = record { header = fits-p2 (header_of m) ip below spells.good.header; payload = spells.good.payload } in
-    (record {
+    let good : IsMessage (record m { p2 = ip }) = record { header = fits-p2 (header_of m) ip below spells.good.header; payload = spells.good.payload } in (
+      record {
         front = new.new ++ m.payload;
         spells = record { good = good; head = new.new; header = new.spells; are = refl };
         are = new.are ∙ sym (append_assoc new.new m.payload behind);
       },
-      omega (arith, ap length new.are, length-append new.new (m.payload ++ behind), ap length (s.are ∙ spells-behind m s.front behind spells), length-append spells.head (m.payload ++ behind), new.long))
+      omega (arith, ap length new.are, length-append new.new (m.payload ++ behind), ap length (s.are ∙ spells-behind m s.front behind spells), length-append spells.head (m.payload ++ behind), new.long),
+    )
