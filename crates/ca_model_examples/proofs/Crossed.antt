@@ -11,7 +11,7 @@ use Rattle.ca_model_safe.specs.Channels.{AreSteps, IsApplied, IsHeld, IsRequest,
 use Rattle.ca_model_safe.specs.Headline.{ActsOnRecord, AnswersOwn, CompletesOnce, FollowsRecord, NotTwice, Reads, Safe, Sees}
 use Rattle.ca_model_safe.specs.Legal.{Legal}
 use Rattle.ca_model_safe.specs.Known.{IsDue, IsSafe}
-use Rattle.ca_model_safe.specs.Means.{Means}
+use Rattle.ca_requests.specs.Meaning.{Means}
 use Rattle.ca_model.specs.Updates.{Shows}
 use Rattle.ca_model_examples.specs.Worlds.{AnyDue, adding, ports, rules, temp, temp_name}
 use Rattle.ca_model_examples.specs.Safe.{AnyMeans, SeesCrossed, crossed, crossed_lines, shared, shared_id, shared_lines, told_at}

@@ -10,7 +10,7 @@ use Rattle.ca_model.specs.Speech.{Cid, Clears, Gives, Heads, Id, Ioid, Is, Speak
 use Rattle.ca_model.specs.History.{Sent, Told, Step, Reply, Removal}
 use Rattle.ca_model_safe.specs.Channels.{AreSteps, IsReply, IsUncleared, Suits}
 use Rattle.ca_model_safe.specs.Headline.{Answered, AnswersOwn, HasCause, TakesOwn}
-use Rattle.ca_model_safe.specs.Means.{Means}
+use Rattle.ca_requests.specs.Meaning.{Means}
 use Rattle.ca_model.specs.Updates.{Shows}
 use Rattle.ca_model_examples.specs.Worlds.{AnyDue, adding, clearing, created_told, creating, disconnected, step}
 use Rattle.ca_model_examples.specs.Safe.{first_update, reopened, reopened_entries, reopened_lines}

@@ -11,7 +11,7 @@ use Rattle.ca_model.specs.Speech.{Clears, Creates, In}
 use Rattle.ca_model.specs.History.{Ask, Circuit, Intent, On, OfCircuit, Create, Line, Entry, Opened, Sent, Told, Added, Removed, Clear, Reply}
 use Rattle.ca_model_safe.specs.Channels.{Has, IsNamed, IsOpen, IsUse, KeepNames, before}
 use Rattle.ca_model_safe.specs.Headline.{Acted, ActsOnRecord}
-use Rattle.ca_model_safe.specs.Means.{Means}
+use Rattle.ca_requests.specs.Meaning.{Means}
 use Rattle.ca_model.specs.Updates.{Shows}
 use Rattle.ca_model_examples.specs.Worlds.{adding, clearing, created_told, creating, long, step, temp, temp_name}
 use Rattle.ca_model_examples.specs.Safe.{reopened, reopened_entries, reopened_lines}

@@ -12,7 +12,7 @@ use Rattle.ca_model.specs.Speech.{In, Is, Stored}
 use Rattle.ca_model.specs.History.{Cause, Reply, Removal, Circuit, Entry, Line, Sent, Told, Step, Added, Removed, Applied, Waits, Finished, Clear, Intent, On, Request, Read, Subscribe, Called, Update}
 use Rattle.ca_model_safe.specs.Channels.{IsFinished, IsReply, Lasts, OfCircuits}
 use Rattle.ca_model_safe.specs.Headline.{Acted, ActsOnRecord, Answered, AnswersOwn, IsBadChannel}
-use Rattle.ca_model_safe.specs.Means.{Means}
+use Rattle.ca_requests.specs.Meaning.{Means}
 use Rattle.ca_model.specs.Updates.{Shows}
 use Rattle.ca_model_examples.specs.Worlds.{AnyDue, Unsafe, adding, clearing, created_told, creating, disconnected, long, put_told, putting, reading, step, temp, world}
 use Rattle.ca_model_examples.specs.Unsafe.{FollowsNot, SlowDue, UnsafeSlow, answered, answered_cleared, answered_from_new, answered_unfinished, answered_withdrawn, applied_early, applied_twice, cleared, cleared_lines, disconnected_for_nothing, finished_entries, for_nothing, foreign_refusal, from_new, gone_for_nothing, in_other_step, invented_answer, live_lines, lost_for_nothing, lost_lines, put_lines, read_lines, read_told, read_twice, refused_for_nothing, refused_write, temp_there, unanswered, unanswered_put, unanswered_read, unfinished_entries, unsaid_creation, unsaid_refusal, update_of_refused, update_of_unhandled, updated, updates_sent, withdrawn_entries, writing}

@@ -10,7 +10,7 @@ use Rattle.ca_model.specs.Speech.{In, Stored}
 use Rattle.ca_model.specs.History.{Create, Clear, Request, Subscribe, Read, Put, Intent, On, OfCircuit, Reply, Circuit, Entry, Line, Sent, Added, Applied, Finished, Called, Noticed, Updated}
 use Rattle.ca_model_safe.specs.Channels.{IsApplied, IsOwnWrite, IsRequest, IsUse, Lasts, Stands, updates}
 use Rattle.ca_model_safe.specs.Headline.{CompletesOnce, NotTwice, Reads}
-use Rattle.ca_model_safe.specs.Means.{Means}
+use Rattle.ca_requests.specs.Meaning.{Means}
 use Rattle.ca_model.specs.Updates.{Shows}
 use Rattle.ca_model_examples.specs.Worlds.{created_told, creating, long, put_told, putting, reading, step, temp}
 use Rattle.ca_model_examples.specs.Safe.{used, used_entries, used_lines, used_world}

@@ -10,7 +10,7 @@ use Rattle.ca_wire.specs.Messages.{Wanted, clear_request, create_request, create
 use Rattle.ca_model.specs.Speech.{Stored}
 use Rattle.ca_model.specs.History.{Create, Clear, Request, Subscribe, Read, Put, On, Reply, Removal, Sent, Told, Step, Circuit, Entry, Line, World}
 use Rattle.ca_model_safe.specs.Headline.{Safe}
-use Rattle.ca_model_safe.specs.Means.{Means}
+use Rattle.ca_requests.specs.Meaning.{Means}
 use Rattle.ca_model.specs.Updates.{Shows}
 
 -- Any replies may be due for a message, now and late, and anything may be logged for it.

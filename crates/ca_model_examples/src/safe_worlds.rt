@@ -3,7 +3,7 @@ ghost use Rattle.ca_wire.specs.Fields.{Fields};
 ghost use Rattle.ca_model_safe.specs.Known.{IsSafe};
 ghost use Rattle.ca_model_safe.specs.Headline.{Safe};
 ghost use Rattle.ca_model_safe.specs.Legal.{Legal};
-ghost use Rattle.ca_model_safe.specs.Means.{Means};
+ghost use Rattle.ca_requests.specs.Meaning.{Means};
 ghost use Rattle.ca_model.specs.Updates.{Shows};
 ghost use Rattle.ca_model_examples.specs.Worlds.{AnyDue, ports, rules};
 ghost use Rattle.ca_model_examples.specs.Safe.{SeesCrossed, first_update, reopened_world, shared_id, used_world};

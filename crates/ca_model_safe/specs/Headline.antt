@@ -7,7 +7,8 @@ use Rattle.ca_dbr.specs.declared.value.Outcome.{Outcome}
 use Rattle.ca_dbr.specs.declared.value.Outcome.TheVariants.{Done, Failed, Disconnected}
 use Rattle.ca_dbr.specs.Elements.{Elements}
 use Rattle.ca_wire.specs.Fields.{Fields}
-use Rattle.ca_model.specs.Speech.{Id, Disconnects, Gives, In, Speaks, Stored, mask_in, sid_in}
+use Rattle.ca_model.specs.Speech.{Id, Disconnects, Gives, In, Speaks, Stored, sid_in}
+use Rattle.ca_wire.specs.Messages.{mask_in}
 use Rattle.ca_model.specs.History.{Ask, Create, Request, Subscribe, Put, Intent, On, Cause, Reply, Removal, Update}
 use Rattle.ca_model.specs.History.{Sent, Told, Step, Circuit, Entry, Removed, Finished, Withdrawn, Line, Called}
 use Rattle.ca_model.specs.History.{Noticed, Updated, World}

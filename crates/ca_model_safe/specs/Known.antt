@@ -23,7 +23,7 @@ use Rattle.ca_model.specs.Updates.{Shows}
 use Rattle.ca_model_safe.specs.Channels.{Has, IsOpen, Lasts}
 use Rattle.ca_model_safe.specs.Posts.{post_in}
 use Rattle.ca_model_safe.specs.Headline.{Accepted, Safe}
-use Rattle.ca_model_safe.specs.Means.{Means}
+use Rattle.ca_requests.specs.Meaning.{Means}
 
 -- ---- records, as the log says
 

@@ -1,8 +1,9 @@
--- Vocabulary: what outcome a message of the server means (sections "CA_PROTO_READ_NOTIFY", "CA_PROTO_WRITE_NOTIFY", "CA_PROTO_EVENT_ADD" and "CA_PROTO_ERROR").
-use Rattle.std.specs.Prelude.{◌≡◌, ◌≢◌, ◌++◌, ◌⊎◌, List, [], ℕ}
+-- Vocabulary: what outcome a message of the server means to the request, the subscription or the channel that it is about (sections
+-- "CA_PROTO_READ_NOTIFY", "CA_PROTO_WRITE_NOTIFY", "CA_PROTO_EVENT_ADD", "CA_PROTO_CREATE_CHAN" and "CA_PROTO_ERROR").
+use Rattle.std.specs.Prelude.{ℕ, ◌≡◌, ◌≢◌, ◌++◌, ◌⊎◌, List, []}
 use Rattle.ca_text.specs.Command.{command_number}
 use Rattle.ca_text.specs.declared.command.Command.TheVariants as command
-use Rattle.ca_text.specs.declared.refusal.Refusal.TheVariants as refusal
+use Rattle.ca_text.specs.declared.refusal.Refusal.TheVariants.{OutOfMemory}
 use Rattle.ca_text.specs.Status.{normal}
 use Rattle.ca_dbr.specs.declared.data_type.DataType.{DataType}
 use Rattle.ca_dbr.specs.declared.value.Outcome.{Outcome}
@@ -14,24 +15,37 @@ use Rattle.ca_wire.specs.declared.header.Header.{Header}
 use Rattle.ca_wire.specs.Fields.{Fields}
 use Rattle.ca_wire.specs.Header.{HeaderSpells}
 
--- a message that may carry a value: a reply to a read, or an update, which has a payload
-abbrev pub MayCarry : Fields → Type 0
-MayCarry m = (m.command ≡ command_number command.ReadNotify) ⊎ ((m.command ≡ command_number command.EventAdd) × (m.payload ≢ []))
+-- An image means its value, or why it has none; another status means that the read failed ("CA_PROTO_READ_NOTIFY",
+-- "CA_PROTO_EVENT_ADD").
+abbrev pub ImageMeans : Fields → Outcome → Type 0
+ImageMeans m (outcome.Value v meta) = (m.p1 ≡ normal) × (t : DataType) × (type_number t ≡ m.data_type)
+    × Reads t m.count m.payload (elements v) meta
+ImageMeans m (outcome.Unreadable e) = (m.p1 ≡ normal) × (e ≢ OutOfMemory) × ReadRefused m.data_type m.count m.payload e
+ImageMeans m (outcome.Failed status) = (m.p1 ≢ normal) × (status.number ≡ m.p1)
+ImageMeans m o = ⊥
 
--- a message that carries a status of its own: one that may carry a value, or the reply to a put
-abbrev pub HasStatus : Fields → Type 0
-HasStatus m = MayCarry m ⊎ (m.command ≡ command_number command.WriteNotify)
+-- A status means that a put is done or failed ("CA_PROTO_WRITE_NOTIFY").
+abbrev pub StatusMeans : Fields → Outcome → Type 0
+StatusMeans m outcome.Done = m.p1 ≡ normal
+StatusMeans m (outcome.Failed status) = (m.p1 ≢ normal) × (status.number ≡ m.p1)
+StatusMeans m o = ⊥
 
--- A message means its value, or why its payload has none; that a put is done; or, with another status than NORMAL, that status. An
--- ERROR means its status.
+-- A channel is created ("CA_PROTO_CREATE_CHAN").
+abbrev pub CreationMeans : Outcome → Type 0
+CreationMeans outcome.Done = Unit {0}
+CreationMeans o = ⊥
+
+-- An ERROR means that its request failed ("CA_PROTO_ERROR").
+abbrev pub ErrorMeans : Fields → Outcome → Type 0
+ErrorMeans m (outcome.Failed status) = status.number ≡ m.p2
+ErrorMeans m o = ⊥
+
+-- A message means an outcome, by its command. An EVENT_ADD without payload is no update: it confirms a cancel.
 abbrev pub Means : Fields → Outcome → Type 0
-Means m (outcome.Value v meta) =
-    MayCarry m × (m.p1 ≡ normal) × (t : DataType) × (type_number t ≡ m.data_type) × Reads t m.count m.payload (elements v) meta
-Means m (outcome.Unreadable e) = MayCarry m × (m.p1 ≡ normal) × (e ≢ refusal.OutOfMemory) × ReadRefused m.data_type m.count m.payload e
-Means m outcome.Done = (m.command ≡ command_number command.WriteNotify) × (m.p1 ≡ normal)
-Means m (outcome.Failed status) =
-    (HasStatus m × (m.p1 ≢ normal) × (status.number ≡ m.p1)) ⊎ ((m.command ≡ command_number command.Error) × (status.number ≡ m.p2))
-Means m outcome.Disconnected = ⊥
+Means m o =
+    (((m.command ≡ command_number command.ReadNotify) ⊎ ((m.command ≡ command_number command.EventAdd) × (m.payload ≢ []))) × ImageMeans m o)
+    ⊎ (((m.command ≡ command_number command.WriteNotify) × StatusMeans m o) ⊎ (((m.command ≡ command_number command.CreateChannel) × CreationMeans o)
+    ⊎ ((m.command ≡ command_number command.Error) × ErrorMeans m o)))
 
 -- An ERROR quotes the complete header of the request that failed, before its text.
 pub record QuotesHeader (m : Fields) (h : Header) : Type 0 where
