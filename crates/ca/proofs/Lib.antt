@@ -1,4 +1,5 @@
-pub mod Reading
+pub mod Asking
+pub mod Escaping
 pub mod RepeaterReading
 pub mod Repeatings
 pub mod ReplayReading

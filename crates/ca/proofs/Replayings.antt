@@ -26,17 +26,17 @@ made-report script s stop world events counted n before text reads same runs saf
   is = is ∙ ap₂ (λ (b : List ℕ) (m : ℕ). b ++ report_text world m) empty (count ∙ ap (λ (es : List Event). length (done es stop)) same_counted);
 }
 
-module _ {K : Type 0} (takes : K → List ℕ → K → Type 0) (script : List ℕ) (k0 k : K) where
-  ends-stopped : (place : ℕ) (why : Refusal) (text : List ℕ) → Reported script (Some (place, why)) text → takes k0 text k → Replays takes script k0 k (Err why)
+module _ {K : Type 0} (takes : K → List ℕ → K → Type 0) (faults : K → ℕ) (script : List ℕ) (k0 k : K) where
+  ends-stopped : (place : ℕ) (why : Refusal) (text : List ℕ) → Reported script (Some (place, why)) text → takes k0 text k → Replays takes faults script k0 k (Err why)
   ends-stopped place BadEvent text reported took = (place, (text, reported, took))
   ends-stopped place OutOfMemory text reported took = inr (place, (text, reported, took))
   ends-stopped place _ text reported took = absurd reported.stopped
 
-  ends : (stop : Option (ℕ × Refusal)) (text : List ℕ) → Reported script stop text → takes k0 text k → Replays takes script k0 k (ended stop)
+  ends : (stop : Option (ℕ × Refusal)) (text : List ℕ) → Reported script stop text → takes k0 text k → Replays takes faults script k0 k (ended stop)
   ends None text reported took = (text, reported, took)
   ends (Some p) text reported took = ends-stopped p.0 p.1 text reported took
 
   -- a run whose report was taken ends as it stopped
-  pub ends-told : (stop : Option (ℕ × Refusal)) (text bytes : List ℕ) (r : Result (Unit {0}) Refusal) → Reported script stop text → bytes ≡ text → takes k0 bytes k → r ≡ ended stop → Replays takes script k0 k r
+  pub ends-told : (stop : Option (ℕ × Refusal)) (text bytes : List ℕ) (r : Result (Unit {0}) Refusal) → Reported script stop text → bytes ≡ text → takes k0 bytes k → r ≡ ended stop → Replays takes faults script k0 k r
   ends-told stop text bytes r reported same took is =
-      subst (λ (x : Result (Unit {0}) Refusal). Replays takes script k0 k x) (sym is) (ends stop text reported (subst (λ (b : List ℕ). takes k0 b k) same took))
+      subst (λ (x : Result (Unit {0}) Refusal). Replays takes faults script k0 k x) (sym is) (ends stop text reported (subst (λ (b : List ℕ). takes k0 b k) same took))

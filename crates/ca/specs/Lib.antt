@@ -1,5 +1,6 @@
 pub mod Decimal
-pub mod Grammar
+pub mod Lines
+pub mod Programs
 pub mod RepeaterWords
 pub mod Repeating
 pub mod ReplayWords
@@ -7,5 +8,4 @@ pub mod Replaying
 pub mod Runs
 pub mod Standing
 pub mod Status
-pub mod Strange
 pub mod Words

@@ -1,9 +1,7 @@
 -- The words of `repeater [--port P] [--datagrams N]`.
-use Rattle.std.specs.Prelude.{ℕ, ◌≡◌, List, [], ◌∷◌, Option, None, Some, true, false, codes, ⊤}
+use Rattle.std.specs.Prelude.{ℕ, ◌≡◌, List, [], Option, None, Some, true, false, codes, ⊤}
 use Rattle.clap.specs.Words.{App, Rule, Text, fault_of, first_of, matches_of, new_app, new_rule, with_rule}
-use Rattle.ca.specs.declared.repeater_line.RepeaterLine.{RepeaterLine}
-use Rattle.ca.specs.declared.line.Line.{Line}
-use Rattle.ca.specs.declared.line.Line.TheVariants.{Answer, Repeater, Replay}
+use Rattle.ca.specs.declared.repeater.line.RepeaterLine.{RepeaterLine}
 use Rattle.ca.specs.Decimal.{IsDecimal}
 use Rattle.ca.specs.Words.{has_escape}
 
@@ -42,22 +40,11 @@ abbrev pub IsMeant : Option Text → Option Text → Option RepeaterLine → Typ
 IsMeant port datagrams (Some line) = Means port datagrams line
 IsMeant port datagrams None = (line : RepeaterLine) → Means port datagrams line → ⊥
 
--- The words behind `repeater` ask for this line: clap finds no fault in them, and their options mean it.
+-- The words after `repeater` ask for this line: clap finds no fault in them, and their options mean it.
 abbrev pub Asks : List Text → RepeaterLine → Type 0
-Asks words line = (fault_of repeater_app words ≡ []) × Means (given (codes "port") words) (given (codes "datagrams") words) line
+Asks words line = (has_escape words ≡ false) × (fault_of repeater_app words ≡ []) × Means (given (codes "port") words) (given (codes "datagrams") words) line
 
--- What was read of the words behind `repeater`: the line that they ask for, or nothing where they ask for none.
+-- What was read of the words after `repeater`: the line that they ask for, or nothing where they ask for none.
 abbrev pub IsAsked : List Text → Option RepeaterLine → Type 0
 IsAsked words (Some line) = Asks words line
 IsAsked words None = (line : RepeaterLine) → Asks words line → ⊥
-
--- All words ask for this line.
-abbrev pub AsksRepeater : List Text → RepeaterLine → Type 0
-AsksRepeater words line = (has_escape words ≡ false) × ((rest : List Text) × (words ≡ codes "repeater" ∷ rest) × Asks rest line)
-
--- What was read of all words tells whether they ask for a repeater, and for which.
-abbrev pub TellsRepeater : List Text → Option Line → Type 0
-TellsRepeater words (Some (Repeater line)) = AsksRepeater words line
-TellsRepeater words (Some Answer) = (line : RepeaterLine) → AsksRepeater words line → ⊥
-TellsRepeater words (Some (Replay script)) = (line : RepeaterLine) → AsksRepeater words line → ⊥
-TellsRepeater words None = (line : RepeaterLine) → AsksRepeater words line → ⊥

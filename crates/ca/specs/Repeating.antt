@@ -1,13 +1,16 @@
 -- What the host's repeater does with the datagrams that come, over any device that carries them (section "CA Repeater").
 -- A datagram came, went or was refused, or a receive failed: each may lead the device from a first state to a second.
-use Rattle.std.specs.Prelude.{ℕ, ◌≡◌, ◌<◌, ◌⊎◌, zero, suc, not, filter, List, [], ◌∷◌, Vec, Result, Ok, Err}
+use Rattle.std.specs.Prelude.{ℕ, ◌≡◌, ◌<◌, ◌⊎◌, ◌-◌, ◌^◌, zero, suc, not, filter, List, [], ◌∷◌, Option, None, Some, Vec, Result, Ok, Err}
 use Rattle.std.specs.declared.alloc.Global.{Global}
 use Rattle.ca_text.specs.declared.refusal.Refusal.{Refusal}
 use Rattle.ca_text.specs.declared.refusal.Refusal.TheVariants.{Device, OutOfMemory}
+use Rattle.ca_link.specs.declared.source.Fault.{Fault}
 use Rattle.ca_repeat.specs.declared.address.Address.{Address}
 use Rattle.ca_repeat.specs.Addresses.{same}
 use Rattle.ca_repeat.specs.Sent.{Sent}
 use Rattle.ca_repeat.specs.Fan.{Receives}
+use Rattle.ca.specs.declared.repeater.line.RepeaterLine.{RepeaterLine}
+use Rattle.ca.specs.Status.{status_of}
 
 module _ {D : Type 0} (went refuses : D → Address → List ℕ → D → Type 0) where
   -- One datagram is sent, or refused: then the member to whom it went is dropped.
@@ -46,10 +49,27 @@ module _ {D : Type 0} (went refuses : D → Address → List ℕ → D → Type 
       Takes s members (Err _) t after = ⊥
 
       -- A run for n datagrams, with this outcome: it ends well only after n rounds; refused as `Device` where a receive
-      -- failed after fewer; and for want of memory before it began, or at a datagram that came after fewer.
+      -- failed after fewer; and out of memory before it began, or at a datagram that came after fewer.
       abbrev pub Repeats : ℕ → D → Result (Unit {0}) Refusal → D → Type 0
       Repeats n s0 (Ok _) s = (members : List Address) × Rounds n s0 s members
       Repeats n s0 (Err Device) s = (i : ℕ) × (mid : D) × (members : List Address) × (i < n) × Rounds i s0 mid members × fails mid s
       Repeats n s0 (Err OutOfMemory) s =
           (s ≡ s0) ⊎ ((i : ℕ) × (mid : D) × (members : List Address) × (from : Address) × (bytes : List ℕ) × (i < n) × Rounds i s0 mid members × came mid from bytes s)
       Repeats n s0 (Err _) s = ⊥
+
+      -- so many datagrams at most; without a number so many that they never come
+      abbrev pub limit_of : Option ℕ → ℕ
+      limit_of None = 2 ^ 64 - 1
+      limit_of (Some n) = n
+
+      -- A run for so many datagrams at most ended with some outcome, which has this exit status.
+      pub record RepeatsTo (limit : Option ℕ) (s0 s : D) (status : ℕ) : Type 0 where
+        pub outcome : Result (Unit {0}) Refusal
+        pub repeats : Repeats (limit_of limit) s0 outcome s
+        pub told : status ≡ status_of outcome
+
+      -- The line's repeater ran on what was bound, and has this exit status: 1 where nothing was bound, or where the port
+      -- that the system chose could not be told.
+      abbrev pub RepeatsFrom : Result D Fault → RepeaterLine → ℕ → Type 0
+      RepeatsFrom (Err _) line status = status ≡ 1
+      RepeatsFrom (Ok s0) line status = ((line.port ≡ 0) × (status ≡ 1)) ⊎ ((s : D) × RepeatsTo line.datagrams s0 s status)

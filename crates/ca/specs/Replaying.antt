@@ -1,5 +1,5 @@
 -- What the replay of a script comes to: its events are done in a world, and the world's report goes to a sink.
-use Rattle.std.specs.Prelude.{ℕ, ◌≡◌, ◌⊎◌, List, Option, None, Some, Result, Ok, Err, length, take}
+use Rattle.std.specs.Prelude.{ℕ, ◌≡◌, ◌<◌, ◌⊎◌, List, Option, None, Some, Result, Ok, Err, IfSome, length, take}
 use Rattle.ca_text.specs.declared.refusal.Refusal.{Refusal}
 use Rattle.ca_text.specs.declared.refusal.Refusal.TheVariants.{BadEvent, BadText, Device, OutOfMemory}
 use Rattle.ca_small_model.specs.Safe.{Safe}
@@ -27,17 +27,18 @@ abbrev pub ended : Option (ℕ × Refusal) → Result (Unit {0}) Refusal
 ended None = Ok tt
 ended (Some p) = Err p.1
 
-module _ {K : Type 0} (takes : K → List ℕ → K → Type 0) (script : List ℕ) (k0 k : K) where
+module _ {K : Type 0} (takes : K → List ℕ → K → Type 0) (faults : K → ℕ) (script : List ℕ) (k0 k : K) where
   -- From k0 to k the sink took the report of a run that ended so.
   abbrev pub Tells : Option (ℕ × Refusal) → Type 0
   Tells stop = (text : List ℕ) × Reported script stop text × takes k0 text k
 
-  -- It failed behind the first bytes of a report.
+  -- It failed after the first bytes of a report.
   abbrev pub BreaksOff : Type 0
-  BreaksOff = (stop : Option (ℕ × Refusal)) × (text : List ℕ) × (n : ℕ) × Reported script stop text × takes k0 (take n text) k
+  BreaksOff = (stop : Option (ℕ × Refusal)) × (text : List ℕ) × (n : ℕ) × Reported script stop text × takes k0 (take n text) k × (faults k0 < faults k)
 
   -- The replay ended so: well with the report of all events; at an event that cannot be done with the report of those
-  -- before it; for want of memory with such a report or with nothing; with nothing where the script does not read.
+  -- before it; out of memory with such a report or with nothing; with nothing where the script does not read; refused as
+  -- `Device` where the sink failed.
   abbrev pub Replays : Result (Unit {0}) Refusal → Type 0
   Replays (Ok _) = Tells None
   Replays (Err BadText) = (k ≡ k0) × ((said : Reading) → AddsAll nothing (lines_of script) said → ⊥)
@@ -51,3 +52,13 @@ module _ {K : Type 0} (takes : K → List ℕ → K → Type 0) (script : List �
     pub outcome : Result (Unit {0}) Refusal
     pub replays : Replays outcome
     pub told : status ≡ status_of outcome
+
+-- These are the bytes that a file still gave, all of them where they are known.
+abbrev pub Gives : {F E : Type 0} → (F → Option (List ℕ)) → Result F E → List ℕ → Type 0
+Gives remaining (Ok file) bytes = IfSome (remaining file) (λ all. bytes ≡ all)
+Gives remaining (Err _) bytes = ⊥
+
+-- The script of a file was replayed; or none could be read, and the sink took nothing.
+abbrev pub ReplaysFrom : {F E K : Type 0} → (F → Option (List ℕ)) → (K → List ℕ → K → Type 0) → (K → ℕ) → Result F E → K → K → ℕ → Type 0
+ReplaysFrom remaining takes faults file k0 k status =
+    ((k ≡ k0) × (status ≡ 1)) ⊎ ((script : List ℕ) × Gives remaining file script × ReplaysTo takes faults script k0 k status)

@@ -6,3 +6,7 @@ use Rattle.ca_text.specs.declared.refusal.Refusal.{Refusal}
 abbrev pub status_of : Result (Unit {0}) Refusal → ℕ
 status_of (Ok _) = 0
 status_of (Err _) = 1
+
+-- the words were not understood
+abbrev pub not_understood_status : ℕ
+not_understood_status = 2

@@ -1,11 +1,7 @@
--- The words behind the program's name.
-use Rattle.std.specs.Prelude.{Bool, List, [], ◌∷◌, ℕ, codes}
+-- The words after the program's name.
+use Rattle.std.specs.Prelude.{Bool, List, ℕ, codes}
 use Rattle.std.specs.List.{list_any}
 use Rattle.std.specs.Str.{bytes_eq}
-
--- the one line that is understood
-abbrev pub answer_words : List (List ℕ)
-answer_words = codes "answer" ∷ []
 
 -- some word is the one at which options end
 abbrev pub has_escape : List (List ℕ) → Bool

@@ -2,32 +2,17 @@
 #![tactic(auto)]
 
 mod answer;
-mod console;
-mod datagrams;
 mod decimal;
 mod line;
+mod outcome;
 mod program;
 mod repeater;
-mod repeater_line;
 mod replay;
-mod replay_line;
-mod script_file;
-mod standing;
+mod words;
 
-pub use answer::{answer_run, report, serve};
-pub use console::answer_console;
-pub use datagrams::Datagrams;
+pub use answer::{answer_run, serve, standing_records};
 pub use line::{Line, read_line};
-pub use program::{not_understood, run};
-pub use repeater::{repeat, repeater_run};
-pub use repeater_line::RepeaterLine;
-pub use replay::replay_run;
-pub use replay_line::ReplayLine;
-pub use standing::standing_records;
-
-#[cfg(test)]
-mod tests;
-#[cfg(test)]
-mod tests_repeater;
-#[cfg(test)]
-mod tests_replay;
+pub use outcome::{not_understood, report};
+pub use program::run;
+pub use repeater::{Datagrams, RepeaterLine, Socket, repeat, repeater_bound, repeater_run};
+pub use replay::{ReplayLine, replay_file, replay_run};

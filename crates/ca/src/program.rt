@@ -1,52 +1,42 @@
-ghost use Rattle.std.specs.Prelude.{◌≡◌, ◌≤◌, ℕ, List, map, string_bytes};
-ghost use Rattle.ca.specs.declared.repeater_line.RepeaterLine.{RepeaterLine};
-ghost use Rattle.ca.specs.RepeaterWords.{AsksRepeater};
-ghost use Rattle.ca.specs.ReplayWords.{AsksReplay};
-ghost use Rattle.ca.specs.Strange.{IsStrange};
-ghost use Rattle.ca.specs.Words.{answer_words};
+ghost use Rattle.std.specs.Prelude.{◌<◌, ◌^◌, map, string_bytes};
+ghost use Rattle.ca.specs.Programs.{Ends};
 
-use crate::answer::report;
-use crate::console::answer_console;
+use crate::answer::answer_run;
 use crate::line::{Line, read_line};
-use crate::repeater::repeater_bound;
-use crate::script_file::replay_file;
+use crate::outcome::{not_understood, report};
+use crate::repeater::{Socket, repeater_bound};
+use crate::replay::replay_file;
+use ca_link::{Sink, Source};
 use std::alloc::Global;
-use std::io::{Read, Write};
+use std::fs::File;
+use std::io::Write;
 use std::net::Net;
 use std::rt::Files;
 
-/// The exit status of a line that is not understood.
-const NOT_UNDERSTOOD: u8 = 2;
-
-/// Runs the program on the words behind its name, and gives the exit status.
-pub fn run<R: Net + Files, I: Read + Drop, O: Write + Drop, E: Write>(
+/// Runs the program on the words after its name, and returns the exit status.
+pub fn run<R: Net + Files, S: Source, K: Sink, W: Write>(
     system: &R,
     alloc: Global,
     words: &[String],
-    input: I,
-    mut output: O,
-    err: &mut E,
+    source: &mut S,
+    sink: &mut K,
+    err: &mut W,
 ) -> u8
-    ensures within { result ≤ 2 }
-    ensures understood { map string_bytes words.now ≡ answer_words → result ≤ 1 }
-    ensures repeats { (line : RepeaterLine) → AsksRepeater (map string_bytes words.now) line → result ≤ 1 }
-    ensures replays { (file : List ℕ) → AsksReplay (map string_bytes words.now) file → result ≤ 1 }
-    ensures refused { IsStrange (map string_bytes words.now) → 1 ≤ result }
+    requires source_calls { S.call_count source.old < 2 ^ 63 }
+    requires source_faults { S.fault_count source.old < 2 ^ 63 }
+    requires sink_calls { K.call_count sink.old < 2 ^ 63 }
+    requires sink_faults { K.fault_count sink.old < 2 ^ 63 }
+    ensures { Ends S.gives K.takes S.call_count K.call_count S.fault_count K.fault_count source.old source.new sink.old sink.new result (map string_bytes words.now) }
 {
     match read_line(alloc, words) {
-        Ok(Some(Line::Answer)) => answer_console(alloc, None, input, output, err),
-        Ok(Some(Line::Repeater(line))) => repeater_bound(system, alloc, line, &mut output, err),
-        Ok(Some(Line::Replay(line))) => replay_file(system, alloc, line, output, err),
+        Ok(Some(Line::Answer)) => answer_run(alloc, None, source, sink, err),
+        Ok(Some(Line::Repeater(line))) => {
+            repeater_bound(alloc, Socket::bind(system, line.port), line, sink, err)
+        }
+        Ok(Some(Line::Replay(line))) => {
+            replay_file(alloc, File::open(system, line.file), sink, err)
+        }
         Ok(None) => not_understood(err),
         Err(refusal) => report(Err(refusal), err),
     }
-}
-
-/// Tells that the words were not understood, and gives the exit status for that.
-pub fn not_understood<E: Write>(err: &mut E) -> u8
-    ensures { result ≡ 2 }
-{
-    // Where this cannot be written the status alone tells.
-    let _told = writeln!(err, "not understood");
-    NOT_UNDERSTOOD
 }

@@ -7,8 +7,6 @@ ghost use Rattle.ca_arena.specs.Arena.{empty, find, live_count, free_slots, IsLi
 
 use crate::handle::Handle;
 use ca_text::{ARENA_SLOTS, LAST_GENERATION, Refusal};
-#[cfg(test)]
-use std::alloc::AllocError;
 use std::alloc::Global;
 use std::marker::Model;
 use std::mem;
@@ -213,26 +211,6 @@ impl<T> Arena<T> {
         ensures { IsTrue result ↔ IsLive self.now handle }
     {
         self.get(handle).is_some()
-    }
-}
-
-#[cfg(test)]
-impl Arena<u32> {
-    /// An arena of which index 0 is free, and has one generation left.
-    pub(crate) fn with_one_generation_left(alloc: Global) -> Result<Self, AllocError> {
-        let mut slots = Vec::new(alloc);
-        slots.push(Slot {
-            generation: LAST_GENERATION - 1,
-            value: None,
-        })?;
-        let mut freed = Vec::new(alloc);
-        freed.push(0)?;
-        let retired = 0;
-        Ok(Arena {
-            slots,
-            freed,
-            retired,
-        })
     }
 }
 

@@ -7,8 +7,6 @@
 mod arena;
 mod handle;
 mod laws;
-#[cfg(test)]
-mod tests;
 
 pub use arena::Arena;
 pub use handle::Handle;

@@ -8,6 +8,3 @@ mod table;
 pub use clock::BeaconClock;
 pub use laws::waits_double;
 pub use table::BeaconTable;
-
-#[cfg(test)]
-mod tests;

@@ -52,7 +52,7 @@ grabs_kept s id k g ts fs rs cs taker r inside is seat = let log' : CoreLog = co
   each_wait = λ t has un. wait_same s.words s.views id _ _ t seat (λ t' h. h) (r.each_wait t has un);
   each_refusal = λ i t h. given_stays s.views id _ _ t seat (λ t' x. x) (r.each_refusal i t h);
   each_seat = seats_stay (SeatOk id log' taker s.words) s.views id (core_view log' no_caller) (core_ok id log' taker s.words)
-      (λ j v other at. let ok = r.each_seat j v at in record { core = λ y. absurd (other (ok.core y).0); takes = ok.takes; gives = ok.gives; hand = ok.hand });
+      (λ j v other at. let ok = r.each_seat j v at in record { core = λ y. absurd (other (ok.core y).0); takes = ok.takes; gives = ok.gives; seen = ok.seen; hand = ok.hand });
 }
 
 -- a ticket that does not wait was given up
@@ -81,7 +81,7 @@ refuses_kept s id t₀ hand ts fs rs cs taker r gone seat = let log' : CoreLog =
   each_wait = λ t has un. wait_same s.words s.views id _ _ t seat (λ t' h. h) (r.each_wait t has un);
   each_refusal = λ i t h. given_stays s.views id _ _ t seat (λ t' x. x) (⊎_elim (λ was. r.each_refusal i t was) (λ (is : t₀ ≡ t). subst (IsGivenUp s.views) is gone) (at_snoc rs t₀ t i h));
   each_seat = seats_stay (SeatOk id log' taker s.words) s.views id (core_view log' no_caller) (core_ok id log' taker s.words)
-      (λ j v other at. let ok = r.each_seat j v at in record { core = λ y. absurd (other (ok.core y).0); takes = ok.takes; gives = ok.gives; hand = ok.hand });
+      (λ j v other at. let ok = r.each_seat j v at in record { core = λ y. absurd (other (ok.core y).0); takes = ok.takes; gives = ok.gives; seen = ok.seen; hand = ok.hand });
 }
 
 pub grabs_as : (slots id k g first second : ℕ) (m : Sat) (ts : List Ticket) (fs : List Entry) (rs cs : List Ticket) → m ≡ core_sat ts fs rs cs 0 [] → Has ts (ticket k g) → IsUnfilled fs (ticket k g) → first ≡ 8 * g + 1 → second ≡ 8 * g + 1
@@ -219,7 +219,7 @@ returns_kept s id k ts fs rs cs taker r inside seat = let log' : CoreLog = core_
   each_wait = λ t has un. wait_same s.words s.views id _ _ t seat (λ t' h. h) (r.each_wait t has un);
   each_refusal = λ i t h. given_stays s.views id _ _ t seat (λ t' x. x) (r.each_refusal i t h);
   each_seat = seats_stay (SeatOk id log' taker s.words) s.views id (core_view log' no_caller) (core_ok id log' taker s.words)
-      (λ j v other at. let ok = r.each_seat j v at in record { core = λ y. absurd (other (ok.core y).0); takes = ok.takes; gives = ok.gives; hand = ok.hand });
+      (λ j v other at. let ok = r.each_seat j v at in record { core = λ y. absurd (other (ok.core y).0); takes = ok.takes; gives = ok.gives; seen = ok.seen; hand = ok.hand });
 }
 
 pub returns_as : (slots id k : ℕ) (m : Sat) (ts : List Ticket) (fs : List Entry) (rs cs : List Ticket) → m ≡ core_sat ts fs rs cs (suc k) ((k, None) ∷ []) → k < slots

@@ -8,3 +8,4 @@ pub mod Start
 pub mod After
 pub mod Outstanding
 pub mod Seated
+mod Parting

@@ -11,13 +11,16 @@ use Rattle.ca_board.proofs.Stock.{at_snoc_index, at_inside}
 use Rattle.ca_board.specs.declared.ticket.Ticket.{Ticket}
 use Rattle.ca_board.specs.declared.steps.CoreLog.{CoreLog}
 use Rattle.ca_board.specs.declared.steps.View.{View}
-use Rattle.ca_board.specs.History.{Has, Entry, Sat, IsUnfilled, core_log, caller_log, no_caller, core_view, caller_view, IsGivenUp, WaitOk, SeatOk, Kept, compared, core_part, caller_part, both_parts, nobody}
+use Rattle.ca_board.specs.History.{Has, Entry, Reading, Sat, IsUnfilled, core_log, caller_log, no_caller, core_view, caller_view, IsGivenUp, WaitOk, SeatOk, Kept, compared, core_part, caller_part, both_parts, nobody}
 use Rattle.ca_board.proofs.Rule.{Takers, seats_stay, More, given_stays, wait_by, wait_same, no_tickets, still, core_sat, no_takes}
 use Rattle.ca_board.proofs.Collecting.{pick, pick_yes, pick_no, caller_sat, off}
 
+none_seen : {A : Type 0} (i : ℕ) (x : Reading) → get_elem? {A = Reading} [] i ≡ some x → A
+none_seen i x at = absurd (some-ne-none x (sym at))
+
 -- a seat that knows nothing
 pub nobody_ok : (keeper : ℕ) (log : CoreLog) (taker : Takers) (ws : List ℕ) (j : ℕ) → SeatOk keeper log taker ws j nobody
-nobody_ok keeper log taker ws j = record { core = λ y. off y; takes = λ i e at. no_takes i e at; gives = λ i t at. no_tickets i t at; hand = λ k is. absurd (omega arith) }
+nobody_ok keeper log taker ws j = record { core = λ y. off y; takes = λ i e at. no_takes i e at; gives = λ i t at. no_tickets i t at; seen = λ i x at. none_seen i x at; hand = λ k is. absurd (omega arith) }
 
 -- a give-up stays where a seat is added
 pub given_longer : (vs : List View) (x : View) (t : Ticket) → IsGivenUp vs t → IsGivenUp (vs ++ x ∷ []) t
@@ -60,11 +63,12 @@ elsewhere keeper log taker ws a b j v other ok = record {
   core = ok.core;
   takes = λ i e at. let t = ok.takes i e at in (t.0, moved_not a b _ (λ z. other (sym (ap (λ (x : ℕ × ℕ). x.0) t.1) ∙ z)) ∙ t.1, t.2);
   gives = ok.gives;
+  seen = ok.seen;
   hand = λ c is. let p = ok.hand c is in (p.0, ap (λ (x : ℕ × ℕ). x.0) (moved_not a b (taker c v.caller.round) (λ z. other (sym p.1 ∙ z))) ∙ p.1);
 }
 
-abbrev pub met_view : List Ticket → List Entry → List Entry → List Ticket → List Ticket → List Ticket → View
-met_view ts fs tk gs rs cs = core_view (core_log ts fs rs cs 0) (caller_log tk gs 0 0)
+abbrev pub met_view : List Ticket → List Entry → List Entry → List Ticket → List Ticket → List Ticket → List Reading → View
+met_view ts fs tk gs rs cs sn = core_view (core_log ts fs rs cs 0) (caller_log tk gs sn 0 0)
 
 -- a give-up stays where a seat takes in another's
 pub given_joined : (vs : List View) (id other : ℕ) (v w u x : View) (t : Ticket) → get_elem? vs id ≡ some v → get_elem? vs other ≡ some w → other ≢ id → More v u → More w u → IsGivenUp vs t → IsGivenUp (set (set vs id u) other x) t
@@ -81,8 +85,8 @@ given_parted vs id u v w t at more h = dite (ℕ_discrete h.0 id)
     (λ e. let same : h.1 ≡ u = some-injective _ _ (sym h.2 ∙ (ap (λ j. get_elem? vs j) e ∙ at)) in (length (set vs id v), w, at_last (set vs id v) w (length (set vs id v)) refl, more t (subst (λ (y : View). Has y.caller.gives t) same h.3)))
     (λ ne. (h.0, h.1, at_longer (set vs id v) (w ∷ []) h.0 h.1 (set_else vs id h.0 v ne ∙ h.2), h.3))
 
-pub joins_both : (id other : ℕ) (ts : List Ticket) (fs tk : List Entry) (gs rs cs : List Ticket) → Joins Kept id (core_view (core_log ts fs rs cs 0) no_caller) other (caller_view (caller_log tk gs 0 0)) (met_view ts fs tk gs rs cs) nobody
-joins_both id other ts fs tk gs rs cs s r at apart there = let v : View = core_view (core_log ts fs rs cs 0) no_caller in let w : View = caller_view (caller_log tk gs 0 0) in let u : View = met_view ts fs tk gs rs cs in let t = r.3 in
+pub joins_both : (id other : ℕ) (ts : List Ticket) (fs tk : List Entry) (gs rs cs : List Ticket) (sn : List Reading) → Joins Kept id (core_view (core_log ts fs rs cs 0) no_caller) other (caller_view (caller_log tk gs sn 0 0)) (met_view ts fs tk gs rs cs sn) nobody
+joins_both id other ts fs tk gs rs cs sn s r at apart there = let v : View = core_view (core_log ts fs rs cs 0) no_caller in let w : View = caller_view (caller_log tk gs sn 0 0) in let u : View = met_view ts fs tk gs rs cs sn in let t = r.3 in
     let taker' : Takers = λ c g. moved_to other id (r.2 c g) in
     let was : get_elem? s.views other ≡ some w = sym (set_else s.views id other u apart) ∙ there in let theirs = t.each_seat other w was in let mine = t.each_seat id v at in (
       r.0,
@@ -102,6 +106,7 @@ joins_both id other ts fs tk gs rs cs s r at apart there = let v : View = core_v
               core = mine.core;
               takes = λ i e' h. let p = theirs.takes i e' h in (p.0, moved_there other id _ i p.1, p.2);
               gives = theirs.gives;
+              seen = theirs.seen;
               hand = λ k is. absurd (omega arith);
             })
             (λ (q : (j ≢ id) × (get_elem? s.views j ≡ some x)). elsewhere r.0 r.1 r.2 s.words other id j x away (t.each_seat j x q.1))
@@ -109,11 +114,11 @@ joins_both id other ts fs tk gs rs cs s r at apart there = let v : View = core_v
       },
     )
 
-pub joins_as : (id other : ℕ) (m n : Sat) (ts : List Ticket) (fs tk : List Entry) (gs rs cs : List Ticket) → m ≡ core_sat ts fs rs cs 0 [] → n ≡ caller_sat tk gs 0 0 [] → Joins Kept id m.0 other n.0 (both_parts m.0 n.0) nobody
-joins_as id other m n ts fs tk gs rs cs e f = subst (λ (x : Sat × Sat). Joins Kept id x.0.0 other x.1.0 (both_parts x.0.0 x.1.0) nobody) (λ i. (sym e i, sym f i)) (joins_both id other ts fs tk gs rs cs)
+pub joins_as : (id other : ℕ) (m n : Sat) (ts : List Ticket) (fs tk : List Entry) (gs rs cs : List Ticket) (sn : List Reading) → m ≡ core_sat ts fs rs cs 0 [] → n ≡ caller_sat tk gs sn 0 0 [] → Joins Kept id m.0 other n.0 (both_parts m.0 n.0) nobody
+joins_as id other m n ts fs tk gs rs cs sn e f = subst (λ (x : Sat × Sat). Joins Kept id x.0.0 other x.1.0 (both_parts x.0.0 x.1.0) nobody) (λ i. (sym e i, sym f i)) (joins_both id other ts fs tk gs rs cs sn)
 
-pub compares_as : (slots id k : ℕ) (m : Sat) (ts : List Ticket) (fs tk : List Entry) (gs rs cs : List Ticket) → m ≡ (met_view ts fs tk gs rs cs, []) → Allows Kept slots id m k (λ n. n) (compared (step slots k 0 0 maybe.none) m)
-compares_as slots id k m ts fs tk gs rs cs is = let u : View = met_view ts fs tk gs rs cs in subst (λ (x : Sat). Allows Kept slots id x k (λ n. n) (compared (step slots k 0 0 maybe.none) x)) (sym is) (λ s r long at _.
+pub compares_as : (slots id k : ℕ) (m : Sat) (ts : List Ticket) (fs tk : List Entry) (gs rs cs : List Ticket) (sn : List Reading) → m ≡ (met_view ts fs tk gs rs cs sn, []) → Allows Kept slots id m k (λ n. n) (compared (step slots k 0 0 maybe.none) m)
+compares_as slots id k m ts fs tk gs rs cs sn is = let u : View = met_view ts fs tk gs rs cs sn in subst (λ (x : Sat). Allows Kept slots id x k (λ n. n) (compared (step slots k 0 0 maybe.none) x)) (sym is) (λ s r long at _.
     let ok = r.3.each_seat id u at in let mine = ok.core refl in (
       u,
       keeps,
@@ -129,9 +134,9 @@ compares_as slots id k m ts fs tk gs rs cs is = let u : View = met_view ts fs tk
       ),
     ))
 
-pub parts_as : (id : ℕ) (m : Sat) (ts : List Ticket) (fs tk : List Entry) (gs rs cs : List Ticket) → m ≡ (met_view ts fs tk gs rs cs, []) → Splits Kept id m.0 (core_part m.0) (caller_part m.0)
-parts_as id m ts fs tk gs rs cs is = subst (λ (x : Sat). Splits Kept id x.0 (core_part x.0) (caller_part x.0)) (sym is) (λ s r at.
-    let u : View = met_view ts fs tk gs rs cs in let v : View = core_view (core_log ts fs rs cs 0) no_caller in let w : View = caller_view (caller_log tk gs 0 0) in let t = r.3 in let n : ℕ = length (set s.views id v) in
+pub parts_as : (id : ℕ) (m : Sat) (ts : List Ticket) (fs tk : List Entry) (gs rs cs : List Ticket) (sn : List Reading) → m ≡ (met_view ts fs tk gs rs cs sn, []) → Splits Kept id m.0 (core_part m.0) (caller_part m.0)
+parts_as id m ts fs tk gs rs cs sn is = subst (λ (x : Sat). Splits Kept id x.0 (core_part x.0) (caller_part x.0)) (sym is) (λ s r at.
+    let u : View = met_view ts fs tk gs rs cs sn in let v : View = core_view (core_log ts fs rs cs 0) no_caller in let w : View = caller_view (caller_log tk gs sn 0 0) in let t = r.3 in let n : ℕ = length (set s.views id v) in
     let taker' : Takers = λ c g. moved_to id n (r.2 c g) in let mine = t.each_seat id u at in (
       r.0,
       r.1,
@@ -146,12 +151,13 @@ parts_as id m ts fs tk gs rs cs is = subst (λ (x : Sat). Splits Kept id x.0 (co
         each_refusal = λ i x h. given_parted s.views id u v w x at (λ y h'. h') (t.each_refusal i x h);
         each_seat = λ j x e. ⊎_elim
             (λ was. seats_stay (SeatOk r.0 r.1 taker' s.words) s.views id v
-            record { core = mine.core; takes = λ i e' h. no_takes i e' h; gives = λ i x h. no_tickets i x h; hand = λ k h. absurd (omega arith) }
+            record { core = mine.core; takes = λ i e' h. no_takes i e' h; gives = λ i x h. no_tickets i x h; seen = λ i x h. none_seen i x h; hand = λ k h. absurd (omega arith) }
             (λ j' x' away h. elsewhere r.0 r.1 r.2 s.words id n j' x' away (t.each_seat j' x' h)) j x was)
             (λ (q : (j ≡ n) × (w ≡ x)). subst (λ (y : ℕ × View). SeatOk r.0 r.1 taker' s.words y.0 y.1) (λ z. (sym q.0 z, q.1 z)) record {
               core = λ y. off y;
               takes = λ i e' h. let p = mine.takes i e' h in (p.0, moved_there id n _ i p.1, p.2);
               gives = mine.gives;
+              seen = mine.seen;
               hand = λ k h. absurd (omega arith);
             })
             (at_snoc_index (set s.views id v) w x j e);

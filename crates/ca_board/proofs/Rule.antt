@@ -30,6 +30,7 @@ others_know keeper log taker ws k n id log' taker' inside up more who same free 
   core = λ c. let old = ok.core c in (old.0, ⊎_elim (λ (is : id ≡ keeper). absurd (other (old.0 ∙ sym is))) (λ (e : log' ≡ log). old.1 ∙ sym e) who);
   takes = λ i e at. let t = ok.takes i e at in let g = grows ws k n inside up e.0.cell in let old = t.2 in (more e t.0, same e.0.cell e.0.generation t.2 ∙ t.1, omega arith);
   gives = λ i t at. let p = ok.gives i t at in let old = p.1 in let g = grows ws k n inside up t.cell in (ungiven t p.1 p.0, omega arith);
+  seen = λ i x at. let y = ok.seen i x at in let g = grows ws k n inside up x.0 in omega arith;
   hand = λ c is. let p = ok.hand c is in let at = p.0 in let q : ℕ = v.caller.round in dite (ℕ_discrete c k)
       (λ e. absurd (other (sym p.1 ∙ (ap (λ z. (taker z q).0) e ∙ free q (ap (λ z. get_or ws z 0) (sym e) ∙ p.0)))))
       (λ ne. (get_or-set_other ws k c n 0 ne ∙ p.0, ap (λ (x : ℕ × ℕ). x.0) (same c q (omega arith)) ∙ p.1));
@@ -91,4 +92,4 @@ no_takes i e at = absurd (some-ne-none e (sym at))
 
 -- the core's own seat, which takes nothing
 pub core_ok : (id : ℕ) (log : CoreLog) (taker : Takers) (ws : List ℕ) → SeatOk id log taker ws id (core_view log no_caller)
-core_ok id log taker ws = record { core = λ _. (refl, refl); takes = λ i e at. no_takes i e at; gives = λ i t at. no_tickets i t at; hand = λ k is. absurd (omega arith) }
+core_ok id log taker ws = record { core = λ _. (refl, refl); takes = λ i e at. no_takes i e at; gives = λ i t at. no_tickets i t at; seen = λ i x at. absurd (some-ne-none x (sym at)); hand = λ k is. absurd (omega arith) }

@@ -1,12 +1,12 @@
 -- Each call leaves the seat at its board.
-use Rattle.std.proofs.Common.{◌≡◌, ℕ, Ok, Err, Some, None, refl, ap, ⊎_elim}
+use Rattle.std.proofs.Common.{◌≡◌, ℕ, Ok, Err, Some, None, inl, inr, refl, ap}
 use Rattle.std.specs.Prelude.{Option, Result, Bool, true, false, IsTrue, IsFalse}
 use Rattle.ca_text.specs.declared.refusal.Refusal.{Refusal}
 use Rattle.ca_dbr.specs.declared.value.Outcome.{Outcome}
 use Rattle.ca_board.specs.declared.ticket.Ticket.{Ticket}
 use Rattle.ca_board.specs.declared.ticket.Filled.{Filled}
 use Rattle.ca_board.specs.declared.ticket.Filled.TheVariants.{Stored, GivenUp}
-use Rattle.ca_board.specs.Views.{CoreView, CallerView, HasArmed, HasFilled, HasCollected, HasGivenUp, HasRecycled, IsOwnOpen, with_give_up}
+use Rattle.ca_board.specs.Views.{CoreView, CallerView, HasArmed, HasFilled, HasCollected, HasGivenUp, HasRecycled}
 
 pub armed_board : (old new : CoreView) (r : Result Ticket Refusal) → HasArmed old r new → new.board ≡ old.board
 armed_board old new (Ok t) f = ap (λ (v : CoreView). v.board) f.0
@@ -21,9 +21,12 @@ recycled_board old new cell true freed kept = ap (λ (v : CoreView). v.board) (f
 recycled_board old new cell false freed kept = ap (λ (v : CoreView). v.board) (kept refl)
 
 pub collected_board : (old new : CallerView) (t : Ticket) (r : Option Outcome) → HasCollected old t r new → new.board ≡ old.board
-collected_board old new t None f = ap (λ (v : CallerView). v.board) f
+collected_board old new t None (inl out) = ap (λ (v : CallerView). v.board) out.1
+collected_board old new t None (inr found) = ap (λ (v : CallerView). v.board) found.2.2
 collected_board old new t (Some o) f = ap (λ (v : CallerView). v.board) f.0
 
 pub given_board : (old new : CallerView) (t : Ticket) (r : Option Outcome) → HasGivenUp old t r new → new.board ≡ old.board
-given_board old new t None f = ⊎_elim (λ (e : new ≡ old). ap (λ (v : CallerView). v.board) e) (λ (e : (new ≡ with_give_up old t) × IsOwnOpen old t). ap (λ (v : CallerView). v.board) e.0) f
-given_board old new t (Some o) f = ap (λ (v : CallerView). v.board) f.0
+given_board old new t None (inl out) = ap (λ (v : CallerView). v.board) out.1
+given_board old new t None (inr (inl given)) = ap (λ (v : CallerView). v.board) given.0
+given_board old new t None (inr (inr found)) = ap (λ (v : CallerView). v.board) found.2
+given_board old new t (Some o) f = ap (λ (v : CallerView). v.board) f.1

@@ -4,7 +4,7 @@ use mathlib.Core.Option.{some}
 use mathlib.Core.Option as maybe
 use lib.ListN.{get_elem?}
 use Rattle.atomic_table.specs.Table.{State, Me, Step, rest}
-use Rattle.ca_text.specs.Limits.{board_cells}
+use Rattle.ca_text.specs.Limits.{board_cells, last_generation}
 use Rattle.ca_board.specs.declared.ticket.Ticket.{Ticket}
 use Rattle.ca_dbr.specs.declared.value.Outcome.{Outcome}
 use Rattle.ca_board.specs.declared.steps.CoreLog.{CoreLog}
@@ -24,6 +24,10 @@ Entry = Ticket × Outcome
 abbrev pub Slot : Type 0
 Slot = Option Outcome
 
+-- a cell, and a word that a caller found there
+abbrev pub Reading : Type 0
+Reading = ℕ × ℕ
+
 abbrev pub Table : Type 0
 Table = State Slot View
 
@@ -40,20 +44,20 @@ abbrev pub core_log : List Ticket → List Entry → List Ticket → List Ticket
 core_log arms fills refused recycles hand =
     record { arms = arms; fills = fills; refused = refused; recycles = recycles; hand = hand }
 
-abbrev pub caller_log : List Entry → List Ticket → ℕ → ℕ → CallerLog
-caller_log takes gives hand round = record { takes = takes; gives = gives; hand = hand; round = round }
+abbrev pub caller_log : List Entry → List Ticket → List Reading → ℕ → ℕ → CallerLog
+caller_log takes gives seen hand round = record { takes = takes; gives = gives; seen = seen; hand = hand; round = round }
 
 abbrev pub no_core : CoreLog
 no_core = core_log [] [] [] [] 0
 
 abbrev pub no_caller : CallerLog
-no_caller = caller_log [] [] 0 0
+no_caller = caller_log [] [] [] 0 0
 
 abbrev pub core_view : CoreLog → CallerLog → View
-core_view log caller = record { is_core = true; core = log; caller = caller }
+core_view log caller = record { is_core = true; core = log; caller = caller; one = no_caller; other = no_caller }
 
 abbrev pub caller_view : CallerLog → View
-caller_view caller = record { is_core = false; core = no_core; caller = caller }
+caller_view caller = record { is_core = false; core = no_core; caller = caller; one = no_caller; other = no_caller }
 
 -- One cell: its word, its slot, and the core's lists. The slot is at home and empty while the cell is free, waiting, empty
 -- or given up, but where the core holds it; it has the outcome of the fill while the cell is done. Each generation up to the
@@ -67,7 +71,7 @@ pub record CellOk (log : CoreLog) (k n : ℕ) (home : maybe.Option (maybe.Option
   pub held : log.hand ≡ suc k → (g : ℕ) → n ≢ 8 * g + 2
   pub armed : (g : ℕ) → 8 * g + 1 ≤ n → Has log.arms (ticket k g)
   pub past : (g : ℕ) → 8 * g + 8 ≤ n → Has log.recycles (ticket k g)
-  pub small : n < 34359738368
+  pub small : n < 8 * (last_generation + 1)
 
 -- a ticket of the core's lists, beside its cell's word
 abbrev pub ArmOk : List ℕ → ℕ → Ticket → Type 0
@@ -99,11 +103,13 @@ WaitOk words views t =
 abbrev pub HandOk : (ℕ → ℕ → ℕ × ℕ) → List ℕ → ℕ → CallerLog → Type 0
 HandOk taker words j c = (k : ℕ) → c.hand ≡ suc k → (slice_index words k ≡ 8 * c.round + 3) × ((taker k c.round).0 ≡ j)
 
--- what one seat knows: its core's part is the core's lists, and each of its takes and give-ups is right
+-- what one seat knows: its core's part is the core's lists, each of its takes and give-ups is right, and no word went back
+-- behind what it found
 pub record SeatOk (keeper : ℕ) (log : CoreLog) (taker : ℕ → ℕ → ℕ × ℕ) (words : List ℕ) (j : ℕ) (v : View) : Type 0 where
   pub core : v.is_core ≡ true → (j ≡ keeper) × (v.core ≡ log)
   pub takes : (i : ℕ) (e : Entry) → get_elem? v.caller.takes i ≡ some e → TakeOk log taker words j i e
   pub gives : (i : ℕ) (t : Ticket) → get_elem? v.caller.gives i ≡ some t → GiveOk log words t
+  pub seen : (i : ℕ) (x : Reading) → get_elem? v.caller.seen i ≡ some x → x.1 ≤ slice_index words x.0
   pub hand : HandOk taker words j v.caller
 
 -- How the words, the slots and the views of all seats fit the core's lists. The seat `keeper` is the core's; `taker` gives,
@@ -166,10 +172,13 @@ holding v h = core_view (core_log v.core.arms v.core.fills v.core.refused v.core
 
 -- a caller has taken a ticket, and holds its slot
 abbrev pub taken_too : View → Ticket → Outcome → View
-taken_too v t o = caller_view (caller_log (v.caller.takes ++ (t, o) ∷ []) v.caller.gives (suc t.cell) t.generation)
+taken_too v t o = caller_view (caller_log (v.caller.takes ++ (t, o) ∷ []) v.caller.gives v.caller.seen (suc t.cell) t.generation)
 
 abbrev pub given_too : View → Ticket → View
-given_too v t = caller_view (caller_log v.caller.takes (v.caller.gives ++ t ∷ []) 0 0)
+given_too v t = caller_view (caller_log v.caller.takes (v.caller.gives ++ t ∷ []) v.caller.seen 0 0)
+
+abbrev pub read_too : View → ℕ → ℕ → View
+read_too v k n = caller_view (caller_log v.caller.takes v.caller.gives (v.caller.seen ++ (k, n) ∷ []) 0 0)
 
 -- What the steps tell: of the step's word and first operand, the seat before, the number that it found, the seat after
 abbrev pub armed : Step Slot → Sat → ℕ → Sat → Type 0
@@ -197,23 +206,35 @@ filled st m r m' = (g : ℕ) (o : Outcome) → st.first ≡ 8 * g + 1 → m.1 �
 abbrev pub returned : Step Slot → Sat → ℕ → Sat → Type 0
 returned st m r m' = m' ≡ (holding m.0 0, rest m.1)
 
--- the ticket is none that this seat has taken or given up
-abbrev pub IsOpen : List Entry → List Ticket → Ticket → Type 0
-IsOpen takes gives t = IsUnfilled takes t × ¬ (Has gives t)
+-- the ticket was found ended: the word of its cell had gone past it
+abbrev pub HasEnded : List Reading → Ticket → Type 0
+HasEnded seen t = (n : ℕ) × Has seen (t.cell, n) × (8 * t.generation + 3 ≤ n)
+
+-- the ticket is none that this seat has taken, given up, or found ended
+abbrev pub IsOpen : List Entry → List Ticket → List Reading → Ticket → Type 0
+IsOpen takes gives seen t = IsUnfilled takes t × ¬ (Has gives t) × ¬ (HasEnded seen t)
+
+-- no word that was found in the cell before is greater
+abbrev pub IsLatest : List Reading → ℕ → ℕ → Type 0
+IsLatest seen k n = (m : ℕ) → Has seen (k, m) → m ≤ n
+
+-- a caller found another word than it wanted, and keeps that in mind
+abbrev pub looked : ℕ → Sat → ℕ → Sat → Type 0
+looked k m r m' = IsLatest m.0.caller.seen k r × (m' ≡ (read_too m.0 k r, m.1))
 
 abbrev pub took : Step Slot → Sat → ℕ → Sat → Type 0
 took st m r m' = (g : ℕ) → st.first ≡ 8 * g + 2
-    → (r ≡ st.first → (o : Outcome) × IsOpen m.0.caller.takes m.0.caller.gives (ticket st.word g)
+    → (r ≡ st.first → (o : Outcome) × IsOpen m.0.caller.takes m.0.caller.gives m.0.caller.seen (ticket st.word g)
     × (m' ≡ (taken_too m.0 (ticket st.word g) o, (st.word, Some o) ∷ m.1)))
-    × (r ≢ st.first → m' ≡ m)
+    × (r ≢ st.first → looked st.word m r m')
 
 abbrev pub gave_back : Step Slot → Sat → ℕ → Sat → Type 0
-gave_back st m r m' = m' ≡ (caller_view (caller_log m.0.caller.takes m.0.caller.gives 0 0), rest m.1)
+gave_back st m r m' = m' ≡ (caller_view (caller_log m.0.caller.takes m.0.caller.gives m.0.caller.seen 0 0), rest m.1)
 
 abbrev pub gave_up : Step Slot → Sat → ℕ → Sat → Type 0
 gave_up st m r m' = (g : ℕ) → st.first ≡ 8 * g + 1
-    → (r ≡ st.first → IsOpen m.0.caller.takes m.0.caller.gives (ticket st.word g) × (m' ≡ (given_too m.0 (ticket st.word g), m.1)))
-    × (r ≢ st.first → m' ≡ m)
+    → (r ≡ st.first → IsOpen m.0.caller.takes m.0.caller.gives m.0.caller.seen (ticket st.word g) × (m' ≡ (given_too m.0 (ticket st.word g), m.1)))
+    × (r ≢ st.first → looked st.word m r m')
 
 -- What a core's view and a caller's say together: each take is a fill of that ticket with that outcome, no ticket is
 -- taken twice, and none that was given up has a fill
@@ -225,14 +246,40 @@ Agrees fills takes gives = ((i : ℕ) (e : Entry) → get_elem? takes i ≡ some
 abbrev pub compared : Step Slot → Sat → ℕ → Sat → Type 0
 compared st m r m' = (m' ≡ m) × Agrees m.0.core.fills m.0.caller.takes m.0.caller.gives
 
+-- What two callers' views say together: no ticket was taken by both, nor taken by one and given up by the other
+abbrev pub Apart : List Entry → List Ticket → List Entry → List Ticket → Type 0
+Apart takes gives takes' gives' = ((i i' : ℕ) (e e' : Entry) → get_elem? takes i ≡ some e → get_elem? takes' i' ≡ some e' → e.0 ≢ e'.0)
+    × ((i i' : ℕ) (e : Entry) (t : Ticket) → get_elem? takes i ≡ some e → get_elem? gives' i' ≡ some t → e.0 ≢ t)
+    × ((i i' : ℕ) (t : Ticket) (e : Entry) → get_elem? gives i ≡ some t → get_elem? takes' i' ≡ some e → t ≢ e.0)
+
+abbrev pub held_apart : Step Slot → Sat → ℕ → Sat → Type 0
+held_apart st m r m' = (m' ≡ m) × Apart m.0.one.takes m.0.one.gives m.0.other.takes m.0.other.gives
+
 abbrev pub core_part : View → View
-core_part v = record { is_core = v.is_core; core = v.core; caller = no_caller }
+core_part v = record { is_core = v.is_core; core = v.core; caller = no_caller; one = no_caller; other = no_caller }
 
 abbrev pub caller_part : View → View
 caller_part v = caller_view v.caller
 
 abbrev pub both_parts : View → View → View
-both_parts v w = record { is_core = v.is_core; core = v.core; caller = w.caller }
+both_parts v w = record { is_core = v.is_core; core = v.core; caller = w.caller; one = no_caller; other = no_caller }
+
+-- two callers' logs as one
+abbrev pub both_logs : CallerLog → CallerLog → CallerLog
+both_logs a b = caller_log (a.takes ++ b.takes) (a.gives ++ b.gives) (a.seen ++ b.seen) 0 0
+
+-- two callers' views in one seat, which keeps in mind what each was
+abbrev pub pair_view : CallerLog → CallerLog → View
+pair_view a b = record { is_core = false; core = no_core; caller = both_logs a b; one = a; other = b }
+
+abbrev pub paired : View → View → View
+paired v w = pair_view v.caller w.caller
+
+abbrev pub one_part : View → View
+one_part v = caller_view v.one
+
+abbrev pub other_part : View → View
+other_part v = caller_view v.other
 
 abbrev pub nobody : View
 nobody = caller_view no_caller

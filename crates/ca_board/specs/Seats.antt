@@ -22,7 +22,7 @@ seen_by_core s = let log = s.me.0.core in
     record { board = s.table_id; arms = log.arms; fills = log.fills; refused = log.refused; recycles = log.recycles }
 
 abbrev pub seen_by_caller : BoardSeat → CallerView
-seen_by_caller s = record { board = s.table_id; takes = s.me.0.caller.takes; gives = s.me.0.caller.gives }
+seen_by_caller s = record { board = s.table_id; takes = s.me.0.caller.takes; gives = s.me.0.caller.gives; seen = s.me.0.caller.seen }
 
 -- each ticket is of a cell of the board
 abbrev pub IsInside : List Ticket → Type 0
@@ -37,4 +37,4 @@ pub record IsCoreSeat (s : BoardSeat) (free : List Ticket) (room : ℕ) : Type 0
 
 -- a caller's seat holds no slot
 abbrev pub IsCallerSeat : BoardSeat → Type 0
-IsCallerSeat s = s.me ≡ (caller_view (caller_log s.me.0.caller.takes s.me.0.caller.gives 0 0), [])
+IsCallerSeat s = s.me ≡ (caller_view (caller_log s.me.0.caller.takes s.me.0.caller.gives s.me.0.caller.seen 0 0), [])

@@ -1,10 +1,10 @@
 -- The seats of a board, as its calls speak of them: which board, and what was done with the seat.
-use Rattle.std.specs.Prelude.{◌≡◌, ◌⊎◌, ◌<◌, ℕ, ◌++◌, List, [], ◌∷◌, Option, Result, MatchOption, MatchResult}
+use Rattle.std.specs.Prelude.{◌≡◌, ◌≢◌, ◌⊎◌, ◌+◌, ◌*◌, ◌<◌, ◌≤◌, ℕ, ◌++◌, List, [], ◌∷◌, Option, Result, MatchOption, MatchResult}
 use Rattle.atomic_table.specs.Seated.{TableId}
 use Rattle.ca_text.specs.Limits.{board_cells}
 use Rattle.ca_text.specs.declared.refusal.Refusal.{Refusal}
 use Rattle.ca_text.specs.declared.refusal.Refusal.TheVariants.{NoCell}
-use Rattle.ca_board.specs.History.{ticket, Has, IsUnfilled, IsOpen, InUse, IsNext, Frees}
+use Rattle.ca_board.specs.History.{ticket, Has, HasEnded, IsUnfilled, IsLatest, IsOpen, InUse, IsNext, Frees, Reading}
 use Rattle.ca_board.specs.declared.ticket.Ticket.{Ticket}
 use Rattle.ca_board.specs.declared.ticket.Filled.{Filled}
 use Rattle.ca_board.specs.declared.ticket.Filled.TheVariants.{Stored, GivenUp}
@@ -19,18 +19,20 @@ pub record CoreView : Type 0 where
   pub refused : List Ticket
   pub recycles : List Ticket
 
--- A caller's seat: the outcomes that it collected, each with its ticket, and the tickets that it gave up
+-- A caller's seat: the outcomes that it collected, each with its ticket, the tickets that it gave up, and the words that it
+-- found in cells where there was nothing to take or to give up
 pub record CallerView : Type 0 where
   pub board : TableId
   pub takes : List (Ticket × Outcome)
   pub gives : List Ticket
+  pub seen : List Reading
 
 -- nothing was done with the seat yet
 abbrev pub core_start : TableId → CoreView
 core_start z = record { board = z; arms = []; fills = []; refused = []; recycles = [] }
 
 abbrev pub caller_start : TableId → CallerView
-caller_start z = record { board = z; takes = []; gives = [] }
+caller_start z = record { board = z; takes = []; gives = []; seen = [] }
 
 -- one thing more was done with the seat
 abbrev pub with_arm : CoreView → Ticket → CoreView
@@ -50,10 +52,13 @@ with_recycle v t =
     record { board = v.board; arms = v.arms; fills = v.fills; refused = v.refused; recycles = v.recycles ++ t ∷ [] }
 
 abbrev pub with_take : CallerView → Ticket → Outcome → CallerView
-with_take v t o = record { board = v.board; takes = v.takes ++ (t, o) ∷ []; gives = v.gives }
+with_take v t o = record { board = v.board; takes = v.takes ++ (t, o) ∷ []; gives = v.gives; seen = v.seen }
 
 abbrev pub with_give_up : CallerView → Ticket → CallerView
-with_give_up v t = record { board = v.board; takes = v.takes; gives = v.gives ++ t ∷ [] }
+with_give_up v t = record { board = v.board; takes = v.takes; gives = v.gives ++ t ∷ []; seen = v.seen }
+
+abbrev pub with_reading : CallerView → ℕ → ℕ → CallerView
+with_reading v k n = record { board = v.board; takes = v.takes; gives = v.gives; seen = v.seen ++ (k, n) ∷ [] }
 
 -- the ticket was armed, and is to be filled
 abbrev pub IsDue : CoreView → Ticket → Type 0
@@ -71,20 +76,36 @@ abbrev pub HasFilled : CoreView → Ticket → Outcome → Filled → CoreView �
 HasFilled old t o Stored new = new ≡ with_fill old t o
 HasFilled old t o (GivenUp back) new = (back ≡ o) × (new ≡ with_refusal old t)
 
--- the ticket is none that this seat has taken or given up
+-- the ticket is none that this seat has taken, given up, or found ended
 abbrev pub IsOwnOpen : CallerView → Ticket → Type 0
-IsOwnOpen v t = IsOpen v.takes v.gives t
+IsOwnOpen v t = IsOpen v.takes v.gives v.seen t
 
--- What a collection answers: an outcome, once for a ticket; or none, and nothing was done
+-- the ticket is of no cell of the board, and nothing was done
+abbrev pub IsOutside : CallerView → Ticket → CallerView → Type 0
+IsOutside old t new = (board_cells ≤ t.cell) × (new ≡ old)
+
+-- the word of the ticket's cell was found to be n, no less than ever before, and nothing else was done
+abbrev pub Found : CallerView → Ticket → ℕ → CallerView → Type 0
+Found old t n new = (t.cell < board_cells) × IsLatest old.seen t.cell n × (new ≡ with_reading old t.cell n)
+
+-- the ticket was found not armed yet
+abbrev pub IsEarly : List Reading → Ticket → Type 0
+IsEarly seen t = (n : ℕ) × Has seen (t.cell, n) × (n ≤ 8 * t.generation)
+
+-- What a collection answers: an outcome, once for a ticket; or none, where its cell was found not to be done
 abbrev pub HasCollected : CallerView → Ticket → Option Outcome → CallerView → Type 0
-HasCollected old t result new = MatchOption result (new ≡ old) (λ o. (new ≡ with_take old t o) × IsOwnOpen old t)
+HasCollected old t result new = MatchOption result
+    (IsOutside old t new ⊎ ((n : ℕ) × (n ≢ 8 * t.generation + 2) × Found old t n new))
+    (λ o. (new ≡ with_take old t o) × IsOwnOpen old t × (t.cell < board_cells))
 
--- What a give-up answers: the outcome that was there, and that is a take; or none, and the ticket was given up, or
--- nothing was done
+-- What a give-up answers: the outcome that was there, and that is a take; or none, and the ticket was given up, or found
+-- ended, or found not armed yet
 abbrev pub HasGivenUp : CallerView → Ticket → Option Outcome → CallerView → Type 0
 HasGivenUp old t result new = MatchOption result
-    ((new ≡ old) ⊎ ((new ≡ with_give_up old t) × IsOwnOpen old t))
-    (λ o. (new ≡ with_take old t o) × IsOwnOpen old t)
+    (IsOutside old t new
+    ⊎ (((new ≡ with_give_up old t) × IsOwnOpen old t)
+    ⊎ ((m : ℕ) × (n : ℕ) × (new ≡ with_reading (with_reading old t.cell m) t.cell n) × (HasEnded new.seen t ⊎ IsEarly new.seen t))))
+    (λ o. (n : ℕ) × (new ≡ with_take (with_reading old t.cell n) t o) × IsOwnOpen old t)
 
 -- What a recycle of the cell did where it answers true: the cell is free for its next generation
 abbrev pub HasRecycled : CoreView → ℕ → CoreView → Type 0

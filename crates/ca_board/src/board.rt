@@ -1,9 +1,9 @@
-ghost use Rattle.std.specs.Prelude.{◌≡◌, ◌≤◌, [], IfOk, IfErr, IsTrue, IsFalse};
+ghost use Rattle.std.specs.Prelude.{◌≡◌, ◌≢◌, ◌≤◌, ◌+◌, ◌*◌, ◌⊎◌, ℕ, [], IfOk, IfErr, IsTrue, IsFalse};
 ghost use Rattle.std.specs.Vec.{vec_capacity};
 ghost use Rattle.ca_text.specs.Limits.{board_cells};
 ghost use Rattle.ca_text.specs.declared.refusal.Refusal.TheVariants.{OutOfMemory};
 ghost use Rattle.ca_board.specs.History.{IsStock};
-ghost use Rattle.ca_board.specs.Views.{core_start, caller_start, with_give_up, IsDue, IsOwnOpen};
+ghost use Rattle.ca_board.specs.Views.{core_start, caller_start, with_give_up, Found, IsDue, IsOutside, IsOwnOpen};
 ghost use Rattle.ca_board.specs.Views.{HasArmed, HasCollected, HasFilled, HasGivenUp, HasRecycled};
 
 use crate::seats::{CallerSeat, CoreSeat};
@@ -12,7 +12,7 @@ use crate::steps::{
 };
 use crate::ticket::{Filled, Ticket};
 use ca_dbr::Outcome;
-use ca_text::{BOARD_CELLS, Refusal};
+use ca_text::{BOARD_CELLS, LAST_GENERATION, Refusal};
 use std::alloc::{AllocError, Global};
 use std::marker::Model;
 
@@ -97,7 +97,8 @@ impl Board {
         Filled::GivenUp(outcome.unwrap())
     }
 
-    /// The outcome of a ticket, if it is there. One holder of a ticket gets it, once.
+    /// The outcome of a ticket, if it is there. One holder of a ticket gets it, once: a ticket that has ended never gives it
+    /// again.
     pub fn collect(&self, caller: &mut CallerSeat, ticket: Ticket) -> Option<Outcome>
         requires { caller.old.board ≡ self.now }
         ensures { HasCollected caller.old ticket result caller.new }
@@ -117,7 +118,7 @@ impl Board {
     }
 
     /// Ends a ticket: none, and a later fill of it is given back; or the outcome that was there already, which is then
-    /// taken. On a ticket that was ended it does nothing.
+    /// taken. It does nothing to a ticket that has ended, or was not armed yet.
     pub fn give_up(&self, caller: &mut CallerSeat, ticket: Ticket) -> Option<Outcome>
         requires { caller.old.board ≡ self.now }
         ensures { HasGivenUp caller.old ticket result caller.new }
@@ -132,7 +133,7 @@ impl Board {
     fn end_wait(&self, caller: &mut CallerSeat, ticket: Ticket) -> bool
         requires { caller.old.board ≡ self.now }
         ensures ended { IsTrue result → (caller.new ≡ with_give_up caller.old ticket) × IsOwnOpen caller.old ticket }
-        ensures kept { IsFalse result → caller.new ≡ caller.old }
+        ensures found { IsFalse result → IsOutside caller.old ticket caller.new ⊎ ((n : ℕ) × (n ≢ 8 * ticket.generation + 1) × Found caller.old ticket n caller.new) }
     {
         if ticket.cell >= BOARD_CELLS {
             return false;
@@ -160,7 +161,7 @@ impl Board {
         }
         let word = words.peek(cell);
         let generation = word / 8;
-        if word % 8 < 4 || word % 8 > 5 || generation >= 4_294_967_295 {
+        if word % 8 < 4 || word % 8 > 5 || generation >= u64::from(LAST_GENERATION) {
             return false;
         }
         let next = generation * 8 + 8;

@@ -23,17 +23,22 @@ pub struct CoreLog {
 pub struct CallerLog {
     pub takes: LinkedList<(Ticket, Outcome)>,
     pub gives: LinkedList<Ticket>,
+    /// The words that it found where it did nothing, each with its cell.
+    pub seen: LinkedList<(usize, u64)>,
     /// 0, or 1 more than the cell whose slot it holds.
     pub hand: u64,
     /// The generation of that cell.
     pub round: u64,
 }
 
-/// What a seat knows. A core's seat has a caller's part only while two seats are compared.
+/// What a seat knows. A core's seat has a caller's part only while the two are compared. While two callers are compared the
+/// caller's part is what both did, and `one` and `other` are what each did.
 pub struct View {
     pub is_core: bool,
     pub core: CoreLog,
     pub caller: CallerLog,
+    pub one: CallerLog,
+    pub other: CallerLog,
 }
 
 /// The rule of a board's table.
@@ -162,4 +167,32 @@ impl Split<View> for Meets {
     ghost left = { core_part };
 
     ghost right = { caller_part };
+}
+
+/// A caller's seat takes in another caller's, and is split again.
+pub(crate) struct Pairs;
+
+impl Join<View> for Pairs {
+    ghost use Rattle.ca_board.specs.History.{nobody, paired};
+
+    ghost both = { paired };
+
+    ghost spent = { nobody };
+}
+
+impl Split<View> for Pairs {
+    ghost use Rattle.ca_board.specs.History.{one_part, other_part};
+
+    ghost left = { one_part };
+
+    ghost right = { other_part };
+}
+
+/// Two callers' views, in one seat, are compared with the board's rule.
+pub(crate) struct Separates;
+
+impl Play<Option<Outcome>, View> for Separates {
+    ghost use Rattle.ca_board.specs.History.{held_apart};
+
+    ghost then = { held_apart };
 }

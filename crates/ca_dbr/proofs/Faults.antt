@@ -122,3 +122,22 @@ pub shown-fault : (e : Elements) (count : ℕ) (b : BaseType) → HasConversion 
 shown-fault e count b c r h =
     let P : BaseType → Type 0 = λ a. HasConversion a b in
     converted-fault (first_elements count e) b (subst P (sym (base_of-first count e)) c) r (zeros-fault (count - count_of e) (converted (first_elements count e) b) r h)
+
+not_text : refusal.OutOfMemory ≡ refusal.BadText → ⊥
+not_text h = cc
+
+not_range : refusal.OutOfMemory ≡ refusal.OutOfRange → ⊥
+not_range h = cc
+
+not_convert : refusal.NoConvert ≡ refusal.OutOfMemory → ⊥
+not_convert h = cc
+
+-- no element is refused for want of memory
+fault-memory : IsFault refusal.OutOfMemory → ⊥
+fault-memory (inl f) = not_text f
+fault-memory (inr f) = not_range f
+
+pub shown-memory : (e : Elements) (count : ℕ) (b : BaseType) → shown e count b ≡ Err refusal.OutOfMemory → ⊥
+shown-memory e count b h =
+    let none : HasConversion (base_of e) b → ⊥ = λ c. fault-memory (shown-fault e count b c refusal.OutOfMemory h) in
+    not_convert (same_err {A = Elements} refusal.NoConvert refusal.OutOfMemory (sym (shown-none e count b none) ∙ h))

@@ -1,5 +1,5 @@
 -- Reading an image: the lenient converse of writing one.
-use Rattle.std.specs.Prelude.{ℕ, ◌≡◌, ◌<◌, ◌≤◌, ◌+◌, ◌-◌, ◌*◌, ◌^◌, ◌++◌, List, length, replicate, ◌==◌, if◌then◌else◌}
+use Rattle.std.specs.Prelude.{ℕ, ◌≡◌, ◌≢◌, ◌<◌, ◌≤◌, ◌+◌, ◌-◌, ◌*◌, ◌^◌, ◌++◌, List, length, replicate, ◌==◌, if◌then◌else◌}
 use Rattle.ca_text.specs.declared.refusal.Refusal.{Refusal}
 use Rattle.ca_text.specs.declared.refusal.Refusal.TheVariants as refusal
 use Rattle.ca_dbr.specs.declared.data_type.BaseType.{BaseType}
@@ -67,9 +67,9 @@ least_size base.Double count = count * 8
 abbrev pub IsLong : DataType → ℕ → List ℕ → Type 0
 IsLong t count bytes = meta_size t.form + padding_size t.form t.base + least_size t.base count ≤ length bytes
 
--- why these bytes are not read: no such type, no reading, or no memory for one
+-- why these bytes are not read: no such type, no reading, or no memory for one; no elements take no memory
 abbrev pub ReadRefused : ℕ → ℕ → List ℕ → Refusal → Type 0
 ReadRefused number count bytes refusal.BadType = 20 < number
 ReadRefused number count bytes refusal.Short = (t : DataType) × (type_number t ≡ number) × (IsLong t count bytes → ⊥) × ((e : Elements) (m : Meta) → Reads t count bytes e m → ⊥)
-ReadRefused number count bytes refusal.OutOfMemory = (t : DataType) × (type_number t ≡ number) × IsLong t count bytes
+ReadRefused number count bytes refusal.OutOfMemory = (t : DataType) × (type_number t ≡ number) × IsLong t count bytes × (count ≢ 0)
 ReadRefused number count bytes _ = ⊥

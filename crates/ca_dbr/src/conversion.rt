@@ -4,12 +4,12 @@ ghost use Rattle.ca_text.specs.declared.refusal.Refusal.TheVariants.{OutOfMemory
 ghost use Rattle.ca_dbr.specs.declared.data_type.BaseType.{BaseType};
 ghost use Rattle.ca_dbr.specs.Types.{base_number};
 ghost use Rattle.ca_dbr.specs.declared.data_type.BaseType.TheVariants as base_type;
-ghost use Rattle.ca_dbr.specs.Elements.{elements};
+ghost use Rattle.ca_dbr.specs.Elements.{count_of, elements};
 ghost use Rattle.ca_dbr.specs.Conversion.{gathered, Fails, in_base, converted, ConvertRefused, has_numbers, HasConversion};
 
 use crate::data_type::BaseType;
 use crate::numeric::{Conversion, Source, ToNumber, ToText, Whole};
-use crate::value::Value;
+use crate::value::{Value, copied};
 use ca_text::Refusal;
 use std::alloc::Global;
 
@@ -53,6 +53,7 @@ fn convert_all<S: Copy + Drop, T: Drop, C: Conversion<S, T>>(
 ) -> Result<Vec<T>, Refusal>
     ensures ok { IfOk result (λ v. gathered C.gives items.now ≡ Ok v.items) }
     ensures err { IfErr result (Fails (gathered C.gives items.now)) }
+    ensures memory { IfErr result (λ e. e ≡ OutOfMemory → length items.now ≢ 0) }
 {
     match Vec::with_capacity(alloc, items.len()) {
         Err(_) => {
@@ -72,6 +73,7 @@ fn to_numbers<S: Source>(alloc: Global, items: &[S], base: BaseType) -> Result<V
     requires { base ≢ base_type.String }
     ensures ok { IfOk result (λ value. in_base S.number items.now base ≡ Ok (elements value)) }
     ensures err { IfErr result (Fails (in_base S.number items.now base)) }
+    ensures memory { IfErr result (λ e. e ≡ OutOfMemory → length items.now ≢ 0) }
 {
     match base {
         BaseType::String => unreachable!(),
@@ -88,6 +90,7 @@ fn to_numbers<S: Source>(alloc: Global, items: &[S], base: BaseType) -> Result<V
 fn whole_to<S: Whole>(alloc: Global, items: &[S], base: BaseType) -> Result<Value, Refusal>
     ensures ok { IfOk result (λ value. in_base S.number items.now base ≡ Ok (elements value)) }
     ensures err { IfErr result (Fails (in_base S.number items.now base)) }
+    ensures memory { IfErr result (λ e. e ≡ OutOfMemory → length items.now ≢ 0) }
 {
     match base {
         BaseType::String => Ok(Value::Strings(convert_all::<S, [u8; 40], ToText>(alloc, items)?)),
@@ -99,26 +102,21 @@ fn whole_to<S: Whole>(alloc: Global, items: &[S], base: BaseType) -> Result<Valu
 pub fn convert_to(alloc: Global, value: &Value, base: BaseType) -> Result<Value, Refusal>
     ensures ok { IfOk result (λ v. converted (elements value.now) base ≡ Ok (elements v)) }
     ensures err { IfErr result (Fails (converted (elements value.now) base)) }
+    ensures memory { IfErr result (λ e. e ≡ OutOfMemory → count_of (elements value.now) ≢ 0) }
 {
     match (value, base) {
-        (Value::Strings(items), BaseType::String) => Ok(Value::Strings(Vec::from_slice(
-            alloc, items,
-        )?)),
+        (Value::Strings(items), BaseType::String) => Ok(Value::Strings(copied(alloc, items)?)),
         (Value::Strings(items), _) => to_numbers(alloc, items, base),
-        (Value::Ints(items), BaseType::Int) => Ok(Value::Ints(Vec::from_slice(alloc, items)?)),
+        (Value::Ints(items), BaseType::Int) => Ok(Value::Ints(copied(alloc, items)?)),
         (Value::Ints(items), _) => whole_to(alloc, items, base),
-        (Value::Enums(items), BaseType::Enum) => Ok(Value::Enums(Vec::from_slice(alloc, items)?)),
+        (Value::Enums(items), BaseType::Enum) => Ok(Value::Enums(copied(alloc, items)?)),
         (Value::Enums(items), _) => whole_to(alloc, items, base),
-        (Value::Chars(items), BaseType::Char) => Ok(Value::Chars(Vec::from_slice(alloc, items)?)),
+        (Value::Chars(items), BaseType::Char) => Ok(Value::Chars(copied(alloc, items)?)),
         (Value::Chars(items), _) => whole_to(alloc, items, base),
-        (Value::Longs(items), BaseType::Long) => Ok(Value::Longs(Vec::from_slice(alloc, items)?)),
+        (Value::Longs(items), BaseType::Long) => Ok(Value::Longs(copied(alloc, items)?)),
         (Value::Longs(items), _) => whole_to(alloc, items, base),
-        (Value::Floats(items), BaseType::Float) => Ok(Value::Floats(Vec::from_slice(
-            alloc, items,
-        )?)),
-        (Value::Doubles(items), BaseType::Double) => Ok(Value::Doubles(Vec::from_slice(
-            alloc, items,
-        )?)),
+        (Value::Floats(items), BaseType::Float) => Ok(Value::Floats(copied(alloc, items)?)),
+        (Value::Doubles(items), BaseType::Double) => Ok(Value::Doubles(copied(alloc, items)?)),
         (Value::Floats(_), _) => Err(Refusal::NoConvert),
         (Value::Doubles(_), _) => Err(Refusal::NoConvert),
     }
@@ -147,10 +145,12 @@ pub fn has_conversion(from: BaseType, to: BaseType) -> bool
 }
 
 /// Converts a value to the plain type of this number. Refused by 4 where there is none, by 6 where the types do
-/// not convert, then by 8 or 7 by the first element that is no number or outside the type, then by 1.
+/// not convert, then by 8 or 7 by the first element that is no number or outside the type, then by 1, only if there
+/// are elements.
 pub fn convert(alloc: Global, value: &Value, number: u16) -> Result<Value, Refusal>
     ensures ok { IfOk result (λ v. (b : BaseType) × (base_number b ≡ number) × (converted (elements value.now) b ≡ Ok (elements v))) }
     ensures err { IfErr result (ConvertRefused (elements value.now) number) }
+    ensures memory { IfErr result (λ e. e ≡ OutOfMemory → count_of (elements value.now) ≢ 0) }
 {
     match BaseType::of(number) {
         None => Err(Refusal::BadType),

@@ -1,4 +1,4 @@
-ghost use Rattle.std.specs.Prelude.{[], ◌∷◌, ◌≡◌, ℕ, ◌≤◌, ◌<◌, ◌^◌, ◌+◌, ◌*◌, ◌++◌, List, length, take, All, IfOk, FitsSigned, vec_len, vec_capacity};
+ghost use Rattle.std.specs.Prelude.{[], ◌∷◌, ◌≡◌, ℕ, ◌≤◌, ◌<◌, ◌^◌, ◌+◌, ◌*◌, ◌++◌, List, length, take, All, IfOk, OnErr, ◌≢◌, FitsSigned, vec_len, vec_capacity};
 ghost use Rattle.std.specs.List.{flat_map};
 ghost use Rattle.std.specs.Int.{w16, w32};
 ghost use Rattle.ca_dbr.specs.Elements.{string_bytes, byte_1, bytes_2, bytes_4, bytes_8, signed_bytes_2, signed_bytes_4};
@@ -238,6 +238,7 @@ pub(crate) fn read_all<E: Element>(
     ensures again { IfOk result (λ v. flat_map E.spelled v.items ≡ take (count * E.SIZE) bytes.now) }
     ensures count { IfOk result (λ v. length v.items ≡ count) }
     ensures fits { IfOk result (λ v. All E.fits v.items) }
+    ensures some { OnErr result (count ≢ 0) }
 {
     let mut items = Vec::with_capacity(alloc, count)?;
     let mut rest = bytes;

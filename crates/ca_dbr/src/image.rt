@@ -2,7 +2,7 @@ ghost use Rattle.std.specs.Prelude.{◌≡◌, ◌≤◌, ◌<◌, ◌+◌, ◌-
 ghost use Rattle.ca_dbr.specs.declared.data_type.DataType.{DataType};
 ghost use Rattle.ca_dbr.specs.Types.{type_number, element_size, meta_size, size_of_image};
 ghost use Rattle.ca_dbr.specs.Elements.{elements, base_of, count_of, bytes_of, IsValue};
-ghost use Rattle.ca_dbr.specs.Image.{meta_bytes, Writes};
+ghost use Rattle.ca_dbr.specs.Image.{meta_bytes, Types, Writes};
 ghost use Rattle.ca_dbr.specs.Reading.{IsMeta};
 ghost use Rattle.ca_text.specs.declared.refusal.Refusal.TheVariants.{BadType, OutOfMemory};
 
@@ -87,7 +87,7 @@ fn put_elements(value: &Value, out: &mut Vec<u8>)
 }
 
 /// Writes the image of a value at the end of the bytes. Refused by 4 where the type does not exist or is not
-/// the value's own, then by 1; the bytes are then as before.
+/// the value's own, then by 1, only if there is no room for it; the bytes are then as before.
 pub fn write_value(
     number: u16,
     value: &Value,
@@ -95,6 +95,7 @@ pub fn write_value(
     out: &mut Vec<u8>,
 ) -> Result<(), Refusal>
     ensures written { Writes number (elements value.now) meta.now out.old.items result out.new.items }
+    ensures room { IfErr result (λ e. e ≡ OutOfMemory → (t : DataType) × Types number (elements value.now) t × (vec_capacity out.old < vec_len out.old + size_of_image t (count_of (elements value.now)))) }
     ensures value { OnOk result (IsValue (elements value.now)) }
     ensures meta { OnOk result (IsMeta meta.now) }
 {
@@ -113,10 +114,11 @@ pub fn write_value(
 }
 
 /// Writes as many zero bytes as an image of so many elements takes. Refused by 4 where the type does not exist,
-/// then by 1; the bytes are then as before.
+/// then by 1, only if there is no room for it; the bytes are then as before.
 pub fn write_zero_image(number: u16, count: u32, out: &mut Vec<u8>) -> Result<(), Refusal>
     ensures ok { OnOk result ((t : DataType) × (type_number t ≡ number) × (out.new.items ≡ out.old.items ++ replicate (size_of_image t count) 0)) }
     ensures err { IfErr result (λ e. (out.new.items ≡ out.old.items) × (((20 < number) × (e ≡ BadType)) ⊎ ((number < 21) × (e ≡ OutOfMemory)))) }
+    ensures room { IfErr result (λ e. e ≡ OutOfMemory → (t : DataType) × (type_number t ≡ number) × (vec_capacity out.old < vec_len out.old + size_of_image t count)) }
 {
     let size = image_size(number, count)?;
     out.reserve(size)?;

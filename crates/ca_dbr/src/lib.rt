@@ -20,8 +20,3 @@ pub use laws::{one_number, one_reading, wanted_shown, why_not_shown};
 pub use reading::read_value;
 pub use shown::write_shown;
 pub use value::{Meta, Outcome, Value};
-
-#[cfg(test)]
-mod tests;
-#[cfg(test)]
-mod tests_greatest;

@@ -1,4 +1,4 @@
-ghost use Rattle.std.specs.Prelude.{◌≡◌, ◌≤◌, ◌<◌, ◌+◌, ◌-◌, ◌*◌, ◌++◌, length, take, drop, replicate, IfOk, IfErr};
+ghost use Rattle.std.specs.Prelude.{◌≡◌, ◌≤◌, ◌<◌, ◌+◌, ◌-◌, ◌*◌, ◌++◌, length, take, drop, replicate, IfOk, IfErr, OnErr, ◌≢◌};
 ghost use Rattle.ca_dbr.specs.declared.data_type.DataType.{DataType};
 ghost use Rattle.ca_dbr.specs.Types.{type_number, meta_size};
 ghost use Rattle.ca_dbr.specs.Elements.{elements};
@@ -63,7 +63,8 @@ fn read_elements(
     bytes: &[u8],
 ) -> Result<Value, AllocError>
     requires { least_size base count ≤ length bytes.now }
-    ensures { IfOk result (λ value. ReadsElements base count bytes.now (elements value)) }
+    ensures read { IfOk result (λ value. ReadsElements base count bytes.now (elements value)) }
+    ensures some { OnErr result (count ≢ 0) }
 {
     let count = count as usize;
     match base {
@@ -83,7 +84,7 @@ fn read_elements(
 }
 
 /// Reads the image of so many elements. Refused by 4 where the type does not exist, by 5 where the bytes are
-/// too few, then by 1.
+/// too few, then by 1, only if there are elements.
 ///
 /// A STRING of count 1 may come in fewer than 40 bytes, the missing ones are zero. Padding, and bytes behind the
 /// last element, are not read. Metadata that the type does not carry is zero.

@@ -1,6 +1,8 @@
-ghost use Rattle.std.specs.Prelude.{◌≡◌, ◌≢◌, ◌≤◌, ◌<◌, ◌+◌, ◌-◌, ◌*◌, min, length, take, Ok, Err, IsOk, OnOk, MatchResult, vec_len, vec_capacity};
+ghost use Rattle.std.specs.Prelude.{◌≡◌, ◌≢◌, ◌≤◌, ◌<◌, ◌+◌, ◌-◌, ◌*◌, min, length, take, Ok, Err, IfErr, IsOk, OnOk, MatchResult, vec_len, vec_capacity};
 ghost use Rattle.ca_dbr.specs.declared.data_type.BaseType.TheVariants as base_type;
-ghost use Rattle.ca_dbr.specs.Types.{element_size, size_of_image};
+ghost use Rattle.ca_dbr.specs.Types.{element_size, size_of_image, type_number};
+ghost use Rattle.ca_dbr.specs.declared.data_type.DataType.{DataType};
+ghost use Rattle.ca_text.specs.declared.refusal.Refusal.TheVariants.{OutOfMemory};
 ghost use Rattle.ca_dbr.specs.Reading.{IsMeta};
 ghost use Rattle.ca_dbr.specs.Elements.{elements, count_of};
 ghost use Rattle.ca_dbr.specs.Conversion.{gathered, in_base, converted};
@@ -188,7 +190,8 @@ fn put_shown(
 ///
 /// A count below the present one takes the first elements, before they are converted; behind the present ones
 /// elements of zero bytes follow. Refused by 4 where the type does not exist, by 6 where the value does not
-/// convert to it, then by 8 or 7 by the first element at fault, then by 1; the bytes are then as before.
+/// convert to it, then by 8 or 7 by the first element at fault, then by 1, only if there is no room for it; the bytes are
+/// then as before.
 pub fn write_shown(
     number: u16,
     count: u32,
@@ -197,6 +200,7 @@ pub fn write_shown(
     out: &mut Vec<u8>,
 ) -> Result<(), Refusal>
     ensures shown { WritesShown number count (elements value.now) meta.now out.old.items result out.new.items }
+    ensures room { IfErr result (λ e. e ≡ OutOfMemory → (t : DataType) × (type_number t ≡ number) × (vec_capacity out.old < vec_len out.old + size_of_image t count)) }
     ensures meta { OnOk result (IsMeta meta.now) }
 {
     let data_type = match DataType::of(number) {

@@ -1,11 +1,11 @@
-ghost use Rattle.std.specs.Prelude.{◌≡◌, IfOk, IfErr};
+ghost use Rattle.std.specs.Prelude.{◌≡◌, ◌≢◌, IfOk, IfErr, OnErr, length};
 ghost use Rattle.ca_text.specs.declared.refusal.Refusal.TheVariants.{OutOfMemory};
 ghost use Rattle.ca_dbr.specs.Elements.{elements, base_of, count_of, IsValue};
 
 use crate::data_type::BaseType;
 use crate::element::know_all;
 use ca_text::{Refusal, Status};
-use std::alloc::Global;
+use std::alloc::{AllocError, Global};
 
 /// The elements of one channel's value: all of one type.
 #[derive(Debug, Drop, PartialEq, Eq)]
@@ -103,19 +103,30 @@ impl Value {
         }
     }
 
-    /// The same elements again. Refused by 1.
+    /// The same elements again. Refused by 1, only if there are elements.
     pub fn copy(&self, alloc: Global) -> Result<Value, Refusal>
         ensures ok { IfOk result (λ v. elements v ≡ elements self.now) }
-        ensures err { IfErr result (λ e. e ≡ OutOfMemory) }
+        ensures err { IfErr result (λ e. (e ≡ OutOfMemory) × (count_of (elements self.now) ≢ 0)) }
     {
         match self {
-            Value::Strings(items) => Ok(Value::Strings(Vec::from_slice(alloc, items)?)),
-            Value::Ints(items) => Ok(Value::Ints(Vec::from_slice(alloc, items)?)),
-            Value::Floats(items) => Ok(Value::Floats(Vec::from_slice(alloc, items)?)),
-            Value::Enums(items) => Ok(Value::Enums(Vec::from_slice(alloc, items)?)),
-            Value::Chars(items) => Ok(Value::Chars(Vec::from_slice(alloc, items)?)),
-            Value::Longs(items) => Ok(Value::Longs(Vec::from_slice(alloc, items)?)),
-            Value::Doubles(items) => Ok(Value::Doubles(Vec::from_slice(alloc, items)?)),
+            Value::Strings(items) => Ok(Value::Strings(copied(alloc, items)?)),
+            Value::Ints(items) => Ok(Value::Ints(copied(alloc, items)?)),
+            Value::Floats(items) => Ok(Value::Floats(copied(alloc, items)?)),
+            Value::Enums(items) => Ok(Value::Enums(copied(alloc, items)?)),
+            Value::Chars(items) => Ok(Value::Chars(copied(alloc, items)?)),
+            Value::Longs(items) => Ok(Value::Longs(copied(alloc, items)?)),
+            Value::Doubles(items) => Ok(Value::Doubles(copied(alloc, items)?)),
         }
     }
+}
+
+/// The same items in a Vec of their own. None take no memory.
+pub(crate) fn copied<T: Copy + Drop>(alloc: Global, items: &[T]) -> Result<Vec<T>, AllocError>
+    ensures ok { IfOk result (λ v. v.items ≡ items.now) }
+    ensures err { OnErr result (length items.now ≢ 0) }
+{
+    if items.is_empty() {
+        return Ok(Vec::new(alloc));
+    }
+    Vec::from_slice(alloc, items)
 }

@@ -9,6 +9,3 @@ mod search;
 pub use datagram::Datagram;
 pub use fixed::{beacon, confirm, register};
 pub use search::search_into;
-
-#[cfg(test)]
-mod tests;

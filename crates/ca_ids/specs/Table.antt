@@ -51,13 +51,13 @@ module _ {T : Type 0} where
   abbrev pub with_held : Handle → T → Table T → Table T
   with_held h v t = let p : Place T = record { generation = h.generation; value = Some v } in if h.index == length t then t ++ p ∷ [] else slice_set t h.index p
 
-  -- the table with what holds the id of this handle changed
+  -- the table with what holds the id of this handle changed; a stale handle changes nothing
   abbrev pub with_changed : (T → T) → Handle → Table T → Table T
-  with_changed f h t = slice_set t h.index (record { generation = h.generation; value = option_map f (under t h) })
+  with_changed f h t = if is_some (under t h) then slice_set t h.index (record { generation = h.generation; value = option_map f (under t h) }) else t
 
-  -- the table in which the id of this handle is free
+  -- the table in which the id of this handle is free; a stale handle changes nothing
   abbrev pub with_freed : Handle → Table T → Table T
-  with_freed h t = slice_set t h.index (record { generation = h.generation; value = None })
+  with_freed h t = if is_some (under t h) then slice_set t h.index (record { generation = h.generation; value = None }) else t
 
   -- the table with all that holds an id changed
   abbrev pub with_all : (T → T) → Table T → Table T

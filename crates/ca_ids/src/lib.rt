@@ -6,8 +6,6 @@
 
 mod laws;
 mod table;
-#[cfg(test)]
-mod tests;
 mod wire_id;
 
 pub use laws::wire_ids_differ;

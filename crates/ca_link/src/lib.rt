@@ -8,6 +8,3 @@ mod source;
 pub use fused::Fused;
 pub use sink::{Sink, Writer};
 pub use source::{Fault, Reader, Source};
-
-#[cfg(test)]
-mod tests;

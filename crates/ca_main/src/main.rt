@@ -1,6 +1,7 @@
 // The program `ca`: its words and the system's streams, handed to the library of that name.
 #![tactic(auto)]
 
+use ca_link::{Reader, Writer};
 use ca_text::Refusal;
 use std::env;
 use std::io::ErrorKind;
@@ -13,8 +14,8 @@ fn main(rt: HostRuntime) -> ExitCode {
             &rt,
             rt.alloc(),
             words.as_slice(),
-            rt.stdin(),
-            rt.stdout(),
+            &mut Reader::new(rt.stdin()),
+            &mut Writer::new(rt.stdout()),
             &mut err,
         ),
         Ok(None) => ca::not_understood(&mut err),
@@ -23,7 +24,7 @@ fn main(rt: HostRuntime) -> ExitCode {
     ExitCode::from(status)
 }
 
-/// The words behind the program's name: none where one of them is no text.
+/// The words after the program's name: none where one of them is no text.
 fn words(rt: &HostRuntime) -> Result<Option<Vec<String>>, Refusal> {
     let all = match env::args(rt) {
         Ok(all) => all,

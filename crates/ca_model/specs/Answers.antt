@@ -19,20 +19,20 @@ pub record Sending : Type 0 where
   pub message : Fields
   pub aim : Aim
 
--- What a client tells its caller: a channel is live, or lost; what became of a request; a subscription's update; that its server refused
+-- What a client reports to its caller: a channel is live, or lost; what became of a request; a subscription's update; that its server refused
 -- a subscription, which is over; that its server refused a plain write on a channel.
 pub data Notice : Type 0 where
   Live Lost : Handle → Notice
   Completed Update : Handle → Outcome → Notice
   SubscriptionEnded WriteRefused : Handle → Status → Notice
 
--- The client's end of a circuit has ended: why, what this tells, and the bytes that waited to be sent.
+-- The client's end of a circuit has ended: why, the notices of that, and the bytes that waited to be sent.
 pub record Closing : Type 0 where
   pub why : Why
   pub notices : List Notice
   pub left : List ℕ
 
--- what one step did: it read a message, which told this; it needs more bytes; or the end has ended
+-- what one step did: it read a message, with these notices; it needs more bytes; or the end has ended
 pub data Stepped : Type 0 where
   Notices : List Notice → Stepped
   NeedBytes : Stepped
@@ -48,7 +48,7 @@ pub record Left : Type 0 where
   pub circuit : Handle
   pub bytes : List ℕ
 
--- what a moment did: what it tells, which datagrams it sends, and which circuits have ended
+-- what a moment did: its notices, the datagrams that it sends, and the circuits that have ended
 pub record Ticked : Type 0 where
   pub notices : List Notice
   pub datagrams : List Datagram

@@ -2,15 +2,17 @@
 use Rattle.std.specs.Prelude.{ℕ, ◌==◌, ◌&&◌, ◌++◌, Bool, true, false, not, List, [], ◌∷◌, Option, Some, None, filter, filter_map, find, fold, if◌then◌else◌, map, max, option_and_then, option_map, unwrap_or}
 use Rattle.ca_dbr.specs.declared.value.Outcome.TheVariants as outcome
 use Rattle.ca_arena.specs.declared.handle.Handle.{Handle}
-use Rattle.ca_ids.specs.Table.{Table, by_wire, held, same_handle, under, with_all_freed, with_changed, with_freed}
+use Rattle.ca_ids.specs.Table.{Table, by_wire, held, same_handle, under, with_changed, with_freed}
 use Rattle.ca_ids.specs.Wire.{wire_of}
 use Rattle.ca_beacon.specs.Table.{Servers}
 use Rattle.ca_link.specs.Link.{LinkState, with_sent}
 use Rattle.ca_search.specs.Searches as search
 use Rattle.ca_search.specs.Searcher.{with_one, without}
 use Rattle.ca_requests.specs.Requests.{Request, in_order_of_issue, was_sent_on}
+use Rattle.ca_requests.specs.Requests as request
 use Rattle.ca_monitor.specs.ReadRun.{ReadRun}
-use Rattle.ca_monitor.specs.Subscriptions.{Subscription, drains_on}
+use Rattle.ca_monitor.specs.Subscriptions.{Subscription}
+use Rattle.ca_monitor.specs.Subscriptions as monitor
 use Rattle.ca_model.specs.Ends.{Address, Peer, Why, same_address}
 use Rattle.ca_model.specs.Answers.{Closing, Notice, Sending}
 use Rattle.ca_model.specs.Answers as notice
@@ -23,9 +25,9 @@ pub record Native : Type 0 where
   pub data_type : ℕ
   pub count : ℕ
 
--- How far a channel is on its circuit. It waits for the circuit to be connected; it is being created, with the access rights told so far,
--- or is live, with those told last. It was left by its record, or cleared by its caller, and its clear is not answered; or its caller
--- cleared it while it was being created.
+-- How far a channel is on its circuit. It waits for the circuit to be connected; it is being created, with the access rights that came
+-- so far, or is live, with those that came last. Its record was removed (Leaving), or its caller cleared it (Clearing), and its clear is
+-- not answered. Or its caller cleared it while it was being created (Doomed).
 pub data Phase : Type 0 where
   Connecting : Phase
   Creating : ℕ → Phase
@@ -59,7 +61,7 @@ pub record ClientCircuit : Type 0 where
 
 -- A client: how it names itself; the servers to which searches go in datagrams; the moment given last; its tables of CIDs, IOIDs and
 -- subscription ids; its circuits, and these in order: those of name servers, in the order of their list, and then the others, in the order
--- in which they came to be wanted; how many requests it accepted; the channels that it searches, by CID; and the beacons that it heard.
+-- in which they came to be wanted; its open requests, in order of issue; the channels that it searches, by CID; and the beacons that it heard.
 pub record Client : Type 0 where
   pub peer : Peer
   pub servers : List Address
@@ -69,7 +71,7 @@ pub record Client : Type 0 where
   pub subscriptions : Table Subscription
   pub circuits : Table ClientCircuit
   pub order : List Handle
-  pub issued : ℕ
+  pub issued : List Handle
   pub searches : List (ℕ × search.Channel)
   pub beacons : Servers
 
@@ -165,23 +167,37 @@ searched_again x h =
 abbrev pub without_channel : Client → Handle → Client
 without_channel x h = record x { channels = with_freed h x.channels; searches = without (wire_of h) x.searches }
 
+-- Nothing has the handle of this circuit.
+abbrev pub without_circuit : Handle → Client → Client
+without_circuit c x =
+    record x { circuits = with_freed c x.circuits; order = filter (λ (d : Handle). not (same_handle d c)) x.order }
+
+-- this circuit is not connected any more
+abbrev pub disconnected : Handle → Client → Client
+disconnected c x = record x { circuits = with_changed (λ (d : ClientCircuit). record d { connection = None }) c x.circuits }
+
 -- of a circuit that has ended nothing is kept, but a name server's is wanted again
 abbrev pub let_go : Handle → ClientCircuit → Client → Client
-let_go c d x =
-    if d.is_name then record x { circuits = with_changed (λ (e : ClientCircuit). record e { connection = None }) c x.circuits } else record x { circuits = with_freed c x.circuits; order = filter (λ (e : Handle). not (same_handle e c)) x.order }
+let_go c d x = if d.is_name then disconnected c x else without_circuit c x
+
+-- ---- requests
+
+-- the client with these requests, of which those that were issued are still in their order while they are open
+abbrev pub with_requests : Table Request → Client → Client
+with_requests t x = record x { requests = t; issued = in_order_of_issue (λ (q : Request). true) t x.issued }
 
 -- ---- an end ends
 
 -- Disconnected, for each open request that the test names, in order of issue
 abbrev pub disconnections : (Request → Bool) → Client → List Notice
-disconnections which x = map (λ (q : Handle). notice.Completed q outcome.Disconnected) (in_order_of_issue which x.requests)
+disconnections which x = map (λ (q : Handle). notice.Completed q outcome.Disconnected) (in_order_of_issue which x.requests x.issued)
 
 -- the channels that are on this circuit in a phase that the test names, in order of index
 abbrev pub channels_on : (Phase → Bool) → Handle → Client → List Handle
 channels_on test c x =
     filter_map (λ (e : Handle × Channel). if is_on_in test c e.1 then Some e.0 else None) (held x.channels)
 
--- What a client tells when its end of a circuit ends: its requests complete with Disconnected, in order of issue, and then each live
+-- What a client reports when its end of a circuit ends: its requests complete with Disconnected, in order of issue, and then each live
 -- channel is lost, in order of index.
 abbrev pub farewell : Handle → Client → List Notice
 farewell c x = disconnections (was_sent_on c) x ++ map notice.Lost (channels_on is_live c x)
@@ -190,10 +206,9 @@ farewell c x = disconnections (was_sent_on c) x ++ map notice.Lost (channels_on 
 abbrev pub closing : Why → Handle → Client → Closing
 closing why c x = record { why = why; notices = farewell c x; left = out_bytes x c }
 
--- the ids that drain on a circuit, and those of its requests, are free
+-- the IOIDs of a circuit's requests are free, and so are the subscription ids that drain on it
 abbrev pub without_ids : Handle → Client → Client
-without_ids c x =
-    record x { requests = with_all_freed (was_sent_on c) x.requests; subscriptions = with_all_freed (drains_on c) x.subscriptions }
+without_ids c x = with_requests (request.circuit_gone c x.requests) (record x { subscriptions = monitor.circuit_gone c x.subscriptions })
 
 -- The channels of a circuit that has ended: those that were cleared are gone, the others are searched for again.
 abbrev pub channels_ended : Handle → Client → Client

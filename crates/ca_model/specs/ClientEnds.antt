@@ -58,7 +58,7 @@ new_client a = record {
   subscriptions = [];
   circuits = name_circuits a.names;
   order = map (λ (e : Handle × ClientCircuit). e.0) (held (name_circuits a.names));
-  issued = 0;
+  issued = [];
   searches = [];
   beacons = finite.empty;
 }
@@ -79,7 +79,9 @@ of_circuit c m = record { circuit = c; message = m; aim = OfCircuit }
 -- the set-up of a circuit: VERSION, CLIENT_NAME and HOST_NAME
 abbrev pub set_up : Peer → Handle → ClientCircuit → List Sending
 set_up p c d =
-    map (of_circuit c) (version_request d.priority ∷ name_request command.ClientName p.user ∷ name_request command.HostName p.host ∷ [])
+    map
+    (of_circuit c)
+    (version_request d.priority ∷ name_request command.ClientName p.user ∷ name_request command.HostName p.host ∷ [])
 
 -- a channel that waits for its circuit to be connected
 abbrev pub is_connecting : Phase → Bool
@@ -95,18 +97,22 @@ creations c x =
 abbrev pub creating : Handle → Channel → Channel
 creating c here = if is_on_in is_connecting c here then record here { standing = On c (phase.Creating 0) } else here
 
+-- the client's end of a circuit that was connected at this moment
+abbrev pub new_connection : ℕ → Connection
+new_connection now = record { link = new_link now; run = no_reads }
+
 -- the client whose circuit is connected
 abbrev pub begun : Handle → Client → Client
 begun c x = record x {
   channels = with_all (creating c) x.channels;
-  circuits = with_changed (λ (d : ClientCircuit). record d { connection = Some (record { link = new_link x.moment; run = no_reads }) }) c x.circuits;
+  circuits = with_changed (λ (d : ClientCircuit). record d { connection = Some (new_connection x.moment) }) c x.circuits;
 }
 
 -- The end of this circuit ended for this cause.
-abbrev pub Ends : Why → Client → Handle → Closing → List Sending → Client → Type 0
-Ends cause old c k sent new = (k ≡ closing cause c old) × (sent ≡ []) × (new ≡ ended c old)
+abbrev pub EndsFor : Why → Client → Handle → Closing → List Sending → Client → Type 0
+EndsFor cause old c k sent new = (k ≡ closing cause c old) × (sent ≡ []) × (new ≡ ended c old)
 
--- the answer about a circuit that is not there: it is cut, with nothing to be told and no bytes left
+-- the answer about a circuit that is not there: it is cut, with no notices and no bytes left
 abbrev pub gone : Closing
 gone = record { why = Cut; notices = []; left = [] }
 
@@ -115,13 +121,13 @@ abbrev pub ConnectsOn : Client → Handle → Option ClientCircuit → Option Cl
 ConnectsOn old c None None sent new = ⊥
 ConnectsOn old c None (Some k) sent new = (k ≡ gone) × IsUnchanged old sent new
 ConnectsOn old c (Some d) None sent new = Does (set_up old.peer c d ++ creations c old) (begun c old) sent new
-ConnectsOn old c (Some d) (Some k) sent new = Ends why.OutOfMemory old c k sent new
+ConnectsOn old c (Some d) (Some k) sent new = EndsFor why.OutOfMemory old c k sent new
 
 -- the circuit of this handle, if it is wanted and not connected
 abbrev pub unconnected : Client → Handle → Option ClientCircuit
 unconnected x c = option_and_then (λ (d : ClientCircuit). if is_none d.connection then Some d else None) (under x.circuits c)
 
--- `connected`. The set-up takes memory; without it the end has ended at once, and nothing of it waits.
+-- `connected`. The set-up takes memory. If there is none the end has ended at once, and no bytes are left.
 abbrev pub ClientConnects : Client → Handle → Option Closing → List Sending → Client → Type 0
 ClientConnects old c answer sent new = ConnectsOn old c (unconnected old c) answer sent new
 
@@ -151,7 +157,7 @@ ClientGives old c bytes more answer sent new = GivesOn old c bytes more (connect
 -- `sent`: the first n of the bytes that waited (`out_bytes`) were handed over; on a circuit that is not connected none wait
 abbrev pub handed_over : Handle → ℕ → Client → Client
 handed_over c n x =
-    unwrap_or (option_map (λ (d : Connection). on_connection (λ (e : Connection). record e { link = with_handed n e.link }) c x) (connection_at x c)) x
+    if is_some (connection_at x c) then on_connection (λ (e : Connection). record e { link = with_handed n e.link }) c x else x
 
 -- ---- step
 
@@ -166,7 +172,7 @@ pub record Takes (old : Client) (c : Handle) (d : Connection) (e : Effect) : Typ
   pub first : TakesFirst d.link m rest
   pub hears : Hears (after_taking c rest old) c m e
 
--- It takes memory if it has a payload, sends or tells something, or makes a circuit wanted.
+-- It takes memory if it has a payload, sends or reports something, or makes a circuit wanted.
 abbrev pub TakesMemory : Client → Fields → Effect → Type 0
 TakesMemory old m e = (m.payload ≢ []) ⊎ ((e.sent ≢ []) ⊎ ((e.notices ≢ []) ⊎ (e.core.order ≢ old.order)))
 
@@ -182,10 +188,10 @@ abbrev pub StepsOn : Client → Handle → Option Connection → Stepped → Lis
 StepsOn old c None (Closed k) sent new = (k ≡ gone) × IsUnchanged old sent new
 StepsOn old c (Some d) (Notices told) sent new = Takes old c d (record { core = new; sent = sent; notices = told })
 StepsOn old c (Some d) NeedBytes sent new = NoneBegins d.link.input.bytes × NotBad d.link.input.bytes × IsUnchanged old sent new
-StepsOn old c (Some d) (Closed k) sent new = MayEnd old c d k.why × Ends k.why old c k sent new
+StepsOn old c (Some d) (Closed k) sent new = MayEnd old c d k.why × EndsFor k.why old c k sent new
 StepsOn old c None answer sent new = ⊥
 
--- `step`. What waited before it is left on a circuit that it ends.
+-- `step`. If it ends the circuit, the bytes that waited before it are left.
 abbrev pub ClientSteps : Client → Handle → Stepped → List Sending → Client → Type 0
 ClientSteps old c answer sent new = StepsOn old c (connection_at old c) answer sent new
 
@@ -193,15 +199,15 @@ ClientSteps old c answer sent new = StepsOn old c (connection_at old c) answer s
 
 -- `cut`. It takes no memory.
 abbrev pub ClientCuts : Client → Handle → Closing → List Sending → Client → Type 0
-ClientCuts old c k sent new = Ends why.Cut old c k sent new
+ClientCuts old c k sent new = EndsFor why.Cut old c k sent new
 
 -- `close`. It takes no memory.
 abbrev pub ClientCloses : Client → Handle → Closing → List Sending → Client → Type 0
-ClientCloses old c k sent new = Ends why.Asked old c k sent new
+ClientCloses old c k sent new = EndsFor why.Asked old c k sent new
 
 -- ---- tick
 
--- how far a tick is: the client now, and what was sent, told and ended so far
+-- how far a tick is: the client now, and what was sent, reported and ended so far
 pub record Ticking : Type 0 where
   pub core : Client
   pub sent : List Sending
@@ -215,13 +221,18 @@ with_sending s t = record t { core = sending (s ∷ []) t.core; sent = t.sent ++
 -- an ECHO goes out, once in a silence ("CA_PROTO_ECHO")
 abbrev pub echoes : Handle → Ticking → Ticking
 echoes c t =
-    with_sending (of_circuit c (bare command.Echo)) (record t { core = on_connection (λ (e : Connection). record e { link = record e.link { echoed = true } }) c t.core })
+    let noted : Client = on_connection (λ (e : Connection). record e { link = record e.link { echoed = true } }) c t.core in
+    with_sending (of_circuit c (bare command.Echo)) (record t { core = noted })
 
 -- the end of a circuit that was silent too long has ended
 abbrev pub falls_silent : Handle → Ticking → Ticking
 falls_silent c t =
     let k : Closing = closing why.Silence c t.core in
-    record t { core = ended c t.core; notices = t.notices ++ k.notices; closings = t.closings ++ record { circuit = c; bytes = k.left } ∷ [] }
+    record t {
+      core = ended c t.core;
+      notices = t.notices ++ k.notices;
+      closings = t.closings ++ record { circuit = c; bytes = k.left } ∷ [];
+    }
 
 -- what the silence of a circuit asks for
 abbrev pub ticks_as : Keep → Handle → Ticking → Ticking
@@ -239,7 +250,9 @@ abbrev pub packed : List ℕ → List search.Wanted → List (List ℕ)
 packed [] [] = []
 packed (b ∷ bytes) [] = (b ∷ bytes) ∷ []
 packed bytes (w ∷ ws) =
-    if nat_le (length (dgram.searched bytes w.cid w.name)) datagram_limit then packed (dgram.searched bytes w.cid w.name) ws else bytes ∷ packed (dgram.searched [] w.cid w.name) ws
+    if nat_le (length (dgram.searched bytes w.cid w.name)) datagram_limit
+    then packed (dgram.searched bytes w.cid w.name) ws
+    else bytes ∷ packed (dgram.searched [] w.cid w.name) ws
 
 -- these datagrams, to this server
 abbrev pub to_server : List (List ℕ) → Address → List Datagram
@@ -248,6 +261,10 @@ to_server datagrams a = map (λ (bytes : List ℕ). record { to = a; bytes = byt
 -- a SEARCH on a name server's circuit, unless too much waits there
 abbrev pub searches_on : Handle → Ticking → search.Wanted → Ticking
 searches_on c t w = if is_over t.core c then t else with_sending (of_circuit c (search_request w.cid w.name)) t
+
+-- these searches on a name server's circuit
+abbrev pub all_searched_on : List search.Wanted → Ticking → Handle → Ticking
+all_searched_on ws t c = fold (searches_on c) t ws
 
 -- the circuit is a name server's, and connected
 abbrev pub is_name_connected : Client → Handle → Bool
@@ -261,8 +278,8 @@ due x = search.wanted_at x.moment x.searches
 -- the due searches go out on the circuits of name servers, and count as made
 abbrev pub searches_made : Ticking → Ticking
 searches_made t =
-    let on_circuits : Ticking = fold (λ (u : Ticking) (c : Handle). fold (searches_on c) u (due t.core)) t (filter (is_name_connected t.core) t.core.order) in
-    record on_circuits { core = record on_circuits.core { searches = searcher.with_all (search.passed t.core.moment) on_circuits.core.searches } }
+    let u : Ticking = fold (all_searched_on (due t.core)) t (filter (is_name_connected t.core) t.core.order) in
+    record u { core = record u.core { searches = searcher.with_all (search.passed u.core.moment) u.core.searches } }
 
 -- the circuits at this moment, in order
 abbrev pub circuits_ticked : ℕ → Client → Ticking
@@ -271,9 +288,13 @@ circuits_ticked now x =
 
 -- what the tick answers: the due searches go in datagrams to each listed server too
 abbrev pub ticked : Ticking → Ticked
-ticked t = record { notices = t.notices; datagrams = flat_map (to_server (packed [] (due t.core))) t.core.servers; closings = t.closings }
+ticked t = record {
+  notices = t.notices;
+  datagrams = flat_map (to_server (packed [] (due t.core))) t.core.servers;
+  closings = t.closings;
+}
 
--- `tick`: circuits first, and then searches. An ECHO takes memory, an end that ended, and a search.
+-- `tick`: circuits first, and then searches. An ECHO, an end that has ended and a search take memory.
 abbrev pub ClientTicks : Client → ℕ → Result Ticked Refusal → List Sending → Client → Type 0
 ClientTicks old now (Ok answer) sent new =
     let t : Ticking = circuits_ticked now old in
@@ -293,7 +314,9 @@ beacon_server from m = server (if m.p2 == 0 then from.host else m.p2) m.count
 abbrev pub beacon_heard : Address → Fields → Client → Client
 beacon_heard from m x = record x {
   beacons = noted x.beacons (beacon_server from m) m.p1;
-  searches = if anomaly (finite.get x.beacons (beacon_server from m)) m.p1 then searcher.with_all (search.boosted x.moment) x.searches else x.searches;
+  searches = if anomaly (finite.get x.beacons (beacon_server from m)) m.p1
+      then searcher.with_all (search.boosted x.moment) x.searches
+      else x.searches;
 }
 
 -- One message of a datagram from this address: a search reply, a beacon with a port, or one that does nothing.
@@ -306,7 +329,8 @@ pub data Receives (from : Address) (x : Client) (m : Fields) (e : Effect) : Type
 abbrev pub ReceivesAll : Address → Client → List Fields → Effect → Type 0
 ReceivesAll from x [] e = e ≡ becomes x
 ReceivesAll from x (m ∷ ms) e =
-    (a b : Effect) × Receives from x m a × ReceivesAll from a.core ms b × (e ≡ record { core = b.core; sent = a.sent ++ b.sent; notices = a.notices ++ b.notices })
+    (a b : Effect) × Receives from x m a × ReceivesAll from a.core ms b
+    × (e ≡ record { core = b.core; sent = a.sent ++ b.sent; notices = a.notices ++ b.notices })
 
 -- a datagram that came
 pub record Arrival : Type 0 where
@@ -317,6 +341,7 @@ pub record Arrival : Type 0 where
 -- `datagram`: its messages were received as far as it is good. Only a message takes memory.
 abbrev pub ClientReceives : Client → Arrival → Result (Unit {0}) Refusal → List Sending → Client → Type 0
 ClientReceives old a (Ok _) sent new =
-    (ms : List Fields) × IsDatagram a.bytes ms × ReceivesAll a.from (record old { moment = later a.now old }) ms (record { core = new; sent = sent; notices = [] })
+    (ms : List Fields) × IsDatagram a.bytes ms
+    × ReceivesAll a.from (record old { moment = later a.now old }) ms (record { core = new; sent = sent; notices = [] })
 ClientReceives old a (Err refusal.OutOfMemory) sent new = (NoneBegins a.bytes → ⊥) × IsUnchanged old sent new
 ClientReceives old a (Err _) sent new = ⊥

@@ -1,5 +1,5 @@
 -- Vocabulary: what a client makes of a message that it reads on a circuit (section "CA Protocol Messages").
-use Rattle.std.specs.Prelude.{ℕ, ◌≡◌, ◌≢◌, ◌-◌, ◌^◌, ◌==◌, ◌&&◌, ◌++◌, ◌⊎◌, Bool, true, false, List, [], ◌∷◌, Option, Some, None, filter_map, if◌then◌else◌, option_and_then}
+use Rattle.std.specs.Prelude.{ℕ, ◌≡◌, ◌≢◌, ◌-◌, ◌^◌, ◌==◌, ◌++◌, ◌⊎◌, Bool, true, false, List, [], ◌∷◌, Option, Some, None, if◌then◌else◌, map, option_and_then, option_map, unwrap_or}
 use Rattle.std.specs.List.{list_any}
 use Rattle.ca_text.specs.Command.{command_number}
 use Rattle.ca_text.specs.declared.command.Command.{Command}
@@ -7,7 +7,7 @@ use Rattle.ca_text.specs.declared.command.Command.TheVariants as command
 use Rattle.ca_dbr.specs.declared.value.Outcome.{Outcome}
 use Rattle.ca_dbr.specs.declared.value.Outcome.TheVariants as outcome
 use Rattle.ca_arena.specs.declared.handle.Handle.{Handle}
-use Rattle.ca_ids.specs.Table.{IsFull, MayGive, by_wire, held, under, with_all_freed, with_freed, with_held}
+use Rattle.ca_ids.specs.Table.{IsFull, MayGive, by_wire, under, with_freed, with_held}
 use Rattle.ca_ids.specs.Wire.{wire_of}
 use Rattle.ca_wire.specs.declared.header.Header.{Header}
 use Rattle.ca_wire.specs.Fields.{Fields}
@@ -15,22 +15,23 @@ use Rattle.ca_wire.specs.Messages.{create_request}
 use Rattle.ca_requests.specs.Meaning.{Means, QuotesHeader}
 use Rattle.ca_requests.specs.Requests.{Request, Stage, answered_by, asks_on}
 use Rattle.ca_requests.specs.Requests as request
-use Rattle.ca_monitor.specs.Subscriptions.{Subscription, confirmed_by, drains_on, is_to, standing_by, stands_to}
+use Rattle.ca_monitor.specs.Subscriptions.{Subscription, confirmed_by, standing_by, standing_to}
+use Rattle.ca_monitor.specs.Subscriptions as monitor
 use Rattle.ca_model.specs.Ends.{Address}
 use Rattle.ca_model.specs.Speech.{Is}
 use Rattle.ca_model.specs.Answers.{Notice, Sending}
 use Rattle.ca_model.specs.Answers as notice
-use Rattle.ca_model.specs.Client.{Channel, Client, ClientCircuit, Connection, Native, On, Phase, Searching, Standing, channel_on, circuit_to, disconnections, found_on, is_live, is_on_in, new_circuit, phase_on, searched_again, sending, with_standing, without_channel}
+use Rattle.ca_model.specs.Client.{Channel, Client, ClientCircuit, Connection, Native, On, Phase, Searching, Standing, channel_on, circuit_to, disconnections, found_on, is_live, is_on_in, new_circuit, phase_on, searched_again, sending, with_standing, without_channel, with_requests}
 use Rattle.ca_model.specs.Client as phase
-use Rattle.ca_model.specs.ClientCalls.{clear_sent, event_add_sent, requests_over}
+use Rattle.ca_model.specs.ClientCalls.{clear_sent, event_add_sent}
 
--- what a message does: the client after it, what that sent, and what it tells
+-- what a message does: the client after it, what that sent, and its notices
 pub record Effect : Type 0 where
   pub core : Client
   pub sent : List Sending
   pub notices : List Notice
 
--- it sends these messages, tells this, and the client is this one, with them waiting on their circuits
+-- it sends these messages, with these notices, and the client is this one, with the messages waiting on their circuits
 abbrev pub doing : List Sending → List Notice → Client → Effect
 doing sent notices x = record { core = sending sent x; sent = sent; notices = notices }
 
@@ -71,7 +72,8 @@ with_circuit c d x = record x { circuits = with_held c d x.circuits; order = x.o
 abbrev pub PutsOn : Client → Address → Handle → Channel → Option (Handle × ClientCircuit) → Effect → Type 0
 PutsOn x a h here (Some (c, d)) e = e ≡ put_on c d.connection h here x
 PutsOn x a h here None e =
-    ((c : Handle) × MayGive x.circuits c × (e ≡ put_on c None h here (with_circuit c (new_circuit a here.priority false) x)))
+    ((c : Handle) × MayGive x.circuits c
+    × (e ≡ put_on c None h here (with_circuit c (new_circuit a here.priority false) x)))
     ⊎ (IsFull x.circuits × (e ≡ becomes x))
 
 -- a channel was found at this address; of a channel that is not searched for nothing happens
@@ -94,7 +96,7 @@ rights_told x c m there = becomes x
 -- the EVENT_ADDs of a channel's subscriptions, in order of index
 abbrev pub event_adds : Handle → ℕ → Handle → Client → List Sending
 event_adds c sid h x =
-    filter_map (λ (e : Handle × Subscription). if stands_to h e.1 then Some (event_add_sent c sid e.0 e.1) else None) (held x.subscriptions)
+    map (λ (e : Handle × Subscription). event_add_sent c sid e.0 e.1) (standing_to h x.subscriptions)
 
 -- what a CREATE_CHAN says of its channel
 abbrev pub native_in : Fields → Native
@@ -116,10 +118,8 @@ failed x there = becomes x
 
 -- the ids of a channel whose clear is answered drain no more
 abbrev pub without_drained : Handle → Handle → Client → Client
-without_drained c h x = record x {
-  requests = with_all_freed (asks_on h) x.requests;
-  subscriptions = with_all_freed (λ (s : Subscription). is_to h s && drains_on c s) x.subscriptions;
-}
+without_drained c h x =
+    with_requests (request.channel_gone h x.requests) (record x { subscriptions = monitor.channel_drained c h x.subscriptions })
 
 -- CLEAR_CHANNEL: a channel that its caller cleared is gone; one that its record left is searched for again ("CA_PROTO_CLEAR_CHANNEL")
 abbrev pub clear_answered : Client → Handle → Option (Handle × Phase) → Effect
@@ -131,14 +131,17 @@ clear_answered x c there = becomes x
 -- ("CA_PROTO_SERVER_DISCONN")
 abbrev pub left : Client → Handle → Option (Handle × Phase) → Effect
 left x c (Some (h, phase.Live n rights)) =
-    doing (clear_sent c n.sid h ∷ []) (disconnections (asks_on h) x ++ notice.Lost h ∷ []) (with_standing (On c phase.Leaving) h (requests_over h x))
+    doing
+    (clear_sent c n.sid h ∷ [])
+    (disconnections (asks_on h) x ++ notice.Lost h ∷ [])
+    (with_standing (On c phase.Leaving) h (with_requests (request.channel_over h x.requests) x))
 left x c there = becomes x
 
 -- ---- requests and subscriptions, each by its id
 
 -- nothing has the IOID of this request
 abbrev pub without_request : Handle → Client → Client
-without_request q x = record x { requests = with_freed q x.requests }
+without_request q x = with_requests (with_freed q x.requests) x
 
 -- nothing has the id of this subscription
 abbrev pub without_subscription : Handle → Client → Client
@@ -146,7 +149,7 @@ without_subscription s x = record x { subscriptions = with_freed s x.subscriptio
 
 -- A reply completes an open request with the outcome that it means, and ends the draining of an IOID.
 abbrev pub Completes : Client → Fields → Handle → Stage → Effect → Type 0
-Completes x m q (request.Open number) e = (o : Outcome) × Means m o × (e ≡ doing [] (notice.Completed q o ∷ []) (without_request q x))
+Completes x m q request.Open e = (o : Outcome) × Means m o × (e ≡ doing [] (notice.Completed q o ∷ []) (without_request q x))
 Completes x m q request.Draining e = e ≡ becomes (without_request q x)
 
 -- READ_NOTIFY and WRITE_NOTIFY ("CA_PROTO_READ_NOTIFY", "CA_PROTO_WRITE_NOTIFY")
@@ -159,11 +162,15 @@ abbrev pub confirmed : Client → Option Handle → Effect
 confirmed x (Some s) = becomes (without_subscription s x)
 confirmed x None = becomes x
 
+-- the channel of this handle is live on this circuit
+abbrev pub is_live_on : Client → Handle → Handle → Bool
+is_live_on x c h = unwrap_or (option_map (is_on_in is_live c) (under x.channels h)) false
+
 -- the subscription of this id, if it stands and its channel is live on this circuit
 abbrev pub heard_by : Client → Handle → ℕ → Option Handle
 heard_by x c id =
     option_and_then
-    (λ (e : Handle × Subscription). option_and_then (λ (here : Channel). if is_on_in is_live c here then Some e.0 else None) (under x.channels e.1.channel))
+    (λ (e : Handle × Subscription). if is_live_on x c e.1.channel then Some e.0 else None)
     (standing_by id x.subscriptions)
 
 -- Any other EVENT_ADD is an update ("CA_PROTO_EVENT_ADD").
@@ -185,7 +192,7 @@ subscription_failed x m None = becomes x
 
 -- A request failed; an IOID that drains goes on draining.
 abbrev pub request_failed : Client → Fields → Handle → Stage → Effect
-request_failed x m q (request.Open number) =
+request_failed x m q request.Open =
     doing [] (notice.Completed q (outcome.Failed (record { number = m.p2 })) ∷ []) (without_request q x)
 request_failed x m q request.Draining = becomes x
 
@@ -197,9 +204,13 @@ any_failed x m None = becomes x
 -- the request with this header failed: a WRITE by the ERROR's CID, an EVENT_ADD, or a request with an answer by its id
 abbrev pub failing : Client → Handle → Fields → Header → Effect
 failing x c m h =
-    if h.command == command_number command.Write then write_failed x m (channel_on x c m.p1) else if h.command == command_number command.EventAdd then subscription_failed x m (heard_by x c h.p2) else any_failed x m (answered_by c h.command h.p2 x.requests)
+    if h.command == command_number command.Write
+    then write_failed x m (channel_on x c m.p1)
+    else if h.command == command_number command.EventAdd
+    then subscription_failed x m (heard_by x c h.p2)
+    else any_failed x m (answered_by c h.command h.p2 x.requests)
 
--- An ERROR quotes the header of the request that failed. If that is not whole it is skipped ("CA_PROTO_ERROR").
+-- An ERROR quotes the header of the request that failed. If that is not complete the ERROR is skipped ("CA_PROTO_ERROR").
 abbrev pub Fails : Client → Handle → Fields → Effect → Type 0
 Fails x c m e =
     ((h : Header) × QuotesHeader m h × (e ≡ failing x c m h)) ⊎ (((h : Header) → QuotesHeader m h → ⊥) × (e ≡ becomes x))
@@ -209,7 +220,8 @@ Fails x c m e =
 -- the commands that a client understands on a circuit
 abbrev pub understood : List Command
 understood =
-    command.Search ∷ command.AccessRights ∷ command.CreateChannel ∷ command.CreateChannelFail ∷ command.ClearChannel ∷ command.ServerDisconnect ∷ command.ReadNotify ∷ command.WriteNotify ∷ command.EventAdd ∷ command.Error ∷ []
+    command.Search ∷ command.AccessRights ∷ command.CreateChannel ∷ command.CreateChannelFail ∷ command.ClearChannel
+    ∷ command.ServerDisconnect ∷ command.ReadNotify ∷ command.WriteNotify ∷ command.EventAdd ∷ command.Error ∷ []
 
 -- A message that was read on this circuit has this effect. One of another command is skipped, and so is one that is about nothing here.
 pub data Hears (x : Client) (c : Handle) (m : Fields) (e : Effect) : Type 0 where

@@ -1,6 +1,6 @@
 -- Vocabulary: the calls of a server on one circuit, by answer (sections "Virtual Circuit" and "CA Protocol Messages"). Each is the
 -- contract of the call of `ServerCore` that its comment names.
-use Rattle.std.specs.Prelude.{ℕ, ◌≡◌, ◌≢◌, ◌<◌, ◌≤◌, ◌+◌, ◌==◌, ◌&&◌, ◌++◌, ◌⊎◌, Bool, true, false, not, List, [], ◌∷◌, Option, Some, None, Ok, Err, Result, if◌then◌else◌, is_some, length, map, min, option_map, slice_set, unwrap_or, ◌^◌}
+use Rattle.std.specs.Prelude.{ℕ, ◌≡◌, ◌≢◌, ◌<◌, ◌≤◌, ◌+◌, ◌==◌, ◌&&◌, ◌++◌, ◌⊎◌, Bool, true, false, not, List, [], ◌∷◌, Option, Some, None, Ok, Err, Result, if◌then◌else◌, is_some, length, map, min, option_map, slice_set, unwrap_or}
 use Rattle.std.specs.List.{FoldsTo, list_any}
 use Rattle.ca_arena.specs.declared.handle.Handle.{Handle}
 use Rattle.ca_dbr.specs.Elements.{Elements}
@@ -14,7 +14,7 @@ use Rattle.ca_queue.specs.Waiting.{taken}
 use Rattle.ca_records.specs.Puts.{Put, Record, WaitingPut, record_named, with_record, with_value, with_waiting, withdrawn, written_meta}
 use Rattle.ca_text.specs.declared.refusal.Refusal.{Refusal}
 use Rattle.ca_text.specs.declared.refusal.Refusal.TheVariants as refusal
-use Rattle.ca_text.specs.Limits.{output_limit, queue_subscriptions}
+use Rattle.ca_text.specs.Limits.{applied_limit, output_limit, queue_subscriptions}
 use Rattle.ca_text.specs.Place.{At}
 use Rattle.ca_wire.specs.Fields.{Fields}
 use Rattle.ca_wire.specs.Stream.{BadAt, NoneBegins, NotBad}
@@ -54,9 +54,11 @@ abbrev pub output_of : Option ServerCircuit → List ℕ
 output_of (Some (Open e)) = e.link.output
 output_of c = []
 
--- `sent`: the first n bytes that waited were handed over.
+-- `sent`: the first n bytes that waited were handed over; none wait on a circuit whose end is not open.
 abbrev pub Sends : Server → Handle → ℕ → Server → Type 0
-Sends old h n new = (e : ServerEnd) × HasEnd old h e × (n ≤ length e.link.output) × (new ≡ with_end h (record e { link = with_handed n e.link }) old)
+Sends old h n new =
+    ((e : ServerEnd) × HasEnd old h e × (n ≤ length e.link.output) × (new ≡ with_end h (record e { link = with_handed n e.link }) old))
+    ⊎ (((e : ServerEnd) → HasEnd old h e → ⊥) × (n ≡ 0) × (new ≡ old))
 
 -- ---- circuits end
 
@@ -108,7 +110,7 @@ stored_now y value = record { value = value; meta = written_meta y.stamp }
 
 -- one more write was applied
 abbrev pub counted : Server → Server
-counted y = record y { applied = min (y.applied + 1) (2 ^ 63) }
+counted y = record y { applied = min (y.applied + 1) applied_limit }
 
 -- ---- what a message does
 
@@ -228,14 +230,24 @@ pub record Next (y : Server) (h : Handle) (e : ServerEnd) : Type 0 where
   pub after : Server
   pub handles : Handles y h (record e { link = with_rest rest e.link }) m replies action after
 
+-- the message writes at once
+abbrev pub is_write : Action → Bool
+is_write (Applies name value busies) = true
+is_write action = false
+
+-- What is left of the next message of an end that closes on it: nothing; or its write, which reaches all but these circuits.
+abbrev pub LeftOf : {y : Server} {h : Handle} {e : ServerEnd} → Next y h e → (written : Option (Handle → Bool)) → Server → Type 0
+LeftOf {y} {h} {e} next None new = new ≡ y
+LeftOf {y} {h} {e} next (Some gone) new = (is_write next.action ≡ true) × Reaches next.action gone next.after new
+
 -- The end closes out of memory for the next message: its replies are not sent, and its write is applied or not.
 pub record LacksMemory (y : Server) (h : Handle) (e : ServerEnd) (new : Server) : Type 0 where
   pub next : Next y h e
   pub needs : NeedsMemory next.m next.replies next.action
-  pub leaves :
-      (new ≡ closed h y)
-      ⊎ ((name : List ℕ) × (value : Elements) × (busies : Bool) × (gone : Handle → Bool) × (mid : Server)
-      × (next.action ≡ Applies name value busies) × Reaches next.action gone next.after mid × (new ≡ closed h mid))
+  pub written : Option (Handle → Bool)
+  pub mid : Server
+  pub left_is : LeftOf next written mid
+  pub leaves : new ≡ closed h mid
 
 -- A step of an open end.
 abbrev pub StepsOpen : Server → Handle → ServerEnd → Stepped → Server → Type 0

@@ -1,5 +1,14 @@
 pub mod Lists
 pub mod Unsafe
+pub mod UsedActs
+pub mod Speaks
+pub mod UsedOwn
+pub mod UsedRest
+pub mod UsedWhole
+pub mod UsedDue
+pub mod Crossed
+pub mod Reopened
+pub mod ReopenedSafe
 pub mod ServerRows
 pub mod DueReplies
 pub mod ServerHappens

@@ -9,13 +9,13 @@ use Rattle.ca_text.specs.declared.command.Command.TheVariants as command
 use Rattle.ca_dbr.specs.declared.value.Outcome.TheVariants as outcome
 use Rattle.ca_wire.specs.Fields.{Fields}
 use Rattle.ca_model.specs.Speech.{In, Is, Stored}
-use Rattle.ca_model.specs.History.{Cause, Reply, Removal, Circuit, Entry, Line, Sent, Told, Step, Added, Removed, Finished, Clear, Intent, On, Request, Read, Subscribe, Called, Noticed, Update}
+use Rattle.ca_model.specs.History.{Cause, Reply, Removal, Circuit, Entry, Line, Sent, Told, Step, Added, Removed, Applied, Waits, Finished, Clear, Intent, On, Request, Read, Subscribe, Called, Noticed, Update}
 use Rattle.ca_model_safe.specs.Channels.{IsFinished, IsReply, Lasts, OfCircuits}
 use Rattle.ca_model_safe.specs.Headline.{Acted, ActsOnRecord, Answered, AnswersOwn, IsBadChannel}
 use Rattle.ca_model_safe.specs.Means.{Means}
 use Rattle.ca_model.specs.Updates.{Shows}
 use Rattle.ca_model_examples.specs.Worlds.{AnyDue, Unsafe, adding, circuit, clearing, created_told, creating, disconnected, long, put_told, putting, reading, reply, step, temp, world}
-use Rattle.ca_model_examples.specs.Unsafe.{FollowsNot, SlowDue, UnsafeSlow, answered, answered_cleared, answered_from_new, answered_unfinished, answered_withdrawn, applied_early, applied_twice, cleared, cleared_lines, disconnected_for_nothing, finished_entries, for_nothing, foreign_refusal, from_new, gone_for_nothing, in_other_step, invented_answer, live_lines, lost_for_nothing, lost_lines, put_lines, read_lines, read_twice, refused_for_nothing, refused_write, temp_there, unanswered, unanswered_put, unanswered_read, unfinished_entries, unsaid_creation, unsaid_refusal, update_of_refused, update_of_unhandled, updated, updates_sent, withdrawn_entries, writing}
+use Rattle.ca_model_examples.specs.Unsafe.{FollowsNot, SlowDue, UnsafeSlow, answered, answered_cleared, answered_from_new, answered_unfinished, answered_withdrawn, applied_early, applied_twice, cleared, cleared_lines, disconnected_for_nothing, finished_entries, for_nothing, foreign_refusal, from_new, gone_for_nothing, in_other_step, invented_answer, live_lines, lost_for_nothing, lost_lines, put_lines, read_lines, read_told, read_twice, refused_for_nothing, refused_write, temp_there, unanswered, unanswered_put, unanswered_read, unfinished_entries, unsaid_creation, unsaid_refusal, update_of_refused, update_of_unhandled, updated, updates_sent, withdrawn_entries, writing}
 use Rattle.ca_model_examples.proofs.Lists.{Each, each-at, none-at, one-at, two-at}
 
 pub zero-one : ◌≡◌ {A = ℕ} 0 1 → ⊥
@@ -216,3 +216,103 @@ repeats v f = (let e = f.rising 1 2 0 0 (omega arith) refl refl in omega (arith,
 
 pub reorders : (v u : Stored) → FollowsNot (updated 1 1 22 ∷ updated 1 0 21 ∷ []) (v ∷ u ∷ [])
 reorders v u f = (let e = f.rising 1 2 1 0 (omega arith) refl refl in omega (arith, e))
+
+-- ---- the first clause
+
+-- TEMP was not removed before it was added.
+only-added : (r : ℕ) → In (take 1 (Added 0 temp ∷ [])) (Removed r) → ⊥
+only-added r h = no-removal h.0 r h.1
+
+-- a read at place 1 is handled on record 0
+read-acted : Acted for_nothing temp_there 1 0
+read-acted = (
+  reading 0 7,
+  step 1 1 1,
+  0,
+  0,
+  refl,
+  refl,
+  (
+    (created_told, creating, step 0 1 1, refl, refl, refl, (refl, refl), refl, refl, (temp, (0, refl), refl, (λ h. only-added 0 h))),
+    (λ i t after at creates. let e = (one-at created_told i t at).0 in omega (arith, e, after)),
+    λ l m after early at clears. let e = (one-at creating l m at).0 in omega (arith, e, after),
+  ),
+)
+
+pub never-refused-for-nothing : Unsafe refused_for_nothing
+never-refused-for-nothing s =
+    let p = its-own (ActsOnRecord AnyDue Shows Means) (for_nothing ∷ []) read_lines temp_there s.acts 0 for_nothing refl refl refl in
+    let bad : IsBadChannel AnyDue Shows Means for_nothing 1 1 = (_, refl, inl (inl refl, ((λ e. absurd (omega (arith, e))), refl))) in
+    no-removal (p.retired 1 1 0 (step 1 1 1) bad read-acted refl).0 0 (p.retired 1 1 0 (step 1 1 1) bad read-acted refl).1
+
+-- a reply with a value does not say that the read failed
+value-fails : (m : Fields) (status : Status) → m.p1 ≡ normal → Is command.ReadNotify m → Means m (outcome.Failed status) → ⊥
+value-fails m status fine reads h =
+    elim h [
+      | inl a ↦ a.1.0 fine
+      | inr b ↦ elim b [
+        | inl a ↦ (let e = a.0 in omega (arith, e, reads))
+        | inr d ↦ elim d [
+          | inl a ↦ a.1
+          | inr a ↦ (let e = a.0 in omega (arith, e, reads))
+        ]
+      ]
+    ]
+
+acted-before : Acted from_new (Added 0 temp ∷ Removed 0 ∷ Added 1 temp ∷ []) 1 0
+acted-before = (
+  reading 0 7,
+  step 2 3 3,
+  0,
+  0,
+  refl,
+  refl,
+  (
+    (created_told, creating, step 0 1 1, refl, refl, refl, (refl, refl), refl, refl, (temp, (0, refl), refl, (λ h. only-added 0 h))),
+    (λ i t after at creates. elim (two-at created_told disconnected i t at) [
+      | inl e ↦ (let f = e.0 in omega (arith, f, after))
+      | inr e ↦ (let f = ap (λ (u : Told). u.message.command) e.1 in let g = creates.0 in omega (arith, f, g))
+    ]),
+    λ l m after early at clears. let e = (one-at creating l m at).0 in omega (arith, e, after),
+  ),
+)
+
+pub never-answered-from-new : Unsafe answered_from_new
+never-answered-from-new s =
+    let p = its-own (ActsOnRecord AnyDue Shows Means) (from_new ∷ []) read_lines (Added 0 temp ∷ Removed 0 ∷ Added 1 temp ∷ []) s.acts 0 from_new refl refl refl in
+    let b = p.refused 1 2 0 _ (reading 0 7) (step 2 3 3) refl refl tt acted-before refl (1, refl) in
+    let is : (read_told 22).message ≡ b.0 = ap (λ (t : Told). t.message) (some_is _ _ b.1) in
+    value-fails b.0 _ (ap (λ (m : Fields). m.p1) (sym is)) (ap (λ (m : Fields). m.command) (sym is)) b.2
+
+-- ---- a notice by a message that is about something else
+
+pub never-foreign : Unsafe foreign_refusal
+never-foreign s =
+    elim ((s.own.1 0 _ refl).told 2 _ _ refl) [
+      | inl h ↦
+          let is : refused_write ≡ h.0.c = sym (one-at refused_write h.0.n h.0.c h.0.on.0).1 in
+          let m = h.0.own in
+          let at : At (creating ∷ writing ∷ []) h.0.t.place m.0 = subst (λ (c : Circuit). At c.up h.0.t.place m.0) (sym is) m.1 in
+          let e : m.0.intent ≡ On 0 (Subscribe 0) = m.2 in
+          each-at (λ (i : ℕ) (z : Sent). z.intent ≡ On 0 (Subscribe 0) → ⊥) (creating ∷ writing ∷ []) ((λ f. cc), ((λ f. cc), tt)) h.0.t.place m.0 at e
+      | inr h ↦ (let e = h.0 in cc)
+    ]
+
+-- ---- a write in another message's step
+
+pub never-applied-early : Unsafe applied_early
+never-applied-early s =
+    let o = s.applied.own 0 2 0 1 0 (long 22) (_, false, refl, refl) in
+    let is : in_other_step ≡ o.c = sym (one-at in_other_step 0 o.c o.joins.0.0).1 in
+    let ys : Added 0 temp ∷ Applied 0 2 0 (long 22) false ∷ [] ≡ o.y = some_is _ o.y (subst (λ (k : ℕ). At ((Added 0 temp ∷ Applied 0 2 0 (long 22) false ∷ []) ∷ []) k o.y) (ap (λ (c : Circuit). c.server) (sym is)) o.joins.0.2) in
+    elim o.came [
+      | inl taken ↦ elim taken [
+        | inl h ↦
+            let at : At (step 0 1 1 ∷ step 1 1 2 ∷ []) 2 h.0 = subst (λ (c : Circuit). At c.handled 2 h.0) (sym is) h.1 in
+            cc
+        | inr h ↦ (let shut : in_other_step.server_open ≡ false = subst (λ (c : Circuit). c.server_open ≡ false) (sym is) h.1 in cc)
+      ]
+      | inr waited ↦
+          let at : At (Added 0 temp ∷ Applied 0 2 0 (long 22) false ∷ []) waited.0 (Waits 0 2 0 waited.1) = subst (λ (l : List Entry). At l waited.0 (Waits 0 2 0 waited.1)) (sym ys) waited.2 in
+          each-at (λ (i : ℕ) (z : Entry). z ≡ Waits 0 2 0 waited.1 → ⊥) (Added 0 temp ∷ Applied 0 2 0 (long 22) false ∷ []) ((λ e. cc), ((λ e. cc), tt)) waited.0 _ at refl
+    ]

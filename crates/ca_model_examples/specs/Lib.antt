@@ -1,5 +1,6 @@
 pub mod Worlds
 pub mod Unsafe
+pub mod Safe
 pub mod ServerRows
 pub mod DueReplies
 pub mod ServerWorld

@@ -4,6 +4,7 @@ use Rattle.ca_text.specs.declared.command.Command.TheVariants as command
 use Rattle.ca_text.specs.Status.{normal}
 use Rattle.ca_dbr.specs.Elements.{longs}
 use Rattle.ca_records.specs.Record.{RecordState, unset}
+use Rattle.ca_records.specs.Rules.{Rule}
 use Rattle.ca_wire.specs.Fields.{Fields}
 use Rattle.ca_wire.specs.Messages.{Wanted, clear_request, create_request, created_reply, disconnect, event_add_request, put_request, read_request, rights_reply, status_reply}
 use Rattle.ca_model.specs.Speech.{Stored}
@@ -90,3 +91,10 @@ circuit up down handled heard =
 -- one life of a client and one of a server
 abbrev pub world : List Circuit → List Line → List Entry → World
 world circuits x y = record { circuits = circuits; clients = x ∷ []; servers = y ∷ [] }
+
+-- each server's port, and its rules: none
+abbrev pub ports : ℕ → ℕ
+ports life = 5064
+
+abbrev pub rules : ℕ → List Rule
+rules life = []

@@ -5,6 +5,7 @@ mod due_replies;
 mod server_calls;
 mod server_events;
 mod server_rows;
+mod safe_worlds;
 mod unsafe_worlds;
 
 pub use due_replies::{
@@ -26,8 +27,14 @@ pub use server_rows::{
     request_faults_are_as_worked, rights_are_as_worked, spelled_greetings_are_as_worked,
     spelled_replies_are_as_worked, subscription_faults_are_as_worked, waiting_puts_are_as_worked,
 };
+pub use safe_worlds::{
+    a_channel_in_use_is_safe, a_channel_that_comes_back_is_legal, a_shared_id_is_safe_but_not_legal,
+    updates_of_two_circuits_may_cross,
+};
 pub use unsafe_worlds::{
-    a_disconnection_for_nothing_is_unsafe, a_read_at_two_places_is_unsafe,
-    a_write_applied_twice_is_unsafe, an_invented_answer_is_unsafe, an_unsaid_notice_is_unsafe,
+    a_disconnection_for_nothing_is_unsafe, a_lost_or_repeated_post_is_unsafe,
+    a_read_at_two_places_is_unsafe, a_read_of_another_record_is_unsafe,
+    a_write_applied_twice_or_elsewhere_is_unsafe, an_early_or_lost_late_reply_is_unsafe,
+    an_invented_answer_is_unsafe, an_unsaid_notice_is_unsafe,
     an_update_without_its_subscription_is_unsafe,
 };

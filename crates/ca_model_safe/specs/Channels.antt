@@ -1,5 +1,7 @@
--- Statement: what is read off the lists: which message is whose, which channels are open or live, which writes were applied.
-use Rattle.std.specs.Prelude.{ℕ, ◌≡◌, ◌<◌, ◌≤◌, ◌++◌, ◌⊎◌, Bool, true, false, List, [], Option, Some, None, Ok, length, map, option_map, slice_get, take, unwrap_or}
+-- Statement: what is read off the lists: which message is whose, which channels are open or live, which writes were
+-- applied.
+use Rattle.std.specs.Prelude.{ℕ, ◌≡◌, ◌<◌, ◌≤◌, ◌++◌, ◌⊎◌, Bool, true, false, List, [], Option, Some, None, Ok}
+use Rattle.std.specs.Prelude.{length, map, option_map, slice_get, take, unwrap_or}
 use Rattle.ca_text.specs.declared.command.Command.TheVariants as command
 use Rattle.ca_text.specs.Place.{At}
 use Rattle.ca_dbr.specs.Conversion.{converted}
@@ -7,9 +9,11 @@ use Rattle.ca_dbr.specs.Elements.{Elements, base_of}
 use Rattle.ca_records.specs.Record.{RecordState}
 use Rattle.ca_wire.specs.Fields.{Fields}
 use Rattle.ca_model.specs.Speech.{Id, Cid, Ioid, SubId, Clears, Creates, Ends, In, Is, Stored, name_in, sid_in}
-use Rattle.ca_model.specs.History.{Ask, Create, Clear, Request, Subscribe, Cancel, Read, Put, Write, Intent, On, OfCircuit}
+use Rattle.ca_model.specs.History.{Ask, Create, Clear, Request, Subscribe, Cancel, Read, Put, Write, Intent, On}
+use Rattle.ca_model.specs.History.{OfCircuit}
 use Rattle.ca_model.specs.History.{Cause, Reply, Removal, Sent, Told, Step, Circuit}
-use Rattle.ca_model.specs.History.{Entry, Added, Removed, Waits, Applied, Finished, Withdrawn, Line, Opened, Called, World}
+use Rattle.ca_model.specs.History.{Entry, Added, Removed, Waits, Applied, Finished, Withdrawn, Line, Opened, Called}
+use Rattle.ca_model.specs.History.{World}
 
 -- ---- messages and intents
 
@@ -19,7 +23,8 @@ Joins w n c x y = At w.circuits n c × At w.clients c.client x × At w.servers c
 
 -- A fact holds of each circuit and of the two logs that it joins, which are there.
 abbrev pub OfCircuits : World → (ℕ → Circuit → List Line → List Entry → Type 0) → Type 0
-OfCircuits w P = (n : ℕ) (c : Circuit) → At w.circuits n c → (x : List Line) × (y : List Entry) × Joins w n c x y × P n c x y
+OfCircuits w P = (n : ℕ) (c : Circuit) → At w.circuits n c → (x : List Line) × (y : List Entry) × Joins w n c x y
+    × P n c x y
 
 -- A fact holds of the log of each life of a client.
 abbrev pub OfClients : World → (ℕ → List Line → Type 0) → Type 0
@@ -98,10 +103,12 @@ updates c = map (λ (t : Told). (t.place, t.cause)) c.down ++ c.queued
 abbrev pub IsReply : Circuit → (k j : ℕ) → Fields → Type 0
 IsReply c k j m = At c.down j (record { message = m; place = k; cause = Reply })
 
--- The steps of an end: one for each of the first messages that came to it, in order; each within what it sent and logged.
+-- The steps of an end: one for each of the first messages that came to it, in order; each within what it sent and
+-- logged.
 pub record AreSteps {A B C : Type 0} (steps : List Step) (came : List A) (sent : List B) (log : List C) : Type 0 where
   pub one_each : length steps ≤ length came
-  pub within : (k : ℕ) (h : Step) → At steps k h → (h.sent ≤ length sent) × (h.logged ≤ h.after) × (h.after ≤ length log)
+  pub within : (k : ℕ) (h : Step) → At steps k h → (h.sent ≤ length sent) × (h.logged ≤ h.after)
+      × (h.after ≤ length log)
   pub rise : (i j : ℕ) (g h : Step) → i < j → At steps i g → At steps j h → (g.sent ≤ h.sent) × (g.after ≤ h.logged)
 
 -- ---- channels
@@ -136,19 +143,23 @@ IsOpen c y j k sid r =
 -- When the server's log had so many entries, it had handled no CLEAR_CHANNEL of this SID that was sent after place k.
 abbrev pub IsUncleared : Circuit → (k sid logged : ℕ) → Type 0
 IsUncleared c k sid logged =
-    (l : ℕ) (s : Sent) (h : Step) → k < l → At c.up l s → At c.handled l h → h.logged ≤ logged → Clears s.message sid → ⊥
+    (l : ℕ) (s : Sent) (h : Step) → k < l → At c.up l s → At c.handled l h → h.logged ≤ logged → Clears s.message sid
+    → ⊥
 
--- The channel is live at the client: its creation was read, no CLEAR_CHANNEL of it was sent since, and the client's end is open.
+-- The channel is live at the client: its creation was read, no CLEAR_CHANNEL of it was sent since, and the client's end
+-- is open.
 abbrev pub IsLive : Circuit → (channel j k sid : ℕ) → Type 0
 IsLive c channel j k sid =
-    (t : Told) × Meant c k (On channel Create) × At c.down j t × (t.place ≡ k) × (t.cause ≡ Reply) × Creates t.message sid
+    (t : Told) × Meant c k (On channel Create) × At c.down j t × (t.place ≡ k) × (t.cause ≡ Reply)
+    × Creates t.message sid
     × (j < length c.heard) × ((l : ℕ) → k < l → Meant c l (On channel Clear) → ⊥) × (c.client_open ≡ true)
 
 -- The SERVER_DISCONN for the channel created at place k was sent, and is unread.
 abbrev pub IsUnread : Circuit → (k : ℕ) → Type 0
 IsUnread c k = (j : ℕ) × (t : Told) × At c.down j t × (t.place ≡ k) × (t.cause ≡ Removal) × (length c.heard ≤ j)
 
--- The subscription of the EVENT_ADD s lasts: the server's end is open, record r is there, and no cancel or clear was handled.
+-- The subscription of the EVENT_ADD s lasts: the server's end is open, record r is there, and no cancel or clear was
+-- handled.
 abbrev pub Lasts : Circuit → List Entry → (k r : ℕ) → Sent → Type 0
 Lasts c y k r s =
     (c.server_open ≡ true) × (In y (Removed r) → ⊥)
@@ -160,18 +171,20 @@ Lasts c y k r s =
 abbrev pub IsApplied : World → (n k l i r : ℕ) → Stored → Type 0
 IsApplied w n k l i r v = (y : List Entry) × (busies : Bool) × At w.servers l y × At y i (Applied n k r v busies)
 
--- Entry i was made when the message at place k was handled, or in the step in which the server's end closed on it.
+-- Entry i was made when the message at place k was handled; or after all that were, as the server's end closed on it.
 abbrev pub IsTaken : Circuit → (k i : ℕ) → Type 0
 IsTaken c k i =
-    ((h : Step) × At c.handled k h × (h.logged ≤ i) × (i < h.after)) ⊎ ((k ≡ length c.handled) × (c.server_open ≡ false))
+    ((h : Step) × At c.handled k h × (h.logged ≤ i) × (i < h.after))
+    ⊎ ((k ≡ length c.handled) × (c.server_open ≡ false) × ((l : ℕ) (g : Step) → At c.handled l g → g.after ≤ i))
 
--- The put at place k of circuit n came to wait for record r when it was handled, before entry i, and was never withdrawn.
+-- The put at place k of circuit n came to wait for record r when it was handled, before entry i, and was never
+-- withdrawn.
 abbrev pub HasWaited : (n : ℕ) → Circuit → List Entry → (k i r : ℕ) → Type 0
 HasWaited n c y k i r =
     (e : ℕ) × (v : Stored) × At y e (Waits n k r v) × (e < i) × IsTaken c k e × (In y (Withdrawn n k) → ⊥)
 
--- A write that is applied at entry i has the value that its caller gave, in the type of its record; the record was there then,
--- under the name of the caller's channel; and it was applied when it was handled, or after it had waited.
+-- A write that is applied at entry i has the value that its caller gave, in the type of its record; the record was
+-- there then, under the name of the caller's channel; and it was applied when it was handled, or after it had waited.
 pub record IsOwnWrite (w : World) (n k l i r : ℕ) (v : Stored) : Type 0 where
   pub c : Circuit
   pub x : List Line
@@ -186,7 +199,8 @@ pub record IsOwnWrite (w : World) (n k l i r : ℕ) (v : Stored) : Type 0 where
   pub value : converted given (base_of to.value) ≡ Ok v.value
   pub came : IsTaken c k i ⊎ HasWaited n c y k i r
 
--- Until entry e the put at place k of circuit n made its record busy: it was applied before, and no other made the record busy since.
+-- Until entry e the put at place k of circuit n made its record busy: it was applied before, and no other made the
+-- record busy since.
 abbrev pub IsBusyUntil : List Entry → (n k e : ℕ) → Type 0
 IsBusyUntil y n k e =
     (i r : ℕ) × (v : Stored) × At y i (Applied n k r v true) × (i < e)
@@ -196,11 +210,13 @@ IsBusyUntil y n k e =
 abbrev pub IsFinished : (n : ℕ) → Circuit → List Entry → (k : ℕ) → Sent → Type 0
 IsFinished n c y k s = (e : ℕ) × At y e (Finished n k) × IsBusyUntil y n k e × IsUncleared c k (sid_in s.message) e
 
--- What was meant so is lost in line i: its client's end has ended, or its channel was cleared before, or in the step that told line
--- i a SERVER_DISCONN was read for the creation of its channel after which it was sent.
+-- What was meant so is lost in line i: its client's end has ended, or its channel was cleared before, or in the step
+-- that told line i a SERVER_DISCONN was read for the creation of its channel after which it was sent.
 abbrev pub IsLost : World → (life : ℕ) → List Line → (i : ℕ) → Intent → Type 0
 IsLost w life x i intent =
-    (n k channel : ℕ) × (ask : Ask) × (c : Circuit) × At w.circuits n c × (c.client ≡ life) × (intent ≡ On channel ask) × Meant c k intent
+    (n k channel : ℕ) × (ask : Ask) × (c : Circuit) × At w.circuits n c × (c.client ≡ life) × (intent ≡ On channel ask)
+    × Meant c k intent
     × ((c.client_open ≡ false) ⊎ (In (take i x) (Called (On channel Clear) None)
-    ⊎ ((j : ℕ) × (t : Told) × (h : Step) × At c.down j t × At c.heard j h × (t.cause ≡ Removal) × Meant c t.place (On channel Create)
+    ⊎ ((j : ℕ) × (t : Told) × (h : Step) × At c.down j t × At c.heard j h × (t.cause ≡ Removal)
+    × Meant c t.place (On channel Create)
     × (t.place ≤ k) × (k < h.sent) × (h.logged ≤ i) × (i < h.after))))

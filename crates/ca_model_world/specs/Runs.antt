@@ -1,11 +1,13 @@
 -- Statement: which events can be done, what each may leave, and runs of events.
-use Rattle.std.specs.Prelude.{ℕ, ◌≡◌, ◌<◌, ◌≤◌, ◌⊎◌, true, List, [], ◌∷◌, length, take}
+use Rattle.std.specs.Prelude.{ℕ, ◌≡◌, ◌<◌, ◌≤◌, ◌⊎◌, true, List, [], Option, Some, None, Err, length}
 use Rattle.std.specs.List.{FoldsTo, range_with_len}
 use Rattle.ca_arena.specs.declared.handle.Handle.{Handle}
-use Rattle.ca_dbr.specs.Elements.{Elements, IsValue}
-use Rattle.ca_records.specs.Record.{RecordState}
+use Rattle.ca_dbr.specs.Elements.{IsValue}
+use Rattle.ca_records.specs.Record.{unset}
+use Rattle.ca_text.specs.declared.refusal.Refusal.TheVariants.{OutOfMemory}
 use Rattle.ca_text.specs.Mask.{HasEvent}
 use Rattle.ca_text.specs.Place.{At}
+use Rattle.ca_model.specs.ClientEnds.{ClientTicks}
 use Rattle.ca_model.specs.History.{Collected, GaveUp, Intent}
 use Rattle.ca_model_world.specs.ClientEvents.{HappensAccept, HappensClear, HappensClientDatagram, HappensClientRestart, HappensClientStep, HappensCutClient, HappensDown, HappensHandingOut, HappensOpen, HappensRead, HappensSubscribe, HappensUnsubscribe, HappensUp, HappensWrite, HappensWriteNotify, TicksOne, WantsFirst, waiting_down, waiting_up}
 use Rattle.ca_model_world.specs.Events.{Event}
@@ -138,21 +140,29 @@ Happens w e new = (at : CanBe w e) × Leaves w e at new
 
 -- ---- runs
 
--- A run ended before this event, or in it: a tick that a client refused out of memory, after those before it had it.
-abbrev pub EndsIn : World → World → Type 0
-EndsIn mid w = (w ≡ mid) ⊎ ((moment n : ℕ) × (mid.moment ≤ moment) × (n < length mid.clients) × TicksAll moment mid (clients_below n) w)
+-- A tick was handed to a beginning of the clients, and the next one refused it out of memory.
+abbrev pub TicksBefore : (moment : ℕ) → World → World → Type 0
+TicksBefore moment mid w =
+    (n : ℕ) × (x : ClientSide) × (mid.moment ≤ moment) × TicksAll moment mid (clients_below n) w × At mid.clients n x
+    × ClientTicks x.core moment (Err OutOfMemory) [] x.core
 
--- From the opening world, these events in a row leave this one; or the beginning of a tick after them does.
-abbrev pub Runs : Setting → List Event → World → Type 0
-Runs setting es w = (mid : World) × FoldsTo Happens (opening setting) es mid × EndsIn mid w
+-- What the event at which a run stopped left, if there was one: nothing, or the beginning of a tick.
+abbrev pub StopsAt : World → Option Event → World → Type 0
+StopsAt mid (Some (event.Tick moment)) w = (w ≡ mid) ⊎ TicksBefore moment mid w
+StopsAt mid stopped w = w ≡ mid
 
--- The values in these events are values, and the masks have a bit. Both follow from the types of the program.
+-- From the opening world, these events in a row lead to this one, with the event at which the run stopped, if there was one.
+abbrev pub Runs : Setting → List Event → (stopped : Option Event) → World → Type 0
+Runs setting es stopped w = (mid : World) × FoldsTo Happens (opening setting) es mid × StopsAt mid stopped w
+
+-- The values in these events are values, a record that is added has no alarm and no stamp yet, and masks have a bit. All this follows from
+-- the types of the program.
 abbrev pub IsEvent : Event → Type 0
 IsEvent (event.Write i c e) = IsValue e
 IsEvent (event.WriteNotify i c e) = IsValue e
 IsEvent (event.Post i name e mask) = IsValue e × HasEvent mask
 IsEvent (event.Subscribe i c data_type count mask) = HasEvent mask × (mask < 65536)
-IsEvent (event.Add i r) = IsValue r.value
+IsEvent (event.Add i r) = IsValue r.value × (r.meta ≡ unset)
 IsEvent e = Unit {0}
 
 abbrev pub AreEvents : List Event → Type 0

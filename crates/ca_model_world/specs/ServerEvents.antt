@@ -28,7 +28,7 @@ use Rattle.ca_model.specs.History.{Cause, Entry, Removal, Reply, Sent, Step, Tol
 use Rattle.ca_model.specs.History as entry
 use Rattle.ca_model.specs.Server.{Ended, Open, OpenChannel, Server, ServerCircuit, ServerEnd, Subscription, concerns, key_of, queue_posted, without_each}
 use Rattle.ca_model.specs.ServerCalls.{AddsRecord, AnswersDatagram, Finish, Finishes, Posts, Removes, channels_of}
-use Rattle.ca_model.specs.ServerSteps.{Cuts, Handles, HasEnd, NeedsMemory, Next, Pumps, Reaches, Stepped, StepsOpen, Update, closed, output_of, stored_now, write_mask}
+use Rattle.ca_model.specs.ServerSteps.{Cuts, Handles, HasEnd, LacksMemory, Next, Pumps, Stepped, StepsOpen, Update, closed, output_of, stored_now, write_mask}
 use Rattle.ca_model.specs.ServerSteps as stepped
 use Rattle.ca_model.specs.Speech.{In, Stored}
 use Rattle.ca_model_world.specs.World.{Creation, Joined, Joins, PutPlace, RecordSide, ServerSide, Standing, World, log_begun, log_length, record_begun, server_begun, with_circuit, with_entries, with_server}
@@ -65,7 +65,7 @@ abbrev pub withdrawals : (ℕ → Bool) → List RecordSide → List Entry
 withdrawals gone records =
     map (λ (p : PutPlace). entry.Withdrawn p.circuit p.place) (flat_map (λ (r : RecordSide). filter (λ (p : PutPlace). gone p.circuit) r.waiting) records)
 
--- Each end that ended in a call is reported by a step of the core at once, so that it keeps nothing of it.
+-- Each end that ended in a call is reported by a step of the core at once (by `Steps` its slot is free then), so that it keeps nothing of it.
 abbrev pub reported : Server → Server
 reported core = record core { circuits = with_all_freed (λ (c : ServerCircuit). is_some (left_by (Some c))) core.circuits }
 
@@ -150,7 +150,7 @@ logged_by core h p action records = []
 abbrev pub number_taken : SubKey → (ℕ × Cause) → List (Queue (ℕ × Cause)) → List (Queue (ℕ × Cause))
 number_taken key item [] = []
 number_taken key item (q ∷ qs) =
-    if length q.subscriptions == queue_subscriptions then q ∷ number_taken key item qs else posted key item (added key q) ∷ qs
+    if nat_lt (length q.subscriptions) queue_subscriptions then posted key item (added key q) ∷ qs else q ∷ number_taken key item qs
 
 -- the circuit without the subscriptions that a test names, and their numbers
 abbrev pub without_standing : (SubKey → Bool) → Joined → Joined
@@ -208,9 +208,14 @@ noted k j y replies before w =
 abbrev pub side_of : ℕ → ServerSide → World → ServerSide
 side_of i y w = unwrap_or (slice_get w.servers i) y
 
--- circuit k ends with these bytes left, and others as the core says
-abbrev pub ends_here : (k : ℕ) → Joined → List ℕ → (i : ℕ) → Server → Joined → Option (List ℕ)
-ends_here k j left i core c = if same_handle c.at_server j.at_server && (c.server == i && c.lists.server_open) then Some left else ends_by i core c
+-- the world after a message whose step closed its circuit: its write was applied, or nothing was done
+abbrev pub unsaid : (k : ℕ) → Joined → ServerSide → Action → (written : Option (Handle → Bool)) → World → World
+unsaid k j y action None w = w
+unsaid k j y action (Some gone) w = acted k j y action w
+
+-- the circuit j ends with these bytes left, and others as the core says
+abbrev pub ends_here : Joined → List ℕ → (i : ℕ) → Server → Joined → Option (List ℕ)
+ends_here j left i core c = if same_handle c.at_server j.at_server && (c.server == i && c.lists.server_open) then Some left else ends_by i core c
 
 -- ---- events
 
@@ -218,12 +223,10 @@ ends_here k j left i core c = if same_handle c.at_server j.at_server && (c.serve
 pub record StepHandles (w : World) (k : ℕ) (j : Joined) (y : ServerSide) (new : World) : Type 0 where
   pub e : ServerEnd
   pub has : HasEnd y.core j.at_server e
-  pub next : Next y.core j.at_server e
-  pub gone : Handle → Bool
-  pub lasts : gone j.at_server ≡ false
   pub core : Server
-  pub reaches : Reaches next.action gone next.after core
+  pub steps : StepsOpen y.core j.at_server e stepped.Handled core
   pub leaves :
+      let next : Next y.core j.at_server e = steps.0 in
       let mid : World = acted k j y next.action w in
       new ≡ noted k j y next.replies w (server_after j.server (side_of j.server y mid) (ends_by j.server core) core mid)
 
@@ -232,14 +235,11 @@ pub record StepLacks (w : World) (k : ℕ) (j : Joined) (y : ServerSide) (left :
   pub e : ServerEnd
   pub has : HasEnd y.core j.at_server e
   pub left_is : left ≡ e.link.output
-  pub next : Next y.core j.at_server e
-  pub needs : NeedsMemory next.m next.replies next.action
+  pub core : Server
+  pub lacks : LacksMemory y.core j.at_server e core
   pub leaves :
-      (new ≡ server_after j.server y (ends_here k j left j.server y.core) (closed j.at_server y.core) w)
-      ⊎ ((name : List ℕ) × (value : Elements) × (busies : Bool) × (gone : Handle → Bool) × (core : Server)
-      × (next.action ≡ Applies name value busies) × Reaches next.action gone next.after core
-      × (let mid : World = acted k j y next.action w in
-      new ≡ server_after j.server (side_of j.server y mid) (ends_here k j left j.server core) (closed j.at_server core) mid))
+      let mid : World = unsaid k j y lacks.next.action lacks.written w in
+      new ≡ server_after j.server (side_of j.server y mid) (ends_here j left j.server core) core mid
 
 -- A step of the server's end of a circuit: it takes a message, or none, or closes the circuit.
 abbrev pub ServerStepped : World → (k : ℕ) → Joined → ServerSide → Stepped → World → Type 0
@@ -247,7 +247,7 @@ ServerStepped w k j y stepped.Handled new = StepHandles w k j y new
 ServerStepped w k j y (stepped.Closed why.OutOfMemory left) new = StepLacks w k j y left new
 ServerStepped w k j y (stepped.Closed why left) new =
     (e : ServerEnd) × HasEnd y.core j.at_server e × StepsOpen y.core j.at_server e (stepped.Closed why left) (closed j.at_server y.core)
-    × (new ≡ server_after j.server y (ends_here k j left j.server y.core) (closed j.at_server y.core) w)
+    × (new ≡ server_after j.server y (ends_here j left j.server y.core) (closed j.at_server y.core) w)
 ServerStepped w k j y did new = (e : ServerEnd) × HasEnd y.core j.at_server e × StepsOpen y.core j.at_server e did y.core × (new ≡ w)
 
 -- the event of a step of the server's end

@@ -1,5 +1,5 @@
 -- Statement: a world of clients and servers, the circuits that join them, and what happened.
-use Rattle.std.specs.Prelude.{ℕ, ◌≡◌, ◌<◌, ◌≤◌, ◌+◌, ◌==◌, ◌++◌, Bool, true, false, List, [], ◌∷◌, Option, Some, None, filter, if◌then◌else◌, length, map, option_map, slice_get, slice_set, unwrap_or}
+use Rattle.std.specs.Prelude.{ℕ, ◌≡◌, ◌<◌, ◌≤◌, ◌^◌, ◌+◌, ◌==◌, ◌++◌, List, [], ◌∷◌, Option, None, find, length, map, option_and_then, option_map, slice_get, slice_set, unwrap_or}
 use Rattle.std.specs.List.{flat_map}
 use Rattle.ca_arena.specs.declared.handle.Handle.{Handle}
 use Rattle.ca_queue.specs.declared.entry.SubKey.{SubKey}
@@ -7,9 +7,9 @@ use Rattle.ca_queue.specs.Queue.{Queue}
 use Rattle.ca_records.specs.Record.{IsRecord, RecordState}
 use Rattle.ca_records.specs.Rules.{Rule}
 use Rattle.ca_text.specs.Place.{At}
-use Rattle.ca_text.specs.Limits.{payload_limit}
+use Rattle.ca_text.specs.Limits.{arena_slots, payload_limit}
 use Rattle.ca_model.specs.Client.{Client}
-use Rattle.ca_model.specs.ClientEnds.{new_client}
+use Rattle.ca_model.specs.ClientEnds.{distinct, new_client}
 use Rattle.ca_model.specs.Ends.{Address, Peer}
 use Rattle.ca_model.specs.History.{Cause, Circuit, Entry, Added, Intent, Line, Sent, Step, Told}
 use Rattle.ca_model.specs.History as history
@@ -33,11 +33,14 @@ pub record Setting : Type 0 where
   pub clients : List ClientSetting
   pub servers : List ServerSetting
 
--- Users and hosts fit into a message; the records of a server are records, and have different names; the servers have different addresses.
+-- Users and hosts fit into a message, and name servers into a table; the records of a server are records, and have different names; ports
+-- are ports, and the servers have different addresses.
 pub record IsSetting (s : Setting) : Type 0 where
   pub fit : (i : ℕ) (c : ClientSetting) → At s.clients i c → (length c.peer.user < payload_limit) × (length c.peer.host < payload_limit)
+  pub few : (i : ℕ) (c : ClientSetting) → At s.clients i c → length (distinct c.name_servers) ≤ arena_slots
   pub records : (i j : ℕ) (y : ServerSetting) (r : RecordState) → At s.servers i y → At y.records j r → IsRecord r
   pub names : (i j k : ℕ) (y : ServerSetting) (r q : RecordState) → At s.servers i y → At y.records j r → At y.records k q → r.name ≡ q.name → j ≡ k
+  pub ports : (i : ℕ) (y : ServerSetting) → At s.servers i y → y.address.port < 2 ^ 16
   pub addresses : (i j : ℕ) (y z : ServerSetting) → At s.servers i y → At s.servers j z → y.address ≡ z.address → i ≡ j
 
 -- ---- a world
@@ -125,6 +128,20 @@ circuit_of j = record j.lists { queued = waiting_in j.queues }
 -- what happened in a world, of which the statement speaks
 abbrev pub told : World → history.World
 told w = record { circuits = map circuit_of w.circuits; clients = w.client_logs; servers = w.server_logs }
+
+-- as what the server was given whose life this is, by a circuit that joins it
+abbrev pub setting_of : World → (life : ℕ) → Option ServerSetting
+setting_of w life =
+    option_and_then
+    (λ (j : Joined). option_map (λ (y : ServerSide). y.setting) (slice_get w.servers j.server))
+    (find (λ (j : Joined). j.lists.server == life) w.circuits)
+
+-- its port, and its rules
+abbrev pub port_of : World → (life : ℕ) → ℕ
+port_of w life = unwrap_or (option_map (λ (s : ServerSetting). s.address.port) (setting_of w life)) 0
+
+abbrev pub rules_of : World → (life : ℕ) → List Rule
+rules_of w life = unwrap_or (option_map (λ (s : ServerSetting). s.rules) (setting_of w life)) []
 
 -- ---- a world before any event
 

@@ -13,7 +13,7 @@ pub record ReadRun : Type 0 where
 abbrev pub no_reads : ReadRun
 no_reads = record { reads = 0; events_off = false }
 
--- one more read left bytes waiting: so many in a row ask for a pause
+-- one more read left bytes waiting: `flow_reads` of them in a row ask for a pause
 abbrev pub counted : ReadRun → ReadRun
 counted r = if r.reads + 1 == flow_reads then record { reads = 0; events_off = true } else record r { reads = r.reads + 1 }
 

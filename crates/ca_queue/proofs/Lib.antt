@@ -1,4 +1,4 @@
-mod Additions
+pub mod Additions
 mod Counts
 mod Crowds
 pub mod Entries

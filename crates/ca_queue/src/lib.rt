@@ -17,6 +17,3 @@ pub use laws::{
     post_finds_a_place, take_gives_the_first_of_its_own,
 };
 pub use queues::Queues;
-
-#[cfg(test)]
-mod tests;

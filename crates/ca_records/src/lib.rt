@@ -6,6 +6,3 @@ mod records;
 
 pub use record::Record;
 pub use records::Records;
-
-#[cfg(test)]
-mod tests;

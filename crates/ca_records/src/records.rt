@@ -1,4 +1,4 @@
-ghost use Rattle.std.specs.Prelude.{◌≡◌, ◌<◌, ◌↔◌, ◌++◌, ◌∷◌, [], IfOk, IfSome, IsTrue, MatchOption, MatchResult, OnOk, length};
+ghost use Rattle.std.specs.Prelude.{◌≡◌, ◌<◌, ◌↔◌, ◌++◌, ◌∷◌, [], IfOk, IfSome, IsTrue, MatchOption, MatchResult, OnErr, OnOk, ◌≢◌, length};
 ghost use Rattle.ca_text.specs.Place.{At};
 ghost use Rattle.ca_text.specs.declared.refusal.Refusal.TheVariants.{UnknownRecord};
 ghost use Rattle.ca_dbr.specs.Elements.{elements};
@@ -124,9 +124,10 @@ impl Records {
         Ok(())
     }
 
-    /// The same records once more.
+    /// The same records once more. None take no memory.
     pub fn copy(&self) -> Result<Records, AllocError>
-        ensures { IfOk result (λ copy. copy ≡ self.now) }
+        ensures copy { IfOk result (λ copy. copy ≡ self.now) }
+        ensures some { OnErr result (length self.now ≢ 0) }
     {
         let mut copy = Records::new(*self.list.allocator());
         for record in &self.list {

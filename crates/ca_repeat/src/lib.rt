@@ -12,6 +12,3 @@ pub use address::Address;
 pub use laws::filled_beacon_names_its_sender;
 pub use outgoing::Outgoing;
 pub use repeater::RepeaterCore;
-
-#[cfg(test)]
-mod tests;

@@ -1,5 +1,5 @@
 -- Vocabulary: what outcome a message of the server means (sections "CA_PROTO_READ_NOTIFY", "CA_PROTO_WRITE_NOTIFY", "CA_PROTO_EVENT_ADD" and "CA_PROTO_ERROR").
-use Rattle.std.specs.Prelude.{◌≡◌, ◌≢◌, ◌++◌, ◌⊎◌, List, ℕ}
+use Rattle.std.specs.Prelude.{◌≡◌, ◌≢◌, ◌++◌, ◌⊎◌, List, [], ℕ}
 use Rattle.ca_text.specs.Command.{command_number}
 use Rattle.ca_text.specs.declared.command.Command.TheVariants as command
 use Rattle.ca_text.specs.declared.refusal.Refusal.TheVariants as refusal
@@ -14,9 +14,9 @@ use Rattle.ca_wire.specs.declared.header.Header.{Header}
 use Rattle.ca_wire.specs.Fields.{Fields}
 use Rattle.ca_wire.specs.Header.{HeaderSpells}
 
--- a message that may carry a value: a reply to a read, or an update
+-- a message that may carry a value: a reply to a read, or an update, which has a payload
 abbrev pub MayCarry : Fields → Type 0
-MayCarry m = (m.command ≡ command_number command.ReadNotify) ⊎ (m.command ≡ command_number command.EventAdd)
+MayCarry m = (m.command ≡ command_number command.ReadNotify) ⊎ ((m.command ≡ command_number command.EventAdd) × (m.payload ≢ []))
 
 -- a message that carries a status of its own: one that may carry a value, or the reply to a put
 abbrev pub HasStatus : Fields → Type 0
@@ -33,7 +33,7 @@ Means m (outcome.Failed status) =
     (HasStatus m × (m.p1 ≢ normal) × (status.number ≡ m.p1)) ⊎ ((m.command ≡ command_number command.Error) × (status.number ≡ m.p2))
 Means m outcome.Disconnected = ⊥
 
--- An ERROR quotes the whole header of the request that failed, before its text.
+-- An ERROR quotes the complete header of the request that failed, before its text.
 pub record QuotesHeader (m : Fields) (h : Header) : Type 0 where
   pub head : List ℕ
   pub text : List ℕ

@@ -1,10 +1,10 @@
 -- Vocabulary: a client's requests, in their table of IOIDs (sections "CA_PROTO_READ_NOTIFY" and "CA_PROTO_WRITE_NOTIFY").
-use Rattle.std.specs.Prelude.{ℕ, ◌==◌, ◌&&◌, Bool, List, [], ◌∷◌, Option, Some, None, filter_map, fold, if◌then◌else◌, map, nat_lt, option_and_then}
+use Rattle.std.specs.Prelude.{ℕ, ◌==◌, ◌&&◌, Bool, true, false, List, Option, Some, None, filter, if◌then◌else◌, option_and_then, option_map, unwrap_or}
 use Rattle.ca_text.specs.Command.{command_number}
 use Rattle.ca_text.specs.declared.command.Command.{Command}
 use Rattle.ca_text.specs.declared.command.Command.TheVariants as command
 use Rattle.ca_arena.specs.declared.handle.Handle.{Handle}
-use Rattle.ca_ids.specs.Table.{Table, by_wire, held, same_handle}
+use Rattle.ca_ids.specs.Table.{Table, by_wire, same_handle, under, with_all, with_all_freed}
 
 -- what was asked: a read, of this type and count, or a put with notification
 pub data Asked : Type 0 where
@@ -16,10 +16,9 @@ abbrev pub command_of : Asked → Command
 command_of (Read data_type count) = command.ReadNotify
 command_of Put = command.WriteNotify
 
--- A request is open, with its number in the order of issue; or it is over, and its IOID drains.
+-- A request is open; or it is over, and its IOID drains.
 pub data Stage : Type 0 where
-  Open : ℕ → Stage
-  Draining : Stage
+  Open Draining : Stage
 
 -- a request: the channel that it is on, the circuit on which it was sent, what was asked, and whether it is open
 pub record Request : Type 0 where
@@ -36,10 +35,6 @@ asks_on channel q = same_handle q.channel channel
 abbrev pub was_sent_on : Handle → Request → Bool
 was_sent_on circuit q = same_handle q.circuit circuit
 
--- the request is over, and its IOID drains
-abbrev pub drained : Request → Request
-drained q = record q { stage = Draining }
-
 -- The request that a reply of this command and IOID on this circuit is about. A reply of another command is about none.
 abbrev pub answered_by : Handle → (command_read ioid : ℕ) → Table Request → Option (Handle × Request)
 answered_by circuit command_read ioid t =
@@ -49,18 +44,33 @@ answered_by circuit command_read ioid t =
 
 -- ---- in order of issue
 
--- a handle with its number of issue, while the request is open
-abbrev pub numbered : Handle → Stage → Option (Handle × ℕ)
-numbered h (Open number) = Some (h, number)
-numbered h Draining = None
+-- the request is open
+abbrev pub is_open_in : Stage → Bool
+is_open_in Open = true
+is_open_in Draining = false
 
--- among requests in order of issue, this one in its place
-abbrev pub placed : List (Handle × ℕ) → Handle × ℕ → List (Handle × ℕ)
-placed [] q = q ∷ []
-placed (p ∷ ps) q = if nat_lt q.1 p.1 then q ∷ p ∷ ps else p ∷ placed ps q
+-- the request of this handle is open, and the test names it
+abbrev pub is_open : (Request → Bool) → Table Request → Handle → Bool
+is_open which t q = unwrap_or (option_map (λ (r : Request). which r && is_open_in r.stage) (under t q)) false
 
--- the open requests that the test names, in order of issue
-abbrev pub in_order_of_issue : (Request → Bool) → Table Request → List Handle
-in_order_of_issue which t =
-    let open_ones : List (Handle × ℕ) = filter_map (λ (e : Handle × Request). if which e.1 then numbered e.0 e.1.stage else None) (held t) in
-    map (λ (q : Handle × ℕ). q.0) (fold placed [] open_ones)
+-- of these requests, in order of issue, those that are open and that the test names
+abbrev pub in_order_of_issue : (Request → Bool) → Table Request → List Handle → List Handle
+in_order_of_issue which t issued = filter (is_open which t) issued
+
+-- ---- requests end
+
+-- a request on this channel is over, and its IOID drains
+abbrev pub over_on : Handle → Request → Request
+over_on channel q = if asks_on channel q then record q { stage = Draining } else q
+
+-- the requests on this channel are over, and their IOIDs drain
+abbrev pub channel_over : Handle → Table Request → Table Request
+channel_over channel t = with_all (over_on channel) t
+
+-- the IOIDs of this channel's requests are free
+abbrev pub channel_gone : Handle → Table Request → Table Request
+channel_gone channel t = with_all_freed (asks_on channel) t
+
+-- the IOIDs of the requests that were sent on this circuit are free
+abbrev pub circuit_gone : Handle → Table Request → Table Request
+circuit_gone circuit t = with_all_freed (was_sent_on circuit) t

@@ -1,6 +1,6 @@
 -- What the lines of a script say together.
 use Rattle.std.proofs.Common.{◌≡◌, ◌<◌, ◌≤◌, ◌-◌, set, ◌++◌, ℕ, Bor, Option, Some, None, Bool, true, false, cond, eqb, get_or, List, [], ◌∷◌, length, drop, refl, sym, ap, ◌∙◌, subst, arith, inl, inr}
-use Rattle.std.specs.Prelude.{Result, Ok, Err, OnOk, codes, option_map, unwrap_or}
+use Rattle.std.specs.Prelude.{Result, Ok, Err, OnErr, OnOk, codes, option_map, unwrap_or}
 use Rattle.std.proofs.lemmas.List.{append-nil}
 use Rattle.ca_text.specs.declared.refusal.Refusal.{Refusal}
 use Rattle.ca_records.specs.Record.{RecordState}
@@ -110,3 +110,7 @@ record-added r clients (s ∷ []) events words n server records same few some is
       after = ap (λ (ss : List Served). made clients ss events) sets ∙ ap (λ (es : List Event). made clients (next ∷ []) es) none;
     }) says
 record-added r clients (s ∷ t ∷ ts) events words n server records same few some is none says = absurd (omega (arith, few))
+
+pub on_err : {A : Type 0} {P : Type 0} (r : Result A Refusal) → P → OnErr r P
+on_err (Ok x) p = tt
+on_err (Err e) p = p

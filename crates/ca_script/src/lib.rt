@@ -14,6 +14,3 @@ pub use config::{Config, Named, Served};
 pub use report::{write_end, write_log};
 pub use script::{Script, read_script};
 pub use setting::records_are_records;
-
-#[cfg(test)]
-mod tests;

@@ -1,4 +1,4 @@
-ghost use Rattle.std.specs.Prelude.{◌≡◌, ◌++◌, IfErr, OnErr, OnOk, codes, decimal};
+ghost use Rattle.std.specs.Prelude.{◌≡◌, ◌≢◌, ◌++◌, length, IfErr, OnErr, OnOk, codes, decimal};
 ghost use Rattle.hex.specs.Hex.{encode_lower};
 ghost use Rattle.ca_text.specs.declared.refusal.Refusal.TheVariants.{OutOfMemory};
 ghost use Rattle.ca_dbr.specs.Elements.{bytes_of, elements};
@@ -9,11 +9,15 @@ use ca_small_model::{Logged, Notice};
 use ca_text::Refusal;
 use itoa::Buffer;
 
-/// Writes a line for each entry of a client's log. Refused by 1; the text is then as before.
+/// Writes a line for each entry of a client's log. Refused by 1 only if it has one; the text is then as before.
 pub fn write_log(client: u64, log: &[Logged], out: &mut Vec<u8>) -> Result<(), Refusal>
     ensures ok { OnOk result (out.new.items ≡ out.old.items ++ log_text client log.now) }
     ensures err { IfErr result (λ e. (e ≡ OutOfMemory) × (out.new.items ≡ out.old.items)) }
+    ensures some { OnErr result (length log.now ≢ 0) }
 {
+    if log.is_empty() {
+        return Ok(());
+    }
     let mut text = Vec::new(*out.allocator());
     for entry in log {
         put_line(client, entry, &mut text)?;

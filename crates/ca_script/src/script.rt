@@ -1,4 +1,4 @@
-ghost use Rattle.std.specs.Prelude.{◌≤◌, ◌∷◌, IfErr, IfOk, OnOk, codes, length};
+ghost use Rattle.std.specs.Prelude.{◌≢◌, ◌≤◌, ◌∷◌, IfErr, IfOk, OnErr, OnOk, codes, length};
 ghost use Rattle.ca_script.specs.Grammar.{Refuses, parted};
 ghost use Rattle.ca_script.specs.Scripts.{Adds, AddsAll, AddsClient, AddsRecord, AddsServer, lines_of, nothing, reading};
 
@@ -21,12 +21,13 @@ pub struct Script {
 }
 
 /// Reads a script: lines of a client, of a server and its records, and then of events. Refused by 8 where a line is not
-/// understood, and by 1.
+/// understood, and by 1; an empty text is never refused.
 pub fn read_script(alloc: Global, text: &[u8]) -> Result<Script, Refusal>
     ensures lines { IfOk result (λ s. AddsAll nothing (lines_of text.now) (reading s)) }
     ensures clients { IfOk result (λ s. length s.config.clients.items ≤ 1) }
     ensures servers { IfOk result (λ s. length s.config.servers.items ≤ 1) }
     ensures err { IfErr result (λ e. Refuses (AddsAll nothing (lines_of text.now)) e) }
+    ensures some { OnErr result (length text.now ≢ 0) }
 {
     let mut script = Script {
         config: Config {

@@ -10,6 +10,3 @@ mod searcher;
 pub use laws::searches_double;
 pub use search::Search;
 pub use searcher::Searcher;
-
-#[cfg(test)]
-mod tests;

@@ -1,5 +1,5 @@
 -- A reply with no payload has a value, where its type and count take no bytes.
-use Rattle.std.proofs.Common.{◌≡◌, ℕ, ◌*◌, ◌≤◌, ◌<◌, ◌⊎◌, inl, inr, Vec, Global, List, [], ◌∷◌, get_or, zero, suc, length, replicate, refl, sym, subst, arith}
+use Rattle.std.proofs.Common.{◌≡◌, ◌≢◌, ℕ, ◌*◌, ◌≤◌, ◌<◌, ◌⊎◌, inl, inr, Vec, Global, List, [], ◌∷◌, get_or, zero, suc, length, replicate, refl, sym, subst, arith}
 use Rattle.std.specs.Prelude.{remove}
 use Rattle.std.proofs.lemmas.Bool.Decides.{eqb_tells}
 use Rattle.ca_text.specs.Command.{command_number}
@@ -95,7 +95,7 @@ reply-needs w old m place is asks reading = by-payload m.payload refl
   where
     by-payload : (bytes : List ℕ) → m.payload ≡ bytes → TakesMemory old m
     by-payload [] none =
-        let found : (t : DataType) × (type_number t ≡ m.data_type) × IsLong t m.count m.payload = reading.1 in
+        let found : (t : DataType) × (type_number t ≡ m.data_type) × IsLong t m.count m.payload × (m.count ≢ 0) = reading.1 in
         let t : DataType = found.0 in
         let long : IsLong t m.count [] = subst (λ (p : List ℕ). IsLong t m.count p) none found.2 in
         let r = reads-form w t.base t.form m.count long in

@@ -14,6 +14,3 @@ mod messages;
 mod outcome;
 
 pub use client::ClientCore;
-
-#[cfg(test)]
-mod tests;

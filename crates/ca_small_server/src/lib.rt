@@ -11,6 +11,3 @@ mod server;
 
 pub use answer::answer_stream;
 pub use server::ServerCore;
-
-#[cfg(test)]
-mod tests;

@@ -20,6 +20,7 @@ use Rattle.ca_small_runs.proofs.Sends.{fault-none, on_circuit}
 use Rattle.ca_small_world.specs.declared.side.Serving.{Serving}
 use Rattle.ca_small_world.specs.declared.side.Side.{Side}
 use Rattle.ca_small_world.specs.Does.{Does}
+use Rattle.ca_small_world.specs.May.{MayAccept, MayOpen, MayRead}
 use Rattle.ca_small_world.specs.Locals.{Accepts, NoneOpen, OpensOff, OpensOn, ReadsFit, ReadsOff, ReadsOn, created_up}
 use Rattle.ca_small_world.specs.Seen.{serving_of, side_of}
 use Rattle.ca_small_world.proofs.Seeing.{set-map, world_of}
@@ -89,7 +90,7 @@ there-by : (w : World) (i : ℕ) (x : ClientSide) (name : List ℕ) (priority ci
 there-by w i x name priority cid new b c e o = subst (λ (z : Bool). OpensThere w i x name priority cid new z) (sym e) o
 
 pub opens-off : (w : World) (i : ℕ) (x x' : ClientSide) (name : List ℕ) (priority : ℕ) (r : Result (Unit {0}) Refusal) → At w.clients i x → is_on x.core.link priority ≡ false → OpensOff x name priority r x'
-    → Does w (λ new. HappensOpen w i name priority new) r (with_client w i x')
+    → Does w (MayOpen w i) (λ new. HappensOpen w i name priority new) r (with_client w i x')
 opens-off w i x x' name priority (Ok u) at off o = (
   x,
   at,
@@ -98,11 +99,11 @@ opens-off w i x x' name priority (Ok u) at off o = (
     | inr opened ↦ inr (opened.0, opened.1, there-by w i x name priority opened.0 (with_client w i x') (is_on x.core.link priority) false off (ap (λ (z : ClientSide). with_client w i z) opened.2))
   ],
 )
-opens-off w i x x' name priority (Err OutOfMemory) at off o = ap (λ (z : ClientSide). with_client w i z) o ∙ client-still w i x at
+opens-off w i x x' name priority (Err OutOfMemory) at off o = (ap (λ (z : ClientSide). with_client w i z) o ∙ client-still w i x at, (x, at))
 opens-off w i x x' name priority (Err e) at off o = absurd o
 
 pub opens-on : (w : World) (i k : ℕ) (x x' : ClientSide) (c c' : CircuitState) (name : List ℕ) (priority : ℕ) (r : Result (Unit {0}) Refusal) → At w.clients i x → Carries w i priority k c → is_on x.core.link priority ≡ true
-    → OpensOn x c name priority r x' c' → Does w (λ new. HappensOpen w i name priority new) r (with_circuit (with_client w i x') k c')
+    → OpensOn x c name priority r x' c' → Does w (MayOpen w i) (λ new. HappensOpen w i name priority new) r (with_circuit (with_client w i x') k c')
 opens-on w i k x x' c c' name priority (Ok u) at carries on o = (
   x,
   at,
@@ -117,20 +118,20 @@ opens-on w i k x x' c c' name priority (Ok u) at carries on o = (
   ],
 )
 opens-on w i k x x' c c' name priority (Err OutOfMemory) at carries on o =
-    (λ t. with_circuit (with_client w i (o.0 t)) k (o.1 t)) ∙ circuit-still w i k x c carries.at ∙ client-still w i x at
+    ((λ t. with_circuit (with_client w i (o.0 t)) k (o.1 t)) ∙ circuit-still w i k x c carries.at ∙ client-still w i x at, (x, at))
 opens-on w i k x x' c c' name priority (Err e) at carries on o = absurd o
 
 -- ---- a read is issued
 
-pub reads-off : (w : World) (i : ℕ) (x x' : ClientSide) (channel data_type count : ℕ) (r : Result (Unit {0}) Refusal) → At w.clients i x → ReadsOff x channel data_type count r x'
-    → Does w (λ new. HappensReading w i channel data_type count new) r (with_client w i x')
-reads-off w i x x' channel data_type count (Ok u) at o = (x, at, o.0, o.1, inl (o.2.0, o.2.1, ap (λ (z : ClientSide). with_client w i z) o.2.2))
-reads-off w i x x' channel data_type count (Err OutOfMemory) at o = ap (λ (z : ClientSide). with_client w i z) o ∙ client-still w i x at
-reads-off w i x x' channel data_type count (Err e) at o = absurd o
+pub reads-off : (w : World) (i : ℕ) (x x' : ClientSide) (channel data_type count : ℕ) (r : Result (Unit {0}) Refusal) → At w.clients i x → channel < length x.core.channels → ReadsOff x channel data_type count r x'
+    → Does w (MayRead w i channel) (λ new. HappensReading w i channel data_type count new) r (with_client w i x')
+reads-off w i x x' channel data_type count (Ok u) at inside o = (x, at, o.0, o.1, inl (o.2.0, o.2.1, ap (λ (z : ClientSide). with_client w i z) o.2.2))
+reads-off w i x x' channel data_type count (Err OutOfMemory) at inside o = (ap (λ (z : ClientSide). with_client w i z) o ∙ client-still w i x at, (x, at, inside))
+reads-off w i x x' channel data_type count (Err e) at inside o = absurd o
 
-pub reads-on : (w : World) (i k : ℕ) (x x' : ClientSide) (c c' : CircuitState) (channel data_type count : ℕ) (r : Result (Unit {0}) Refusal) → Holds w → At w.clients i x → At w.circuits k c → c.client ≡ i → c.client_open ≡ true
-    → ReadsOn x c channel data_type count r x' c' → Does w (λ new. HappensReading w i channel data_type count new) r (with_circuit (with_client w i x') k c')
-reads-on w i k x x' c c' channel data_type count (Ok u) h at there mine open_ o = (
+pub reads-on : (w : World) (i k : ℕ) (x x' : ClientSide) (c c' : CircuitState) (channel data_type count : ℕ) (r : Result (Unit {0}) Refusal) → Holds w → At w.clients i x → At w.circuits k c → c.client ≡ i → c.client_open ≡ true → channel < length x.core.channels
+    → ReadsOn x c channel data_type count r x' c' → Does w (MayRead w i channel) (λ new. HappensReading w i channel data_type count new) r (with_circuit (with_client w i x') k c')
+reads-on w i k x x' c c' channel data_type count (Ok u) h at there mine open_ inside o = (
   x,
   at,
   o.0,
@@ -156,9 +157,9 @@ reads-on w i k x x' c c' channel data_type count (Ok u) h at there mine open_ o 
         })
   ],
 )
-reads-on w i k x x' c c' channel data_type count (Err OutOfMemory) h at there mine open_ o =
-    (λ t. with_circuit (with_client w i (o.0 t)) k (o.1 t)) ∙ circuit-still w i k x c there ∙ client-still w i x at
-reads-on w i k x x' c c' channel data_type count (Err e) h at there mine open_ o = absurd o
+reads-on w i k x x' c c' channel data_type count (Err OutOfMemory) h at there mine open_ inside o =
+    ((λ t. with_circuit (with_client w i (o.0 t)) k (o.1 t)) ∙ circuit-still w i k x c there ∙ client-still w i x at, (x, at, inside))
+reads-on w i k x x' c c' channel data_type count (Err e) h at there mine open_ inside o = absurd o
 
 -- ---- a circuit is accepted
 
@@ -172,9 +173,9 @@ pub wants-first : (xs : List ℕ) (p : ℕ) → Some p ≡ slice_get xs 0 → (r
 wants-first [] p e = absurd cc
 wants-first (x ∷ xs) p e = (xs, (let same : p ≡ x = cc in ap (λ (n : ℕ). n ∷ xs) (sym same)))
 
-pub accepts : (w : World) (client priority : ℕ) (x x' : ClientSide) (y y' : ServerSide) (cs' : List CircuitState) (r : Result (Unit {0}) Refusal) → At w.clients client x → At w.servers 0 y → AllEnded w
-    → Accepts x y w.circuits client priority r x' y' cs' → Does w (λ new. HappensAccept w client new) r (record { clients = slice_set w.clients client x'; servers = slice_set w.servers 0 y'; circuits = cs' })
-accepts w client priority x x' y y' cs' (Ok u) at there all o =
+pub accepts : (w : World) (client priority : ℕ) (x x' : ClientSide) (y y' : ServerSide) (cs' : List CircuitState) (r : Result (Unit {0}) Refusal) → At w.clients client x → At w.servers 0 y → AllEnded w → (rest : List ℕ) × (x.core.wanted ≡ priority ∷ rest)
+    → Accepts x y w.circuits client priority r x' y' cs' → Does w (MayAccept w client) (λ new. HappensAccept w client new) r (record { clients = slice_set w.clients client x'; servers = slice_set w.servers 0 y'; circuits = cs' })
+accepts w client priority x x' y y' cs' (Ok u) at there all wants o =
     record {
       x = x;
       here = at;
@@ -186,10 +187,12 @@ accepts w client priority x x' y y' cs' (Ok u) at there all o =
       alone = all;
       leaves = λ t. record { clients = slice_set w.clients client (o.2 t); servers = slice_set w.servers 0 (o.3 t); circuits = o.4 t };
     }
-accepts w client priority x x' y y' cs' (Err OutOfMemory) at there all o =
-    (λ t. record { clients = slice_set w.clients client (o.0 t); servers = slice_set w.servers 0 (o.1 t); circuits = o.2 t })
-    ∙ (λ t. record { clients = set-same w.clients client x at t; servers = set-same w.servers 0 y there t; circuits = w.circuits })
-accepts w client priority x x' y y' cs' (Err e) at there all o = absurd o
+accepts w client priority x x' y y' cs' (Err OutOfMemory) at there all wants o = (
+  (λ t. record { clients = slice_set w.clients client (o.0 t); servers = slice_set w.servers 0 (o.1 t); circuits = o.2 t })
+      ∙ (λ t. record { clients = set-same w.clients client x at t; servers = set-same w.servers 0 y there t; circuits = w.circuits }),
+  (x, at, priority, wants.0, wants.1, y, there, all),
+)
+accepts w client priority x x' y y' cs' (Err e) at there all wants o = absurd o
 
 pub world-accepted : (cs : List Side) (ss : List Serving) (ks' : List Circuit) (i : ℕ) (side' : Side) (server' : Serving)
     → world_of (slice_set cs i side') (slice_set ss 0 server') ks' ≡ (let w : World = record { clients = slice_set (map side_of cs) i (side_of side'); servers = slice_set (map serving_of ss) 0 (serving_of server'); circuits = map circuit_of ks' } in w)

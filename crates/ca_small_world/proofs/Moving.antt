@@ -1,10 +1,10 @@
 -- What happens on a circuit, from what its parts became.
-use Rattle.std.proofs.Common.{◌≡◌, ℕ, ◌≤◌, true, false, List, [], ◌∷◌, Result, Ok, Err, length, take, drop, sym, ap, subst, ◌∙◌, arith}
+use Rattle.std.proofs.Common.{◌≡◌, ℕ, ◌≤◌, true, false, List, [], ◌∷◌, Result, Ok, Err, length, take, drop, sym, ap, subst, ◌∙◌}
 use Rattle.std.specs.Prelude.{slice_set}
 use Rattle.ca_text.specs.declared.refusal.Refusal.{Refusal}
 use Rattle.ca_text.specs.declared.refusal.Refusal.TheVariants.{BadEvent, OutOfMemory}
 use Rattle.ca_text.specs.Place.{At}
-use Rattle.ca_text.proofs.Places.{At-one, At-within}
+use Rattle.ca_text.proofs.Places.{At-one}
 use Rattle.ca_small_model.specs.declared.data.ClientStep.{ClientStep}
 use Rattle.ca_small_model.specs.declared.data.ClientStep.TheVariants as client_step
 use Rattle.ca_small_model.specs.declared.data.ServerStep.{ServerStep}
@@ -19,6 +19,7 @@ use Rattle.ca_small_runs.proofs.Lists.{set-same}
 use Rattle.ca_small_runs.proofs.Serves.{server-set}
 use Rattle.ca_small_runs.proofs.Worlds.{moved}
 use Rattle.ca_small_world.specs.Does.{Does}
+use Rattle.ca_small_world.specs.May.{MayDown, MayUp, OpenAtClient, OpenAtServer}
 use Rattle.ca_small_world.specs.Locals.{CutsClient, CutsServer, HandsDown, HandsUp, LeavesDown, LeavesUp, ServesSo, StepsClient, StepsServer, Stepped, Tries}
 use Rattle.ca_small_world.proofs.Seeing.{moved-same}
 
@@ -39,7 +40,7 @@ up-enough w k n c x y j new h =
     subst (λ (a : ClientSide × CircuitState). n ≤ length (waiting_up a.0 a.1)) (λ t. (is_x t, is_c t)) h.enough
 
 pub hands-up : (w : World) (k n : ℕ) (c : CircuitState) (x x' : ClientSide) (y y' : ServerSide) (r : Result (Unit {0}) Refusal) → Joins w k c x y → c.server_open ≡ true → c.client_open ≡ true
-    → HandsUp x y n r x' y' → Does w (λ new. HappensUp w k n new) r (moved w k c x' y' c)
+    → HandsUp x y n r x' y' → Does w (MayUp w k n) (λ new. HappensUp w k n new) r (moved w k c x' y' c)
 hands-up w k n c x x' y y' (Ok u) j receives on d =
     let waits = up-waits x c on in
     let y'' = server_given (take n (waiting_up x c)) y in
@@ -54,7 +55,7 @@ hands-up w k n c x x' y y' (Ok u) j receives on d =
       enough = subst (λ (t : List ℕ). n ≤ length t) (sym waits) d.0;
       leaves = made ∙ sym (up-true w k n c x y on j.at);
     }
-hands-up w k n c x x' y y' (Err OutOfMemory) j receives on d = (λ t. moved w k c (d.0 t) (d.1 t) c) ∙ moved-same w k c x y j
+hands-up w k n c x x' y y' (Err OutOfMemory) j receives on d = ((λ t. moved w k c (d.1 t) (d.2 t) c) ∙ moved-same w k c x y j, (c, x, y, j, receives, subst (λ (t : List ℕ). n ≤ length t) (sym (up-waits x c on)) d.0))
 hands-up w k n c x x' y y' (Err BadEvent) j receives on d = (
   (λ t. moved w k c (d.1 t) (d.2 t) c) ∙ moved-same w k c x y j,
   λ new h. d.0 (subst (λ (t : List ℕ). n ≤ length t) (up-waits x c on) (up-enough w k n c x y j new h)),
@@ -62,7 +63,7 @@ hands-up w k n c x x' y y' (Err BadEvent) j receives on d = (
 hands-up w k n c x x' y y' (Err e) j receives on d = absurd d
 
 pub leaves-up : (w : World) (k n : ℕ) (c c' : CircuitState) (x : ClientSide) (y y' : ServerSide) (r : Result (Unit {0}) Refusal) → Joins w k c x y → c.server_open ≡ true → c.client_open ≡ false
-    → LeavesUp c y n r c' y' → Does w (λ new. HappensUp w k n new) r (moved w k c x y' c')
+    → LeavesUp c y n r c' y' → Does w (MayUp w k n) (λ new. HappensUp w k n new) r (moved w k c x y' c')
 leaves-up w k n c c' x y y' (Ok u) j receives off d =
     let waits = up-closed x c off in
     let y'' = server_given (take n (waiting_up x c)) y in
@@ -77,7 +78,7 @@ leaves-up w k n c c' x y y' (Ok u) j receives off d =
       enough = subst (λ (t : List ℕ). n ≤ length t) (sym waits) d.0;
       leaves = made ∙ sym (up-false w k n c x y off j.client);
     }
-leaves-up w k n c c' x y y' (Err OutOfMemory) j receives off d = (λ t. moved w k c x (d.1 t) (d.0 t)) ∙ moved-same w k c x y j
+leaves-up w k n c c' x y y' (Err OutOfMemory) j receives off d = ((λ t. moved w k c x (d.2 t) (d.1 t)) ∙ moved-same w k c x y j, (c, x, y, j, receives, subst (λ (t : List ℕ). n ≤ length t) (sym (up-closed x c off)) d.0))
 leaves-up w k n c c' x y y' (Err BadEvent) j receives off d = (
   (λ t. moved w k c x (d.2 t) (d.1 t)) ∙ moved-same w k c x y j,
   λ new h. d.0 (subst (λ (t : List ℕ). n ≤ length t) (up-closed x c off) (up-enough w k n c x y j new h)),
@@ -96,7 +97,7 @@ down-enough w k n c x y j new h =
     subst (λ (a : ServerSide × CircuitState). n ≤ length (waiting_down a.0 a.1)) (λ t. (is_y t, is_c t)) h.enough
 
 pub hands-down : (w : World) (k n : ℕ) (c : CircuitState) (x x' : ClientSide) (y y' : ServerSide) (r : Result (Unit {0}) Refusal) → Joins w k c x y → c.client_open ≡ true → c.server_open ≡ true
-    → HandsDown x y n r x' y' → Does w (λ new. HappensDown w k n new) r (moved w k c x' y' c)
+    → HandsDown x y n r x' y' → Does w (MayDown w k n) (λ new. HappensDown w k n new) r (moved w k c x' y' c)
 hands-down w k n c x x' y y' (Ok u) j receives on d =
     let waits = down-waits y c on in
     let x'' = client_given (take n (waiting_down y c)) x in
@@ -111,7 +112,7 @@ hands-down w k n c x x' y y' (Ok u) j receives on d =
       enough = subst (λ (t : List ℕ). n ≤ length t) (sym waits) d.0;
       leaves = made ∙ sym (down-true w k n c x y on j.at);
     }
-hands-down w k n c x x' y y' (Err OutOfMemory) j receives on d = (λ t. moved w k c (d.0 t) (d.1 t) c) ∙ moved-same w k c x y j
+hands-down w k n c x x' y y' (Err OutOfMemory) j receives on d = ((λ t. moved w k c (d.1 t) (d.2 t) c) ∙ moved-same w k c x y j, (c, x, y, j, receives, subst (λ (t : List ℕ). n ≤ length t) (sym (down-waits y c on)) d.0))
 hands-down w k n c x x' y y' (Err BadEvent) j receives on d = (
   (λ t. moved w k c (d.1 t) (d.2 t) c) ∙ moved-same w k c x y j,
   λ new h. d.0 (subst (λ (t : List ℕ). n ≤ length t) (down-waits y c on) (down-enough w k n c x y j new h)),
@@ -119,7 +120,7 @@ hands-down w k n c x x' y y' (Err BadEvent) j receives on d = (
 hands-down w k n c x x' y y' (Err e) j receives on d = absurd d
 
 pub leaves-down : (w : World) (k n : ℕ) (c c' : CircuitState) (x x' : ClientSide) (y : ServerSide) (r : Result (Unit {0}) Refusal) → Joins w k c x y → c.client_open ≡ true → c.server_open ≡ false
-    → LeavesDown c x n r c' x' → Does w (λ new. HappensDown w k n new) r (moved w k c x' y c')
+    → LeavesDown c x n r c' x' → Does w (MayDown w k n) (λ new. HappensDown w k n new) r (moved w k c x' y c')
 leaves-down w k n c c' x x' y (Ok u) j receives off d =
     let waits = down-closed y c off in
     let x'' = client_given (take n (waiting_down y c)) x in
@@ -134,7 +135,7 @@ leaves-down w k n c c' x x' y (Ok u) j receives off d =
       enough = subst (λ (t : List ℕ). n ≤ length t) (sym waits) d.0;
       leaves = made ∙ sym (down-false w k n c x y off j.server);
     }
-leaves-down w k n c c' x x' y (Err OutOfMemory) j receives off d = (λ t. moved w k c (d.1 t) y (d.0 t)) ∙ moved-same w k c x y j
+leaves-down w k n c c' x x' y (Err OutOfMemory) j receives off d = ((λ t. moved w k c (d.2 t) y (d.1 t)) ∙ moved-same w k c x y j, (c, x, y, j, receives, subst (λ (t : List ℕ). n ≤ length t) (sym (down-closed y c off)) d.0))
 leaves-down w k n c c' x x' y (Err BadEvent) j receives off d = (
   (λ t. moved w k c (d.2 t) y (d.1 t)) ∙ moved-same w k c x y j,
   λ new h. d.0 (subst (λ (t : List ℕ). n ≤ length t) (down-closed y c off) (down-enough w k n c x y j new h)),
@@ -219,19 +220,19 @@ server-cut w k c c' x y y' j on s =
 -- ---- by the answers
 
 pub tries-server : (w : World) (k : ℕ) (c c' : CircuitState) (x : ClientSide) (y y' : ServerSide) (r : Result (Unit {0}) Refusal) → Joins w k c x y → c.server_open ≡ true → Tries (StepsServer y c y' c') ((y' ≡ y) × (c' ≡ c)) r
-    → Does w (λ new. HappensServerStep w k new) r (moved w k c x y' c')
+    → Does w (OpenAtServer w k) (λ new. HappensServerStep w k new) r (moved w k c x y' c')
 tries-server w k c c' x y y' (Ok u) j on s = server-steps w k c c' x y y' j on s
-tries-server w k c c' x y y' (Err OutOfMemory) j on s = (λ t. moved w k c x (s.0 t) (s.1 t)) ∙ moved-same w k c x y j
+tries-server w k c c' x y y' (Err OutOfMemory) j on s = ((λ t. moved w k c x (s.0 t) (s.1 t)) ∙ moved-same w k c x y j, (c, x, y, j, on))
 tries-server w k c c' x y y' (Err e) j on s = absurd s
 
 pub tries-client : (w : World) (k : ℕ) (c c' : CircuitState) (x x' : ClientSide) (y : ServerSide) (r : Result (Unit {0}) Refusal) → Joins w k c x y → c.client_open ≡ true → Tries (StepsClient x c x' c') ((x' ≡ x) × (c' ≡ c)) r
-    → Does w (λ new. HappensClientStep w k new) r (moved w k c x' y c')
+    → Does w (OpenAtClient w k) (λ new. HappensClientStep w k new) r (moved w k c x' y c')
 tries-client w k c c' x x' y (Ok u) j on s = client-steps w k c c' x x' y j on s
-tries-client w k c c' x x' y (Err OutOfMemory) j on s = (λ t. moved w k c (s.0 t) y (s.1 t)) ∙ moved-same w k c x y j
+tries-client w k c c' x x' y (Err OutOfMemory) j on s = ((λ t. moved w k c (s.0 t) y (s.1 t)) ∙ moved-same w k c x y j, (c, x, y, j, on))
 tries-client w k c c' x x' y (Err e) j on s = absurd s
 
 pub tries-cut : (w : World) (k : ℕ) (c c' : CircuitState) (x x' : ClientSide) (y : ServerSide) (r : Result (Unit {0}) Refusal) → Joins w k c x y → c.client_open ≡ true → Tries (CutsClient x c x' c') ((x' ≡ x) × (c' ≡ c)) r
-    → Does w (λ new. HappensCutClient w k new) r (moved w k c x' y c')
+    → Does w (OpenAtClient w k) (λ new. HappensCutClient w k new) r (moved w k c x' y c')
 tries-cut w k c c' x x' y (Ok u) j on s = client-cut w k c c' x x' y j on s
-tries-cut w k c c' x x' y (Err OutOfMemory) j on s = (λ t. moved w k c (s.0 t) y (s.1 t)) ∙ moved-same w k c x y j
+tries-cut w k c c' x x' y (Err OutOfMemory) j on s = ((λ t. moved w k c (s.0 t) y (s.1 t)) ∙ moved-same w k c x y j, (c, x, y, j, on))
 tries-cut w k c c' x x' y (Err e) j on s = absurd s

@@ -5,15 +5,16 @@ use Rattle.ca_text.specs.declared.refusal.Refusal.TheVariants.{BadEvent, OutOfMe
 use Rattle.ca_text.specs.Place.{At}
 use Rattle.ca_small_model.specs.declared.data.Event.{Event}
 use Rattle.ca_small_model.specs.World.{Happens, World}
+use Rattle.ca_small_world.specs.May.{May}
 
 -- the events that were done
 abbrev pub done : List Event → Option (ℕ × Refusal) → List Event
 done events None = events
 done events (Some p) = take p.0 events
 
--- The event of this place was refused: for want of memory, or since it cannot be done.
+-- The event of this place was refused: out of memory, though it has what it needs beside that; or since it cannot be done.
 abbrev pub Refused : List Event → World → ℕ → Refusal → Type 0
-Refused events world place OutOfMemory = (e : Event) × At events place e
+Refused events world place OutOfMemory = (e : Event) × At events place e × May world e
 Refused events world place BadEvent = (e : Event) × At events place e × ((w : World) → Happens world e w → ⊥)
 Refused events world place _ = ⊥
 

@@ -2,4 +2,5 @@ pub mod Seen
 pub mod Does
 pub mod Done
 pub mod Locals
+pub mod May
 pub mod Reports

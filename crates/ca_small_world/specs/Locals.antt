@@ -102,28 +102,28 @@ ReadsOn x c channel data_type count (Err _) x' c' = ⊥
 -- n of the bytes that wait at the client reach the server
 abbrev pub HandsUp : ClientSide → ServerSide → ℕ → Result (Unit {0}) Refusal → ClientSide → ServerSide → Type 0
 HandsUp x y n (Ok _) x' y' = (n ≤ length (waits_at x.core.link)) × (x' ≡ client_sent n x) × (y' ≡ server_given (take n (waits_at x.core.link)) y)
-HandsUp x y n (Err OutOfMemory) x' y' = (x' ≡ x) × (y' ≡ y)
+HandsUp x y n (Err OutOfMemory) x' y' = (n ≤ length (waits_at x.core.link)) × (x' ≡ x) × (y' ≡ y)
 HandsUp x y n (Err BadEvent) x' y' = (n ≤ length (waits_at x.core.link) → ⊥) × (x' ≡ x) × (y' ≡ y)
 HandsUp x y n (Err _) x' y' = ⊥
 
 -- n of the bytes that the client left reach the server
 abbrev pub LeavesUp : CircuitState → ServerSide → ℕ → Result (Unit {0}) Refusal → CircuitState → ServerSide → Type 0
 LeavesUp c y n (Ok _) c' y' = (n ≤ length c.left_up) × (c' ≡ record c { left_up = drop n c.left_up }) × (y' ≡ server_given (take n c.left_up) y)
-LeavesUp c y n (Err OutOfMemory) c' y' = (c' ≡ c) × (y' ≡ y)
+LeavesUp c y n (Err OutOfMemory) c' y' = (n ≤ length c.left_up) × (c' ≡ c) × (y' ≡ y)
 LeavesUp c y n (Err BadEvent) c' y' = (n ≤ length c.left_up → ⊥) × (c' ≡ c) × (y' ≡ y)
 LeavesUp c y n (Err _) c' y' = ⊥
 
 -- n of the bytes that wait at the server reach the client
 abbrev pub HandsDown : ClientSide → ServerSide → ℕ → Result (Unit {0}) Refusal → ClientSide → ServerSide → Type 0
 HandsDown x y n (Ok _) x' y' = (n ≤ length (waits_there y.core.link)) × (x' ≡ client_given (take n (waits_there y.core.link)) x) × (y' ≡ server_sent n y)
-HandsDown x y n (Err OutOfMemory) x' y' = (x' ≡ x) × (y' ≡ y)
+HandsDown x y n (Err OutOfMemory) x' y' = (n ≤ length (waits_there y.core.link)) × (x' ≡ x) × (y' ≡ y)
 HandsDown x y n (Err BadEvent) x' y' = (n ≤ length (waits_there y.core.link) → ⊥) × (x' ≡ x) × (y' ≡ y)
 HandsDown x y n (Err _) x' y' = ⊥
 
 -- n of the bytes that the server left reach the client
 abbrev pub LeavesDown : CircuitState → ClientSide → ℕ → Result (Unit {0}) Refusal → CircuitState → ClientSide → Type 0
 LeavesDown c x n (Ok _) c' x' = (n ≤ length c.left_down) × (c' ≡ record c { left_down = drop n c.left_down }) × (x' ≡ client_given (take n c.left_down) x)
-LeavesDown c x n (Err OutOfMemory) c' x' = (c' ≡ c) × (x' ≡ x)
+LeavesDown c x n (Err OutOfMemory) c' x' = (n ≤ length c.left_down) × (c' ≡ c) × (x' ≡ x)
 LeavesDown c x n (Err BadEvent) c' x' = (n ≤ length c.left_down → ⊥) × (c' ≡ c) × (x' ≡ x)
 LeavesDown c x n (Err _) c' x' = ⊥
 

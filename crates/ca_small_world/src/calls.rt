@@ -5,6 +5,7 @@ ghost use Rattle.ca_small_model.specs.Client.{is_on};
 ghost use Rattle.ca_small_model.specs.World.{HappensOpen, HappensReading};
 ghost use Rattle.ca_small_runs.specs.Holds.{Holds};
 ghost use Rattle.ca_small_world.specs.Does.{Does};
+ghost use Rattle.ca_small_world.specs.May.{MayOpen, MayRead};
 ghost use Rattle.ca_small_world.specs.Locals.{Notes, OpensOff, OpensOn, ReadsFit, ReadsOff, ReadsOn};
 ghost use Rattle.ca_small_world.specs.Seen.{side_of};
 
@@ -26,7 +27,7 @@ impl World {
         priority: u64,
     ) -> Result<(), Refusal>
         requires { Holds self.old }
-        ensures { Does self.old (λ w. HappensOpen self.old client name.now priority w) result self.new }
+        ensures { Does self.old (MayOpen self.old client) (λ w. HappensOpen self.old client name.now priority w) result self.new }
     {
         if client >= self.clients.len() as u64 {
             return Err(Refusal::BadEvent);
@@ -59,7 +60,7 @@ impl World {
         count: u64,
     ) -> Result<(), Refusal>
         requires { Holds self.old }
-        ensures { Does self.old (λ w. HappensReading self.old client channel data_type count w) result self.new }
+        ensures { Does self.old (MayRead self.old client channel) (λ w. HappensReading self.old client channel data_type count w) result self.new }
     {
         if client >= self.clients.len() as u64 {
             return Err(Refusal::BadEvent);

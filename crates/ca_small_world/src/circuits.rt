@@ -4,6 +4,7 @@ ghost use Rattle.ca_small_model.specs.Circuit.{circuit_of};
 ghost use Rattle.ca_small_model.specs.World.{AllEnded, HappensAccept};
 ghost use Rattle.ca_small_runs.specs.Holds.{Holds};
 ghost use Rattle.ca_small_world.specs.Does.{Does};
+ghost use Rattle.ca_small_world.specs.May.{MayAccept};
 ghost use Rattle.ca_small_world.specs.Locals.{Accepts, IsOpenAt, NoneOpen};
 ghost use Rattle.ca_small_world.specs.Seen.{serving_of, side_of};
 
@@ -55,7 +56,7 @@ impl World {
     /// The circuit that the client wants first meets the first server.
     pub(crate) fn accept(&mut self, alloc: Global, client: u64) -> Result<(), Refusal>
         requires { Holds self.old }
-        ensures { Does self.old (λ w. HappensAccept self.old client w) result self.new }
+        ensures { Does self.old (MayAccept self.old client) (λ w. HappensAccept self.old client w) result self.new }
     {
         if client >= self.clients.len() as u64 {
             return Err(Refusal::BadEvent);

@@ -2,6 +2,7 @@
 ghost use Rattle.ca_small_model.specs.World.{HappensClientStep, HappensCutClient, HappensCutServer, HappensDown, HappensServerStep, HappensUp};
 ghost use Rattle.ca_small_runs.specs.Holds.{Holds};
 ghost use Rattle.ca_small_world.specs.Does.{Does};
+ghost use Rattle.ca_small_world.specs.May.{MayDown, MayUp, OpenAtClient, OpenAtServer};
 
 use crate::moves;
 use crate::world::World;
@@ -12,7 +13,7 @@ impl World {
     /// So many bytes reach the server.
     pub(crate) fn up(&mut self, circuit: u64, bytes: u64) -> Result<(), Refusal>
         requires { Holds self.old }
-        ensures { Does self.old (λ w. HappensUp self.old circuit bytes w) result self.new }
+        ensures { Does self.old (MayUp self.old circuit bytes) (λ w. HappensUp self.old circuit bytes w) result self.new }
     {
         if circuit >= self.circuits.len() as u64 {
             return Err(Refusal::BadEvent);
@@ -31,7 +32,7 @@ impl World {
     /// So many bytes reach the client.
     pub(crate) fn down(&mut self, circuit: u64, bytes: u64) -> Result<(), Refusal>
         requires { Holds self.old }
-        ensures { Does self.old (λ w. HappensDown self.old circuit bytes w) result self.new }
+        ensures { Does self.old (MayDown self.old circuit bytes) (λ w. HappensDown self.old circuit bytes w) result self.new }
     {
         if circuit >= self.circuits.len() as u64 {
             return Err(Refusal::BadEvent);
@@ -50,7 +51,7 @@ impl World {
     /// The server's end takes a step.
     pub(crate) fn server_step(&mut self, alloc: Global, circuit: u64) -> Result<(), Refusal>
         requires { Holds self.old }
-        ensures { Does self.old (λ w. HappensServerStep self.old circuit w) result self.new }
+        ensures { Does self.old (OpenAtServer self.old circuit) (λ w. HappensServerStep self.old circuit w) result self.new }
     {
         if circuit >= self.circuits.len() as u64 {
             return Err(Refusal::BadEvent);
@@ -65,7 +66,7 @@ impl World {
     /// The client's end takes a step.
     pub(crate) fn client_step(&mut self, circuit: u64) -> Result<(), Refusal>
         requires { Holds self.old }
-        ensures { Does self.old (λ w. HappensClientStep self.old circuit w) result self.new }
+        ensures { Does self.old (OpenAtClient self.old circuit) (λ w. HappensClientStep self.old circuit w) result self.new }
     {
         if circuit >= self.circuits.len() as u64 {
             return Err(Refusal::BadEvent);
@@ -80,7 +81,7 @@ impl World {
     /// The client's end is cut.
     pub(crate) fn cut_client(&mut self, circuit: u64) -> Result<(), Refusal>
         requires { Holds self.old }
-        ensures { Does self.old (λ w. HappensCutClient self.old circuit w) result self.new }
+        ensures { Does self.old (OpenAtClient self.old circuit) (λ w. HappensCutClient self.old circuit w) result self.new }
     {
         if circuit >= self.circuits.len() as u64 {
             return Err(Refusal::BadEvent);
@@ -95,7 +96,7 @@ impl World {
     /// The server's end is cut.
     pub(crate) fn cut_server(&mut self, circuit: u64) -> Result<(), Refusal>
         requires { Holds self.old }
-        ensures { Does self.old (λ w. HappensCutServer self.old circuit w) result self.new }
+        ensures { Does self.old (OpenAtServer self.old circuit) (λ w. HappensCutServer self.old circuit w) result self.new }
     {
         if circuit >= self.circuits.len() as u64 {
             return Err(Refusal::BadEvent);

@@ -24,7 +24,7 @@ pub fn run(
     ensures runs { IfOk result (λ r. Runs (setting_of config.now) (done events.now r.1) r.0) }
     // Whatever the events are, it is safe.
     ensures safe { IfOk result (λ r. Safe r.0) }
-    // An event is refused only where it cannot be done, or for want of memory.
+    // An event is refused only where it cannot be done, or where it has all that it needs but memory.
     ensures stopped { IfOk result (λ r. Stopped events.now r.0 r.1) }
 {
     let mut world = World::new(alloc, config)?;

@@ -1,6 +1,7 @@
 ghost use Rattle.ca_small_model.specs.World.{Happens};
 ghost use Rattle.ca_small_runs.specs.Holds.{Holds};
 ghost use Rattle.ca_small_world.specs.Does.{Does};
+ghost use Rattle.ca_small_world.specs.May.{May};
 
 use crate::side::{Serving, Side};
 use ca_small_model::{Circuit, End, Event};
@@ -30,7 +31,7 @@ impl World {
     /// Does the event, or refuses it and changes nothing: by 22 where it cannot be done, and by 1.
     pub(crate) fn happen(&mut self, alloc: Global, event: &Event) -> Result<(), Refusal>
         requires { Holds self.old }
-        ensures { Does self.old (λ w. Happens self.old event.now w) result self.new }
+        ensures { Does self.old (May self.old event.now) (λ w. Happens self.old event.now w) result self.new }
     {
         match event {
             Event::Open {

@@ -105,3 +105,7 @@ flow_reads = 10
 -- search replies in one datagram of a server, at most
 abbrev pub datagram_replies : ℕ
 datagram_replies = 42
+
+-- the number at which a server's count of applied writes stays
+abbrev pub applied_limit : ℕ
+applied_limit = 2 ^ 63

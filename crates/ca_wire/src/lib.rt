@@ -15,6 +15,3 @@ pub use laws::{one_reading, read_again};
 pub use message::{Message, message_at, spell, spelled_size};
 pub use pipe::Pipe;
 pub use reading::{Head, One, read_one};
-
-#[cfg(test)]
-mod tests;

@@ -43,6 +43,25 @@ fn old_ticket_is_stale_when_its_cell_is_armed_anew(rt: HostRuntime) -> Result<()
     Ok(())
 }
 
+// A cell again and again, more often than 16 bits count: each generation is collected, and then gives nothing.
+#[test]
+fn each_generation_gives_its_outcome(rt: HostRuntime) -> Result<(), Fail> {
+    let (board, mut core) = Board::new(rt.alloc())?;
+    let mut caller = board.caller(&mut core);
+    for generation in 0..70_000u32 {
+        let ticket = board.arm(&mut core)?;
+        assert_eq!(rt; ticket.generation, generation);
+        assert_eq!(rt;
+            board.fill(&mut core, ticket, Outcome::Done),
+            Filled::Stored
+        );
+        assert_eq!(rt; board.collect(&mut caller, ticket), Some(Outcome::Done));
+        assert!(rt; board.collect(&mut caller, ticket).is_none());
+        assert!(rt; board.recycle(&mut core, ticket.cell));
+    }
+    Ok(())
+}
+
 #[test]
 fn fill_after_give_up_comes_back(rt: HostRuntime) -> Result<(), Fail> {
     let (board, mut core) = Board::new(rt.alloc())?;

@@ -13,4 +13,4 @@ returns-then-bytes-front-clause-refused c =
 pub returns-clause-read : goal.returns-clause-read
 returns-clause-read c =
     let t = c.in-Some.data_type in
-    (t, c.in-Some.ensures, reads_parts t c.args.count c.args.bytes.now _ _ c.read_meta-meta.result c.read_meta-meta.ensures.front (omega arith) (take_rest c.args.bytes.now (c.meta_size.result + c.padding_size.result) ∙ ap (λ k. drop k c.args.bytes.now) (omega arith)) c.in_ok-value.ensures c.read_meta-meta.ensures.meta c.read_meta-meta.ensures.only)
+    (t, c.in-Some.ensures, reads_parts t c.args.count c.args.bytes.now _ _ c.read_meta-meta.result c.read_meta-meta.ensures.front (omega arith) (take_rest c.args.bytes.now (c.meta_size.result + c.padding_size.result) ∙ ap (λ k. drop k c.args.bytes.now) (omega arith)) c.in_ok-value.ensures.read c.read_meta-meta.ensures.meta c.read_meta-meta.ensures.only)

@@ -1,4 +1,4 @@
-use Rattle.std.proofs.Common.{◌≤◌, length}
+use Rattle.std.proofs.Common.{◌<◌, ◌≤◌, length}
 use Rattle.ca_script.specs.Scripts.{AddsAll, Reading, lines_of, nothing, reading}
 use Rattle.ca_script.proofs.script.read_script.Given as goal
 
@@ -9,6 +9,7 @@ invariant-loop-left l = record {
   follows : (final : Reading) → AddsAll nothing (lines_of l.text) final → (end : Reading) × AddsAll (reading l.script) (lines_of l.left) end;
   clients : length l.script.config.clients.items ≤ 1;
   servers : length l.script.config.servers.items ≤ 1;
+  some : 0 < length l.left → 0 < length l.text;
 }
 
 abbrev pub decreases-loop-left : goal.decreases-loop-left

@@ -7,8 +7,8 @@ use Rattle.ca_board.proofs.Arming.{recycles_as, Ends, ends_by}
 use Rattle.ca_board.proofs.board.Board.recycle.Goals as goal
 
 pub compare_exchange-requires : goal.compare_exchange-requires
-compare_exchange-requires c = let z = c.self.invariant in let most = c.if-generation-ge4294967295.false in let i = c.core.invariant in let near = c.if-cell-ge-BOARD_CELLS.false in let g : ℕ = c.peek-word.result / 8 in let low = c.if-word-lt4.false in let high = c.if-word-gt5.false in let one : Ends g c.peek-word.result = ends_by c.peek-word.result low high in
-    ((ap (λ v. v.board) c.core.view_is ∙ (c.requires ∙ sym c.self.view_is)), omega arith, recycles_as _ _ _ g _ _ _ _ _ _ _ i.idle (omega arith) one (omega arith) most)
+compare_exchange-requires c = let z = c.self.invariant in let most = c.if-generation-from.false in let last = c.from.ensures in let i = c.core.invariant in let near = c.if-cell-ge-BOARD_CELLS.false in let g : ℕ = c.peek-word.result / 8 in let low = c.if-word-lt4.false in let high = c.if-word-gt5.false in let one : Ends g c.peek-word.result = ends_by c.peek-word.result low high in
+    ((ap (λ v. v.board) c.core.view_is ∙ (c.requires ∙ sym c.self.view_is)), omega arith, recycles_as _ _ _ g _ _ _ _ _ _ _ i.idle (omega arith) one (omega arith) (omega (arith, most, last)))
 
 pub invariant_of-core : goal.invariant_of-core
 invariant_of-core c = let i = c.core.invariant in let near = c.if-cell-ge-BOARD_CELLS.false in let g : ℕ = c.peek-word.result / 8 in let low = c.if-word-lt4.false in let high = c.if-word-gt5.false in let one : Ends g c.peek-word.result = ends_by c.peek-word.result low high in

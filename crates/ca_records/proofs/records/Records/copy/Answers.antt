@@ -15,7 +15,7 @@ pub loop-record-preserved : goal.loop-record-preserved
 loop-record-preserved c =
     copy-more c.deref-record-items.result.now c.loop-record.copy c.put_copy.new.self c.loop-record.record-index c.record-item.result c.loop-record-test.true c.record-item.is c.loop-record.invariant c.in_ok-put_copy.ensures
 
-pub returns : goal.returns
-returns c =
+pub returns-clause-copy : goal.returns-clause-copy
+returns-clause-copy c =
     let xs = c.deref-record-items.result.now in
     c.loop-record.invariant ∙ take_all c.loop-record.record-index xs c.loop-record-test.false ∙ c.deref-record-items.ensures.value ∙ c.self.view_is

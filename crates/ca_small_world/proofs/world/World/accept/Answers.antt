@@ -9,6 +9,7 @@ use Rattle.ca_small_runs.specs.Holds.{Holds}
 use Rattle.ca_small_world.specs.declared.side.Serving.{Serving}
 use Rattle.ca_small_world.specs.declared.side.Side.{Side}
 use Rattle.ca_small_world.specs.Does.{Does}
+use Rattle.ca_small_world.specs.May.{MayAccept}
 use Rattle.ca_small_world.specs.Seen.{serving_of, side_of}
 use Rattle.ca_small_world.proofs.Lasts.{accepts, is-none, same-wanted, some-there, wants-first, wants-none, world-accepted}
 use Rattle.ca_small_world.proofs.Seeing.{found, world_of}
@@ -73,6 +74,8 @@ returns-in-Some c =
     let some = some-there _ c.if-is_empty.ensures in
     let there : At ss 0 server = found ss 0 server server (omega (arith, some)) c.index_mut-in-Some.ensures.value in
     let v : World = world_of (slice_set cs i c.join.new.side) (slice_set ss 0 c.join.new.server) c.join.new.circuits.items in
-    let made = accepts w i c.in-Some.priority (side_of side) (side_of c.join.new.side) (serving_of server) (serving_of c.join.new.server) (map circuit_of c.join.new.circuits.items) c.join.result (At-map side_of cs i side at) (At-map serving_of ss 0 server there) all c.join.ensures in
+    let first : Side = c.index.result.now in
+    let wants = wants-first side.core.wanted c.in-Some.priority (sym c.in-Some.is ∙ c.wanted.ensures ∙ same-wanted cs i first side (found cs i first first (omega (arith, c.if-client-len.false, c.len.ensures)) c.index.ensures) at) in
+    let made = accepts w i c.in-Some.priority (side_of side) (side_of c.join.new.side) (serving_of server) (serving_of c.join.new.server) (map circuit_of c.join.new.circuits.items) c.join.result (At-map side_of cs i side at) (At-map serving_of ss 0 server there) all wants c.join.ensures in
     let is = world-accepted cs ss c.join.new.circuits.items i c.join.new.side c.join.new.server in
-    subst (λ (z : World). Does z (λ new. HappensAccept z i new) c.join.result v) c.self.view_is (subst (λ (z : World). Does w (λ new. HappensAccept w i new) c.join.result z) (sym is) made)
+    subst (λ (z : World). Does z (MayAccept z i) (λ new. HappensAccept z i new) c.join.result v) c.self.view_is (subst (λ (z : World). Does w (MayAccept w i) (λ new. HappensAccept w i new) c.join.result z) (sym is) made)

@@ -9,6 +9,7 @@ use Rattle.ca_small_runs.specs.Holds.{Holds}
 use Rattle.ca_small_world.specs.declared.side.Serving.{Serving}
 use Rattle.ca_small_world.specs.declared.side.Side.{Side}
 use Rattle.ca_small_world.specs.Does.{Does}
+use Rattle.ca_small_world.specs.May.{OpenAtClient}
 use Rattle.ca_small_world.specs.Seen.{serving_of, side_of}
 use Rattle.ca_small_world.proofs.Moving.{tries-client}
 use Rattle.ca_small_world.proofs.Refusing.{ended-client-step}
@@ -78,4 +79,4 @@ returns c =
     let is = world-sided cs ss ks k line c.step_client.new.side server c.step_client.new.circuit there in
     let made = tries-client w k (circuit_of line) (circuit_of c.step_client.new.circuit) (side_of side) (side_of c.step_client.new.side) (serving_of server) c.step_client.result j c.if-not-line.false c.step_client.ensures in
     let v : World = world_of (slice_set cs line.client c.step_client.new.side) ss (slice_set ks k c.step_client.new.circuit) in
-    subst (λ (z : World). Does z (λ new. HappensClientStep z k new) c.step_client.result v) c.self.view_is (subst (λ (z : World). Does w (λ new. HappensClientStep w k new) c.step_client.result z) (sym is) made)
+    subst (λ (z : World). Does z (OpenAtClient z k) (λ new. HappensClientStep z k new) c.step_client.result v) c.self.view_is (subst (λ (z : World). Does w (OpenAtClient w k) (λ new. HappensClientStep w k new) c.step_client.result z) (sym is) made)

@@ -9,6 +9,7 @@ use Rattle.ca_small_runs.specs.Holds.{Holds}
 use Rattle.ca_small_world.specs.declared.side.Serving.{Serving}
 use Rattle.ca_small_world.specs.declared.side.Side.{Side}
 use Rattle.ca_small_world.specs.Does.{Does}
+use Rattle.ca_small_world.specs.May.{MayDown}
 use Rattle.ca_small_world.specs.Seen.{serving_of, side_of}
 use Rattle.ca_small_world.proofs.Moving.{hands-down, leaves-down}
 use Rattle.ca_small_world.proofs.Refusing.{ended-down}
@@ -91,7 +92,7 @@ returns-then-line c =
     let is = world-moved cs ss ks k line c.hand_down.new.side c.hand_down.new.server line in
     let made = hands-down w k c.args.bytes (circuit_of line) (side_of side) (side_of c.hand_down.new.side) (serving_of server) (serving_of c.hand_down.new.server) c.hand_down.result j c.if-not-line.false c.if-line.true c.hand_down.ensures in
     let v : World = world_of (slice_set cs line.client c.hand_down.new.side) (slice_set ss line.server c.hand_down.new.server) (slice_set ks k line) in
-    subst (λ (z : World). Does z (λ new. HappensDown z k c.args.bytes new) c.hand_down.result v) c.self.view_is (subst (λ (z : World). Does w (λ new. HappensDown w k c.args.bytes new) c.hand_down.result z) (sym is) made)
+    subst (λ (z : World). Does z (MayDown z k c.args.bytes) (λ new. HappensDown z k c.args.bytes new) c.hand_down.result v) c.self.view_is (subst (λ (z : World). Does w (MayDown w k c.args.bytes) (λ new. HappensDown w k c.args.bytes new) c.hand_down.result z) (sym is) made)
 
 pub leave_down-requires : goal.leave_down-requires
 leave_down-requires c =
@@ -128,4 +129,4 @@ returns c =
     let is = world-sided cs ss ks k line c.leave_down.new.side server c.leave_down.new.circuit there in
     let made = leaves-down w k c.args.bytes (circuit_of line) (circuit_of c.leave_down.new.circuit) (side_of side) (side_of c.leave_down.new.side) (serving_of server) c.leave_down.result j c.if-not-line.false c.if-line.false c.leave_down.ensures in
     let v : World = world_of (slice_set cs line.client c.leave_down.new.side) ss (slice_set ks k c.leave_down.new.circuit) in
-    subst (λ (z : World). Does z (λ new. HappensDown z k c.args.bytes new) c.leave_down.result v) c.self.view_is (subst (λ (z : World). Does w (λ new. HappensDown w k c.args.bytes new) c.leave_down.result z) (sym is) made)
+    subst (λ (z : World). Does z (MayDown z k c.args.bytes) (λ new. HappensDown z k c.args.bytes new) c.leave_down.result v) c.self.view_is (subst (λ (z : World). Does w (MayDown w k c.args.bytes) (λ new. HappensDown w k c.args.bytes new) c.leave_down.result z) (sym is) made)

@@ -11,6 +11,7 @@ use Rattle.ca_small_runs.specs.Holds.{Holds}
 use Rattle.ca_small_world.specs.declared.side.Serving.{Serving}
 use Rattle.ca_small_world.specs.declared.side.Side.{Side}
 use Rattle.ca_small_world.specs.Does.{Does}
+use Rattle.ca_small_world.specs.May.{MayOpen}
 use Rattle.ca_small_world.specs.Locals.{IsOpenAt, NoneOpen}
 use Rattle.ca_small_world.specs.Seen.{side_of}
 use Rattle.ca_small_world.proofs.Lasts.{off-here, off-none, on-here, opens-off, opens-on, world-call, world-client}
@@ -68,7 +69,7 @@ returns-then-index-priority c =
     let v : World = world_of (slice_set cs i c.open_on.new.side) ss (slice_set ks k c.open_on.new.circuit) in
     let is = world-call cs ss ks i k c.open_on.new.side c.open_on.new.circuit in
     let made = opens-on w i k (side_of side) (side_of c.open_on.new.side) (circuit_of line) (circuit_of c.open_on.new.circuit) c.args.name.now c.args.priority c.open_on.result here carries on c.open_on.ensures in
-    subst (λ (z : World). Does z (λ new. HappensOpen z i c.args.name.now c.args.priority new) c.open_on.result v) c.self.view_is (subst (λ (z : World). Does w (λ new. HappensOpen w i c.args.name.now c.args.priority new) c.open_on.result z) (sym is) made)
+    subst (λ (z : World). Does z (MayOpen z i) (λ new. HappensOpen z i c.args.name.now c.args.priority new) c.open_on.result v) c.self.view_is (subst (λ (z : World). Does w (MayOpen w i) (λ new. HappensOpen w i c.args.name.now c.args.priority new) c.open_on.result z) (sym is) made)
 
 pub returns-in-None : goal.returns-in-None
 returns-in-None c =
@@ -87,7 +88,7 @@ returns-in-None c =
     let v : World = world_of (slice_set cs i c.open_off.new.side) ss ks in
     let is = world-client cs ss ks i c.open_off.new.side in
     let made = opens-off w i (side_of side) (side_of c.open_off.new.side) c.args.name.now c.args.priority c.open_off.result here off c.open_off.ensures in
-    subst (λ (z : World). Does z (λ new. HappensOpen z i c.args.name.now c.args.priority new) c.open_off.result v) c.self.view_is (subst (λ (z : World). Does w (λ new. HappensOpen w i c.args.name.now c.args.priority new) c.open_off.result z) (sym is) made)
+    subst (λ (z : World). Does z (MayOpen z i) (λ new. HappensOpen z i c.args.name.now c.args.priority new) c.open_off.result v) c.self.view_is (subst (λ (z : World). Does w (MayOpen w i) (λ new. HappensOpen w i c.args.name.now c.args.priority new) c.open_off.result z) (sym is) made)
 
 pub returns-else-index-priority : goal.returns-else-index-priority
 returns-else-index-priority c =
@@ -114,4 +115,4 @@ returns-else-index-priority c =
     let v : World = world_of (slice_set cs i c.open_off-in-Some.new.side) ss ks in
     let is = world-client cs ss ks i c.open_off-in-Some.new.side in
     let made = opens-off w i (side_of side) (side_of c.open_off-in-Some.new.side) c.args.name.now c.args.priority c.open_off-in-Some.result here off c.open_off-in-Some.ensures in
-    subst (λ (z : World). Does z (λ new. HappensOpen z i c.args.name.now c.args.priority new) c.open_off-in-Some.result v) c.self.view_is (subst (λ (z : World). Does w (λ new. HappensOpen w i c.args.name.now c.args.priority new) c.open_off-in-Some.result z) (sym is) made)
+    subst (λ (z : World). Does z (MayOpen z i) (λ new. HappensOpen z i c.args.name.now c.args.priority new) c.open_off-in-Some.result v) c.self.view_is (subst (λ (z : World). Does w (MayOpen w i) (λ new. HappensOpen w i c.args.name.now c.args.priority new) c.open_off-in-Some.result z) (sym is) made)

@@ -10,6 +10,7 @@ use Rattle.ca_small_runs.specs.Holds.{Holds}
 use Rattle.ca_small_world.specs.declared.side.Serving.{Serving}
 use Rattle.ca_small_world.specs.declared.side.Side.{Side}
 use Rattle.ca_small_world.specs.Does.{Does}
+use Rattle.ca_small_world.specs.May.{MayRead}
 use Rattle.ca_small_world.specs.Locals.{IsOpenAt, NoneOpen}
 use Rattle.ca_small_world.specs.Seen.{side_of}
 use Rattle.ca_small_world.proofs.Lasts.{channel-there, no-channel, reads-fit, reads-off, reads-on, world-call, world-client}
@@ -118,10 +119,14 @@ returns-in-None c =
     let side : Side = c.index_mut.result.now in
     let at : At cs i side = found cs i side side within c.index_mut.ensures.value in
     let here : At w.clients i (side_of side) = At-map side_of cs i side at in
+    let named : Side = c.index.result.now in
+    let same : named ≡ side = At-one cs i named side (found cs i named named within c.index.ensures) at in
+    let names : c.args.channel < length (side_of named).names = omega (arith, c.if-channel-len.false, c.len-2.ensures) in
+    let has = channel-there w i c.args.channel (side_of side) h here (subst (λ (z : Side). c.args.channel < length (side_of z).names) same names) in
     let v : World = world_of (slice_set cs i c.read_off.new.side) ss ks in
     let is = world-client cs ss ks i c.read_off.new.side in
-    let made = reads-off w i (side_of side) (side_of c.read_off.new.side) c.args.channel c.args.data_type c.args.count c.read_off.result here c.read_off.ensures in
-    subst (λ (z : World). Does z (λ new. HappensReading z i c.args.channel c.args.data_type c.args.count new) c.read_off.result v) c.self.view_is (subst (λ (z : World). Does w (λ new. HappensReading w i c.args.channel c.args.data_type c.args.count new) c.read_off.result z) (sym is) made)
+    let made = reads-off w i (side_of side) (side_of c.read_off.new.side) c.args.channel c.args.data_type c.args.count c.read_off.result here has c.read_off.ensures in
+    subst (λ (z : World). Does z (MayRead z i c.args.channel) (λ new. HappensReading z i c.args.channel c.args.data_type c.args.count new) c.read_off.result v) c.self.view_is (subst (λ (z : World). Does w (MayRead w i c.args.channel) (λ new. HappensReading w i c.args.channel c.args.data_type c.args.count new) c.read_off.result z) (sym is) made)
 
 pub returns-in-Some : goal.returns-in-Some
 returns-in-Some c =
@@ -143,7 +148,11 @@ returns-in-Some c =
     let is_c : o.c ≡ circuit_of line = At-one (map circuit_of ks) k o.c (circuit_of line) o.at (At-map circuit_of ks k line there) in
     let mine : line.client ≡ i = ap (λ (z : CircuitState). z.client) (sym is_c) ∙ o.mine in
     let open_ : line.client_open ≡ true = ap (λ (z : CircuitState). z.client_open) (sym is_c) ∙ o.is_open in
+    let named : Side = c.index.result.now in
+    let same : named ≡ side = At-one cs i named side (found cs i named named within c.index.ensures) at in
+    let names : c.args.channel < length (side_of named).names = omega (arith, c.if-channel-len.false, c.len-2.ensures) in
+    let has = channel-there w i c.args.channel (side_of side) h here (subst (λ (z : Side). c.args.channel < length (side_of z).names) same names) in
     let v : World = world_of (slice_set cs i c.read_on.new.side) ss (slice_set ks k c.read_on.new.circuit) in
     let is = world-call cs ss ks i k c.read_on.new.side c.read_on.new.circuit in
-    let made = reads-on w i k (side_of side) (side_of c.read_on.new.side) (circuit_of line) (circuit_of c.read_on.new.circuit) c.args.channel c.args.data_type c.args.count c.read_on.result h here (At-map circuit_of ks k line there) mine open_ c.read_on.ensures in
-    subst (λ (z : World). Does z (λ new. HappensReading z i c.args.channel c.args.data_type c.args.count new) c.read_on.result v) c.self.view_is (subst (λ (z : World). Does w (λ new. HappensReading w i c.args.channel c.args.data_type c.args.count new) c.read_on.result z) (sym is) made)
+    let made = reads-on w i k (side_of side) (side_of c.read_on.new.side) (circuit_of line) (circuit_of c.read_on.new.circuit) c.args.channel c.args.data_type c.args.count c.read_on.result h here (At-map circuit_of ks k line there) mine open_ has c.read_on.ensures in
+    subst (λ (z : World). Does z (MayRead z i c.args.channel) (λ new. HappensReading z i c.args.channel c.args.data_type c.args.count new) c.read_on.result v) c.self.view_is (subst (λ (z : World). Does w (MayRead w i c.args.channel) (λ new. HappensReading w i c.args.channel c.args.data_type c.args.count new) c.read_on.result z) (sym is) made)

@@ -10,6 +10,7 @@ use Rattle.ca_small_runs.proofs.Serves.{replies-fit}
 use Rattle.ca_small_world.specs.declared.side.Serving.{Serving}
 use Rattle.ca_small_world.specs.declared.side.Side.{Side}
 use Rattle.ca_small_world.specs.Does.{Does}
+use Rattle.ca_small_world.specs.May.{OpenAtServer}
 use Rattle.ca_small_world.specs.Seen.{serving_of, side_of}
 use Rattle.ca_small_world.proofs.Moving.{tries-server}
 use Rattle.ca_small_world.proofs.Refusing.{ended-server-step}
@@ -98,4 +99,4 @@ returns c =
     let is = world-served cs ss ks k line side c.step_server.new.server c.step_server.new.circuit client in
     let made = tries-server w k (circuit_of line) (circuit_of c.step_server.new.circuit) (side_of side) (serving_of server) (serving_of c.step_server.new.server) c.step_server.result j c.if-not-line.false c.step_server.ensures in
     let v : World = world_of cs (slice_set ss line.server c.step_server.new.server) (slice_set ks k c.step_server.new.circuit) in
-    subst (λ (z : World). Does z (λ new. HappensServerStep z k new) c.step_server.result v) c.self.view_is (subst (λ (z : World). Does w (λ new. HappensServerStep w k new) c.step_server.result z) (sym is) made)
+    subst (λ (z : World). Does z (OpenAtServer z k) (λ new. HappensServerStep z k new) c.step_server.result v) c.self.view_is (subst (λ (z : World). Does w (OpenAtServer w k) (λ new. HappensServerStep w k new) c.step_server.result z) (sym is) made)

@@ -9,6 +9,7 @@ use Rattle.ca_small_runs.specs.Holds.{Holds}
 use Rattle.ca_small_world.specs.declared.side.Serving.{Serving}
 use Rattle.ca_small_world.specs.declared.side.Side.{Side}
 use Rattle.ca_small_world.specs.Does.{Does}
+use Rattle.ca_small_world.specs.May.{MayUp}
 use Rattle.ca_small_world.specs.Seen.{serving_of, side_of}
 use Rattle.ca_small_world.proofs.Moving.{hands-up, leaves-up}
 use Rattle.ca_small_world.proofs.Refusing.{ended-up}
@@ -91,7 +92,7 @@ returns-then-line c =
     let is = world-moved cs ss ks k line c.hand_up.new.side c.hand_up.new.server line in
     let made = hands-up w k c.args.bytes (circuit_of line) (side_of side) (side_of c.hand_up.new.side) (serving_of server) (serving_of c.hand_up.new.server) c.hand_up.result j c.if-not-line.false c.if-line.true c.hand_up.ensures in
     let v : World = world_of (slice_set cs line.client c.hand_up.new.side) (slice_set ss line.server c.hand_up.new.server) (slice_set ks k line) in
-    subst (λ (z : World). Does z (λ new. HappensUp z k c.args.bytes new) c.hand_up.result v) c.self.view_is (subst (λ (z : World). Does w (λ new. HappensUp w k c.args.bytes new) c.hand_up.result z) (sym is) made)
+    subst (λ (z : World). Does z (MayUp z k c.args.bytes) (λ new. HappensUp z k c.args.bytes new) c.hand_up.result v) c.self.view_is (subst (λ (z : World). Does w (MayUp w k c.args.bytes) (λ new. HappensUp w k c.args.bytes new) c.hand_up.result z) (sym is) made)
 
 pub leave_up-requires : goal.leave_up-requires
 leave_up-requires c =
@@ -128,4 +129,4 @@ returns c =
     let is = world-served cs ss ks k line side c.leave_up.new.server c.leave_up.new.circuit client in
     let made = leaves-up w k c.args.bytes (circuit_of line) (circuit_of c.leave_up.new.circuit) (side_of side) (serving_of server) (serving_of c.leave_up.new.server) c.leave_up.result j c.if-not-line.false c.if-line.false c.leave_up.ensures in
     let v : World = world_of cs (slice_set ss line.server c.leave_up.new.server) (slice_set ks k c.leave_up.new.circuit) in
-    subst (λ (z : World). Does z (λ new. HappensUp z k c.args.bytes new) c.leave_up.result v) c.self.view_is (subst (λ (z : World). Does w (λ new. HappensUp w k c.args.bytes new) c.leave_up.result z) (sym is) made)
+    subst (λ (z : World). Does z (MayUp z k c.args.bytes) (λ new. HappensUp z k c.args.bytes new) c.leave_up.result v) c.self.view_is (subst (λ (z : World). Does w (MayUp w k c.args.bytes) (λ new. HappensUp w k c.args.bytes new) c.leave_up.result z) (sym is) made)

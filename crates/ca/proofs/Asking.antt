@@ -1,0 +1,56 @@
+-- Which words ask for no line.
+use Rattle.std.proofs.Common.{◌≡◌, ℕ, ◌+◌, List, [], ◌∷◌, Option, None, sym, ap, ◌∙◌, subst, codes, arith, length}
+use Rattle.clap.specs.Words.{Text}
+use Rattle.ca.specs.declared.line.Line.TheVariants.{Answer, Repeater, Replay}
+use Rattle.ca.specs.declared.repeater.line.RepeaterLine.{RepeaterLine}
+use Rattle.ca.specs.declared.replay.line.ReplayLine.{ReplayLine}
+use Rattle.ca.specs.Lines.{IsLine}
+use Rattle.ca.specs.RepeaterWords.{Asks, IsAsked}
+use Rattle.ca.specs.ReplayWords.{IsNamed, NamesFile}
+
+-- a number that tells the first words of lines apart
+abbrev mark : List Text → ℕ
+mark [] = 0
+mark ([] ∷ words) = 0
+mark ((c ∷ word) ∷ words) = c + length word
+
+differ : (words : List Text) (a b : ℕ) → mark words ≡ a → mark words ≡ b → (a ≡ b → ⊥) → ⊥
+differ words a b p q apart = apart (sym p ∙ q)
+
+no-answer-repeater : (words rest other : List Text) → words ≡ codes "answer" ∷ rest → words ≡ codes "repeater" ∷ other → ⊥
+no-answer-repeater words rest other a b = differ words 102 121 (ap mark a) (ap mark b) (λ e. omega (arith, e))
+
+no-answer-replay : (words rest other : List Text) → words ≡ codes "answer" ∷ rest → words ≡ codes "replay" ∷ other → ⊥
+no-answer-replay words rest other a b = differ words 102 119 (ap mark a) (ap mark b) (λ e. omega (arith, e))
+
+no-repeater-replay : (words rest other : List Text) → words ≡ codes "repeater" ∷ rest → words ≡ codes "replay" ∷ other → ⊥
+no-repeater-replay words rest other a b = differ words 121 119 (ap mark a) (ap mark b) (λ e. omega (arith, e))
+
+tail-is : {A : Type 0} {x y : A} {xs ys : List A} → x ∷ xs ≡ y ∷ ys → xs ≡ ys
+tail-is e = cc
+
+-- more words after `answer`
+pub answer-none : (words rest : List Text) → words ≡ codes "answer" ∷ rest → (rest ≡ [] → ⊥) → IsLine words None
+answer-none words rest are more Answer asks = more (tail-is (sym are ∙ asks))
+answer-none words rest are more (Repeater line) asks = no-answer-repeater words rest asks.0 are asks.1
+answer-none words rest are more (Replay line) asks = no-answer-replay words rest asks.0 are asks.1
+
+-- words after `repeater` that ask for none
+pub repeater-none : (words rest : List Text) (r : Option RepeaterLine) → words ≡ codes "repeater" ∷ rest → IsAsked rest r → r ≡ None → IsLine words None
+repeater-none words rest r are none is Answer asks = no-answer-repeater words [] rest asks are
+repeater-none words rest r are none is (Repeater line) asks =
+    (subst (λ (x : Option RepeaterLine). IsAsked rest x) is none) line (subst (λ (t : List Text). Asks t line) (tail-is (sym asks.1 ∙ are)) asks.2)
+repeater-none words rest r are none is (Replay line) asks = no-repeater-replay words rest asks.0 are asks.1
+
+-- words after `replay` that name no file
+pub replay-none : (words rest : List Text) (r : Option ReplayLine) → words ≡ codes "replay" ∷ rest → IsNamed rest r → r ≡ None → IsLine words None
+replay-none words rest r are none is Answer asks = no-answer-replay words [] rest asks are
+replay-none words rest r are none is (Repeater line) asks = no-repeater-replay words asks.0 rest asks.1 are
+replay-none words rest r are none is (Replay line) asks =
+    (subst (λ (x : Option ReplayLine). IsNamed rest x) is none) line.file.now (subst (λ (t : List Text). NamesFile t line.file.now) (tail-is (sym asks.1 ∙ are)) asks.2)
+
+-- another first word
+pub other-none : (words : List Text) → ((rest : List Text) → words ≡ codes "answer" ∷ rest → ⊥) → ((rest : List Text) → words ≡ codes "repeater" ∷ rest → ⊥) → ((rest : List Text) → words ≡ codes "replay" ∷ rest → ⊥) → IsLine words None
+other-none words a b c Answer asks = a [] asks
+other-none words a b c (Repeater line) asks = b asks.0 asks.1
+other-none words a b c (Replay line) asks = c asks.0 asks.1

@@ -1,0 +1,18 @@
+-- What the program's words ask for.
+use Rattle.std.specs.Prelude.{◌≡◌, List, [], ◌∷◌, Option, None, Some, codes}
+use Rattle.clap.specs.Words.{Text}
+use Rattle.ca.specs.declared.line.Line.{Line}
+use Rattle.ca.specs.declared.line.Line.TheVariants.{Answer, Repeater, Replay}
+use Rattle.ca.specs.RepeaterWords.{Asks}
+use Rattle.ca.specs.ReplayWords.{NamesFile}
+
+-- The words ask for this line: the first names it, and the others are as it has them.
+abbrev pub AsksLine : List Text → Line → Type 0
+AsksLine words Answer = words ≡ codes "answer" ∷ []
+AsksLine words (Repeater line) = (rest : List Text) × (words ≡ codes "repeater" ∷ rest) × Asks rest line
+AsksLine words (Replay line) = (rest : List Text) × (words ≡ codes "replay" ∷ rest) × NamesFile rest line.file.now
+
+-- What was read of the words: the line that they ask for, or nothing where they ask for none.
+abbrev pub IsLine : List Text → Option Line → Type 0
+IsLine words (Some line) = AsksLine words line
+IsLine words None = (line : Line) → AsksLine words line → ⊥

@@ -1,0 +1,73 @@
+use crate::repeater::Datagrams;
+use ca_link::Fault;
+use ca_repeat::Address;
+use std::net::{IpAddr, Ipv4Addr, Net, SocketAddr, UdpSocket};
+
+/// The system's socket, of which nothing is known.
+#[derive(Debug, Drop)]
+pub struct Socket {
+    socket: UdpSocket,
+}
+
+impl Socket {
+    /// A socket that is bound.
+    pub fn new(socket: UdpSocket) -> Socket {
+        Socket { socket }
+    }
+
+    /// A socket of this port on all addresses of the host: beacons come from other hosts too.
+    pub fn bind<R: Net>(net: &R, port: u16) -> Result<Socket, Fault> {
+        match UdpSocket::bind(net, (Ipv4Addr::UNSPECIFIED, port)) {
+            Ok(socket) => Ok(Socket { socket }),
+            Err(_) => Err(Fault),
+        }
+    }
+}
+
+impl Datagrams for Socket {
+    ghost use Rattle.std.specs.Prelude.{⊤};
+
+    ghost came = { λ _ _ _ _. ⊤ };
+
+    ghost went = { λ _ _ _ _. ⊤ };
+
+    ghost refuses = { λ _ _ _ _. ⊤ };
+
+    ghost fails = { λ _ _. ⊤ };
+
+    fn address(&self) -> Result<Address, Fault> {
+        match self.socket.local_addr() {
+            Ok(address) => address_of(address),
+            Err(_) => Err(Fault),
+        }
+    }
+
+    fn receive(&mut self, buffer: &mut [u8]) -> Result<(usize, Address), Fault> {
+        let Ok((size, from)) = self.socket.recv_from(buffer) else {
+            return Err(Fault);
+        };
+        match address_of(from) {
+            Ok(address) => Ok((size, address)),
+            Err(fault) => Err(fault),
+        }
+    }
+
+    fn send(&mut self, to: Address, bytes: &[u8]) -> Result<(), Fault> {
+        let address = (Ipv4Addr::from_bits(to.ip), to.port);
+        match self.socket.send_to(bytes, address) {
+            Ok(_) => Ok(()),
+            Err(_) => Err(Fault),
+        }
+    }
+}
+
+/// An address of IPv4. Another is a fault: none comes to the port that the repeater binds.
+fn address_of(address: SocketAddr) -> Result<Address, Fault> {
+    match address.ip() {
+        IpAddr::V4(ip) => Ok(Address {
+            ip: ip.to_bits(),
+            port: address.port(),
+        }),
+        IpAddr::V6(_) => Err(Fault),
+    }
+}

@@ -1,0 +1,5 @@
+use Rattle.std.proofs.Common.{◌≡◌}
+use Rattle.ca_tests.proofs.queue.check_takes.Given as goal
+
+abbrev pub invariant-loop-key : goal.invariant-loop-key
+invariant-loop-key g l = l.queue.subscriptions ≡ l.fn.queue.subscriptions

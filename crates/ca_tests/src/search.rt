@@ -1,0 +1,70 @@
+use ca_search::{Search, Searcher};
+use ca_text::{ChannelName, Refusal};
+use std::process::Abort;
+use std::test::Fail;
+
+/// Adds a channel of a new CID.
+fn add<R: Abort>(rt: &R, searcher: &mut Searcher, cid: u32, now: u64) -> Result<(), Refusal> {
+    assert!(rt; !searcher.has(cid));
+    let name = ChannelName::read(b"TEMP")?;
+    searcher.add(cid, &name, now)
+}
+
+/// The searches are for the channels of these CIDs.
+fn are<R: Abort>(rt: &R, searches: &[Search], cids: &[u32]) {
+    assert_eq!(rt; searches.len(), cids.len());
+    for (search, cid) in searches.iter().zip(cids) {
+        assert_eq!(rt; search.cid(), *cid);
+        assert_eq!(rt; search.name().bytes(), b"TEMP".as_slice());
+    }
+}
+
+#[test]
+fn searches_come_ever_later(rt: HostRuntime) -> Result<(), Fail> {
+    let mut searcher = Searcher::new(rt.alloc());
+    add(&rt, &mut searcher, 7, 1_000)?;
+    for moment in [1_000u64, 1_032, 1_096, 1_224] {
+        assert!(rt; moment == 1_000 || searcher.due(moment - 1)?.is_empty());
+        are(&rt, &searcher.due(moment)?, &[7]);
+    }
+    Ok(())
+}
+
+#[test]
+fn waits_end_at_five_minutes(rt: HostRuntime) -> Result<(), Fail> {
+    let mut searcher = Searcher::new(rt.alloc());
+    add(&rt, &mut searcher, 7, 0)?;
+    are(&rt, &searcher.due(0)?, &[7]);
+    let waits = [
+        32u64, 64, 128, 256, 512, 1_024, 2_048, 4_096, 8_192, 16_384, 32_768, 65_536, 131_072,
+        262_144, 300_000, 300_000,
+    ];
+    let mut now = 0u64;
+    for wait in waits {
+        now = now.saturating_add(wait);
+        assert!(rt; searcher.due(now.saturating_sub(1))?.is_empty());
+        are(&rt, &searcher.due(now)?, &[7]);
+    }
+    Ok(())
+}
+
+#[test]
+fn found_channels_keep_their_places(rt: HostRuntime) -> Result<(), Fail> {
+    let mut searcher = Searcher::new(rt.alloc());
+    for cid in [3u32, 1, 2] {
+        add(&rt, &mut searcher, cid, 0)?;
+    }
+    are(&rt, &searcher.due(0)?, &[3, 1, 2]);
+    searcher.pause(1);
+    are(&rt, &searcher.due(1_000_000)?, &[3, 2]);
+    searcher.boost(1_000_000);
+    are(&rt, &searcher.due(1_000_000)?, &[3, 2]);
+    searcher.resume(1, 1_000_001);
+    are(&rt, &searcher.due(1_000_001)?, &[1]);
+    are(&rt, &searcher.due(1_000_033)?, &[3, 1, 2]);
+    searcher.remove(3);
+    searcher.boost(1_000_033);
+    // An earlier moment counts as the last one.
+    are(&rt, &searcher.due(0)?, &[1, 2]);
+    Ok(())
+}

@@ -1,0 +1,42 @@
+use ca::{Line, RepeaterLine, ReplayLine, read_line};
+use std::test::Fail;
+
+const fn replay(file: &'static str) -> Line<'static> {
+    Line::Replay(ReplayLine { file })
+}
+
+const fn repeater(port: u16, datagrams: Option<u64>) -> Line<'static> {
+    Line::Repeater(RepeaterLine { port, datagrams })
+}
+
+// Lines that are not understood are cases of the program.
+#[test]
+fn lines_are_read(rt: HostRuntime) -> Result<(), Fail> {
+    let both = repeater(40_000, Some(7));
+    let rows: [(&[&str], Line<'static>); 10] = [
+        (&["answer"], Line::Answer),
+        (&["replay", "script"], replay("script")),
+        (
+            &["replay", "a folder/a script"],
+            replay("a folder/a script"),
+        ),
+        (&["replay", "replay"], replay("replay")),
+        (&["repeater"], repeater(5_065, None)),
+        (&["repeater", "--port", "0"], repeater(0, None)),
+        (&["repeater", "--port=065535"], repeater(65_535, None)),
+        (
+            &["repeater", "--datagrams=18446744073709551615"],
+            repeater(5_065, Some(u64::MAX)),
+        ),
+        (&["repeater", "--port", "40000", "--datagrams", "7"], both),
+        (&["repeater", "--datagrams=7", "--port=40000"], both),
+    ];
+    for (texts, line) in &rows {
+        let mut words = Vec::new(rt.alloc());
+        for text in texts.iter() {
+            words.push(text.to_string(rt.alloc())?)?;
+        }
+        assert!(rt; read_line(rt.alloc(), &words) == Ok(Some(*line)));
+    }
+    Ok(())
+}

@@ -1,0 +1,142 @@
+use ca::{Datagrams, Socket, repeat, repeater_run};
+use ca_link::Fault;
+use ca_repeat::Address;
+use ca_text::Refusal;
+use std::alloc::Global;
+use std::io;
+use std::net::{Ipv4Addr, Net, SocketAddr, UdpSocket};
+use std::process::Abort;
+use std::test::Fail;
+use std::time::Duration;
+
+/// A beacon that names no address.
+const BLANK: &[u8] = b"\x00\x0d\x00\x00\x00\x0d\x13\xc8\0\0\0\x07\0\0\0\0";
+
+const CONFIRM: &[u8] = b"\x00\x11\x00\x00\x00\x00\x00\x00\0\0\0\0\x7f\0\0\x01";
+
+/// A socket on this host, which waits for a datagram for ten seconds.
+fn bound<R: Net>(net: &R) -> io::Result<UdpSocket> {
+    let socket = UdpSocket::bind(net, (Ipv4Addr::LOCALHOST, 0u16))?;
+    socket.set_read_timeout(Some(Duration::from_secs(10)))?;
+    Ok(socket)
+}
+
+/// The socket hears this from the repeater, and then nothing.
+fn hears<R: AllocGlobal + Abort>(
+    rt: &R,
+    socket: &UdpSocket,
+    repeater: SocketAddr,
+    wanted: &[&[u8]],
+) -> Result<(), Fail> {
+    let mut buffer = vec![in rt.alloc(); 0u8; 65_535]?;
+    for bytes in wanted {
+        let (size, from) = socket.recv_from(&mut buffer)?;
+        assert!(rt; from == repeater);
+        assert_eq!(rt; &buffer[..size], *bytes);
+    }
+    socket.set_nonblocking(true)?;
+    assert!(rt; socket.recv_from(&mut buffer).is_err());
+    Ok(())
+}
+
+#[test]
+fn the_greatest_datagram_goes_on_whole(rt: HostRuntime) -> Result<(), Fail> {
+    let repeater = bound(&rt)?;
+    let at = repeater.local_addr()?;
+    let (member, sender) = (bound(&rt)?, bound(&rt)?);
+    // IPv4 has room for so many bytes behind its header and UDP's.
+    let datagram = vec![in rt.alloc(); 0u8; 65_507]?;
+    member.send_to(b"", at)?;
+    sender.send_to(&datagram, at)?;
+    let mut told = Vec::new(rt.alloc());
+    let status = repeater_run(rt.alloc(), &mut Socket::new(repeater), Some(2), &mut told);
+    assert_eq!(rt; status, 0);
+    hears(&rt, &member, at, &[CONFIRM, &datagram])
+}
+
+#[test]
+fn a_failing_receive_is_refused(rt: HostRuntime) -> Result<(), Fail> {
+    let repeater = bound(&rt)?;
+    repeater.set_nonblocking(true)?;
+    let mut told = Vec::new(rt.alloc());
+    let status = repeater_run(rt.alloc(), &mut Socket::new(repeater), None, &mut told);
+    assert_eq!(rt; status, 1);
+    assert!(rt; told.as_slice() == "refused: 23 Device\n".as_bytes());
+    Ok(())
+}
+
+/// Datagrams in memory: those that come, and whither one was tried to be sent. One address takes none.
+#[derive(Drop)]
+struct Script<'a> {
+    coming: &'a [(Address, &'a [u8])],
+    taken: usize,
+    deaf: Address,
+    tried: Vec<Address>,
+}
+
+impl<'a> Datagrams for Script<'a> {
+    ghost use Rattle.std.specs.Prelude.{⊤};
+
+    ghost came = { λ _ _ _ _. ⊤ };
+
+    ghost went = { λ _ _ _ _. ⊤ };
+
+    ghost refuses = { λ _ _ _ _. ⊤ };
+
+    ghost fails = { λ _ _. ⊤ };
+
+    fn address(&self) -> Result<Address, Fault> {
+        Err(Fault)
+    }
+
+    fn receive(&mut self, buffer: &mut [u8]) -> Result<(usize, Address), Fault> {
+        let Some((from, bytes)) = self.coming.get(self.taken) else {
+            return Err(Fault);
+        };
+        self.taken += 1;
+        let size = bytes.len().min(buffer.len());
+        buffer[..size].copy_from_slice(&bytes[..size]);
+        Ok((size, *from))
+    }
+
+    fn send(&mut self, to: Address, _bytes: &[u8]) -> Result<(), Fault> {
+        match self.tried.push(to) {
+            Ok(()) if to != self.deaf => Ok(()),
+            _ => Err(Fault),
+        }
+    }
+}
+
+#[test]
+fn a_member_that_takes_nothing_is_dropped(rt: HostRuntime) -> Result<(), Fail> {
+    let member = Address {
+        ip: 0x7f00_0001,
+        port: 40_000,
+    };
+    let deaf = Address {
+        ip: 0x7f00_0001,
+        port: 40_001,
+    };
+    let server = Address {
+        ip: 0x0a00_0001,
+        port: 5_064,
+    };
+    let coming: [(Address, &[u8]); 4] = [
+        (member, b""),
+        (deaf, b""),
+        (server, BLANK),
+        (server, BLANK),
+    ];
+    let mut script = Script {
+        coming: coming.as_slice(),
+        taken: 0,
+        deaf,
+        tried: Vec::new(rt.alloc()),
+    };
+    assert!(rt; repeat(rt.alloc(), &mut script, 3) == Ok(()));
+    assert!(rt; script.tried.as_slice() == [member, deaf, member].as_slice());
+    // A new run knows no members, and the fifth datagram does not come.
+    assert!(rt; repeat(rt.alloc(), &mut script, 2) == Err(Refusal::Device));
+    assert_eq!(rt; script.tried.len(), 3);
+    Ok(())
+}
