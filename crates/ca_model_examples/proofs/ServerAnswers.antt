@@ -71,8 +71,11 @@ output_size (Ended w l) = 0
 
 pub sends-bytes : SendsBytes
 sends-bytes = (
-  (_, refl, omega arith, refl),
-  λ y h. (let is = some_is _ _ h.1 in let l : 3 ≡ length h.0.link.output = ap output_size is in let b = h.2 in omega (arith, l, b)),
+  inl (_, refl, omega arith, refl),
+  λ y h. elim h [
+    | inl a ↦ (let is = some_is _ _ a.1 in let l : 3 ≡ length a.0.link.output = ap output_size is in let b = a.2 in omega (arith, l, b))
+    | inr b ↦ (let n : 4 ≡ 0 = b.1 in omega (arith, n))
+  ],
 )
 
 -- ---- steps

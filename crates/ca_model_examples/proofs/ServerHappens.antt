@@ -62,33 +62,6 @@ write-due : Due (knows (core_before (spelling writing) []) (end_0 (link [] []) (
 write-due =
     due-of (knows (core_before (spelling writing) []) (end_0 (link [] []) (entry_2 ∷ []))) writing [] (Applies temp_name v22 false) (inl (record { channel = record { sid = 65536; cid = 7; name = temp_name; retired = false }; open_there = (0, refl); under = refl; there = refl; known = record { state = temp; busy = false; waits = 0 }; named = refl }, inr (v22, record { elements = v22; early = refl; reads = reads-22 _ refl refl refl; late = refl; is = refl }, refl, refl))) (λ e. absurd cc)
 
-pub write-happens : WriteHappens
-write-happens = (
-  record { j = _; x = _; y = _; joins = record { at = refl; client = refl; server = refl }; is_open = refl },
-  (
-    stepped.Handled,
-    record {
-      e = end_0 (link (spelling writing) []) (entry_2 ∷ []);
-      has = refl;
-      next = record {
-        room = omega arith;
-        m = writing;
-        rest = [];
-        takes = first-of writing writing-is (link (spelling writing) []) refl;
-        replies = [];
-        action = Applies temp_name v22 false;
-        after = _;
-        handles = record { due = write-due; acted = _; acts = refl; recorded = _; records = refl; leaves = refl };
-      };
-      gone = λ h. false;
-      lasts = refl;
-      core = _;
-      reaches = ((λ h e. nowhere e), refl);
-      leaves = refl;
-    },
-  ),
-)
-
 -- the message of that step
 abbrev writing-next : Next (core_before (spelling writing) []) first (end_0 (link (spelling writing) []) (entry_2 ∷ []))
 writing-next = record {
@@ -102,17 +75,33 @@ writing-next = record {
   handles = record { due = write-due; acted = _; acts = refl; recorded = _; records = refl; leaves = refl };
 }
 
+pub write-happens : WriteHappens
+write-happens = (
+  record { j = _; x = _; y = _; joins = record { at = refl; client = refl; server = refl }; is_open = refl },
+  (stepped.Handled, record { e = _; has = refl; core = _; steps = (writing-next, (λ h. false), refl, ((λ h e. nowhere e), refl)); leaves = refl }),
+)
+
 pub lack-happens : LackHappens
 lack-happens = (
   (
     record { j = _; x = _; y = _; joins = record { at = refl; client = refl; server = refl }; is_open = refl },
-    (stepped.Closed why.OutOfMemory [], record { e = _; has = refl; left_is = refl; next = writing-next; needs = tt; leaves = inl refl }),
+    (
+      stepped.Closed why.OutOfMemory [],
+      record { e = _; has = refl; left_is = refl; core = _; lacks = record { next = writing-next; needs = tt; written = None; mid = _; left_is = refl; leaves = refl }; leaves = refl },
+    ),
   ),
   (
     record { j = _; x = _; y = _; joins = record { at = refl; client = refl; server = refl }; is_open = refl },
     (
       stepped.Closed why.OutOfMemory [],
-      record { e = _; has = refl; left_is = refl; next = writing-next; needs = tt; leaves = inr (_, _, _, (λ h. false), _, refl, ((λ h e. nowhere e), refl), refl) },
+      record {
+        e = _;
+        has = refl;
+        left_is = refl;
+        core = _;
+        lacks = record { next = writing-next; needs = tt; written = Some (λ h. false); mid = _; left_is = (refl, ((λ h e. nowhere e), refl)); leaves = refl };
+        leaves = refl;
+      },
     ),
   ),
 )
