@@ -2,15 +2,19 @@
 #![tactic(auto)]
 
 mod due_replies;
+mod safe_worlds;
 mod server_calls;
 mod server_events;
 mod server_rows;
-mod safe_worlds;
 mod unsafe_worlds;
 
 pub use due_replies::{
     creations_are_due, greetings_are_due, others_are_due, puts_are_due, reads_are_due,
     searches_are_due, subscriptions_are_due, writes_are_due,
+};
+pub use safe_worlds::{
+    a_channel_in_use_is_safe, a_channel_that_comes_back_is_legal,
+    a_shared_id_is_safe_but_not_legal, updates_of_two_circuits_may_cross,
 };
 pub use server_calls::{
     a_finish_is_answered_if_awaited, a_server_is_found, a_step_answers_why_it_takes_none,
@@ -26,10 +30,6 @@ pub use server_rows::{
     conversions_are_as_worked, images_are_as_worked, queued_posts_are_as_worked,
     request_faults_are_as_worked, rights_are_as_worked, spelled_greetings_are_as_worked,
     spelled_replies_are_as_worked, subscription_faults_are_as_worked, waiting_puts_are_as_worked,
-};
-pub use safe_worlds::{
-    a_channel_in_use_is_safe, a_channel_that_comes_back_is_legal, a_shared_id_is_safe_but_not_legal,
-    updates_of_two_circuits_may_cross,
 };
 pub use unsafe_worlds::{
     a_disconnection_for_nothing_is_unsafe, a_lost_or_repeated_post_is_unsafe,
