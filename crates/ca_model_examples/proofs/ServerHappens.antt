@@ -1,34 +1,42 @@
 -- The events leave these worlds.
-use Rattle.std.proofs.Common.{◌≡◌, ℕ, ◌<◌, ◌≤◌, inl, inr, List, [], ◌∷◌, length, refl, sym, ap, subst, ◌∙◌, arith, rules}
-use Rattle.std.specs.Prelude.{true, false, Some, None}
+use Rattle.std.proofs.Common.{◌≡◌, ◌≢◌, ℕ, ◌<◌, ◌≤◌, ◌+◌, ◌⊎◌, inl, inr, Bool, List, [], ◌∷◌, ◌++◌, length, refl, sym, ap, subst, ◌∙◌, arith, rules}
+use Rattle.std.specs.Prelude.{pos, true, false, Option, Some, None}
 use Rattle.std.proofs.lemmas.List.{append-nil}
+use Rattle.ca_arena.specs.declared.handle.Handle.{Handle}
 use Rattle.ca_text.specs.Place.{At}
 use Rattle.ca_text.specs.declared.refusal.Refusal.TheVariants as refusal
+use Rattle.ca_text.specs.Limits.{output_limit}
 use Rattle.ca_text.proofs.Places.{At-within, some_is}
-use Rattle.ca_dbr.specs.Elements.{signed_bytes_4}
+use Rattle.ca_dbr.specs.Elements.{longs, signed_bytes_4}
 use Rattle.ca_link.specs.Link.{LinkState, TakesFirst}
 use Rattle.ca_queue.specs.Queue.{Queue}
 use Rattle.ca_queue.specs.Waiting.{taken}
-use Rattle.ca_wire.specs.Fields.{Fields}
-use Rattle.ca_wire.specs.Header.{header_spelling, short_header, extended_header, number16, number32}
-use Rattle.ca_wire.specs.Message.{IsMessage, header_of, spelling}
+use Rattle.ca_wire.specs.Fields.{Fields, IsPayload}
+use Rattle.ca_wire.specs.Header.{HeaderFits, header_spelling, short_header, extended_header, number16, number32}
+use Rattle.ca_wire.specs.Message.{IsMessage, Spells, header_of, spelled, spelling}
+use Rattle.ca_wire.specs.Messages.{search_reply, search_request, version_request}
+use Rattle.ca_wire.specs.Stream.{Begins}
 use Rattle.ca_wire.proofs.Headers.{header-spells}
-use Rattle.ca_model.specs.Due.{Applies, Due}
-use Rattle.ca_model.specs.Server.{ServerEnd}
-use Rattle.ca_model.specs.ServerSteps.{HasEnd, Leaves, Pumps, Rests, Update, knows}
+use Rattle.ca_wire.proofs.Fronts.{no-header, none-below}
+use Rattle.ca_wire.proofs.Streams.{spelled-begins}
+use Rattle.ca_dgram.specs.Datagram.{IsDatagram}
+use Rattle.ca_model.specs.Ends as why
+use Rattle.ca_model.specs.Due.{Applies, Due, KnownChannel, KnownRecord, Knows, Nothing, Serves}
+use Rattle.ca_model.specs.Server.{Open, Server, ServerEnd}
+use Rattle.ca_model.specs.ServerSteps.{HasEnd, Leaves, Next, Pumps, Rests, Update, knows}
 use Rattle.ca_model.specs.ServerSteps as stepped
 use Rattle.ca_model.specs.Speech.{Stored}
 use Rattle.ca_model_world.specs.Events as event
 use Rattle.ca_model_world.specs.Runs.{CanBe, HasServerEnd, IsServer}
 use Rattle.ca_model_world.specs.ClientEvents.{waiting_up}
 use Rattle.ca_text.specs.Name.{IsName}
-use Rattle.ca_model_world.specs.World.{ClientSide, Joined, World}
+use Rattle.ca_model_world.specs.World.{ClientSide, Joined, ServerSide, World}
 use Rattle.ca_model_examples.specs.DueReplies.{v22}
-use Rattle.ca_model_examples.specs.ServerHappens.{AddHappens, AddsRefused, CannotBe, CutHappens, FinishHappens, FinishesRefused, PostHappens, PostsRefused, PumpHappens, RemoveHappens, RestartHappens, UpHappens, WriteHappens, cut, update_told, writing}
-use Rattle.ca_model_examples.specs.ServerWorld.{before, client, core_before, joined_0, number_2, end_0, entry_2, link, on_slow, on_temp, written}
+use Rattle.ca_model_examples.specs.ServerHappens.{AddHappens, AddsRefused, CannotBe, CutHappens, FinishHappens, FinishesRefused, LackHappens, DatagramHappens, PostHappens, PostsRefused, PumpHappens, RemoveHappens, RestartHappens, UpHappens, WriteHappens, cut, update_told, writing, written_22}
+use Rattle.ca_model_examples.specs.ServerWorld.{before, client, core_before, joined_0, number_2, end_0, entry_2, first, link, on_slow, on_temp, second, written}
 use Rattle.ca_model_examples.specs.Worlds.{long, temp, temp_name}
 use Rattle.ca_model_examples.proofs.DueReplies.{due-of, reads-22}
-use Rattle.ca_model_examples.proofs.Lists.{Each, each-at}
+use Rattle.ca_model_examples.proofs.Lists.{Each, each-at, none-at, one-at, two-at}
 
 -- ---- messages and their bytes
 
@@ -54,32 +62,47 @@ write-due : Due (knows (core_before (spelling writing) []) (end_0 (link [] []) (
 write-due =
     due-of (knows (core_before (spelling writing) []) (end_0 (link [] []) (entry_2 ∷ []))) writing [] (Applies temp_name v22 false) (inl (record { channel = record { sid = 65536; cid = 7; name = temp_name; retired = false }; open_there = (0, refl); under = refl; there = refl; known = record { state = temp; busy = false; waits = 0 }; named = refl }, inr (v22, record { elements = v22; early = refl; reads = reads-22 _ refl refl refl; late = refl; is = refl }, refl, refl))) (λ e. absurd cc)
 
+-- the message of that step
+abbrev writing-next : Next (core_before (spelling writing) []) first (end_0 (link (spelling writing) []) (entry_2 ∷ []))
+writing-next = record {
+  room = omega arith;
+  m = writing;
+  rest = [];
+  takes = first-of writing writing-is (link (spelling writing) []) refl;
+  replies = [];
+  action = Applies temp_name v22 false;
+  after = _;
+  handles = record { due = write-due; acted = _; acts = refl; recorded = _; records = refl; leaves = refl };
+}
+
 pub write-happens : WriteHappens
 write-happens = (
   record { j = _; x = _; y = _; joins = record { at = refl; client = refl; server = refl }; is_open = refl },
+  (stepped.Handled, record { e = _; has = refl; core = _; steps = (writing-next, (λ h. false), refl, ((λ h e. nowhere e), refl)); leaves = refl }),
+)
+
+pub lack-happens : LackHappens
+lack-happens = (
   (
-    stepped.Handled,
-    record {
-      e = end_0 (link (spelling writing) []) (entry_2 ∷ []);
-      has = refl;
-      core = _;
-      steps = (
-        record {
-          room = omega arith;
-          m = writing;
-          rest = [];
-          takes = first-of writing writing-is (link (spelling writing) []) refl;
-          replies = [];
-          action = Applies temp_name v22 false;
-          after = _;
-          handles = record { due = write-due; acted = _; acts = refl; recorded = _; records = refl; leaves = refl };
-        },
-        (λ h. false),
-        refl,
-        ((λ h e. nowhere e), refl),
-      );
-      leaves = refl;
-    },
+    record { j = _; x = _; y = _; joins = record { at = refl; client = refl; server = refl }; is_open = refl },
+    (
+      stepped.Closed why.OutOfMemory [],
+      record { e = _; has = refl; left_is = refl; core = _; lacks = record { next = writing-next; needs = tt; written = None; mid = _; left_is = refl; leaves = refl }; leaves = refl },
+    ),
+  ),
+  (
+    record { j = _; x = _; y = _; joins = record { at = refl; client = refl; server = refl }; is_open = refl },
+    (
+      stepped.Closed why.OutOfMemory [],
+      record {
+        e = _;
+        has = refl;
+        left_is = refl;
+        core = _;
+        lacks = record { next = writing-next; needs = tt; written = Some (λ h. false); mid = _; left_is = (refl, ((λ h e. nowhere e), refl)); leaves = refl };
+        leaves = refl;
+      },
+    ),
   ),
 )
 
@@ -207,6 +230,53 @@ pub up-happens : UpHappens
 up-happens = (
   (record { j = _; x = _; y = _; joins = record { at = refl; client = refl; server = refl }; is_open = refl }, omega arith),
   (_, (_, refl, refl), refl),
+)
+
+-- ---- a datagram comes
+
+version-is : IsMessage (version_request 0)
+version-is = record {
+  header = record { command = omega arith; data_type = omega arith; size = omega arith; count = omega arith; p1 = omega arith; p2 = omega arith };
+  payload = record { aligned = refl; within = omega arith };
+}
+
+search-is : IsMessage (search_request 3 temp_name)
+search-is = record {
+  header = record { command = omega arith; data_type = omega arith; size = omega arith; count = omega arith; p1 = omega arith; p2 = omega arith };
+  payload = record { aligned = refl; within = omega arith };
+}
+
+searched : List Fields
+searched = version_request 0 ∷ search_request 3 temp_name ∷ []
+
+searched-is : IsDatagram (spelled searched) searched
+unfolding searched
+searched-is = record {
+  rest = [];
+  stream = record {
+    reads = subst (λ (b : List ℕ). Begins b searched []) (append-nil (spelled searched)) (spelled-begins searched [] (version-is, (search-is, tt)));
+    partial = (no-header [] (none-below [] (omega arith))).0;
+  };
+}
+
+pub datagram-happens : DatagramHappens
+unfolding searched
+datagram-happens = (
+  record { y = _; at = refl },
+  (
+    _,
+    (
+      searched,
+      searched-is,
+      record {
+        groups = (search_reply 5064 (search_request 3 temp_name) ∷ []) ∷ [];
+        all = refl;
+        sizes = λ i g at. each-at (λ (n : ℕ) (x : List Fields). (x ≢ []) × (length x ≤ 42) × (n + 1 < 1 → length x ≡ 42)) ((search_reply 5064 (search_request 3 temp_name) ∷ []) ∷ []) ((((λ e. cc), omega arith, (λ l. absurd (omega (arith, l)))), tt)) i g at;
+        are = refl;
+      },
+    ),
+    refl,
+  ),
 )
 
 -- ---- what cannot be done

@@ -81,6 +81,27 @@ cut =
 abbrev pub CutHappens : Type 0
 CutHappens = Happens (before [] (1 ∷ 2 ∷ 3 ∷ [])) (event.CutServer 0) cut
 
+-- ---- a step that lacks memory
+
+-- The end closes: its put that waits is withdrawn, and the write of its message is not applied,
+abbrev pub closed_unapplied : World
+closed_unapplied = record cut { circuits = ended_0 [] ∷ joined_1 [] [] 1 [] ∷ [] }
+
+-- or it is, and reaches circuit 1.
+abbrev pub closed_applied : World
+closed_applied =
+    world_of (
+    side_of (temp_side ∷ slow_side (Some (at 1 4)) (at 1 5 ∷ []) ∷ []) (
+    core_of (temp_now (written 22) ∷ slow_now (written 30) (Some (put_by second 40)) (waits_by second 42 32 ∷ []) ∷ []) (
+    free ∷ given (Open (end_1 (link [] []) ((temp_key 3, written 22) ∷ []))) ∷ []
+    ) 1
+    )
+    ) (ended_0 [] ∷ joined_1 [] [] 2 ((temp_key 3, (2, Update 1)) ∷ []) ∷ []) (Applied 0 5 0 (written 22) false ∷ Withdrawn 0 4 ∷ [])
+
+abbrev pub LackHappens : Type 0
+LackHappens =
+    Happens (before (spelling writing) []) (event.ServerStep 0) closed_unapplied × Happens (before (spelling writing) []) (event.ServerStep 0) closed_applied
+
 -- ---- a server begins anew
 
 abbrev pub restarted : World
@@ -195,6 +216,13 @@ abbrev pub UpHappens : Type 0
 UpHappens =
     Happens (record (before (9 ∷ []) []) { circuits = left_up (1 ∷ 2 ∷ 3 ∷ 4 ∷ []) (joined_0 [] [] 1 1 (number_2 ∷ [])) ∷ joined_1 [] [] 1 [] ∷ [] }) (event.Up 0 2)
     (record (before (9 ∷ 1 ∷ 2 ∷ []) []) { circuits = left_up (3 ∷ 4 ∷ []) (joined_0 [] [] 1 1 (number_2 ∷ [])) ∷ joined_1 [] [] 1 [] ∷ [] })
+
+-- ---- a datagram comes
+
+-- It is answered, and the server is as it was.
+abbrev pub DatagramHappens : Type 0
+DatagramHappens =
+    Happens (before [] []) (event.ServerDatagram 0 (record { host = 9; port = 9 }) (spelled (version_request 0 ∷ search_request 3 temp_name ∷ []))) (before [] [])
 
 -- ---- what cannot be done
 

@@ -23,8 +23,8 @@ pub use server_calls::{
 };
 pub use server_events::{
     a_finish_applies_the_next_put, a_post_reaches_its_subscriptions,
-    a_write_reaches_its_subscriptions, bytes_of_an_ended_end_come, ends_leave_what_waited,
-    records_come_and_go, what_is_not_there_cannot_be,
+    a_write_reaches_its_subscriptions, bytes_come, ends_leave_what_waited, records_come_and_go,
+    what_is_not_there_cannot_be,
 };
 pub use server_rows::{
     conversions_are_as_worked, images_are_as_worked, queued_posts_are_as_worked,

@@ -1,4 +1,4 @@
-ghost use Rattle.ca_model_examples.specs.ServerHappens.{AddHappens, AddsRefused, CannotBe, CutHappens, FinishHappens, FinishesRefused, PostHappens, PostsRefused, PumpHappens, RemoveHappens, RestartHappens, UpHappens, WriteHappens};
+ghost use Rattle.ca_model_examples.specs.ServerHappens.{AddHappens, AddsRefused, CannotBe, CutHappens, DatagramHappens, FinishHappens, FinishesRefused, LackHappens, PostHappens, PostsRefused, PumpHappens, RemoveHappens, RestartHappens, UpHappens, WriteHappens};
 
 /// A write is applied and reaches two subscriptions on two circuits; their updates leave in the order of the entries.
 pub fn a_write_reaches_its_subscriptions()
@@ -10,6 +10,7 @@ pub fn a_write_reaches_its_subscriptions()
 pub fn ends_leave_what_waited()
     ensures cut { CutHappens }
     ensures restart { RestartHappens }
+    ensures lacks_memory { LackHappens }
 {}
 
 /// A post reaches the subscriptions that share a mask bit with it.
@@ -31,9 +32,10 @@ pub fn records_come_and_go()
     ensures refused { AddsRefused }
 {}
 
-/// Bytes of an end that has ended still come.
-pub fn bytes_of_an_ended_end_come()
-    ensures { UpHappens }
+/// Bytes of an end that has ended still come, and a datagram leaves a server as it was.
+pub fn bytes_come()
+    ensures up { UpHappens }
+    ensures datagram { DatagramHappens }
 {}
 
 /// What is not there, or not open, cannot be done.
