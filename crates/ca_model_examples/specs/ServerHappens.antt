@@ -1,19 +1,21 @@
 -- Vocabulary: what events leave of a small server's world, and which cannot be done.
-use Rattle.std.specs.Prelude.{ℕ, pos, true, false, List, [], ◌∷◌, ◌++◌, Some, None}
+use Rattle.std.specs.Prelude.{ℕ, ◌≡◌, pos, true, false, List, [], ◌∷◌, ◌++◌, Option, Some, None, length, replicate}
+use Rattle.ca_arena.specs.declared.handle.Handle.{Handle}
 use Rattle.ca_text.specs.declared.command.Command.TheVariants as command
 use Rattle.ca_text.specs.Status.{normal}
 use Rattle.ca_dbr.specs.Elements.{longs}
+use Rattle.ca_queue.specs.Queue.{Queue, no_queue}
 use Rattle.ca_wire.specs.Fields.{Fields}
-use Rattle.ca_wire.specs.Message.{spelling}
-use Rattle.ca_wire.specs.Messages.{disconnect, put_request, update}
+use Rattle.ca_wire.specs.Message.{spelled, spelling}
+use Rattle.ca_wire.specs.Messages.{bare, clear_request, disconnect, put_request, search_request, status_reply, update, version_reply, version_request}
 use Rattle.ca_model.specs.History.{Added, Applied, Cause, Entry, Finished, Posted, Removal, Removed, Told, Update, Withdrawn}
-use Rattle.ca_model.specs.Server.{Open}
+use Rattle.ca_model.specs.Server.{Open, new_server}
 use Rattle.ca_model_world.specs.Events.{Event}
 use Rattle.ca_model_world.specs.Events as event
 use Rattle.ca_model_world.specs.Runs.{CanBe, Happens}
-use Rattle.ca_model_world.specs.World.{Joined, World, server_begun}
+use Rattle.ca_model_world.specs.World.{Joined, Standing, World, server_begun}
 use Rattle.ca_model_examples.specs.ServerRows.{slow, slow_name, wave}
-use Rattle.ca_model_examples.specs.ServerWorld.{at, before, core_of, creations, end_0, end_1, end_of, entry_2, first, free, given, handled, joined, joined_0, joined_1, link, lists, number_2, on_temp, put_by, queues, second, setting, side_of, sides_before, slow_busy, slow_key, slow_now, slow_open, slow_side, standing, temp_key, temp_now, temp_open, temp_side, waits_by, world_of, written}
+use Rattle.ca_model_examples.specs.ServerWorld.{at, before, both_open, core_before, core_of, creations, end_0, end_1, end_of, entry_2, first, free, given, handled, joined, joined_0, joined_1, link, lists, number_2, on_slow, on_temp, put_by, queues, second, setting, side_of, sides_before, slow_busy, slow_key, slow_now, slow_open, slow_side, standing, temp_key, temp_now, temp_open, temp_side, waits_by, world_of, written}
 use Rattle.ca_model_examples.specs.Worlds.{long, step, temp, temp_name}
 
 -- ---- a plain write
