@@ -7,7 +7,7 @@ use Rattle.ca_records.specs.Record.{RecordState}
 use Rattle.ca_wire.specs.Fields.{Fields}
 use Rattle.ca_model.specs.Speech.{Stored}
 
--- A request: a read, a put with notification, or a plain write.
+-- A request: a read, a put with notification, or a plain write. Reads and puts are numbered together, and plain writes apart.
 pub data Kind : Type 0 where
   Read Put Write : Kind
 

@@ -73,16 +73,16 @@ pub record Server : Type 0 where
   pub beacons : beacon.Clock
   pub applied : ℕ
 
--- a server at its beginning
-abbrev pub new_server : (port : ℕ) → List Rule → List RecordState → Server
-new_server port rules states = record {
+-- a server that begins at this moment
+abbrev pub new_server : (port now : ℕ) → List Rule → List RecordState → Server
+new_server port now rules states = record {
   port = port;
   rules = rules;
   records = map new_record states;
   stamp = record { seconds = 0; nanos = 0 };
-  moment = 0;
+  moment = now;
   circuits = [];
-  beacons = beacon.fresh 0;
+  beacons = beacon.fresh now;
   applied = 0;
 }
 

@@ -108,7 +108,7 @@ LackHappens =
 
 abbrev pub restarted : World
 restarted =
-    record (world_of (server_begun 1 setting) (ended_0 (1 ∷ 2 ∷ 3 ∷ []) ∷ ended_1 [] ∷ []) []) {
+    record (world_of (server_begun 0 1 setting) (ended_0 (1 ∷ 2 ∷ 3 ∷ []) ∷ ended_1 [] ∷ []) []) {
       server_logs = (Added 0 temp ∷ Added 1 slow ∷ []) ∷ (Added 0 temp ∷ Added 1 slow ∷ []) ∷ [];
     }
 

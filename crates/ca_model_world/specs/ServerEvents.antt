@@ -400,7 +400,7 @@ ends_untold i core j = if j.server == i && j.lists.server_open then Some (output
 -- A server begins a new life, with its records as they were given.
 abbrev pub HappensServerRestart : World → (i : ℕ) → ServerSide → World → Type 0
 HappensServerRestart w i y new =
-    new ≡ with_server i (server_begun (length w.server_logs) y.setting) (record w {
+    new ≡ with_server i (server_begun w.moment (length w.server_logs) y.setting) (record w {
       circuits = map (ending (ends_untold i y.core)) w.circuits;
       server_logs = w.server_logs ++ log_begun y.setting ∷ [];
     })

@@ -163,11 +163,11 @@ client_begun servers moment life s =
 abbrev pub record_begun : ℕ → RecordState → RecordSide
 record_begun number r = record { name = r.name; number = number; busy = None; waiting = [] }
 
--- a server that begins this life
-abbrev pub server_begun : (life : ℕ) → ServerSetting → ServerSide
-server_begun life s = record {
+-- a server that begins this life now
+abbrev pub server_begun : (moment life : ℕ) → ServerSetting → ServerSide
+server_begun moment life s = record {
   setting = s;
-  core = new_server s.address.port s.rules s.records;
+  core = new_server s.address.port moment s.rules s.records;
   life = life;
   records = numbered 0 record_begun s.records;
   added = length s.records;
@@ -185,7 +185,7 @@ addresses servers = map (λ (y : ServerSetting). y.address) servers
 abbrev pub opening : Setting → World
 opening s = record {
   clients = numbered 0 (client_begun (addresses s.servers) 0) s.clients;
-  servers = numbered 0 server_begun s.servers;
+  servers = numbered 0 (server_begun 0) s.servers;
   circuits = [];
   client_logs = map (λ (c : ClientSetting). []) s.clients;
   server_logs = map log_begun s.servers;
