@@ -9,3 +9,5 @@ pub mod UsedDue
 pub mod Crossed
 pub mod Reopened
 pub mod ReopenedSafe
+pub mod ClientWorked
+pub mod ClientOnly

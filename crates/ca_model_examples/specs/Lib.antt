@@ -1,3 +1,4 @@
 pub mod Worlds
 pub mod Unsafe
 pub mod Safe
+pub mod ClientRows

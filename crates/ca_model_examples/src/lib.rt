@@ -1,9 +1,17 @@
-//! Small histories for each clause of the statement: some are safe, and each of the others breaks one.
+//! Small histories for each clause of the statement, some safe and each of the others breaking one; and what calls and events
+//! leave on worked rows.
 #![tactic(auto)]
 
+mod client_rows;
 mod safe_worlds;
 mod unsafe_worlds;
 
+pub use client_rows::{
+    a_cancelled_subscription_drains, a_channel_becomes_live, a_cleared_channel_ends,
+    a_lost_channel_is_searched_again, a_removed_record_is_left, a_silence_is_ended,
+    an_anomaly_boosts_searches, names_are_searched_over_circuits, reads_ask_for_a_pause,
+    requests_complete_in_order_of_issue, searches_are_packed, the_first_fault_decides,
+};
 pub use safe_worlds::{
     a_channel_in_use_is_safe, a_channel_that_comes_back_is_legal, a_shared_id_is_safe_but_not_legal, updates_of_two_circuits_may_cross,
 };

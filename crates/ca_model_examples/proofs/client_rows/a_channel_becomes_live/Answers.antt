@@ -1,6 +1,6 @@
-use Rattle.ca_client_examples.proofs.Only.{only-live}
-use Rattle.ca_client_examples.proofs.Worked.{greets, live-and-read}
-use Rattle.ca_client_examples.proofs.rows.a_channel_becomes_live.Goals as goal
+use Rattle.ca_model_examples.proofs.ClientOnly.{only-live}
+use Rattle.ca_model_examples.proofs.ClientWorked.{greets, live-and-read}
+use Rattle.ca_model_examples.proofs.client_rows.a_channel_becomes_live.Goals as goal
 
 pub returns-clause-greets : goal.returns-clause-greets
 returns-clause-greets c = greets

@@ -1,7 +1,7 @@
 -- A message that is understood has one effect.
 use Rattle.std.proofs.Common.{◌≡◌, ◌<◌, ◌⊎◌, ℕ, inl, inr, refl, arith}
 use Rattle.ca_model.specs.Hears.{AccessRights, ClearChannel, Confirmation, CreateChannel, CreateChannelFail, Effect, Error, Hears, Other, Reply, Search, ServerDisconnect, Update, becomes}
-use Rattle.ca_client_examples.specs.Rows.{OnlyLive, OnlySkipped, alive, cancelled, created_temp, first, late_update, permitted}
+use Rattle.ca_model_examples.specs.ClientRows.{OnlyLive, OnlySkipped, alive, cancelled, created_temp, first, late_update, permitted}
 
 -- two numbers that differ
 differs : {A : Type 0} (a b : ℕ) → ((a < b) ⊎ (b < a)) → a ≡ b → A

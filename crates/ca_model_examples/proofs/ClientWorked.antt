@@ -4,7 +4,7 @@ use Rattle.std.specs.FinMap.{get-empty}
 use Rattle.ca_dbr.specs.Elements.{signed_bytes_4}
 use Rattle.ca_wire.specs.Header.{extended_header, header_spelling, number16, number32, short_header}
 use Rattle.ca_wire.specs.Message.{spelling}
-use Rattle.ca_client_examples.specs.Rows.{BeaconBoosts, CutLoses, FullDatagrams, Greets, LiveAndRead, NameIsWanted, OneSearch, ReadFaults, SearchesOnName, WriteFaults}
+use Rattle.ca_model_examples.specs.ClientRows.{BeaconBoosts, CutLoses, FullDatagrams, Greets, LiveAndRead, NameIsWanted, OneSearch, ReadFaults, SearchesOnName, WriteFaults}
 
 pub greets : Greets
 unfolding spelling header_spelling short_header extended_header number16 number32

@@ -1,5 +1,5 @@
-use Rattle.ca_client_examples.proofs.Worked.{name-is-wanted, searches-on-name}
-use Rattle.ca_client_examples.proofs.rows.names_are_searched_over_circuits.Goals as goal
+use Rattle.ca_model_examples.proofs.ClientWorked.{name-is-wanted, searches-on-name}
+use Rattle.ca_model_examples.proofs.client_rows.names_are_searched_over_circuits.Goals as goal
 
 pub returns-clause-wanted : goal.returns-clause-wanted
 returns-clause-wanted c = name-is-wanted

@@ -1,5 +1,5 @@
-use Rattle.ca_client_examples.proofs.Worked.{full-datagrams, one-search}
-use Rattle.ca_client_examples.proofs.rows.searches_are_packed.Goals as goal
+use Rattle.ca_model_examples.proofs.ClientWorked.{full-datagrams, one-search}
+use Rattle.ca_model_examples.proofs.client_rows.searches_are_packed.Goals as goal
 
 pub returns-clause-one : goal.returns-clause-one
 returns-clause-one c = one-search

@@ -1,4 +1,4 @@
-ghost use Rattle.ca_client_examples.specs.Rows.{BeaconBoosts, ClearedAfterLive, ClearedBeforeLive, ConfirmationFrees, CutLoses, DisconnectLeaves, EchoThenClose, FoundAgain, FullDatagrams, Greets, IdsOfSubscriptions, InOrderOfIssue, LateReplyFrees, LeftIsSearchedAgain, LiveAndRead, NameIsWanted, NoPauseAtNine, OneSearch, OnlyLive, OnlySkipped, PauseAtTen, ReadFaults, SearchesOnName, UpdateToNobody, WriteFaults};
+ghost use Rattle.ca_model_examples.specs.ClientRows.{BeaconBoosts, ClearedAfterLive, ClearedBeforeLive, ConfirmationFrees, CutLoses, DisconnectLeaves, EchoThenClose, FoundAgain, FullDatagrams, Greets, IdsOfSubscriptions, InOrderOfIssue, LateReplyFrees, LeftIsSearchedAgain, LiveAndRead, NameIsWanted, NoPauseAtNine, OneSearch, OnlyLive, OnlySkipped, PauseAtTen, ReadFaults, SearchesOnName, UpdateToNobody, WriteFaults};
 
 /// A channel is found, its circuit is connected and sends 88 bytes, and it becomes live and is read.
 pub fn a_channel_becomes_live()

@@ -1,5 +1,5 @@
-use Rattle.ca_client_examples.proofs.Worked.{read-faults, write-faults}
-use Rattle.ca_client_examples.proofs.rows.the_first_fault_decides.Goals as goal
+use Rattle.ca_model_examples.proofs.ClientWorked.{read-faults, write-faults}
+use Rattle.ca_model_examples.proofs.client_rows.the_first_fault_decides.Goals as goal
 
 pub returns-clause-reads : goal.returns-clause-reads
 returns-clause-reads c = read-faults
