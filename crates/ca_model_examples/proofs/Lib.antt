@@ -11,3 +11,4 @@ pub mod Reopened
 pub mod ReopenedSafe
 pub mod ClientWorked
 pub mod ClientOnly
+pub mod ClientCallEvents

@@ -2,3 +2,4 @@ pub mod Worlds
 pub mod Unsafe
 pub mod Safe
 pub mod ClientRows
+pub mod ClientCallEvents

@@ -2,10 +2,14 @@
 //! leave on worked rows.
 #![tactic(auto)]
 
+mod client_events;
 mod client_rows;
 mod safe_worlds;
 mod unsafe_worlds;
 
+pub use client_events::{
+    a_call_clears, a_call_opens, a_call_puts, a_call_reads, a_call_subscribes, a_call_unsubscribes, a_call_writes, a_request_is_given_up, an_outcome_is_collected,
+};
 pub use client_rows::{
     a_cancelled_subscription_drains, a_channel_becomes_live, a_cleared_channel_ends,
     a_lost_channel_is_searched_again, a_removed_record_is_left, a_silence_is_ended,

@@ -1,0 +1,46 @@
+ghost use Rattle.ca_model_examples.specs.ClientCallEvents.{ClearLeaves, Collects, GivesUp, OpenLeaves, PutLeaves, ReadLeaves, SubscribeLeaves, UnsubscribeLeaves, WriteLeaves};
+
+/// A channel is opened under the next number; a priority or a name that is none is refused.
+pub fn a_call_opens()
+    ensures { OpenLeaves }
+{}
+
+/// A read has the next number of the requests, in its line and in the intent of its message.
+pub fn a_call_reads()
+    ensures { ReadLeaves }
+{}
+
+/// A plain write has the next number of the writes.
+pub fn a_call_writes()
+    ensures { WriteLeaves }
+{}
+
+/// A put with notification is numbered with the reads.
+pub fn a_call_puts()
+    ensures { PutLeaves }
+{}
+
+/// A subscription has the next number of the subscriptions.
+pub fn a_call_subscribes()
+    ensures { SubscribeLeaves }
+{}
+
+/// A subscription is cancelled by its number.
+pub fn a_call_unsubscribes()
+    ensures { UnsubscribeLeaves }
+{}
+
+/// A channel is cleared: the call is logged, and then the request that it disconnects.
+pub fn a_call_clears()
+    ensures { ClearLeaves }
+{}
+
+/// What became of a request is collected once, and not before it is there.
+pub fn an_outcome_is_collected()
+    ensures { Collects }
+{}
+
+/// A request that is given up hands out nothing later.
+pub fn a_request_is_given_up()
+    ensures { GivesUp }
+{}
