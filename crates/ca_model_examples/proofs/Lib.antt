@@ -12,3 +12,4 @@ pub mod ReopenedSafe
 pub mod ClientWorked
 pub mod ClientOnly
 pub mod ClientCallEvents
+pub mod ClientEndEvents

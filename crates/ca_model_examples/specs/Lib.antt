@@ -3,3 +3,4 @@ pub mod Unsafe
 pub mod Safe
 pub mod ClientRows
 pub mod ClientCallEvents
+pub mod ClientEndEvents

@@ -1,4 +1,5 @@
 ghost use Rattle.ca_model_examples.specs.ClientCallEvents.{ClearLeaves, Collects, GivesUp, OpenLeaves, PutLeaves, ReadLeaves, SubscribeLeaves, UnsubscribeLeaves, WriteLeaves};
+ghost use Rattle.ca_model_examples.specs.ClientEndEvents.{AboutPlace, AcceptMakes, CutEnds, DownMoves, NoticeLines, RestartForgets, UpMoves};
 
 /// A channel is opened under the next number; a priority or a name that is none is refused.
 pub fn a_call_opens()
@@ -43,4 +44,39 @@ pub fn an_outcome_is_collected()
 /// A request that is given up hands out nothing later.
 pub fn a_request_is_given_up()
     ensures { GivesUp }
+{}
+
+/// The first bytes that wait reach the server, also those of an end that has ended; no more than wait.
+pub fn bytes_go_up()
+    ensures { UpMoves }
+{}
+
+/// Bytes reach the client, which counts the reads that left some; none come to a closed end.
+pub fn bytes_come_down()
+    ensures { DownMoves }
+{}
+
+/// A cut disconnects the read, and then loses the channel; what waited is left.
+pub fn a_cut_is_told()
+    ensures { CutEnds }
+{}
+
+/// A client begins anew in a life of its own, and tells nothing of the old one.
+pub fn a_restart_forgets()
+    ensures { RestartForgets }
+{}
+
+/// The circuit that is wanted is made; a full server refuses it.
+pub fn a_circuit_is_accepted()
+    ensures { AcceptMakes }
+{}
+
+/// Each notice is a line about what its handle names.
+pub fn notices_are_lines()
+    ensures { NoticeLines }
+{}
+
+/// A message is about the one at its place.
+pub fn an_answer_is_about_its_place()
+    ensures { AboutPlace }
 {}

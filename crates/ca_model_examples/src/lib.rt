@@ -8,7 +8,7 @@ mod safe_worlds;
 mod unsafe_worlds;
 
 pub use client_events::{
-    a_call_clears, a_call_opens, a_call_puts, a_call_reads, a_call_subscribes, a_call_unsubscribes, a_call_writes, a_request_is_given_up, an_outcome_is_collected,
+    a_call_clears, a_call_opens, a_call_puts, a_call_reads, a_call_subscribes, a_call_unsubscribes, a_call_writes, a_request_is_given_up, an_outcome_is_collected, bytes_go_up, bytes_come_down, a_cut_is_told, a_restart_forgets, a_circuit_is_accepted, notices_are_lines, an_answer_is_about_its_place,
 };
 pub use client_rows::{
     a_cancelled_subscription_drains, a_channel_becomes_live, a_cleared_channel_ends,
