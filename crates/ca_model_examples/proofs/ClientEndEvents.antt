@@ -5,7 +5,8 @@ use Rattle.ca_arena.specs.declared.handle.Handle.{Handle}
 use Rattle.ca_text.proofs.Places.{some_is}
 use Rattle.ca_text.specs.Place.{At}
 use Rattle.ca_wire.specs.Header.{extended_header, header_spelling, number16, number32, short_header}
-use Rattle.ca_wire.specs.Message.{spelling}
+use Rattle.ca_wire.proofs.Messages.{spelling-spells}
+use Rattle.ca_wire.specs.Message.{IsMessage, spelling}
 use Rattle.ca_dbr.specs.declared.value.Outcome.TheVariants as outcome
 use Rattle.ca_model.specs.Answers as answer
 use Rattle.ca_model.specs.Hears as hears
@@ -102,3 +103,38 @@ notice-lines = refl
 
 pub about-place : AboutPlace
 about-place = (refl, refl)
+
+good-reply : IsMessage put_reply
+good-reply = record {
+  header = record { command = omega arith; data_type = omega arith; size = omega arith; count = omega arith; p1 = omega arith; p2 = omega arith };
+  payload = record { aligned = refl; within = omega arith };
+}
+
+pub step-hears : StepHears
+unfolding spelling header_spelling short_header extended_header number16 number32
+step-hears = (
+  (
+    record { j = _; x = _; y = _; joins = record { at = refl; client = refl; server = refl }; is_open = refl },
+    (
+      answer.Notices (answer.Completed first outcome.Done ∷ []),
+      [],
+      _,
+      record { m = put_reply; rest = []; first = (spelling put_reply, spelling-spells put_reply good-reply, refl); hears = hears.Reply (inr refl) (outcome.Done, (refl, refl), refl) },
+      refl,
+    ),
+  ),
+  (λ c. is-closed _ 1 (joined 0 first false []) refl refl c),
+  (λ c. is-closed _ 1 (joined 0 first false []) refl refl c),
+  (λ c. is-none _ 4 refl c),
+)
+
+pub tick-ends : TickEnds
+unfolding spelling header_spelling short_header extended_header number16 number32
+tick-ends = (
+  (
+    omega arith,
+    (_, (_, (_, refl, _, _, _, (refl, refl, refl), refl), (_, (_, refl, _, _, _, (refl, refl, refl), refl), refl)), refl),
+  ),
+  (0, _, omega arith, refl, refl, (inr (inl (λ e. cc)), (refl, refl))),
+  (λ c. omega (arith, c)),
+)

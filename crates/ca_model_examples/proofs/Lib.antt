@@ -13,3 +13,4 @@ pub mod ClientWorked
 pub mod ClientOnly
 pub mod ClientCallEvents
 pub mod ClientEndEvents
+pub mod ClientHears

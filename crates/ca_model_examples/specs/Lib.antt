@@ -4,3 +4,4 @@ pub mod Safe
 pub mod ClientRows
 pub mod ClientCallEvents
 pub mod ClientEndEvents
+pub mod ClientHears

@@ -1,5 +1,5 @@
 ghost use Rattle.ca_model_examples.specs.ClientCallEvents.{ClearLeaves, Collects, GivesUp, OpenLeaves, PutLeaves, ReadLeaves, SubscribeLeaves, UnsubscribeLeaves, WriteLeaves};
-ghost use Rattle.ca_model_examples.specs.ClientEndEvents.{AboutPlace, AcceptMakes, CutEnds, DownMoves, NoticeLines, RestartForgets, UpMoves};
+ghost use Rattle.ca_model_examples.specs.ClientEndEvents.{AboutPlace, AcceptMakes, CutEnds, DownMoves, NoticeLines, RestartForgets, StepHears, TickEnds, UpMoves};
 
 /// A channel is opened under the next number; a priority or a name that is none is refused.
 pub fn a_call_opens()
@@ -79,4 +79,14 @@ pub fn notices_are_lines()
 /// A message is about the one at its place.
 pub fn an_answer_is_about_its_place()
     ensures { AboutPlace }
+{}
+
+/// A reply is read in a step of its own, and its notice told; a closed end takes no step.
+pub fn a_step_hears()
+    ensures { StepHears }
+{}
+
+/// A moment comes to each client in turn, and ends a silence that was too long.
+pub fn a_tick_ends_a_silence()
+    ensures { TickEnds }
 {}

@@ -3,12 +3,16 @@
 #![tactic(auto)]
 
 mod client_events;
+mod client_hears;
 mod client_rows;
 mod safe_worlds;
 mod unsafe_worlds;
 
 pub use client_events::{
-    a_call_clears, a_call_opens, a_call_puts, a_call_reads, a_call_subscribes, a_call_unsubscribes, a_call_writes, a_request_is_given_up, an_outcome_is_collected, bytes_go_up, bytes_come_down, a_cut_is_told, a_restart_forgets, a_circuit_is_accepted, notices_are_lines, an_answer_is_about_its_place,
+    a_call_clears, a_call_opens, a_call_puts, a_call_reads, a_call_subscribes, a_call_unsubscribes, a_call_writes, a_request_is_given_up, an_outcome_is_collected, bytes_go_up, bytes_come_down, a_cut_is_told, a_restart_forgets, a_circuit_is_accepted, notices_are_lines, an_answer_is_about_its_place, a_step_hears, a_tick_ends_a_silence,
+};
+pub use client_hears::{
+    a_creation_fails, messages_out_of_turn_are_skipped, a_channel_is_found, no_circuit_is_free, a_waiting_channel_is_cleared, a_reply_fits_its_request, a_confirmation_fits_its_circuit, other_commands_are_skipped, errors_are_told, subscriptions_go_out_again, a_subscription_is_ended, the_last_faults, a_pause_is_asked_for,
 };
 pub use client_rows::{
     a_cancelled_subscription_drains, a_channel_becomes_live, a_cleared_channel_ends,
