@@ -92,9 +92,9 @@ accept-makes = (
     },
   ),
   (λ t full. (
-      record { x = _; at = refl; v = record { place = 0; v = _; at = refl; i = 0; y = _; there = (refl, refl); first = λ l u k z before at there. omega (arith, before) } },
-      record { answer = _; server = _; accepts = (full, refl); leaves = inl (refl, refl) },
-    )),
+    record { x = _; at = refl; v = record { place = 0; v = _; at = refl; i = 0; y = _; there = (refl, refl); first = λ l u k z before at there. omega (arith, before) } },
+    record { answer = _; server = _; accepts = (full, refl); leaves = inl (refl, refl) },
+  )),
   (λ c. let h = c.v.there.0 in cc),
 )
 

@@ -28,37 +28,77 @@ sv = server_conduct reopened
 clear-at : (l : ℕ) (r : Fields) → At cl.sent l r → Is command.ClearChannel r → l ≡ 2
 clear-at l r at is =
     each-at (λ (i : ℕ) (m : Fields). Is command.ClearChannel m → i ≡ 2) cl.sent (
-      (λ e. absurd (omega (arith, e))), ((λ e. absurd (omega (arith, e))), ((λ e. refl), ((λ e. absurd (omega (arith, e))), ((λ e. absurd (omega (arith, e))), tt))))) l r at is
+      (λ e. absurd (omega (arith, e))),
+      ((λ e. absurd (omega (arith, e))), ((λ e. refl), ((λ e. absurd (omega (arith, e))), ((λ e. absurd (omega (arith, e))), tt)))),
+    ) l r at is
 
 -- the one SERVER_DISCONN
 disconnect-at : (l : ℕ) (r : Fields) → At cl.came l r → Is command.ServerDisconnect r → l ≡ 2
 disconnect-at l r at is =
     each-at (λ (i : ℕ) (m : Fields). Is command.ServerDisconnect m → i ≡ 2) cl.came (
-      (λ e. absurd (omega (arith, e))), ((λ e. absurd (omega (arith, e))), ((λ e. refl), ((λ e. absurd (omega (arith, e))), ((λ e. absurd (omega (arith, e))), ((λ e. absurd (omega (arith, e))), tt)))))) l r at is
+      (λ e. absurd (omega (arith, e))),
+      ((λ e. absurd (omega (arith, e))), ((λ e. refl), ((λ e. absurd (omega (arith, e))), ((λ e. absurd (omega (arith, e))), ((λ e. absurd (omega (arith, e))), tt))))),
+    ) l r at is
 
 first-channel : (k : ℕ) → 1 ≤ k → k ≤ 2 → HasChannel cl k 0 0 1 5
-first-channel k low high =
-    (creating.message, created_told.message, refl, (refl, refl), (1, refl, refl, omega arith, low), (refl, refl), refl,
-      (λ l r after early at clears. let e = clear-at l r at clears.0 in absurd (omega (arith, e, early, high))))
+first-channel k low high = (
+  creating.message,
+  created_told.message,
+  refl,
+  (refl, refl),
+  (1, refl, refl, omega arith, low),
+  (refl, refl),
+  refl,
+  (λ l r after early at clears. let e = clear-at l r at clears.0 in absurd (omega (arith, e, early, high))),
+)
 
 second-channel : HasChannel cl 4 3 4 1 5
-second-channel =
-    (creating.message, created_told.message, refl, (refl, refl), (4, refl, refl, omega arith, omega arith), (refl, refl), refl,
-      (λ l r after early at clears. let e = clear-at l r at clears.0 in absurd (omega (arith, e, after))))
+second-channel = (
+  creating.message,
+  created_told.message,
+  refl,
+  (refl, refl),
+  (4, refl, refl, omega arith, omega arith),
+  (refl, refl),
+  refl,
+  (λ l r after early at clears. let e = clear-at l r at clears.0 in absurd (omega (arith, e, after))),
+)
 
 -- the kinds of ids that are given
 ids-at : (l : ℕ) (r : Fields) (a : Id) → At cl.sent l r → Gives r a → ((a ≡ Cid 1) × ((l ≡ 0) ⊎ (l ≡ 3))) ⊎ ((a ≡ SubId 9) × ((l ≡ 1) ⊎ (l ≡ 4)))
 ids-at l r (Cid n) at gives =
     each-at (λ (i : ℕ) (m : Fields). Gives m (Cid n) → ((Cid n ≡ Cid 1) × ((i ≡ 0) ⊎ (i ≡ 3))) ⊎ ((Cid n ≡ SubId 9) × ((i ≡ 1) ⊎ (i ≡ 4)))) cl.sent (
-      (λ g. inl (ap Cid (sym g.1), inl refl)), ((λ g. (let e = g.0 in absurd (omega (arith, e)))), ((λ g. (let e = g.0 in absurd (omega (arith, e)))), (
-      (λ g. inl (ap Cid (sym g.1), inr refl)), ((λ g. (let e = g.0 in absurd (omega (arith, e)))), tt))))) l r at gives
+      (λ g. inl (ap Cid (sym g.1), inl refl)),
+      (
+        (λ g. (let e = g.0 in absurd (omega (arith, e)))),
+        (
+          (λ g. (let e = g.0 in absurd (omega (arith, e)))),
+          (
+            (λ g. inl (ap Cid (sym g.1), inr refl)),
+            ((λ g. (let e = g.0 in absurd (omega (arith, e)))), tt),
+          ),
+        ),
+      ),
+    ) l r at gives
 ids-at l r (SubId n) at gives =
     each-at (λ (i : ℕ) (m : Fields). Gives m (SubId n) → ((SubId n ≡ Cid 1) × ((i ≡ 0) ⊎ (i ≡ 3))) ⊎ ((SubId n ≡ SubId 9) × ((i ≡ 1) ⊎ (i ≡ 4)))) cl.sent (
-      (λ g. (let e = g.0 in absurd (omega (arith, e)))), ((λ g. inr (ap SubId (sym g.1), inl refl)), ((λ g. (let e = g.0 in absurd (omega (arith, e)))), (
-      (λ g. (let e = g.0 in absurd (omega (arith, e)))), ((λ g. inr (ap SubId (sym g.1), inr refl)), tt))))) l r at gives
+      (λ g. (let e = g.0 in absurd (omega (arith, e)))),
+      (
+        (λ g. inr (ap SubId (sym g.1), inl refl)),
+        (
+          (λ g. (let e = g.0 in absurd (omega (arith, e)))),
+          (
+            (λ g. (let e = g.0 in absurd (omega (arith, e)))),
+            ((λ g. inr (ap SubId (sym g.1), inr refl)), tt),
+          ),
+        ),
+      ),
+    ) l r at gives
 ids-at l r (Ioid n) at gives =
     absurd (each-at (λ (i : ℕ) (m : Fields). (Is command.ReadNotify m ⊎ Is command.WriteNotify m) → ⊥) cl.sent (
-      (λ g. elim g [ | inl e ↦ omega (arith, e) | inr e ↦ omega (arith, e) ]), ((λ g. elim g [ | inl e ↦ omega (arith, e) | inr e ↦ omega (arith, e) ]), ((λ g. elim g [ | inl e ↦ omega (arith, e) | inr e ↦ omega (arith, e) ]), ((λ g. elim g [ | inl e ↦ omega (arith, e) | inr e ↦ omega (arith, e) ]), ((λ g. elim g [ | inl e ↦ omega (arith, e) | inr e ↦ omega (arith, e) ]), tt))))) l r at gives.0)
+      (λ g. elim g [ inl e ↦ omega (arith, e) | inr e ↦ omega (arith, e) ]),
+      ((λ g. elim g [ inl e ↦ omega (arith, e) | inr e ↦ omega (arith, e) ]), ((λ g. elim g [ inl e ↦ omega (arith, e) | inr e ↦ omega (arith, e) ]), ((λ g. elim g [ inl e ↦ omega (arith, e) | inr e ↦ omega (arith, e) ]), ((λ g. elim g [ inl e ↦ omega (arith, e) | inr e ↦ omega (arith, e) ]), tt)))),
+    ) l r at gives.0)
 
 cid-free : IsFree cl 0 3
 cid-free = (3, 3, creating.message, clearing.message, refl, refl, refl, omega arith, omega arith, inl (refl, inr (refl, refl)))
@@ -130,12 +170,21 @@ reopened-client : LegalClient cl
 reopened-client = record {
   on_channel = λ k m at. each-at OnIts cl.sent (
     (λ on. not-on creating.message refl on),
-    ((λ on. (0, 0, 1, first-channel 1 (omega arith) (omega arith), inr ((λ e. omega (arith, e)), (λ l r after reads is. (let e = disconnect-at l r reads.1 is.0 in let b : reads.0 ≡ 2 = some_is reads.0 2 (sym (subst (λ (z : ℕ). At cl.read z reads.0) e reads.2)) in let c = reads.4 in omega (arith, b, c)))))),
-    ((λ on. (0, 0, 1, first-channel 2 (omega arith) (omega arith), inl (refl, refl))),
-    ((λ on. not-on creating.message refl on),
-    ((λ on. (3, 4, 1, second-channel, inr ((λ e. omega (arith, e)), (λ l r after reads is. (let e = disconnect-at l r reads.1 is.0 in omega (arith, e, after)))))), tt))))) k m at;
+    (
+      (λ on. (0, 0, 1, first-channel 1 (omega arith) (omega arith), inr ((λ e. omega (arith, e)), (λ l r after reads is. (let e = disconnect-at l r reads.1 is.0 in let b : reads.0 ≡ 2 = some_is reads.0 2 (sym (subst (λ (z : ℕ). At cl.read z reads.0) e reads.2)) in let c = reads.4 in omega (arith, b, c)))))),
+      (
+        (λ on. (0, 0, 1, first-channel 2 (omega arith) (omega arith), inl (refl, refl))),
+        (
+          (λ on. not-on creating.message refl on),
+          ((λ on. (3, 4, 1, second-channel, inr ((λ e. omega (arith, e)), (λ l r after reads is. (let e = disconnect-at l r reads.1 is.0 in omega (arith, e, after)))))), tt),
+        ),
+      ),
+    ),
+  ) k m at;
   cancels = λ k m at is. absurd (each-at (λ (i : ℕ) (z : Fields). Is command.EventCancel z → ⊥) cl.sent (
-    (λ e. omega (arith, e)), ((λ e. omega (arith, e)), ((λ e. omega (arith, e)), ((λ e. omega (arith, e)), ((λ e. omega (arith, e)), tt))))) k m at is);
+    (λ e. omega (arith, e)),
+    ((λ e. omega (arith, e)), ((λ e. omega (arith, e)), ((λ e. omega (arith, e)), ((λ e. omega (arith, e)), tt)))),
+  ) k m at is);
   ids = ids-free;
 }
 
@@ -152,13 +201,25 @@ clear-read i k j r reads is =
 creation-at : (i a : ℕ) (m : Fields) → At sv.sent i m → Creates m a → ((i ≡ 0) ⊎ (i ≡ 4)) × (a ≡ 5)
 creation-at i a m at is =
     each-at (λ (j : ℕ) (z : Fields). Creates z a → ((j ≡ 0) ⊎ (j ≡ 4)) × (a ≡ 5)) sv.sent (
-      (λ e. (inl refl, sym e.1)), ((λ e. (let f = e.0 in absurd (omega (arith, f)))), ((λ e. (let f = e.0 in absurd (omega (arith, f)))), (
-      (λ e. (let f = e.0 in absurd (omega (arith, f)))), ((λ e. (inr refl, sym e.1)), ((λ e. (let f = e.0 in absurd (omega (arith, f)))), tt)))))) i m at is
+      (λ e. (inl refl, sym e.1)),
+      (
+        (λ e. (let f = e.0 in absurd (omega (arith, f)))),
+        (
+          (λ e. (let f = e.0 in absurd (omega (arith, f)))),
+          (
+            (λ e. (let f = e.0 in absurd (omega (arith, f)))),
+            ((λ e. (inr refl, sym e.1)), ((λ e. (let f = e.0 in absurd (omega (arith, f)))), tt)),
+          ),
+        ),
+      ),
+    ) i m at is
 
 no-cancel : (j : ℕ) (r : Fields) → At sv.came j r → Is command.EventCancel r → ⊥
 no-cancel j r at is =
     each-at (λ (i : ℕ) (z : Fields). Is command.EventCancel z → ⊥) sv.came (
-      (λ e. omega (arith, e)), ((λ e. omega (arith, e)), ((λ e. omega (arith, e)), ((λ e. omega (arith, e)), ((λ e. omega (arith, e)), tt))))) j r at is
+      (λ e. omega (arith, e)),
+      ((λ e. omega (arith, e)), ((λ e. omega (arith, e)), ((λ e. omega (arith, e)), ((λ e. omega (arith, e)), tt)))),
+    ) j r at is
 
 sids-free : (i k a b : ℕ) (m r : Fields) → i < k → At sv.sent i m → At sv.sent k r → Creates m a → Creates r b → (j : ℕ) × (c : Fields) × ReadsBetween sv i k j c × Clears c a
 sids-free i k a b m r lt p q x y =
@@ -188,18 +249,36 @@ reopened-server = record {
   sids = λ i k a b m r lt p q x y same. sids-free i k a b m r lt p q x y;
   updates = λ k m at. each-at IsMeant sv.sent (
     (λ is. absurd (omega (arith, is))),
-    ((λ is full. (0, 1, 1, (adding 0 9).message, (created_told.message, refl, (refl, refl), refl, omega arith, (λ j r reads clears. (let e = (clear-read 0 1 j r reads clears.0).1 in omega (arith, e)))), (λ l z low high. absurd (omega (arith, low, high))), (1, refl, refl, omega arith, omega arith), (refl, refl), (λ l r after reads is. absurd (no-cancel l r reads.1 is)))),
-    ((λ is. absurd (omega (arith, is))), ((λ is. absurd (omega (arith, is))), ((λ is. absurd (omega (arith, is))),
-    ((λ is full. (4, 4, 1, (adding 0 9).message, (created_told.message, refl, (refl, refl), refl, omega arith, (λ j r reads clears. (let e = (clear-read 4 5 j r reads clears.0).0 in omega (arith, e)))), (λ l z low high. absurd (omega (arith, low, high))), (5, refl, refl, omega arith, omega arith), (refl, refl), (λ l r after reads is. absurd (no-cancel l r reads.1 is)))), tt)))))) k m at;
+    (
+      (λ is full. (0, 1, 1, (adding 0 9).message, (created_told.message, refl, (refl, refl), refl, omega arith, (λ j r reads clears. (let e = (clear-read 0 1 j r reads clears.0).1 in omega (arith, e)))), (λ l z low high. absurd (omega (arith, low, high))), (1, refl, refl, omega arith, omega arith), (refl, refl), (λ l r after reads is. absurd (no-cancel l r reads.1 is)))),
+      (
+        (λ is. absurd (omega (arith, is))),
+        (
+          (λ is. absurd (omega (arith, is))),
+          (
+            (λ is. absurd (omega (arith, is))),
+            ((λ is full. (4, 4, 1, (adding 0 9).message, (created_told.message, refl, (refl, refl), refl, omega arith, (λ j r reads clears. (let e = (clear-read 4 5 j r reads clears.0).0 in omega (arith, e)))), (λ l z low high. absurd (omega (arith, low, high))), (5, refl, refl, omega arith, omega arith), (refl, refl), (λ l r after reads is. absurd (no-cancel l r reads.1 is)))), tt),
+          ),
+        ),
+      ),
+    ),
+  ) k m at;
   confirmations = λ k m at is none. absurd (each-at (λ (i : ℕ) (z : Fields). Is command.EventAdd z → z.payload ≡ [] → ⊥) sv.sent (
-    (λ e f. omega (arith, e)), ((λ e f. cc), ((λ e f. omega (arith, e)), ((λ e f. omega (arith, e)), ((λ e f. omega (arith, e)), ((λ e f. cc), tt)))))) k m at is none);
+    (λ e f. omega (arith, e)),
+    ((λ e f. cc), ((λ e f. omega (arith, e)), ((λ e f. omega (arith, e)), ((λ e f. omega (arith, e)), ((λ e f. cc), tt))))),
+  ) k m at is none);
   disconnects = λ k m at is.
-    (let only = each-at (λ (i : ℕ) (z : Fields). Is command.ServerDisconnect z → (i ≡ 2) × (z.p1 ≡ 1)) sv.sent (
-      (λ e. absurd (omega (arith, e))), ((λ e. absurd (omega (arith, e))), ((λ e. (refl, refl)), ((λ e. absurd (omega (arith, e))), ((λ e. absurd (omega (arith, e))), ((λ e. absurd (omega (arith, e))), tt)))))) k m at is in
-    subst (λ (z : ℕ). (i sid : ℕ) × IsOpenAt sv z i m.p1 sid × IsConnected sv i z m.p1) (sym only.0) (
-    subst (λ (z : ℕ). (i sid : ℕ) × IsOpenAt sv 2 i z sid × IsConnected sv i 2 z) (sym only.1) (0, 5,
-      (created_told.message, refl, (refl, refl), refl, omega arith, (λ j r reads clears. (let e = (clear-read 0 2 j r reads clears.0).1 in omega (arith, e)))),
-      (λ l z low high here gone. (let e = disconnect-at l z here gone.0 in omega (arith, e, high))))));
+      (let only = each-at (λ (i : ℕ) (z : Fields). Is command.ServerDisconnect z → (i ≡ 2) × (z.p1 ≡ 1)) sv.sent (
+        (λ e. absurd (omega (arith, e))),
+        ((λ e. absurd (omega (arith, e))), ((λ e. (refl, refl)), ((λ e. absurd (omega (arith, e))), ((λ e. absurd (omega (arith, e))), ((λ e. absurd (omega (arith, e))), tt))))),
+      ) k m at is in
+      subst (λ (z : ℕ). (i sid : ℕ) × IsOpenAt sv z i m.p1 sid × IsConnected sv i z m.p1) (sym only.0) (
+      subst (λ (z : ℕ). (i sid : ℕ) × IsOpenAt sv 2 i z sid × IsConnected sv i 2 z) (sym only.1) (
+        0,
+        5,
+        (created_told.message, refl, (refl, refl), refl, omega arith, (λ j r reads clears. (let e = (clear-read 0 2 j r reads clears.0).1 in omega (arith, e)))),
+        (λ l z low high here gone. (let e = disconnect-at l z here gone.0 in omega (arith, e, high))),
+      )));
 }
 
 -- ---- the world
@@ -220,7 +299,9 @@ intent-of l = OfCircuit
 call-at : (o : Outcome) (i : ℕ) (intent : Intent) → At (reopened_lines o) i (Called intent None) → (i ≡ 2) × (On 0 (Subscribe 0) ≡ intent)
 call-at o i intent at =
     each-at (λ (k : ℕ) (l : Line). l ≡ Called intent None → (k ≡ 2) × (On 0 (Subscribe 0) ≡ intent)) (reopened_lines o) (
-      (λ e. absurd cc), ((λ e. absurd cc), ((λ e. (refl, ap intent-of e)), ((λ e. absurd cc), ((λ e. absurd cc), ((λ e. absurd cc), tt)))))) i _ at refl
+      (λ e. absurd cc),
+      ((λ e. absurd cc), ((λ e. (refl, ap intent-of e)), ((λ e. absurd cc), ((λ e. absurd cc), ((λ e. absurd cc), tt))))),
+    ) i _ at refl
 
 is-held : (o : Outcome) (n channel number : ℕ) → IsHeld (take n (reopened_lines o)) (On channel (Subscribe number))
 is-held o n channel number =
@@ -230,20 +311,37 @@ is-held o n channel number =
 subscribed-at : (k channel number : ℕ) → Meant reopened k (On channel (Subscribe number)) → (k ≡ 1) ⊎ (k ≡ 4)
 subscribed-at k channel number m =
     each-at (λ (i : ℕ) (s : Sent). s.intent ≡ On channel (Subscribe number) → (i ≡ 1) ⊎ (i ≡ 4)) reopened.up (
-      (λ e. absurd cc), ((λ e. inl refl), ((λ e. absurd cc), ((λ e. absurd cc), ((λ e. inr refl), tt))))) k m.0 m.1 m.2
+      (λ e. absurd cc),
+      ((λ e. inl refl), ((λ e. absurd cc), ((λ e. absurd cc), ((λ e. inr refl), tt)))),
+    ) k m.0 m.1 m.2
 
 -- where creations were meant
 pub created-on : (k channel : ℕ) → Meant reopened k (On channel Create) → channel ≡ 0
 created-on k channel m =
     each-at (λ (i : ℕ) (s : Sent). s.intent ≡ On channel Create → channel ≡ 0) reopened.up (
-      (λ e. ap channel-of (sym e)), ((λ e. absurd cc), ((λ e. absurd cc), ((λ e. ap channel-of (sym e)), ((λ e. absurd cc), tt))))) k m.0 m.1 m.2
+      (λ e. ap channel-of (sym e)),
+      ((λ e. absurd cc), ((λ e. absurd cc), ((λ e. ap channel-of (sym e)), ((λ e. absurd cc), tt)))),
+    ) k m.0 m.1 m.2
 
 -- the replies to CREATE_CHAN
 pub reply-at : (j k sid : ℕ) (t : Told) → At reopened.down j t → t.place ≡ k → Creates t.message sid → ((j ≡ 0) × (k ≡ 0)) ⊎ ((j ≡ 4) × (k ≡ 3))
 reply-at j k sid t at place is =
     each-at (λ (i : ℕ) (u : Told). u.place ≡ k → Creates u.message sid → ((i ≡ 0) × (k ≡ 0)) ⊎ ((i ≡ 4) × (k ≡ 3))) reopened.down (
-      (λ p e. inl (refl, sym p)), ((λ p e. (let f = e.0 in absurd (omega (arith, f)))), ((λ p e. (let f = e.0 in absurd (omega (arith, f)))), ((λ p e. (let f = e.0 in absurd (omega (arith, f)))), (
-      (λ p e. inr (refl, sym p)), ((λ p e. (let f = e.0 in absurd (omega (arith, f)))), tt)))))) j t at place is
+      (λ p e. inl (refl, sym p)),
+      (
+        (λ p e. (let f = e.0 in absurd (omega (arith, f)))),
+        (
+          (λ p e. (let f = e.0 in absurd (omega (arith, f)))),
+          (
+            (λ p e. (let f = e.0 in absurd (omega (arith, f)))),
+            (
+              (λ p e. inr (refl, sym p)),
+              ((λ p e. (let f = e.0 in absurd (omega (arith, f)))), tt),
+            ),
+          ),
+        ),
+      ),
+    ) j t at place is
 
 abbrev removed-in : Entry → ℕ
 removed-in (Removed r) = r
@@ -253,7 +351,9 @@ removed-in e = 0
 of-channel : (k channel number : ℕ) → Meant reopened k (On channel (Subscribe number)) → 0 ≡ channel
 of-channel k channel number m =
     each-at (λ (i : ℕ) (s : Sent). s.intent ≡ On channel (Subscribe number) → 0 ≡ channel) reopened.up (
-      (λ e. ap channel-of e), ((λ e. ap channel-of e), ((λ e. ap channel-of e), ((λ e. ap channel-of e), ((λ e. ap channel-of e), tt))))) k m.0 m.1 m.2
+      (λ e. ap channel-of e),
+      ((λ e. ap channel-of e), ((λ e. ap channel-of e), ((λ e. ap channel-of e), ((λ e. ap channel-of e), tt)))),
+    ) k m.0 m.1 m.2
 
 -- the removal
 removal-at : (e r : ℕ) → At reopened_entries e (Removed r) → r ≡ 0
@@ -271,9 +371,9 @@ gone-told j k sid r e made gone =
     elim (reply-at j k sid made.0 made.3 made.4 made.6) [
       | inl h ↦ (2, disconnected, refl, sym h.1, refl)
       | inr h ↦
-        let is : r ≡ 0 = removal-at e r gone in
-        let there = gone-at-three k made.2 h.1 made.8 in
-        absurd (made.9.3 (subst (λ (z : ℕ). In (take made.2.logged reopened_entries) (Removed z)) (sym is) there))
+          let is : r ≡ 0 = removal-at e r gone in
+          let there = gone-at-three k made.2 h.1 made.8 in
+          absurd (made.9.3 (subst (λ (z : ℕ). In (take made.2.logged reopened_entries) (Removed z)) (sym is) there))
     ]
 
 sent-again : (o : Outcome) (channel k number : ℕ) (h : Step) → BecomesLive reopened channel k h → In (take h.logged (reopened_lines o)) (Called (On channel (Subscribe number)) None)
@@ -283,15 +383,15 @@ sent-again o channel k number h live called =
     let within = at-take-within h.logged (reopened_lines o) called.0 _ called.1 in
     elim (reply-at live.0 k live.1 live.2 live.4 live.5 live.7) [
       | inl e ↦
-        let is : h ≡ step 1 1 2 = some_is h (step 1 1 2) (sym (subst (λ (i : ℕ). At reopened.heard i h) e.0 live.8)) in
-        let few : h.logged ≡ 1 = ap (λ (g : Step). g.logged) is in
-        let two = call.0 in
-        absurd (omega (arith, few, two, within))
+          let is : h ≡ step 1 1 2 = some_is h (step 1 1 2) (sym (subst (λ (i : ℕ). At reopened.heard i h) e.0 live.8)) in
+          let few : h.logged ≡ 1 = ap (λ (g : Step). g.logged) is in
+          let two = call.0 in
+          absurd (omega (arith, few, two, within))
       | inr e ↦
-        let is : h ≡ step 4 5 6 = some_is h (step 4 5 6) (sym (subst (λ (i : ℕ). At reopened.heard i h) e.0 live.8)) in
-        let four : h.sent ≡ 4 = ap (λ (g : Step). g.sent) is in
-        let three = e.1 in
-        (4, omega (arith, four), (adding 0 9, refl, call.1), (λ p low high meant. omega (arith, three, low, high)))
+          let is : h ≡ step 4 5 6 = some_is h (step 4 5 6) (sym (subst (λ (i : ℕ). At reopened.heard i h) e.0 live.8)) in
+          let four : h.sent ≡ 4 = ap (λ (g : Step). g.sent) is in
+          let three = e.1 in
+          (4, omega (arith, four), (adding 0 9, refl, call.1), (λ p low high meant. omega (arith, three, low, high)))
     ]
 
 legal-circuit : (o : Outcome) → LegalCircuit 0 reopened (reopened_lines o) reopened_entries

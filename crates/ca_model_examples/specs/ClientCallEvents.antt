@@ -51,7 +51,7 @@ joined client h is_open up = record {
   at_client = h;
   at_server = first;
   lists =
-    record { client = 1; server = 0; up = up; down = []; handled = []; heard = []; queued = []; client_open = is_open; server_open = true };
+      record { client = 1; server = 0; up = up; down = []; handled = []; heard = []; queued = []; client_open = is_open; server_open = true };
   left_up = [];
   left_down = [];
   creations = [];

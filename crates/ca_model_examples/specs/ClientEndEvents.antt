@@ -156,7 +156,6 @@ AcceptMakes =
 
 -- ---- lines
 
-
 -- Each notice as its line: a refused write is that of which its ERROR is about.
 abbrev pub NoticeLines : Type 0
 NoticeLines =

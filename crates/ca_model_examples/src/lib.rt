@@ -9,10 +9,16 @@ mod safe_worlds;
 mod unsafe_worlds;
 
 pub use client_events::{
-    a_call_clears, a_call_opens, a_call_puts, a_call_reads, a_call_subscribes, a_call_unsubscribes, a_call_writes, a_request_is_given_up, an_outcome_is_collected, bytes_go_up, bytes_come_down, a_cut_is_told, a_restart_forgets, a_circuit_is_accepted, notices_are_lines, an_answer_is_about_its_place, a_step_hears, a_tick_ends_a_silence,
+    a_call_clears, a_call_opens, a_call_puts, a_call_reads, a_call_subscribes, a_call_unsubscribes,
+    a_call_writes, a_circuit_is_accepted, a_cut_is_told, a_request_is_given_up, a_restart_forgets,
+    a_step_hears, a_tick_ends_a_silence, an_answer_is_about_its_place, an_outcome_is_collected,
+    bytes_come_down, bytes_go_up, notices_are_lines,
 };
 pub use client_hears::{
-    a_creation_fails, messages_out_of_turn_are_skipped, a_channel_is_found, no_circuit_is_free, a_waiting_channel_is_cleared, a_reply_fits_its_request, a_confirmation_fits_its_circuit, other_commands_are_skipped, errors_are_told, subscriptions_go_out_again, a_subscription_is_ended, the_last_faults, a_pause_is_asked_for,
+    a_channel_is_found, a_confirmation_fits_its_circuit, a_creation_fails, a_pause_is_asked_for,
+    a_reply_fits_its_request, a_subscription_is_ended, a_waiting_channel_is_cleared,
+    errors_are_told, messages_out_of_turn_are_skipped, no_circuit_is_free,
+    other_commands_are_skipped, subscriptions_go_out_again, the_last_faults,
 };
 pub use client_rows::{
     a_cancelled_subscription_drains, a_channel_becomes_live, a_cleared_channel_ends,
@@ -21,7 +27,8 @@ pub use client_rows::{
     requests_complete_in_order_of_issue, searches_are_packed, the_first_fault_decides,
 };
 pub use safe_worlds::{
-    a_channel_in_use_is_safe, a_channel_that_comes_back_is_legal, a_shared_id_is_safe_but_not_legal, updates_of_two_circuits_may_cross,
+    a_channel_in_use_is_safe, a_channel_that_comes_back_is_legal,
+    a_shared_id_is_safe_but_not_legal, updates_of_two_circuits_may_cross,
 };
 pub use unsafe_worlds::{
     a_disconnection_for_nothing_is_unsafe, a_lost_or_repeated_post_is_unsafe,
