@@ -1,23 +1,21 @@
 -- A channel that comes back keeps the first clause.
-use Rattle.std.proofs.Common.{◌≡◌, ℕ, zero, suc, ◌<◌, ◌≤◌, ◌⊎◌, inl, inr, List, [], ◌∷◌, length, refl, sym, ap, subst, ◌∙◌, arith}
-use Rattle.std.specs.Prelude.{take, true, false, Option, Some, None}
+use Rattle.std.proofs.Common.{◌≡◌, ℕ, ◌<◌, ◌≤◌, ◌⊎◌, inl, inr, List, refl, sym, ap, subst, ◌∙◌, arith}
+use Rattle.std.specs.Prelude.{take, Option}
 use Rattle.ca_text.specs.Place.{At}
-use Rattle.ca_text.proofs.Places.{some_is}
 use Rattle.ca_text.specs.declared.status.Status.{Status}
-use Rattle.ca_text.specs.declared.command.Command.TheVariants as command
 use Rattle.ca_dbr.specs.declared.value.Outcome.{Outcome}
 use Rattle.ca_dbr.specs.declared.value.Outcome.TheVariants as outcome
 use Rattle.ca_wire.specs.Fields.{Fields}
 use Rattle.ca_records.specs.Record.{RecordState}
-use Rattle.ca_model.specs.Speech.{Clears, Creates, In, Is}
-use Rattle.ca_model.specs.History.{Ask, Circuit, Intent, On, OfCircuit, Create, Line, Entry, Opened, Sent, Told, Step, Added, Removed, Clear, Reply, Removal, Update, Cause}
+use Rattle.ca_model.specs.Speech.{Clears, Creates, In}
+use Rattle.ca_model.specs.History.{Ask, Circuit, Intent, On, OfCircuit, Create, Line, Entry, Opened, Sent, Told, Added, Removed, Clear, Reply}
 use Rattle.ca_model_safe.specs.Channels.{Has, IsNamed, IsOpen, IsUse, KeepNames, before}
 use Rattle.ca_model_safe.specs.Headline.{Acted, ActsOnRecord}
-use Rattle.ca_model_safe.specs.Means.{Means}
+use Rattle.ca_requests.specs.Meaning.{Means}
 use Rattle.ca_model.specs.Updates.{Shows}
-use Rattle.ca_model_examples.specs.Worlds.{adding, clearing, created_told, creating, disconnected, long, step, temp, temp_name}
-use Rattle.ca_model_examples.specs.Safe.{reopened, reopened_entries, reopened_lines, reopened_world}
-use Rattle.ca_model_examples.proofs.Lists.{Each, each-at, at-take, at-take-within, none-at, one-at}
+use Rattle.ca_model_examples.specs.Worlds.{adding, clearing, created_told, creating, long, step, temp, temp_name}
+use Rattle.ca_model_examples.specs.Safe.{reopened, reopened_entries, reopened_lines}
+use Rattle.ca_model_examples.proofs.Lists.{each-at, at-take, at-take-within}
 use Rattle.ca_model_examples.proofs.UsedActs.{is-fine}
 use Rattle.ca_model_examples.proofs.Reopened.{channel-of, created-on, reply-at}
 
@@ -108,7 +106,7 @@ no-clear n l k s bound after at is =
       | inr b ↦ omega (arith, e, after, b)
     ]
 
-first-there : (n : ℕ) → At (take 1 (take n reopened_entries)) 0 (Added 0 temp) → Has (take 1 (take n reopened_entries)) 0 temp_name
+pub first-there : (n : ℕ) → At (take 1 (take n reopened_entries)) 0 (Added 0 temp) → Has (take 1 (take n reopened_entries)) 0 temp_name
 first-there n at =
     (temp, (0, at), refl, (λ h. (let e = (removed-at h.0 0 (at-take n reopened_entries h.0 _ (at-take 1 (take n reopened_entries) h.0 _ h.1))).0 in let l = at-take-within 1 (take n reopened_entries) h.0 _ h.1 in omega (arith, e, l))))
 
@@ -207,7 +205,7 @@ replied-at j k t at place cause is =
       ),
     ) j t at place cause
 
-opened-at : (o : Outcome) (i channel : ℕ) (a : List ℕ) → At (reopened_lines o) i (Opened channel a) → i ≡ 0
+pub opened-at : (o : Outcome) (i channel : ℕ) (a : List ℕ) → At (reopened_lines o) i (Opened channel a) → i ≡ 0
 opened-at o i channel a at =
     each-at (λ (k : ℕ) (l : Line). l ≡ Opened channel a → k ≡ 0) (reopened_lines o) (
       (λ e. refl),
