@@ -9,14 +9,18 @@ use Rattle.ca_wire.proofs.Messages.{spelling-spells}
 use Rattle.ca_wire.specs.Message.{IsMessage, spelling}
 use Rattle.ca_dbr.specs.declared.value.Outcome.TheVariants as outcome
 use Rattle.ca_model.specs.Answers as answer
+use Rattle.ca_model.specs.ClientEnds as receives
 use Rattle.ca_model.specs.Hears as hears
+use Rattle.ca_model.specs.Hears.{becomes}
+use Rattle.ca_wire.proofs.Fronts.{no-header, none-below}
+use Rattle.ca_wire.specs.Stream.{NoneBegins}
 use Rattle.ca_model_world.specs.ClientEvents.{waiting_up}
 use Rattle.ca_model_world.specs.Events as event
 use Rattle.ca_model_world.specs.Runs.{CanBe, HasClientEnd, HasServerEnd}
 use Rattle.ca_model_world.specs.World.{ClientSide, Joined, World}
-use Rattle.ca_model_examples.specs.ClientRows.{alive, first, greeted, reading}
+use Rattle.ca_model_examples.specs.ClientRows.{alive, first, found, greeted, reading}
 use Rattle.ca_model_examples.specs.ClientCallEvents.{anna_side, joined, names, put, server}
-use Rattle.ca_model_examples.specs.ClientEndEvents.{AboutPlace, AcceptMakes, CutEnds, DownMoves, NoticeLines, RestartForgets, StepHears, TickEnds, UpMoves, put_reply, with_output}
+use Rattle.ca_model_examples.specs.ClientEndEvents.{AboutPlace, AcceptMakes, CutEnds, DatagramFinds, DownMoves, NoticeLines, RestartForgets, StepHears, TickEnds, UpMoves, put_reply, reply_of_search, with_output}
 
 -- no more bytes move than wait
 too-many : (w : World) (k n : ℕ) (j : Joined) (x : ClientSide) → At w.circuits k j → At w.clients j.client x → length (waiting_up x j) < n → CanBe w (event.Up k n) → ⊥
@@ -137,4 +141,38 @@ tick-ends = (
   ),
   (0, _, omega arith, refl, refl, (inr (inl (λ e. cc)), (refl, refl))),
   (λ c. omega (arith, c)),
+)
+
+good-search : IsMessage reply_of_search
+good-search = record {
+  header = record { command = omega arith; data_type = omega arith; size = omega arith; count = omega arith; p1 = omega arith; p2 = omega arith };
+  payload = record { aligned = refl; within = omega arith };
+}
+
+nothing-begins : NoneBegins []
+nothing-begins = (no-header [] (none-below [] (omega arith))).0
+
+pub datagram-finds : DatagramFinds
+unfolding spelling header_spelling short_header extended_header number16 number32
+datagram-finds = (
+  (
+    record { x = _; at = refl },
+    (
+      [],
+      found,
+      (
+        reply_of_search ∷ [],
+        record { rest = []; stream = record { reads = (spelling reply_of_search, [], spelling-spells reply_of_search good-search, refl, refl); partial = nothing-begins } },
+        (
+          becomes found,
+          becomes found,
+          receives.Search refl (inl (first, record { index = omega arith; slot = omega arith; free = refl; next = refl; last = omega arith }, refl)),
+          refl,
+          refl,
+        ),
+      ),
+      refl,
+    ),
+  ),
+  (λ c. let h = c.at in cc),
 )

@@ -1,21 +1,23 @@
 -- A channel that comes back keeps the first clause.
-use Rattle.std.proofs.Common.{◌≡◌, ℕ, ◌<◌, ◌≤◌, ◌⊎◌, inl, inr, List, refl, sym, ap, subst, ◌∙◌, arith}
-use Rattle.std.specs.Prelude.{take, Option}
+use Rattle.std.proofs.Common.{◌≡◌, ℕ, zero, suc, ◌<◌, ◌≤◌, ◌⊎◌, inl, inr, List, [], ◌∷◌, length, refl, sym, ap, subst, ◌∙◌, arith}
+use Rattle.std.specs.Prelude.{take, true, false, Option, Some, None}
 use Rattle.ca_text.specs.Place.{At}
+use Rattle.ca_text.proofs.Places.{some_is}
 use Rattle.ca_text.specs.declared.status.Status.{Status}
+use Rattle.ca_text.specs.declared.command.Command.TheVariants as command
 use Rattle.ca_dbr.specs.declared.value.Outcome.{Outcome}
 use Rattle.ca_dbr.specs.declared.value.Outcome.TheVariants as outcome
 use Rattle.ca_wire.specs.Fields.{Fields}
 use Rattle.ca_records.specs.Record.{RecordState}
-use Rattle.ca_model.specs.Speech.{Clears, Creates, In}
-use Rattle.ca_model.specs.History.{Ask, Circuit, Intent, On, OfCircuit, Create, Line, Entry, Opened, Sent, Told, Added, Removed, Clear, Reply}
+use Rattle.ca_model.specs.Speech.{Clears, Creates, In, Is}
+use Rattle.ca_model.specs.History.{Ask, Circuit, Intent, On, OfCircuit, Create, Line, Entry, Opened, Sent, Told, Step, Added, Removed, Clear, Reply, Removal, Update, Cause}
 use Rattle.ca_model_safe.specs.Channels.{Has, IsNamed, IsOpen, IsUse, KeepNames, before}
 use Rattle.ca_model_safe.specs.Headline.{Acted, ActsOnRecord}
-use Rattle.ca_requests.specs.Meaning.{Means}
+use Rattle.ca_model_safe.specs.Means.{Means}
 use Rattle.ca_model.specs.Updates.{Shows}
-use Rattle.ca_model_examples.specs.Worlds.{adding, clearing, created_told, creating, long, step, temp, temp_name}
-use Rattle.ca_model_examples.specs.Safe.{reopened, reopened_entries, reopened_lines}
-use Rattle.ca_model_examples.proofs.Lists.{each-at, at-take, at-take-within}
+use Rattle.ca_model_examples.specs.Worlds.{adding, clearing, created_told, creating, disconnected, long, step, temp, temp_name}
+use Rattle.ca_model_examples.specs.Safe.{reopened, reopened_entries, reopened_lines, reopened_world}
+use Rattle.ca_model_examples.proofs.Lists.{Each, each-at, at-take, at-take-within, none-at, one-at}
 use Rattle.ca_model_examples.proofs.UsedActs.{is-fine}
 use Rattle.ca_model_examples.proofs.Reopened.{channel-of, created-on, reply-at}
 
@@ -37,52 +39,20 @@ removed-at e r at =
 pub added-at : (e r : ℕ) (s : RecordState) → At reopened_entries e (Added r s) → ((e ≡ 0) × (r ≡ 0)) ⊎ ((e ≡ 2) × (r ≡ 1))
 added-at e r s at =
     each-at (λ (i : ℕ) (z : Entry). z ≡ Added r s → ((i ≡ 0) × (r ≡ 0)) ⊎ ((i ≡ 2) × (r ≡ 1))) reopened_entries (
-      (λ f. inl (refl, ap added-in (sym f))),
-      ((λ f. absurd cc), ((λ f. inr (refl, ap added-in (sym f))), tt)),
-    ) e _ at refl
+      (λ f. inl (refl, ap added-in (sym f))), ((λ f. absurd cc), ((λ f. inr (refl, ap added-in (sym f))), tt))) e _ at refl
 
 -- creations and clears, by place
 creations : (n i : ℕ) (t : Told) → At (take n reopened.down) i t → Creates t.message 5 → ((i ≡ 0) ⊎ (i ≡ 4)) × (i < n)
-creations n i t at is = (
-  each-at (λ (j : ℕ) (u : Told). Creates u.message 5 → (j ≡ 0) ⊎ (j ≡ 4)) reopened.down (
-    (λ e. inl refl),
-    (
-      (λ e. (let f = e.0 in absurd (omega (arith, f)))),
-      (
-        (λ e. (let f = e.0 in absurd (omega (arith, f)))),
-        (
-          (λ e. (let f = e.0 in absurd (omega (arith, f)))),
-          (
-            (λ e. inr refl),
-            ((λ e. (let f = e.0 in absurd (omega (arith, f)))), tt),
-          ),
-        ),
-      ),
-    ),
-  ) i t (at-take n reopened.down i t at) is,
-  at-take-within n reopened.down i t at,
-)
+creations n i t at is =
+    (each-at (λ (j : ℕ) (u : Told). Creates u.message 5 → (j ≡ 0) ⊎ (j ≡ 4)) reopened.down (
+      (λ e. inl refl), ((λ e. (let f = e.0 in absurd (omega (arith, f)))), ((λ e. (let f = e.0 in absurd (omega (arith, f)))), ((λ e. (let f = e.0 in absurd (omega (arith, f)))), (
+      (λ e. inr refl), ((λ e. (let f = e.0 in absurd (omega (arith, f)))), tt)))))) i t (at-take n reopened.down i t at) is, at-take-within n reopened.down i t at)
 
 clears-at : (n l : ℕ) (s : Sent) → At (take n reopened.up) l s → Clears s.message 5 → (l ≡ 2) × (l < n)
-clears-at n l s at is = (
-  each-at (λ (j : ℕ) (u : Sent). Clears u.message 5 → j ≡ 2) reopened.up (
-    (λ e. (let f = e.0 in absurd (omega (arith, f)))),
-    (
-      (λ e. (let f = e.0 in absurd (omega (arith, f)))),
-      (
-        (λ e. refl),
-        (
-          (λ e. (let f = e.0 in absurd (omega (arith, f)))),
-          (
-            (λ e. (let f = e.0 in absurd (omega (arith, f)))),
-            tt,
-          ),
-        ),
-      ),
-    ),
-  ) l s (at-take n reopened.up l s at) is,
-  at-take-within n reopened.up l s at,
-)
+clears-at n l s at is =
+    (each-at (λ (j : ℕ) (u : Sent). Clears u.message 5 → j ≡ 2) reopened.up (
+      (λ e. (let f = e.0 in absurd (omega (arith, f)))), ((λ e. (let f = e.0 in absurd (omega (arith, f)))), ((λ e. refl), ((λ e. (let f = e.0 in absurd (omega (arith, f)))), (
+      (λ e. (let f = e.0 in absurd (omega (arith, f)))), tt))))) l s (at-take n reopened.up l s at) is, at-take-within n reopened.up l s at)
 
 no-later : (n i j : ℕ) (t : Told) → n ≤ 4 ⊎ (4 ≤ j) → j < i → At (take n reopened.down) i t → Creates t.message 5 → ⊥
 no-later n i j t bound after at is =
@@ -106,7 +76,7 @@ no-clear n l k s bound after at is =
       | inr b ↦ omega (arith, e, after, b)
     ]
 
-pub first-there : (n : ℕ) → At (take 1 (take n reopened_entries)) 0 (Added 0 temp) → Has (take 1 (take n reopened_entries)) 0 temp_name
+first-there : (n : ℕ) → At (take 1 (take n reopened_entries)) 0 (Added 0 temp) → Has (take 1 (take n reopened_entries)) 0 temp_name
 first-there n at =
     (temp, (0, at), refl, (λ h. (let e = (removed-at h.0 0 (at-take n reopened_entries h.0 _ (at-take 1 (take n reopened_entries) h.0 _ h.1))).0 in let l = at-take-within 1 (take n reopened_entries) h.0 _ h.1 in omega (arith, e, l))))
 
@@ -114,35 +84,27 @@ not-removed : (r : ℕ) → r ≡ 1 → In reopened_entries (Removed r) → ⊥
 not-removed r is h = (let e = (removed-at h.0 r h.1).1 in omega (arith, e, is))
 
 pub open-1 : IsOpen (before reopened 1 (step 1 1 1)) (take 1 reopened_entries) 0 0 5 0
-open-1 = (
-  (created_told, creating, step 0 1 1, refl, refl, refl, (refl, refl), refl, refl, first-there 1 refl),
-  (λ i t after at. no-later 1 i 0 t (inl (omega arith)) after at),
-  (λ l m after early at. no-clear 1 l 0 m (inl (omega arith)) after at),
-)
+open-1 =
+    ((created_told, creating, step 0 1 1, refl, refl, refl, (refl, refl), refl, refl, first-there 1 refl),
+      (λ i t after at. no-later 1 i 0 t (inl (omega arith)) after at), (λ l m after early at. no-clear 1 l 0 m (inl (omega arith)) after at))
 
 pub open-2 : IsOpen (before reopened 2 (step 3 2 2)) (take 2 reopened_entries) 0 0 5 0
-open-2 = (
-  (created_told, creating, step 0 1 1, refl, refl, refl, (refl, refl), refl, refl, first-there 2 refl),
-  (λ i t after at. no-later 3 i 0 t (inl (omega arith)) after at),
-  (λ l m after early at. no-clear 2 l 0 m (inl (omega arith)) after at),
-)
+open-2 =
+    ((created_told, creating, step 0 1 1, refl, refl, refl, (refl, refl), refl, refl, first-there 2 refl),
+      (λ i t after at. no-later 3 i 0 t (inl (omega arith)) after at), (λ l m after early at. no-clear 2 l 0 m (inl (omega arith)) after at))
 
 second-told : Told
 second-told = record { message = created_told.message; place = 3; cause = Reply }
 
 pub open-4 : IsOpen (before reopened 4 (step 5 3 3)) (take 3 reopened_entries) 4 3 5 1
-open-4 = (
-  (record { message = created_told.message; place = 3; cause = Reply }, creating, step 4 3 3, refl, refl, refl, (refl, refl), refl, refl, (back, (2, refl), refl, (λ h. not-removed 1 refl (h.0, at-take 3 reopened_entries h.0 _ (at-take 3 (take 3 reopened_entries) h.0 _ h.1))))),
-  (λ i t after at. no-later 5 i 4 t (inr (omega arith)) after at),
-  (λ l m after early at. no-clear 4 l 3 m (inr (omega arith)) after at),
-)
+open-4 =
+    ((record { message = created_told.message; place = 3; cause = Reply }, creating, step 4 3 3, refl, refl, refl, (refl, refl), refl, refl, (back, (2, refl), refl, (λ h. not-removed 1 refl (h.0, at-take 3 reopened_entries h.0 _ (at-take 3 (take 3 reopened_entries) h.0 _ h.1))))),
+      (λ i t after at. no-later 5 i 4 t (inr (omega arith)) after at), (λ l m after early at. no-clear 4 l 3 m (inr (omega arith)) after at))
 
 pub open-now : IsOpen reopened reopened_entries 4 3 5 1
-open-now = (
-  (record { message = created_told.message; place = 3; cause = Reply }, creating, step 4 3 3, refl, refl, refl, (refl, refl), refl, refl, (back, (2, refl), refl, (λ h. not-removed 1 refl (h.0, at-take 3 reopened_entries h.0 _ h.1)))),
-  (λ i t after at. no-later 6 i 4 t (inr (omega arith)) after at),
-  (λ l m after early at. no-clear 5 l 3 m (inr (omega arith)) after at),
-)
+open-now =
+    ((record { message = created_told.message; place = 3; cause = Reply }, creating, step 4 3 3, refl, refl, refl, (refl, refl), refl, refl, (back, (2, refl), refl, (λ h. not-removed 1 refl (h.0, at-take 3 reopened_entries h.0 _ h.1)))),
+      (λ i t after at. no-later 6 i 4 t (inr (omega arith)) after at), (λ l m after early at. no-clear 5 l 3 m (inr (omega arith)) after at))
 
 -- ---- the clause
 
@@ -166,51 +128,24 @@ clear-means s h =
 none-fails : (j : ℕ) (t : Told) (s : Status) → At reopened.down j t → t.cause ≡ Reply → Means t.message (outcome.Failed s) → ⊥
 none-fails j t s at cause means =
     each-at (λ (i : ℕ) (u : Told). u.cause ≡ Reply → Means u.message (outcome.Failed s) → ⊥) reopened.down (
-      (λ c m. is-fine created_told.message s refl (λ e. omega (arith, e)) m),
-      (
-        (λ c m. cc),
-        (
-          (λ c m. cc),
-          (
-            (λ c m. clear-means s m),
-            (
-              (λ c m. is-fine created_told.message s refl (λ e. omega (arith, e)) m),
-              ((λ c m. cc), tt),
-            ),
-          ),
-        ),
-      ),
-    ) j t at cause means
+      (λ c m. is-fine created_told.message s refl (λ e. omega (arith, e)) m), ((λ c m. cc), ((λ c m. cc), ((λ c m. clear-means s m), (
+      (λ c m. is-fine created_told.message s refl (λ e. omega (arith, e)) m), ((λ c m. cc), tt)))))) j t at cause means
 
 used-at : (k : ℕ) (s : Sent) → At reopened.up k s → IsUse s.intent → (k ≡ 1) ⊎ (k ≡ 4)
 used-at k s at uses =
     each-at (λ (i : ℕ) (z : Sent). IsUse z.intent → (i ≡ 1) ⊎ (i ≡ 4)) reopened.up (
-      (λ u. absurd u),
-      ((λ u. inl refl), ((λ u. absurd u), ((λ u. absurd u), ((λ u. inr refl), tt)))),
-    ) k s at uses
+      (λ u. absurd u), ((λ u. inl refl), ((λ u. absurd u), ((λ u. absurd u), ((λ u. inr refl), tt))))) k s at uses
 
 replied-at : (j k : ℕ) (t : Told) → At reopened.down j t → t.place ≡ k → t.cause ≡ Reply → (k ≡ 1) ⊎ (k ≡ 4) → ⊥
 replied-at j k t at place cause is =
     each-at (λ (i : ℕ) (u : Told). u.place ≡ k → u.cause ≡ Reply → ⊥) reopened.down (
-      (λ p c. elim is [ inl e ↦ omega (arith, p, e) | inr e ↦ omega (arith, p, e) ]),
-      (
-        (λ p c. cc),
-        (
-          (λ p c. cc),
-          (
-            (λ p c. elim is [ inl e ↦ omega (arith, p, e) | inr e ↦ omega (arith, p, e) ]),
-            ((λ p c. elim is [ inl e ↦ omega (arith, p, e) | inr e ↦ omega (arith, p, e) ]), ((λ p c. cc), tt)),
-          ),
-        ),
-      ),
-    ) j t at place cause
+      (λ p c. elim is [ | inl e ↦ omega (arith, p, e) | inr e ↦ omega (arith, p, e) ]), ((λ p c. cc), ((λ p c. cc), (
+      (λ p c. elim is [ | inl e ↦ omega (arith, p, e) | inr e ↦ omega (arith, p, e) ]), ((λ p c. elim is [ | inl e ↦ omega (arith, p, e) | inr e ↦ omega (arith, p, e) ]), ((λ p c. cc), tt)))))) j t at place cause
 
-pub opened-at : (o : Outcome) (i channel : ℕ) (a : List ℕ) → At (reopened_lines o) i (Opened channel a) → i ≡ 0
+opened-at : (o : Outcome) (i channel : ℕ) (a : List ℕ) → At (reopened_lines o) i (Opened channel a) → i ≡ 0
 opened-at o i channel a at =
     each-at (λ (k : ℕ) (l : Line). l ≡ Opened channel a → k ≡ 0) (reopened_lines o) (
-      (λ e. refl),
-      ((λ e. absurd cc), ((λ e. absurd cc), ((λ e. absurd cc), ((λ e. absurd cc), ((λ e. absurd cc), tt))))),
-    ) i _ at refl
+      (λ e. refl), ((λ e. absurd cc), ((λ e. absurd cc), ((λ e. absurd cc), ((λ e. absurd cc), ((λ e. absurd cc), tt)))))) i _ at refl
 
 one-added : (i j r : ℕ) (a b : RecordState) → At reopened_entries i (Added r a) → At reopened_entries j (Added r b) → i ≡ j
 one-added i j r a b p q =
@@ -266,28 +201,19 @@ module _
   reopened-acts o = record {
     acts = λ k channel ask early meant other. each-at (λ (i : ℕ) (s : Sent). s.intent ≡ On channel ask → (r : ℕ) × Acted reopened reopened_entries i r × IsNamed (reopened_lines o) reopened_entries channel r) reopened.up (
       (λ e. absurd (other (sym (ap ask-of e)))),
-      (
-        (λ e. (0, (adding 0 9, step 1 1 1, 0, 0, refl, refl, open-1), named o channel 0 (sym (ap channel-of e)) (inl refl))),
-        (
-          (λ e. (0, (clearing, step 3 2 2, 0, 0, refl, refl, open-2), named o channel 0 (sym (ap channel-of e)) (inl refl))),
-          (
-            (λ e. absurd (other (sym (ap ask-of e)))),
-            ((λ e. (1, (adding 0 9, step 5 3 3, 4, 3, refl, refl, open-4), named o channel 1 (sym (ap channel-of e)) (inr refl))), tt),
-          ),
-        ),
-      ),
-    ) k meant.0 meant.1 meant.2;
+      ((λ e. (0, (adding 0 9, step 1 1 1, 0, 0, refl, refl, open-1), named o channel 0 (sym (ap channel-of e)) (inl refl))),
+      ((λ e. (0, (clearing, step 3 2 2, 0, 0, refl, refl, open-2), named o channel 0 (sym (ap channel-of e)) (inl refl))),
+      ((λ e. absurd (other (sym (ap ask-of e)))),
+      ((λ e. (1, (adding 0 9, step 5 3 3, 4, 3, refl, refl, open-4), named o channel 1 (sym (ap channel-of e)) (inr refl))), tt))))) k meant.0 meant.1 meant.2;
     retired = λ k j r h bad acted at. absurd (none-fails j _ _ bad.1 refl bad.2);
     refused = λ k j r m s h here at uses acted handled gone. absurd (replied-at j k _ here refl refl (used-at k s at uses));
     live = λ channel j k sid l.
-        (let on = created-on k channel l.1 in
-        let of-sid : sid ≡ 5 = each-at (λ (i : ℕ) (u : Told). Creates u.message sid → sid ≡ 5) reopened.down (
-          (λ e. sym e.1),
-          ((λ e. (let f = e.0 in absurd (omega (arith, f)))), ((λ e. (let f = e.0 in absurd (omega (arith, f)))), ((λ e. (let f = e.0 in absurd (omega (arith, f)))), ((λ e. sym e.1), ((λ e. (let f = e.0 in absurd (omega (arith, f)))), tt))))),
-        ) j l.0 l.2 l.5 in
-        elim (reply-at j k sid l.0 l.2 l.3 l.5) [
-          | inl e ↦ (let zero-place = e.1 in absurd (l.7 2 (omega (arith, zero-place)) (clearing, refl, ap (λ (c : ℕ). On c Clear) (sym on))))
-          | inr e ↦ (1, subst (λ (i : ℕ). IsOpen reopened reopened_entries i k sid 1) (sym e.0) (subst (λ (i : ℕ). IsOpen reopened reopened_entries 4 i sid 1) (sym e.1) (subst (λ (i : ℕ). IsOpen reopened reopened_entries 4 3 i 1) (sym of-sid) open-now)), named o channel 1 on (inr refl), (λ up. inl (not-removed 1 refl)))
-        ]);
+      (let on = created-on k channel l.1 in
+      let of-sid : sid ≡ 5 = each-at (λ (i : ℕ) (u : Told). Creates u.message sid → sid ≡ 5) reopened.down (
+        (λ e. sym e.1), ((λ e. (let f = e.0 in absurd (omega (arith, f)))), ((λ e. (let f = e.0 in absurd (omega (arith, f)))), ((λ e. (let f = e.0 in absurd (omega (arith, f)))), ((λ e. sym e.1), ((λ e. (let f = e.0 in absurd (omega (arith, f)))), tt)))))) j l.0 l.2 l.5 in
+      elim (reply-at j k sid l.0 l.2 l.3 l.5) [
+        | inl e ↦ (let zero-place = e.1 in absurd (l.7 2 (omega (arith, zero-place)) (clearing, refl, ap (λ (c : ℕ). On c Clear) (sym on))))
+        | inr e ↦ (1, subst (λ (i : ℕ). IsOpen reopened reopened_entries i k sid 1) (sym e.0) (subst (λ (i : ℕ). IsOpen reopened reopened_entries 4 i sid 1) (sym e.1) (subst (λ (i : ℕ). IsOpen reopened reopened_entries 4 3 i 1) (sym of-sid) open-now)), named o channel 1 on (inr refl), (λ up. inl (not-removed 1 refl)))
+      ]);
     names = reopened-names o;
   }

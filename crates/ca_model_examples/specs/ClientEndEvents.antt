@@ -20,7 +20,7 @@ use Rattle.ca_model_world.specs.ClientEvents.{about_at, lines_of}
 use Rattle.ca_model_world.specs.Events as event
 use Rattle.ca_model_world.specs.Runs.{Happens, TicksBefore}
 use Rattle.ca_model_world.specs.World.{ClientSide, Joined, Names, ServerSide, World, no_names}
-use Rattle.ca_model_examples.specs.ClientRows.{alive, anna, first, found, greeted, home, reading, second, temp}
+use Rattle.ca_model_examples.specs.ClientRows.{alive, anna, first, found, greeted, home, reading, second, temp, with_temp}
 use Rattle.ca_model_examples.specs.ClientCallEvents.{CanNot, anna_side, joined, live, names, old, on_temp, opened_line, put, read_done, server, temp_wanted, with_read, world}
 
 -- ---- bytes
@@ -187,3 +187,18 @@ TickEnds =
     let before : World = world (anna_side reading with_read) (opened_line ∷ []) [] in
     Happens before (event.Tick 35000) (record ticked_once { clients = anna_side (searches_made (circuits_ticked 35000 reading)).core with_read ∷ anna_side (record (anna []) { moment = 35000 }) names ∷ []; moment = 35000 })
     × TicksBefore 35000 before before × CanNot before (event.Tick 6)
+
+-- ---- datagrams
+
+-- the search reply for TEMP
+abbrev pub reply_of_search : Fields
+reply_of_search = record (bare command.Search) { data_type = 5064; p1 = 0xFFFFFFFF; p2 = 65536; payload = 0 ∷ 13 ∷ 0 ∷ 0 ∷ 0 ∷ 0 ∷ 0 ∷ 0 ∷ [] }
+
+-- It comes from the port 9 of TEMP's server: the circuit that its own port names is wanted, and nothing is logged.
+abbrev pub DatagramFinds : Type 0
+DatagramFinds =
+    let before : World = record (world (anna_side (with_temp (anna [])) names) (opened_line ∷ []) []) { moment = 0 } in
+    Happens before (event.ClientDatagram 0 (record { host = home.host; port = 9 }) (spelling reply_of_search)) (
+    record before { clients = anna_side found names ∷ anna_side (anna []) names ∷ [] }
+    )
+    × CanNot before (event.ClientDatagram 2 home [])

@@ -10,9 +10,9 @@ mod unsafe_worlds;
 
 pub use client_events::{
     a_call_clears, a_call_opens, a_call_puts, a_call_reads, a_call_subscribes, a_call_unsubscribes,
-    a_call_writes, a_circuit_is_accepted, a_cut_is_told, a_request_is_given_up, a_restart_forgets,
-    a_step_hears, a_tick_ends_a_silence, an_answer_is_about_its_place, an_outcome_is_collected,
-    bytes_come_down, bytes_go_up, notices_are_lines,
+    a_call_writes, a_circuit_is_accepted, a_cut_is_told, a_datagram_comes, a_request_is_given_up,
+    a_restart_forgets, a_step_hears, a_tick_ends_a_silence, an_answer_is_about_its_place,
+    an_outcome_is_collected, bytes_come_down, bytes_go_up, notices_are_lines,
 };
 pub use client_hears::{
     a_channel_is_found, a_confirmation_fits_its_circuit, a_creation_fails, a_pause_is_asked_for,
