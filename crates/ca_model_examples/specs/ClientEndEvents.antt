@@ -65,7 +65,7 @@ abbrev pub with_input : List ℕ → ℕ → Client → Client
 with_input bytes reads x =
     on_connection (λ (e : Connection). record { link = link_of bytes e.link.output; run = record { reads = reads; events_off = false } }) first x
 
--- A read that leaves bytes counts, and one that leaves none does not. Bytes that an ended server left come too, and none come to an end
+-- A read that leaves bytes counts, and one that leaves none does not. None come to an end
 -- that is closed.
 abbrev pub DownMoves : Type 0
 DownMoves =
