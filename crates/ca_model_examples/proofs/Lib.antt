@@ -15,3 +15,8 @@ pub mod ServerHappens
 pub mod ServerAnswers
 pub mod ReopenedOwn
 pub mod ReopenedRest
+pub mod ClientWorked
+pub mod ClientOnly
+pub mod ClientCallEvents
+pub mod ClientEndEvents
+pub mod ClientHears

@@ -6,3 +6,7 @@ pub mod DueReplies
 pub mod ServerWorld
 pub mod ServerHappens
 pub mod ServerAnswers
+pub mod ClientRows
+pub mod ClientCallEvents
+pub mod ClientEndEvents
+pub mod ClientHears

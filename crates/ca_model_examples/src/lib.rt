@@ -1,6 +1,10 @@
-//! Small histories for each clause of the statement: some are safe, and each of the others breaks one.
+//! Small histories for each clause of the statement, some safe and each of the others breaking one; and what calls and events
+//! leave on worked rows.
 #![tactic(auto)]
 
+mod client_events;
+mod client_hears;
+mod client_rows;
 mod due_replies;
 mod safe_worlds;
 mod server_calls;
@@ -8,6 +12,24 @@ mod server_events;
 mod server_rows;
 mod unsafe_worlds;
 
+pub use client_events::{
+    a_call_clears, a_call_opens, a_call_puts, a_call_reads, a_call_subscribes, a_call_unsubscribes,
+    a_call_writes, a_circuit_is_accepted, a_cut_is_told, a_datagram_comes, a_request_is_given_up,
+    a_restart_forgets, a_step_hears, a_tick_ends_a_silence, an_answer_is_about_its_place,
+    an_outcome_is_collected, bytes_come_down, bytes_go_up, notices_are_lines,
+};
+pub use client_hears::{
+    a_channel_is_found, a_confirmation_fits_its_circuit, a_creation_fails, a_pause_is_asked_for,
+    a_reply_fits_its_request, a_subscription_is_ended, a_waiting_channel_is_cleared,
+    errors_are_told, messages_out_of_turn_are_skipped, no_circuit_is_free,
+    other_commands_are_skipped, subscriptions_go_out_again, the_last_faults,
+};
+pub use client_rows::{
+    a_cancelled_subscription_drains, a_channel_becomes_live, a_cleared_channel_ends,
+    a_lost_channel_is_searched_again, a_removed_record_is_left, a_silence_is_ended,
+    an_anomaly_boosts_searches, names_are_searched_over_circuits, reads_ask_for_a_pause,
+    requests_complete_in_order_of_issue, searches_are_packed, the_first_fault_decides,
+};
 pub use due_replies::{
     creations_are_due, greetings_are_due, others_are_due, puts_are_due, reads_are_due,
     searches_are_due, subscriptions_are_due, writes_are_due,

@@ -1,8 +1,0 @@
-use Rattle.ca_client_examples.proofs.Worked.{full-datagrams, one-search}
-use Rattle.ca_client_examples.proofs.rows.searches_are_packed.Goals as goal
-
-pub returns-clause-one : goal.returns-clause-one
-returns-clause-one c = one-search
-
-pub returns-clause-full : goal.returns-clause-full
-returns-clause-full c = full-datagrams
