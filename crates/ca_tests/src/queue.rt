@@ -77,7 +77,7 @@ fn number_of(given: &Option<(SubKey, Entry)>) -> Option<i32> {
 
 /// A queue with two subscriptions, in which nothing waits.
 fn queue_of_two(alloc: Global) -> Result<EventQueue, Fail>
-    ensures { IfOk result (λ queue. queue ≡ added OTHER (added KEY no_queue)) }
+    ensures { IfOk result (λ queue. queue.0 ≡ added OTHER (added KEY no_queue)) }
 {
     let mut queue = EventQueue::new(alloc);
     queue.add(KEY)?;
@@ -92,8 +92,8 @@ fn post_all(
     key: SubKey,
     numbers: Range<i32>,
 ) -> Result<(), Fail>
-    requires { IsTrue (is_among key queue.old.subscriptions) }
-    ensures { queue.new.subscriptions ≡ queue.old.subscriptions }
+    requires { IsTrue (is_among key queue.old.0.subscriptions) }
+    ensures { queue.new.0.subscriptions ≡ queue.old.0.subscriptions }
 {
     for number in numbers {
         let entry = update(alloc, number)?;
@@ -104,7 +104,7 @@ fn post_all(
 
 /// Takes give these subscriptions and numbers, and then nothing.
 fn check_takes(rt: &impl Abort, queue: &mut EventQueue, expected: &[(SubKey, i32)])
-    ensures { queue.new.subscriptions ≡ queue.old.subscriptions }
+    ensures { queue.new.0.subscriptions ≡ queue.old.0.subscriptions }
 {
     for (key, number) in expected {
         let given = queue.take();

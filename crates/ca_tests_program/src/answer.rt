@@ -12,6 +12,7 @@ const CREATED: &[u8] =
     b"\0\x16\0\0\0\0\0\0\0\x01\0\0\0\0\0\x03\0\x12\0\0\0\x05\0\x01\0\x01\0\0\0\x01\0\0";
 
 /// Bytes that come in pieces of at most so many.
+#[derive(Drop)]
 struct Pieces<'a> {
     bytes: &'a [u8],
     size: usize,

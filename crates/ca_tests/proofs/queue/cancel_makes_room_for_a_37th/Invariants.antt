@@ -4,5 +4,5 @@ use Rattle.ca_tests.proofs.queue.cancel_makes_room_for_a_37th.Given as goal
 
 abbrev pub invariant-loop-sub : goal.invariant-loop-sub
 invariant-loop-sub g l =
-    ((sub : ℕ) → l.sub ≤ sub → is_among (record { sid = 1; sub = sub }) l.queue.subscriptions ≡ false)
-    × ((sid sub : ℕ) → 1 < sid → is_among (record { sid = sid; sub = sub }) l.queue.subscriptions ≡ false)
+    ((sub : ℕ) → l.sub ≤ sub → is_among (record { sid = 1; sub = sub }) l.queue.0.subscriptions ≡ false)
+    × ((sid sub : ℕ) → 1 < sid → is_among (record { sid = sid; sub = sub }) l.queue.0.subscriptions ≡ false)

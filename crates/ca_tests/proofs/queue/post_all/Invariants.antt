@@ -3,6 +3,6 @@ use Rattle.ca_tests.proofs.queue.post_all.Given as goal
 
 abbrev pub invariant-loop-number : goal.invariant-loop-number
 invariant-loop-number l =
-    (l.queue.subscriptions ≡ l.fn.queue.subscriptions)
+    (l.queue.0.subscriptions ≡ l.fn.queue.0.subscriptions)
     × (goal.iterator-loop-number).can_next l.number-iterator
     × (goal.iterator-loop-number).is_finite l.number-iterator
