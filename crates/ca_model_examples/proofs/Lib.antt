@@ -15,3 +15,7 @@ pub mod ServerHappens
 pub mod ServerAnswers
 pub mod ReopenedOwn
 pub mod ReopenedRest
+pub mod MovedActs
+pub mod MovedOwn
+pub mod MovedLegal
+pub mod Moved
