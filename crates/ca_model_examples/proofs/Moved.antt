@@ -20,7 +20,7 @@ use Rattle.ca_model_safe.specs.Posts.{matching}
 use Rattle.ca_model.specs.Updates.{Shows}
 use Rattle.ca_model_examples.specs.Worlds.{AnyDue, adding, created_told, creating, long, step}
 use Rattle.ca_model_examples.specs.Safe.{first_update}
-use Rattle.ca_model_examples.specs.Moved.{first_home, later_home, moved, moved_entries, moved_lines, moved_world, valued}
+use Rattle.ca_model_examples.specs.Moved.{ended, found_again, moved, moved_entries, moved_lines, moved_world, valued}
 use Rattle.ca_model_examples.proofs.Lists.{at-take, each-at, one-at, two-at}
 use Rattle.ca_model_examples.proofs.UsedActs.{channel-of}
 use Rattle.ca_model_examples.proofs.MovedActs.{moved-acts}
@@ -30,13 +30,13 @@ use Rattle.ca_model_examples.proofs.MovedLegal.{call-at, is-held, moved-circuit,
 -- ---- what holds of each circuit of the one form, and of the life, holds of each
 
 each-circuit : (o p : Outcome) (P : ℕ → Circuit → List Line → List Entry → Type 0)
-    → P 0 later_home (moved_lines o p) (moved_entries 5) → P 1 first_home (moved_lines o p) (moved_entries 7) → OfCircuits (moved_world o p) P
-each-circuit o p P later first n c at =
-    elim (two-at later_home first_home n c at) [
+    → P 0 found_again (moved_lines o p) (moved_entries 5) → P 1 ended (moved_lines o p) (moved_entries 7) → OfCircuits (moved_world o p) P
+each-circuit o p P again before n c at =
+    elim (two-at found_again ended n c at) [
       | inl e ↦ subst (λ (d : Circuit). (x : List Line) × (y : List Entry) × Joins (moved_world o p) n d x y × P n d x y) (sym e.1) (
-          subst (λ (m : ℕ). (x : List Line) × (y : List Entry) × Joins (moved_world o p) m later_home x y × P m later_home x y) (sym e.0) (moved_lines o p, moved_entries 5, (refl, refl, refl), later))
+          subst (λ (m : ℕ). (x : List Line) × (y : List Entry) × Joins (moved_world o p) m found_again x y × P m found_again x y) (sym e.0) (moved_lines o p, moved_entries 5, (refl, refl, refl), again))
       | inr e ↦ subst (λ (d : Circuit). (x : List Line) × (y : List Entry) × Joins (moved_world o p) n d x y × P n d x y) (sym e.1) (
-          subst (λ (m : ℕ). (x : List Line) × (y : List Entry) × Joins (moved_world o p) m first_home x y × P m first_home x y) (sym e.0) (moved_lines o p, moved_entries 7, (refl, refl, refl), first))
+          subst (λ (m : ℕ). (x : List Line) × (y : List Entry) × Joins (moved_world o p) m ended x y × P m ended x y) (sym e.0) (moved_lines o p, moved_entries 7, (refl, refl, refl), before))
     ]
 
 each-life : (o p : Outcome) (P : ℕ → List Line → Type 0) → P 0 (moved_lines o p) → OfClients (moved_world o p) P
@@ -47,7 +47,7 @@ each-life o p P h life x at =
 pub moved-legal : (o p : Outcome) → Legal (moved_world o p)
 moved-legal o p = record {
   circuits = each-circuit o p LegalCircuit (moved-circuit 0 5 6 5 true o p) (moved-circuit 1 1 3 7 false o p);
-  subscriptions = each-life o p (IsSent (moved_world o p)) (λ channel number h. (0, 1, (later_home, refl, refl, (adding 0 9, refl, (call-at o p h.0 channel number h.1).1))));
+  subscriptions = each-life o p (IsSent (moved_world o p)) (λ channel number h. (0, 1, (found_again, refl, refl, (adding 0 9, refl, (call-at o p h.0 channel number h.1).1))));
 }
 
 -- ---- the client's log
@@ -76,7 +76,7 @@ Read o p i intent q = Reads AnyDue Shows Means (moved_world o p) 0 (moved_lines 
 abbrev live-first : (o p : Outcome) → Read o p 1 (On 0 Create) outcome.Done
 live-first o p = record {
   n = 1;
-  c = first_home;
+  c = ended;
   on = (refl, refl);
   j = 0;
   t = created_told;
@@ -90,7 +90,7 @@ live-first o p = record {
 abbrev live-again : (o p : Outcome) → Read o p 5 (On 0 Create) outcome.Done
 live-again o p = record {
   n = 0;
-  c = later_home;
+  c = found_again;
   on = (refl, refl);
   j = 0;
   t = created_told;
@@ -102,7 +102,7 @@ live-again o p = record {
 }
 
 was-lost : (o p : Outcome) → IsLost (moved_world o p) 0 (moved_lines o p) 4 (On 0 Create)
-was-lost o p = (1, 0, 0, Create, first_home, refl, refl, refl, (creating, refl, refl), inl refl)
+was-lost o p = (1, 0, 0, Create, ended, refl, refl, refl, (creating, refl, refl), inl refl)
 
 abbrev Bears : (o p : Outcome) → ℕ → Intent → Outcome → Type 0
 Bears o p i intent q = ((by : Read o p i intent q) × (by.t.cause ≡ Reply)) ⊎ ((q ≡ outcome.Disconnected) × IsLost (moved_world o p) 0 (moved_lines o p) i intent)
@@ -164,16 +164,16 @@ called-at o p i intent e at =
     ) i _ at refl
 
 -- both circuits carry the same messages of the client
-up-at : (o p : Outcome) (n k : ℕ) (c : Circuit) (s : Sent) → At (moved_world o p).circuits n c → At c.up k s → At later_home.up k s
+up-at : (o p : Outcome) (n k : ℕ) (c : Circuit) (s : Sent) → At (moved_world o p).circuits n c → At c.up k s → At found_again.up k s
 up-at o p n k c s here at =
-    elim (two-at later_home first_home n c here) [
+    elim (two-at found_again ended n c here) [
       | inl e ↦ subst (λ (d : Circuit). At d.up k s) e.1 at
       | inr e ↦ subst (λ (d : Circuit). At d.up k s) e.1 at
     ]
 
 no-request : (o p : Outcome) (intent : Intent) (n k : ℕ) → IsRequest intent → Stands (moved_world o p) 0 intent n k → ⊥
 no-request o p intent n k asks h =
-    each-at (λ (i : ℕ) (s : Sent). s.intent ≡ intent → ⊥) later_home.up ((λ e. subst IsRequest (sym e) asks), ((λ e. subst IsRequest (sym e) asks), tt)) k h.3.0 (up-at o p n k h.0 h.3.0 h.1 h.3.1) h.3.2
+    each-at (λ (i : ℕ) (s : Sent). s.intent ≡ intent → ⊥) found_again.up ((λ e. subst IsRequest (sym e) asks), ((λ e. subst IsRequest (sym e) asks), tt)) k h.3.0 (up-at o p n k h.0 h.3.0 h.1 h.3.1) h.3.2
 
 -- the one loss is of the channel that was live on the circuit that ended
 lost-there : (o p : Outcome) → LosesLive AnyDue Shows Means (moved_world o p) 0 (moved_lines o p) 4 0
@@ -310,7 +310,7 @@ saw-7 : (o p : Outcome) → Means (first_update 1 7).message o → Reading o p 3
 saw-7 o p means = (
   record {
     n = 1;
-    c = first_home;
+    c = ended;
     on = (refl, refl);
     j = 1;
     t = first_update 1 7;
@@ -328,7 +328,7 @@ saw-5 : (o p : Outcome) → Means (first_update 1 5).message p → Reading o p 6
 saw-5 o p means = (
   record {
     n = 0;
-    c = later_home;
+    c = found_again;
     on = (refl, refl);
     j = 1;
     t = first_update 1 5;
@@ -348,9 +348,9 @@ reading o p i intent r q e f h = subst (λ (d : Intent). Reading o p i d q) e (s
 -- where the server's message about an EVENT_ADD is, on each circuit
 about-at : (o p : Outcome) (n j k : ℕ) (c : Circuit) (t : Told) → At (moved_world o p).circuits n c → At c.down j t → t.place ≡ k → k ≡ 1 → j ≡ 1
 about-at o p n j k c t here at place is =
-    elim (two-at later_home first_home n c here) [
-      | inl e ↦ each-at (λ (i : ℕ) (u : Told). u.place ≡ k → i ≡ 1) later_home.down ((λ f. absurd (omega (arith, f, is))), ((λ f. refl), tt)) j t (subst (λ (d : Circuit). At d.down j t) e.1 at) place
-      | inr e ↦ each-at (λ (i : ℕ) (u : Told). u.place ≡ k → i ≡ 1) first_home.down ((λ f. absurd (omega (arith, f, is))), ((λ f. refl), tt)) j t (subst (λ (d : Circuit). At d.down j t) e.1 at) place
+    elim (two-at found_again ended n c here) [
+      | inl e ↦ each-at (λ (i : ℕ) (u : Told). u.place ≡ k → i ≡ 1) found_again.down ((λ f. absurd (omega (arith, f, is))), ((λ f. refl), tt)) j t (subst (λ (d : Circuit). At d.down j t) e.1 at) place
+      | inr e ↦ each-at (λ (i : ℕ) (u : Told). u.place ≡ k → i ≡ 1) ended.down ((λ f. absurd (omega (arith, f, is))), ((λ f. refl), tt)) j t (subst (λ (d : Circuit). At d.down j t) e.1 at) place
     ]
 
 updated-intent : (o p : Outcome) (i : ℕ) (intent : Intent) (q : Outcome) → At (moved_lines o p) i (Updated intent q) → On 0 (Subscribe 0) ≡ intent
@@ -377,7 +377,7 @@ moved-sees o p first later = record {
   ) i _ at refl;
   in_order = λ i intent q by j a t at early here place cause. (
       let m = by.own in
-      let up : At later_home.up by.t.place m.0 = up-at o p by.n by.t.place by.c m.0 by.on.0 m.1 in
+      let up : At found_again.up by.t.place m.0 = up-at o p by.n by.t.place by.c m.0 by.on.0 m.1 in
       let is = (asked-at 0 5 6 5 true shows-5 by.t.place 0 0 m.0 up (m.2 ∙ sym (updated-intent o p i intent q at))).0 in
       let d = about-at o p by.n by.j by.t.place by.c by.t by.on.0 by.read.0 refl is in
       let e = about-at o p by.n j by.t.place by.c t by.on.0 here place is in

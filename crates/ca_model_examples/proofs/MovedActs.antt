@@ -19,7 +19,7 @@ use Rattle.ca_model_examples.proofs.UsedActs.{ask-of, channel-of, is-fine}
 pub no-removal : (value i r : ℕ) → At (moved_entries value) i (Removed r) → ⊥
 no-removal value i r at = (let e = (one-at (Added 0 (valued value)) i _ at).1 in cc)
 
-pub opened-at : (o p : Outcome) (i channel : ℕ) (a : List ℕ) → At (moved_lines o p) i (Opened channel a) → i ≡ 0
+opened-at : (o p : Outcome) (i channel : ℕ) (a : List ℕ) → At (moved_lines o p) i (Opened channel a) → i ≡ 0
 opened-at o p i channel a at =
     each-at (λ (k : ℕ) (l : Line). l ≡ Opened channel a → k ≡ 0) (moved_lines o p) (
       (λ e. refl),
@@ -53,7 +53,7 @@ module _ (server live read value : ℕ) (stays : Bool) where
         ((λ q e. (let f = e.0 in absurd (omega (arith, f)))), tt),
       ) j t at place is
 
-  pub created-on : (k channel : ℕ) → Meant c k (On channel Create) → channel ≡ 0
+  created-on : (k channel : ℕ) → Meant c k (On channel Create) → channel ≡ 0
   created-on k channel m =
       each-at (λ (i : ℕ) (s : Sent). s.intent ≡ On channel Create → channel ≡ 0) c.up ((λ e. ap channel-of (sym e)), ((λ e. absurd cc), tt)) k m.0 m.1 m.2
 
@@ -71,7 +71,7 @@ module _ (server live read value : ℕ) (stays : Bool) where
     (λ l m after early at. no-clear l m (at-take 1 c.up l m at)),
   )
 
-  pub open-now : IsOpen c y 0 0 5 0
+  open-now : IsOpen c y 0 0 5 0
   open-now = (
     (created_told, creating, step 0 1 1, refl, refl, refl, (refl, refl), refl, refl, (valued value, (0, refl), refl, (λ h. no-removal value h.0 0 (at-take 1 y h.0 _ h.1)))),
     (λ i t after at. no-later i t after at),

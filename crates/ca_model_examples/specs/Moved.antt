@@ -15,7 +15,8 @@ valued value = record temp { value = (long value).value }
 abbrev pub moved_entries : (value : ℕ) → List Entry
 moved_entries value = Added 0 (valued value) ∷ []
 
--- The channel is created and subscribed on a circuit to this server; it is told live in one line, and its update is told in another.
+-- The channel is created and subscribed on a circuit to this server, and its update shows this value; it is told live in one line, and the
+-- update is told in another. The client's end stays open or has ended.
 abbrev pub moved : (server live read value : ℕ) → (stays : Bool) → Circuit
 moved server live read value stays =
     record {
@@ -30,22 +31,24 @@ moved server live read value stays =
       server_open = true;
     }
 
--- The channel is live on circuit 1, and its update 7 is read; that circuit ends; the channel is live on circuit 0, and its update 5 is
--- read. The outcomes are those of the two updates.
+-- The channel is live on circuit 1, and its update 7 is read; the client's end of that circuit ends, and the channel is lost; it is live
+-- again on circuit 0, and its update 5 is read. The outcomes are those of the two updates.
 abbrev pub moved_lines : Outcome → Outcome → List Line
 moved_lines o p =
     Opened 0 temp_name ∷ Noticed (On 0 Create) outcome.Done ∷ Called (On 0 (Subscribe 0)) None ∷ Updated (On 0 (Subscribe 0)) o
     ∷ Noticed (On 0 Create) outcome.Disconnected ∷ Noticed (On 0 Create) outcome.Done ∷ Updated (On 0 (Subscribe 0)) p ∷ []
 
-abbrev pub later_home : Circuit
-later_home = moved 0 5 6 5 true
+-- circuit 0, to server 0: there first, and the one on which the channel is found again
+abbrev pub found_again : Circuit
+found_again = moved 0 5 6 5 true
 
-abbrev pub first_home : Circuit
-first_home = moved 1 1 3 7 false
+-- circuit 1, to server 1: the one on which the channel was first, until it ended at the client
+abbrev pub ended : Circuit
+ended = moved 1 1 3 7 false
 
 abbrev pub moved_world : Outcome → Outcome → World
 moved_world o p = record {
-  circuits = later_home ∷ first_home ∷ [];
+  circuits = found_again ∷ ended ∷ [];
   clients = moved_lines o p ∷ [];
   servers = moved_entries 5 ∷ moved_entries 7 ∷ [];
 }
