@@ -20,3 +20,7 @@ pub mod ClientOnly
 pub mod ClientCallEvents
 pub mod ClientEndEvents
 pub mod ClientHears
+pub mod MovedActs
+pub mod MovedOwn
+pub mod MovedLegal
+pub mod Moved

@@ -10,3 +10,4 @@ pub mod ClientRows
 pub mod ClientCallEvents
 pub mod ClientEndEvents
 pub mod ClientHears
+pub mod Moved

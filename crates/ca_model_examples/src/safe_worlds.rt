@@ -6,6 +6,7 @@ ghost use Rattle.ca_model_safe.specs.Legal.{Legal};
 ghost use Rattle.ca_requests.specs.Meaning.{Means};
 ghost use Rattle.ca_model.specs.Updates.{Shows};
 ghost use Rattle.ca_model_examples.specs.Worlds.{AnyDue, ports, rules};
+ghost use Rattle.ca_model_examples.specs.Moved.{moved_world};
 ghost use Rattle.ca_model_examples.specs.Safe.{SeesCrossed, first_update, reopened_world, shared_id, used_world};
 
 /// A channel on which a put was done, a read answered and an update sent is safe, with all that was due.
@@ -29,4 +30,12 @@ pub fn a_shared_id_is_safe_but_not_legal()
 pub fn a_channel_that_comes_back_is_safe_and_legal()
     ensures safe { (o : Outcome) → Means (first_update 1 21).message o → Safe AnyDue Shows Means (reopened_world o) }
     ensures legal { (o : Outcome) → Legal (reopened_world o) }
+{}
+
+/// A channel is live and subscribed on circuit 1, which ends; it is found again at another server, on circuit 0, and is created and subscribed
+/// there under the same ids, so that the updates of circuit 1 come first in the log. That is safe, whatever is due, and legal. The
+/// outcomes are those of the two updates.
+pub fn a_channel_that_moves_to_an_earlier_circuit_is_safe_and_legal()
+    ensures safe { (o p : Outcome) → Means (first_update 1 7).message o → Means (first_update 1 5).message p → Safe AnyDue Shows Means (moved_world o p) }
+    ensures legal { (o p : Outcome) → Legal (moved_world o p) }
 {}
