@@ -15,3 +15,7 @@ pub mod ServerHappens
 pub mod ServerAnswers
 pub mod ReopenedOwn
 pub mod ReopenedRest
+pub mod WaitedActs
+pub mod WaitedOwn
+pub mod WaitedRest
+pub mod WaitedLegal

@@ -6,3 +6,4 @@ pub mod DueReplies
 pub mod ServerWorld
 pub mod ServerHappens
 pub mod ServerAnswers
+pub mod Waited

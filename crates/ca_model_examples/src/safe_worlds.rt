@@ -7,6 +7,7 @@ ghost use Rattle.ca_requests.specs.Meaning.{Means};
 ghost use Rattle.ca_model.specs.Updates.{Shows};
 ghost use Rattle.ca_model_examples.specs.Worlds.{AnyDue, ports, rules};
 ghost use Rattle.ca_model_examples.specs.Safe.{SeesCrossed, first_update, reopened_world, shared_id, used_world};
+ghost use Rattle.ca_model_examples.specs.Waited.{waited_world};
 
 /// A channel on which a put was done, a read answered and an update sent is safe, with all that was due.
 pub fn a_channel_in_use_is_safe()
@@ -29,4 +30,11 @@ pub fn a_shared_id_is_safe_but_not_legal()
 pub fn a_channel_that_comes_back_is_safe_and_legal()
     ensures safe { (o : Outcome) → Means (first_update 1 21).message o → Safe AnyDue Shows Means (reopened_world o) }
     ensures legal { (o : Outcome) → Legal (reopened_world o) }
+{}
+
+/// A put waits for a slow record, and its client begins again before the record is ready: then the put is applied, once, and no one is
+/// told of it. That is safe, whatever is due, and legal.
+pub fn a_put_that_waited_is_applied_after_its_client_began_again()
+    ensures safe { Safe AnyDue Shows Means waited_world }
+    ensures legal { Legal waited_world }
 {}
