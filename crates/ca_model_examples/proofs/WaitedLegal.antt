@@ -1,13 +1,12 @@
 -- What is sent around a put that waited while its client began again is legal.
-use Rattle.std.proofs.Common.{◌≡◌, ℕ, suc, ◌<◌, ◌⊎◌, inl, inr, List, [], refl, sym, ap, arith}
-use Rattle.std.specs.Prelude.{take, Option, None}
+use Rattle.std.proofs.Common.{◌≡◌, ℕ, ◌<◌, ◌⊎◌, inl, inr, refl, sym, arith}
+use Rattle.std.specs.Prelude.{None}
 use Rattle.ca_text.specs.Place.{At}
 use Rattle.ca_text.specs.declared.command.Command.TheVariants as command
-use Rattle.ca_dbr.specs.Elements.{Elements}
 use Rattle.ca_wire.specs.Fields.{Fields}
-use Rattle.ca_model.specs.Speech.{Cid, Clears, Creates, Gives, Id, Ioid, Is, SubId}
+use Rattle.ca_model.specs.Speech.{Cid, Creates, Gives, Id, Ioid, Is, SubId}
 use Rattle.ca_model.specs.Sends.{Conduct, HasChannel, IsDisconnect, IsOnChannel, LegalClient, LegalServer, ReadsBetween, SameIndex}
-use Rattle.ca_model.specs.History.{Intent, On, OfCircuit, Line, Called, Subscribe, Sent}
+use Rattle.ca_model.specs.History.{On, Line, Called, Subscribe, Sent}
 use Rattle.ca_model_safe.specs.Channels.{Meant}
 use Rattle.ca_model_safe.specs.Legal.{IsSent, Legal, LegalCircuit, client_conduct, server_conduct}
 use Rattle.ca_model_examples.specs.Worlds.{created_told, creating}
@@ -70,26 +69,30 @@ OnIts k m =
     × ((Is command.ClearChannel m × (m.p2 ≡ cid))
     ⊎ ((Is command.ClearChannel m → ⊥) × ((l : ℕ) (r : Fields) → j < l → ReadsBetween cl i k l r → IsDisconnect cid r → ⊥)))
 
--- one CID and two IOIDs are given
+-- the ids that are given: one CID and two IOIDs
+cid-at : (l n : ℕ) (r : Fields) → At cl.sent l r → Gives r (Cid n) → l ≡ 0
+cid-at l n r at gives =
+    each-at (λ (i : ℕ) (m : Fields). Gives m (Cid n) → i ≡ 0) cl.sent (
+      (λ g. refl),
+      ((λ g. (let e = g.0 in absurd (omega (arith, e)))), ((λ g. (let e = g.0 in absurd (omega (arith, e)))), tt)),
+    ) l r at gives
+
+ioid-at : (l n : ℕ) (r : Fields) → At cl.sent l r → Gives r (Ioid n) → ((l ≡ 1) × (n ≡ 8)) ⊎ ((l ≡ 2) × (n ≡ 9))
+ioid-at l n r at gives =
+    each-at (λ (i : ℕ) (m : Fields). Gives m (Ioid n) → ((i ≡ 1) × (n ≡ 8)) ⊎ ((i ≡ 2) × (n ≡ 9))) cl.sent (
+      (λ g. absurd (elim g.0 [ inl e ↦ omega (arith, e) | inr e ↦ omega (arith, e) ])),
+      ((λ g. inl (refl, sym g.1)), ((λ g. inr (refl, sym g.1)), tt)),
+    ) l r at gives
+
 ids-differ : (l k : ℕ) (r m : Fields) (a b : Id) → l < k → At cl.sent l r → At cl.sent k m → Gives r a → Gives m b → SameIndex a b → ⊥
-ids-differ l k r m (Cid a) (Cid b) lt p q g h same =
-    let first = λ (i : ℕ) (n : ℕ) (z : Fields) (at : At cl.sent i z) (gives : Gives z (Cid n)).
-        each-at (λ (j : ℕ) (y : Fields). Gives y (Cid n) → j ≡ 0) cl.sent ((λ e. refl), ((λ e. (let f = e.0 in absurd (omega (arith, f)))), ((λ e. (let f = e.0 in absurd (omega (arith, f)))), tt))) i z at gives in
-    let x = first l a r p g in
-    let y = first k b m q h in
-    omega (arith, x, y, lt)
+ids-differ l k r m (Cid a) (Cid b) lt p q g h same = (let e = cid-at l a r p g in let f = cid-at k b m q h in omega (arith, e, f, lt))
 ids-differ l k r m (Ioid a) (Ioid b) lt p q g h same =
-    let given = λ (i : ℕ) (n : ℕ) (z : Fields) (at : At cl.sent i z) (gives : Gives z (Ioid n)).
-        each-at (λ (j : ℕ) (y : Fields). Gives y (Ioid n) → ((j ≡ 1) × (n ≡ 8)) ⊎ ((j ≡ 2) × (n ≡ 9))) cl.sent (
-          (λ e. absurd (elim e.0 [ inl f ↦ omega (arith, f) | inr f ↦ omega (arith, f) ])),
-          ((λ e. inl (refl, sym e.1)), ((λ e. inr (refl, sym e.1)), tt)),
-        ) i z at gives in
-    elim (given l a r p g) [
-      | inl x ↦ elim (given k b m q h) [
+    elim (ioid-at l a r p g) [
+      | inl x ↦ elim (ioid-at k b m q h) [
         | inl y ↦ (let e = x.0 in let f = y.0 in omega (arith, e, f, lt))
         | inr y ↦ (let e = x.1 in let f = y.1 in omega (arith, e, f, same))
       ]
-      | inr x ↦ elim (given k b m q h) [
+      | inr x ↦ elim (ioid-at k b m q h) [
         | inl y ↦ (let e = x.0 in let f = y.0 in omega (arith, e, f, lt))
         | inr y ↦ (let e = x.0 in let f = y.0 in omega (arith, e, f, lt))
       ]

@@ -5,7 +5,7 @@ use Rattle.ca_text.specs.Place.{At}
 use Rattle.ca_text.proofs.Places.{some_is}
 use Rattle.ca_wire.specs.Fields.{Fields}
 use Rattle.ca_model.specs.Speech.{Cid, Gives, Id, Ioid, Speaks, Stored}
-use Rattle.ca_model.specs.History.{Entry, Sent, Told, Step, Reply, Removal, Applied, Waits, Finished}
+use Rattle.ca_model.specs.History.{Entry, Sent, Told, Step, Removal, Applied, Waits, Finished}
 use Rattle.ca_model_safe.specs.Channels.{AreSteps, IsBusyUntil, IsFinished, IsReply, Suits}
 use Rattle.ca_model_safe.specs.Headline.{Answered, AnswersOwn, HasCause, TakesOwn}
 use Rattle.ca_requests.specs.Meaning.{Means}

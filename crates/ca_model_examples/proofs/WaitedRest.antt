@@ -1,5 +1,5 @@
 -- A put that waited while its client began again keeps the clauses on clients' logs, on writes and on subscribers.
-use Rattle.std.proofs.Common.{◌≡◌, ℕ, suc, ◌<◌, ◌⊎◌, inl, inr, List, [], ◌∷◌, refl, sym, ap, subst, ◌∙◌, arith}
+use Rattle.std.proofs.Common.{◌≡◌, ℕ, suc, ◌⊎◌, inl, inr, List, [], ◌∷◌, refl, sym, ap, subst, ◌∙◌, arith}
 use Rattle.std.specs.Prelude.{take, Option, None, pos}
 use Rattle.ca_text.specs.Place.{At}
 use Rattle.ca_dbr.specs.declared.value.Outcome.{Outcome}
@@ -7,7 +7,7 @@ use Rattle.ca_dbr.specs.declared.value.Outcome.TheVariants as outcome
 use Rattle.ca_dbr.specs.Elements.{Elements, longs}
 use Rattle.ca_model.specs.Speech.{In, Stored}
 use Rattle.ca_model.specs.History.{Circuit, Intent, On, OfCircuit, Create, Request, Subscribe, Put, Line, Entry, Sent, Applied, Withdrawn, Finished, Clear, Reply, Called, Noticed, Updated}
-use Rattle.ca_model_safe.specs.Channels.{IsApplied, IsBusyUntil, IsLost, IsOwnWrite, IsRequest, IsUse, Joins, OfCircuits, OfClients, Stands}
+use Rattle.ca_model_safe.specs.Channels.{IsApplied, IsBusyUntil, IsLost, IsOwnWrite, IsUse, Joins, OfCircuits, OfClients, Stands}
 use Rattle.ca_model_safe.specs.Headline.{ActsOnRecord, AnswersOwn, CompletesOnce, FollowsRecord, NotTwice, Reads, Safe, Sees}
 use Rattle.ca_requests.specs.Meaning.{Means}
 use Rattle.ca_model.specs.Updates.{Shows}
@@ -240,12 +240,11 @@ waited-writes = record {
   own = λ n k l i r v a. (let e = applied-is n k l i r v a in owned n k l i r v e.0 e.1);
   finished = λ n k l e y at ends.
       (let z = one-at waited_entries l y at in
-      let f = finished-at e n k (subst (λ (s : List Entry). At s e (Finished n k)) z.1 ends) in
-      (
+      let f = finished-at e n k (subst (λ (s : List Entry). At s e (Finished n k)) z.1 ends) in (
         subst (λ (s : List Entry). IsBusyUntil s n k e) (sym z.1) (
-        subst (λ (a : ℕ). IsBusyUntil waited_entries n k a) (sym f.0) (
-        subst (λ (a : ℕ). IsBusyUntil waited_entries a k 3) (sym f.1) (
-        subst (λ (a : ℕ). IsBusyUntil waited_entries 0 a 3) (sym f.2) first-busy))),
+            subst (λ (a : ℕ). IsBusyUntil waited_entries n k a) (sym f.0) (
+            subst (λ (a : ℕ). IsBusyUntil waited_entries a k 3) (sym f.1) (
+            subst (λ (a : ℕ). IsBusyUntil waited_entries 0 a 3) (sym f.2) first-busy))),
         (λ g there. f.0 ∙ sym (finished-at g n k (subst (λ (s : List Entry). At s g (Finished n k)) z.1 there)).0),
       ));
   done = λ life channel number x at h. absurd (let e : On 0 Create ≡ On channel (Request Put number) = (notice-in life h.0 x _ _ at h.1).0 in cc);

@@ -10,8 +10,8 @@ use Rattle.ca_model_examples.specs.Worlds.{circuit, created_told, creating, long
 abbrev pub slow_temp : RecordState
 slow_temp = record temp { slow = true }
 
--- A channel to TEMP is created; a put of 22 makes TEMP busy, and a put of 23 waits. The client's end ends; then the first put is
--- finished, and its reply is unread.
+-- A channel to TEMP is created; a put of 22 makes TEMP busy, and a put of 23 waits. The client's end has ended; the server's is open,
+-- and the reply to the first put is unread.
 abbrev pub waited : Circuit
 waited =
     record (circuit (creating ∷ putting 0 8 22 ∷ putting 1 9 23 ∷ []) (
@@ -24,10 +24,11 @@ waited_lines =
     Opened 0 temp_name ∷ Noticed (On 0 Create) outcome.Done ∷ Called (On 0 (Request Put 0)) (Some (longs (pos 22 ∷ [])))
     ∷ Called (On 0 (Request Put 1)) (Some (longs (pos 23 ∷ []))) ∷ []
 
+-- The first put is finished, and then the second is applied.
 abbrev pub waited_entries : List Entry
 waited_entries =
     Added 0 slow_temp ∷ Applied 0 1 0 (long 22) true ∷ Waits 0 2 0 (long 23) ∷ Finished 0 1 ∷ Applied 0 2 0 (long 23) true ∷ []
 
--- In its second life nothing happened yet.
+-- The client began again: in its second life nothing happened yet.
 abbrev pub waited_world : World
 waited_world = record { circuits = waited ∷ []; clients = waited_lines ∷ [] ∷ []; servers = waited_entries ∷ [] }

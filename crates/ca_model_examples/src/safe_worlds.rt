@@ -32,8 +32,8 @@ pub fn a_channel_that_comes_back_is_safe_and_legal()
     ensures legal { (o : Outcome) → Legal (reopened_world o) }
 {}
 
-/// A put waits for a slow record, and its client begins again before the record is ready: then the put is applied, once, and no one is
-/// told of it. That is safe, whatever is due, and legal.
+/// A put waits for a slow record while its client begins again. The put that made the record busy is finished, and the put that waited
+/// is applied, once; no caller is told of either. That is safe, whatever is due, and legal.
 pub fn a_put_that_waited_is_applied_after_its_client_began_again()
     ensures safe { Safe AnyDue Shows Means waited_world }
     ensures legal { Legal waited_world }
