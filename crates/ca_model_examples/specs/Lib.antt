@@ -1,4 +1,5 @@
 pub mod Worlds
+pub mod Waited
 pub mod Unsafe
 pub mod Safe
 pub mod ServerRows
@@ -6,4 +7,3 @@ pub mod DueReplies
 pub mod ServerWorld
 pub mod ServerHappens
 pub mod ServerAnswers
-pub mod Waited
