@@ -7,6 +7,10 @@ pub mod UsedRest
 pub mod UsedWhole
 pub mod UsedDue
 pub mod Crossed
+pub mod WaitedActs
+pub mod WaitedOwn
+pub mod WaitedRest
+pub mod WaitedLegal
 pub mod Reopened
 pub mod ReopenedSafe
 pub mod ServerRows

@@ -1,4 +1,5 @@
 pub mod Worlds
+pub mod Waited
 pub mod Unsafe
 pub mod Safe
 pub mod ServerRows

@@ -37,7 +37,8 @@ pub use due_replies::{
 pub use safe_worlds::{
     a_channel_in_use_is_safe, a_channel_that_comes_back_is_safe_and_legal,
     a_channel_that_moves_to_an_earlier_circuit_is_safe_and_legal,
-    a_shared_id_is_safe_but_not_legal, updates_of_two_circuits_may_cross,
+    a_put_that_waited_is_applied_after_its_client_began_again, a_shared_id_is_safe_but_not_legal,
+    updates_of_two_circuits_may_cross,
 };
 pub use server_calls::{
     a_finish_is_answered_if_awaited, a_server_is_found, a_step_answers_why_it_takes_none,

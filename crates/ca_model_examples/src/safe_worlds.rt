@@ -8,6 +8,7 @@ ghost use Rattle.ca_model.specs.Updates.{Shows};
 ghost use Rattle.ca_model_examples.specs.Worlds.{AnyDue, ports, rules};
 ghost use Rattle.ca_model_examples.specs.Moved.{moved_world};
 ghost use Rattle.ca_model_examples.specs.Safe.{SeesCrossed, first_update, reopened_world, shared_id, used_world};
+ghost use Rattle.ca_model_examples.specs.Waited.{waited_world};
 
 /// A channel on which a put was done, a read answered and an update sent is safe, with all that was due.
 pub fn a_channel_in_use_is_safe()
@@ -38,4 +39,11 @@ pub fn a_channel_that_comes_back_is_safe_and_legal()
 pub fn a_channel_that_moves_to_an_earlier_circuit_is_safe_and_legal()
     ensures safe { (o p : Outcome) → Means (first_update 1 7).message o → Means (first_update 1 5).message p → Safe AnyDue Shows Means (moved_world o p) }
     ensures legal { (o p : Outcome) → Legal (moved_world o p) }
+{}
+
+/// A put waits for a slow record while its client begins again. The put that made the record busy is finished, and the put that waited
+/// is applied, once; no caller is told of either. That is safe, whatever is due, and legal.
+pub fn a_put_that_waited_is_applied_after_its_client_began_again()
+    ensures safe { Safe AnyDue Shows Means waited_world }
+    ensures legal { Legal waited_world }
 {}
