@@ -2,3 +2,5 @@ pub mod Lists
 pub mod Flows
 pub mod Settled
 pub mod Replies
+pub mod Tables
+pub mod Requests

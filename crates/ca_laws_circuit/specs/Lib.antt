@@ -1,2 +1,3 @@
 pub mod Flows
 pub mod Replies
+pub mod Held
