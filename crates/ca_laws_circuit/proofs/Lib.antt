@@ -4,3 +4,4 @@ pub mod Settled
 pub mod Replies
 pub mod Tables
 pub mod Requests
+pub mod Told
