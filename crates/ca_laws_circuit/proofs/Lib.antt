@@ -5,3 +5,5 @@ pub mod Replies
 pub mod Tables
 pub mod Requests
 pub mod Told
+pub mod Held
+pub mod Clears

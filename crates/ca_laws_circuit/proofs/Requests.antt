@@ -57,14 +57,13 @@ pub meant-sent : (c : Circuit) (s : Sent) (intent : Intent) (id : Id) → (Gives
 meant-sent c s intent id other m = (m.0, m.1, given-sent c.up s id m.0 m.1 other m.2, m.3)
 
 -- a message that was just sent gave its id last
+pub given-new : (c : Circuit) (s : Sent) (id : Id) (number : ℕ) → Gives s.message id → named id s.intent ≡ Some number → IsGiven (c.up ++ s ∷ []) id (length c.up) number
+given-new c s id number gives is =
+    let len : length (c.up ++ s ∷ []) ≡ length c.up + 1 = length-more c.up s in
+    (s, At-last c.up s, gives, is, λ l r lt at again. (let in_it : l < length (c.up ++ s ∷ []) = At-within (c.up ++ s ∷ []) l r at in omega (arith, lt, in_it, len)))
+
 pub meant-new : (c : Circuit) (s : Sent) (id : Id) (number : ℕ) → Gives s.message id → named id s.intent ≡ Some number → IsMeant (with_sent s c) s.intent id
-meant-new c s id number gives is =
-    let len : length (c.up ++ s ∷ []) ≡ length c.up + 1 = length-more c.up s in (
-      length c.up,
-      number,
-      (s, At-last c.up s, gives, is, λ l r lt at again. (let in_it : l < length (c.up ++ s ∷ []) = At-within (c.up ++ s ∷ []) l r at in omega (arith, lt, in_it, len))),
-      is,
-    )
+meant-new c s id number gives is = (length c.up, number, given-new c s id number gives is, is)
 
 -- the ids that a message gives
 one-ioid : (m : Sent) (a b : ℕ) → Gives m.message (Ioid a) → Gives m.message (Ioid b) → a ≡ b
