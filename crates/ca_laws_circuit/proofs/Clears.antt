@@ -6,7 +6,7 @@ use Rattle.std.proofs.lemmas.List.{length-map}
 use Rattle.ca_text.specs.declared.command.Command.TheVariants as command
 use Rattle.ca_text.specs.Limits.{arena_slots}
 use Rattle.ca_text.specs.Place.{At}
-use Rattle.ca_text.proofs.Places.{some_is, At-last, At-one}
+use Rattle.ca_text.proofs.Places.{some_is, At-last, At-one, At-within}
 use Rattle.ca_arena.specs.declared.handle.Handle.{Handle}
 use Rattle.ca_ids.specs.Table.{Table, same_handle, under, with_changed}
 use Rattle.ca_ids.specs.Wire.{wire_of}
@@ -20,7 +20,7 @@ use Rattle.ca_model.specs.ClientCalls.{all_over, clear_sent, cleared}
 use Rattle.ca_model.specs.Speech.{Id, Cid, Ioid, SubId, Gives}
 use Rattle.ca_model.specs.History.{Circuit, Sent}
 use Rattle.ca_model.specs.History as history
-use Rattle.ca_model_world.specs.ClientEvents.{channel_number, intent_of}
+use Rattle.ca_model_world.specs.ClientEvents.{channel_number, intent_of, meant_by}
 use Rattle.ca_model_world.specs.World.{Names}
 use Rattle.ca_laws_circuit.specs.Flows.{Concerns, IsPending, MaySend, MeansOwn, with_sent}
 use Rattle.ca_laws_circuit.specs.Held.{Holds, HoldsChannels, HoldsRequests, HoldsSubscriptions, IsHeld, has_id, is_asked, is_subscribed}
@@ -139,3 +139,110 @@ over-had on t u d live (Cancelled o) e is =
     subst (λ (s : Stage). (drains_in on s || (stands_in s && unwrap_or (option_map (is_on_in is_subscribed on) (under t d.channel)) false)) ≡ true) (sym e) is
 over-had on t u d live (Ended o) e is =
     subst (λ (s : Stage). (drains_in on s || (stands_in s && unwrap_or (option_map (is_on_in is_subscribed on) (under t d.channel)) false)) ≡ true) (sym e) is
+
+-- ---- all that is held
+
+module _ (Awaits : ℕ → Type 0) (on : Handle) (n : Names) (x : Client) (c : Circuit) (h : Handle) (native : Native) (rights : ℕ) (ch : Channel) (there : under x.channels h ≡ Some ch) (stands : ch.standing ≡ On on (Live native rights)) (holds : Holds Awaits on n x c) where
+  abbrev stamped : Sent
+  stamped = clear_of n native.sid h
+
+  abbrev clearing : Channel → Channel
+  clearing here = record here { standing = On on Clearing }
+
+  abbrev after : Table Channel
+  after = with_changed clearing h x.channels
+
+  is-asked : is_on_in is_asked on ch ≡ true
+  is-asked = is-on is_asked on ch (Live native rights) stands
+
+  clear-may : MaySend Awaits c stamped
+  clear-may = record {
+    suits = refl;
+    fresh = λ p id gives pending. gives-none n native.sid h id gives;
+    means = λ id concerns.
+        let is : id ≡ Cid (wire_of h) = concerns-cid n native.sid h c id concerns in
+        let m = holds.channels.own h ch there is-asked in
+        let k : m.0 < length c.up = At-within c.up m.0 m.2.0 m.2.1 in
+        subst (λ (y : Id). MeansOwn (c.up ++ stamped ∷ []) (length c.up) y) (sym is)
+        (m.0, m.1, stamped, given-sent c.up stamped (Cid (wire_of h)) m.0 m.1 (gives-none n native.sid h (Cid (wire_of h))) m.2, omega (arith, k), At-last c.up stamped, m.3);
+  }
+
+  channels-sent : HoldsChannels Awaits on (channel_number n) x.channels (with_sent stamped c)
+  channels-sent =
+      ids-sent Cid _ Awaits (is_on_in is_asked on) x.channels c stamped (λ m. gives-none n native.sid h (Cid m))
+      (λ m concerns. (h, ch, there, sym (cid-is m (wire_of h) (concerns-cid n native.sid h c (Cid m) concerns)), is-asked)) holds.channels
+
+  channels-cleared : HoldsChannels Awaits on (channel_number n) after (with_sent stamped c)
+  channels-cleared =
+      ids-kept Cid _ Awaits (is_on_in is_asked on) (is_on_in is_asked on) x.channels after (with_sent stamped c)
+      (let e : length after ≡ length x.channels = changed-few clearing x.channels h in let l : length x.channels ≤ arena_slots = holds.channels.few in omega (arith, e, l))
+      (λ p m pending was. elim (handle-or was.0 h) [
+        | inl same ↦ (h, clearing ch, changed-own clearing x.channels h ch there, sym (ap (λ (g : Handle). wire_of g) same) ∙ was.3, is-on is_asked on (clearing ch) Clearing refl)
+        | inr other ↦ (was.0, was.1, changed-other clearing x.channels was.0 h was.1 was.2 other, was.3, was.4)
+      ])
+      (λ g v is yes_it. elim (changed-back clearing x.channels g h v is) [
+        | inl own ↦ (ch, subst (λ (k : Handle). under x.channels k ≡ Some ch) (sym own.0) there, is-asked)
+        | inr other ↦ (v, other.1, yes_it)
+      ])
+      channels-sent
+
+  no-ioid : (m : ℕ) → Ioid m ≡ Cid (wire_of h) → ⊥
+  no-ioid m e = cc
+
+  no-sub : (m : ℕ) → SubId m ≡ Cid (wire_of h) → ⊥
+  no-sub m e = cc
+
+  requests-cleared : HoldsRequests Awaits on (meant_by n.requests) (channel_over h x.requests) (with_sent stamped c)
+  requests-cleared =
+      requests-over on _ Awaits h x.requests (with_sent stamped c)
+      (requests-sent on _ Awaits x.requests c stamped (λ m. gives-none n native.sid h (Ioid m)) holds.requests)
+
+  -- the channel is live in the table before
+  live-there : (d : Subscription) → d.channel ≡ h → unwrap_or (option_map (is_on_in is_subscribed on) (under x.channels d.channel)) false ≡ true
+  live-there d same =
+      ap (λ (g : Handle). unwrap_or (option_map (is_on_in is_subscribed on) (under x.channels g)) false) same
+      ∙ ap (λ (o : Option Channel). unwrap_or (option_map (is_on_in is_subscribed on) o) false) there
+      ∙ is-on is_subscribed on ch (Live native rights) stands
+
+  subscription-kept : (d : Subscription) → has_id x.channels on d ≡ true → has_id after on (monitor.over_on on h d) ≡ true
+  subscription-kept d is = go (is_to h d) refl
+    where
+      go : (b : Bool) → is_to h d ≡ b → has_id after on (cond b (record d { stage = stage_over on d.stage }) d) ≡ true
+      go true to = over-has on x.channels after d is d.stage refl
+      go false to =
+          let other : d.channel ≡ h → ⊥ = λ e. both_ways (is_to h d) to (subst (λ (g : Handle). same_handle d.channel g ≡ true) e (same-itself d.channel)) in
+          other-has on x.channels after d (λ w is_w. changed-other clearing x.channels d.channel h w is_w other) is
+
+  subscription-back : (d : Subscription) → has_id after on (monitor.over_on on h d) ≡ true → has_id x.channels on d ≡ true
+  subscription-back d is = go (is_to h d) refl is
+    where
+      go : (b : Bool) → is_to h d ≡ b → has_id after on (cond b (record d { stage = stage_over on d.stage }) d) ≡ true → has_id x.channels on d ≡ true
+      go true to f = over-had on x.channels after d (live-there d (same-is d.channel h to)) d.stage refl f
+      go false to f =
+          other-has on after x.channels d (λ w is_w. elim (changed-back clearing x.channels d.channel h w is_w) [
+            | inl own ↦ absurd (both_ways (is_to h d) to (subst (λ (g : Handle). same_handle d.channel g ≡ true) own.0 (same-itself d.channel)))
+            | inr old ↦ old.1
+          ]) f
+
+  subscriptions-cleared : HoldsSubscriptions Awaits on (meant_by n.subscriptions) after (monitor.channel_over on h x.subscriptions) (with_sent stamped c)
+  subscriptions-cleared =
+      ids-kept SubId _ Awaits (has_id x.channels on) (has_id after on) x.subscriptions (monitor.channel_over on h x.subscriptions) (with_sent stamped c)
+      (let e : length (monitor.channel_over on h x.subscriptions) ≡ length x.subscriptions = length-map x.subscriptions _ in let l : length x.subscriptions ≤ arena_slots = holds.subscriptions.few in omega (arith, e, l))
+      (λ p m pending was. (was.0, monitor.over_on on h was.1, all-there (monitor.over_on on h) x.subscriptions was.0 was.1 was.2, was.3, subscription-kept was.1 was.4))
+      (λ g v is yes_it.
+      let was = all-back (monitor.over_on on h) x.subscriptions g v is in
+      (was.0, was.1, subscription-back was.0 (subst (λ (d : Subscription). has_id after on d ≡ true) was.2 yes_it)))
+      (ids-sent SubId _ Awaits (has_id x.channels on) x.subscriptions c stamped (λ m. gives-none n native.sid h (SubId m)) (λ m concerns. absurd (no-sub m (concerns-cid n native.sid h c (SubId m) concerns))) holds.subscriptions)
+
+  pub clear-holds : Holds Awaits on n (sending (clear_sent on native.sid h ∷ []) (cleared h (On on (Live native rights)) x)) (with_sent stamped c)
+  clear-holds = record { channels = channels-cleared; requests = requests-cleared; subscriptions = subscriptions-cleared }
+
+  pub clear-may-be-sent : MaySend Awaits c stamped
+  clear-may-be-sent = clear-may
+
+-- the same by the standing that the call found
+pub clears : (Awaits : ℕ → Type 0) (on : Handle) (n : Names) (x : Client) (c : Circuit) (h : Handle) (native : Native) (rights : ℕ) → standing_at x h ≡ Some (On on (Live native rights)) → Holds Awaits on n x c
+    → MaySend Awaits c (clear_of n native.sid h) × Holds Awaits on n (sending (clear_sent on native.sid h ∷ []) (cleared h (On on (Live native rights)) x)) (with_sent (clear_of n native.sid h) c)
+clears Awaits on n x c h native rights is holds =
+    let found = found-standing x h (On on (Live native rights)) is in
+    (clear-may-be-sent Awaits on n x c h native rights found.0 found.1 found.2 holds, clear-holds Awaits on n x c h native rights found.0 found.1 found.2 holds)
