@@ -23,7 +23,7 @@ use Rattle.ca_model.specs.History as history
 use Rattle.ca_model_world.specs.ClientEvents.{channel_number, intent_of, meant_by}
 use Rattle.ca_model_world.specs.World.{Names}
 use Rattle.ca_laws_circuit.specs.Flows.{Concerns, IsPending, MaySend, MeansOwn, with_sent}
-use Rattle.ca_laws_circuit.specs.Held.{Holds, HoldsChannels, HoldsRequests, HoldsSubscriptions, IsHeld, has_id, is_asked, is_subscribed}
+use Rattle.ca_laws_circuit.specs.Held.{clear_of, Holds, HoldsChannels, HoldsRequests, HoldsSubscriptions, IsHeld, has_id, is_asked, is_subscribed}
 use Rattle.ca_laws_circuit.proofs.Flows.{given-sent}
 use Rattle.ca_laws_circuit.proofs.Held.{ids-kept, ids-sent}
 use Rattle.ca_laws_circuit.proofs.Requests.{requests-over, requests-sent}
@@ -68,10 +68,6 @@ pub is-on : (test : Phase → Bool) (on : Handle) (ch : Channel) (p : Phase) →
 is-on test on ch p is =
     ap (λ (s : Standing). unwrap_or (option_map test (phase_on on s)) false) is
     ∙ ap (λ (b : Bool). unwrap_or (option_map test (cond b (Some p) None)) false) (same-itself on)
-
--- the CLEAR_CHANNEL of a channel, as the world stamps it
-abbrev pub clear_of : Names → (sid : ℕ) → Handle → Sent
-clear_of n sid h = record { message = clear_request sid (wire_of h); intent = history.On (channel_number n h) history.Clear }
 
 gives-none : (n : Names) (sid : ℕ) (h : Handle) (id : Id) → Gives (clear_of n sid h).message id → ⊥
 gives-none n sid h (Cid m) g = (let e : ◌≡◌ {A = ℕ} 12 18 = g.0 in omega (arith, e))

@@ -7,3 +7,4 @@ pub mod Requests
 pub mod Told
 pub mod Held
 pub mod Clears
+pub mod Sids

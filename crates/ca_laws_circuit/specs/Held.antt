@@ -4,11 +4,12 @@ use Rattle.ca_text.specs.Limits.{arena_slots}
 use Rattle.ca_arena.specs.declared.handle.Handle.{Handle}
 use Rattle.ca_ids.specs.Table.{Table, under}
 use Rattle.ca_ids.specs.Wire.{wire_of}
+use Rattle.ca_wire.specs.Messages.{clear_request}
 use Rattle.ca_requests.specs.Requests.{Request, was_sent_on}
 use Rattle.ca_monitor.specs.Subscriptions.{Subscription, drains_in, stands_in}
 use Rattle.ca_model.specs.Client.{Channel, Client, Connecting, Leaving, Live, Phase, is_on_in}
 use Rattle.ca_model.specs.Speech.{Cid, Id, Ioid, SubId}
-use Rattle.ca_model.specs.History.{Circuit, Create, Intent, On}
+use Rattle.ca_model.specs.History.{Circuit, Clear, Create, Intent, On, Sent}
 use Rattle.ca_model_safe.specs.Channels.{named}
 use Rattle.ca_model_world.specs.ClientEvents.{channel_number, meant_by}
 use Rattle.ca_model_world.specs.World.{Names}
@@ -68,3 +69,7 @@ pub record Holds (Awaits : ℕ → Type 0) (on : Handle) (n : Names) (x : Client
   pub channels : HoldsChannels Awaits on (channel_number n) x.channels c
   pub requests : HoldsRequests Awaits on (meant_by n.requests) x.requests c
   pub subscriptions : HoldsSubscriptions Awaits on (meant_by n.subscriptions) x.channels x.subscriptions c
+
+-- the CLEAR_CHANNEL of a channel, as the world stamps it
+abbrev pub clear_of : Names → (sid : ℕ) → Handle → Sent
+clear_of n sid h = record { message = clear_request sid (wire_of h); intent = On (channel_number n h) Clear }

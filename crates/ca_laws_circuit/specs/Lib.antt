@@ -1,3 +1,4 @@
 pub mod Flows
 pub mod Replies
 pub mod Held
+pub mod Sids

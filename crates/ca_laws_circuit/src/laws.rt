@@ -1,4 +1,4 @@
-ghost use Rattle.std.specs.Prelude.{◌≡◌, ◌<◌, ◌≤◌, ◌⊎◌, Bool, List, Some, false, length, true, ℕ};
+ghost use Rattle.std.specs.Prelude.{[], ◌≡◌, ◌<◌, ◌≤◌, ◌⊎◌, ◌∷◌, Bool, List, Some, false, length, take, true, ℕ};
 ghost use Rattle.ca_text.specs.declared.command.Command.TheVariants.{EventAdd, CreateChannel, Write, WriteNotify};
 ghost use Rattle.ca_text.specs.Limits.{arena_slots};
 ghost use Rattle.ca_text.specs.Place.{At};
@@ -11,14 +11,19 @@ ghost use Rattle.ca_ids.specs.Table.{MayGive, Table, by_wire, under, with_all, w
 ghost use Rattle.ca_ids.specs.Wire.{wire_of};
 ghost use Rattle.ca_records.specs.Puts.{Put};
 ghost use Rattle.ca_requests.specs.Requests.{Request, channel_over, was_sent_on};
+ghost use Rattle.ca_model.specs.Client.{Client, Live, Native, sending, standing_at};
+ghost use Rattle.ca_model.specs.Client as standing;
+ghost use Rattle.ca_model.specs.ClientCalls.{clear_sent, cleared};
 ghost use Rattle.ca_model.specs.Due.{Action, Due, Knows};
-ghost use Rattle.ca_model.specs.History.{Circuit, Intent, Reply, Sent, Step, Told};
+ghost use Rattle.ca_model.specs.History.{Ask, Circuit, Create, Entry, Intent, On, Reply, Sent, Step, Told};
 ghost use Rattle.ca_model.specs.ServerCalls.{finish_reply};
-ghost use Rattle.ca_model.specs.Speech.{Gives, Id, In, Ioid, Is, Speaks, Stored};
+ghost use Rattle.ca_model.specs.Speech.{Creates, Gives, Id, In, Ioid, Is, Speaks, Stored, name_in, sid_in};
 ghost use Rattle.ca_model.specs.Updates.{ShowsTo};
-ghost use Rattle.ca_model_safe.specs.Channels.{named};
+ghost use Rattle.ca_model_safe.specs.Channels.{Has, IsOpen, before, named};
+ghost use Rattle.ca_model_world.specs.World.{Names};
 ghost use Rattle.ca_laws_circuit.specs.Flows.{Awaits, Concerns, Flows, IsCidOf, IsGiven, IsLast, IsPending, MaySend, MayTell, NoMore, with_handled, with_heard, with_sent, with_told};
-ghost use Rattle.ca_laws_circuit.specs.Held.{HoldsRequests};
+ghost use Rattle.ca_laws_circuit.specs.Held.{Holds, HoldsRequests, clear_of};
+ghost use Rattle.ca_laws_circuit.specs.Sids.{IsLiveBefore, MayCreate, Sids};
 ghost use Rattle.ca_laws_circuit.specs.Replies.{IsCidAt, IsOfMessage};
 
 /// The ids that are in flight on a circuit mean what they were sent for, however its lists grow.
@@ -93,4 +98,20 @@ pub fn requests_hold_their_ids()
     // A channel is over, and its requests drain; those of which nothing may still come are freed.
     ensures over { (kept : List ℕ) (on channel : Handle) (meant : Handle → Intent) (t : Table Request) (c : Circuit) → HoldsRequests (Awaits c kept) on meant t c → HoldsRequests (Awaits c kept) on meant (channel_over channel t) c }
     ensures freed { (kept : List ℕ) (on : Handle) (meant : Handle → Intent) (frees : Request → Bool) (t : Table Request) (c : Circuit) → ((p n : ℕ) (q : Handle) (r : Request) → IsPending (Awaits c kept) c p (Ioid n) → under t q ≡ Some r → wire_of q ≡ n → was_sent_on on r ≡ true → frees r ≡ false) → HoldsRequests (Awaits c kept) on meant t c → HoldsRequests (Awaits c kept) on meant (with_all_freed frees t) c }
+{}
+
+/// What the SIDs in a client's messages mean on a circuit, as its lists grow: each message on a channel has the SID under which that is live. So it is
+/// handled on the channel that was meant, and under one SID one channel is live.
+pub fn sids_mean_their_channel()
+    ensures sent { (c : Circuit) (s : Sent) → ((channel : ℕ) (ask : Ask) → s.intent ≡ On channel ask → (ask ≡ Create → ⊥) → (j k : ℕ) × IsLiveBefore c channel j k (sid_in s.message) (length c.up)) → Sids c → Sids (with_sent s c) }
+    ensures read { (c : Circuit) (g : Step) → g.sent ≡ length c.up → length c.handled ≤ length c.up → length c.heard < length c.down → Sids c → Sids (with_heard g c) }
+    ensures handled { (c : Circuit) (h : Step) → h.sent ≡ length c.down → Sids c → Sids (with_handled h c) }
+    ensures told { (c : Circuit) (t : Told) → t.place < length c.handled → ((sid : ℕ) → Creates t.message sid → MayCreate c sid t.place) → Sids c → Sids (with_told t c) }
+    ensures one { (c : Circuit) (a b i j k l sid at : ℕ) → Sids c → IsLiveBefore c a i k sid at → IsLiveBefore c b j l sid at → (i ≡ j) × (k ≡ l) }
+    ensures acts { (c : Circuit) (y : List Entry) (p channel : ℕ) (s : Sent) (ask : Ask) (h : Step) → Sids c → At c.up p s → s.intent ≡ On channel ask → (ask ≡ Create → ⊥) → At c.handled p h → (j k : ℕ) × (t : Told) × (q : Sent) × At c.down j t × (t.place ≡ k) × At c.up k q × (q.intent ≡ On channel Create) × ((r : ℕ) (g : Step) → At c.handled k g → Has (take g.logged (take h.logged y)) r (name_in q.message) → IsOpen (before c p h) (take h.logged y) j k (sid_in s.message) r) }
+{}
+
+/// A caller clears a live channel: its CLEAR_CHANNEL may be sent, and what the client's tables hold of the circuit stays so.
+pub fn a_clear_keeps_what_is_held()
+    ensures { (kept : List ℕ) (on : Handle) (n : Names) (x : Client) (c : Circuit) (h : Handle) (native : Native) (rights : ℕ) → standing_at x h ≡ Some (standing.On on (Live native rights)) → Holds (Awaits c kept) on n x c → MaySend (Awaits c kept) c (clear_of n native.sid h) × Holds (Awaits c kept) on n (sending (clear_sent on native.sid h ∷ []) (cleared h (standing.On on (Live native rights)) x)) (with_sent (clear_of n native.sid h) c) }
 {}
