@@ -8,3 +8,4 @@ pub mod Told
 pub mod Held
 pub mod Clears
 pub mod Sids
+pub mod Steps
