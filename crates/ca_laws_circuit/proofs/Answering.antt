@@ -60,10 +60,11 @@ due-answers c now s k replies action at suits fits due writes gone over = record
     | inr (inr two) ↦
         let same : two.0 ∷ two.1 ∷ [] ≡ m ∷ q ∷ [] = sym two.2 ∙ is in
         let first : m.command ≡ 22 = ap (λ (x : Fields). x.command) (sym (first-is two.0 two.1 m q same)) ∙ two.3 in
-        let second : q.command ≡ 18 = ap (λ (x : Fields). x.command) (sym (second-is two.0 two.1 m q same)) ∙ two.4 in
-        (creates-last s.intent s.message m suits two.5 (λ e. (let f : ◌≡◌ {A = ℕ} 22 26 = sym first ∙ e in omega (arith, f))),
+        let second : q.command ≡ 18 = ap (λ (x : Fields). x.command) (sym (second-is two.0 two.1 m q same)) ∙ two.4 in (
+          creates-last s.intent s.message m suits two.5 (λ e. (let f : ◌≡◌ {A = ℕ} 22 26 = sym first ∙ e in omega (arith, f))),
           creates-last s.intent s.message q suits two.5 (λ e. (let f : ◌≡◌ {A = ℕ} 18 26 = sym second ∙ e in omega (arith, f))),
-          λ other ends. creates-ends s.intent other s.message suits two.5 ends)
+          λ other ends. creates-ends s.intent other s.message suits two.5 ends,
+        )
   ];
   few = λ m q r rest is. elim (due-few k s.message replies action due) [
     | inl none ↦ no-more m q r rest (sym none ∙ is)

@@ -10,3 +10,4 @@ pub mod Clears
 pub mod Sids
 pub mod Steps
 pub mod Answering
+pub mod Calls

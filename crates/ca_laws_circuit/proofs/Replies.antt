@@ -511,19 +511,40 @@ module _ (k : Knows) (m : Fields) (replies : List Fields) (action : Action) wher
   few-known due known =
       any-of m.command commands known FewWhen (each-at FewWhen commands (
         (λ e. maybe-few k.greeted version_reply (due.version e).0),
-        (few-subscribe due, (
-          (λ e. inr (inl (cancel_reply m, (due.cancel e).0))),
-          (few-write due, (few-search due, (
-            (λ e. inl (due.off e).0),
-            ((λ e. inl (due.on e).0), (
-              (λ e. inr (inl (cleared_reply m, (due.clear e).0))),
-              (few-read due, (few-create due, (few-put due, (
-                (λ e. inl (due.user e).0),
-                ((λ e. inl (due.host e).0), ((λ e. inr (inl (bare command.Echo, (due.echo e).0))), tt)),
-              )))),
-            )),
-          ))),
-        )),
+        (
+          few-subscribe due,
+          (
+            (λ e. inr (inl (cancel_reply m, (due.cancel e).0))),
+            (
+              few-write due,
+              (
+                few-search due,
+                (
+                  (λ e. inl (due.off e).0),
+                  (
+                    (λ e. inl (due.on e).0),
+                    (
+                      (λ e. inr (inl (cleared_reply m, (due.clear e).0))),
+                      (
+                        few-read due,
+                        (
+                          few-create due,
+                          (
+                            few-put due,
+                            (
+                              (λ e. inl (due.user e).0),
+                              ((λ e. inl (due.host e).0), ((λ e. inr (inl (bare command.Echo, (due.echo e).0))), tt)),
+                            ),
+                          ),
+                        ),
+                      ),
+                    ),
+                  ),
+                ),
+              ),
+            ),
+          ),
+        ),
       )) refl
 
   pub due-few : DueSo → AreFew
