@@ -19,14 +19,10 @@ use Rattle.ca_model_safe.specs.Channels.{Suits, named}
 use Rattle.ca_model_world.specs.ClientEvents.{meant_by}
 use Rattle.ca_model_world.specs.World.{Names}
 use Rattle.ca_laws_circuit.specs.Flows.{Concerns, IsPending, MaySend, MeansOwn, with_sent}
-use Rattle.ca_laws_circuit.specs.Held.{Holds, HoldsRequests, IsMeant, has_id, is_asked}
+use Rattle.ca_laws_circuit.specs.Held.{Holds, HoldsRequests, IsAsking, IsMeant, IsNew, has_id, is_asked, with_request}
 use Rattle.ca_laws_circuit.proofs.Clears.{same-itself}
 use Rattle.ca_laws_circuit.proofs.Held.{ids-sent}
 use Rattle.ca_laws_circuit.proofs.Requests.{given-new, issue-fresh, requests-issued}
-
--- a message that asks for an answer gives its IOID, and concerns that alone
-abbrev pub IsAsking : Sent → Type 0
-IsAsking s = Is command.ReadNotify s.message ⊎ Is command.WriteNotify s.message
 
 not-asking : (s : Sent) (a : ℕ) → IsAsking s → s.message.command ≡ a → (15 ≡ a → ⊥) → (19 ≡ a → ⊥) → ⊥
 not-asking s a is e no15 no19 = elim is [
@@ -60,14 +56,6 @@ no-sub : (a b : ℕ) → SubId a ≡ Ioid b → ⊥
 no-sub a b e = cc
 
 -- ---- names
-
--- the names with one request more
-abbrev pub with_request : Handle → Intent → Names → Names
-with_request q intent n = record n { requests = n.requests ++ (q, intent) ∷ [] }
-
--- no request has this handle yet
-abbrev pub IsNew : List (Handle × Intent) → Handle → Type 0
-IsNew named q = find (λ (x : Handle × Intent). same_handle x.0 q) named ≡ None
 
 find-more : (named : List (Handle × Intent)) (y : Handle × Intent) (g : Handle) (o : Option (Handle × Intent)) → find (λ (x : Handle × Intent). same_handle x.0 g) named ≡ o
     → find (λ (x : Handle × Intent). same_handle x.0 g) (named ++ y ∷ []) ≡ cond (is_some o) o (find (λ (x : Handle × Intent). same_handle x.0 g) (y ∷ []))
