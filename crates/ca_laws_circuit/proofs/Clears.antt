@@ -148,7 +148,7 @@ module _ (Awaits : ℕ → Type 0) (on : Handle) (n : Names) (x : Client) (c : C
   abbrev after : Table Channel
   after = with_changed clearing h x.channels
 
-  is-asked : is_on_in is_asked on ch ≡ true
+  pub is-asked : is_on_in is_asked on ch ≡ true
   is-asked = is-on is_asked on ch (Live native rights) stands
 
   clear-may : MaySend Awaits c stamped
@@ -163,7 +163,7 @@ module _ (Awaits : ℕ → Type 0) (on : Handle) (n : Names) (x : Client) (c : C
         (m.0, m.1, stamped, given-sent c.up stamped (Cid (wire_of h)) m.0 m.1 (gives-none n native.sid h (Cid (wire_of h))) m.2, omega (arith, k), At-last c.up stamped, m.3);
   }
 
-  channels-sent : HoldsChannels Awaits on (channel_number n) x.channels (with_sent stamped c)
+  pub channels-sent : HoldsChannels Awaits on (channel_number n) x.channels (with_sent stamped c)
   channels-sent =
       ids-sent Cid _ Awaits (is_on_in is_asked on) x.channels c stamped (λ m. gives-none n native.sid h (Cid m))
       (λ m concerns. (h, ch, there, sym (cid-is m (wire_of h) (concerns-cid n native.sid h c (Cid m) concerns)), is-asked)) holds.channels
@@ -188,7 +188,7 @@ module _ (Awaits : ℕ → Type 0) (on : Handle) (n : Names) (x : Client) (c : C
   no-sub : (m : ℕ) → SubId m ≡ Cid (wire_of h) → ⊥
   no-sub m e = cc
 
-  requests-cleared : HoldsRequests Awaits on (meant_by n.requests) (channel_over h x.requests) (with_sent stamped c)
+  pub requests-cleared : HoldsRequests Awaits on (meant_by n.requests) (channel_over h x.requests) (with_sent stamped c)
   requests-cleared =
       requests-over on _ Awaits h x.requests (with_sent stamped c)
       (requests-sent on _ Awaits x.requests c stamped (λ m. gives-none n native.sid h (Ioid m)) holds.requests)
@@ -220,6 +220,11 @@ module _ (Awaits : ℕ → Type 0) (on : Handle) (n : Names) (x : Client) (c : C
             | inr old ↦ old.1
           ]) f
 
+  pub subscriptions-sent : HoldsSubscriptions Awaits on (meant_by n.subscriptions) x.channels x.subscriptions (with_sent stamped c)
+  subscriptions-sent =
+      ids-sent SubId _ Awaits (has_id x.channels on) x.subscriptions c stamped (λ m. gives-none n native.sid h (SubId m))
+      (λ m concerns. absurd (no-sub m (concerns-cid n native.sid h c (SubId m) concerns))) holds.subscriptions
+
   subscriptions-cleared : HoldsSubscriptions Awaits on (meant_by n.subscriptions) after (monitor.channel_over on h x.subscriptions) (with_sent stamped c)
   subscriptions-cleared =
       ids-kept SubId _ Awaits (has_id x.channels on) (has_id after on) x.subscriptions (monitor.channel_over on h x.subscriptions) (with_sent stamped c)
@@ -228,7 +233,7 @@ module _ (Awaits : ℕ → Type 0) (on : Handle) (n : Names) (x : Client) (c : C
       (λ g v is yes_it.
       let was = all-back (monitor.over_on on h) x.subscriptions g v is in
       (was.0, was.1, subscription-back was.0 (subst (λ (d : Subscription). has_id after on d ≡ true) was.2 yes_it)))
-      (ids-sent SubId _ Awaits (has_id x.channels on) x.subscriptions c stamped (λ m. gives-none n native.sid h (SubId m)) (λ m concerns. absurd (no-sub m (concerns-cid n native.sid h c (SubId m) concerns))) holds.subscriptions)
+      subscriptions-sent
 
   pub clear-holds : Holds Awaits on n (sending (clear_sent on native.sid h ∷ []) (cleared h (On on (Live native rights)) x)) (with_sent stamped c)
   clear-holds = record { channels = channels-cleared; requests = requests-cleared; subscriptions = subscriptions-cleared }

@@ -11,3 +11,4 @@ pub mod Sids
 pub mod Steps
 pub mod Answering
 pub mod Calls
+pub mod Heard
