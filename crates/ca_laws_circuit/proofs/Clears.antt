@@ -1,29 +1,24 @@
 -- A caller clears a live channel: its CLEAR_CHANNEL goes out, its CID and the ids of its requests and subscriptions drain.
-use Rattle.std.proofs.Common.{◌≡◌, ℕ, ◌+◌, ◌<◌, ◌≤◌, ◌⊎◌, inl, inr, Bool, true, false, not, ◌&&◌, ◌||◌, cond, eqb, List, [], ◌∷◌, ◌++◌, length, Option, Some, None, refl, sym, ap, ◌∙◌, subst, arith}
+use Rattle.std.proofs.Common.{◌≡◌, ℕ, ◌<◌, ◌≤◌, ◌⊎◌, inl, inr, Bool, true, false, ◌&&◌, ◌||◌, cond, eqb, [], ◌∷◌, ◌++◌, length, Option, Some, None, refl, sym, ap, ◌∙◌, subst, arith}
 use Rattle.std.specs.Prelude.{option_and_then, option_map, unwrap_or}
 use Rattle.std.proofs.lemmas.Bool.{and_from, and_parts, both_ways, cases_Bool, eq-eqb, eqb-true, or_cases, or_left, or_right}
 use Rattle.std.proofs.lemmas.List.{length-map}
-use Rattle.ca_text.specs.declared.command.Command.TheVariants as command
 use Rattle.ca_text.specs.Limits.{arena_slots}
-use Rattle.ca_text.specs.Place.{At}
 use Rattle.ca_text.proofs.Places.{some_is, At-last, At-one, At-within}
 use Rattle.ca_arena.specs.declared.handle.Handle.{Handle}
 use Rattle.ca_ids.specs.Table.{Table, same_handle, under, with_changed}
 use Rattle.ca_ids.specs.Wire.{wire_of}
-use Rattle.ca_wire.specs.Messages.{clear_request}
 use Rattle.ca_monitor.specs.Subscriptions.{Stage, Stands, Cancelled, Ended, Subscription, drains_in, is_to, stage_over, stands_in}
 use Rattle.ca_monitor.specs.Subscriptions as monitor
 use Rattle.ca_requests.specs.Requests.{channel_over}
-use Rattle.ca_model.specs.Answers as aim
 use Rattle.ca_model.specs.Client.{Channel, Client, Clearing, Live, Native, On, Phase, Searching, Standing, is_cleared, is_on_in, phase_on, sending, standing_at, standing_unless_cleared}
-use Rattle.ca_model.specs.ClientCalls.{all_over, clear_sent, cleared}
+use Rattle.ca_model.specs.ClientCalls.{clear_sent, cleared}
 use Rattle.ca_model.specs.Speech.{Id, Cid, Ioid, SubId, Gives}
 use Rattle.ca_model.specs.History.{Circuit, Sent}
-use Rattle.ca_model.specs.History as history
-use Rattle.ca_model_world.specs.ClientEvents.{channel_number, intent_of, meant_by}
+use Rattle.ca_model_world.specs.ClientEvents.{channel_number, meant_by}
 use Rattle.ca_model_world.specs.World.{Names}
-use Rattle.ca_laws_circuit.specs.Flows.{Concerns, IsPending, MaySend, MeansOwn, with_sent}
-use Rattle.ca_laws_circuit.specs.Held.{clear_of, Holds, HoldsChannels, HoldsRequests, HoldsSubscriptions, IsHeld, has_id, is_asked, is_subscribed}
+use Rattle.ca_laws_circuit.specs.Flows.{Concerns, MaySend, MeansOwn, with_sent}
+use Rattle.ca_laws_circuit.specs.Held.{clear_of, Holds, HoldsChannels, HoldsRequests, HoldsSubscriptions, has_id, is_asked, is_subscribed}
 use Rattle.ca_laws_circuit.proofs.Flows.{given-sent}
 use Rattle.ca_laws_circuit.proofs.Held.{ids-kept, ids-sent}
 use Rattle.ca_laws_circuit.proofs.Requests.{requests-over, requests-sent}

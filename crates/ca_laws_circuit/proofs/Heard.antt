@@ -1,5 +1,5 @@
 -- What a client reads: the reply to a request, and that a channel's record was removed.
-use Rattle.std.proofs.Common.{◌≡◌, ℕ, ◌+◌, ◌<◌, ◌≤◌, ◌⊎◌, inl, inr, Bool, true, false, ◌&&◌, ◌||◌, cond, eqb, List, [], ◌∷◌, ◌++◌, length, Option, Some, None, refl, sym, ap, ◌∙◌, subst, arith}
+use Rattle.std.proofs.Common.{◌≡◌, ℕ, ◌≤◌, ◌⊎◌, inl, inr, Bool, true, false, ◌&&◌, cond, eqb, [], ◌∷◌, length, Option, Some, None, refl, sym, ap, ◌∙◌, subst, arith}
 use Rattle.std.specs.Prelude.{option_and_then, option_map, unwrap_or}
 use Rattle.std.proofs.lemmas.Bool.{and_from, and_parts, both_ways, or_cases, or_left, or_right}
 use Rattle.ca_text.specs.Command.{command_number}
@@ -16,7 +16,7 @@ use Rattle.ca_requests.specs.Requests.{Request, answered_by, channel_over, comma
 use Rattle.ca_model.specs.Client.{Channel, Client, Leaving, Live, Native, On, Phase, Searching, Standing, channel_on, is_on_in, phase_on, sending, with_requests, with_standing}
 use Rattle.ca_model.specs.ClientCalls.{clear_sent}
 use Rattle.ca_model.specs.Hears.{without_request}
-use Rattle.ca_model.specs.Speech.{Id, Cid, Ioid, SubId, Gives, Is, Speaks}
+use Rattle.ca_model.specs.Speech.{Cid, Ioid, SubId, Gives, Is, Speaks}
 use Rattle.ca_model.specs.History.{Ask, Circuit, Intent, Reply, Sent, Step, Told}
 use Rattle.ca_model.specs.History as history
 use Rattle.ca_model_safe.specs.Channels.{Suits, named}
@@ -24,11 +24,11 @@ use Rattle.ca_model_world.specs.ClientEvents.{channel_number, meant_by}
 use Rattle.ca_model_world.specs.World.{Names}
 use Rattle.ca_laws_circuit.specs.Flows.{Flows, IsLast, MaySend, with_heard, with_sent}
 use Rattle.ca_laws_circuit.specs.Held.{Holds, HoldsChannels, HoldsSubscriptions, clear_of, has_id, is_asked, is_subscribed}
-use Rattle.ca_laws_circuit.proofs.Clears.{channels-sent, clear-may-be-sent, handle-or, is-on, requests-cleared, same-is, same-itself, subscriptions-sent}
+use Rattle.ca_laws_circuit.proofs.Clears.{channels-sent, clear-may-be-sent, handle-or, is-on, requests-cleared, same-is, subscriptions-sent}
 use Rattle.ca_laws_circuit.proofs.Held.{ids-heard, ids-kept}
 use Rattle.ca_laws_circuit.proofs.Requests.{requests-replied}
 use Rattle.ca_laws_circuit.proofs.Settled.{ioid-gives, read-means}
-use Rattle.ca_laws_circuit.proofs.Tables.{changed-back, changed-few, changed-other, changed-own, one-value, wire-under}
+use Rattle.ca_laws_circuit.proofs.Tables.{changed-back, changed-few, changed-other, changed-own, wire-under}
 
 -- a message was read: what is held stays so
 pub holds-heard : (Awaits : ℕ → Type 0) (on : Handle) (n : Names) (x : Client) (c : Circuit) (g : Step) → Holds Awaits on n x c → Holds Awaits on n x (with_heard g c)
@@ -118,7 +118,7 @@ channel-on x on cid h p is = go (by_wire x.channels cid) refl is
         (e.1, subst (λ (k : Handle). under x.channels k ≡ Some e.1) r.0 there.0, sym (ap (λ (k : Handle). wire_of k) r.0) ∙ there.1, r.1)
 
 -- a subscription has its id if its channel passes in the other table too
-has-too : (on : Handle) (t u : Table Channel) (d : Subscription) → ((w : Channel) → under t d.channel ≡ Some w → is_on_in is_subscribed on w ≡ true → (v : Channel) × (under u d.channel ≡ Some v) × (is_on_in is_subscribed on v ≡ true))
+pub has-too : (on : Handle) (t u : Table Channel) (d : Subscription) → ((w : Channel) → under t d.channel ≡ Some w → is_on_in is_subscribed on w ≡ true → (v : Channel) × (under u d.channel ≡ Some v) × (is_on_in is_subscribed on v ≡ true))
     → has_id t on d ≡ true → has_id u on d ≡ true
 has-too on t u d too is =
     elim (or_cases (drains_in on d.stage) (stands_in d.stage && unwrap_or (option_map (is_on_in is_subscribed on) (under t d.channel)) false) is) [

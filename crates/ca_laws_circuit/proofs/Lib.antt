@@ -12,3 +12,4 @@ pub mod Steps
 pub mod Answering
 pub mod Calls
 pub mod Heard
+pub mod Answered

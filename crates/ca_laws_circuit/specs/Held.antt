@@ -2,6 +2,7 @@
 use Rattle.std.specs.Prelude.{ℕ, ◌≡◌, ◌≤◌, ◌⊎◌, ◌&&◌, ◌||◌, ◌++◌, Bool, true, false, List, [], ◌∷◌, Some, None, find, length, option_map, unwrap_or}
 use Rattle.ca_text.specs.declared.command.Command.TheVariants as command
 use Rattle.ca_text.specs.Limits.{arena_slots}
+use Rattle.ca_text.specs.Place.{At}
 use Rattle.ca_arena.specs.declared.handle.Handle.{Handle}
 use Rattle.ca_ids.specs.Table.{Table, same_handle, under}
 use Rattle.ca_ids.specs.Wire.{wire_of}
@@ -9,8 +10,8 @@ use Rattle.ca_wire.specs.Messages.{clear_request}
 use Rattle.ca_requests.specs.Requests.{Request, was_sent_on}
 use Rattle.ca_monitor.specs.Subscriptions.{Subscription, drains_in, stands_in}
 use Rattle.ca_model.specs.Client.{Channel, Client, Connecting, Leaving, Live, Phase, is_on_in}
-use Rattle.ca_model.specs.Speech.{Cid, Id, Ioid, Is, SubId}
-use Rattle.ca_model.specs.History.{Circuit, Clear, Create, Intent, On, Sent}
+use Rattle.ca_model.specs.Speech.{Cid, Gives, Id, Ioid, Is, SubId}
+use Rattle.ca_model.specs.History.{Ask, Circuit, Clear, Create, Intent, On, Sent}
 use Rattle.ca_model_safe.specs.Channels.{named}
 use Rattle.ca_model_world.specs.ClientEvents.{channel_number, meant_by}
 use Rattle.ca_model_world.specs.World.{Names}
@@ -88,3 +89,11 @@ with_request q intent n = record n { requests = n.requests ++ (q, intent) ∷ []
 -- nothing has this handle as a name yet
 abbrev pub IsNew : List (Handle × Intent) → Handle → Type 0
 IsNew named q = find (λ (x : Handle × Intent). same_handle x.0 q) named ≡ None
+
+-- ---- what names and lists have in common: a request and a subscription are on one channel. (Plain writes have numbers of their own.)
+
+pub record OnChannels (n : Names) (x : Client) (c : Circuit) : Type 0 where
+  pub requests : (p number : ℕ) (s : Sent) (q : Handle) (r : Request) → At c.up p s → Gives s.message (Ioid (wire_of q)) → under x.requests q ≡ Some r
+      → named (Ioid (wire_of q)) s.intent ≡ Some number → named (Ioid (wire_of q)) (meant_by n.requests q) ≡ Some number → (ask : Ask) × (s.intent ≡ On (channel_number n r.channel) ask)
+  pub subscriptions : (p number : ℕ) (s : Sent) (g : Handle) (d : Subscription) → At c.up p s → under x.subscriptions g ≡ Some d → named (SubId (wire_of g)) s.intent ≡ Some number
+      → named (SubId (wire_of g)) (meant_by n.subscriptions g) ≡ Some number → (ask : Ask) × (s.intent ≡ On (channel_number n d.channel) ask)

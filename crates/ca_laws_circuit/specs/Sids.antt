@@ -2,7 +2,7 @@
 use Rattle.std.specs.Prelude.{ℕ, ◌≡◌, ◌<◌, ◌≤◌, List, length}
 use Rattle.ca_text.specs.Place.{At}
 use Rattle.ca_model.specs.Speech.{Clears, Creates, sid_in}
-use Rattle.ca_model.specs.History.{Ask, Create, Intent, On, Reply, Sent, Told, Step, Circuit}
+use Rattle.ca_model.specs.History.{Ask, Create, On, Reply, Sent, Told, Step, Circuit}
 
 -- Between these two places the client sent a CLEAR_CHANNEL of this SID.
 abbrev pub IsClearedWithin : List Sent → (sid a b : ℕ) → Type 0

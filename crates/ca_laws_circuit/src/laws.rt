@@ -1,5 +1,5 @@
 ghost use Rattle.std.specs.Prelude.{[], ◌≡◌, ◌++◌, ◌<◌, ◌≤◌, ◌⊎◌, ◌∷◌, Bool, List, Some, false, length, map, take, true, ℕ};
-ghost use Rattle.ca_text.specs.declared.command.Command.TheVariants.{EventAdd, CreateChannel, Write, WriteNotify};
+ghost use Rattle.ca_text.specs.declared.command.Command.TheVariants.{CreateChannel, EventAdd, ReadNotify, Write, WriteNotify};
 ghost use Rattle.ca_text.specs.Limits.{arena_slots};
 ghost use Rattle.ca_text.specs.Place.{At};
 ghost use Rattle.ca_wire.specs.Fields.{Fields};
@@ -10,20 +10,22 @@ ghost use Rattle.ca_arena.specs.declared.handle.Handle.{Handle};
 ghost use Rattle.ca_ids.specs.Table.{MayGive, Table, by_wire, under, with_all, with_all_freed, with_changed, with_freed, with_held};
 ghost use Rattle.ca_ids.specs.Wire.{wire_of};
 ghost use Rattle.ca_records.specs.Puts.{Put};
-ghost use Rattle.ca_requests.specs.Requests.{Asked, Request as HeldRequest, channel_over, was_sent_on};
-ghost use Rattle.ca_model.specs.Client.{Client, Live, Native, sending, standing_at};
+ghost use Rattle.ca_requests.specs.Requests.{Asked, Request as HeldRequest, answered_by, channel_over, was_sent_on};
+ghost use Rattle.ca_model.specs.Client.{Client, Leaving, Live, Native, Phase, channel_on, searched_again, sending, standing_at, with_requests, with_standing, without_channel};
 ghost use Rattle.ca_model.specs.Client as standing;
 ghost use Rattle.ca_model.specs.ClientCalls.{LiveChannel, clear_sent, cleared, issued};
 ghost use Rattle.ca_model.specs.Answers.{Sending};
 ghost use Rattle.ca_model.specs.Due.{Action, Due, Knows};
-ghost use Rattle.ca_model.specs.History.{Ask, Circuit, Create, Entry, Intent, Kind, On, Reply, Request, Sent, Step, Told};
+ghost use Rattle.ca_model.specs.Hears.{without_drained, without_request};
+ghost use Rattle.ca_model.specs.History.{Ask, Circuit, Clear, Create, Entry, Intent, Kind, On, Reply, Request, Sent, Step, Told};
 ghost use Rattle.ca_model.specs.ServerCalls.{finish_reply};
 ghost use Rattle.ca_model.specs.Speech.{Creates, Gives, Id, In, Ioid, Is, Speaks, Stored, name_in, sid_in};
 ghost use Rattle.ca_model.specs.Updates.{ShowsTo};
 ghost use Rattle.ca_model_safe.specs.Channels.{Has, IsOpen, Suits, before, named};
+ghost use Rattle.ca_model_world.specs.ClientEvents.{channel_number, meant_by};
 ghost use Rattle.ca_model_world.specs.World.{Names};
 ghost use Rattle.ca_laws_circuit.specs.Flows.{Awaits, Concerns, Ends, Flows, IsCidOf, IsGiven, IsLast, IsPending, MaySend, MayTell, NoMore, with_handled, with_heard, with_sent, with_told};
-ghost use Rattle.ca_laws_circuit.specs.Held.{Holds, HoldsRequests, IsAsking, IsNew, clear_of, with_request};
+ghost use Rattle.ca_laws_circuit.specs.Held.{Holds, HoldsRequests, IsAsking, IsNew, OnChannels, clear_of, is_asked, with_request};
 ghost use Rattle.ca_laws_circuit.specs.Steps.{removal_of, replied, update_of};
 ghost use Rattle.ca_laws_circuit.specs.Sids.{IsLiveBefore, MayCreate, Sids};
 ghost use Rattle.ca_laws_circuit.specs.Replies.{IsCidAt, IsOfMessage};
@@ -133,4 +135,15 @@ pub fn a_servers_events_keep_meanings()
 pub fn a_request_keeps_what_is_held()
     ensures sent { (kept : List ℕ) (on : Handle) (n : Names) (x : Client) (c : Circuit) (s : Sent) (q : Handle) (kind : Kind) (channel number : ℕ) → IsAsking s → s.message.p2 ≡ wire_of q → s.intent ≡ On channel (Request kind number) → Suits s.intent s.message → MayGive x.requests q → IsNew n.requests q → Holds (Awaits c kept) on n x c → MaySend (Awaits c kept) c s }
     ensures held { (kept : List ℕ) (on : Handle) (n : Names) (x : Client) (c : Circuit) (s : Sent) (q : Handle) (kind : Kind) (channel number : ℕ) (h : Handle) (l : LiveChannel) (asked : Asked) (y : Sending) → IsAsking s → s.message.p2 ≡ wire_of q → s.intent ≡ On channel (Request kind number) → Suits s.intent s.message → MayGive x.requests q → IsNew n.requests q → l.circuit ≡ on → Holds (Awaits c kept) on n x c → Holds (Awaits c kept) on (with_request q s.intent n) (sending (y ∷ []) (issued h l asked q x)) (with_sent s c) }
+{}
+
+/// What a client reads keeps what its tables hold of the circuit: the reply to a request is about what was meant by it, and frees its IOID; a
+/// SERVER_DISCONN of a live channel makes its CLEAR_CHANNEL go out; and the reply to a CLEAR_CHANNEL frees the CID of the channel and the ids of its
+/// requests and subscriptions. Any other message, as far as it changes no table, keeps it too.
+pub fn what_is_read_keeps_what_is_held()
+    ensures any { (kept : List ℕ) (on : Handle) (n : Names) (x : Client) (c : Circuit) (g : Step) → Holds (Awaits c kept) on n x c → Holds (Awaits c kept) on n x (with_heard g c) }
+    ensures reply { (kept : List ℕ) (on : Handle) (n : Names) (x : Client) (c : Circuit) (g : Step) (t : Told) (s : Sent) (q : Handle) (r : HeldRequest) → Flows (Awaits c kept) c → Holds (Awaits c kept) on n x c → At c.down (length c.heard) t → t.cause ≡ Reply → Is ReadNotify t.message ⊎ Is WriteNotify t.message → At c.up t.place s → answered_by on t.message.command t.message.p2 x.requests ≡ Some (q, r) → Holds (Awaits c kept) on n (without_request q x) (with_heard g c) × (named (Ioid (wire_of q)) s.intent ≡ named (Ioid (wire_of q)) (meant_by n.requests q)) }
+    ensures removal { (kept : List ℕ) (on : Handle) (n : Names) (x : Client) (c : Circuit) (g : Step) (cid : ℕ) (h : Handle) (native : Native) (rights : ℕ) → Holds (Awaits c kept) on n x c → channel_on x on cid ≡ Some (h, Live native rights) → MaySend (Awaits c kept) (with_heard g c) (clear_of n native.sid h) × Holds (Awaits c kept) on n (sending (clear_sent on native.sid h ∷ []) (with_standing (standing.On on Leaving) h (with_requests (channel_over h x.requests) x))) (with_sent (clear_of n native.sid h) (with_heard g c)) }
+    // Nothing was sent on the channel after its CLEAR_CHANNEL.
+    ensures cleared { (kept : List ℕ) (on : Handle) (n : Names) (x : Client) (c : Circuit) (g : Step) (t : Told) (s : Sent) (h : Handle) (p : Phase) → Flows (Awaits c kept) c → Holds (Awaits c kept) on n x c → OnChannels n x c → At c.down (length c.heard) t → t.cause ≡ Reply → At c.up t.place s → s.intent ≡ On (channel_number n h) Clear → ((l : ℕ) (r : Sent) (ask : Ask) → t.place < l → At c.up l r → r.intent ≡ On (channel_number n h) ask → ⊥) → channel_on x on t.message.p2 ≡ Some (h, p) → is_asked p ≡ true → Holds (Awaits c kept) on n (without_channel (without_drained on h x) h) (with_heard g c) × Holds (Awaits c kept) on n (searched_again (without_drained on h x) h) (with_heard g c) }
 {}
