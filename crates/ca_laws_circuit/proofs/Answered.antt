@@ -37,7 +37,7 @@ cid-named id (history.On channel ask) n is = (ask, ap (λ (c : ℕ). history.On 
 cid-named id history.OfCircuit n is = absurd cc
 
 -- a channel whose EVENT_ADDs went out had its CREATE_CHAN go out
-subscribed-asked : (on : Handle) (ch : Channel) → is_on_in is_subscribed on ch ≡ true → is_on_in is_asked on ch ≡ true
+pub subscribed-asked : (on : Handle) (ch : Channel) → is_on_in is_subscribed on ch ≡ true → is_on_in is_asked on ch ≡ true
 subscribed-asked on ch is = go ch.standing is
   where
     phases : (p : Phase) → is_subscribed p ≡ true → is_asked p ≡ true

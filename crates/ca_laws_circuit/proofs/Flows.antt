@@ -305,3 +305,20 @@ awaits-handled kept now c h were p a =
         | inr new ↦ inl (omega (arith, new))
       ]
     ]
+
+-- a circuit on which nothing was sent
+pub flows-new : (Awaits : ℕ → Type 0) (c : Circuit) → c.up ≡ [] → c.down ≡ [] → c.heard ≡ [] → Flows Awaits c
+flows-new Awaits c up down heard = record {
+  within = (let e : length c.heard ≡ 0 = ap (λ (l : List Step). length l) heard in omega (arith, e));
+  early = λ j h at. absurd (none j h (subst (λ (l : List Step). At l j h) heard at));
+  about = λ j t at. absurd (none j t (subst (λ (l : List Told). At l j t) down at));
+  asked = λ k s at. absurd (none k s (subst (λ (l : List Sent). At l k s) up at));
+  own = λ j t id at speaks. absurd (none j t (subst (λ (l : List Told). At l j t) down at));
+  concerns = λ j t id at speaks. absurd (none j t (subst (λ (l : List Told). At l j t) down at));
+  next = λ p id awaits concerns. absurd (none p concerns.0 (subst (λ (l : List Sent). At l p concerns.0) up concerns.1));
+  last = λ j t s at cause there is. absurd (none j t (subst (λ (l : List Told). At l j t) down at));
+  over = λ j p t s r at cause there here lt ends. absurd (none j t (subst (λ (l : List Told). At l j t) down at));
+}
+  where
+    none : {A : Type 0} (k : ℕ) (a : A) → At [] k a → ⊥
+    none k a e = cc

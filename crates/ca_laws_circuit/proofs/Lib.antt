@@ -13,3 +13,5 @@ pub mod Answering
 pub mod Calls
 pub mod Heard
 pub mod Answered
+pub mod Subscribes
+pub mod Creates

@@ -242,3 +242,18 @@ acts-on-own c y p channel s ask h f at is other handled =
             l.uncleared (m, r, lt, was.1, was.0, clears)),
       ),
     )
+
+-- a circuit on which nothing was sent
+pub sids-new : (c : Circuit) → c.up ≡ [] → c.down ≡ [] → c.heard ≡ [] → c.handled ≡ [] → Sids c
+sids-new c up down heard handled = record {
+  within = (let e : length c.heard ≡ 0 = ap (λ (l : List Step). length l) heard in omega (arith, e));
+  sent = λ p h at. absurd (none p h (subst (λ (l : List Step). At l p h) handled at));
+  caused = λ i t at. absurd (none i t (subst (λ (l : List Told). At l i t) down at));
+  before = λ i p t h at stands lt. absurd (none i t (subst (λ (l : List Told). At l i t) down at));
+  after = λ j p g h at stands le. absurd (none j g (subst (λ (l : List Step). At l j g) heard at));
+  live = λ p channel s ask at is other. absurd (none p s (subst (λ (l : List Sent). At l p s) up at));
+  apart = λ i j sid t u lt ati atj a b. absurd (none i t (subst (λ (l : List Told). At l i t) down ati));
+}
+  where
+    none : {A : Type 0} (k : ℕ) (a : A) → At [] k a → ⊥
+    none k a e = cc

@@ -105,3 +105,7 @@ pub record OnChannels (n : Names) (x : Client) (c : Circuit) : Type 0 where
       → under x.subscriptions g ≡ Some d → named (SubId (wire_of g)) s.intent ≡ Some number
       → named (SubId (wire_of g)) (meant_by n.subscriptions g) ≡ Some number
       → (ask : Ask) × (s.intent ≡ On (channel_number n d.channel) ask)
+
+-- the names with one subscription more
+abbrev pub with_subscription : Handle → Intent → Names → Names
+with_subscription q intent n = record n { subscriptions = n.subscriptions ++ (q, intent) ∷ [] }

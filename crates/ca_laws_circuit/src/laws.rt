@@ -1,5 +1,5 @@
 ghost use Rattle.std.specs.Prelude.{[], ◌≡◌, ◌++◌, ◌<◌, ◌≤◌, ◌⊎◌, ◌∷◌, Bool, List, Some, false, length, map, take, true, ℕ};
-ghost use Rattle.ca_text.specs.declared.command.Command.TheVariants.{CreateChannel, EventAdd, ReadNotify, Write, WriteNotify};
+ghost use Rattle.ca_text.specs.declared.command.Command.TheVariants.{CreateChannel, EventAdd, EventCancel, ReadNotify, Write, WriteNotify};
 ghost use Rattle.ca_text.specs.Limits.{arena_slots};
 ghost use Rattle.ca_text.specs.Place.{At};
 ghost use Rattle.ca_wire.specs.Fields.{Fields};
@@ -11,27 +11,29 @@ ghost use Rattle.ca_ids.specs.Table.{MayGive, Table, by_wire, under, with_all, w
 ghost use Rattle.ca_ids.specs.Wire.{wire_of};
 ghost use Rattle.ca_records.specs.Puts.{Put};
 ghost use Rattle.ca_requests.specs.Requests.{Asked, Request as HeldRequest, answered_by, channel_over, was_sent_on};
-ghost use Rattle.ca_model.specs.Client.{Client, Leaving, Live, Native, Phase, channel_on, searched_again, sending, standing_at, with_requests, with_standing, without_channel};
+ghost use Rattle.ca_model.specs.Client.{Channel, Client, Creating, Leaving, Live, Native, Phase, channel_on, found_on, is_on_in, searched_again, sending, standing_at, with_requests, with_standing, without_channel};
 ghost use Rattle.ca_model.specs.Client as standing;
-ghost use Rattle.ca_model.specs.ClientCalls.{LiveChannel, clear_sent, cleared, issued};
+ghost use Rattle.ca_model.specs.ClientCalls.{LiveChannel, Shape, clear_sent, cleared, issued, new_subscription};
 ghost use Rattle.ca_model.specs.Answers.{Sending};
+ghost use Rattle.ca_monitor.specs.Subscriptions.{Cancelled, Subscription, with_stage};
 ghost use Rattle.ca_model.specs.Due.{Action, Due, Knows};
 ghost use Rattle.ca_model.specs.Hears.{without_drained, without_request};
-ghost use Rattle.ca_model.specs.History.{Ask, Circuit, Clear, Create, Entry, Intent, Kind, On, Reply, Request, Sent, Step, Told};
+ghost use Rattle.ca_model.specs.History.{Ask, Circuit, Clear, Create, Entry, Intent, Kind, On, Reply, Request, Sent, Step, Subscribe, Told};
 ghost use Rattle.ca_model.specs.ServerCalls.{finish_reply};
 ghost use Rattle.ca_model.specs.Speech.{Creates, Gives, Id, In, Ioid, Is, Speaks, Stored, name_in, sid_in};
 ghost use Rattle.ca_model.specs.Updates.{ShowsTo};
 ghost use Rattle.ca_model_safe.specs.Channels.{Has, IsOpen, Suits, before, named};
-ghost use Rattle.ca_model_world.specs.ClientEvents.{channel_number, meant_by};
+ghost use Rattle.ca_model_world.specs.ClientEvents.{cancelled, channel_number, meant_by};
 ghost use Rattle.ca_model_world.specs.World.{Names};
 ghost use Rattle.ca_laws_circuit.specs.Flows.{Awaits, Concerns, Ends, Flows, IsCidOf, IsGiven, IsLast, IsPending, MaySend, MayTell, NoMore, with_handled, with_heard, with_sent, with_told};
-ghost use Rattle.ca_laws_circuit.specs.Held.{Holds, HoldsRequests, IsAsking, IsNew, OnChannels, clear_of, is_asked, with_request};
+ghost use Rattle.ca_laws_circuit.specs.Held.{Holds, HoldsRequests, IsAsking, IsNew, OnChannels, clear_of, has_id, is_asked, is_subscribed, with_request, with_subscription};
 ghost use Rattle.ca_laws_circuit.specs.Steps.{removal_of, replied, update_of};
 ghost use Rattle.ca_laws_circuit.specs.Sids.{IsLiveBefore, MayCreate, Sids};
 ghost use Rattle.ca_laws_circuit.specs.Replies.{IsCidAt, IsOfMessage};
 
 /// The ids that are in flight on a circuit mean what they were sent for, however its lists grow.
 pub fn ids_mean_their_own()
+    ensures new { (c : Circuit) → c.up ≡ [] → c.down ≡ [] → c.heard ≡ [] → Flows (Awaits c []) c }
     // The client sends a message that it may send; it reads its next one.
     ensures sent { (kept : List ℕ) (c : Circuit) (s : Sent) → MaySend (Awaits c kept) c s → Flows (Awaits c kept) c → Flows (Awaits c kept) (with_sent s c) }
     ensures read { (kept : List ℕ) (c : Circuit) (h : Step) → h.sent ≡ length c.up → length c.heard < length c.down → Flows (Awaits c kept) c → Flows (Awaits c kept) (with_heard h c) }
@@ -113,6 +115,7 @@ pub fn requests_hold_their_ids()
 /// channel has the SID under which that is live. So it is handled on the channel that was meant,
 /// and under one SID one channel is live.
 pub fn sids_mean_their_channel()
+    ensures new { (c : Circuit) → c.up ≡ [] → c.down ≡ [] → c.heard ≡ [] → c.handled ≡ [] → Sids c }
     ensures sent { (c : Circuit) (s : Sent) → ((channel : ℕ) (ask : Ask) → s.intent ≡ On channel ask → (ask ≡ Create → ⊥) → (j k : ℕ) × IsLiveBefore c channel j k (sid_in s.message) (length c.up)) → Sids c → Sids (with_sent s c) }
     ensures read { (c : Circuit) (g : Step) → g.sent ≡ length c.up → length c.handled ≤ length c.up → length c.heard < length c.down → Sids c → Sids (with_heard g c) }
     ensures handled { (c : Circuit) (h : Step) → h.sent ≡ length c.down → Sids c → Sids (with_handled h c) }
@@ -155,4 +158,13 @@ pub fn what_is_read_keeps_what_is_held()
     ensures removal { (kept : List ℕ) (on : Handle) (n : Names) (x : Client) (c : Circuit) (g : Step) (cid : ℕ) (h : Handle) (native : Native) (rights : ℕ) → Holds (Awaits c kept) on n x c → channel_on x on cid ≡ Some (h, Live native rights) → MaySend (Awaits c kept) (with_heard g c) (clear_of n native.sid h) × Holds (Awaits c kept) on n (sending (clear_sent on native.sid h ∷ []) (with_standing (standing.On on Leaving) h (with_requests (channel_over h x.requests) x))) (with_sent (clear_of n native.sid h) (with_heard g c)) }
     // Nothing was sent on the channel after its CLEAR_CHANNEL.
     ensures cleared { (kept : List ℕ) (on : Handle) (n : Names) (x : Client) (c : Circuit) (g : Step) (t : Told) (s : Sent) (h : Handle) (p : Phase) → Flows (Awaits c kept) c → Holds (Awaits c kept) on n x c → OnChannels n x c → At c.down (length c.heard) t → t.cause ≡ Reply → At c.up t.place s → s.intent ≡ On (channel_number n h) Clear → ((l : ℕ) (r : Sent) (ask : Ask) → t.place < l → At c.up l r → r.intent ≡ On (channel_number n h) ask → ⊥) → channel_on x on t.message.p2 ≡ Some (h, p) → is_asked p ≡ true → Holds (Awaits c kept) on n (without_channel (without_drained on h x) h) (with_heard g c) × Holds (Awaits c kept) on n (searched_again (without_drained on h x) h) (with_heard g c) }
+{}
+
+/// A caller subscribes on a live channel, or ends a subscription that has its id on the circuit,
+/// and a channel that is not on it yet is asked for: the EVENT_ADD, the EVENT_CANCEL or the
+/// CREATE_CHAN may be sent, and what the client's tables hold of the circuit stays so.
+pub fn subscriptions_and_creations_keep_what_is_held()
+    ensures subscribe { (kept : List ℕ) (on : Handle) (n : Names) (x : Client) (c : Circuit) (s : Sent) (q h : Handle) (channel number : ℕ) (ch : Channel) (a : Shape) (mask : ℕ) (y : Sending) → Is EventAdd s.message → s.message.p2 ≡ wire_of q → s.intent ≡ On channel (Subscribe number) → Suits s.intent s.message → MayGive x.subscriptions q → IsNew n.subscriptions q → under x.channels h ≡ Some ch → is_on_in is_subscribed on ch ≡ true → Holds (Awaits c kept) on n x c → MaySend (Awaits c kept) c s × Holds (Awaits c kept) on (with_subscription q s.intent n) (sending (y ∷ []) (record x { subscriptions = with_held q (new_subscription h a mask) x.subscriptions })) (with_sent s c) }
+    ensures unsubscribe { (kept : List ℕ) (on : Handle) (n : Names) (x : Client) (c : Circuit) (s : Sent) (q : Handle) (d : Subscription) (y : Sending) → Is EventCancel s.message → s.message.p2 ≡ wire_of q → s.intent ≡ cancelled (meant_by n.subscriptions q) → Suits s.intent s.message → under x.subscriptions q ≡ Some d → has_id x.channels on d ≡ true → Holds (Awaits c kept) on n x c → MaySend (Awaits c kept) c s × Holds (Awaits c kept) on n (sending (y ∷ []) (record x { subscriptions = with_stage (Cancelled on) q x.subscriptions })) (with_sent s c) }
+    ensures create { (kept : List ℕ) (on : Handle) (n : Names) (x : Client) (c : Circuit) (s : Sent) (h : Handle) (ch : Channel) (y : Sending) → Is CreateChannel s.message → s.message.p1 ≡ wire_of h → s.intent ≡ On (channel_number n h) Create → Suits s.intent s.message → under x.channels h ≡ Some ch → is_on_in is_asked on ch ≡ false → Holds (Awaits c kept) on n x c → MaySend (Awaits c kept) c s × Holds (Awaits c kept) on n (sending (y ∷ []) (found_on on (Creating 0) h x)) (with_sent s c) }
 {}
