@@ -32,7 +32,7 @@ use Rattle.ca_laws_circuit.proofs.Settled.{ioid-gives, none-pending, one-giver, 
 use Rattle.ca_laws_circuit.proofs.Tables.{all-freed-back, all-freed-there, changed-back, changed-few, changed-other, freed-back, freed-few, freed-other}
 
 -- what a CID names is a channel
-cid-named : (id : ℕ) (intent : Intent) (n : ℕ) → named (Cid id) intent ≡ Some n → (ask : Ask) × (intent ≡ history.On n ask)
+pub cid-named : (id : ℕ) (intent : Intent) (n : ℕ) → named (Cid id) intent ≡ Some n → (ask : Ask) × (intent ≡ history.On n ask)
 cid-named id (history.On channel ask) n is = (ask, ap (λ (c : ℕ). history.On c ask) (some_is channel n is))
 cid-named id history.OfCircuit n is = absurd cc
 

@@ -15,3 +15,4 @@ pub mod Heard
 pub mod Answered
 pub mod Subscribes
 pub mod Creates
+pub mod Ended

@@ -95,7 +95,8 @@ IsNew named q = find (λ (x : Handle × Intent). same_handle x.0 q) named ≡ No
 
 -- ---- what names and lists have in common
 
--- A request, and a subscription, is on one channel: by its number, if its message gives the IOID (plain writes have numbers of their own).
+-- A request, and a subscription, is on one channel: by its number, if its message gives the IOID (plain writes have numbers of
+-- their own).
 pub record OnChannels (n : Names) (x : Client) (c : Circuit) : Type 0 where
   pub requests : (p number : ℕ) (s : Sent) (q : Handle) (r : Request) → At c.up p s → Gives s.message (Ioid (wire_of q))
       → under x.requests q ≡ Some r → named (Ioid (wire_of q)) s.intent ≡ Some number

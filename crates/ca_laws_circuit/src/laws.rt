@@ -1,5 +1,5 @@
 ghost use Rattle.std.specs.Prelude.{[], ◌≡◌, ◌++◌, ◌<◌, ◌≤◌, ◌⊎◌, ◌∷◌, Bool, List, Some, false, length, map, take, true, ℕ};
-ghost use Rattle.ca_text.specs.declared.command.Command.TheVariants.{CreateChannel, EventAdd, EventCancel, ReadNotify, Write, WriteNotify};
+ghost use Rattle.ca_text.specs.declared.command.Command.TheVariants.{CreateChannel, CreateChannelFail, EventAdd, EventCancel, ReadNotify, Write, WriteNotify};
 ghost use Rattle.ca_text.specs.Limits.{arena_slots};
 ghost use Rattle.ca_text.specs.Place.{At};
 ghost use Rattle.ca_wire.specs.Fields.{Fields};
@@ -15,12 +15,12 @@ ghost use Rattle.ca_model.specs.Client.{Channel, Client, Creating, Leaving, Live
 ghost use Rattle.ca_model.specs.Client as standing;
 ghost use Rattle.ca_model.specs.ClientCalls.{LiveChannel, Shape, clear_sent, cleared, issued, new_subscription};
 ghost use Rattle.ca_model.specs.Answers.{Sending};
-ghost use Rattle.ca_monitor.specs.Subscriptions.{Cancelled, Subscription, with_stage};
+ghost use Rattle.ca_monitor.specs.Subscriptions.{Cancelled, Subscription, confirmed_by, with_stage};
 ghost use Rattle.ca_model.specs.Due.{Action, Due, Knows};
-ghost use Rattle.ca_model.specs.Hears.{without_drained, without_request};
-ghost use Rattle.ca_model.specs.History.{Ask, Circuit, Clear, Create, Entry, Intent, Kind, On, Reply, Request, Sent, Step, Subscribe, Told};
+ghost use Rattle.ca_model.specs.Hears.{without_drained, without_request, without_subscription};
+ghost use Rattle.ca_model.specs.History.{Ask, Cancel, Circuit, Clear, Create, Entry, Intent, Kind, On, Reply, Request, Sent, Step, Subscribe, Told};
 ghost use Rattle.ca_model.specs.ServerCalls.{finish_reply};
-ghost use Rattle.ca_model.specs.Speech.{Creates, Gives, Id, In, Ioid, Is, Speaks, Stored, name_in, sid_in};
+ghost use Rattle.ca_model.specs.Speech.{Creates, Gives, Id, In, Ioid, Is, Speaks, Stored, SubId, name_in, sid_in};
 ghost use Rattle.ca_model.specs.Updates.{ShowsTo};
 ghost use Rattle.ca_model_safe.specs.Channels.{Has, IsOpen, Suits, before, named};
 ghost use Rattle.ca_model_world.specs.ClientEvents.{cancelled, channel_number, meant_by};
@@ -167,4 +167,16 @@ pub fn subscriptions_and_creations_keep_what_is_held()
     ensures subscribe { (kept : List ℕ) (on : Handle) (n : Names) (x : Client) (c : Circuit) (s : Sent) (q h : Handle) (channel number : ℕ) (ch : Channel) (a : Shape) (mask : ℕ) (y : Sending) → Is EventAdd s.message → s.message.p2 ≡ wire_of q → s.intent ≡ On channel (Subscribe number) → Suits s.intent s.message → MayGive x.subscriptions q → IsNew n.subscriptions q → under x.channels h ≡ Some ch → is_on_in is_subscribed on ch ≡ true → Holds (Awaits c kept) on n x c → MaySend (Awaits c kept) c s × Holds (Awaits c kept) on (with_subscription q s.intent n) (sending (y ∷ []) (record x { subscriptions = with_held q (new_subscription h a mask) x.subscriptions })) (with_sent s c) }
     ensures unsubscribe { (kept : List ℕ) (on : Handle) (n : Names) (x : Client) (c : Circuit) (s : Sent) (q : Handle) (d : Subscription) (y : Sending) → Is EventCancel s.message → s.message.p2 ≡ wire_of q → s.intent ≡ cancelled (meant_by n.subscriptions q) → Suits s.intent s.message → under x.subscriptions q ≡ Some d → has_id x.channels on d ≡ true → Holds (Awaits c kept) on n x c → MaySend (Awaits c kept) c s × Holds (Awaits c kept) on n (sending (y ∷ []) (record x { subscriptions = with_stage (Cancelled on) q x.subscriptions })) (with_sent s c) }
     ensures create { (kept : List ℕ) (on : Handle) (n : Names) (x : Client) (c : Circuit) (s : Sent) (h : Handle) (ch : Channel) (y : Sending) → Is CreateChannel s.message → s.message.p1 ≡ wire_of h → s.intent ≡ On (channel_number n h) Create → Suits s.intent s.message → under x.channels h ≡ Some ch → is_on_in is_asked on ch ≡ false → Holds (Awaits c kept) on n x c → MaySend (Awaits c kept) c s × Holds (Awaits c kept) on n (sending (y ∷ []) (found_on on (Creating 0) h x)) (with_sent s c) }
+{}
+
+/// So do the others that change a table: access rights, or whatever moves a channel to a phase that
+/// is like its own; a CREATE_CH_FAIL, after which the CID is free; and the confirmation of a
+/// cancel, after which the subscription's id is free.
+pub fn what_ends_keeps_what_is_held()
+    ensures rights { (kept : List ℕ) (on : Handle) (n : Names) (x : Client) (c : Circuit) (g : Step) (cid : ℕ) (h : Handle) (p q : Phase) → channel_on x on cid ≡ Some (h, p) → is_asked p ≡ is_asked q → is_subscribed p ≡ is_subscribed q → Holds (Awaits c kept) on n x c → Holds (Awaits c kept) on n (with_standing (standing.On on q) h x) (with_heard g c) }
+    // Nothing was sent on the channel after its CREATE_CHAN.
+    ensures failed { (kept : List ℕ) (on : Handle) (n : Names) (x : Client) (c : Circuit) (g : Step) (t : Told) (s : Sent) (h : Handle) (p : Phase) → Flows (Awaits c kept) c → Holds (Awaits c kept) on n x c → At c.down (length c.heard) t → t.cause ≡ Reply → Is CreateChannelFail t.message → At c.up t.place s → s.intent ≡ On (channel_number n h) Create → ((l : ℕ) (r : Sent) (ask : Ask) → t.place < l → At c.up l r → r.intent ≡ On (channel_number n h) ask → ⊥) → channel_on x on t.message.p1 ≡ Some (h, p) → is_asked p ≡ true → is_subscribed p ≡ false → Holds (Awaits c kept) on n (without_channel x h) (with_heard g c) × Holds (Awaits c kept) on n (searched_again x h) (with_heard g c) }
+    // Before its EVENT_CANCEL the subscription was subscribed to, and after it nothing was sent
+    // about it.
+    ensures confirmed { (kept : List ℕ) (on : Handle) (n : Names) (x : Client) (c : Circuit) (g : Step) (t : Told) (s : Sent) (q : Handle) (channel number : ℕ) → Flows (Awaits c kept) c → Holds (Awaits c kept) on n x c → OnChannels n x c → At c.down (length c.heard) t → t.cause ≡ Reply → Is EventAdd t.message → At c.up t.place s → s.intent ≡ On channel (Cancel number) → confirmed_by on t.message.p2 x.subscriptions ≡ Some q → ((p : ℕ) (r : Sent) → At c.up p r → named (SubId (wire_of q)) r.intent ≡ Some number → ((p < t.place) × ((a : ℕ) × (r.intent ≡ On a (Subscribe number)))) ⊎ (p ≡ t.place)) → Holds (Awaits c kept) on n (without_subscription q x) (with_heard g c) }
 {}

@@ -8,5 +8,5 @@ pub use laws::{
     an_id_is_free_again, due_replies_speak_of_their_message, ids_mean_their_own,
     requests_hold_their_ids, sids_mean_their_channel,
     subscriptions_and_creations_keep_what_is_held, tables_hold_what_was_put_there,
-    what_is_read_keeps_what_is_held, what_is_told_speaks_of_its_own,
+    what_ends_keeps_what_is_held, what_is_read_keeps_what_is_held, what_is_told_speaks_of_its_own,
 };
