@@ -61,7 +61,7 @@ pub data ServerCircuit : Type 0 where
   Open : ServerEnd → ServerCircuit
   Ended : Why → List ℕ → ServerCircuit
 
--- A server: its TCP port, its rules, its records in the order in which they came, the stamp of writes, the moment that was given last,
+-- A server: its TCP port, its rules, its records in some order, the stamp of writes, the moment that was given last,
 -- its circuits, its beacons, and how many writes were applied ("Overall Server Operation").
 pub record Server : Type 0 where
   pub port : ℕ

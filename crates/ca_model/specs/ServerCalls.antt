@@ -1,6 +1,6 @@
 -- Vocabulary: the calls of a server beside its circuits, by answer (sections "Process Variables", "CA_PROTO_WRITE_NOTIFY",
--- "CA_PROTO_SERVER_DISCONN", "CA_PROTO_SEARCH"). Each is the contract of the call of `ServerCore` that its comment names.
-use Rattle.std.specs.Prelude.{ℕ, ◌≡◌, ◌≢◌, ◌<◌, ◌≤◌, ◌+◌, ◌==◌, ◌&&◌, ◌||◌, ◌++◌, ◌⊎◌, Bool, true, not, List, [], ◌∷◌, Option, Some, None, Ok, Err, Result, filter, if◌then◌else◌, is_some, length, map, max, take}
+-- "CA_PROTO_SERVER_DISCONN", "CA_PROTO_SEARCH"). Each is to be the contract of the call of `ServerCore` that its comment names.
+use Rattle.std.specs.Prelude.{ℕ, ◌≡◌, ◌≢◌, ◌<◌, ◌≤◌, ◌+◌, ◌==◌, ◌&&◌, ◌||◌, ◌++◌, ◌⊎◌, Bool, true, not, List, [], ◌∷◌, Option, Some, None, Ok, Err, Result, drop, filter, if◌then◌else◌, is_some, length, map, max, take}
 use Rattle.std.specs.List.{flat_map, list_any, sum_by}
 use Rattle.std.specs.Str.{bytes_eq}
 use Rattle.ca_arena.specs.declared.handle.Handle.{Handle}
@@ -161,11 +161,12 @@ AddFault records s e = ⊥
 abbrev pub MayAdd : List Record → RecordState → Type 0
 MayAdd records s = IsName record_name_limit s.name × (record_named records s.name ≡ None) × HoldsValue s.count s.value × (s.meta ≡ unset)
 
--- `add_record`: the record comes after the others, and neither busy nor waited for.
-abbrev pub AddsRecord : Server → RecordState → Result (Unit {0}) Refusal → Server → Type 0
-AddsRecord old s (Ok _) new = MayAdd old.records s × (new ≡ record old { records = old.records ++ new_record s ∷ [] })
-AddsRecord old s (Err refusal.OutOfMemory) new = MayAdd old.records s × (new ≡ old)
-AddsRecord old s (Err e) new = AddFault old.records s e × (new ≡ old)
+-- `add_record`: the record comes behind so many of the others, neither busy nor waited for.
+abbrev pub AddsRecord : Server → RecordState → (behind : ℕ) → Result (Unit {0}) Refusal → Server → Type 0
+AddsRecord old s behind (Ok _) new =
+    MayAdd old.records s × (new ≡ record old { records = take behind old.records ++ new_record s ∷ drop behind old.records })
+AddsRecord old s behind (Err refusal.OutOfMemory) new = MayAdd old.records s × (new ≡ old)
+AddsRecord old s behind (Err e) new = AddFault old.records s e × (new ≡ old)
 
 -- ---- datagrams
 

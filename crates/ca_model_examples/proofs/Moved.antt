@@ -11,7 +11,7 @@ use Rattle.ca_dbr.specs.Elements.{Elements}
 use Rattle.ca_dbr.specs.Elements as E
 use Rattle.ca_model.specs.Speech.{Stored}
 use Rattle.ca_wire.specs.Messages.{mask_in}
-use Rattle.ca_model.specs.History.{Circuit, Intent, On, Create, Request, Subscribe, Put, Line, Entry, Sent, Told, Step, Added, Finished, Reply, Update, Cause, Called, Noticed, Updated}
+use Rattle.ca_model.specs.History.{Circuit, Intent, On, Create, Request, Subscribe, Put, Line, Entry, Sent, Told, Step, Added, Finished, Withdrawn, Reply, Update, Cause, Called, Noticed, Updated}
 use Rattle.ca_model_safe.specs.Channels.{IsApplied, IsLost, IsRequest, IsUse, Joins, OfCircuits, OfClients, Stands, updates}
 use Rattle.ca_model_safe.specs.Headline.{ActsOnRecord, AnswersOwn, CompletesOnce, Follows, FollowsRecord, LosesLive, NotTwice, Reads, Safe, Sees}
 use Rattle.ca_model_safe.specs.Legal.{IsSent, Legal, LegalCircuit}
@@ -224,10 +224,18 @@ no-finish o p n k l e y at ends =
       | inr f ↦ cc
     ]
 
+no-drop : (o p : Outcome) (n k l i : ℕ) (y : List Entry) → At (moved_world o p).servers l y → At y i (Withdrawn n k) → ⊥
+no-drop o p n k l i y at drops =
+    elim (only-added o p l i y _ at drops) [
+      | inl f ↦ cc
+      | inr f ↦ cc
+    ]
+
 moved-writes : (o p : Outcome) → NotTwice AnyDue Shows Means (moved_world o p)
 moved-writes o p = record {
   once = λ n k l m i j r q v u a. absurd (no-write o p n k l i r v a);
   own = λ n k l i r v a. absurd (no-write o p n k l i r v a);
+  dropped = λ n k l i y at drops. absurd (no-drop o p n k l i y at drops);
   finished = λ n k l e y at ends. absurd (no-finish o p n k l e y at ends);
   done = λ life channel number x at h. absurd (no-use o p h.0 _ outcome.Done (subst (λ (s : List Line). At s h.0 (Noticed (On channel (Request Put number)) outcome.Done)) (one-at (moved_lines o p) life x at).1 h.1) tt);
   failed = λ life n k l i r intent s x v at h stands applied. no-write o p n k l i r v applied;

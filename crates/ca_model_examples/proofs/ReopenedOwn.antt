@@ -147,8 +147,8 @@ no-reply k j t is at place cause =
       ),
     ) j t at place cause
 
-uncleared : IsUncleared reopened 0 5 1
-uncleared l s h after at handled early clears =
+cleared-later : (l : ℕ) (s : Sent) (h : Step) → At reopened.up l s → At reopened.handled l h → h.logged ≤ 1 → Clears s.message 5 → ⊥
+cleared-later l s h at handled early clears =
     let is : l ≡ 2 = each-at (λ (i : ℕ) (z : Sent). Clears z.message 5 → i ≡ 2) reopened.up (
       (λ g. (let e = g.0 in absurd (omega (arith, e)))),
       ((λ g. (let e = g.0 in absurd (omega (arith, e)))), ((λ g. refl), ((λ g. (let e = g.0 in absurd (omega (arith, e)))), ((λ g. (let e = g.0 in absurd (omega (arith, e)))), tt)))),
@@ -156,6 +156,9 @@ uncleared l s h after at handled early clears =
     let g : h ≡ step 3 2 2 = some_is h (step 3 2 2) (sym (subst (λ (i : ℕ). At reopened.handled i h) is handled)) in
     let two : h.logged ≡ 2 = ap (λ (z : Step). z.logged) g in
     omega (arith, two, early)
+
+uncleared : IsUncleared reopened 0 5 1
+uncleared c = cleared-later c.0 c.1 c.2 c.4 c.5 c.6 c.7
 
 reopened-caused : (j : ℕ) (t : Told) → At reopened.down j t → HasCause reopened reopened_entries t t.cause × ((h : Step) × At reopened.handled t.place h × (h.sent ≤ j))
 reopened-caused j t at =

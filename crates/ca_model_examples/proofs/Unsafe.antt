@@ -15,7 +15,7 @@ use Rattle.ca_model_safe.specs.Headline.{Acted, ActsOnRecord, Answered, AnswersO
 use Rattle.ca_requests.specs.Meaning.{Means}
 use Rattle.ca_model.specs.Updates.{Shows}
 use Rattle.ca_model_examples.specs.Worlds.{AnyDue, Unsafe, adding, clearing, created_told, creating, disconnected, long, put_told, putting, reading, step, temp, world}
-use Rattle.ca_model_examples.specs.Unsafe.{FollowsNot, SlowDue, UnsafeSlow, answered, answered_cleared, answered_from_new, answered_unfinished, answered_withdrawn, applied_early, applied_twice, cleared, cleared_lines, disconnected_for_nothing, finished_entries, for_nothing, foreign_refusal, from_new, gone_for_nothing, in_other_step, invented_answer, live_lines, lost_for_nothing, lost_lines, put_lines, read_lines, read_told, read_twice, refused_for_nothing, refused_write, temp_there, unanswered, unanswered_put, unanswered_read, unfinished_entries, unsaid_creation, unsaid_refusal, update_of_refused, update_of_unhandled, updated, updates_sent, withdrawn_entries, writing}
+use Rattle.ca_model_examples.specs.Unsafe.{FollowsNot, SlowDue, UnsafeSlow, answered, answered_cleared, answered_from_new, answered_unfinished, answered_withdrawn, applied_early, applied_twice, cleared, cleared_lines, disconnected_for_nothing, dropped_for_nothing, finished_entries, for_nothing, foreign_refusal, from_new, gone_for_nothing, in_other_step, invented_answer, live_lines, lost_for_nothing, lost_lines, put_lines, read_lines, read_told, read_twice, refused_for_nothing, refused_write, temp_there, unanswered, unanswered_put, unanswered_read, unfinished_entries, unsaid_creation, unsaid_refusal, update_of_refused, update_of_unhandled, updated, updates_sent, withdrawn_entries, writing}
 use Rattle.ca_model_examples.proofs.Lists.{Each, each-at, none-at, one-at, two-at}
 
 pub zero-one : ◌≡◌ {A = ℕ} 0 1 → ⊥
@@ -166,7 +166,7 @@ never-cleared s =
     let f = late-alone 0 cleared finished_entries (step 1 1 2) refl a 2 (put_told 1 8 22).message (omega arith) refl in
     let is : putting 0 8 22 ≡ a.s = some_is (putting 0 8 22) a.s a.at in
     let e = at-two f.0 f.1 in
-    f.3 2 clearing (step 1 2 2) (omega arith) refl refl (omega (arith, e)) (refl, ap (λ (r : Sent). r.message.p1) is)
+    f.3 (2, clearing, step 1 2 2, omega arith, refl, refl, omega (arith, e), (refl, ap (λ (r : Sent). r.message.p1) is))
 
 -- the put was finished, and no clear was handled
 was-finished : (r : Sent) → IsFinished 0 unanswered finished_entries 1 r
@@ -174,8 +174,8 @@ was-finished r = (
   2,
   refl,
   (1, 0, long 22, refl, omega arith, (λ j m l u after early at. absurd (omega (arith, after, early)))),
-  λ l m h later at handled before ends.
-      each-at (λ (i : ℕ) (z : Sent). 1 < i → ⊥) unanswered.up ((λ t. omega (arith, t)), ((λ t. omega (arith, t)), tt)) l m at later,
+  λ c.
+      each-at (λ (i : ℕ) (z : Sent). 1 < i → ⊥) unanswered.up ((λ t. omega (arith, t)), ((λ t. omega (arith, t)), tt)) c.0 c.1 c.4 c.3,
 )
 
 pub never-unanswered : UnsafeSlow unanswered_put
@@ -315,4 +315,21 @@ never-applied-early s =
       | inr waited ↦
           let at : At (Added 0 temp ∷ Applied 0 2 0 (long 22) false ∷ []) waited.0 (Waits 0 2 0 waited.1) = subst (λ (l : List Entry). At l waited.0 (Waits 0 2 0 waited.1)) (sym ys) waited.2 in
           each-at (λ (i : ℕ) (z : Entry). z ≡ Waits 0 2 0 waited.1 → ⊥) (Added 0 temp ∷ Applied 0 2 0 (long 22) false ∷ []) ((λ e. cc), ((λ e. cc), tt)) waited.0 _ at refl
+    ]
+
+-- ---- a put that is dropped for nothing
+
+pub never-dropped-for-nothing : Unsafe dropped_for_nothing
+never-dropped-for-nothing s =
+    let d = s.applied.dropped 0 1 0 2 withdrawn_entries refl refl in
+    let is : unanswered ≡ d.c = sym (one-at unanswered 0 d.c d.on.0).1 in
+    elim d.why [
+      | inl gone ↦
+          each-at (λ (i : ℕ) (z : Entry). z ≡ Removed d.r → ⊥) (take 2 withdrawn_entries) ((λ e. cc), ((λ e. cc), tt)) gone.0 _ gone.1 refl
+      | inr more ↦ elim more [
+        | inl cleared ↦
+            let at : At unanswered.up cleared.0 cleared.1 = subst (λ (c : Circuit). At c.up cleared.0 cleared.1) (sym is) cleared.4 in
+            each-at (λ (i : ℕ) (z : Sent). 1 < i → ⊥) unanswered.up ((λ t. omega (arith, t)), ((λ t. omega (arith, t)), tt)) cleared.0 _ at cleared.3
+        | inr shut ↦ (let t : unanswered.server_open ≡ false = subst (λ (c : Circuit). c.server_open ≡ false) (sym is) shut in cc)
+      ]
     ]

@@ -115,7 +115,7 @@ pub first-busy : IsBusyUntil waited_entries 0 1 3
 first-busy = (1, 0, long 22, refl, omega arith, (λ j m l u low high at. no-other j m l u low high at))
 
 first-finished : IsFinished 0 waited waited_entries 1 (putting 0 8 22)
-first-finished = (3, refl, first-busy, (λ l s h after at handled early clears. no-clears l s at clears))
+first-finished = (3, refl, first-busy, (λ c. no-clears c.0 c.1 c.4 c.7))
 
 -- ---- answers
 

@@ -238,6 +238,7 @@ pub waited-writes : NotTwice AnyDue Shows Means waited_world
 waited-writes = record {
   once = λ n k l m i j r q v u a b. (let e = applied-is n k l i r v a in let f = applied-is n k m j q u b in (e.0 ∙ sym f.0, once-at n k i j r q v u e.1 f.1));
   own = λ n k l i r v a. (let e = applied-is n k l i r v a in owned n k l i r v e.0 e.1);
+  dropped = λ n k l i y at drops. absurd (no-withdrawal i n k (subst (λ (s : List Entry). At s i (Withdrawn n k)) (one-at waited_entries l y at).1 drops));
   finished = λ n k l e y at ends.
       (let z = one-at waited_entries l y at in
       let f = finished-at e n k (subst (λ (s : List Entry). At s e (Finished n k)) z.1 ends) in (

@@ -190,8 +190,8 @@ FinishesNotSo =
 -- 60 bytes are a name, and 61 are none; a name with a zero is none; a served name is refused by that, whatever the value
 abbrev pub AddsNotSo : Type 0
 AddsNotSo =
-    ((new : Server) → AddsRecord (served_by []) (record wave { name = replicate 61 65 }) (Ok tt) new → ⊥)
-    × ((new : Server) → AddsRecord (served_by []) (record wave { name = 65 ∷ 0 ∷ [] }) (Ok tt) new → ⊥)
-    × ((new : Server) → AddsRecord (served_by []) temp (Ok tt) new → ⊥)
-    × ((new : Server) → AddsRecord (served_by []) (record temp { value = longs [] }) (Err refusal.BadCount) new → ⊥)
-    × ((new : Server) → AddsRecord (served_by []) (record wave { count = 262145 }) (Ok tt) new → ⊥)
+    ((new : Server) (behind : ℕ) → AddsRecord (served_by []) (record wave { name = replicate 61 65 }) behind (Ok tt) new → ⊥)
+    × ((new : Server) (behind : ℕ) → AddsRecord (served_by []) (record wave { name = 65 ∷ 0 ∷ [] }) behind (Ok tt) new → ⊥)
+    × ((new : Server) (behind : ℕ) → AddsRecord (served_by []) temp behind (Ok tt) new → ⊥)
+    × ((new : Server) (behind : ℕ) → AddsRecord (served_by []) (record temp { value = longs [] }) behind (Err refusal.BadCount) new → ⊥)
+    × ((new : Server) (behind : ℕ) → AddsRecord (served_by []) (record wave { count = 262145 }) behind (Ok tt) new → ⊥)

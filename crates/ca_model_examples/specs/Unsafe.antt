@@ -190,6 +190,10 @@ applied_early =
     live_lines (Called (On 0 (Request Read 0)) None ∷ Called (On 0 (Request Put 0)) (Some (longs (pos 22 ∷ []))) ∷ [])
     ) (Added 0 temp ∷ Applied 0 2 0 (long 22) false ∷ [])
 
+-- A put that waited is dropped, and its record, its channel and its circuit are there.
+abbrev pub dropped_for_nothing : World
+dropped_for_nothing = world (unanswered ∷ []) put_lines withdrawn_entries
+
 -- ---- the fourth
 
 -- the updates of an EVENT_ADD at place 1 that are sent

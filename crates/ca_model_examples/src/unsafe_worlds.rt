@@ -1,7 +1,7 @@
 ghost use Rattle.std.specs.Prelude.{◌∷◌, []};
 ghost use Rattle.ca_model.specs.Speech.{Stored};
 ghost use Rattle.ca_model_examples.specs.Worlds.{Unsafe};
-ghost use Rattle.ca_model_examples.specs.Unsafe.{FollowsNot, UnsafeSlow, answered_cleared, answered_from_new, answered_unfinished, answered_withdrawn, applied_early, applied_twice, disconnected_for_nothing, foreign_refusal, invented_answer, lost_for_nothing, read_twice, refused_for_nothing, unanswered_put, unsaid_creation, unsaid_refusal, update_of_refused, update_of_unhandled, updated};
+ghost use Rattle.ca_model_examples.specs.Unsafe.{FollowsNot, UnsafeSlow, answered_cleared, answered_from_new, answered_unfinished, answered_withdrawn, applied_early, applied_twice, disconnected_for_nothing, dropped_for_nothing, foreign_refusal, invented_answer, lost_for_nothing, read_twice, refused_for_nothing, unanswered_put, unsaid_creation, unsaid_refusal, update_of_refused, update_of_unhandled, updated};
 
 /// A read on a channel of a removed record that is answered from the record that was added later under its name breaks the
 /// first clause; and so does BADCHID on a channel whose record nobody removed.
@@ -53,6 +53,11 @@ pub fn a_read_at_two_places_is_unsafe()
 pub fn a_write_applied_twice_or_elsewhere_is_unsafe()
     ensures twice { (v : Stored) → Unsafe (applied_twice v) }
     ensures elsewhere { Unsafe applied_early }
+{}
+
+/// A put that waited and is dropped breaks the third while its record, its channel and its circuit are there.
+pub fn a_put_dropped_for_nothing_is_unsafe()
+    ensures { Unsafe dropped_for_nothing }
 {}
 
 /// Updates break the fourth if they lack the newest post, also one with the same value; if one comes twice; or if they come
