@@ -28,3 +28,4 @@ pub mod MovedActs
 pub mod MovedOwn
 pub mod MovedLegal
 pub mod Moved
+pub mod RefusedCreation

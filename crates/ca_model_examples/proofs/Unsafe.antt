@@ -1,19 +1,24 @@
 -- Each of the histories breaks its clause.
 use Rattle.std.proofs.Common.{◌≡◌, ℕ, ◌<◌, ◌≤◌, inl, inr, List, [], ◌∷◌, length, refl, sym, ap, subst, ◌∙◌, arith}
-use Rattle.std.specs.Prelude.{true, false, None, take}
+use Rattle.std.specs.Prelude.{true, false, None, slice_index_or, take}
 use Rattle.ca_text.specs.Place.{At}
 use Rattle.ca_text.specs.Status.{normal}
 use Rattle.ca_text.proofs.Places.{some_is}
 use Rattle.ca_text.specs.declared.status.Status.{Status}
 use Rattle.ca_text.specs.declared.command.Command.TheVariants as command
 use Rattle.ca_dbr.specs.declared.value.Outcome.TheVariants as outcome
+use Rattle.ca_dbr.specs.declared.data_type.BaseType.TheVariants as base
+use Rattle.ca_dbr.specs.declared.data_type.DataType.{DataType}
+use Rattle.ca_dbr.specs.declared.data_type.Form.TheVariants as form
+use Rattle.ca_dbr.specs.Elements as E
+use Rattle.ca_dbr.specs.Shown.{shown}
 use Rattle.ca_wire.specs.Fields.{Fields}
 use Rattle.ca_model.specs.Speech.{In, Is, Stored}
 use Rattle.ca_model.specs.History.{Cause, Reply, Removal, Circuit, Entry, Line, Sent, Told, Step, Added, Removed, Applied, Waits, Finished, Clear, Intent, On, Request, Read, Subscribe, Called, Update}
 use Rattle.ca_model_safe.specs.Channels.{IsFinished, IsReply, Lasts, OfCircuits}
 use Rattle.ca_model_safe.specs.Headline.{Acted, ActsOnRecord, Answered, AnswersOwn, IsBadChannel}
 use Rattle.ca_requests.specs.Meaning.{Means}
-use Rattle.ca_model.specs.Updates.{Shows}
+use Rattle.ca_model.specs.Updates.{Shows, update_in}
 use Rattle.ca_model_examples.specs.Worlds.{AnyDue, Unsafe, adding, clearing, created_told, creating, disconnected, long, put_told, putting, reading, step, temp, world}
 use Rattle.ca_model_examples.specs.Unsafe.{FollowsNot, SlowDue, UnsafeSlow, answered, answered_cleared, answered_from_new, answered_unfinished, answered_withdrawn, applied_early, applied_twice, cleared, cleared_lines, disconnected_for_nothing, dropped_for_nothing, finished_entries, for_nothing, foreign_refusal, from_new, gone_for_nothing, in_other_step, invented_answer, live_lines, lost_for_nothing, lost_lines, put_lines, read_lines, read_told, read_twice, refused_for_nothing, refused_write, temp_there, unanswered, unanswered_put, unanswered_read, unfinished_entries, unsaid_creation, unsaid_refusal, update_of_refused, update_of_unhandled, updated, updates_sent, withdrawn_entries, writing}
 use Rattle.ca_model_examples.proofs.Lists.{Each, each-at, none-at, one-at, two-at}
@@ -213,6 +218,18 @@ loses-newest v u f =
 
 pub repeats : (v : Stored) → FollowsNot (updated 1 0 21 ∷ updated 1 0 21 ∷ []) (v ∷ [])
 repeats v f = (let e = f.rising 1 2 0 0 (omega arith) refl refl in omega (arith, e))
+
+-- an update that shows 22 is not that of a post of 21
+pub shows-another : FollowsNot (updated 1 0 22 ∷ []) (long 21 ∷ [])
+unfolding E.signed_bytes_4
+shows-another f =
+    let h = f.shows 1 0 (updated 1 0 22) refl refl refl in
+    let is : h.0 ≡ long 21 = (one-at (long 21) 0 h.0 h.1).1 in
+    let shows : Shows (adding 0 9).message (long 21) (updated 1 0 22).message = subst (λ (v : Stored). Shows (adding 0 9).message v (updated 1 0 22).message) is h.2 in
+    let typed : record { base = base.Long; form = form.Plain } ≡ shows.0 = some_is _ shows.0 shows.1 in
+    let m : (updated 1 0 22).message ≡ (updated 1 0 21).message = subst (λ (t : DataType). (updated 1 0 22).message ≡ update_in (record { sid = 5; id = 9; data_type = 5; count = 1 }) (long 21) t (shown (long 21).value 1 t.base)) (sym typed) shows.2 in
+    let e : 22 ≡ 21 = ap (λ (x : Fields). slice_index_or x.payload 3 0) m in
+    omega (arith, e)
 
 pub reorders : (v u : Stored) → FollowsNot (updated 1 1 22 ∷ updated 1 0 21 ∷ []) (v ∷ u ∷ [])
 reorders v u f = (let e = f.rising 1 2 1 0 (omega arith) refl refl in omega (arith, e))

@@ -5,13 +5,14 @@ use Rattle.ca_text.specs.Status.{bad_channel, bad_type, normal}
 use Rattle.ca_dbr.specs.declared.value.Outcome.TheVariants as outcome
 use Rattle.ca_dbr.specs.Elements.{longs}
 use Rattle.ca_wire.specs.Fields.{Fields}
-use Rattle.ca_wire.specs.Messages.{error_reply, put_request, status_reply, update, value_reply}
+use Rattle.ca_wire.specs.Messages.{error_reply, failed_reply, put_request, status_reply, update, value_reply}
 use Rattle.ca_model.specs.Speech.{Is, Stored}
 use Rattle.ca_model.specs.Updates.{Shows}
 use Rattle.ca_model.specs.History.{Clear, Create, Request, Subscribe, Read, Put, Write, On, Update, Sent, Told, Step, Circuit, Entry, Added, Applied, Finished, Removed, Waits, Withdrawn, Line, Called, Noticed, Opened, World}
 use Rattle.ca_model_safe.specs.Headline.{Follows, Safe}
+use Rattle.ca_model_safe.specs.Known.{IsSafe}
 use Rattle.ca_requests.specs.Meaning.{Means}
-use Rattle.ca_model_examples.specs.Worlds.{AnyDue, adding, circuit, clearing, created_told, creating, disconnected, long, put_told, putting, reading, reply, step, temp, temp_name, wanted, world}
+use Rattle.ca_model_examples.specs.Worlds.{AnyDue, adding, circuit, clearing, created_told, creating, disconnected, long, ports, put_told, putting, reading, reply, rules, step, temp, temp_name, wanted, world}
 
 -- ---- logs
 
@@ -203,3 +204,16 @@ updates_sent ts = live_circuit (adding 0 9 ∷ []) ts (step 1 1 1 ∷ [])
 -- These updates do not follow these posts, while TEMP is there.
 abbrev pub FollowsNot : List Told → List Stored → Type 0
 FollowsNot ts posts = Follows AnyDue Shows Means (updates_sent ts) temp_there 1 0 (adding 0 9) posts → ⊥
+
+-- ---- a creation that is refused for nothing
+
+-- TEMP was asked for and refused, and nothing else happened: a record has the name, the CID is free, and no SID is given.
+abbrev pub creation_refused : Circuit
+creation_refused = circuit (creating ∷ []) (reply 0 (failed_reply creating.message) ∷ []) (step 0 1 1 ∷ []) []
+
+abbrev pub refused_creation : World
+refused_creation = world (creation_refused ∷ []) (Opened 0 temp_name ∷ []) temp_there
+
+-- A world is unsafe by what was due in it.
+abbrev pub UnsafeAsDue : World → Type 0
+UnsafeAsDue w = IsSafe ports rules w → ⊥

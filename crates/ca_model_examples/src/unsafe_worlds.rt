@@ -1,7 +1,7 @@
 ghost use Rattle.std.specs.Prelude.{◌∷◌, []};
 ghost use Rattle.ca_model.specs.Speech.{Stored};
-ghost use Rattle.ca_model_examples.specs.Worlds.{Unsafe};
-ghost use Rattle.ca_model_examples.specs.Unsafe.{FollowsNot, UnsafeSlow, answered_cleared, answered_from_new, answered_unfinished, answered_withdrawn, applied_early, applied_twice, disconnected_for_nothing, dropped_for_nothing, foreign_refusal, invented_answer, lost_for_nothing, read_twice, refused_for_nothing, unanswered_put, unsaid_creation, unsaid_refusal, update_of_refused, update_of_unhandled, updated};
+ghost use Rattle.ca_model_examples.specs.Worlds.{Unsafe, long};
+ghost use Rattle.ca_model_examples.specs.Unsafe.{FollowsNot, UnsafeAsDue, UnsafeSlow, answered_cleared, answered_from_new, answered_unfinished, answered_withdrawn, applied_early, applied_twice, disconnected_for_nothing, dropped_for_nothing, foreign_refusal, invented_answer, lost_for_nothing, read_twice, refused_creation, refused_for_nothing, unanswered_put, unsaid_creation, unsaid_refusal, update_of_refused, update_of_unhandled, updated};
 
 /// A read on a channel of a removed record that is answered from the record that was added later under its name breaks the
 /// first clause; and so does BADCHID on a channel whose record nobody removed.
@@ -60,10 +60,16 @@ pub fn a_put_dropped_for_nothing_is_unsafe()
     ensures { Unsafe dropped_for_nothing }
 {}
 
-/// Updates break the fourth if they lack the newest post, also one with the same value; if one comes twice; or if they come
-/// in another order.
+/// A CREATE_CHAN that is refused breaks the second while a record has its name, its CID is free, and SIDs may be given.
+pub fn a_creation_refused_for_nothing_is_unsafe()
+    ensures { UnsafeAsDue refused_creation }
+{}
+
+/// Updates break the fourth if they lack the newest post, also one with the same value; if one comes twice; if they come in
+/// another order; or if one shows another post.
 pub fn a_lost_or_repeated_post_is_unsafe()
     ensures lost { (v u : Stored) → FollowsNot (updated 1 0 21 ∷ []) (v ∷ u ∷ []) }
     ensures repeated { (v : Stored) → FollowsNot (updated 1 0 21 ∷ updated 1 0 21 ∷ []) (v ∷ []) }
     ensures reordered { (v u : Stored) → FollowsNot (updated 1 1 22 ∷ updated 1 0 21 ∷ []) (v ∷ u ∷ []) }
+    ensures of_another { FollowsNot (updated 1 0 22 ∷ []) (long 21 ∷ []) }
 {}
