@@ -19,7 +19,7 @@ use Rattle.ca_model_world.specs.Runs.{CanBe, HasClientEnd}
 use Rattle.ca_model_world.specs.World.{ClientSide, Joined, World}
 use Rattle.ca_model_examples.specs.ClientRows.{alive, first, found, greeted}
 use Rattle.ca_model_examples.specs.ClientCallEvents.{anna_side, joined, names, server}
-use Rattle.ca_model_examples.specs.ClientEndEvents.{AboutPlace, AcceptMakes, CutEnds, DatagramFinds, DownMoves, NoticeLines, RestartForgets, StepHears, TickEnds, UpMoves, put_reply, reply_of_search, with_output}
+use Rattle.ca_model_examples.specs.ClientEndEvents.{AboutPlace, AcceptMakes, CutEnds, DatagramFinds, DownMoves, NoticeLines, RestartForgets, StepHears, TickEnds, TickStops, UpMoves, put_reply, reply_of_search, with_output}
 
 -- no more bytes move than wait
 too-many : (w : World) (k n : ℕ) (j : Joined) (x : ClientSide) → At w.circuits k j → At w.clients j.client x → length (waiting_up x j) < n → CanBe w (event.Up k n) → ⊥
@@ -140,6 +140,17 @@ tick-ends = (
   ),
   (0, _, omega arith, refl, refl, (inr (inl (λ e. cc)), (refl, refl))),
   (λ c. omega (arith, c)),
+)
+
+pub tick-stops : TickStops
+unfolding spelling header_spelling short_header extended_header number16 number32
+tick-stops = (
+  1,
+  _,
+  omega arith,
+  (_, (_, refl, _, _, _, (refl, refl, refl), refl), refl),
+  refl,
+  (inr (inl (λ e. cc)), (refl, refl)),
 )
 
 good-search : IsMessage reply_of_search

@@ -29,3 +29,4 @@ pub mod MovedOwn
 pub mod MovedLegal
 pub mod Moved
 pub mod RefusedCreation
+pub mod Engine

@@ -17,7 +17,7 @@ use Rattle.ca_model.specs.Server.{Open, ServerCircuit, new_end}
 use Rattle.ca_model_world.specs.ClientEvents.{about_at, lines_of}
 use Rattle.ca_model_world.specs.Events as event
 use Rattle.ca_model_world.specs.Runs.{Happens, TicksBefore}
-use Rattle.ca_model_world.specs.World.{Joined, Names, ServerSide, World, no_names}
+use Rattle.ca_model_world.specs.World.{ClientSide, Joined, Names, ServerSide, World, no_names}
 use Rattle.ca_model_examples.specs.ClientRows.{alive, anna, first, found, greeted, home, reading, second, temp, with_temp}
 use Rattle.ca_model_examples.specs.ClientCallEvents.{CanNot, anna_side, joined, live, names, old, on_temp, opened_line, put, read_done, server, with_read, world}
 
@@ -185,6 +185,13 @@ TickEnds =
     let before : World = world (anna_side reading with_read) (opened_line ∷ []) [] in
     Happens before (event.Tick 35000) (record ticked_once { clients = anna_side (searches_made (circuits_ticked 35000 reading)).core with_read ∷ anna_side (record (anna []) { moment = 35000 }) names ∷ []; moment = 35000 })
     × TicksBefore 35000 before before × CanNot before (event.Tick 6)
+
+-- Two clients have such a silence, and memory lacks at the second: the first had the moment, and the second and the world had it not.
+abbrev pub TickStops : Type 0
+TickStops =
+    let silent : ClientSide = anna_side reading with_read in
+    let both : World = record (world silent (opened_line ∷ []) []) { clients = silent ∷ silent ∷ [] } in
+    TicksBefore 35000 both (record ticked_once { clients = anna_side (searches_made (circuits_ticked 35000 reading)).core with_read ∷ silent ∷ [] })
 
 -- ---- datagrams
 
