@@ -1,0 +1,3 @@
+pub mod Subsequence
+pub mod Seen
+pub mod Rising
