@@ -7,12 +7,17 @@ ghost use Rattle.ca_text.specs.Status.{add_fail, alloc_mem, bad_channel, bad_cou
 
 /// Each limit of the code is the one of the table.
 pub fn limits_are_these()
-    ensures protocol { (MINOR_VERSION ≡ minor_version) × (PRIORITY_LIMIT ≡ priority_limit) × (SERVER_PORT ≡ server_port) × (REPEATER_PORT ≡ repeater_port) }
-    ensures bytes { (PAYLOAD_LIMIT ≡ payload_limit) × (DATAGRAM_LIMIT ≡ datagram_limit) × (OUTPUT_LIMIT ≡ output_limit) }
-    ensures names { (CHANNEL_NAME_LIMIT ≡ channel_name_limit) × (RECORD_NAME_LIMIT ≡ record_name_limit) }
+    ensures protocol { (MINOR_VERSION ≡ minor_version) × (PRIORITY_LIMIT ≡ priority_limit)
+        × (SERVER_PORT ≡ server_port) × (REPEATER_PORT ≡ repeater_port) }
+    ensures bytes { (PAYLOAD_LIMIT ≡ payload_limit) × (DATAGRAM_LIMIT ≡ datagram_limit)
+        × (OUTPUT_LIMIT ≡ output_limit) }
+    ensures names { (CHANNEL_NAME_LIMIT ≡ channel_name_limit)
+        × (RECORD_NAME_LIMIT ≡ record_name_limit) }
     ensures values { ELEMENT_LIMIT ≡ element_limit }
-    ensures tables { (CHANNEL_LIMIT ≡ channel_limit) × (ARENA_SLOTS ≡ arena_slots) × (LAST_GENERATION ≡ last_generation) × (BOARD_CELLS ≡ board_cells) }
-    ensures queues { (QUEUE_PLACES ≡ queue_places) × (QUEUE_LOW_PLACES ≡ queue_low_places) × (QUEUE_SUBSCRIPTIONS ≡ queue_subscriptions) × (CIRCUIT_QUEUES ≡ circuit_queues) }
+    ensures tables { (CHANNEL_LIMIT ≡ channel_limit) × (ARENA_SLOTS ≡ arena_slots)
+        × (LAST_GENERATION ≡ last_generation) × (BOARD_CELLS ≡ board_cells) }
+    ensures queues { (QUEUE_PLACES ≡ queue_places) × (QUEUE_LOW_PLACES ≡ queue_low_places)
+        × (QUEUE_SUBSCRIPTIONS ≡ queue_subscriptions) × (CIRCUIT_QUEUES ≡ circuit_queues) }
     ensures puts { WAITING_PUTS ≡ waiting_puts }
     ensures peers { (REPEATER_MEMBERS ≡ repeater_members) × (BEACON_SERVERS ≡ beacon_servers) }
     ensures turns { ENGINE_TURNS ≡ engine_turns }
@@ -21,8 +26,11 @@ pub fn limits_are_these()
 /// Each status of the code has the number of the table.
 pub fn statuses_are_these()
     ensures well { NORMAL.number ≡ normal }
-    ensures peer { (ALLOCMEM.number ≡ alloc_mem) × (INTERNAL.number ≡ internal) × (DISCONN.number ≡ disconn) }
-    ensures asked { (BADTYPE.number ≡ bad_type) × (BADCOUNT.number ≡ bad_count) × (BADCHID.number ≡ bad_channel) }
+    ensures peer { (ALLOCMEM.number ≡ alloc_mem) × (INTERNAL.number ≡ internal)
+        × (DISCONN.number ≡ disconn) }
+    ensures asked { (BADTYPE.number ≡ bad_type) × (BADCOUNT.number ≡ bad_count)
+        × (BADCHID.number ≡ bad_channel) }
     ensures access { (NORDACCESS.number ≡ no_read_access) × (NOWTACCESS.number ≡ no_write_access) }
-    ensures failed { (GETFAIL.number ≡ get_fail) × (PUTFAIL.number ≡ put_fail) × (ADDFAIL.number ≡ add_fail) × (NOCONVERT.number ≡ no_convert) }
+    ensures failed { (GETFAIL.number ≡ get_fail) × (PUTFAIL.number ≡ put_fail)
+        × (ADDFAIL.number ≡ add_fail) × (NOCONVERT.number ≡ no_convert) }
 {}
