@@ -6,8 +6,10 @@ pub mod UsedOwn
 pub mod UsedRest
 pub mod UsedWhole
 pub mod UsedDue
+pub mod SmallDue
 pub mod Crossed
 pub mod WaitedActs
+pub mod WaitedDue
 pub mod WaitedOwn
 pub mod WaitedRest
 pub mod WaitedLegal

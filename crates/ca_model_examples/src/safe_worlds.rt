@@ -42,8 +42,8 @@ pub fn a_channel_that_moves_to_an_earlier_circuit_is_safe_and_legal()
 {}
 
 /// A put waits for a slow record while its client begins again. The put that made the record busy is finished, and the put that waited
-/// is applied, once; no caller is told of either. That is safe, whatever is due, and legal.
+/// is applied, once; no caller is told of either. That is safe, with all that was due, and legal.
 pub fn a_put_that_waited_is_applied_after_its_client_began_again()
-    ensures safe { Safe AnyDue Shows Means waited_world }
+    ensures safe { IsSafe ports rules waited_world }
     ensures legal { Legal waited_world }
 {}
