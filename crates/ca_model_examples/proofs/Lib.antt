@@ -27,6 +27,7 @@ pub mod ClientCallEvents
 pub mod ClientEndEvents
 pub mod ClientHears
 pub mod MovedActs
+pub mod MovedDue
 pub mod MovedOwn
 pub mod MovedLegal
 pub mod Moved

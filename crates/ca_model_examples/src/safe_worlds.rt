@@ -34,10 +34,10 @@ pub fn a_channel_that_comes_back_is_safe_and_legal()
 {}
 
 /// A channel is live and subscribed on circuit 1, which ends; it is found again at another server, on circuit 0, and is created and subscribed
-/// there under the same ids, so that the updates of circuit 1 come first in the log. That is safe, whatever is due, and legal. The
-/// outcomes are those of the two updates.
+/// there under the same ids, so that the updates of circuit 1 come first in the log. That is safe, with all that was due, and legal.
+/// The outcomes are those of the two updates.
 pub fn a_channel_that_moves_to_an_earlier_circuit_is_safe_and_legal()
-    ensures safe { (o p : Outcome) → Means (first_update 1 7).message o → Means (first_update 1 5).message p → Safe AnyDue Shows Means (moved_world o p) }
+    ensures safe { (o p : Outcome) → Means (first_update 1 7).message o → Means (first_update 1 5).message p → IsSafe ports rules (moved_world o p) }
     ensures legal { (o p : Outcome) → Legal (moved_world o p) }
 {}
 
