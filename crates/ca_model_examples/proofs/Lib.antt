@@ -19,6 +19,7 @@ pub mod ServerRows
 pub mod DueReplies
 pub mod ServerHappens
 pub mod ServerAnswers
+pub mod ReopenedDue
 pub mod ReopenedOwn
 pub mod ReopenedRest
 pub mod ClientWorked

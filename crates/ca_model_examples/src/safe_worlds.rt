@@ -1,11 +1,9 @@
 ghost use Rattle.ca_dbr.specs.declared.value.Outcome.{Outcome};
 ghost use Rattle.ca_wire.specs.Fields.{Fields};
 ghost use Rattle.ca_model_safe.specs.Known.{IsSafe};
-ghost use Rattle.ca_model_safe.specs.Headline.{Safe};
 ghost use Rattle.ca_model_safe.specs.Legal.{Legal};
 ghost use Rattle.ca_requests.specs.Meaning.{Means};
-ghost use Rattle.ca_model.specs.Updates.{Shows};
-ghost use Rattle.ca_model_examples.specs.Worlds.{AnyDue, ports, rules};
+ghost use Rattle.ca_model_examples.specs.Worlds.{ports, rules};
 ghost use Rattle.ca_model_examples.specs.Moved.{moved_world};
 ghost use Rattle.ca_model_examples.specs.Safe.{SeesCrossed, first_update, reopened_world, shared_id, used_world};
 ghost use Rattle.ca_model_examples.specs.Waited.{waited_world};
@@ -27,9 +25,9 @@ pub fn a_shared_id_is_safe_but_not_legal()
 {}
 
 /// A channel whose record is removed and added again is created twice on one circuit under one SID, and its subscription goes out
-/// twice under one id: that is safe, whatever is due, and legal. The outcome is that of the first update.
+/// twice under one id: that is safe, with all that was due, and legal. The outcome is that of the first update.
 pub fn a_channel_that_comes_back_is_safe_and_legal()
-    ensures safe { (o : Outcome) → Means (first_update 1 21).message o → Safe AnyDue Shows Means (reopened_world o) }
+    ensures safe { (o : Outcome) → Means (first_update 1 21).message o → IsSafe ports rules (reopened_world o) }
     ensures legal { (o : Outcome) → Legal (reopened_world o) }
 {}
 
