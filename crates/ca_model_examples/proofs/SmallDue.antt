@@ -12,7 +12,7 @@ use Rattle.ca_queue.specs.declared.entry.SubKey.{SubKey}
 use Rattle.ca_wire.specs.Header as H
 use Rattle.ca_wire.specs.Fields.{Fields}
 use Rattle.ca_records.specs.Record.{RecordState}
-use Rattle.ca_model.specs.Due.{Action, Adds, Clears, Due, EventDue, IsCreated, KnownChannel, KnownRecord, Knows, Opens, PutDue, Serves, is_known, subscription_in}
+use Rattle.ca_model.specs.Due.{Action, Adds, Clears, Due, EventDue, IsCreated, KnownChannel, KnownRecord, Knows, Opens, PutDue, ReadDue, Serves, is_known, subscription_in}
 use Rattle.ca_model.specs.Speech.{In, Is, name_in}
 use Rattle.ca_wire.specs.Messages.{cleared_reply}
 use Rattle.ca_model.specs.History.{On, Subscribe, Circuit, Entry, Sent, Added, Removed}
@@ -192,6 +192,25 @@ put-due k m replies did is due = record {
   read = λ e. absurd (omega (arith, e, is));
   write = λ e. absurd (omega (arith, e, is));
   put = λ e. inl due;
+  subscribe = λ e. absurd (omega (arith, e, is));
+  cancel = λ e. absurd (omega (arith, e, is));
+  off = λ e. absurd (omega (arith, e, is));
+  on = λ e. absurd (omega (arith, e, is));
+  clear = λ e. absurd (omega (arith, e, is));
+  other = λ e. absurd (let bad : true ≡ false = subst (λ (n : ℕ). is_known n ≡ false) is e in cc);
+}
+
+pub read-due : (k : Knows) (m : Fields) (replies : List Fields) (did : Action) → Is command.ReadNotify m → ReadDue k m replies did → Due k m replies did
+read-due k m replies did is due = record {
+  version = λ e. absurd (omega (arith, e, is));
+  user = λ e. absurd (omega (arith, e, is));
+  host = λ e. absurd (omega (arith, e, is));
+  echo = λ e. absurd (omega (arith, e, is));
+  search = λ e. absurd (omega (arith, e, is));
+  create = λ e. absurd (omega (arith, e, is));
+  read = λ e. inl due;
+  write = λ e. absurd (omega (arith, e, is));
+  put = λ e. absurd (omega (arith, e, is));
   subscribe = λ e. absurd (omega (arith, e, is));
   cancel = λ e. absurd (omega (arith, e, is));
   off = λ e. absurd (omega (arith, e, is));
