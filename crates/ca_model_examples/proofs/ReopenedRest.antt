@@ -1,4 +1,4 @@
--- A channel that comes back keeps the clauses on the client's log, on writes and on subscribers.
+-- A channel that comes back: what the client's log tells, that no write is applied twice, and what the subscriber saw.
 use Rattle.std.proofs.Common.{◌≡◌, ℕ, ◌<◌, ◌⊎◌, inl, inr, List, [], ◌∷◌, refl, sym, ap, subst, ◌∙◌, arith}
 use Rattle.std.specs.Prelude.{take, true, false, Bool, Option, None}
 use Rattle.ca_text.specs.Place.{At}

@@ -178,7 +178,7 @@ open-now = (
   (λ l m after early at. no-clear 5 l 3 m (inr (omega arith)) after at),
 )
 
--- ---- the clause
+-- ---- the whole
 
 -- no reply says that something failed
 clear-means : (s : Status) → Means clearing.message (outcome.Failed s) → ⊥

@@ -1,4 +1,4 @@
--- The used channel keeps the first clause.
+-- On the used channel each message acts on the record of its channel.
 use Rattle.std.proofs.Common.{◌≡◌, ℕ, ◌<◌, inl, inr, List, refl, sym, ap, subst, ◌∙◌, arith}
 use Rattle.std.specs.Prelude.{true, false, Some, None, take}
 use Rattle.ca_text.specs.Place.{At}

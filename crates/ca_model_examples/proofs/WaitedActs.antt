@@ -1,4 +1,4 @@
--- A put that waited while its client began again acts on the record of its channel.
+-- A put that waits while its client begins again: each message acts on the record of its channel.
 use Rattle.std.proofs.Common.{◌≡◌, ℕ, ◌<◌, List, refl, sym, ap, subst, ◌∙◌, arith}
 use Rattle.std.specs.Prelude.{true, false, take}
 use Rattle.ca_text.specs.Place.{At}

@@ -1,4 +1,4 @@
--- A put that waited while its client began again: on its circuit each answer is its own request's.
+-- A put that waits while its client begins again: on its circuit each answer is its own request's.
 use Rattle.std.proofs.Common.{◌≡◌, ℕ, ◌<◌, ◌≤◌, ◌+◌, inl, inr, [], ◌∷◌, refl, sym, ap, subst, arith}
 use Rattle.std.specs.Prelude.{true, Some, None}
 use Rattle.ca_text.specs.Place.{At}

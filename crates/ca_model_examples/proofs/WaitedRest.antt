@@ -1,4 +1,4 @@
--- A put that waited while its client began again keeps the clauses on clients' logs, on writes and on subscribers.
+-- A put that waits while its client begins again: what clients' logs tell, that no write is applied twice, and what subscribers saw.
 use Rattle.std.proofs.Common.{◌≡◌, ℕ, suc, ◌⊎◌, inl, inr, List, [], ◌∷◌, refl, sym, ap, subst, ◌∙◌, arith}
 use Rattle.std.specs.Prelude.{take, Option, None, pos}
 use Rattle.ca_text.specs.Place.{At}

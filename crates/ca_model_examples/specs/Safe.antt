@@ -1,4 +1,4 @@
--- Vocabulary: small histories that keep every clause.
+-- Vocabulary: small histories that are safe.
 use Rattle.std.specs.Prelude.{ℕ, ◌+◌, List, [], ◌∷◌, Some, None, pos, false}
 use Rattle.ca_dbr.specs.declared.value.Outcome.{Outcome}
 use Rattle.ca_dbr.specs.declared.value.Outcome.TheVariants as outcome
