@@ -114,8 +114,7 @@ second-open i l sid q one =
           let has = made.9 in
           let there : At (take 4 reopened.handled) 3 made.2 = subst (λ (z : ℕ). At (take 4 reopened.handled) z made.2) x.1 made.8 in
           let g : made.2 ≡ step 5 3 3 = some_is made.2 (step 5 3 3) (sym there) in
-          let inner = at-take made.2.logged (logged 3) has.1.0 _ has.1.1 in
-          (
+          let inner = at-take made.2.logged (logged 3) has.1.0 _ has.1.1 in (
             x.1,
             five,
             elim (added-at has.1.0 q has.0 (at-take 3 reopened_entries has.1.0 _ inner)) [

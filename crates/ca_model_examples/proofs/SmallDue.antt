@@ -90,8 +90,8 @@ one-channel c y j k r retired is-open here f g only = record {
       let cid : x.cid ≡ 1 = h.6 ∙ ap (λ (s : Sent). s.message.p1) asked in
       let name : x.name ≡ temp_name = h.7 ∙ ap (λ (s : Sent). name_in s.message) asked in
       let there : x.retired ≡ retired = same-bool x.retired retired
-          (λ e. g (subst (λ (q : ℕ). In y (Removed q)) is.2 (h.8 e)))
-          (λ e. h.9 (subst (λ (q : ℕ). In y (Removed q)) (sym is.2) (f e))) in
+      (λ e. g (subst (λ (q : ℕ). In y (Removed q)) is.2 (h.8 e)))
+      (λ e. h.9 (subst (λ (q : ℕ). In y (Removed q)) (sym is.2) (f e))) in
       (0, subst (λ (z : KnownChannel). At (temp_channel retired ∷ []) 0 z) (is-temp x retired is.1 cid name there) refl));
   once = λ i l x p q. (one-at (temp_channel retired) i x p).0 ∙ sym (one-at (temp_channel retired) l x q).0;
 }
