@@ -6,8 +6,10 @@ pub mod UsedOwn
 pub mod UsedRest
 pub mod UsedWhole
 pub mod UsedDue
+pub mod SmallDue
 pub mod Crossed
 pub mod WaitedActs
+pub mod WaitedDue
 pub mod WaitedOwn
 pub mod WaitedRest
 pub mod WaitedLegal
@@ -17,6 +19,7 @@ pub mod ServerRows
 pub mod DueReplies
 pub mod ServerHappens
 pub mod ServerAnswers
+pub mod ReopenedDue
 pub mod ReopenedOwn
 pub mod ReopenedRest
 pub mod ClientWorked
@@ -25,6 +28,7 @@ pub mod ClientCallEvents
 pub mod ClientEndEvents
 pub mod ClientHears
 pub mod MovedActs
+pub mod MovedDue
 pub mod MovedOwn
 pub mod MovedLegal
 pub mod Moved

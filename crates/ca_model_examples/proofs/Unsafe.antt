@@ -1,4 +1,4 @@
--- Each of the histories breaks its clause.
+-- Each of the histories is unsafe.
 use Rattle.std.proofs.Common.{◌≡◌, ℕ, ◌<◌, ◌≤◌, inl, inr, List, [], ◌∷◌, length, refl, sym, ap, subst, ◌∙◌, arith}
 use Rattle.std.specs.Prelude.{true, false, None, slice_index_or, take}
 use Rattle.ca_text.specs.Place.{At}
@@ -36,7 +36,7 @@ its-own P cs x y all n c at e f =
     let b : y ≡ h.1 = some_is y h.1 (subst (λ (k : ℕ). At (y ∷ []) k h.1) f h.2.2) in
     subst (λ (z : List Line). P n c z y) (sym a) (subst (λ (z : List Entry). P n c h.0 z) (sym b) h.3)
 
--- ---- the second clause
+-- ---- answers and notices that are not of their own request
 
 pub never-invented : Unsafe invented_answer
 never-invented s =
@@ -193,7 +193,7 @@ never-unanswered s =
     let e = ap (λ (t : Told). t.place) (one-at created_told a.place _ here).1 in
     zero-one (sym e)
 
--- ---- the fourth clause
+-- ---- updates that do not follow their record
 
 lasts : (ts : List Told) → Lasts (updates_sent ts) temp_there 1 0 (adding 0 9)
 lasts ts = (
@@ -234,7 +234,7 @@ shows-another f =
 pub reorders : (v u : Stored) → FollowsNot (updated 1 1 22 ∷ updated 1 0 21 ∷ []) (v ∷ u ∷ [])
 reorders v u f = (let e = f.rising 1 2 1 0 (omega arith) refl refl in omega (arith, e))
 
--- ---- the first clause
+-- ---- a message that does not act on the record of its channel
 
 -- TEMP was not removed before it was added.
 only-added : (r : ℕ) → In (take 1 (Added 0 temp ∷ [])) (Removed r) → ⊥

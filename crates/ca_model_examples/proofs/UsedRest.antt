@@ -1,4 +1,4 @@
--- The used channel keeps the clauses on the client's log, on writes and on subscribers.
+-- The used channel: what its client's log tells, and that no write is applied twice.
 use Rattle.std.proofs.Common.{◌≡◌, ℕ, ◌⊎◌, inl, inr, List, [], ◌∷◌, refl, sym, ap, subst, ◌∙◌, arith}
 use Rattle.std.specs.Prelude.{false, Option, None, take, pos}
 use Rattle.ca_text.specs.Place.{At}

@@ -1,4 +1,4 @@
--- Vocabulary: small histories, each of which breaks a clause.
+-- Vocabulary: small histories that are unsafe, each by one part of the statement.
 use Rattle.std.specs.Prelude.{ℕ, ◌≡◌, List, [], ◌∷◌, Option, Some, None, pos, true, false}
 use Rattle.ca_text.specs.declared.command.Command.TheVariants as command
 use Rattle.ca_text.specs.Status.{bad_channel, bad_type, normal}
@@ -36,7 +36,7 @@ read_lines = live_lines (Called (On 0 (Request Read 0)) None ∷ [])
 abbrev pub read_told : ℕ → Told
 read_told value = reply 1 (value_reply (reading 0 7).message 1 (0 ∷ 0 ∷ 0 ∷ value ∷ []))
 
--- ---- the first clause
+-- ---- a message that does not act on the record of its channel
 
 -- A record was removed and another added under its name; a read on the old channel is answered with the new record's value, 22.
 abbrev pub from_new : Circuit
@@ -52,7 +52,7 @@ for_nothing = live_circuit (reading 0 7 ∷ []) (reply 1 (status_reply (reading 
 abbrev pub refused_for_nothing : World
 refused_for_nothing = world (for_nothing ∷ []) read_lines temp_there
 
--- ---- the second
+-- ---- answers and notices that are not of their own request
 
 -- The read at place 1 was not handled, and yet a reply to it came.
 abbrev pub invented_answer : World
@@ -175,7 +175,7 @@ unanswered = live_circuit (putting 0 8 22 ∷ []) [] (step 1 1 2 ∷ [])
 abbrev pub unanswered_put : World
 unanswered_put = world (unanswered ∷ []) put_lines finished_entries
 
--- ---- the third
+-- ---- writes that are applied twice, or elsewhere, or dropped
 
 -- The write of one place is applied twice.
 abbrev pub applied_twice : Stored → World
@@ -195,7 +195,7 @@ applied_early =
 abbrev pub dropped_for_nothing : World
 dropped_for_nothing = world (unanswered ∷ []) put_lines withdrawn_entries
 
--- ---- the fourth
+-- ---- updates that do not follow their record
 
 -- the updates of an EVENT_ADD at place 1 that are sent
 abbrev pub updates_sent : List Told → Circuit

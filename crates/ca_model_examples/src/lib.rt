@@ -1,5 +1,5 @@
-//! Small histories for each clause of the statement, some safe and each of the others breaking one; and what calls and events
-//! leave on worked rows.
+//! Small histories for each part of the statement, some safe, and others of which each is unsafe by one part; and what calls and
+//! events leave on worked rows.
 #![tactic(auto)]
 
 mod client_events;
