@@ -1,0 +1,4 @@
+pub mod Lists
+pub mod Flows
+pub mod Settled
+pub mod Replies

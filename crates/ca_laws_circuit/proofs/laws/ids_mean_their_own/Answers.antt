@@ -1,0 +1,11 @@
+use Rattle.ca_laws_circuit.specs.Flows.{Awaits, with_handled}
+use Rattle.ca_laws_circuit.proofs.Flows.{awaits-handled, flows-handled, flows-heard, flows-sent, flows-told}
+use Rattle.ca_laws_circuit.proofs.laws.ids_mean_their_own.Goals as goal
+
+pub returns : goal.returns
+returns c = record {
+  sent = λ kept d s may f. flows-sent (Awaits d kept) d s may f;
+  read = λ kept d h now lt f. flows-heard (Awaits d kept) d h now lt f;
+  told = λ kept fewer d t may f. flows-told (Awaits d kept) (Awaits d fewer) d t may f;
+  handled = λ kept now d h were f. flows-handled (Awaits d kept) (Awaits (with_handled h d) now) d h (awaits-handled kept now d h were) f;
+}
