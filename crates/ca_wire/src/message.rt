@@ -138,14 +138,14 @@ impl Message {
     }
 }
 
-/// Writes the one spelling of the message at the end. It grows the buffer once, before it writes.
+/// Writes the one spelling of the message at the end. It grows the buffer once, by just what it writes, before it writes.
 pub fn spell(message: &Message, out: &mut Vec<u8>) -> Result<(), AllocError>
     ensures ok { OnOk result (out.new.items ≡ out.old.items ++ spelling message.now) }
     ensures err { OnErr result (out.new.items ≡ out.old.items) }
-    ensures room { OnErr result (vec_capacity out.old < vec_len out.old + (24 + length message.now.payload)) }
+    ensures room { OnErr result (vec_capacity out.old < vec_len out.old + length (spelling message.now)) }
     ensures capacity { vec_capacity out.old ≤ vec_capacity out.new }
 {
-    out.reserve(24 + message.payload.len())?;
+    out.reserve(spelled_size(message))?;
     spell_header(&message.header(), out)?;
     out.extend_from_slice(&message.payload)
 }
