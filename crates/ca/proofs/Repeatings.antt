@@ -38,11 +38,6 @@ module _ {D : Type 0} (went refuses : D → Address → List ℕ → D → Type 
     rounds-all i n s0 s members same_number before = subst (λ (k : ℕ). Rounds went refuses came k s0 s members) same_number before
 
     module _ (fails : D → D → Type 0) where
-      -- a datagram that the repeater refused
-      pub lacked : (e : Refusal) (s t : D) (members after : List Address) (from : Address) (bytes : List ℕ) → came s from bytes t → Receives members from bytes (Err e) after → Takes went refuses came fails s members (Err e) t after
-      lacked OutOfMemory s t members after from bytes came_in receives = record { from = from; bytes = bytes; came_in = came_in; receives = receives }
-      lacked _ s t members after from bytes came_in receives = absurd receives
-
       pub breaks-off : (e : Refusal) (n i : ℕ) (s0 mid s : D) (members after : List Address) → i < n → Rounds went refuses came i s0 mid members → Takes went refuses came fails mid members (Err e) s after → Repeats went refuses came fails n s0 (Err e) s
       breaks-off Device n i s0 mid s members after below before takes = (i, mid, members, below, before, takes)
       breaks-off OutOfMemory n i s0 mid s members after below before takes = inr (i, mid, members, after, below, before, takes)
