@@ -2,3 +2,10 @@ pub mod Lists
 pub mod Flows
 pub mod Settled
 pub mod Replies
+pub mod Tables
+pub mod Requests
+pub mod Told
+pub mod Held
+pub mod Clears
+pub mod Sids
+pub mod Steps

@@ -1,2 +1,5 @@
 pub mod Flows
 pub mod Replies
+pub mod Held
+pub mod Sids
+pub mod Steps

@@ -1,14 +1,30 @@
-ghost use Rattle.std.specs.Prelude.{◌≡◌, ◌<◌, ◌≤◌, ◌⊎◌, List, Some, length, ℕ};
+ghost use Rattle.std.specs.Prelude.{[], ◌≡◌, ◌<◌, ◌≤◌, ◌⊎◌, ◌∷◌, Bool, List, Some, false, length, take, true, ℕ};
+ghost use Rattle.ca_text.specs.declared.command.Command.TheVariants.{EventAdd, CreateChannel, Write, WriteNotify};
+ghost use Rattle.ca_text.specs.Limits.{arena_slots};
 ghost use Rattle.ca_text.specs.Place.{At};
 ghost use Rattle.ca_wire.specs.Fields.{Fields};
 ghost use Rattle.ca_wire.specs.Header.{HeaderFits};
 ghost use Rattle.ca_wire.specs.Message.{header_of};
+ghost use Rattle.ca_wire.specs.Messages.{Wanted, disconnect};
+ghost use Rattle.ca_arena.specs.declared.handle.Handle.{Handle};
+ghost use Rattle.ca_ids.specs.Table.{MayGive, Table, by_wire, under, with_all, with_all_freed, with_changed, with_freed, with_held};
+ghost use Rattle.ca_ids.specs.Wire.{wire_of};
+ghost use Rattle.ca_records.specs.Puts.{Put};
+ghost use Rattle.ca_requests.specs.Requests.{Request, channel_over, was_sent_on};
+ghost use Rattle.ca_model.specs.Client.{Client, Live, Native, sending, standing_at};
+ghost use Rattle.ca_model.specs.Client as standing;
+ghost use Rattle.ca_model.specs.ClientCalls.{clear_sent, cleared};
 ghost use Rattle.ca_model.specs.Due.{Action, Due, Knows};
-ghost use Rattle.ca_model.specs.History.{Circuit, Reply, Sent, Step, Told};
-ghost use Rattle.ca_model.specs.Speech.{Gives, Id, In, Ioid, Speaks};
-ghost use Rattle.ca_model_safe.specs.Channels.{named};
-ghost use Rattle.ca_laws_circuit.specs.Replies.{IsOfMessage};
-ghost use Rattle.ca_laws_circuit.specs.Flows.{Awaits, Concerns, Flows, IsGiven, IsLast, IsPending, MaySend, MayTell, NoMore, with_handled, with_heard, with_sent, with_told};
+ghost use Rattle.ca_model.specs.History.{Ask, Circuit, Create, Entry, Intent, On, Reply, Sent, Step, Told};
+ghost use Rattle.ca_model.specs.ServerCalls.{finish_reply};
+ghost use Rattle.ca_model.specs.Speech.{Creates, Gives, Id, In, Ioid, Is, Speaks, Stored, name_in, sid_in};
+ghost use Rattle.ca_model.specs.Updates.{ShowsTo};
+ghost use Rattle.ca_model_safe.specs.Channels.{Has, IsOpen, before, named};
+ghost use Rattle.ca_model_world.specs.World.{Names};
+ghost use Rattle.ca_laws_circuit.specs.Flows.{Awaits, Concerns, Flows, IsCidOf, IsGiven, IsLast, IsPending, MaySend, MayTell, NoMore, with_handled, with_heard, with_sent, with_told};
+ghost use Rattle.ca_laws_circuit.specs.Held.{Holds, HoldsRequests, clear_of};
+ghost use Rattle.ca_laws_circuit.specs.Sids.{IsLiveBefore, MayCreate, Sids};
+ghost use Rattle.ca_laws_circuit.specs.Replies.{IsCidAt, IsOfMessage};
 
 /// The ids that are in flight on a circuit mean what they were sent for, however its lists grow.
 pub fn ids_mean_their_own()
@@ -33,4 +49,69 @@ pub fn an_id_is_free_again()
     ensures given { (kept : List ℕ) (c : Circuit) (h : Step) (t : Told) (s : Sent) (id : Id) → Flows (Awaits c kept) c → At c.down (length c.heard) t → t.cause ≡ Reply → At c.up t.place s → IsLast t.message s.intent → Gives s.message id → Speaks t.message id → ((p : ℕ) → t.place < p → Concerns c.up p id → ⊥) → (p : ℕ) → IsPending (Awaits c kept) (with_heard h c) p id → ⊥ }
     ensures over { (kept : List ℕ) (c : Circuit) (h : Step) (p : ℕ) (id : Id) → NoMore (Awaits c kept) c (length c.heard) p → IsPending (Awaits c kept) (with_heard h c) p id → ⊥ }
     ensures own { (kept : List ℕ) (c : Circuit) (t : Told) (id : Id) (k number : ℕ) → Flows (Awaits c kept) c → At c.down (length c.heard) t → Speaks t.message id → IsGiven c.up id k number → (r : Sent) × At c.up t.place r × (named id r.intent ≡ Some number) × (k ≤ t.place) }
+{}
+
+/// So each message of a server speaks only of ids that the client's message concerns about which it is: each reply that is due, if a WRITE was
+/// handled on the channel for which it was meant; the reply of a finish; a SERVER_DISCONN; and an update.
+pub fn what_is_told_speaks_of_its_own()
+    ensures reply { (up : List Sent) (place : ℕ) (s : Sent) (k : Knows) (replies : List Fields) (action : Action) → At up place s → HeaderFits (header_of s.message) → Due k s.message replies action → (Is Write s.message → (cid : ℕ) → IsCidAt k s.message.p1 cid → IsCidOf up place s.intent cid) → (i : ℕ) (r : Fields) → At replies i r → (id : Id) → Speaks r id → Concerns up place id }
+    ensures finish { (up : List Sent) (place : ℕ) (s : Sent) (p : Put) → At up place s → Is WriteNotify s.message → s.message.p2 ≡ p.ioid → (id : Id) → Speaks (finish_reply p) id → Concerns up place id }
+    ensures removal { (up : List Sent) (place : ℕ) (s : Sent) (cid : ℕ) → At up place s → Is CreateChannel s.message → s.message.p1 ≡ cid → (id : Id) → Speaks (disconnect cid) id → Concerns up place id }
+    ensures update { (up : List Sent) (place : ℕ) (s : Sent) (w : Wanted) (v : Stored) (m : Fields) → At up place s → Is EventAdd s.message → s.message.p2 ≡ w.id → ShowsTo w v m → (id : Id) → Speaks m id → Concerns up place id }
+{}
+
+/// What is in a table of wire ids after each change is what was there and was not changed, and what was put there; an id that may be given is held by
+/// nothing; and what holds a wire id is found by it.
+pub fn tables_hold_what_was_put_there<T>()
+    ensures fresh { (t : Table T) (g h : Handle) (v : T) → length t ≤ arena_slots → MayGive t h → under t g ≡ Some v → wire_of g ≡ wire_of h → ⊥ }
+    ensures one { (t : Table T) (g h : Handle) (v w : T) → length t ≤ arena_slots → under t g ≡ Some v → under t h ≡ Some w → wire_of g ≡ wire_of h → g ≡ h }
+    ensures found { (t : Table T) (h : Handle) (v : T) → length t ≤ arena_slots → under t h ≡ Some v → by_wire t (wire_of h) ≡ Some (h, v) }
+    ensures finds { (t : Table T) (id : ℕ) (e : Handle × T) → by_wire t id ≡ Some e → (under t e.0 ≡ Some e.1) × (wire_of e.0 ≡ id) }
+    // Something new holds an id: nothing else changes.
+    ensures held { (t : Table T) (h : Handle) (v : T) → MayGive t h → under (with_held h v t) h ≡ Some v }
+    ensures held_too { (t : Table T) (g h : Handle) (v w : T) → MayGive t h → under t g ≡ Some w → under (with_held h v t) g ≡ Some w }
+    ensures held_only { (t : Table T) (g h : Handle) (v w : T) → under (with_held h v t) g ≡ Some w → ((g ≡ h) × (w ≡ v)) ⊎ (under t g ≡ Some w) }
+    // One is changed, or its id is free.
+    ensures changed { (f : T → T) (t : Table T) (h : Handle) (u : T) → under t h ≡ Some u → under (with_changed f h t) h ≡ Some (f u) }
+    ensures changed_only { (f : T → T) (t : Table T) (g h : Handle) (w : T) → under (with_changed f h t) g ≡ Some w → ((g ≡ h) × ((u : T) × (under t h ≡ Some u) × (w ≡ f u))) ⊎ ((g ≡ h → ⊥) × (under t g ≡ Some w)) }
+    ensures others_stay { (f : T → T) (t : Table T) (g h : Handle) (w : T) → under t g ≡ Some w → (g ≡ h → ⊥) → (under (with_changed f h t) g ≡ Some w) × (under (with_freed h t) g ≡ Some w) }
+    ensures freed { (t : Table T) (g h : Handle) (w : T) → under (with_freed h t) g ≡ Some w → (g ≡ h → ⊥) × (under t g ≡ Some w) }
+    // All are changed, or the ids of those that a test names are free.
+    ensures all { (f : T → T) (t : Table T) (g : Handle) (u : T) → under t g ≡ Some u → under (with_all f t) g ≡ Some (f u) }
+    ensures all_only { (f : T → T) (t : Table T) (g : Handle) (w : T) → under (with_all f t) g ≡ Some w → (u : T) × (under t g ≡ Some u) × (w ≡ f u) }
+    ensures all_freed { (frees : T → Bool) (t : Table T) (g : Handle) (u : T) → under t g ≡ Some u → frees u ≡ false → under (with_all_freed frees t) g ≡ Some u }
+    ensures all_freed_only { (frees : T → Bool) (t : Table T) (g : Handle) (w : T) → under (with_all_freed frees t) g ≡ Some w → (under t g ≡ Some w) × (frees w ≡ false) }
+{}
+
+/// A client's requests on a circuit hold their IOIDs, as its lists grow: each IOID that may still come back is held, and was given last to the
+/// request that holds it.
+pub fn requests_hold_their_ids()
+    // The lists grow, and the table stays.
+    ensures sent { (kept : List ℕ) (on : Handle) (meant : Handle → Intent) (t : Table Request) (c : Circuit) (s : Sent) → ((n : ℕ) → Gives s.message (Ioid n) → ⊥) → HoldsRequests (Awaits c kept) on meant t c → HoldsRequests (Awaits c kept) on meant t (with_sent s c) }
+    ensures told { (kept fewer : List ℕ) (on : Handle) (meant : Handle → Intent) (t : Table Request) (c : Circuit) (u : Told) → MayTell (Awaits c kept) (Awaits c fewer) c u → HoldsRequests (Awaits c kept) on meant t c → HoldsRequests (Awaits c fewer) on meant t (with_told u c) }
+    ensures handled { (kept now : List ℕ) (on : Handle) (meant : Handle → Intent) (t : Table Request) (c : Circuit) (g : Step) → ((p : ℕ) → In now p → In kept p ⊎ (p ≡ length c.handled)) → HoldsRequests (Awaits c kept) on meant t c → HoldsRequests (Awaits (with_handled g c) now) on meant t (with_handled g c) }
+    ensures heard { (kept : List ℕ) (on : Handle) (meant : Handle → Intent) (t : Table Request) (c : Circuit) (g : Step) → HoldsRequests (Awaits c kept) on meant t c → HoldsRequests (Awaits c kept) on meant t (with_heard g c) }
+    // A request is issued: nothing that may still come speaks of its IOID. And its reply is read, which frees that.
+    ensures fresh { (kept : List ℕ) (on : Handle) (meant : Handle → Intent) (t : Table Request) (c : Circuit) (q : Handle) → MayGive t q → HoldsRequests (Awaits c kept) on meant t c → (p : ℕ) → IsPending (Awaits c kept) c p (Ioid (wire_of q)) → ⊥ }
+    ensures issued { (kept : List ℕ) (on : Handle) (meant : Handle → Intent) (t : Table Request) (c : Circuit) (q : Handle) (r : Request) (s : Sent) (number : ℕ) → MayGive t q → was_sent_on on r ≡ true → Gives s.message (Ioid (wire_of q)) → meant q ≡ s.intent → named (Ioid (wire_of q)) s.intent ≡ Some number → HoldsRequests (Awaits c kept) on meant t c → HoldsRequests (Awaits c kept) on meant (with_held q r t) (with_sent s c) }
+    ensures replied { (kept : List ℕ) (on : Handle) (meant : Handle → Intent) (t : Table Request) (c : Circuit) (g : Step) (u : Told) (s : Sent) (q : Handle) → Flows (Awaits c kept) c → At c.down (length c.heard) u → u.cause ≡ Reply → At c.up u.place s → IsLast u.message s.intent → Speaks u.message (Ioid (wire_of q)) → HoldsRequests (Awaits c kept) on meant t c → HoldsRequests (Awaits c kept) on meant (with_freed q t) (with_heard g c) }
+    // A channel is over, and its requests drain; those of which nothing may still come are freed.
+    ensures over { (kept : List ℕ) (on channel : Handle) (meant : Handle → Intent) (t : Table Request) (c : Circuit) → HoldsRequests (Awaits c kept) on meant t c → HoldsRequests (Awaits c kept) on meant (channel_over channel t) c }
+    ensures freed { (kept : List ℕ) (on : Handle) (meant : Handle → Intent) (frees : Request → Bool) (t : Table Request) (c : Circuit) → ((p n : ℕ) (q : Handle) (r : Request) → IsPending (Awaits c kept) c p (Ioid n) → under t q ≡ Some r → wire_of q ≡ n → was_sent_on on r ≡ true → frees r ≡ false) → HoldsRequests (Awaits c kept) on meant t c → HoldsRequests (Awaits c kept) on meant (with_all_freed frees t) c }
+{}
+
+/// What the SIDs in a client's messages mean on a circuit, as its lists grow: each message on a channel has the SID under which that is live. So it is
+/// handled on the channel that was meant, and under one SID one channel is live.
+pub fn sids_mean_their_channel()
+    ensures sent { (c : Circuit) (s : Sent) → ((channel : ℕ) (ask : Ask) → s.intent ≡ On channel ask → (ask ≡ Create → ⊥) → (j k : ℕ) × IsLiveBefore c channel j k (sid_in s.message) (length c.up)) → Sids c → Sids (with_sent s c) }
+    ensures read { (c : Circuit) (g : Step) → g.sent ≡ length c.up → length c.handled ≤ length c.up → length c.heard < length c.down → Sids c → Sids (with_heard g c) }
+    ensures handled { (c : Circuit) (h : Step) → h.sent ≡ length c.down → Sids c → Sids (with_handled h c) }
+    ensures told { (c : Circuit) (t : Told) → t.place < length c.handled → ((sid : ℕ) → Creates t.message sid → MayCreate c sid t.place) → Sids c → Sids (with_told t c) }
+    ensures one { (c : Circuit) (a b i j k l sid at : ℕ) → Sids c → IsLiveBefore c a i k sid at → IsLiveBefore c b j l sid at → (i ≡ j) × (k ≡ l) }
+    ensures acts { (c : Circuit) (y : List Entry) (p channel : ℕ) (s : Sent) (ask : Ask) (h : Step) → Sids c → At c.up p s → s.intent ≡ On channel ask → (ask ≡ Create → ⊥) → At c.handled p h → (j k : ℕ) × (t : Told) × (q : Sent) × At c.down j t × (t.place ≡ k) × At c.up k q × (q.intent ≡ On channel Create) × ((r : ℕ) (g : Step) → At c.handled k g → Has (take g.logged (take h.logged y)) r (name_in q.message) → IsOpen (before c p h) (take h.logged y) j k (sid_in s.message) r) }
+{}
+
+/// A caller clears a live channel: its CLEAR_CHANNEL may be sent, and what the client's tables hold of the circuit stays so.
+pub fn a_clear_keeps_what_is_held()
+    ensures { (kept : List ℕ) (on : Handle) (n : Names) (x : Client) (c : Circuit) (h : Handle) (native : Native) (rights : ℕ) → standing_at x h ≡ Some (standing.On on (Live native rights)) → Holds (Awaits c kept) on n x c → MaySend (Awaits c kept) c (clear_of n native.sid h) × Holds (Awaits c kept) on n (sending (clear_sent on native.sid h ∷ []) (cleared h (standing.On on (Live native rights)) x)) (with_sent (clear_of n native.sid h) c) }
 {}

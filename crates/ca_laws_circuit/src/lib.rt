@@ -3,4 +3,7 @@
 
 mod laws;
 
-pub use laws::{an_id_is_free_again, due_replies_speak_of_their_message, ids_mean_their_own};
+pub use laws::{
+    a_clear_keeps_what_is_held, an_id_is_free_again, due_replies_speak_of_their_message, ids_mean_their_own, requests_hold_their_ids,
+    sids_mean_their_channel, tables_hold_what_was_put_there, what_is_told_speaks_of_its_own,
+};

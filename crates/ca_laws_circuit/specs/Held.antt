@@ -1,0 +1,75 @@
+-- Working: what a client's tables hold of one circuit: each id that may still come back, and what it was given to.
+use Rattle.std.specs.Prelude.{ℕ, ◌≡◌, ◌≤◌, ◌&&◌, ◌||◌, Bool, true, false, Some, length, option_map, unwrap_or}
+use Rattle.ca_text.specs.Limits.{arena_slots}
+use Rattle.ca_arena.specs.declared.handle.Handle.{Handle}
+use Rattle.ca_ids.specs.Table.{Table, under}
+use Rattle.ca_ids.specs.Wire.{wire_of}
+use Rattle.ca_wire.specs.Messages.{clear_request}
+use Rattle.ca_requests.specs.Requests.{Request, was_sent_on}
+use Rattle.ca_monitor.specs.Subscriptions.{Subscription, drains_in, stands_in}
+use Rattle.ca_model.specs.Client.{Channel, Client, Connecting, Leaving, Live, Phase, is_on_in}
+use Rattle.ca_model.specs.Speech.{Cid, Id, Ioid, SubId}
+use Rattle.ca_model.specs.History.{Circuit, Clear, Create, Intent, On, Sent}
+use Rattle.ca_model_safe.specs.Channels.{named}
+use Rattle.ca_model_world.specs.ClientEvents.{channel_number, meant_by}
+use Rattle.ca_model_world.specs.World.{Names}
+use Rattle.ca_laws_circuit.specs.Flows.{IsGiven, IsPending}
+
+-- what has an id is given last to what is meant by its handle
+abbrev pub IsMeant : Circuit → Intent → Id → Type 0
+IsMeant c intent id = (k number : ℕ) × IsGiven c.up id k number × (named id intent ≡ Some number)
+
+-- an id of this kind and number is held: by what passes the test
+abbrev pub IsHeld : {T : Type 0} → (here : T → Bool) → Table T → (n : ℕ) → Type 0
+IsHeld {T} here t n = (h : Handle) × (v : T) × (under t h ≡ Some v) × (wire_of h ≡ n) × (here v ≡ true)
+
+-- A table whose handles' wire ids are ids of one kind: those that pass the test have theirs on this circuit. What is meant by a handle is told by its
+-- client's names.
+pub record HoldsIds {T : Type 0} (Awaits : ℕ → Type 0) (kind : ℕ → Id) (here : T → Bool) (meant : Handle → Intent) (t : Table T) (c : Circuit) : Type 0 where
+  -- there are no more indices than ids have
+  pub few : length t ≤ arena_slots
+  -- Clause 2, `own`: an id that may still come back is held, so that it is given to nothing else.
+  pub busy : (p n : ℕ) → IsPending Awaits c p (kind n) → IsHeld here t n
+  -- Clause 2, `told`: what holds an id was given it last, so that the message that finds it is about it.
+  pub own : (h : Handle) (v : T) → under t h ≡ Some v → here v ≡ true → IsMeant c (meant h) (kind (wire_of h))
+
+-- ---- requests: those that were sent on the circuit of this handle, open or draining
+
+abbrev pub HoldsRequests : (Awaits : ℕ → Type 0) (on : Handle) (meant : Handle → Intent) → Table Request → Circuit → Type 0
+HoldsRequests Awaits on meant t c = HoldsIds Awaits Ioid (was_sent_on on) meant t c
+
+-- ---- channels: those whose CREATE_CHAN went out on it, and whose clear was not answered
+
+-- its CREATE_CHAN went out
+abbrev pub is_asked : Phase → Bool
+is_asked Connecting = false
+is_asked p = true
+
+abbrev pub HoldsChannels : (Awaits : ℕ → Type 0) (on : Handle) (number : Handle → ℕ) → Table Channel → Circuit → Type 0
+HoldsChannels Awaits on number t c = HoldsIds Awaits Cid (is_on_in is_asked on) (λ (h : Handle). On (number h) Create) t c
+
+-- ---- subscriptions: those that stand on a channel that is live or leaves there, or drain there
+
+-- the channel's EVENT_ADDs went out, and its clear was not answered; its caller did not clear it
+abbrev pub is_subscribed : Phase → Bool
+is_subscribed (Live n rights) = true
+is_subscribed Leaving = true
+is_subscribed p = false
+
+abbrev pub has_id : Table Channel → (on : Handle) → Subscription → Bool
+has_id channels on s =
+    drains_in on s.stage || (stands_in s.stage && unwrap_or (option_map (is_on_in is_subscribed on) (under channels s.channel)) false)
+
+abbrev pub HoldsSubscriptions : (Awaits : ℕ → Type 0) (on : Handle) (meant : Handle → Intent) → Table Channel → Table Subscription → Circuit → Type 0
+HoldsSubscriptions Awaits on meant channels t c = HoldsIds Awaits SubId (has_id channels on) meant t c
+
+-- ---- all three: what a client's core, whose handles these names name, holds of the circuit of this handle
+
+pub record Holds (Awaits : ℕ → Type 0) (on : Handle) (n : Names) (x : Client) (c : Circuit) : Type 0 where
+  pub channels : HoldsChannels Awaits on (channel_number n) x.channels c
+  pub requests : HoldsRequests Awaits on (meant_by n.requests) x.requests c
+  pub subscriptions : HoldsSubscriptions Awaits on (meant_by n.subscriptions) x.channels x.subscriptions c
+
+-- the CLEAR_CHANNEL of a channel, as the world stamps it
+abbrev pub clear_of : Names → (sid : ℕ) → Handle → Sent
+clear_of n sid h = record { message = clear_request sid (wire_of h); intent = On (channel_number n h) Clear }
