@@ -1,5 +1,6 @@
 pub mod Lists
 pub mod Unsafe
+pub mod Broken
 pub mod UsedActs
 pub mod Speaks
 pub mod UsedOwn

@@ -2,6 +2,7 @@
 //! leave on worked rows.
 #![tactic(auto)]
 
+mod broken_worlds;
 mod client_events;
 mod client_hears;
 mod client_rows;
@@ -12,6 +13,11 @@ mod server_events;
 mod server_rows;
 mod unsafe_worlds;
 
+pub use broken_worlds::{
+    a_message_that_is_not_its_own_is_unsafe, a_refusal_too_soon_is_unsafe,
+    a_request_that_is_not_once_is_unsafe, a_write_that_is_not_as_told_is_unsafe,
+    an_update_of_nothing_is_unsafe, what_may_not_be_sent_is_not_legal,
+};
 pub use client_events::{
     a_call_clears, a_call_opens, a_call_puts, a_call_reads, a_call_subscribes, a_call_unsubscribes,
     a_call_writes, a_circuit_is_accepted, a_cut_is_told, a_datagram_comes, a_request_is_given_up,
