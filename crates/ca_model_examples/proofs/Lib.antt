@@ -2,6 +2,7 @@ pub mod Lists
 pub mod Unsafe
 pub mod Broken
 pub mod UsedActs
+pub mod Unread
 pub mod Speaks
 pub mod UsedOwn
 pub mod UsedRest

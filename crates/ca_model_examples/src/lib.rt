@@ -41,7 +41,8 @@ pub use due_replies::{
     searches_are_due, subscriptions_are_due, writes_are_due,
 };
 pub use safe_worlds::{
-    a_channel_in_use_is_safe, a_channel_that_comes_back_is_safe_and_legal,
+    a_channel_in_use_is_safe, a_channel_is_live_until_its_disconnection_is_read,
+    a_channel_that_comes_back_is_safe_and_legal,
     a_channel_that_moves_to_an_earlier_circuit_is_safe_and_legal,
     a_put_that_waited_is_applied_after_its_client_began_again, a_shared_id_is_safe_but_not_legal,
     updates_of_two_circuits_may_cross,
