@@ -1,6 +1,8 @@
 pub mod Lists
 pub mod Unsafe
+pub mod Broken
 pub mod UsedActs
+pub mod Unread
 pub mod Speaks
 pub mod UsedOwn
 pub mod UsedRest

@@ -1,6 +1,7 @@
 pub mod Worlds
 pub mod Waited
 pub mod Unsafe
+pub mod Broken
 pub mod Safe
 pub mod ServerRows
 pub mod DueReplies

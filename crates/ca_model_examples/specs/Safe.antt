@@ -93,3 +93,15 @@ reopened_entries = Added 0 temp ∷ Removed 0 ∷ Added 1 (record temp { value =
 
 abbrev pub reopened_world : Outcome → World
 reopened_world o = world (reopened ∷ []) (reopened_lines o) reopened_entries
+
+-- ---- a SERVER_DISCONN that is unread
+
+-- TEMP was removed while its channel was live, and the client did not read that yet.
+abbrev pub unread : Circuit
+unread = circuit (creating ∷ []) (created_told ∷ disconnected ∷ []) (step 0 1 1 ∷ []) (step 1 1 2 ∷ [])
+
+abbrev pub unread_lines : List Line
+unread_lines = Opened 0 temp_name ∷ Noticed (On 0 Create) outcome.Done ∷ []
+
+abbrev pub unread_entries : List Entry
+unread_entries = Added 0 temp ∷ Removed 0 ∷ []

@@ -2,6 +2,7 @@
 //! events leave on worked rows.
 #![tactic(auto)]
 
+mod broken_worlds;
 mod client_events;
 mod client_hears;
 mod client_rows;
@@ -12,6 +13,11 @@ mod server_events;
 mod server_rows;
 mod unsafe_worlds;
 
+pub use broken_worlds::{
+    a_message_that_is_not_its_own_is_unsafe, a_refusal_too_soon_is_unsafe,
+    a_request_that_is_not_once_is_unsafe, a_write_that_is_not_as_told_is_unsafe,
+    an_update_of_nothing_is_unsafe, what_may_not_be_sent_is_not_legal,
+};
 pub use client_events::{
     a_call_clears, a_call_opens, a_call_puts, a_call_reads, a_call_subscribes, a_call_unsubscribes,
     a_call_writes, a_circuit_is_accepted, a_cut_is_told, a_datagram_comes, a_request_is_given_up,
@@ -35,7 +41,8 @@ pub use due_replies::{
     searches_are_due, subscriptions_are_due, writes_are_due,
 };
 pub use safe_worlds::{
-    a_channel_in_use_is_safe, a_channel_that_comes_back_is_safe_and_legal,
+    a_channel_in_use_is_safe, a_channel_is_live_until_its_disconnection_is_read,
+    a_channel_that_comes_back_is_safe_and_legal,
     a_channel_that_moves_to_an_earlier_circuit_is_safe_and_legal,
     a_put_that_waited_is_applied_after_its_client_began_again, a_shared_id_is_safe_but_not_legal,
     updates_of_two_circuits_may_cross,

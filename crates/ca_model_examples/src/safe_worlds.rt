@@ -1,11 +1,13 @@
 ghost use Rattle.ca_dbr.specs.declared.value.Outcome.{Outcome};
 ghost use Rattle.ca_wire.specs.Fields.{Fields};
 ghost use Rattle.ca_model_safe.specs.Known.{IsSafe};
+ghost use Rattle.ca_model_safe.specs.Headline.{ActsOnRecord};
 ghost use Rattle.ca_model_safe.specs.Legal.{Legal};
 ghost use Rattle.ca_requests.specs.Meaning.{Means};
-ghost use Rattle.ca_model_examples.specs.Worlds.{ports, rules};
+ghost use Rattle.ca_model.specs.Updates.{Shows};
+ghost use Rattle.ca_model_examples.specs.Worlds.{AnyDue, ports, rules};
 ghost use Rattle.ca_model_examples.specs.Moved.{moved_world};
-ghost use Rattle.ca_model_examples.specs.Safe.{SeesCrossed, first_update, reopened_world, shared_id, used_world};
+ghost use Rattle.ca_model_examples.specs.Safe.{SeesCrossed, first_update, reopened_world, shared_id, unread, unread_entries, unread_lines, used_world};
 ghost use Rattle.ca_model_examples.specs.Waited.{waited_world};
 
 /// A channel on which a put was done, a read answered and an update sent is safe, with all that was due.
@@ -16,6 +18,12 @@ pub fn a_channel_in_use_is_safe()
 /// Updates of two circuits may be reported in the order in which they were read, also if the later circuit's came first.
 pub fn updates_of_two_circuits_may_cross()
     ensures { (m : Fields) (o p : Outcome) → SeesCrossed m o p }
+{}
+
+/// A channel whose record was removed is live at its client until the client reads the
+/// SERVER_DISCONN: that keeps the first clause.
+pub fn a_channel_is_live_until_its_disconnection_is_read()
+    ensures { ActsOnRecord AnyDue Shows Means 0 unread unread_lines unread_entries }
 {}
 
 /// An id that is given again while it may still come back is illegal at once, and safe as long as no message speaks of it.
