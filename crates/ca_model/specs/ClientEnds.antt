@@ -13,7 +13,9 @@ use Rattle.ca_ids.specs.Table.{Table, held, under, with_all, with_changed}
 use Rattle.ca_beacon.specs.Table.{anomaly, noted, server}
 use Rattle.ca_dgram.specs.Datagram.{IsDatagram}
 use Rattle.ca_dgram.specs.Search as dgram
-use Rattle.ca_link.specs.Link.{Close, Echo, Idle, Keep, TakesFirst, kept, new_link, with_given, with_handed, with_rest}
+use Rattle.ca_link.specs.declared.keep.Keep.{Keep}
+use Rattle.ca_link.specs.declared.keep.Keep.TheVariants.{Close, Echo, Idle}
+use Rattle.ca_link.specs.Link.{TakesFirst, kept, new_link, with_given, with_handed, with_rest}
 use Rattle.ca_search.specs.Searcher as searcher
 use Rattle.ca_search.specs.Searches as search
 use Rattle.ca_wire.specs.Fields.{Fields}

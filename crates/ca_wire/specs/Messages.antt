@@ -12,11 +12,11 @@ use Rattle.ca_wire.specs.Message.{header_of}
 -- What a request on a channel names: the SID, the IOID or subscription id, and the type and count that are wanted (Wanted). The ids of a
 -- channel (ChannelIds). What a search found (Found), a channel as it was created (Created), and what an answer or an update is about
 -- (Answered).
-pub use Rattle.ca_wire.specs.declared.requests.Wanted.{Wanted}
-pub use Rattle.ca_wire.specs.declared.requests.ChannelIds.{ChannelIds}
-pub use Rattle.ca_wire.specs.declared.replies.Found.{Found}
-pub use Rattle.ca_wire.specs.declared.replies.Created.{Created}
-pub use Rattle.ca_wire.specs.declared.replies.Answered.{Answered}
+use Rattle.ca_wire.specs.declared.requests.Wanted.{Wanted}
+use Rattle.ca_wire.specs.declared.requests.ChannelIds.{ChannelIds}
+use Rattle.ca_wire.specs.declared.replies.Found.{Found}
+use Rattle.ca_wire.specs.declared.replies.Created.{Created}
+use Rattle.ca_wire.specs.declared.replies.Answered.{Answered}
 
 -- a command alone: ECHO, EVENTS_OFF, EVENTS_ON ("CA_PROTO_ECHO", "CA_PROTO_EVENTS_OFF", "CA_PROTO_EVENTS_ON")
 abbrev pub bare : Command → Fields
