@@ -5,8 +5,8 @@ use Rattle.ca_wire.specs.Fields.{Fields}
 use Rattle.ca_wire.specs.Message.{Spells, spelled}
 use Rattle.ca_wire.specs.Stream.{Held}
 -- What a moment asks of an end: nothing (Idle), an ECHO (Echo), or to close (Close).
-pub use Rattle.ca_link.specs.declared.keep.Keep.{Keep}
-pub use Rattle.ca_link.specs.declared.keep.Keep.TheVariants.{Close, Echo, Idle}
+use Rattle.ca_link.specs.declared.keep.Keep.{Keep}
+use Rattle.ca_link.specs.declared.keep.Keep.TheVariants.{Close, Echo, Idle}
 
 -- What came and was not read, and whether a bad header was met; what waits to be sent; the moment at which bytes came last; and whether
 -- an ECHO went out since.

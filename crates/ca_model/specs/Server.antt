@@ -12,7 +12,7 @@ use Rattle.ca_records.specs.Puts.{Record, Stamp, new_record}
 use Rattle.ca_records.specs.Record.{RecordState}
 use Rattle.ca_records.specs.Rules.{Rule}
 use Rattle.ca_text.specs.Limits.{circuit_queues}
-use Rattle.ca_wire.specs.Messages.{Wanted}
+use Rattle.ca_wire.specs.declared.requests.Wanted.{Wanted}
 use Rattle.ca_model.specs.Ends.{Peer, Why}
 use Rattle.ca_model.specs.Speech.{Stored, share_bit}
 

@@ -7,7 +7,7 @@ use Rattle.ca_arena.specs.declared.handle.Handle.{Handle}
 use Rattle.ca_beacon.specs.Clock as beacon
 use Rattle.ca_dbr.specs.Elements.{Elements, base_of, count_of}
 use Rattle.ca_dgram.specs.Datagram.{IsDatagram}
-use Rattle.ca_dgram.specs.Messages.{beacon_message, version_message}
+use Rattle.ca_dgram.specs.Messages.{beacon_message}
 use Rattle.ca_ids.specs.Table.{held, under, with_each}
 use Rattle.ca_ids.specs.Wire.{wire_of}
 use Rattle.ca_link.specs.Link.{with_sent}
@@ -24,7 +24,7 @@ use Rattle.ca_text.specs.Place.{At}
 use Rattle.ca_text.specs.Status.{normal}
 use Rattle.ca_wire.specs.Fields.{Fields}
 use Rattle.ca_wire.specs.Message.{spelled, spelling}
-use Rattle.ca_wire.specs.Messages.{disconnect, search_reply, text_in}
+use Rattle.ca_wire.specs.Messages.{disconnect, search_reply, text_in, version_reply}
 use Rattle.ca_model.specs.Ends as why
 use Rattle.ca_model.specs.Server.{Ended, Open, OpenChannel, Server, ServerCircuit, ServerEnd, without_subscriptions}
 use Rattle.ca_model.specs.ServerSteps.{HasEnd, MayEnd, after_post, counted, is_concerned, stored_now, with_end, write_mask}
@@ -179,7 +179,7 @@ pub record ArePacked (replies : List Fields) (datagrams : List (List ℕ)) : Typ
   pub groups : List (List Fields)
   pub all : flat_map (λ (g : List Fields). g) groups ≡ replies
   pub sizes : (i : ℕ) (g : List Fields) → At groups i g → (g ≢ []) × (length g ≤ datagram_replies) × (i + 1 < length groups → length g ≡ datagram_replies)
-  pub are : datagrams ≡ map (λ (g : List Fields). spelled (version_message ∷ g)) groups
+  pub are : datagrams ≡ map (λ (g : List Fields). spelled (version_reply ∷ g)) groups
 
 -- `datagram`: the answers to a datagram, in the order of its searches; the server is as it was.
 abbrev pub AnswersDatagram : Server → List ℕ → Result (List (List ℕ)) Refusal → Type 0

@@ -15,8 +15,8 @@ use Rattle.ca_wire.specs.Fields.{Fields}
 use Rattle.ca_wire.specs.Header.{header_spelling, short_header, extended_header, number16, number32}
 use Rattle.ca_wire.specs.Message.{spelled, spelling}
 use Rattle.ca_wire.specs.Stream.{BadAt, NoneBegins, NotBad}
+use Rattle.ca_wire.specs.Messages.{version_reply}
 use Rattle.ca_wire.proofs.Fronts.{no-header, none-below}
-use Rattle.ca_dgram.specs.Messages.{version_message}
 use Rattle.ca_ids.specs.Table.{under}
 use Rattle.ca_model.specs.Ends.{Why}
 use Rattle.ca_model.specs.Ends as why
@@ -228,7 +228,7 @@ packs-replies = (
     sizes = λ i g at. each-at (Fits 2) (replicate 42 one_reply ∷ (one_reply ∷ []) ∷ []) ((some-reply, omega arith, (λ l. refl)), ((some-reply, omega arith, (λ l. absurd (omega (arith, l)))), tt)) i g at;
     are = refl;
   },
-  λ ds p. p.are ∙ ap (λ (gs : List (List Fields)). map (λ (g : List Fields). spelled (version_message ∷ g)) gs) (no-groups p.groups p.all (λ i g at. (p.sizes i g at).0)),
+  λ ds p. p.are ∙ ap (λ (gs : List (List Fields)). map (λ (g : List Fields). spelled (version_reply ∷ g)) gs) (no-groups p.groups p.all (λ i g at. (p.sizes i g at).0)),
 )
 
 no-sent : {s : Handle × Fields} → s ∷ [] ≡ [] → ⊥

@@ -6,7 +6,8 @@ use Rattle.ca_dbr.specs.declared.value.Outcome.TheVariants as outcome
 use Rattle.ca_text.specs.declared.command.Command.TheVariants as command
 use Rattle.ca_text.specs.declared.refusal.Refusal.{Refusal}
 use Rattle.ca_text.specs.declared.refusal.Refusal.TheVariants as refusal
-use Rattle.ca_wire.specs.Messages.{Wanted, clear_request, event_add_request, event_cancel_request, put_request, read_request}
+use Rattle.ca_wire.specs.declared.requests.Wanted.{Wanted}
+use Rattle.ca_wire.specs.Messages.{clear_request, event_add_request, event_cancel_request, put_request, read_request}
 use Rattle.ca_model.specs.Answers.{Sending}
 use Rattle.ca_model.specs.Client.{Client, sending}
 use Rattle.ca_model.specs.ClientCalls.{issued, opened, put_sent, write_sent}

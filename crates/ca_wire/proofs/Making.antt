@@ -1,13 +1,15 @@
 -- Messages whose payload is made in its place.
-use Rattle.std.proofs.Common.{◌≡◌, ℕ, ◌+◌, ◌-◌, ◌%◌, ◌≤◌, ◌<◌, List, ◌++◌, length, replicate, Result, Ok, Err, IfOk, refl, sym, ap, ◌∙◌, subst, append_assoc, arith}
+use Rattle.std.proofs.Common.{◌≡◌, ℕ, ◌+◌, ◌-◌, ◌%◌, ◌≤◌, ◌<◌, List, ◌++◌, length, replicate, Result, Ok, Err, IfOk, refl, sym, ap, ◌∙◌, subst, append_assoc, arith, ◌⊎◌, inl, inr}
 use Rattle.std.specs.Result.{IsErrAnd}
 use Rattle.ca_text.specs.declared.refusal.Refusal.{Refusal}
 use Rattle.ca_text.specs.declared.refusal.Refusal.TheVariants.{OutOfMemory}
 use Rattle.ca_wire.specs.declared.header.Header.{Header}
 use Rattle.ca_wire.specs.Header.{header_spelling}
-use Rattle.ca_wire.specs.Fields.{Fields, padded}
+use Rattle.ca_wire.specs.Fields.{Fields, IsPayload, padded}
 use Rattle.ca_wire.specs.Made.{Extends, Makes, PutsMade, WritesMade, with_payload}
 use Rattle.ca_wire.specs.Message.{header_of, spelling}
+use Rattle.std.proofs.lemmas.List.{length-append, length-replicate}
+use Rattle.ca_wire.proofs.Headers.{length-header_spelling}
 use Rattle.ca_wire.proofs.Padding.{length-padded}
 
 pub same-error : {A : Type 0} (r : Result A Refusal) (e : Refusal) → IsErrAnd r (λ x. x ≡ e) → r ≡ Err e
@@ -58,3 +60,11 @@ made-whole m made old mid put new size n h sized e f at x last =
       last ∙ ap (λ (t : List ℕ). t ++ zeros) (x.2 ∙ ap (λ (t : List ℕ). t ++ bytes) at) ∙ append_assoc (old ++ header_spelling h) bytes zeros ∙ append_assoc old (header_spelling h) (bytes ++ zeros)
           ∙ ap (λ (t : List ℕ). old ++ t) (spelling-made m bytes size n h long e f),
     )
+
+-- a header that is quoted, with an empty text
+pub quotation-payload : (h : Header) → IsPayload (header_spelling h ++ replicate 8 0)
+quotation-payload h = quotation_of (header_spelling h) (length-header_spelling h)
+  where
+    quotation_of : (head : List ℕ) → (length head ≡ 16) ⊎ (length head ≡ 24) → IsPayload (head ++ replicate 8 0)
+    quotation_of head (inl e) = record { aligned = omega (arith, length-append head (replicate 8 0), length-replicate {A = ℕ} 8 0, e); within = omega (arith, length-append head (replicate 8 0), length-replicate {A = ℕ} 8 0, e) }
+    quotation_of head (inr e) = record { aligned = omega (arith, length-append head (replicate 8 0), length-replicate {A = ℕ} 8 0, e); within = omega (arith, length-append head (replicate 8 0), length-replicate {A = ℕ} 8 0, e) }

@@ -44,10 +44,10 @@ pub fn spell_header(header: &Header, out: &mut Vec<u8>) -> Result<(), AllocError
     out.extend_from_slice(&extended_form(header))
 }
 
-/// The header in 16 bytes.
-fn short_form(header: &Header) -> [u8; 16]
-    requires size { header.now.size < 65535 }
-    requires count { header.now.count < 65535 }
+/// The header in 16 bytes, also at a size or count of 65,535, with which `spell_header` never writes it so.
+pub fn short_form(header: &Header) -> [u8; 16]
+    requires size { header.now.size < 65536 }
+    requires count { header.now.count < 65536 }
     ensures { result ≡ short_header header.now }
 {
     let command = header.command.to_be_bytes();

@@ -1,11 +1,13 @@
-ghost use Rattle.std.specs.Prelude.{ℕ, List, ◌≡◌, ◌≢◌, ◌+◌, ◌%◌, ◌<◌, ◌≤◌, ◌++◌, [], length, MatchResult, OnErr, OnOk, vec_capacity, vec_len};
-ghost use Rattle.ca_wire.specs.Fields.{Fields, IsPayload};
+ghost use Rattle.std.specs.Prelude.{ℕ, List, ◌≡◌, ◌≢◌, ◌+◌, ◌%◌, ◌<◌, ◌≤◌, ◌++◌, [], length, IfOk, MatchResult, OnErr, OnOk, vec_capacity, vec_len};
+ghost use Rattle.ca_text.specs.Command.{command_number};
+ghost use Rattle.ca_text.specs.Limits.{payload_limit};
+ghost use Rattle.ca_wire.specs.Fields.{Fields, IsPayload, padded};
 ghost use Rattle.ca_wire.specs.Front.{FrontFits};
 ghost use Rattle.ca_wire.specs.Message.{IsMade, IsMessage, header_of, spelling};
 
 use crate::header::{Header, header_size, spell_header};
 use crate::reading::{One, read_one};
-use ca_text::{PAYLOAD_LIMIT, Refusal};
+use ca_text::{Command, PAYLOAD_LIMIT, Refusal};
 use std::alloc::{AllocError, Global};
 use std::marker::Model;
 
@@ -61,6 +63,62 @@ impl Message {
             p2,
             payload,
         })
+    }
+
+    /// The message of these fields, whose payload needs no padding. It takes no memory.
+    pub(crate) fn of_fields(
+        command: u16,
+        data_type: u16,
+        count: u32,
+        p1: u32,
+        p2: u32,
+        payload: Vec<u8>,
+    ) -> Message
+        requires { IsPayload payload.items }
+        ensures { result ≡ record { command = command; data_type = data_type; count = count; p1 = p1; p2 = p2; payload = payload.items } }
+    {
+        Message {
+            command,
+            data_type,
+            count,
+            p1,
+            p2,
+            payload,
+        }
+    }
+
+    /// The message of these fields, with no payload. It takes no memory.
+    pub(crate) fn with_no_payload(
+        alloc: Global,
+        command: Command,
+        data_type: u16,
+        count: u32,
+        p1: u32,
+        p2: u32,
+    ) -> Message
+        ensures { result ≡ record { command = command_number command; data_type = data_type; count = count; p1 = p1; p2 = p2; payload = [] } }
+    {
+        let payload = Vec::new(alloc);
+        Message::of_fields(command.number(), data_type, count, p1, p2, payload)
+    }
+
+    /// The message of these fields, its payload filled with zeros up to a multiple of 8. Only these take memory.
+    pub(crate) fn with_padding(
+        command: u16,
+        data_type: u16,
+        count: u32,
+        p1: u32,
+        p2: u32,
+        payload: Vec<u8>,
+    ) -> Result<Message, AllocError>
+        requires { length payload.items ≤ payload_limit }
+        ensures ok { IfOk result (λ m. m ≡ record { command = command; data_type = data_type; count = count; p1 = p1; p2 = p2; payload = padded payload.items }) }
+        ensures err { OnErr result (length payload.items % 8 ≢ 0) }
+    {
+        match Message::new(command, data_type, count, p1, p2, payload) {
+            Ok(message) => Ok(message),
+            Err(_) => Err(AllocError),
+        }
     }
 
     /// The message of this header, whose payload has its size.
