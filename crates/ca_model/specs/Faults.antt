@@ -1,17 +1,16 @@
 -- Vocabulary: which fault of a request is answered by which status (section "Status Codes"). The first that is there decides.
-use Rattle.std.specs.Prelude.{ℕ, ◌==◌, ◌%◌, ◌*◌, ◌||◌, Bool, true, false, not, List, [], ◌∷◌, Option, Some, None, Result, Ok, Err, find, if◌then◌else◌, length, map, nat_lt, option_map}
+use Rattle.std.specs.Prelude.{ℕ, ◌==◌, ◌%◌, ◌*◌, ◌||◌, Bool, not, List, [], ◌∷◌, Option, Some, None, Result, find, if◌then◌else◌, length, map, nat_lt}
 use Rattle.std.specs.List.{flat_map}
 use Rattle.ca_text.specs.declared.refusal.Refusal.{Refusal}
-use Rattle.ca_text.specs.declared.refusal.Refusal.TheVariants as refusal
-use Rattle.ca_text.specs.Limits.{circuit_queues, payload_limit, queue_subscriptions, waiting_puts}
-use Rattle.ca_text.specs.Status.{add_fail, bad_count, bad_type, get_fail, no_convert, no_read_access, no_write_access, put_fail}
+use Rattle.ca_text.specs.Limits.{circuit_queues, payload_limit, queue_subscriptions}
+use Rattle.ca_text.specs.Status.{add_fail, bad_count, bad_type, get_fail, no_convert, no_read_access, no_write_access}
 use Rattle.ca_dbr.specs.declared.data_type.BaseType.{BaseType}
 use Rattle.ca_dbr.specs.declared.data_type.BaseType.TheVariants as base
 use Rattle.ca_dbr.specs.declared.data_type.DataType.{DataType}
 use Rattle.ca_dbr.specs.declared.data_type.Form.{Form}
 use Rattle.ca_dbr.specs.declared.data_type.Form.TheVariants as form
 use Rattle.ca_dbr.specs.Conversion.{converted}
-use Rattle.ca_dbr.specs.Elements.{Elements, base_of, count_of}
+use Rattle.ca_dbr.specs.Elements.{Elements, count_of}
 use Rattle.ca_dbr.specs.Reading.{least_size}
 use Rattle.ca_dbr.specs.Shown.{shown}
 use Rattle.ca_dbr.specs.Types.{base_number, size_of_image, type_number}

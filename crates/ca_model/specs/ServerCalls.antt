@@ -5,7 +5,6 @@ use Rattle.std.specs.List.{flat_map, list_any, sum_by}
 use Rattle.std.specs.Str.{bytes_eq}
 use Rattle.ca_arena.specs.declared.handle.Handle.{Handle}
 use Rattle.ca_beacon.specs.Clock as beacon
-use Rattle.ca_dbr.specs.Elements.{Elements, base_of, count_of}
 use Rattle.ca_dgram.specs.Datagram.{IsDatagram}
 use Rattle.ca_dgram.specs.Messages.{beacon_message, version_message}
 use Rattle.ca_ids.specs.Table.{held, under, with_each}
@@ -13,14 +12,15 @@ use Rattle.ca_ids.specs.Wire.{wire_of}
 use Rattle.ca_link.specs.Link.{with_sent}
 use Rattle.ca_queue.specs.declared.entry.SubKey.{SubKey}
 use Rattle.ca_records.specs.Calls.{AddFault, MayAdd, PostFault, PostFits}
-use Rattle.ca_records.specs.Puts.{Put, Record, Stamp, WaitingPut, finished, new_record, record_named, removed, with_record, with_value, withdrawn}
-use Rattle.ca_records.specs.Record.{HoldsValue, RecordState, unset}
+use Rattle.ca_records.specs.declared.puts.Put.{Put}
+use Rattle.ca_records.specs.declared.puts.Stamp.{Stamp}
+use Rattle.ca_records.specs.Puts.{Record, WaitingPut, finished, new_record, record_named, removed, with_record, with_value, withdrawn}
+use Rattle.ca_records.specs.Record.{RecordState}
 use Rattle.ca_text.specs.Command.{command_number}
 use Rattle.ca_text.specs.declared.command.Command.TheVariants as command
 use Rattle.ca_text.specs.declared.refusal.Refusal.{Refusal}
 use Rattle.ca_text.specs.declared.refusal.Refusal.TheVariants as refusal
-use Rattle.ca_text.specs.Limits.{datagram_replies, record_name_limit}
-use Rattle.ca_text.specs.Name.{IsName}
+use Rattle.ca_text.specs.Limits.{datagram_replies}
 use Rattle.ca_text.specs.Place.{At}
 use Rattle.ca_text.specs.Status.{normal}
 use Rattle.ca_wire.specs.Fields.{Fields}

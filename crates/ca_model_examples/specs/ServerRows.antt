@@ -12,7 +12,8 @@ use Rattle.ca_dbr.specs.Conversion.{converted}
 use Rattle.ca_dbr.specs.Elements.{Elements, doubles, longs, strings}
 use Rattle.ca_dbr.specs.Image.{image}
 use Rattle.ca_records.specs.Faults.{late_put_fault}
-use Rattle.ca_records.specs.Puts.{Put, Record, WaitingPut, finished, with_waiting, withdrawn, written_meta}
+use Rattle.ca_records.specs.declared.puts.Put.{Put}
+use Rattle.ca_records.specs.Puts.{Record, WaitingPut, finished, with_waiting, withdrawn, written_meta}
 use Rattle.ca_records.specs.Record.{RecordState, unset}
 use Rattle.ca_records.specs.Rules.{Rule, may_read, may_write, rights}
 use Rattle.ca_queue.specs.declared.entry.SubKey.{SubKey}

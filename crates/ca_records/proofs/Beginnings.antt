@@ -10,7 +10,9 @@ use Rattle.ca_records.specs.declared.puts.Begun.{Begun}
 use Rattle.ca_records.specs.declared.puts.Begun.TheVariants.{Applied, Refused, Waiting}
 use Rattle.ca_records.specs.Judging.{put_fault}
 use Rattle.ca_records.specs.Layout.{IsFit}
-use Rattle.ca_records.specs.Puts.{Put, Record, Stamp}
+use Rattle.ca_records.specs.declared.puts.Put.{Put}
+use Rattle.ca_records.specs.declared.puts.Stamp.{Stamp}
+use Rattle.ca_records.specs.Puts.{Record}
 use Rattle.ca_records.specs.Record.{IsRecord, RecordState}
 use Rattle.ca_records.specs.Writes.{BeginsOn, Takes, must_wait}
 

@@ -15,7 +15,9 @@ use Rattle.ca_records.specs.declared.slot.Slot.TheVariants.{Full}
 use Rattle.ca_records.specs.Chain.{IsStored}
 use Rattle.ca_records.specs.Judging.{fewer_waiting, more_waiting}
 use Rattle.ca_records.specs.Layout.{IsFit, MayHave}
-use Rattle.ca_records.specs.Puts.{Put, Record, Stamp, WaitingPut, finished, record_named, with_value, withdrawn, without_puts}
+use Rattle.ca_records.specs.declared.puts.Put.{Put}
+use Rattle.ca_records.specs.declared.puts.Stamp.{Stamp}
+use Rattle.ca_records.specs.Puts.{Record, WaitingPut, finished, record_named, with_value, withdrawn, without_puts}
 use Rattle.ca_records.specs.Record.{RecordState}
 use Rattle.ca_records.specs.Rules.{Rule}
 use Rattle.ca_records.specs.Store.{Becomes, Finds, Store, present, records_of}

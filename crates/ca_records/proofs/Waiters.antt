@@ -3,7 +3,8 @@ use Rattle.std.proofs.Common.{◌≡◌, ◌⊎◌, inl, inr, Bool, true, false,
 use Rattle.std.specs.List.{AllByRecursion}
 use Rattle.ca_records.specs.declared.puts.Waiter.{Waiter}
 use Rattle.ca_records.specs.Layout.{AreFit, IsFit, waiting_put}
-use Rattle.ca_records.specs.Puts.{Put, Record, WaitingPut, without_puts}
+use Rattle.ca_records.specs.declared.puts.Put.{Put}
+use Rattle.ca_records.specs.Puts.{Record, WaitingPut, without_puts}
 use Rattle.ca_records.specs.Record.{RecordState}
 
 pub true_or_false : (b : Bool) → (b ≡ true) ⊎ (b ≡ false)

@@ -3,11 +3,9 @@ use Rattle.std.specs.Prelude.{ℕ, Bool, not, List, [], ◌∷◌, ◌++◌, Opt
 use Rattle.std.specs.Str.{bytes_eq}
 use Rattle.ca_dbr.specs.declared.value.Meta.{Meta}
 use Rattle.ca_dbr.specs.Elements.{Elements}
+use Rattle.ca_records.specs.declared.puts.Put.{Put}
+use Rattle.ca_records.specs.declared.puts.Stamp.{Stamp}
 use Rattle.ca_records.specs.Record.{RecordState}
--- a put with notification: its circuit and its channel, by their handles, and what its reply needs of its header
-pub use Rattle.ca_records.specs.declared.puts.Put.{Put}
--- a time stamp, as it goes with an applied write: seconds and nanoseconds
-pub use Rattle.ca_records.specs.declared.puts.Stamp.{Stamp}
 
 -- a put that waits, and its value, converted to the type of its record
 pub record WaitingPut : Type 0 where

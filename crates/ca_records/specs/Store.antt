@@ -3,7 +3,8 @@ use Rattle.std.specs.Prelude.{ℕ, ◌≡◌, ◌<◌, ◌≤◌, ◌⊎◌, ◌
 use Rattle.std.specs.List.{flat_map}
 use Rattle.ca_text.specs.Place.{At}
 use Rattle.ca_dbr.specs.Elements.{Elements, count_of}
-use Rattle.ca_records.specs.Puts.{Record, Stamp, record_named, with_record}
+use Rattle.ca_records.specs.declared.puts.Stamp.{Stamp}
+use Rattle.ca_records.specs.Puts.{Record, record_named, with_record}
 use Rattle.ca_records.specs.Rules.{Rule}
 
 -- The places from 0 on, each with a record or free; the rules of access; and the stamp of the writes that are applied now.

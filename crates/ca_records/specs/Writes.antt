@@ -13,7 +13,9 @@ use Rattle.ca_records.specs.declared.puts.Begun.TheVariants.{Applied, Refused, W
 use Rattle.ca_records.specs.declared.puts.Finished.{Finished}
 use Rattle.ca_records.specs.Calls.{AddFault, MayAdd, PostFault, PostFits}
 use Rattle.ca_records.specs.Faults.{late_put_fault}
-use Rattle.ca_records.specs.Puts.{Put, Record, Stamp, WaitingPut, finished, new_record, record_named, removed, with_value, with_waiting, withdrawn, without_puts, written_meta}
+use Rattle.ca_records.specs.declared.puts.Put.{Put}
+use Rattle.ca_records.specs.declared.puts.Stamp.{Stamp}
+use Rattle.ca_records.specs.Puts.{Record, WaitingPut, finished, new_record, record_named, removed, with_value, with_waiting, withdrawn, without_puts, written_meta}
 use Rattle.ca_records.specs.Record.{RecordState}
 use Rattle.ca_records.specs.Store.{Becomes, Enters, HasAt, Store, records_of, with_slot}
 
