@@ -8,7 +8,8 @@ use Rattle.ca_link.specs.Link.{LinkState, new_link}
 use Rattle.ca_queue.specs.declared.entry.SubKey.{SubKey}
 use Rattle.ca_queue.specs.Keys.{is_among}
 use Rattle.ca_queue.specs.Queue.{Queue, cancelled, no_queue, posted, switched}
-use Rattle.ca_records.specs.Puts.{Record, Stamp, new_record}
+use Rattle.ca_records.specs.declared.puts.Stamp.{Stamp}
+use Rattle.ca_records.specs.Puts.{Record, new_record}
 use Rattle.ca_records.specs.Record.{RecordState}
 use Rattle.ca_records.specs.Rules.{Rule}
 use Rattle.ca_text.specs.Limits.{circuit_queues}

@@ -9,7 +9,8 @@ use Rattle.ca_text.proofs.Places.{some_is}
 use Rattle.ca_dbr.specs.Elements.{signed_bytes_4}
 use Rattle.ca_queue.specs.Queue.{Queue, no_queue}
 use Rattle.ca_queue.specs.Waiting.{taken}
-use Rattle.ca_records.specs.Puts.{Put, Record}
+use Rattle.ca_records.specs.declared.puts.Put.{Put}
+use Rattle.ca_records.specs.Puts.{Record}
 use Rattle.ca_wire.specs.declared.header.Header.{Header}
 use Rattle.ca_wire.specs.Fields.{Fields}
 use Rattle.ca_wire.specs.Header.{header_spelling, short_header, extended_header, number16, number32}

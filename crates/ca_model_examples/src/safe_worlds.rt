@@ -20,8 +20,8 @@ pub fn updates_of_two_circuits_may_cross()
     ensures { (m : Fields) (o p : Outcome) → SeesCrossed m o p }
 {}
 
-/// A channel whose record was removed is live at its client until the client reads the
-/// SERVER_DISCONN: that keeps the first clause.
+/// A channel whose record was removed is live at its client until the client reads the SERVER_DISCONN: the server still acts on the
+/// record that it names.
 pub fn a_channel_is_live_until_its_disconnection_is_read()
     ensures { ActsOnRecord AnyDue Shows Means 0 unread unread_lines unread_entries }
 {}

@@ -11,7 +11,8 @@ use Rattle.ca_queue.specs.declared.entry.SubKey.{SubKey}
 use Rattle.ca_queue.specs.Keys.{same}
 use Rattle.ca_queue.specs.Queue.{Queue, added, posted, switched, with_front_taken}
 use Rattle.ca_queue.specs.Waiting.{front}
-use Rattle.ca_records.specs.Puts.{Put, Record, WaitingPut, record_named}
+use Rattle.ca_records.specs.declared.puts.Put.{Put}
+use Rattle.ca_records.specs.Puts.{Record, WaitingPut, record_named}
 use Rattle.ca_records.specs.Record.{RecordState, unset}
 use Rattle.ca_text.specs.declared.refusal.Refusal.{Refusal}
 use Rattle.ca_text.specs.declared.refusal.Refusal.TheVariants as refusal

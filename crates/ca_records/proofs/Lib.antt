@@ -1,2 +1,9 @@
+mod Arrivals
+mod Beginnings
+mod CallSteps
 mod Copies
+mod Faulted
 mod Indexes
+mod Presence
+mod Steps
+mod Waiters
