@@ -113,7 +113,7 @@ impl Link {
     /// Puts a message after what waits, however much that is, with this payload of so many bytes. It is made in its
     /// place.
     ///
-    /// Refused by 17, as the payload is, and by 1.
+    /// Refused by 17, by 1 before the payload is made, or as the payload is.
     pub fn queue_made<P: Payload>(
         &mut self,
         head: &Message,

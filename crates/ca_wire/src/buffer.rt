@@ -53,7 +53,7 @@ impl Buffer {
     }
 
     /// What gives it memory.
-    pub fn allocator(&self) -> Global {
+    pub(crate) fn allocator(&self) -> Global {
         *self.bytes.allocator()
     }
 
