@@ -9,3 +9,5 @@ pub mod Held
 pub mod Clears
 pub mod Sids
 pub mod Steps
+pub mod Answering
+pub mod Calls

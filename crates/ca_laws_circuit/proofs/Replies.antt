@@ -253,6 +253,12 @@ mute-from n none = (
   (not-in n speaking none 5 19 refl, not-in n speaking none 6 22 refl, not-in n speaking none 7 26 refl, not-in n speaking none 8 27 refl),
 )
 
+-- the commands that a server acts on, in this order
+abbrev commands : List Command
+commands =
+    command.Version ∷ command.EventAdd ∷ command.EventCancel ∷ command.Write ∷ command.Search ∷ command.EventsOff ∷ command.EventsOn ∷ command.ClearChannel
+    ∷ command.ReadNotify ∷ command.CreateChannel ∷ command.WriteNotify ∷ command.ClientName ∷ command.HostName ∷ command.Echo ∷ []
+
 module _ (k : Knows) (m : Fields) (fits : HeaderFits (header_of m)) (replies : List Fields) (action : Action) where
   -- each reply speaks of the message's ids alone
   abbrev pub AllSpeak : Type 0
@@ -382,11 +388,6 @@ module _ (k : Knows) (m : Fields) (fits : HeaderFits (header_of m)) (replies : L
   speaks-clear due e =
       one-speaks (cleared_reply m) (λ id h. (let is : id ≡ Cid m.p2 = clear-speaks (cleared_reply m) id refl h in inr (inl (e, is)))) (due.clear e).0
 
-  abbrev commands : List Command
-  commands =
-      command.Version ∷ command.EventAdd ∷ command.EventCancel ∷ command.Write ∷ command.Search ∷ command.EventsOff ∷ command.EventsOn ∷ command.ClearChannel
-      ∷ command.ReadNotify ∷ command.CreateChannel ∷ command.WriteNotify ∷ command.ClientName ∷ command.HostName ∷ command.Echo ∷ []
-
   speaks-known : IsSo → is_known m.command ≡ true → AllSpeak
   speaks-known due known =
       any-of m.command commands known Whenever (each-at Whenever commands (
@@ -431,4 +432,123 @@ module _ (k : Knows) (m : Fields) (fits : HeaderFits (header_of m)) (replies : L
   due-speak due = elim (cases_Bool (is_known m.command)) [
     | inl known ↦ speaks-known due known
     | inr other ↦ none-speak (due.other other).0
+  ]
+
+-- ---- how many replies are due
+
+module _ (k : Knows) (m : Fields) (replies : List Fields) (action : Action) where
+  -- none, one, or those to a CREATE_CHAN
+  abbrev pub AreFew : Type 0
+  AreFew =
+      (replies ≡ [])
+      ⊎ (((x : Fields) × (replies ≡ x ∷ []))
+      ⊎ ((x y : Fields) × (replies ≡ x ∷ y ∷ []) × (x.command ≡ 22) × (y.command ≡ 18) × (m.command ≡ 18)))
+
+  maybe-few : (b : Bool) (x : Fields) → replies ≡ cond b [] (x ∷ []) → AreFew
+  maybe-few true x are = inl are
+  maybe-few false x are = inr (inl (x, are))
+
+  abbrev FewWhen : ℕ → Type 0
+  FewWhen n = m.command ≡ n → AreFew
+
+  abbrev DueSo : Type 0
+  DueSo = Due k m replies action
+
+  few-search : DueSo → FewWhen 6
+  few-search due e = go (is_some (k.record_of (text_in m.payload))) (eqb m.data_type 10) (due.search e).0
+    where
+      go : (a b : Bool) → replies ≡ cond a (search_reply k.port m ∷ []) (cond b (not_found_reply m ∷ []) []) → AreFew
+      go true b are = inr (inl (search_reply k.port m, are))
+      go false true are = inr (inl (not_found_reply m, are))
+      go false false are = inl are
+
+  few-create : DueSo → FewWhen 18
+  few-create due e = elim (due.create e) [
+    | inl made ↦
+        let x : Fields = rights_reply m (rights_at k made.known.state.name) in
+        let y : Fields = created_reply m (base_number (base_of made.known.state.value)) made.known.state.count made.sid in
+        inr (inr (x, y, made.are, refl, refl, e))
+    | inr refused ↦ inr (inl (failed_reply m, refused.are))
+  ]
+
+  few-read : DueSo → FewWhen 15
+  few-read due e = elim (due.read e) [
+    | inl read ↦ elim read.2 [
+      | inl fault ↦ inr (inl (_, fault.2))
+      | inr value ↦ inr (inl (_, value.1.4))
+    ]
+    | inr stray ↦ inr (inl (_, stray.2))
+  ]
+
+  few-put : DueSo → FewWhen 19
+  few-put due e = elim (due.put e) [
+    | inl put ↦ elim put.1 [
+      | inl fault ↦ inr (inl (_, fault.2))
+      | inr taken ↦ maybe-few put.0.known.state.slow (status_reply m normal) taken.2
+    ]
+    | inr stray ↦ inr (inl (_, stray.2))
+  ]
+
+  few-write : DueSo → FewWhen 4
+  few-write due e = elim (due.write e) [
+    | inl write ↦ elim write.1 [
+      | inl fault ↦ inr (inl (_, fault.2))
+      | inr taken ↦ inl taken.2
+    ]
+    | inr stray ↦ inr (inl (_, stray.2))
+  ]
+
+  few-subscribe : DueSo → FewWhen 1
+  few-subscribe due e = elim (due.subscribe e) [
+    | inl add ↦ elim add.1 [
+      | inl fault ↦ inr (inl (_, fault.2))
+      | inr taken ↦ inl taken.1
+    ]
+    | inr stray ↦ inr (inl (_, stray.2))
+  ]
+
+  few-known : DueSo → is_known m.command ≡ true → AreFew
+  few-known due known =
+      any-of m.command commands known FewWhen (each-at FewWhen commands (
+        (λ e. maybe-few k.greeted version_reply (due.version e).0),
+        (
+          few-subscribe due,
+          (
+            (λ e. inr (inl (cancel_reply m, (due.cancel e).0))),
+            (
+              few-write due,
+              (
+                few-search due,
+                (
+                  (λ e. inl (due.off e).0),
+                  (
+                    (λ e. inl (due.on e).0),
+                    (
+                      (λ e. inr (inl (cleared_reply m, (due.clear e).0))),
+                      (
+                        few-read due,
+                        (
+                          few-create due,
+                          (
+                            few-put due,
+                            (
+                              (λ e. inl (due.user e).0),
+                              ((λ e. inl (due.host e).0), ((λ e. inr (inl (bare command.Echo, (due.echo e).0))), tt)),
+                            ),
+                          ),
+                        ),
+                      ),
+                    ),
+                  ),
+                ),
+              ),
+            ),
+          ),
+        ),
+      )) refl
+
+  pub due-few : DueSo → AreFew
+  due-few due = elim (cases_Bool (is_known m.command)) [
+    | inl known ↦ few-known due known
+    | inr other ↦ inl (due.other other).0
   ]

@@ -118,3 +118,9 @@ flows-step kept now c h s (m ∷ q ∷ []) at were answers f =
     (λ id spoken. answers.speaks 1 q refl id spoken) first in
     subst (λ (d : List Told). Flows (Awaits (with_handled h c) now) (with_handled h (record c { down = d }))) (append_assoc c.down (replied (length c.handled) m ∷ []) (replied (length c.handled) q ∷ [])) both
 flows-step kept now c h s (m ∷ q ∷ r ∷ replies) at were answers f = absurd (answers.few m q r replies refl)
+
+-- what the client sent is what it meant
+pub flows-next : (kept now : List ℕ) (c : Circuit) (h : Step) (s : Sent) (replies : List Fields) → At c.up (length c.handled) s → ((p : ℕ) → In now p → In kept p ⊎ (p ≡ length c.handled))
+    → (Suits s.intent s.message → Answers c now s replies) → Flows (Awaits c kept) c
+    → Flows (Awaits (with_handled h c) now) (with_handled h (record c { down = c.down ++ map (replied (length c.handled)) replies }))
+flows-next kept now c h s replies at were answers f = flows-step kept now c h s replies at were (answers (f.asked (length c.handled) s at)) f

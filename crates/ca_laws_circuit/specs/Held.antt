@@ -1,14 +1,15 @@
 -- Working: what a client's tables hold of one circuit: each id that may still come back, and what it was given to.
-use Rattle.std.specs.Prelude.{ℕ, ◌≡◌, ◌≤◌, ◌&&◌, ◌||◌, Bool, true, false, Some, length, option_map, unwrap_or}
+use Rattle.std.specs.Prelude.{ℕ, ◌≡◌, ◌≤◌, ◌⊎◌, ◌&&◌, ◌||◌, ◌++◌, Bool, true, false, List, [], ◌∷◌, Some, None, find, length, option_map, unwrap_or}
+use Rattle.ca_text.specs.declared.command.Command.TheVariants as command
 use Rattle.ca_text.specs.Limits.{arena_slots}
 use Rattle.ca_arena.specs.declared.handle.Handle.{Handle}
-use Rattle.ca_ids.specs.Table.{Table, under}
+use Rattle.ca_ids.specs.Table.{Table, same_handle, under}
 use Rattle.ca_ids.specs.Wire.{wire_of}
 use Rattle.ca_wire.specs.Messages.{clear_request}
 use Rattle.ca_requests.specs.Requests.{Request, was_sent_on}
 use Rattle.ca_monitor.specs.Subscriptions.{Subscription, drains_in, stands_in}
 use Rattle.ca_model.specs.Client.{Channel, Client, Connecting, Leaving, Live, Phase, is_on_in}
-use Rattle.ca_model.specs.Speech.{Cid, Id, Ioid, SubId}
+use Rattle.ca_model.specs.Speech.{Cid, Id, Ioid, Is, SubId}
 use Rattle.ca_model.specs.History.{Circuit, Clear, Create, Intent, On, Sent}
 use Rattle.ca_model_safe.specs.Channels.{named}
 use Rattle.ca_model_world.specs.ClientEvents.{channel_number, meant_by}
@@ -73,3 +74,17 @@ pub record Holds (Awaits : ℕ → Type 0) (on : Handle) (n : Names) (x : Client
 -- the CLEAR_CHANNEL of a channel, as the world stamps it
 abbrev pub clear_of : Names → (sid : ℕ) → Handle → Sent
 clear_of n sid h = record { message = clear_request sid (wire_of h); intent = On (channel_number n h) Clear }
+
+-- ---- a caller's requests
+
+-- a message that asks for an answer gives its IOID, and concerns that alone
+abbrev pub IsAsking : Sent → Type 0
+IsAsking s = Is command.ReadNotify s.message ⊎ Is command.WriteNotify s.message
+
+-- the names with one request more
+abbrev pub with_request : Handle → Intent → Names → Names
+with_request q intent n = record n { requests = n.requests ++ (q, intent) ∷ [] }
+
+-- nothing has this handle as a name yet
+abbrev pub IsNew : List (Handle × Intent) → Handle → Type 0
+IsNew named q = find (λ (x : Handle × Intent). same_handle x.0 q) named ≡ None

@@ -1,4 +1,4 @@
-ghost use Rattle.std.specs.Prelude.{[], ◌≡◌, ◌<◌, ◌≤◌, ◌⊎◌, ◌∷◌, Bool, List, Some, false, length, take, true, ℕ};
+ghost use Rattle.std.specs.Prelude.{[], ◌≡◌, ◌++◌, ◌<◌, ◌≤◌, ◌⊎◌, ◌∷◌, Bool, List, Some, false, length, map, take, true, ℕ};
 ghost use Rattle.ca_text.specs.declared.command.Command.TheVariants.{EventAdd, CreateChannel, Write, WriteNotify};
 ghost use Rattle.ca_text.specs.Limits.{arena_slots};
 ghost use Rattle.ca_text.specs.Place.{At};
@@ -10,19 +10,21 @@ ghost use Rattle.ca_arena.specs.declared.handle.Handle.{Handle};
 ghost use Rattle.ca_ids.specs.Table.{MayGive, Table, by_wire, under, with_all, with_all_freed, with_changed, with_freed, with_held};
 ghost use Rattle.ca_ids.specs.Wire.{wire_of};
 ghost use Rattle.ca_records.specs.Puts.{Put};
-ghost use Rattle.ca_requests.specs.Requests.{Request, channel_over, was_sent_on};
+ghost use Rattle.ca_requests.specs.Requests.{Asked, Request as HeldRequest, channel_over, was_sent_on};
 ghost use Rattle.ca_model.specs.Client.{Client, Live, Native, sending, standing_at};
 ghost use Rattle.ca_model.specs.Client as standing;
-ghost use Rattle.ca_model.specs.ClientCalls.{clear_sent, cleared};
+ghost use Rattle.ca_model.specs.ClientCalls.{LiveChannel, clear_sent, cleared, issued};
+ghost use Rattle.ca_model.specs.Answers.{Sending};
 ghost use Rattle.ca_model.specs.Due.{Action, Due, Knows};
-ghost use Rattle.ca_model.specs.History.{Ask, Circuit, Create, Entry, Intent, On, Reply, Sent, Step, Told};
+ghost use Rattle.ca_model.specs.History.{Ask, Circuit, Create, Entry, Intent, Kind, On, Reply, Request, Sent, Step, Told};
 ghost use Rattle.ca_model.specs.ServerCalls.{finish_reply};
 ghost use Rattle.ca_model.specs.Speech.{Creates, Gives, Id, In, Ioid, Is, Speaks, Stored, name_in, sid_in};
 ghost use Rattle.ca_model.specs.Updates.{ShowsTo};
-ghost use Rattle.ca_model_safe.specs.Channels.{Has, IsOpen, before, named};
+ghost use Rattle.ca_model_safe.specs.Channels.{Has, IsOpen, Suits, before, named};
 ghost use Rattle.ca_model_world.specs.World.{Names};
-ghost use Rattle.ca_laws_circuit.specs.Flows.{Awaits, Concerns, Flows, IsCidOf, IsGiven, IsLast, IsPending, MaySend, MayTell, NoMore, with_handled, with_heard, with_sent, with_told};
-ghost use Rattle.ca_laws_circuit.specs.Held.{Holds, HoldsRequests, clear_of};
+ghost use Rattle.ca_laws_circuit.specs.Flows.{Awaits, Concerns, Ends, Flows, IsCidOf, IsGiven, IsLast, IsPending, MaySend, MayTell, NoMore, with_handled, with_heard, with_sent, with_told};
+ghost use Rattle.ca_laws_circuit.specs.Held.{Holds, HoldsRequests, IsAsking, IsNew, clear_of, with_request};
+ghost use Rattle.ca_laws_circuit.specs.Steps.{removal_of, replied, update_of};
 ghost use Rattle.ca_laws_circuit.specs.Sids.{IsLiveBefore, MayCreate, Sids};
 ghost use Rattle.ca_laws_circuit.specs.Replies.{IsCidAt, IsOfMessage};
 
@@ -87,17 +89,17 @@ pub fn tables_hold_what_was_put_there<T>()
 /// request that holds it.
 pub fn requests_hold_their_ids()
     // The lists grow, and the table stays.
-    ensures sent { (kept : List ℕ) (on : Handle) (meant : Handle → Intent) (t : Table Request) (c : Circuit) (s : Sent) → ((n : ℕ) → Gives s.message (Ioid n) → ⊥) → HoldsRequests (Awaits c kept) on meant t c → HoldsRequests (Awaits c kept) on meant t (with_sent s c) }
-    ensures told { (kept fewer : List ℕ) (on : Handle) (meant : Handle → Intent) (t : Table Request) (c : Circuit) (u : Told) → MayTell (Awaits c kept) (Awaits c fewer) c u → HoldsRequests (Awaits c kept) on meant t c → HoldsRequests (Awaits c fewer) on meant t (with_told u c) }
-    ensures handled { (kept now : List ℕ) (on : Handle) (meant : Handle → Intent) (t : Table Request) (c : Circuit) (g : Step) → ((p : ℕ) → In now p → In kept p ⊎ (p ≡ length c.handled)) → HoldsRequests (Awaits c kept) on meant t c → HoldsRequests (Awaits (with_handled g c) now) on meant t (with_handled g c) }
-    ensures heard { (kept : List ℕ) (on : Handle) (meant : Handle → Intent) (t : Table Request) (c : Circuit) (g : Step) → HoldsRequests (Awaits c kept) on meant t c → HoldsRequests (Awaits c kept) on meant t (with_heard g c) }
+    ensures sent { (kept : List ℕ) (on : Handle) (meant : Handle → Intent) (t : Table HeldRequest) (c : Circuit) (s : Sent) → ((n : ℕ) → Gives s.message (Ioid n) → ⊥) → HoldsRequests (Awaits c kept) on meant t c → HoldsRequests (Awaits c kept) on meant t (with_sent s c) }
+    ensures told { (kept fewer : List ℕ) (on : Handle) (meant : Handle → Intent) (t : Table HeldRequest) (c : Circuit) (u : Told) → MayTell (Awaits c kept) (Awaits c fewer) c u → HoldsRequests (Awaits c kept) on meant t c → HoldsRequests (Awaits c fewer) on meant t (with_told u c) }
+    ensures handled { (kept now : List ℕ) (on : Handle) (meant : Handle → Intent) (t : Table HeldRequest) (c : Circuit) (g : Step) → ((p : ℕ) → In now p → In kept p ⊎ (p ≡ length c.handled)) → HoldsRequests (Awaits c kept) on meant t c → HoldsRequests (Awaits (with_handled g c) now) on meant t (with_handled g c) }
+    ensures heard { (kept : List ℕ) (on : Handle) (meant : Handle → Intent) (t : Table HeldRequest) (c : Circuit) (g : Step) → HoldsRequests (Awaits c kept) on meant t c → HoldsRequests (Awaits c kept) on meant t (with_heard g c) }
     // A request is issued: nothing that may still come speaks of its IOID. And its reply is read, which frees that.
-    ensures fresh { (kept : List ℕ) (on : Handle) (meant : Handle → Intent) (t : Table Request) (c : Circuit) (q : Handle) → MayGive t q → HoldsRequests (Awaits c kept) on meant t c → (p : ℕ) → IsPending (Awaits c kept) c p (Ioid (wire_of q)) → ⊥ }
-    ensures issued { (kept : List ℕ) (on : Handle) (meant : Handle → Intent) (t : Table Request) (c : Circuit) (q : Handle) (r : Request) (s : Sent) (number : ℕ) → MayGive t q → was_sent_on on r ≡ true → Gives s.message (Ioid (wire_of q)) → meant q ≡ s.intent → named (Ioid (wire_of q)) s.intent ≡ Some number → HoldsRequests (Awaits c kept) on meant t c → HoldsRequests (Awaits c kept) on meant (with_held q r t) (with_sent s c) }
-    ensures replied { (kept : List ℕ) (on : Handle) (meant : Handle → Intent) (t : Table Request) (c : Circuit) (g : Step) (u : Told) (s : Sent) (q : Handle) → Flows (Awaits c kept) c → At c.down (length c.heard) u → u.cause ≡ Reply → At c.up u.place s → IsLast u.message s.intent → Speaks u.message (Ioid (wire_of q)) → HoldsRequests (Awaits c kept) on meant t c → HoldsRequests (Awaits c kept) on meant (with_freed q t) (with_heard g c) }
+    ensures fresh { (kept : List ℕ) (on : Handle) (meant : Handle → Intent) (t : Table HeldRequest) (c : Circuit) (q : Handle) → MayGive t q → HoldsRequests (Awaits c kept) on meant t c → (p : ℕ) → IsPending (Awaits c kept) c p (Ioid (wire_of q)) → ⊥ }
+    ensures issued { (kept : List ℕ) (on : Handle) (meant : Handle → Intent) (t : Table HeldRequest) (c : Circuit) (q : Handle) (r : HeldRequest) (s : Sent) (number : ℕ) → MayGive t q → was_sent_on on r ≡ true → Gives s.message (Ioid (wire_of q)) → meant q ≡ s.intent → named (Ioid (wire_of q)) s.intent ≡ Some number → HoldsRequests (Awaits c kept) on meant t c → HoldsRequests (Awaits c kept) on meant (with_held q r t) (with_sent s c) }
+    ensures replied { (kept : List ℕ) (on : Handle) (meant : Handle → Intent) (t : Table HeldRequest) (c : Circuit) (g : Step) (u : Told) (s : Sent) (q : Handle) → Flows (Awaits c kept) c → At c.down (length c.heard) u → u.cause ≡ Reply → At c.up u.place s → IsLast u.message s.intent → Speaks u.message (Ioid (wire_of q)) → HoldsRequests (Awaits c kept) on meant t c → HoldsRequests (Awaits c kept) on meant (with_freed q t) (with_heard g c) }
     // A channel is over, and its requests drain; those of which nothing may still come are freed.
-    ensures over { (kept : List ℕ) (on channel : Handle) (meant : Handle → Intent) (t : Table Request) (c : Circuit) → HoldsRequests (Awaits c kept) on meant t c → HoldsRequests (Awaits c kept) on meant (channel_over channel t) c }
-    ensures freed { (kept : List ℕ) (on : Handle) (meant : Handle → Intent) (frees : Request → Bool) (t : Table Request) (c : Circuit) → ((p n : ℕ) (q : Handle) (r : Request) → IsPending (Awaits c kept) c p (Ioid n) → under t q ≡ Some r → wire_of q ≡ n → was_sent_on on r ≡ true → frees r ≡ false) → HoldsRequests (Awaits c kept) on meant t c → HoldsRequests (Awaits c kept) on meant (with_all_freed frees t) c }
+    ensures over { (kept : List ℕ) (on channel : Handle) (meant : Handle → Intent) (t : Table HeldRequest) (c : Circuit) → HoldsRequests (Awaits c kept) on meant t c → HoldsRequests (Awaits c kept) on meant (channel_over channel t) c }
+    ensures freed { (kept : List ℕ) (on : Handle) (meant : Handle → Intent) (frees : HeldRequest → Bool) (t : Table HeldRequest) (c : Circuit) → ((p n : ℕ) (q : Handle) (r : HeldRequest) → IsPending (Awaits c kept) c p (Ioid n) → under t q ≡ Some r → wire_of q ≡ n → was_sent_on on r ≡ true → frees r ≡ false) → HoldsRequests (Awaits c kept) on meant t c → HoldsRequests (Awaits c kept) on meant (with_all_freed frees t) c }
 {}
 
 /// What the SIDs in a client's messages mean on a circuit, as its lists grow: each message on a channel has the SID under which that is live. So it is
@@ -114,4 +116,21 @@ pub fn sids_mean_their_channel()
 /// A caller clears a live channel: its CLEAR_CHANNEL may be sent, and what the client's tables hold of the circuit stays so.
 pub fn a_clear_keeps_what_is_held()
     ensures { (kept : List ℕ) (on : Handle) (n : Names) (x : Client) (c : Circuit) (h : Handle) (native : Native) (rights : ℕ) → standing_at x h ≡ Some (standing.On on (Live native rights)) → Holds (Awaits c kept) on n x c → MaySend (Awaits c kept) c (clear_of n native.sid h) × Holds (Awaits c kept) on n (sending (clear_sent on native.sid h ∷ []) (cleared h (standing.On on (Live native rights)) x)) (with_sent (clear_of n native.sid h) c) }
+{}
+
+/// A server's events leave the meaning of ids as it was: it handles its next message with the replies that are due; a put is finished; and later
+/// messages go out, of a removal or as updates.
+pub fn a_servers_events_keep_meanings()
+    // The server keeps nothing for a message with one reply, nor for what that ends.
+    ensures step { (kept now : List ℕ) (c : Circuit) (h : Step) (s : Sent) (k : Knows) (replies : List Fields) (action : Action) → At c.up (length c.handled) s → HeaderFits (header_of s.message) → Due k s.message replies action → (Is Write s.message → (cid : ℕ) → IsCidAt k s.message.p1 cid → IsCidOf c.up (length c.handled) s.intent cid) → ((p : ℕ) → In now p → In kept p ⊎ (p ≡ length c.handled)) → ((m : Fields) → replies ≡ m ∷ [] → In now (length c.handled) → ⊥) → ((p : ℕ) (r : Sent) → At c.up p r → p < length c.handled → Ends s.intent r.intent → In now p → ⊥) → Flows (Awaits c kept) c → Flows (Awaits (with_handled h c) now) (with_handled h (record c { down = c.down ++ map (replied (length c.handled)) replies })) }
+    ensures finish { (kept fewer : List ℕ) (c : Circuit) (place : ℕ) (s : Sent) (p : Put) → At c.up place s → Is WriteNotify s.message → s.message.p2 ≡ p.ioid → place < length c.handled → In kept place → ((l : ℕ) → In fewer l → In kept l) → (In fewer place → ⊥) → Flows (Awaits c kept) c → Flows (Awaits c fewer) (with_told (replied place (finish_reply p)) c) }
+    ensures removal { (kept fewer : List ℕ) (c : Circuit) (place cid : ℕ) (s : Sent) → At c.up place s → Is CreateChannel s.message → s.message.p1 ≡ cid → In kept place → ((l : ℕ) → In fewer l → In kept l) → Flows (Awaits c kept) c → Flows (Awaits c fewer) (with_told (removal_of place cid) c) }
+    ensures update { (kept fewer : List ℕ) (c : Circuit) (place number : ℕ) (s : Sent) (w : Wanted) (v : Stored) (m : Fields) → At c.up place s → Is EventAdd s.message → s.message.p2 ≡ w.id → ShowsTo w v m → In kept place → ((l : ℕ) → In fewer l → In kept l) → Flows (Awaits c kept) c → Flows (Awaits c fewer) (with_told (update_of place number m) c) }
+{}
+
+/// A caller reads, or puts with notification: the message may be sent, and what the client's tables hold of the circuit stays so, with the new
+/// request among them.
+pub fn a_request_keeps_what_is_held()
+    ensures sent { (kept : List ℕ) (on : Handle) (n : Names) (x : Client) (c : Circuit) (s : Sent) (q : Handle) (kind : Kind) (channel number : ℕ) → IsAsking s → s.message.p2 ≡ wire_of q → s.intent ≡ On channel (Request kind number) → Suits s.intent s.message → MayGive x.requests q → IsNew n.requests q → Holds (Awaits c kept) on n x c → MaySend (Awaits c kept) c s }
+    ensures held { (kept : List ℕ) (on : Handle) (n : Names) (x : Client) (c : Circuit) (s : Sent) (q : Handle) (kind : Kind) (channel number : ℕ) (h : Handle) (l : LiveChannel) (asked : Asked) (y : Sending) → IsAsking s → s.message.p2 ≡ wire_of q → s.intent ≡ On channel (Request kind number) → Suits s.intent s.message → MayGive x.requests q → IsNew n.requests q → l.circuit ≡ on → Holds (Awaits c kept) on n x c → Holds (Awaits c kept) on (with_request q s.intent n) (sending (y ∷ []) (issued h l asked q x)) (with_sent s c) }
 {}
