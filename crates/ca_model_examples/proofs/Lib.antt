@@ -32,3 +32,4 @@ pub mod MovedLegal
 pub mod Moved
 pub mod RefusedCreation
 pub mod Engine
+pub mod Limits

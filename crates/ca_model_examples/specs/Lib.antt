@@ -13,3 +13,4 @@ pub mod ClientCallEvents
 pub mod ClientEndEvents
 pub mod ClientHears
 pub mod Moved
+pub mod Limits

@@ -3,6 +3,7 @@
 #![tactic(auto)]
 
 mod broken_worlds;
+mod call_limits;
 mod client_events;
 mod client_hears;
 mod client_rows;
@@ -17,6 +18,9 @@ pub use broken_worlds::{
     a_message_that_is_not_its_own_is_unsafe, a_refusal_too_soon_is_unsafe,
     a_request_that_is_not_once_is_unsafe, a_write_that_is_not_as_told_is_unsafe,
     an_update_of_nothing_is_unsafe, what_may_not_be_sent_is_not_legal,
+};
+pub use call_limits::{
+    a_clients_calls_have_their_limits, a_servers_calls_have_their_limits, events_have_their_limits,
 };
 pub use client_events::{
     a_call_clears, a_call_opens, a_call_puts, a_call_reads, a_call_subscribes, a_call_unsubscribes,
