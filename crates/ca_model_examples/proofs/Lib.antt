@@ -1,6 +1,7 @@
 pub mod Lists
 pub mod Unsafe
 pub mod Broken
+pub mod Owed
 pub mod UsedActs
 pub mod Unread
 pub mod Speaks
