@@ -1,6 +1,7 @@
 pub mod Lists
 pub mod Unsafe
 pub mod Broken
+pub mod Owed
 pub mod UsedActs
 pub mod Unread
 pub mod Speaks
@@ -36,3 +37,4 @@ pub mod MovedLegal
 pub mod Moved
 pub mod RefusedCreation
 pub mod Engine
+pub mod Limits

@@ -3,6 +3,7 @@ pub mod Waited
 pub mod Unsafe
 pub mod Broken
 pub mod Safe
+pub mod Owed
 pub mod ServerRows
 pub mod DueReplies
 pub mod ServerWorld
@@ -13,3 +14,4 @@ pub mod ClientCallEvents
 pub mod ClientEndEvents
 pub mod ClientHears
 pub mod Moved
+pub mod Limits
