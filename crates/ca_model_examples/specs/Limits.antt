@@ -11,7 +11,8 @@ use Rattle.ca_wire.specs.Messages.{disconnect}
 use Rattle.ca_model.specs.ClientCalls.{ClientOpens, cancel_fault}
 use Rattle.ca_model.specs.Hears.{Completes, becomes, heard_by, without_request}
 use Rattle.ca_model.specs.Server.{Server}
-use Rattle.ca_model.specs.ServerCalls.{PostFault, Posts, disconnects}
+use Rattle.ca_records.specs.Calls.{PostFault}
+use Rattle.ca_model.specs.ServerCalls.{Posts, disconnects}
 use Rattle.ca_model.specs.Updates.{update_count}
 use Rattle.ca_model_world.specs.Events as event
 use Rattle.ca_model_world.specs.Runs.{CanBe, Happens}
