@@ -36,7 +36,15 @@ pub fn confirm() -> [u8; 16]
 
 /// The header of 16 bytes with these fields, of a message with no payload.
 fn header_bytes(command: Command, data_type: u16, count: u16, p1: u32, p2: u32) -> [u8; 16]
-    ensures { result ≡ short_header (record { command = command_number command; data_type = data_type; size = 0; count = count; p1 = p1; p2 = p2 }) }
+    ensures { result
+        ≡ short_header (record {
+          command = command_number command;
+          data_type = data_type;
+          size = 0;
+          count = count;
+          p1 = p1;
+          p2 = p2;
+        }) }
 {
     short_form(&Header {
         command: command.number(),

@@ -15,7 +15,8 @@ const HEADER: usize = 16;
 /// where the buffer has no room for it.
 pub fn search_into(cid: u32, name: &ChannelName, out: &mut Vec<u8>) -> Result<(), Refusal>
     ensures searches { Searches out.old.items cid name.now result out.new.items }
-    ensures room { IfErr result (λ e. e ≡ OutOfMemory → vec_capacity out.old < length (searched out.old.items cid name.now)) }
+    ensures room { IfErr result (λ e. e ≡ OutOfMemory
+        → vec_capacity out.old < length (searched out.old.items cid name.now)) }
 {
     let name = name.bytes();
     let zeros = 8 - name.len() % 8;

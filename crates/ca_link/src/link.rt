@@ -25,7 +25,8 @@ impl Model for Link {
 
     ghost Value = { LinkState };
 
-    ghost view = { λ l. record { input = l.input; output = l.output; heard_at = l.heard_at; echoed = l.echoed } };
+    ghost view = { λ l.
+        record { input = l.input; output = l.output; heard_at = l.heard_at; echoed = l.echoed } };
 }
 
 impl Link {

@@ -35,7 +35,8 @@ pub(crate) fn header_size(header: &Header) -> usize
 pub fn spell_header(header: &Header, out: &mut Vec<u8>) -> Result<(), AllocError>
     ensures ok { OnOk result (out.new.items ≡ out.old.items ++ header_spelling header.now) }
     ensures err { OnErr result (out.new.items ≡ out.old.items) }
-    ensures room { OnErr result (vec_capacity out.old < vec_len out.old + length (header_spelling header.now)) }
+    ensures room { OnErr result (vec_capacity out.old
+        < vec_len out.old + length (header_spelling header.now)) }
     ensures capacity { vec_capacity out.old ≤ vec_capacity out.new }
 {
     if header.size < EXTENDED && header.count < EXTENDED {

@@ -28,9 +28,25 @@ impl Model for Message {
 
     ghost Value = { Fields };
 
-    ghost view = { λ m. record { command = m.command; data_type = m.data_type; count = m.count; p1 = m.p1; p2 = m.p2; payload = m.payload.items } };
+    ghost view = { λ m.
+        record {
+          command = m.command;
+          data_type = m.data_type;
+          count = m.count;
+          p1 = m.p1;
+          p2 = m.p2;
+          payload = m.payload.items;
+        } };
 
-    ghost invariant = { λ m. IsMessage (record { command = m.command; data_type = m.data_type; count = m.count; p1 = m.p1; p2 = m.p2; payload = m.payload.items }) };
+    ghost invariant = { λ m.
+        IsMessage (record {
+          command = m.command;
+          data_type = m.data_type;
+          count = m.count;
+          p1 = m.p1;
+          p2 = m.p2;
+          payload = m.payload.items;
+        }) };
 }
 
 impl Message {
@@ -45,7 +61,14 @@ impl Message {
         p2: u32,
         payload: Vec<u8>,
     ) -> Result<Message, Refusal>
-        ensures { IsMade (record { command = command; data_type = data_type; count = count; p1 = p1; p2 = p2; payload = payload.items }) result }
+        ensures { IsMade (record {
+          command = command;
+          data_type = data_type;
+          count = count;
+          p1 = p1;
+          p2 = p2;
+          payload = payload.items;
+        }) result }
     {
         if payload.len() > PAYLOAD_LIMIT {
             return Err(Refusal::TooLarge);
@@ -75,7 +98,15 @@ impl Message {
         payload: Vec<u8>,
     ) -> Message
         requires { IsPayload payload.items }
-        ensures { result ≡ record { command = command; data_type = data_type; count = count; p1 = p1; p2 = p2; payload = payload.items } }
+        ensures { result
+            ≡ record {
+              command = command;
+              data_type = data_type;
+              count = count;
+              p1 = p1;
+              p2 = p2;
+              payload = payload.items;
+            } }
     {
         Message {
             command,
@@ -96,7 +127,15 @@ impl Message {
         p1: u32,
         p2: u32,
     ) -> Message
-        ensures { result ≡ record { command = command_number command; data_type = data_type; count = count; p1 = p1; p2 = p2; payload = [] } }
+        ensures { result
+            ≡ record {
+              command = command_number command;
+              data_type = data_type;
+              count = count;
+              p1 = p1;
+              p2 = p2;
+              payload = [];
+            } }
     {
         let payload = Vec::new(alloc);
         Message::of_fields(command.number(), data_type, count, p1, p2, payload)
@@ -112,7 +151,16 @@ impl Message {
         payload: Vec<u8>,
     ) -> Result<Message, AllocError>
         requires { length payload.items ≤ payload_limit }
-        ensures ok { IfOk result (λ m. m ≡ record { command = command; data_type = data_type; count = count; p1 = p1; p2 = p2; payload = padded payload.items }) }
+        ensures ok { IfOk result (λ m.
+            m
+            ≡ record {
+              command = command;
+              data_type = data_type;
+              count = count;
+              p1 = p1;
+              p2 = p2;
+              payload = padded payload.items;
+            }) }
         ensures err { OnErr result (length payload.items % 8 ≢ 0) }
     {
         match Message::new(command, data_type, count, p1, p2, payload) {
@@ -200,7 +248,8 @@ impl Message {
 pub fn spell(message: &Message, out: &mut Vec<u8>) -> Result<(), AllocError>
     ensures ok { OnOk result (out.new.items ≡ out.old.items ++ spelling message.now) }
     ensures err { OnErr result (out.new.items ≡ out.old.items) }
-    ensures room { OnErr result (vec_capacity out.old < vec_len out.old + length (spelling message.now)) }
+    ensures room { OnErr result (vec_capacity out.old
+        < vec_len out.old + length (spelling message.now)) }
     ensures capacity { vec_capacity out.old ≤ vec_capacity out.new }
 {
     out.reserve(spelled_size(message))?;
@@ -219,7 +268,8 @@ pub fn spelled_size(message: &Message) -> usize
 pub fn message_at(bytes: &[u8], room: Vec<u8>) -> Message
     requires front { FrontFits bytes.now (vec_capacity room) }
     requires empty { room.items ≡ [] }
-    ensures { (m : Fields) (rest : List ℕ) → IsMessage m → bytes.now ≡ spelling m ++ rest → result ≡ m }
+    ensures { (m : Fields) (rest : List ℕ) → IsMessage m → bytes.now ≡ spelling m ++ rest
+        → result ≡ m }
 {
     match read_one(bytes) {
         One::Whole(head) => {

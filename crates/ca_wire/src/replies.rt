@@ -189,7 +189,9 @@ pub fn error_reply(
 /// An update: so many elements of this type and their image. Only padding takes memory.
 pub fn update(answered: Answered, image: Vec<u8>) -> Result<Message, AllocError>
     requires { length image.items ≤ payload_limit }
-    ensures ok { IfOk result (λ m. m ≡ update answered.data_type answered.count answered.status.number answered.id image.items) }
+    ensures ok { IfOk result (λ m.
+        m
+        ≡ update answered.data_type answered.count answered.status.number answered.id image.items) }
     ensures err { OnErr result (length image.items % 8 ≢ 0) }
 {
     let Answered {
@@ -204,7 +206,8 @@ pub fn update(answered: Answered, image: Vec<u8>) -> Result<Message, AllocError>
 
 /// An update with no image, which is to be made in its place.
 pub fn update_head(alloc: Global, answered: Answered) -> Message
-    ensures { result ≡ update answered.data_type answered.count answered.status.number answered.id [] }
+    ensures { result
+        ≡ update answered.data_type answered.count answered.status.number answered.id [] }
 {
     let Answered {
         id,
@@ -291,7 +294,8 @@ impl Message {
 
 /// The payload of an ERROR: the header of the request, and an empty text.
 fn quotation(alloc: Global, request: &Message) -> Result<Vec<u8>, AllocError>
-    ensures { IfOk result (λ v. v.items ≡ header_spelling (header_of request.now) ++ replicate 8 0) }
+    ensures { IfOk result (λ v.
+        v.items ≡ header_spelling (header_of request.now) ++ replicate 8 0) }
 {
     let mut bytes = Vec::with_capacity(alloc, 32)?;
     spell_header(&request.header(), &mut bytes)?;
