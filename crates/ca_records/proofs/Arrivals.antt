@@ -7,6 +7,7 @@ use Rattle.std.specs.Ordering.{is_eq, nat_cmp}
 use Rattle.std.specs.Str.{bytes_eq}
 use Rattle.std.proofs.lemmas.Map.Text.{is_eq-slice_cmp}
 use Rattle.std.proofs.lemmas.Slice.Eq.{bytes_eq-Decides}
+use Rattle.std.proofs.lemmas.List.{length-map, map-set}
 use Rattle.std.proofs.lemmas.List.Sums.{sum_by_push}
 use Rattle.ca_text.specs.Place.{At}
 use Rattle.ca_text.proofs.Places.{At-append, At-last, At-map, At-one, At-set, At-set-other, At-snoc, At-within, some_is}
@@ -23,7 +24,7 @@ use Rattle.ca_records.specs.Writes.{Leaves}
 use Rattle.ca_records.proofs.Copies.{at_get}
 use Rattle.ca_records.proofs.Indexes.{place_of-insert}
 use Rattle.ca_records.proofs.Presence.{Lack, around, has-name, has_name, present-snoc, removed-one, waiting-came, waiting-gone}
-use Rattle.ca_records.proofs.Steps.{At-set-here, chain-append, chain-set, full-apart, index-lacks-but, map-set, seen, seen-full, store_of}
+use Rattle.ca_records.proofs.Steps.{At-set-here, chain-append, chain-set, full-apart, index-lacks-but, seen, seen-full, store_of}
 use Rattle.ca_records.proofs.Waiters.{true_or_false}
 
 -- ---- the index
@@ -172,15 +173,11 @@ nothing-more : {A : Type 0} (xs : List A) → xs ≡ xs ++ []
 nothing-more [] = refl
 nothing-more (x ∷ xs) = ap (λ t. x ∷ t) (nothing-more xs)
 
-length-seen : (slots : List Slot) → length (seen slots) ≡ length slots
-length-seen [] = refl
-length-seen (s ∷ slots) = ap (λ n. suc n) (length-seen slots)
-
 pub append-step : (slots : List Slot) (free : Option ℕ) (f g : List ℕ → Option ℕ) (waiting : ℕ) (rules : List Rule) (stamp : Stamp) (place : ℕ) (r : Record) → IsStored slots free f waiting → place ≡ length slots → record_named (present (seen slots)) r.state.name ≡ None → r.waiting ≡ [] → ((name : List ℕ) → g name ≡ cond (bytes_eq name r.state.name) (Some place) (f name)) → EnterStep slots (slots ++ Full r ∷ []) free g rules stamp place r waiting
 append-step slots free f g waiting rules stamp place r stored last new calm grown =
     let after : seen (slots ++ Full r ∷ []) ≡ seen slots ++ Some r ∷ [] = seen-snoc slots r in
     let lack = lacks-named r.state.name (seen slots) new in
-    let end : place ≡ length (seen slots) = last ∙ sym (length-seen slots) in
+    let end : place ≡ length (seen slots) = last ∙ sym (length-map slots record_in) in
     let here : At (seen slots ++ Some r ∷ []) place (Some r) = subst (λ (n : ℕ). At (seen slots ++ Some r ∷ []) n (Some r)) (sym end) (At-last (seen slots) (Some r)) in
     let stay : (other : ℕ) (q : Record) → At (seen slots) other (Some q) → At (seen slots ++ Some r ∷ []) other (Some q) =
     λ other q old. At-append (seen slots) (Some r ∷ []) other (Some q) old in

@@ -1,5 +1,6 @@
 -- What the calls on one record make of the store.
-use Rattle.std.proofs.Common.{◌≡◌, inl, inr, ℕ, zero, suc, ◌+◌, ◌≤◌, ◌++◌, Bool, true, false, List, [], ◌∷◌, length, filter, not, Option, None, Some, Ok, Err, Result, slice_set, refl, sym, ap, ◌∙◌, subst, arith}
+use Rattle.std.proofs.Common.{◌≡◌, inl, inr, ℕ, zero, suc, ◌+◌, ◌≤◌, Bool, true, false, List, [], ◌∷◌, length, filter, not, Option, None, Some, Ok, Err, Result, slice_set, refl, sym, ap, ◌∙◌, subst, arith}
+use Rattle.std.proofs.lemmas.List.{length_push}
 use Rattle.std.specs.declared.alloc.AllocError.{AllocError}
 use Rattle.ca_arena.specs.declared.handle.Handle.{Handle}
 use Rattle.ca_dbr.specs.declared.value.Meta.{Meta}
@@ -32,15 +33,11 @@ waiting-part slots free f waiting place r stored full = omega (arith, stored.cou
 
 -- ---- writes
 
-length-one : {A : Type 0} (xs : List A) (x : A) → length (xs ++ x ∷ []) ≡ length xs + 1
-length-one [] x = refl
-length-one (y ∷ xs) x = omega (arith, length-one xs x)
-
 begins-waiting : (s : Stamp) (r : Record) (put : Option Put) (e : Elements) (result : Result Begun AllocError) (next : Record) → BeginsOn s r put e result next → more_waiting result + length r.waiting ≡ length next.waiting
 begins-waiting s r put e (Ok (Applied true)) next h = let is = ap (λ (q : Record). length q.waiting) h.3.4 in omega (arith, is)
 begins-waiting s r put e (Ok (Applied false)) next h = let is = ap (λ (q : Record). length q.waiting) h.3.2 in omega (arith, is)
 begins-waiting s r put e (Ok Waiting) next h =
-    let is : length next.waiting ≡ length r.waiting + 1 = ap (λ (q : Record). length q.waiting) h.3.3 ∙ length-one r.waiting (record { put = h.3.0; value = h.0 }) in omega (arith, is)
+    let is : length next.waiting ≡ length r.waiting + 1 = ap (λ (q : Record). length q.waiting) h.3.3 ∙ length_push r.waiting (record { put = h.3.0; value = h.0 }) in omega (arith, is)
 begins-waiting s r put e (Ok (Refused status)) next h = let is = ap (λ (q : Record). length q.waiting) h.1 in omega (arith, is)
 begins-waiting s r put e (Err lack) next h = let is = ap (λ (q : Record). length q.waiting) h.2 in omega (arith, is)
 

@@ -4,6 +4,8 @@ mod CallSteps
 mod Copies
 mod Faulted
 mod Indexes
+mod Openings
 mod Presence
 mod Steps
 mod Waiters
+mod Withdrawals

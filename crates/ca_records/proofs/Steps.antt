@@ -1,6 +1,7 @@
 -- A store after one of its records changed, came or left.
 use Rattle.std.proofs.Common.{◌≡◌, ◌≢◌, ◌⊎◌, inl, inr, ℕ, zero, suc, ◌+◌, List, [], ◌∷◌, ◌++◌, length, get_or, map, MatchOption, Option, None, Some, slice_set, refl, sym, ap, ◌∙◌, subst, arith}
 use Rattle.std.proofs.lemmas.Slice.Eq.{bytes_eq-Decides}
+use Rattle.std.proofs.lemmas.List.{map-set}
 use Rattle.ca_text.specs.Place.{At}
 use Rattle.ca_text.proofs.Places.{At-append, At-map, At-mapped, At-one, At-set, At-set-other, At-within, some_is}
 use Rattle.ca_records.specs.declared.slot.Slot.{Slot}
@@ -16,11 +17,6 @@ use Rattle.ca_records.proofs.Presence.{Lack, LackBut, has-name, has_name, named-
 use Rattle.ca_records.proofs.Waiters.{true_or_false}
 
 -- ---- lists that are written at a place
-
-pub map-set : {A B : Type 0} (f : A → B) (xs : List A) (i : ℕ) (y : A) → map f (slice_set xs i y) ≡ slice_set (map f xs) i (f y)
-map-set f [] i y = refl
-map-set f (x ∷ xs) zero y = refl
-map-set f (x ∷ xs) (suc i) y = ap (λ zs. f x ∷ zs) (map-set f xs i y)
 
 pub set-same : {A : Type 0} (xs : List A) (i : ℕ) (x : A) → At xs i x → slice_set xs i x ≡ xs
 set-same [] i x at = refl
@@ -173,6 +169,8 @@ change slots free f waiting more rules stamp place r next stored full same count
       };
       becomes = record {
         at = at;
+        there = subst (λ (s : List (Option Record)). At s place (Some next)) (sym after) (At-set-here (seen slots) place (Some r) (Some next) at);
+        name = same;
         leaves = ap (λ (s : List (Option Record)). let t : Store = record { slots = s; rules = rules; stamp = stamp } in t) after;
         records = λ g makes.
             ap present after ∙ ap (λ (q : Record). present (slice_set (seen slots) place (Some q))) (sym makes)

@@ -1,5 +1,10 @@
 -- Puts that wait, as contracts see them.
-use Rattle.std.proofs.Common.{◌≡◌, ◌⊎◌, inl, inr, Bool, true, false, not, List, [], ◌∷◌, ◌++◌, filter, map, Option, refl, ap, ◌∙◌}
+use Rattle.std.proofs.Common.{◌≡◌, ◌⊎◌, inl, inr, Bool, true, false, not, List, [], ◌∷◌, ◌++◌, filter, map, Option, refl, ap, ◌∙◌, ℕ, ◌<◌, get_or, length, subst, sym, arith}
+use Rattle.std.proofs.lemmas.List.{length-map}
+use Rattle.ca_dbr.specs.Elements.{Elements, elements}
+use Rattle.ca_text.specs.Place.{At}
+use Rattle.ca_text.proofs.Places.{At-map}
+use Rattle.ca_records.proofs.Copies.{at_get}
 use Rattle.std.specs.List.{AllByRecursion}
 use Rattle.ca_records.specs.declared.puts.Waiter.{Waiter}
 use Rattle.ca_records.specs.Layout.{AreFit, IsFit, waiting_put}
@@ -37,3 +42,11 @@ withdraws-fit s t xs ys fit kept =
 pub withdraws : (s : RecordState) (busy : Option Put) (t : Put → Bool) (xs ys : List Waiter) → ys ≡ filter (λ (w : Waiter). not (t w.put)) xs → let r : Record = record { state = s; busy = busy; waiting = map waiting_put ys } in let q : Record = record { state = s; busy = busy; waiting = map waiting_put xs } in r ≡ without_puts t q
 withdraws s busy t xs ys kept =
     ap (λ (ws : List WaitingPut). let r : Record = record { state = s; busy = busy; waiting = ws } in r) (ap (λ (zs : List Waiter). map waiting_put zs) kept ∙ waiting_put-filter t xs)
+
+-- what waits at a place, as it was looked at
+pub waits-at : (items : List Waiter) (ws : List WaitingPut) (place : ℕ) (w : Waiter) → map waiting_put items ≡ ws → place < length ws → w ≡ get_or items place w → (value : Elements) × (let p : WaitingPut = record { put = w.put; value = value } in At ws place p)
+waits-at items ws place w are within read =
+    let same : length (map waiting_put items) ≡ length items = length-map items waiting_put in
+    let inside : place < length items = omega (arith, within, same, ap length are) in
+    let there : At items place w = subst (λ (t : Waiter). At items place t) (sym read) (at_get items place w inside) in
+    (elements w.value, subst (λ (t : List WaitingPut). At t place (waiting_put w)) are (At-map waiting_put items place w there))

@@ -1,6 +1,7 @@
 pub mod Calls
 pub mod Chain
 pub mod Faults
+pub mod ForHistories
 pub mod Index
 pub mod Judging
 pub mod Layout

@@ -1,10 +1,11 @@
 -- Vocabulary: the records that a server keeps, each at a place of its own while it is there.
-use Rattle.std.specs.Prelude.{ℕ, ◌≡◌, ◌<◌, ◌≤◌, ◌⊎◌, ◌++◌, List, [], ◌∷◌, Option, Some, None, length, option_to_list, slice_set}
+use Rattle.std.specs.Prelude.{ℕ, ◌≡◌, ◌<◌, ◌≤◌, ◌⊎◌, ◌++◌, List, [], ◌∷◌, Option, Some, None, length, map, option_to_list, slice_set}
 use Rattle.std.specs.List.{flat_map}
 use Rattle.ca_text.specs.Place.{At}
 use Rattle.ca_dbr.specs.Elements.{Elements, count_of}
 use Rattle.ca_records.specs.declared.puts.Stamp.{Stamp}
-use Rattle.ca_records.specs.Puts.{Record, record_named, with_record}
+use Rattle.ca_records.specs.Puts.{Record, new_record, record_named, with_record}
+use Rattle.ca_records.specs.Record.{RecordState}
 use Rattle.ca_records.specs.Rules.{Rule}
 
 -- The places from 0 on, each with a record or free; the rules of access; and the stamp of the writes that are applied now.
@@ -48,9 +49,19 @@ with_slot place slot s = record s { slots = slice_set s.slots place slot }
 abbrev pub with_place : Record → Store → Store
 with_place r s = record s { slots = s.slots ++ Some r ∷ [] }
 
+-- the store that begins with these records, each free, under these rules
+abbrev pub new_store : List RecordState → List Rule → Store
+new_store states rules = record {
+  slots = map (λ (s : RecordState). Some (new_record s)) states;
+  rules = rules;
+  stamp = record { seconds = 0; nanos = 0 };
+}
+
 -- The record at a place became another of the same name, and nothing else changed.
 pub record Becomes (old : Store) (place : ℕ) (r next : Record) (new : Store) : Type 0 where
   pub at : HasAt old place r
+  pub there : HasAt new place next
+  pub name : next.state.name ≡ r.state.name
   pub leaves : new ≡ with_slot place (Some next) old
   -- to the list of records this is whatever makes the one of the other
   pub records : (f : Record → Record) → f r ≡ next → records_of new ≡ with_record r.state.name f (records_of old)

@@ -1,11 +1,12 @@
 -- Vocabulary: the calls on the records of a server, by answer (sections "CA_PROTO_WRITE", "CA_PROTO_WRITE_NOTIFY" and "Process Variables").
-use Rattle.std.specs.Prelude.{ℕ, ◌≡◌, ◌≢◌, ◌⊎◌, ◌&&◌, Bool, true, false, List, Option, Some, None, Result, Ok, Err, is_some, length, option_map, slice_get}
+use Rattle.std.specs.Prelude.{ℕ, ◌≡◌, ◌≢◌, ◌⊎◌, ◌++◌, ◌&&◌, [], ◌∷◌, Bool, true, false, List, Option, Some, None, Result, Ok, Err, is_some, length, option_map, slice_get}
 use Rattle.std.specs.declared.alloc.AllocError.{AllocError}
 use Rattle.ca_arena.specs.declared.handle.Handle.{Handle}
 use Rattle.ca_dbr.specs.declared.value.Meta.{Meta}
 use Rattle.ca_dbr.specs.Conversion.{converted}
 use Rattle.ca_dbr.specs.Elements.{Elements, base_of}
 use Rattle.ca_ids.specs.Table.{same_handle}
+use Rattle.ca_text.specs.Place.{At}
 use Rattle.ca_text.specs.declared.refusal.Refusal.{Refusal}
 use Rattle.ca_text.specs.declared.refusal.Refusal.TheVariants as refusal
 use Rattle.ca_records.specs.declared.puts.Begun.{Begun}
@@ -17,7 +18,7 @@ use Rattle.ca_records.specs.declared.puts.Put.{Put}
 use Rattle.ca_records.specs.declared.puts.Stamp.{Stamp}
 use Rattle.ca_records.specs.Puts.{Record, WaitingPut, finished, new_record, record_named, removed, with_value, with_waiting, withdrawn, without_puts, written_meta}
 use Rattle.ca_records.specs.Record.{RecordState}
-use Rattle.ca_records.specs.Store.{Becomes, Enters, HasAt, Store, records_of, with_slot}
+use Rattle.ca_records.specs.Store.{Becomes, Enters, HasAt, Store, records_of, with_place, with_slot}
 
 -- ---- writes: a put with notification, or a plain write, which has none
 
@@ -95,6 +96,10 @@ pub record Withdraws (old : Store) (place : ℕ) (circuit : Handle) (channel : O
   -- they are gone from this record as they would be from all
   pub rest : withdrawn (is_of circuit channel) (records_of new) ≡ withdrawn (is_of circuit channel) (records_of old)
 
+-- no put that the test names waits for these records
+abbrev pub HaveNone : (Put → Bool) → List Record → Type 0
+HaveNone which records = (i : ℕ) (r : Record) (k : ℕ) (w : WaitingPut) → At records i r → At r.waiting k w → which w.put ≡ false
+
 -- ---- posts
 
 abbrev pub Posts : Store → List ℕ → Elements → Meta → Result ℕ Refusal → Store → Type 0
@@ -109,6 +114,13 @@ abbrev pub Adds : Store → RecordState → Result ℕ Refusal → Store → Typ
 Adds old s (Ok place) new = MayAdd (records_of old) s × Enters old place (new_record s) new
 Adds old s (Err refusal.OutOfMemory) new = MayAdd (records_of old) s × (new ≡ old)
 Adds old s (Err e) new = AddFault (records_of old) s e × (new ≡ old)
+
+-- The same, of a record whose name is new: it comes to a new place, behind all others.
+abbrev pub Defines : Store → RecordState → Result ℕ Refusal → Store → Type 0
+Defines old s (Ok place) new = MayAdd (records_of old) s × (place ≡ length old.slots) × (new ≡ with_place (new_record s) old) × (records_of new ≡ records_of old ++ new_record s ∷ [])
+Defines old s (Err refusal.OutOfMemory) new = MayAdd (records_of old) s × (new ≡ old)
+Defines old s (Err refusal.RecordExists) new = ⊥
+Defines old s (Err e) new = AddFault (records_of old) s e × (new ≡ old)
 
 -- the record of this name leaves its place, and its puts go with it
 pub record Leaves (old : Store) (name : List ℕ) (place : ℕ) (new : Store) : Type 0 where

@@ -1,4 +1,4 @@
-ghost use Rattle.std.specs.Prelude.{◌≡◌, IfErr, MatchResult, OnOk};
+ghost use Rattle.std.specs.Prelude.{◌≡◌, IfErr, IfOk, MatchResult, OnOk};
 ghost use Rattle.ca_text.specs.Limits.{record_name_limit};
 ghost use Rattle.ca_text.specs.Name.{IsName};
 ghost use Rattle.ca_text.specs.declared.refusal.Refusal.TheVariants.{BadCount, NameLength};
@@ -8,6 +8,7 @@ ghost use Rattle.ca_records.specs.Record.{HoldsValue, IsRecord, IsUnfit};
 
 use ca_dbr::{Meta, Value};
 use ca_text::{ELEMENT_LIMIT, RecordName, Refusal};
+use std::alloc::{AllocError, Global};
 use std::marker::Model;
 
 /// A record: a name, the greatest element count, whether a put takes it time, and a value with its metadata.
@@ -46,6 +47,17 @@ impl Record {
             value,
             meta,
         }
+    }
+
+    // The same record again.
+    pub(crate) fn copy(&self, alloc: Global) -> Result<Record, AllocError>
+        ensures { IfOk result (λ copy. copy ≡ self.now) }
+    {
+        let Ok(value) = self.value.copy(alloc) else {
+            return Err(AllocError);
+        };
+        let name = Vec::from_slice(alloc, &self.name)?;
+        Ok(Record::new(name, self.count, self.slow, value, self.meta))
     }
 
     // Sets the value and what goes with it.
