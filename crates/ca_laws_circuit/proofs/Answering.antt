@@ -1,13 +1,13 @@
 -- The replies that are due for a message leave the meaning of ids as it was.
-use Rattle.std.proofs.Common.{◌≡◌, ℕ, ◌+◌, ◌<◌, ◌⊎◌, inl, inr, List, [], ◌∷◌, ◌++◌, length, refl, sym, ap, ◌∙◌, subst, arith}
+use Rattle.std.proofs.Common.{◌≡◌, ℕ, ◌<◌, inl, inr, List, [], ◌∷◌, length, sym, ap, ◌∙◌, arith}
 use Rattle.ca_text.specs.declared.command.Command.TheVariants as command
 use Rattle.ca_text.specs.Place.{At}
 use Rattle.ca_wire.specs.Fields.{Fields}
 use Rattle.ca_wire.specs.Header.{HeaderFits}
 use Rattle.ca_wire.specs.Message.{header_of}
 use Rattle.ca_model.specs.Due.{Action, Due, Knows}
-use Rattle.ca_model.specs.Speech.{Id, In, Is, Speaks}
-use Rattle.ca_model.specs.History.{Ask, Create, Clear, Request, Subscribe, Cancel, Read, Put, Write, Intent, On, OfCircuit, Sent, Circuit}
+use Rattle.ca_model.specs.Speech.{In, Is}
+use Rattle.ca_model.specs.History.{Create, Clear, Request, Subscribe, Cancel, Read, Put, Write, Intent, On, OfCircuit, Sent, Circuit}
 use Rattle.ca_model_safe.specs.Channels.{Suits}
 use Rattle.ca_laws_circuit.specs.Flows.{Ends, IsCidOf, IsLast}
 use Rattle.ca_laws_circuit.specs.Replies.{IsCidAt}

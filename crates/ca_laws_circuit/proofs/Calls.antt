@@ -1,25 +1,23 @@
 -- A caller reads or puts on a live channel: its message goes out, and a request holds its IOID.
-use Rattle.std.proofs.Common.{◌≡◌, ℕ, ◌+◌, ◌<◌, ◌≤◌, ◌⊎◌, inl, inr, Bool, true, false, cond, List, [], ◌∷◌, ◌++◌, length, Option, Some, None, refl, sym, ap, ◌∙◌, subst, arith}
+use Rattle.std.proofs.Common.{◌≡◌, ℕ, inl, inr, Bool, true, false, cond, List, [], ◌∷◌, ◌++◌, length, Option, Some, None, refl, sym, ap, ◌∙◌, subst, arith}
 use Rattle.std.specs.Prelude.{find, is_some, option_map, unwrap_or}
-use Rattle.ca_text.specs.declared.command.Command.TheVariants as command
-use Rattle.ca_text.specs.Place.{At}
-use Rattle.ca_text.proofs.Places.{some_is, At-last, At-one}
+use Rattle.ca_text.proofs.Places.{At-last, At-one}
 use Rattle.ca_arena.specs.declared.handle.Handle.{Handle}
-use Rattle.ca_ids.specs.Table.{MayGive, Table, same_handle, with_held}
+use Rattle.ca_ids.specs.Table.{MayGive, same_handle, with_held}
 use Rattle.ca_ids.specs.Wire.{wire_of}
 use Rattle.ca_requests.specs.Requests.{Asked, Request, was_sent_on}
 use Rattle.ca_requests.specs.Requests as request
 use Rattle.ca_model.specs.Answers.{Sending}
 use Rattle.ca_model.specs.Client.{Client, is_on_in, sending}
 use Rattle.ca_model.specs.ClientCalls.{LiveChannel, issued}
-use Rattle.ca_model.specs.Speech.{Id, Cid, Ioid, SubId, Gives, Is}
+use Rattle.ca_model.specs.Speech.{Id, Cid, Ioid, SubId, Gives}
 use Rattle.ca_model.specs.History.{Circuit, Intent, Kind, On, OfCircuit, Sent}
 use Rattle.ca_model.specs.History as history
 use Rattle.ca_model_safe.specs.Channels.{Suits, named}
 use Rattle.ca_model_world.specs.ClientEvents.{meant_by}
 use Rattle.ca_model_world.specs.World.{Names}
 use Rattle.ca_laws_circuit.specs.Flows.{Concerns, IsPending, MaySend, MeansOwn, with_sent}
-use Rattle.ca_laws_circuit.specs.Held.{Holds, HoldsRequests, IsAsking, IsMeant, IsNew, has_id, is_asked, with_request}
+use Rattle.ca_laws_circuit.specs.Held.{Holds, HoldsRequests, IsAsking, IsNew, has_id, is_asked, with_request}
 use Rattle.ca_laws_circuit.proofs.Clears.{same-itself}
 use Rattle.ca_laws_circuit.proofs.Held.{ids-sent}
 use Rattle.ca_laws_circuit.proofs.Requests.{given-new, issue-fresh, requests-issued}

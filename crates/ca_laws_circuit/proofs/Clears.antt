@@ -1,29 +1,24 @@
 -- A caller clears a live channel: its CLEAR_CHANNEL goes out, its CID and the ids of its requests and subscriptions drain.
-use Rattle.std.proofs.Common.{◌≡◌, ℕ, ◌+◌, ◌<◌, ◌≤◌, ◌⊎◌, inl, inr, Bool, true, false, not, ◌&&◌, ◌||◌, cond, eqb, List, [], ◌∷◌, ◌++◌, length, Option, Some, None, refl, sym, ap, ◌∙◌, subst, arith}
+use Rattle.std.proofs.Common.{◌≡◌, ℕ, ◌<◌, ◌≤◌, ◌⊎◌, inl, inr, Bool, true, false, ◌&&◌, ◌||◌, cond, eqb, [], ◌∷◌, ◌++◌, length, Option, Some, None, refl, sym, ap, ◌∙◌, subst, arith}
 use Rattle.std.specs.Prelude.{option_and_then, option_map, unwrap_or}
 use Rattle.std.proofs.lemmas.Bool.{and_from, and_parts, both_ways, cases_Bool, eq-eqb, eqb-true, or_cases, or_left, or_right}
 use Rattle.std.proofs.lemmas.List.{length-map}
-use Rattle.ca_text.specs.declared.command.Command.TheVariants as command
 use Rattle.ca_text.specs.Limits.{arena_slots}
-use Rattle.ca_text.specs.Place.{At}
 use Rattle.ca_text.proofs.Places.{some_is, At-last, At-one, At-within}
 use Rattle.ca_arena.specs.declared.handle.Handle.{Handle}
 use Rattle.ca_ids.specs.Table.{Table, same_handle, under, with_changed}
 use Rattle.ca_ids.specs.Wire.{wire_of}
-use Rattle.ca_wire.specs.Messages.{clear_request}
 use Rattle.ca_monitor.specs.Subscriptions.{Stage, Stands, Cancelled, Ended, Subscription, drains_in, is_to, stage_over, stands_in}
 use Rattle.ca_monitor.specs.Subscriptions as monitor
 use Rattle.ca_requests.specs.Requests.{channel_over}
-use Rattle.ca_model.specs.Answers as aim
 use Rattle.ca_model.specs.Client.{Channel, Client, Clearing, Live, Native, On, Phase, Searching, Standing, is_cleared, is_on_in, phase_on, sending, standing_at, standing_unless_cleared}
-use Rattle.ca_model.specs.ClientCalls.{all_over, clear_sent, cleared}
+use Rattle.ca_model.specs.ClientCalls.{clear_sent, cleared}
 use Rattle.ca_model.specs.Speech.{Id, Cid, Ioid, SubId, Gives}
 use Rattle.ca_model.specs.History.{Circuit, Sent}
-use Rattle.ca_model.specs.History as history
-use Rattle.ca_model_world.specs.ClientEvents.{channel_number, intent_of, meant_by}
+use Rattle.ca_model_world.specs.ClientEvents.{channel_number, meant_by}
 use Rattle.ca_model_world.specs.World.{Names}
-use Rattle.ca_laws_circuit.specs.Flows.{Concerns, IsPending, MaySend, MeansOwn, with_sent}
-use Rattle.ca_laws_circuit.specs.Held.{clear_of, Holds, HoldsChannels, HoldsRequests, HoldsSubscriptions, IsHeld, has_id, is_asked, is_subscribed}
+use Rattle.ca_laws_circuit.specs.Flows.{Concerns, MaySend, MeansOwn, with_sent}
+use Rattle.ca_laws_circuit.specs.Held.{clear_of, Holds, HoldsChannels, HoldsRequests, HoldsSubscriptions, has_id, is_asked, is_subscribed}
 use Rattle.ca_laws_circuit.proofs.Flows.{given-sent}
 use Rattle.ca_laws_circuit.proofs.Held.{ids-kept, ids-sent}
 use Rattle.ca_laws_circuit.proofs.Requests.{requests-over, requests-sent}
@@ -148,7 +143,7 @@ module _ (Awaits : ℕ → Type 0) (on : Handle) (n : Names) (x : Client) (c : C
   abbrev after : Table Channel
   after = with_changed clearing h x.channels
 
-  is-asked : is_on_in is_asked on ch ≡ true
+  pub is-asked : is_on_in is_asked on ch ≡ true
   is-asked = is-on is_asked on ch (Live native rights) stands
 
   clear-may : MaySend Awaits c stamped
@@ -163,7 +158,7 @@ module _ (Awaits : ℕ → Type 0) (on : Handle) (n : Names) (x : Client) (c : C
         (m.0, m.1, stamped, given-sent c.up stamped (Cid (wire_of h)) m.0 m.1 (gives-none n native.sid h (Cid (wire_of h))) m.2, omega (arith, k), At-last c.up stamped, m.3);
   }
 
-  channels-sent : HoldsChannels Awaits on (channel_number n) x.channels (with_sent stamped c)
+  pub channels-sent : HoldsChannels Awaits on (channel_number n) x.channels (with_sent stamped c)
   channels-sent =
       ids-sent Cid _ Awaits (is_on_in is_asked on) x.channels c stamped (λ m. gives-none n native.sid h (Cid m))
       (λ m concerns. (h, ch, there, sym (cid-is m (wire_of h) (concerns-cid n native.sid h c (Cid m) concerns)), is-asked)) holds.channels
@@ -188,7 +183,7 @@ module _ (Awaits : ℕ → Type 0) (on : Handle) (n : Names) (x : Client) (c : C
   no-sub : (m : ℕ) → SubId m ≡ Cid (wire_of h) → ⊥
   no-sub m e = cc
 
-  requests-cleared : HoldsRequests Awaits on (meant_by n.requests) (channel_over h x.requests) (with_sent stamped c)
+  pub requests-cleared : HoldsRequests Awaits on (meant_by n.requests) (channel_over h x.requests) (with_sent stamped c)
   requests-cleared =
       requests-over on _ Awaits h x.requests (with_sent stamped c)
       (requests-sent on _ Awaits x.requests c stamped (λ m. gives-none n native.sid h (Ioid m)) holds.requests)
@@ -220,6 +215,11 @@ module _ (Awaits : ℕ → Type 0) (on : Handle) (n : Names) (x : Client) (c : C
             | inr old ↦ old.1
           ]) f
 
+  pub subscriptions-sent : HoldsSubscriptions Awaits on (meant_by n.subscriptions) x.channels x.subscriptions (with_sent stamped c)
+  subscriptions-sent =
+      ids-sent SubId _ Awaits (has_id x.channels on) x.subscriptions c stamped (λ m. gives-none n native.sid h (SubId m))
+      (λ m concerns. absurd (no-sub m (concerns-cid n native.sid h c (SubId m) concerns))) holds.subscriptions
+
   subscriptions-cleared : HoldsSubscriptions Awaits on (meant_by n.subscriptions) after (monitor.channel_over on h x.subscriptions) (with_sent stamped c)
   subscriptions-cleared =
       ids-kept SubId _ Awaits (has_id x.channels on) (has_id after on) x.subscriptions (monitor.channel_over on h x.subscriptions) (with_sent stamped c)
@@ -228,7 +228,7 @@ module _ (Awaits : ℕ → Type 0) (on : Handle) (n : Names) (x : Client) (c : C
       (λ g v is yes_it.
       let was = all-back (monitor.over_on on h) x.subscriptions g v is in
       (was.0, was.1, subscription-back was.0 (subst (λ (d : Subscription). has_id after on d ≡ true) was.2 yes_it)))
-      (ids-sent SubId _ Awaits (has_id x.channels on) x.subscriptions c stamped (λ m. gives-none n native.sid h (SubId m)) (λ m concerns. absurd (no-sub m (concerns-cid n native.sid h c (SubId m) concerns))) holds.subscriptions)
+      subscriptions-sent
 
   pub clear-holds : Holds Awaits on n (sending (clear_sent on native.sid h ∷ []) (cleared h (On on (Live native rights)) x)) (with_sent stamped c)
   clear-holds = record { channels = channels-cleared; requests = requests-cleared; subscriptions = subscriptions-cleared }

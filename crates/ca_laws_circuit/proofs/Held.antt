@@ -1,12 +1,11 @@
 -- A table of ids on one circuit, as the circuit's lists grow and as the table changes.
-use Rattle.std.proofs.Common.{◌≡◌, ℕ, ◌+◌, ◌<◌, ◌≤◌, ◌⊎◌, inl, inr, Bool, true, false, List, [], ◌∷◌, ◌++◌, length, Some, refl, sym, ap, ◌∙◌, subst, arith}
+use Rattle.std.proofs.Common.{◌≡◌, ℕ, ◌≤◌, inl, inr, Bool, true, false, [], ◌∷◌, ◌++◌, length, Some, sym, subst, arith}
 use Rattle.std.proofs.lemmas.Bool.{both_ways}
 use Rattle.ca_text.specs.Limits.{arena_slots}
-use Rattle.ca_text.specs.Place.{At}
 use Rattle.ca_arena.specs.declared.handle.Handle.{Handle}
 use Rattle.ca_ids.specs.Table.{MayGive, Table, under, with_changed, with_held}
 use Rattle.ca_ids.specs.Wire.{wire_of}
-use Rattle.ca_model.specs.Speech.{Id, Gives, Speaks}
+use Rattle.ca_model.specs.Speech.{Id, Gives}
 use Rattle.ca_model.specs.History.{Intent, Sent, Told, Step, Circuit}
 use Rattle.ca_model_safe.specs.Channels.{named}
 use Rattle.ca_laws_circuit.specs.Flows.{Concerns, IsPending, MayTell, with_handled, with_heard, with_sent, with_told}

@@ -11,3 +11,5 @@ pub mod Sids
 pub mod Steps
 pub mod Answering
 pub mod Calls
+pub mod Heard
+pub mod Answered

@@ -1,19 +1,17 @@
 -- A client's requests on one circuit, as its lists grow and as its table changes.
-use Rattle.std.proofs.Common.{◌≡◌, ℕ, zero, suc, ◌+◌, ◌<◌, ◌≤◌, ◌⊎◌, inl, inr, Bool, true, false, cond, List, [], ◌∷◌, ◌++◌, length, Option, Some, None, refl, sym, ap, ◌∙◌, subst, arith}
-use Rattle.std.proofs.lemmas.Bool.{cases_Bool}
+use Rattle.std.proofs.Common.{◌≡◌, ℕ, ◌+◌, ◌<◌, ◌≤◌, ◌⊎◌, inl, inr, Bool, true, false, cond, [], ◌∷◌, ◌++◌, length, Some, refl, sym, ap, ◌∙◌, subst, arith}
 use Rattle.std.proofs.lemmas.List.{length-map}
 use Rattle.ca_text.specs.Limits.{arena_slots}
 use Rattle.ca_text.specs.Place.{At}
 use Rattle.ca_text.proofs.Places.{At-last, At-snoc, At-within}
 use Rattle.ca_arena.specs.declared.handle.Handle.{Handle}
-use Rattle.ca_arena.specs.Arena.{Place}
-use Rattle.ca_ids.specs.Table.{MayGive, Table, under, with_all, with_all_freed, with_freed, with_held}
+use Rattle.ca_ids.specs.Table.{MayGive, Table, under, with_all_freed, with_freed, with_held}
 use Rattle.ca_ids.specs.Wire.{wire_of}
 use Rattle.ca_requests.specs.Requests.{Draining, Request, asks_on, channel_over, over_on, was_sent_on}
 use Rattle.ca_model.specs.Speech.{Id, Ioid, Gives, Speaks}
 use Rattle.ca_model.specs.History.{Intent, Reply, Sent, Told, Step, Circuit}
-use Rattle.ca_model_safe.specs.Channels.{Suits, named}
-use Rattle.ca_laws_circuit.specs.Flows.{Concerns, Flows, IsGiven, IsLast, IsPending, MaySend, MayTell, MeansOwn, with_handled, with_heard, with_sent, with_told}
+use Rattle.ca_model_safe.specs.Channels.{named}
+use Rattle.ca_laws_circuit.specs.Flows.{Concerns, Flows, IsGiven, IsLast, IsPending, MayTell, with_handled, with_heard, with_sent, with_told}
 use Rattle.ca_laws_circuit.specs.Held.{HoldsRequests, IsMeant}
 use Rattle.ca_laws_circuit.proofs.Lists.{length-more}
 use Rattle.ca_laws_circuit.proofs.Flows.{concerns-back, given-sent}

@@ -1,11 +1,10 @@
 -- How the meaning of SIDs is kept as the lists grow, and that a message is handled on the channel that was meant.
-use Rattle.std.proofs.Common.{◌≡◌, ℕ, zero, suc, ◌+◌, ◌<◌, ◌≤◌, ◌⊎◌, inl, inr, List, [], ◌∷◌, ◌++◌, length, take, Some, min, refl, sym, ap, ◌∙◌, subst, arith}
-use Rattle.std.proofs.lemmas.List.{length-take}
+use Rattle.std.proofs.Common.{◌≡◌, ℕ, zero, suc, ◌+◌, ◌<◌, ◌≤◌, inl, inr, List, [], ◌∷◌, ◌++◌, length, take, sym, ap, ◌∙◌, subst, arith}
 use Rattle.ca_text.specs.Place.{At}
 use Rattle.ca_text.proofs.Places.{At-append, At-one, At-snoc, At-within}
 use Rattle.ca_model.specs.Speech.{Clears, Creates, name_in, sid_in}
-use Rattle.ca_model.specs.History.{Ask, Create, Entry, Intent, On, Reply, Sent, Told, Step, Circuit}
-use Rattle.ca_model_safe.specs.Channels.{Created, Has, IsOpen, before}
+use Rattle.ca_model.specs.History.{Ask, Create, Entry, On, Sent, Told, Step, Circuit}
+use Rattle.ca_model_safe.specs.Channels.{Has, IsOpen, before}
 use Rattle.ca_laws_circuit.specs.Flows.{with_handled, with_heard, with_sent, with_told}
 use Rattle.ca_laws_circuit.specs.Sids.{IsClearedWithin, IsLiveBefore, MayCreate, Sids}
 use Rattle.ca_laws_circuit.proofs.Lists.{At-old, length-more}

@@ -1,5 +1,6 @@
--- What a server's events leave of the meaning of ids: a message is handled and answered, a put is finished, a record removed, updates sent.
-use Rattle.std.proofs.Common.{◌≡◌, ℕ, zero, suc, ◌+◌, ◌<◌, ◌≤◌, ◌⊎◌, inl, inr, List, [], ◌∷◌, ◌++◌, length, Some, refl, sym, ap, ◌∙◌, subst, arith}
+-- What a server's events leave of the meaning of ids: a message is handled and answered, a put is finished, a record removed,
+-- updates sent.
+use Rattle.std.proofs.Common.{◌≡◌, ℕ, ◌+◌, ◌<◌, ◌≤◌, ◌⊎◌, inl, inr, List, [], ◌∷◌, ◌++◌, length, refl, sym, ◌∙◌, subst, arith}
 use Rattle.std.specs.Prelude.{map}
 use Rattle.std.proofs.lemmas.List.{append-nil, append_assoc}
 use Rattle.ca_text.specs.declared.command.Command.TheVariants as command
@@ -7,9 +8,9 @@ use Rattle.ca_text.specs.Place.{At}
 use Rattle.ca_text.proofs.Places.{At-one, At-within}
 use Rattle.ca_wire.specs.Fields.{Fields}
 use Rattle.ca_model.specs.Speech.{Id, In, Is, Speaks}
-use Rattle.ca_model.specs.History.{Ask, Create, Clear, Request, Subscribe, Cancel, Read, Put, Write, Cause, Reply, Removal, Update, Intent, On, OfCircuit, Sent, Told, Step, Circuit}
+use Rattle.ca_model.specs.History.{Create, Clear, Request, Subscribe, Cancel, Read, Put, Write, Reply, Intent, On, OfCircuit, Sent, Told, Step, Circuit}
 use Rattle.ca_model_safe.specs.Channels.{Suits}
-use Rattle.ca_laws_circuit.specs.Flows.{Awaits, Concerns, Ends, Flows, IsLast, MayTell, with_handled, with_told}
+use Rattle.ca_laws_circuit.specs.Flows.{Awaits, Concerns, Ends, Flows, IsLast, with_handled, with_told}
 use Rattle.ca_laws_circuit.specs.Steps.{Answers, replied}
 use Rattle.ca_laws_circuit.proofs.Flows.{awaits-handled, flows-handled, flows-told}
 use Rattle.ca_laws_circuit.proofs.Lists.{length-more}

@@ -1,5 +1,6 @@
--- What a server says later of a message that it handled speaks of that message alone: a finish, a removal, an update; and its replies.
-use Rattle.std.proofs.Common.{◌≡◌, ℕ, ◌⊎◌, inl, inr, List, Ok, Err, Result, refl, sym, ap, ◌∙◌, subst}
+-- What a server says later of a message that it handled speaks of that message alone: a finish, a removal, an update; and its
+-- replies.
+use Rattle.std.proofs.Common.{◌≡◌, ℕ, inl, inr, List, Ok, Err, Result, refl, sym, subst}
 use Rattle.ca_text.specs.declared.command.Command.TheVariants as command
 use Rattle.ca_text.specs.declared.refusal.Refusal.{Refusal}
 use Rattle.ca_text.specs.Place.{At}
@@ -13,7 +14,7 @@ use Rattle.ca_wire.specs.Message.{header_of}
 use Rattle.ca_wire.specs.Messages.{Wanted, disconnect}
 use Rattle.ca_model.specs.Due.{Action, Due, Knows}
 use Rattle.ca_model.specs.ServerCalls.{finish_reply}
-use Rattle.ca_model.specs.Speech.{Id, Cid, Ioid, SubId, Gives, Is, Speaks, Stored}
+use Rattle.ca_model.specs.Speech.{Id, Cid, Ioid, SubId, Is, Speaks, Stored}
 use Rattle.ca_model.specs.Updates.{ShowsTo, update_count, update_in}
 use Rattle.ca_model.specs.History.{Sent}
 use Rattle.ca_laws_circuit.specs.Flows.{Concerns, IsCidOf}

@@ -46,8 +46,8 @@ IsCidOf up p intent cid =
     × Gives r.message (Cid cid)
     × ((l : ℕ) (s : Sent) → k < l → l < p → At up l s → s.intent ≡ On channel Create → ⊥)
 
--- What the server's messages about the client's message at place p may speak of: the id that this gives; of a CLEAR_CHANNEL its CID, of an
--- EVENT_CANCEL its subscription id, and of a WRITE the CID of its channel.
+-- What the server's messages about the client's message at place p may speak of: the id that this gives; of a CLEAR_CHANNEL its
+-- CID, of an EVENT_CANCEL its subscription id, and of a WRITE the CID of its channel.
 abbrev pub Concerns : List Sent → (p : ℕ) → Id → Type 0
 Concerns up p id =
     (s : Sent) × At up p s
@@ -69,8 +69,9 @@ Ends (On channel Clear) (On other ask) = channel ≡ other
 Ends (On channel (Cancel number)) (On other (Subscribe n)) = (channel ≡ other) × (number ≡ n)
 Ends intent other = ⊥
 
--- The server may still send a message about the client's message at place p: it has not handled it; or it keeps something for it. What it
--- keeps are these places: of its puts that are busy or wait on a channel that is open, of its subscriptions, and of its channels' creations.
+-- The server may still send a message about the client's message at place p: it has not handled it; or it keeps something for it.
+-- What it keeps are these places: of its puts that are busy or wait on a channel that is open, of its subscriptions, and of its
+-- channels' creations.
 abbrev pub Awaits : Circuit → (kept : List ℕ) → (p : ℕ) → Type 0
 Awaits c kept p = (length c.handled ≤ p) ⊎ In kept p
 
@@ -87,7 +88,8 @@ module _ (Awaits : ℕ → Type 0) where
 
   -- The ids on one circuit, by its lists.
   pub record Flows (c : Circuit) : Type 0 where
-    -- the client read what was sent, and while it had sent no more than it has by now; the server's messages are about what was sent
+    -- the client read what was sent, and while it had sent no more than it has by now; the server's messages are about what was
+    -- sent
     pub within : length c.heard ≤ length c.down
     pub early : (j : ℕ) (h : Step) → At c.heard j h → h.sent ≤ length c.up
     pub about : (j : ℕ) (t : Told) → At c.down j t → t.place < length c.up
@@ -99,21 +101,22 @@ module _ (Awaits : ℕ → Type 0) where
     pub concerns : (j : ℕ) (t : Told) (id : Id) → At c.down j t → Speaks t.message id → Concerns c.up t.place id
     -- And so will be those in the messages that may still be sent: nothing else is given an id that may still come back.
     pub next : (p : ℕ) (id : Id) → Awaits p → Concerns c.up p id → MeansOwn c.up p id
-    -- Clause 2, `once`, and why an id may be given again: after the last message about a request, a subscription or a channel none comes.
+    -- Clause 2, `once`, and why an id may be given again: after the last message about a request, a subscription or a channel
+    -- none comes.
     pub last : (j : ℕ) (t : Told) (s : Sent) → At c.down j t → t.cause ≡ Reply → At c.up t.place s → IsLast t.message s.intent
         → NoMore c j t.place
     pub over : (j p : ℕ) (t : Told) (s r : Sent) → At c.down j t → t.cause ≡ Reply → At c.up t.place s → At c.up p r → p < t.place
         → Ends s.intent r.intent → NoMore c j p
 
-  -- A message may be sent: it is what was meant; nothing that may still come speaks of the id that it gives; and the ids that it concerns mean what it
-  -- is about.
+  -- A message may be sent: it is what was meant; nothing that may still come speaks of the id that it gives; and the ids that it
+  -- concerns mean what it is about.
   pub record MaySend (c : Circuit) (s : Sent) : Type 0 where
     pub suits : Suits s.intent s.message
     pub fresh : (p : ℕ) (id : Id) → Gives s.message id → IsPending c p id → ⊥
     pub means : (id : Id) → Concerns (c.up ++ s ∷ []) (length c.up) id → MeansOwn (c.up ++ s ∷ []) (length c.up) id
 
--- A message may be told, after which less may still come: something may still come about what it is about, and it speaks of nothing else; and if
--- it is the last about that, or ends other things, nothing more may come about these.
+-- A message may be told, after which less may still come: something may still come about what it is about, and it speaks of
+-- nothing else; and if it is the last about that, or ends other things, nothing more may come about these.
 pub record MayTell (Awaits Fewer : ℕ → Type 0) (c : Circuit) (t : Told) : Type 0 where
   pub there : t.place < length c.up
   pub awaits : Awaits t.place

@@ -1,7 +1,9 @@
 -- Working: what a client's tables hold of one circuit: each id that may still come back, and what it was given to.
-use Rattle.std.specs.Prelude.{ℕ, ◌≡◌, ◌≤◌, ◌⊎◌, ◌&&◌, ◌||◌, ◌++◌, Bool, true, false, List, [], ◌∷◌, Some, None, find, length, option_map, unwrap_or}
+use Rattle.std.specs.Prelude.{ℕ, ◌≡◌, ◌≤◌, ◌⊎◌, ◌&&◌, ◌||◌, ◌++◌, Bool, true, false, List, [], ◌∷◌, Some, None}
+use Rattle.std.specs.Prelude.{find, length, option_map, unwrap_or}
 use Rattle.ca_text.specs.declared.command.Command.TheVariants as command
 use Rattle.ca_text.specs.Limits.{arena_slots}
+use Rattle.ca_text.specs.Place.{At}
 use Rattle.ca_arena.specs.declared.handle.Handle.{Handle}
 use Rattle.ca_ids.specs.Table.{Table, same_handle, under}
 use Rattle.ca_ids.specs.Wire.{wire_of}
@@ -9,8 +11,8 @@ use Rattle.ca_wire.specs.Messages.{clear_request}
 use Rattle.ca_requests.specs.Requests.{Request, was_sent_on}
 use Rattle.ca_monitor.specs.Subscriptions.{Subscription, drains_in, stands_in}
 use Rattle.ca_model.specs.Client.{Channel, Client, Connecting, Leaving, Live, Phase, is_on_in}
-use Rattle.ca_model.specs.Speech.{Cid, Id, Ioid, Is, SubId}
-use Rattle.ca_model.specs.History.{Circuit, Clear, Create, Intent, On, Sent}
+use Rattle.ca_model.specs.Speech.{Cid, Gives, Id, Ioid, Is, SubId}
+use Rattle.ca_model.specs.History.{Ask, Circuit, Clear, Create, Intent, On, Sent}
 use Rattle.ca_model_safe.specs.Channels.{named}
 use Rattle.ca_model_world.specs.ClientEvents.{channel_number, meant_by}
 use Rattle.ca_model_world.specs.World.{Names}
@@ -24,9 +26,10 @@ IsMeant c intent id = (k number : ℕ) × IsGiven c.up id k number × (named id 
 abbrev pub IsHeld : {T : Type 0} → (here : T → Bool) → Table T → (n : ℕ) → Type 0
 IsHeld {T} here t n = (h : Handle) × (v : T) × (under t h ≡ Some v) × (wire_of h ≡ n) × (here v ≡ true)
 
--- A table whose handles' wire ids are ids of one kind: those that pass the test have theirs on this circuit. What is meant by a handle is told by its
--- client's names.
-pub record HoldsIds {T : Type 0} (Awaits : ℕ → Type 0) (kind : ℕ → Id) (here : T → Bool) (meant : Handle → Intent) (t : Table T) (c : Circuit) : Type 0 where
+-- A table whose handles' wire ids are ids of one kind: those that pass the test have theirs on this circuit. What is meant by a
+-- handle is told by its client's names.
+pub record HoldsIds {T : Type 0} (Awaits : ℕ → Type 0) (kind : ℕ → Id) (here : T → Bool) (meant : Handle → Intent)
+    (t : Table T) (c : Circuit) : Type 0 where
   -- there are no more indices than ids have
   pub few : length t ≤ arena_slots
   -- Clause 2, `own`: an id that may still come back is held, so that it is given to nothing else.
@@ -61,7 +64,8 @@ abbrev pub has_id : Table Channel → (on : Handle) → Subscription → Bool
 has_id channels on s =
     drains_in on s.stage || (stands_in s.stage && unwrap_or (option_map (is_on_in is_subscribed on) (under channels s.channel)) false)
 
-abbrev pub HoldsSubscriptions : (Awaits : ℕ → Type 0) (on : Handle) (meant : Handle → Intent) → Table Channel → Table Subscription → Circuit → Type 0
+abbrev pub HoldsSubscriptions : (Awaits : ℕ → Type 0) (on : Handle) (meant : Handle → Intent) → Table Channel → Table Subscription
+    → Circuit → Type 0
 HoldsSubscriptions Awaits on meant channels t c = HoldsIds Awaits SubId (has_id channels on) meant t c
 
 -- ---- all three: what a client's core, whose handles these names name, holds of the circuit of this handle
@@ -88,3 +92,16 @@ with_request q intent n = record n { requests = n.requests ++ (q, intent) ∷ []
 -- nothing has this handle as a name yet
 abbrev pub IsNew : List (Handle × Intent) → Handle → Type 0
 IsNew named q = find (λ (x : Handle × Intent). same_handle x.0 q) named ≡ None
+
+-- ---- what names and lists have in common
+
+-- A request, and a subscription, is on one channel: by its number, if its message gives the IOID (plain writes have numbers of their own).
+pub record OnChannels (n : Names) (x : Client) (c : Circuit) : Type 0 where
+  pub requests : (p number : ℕ) (s : Sent) (q : Handle) (r : Request) → At c.up p s → Gives s.message (Ioid (wire_of q))
+      → under x.requests q ≡ Some r → named (Ioid (wire_of q)) s.intent ≡ Some number
+      → named (Ioid (wire_of q)) (meant_by n.requests q) ≡ Some number
+      → (ask : Ask) × (s.intent ≡ On (channel_number n r.channel) ask)
+  pub subscriptions : (p number : ℕ) (s : Sent) (g : Handle) (d : Subscription) → At c.up p s
+      → under x.subscriptions g ≡ Some d → named (SubId (wire_of g)) s.intent ≡ Some number
+      → named (SubId (wire_of g)) (meant_by n.subscriptions g) ≡ Some number
+      → (ask : Ask) × (s.intent ≡ On (channel_number n d.channel) ask)

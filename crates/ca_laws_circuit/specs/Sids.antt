@@ -2,14 +2,14 @@
 use Rattle.std.specs.Prelude.{ℕ, ◌≡◌, ◌<◌, ◌≤◌, List, length}
 use Rattle.ca_text.specs.Place.{At}
 use Rattle.ca_model.specs.Speech.{Clears, Creates, sid_in}
-use Rattle.ca_model.specs.History.{Ask, Create, Intent, On, Reply, Sent, Told, Step, Circuit}
+use Rattle.ca_model.specs.History.{Ask, Create, On, Reply, Sent, Told, Step, Circuit}
 
 -- Between these two places the client sent a CLEAR_CHANNEL of this SID.
 abbrev pub IsClearedWithin : List Sent → (sid a b : ℕ) → Type 0
 IsClearedWithin up sid a b = (l : ℕ) × (r : Sent) × (a < l) × (l < b) × At up l r × Clears r.message sid
 
--- Before place b the channel of this number is live under this SID: its CREATE_CHAN at place k was answered so at place j, the client read that, and
--- sent no CLEAR_CHANNEL of the SID since.
+-- Before place b the channel of this number is live under this SID: its CREATE_CHAN at place k was answered so at place j, the
+-- client read that, and sent no CLEAR_CHANNEL of the SID since.
 pub record IsLiveBefore (c : Circuit) (channel j k sid b : ℕ) : Type 0 where
   pub t : Told
   pub s : Sent
@@ -35,7 +35,8 @@ pub record Sids (c : Circuit) : Type 0 where
   pub apart : (i j sid : ℕ) (t u : Told) → i < j → At c.down i t → At c.down j u → Creates t.message sid → Creates u.message sid
       → (t.place < u.place) × IsClearedWithin c.up sid t.place u.place
 
--- A channel may be created under this SID by a message about place p: each one that was created under it before was cleared before that.
+-- A channel may be created under this SID by a message about place p: each one that was created under it before was cleared
+-- before that.
 abbrev pub MayCreate : Circuit → (sid p : ℕ) → Type 0
 MayCreate c sid p =
     (i : ℕ) (t : Told) → At c.down i t → Creates t.message sid → (t.place < p) × IsClearedWithin c.up sid t.place p

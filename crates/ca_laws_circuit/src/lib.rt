@@ -7,5 +7,5 @@ pub use laws::{
     a_clear_keeps_what_is_held, a_request_keeps_what_is_held, a_servers_events_keep_meanings,
     an_id_is_free_again, due_replies_speak_of_their_message, ids_mean_their_own,
     requests_hold_their_ids, sids_mean_their_channel, tables_hold_what_was_put_there,
-    what_is_told_speaks_of_its_own,
+    what_is_read_keeps_what_is_held, what_is_told_speaks_of_its_own,
 };

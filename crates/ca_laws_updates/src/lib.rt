@@ -1,4 +1,5 @@
-//! Laws of updates: what the numbers of a subscription's updates say of what its subscriber saw, and what a queue does to them.
+//! Laws of updates: what the numbers of a subscription's updates say of what its subscriber saw,
+//! and what a queue does to them.
 #![tactic(auto)]
 
 mod laws;

@@ -1,4 +1,4 @@
-use Rattle.std.proofs.Common.{◌≡◌, ℕ, refl}
+use Rattle.std.proofs.Common.{◌≡◌, ℕ}
 use Rattle.ca_text.proofs.Places.{At-within}
 use Rattle.ca_model.specs.History.{Cause, Removal, Reply, Update}
 use Rattle.ca_laws_circuit.specs.Steps.{removal_of, replied, update_of}
