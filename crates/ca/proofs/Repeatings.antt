@@ -40,5 +40,5 @@ module _ {D : Type 0} (went refuses : D → Address → List ℕ → D → Type 
     module _ (fails : D → D → Type 0) where
       pub breaks-off : (e : Refusal) (n i : ℕ) (s0 mid s : D) (members after : List Address) → i < n → Rounds went refuses came i s0 mid members → Takes went refuses came fails mid members (Err e) s after → Repeats went refuses came fails n s0 (Err e) s
       breaks-off Device n i s0 mid s members after below before takes = (i, mid, members, below, before, takes)
-      breaks-off OutOfMemory n i s0 mid s members after below before takes = inr (i, mid, members, takes.0, takes.1, below, before, takes.2)
+      breaks-off OutOfMemory n i s0 mid s members after below before takes = inr (i, mid, members, after, below, before, takes)
       breaks-off _ n i s0 mid s members after below before takes = absurd takes

@@ -1,6 +1,7 @@
 -- The words of `repeater [--port P] [--datagrams N]`.
 use Rattle.std.specs.Prelude.{ℕ, ◌≡◌, List, [], Option, None, Some, true, false, codes, ⊤}
 use Rattle.clap.specs.Words.{App, Rule, Text, fault_of, first_of, matches_of, new_app, new_rule, with_rule}
+use Rattle.ca_text.specs.Limits.{repeater_port}
 use Rattle.ca.specs.declared.repeater.line.RepeaterLine.{RepeaterLine}
 use Rattle.ca.specs.Decimal.{IsDecimal}
 use Rattle.ca.specs.Words.{has_escape}
@@ -22,7 +23,7 @@ abbrev pub given : List ℕ → List Text → Option Text
 given name words = first_of name (matches_of repeater_app words)
 
 abbrev pub MeansPort : Option Text → ℕ → Type 0
-MeansPort None port = port ≡ 5065
+MeansPort None port = port ≡ repeater_port
 MeansPort (Some text) port = IsDecimal 16 text port
 
 abbrev pub MeansCount : Option Text → Option ℕ → Type 0
@@ -31,7 +32,7 @@ MeansCount None (Some n) = ⊥
 MeansCount (Some text) None = ⊥
 MeansCount (Some text) (Some n) = IsDecimal 64 text n
 
--- Options of these values mean this line: a port is 5065 where none is given, and each number is decimal.
+-- Options of these values mean this line: the port is the repeater's own if none is given, and each number is decimal.
 abbrev pub Means : Option Text → Option Text → RepeaterLine → Type 0
 Means port datagrams line = MeansPort port line.port × MeansCount datagrams line.datagrams
 

@@ -41,11 +41,18 @@ module _ {D : Type 0} (went refuses : D → Address → List ℕ → D → Type 
     Rounds (suc n) s0 s members = (mid : D) × (known : List Address) × Rounds n s0 mid known × Round mid known s members
 
     module _ (fails : D → D → Type 0) where
+      -- A datagram came, and memory lacked for what is due for it.
+      pub record Lacks (s : D) (members : List Address) (t : D) (after : List Address) : Type 0 where
+        pub from : Address
+        pub bytes : List ℕ
+        pub came_in : came s from bytes t
+        pub receives : Receives members from bytes (Err OutOfMemory) after
+
       -- One datagram was waited for, with this outcome.
       abbrev pub Takes : D → List Address → Result (Unit {0}) Refusal → D → List Address → Type 0
       Takes s members (Ok _) t after = Round s members t after
       Takes s members (Err Device) t after = fails s t
-      Takes s members (Err OutOfMemory) t after = (from : Address) × (bytes : List ℕ) × came s from bytes t
+      Takes s members (Err OutOfMemory) t after = Lacks s members t after
       Takes s members (Err _) t after = ⊥
 
       -- A run for n datagrams, with this outcome: it ends well only after n rounds; refused as `Device` where a receive
@@ -54,7 +61,7 @@ module _ {D : Type 0} (went refuses : D → Address → List ℕ → D → Type 
       Repeats n s0 (Ok _) s = (members : List Address) × Rounds n s0 s members
       Repeats n s0 (Err Device) s = (i : ℕ) × (mid : D) × (members : List Address) × (i < n) × Rounds i s0 mid members × fails mid s
       Repeats n s0 (Err OutOfMemory) s =
-          (s ≡ s0) ⊎ ((i : ℕ) × (mid : D) × (members : List Address) × (from : Address) × (bytes : List ℕ) × (i < n) × Rounds i s0 mid members × came mid from bytes s)
+          (s ≡ s0) ⊎ ((i : ℕ) × (mid : D) × (members after : List Address) × (i < n) × Rounds i s0 mid members × Lacks mid members s after)
       Repeats n s0 (Err _) s = ⊥
 
       -- so many datagrams at most; without a number so many that they never come

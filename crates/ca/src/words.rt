@@ -4,7 +4,9 @@ ghost use Rattle.std.specs.Str.{bytes_eq};
 
 /// The words after this one, where it is the first.
 pub(crate) fn after<'a>(words: &'a [String], wanted: &str) -> Option<&'a [String]>
-    ensures { MatchOption result ((rest : List (List ℕ)) → map string_bytes words.entry.now ≡ wanted.now ∷ rest → ⊥) (λ rest. map string_bytes words.entry.now ≡ wanted.now ∷ map string_bytes rest.now) }
+    ensures { MatchOption result ((rest : List (List ℕ))
+        → map string_bytes words.entry.now ≡ wanted.now ∷ rest → ⊥)
+        (λ rest. map string_bytes words.entry.now ≡ wanted.now ∷ map string_bytes rest.now) }
 {
     match words.split_first() {
         None => None,

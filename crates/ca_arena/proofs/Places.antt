@@ -1,15 +1,15 @@
 -- What stands at an index of an arena, before and after each change.
-use Rattle.std.proofs.Common.{◌≡◌, ◌≢◌, ℕ, ◌+◌, ◌<◌, ◌≤◌, Bool, true, false, List, [], ◌∷◌, ◌++◌, length, set, Option, Some, None, is_some, IsSome, cond, eqb, refl, ap, inl, inr, arith, reverse, length-append, length-set, lit≤}
+use Rattle.std.proofs.Common.{◌≡◌, ◌≢◌, ℕ, ◌+◌, ◌<◌, ◌≤◌, Bool, true, false, List, [], ◌∷◌, ◌++◌, length, set, Option, Some, None, is_some, IsSome, cond, eqb, refl, sym, ap, ◌∙◌, inl, inr, arith, reverse, length-append, length-set, lit≤}
 use Rattle.std.specs.List.{AllByRecursion}
-use Rattle.std.proofs.lemmas.Bool.{eqb-true, eqb-false, cases_eq}
-use Rattle.std.proofs.lemmas.List.{get_or-set_same, get_or-set_other, get_or_past, get_or_append_left, reverse-append, length_push}
+use Rattle.std.proofs.lemmas.Bool.{eqb-true, eqb-false, cases_eq, cases_lt}
+use Rattle.std.proofs.lemmas.List.{get_or-set_same, get_or-set_other, get_or_past, get_or_push, get_or_append_left, reverse-append, length_push}
 use Rattle.std.proofs.lemmas.Grind.{elements}
 use Rattle.std.proofs.lemmas.List.Sums.{sum_by-set, sum_by_push}
 use Rattle.ca_text.specs.Limits.{arena_slots}
 use Rattle.ca_arena.specs.declared.handle.Handle.{Handle}
 use Rattle.ca_text.specs.Limits.{last_generation}
 use Rattle.ca_arena.specs.Arena.{Place, Contents, place_at, value_for, find, IsLive, blank, live_count, inserted_from, removed, written}
-use Rattle.ca_arena.specs.Sound.{IsFree, AreFree, IsSound}
+use Rattle.ca_arena.specs.Sound.{IsFree, AreFree, IsListed, IsSound}
 
 -- the last of a list comes first
 pub reverse_push : {X : Type 0} (xs : List X) (x : X) → reverse (xs ++ x ∷ []) ≡ x ∷ reverse xs
@@ -23,6 +23,11 @@ none_from_test (Some x) test = absurd (cc)
 -- one value, or none
 abbrev pub one_if : {T : Type 0} → Place T → ℕ
 one_if place = cond (is_some place.value) 1 0
+
+-- of what is listed, all but the first is listed behind it
+pub listed_behind : (k index : ℕ) (rest : List ℕ) → k ≢ index → IsListed k (index ∷ rest) → IsListed k rest
+listed_behind k index rest other (inl same) = absurd (other (sym same))
+listed_behind k index rest other (inr listed) = listed
 
 module _ {T : Type 0} where
   -- a place with no value has none for any generation
@@ -103,6 +108,42 @@ module _ {T : Type 0} where
   pub live_count-set : (given : List (Place T)) (index : ℕ) (place : Place T) → index < length given → live_count (set given index place) + one_if (place_at given index) ≡ live_count given + one_if place
   live_count-set given index place within = sum_by-set one_if given index place blank within
 
+  -- a free index beside the one that was changed was free before
+  pub IsFree-unset : (given : List (Place T)) (index k : ℕ) (place : Place T) → k ≢ index → IsFree (set given index place) k → IsFree given k
+  IsFree-unset given index k place other free =
+      let same : place_at (set given index place) k ≡ place_at given k = get_or-set_other given index k place blank other in
+      record {
+        within = omega (arith, free.within, length-set given index place);
+        vacant = rw same at free.vacant;
+        lasting = rw same at free.lasting;
+      }
+
+  -- an index that has a value now is not free, and the others stay listed
+  pub listed-set : (given : List (Place T)) (index : ℕ) (place : Place T) (value : T) (freed : List ℕ) → index < length given → place.value ≡ Some value → ((k : ℕ) → IsFree given k → k ≢ index → IsListed k freed) → (k : ℕ) → IsFree (set given index place) k → IsListed k freed
+  listed-set given index place value freed within filled listed k free =
+      elim (cases_eq k index) [
+        | inl same ↦
+            let there : (place_at (set given index place) k).value ≡ place.value =
+            ap (λ (i : ℕ). (place_at (set given index place) i).value) same ∙ ap (λ (p : Place T). p.value) (get_or-set_same given index place blank within) in
+            let vacant = free.vacant in
+            absurd (cc)
+        | inr other ↦ listed k (IsFree-unset given index k place other free) other
+      ]
+
+  -- a value behind the others leaves those that are free as they are
+  pub listed-push : (given : List (Place T)) (place : Place T) (value : T) (freed : List ℕ) → place.value ≡ Some value → ((k : ℕ) → IsFree given k → IsListed k freed) → (k : ℕ) → IsFree (given ++ place ∷ []) k → IsListed k freed
+  listed-push given place value freed filled listed k free =
+      elim (cases_lt k (length given)) [
+        | inl within ↦
+            let same : place_at (given ++ place ∷ []) k ≡ place_at given k = get_or_append_left given (place ∷ []) blank k within in
+            listed k (record { within = within; vacant = rw same at free.vacant; lasting = rw same at free.lasting })
+        | inr beyond ↦
+            let last : length given ≡ k = omega (arith, free.within, length_push given place) in
+            let there : (place_at (given ++ place ∷ []) k).value ≡ place.value = ap (λ (p : Place T). p.value) (get_or_push given place blank k last) in
+            let vacant = free.vacant in
+            absurd (cc)
+      ]
+
   -- a value at an index that was free
   pub IsSound-filled : (given : List (Place T)) (index : ℕ) (rest : List ℕ) (value : T) → IsSound (record { given = given; freed = index ∷ rest }) → IsSound (inserted_from given (index ∷ rest) value)
   IsSound-filled given index rest value sound =
@@ -116,6 +157,7 @@ module _ {T : Type 0} where
         limit = omega (arith, sound.limit);
         fits = fits-set given index place within (omega (arith, free.0.lasting)) sound.fits;
         free = AreFree-set given index place rest free.1 free.2;
+        listed = listed-set given index place value rest within refl (λ k at_k other. listed_behind k index rest other (sound.listed k at_k));
         counted = omega (arith, sound.counted);
       }
 
@@ -129,6 +171,7 @@ module _ {T : Type 0} where
         limit = omega arith;
         fits = fits-push given place (lit≤ tt) sound.fits;
         free = tt;
+        listed = listed-push given place value [] refl sound.listed;
         counted = omega (arith, sound.counted);
       }
 
@@ -146,12 +189,13 @@ module _ {T : Type 0} where
         limit = omega (arith, sound.limit);
         fits = fits-set a.given handle.index place within (omega (arith, there.0, sound.fits handle.index)) sound.fits;
         free = AreFree-set a.given handle.index place a.freed (apart_from_value a.given handle.index found.0 a.freed there.1 sound.free) sound.free;
+        listed = listed-set a.given handle.index place value a.freed within refl (λ k free other. sound.listed k free);
         counted = omega (arith, sound.counted);
       }
 
   -- no value at an index that had one: the index is free, or retired
-  pub IsSound-vacated : (given : List (Place T)) (freed : List ℕ) (index generation : ℕ) (value : T) (last : Bool) → generation ≤ last_generation → (last ≡ false → generation < last_generation) → (place_at given index).value ≡ Some value → IsSound (record { given = given; freed = freed }) → IsSound (record { given = set given index (record { generation = generation; value = None }); freed = cond last freed (index ∷ freed) })
-  IsSound-vacated given freed index generation value last below lasting found sound =
+  pub IsSound-vacated : (given : List (Place T)) (freed : List ℕ) (index generation : ℕ) (value : T) (last : Bool) → generation ≤ last_generation → (last ≡ false → generation < last_generation) → (last ≡ true → last_generation ≤ generation) → (place_at given index).value ≡ Some value → IsSound (record { given = given; freed = freed }) → IsSound (record { given = set given index (record { generation = generation; value = None }); freed = cond last freed (index ∷ freed) })
+  IsSound-vacated given freed index generation value last below lasting ending found sound =
       let place : Place T = record { generation = generation; value = None } in
       let within = within_from_value given index value found in
       let before : one_if (place_at given index) ≡ 1 = ap (λ o. cond (is_some o) 1 0) found in
@@ -165,10 +209,23 @@ module _ {T : Type 0} where
       let fits = fits-set given index place within below sound.fits in
       let limit = sound.limit in
       let fewer = sound.counted in
-      elim last as (λ b. (b ≡ false → IsFree (set given index place) index) → IsSound (record { given = set given index place; freed = cond b freed (index ∷ freed) })) [
-        | true ↦ λ _. record { limit = omega arith; fits = fits; free = kept; counted = omega arith }
-        | false ↦ λ free. record { limit = omega arith; fits = fits; free = (free refl, apart, kept); counted = omega arith }
-      ] here
+      let others : (k : ℕ) → IsFree (set given index place) k → k ≢ index → IsListed k freed =
+      λ k free other. sound.listed k (IsFree-unset given index k place other free) in
+      let retired : last_generation ≤ generation → (k : ℕ) → IsFree (set given index place) k → IsListed k freed =
+      λ ended k free.
+      elim (cases_eq k index) [
+        | inl same ↦
+            let there : (place_at (set given index place) k).generation ≡ generation =
+            ap (λ (i : ℕ). (place_at (set given index place) i).generation) same ∙ ap (λ (p : Place T). p.generation) now in
+            absurd (omega (arith, free.lasting, there, ended))
+        | inr other ↦ others k free other
+      ] in
+      let behind : (k : ℕ) → IsFree (set given index place) k → IsListed k (index ∷ freed) =
+      λ k free. elim (cases_eq k index) [ inl same ↦ inl (sym same) | inr other ↦ inr (others k free other) ] in
+      elim last as (λ b. (b ≡ false → IsFree (set given index place) index) → (b ≡ true → last_generation ≤ generation) → IsSound (record { given = set given index place; freed = cond b freed (index ∷ freed) })) [
+        | true ↦ λ _ ended. record { limit = omega arith; fits = fits; free = kept; listed = retired (ended refl); counted = omega arith }
+        | false ↦ λ free _. record { limit = omega arith; fits = fits; free = (free refl, apart, kept); listed = behind; counted = omega arith }
+      ] here ending
 
   -- no value under a handle that was live
   pub IsSound-removed : (a : Contents T) (handle : Handle) → IsLive a handle → IsSound a → IsSound (removed a handle)
@@ -176,7 +233,10 @@ module _ {T : Type 0} where
       let found = live_value a handle live in
       let there = value_for-some handle.generation (place_at a.given handle.index) found.0 found.1 in
       let below : handle.generation ≤ last_generation = omega (arith, there.0, sound.fits handle.index) in
-      IsSound-vacated a.given a.freed handle.index handle.generation found.0 (eqb handle.generation last_generation) below (λ differs. not_last handle.generation below differs) there.1 sound
+      IsSound-vacated a.given a.freed handle.index handle.generation found.0 (eqb handle.generation last_generation) below (λ differs. not_last handle.generation below differs) (λ same. is_last handle.generation same) there.1 sound
     where
       not_last : (generation : ℕ) → generation ≤ last_generation → eqb generation last_generation ≡ false → generation < last_generation
       not_last generation below differs = let other = eqb-false generation last_generation differs in omega arith
+
+      is_last : (generation : ℕ) → eqb generation last_generation ≡ true → last_generation ≤ generation
+      is_last generation same = let equal = eqb-true generation last_generation same in omega arith

@@ -5,7 +5,7 @@ use Rattle.std.proofs.lemmas.Bool.{cases_eq, cases_lt}
 use Rattle.std.proofs.lemmas.List.{get_or-set_same, get_or-set_other, get_or_push, get_or_append_left, get_or_past}
 use Rattle.ca_arena.specs.declared.handle.Handle.{Handle}
 use Rattle.ca_arena.specs.Arena.{Place, Contents, place_at, IsLive, blank, empty, last_at, next_handle, free_slots, inserted, inserted_from, removed, written}
-use Rattle.ca_arena.specs.Sound.{IsSound}
+use Rattle.ca_arena.specs.Sound.{IsFree, IsSound}
 use Rattle.ca_arena.specs.Traces.{Call, Leads, given_by, AreApart, Inserted, Removed, Wrote}
 use Rattle.ca_arena.proofs.Places.{value_for-some, live_value, within_from_value, IsSound-filled, IsSound-appended, IsSound-written, IsSound-removed}
 
@@ -129,4 +129,7 @@ module _ {T : Type 0} where
       sound_after run.0 b calls (subst IsSound (sym run.1.1) (IsSound-written a handle value run.1.0 sound)) run.2
 
   pub IsSound-empty : IsSound (empty {T = T})
-  IsSound-empty = record { limit = lit≤ tt; fits = λ _. lit≤ tt; free = tt; counted = lit≤ tt }
+  IsSound-empty = record { limit = lit≤ tt; fits = λ _. lit≤ tt; free = tt; listed = λ index free. absurd (nothing_within index free); counted = lit≤ tt }
+    where
+      nothing_within : (index : ℕ) → IsFree {T = T} [] index → ⊥
+      nothing_within index free = let within = free.within in omega arith

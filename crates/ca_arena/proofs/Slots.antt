@@ -1,14 +1,15 @@
 -- What the fields of an arena stand for, before and after each change.
-use Rattle.std.proofs.Common.{◌≡◌, ℕ, ◌+◌, ◌<◌, List, [], ◌∷◌, ◌++◌, length, map, get_or, set, Some, None, is_some, cond, eqb, refl, sym, ap, ◌∙◌, subst, arith, reverse, length-set}
-use Rattle.std.proofs.lemmas.List.{get_or-map, length-map, map-set, length_push}
+use Rattle.std.proofs.Common.{◌≡◌, ◌≢◌, ℕ, ◌+◌, ◌<◌, ◌≤◌, List, [], ◌∷◌, ◌++◌, length, map, get_or, set, Some, None, is_some, cond, eqb, refl, sym, ap, ◌∙◌, subst, arith, reverse, length-set}
+use Rattle.std.proofs.lemmas.List.{get_or-map, length-map, map-append, map-set, length_push}
+use Rattle.std.proofs.lemmas.List.Sums.{sum_by_push}
 use Rattle.ca_arena.specs.declared.arena.Slot.{Slot}
 use Rattle.ca_arena.specs.declared.handle.Handle.{Handle}
-use Rattle.ca_text.specs.Limits.{last_generation}
+use Rattle.ca_text.specs.Limits.{arena_slots, last_generation}
 use Rattle.ca_arena.specs.Arena.{Place, Contents, place_at, find, IsLive, blank, last_at, free_slots, next_handle, inserted, inserted_from, removed, written}
 use Rattle.ca_arena.specs.Lending.{filled}
 use Rattle.ca_arena.specs.Sound.{IsSound}
 use Rattle.ca_arena.specs.Layout.{place_of, contents_of, IsLaidOut}
-use Rattle.ca_arena.proofs.Places.{one_if, reverse_push, value_for-some, within_from_value, live_count-set, live_value, IsSound-filled, IsSound-removed, IsSound-written}
+use Rattle.ca_arena.proofs.Places.{one_if, reverse_push, value_for-some, within_from_value, live_count-set, live_value, IsSound-appended, IsSound-filled, IsSound-removed, IsSound-written}
 
 module _ {T : Type 0} where
   -- a slot that was read stands for the place at its index
@@ -49,6 +50,26 @@ module _ {T : Type 0} where
         contents = after ∙ ap (λ indices. inserted_from given indices value) (sym reversed);
         handle = rw (reversed, made, last_at, there) refl;
         free = rw reversed (omega arith);
+      }
+
+  -- what one more slot leaves, where no index is free again
+  pub appends : (slots : List (Slot T)) (freed : List ℕ) (retired was room : ℕ) (value : T) → IsLaidOut slots freed retired was → reverse freed ≡ [] → length slots ≢ arena_slots → length slots + 1 ≤ room → IsLaidOut (slots ++ record { generation = 1; value = Some value } ∷ []) freed retired room
+  appends slots freed retired was room value laid_out none below roomy =
+      let given : List (Place T) = map place_of slots in
+      let place : Place T = record { generation = 1; value = Some value } in
+      let slot : Slot T = record { generation = 1; value = Some value } in
+      let same_length : length given ≡ length slots = length-map slots place_of in
+      let sound : IsSound (record { given = given; freed = [] }) =
+      subst (λ (indices : List ℕ). IsSound (record { given = given; freed = indices })) none laid_out.sound in
+      let after : IsSound (record { given = given ++ place ∷ []; freed = [] }) = IsSound-appended given value (omega (arith, laid_out.sound.limit)) sound in
+      let stands : map place_of (slots ++ slot ∷ []) ≡ given ++ place ∷ [] = map-append place_of slots (slot ∷ []) in
+      let counted = sum_by_push one_if given place in
+      let before = laid_out.counted in
+      let longer = length_push slots slot in
+      record {
+        sound = rw (stands, none) after;
+        counted = rw stands (omega arith);
+        roomy = omega arith;
       }
 
   -- what is known where the slot of a live handle was read

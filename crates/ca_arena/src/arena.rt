@@ -43,7 +43,8 @@ impl<T> Model for Arena<T> {
 
     ghost view = { λ a. contents_of a.slots.items a.freed.items };
 
-    ghost invariant = { λ a. IsLaidOut a.slots.items a.freed.items a.retired (vec_capacity a.freed) };
+    ghost invariant = { λ a.
+        IsLaidOut a.slots.items a.freed.items a.retired (vec_capacity a.freed) };
 }
 
 impl<T> Arena<T> {

@@ -5,10 +5,13 @@ ghost use Rattle.ca_arena.specs.Traces.{Call, Leads, given_by, AreApart};
 
 /// Whatever calls an arena sees from its beginning on, no handle is given twice.
 pub fn no_handle_twice<T>()
-    ensures { (calls : List (Call T)) (after : Contents T) → Leads empty calls after → AreApart (given_by calls) }
+    ensures { (calls : List (Call T)) (after : Contents T) → Leads empty calls after
+        → AreApart (given_by calls) }
 {}
 
 /// A handle whose value was taken out finds nothing ever after.
 pub fn stale_stays_stale<T>()
-    ensures { (before later : List (Call T)) (now left after : Contents T) (handle : Handle) (value : T) → Leads empty before now → Removes now handle (Ok value) left → Leads left later after → find after handle ≡ None }
+    ensures { (before later : List (Call T)) (now left after : Contents T) (handle : Handle)
+        (value : T) → Leads empty before now → Removes now handle (Ok value) left
+        → Leads left later after → find after handle ≡ None }
 {}

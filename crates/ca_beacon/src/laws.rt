@@ -6,6 +6,9 @@ ghost use Rattle.ca_beacon.specs.Clock.{fresh, run};
 /// has the number n, modulo 2^32, and is due `20 * 2^(n-1)` milliseconds after it, at most 15,000.
 pub fn waits_double()
     ensures doubled { (n : ℕ) → wait 20 15000 n ≡ min (20 * 2 ^ n) 15000 }
-    ensures number { (start : ℕ) (moments : List ℕ) → (run (fresh start) moments).number ≡ length moments % 2 ^ 32 }
-    ensures due { (start now : ℕ) (moments : List ℕ) → (run (fresh start) (moments ++ now ∷ [])).due ≡ min (now + wait 20 15000 (length moments)) latest }
+    ensures number { (start : ℕ) (moments : List ℕ)
+        → (run (fresh start) moments).number ≡ length moments % 2 ^ 32 }
+    ensures due { (start now : ℕ) (moments : List ℕ)
+        → (run (fresh start) (moments ++ now ∷ [])).due
+        ≡ min (now + wait 20 15000 (length moments)) latest }
 {}

@@ -3,7 +3,9 @@
 
 use ca_dbr::{Meta, Value, read_value, write_value};
 use ca_ids::IdTable;
-use ca_text::Refusal;
+use ca_link::Link;
+use ca_text::{Command, Refusal};
+use ca_wire::{Ioid, Message, Sid, Wanted, put_request};
 use std::alloc::Global;
 use std::env;
 use std::process::ExitCode;
@@ -54,6 +56,7 @@ fn measured(alloc: Global, what: &str, size: u32, rounds: u32) -> Result<(), Ref
         b"read-doubles" => reads(alloc, DOUBLE, &doubles(alloc, size)?, size, rounds),
         b"read-strings" => reads(alloc, STRING, &strings(alloc, size)?, size, rounds),
         b"copy" => copies(alloc, size as usize, rounds),
+        b"parts" => parts(alloc, size as usize, rounds),
         _ => Err(Refusal::BadText),
     }
 }
@@ -123,4 +126,42 @@ fn copies(alloc: Global, size: usize, rounds: u32) -> Result<(), Refusal> {
         out.extend_from_slice(&bytes)?;
     }
     Ok(())
+}
+
+/// Rounds of one message of 65,536 bytes, which goes from link to link in parts of so many bytes.
+fn parts(alloc: Global, part: usize, rounds: u32) -> Result<(), Refusal> {
+    let message = large_message(alloc)?;
+    let mut from = Link::new(alloc, 0);
+    let mut to = Link::new(alloc, 0);
+    for _ in 0..rounds {
+        from.queue_own(&message)?;
+        give_parts(&mut to, from.out_bytes(), part)?;
+        let all = from.out_bytes().len();
+        from.sent(all);
+    }
+    Ok(())
+}
+
+/// Gives the bytes to the link in parts of so many, and takes each message as soon as it is complete.
+fn give_parts(to: &mut Link, bytes: &[u8], part: usize) -> Result<(), Refusal> {
+    let mut rest = bytes;
+    while !rest.is_empty() {
+        let (now, later) = rest.split_at(part.clamp(1, rest.len()));
+        to.give(0, now)?;
+        to.next_message()?;
+        rest = later;
+    }
+    Ok(())
+}
+
+/// A WRITE of 65,512 bytes of CHAR: with its header 65,536.
+fn large_message(alloc: Global) -> Result<Message, Refusal> {
+    let wanted = Wanted {
+        sid: Sid::new(1),
+        id: Ioid::new(0),
+        data_type: 4,
+        count: 65_512,
+    };
+    let bytes = vec![in alloc; 7; 65_512]?;
+    Ok(put_request(Command::Write, wanted, bytes)?)
 }

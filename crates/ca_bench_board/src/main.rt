@@ -144,7 +144,8 @@ fn board_callers<R: Threads + Wait + Sync>(
             requires { core.board ≡ board.now }
         { feed(rt, board, core, rounds) },
         move ||
-            requires { (callers.0.board ≡ board.now) × (callers.1.board ≡ board.now) × (callers.2.board ≡ board.now) × (callers.3.board ≡ board.now) }
+            requires { (callers.0.board ≡ board.now) × (callers.1.board ≡ board.now)
+                × (callers.2.board ≡ board.now) × (callers.3.board ≡ board.now) }
         { four(rt, board, callers, rounds) },
     );
     Ok(())
@@ -184,7 +185,8 @@ fn recycle_all(board: &Board, core: &mut CoreSeat)
 type Callers = (CallerSeat, CallerSeat, CallerSeat, CallerSeat);
 
 fn four<R: Threads + Wait + Sync>(rt: &R, board: &Board, callers: Callers, rounds: u32)
-    requires { (callers.0.board ≡ board.now) × (callers.1.board ≡ board.now) × (callers.2.board ≡ board.now) × (callers.3.board ≡ board.now) }
+    requires { (callers.0.board ≡ board.now) × (callers.1.board ≡ board.now)
+        × (callers.2.board ≡ board.now) × (callers.3.board ≡ board.now) }
 {
     let (one, other, third, last) = callers;
     thread::join(

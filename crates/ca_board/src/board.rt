@@ -132,8 +132,11 @@ impl Board {
     // Gives a ticket up if it still waits, and says whether it did.
     fn end_wait(&self, caller: &mut CallerSeat, ticket: Ticket) -> bool
         requires { caller.old.board ≡ self.now }
-        ensures ended { IsTrue result → (caller.new ≡ with_give_up caller.old ticket) × IsOwnOpen caller.old ticket }
-        ensures found { IsFalse result → IsOutside caller.old ticket caller.new ⊎ ((n : ℕ) × (n ≢ 8 * ticket.generation + 1) × Found caller.old ticket n caller.new) }
+        ensures ended { IsTrue result
+            → (caller.new ≡ with_give_up caller.old ticket) × IsOwnOpen caller.old ticket }
+        ensures found { IsFalse result
+            → IsOutside caller.old ticket caller.new
+            ⊎ ((n : ℕ) × (n ≢ 8 * ticket.generation + 1) × Found caller.old ticket n caller.new) }
     {
         if ticket.cell >= BOARD_CELLS {
             return false;

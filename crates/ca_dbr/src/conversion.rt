@@ -17,7 +17,8 @@ use std::alloc::Global;
 pub(crate) fn check_all<S: Copy + Drop, T: Drop, C: Conversion<S, T>>(
     items: &[S],
 ) -> Result<(), Refusal>
-    ensures { MatchResult result (λ _. IsOk (gathered C.gives items.now)) (λ e. gathered C.gives items.now ≡ Err e) }
+    ensures { MatchResult result (λ _. IsOk (gathered C.gives items.now))
+        (λ e. gathered C.gives items.now ≡ Err e) }
 {
     for item in items {
         match C::convert(*item) {
@@ -35,7 +36,8 @@ fn convert_into<S: Copy + Drop, T: Drop, C: Conversion<S, T>>(
 ) -> Result<(), Refusal>
     requires room { length items.now ≤ vec_capacity out.old }
     requires empty { out.old.items ≡ [] }
-    ensures { MatchResult result (λ _. gathered C.gives items.now ≡ Ok out.new.items) (λ e. gathered C.gives items.now ≡ Err e) }
+    ensures { MatchResult result (λ _. gathered C.gives items.now ≡ Ok out.new.items)
+        (λ e. gathered C.gives items.now ≡ Err e) }
 {
     for item in items {
         match C::convert(*item) {
@@ -148,7 +150,9 @@ pub fn has_conversion(from: BaseType, to: BaseType) -> bool
 /// not convert, then by 8 or 7 by the first element that is no number or outside the type, then by 1, only if there
 /// are elements.
 pub fn convert(alloc: Global, value: &Value, number: u16) -> Result<Value, Refusal>
-    ensures ok { IfOk result (λ v. (b : BaseType) × (base_number b ≡ number) × (converted (elements value.now) b ≡ Ok (elements v))) }
+    ensures ok { IfOk result (λ v.
+        (b : BaseType) × (base_number b ≡ number)
+        × (converted (elements value.now) b ≡ Ok (elements v))) }
     ensures err { IfErr result (ConvertRefused (elements value.now) number) }
     ensures memory { IfErr result (λ e. e ≡ OutOfMemory → count_of (elements value.now) ≢ 0) }
 {

@@ -235,7 +235,8 @@ pub(crate) fn read_all<E: Element>(
     bytes: &[u8],
 ) -> Result<Vec<E>, AllocError>
     requires { count * E.SIZE ≤ length bytes.now }
-    ensures again { IfOk result (λ v. flat_map E.spelled v.items ≡ take (count * E.SIZE) bytes.now) }
+    ensures again { IfOk result (λ v.
+        flat_map E.spelled v.items ≡ take (count * E.SIZE) bytes.now) }
     ensures count { IfOk result (λ v. length v.items ≡ count) }
     ensures fits { IfOk result (λ v. All E.fits v.items) }
     ensures some { OnErr result (count ≢ 0) }

@@ -71,7 +71,8 @@ pub(crate) fn put_zeros(count: usize, out: &mut Vec<u8>)
 
 /// Puts the elements at the end, where room was made for them.
 fn put_elements(value: &Value, out: &mut Vec<u8>)
-    requires { vec_len out.old + count_of (elements value.now) * element_size (base_of (elements value.now)) ≤ vec_capacity out.old }
+    requires { vec_len out.old + count_of (elements value.now)
+        * element_size (base_of (elements value.now)) ≤ vec_capacity out.old }
     ensures after { out.new.items ≡ out.old.items ++ bytes_of (elements value.now) }
     ensures fits { IsValue (elements value.now) }
 {
@@ -94,8 +95,12 @@ pub fn write_value(
     meta: &Meta,
     out: &mut Vec<u8>,
 ) -> Result<(), Refusal>
-    ensures written { Writes number (elements value.now) meta.now out.old.items result out.new.items }
-    ensures room { IfErr result (λ e. e ≡ OutOfMemory → (t : DataType) × Types number (elements value.now) t × (vec_capacity out.old < vec_len out.old + size_of_image t (count_of (elements value.now)))) }
+    ensures written { Writes number (elements value.now) meta.now out.old.items result
+        out.new.items }
+    ensures room { IfErr result (λ e. e ≡ OutOfMemory
+        → (t : DataType) × Types number (elements value.now) t
+        × (vec_capacity out.old < vec_len out.old
+        + size_of_image t (count_of (elements value.now)))) }
     ensures value { OnOk result (IsValue (elements value.now)) }
     ensures meta { OnOk result (IsMeta meta.now) }
 {
@@ -116,9 +121,14 @@ pub fn write_value(
 /// Writes as many zero bytes as an image of so many elements takes. Refused by 4 where the type does not exist,
 /// then by 1, only if there is no room for it; the bytes are then as before.
 pub fn write_zero_image(number: u16, count: u32, out: &mut Vec<u8>) -> Result<(), Refusal>
-    ensures ok { OnOk result ((t : DataType) × (type_number t ≡ number) × (out.new.items ≡ out.old.items ++ replicate (size_of_image t count) 0)) }
-    ensures err { IfErr result (λ e. (out.new.items ≡ out.old.items) × (((20 < number) × (e ≡ BadType)) ⊎ ((number < 21) × (e ≡ OutOfMemory)))) }
-    ensures room { IfErr result (λ e. e ≡ OutOfMemory → (t : DataType) × (type_number t ≡ number) × (vec_capacity out.old < vec_len out.old + size_of_image t count)) }
+    ensures ok { OnOk result ((t : DataType) × (type_number t ≡ number)
+        × (out.new.items ≡ out.old.items ++ replicate (size_of_image t count) 0)) }
+    ensures err { IfErr result (λ e.
+        (out.new.items ≡ out.old.items)
+        × (((20 < number) × (e ≡ BadType)) ⊎ ((number < 21) × (e ≡ OutOfMemory)))) }
+    ensures room { IfErr result (λ e. e ≡ OutOfMemory
+        → (t : DataType) × (type_number t ≡ number)
+        × (vec_capacity out.old < vec_len out.old + size_of_image t count)) }
 {
     let size = image_size(number, count)?;
     out.reserve(size)?;

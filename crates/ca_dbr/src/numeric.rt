@@ -31,7 +31,8 @@ pub(crate) trait Target: Copy + Drop {
 
     /// The element of the number that this one is nearest to, if it has one.
     fn of_number(near: i64) -> Option<Self>
-        ensures { (z : ℤ) → clipped z ≡ near → MatchOption result (within z ≡ false) (λ x. (within z ≡ true) × (x ≡ made z)) };
+        ensures { (z : ℤ) → clipped z ≡ near
+            → MatchOption result (within z ≡ false) (λ x. (within z ≡ true) × (x ≡ made z)) };
 }
 
 impl Source for [u8; 40] {

@@ -94,7 +94,8 @@ pub fn read_value(
     count: u32,
     bytes: &[u8],
 ) -> Result<(Value, Meta), Refusal>
-    ensures read { IfOk result (λ r. (t : DataType) × (type_number t ≡ number) × Reads t count bytes.now (elements r.0) r.1) }
+    ensures read { IfOk result (λ r.
+        (t : DataType) × (type_number t ≡ number) × Reads t count bytes.now (elements r.0) r.1) }
     ensures refused { IfErr result (ReadRefused number count bytes.now) }
 {
     let data_type = match DataType::of(number) {

@@ -33,7 +33,8 @@ fn put_converted<S: Copy + Drop, T: Element, C: Conversion<S, T>>(
     out: &mut Vec<u8>,
 ) -> Result<(), Refusal>
     requires { vec_len out.old + length items.now * T.SIZE ≤ vec_capacity out.old }
-    ensures puts { PutsAll T.spelled T.fits (gathered C.gives items.now) out.old.items result out.new.items }
+    ensures puts { PutsAll T.spelled T.fits (gathered C.gives items.now) out.old.items result
+        out.new.items }
     ensures len { OnOk result (vec_len out.new ≡ vec_len out.old + length items.now * T.SIZE) }
     ensures capacity { vec_capacity out.old ≤ vec_capacity out.new }
 {
@@ -51,7 +52,8 @@ fn put_numbers<S: Source>(items: &[S], base: BaseType, out: &mut Vec<u8>) -> Res
     requires other { base ≢ base_type.String }
     requires room { vec_len out.old + length items.now * element_size base ≤ vec_capacity out.old }
     ensures puts { Puts (in_base S.number items.now base) out.old.items result out.new.items }
-    ensures len { OnOk result (vec_len out.new ≡ vec_len out.old + length items.now * element_size base) }
+    ensures len { OnOk result (vec_len out.new
+        ≡ vec_len out.old + length items.now * element_size base) }
     ensures capacity { vec_capacity out.old ≤ vec_capacity out.new }
 {
     match base {
@@ -69,7 +71,8 @@ fn put_numbers<S: Source>(items: &[S], base: BaseType, out: &mut Vec<u8>) -> Res
 fn put_whole<S: Whole>(items: &[S], base: BaseType, out: &mut Vec<u8>) -> Result<(), Refusal>
     requires { vec_len out.old + length items.now * element_size base ≤ vec_capacity out.old }
     ensures puts { Puts (in_base S.number items.now base) out.old.items result out.new.items }
-    ensures len { OnOk result (vec_len out.new ≡ vec_len out.old + length items.now * element_size base) }
+    ensures len { OnOk result (vec_len out.new
+        ≡ vec_len out.old + length items.now * element_size base) }
     ensures capacity { vec_capacity out.old ≤ vec_capacity out.new }
 {
     match base {
@@ -81,8 +84,10 @@ fn put_whole<S: Whole>(items: &[S], base: BaseType, out: &mut Vec<u8>) -> Result
 /// Puts the first of these elements at the end, where room was made for them.
 fn put_same<E: Element>(items: &[E], count: usize, out: &mut Vec<u8>) -> Result<(), Refusal>
     requires { vec_len out.old + min count (length items.now) * E.SIZE ≤ vec_capacity out.old }
-    ensures puts { PutsAll E.spelled E.fits (Ok (take count items.now)) out.old.items result out.new.items }
-    ensures len { OnOk result (vec_len out.new ≡ vec_len out.old + min count (length items.now) * E.SIZE) }
+    ensures puts { PutsAll E.spelled E.fits (Ok (take count items.now)) out.old.items result
+        out.new.items }
+    ensures len { OnOk result (vec_len out.new
+        ≡ vec_len out.old + min count (length items.now) * E.SIZE) }
     ensures capacity { vec_capacity out.old ≤ vec_capacity out.new }
 {
     put_all(first(items, count), out);
@@ -91,9 +96,12 @@ fn put_same<E: Element>(items: &[E], count: usize, out: &mut Vec<u8>) -> Result<
 
 /// Puts the first elements, converted, at the end, where room was made for them.
 fn put_first(value: &Value, count: usize, base: BaseType, out: &mut Vec<u8>) -> Result<(), Refusal>
-    requires { vec_len out.old + min count (count_of (elements value.now)) * element_size base ≤ vec_capacity out.old }
-    ensures puts { Puts (converted (first_elements count (elements value.now)) base) out.old.items result out.new.items }
-    ensures len { OnOk result (vec_len out.new ≡ vec_len out.old + min count (count_of (elements value.now)) * element_size base) }
+    requires { vec_len out.old + min count (count_of (elements value.now)) * element_size base
+        ≤ vec_capacity out.old }
+    ensures puts { Puts (converted (first_elements count (elements value.now)) base) out.old.items
+        result out.new.items }
+    ensures len { OnOk result (vec_len out.new
+        ≡ vec_len out.old + min count (count_of (elements value.now)) * element_size base) }
     ensures capacity { vec_capacity out.old ≤ vec_capacity out.new }
 {
     match (value, base) {
@@ -117,7 +125,8 @@ fn put_first(value: &Value, count: usize, base: BaseType, out: &mut Vec<u8>) -> 
 /// Whether these numbers are in a type other than STRING; the first that is not decides.
 fn check_numbers<S: Source>(items: &[S], base: BaseType) -> Result<(), Refusal>
     requires { base ≢ base_type.String }
-    ensures { MatchResult result (λ _. IsOk (in_base S.number items.now base)) (λ e. in_base S.number items.now base ≡ Err e) }
+    ensures { MatchResult result (λ _. IsOk (in_base S.number items.now base))
+        (λ e. in_base S.number items.now base ≡ Err e) }
 {
     match base {
         BaseType::String => unreachable!(),
@@ -132,7 +141,8 @@ fn check_numbers<S: Source>(items: &[S], base: BaseType) -> Result<(), Refusal>
 
 /// Whether these numbers are in a type; the first that is not decides.
 fn check_whole<S: Whole>(items: &[S], base: BaseType) -> Result<(), Refusal>
-    ensures { MatchResult result (λ _. IsOk (in_base S.number items.now base)) (λ e. in_base S.number items.now base ≡ Err e) }
+    ensures { MatchResult result (λ _. IsOk (in_base S.number items.now base))
+        (λ e. in_base S.number items.now base ≡ Err e) }
 {
     match base {
         BaseType::String => check_all::<S, [u8; 40], ToText>(items),
@@ -142,7 +152,9 @@ fn check_whole<S: Whole>(items: &[S], base: BaseType) -> Result<(), Refusal>
 
 /// Whether the first elements convert; the first that does not decides.
 fn check_first(value: &Value, count: usize, base: BaseType) -> Result<(), Refusal>
-    ensures { MatchResult result (λ _. IsOk (converted (first_elements count (elements value.now)) base)) (λ e. converted (first_elements count (elements value.now)) base ≡ Err e) }
+    ensures { MatchResult result (λ _.
+        IsOk (converted (first_elements count (elements value.now)) base))
+        (λ e. converted (first_elements count (elements value.now)) base ≡ Err e) }
 {
     match (value, base) {
         (Value::Strings(_), BaseType::String) => Ok(()),
@@ -171,7 +183,8 @@ fn put_shown(
     out: &mut Vec<u8>,
 ) -> Result<(), Refusal>
     requires { vec_len out.old + size_of_image data_type count ≤ vec_capacity out.old }
-    ensures shown { PutsShown data_type count (elements value.now) meta out.old.items result out.new.items }
+    ensures shown { PutsShown data_type count (elements value.now) meta out.old.items result
+        out.new.items }
     ensures meta { IsMeta meta }
 {
     put_meta(data_type.form, meta, out);
@@ -199,8 +212,11 @@ pub fn write_shown(
     meta: &Meta,
     out: &mut Vec<u8>,
 ) -> Result<(), Refusal>
-    ensures shown { WritesShown number count (elements value.now) meta.now out.old.items result out.new.items }
-    ensures room { IfErr result (λ e. e ≡ OutOfMemory → (t : DataType) × (type_number t ≡ number) × (vec_capacity out.old < vec_len out.old + size_of_image t count)) }
+    ensures shown { WritesShown number count (elements value.now) meta.now out.old.items result
+        out.new.items }
+    ensures room { IfErr result (λ e. e ≡ OutOfMemory
+        → (t : DataType) × (type_number t ≡ number)
+        × (vec_capacity out.old < vec_len out.old + size_of_image t count)) }
     ensures meta { OnOk result (IsMeta meta.now) }
 {
     let data_type = match DataType::of(number) {

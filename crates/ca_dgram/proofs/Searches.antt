@@ -8,18 +8,18 @@ use Rattle.ca_wire.specs.Header.{short_header}
 use Rattle.ca_wire.specs.Fields.{padded}
 use Rattle.ca_wire.specs.Message.{header_of, spelling}
 use Rattle.ca_wire.proofs.Headers.{length-short}
-use Rattle.ca_dgram.specs.Messages.{search_message, version_message}
+use Rattle.ca_wire.specs.Messages.{search_request, version_reply}
 use Rattle.ca_text.specs.declared.refusal.Refusal.{Refusal}
 use Rattle.ca_text.specs.declared.refusal.Refusal.TheVariants.{OutOfMemory}
 use Rattle.ca_dgram.specs.Search.{Searches, begun, searched}
 use Rattle.ca_text.specs.Limits.{datagram_limit}
 use Rattle.ca_dgram.proofs.Spellings.{spelling-bare, spelling-small}
 
-pub version-bytes : spelling version_message ≡ short_header (header_of version_message)
-version-bytes = spelling-bare version_message refl (omega arith)
+pub version-bytes : spelling version_reply ≡ short_header (header_of version_reply)
+version-bytes = spelling-bare version_reply refl (omega arith)
 
-pub length-version : length (spelling version_message) ≡ 16
-length-version = ap length version-bytes ∙ length-short (header_of version_message)
+pub length-version : length (spelling version_reply) ≡ 16
+length-version = ap length version-bytes ∙ length-short (header_of version_reply)
 
 -- one zero that ends the name, and the padding
 pub zeros-padded : (name : List ℕ) (zeros : ℕ) → zeros ≡ 8 - length name % 8 → name ++ replicate zeros 0 ≡ padded (name ++ 0 ∷ [])
@@ -33,27 +33,27 @@ length-padded_name name zeros e =
     sym (ap length (zeros-padded name zeros e)) ∙ length-append name (replicate zeros 0) ∙ ap (λ (n : ℕ). length name + n) (length-replicate {A = ℕ} zeros 0)
 
 pub search-bytes : (cid : ℕ) (name : List ℕ) (size zeros : ℕ) → length name ≤ 500 → zeros ≡ 8 - length name % 8 → size ≡ length name + zeros
-    → spelling (search_message cid name) ≡ short_header (record { command = 6; data_type = 5; size = size; count = 13; p1 = cid; p2 = cid }) ++ (name ++ replicate zeros 0)
+    → spelling (search_request cid name) ≡ short_header (record { command = 6; data_type = 5; size = size; count = 13; p1 = cid; p2 = cid }) ++ (name ++ replicate zeros 0)
 search-bytes cid name size zeros within e f =
     let long : length (padded (name ++ 0 ∷ [])) ≡ size = length-padded_name name zeros e ∙ sym f in
-    spelling-small (search_message cid name) (omega (arith, long)) (omega arith)
+    spelling-small (search_request cid name) (omega (arith, long)) (omega arith)
     ∙ ap (λ (n : ℕ). short_header (record { command = 6; data_type = 5; size = n; count = 13; p1 = cid; p2 = cid }) ++ padded (name ++ 0 ∷ [])) long
     ∙ ap (λ (t : List ℕ). short_header (record { command = 6; data_type = 5; size = size; count = 13; p1 = cid; p2 = cid }) ++ t) (sym (zeros-padded name zeros e))
 
-pub length-search : (cid : ℕ) (name : List ℕ) (zeros : ℕ) → length name ≤ 500 → zeros ≡ 8 - length name % 8 → length (spelling (search_message cid name)) ≡ 16 + length name + zeros
+pub length-search : (cid : ℕ) (name : List ℕ) (zeros : ℕ) → length name ≤ 500 → zeros ≡ 8 - length name % 8 → length (spelling (search_request cid name)) ≡ 16 + length name + zeros
 length-search cid name zeros within e =
     let h : Header = record { command = 6; data_type = 5; size = length name + zeros; count = 13; p1 = cid; p2 = cid } in
     ap length (search-bytes cid name (length name + zeros) zeros within e refl)
     ∙ omega (arith, length-append (short_header h) (name ++ replicate zeros 0), length-append name (replicate zeros 0), length-replicate {A = ℕ} zeros 0, length-short h)
 
 pub length-searched : (bytes : List ℕ) (cid : ℕ) (name : List ℕ) (zeros : ℕ) → length name ≤ 500 → zeros ≡ 8 - length name % 8 → length (searched bytes cid name) ≡ length (begun bytes) + 16 + length name + zeros
-length-searched bytes cid name zeros within e = omega (arith, length-append (begun bytes) (spelling (search_message cid name)), length-search cid name zeros within e)
+length-searched bytes cid name zeros within e = omega (arith, length-append (begun bytes) (spelling (search_request cid name)), length-search cid name zeros within e)
 
 pub length-begun : (bytes : List ℕ) → length bytes ≡ 0 → length (begun bytes) ≡ 16
 length-begun [] e = length-version
 length-begun (b ∷ bytes) e = absurd (omega (arith, e))
 
-pub begun-empty : (bytes header : List ℕ) → length bytes ≡ 0 → header ≡ short_header (header_of version_message) → bytes ++ header ≡ begun bytes
+pub begun-empty : (bytes header : List ℕ) → length bytes ≡ 0 → header ≡ short_header (header_of version_reply) → bytes ++ header ≡ begun bytes
 begun-empty [] header e f = f ∙ sym version-bytes
 begun-empty (b ∷ bytes) header e f = absurd (omega (arith, e))
 

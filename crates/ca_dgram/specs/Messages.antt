@@ -1,18 +1,9 @@
--- The messages that stand in datagrams (section "CA Protocol Messages").
-use Rattle.std.specs.Prelude.{ℕ, List, [], ◌∷◌, ◌++◌}
-use Rattle.ca_text.specs.declared.command.Command.TheVariants.{Version, Search, RsrvIsUp, RepeaterConfirm, RepeaterRegister}
+-- Vocabulary: the messages that are in datagrams alone (section "CA Protocol Messages").
+use Rattle.std.specs.Prelude.{ℕ, []}
+use Rattle.ca_text.specs.declared.command.Command.TheVariants.{RsrvIsUp, RepeaterConfirm, RepeaterRegister}
 use Rattle.ca_text.specs.Command.{command_number}
 use Rattle.ca_text.specs.Limits.{minor_version}
-use Rattle.ca_wire.specs.Fields.{Fields, padded}
-
--- VERSION, first in a datagram of searches: the count is the minor version
-abbrev pub version_message : Fields
-version_message = record { command = command_number Version; data_type = 0; count = minor_version; p1 = 0; p2 = 0; payload = [] }
-
--- SEARCH for a name: data type 5, so that an unknown name gets no answer; the count is the minor version; the CID
--- twice; the name with its terminating zero, padded with zeros
-abbrev pub search_message : ℕ → List ℕ → Fields
-search_message cid name = record { command = command_number Search; data_type = 5; count = minor_version; p1 = cid; p2 = cid; payload = padded (name ++ 0 ∷ []) }
+use Rattle.ca_wire.specs.Fields.{Fields}
 
 -- RSRV_IS_UP: the count is the server's TCP port, the first parameter the beacon's number; an address of zero stands
 -- for the sender's

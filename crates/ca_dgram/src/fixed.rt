@@ -6,6 +6,7 @@ ghost use Rattle.ca_wire.specs.Message.{Spells, header_of, spelling};
 ghost use Rattle.ca_dgram.specs.Messages.{beacon_message, confirm_message, register_message};
 
 use ca_text::{Command, MINOR_VERSION};
+use ca_wire::{Header, short_form};
 use std::net::Ipv4Addr;
 
 /// The beacon of this number, of a server that listens at this TCP port (RSRV_IS_UP).
@@ -16,56 +17,41 @@ pub fn beacon(number: u32, port: u16) -> [u8; 16]
     ensures read { Spells result (beacon_message number port) }
     ensures written { port < 65535 → result ≡ spelling (beacon_message number port) }
 {
-    header_bytes(Command::RsrvIsUp, MINOR_VERSION, 0, port, number, 0)
+    header_bytes(Command::RsrvIsUp, MINOR_VERSION, port, number, 0)
 }
 
 /// The registration of a client of this address with the repeater of its host (REPEATER_REGISTER).
 pub fn register(address: Ipv4Addr) -> [u8; 16]
     ensures { result ≡ spelling (register_message (ipv4_bits address)) }
 {
-    header_bytes(Command::RepeaterRegister, 0, 0, 0, 0, address.to_bits())
+    header_bytes(Command::RepeaterRegister, 0, 0, 0, address.to_bits())
 }
 
 /// The repeater's answer to a registration (REPEATER_CONFIRM).
 pub fn confirm() -> [u8; 16]
     ensures { result ≡ spelling confirm_message }
 {
-    header_bytes(Command::RepeaterConfirm, 0, 0, 0, 0, 0x7f00_0001)
+    header_bytes(Command::RepeaterConfirm, 0, 0, 0, 0x7f00_0001)
 }
 
-/// The header of 16 bytes with these fields.
-pub(crate) fn header_bytes(
-    command: Command,
-    data_type: u16,
-    size: u16,
-    count: u16,
-    p1: u32,
-    p2: u32,
-) -> [u8; 16]
-    ensures { result ≡ short_header (record { command = command_number command; data_type = data_type; size = size; count = count; p1 = p1; p2 = p2 }) }
+/// The header of 16 bytes with these fields, of a message with no payload.
+fn header_bytes(command: Command, data_type: u16, count: u16, p1: u32, p2: u32) -> [u8; 16]
+    ensures { result
+        ≡ short_header (record {
+          command = command_number command;
+          data_type = data_type;
+          size = 0;
+          count = count;
+          p1 = p1;
+          p2 = p2;
+        }) }
 {
-    let command = command.number().to_be_bytes();
-    let data_type = data_type.to_be_bytes();
-    let size = size.to_be_bytes();
-    let count = count.to_be_bytes();
-    let p1 = p1.to_be_bytes();
-    let p2 = p2.to_be_bytes();
-    [
-        command[0],
-        command[1],
-        size[0],
-        size[1],
-        data_type[0],
-        data_type[1],
-        count[0],
-        count[1],
-        p1[0],
-        p1[1],
-        p1[2],
-        p1[3],
-        p2[0],
-        p2[1],
-        p2[2],
-        p2[3],
-    ]
+    short_form(&Header {
+        command: command.number(),
+        data_type,
+        size: 0,
+        count: u32::from(count),
+        p1,
+        p2,
+    })
 }

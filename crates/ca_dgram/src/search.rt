@@ -2,12 +2,9 @@ ghost use Rattle.std.specs.Prelude.{◌≡◌, ◌+◌, ◌<◌, ◌≤◌, ◌+
 ghost use Rattle.ca_dgram.specs.Search.{Searches, begun, searched};
 ghost use Rattle.ca_text.specs.declared.refusal.Refusal.TheVariants.{OutOfMemory};
 
-use crate::fixed::header_bytes;
-use ca_text::{ChannelName, Command, DATAGRAM_LIMIT, MINOR_VERSION, Refusal};
+use ca_text::{ChannelName, DATAGRAM_LIMIT, Refusal};
+use ca_wire::{Cid, search_header, short_form, version_header};
 use std::alloc::Global;
-
-/// Data type of a search that wants no answer where the name is unknown.
-const NO_REPLY_WANTED: u16 = 5;
 
 /// Bytes of a header.
 const HEADER: usize = 16;
@@ -18,7 +15,8 @@ const HEADER: usize = 16;
 /// where the buffer has no room for it.
 pub fn search_into(cid: u32, name: &ChannelName, out: &mut Vec<u8>) -> Result<(), Refusal>
     ensures searches { Searches out.old.items cid name.now result out.new.items }
-    ensures room { IfErr result (λ e. e ≡ OutOfMemory → vec_capacity out.old < length (searched out.old.items cid name.now)) }
+    ensures room { IfErr result (λ e. e ≡ OutOfMemory
+        → vec_capacity out.old < length (searched out.old.items cid name.now)) }
 {
     let name = name.bytes();
     let zeros = 8 - name.len() % 8;
@@ -29,14 +27,7 @@ pub fn search_into(cid: u32, name: &ChannelName, out: &mut Vec<u8>) -> Result<()
     }
     out.reserve(growth)?;
     begin(out);
-    let header = header_bytes(
-        Command::Search,
-        NO_REPLY_WANTED,
-        size as u16,
-        MINOR_VERSION,
-        cid,
-        cid,
-    );
+    let header = short_form(&search_header(Cid::new(cid), size as u32));
     append(&header, out);
     append(name, out);
     append(&[0; 8][..zeros], out);
@@ -58,7 +49,7 @@ fn begin(out: &mut Vec<u8>)
     ensures capacity { vec_capacity out.old ≤ vec_capacity out.new }
 {
     if out.is_empty() {
-        let header = header_bytes(Command::Version, 0, 0, MINOR_VERSION, 0, 0);
+        let header = short_form(&version_header());
         append(&header, out);
     }
 }

@@ -1,2 +1,3 @@
 pub mod Wires
 mod Walks
+pub mod Holding

@@ -3,3 +3,4 @@ pub mod Wire
 pub mod Ids
 pub mod Lending
 pub mod Table
+pub mod Holding

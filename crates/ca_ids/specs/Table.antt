@@ -40,9 +40,13 @@ module _ {T : Type 0} where
     pub next : h.generation ≡ (place_at t h.index).generation + 1
     pub last : h.generation ≤ last_generation
 
+  -- an index that had an id may have another
+  abbrev pub has_free : Table T → Bool
+  has_free t = list_any (λ (p : Place T). not (is_some p.value) && nat_lt p.generation last_generation) t
+
   -- No id may be given: each index is held, or had its last generation.
   abbrev pub is_full : Table T → Bool
-  is_full t = nat_le arena_slots (length t) && not (list_any (λ (p : Place T). not (is_some p.value) && nat_lt p.generation last_generation) t)
+  is_full t = nat_le arena_slots (length t) && not (has_free t)
 
   abbrev pub IsFull : Table T → Type 0
   IsFull t = is_full t ≡ true

@@ -7,5 +7,6 @@ ghost use Rattle.ca_ids.specs.Ids.{Ids};
 
 /// Two handles that are open or drain at one time have different wire ids.
 pub fn wire_ids_differ<T>()
-    ensures { (ids : Ids T) (first second : Handle) → IsSound ids → IsLive ids first → IsLive ids second → wire_of first ≡ wire_of second → first ≡ second }
+    ensures { (ids : Ids T) (first second : Handle) → IsSound ids → IsLive ids first
+        → IsLive ids second → wire_of first ≡ wire_of second → first ≡ second }
 {}

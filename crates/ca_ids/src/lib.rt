@@ -4,10 +4,12 @@
 //! message was read.
 #![tactic(auto)]
 
+mod held_table;
 mod laws;
 mod table;
 mod wire_id;
 
+pub use held_table::HeldTable;
 pub use laws::wire_ids_differ;
 pub use table::{Entry, IdTable};
 pub use wire_id::WireId;

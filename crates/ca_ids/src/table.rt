@@ -121,7 +121,8 @@ impl<T> IdTable<T> {
 
     // The handle, open or not, that has this wire id.
     fn taken_by(&self, wire: WireId) -> Option<Handle>
-        ensures { MatchOption result (IsUnused self.now wire) (λ handle. IsLive self.now handle × IsOnly self.now wire handle) }
+        ensures { MatchOption result (IsUnused self.now wire)
+            (λ handle. IsLive self.now handle × IsOnly self.now wire handle) }
     {
         let handle = self.entries.handle_at(wire.index())?;
         if WireId::of(handle) == wire {

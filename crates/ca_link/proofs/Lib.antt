@@ -1,1 +1,2 @@
 mod Appending
+pub mod Taking

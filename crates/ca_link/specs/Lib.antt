@@ -1,3 +1,4 @@
 pub mod Link
+pub mod Calls
 pub mod Passing
 pub mod Steps

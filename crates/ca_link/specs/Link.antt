@@ -1,9 +1,12 @@
 -- Vocabulary: an end's two streams of bytes on a circuit, and its moments (sections "Virtual Circuit" and "CA_PROTO_ECHO").
-use Rattle.std.specs.Prelude.{ℕ, ◌≡◌, ◌-◌, ◌&&◌, ◌++◌, Bool, false, not, List, [], drop, if◌then◌else◌, nat_le}
+use Rattle.std.specs.Prelude.{ℕ, ◌≡◌, ◌-◌, ◌&&◌, ◌++◌, Bool, false, true, not, List, [], drop, if◌then◌else◌, nat_le}
 use Rattle.ca_text.specs.Limits.{close_silence, echo_silence}
 use Rattle.ca_wire.specs.Fields.{Fields}
 use Rattle.ca_wire.specs.Message.{Spells, spelled}
 use Rattle.ca_wire.specs.Stream.{Held}
+-- What a moment asks of an end: nothing (Idle), an ECHO (Echo), or to close (Close).
+use Rattle.ca_link.specs.declared.keep.Keep.{Keep}
+use Rattle.ca_link.specs.declared.keep.Keep.TheVariants.{Close, Echo, Idle}
 
 -- What came and was not read, and whether a bad header was met; what waits to be sent; the moment at which bytes came last; and whether
 -- an ECHO went out since.
@@ -42,10 +45,11 @@ with_rest rest l = record l { input = record l.input { bytes = rest } }
 abbrev pub silence : ℕ → LinkState → ℕ
 silence now l = now - l.heard_at
 
--- what a moment asks of an end: nothing, an ECHO, or to close
-pub data Keep : Type 0 where
-  Idle Echo Close : Keep
-
 -- So long a silence asks for an ECHO, once, and one that is longer still for the end.
 abbrev pub kept : ℕ → LinkState → Keep
 kept now l = if nat_le close_silence (silence now l) then Close else if nat_le echo_silence (silence now l) && not l.echoed then Echo else Idle
+
+-- the link after it was asked so: an ECHO goes out, once in a silence
+abbrev pub noted : Keep → LinkState → LinkState
+noted Echo l = record l { echoed = true }
+noted k l = l

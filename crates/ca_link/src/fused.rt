@@ -30,7 +30,8 @@ impl<T> Fused<T> {
     // Whether the next call is passed on, to what counted so many calls and faults. It is one less then.
     fn takes_pass(&mut self, calls: u64, faults: u64) -> bool
         ensures passed { IsTrue result ↔ CanPass self.old.passes calls faults }
-        ensures left { self.new ≡ record self.old { passes = self.old.passes - (if result then 1 else 0) } }
+        ensures left { self.new
+            ≡ record self.old { passes = self.old.passes - (if result then 1 else 0) } }
     {
         if self.passes == 0 || calls == u64::MAX || faults == u64::MAX {
             return false;

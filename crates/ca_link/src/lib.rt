@@ -1,10 +1,15 @@
-//! Where a circuit's bytes come from and go to: a source and a sink, which count their calls and their faults.
+//! One end of a circuit, by its bytes and its moments; and where a circuit's bytes come from and go to: a source and a
+//! sink, which count their calls and their faults.
 #![tactic(auto)]
 
 mod fused;
+mod keep;
+mod link;
 mod sink;
 mod source;
 
 pub use fused::Fused;
+pub use keep::Keep;
+pub use link::Link;
 pub use sink::{Sink, Writer};
 pub use source::{Fault, Reader, Source};

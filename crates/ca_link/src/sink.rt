@@ -28,7 +28,8 @@ pub trait Sink {
         requires calls { call_count self.old + 1 < 2 ^ 64 }
         requires faults { fault_count self.old + 1 < 2 ^ 64 }
         ensures calls { call_count self.new ≡ call_count self.old + 1 }
-        ensures faults { fault_count self.new ≡ fault_count self.old + (if is_ok result then 0 else 1) }
+        ensures faults { fault_count self.new
+            ≡ fault_count self.old + (if is_ok result then 0 else 1) }
         ensures taken { OnOk result (takes self.old bytes.now self.new) }
         ensures begun { OnErr result ((n : ℕ) × takes self.old (take n bytes.now) self.new) };
 }
@@ -86,7 +87,8 @@ impl<W: Write> Sink for Writer<W> {
 /// Writes all these bytes, or fails after the first few.
 fn write_whole<W: Write>(writer: &mut W, bytes: &[u8]) -> Result<(), Fault>
     ensures ok { OnOk result (Appends (W.contents writer.old) (W.contents writer.new) bytes.now) }
-    ensures err { OnErr result ((n : ℕ) × Appends (W.contents writer.old) (W.contents writer.new) (take n bytes.now)) }
+    ensures err { OnErr result ((n : ℕ)
+        × Appends (W.contents writer.old) (W.contents writer.new) (take n bytes.now)) }
 {
     let mut done = 0;
     while done < bytes.len() {

@@ -42,7 +42,8 @@ pub trait Source {
         requires calls { call_count self.old + 1 < 2 ^ 64 }
         requires faults { fault_count self.old + 1 < 2 ^ 64 }
         ensures calls { call_count self.new ≡ call_count self.old + 1 }
-        ensures faults { fault_count self.new ≡ fault_count self.old + (if is_ok result then 0 else 1) }
+        ensures faults { fault_count self.new
+            ≡ fault_count self.old + (if is_ok result then 0 else 1) }
         ensures within { IfOk result (λ n. n ≤ length buffer.new) }
         ensures given { IfOk result (λ n. gives self.old (take n buffer.new) self.new) };
 }
@@ -76,7 +77,9 @@ impl<R: Read> Source for Reader<R> {
 
     ghost fault_count = { λ s. s.faults };
 
-    ghost gives = { λ s bytes t. Consumes (R.remaining s.reader) (R.remaining t.reader) bytes × (bytes ≡ [] → IsAtEnd (R.remaining t.reader)) };
+    ghost gives = { λ s bytes t.
+        Consumes (R.remaining s.reader) (R.remaining t.reader) bytes
+        × (bytes ≡ [] → IsAtEnd (R.remaining t.reader)) };
 
     fn calls(&self) -> u64 {
         self.calls

@@ -12,7 +12,8 @@ use Rattle.ca_arena.specs.declared.handle.Handle.{Handle}
 use Rattle.ca_ids.specs.Table.{IsFull, MayGive, is_full, under, with_freed, with_held}
 use Rattle.ca_ids.specs.Wire.{wire_of}
 use Rattle.ca_search.specs.Clock.{fresh}
-use Rattle.ca_wire.specs.Messages.{Wanted, clear_request, event_add_request, event_cancel_request, put_request, read_request}
+use Rattle.ca_wire.specs.declared.requests.Wanted.{Wanted}
+use Rattle.ca_wire.specs.Messages.{clear_request, event_add_request, event_cancel_request, put_request, read_request}
 use Rattle.ca_requests.specs.Requests.{Asked, Request, asks_on}
 use Rattle.ca_requests.specs.Requests as request
 use Rattle.ca_monitor.specs.Subscriptions.{Subscription, standing_under, with_stage}

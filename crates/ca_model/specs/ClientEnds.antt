@@ -1,5 +1,5 @@
 -- Vocabulary: what the calls on a client's circuits answer and leave, and those for moments and datagrams (sections "Virtual Circuit" and
--- "CA Search"). Each definition by answer is the contract of the call that its comment names: from old, with this answer, it sent these
+-- "CA Search"). Each definition by answer is to be the contract of the call that its comment names: from old, with this answer, it sent these
 -- messages and left new.
 use Rattle.std.specs.Prelude.{ℕ, ◌≡◌, ◌≢◌, ◌<◌, ◌≤◌, ◌^◌, ◌==◌, ◌&&◌, ◌++◌, ◌⊎◌, Bool, true, false, not, List, [], ◌∷◌, Option, Some, None, Result, Ok, Err, filter, filter_map, flat_map, fold, if◌then◌else◌, is_none, is_some, length, map, nat_le, option_and_then, option_map, option_to_list, unwrap_or}
 use Rattle.std.specs.FinMap as finite
@@ -13,7 +13,9 @@ use Rattle.ca_ids.specs.Table.{Table, held, under, with_all, with_changed}
 use Rattle.ca_beacon.specs.Table.{anomaly, noted, server}
 use Rattle.ca_dgram.specs.Datagram.{IsDatagram}
 use Rattle.ca_dgram.specs.Search as dgram
-use Rattle.ca_link.specs.Link.{Close, Echo, Idle, Keep, TakesFirst, kept, new_link, with_given, with_handed, with_rest}
+use Rattle.ca_link.specs.declared.keep.Keep.{Keep}
+use Rattle.ca_link.specs.declared.keep.Keep.TheVariants.{Close, Echo, Idle}
+use Rattle.ca_link.specs.Link.{TakesFirst, kept, new_link, with_given, with_handed, with_rest}
 use Rattle.ca_search.specs.Searcher as searcher
 use Rattle.ca_search.specs.Searches as search
 use Rattle.ca_wire.specs.Fields.{Fields}

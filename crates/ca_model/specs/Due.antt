@@ -14,12 +14,13 @@ use Rattle.ca_dbr.specs.Reading.{ReadsElements}
 use Rattle.ca_dbr.specs.Types.{base_number}
 use Rattle.ca_queue.specs.declared.entry.SubKey.{SubKey}
 use Rattle.ca_queue.specs.Keys.{is_among}
+use Rattle.ca_records.specs.Faults.{late_put_fault}
 use Rattle.ca_records.specs.Record.{RecordState}
 use Rattle.ca_records.specs.Rules.{Rule, rights}
 use Rattle.ca_wire.specs.Fields.{Fields}
 use Rattle.ca_wire.specs.Messages.{bare, cancel_reply, cleared_reply, created_reply, error_reply, failed_reply, mask_in, no_cid, not_found_reply, rights_reply, search_reply, status_reply, text_in, value_reply, version_reply}
 use Rattle.ca_model.specs.Ends.{Peer}
-use Rattle.ca_model.specs.Faults.{base_type_of, early_put_fault, late_put_fault, read_fault, read_shown, subscription_fault, type_of}
+use Rattle.ca_model.specs.Faults.{base_type_of, early_put_fault, read_fault, read_shown, subscription_fault, type_of}
 use Rattle.ca_model.specs.Server.{Subscription}
 use Rattle.ca_model.specs.Speech.{In}
 

@@ -1,20 +1,20 @@
 -- Vocabulary: which fault of a request is answered by which status (section "Status Codes"). The first that is there decides.
-use Rattle.std.specs.Prelude.{ℕ, ◌==◌, ◌%◌, ◌*◌, ◌||◌, Bool, true, false, not, List, [], ◌∷◌, Option, Some, None, Result, Ok, Err, find, if◌then◌else◌, length, map, nat_lt, option_map}
+use Rattle.std.specs.Prelude.{ℕ, ◌==◌, ◌%◌, ◌*◌, ◌||◌, Bool, not, List, [], ◌∷◌, Option, Some, None, Result, find, if◌then◌else◌, length, map, nat_lt}
 use Rattle.std.specs.List.{flat_map}
 use Rattle.ca_text.specs.declared.refusal.Refusal.{Refusal}
-use Rattle.ca_text.specs.declared.refusal.Refusal.TheVariants as refusal
-use Rattle.ca_text.specs.Limits.{circuit_queues, payload_limit, queue_subscriptions, waiting_puts}
-use Rattle.ca_text.specs.Status.{add_fail, bad_count, bad_type, get_fail, no_convert, no_read_access, no_write_access, put_fail}
+use Rattle.ca_text.specs.Limits.{circuit_queues, payload_limit, queue_subscriptions}
+use Rattle.ca_text.specs.Status.{add_fail, bad_count, bad_type, get_fail, no_convert, no_read_access, no_write_access}
 use Rattle.ca_dbr.specs.declared.data_type.BaseType.{BaseType}
 use Rattle.ca_dbr.specs.declared.data_type.BaseType.TheVariants as base
 use Rattle.ca_dbr.specs.declared.data_type.DataType.{DataType}
 use Rattle.ca_dbr.specs.declared.data_type.Form.{Form}
 use Rattle.ca_dbr.specs.declared.data_type.Form.TheVariants as form
 use Rattle.ca_dbr.specs.Conversion.{converted}
-use Rattle.ca_dbr.specs.Elements.{Elements, base_of, count_of}
+use Rattle.ca_dbr.specs.Elements.{Elements, count_of}
 use Rattle.ca_dbr.specs.Reading.{least_size}
 use Rattle.ca_dbr.specs.Shown.{shown}
 use Rattle.ca_dbr.specs.Types.{base_number, size_of_image, type_number}
+use Rattle.ca_records.specs.Faults.{first_fault, has_misfit, lacks_conversion}
 use Rattle.ca_records.specs.Record.{RecordState}
 use Rattle.ca_records.specs.Rules.{may_read, may_write}
 use Rattle.ca_wire.specs.Fields.{Fields}
@@ -39,22 +39,6 @@ abbrev pub base_type_of : ℕ → Option BaseType
 base_type_of n = find (λ (b : BaseType). base_number b == n) base_types
 
 -- ---- single faults
-
--- the status of the first fault that is there
-abbrev pub first_fault : List (Bool × ℕ) → Option ℕ
-first_fault faults = option_map (λ (f : Bool × ℕ). f.1) (find (λ (f : Bool × ℕ). f.0) faults)
-
--- there is no conversion between the types
-abbrev pub lacks_conversion : Result Elements Refusal → Bool
-lacks_conversion (Err refusal.NoConvert) = true
-lacks_conversion (Err _) = false
-lacks_conversion (Ok e) = false
-
--- a text is no number, or a number lies outside the type
-abbrev pub has_misfit : Result Elements Refusal → Bool
-has_misfit (Err refusal.NoConvert) = false
-has_misfit (Err _) = true
-has_misfit (Ok e) = false
 
 -- so many elements are over the greatest count, or their image is over the payload limit
 abbrev pub too_many : RecordState → DataType → ℕ → Bool
@@ -91,16 +75,6 @@ early_put_fault r rights m (Some b) =
     first_fault (
     (not (may_write rights), no_write_access)
     ∷ (m.count == 0 || (nat_lt r.count m.count || nat_lt (length m.payload) (least_size b m.count)), bad_count)
-    ∷ []
-    )
-
--- And then: no conversion NOCONVERT; a text or a range PUTFAIL; for a WRITE_NOTIFY that would wait, 16 that wait already PUTFAIL.
-abbrev pub late_put_fault : RecordState → (must_wait : Bool) → (others : ℕ) → Elements → Option ℕ
-late_put_fault r must_wait others e =
-    first_fault (
-    (lacks_conversion (converted e (base_of r.value)), no_convert)
-    ∷ (has_misfit (converted e (base_of r.value)), put_fail)
-    ∷ (if must_wait then not (nat_lt others waiting_puts) else false, put_fail)
     ∷ []
     )
 

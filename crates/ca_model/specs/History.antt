@@ -1,4 +1,4 @@
--- Statement: what happened, as lists. The program keeps these lists beside its clients and servers.
+-- Statement: what happened, as lists. A world keeps these lists beside its clients and servers.
 use Rattle.std.specs.Prelude.{ℕ, Bool, List, Option}
 use Rattle.ca_text.specs.declared.refusal.Refusal.{Refusal}
 use Rattle.ca_dbr.specs.declared.value.Outcome.{Outcome}

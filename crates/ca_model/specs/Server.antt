@@ -8,11 +8,12 @@ use Rattle.ca_link.specs.Link.{LinkState, new_link}
 use Rattle.ca_queue.specs.declared.entry.SubKey.{SubKey}
 use Rattle.ca_queue.specs.Keys.{is_among}
 use Rattle.ca_queue.specs.Queue.{Queue, cancelled, no_queue, posted, switched}
-use Rattle.ca_records.specs.Puts.{Record, Stamp, new_record}
+use Rattle.ca_records.specs.declared.puts.Stamp.{Stamp}
+use Rattle.ca_records.specs.Puts.{Record, new_record}
 use Rattle.ca_records.specs.Record.{RecordState}
 use Rattle.ca_records.specs.Rules.{Rule}
 use Rattle.ca_text.specs.Limits.{circuit_queues}
-use Rattle.ca_wire.specs.Messages.{Wanted}
+use Rattle.ca_wire.specs.declared.requests.Wanted.{Wanted}
 use Rattle.ca_model.specs.Ends.{Peer, Why}
 use Rattle.ca_model.specs.Speech.{Stored, share_bit}
 
@@ -61,7 +62,7 @@ pub data ServerCircuit : Type 0 where
   Open : ServerEnd → ServerCircuit
   Ended : Why → List ℕ → ServerCircuit
 
--- A server: its TCP port, its rules, its records in the order in which they came, the stamp of writes, the moment that was given last,
+-- A server: its TCP port, its rules, its records in some order, the stamp of writes, the moment that was given last,
 -- its circuits, its beacons, and how many writes were applied ("Overall Server Operation").
 pub record Server : Type 0 where
   pub port : ℕ

@@ -1,49 +1,37 @@
 -- Vocabulary: the calls of a server beside its circuits, by answer (sections "Process Variables", "CA_PROTO_WRITE_NOTIFY",
--- "CA_PROTO_SERVER_DISCONN", "CA_PROTO_SEARCH"). Each is the contract of the call of `ServerCore` that its comment names.
-use Rattle.std.specs.Prelude.{ℕ, ◌≡◌, ◌≢◌, ◌<◌, ◌≤◌, ◌+◌, ◌==◌, ◌&&◌, ◌||◌, ◌++◌, ◌⊎◌, Bool, true, not, List, [], ◌∷◌, Option, Some, None, Ok, Err, Result, filter, if◌then◌else◌, is_some, length, map, max, take}
+-- "CA_PROTO_SERVER_DISCONN", "CA_PROTO_SEARCH"). Each is to be the contract of the call of `ServerCore` that its comment names.
+use Rattle.std.specs.Prelude.{ℕ, ◌≡◌, ◌≢◌, ◌<◌, ◌≤◌, ◌+◌, ◌==◌, ◌&&◌, ◌||◌, ◌++◌, ◌⊎◌, Bool, true, not, List, [], ◌∷◌, Option, Some, None, Ok, Err, Result, drop, filter, if◌then◌else◌, is_some, length, map, max, take}
 use Rattle.std.specs.List.{flat_map, list_any, sum_by}
 use Rattle.std.specs.Str.{bytes_eq}
 use Rattle.ca_arena.specs.declared.handle.Handle.{Handle}
 use Rattle.ca_beacon.specs.Clock as beacon
-use Rattle.ca_dbr.specs.Elements.{Elements, base_of, count_of}
 use Rattle.ca_dgram.specs.Datagram.{IsDatagram}
-use Rattle.ca_dgram.specs.Messages.{beacon_message, version_message}
+use Rattle.ca_dgram.specs.Messages.{beacon_message}
 use Rattle.ca_ids.specs.Table.{held, under, with_each}
 use Rattle.ca_ids.specs.Wire.{wire_of}
 use Rattle.ca_link.specs.Link.{with_sent}
 use Rattle.ca_queue.specs.declared.entry.SubKey.{SubKey}
-use Rattle.ca_records.specs.Puts.{Put, Record, Stamp, WaitingPut, finished, new_record, record_named, removed, with_record, with_value, withdrawn}
-use Rattle.ca_records.specs.Record.{HoldsValue, RecordState, unset}
+use Rattle.ca_records.specs.Calls.{AddFault, MayAdd, PostFault, PostFits}
+use Rattle.ca_records.specs.declared.puts.Put.{Put}
+use Rattle.ca_records.specs.declared.puts.Stamp.{Stamp}
+use Rattle.ca_records.specs.Puts.{Record, WaitingPut, finished, new_record, record_named, removed, with_record, with_value, withdrawn}
+use Rattle.ca_records.specs.Record.{RecordState}
 use Rattle.ca_text.specs.Command.{command_number}
 use Rattle.ca_text.specs.declared.command.Command.TheVariants as command
 use Rattle.ca_text.specs.declared.refusal.Refusal.{Refusal}
 use Rattle.ca_text.specs.declared.refusal.Refusal.TheVariants as refusal
-use Rattle.ca_text.specs.Limits.{datagram_replies, record_name_limit}
-use Rattle.ca_text.specs.Name.{IsName}
+use Rattle.ca_text.specs.Limits.{datagram_replies}
 use Rattle.ca_text.specs.Place.{At}
 use Rattle.ca_text.specs.Status.{normal}
 use Rattle.ca_wire.specs.Fields.{Fields}
 use Rattle.ca_wire.specs.Message.{spelled, spelling}
-use Rattle.ca_wire.specs.Messages.{disconnect, search_reply, text_in}
+use Rattle.ca_wire.specs.Messages.{disconnect, search_reply, text_in, version_reply}
 use Rattle.ca_model.specs.Ends as why
 use Rattle.ca_model.specs.Server.{Ended, Open, OpenChannel, Server, ServerCircuit, ServerEnd, without_subscriptions}
 use Rattle.ca_model.specs.ServerSteps.{HasEnd, MayEnd, after_post, counted, is_concerned, stored_now, with_end, write_mask}
 use Rattle.ca_model.specs.Speech.{Stored}
 
 -- ---- posts
-
--- why a post is refused: no record has the name; the value is not of its type; it has no element, or more than the greatest count
-abbrev pub PostFault : List Record → List ℕ → Elements → Refusal → Type 0
-PostFault records name e refusal.UnknownRecord = record_named records name ≡ None
-PostFault records name e refusal.BadType = (r : Record) × (record_named records name ≡ Some r) × (base_of e ≢ base_of r.state.value)
-PostFault records name e refusal.BadCount =
-    (r : Record) × (record_named records name ≡ Some r) × (base_of e ≡ base_of r.state.value) × ((count_of e ≡ 0) ⊎ (r.state.count < count_of e))
-PostFault records name e other = ⊥
-
--- the value is one that the record may have
-abbrev pub PostFits : List Record → List ℕ → Elements → Type 0
-PostFits records name e =
-    (r : Record) × (record_named records name ≡ Some r) × (base_of e ≡ base_of r.state.value) × (0 < count_of e) × (count_of e ≤ r.state.count)
 
 -- `post`: the record has this value and its metadata now, and all subscriptions with a bit of the mask get it. Circuits that it concerns
 -- may end out of memory.
@@ -150,22 +138,12 @@ Removes old name gone left (Ok _) new =
 Removes old name gone left (Err refusal.UnknownRecord) new = (record_named old.records name ≡ None) × (new ≡ old)
 Removes old name gone left (Err e) new = ⊥
 
--- why a record is not added: a name that is none, one that is served now, or a value that does not fit
-abbrev pub AddFault : List Record → RecordState → Refusal → Type 0
-AddFault records s refusal.NameLength = IsName record_name_limit s.name → ⊥
-AddFault records s refusal.RecordExists = IsName record_name_limit s.name × (is_some (record_named records s.name) ≡ true)
-AddFault records s refusal.BadCount = IsName record_name_limit s.name × (record_named records s.name ≡ None) × (HoldsValue s.count s.value → ⊥)
-AddFault records s e = ⊥
-
--- a record may be added as this
-abbrev pub MayAdd : List Record → RecordState → Type 0
-MayAdd records s = IsName record_name_limit s.name × (record_named records s.name ≡ None) × HoldsValue s.count s.value × (s.meta ≡ unset)
-
--- `add_record`: the record comes after the others, and neither busy nor waited for.
-abbrev pub AddsRecord : Server → RecordState → Result (Unit {0}) Refusal → Server → Type 0
-AddsRecord old s (Ok _) new = MayAdd old.records s × (new ≡ record old { records = old.records ++ new_record s ∷ [] })
-AddsRecord old s (Err refusal.OutOfMemory) new = MayAdd old.records s × (new ≡ old)
-AddsRecord old s (Err e) new = AddFault old.records s e × (new ≡ old)
+-- `add_record`: the record comes behind so many of the others, neither busy nor waited for.
+abbrev pub AddsRecord : Server → RecordState → (behind : ℕ) → Result (Unit {0}) Refusal → Server → Type 0
+AddsRecord old s behind (Ok _) new =
+    MayAdd old.records s × (new ≡ record old { records = take behind old.records ++ new_record s ∷ drop behind old.records })
+AddsRecord old s behind (Err refusal.OutOfMemory) new = MayAdd old.records s × (new ≡ old)
+AddsRecord old s behind (Err e) new = AddFault old.records s e × (new ≡ old)
 
 -- ---- datagrams
 
@@ -178,7 +156,7 @@ pub record ArePacked (replies : List Fields) (datagrams : List (List ℕ)) : Typ
   pub groups : List (List Fields)
   pub all : flat_map (λ (g : List Fields). g) groups ≡ replies
   pub sizes : (i : ℕ) (g : List Fields) → At groups i g → (g ≢ []) × (length g ≤ datagram_replies) × (i + 1 < length groups → length g ≡ datagram_replies)
-  pub are : datagrams ≡ map (λ (g : List Fields). spelled (version_message ∷ g)) groups
+  pub are : datagrams ≡ map (λ (g : List Fields). spelled (version_reply ∷ g)) groups
 
 -- `datagram`: the answers to a datagram, in the order of its searches; the server is as it was.
 abbrev pub AnswersDatagram : Server → List ℕ → Result (List (List ℕ)) Refusal → Type 0

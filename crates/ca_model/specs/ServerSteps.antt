@@ -11,7 +11,8 @@ use Rattle.ca_queue.specs.declared.entry.SubKey.{SubKey}
 use Rattle.ca_queue.specs.Keys.{same}
 use Rattle.ca_queue.specs.Queue.{Queue, added, posted, with_front_taken}
 use Rattle.ca_queue.specs.Waiting.{taken}
-use Rattle.ca_records.specs.Puts.{Put, Record, record_named, with_record, with_value, with_waiting, withdrawn, written_meta}
+use Rattle.ca_records.specs.declared.puts.Put.{Put}
+use Rattle.ca_records.specs.Puts.{Record, record_named, with_record, with_value, with_waiting, withdrawn, written_meta}
 use Rattle.ca_text.specs.declared.refusal.Refusal.{Refusal}
 use Rattle.ca_text.specs.declared.refusal.Refusal.TheVariants as refusal
 use Rattle.ca_text.specs.Limits.{applied_limit, output_limit, queue_subscriptions}

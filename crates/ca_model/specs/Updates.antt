@@ -8,7 +8,8 @@ use Rattle.ca_dbr.specs.Image.{image}
 use Rattle.ca_dbr.specs.Shown.{shown}
 use Rattle.ca_dbr.specs.Types.{size_of_image}
 use Rattle.ca_wire.specs.Fields.{Fields}
-use Rattle.ca_wire.specs.Messages.{Wanted, update}
+use Rattle.ca_wire.specs.declared.requests.Wanted.{Wanted}
+use Rattle.ca_wire.specs.Messages.{update}
 use Rattle.ca_model.specs.Faults.{type_of}
 use Rattle.ca_model.specs.Speech.{Stored}
 

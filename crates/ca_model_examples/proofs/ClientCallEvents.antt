@@ -1,6 +1,6 @@
 -- What calls leave of a small world.
-use Rattle.std.proofs.Common.{◌≡◌, ◌<◌, ◌⊎◌, ℕ, zero, suc, inl, inr, refl, subst, arith, rules, List, [], ◌∷◌}
-use Rattle.std.specs.Prelude.{Some, None, Contains, slice_get}
+use Rattle.std.proofs.Common.{◌≡◌, ℕ, inl, inr, refl, subst, arith, rules, List, [], ◌∷◌}
+use Rattle.std.specs.Prelude.{Some, None, slice_get}
 use Rattle.ca_text.proofs.Places.{some_is}
 use Rattle.ca_model_world.specs.World.{ClientSide}
 use Rattle.ca_model.specs.History as history
@@ -10,9 +10,8 @@ use Rattle.ca_model.specs.Client as phase
 use Rattle.ca_dbr.specs.declared.value.Outcome.{Outcome}
 use Rattle.ca_model_examples.proofs.Lists.{one-at}
 use Rattle.ca_dbr.specs.declared.value.Outcome.TheVariants as outcome
-use Rattle.ca_arena.specs.declared.handle.Handle.{Handle}
 use Rattle.ca_dbr.specs.Elements.{signed_bytes_4}
-use Rattle.ca_ids.specs.Table.{MayGive, Table}
+use Rattle.ca_ids.specs.Table.{MayGive}
 use Rattle.ca_text.specs.Name.{IsName}
 use Rattle.ca_text.specs.Place.{At}
 use Rattle.ca_text.specs.declared.refusal.Refusal.TheVariants as refusal
@@ -20,7 +19,7 @@ use Rattle.ca_text.specs.Limits.{channel_name_limit}
 use Rattle.ca_wire.specs.Header.{extended_header, header_spelling, number16, number32, short_header}
 use Rattle.ca_wire.specs.Message.{spelling}
 use Rattle.ca_model_examples.specs.ClientRows.{to_temp, alive, first, live_temp, second, reading, subscribed, temp}
-use Rattle.ca_model_examples.specs.ClientCallEvents.{cancel_sending, clear_sending, names, put, read_done, with_subscription, written, ClearLeaves, CanNot, Collects, GivesUp, IsRefused, OpenLeaves, PutLeaves, ReadLeaves, SubscribeLeaves, UnsubscribeLeaves, WriteLeaves, anna_side, live, two_channels}
+use Rattle.ca_model_examples.specs.ClientCallEvents.{cancel_sending, clear_sending, names, put, read_done, with_subscription, written, ClearLeaves, Collects, GivesUp, OpenLeaves, PutLeaves, ReadLeaves, SubscribeLeaves, UnsubscribeLeaves, WriteLeaves, anna_side, two_channels}
 
 -- the first handle of a table that gave none
 first-given : {T : Type 0} → MayGive {T = T} [] first

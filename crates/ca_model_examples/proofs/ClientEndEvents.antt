@@ -1,7 +1,6 @@
 -- What events at a client's end leave of a small world.
-use Rattle.std.proofs.Common.{◌≡◌, ◌≢◌, ◌<◌, ◌≤◌, ◌⊎◌, ◌∙◌, ℕ, zero, suc, inl, inr, refl, sym, ap, subst, arith, rules, length, List, [], ◌∷◌}
-use Rattle.std.specs.Prelude.{Some, None, true, false, slice_get, replicate}
-use Rattle.ca_arena.specs.declared.handle.Handle.{Handle}
+use Rattle.std.proofs.Common.{◌≡◌, ◌<◌, ◌≤◌, ◌∙◌, ℕ, inl, inr, refl, sym, subst, arith, length, [], ◌∷◌}
+use Rattle.std.specs.Prelude.{Some, None, true, false, slice_get}
 use Rattle.ca_text.proofs.Places.{some_is}
 use Rattle.ca_text.specs.Place.{At}
 use Rattle.ca_wire.specs.Header.{extended_header, header_spelling, number16, number32, short_header}
@@ -16,11 +15,11 @@ use Rattle.ca_wire.proofs.Fronts.{no-header, none-below}
 use Rattle.ca_wire.specs.Stream.{NoneBegins}
 use Rattle.ca_model_world.specs.ClientEvents.{waiting_up}
 use Rattle.ca_model_world.specs.Events as event
-use Rattle.ca_model_world.specs.Runs.{CanBe, HasClientEnd, HasServerEnd}
+use Rattle.ca_model_world.specs.Runs.{CanBe, HasClientEnd}
 use Rattle.ca_model_world.specs.World.{ClientSide, Joined, World}
-use Rattle.ca_model_examples.specs.ClientRows.{alive, first, found, greeted, reading}
-use Rattle.ca_model_examples.specs.ClientCallEvents.{anna_side, joined, names, put, server}
-use Rattle.ca_model_examples.specs.ClientEndEvents.{AboutPlace, AcceptMakes, CutEnds, DatagramFinds, DownMoves, NoticeLines, RestartForgets, StepHears, TickEnds, UpMoves, put_reply, reply_of_search, with_output}
+use Rattle.ca_model_examples.specs.ClientRows.{alive, first, found, greeted}
+use Rattle.ca_model_examples.specs.ClientCallEvents.{anna_side, joined, names, server}
+use Rattle.ca_model_examples.specs.ClientEndEvents.{AboutPlace, AcceptMakes, CutEnds, DatagramFinds, DownMoves, NoticeLines, RestartForgets, StepHears, TickEnds, TickStops, UpMoves, put_reply, reply_of_search, with_output}
 
 -- no more bytes move than wait
 too-many : (w : World) (k n : ℕ) (j : Joined) (x : ClientSide) → At w.circuits k j → At w.clients j.client x → length (waiting_up x j) < n → CanBe w (event.Up k n) → ⊥
@@ -141,6 +140,17 @@ tick-ends = (
   ),
   (0, _, omega arith, refl, refl, (inr (inl (λ e. cc)), (refl, refl))),
   (λ c. omega (arith, c)),
+)
+
+pub tick-stops : TickStops
+unfolding spelling header_spelling short_header extended_header number16 number32
+tick-stops = (
+  1,
+  _,
+  omega arith,
+  (_, (_, refl, _, _, _, (refl, refl, refl), refl), refl),
+  refl,
+  (inr (inl (λ e. cc)), (refl, refl)),
 )
 
 good-search : IsMessage reply_of_search

@@ -1,6 +1,5 @@
 -- What messages and calls do in each state, computed.
-use Rattle.std.proofs.Common.{inl, inr, refl}
-use Rattle.std.specs.Prelude.{true}
+use Rattle.std.proofs.Common.{inr, refl}
 use Rattle.ca_dbr.specs.Elements.{signed_bytes_4}
 use Rattle.ca_wire.specs.Header.{extended_header, header_spelling, number16, number32, short_header}
 use Rattle.ca_wire.specs.Message.{spelling}

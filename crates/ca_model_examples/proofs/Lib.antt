@@ -1,13 +1,18 @@
 pub mod Lists
 pub mod Unsafe
+pub mod Broken
+pub mod Owed
 pub mod UsedActs
+pub mod Unread
 pub mod Speaks
 pub mod UsedOwn
 pub mod UsedRest
 pub mod UsedWhole
 pub mod UsedDue
+pub mod SmallDue
 pub mod Crossed
 pub mod WaitedActs
+pub mod WaitedDue
 pub mod WaitedOwn
 pub mod WaitedRest
 pub mod WaitedLegal
@@ -17,6 +22,7 @@ pub mod ServerRows
 pub mod DueReplies
 pub mod ServerHappens
 pub mod ServerAnswers
+pub mod ReopenedDue
 pub mod ReopenedOwn
 pub mod ReopenedRest
 pub mod ClientWorked
@@ -25,6 +31,10 @@ pub mod ClientCallEvents
 pub mod ClientEndEvents
 pub mod ClientHears
 pub mod MovedActs
+pub mod MovedDue
 pub mod MovedOwn
 pub mod MovedLegal
 pub mod Moved
+pub mod RefusedCreation
+pub mod Engine
+pub mod Limits

@@ -11,17 +11,19 @@ use Rattle.ca_dbr.specs.Elements.{Elements}
 use Rattle.ca_dbr.specs.Elements as E
 use Rattle.ca_model.specs.Speech.{Stored}
 use Rattle.ca_wire.specs.Messages.{mask_in}
-use Rattle.ca_model.specs.History.{Circuit, Intent, On, Create, Request, Subscribe, Put, Line, Entry, Sent, Told, Step, Added, Finished, Reply, Update, Cause, Called, Noticed, Updated}
+use Rattle.ca_model.specs.History.{Circuit, Intent, On, Create, Request, Subscribe, Put, Line, Entry, Sent, Told, Step, Added, Finished, Withdrawn, Reply, Update, Cause, Called, Noticed, Updated}
 use Rattle.ca_model_safe.specs.Channels.{IsApplied, IsLost, IsRequest, IsUse, Joins, OfCircuits, OfClients, Stands, updates}
-use Rattle.ca_model_safe.specs.Headline.{ActsOnRecord, AnswersOwn, CompletesOnce, Follows, FollowsRecord, LosesLive, NotTwice, Reads, Safe, Sees}
+use Rattle.ca_model_safe.specs.Headline.{ActsOnRecord, AnswersOwn, CompletesOnce, Follows, FollowsRecord, LosesLive, NotTwice, Reads, Sees}
+use Rattle.ca_model_safe.specs.Known.{IsSafe}
 use Rattle.ca_model_safe.specs.Legal.{IsSent, Legal, LegalCircuit}
 use Rattle.ca_requests.specs.Meaning.{Means}
 use Rattle.ca_model_safe.specs.Posts.{matching}
 use Rattle.ca_model.specs.Updates.{Shows}
-use Rattle.ca_model_examples.specs.Worlds.{AnyDue, adding, created_told, creating, long, step}
+use Rattle.ca_model_examples.specs.Worlds.{adding, created_told, creating, long, ports, rules, step}
 use Rattle.ca_model_examples.specs.Safe.{first_update}
 use Rattle.ca_model_examples.specs.Moved.{ended, found_again, moved, moved_entries, moved_lines, moved_world, valued}
 use Rattle.ca_model_examples.proofs.Lists.{at-take, each-at, one-at, two-at}
+use Rattle.ca_model_examples.proofs.SmallDue.{TrueDue}
 use Rattle.ca_model_examples.proofs.UsedActs.{channel-of}
 use Rattle.ca_model_examples.proofs.MovedActs.{moved-acts}
 use Rattle.ca_model_examples.proofs.MovedOwn.{moved-answers}
@@ -71,14 +73,14 @@ not-lost : outcome.Done ≡ outcome.Disconnected → ⊥
 not-lost e = (let f : true ≡ false = ap is-done e in cc)
 
 abbrev Read : (o p : Outcome) → ℕ → Intent → Outcome → Type 0
-Read o p i intent q = Reads AnyDue Shows Means (moved_world o p) 0 (moved_lines o p) i intent q
+Read o p i intent q = Reads TrueDue Shows Means (moved_world o p) 0 (moved_lines o p) i intent q
 
 abbrev live-first : (o p : Outcome) → Read o p 1 (On 0 Create) outcome.Done
 live-first o p = record {
   n = 1;
   c = ended;
   on = (refl, refl);
-  j = 0;
+  j = 1;
   t = created_told;
   h = step 1 1 2;
   read = (refl, refl, refl, omega arith);
@@ -92,7 +94,7 @@ live-again o p = record {
   n = 0;
   c = found_again;
   on = (refl, refl);
-  j = 0;
+  j = 1;
   t = created_told;
   h = step 1 5 6;
   read = (refl, refl, refl, omega arith);
@@ -176,7 +178,7 @@ no-request o p intent n k asks h =
     each-at (λ (i : ℕ) (s : Sent). s.intent ≡ intent → ⊥) found_again.up ((λ e. subst IsRequest (sym e) asks), ((λ e. subst IsRequest (sym e) asks), tt)) k h.3.0 (up-at o p n k h.0 h.3.0 h.1 h.3.1) h.3.2
 
 -- the one loss is of the channel that was live on the circuit that ended
-lost-there : (o p : Outcome) → LosesLive AnyDue Shows Means (moved_world o p) 0 (moved_lines o p) 4 0
+lost-there : (o p : Outcome) → LosesLive TrueDue Shows Means (moved_world o p) 0 (moved_lines o p) 4 0
 lost-there o p = record {
   l = 1;
   by = live-first o p;
@@ -185,14 +187,14 @@ lost-there o p = record {
   why = inl refl;
 }
 
-moved-completes : (o p : Outcome) → CompletesOnce AnyDue Shows Means (moved_world o p) 0 (moved_lines o p)
+moved-completes : (o p : Outcome) → CompletesOnce TrueDue Shows Means (moved_world o p) 0 (moved_lines o p)
 moved-completes o p = record {
   told = told o p;
   lost = λ i channel at. (
       let four : i ≡ 4 = lost-line o p i channel at in
       let zero : 0 ≡ channel = ap channel-of (noticed-at o p i (On channel Create) outcome.Disconnected at) in
-      subst (λ (k : ℕ). LosesLive AnyDue Shows Means (moved_world o p) 0 (moved_lines o p) k channel) (sym four)
-      (subst (λ (c : ℕ). LosesLive AnyDue Shows Means (moved_world o p) 0 (moved_lines o p) 4 c) zero (lost-there o p)));
+      subst (λ (k : ℕ). LosesLive TrueDue Shows Means (moved_world o p) 0 (moved_lines o p) k channel) (sym four)
+      (subst (λ (c : ℕ). LosesLive TrueDue Shows Means (moved_world o p) 0 (moved_lines o p) 4 c) zero (lost-there o p)));
   once = λ i l intent q r uses a b. absurd (no-use o p i intent q a uses);
   one_call = λ i l intent e f a b. (called-at o p i intent e a).0 ∙ sym (called-at o p l intent f b).0;
   sent = λ intent e asks h. absurd (subst IsRequest (sym (called-at o p h.0 intent e h.1).1) asks);
@@ -224,10 +226,18 @@ no-finish o p n k l e y at ends =
       | inr f ↦ cc
     ]
 
-moved-writes : (o p : Outcome) → NotTwice AnyDue Shows Means (moved_world o p)
+no-drop : (o p : Outcome) (n k l i : ℕ) (y : List Entry) → At (moved_world o p).servers l y → At y i (Withdrawn n k) → ⊥
+no-drop o p n k l i y at drops =
+    elim (only-added o p l i y _ at drops) [
+      | inl f ↦ cc
+      | inr f ↦ cc
+    ]
+
+moved-writes : (o p : Outcome) → NotTwice TrueDue Shows Means (moved_world o p)
 moved-writes o p = record {
   once = λ n k l m i j r q v u a. absurd (no-write o p n k l i r v a);
   own = λ n k l i r v a. absurd (no-write o p n k l i r v a);
+  dropped = λ n k l i y at drops. absurd (no-drop o p n k l i y at drops);
   finished = λ n k l e y at ends. absurd (no-finish o p n k l e y at ends);
   done = λ life channel number x at h. absurd (no-use o p h.0 _ outcome.Done (subst (λ (s : List Line). At s h.0 (Noticed (On channel (Request Put number)) outcome.Done)) (one-at (moved_lines o p) life x at).1 h.1) tt);
   failed = λ life n k l i r intent s x v at h stands applied. no-write o p n k l i r v applied;
@@ -261,23 +271,26 @@ module _ (server live read value : ℕ) (stays : Bool) (shows : Shows (adding 0 
   c = moved server live read value stays
 
   -- the one update
-  update-at : (k i a : ℕ) → At (updates c) i (k, Update a) → (k ≡ 1) × (i ≡ 1) × (a ≡ 0)
+  update-at : (k i a : ℕ) → At (updates c) i (k, Update a) → (k ≡ 1) × (i ≡ 2) × (a ≡ 0)
   update-at k i a at =
-      each-at (λ (j : ℕ) (u : ℕ × Cause). u ≡ (k, Update a) → (k ≡ 1) × (j ≡ 1) × (a ≡ 0)) (updates c) (
+      each-at (λ (j : ℕ) (u : ℕ × Cause). u ≡ (k, Update a) → (k ≡ 1) × (j ≡ 2) × (a ≡ 0)) (updates c) (
         (λ e. absurd (let f : false ≡ true = ap (λ (u : ℕ × Cause). is-update u.1) e in cc)),
-        ((λ e. (ap (λ (u : ℕ × Cause). u.0) (sym e), refl, ap (λ (u : ℕ × Cause). item u.1) (sym e))), tt),
+        (
+          (λ e. absurd (let f : false ≡ true = ap (λ (u : ℕ × Cause). is-update u.1) e in cc)),
+          ((λ e. (ap (λ (u : ℕ × Cause). u.0) (sym e), refl, ap (λ (u : ℕ × Cause). item u.1) (sym e))), tt),
+        ),
       ) i _ at refl
 
   told-at : (j a : ℕ) (t : Told) → At c.down j t → t.cause ≡ Update a → (a ≡ 0) × (t ≡ first_update 1 value)
   told-at j a t at cause =
-      each-at (λ (i : ℕ) (u : Told). u.cause ≡ Update a → (a ≡ 0) × (u ≡ first_update 1 value)) c.down ((λ f. absurd cc), ((λ f. (ap item (sym f), refl)), tt)) j t at cause
+      each-at (λ (i : ℕ) (u : Told). u.cause ≡ Update a → (a ≡ 0) × (u ≡ first_update 1 value)) c.down ((λ f. absurd cc), ((λ f. absurd cc), ((λ f. (ap item (sym f), refl)), tt))) j t at cause
 
-  follows : Follows AnyDue Shows Means c (moved_entries value) 1 0 (adding 0 9) (long value ∷ [])
+  follows : Follows TrueDue Shows Means c (moved_entries value) 1 0 (adding 0 9) (long value ∷ [])
   follows = record {
     rising = λ i j a b lt f g. (let d = (update-at 1 i a f).1 in let e = (update-at 1 j b g).1 in absurd (omega (arith, d, e, lt)));
     matches = λ a h. (let e = (update-at 1 h.0 a h.1).2 in omega (arith, e));
     shows = λ j a t at place cause. (let w = told-at j a t at cause in (long value, subst (λ (k : ℕ). At (long value ∷ []) k (long value)) (sym w.0) refl, subst (λ (u : Told). Shows (adding 0 9).message (long value) u.message) (sym w.1) shows));
-    newest = λ lasts. (0, (1, refl), refl);
+    newest = λ lasts. (0, (2, refl), refl);
   }
 
   -- where the subscription was asked for
@@ -286,16 +299,16 @@ module _ (server live read value : ℕ) (stays : Bool) (shows : Shows (adding 0 
       each-at (λ (i : ℕ) (z : Sent). z.intent ≡ On channel (Subscribe number) → (i ≡ 1) × (z ≡ adding 0 9)) c.up ((λ e. absurd cc), ((λ e. (refl, refl)), tt)) k s at is
 
   abbrev Followed : (k r : ℕ) → Sent → Step → Type 0
-  Followed k r s h = Follows AnyDue Shows Means c (moved_entries value) k r s (matching (moved_entries value) h.logged r (mask_in s.message))
+  Followed k r s h = Follows TrueDue Shows Means c (moved_entries value) k r s (matching (moved_entries value) h.logged r (mask_in s.message))
 
-  followed : (k r : ℕ) (s : Sent) (h : Step) → k ≡ 1 → h ≡ step 1 1 1 → s ≡ adding 0 9 → r ≡ 0 → Followed k r s h
+  followed : (k r : ℕ) (s : Sent) (h : Step) → k ≡ 1 → h ≡ step 2 1 1 → s ≡ adding 0 9 → r ≡ 0 → Followed k r s h
   followed k r s h e f g i =
       subst (λ (z : ℕ). Followed z r s h) (sym e) (subst (λ (z : ℕ). Followed 1 z s h) (sym i) (subst (λ (z : Sent). Followed 1 0 z h) (sym g) (subst (λ (z : Step). Followed 1 0 (adding 0 9) z) (sym f) follows)))
 
-  moved-follows : (o p : Outcome) → FollowsRecord AnyDue Shows Means server c (moved_lines o p) (moved_entries value)
+  moved-follows : (o p : Outcome) → FollowsRecord TrueDue Shows Means server c (moved_lines o p) (moved_entries value)
   moved-follows o p k r s h accepted =
       let asked = asked-at k accepted.0 accepted.1 s accepted.2 accepted.3 in
-      let first : h ≡ step 1 1 1 = some_is h (step 1 1 1) (sym (subst (λ (i : ℕ). At c.handled i h) asked.0 accepted.4)) in
+      let first : h ≡ step 2 1 1 = some_is h (step 2 1 1) (sym (subst (λ (i : ℕ). At c.handled i h) asked.0 accepted.4)) in
       let acted = accepted.5 in
       let has = acted.6.0.9 in
       let there = at-take acted.1.logged (moved_entries value) has.1.0 _ (at-take acted.6.0.2.logged (take acted.1.logged (moved_entries value)) has.1.0 _ has.1.1) in
@@ -312,7 +325,7 @@ saw-7 o p means = (
     n = 1;
     c = ended;
     on = (refl, refl);
-    j = 1;
+    j = 2;
     t = first_update 1 7;
     h = step 2 3 4;
     read = (refl, refl, refl, omega arith);
@@ -330,7 +343,7 @@ saw-5 o p means = (
     n = 0;
     c = found_again;
     on = (refl, refl);
-    j = 1;
+    j = 2;
     t = first_update 1 5;
     h = step 2 6 7;
     read = (refl, refl, refl, omega arith);
@@ -346,11 +359,11 @@ reading : (o p : Outcome) (i : ℕ) (intent : Intent) (r q : Outcome) → On 0 (
 reading o p i intent r q e f h = subst (λ (d : Intent). Reading o p i d q) e (subst (λ (b : Outcome). Reading o p i (On 0 (Subscribe 0)) b) f h)
 
 -- where the server's message about an EVENT_ADD is, on each circuit
-about-at : (o p : Outcome) (n j k : ℕ) (c : Circuit) (t : Told) → At (moved_world o p).circuits n c → At c.down j t → t.place ≡ k → k ≡ 1 → j ≡ 1
+about-at : (o p : Outcome) (n j k : ℕ) (c : Circuit) (t : Told) → At (moved_world o p).circuits n c → At c.down j t → t.place ≡ k → k ≡ 1 → j ≡ 2
 about-at o p n j k c t here at place is =
     elim (two-at found_again ended n c here) [
-      | inl e ↦ each-at (λ (i : ℕ) (u : Told). u.place ≡ k → i ≡ 1) found_again.down ((λ f. absurd (omega (arith, f, is))), ((λ f. refl), tt)) j t (subst (λ (d : Circuit). At d.down j t) e.1 at) place
-      | inr e ↦ each-at (λ (i : ℕ) (u : Told). u.place ≡ k → i ≡ 1) ended.down ((λ f. absurd (omega (arith, f, is))), ((λ f. refl), tt)) j t (subst (λ (d : Circuit). At d.down j t) e.1 at) place
+      | inl e ↦ each-at (λ (i : ℕ) (u : Told). u.place ≡ k → i ≡ 2) found_again.down ((λ f. absurd (omega (arith, f, is))), ((λ f. absurd (omega (arith, f, is))), ((λ f. refl), tt))) j t (subst (λ (d : Circuit). At d.down j t) e.1 at) place
+      | inr e ↦ each-at (λ (i : ℕ) (u : Told). u.place ≡ k → i ≡ 2) ended.down ((λ f. absurd (omega (arith, f, is))), ((λ f. absurd (omega (arith, f, is))), ((λ f. refl), tt))) j t (subst (λ (d : Circuit). At d.down j t) e.1 at) place
     ]
 
 updated-intent : (o p : Outcome) (i : ℕ) (intent : Intent) (q : Outcome) → At (moved_lines o p) i (Updated intent q) → On 0 (Subscribe 0) ≡ intent
@@ -360,7 +373,7 @@ updated-intent o p i intent q at =
       ((λ f. absurd cc), ((λ f. absurd cc), ((λ f. ap intent-of f), ((λ f. absurd cc), ((λ f. absurd cc), ((λ f. ap intent-of f), tt)))))),
     ) i _ at refl
 
-moved-sees : (o p : Outcome) → Means (first_update 1 7).message o → Means (first_update 1 5).message p → Sees AnyDue Shows Means (moved_world o p) 0 (moved_lines o p)
+moved-sees : (o p : Outcome) → Means (first_update 1 7).message o → Means (first_update 1 5).message p → Sees TrueDue Shows Means (moved_world o p) 0 (moved_lines o p)
 moved-sees o p first later = record {
   own = λ i intent q at. each-at (λ (k : ℕ) (l : Line). l ≡ Updated intent q → Reading o p k intent q) (moved_lines o p) (
     (λ f. absurd cc),
@@ -384,16 +397,16 @@ moved-sees o p first later = record {
       absurd (omega (arith, d, e, early)));
 }
 
-pub moved-safe : (o p : Outcome) → Means (first_update 1 7).message o → Means (first_update 1 5).message p → Safe AnyDue Shows Means (moved_world o p)
+pub moved-safe : (o p : Outcome) → Means (first_update 1 7).message o → Means (first_update 1 5).message p → IsSafe ports rules (moved_world o p)
 moved-safe o p first later = record {
-  acts = each-circuit o p (ActsOnRecord AnyDue Shows Means) (moved-acts 0 5 6 5 true o p) (moved-acts 1 1 3 7 false o p);
+  acts = each-circuit o p (ActsOnRecord TrueDue Shows Means) (moved-acts 0 5 6 5 true o p) (moved-acts 1 1 3 7 false o p);
   own = (
-    each-circuit o p (AnswersOwn AnyDue Shows Means) (moved-answers 0 5 6 5 true (omega arith) (omega arith) o p) (moved-answers 1 1 3 7 false (omega arith) (omega arith) o p),
-    each-life o p (CompletesOnce AnyDue Shows Means (moved_world o p)) (moved-completes o p),
+    each-circuit o p (AnswersOwn TrueDue Shows Means) (moved-answers 0 5 6 5 true (omega arith) (omega arith) o p) (moved-answers 1 1 3 7 false (omega arith) (omega arith) o p),
+    each-life o p (CompletesOnce TrueDue Shows Means (moved_world o p)) (moved-completes o p),
   );
   applied = moved-writes o p;
   sees = (
-    each-circuit o p (FollowsRecord AnyDue Shows Means) (moved-follows 0 5 6 5 true shows-5 o p) (moved-follows 1 1 3 7 false shows-7 o p),
-    each-life o p (Sees AnyDue Shows Means (moved_world o p)) (moved-sees o p first later),
+    each-circuit o p (FollowsRecord TrueDue Shows Means) (moved-follows 0 5 6 5 true shows-5 o p) (moved-follows 1 1 3 7 false shows-7 o p),
+    each-life o p (Sees TrueDue Shows Means (moved_world o p)) (moved-sees o p first later),
   );
 }

@@ -93,12 +93,12 @@ module _ (server live read value : ℕ) (stays : Bool) where
   no-clear l r at is = each-at (λ (i : ℕ) (m : Fields). Is command.ClearChannel m → ⊥) cl.sent ((λ e. omega (arith, e)), ((λ e. omega (arith, e)), tt)) l r at is
 
   no-disconnect : (l : ℕ) (r : Fields) → At cl.came l r → Is command.ServerDisconnect r → ⊥
-  no-disconnect l r at is = each-at (λ (i : ℕ) (m : Fields). Is command.ServerDisconnect m → ⊥) cl.came ((λ e. omega (arith, e)), ((λ e. omega (arith, e)), tt)) l r at is
+  no-disconnect l r at is = each-at (λ (i : ℕ) (m : Fields). Is command.ServerDisconnect m → ⊥) cl.came ((λ e. omega (arith, e)), ((λ e. omega (arith, e)), ((λ e. omega (arith, e)), tt))) l r at is
 
   no-cancel : (l : ℕ) (r : Fields) → At cl.sent l r → Is command.EventCancel r → ⊥
   no-cancel l r at is = each-at (λ (i : ℕ) (m : Fields). Is command.EventCancel m → ⊥) cl.sent ((λ e. omega (arith, e)), ((λ e. omega (arith, e)), tt)) l r at is
 
-  has-channel : HasChannel cl 1 0 0 1 5
+  has-channel : HasChannel cl 1 0 1 1 5
   has-channel = (
     creating.message,
     created_told.message,
@@ -153,7 +153,7 @@ module _ (server live read value : ℕ) (stays : Bool) where
   moved-client = record {
     on_channel = λ k m at. each-at OnIts cl.sent (
       (λ on. not-on on),
-      ((λ on. (0, 0, 1, has-channel, inr ((λ e. omega (arith, e)), (λ l r after reads is. no-disconnect l r reads.1 is.0)))), tt),
+      ((λ on. (0, 1, 1, has-channel, inr ((λ e. omega (arith, e)), (λ l r after reads is. no-disconnect l r reads.1 is.0)))), tt),
     ) k m at;
     cancels = λ k m at is. absurd (no-cancel k m at is);
     ids = ids-free;
@@ -161,8 +161,12 @@ module _ (server live read value : ℕ) (stays : Bool) where
 
   -- ---- the server
 
-  creation-at : (i a : ℕ) (m : Fields) → At sv.sent i m → Creates m a → i ≡ 0
-  creation-at i a m at is = each-at (λ (j : ℕ) (z : Fields). Creates z a → j ≡ 0) sv.sent ((λ e. refl), ((λ e. (let f = e.0 in absurd (omega (arith, f)))), tt)) i m at is
+  creation-at : (i a : ℕ) (m : Fields) → At sv.sent i m → Creates m a → i ≡ 1
+  creation-at i a m at is =
+      each-at (λ (j : ℕ) (z : Fields). Creates z a → j ≡ 1) sv.sent (
+        (λ e. (let f = e.0 in absurd (omega (arith, f)))),
+        ((λ e. refl), ((λ e. (let f = e.0 in absurd (omega (arith, f)))), tt)),
+      ) i m at is
 
   -- what is said of each update
   abbrev IsMeant : ℕ → Fields → Type 0
@@ -178,11 +182,14 @@ module _ (server live read value : ℕ) (stays : Bool) where
     updates = λ k m at. each-at IsMeant sv.sent (
       (λ is. absurd (omega (arith, is))),
       (
-        (λ is full. (0, 1, 1, (adding 0 9).message, (created_told.message, refl, (refl, refl), refl, omega arith, (λ j r reads clears. no-clear j r reads.1 clears.0)), (λ l z low high. absurd (omega (arith, low, high))), (1, refl, refl, omega arith, omega arith), (refl, refl), (λ l r after reads is. absurd (no-cancel l r reads.1 is)))),
-        tt,
+        (λ is. absurd (omega (arith, is))),
+        (
+          (λ is full. (1, 1, 1, (adding 0 9).message, (created_told.message, refl, (refl, refl), refl, omega arith, (λ j r reads clears. no-clear j r reads.1 clears.0)), (λ l z low high. absurd (omega (arith, low, high))), (2, refl, refl, omega arith, omega arith), (refl, refl), (λ l r after reads is. absurd (no-cancel l r reads.1 is)))),
+          tt,
+        ),
       ),
     ) k m at;
-    confirmations = λ k m at is none. absurd (each-at (λ (i : ℕ) (z : Fields). Is command.EventAdd z → z.payload ≡ [] → ⊥) sv.sent ((λ e f. omega (arith, e)), ((λ e f. cc), tt)) k m at is none);
+    confirmations = λ k m at is none. absurd (each-at (λ (i : ℕ) (z : Fields). Is command.EventAdd z → z.payload ≡ [] → ⊥) sv.sent ((λ e f. omega (arith, e)), ((λ e f. omega (arith, e)), ((λ e f. cc), tt))) k m at is none);
     disconnects = λ k m at is. absurd (no-disconnect k m at is);
   }
 

@@ -32,14 +32,35 @@ clear-at l r at is =
     ) l r at is
 
 -- the one SERVER_DISCONN
-disconnect-at : (l : ℕ) (r : Fields) → At cl.came l r → Is command.ServerDisconnect r → l ≡ 2
+disconnect-at : (l : ℕ) (r : Fields) → At cl.came l r → Is command.ServerDisconnect r → l ≡ 3
 disconnect-at l r at is =
-    each-at (λ (i : ℕ) (m : Fields). Is command.ServerDisconnect m → i ≡ 2) cl.came (
+    each-at (λ (i : ℕ) (m : Fields). Is command.ServerDisconnect m → i ≡ 3) cl.came (
       (λ e. absurd (omega (arith, e))),
-      ((λ e. absurd (omega (arith, e))), ((λ e. refl), ((λ e. absurd (omega (arith, e))), ((λ e. absurd (omega (arith, e))), ((λ e. absurd (omega (arith, e))), tt))))),
+      (
+        (λ e. absurd (omega (arith, e))),
+        (
+          (λ e. absurd (omega (arith, e))),
+          (
+            (λ e. refl),
+            (
+              (λ e. absurd (omega (arith, e))),
+              (
+                (λ e. absurd (omega (arith, e))),
+                (
+                  (λ e. absurd (omega (arith, e))),
+                  (
+                    (λ e. absurd (omega (arith, e))),
+                    tt,
+                  ),
+                ),
+              ),
+            ),
+          ),
+        ),
+      ),
     ) l r at is
 
-first-channel : (k : ℕ) → 1 ≤ k → k ≤ 2 → HasChannel cl k 0 0 1 5
+first-channel : (k : ℕ) → 1 ≤ k → k ≤ 2 → HasChannel cl k 0 1 1 5
 first-channel k low high = (
   creating.message,
   created_told.message,
@@ -51,7 +72,7 @@ first-channel k low high = (
   (λ l r after early at clears. let e = clear-at l r at clears.0 in absurd (omega (arith, e, early, high))),
 )
 
-second-channel : HasChannel cl 4 3 4 1 5
+second-channel : HasChannel cl 4 3 6 1 5
 second-channel = (
   creating.message,
   created_told.message,
@@ -100,11 +121,11 @@ ids-at l r (Ioid n) at gives =
     ) l r at gives.0)
 
 cid-free : IsFree cl 0 3
-cid-free = (3, 3, creating.message, clearing.message, refl, refl, refl, omega arith, omega arith, inl (refl, inr (refl, refl)))
+cid-free = (4, 3, creating.message, clearing.message, refl, refl, refl, omega arith, omega arith, inl (refl, inr (refl, refl)))
 
 subscription-free : IsFree cl 1 4
 subscription-free =
-    (3, 3, (adding 0 9).message, clearing.message, refl, refl, refl, omega arith, omega arith, inr (inr (inr (0, 0, 1, first-channel 1 (omega arith) (omega arith), refl, refl))))
+    (4, 3, (adding 0 9).message, clearing.message, refl, refl, refl, omega arith, omega arith, inr (inr (inr (0, 1, 1, first-channel 1 (omega arith) (omega arith), refl, refl))))
 
 ids-free : (l k : ℕ) (r m : Fields) (a b : Id) → l < k → At cl.sent l r → At cl.sent k m → Gives r a → Gives m b → SameIndex a b → IsFree cl l k
 ids-free l k r m a b lt p q g h same =
@@ -170,12 +191,12 @@ reopened-client = record {
   on_channel = λ k m at. each-at OnIts cl.sent (
     (λ on. not-on creating.message refl on),
     (
-      (λ on. (0, 0, 1, first-channel 1 (omega arith) (omega arith), inr ((λ e. omega (arith, e)), (λ l r after reads is. (let e = disconnect-at l r reads.1 is.0 in let b : reads.0 ≡ 2 = some_is reads.0 2 (sym (subst (λ (z : ℕ). At cl.read z reads.0) e reads.2)) in let c = reads.4 in omega (arith, b, c)))))),
+      (λ on. (0, 1, 1, first-channel 1 (omega arith) (omega arith), inr ((λ e. omega (arith, e)), (λ l r after reads is. (let e = disconnect-at l r reads.1 is.0 in let b : reads.0 ≡ 2 = some_is reads.0 2 (sym (subst (λ (z : ℕ). At cl.read z reads.0) e reads.2)) in let c = reads.4 in omega (arith, b, c)))))),
       (
-        (λ on. (0, 0, 1, first-channel 2 (omega arith) (omega arith), inl (refl, refl))),
+        (λ on. (0, 1, 1, first-channel 2 (omega arith) (omega arith), inl (refl, refl))),
         (
           (λ on. not-on creating.message refl on),
-          ((λ on. (3, 4, 1, second-channel, inr ((λ e. omega (arith, e)), (λ l r after reads is. (let e = disconnect-at l r reads.1 is.0 in omega (arith, e, after)))))), tt),
+          ((λ on. (3, 6, 1, second-channel, inr ((λ e. omega (arith, e)), (λ l r after reads is. (let e = disconnect-at l r reads.1 is.0 in omega (arith, e, after)))))), tt),
         ),
       ),
     ),
@@ -189,25 +210,37 @@ reopened-client = record {
 
 -- ---- the server
 
--- the CLEAR_CHANNEL was read after three messages
-clear-read : (i k j : ℕ) (r : Fields) → ReadsBetween sv i k j r → Is command.ClearChannel r → (i < 3) × (3 ≤ k)
+-- the CLEAR_CHANNEL was read after four messages
+clear-read : (i k j : ℕ) (r : Fields) → ReadsBetween sv i k j r → Is command.ClearChannel r → (i < 4) × (4 ≤ k)
 clear-read i k j r reads is =
     let e = clear-at j r reads.1 is in
-    let b : reads.0 ≡ 3 = some_is reads.0 3 (sym (subst (λ (z : ℕ). At sv.read z reads.0) e reads.2)) in
+    let b : reads.0 ≡ 4 = some_is reads.0 4 (sym (subst (λ (z : ℕ). At sv.read z reads.0) e reads.2)) in
     (subst (λ (z : ℕ). i < z) b reads.3, subst (λ (z : ℕ). z ≤ k) b reads.4)
 
 -- the two creations
-creation-at : (i a : ℕ) (m : Fields) → At sv.sent i m → Creates m a → ((i ≡ 0) ⊎ (i ≡ 4)) × (a ≡ 5)
+creation-at : (i a : ℕ) (m : Fields) → At sv.sent i m → Creates m a → ((i ≡ 1) ⊎ (i ≡ 6)) × (a ≡ 5)
 creation-at i a m at is =
-    each-at (λ (j : ℕ) (z : Fields). Creates z a → ((j ≡ 0) ⊎ (j ≡ 4)) × (a ≡ 5)) sv.sent (
-      (λ e. (inl refl, sym e.1)),
+    each-at (λ (j : ℕ) (z : Fields). Creates z a → ((j ≡ 1) ⊎ (j ≡ 6)) × (a ≡ 5)) sv.sent (
+      (λ e. (let f = e.0 in absurd (omega (arith, f)))),
       (
-        (λ e. (let f = e.0 in absurd (omega (arith, f)))),
+        (λ e. (inl refl, sym e.1)),
         (
           (λ e. (let f = e.0 in absurd (omega (arith, f)))),
           (
             (λ e. (let f = e.0 in absurd (omega (arith, f)))),
-            ((λ e. (inr refl, sym e.1)), ((λ e. (let f = e.0 in absurd (omega (arith, f)))), tt)),
+            (
+              (λ e. (let f = e.0 in absurd (omega (arith, f)))),
+              (
+                (λ e. (let f = e.0 in absurd (omega (arith, f)))),
+                (
+                  (λ e. (inr refl, sym e.1)),
+                  (
+                    (λ e. (let f = e.0 in absurd (omega (arith, f)))),
+                    tt,
+                  ),
+                ),
+              ),
+            ),
           ),
         ),
       ),
@@ -227,7 +260,7 @@ sids-free i k a b m r lt p q x y =
     elim f.0 [
       | inl z ↦ elim g.0 [
         | inl w ↦ absurd (omega (arith, z, w, lt))
-        | inr w ↦ (2, clearing.message, (3, refl, refl, omega (arith, z), omega (arith, w)), (refl, sym f.1))
+        | inr w ↦ (2, clearing.message, (4, refl, refl, omega (arith, z), omega (arith, w)), (refl, sym f.1))
       ]
       | inr z ↦ elim g.0 [
         | inl w ↦ absurd (omega (arith, z, w, lt))
@@ -249,14 +282,23 @@ reopened-server = record {
   updates = λ k m at. each-at IsMeant sv.sent (
     (λ is. absurd (omega (arith, is))),
     (
-      (λ is full. (0, 1, 1, (adding 0 9).message, (created_told.message, refl, (refl, refl), refl, omega arith, (λ j r reads clears. (let e = (clear-read 0 1 j r reads clears.0).1 in omega (arith, e)))), (λ l z low high. absurd (omega (arith, low, high))), (1, refl, refl, omega arith, omega arith), (refl, refl), (λ l r after reads is. absurd (no-cancel l r reads.1 is)))),
+      (λ is. absurd (omega (arith, is))),
       (
-        (λ is. absurd (omega (arith, is))),
+        (λ is full. (1, 1, 1, (adding 0 9).message, (created_told.message, refl, (refl, refl), refl, omega arith, (λ j r reads clears. (let e = (clear-read 1 2 j r reads clears.0).1 in omega (arith, e)))), (λ l z low high. absurd (omega (arith, low, high))), (2, refl, refl, omega arith, omega arith), (refl, refl), (λ l r after reads is. absurd (no-cancel l r reads.1 is)))),
         (
           (λ is. absurd (omega (arith, is))),
           (
             (λ is. absurd (omega (arith, is))),
-            ((λ is full. (4, 4, 1, (adding 0 9).message, (created_told.message, refl, (refl, refl), refl, omega arith, (λ j r reads clears. (let e = (clear-read 4 5 j r reads clears.0).0 in omega (arith, e)))), (λ l z low high. absurd (omega (arith, low, high))), (5, refl, refl, omega arith, omega arith), (refl, refl), (λ l r after reads is. absurd (no-cancel l r reads.1 is)))), tt),
+            (
+              (λ is. absurd (omega (arith, is))),
+              (
+                (λ is. absurd (omega (arith, is))),
+                (
+                  (λ is full. (6, 4, 1, (adding 0 9).message, (created_told.message, refl, (refl, refl), refl, omega arith, (λ j r reads clears. (let e = (clear-read 6 7 j r reads clears.0).0 in omega (arith, e)))), (λ l z low high. absurd (omega (arith, low, high))), (7, refl, refl, omega arith, omega arith), (refl, refl), (λ l r after reads is. absurd (no-cancel l r reads.1 is)))),
+                  tt,
+                ),
+              ),
+            ),
           ),
         ),
       ),
@@ -264,18 +306,60 @@ reopened-server = record {
   ) k m at;
   confirmations = λ k m at is none. absurd (each-at (λ (i : ℕ) (z : Fields). Is command.EventAdd z → z.payload ≡ [] → ⊥) sv.sent (
     (λ e f. omega (arith, e)),
-    ((λ e f. cc), ((λ e f. omega (arith, e)), ((λ e f. omega (arith, e)), ((λ e f. omega (arith, e)), ((λ e f. cc), tt))))),
+    (
+      (λ e f. omega (arith, e)),
+      (
+        (λ e f. cc),
+        (
+          (λ e f. omega (arith, e)),
+          (
+            (λ e f. omega (arith, e)),
+            (
+              (λ e f. omega (arith, e)),
+              (
+                (λ e f. omega (arith, e)),
+                (
+                  (λ e f. cc),
+                  tt,
+                ),
+              ),
+            ),
+          ),
+        ),
+      ),
+    ),
   ) k m at is none);
   disconnects = λ k m at is.
-      (let only = each-at (λ (i : ℕ) (z : Fields). Is command.ServerDisconnect z → (i ≡ 2) × (z.p1 ≡ 1)) sv.sent (
+      (let only = each-at (λ (i : ℕ) (z : Fields). Is command.ServerDisconnect z → (i ≡ 3) × (z.p1 ≡ 1)) sv.sent (
         (λ e. absurd (omega (arith, e))),
-        ((λ e. absurd (omega (arith, e))), ((λ e. (refl, refl)), ((λ e. absurd (omega (arith, e))), ((λ e. absurd (omega (arith, e))), ((λ e. absurd (omega (arith, e))), tt))))),
+        (
+          (λ e. absurd (omega (arith, e))),
+          (
+            (λ e. absurd (omega (arith, e))),
+            (
+              (λ e. (refl, refl)),
+              (
+                (λ e. absurd (omega (arith, e))),
+                (
+                  (λ e. absurd (omega (arith, e))),
+                  (
+                    (λ e. absurd (omega (arith, e))),
+                    (
+                      (λ e. absurd (omega (arith, e))),
+                      tt,
+                    ),
+                  ),
+                ),
+              ),
+            ),
+          ),
+        ),
       ) k m at is in
       subst (λ (z : ℕ). (i sid : ℕ) × IsOpenAt sv z i m.p1 sid × IsConnected sv i z m.p1) (sym only.0) (
-      subst (λ (z : ℕ). (i sid : ℕ) × IsOpenAt sv 2 i z sid × IsConnected sv i 2 z) (sym only.1) (
-        0,
+      subst (λ (z : ℕ). (i sid : ℕ) × IsOpenAt sv 3 i z sid × IsConnected sv i 3 z) (sym only.1) (
+        1,
         5,
-        (created_told.message, refl, (refl, refl), refl, omega arith, (λ j r reads clears. (let e = (clear-read 0 2 j r reads clears.0).1 in omega (arith, e)))),
+        (created_told.message, refl, (refl, refl), refl, omega arith, (λ j r reads clears. (let e = (clear-read 1 3 j r reads clears.0).1 in omega (arith, e)))),
         (λ l z low high here gone. (let e = disconnect-at l z here gone.0 in omega (arith, e, high))),
       )));
 }
@@ -347,19 +431,28 @@ created-on k channel m =
     ) k m.0 m.1 m.2
 
 -- the replies to CREATE_CHAN
-pub reply-at : (j k sid : ℕ) (t : Told) → At reopened.down j t → t.place ≡ k → Creates t.message sid → ((j ≡ 0) × (k ≡ 0)) ⊎ ((j ≡ 4) × (k ≡ 3))
+pub reply-at : (j k sid : ℕ) (t : Told) → At reopened.down j t → t.place ≡ k → Creates t.message sid → ((j ≡ 1) × (k ≡ 0)) ⊎ ((j ≡ 6) × (k ≡ 3))
 reply-at j k sid t at place is =
-    each-at (λ (i : ℕ) (u : Told). u.place ≡ k → Creates u.message sid → ((i ≡ 0) × (k ≡ 0)) ⊎ ((i ≡ 4) × (k ≡ 3))) reopened.down (
-      (λ p e. inl (refl, sym p)),
+    each-at (λ (i : ℕ) (u : Told). u.place ≡ k → Creates u.message sid → ((i ≡ 1) × (k ≡ 0)) ⊎ ((i ≡ 6) × (k ≡ 3))) reopened.down (
+      (λ p e. (let f = e.0 in absurd (omega (arith, f)))),
       (
-        (λ p e. (let f = e.0 in absurd (omega (arith, f)))),
+        (λ p e. inl (refl, sym p)),
         (
           (λ p e. (let f = e.0 in absurd (omega (arith, f)))),
           (
             (λ p e. (let f = e.0 in absurd (omega (arith, f)))),
             (
-              (λ p e. inr (refl, sym p)),
-              ((λ p e. (let f = e.0 in absurd (omega (arith, f)))), tt),
+              (λ p e. (let f = e.0 in absurd (omega (arith, f)))),
+              (
+                (λ p e. (let f = e.0 in absurd (omega (arith, f)))),
+                (
+                  (λ p e. inr (refl, sym p)),
+                  (
+                    (λ p e. (let f = e.0 in absurd (omega (arith, f)))),
+                    tt,
+                  ),
+                ),
+              ),
             ),
           ),
         ),
@@ -385,14 +478,14 @@ removal-at e r at =
 
 gone-at-three : (k : ℕ) (h : Step) → k ≡ 3 → At reopened.handled k h → In (take h.logged reopened_entries) (Removed 0)
 gone-at-three k h is at =
-    let e : h ≡ step 4 3 3 = some_is h (step 4 3 3) (sym (subst (λ (i : ℕ). At reopened.handled i h) is at)) in
+    let e : h ≡ step 5 3 3 = some_is h (step 5 3 3) (sym (subst (λ (i : ℕ). At reopened.handled i h) is at)) in
     subst (λ (g : Step). In (take g.logged reopened_entries) (Removed 0)) (sym e) (1, refl)
 
 gone-told : (j k sid r e : ℕ) → Created reopened reopened_entries j k sid r → At reopened_entries e (Removed r)
     → (q : ℕ) × (t : Told) × At reopened.down q t × (t.place ≡ k) × (t.cause ≡ Removal)
 gone-told j k sid r e made gone =
     elim (reply-at j k sid made.0 made.3 made.4 made.6) [
-      | inl h ↦ (2, disconnected, refl, sym h.1, refl)
+      | inl h ↦ (3, disconnected, refl, sym h.1, refl)
       | inr h ↦
           let is : r ≡ 0 = removal-at e r gone in
           let there = gone-at-three k made.2 h.1 made.8 in

@@ -1,4 +1,4 @@
--- A channel that comes back keeps the clauses on the client's log, on writes and on subscribers.
+-- A channel that comes back: what the client's log tells, that no write is applied twice, and what the subscriber saw.
 use Rattle.std.proofs.Common.{◌≡◌, ℕ, ◌<◌, ◌⊎◌, inl, inr, List, [], ◌∷◌, refl, sym, ap, subst, ◌∙◌, arith}
 use Rattle.std.specs.Prelude.{take, true, false, Bool, Option, None}
 use Rattle.ca_text.specs.Place.{At}
@@ -11,15 +11,17 @@ use Rattle.ca_dbr.specs.Elements.{Elements}
 use Rattle.ca_dbr.specs.Elements as E
 use Rattle.ca_model.specs.Speech.{In, Stored}
 use Rattle.ca_wire.specs.Messages.{mask_in}
-use Rattle.ca_model.specs.History.{Circuit, Intent, On, OfCircuit, Create, Request, Subscribe, Put, Line, Entry, Sent, Told, Step, Added, Applied, Finished, Removed, Clear, Reply, Update, Cause, Called, Noticed, Updated}
+use Rattle.ca_model.specs.History.{Circuit, Intent, On, OfCircuit, Create, Request, Subscribe, Put, Line, Entry, Sent, Told, Step, Added, Applied, Finished, Withdrawn, Removed, Clear, Reply, Update, Cause, Called, Noticed, Updated}
 use Rattle.ca_model_safe.specs.Channels.{IsApplied, IsLost, IsOpen, IsRequest, IsUse, Stands, before, updates}
-use Rattle.ca_model_safe.specs.Headline.{ActsOnRecord, AnswersOwn, CompletesOnce, Follows, FollowsRecord, LosesLive, NotTwice, Reads, Safe, Sees}
+use Rattle.ca_model_safe.specs.Headline.{ActsOnRecord, AnswersOwn, CompletesOnce, Follows, FollowsRecord, LosesLive, NotTwice, Reads, Sees}
+use Rattle.ca_model_safe.specs.Known.{IsSafe}
 use Rattle.ca_requests.specs.Meaning.{Means}
 use Rattle.ca_model_safe.specs.Posts.{matching}
 use Rattle.ca_model.specs.Updates.{Shows}
-use Rattle.ca_model_examples.specs.Worlds.{AnyDue, adding, clearing, created_told, creating, disconnected, long, step}
+use Rattle.ca_model_examples.specs.Worlds.{adding, clearing, created_told, creating, disconnected, long, ports, reply, rules, step}
 use Rattle.ca_model_examples.specs.Safe.{first_update, reopened, reopened_entries, reopened_lines, reopened_world}
 use Rattle.ca_model_examples.proofs.Lists.{each-at, at-take, at-take-within, one-at}
+use Rattle.ca_model_examples.proofs.SmallDue.{TrueDue}
 use Rattle.ca_model_examples.proofs.Reopened.{each-circuit, each-life, intent-of, is-held, reply-at}
 use Rattle.ca_model_examples.proofs.ReopenedSafe.{added-at, reopened-acts}
 use Rattle.ca_model_examples.proofs.ReopenedOwn.{reopened-answers}
@@ -41,15 +43,15 @@ no-clear-line o n h = (is-held o n 0 0).0 h
 
 abbrev Bears : (o : Outcome) → ℕ → Intent → Outcome → Type 0
 Bears o i intent p =
-    ((by : Reads AnyDue Shows Means (reopened_world o) 0 (reopened_lines o) i intent p) × (by.t.cause ≡ Reply))
+    ((by : Reads TrueDue Shows Means (reopened_world o) 0 (reopened_lines o) i intent p) × (by.t.cause ≡ Reply))
     ⊎ ((p ≡ outcome.Disconnected) × IsLost (reopened_world o) 0 (reopened_lines o) i intent)
 
-abbrev read-first : (o : Outcome) → Reads AnyDue Shows Means (reopened_world o) 0 (reopened_lines o) 1 (On 0 Create) outcome.Done
+abbrev read-first : (o : Outcome) → Reads TrueDue Shows Means (reopened_world o) 0 (reopened_lines o) 1 (On 0 Create) outcome.Done
 read-first o = record {
   n = 0;
   c = reopened;
   on = (refl, refl);
-  j = 0;
+  j = 1;
   t = created_told;
   h = step 1 1 2;
   read = (refl, refl, refl, omega arith);
@@ -67,8 +69,8 @@ live-again o = inl (
     n = 0;
     c = reopened;
     on = (refl, refl);
-    j = 4;
-    t = record { message = created_told.message; place = 3; cause = Reply };
+    j = 6;
+    t = reply 3 created_told.message;
     h = step 4 5 6;
     read = (refl, refl, refl, omega arith);
     own = (creating, refl, refl);
@@ -80,7 +82,7 @@ live-again o = inl (
 
 was-lost : (o : Outcome) → Bears o 4 (On 0 Create) outcome.Disconnected
 was-lost o =
-    inr (refl, (0, 0, 0, Create, reopened, refl, refl, refl, (creating, refl, refl), inr (inr (2, disconnected, step 2 4 5, refl, refl, refl, (creating, refl, refl), omega arith, omega arith, omega arith, omega arith))))
+    inr (refl, (0, 0, 0, Create, reopened, refl, refl, refl, (creating, refl, refl), inr (inr (3, disconnected, step 2 4 5, refl, refl, refl, (creating, refl, refl), omega arith, omega arith, omega arith, omega arith))))
 
 no-use : (o : Outcome) (i : ℕ) (intent : Intent) (p : Outcome) → At (reopened_lines o) i (Noticed intent p) → IsUse intent → ⊥
 no-use o i intent p at uses =
@@ -142,16 +144,16 @@ no-request o intent n k asks h =
     ) k h.3.0 at h.3.2
 
 -- the one loss is of the channel that was live
-lost-there : (o : Outcome) → LosesLive AnyDue Shows Means (reopened_world o) 0 (reopened_lines o) 4 0
+lost-there : (o : Outcome) → LosesLive TrueDue Shows Means (reopened_world o) 0 (reopened_lines o) 4 0
 lost-there o = record {
   l = 1;
   by = read-first o;
   live = (refl, omega arith, λ h. no-clear-line o 4 h);
   since = λ m low high at. (let four : m ≡ 4 = lost-line o m 0 at in omega (arith, four, high));
-  why = inr (2, disconnected, step 2 4 5, refl, refl, refl, refl, omega arith, omega arith);
+  why = inr (3, disconnected, step 2 4 5, refl, refl, refl, refl, omega arith, omega arith);
 }
 
-reopened-completes : (o : Outcome) → CompletesOnce AnyDue Shows Means (reopened_world o) 0 (reopened_lines o)
+reopened-completes : (o : Outcome) → CompletesOnce TrueDue Shows Means (reopened_world o) 0 (reopened_lines o)
 reopened-completes o = record {
   told = λ i intent p at. each-at (λ (k : ℕ) (l : Line). l ≡ Noticed intent p → Bears o k intent p) (reopened_lines o) (
     (λ f. absurd cc),
@@ -175,8 +177,8 @@ reopened-completes o = record {
   lost = λ i channel at. (
       let four : i ≡ 4 = lost-line o i channel at in
       let zero : 0 ≡ channel = lost-channel o i channel at in
-      subst (λ (k : ℕ). LosesLive AnyDue Shows Means (reopened_world o) 0 (reopened_lines o) k channel) (sym four)
-      (subst (λ (c : ℕ). LosesLive AnyDue Shows Means (reopened_world o) 0 (reopened_lines o) 4 c) zero (lost-there o)));
+      subst (λ (k : ℕ). LosesLive TrueDue Shows Means (reopened_world o) 0 (reopened_lines o) k channel) (sym four)
+      (subst (λ (c : ℕ). LosesLive TrueDue Shows Means (reopened_world o) 0 (reopened_lines o) 4 c) zero (lost-there o)));
   once = λ i l intent p q uses a b. absurd (no-use o i intent p a uses);
   one_call = λ i l intent e f a b. (called-at o i intent e a).0 ∙ sym (called-at o l intent f b).0;
   sent = λ intent e asks h. absurd (subst IsRequest (sym (called-at o h.0 intent e h.1).1) asks);
@@ -190,10 +192,11 @@ no-write o n k l i r v a =
     let at : At reopened_entries i (Applied n k r v a.1) = subst (λ (s : List Entry). At s i (Applied n k r v a.1)) (one-at reopened_entries l a.0 a.2).1 a.3 in
     each-at (λ (j : ℕ) (e : Entry). e ≡ Applied n k r v a.1 → ⊥) reopened_entries ((λ e. cc), ((λ e. cc), ((λ e. cc), tt))) i _ at refl
 
-reopened-writes : (o : Outcome) → NotTwice AnyDue Shows Means (reopened_world o)
+reopened-writes : (o : Outcome) → NotTwice TrueDue Shows Means (reopened_world o)
 reopened-writes o = record {
   once = λ n k l m i j r q v u a. absurd (no-write o n k l i r v a);
   own = λ n k l i r v a. absurd (no-write o n k l i r v a);
+  dropped = λ n k l i y at drops. absurd (each-at (λ (j : ℕ) (z : Entry). z ≡ Withdrawn n k → ⊥) reopened_entries ((λ f. cc), ((λ f. cc), ((λ f. cc), tt))) i _ (subst (λ (s : List Entry). At s i (Withdrawn n k)) (one-at reopened_entries l y at).1 drops) refl);
   finished = λ n k l e y at ends. absurd (each-at (λ (j : ℕ) (z : Entry). z ≡ Finished n k → ⊥) reopened_entries ((λ f. cc), ((λ f. cc), ((λ f. cc), tt))) e _ (subst (λ (s : List Entry). At s e (Finished n k)) (one-at reopened_entries l y at).1 ends) refl);
   done = λ life channel number x at h. absurd (no-use o h.0 _ outcome.Done (subst (λ (s : List Line). At s h.0 (Noticed (On channel (Request Put number)) outcome.Done)) (one-at (reopened_lines o) life x at).1 h.1) tt);
   failed = λ life n k l i r intent s x v at h stands applied. no-write o n k l i r v applied;
@@ -210,21 +213,27 @@ is-update (Update a) = true
 is-update c = false
 
 -- the one update of each EVENT_ADD
-update-at : (k i a : ℕ) → (k ≡ 1) ⊎ (k ≡ 4) → At (updates reopened) i (k, Update a) → (a ≡ 0) × (((k ≡ 1) × (i ≡ 1)) ⊎ ((k ≡ 4) × (i ≡ 5)))
+update-at : (k i a : ℕ) → (k ≡ 1) ⊎ (k ≡ 4) → At (updates reopened) i (k, Update a) → (a ≡ 0) × (((k ≡ 1) × (i ≡ 2)) ⊎ ((k ≡ 4) × (i ≡ 7)))
 update-at k i a is at =
-    each-at (λ (j : ℕ) (u : ℕ × Cause). u ≡ (k, Update a) → (a ≡ 0) × (((k ≡ 1) × (j ≡ 1)) ⊎ ((k ≡ 4) × (j ≡ 5)))) (updates reopened) (
+    each-at (λ (j : ℕ) (u : ℕ × Cause). u ≡ (k, Update a) → (a ≡ 0) × (((k ≡ 1) × (j ≡ 2)) ⊎ ((k ≡ 4) × (j ≡ 7)))) (updates reopened) (
       (λ e. absurd (let f : false ≡ true = ap (λ (u : ℕ × Cause). is-update u.1) e in cc)),
       (
-        (λ e. (ap (λ (u : ℕ × Cause). item u.1) (sym e), inl (ap (λ (u : ℕ × Cause). u.0) (sym e), refl))),
+        (λ e. absurd (let f : false ≡ true = ap (λ (u : ℕ × Cause). is-update u.1) e in cc)),
         (
-          (λ e. absurd (let f : false ≡ true = ap (λ (u : ℕ × Cause). is-update u.1) e in cc)),
+          (λ e. (ap (λ (u : ℕ × Cause). item u.1) (sym e), inl (ap (λ (u : ℕ × Cause). u.0) (sym e), refl))),
           (
             (λ e. absurd (let f : false ≡ true = ap (λ (u : ℕ × Cause). is-update u.1) e in cc)),
             (
               (λ e. absurd (let f : false ≡ true = ap (λ (u : ℕ × Cause). is-update u.1) e in cc)),
               (
-                (λ e. (ap (λ (u : ℕ × Cause). item u.1) (sym e), inr (ap (λ (u : ℕ × Cause). u.0) (sym e), refl))),
-                tt,
+                (λ e. absurd (let f : false ≡ true = ap (λ (u : ℕ × Cause). is-update u.1) e in cc)),
+                (
+                  (λ e. absurd (let f : false ≡ true = ap (λ (u : ℕ × Cause). is-update u.1) e in cc)),
+                  (
+                    (λ e. (ap (λ (u : ℕ × Cause). item u.1) (sym e), inr (ap (λ (u : ℕ × Cause). u.0) (sym e), refl))),
+                    tt,
+                  ),
+                ),
               ),
             ),
           ),
@@ -236,7 +245,28 @@ told-at : (j k a : ℕ) (t : Told) → At reopened.down j t → t.place ≡ k �
 told-at j k a t at place cause =
     each-at (λ (i : ℕ) (u : Told). u.place ≡ k → u.cause ≡ Update a → (a ≡ 0) × (((k ≡ 1) × (u ≡ first_update 1 21)) ⊎ ((k ≡ 4) × (u ≡ first_update 4 5)))) reopened.down (
       (λ p c. absurd cc),
-      ((λ p c. (ap item (sym c), inl (sym p, refl))), ((λ p c. absurd cc), ((λ p c. absurd cc), ((λ p c. absurd cc), ((λ p c. (ap item (sym c), inr (sym p, refl))), tt))))),
+      (
+        (λ p c. absurd cc),
+        (
+          (λ p c. (ap item (sym c), inl (sym p, refl))),
+          (
+            (λ p c. absurd cc),
+            (
+              (λ p c. absurd cc),
+              (
+                (λ p c. absurd cc),
+                (
+                  (λ p c. absurd cc),
+                  (
+                    (λ p c. (ap item (sym c), inr (sym p, refl))),
+                    tt,
+                  ),
+                ),
+              ),
+            ),
+          ),
+        ),
+      ),
     ) j t at place cause
 
 shows-21 : Shows (adding 0 9).message (long 21) (first_update 1 21).message
@@ -247,7 +277,7 @@ shows-5 : Shows (adding 0 9).message (long 5) (first_update 4 5).message
 unfolding E.signed_bytes_4
 shows-5 = (record { base = base.Long; form = form.Plain }, refl, refl)
 
-follows-1 : Follows AnyDue Shows Means reopened reopened_entries 1 0 (adding 0 9) (long 21 ∷ [])
+follows-1 : Follows TrueDue Shows Means reopened reopened_entries 1 0 (adding 0 9) (long 21 ∷ [])
 follows-1 = record {
   rising = λ i j a b lt p q. elim (update-at 1 i a (inl refl) p).1 [
     | inl x ↦ elim (update-at 1 j b (inl refl) q).1 [
@@ -264,7 +294,7 @@ follows-1 = record {
   newest = λ lasts. absurd (lasts.1 (1, refl));
 }
 
-follows-4 : Follows AnyDue Shows Means reopened reopened_entries 4 1 (adding 0 9) (long 5 ∷ [])
+follows-4 : Follows TrueDue Shows Means reopened reopened_entries 4 1 (adding 0 9) (long 5 ∷ [])
 follows-4 = record {
   rising = λ i j a b lt p q. elim (update-at 4 i a (inr refl) p).1 [
     | inr x ↦ elim (update-at 4 j b (inr refl) q).1 [
@@ -278,7 +308,7 @@ follows-4 = record {
     | inr x ↦ (long 5, subst (λ (k : ℕ). At (long 5 ∷ []) k (long 5)) (sym w.0) refl, subst (λ (u : Told). Shows (adding 0 9).message (long 5) u.message) (sym x.1) shows-5)
     | inl x ↦ (let e = x.0 in absurd (omega (arith, e)))
   ]);
-  newest = λ lasts. (0, (5, refl), refl);
+  newest = λ lasts. (0, (7, refl), refl);
 }
 
 -- where a subscription was asked for
@@ -290,28 +320,28 @@ asked-at k channel number s at is =
     ) k s at is
 
 abbrev Followed : (k r : ℕ) → Sent → Step → Type 0
-Followed k r s h = Follows AnyDue Shows Means reopened reopened_entries k r s (matching reopened_entries h.logged r (mask_in s.message))
+Followed k r s h = Follows TrueDue Shows Means reopened reopened_entries k r s (matching reopened_entries h.logged r (mask_in s.message))
 
 followed : (k m r : ℕ) (s : Sent) (h g : Step) → k ≡ m → h ≡ g → s ≡ adding 0 9 → (q : ℕ) → r ≡ q → Followed m q (adding 0 9) g → Followed k r s h
 followed k m r s h g a b c q d f =
     subst (λ (z : ℕ). Followed z r s h) (sym a) (subst (λ (z : ℕ). Followed m z s h) (sym d) (subst (λ (z : Sent). Followed m q z h) (sym c) (subst (λ (z : Step). Followed m q (adding 0 9) z) (sym b) f)))
 
 -- when the second EVENT_ADD is handled, the channel to the removed record is not open
-old-gone : (k r : ℕ) (h : Step) → k ≡ 4 → h ≡ step 5 3 3 → (i l sid : ℕ) → sid ≡ 5 → r ≡ 0 → IsOpen (before reopened k h) (take h.logged reopened_entries) i l sid r → ⊥
+old-gone : (k r : ℕ) (h : Step) → k ≡ 4 → h ≡ step 7 3 3 → (i l sid : ℕ) → sid ≡ 5 → r ≡ 0 → IsOpen (before reopened k h) (take h.logged reopened_entries) i l sid r → ⊥
 old-gone k r h is-four is-step i l sid is-sid is-zero open-one =
     let a = subst (λ (z : ℕ). IsOpen (before reopened z h) (take h.logged reopened_entries) i l sid r) is-four open-one in
-    let b : IsOpen (before reopened 4 (step 5 3 3)) (take 3 reopened_entries) i l sid r = subst (λ (z : Step). IsOpen (before reopened 4 z) (take z.logged reopened_entries) i l sid r) is-step a in
-    let c : IsOpen (before reopened 4 (step 5 3 3)) (take 3 reopened_entries) i l 5 r = subst (λ (z : ℕ). IsOpen (before reopened 4 (step 5 3 3)) (take 3 reopened_entries) i l z r) is-sid b in
-    let d : IsOpen (before reopened 4 (step 5 3 3)) (take 3 reopened_entries) i l 5 0 = subst (λ (z : ℕ). IsOpen (before reopened 4 (step 5 3 3)) (take 3 reopened_entries) i l 5 z) is-zero c in
-    elim (reply-at i l 5 d.0.0 (at-take 5 reopened.down i d.0.0 d.0.3) d.0.4 d.0.6) [
+    let b : IsOpen (before reopened 4 (step 7 3 3)) (take 3 reopened_entries) i l sid r = subst (λ (z : Step). IsOpen (before reopened 4 z) (take z.logged reopened_entries) i l sid r) is-step a in
+    let c : IsOpen (before reopened 4 (step 7 3 3)) (take 3 reopened_entries) i l 5 r = subst (λ (z : ℕ). IsOpen (before reopened 4 (step 7 3 3)) (take 3 reopened_entries) i l z r) is-sid b in
+    let d : IsOpen (before reopened 4 (step 7 3 3)) (take 3 reopened_entries) i l 5 0 = subst (λ (z : ℕ). IsOpen (before reopened 4 (step 7 3 3)) (take 3 reopened_entries) i l 5 z) is-zero c in
+    elim (reply-at i l 5 d.0.0 (at-take 7 reopened.down i d.0.0 d.0.3) d.0.4 d.0.6) [
       | inl e ↦ (let first = e.1 in d.2 2 clearing (omega (arith, first)) (omega arith) refl (refl, refl))
       | inr e ↦
           let at : At (take 4 reopened.handled) 3 d.0.2 = subst (λ (z : ℕ). At (take 4 reopened.handled) z d.0.2) e.1 d.0.8 in
-          let g : d.0.2 ≡ step 4 3 3 = some_is d.0.2 (step 4 3 3) (sym at) in
+          let g : d.0.2 ≡ step 5 3 3 = some_is d.0.2 (step 5 3 3) (sym at) in
           d.0.9.3 (subst (λ (z : Step). In (take z.logged (take 3 reopened_entries)) (Removed 0)) (sym g) (1, refl))
     ]
 
-reopened-follows : (o : Outcome) → FollowsRecord AnyDue Shows Means 0 reopened (reopened_lines o) reopened_entries
+reopened-follows : (o : Outcome) → FollowsRecord TrueDue Shows Means 0 reopened (reopened_lines o) reopened_entries
 reopened-follows o k r s h accepted =
     let asked = asked-at k accepted.0 accepted.1 s accepted.2 accepted.3 in
     let acted = accepted.5 in
@@ -322,21 +352,21 @@ reopened-follows o k r s h accepted =
     let within = at-take-within acted.1.logged reopened_entries has.1.0 _ inner in
     elim asked.0 [
       | inl first ↦
-          let g : h ≡ step 1 1 1 = some_is h (step 1 1 1) (sym (subst (λ (i : ℕ). At reopened.handled i h) first accepted.4)) in
-          let f : acted.1 ≡ step 1 1 1 = some_is acted.1 (step 1 1 1) (sym (subst (λ (i : ℕ). At reopened.handled i acted.1) first acted.5)) in
+          let g : h ≡ step 2 1 1 = some_is h (step 2 1 1) (sym (subst (λ (i : ℕ). At reopened.handled i h) first accepted.4)) in
+          let f : acted.1 ≡ step 2 1 1 = some_is acted.1 (step 2 1 1) (sym (subst (λ (i : ℕ). At reopened.handled i acted.1) first acted.5)) in
           let one : acted.1.logged ≡ 1 = ap (λ (z : Step). z.logged) f in
           elim (added-at has.1.0 r has.0 here) [
-            | inl x ↦ followed k 1 r s h (step 1 1 1) first g asked.1 0 x.1 follows-1
+            | inl x ↦ followed k 1 r s h (step 2 1 1) first g asked.1 0 x.1 follows-1
             | inr x ↦ (let e = x.0 in absurd (omega (arith, e, within, one)))
           ]
       | inr last ↦
-          let g : h ≡ step 5 3 3 = some_is h (step 5 3 3) (sym (subst (λ (i : ℕ). At reopened.handled i h) last accepted.4)) in
+          let g : h ≡ step 7 3 3 = some_is h (step 7 3 3) (sym (subst (λ (i : ℕ). At reopened.handled i h) last accepted.4)) in
           elim (added-at has.1.0 r has.0 here) [
-            | inr x ↦ followed k 4 r s h (step 5 3 3) last g asked.1 1 x.1 follows-4
+            | inr x ↦ followed k 4 r s h (step 7 3 3) last g asked.1 1 x.1 follows-4
             | inl x ↦
                 let second : s ≡ acted.0 = some_is s acted.0 (sym accepted.2 ∙ acted.4) in
                 let sid : acted.0.message.p1 ≡ 5 = ap (λ (z : Sent). z.message.p1) (sym second ∙ asked.1) in
-                let g2 : acted.1 ≡ step 5 3 3 = some_is acted.1 (step 5 3 3) (sym (subst (λ (i : ℕ). At reopened.handled i acted.1) last acted.5)) in
+                let g2 : acted.1 ≡ step 7 3 3 = some_is acted.1 (step 7 3 3) (sym (subst (λ (i : ℕ). At reopened.handled i acted.1) last acted.5)) in
                 absurd (old-gone k r acted.1 last g2 acted.2 acted.3 acted.0.message.p1 sid x.1 acted.6)
           ]
     ]
@@ -351,7 +381,7 @@ updated-at o i intent p at =
     ) i _ at refl
 
 abbrev Reading : (o : Outcome) → ℕ → Intent → Outcome → Type 0
-Reading o i intent p = (by : Reads AnyDue Shows Means (reopened_world o) 0 (reopened_lines o) i intent p) × (a : ℕ) × (by.t.cause ≡ Update a)
+Reading o i intent p = (by : Reads TrueDue Shows Means (reopened_world o) 0 (reopened_lines o) i intent p) × (a : ℕ) × (by.t.cause ≡ Update a)
 
 saw : (o : Outcome) → Means (first_update 1 21).message o → Reading o 3 (On 0 (Subscribe 0)) o
 saw o means = (
@@ -359,7 +389,7 @@ saw o means = (
     n = 0;
     c = reopened;
     on = (refl, refl);
-    j = 1;
+    j = 2;
     t = first_update 1 21;
     h = step 2 3 4;
     read = (refl, refl, refl, omega arith);
@@ -372,19 +402,28 @@ saw o means = (
 )
 
 -- where the server's messages about an EVENT_ADD are
-about-at : (j k : ℕ) (t : Told) → At reopened.down j t → t.place ≡ k → (k ≡ 1) ⊎ (k ≡ 4) → ((k ≡ 1) × (j ≡ 1)) ⊎ ((k ≡ 4) × (j ≡ 5))
+about-at : (j k : ℕ) (t : Told) → At reopened.down j t → t.place ≡ k → (k ≡ 1) ⊎ (k ≡ 4) → ((k ≡ 1) × (j ≡ 2)) ⊎ ((k ≡ 4) × (j ≡ 7))
 about-at j k t at place is =
-    each-at (λ (i : ℕ) (u : Told). u.place ≡ k → ((k ≡ 1) × (i ≡ 1)) ⊎ ((k ≡ 4) × (i ≡ 5))) reopened.down (
+    each-at (λ (i : ℕ) (u : Told). u.place ≡ k → ((k ≡ 1) × (i ≡ 2)) ⊎ ((k ≡ 4) × (i ≡ 7))) reopened.down (
       (λ p. elim is [ inl e ↦ absurd (omega (arith, p, e)) | inr e ↦ absurd (omega (arith, p, e)) ]),
       (
-        (λ p. inl (sym p, refl)),
+        (λ p. elim is [ inl e ↦ absurd (omega (arith, p, e)) | inr e ↦ absurd (omega (arith, p, e)) ]),
         (
-          (λ p. elim is [ inl e ↦ absurd (omega (arith, p, e)) | inr e ↦ absurd (omega (arith, p, e)) ]),
+          (λ p. inl (sym p, refl)),
           (
             (λ p. elim is [ inl e ↦ absurd (omega (arith, p, e)) | inr e ↦ absurd (omega (arith, p, e)) ]),
             (
               (λ p. elim is [ inl e ↦ absurd (omega (arith, p, e)) | inr e ↦ absurd (omega (arith, p, e)) ]),
-              ((λ p. inr (sym p, refl)), tt),
+              (
+                (λ p. elim is [ inl e ↦ absurd (omega (arith, p, e)) | inr e ↦ absurd (omega (arith, p, e)) ]),
+                (
+                  (λ p. elim is [ inl e ↦ absurd (omega (arith, p, e)) | inr e ↦ absurd (omega (arith, p, e)) ]),
+                  (
+                    (λ p. inr (sym p, refl)),
+                    tt,
+                  ),
+                ),
+              ),
             ),
           ),
         ),
@@ -404,7 +443,7 @@ same-message j i k t u p q a b is lt =
       ]
     ]
 
-reopened-sees : (o : Outcome) → Means (first_update 1 21).message o → Sees AnyDue Shows Means (reopened_world o) 0 (reopened_lines o)
+reopened-sees : (o : Outcome) → Means (first_update 1 21).message o → Sees TrueDue Shows Means (reopened_world o) 0 (reopened_lines o)
 reopened-sees o means = record {
   own = λ i intent p at. (let e = updated-at o i intent p at in
       subst (λ (k : ℕ). Reading o k intent p) (sym e.0) (subst (λ (d : Intent). Reading o 3 d p) e.1 (subst (λ (q : Outcome). Reading o 3 (On 0 (Subscribe 0)) q) e.2 (saw o means))));
@@ -416,10 +455,10 @@ reopened-sees o means = record {
       absurd (same-message j by.j by.t.place t by.t (subst (λ (d : Circuit). At d.down j t) c here) (subst (λ (d : Circuit). At d.down by.j by.t) c by.read.0) place refl is early));
 }
 
-pub reopened-safe : (o : Outcome) → Means (first_update 1 21).message o → Safe AnyDue Shows Means (reopened_world o)
+pub reopened-safe : (o : Outcome) → Means (first_update 1 21).message o → IsSafe ports rules (reopened_world o)
 reopened-safe o means = record {
-  acts = each-circuit o (ActsOnRecord AnyDue Shows Means) (reopened-acts AnyDue o);
-  own = (each-circuit o (AnswersOwn AnyDue Shows Means) (reopened-answers o), each-life o (CompletesOnce AnyDue Shows Means (reopened_world o)) (reopened-completes o));
+  acts = each-circuit o (ActsOnRecord TrueDue Shows Means) (reopened-acts TrueDue o);
+  own = (each-circuit o (AnswersOwn TrueDue Shows Means) (reopened-answers o), each-life o (CompletesOnce TrueDue Shows Means (reopened_world o)) (reopened-completes o));
   applied = reopened-writes o;
-  sees = (each-circuit o (FollowsRecord AnyDue Shows Means) (reopened-follows o), each-life o (Sees AnyDue Shows Means (reopened_world o)) (reopened-sees o means));
+  sees = (each-circuit o (FollowsRecord TrueDue Shows Means) (reopened-follows o), each-life o (Sees TrueDue Shows Means (reopened_world o)) (reopened-sees o means));
 }

@@ -1,4 +1,4 @@
--- A channel that comes back keeps the first clause.
+-- A channel that comes back: each message acts on the record of its channel.
 use Rattle.std.proofs.Common.{◌≡◌, ℕ, ◌<◌, ◌≤◌, ◌⊎◌, inl, inr, List, refl, sym, ap, subst, ◌∙◌, arith}
 use Rattle.std.specs.Prelude.{take, Option}
 use Rattle.ca_text.specs.Place.{At}
@@ -13,7 +13,7 @@ use Rattle.ca_model_safe.specs.Channels.{Has, IsNamed, IsOpen, IsUse, KeepNames,
 use Rattle.ca_model_safe.specs.Headline.{Acted, ActsOnRecord}
 use Rattle.ca_requests.specs.Meaning.{Means}
 use Rattle.ca_model.specs.Updates.{Shows}
-use Rattle.ca_model_examples.specs.Worlds.{adding, clearing, created_told, creating, long, step, temp, temp_name}
+use Rattle.ca_model_examples.specs.Worlds.{adding, clearing, created_told, creating, long, reply, rights_told, step, temp, temp_name}
 use Rattle.ca_model_examples.specs.Safe.{reopened, reopened_entries, reopened_lines}
 use Rattle.ca_model_examples.proofs.Lists.{each-at, at-take, at-take-within}
 use Rattle.ca_model_examples.proofs.UsedActs.{is-fine}
@@ -42,19 +42,56 @@ added-at e r s at =
     ) e _ at refl
 
 -- creations and clears, by place
-creations : (n i : ℕ) (t : Told) → At (take n reopened.down) i t → Creates t.message 5 → ((i ≡ 0) ⊎ (i ≡ 4)) × (i < n)
-creations n i t at is = (
-  each-at (λ (j : ℕ) (u : Told). Creates u.message 5 → (j ≡ 0) ⊎ (j ≡ 4)) reopened.down (
-    (λ e. inl refl),
-    (
+pub sid-at : (j sid : ℕ) (t : Told) → At reopened.down j t → Creates t.message sid → sid ≡ 5
+sid-at j sid t at is =
+    each-at (λ (i : ℕ) (u : Told). Creates u.message sid → sid ≡ 5) reopened.down (
       (λ e. (let f = e.0 in absurd (omega (arith, f)))),
+      (
+        (λ e. sym e.1),
+        (
+          (λ e. (let f = e.0 in absurd (omega (arith, f)))),
+          (
+            (λ e. (let f = e.0 in absurd (omega (arith, f)))),
+            (
+              (λ e. (let f = e.0 in absurd (omega (arith, f)))),
+              (
+                (λ e. (let f = e.0 in absurd (omega (arith, f)))),
+                (
+                  (λ e. sym e.1),
+                  (
+                    (λ e. (let f = e.0 in absurd (omega (arith, f)))),
+                    tt,
+                  ),
+                ),
+              ),
+            ),
+          ),
+        ),
+      ),
+    ) j t at is
+
+creations : (n i : ℕ) (t : Told) → At (take n reopened.down) i t → Creates t.message 5 → ((i ≡ 1) ⊎ (i ≡ 6)) × (i < n)
+creations n i t at is = (
+  each-at (λ (j : ℕ) (u : Told). Creates u.message 5 → (j ≡ 1) ⊎ (j ≡ 6)) reopened.down (
+    (λ e. (let f = e.0 in absurd (omega (arith, f)))),
+    (
+      (λ e. inl refl),
       (
         (λ e. (let f = e.0 in absurd (omega (arith, f)))),
         (
           (λ e. (let f = e.0 in absurd (omega (arith, f)))),
           (
-            (λ e. inr refl),
-            ((λ e. (let f = e.0 in absurd (omega (arith, f)))), tt),
+            (λ e. (let f = e.0 in absurd (omega (arith, f)))),
+            (
+              (λ e. (let f = e.0 in absurd (omega (arith, f)))),
+              (
+                (λ e. inr refl),
+                (
+                  (λ e. (let f = e.0 in absurd (omega (arith, f)))),
+                  tt,
+                ),
+              ),
+            ),
           ),
         ),
       ),
@@ -84,12 +121,12 @@ clears-at n l s at is = (
   at-take-within n reopened.up l s at,
 )
 
-no-later : (n i j : ℕ) (t : Told) → n ≤ 4 ⊎ (4 ≤ j) → j < i → At (take n reopened.down) i t → Creates t.message 5 → ⊥
-no-later n i j t bound after at is =
+no-later : (n i j : ℕ) (t : Told) → n ≤ 6 ⊎ (6 ≤ j) → 1 ≤ j → j < i → At (take n reopened.down) i t → Creates t.message 5 → ⊥
+no-later n i j t bound one after at is =
     let h = creations n i t at is in
     let within = h.1 in
     elim h.0 [
-      | inl e ↦ omega (arith, e, after)
+      | inl e ↦ omega (arith, e, after, one)
       | inr e ↦ elim bound [
         | inl b ↦ omega (arith, e, within, b)
         | inr b ↦ omega (arith, e, after, b)
@@ -110,41 +147,38 @@ pub first-there : (n : ℕ) → At (take 1 (take n reopened_entries)) 0 (Added 0
 first-there n at =
     (temp, (0, at), refl, (λ h. (let e = (removed-at h.0 0 (at-take n reopened_entries h.0 _ (at-take 1 (take n reopened_entries) h.0 _ h.1))).0 in let l = at-take-within 1 (take n reopened_entries) h.0 _ h.1 in omega (arith, e, l))))
 
-not-removed : (r : ℕ) → r ≡ 1 → In reopened_entries (Removed r) → ⊥
+pub not-removed : (r : ℕ) → r ≡ 1 → In reopened_entries (Removed r) → ⊥
 not-removed r is h = (let e = (removed-at h.0 r h.1).1 in omega (arith, e, is))
 
-pub open-1 : IsOpen (before reopened 1 (step 1 1 1)) (take 1 reopened_entries) 0 0 5 0
+pub open-1 : IsOpen (before reopened 1 (step 2 1 1)) (take 1 reopened_entries) 1 0 5 0
 open-1 = (
   (created_told, creating, step 0 1 1, refl, refl, refl, (refl, refl), refl, refl, first-there 1 refl),
-  (λ i t after at. no-later 1 i 0 t (inl (omega arith)) after at),
+  (λ i t after at. no-later 2 i 1 t (inl (omega arith)) (omega arith) after at),
   (λ l m after early at. no-clear 1 l 0 m (inl (omega arith)) after at),
 )
 
-pub open-2 : IsOpen (before reopened 2 (step 3 2 2)) (take 2 reopened_entries) 0 0 5 0
+pub open-2 : IsOpen (before reopened 2 (step 4 2 2)) (take 2 reopened_entries) 1 0 5 0
 open-2 = (
   (created_told, creating, step 0 1 1, refl, refl, refl, (refl, refl), refl, refl, first-there 2 refl),
-  (λ i t after at. no-later 3 i 0 t (inl (omega arith)) after at),
+  (λ i t after at. no-later 4 i 1 t (inl (omega arith)) (omega arith) after at),
   (λ l m after early at. no-clear 2 l 0 m (inl (omega arith)) after at),
 )
 
-second-told : Told
-second-told = record { message = created_told.message; place = 3; cause = Reply }
-
-pub open-4 : IsOpen (before reopened 4 (step 5 3 3)) (take 3 reopened_entries) 4 3 5 1
+pub open-4 : IsOpen (before reopened 4 (step 7 3 3)) (take 3 reopened_entries) 6 3 5 1
 open-4 = (
-  (record { message = created_told.message; place = 3; cause = Reply }, creating, step 4 3 3, refl, refl, refl, (refl, refl), refl, refl, (back, (2, refl), refl, (λ h. not-removed 1 refl (h.0, at-take 3 reopened_entries h.0 _ (at-take 3 (take 3 reopened_entries) h.0 _ h.1))))),
-  (λ i t after at. no-later 5 i 4 t (inr (omega arith)) after at),
+  (reply 3 created_told.message, creating, step 5 3 3, refl, refl, refl, (refl, refl), refl, refl, (back, (2, refl), refl, (λ h. not-removed 1 refl (h.0, at-take 3 reopened_entries h.0 _ (at-take 3 (take 3 reopened_entries) h.0 _ h.1))))),
+  (λ i t after at. no-later 7 i 6 t (inr (omega arith)) (omega arith) after at),
   (λ l m after early at. no-clear 4 l 3 m (inr (omega arith)) after at),
 )
 
-pub open-now : IsOpen reopened reopened_entries 4 3 5 1
+pub open-now : IsOpen reopened reopened_entries 6 3 5 1
 open-now = (
-  (record { message = created_told.message; place = 3; cause = Reply }, creating, step 4 3 3, refl, refl, refl, (refl, refl), refl, refl, (back, (2, refl), refl, (λ h. not-removed 1 refl (h.0, at-take 3 reopened_entries h.0 _ h.1)))),
-  (λ i t after at. no-later 6 i 4 t (inr (omega arith)) after at),
+  (reply 3 created_told.message, creating, step 5 3 3, refl, refl, refl, (refl, refl), refl, refl, (back, (2, refl), refl, (λ h. not-removed 1 refl (h.0, at-take 3 reopened_entries h.0 _ h.1)))),
+  (λ i t after at. no-later 8 i 6 t (inr (omega arith)) (omega arith) after at),
   (λ l m after early at. no-clear 5 l 3 m (inr (omega arith)) after at),
 )
 
--- ---- the clause
+-- ---- the whole
 
 -- no reply says that something failed
 clear-means : (s : Status) → Means clearing.message (outcome.Failed s) → ⊥
@@ -166,16 +200,25 @@ clear-means s h =
 none-fails : (j : ℕ) (t : Told) (s : Status) → At reopened.down j t → t.cause ≡ Reply → Means t.message (outcome.Failed s) → ⊥
 none-fails j t s at cause means =
     each-at (λ (i : ℕ) (u : Told). u.cause ≡ Reply → Means u.message (outcome.Failed s) → ⊥) reopened.down (
-      (λ c m. is-fine created_told.message s refl (λ e. omega (arith, e)) m),
+      (λ c m. is-fine rights_told.message s refl (λ e. omega (arith, e)) m),
       (
-        (λ c m. cc),
+        (λ c m. is-fine created_told.message s refl (λ e. omega (arith, e)) m),
         (
           (λ c m. cc),
           (
-            (λ c m. clear-means s m),
+            (λ c m. cc),
             (
-              (λ c m. is-fine created_told.message s refl (λ e. omega (arith, e)) m),
-              ((λ c m. cc), tt),
+              (λ c m. clear-means s m),
+              (
+                (λ c m. is-fine rights_told.message s refl (λ e. omega (arith, e)) m),
+                (
+                  (λ c m. is-fine created_told.message s refl (λ e. omega (arith, e)) m),
+                  (
+                    (λ c m. cc),
+                    tt,
+                  ),
+                ),
+              ),
             ),
           ),
         ),
@@ -194,12 +237,24 @@ replied-at j k t at place cause is =
     each-at (λ (i : ℕ) (u : Told). u.place ≡ k → u.cause ≡ Reply → ⊥) reopened.down (
       (λ p c. elim is [ inl e ↦ omega (arith, p, e) | inr e ↦ omega (arith, p, e) ]),
       (
-        (λ p c. cc),
+        (λ p c. elim is [ inl e ↦ omega (arith, p, e) | inr e ↦ omega (arith, p, e) ]),
         (
           (λ p c. cc),
           (
-            (λ p c. elim is [ inl e ↦ omega (arith, p, e) | inr e ↦ omega (arith, p, e) ]),
-            ((λ p c. elim is [ inl e ↦ omega (arith, p, e) | inr e ↦ omega (arith, p, e) ]), ((λ p c. cc), tt)),
+            (λ p c. cc),
+            (
+              (λ p c. elim is [ inl e ↦ omega (arith, p, e) | inr e ↦ omega (arith, p, e) ]),
+              (
+                (λ p c. elim is [ inl e ↦ omega (arith, p, e) | inr e ↦ omega (arith, p, e) ]),
+                (
+                  (λ p c. elim is [ inl e ↦ omega (arith, p, e) | inr e ↦ omega (arith, p, e) ]),
+                  (
+                    (λ p c. cc),
+                    tt,
+                  ),
+                ),
+              ),
+            ),
           ),
         ),
       ),
@@ -267,12 +322,12 @@ module _
     acts = λ k channel ask early meant other. each-at (λ (i : ℕ) (s : Sent). s.intent ≡ On channel ask → (r : ℕ) × Acted reopened reopened_entries i r × IsNamed (reopened_lines o) reopened_entries channel r) reopened.up (
       (λ e. absurd (other (sym (ap ask-of e)))),
       (
-        (λ e. (0, (adding 0 9, step 1 1 1, 0, 0, refl, refl, open-1), named o channel 0 (sym (ap channel-of e)) (inl refl))),
+        (λ e. (0, (adding 0 9, step 2 1 1, 1, 0, refl, refl, open-1), named o channel 0 (sym (ap channel-of e)) (inl refl))),
         (
-          (λ e. (0, (clearing, step 3 2 2, 0, 0, refl, refl, open-2), named o channel 0 (sym (ap channel-of e)) (inl refl))),
+          (λ e. (0, (clearing, step 4 2 2, 1, 0, refl, refl, open-2), named o channel 0 (sym (ap channel-of e)) (inl refl))),
           (
             (λ e. absurd (other (sym (ap ask-of e)))),
-            ((λ e. (1, (adding 0 9, step 5 3 3, 4, 3, refl, refl, open-4), named o channel 1 (sym (ap channel-of e)) (inr refl))), tt),
+            ((λ e. (1, (adding 0 9, step 7 3 3, 6, 3, refl, refl, open-4), named o channel 1 (sym (ap channel-of e)) (inr refl))), tt),
           ),
         ),
       ),
@@ -281,13 +336,10 @@ module _
     refused = λ k j r m s h here at uses acted handled gone. absurd (replied-at j k _ here refl refl (used-at k s at uses));
     live = λ channel j k sid l.
         (let on = created-on k channel l.1 in
-        let of-sid : sid ≡ 5 = each-at (λ (i : ℕ) (u : Told). Creates u.message sid → sid ≡ 5) reopened.down (
-          (λ e. sym e.1),
-          ((λ e. (let f = e.0 in absurd (omega (arith, f)))), ((λ e. (let f = e.0 in absurd (omega (arith, f)))), ((λ e. (let f = e.0 in absurd (omega (arith, f)))), ((λ e. sym e.1), ((λ e. (let f = e.0 in absurd (omega (arith, f)))), tt))))),
-        ) j l.0 l.2 l.5 in
+        let of-sid : sid ≡ 5 = sid-at j sid l.0 l.2 l.5 in
         elim (reply-at j k sid l.0 l.2 l.3 l.5) [
           | inl e ↦ (let zero-place = e.1 in absurd (l.7 2 (omega (arith, zero-place)) (clearing, refl, ap (λ (c : ℕ). On c Clear) (sym on))))
-          | inr e ↦ (1, subst (λ (i : ℕ). IsOpen reopened reopened_entries i k sid 1) (sym e.0) (subst (λ (i : ℕ). IsOpen reopened reopened_entries 4 i sid 1) (sym e.1) (subst (λ (i : ℕ). IsOpen reopened reopened_entries 4 3 i 1) (sym of-sid) open-now)), named o channel 1 on (inr refl), (λ up. inl (not-removed 1 refl)))
+          | inr e ↦ (1, subst (λ (i : ℕ). IsOpen reopened reopened_entries i k sid 1) (sym e.0) (subst (λ (i : ℕ). IsOpen reopened reopened_entries 6 i sid 1) (sym e.1) (subst (λ (i : ℕ). IsOpen reopened reopened_entries 6 3 i 1) (sym of-sid) open-now)), named o channel 1 on (inr refl), (λ up. inl (not-removed 1 refl)))
         ]);
     names = reopened-names o;
   }

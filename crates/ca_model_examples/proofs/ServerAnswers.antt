@@ -1,6 +1,6 @@
 -- The calls answer so, and not otherwise.
-use Rattle.std.proofs.Common.{◌≡◌, ◌≢◌, ℕ, ◌<◌, ◌≤◌, ◌+◌, ◌⊎◌, inl, inr, Bool, List, [], ◌∷◌, ◌++◌, length, refl, sym, ap, subst, ◌∙◌, arith, rules}
-use Rattle.std.specs.Prelude.{◌%◌, map, is_some, zero, suc, pos, true, false, Option, Some, None, replicate}
+use Rattle.std.proofs.Common.{◌≡◌, ◌≢◌, ℕ, ◌<◌, ◌≤◌, ◌+◌, inl, inr, List, [], ◌∷◌, length, refl, sym, ap, subst, ◌∙◌, arith, rules}
+use Rattle.std.specs.Prelude.{◌%◌, map, is_some, zero, suc, true, false, Some, None, replicate}
 use Rattle.std.specs.List.{flat_map}
 use Rattle.ca_arena.specs.declared.handle.Handle.{Handle}
 use Rattle.ca_text.specs.Place.{At}
@@ -9,15 +9,15 @@ use Rattle.ca_text.proofs.Places.{some_is}
 use Rattle.ca_dbr.specs.Elements.{signed_bytes_4}
 use Rattle.ca_queue.specs.Queue.{Queue, no_queue}
 use Rattle.ca_queue.specs.Waiting.{taken}
-use Rattle.ca_records.specs.Puts.{Put, Record}
+use Rattle.ca_records.specs.declared.puts.Put.{Put}
+use Rattle.ca_records.specs.Puts.{Record}
 use Rattle.ca_wire.specs.declared.header.Header.{Header}
 use Rattle.ca_wire.specs.Fields.{Fields}
-use Rattle.ca_wire.specs.Header.{HeaderFits, HeaderSpells, header_spelling, short_header, extended_header, number16, number32}
+use Rattle.ca_wire.specs.Header.{header_spelling, short_header, extended_header, number16, number32}
 use Rattle.ca_wire.specs.Message.{spelled, spelling}
 use Rattle.ca_wire.specs.Stream.{BadAt, NoneBegins, NotBad}
-use Rattle.ca_wire.specs.Messages.{version_request}
+use Rattle.ca_wire.specs.Messages.{version_reply}
 use Rattle.ca_wire.proofs.Fronts.{no-header, none-below}
-use Rattle.ca_dgram.specs.Messages.{version_message}
 use Rattle.ca_ids.specs.Table.{under}
 use Rattle.ca_model.specs.Ends.{Why}
 use Rattle.ca_model.specs.Ends as why
@@ -27,10 +27,10 @@ use Rattle.ca_model.specs.ServerSteps.{HasEnd, Leaves, Update, is_concerned}
 use Rattle.ca_model.specs.Speech.{Stored}
 use Rattle.ca_model_examples.specs.ServerHappens.{update_told}
 use Rattle.ca_model_examples.specs.ServerRows.{slow_name}
-use Rattle.ca_model_examples.specs.ServerAnswers.{AcceptsFirst, AcceptsNotSo, AddsNotSo, AddsToFirst, AnnouncesItself, AnswersSearches, ClearsItsOwn, ClosesOnBadHeader, EndsNoOther, FinishesNotSo, FinishesUnawaited, GivesBytes, IsFullAt, LeavesNotSo, NeedsBytes, PacksReplies, PumpsOn, ReportsOnce, SendsBytes, cleared_end, full_queue, misaligned, one_circuit, one_reply, two_queues, with_slow}
-use Rattle.ca_model_examples.specs.ServerWorld.{both_open, end_0, end_1, entry_2, first, link, on_temp, put_by, second, slow_now, written}
-use Rattle.ca_model_examples.specs.Worlds.{long, temp, temp_name}
-use Rattle.ca_model_examples.proofs.Lists.{Each, each-at, none-at, one-at, two-at}
+use Rattle.ca_model_examples.specs.ServerAnswers.{AcceptsFirst, AcceptsNotSo, AddsNotSo, AddsToFirst, AnnouncesItself, AnswersSearches, ClearsItsOwn, ClosesOnBadHeader, EndsNoOther, FinishesNotSo, FinishesUnawaited, GivesBytes, IsFullAt, LeavesNotSo, NeedsBytes, PacksReplies, PumpsOn, ReportsOnce, SendsBytes, cleared_end, full_queue, misaligned, one_reply, two_queues, with_slow}
+use Rattle.ca_model_examples.specs.ServerWorld.{first, on_temp, put_by, second, slow_now, written}
+use Rattle.ca_model_examples.specs.Worlds.{long, temp_name}
+use Rattle.ca_model_examples.proofs.Lists.{each-at, none-at}
 
 known : {A : Type 0} → true ≡ false → A
 known e = absurd cc
@@ -229,7 +229,7 @@ packs-replies = (
     sizes = λ i g at. each-at (Fits 2) (replicate 42 one_reply ∷ (one_reply ∷ []) ∷ []) ((some-reply, omega arith, (λ l. refl)), ((some-reply, omega arith, (λ l. absurd (omega (arith, l)))), tt)) i g at;
     are = refl;
   },
-  λ ds p. p.are ∙ ap (λ (gs : List (List Fields)). map (λ (g : List Fields). spelled (version_message ∷ g)) gs) (no-groups p.groups p.all (λ i g at. (p.sizes i g at).0)),
+  λ ds p. p.are ∙ ap (λ (gs : List (List Fields)). map (λ (g : List Fields). spelled (version_reply ∷ g)) gs) (no-groups p.groups p.all (λ i g at. (p.sizes i g at).0)),
 )
 
 no-sent : {s : Handle × Fields} → s ∷ [] ≡ [] → ⊥
@@ -266,9 +266,9 @@ finishes-not-so sent new h =
 
 pub adds-not-so : AddsNotSo
 adds-not-so = (
-  (λ new h. (let w : 61 ≤ 60 = h.0.0.within in omega (arith, w))),
-  (λ new h. h.0.0.whole (search rules)),
-  (λ new h. there-not h.0.1),
-  (λ new h. there-not h.0.1),
-  λ new h. (let w : 262145 ≤ 262144 = h.0.2.limit in omega (arith, w)),
+  (λ new behind h. (let w : 61 ≤ 60 = h.0.0.within in omega (arith, w))),
+  (λ new behind h. h.0.0.whole (search rules)),
+  (λ new behind h. there-not h.0.1),
+  (λ new behind h. there-not h.0.1),
+  λ new behind h. (let w : 262145 ≤ 262144 = h.0.2.limit in omega (arith, w)),
 )

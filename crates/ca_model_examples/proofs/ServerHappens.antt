@@ -1,19 +1,17 @@
 -- The events leave these worlds.
-use Rattle.std.proofs.Common.{◌≡◌, ◌≢◌, ℕ, ◌<◌, ◌≤◌, ◌+◌, ◌⊎◌, inl, inr, Bool, List, [], ◌∷◌, ◌++◌, length, refl, sym, ap, subst, ◌∙◌, arith, rules}
-use Rattle.std.specs.Prelude.{pos, true, false, Option, Some, None}
+use Rattle.std.proofs.Common.{◌≡◌, ◌≢◌, ℕ, ◌<◌, ◌≤◌, ◌+◌, inl, inr, List, [], ◌∷◌, length, refl, sym, ap, subst, ◌∙◌, arith, rules}
+use Rattle.std.specs.Prelude.{true, false, Some, None}
 use Rattle.std.proofs.lemmas.List.{append-nil}
-use Rattle.ca_arena.specs.declared.handle.Handle.{Handle}
 use Rattle.ca_text.specs.Place.{At}
 use Rattle.ca_text.specs.declared.refusal.Refusal.TheVariants as refusal
-use Rattle.ca_text.specs.Limits.{output_limit}
 use Rattle.ca_text.proofs.Places.{At-within, some_is}
-use Rattle.ca_dbr.specs.Elements.{longs, signed_bytes_4}
+use Rattle.ca_dbr.specs.Elements.{signed_bytes_4}
 use Rattle.ca_link.specs.Link.{LinkState, TakesFirst}
 use Rattle.ca_queue.specs.Queue.{Queue}
 use Rattle.ca_queue.specs.Waiting.{taken}
-use Rattle.ca_wire.specs.Fields.{Fields, IsPayload}
-use Rattle.ca_wire.specs.Header.{HeaderFits, header_spelling, short_header, extended_header, number16, number32}
-use Rattle.ca_wire.specs.Message.{IsMessage, Spells, header_of, spelled, spelling}
+use Rattle.ca_wire.specs.Fields.{Fields}
+use Rattle.ca_wire.specs.Header.{header_spelling, short_header, extended_header, number16, number32}
+use Rattle.ca_wire.specs.Message.{IsMessage, header_of, spelled, spelling}
 use Rattle.ca_wire.specs.Messages.{search_reply, search_request, version_request}
 use Rattle.ca_wire.specs.Stream.{Begins}
 use Rattle.ca_wire.proofs.Headers.{header-spells}
@@ -21,8 +19,8 @@ use Rattle.ca_wire.proofs.Fronts.{no-header, none-below}
 use Rattle.ca_wire.proofs.Streams.{spelled-begins}
 use Rattle.ca_dgram.specs.Datagram.{IsDatagram}
 use Rattle.ca_model.specs.Ends as why
-use Rattle.ca_model.specs.Due.{Applies, Due, KnownChannel, KnownRecord, Knows, Nothing, Serves}
-use Rattle.ca_model.specs.Server.{Open, Server, ServerEnd}
+use Rattle.ca_model.specs.Due.{Applies, Due}
+use Rattle.ca_model.specs.Server.{ServerEnd}
 use Rattle.ca_model.specs.ServerSteps.{HasEnd, Leaves, Next, Pumps, Rests, Update, knows}
 use Rattle.ca_model.specs.ServerSteps as stepped
 use Rattle.ca_model.specs.Speech.{Stored}
@@ -30,13 +28,15 @@ use Rattle.ca_model_world.specs.Events as event
 use Rattle.ca_model_world.specs.Runs.{CanBe, HasServerEnd, IsServer}
 use Rattle.ca_model_world.specs.ClientEvents.{waiting_up}
 use Rattle.ca_text.specs.Name.{IsName}
-use Rattle.ca_model_world.specs.World.{ClientSide, Joined, ServerSide, World}
+use Rattle.ca_model_world.specs.World.{ClientSide, Joined, World}
+use Rattle.ca_records.specs.Record.{HoldsValue}
+use Rattle.ca_model_examples.specs.ServerRows.{wave}
 use Rattle.ca_model_examples.specs.DueReplies.{v22}
-use Rattle.ca_model_examples.specs.ServerHappens.{AddHappens, AddsRefused, CannotBe, CutHappens, FinishHappens, FinishesRefused, LackHappens, DatagramHappens, PostHappens, PostsRefused, PumpHappens, RemoveHappens, RestartHappens, UpHappens, WriteHappens, cut, update_told, writing, written_22}
-use Rattle.ca_model_examples.specs.ServerWorld.{before, client, core_before, joined_0, number_2, end_0, entry_2, first, link, on_slow, on_temp, second, written}
+use Rattle.ca_model_examples.specs.ServerHappens.{AddHappens, AddsRefused, CannotBe, CutHappens, FinishHappens, FinishesRefused, LackHappens, DatagramHappens, PostHappens, PostsRefused, PumpHappens, RemoveHappens, RestartHappens, UpHappens, WriteHappens, cut, update_told, writing}
+use Rattle.ca_model_examples.specs.ServerWorld.{before, client, core_before, joined_0, number_2, end_0, entry_2, first, link, on_slow, on_temp, written}
 use Rattle.ca_model_examples.specs.Worlds.{long, temp, temp_name}
 use Rattle.ca_model_examples.proofs.DueReplies.{due-of, reads-22}
-use Rattle.ca_model_examples.proofs.Lists.{Each, each-at, none-at, one-at, two-at}
+use Rattle.ca_model_examples.proofs.Lists.{Each, each-at}
 
 -- ---- messages and their bytes
 
@@ -208,10 +208,13 @@ remove-happens = (
 wave-name : IsName 60 (87 ∷ 65 ∷ 86 ∷ 69 ∷ [])
 wave-name = record { some = omega arith; within = omega arith; whole = λ h. search rules }
 
+wave-holds : HoldsValue wave.count wave.value
+wave-holds = record { one = omega arith; within = omega arith; limit = omega arith }
+
 pub add-happens : AddHappens
 add-happens = (
-  record { y = _; at = refl },
-  (_, inl (((wave-name, refl, record { one = omega arith; within = omega arith; limit = omega arith }, refl), refl), refl)),
+  (record { y = _; at = refl }, (_, 2, inl (((wave-name, refl, wave-holds, refl), refl), refl))),
+  (record { y = _; at = refl }, (_, 1, inl (((wave-name, refl, wave-holds, refl), refl), refl))),
 )
 
 temp-is : IsName 60 temp_name
@@ -219,9 +222,9 @@ temp-is = record { some = omega arith; within = omega arith; whole = λ h. searc
 
 pub adds-refused : AddsRefused
 adds-refused = (
-  (record { y = _; at = refl }, (_, inr (refusal.RecordExists, (λ e. absurd cc), ((temp-is, refl), refl), refl))),
-  (record { y = _; at = refl }, (_, inr (refusal.NameLength, (λ e. absurd cc), ((λ h. (let s = h.some in omega (arith, s))), refl), refl))),
-  (record { y = _; at = refl }, (_, inr (refusal.BadCount, (λ e. absurd cc), ((wave-name, refl, (λ h. (let s = h.one in omega (arith, s)))), refl), refl))),
+  (record { y = _; at = refl }, (_, 0, inr (refusal.RecordExists, (λ e. absurd cc), ((temp-is, refl), refl), refl))),
+  (record { y = _; at = refl }, (_, 0, inr (refusal.NameLength, (λ e. absurd cc), ((λ h. (let s = h.some in omega (arith, s))), refl), refl))),
+  (record { y = _; at = refl }, (_, 0, inr (refusal.BadCount, (λ e. absurd cc), ((wave-name, refl, (λ h. (let s = h.one in omega (arith, s)))), refl), refl))),
 )
 
 -- ---- bytes come

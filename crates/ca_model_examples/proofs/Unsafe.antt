@@ -1,21 +1,26 @@
--- Each of the histories breaks its clause.
+-- Each of the histories is unsafe.
 use Rattle.std.proofs.Common.{◌≡◌, ℕ, ◌<◌, ◌≤◌, inl, inr, List, [], ◌∷◌, length, refl, sym, ap, subst, ◌∙◌, arith}
-use Rattle.std.specs.Prelude.{true, false, None, take}
+use Rattle.std.specs.Prelude.{true, false, None, slice_index_or, take}
 use Rattle.ca_text.specs.Place.{At}
 use Rattle.ca_text.specs.Status.{normal}
 use Rattle.ca_text.proofs.Places.{some_is}
 use Rattle.ca_text.specs.declared.status.Status.{Status}
 use Rattle.ca_text.specs.declared.command.Command.TheVariants as command
 use Rattle.ca_dbr.specs.declared.value.Outcome.TheVariants as outcome
+use Rattle.ca_dbr.specs.declared.data_type.BaseType.TheVariants as base
+use Rattle.ca_dbr.specs.declared.data_type.DataType.{DataType}
+use Rattle.ca_dbr.specs.declared.data_type.Form.TheVariants as form
+use Rattle.ca_dbr.specs.Elements as E
+use Rattle.ca_dbr.specs.Shown.{shown}
 use Rattle.ca_wire.specs.Fields.{Fields}
 use Rattle.ca_model.specs.Speech.{In, Is, Stored}
 use Rattle.ca_model.specs.History.{Cause, Reply, Removal, Circuit, Entry, Line, Sent, Told, Step, Added, Removed, Applied, Waits, Finished, Clear, Intent, On, Request, Read, Subscribe, Called, Update}
 use Rattle.ca_model_safe.specs.Channels.{IsFinished, IsReply, Lasts, OfCircuits}
 use Rattle.ca_model_safe.specs.Headline.{Acted, ActsOnRecord, Answered, AnswersOwn, IsBadChannel}
 use Rattle.ca_requests.specs.Meaning.{Means}
-use Rattle.ca_model.specs.Updates.{Shows}
+use Rattle.ca_model.specs.Updates.{Shows, update_in}
 use Rattle.ca_model_examples.specs.Worlds.{AnyDue, Unsafe, adding, clearing, created_told, creating, disconnected, long, put_told, putting, reading, step, temp, world}
-use Rattle.ca_model_examples.specs.Unsafe.{FollowsNot, SlowDue, UnsafeSlow, answered, answered_cleared, answered_from_new, answered_unfinished, answered_withdrawn, applied_early, applied_twice, cleared, cleared_lines, disconnected_for_nothing, finished_entries, for_nothing, foreign_refusal, from_new, gone_for_nothing, in_other_step, invented_answer, live_lines, lost_for_nothing, lost_lines, put_lines, read_lines, read_told, read_twice, refused_for_nothing, refused_write, temp_there, unanswered, unanswered_put, unanswered_read, unfinished_entries, unsaid_creation, unsaid_refusal, update_of_refused, update_of_unhandled, updated, updates_sent, withdrawn_entries, writing}
+use Rattle.ca_model_examples.specs.Unsafe.{FollowsNot, SlowDue, UnsafeSlow, answered, answered_cleared, answered_from_new, answered_unfinished, answered_withdrawn, applied_early, applied_twice, cleared, cleared_lines, disconnected_for_nothing, dropped_for_nothing, finished_entries, for_nothing, foreign_refusal, from_new, gone_for_nothing, in_other_step, invented_answer, live_lines, lost_for_nothing, lost_lines, put_lines, read_lines, read_told, read_twice, refused_for_nothing, refused_write, temp_there, unanswered, unanswered_put, unanswered_read, unfinished_entries, unsaid_creation, unsaid_refusal, update_of_refused, update_of_unhandled, updated, updates_sent, withdrawn_entries, writing}
 use Rattle.ca_model_examples.proofs.Lists.{Each, each-at, none-at, one-at, two-at}
 
 pub zero-one : ◌≡◌ {A = ℕ} 0 1 → ⊥
@@ -31,7 +36,7 @@ its-own P cs x y all n c at e f =
     let b : y ≡ h.1 = some_is y h.1 (subst (λ (k : ℕ). At (y ∷ []) k h.1) f h.2.2) in
     subst (λ (z : List Line). P n c z y) (sym a) (subst (λ (z : List Entry). P n c h.0 z) (sym b) h.3)
 
--- ---- the second clause
+-- ---- answers and notices that are not of their own request
 
 pub never-invented : Unsafe invented_answer
 never-invented s =
@@ -166,7 +171,7 @@ never-cleared s =
     let f = late-alone 0 cleared finished_entries (step 1 1 2) refl a 2 (put_told 1 8 22).message (omega arith) refl in
     let is : putting 0 8 22 ≡ a.s = some_is (putting 0 8 22) a.s a.at in
     let e = at-two f.0 f.1 in
-    f.3 2 clearing (step 1 2 2) (omega arith) refl refl (omega (arith, e)) (refl, ap (λ (r : Sent). r.message.p1) is)
+    f.3 (2, clearing, step 1 2 2, omega arith, refl, refl, omega (arith, e), (refl, ap (λ (r : Sent). r.message.p1) is))
 
 -- the put was finished, and no clear was handled
 was-finished : (r : Sent) → IsFinished 0 unanswered finished_entries 1 r
@@ -174,8 +179,8 @@ was-finished r = (
   2,
   refl,
   (1, 0, long 22, refl, omega arith, (λ j m l u after early at. absurd (omega (arith, after, early)))),
-  λ l m h later at handled before ends.
-      each-at (λ (i : ℕ) (z : Sent). 1 < i → ⊥) unanswered.up ((λ t. omega (arith, t)), ((λ t. omega (arith, t)), tt)) l m at later,
+  λ c.
+      each-at (λ (i : ℕ) (z : Sent). 1 < i → ⊥) unanswered.up ((λ t. omega (arith, t)), ((λ t. omega (arith, t)), tt)) c.0 c.1 c.4 c.3,
 )
 
 pub never-unanswered : UnsafeSlow unanswered_put
@@ -188,7 +193,7 @@ never-unanswered s =
     let e = ap (λ (t : Told). t.place) (one-at created_told a.place _ here).1 in
     zero-one (sym e)
 
--- ---- the fourth clause
+-- ---- updates that do not follow their record
 
 lasts : (ts : List Told) → Lasts (updates_sent ts) temp_there 1 0 (adding 0 9)
 lasts ts = (
@@ -214,10 +219,22 @@ loses-newest v u f =
 pub repeats : (v : Stored) → FollowsNot (updated 1 0 21 ∷ updated 1 0 21 ∷ []) (v ∷ [])
 repeats v f = (let e = f.rising 1 2 0 0 (omega arith) refl refl in omega (arith, e))
 
+-- an update that shows 22 is not that of a post of 21
+pub shows-another : FollowsNot (updated 1 0 22 ∷ []) (long 21 ∷ [])
+unfolding E.signed_bytes_4
+shows-another f =
+    let h = f.shows 1 0 (updated 1 0 22) refl refl refl in
+    let is : h.0 ≡ long 21 = (one-at (long 21) 0 h.0 h.1).1 in
+    let shows : Shows (adding 0 9).message (long 21) (updated 1 0 22).message = subst (λ (v : Stored). Shows (adding 0 9).message v (updated 1 0 22).message) is h.2 in
+    let typed : record { base = base.Long; form = form.Plain } ≡ shows.0 = some_is _ shows.0 shows.1 in
+    let m : (updated 1 0 22).message ≡ (updated 1 0 21).message = subst (λ (t : DataType). (updated 1 0 22).message ≡ update_in (record { sid = 5; id = 9; data_type = 5; count = 1 }) (long 21) t (shown (long 21).value 1 t.base)) (sym typed) shows.2 in
+    let e : 22 ≡ 21 = ap (λ (x : Fields). slice_index_or x.payload 3 0) m in
+    omega (arith, e)
+
 pub reorders : (v u : Stored) → FollowsNot (updated 1 1 22 ∷ updated 1 0 21 ∷ []) (v ∷ u ∷ [])
 reorders v u f = (let e = f.rising 1 2 1 0 (omega arith) refl refl in omega (arith, e))
 
--- ---- the first clause
+-- ---- a message that does not act on the record of its channel
 
 -- TEMP was not removed before it was added.
 only-added : (r : ℕ) → In (take 1 (Added 0 temp ∷ [])) (Removed r) → ⊥
@@ -315,4 +332,21 @@ never-applied-early s =
       | inr waited ↦
           let at : At (Added 0 temp ∷ Applied 0 2 0 (long 22) false ∷ []) waited.0 (Waits 0 2 0 waited.1) = subst (λ (l : List Entry). At l waited.0 (Waits 0 2 0 waited.1)) (sym ys) waited.2 in
           each-at (λ (i : ℕ) (z : Entry). z ≡ Waits 0 2 0 waited.1 → ⊥) (Added 0 temp ∷ Applied 0 2 0 (long 22) false ∷ []) ((λ e. cc), ((λ e. cc), tt)) waited.0 _ at refl
+    ]
+
+-- ---- a put that is dropped for nothing
+
+pub never-dropped-for-nothing : Unsafe dropped_for_nothing
+never-dropped-for-nothing s =
+    let d = s.applied.dropped 0 1 0 2 withdrawn_entries refl refl in
+    let is : unanswered ≡ d.c = sym (one-at unanswered 0 d.c d.on.0).1 in
+    elim d.why [
+      | inl gone ↦
+          each-at (λ (i : ℕ) (z : Entry). z ≡ Removed d.r → ⊥) (take 2 withdrawn_entries) ((λ e. cc), ((λ e. cc), tt)) gone.0 _ gone.1 refl
+      | inr more ↦ elim more [
+        | inl cleared ↦
+            let at : At unanswered.up cleared.0 cleared.1 = subst (λ (c : Circuit). At c.up cleared.0 cleared.1) (sym is) cleared.4 in
+            each-at (λ (i : ℕ) (z : Sent). 1 < i → ⊥) unanswered.up ((λ t. omega (arith, t)), ((λ t. omega (arith, t)), tt)) cleared.0 _ at cleared.3
+        | inr shut ↦ (let t : unanswered.server_open ≡ false = subst (λ (c : Circuit). c.server_open ≡ false) (sym is) shut in cc)
+      ]
     ]

@@ -1,4 +1,4 @@
--- The used channel keeps the first clause.
+-- On the used channel each message acts on the record of its channel.
 use Rattle.std.proofs.Common.{◌≡◌, ℕ, ◌<◌, inl, inr, List, refl, sym, ap, subst, ◌∙◌, arith}
 use Rattle.std.specs.Prelude.{true, false, Some, None, take}
 use Rattle.ca_text.specs.Place.{At}
@@ -66,7 +66,7 @@ no-later k i t after at creates =
       ((λ a e. omega (arith, a)), ((λ a e. let f = e.0 in omega (arith, f)), ((λ a e. let f = e.0 in omega (arith, f)), ((λ a e. let f = e.0 in omega (arith, f)), tt)))),
     ) i t (at-take k used.down i t at) after creates
 
-first-only : (n r : ℕ) → In (take n used_entries) (Removed r) → ⊥
+pub first-only : (n r : ℕ) → In (take n used_entries) (Removed r) → ⊥
 first-only n r h = no-removed h.0 r (at-take n used_entries h.0 _ h.1)
 
 -- the channel is open when each of the later messages is handled

@@ -1,4 +1,4 @@
--- The used channel keeps the second clause on its circuit.
+-- On the used channel each answer is its own request's.
 use Rattle.std.proofs.Common.{◌≡◌, ℕ, ◌<◌, ◌≤◌, ◌+◌, inl, inr, List, [], ◌∷◌, refl, sym, subst, arith}
 use Rattle.std.specs.Prelude.{false, Option, None, take}
 use Rattle.ca_text.specs.Place.{At}

@@ -1,4 +1,4 @@
--- The used channel keeps the fourth clause, and so all four.
+-- The used channel: its updates follow its record, and so the whole is safe.
 use Rattle.std.proofs.Common.{◌≡◌, ℕ, List, [], ◌∷◌, refl, sym, ap, subst, arith}
 use Rattle.std.specs.Prelude.{false, Option, None, take}
 use Rattle.ca_text.specs.Place.{At}

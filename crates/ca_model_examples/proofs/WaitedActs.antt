@@ -1,4 +1,4 @@
--- A put that waited while its client began again keeps the first clause.
+-- A put that waits while its client begins again: each message acts on the record of its channel.
 use Rattle.std.proofs.Common.{◌≡◌, ℕ, ◌<◌, List, refl, sym, ap, subst, ◌∙◌, arith}
 use Rattle.std.specs.Prelude.{true, false, take}
 use Rattle.ca_text.specs.Place.{At}
@@ -11,9 +11,10 @@ use Rattle.ca_model_safe.specs.Channels.{IsNamed, IsOpen, KeepNames, before}
 use Rattle.ca_model_safe.specs.Headline.{Acted, ActsOnRecord}
 use Rattle.ca_requests.specs.Meaning.{Means}
 use Rattle.ca_model.specs.Updates.{Shows}
-use Rattle.ca_model_examples.specs.Worlds.{AnyDue, created_told, creating, putting, step}
+use Rattle.ca_model_examples.specs.Worlds.{created_told, creating, putting, step}
 use Rattle.ca_model_examples.specs.Waited.{slow_temp, waited, waited_entries, waited_lines}
 use Rattle.ca_model_examples.proofs.Lists.{each-at, at-take, none-at}
+use Rattle.ca_model_examples.proofs.SmallDue.{TrueDue}
 use Rattle.ca_model_examples.proofs.UsedActs.{ask-of, channel-of, is-fine}
 
 all-fine : (j : ℕ) (t : Told) → At waited.down j t → (t.message.p1 ≡ normal) × (Is command.Error t.message → ⊥)
@@ -44,14 +45,14 @@ pub first-only : (n r : ℕ) → In (take n waited_entries) (Removed r) → ⊥
 first-only n r h = no-removed h.0 r (at-take n waited_entries h.0 _ h.1)
 
 -- the channel is open when each put is handled
-open-1 : IsOpen (before waited 1 (step 2 1 2)) (take 1 waited_entries) 1 0 5 0
+pub open-1 : IsOpen (before waited 1 (step 2 1 2)) (take 1 waited_entries) 1 0 5 0
 open-1 = (
   (created_told, creating, step 0 1 1, refl, refl, refl, (refl, refl), refl, refl, (slow_temp, (0, refl), refl, (λ h. first-only 1 0 h))),
   (λ i t after at. no-later 2 i t after at),
   (λ l m after early at. no-clears l m (at-take 1 waited.up l m at)),
 )
 
-open-2 : IsOpen (before waited 2 (step 2 2 3)) (take 2 waited_entries) 1 0 5 0
+pub open-2 : IsOpen (before waited 2 (step 2 2 3)) (take 2 waited_entries) 1 0 5 0
 open-2 = (
   (created_told, creating, step 0 1 1, refl, refl, refl, (refl, refl), refl, refl, (slow_temp, (0, refl), refl, (λ h. first-only 1 0 h))),
   (λ i t after at. no-later 2 i t after at),
@@ -83,7 +84,7 @@ waited-names = record {
   was_there = λ i r at. absurd (no-removed i r at);
 }
 
-pub waited-acts : ActsOnRecord AnyDue Shows Means 0 waited waited_lines waited_entries
+pub waited-acts : ActsOnRecord TrueDue Shows Means 0 waited waited_lines waited_entries
 waited-acts = record {
   acts = λ k channel ask early meant other. each-at (λ (i : ℕ) (s : Sent). s.intent ≡ On channel ask → (r : ℕ) × Acted waited waited_entries i r × IsNamed waited_lines waited_entries channel r) waited.up (
     (λ e. absurd (other (sym (ap ask-of e)))),

@@ -1,4 +1,4 @@
--- A put that waited while its client began again keeps the second clause on its circuit, whatever is due.
+-- A put that waits while its client begins again: on its circuit each answer is its own request's.
 use Rattle.std.proofs.Common.{◌≡◌, ℕ, ◌<◌, ◌≤◌, ◌+◌, inl, inr, [], ◌∷◌, refl, sym, ap, subst, arith}
 use Rattle.std.specs.Prelude.{true, Some, None}
 use Rattle.ca_text.specs.Place.{At}
@@ -10,11 +10,13 @@ use Rattle.ca_model_safe.specs.Channels.{AreSteps, IsBusyUntil, IsFinished, IsRe
 use Rattle.ca_model_safe.specs.Headline.{Answered, AnswersOwn, HasCause, TakesOwn}
 use Rattle.ca_requests.specs.Meaning.{Means}
 use Rattle.ca_model.specs.Updates.{Shows}
-use Rattle.ca_model_examples.specs.Worlds.{AnyDue, created_told, creating, long, put_told, putting, rights_told, step}
+use Rattle.ca_model_examples.specs.Worlds.{created_told, creating, long, put_told, putting, rights_told, step}
 use Rattle.ca_model_examples.specs.Waited.{waited, waited_entries, waited_lines}
 use Rattle.ca_model_examples.proofs.Lists.{Each, each-at, none-at}
 use Rattle.ca_model_examples.proofs.Speaks.{heads, of-channel, of-request}
+use Rattle.ca_model_examples.proofs.SmallDue.{TrueDue}
 use Rattle.ca_model_examples.proofs.WaitedActs.{no-clears}
+use Rattle.ca_model_examples.proofs.WaitedDue.{waited-busies, waited-created, waited-waits}
 
 -- ---- ids
 
@@ -115,7 +117,7 @@ pub first-busy : IsBusyUntil waited_entries 0 1 3
 first-busy = (1, 0, long 22, refl, omega arith, (λ j m l u low high at. no-other j m l u low high at))
 
 first-finished : IsFinished 0 waited waited_entries 1 (putting 0 8 22)
-first-finished = (3, refl, first-busy, (λ l s h after at handled early clears. no-clears l s at clears))
+first-finished = (3, refl, first-busy, (λ c. no-clears c.0 c.1 c.4 c.7))
 
 -- ---- answers
 
@@ -137,14 +139,14 @@ none-to-second : (j : ℕ) (m : Fields) → IsReply waited 2 j m → ⊥
 none-to-second j m here =
     each-at (λ (i : ℕ) (t : Told). t.place ≡ 2 → ⊥) waited.down ((λ p. omega (arith, p)), ((λ p. omega (arith, p)), ((λ p. omega (arith, p)), tt))) j _ here refl
 
-answered-0 : Answered AnyDue Shows Means 0 waited waited_entries 0 (step 0 1 1)
+answered-0 : Answered TrueDue Shows Means 0 waited waited_entries 0 (step 0 1 1)
 answered-0 = record {
   s = creating;
   at = refl;
   replies = rights_told.message ∷ created_told.message ∷ [];
   late = None;
   logs = [];
-  due = tt;
+  due = waited-created;
   now = λ i m at. each-at (λ (j : ℕ) (z : Fields). IsReply waited 0 (0 + j) z) (rights_told.message ∷ created_told.message ∷ []) (refl, (refl, tt)) i m at;
   logged = λ i e at. absurd (none-at i e at);
   within = omega arith;
@@ -155,14 +157,14 @@ answered-0 = record {
   next = λ l g after at. later 0 2 ((λ a. absurd (omega (arith, a))), ((λ a. omega arith), ((λ a. omega arith), tt))) l g after at;
 }
 
-answered-1 : Answered AnyDue Shows Means 0 waited waited_entries 1 (step 2 1 2)
+answered-1 : Answered TrueDue Shows Means 0 waited waited_entries 1 (step 2 1 2)
 answered-1 = record {
   s = putting 0 8 22;
   at = refl;
   replies = [];
   late = Some (put_told 1 8 22).message;
   logs = Applied 0 1 0 (long 22) true ∷ [];
-  due = tt;
+  due = waited-busies;
   now = λ i m at. absurd (none-at i m at);
   logged = λ i e at. each-at (λ (j : ℕ) (z : Entry). At waited_entries (1 + j) z) (Applied 0 1 0 (long 22) true ∷ []) (refl, tt) i e at;
   within = omega arith;
@@ -174,14 +176,14 @@ answered-1 = record {
 }
 
 -- The second put is not finished.
-answered-2 : Answered AnyDue Shows Means 0 waited waited_entries 2 (step 2 2 3)
+answered-2 : Answered TrueDue Shows Means 0 waited waited_entries 2 (step 2 2 3)
 answered-2 = record {
   s = putting 1 9 23;
   at = refl;
   replies = [];
   late = Some (put_told 2 9 23).message;
   logs = Waits 0 2 0 (long 23) ∷ [];
-  due = tt;
+  due = waited-waits;
   now = λ i m at. absurd (none-at i m at);
   logged = λ i e at. each-at (λ (j : ℕ) (z : Entry). At waited_entries (2 + j) z) (Waits 0 2 0 (long 23) ∷ []) (refl, tt) i e at;
   within = omega arith;
@@ -192,12 +194,12 @@ answered-2 = record {
   next = λ l g after at. later 2 2 ((λ a. absurd (omega (arith, a))), ((λ a. absurd (omega (arith, a))), ((λ a. absurd (omega (arith, a))), tt))) l g after at;
 }
 
-pub waited-answers : AnswersOwn AnyDue Shows Means 0 waited waited_lines waited_entries
+pub waited-answers : AnswersOwn TrueDue Shows Means 0 waited waited_lines waited_entries
 waited-answers = record {
   asked = λ k s at. each-at (λ (i : ℕ) (z : Sent). Suits z.intent z.message) waited.up (refl, (refl, (refl, tt))) k s at;
   caused = waited-caused;
   removed = λ i j t u p q same a b. absurd (no-disconnects i t p a);
   own = waited-own;
-  answered = λ k h at. each-at (Answered AnyDue Shows Means 0 waited waited_entries) waited.handled (answered-0, (answered-1, (answered-2, tt))) k h at;
+  answered = λ k h at. each-at (Answered TrueDue Shows Means 0 waited waited_entries) waited.handled (answered-0, (answered-1, (answered-2, tt))) k h at;
   in_order = (server-steps, client-steps);
 }

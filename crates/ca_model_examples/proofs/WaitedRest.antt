@@ -1,4 +1,4 @@
--- A put that waited while its client began again keeps the clauses on clients' logs, on writes and on subscribers.
+-- A put that waits while its client begins again: what clients' logs tell, that no write is applied twice, and what subscribers saw.
 use Rattle.std.proofs.Common.{◌≡◌, ℕ, suc, ◌⊎◌, inl, inr, List, [], ◌∷◌, refl, sym, ap, subst, ◌∙◌, arith}
 use Rattle.std.specs.Prelude.{take, Option, None, pos}
 use Rattle.ca_text.specs.Place.{At}
@@ -8,12 +8,14 @@ use Rattle.ca_dbr.specs.Elements.{Elements, longs}
 use Rattle.ca_model.specs.Speech.{In, Stored}
 use Rattle.ca_model.specs.History.{Circuit, Intent, On, OfCircuit, Create, Request, Subscribe, Put, Line, Entry, Sent, Applied, Withdrawn, Finished, Clear, Reply, Called, Noticed, Updated}
 use Rattle.ca_model_safe.specs.Channels.{IsApplied, IsBusyUntil, IsLost, IsOwnWrite, IsUse, Joins, OfCircuits, OfClients, Stands}
-use Rattle.ca_model_safe.specs.Headline.{ActsOnRecord, AnswersOwn, CompletesOnce, FollowsRecord, NotTwice, Reads, Safe, Sees}
+use Rattle.ca_model_safe.specs.Headline.{ActsOnRecord, AnswersOwn, CompletesOnce, FollowsRecord, NotTwice, Reads, Sees}
+use Rattle.ca_model_safe.specs.Known.{IsSafe}
 use Rattle.ca_requests.specs.Meaning.{Means}
 use Rattle.ca_model.specs.Updates.{Shows}
-use Rattle.ca_model_examples.specs.Worlds.{AnyDue, created_told, creating, long, putting, step}
+use Rattle.ca_model_examples.specs.Worlds.{created_told, creating, long, ports, putting, rules, step}
 use Rattle.ca_model_examples.specs.Waited.{slow_temp, waited, waited_entries, waited_lines, waited_world}
 use Rattle.ca_model_examples.proofs.Lists.{each-at, at-take, none-at, one-at, two-at}
+use Rattle.ca_model_examples.proofs.SmallDue.{TrueDue}
 use Rattle.ca_model_examples.proofs.WaitedActs.{first-only, waited-acts}
 use Rattle.ca_model_examples.proofs.WaitedOwn.{finished-at, first-busy, waited-answers}
 
@@ -69,7 +71,7 @@ stands-at intent n k h =
 
 abbrev Bears : ℕ → Intent → Outcome → Type 0
 Bears i intent o =
-    ((by : Reads AnyDue Shows Means waited_world 0 waited_lines i intent o) × (by.t.cause ≡ Reply))
+    ((by : Reads TrueDue Shows Means waited_world 0 waited_lines i intent o) × (by.t.cause ≡ Reply))
     ⊎ ((o ≡ outcome.Disconnected) × IsLost waited_world 0 waited_lines i intent)
 
 live-told : Bears 1 (On 0 Create) outcome.Done
@@ -89,7 +91,7 @@ live-told = inl (
   refl,
 )
 
-first-completes : CompletesOnce AnyDue Shows Means waited_world 0 waited_lines
+first-completes : CompletesOnce TrueDue Shows Means waited_world 0 waited_lines
 first-completes = record {
   told = λ i intent o at. (let e = notice-at i intent o at in
       subst (λ (k : ℕ). Bears k intent o) (sym e.0) (subst (λ (d : Intent). Bears 1 d o) e.1 (subst (λ (p : Outcome). Bears 1 (On 0 Create) p) e.2 live-told)));
@@ -116,7 +118,7 @@ not-second intent n k h =
     let e : 0 ≡ 1 = subst (λ (d : Circuit). d.client ≡ 1) (one-at waited n h.0 h.1).1 h.2 in
     omega (arith, e)
 
-second-completes : CompletesOnce AnyDue Shows Means waited_world 1 []
+second-completes : CompletesOnce TrueDue Shows Means waited_world 1 []
 second-completes = record {
   told = λ i intent o at. absurd (no-line i _ at);
   lost = λ i channel at. absurd (no-line i _ at);
@@ -234,10 +236,11 @@ notice-in life i x intent o at here =
       | inr e ↦ absurd (no-line i (Noticed intent o) (subst (λ (z : List Line). At z i (Noticed intent o)) e.1 here))
     ]
 
-pub waited-writes : NotTwice AnyDue Shows Means waited_world
+pub waited-writes : NotTwice TrueDue Shows Means waited_world
 waited-writes = record {
   once = λ n k l m i j r q v u a b. (let e = applied-is n k l i r v a in let f = applied-is n k m j q u b in (e.0 ∙ sym f.0, once-at n k i j r q v u e.1 f.1));
   own = λ n k l i r v a. (let e = applied-is n k l i r v a in owned n k l i r v e.0 e.1);
+  dropped = λ n k l i y at drops. absurd (no-withdrawal i n k (subst (λ (s : List Entry). At s i (Withdrawn n k)) (one-at waited_entries l y at).1 drops));
   finished = λ n k l e y at ends.
       (let z = one-at waited_entries l y at in
       let f = finished-at e n k (subst (λ (s : List Entry). At s e (Finished n k)) z.1 ends) in (
@@ -253,20 +256,20 @@ waited-writes = record {
 
 -- ---- updates: none
 
-waited-follows : FollowsRecord AnyDue Shows Means 0 waited waited_lines waited_entries
+waited-follows : FollowsRecord TrueDue Shows Means 0 waited waited_lines waited_entries
 waited-follows k r s h accepted =
     absurd (each-at (λ (i : ℕ) (z : Sent). z.intent ≡ On accepted.0 (Subscribe accepted.1) → ⊥) waited.up ((λ e. cc), ((λ e. cc), ((λ e. cc), tt))) k s accepted.2 accepted.3)
 
 no-update : (i : ℕ) (intent : Intent) (o : Outcome) → At waited_lines i (Updated intent o) → ⊥
 no-update i intent o at = each-at (λ (k : ℕ) (l : Line). l ≡ Updated intent o → ⊥) waited_lines ((λ e. cc), ((λ e. cc), ((λ e. cc), ((λ e. cc), tt)))) i _ at refl
 
-first-sees : Sees AnyDue Shows Means waited_world 0 waited_lines
+first-sees : Sees TrueDue Shows Means waited_world 0 waited_lines
 first-sees = record {
   own = λ i intent o at. absurd (no-update i intent o at);
   in_order = λ i intent o by j a t at. absurd (no-update i intent o at);
 }
 
-second-sees : Sees AnyDue Shows Means waited_world 1 []
+second-sees : Sees TrueDue Shows Means waited_world 1 []
 second-sees = record {
   own = λ i intent o at. absurd (no-line i _ at);
   in_order = λ i intent o by j a t at. absurd (no-line i _ at);
@@ -287,10 +290,10 @@ each-life P h g life x at =
       | inr e ↦ subst (λ (y : List Line). P life y) (sym e.1) (subst (λ (m : ℕ). P m []) (sym e.0) g)
     ]
 
-pub waited-safe : Safe AnyDue Shows Means waited_world
+pub waited-safe : IsSafe ports rules waited_world
 waited-safe = record {
-  acts = each-circuit (ActsOnRecord AnyDue Shows Means) waited-acts;
-  own = (each-circuit (AnswersOwn AnyDue Shows Means) waited-answers, each-life (CompletesOnce AnyDue Shows Means waited_world) first-completes second-completes);
+  acts = each-circuit (ActsOnRecord TrueDue Shows Means) waited-acts;
+  own = (each-circuit (AnswersOwn TrueDue Shows Means) waited-answers, each-life (CompletesOnce TrueDue Shows Means waited_world) first-completes second-completes);
   applied = waited-writes;
-  sees = (each-circuit (FollowsRecord AnyDue Shows Means) waited-follows, each-life (Sees AnyDue Shows Means waited_world) first-sees second-sees);
+  sees = (each-circuit (FollowsRecord TrueDue Shows Means) waited-follows, each-life (Sees TrueDue Shows Means waited_world) first-sees second-sees);
 }

@@ -1,28 +1,25 @@
 -- Vocabulary's examples: what calls of a client leave of a small world: the core by its calls, and lines, messages and names as plain data.
-use Rattle.std.specs.Prelude.{ℕ, ◌≡◌, ◌++◌, pos, Bool, true, false, List, [], ◌∷◌, Option, Some, None}
+use Rattle.std.specs.Prelude.{ℕ, ◌++◌, pos, Bool, true, false, List, [], ◌∷◌, Some, None}
 use Rattle.ca_arena.specs.declared.handle.Handle.{Handle}
 use Rattle.ca_dbr.specs.Elements.{Elements, longs}
-use Rattle.ca_dbr.specs.declared.value.Outcome.{Outcome}
 use Rattle.ca_dbr.specs.declared.value.Outcome.TheVariants as outcome
-use Rattle.ca_queue.specs.Queue.{Queue}
 use Rattle.ca_text.specs.declared.command.Command.TheVariants as command
 use Rattle.ca_text.specs.declared.refusal.Refusal.{Refusal}
 use Rattle.ca_text.specs.declared.refusal.Refusal.TheVariants as refusal
-use Rattle.ca_wire.specs.Fields.{Fields}
-use Rattle.ca_wire.specs.Messages.{Wanted, clear_request, event_add_request, event_cancel_request, put_request, read_request}
+use Rattle.ca_wire.specs.declared.requests.Wanted.{Wanted}
+use Rattle.ca_wire.specs.Messages.{clear_request, event_add_request, event_cancel_request, put_request, read_request}
 use Rattle.ca_model.specs.Answers.{Sending}
-use Rattle.ca_model.specs.Client.{Client, On, sending}
-use Rattle.ca_model.specs.Client as phase
-use Rattle.ca_model.specs.ClientCalls.{cleared, issued, opened, put_sent, write_sent}
+use Rattle.ca_model.specs.Client.{Client, sending}
+use Rattle.ca_model.specs.ClientCalls.{issued, opened, put_sent, write_sent}
 use Rattle.ca_model.specs.History.{Ask, Cancel, Clear, Create, Intent, Line, Put, Read, Request, Sent, Subscribe, Write}
 use Rattle.ca_model.specs.History as history
 use Rattle.ca_requests.specs.Requests as request
 use Rattle.ca_model_world.specs.Events.{Event}
 use Rattle.ca_model_world.specs.Events as event
 use Rattle.ca_model_world.specs.Runs.{CanBe, Happens}
-use Rattle.ca_model_world.specs.World.{ClientSetting, ClientSide, Joined, Names, ServerSide, World, server_begun}
+use Rattle.ca_model_world.specs.World.{ClientSide, Joined, Names, ServerSide, World, server_begun}
 use Rattle.ca_model_examples.specs.Worlds as worlds
-use Rattle.ca_model_examples.specs.ClientRows.{again, alive, anna, first, home, live_temp, reading, second, subscribed, cancelled, cleared_live, temp}
+use Rattle.ca_model_examples.specs.ClientRows.{alive, anna, first, home, live_temp, reading, second, subscribed, cancelled, cleared_live, temp}
 
 -- ---- a world
 

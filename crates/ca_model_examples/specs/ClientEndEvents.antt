@@ -1,27 +1,25 @@
 -- Vocabulary's examples: what events at a client's end of a circuit leave of a small world.
 use Rattle.std.specs.Prelude.{ℕ, ◌≡◌, ◌++◌, Bool, true, false, length, List, [], ◌∷◌, Option, Some, None}
-use Rattle.ca_arena.specs.declared.handle.Handle.{Handle}
-use Rattle.ca_dbr.specs.declared.value.Outcome.{Outcome}
 use Rattle.ca_dbr.specs.declared.value.Outcome.TheVariants as outcome
 use Rattle.ca_ids.specs.Table.{IsFull, Table}
-use Rattle.ca_link.specs.Link.{LinkState, new_link, with_given}
+use Rattle.ca_link.specs.Link.{LinkState, new_link}
 use Rattle.ca_text.specs.declared.command.Command.TheVariants as command
 use Rattle.ca_wire.specs.Fields.{Fields}
 use Rattle.ca_wire.specs.Message.{spelling}
-use Rattle.ca_wire.specs.Messages.{bare, create_request, name_request, read_request, version_request}
+use Rattle.ca_wire.specs.Messages.{bare, create_request, name_request, version_request}
 use Rattle.ca_model.specs.Answers as answer
 use Rattle.ca_model.specs.Client.{Client, Connection, ended, on_connection, out_bytes}
 use Rattle.ca_model.specs.ClientEnds.{circuits_ticked, searches_made}
 use Rattle.ca_model.specs.Hears.{without_request}
 use Rattle.ca_model.specs.History.{Create, Intent, Line, OfCircuit, Put, Read, Reply, Request, Sent, Step, Subscribe, Write}
 use Rattle.ca_model.specs.History as history
-use Rattle.ca_model.specs.Server.{Open, ServerCircuit, ServerEnd, new_end}
+use Rattle.ca_model.specs.Server.{Open, ServerCircuit, new_end}
 use Rattle.ca_model_world.specs.ClientEvents.{about_at, lines_of}
 use Rattle.ca_model_world.specs.Events as event
 use Rattle.ca_model_world.specs.Runs.{Happens, TicksBefore}
 use Rattle.ca_model_world.specs.World.{ClientSide, Joined, Names, ServerSide, World, no_names}
 use Rattle.ca_model_examples.specs.ClientRows.{alive, anna, first, found, greeted, home, reading, second, temp, with_temp}
-use Rattle.ca_model_examples.specs.ClientCallEvents.{CanNot, anna_side, joined, live, names, old, on_temp, opened_line, put, read_done, server, temp_wanted, with_read, world}
+use Rattle.ca_model_examples.specs.ClientCallEvents.{CanNot, anna_side, joined, live, names, old, on_temp, opened_line, put, read_done, server, with_read, world}
 
 -- ---- bytes
 
@@ -187,6 +185,13 @@ TickEnds =
     let before : World = world (anna_side reading with_read) (opened_line ∷ []) [] in
     Happens before (event.Tick 35000) (record ticked_once { clients = anna_side (searches_made (circuits_ticked 35000 reading)).core with_read ∷ anna_side (record (anna []) { moment = 35000 }) names ∷ []; moment = 35000 })
     × TicksBefore 35000 before before × CanNot before (event.Tick 6)
+
+-- Two clients have such a silence, and memory lacks at the second: the first had the moment, and the second and the world had it not.
+abbrev pub TickStops : Type 0
+TickStops =
+    let silent : ClientSide = anna_side reading with_read in
+    let both : World = record (world silent (opened_line ∷ []) []) { clients = silent ∷ silent ∷ [] } in
+    TicksBefore 35000 both (record ticked_once { clients = anna_side (searches_made (circuits_ticked 35000 reading)).core with_read ∷ silent ∷ [] })
 
 -- ---- datagrams
 

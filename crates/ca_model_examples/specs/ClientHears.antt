@@ -1,10 +1,9 @@
 -- Vocabulary's examples: what a client makes of messages, and of calls in each state of a channel, by what its definitions compute.
-use Rattle.std.specs.Prelude.{ℕ, ◌≡◌, ◌++◌, Bool, true, false, nat_le, length, map, List, [], ◌∷◌, Option, Some, None, Ok, Err}
+use Rattle.std.specs.Prelude.{ℕ, ◌≡◌, true, false, nat_le, length, map, List, [], ◌∷◌, Option, Some, None, Ok}
 use Rattle.ca_arena.specs.declared.handle.Handle.{Handle}
 use Rattle.ca_dbr.specs.declared.value.Outcome.TheVariants as outcome
 use Rattle.ca_dbr.specs.Elements.{longs}
 use Rattle.ca_ids.specs.Table.{IsFull, Table, held, with_held}
-use Rattle.ca_monitor.specs.ReadRun.{ReadRun}
 use Rattle.ca_monitor.specs.Subscriptions.{Subscription, confirmed_by}
 use Rattle.ca_monitor.specs.Subscriptions as monitor
 use Rattle.ca_requests.specs.Requests.{Request, answered_by}
@@ -14,7 +13,7 @@ use Rattle.ca_text.specs.declared.refusal.Refusal.TheVariants as refusal
 use Rattle.ca_text.specs.Limits.{output_limit}
 use Rattle.ca_wire.specs.declared.header.Header.{Header}
 use Rattle.ca_wire.specs.Fields.{Fields}
-use Rattle.ca_wire.specs.Messages.{bare, clear_request, create_request, event_add_request, event_cancel_request}
+use Rattle.ca_wire.specs.Messages.{bare, create_request, event_add_request, event_cancel_request}
 use Rattle.ca_link.specs.Link.{new_link}
 use Rattle.ca_model.specs.Answers.{Notice, Sending}
 use Rattle.ca_model.specs.Answers as notice
@@ -22,7 +21,7 @@ use Rattle.ca_model.specs.ChannelState.{channel_state}
 use Rattle.ca_model.specs.ChannelState as state
 use Rattle.ca_model.specs.Client.{Client, ClientCircuit, On, Phase, Searching, Standing, channel_on, new_circuit, with_standing}
 use Rattle.ca_model.specs.Client as phase
-use Rattle.ca_model.specs.ClientCalls.{ask_fault, cancel_sent, cleared, event_add_sent, new_subscription, put_fault, unsubscribed}
+use Rattle.ca_model.specs.ClientCalls.{ask_fault, cancel_sent, cleared, put_fault, unsubscribed}
 use Rattle.ca_model.specs.ClientEnds.{due, flow_sent, new_connection}
 use Rattle.ca_model.specs.Hears.{Effect, Hears, PutsOn, becomes, clear_answered, created, failed, failing, found_at, left, put_on, rights_told}
 use Rattle.ca_model_examples.specs.ClientRows.{alive, anna, cancelled, created_temp, doomed, first, found, greeted, home, leaving, live_temp, named, named_on, one_long, permitted, reading, second, subscribed, temp, temp_channel, to_temp, with_temp}

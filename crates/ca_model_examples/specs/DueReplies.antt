@@ -6,7 +6,8 @@ use Rattle.ca_text.specs.Status.{bad_channel, bad_type, no_read_access, no_write
 use Rattle.ca_dbr.specs.Elements.{Elements, longs}
 use Rattle.ca_records.specs.Rules.{Rule}
 use Rattle.ca_wire.specs.Fields.{Fields}
-use Rattle.ca_wire.specs.Messages.{Wanted, bare, cancel_reply, clear_request, create_request, created_reply, error_reply, event_add_request, event_cancel_request, failed_reply, name_request, no_cid, not_found_reply, put_request, read_request, rights_reply, search_reply, search_request, status_reply, value_reply, version_reply, version_request}
+use Rattle.ca_wire.specs.declared.requests.Wanted.{Wanted}
+use Rattle.ca_wire.specs.Messages.{bare, cancel_reply, clear_request, create_request, created_reply, error_reply, event_add_request, event_cancel_request, failed_reply, name_request, no_cid, not_found_reply, put_request, read_request, rights_reply, search_reply, search_request, status_reply, value_reply, version_reply, version_request}
 use Rattle.ca_model.specs.Due.{Action, Adds, Applies, Clears, Drops, Due, Greets, KnownChannel, KnownRecord, Knows, Names, Nothing, Opens, Switches, Waits, late_reply}
 use Rattle.ca_model_examples.specs.ServerRows.{eve, hall, slow, slow_name}
 use Rattle.ca_model_examples.specs.Worlds.{temp, temp_name}

@@ -1,7 +1,9 @@
 pub mod Worlds
 pub mod Waited
 pub mod Unsafe
+pub mod Broken
 pub mod Safe
+pub mod Owed
 pub mod ServerRows
 pub mod DueReplies
 pub mod ServerWorld
@@ -12,3 +14,4 @@ pub mod ClientCallEvents
 pub mod ClientEndEvents
 pub mod ClientHears
 pub mod Moved
+pub mod Limits

@@ -4,7 +4,7 @@ use Rattle.ca_dbr.specs.declared.value.Outcome.{Outcome}
 use Rattle.ca_dbr.specs.declared.value.Outcome.TheVariants as outcome
 use Rattle.ca_records.specs.Record.{RecordState}
 use Rattle.ca_model.specs.History.{Create, Subscribe, On, Circuit, Entry, Added, Line, Opened, Called, Noticed, Updated, World}
-use Rattle.ca_model_examples.specs.Worlds.{adding, created_told, creating, long, step, temp, temp_name}
+use Rattle.ca_model_examples.specs.Worlds.{adding, created_told, creating, long, rights_told, step, temp, temp_name}
 use Rattle.ca_model_examples.specs.Safe.{first_update}
 
 -- TEMP, with this value
@@ -23,9 +23,9 @@ moved server live read value stays =
       client = 0;
       server = server;
       up = creating ∷ adding 0 9 ∷ [];
-      down = created_told ∷ first_update 1 value ∷ [];
-      handled = step 0 1 1 ∷ step 1 1 1 ∷ [];
-      heard = step 1 live (live + 1) ∷ step 2 read (read + 1) ∷ [];
+      down = rights_told ∷ created_told ∷ first_update 1 value ∷ [];
+      handled = step 0 1 1 ∷ step 2 1 1 ∷ [];
+      heard = step 1 live live ∷ step 1 live (live + 1) ∷ step 2 read (read + 1) ∷ [];
       queued = [];
       client_open = stays;
       server_open = true;

@@ -1,4 +1,4 @@
--- Vocabulary: small histories that keep every clause.
+-- Vocabulary: small histories that are safe.
 use Rattle.std.specs.Prelude.{ℕ, ◌+◌, List, [], ◌∷◌, Some, None, pos, false}
 use Rattle.ca_dbr.specs.declared.value.Outcome.{Outcome}
 use Rattle.ca_dbr.specs.declared.value.Outcome.TheVariants as outcome
@@ -75,9 +75,10 @@ first_update place value = record { message = update 5 1 normal 9 (0 ∷ 0 ∷ 0
 abbrev pub reopened : Circuit
 reopened =
     circuit (creating ∷ adding 0 9 ∷ clearing ∷ creating ∷ adding 0 9 ∷ []) (
-    created_told ∷ first_update 1 21 ∷ disconnected ∷ reply 2 clearing.message ∷ reply 3 created_told.message ∷ first_update 4 5 ∷ []
-    ) (step 0 1 1 ∷ step 1 1 1 ∷ step 3 2 2 ∷ step 4 3 3 ∷ step 5 3 3 ∷ []) (
-    step 1 1 2 ∷ step 2 3 4 ∷ step 2 4 5 ∷ step 3 5 5 ∷ step 4 5 6 ∷ []
+    rights_told ∷ created_told ∷ first_update 1 21 ∷ disconnected ∷ reply 2 clearing.message ∷ reply 3 rights_told.message
+    ∷ reply 3 created_told.message ∷ first_update 4 5 ∷ []
+    ) (step 0 1 1 ∷ step 2 1 1 ∷ step 4 2 2 ∷ step 5 3 3 ∷ step 7 3 3 ∷ []) (
+    step 1 1 1 ∷ step 1 1 2 ∷ step 2 3 4 ∷ step 2 4 5 ∷ step 3 5 5 ∷ step 4 5 5 ∷ step 4 5 6 ∷ []
     )
 
 -- The outcome is that of the first update, which was read.
@@ -92,3 +93,15 @@ reopened_entries = Added 0 temp ∷ Removed 0 ∷ Added 1 (record temp { value =
 
 abbrev pub reopened_world : Outcome → World
 reopened_world o = world (reopened ∷ []) (reopened_lines o) reopened_entries
+
+-- ---- a SERVER_DISCONN that is unread
+
+-- TEMP was removed while its channel was live, and the client did not read that yet.
+abbrev pub unread : Circuit
+unread = circuit (creating ∷ []) (created_told ∷ disconnected ∷ []) (step 0 1 1 ∷ []) (step 1 1 2 ∷ [])
+
+abbrev pub unread_lines : List Line
+unread_lines = Opened 0 temp_name ∷ Noticed (On 0 Create) outcome.Done ∷ []
+
+abbrev pub unread_entries : List Entry
+unread_entries = Added 0 temp ∷ Removed 0 ∷ []

@@ -9,6 +9,7 @@ use Rattle.ca_records.specs.Puts.{Record}
 use Rattle.ca_wire.specs.Fields.{Fields}
 use Rattle.ca_wire.specs.Message.{spelled}
 use Rattle.ca_wire.specs.Messages.{clear_request, search_reply, search_request, version_request}
+use Rattle.ca_model.specs.Answer.{Answers}
 use Rattle.ca_model.specs.Due.{Adds, Clears}
 use Rattle.ca_model.specs.Ends.{Why}
 use Rattle.ca_model.specs.Ends as why
@@ -190,8 +191,21 @@ FinishesNotSo =
 -- 60 bytes are a name, and 61 are none; a name with a zero is none; a served name is refused by that, whatever the value
 abbrev pub AddsNotSo : Type 0
 AddsNotSo =
-    ((new : Server) → AddsRecord (served_by []) (record wave { name = replicate 61 65 }) (Ok tt) new → ⊥)
-    × ((new : Server) → AddsRecord (served_by []) (record wave { name = 65 ∷ 0 ∷ [] }) (Ok tt) new → ⊥)
-    × ((new : Server) → AddsRecord (served_by []) temp (Ok tt) new → ⊥)
-    × ((new : Server) → AddsRecord (served_by []) (record temp { value = longs [] }) (Err refusal.BadCount) new → ⊥)
-    × ((new : Server) → AddsRecord (served_by []) (record wave { count = 262145 }) (Ok tt) new → ⊥)
+    ((new : Server) (behind : ℕ) → AddsRecord (served_by []) (record wave { name = replicate 61 65 }) behind (Ok tt) new → ⊥)
+    × ((new : Server) (behind : ℕ) → AddsRecord (served_by []) (record wave { name = 65 ∷ 0 ∷ [] }) behind (Ok tt) new → ⊥)
+    × ((new : Server) (behind : ℕ) → AddsRecord (served_by []) temp behind (Ok tt) new → ⊥)
+    × ((new : Server) (behind : ℕ) → AddsRecord (served_by []) (record temp { value = longs [] }) behind (Err refusal.BadCount) new → ⊥)
+    × ((new : Server) (behind : ℕ) → AddsRecord (served_by []) (record wave { count = 262145 }) behind (Ok tt) new → ⊥)
+
+-- ---- the engine of one circuit
+
+-- a circuit of TEMP alone on which the peer greeted, or not yet
+abbrev pub of_temp : (greeted : Bool) → Server
+of_temp greeted = core_of (temp_now (long 21) ∷ []) (given (Open (record (new_end 0) { greeted = greeted })) ∷ []) 0
+
+-- A VERSION is answered by VERSION, with the minor version 13 as its count; a second one by nothing.
+abbrev pub AnswersVersions : Type 0
+AnswersVersions =
+    Answers first (of_temp false) (version_request 0 ∷ version_request 7 ∷ []) (
+    0 ∷ 0 ∷ 0 ∷ 0 ∷ 0 ∷ 0 ∷ 0 ∷ 13 ∷ 0 ∷ 0 ∷ 0 ∷ 0 ∷ 0 ∷ 0 ∷ 0 ∷ 0 ∷ []
+    ) (of_temp true)

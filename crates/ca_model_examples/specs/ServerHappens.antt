@@ -1,21 +1,20 @@
 -- Vocabulary: what events leave of a small server's world, and which cannot be done.
-use Rattle.std.specs.Prelude.{ℕ, ◌≡◌, pos, true, false, List, [], ◌∷◌, ◌++◌, Option, Some, None, length, replicate}
-use Rattle.ca_arena.specs.declared.handle.Handle.{Handle}
+use Rattle.std.specs.Prelude.{ℕ, pos, true, false, List, [], ◌∷◌, ◌++◌, Some, None, drop, take}
 use Rattle.ca_text.specs.declared.command.Command.TheVariants as command
 use Rattle.ca_text.specs.Status.{normal}
 use Rattle.ca_dbr.specs.Elements.{longs}
-use Rattle.ca_queue.specs.Queue.{Queue, no_queue}
 use Rattle.ca_wire.specs.Fields.{Fields}
 use Rattle.ca_wire.specs.Message.{spelled, spelling}
-use Rattle.ca_wire.specs.Messages.{bare, clear_request, disconnect, put_request, search_request, status_reply, update, version_reply, version_request}
+use Rattle.ca_wire.specs.Messages.{disconnect, put_request, search_request, update, version_request}
 use Rattle.ca_model.specs.History.{Added, Applied, Cause, Entry, Finished, Posted, Removal, Removed, Told, Update, Withdrawn}
-use Rattle.ca_model.specs.Server.{Open, new_server}
+use Rattle.ca_model.specs.Server.{Open}
 use Rattle.ca_model_world.specs.Events.{Event}
 use Rattle.ca_model_world.specs.Events as event
 use Rattle.ca_model_world.specs.Runs.{CanBe, Happens}
-use Rattle.ca_model_world.specs.World.{Joined, Standing, World, server_begun}
+use Rattle.ca_model_world.specs.World.{Joined, RecordSide, World, server_begun}
+use Rattle.ca_records.specs.Puts.{Record, new_record}
 use Rattle.ca_model_examples.specs.ServerRows.{slow, slow_name, wave}
-use Rattle.ca_model_examples.specs.ServerWorld.{at, before, both_open, core_before, core_of, creations, end_0, end_1, end_of, entry_2, first, free, given, handled, joined, joined_0, joined_1, link, lists, number_2, on_slow, on_temp, put_by, queues, second, setting, side_of, sides_before, slow_busy, slow_key, slow_now, slow_open, slow_side, standing, temp_key, temp_now, temp_open, temp_side, waits_by, world_of, written}
+use Rattle.ca_model_examples.specs.ServerWorld.{at, before, core_of, creations, end_0, end_1, end_of, entry_2, first, free, given, handled, joined, joined_0, joined_1, link, lists, number_2, on_temp, put_by, queues, second, setting, side_of, sides_before, slow_busy, slow_key, slow_now, slow_open, slow_side, standing, temp_key, temp_now, temp_open, temp_side, waits_by, world_of, written}
 use Rattle.ca_model_examples.specs.Worlds.{long, step, temp, temp_name}
 
 -- ---- a plain write
@@ -188,19 +187,21 @@ removed_slow =
 abbrev pub RemoveHappens : Type 0
 RemoveHappens = Happens (before [] []) (event.Remove 0 slow_name) removed_slow × Happens (before [] []) (event.Remove 0 (1 ∷ [])) (before [] [])
 
--- WAVE is the third record of this life
-abbrev pub added_wave : World
-added_wave =
+-- WAVE is the third record of this life, behind so many of the others
+abbrev pub added_wave : ℕ → World
+added_wave behind =
+    let records : List Record = temp_now (long 21) ∷ slow_busy ∷ [] in
+    let side : RecordSide = record { name = wave.name; number = 2; busy = None; waiting = [] } in
     world_of (
-    record (side_of (sides_before ++ record { name = wave.name; number = 2; busy = None; waiting = [] } ∷ []) (
-    core_of (temp_now (long 21) ∷ slow_busy ∷ record { state = wave; busy = None; waiting = [] } ∷ []) (
+    record (side_of (take behind sides_before ++ side ∷ drop behind sides_before) (
+    core_of (take behind records ++ new_record wave ∷ drop behind records) (
     given (Open (end_0 (link [] []) (entry_2 ∷ []))) ∷ given (Open (end_1 (link [] []) [])) ∷ []
     ) 0
     )) { added = 3 }
     ) (joined_0 [] [] 1 1 (number_2 ∷ []) ∷ joined_1 [] [] 1 [] ∷ []) (Added 2 wave ∷ [])
 
 abbrev pub AddHappens : Type 0
-AddHappens = Happens (before [] []) (event.Add 0 wave) added_wave
+AddHappens = Happens (before [] []) (event.Add 0 wave) (added_wave 2) × Happens (before [] []) (event.Add 0 wave) (added_wave 1)
 
 -- refused, nothing changes: the name is served, is none, or the value has no element
 abbrev pub AddsRefused : Type 0

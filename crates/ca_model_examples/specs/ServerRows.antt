@@ -11,15 +11,18 @@ use Rattle.ca_dbr.specs.declared.value.Meta.{Meta}
 use Rattle.ca_dbr.specs.Conversion.{converted}
 use Rattle.ca_dbr.specs.Elements.{Elements, doubles, longs, strings}
 use Rattle.ca_dbr.specs.Image.{image}
-use Rattle.ca_records.specs.Puts.{Put, Record, WaitingPut, finished, with_waiting, withdrawn, written_meta}
+use Rattle.ca_records.specs.Faults.{late_put_fault}
+use Rattle.ca_records.specs.declared.puts.Put.{Put}
+use Rattle.ca_records.specs.Puts.{Record, WaitingPut, finished, with_waiting, withdrawn, written_meta}
 use Rattle.ca_records.specs.Record.{RecordState, unset}
 use Rattle.ca_records.specs.Rules.{Rule, may_read, may_write, rights}
 use Rattle.ca_queue.specs.declared.entry.SubKey.{SubKey}
 use Rattle.ca_queue.specs.Waiting.{after_cancel, after_post, after_take, taken}
 use Rattle.ca_wire.specs.Fields.{Fields, padded}
 use Rattle.ca_wire.specs.Message.{spelling}
-use Rattle.ca_wire.specs.Messages.{Wanted, bare, cancel_reply, cleared_reply, clear_request, create_request, created_reply, disconnect, error_reply, event_add_request, event_cancel_request, failed_reply, no_cid, not_found_reply, put_request, read_request, rights_reply, search_reply, search_request, status_reply, value_reply, version_reply}
-use Rattle.ca_model.specs.Faults.{base_type_of, early_put_fault, late_put_fault, read_fault, read_shown, subscription_fault, type_of}
+use Rattle.ca_wire.specs.declared.requests.Wanted.{Wanted}
+use Rattle.ca_wire.specs.Messages.{bare, cancel_reply, cleared_reply, clear_request, create_request, created_reply, disconnect, error_reply, event_add_request, event_cancel_request, failed_reply, no_cid, not_found_reply, put_request, read_request, rights_reply, search_reply, search_request, status_reply, value_reply, version_reply}
+use Rattle.ca_model.specs.Faults.{base_type_of, early_put_fault, read_fault, read_shown, subscription_fault, type_of}
 use Rattle.ca_model.specs.Speech.{share_bit}
 use Rattle.ca_model.specs.Updates.{update_in}
 use Rattle.ca_model_examples.specs.Worlds.{temp, temp_name}

@@ -8,7 +8,8 @@ use Rattle.ca_ids.specs.Table.{Table}
 use Rattle.ca_link.specs.Link.{LinkState}
 use Rattle.ca_queue.specs.declared.entry.SubKey.{SubKey}
 use Rattle.ca_queue.specs.Queue.{Queue, no_queue}
-use Rattle.ca_records.specs.Puts.{Put, Record, WaitingPut}
+use Rattle.ca_records.specs.declared.puts.Put.{Put}
+use Rattle.ca_records.specs.Puts.{Record, WaitingPut}
 use Rattle.ca_wire.specs.Messages.{version_reply}
 use Rattle.ca_model.specs.History.{Cause, Circuit, Entry, Added, Step, Told, Update}
 use Rattle.ca_model.specs.Server.{Open, OpenChannel, Server, ServerCircuit, ServerEnd, Subscription}

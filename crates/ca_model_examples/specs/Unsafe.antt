@@ -1,17 +1,18 @@
--- Vocabulary: small histories, each of which breaks a clause.
+-- Vocabulary: small histories that are unsafe, each by one part of the statement.
 use Rattle.std.specs.Prelude.{ℕ, ◌≡◌, List, [], ◌∷◌, Option, Some, None, pos, true, false}
 use Rattle.ca_text.specs.declared.command.Command.TheVariants as command
 use Rattle.ca_text.specs.Status.{bad_channel, bad_type, normal}
 use Rattle.ca_dbr.specs.declared.value.Outcome.TheVariants as outcome
 use Rattle.ca_dbr.specs.Elements.{longs}
 use Rattle.ca_wire.specs.Fields.{Fields}
-use Rattle.ca_wire.specs.Messages.{error_reply, put_request, status_reply, update, value_reply}
+use Rattle.ca_wire.specs.Messages.{error_reply, failed_reply, put_request, status_reply, update, value_reply}
 use Rattle.ca_model.specs.Speech.{Is, Stored}
 use Rattle.ca_model.specs.Updates.{Shows}
 use Rattle.ca_model.specs.History.{Clear, Create, Request, Subscribe, Read, Put, Write, On, Update, Sent, Told, Step, Circuit, Entry, Added, Applied, Finished, Removed, Waits, Withdrawn, Line, Called, Noticed, Opened, World}
 use Rattle.ca_model_safe.specs.Headline.{Follows, Safe}
+use Rattle.ca_model_safe.specs.Known.{IsSafe}
 use Rattle.ca_requests.specs.Meaning.{Means}
-use Rattle.ca_model_examples.specs.Worlds.{AnyDue, adding, circuit, clearing, created_told, creating, disconnected, long, put_told, putting, reading, reply, step, temp, temp_name, wanted, world}
+use Rattle.ca_model_examples.specs.Worlds.{AnyDue, adding, circuit, clearing, created_told, creating, disconnected, long, ports, put_told, putting, reading, reply, rules, step, temp, temp_name, wanted, world}
 
 -- ---- logs
 
@@ -35,7 +36,7 @@ read_lines = live_lines (Called (On 0 (Request Read 0)) None ∷ [])
 abbrev pub read_told : ℕ → Told
 read_told value = reply 1 (value_reply (reading 0 7).message 1 (0 ∷ 0 ∷ 0 ∷ value ∷ []))
 
--- ---- the first clause
+-- ---- a message that does not act on the record of its channel
 
 -- A record was removed and another added under its name; a read on the old channel is answered with the new record's value, 22.
 abbrev pub from_new : Circuit
@@ -51,7 +52,7 @@ for_nothing = live_circuit (reading 0 7 ∷ []) (reply 1 (status_reply (reading 
 abbrev pub refused_for_nothing : World
 refused_for_nothing = world (for_nothing ∷ []) read_lines temp_there
 
--- ---- the second
+-- ---- answers and notices that are not of their own request
 
 -- The read at place 1 was not handled, and yet a reply to it came.
 abbrev pub invented_answer : World
@@ -174,7 +175,7 @@ unanswered = live_circuit (putting 0 8 22 ∷ []) [] (step 1 1 2 ∷ [])
 abbrev pub unanswered_put : World
 unanswered_put = world (unanswered ∷ []) put_lines finished_entries
 
--- ---- the third
+-- ---- writes that are applied twice, or elsewhere, or dropped
 
 -- The write of one place is applied twice.
 abbrev pub applied_twice : Stored → World
@@ -190,7 +191,11 @@ applied_early =
     live_lines (Called (On 0 (Request Read 0)) None ∷ Called (On 0 (Request Put 0)) (Some (longs (pos 22 ∷ []))) ∷ [])
     ) (Added 0 temp ∷ Applied 0 2 0 (long 22) false ∷ [])
 
--- ---- the fourth
+-- A put that waited is dropped, and its record, its channel and its circuit are there.
+abbrev pub dropped_for_nothing : World
+dropped_for_nothing = world (unanswered ∷ []) put_lines withdrawn_entries
+
+-- ---- updates that do not follow their record
 
 -- the updates of an EVENT_ADD at place 1 that are sent
 abbrev pub updates_sent : List Told → Circuit
@@ -199,3 +204,16 @@ updates_sent ts = live_circuit (adding 0 9 ∷ []) ts (step 1 1 1 ∷ [])
 -- These updates do not follow these posts, while TEMP is there.
 abbrev pub FollowsNot : List Told → List Stored → Type 0
 FollowsNot ts posts = Follows AnyDue Shows Means (updates_sent ts) temp_there 1 0 (adding 0 9) posts → ⊥
+
+-- ---- a creation that is refused for nothing
+
+-- TEMP was asked for and refused, and nothing else happened: a record has the name, the CID is free, and no SID is given.
+abbrev pub creation_refused : Circuit
+creation_refused = circuit (creating ∷ []) (reply 0 (failed_reply creating.message) ∷ []) (step 0 1 1 ∷ []) []
+
+abbrev pub refused_creation : World
+refused_creation = world (creation_refused ∷ []) (Opened 0 temp_name ∷ []) temp_there
+
+-- A world is unsafe by what was due in it.
+abbrev pub UnsafeAsDue : World → Type 0
+UnsafeAsDue w = IsSafe ports rules w → ⊥

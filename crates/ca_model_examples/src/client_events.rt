@@ -1,5 +1,5 @@
 ghost use Rattle.ca_model_examples.specs.ClientCallEvents.{ClearLeaves, Collects, GivesUp, OpenLeaves, PutLeaves, ReadLeaves, SubscribeLeaves, UnsubscribeLeaves, WriteLeaves};
-ghost use Rattle.ca_model_examples.specs.ClientEndEvents.{AboutPlace, AcceptMakes, CutEnds, DatagramFinds, DownMoves, NoticeLines, RestartForgets, StepHears, TickEnds, UpMoves};
+ghost use Rattle.ca_model_examples.specs.ClientEndEvents.{AboutPlace, AcceptMakes, CutEnds, DatagramFinds, DownMoves, NoticeLines, RestartForgets, StepHears, TickEnds, TickStops, UpMoves};
 
 /// A channel is opened under the next number; a priority or a name that is none is refused.
 pub fn a_call_opens()
@@ -86,9 +86,11 @@ pub fn a_step_hears()
     ensures { StepHears }
 {}
 
-/// A moment comes to each client in turn, and ends a silence that was too long.
+/// A moment comes to each client in turn, and ends a silence that was too long. If memory lacks at a client, those before it
+/// had the moment.
 pub fn a_tick_ends_a_silence()
-    ensures { TickEnds }
+    ensures ends { TickEnds }
+    ensures stops { TickStops }
 {}
 
 /// A search reply makes the circuit wanted that it names.

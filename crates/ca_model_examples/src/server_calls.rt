@@ -1,4 +1,4 @@
-ghost use Rattle.ca_model_examples.specs.ServerAnswers.{AcceptsFirst, AcceptsNotSo, AddsNotSo, AddsToFirst, AnnouncesItself, AnswersSearches, ClearsItsOwn, ClosesOnBadHeader, EndsNoOther, FinishesNotSo, FinishesUnawaited, GivesBytes, IsFullAt, LeavesNotSo, NeedsBytes, PacksReplies, PumpsOn, ReportsOnce, SendsBytes};
+ghost use Rattle.ca_model_examples.specs.ServerAnswers.{AcceptsFirst, AcceptsNotSo, AddsNotSo, AddsToFirst, AnnouncesItself, AnswersSearches, AnswersVersions, ClearsItsOwn, ClosesOnBadHeader, EndsNoOther, FinishesNotSo, FinishesUnawaited, GivesBytes, IsFullAt, LeavesNotSo, NeedsBytes, PacksReplies, PumpsOn, ReportsOnce, SendsBytes};
 
 /// Circuits are accepted under a free index, and bytes move while their ends are open.
 pub fn circuits_come_and_get_bytes()
@@ -40,6 +40,11 @@ pub fn a_server_is_found()
 pub fn a_finish_is_answered_if_awaited()
     ensures unawaited { FinishesUnawaited }
     ensures not_so { FinishesNotSo }
+{}
+
+/// The engine of a circuit writes the reply to a message, and nothing if none is due.
+pub fn an_engine_answers()
+    ensures { AnswersVersions }
 {}
 
 /// A record has a name of 60 bytes at most, that is not served, and a value that fits.

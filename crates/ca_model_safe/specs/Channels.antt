@@ -140,11 +140,15 @@ IsOpen c y j k sid r =
     Created c y j k sid r × ((i : ℕ) (t : Told) → j < i → At c.down i t → Creates t.message sid → ⊥)
     × ((l : ℕ) (s : Sent) → k < l → l < length c.handled → At c.up l s → Clears s.message sid → ⊥)
 
--- When the server's log had so many entries, it had handled no CLEAR_CHANNEL of this SID that was sent after place k.
+-- When the server's log had so many entries, it had handled a CLEAR_CHANNEL of this SID that was sent after place k.
+abbrev pub IsCleared : Circuit → (k sid logged : ℕ) → Type 0
+IsCleared c k sid logged =
+    (l : ℕ) × (s : Sent) × (h : Step) × (k < l) × At c.up l s × At c.handled l h × (h.logged ≤ logged)
+    × Clears s.message sid
+
+-- And it had handled none.
 abbrev pub IsUncleared : Circuit → (k sid logged : ℕ) → Type 0
-IsUncleared c k sid logged =
-    (l : ℕ) (s : Sent) (h : Step) → k < l → At c.up l s → At c.handled l h → h.logged ≤ logged → Clears s.message sid
-    → ⊥
+IsUncleared c k sid logged = IsCleared c k sid logged → ⊥
 
 -- The channel is live at the client: its creation was read, no CLEAR_CHANNEL of it was sent since, and the client's end
 -- is open.
@@ -183,8 +187,22 @@ abbrev pub HasWaited : (n : ℕ) → Circuit → List Entry → (k i r : ℕ) �
 HasWaited n c y k i r =
     (e : ℕ) × (v : Stored) × At y e (Waits n k r v) × (e < i) × IsTaken c k e × (In y (Withdrawn n k) → ⊥)
 
+-- The put at place k of circuit n is dropped at entry i: it had come to wait before; and its record was removed, its
+-- channel was cleared, or the server's end of its circuit closed.
+pub record IsDropped (w : World) (n k l i : ℕ) (y : List Entry) : Type 0 where
+  pub c : Circuit
+  pub on : At w.circuits n c × (c.server ≡ l)
+  pub e : ℕ
+  pub r : ℕ
+  pub v : Stored
+  pub waited : At y e (Waits n k r v) × (e < i)
+  pub s : Sent
+  pub at : At c.up k s
+  pub why : In (take i y) (Removed r) ⊎ (IsCleared c k (sid_in s.message) i ⊎ (c.server_open ≡ false))
+
 -- A write that is applied at entry i has the value that its caller gave, in the type of its record; the record was
--- there then, under the name of the caller's channel; and it was applied when it was handled, or after it had waited.
+-- there then, under the name of the caller's channel; and it was applied when it was handled, or the server's end
+-- closed on it, or after it had waited.
 pub record IsOwnWrite (w : World) (n k l i r : ℕ) (v : Stored) : Type 0 where
   pub c : Circuit
   pub x : List Line

@@ -12,7 +12,7 @@ use Rattle.ca_wire.specs.Messages.{mask_in}
 use Rattle.ca_model.specs.History.{Ask, Create, Request, Subscribe, Put, Intent, On, Cause, Reply, Removal, Update}
 use Rattle.ca_model.specs.History.{Sent, Told, Step, Circuit, Entry, Removed, Finished, Withdrawn, Line, Called}
 use Rattle.ca_model.specs.History.{Noticed, Updated, World}
-use Rattle.ca_model_safe.specs.Channels.{AreSteps, Created, IsApplied, IsBusyUntil, IsFinished, IsHeld, IsLive}
+use Rattle.ca_model_safe.specs.Channels.{AreSteps, Created, IsApplied, IsBusyUntil, IsDropped, IsFinished, IsHeld, IsLive}
 use Rattle.ca_model_safe.specs.Channels.{IsLost, IsNamed, IsOpen}
 use Rattle.ca_model_safe.specs.Channels.{IsOwnWrite, IsReply, IsRequest, IsUncleared, IsUnread, IsUse, KeepNames}
 use Rattle.ca_model_safe.specs.Channels.{Lasts, Meant}
@@ -151,13 +151,15 @@ module _
     pub at_one : (intent : Intent) (n k m l : ℕ) → IsRequest intent → Stands w life intent n k
         → Stands w life intent m l → (n ≡ m) × (k ≡ l)
 
-  -- 3. A write is applied once, in all lives of all servers, with its own value to its own record, when it was handled
-  -- or after it had waited; a record finishes one put at a time, each once. A put told Done is applied; a write told
+  -- 3. A write is applied once, in all lives of all servers, with its own value to its own record, when it was handled,
+  -- or as the server's end closed on it, or after it had waited. A put that waits is dropped only with its record, its
+  -- channel or its circuit. A record finishes one put at a time, each once. A put told Done is applied; a write told
   -- Failed is not.
   pub record NotTwice (w : World) : Type 0 where
     pub once : (n k l m i j r q : ℕ) (v u : Stored) → IsApplied w n k l i r v → IsApplied w n k m j q u
         → (l ≡ m) × (i ≡ j)
     pub own : (n k l i r : ℕ) (v : Stored) → IsApplied w n k l i r v → IsOwnWrite w n k l i r v
+    pub dropped : (n k l i : ℕ) (y : List Entry) → At w.servers l y → At y i (Withdrawn n k) → IsDropped w n k l i y
     pub finished : (n k l e : ℕ) (y : List Entry) → At w.servers l y → At y e (Finished n k)
         → IsBusyUntil y n k e × ((f : ℕ) → At y f (Finished n k) → e ≡ f)
     pub done : (life channel number : ℕ) (x : List Line) → At w.clients life x

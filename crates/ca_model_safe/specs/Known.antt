@@ -9,7 +9,8 @@ use Rattle.ca_text.specs.Limits.{arena_slots, last_generation}
 use Rattle.ca_text.specs.Place.{At}
 use Rattle.ca_queue.specs.declared.entry.SubKey.{SubKey}
 use Rattle.ca_queue.specs.Order.{last_of}
-use Rattle.ca_records.specs.Puts.{Stamp, written_meta}
+use Rattle.ca_records.specs.declared.puts.Stamp.{Stamp}
+use Rattle.ca_records.specs.Puts.{written_meta}
 use Rattle.ca_records.specs.Record.{RecordState}
 use Rattle.ca_records.specs.Rules.{Rule}
 use Rattle.ca_wire.specs.Fields.{Fields}

@@ -1,5 +1,9 @@
--- Statement: when a world, of whatever life its circuits and logs are, is safe, and when what went out there was legal.
-use Rattle.ca_model_world.specs.World.{World, port_of, rules_of, told}
+-- Statement: when a world, of whatever life its circuits and logs are, is safe, and when what went out there was legal; and
+-- what is to be promised of every run.
+use Rattle.std.specs.Prelude.{List, Option}
+use Rattle.ca_model_world.specs.Events.{Event}
+use Rattle.ca_model_world.specs.Runs.{AreEvents, Runs}
+use Rattle.ca_model_world.specs.World.{Setting, IsSetting, World, port_of, rules_of, told}
 use Rattle.ca_model_safe.specs.Known.{IsSafe}
 use Rattle.ca_model_safe.specs.Legal.{Legal}
 
@@ -10,3 +14,9 @@ IsSafeWorld w = IsSafe (port_of w) (rules_of w) (told w)
 -- Each end of each circuit sent what it may.
 abbrev pub IsLegalWorld : World → Type 0
 IsLegalWorld w = Legal (told w)
+
+-- What is to be promised: from a well-formed setting, whatever events in a row lead to is safe, and legal.
+abbrev pub Promise : Type 0
+Promise =
+    (setting : Setting) (es : List Event) (stopped : Option Event) (w : World) → IsSetting setting → AreEvents es
+    → Runs setting es stopped w → IsSafeWorld w × IsLegalWorld w

@@ -29,5 +29,5 @@ pub data Event : Type 0 where
   Post : (server : ℕ) → (name : List ℕ) → Elements → (mask : ℕ) → Event
   Finish Remove : (server : ℕ) → (name : List ℕ) → Event
   Add : (server : ℕ) → RecordState → Event
-  -- a moment is handed to all
+  -- a moment is handed to all clients, in order
   Tick : (moment : ℕ) → Event

@@ -11,7 +11,8 @@ use Rattle.ca_queue.specs.declared.entry.SubKey.{SubKey}
 use Rattle.ca_queue.specs.Keys.{same}
 use Rattle.ca_queue.specs.Queue.{Queue, added, posted, switched, with_front_taken}
 use Rattle.ca_queue.specs.Waiting.{front}
-use Rattle.ca_records.specs.Puts.{Put, Record, WaitingPut, record_named}
+use Rattle.ca_records.specs.declared.puts.Put.{Put}
+use Rattle.ca_records.specs.Puts.{Record, WaitingPut, record_named}
 use Rattle.ca_records.specs.Record.{RecordState, unset}
 use Rattle.ca_text.specs.declared.refusal.Refusal.{Refusal}
 use Rattle.ca_text.specs.declared.refusal.Refusal.TheVariants as refusal
@@ -381,11 +382,12 @@ HappensRemove w i y name new =
 -- A record is added, with a number that no record of this life had; refused, nothing changes.
 abbrev pub HappensAdd : World → (i : ℕ) → ServerSide → RecordState → World → Type 0
 HappensAdd w i y r new =
-    (core : Server)
-    × ((AddsRecord y.core r (Ok tt) core
-    × (let side : ServerSide = record y { core = core; records = y.records ++ record_begun y.added r ∷ []; added = y.added + 1 } in
+    (core : Server) × (behind : ℕ)
+    × ((AddsRecord y.core r behind (Ok tt) core
+    × (let records : List RecordSide = take behind y.records ++ record_begun y.added r ∷ drop behind y.records in
+    let side : ServerSide = record y { core = core; records = records; added = y.added + 1 } in
     new ≡ with_entries y.life (entry.Added y.added r ∷ []) (with_server i side w)))
-    ⊎ ((e : Refusal) × (e ≢ refusal.OutOfMemory) × AddsRecord y.core r (Err e) core × (new ≡ w)))
+    ⊎ ((e : Refusal) × (e ≢ refusal.OutOfMemory) × AddsRecord y.core r behind (Err e) core × (new ≡ w)))
 
 -- ---- datagrams and restarts
 

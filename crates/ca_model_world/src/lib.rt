@@ -1,5 +1,5 @@
 //! What may happen to a world of clients, servers and their circuits, event by event, whatever datagrams come, wherever circuits are
 //! cut and whoever restarts.
 //!
-//! Definitions alone: the laws on runs and the world's own code stand on them.
+//! Definitions alone: the laws on runs and the world's own code are to stand on them.
 #![tactic(auto)]

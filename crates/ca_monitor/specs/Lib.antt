@@ -1,2 +1,4 @@
 pub mod ReadRun
 pub mod Subscriptions
+pub mod Stages
+pub mod Calls

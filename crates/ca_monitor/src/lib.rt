@@ -1,2 +1,12 @@
 //! A client's subscriptions: which are there, whose wire ids drain, and when the client asks for a pause of updates.
 #![tactic(auto)]
+
+mod monitors;
+mod read_run;
+mod stage;
+mod subscription;
+
+pub use monitors::Monitors;
+pub use read_run::ReadRun;
+pub use stage::Stage;
+pub use subscription::Subscription;

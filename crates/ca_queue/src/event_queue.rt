@@ -42,9 +42,15 @@ impl Model for EventQueue {
 
     ghost use Rattle.ca_queue.specs.Layout.{queue_of, is_roomy, IsLaidOut};
 
-    ghost view = { λ q. (queue_of q.entries.items q.subscriptions.items q.events_on, is_roomy (deque_capacity q.entries) (vec_capacity q.subscriptions)) };
+    ghost view = { λ q. (
+      queue_of q.entries.items q.subscriptions.items q.events_on,
+      is_roomy
+          (deque_capacity q.entries) (vec_capacity q.subscriptions),
+    ) };
 
-    ghost invariant = { λ q. IsLaidOut q.entries.items q.subscriptions.items q.events_on (deque_capacity q.entries) (vec_capacity q.subscriptions) };
+    ghost invariant = { λ q.
+        IsLaidOut q.entries.items q.subscriptions.items q.events_on (deque_capacity q.entries)
+        (vec_capacity q.subscriptions) };
 }
 
 impl Queues for EventQueue {
@@ -107,14 +113,17 @@ fn make_room(
 ) -> Result<(), AllocError>
     requires fits { length entries.old.items ≤ queue_places }
     requires few { length subscriptions.old.items < queue_subscriptions }
-    requires roomy { HasRoom subscriptions.old.items (deque_capacity entries.old) (vec_capacity subscriptions.old) }
+    requires roomy { HasRoom subscriptions.old.items (deque_capacity entries.old)
+        (vec_capacity subscriptions.old) }
     ensures entries { entries.new.items ≡ entries.old.items }
     ensures subscriptions { subscriptions.new.items ≡ subscriptions.old.items }
     ensures places { OnOk result (queue_places ≤ deque_capacity entries.new) }
     ensures room { OnOk result (queue_subscriptions ≤ vec_capacity subscriptions.new) }
-    ensures roomy { OnOk result (is_roomy (deque_capacity entries.new) (vec_capacity subscriptions.new) ≡ true) }
+    ensures roomy { OnOk result (is_roomy (deque_capacity entries.new)
+        (vec_capacity subscriptions.new) ≡ true) }
     ensures refused { OnErr result (subscriptions.old.items ≡ []) }
-    ensures full { OnErr result (is_roomy (deque_capacity entries.old) (vec_capacity subscriptions.old) ≡ false) }
+    ensures full { OnErr result (is_roomy (deque_capacity entries.old)
+        (vec_capacity subscriptions.old) ≡ false) }
 {
     entries.reserve(QUEUE_PLACES - entries.len())?;
     subscriptions.reserve(QUEUE_SUBSCRIPTIONS - subscriptions.len())?;
@@ -161,14 +170,16 @@ fn may_take(subscriptions: &[Subscription], events_on: bool) -> bool
 // Whether a post takes the place of its subscription's last entry: it has so many, of so many that wait.
 fn is_replacing(count: usize, length: usize, events_on: bool) -> bool
     requires { length ≤ queue_places }
-    ensures { result ≡ (nat_lt 0 count && (nat_le (queue_places - length) queue_low_places || not events_on)) }
+    ensures { result
+        ≡ (nat_lt 0 count && (nat_le (queue_places - length) queue_low_places || not events_on)) }
 {
     count > 0 && (QUEUE_PLACES - length <= QUEUE_LOW_PLACES || !events_on)
 }
 
 // Takes this subscription out.
 fn forget(subscriptions: &mut Vec<Subscription>, key: SubKey)
-    ensures items { subscriptions.new.items ≡ filter (λ s. not (same key s.key)) subscriptions.old.items }
+    ensures items { subscriptions.new.items
+        ≡ filter (λ s. not (same key s.key)) subscriptions.old.items }
     ensures capacity { vec_capacity subscriptions.new ≡ vec_capacity subscriptions.old }
 {
     subscriptions.retain(|s| !is_same(key, s.key));

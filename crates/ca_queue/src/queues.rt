@@ -33,7 +33,10 @@ pub trait Queues {
     fn add(&mut self, key: SubKey) -> Result<(), Refusal>
         requires { IsFalse (is_among key (contents self.old).subscriptions) }
         ensures adds { Adds (contents self.old) key result (contents self.new) }
-        ensures room { MatchResult result (λ _. IsTrue (has_room self.new)) (λ e. (e ≡ OutOfMemory → IsFalse (has_room self.old)) × (IsTrue (has_room self.old) → IsTrue (has_room self.new))) }
+        ensures room { MatchResult result (λ _. IsTrue (has_room self.new))
+            (λ e.
+            (e ≡ OutOfMemory → IsFalse (has_room self.old))
+            × (IsTrue (has_room self.old) → IsTrue (has_room self.new))) }
         ensures sound { IsSound (contents self.new) };
 
     /// Puts an entry of a subscription that was added.

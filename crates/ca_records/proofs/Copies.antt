@@ -6,7 +6,7 @@ use Rattle.ca_text.proofs.Places.{At-append, At-within}
 use Rattle.ca_records.specs.Record.{RecordState}
 use Rattle.ca_records.specs.Records.{AreApart, IsServed}
 
-at_get : {A : Type 0} (xs : List A) (i : ℕ) (d : A) → i < length xs → At xs i (get_or xs i d)
+pub at_get : {A : Type 0} (xs : List A) (i : ℕ) (d : A) → i < length xs → At xs i (get_or xs i d)
 at_get [] i d lt = absurd (omega arith)
 at_get (x ∷ xs) zero d lt = refl
 at_get (x ∷ xs) (suc i) d lt = at_get xs i d (omega arith)

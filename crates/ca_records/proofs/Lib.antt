@@ -1,2 +1,11 @@
+mod Arrivals
+mod Beginnings
+mod CallSteps
 mod Copies
+mod Faulted
 mod Indexes
+mod Openings
+mod Presence
+mod Steps
+mod Waiters
+mod Withdrawals

@@ -1,5 +1,14 @@
+pub mod Calls
+pub mod Chain
+pub mod Faults
+pub mod ForHistories
 pub mod Index
+pub mod Judging
+pub mod Layout
+pub mod Lending
+pub mod Puts
 pub mod Record
 pub mod Records
 pub mod Rules
-pub mod Puts
+pub mod Store
+pub mod Writes

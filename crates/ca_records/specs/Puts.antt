@@ -1,23 +1,11 @@
 -- Vocabulary: the records of a server with the puts that make them busy or wait (section "CA_PROTO_WRITE_NOTIFY").
 use Rattle.std.specs.Prelude.{ℕ, Bool, not, List, [], ◌∷◌, ◌++◌, Option, Some, None, filter, find, if◌then◌else◌, map}
 use Rattle.std.specs.Str.{bytes_eq}
-use Rattle.ca_arena.specs.declared.handle.Handle.{Handle}
 use Rattle.ca_dbr.specs.declared.value.Meta.{Meta}
 use Rattle.ca_dbr.specs.Elements.{Elements}
+use Rattle.ca_records.specs.declared.puts.Put.{Put}
+use Rattle.ca_records.specs.declared.puts.Stamp.{Stamp}
 use Rattle.ca_records.specs.Record.{RecordState}
-
--- a time stamp, as it goes with an applied write: seconds and nanoseconds
-pub record Stamp : Type 0 where
-  pub seconds : ℕ
-  pub nanos : ℕ
-
--- a put with notification: its circuit and its channel, by their handles, and what its reply needs of its header
-pub record Put : Type 0 where
-  pub circuit : Handle
-  pub channel : Handle
-  pub data_type : ℕ
-  pub count : ℕ
-  pub ioid : ℕ
 
 -- a put that waits, and its value, converted to the type of its record
 pub record WaitingPut : Type 0 where
@@ -59,9 +47,13 @@ abbrev pub finished : Stamp → Record → List WaitingPut → Record
 finished s r [] = record r { busy = None; waiting = [] }
 finished s r (p ∷ ps) = record (with_value p.value (written_meta s) r) { busy = Some p.put; waiting = ps }
 
+-- the record without the waiting puts that the test names
+abbrev pub without_puts : (Put → Bool) → Record → Record
+without_puts which r = record r { waiting = filter (λ (p : WaitingPut). not (which p.put)) r.waiting }
+
 -- the records without the waiting puts that the test names
 abbrev pub withdrawn : (Put → Bool) → List Record → List Record
-withdrawn which records = map (λ (r : Record). record r { waiting = filter (λ (p : WaitingPut). not (which p.put)) r.waiting }) records
+withdrawn which records = map (without_puts which) records
 
 -- the records without the one of this name
 abbrev pub removed : List ℕ → List Record → List Record

@@ -19,9 +19,13 @@ meets (Some w) word = bytes_eq w word
 abbrev pub rule_meets : (user host name : List ℕ) → Rule → Bool
 rule_meets user host name r = meets r.user user && (meets r.host host && meets r.record_name name)
 
+-- the rights that a rule gives
+abbrev pub rule_bits : Rule → ℕ
+rule_bits r = cond r.reads 1 0 + cond r.writes 2 0
+
 -- The access rights, the bits 1 to read and 2 to write: by the first rule that meets, and both if none does.
 abbrev pub rights : List Rule → (user host name : List ℕ) → ℕ
-rights rules user host name = unwrap_or (option_map (λ (r : Rule). cond r.reads 1 0 + cond r.writes 2 0) (find (rule_meets user host name) rules)) 3
+rights rules user host name = unwrap_or (option_map rule_bits (find (rule_meets user host name) rules)) 3
 
 -- the right to read: the bit 1
 abbrev pub may_read : ℕ → Bool

@@ -1,12 +1,14 @@
-ghost use Rattle.std.specs.Prelude.{◌≡◌, MatchResult};
+ghost use Rattle.std.specs.Prelude.{◌≡◌, IfErr, IfOk, MatchResult, OnOk};
 ghost use Rattle.ca_text.specs.Limits.{record_name_limit};
 ghost use Rattle.ca_text.specs.Name.{IsName};
 ghost use Rattle.ca_text.specs.declared.refusal.Refusal.TheVariants.{BadCount, NameLength};
 ghost use Rattle.ca_dbr.specs.Elements.{elements};
+ghost use Rattle.ca_records.specs.Layout.{MayHave, MayNotHave};
 ghost use Rattle.ca_records.specs.Record.{HoldsValue, IsRecord, IsUnfit};
 
 use ca_dbr::{Meta, Value};
 use ca_text::{ELEMENT_LIMIT, RecordName, Refusal};
+use std::alloc::{AllocError, Global};
 use std::marker::Model;
 
 /// A record: a name, the greatest element count, whether a put takes it time, and a value with its metadata.
@@ -45,6 +47,42 @@ impl Record {
             value,
             meta,
         }
+    }
+
+    // The same record again.
+    pub(crate) fn copy(&self, alloc: Global) -> Result<Record, AllocError>
+        ensures { IfOk result (λ copy. copy ≡ self.now) }
+    {
+        let Ok(value) = self.value.copy(alloc) else {
+            return Err(AllocError);
+        };
+        let name = Vec::from_slice(alloc, &self.name)?;
+        Ok(Record::new(name, self.count, self.slow, value, self.meta))
+    }
+
+    // Sets the value and what goes with it.
+    pub(crate) fn set(&mut self, value: Value, meta: Meta)
+        requires { HoldsValue self.old.count (elements value) }
+        ensures { self.new ≡ record self.old { value = elements value; meta = meta } }
+    {
+        Value::know(&value);
+        self.value = value;
+        self.meta = meta;
+    }
+
+    // Whether it may have this value by a post: of its type, with one element to the greatest count.
+    pub(crate) fn check_post(&self, value: &Value) -> Result<(), Refusal>
+        ensures ok { OnOk result (MayHave self.now (elements value.now)) }
+        ensures err { IfErr result (MayNotHave self.now (elements value.now)) }
+    {
+        if value.base_type() != self.value.base_type() {
+            return Err(Refusal::BadType);
+        }
+        let present = value.count();
+        if present == 0 || present > self.count as usize {
+            return Err(Refusal::BadCount);
+        }
+        Ok(())
     }
 
     /// The name's bytes.
@@ -90,6 +128,14 @@ pub(crate) fn check(name: &[u8], count: u32, value: &Value) -> Result<(), Refusa
     ensures { MatchResult result (λ _. IsName record_name_limit name.now × HoldsValue count (elements value.now)) (IsUnfit name.now count (elements value.now)) }
 {
     RecordName::read(name)?;
+    check_value(count, value)?;
+    Ok(())
+}
+
+// Whether a record may have this value under this greatest count.
+pub(crate) fn check_value(count: u32, value: &Value) -> Result<(), Refusal>
+    ensures { MatchResult result (λ _. HoldsValue count (elements value.now)) (λ e. (e ≡ BadCount) × (HoldsValue count (elements value.now) → ⊥)) }
+{
     let limit = count as usize;
     let present = value.count();
     if present == 0 || present > limit || limit > ELEMENT_LIMIT {

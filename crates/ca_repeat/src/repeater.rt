@@ -70,7 +70,8 @@ fn is_among(members: &[Address], from: Address) -> bool
 
 /// Whether the registration of this sender is answered, among so many members.
 fn is_admitted(first: First, from: Address, known: bool, count: usize) -> bool
-    ensures { result ≡ (registers first && loopback from && (known || nat_lt count repeater_members)) }
+    ensures { result
+        ≡ (registers first && loopback from && (known || nat_lt count repeater_members)) }
 {
     is_registration(first) && is_loopback(from) && (known || count < REPEATER_MEMBERS)
 }
@@ -98,7 +99,8 @@ fn hand_on(
     sends: &mut Vec<Outgoing>,
 ) -> Result<(), AllocError>
     requires { IsFirst bytes.now first }
-    ensures ok { OnOk result (sends.new.items ≡ sends.old.items ++ handed (passed first from.ip bytes.now) from members.now) }
+    ensures ok { OnOk result (sends.new.items
+        ≡ sends.old.items ++ handed (passed first from.ip bytes.now) from members.now) }
     ensures err { OnErr result (handed (passed first from.ip bytes.now) from members.now ≢ []) }
 {
     if is_used_up(first, bytes) {
@@ -120,7 +122,8 @@ fn enroll(
     known: bool,
     from: Address,
 ) -> Result<(), AllocError>
-    ensures ok { OnOk result (members.new.items ≡ enrolled (answered && not known) members.old.items from) }
+    ensures ok { OnOk result (members.new.items
+        ≡ enrolled (answered && not known) members.old.items from) }
     ensures err { OnErr result (members.new.items ≡ members.old.items) }
     ensures answered { OnErr result (confirmed answered from ≢ []) }
 {

@@ -22,13 +22,15 @@ impl Model for Named {
 
     ghost view = { λ n. (n.user.items, n.host.items) };
 
-    ghost invariant = { λ n. (length n.user.items < payload_limit) × (length n.host.items < payload_limit) };
+    ghost invariant = { λ n.
+        (length n.user.items < payload_limit) × (length n.host.items < payload_limit) };
 }
 
 impl Named {
     /// Refused by 8 where one of them is too long for a message.
     pub fn new(user: Vec<u8>, host: Vec<u8>) -> Result<Named, Refusal>
-        ensures { MatchResult result (λ n. (n ≡ (user.items, host.items)) × IsNamed n) (λ e. (e ≡ BadText) × (IsNamed (user.items, host.items) → ⊥)) }
+        ensures { MatchResult result (λ n. (n ≡ (user.items, host.items)) × IsNamed n)
+            (λ e. (e ≡ BadText) × (IsNamed (user.items, host.items) → ⊥)) }
     {
         if user.len() >= PAYLOAD_LIMIT || host.len() >= PAYLOAD_LIMIT {
             return Err(Refusal::BadText);

@@ -26,7 +26,8 @@ trait Element: Copy + Drop {
 /// The base type that a word names. Refused by 8.
 pub(crate) fn base_in(word: &[u8]) -> Result<BaseType, Refusal>
     ensures ok { IfOk result (λ b. word.now ≡ type_word b) }
-    ensures err { IfErr result (λ e. (e ≡ BadText) × ((b : BaseType) → word.now ≡ type_word b → ⊥)) }
+    ensures err { IfErr result (λ e.
+        (e ≡ BadText) × ((b : BaseType) → word.now ≡ type_word b → ⊥)) }
 {
     if is_word(word, "STRING") {
         return Ok(BaseType::String);
@@ -56,7 +57,8 @@ pub(crate) fn base_in(word: &[u8]) -> Result<BaseType, Refusal>
 pub(crate) fn read_value(alloc: Global, base: BaseType, words: Words<'_>) -> Result<Value, Refusal>
     ensures ok { IfOk result (λ v. AreElements words.entry (elements v)) }
     ensures base { IfOk result (λ v. base_of (elements v) ≡ base) }
-    ensures err { IfErr result (λ e. Refuses (λ (v : Elements). (base_of v ≡ base) × AreElements words.entry v) e) }
+    ensures err { IfErr result (λ e.
+        Refuses (λ (v : Elements). (base_of v ≡ base) × AreElements words.entry v) e) }
 {
     match base {
         BaseType::String => Ok(Value::Strings(read_all(alloc, words)?)),
@@ -84,7 +86,8 @@ fn read_all<E: Element>(alloc: Global, mut words: Words<'_>) -> Result<Vec<E>, R
 /// The whole number that a word is, where it has at most 64 bits. Refused by 8.
 fn whole_in(word: &[u8]) -> Result<i64, Refusal>
     ensures ok { IfOk result (λ z. IsWhole word.now z) }
-    ensures err { IfErr result (λ e. (e ≡ BadText) × ((z : ℤ) → IsWhole word.now z → FitsSigned w64 z → ⊥)) }
+    ensures err { IfErr result (λ e.
+        (e ≡ BadText) × ((z : ℤ) → IsWhole word.now z → FitsSigned w64 z → ⊥)) }
 {
     if word.first() == Some(&PLUS) {
         return Err(Refusal::BadText);
@@ -101,7 +104,8 @@ fn whole_in(word: &[u8]) -> Result<i64, Refusal>
 /// Reads a word's hexadecimal digits into just as many bytes. Refused by 8.
 fn read_hex(word: &[u8], bytes: &mut [u8]) -> Result<(), Refusal>
     ensures ok { OnOk result (IsHex word.now bytes.new) }
-    ensures err { IfErr result (λ e. (e ≡ BadText) × ((b : List ℕ) → length b ≡ length bytes.old → IsHex word.now b → ⊥)) }
+    ensures err { IfErr result (λ e.
+        (e ≡ BadText) × ((b : List ℕ) → length b ≡ length bytes.old → IsHex word.now b → ⊥)) }
 {
     match hex::decode_to_slice(word, bytes) {
         Ok(()) => Ok(()),

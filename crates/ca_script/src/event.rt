@@ -26,7 +26,8 @@ pub(crate) enum Verb {
 impl Verb {
     /// The verb that this word is, where it is one.
     pub(crate) fn of(word: &[u8]) -> Option<Verb>
-        ensures { MatchOption result ((v : Verb) → verb_word v ≡ word.now → ⊥) (λ v. verb_word v ≡ word.now) }
+        ensures { MatchOption result ((v : Verb) → verb_word v ≡ word.now → ⊥)
+            (λ v. verb_word v ≡ word.now) }
     {
         if is_word(word, "open") {
             return Some(Verb::Open);
@@ -138,7 +139,8 @@ fn read_cut(mut words: Words<'_>) -> Result<Event, Refusal>
 /// The number that these words are, all of them.
 fn one_number(mut words: Words<'_>) -> Result<u64, Refusal>
     ensures ok { IfOk result (λ n. AreNumbers words.entry (n ∷ [])) }
-    ensures err { IfErr result (λ e. (e ≡ BadText) × ((n : ℕ) → AreNumbers words.entry (n ∷ []) → ⊥)) }
+    ensures err { IfErr result (λ e.
+        (e ≡ BadText) × ((n : ℕ) → AreNumbers words.entry (n ∷ []) → ⊥)) }
 {
     let number = words.number()?;
     words.end()?;
@@ -148,7 +150,8 @@ fn one_number(mut words: Words<'_>) -> Result<u64, Refusal>
 /// The two numbers that these words are.
 fn two_numbers(mut words: Words<'_>) -> Result<(u64, u64), Refusal>
     ensures ok { IfOk result (λ r. AreNumbers words.entry (r.0 ∷ r.1 ∷ [])) }
-    ensures err { IfErr result (λ e. (e ≡ BadText) × ((m n : ℕ) → AreNumbers words.entry (m ∷ n ∷ []) → ⊥)) }
+    ensures err { IfErr result (λ e.
+        (e ≡ BadText) × ((m n : ℕ) → AreNumbers words.entry (m ∷ n ∷ []) → ⊥)) }
 {
     let first = words.number()?;
     let second = one_number(words)?;
@@ -158,7 +161,8 @@ fn two_numbers(mut words: Words<'_>) -> Result<(u64, u64), Refusal>
 /// The four numbers that these words are.
 fn four_numbers(mut words: Words<'_>) -> Result<(u64, u64, u64, u64), Refusal>
     ensures ok { IfOk result (λ r. AreNumbers words.entry (r.0 ∷ r.1 ∷ r.2 ∷ r.3 ∷ [])) }
-    ensures err { IfErr result (λ e. (e ≡ BadText) × ((k l m n : ℕ) → AreNumbers words.entry (k ∷ l ∷ m ∷ n ∷ []) → ⊥)) }
+    ensures err { IfErr result (λ e.
+        (e ≡ BadText) × ((k l m n : ℕ) → AreNumbers words.entry (k ∷ l ∷ m ∷ n ∷ []) → ⊥)) }
 {
     let first = words.number()?;
     let second = words.number()?;

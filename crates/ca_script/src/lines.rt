@@ -26,7 +26,8 @@ pub(crate) fn read_client(alloc: Global, mut words: Words<'_>) -> Result<Named, 
 /// `A.B.C.D:PORT`, behind the line's first word: an IPv4 address and a port. Refused by 8.
 pub(crate) fn read_server(mut words: Words<'_>) -> Result<(u32, u16), Refusal>
     ensures ok { IfOk result (λ p. SaysServer words.entry p.0 p.1) }
-    ensures err { IfErr result (λ e. (e ≡ BadText) × ((address port : ℕ) → SaysServer words.entry address port → ⊥)) }
+    ensures err { IfErr result (λ e.
+        (e ≡ BadText) × ((address port : ℕ) → SaysServer words.entry address port → ⊥)) }
 {
     let word = words.word()?;
     words.end()?;
@@ -44,7 +45,8 @@ pub(crate) fn read_server(mut words: Words<'_>) -> Result<(u32, u16), Refusal>
 /// The address that a text is: four numbers below 256, parted by dots. Refused by 8.
 fn address_in(text: &[u8]) -> Result<u32, Refusal>
     ensures ok { IfOk result (λ address. IsAddress text.now address) }
-    ensures err { IfErr result (λ e. (e ≡ BadText) × ((address : ℕ) → IsAddress text.now address → ⊥)) }
+    ensures err { IfErr result (λ e.
+        (e ≡ BadText) × ((address : ℕ) → IsAddress text.now address → ⊥)) }
 {
     let mut parts = Pieces::<46>::new(text);
     let a = octet(&mut parts)?;
@@ -58,7 +60,10 @@ fn address_in(text: &[u8]) -> Result<u32, Refusal>
 fn octet(parts: &mut Pieces<'_, 46>) -> Result<u8, Refusal>
     ensures ok { IfOk result (λ n. (w : List ℕ) × (parts.old ≡ w ∷ parts.new) × IsNumber w n) }
     ensures small { IfOk result (λ n. n < 256) }
-    ensures err { IfErr result (λ e. (e ≡ BadText) × ((w : List ℕ) (ws : List (List ℕ)) (n : ℕ) → parts.old ≡ w ∷ ws → IsNumber w n → n < 256 → ⊥)) }
+    ensures err { IfErr result (λ e.
+        (e ≡ BadText)
+        × ((w : List ℕ) (ws : List (List ℕ)) (n : ℕ) → parts.old ≡ w ∷ ws → IsNumber w n → n < 256
+        → ⊥)) }
 {
     match u8::try_from(parts.number()?) {
         Ok(octet) => Ok(octet),
@@ -100,7 +105,8 @@ pub(crate) fn read_record(
 /// Whether a put takes the record time, as a word says. Refused by 8.
 fn slow_in(word: &[u8]) -> Result<bool, Refusal>
     ensures ok { IfOk result (λ slow. word.now ≡ slow_word slow) }
-    ensures err { IfErr result (λ e. (e ≡ BadText) × ((slow : Bool) → word.now ≡ slow_word slow → ⊥)) }
+    ensures err { IfErr result (λ e.
+        (e ≡ BadText) × ((slow : Bool) → word.now ≡ slow_word slow → ⊥)) }
 {
     if is_word(word, "quick") {
         return Ok(false);

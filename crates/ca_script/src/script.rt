@@ -76,10 +76,12 @@ fn read_line(alloc: Global, line: &[u8], script: &mut Script) -> Result<(), Refu
 /// One client comes before all else.
 fn add_client(alloc: Global, words: Words<'_>, script: &mut Script) -> Result<(), Refusal>
     requires servers { length script.old.config.servers.items ≤ 1 }
-    ensures ok { OnOk result (AddsClient (reading script.old) (codes "client" ∷ words.entry) (reading script.new)) }
+    ensures ok { OnOk result (AddsClient (reading script.old) (codes "client" ∷ words.entry)
+        (reading script.new)) }
     ensures clients { OnOk result (length script.new.config.clients.items ≤ 1) }
     ensures servers { OnOk result (length script.new.config.servers.items ≤ 1) }
-    ensures err { IfErr result (λ e. Refuses (AddsClient (reading script.old) (codes "client" ∷ words.entry)) e) }
+    ensures err { IfErr result (λ e.
+        Refuses (AddsClient (reading script.old) (codes "client" ∷ words.entry)) e) }
 {
     let Script { config, events } = script;
     if !config.clients.is_empty() || !config.servers.is_empty() || !events.is_empty() {
@@ -93,10 +95,12 @@ fn add_client(alloc: Global, words: Words<'_>, script: &mut Script) -> Result<()
 /// One server comes before the events.
 fn add_server(alloc: Global, words: Words<'_>, script: &mut Script) -> Result<(), Refusal>
     requires clients { length script.old.config.clients.items ≤ 1 }
-    ensures ok { OnOk result (AddsServer (reading script.old) (codes "server" ∷ words.entry) (reading script.new)) }
+    ensures ok { OnOk result (AddsServer (reading script.old) (codes "server" ∷ words.entry)
+        (reading script.new)) }
     ensures clients { OnOk result (length script.new.config.clients.items ≤ 1) }
     ensures servers { OnOk result (length script.new.config.servers.items ≤ 1) }
-    ensures err { IfErr result (λ e. Refuses (AddsServer (reading script.old) (codes "server" ∷ words.entry)) e) }
+    ensures err { IfErr result (λ e.
+        Refuses (AddsServer (reading script.old) (codes "server" ∷ words.entry)) e) }
 {
     let Script { config, events } = script;
     if !config.servers.is_empty() || !events.is_empty() {
@@ -115,10 +119,12 @@ fn add_server(alloc: Global, words: Words<'_>, script: &mut Script) -> Result<()
 fn add_record(alloc: Global, words: Words<'_>, script: &mut Script) -> Result<(), Refusal>
     requires clients { length script.old.config.clients.items ≤ 1 }
     requires servers { length script.old.config.servers.items ≤ 1 }
-    ensures ok { OnOk result (AddsRecord (reading script.old) (codes "record" ∷ words.entry) (reading script.new)) }
+    ensures ok { OnOk result (AddsRecord (reading script.old) (codes "record" ∷ words.entry)
+        (reading script.new)) }
     ensures clients { OnOk result (length script.new.config.clients.items ≤ 1) }
     ensures servers { OnOk result (length script.new.config.servers.items ≤ 1) }
-    ensures err { IfErr result (λ e. Refuses (AddsRecord (reading script.old) (codes "record" ∷ words.entry)) e) }
+    ensures err { IfErr result (λ e.
+        Refuses (AddsRecord (reading script.old) (codes "record" ∷ words.entry)) e) }
 {
     if !script.events.is_empty() {
         return Err(Refusal::BadText);

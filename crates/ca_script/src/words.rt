@@ -10,7 +10,8 @@ const PLUS: u8 = b'+';
 
 /// What stands before the first separator, and what stands behind it, where there is one.
 pub(crate) fn cut<'a>(text: &'a [u8], separator: u8) -> (&'a [u8], Option<&'a [u8]>)
-    ensures pieces { parted separator text.now ≡ result.0.now ∷ pieces_left separator (option_map (λ r. r.now) result.1) }
+    ensures pieces { parted separator text.now
+        ≡ result.0.now ∷ pieces_left separator (option_map (λ r. r.now) result.1) }
     ensures shorter { IfSome result.1 (λ r. length r.now < length text.now) }
 {
     match memchr(separator, text) {
@@ -58,7 +59,9 @@ impl<'a, const SEPARATOR: u8> Pieces<'a, SEPARATOR> {
     /// Takes the next piece, which has a byte at least. Refused by 8 where there is none.
     pub(crate) fn word(&mut self) -> Result<&'a [u8], Refusal>
         ensures ok { IfOk result (λ w. (self.old ≡ w.now ∷ self.new) × (0 < length w.now)) }
-        ensures err { IfErr result (λ e. (e ≡ BadText) × ((w : List ℕ) (ws : List (List ℕ)) → self.old ≡ w ∷ ws → 0 < length w → ⊥)) }
+        ensures err { IfErr result (λ e.
+            (e ≡ BadText)
+            × ((w : List ℕ) (ws : List (List ℕ)) → self.old ≡ w ∷ ws → 0 < length w → ⊥)) }
     {
         let Some(text) = self.rest else {
             return Err(Refusal::BadText);
@@ -74,7 +77,9 @@ impl<'a, const SEPARATOR: u8> Pieces<'a, SEPARATOR> {
     /// Takes the next piece, which is a decimal number. Refused by 8 where there is none.
     pub(crate) fn number(&mut self) -> Result<u64, Refusal>
         ensures ok { IfOk result (λ n. (w : List ℕ) × (self.old ≡ w ∷ self.new) × IsNumber w n) }
-        ensures err { IfErr result (λ e. (e ≡ BadText) × ((w : List ℕ) (ws : List (List ℕ)) (n : ℕ) → self.old ≡ w ∷ ws → IsNumber w n → ⊥)) }
+        ensures err { IfErr result (λ e.
+            (e ≡ BadText)
+            × ((w : List ℕ) (ws : List (List ℕ)) (n : ℕ) → self.old ≡ w ∷ ws → IsNumber w n → ⊥)) }
     {
         number_in(self.word()?)
     }
@@ -100,7 +105,8 @@ pub(crate) fn is_word(word: &[u8], text: &str) -> bool
 
 /// The decimal number that a word is. Refused by 8.
 fn number_in(word: &[u8]) -> Result<u64, Refusal>
-    ensures { MatchResult result (λ n. IsNumber word.now n) (λ e. (e ≡ BadText) × ((n : ℕ) → IsNumber word.now n → ⊥)) }
+    ensures { MatchResult result (λ n. IsNumber word.now n)
+        (λ e. (e ≡ BadText) × ((n : ℕ) → IsNumber word.now n → ⊥)) }
 {
     if word.first() == Some(&PLUS) {
         return Err(Refusal::BadText);

@@ -7,5 +7,7 @@ ghost use Rattle.ca_search.specs.Clock.{fresh, run};
 pub fn searches_double()
     ensures doubled { (n : ℕ) → wait 32 300000 n ≡ min (32 * 2 ^ n) 300000 }
     ensures first { (start : ℕ) → (run (fresh start) []).due ≡ start }
-    ensures due { (start now : ℕ) (moments : List ℕ) → (run (fresh start) (moments ++ now ∷ [])).due ≡ min (now + wait 32 300000 (length moments)) latest }
+    ensures due { (start now : ℕ) (moments : List ℕ)
+        → (run (fresh start) (moments ++ now ∷ [])).due
+        ≡ min (now + wait 32 300000 (length moments)) latest }
 {}

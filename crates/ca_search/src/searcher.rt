@@ -69,7 +69,11 @@ impl Searcher {
 
     /// The channel is searched anew: its first search is due at once.
     pub fn resume(&mut self, cid: u32, now: u64)
-        ensures { self.new ≡ record { moment = at self.old now; channels = with_one (resumed (at self.old now)) cid self.old.channels } }
+        ensures { self.new
+            ≡ record {
+              moment = at self.old now;
+              channels = with_one (resumed (at self.old now)) cid self.old.channels;
+            } }
     {
         let now = self.moment.max(now);
         if let Some(place) = self.places.get_mut(&cid) {
@@ -100,7 +104,11 @@ impl Searcher {
 
     /// All that are not paused begin anew: their first searches are due at once.
     pub fn boost(&mut self, now: u64)
-        ensures { self.new ≡ record { moment = at self.old now; channels = with_all (boosted (at self.old now)) self.old.channels } }
+        ensures { self.new
+            ≡ record {
+              moment = at self.old now;
+              channels = with_all (boosted (at self.old now)) self.old.channels;
+            } }
     {
         let now = self.moment.max(now);
         boost(&mut self.places, now);

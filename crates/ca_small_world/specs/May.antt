@@ -45,4 +45,4 @@ May w (event.Down k n) = MayDown w k n
 May w (event.ServerStep k) = OpenAtServer w k
 May w (event.ClientStep k) = OpenAtClient w k
 May w (event.Cut k end.Client) = OpenAtClient w k
-May w (event.Cut k end.Server) = OpenAtServer w k
+May w (event.Cut k end.Server) = ⊥

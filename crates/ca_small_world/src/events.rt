@@ -96,7 +96,7 @@ impl World {
     /// The server's end is cut.
     pub(crate) fn cut_server(&mut self, circuit: u64) -> Result<(), Refusal>
         requires { Holds self.old }
-        ensures { Does self.old (OpenAtServer self.old circuit) (λ w. HappensCutServer self.old circuit w) result self.new }
+        ensures { Does self.old ⊥ (λ w. HappensCutServer self.old circuit w) result self.new }
     {
         if circuit >= self.circuits.len() as u64 {
             return Err(Refusal::BadEvent);

@@ -13,6 +13,8 @@ mod ids;
 #[cfg(test)]
 mod link;
 #[cfg(test)]
+mod messages;
+#[cfg(test)]
 mod queue;
 #[cfg(test)]
 mod repeat;

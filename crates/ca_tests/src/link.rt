@@ -1,5 +1,6 @@
-use ca_link::{Fault, Fused, Reader, Sink, Source, Writer};
-use ca_text::Refusal;
+use ca_link::{Fault, Fused, Keep, Link, Reader, Sink, Source, Writer};
+use ca_text::{PAYLOAD_LIMIT, Refusal};
+use ca_wire::{Message, Payload};
 use std::io::Write;
 use std::test::Fail;
 
@@ -107,4 +108,158 @@ fn fused_passes_two_calls(rt: HostRuntime) {
 #[test]
 fn fault_is_refused_as_device(rt: HostRuntime) {
     assert_eq!(rt; Refusal::from(Fault), Refusal::Device);
+}
+
+#[test]
+fn a_silence_asks_for_an_echo_and_then_for_the_end(rt: HostRuntime) -> Result<(), Fail> {
+    // The moment, and what it asks for.
+    let rows = [
+        (29_999, Keep::Idle),
+        (30_000, Keep::Echo),
+        (30_001, Keep::Idle),
+        (34_999, Keep::Idle),
+        (35_000, Keep::Close),
+    ];
+    let mut link = Link::new(rt.alloc(), 0);
+    link.give(0, b"\0")?;
+    for (now, keep) in rows {
+        assert!(rt; link.tick(now) == keep, "at {now}");
+    }
+    // No bytes leave the silence as it is, and a byte ends it.
+    link.give(34_999, b"")?;
+    assert!(rt; link.tick(35_000) == Keep::Close);
+    link.give(34_999, b"\0")?;
+    assert!(rt; link.tick(64_998) == Keep::Idle);
+    assert!(rt; link.tick(64_999) == Keep::Echo);
+    // A first tick that is late.
+    for (now, keep) in [
+        (34_000, Keep::Echo),
+        (35_000, Keep::Close),
+        (u64::MAX, Keep::Close),
+    ] {
+        assert!(rt; Link::new(rt.alloc(), 0).tick(now) == keep, "at {now}");
+    }
+    Ok(())
+}
+
+#[test]
+fn a_bad_header_closes_a_link(rt: HostRuntime) -> Result<(), Fail> {
+    let rows = [
+        // A payload size of 12.
+        (
+            b"\x00\x04\x00\x0c\x00\x05\x00\x01\0\x01\0\0\0\0\0\0".as_slice(),
+            Refusal::Misaligned,
+        ),
+        // A payload size of 16,777,224.
+        (
+            b"\x00\x04\xff\xff\x00\x05\x00\x00\0\x01\0\0\0\0\0\0\x01\0\0\x08\0\0\0\x01",
+            Refusal::TooLarge,
+        ),
+    ];
+    let echo = Message::new(23, 0, 0, 0, 0, Vec::new(rt.alloc()))?;
+    for (bytes, refusal) in rows {
+        let mut link = Link::new(rt.alloc(), 0);
+        link.give(0, bytes)?;
+        assert!(rt; matches!(link.next_message(), Err(first) if first == refusal));
+        assert!(rt; matches!(link.next_message(), Err(Refusal::CircuitClosed)));
+        assert!(rt; link.give(1, b"\0") == Err(Refusal::CircuitClosed));
+        assert!(rt; link.queue(&echo) == Err(Refusal::CircuitClosed));
+        assert!(rt; link.queue_own(&echo) == Err(Refusal::CircuitClosed));
+        assert_eq!(rt; link.in_bytes(), bytes);
+        assert!(rt; link.out_bytes().is_empty());
+    }
+    Ok(())
+}
+
+#[test]
+fn a_full_output_takes_own_messages_alone(rt: HostRuntime) -> Result<(), Fail> {
+    let echo = Message::new(23, 0, 0, 0, 0, Vec::new(rt.alloc()))?;
+    // With its header of 24 bytes it is 16 bytes short of 262,144.
+    let large = vec![in rt.alloc(); 7u8; 262_104]?;
+    let large = Message::new(4, 4, 262_104, 0, 0, large)?;
+    let mut link = Link::new(rt.alloc(), 0);
+    link.queue(&large)?;
+    assert!(rt; !link.is_full());
+    link.queue(&echo)?;
+    assert!(rt; link.is_full());
+    assert!(rt; link.queue(&echo) == Err(Refusal::OutputFull));
+    link.queue_own(&echo)?;
+    assert_eq!(rt; link.out_bytes().len(), 262_160);
+    link.truncate(262_144);
+    handed_over(&mut link, 262_128);
+    assert_eq!(rt;
+        link.out_bytes(),
+        b"\x00\x17\0\0\0\0\0\0\0\0\0\0\0\0\0\0".as_slice()
+    );
+    link.queue(&echo)?;
+    assert_eq!(rt; link.into_left().bytes().len(), 32);
+    Ok(())
+}
+
+/// Hands over the first n bytes that wait, if there are so many.
+fn handed_over(link: &mut Link, n: usize) {
+    if n <= link.out_bytes().len() {
+        link.sent(n);
+    }
+}
+
+/// Bytes as a payload, of which there have to be some.
+#[derive(Drop)]
+struct Part<'a> {
+    bytes: &'a [u8],
+}
+
+impl Payload for Part<'_> {
+    ghost use Rattle.std.specs.Prelude.{◌==◌, Err, Ok, if◌then◌else◌, length};
+    ghost use Rattle.ca_text.specs.declared.refusal.Refusal.TheVariants.{OutOfRange};
+
+    ghost made = { λ p. if length p.bytes.now == 0 then Err OutOfRange else Ok p.bytes.now };
+
+    fn put(&self, out: &mut Vec<u8>) -> Result<(), Refusal> {
+        if self.bytes.is_empty() {
+            return Err(Refusal::OutOfRange);
+        }
+        out.extend_from_slice(self.bytes)?;
+        Ok(())
+    }
+}
+
+/// Queues a message of this command whose payload is the bytes.
+fn queue_part(link: &mut Link, head: &Message, bytes: &[u8]) -> Result<(), Refusal> {
+    if bytes.len() > PAYLOAD_LIMIT {
+        return Err(Refusal::TooLarge);
+    }
+    link.queue_made(head, bytes.len(), &Part { bytes })
+}
+
+// Run it too with the Nth growth refused, for each N: `rt try --test --fail-alloc N`.
+#[test]
+fn refused_growth_changes_nothing(rt: HostRuntime) -> Result<(), Fail> {
+    let expected = b"\0\x04\0\x08\0\x05\0\x01\0\x01\0\0\0\0\0\x07\x01\x02\x03\0\0\0\0\0";
+    let head = Message::new(4, 5, 1, 0x1_0000, 7, Vec::new(rt.alloc()))?;
+    let mut link = Link::new(rt.alloc(), 0);
+    assert!(rt;
+        queue_part(&mut link, &head, b"") == Err(Refusal::OutOfRange)
+            || queue_part(&mut link, &head, b"") == Err(Refusal::OutOfRange)
+    );
+    assert!(rt; link.out_bytes().is_empty());
+    if let Err(refusal) = queue_part(&mut link, &head, b"\x01\x02\x03") {
+        assert!(rt; refusal == Refusal::OutOfMemory && link.out_bytes().is_empty());
+        queue_part(&mut link, &head, b"\x01\x02\x03")?;
+    }
+    assert_eq!(rt; link.out_bytes(), expected.as_slice());
+    if let Err(refusal) = link.give(0, expected) {
+        assert!(rt; refusal == Refusal::OutOfMemory && link.in_bytes().is_empty());
+        link.give(0, expected)?;
+    }
+    let message = match link.next_message() {
+        Ok(message) => message,
+        Err(refusal) => {
+            assert!(rt; refusal == Refusal::OutOfMemory && link.in_bytes() == expected.as_slice());
+            link.next_message()?
+        }
+    };
+    let message = message.ok_or("no message")?;
+    assert_eq!(rt; message.payload(), b"\x01\x02\x03\0\0\0\0\0".as_slice());
+    Ok(())
 }

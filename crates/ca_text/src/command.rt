@@ -64,7 +64,8 @@ impl Command {
 
     /// The command of this number, where there is one.
     pub fn of(number: u16) -> Option<Command>
-        ensures { MatchOption result ((c : Command) → command_number c ≡ number → ⊥) (λ c. command_number c ≡ number) }
+        ensures { MatchOption result ((c : Command) → command_number c ≡ number → ⊥)
+            (λ c. command_number c ≡ number) }
     {
         match number {
             0 => Some(Command::Version),

@@ -1,28 +1,38 @@
 //! The constants of the code are the numbers that definitions cite.
 ghost use Rattle.std.specs.Prelude.{◌≡◌, ◌∷◌, [], List, ℕ};
-ghost use Rattle.ca_text.specs.declared.limits.TheConstants.{ARENA_SLOTS, BEACON_SERVERS, BOARD_CELLS, CHANNEL_LIMIT, CHANNEL_NAME_LIMIT, CIRCUIT_QUEUES, DATAGRAM_LIMIT, ELEMENT_LIMIT, ENGINE_TURNS, LAST_GENERATION, MINOR_VERSION, OUTPUT_LIMIT, PAYLOAD_LIMIT, PRIORITY_LIMIT, QUEUE_LOW_PLACES, QUEUE_PLACES, QUEUE_SUBSCRIPTIONS, RECORD_NAME_LIMIT, REPEATER_MEMBERS, REPEATER_PORT, SERVER_PORT, WAITING_PUTS};
-ghost use Rattle.ca_text.specs.Limits.{arena_slots, beacon_servers, board_cells, channel_limit, channel_name_limit, circuit_queues, datagram_limit, element_limit, engine_turns, last_generation, minor_version, output_limit, payload_limit, priority_limit, queue_low_places, queue_places, queue_subscriptions, record_name_limit, repeater_members, repeater_port, server_port, waiting_puts};
+ghost use Rattle.ca_text.specs.declared.limits.TheConstants.{ARENA_SLOTS, BEACON_SERVERS, BOARD_CELLS, CHANNEL_LIMIT, CHANNEL_NAME_LIMIT, CIRCUIT_QUEUES, CLOSE_SILENCE, DATAGRAM_LIMIT, ECHO_SILENCE, ELEMENT_LIMIT, ENGINE_TURNS, FLOW_READS, LAST_GENERATION, MINOR_VERSION, OUTPUT_LIMIT, PAYLOAD_LIMIT, PRIORITY_LIMIT, QUEUE_LOW_PLACES, QUEUE_PLACES, QUEUE_SUBSCRIPTIONS, RECORD_NAME_LIMIT, REPEATER_MEMBERS, REPEATER_PORT, SERVER_PORT, WAITING_PUTS};
+ghost use Rattle.ca_text.specs.Limits.{arena_slots, beacon_servers, board_cells, channel_limit, channel_name_limit, circuit_queues, close_silence, datagram_limit, echo_silence, element_limit, engine_turns, flow_reads, last_generation, minor_version, output_limit, payload_limit, priority_limit, queue_low_places, queue_places, queue_subscriptions, record_name_limit, repeater_members, repeater_port, server_port, waiting_puts};
 ghost use Rattle.ca_text.specs.declared.status.TheConstants.Status.{ADDFAIL, ALLOCMEM, BADCHID, BADCOUNT, BADTYPE, DISCONN, GETFAIL, INTERNAL, NOCONVERT, NORDACCESS, NORMAL, NOWTACCESS, PUTFAIL};
 ghost use Rattle.ca_text.specs.Status.{add_fail, alloc_mem, bad_channel, bad_count, bad_type, disconn, get_fail, internal, no_convert, no_read_access, no_write_access, normal, put_fail};
 
 /// Each limit of the code is the one of the table.
 pub fn limits_are_these()
-    ensures protocol { (MINOR_VERSION ≡ minor_version) × (PRIORITY_LIMIT ≡ priority_limit) × (SERVER_PORT ≡ server_port) × (REPEATER_PORT ≡ repeater_port) }
-    ensures bytes { (PAYLOAD_LIMIT ≡ payload_limit) × (DATAGRAM_LIMIT ≡ datagram_limit) × (OUTPUT_LIMIT ≡ output_limit) }
-    ensures names { (CHANNEL_NAME_LIMIT ≡ channel_name_limit) × (RECORD_NAME_LIMIT ≡ record_name_limit) }
+    ensures protocol { (MINOR_VERSION ≡ minor_version) × (PRIORITY_LIMIT ≡ priority_limit)
+        × (SERVER_PORT ≡ server_port) × (REPEATER_PORT ≡ repeater_port) }
+    ensures bytes { (PAYLOAD_LIMIT ≡ payload_limit) × (DATAGRAM_LIMIT ≡ datagram_limit)
+        × (OUTPUT_LIMIT ≡ output_limit) }
+    ensures names { (CHANNEL_NAME_LIMIT ≡ channel_name_limit)
+        × (RECORD_NAME_LIMIT ≡ record_name_limit) }
     ensures values { ELEMENT_LIMIT ≡ element_limit }
-    ensures tables { (CHANNEL_LIMIT ≡ channel_limit) × (ARENA_SLOTS ≡ arena_slots) × (LAST_GENERATION ≡ last_generation) × (BOARD_CELLS ≡ board_cells) }
-    ensures queues { (QUEUE_PLACES ≡ queue_places) × (QUEUE_LOW_PLACES ≡ queue_low_places) × (QUEUE_SUBSCRIPTIONS ≡ queue_subscriptions) × (CIRCUIT_QUEUES ≡ circuit_queues) }
+    ensures tables { (CHANNEL_LIMIT ≡ channel_limit) × (ARENA_SLOTS ≡ arena_slots)
+        × (LAST_GENERATION ≡ last_generation) × (BOARD_CELLS ≡ board_cells) }
+    ensures queues { (QUEUE_PLACES ≡ queue_places) × (QUEUE_LOW_PLACES ≡ queue_low_places)
+        × (QUEUE_SUBSCRIPTIONS ≡ queue_subscriptions) × (CIRCUIT_QUEUES ≡ circuit_queues) }
     ensures puts { WAITING_PUTS ≡ waiting_puts }
     ensures peers { (REPEATER_MEMBERS ≡ repeater_members) × (BEACON_SERVERS ≡ beacon_servers) }
     ensures turns { ENGINE_TURNS ≡ engine_turns }
+    ensures flow { FLOW_READS ≡ flow_reads }
+    ensures silence { (ECHO_SILENCE ≡ echo_silence) × (CLOSE_SILENCE ≡ close_silence) }
 {}
 
 /// Each status of the code has the number of the table.
 pub fn statuses_are_these()
     ensures well { NORMAL.number ≡ normal }
-    ensures peer { (ALLOCMEM.number ≡ alloc_mem) × (INTERNAL.number ≡ internal) × (DISCONN.number ≡ disconn) }
-    ensures asked { (BADTYPE.number ≡ bad_type) × (BADCOUNT.number ≡ bad_count) × (BADCHID.number ≡ bad_channel) }
+    ensures peer { (ALLOCMEM.number ≡ alloc_mem) × (INTERNAL.number ≡ internal)
+        × (DISCONN.number ≡ disconn) }
+    ensures asked { (BADTYPE.number ≡ bad_type) × (BADCOUNT.number ≡ bad_count)
+        × (BADCHID.number ≡ bad_channel) }
     ensures access { (NORDACCESS.number ≡ no_read_access) × (NOWTACCESS.number ≡ no_write_access) }
-    ensures failed { (GETFAIL.number ≡ get_fail) × (PUTFAIL.number ≡ put_fail) × (ADDFAIL.number ≡ add_fail) × (NOCONVERT.number ≡ no_convert) }
+    ensures failed { (GETFAIL.number ≡ get_fail) × (PUTFAIL.number ≡ put_fail)
+        × (ADDFAIL.number ≡ add_fail) × (NOCONVERT.number ≡ no_convert) }
 {}

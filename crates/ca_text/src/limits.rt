@@ -63,3 +63,12 @@ pub const REPEATER_PORT: u16 = 5_065;
 
 /// Calls of its source and its sink together that one circuit's engine makes, at most.
 pub const ENGINE_TURNS: u64 = 1_048_576;
+
+/// Milliseconds without received bytes after which a client sends an ECHO.
+pub const ECHO_SILENCE: u64 = 30_000;
+
+/// Milliseconds without received bytes after which a client closes the circuit.
+pub const CLOSE_SILENCE: u64 = 35_000;
+
+/// Reads of a circuit in a row that left bytes waiting, after which a client asks for a pause of updates.
+pub const FLOW_READS: usize = 10;

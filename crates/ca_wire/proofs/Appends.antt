@@ -1,5 +1,5 @@
 -- What stands in a buffer after an append that may be refused.
-use Rattle.std.proofs.Common.{◌≡◌, ℕ, List, ◌++◌, Result, Ok, Err, OnOk, OnErr, cond, is_ok, ap, ◌∙◌, append_assoc}
+use Rattle.std.proofs.Common.{◌≡◌, ◌+◌, ◌<◌, ℕ, List, ◌++◌, Result, Ok, Err, OnOk, OnErr, cond, is_ok, ap, ◌∙◌, append_assoc, arith}
 use Rattle.ca_wire.specs.declared.header.Header.{Header}
 use Rattle.ca_wire.specs.Header.{header_spelling}
 use Rattle.ca_wire.specs.Fields.{Fields}
@@ -20,3 +20,8 @@ appended-both (Err x) was mid now payload h m a b c d = tt
 pub never-err : {T E : Type 0} (r : Result T E) (P Q : Type 0) → OnErr r P → (P → ⊥) → OnErr r Q
 never-err (Ok x) P Q p refuted = tt
 never-err (Err x) P Q p refuted = absurd (refuted p)
+
+-- room was missing for so many more
+pub lacked : {T E : Type 0} (r : Result T E) (capacity was m n : ℕ) → OnErr r (capacity < was + m) → m ≡ n → OnErr r (capacity < was + n)
+lacked (Ok x) capacity was m n full e = tt
+lacked (Err x) capacity was m n full e = omega (arith, full, e)

@@ -7,3 +7,4 @@ pub mod Padding
 pub mod Appends
 pub mod Taking
 pub mod Backs
+pub mod Making

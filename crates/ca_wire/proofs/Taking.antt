@@ -1,7 +1,7 @@
 -- A message taken from the front of what a reader holds.
 use Rattle.std.proofs.Common.{◌≡◌, ◌≢◌, ℕ, ◌+◌, ◌-◌, List, [], ◌++◌, length, take, drop, false, Result, Ok, Err, Option, sym, ap, ◌∙◌, subst, arith}
 use Rattle.std.specs.Result.{IsErrAnd}
-use Rattle.std.proofs.lemmas.List.{take-append-drop, take_rest, take-take, drop-take, drop-drop, length-take-le, length-drop}
+use Rattle.std.proofs.lemmas.List.{take-append-drop, take-take, drop-take, length-take-le, length-drop}
 use Rattle.ca_text.specs.declared.refusal.Refusal.{Refusal}
 use Rattle.ca_text.specs.declared.refusal.Refusal.TheVariants.{OutOfMemory}
 use Rattle.ca_wire.specs.declared.header.Header.{Header}
@@ -12,21 +12,11 @@ use Rattle.ca_wire.specs.Message.{header_of, Spells}
 use Rattle.ca_wire.specs.Stream.{Held}
 use Rattle.ca_wire.specs.Reading.{IsWhole, Takes, HasPayload, Nexts}
 
--- a buffer that is lent, from the place up to which its bytes were taken: what is held
-pub held-read : (items lent held : List ℕ) (start : ℕ) → lent ≡ items → drop start items ≡ held → take (length lent - start) (drop start lent) ≡ held
-held-read items lent held start e f = take_rest lent start ∙ ap (λ (t : List ℕ). drop start t) e ∙ f
-
--- the part behind a header that stands there
-pub held-part : (items lent held : List ℕ) (start head size : ℕ) → lent ≡ items → drop start items ≡ held → take (start + head + size - (start + head)) (drop (start + head) lent) ≡ take size (drop head held)
-held-part items lent held start head size e f =
-    let n : start + head + size - (start + head) ≡ size = omega arith in
-    ap (λ (k : ℕ). take k (drop (start + head) lent)) n ∙ ap (λ (t : List ℕ). take size t) (sym (drop-drop head start lent)) ∙ ap (λ (t : List ℕ). take size (drop head (drop start t))) e ∙ ap (λ (t : List ℕ). take size (drop head t)) f
-
--- what is held behind it
-pub held-rest : (items held : List ℕ) (start head size : ℕ) → drop start items ≡ held → drop (start + head + size) items ≡ drop (head + size) held
-held-rest items held start head size f =
-    let n : start + (head + size) ≡ start + head + size = omega arith in
-    sym (ap (λ (t : List ℕ). drop (head + size) t) (sym f) ∙ drop-drop (head + size) start items ∙ ap (λ (k : ℕ). drop k items) n)
+-- the bytes behind a header that stands there
+pub held-part : (lent held : List ℕ) (start size : ℕ) → lent ≡ held → take (start + size - start) (drop start lent) ≡ take size (drop start held)
+held-part lent held start size e =
+    let n : start + size - start ≡ size = omega arith in
+    ap (λ (k : ℕ). take k (drop start lent)) n ∙ ap (λ (t : List ℕ). take size (drop start t)) e
 
 take-add : (m n : ℕ) (xs : List ℕ) → take (m + n) xs ≡ take m xs ++ take n (drop m xs)
 take-add m n xs =

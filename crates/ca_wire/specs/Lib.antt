@@ -2,6 +2,7 @@ pub mod Header
 pub mod Fields
 pub mod Message
 pub mod Front
+pub mod Made
 pub mod Stream
 pub mod Reading
 pub mod Traces

@@ -9,17 +9,18 @@ use Rattle.ca_text.specs.Status.{normal}
 use Rattle.ca_wire.specs.Fields.{Fields, padded}
 use Rattle.ca_wire.specs.Header.{header_spelling, number16}
 use Rattle.ca_wire.specs.Message.{header_of}
+-- What a request on a channel names: the SID, the IOID or subscription id, and the type and count that are wanted (Wanted). The ids of a
+-- channel (ChannelIds). What a search found (Found), a channel as it was created (Created), and what an answer or an update is about
+-- (Answered).
+use Rattle.ca_wire.specs.declared.requests.Wanted.{Wanted}
+use Rattle.ca_wire.specs.declared.requests.ChannelIds.{ChannelIds}
+use Rattle.ca_wire.specs.declared.replies.Found.{Found}
+use Rattle.ca_wire.specs.declared.replies.Created.{Created}
+use Rattle.ca_wire.specs.declared.replies.Answered.{Answered}
 
 -- a command alone: ECHO, EVENTS_OFF, EVENTS_ON ("CA_PROTO_ECHO", "CA_PROTO_EVENTS_OFF", "CA_PROTO_EVENTS_ON")
 abbrev pub bare : Command → Fields
 bare c = record { command = command_number c; data_type = 0; count = 0; p1 = 0; p2 = 0; payload = [] }
-
--- what a request on a channel names: the SID, the IOID or subscription id, and the type and count that are wanted
-pub record Wanted : Type 0 where
-  pub sid : ℕ
-  pub id : ℕ
-  pub data_type : ℕ
-  pub count : ℕ
 
 -- a request on a channel, with this payload
 abbrev pub on_channel : Command → Wanted → List ℕ → Fields
@@ -65,9 +66,13 @@ read_request w = on_channel command.ReadNotify w []
 abbrev pub put_request : Command → Wanted → List ℕ → Fields
 put_request c w bytes = on_channel c w (padded bytes)
 
--- EVENT_ADD: in the payload three floats of 0, the mask, and padding ("CA_PROTO_EVENT_ADD")
+-- the payload of an EVENT_ADD: three floats of 0, the mask, and padding
+abbrev pub mask_payload : ℕ → List ℕ
+mask_payload mask = replicate 12 0 ++ (number16 mask ++ replicate 2 0)
+
+-- EVENT_ADD ("CA_PROTO_EVENT_ADD")
 abbrev pub event_add_request : Wanted → ℕ → Fields
-event_add_request w mask = on_channel command.EventAdd w (replicate 12 0 ++ (number16 mask ++ replicate 2 0))
+event_add_request w mask = on_channel command.EventAdd w (mask_payload mask)
 
 -- EVENT_CANCEL: the type and count of the EVENT_ADD ("CA_PROTO_EVENT_CANCEL")
 abbrev pub event_cancel_request : Wanted → Fields
@@ -138,3 +143,23 @@ disconnect cid = record (bare command.ServerDisconnect) { p1 = cid }
 -- the mask in an EVENT_ADD, after its three floats ("CA_PROTO_EVENT_ADD")
 abbrev pub mask_in : Fields → ℕ
 mask_in m = slice_index_or m.payload 12 0 * 256 + slice_index_or m.payload 13 0
+
+-- what a request on a channel names
+abbrev pub wanted_in : Fields → Wanted
+wanted_in m = record { sid = m.p1; id = m.p2; data_type = m.data_type; count = m.count }
+
+-- the ids in a CLEAR_CHANNEL and in its reply ("CA_PROTO_CLEAR_CHANNEL")
+abbrev pub ids_in : Fields → ChannelIds
+ids_in m = record { sid = m.p1; cid = m.p2 }
+
+-- what a SEARCH that is a reply found ("CA_PROTO_SEARCH")
+abbrev pub found_in : Fields → Found
+found_in m = record { port = m.data_type; address = m.p1; cid = m.p2 }
+
+-- the channel in a reply to a CREATE_CHAN ("CA_PROTO_CREATE_CHAN")
+abbrev pub created_in : Fields → Created
+created_in m = record { cid = m.p1; sid = m.p2; data_type = m.data_type; count = m.count }
+
+-- what a READ_NOTIFY or WRITE_NOTIFY that is a reply, or an update, answers ("CA_PROTO_READ_NOTIFY", "CA_PROTO_EVENT_ADD")
+abbrev pub answer_in : Fields → Answered
+answer_in m = record { id = m.p2; status = record { number = m.p1 }; data_type = m.data_type; count = m.count }

@@ -1,6 +1,7 @@
 ghost use Rattle.std.specs.Prelude.{◌≡◌, ◌≢◌, [], false, IfOk, OnErr};
 ghost use Rattle.ca_wire.specs.Reading.{Gives, Nexts};
 
+use crate::buffer::Buffer;
 use crate::message::Message;
 use crate::reading::{One, read_one};
 use ca_text::Refusal;
@@ -10,20 +11,16 @@ use std::marker::Model;
 /// Reads the messages of a stream of bytes that comes in any pieces.
 #[derive(Debug, Drop)]
 pub struct Deframer {
-    buffer: Vec<u8>,
-    start: usize,
+    buffer: Buffer,
     closed: bool,
 }
 
 impl Model for Deframer {
-    ghost use Rattle.std.specs.Prelude.{◌≤◌, drop, length};
     ghost use Rattle.ca_wire.specs.Stream.{Held};
 
     ghost Value = { Held };
 
-    ghost view = { λ d. record { bytes = drop d.start d.buffer.items; closed = d.closed } };
-
-    ghost invariant = { λ d. d.start ≤ length d.buffer.items };
+    ghost view = { λ d. record { bytes = d.buffer; closed = d.closed } };
 }
 
 impl Deframer {
@@ -32,8 +29,7 @@ impl Deframer {
         ensures { result ≡ record { bytes = []; closed = false } }
     {
         Deframer {
-            buffer: Vec::new(alloc),
-            start: 0,
+            buffer: Buffer::new(alloc),
             closed: false,
         }
     }
@@ -42,22 +38,28 @@ impl Deframer {
     pub fn bytes(&self) -> &[u8]
         ensures { result.now ≡ self.now.bytes }
     {
-        &self.buffer[self.start..]
+        self.buffer.bytes()
     }
 
-    /// Puts the bytes behind those that it holds. A refusal changes nothing.
+    /// Whether a bad header was met.
+    pub fn is_closed(&self) -> bool
+        ensures { result ≡ self.now.closed }
+    {
+        self.closed
+    }
+
+    /// Puts the bytes after those that it holds. A refusal changes nothing.
     pub fn give(&mut self, bytes: &[u8]) -> Result<(), Refusal>
         ensures { Gives self.old bytes.now result self.new }
     {
         if self.closed {
             return Err(Refusal::CircuitClosed);
         }
-        self.drop_taken();
-        self.buffer.extend_from_slice(bytes)?;
+        self.buffer.push(bytes)?;
         Ok(())
     }
 
-    /// Takes the message at the front, where a whole one is there.
+    /// Takes the message at the front, if a complete one is there.
     ///
     /// After 2 or 3 every call answers 17. After 1 the message is still there.
     pub fn next_message(&mut self) -> Result<Option<Message>, Refusal>
@@ -66,12 +68,12 @@ impl Deframer {
         if self.closed {
             return Err(Refusal::CircuitClosed);
         }
-        match read_one(&self.buffer[self.start..]) {
+        let bytes = self.buffer.bytes();
+        match read_one(bytes) {
             One::Whole(head) => {
-                let from = self.start + head.start;
-                let end = from + head.header.size as usize;
-                let payload = copied(*self.buffer.allocator(), &self.buffer[from..end])?;
-                self.start = end;
+                let end = head.start + head.header.size as usize;
+                let payload = copied(self.buffer.allocator(), &bytes[head.start..end])?;
+                self.buffer.drop_front(end);
                 Ok(Some(Message::of_header(head.header, payload)))
             }
             One::More => Ok(None),
@@ -79,19 +81,6 @@ impl Deframer {
                 self.closed = true;
                 Err(refusal)
             }
-        }
-    }
-
-    /// Lets go of the bytes that were taken, once they are at least half of the buffer: each byte is moved at most
-    /// once for a byte that was taken.
-    fn drop_taken(&mut self)
-        ensures { self.new ≡ self.old }
-    {
-        let rest = self.buffer.len() - self.start;
-        if rest <= self.start {
-            self.buffer.copy_within(self.start.., 0);
-            self.buffer.truncate(rest);
-            self.start = 0;
         }
     }
 }

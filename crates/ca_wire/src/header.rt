@@ -35,7 +35,8 @@ pub(crate) fn header_size(header: &Header) -> usize
 pub fn spell_header(header: &Header, out: &mut Vec<u8>) -> Result<(), AllocError>
     ensures ok { OnOk result (out.new.items ≡ out.old.items ++ header_spelling header.now) }
     ensures err { OnErr result (out.new.items ≡ out.old.items) }
-    ensures room { OnErr result (vec_capacity out.old < vec_len out.old + 24) }
+    ensures room { OnErr result (vec_capacity out.old
+        < vec_len out.old + length (header_spelling header.now)) }
     ensures capacity { vec_capacity out.old ≤ vec_capacity out.new }
 {
     if header.size < EXTENDED && header.count < EXTENDED {
@@ -44,10 +45,10 @@ pub fn spell_header(header: &Header, out: &mut Vec<u8>) -> Result<(), AllocError
     out.extend_from_slice(&extended_form(header))
 }
 
-/// The header in 16 bytes.
-fn short_form(header: &Header) -> [u8; 16]
-    requires size { header.now.size < 65535 }
-    requires count { header.now.count < 65535 }
+/// The header in 16 bytes, also at a size or count of 65,535, with which `spell_header` never writes it so.
+pub fn short_form(header: &Header) -> [u8; 16]
+    requires size { header.now.size < 65536 }
+    requires count { header.now.count < 65536 }
     ensures { result ≡ short_header header.now }
 {
     let command = header.command.to_be_bytes();

@@ -2,16 +2,34 @@
 //! stream of messages that comes in any pieces.
 #![tactic(auto)]
 
+mod buffer;
 mod deframer;
 mod header;
+mod ids;
 mod laws;
+mod made;
 mod message;
 mod pipe;
 mod reading;
+mod replies;
+mod requests;
 
+pub use buffer::Buffer;
 pub use deframer::Deframer;
-pub use header::{Header, spell_header};
+pub use header::{Header, short_form, spell_header};
+pub use ids::{Cid, Ioid, Priority, Sid};
 pub use laws::{one_reading, read_again};
+pub use made::{Payload, spell_made};
 pub use message::{Message, message_at, spell, spelled_size};
 pub use pipe::Pipe;
 pub use reading::{Head, One, read_one};
+pub use replies::{
+    Answered, Created, Found, cancel_reply, cleared_reply, created_reply, disconnect, error_reply,
+    failed_reply, no_cid, not_found_reply, rights_reply, search_reply, status_reply, update,
+    update_head, value_head, value_reply, version_header, version_reply,
+};
+pub use requests::{
+    ChannelIds, Wanted, bare, clear_request, create_request, event_add_request,
+    event_cancel_request, name_request, put_head, put_request, read_request, search_header,
+    search_request, version_request,
+};

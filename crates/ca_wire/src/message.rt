@@ -1,11 +1,13 @@
-ghost use Rattle.std.specs.Prelude.{ℕ, List, ◌≡◌, ◌≢◌, ◌+◌, ◌%◌, ◌<◌, ◌≤◌, ◌++◌, [], length, MatchResult, OnErr, OnOk, vec_capacity, vec_len};
-ghost use Rattle.ca_wire.specs.Fields.{Fields, IsPayload};
+ghost use Rattle.std.specs.Prelude.{ℕ, List, ◌≡◌, ◌≢◌, ◌+◌, ◌%◌, ◌<◌, ◌≤◌, ◌++◌, [], length, IfOk, MatchResult, OnErr, OnOk, vec_capacity, vec_len};
+ghost use Rattle.ca_text.specs.Command.{command_number};
+ghost use Rattle.ca_text.specs.Limits.{payload_limit};
+ghost use Rattle.ca_wire.specs.Fields.{Fields, IsPayload, padded};
 ghost use Rattle.ca_wire.specs.Front.{FrontFits};
 ghost use Rattle.ca_wire.specs.Message.{IsMade, IsMessage, header_of, spelling};
 
 use crate::header::{Header, header_size, spell_header};
 use crate::reading::{One, read_one};
-use ca_text::{PAYLOAD_LIMIT, Refusal};
+use ca_text::{Command, PAYLOAD_LIMIT, Refusal};
 use std::alloc::{AllocError, Global};
 use std::marker::Model;
 
@@ -26,9 +28,25 @@ impl Model for Message {
 
     ghost Value = { Fields };
 
-    ghost view = { λ m. record { command = m.command; data_type = m.data_type; count = m.count; p1 = m.p1; p2 = m.p2; payload = m.payload.items } };
+    ghost view = { λ m.
+        record {
+          command = m.command;
+          data_type = m.data_type;
+          count = m.count;
+          p1 = m.p1;
+          p2 = m.p2;
+          payload = m.payload.items;
+        } };
 
-    ghost invariant = { λ m. IsMessage (record { command = m.command; data_type = m.data_type; count = m.count; p1 = m.p1; p2 = m.p2; payload = m.payload.items }) };
+    ghost invariant = { λ m.
+        IsMessage (record {
+          command = m.command;
+          data_type = m.data_type;
+          count = m.count;
+          p1 = m.p1;
+          p2 = m.p2;
+          payload = m.payload.items;
+        }) };
 }
 
 impl Message {
@@ -43,7 +61,14 @@ impl Message {
         p2: u32,
         payload: Vec<u8>,
     ) -> Result<Message, Refusal>
-        ensures { IsMade (record { command = command; data_type = data_type; count = count; p1 = p1; p2 = p2; payload = payload.items }) result }
+        ensures { IsMade (record {
+          command = command;
+          data_type = data_type;
+          count = count;
+          p1 = p1;
+          p2 = p2;
+          payload = payload.items;
+        }) result }
     {
         if payload.len() > PAYLOAD_LIMIT {
             return Err(Refusal::TooLarge);
@@ -61,6 +86,87 @@ impl Message {
             p2,
             payload,
         })
+    }
+
+    /// The message of these fields, whose payload needs no padding. It takes no memory.
+    pub(crate) fn of_fields(
+        command: u16,
+        data_type: u16,
+        count: u32,
+        p1: u32,
+        p2: u32,
+        payload: Vec<u8>,
+    ) -> Message
+        requires { IsPayload payload.items }
+        ensures { result
+            ≡ record {
+              command = command;
+              data_type = data_type;
+              count = count;
+              p1 = p1;
+              p2 = p2;
+              payload = payload.items;
+            } }
+    {
+        Message {
+            command,
+            data_type,
+            count,
+            p1,
+            p2,
+            payload,
+        }
+    }
+
+    /// The message of these fields, with no payload. It takes no memory.
+    pub(crate) fn with_no_payload(
+        alloc: Global,
+        command: Command,
+        data_type: u16,
+        count: u32,
+        p1: u32,
+        p2: u32,
+    ) -> Message
+        ensures { result
+            ≡ record {
+              command = command_number command;
+              data_type = data_type;
+              count = count;
+              p1 = p1;
+              p2 = p2;
+              payload = [];
+            } }
+    {
+        let payload = Vec::new(alloc);
+        Message::of_fields(command.number(), data_type, count, p1, p2, payload)
+    }
+
+    /// The message of these fields, its payload filled with zeros up to a multiple of 8. Only these take memory.
+    pub(crate) fn with_padding(
+        command: u16,
+        data_type: u16,
+        count: u32,
+        p1: u32,
+        p2: u32,
+        payload: Vec<u8>,
+    ) -> Result<Message, AllocError>
+        requires { length payload.items ≤ payload_limit }
+        ensures ok { IfOk result (λ m.
+            m
+            ≡ record {
+              command = command;
+              data_type = data_type;
+              count = count;
+              p1 = p1;
+              p2 = p2;
+              payload = padded payload.items;
+            }) }
+        ensures err { OnErr result (length payload.items % 8 ≢ 0) }
+    {
+        match Message::new(command, data_type, count, p1, p2, payload) {
+            Ok(message) => Ok(message),
+            Err(_) => Err(AllocError),
+        }
     }
 
     /// The message of this header, whose payload has its size.
@@ -138,14 +244,15 @@ impl Message {
     }
 }
 
-/// Writes the one spelling of the message at the end. It grows the buffer once, before it writes.
+/// Writes the one spelling of the message at the end. It grows the buffer once, by just what it writes, before it writes.
 pub fn spell(message: &Message, out: &mut Vec<u8>) -> Result<(), AllocError>
     ensures ok { OnOk result (out.new.items ≡ out.old.items ++ spelling message.now) }
     ensures err { OnErr result (out.new.items ≡ out.old.items) }
-    ensures room { OnErr result (vec_capacity out.old < vec_len out.old + (24 + length message.now.payload)) }
+    ensures room { OnErr result (vec_capacity out.old
+        < vec_len out.old + length (spelling message.now)) }
     ensures capacity { vec_capacity out.old ≤ vec_capacity out.new }
 {
-    out.reserve(24 + message.payload.len())?;
+    out.reserve(spelled_size(message))?;
     spell_header(&message.header(), out)?;
     out.extend_from_slice(&message.payload)
 }
@@ -161,7 +268,8 @@ pub fn spelled_size(message: &Message) -> usize
 pub fn message_at(bytes: &[u8], room: Vec<u8>) -> Message
     requires front { FrontFits bytes.now (vec_capacity room) }
     requires empty { room.items ≡ [] }
-    ensures { (m : Fields) (rest : List ℕ) → IsMessage m → bytes.now ≡ spelling m ++ rest → result ≡ m }
+    ensures { (m : Fields) (rest : List ℕ) → IsMessage m → bytes.now ≡ spelling m ++ rest
+        → result ≡ m }
 {
     match read_one(bytes) {
         One::Whole(head) => {

@@ -1,25 +1,27 @@
-ghost use Rattle.std.specs.Prelude.{◌≡◌, ◌≤◌, ◌++◌, [], drop, length, OnErr, OnOk, vec_capacity, vec_len};
+ghost use Rattle.std.specs.Prelude.{ℕ, List, ◌≡◌, ◌≤◌, ◌++◌, [], drop, length, take, IfOk, OnErr, OnOk};
+ghost use Rattle.ca_text.specs.Limits.{payload_limit};
+ghost use Rattle.ca_wire.specs.Made.{PutsMade};
 ghost use Rattle.ca_wire.specs.Message.{spelling};
 
-use crate::message::{Message, spell};
+use crate::buffer::Buffer;
+use crate::made::Payload;
+use crate::message::Message;
+use ca_text::Refusal;
 use std::alloc::{AllocError, Global};
 use std::marker::Model;
 
 /// Bytes that wait to be sent.
 #[derive(Debug, Drop)]
 pub struct Pipe {
-    bytes: Vec<u8>,
-    start: usize,
+    buffer: Buffer,
 }
 
 impl Model for Pipe {
-    ghost use Rattle.std.specs.Prelude.{List, ℕ, ◌≤◌, drop, length};
+    ghost use Rattle.std.specs.Prelude.{List, ℕ};
 
     ghost Value = { List ℕ };
 
-    ghost view = { λ p. drop p.start p.bytes.items };
-
-    ghost invariant = { λ p. p.start ≤ length p.bytes.items };
+    ghost view = { λ p. p.buffer };
 }
 
 impl Pipe {
@@ -28,8 +30,7 @@ impl Pipe {
         ensures { result ≡ [] }
     {
         Pipe {
-            bytes: Vec::new(alloc),
-            start: 0,
+            buffer: Buffer::new(alloc),
         }
     }
 
@@ -38,23 +39,46 @@ impl Pipe {
         requires { start ≤ length bytes.items }
         ensures { result ≡ drop start bytes.items }
     {
-        Pipe { bytes, start }
+        Pipe {
+            buffer: Buffer::of(bytes, start),
+        }
     }
 
     /// The bytes that wait.
     pub fn bytes(&self) -> &[u8]
         ensures { result.now ≡ self.now }
     {
-        &self.bytes[self.start..]
+        self.buffer.bytes()
     }
 
-    /// Puts the one spelling of the message behind what waits. A refusal changes nothing.
+    /// Puts the one spelling of the message after what waits. A refusal changes nothing; a message takes memory.
     pub fn put(&mut self, message: &Message) -> Result<(), AllocError>
         ensures ok { OnOk result (self.new ≡ self.old ++ spelling message.now) }
         ensures err { OnErr result (self.new ≡ self.old) }
     {
-        self.drop_sent();
-        spell(message, &mut self.bytes)
+        self.buffer.put(message)
+    }
+
+    /// Puts the message after what waits, with this payload of so many bytes, which is made in its place. A refusal
+    /// changes nothing.
+    pub fn put_made<P: Payload>(
+        &mut self,
+        head: &Message,
+        size: usize,
+        payload: &P,
+    ) -> Result<(), Refusal>
+        requires within { size ≤ payload_limit }
+        requires sized { IfOk (P.made payload.now) (λ bytes. length bytes ≡ size) }
+        ensures { PutsMade head.now (P.made payload.now) self.old result self.new }
+    {
+        self.buffer.put_made(head, size, payload)
+    }
+
+    /// Only the first n of the bytes still wait.
+    pub fn truncate(&mut self, n: usize)
+        ensures { self.new ≡ take n self.old }
+    {
+        self.buffer.truncate(n);
     }
 
     /// The first n of the bytes that wait were sent.
@@ -62,19 +86,6 @@ impl Pipe {
         requires { n ≤ length self.old }
         ensures { self.new ≡ drop n self.old }
     {
-        self.start += n;
-    }
-
-    /// Lets go of the bytes that were sent, once they are at least half of the buffer: each byte is moved at most once
-    /// for a byte that was sent.
-    fn drop_sent(&mut self)
-        ensures { self.new ≡ self.old }
-    {
-        let rest = self.bytes.len() - self.start;
-        if rest <= self.start {
-            self.bytes.copy_within(self.start.., 0);
-            self.bytes.truncate(rest);
-            self.start = 0;
-        }
+        self.buffer.drop_front(n);
     }
 }

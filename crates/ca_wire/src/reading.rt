@@ -44,8 +44,8 @@ pub fn read_one(bytes: &[u8]) -> One
     One::Whole(head)
 }
 
-/// The header at the front, where a whole one is there.
-fn head_at(bytes: &[u8]) -> Option<Head>
+/// The header at the front, if a complete one is there.
+pub(crate) fn head_at(bytes: &[u8]) -> Option<Head>
     ensures { MatchOption result (NoHeader bytes.now) (BeginsHeader bytes.now) }
 {
     if bytes.len() < 16 {

@@ -24,8 +24,10 @@ pub fn serve<S: Source, K: Sink>(
     requires source_faults { S.fault_count source.old < 2 ^ 63 }
     requires sink_calls { K.call_count sink.old < 2 ^ 63 }
     requires sink_faults { K.fault_count sink.old < 2 ^ 63 }
-    ensures answers { Answers S.gives K.takes S.call_count K.call_count S.fault_count K.fault_count standing source.old source.new sink.old sink.new result }
-    ensures turns { S.call_count source.new + K.call_count sink.new ≤ S.call_count source.old + K.call_count sink.old + engine_turns }
+    ensures answers { Answers S.gives K.takes S.call_count K.call_count S.fault_count K.fault_count
+        standing source.old source.new sink.old sink.new result }
+    ensures turns { S.call_count source.new + K.call_count sink.new
+        ≤ S.call_count source.old + K.call_count sink.old + engine_turns }
 {
     match standing_records(alloc) {
         Ok(records) => answer_stream(alloc, source, sink, &records),
@@ -46,8 +48,10 @@ pub fn answer_run<S: Source, K: Sink, W: Write>(
     requires source_faults { S.fault_count source.old < 2 ^ 63 }
     requires sink_calls { K.call_count sink.old < 2 ^ 63 }
     requires sink_faults { K.fault_count sink.old < 2 ^ 63 }
-    ensures runs { RunsTo S.gives K.takes S.call_count K.call_count S.fault_count K.fault_count source.old source.new sink.old sink.new result }
-    ensures turns { S.call_count source.new + K.call_count sink.new ≤ S.call_count source.old + K.call_count sink.old + engine_turns }
+    ensures runs { RunsTo S.gives K.takes S.call_count K.call_count S.fault_count K.fault_count
+        source.old source.new sink.old sink.new result }
+    ensures turns { S.call_count source.new + K.call_count sink.new
+        ≤ S.call_count source.old + K.call_count sink.old + engine_turns }
 {
     let outcome = serve(alloc, records, source, sink);
     report(outcome, err)

@@ -54,7 +54,8 @@ fn grammar<'a>(alloc: Global) -> Result<Command<'a>, AllocError>
 
 /// What the options' values mean: nothing where one is no number, or too great.
 fn meant(port: Option<&str>, datagrams: Option<&str>) -> Option<RepeaterLine>
-    ensures { IsMeant (option_map (λ t. t.now) port.entry) (option_map (λ t. t.now) datagrams.entry) result }
+    ensures { IsMeant (option_map (λ t. t.now) port.entry) (option_map (λ t. t.now) datagrams.entry)
+        result }
 {
     let port = match port {
         None => REPEATER_PORT,

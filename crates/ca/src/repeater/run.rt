@@ -109,12 +109,13 @@ fn take_one<D: Datagrams>(
     repeater: &mut RepeaterCore,
     buffer: &mut [u8],
 ) -> Result<(), Refusal>
-    ensures { Takes D.went D.refuses D.came D.fails datagrams.old repeater.old result datagrams.new repeater.new }
+    ensures { Takes D.went D.refuses D.came D.fails datagrams.old repeater.old result datagrams.new
+        repeater.new }
 {
     match datagrams.receive(buffer) {
         Err(_) => Err(Refusal::Device),
         Ok((size, from)) => match repeater.receive(from, &buffer[..size]) {
-            Err(_) => Err(Refusal::OutOfMemory),
+            Err(refusal) => Err(refusal),
             Ok(sends) => {
                 send_all(datagrams, repeater, &sends);
                 Ok(())
@@ -124,7 +125,8 @@ fn take_one<D: Datagrams>(
 }
 
 fn send_all<D: Datagrams>(datagrams: &mut D, repeater: &mut RepeaterCore, sends: &[Outgoing])
-    ensures { Sends D.went D.refuses datagrams.old repeater.old sends.now datagrams.new repeater.new }
+    ensures { Sends D.went D.refuses datagrams.old repeater.old sends.now datagrams.new
+        repeater.new }
 {
     for send in sends {
         send_one(datagrams, repeater, send);
@@ -132,7 +134,8 @@ fn send_all<D: Datagrams>(datagrams: &mut D, repeater: &mut RepeaterCore, sends:
 }
 
 fn send_one<D: Datagrams>(datagrams: &mut D, repeater: &mut RepeaterCore, send: &Outgoing)
-    ensures { SendsOne D.went D.refuses datagrams.old repeater.old send.now datagrams.new repeater.new }
+    ensures { SendsOne D.went D.refuses datagrams.old repeater.old send.now datagrams.new
+        repeater.new }
 {
     match datagrams.send(send.to(), send.bytes()) {
         Ok(()) => {}

@@ -12,7 +12,8 @@ impl<S: Sink> Sink for Fused<S> {
 
     ghost fault_count = { λ s. s.faults };
 
-    ghost takes = { λ s bytes t. S.takes s.inner bytes t.inner ⊎ ((bytes ≡ []) × (s.inner ≡ t.inner)) };
+    ghost takes = { λ s bytes t. S.takes s.inner bytes t.inner
+        ⊎ ((bytes ≡ []) × (s.inner ≡ t.inner)) };
 
     fn calls(&self) -> u64 {
         self.calls
@@ -29,9 +30,17 @@ impl<S: Sink> Sink for Fused<S> {
         ensures calls { self.new.calls ≡ self.old.calls + 1 }
         ensures faults { self.new.faults ≡ self.old.faults + (if is_ok result then 0 else 1) }
         ensures taken { OnOk result (S.takes self.old.inner bytes.now self.new.inner) }
-        ensures begun { OnErr result ((n : ℕ) × (S.takes self.old.inner (take n bytes.now) self.new.inner ⊎ ((take n bytes.now ≡ []) × (self.old.inner ≡ self.new.inner)))) }
-        ensures blown { (CanPass self.old.passes (S.call_count self.old.inner) (S.fault_count self.old.inner) → ⊥) → IsErr result × (self.new.passes ≡ self.old.passes) × (self.new.inner ≡ self.old.inner) }
-        ensures passed { CanPass self.old.passes (S.call_count self.old.inner) (S.fault_count self.old.inner) → IsPassed S.call_count S.fault_count (if is_ok result then 0 else 1) self.old.passes self.old.inner self.new.passes self.new.inner }
+        ensures begun { OnErr result ((n : ℕ)
+            × (S.takes self.old.inner (take n bytes.now) self.new.inner
+            ⊎ ((take n bytes.now ≡ []) × (self.old.inner ≡ self.new.inner)))) }
+        ensures blown { (CanPass self.old.passes (S.call_count self.old.inner)
+            (S.fault_count self.old.inner) → ⊥)
+            → IsErr result × (self.new.passes ≡ self.old.passes)
+            × (self.new.inner ≡ self.old.inner) }
+        ensures passed { CanPass self.old.passes (S.call_count self.old.inner)
+            (S.fault_count self.old.inner)
+            → IsPassed S.call_count S.fault_count (if is_ok result then 0 else 1) self.old.passes
+            self.old.inner self.new.passes self.new.inner }
     {
         self.calls += 1;
         let (calls, faults) = (self.inner.calls(), self.inner.faults());

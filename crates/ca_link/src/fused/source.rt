@@ -27,9 +27,16 @@ impl<S: Source> Source for Fused<S> {
         ensures calls { self.new.calls ≡ self.old.calls + 1 }
         ensures faults { self.new.faults ≡ self.old.faults + (if is_ok result then 0 else 1) }
         ensures within { IfOk result (λ n. n ≤ length buffer.new) }
-        ensures given { IfOk result (λ n. S.gives self.old.inner (take n buffer.new) self.new.inner) }
-        ensures blown { (CanPass self.old.passes (S.call_count self.old.inner) (S.fault_count self.old.inner) → ⊥) → IsErr result × (self.new.passes ≡ self.old.passes) × (self.new.inner ≡ self.old.inner) × (buffer.new ≡ buffer.old) }
-        ensures passed { CanPass self.old.passes (S.call_count self.old.inner) (S.fault_count self.old.inner) → IsPassed S.call_count S.fault_count (if is_ok result then 0 else 1) self.old.passes self.old.inner self.new.passes self.new.inner }
+        ensures given { IfOk result (λ n.
+            S.gives self.old.inner (take n buffer.new) self.new.inner) }
+        ensures blown { (CanPass self.old.passes (S.call_count self.old.inner)
+            (S.fault_count self.old.inner) → ⊥)
+            → IsErr result × (self.new.passes ≡ self.old.passes) × (self.new.inner ≡ self.old.inner)
+            × (buffer.new ≡ buffer.old) }
+        ensures passed { CanPass self.old.passes (S.call_count self.old.inner)
+            (S.fault_count self.old.inner)
+            → IsPassed S.call_count S.fault_count (if is_ok result then 0 else 1) self.old.passes
+            self.old.inner self.new.passes self.new.inner }
     {
         self.calls += 1;
         let (calls, faults) = (self.inner.calls(), self.inner.faults());

@@ -1,4 +1,7 @@
-use Rattle.std.proofs.Common.{◌≡◌, ◌+◌, ◌-◌, ◌%◌, length, refl, sym, ap, ◌∙◌, arith}
+use Rattle.std.proofs.Common.{[], ◌≡◌, ◌+◌, ◌-◌, ◌%◌, length, refl, sym, ap, ◌∙◌, arith}
+use Rattle.ca_wire.specs.Header.{short_header}
+use Rattle.ca_wire.specs.Message.{header_of}
+use Rattle.ca_wire.specs.Messages.{search_request}
 use Rattle.ca_dgram.specs.Search.{begun, searched}
 use Rattle.ca_dgram.proofs.Searches.{length-searched, room-lacked, searched-written, searches-refused}
 use Rattle.ca_dgram.proofs.search.search_into.Goals as goal
@@ -34,6 +37,6 @@ returns-clause-searches c =
     let within = c.bytes-name.ensures.name.within in
     let long : length (searched out c.args.cid c.args.name.now) ≡ length (begun out) + 16 + length name + (8 - length name % 8) = ap (λ t. length (searched out c.args.cid t)) (sym c.bytes-name.ensures.bytes) ∙ length-searched out c.args.cid name (8 - length name % 8) within refl in
     let begins = c.begin.ensures.items ∙ ap begun c.in_ok-reserve.ensures.items in
-    let written = searched-written out _ _ _ _ c.header_bytes-header.result name c.args.cid (length name + (8 - length name % 8)) (8 - length name % 8) within refl refl begins c.header_bytes-header.ensures c.append.ensures.items c.append-2.ensures.items c.append-3.ensures.items in
+    let written = searched-written out _ _ _ _ c.short_form-header.result name c.args.cid (length name + (8 - length name % 8)) (8 - length name % 8) within refl refl begins (c.short_form-header.ensures ∙ ap short_header (c.search_header.ensures ∙ ap (λ (n : _). record (header_of (search_request n [])) { size = length name + (8 - length name % 8) }) c.new.ensures)) c.append.ensures.items c.append-2.ensures.items c.append-3.ensures.items in
     let all = written ∙ ap (λ t. searched out c.args.cid t) c.bytes-name.ensures.bytes in
     (omega (arith, ap length all, long, ap length c.deref.ensures.value, ap (λ t. length (begun t)) c.deref.ensures.value), all)

@@ -1,0 +1,16 @@
+-- Statement: what the calls of a table of wire ids answer and leave, whose values hold their ids until they are free.
+use Rattle.std.specs.Prelude.{◌≡◌, false, Result, Ok, Err}
+use Rattle.ca_text.specs.declared.refusal.Refusal.{Refusal}
+use Rattle.ca_text.specs.declared.refusal.Refusal.TheVariants as refusal
+use Rattle.ca_arena.specs.declared.handle.Handle.{Handle}
+use Rattle.ca_ids.specs.Table.{IsFull, MayGive, Table, has_free, is_full, with_held}
+
+module _ {T : Type 0} where
+  -- From old, this value was given an id, with this answer, and left new. Memory is asked for only where no index may have
+  -- another id.
+  abbrev pub Gives : Table T → T → Result Handle (T × Refusal) → Table T → Type 0
+  Gives old value (Ok handle) new = MayGive old handle × (new ≡ with_held handle value old)
+  Gives old value (Err (back, refusal.ArenaFull)) new = IsFull old × (back ≡ value) × (new ≡ old)
+  Gives old value (Err (back, refusal.OutOfMemory)) new =
+      (is_full old ≡ false) × (has_free old ≡ false) × (back ≡ value) × (new ≡ old)
+  Gives old value (Err _) new = ⊥

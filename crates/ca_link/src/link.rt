@@ -1,0 +1,182 @@
+ghost use Rattle.std.specs.Prelude.{ℕ, List, ◌≡◌, ◌≤◌, IfOk, length, nat_le, take};
+ghost use Rattle.ca_text.specs.Limits.{output_limit, payload_limit};
+ghost use Rattle.ca_link.specs.Calls.{Gives, Nexts, Queues, QueuesMade, QueuesOwn};
+ghost use Rattle.ca_link.specs.Link.{kept, new_link, noted, with_handed};
+
+use crate::keep::Keep;
+use ca_text::{CLOSE_SILENCE, ECHO_SILENCE, OUTPUT_LIMIT, Refusal};
+use ca_wire::{Deframer, Message, Payload, Pipe};
+use std::alloc::Global;
+use std::marker::Model;
+
+/// One end of an open circuit: what came and was not read, what waits to be sent, and since when no bytes came.
+///
+/// After 2 or 3 it answers 17 from then on. Any other refusal leaves it as it was.
+#[derive(Debug, Drop)]
+pub struct Link {
+    input: Deframer,
+    output: Pipe,
+    heard_at: u64,
+    echoed: bool,
+}
+
+impl Model for Link {
+    ghost use Rattle.ca_link.specs.Link.{LinkState};
+
+    ghost Value = { LinkState };
+
+    ghost view = { λ l.
+        record { input = l.input; output = l.output; heard_at = l.heard_at; echoed = l.echoed } };
+}
+
+impl Link {
+    /// One that begins at this moment.
+    pub fn new(alloc: Global, now: u64) -> Link
+        ensures { result ≡ new_link now }
+    {
+        Link {
+            input: Deframer::new(alloc),
+            output: Pipe::new(alloc),
+            heard_at: now,
+            echoed: false,
+        }
+    }
+
+    /// The bytes that came and were not read.
+    pub fn in_bytes(&self) -> &[u8]
+        ensures { result.now ≡ self.now.input.bytes }
+    {
+        self.input.bytes()
+    }
+
+    /// Takes bytes that came at this moment, which ends a silence; no bytes do nothing.
+    ///
+    /// Refused by 17, then by 1, and by that only if there are bytes.
+    pub fn give(&mut self, now: u64, bytes: &[u8]) -> Result<(), Refusal>
+        ensures { Gives now bytes.now self.old result self.new }
+    {
+        self.input.give(bytes)?;
+        if !bytes.is_empty() {
+            self.heard_at = now;
+            self.echoed = false;
+        }
+        Ok(())
+    }
+
+    /// Takes the first message that came, if it is complete.
+    ///
+    /// Refused by 17, 2 or 3, and by 1 only for a payload.
+    pub fn next_message(&mut self) -> Result<Option<Message>, Refusal>
+        ensures { Nexts self.old result self.new }
+    {
+        self.input.next_message()
+    }
+
+    /// The bytes that wait to be sent.
+    pub fn out_bytes(&self) -> &[u8]
+        ensures { result.now ≡ self.now.output }
+    {
+        self.output.bytes()
+    }
+
+    /// Whether as many bytes wait as may, so that no message of a caller is queued.
+    pub fn is_full(&self) -> bool
+        ensures { result ≡ nat_le output_limit (length self.now.output) }
+    {
+        self.output.bytes().len() >= OUTPUT_LIMIT
+    }
+
+    /// Puts a message of a caller after what waits.
+    ///
+    /// Refused by 17, by 26 if as many bytes wait as may, and by 1, since a message takes memory.
+    pub fn queue(&mut self, message: &Message) -> Result<(), Refusal>
+        ensures { Queues message.now self.old result self.new }
+    {
+        if !self.input.is_closed() && self.is_full() {
+            return Err(Refusal::OutputFull);
+        }
+        self.queue_own(message)
+    }
+
+    /// Puts a message of the end's own after what waits, however much that is.
+    ///
+    /// Refused by 17, then by 1.
+    pub fn queue_own(&mut self, message: &Message) -> Result<(), Refusal>
+        ensures { QueuesOwn message.now self.old result self.new }
+    {
+        if self.input.is_closed() {
+            return Err(Refusal::CircuitClosed);
+        }
+        self.output.put(message)?;
+        Ok(())
+    }
+
+    /// Puts a message after what waits, however much that is, with this payload of so many bytes. It is made in its
+    /// place.
+    ///
+    /// Refused by 17, by 1 before the payload is made, or as the payload is.
+    pub fn queue_made<P: Payload>(
+        &mut self,
+        head: &Message,
+        size: usize,
+        payload: &P,
+    ) -> Result<(), Refusal>
+        requires within { size ≤ payload_limit }
+        requires sized { IfOk (P.made payload.now) (λ bytes. length bytes ≡ size) }
+        ensures { QueuesMade head.now (P.made payload.now) self.old result self.new }
+    {
+        if self.input.is_closed() {
+            return Err(Refusal::CircuitClosed);
+        }
+        self.output.put_made(head, size, payload)
+    }
+
+    /// Only the first n of the bytes that wait still wait: what was queued after them is taken back.
+    pub fn truncate(&mut self, n: usize)
+        ensures { self.new ≡ record self.old { output = take n self.old.output } }
+    {
+        self.output.truncate(n);
+    }
+
+    /// The first n of the bytes that wait were handed over.
+    pub fn sent(&mut self, n: usize)
+        requires { n ≤ length self.old.output }
+        ensures { self.new ≡ with_handed n self.old }
+    {
+        self.output.sent(n);
+    }
+
+    /// The bytes that wait, for whoever still sends them.
+    pub fn into_left(self) -> Pipe
+        ensures { result ≡ self.output }
+    {
+        let Link { output, .. } = self;
+        output
+    }
+
+    /// What this moment asks of the end. It changes nothing.
+    pub fn asked(&self, now: u64) -> Keep
+        ensures { result ≡ kept now self.now }
+    {
+        let silence = now.saturating_sub(self.heard_at);
+        if silence >= CLOSE_SILENCE {
+            return Keep::Close;
+        }
+        if silence >= ECHO_SILENCE && !self.echoed {
+            return Keep::Echo;
+        }
+        Keep::Idle
+    }
+
+    /// What this moment asks of the end; it asks for an ECHO once in a silence.
+    pub fn tick(&mut self, now: u64) -> Keep
+        ensures asked { result ≡ kept now self.old }
+        ensures noted { self.new ≡ noted result self.old }
+    {
+        let keep = self.asked(now);
+        if keep == Keep::Echo {
+            self.echoed = true;
+        }
+        keep
+    }
+}

@@ -1,0 +1,30 @@
+-- Statement: what the calls on a client's subscriptions answer and leave.
+use Rattle.std.specs.Prelude.{ℕ, ◌≡◌, false, Option, Some, None, Result, Ok, Err}
+use Rattle.ca_text.specs.declared.refusal.Refusal.{Refusal}
+use Rattle.ca_text.specs.declared.refusal.Refusal.TheVariants as refusal
+use Rattle.ca_arena.specs.declared.handle.Handle.{Handle}
+use Rattle.ca_ids.specs.Table.{IsFull, MayGive, Table, has_free, is_full, with_freed, with_held}
+use Rattle.ca_monitor.specs.Subscriptions.{Stage, Stands, Subscription, standing_under, with_stage}
+
+-- a subscription to this channel, which stands
+abbrev pub standing : (channel : Handle) → (data_type count mask : ℕ) → Subscription
+standing channel data_type count mask =
+    record { channel = channel; data_type = data_type; count = count; mask = mask; stage = Stands }
+
+-- From old, this subscription was added, with this answer, and left new. Memory is asked for only where no index may have another id.
+abbrev pub Adds : Table Subscription → Subscription → Result Handle Refusal → Table Subscription → Type 0
+Adds old s (Ok h) new = MayGive old h × (new ≡ with_held h s old)
+Adds old s (Err refusal.ArenaFull) new = IsFull old × (new ≡ old)
+Adds old s (Err refusal.OutOfMemory) new = (is_full old ≡ false) × (has_free old ≡ false) × (new ≡ old)
+Adds old s (Err _) new = ⊥
+
+-- From old, the subscription of this handle came to this stage, with this answer, and left new.
+abbrev pub Comes : Stage → Table Subscription → Handle → Result Subscription Refusal → Table Subscription → Type 0
+Comes stage old h (Ok s) new = (standing_under h old ≡ Some s) × (new ≡ with_stage stage h old)
+Comes stage old h (Err refusal.StaleHandle) new = (standing_under h old ≡ None) × (new ≡ old)
+Comes stage old h (Err _) new = ⊥
+
+-- the table in which the id of this handle, if there is one, is free
+abbrev pub freed_if : Option Handle → Table Subscription → Table Subscription
+freed_if None t = t
+freed_if (Some h) t = with_freed h t

@@ -1,0 +1,152 @@
+ghost use Rattle.std.specs.Prelude.{◌≡◌, []};
+ghost use Rattle.ca_ids.specs.Table.{is_full, with_freed};
+ghost use Rattle.ca_monitor.specs.Calls.{Adds, Comes, freed_if, standing};
+ghost use Rattle.ca_monitor.specs.Stages.{stage_of};
+ghost use Rattle.ca_monitor.specs.Subscriptions.{confirmed_by, standing_by, standing_under, with_stage};
+ghost use Rattle.ca_monitor.specs.Subscriptions as monitor;
+
+use crate::stage::Stage;
+use crate::subscription::Subscription;
+use ca_arena::Handle;
+use ca_ids::{HeldTable, WireId};
+use ca_text::Refusal;
+use std::alloc::Global;
+use std::marker::Model;
+
+/// A client's subscriptions, by their handles and by their wire ids.
+#[derive(Drop)]
+pub struct Monitors {
+    table: HeldTable<Subscription>,
+}
+
+impl Model for Monitors {
+    ghost use Rattle.ca_ids.specs.Table.{Table};
+    ghost use Rattle.ca_monitor.specs.Subscriptions.{Subscription};
+
+    ghost Value = { Table Subscription };
+
+    ghost view = { λ m. m.table };
+}
+
+impl Monitors {
+    /// No subscription. It takes no memory yet.
+    pub fn new(alloc: Global) -> Self
+        ensures { result ≡ [] }
+    {
+        Monitors {
+            table: HeldTable::new(alloc),
+        }
+    }
+
+    /// Whether no subscription can be added.
+    pub fn is_full(&self) -> bool
+        ensures { result ≡ is_full self.now }
+    {
+        self.table.is_full()
+    }
+
+    /// Adds a subscription to this channel, which stands from now on.
+    ///
+    /// Refused by 9 where no id may be given, then by 1.
+    pub fn add(
+        &mut self,
+        channel: Handle,
+        data_type: u16,
+        count: u32,
+        mask: u16,
+    ) -> Result<Handle, Refusal>
+        ensures { Adds self.old (standing channel data_type count mask) result self.new }
+    {
+        let added = Subscription {
+            channel,
+            data_type,
+            count,
+            mask,
+            stage: Stage::Stands,
+        };
+        match self.table.open(added) {
+            Ok(handle) => Ok(handle),
+            Err((_, refusal)) => Err(refusal),
+        }
+    }
+
+    /// The subscription of this handle, if it stands.
+    pub fn standing(&self, handle: Handle) -> Option<Subscription>
+        ensures { result ≡ standing_under handle self.now }
+    {
+        match self.table.by_handle(handle) {
+            Some(found) if found.stage.stands() => Some(*found),
+            _ => None,
+        }
+    }
+
+    /// The subscription of this wire id, if it stands: an update or an error of this id is about it.
+    pub fn standing_by(&self, wire: u32) -> Option<(Handle, Subscription)>
+        ensures { result ≡ standing_by wire self.now }
+    {
+        match self.table.by_wire(WireId::new(wire)) {
+            Some((handle, found)) if found.stage.stands() => Some((handle, *found)),
+            _ => None,
+        }
+    }
+
+    /// A subscription that stands is cancelled on this circuit: its id drains until the confirmation.
+    ///
+    /// Refused by 10 where none stands under the handle.
+    pub fn cancel(&mut self, handle: Handle, circuit: Handle) -> Result<Subscription, Refusal>
+        ensures { Comes (monitor.Cancelled circuit) self.old handle result self.new }
+    {
+        let Some(found) = self.standing(handle) else {
+            return Err(Refusal::StaleHandle);
+        };
+        self.set_stage(handle, Stage::Cancelled(circuit));
+        Ok(found)
+    }
+
+    /// A subscription that stands is over: its id drains on this circuit until its channel's clear is answered.
+    ///
+    /// Refused by 10 where none stands under the handle.
+    pub fn end(&mut self, handle: Handle, circuit: Handle) -> Result<Subscription, Refusal>
+        ensures { Comes (monitor.Ended circuit) self.old handle result self.new }
+    {
+        let Some(found) = self.standing(handle) else {
+            return Err(Refusal::StaleHandle);
+        };
+        self.set_stage(handle, Stage::Ended(circuit));
+        Ok(found)
+    }
+
+    fn set_stage(&mut self, handle: Handle, stage: Stage)
+        ensures { self.new ≡ with_stage (stage_of stage) handle self.old }
+    {
+        if let Some(found) = self.table.by_handle_mut(handle) {
+            found.stage = stage;
+        }
+    }
+
+    /// The id of this subscription is free: nothing of it is on the way. A stale handle changes nothing.
+    pub fn free(&mut self, handle: Handle)
+        ensures { self.new ≡ with_freed handle self.old }
+    {
+        let _ = self.table.free(handle);
+    }
+
+    /// A cancel was confirmed on this circuit, under this wire id: the id is free, if it is one that was cancelled there.
+    pub fn confirmed(&mut self, circuit: Handle, wire: u32) -> Option<Handle>
+        ensures about { result ≡ confirmed_by circuit wire self.old }
+        ensures freed { self.new ≡ freed_if result self.old }
+    {
+        let handle = self.cancelled(circuit, wire)?;
+        self.free(handle);
+        Some(handle)
+    }
+
+    fn cancelled(&self, circuit: Handle, wire: u32) -> Option<Handle>
+        ensures { result ≡ confirmed_by circuit wire self.now }
+    {
+        match self.table.by_wire(WireId::new(wire)) {
+            Some((handle, found)) if found.stage.is_cancelled_in(circuit) => Some(handle),
+            _ => None,
+        }
+    }
+}

@@ -1,0 +1,53 @@
+ghost use Rattle.std.specs.Prelude.{◌≡◌};
+
+use crate::stage::Stage;
+use ca_arena::Handle;
+use std::marker::Model;
+
+/// A subscription: its channel, what was asked for, and how far it is.
+#[derive(Clone, Copy, Debug, PartialEq, Eq)]
+pub struct Subscription {
+    /// The channel of the client that it is to.
+    pub channel: Handle,
+    /// The type of its updates.
+    pub data_type: u16,
+    /// The count of their elements.
+    pub count: u32,
+    /// The events that it is about.
+    pub mask: u16,
+    /// Whether it stands.
+    pub stage: Stage,
+}
+
+impl Model for Subscription {
+    ghost use Rattle.std.proofs.Common.{ap};
+    ghost use Rattle.ca_monitor.specs.Subscriptions as monitor;
+
+    ghost Value = { monitor.Subscription };
+
+    ghost use Rattle.ca_monitor.specs.Stages.{stage_from, stage_again, stage_of};
+
+    ghost view = { λ s. record {
+      channel = s.channel;
+      data_type = s.data_type;
+      count = s.count;
+      mask = s.mask;
+      stage = stage_of s.stage;
+    } };
+
+    ghost inverse = { λ s. record {
+      channel = s.channel;
+      data_type = s.data_type;
+      count = s.count;
+      mask = s.mask;
+      stage = stage_from s.stage;
+    } };
+
+    ghost inverse_ok = { λ s h. ap (λ stage. record {
+      channel = s.channel;
+      data_type = s.data_type;
+      count = s.count;
+      mask = s.mask;
+      stage = stage;
+    }) (stage_again s.stage) };
+}

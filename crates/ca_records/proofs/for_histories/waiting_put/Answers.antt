@@ -1,0 +1,5 @@
+use Rattle.ca_records.proofs.Waiters.{waits-at}
+use Rattle.ca_records.proofs.for_histories.waiting_put.Goals as goal
+
+pub returns : goal.returns
+returns c = waits-at c.waiting.result.now.items c.args.served.now.waiting c.args.place c.index.result.now c.waiting.ensures c.requires c.index.ensures

@@ -1,0 +1,36 @@
+-- Vocabulary: which fault of a write is answered by which status, once its elements were read (section "Status Codes"). The first that is
+-- there decides.
+use Rattle.std.specs.Prelude.{ℕ, Bool, true, false, not, List, [], ◌∷◌, Option, Result, Ok, Err, find, if◌then◌else◌, nat_lt, option_map}
+use Rattle.ca_text.specs.declared.refusal.Refusal.{Refusal}
+use Rattle.ca_text.specs.declared.refusal.Refusal.TheVariants as refusal
+use Rattle.ca_text.specs.Limits.{waiting_puts}
+use Rattle.ca_text.specs.Status.{no_convert, put_fail}
+use Rattle.ca_dbr.specs.Conversion.{converted}
+use Rattle.ca_dbr.specs.Elements.{Elements, base_of}
+use Rattle.ca_records.specs.Record.{RecordState}
+
+-- the status of the first fault that is there
+abbrev pub first_fault : List (Bool × ℕ) → Option ℕ
+first_fault faults = option_map (λ (f : Bool × ℕ). f.1) (find (λ (f : Bool × ℕ). f.0) faults)
+
+-- there is no conversion between the types
+abbrev pub lacks_conversion : Result Elements Refusal → Bool
+lacks_conversion (Err refusal.NoConvert) = true
+lacks_conversion (Err _) = false
+lacks_conversion (Ok e) = false
+
+-- a text is no number, or a number lies outside the type
+abbrev pub has_misfit : Result Elements Refusal → Bool
+has_misfit (Err refusal.NoConvert) = false
+has_misfit (Err _) = true
+has_misfit (Ok e) = false
+
+-- No conversion NOCONVERT; a text or a range PUTFAIL; for a WRITE_NOTIFY that would wait, 16 that wait already PUTFAIL.
+abbrev pub late_put_fault : RecordState → (must_wait : Bool) → (others : ℕ) → Elements → Option ℕ
+late_put_fault r must_wait others e =
+    first_fault (
+    (lacks_conversion (converted e (base_of r.value)), no_convert)
+    ∷ (has_misfit (converted e (base_of r.value)), put_fail)
+    ∷ (if must_wait then not (nat_lt others waiting_puts) else false, put_fail)
+    ∷ []
+    )

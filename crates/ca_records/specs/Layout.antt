@@ -1,0 +1,47 @@
+-- Working: what the fields of a record that is served, and of the store of records, stand for. No clause of a caller needs it.
+use Rattle.std.specs.Prelude.{ℕ, ◌≡◌, ◌≢◌, ◌<◌, ◌≤◌, ◌⊎◌, List, Option, Some, length}
+use Rattle.std.specs.List.{AllByRecursion, sum_by}
+use Rattle.ca_text.specs.declared.refusal.Refusal.{Refusal}
+use Rattle.ca_text.specs.declared.refusal.Refusal.TheVariants as refusal
+use Rattle.ca_text.specs.Limits.{element_limit}
+use Rattle.ca_text.specs.Place.{At}
+use Rattle.ca_dbr.specs.Elements.{Elements, IsValue, base_of, count_of, elements}
+use Rattle.ca_records.specs.declared.puts.Waiter.{Waiter}
+use Rattle.ca_records.specs.Puts.{Record, WaitingPut}
+use Rattle.ca_records.specs.Record.{HoldsValue, RecordState}
+
+-- a put that waits, as contracts see it
+abbrev pub waiting_put : Waiter → WaitingPut
+waiting_put w = record { put = w.put; value = elements w.value }
+
+-- the value is one of the record's type that it may have
+pub record IsFit (s : RecordState) (e : Elements) : Type 0 where
+  pub holds : HoldsValue s.count e
+  pub valued : IsValue e
+  pub based : base_of e ≡ base_of s.value
+
+-- all that waits may be applied
+abbrev pub AreFit : RecordState → List WaitingPut → Type 0
+AreFit s waiting = AllByRecursion (λ (w : WaitingPut). IsFit s w.value) waiting
+
+-- the map leads from the name of each record to its place, and nowhere else
+pub record IsIndexOf (slots : List (Option Record)) (places : List ℕ → Option ℕ) : Type 0 where
+  pub found : (name : List ℕ) (place : ℕ) → places name ≡ Some place → (r : Record) × At slots place (Some r) × (r.state.name ≡ name)
+  pub listed : (place : ℕ) (r : Record) → At slots place (Some r) → places r.state.name ≡ Some place
+
+-- how many puts wait for these records
+abbrev pub waiting_in : List Record → ℕ
+waiting_in records = sum_by (λ (r : Record). length r.waiting) records
+
+-- the record may have this value by a post
+pub record MayHave (s : RecordState) (e : Elements) : Type 0 where
+  pub based : base_of e ≡ base_of s.value
+  pub one : 0 < count_of e
+  pub within : count_of e ≤ s.count
+  pub limit : s.count ≤ element_limit
+
+-- why it may not
+abbrev pub MayNotHave : RecordState → Elements → Refusal → Type 0
+MayNotHave s e refusal.BadType = base_of e ≢ base_of s.value
+MayNotHave s e refusal.BadCount = (base_of e ≡ base_of s.value) × ((count_of e ≡ 0) ⊎ (s.count < count_of e))
+MayNotHave s e other = ⊥

@@ -1,0 +1,63 @@
+ghost use Rattle.std.specs.Prelude.{◌≡◌, ◌≢◌, IfErr, IfOk, Ok, OnErr};
+ghost use Rattle.ca_dbr.specs.declared.data_type.BaseType.{BaseType};
+ghost use Rattle.ca_dbr.specs.Conversion.{Fails, converted};
+ghost use Rattle.ca_dbr.specs.Elements.{Elements, base_of, elements};
+ghost use Rattle.ca_records.specs.Judging.{Judges};
+
+use ca_dbr::{BaseType, Value, convert_to};
+use ca_text::{Refusal, Status};
+use std::alloc::Global;
+
+// What is to become of a write's elements.
+#[derive(Drop)]
+pub(crate) enum Judged {
+    // They are these, in the type of the record.
+    Fits(Value),
+    // They are refused by this status.
+    Refused(Status),
+    // There is no fault, and no memory for them.
+    NoMemory,
+}
+
+// Judges elements for a record of this type, on which the write may find no place to wait.
+pub(crate) fn judge(alloc: Global, value: Value, base: BaseType, is_crowded: bool) -> Judged
+    ensures { Judges (elements value) base is_crowded result }
+{
+    match in_type(alloc, value, base) {
+        Ok(value) => {
+            if is_crowded {
+                return Judged::Refused(Status::PUTFAIL);
+            }
+            Judged::Fits(value)
+        }
+        Err(refusal) => refused(refusal, is_crowded),
+    }
+}
+
+// What a conversion that gave no elements comes to.
+fn refused(refusal: Refusal, is_crowded: bool) -> Judged
+    ensures { (e : Elements) (b : BaseType) → base_of e ≢ b → Fails (converted e b) refusal → Judges e b is_crowded result }
+{
+    match refusal {
+        Refusal::NoConvert => Judged::Refused(Status::NOCONVERT),
+        Refusal::OutOfMemory => {
+            if is_crowded {
+                return Judged::Refused(Status::PUTFAIL);
+            }
+            Judged::NoMemory
+        }
+        _ => Judged::Refused(Status::PUTFAIL),
+    }
+}
+
+// The elements in another type. Those of this type are handed on as they are.
+fn in_type(alloc: Global, value: Value, base: BaseType) -> Result<Value, Refusal>
+    ensures ok { IfOk result (λ v. converted (elements value) base ≡ Ok (elements v)) }
+    ensures err { IfErr result (Fails (converted (elements value) base)) }
+    ensures other { OnErr result (base_of (elements value) ≢ base) }
+{
+    if value.base_type() == base {
+        return Ok(value);
+    }
+    convert_to(alloc, &value, base)
+}

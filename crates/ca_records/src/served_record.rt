@@ -1,0 +1,209 @@
+ghost use Rattle.std.specs.Prelude.{◌≡◌, ◌+◌, ◌<◌, ◌≤◌, IfOk, OnErr, Ok, false, if◌then◌else◌, is_some, length, map, nat_lt, not, true};
+ghost use Rattle.ca_text.specs.Limits.{waiting_puts};
+ghost use Rattle.ca_dbr.specs.Elements.{count_of, elements};
+ghost use Rattle.ca_records.specs.Puts.{new_record, with_value, with_waiting, without_puts};
+ghost use Rattle.ca_records.specs.Layout.{IsFit, waiting_put};
+ghost use Rattle.ca_records.specs.Writes.{BeginsOn, FinishesOn, Takes, is_of, must_wait};
+ghost use Rattle.ca_records.specs.Judging.{more_waiting};
+ghost use Rattle.ca_records.specs.declared.puts.Begun.TheVariants.{Waiting};
+
+use crate::judged::{Judged, judge};
+use crate::puts::{Begun, Put, Stamp, Waiter};
+use crate::record::Record;
+use ca_arena::Handle;
+use ca_dbr::{Meta, Value};
+use ca_text::WAITING_PUTS;
+use std::alloc::{AllocError, Global};
+use std::collections::VecDeque;
+use std::marker::Model;
+
+/// A record that is served: with the put that makes it busy, and those that wait, in the order in which they came.
+#[derive(Debug, Drop)]
+pub struct ServedRecord {
+    record: Record,
+    busy: Option<Put>,
+    waiting: VecDeque<Waiter>,
+}
+
+impl Model for ServedRecord {
+    ghost use Rattle.std.specs.Prelude.{map};
+    ghost use Rattle.ca_records.specs.Puts as puts;
+
+    ghost Value = { puts.Record };
+
+    ghost use Rattle.ca_records.specs.Layout.{AreFit, waiting_put};
+
+    ghost view = { λ r. record { state = r.record; busy = r.busy; waiting = map waiting_put r.waiting.items } };
+
+    ghost invariant = { λ r. AreFit r.record (map waiting_put r.waiting.items) };
+}
+
+impl ServedRecord {
+    // A record, neither busy nor waited for. It takes no memory.
+    pub(crate) fn new(alloc: Global, state: Record) -> ServedRecord
+        ensures { result ≡ new_record state }
+    {
+        ServedRecord {
+            record: state,
+            busy: None,
+            waiting: VecDeque::new(alloc),
+        }
+    }
+
+    /// Its name, its value and what it may hold.
+    pub fn state(&self) -> &Record
+        ensures { result.now ≡ self.now.state }
+    {
+        &self.record
+    }
+
+    /// Whether a put with notification makes it busy now.
+    pub fn is_busy(&self) -> bool
+        ensures { result ≡ is_some self.now.busy }
+    {
+        self.busy.is_some()
+    }
+
+    /// The put that makes it busy.
+    pub(crate) fn busy_put(&self) -> Option<Put>
+        ensures { result ≡ self.now.busy }
+    {
+        self.busy
+    }
+
+    /// How many puts wait for it.
+    pub fn waits(&self) -> usize
+        ensures { result ≡ length self.now.waiting }
+    {
+        self.waiting.len()
+    }
+
+    // The puts that wait, in order.
+    pub(crate) fn waiting(&self) -> &VecDeque<Waiter>
+        ensures { map waiting_put result.now.items ≡ self.now.waiting }
+    {
+        &self.waiting
+    }
+
+    // Begins a write; one that is to wait needs that it can be counted.
+    pub(crate) fn begin(
+        &mut self,
+        put: Option<Put>,
+        value: Value,
+        stamp: Stamp,
+        is_countable: bool,
+    ) -> Result<Begun, AllocError>
+        requires some { 0 < count_of (elements value) }
+        requires within { count_of (elements value) ≤ self.old.state.count }
+        ensures begins { BeginsOn stamp self.old put (elements value) result self.new }
+        ensures countable { is_countable ≡ false → more_waiting result ≡ 0 }
+    {
+        let is_crowded = self.is_crowded(&put);
+        let alloc = *self.waiting.allocator();
+        match judge(alloc, value, self.record.value().base_type(), is_crowded) {
+            Judged::Refused(status) => Ok(Begun::Refused(status)),
+            Judged::NoMemory => Err(AllocError),
+            Judged::Fits(value) => {
+                value.know();
+                self.take(put, value, stamp, is_countable)
+            }
+        }
+    }
+
+    // Whether this write is one that is to wait, while as many wait as may.
+    fn is_crowded(&self, put: &Option<Put>) -> bool
+        ensures { result ≡ (if must_wait self.now put.now then not (nat_lt (length self.now.waiting) waiting_puts) else false) }
+    {
+        put.is_some() && self.busy.is_some() && self.waiting.len() >= WAITING_PUTS
+    }
+
+    // Takes a write without a fault.
+    fn take(
+        &mut self,
+        put: Option<Put>,
+        value: Value,
+        stamp: Stamp,
+        is_countable: bool,
+    ) -> Result<Begun, AllocError>
+        requires { IsFit self.old.state (elements value) }
+        ensures takes { IfOk result (λ begun. Takes stamp self.old put (elements value) begun self.new) }
+        ensures countable { is_countable ≡ false → more_waiting result ≡ 0 }
+        ensures memory { OnErr result ((must_wait self.old put ≡ true) × (self.new ≡ self.old)) }
+    {
+        let Some(put) = put else {
+            self.apply(value, stamp.meta());
+            return Ok(Begun::Applied(false));
+        };
+        if self.busy.is_some() {
+            if !is_countable {
+                return Err(AllocError);
+            }
+            return self.wait(put, value);
+        }
+        self.apply(value, stamp.meta());
+        if self.record.is_slow() {
+            self.busy = Some(put);
+            return Ok(Begun::Applied(true));
+        }
+        Ok(Begun::Applied(false))
+    }
+
+    // Lets a put wait after the others.
+    fn wait(&mut self, put: Put, value: Value) -> Result<Begun, AllocError>
+        requires { IsFit self.old.state (elements value) }
+        ensures waits { IfOk result (λ begun. (begun ≡ Waiting) × (self.new ≡ with_waiting (record { put = put; value = elements value }) self.old)) }
+        ensures memory { OnErr result (self.new ≡ self.old) }
+    {
+        self.waiting.reserve(1)?;
+        self.waiting.push_back_reserved(Waiter { put, value });
+        Ok(Begun::Waiting)
+    }
+
+    // Sets its value, and what goes with it.
+    pub(crate) fn apply(&mut self, value: Value, meta: Meta)
+        requires { IsFit self.old.state (elements value) }
+        ensures { self.new ≡ with_value (elements value) meta self.old }
+    {
+        self.record.set(value, meta);
+    }
+
+    // Ends the busy put, and applies the next one that waits.
+    pub(crate) fn finish(&mut self, stamp: Stamp) -> Option<(Put, Option<Put>)>
+        ensures { FinishesOn stamp self.old result self.new }
+    {
+        let ended = self.busy?;
+        match self.waiting.pop_front() {
+            None => {
+                self.busy = None;
+                Some((ended, None))
+            }
+            Some(next) => {
+                self.record.set(next.value, stamp.meta());
+                self.busy = Some(next.put);
+                Some((ended, Some(next.put)))
+            }
+        }
+    }
+
+    // Takes the waiting puts of a circuit out, or of one channel of it. Tells how many they were.
+    pub(crate) fn withdraw(&mut self, circuit: Handle, channel: Option<Handle>) -> usize
+        ensures without { self.new ≡ without_puts (is_of circuit channel) self.old }
+        ensures count { result + length self.new.waiting ≡ length self.old.waiting }
+    {
+        let before = self.waiting.len();
+        self.waiting
+            .retain(|waiter| !is_of(&waiter.put, circuit, channel));
+        before - self.waiting.len()
+    }
+}
+
+// Whether a put is of this circuit, and of this channel if there is one.
+fn is_of(put: &Put, circuit: Handle, channel: Option<Handle>) -> bool
+    ensures { result ≡ is_of circuit channel put.now }
+{
+    put.circuit == circuit
+        && match channel {
+            Some(channel) => put.channel == channel,
+            None => true,
+        }
+}

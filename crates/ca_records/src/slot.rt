@@ -1,0 +1,52 @@
+ghost use Rattle.std.specs.Prelude.{◌≡◌, IsNone, Some};
+ghost use Rattle.std.specs.Borrow.{sem};
+ghost use Rattle.ca_records.specs.declared.slot.Slot.TheVariants.{Free, Full};
+ghost use Rattle.ca_records.specs.Chain.{IsFull};
+ghost use Rattle.ca_records.specs.Lending.{lends_full};
+
+use crate::served_record::ServedRecord;
+use std::mem;
+
+// What is at a place: a record, or nothing; then it names the free place behind it, if there is one.
+#[derive(Debug, Drop)]
+pub(crate) enum Slot {
+    Full(ServedRecord),
+    Free(Option<usize>),
+}
+
+impl Slot {
+    // Its record.
+    pub(crate) fn record(&self) -> &ServedRecord
+        requires { IsFull self.now }
+        ensures { self.now ≡ Full result.now }
+    {
+        match self {
+            Slot::Full(record) => record,
+            Slot::Free(_) => unreachable!(),
+        }
+    }
+
+    // Its record, for writing.
+    pub(crate) fn record_mut(&mut self) -> &mut ServedRecord
+        requires { IsFull self.old }
+        ensures* writes_back { sem 𝓛 (lends_full self.entry result) }
+        ensures value { self.old ≡ Full result.now }
+    {
+        match self {
+            Slot::Full(record) => record,
+            Slot::Free(_) => unreachable!(),
+        }
+    }
+
+    // Takes a record in, and tells the free place that it named.
+    pub(crate) fn fill(&mut self, served: ServedRecord) -> Option<usize>
+        requires { IsFull self.old → ⊥ }
+        ensures was { self.old ≡ Free result }
+        ensures full { self.new ≡ Full served }
+    {
+        match mem::replace(self, Slot::Full(served)) {
+            Slot::Free(next) => next,
+            Slot::Full(_) => unreachable!(),
+        }
+    }
+}

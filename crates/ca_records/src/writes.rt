@@ -1,0 +1,85 @@
+ghost use Rattle.std.specs.Prelude.{◌≡◌};
+ghost use Rattle.ca_dbr.specs.Elements.{elements};
+ghost use Rattle.ca_records.specs.Store.{IsThere, TakesAt};
+ghost use Rattle.ca_records.specs.Writes.{Begins, Finishes, Posts, Withdraws};
+
+use crate::puts::{Begun, Finished, Put, fewer_waiting, more_waiting};
+use crate::served_records::ServedRecords;
+use ca_arena::Handle;
+use ca_dbr::{Meta, Value};
+use ca_text::Refusal;
+use std::alloc::AllocError;
+
+impl ServedRecords {
+    /// Begins a write to the record at this place: a put with notification, or a plain write, which has none.
+    ///
+    /// A plain write is applied at once. A put is applied at once too if the record is not busy, and makes a slow one
+    /// busy; if it is busy the put waits, behind the others. A refused write changes nothing, and neither does one
+    /// for which there is no memory.
+    pub fn begin_write(
+        &mut self,
+        place: usize,
+        put: Option<Put>,
+        value: Value,
+    ) -> Result<Begun, AllocError>
+        requires { TakesAt self.old place (elements value) }
+        ensures { Begins self.old place put (elements value) result self.new }
+    {
+        let is_countable = self.waiting < usize::MAX;
+        let stamp = self.stamp;
+        let begun = self.slots[place]
+            .record_mut()
+            .begin(put, value, stamp, is_countable);
+        self.waiting += more_waiting(&begun);
+        begun
+    }
+
+    /// Ends the busy put of the record of this name, and applies the next one that waits. It takes no memory.
+    ///
+    /// Refused by 20 if no record has the name, and by 21 if its record is not busy.
+    pub fn finish(&mut self, name: &[u8]) -> Result<Finished, Refusal>
+        ensures { Finishes self.old name.now result self.new }
+    {
+        let Some(place) = self.find(name) else {
+            return Err(Refusal::UnknownRecord);
+        };
+        let stamp = self.stamp;
+        match self.slots[place].record_mut().finish(stamp) {
+            None => Err(Refusal::NotBusy),
+            Some((ended, applied)) => {
+                self.waiting -= fewer_waiting(&applied);
+                Ok(Finished {
+                    place,
+                    ended,
+                    applied,
+                })
+            }
+        }
+    }
+
+    /// Takes the waiting puts of a circuit, or of one channel of it, out of the record at this place. They are never
+    /// applied. It takes no memory.
+    pub fn withdraw(&mut self, place: usize, circuit: Handle, channel: Option<Handle>)
+        requires { IsThere self.old place }
+        ensures { Withdraws self.old place circuit channel self.new }
+    {
+        let gone = self.slots[place].record_mut().withdraw(circuit, channel);
+        self.waiting -= gone;
+    }
+
+    /// Sets the value of the record of this name, and what goes with it. Tells its place.
+    ///
+    /// Refused by 20 if no record has the name, by 4 if the value is not of its type, and by 15 if it has no element
+    /// or more than the greatest count.
+    pub fn post(&mut self, name: &[u8], value: Value, meta: Meta) -> Result<usize, Refusal>
+        ensures { Posts self.old name.now (elements value) meta result self.new }
+    {
+        let Some(place) = self.find(name) else {
+            return Err(Refusal::UnknownRecord);
+        };
+        self.at(place).state().check_post(&value)?;
+        value.know();
+        self.slots[place].record_mut().apply(value, meta);
+        Ok(place)
+    }
+}

@@ -1,0 +1,312 @@
+//! The messages of a server, by name: how each is made, and what it says (section "CA Protocol Messages"). `request` is the
+//! message that a reply answers.
+ghost use Rattle.std.specs.Prelude.{◌≡◌, ◌≢◌, ◌%◌, ◌≤◌, ◌++◌, [], IfOk, MatchOption, OnErr, length, replicate};
+ghost use Rattle.ca_text.specs.Limits.{minor_version, payload_limit};
+ghost use Rattle.ca_wire.specs.Header.{header_spelling, number16};
+ghost use Rattle.ca_wire.specs.Message.{header_of};
+ghost use Rattle.ca_wire.specs.Messages.{answer_in, cancel_reply, cleared_reply, created_in, created_reply, disconnect, error_reply, failed_reply, found_in, no_cid, not_found_reply, rights_reply, search_reply, status_reply, update, value_reply, version_reply};
+ghost use Rattle.ca_wire.specs.Reading.{BeginsHeader, NoHeader};
+
+use crate::header::{Header, spell_header};
+use crate::ids::{Cid, Ioid, Sid};
+use crate::message::Message;
+use crate::reading::{Head, head_at};
+use crate::requests::{ChannelIds, clear_request};
+use ca_text::{Command, MINOR_VERSION, Status};
+use std::alloc::{AllocError, Global};
+
+/// What a search found: a TCP port, at this address or at the sender's, and the CID.
+#[derive(Clone, Copy, Debug, PartialEq, Eq)]
+pub struct Found {
+    pub port: u16,
+    pub address: u32,
+    pub cid: Cid,
+}
+
+/// A channel as it was created: its ids, its native type and its greatest count.
+#[derive(Clone, Copy, Debug, PartialEq, Eq)]
+pub struct Created {
+    pub cid: Cid,
+    pub sid: Sid,
+    pub data_type: u16,
+    pub count: u32,
+}
+
+/// What an answer or an update is about, how it went, and which elements it has.
+#[derive(Clone, Copy, Debug, PartialEq, Eq)]
+pub struct Answered {
+    pub id: Ioid,
+    pub status: Status,
+    pub data_type: u16,
+    pub count: u32,
+}
+
+// ---- how they are made. One without a payload takes no memory.
+
+/// VERSION.
+pub fn version_reply(alloc: Global) -> Message
+    ensures { result ≡ version_reply }
+{
+    let minor = u32::from(MINOR_VERSION);
+    Message::with_no_payload(alloc, Command::Version, 0, minor, 0, 0)
+}
+
+/// The header of a VERSION of a server, which also begins a datagram of searches.
+pub fn version_header() -> Header
+    ensures { result ≡ header_of version_reply }
+{
+    Header {
+        command: Command::Version.number(),
+        data_type: 0,
+        size: 0,
+        count: u32::from(MINOR_VERSION),
+        p1: 0,
+        p2: 0,
+    }
+}
+
+/// SEARCH, answered: a server listens at this TCP port of the sender's address.
+pub fn search_reply(alloc: Global, port: u16, request: &Message) -> Result<Message, AllocError>
+    ensures { IfOk result (λ m. m ≡ search_reply port request.now) }
+{
+    let payload = Vec::from_slice(alloc, &minor_payload())?;
+    let command = Command::Search.number();
+    Ok(Message::of_fields(command, port, 0, u32::MAX, request.p2(), payload))
+}
+
+/// NOT_FOUND.
+pub fn not_found_reply(alloc: Global, request: &Message) -> Message
+    ensures { result ≡ not_found_reply request.now }
+{
+    let minor = u32::from(MINOR_VERSION);
+    let (data_type, cid) = (request.data_type(), request.p2());
+    Message::with_no_payload(alloc, Command::NotFound, data_type, minor, cid, cid)
+}
+
+/// ACCESS_RIGHTS: the bit 1 to read, the bit 2 to write.
+pub fn rights_reply(alloc: Global, request: &Message, bits: u32) -> Message
+    ensures { result ≡ rights_reply request.now bits }
+{
+    Message::with_no_payload(alloc, Command::AccessRights, 0, 0, request.p1(), bits)
+}
+
+/// CREATE_CHAN, answered.
+pub fn created_reply(
+    alloc: Global,
+    request: &Message,
+    data_type: u16,
+    count: u32,
+    sid: Sid,
+) -> Message
+    ensures { result ≡ created_reply request.now data_type count sid }
+{
+    let (cid, sid) = (request.p1(), sid.number());
+    Message::with_no_payload(alloc, Command::CreateChannel, data_type, count, cid, sid)
+}
+
+/// CREATE_CH_FAIL.
+pub fn failed_reply(alloc: Global, request: &Message) -> Message
+    ensures { result ≡ failed_reply request.now }
+{
+    Message::with_no_payload(alloc, Command::CreateChannelFail, 0, 0, request.p1(), 0)
+}
+
+/// CLEAR_CHANNEL, answered.
+pub fn cleared_reply(alloc: Global, request: &Message) -> Message
+    ensures { result ≡ cleared_reply request.now }
+{
+    let ChannelIds { sid, cid } = request.channel_ids();
+    clear_request(alloc, sid, cid)
+}
+
+/// READ_NOTIFY, answered by so many elements and their image. Only padding takes memory.
+pub fn value_reply(request: &Message, count: u32, image: Vec<u8>) -> Result<Message, AllocError>
+    requires { length image.items ≤ payload_limit }
+    ensures ok { IfOk result (λ m. m ≡ value_reply request.now count image.items) }
+    ensures err { OnErr result (length image.items % 8 ≢ 0) }
+{
+    let (command, data_type) = (request.command(), request.data_type());
+    let normal = Status::NORMAL.number;
+    Message::with_padding(command, data_type, count, normal, request.p2(), image)
+}
+
+/// READ_NOTIFY, answered, with no image, which is to be made in its place.
+pub fn value_head(alloc: Global, request: &Message, count: u32) -> Message
+    ensures { result ≡ value_reply request.now count [] }
+{
+    let (command, data_type) = (request.command(), request.data_type());
+    let normal = Status::NORMAL.number;
+    let payload = Vec::new(alloc);
+    Message::of_fields(command, data_type, count, normal, request.p2(), payload)
+}
+
+/// READ_NOTIFY or WRITE_NOTIFY, answered by a status alone.
+pub fn status_reply(alloc: Global, request: &Message, status: Status) -> Message
+    ensures { result ≡ status_reply request.now status.number }
+{
+    let (command, data_type, count) = (request.command(), request.data_type(), request.count());
+    let payload = Vec::new(alloc);
+    Message::of_fields(
+        command,
+        data_type,
+        count,
+        status.number,
+        request.p2(),
+        payload,
+    )
+}
+
+/// The confirmation of an EVENT_CANCEL.
+pub fn cancel_reply(alloc: Global, request: &Message) -> Message
+    ensures { result ≡ cancel_reply request.now }
+{
+    let (data_type, count) = (request.data_type(), request.count());
+    let (sid, id) = (request.p1(), request.p2());
+    Message::with_no_payload(alloc, Command::EventAdd, data_type, count, sid, id)
+}
+
+/// What is in place of a CID in an ERROR if the SID is unknown.
+pub fn no_cid() -> Cid
+    ensures { result ≡ no_cid }
+{
+    Cid::new(u32::MAX)
+}
+
+/// ERROR, which quotes the request's header.
+pub fn error_reply(
+    alloc: Global,
+    cid: Cid,
+    status: Status,
+    request: &Message,
+) -> Result<Message, AllocError>
+    ensures { IfOk result (λ m. m ≡ error_reply cid status.number request.now) }
+{
+    let payload = quotation(alloc, request)?;
+    let command = Command::Error.number();
+    Ok(Message::of_fields(command, 0, 0, cid.number(), status.number, payload))
+}
+
+/// An update: so many elements of this type and their image. Only padding takes memory.
+pub fn update(answered: Answered, image: Vec<u8>) -> Result<Message, AllocError>
+    requires { length image.items ≤ payload_limit }
+    ensures ok { IfOk result (λ m.
+        m
+        ≡ update answered.data_type answered.count answered.status.number answered.id image.items) }
+    ensures err { OnErr result (length image.items % 8 ≢ 0) }
+{
+    let Answered {
+        id,
+        status,
+        data_type,
+        count,
+    } = answered;
+    let command = Command::EventAdd.number();
+    Message::with_padding(command, data_type, count, status.number, id.number(), image)
+}
+
+/// An update with no image, which is to be made in its place.
+pub fn update_head(alloc: Global, answered: Answered) -> Message
+    ensures { result
+        ≡ update answered.data_type answered.count answered.status.number answered.id [] }
+{
+    let Answered {
+        id,
+        status,
+        data_type,
+        count,
+    } = answered;
+    Message::with_no_payload(
+        alloc,
+        Command::EventAdd,
+        data_type,
+        count,
+        status.number,
+        id.number(),
+    )
+}
+
+/// SERVER_DISCONN.
+pub fn disconnect(alloc: Global, cid: Cid) -> Message
+    ensures { result ≡ disconnect cid }
+{
+    Message::with_no_payload(alloc, Command::ServerDisconnect, 0, 0, cid.number(), 0)
+}
+
+// ---- what they say
+
+impl Message {
+    /// What a SEARCH that is a reply found.
+    pub fn found(&self) -> Found
+        ensures { result ≡ found_in self.now }
+    {
+        Found {
+            port: self.data_type(),
+            address: self.p1(),
+            cid: Cid::new(self.p2()),
+        }
+    }
+
+    /// The access rights in an ACCESS_RIGHTS: the bit 1 to read, the bit 2 to write.
+    pub fn rights(&self) -> u32
+        ensures { result ≡ self.now.p2 }
+    {
+        self.p2()
+    }
+
+    /// The channel in a reply to a CREATE_CHAN.
+    pub fn created(&self) -> Created
+        ensures { result ≡ created_in self.now }
+    {
+        Created {
+            cid: Cid::new(self.p1()),
+            sid: Sid::new(self.p2()),
+            data_type: self.data_type(),
+            count: self.count(),
+        }
+    }
+
+    /// What a READ_NOTIFY or WRITE_NOTIFY that is a reply, or an update, answers.
+    pub fn answered(&self) -> Answered
+        ensures { result ≡ answer_in self.now }
+    {
+        Answered {
+            id: Ioid::new(self.p2()),
+            status: Status { number: self.p1() },
+            data_type: self.data_type(),
+            count: self.count(),
+        }
+    }
+
+    /// The status in an ERROR.
+    pub fn error_status(&self) -> Status
+        ensures { result.number ≡ self.now.p2 }
+    {
+        Status { number: self.p2() }
+    }
+
+    /// The header that an ERROR quotes, if it is complete.
+    pub fn quoted(&self) -> Option<Head>
+        ensures { MatchOption result (NoHeader self.now.payload) (BeginsHeader self.now.payload) }
+    {
+        head_at(self.payload())
+    }
+}
+
+/// The payload of an ERROR: the header of the request, and an empty text.
+fn quotation(alloc: Global, request: &Message) -> Result<Vec<u8>, AllocError>
+    ensures { IfOk result (λ v.
+        v.items ≡ header_spelling (header_of request.now) ++ replicate 8 0) }
+{
+    let mut bytes = Vec::with_capacity(alloc, 32)?;
+    spell_header(&request.header(), &mut bytes)?;
+    bytes.extend_from_slice(&[0; 8])?;
+    Ok(bytes)
+}
+
+/// The payload of the reply to a SEARCH: the minor version.
+fn minor_payload() -> [u8; 8]
+    ensures { result ≡ number16 minor_version ++ replicate 6 0 }
+{
+    let minor = MINOR_VERSION.to_be_bytes();
+    [minor[0], minor[1], 0, 0, 0, 0, 0, 0]
+}
