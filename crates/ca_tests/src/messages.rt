@@ -32,52 +32,45 @@ fn check<R: AllocGlobal + Abort>(rt: &R, message: &Message, bytes: &[u8]) -> Res
 }
 
 #[test]
-fn requests_are_made(rt: HostRuntime) -> Result<(), Fail> {
-    let alloc = rt.alloc();
-    let (sid, cid) = (Sid::new(ID), Cid::new(ID));
-    let wanted = one_long();
-    let rows = [
-        (
-            version_request(alloc, Priority::new(7)),
-            b"\0\0\0\0\0\x07\0\x0d\0\0\0\0\0\0\0\0".as_slice(),
-        ),
-        (
-            bare(alloc, Command::Echo),
-            b"\0\x17\0\0\0\0\0\0\0\0\0\0\0\0\0\0",
-        ),
-        (
-            clear_request(alloc, sid, Cid::new(2)),
-            b"\0\x0c\0\0\0\0\0\0\0\x01\0\0\0\0\0\x02",
-        ),
-        (
-            read_request(alloc, wanted),
-            b"\0\x0f\0\0\0\x05\0\x01\0\x01\0\0\0\x01\0\0",
-        ),
-        (
-            event_cancel_request(alloc, wanted),
-            b"\0\x02\0\0\0\x05\0\x01\0\x01\0\0\0\x01\0\0",
-        ),
-        (
-            put_head(alloc, Command::Write, wanted),
-            b"\0\x04\0\0\0\x05\0\x01\0\x01\0\0\0\x01\0\0",
-        ),
-        (
-            name_request(alloc, Command::ClientName, b"eve")?,
-            b"\0\x14\0\x08\0\0\0\0\0\0\0\0\0\0\0\0eve\0\0\0\0\0",
-        ),
-        (
-            search_request(alloc, cid, b"TEMP")?,
-            b"\0\x06\0\x08\0\x05\0\x0d\0\x01\0\0\0\x01\0\0TEMP\0\0\0\0",
-        ),
-        (
-            create_request(alloc, cid, b"TEMP")?,
-            b"\0\x12\0\x08\0\0\0\0\0\x01\0\0\0\0\0\x0dTEMP\0\0\0\0",
-        ),
-    ];
-    for (message, bytes) in &rows {
-        check(&rt, message, bytes)?;
-    }
-    Ok(())
+fn requests_on_a_circuit_are_made(rt: HostRuntime) -> Result<(), Fail> {
+    let version = version_request(rt.alloc(), Priority::new(7));
+    check(&rt, &version, b"\0\0\0\0\0\x07\0\x0d\0\0\0\0\0\0\0\0")?;
+    let echo = bare(rt.alloc(), Command::Echo);
+    check(&rt, &echo, b"\0\x17\0\0\0\0\0\0\0\0\0\0\0\0\0\0")?;
+    let name = name_request(rt.alloc(), Command::ClientName, b"eve")?;
+    check(
+        &rt,
+        &name,
+        b"\0\x14\0\x08\0\0\0\0\0\0\0\0\0\0\0\0eve\0\0\0\0\0",
+    )
+}
+
+#[test]
+fn channels_are_asked_for(rt: HostRuntime) -> Result<(), Fail> {
+    let search = search_request(rt.alloc(), Cid::new(ID), b"TEMP")?;
+    check(
+        &rt,
+        &search,
+        b"\0\x06\0\x08\0\x05\0\x0d\0\x01\0\0\0\x01\0\0TEMP\0\0\0\0",
+    )?;
+    let create = create_request(rt.alloc(), Cid::new(ID), b"TEMP")?;
+    check(
+        &rt,
+        &create,
+        b"\0\x12\0\x08\0\0\0\0\0\x01\0\0\0\0\0\x0dTEMP\0\0\0\0",
+    )?;
+    let clear = clear_request(rt.alloc(), Sid::new(ID), Cid::new(2));
+    check(&rt, &clear, b"\0\x0c\0\0\0\0\0\0\0\x01\0\0\0\0\0\x02")
+}
+
+#[test]
+fn requests_on_a_channel_are_made(rt: HostRuntime) -> Result<(), Fail> {
+    let read = read_request(rt.alloc(), one_long());
+    check(&rt, &read, b"\0\x0f\0\0\0\x05\0\x01\0\x01\0\0\0\x01\0\0")?;
+    let cancel = event_cancel_request(rt.alloc(), one_long());
+    check(&rt, &cancel, b"\0\x02\0\0\0\x05\0\x01\0\x01\0\0\0\x01\0\0")?;
+    let put = put_head(rt.alloc(), Command::Write, one_long());
+    check(&rt, &put, b"\0\x04\0\0\0\x05\0\x01\0\x01\0\0\0\x01\0\0")
 }
 
 #[test]
@@ -96,65 +89,55 @@ fn requests_with_values_are_made(rt: HostRuntime) -> Result<(), Fail> {
 }
 
 #[test]
-fn replies_are_made(rt: HostRuntime) -> Result<(), Fail> {
-    let alloc = rt.alloc();
-    let read = read_request(alloc, one_long());
-    let create = create_request(alloc, Cid::new(ID), b"TEMP")?;
-    let search = Message::new(6, 10, 13, ID, ID, Vec::new(alloc))?;
-    let rows = [
-        (
-            version_reply(alloc),
-            b"\0\0\0\0\0\0\0\x0d\0\0\0\0\0\0\0\0".as_slice(),
-        ),
-        (
-            rights_reply(alloc, &create, 3),
-            b"\0\x16\0\0\0\0\0\0\0\x01\0\0\0\0\0\x03",
-        ),
-        (
-            created_reply(alloc, &create, 5, 1, Sid::new(ID)),
-            b"\0\x12\0\0\0\x05\0\x01\0\x01\0\0\0\x01\0\0",
-        ),
-        (
-            failed_reply(alloc, &create),
-            b"\0\x1a\0\0\0\0\0\0\0\x01\0\0\0\0\0\0",
-        ),
-        (
-            status_reply(alloc, &read, Status::BADCOUNT),
-            b"\0\x0f\0\0\0\x05\0\x01\0\0\0\xb0\0\x01\0\0",
-        ),
-        (
-            value_head(alloc, &read, 1),
-            b"\0\x0f\0\0\0\x05\0\x01\0\0\0\x01\0\x01\0\0",
-        ),
-        (
-            cancel_reply(alloc, &event_cancel_request(alloc, one_long())),
-            b"\0\x01\0\0\0\x05\0\x01\0\x01\0\0\0\x01\0\0",
-        ),
-        (
-            cleared_reply(alloc, &clear_request(alloc, Sid::new(ID), Cid::new(2))),
-            b"\0\x0c\0\0\0\0\0\0\0\x01\0\0\0\0\0\x02",
-        ),
-        (
-            disconnect(alloc, Cid::new(ID)),
-            b"\0\x1b\0\0\0\0\0\0\0\x01\0\0\0\0\0\0",
-        ),
-        (
-            not_found_reply(alloc, &search),
-            b"\0\x0e\0\0\0\x0a\0\x0d\0\x01\0\0\0\x01\0\0",
-        ),
-        (
-            search_reply(alloc, 5_064, &search)?,
-            b"\0\x06\0\x08\x13\xc8\0\0\xff\xff\xff\xff\0\x01\0\0\0\x0d\0\0\0\0\0\0",
-        ),
-        (
-            error_reply(alloc, no_cid(), Status::ADDFAIL, &read)?,
-            b"\0\x0b\0\x18\0\0\0\0\xff\xff\xff\xff\0\0\0\xa8\0\x0f\0\0\0\x05\0\x01\0\x01\0\0\0\x01\0\0\0\0\0\0\0\0\0\0",
-        ),
-    ];
-    for (message, bytes) in &rows {
-        check(&rt, message, bytes)?;
-    }
-    Ok(())
+fn replies_to_set_up_are_made(rt: HostRuntime) -> Result<(), Fail> {
+    let version = version_reply(rt.alloc());
+    check(&rt, &version, b"\0\0\0\0\0\0\0\x0d\0\0\0\0\0\0\0\0")?;
+    let search = Message::new(6, 10, 13, ID, ID, Vec::new(rt.alloc()))?;
+    let none = not_found_reply(rt.alloc(), &search);
+    check(&rt, &none, b"\0\x0e\0\0\0\x0a\0\x0d\0\x01\0\0\0\x01\0\0")?;
+    let found = search_reply(rt.alloc(), 5_064, &search)?;
+    check(
+        &rt,
+        &found,
+        b"\0\x06\0\x08\x13\xc8\0\0\xff\xff\xff\xff\0\x01\0\0\0\x0d\0\0\0\0\0\0",
+    )
+}
+
+#[test]
+fn replies_to_creations_are_made(rt: HostRuntime) -> Result<(), Fail> {
+    let create = create_request(rt.alloc(), Cid::new(ID), b"TEMP")?;
+    let rights = rights_reply(rt.alloc(), &create, 3);
+    check(&rt, &rights, b"\0\x16\0\0\0\0\0\0\0\x01\0\0\0\0\0\x03")?;
+    let created = created_reply(rt.alloc(), &create, 5, 1, Sid::new(ID));
+    check(&rt, &created, b"\0\x12\0\0\0\x05\0\x01\0\x01\0\0\0\x01\0\0")?;
+    let failed = failed_reply(rt.alloc(), &create);
+    check(&rt, &failed, b"\0\x1a\0\0\0\0\0\0\0\x01\0\0\0\0\0\0")
+}
+
+#[test]
+fn replies_to_requests_are_made(rt: HostRuntime) -> Result<(), Fail> {
+    let read = read_request(rt.alloc(), one_long());
+    let status = status_reply(rt.alloc(), &read, Status::BADCOUNT);
+    check(&rt, &status, b"\0\x0f\0\0\0\x05\0\x01\0\0\0\xb0\0\x01\0\0")?;
+    let value = value_head(rt.alloc(), &read, 1);
+    check(&rt, &value, b"\0\x0f\0\0\0\x05\0\x01\0\0\0\x01\0\x01\0\0")?;
+    let error = error_reply(rt.alloc(), no_cid(), Status::ADDFAIL, &read)?;
+    check(
+        &rt,
+        &error,
+        b"\0\x0b\0\x18\0\0\0\0\xff\xff\xff\xff\0\0\0\xa8\0\x0f\0\0\0\x05\0\x01\0\x01\0\0\0\x01\0\0\0\0\0\0\0\0\0\0",
+    )
+}
+
+#[test]
+fn endings_are_told(rt: HostRuntime) -> Result<(), Fail> {
+    let cancel = cancel_reply(rt.alloc(), &event_cancel_request(rt.alloc(), one_long()));
+    check(&rt, &cancel, b"\0\x01\0\0\0\x05\0\x01\0\x01\0\0\0\x01\0\0")?;
+    let clear = clear_request(rt.alloc(), Sid::new(ID), Cid::new(2));
+    let cleared = cleared_reply(rt.alloc(), &clear);
+    check(&rt, &cleared, b"\0\x0c\0\0\0\0\0\0\0\x01\0\0\0\0\0\x02")?;
+    let gone = disconnect(rt.alloc(), Cid::new(ID));
+    check(&rt, &gone, b"\0\x1b\0\0\0\0\0\0\0\x01\0\0\0\0\0\0")
 }
 
 /// The LONG 21, as an answer to a read and as an update.
