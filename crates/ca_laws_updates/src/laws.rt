@@ -14,7 +14,8 @@ ghost use Rattle.ca_laws_updates.specs.Subsequence.{IsSubsequence};
 /// In a safe world what the updates of each accepted EVENT_ADD show is a subsequence of its
 /// record's posts, and ends in the newest while the subscription lasts.
 pub fn a_subscriber_sees_posts()
-    ensures { (ports : ℕ → ℕ) (rules : ℕ → List Rule) (world : World) → IsSafe ports rules world → OfCircuits world SeeParts }
+    ensures { (ports : ℕ → ℕ) (rules : ℕ → List Rule) (world : World) → IsSafe ports rules world
+        → OfCircuits world SeeParts }
 {}
 
 /// A beginning of a subsequence is one.
@@ -28,12 +29,30 @@ pub fn a_subsequence_begins_with_one<T>()
 pub fn a_queue_keeps_numbers_rising<T>()
     // Its own calls: its first entry has the number 0, the next post the next number, and a take
     // gives the first that waits.
-    ensures begins { (stamp : ℕ → T) (key : SubKey) (q : Queue T) → entries_of key q.waiting ≡ [] → Rising stamp key [] 1 (posted key (stamp 0) (added key q)) }
-    ensures posted { (stamp : ℕ → T) (key : SubKey) (gone : List ℕ) (next : ℕ) (q : Queue T) → Rising stamp key gone next q → Rising stamp key gone (next + 1) (posted key (stamp next) q) }
-    ensures taken { (stamp : ℕ → T) (key : SubKey) (gone : List ℕ) (next : ℕ) (entry : T) (q : Queue T) → taken q.events_on q.waiting ≡ Some (key, entry) → Rising stamp key gone next q → (n : ℕ) × (entry ≡ stamp n) × Rising stamp key (gone ++ n ∷ []) next (with_front_taken q) }
-    ensures gone { (stamp : ℕ → T) (key : SubKey) (gone : List ℕ) (next : ℕ) (q : Queue T) → Rising stamp key gone next q → Rises gone }
+    ensures begins { (stamp : ℕ → T) (key : SubKey) (q : Queue T) → entries_of key q.waiting ≡ []
+        → Rising stamp key [] 1 (posted key (stamp 0) (added key q)) }
+    ensures posted { (stamp : ℕ → T) (key : SubKey) (gone : List ℕ) (next : ℕ) (q : Queue T)
+        → Rising stamp key gone next q
+        → Rising stamp key gone (next + 1) (posted key (stamp next) q) }
+    ensures taken { (stamp : ℕ → T) (key : SubKey) (gone : List ℕ) (next : ℕ) (entry : T)
+        (q : Queue T) → taken q.events_on q.waiting ≡ Some (key, entry)
+        → Rising stamp key gone next q
+        → (n : ℕ) × (entry ≡ stamp n)
+        × Rising stamp key (gone ++ n ∷ []) next (with_front_taken q) }
+    ensures gone { (stamp : ℕ → T) (key : SubKey) (gone : List ℕ) (next : ℕ) (q : Queue T)
+        → Rising stamp key gone next q → Rises gone }
     // Those of others, and what concerns all.
-    ensures others { (stamp : ℕ → T) (key other : SubKey) (gone : List ℕ) (next : ℕ) (entry : T) (q : Queue T) → same other key ≡ false → Rising stamp key gone next q → Rising stamp key gone next (added other q) × Rising stamp key gone next (posted other entry q) × Rising stamp key gone next (cancelled other q) }
-    ensures others_taken { (stamp : ℕ → T) (key other : SubKey) (gone : List ℕ) (next : ℕ) (entry : T) (q : Queue T) → same other key ≡ false → taken q.events_on q.waiting ≡ Some (other, entry) → Rising stamp key gone next q → Rising stamp key gone next (with_front_taken q) }
-    ensures rest { (stamp : ℕ → T) (key : SubKey) (gone : List ℕ) (next : ℕ) (on : Bool) (q : Queue T) → Rising stamp key gone next q → Rising stamp key gone next (switched on q) × (taken q.events_on q.waiting ≡ None → Rising stamp key gone next (with_front_taken q)) }
+    ensures others { (stamp : ℕ → T) (key other : SubKey) (gone : List ℕ) (next : ℕ) (entry : T)
+        (q : Queue T) → same other key ≡ false → Rising stamp key gone next q
+        → Rising stamp key gone next (added other q)
+        × Rising stamp key gone next (posted other entry q)
+        × Rising stamp key gone next (cancelled other q) }
+    ensures others_taken { (stamp : ℕ → T) (key other : SubKey) (gone : List ℕ) (next : ℕ)
+        (entry : T) (q : Queue T) → same other key ≡ false
+        → taken q.events_on q.waiting ≡ Some (other, entry) → Rising stamp key gone next q
+        → Rising stamp key gone next (with_front_taken q) }
+    ensures rest { (stamp : ℕ → T) (key : SubKey) (gone : List ℕ) (next : ℕ) (on : Bool)
+        (q : Queue T) → Rising stamp key gone next q
+        → Rising stamp key gone next (switched on q)
+        × (taken q.events_on q.waiting ≡ None → Rising stamp key gone next (with_front_taken q)) }
 {}

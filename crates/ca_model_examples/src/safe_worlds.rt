@@ -35,7 +35,8 @@ pub fn a_shared_id_is_safe_but_not_legal()
 /// A channel whose record is removed and added again is created twice on one circuit under one SID, and its subscription goes out
 /// twice under one id: that is safe, with all that was due, and legal. The outcome is that of the first update.
 pub fn a_channel_that_comes_back_is_safe_and_legal()
-    ensures safe { (o : Outcome) → Means (first_update 1 21).message o → IsSafe ports rules (reopened_world o) }
+    ensures safe { (o : Outcome) → Means (first_update 1 21).message o
+        → IsSafe ports rules (reopened_world o) }
     ensures legal { (o : Outcome) → Legal (reopened_world o) }
 {}
 
@@ -43,7 +44,8 @@ pub fn a_channel_that_comes_back_is_safe_and_legal()
 /// there under the same ids, so that the updates of circuit 1 come first in the log. That is safe, with all that was due, and legal.
 /// The outcomes are those of the two updates.
 pub fn a_channel_that_moves_to_an_earlier_circuit_is_safe_and_legal()
-    ensures safe { (o p : Outcome) → Means (first_update 1 7).message o → Means (first_update 1 5).message p → IsSafe ports rules (moved_world o p) }
+    ensures safe { (o p : Outcome) → Means (first_update 1 7).message o
+        → Means (first_update 1 5).message p → IsSafe ports rules (moved_world o p) }
     ensures legal { (o p : Outcome) → Legal (moved_world o p) }
 {}
 

@@ -70,6 +70,7 @@ pub fn a_creation_refused_for_nothing_is_unsafe()
 pub fn a_lost_or_repeated_post_is_unsafe()
     ensures lost { (v u : Stored) → FollowsNot (updated 1 0 21 ∷ []) (v ∷ u ∷ []) }
     ensures repeated { (v : Stored) → FollowsNot (updated 1 0 21 ∷ updated 1 0 21 ∷ []) (v ∷ []) }
-    ensures reordered { (v u : Stored) → FollowsNot (updated 1 1 22 ∷ updated 1 0 21 ∷ []) (v ∷ u ∷ []) }
+    ensures reordered { (v u : Stored)
+        → FollowsNot (updated 1 1 22 ∷ updated 1 0 21 ∷ []) (v ∷ u ∷ []) }
     ensures of_another { FollowsNot (updated 1 0 22 ∷ []) (long 21 ∷ []) }
 {}

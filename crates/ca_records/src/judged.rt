@@ -36,7 +36,8 @@ pub(crate) fn judge(alloc: Global, value: Value, base: BaseType, is_crowded: boo
 
 // What a conversion that gave no elements comes to.
 fn refused(refusal: Refusal, is_crowded: bool) -> Judged
-    ensures { (e : Elements) (b : BaseType) → base_of e ≢ b → Fails (converted e b) refusal → Judges e b is_crowded result }
+    ensures { (e : Elements) (b : BaseType) → base_of e ≢ b → Fails (converted e b) refusal
+        → Judges e b is_crowded result }
 {
     match refusal {
         Refusal::NoConvert => Judged::Refused(Status::NOCONVERT),

@@ -6,5 +6,6 @@ ghost use Rattle.ca_records.specs.declared.puts.Put.{Put};
 
 /// If no waiting put is one that a test names, nothing is withdrawn.
 pub fn nothing_is_withdrawn()
-    ensures { (which : Put → Bool) (records : List puts.Record) → HaveNone which records → withdrawn which records ≡ records }
+    ensures { (which : Put → Bool) (records : List puts.Record) → HaveNone which records
+        → withdrawn which records ≡ records }
 {}

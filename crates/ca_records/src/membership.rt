@@ -52,7 +52,13 @@ impl ServedRecords {
         value: Value,
     ) -> Result<usize, Refusal>
         requires { record_named (records_of self.old) name.now ≡ None }
-        ensures { Defines self.old (record { name = name.now; count = count; slow = slow; value = elements value; meta = unset }) result self.new }
+        ensures { Defines self.old (record {
+          name = name.now;
+          count = count;
+          slow = slow;
+          value = elements value;
+          meta = unset;
+        }) result self.new }
     {
         check(name, count, &value)?;
         let alloc = *self.slots.allocator();
@@ -73,7 +79,13 @@ impl ServedRecords {
         slow: bool,
         value: Value,
     ) -> Result<usize, Refusal>
-        ensures { Adds self.old (record { name = name.now; count = count; slow = slow; value = elements value; meta = unset }) result self.new }
+        ensures { Adds self.old (record {
+          name = name.now;
+          count = count;
+          slow = slow;
+          value = elements value;
+          meta = unset;
+        }) result self.new }
     {
         RecordName::read(name)?;
         if self.has(name) {
@@ -108,8 +120,10 @@ impl ServedRecords {
         requires new { record_named (records_of self.old) state.name ≡ None }
         requires key { key.items ≡ state.name }
         ensures ok { IfOk result (λ place. Enters self.old place (new_record state) self.new) }
-        ensures behind { IfOk result (λ place. (place ≡ length self.old.slots) × (self.new ≡ with_place (new_record state) self.old)) }
-        ensures list { OnOk result (records_of self.new ≡ records_of self.old ++ new_record state ∷ []) }
+        ensures behind { IfOk result (λ place.
+            (place ≡ length self.old.slots) × (self.new ≡ with_place (new_record state) self.old)) }
+        ensures list { OnOk result (records_of self.new
+            ≡ records_of self.old ++ new_record state ∷ []) }
         ensures err { OnErr result (self.new ≡ self.old) }
     {
         let alloc = *self.slots.allocator();

@@ -27,9 +27,23 @@ impl Model for Record {
 
     ghost Value = { RecordState };
 
-    ghost view = { λ r. record { name = r.name.items; count = r.count; slow = r.slow; value = elements r.value; meta = r.meta } };
+    ghost view = { λ r.
+        record {
+          name = r.name.items;
+          count = r.count;
+          slow = r.slow;
+          value = elements r.value;
+          meta = r.meta;
+        } };
 
-    ghost invariant = { λ r. IsRecord (record { name = r.name.items; count = r.count; slow = r.slow; value = elements r.value; meta = r.meta }) };
+    ghost invariant = { λ r.
+        IsRecord (record {
+          name = r.name.items;
+          count = r.count;
+          slow = r.slow;
+          value = elements r.value;
+          meta = r.meta;
+        }) };
 }
 
 impl Record {
@@ -37,7 +51,14 @@ impl Record {
     pub(crate) fn new(name: Vec<u8>, count: u32, slow: bool, value: Value, meta: Meta) -> Record
         requires name { IsName record_name_limit name.items }
         requires value { HoldsValue count (elements value) }
-        ensures { result ≡ record { name = name.items; count = count; slow = slow; value = elements value; meta = meta } }
+        ensures { result
+            ≡ record {
+              name = name.items;
+              count = count;
+              slow = slow;
+              value = elements value;
+              meta = meta;
+            } }
     {
         value.know();
         Record {
@@ -125,7 +146,9 @@ impl Record {
 
 // Whether a record may have this name, and this value under this greatest count. The name is judged first.
 pub(crate) fn check(name: &[u8], count: u32, value: &Value) -> Result<(), Refusal>
-    ensures { MatchResult result (λ _. IsName record_name_limit name.now × HoldsValue count (elements value.now)) (IsUnfit name.now count (elements value.now)) }
+    ensures { MatchResult result (λ _.
+        IsName record_name_limit name.now × HoldsValue count (elements value.now))
+        (IsUnfit name.now count (elements value.now)) }
 {
     RecordName::read(name)?;
     check_value(count, value)?;
@@ -134,7 +157,8 @@ pub(crate) fn check(name: &[u8], count: u32, value: &Value) -> Result<(), Refusa
 
 // Whether a record may have this value under this greatest count.
 pub(crate) fn check_value(count: u32, value: &Value) -> Result<(), Refusal>
-    ensures { MatchResult result (λ _. HoldsValue count (elements value.now)) (λ e. (e ≡ BadCount) × (HoldsValue count (elements value.now) → ⊥)) }
+    ensures { MatchResult result (λ _. HoldsValue count (elements value.now))
+        (λ e. (e ≡ BadCount) × (HoldsValue count (elements value.now) → ⊥)) }
 {
     let limit = count as usize;
     let present = value.count();

@@ -70,7 +70,8 @@ impl Records {
 
     /// The place of the record of this name.
     pub fn find(&self, name: &[u8]) -> Option<usize>
-        ensures found { MatchOption result (IsServed self.now name.now → ⊥) (λ place. Names self.now name.now place) }
+        ensures found { MatchOption result (IsServed self.now name.now → ⊥)
+            (λ place. Names self.now name.now place) }
         ensures within { IfSome result (λ place. place < length self.now) }
         ensures apart { AreApart self.now }
     {
@@ -79,7 +80,8 @@ impl Records {
 
     /// The present value of the record of this name.
     pub fn read(&self, name: &[u8]) -> Result<&Value, Refusal>
-        ensures { MatchResult result (λ value. Holds self.now name.now (elements value.now)) (λ e. (e ≡ UnknownRecord) × (IsServed self.now name.now → ⊥)) }
+        ensures { MatchResult result (λ value. Holds self.now name.now (elements value.now))
+            (λ e. (e ≡ UnknownRecord) × (IsServed self.now name.now → ⊥)) }
     {
         match self.find(name) {
             Some(place) => Ok(self.at(place).value()),
@@ -96,7 +98,13 @@ impl Records {
         value: Value,
     ) -> Result<(), Refusal>
         requires { IsServed self.old name.now → ⊥ }
-        ensures { Defines self.old (record { name = name.now; count = count; slow = slow; value = elements value; meta = unset }) result self.new }
+        ensures { Defines self.old (record {
+          name = name.now;
+          count = count;
+          slow = slow;
+          value = elements value;
+          meta = unset;
+        }) result self.new }
     {
         self.add(name, count, slow, value, Meta::ZERO)
     }
@@ -111,7 +119,13 @@ impl Records {
         meta: Meta,
     ) -> Result<(), Refusal>
         requires { IsServed self.old name.now → ⊥ }
-        ensures { Defines self.old (record { name = name.now; count = count; slow = slow; value = elements value; meta = meta }) result self.new }
+        ensures { Defines self.old (record {
+          name = name.now;
+          count = count;
+          slow = slow;
+          value = elements value;
+          meta = meta;
+        }) result self.new }
     {
         check(name, count, &value)?;
         let alloc = *self.list.allocator();

@@ -19,7 +19,14 @@ impl Model for Rule {
 
     ghost Value = { rules.Rule };
 
-    ghost view = { λ r. record { user = option_map (λ v. v.items) r.user; host = option_map (λ v. v.items) r.host; record_name = option_map (λ v. v.items) r.record_name; reads = r.reads; writes = r.writes } };
+    ghost view = { λ r.
+        record {
+          user = option_map (λ v. v.items) r.user;
+          host = option_map (λ v. v.items) r.host;
+          record_name = option_map (λ v. v.items) r.record_name;
+          reads = r.reads;
+          writes = r.writes;
+        } };
 }
 
 impl Rule {
@@ -31,7 +38,14 @@ impl Rule {
         reads: bool,
         writes: bool,
     ) -> Rule
-        ensures { result ≡ record { user = option_map (λ v. v.items) user; host = option_map (λ v. v.items) host; record_name = option_map (λ v. v.items) record_name; reads = reads; writes = writes } }
+        ensures { result
+            ≡ record {
+              user = option_map (λ v. v.items) user;
+              host = option_map (λ v. v.items) host;
+              record_name = option_map (λ v. v.items) record_name;
+              reads = reads;
+              writes = writes;
+            } }
     {
         Rule {
             user,

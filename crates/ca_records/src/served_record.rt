@@ -33,7 +33,8 @@ impl Model for ServedRecord {
 
     ghost use Rattle.ca_records.specs.Layout.{AreFit, waiting_put};
 
-    ghost view = { λ r. record { state = r.record; busy = r.busy; waiting = map waiting_put r.waiting.items } };
+    ghost view = { λ r.
+        record { state = r.record; busy = r.busy; waiting = map waiting_put r.waiting.items } };
 
     ghost invariant = { λ r. AreFit r.record (map waiting_put r.waiting.items) };
 }
@@ -112,7 +113,9 @@ impl ServedRecord {
 
     // Whether this write is one that is to wait, while as many wait as may.
     fn is_crowded(&self, put: &Option<Put>) -> bool
-        ensures { result ≡ (if must_wait self.now put.now then not (nat_lt (length self.now.waiting) waiting_puts) else false) }
+        ensures { result
+            ≡ (if must_wait self.now put.now then not
+            (nat_lt (length self.now.waiting) waiting_puts) else false) }
     {
         put.is_some() && self.busy.is_some() && self.waiting.len() >= WAITING_PUTS
     }
@@ -126,7 +129,8 @@ impl ServedRecord {
         is_countable: bool,
     ) -> Result<Begun, AllocError>
         requires { IsFit self.old.state (elements value) }
-        ensures takes { IfOk result (λ begun. Takes stamp self.old put (elements value) begun self.new) }
+        ensures takes { IfOk result (λ begun.
+            Takes stamp self.old put (elements value) begun self.new) }
         ensures countable { is_countable ≡ false → more_waiting result ≡ 0 }
         ensures memory { OnErr result ((must_wait self.old put ≡ true) × (self.new ≡ self.old)) }
     {
@@ -151,7 +155,9 @@ impl ServedRecord {
     // Lets a put wait after the others.
     fn wait(&mut self, put: Put, value: Value) -> Result<Begun, AllocError>
         requires { IsFit self.old.state (elements value) }
-        ensures waits { IfOk result (λ begun. (begun ≡ Waiting) × (self.new ≡ with_waiting (record { put = put; value = elements value }) self.old)) }
+        ensures waits { IfOk result (λ begun.
+            (begun ≡ Waiting)
+            × (self.new ≡ with_waiting (record { put = put; value = elements value }) self.old)) }
         ensures memory { OnErr result (self.new ≡ self.old) }
     {
         self.waiting.reserve(1)?;

@@ -38,15 +38,22 @@ impl Model for ServedRecords {
     ghost use Rattle.ca_records.specs.Chain.{IsStored, record_in};
     ghost use Rattle.ca_records.specs.Index.{place_of};
 
-    ghost view = { λ s. record { slots = map record_in s.slots.items; rules = s.rules.items; stamp = s.stamp } };
+    ghost view = { λ s.
+        record { slots = map record_in s.slots.items; rules = s.rules.items; stamp = s.stamp } };
 
-    ghost invariant = { λ s. IsStored s.slots.items s.free (place_of (λ k. k.items) s.places.entries) s.waiting };
+    ghost invariant = { λ s.
+        IsStored s.slots.items s.free (place_of (λ k. k.items) s.places.entries) s.waiting };
 }
 
 impl ServedRecords {
     /// No records, under these rules. The stamp is zero.
     pub fn new(alloc: Global, rules: Vec<Rule>) -> ServedRecords
-        ensures { result ≡ record { slots = []; rules = rules.items; stamp = record { seconds = 0; nanos = 0 } } }
+        ensures { result
+            ≡ record {
+              slots = [];
+              rules = rules.items;
+              stamp = record { seconds = 0; nanos = 0 };
+            } }
     {
         ServedRecords {
             slots: Vec::new(alloc),
@@ -63,7 +70,8 @@ impl ServedRecords {
 
     /// The place of the record of this name.
     pub fn find(&self, name: &[u8]) -> Option<usize>
-        ensures { MatchOption result (record_named (records_of self.now) name.now ≡ None) (λ place. Finds self.now name.now place) }
+        ensures { MatchOption result (record_named (records_of self.now) name.now ≡ None)
+            (λ place. Finds self.now name.now place) }
     {
         self.places.get(name).copied()
     }
@@ -93,7 +101,8 @@ impl ServedRecords {
 
     /// Sets the stamp of the writes that are applied from now on.
     pub fn stamp(&mut self, seconds: u32, nanos: u32)
-        ensures { self.new ≡ record self.old { stamp = record { seconds = seconds; nanos = nanos } } }
+        ensures { self.new
+            ≡ record self.old { stamp = record { seconds = seconds; nanos = nanos } } }
     {
         self.stamp = Stamp { seconds, nanos };
     }
