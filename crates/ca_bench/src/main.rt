@@ -144,12 +144,9 @@ fn parts(alloc: Global, part: usize, rounds: u32) -> Result<(), Refusal> {
 
 /// Gives the bytes to the link in parts of so many, and takes each message as soon as it is complete.
 fn give_parts(to: &mut Link, bytes: &[u8], part: usize) -> Result<(), Refusal> {
-    let mut rest = bytes;
-    while !rest.is_empty() {
-        let (now, later) = rest.split_at(part.clamp(1, rest.len()));
-        to.give(0, now)?;
+    for piece in bytes.chunks(part.max(1)) {
+        to.give(0, piece)?;
         to.next_message()?;
-        rest = later;
     }
     Ok(())
 }
