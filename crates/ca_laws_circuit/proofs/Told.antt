@@ -7,11 +7,12 @@ use Rattle.ca_text.specs.Place.{At}
 use Rattle.ca_dbr.specs.Elements.{Elements}
 use Rattle.ca_dbr.specs.Shown.{shown}
 use Rattle.ca_dbr.specs.declared.data_type.DataType.{DataType}
-use Rattle.ca_records.specs.Puts.{Put}
+use Rattle.ca_records.specs.declared.puts.Put.{Put}
 use Rattle.ca_wire.specs.Fields.{Fields}
 use Rattle.ca_wire.specs.Header.{HeaderFits}
 use Rattle.ca_wire.specs.Message.{header_of}
-use Rattle.ca_wire.specs.Messages.{Wanted, disconnect}
+use Rattle.ca_wire.specs.Messages.{disconnect}
+use Rattle.ca_wire.specs.declared.requests.Wanted.{Wanted}
 use Rattle.ca_model.specs.Due.{Action, Due, Knows}
 use Rattle.ca_model.specs.ServerCalls.{finish_reply}
 use Rattle.ca_model.specs.Speech.{Id, Cid, Ioid, SubId, Is, Speaks, Stored}
