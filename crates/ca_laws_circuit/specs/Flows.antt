@@ -93,15 +93,15 @@ module _ (Awaits : ℕ → Type 0) where
     pub within : length c.heard ≤ length c.down
     pub early : (j : ℕ) (h : Step) → At c.heard j h → h.sent ≤ length c.up
     pub about : (j : ℕ) (t : Told) → At c.down j t → t.place < length c.up
-    -- Clause 2, `asked`: messages are what was meant.
+    -- For `asked` of AnswersOwn: messages are what was meant.
     pub asked : (k : ℕ) (s : Sent) → At c.up k s → Suits s.intent s.message
-    -- Clause 2, `own`: an id in a message of the server is taken for what the message is about.
+    -- For `own` of AnswersOwn: an id in a message of the server is taken for what the message is about.
     pub own : (j : ℕ) (t : Told) (id : Id) → At c.down j t → Speaks t.message id → TakesOwn c j t.place id
     -- It is one that this concerns.
     pub concerns : (j : ℕ) (t : Told) (id : Id) → At c.down j t → Speaks t.message id → Concerns c.up t.place id
     -- And so will be those in the messages that may still be sent: nothing else is given an id that may still come back.
     pub next : (p : ℕ) (id : Id) → Awaits p → Concerns c.up p id → MeansOwn c.up p id
-    -- Clause 2, `once`, and why an id may be given again: after the last message about a request, a subscription or a channel
+    -- For `once` of CompletesOnce, and why an id may be given again: after the last message about a request, a subscription or a channel
     -- none comes.
     pub last : (j : ℕ) (t : Told) (s : Sent) → At c.down j t → t.cause ≡ Reply → At c.up t.place s → IsLast t.message s.intent
         → NoMore c j t.place

@@ -32,9 +32,9 @@ pub record HoldsIds {T : Type 0} (Awaits : ℕ → Type 0) (kind : ℕ → Id) (
     (t : Table T) (c : Circuit) : Type 0 where
   -- there are no more indices than ids have
   pub few : length t ≤ arena_slots
-  -- Clause 2, `own`: an id that may still come back is held, so that it is given to nothing else.
+  -- For `own` of AnswersOwn: an id that may still come back is held, so that it is given to nothing else.
   pub busy : (p n : ℕ) → IsPending Awaits c p (kind n) → IsHeld here t n
-  -- Clause 2, `told`: what holds an id was given it last, so that the message that finds it is about it.
+  -- For `told` of CompletesOnce: what holds an id was given it last, so that the message that finds it is about it.
   pub own : (h : Handle) (v : T) → under t h ≡ Some v → here v ≡ true → IsMeant c (meant h) (kind (wire_of h))
 
 -- ---- requests: those that were sent on the circuit of this handle, open or draining

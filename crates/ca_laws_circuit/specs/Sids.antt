@@ -28,7 +28,7 @@ pub record Sids (c : Circuit) : Type 0 where
   pub caused : (i : ℕ) (t : Told) → At c.down i t → t.place < length c.handled
   pub before : (i p : ℕ) (t : Told) (h : Step) → At c.down i t → At c.handled p h → i < h.sent → t.place < p
   pub after : (j p : ℕ) (g h : Step) → At c.heard j g → At c.handled p h → g.sent ≤ p → j < h.sent
-  -- Clause 1, `acts`: a message on a channel has the SID under which that was live when it was sent.
+  -- For `acts` of ActsOnRecord: a message on a channel has the SID under which that was live when it was sent.
   pub live : (p channel : ℕ) (s : Sent) (ask : Ask) → At c.up p s → s.intent ≡ On channel ask → (ask ≡ Create → ⊥)
       → (j k : ℕ) × IsLiveBefore c channel j k (sid_in s.message) p
   -- Between two creations under one SID the first channel was cleared.

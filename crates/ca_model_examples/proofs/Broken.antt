@@ -16,7 +16,7 @@ use Rattle.ca_model_examples.specs.Broken.{added_cancelled, added_twice, called_
 use Rattle.ca_model_examples.proofs.Lists.{each-at, none-at, one-at}
 use Rattle.ca_model_examples.proofs.Unsafe.{its-own, zero-one}
 
--- ---- the first clause
+-- ---- on which record a message acts
 
 only-added : (r : ℕ) → In (Added 0 temp ∷ []) (Removed r) → ⊥
 only-added r h = let e = (one-at (Added 0 temp) h.0 (Removed r) h.1).1 in cc
@@ -62,7 +62,7 @@ never-of-other-name s =
       ((λ e. cc), ((λ e. cc), tt)),
     ) named.1.0 _ at refl
 
--- ---- the second
+-- ---- answers that are their own
 
 pub never-misasked : Unsafe misasked
 never-misasked s = (let e = (s.own.0 0 _ refl).3.asked 1 _ refl in omega (arith, e))
@@ -100,7 +100,7 @@ never-lost-before-live s =
     let e = h.live.1 in
     omega (arith, e)
 
--- ---- the third
+-- ---- writes
 
 pub never-finished-twice : (v : Stored) → Unsafe (finished_twice v)
 never-finished-twice v s = (let e = (s.applied.finished 0 1 0 1 _ refl refl).1 2 refl in omega (arith, e))
@@ -117,7 +117,7 @@ pub never-failed-applied : Unsafe failed_applied
 never-failed-applied s =
     s.applied.failed 0 0 1 0 1 0 (On 0 (Request Write 0)) _ _ (long 22) refl (2, refl) (_, refl, refl, (_, refl, refl)) (_, false, refl, refl)
 
--- ---- the fourth
+-- ---- updates
 
 pub never-update-unsent : (o : Outcome) → Unsafe (update_unsent o)
 never-update-unsent o s =

@@ -1,4 +1,4 @@
--- A channel is live at its client until its SERVER_DISCONN is read: that keeps the first clause.
+-- A channel is live at its client until its SERVER_DISCONN is read.
 use Rattle.std.proofs.Common.{◌≡◌, ℕ, inl, inr, List, [], ◌∷◌, refl, sym, ap, subst, ◌∙◌, arith}
 use Rattle.std.specs.Prelude.{take}
 use Rattle.ca_text.specs.Place.{At}

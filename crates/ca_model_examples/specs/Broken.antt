@@ -13,7 +13,7 @@ use Rattle.ca_model_examples.specs.Worlds.{adding, circuit, creating, disconnect
 abbrev pub temp_removed : List Entry
 temp_removed = Added 0 temp ∷ Removed 0 ∷ []
 
--- ---- the first clause
+-- ---- on which record a message acts
 
 -- A read is answered by BADCHID, and its record is removed only later.
 abbrev pub refused_too_soon : World
@@ -29,7 +29,7 @@ of_other_name = live_circuit (reading 0 7 ∷ []) (read_told 21 ∷ []) (step 1 
 abbrev pub read_of_other_name : World
 read_of_other_name = world (of_other_name ∷ []) other_lines temp_there
 
--- ---- the second
+-- ---- answers that are their own
 
 -- What was meant as a read is a WRITE.
 abbrev pub misasked : World
@@ -66,7 +66,7 @@ read_unsent = world [] (Called (On 0 (Request Read 0)) None ∷ []) []
 abbrev pub lost_before_live : World
 lost_before_live = world [] (Noticed (On 0 Create) outcome.Disconnected ∷ []) []
 
--- ---- the third
+-- ---- writes
 
 -- A put is finished twice.
 abbrev pub finished_twice : Stored → World
@@ -83,7 +83,7 @@ failed_applied =
     Added 0 temp ∷ Applied 0 1 0 (long 22) false ∷ []
     )
 
--- ---- the fourth
+-- ---- updates
 
 -- An update was reported, and none was sent.
 abbrev pub update_unsent : Outcome → World
