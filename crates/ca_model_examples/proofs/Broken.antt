@@ -5,14 +5,14 @@ use Rattle.ca_text.specs.Place.{At}
 use Rattle.ca_dbr.specs.declared.value.Outcome.{Outcome}
 use Rattle.ca_records.specs.Record.{RecordState}
 use Rattle.ca_model.specs.Speech.{Gives, In, Ioid, Stored}
-use Rattle.ca_model.specs.History.{Cancel, On, Request, Read, Write, Subscribe, Entry, Line, Sent, Told, Added, Applied, Removed, Called, Opened}
+use Rattle.ca_model.specs.History.{Cancel, Circuit, On, Request, Read, Write, Subscribe, Entry, Line, Sent, Told, Update, Added, Applied, Removed, Called, Opened}
 use Rattle.ca_model_safe.specs.Headline.{Acted, ActsOnRecord, IsBadChannel}
 use Rattle.ca_model_safe.specs.Legal.{Legal, LegalCircuit}
 use Rattle.ca_requests.specs.Meaning.{Means}
 use Rattle.ca_model.specs.Updates.{Shows}
 use Rattle.ca_model_examples.specs.Worlds.{AnyDue, Unsafe, adding, created_told, creating, long, reading, step, temp}
 use Rattle.ca_model_examples.specs.Unsafe.{FollowsNot, for_nothing, live_circuit, live_lines, read_lines, temp_there, updated}
-use Rattle.ca_model_examples.specs.Broken.{added_cancelled, added_twice, called_twice, completed_twice, disconnected_twice, disconnected_uncreated, done_unapplied, failed_applied, finished_twice, heard_unsent, lost_before_live, misasked, of_other_name, other_lines, read_of_other_name, read_uncreated, read_unsent, refused_too_soon, removed_untold, reply_of_other, subscribed_unsent, temp_removed, update_unsent}
+use Rattle.ca_model_examples.specs.Broken.{added_cancelled, added_twice, called_twice, completed_twice, disconnected_twice, disconnected_uncreated, done_unapplied, failed_applied, finished_twice, heard_unsent, lost_before_live, misasked, of_other_name, other_lines, read_of_other_name, read_uncreated, read_unsent, refused_too_soon, removed_untold, refused_adding, reply_of_other, subscribed_unsent, temp_removed, update_refused, update_unsent}
 use Rattle.ca_model_examples.proofs.Lists.{each-at, none-at, one-at}
 use Rattle.ca_model_examples.proofs.Unsafe.{its-own, zero-one}
 
@@ -123,6 +123,13 @@ pub never-update-unsent : (o : Outcome) → Unsafe (update_unsent o)
 never-update-unsent o s =
     let h = (s.sees.1 0 _ refl).own 0 (On 0 (Subscribe 0)) o refl in
     none-at h.0.n h.0.c h.0.on.0
+
+pub never-update-refused : Unsafe update_refused
+never-update-refused s =
+    let h = (s.sees.1 0 _ refl).own 3 (On 0 (Subscribe 0)) _ refl in
+    let is : refused_adding ≡ h.0.c = sym (one-at refused_adding h.0.n h.0.c h.0.on.0).1 in
+    let at : At refused_adding.down h.0.j h.0.t = subst (λ (c : Circuit). At c.down h.0.j h.0.t) (sym is) h.0.read.0 in
+    each-at (λ (i : ℕ) (t : Told). t.cause ≡ Update h.1 → ⊥) refused_adding.down ((λ e. cc), ((λ e. cc), tt)) h.0.j h.0.t at h.2
 
 -- an update of a post that there is not
 pub of-no-post : (v : Stored) → FollowsNot (updated 1 1 21 ∷ []) (v ∷ [])

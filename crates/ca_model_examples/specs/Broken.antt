@@ -2,7 +2,8 @@
 use Rattle.std.specs.Prelude.{true, false, List, [], ◌∷◌, None}
 use Rattle.ca_dbr.specs.declared.value.Outcome.{Outcome}
 use Rattle.ca_dbr.specs.declared.value.Outcome.TheVariants as outcome
-use Rattle.ca_wire.specs.Messages.{value_reply}
+use Rattle.ca_text.specs.Status.{bad_type}
+use Rattle.ca_wire.specs.Messages.{error_reply, value_reply}
 use Rattle.ca_model.specs.Speech.{Stored}
 use Rattle.ca_model.specs.History.{Cancel, Create, Request, Subscribe, Read, Put, Write, On, Circuit, Entry, Added, Applied, Finished, Removed, Line, Called, Noticed, Opened, Updated, World}
 use Rattle.ca_model_examples.specs.ServerRows.{eve}
@@ -88,6 +89,19 @@ failed_applied =
 -- An update was reported, and none was sent.
 abbrev pub update_unsent : Outcome → World
 update_unsent o = world [] (Updated (On 0 (Subscribe 0)) o ∷ []) []
+
+-- The ERROR that refused an EVENT_ADD was reported as its update.
+abbrev pub refused_adding : Circuit
+refused_adding =
+    record (live_circuit (adding 0 9 ∷ []) (reply 1 (error_reply 1 bad_type (adding 0 9).message) ∷ []) (step 1 1 1 ∷ [])) {
+      heard = step 1 1 2 ∷ step 2 3 4 ∷ [];
+    }
+
+abbrev pub update_refused : World
+update_refused =
+    world (refused_adding ∷ []) (
+    live_lines (Called (On 0 (Subscribe 0)) None ∷ Updated (On 0 (Subscribe 0)) (outcome.Failed (record { number = bad_type })) ∷ [])
+    ) temp_there
 
 -- ---- what may not be sent
 

@@ -4,7 +4,7 @@ ghost use Rattle.ca_model.specs.Speech.{Stored};
 ghost use Rattle.ca_model_safe.specs.Legal.{Legal};
 ghost use Rattle.ca_model_examples.specs.Worlds.{Unsafe};
 ghost use Rattle.ca_model_examples.specs.Unsafe.{FollowsNot, updated};
-ghost use Rattle.ca_model_examples.specs.Broken.{added_cancelled, added_twice, called_twice, completed_twice, disconnected_twice, disconnected_uncreated, done_unapplied, failed_applied, finished_twice, heard_unsent, lost_before_live, misasked, read_of_other_name, read_uncreated, read_unsent, refused_too_soon, removed_untold, reply_of_other, subscribed_unsent, update_unsent};
+ghost use Rattle.ca_model_examples.specs.Broken.{added_cancelled, added_twice, called_twice, completed_twice, disconnected_twice, disconnected_uncreated, done_unapplied, failed_applied, finished_twice, heard_unsent, lost_before_live, misasked, read_of_other_name, read_uncreated, read_unsent, refused_too_soon, removed_untold, reply_of_other, subscribed_unsent, update_refused, update_unsent};
 
 /// BADCHID for a record that is removed only later is no answer of a server; nor is a read handled on
 /// a record of another name than the channel's.
@@ -37,9 +37,10 @@ pub fn a_write_that_is_not_as_told_is_unsafe()
     ensures failed { Unsafe failed_applied }
 {}
 
-/// No update is told that was not sent, or that carries a post that there is not.
+/// No update is told that was not sent or that was a refusal, and none carries a post that there is not.
 pub fn an_update_of_nothing_is_unsafe()
     ensures unsent { (o : Outcome) → Unsafe (update_unsent o) }
+    ensures of_a_refusal { Unsafe update_refused }
     ensures of_no_post { (v : Stored) → FollowsNot (updated 1 1 21 ∷ []) (v ∷ []) }
 {}
 
