@@ -17,7 +17,7 @@ use Rattle.ca_model_world.specs.ClientEvents.{waiting_down}
 use Rattle.ca_model_examples.specs.ClientRows.{alive, anna, first, greeted}
 use Rattle.ca_model_examples.specs.ClientCallEvents.{server}
 use Rattle.ca_model_examples.specs.ClientEndEvents.{between, link_of, server_with}
-use Rattle.ca_model_examples.specs.Limits.{AcceptIsLast, AllBytes, CancelWaits, CountsPresent, DatagramMoment, DisconnectsOnce, LateReplyDrains, NameComesFirst, PostsNotSo, SameMoment, UpdateElsewhere}
+use Rattle.ca_model_examples.specs.Limits.{AcceptIsLast, AllBytes, CancelWaits, CountsPresent, DatagramMoment, DisconnectsOnce, LastPriority, LateReplyDrains, NameComesFirst, PostsNotSo, SameMoment, UpdateElsewhere}
 use Rattle.ca_model_examples.specs.ServerWorld.{temp_now}
 use Rattle.ca_model_examples.specs.Worlds.{long}
 
@@ -66,6 +66,9 @@ datagram-moment = (
 
 pub name-comes-first : NameComesFirst
 name-comes-first h = (let some = h.0.some in omega (arith, some))
+
+pub last-priority : LastPriority
+last-priority name h = (let over = h.1 in omega (arith, over))
 
 pub cancel-waits : CancelWaits
 unfolding spelling header_spelling short_header extended_header number16 number32 signed_bytes_4

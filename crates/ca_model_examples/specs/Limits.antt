@@ -58,6 +58,10 @@ DatagramMoment =
 abbrev pub NameComesFirst : Type 0
 NameComesFirst = ClientOpens (anna []) (record { name = []; priority = 100; now = 0 }) (Err refusal.BadPriority) [] (anna []) → ⊥
 
+-- 99 is a priority.
+abbrev pub LastPriority : Type 0
+LastPriority = (name : List ℕ) → ClientOpens (anna []) (record { name = name; priority = 99; now = 0 }) (Err refusal.BadPriority) [] (anna []) → ⊥
+
 -- A cancel is refused while too much waits for its EVENT_CANCEL.
 abbrev pub CancelWaits : Type 0
 CancelWaits =

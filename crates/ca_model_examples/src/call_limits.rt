@@ -1,4 +1,4 @@
-ghost use Rattle.ca_model_examples.specs.Limits.{AcceptIsLast, AllBytes, CancelWaits, CountsPresent, DatagramMoment, DisconnectsOnce, LateReplyDrains, NameComesFirst, PostsNotSo, SameMoment, UpdateElsewhere};
+ghost use Rattle.ca_model_examples.specs.Limits.{AcceptIsLast, AllBytes, CancelWaits, CountsPresent, DatagramMoment, DisconnectsOnce, LastPriority, LateReplyDrains, NameComesFirst, PostsNotSo, SameMoment, UpdateElsewhere};
 
 /// A tick may have the moment of the last one; all bytes that wait may move, and no more; a circuit
 /// is made after the others; and a datagram comes at the moment of the world.
@@ -9,10 +9,11 @@ pub fn events_have_their_limits()
     ensures datagram { DatagramMoment }
 {}
 
-/// A name that is none is refused before a priority that is none, and a cancel while too much
-/// waits; an update counts on its circuit, and a late reply ends the draining of its id.
+/// A name that is none is refused before a priority that is none, 99 is one, and a cancel is refused
+/// while too much waits; an update counts on its circuit, and a late reply ends the draining of its id.
 pub fn a_clients_calls_have_their_limits()
     ensures name { NameComesFirst }
+    ensures priority { LastPriority }
     ensures cancel { CancelWaits }
     ensures update { UpdateElsewhere }
     ensures late { LateReplyDrains }
