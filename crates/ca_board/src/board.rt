@@ -11,6 +11,7 @@ use crate::steps::{
     Arms, Cells, GivesUp, Grabs, HandsBack, Newcomer, Puts, Recycles, Returns, Takes,
 };
 use crate::ticket::{Filled, Ticket};
+use crate::word::{State, has_ended, word};
 use ca_dbr::Outcome;
 use ca_text::{BOARD_CELLS, LAST_GENERATION, Refusal};
 use std::alloc::{AllocError, Global};
@@ -65,7 +66,7 @@ impl Board {
         let Some(ticket) = core.free.pop() else {
             return Err(Refusal::NoCell);
         };
-        let waiting = u64::from(ticket.generation) * 8 + 1;
+        let waiting = word(ticket, State::Waiting);
         self.cells
             .shared
             .store::<Arms>(&mut core.seat, ticket.cell, waiting);
@@ -81,7 +82,8 @@ impl Board {
     {
         let words = &self.cells.shared;
         let cell = ticket.cell;
-        let waiting = u64::from(ticket.generation) * 8 + 1;
+        let waiting = word(ticket, State::Waiting);
+        let done = word(ticket, State::Done);
         if words.compare_exchange::<Grabs>(&mut core.seat, cell, waiting, waiting) != waiting {
             return Filled::GivenUp(outcome);
         }
@@ -89,7 +91,7 @@ impl Board {
             None => {}
             Some(_) => unreachable!(),
         }
-        if words.compare_exchange::<Puts>(&mut core.seat, cell, waiting, waiting + 1) == waiting {
+        if words.compare_exchange::<Puts>(&mut core.seat, cell, waiting, done) == waiting {
             return Filled::Stored;
         }
         let outcome = words.exchange(&mut core.seat, cell, None);
@@ -108,12 +110,14 @@ impl Board {
         if cell >= BOARD_CELLS {
             return None;
         }
-        let done = u64::from(ticket.generation) * 8 + 2;
-        if words.compare_exchange::<Takes>(&mut caller.seat, cell, done, done + 1) != done {
+        let done = word(ticket, State::Done);
+        let taken = word(ticket, State::Taken);
+        let empty = word(ticket, State::Empty);
+        if words.compare_exchange::<Takes>(&mut caller.seat, cell, done, taken) != done {
             return None;
         }
         let outcome = words.exchange(&mut caller.seat, cell, None);
-        words.store::<HandsBack>(&mut caller.seat, cell, done + 2);
+        words.store::<HandsBack>(&mut caller.seat, cell, empty);
         Some(outcome.unwrap())
     }
 
@@ -142,10 +146,10 @@ impl Board {
             return false;
         }
         let words = &self.cells.shared;
-        let waiting = u64::from(ticket.generation) * 8 + 1;
+        let waiting = word(ticket, State::Waiting);
+        let given_up = word(ticket, State::GivenUp);
         let seat = &mut caller.seat;
-        let word = words.compare_exchange::<GivesUp>(seat, ticket.cell, waiting, waiting + 4);
-        if word != waiting {
+        if words.compare_exchange::<GivesUp>(seat, ticket.cell, waiting, given_up) != waiting {
             return false;
         }
         true
@@ -162,19 +166,19 @@ impl Board {
         if cell >= BOARD_CELLS {
             return false;
         }
-        let word = words.peek(cell);
-        let generation = word / 8;
-        if word % 8 < 4 || word % 8 > 5 || generation >= u64::from(LAST_GENERATION) {
+        let ended = words.peek(cell);
+        if !has_ended(ended) || ended / 8 >= u64::from(LAST_GENERATION) {
             return false;
         }
-        let next = generation * 8 + 8;
-        if words.compare_exchange::<Recycles>(&mut core.seat, cell, word, next) != word {
-            return false;
-        }
-        core.free.push_reserved(Ticket {
+        let next = Ticket {
             cell,
-            generation: generation as u32 + 1,
-        });
+            generation: (ended / 8) as u32 + 1,
+        };
+        let free = word(next, State::Free);
+        if words.compare_exchange::<Recycles>(&mut core.seat, cell, ended, free) != ended {
+            return false;
+        }
+        core.free.push_reserved(next);
         true
     }
 }

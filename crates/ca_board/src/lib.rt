@@ -11,6 +11,7 @@ mod steps;
 #[cfg(test)]
 mod tests;
 mod ticket;
+mod word;
 
 pub use board::Board;
 pub use seats::{CallerSeat, CoreSeat};

@@ -1,7 +1,6 @@
 //! What the words and the slots hold, what a seat knows, and the steps.
 //!
-//! A cell has one word and one slot. The word is 8 times the cell's generation, and 0 free, 1 waiting, 2 done, 3 taken,
-//! 4 empty, 5 given up. It only grows. The slot has the outcome while the cell is done.
+//! A cell has one word, which holds its generation and its state, and one slot. The slot has the outcome while the cell is done.
 use crate::ticket::Ticket;
 use atomic_table::{Join, Play, Seat, Split, Table, TableRule};
 use ca_dbr::Outcome;

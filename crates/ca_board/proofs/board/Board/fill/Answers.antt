@@ -7,54 +7,54 @@ use Rattle.ca_board.proofs.Filling.{grabs_as, fills_as, returns_as, some_out, no
 use Rattle.ca_board.proofs.board.Board.fill.Goals as goal
 
 pub compare_exchange-requires : goal.compare_exchange-requires
-compare_exchange-requires c = let g = c.from.ensures in let one : c.from.result * 8 + 1 ≡ 8 * c.args.ticket.generation + 1 = omega arith in let i = c.core.invariant in
+compare_exchange-requires c = let one : c.word-waiting.result ≡ 8 * c.args.ticket.generation + 1 = c.word-waiting.ensures in let two : c.word-done.result ≡ 8 * c.args.ticket.generation + 2 = c.word-done.ensures in let i = c.core.invariant in
     let z = c.self.invariant in let has = subst (λ (v : CoreView). Has v.arms c.args.ticket) (sym c.core.view_is) c.requires.due.0 in let un = subst (λ (v : CoreView). IsUnfilled v.fills c.args.ticket) (sym c.core.view_is) c.requires.due.1 in let near = i.inside has.0 c.args.ticket has.1 in
     ((ap (λ v. v.board) c.core.view_is ∙ (c.requires.board ∙ sym c.self.view_is)), omega arith, grabs_as _ _ _ c.args.ticket.generation _ _ _ _ _ _ _ i.idle has un one one)
 
 pub invariant_of-core : goal.invariant_of-core
-invariant_of-core c = let g = c.from.ensures in let one : c.from.result * 8 + 1 ≡ 8 * c.args.ticket.generation + 1 = omega arith in let i = c.core.invariant in
-    let now = missed c.self.inside.cells.shared.table_id.slots c.args.ticket.cell c.args.ticket.generation (c.from.result * 8 + 1) (c.from.result * 8 + 1) c.compare_exchange.result c.core.inside.seat.me c.compare_exchange.new.seat.me _ _ _ _ i.idle c.compare_exchange.ensures.2 one c.if-compare_exchange-waiting.true in
+invariant_of-core c = let one : c.word-waiting.result ≡ 8 * c.args.ticket.generation + 1 = c.word-waiting.ensures in let two : c.word-done.result ≡ 8 * c.args.ticket.generation + 2 = c.word-done.ensures in let i = c.core.invariant in
+    let now = missed c.self.inside.cells.shared.table_id.slots c.args.ticket.cell c.args.ticket.generation c.word-waiting.result c.word-waiting.result c.compare_exchange.result c.core.inside.seat.me c.compare_exchange.new.seat.me _ _ _ _ i.idle c.compare_exchange.ensures.2 one c.if-compare_exchange-waiting.true in
     core_sound c.compare_exchange.new.seat _ _ _ _ _ _ now i.inside i.stock i.wide
 
 pub exchange-requires : goal.exchange-requires
-exchange-requires c = let g = c.from.ensures in let one : c.from.result * 8 + 1 ≡ 8 * c.args.ticket.generation + 1 = omega arith in let i = c.core.invariant in
-    let slot = grabbed_slot c.self.inside.cells.shared.table_id.slots c.args.ticket.cell c.args.ticket.generation (c.from.result * 8 + 1) (c.from.result * 8 + 1) c.compare_exchange.result c.core.inside.seat.me c.compare_exchange.new.seat.me _ _ _ _ i.idle c.compare_exchange.ensures.2 one c.if-compare_exchange-waiting.false in
+exchange-requires c = let one : c.word-waiting.result ≡ 8 * c.args.ticket.generation + 1 = c.word-waiting.ensures in let two : c.word-done.result ≡ 8 * c.args.ticket.generation + 2 = c.word-done.ensures in let i = c.core.invariant in
+    let slot = grabbed_slot c.self.inside.cells.shared.table_id.slots c.args.ticket.cell c.args.ticket.generation c.word-waiting.result c.word-waiting.result c.compare_exchange.result c.core.inside.seat.me c.compare_exchange.new.seat.me _ _ _ _ i.idle c.compare_exchange.ensures.2 one c.if-compare_exchange-waiting.false in
     (c.compare_exchange.ensures.0 ∙ (ap (λ v. v.board) c.core.view_is ∙ (c.requires.board ∙ sym c.self.view_is)), (None, holds_one c.compare_exchange.new.seat.me c.args.ticket.cell _ None slot))
 
 pub unreachable-requires : goal.unreachable-requires
-unreachable-requires c = let g = c.from.ensures in let one : c.from.result * 8 + 1 ≡ 8 * c.args.ticket.generation + 1 = omega arith in let i = c.core.invariant in
-    let slot = grabbed_slot c.self.inside.cells.shared.table_id.slots c.args.ticket.cell c.args.ticket.generation (c.from.result * 8 + 1) (c.from.result * 8 + 1) c.compare_exchange.result c.core.inside.seat.me c.compare_exchange.new.seat.me _ _ _ _ i.idle c.compare_exchange.ensures.2 one c.if-compare_exchange-waiting.false in
+unreachable-requires c = let one : c.word-waiting.result ≡ 8 * c.args.ticket.generation + 1 = c.word-waiting.ensures in let two : c.word-done.result ≡ 8 * c.args.ticket.generation + 2 = c.word-done.ensures in let i = c.core.invariant in
+    let slot = grabbed_slot c.self.inside.cells.shared.table_id.slots c.args.ticket.cell c.args.ticket.generation c.word-waiting.result c.word-waiting.result c.compare_exchange.result c.core.inside.seat.me c.compare_exchange.new.seat.me _ _ _ _ i.idle c.compare_exchange.ensures.2 one c.if-compare_exchange-waiting.false in
     none_some c.in-Some.field-0 (sym c.in-Some.is ∙ found_there c.args.ticket.cell c.compare_exchange.new.seat.me _ None c.exchange.result _ slot c.exchange.ensures.2)
 
 pub compare_exchange-requires-2 : goal.compare_exchange-requires-2
-compare_exchange-requires-2 c = let g = c.from.ensures in let one : c.from.result * 8 + 1 ≡ 8 * c.args.ticket.generation + 1 = omega arith in let i = c.core.invariant in
+compare_exchange-requires-2 c = let one : c.word-waiting.result ≡ 8 * c.args.ticket.generation + 1 = c.word-waiting.ensures in let two : c.word-done.result ≡ 8 * c.args.ticket.generation + 2 = c.word-done.ensures in let i = c.core.invariant in
     let z = c.self.invariant in let has = subst (λ (v : CoreView). Has v.arms c.args.ticket) (sym c.core.view_is) c.requires.due.0 in let un = subst (λ (v : CoreView). IsUnfilled v.fills c.args.ticket) (sym c.core.view_is) c.requires.due.1 in let near = i.inside has.0 c.args.ticket has.1 in
-    let held = granted c.self.inside.cells.shared.table_id.slots c.args.ticket.cell c.args.ticket.generation (c.from.result * 8 + 1) (c.from.result * 8 + 1) c.compare_exchange.result c.core.inside.seat.me c.compare_exchange.new.seat.me c.exchange.new.seat.me _ _ _ _ c.args.outcome i.idle c.compare_exchange.ensures.2 one c.if-compare_exchange-waiting.false c.exchange.ensures.3 in
+    let held = granted c.self.inside.cells.shared.table_id.slots c.args.ticket.cell c.args.ticket.generation c.word-waiting.result c.word-waiting.result c.compare_exchange.result c.core.inside.seat.me c.compare_exchange.new.seat.me c.exchange.new.seat.me _ _ _ _ c.args.outcome i.idle c.compare_exchange.ensures.2 one c.if-compare_exchange-waiting.false c.exchange.ensures.3 in
     (c.exchange.ensures.0 ∙ (c.compare_exchange.ensures.0 ∙ (ap (λ v. v.board) c.core.view_is ∙ (c.requires.board ∙ sym c.self.view_is))), omega arith, fills_as _ _ _ c.args.ticket.generation _ _ _ _ _ _ _ c.args.outcome held has un one (omega arith))
 
 pub invariant_of-core-then-compare_exchange-waiting-2 : goal.invariant_of-core-then-compare_exchange-waiting-2
-invariant_of-core-then-compare_exchange-waiting-2 c = let g = c.from.ensures in let one : c.from.result * 8 + 1 ≡ 8 * c.args.ticket.generation + 1 = omega arith in let i = c.core.invariant in
-    let held = granted c.self.inside.cells.shared.table_id.slots c.args.ticket.cell c.args.ticket.generation (c.from.result * 8 + 1) (c.from.result * 8 + 1) c.compare_exchange.result c.core.inside.seat.me c.compare_exchange.new.seat.me c.exchange.new.seat.me _ _ _ _ c.args.outcome i.idle c.compare_exchange.ensures.2 one c.if-compare_exchange-waiting.false c.exchange.ensures.3 in
-    let now = finished c.self.inside.cells.shared.table_id.slots c.args.ticket.cell c.args.ticket.generation (c.from.result * 8 + 1) (c.from.result * 8 + 1 + 1) c.compare_exchange-2.result c.exchange.new.seat.me c.compare_exchange-2.new.seat.me _ _ _ _ c.args.outcome held c.compare_exchange-2.ensures.2 one c.if-compare_exchange-waiting-2.true in
+invariant_of-core-then-compare_exchange-waiting-2 c = let one : c.word-waiting.result ≡ 8 * c.args.ticket.generation + 1 = c.word-waiting.ensures in let two : c.word-done.result ≡ 8 * c.args.ticket.generation + 2 = c.word-done.ensures in let i = c.core.invariant in
+    let held = granted c.self.inside.cells.shared.table_id.slots c.args.ticket.cell c.args.ticket.generation c.word-waiting.result c.word-waiting.result c.compare_exchange.result c.core.inside.seat.me c.compare_exchange.new.seat.me c.exchange.new.seat.me _ _ _ _ c.args.outcome i.idle c.compare_exchange.ensures.2 one c.if-compare_exchange-waiting.false c.exchange.ensures.3 in
+    let now = finished c.self.inside.cells.shared.table_id.slots c.args.ticket.cell c.args.ticket.generation c.word-waiting.result c.word-done.result c.compare_exchange-2.result c.exchange.new.seat.me c.compare_exchange-2.new.seat.me _ _ _ _ c.args.outcome held c.compare_exchange-2.ensures.2 one c.if-compare_exchange-waiting-2.true in
     core_sound c.compare_exchange-2.new.seat _ _ _ _ _ _ now i.inside i.stock i.wide
 
 pub returns-then-compare_exchange-waiting-2 : goal.returns-then-compare_exchange-waiting-2
-returns-then-compare_exchange-waiting-2 c = let g = c.from.ensures in let one : c.from.result * 8 + 1 ≡ 8 * c.args.ticket.generation + 1 = omega arith in let i = c.core.invariant in
-    let held = granted c.self.inside.cells.shared.table_id.slots c.args.ticket.cell c.args.ticket.generation (c.from.result * 8 + 1) (c.from.result * 8 + 1) c.compare_exchange.result c.core.inside.seat.me c.compare_exchange.new.seat.me c.exchange.new.seat.me _ _ _ _ c.args.outcome i.idle c.compare_exchange.ensures.2 one c.if-compare_exchange-waiting.false c.exchange.ensures.3 in
-    let now = finished c.self.inside.cells.shared.table_id.slots c.args.ticket.cell c.args.ticket.generation (c.from.result * 8 + 1) (c.from.result * 8 + 1 + 1) c.compare_exchange-2.result c.exchange.new.seat.me c.compare_exchange-2.new.seat.me _ _ _ _ c.args.outcome held c.compare_exchange-2.ensures.2 one c.if-compare_exchange-waiting-2.true in
+returns-then-compare_exchange-waiting-2 c = let one : c.word-waiting.result ≡ 8 * c.args.ticket.generation + 1 = c.word-waiting.ensures in let two : c.word-done.result ≡ 8 * c.args.ticket.generation + 2 = c.word-done.ensures in let i = c.core.invariant in
+    let held = granted c.self.inside.cells.shared.table_id.slots c.args.ticket.cell c.args.ticket.generation c.word-waiting.result c.word-waiting.result c.compare_exchange.result c.core.inside.seat.me c.compare_exchange.new.seat.me c.exchange.new.seat.me _ _ _ _ c.args.outcome i.idle c.compare_exchange.ensures.2 one c.if-compare_exchange-waiting.false c.exchange.ensures.3 in
+    let now = finished c.self.inside.cells.shared.table_id.slots c.args.ticket.cell c.args.ticket.generation c.word-waiting.result c.word-done.result c.compare_exchange-2.result c.exchange.new.seat.me c.compare_exchange-2.new.seat.me _ _ _ _ c.args.outcome held c.compare_exchange-2.ensures.2 one c.if-compare_exchange-waiting-2.true in
     core_seen c.compare_exchange-2.new.seat _ _ _ _ _ (c.compare_exchange-2.ensures.0 ∙ (c.exchange.ensures.0 ∙ c.compare_exchange.ensures.0)) now ∙ ap (λ (v : CoreView). with_fill v c.args.ticket c.args.outcome) c.core.view_is
 
 pub exchange-outcome-requires : goal.exchange-outcome-requires
-exchange-outcome-requires c = let g = c.from.ensures in let one : c.from.result * 8 + 1 ≡ 8 * c.args.ticket.generation + 1 = omega arith in let i = c.core.invariant in
-    let held = granted c.self.inside.cells.shared.table_id.slots c.args.ticket.cell c.args.ticket.generation (c.from.result * 8 + 1) (c.from.result * 8 + 1) c.compare_exchange.result c.core.inside.seat.me c.compare_exchange.new.seat.me c.exchange.new.seat.me _ _ _ _ c.args.outcome i.idle c.compare_exchange.ensures.2 one c.if-compare_exchange-waiting.false c.exchange.ensures.3 in
-    let out = outrun c.self.inside.cells.shared.table_id.slots c.args.ticket.cell c.args.ticket.generation (c.from.result * 8 + 1) (c.from.result * 8 + 1 + 1) c.compare_exchange-2.result c.exchange.new.seat.me c.compare_exchange-2.new.seat.me _ _ _ _ c.args.outcome held c.compare_exchange-2.ensures.2 one c.if-compare_exchange-waiting-2.false in
+exchange-outcome-requires c = let one : c.word-waiting.result ≡ 8 * c.args.ticket.generation + 1 = c.word-waiting.ensures in let two : c.word-done.result ≡ 8 * c.args.ticket.generation + 2 = c.word-done.ensures in let i = c.core.invariant in
+    let held = granted c.self.inside.cells.shared.table_id.slots c.args.ticket.cell c.args.ticket.generation c.word-waiting.result c.word-waiting.result c.compare_exchange.result c.core.inside.seat.me c.compare_exchange.new.seat.me c.exchange.new.seat.me _ _ _ _ c.args.outcome i.idle c.compare_exchange.ensures.2 one c.if-compare_exchange-waiting.false c.exchange.ensures.3 in
+    let out = outrun c.self.inside.cells.shared.table_id.slots c.args.ticket.cell c.args.ticket.generation c.word-waiting.result c.word-done.result c.compare_exchange-2.result c.exchange.new.seat.me c.compare_exchange-2.new.seat.me _ _ _ _ c.args.outcome held c.compare_exchange-2.ensures.2 one c.if-compare_exchange-waiting-2.false in
     (c.compare_exchange-2.ensures.0 ∙ (c.exchange.ensures.0 ∙ (c.compare_exchange.ensures.0 ∙ (ap (λ v. v.board) c.core.view_is ∙ (c.requires.board ∙ sym c.self.view_is)))), (Some c.args.outcome, holds_one c.compare_exchange-2.new.seat.me c.args.ticket.cell _ (Some c.args.outcome) out))
 
 pub load-requires : goal.load-requires
-load-requires c = let g = c.from.ensures in let one : c.from.result * 8 + 1 ≡ 8 * c.args.ticket.generation + 1 = omega arith in let i = c.core.invariant in
+load-requires c = let one : c.word-waiting.result ≡ 8 * c.args.ticket.generation + 1 = c.word-waiting.ensures in let two : c.word-done.result ≡ 8 * c.args.ticket.generation + 2 = c.word-done.ensures in let i = c.core.invariant in
     let z = c.self.invariant in let has = subst (λ (v : CoreView). Has v.arms c.args.ticket) (sym c.core.view_is) c.requires.due.0 in let un = subst (λ (v : CoreView). IsUnfilled v.fills c.args.ticket) (sym c.core.view_is) c.requires.due.1 in let near = i.inside has.0 c.args.ticket has.1 in
-    let held = granted c.self.inside.cells.shared.table_id.slots c.args.ticket.cell c.args.ticket.generation (c.from.result * 8 + 1) (c.from.result * 8 + 1) c.compare_exchange.result c.core.inside.seat.me c.compare_exchange.new.seat.me c.exchange.new.seat.me _ _ _ _ c.args.outcome i.idle c.compare_exchange.ensures.2 one c.if-compare_exchange-waiting.false c.exchange.ensures.3 in
-    let out = outrun c.self.inside.cells.shared.table_id.slots c.args.ticket.cell c.args.ticket.generation (c.from.result * 8 + 1) (c.from.result * 8 + 1 + 1) c.compare_exchange-2.result c.exchange.new.seat.me c.compare_exchange-2.new.seat.me _ _ _ _ c.args.outcome held c.compare_exchange-2.ensures.2 one c.if-compare_exchange-waiting-2.false in
+    let held = granted c.self.inside.cells.shared.table_id.slots c.args.ticket.cell c.args.ticket.generation c.word-waiting.result c.word-waiting.result c.compare_exchange.result c.core.inside.seat.me c.compare_exchange.new.seat.me c.exchange.new.seat.me _ _ _ _ c.args.outcome i.idle c.compare_exchange.ensures.2 one c.if-compare_exchange-waiting.false c.exchange.ensures.3 in
+    let out = outrun c.self.inside.cells.shared.table_id.slots c.args.ticket.cell c.args.ticket.generation c.word-waiting.result c.word-done.result c.compare_exchange-2.result c.exchange.new.seat.me c.compare_exchange-2.new.seat.me _ _ _ _ c.args.outcome held c.compare_exchange-2.ensures.2 one c.if-compare_exchange-waiting-2.false in
     let empty = emptied c.args.ticket.cell c.compare_exchange-2.new.seat.me c.exchange-outcome.new.seat.me _ (Some c.args.outcome) out c.exchange-outcome.ensures.3 in (
       c.exchange-outcome.ensures.0 ∙ (c.compare_exchange-2.ensures.0 ∙ (c.exchange.ensures.0 ∙ (c.compare_exchange.ensures.0 ∙ (ap (λ v. v.board) c.core.view_is ∙ (c.requires.board ∙ sym c.self.view_is))))),
       omega arith,
@@ -62,24 +62,24 @@ load-requires c = let g = c.from.ensures in let one : c.from.result * 8 + 1 ≡ 
     )
 
 pub unwrap-requires : goal.unwrap-requires
-unwrap-requires c = let g = c.from.ensures in let one : c.from.result * 8 + 1 ≡ 8 * c.args.ticket.generation + 1 = omega arith in let i = c.core.invariant in
-    let held = granted c.self.inside.cells.shared.table_id.slots c.args.ticket.cell c.args.ticket.generation (c.from.result * 8 + 1) (c.from.result * 8 + 1) c.compare_exchange.result c.core.inside.seat.me c.compare_exchange.new.seat.me c.exchange.new.seat.me _ _ _ _ c.args.outcome i.idle c.compare_exchange.ensures.2 one c.if-compare_exchange-waiting.false c.exchange.ensures.3 in
-    let out = outrun c.self.inside.cells.shared.table_id.slots c.args.ticket.cell c.args.ticket.generation (c.from.result * 8 + 1) (c.from.result * 8 + 1 + 1) c.compare_exchange-2.result c.exchange.new.seat.me c.compare_exchange-2.new.seat.me _ _ _ _ c.args.outcome held c.compare_exchange-2.ensures.2 one c.if-compare_exchange-waiting-2.false in
+unwrap-requires c = let one : c.word-waiting.result ≡ 8 * c.args.ticket.generation + 1 = c.word-waiting.ensures in let two : c.word-done.result ≡ 8 * c.args.ticket.generation + 2 = c.word-done.ensures in let i = c.core.invariant in
+    let held = granted c.self.inside.cells.shared.table_id.slots c.args.ticket.cell c.args.ticket.generation c.word-waiting.result c.word-waiting.result c.compare_exchange.result c.core.inside.seat.me c.compare_exchange.new.seat.me c.exchange.new.seat.me _ _ _ _ c.args.outcome i.idle c.compare_exchange.ensures.2 one c.if-compare_exchange-waiting.false c.exchange.ensures.3 in
+    let out = outrun c.self.inside.cells.shared.table_id.slots c.args.ticket.cell c.args.ticket.generation c.word-waiting.result c.word-done.result c.compare_exchange-2.result c.exchange.new.seat.me c.compare_exchange-2.new.seat.me _ _ _ _ c.args.outcome held c.compare_exchange-2.ensures.2 one c.if-compare_exchange-waiting-2.false in
     let is = found_there c.args.ticket.cell c.compare_exchange-2.new.seat.me _ (Some c.args.outcome) c.exchange-outcome.result _ out c.exchange-outcome.ensures.2 in
     subst (λ (x : Slot). IsSome x) (sym is) refl
 
 pub invariant_of-core-2 : goal.invariant_of-core-2
-invariant_of-core-2 c = let g = c.from.ensures in let one : c.from.result * 8 + 1 ≡ 8 * c.args.ticket.generation + 1 = omega arith in let i = c.core.invariant in
-    let held = granted c.self.inside.cells.shared.table_id.slots c.args.ticket.cell c.args.ticket.generation (c.from.result * 8 + 1) (c.from.result * 8 + 1) c.compare_exchange.result c.core.inside.seat.me c.compare_exchange.new.seat.me c.exchange.new.seat.me _ _ _ _ c.args.outcome i.idle c.compare_exchange.ensures.2 one c.if-compare_exchange-waiting.false c.exchange.ensures.3 in
-    let out = outrun c.self.inside.cells.shared.table_id.slots c.args.ticket.cell c.args.ticket.generation (c.from.result * 8 + 1) (c.from.result * 8 + 1 + 1) c.compare_exchange-2.result c.exchange.new.seat.me c.compare_exchange-2.new.seat.me _ _ _ _ c.args.outcome held c.compare_exchange-2.ensures.2 one c.if-compare_exchange-waiting-2.false in
+invariant_of-core-2 c = let one : c.word-waiting.result ≡ 8 * c.args.ticket.generation + 1 = c.word-waiting.ensures in let two : c.word-done.result ≡ 8 * c.args.ticket.generation + 2 = c.word-done.ensures in let i = c.core.invariant in
+    let held = granted c.self.inside.cells.shared.table_id.slots c.args.ticket.cell c.args.ticket.generation c.word-waiting.result c.word-waiting.result c.compare_exchange.result c.core.inside.seat.me c.compare_exchange.new.seat.me c.exchange.new.seat.me _ _ _ _ c.args.outcome i.idle c.compare_exchange.ensures.2 one c.if-compare_exchange-waiting.false c.exchange.ensures.3 in
+    let out = outrun c.self.inside.cells.shared.table_id.slots c.args.ticket.cell c.args.ticket.generation c.word-waiting.result c.word-done.result c.compare_exchange-2.result c.exchange.new.seat.me c.compare_exchange-2.new.seat.me _ _ _ _ c.args.outcome held c.compare_exchange-2.ensures.2 one c.if-compare_exchange-waiting-2.false in
     let empty = emptied c.args.ticket.cell c.compare_exchange-2.new.seat.me c.exchange-outcome.new.seat.me _ (Some c.args.outcome) out c.exchange-outcome.ensures.3 in
     let now = put_home c.self.inside.cells.shared.table_id.slots c.args.ticket.cell c.load.result c.exchange-outcome.new.seat.me c.load.new.seat.me _ _ _ _ empty c.load.ensures.2 in
     core_sound c.load.new.seat _ _ _ _ _ _ now i.inside i.stock i.wide
 
 pub returns : goal.returns
-returns c = let g = c.from.ensures in let one : c.from.result * 8 + 1 ≡ 8 * c.args.ticket.generation + 1 = omega arith in let i = c.core.invariant in
-    let held = granted c.self.inside.cells.shared.table_id.slots c.args.ticket.cell c.args.ticket.generation (c.from.result * 8 + 1) (c.from.result * 8 + 1) c.compare_exchange.result c.core.inside.seat.me c.compare_exchange.new.seat.me c.exchange.new.seat.me _ _ _ _ c.args.outcome i.idle c.compare_exchange.ensures.2 one c.if-compare_exchange-waiting.false c.exchange.ensures.3 in
-    let out = outrun c.self.inside.cells.shared.table_id.slots c.args.ticket.cell c.args.ticket.generation (c.from.result * 8 + 1) (c.from.result * 8 + 1 + 1) c.compare_exchange-2.result c.exchange.new.seat.me c.compare_exchange-2.new.seat.me _ _ _ _ c.args.outcome held c.compare_exchange-2.ensures.2 one c.if-compare_exchange-waiting-2.false in
+returns c = let one : c.word-waiting.result ≡ 8 * c.args.ticket.generation + 1 = c.word-waiting.ensures in let two : c.word-done.result ≡ 8 * c.args.ticket.generation + 2 = c.word-done.ensures in let i = c.core.invariant in
+    let held = granted c.self.inside.cells.shared.table_id.slots c.args.ticket.cell c.args.ticket.generation c.word-waiting.result c.word-waiting.result c.compare_exchange.result c.core.inside.seat.me c.compare_exchange.new.seat.me c.exchange.new.seat.me _ _ _ _ c.args.outcome i.idle c.compare_exchange.ensures.2 one c.if-compare_exchange-waiting.false c.exchange.ensures.3 in
+    let out = outrun c.self.inside.cells.shared.table_id.slots c.args.ticket.cell c.args.ticket.generation c.word-waiting.result c.word-done.result c.compare_exchange-2.result c.exchange.new.seat.me c.compare_exchange-2.new.seat.me _ _ _ _ c.args.outcome held c.compare_exchange-2.ensures.2 one c.if-compare_exchange-waiting-2.false in
     let empty = emptied c.args.ticket.cell c.compare_exchange-2.new.seat.me c.exchange-outcome.new.seat.me _ (Some c.args.outcome) out c.exchange-outcome.ensures.3 in
     let is = found_there c.args.ticket.cell c.compare_exchange-2.new.seat.me _ (Some c.args.outcome) c.exchange-outcome.result _ out c.exchange-outcome.ensures.2 in
     let now = put_home c.self.inside.cells.shared.table_id.slots c.args.ticket.cell c.load.result c.exchange-outcome.new.seat.me c.load.new.seat.me _ _ _ _ empty c.load.ensures.2 in (

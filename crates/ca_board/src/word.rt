@@ -1,0 +1,46 @@
+//! The words of cells. A word holds a cell's generation and its state, and only grows.
+ghost use Rattle.std.specs.Prelude.{◌≡◌, ◌<◌, ◌+◌, ◌*◌, ◌/◌, ◌⊎◌, IsTrue};
+ghost use Rattle.ca_board.specs.Words.{state_number, word_of};
+
+use crate::ticket::Ticket;
+
+/// What a cell is: free; its ticket waits for an outcome; the outcome is there; a caller takes it; it was taken, and the slot is back;
+/// or the ticket was given up.
+#[derive(Clone, Copy)]
+pub(crate) enum State {
+    Free,
+    Waiting,
+    Done,
+    Taken,
+    Empty,
+    GivenUp,
+}
+
+/// The word of a ticket's cell in this state.
+pub(crate) fn word(ticket: Ticket, state: State) -> u64
+    ensures { result ≡ word_of ticket state }
+{
+    u64::from(ticket.generation) * 8 + number(state)
+}
+
+/// The ticket of a cell with this word has ended: its outcome was taken and the slot is back, or it was given up.
+pub(crate) fn has_ended(word: u64) -> bool
+    ensures { IsTrue result → (word ≡ 8 * (word / 8) + 4) ⊎ (word ≡ 8 * (word / 8) + 5) }
+{
+    word % 8 == number(State::Empty) || word % 8 == number(State::GivenUp)
+}
+
+// The number of a state in a word.
+fn number(state: State) -> u64
+    ensures is { result ≡ state_number state }
+    ensures small { result < 8 }
+{
+    match state {
+        State::Free => 0,
+        State::Waiting => 1,
+        State::Done => 2,
+        State::Taken => 3,
+        State::Empty => 4,
+        State::GivenUp => 5,
+    }
+}
