@@ -4,12 +4,14 @@
 //! an update takes the place of the last one of its own subscription.
 #![tactic(auto)]
 
+mod circuit_queues;
 mod entry;
 mod laws;
 mod list_queue;
 mod places;
 mod queues;
 
+pub use circuit_queues::CircuitQueues;
 pub use entry::{Entry, SubKey};
 pub use laws::{
     cancel_takes_out_its_own, every_run_is_sound, newest_is_kept, post_ends_its_own,

@@ -68,6 +68,10 @@ impl<E: Drop> Queues<E> for ListQueue<E> {
         }
     }
 
+    fn is_full(&self) -> bool {
+        self.subscriptions.len() >= QUEUE_SUBSCRIPTIONS
+    }
+
     fn add(&mut self, key: SubKey) -> Result<(), Refusal> {
         if self.subscriptions.len() == QUEUE_SUBSCRIPTIONS {
             return Err(Refusal::TooManySubscriptions);

@@ -1,4 +1,5 @@
-ghost use Rattle.std.specs.Prelude.{◌≡◌, Bool, IsTrue, IsFalse, MatchResult};
+ghost use Rattle.std.specs.Prelude.{◌≡◌, Bool, IsTrue, IsFalse, MatchResult, length, nat_le};
+ghost use Rattle.ca_text.specs.Limits.{queue_subscriptions};
 ghost use Rattle.ca_queue.specs.Keys.{is_among};
 ghost use Rattle.ca_queue.specs.Waiting.{taken};
 ghost use Rattle.ca_queue.specs.Queue.{Queue, Adds, no_queue, posted, with_front_taken, cancelled, switched};
@@ -24,6 +25,10 @@ pub trait Queues<E> {
         ensures made { contents result ≡ no_queue }
         ensures room { IsFalse (has_room result) }
         ensures sound { IsSound (contents result) };
+
+    /// Whether it has 36 subscriptions.
+    fn is_full(&self) -> bool
+        ensures { result ≡ nat_le queue_subscriptions (length (contents self.now).subscriptions) };
 
     /// Adds a subscription that it does not have.
     ///
