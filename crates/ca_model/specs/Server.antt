@@ -5,9 +5,9 @@ use Rattle.std.specs.Str.{bytes_eq}
 use Rattle.ca_ids.specs.Table.{Table}
 use Rattle.ca_beacon.specs.Clock as beacon
 use Rattle.ca_link.specs.Link.{LinkState, new_link}
+use Rattle.ca_queue.specs.Circuit.{queue_posted, without_each}
 use Rattle.ca_queue.specs.declared.entry.SubKey.{SubKey}
-use Rattle.ca_queue.specs.Keys.{is_among}
-use Rattle.ca_queue.specs.Queue.{Queue, cancelled, no_queue, posted, switched}
+use Rattle.ca_queue.specs.Queue.{Queue, no_queue, switched}
 use Rattle.ca_records.specs.declared.puts.Stamp.{Stamp}
 use Rattle.ca_records.specs.Puts.{Record, new_record}
 use Rattle.ca_records.specs.Record.{RecordState}
@@ -88,15 +88,6 @@ new_server port now rules states = record {
 }
 
 -- ---- updates at one end
-
-module _ {E : Type 0} where
-  -- an entry goes to the queue that has the subscription
-  abbrev pub queue_posted : SubKey → E → Queue E → Queue E
-  queue_posted key entry q = if is_among key q.subscriptions then posted key entry q else q
-
-  -- the queues without the subscriptions that a test names, and without their entries
-  abbrev pub without_each : (SubKey → Bool) → List (Queue E) → List (Queue E)
-  without_each gone queues = map (λ (q : Queue E). fold (λ (r : Queue E) (k : SubKey). if gone k then cancelled k r else r) q q.subscriptions) queues
 
 -- a post to this record, with this mask, concerns a subscription ("CA_PROTO_EVENT_ADD")
 abbrev pub concerns : (name : List ℕ) → (mask : ℕ) → Subscription → Bool

@@ -9,6 +9,7 @@ use Rattle.ca_ids.specs.Table.{same_handle, under, with_all_freed}
 use Rattle.ca_ids.specs.Wire.{wire_of}
 use Rattle.ca_queue.specs.declared.entry.SubKey.{SubKey}
 use Rattle.ca_queue.specs.Keys.{same}
+use Rattle.ca_queue.specs.Circuit.{queue_posted, without_each}
 use Rattle.ca_queue.specs.Queue.{Queue, added, posted, switched, with_front_taken}
 use Rattle.ca_queue.specs.Waiting.{front}
 use Rattle.ca_records.specs.declared.puts.Put.{Put}
@@ -24,7 +25,7 @@ use Rattle.ca_model.specs.Due.{Action, Adds, Applies, Clears, Drops, Opens, Swit
 use Rattle.ca_model.specs.Ends as why
 use Rattle.ca_model.specs.History.{Cause, Entry, Removal, Reply, Sent, Step, Told}
 use Rattle.ca_model.specs.History as entry
-use Rattle.ca_model.specs.Server.{Ended, Open, OpenChannel, Server, ServerCircuit, ServerEnd, concerns, key_of, queue_posted, without_each}
+use Rattle.ca_model.specs.Server.{Ended, Open, OpenChannel, Server, ServerCircuit, ServerEnd, concerns, key_of}
 use Rattle.ca_model.specs.ServerCalls.{AddsRecord, AnswersDatagram, Finishes, Posts, Removes, channels_of}
 use Rattle.ca_model.specs.ServerSteps.{Cuts, Handles, HasEnd, LacksMemory, Next, Pumps, Stepped, StepsOpen, Update, closed, output_of, stored_now, write_mask}
 use Rattle.ca_model.specs.ServerSteps as stepped

@@ -3,7 +3,7 @@ use Rattle.std.proofs.Common.{◌≡◌, ℕ, ◌+◌, ◌<◌, Bool, true, fals
 use Rattle.std.specs.List.{filter}
 use Rattle.std.proofs.lemmas.Bool.{cases_Bool, both_ways}
 use Rattle.ca_queue.specs.declared.entry.SubKey.{SubKey}
-use Rattle.ca_queue.specs.declared.event_queue.Subscription.{Subscription}
+use Rattle.ca_queue.specs.declared.list_queue.Subscription.{Subscription}
 use Rattle.ca_queue.specs.Keys.{same, is_among}
 use Rattle.ca_queue.specs.Waiting.{count_of, after_cancel}
 use Rattle.ca_queue.specs.Layout.{keys_of, count_at, recounted, counts}

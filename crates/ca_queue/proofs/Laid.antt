@@ -6,7 +6,7 @@ use Rattle.std.proofs.lemmas.List.{map-append, length-map}
 use Rattle.std.proofs.lemmas.List.Sums.{length-filter, count_by-le-length}
 use Rattle.ca_text.specs.Limits.{queue_places, queue_low_places, queue_subscriptions}
 use Rattle.ca_queue.specs.declared.entry.SubKey.{SubKey}
-use Rattle.ca_queue.specs.declared.event_queue.Subscription.{Subscription}
+use Rattle.ca_queue.specs.declared.list_queue.Subscription.{Subscription}
 use Rattle.ca_queue.specs.Keys.{same, is_among}
 use Rattle.ca_queue.specs.Waiting.{is_of, has_entry, count_of, free_places, replaces, with_last, after_cancel, front, may_take, taken}
 use Rattle.ca_queue.specs.Queue.{Queue, no_queue, added, posted, with_front_taken, cancelled}

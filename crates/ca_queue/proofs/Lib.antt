@@ -1,4 +1,5 @@
 pub mod Additions
+pub mod Circuits
 mod Counts
 mod Crowds
 pub mod Entries

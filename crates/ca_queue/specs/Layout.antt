@@ -2,7 +2,7 @@
 use Rattle.std.specs.Prelude.{ℕ, ◌≡◌, ◌≤◌, ◌<◌, ◌&&◌, nat_le, Bool, if◌then◌else◌, List, [], ◌∷◌, length, map}
 use Rattle.ca_text.specs.Limits.{queue_places, queue_subscriptions}
 use Rattle.ca_queue.specs.declared.entry.SubKey.{SubKey}
-use Rattle.ca_queue.specs.declared.event_queue.Subscription.{Subscription}
+use Rattle.ca_queue.specs.declared.list_queue.Subscription.{Subscription}
 use Rattle.ca_queue.specs.Keys.{same}
 use Rattle.ca_queue.specs.Waiting.{count_of}
 use Rattle.ca_queue.specs.Queue.{Queue}

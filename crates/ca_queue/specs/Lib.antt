@@ -6,3 +6,4 @@ pub mod Layout
 pub mod Order
 pub mod Runs
 pub mod Images
+pub mod Circuit

@@ -1,5 +1,6 @@
--- What a queue is: the updates that wait, the subscriptions that were added, and whether events are on.
-use Rattle.std.specs.Prelude.{◌≡◌, ◌<◌, Bool, true, not, List, [], ◌∷◌, ◌++◌, length, filter, Result, Ok, Err}
+-- Vocabulary: what a queue is: the updates that wait, the subscriptions that were added, and whether events are on.
+use Rattle.std.specs.Coded.{Coded, code_by, coded×, coded_bool, coded_list, coded_ℕ}
+use Rattle.std.specs.Prelude.{ℕ, refl, ◌≡◌, ◌<◌, Bool, true, not, List, [], ◌∷◌, ◌++◌, length, filter, Result, Ok, Err}
 use Rattle.ca_text.specs.declared.refusal.Refusal.{Refusal}
 use Rattle.ca_text.specs.declared.refusal.Refusal.TheVariants.{OutOfMemory, TooManySubscriptions}
 use Rattle.ca_text.specs.Limits.{queue_subscriptions}
@@ -7,10 +8,24 @@ use Rattle.ca_queue.specs.declared.entry.SubKey.{SubKey}
 use Rattle.ca_queue.specs.Keys.{same}
 use Rattle.ca_queue.specs.Waiting.{after_post, after_take, after_cancel}
 
+-- a key is stored as the pair of its fields
+abbrev pub key_code : Coded SubKey
+key_code = code_by (ℕ × ℕ) (coded× coded_ℕ coded_ℕ) (λ k. (k.sid, k.sub)) (λ p. record { sid = p.0; sub = p.1 }) (λ _. refl)
+
 pub record Queue (E : Type 0) : Type 0 where
   pub waiting : List (SubKey × E)
   pub subscriptions : List SubKey
   pub events_on : Bool
+
+-- a queue is stored as the tuple of its fields
+abbrev pub queue_code : {E : Type 0} → Coded E → Coded (Queue E)
+queue_code {E} code =
+    code_by
+    (List (SubKey × E) × (List SubKey × Bool))
+    (coded× (coded_list (coded× key_code code)) (coded× (coded_list key_code) coded_bool))
+    (λ q. (q.waiting, (q.subscriptions, q.events_on)))
+    (λ p. record { waiting = p.0; subscriptions = p.1.0; events_on = p.1.1 })
+    (λ _. refl)
 
 module _ {E : Type 0} where
   -- a new queue: nothing waits, no subscription was added, and events are on

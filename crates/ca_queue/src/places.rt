@@ -2,11 +2,11 @@ ghost use Rattle.std.specs.Prelude.{◌≡◌, ◌+◌, ◌<◌, IsTrue, IsFalse
 ghost use Rattle.std.specs.VecDeque.{deque_capacity};
 ghost use Rattle.ca_queue.specs.Waiting.{has_entry, with_last, after_cancel};
 
-use crate::entry::{Entry, SubKey, is_same};
+use crate::entry::{SubKey, is_same};
 use std::collections::VecDeque;
 
 /// Puts this entry in place of the last one of its subscription.
-pub(crate) fn replace_last(entries: &mut VecDeque<(SubKey, Entry)>, key: SubKey, entry: Entry)
+pub(crate) fn replace_last<E: Drop>(entries: &mut VecDeque<(SubKey, E)>, key: SubKey, entry: E)
     requires { IsTrue (has_entry key entries.old.items) }
     ensures items { entries.new.items ≡ with_last key entry entries.old.items }
     ensures capacity { deque_capacity entries.new ≡ deque_capacity entries.old }
@@ -16,7 +16,7 @@ pub(crate) fn replace_last(entries: &mut VecDeque<(SubKey, Entry)>, key: SubKey,
 }
 
 /// Where the last entry of this subscription is.
-fn last_place(entries: &VecDeque<(SubKey, Entry)>, key: SubKey) -> usize
+fn last_place<E>(entries: &VecDeque<(SubKey, E)>, key: SubKey) -> usize
     requires { IsTrue (has_entry key entries.now.items) }
     ensures within { result < length entries.now.items }
     ensures here { IsTrue (has_entry key (drop result entries.now.items)) }
@@ -33,7 +33,7 @@ fn last_place(entries: &VecDeque<(SubKey, Entry)>, key: SubKey) -> usize
 }
 
 /// Takes all entries of this subscription out.
-pub(crate) fn drop_entries(entries: &mut VecDeque<(SubKey, Entry)>, key: SubKey)
+pub(crate) fn drop_entries<E: Drop>(entries: &mut VecDeque<(SubKey, E)>, key: SubKey)
     ensures items { entries.new.items ≡ after_cancel key entries.old.items }
     ensures capacity { deque_capacity entries.new ≡ deque_capacity entries.old }
 {

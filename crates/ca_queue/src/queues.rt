@@ -1,21 +1,21 @@
-ghost use Rattle.std.specs.Prelude.{◌≡◌, Bool, IsTrue, IsFalse, MatchResult};
+ghost use Rattle.std.specs.Prelude.{◌≡◌, Bool, IsTrue, IsFalse, MatchResult, length, nat_le};
+ghost use Rattle.ca_text.specs.Limits.{queue_subscriptions};
 ghost use Rattle.ca_queue.specs.Keys.{is_among};
 ghost use Rattle.ca_queue.specs.Waiting.{taken};
 ghost use Rattle.ca_queue.specs.Queue.{Queue, Adds, no_queue, posted, with_front_taken, cancelled, switched};
 ghost use Rattle.ca_queue.specs.Sound.{IsSound};
 ghost use Rattle.ca_text.specs.declared.refusal.Refusal.TheVariants.{OutOfMemory};
-ghost use Rattle.ca_queue.specs.declared.entry.Entry.{Entry as Update};
 
-use crate::entry::{Entry, SubKey};
+use crate::entry::SubKey;
 use ca_text::Refusal;
 use std::alloc::Global;
 
-/// An event queue, however it is kept.
+/// An event queue of these entries, however it is kept.
 ///
 /// `add` makes the room for all entries that come, so the other calls take no memory.
-pub trait Queues {
+pub trait Queues<E> {
     /// What it is: the entries that wait, the subscriptions, and whether events are on.
-    ghost contents: { Self → Queue Update };
+    ghost contents: { Self → Queue E };
 
     /// Whether the room for all that comes was made.
     ghost has_room: { Self → Bool };
@@ -25,6 +25,10 @@ pub trait Queues {
         ensures made { contents result ≡ no_queue }
         ensures room { IsFalse (has_room result) }
         ensures sound { IsSound (contents result) };
+
+    /// Whether it has 36 subscriptions.
+    fn is_full(&self) -> bool
+        ensures { result ≡ nat_le queue_subscriptions (length (contents self.now).subscriptions) };
 
     /// Adds a subscription that it does not have.
     ///
@@ -43,7 +47,7 @@ pub trait Queues {
     ///
     /// It takes the place of the subscription's last entry where there is one and either 36 places or fewer are free or
     /// events are off; else it goes to the back.
-    fn post(&mut self, key: SubKey, entry: Entry)
+    fn post(&mut self, key: SubKey, entry: E)
         requires { IsTrue (is_among key (contents self.old).subscriptions) }
         ensures posts { contents self.new ≡ posted key entry (contents self.old) }
         ensures room { has_room self.new ≡ has_room self.old }
@@ -52,7 +56,7 @@ pub trait Queues {
     /// Takes the entry at the front out.
     ///
     /// With events off it gives something only while some subscription has two entries or more.
-    fn take(&mut self) -> Option<(SubKey, Entry)>
+    fn take(&mut self) -> Option<(SubKey, E)>
         ensures gives { result ≡ taken (contents self.old).events_on (contents self.old).waiting }
         ensures leaves { contents self.new ≡ with_front_taken (contents self.old) }
         ensures room { has_room self.new ≡ has_room self.old }

@@ -3,7 +3,7 @@ ghost use Rattle.ca_queue.specs.Keys.{is_among};
 ghost use Rattle.ca_queue.specs.Queue.{added, no_queue};
 
 use ca_dbr::{Meta, Value};
-use ca_queue::{Entry, EventQueue, Queues, SubKey};
+use ca_queue::{Entry, ListQueue, Queues, SubKey};
 use ca_text::Refusal;
 use std::alloc::{AllocError, Global};
 use std::ops::Range;
@@ -21,7 +21,7 @@ const OTHER: SubKey = SubKey {
 };
 
 /// Two posts to a queue in which nothing waits come out in their order, however it is kept.
-fn post_two<Q: Queues>(
+fn post_two<Q: Queues<Entry>>(
     queue: &mut Q,
     key: SubKey,
     first: Entry,
@@ -38,7 +38,7 @@ fn post_two<Q: Queues>(
 }
 
 /// With events off the last of two posts alone stays, and may not be taken before they are on again.
-fn post_two_while_off<Q: Queues>(
+fn post_two_while_off<Q: Queues<Entry>>(
     queue: &mut Q,
     key: SubKey,
     first: Entry,
@@ -76,10 +76,10 @@ fn number_of(given: &Option<(SubKey, Entry)>) -> Option<i32> {
 }
 
 /// A queue with two subscriptions, in which nothing waits.
-fn queue_of_two(alloc: Global) -> Result<EventQueue, Fail>
+fn queue_of_two(alloc: Global) -> Result<ListQueue<Entry>, Fail>
     ensures { IfOk result (λ queue. queue.0 ≡ added OTHER (added KEY no_queue)) }
 {
-    let mut queue = EventQueue::new(alloc);
+    let mut queue = ListQueue::new(alloc);
     queue.add(KEY)?;
     queue.add(OTHER)?;
     Ok(queue)
@@ -88,7 +88,7 @@ fn queue_of_two(alloc: Global) -> Result<EventQueue, Fail>
 /// Posts updates of these numbers.
 fn post_all(
     alloc: Global,
-    queue: &mut EventQueue,
+    queue: &mut ListQueue<Entry>,
     key: SubKey,
     numbers: Range<i32>,
 ) -> Result<(), Fail>
@@ -103,7 +103,7 @@ fn post_all(
 }
 
 /// Takes give these subscriptions and numbers, and then nothing.
-fn check_takes(rt: &impl Abort, queue: &mut EventQueue, expected: &[(SubKey, i32)])
+fn check_takes(rt: &impl Abort, queue: &mut ListQueue<Entry>, expected: &[(SubKey, i32)])
     ensures { queue.new.0.subscriptions ≡ queue.old.0.subscriptions }
 {
     for (key, number) in expected {
@@ -210,7 +210,7 @@ fn cancel_keeps_the_order_of_the_others(rt: HostRuntime) -> Result<(), Fail> {
 
 #[test]
 fn cancel_makes_room_for_a_37th(rt: HostRuntime) -> Result<(), Fail> {
-    let mut queue = EventQueue::new(rt.alloc());
+    let mut queue = ListQueue::new(rt.alloc());
     for sub in 0..36 {
         queue.add(SubKey { sid: 1, sub })?;
     }
@@ -226,7 +226,7 @@ fn cancel_makes_room_for_a_37th(rt: HostRuntime) -> Result<(), Fail> {
 // Run it too with the Nth growth refused, for each N: `rt try --test --fail-alloc N`.
 #[test]
 fn refused_growth_changes_nothing(rt: HostRuntime) -> Result<(), Fail> {
-    let mut queue = EventQueue::new(rt.alloc());
+    let mut queue = ListQueue::new(rt.alloc());
     if let Err(refusal) = queue.add(KEY) {
         assert_eq!(rt; refusal, Refusal::OutOfMemory);
         queue.add(KEY)?;

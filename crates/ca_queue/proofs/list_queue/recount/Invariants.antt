@@ -1,6 +1,6 @@
 use Rattle.std.proofs.Common.{◌≡◌, ◌++◌, map, take, drop}
 use Rattle.ca_queue.specs.Layout.{recounted}
-use Rattle.ca_queue.proofs.event_queue.recount.Given as goal
+use Rattle.ca_queue.proofs.list_queue.recount.Given as goal
 
 abbrev pub invariant-loop-s : goal.invariant-loop-s
 invariant-loop-s l =

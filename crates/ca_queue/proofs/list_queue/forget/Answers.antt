@@ -1,7 +1,7 @@
 use Rattle.std.proofs.Common.{rules, not}
 use Rattle.std.proofs.lemmas.Fn.{filter_same}
 use Rattle.ca_queue.specs.Keys.{same}
-use Rattle.ca_queue.proofs.event_queue.forget.Goals as goal
+use Rattle.ca_queue.proofs.list_queue.forget.Goals as goal
 
 pub returns-clause-items : goal.returns-clause-items
 returns-clause-items c =

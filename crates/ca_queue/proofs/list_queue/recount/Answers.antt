@@ -1,7 +1,7 @@
 use Rattle.std.proofs.Common.{true, false, sym, ◌∙◌}
 use Rattle.ca_queue.proofs.Counts.{recount_more}
-use Rattle.ca_queue.proofs.event_queue.recount.Goals as goal
-use Rattle.ca_queue.proofs.event_queue.recount.Goals.{then-is_same, else-is_same}
+use Rattle.ca_queue.proofs.list_queue.recount.Goals as goal
+use Rattle.ca_queue.proofs.list_queue.recount.Goals.{then-is_same, else-is_same}
 
 pub loop-s-preserved : goal.loop-s-preserved
 loop-s-preserved c =

@@ -5,7 +5,7 @@ ghost use Rattle.ca_text.specs.Limits.{queue_low_places, queue_places, queue_sub
 ghost use Rattle.ca_queue.specs.Keys.{same};
 ghost use Rattle.ca_queue.specs.Layout.{HasRoom, count_at, is_roomy, recounted};
 
-use crate::entry::{Entry, SubKey, is_same};
+use crate::entry::{SubKey, is_same};
 use crate::places::{drop_entries, replace_last};
 use crate::queues::Queues;
 use ca_text::{QUEUE_LOW_PLACES, QUEUE_PLACES, QUEUE_SUBSCRIPTIONS, Refusal};
@@ -13,13 +13,13 @@ use std::alloc::{AllocError, Global};
 use std::collections::VecDeque;
 use std::marker::Model;
 
-/// An event queue as a plain list. Contracts see it as the queue that it is, and whether its room was made.
+/// An event queue of any entries as a plain list. Contracts see it as the queue that it is, and whether its room was made.
 ///
 /// A post that replaces looks for its subscription's last entry from the back. A take looks at no entry but the front, and
 /// at the subscriptions, of which there are at most 36.
 #[derive(Drop)]
-pub struct EventQueue {
-    entries: VecDeque<(SubKey, Entry)>,
+pub struct ListQueue<E> {
+    entries: VecDeque<(SubKey, E)>,
     subscriptions: Vec<Subscription>,
     events_on: bool,
 }
@@ -31,14 +31,16 @@ struct Subscription {
     waiting: usize,
 }
 
-impl Model for EventQueue {
+impl<E> Model for ListQueue<E> {
     ghost use Rattle.std.specs.Vec.{vec_capacity};
     ghost use Rattle.std.specs.VecDeque.{deque_capacity};
-    ghost use Rattle.ca_queue.specs.Queue.{Queue};
-    ghost use Rattle.ca_queue.specs.declared.entry.Entry.{Entry};
+    ghost use Rattle.std.specs.Coded.{coded×, coded_bool};
+    ghost use Rattle.ca_queue.specs.Queue.{Queue, queue_code};
     ghost use Rattle.std.specs.Prelude.{Bool};
 
-    ghost Value = { Queue Entry × Bool };
+    ghost Value = { Queue E × Bool };
+
+    ghost coded = { coded× (queue_code E.code) coded_bool };
 
     ghost use Rattle.ca_queue.specs.Layout.{queue_of, is_roomy, IsLaidOut};
 
@@ -53,17 +55,21 @@ impl Model for EventQueue {
         (vec_capacity q.subscriptions) };
 }
 
-impl Queues for EventQueue {
+impl<E: Drop> Queues<E> for ListQueue<E> {
     ghost contents = { λ q. q.0 };
 
     ghost has_room = { λ q. q.1 };
 
     fn new(alloc: Global) -> Self {
-        EventQueue {
+        ListQueue {
             entries: VecDeque::new(alloc),
             subscriptions: Vec::new(alloc),
             events_on: true,
         }
+    }
+
+    fn is_full(&self) -> bool {
+        self.subscriptions.len() >= QUEUE_SUBSCRIPTIONS
     }
 
     fn add(&mut self, key: SubKey) -> Result<(), Refusal> {
@@ -76,7 +82,7 @@ impl Queues for EventQueue {
         Ok(())
     }
 
-    fn post(&mut self, key: SubKey, entry: Entry) {
+    fn post(&mut self, key: SubKey, entry: E) {
         let count = waiting_of(&self.subscriptions, key);
         if is_replacing(count, self.entries.len(), self.events_on) {
             replace_last(&mut self.entries, key, entry);
@@ -86,7 +92,7 @@ impl Queues for EventQueue {
         recount(&mut self.subscriptions, key, count + 1);
     }
 
-    fn take(&mut self) -> Option<(SubKey, Entry)> {
+    fn take(&mut self) -> Option<(SubKey, E)> {
         if !may_take(&self.subscriptions, self.events_on) {
             return None;
         }
@@ -107,8 +113,8 @@ impl Queues for EventQueue {
 }
 
 // Makes the room for all entries and subscriptions that come, unless it was made.
-fn make_room(
-    entries: &mut VecDeque<(SubKey, Entry)>,
+fn make_room<E>(
+    entries: &mut VecDeque<(SubKey, E)>,
     subscriptions: &mut Vec<Subscription>,
 ) -> Result<(), AllocError>
     requires fits { length entries.old.items ≤ queue_places }

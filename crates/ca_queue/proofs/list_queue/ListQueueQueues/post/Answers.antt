@@ -4,17 +4,17 @@ use Rattle.std.proofs.lemmas.List.{with_items_is}
 use Rattle.std.specs.Vec.{with_items}
 use Rattle.ca_queue.specs.Layout.{count_at, recounted}
 use Rattle.ca_queue.proofs.Laid.{replaces_by_counts, posts_replacing, posts_behind, has_place, count_small}
-use Rattle.ca_queue.proofs.event_queue.EventQueueQueues.post.Goals as goal
+use Rattle.ca_queue.proofs.list_queue.ListQueueQueues.post.Goals as goal
 
 pub replace_last-requires : goal.replace_last-requires
-replace_last-requires c =
+replace_last-requires g c =
     let there = rw (← c.self.view_is) at c.requires in
     let count = c.waiting_of-count.ensures ∙ ap (count_at c.args.key) c.deref.ensures.value in
     let goes = replaces_by_counts c.args.key _ _ _ c.self.inside.entries.items c.self.inside.subscriptions.items c.self.inside.events_on _ _ c.self.invariant there count (c.len.ensures ∙ c.self.inside.entries.ok.0) c.is_replacing.ensures ∙ c.if-is_replacing.true in
     (and_parts _ _ goes).0
 
 pub invariant_of-self : goal.invariant_of-self
-invariant_of-self c =
+invariant_of-self g c =
     let there = rw (← c.self.view_is) at c.requires in
     let count = c.waiting_of-count.ensures ∙ ap (count_at c.args.key) c.deref.ensures.value in
     let goes = replaces_by_counts c.args.key _ _ _ c.self.inside.entries.items c.self.inside.subscriptions.items c.self.inside.events_on _ _ c.self.invariant there count (c.len.ensures ∙ c.self.inside.entries.ok.0) c.is_replacing.ensures ∙ c.if-is_replacing.true in
@@ -22,7 +22,7 @@ invariant_of-self c =
     rw c.replace_last.ensures.capacity are.laid_out
 
 pub returns-then-is_replacing-clause-posts : goal.returns-then-is_replacing-clause-posts
-returns-then-is_replacing-clause-posts c =
+returns-then-is_replacing-clause-posts g c =
     let there = rw (← c.self.view_is) at c.requires in
     let count = c.waiting_of-count.ensures ∙ ap (count_at c.args.key) c.deref.ensures.value in
     let goes = replaces_by_counts c.args.key _ _ _ c.self.inside.entries.items c.self.inside.subscriptions.items c.self.inside.events_on _ _ c.self.invariant there count (c.len.ensures ∙ c.self.inside.entries.ok.0) c.is_replacing.ensures ∙ c.if-is_replacing.true in
@@ -30,10 +30,10 @@ returns-then-is_replacing-clause-posts c =
     rw (← c.self.view_is) are.is
 
 pub returns-then-is_replacing-clause-sound : goal.returns-then-is_replacing-clause-sound
-returns-then-is_replacing-clause-sound c = (invariant_of-self c).sound
+returns-then-is_replacing-clause-sound g c = (invariant_of-self g c).sound
 
 pub push_back_reserved-requires : goal.push_back_reserved-requires
-push_back_reserved-requires c =
+push_back_reserved-requires g c =
     let there = rw (← c.self.view_is) at c.requires in
     let count = c.waiting_of-count.ensures ∙ ap (count_at c.args.key) c.deref.ensures.value in
     let goes = replaces_by_counts c.args.key _ _ _ c.self.inside.entries.items c.self.inside.subscriptions.items c.self.inside.events_on _ _ c.self.invariant there count (c.len.ensures ∙ c.self.inside.entries.ok.0) c.is_replacing.ensures ∙ c.if-is_replacing.false in
@@ -41,13 +41,13 @@ push_back_reserved-requires c =
     omega (arith, place.0, place.1, c.self.inside.entries.ok.0)
 
 pub overflow_add-count : goal.overflow_add-count
-overflow_add-count c =
+overflow_add-count g c =
     let there = rw (← c.self.view_is) at c.requires in
     let count = c.waiting_of-count.ensures ∙ ap (count_at c.args.key) c.deref.ensures.value in
     omega (arith, count_small c.args.key _ c.self.inside.entries.items c.self.inside.subscriptions.items c.self.inside.events_on _ _ c.self.invariant there count)
 
 pub invariant_of-self-2 : goal.invariant_of-self-2
-invariant_of-self-2 c =
+invariant_of-self-2 g c =
     let there = rw (← c.self.view_is) at c.requires in
     let count = c.waiting_of-count.ensures ∙ ap (count_at c.args.key) c.deref.ensures.value in
     let goes = replaces_by_counts c.args.key _ _ _ c.self.inside.entries.items c.self.inside.subscriptions.items c.self.inside.events_on _ _ c.self.invariant there count (c.len.ensures ∙ c.self.inside.entries.ok.0) c.is_replacing.ensures ∙ c.if-is_replacing.false in
@@ -57,7 +57,7 @@ invariant_of-self-2 c =
     rw c.push_back_reserved.ensures.capacity are.laid_out
 
 pub returns-clause-posts : goal.returns-clause-posts
-returns-clause-posts c =
+returns-clause-posts g c =
     let there = rw (← c.self.view_is) at c.requires in
     let count = c.waiting_of-count.ensures ∙ ap (count_at c.args.key) c.deref.ensures.value in
     let goes = replaces_by_counts c.args.key _ _ _ c.self.inside.entries.items c.self.inside.subscriptions.items c.self.inside.events_on _ _ c.self.invariant there count (c.len.ensures ∙ c.self.inside.entries.ok.0) c.is_replacing.ensures ∙ c.if-is_replacing.false in
@@ -67,4 +67,4 @@ returns-clause-posts c =
     rw (← c.self.view_is) are.is
 
 pub returns-clause-sound : goal.returns-clause-sound
-returns-clause-sound c = (invariant_of-self-2 c).sound
+returns-clause-sound g c = (invariant_of-self-2 g c).sound
