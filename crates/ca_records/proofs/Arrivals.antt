@@ -15,9 +15,9 @@ use Rattle.ca_records.specs.declared.slot.Slot.{Slot}
 use Rattle.ca_records.specs.declared.slot.Slot.TheVariants.{Free, Full}
 use Rattle.ca_records.specs.Chain.{Chain, IsFull, IsStored, record_in}
 use Rattle.ca_records.specs.Index.{place_of}
-use Rattle.ca_records.specs.Layout.{IsIndexOf, waiting_in}
+use Rattle.ca_records.specs.Layout.{IsIndexOf}
 use Rattle.ca_records.specs.declared.puts.Stamp.{Stamp}
-use Rattle.ca_records.specs.Puts.{Record, record_named}
+use Rattle.ca_records.specs.Puts.{Record, record_named, waiting_in}
 use Rattle.ca_records.specs.Rules.{Rule}
 use Rattle.ca_records.specs.Store.{Enters, Finds, Store, present}
 use Rattle.ca_records.specs.Writes.{Leaves}

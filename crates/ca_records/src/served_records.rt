@@ -1,6 +1,5 @@
 ghost use Rattle.std.specs.Prelude.{◌≡◌, ◌↔◌, [], IsTrue, MatchOption, None, Some, is_some};
-ghost use Rattle.ca_records.specs.Layout.{waiting_in};
-ghost use Rattle.ca_records.specs.Puts.{record_named};
+ghost use Rattle.ca_records.specs.Puts.{record_named, waiting_in};
 ghost use Rattle.ca_records.specs.Rules.{rights};
 ghost use Rattle.ca_records.specs.Store.{Finds, HasAt, IsThere, records_of};
 
