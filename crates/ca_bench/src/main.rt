@@ -59,7 +59,6 @@ fn measured(alloc: Global, what: &str, size: u32, rounds: u32) -> Result<(), Ref
         b"read-strings" => reads(alloc, STRING, &strings(alloc, size)?, size, rounds),
         b"copy" => copies(alloc, size as usize, rounds),
         b"parts" => parts(alloc, size as usize, rounds),
-        b"finds" => records::finds(alloc, size, rounds),
         b"puts" => records::puts(alloc, size, rounds),
         b"posts" => records::posts(alloc, size, rounds),
         _ => Err(Refusal::BadText),

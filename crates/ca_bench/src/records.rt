@@ -18,18 +18,6 @@ const PUT: Put = Put {
     ioid: 0,
 };
 
-/// Rounds of a search for one of so many records by its name.
-pub fn finds(alloc: Global, count: u32, rounds: u32) -> Result<(), Refusal> {
-    let served = served(alloc, count)?;
-    let name = name_of(alloc, count / 2)?;
-    for _ in 0..rounds {
-        if !served.has(name.as_bytes()) {
-            return Err(Refusal::UnknownRecord);
-        }
-    }
-    Ok(())
-}
-
 /// Rounds of a put with notification to one of so many records, which is found by its name, and of the put's finish.
 pub fn puts(alloc: Global, count: u32, rounds: u32) -> Result<(), Refusal> {
     let mut served = served(alloc, count)?;
