@@ -1,6 +1,8 @@
 //! Rounds of calls, to be timed from outside: `ca_bench WHAT SIZE ROUNDS`. Without words it does nothing.
 #![tactic(auto)]
 
+mod records;
+
 use ca_dbr::{Meta, Value, read_value, write_value};
 use ca_ids::IdTable;
 use ca_link::Link;
@@ -57,6 +59,8 @@ fn measured(alloc: Global, what: &str, size: u32, rounds: u32) -> Result<(), Ref
         b"read-strings" => reads(alloc, STRING, &strings(alloc, size)?, size, rounds),
         b"copy" => copies(alloc, size as usize, rounds),
         b"parts" => parts(alloc, size as usize, rounds),
+        b"puts" => records::puts(alloc, size, rounds),
+        b"posts" => records::posts(alloc, size, rounds),
         _ => Err(Refusal::BadText),
     }
 }

@@ -1,7 +1,7 @@
 -- Vocabulary: the calls of a server beside its circuits, by answer (sections "Process Variables", "CA_PROTO_WRITE_NOTIFY",
 -- "CA_PROTO_SERVER_DISCONN", "CA_PROTO_SEARCH"). Each is to be the contract of the call of `ServerCore` that its comment names.
 use Rattle.std.specs.Prelude.{ℕ, ◌≡◌, ◌≢◌, ◌<◌, ◌≤◌, ◌+◌, ◌==◌, ◌&&◌, ◌||◌, ◌++◌, ◌⊎◌, Bool, true, not, List, [], ◌∷◌, Option, Some, None, Ok, Err, Result, drop, filter, if◌then◌else◌, is_some, length, map, max, take}
-use Rattle.std.specs.List.{flat_map, list_any, sum_by}
+use Rattle.std.specs.List.{flat_map, list_any}
 use Rattle.std.specs.Str.{bytes_eq}
 use Rattle.ca_arena.specs.declared.handle.Handle.{Handle}
 use Rattle.ca_beacon.specs.Clock as beacon
@@ -14,7 +14,7 @@ use Rattle.ca_queue.specs.declared.entry.SubKey.{SubKey}
 use Rattle.ca_records.specs.Calls.{AddFault, MayAdd, PostFault, PostFits}
 use Rattle.ca_records.specs.declared.puts.Put.{Put}
 use Rattle.ca_records.specs.declared.puts.Stamp.{Stamp}
-use Rattle.ca_records.specs.Puts.{Record, WaitingPut, finished, new_record, record_named, removed, with_record, with_value, withdrawn}
+use Rattle.ca_records.specs.Puts.{Record, WaitingPut, finished, new_record, record_named, removed, waiting_in, with_record, with_value, withdrawn}
 use Rattle.ca_records.specs.Record.{RecordState}
 use Rattle.ca_text.specs.Command.{command_number}
 use Rattle.ca_text.specs.declared.command.Command.TheVariants as command
@@ -181,4 +181,4 @@ stamped s y = record y { stamp = s }
 -- `applied`: how many writes were applied: the server's own count
 -- `waiting`: how many puts wait
 abbrev pub waiting : Server → ℕ
-waiting y = sum_by (λ (r : Record). length r.waiting) y.records
+waiting y = waiting_in y.records

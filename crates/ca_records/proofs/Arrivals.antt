@@ -1,11 +1,6 @@
 -- A store after a record came or left.
 use Rattle.std.proofs.Common.{◌≡◌, ◌⊎◌, inl, inr, ℕ, zero, suc, ◌+◌, ◌<◌, List, [], ◌∷◌, ◌++◌, length, true, false, cond, get_or, Option, None, Some, slice_set, refl, sym, ap, ◌∙◌, subst, arith}
-use Rattle.std.specs.BTreeMap.{insert_entry}
-use Rattle.std.specs.Cmp.Lexicographic.{slice_cmp}
-use Rattle.std.specs.Map.{remove_entry}
-use Rattle.std.specs.Ordering.{is_eq, nat_cmp}
 use Rattle.std.specs.Str.{bytes_eq}
-use Rattle.std.proofs.lemmas.Map.Text.{is_eq-slice_cmp}
 use Rattle.std.proofs.lemmas.Slice.Eq.{bytes_eq-Decides}
 use Rattle.std.proofs.lemmas.List.{length-map, map-set}
 use Rattle.std.proofs.lemmas.List.Sums.{sum_by_push}
@@ -14,15 +9,13 @@ use Rattle.ca_text.proofs.Places.{At-append, At-last, At-map, At-one, At-set, At
 use Rattle.ca_records.specs.declared.slot.Slot.{Slot}
 use Rattle.ca_records.specs.declared.slot.Slot.TheVariants.{Free, Full}
 use Rattle.ca_records.specs.Chain.{Chain, IsFull, IsStored, record_in}
-use Rattle.ca_records.specs.Index.{place_of}
-use Rattle.ca_records.specs.Layout.{IsIndexOf, waiting_in}
+use Rattle.ca_records.specs.Layout.{IsIndexOf}
 use Rattle.ca_records.specs.declared.puts.Stamp.{Stamp}
-use Rattle.ca_records.specs.Puts.{Record, record_named}
+use Rattle.ca_records.specs.Puts.{Record, record_named, waiting_in}
 use Rattle.ca_records.specs.Rules.{Rule}
 use Rattle.ca_records.specs.Store.{Enters, Finds, Store, present}
 use Rattle.ca_records.specs.Writes.{Leaves}
 use Rattle.ca_records.proofs.Copies.{at_get}
-use Rattle.ca_records.proofs.Indexes.{place_of-insert}
 use Rattle.ca_records.proofs.Presence.{Lack, around, has-name, has_name, present-snoc, removed-one, waiting-came, waiting-gone}
 use Rattle.ca_records.proofs.Steps.{At-set-here, chain-append, chain-set, full-apart, index-lacks-but, seen, seen-full, store_of}
 use Rattle.ca_records.proofs.Waiters.{true_or_false}
@@ -79,23 +72,6 @@ index-enters slots more f g place r index lack here stay split grown = record {
         same ∙ index.listed other q old
   ];
 }
-
-pub place_of-inserted : {K : Type 0} (bytes : K → List ℕ) (entries after : List (K × ℕ)) (k : K) (place : ℕ) (name : List ℕ) → bytes k ≡ name → after ≡ insert_entry (λ x y. slice_cmp nat_cmp (bytes x) (bytes y)) entries k place → (other : List ℕ) → place_of bytes after other ≡ cond (bytes_eq other name) (Some place) (place_of bytes entries other)
-place_of-inserted bytes entries after k place name key put_in = λ other. rw (put_in, ← key) (place_of-insert bytes entries k place other)
-
--- the entry of another name after one was taken out
-pub place_of-removed : {K : Type 0} (bytes : K → List ℕ) (es : List (K × ℕ)) (gone name : List ℕ) → bytes_eq name gone ≡ false → place_of bytes (remove_entry (λ k. is_eq (slice_cmp nat_cmp gone (bytes k))) es) name ≡ place_of bytes es name
-place_of-removed bytes [] gone name other = refl
-place_of-removed bytes (e ∷ es) gone name other = elim (true_or_false (bytes_eq gone (bytes e.0))) [
-  | inl h ↦
-      let same : gone ≡ bytes e.0 = (bytes_eq-Decides gone (bytes e.0)).0 h in
-      let test : is_eq (slice_cmp nat_cmp gone (bytes e.0)) ≡ true = is_eq-slice_cmp gone (bytes e.0) ∙ h in
-      let miss : is_eq (slice_cmp nat_cmp name (bytes e.0)) ≡ false = is_eq-slice_cmp name (bytes e.0) ∙ ap (λ b. bytes_eq name b) (sym same) ∙ other in
-      rw (test, miss) refl
-  | inr h ↦
-      let test : is_eq (slice_cmp nat_cmp gone (bytes e.0)) ≡ false = is_eq-slice_cmp gone (bytes e.0) ∙ h in
-      rw test (ap (λ t. cond (is_eq (slice_cmp nat_cmp name (bytes e.0))) (Some e.1) t) (place_of-removed bytes es gone name other))
-]
 
 -- ---- a record comes
 

@@ -8,7 +8,7 @@ use Rattle.ca_dbr.specs.Elements.{Elements, IsValue, base_of, count_of}
 use Rattle.ca_dbr.proofs.Shows.{converted-based, converted-counted}
 use Rattle.ca_records.specs.declared.puts.Begun.{Begun}
 use Rattle.ca_records.specs.declared.puts.Begun.TheVariants.{Applied, Refused, Waiting}
-use Rattle.ca_records.specs.Judging.{put_fault}
+use Rattle.ca_records.specs.Faults.{put_fault}
 use Rattle.ca_records.specs.Layout.{IsFit}
 use Rattle.ca_records.specs.declared.puts.Put.{Put}
 use Rattle.ca_records.specs.declared.puts.Stamp.{Stamp}

@@ -7,7 +7,8 @@ use Rattle.ca_dbr.specs.Conversion.{Fails, HasConversion, IsFault, converted}
 use Rattle.ca_dbr.specs.Elements.{Elements, base_of}
 use Rattle.ca_dbr.proofs.Faults.{converted-fault, converted-none}
 use Rattle.ca_records.specs.declared.judged.Judged.TheVariants.{NoMemory}
-use Rattle.ca_records.specs.Judging.{Judges, put_fault}
+use Rattle.ca_records.specs.Faults.{put_fault}
+use Rattle.ca_records.specs.Judging.{Judges}
 
 not_text : refusal.OutOfMemory ≡ refusal.BadText → ⊥
 not_text h = cc

@@ -5,8 +5,7 @@ use Rattle.std.proofs.lemmas.List.Sums.{sum_by-cons}
 use Rattle.std.proofs.lemmas.Slice.Eq.{bytes_eq-Decides}
 use Rattle.ca_text.specs.Place.{At}
 use Rattle.ca_text.proofs.Places.{some_is}
-use Rattle.ca_records.specs.Layout.{waiting_in}
-use Rattle.ca_records.specs.Puts.{Record, record_named, removed, with_record}
+use Rattle.ca_records.specs.Puts.{Record, record_named, removed, waiting_in, with_record}
 use Rattle.ca_records.specs.Store.{present}
 
 -- whether a record has a name

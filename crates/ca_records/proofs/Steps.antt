@@ -7,9 +7,9 @@ use Rattle.ca_text.proofs.Places.{At-append, At-map, At-mapped, At-one, At-set, 
 use Rattle.ca_records.specs.declared.slot.Slot.{Slot}
 use Rattle.ca_records.specs.declared.slot.Slot.TheVariants.{Free, Full}
 use Rattle.ca_records.specs.Chain.{Chain, IsStored, record_in}
-use Rattle.ca_records.specs.Layout.{IsIndexOf, waiting_in}
+use Rattle.ca_records.specs.Layout.{IsIndexOf}
 use Rattle.ca_records.specs.declared.puts.Stamp.{Stamp}
-use Rattle.ca_records.specs.Puts.{Record, record_named}
+use Rattle.ca_records.specs.Puts.{Record, record_named, waiting_in}
 use Rattle.ca_records.specs.Rules.{Rule}
 use Rattle.ca_records.specs.Store.{Becomes, Finds, Store, present}
 use Rattle.ca_records.proofs.Copies.{at_get}

@@ -3,8 +3,8 @@ use Rattle.std.specs.Prelude.{ℕ, ◌≡◌, List, [], ◌∷◌, Option, Some,
 use Rattle.ca_text.specs.Place.{At}
 use Rattle.ca_records.specs.declared.slot.Slot.{Slot}
 use Rattle.ca_records.specs.declared.slot.Slot.TheVariants.{Free, Full}
-use Rattle.ca_records.specs.Layout.{IsIndexOf, waiting_in}
-use Rattle.ca_records.specs.Puts.{Record}
+use Rattle.ca_records.specs.Layout.{IsIndexOf}
+use Rattle.ca_records.specs.Puts.{Record, waiting_in}
 use Rattle.ca_records.specs.Store.{present}
 
 -- the record at a slot

@@ -25,12 +25,12 @@ has_misfit (Err refusal.NoConvert) = false
 has_misfit (Err _) = true
 has_misfit (Ok e) = false
 
--- No conversion NOCONVERT; a text or a range PUTFAIL; for a WRITE_NOTIFY that would wait, 16 that wait already PUTFAIL.
+-- by what the conversion gives and whether the put finds no place to wait: no conversion NOCONVERT; a text or a range PUTFAIL; no place
+-- PUTFAIL
+abbrev pub put_fault : Result Elements Refusal → (crowded : Bool) → Option ℕ
+put_fault c crowded = first_fault ((lacks_conversion c, no_convert) ∷ (has_misfit c, put_fail) ∷ (crowded, put_fail) ∷ [])
+
+-- the same for a record: a WRITE_NOTIFY that would wait finds no place while 16 wait already
 abbrev pub late_put_fault : RecordState → (must_wait : Bool) → (others : ℕ) → Elements → Option ℕ
 late_put_fault r must_wait others e =
-    first_fault (
-    (lacks_conversion (converted e (base_of r.value)), no_convert)
-    ∷ (has_misfit (converted e (base_of r.value)), put_fail)
-    ∷ (if must_wait then not (nat_lt others waiting_puts) else false, put_fail)
-    ∷ []
-    )
+    put_fault (converted e (base_of r.value)) (if must_wait then not (nat_lt others waiting_puts) else false)

@@ -1,8 +1,6 @@
 -- Working: how the elements of a write are judged, in the order of their faults.
-use Rattle.std.specs.Prelude.{ℕ, ◌≡◌, ◌≢◌, Bool, [], ◌∷◌, Option, Some, None, Ok, Err, Result}
+use Rattle.std.specs.Prelude.{ℕ, ◌≡◌, ◌≢◌, Bool, Option, Some, None, Ok, Err, Result}
 use Rattle.std.specs.declared.alloc.AllocError.{AllocError}
-use Rattle.ca_text.specs.declared.refusal.Refusal.{Refusal}
-use Rattle.ca_text.specs.Status.{no_convert, put_fail}
 use Rattle.ca_dbr.specs.declared.data_type.BaseType.{BaseType}
 use Rattle.ca_dbr.specs.Conversion.{converted}
 use Rattle.ca_dbr.specs.Elements.{Elements, base_of, elements}
@@ -12,11 +10,7 @@ use Rattle.ca_records.specs.declared.puts.Begun.{Begun}
 use Rattle.ca_records.specs.declared.puts.Begun.TheVariants.{Applied, Waiting}
 use Rattle.ca_records.specs.declared.puts.Begun.TheVariants as begun
 use Rattle.ca_records.specs.declared.puts.Put.{Put}
-use Rattle.ca_records.specs.Faults.{first_fault, has_misfit, lacks_conversion}
-
--- the status of the first fault, by what the conversion gives and whether too many wait already
-abbrev pub put_fault : Result Elements Refusal → Bool → Option ℕ
-put_fault c crowded = first_fault ((lacks_conversion c, no_convert) ∷ (has_misfit c, put_fail) ∷ (crowded, put_fail) ∷ [])
+use Rattle.ca_records.specs.Faults.{put_fault}
 
 -- the answer that these elements are to have for this type
 abbrev pub Judges : Elements → BaseType → Bool → Judged → Type 0

@@ -1,6 +1,6 @@
 -- Working: what the fields of a record that is served, and of the store of records, stand for. No clause of a caller needs it.
-use Rattle.std.specs.Prelude.{ℕ, ◌≡◌, ◌≢◌, ◌<◌, ◌≤◌, ◌⊎◌, List, Option, Some, length}
-use Rattle.std.specs.List.{AllByRecursion, sum_by}
+use Rattle.std.specs.Prelude.{ℕ, ◌≡◌, ◌≢◌, ◌<◌, ◌≤◌, ◌⊎◌, List, Option, Some}
+use Rattle.std.specs.List.{AllByRecursion}
 use Rattle.ca_text.specs.declared.refusal.Refusal.{Refusal}
 use Rattle.ca_text.specs.declared.refusal.Refusal.TheVariants as refusal
 use Rattle.ca_text.specs.Limits.{element_limit}
@@ -28,10 +28,6 @@ AreFit s waiting = AllByRecursion (λ (w : WaitingPut). IsFit s w.value) waiting
 pub record IsIndexOf (slots : List (Option Record)) (places : List ℕ → Option ℕ) : Type 0 where
   pub found : (name : List ℕ) (place : ℕ) → places name ≡ Some place → (r : Record) × At slots place (Some r) × (r.state.name ≡ name)
   pub listed : (place : ℕ) (r : Record) → At slots place (Some r) → places r.state.name ≡ Some place
-
--- how many puts wait for these records
-abbrev pub waiting_in : List Record → ℕ
-waiting_in records = sum_by (λ (r : Record). length r.waiting) records
 
 -- the record may have this value by a post
 pub record MayHave (s : RecordState) (e : Elements) : Type 0 where

@@ -1,5 +1,6 @@
 -- Vocabulary: the records of a server with the puts that make them busy or wait (section "CA_PROTO_WRITE_NOTIFY").
-use Rattle.std.specs.Prelude.{ℕ, Bool, not, List, [], ◌∷◌, ◌++◌, Option, Some, None, filter, find, if◌then◌else◌, map}
+use Rattle.std.specs.Prelude.{ℕ, Bool, not, List, [], ◌∷◌, ◌++◌, Option, Some, None, filter, find, if◌then◌else◌, length, map}
+use Rattle.std.specs.List.{sum_by}
 use Rattle.std.specs.Str.{bytes_eq}
 use Rattle.ca_dbr.specs.declared.value.Meta.{Meta}
 use Rattle.ca_dbr.specs.Elements.{Elements}
@@ -54,6 +55,10 @@ without_puts which r = record r { waiting = filter (λ (p : WaitingPut). not (wh
 -- the records without the waiting puts that the test names
 abbrev pub withdrawn : (Put → Bool) → List Record → List Record
 withdrawn which records = map (without_puts which) records
+
+-- how many puts wait for these records
+abbrev pub waiting_in : List Record → ℕ
+waiting_in records = sum_by (λ (r : Record). length r.waiting) records
 
 -- the records without the one of this name
 abbrev pub removed : List ℕ → List Record → List Record

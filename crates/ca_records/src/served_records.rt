@@ -1,6 +1,5 @@
 ghost use Rattle.std.specs.Prelude.{◌≡◌, ◌↔◌, [], IsTrue, MatchOption, None, Some, is_some};
-ghost use Rattle.ca_records.specs.Layout.{waiting_in};
-ghost use Rattle.ca_records.specs.Puts.{record_named};
+ghost use Rattle.ca_records.specs.Puts.{record_named, waiting_in};
 ghost use Rattle.ca_records.specs.Rules.{rights};
 ghost use Rattle.ca_records.specs.Store.{Finds, HasAt, IsThere, records_of};
 
@@ -9,20 +8,20 @@ use crate::rules::{Rule, rights};
 use crate::served_record::ServedRecord;
 use crate::slot::Slot;
 use std::alloc::Global;
-use std::collections::BTreeMap;
+use std::collections::HashMap;
 use std::marker::Model;
 
 /// The records of a server that come and go, with the puts that make them busy and those that wait, the rules of
 /// access, and the stamp of the writes that are applied now.
 ///
 /// A record keeps its place while it is there, so that a channel finds its record without a look at names. A name is
-/// looked up in a map, by as many comparisons as the logarithm of the number of records.
+/// looked up by its hash, so that a call costs the same with few records and with many.
 #[derive(Debug, Drop)]
 pub struct ServedRecords {
     pub(crate) slots: Vec<Slot>,
     // The place that became free last.
     pub(crate) free: Option<usize>,
-    pub(crate) places: BTreeMap<Vec<u8>, usize>,
+    pub(crate) places: HashMap<Vec<u8>, usize>,
     // How many puts wait for all records.
     pub(crate) waiting: usize,
     pub(crate) rules: Vec<Rule>,
@@ -36,13 +35,13 @@ impl Model for ServedRecords {
     ghost Value = { Store };
 
     ghost use Rattle.ca_records.specs.Chain.{IsStored, record_in};
-    ghost use Rattle.ca_records.specs.Index.{place_of};
+    ghost use Rattle.ca_records.specs.Index.{place_in};
 
     ghost view = { λ s.
         record { slots = map record_in s.slots.items; rules = s.rules.items; stamp = s.stamp } };
 
     ghost invariant = { λ s.
-        IsStored s.slots.items s.free (place_of (λ k. k.items) s.places.entries) s.waiting };
+        IsStored s.slots.items s.free (place_in (λ k. k.items) s.places.entries) s.waiting };
 }
 
 impl ServedRecords {
@@ -58,7 +57,7 @@ impl ServedRecords {
         ServedRecords {
             slots: Vec::new(alloc),
             free: None,
-            places: BTreeMap::new(alloc),
+            places: HashMap::new(alloc),
             waiting: 0,
             rules,
             stamp: Stamp {

@@ -12,9 +12,8 @@ use Rattle.ca_script.specs.declared.config.Served.{Served}
 use Rattle.ca_script.specs.declared.event.Verb.{Verb}
 use Rattle.ca_script.specs.declared.event.Verb.TheVariants as verb
 use Rattle.ca_script.specs.Events.{verb_word}
-use Rattle.ca_script.specs.Grammar.{parted}
 use Rattle.ca_script.specs.Lines.{SaysRecord}
-use Rattle.ca_script.specs.Scripts.{Adds, AddsAll, AddsClient, AddsEvent, AddsRecord, AddsServer, Reading, nothing}
+use Rattle.ca_script.specs.Scripts.{Adds, AddsClient, AddsEvent, AddsRecord, AddsServer, Reading, nothing}
 
 abbrev pub name_of : RecordState → List ℕ
 name_of r = r.name
@@ -90,10 +89,10 @@ goes-server a b m words same h =
     }
 
 -- the names behind a record more
-names-more : (old new : List RecordState) (words : List (List ℕ)) (h : SaysRecord words old new) → map name_of new ≡ map name_of old ++ h.r.name ∷ []
+pub names-more : (old new : List RecordState) (words : List (List ℕ)) (h : SaysRecord words old new) → map name_of new ≡ map name_of old ++ h.r.name ∷ []
 names-more old new words h = ap (λ (rs : List RecordState). map name_of rs) h.after ∙ map-append name_of old (h.r ∷ [])
 
-says-too : (a b new : List RecordState) (words : List (List ℕ)) → map name_of a ≡ map name_of b → (h : SaysRecord words a new) → SaysRecord words b (b ++ h.r ∷ [])
+pub says-too : (a b new : List RecordState) (words : List (List ℕ)) → map name_of a ≡ map name_of b → (h : SaysRecord words a new) → SaysRecord words b (b ++ h.r ∷ [])
 says-too a b new words same h = record {
   r = h.r;
   number = h.number;
@@ -141,28 +140,23 @@ goes-event a b m words same h =
       };
     }
 
-goes : (a b m : Reading) (words : List (List ℕ)) → Alike a b → Adds a words m → Goes b words m
-goes a b m words same (inl h) = goes-client a b m words same h
-goes a b m words same (inr (inl h)) = goes-server a b m words same h
-goes a b m words same (inr (inr (inl h))) = goes-record a b m words same h
-goes a b m words same (inr (inr (inr h))) = goes-event a b m words same h
+found : (b m : Reading) (words : List (List ℕ)) → Goes b words m → (to : Reading) × Adds b words to × Alike m to
+found b m words g = (g.to, g.adds, g.alike)
 
--- what can be read behind one can be read behind the other
-reads-too : (a b final : Reading) (lines : List (List ℕ)) → Alike a b → AddsAll a lines final → (end : Reading) × AddsAll b lines end
-reads-too a b final [] same h = (b, refl)
-reads-too a b final (line ∷ lines) same (m, adds, more) =
-    let next : Goes b (parted 32 line) m = goes a b m (parted 32 line) same adds in
-    let rest = reads-too m next.to final lines next.alike more in
-    (rest.0, (next.to, next.adds, rest.1))
+pub goes : (a b m : Reading) (words : List (List ℕ)) → Alike a b → Adds a words m → (to : Reading) × Adds b words to × Alike m to
+goes a b m words same (inl h) = found b m words (goes-client a b m words same h)
+goes a b m words same (inr (inl h)) = found b m words (goes-server a b m words same h)
+goes a b m words same (inr (inr (inl h))) = found b m words (goes-record a b m words same h)
+goes a b m words same (inr (inr (inr h))) = found b m words (goes-event a b m words same h)
 
 -- a number for each first word, by which they are told apart
-abbrev mark : List ℕ → ℕ
+abbrev pub mark : List ℕ → ℕ
 mark w = sum w + get_or w 0 0
 
-apart : (x y : List ℕ) (xs ys words : List (List ℕ)) → (mark x ≡ mark y → ⊥) → words ≡ x ∷ xs → words ≡ y ∷ ys → ⊥
+pub apart : (x y : List ℕ) (xs ys words : List (List ℕ)) → (mark x ≡ mark y → ⊥) → words ≡ x ∷ xs → words ≡ y ∷ ys → ⊥
 apart x y xs ys words other a b = other (ap (λ (ws : List (List ℕ)). mark (get_or ws 0 x)) (sym a ∙ b))
 
-behind-same : (x y : List ℕ) (xs ys words : List (List ℕ)) → words ≡ x ∷ xs → words ≡ y ∷ ys → xs ≡ ys
+pub behind-same : (x y : List ℕ) (xs ys words : List (List ℕ)) → words ≡ x ∷ xs → words ≡ y ∷ ys → xs ≡ ys
 behind-same x y xs ys words a b = ap (λ (ws : List (List ℕ)). drop 1 ws) (sym a ∙ b)
 
 -- the words of a client, a server and a record are no verbs
@@ -195,6 +189,23 @@ no-record verb.Down e = absurd (omega (arith, e))
 no-record verb.ServerStep e = absurd (omega (arith, e))
 no-record verb.ClientStep e = absurd (omega (arith, e))
 no-record verb.Cut e = absurd (omega (arith, e))
+
+no-rule : (v : Verb) → mark (codes "rule") ≡ mark (verb_word v) → ⊥
+no-rule verb.Open e = absurd (omega (arith, e))
+no-rule verb.Read e = absurd (omega (arith, e))
+no-rule verb.Accept e = absurd (omega (arith, e))
+no-rule verb.Up e = absurd (omega (arith, e))
+no-rule verb.Down e = absurd (omega (arith, e))
+no-rule verb.ServerStep e = absurd (omega (arith, e))
+no-rule verb.ClientStep e = absurd (omega (arith, e))
+no-rule verb.Cut e = absurd (omega (arith, e))
+
+-- no line begins as a rule's
+pub no-rule-line : (old new : Reading) (rest : List (List ℕ)) → Adds old (codes "rule" ∷ rest) new → ⊥
+no-rule-line old new rest (inl h) = apart (codes "rule") (codes "client") rest h.behind (codes "rule" ∷ rest) (λ x. omega (arith, x)) refl h.are
+no-rule-line old new rest (inr (inl h)) = apart (codes "rule") (codes "server") rest h.behind (codes "rule" ∷ rest) (λ x. omega (arith, x)) refl h.are
+no-rule-line old new rest (inr (inr (inl h))) = apart (codes "rule") (codes "record") rest h.behind (codes "rule" ∷ rest) (λ x. omega (arith, x)) refl h.are
+no-rule-line old new rest (inr (inr (inr h))) = apart (codes "rule") (verb_word h.verb) rest h.behind (codes "rule" ∷ rest) (no-rule h.verb) refl h.are
 
 -- a line that begins so is of a client
 pub of-client : (a m : Reading) (rest words : List (List ℕ)) → words ≡ codes "client" ∷ rest → Adds a words m → AddsClient a words m
@@ -243,12 +254,8 @@ same-event : (a m n : Reading) (words : List (List ℕ)) → AddsEvent a words m
 same-event a m n words h k =
     alike-of m n _ _ h.after k.after (record { clients = refl; servers = refl; events = length-append a.events (h.event ∷ []) ∙ sym (length-append a.events (k.event ∷ [])) })
 
-same-line : (a m n : Reading) (words : List (List ℕ)) → Adds a words m → Adds a words n → Alike m n
+pub same-line : (a m n : Reading) (words : List (List ℕ)) → Adds a words m → Adds a words n → Alike m n
 same-line a m n words (inl h) k = same-client a m n words h (of-client a n h.behind words h.are k)
 same-line a m n words (inr (inl h)) k = same-server a m n words h (of-server a n h.behind words h.are k)
 same-line a m n words (inr (inr (inl h))) k = same-record a m n words h (of-record a n h.behind words h.are k)
 same-line a m n words (inr (inr (inr h))) k = same-event a m n words h (of-event a n h.verb h.behind words h.are k)
-
--- where all these lines can be read, the others can be read behind what the first one was taken to say
-pub follows-on : (here mid final : Reading) (line : List ℕ) (lines : List (List ℕ)) → Adds here (parted 32 line) mid → AddsAll here (line ∷ lines) final → (end : Reading) × AddsAll mid lines end
-follows-on here mid final line lines adds (m, first, more) = reads-too m mid final lines (same-line here m mid (parted 32 line) first adds) more

@@ -9,7 +9,7 @@ use Rattle.ca_script.specs.declared.config.Served.{Served}
 use Rattle.ca_script.specs.Events.{AreNumbers}
 use Rattle.ca_script.specs.Grammar.{IsNumber, longer, parted, pieces_left}
 use Rattle.ca_script.specs.Lines.{AreEach, SaysRecord}
-use Rattle.ca_script.specs.Scripts.{Adds, AddsAll, AddsClient, AddsRecord, AddsServer, Reading, lines_of, whole_lines}
+use Rattle.ca_script.specs.Scripts.{Adds, AddsClient, AddsRecord, AddsServer, Reading, lines_of, whole_lines}
 use Rattle.ca_script.proofs.Partings.{parted-is-some}
 
 pub ok-then : {T E P Q : Type 0} (r : Result T E) → (P → Q) → OnOk r P → OnOk r Q
@@ -67,13 +67,6 @@ lines-next left line left' (Some r) blank some e is none =
 pub lines-begin : (left line : List ℕ) (rest : Option (Bor (List ℕ))) → (left ≡ [] → ⊥) → parted 10 left ≡ line ∷ pieces_left 10 (option_map (λ (r : Bor (List ℕ)). r.now) rest) → (lines : List (List ℕ)) × (lines_of left ≡ line ∷ lines)
 lines-begin left line None some e = ([], ap (λ (ps : List (List ℕ)). whole_lines ps) e ∙ alone-whole left line some e)
 lines-begin left line (Some r) some e = (whole_lines (parted 10 r.now), ap (λ (ps : List (List ℕ)). whole_lines ps) e ∙ line-more line (parted 10 r.now) (parted-is-some 10 r.now))
-
--- one line more
-pub leads-on : (old mid final : Reading) (line : List ℕ) (left left' : List ℕ) → lines_of left ≡ line ∷ lines_of left' → Adds old (parted 32 line) mid → AddsAll mid (lines_of left') final → AddsAll old (lines_of left) final
-leads-on old mid final line left left' e adds h = subst (λ (ls : List (List ℕ)). AddsAll old ls final) (sym e) (mid, adds, h)
-
-pub leads-here : (old : Reading) (left : List ℕ) → left ≡ [] → AddsAll old (lines_of left) old
-leads-here old left e = subst (λ (ls : List (List ℕ)). AddsAll old ls old) (sym (lines-none left e)) refl
 
 pub empty-of : (xs : List ℕ) → length xs ≡ 0 → xs ≡ []
 empty-of [] h = refl

@@ -9,3 +9,6 @@ pub mod Alike
 pub mod Following
 pub mod ElementRefusals
 pub mod LineRefusals
+pub mod Leading
+pub mod FileLines
+pub mod RuleLines

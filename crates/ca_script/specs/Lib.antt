@@ -3,4 +3,5 @@ pub mod Events
 pub mod Setting
 pub mod Lines
 pub mod Scripts
+pub mod RecordFiles
 pub mod Report

@@ -1,5 +1,5 @@
--- The lines of a script's head, behind their first words.
-use Rattle.std.specs.Prelude.{ℕ, ℤ, pos, ◌≡◌, ◌<◌, ◌≤◌, ◌-◌, ◌^◌, ⊤, Bool, true, false, List, [], ◌∷◌, ◌++◌, length, replicate, codes, slice_index, FitsSigned, Ok}
+-- Vocabulary: the lines of a script's head and of a record file, after their first words.
+use Rattle.std.specs.Prelude.{ℕ, ℤ, pos, ◌≡◌, ◌<◌, ◌≤◌, ◌-◌, ◌^◌, ⊤, Bool, true, false, Option, Some, None, List, [], ◌∷◌, ◌++◌, length, replicate, codes, slice_index, FitsSigned, Ok}
 use Rattle.std.specs.Int.{from_be_bytes, w16, w32}
 use Rattle.std.specs.Str.Parse.{IsNumeral, signed_digits_value, without_leading_sign}
 use Rattle.hex.specs.Hex.{decode_of}
@@ -8,6 +8,7 @@ use Rattle.ca_dbr.specs.declared.data_type.BaseType.TheVariants as base
 use Rattle.ca_dbr.specs.Elements.{Elements, strings, ints, floats, enums, chars, longs, doubles, base_of, bytes_4, bytes_8}
 use Rattle.ca_records.specs.Record.{IsRecord, RecordState, unset}
 use Rattle.ca_records.specs.Records.{IsServed}
+use Rattle.ca_records.specs.Rules.{Rule}
 use Rattle.ca_script.specs.Events.{AreNumbers}
 use Rattle.ca_script.specs.Grammar.{IsNumber, parted}
 use Rattle.ca_script.specs.Setting.{IsNamed}
@@ -115,3 +116,25 @@ pub record SaysRecord (words : List (List ℕ)) (old new : List RecordState) : T
   pub is : IsRecord r
   pub fresh : IsServed old r.name → ⊥
   pub after : new ≡ old ++ r ∷ []
+
+-- what a word of a rule stands for: `*` for everything, another word for itself
+abbrev pub IsPattern : List ℕ → Option (List ℕ) → Type 0
+IsPattern word None = word ≡ codes "*"
+IsPattern word (Some w) = (w ≡ word) × (word ≡ codes "*" → ⊥)
+
+-- the word for whether a rule lets read and write
+abbrev pub rights_word : (reads writes : Bool) → List ℕ
+rights_word true true = codes "rw"
+rights_word true false = codes "r"
+rights_word false true = codes "w"
+rights_word false false = codes "-"
+
+-- `rule USER HOST RECORD rw|r|w|-`
+pub record SaysRule (words : List (List ℕ)) (r : Rule) : Type 0 where
+  pub user : List ℕ
+  pub host : List ℕ
+  pub name : List ℕ
+  pub are : words ≡ user ∷ host ∷ name ∷ rights_word r.reads r.writes ∷ []
+  pub some : (0 < length user) × (0 < length host) × (0 < length name)
+  pub fits : IsNamed (user, host)
+  pub patterns : IsPattern user r.user × IsPattern host r.host × IsPattern name r.record_name

@@ -6,7 +6,7 @@ use Rattle.ca_script.specs.declared.config.Served.{Served}
 use Rattle.ca_script.specs.declared.event.Verb.{Verb}
 use Rattle.ca_script.specs.declared.script.Script.{Script}
 use Rattle.ca_script.specs.Events.{Says, verb_word}
-use Rattle.ca_script.specs.Grammar.{parted}
+use Rattle.ca_script.specs.Grammar.{Lead, parted}
 use Rattle.ca_script.specs.Lines.{SaysClient, SaysRecord, SaysServer}
 
 -- what has been read
@@ -65,8 +65,7 @@ Adds old words new = AddsClient old words new ⊎ (AddsServer old words new ⊎ 
 
 -- and these lines in a row
 abbrev pub AddsAll : Reading → List (List ℕ) → Reading → Type 0
-AddsAll old [] new = new ≡ old
-AddsAll old (line ∷ lines) new = (mid : Reading) × Adds old (parted 32 line) mid × AddsAll mid lines new
+AddsAll old lines new = Lead Adds old lines new
 
 -- no line stands behind the last line feed
 abbrev pub whole_lines : List (List ℕ) → List (List ℕ)

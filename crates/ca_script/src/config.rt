@@ -1,4 +1,4 @@
-ghost use Rattle.std.specs.Prelude.{◌≡◌, ◌<◌, ◌^◌, MatchResult, length};
+ghost use Rattle.std.specs.Prelude.{◌≡◌, ◌↔◌, MatchResult, IsTrue};
 ghost use Rattle.ca_text.specs.declared.refusal.Refusal.TheVariants.{BadText};
 ghost use Rattle.ca_script.specs.Setting.{IsNamed};
 
@@ -32,7 +32,7 @@ impl Named {
         ensures { MatchResult result (λ n. (n ≡ (user.items, host.items)) × IsNamed n)
             (λ e. (e ≡ BadText) × (IsNamed (user.items, host.items) → ⊥)) }
     {
-        if user.len() >= PAYLOAD_LIMIT || host.len() >= PAYLOAD_LIMIT {
+        if !are_carried(&user, &host) {
             return Err(Refusal::BadText);
         }
         Ok(Named { user, host })
@@ -53,6 +53,13 @@ impl Named {
     {
         &self.host
     }
+}
+
+/// Whether messages can carry this user and this host.
+pub(crate) fn are_carried(user: &[u8], host: &[u8]) -> bool
+    ensures { IsTrue result ↔ IsNamed (user.now, host.now) }
+{
+    user.len() < PAYLOAD_LIMIT && host.len() < PAYLOAD_LIMIT
 }
 
 /// A server: where it listens, and its records.

@@ -1,16 +1,18 @@
-//! Scripts of worlds read, and the reports of their runs written. There is no IO here.
+//! Scripts of worlds and record files read, and the reports of runs written. There is no IO here.
 #![tactic(auto)]
 
 mod config;
 mod element;
 mod event;
 mod lines;
+mod record_file;
 mod report;
 mod script;
 mod setting;
 mod words;
 
 pub use config::{Config, Named, Served};
+pub use record_file::{RecordFile, read_records};
 pub use report::{write_end, write_log};
-pub use script::{Script, read_script};
+pub use script::{Script, read_script, rules_are_not_read};
 pub use setting::records_are_records;

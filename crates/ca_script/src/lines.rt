@@ -1,14 +1,14 @@
-ghost use Rattle.std.specs.Prelude.{◌≡◌, ◌<◌, ◌∷◌, ℕ, Bool, List, IfErr, IfOk, OnOk};
+ghost use Rattle.std.specs.Prelude.{◌≡◌, ◌<◌, ◌∷◌, ℕ, Bool, List, IfErr, IfOk, OnOk, option_map};
 ghost use Rattle.ca_text.specs.declared.refusal.Refusal.TheVariants.{BadText};
 ghost use Rattle.ca_script.specs.Grammar.{IsNumber, Refuses};
-ghost use Rattle.ca_script.specs.Lines.{IsAddress, SaysClient, SaysRecord, SaysServer, slow_word};
+ghost use Rattle.ca_script.specs.Lines.{IsAddress, IsPattern, SaysClient, SaysRecord, SaysRule, SaysServer, rights_word, slow_word};
 
-use crate::config::Named;
+use crate::config::{Named, are_carried};
 use crate::element::{base_in, read_value};
 use crate::words::{Pieces, Words, is_word};
-use ca_records::Records;
+use ca_records::{Records, Rule};
 use ca_text::Refusal;
-use std::alloc::Global;
+use std::alloc::{AllocError, Global};
 
 /// `USER HOST`, behind the line's first word. Refused by 8, then by 1.
 pub(crate) fn read_client(alloc: Global, mut words: Words<'_>) -> Result<Named, Refusal>
@@ -113,6 +113,56 @@ fn slow_in(word: &[u8]) -> Result<bool, Refusal>
     }
     if is_word(word, "slow") {
         return Ok(true);
+    }
+    Err(Refusal::BadText)
+}
+
+/// `USER HOST RECORD rw|r|w|-`, after the line's first word: `*` stands for everything. Refused by 8, then by 1.
+pub(crate) fn read_rule(alloc: Global, mut words: Words<'_>) -> Result<Rule, Refusal>
+    ensures ok { IfOk result (λ r. SaysRule words.entry r) }
+    ensures err { IfErr result (λ e. Refuses (SaysRule words.entry) e) }
+{
+    let user = words.word()?;
+    let host = words.word()?;
+    let name = words.word()?;
+    let (reads, writes) = rights_in(words.word()?)?;
+    words.end()?;
+    if !are_carried(user, host) {
+        return Err(Refusal::BadText);
+    }
+    let user = pattern(alloc, user)?;
+    let host = pattern(alloc, host)?;
+    let name = pattern(alloc, name)?;
+    Ok(Rule::new(user, host, name, reads, writes))
+}
+
+/// What a word of a rule stands for: none for everything.
+fn pattern(alloc: Global, word: &[u8]) -> Result<Option<Vec<u8>>, AllocError>
+    ensures { IfOk result (λ p. IsPattern word.now (option_map (λ v. v.items) p)) }
+{
+    if is_word(word, "*") {
+        return Ok(None);
+    }
+    Ok(Some(Vec::from_slice(alloc, word)?))
+}
+
+/// Whether a rule lets read and write, as a word says. Refused by 8.
+fn rights_in(word: &[u8]) -> Result<(bool, bool), Refusal>
+    ensures ok { IfOk result (λ r. word.now ≡ rights_word r.0 r.1) }
+    ensures err { IfErr result (λ e.
+        (e ≡ BadText) × ((reads writes : Bool) → word.now ≡ rights_word reads writes → ⊥)) }
+{
+    if is_word(word, "rw") {
+        return Ok((true, true));
+    }
+    if is_word(word, "r") {
+        return Ok((true, false));
+    }
+    if is_word(word, "w") {
+        return Ok((false, true));
+    }
+    if is_word(word, "-") {
+        return Ok((false, false));
     }
     Err(Refusal::BadText)
 }

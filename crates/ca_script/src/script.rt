@@ -1,6 +1,6 @@
-ghost use Rattle.std.specs.Prelude.{◌≢◌, ◌≤◌, ◌∷◌, IfErr, IfOk, OnErr, OnOk, codes, length};
+ghost use Rattle.std.specs.Prelude.{ℕ, List, ◌≢◌, ◌≤◌, ◌∷◌, IfErr, IfOk, OnErr, OnOk, codes, length};
 ghost use Rattle.ca_script.specs.Grammar.{Refuses, parted};
-ghost use Rattle.ca_script.specs.Scripts.{Adds, AddsAll, AddsClient, AddsRecord, AddsServer, lines_of, nothing, reading};
+ghost use Rattle.ca_script.specs.Scripts.{Adds, AddsAll, AddsClient, AddsRecord, AddsServer, Reading, lines_of, nothing, reading};
 
 use crate::config::{Config, Served};
 use crate::event::{Verb, read_event};
@@ -21,7 +21,8 @@ pub struct Script {
 }
 
 /// Reads a script: lines of a client, of a server and its records, and then of events. Refused by 8 where a line is not
-/// understood, and by 1; an empty text is never refused.
+/// understood, and by 1; an empty text is never refused. The small world knows no rules of access, so that a line of a
+/// rule is not understood.
 pub fn read_script(alloc: Global, text: &[u8]) -> Result<Script, Refusal>
     ensures lines { IfOk result (λ s. AddsAll nothing (lines_of text.now) (reading s)) }
     ensures clients { IfOk result (λ s. length s.config.clients.items ≤ 1) }
@@ -44,6 +45,11 @@ pub fn read_script(alloc: Global, text: &[u8]) -> Result<Script, Refusal>
     }
     Ok(script)
 }
+
+/// A law: no line of a rule is a line of a script.
+pub fn rules_are_not_read()
+    ensures { (old new : Reading) (rest : List (List ℕ)) → Adds old (codes "rule" ∷ rest) new → ⊥ }
+{}
 
 /// Adds what one line says.
 fn read_line(alloc: Global, line: &[u8], script: &mut Script) -> Result<(), Refusal>

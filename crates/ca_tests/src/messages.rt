@@ -33,7 +33,7 @@ fn check<R: AllocGlobal + Abort>(rt: &R, message: &Message, bytes: &[u8]) -> Res
 
 #[test]
 fn requests_on_a_circuit_are_made(rt: HostRuntime) -> Result<(), Fail> {
-    let version = version_request(rt.alloc(), Priority::new(7));
+    let version = version_request(rt.alloc(), Priority::read(7)?);
     check(&rt, &version, b"\0\0\0\0\0\x07\0\x0d\0\0\0\0\0\0\0\0")?;
     let echo = bare(rt.alloc(), Command::Echo);
     check(&rt, &echo, b"\0\x17\0\0\0\0\0\0\0\0\0\0\0\0\0\0")?;

@@ -11,4 +11,6 @@ mod records;
 #[cfg(test)]
 mod script;
 #[cfg(test)]
+mod served_records;
+#[cfg(test)]
 mod small_server;

@@ -1,6 +1,9 @@
 //! The numbers by which the ends of a circuit name things to each other, a type for each (section "Virtual Circuit").
-ghost use Rattle.std.specs.Prelude.{◌≡◌};
+ghost use Rattle.std.specs.Prelude.{◌≡◌, ◌<◌, ◌≤◌, MatchResult};
+ghost use Rattle.ca_text.specs.Limits.{priority_limit};
+ghost use Rattle.ca_text.specs.declared.refusal.Refusal.TheVariants.{BadPriority};
 
+use ca_text::{PRIORITY_LIMIT, Refusal};
 use std::marker::Model;
 
 /// The server's id of a channel (SID).
@@ -29,7 +32,8 @@ impl Sid {
     pub fn number(self) -> u32
         ensures { result ≡ self }
     {
-        self.0
+        let Sid(number) = self;
+        number
     }
 }
 
@@ -59,7 +63,8 @@ impl Cid {
     pub fn number(self) -> u32
         ensures { result ≡ self }
     {
-        self.0
+        let Cid(number) = self;
+        number
     }
 }
 
@@ -89,7 +94,8 @@ impl Ioid {
     pub fn number(self) -> u32
         ensures { result ≡ self }
     {
-        self.0
+        let Ioid(number) = self;
+        number
     }
 }
 
@@ -98,27 +104,36 @@ impl Ioid {
 pub struct Priority(u16);
 
 impl Model for Priority {
-    ghost use Rattle.std.specs.Prelude.{ℕ};
+    ghost use Rattle.std.specs.Prelude.{ℕ, ◌≤◌};
+    ghost use Rattle.ca_text.specs.Limits.{priority_limit};
 
     ghost Value = { ℕ };
 
     ghost view = { λ i. i.0 };
 
+    ghost invariant = { λ i. i.0 ≤ priority_limit };
+
     ghost inverse = { λ n. record { 0 = n } };
 }
 
 impl Priority {
-    /// The one of this number.
-    pub fn new(number: u16) -> Priority
-        ensures { result ≡ number }
+    /// The one of this number. Refused by 25 if it is over 99.
+    pub fn read(number: u64) -> Result<Priority, Refusal>
+        ensures { MatchResult result (λ p. (p ≡ number) × (number ≤ priority_limit))
+            (λ e. (e ≡ BadPriority) × (priority_limit < number)) }
     {
-        Priority(number)
+        if number > u64::from(PRIORITY_LIMIT) {
+            return Err(Refusal::BadPriority);
+        }
+        Ok(Priority(number as u16))
     }
 
     /// Its number, as it goes out.
     pub fn number(self) -> u16
-        ensures { result ≡ self }
+        ensures is { result ≡ self }
+        ensures within { result ≤ priority_limit }
     {
-        self.0
+        let Priority(number) = self;
+        number
     }
 }

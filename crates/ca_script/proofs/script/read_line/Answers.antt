@@ -4,7 +4,8 @@ use Rattle.ca_text.specs.declared.refusal.Refusal.{Refusal}
 use Rattle.ca_script.specs.Grammar.{Refuses, parted}
 use Rattle.ca_script.specs.Scripts.{Adds, AddsClient, AddsRecord, AddsServer, reading}
 use Rattle.ca_script.proofs.Alike.{of-client, of-record, of-server}
-use Rattle.ca_script.proofs.Following.{kind-refused, line-refused}
+use Rattle.ca_script.proofs.Following.{line-refused}
+use Rattle.ca_script.proofs.Leading.{kind-refused}
 use Rattle.ca_script.proofs.Sayings.{handed-on}
 use Rattle.ca_script.proofs.script.read_line.Goals as goal
 
@@ -15,12 +16,12 @@ returns-in_err-first-clause-err c =
 
 pub returns-then-is_word-clause-err : goal.returns-then-is_word-clause-err
 returns-then-is_word-clause-err c =
-    kind-refused AddsClient (codes "client") of-client c.add_client.result (reading c.args.script.now) (parted 32 c.args.line.now) _ c.in_ok-first.first.now (sym c.new-words.ensures ∙ c.in_ok-first.ensures.ok.0) (search rules) c.add_client.ensures.err
+    kind-refused Adds AddsClient (codes "client") of-client c.add_client.result (reading c.args.script.now) (parted 32 c.args.line.now) _ c.in_ok-first.first.now (sym c.new-words.ensures ∙ c.in_ok-first.ensures.ok.0) (search rules) c.add_client.ensures.err
 
 pub returns-then-is_word-2-clause-err : goal.returns-then-is_word-2-clause-err
 returns-then-is_word-2-clause-err c =
-    kind-refused AddsServer (codes "server") of-server c.add_server.result (reading c.args.script.now) (parted 32 c.args.line.now) _ c.in_ok-first.first.now (sym c.new-words.ensures ∙ c.in_ok-first.ensures.ok.0) (search rules) c.add_server.ensures.err
+    kind-refused Adds AddsServer (codes "server") of-server c.add_server.result (reading c.args.script.now) (parted 32 c.args.line.now) _ c.in_ok-first.first.now (sym c.new-words.ensures ∙ c.in_ok-first.ensures.ok.0) (search rules) c.add_server.ensures.err
 
 pub returns-then-is_word-3-clause-err : goal.returns-then-is_word-3-clause-err
 returns-then-is_word-3-clause-err c =
-    kind-refused AddsRecord (codes "record") of-record c.add_record.result (reading c.args.script.now) (parted 32 c.args.line.now) _ c.in_ok-first.first.now (sym c.new-words.ensures ∙ c.in_ok-first.ensures.ok.0) (search rules) c.add_record.ensures.err
+    kind-refused Adds AddsRecord (codes "record") of-record c.add_record.result (reading c.args.script.now) (parted 32 c.args.line.now) _ c.in_ok-first.first.now (sym c.new-words.ensures ∙ c.in_ok-first.ensures.ok.0) (search rules) c.add_record.ensures.err

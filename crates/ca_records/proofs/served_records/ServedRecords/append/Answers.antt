@@ -3,7 +3,8 @@ use Rattle.ca_records.specs.declared.slot.Slot.{Slot}
 use Rattle.ca_records.specs.declared.slot.Slot.TheVariants.{Full}
 use Rattle.ca_records.specs.Puts.{Record, record_named}
 use Rattle.ca_records.specs.Store.{Enters, Store, present, records_of}
-use Rattle.ca_records.proofs.Arrivals.{append-step, place_of-inserted}
+use Rattle.ca_records.proofs.Arrivals.{append-step}
+use Rattle.ca_records.proofs.Hashed.{place_in-inserted}
 use Rattle.ca_records.proofs.Steps.{seen, store_of}
 use Rattle.ca_records.proofs.served_records.ServedRecords.append.Goals as goal
 
@@ -15,7 +16,7 @@ invariant_of-self-2 c =
     let new : record_named (present (seen slots)) c.new.result.state.name ≡ None =
     subst (λ (s : Store). record_named (records_of s) c.new.result.state.name ≡ None) (sym c.self.view_is) (subst (λ (n : List ℕ). record_named (records_of c.args.self.now) n ≡ None) (sym named) c.requires.new) in
     let calm : c.new.result.waiting ≡ [] = ap (λ (q : Record). q.waiting) c.new.ensures in
-    let grown = place_of-inserted (λ k. k.items) c.self.inside.places.entries c.insert.new.self.entries c.args.key c.len-place.result c.new.result.state.name (c.requires.key ∙ sym named) c.in_ok-insert.ensures.entries in
+    let grown = place_in-inserted (λ k. k.items) c.self.inside.places c.insert.new.self c.args.key c.len-place.result c.new.result.state.name (c.requires.key ∙ sym named) c.in_ok-insert.ensures.updates in
     let made = append-step slots c.self.inside.free _ _ c.self.inside.waiting c.self.inside.rules.items c.self.inside.stamp c.len-place.result c.new.result c.self.invariant last new calm grown in
     rw (c.push_reserved.ensures.items, c.in_ok-reserve.ensures.items) made.stored
 
@@ -29,7 +30,7 @@ returns-clause-ok c =
     let new : record_named (present (seen slots)) c.new.result.state.name ≡ None =
     subst (λ (s : Store). record_named (records_of s) c.new.result.state.name ≡ None) (sym c.self.view_is) (subst (λ (n : List ℕ). record_named (records_of c.args.self.now) n ≡ None) (sym named) c.requires.new) in
     let calm : c.new.result.waiting ≡ [] = ap (λ (q : Record). q.waiting) c.new.ensures in
-    let grown = place_of-inserted (λ k. k.items) c.self.inside.places.entries c.insert.new.self.entries c.args.key c.len-place.result c.new.result.state.name (c.requires.key ∙ sym named) c.in_ok-insert.ensures.entries in
+    let grown = place_in-inserted (λ k. k.items) c.self.inside.places c.insert.new.self c.args.key c.len-place.result c.new.result.state.name (c.requires.key ∙ sym named) c.in_ok-insert.ensures.updates in
     let made = append-step slots c.self.inside.free _ _ c.self.inside.waiting rules_now stamp c.len-place.result c.new.result c.self.invariant last new calm grown in
     let more : slots ++ Full c.new.result ∷ [] ≡ c.push_reserved.new.self.items = sym (c.push_reserved.ensures.items ∙ ap (λ (t : List Slot). t ++ Full c.new.result ∷ []) c.in_ok-reserve.ensures.items) in
     let filled : Enters (store_of slots rules_now stamp) c.len-place.result c.new.result (store_of c.push_reserved.new.self.items rules_now stamp) =

@@ -2,7 +2,8 @@ use Rattle.std.proofs.Common.{◌≡◌, ◌∙◌, ℕ, List, [], None, length,
 use Rattle.ca_records.specs.declared.slot.Slot.{Slot}
 use Rattle.ca_records.specs.Puts.{Record, record_named}
 use Rattle.ca_records.specs.Store.{Enters, Store, present, records_of}
-use Rattle.ca_records.proofs.Arrivals.{enter-step, free-within, looked-free, not-full, place_of-inserted}
+use Rattle.ca_records.proofs.Arrivals.{enter-step, free-within, looked-free, not-full}
+use Rattle.ca_records.proofs.Hashed.{place_in-inserted}
 use Rattle.ca_records.proofs.Steps.{seen, store_of}
 use Rattle.ca_records.proofs.served_records.ServedRecords.enter.Goals as goal
 
@@ -23,7 +24,7 @@ invariant_of-self-2 c =
     let new : record_named (present (seen slots)) c.new.result.state.name ≡ None =
     subst (λ (s : Store). record_named (records_of s) c.new.result.state.name ≡ None) (sym c.self.view_is) (subst (λ (n : List ℕ). record_named (records_of c.args.self.now) n ≡ None) (sym named) c.requires.new) in
     let calm : c.new.result.waiting ≡ [] = ap (λ (q : Record). q.waiting) c.new.ensures in
-    let grown = place_of-inserted (λ k. k.items) c.self.inside.places.entries c.insert.new.self.entries c.args.key c.in-Some.place c.new.result.state.name (c.requires.key ∙ sym named) c.in_ok-insert.ensures.entries in
+    let grown = place_in-inserted (λ k. k.items) c.self.inside.places c.insert.new.self c.args.key c.in-Some.place c.new.result.state.name (c.requires.key ∙ sym named) c.in_ok-insert.ensures.updates in
     let made = enter-step slots _ _ c.self.inside.waiting c.self.inside.rules.items c.self.inside.stamp c.in-Some.place c.index_mut.result.now c.fill-self-inside.result c.new.result (rw c.in-Some.is at c.self.invariant) c.index_mut.ensures.value c.fill-self-inside.ensures.was new calm grown in
     rw c.fill-self-inside.ensures.full made.stored
 
@@ -36,7 +37,7 @@ returns-clause-ok c =
     let new : record_named (present (seen slots)) c.new.result.state.name ≡ None =
     subst (λ (s : Store). record_named (records_of s) c.new.result.state.name ≡ None) (sym c.self.view_is) (subst (λ (n : List ℕ). record_named (records_of c.args.self.now) n ≡ None) (sym named) c.requires.new) in
     let calm : c.new.result.waiting ≡ [] = ap (λ (q : Record). q.waiting) c.new.ensures in
-    let grown = place_of-inserted (λ k. k.items) c.self.inside.places.entries c.insert.new.self.entries c.args.key c.in-Some.place c.new.result.state.name (c.requires.key ∙ sym named) c.in_ok-insert.ensures.entries in
+    let grown = place_in-inserted (λ k. k.items) c.self.inside.places c.insert.new.self c.args.key c.in-Some.place c.new.result.state.name (c.requires.key ∙ sym named) c.in_ok-insert.ensures.updates in
     let made = enter-step slots _ _ c.self.inside.waiting rules_now stamp c.in-Some.place c.index_mut.result.now c.fill-self-inside.result c.new.result (rw c.in-Some.is at c.self.invariant) c.index_mut.ensures.value c.fill-self-inside.ensures.was new calm grown in
     let filled : Enters (store_of slots rules_now stamp) c.in-Some.place c.new.result (store_of (slice_set slots c.in-Some.place c.fill-self-inside.new.self) rules_now stamp) =
     subst (λ (s : Slot). Enters (store_of slots rules_now stamp) c.in-Some.place c.new.result (store_of (slice_set slots c.in-Some.place s) rules_now stamp)) (sym c.fill-self-inside.ensures.full) made.enters in

@@ -2,8 +2,9 @@ use Rattle.std.proofs.Common.{◌≡◌, ◌∙◌, ◌+◌, ◌-◌, ℕ, List,
 use Rattle.std.specs.Str.{bytes_eq}
 use Rattle.ca_text.proofs.Places.{At-within}
 use Rattle.ca_records.specs.declared.slot.Slot.TheVariants.{Full}
-use Rattle.ca_records.specs.Index.{place_of}
-use Rattle.ca_records.proofs.Arrivals.{leave-step, place_of-removed}
+use Rattle.ca_records.specs.Index.{place_in}
+use Rattle.ca_records.proofs.Arrivals.{leave-step}
+use Rattle.ca_records.proofs.Hashed.{place_in-others}
 use Rattle.ca_records.proofs.CallSteps.{waiting-part}
 use Rattle.ca_records.proofs.Steps.{looked}
 use Rattle.ca_records.proofs.served_records.ServedRecords.remove.Goals as goal
@@ -30,9 +31,9 @@ invariant_of-self c =
     let full = looked slots c.in-Some.place found.r c.index.result.now c.record.result.now found.at c.index.ensures c.record.ensures in
     let part = waiting-part slots c.self.inside.free _ c.self.inside.waiting c.in-Some.place c.record.result.now c.self.invariant full in
     let less : (c.self.inside.waiting - c.waits.result) + length c.record.result.now.waiting ≡ c.self.inside.waiting = omega (arith, part, c.waits.ensures) in
-    let gone : place_of (λ k. k.items) c.remove.new.self.entries c.args.name.now ≡ None = c.remove.ensures.updates.1 in
-    let others : (other : List ℕ) → bytes_eq other c.args.name.now ≡ false → place_of (λ k. k.items) c.remove.new.self.entries other ≡ place_of (λ k. k.items) c.self.inside.places.entries other =
-    λ other miss. ap (λ es. place_of (λ k. k.items) es other) c.remove.ensures.entries ∙ place_of-removed (λ k. k.items) c.self.inside.places.entries c.args.name.now other miss in
+    let gone : place_in (λ k. k.items) c.remove.new.self.entries c.args.name.now ≡ None = c.remove.ensures.updates.1 in
+    let others : (other : List ℕ) → bytes_eq other c.args.name.now ≡ false → place_in (λ k. k.items) c.remove.new.self.entries other ≡ place_in (λ k. k.items) c.self.inside.places.entries other =
+    place_in-others (λ k. k.items) c.self.inside.places c.remove.new.self c.args.name.now _ c.remove.ensures.updates in
     let made = leave-step slots c.self.inside.free _ _ c.self.inside.waiting _ c.self.inside.rules.items c.self.inside.stamp c.args.name.now c.in-Some.place c.record.result.now c.self.invariant full found gone others less in
     made.stored
 
@@ -43,8 +44,8 @@ returns c =
     let full = looked slots c.in-Some.place found.r c.index.result.now c.record.result.now found.at c.index.ensures c.record.ensures in
     let part = waiting-part slots c.self.inside.free _ c.self.inside.waiting c.in-Some.place c.record.result.now c.self.invariant full in
     let less : (c.self.inside.waiting - c.waits.result) + length c.record.result.now.waiting ≡ c.self.inside.waiting = omega (arith, part, c.waits.ensures) in
-    let gone : place_of (λ k. k.items) c.remove.new.self.entries c.args.name.now ≡ None = c.remove.ensures.updates.1 in
-    let others : (other : List ℕ) → bytes_eq other c.args.name.now ≡ false → place_of (λ k. k.items) c.remove.new.self.entries other ≡ place_of (λ k. k.items) c.self.inside.places.entries other =
-    λ other miss. ap (λ es. place_of (λ k. k.items) es other) c.remove.ensures.entries ∙ place_of-removed (λ k. k.items) c.self.inside.places.entries c.args.name.now other miss in
+    let gone : place_in (λ k. k.items) c.remove.new.self.entries c.args.name.now ≡ None = c.remove.ensures.updates.1 in
+    let others : (other : List ℕ) → bytes_eq other c.args.name.now ≡ false → place_in (λ k. k.items) c.remove.new.self.entries other ≡ place_in (λ k. k.items) c.self.inside.places.entries other =
+    place_in-others (λ k. k.items) c.self.inside.places c.remove.new.self c.args.name.now _ c.remove.ensures.updates in
     let made = leave-step slots c.self.inside.free _ _ c.self.inside.waiting _ c.self.inside.rules.items c.self.inside.stamp c.args.name.now c.in-Some.place c.record.result.now c.self.invariant full found gone others less in
     rw (← c.self.view_is) made.leaves
