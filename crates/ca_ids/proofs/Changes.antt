@@ -1,13 +1,23 @@
 -- A change to each place of a table, one place after another, and what one change leaves.
-use Rattle.std.proofs.Common.{◌≡◌, ℕ, zero, suc, ◌+◌, ◌<◌, ◌≤◌, [], ◌∷◌, ◌++◌, length, map, drop, Option, Some, None, refl, sym, ap, ◌∙◌, subst, arith, slice_set}
+use Rattle.std.proofs.Common.{◌≡◌, ℕ, zero, suc, ◌+◌, ◌<◌, ◌≤◌, [], ◌∷◌, ◌++◌, length, map, drop, take, List, Bool, Option, Some, None, refl, sym, ap, ◌∙◌, subst, arith, slice_set, filter, option_to_list, append_assoc}
 use Rattle.std.proofs.Math.Numerals.{add-one}
 use Rattle.std.proofs.lemmas.Bool.{eq-eqb}
+use Rattle.std.proofs.lemmas.List.Elements.{filter-append}
 use Rattle.std.proofs.lemmas.List.{append-nil, drop_all, set-get_or, take_all}
 use Rattle.ca_text.proofs.Places.{some_is}
 use Rattle.ca_arena.specs.declared.handle.Handle.{Handle}
 use Rattle.ca_arena.specs.Arena.{Place, blank, place_at}
-use Rattle.ca_ids.specs.Table.{Table, held_at, with_changed, with_freed}
+use Rattle.ca_ids.specs.Table.{Table, held, held_at, held_from, with_changed, with_freed}
 use Rattle.ca_ids.specs.Walks.{walked, with_place}
+
+-- two lists are empty that are together
+no-first : {X : Type 0} (xs ys : List X) → xs ++ ys ≡ [] → xs ≡ []
+no-first [] ys none = refl
+no-first (x ∷ xs) ys none = absurd cc
+
+no-second : {X : Type 0} (xs ys : List X) → xs ++ ys ≡ [] → ys ≡ []
+no-second [] ys none = none
+no-second (x ∷ xs) ys none = absurd cc
 
 module _ {T : Type 0} where
   -- ---- each place in turn
@@ -78,3 +88,42 @@ module _ {T : Type 0} where
       let here : g place.value ≡ Some (f v) = ap g parts.1 ∙ same in
       subst (λ (k : Handle). with_changed f k t ≡ with_place i (λ (p : Place T). record p { value = g p.value }) t) (sym parts.0)
       (rw (eq-eqb place.generation place.generation refl, here, parts.1) refl)
+
+  -- ---- what holds an id, place by place
+
+  held-longer : (t : Table T) (i k : ℕ) → k < length t → held_from i (take (suc k) t) ≡ held_from i (take k t) ++ option_to_list (held_at (i + k) (place_at t k))
+  held-longer [] i k within = absurd (omega arith)
+  held-longer (p ∷ t) i zero within =
+      let here : i ≡ i + 0 = omega arith in
+      append-nil (option_to_list (held_at i p)) ∙ ap (λ (n : ℕ). option_to_list (held_at n p)) here
+  held-longer (p ∷ t) i (suc k) within =
+      let there : (i + 1) + k ≡ i + suc k = omega arith in
+      ap (λ (xs : List (Handle × T)). option_to_list (held_at i p) ++ xs) (held-longer t (i + 1) k (omega arith))
+      ∙ sym (append_assoc (option_to_list (held_at i p)) (held_from (i + 1) (take k t)) (option_to_list (held_at ((i + 1) + k) (place_at t k))))
+      ∙ ap (λ (n : ℕ). (option_to_list (held_at i p) ++ held_from (i + 1) (take k t)) ++ option_to_list (held_at n (place_at t k))) there
+
+  -- the list of what holds an id, with one more place
+  pub held-more : (t : Table T) (k : ℕ) → k < length t → held (take (k + 1) t) ≡ held (take k t) ++ option_to_list (held_at k (place_at t k))
+  held-more t k within =
+      let none : 0 + k ≡ k = omega arith in
+      ap (λ (n : ℕ). held (take n t)) (add-one k) ∙ held-longer t 0 k within
+      ∙ ap (λ (n : ℕ). held (take k t) ++ option_to_list (held_at n (place_at t k))) none
+
+  -- if nothing that holds an id passes a test, nothing at a place does
+  none-from : (test : Handle × T → Bool) (t : Table T) (i k : ℕ) → k < length t → filter test (held_from i t) ≡ [] → filter test (option_to_list (held_at (i + k) (place_at t k))) ≡ []
+  none-from test [] i k within none = absurd (omega arith)
+  none-from test (p ∷ t) i zero within none =
+      let here : i ≡ i + 0 = omega arith in
+      let parts = sym (filter-append test (option_to_list (held_at i p)) (held_from (i + 1) t)) ∙ none in
+      ap (λ (n : ℕ). filter test (option_to_list (held_at n p))) (sym here)
+      ∙ no-first (filter test (option_to_list (held_at i p))) (filter test (held_from (i + 1) t)) parts
+  none-from test (p ∷ t) i (suc k) within none =
+      let there : (i + 1) + k ≡ i + suc k = omega arith in
+      let parts = sym (filter-append test (option_to_list (held_at i p)) (held_from (i + 1) t)) ∙ none in
+      ap (λ (n : ℕ). filter test (option_to_list (held_at n (place_at t k)))) (sym there)
+      ∙ none-from test t (i + 1) k (omega arith) (no-second (filter test (option_to_list (held_at i p))) (filter test (held_from (i + 1) t)) parts)
+
+  pub none-at : (test : Handle × T → Bool) (t : Table T) (k : ℕ) → k < length t → filter test (held t) ≡ [] → filter test (option_to_list (held_at k (place_at t k))) ≡ []
+  none-at test t k within none =
+      let here : 0 + k ≡ k = omega arith in
+      ap (λ (n : ℕ). filter test (option_to_list (held_at n (place_at t k)))) (sym here) ∙ none-from test t 0 k within none
