@@ -1,3 +1,4 @@
 pub mod Forms
 pub mod Sound
 pub mod Codes
+pub mod Ends

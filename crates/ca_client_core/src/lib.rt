@@ -8,7 +8,9 @@ mod channel_state;
 mod circuit;
 mod client;
 mod ends;
+mod input;
 mod opening;
+mod output;
 
 pub use channel_state::ChannelState;
 pub use client::ClientCore;
