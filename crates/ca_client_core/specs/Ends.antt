@@ -5,6 +5,7 @@ use Rattle.ca_text.specs.declared.refusal.Refusal.{Refusal}
 use Rattle.ca_text.specs.declared.refusal.Refusal.TheVariants as refusal
 use Rattle.ca_link.specs.Link.{LinkState, with_given, with_handed, with_sent}
 use Rattle.ca_monitor.specs.ReadRun.{after_read, sent_by_read}
+use Rattle.ca_wire.specs.Fields.{Fields}
 use Rattle.ca_wire.specs.Messages.{bare}
 use Rattle.ca_model.specs.Client.{ClientCircuit, Connection}
 
@@ -40,3 +41,7 @@ GivesOn moment bytes more there _ new = ⊥
 abbrev pub GivesAt : ℕ → List ℕ → Bool → ClientCircuit → Result (Unit {0}) Refusal → ClientCircuit → Type 0
 GivesAt moment bytes more old answer new =
     (there : Option Connection) × GivesOn moment bytes more old.connection answer there × (new ≡ record old { connection = there })
+
+-- the circuit with this message waiting after the others, if it is connected
+abbrev pub queued : Fields → ClientCircuit → ClientCircuit
+queued m d = record d { connection = option_map (λ (e : Connection). record e { link = with_sent (m ∷ []) e.link }) d.connection }

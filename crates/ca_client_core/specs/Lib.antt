@@ -2,3 +2,4 @@ pub mod Forms
 pub mod Sound
 pub mod Codes
 pub mod Ends
+pub mod Calls

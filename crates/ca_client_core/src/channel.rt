@@ -1,8 +1,9 @@
-ghost use Rattle.std.specs.Prelude.{◌≡◌, ◌≤◌};
+ghost use Rattle.std.specs.Prelude.{◌≡◌, ◌≤◌, option_map};
 ghost use Rattle.ca_text.specs.Limits.{channel_name_limit, priority_limit};
 ghost use Rattle.ca_text.specs.Name.{IsName};
-ghost use Rattle.ca_client_core.specs.Forms.{standing_of};
+ghost use Rattle.ca_client_core.specs.Forms.{cleared_in, standing_of};
 ghost use Rattle.ca_model.specs.Client as client;
+ghost use Rattle.ca_model.specs.Client.{standing_unless_cleared};
 
 use ca_arena::Handle;
 use std::marker::Model;
@@ -13,16 +14,6 @@ pub(crate) struct Native {
     pub(crate) sid: u32,
     pub(crate) data_type: u16,
     pub(crate) count: u32,
-}
-
-impl Model for Native {
-    ghost use Rattle.ca_model.specs.Client as client;
-
-    ghost Value = { client.Native };
-
-    ghost view = { λ n. record { sid = n.sid; data_type = n.data_type; count = n.count } };
-
-    ghost inverse = { λ n. record { sid = n.sid; data_type = n.data_type; count = n.count } };
 }
 
 /// How far a channel is on its circuit.
@@ -94,5 +85,32 @@ impl Channel {
         ensures { standing_of result ≡ self.now.standing }
     {
         self.standing
+    }
+
+    /// Whether its caller cleared it.
+    pub(crate) fn is_cleared(&self) -> bool
+        ensures { result ≡ cleared_in self.now.standing }
+    {
+        match self.standing {
+            Standing::Searching => false,
+            Standing::On(_, phase) => match phase {
+                Phase::Connecting => false,
+                Phase::Creating(_) => false,
+                Phase::Live(_, _) => false,
+                Phase::Leaving => false,
+                Phase::Clearing => true,
+                Phase::Doomed => true,
+            },
+        }
+    }
+
+    /// Where it is, until its caller clears it.
+    pub(crate) fn standing_unless_cleared(&self) -> Option<Standing>
+        ensures { option_map standing_of result ≡ standing_unless_cleared self.now.standing }
+    {
+        if self.is_cleared() {
+            return None;
+        }
+        Some(self.standing)
     }
 }

@@ -11,6 +11,8 @@ mod ends;
 mod input;
 mod opening;
 mod output;
+mod queue;
+mod unsubscribing;
 
 pub use channel_state::ChannelState;
 pub use client::ClientCore;
