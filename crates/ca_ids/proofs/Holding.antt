@@ -1,7 +1,7 @@
 -- A table of wire ids by index, as the contents of an arena.
-use Rattle.std.proofs.Common.{◌≡◌, ◌≢◌, ℕ, ◌+◌, ◌-◌, ◌%◌, ◌<◌, ◌≤◌, ◌==◌, ◌&&◌, Bool, true, false, not, leb, List, [], ◌∷◌, ◌++◌, length, Option, Some, None, is_some, find, if◌then◌else◌, option_map, option_to_list, Result, Ok, Err, refl, sym, ap, ◌∙◌, subst, inl, inr, arith, zero, suc, lit≤}
+use Rattle.std.proofs.Common.{◌≡◌, ◌≢◌, ℕ, ◌+◌, ◌-◌, ◌%◌, ◌<◌, ◌≤◌, ◌==◌, ◌&&◌, Bool, true, false, not, leb, List, [], ◌∷◌, ◌++◌, length, Option, Some, None, is_some, find, if◌then◌else◌, option_map, option_to_list, Result, Ok, Err, refl, sym, ap, ◌∙◌, subst, inl, inr, arith, zero, suc, lit≤, max, slice_set, length-set}
 use Rattle.std.proofs.lemmas.Bool.{cases_lt, eq-eqb, ne_eqb, le-leb, lt-leb, le-ltb, lt-ltb}
-use Rattle.std.proofs.lemmas.List.{get_or_past}
+use Rattle.std.proofs.lemmas.List.{get_or_past, length_push}
 use Rattle.std.proofs.lemmas.List.Elements.{All-from_get_or}
 use Rattle.std.proofs.lemmas.List.Folds.{list_any_at, list_any_none}
 use Rattle.std.specs.Prelude.{nat_lt}
@@ -14,7 +14,7 @@ use Rattle.ca_arena.specs.Arena as arena
 use Rattle.ca_arena.specs.Sound.{IsFree, IsListed, IsSound}
 use Rattle.ca_arena.proofs.Places.{IsSound-removed, live_value, value_for-some}
 use Rattle.ca_ids.specs.Wire.{wire_of}
-use Rattle.ca_ids.specs.Table.{MayGive, Table, by_wire, has_free, held_from, is_full, with_changed, with_held}
+use Rattle.ca_ids.specs.Table.{MayGive, Table, by_wire, has_free, held_at, held_from, is_full, with_changed, with_held}
 use Rattle.ca_ids.specs.Holding.{Gives}
 use Rattle.ca_ids.proofs.Wires.{wire_of-index}
 
@@ -200,3 +200,41 @@ module _ {T : Type 0} where
 
   pub changed-written : (a : Contents T) (h : Handle) (old new : T) → arena.find a h ≡ Some old → (written a h new).given ≡ with_changed (λ (v : T). new) h a.given
   changed-written a h old new found = rw found refl
+
+  -- ---- how many indices were given
+
+  pub counted-opened : (a b : Contents T) (value : T) (h : Handle) (places : ℕ) → IsSound a → Inserts a value (Ok h) b → places ≡ length a.given → max places (h.index + 1) ≡ length b.given
+  counted-opened a b value h places sound did counted = by_list a.given a.freed sound (did.1) did.2 counted
+    where
+      by_list : (given : List (Place T)) (freed : List ℕ) → IsSound (record { given = given; freed = freed }) → h ≡ next_handle (record { given = given; freed = freed }) → b ≡ inserted_from given freed value → places ≡ length given → max places (h.index + 1) ≡ length b.given
+      by_list given [] sound is left counted =
+          let index : h.index ≡ length given = ap (λ (k : Handle). k.index) is in
+          let long : length b.given ≡ length (given ++ record { generation = 1; value = Some value } ∷ []) = ap (λ (c : Contents T). length c.given) left in
+          omega (arith, length_push given (record { generation = 1; value = Some value }))
+      by_list given (i ∷ rest) sound is left counted =
+          let index : h.index ≡ i = ap (λ (k : Handle). k.index) is in
+          let within : i < length given = sound.free.0.within in
+          let long : length b.given ≡ length (slice_set given i (record { generation = (place_at given i).generation + 1; value = Some value })) = ap (λ (c : Contents T). length c.given) left in
+          omega (arith, length-set given i (record { generation = (place_at given i).generation + 1; value = Some value }))
+
+  pub counted-freed : (a b : Contents T) (h : Handle) (r : Result T Refusal) → Removes a h r b → length b.given ≡ length a.given
+  counted-freed a b h (Ok value) did =
+      ap (λ (c : Contents T). length c.given) did.1 ∙ length-set a.given h.index (record { generation = h.generation; value = None })
+  counted-freed a b h (Err refusal.StaleHandle) did = ap (λ (c : Contents T). length c.given) did.1
+  counted-freed a b h (Err _) did = absurd did
+
+  -- ---- what holds an id at an index
+
+  pub at-none : (a : Contents T) (index : ℕ) → IsHandleAt a index None → held_at index (place_at a.given index) ≡ None
+  at-none a index none =
+      let place = place_at a.given index in
+      let vacant : arena.value_for place.generation place ≡ None = none (record { index = index; generation = place.generation }) refl in
+      let empty : place.value ≡ None = rw (eq-eqb place.generation place.generation refl) at vacant in
+      ap (λ (o : Option T). option_map (λ (v : T). let h : Handle = record { index = index; generation = place.generation } in (h, v)) o) empty
+
+  pub at-some : (a : Contents T) (index : ℕ) (h : Handle) (v : T) → IsHandleAt a index (Some h) → arena.find a h ≡ Some v → held_at index (place_at a.given index) ≡ Some (h, v)
+  at-some a index h v at found =
+      let known = value_for-some h.generation (place_at a.given h.index) v found in
+      sym (ap (λ (i : ℕ). held_at i (place_at a.given i)) at.0)
+      ∙ ap (λ (g : ℕ). option_map (λ (w : T). let k : Handle = record { index = h.index; generation = g } in (k, w)) (place_at a.given h.index).value) known.0
+      ∙ ap (λ (o : Option T). option_map (λ (w : T). (h, w)) o) known.1

@@ -1,3 +1,4 @@
 pub mod Wires
 mod Walks
+pub mod Changes
 pub mod Holding

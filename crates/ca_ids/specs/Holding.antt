@@ -1,8 +1,10 @@
--- Statement: what the calls of a table of wire ids answer and leave, whose values hold their ids until they are free.
-use Rattle.std.specs.Prelude.{◌≡◌, false, Result, Ok, Err}
+-- Vocabulary: what the calls of a table of wire ids answer and leave, whose values hold their ids until they are free.
+use Rattle.std.specs.Prelude.{ℕ, ◌≡◌, false, length, Result, Ok, Err}
 use Rattle.ca_text.specs.declared.refusal.Refusal.{Refusal}
 use Rattle.ca_text.specs.declared.refusal.Refusal.TheVariants as refusal
 use Rattle.ca_arena.specs.declared.handle.Handle.{Handle}
+use Rattle.ca_arena.specs.Arena.{Contents}
+use Rattle.ca_arena.specs.Sound.{IsSound}
 use Rattle.ca_ids.specs.Table.{IsFull, MayGive, Table, has_free, is_full, with_held}
 
 module _ {T : Type 0} where
@@ -14,3 +16,8 @@ module _ {T : Type 0} where
   Gives old value (Err (back, refusal.OutOfMemory)) new =
       (is_full old ≡ false) × (has_free old ≡ false) × (back ≡ value) × (new ≡ old)
   Gives old value (Err _) new = ⊥
+
+  -- the arena of a table is sound, and so many indices were given
+  pub record IsCounted (a : Contents T) (places : ℕ) : Type 0 where
+    pub sound : IsSound a
+    pub counted : places ≡ length a.given

@@ -4,3 +4,4 @@ pub mod Ids
 pub mod Lending
 pub mod Table
 pub mod Holding
+pub mod Walks

@@ -28,6 +28,10 @@ module _ {T : Type 0} where
   abbrev pub held : Table T → List (Handle × T)
   held t = held_from 0 t
 
+  -- what holds an id at this place of this index
+  abbrev pub held_at : ℕ → Place T → Option (Handle × T)
+  held_at i p = option_map (λ (v : T). (record { index = i; generation = p.generation }, v)) p.value
+
   -- what has this wire id
   abbrev pub by_wire : Table T → ℕ → Option (Handle × T)
   by_wire t id = find (λ (x : Handle × T). wire_of x.0 == id) (held t)

@@ -1,7 +1,8 @@
-ghost use Rattle.std.specs.Prelude.{◌≡◌, [], IsSome, Some, option_copied, option_map};
+ghost use Rattle.std.specs.Prelude.{◌≡◌, ◌<◌, [], IsSome, Some, length, option_copied, option_map};
 ghost use Rattle.std.specs.Option.{option_copied_mut};
 ghost use Rattle.std.specs.Borrow.{sem};
-ghost use Rattle.ca_ids.specs.Table.{by_wire, is_full, under, with_freed};
+ghost use Rattle.ca_arena.specs.Arena.{place_at};
+ghost use Rattle.ca_ids.specs.Table.{by_wire, held_at, is_full, under, with_freed};
 ghost use Rattle.ca_ids.specs.Holding.{Gives};
 
 use crate::wire_id::WireId;
@@ -16,6 +17,8 @@ use std::marker::Model;
 #[derive(Drop)]
 pub struct HeldTable<T> {
     entries: Arena<T>,
+    // How many indices were given.
+    places: usize,
 }
 
 impl<T> Model for HeldTable<T> {
@@ -27,11 +30,11 @@ impl<T> Model for HeldTable<T> {
 
     ghost coded = { coded_list (place_code T.code) };
 
-    ghost use Rattle.ca_arena.specs.Sound.{IsSound};
+    ghost use Rattle.ca_ids.specs.Holding.{IsCounted};
 
     ghost view = { λ t. t.entries.given };
 
-    ghost invariant = { λ t. IsSound t.entries };
+    ghost invariant = { λ t. IsCounted t.entries t.places };
 }
 
 impl<T> HeldTable<T> {
@@ -43,6 +46,29 @@ impl<T> HeldTable<T> {
     {
         HeldTable {
             entries: Arena::new(alloc),
+            places: 0,
+        }
+    }
+
+    /// How many indices were given so far.
+    pub fn places(&self) -> usize
+        ensures { result ≡ length self.now }
+    {
+        self.places
+    }
+
+    /// The value that holds an id of this index, with its handle.
+    pub fn at(&self, index: usize) -> Option<(Handle, &T)>
+        requires { index < length self.now }
+        ensures { option_map (λ e. (e.0, e.1.now)) result
+            ≡ held_at index (place_at self.now index) }
+    {
+        let Some(handle) = self.entries.handle_at(index as u16) else {
+            return None;
+        };
+        match self.entries.get(handle) {
+            Some(value) => Some((handle, value)),
+            None => unreachable!(),
         }
     }
 
@@ -59,7 +85,13 @@ impl<T> HeldTable<T> {
     pub fn open(&mut self, value: T) -> Result<Handle, (T, Refusal)>
         ensures { Gives self.old value result self.new }
     {
-        self.entries.insert(value)
+        match self.entries.insert(value) {
+            Ok(handle) => {
+                self.places = self.places.max(usize::from(handle.index) + 1);
+                Ok(handle)
+            }
+            Err(refused) => Err(refused),
+        }
     }
 
     /// The value that holds the wire id of this handle, unless that is stale.

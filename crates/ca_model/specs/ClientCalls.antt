@@ -201,7 +201,7 @@ event_cancel_sent c sid s d =
 
 -- a subscription to this channel, which stands
 abbrev pub new_subscription : Handle → Shape → (mask : ℕ) → Subscription
-new_subscription h a mask = record { channel = h; data_type = a.data_type; count = a.count; mask = mask; stage = monitor.Stands }
+new_subscription h a mask = monitor.new_subscription h a.data_type a.count mask
 
 -- why a subscription is refused
 abbrev pub subscribe_fault : Client → Handle → Shape → Option Refusal

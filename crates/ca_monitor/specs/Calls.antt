@@ -1,15 +1,10 @@
--- Statement: what the calls on a client's subscriptions answer and leave.
-use Rattle.std.specs.Prelude.{ℕ, ◌≡◌, false, Option, Some, None, Result, Ok, Err}
+-- Vocabulary: what the calls on a client's subscriptions answer and leave.
+use Rattle.std.specs.Prelude.{◌≡◌, false, Option, Some, None, Result, Ok, Err}
 use Rattle.ca_text.specs.declared.refusal.Refusal.{Refusal}
 use Rattle.ca_text.specs.declared.refusal.Refusal.TheVariants as refusal
 use Rattle.ca_arena.specs.declared.handle.Handle.{Handle}
 use Rattle.ca_ids.specs.Table.{IsFull, MayGive, Table, has_free, is_full, with_freed, with_held}
-use Rattle.ca_monitor.specs.Subscriptions.{Stage, Stands, Subscription, standing_under, with_stage}
-
--- a subscription to this channel, which stands
-abbrev pub standing : (channel : Handle) → (data_type count mask : ℕ) → Subscription
-standing channel data_type count mask =
-    record { channel = channel; data_type = data_type; count = count; mask = mask; stage = Stands }
+use Rattle.ca_monitor.specs.Subscriptions.{Stage, Subscription, standing_under, with_stage}
 
 -- From old, this subscription was added, with this answer, and left new. Memory is asked for only where no index may have another id.
 abbrev pub Adds : Table Subscription → Subscription → Result Handle Refusal → Table Subscription → Type 0

@@ -17,6 +17,11 @@ pub record Subscription : Type 0 where
   pub mask : ℕ
   pub stage : Stage
 
+-- a subscription to this channel that begins: it stands
+abbrev pub new_subscription : (channel : Handle) → (data_type count mask : ℕ) → Subscription
+new_subscription channel data_type count mask =
+    record { channel = channel; data_type = data_type; count = count; mask = mask; stage = Stands }
+
 -- a subscription to this channel
 abbrev pub is_to : Handle → Subscription → Bool
 is_to channel s = same_handle s.channel channel

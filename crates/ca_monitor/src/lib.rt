@@ -1,6 +1,7 @@
 //! A client's subscriptions: which are there, whose wire ids drain, and when the client asks for a pause of updates.
 #![tactic(auto)]
 
+mod drops;
 mod monitors;
 mod read_run;
 mod stage;

@@ -1,16 +1,19 @@
-ghost use Rattle.std.specs.Prelude.{◌≡◌, []};
-ghost use Rattle.ca_ids.specs.Table.{is_full, with_freed};
-ghost use Rattle.ca_monitor.specs.Calls.{Adds, Comes, freed_if, standing};
+ghost use Rattle.std.specs.Prelude.{◌≡◌, ◌≢◌, ◌<◌, ◌++◌, [], IfOk, OnErr, OnOk, filter, length, option_to_list};
+ghost use Rattle.ca_arena.specs.Arena.{place_at};
+ghost use Rattle.ca_ids.specs.Table.{held_at, is_full, with_freed};
+ghost use Rattle.ca_monitor.specs.Calls.{Adds, Comes, freed_if};
+ghost use Rattle.ca_monitor.specs.Layout.{is_standing_to};
 ghost use Rattle.ca_monitor.specs.Stages.{stage_of};
-ghost use Rattle.ca_monitor.specs.Subscriptions.{confirmed_by, standing_by, standing_under, with_stage};
+ghost use Rattle.ca_monitor.specs.Subscriptions.{channel_drained, channel_gone, channel_over, circuit_gone, confirmed_by, new_subscription, standing_by, standing_to, standing_under, with_stage};
 ghost use Rattle.ca_monitor.specs.Subscriptions as monitor;
 
+use crate::drops::{Which, end_all, free_all};
 use crate::stage::Stage;
 use crate::subscription::Subscription;
 use ca_arena::Handle;
 use ca_ids::{HeldTable, WireId};
 use ca_text::Refusal;
-use std::alloc::Global;
+use std::alloc::{AllocError, Global};
 use std::marker::Model;
 
 /// A client's subscriptions, by their handles and by their wire ids.
@@ -55,7 +58,7 @@ impl Monitors {
         count: u32,
         mask: u16,
     ) -> Result<Handle, Refusal>
-        ensures { Adds self.old (standing channel data_type count mask) result self.new }
+        ensures { Adds self.old (new_subscription channel data_type count mask) result self.new }
     {
         let added = Subscription {
             channel,
@@ -149,4 +152,81 @@ impl Monitors {
             _ => None,
         }
     }
+
+    /// The subscriptions to this channel that stand, in order of index. It takes memory only if there is one.
+    pub fn standing_to(
+        &self,
+        alloc: Global,
+        channel: Handle,
+    ) -> Result<Vec<(Handle, Subscription)>, AllocError>
+        ensures ok { IfOk result (λ found. found.items ≡ standing_to channel self.now) }
+        ensures some { OnErr result (standing_to channel self.now ≢ []) }
+    {
+        let mut found = Vec::new(alloc);
+        let places = self.table.places();
+        for index in 0..places {
+            note(&self.table, index, channel, &mut found)?;
+        }
+        Ok(found)
+    }
+
+    /// The subscriptions to this channel are over, and their ids drain on this circuit until its clear's reply. It takes no
+    /// memory.
+    pub fn end_channel(&mut self, circuit: Handle, channel: Handle)
+        ensures { self.new ≡ channel_over circuit channel self.old }
+    {
+        end_all(&mut self.table, circuit, channel);
+    }
+
+    /// The ids of this channel's subscriptions are free. It takes no memory.
+    pub fn free_channel(&mut self, channel: Handle)
+        ensures { self.new ≡ channel_gone channel self.old }
+    {
+        free_all(&mut self.table, Which::ToChannel(channel));
+    }
+
+    /// The ids of this channel's subscriptions that drain on this circuit are free. It takes no memory.
+    pub fn drained(&mut self, circuit: Handle, channel: Handle)
+        ensures { self.new ≡ channel_drained circuit channel self.old }
+    {
+        free_all(&mut self.table, Which::DrainingTo(channel, circuit));
+    }
+
+    /// The ids that drain on this circuit are free. It takes no memory.
+    pub fn free_circuit(&mut self, circuit: Handle)
+        ensures { self.new ≡ circuit_gone circuit self.old }
+    {
+        free_all(&mut self.table, Which::DrainingOn(circuit));
+    }
+}
+
+// Puts the subscription at this index after what was found, if it is to this channel and stands.
+fn note(
+    table: &HeldTable<Subscription>,
+    index: usize,
+    channel: Handle,
+    found: &mut Vec<(Handle, Subscription)>,
+) -> Result<(), AllocError>
+    requires { index < length table.now }
+    ensures ok { OnOk result (found.new.items
+        ≡ found.old.items
+        ++ filter
+        (is_standing_to channel)
+        (option_to_list (held_at index (place_at table.now index)))) }
+    ensures err { OnErr result (filter
+        (is_standing_to channel)
+        (option_to_list (held_at index (place_at table.now index)))
+        ≢ []) }
+{
+    let Some((handle, subscription)) = table.at(index) else {
+        return Ok(());
+    };
+    if !subscription.is_to(channel) {
+        return Ok(());
+    }
+    if !subscription.stage.stands() {
+        return Ok(());
+    }
+    found.push((handle, *subscription))?;
+    Ok(())
 }

@@ -1,6 +1,7 @@
 ghost use Rattle.std.specs.Prelude.{◌≡◌};
 ghost use Rattle.ca_monitor.specs.Stages.{stage_of};
-ghost use Rattle.ca_monitor.specs.Subscriptions.{is_cancelled_in, stands_in};
+ghost use Rattle.ca_ids.specs.Table.{same_handle};
+ghost use Rattle.ca_monitor.specs.Subscriptions.{drains_in, is_cancelled_in, stage_over, stands_in};
 
 use ca_arena::Handle;
 
@@ -33,9 +34,37 @@ impl Stage {
     {
         match self {
             Stage::Stands => false,
-            Stage::Cancelled(on) => on.index == circuit.index
-                && on.generation == circuit.generation,
+            Stage::Cancelled(on) => is_same(on, circuit),
             Stage::Ended(_) => false,
         }
     }
+
+    /// Whether the id drains on this circuit.
+    pub fn drains_in(self, circuit: Handle) -> bool
+        ensures { result ≡ drains_in circuit (stage_of self) }
+    {
+        match self {
+            Stage::Stands => false,
+            Stage::Cancelled(on) => is_same(on, circuit),
+            Stage::Ended(on) => is_same(on, circuit),
+        }
+    }
+
+    /// The stage once the channel is cleared on this circuit: what stood is over.
+    pub fn over(self, circuit: Handle) -> Stage
+        ensures { stage_of result ≡ stage_over circuit (stage_of self) }
+    {
+        match self {
+            Stage::Stands => Stage::Ended(circuit),
+            Stage::Cancelled(on) => Stage::Cancelled(on),
+            Stage::Ended(on) => Stage::Ended(on),
+        }
+    }
+}
+
+// Whether both are one handle.
+pub(crate) fn is_same(a: Handle, b: Handle) -> bool
+    ensures { result ≡ same_handle a b }
+{
+    a.index == b.index && a.generation == b.generation
 }

@@ -1,6 +1,7 @@
 ghost use Rattle.std.specs.Prelude.{◌≡◌};
+ghost use Rattle.ca_monitor.specs.Subscriptions.{is_to};
 
-use crate::stage::Stage;
+use crate::stage::{Stage, is_same};
 use ca_arena::Handle;
 use std::marker::Model;
 
@@ -50,4 +51,13 @@ impl Model for Subscription {
       mask = s.mask;
       stage = stage;
     }) (stage_again s.stage) };
+}
+
+impl Subscription {
+    /// Whether it is to this channel.
+    pub fn is_to(&self, channel: Handle) -> bool
+        ensures { result ≡ is_to channel self.now }
+    {
+        is_same(self.channel, channel)
+    }
 }

@@ -1,2 +1,5 @@
 pub mod Meaning
 pub mod Requests
+pub mod Calls
+pub mod Forms
+pub mod Layout

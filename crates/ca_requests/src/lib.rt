@@ -1,2 +1,13 @@
-//! A client's requests: which are open, whose wire ids drain, and what a message means for one.
+//! A client's requests: what was asked under which IOID, in order of issue, and what a reply means to a request.
 #![tactic(auto)]
+
+mod asked;
+mod drops;
+mod outcome;
+mod request;
+mod requests;
+
+pub use asked::{Asked, Stage};
+pub use outcome::{image_outcome, status_outcome};
+pub use request::Request;
+pub use requests::Requests;

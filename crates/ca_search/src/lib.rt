@@ -8,5 +8,6 @@ mod search;
 mod searcher;
 
 pub use laws::searches_double;
+pub use place::Place;
 pub use search::Search;
 pub use searcher::Searcher;

@@ -11,7 +11,7 @@ use std::marker::Model;
 
 /// A channel's name, and its clock, which a paused one has not.
 #[derive(Debug, Drop)]
-pub(crate) struct Place {
+pub struct Place {
     name: Vec<u8>,
     clock: Option<SearchClock>,
 }
@@ -30,7 +30,7 @@ impl Model for Place {
 
 impl Place {
     /// Of a channel that is searched from now on.
-    pub(crate) fn new(name: Vec<u8>, now: u64) -> Place
+    pub fn new(name: Vec<u8>, now: u64) -> Place
         requires { IsName channel_name_limit name.items }
         ensures { result ≡ record { name = name.items; clock = Some (fresh now) } }
     {
@@ -41,7 +41,7 @@ impl Place {
     }
 
     /// Whether a search is due.
-    pub(crate) fn is_due(&self, now: u64) -> bool
+    pub fn is_due(&self, now: u64) -> bool
         ensures { result ≡ is_due now self.now }
     {
         match &self.clock {
@@ -51,7 +51,7 @@ impl Place {
     }
 
     /// The search for this channel.
-    pub(crate) fn search(&self, alloc: Global, cid: u32) -> Result<Search, AllocError>
+    pub fn search(&self, alloc: Global, cid: u32) -> Result<Search, AllocError>
         ensures { IfOk result (λ s. s ≡ wanted (cid, self.now)) }
     {
         let name = Vec::from_slice(alloc, &self.name)?;
@@ -59,21 +59,21 @@ impl Place {
     }
 
     /// The channel was found.
-    pub(crate) fn pause(&mut self)
+    pub fn pause(&mut self)
         ensures { self.new ≡ paused self.old }
     {
         self.clock = None;
     }
 
     /// The channel is searched again.
-    pub(crate) fn resume(&mut self, now: u64)
+    pub fn resume(&mut self, now: u64)
         ensures { self.new ≡ resumed now self.old }
     {
         self.clock = Some(SearchClock::new(now));
     }
 
     /// Begins anew, unless the channel is paused.
-    pub(crate) fn boost(&mut self, now: u64)
+    pub fn boost(&mut self, now: u64)
         ensures { self.new ≡ boosted now self.old }
     {
         if self.clock.is_some() {
@@ -82,7 +82,7 @@ impl Place {
     }
 
     /// Counts the search that is made now, where one is due.
-    pub(crate) fn pass(&mut self, now: u64)
+    pub fn pass(&mut self, now: u64)
         ensures { self.new ≡ passed now self.old }
     {
         if let Some(clock) = &mut self.clock {

@@ -1,0 +1,47 @@
+-- Working: what waits on one circuit, and what is left of it. No clause of a caller needs it.
+use Rattle.std.specs.Prelude.{ℕ, ◌≡◌, ◌≢◌, ◌⊎◌, Bool, List, [], ◌∷◌, Option, Some, None, Result, Ok, Err, option_map, unwrap_or}
+use Rattle.ca_text.specs.declared.command.Command.{Command}
+use Rattle.ca_text.specs.declared.refusal.Refusal.{Refusal}
+use Rattle.ca_text.specs.declared.refusal.Refusal.TheVariants as refusal
+use Rattle.ca_link.specs.Link.{LinkState, with_given, with_handed, with_sent}
+use Rattle.ca_monitor.specs.ReadRun.{after_read, sent_by_read}
+use Rattle.ca_wire.specs.Fields.{Fields}
+use Rattle.ca_wire.specs.Messages.{bare}
+use Rattle.ca_model.specs.Client.{ClientCircuit, Connection}
+
+-- the bytes that wait on a circuit
+abbrev pub waiting_in : ClientCircuit → List ℕ
+waiting_in d = unwrap_or (option_map (λ (e : Connection). e.link.output) d.connection) []
+
+-- the circuit of whose bytes the first n were handed over
+abbrev pub handed : ℕ → ClientCircuit → ClientCircuit
+handed n d = record d { connection = option_map (λ (e : Connection). record e { link = with_handed n e.link }) d.connection }
+
+-- the link, with this command waiting after the others, if there is one
+abbrev pub with_command : Option Command → LinkState → LinkState
+with_command None l = l
+with_command (Some k) l = with_sent (bare k ∷ []) l
+
+-- an end to which these bytes came at this moment, while more wait or none
+abbrev pub read_given : ℕ → List ℕ → Bool → Connection → Connection
+read_given moment bytes more e = record {
+  link = with_command (sent_by_read more e.run) (with_given moment bytes e.link);
+  run = after_read more e.run;
+}
+
+-- a read of an end, or of none
+abbrev pub GivesOn : ℕ → List ℕ → Bool → Option Connection → Result (Unit {0}) Refusal → Option Connection → Type 0
+GivesOn moment bytes more None (Err refusal.CircuitClosed) new = new ≡ None
+GivesOn moment bytes more (Some e) (Ok _) new = new ≡ Some (read_given moment bytes more e)
+GivesOn moment bytes more (Some e) (Err refusal.OutOfMemory) new =
+    ((bytes ≢ []) ⊎ (sent_by_read more e.run ≢ None)) × (new ≡ Some e)
+GivesOn moment bytes more there _ new = ⊥
+
+-- a read on a circuit
+abbrev pub GivesAt : ℕ → List ℕ → Bool → ClientCircuit → Result (Unit {0}) Refusal → ClientCircuit → Type 0
+GivesAt moment bytes more old answer new =
+    (there : Option Connection) × GivesOn moment bytes more old.connection answer there × (new ≡ record old { connection = there })
+
+-- the circuit with this message waiting after the others, if it is connected
+abbrev pub queued : Fields → ClientCircuit → ClientCircuit
+queued m d = record d { connection = option_map (λ (e : Connection). record e { link = with_sent (m ∷ []) e.link }) d.connection }

@@ -1,0 +1,5 @@
+pub mod Forms
+pub mod Sound
+pub mod Codes
+pub mod Ends
+pub mod Calls

@@ -1,0 +1,21 @@
+-- Working: what holds of the parts of a client. No clause of a caller needs it.
+use Rattle.std.specs.Prelude.{ℕ, ◌≡◌, ◌<◌, List, Some}
+use Rattle.std.specs.List.{AllByRecursion}
+use Rattle.ca_text.specs.Limits.{arena_slots}
+use Rattle.ca_arena.specs.declared.handle.Handle.{Handle}
+use Rattle.ca_ids.specs.Table.{Table, under}
+use Rattle.ca_ids.specs.Wire.{wire_of}
+use Rattle.ca_model.specs.Client.{Channel}
+use Rattle.ca_search.specs.Searches as search
+
+-- a channel has this CID
+pub record HasCid (channels : Table Channel) (cid : ℕ) : Type 0 where
+  pub handle : Handle
+  pub channel : Channel
+  pub found : under channels handle ≡ Some channel
+  pub slot : handle.index < arena_slots
+  pub wire : wire_of handle ≡ cid
+
+-- what is searched for is a channel
+pub record IsClient (channels : Table Channel) (searches : List (ℕ × search.Channel)) : Type 0 where
+  pub searched : AllByRecursion (λ (e : ℕ × search.Channel). HasCid channels e.0) searches

@@ -1,0 +1,116 @@
+ghost use Rattle.std.specs.Prelude.{◌≡◌, ◌≤◌, option_map};
+ghost use Rattle.ca_text.specs.Limits.{channel_name_limit, priority_limit};
+ghost use Rattle.ca_text.specs.Name.{IsName};
+ghost use Rattle.ca_client_core.specs.Forms.{cleared_in, standing_of};
+ghost use Rattle.ca_model.specs.Client as client;
+ghost use Rattle.ca_model.specs.Client.{standing_unless_cleared};
+
+use ca_arena::Handle;
+use std::marker::Model;
+
+/// What the reply to a CREATE_CHAN says of a channel: its SID, its native type and its greatest count.
+#[derive(Clone, Copy, Debug, PartialEq, Eq)]
+pub(crate) struct Native {
+    pub(crate) sid: u32,
+    pub(crate) data_type: u16,
+    pub(crate) count: u32,
+}
+
+/// How far a channel is on its circuit.
+#[derive(Clone, Copy, Debug, PartialEq, Eq)]
+pub(crate) enum Phase {
+    /// It waits for the circuit to be connected.
+    Connecting,
+    /// It is being created, with the access rights that came so far.
+    Creating(u32),
+    /// It is live, with the access rights that came last.
+    Live(Native, u32),
+    /// Its record was removed, and its clear is not answered.
+    Leaving,
+    /// Its caller cleared it, and the clear is not answered.
+    Clearing,
+    /// Its caller cleared it while it was being created.
+    Doomed,
+}
+
+/// A channel is searched for, or it is on a circuit.
+#[derive(Clone, Copy, Debug, PartialEq, Eq)]
+pub(crate) enum Standing {
+    Searching,
+    On(Handle, Phase),
+}
+
+/// A channel as its caller opened it, and where it is.
+#[derive(Debug, Drop)]
+pub(crate) struct Channel {
+    name: Vec<u8>,
+    priority: u16,
+    standing: Standing,
+}
+
+impl Model for Channel {
+    ghost use Rattle.ca_model.specs.Client as client;
+
+    ghost Value = { client.Channel };
+
+    ghost use Rattle.std.specs.Prelude.{◌≤◌};
+    ghost use Rattle.ca_text.specs.Limits.{channel_name_limit, priority_limit};
+    ghost use Rattle.ca_text.specs.Name.{IsName};
+    ghost use Rattle.ca_client_core.specs.Forms.{standing_of};
+
+    ghost view = { λ c.
+        record { name = c.name.items; priority = c.priority; standing = standing_of c.standing } };
+
+    ghost invariant = { λ c.
+        IsName channel_name_limit c.name.items × (c.priority ≤ priority_limit) };
+}
+
+impl Channel {
+    /// One that is searched for.
+    pub(crate) fn new(name: Vec<u8>, priority: u16) -> Channel
+        requires name { IsName channel_name_limit name.items }
+        requires priority { priority ≤ priority_limit }
+        ensures { result
+            ≡ record { name = name.items; priority = priority; standing = client.Searching } }
+    {
+        Channel {
+            name,
+            priority,
+            standing: Standing::Searching,
+        }
+    }
+
+    /// Where it is.
+    pub(crate) fn standing(&self) -> Standing
+        ensures { standing_of result ≡ self.now.standing }
+    {
+        self.standing
+    }
+
+    /// Whether its caller cleared it.
+    pub(crate) fn is_cleared(&self) -> bool
+        ensures { result ≡ cleared_in self.now.standing }
+    {
+        match self.standing {
+            Standing::Searching => false,
+            Standing::On(_, phase) => match phase {
+                Phase::Connecting => false,
+                Phase::Creating(_) => false,
+                Phase::Live(_, _) => false,
+                Phase::Leaving => false,
+                Phase::Clearing => true,
+                Phase::Doomed => true,
+            },
+        }
+    }
+
+    /// Where it is, until its caller clears it.
+    pub(crate) fn standing_unless_cleared(&self) -> Option<Standing>
+        ensures { option_map standing_of result ≡ standing_unless_cleared self.now.standing }
+    {
+        if self.is_cleared() {
+            return None;
+        }
+        Some(self.standing)
+    }
+}

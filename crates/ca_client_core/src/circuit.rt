@@ -1,0 +1,46 @@
+use crate::ends::Address;
+use ca_link::Link;
+use ca_monitor::ReadRun;
+use std::marker::Model;
+
+/// The client's end of a connected circuit: its bytes, and its reads in a row.
+#[derive(Debug, Drop)]
+pub(crate) struct Connection {
+    pub(crate) link: Link,
+    pub(crate) run: ReadRun,
+}
+
+impl Model for Connection {
+    ghost use Rattle.ca_model.specs.Client as client;
+
+    ghost Value = { client.Connection };
+
+    ghost use Rattle.std.specs.Prelude.{◌≡◌, false};
+
+    ghost view = { λ c. record { link = c.link; run = c.run } };
+
+    // No bad header was met: the end ends at once then.
+    ghost invariant = { λ c. c.link.input.closed ≡ false };
+}
+
+/// A circuit to an address, under a priority: it is a name server's, or channels want it. It has an end once it is connected.
+#[derive(Debug, Drop)]
+pub(crate) struct Circuit {
+    pub(crate) address: Address,
+    pub(crate) priority: u16,
+    pub(crate) is_name: bool,
+    pub(crate) connection: Option<Connection>,
+}
+
+impl Model for Circuit {
+    ghost use Rattle.ca_model.specs.Client as client;
+
+    ghost Value = { client.ClientCircuit };
+
+    ghost view = { λ c. record {
+      address = c.address;
+      priority = c.priority;
+      is_name = c.is_name;
+      connection = c.connection;
+    } };
+}

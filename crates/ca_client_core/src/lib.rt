@@ -1,0 +1,19 @@
+//! The client's end of Channel Access: channels, requests and subscriptions over many circuits, with no input and no output of its own.
+//!
+//! A caller moves the bytes, and gives the moment. What is reported comes as answers of the calls.
+#![tactic(auto)]
+
+mod channel;
+mod channel_state;
+mod circuit;
+mod client;
+mod ends;
+mod input;
+mod opening;
+mod output;
+mod queue;
+mod unsubscribing;
+
+pub use channel_state::ChannelState;
+pub use client::ClientCore;
+pub use ends::Address;

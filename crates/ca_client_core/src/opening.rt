@@ -1,0 +1,46 @@
+ghost use Rattle.std.specs.Prelude.{[]};
+ghost use Rattle.ca_model.specs.ClientCalls.{ClientOpens};
+
+use crate::channel::Channel;
+use crate::client::ClientCore;
+use ca_arena::Handle;
+use ca_ids::WireId;
+use ca_search::Place;
+use ca_text::{ChannelName, PRIORITY_LIMIT, Refusal};
+
+impl ClientCore {
+    /// Opens a channel of this name, which is searched for from now on; its circuit is to have this priority.
+    ///
+    /// Refused by 12 if this is no name, by 25 for a priority over 99, by 9 if no CID may be given, then by 1.
+    pub fn open(&mut self, name: &[u8], priority: u16, now: u64) -> Result<Handle, Refusal>
+        ensures { ClientOpens
+            self.old
+            (record { name = name.now; priority = priority; now = now })
+            result
+            []
+            self.new }
+    {
+        let name = ChannelName::read(name)?;
+        if priority > PRIORITY_LIMIT {
+            return Err(Refusal::BadPriority);
+        }
+        if self.channels.is_full() {
+            return Err(Refusal::ArenaFull);
+        }
+        let own = Vec::from_slice(self.alloc, name.bytes())?;
+        let searched = Vec::from_slice(self.alloc, name.bytes())?;
+        self.searches.reserve(1)?;
+        let handle = match self.channels.open(Channel::new(own, priority)) {
+            Ok(handle) => handle,
+            Err((_, refusal)) => return Err(refusal),
+        };
+        let moment = self.moment.max(now);
+        let cid = WireId::of(handle).number();
+        match self.searches.insert(cid, Place::new(searched, moment)) {
+            Ok(_) => {}
+            Err(_) => unreachable!(),
+        }
+        self.moment = moment;
+        Ok(handle)
+    }
+}

@@ -1,0 +1,77 @@
+ghost use Rattle.std.specs.Prelude.{◌≡◌, ◌∷◌, [], OnErr, OnOk, option_map};
+ghost use Rattle.ca_link.specs.Link.{with_sent};
+ghost use Rattle.ca_model.specs.Client.{on_connection, standing_at};
+ghost use Rattle.ca_model.specs.ClientCalls.{is_over};
+ghost use Rattle.ca_client_core.specs.Ends.{queued};
+ghost use Rattle.ca_client_core.specs.Forms.{standing_of};
+
+use crate::channel::Standing;
+use crate::circuit::{Circuit, Connection};
+use crate::client::ClientCore;
+use ca_arena::Handle;
+use ca_text::OUTPUT_LIMIT;
+use ca_wire::Message;
+use std::alloc::AllocError;
+
+impl ClientCore {
+    // Where the channel of this handle is; a stale handle names none.
+    pub(crate) fn standing(&self, channel: Handle) -> Option<Standing>
+        ensures { option_map standing_of result ≡ standing_at self.now channel }
+    {
+        match self.channels.by_handle(channel) {
+            Some(found) => found.standing_unless_cleared(),
+            None => None,
+        }
+    }
+
+    // Whether as many bytes wait on a circuit as may, so that no message of a caller is queued.
+    pub(crate) fn is_over(&self, circuit: Handle) -> bool
+        ensures { result ≡ is_over self.now circuit }
+    {
+        self.out_bytes(circuit).len() >= OUTPUT_LIMIT
+    }
+
+    // Puts a message after what waits on a circuit that is connected.
+    pub(crate) fn queue(&mut self, circuit: Handle, message: &Message) -> Result<(), AllocError>
+        ensures ok { OnOk result (self.new
+            ≡ on_connection
+            (λ e. record e { link = with_sent (message.now ∷ []) e.link })
+            circuit
+            self.old) }
+        ensures err { OnErr result (self.new ≡ self.old) }
+    {
+        let Some(found) = self.circuits.by_handle_mut(circuit) else {
+            return Ok(());
+        };
+        found.queue(message)?;
+        Ok(())
+    }
+}
+
+impl Circuit {
+    // Puts a message after what waits, if it is connected.
+    fn queue(&mut self, message: &Message) -> Result<(), AllocError>
+        ensures ok { OnOk result (self.new ≡ queued message.now self.old) }
+        ensures err { OnErr result (self.new ≡ self.old) }
+    {
+        let Some(connection) = &mut self.connection else {
+            return Ok(());
+        };
+        connection.queue(message)?;
+        Ok(())
+    }
+}
+
+impl Connection {
+    // Puts a message after what waits.
+    fn queue(&mut self, message: &Message) -> Result<(), AllocError>
+        ensures ok { OnOk result (self.new
+            ≡ record self.old { link = with_sent (message.now ∷ []) self.old.link }) }
+        ensures err { OnErr result (self.new ≡ self.old) }
+    {
+        if self.link.queue_own(message).is_err() {
+            return Err(AllocError);
+        }
+        Ok(())
+    }
+}

@@ -1,0 +1,24 @@
+use Rattle.std.proofs.Common.{◌≡◌, ◌++◌, ◌∷◌, [], ◌∙◌, List, Ok, ap, refl, subst}
+use Rattle.ca_arena.specs.declared.handle.Handle.{Handle}
+use Rattle.ca_requests.specs.Calls.{Issued, Issues, new_request}
+use Rattle.ca_requests.specs.Forms.{asked_of}
+use Rattle.ca_requests.specs.Layout.{issued_of}
+use Rattle.ca_requests.proofs.Orders.{issues, issues-given}
+use Rattle.ca_requests.proofs.requests.Requests.issue.Goals as goal
+
+pub invariant_of-self-in-Ok : goal.invariant_of-self-in-Ok
+invariant_of-self-in-Ok c =
+    let listed = c.self-2.inside.listed.items in
+    let q = c.in-Ok.handle in
+    let r = new_request c.args.channel c.args.circuit (asked_of c.args.asked) in
+    let is : c.push_reserved.new.self.items ≡ listed ++ q ∷ [] = c.push_reserved.ensures.items ∙ ap (λ (xs : List Handle). xs ++ q ∷ []) c.reserve.ensures.items in
+    issues-given c.self-2.inside.table c.open.new.self listed c.push_reserved.new.self.items r q c.self-2.invariant c.in-Ok.ensures is
+
+pub returns-in-Ok : goal.returns-in-Ok
+returns-in-Ok c =
+    let listed = c.self-2.inside.listed.items in
+    let q = c.in-Ok.handle in
+    let r = new_request c.args.channel c.args.circuit (asked_of c.args.asked) in
+    let is : c.push_reserved.new.self.items ≡ listed ++ q ∷ [] = c.push_reserved.ensures.items ∙ ap (λ (xs : List Handle). xs ++ q ∷ []) c.reserve.ensures.items in
+    subst (λ (x : Issued). Issues x r (Ok q) (issued_of c.open.new.self c.push_reserved.new.self.items)) (c.self-2.view_is ∙ c.tidy.ensures)
+    (issues c.self-2.inside.table c.open.new.self listed c.push_reserved.new.self.items r q c.self-2.invariant refl c.in-Ok.ensures is)

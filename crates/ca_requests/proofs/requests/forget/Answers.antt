@@ -1,0 +1,8 @@
+use Rattle.std.proofs.Common.{rules}
+use Rattle.std.proofs.lemmas.Fn.{filter_same}
+use Rattle.ca_requests.specs.Requests.{is_open}
+use Rattle.ca_requests.proofs.Tables.{any}
+use Rattle.ca_requests.proofs.requests.forget.Goals as goal
+
+pub returns : goal.returns
+returns c = filter_same _ (is_open any c.args.table.now) _ (λ x b f' k. search rules) _ _ c.retain.ensures.filtered

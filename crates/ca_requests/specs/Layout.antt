@@ -1,0 +1,35 @@
+-- Working: what the fields of a client's requests stand for, and what is done to each of them. No clause of a caller needs it.
+use Rattle.std.specs.Prelude.{◌≤◌, Bool, true, List, option_map}
+use Rattle.std.specs.List.{AllByRecursion}
+use Rattle.ca_arena.specs.declared.handle.Handle.{Handle}
+use Rattle.ca_arena.specs.Arena.{Place, place_at}
+use Rattle.ca_ids.specs.Table.{Table, kept_of}
+use Rattle.ca_requests.specs.declared.drops.Which.{Which}
+use Rattle.ca_requests.specs.declared.drops.Which.TheVariants as which
+use Rattle.ca_requests.specs.Calls.{Issued}
+use Rattle.ca_requests.specs.Requests.{Request, asks_on, in_order_of_issue, over_on, was_sent_on}
+
+-- those of the listed handles that are open, in their order
+abbrev pub issued_of : Table Request → List Handle → Issued
+issued_of table listed = record { table = table; order = in_order_of_issue (λ (q : Request). true) table listed }
+
+-- the handle was given
+abbrev pub WasGiven : Table Request → Handle → Type 0
+WasGiven t h = h.generation ≤ (place_at t h.index).generation
+
+-- all that is listed was given
+abbrev pub AreGiven : Table Request → List Handle → Type 0
+AreGiven t listed = AllByRecursion (WasGiven t) listed
+
+-- the requests that are meant
+abbrev pub named : Which → Request → Bool
+named (which.OnChannel channel) = asks_on channel
+named (which.OnCircuit circuit) = was_sent_on circuit
+
+-- a place whose id is free if the request there is meant
+abbrev pub place_freed : Which → Place Request → Place Request
+place_freed w p = record p { value = kept_of (named w) p.value }
+
+-- a place whose request, if it is on this channel, is over
+abbrev pub place_over : Handle → Place Request → Place Request
+place_over channel p = record p { value = option_map (over_on channel) p.value }

@@ -1,0 +1,78 @@
+//! What ends many requests at once. No memory is asked for: a walk over the table.
+ghost use Rattle.std.specs.Prelude.{◌≡◌, ◌<◌, length};
+ghost use Rattle.ca_ids.specs.Table.{with_all_freed};
+ghost use Rattle.ca_ids.specs.Walks.{with_place};
+ghost use Rattle.ca_requests.specs.Layout.{named, place_freed, place_over};
+ghost use Rattle.ca_requests.specs.Requests.{channel_over};
+
+use crate::asked::Stage;
+use crate::request::Request;
+use ca_arena::Handle;
+use ca_ids::HeldTable;
+
+/// Which requests are meant: those on a channel, or those that were sent on a circuit.
+#[derive(Clone, Copy, Debug, PartialEq, Eq)]
+pub(crate) enum Which {
+    OnChannel(Handle),
+    OnCircuit(Handle),
+}
+
+impl Which {
+    /// Whether this request is meant.
+    pub(crate) fn names(self, request: &Request) -> bool
+        ensures { result ≡ named self request.now }
+    {
+        match self {
+            Which::OnChannel(channel) => request.is_on(channel),
+            Which::OnCircuit(circuit) => request.was_sent_on(circuit),
+        }
+    }
+}
+
+/// The IOIDs of the requests that are meant are free.
+pub(crate) fn free_all(table: &mut HeldTable<Request>, which: Which)
+    ensures { table.new ≡ with_all_freed (named which) table.old }
+{
+    let places = table.places();
+    for index in 0..places {
+        free_at(table, index, which);
+    }
+}
+
+fn free_at(table: &mut HeldTable<Request>, index: usize, which: Which)
+    requires { index < length table.old }
+    ensures { table.new ≡ with_place index (place_freed which) table.old }
+{
+    let Some((handle, request)) = table.at(index) else {
+        return;
+    };
+    if !which.names(request) {
+        return;
+    }
+    let _ = table.free(handle);
+}
+
+/// The requests on this channel are over, and their IOIDs drain.
+pub(crate) fn end_all(table: &mut HeldTable<Request>, channel: Handle)
+    ensures { table.new ≡ channel_over channel table.old }
+{
+    let places = table.places();
+    for index in 0..places {
+        end_at(table, index, channel);
+    }
+}
+
+fn end_at(table: &mut HeldTable<Request>, index: usize, channel: Handle)
+    requires { index < length table.old }
+    ensures { table.new ≡ with_place index (place_over channel) table.old }
+{
+    let Some((handle, request)) = table.at(index) else {
+        return;
+    };
+    if !request.is_on(channel) {
+        return;
+    }
+    if let Some(request) = table.by_handle_mut(handle) {
+        request.stage = Stage::Draining;
+    }
+}

@@ -1,0 +1,44 @@
+ghost use Rattle.std.specs.Prelude.{IfOk, OnErr};
+ghost use Rattle.ca_requests.specs.Meaning.{ImageMeans, StatusMeans};
+ghost use Rattle.ca_requests.specs.Calls.{HasImage};
+
+use ca_dbr::{Outcome, read_value};
+use ca_text::{Refusal, Status};
+use ca_wire::Message;
+use std::alloc::{AllocError, Global};
+
+/// What the reply to a read, or an update, means: with status NORMAL its value, or why the payload has none; else the status.
+///
+/// It takes memory only for a value that has elements.
+pub fn image_outcome(alloc: Global, message: &Message) -> Result<Outcome, AllocError>
+    ensures ok { IfOk result (ImageMeans message.now) }
+    ensures err { OnErr result (HasImage message.now) }
+{
+    let number = message.p1();
+    if number != Status::NORMAL.number {
+        return Ok(Outcome::Failed(Status { number }));
+    }
+    match read_value(
+        alloc,
+        message.data_type(),
+        message.count(),
+        message.payload(),
+    ) {
+        Ok((value, meta)) => Ok(Outcome::Value(value, meta)),
+        Err(refusal) => match refusal {
+            Refusal::OutOfMemory => Err(AllocError),
+            _ => Ok(Outcome::Unreadable(refusal)),
+        },
+    }
+}
+
+/// What the reply to a put with notification means: that it is done, or the status.
+pub fn status_outcome(message: &Message) -> Outcome
+    ensures { StatusMeans message.now result }
+{
+    let number = message.p1();
+    if number != Status::NORMAL.number {
+        return Outcome::Failed(Status { number });
+    }
+    Outcome::Done
+}

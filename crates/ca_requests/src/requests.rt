@@ -1,0 +1,315 @@
+ghost use Rattle.std.specs.Prelude.{◌≡◌, ◌≢◌, ◌≤◌, ◌+◌, ◌<◌, ◌++◌, ◌∷◌, [], if◌then◌else◌, true, IfOk, OnErr, length, vec_capacity, vec_len};
+ghost use Rattle.ca_ids.specs.Table.{is_full, under};
+ghost use Rattle.ca_requests.specs.Calls.{Answers, Issues, failed_in, new_request, open_of, with_table, without, without_if};
+ghost use Rattle.ca_requests.specs.Forms.{asked_of};
+ghost use Rattle.ca_requests.specs.Layout.{named};
+ghost use Rattle.ca_requests.specs.Requests.{answered_by, asks_on, channel_gone, channel_over, circuit_gone, in_order_of_issue, is_open, was_sent_on};
+
+use crate::asked::{Asked, Stage};
+use crate::drops::{Which, end_all, free_all};
+use crate::outcome::{image_outcome, status_outcome};
+use crate::request::Request;
+use ca_arena::Handle;
+use ca_dbr::Outcome;
+use ca_ids::{HeldTable, WireId};
+use ca_text::Refusal;
+use ca_wire::Message;
+use std::alloc::{AllocError, Global};
+use std::marker::Model;
+
+/// A client's requests: by their handles, by their IOIDs, and in order of issue.
+///
+/// Issuing one and answering one cost the same however many are open. What ends many at once goes over all of them.
+#[derive(Drop)]
+pub struct Requests {
+    table: HeldTable<Request>,
+    // All that are open, in order of issue, and some that are over.
+    listed: Vec<Handle>,
+    // How many are listed before those that are over are taken out.
+    limit: usize,
+}
+
+impl Model for Requests {
+    ghost use Rattle.ca_requests.specs.Calls.{Issued};
+
+    ghost Value = { Issued };
+
+    ghost use Rattle.ca_requests.specs.Layout.{AreGiven, issued_of};
+
+    ghost view = { λ r. issued_of r.table r.listed.items };
+
+    ghost invariant = { λ r. AreGiven r.table r.listed.items };
+}
+
+impl Requests {
+    /// No request. It takes no memory yet.
+    pub fn new(alloc: Global) -> Self
+        ensures { result ≡ record { table = []; order = [] } }
+    {
+        Requests {
+            table: HeldTable::new(alloc),
+            listed: Vec::new(alloc),
+            limit: 64,
+        }
+    }
+
+    /// Whether no request can be issued.
+    pub fn is_full(&self) -> bool
+        ensures { result ≡ is_full self.now.table }
+    {
+        self.table.is_full()
+    }
+
+    /// Issues a request on this channel, which is sent on this circuit. It is open from now on.
+    ///
+    /// Refused by 9 if no IOID may be given, then by 1.
+    pub fn issue(
+        &mut self,
+        channel: Handle,
+        circuit: Handle,
+        asked: Asked,
+    ) -> Result<Handle, Refusal>
+        ensures { Issues self.old (new_request channel circuit (asked_of asked)) result self.new }
+    {
+        if self.table.is_full() {
+            return Err(Refusal::ArenaFull);
+        }
+        self.tidy();
+        if self.listed.reserve(1).is_err() {
+            return Err(Refusal::OutOfMemory);
+        }
+        let request = Request {
+            channel,
+            circuit,
+            asked,
+            stage: Stage::Open,
+        };
+        match self.table.open(request) {
+            Ok(handle) => {
+                self.listed.push_reserved(handle);
+                Ok(handle)
+            }
+            Err((_, refusal)) => Err(refusal),
+        }
+    }
+
+    // Takes those that are over out of the list once it is long.
+    fn tidy(&mut self)
+        ensures { self.new ≡ self.old }
+    {
+        if self.listed.len() < self.limit {
+            return;
+        }
+        forget(&mut self.listed, &self.table);
+        self.limit = self.listed.len().saturating_mul(2).max(64);
+    }
+
+    /// The request of this handle, while it holds its IOID.
+    pub fn by_handle(&self, handle: Handle) -> Option<Request>
+        ensures { result ≡ under self.now.table handle }
+    {
+        self.table.by_handle(handle).copied()
+    }
+
+    // The request that a reply of this command and IOID on this circuit is about.
+    fn answered(&self, circuit: Handle, command: u16, ioid: u32) -> Option<(Handle, Request)>
+        ensures { result ≡ answered_by circuit command ioid self.now.table }
+    {
+        match self.table.by_wire(WireId::new(ioid)) {
+            Some((handle, request))
+                if request.was_sent_on(circuit) && request.asked.command().number() == command => {
+                Some((handle, *request))
+            }
+            _ => None,
+        }
+    }
+
+    /// A reply was read on this circuit: the open request that it completes, with its outcome. The IOID is free then, also
+    /// if it drained.
+    ///
+    /// Only a value takes memory; want of it changes nothing.
+    pub fn answer(
+        &mut self,
+        circuit: Handle,
+        message: &Message,
+    ) -> Result<Option<(Handle, Outcome)>, AllocError>
+        ensures { Answers self.old circuit message.now result self.new }
+    {
+        let Some((handle, request)) = self.answered(circuit, message.command(), message.p2()) else {
+            return Ok(None);
+        };
+        if !request.is_open() {
+            self.free(handle);
+            return Ok(None);
+        }
+        let outcome = match request.asked {
+            Asked::Read(_, _) => image_outcome(*self.listed.allocator(), message)?,
+            Asked::Put => status_outcome(message),
+        };
+        self.free(handle);
+        Ok(Some((handle, outcome)))
+    }
+
+    /// An ERROR was read on this circuit that quotes a header of this command and id: the open request that failed. Its IOID
+    /// is free then.
+    pub fn failed(&mut self, circuit: Handle, command: u16, ioid: u32) -> Option<Handle>
+        ensures about { result ≡ failed_in (answered_by circuit command ioid self.old.table) }
+        ensures freed { self.new ≡ without_if result self.old }
+    {
+        let (handle, request) = self.answered(circuit, command, ioid)?;
+        if !request.is_open() {
+            return None;
+        }
+        self.free(handle);
+        Some(handle)
+    }
+
+    // The IOID of this request is free.
+    fn free(&mut self, handle: Handle)
+        ensures { self.new ≡ without handle self.old }
+    {
+        let _ = self.table.free(handle);
+    }
+
+    /// The open requests on this channel, in order of issue. It takes memory only if there is one.
+    pub fn on_channel(&self, channel: Handle) -> Result<Vec<Handle>, AllocError>
+        ensures ok { IfOk result (λ told. told.items ≡ open_of (asks_on channel) self.now) }
+        ensures some { OnErr result (open_of (asks_on channel) self.now ≢ []) }
+    {
+        let mut told = Vec::new(*self.listed.allocator());
+        let which = Which::OnChannel(channel);
+        told.reserve(self.count(which))?;
+        self.tell(which, &mut told);
+        Ok(told)
+    }
+
+    /// How many open requests were sent on this circuit.
+    pub fn count_on_circuit(&self, circuit: Handle) -> usize
+        ensures { result ≡ length (open_of (was_sent_on circuit) self.now) }
+    {
+        self.count(Which::OnCircuit(circuit))
+    }
+
+    /// Puts the open requests that were sent on this circuit after what is told, in order of issue. It takes no memory: there
+    /// is room for them.
+    pub fn tell_circuit(&self, circuit: Handle, told: &mut Vec<Handle>)
+        requires { vec_len told.old + length (open_of (was_sent_on circuit) self.now)
+            ≤ vec_capacity told.old }
+        ensures { told.new.items ≡ told.old.items ++ open_of (was_sent_on circuit) self.now }
+    {
+        self.tell(Which::OnCircuit(circuit), told);
+    }
+
+    // How many open requests are meant.
+    fn count(&self, which: Which) -> usize
+        ensures { result ≡ length (open_of (named which) self.now) }
+    {
+        count_in(&self.table, &self.listed, which)
+    }
+
+    // Puts the open requests that are meant after what is told, in order of issue.
+    fn tell(&self, which: Which, told: &mut Vec<Handle>)
+        requires { vec_len told.old + length (open_of (named which) self.now)
+            ≤ vec_capacity told.old }
+        ensures { told.new.items ≡ told.old.items ++ open_of (named which) self.now }
+    {
+        tell_in(&self.table, &self.listed, which, told);
+    }
+
+    /// The requests on this channel are over, and their IOIDs drain. It takes no memory.
+    pub fn end_channel(&mut self, channel: Handle)
+        ensures { self.new ≡ with_table (channel_over channel self.old.table) self.old }
+    {
+        end_all(&mut self.table, channel);
+    }
+
+    /// The IOIDs of this channel's requests are free. It takes no memory.
+    pub fn free_channel(&mut self, channel: Handle)
+        ensures { self.new ≡ with_table (channel_gone channel self.old.table) self.old }
+    {
+        free_all(&mut self.table, Which::OnChannel(channel));
+    }
+
+    /// The IOIDs of the requests that were sent on this circuit are free. It takes no memory.
+    pub fn free_circuit(&mut self, circuit: Handle)
+        ensures { self.new ≡ with_table (circuit_gone circuit self.old.table) self.old }
+    {
+        free_all(&mut self.table, Which::OnCircuit(circuit));
+    }
+}
+
+// Whether the request of this handle is open, and meant.
+fn is_meant(table: &HeldTable<Request>, handle: Handle, which: Which) -> bool
+    ensures { result ≡ is_open (named which) table.now handle }
+{
+    match table.by_handle(handle) {
+        Some(request) => which.names(request) && request.is_open(),
+        None => false,
+    }
+}
+
+// 1 if the request of this handle is open, and meant, else 0.
+fn one_if_meant(table: &HeldTable<Request>, handle: Handle, which: Which) -> usize
+    ensures { result ≡ (if is_open (named which) table.now handle then 1 else 0) }
+{
+    if is_meant(table, handle, which) {
+        return 1;
+    }
+    0
+}
+
+// How many of these are open, and meant.
+fn count_in(table: &HeldTable<Request>, listed: &[Handle], which: Which) -> usize
+    ensures { result ≡ length (in_order_of_issue (named which) table.now listed.now) }
+{
+    let mut count = 0;
+    for index in 0..listed.len() {
+        count += one_if_meant(table, listed[index], which);
+    }
+    count
+}
+
+// Puts those that are open, and meant, after what is told.
+fn tell_in(table: &HeldTable<Request>, listed: &[Handle], which: Which, told: &mut Vec<Handle>)
+    requires { vec_len told.old + length (in_order_of_issue (named which) table.now listed.now)
+        ≤ vec_capacity told.old }
+    ensures { told.new.items
+        ≡ told.old.items ++ in_order_of_issue (named which) table.now listed.now }
+{
+    for index in 0..listed.len() {
+        tell_one(table, listed[index], which, told);
+    }
+}
+
+// Puts the handle after what is told, if its request is open, and meant.
+fn tell_one(table: &HeldTable<Request>, handle: Handle, which: Which, told: &mut Vec<Handle>)
+    requires { is_open (named which) table.now handle ≡ true
+        → vec_len told.old < vec_capacity told.old }
+    ensures items { told.new.items
+        ≡ told.old.items ++ (if is_open (named which) table.now handle then handle ∷ [] else []) }
+    ensures len { vec_len told.new
+        ≡ vec_len told.old + (if is_open (named which) table.now handle then 1 else 0) }
+    ensures capacity { vec_capacity told.new ≡ vec_capacity told.old }
+{
+    if !is_meant(table, handle, which) {
+        return;
+    }
+    told.push_reserved(handle);
+}
+
+// Takes those that are over out of a list.
+fn forget(listed: &mut Vec<Handle>, table: &HeldTable<Request>)
+    ensures { listed.new.items ≡ in_order_of_issue (λ q. true) table.now listed.old.items }
+{
+    listed.retain(|handle| is_still_open(table, *handle));
+}
+
+// Whether the request of this handle is open.
+fn is_still_open(table: &HeldTable<Request>, handle: Handle) -> bool
+    ensures { result ≡ is_open (λ q. true) table.now handle }
+{
+    match table.by_handle(handle) {
+        Some(request) => request.is_open(),
+        None => false,
+    }
+}
