@@ -23,3 +23,4 @@ pub mod Alike
 pub mod Lives
 pub mod Writes
 pub mod Refused
+pub mod Others
