@@ -31,36 +31,42 @@ module _ {T : Type 0} where
     back = λ g v is pass. (let r = b.back g v is pass in a.back g r.0 r.1 r.2);
   }
 
-  -- one is changed, and the test sees no difference
-  pub changed-alike : (here : T → Bool) (f : T → T) (t : Table T) (h : Handle) (u : T) → under t h ≡ Some u → here u ≡ here (f u) → IsAlike here here t (with_changed f h t)
-  changed-alike here f t h u is same = record {
+  -- one is changed, if it is there, and the test sees no difference
+  pub changed-if : (here : T → Bool) (f : T → T) (t : Table T) (h : Handle) → ((u : T) → under t h ≡ Some u → here u ≡ here (f u)) → IsAlike here here t (with_changed f h t)
+  changed-if here f t h same = record {
     few = λ le. (let e : length (with_changed f h t) ≡ length t = changed-few f t h in omega (arith, e, le));
     keeps = λ g v stands pass. elim (handle-or g h) [
       | inl own ↦
-          let v_is : v ≡ u = one-value t h v u (subst (λ (k : Handle). under t k ≡ Some v) own stands) is in
-          (f u, subst (λ (k : Handle). under (with_changed f h t) k ≡ Some (f u)) (sym own) (changed-own f t h u is), sym same ∙ subst (λ (z : T). here z ≡ true) v_is pass)
+          let is : under t h ≡ Some v = subst (λ (k : Handle). under t k ≡ Some v) own stands in
+          (f v, subst (λ (k : Handle). under (with_changed f h t) k ≡ Some (f v)) (sym own) (changed-own f t h v is), sym (same v is) ∙ pass)
       | inr other ↦ (v, changed-other f t g h v stands other, pass)
     ];
     back = λ g w stands pass. elim (changed-back f t g h w stands) [
       | inl own ↦
-          let w_is : w ≡ f u = own.1.2 ∙ ap f (one-value t h own.1.0 u own.1.1 is) in
-          (u, subst (λ (k : Handle). under t k ≡ Some u) (sym own.0) is, same ∙ subst (λ (z : T). here z ≡ true) w_is pass)
+          let u : T = own.1.0 in
+          (u, subst (λ (k : Handle). under t k ≡ Some u) (sym own.0) own.1.1, same u own.1.1 ∙ subst (λ (z : T). here z ≡ true) own.1.2 pass)
       | inr old ↦ (w, old.1, pass)
     ];
   }
 
-  -- one that the test does not name is freed
-  pub freed-alike : (here : T → Bool) (t : Table T) (h : Handle) (u : T) → under t h ≡ Some u → here u ≡ false → IsAlike here here t (with_freed h t)
-  freed-alike here t h u is away = record {
+  pub changed-alike : (here : T → Bool) (f : T → T) (t : Table T) (h : Handle) (u : T) → under t h ≡ Some u → here u ≡ here (f u) → IsAlike here here t (with_changed f h t)
+  changed-alike here f t h u is same =
+      changed-if here f t h (λ v stands. subst (λ (z : T). here z ≡ here (f z)) (one-value t h u v is stands) same)
+
+  -- one that the test does not name is freed, if it is there
+  pub freed-if : (here : T → Bool) (t : Table T) (h : Handle) → ((u : T) → under t h ≡ Some u → here u ≡ false) → IsAlike here here t (with_freed h t)
+  freed-if here t h away = record {
     few = λ le. (let e : length (with_freed h t) ≡ length t = freed-few t h in omega (arith, e, le));
     keeps = λ g v stands pass. (
       v,
-      freed-other t g h v stands (λ same.
-          both_ways (here u) away (subst (λ (z : T). here z ≡ true) (one-value t h v u (subst (λ (k : Handle). under t k ≡ Some v) same stands) is) pass)),
+      freed-other t g h v stands (λ same. both_ways (here v) (away v (subst (λ (k : Handle). under t k ≡ Some v) same stands)) pass),
       pass,
     );
     back = λ g w stands pass. (w, (freed-back t g h w stands).1, pass);
   }
+
+  pub freed-alike : (here : T → Bool) (t : Table T) (h : Handle) (u : T) → under t h ≡ Some u → here u ≡ false → IsAlike here here t (with_freed h t)
+  freed-alike here t h u is away = freed-if here t h (λ v stands. subst (λ (z : T). here z ≡ false) (one-value t h u v is stands) away)
 
   -- something new comes that the test does not name
   pub held-alike : (here : T → Bool) (t : Table T) (h : Handle) (u : T) → MayGive t h → here u ≡ false → IsAlike here here t (with_held h u t)
@@ -152,7 +158,14 @@ with-channels on x u asked subscribed = record {
   };
 }
 
--- a channel stands elsewhere, and the circuit sees no difference
+-- a channel stands elsewhere, if it is there, and the circuit sees no difference
+pub restood-if : (on : Handle) (x : Client) (h : Handle) (s : Standing) → ((ch : Channel) → under x.channels h ≡ Some ch → is_on_in is_asked on ch ≡ is_on_in is_asked on (record ch { standing = s }))
+    → ((ch : Channel) → under x.channels h ≡ Some ch → is_on_in is_subscribed on ch ≡ is_on_in is_subscribed on (record ch { standing = s })) → HoldAlike on x (with_standing s h x)
+restood-if on x h s asked subscribed =
+    let f : Channel → Channel = λ (w : Channel). record w { standing = s } in
+    with-channels on x (with_changed f h x.channels) (changed-if (is_on_in is_asked on) f x.channels h asked)
+    (changed-if (is_on_in is_subscribed on) f x.channels h subscribed)
+
 pub restood : (on : Handle) (x : Client) (h : Handle) (s : Standing) (ch : Channel) → under x.channels h ≡ Some ch → is_on_in is_asked on ch ≡ is_on_in is_asked on (record ch { standing = s })
     → is_on_in is_subscribed on ch ≡ is_on_in is_subscribed on (record ch { standing = s }) → HoldAlike on x (with_standing s h x)
 restood on x h s ch there asked subscribed =
@@ -168,12 +181,16 @@ not-subscribed on ch away = elim (cases_Bool (is_on_in is_subscribed on ch)) [
 ]
 
 -- a channel that is not on the circuit is gone
-pub channel-freed : (on : Handle) (x : Client) (h : Handle) (ch : Channel) → under x.channels h ≡ Some ch → is_on_in is_asked on ch ≡ false → HoldAlike on x (without_channel x h)
-channel-freed on x h ch there away =
+pub channel-freed-if : (on : Handle) (x : Client) (h : Handle) → ((ch : Channel) → under x.channels h ≡ Some ch → is_on_in is_asked on ch ≡ false) → HoldAlike on x (without_channel x h)
+channel-freed-if on x h away =
     let u : Table Channel = with_freed h x.channels in
     let a : HoldAlike on x (record x { channels = u }) =
-    with-channels on x u (freed-alike (is_on_in is_asked on) x.channels h ch there away) (freed-alike (is_on_in is_subscribed on) x.channels h ch there (not-subscribed on ch away)) in
+    with-channels on x u (freed-if (is_on_in is_asked on) x.channels h away) (freed-if (is_on_in is_subscribed on) x.channels h (λ ch there. not-subscribed on ch (away ch there))) in
     record { asked = a.asked; subscribed = a.subscribed; requests = a.requests; subscriptions = a.subscriptions }
+
+pub channel-freed : (on : Handle) (x : Client) (h : Handle) (ch : Channel) → under x.channels h ≡ Some ch → is_on_in is_asked on ch ≡ false → HoldAlike on x (without_channel x h)
+channel-freed on x h ch there away =
+    channel-freed-if on x h (λ w stands. subst (λ (z : Channel). is_on_in is_asked on z ≡ false) (one-value x.channels h ch w there stands) away)
 
 -- other requests, of which the same were sent here
 pub with-others : (on : Handle) (x y : Client) → y.channels ≡ x.channels → IsAlike (was_sent_on on) (was_sent_on on) x.requests y.requests → IsAlike (has_id x.channels on) (has_id x.channels on) x.subscriptions y.subscriptions → HoldAlike on x y

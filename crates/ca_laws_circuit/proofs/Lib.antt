@@ -24,3 +24,4 @@ pub mod Lives
 pub mod Writes
 pub mod Refused
 pub mod Others
+pub mod Ends
