@@ -25,3 +25,4 @@ pub mod Writes
 pub mod Refused
 pub mod Others
 pub mod Ends
+pub mod Connects

@@ -1,17 +1,18 @@
 -- Working: what a client's tables hold of one circuit: each id that may still come back, and what it was given to.
 use Rattle.std.specs.Prelude.{ℕ, ◌≡◌, ◌≤◌, ◌⊎◌, ◌&&◌, ◌||◌, ◌++◌, Bool, true, false, List, [], ◌∷◌, Some, None}
-use Rattle.std.specs.Prelude.{find, length, option_map, unwrap_or}
+use Rattle.std.specs.Prelude.{filter, find, length, option_map, unwrap_or}
 use Rattle.ca_text.specs.declared.command.Command.TheVariants as command
 use Rattle.ca_text.specs.Limits.{arena_slots}
 use Rattle.ca_text.specs.Place.{At}
 use Rattle.ca_arena.specs.declared.handle.Handle.{Handle}
-use Rattle.ca_ids.specs.Table.{Table, same_handle, under}
+use Rattle.ca_ids.specs.Table.{Table, held, same_handle, under}
 use Rattle.ca_ids.specs.Wire.{wire_of}
 use Rattle.ca_wire.specs.Messages.{clear_request, create_request, event_add_request}
 use Rattle.ca_requests.specs.Requests.{Request, was_sent_on}
 use Rattle.ca_monitor.specs.Subscriptions.{Subscription, drains_in, stands_in}
 use Rattle.ca_model.specs.Client.{Channel, Clearing, Client, Connecting, Leaving, Live, Phase, is_on_in}
 use Rattle.ca_model.specs.ClientCalls.{wanted_by}
+use Rattle.ca_model.specs.ClientEnds.{is_connecting}
 use Rattle.ca_model.specs.Speech.{Cid, Gives, Id, Ioid, Is, SubId}
 use Rattle.ca_model.specs.History.{Ask, Circuit, Clear, Create, Intent, On, Sent, Subscribe}
 use Rattle.ca_model_safe.specs.Channels.{named}
@@ -117,6 +118,22 @@ pub record Attached (x : Client) : Type 0 where
   pub requests : (q : Handle) (r : Request) → under x.requests q ≡ Some r → WasLive x r.channel r.circuit
   pub subscriptions : (g : Handle) (d : Subscription) (on : Handle) → under x.subscriptions g ≡ Some d → drains_in on d.stage ≡ true
       → WasLive x d.channel on
+
+-- ---- a circuit that is wanted, and not connected yet
+
+-- No channel's CREATE_CHAN went out on it.
+abbrev pub NoneAsked : (on : Handle) → Client → Type 0
+NoneAsked on x = (h : Handle) (ch : Channel) → under x.channels h ≡ Some ch → is_on_in is_asked on ch ≡ false
+
+-- A client's tables have no more indices than ids have.
+pub record AreFew (x : Client) : Type 0 where
+  pub channels : length x.channels ≤ arena_slots
+  pub requests : length x.requests ≤ arena_slots
+  pub subscriptions : length x.subscriptions ≤ arena_slots
+
+-- the channels that wait for it, in order of index
+abbrev pub waiting_on : Handle → Client → List (Handle × Channel)
+waiting_on on x = filter (λ (e : Handle × Channel). is_on_in is_connecting on e.1) (held x.channels)
 
 -- ---- messages as the world stamps them
 
