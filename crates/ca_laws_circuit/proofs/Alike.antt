@@ -114,7 +114,6 @@ holds-alike Awaits on n x y c a h = record {
 pub client-itself : (on : Handle) (x : Client) → HoldAlike on x x
 client-itself on x = record {
   asked = alike-itself (is_on_in is_asked on) x.channels;
-  subscribed = alike-itself (is_on_in is_subscribed on) x.channels;
   requests = alike-itself (was_sent_on on) x.requests;
   subscriptions = alike-itself (has_id x.channels on) x.subscriptions;
 }
@@ -122,7 +121,6 @@ client-itself on x = record {
 pub client-then : (on : Handle) (x y z : Client) → HoldAlike on x y → HoldAlike on y z → HoldAlike on x z
 client-then on x y z a b = record {
   asked = alike-then (is_on_in is_asked on) (is_on_in is_asked on) (is_on_in is_asked on) x.channels y.channels z.channels a.asked b.asked;
-  subscribed = alike-then (is_on_in is_subscribed on) (is_on_in is_subscribed on) (is_on_in is_subscribed on) x.channels y.channels z.channels a.subscribed b.subscribed;
   requests = alike-then (was_sent_on on) (was_sent_on on) (was_sent_on on) x.requests y.requests z.requests a.requests b.requests;
   subscriptions = alike-then (has_id x.channels on) (has_id y.channels on) (has_id z.channels on) x.subscriptions y.subscriptions z.subscriptions a.subscriptions b.subscriptions;
 }
@@ -132,7 +130,7 @@ pub sending-alike : (on : Handle) (sends : List Sending) (x : Client) → HoldAl
 sending-alike on [] x = client-itself on x
 sending-alike on (s ∷ sends) x =
     let r : HoldAlike on (with_one_sent x s) (sending sends (with_one_sent x s)) = sending-alike on sends (with_one_sent x s) in
-    record { asked = r.asked; subscribed = r.subscribed; requests = r.requests; subscriptions = r.subscriptions }
+    record { asked = r.asked; requests = r.requests; subscriptions = r.subscriptions }
 
 -- subscriptions see no difference between channels of which the same are subscribed to
 pub has-alike : (on : Handle) (t u : Table Channel) (d : Subscription) → IsAlike (is_on_in is_subscribed on) (is_on_in is_subscribed on) t u → has_id t on d ≡ has_id u on d
@@ -149,7 +147,6 @@ pub with-channels : (on : Handle) (x : Client) (u : Table Channel) → IsAlike (
     → HoldAlike on x (record x { channels = u })
 with-channels on x u asked subscribed = record {
   asked = asked;
-  subscribed = subscribed;
   requests = alike-itself (was_sent_on on) x.requests;
   subscriptions = record {
     few = λ le. le;
@@ -186,7 +183,7 @@ channel-freed-if on x h away =
     let u : Table Channel = with_freed h x.channels in
     let a : HoldAlike on x (record x { channels = u }) =
     with-channels on x u (freed-if (is_on_in is_asked on) x.channels h away) (freed-if (is_on_in is_subscribed on) x.channels h (λ ch there. not-subscribed on ch (away ch there))) in
-    record { asked = a.asked; subscribed = a.subscribed; requests = a.requests; subscriptions = a.subscriptions }
+    record { asked = a.asked; requests = a.requests; subscriptions = a.subscriptions }
 
 pub channel-freed : (on : Handle) (x : Client) (h : Handle) (ch : Channel) → under x.channels h ≡ Some ch → is_on_in is_asked on ch ≡ false → HoldAlike on x (without_channel x h)
 channel-freed on x h ch there away =
@@ -197,7 +194,6 @@ pub with-others : (on : Handle) (x y : Client) → y.channels ≡ x.channels →
 with-others on x y same requests subscriptions =
     subst (λ (u : Table Channel). HoldAlike on x (record y { channels = u })) (sym same) (record {
       asked = alike-itself (is_on_in is_asked on) x.channels;
-      subscribed = alike-itself (is_on_in is_subscribed on) x.channels;
       requests = requests;
       subscriptions = subscriptions;
     })

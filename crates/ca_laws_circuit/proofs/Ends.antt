@@ -92,7 +92,7 @@ gone-one on y h away = channel-freed-if on y h away
 again-one : (on : Handle) (y : Client) (h : Handle) → Away on y h → HoldAlike on y (searched_again y h)
 again-one on y h away =
     let r : HoldAlike on y (with_standing Searching h y) = restood-if on y h Searching (λ ch there. away ch there) (λ ch there. not-subscribed on ch (away ch there)) in
-    record { asked = r.asked; subscribed = r.subscribed; requests = r.requests; subscriptions = r.subscriptions }
+    record { asked = r.asked; requests = r.requests; subscriptions = r.subscriptions }
 
 gone-away : (on : Handle) (y : Client) (h k : Handle) → Away on y k → Away on (without_channel y h) k
 gone-away on y h k away ch is = away ch (freed-back y.channels k h ch is).1

@@ -13,10 +13,11 @@ use Rattle.ca_requests.specs.Requests as request
 use Rattle.ca_model.specs.Client.{Channel, Client, ClientCircuit, Clearing, Connecting, Creating, Doomed, Leaving, Live, Native, On, Phase, Searching, Standing, channels_ended, channels_on, disconnected, ended, is_cleared, is_on_in, let_go, phase_on, searched_again, standing_at, with_requests, with_standing, without_channel, without_circuit, without_ids}
 use Rattle.ca_model.specs.ClientCalls.{all_over, cleared, unsubscribed_all, unwanted}
 use Rattle.ca_laws_circuit.specs.Held.{Attached, HoldAlike, IsAlike, has_id, is_asked, is_subscribed, was_live}
-use Rattle.ca_laws_circuit.proofs.Alike.{alike-itself, all-alike, all-freed-alike, channel-freed, client-itself, client-then, restood, with-others}
+use Rattle.ca_laws_circuit.proofs.Alike.{alike-itself, all-alike, all-freed-alike, changed-alike, channel-freed, client-itself, client-then, restood, with-others}
 use Rattle.ca_laws_circuit.proofs.Clears.{found-standing, is-on}
-use Rattle.ca_laws_circuit.proofs.Handles.{handle-or, same-is, same-itself, same-not}
-use Rattle.ca_laws_circuit.proofs.Tables.{changed-back, freed-back, held-under, one-value}
+use Rattle.ca_laws_circuit.proofs.Handles.{not-same, same-is, same-itself}
+use Rattle.ca_laws_circuit.proofs.Heard.{has-too}
+use Rattle.ca_laws_circuit.proofs.Tables.{changed-back, changed-other, one-value}
 
 -- ---- tests of a channel
 
@@ -54,8 +55,8 @@ pub let-go-alike : (on c : Handle) (d : ClientCircuit) (x : Client) → HoldAlik
 let-go-alike on c d x = go d.is_name
   where
     go : (b : Bool) → HoldAlike on x (cond b (disconnected c x) (without_circuit c x))
-    go true = (let r = client-itself on x in record { asked = r.asked; subscribed = r.subscribed; requests = r.requests; subscriptions = r.subscriptions })
-    go false = (let r = client-itself on x in record { asked = r.asked; subscribed = r.subscribed; requests = r.requests; subscriptions = r.subscriptions })
+    go true = (let r = client-itself on x in record { asked = r.asked; requests = r.requests; subscriptions = r.subscriptions })
+    go false = (let r = client-itself on x in record { asked = r.asked; requests = r.requests; subscriptions = r.subscriptions })
 
 at-circuit : (on c : Handle) (x : Client) (o : Option ClientCircuit) → HoldAlike on x (unwrap_or (option_map (λ (d : ClientCircuit). let_go c d x) o) x)
 at-circuit on c x (Some d) = let-go-alike on c d x
@@ -183,3 +184,70 @@ left-elsewhere on x h o ch p there stands other =
     (with-others on x y refl (over-alike on h x) (alike-itself (has_id x.channels on) x.subscriptions))
     (restood on y h (On o Leaving) ch there (fails-elsewhere is_asked on o ch p stands other ∙ sym (fails-elsewhere is_asked on o (record ch { standing = On o Leaving }) Leaving refl other))
     (fails-elsewhere is_subscribed on o ch p stands other ∙ sym (fails-elsewhere is_subscribed on o (record ch { standing = On o Leaving }) Leaving refl other)))
+
+-- one that its record left is cleared by its caller, whose CLEAR_CHANNEL went out before
+module _ (on : Handle) (x : Client) (h : Handle) (ch : Channel) (there : under x.channels h ≡ Some ch) (stands : ch.standing ≡ On on Leaving) where
+  abbrev clears : Channel → Channel
+  clears here = record here { standing = On on Clearing }
+
+  abbrev after : Table Channel
+  after = with_changed clears h x.channels
+
+  live-before : (v : Subscription) → is_to h v ≡ true → unwrap_or (option_map (is_on_in is_subscribed on) (under x.channels v.channel)) false ≡ true
+  live-before v to =
+      ap (λ (k : Handle). unwrap_or (option_map (is_on_in is_subscribed on) (under x.channels k)) false) (same-is v.channel h to)
+      ∙ ap (λ (w : Option Channel). unwrap_or (option_map (is_on_in is_subscribed on) w) false) there ∙ is-on is_subscribed on ch Leaving stands
+
+  other-alike : (v : Subscription) → is_to h v ≡ false → has_id x.channels on v ≡ has_id after on v
+  other-alike v other =
+      let differs : v.channel ≡ h → ⊥ = not-same v.channel h other in
+      elim (cases_Bool (has_id x.channels on v)) [
+        | inl is ↦ is ∙ sym (has-too on x.channels after v (λ w is_w pass. (w, changed-other clears x.channels v.channel h w is_w differs, pass)) is)
+        | inr none ↦ elim (cases_Bool (has_id after on v)) [
+          | inr too ↦ none ∙ sym too
+          | inl is ↦ absurd (both_ways (has_id x.channels on v) none (has-too on after x.channels v (λ w is_w pass. elim (changed-back clears x.channels v.channel h w is_w) [
+            | inl own ↦ absurd (differs own.0)
+            | inr old ↦ (w, old.1, pass)
+          ]) is))
+        ]
+      ]
+
+  stays : (v : Subscription) → has_id x.channels on v ≡ has_id after on (monitor.over_on on h v)
+  stays v = go (is_to h v) refl
+    where
+      by : is_to h v ≡ true → (s : Stage) → (drains_in on s || (stands_in s && unwrap_or (option_map (is_on_in is_subscribed on) (under x.channels v.channel)) false))
+          ≡ (drains_in on (stage_over on s) || (stands_in (stage_over on s) && unwrap_or (option_map (is_on_in is_subscribed on) (under after v.channel)) false))
+      by to Stands = live-before v to ∙ sym (ap (λ (b : Bool). b || false) (same-itself on))
+      by to (Cancelled d) = refl
+      by to (Ended d) = refl
+
+      go : (b : Bool) → is_to h v ≡ b → has_id x.channels on v ≡ has_id after on (cond b (record v { stage = stage_over on v.stage }) v)
+      go true to = by to v.stage
+      go false other = other-alike v other
+
+  pub left-cleared : HoldAlike on x (cleared h (On on Leaving) x)
+  left-cleared = record {
+    asked = changed-alike (is_on_in is_asked on) clears x.channels h ch there (is-on is_asked on ch Leaving stands ∙ sym (is-on is_asked on (clears ch) Clearing refl));
+    requests = over-alike on h x;
+    subscriptions = all-alike (has_id x.channels on) (has_id after on) (monitor.over_on on h) x.subscriptions (λ g v is. stays v);
+  }
+
+-- and elsewhere
+pub left-cleared-elsewhere : (on : Handle) (x : Client) (h o : Handle) → standing_at x h ≡ Some (On o Leaving) → same_handle o on ≡ false → HoldAlike on x (cleared h (On o Leaving) x)
+left-cleared-elsewhere on x h o at other =
+    let found = found-standing x h (On o Leaving) at in
+    let bare : is_on_in is_subscribed on found.0 ≡ false = fails-elsewhere is_subscribed on o found.0 Leaving found.2 other in
+    let away : is_on_in is_asked on found.0 ≡ false = fails-elsewhere is_asked on o found.0 Leaving found.2 other in
+    let y : Client = all_over o h x in
+    client-then on x y (with_standing (On o Clearing) h y)
+    (with-others on x y refl (over-alike on h x) (ended-alike on o h x other found.0 found.1 bare))
+    (restood on y h (On o Clearing) found.0 found.1 (away ∙ sym (fails-elsewhere is_asked on o (record found.0 { standing = On o Clearing }) Clearing refl other))
+    (bare ∙ sym (fails-elsewhere is_subscribed on o (record found.0 { standing = On o Clearing }) Clearing refl other)))
+
+pub cleared-left : (on : Handle) (x : Client) (h o : Handle) → standing_at x h ≡ Some (On o Leaving) → HoldAlike on x (cleared h (On o Leaving) x)
+cleared-left on x h o at = elim (cases_Bool (same_handle o on)) [
+  | inr other ↦ left-cleared-elsewhere on x h o at other
+  | inl same ↦
+      let found = found-standing x h (On o Leaving) at in
+      subst (λ (k : Handle). HoldAlike k x (cleared h (On o Leaving) x)) (same-is o on same) (left-cleared o x h found.0 found.1 found.2)
+]

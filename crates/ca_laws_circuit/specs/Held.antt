@@ -96,7 +96,6 @@ pub record IsAlike {T : Type 0} (here there : T → Bool) (t u : Table T) : Type
 -- Both clients hold the same ids of the circuit of this handle.
 pub record HoldAlike (on : Handle) (x y : Client) : Type 0 where
   pub asked : IsAlike (is_on_in is_asked on) (is_on_in is_asked on) x.channels y.channels
-  pub subscribed : IsAlike (is_on_in is_subscribed on) (is_on_in is_subscribed on) x.channels y.channels
   pub requests : IsAlike (was_sent_on on) (was_sent_on on) x.requests y.requests
   pub subscriptions : IsAlike (has_id x.channels on) (has_id y.channels on) x.subscriptions y.subscriptions
 

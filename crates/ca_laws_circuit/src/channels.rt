@@ -84,7 +84,8 @@ pub fn a_refusal_keeps_what_is_held()
 {}
 
 /// Clients that hold the same ids of a circuit hold the same of it. So does a client after it has
-/// cleared a channel that was not live: one that was being created keeps its CID until the reply.
+/// cleared a channel that is not live: one that is being created keeps its CID until the reply, and
+/// one that its record left has its CLEAR_CHANNEL out already.
 pub fn a_clear_before_live_keeps_what_is_held()
     ensures alike { (kept : List ℕ) (on : Handle) (n : Names) (x y : Client) (c : Circuit)
         → HoldAlike on x y → Holds (Awaits c kept) on n x c → Holds (Awaits c kept) on n y c }
@@ -95,6 +96,9 @@ pub fn a_clear_before_live_keeps_what_is_held()
     ensures doomed { (on : Handle) (x : Client) (h o : Handle) (rights : ℕ) → Attached x
         → standing_at x h ≡ Some (standing.On o (Creating rights))
         → HoldAlike on x (cleared h (standing.On o (Creating rights)) x) }
+    ensures left { (on : Handle) (x : Client) (h o : Handle)
+        → standing_at x h ≡ Some (standing.On o Leaving)
+        → HoldAlike on x (cleared h (standing.On o Leaving) x) }
 {}
 
 /// What a client does on one circuit changes nothing that it holds of another: a call, a message
