@@ -29,7 +29,7 @@ use Rattle.ca_laws_circuit.proofs.Others.{fails-elsewhere}
 use Rattle.ca_laws_circuit.proofs.Subscribes.{subscribe-keeps, subscribe-may}
 use Rattle.ca_laws_circuit.proofs.Writes.{write-keeps, write-may}
 use Rattle.ca_laws_runs.specs.Circuit.{AreGiven, HeldOn, sent_to, stamped}
-use Rattle.ca_laws_runs.proofs.Sending.{new-name, one-sent}
+use Rattle.ca_laws_runs.proofs.Sending.{channel-named, new-name, none-sent-to, one-sent}
 
 -- ---- one name more
 
@@ -57,6 +57,15 @@ subscription-named Awaits on n x c q intent h = record {
 
 -- ---- a request with an answer
 
+no-creation : (a b : ℕ) (kind : Kind) (n : ℕ) → history.On a (history.Request kind n) ≡ history.On b history.Create → ⊥
+no-creation a b kind n e = cc
+
+no-creation-sub : (a b n : ℕ) → history.On a (history.Subscribe n) ≡ history.On b history.Create → ⊥
+no-creation-sub a b n e = cc
+
+no-creation-clear : (a b : ℕ) → history.On a history.Clear ≡ history.On b history.Create → ⊥
+no-creation-clear a b e = cc
+
 issued-elsewhere : (on : Handle) (x : Client) (h : Handle) (l : LiveChannel) (asked : Asked) (q : Handle) → MayGive x.requests q → same_handle l.circuit on ≡ false → HoldAlike on x (issued h l asked q x)
 issued-elsewhere on x h l asked q may other =
     let r : Request = record { channel = h; circuit = l.circuit; asked = asked; stage = request.Open } in
@@ -76,7 +85,8 @@ asked-held kept i n x j h l asked q kind channel number s given may on asks wire
     let y : Client = issued h l asked q x in
     let new = new-name n.requests x.requests q given may in
     let is : stamped now s ≡ m = ap (λ (k : Intent). let z : Sent = record { message = s.message; intent = k } in z) (aims ∙ meant-own n.requests q intent new) in
-    one-sent kept i n now x (sending (s ∷ []) y) j s held mine
+    one-sent kept i n now x (sending (s ∷ []) y) j s held mine (λ k g at. at)
+    (λ a creates. absurd (no-creation channel a kind number (sym (aims ∙ meant-own n.requests q intent new) ∙ creates)))
     (λ open_it same holds.
     subst (λ (z : Sent). MaySend (Awaits j.lists kept) j.lists z × Holds (Awaits j.lists kept) j.at_client now (sending (s ∷ []) y) (with_sent z j.lists)) (sym is) (
       call-may (Awaits j.lists kept) j.at_client n x j.lists m q kind channel number asks wire refl suits may new holds,
@@ -109,3 +119,57 @@ put-held kept i n x y j h e q sent channel number given puts held mine =
     let s : Sending = put_sent h l e q in
     subst (λ (z : List Sending × Client). HeldOn kept now z.1 (sent_to i now z.0 j)) (λ k. (sym puts.4.0 k, sym puts.4.1 k))
     (asked-held kept i n x j h l request.Put q history.Put channel number s given puts.3 refl (inr refl) refl refl refl held mine)
+
+-- ---- a plain write
+
+pub write-held : (kept : List ℕ) (i : ℕ) (n : Names) (x y : Client) (j : Joined) (h : Handle) (e : Elements) (sent : List Sending) → ClientWrites x h e (Ok tt) sent y → HeldOn kept n x j → j.client ≡ i → HeldOn kept n y (sent_to i n sent j)
+write-held kept i n x y j h e sent writes held mine =
+    let l : LiveChannel = writes.0 in
+    let s : Sending = write_sent h l e in
+    let found = found-standing x h (On l.circuit (Live l.native l.rights)) writes.1 in
+    subst (λ (z : List Sending × Client). HeldOn kept n z.1 (sent_to i n z.0 j)) (λ k. (sym writes.3.0 k, sym writes.3.1 k))
+    (one-sent kept i n n x (sending (s ∷ []) x) j s held mine (λ k g at. at) (λ a creates. absurd (no-creation (channel_number n h) a history.Write n.writes creates))
+    (λ open_it same holds.
+    let asked : is_on_in is_asked j.at_client found.0 ≡ true =
+    subst (λ (k : Handle). is_on_in is_asked k found.0 ≡ true) same (is-on is_asked l.circuit found.0 (Live l.native l.rights) found.2) in
+    let cids : (k : ℕ) (r : Sent) → At j.lists.up k r → r.intent ≡ history.On (channel_number n h) history.Create → r.message.p1 ≡ wire_of h =
+    λ k r at is. (let c = held.cids k (channel_number n h) r at is in c.2 ∙ ap wire_of (channel-named n h c.0 c.1)) in (
+      write-may (Awaits j.lists kept) j.at_client n x j.lists (stamped n s) h n.writes refl refl found.0 found.1 asked cids holds,
+      write-keeps (Awaits j.lists kept) j.at_client n x j.lists (stamped n s) h n.writes refl refl found.0 found.1 asked cids holds (s ∷ []),
+    ))
+    (λ open_it other holds. holds-alike (Awaits j.lists kept) j.at_client n x (sending (s ∷ []) x) j.lists (sending-alike j.at_client (s ∷ []) x) holds))
+
+-- ---- a subscription
+
+pub subscribe-held : (kept : List ℕ) (i : ℕ) (n : Names) (x y : Client) (j : Joined) (h : Handle) (a : Shape) (mask : ℕ) (q : Handle) (sent : List Sending) (channel number : ℕ) → AreGiven n.subscriptions x.subscriptions → ClientSubscribes x h a mask (Ok q) sent y
+    → HeldOn kept n x j → j.client ≡ i
+    → (let now : Names = with_subscription q (history.On channel (history.Subscribe number)) n in HeldOn kept now y (sent_to i now sent j))
+subscribe-held kept i n x y j h a mask q sent channel number given subscribes held mine =
+    let intent : Intent = history.On channel (history.Subscribe number) in
+    let now : Names = with_subscription q intent n in
+    let l : LiveChannel = subscribes.0 in
+    let d : Subscription = new_subscription h a mask in
+    let s : Sending = event_add_sent l.circuit l.native.sid q d in
+    let m : Sent = record { message = s.message; intent = intent } in
+    let z : Client = record x { subscriptions = with_held q d x.subscriptions } in
+    let new = new-name n.subscriptions x.subscriptions q given subscribes.3 in
+    let found = found-standing x h (On l.circuit (Live l.native l.rights)) subscribes.1 in
+    let is : stamped now s ≡ m = ap (λ (k : Intent). let w : Sent = record { message = s.message; intent = k } in w) (meant-own n.subscriptions q intent new) in
+    subst (λ (w : List Sending × Client). HeldOn kept now w.1 (sent_to i now w.0 j)) (λ k. (sym subscribes.4.0 k, sym subscribes.4.1 k))
+    (one-sent kept i n now x (sending (s ∷ []) z) j s held mine (λ k g at. at)
+    (λ a creates. absurd (no-creation-sub channel a number (sym (meant-own n.subscriptions q intent new) ∙ creates)))
+    (λ open_it same holds.
+    let live : is_on_in is_subscribed j.at_client found.0 ≡ true =
+    subst (λ (k : Handle). is_on_in is_subscribed k found.0 ≡ true) same (is-on is_subscribed l.circuit found.0 (Live l.native l.rights) found.2) in
+    subst (λ (w : Sent). MaySend (Awaits j.lists kept) j.lists w × Holds (Awaits j.lists kept) j.at_client now (sending (s ∷ []) z) (with_sent w j.lists)) (sym is) (
+      subscribe-may (Awaits j.lists kept) j.at_client n x j.lists m q h channel number refl refl refl refl subscribes.3 new found.0 found.1 live holds,
+      subscribe-keeps (Awaits j.lists kept) j.at_client n x j.lists m q h channel number refl refl refl refl subscribes.3 new found.0 found.1 live holds a mask s,
+    ))
+    (λ open_it other holds.
+    let away : has_id x.channels j.at_client d ≡ false =
+    ap (λ (o : Option Channel). unwrap_or (option_map (is_on_in is_subscribed j.at_client) o) false) found.1
+    ∙ fails-elsewhere is_subscribed j.at_client l.circuit found.0 (Live l.native l.rights) found.2 other in
+    holds-alike (Awaits j.lists kept) j.at_client now z (sending (s ∷ []) z) j.lists (sending-alike j.at_client (s ∷ []) z)
+    (holds-alike (Awaits j.lists kept) j.at_client now x z j.lists
+    (with-others j.at_client x z refl (alike-itself (was_sent_on j.at_client) x.requests) (held-alike (has_id x.channels j.at_client) x.subscriptions q d subscribes.3 away))
+    (subscription-named (Awaits j.lists kept) j.at_client n x j.lists q intent holds))))

@@ -4,9 +4,10 @@ use Rattle.ca_text.specs.Place.{At}
 use Rattle.ca_arena.specs.Arena.{place_at}
 use Rattle.ca_arena.specs.declared.handle.Handle.{Handle}
 use Rattle.ca_ids.specs.Table.{Table}
+use Rattle.ca_ids.specs.Wire.{wire_of}
 use Rattle.ca_model.specs.Answers.{Sending}
 use Rattle.ca_model.specs.Client.{Client}
-use Rattle.ca_model.specs.History.{Intent, Sent}
+use Rattle.ca_model.specs.History.{Circuit, Create, Intent, On, Sent}
 use Rattle.ca_model_world.specs.ClientEvents.{intent_of, sent_on}
 use Rattle.ca_model_world.specs.World.{Joined, Names}
 use Rattle.ca_laws_circuit.specs.Flows.{Awaits, Flows}
@@ -20,10 +21,16 @@ stamped n s = record { message = s.message; intent = intent_of n s.aim }
 abbrev pub sent_to : (i : ℕ) → Names → List Sending → Joined → Joined
 sent_to i n sent j = record j { lists = record j.lists { up = j.lists.up ++ sent_on i n sent j } }
 
+-- Each CREATE_CHAN of the client has the CID of its channel's handle.
+abbrev pub AreCids : Names → Circuit → Type 0
+AreCids n c = (k channel : ℕ) (s : Sent) → At c.up k s → s.intent ≡ On channel Create
+    → (h : Handle) × At n.channels channel h × (s.message.p1 ≡ wire_of h)
+
 -- The ids in flight on a circuit mean their own, and while its end is open its client holds them. These places are those for which its
 -- server keeps something.
 pub record HeldOn (kept : List ℕ) (n : Names) (x : Client) (j : Joined) : Type 0 where
   pub flows : Flows (Awaits j.lists kept) j.lists
+  pub cids : AreCids n j.lists
   pub holds : j.lists.client_open ≡ true → Holds (Awaits j.lists kept) j.at_client n x j.lists
 
 -- The table gave this handle.
