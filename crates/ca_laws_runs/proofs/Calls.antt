@@ -57,13 +57,13 @@ subscription-named Awaits on n x c q intent h = record {
 
 -- ---- a request with an answer
 
-no-creation : (a b : ℕ) (kind : Kind) (n : ℕ) → history.On a (history.Request kind n) ≡ history.On b history.Create → ⊥
+pub no-creation : (a b : ℕ) (kind : Kind) (n : ℕ) → history.On a (history.Request kind n) ≡ history.On b history.Create → ⊥
 no-creation a b kind n e = cc
 
-no-creation-sub : (a b n : ℕ) → history.On a (history.Subscribe n) ≡ history.On b history.Create → ⊥
+pub no-creation-sub : (a b n : ℕ) → history.On a (history.Subscribe n) ≡ history.On b history.Create → ⊥
 no-creation-sub a b n e = cc
 
-no-creation-clear : (a b : ℕ) → history.On a history.Clear ≡ history.On b history.Create → ⊥
+pub no-creation-clear : (a b : ℕ) → history.On a history.Clear ≡ history.On b history.Create → ⊥
 no-creation-clear a b e = cc
 
 issued-elsewhere : (on : Handle) (x : Client) (h : Handle) (l : LiveChannel) (asked : Asked) (q : Handle) → MayGive x.requests q → same_handle l.circuit on ≡ false → HoldAlike on x (issued h l asked q x)
