@@ -1,3 +1,4 @@
 pub mod Sending
 pub mod Calls
 pub mod Ending
+pub mod Moves
