@@ -2,3 +2,5 @@ pub mod Sending
 pub mod Calls
 pub mod Ending
 pub mod Moves
+pub mod Worlds
+pub mod Happens

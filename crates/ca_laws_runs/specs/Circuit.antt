@@ -9,7 +9,7 @@ use Rattle.ca_model.specs.Answers.{Sending}
 use Rattle.ca_model.specs.Client.{Client}
 use Rattle.ca_model.specs.History.{Circuit, Create, Intent, On, Sent}
 use Rattle.ca_model_world.specs.ClientEvents.{intent_of, sent_on}
-use Rattle.ca_model_world.specs.World.{Joined, Names}
+use Rattle.ca_model_world.specs.World.{ClientSide, Joined, Names, World}
 use Rattle.ca_laws_circuit.specs.Flows.{Awaits, Flows}
 use Rattle.ca_laws_circuit.specs.Held.{Holds}
 
@@ -40,3 +40,8 @@ WasGiven t h = h.generation ≤ (place_at t h.index).generation
 -- Names name only what the table gave.
 abbrev pub AreGiven : {T : Type 0} → List (Handle × Intent) → Table T → Type 0
 AreGiven names t = (i : ℕ) (e : Handle × Intent) → At names i e → WasGiven t e.0
+
+-- That holds of circuit k of a world, whose client is there.
+abbrev pub HeldAt : (kept : List ℕ) → World → (k : ℕ) → Type 0
+HeldAt kept w k =
+    (j : Joined) × (x : ClientSide) × At w.circuits k j × At w.clients j.client x × HeldOn kept x.names x.core j
