@@ -4,3 +4,4 @@ pub mod Ending
 pub mod Moves
 pub mod Worlds
 pub mod Happens
+pub mod Bytes

@@ -11,7 +11,7 @@ use Rattle.ca_model.specs.Answers.{Sending}
 use Rattle.ca_model.specs.Client.{Client}
 use Rattle.ca_model.specs.History.{Line, Sent}
 use Rattle.ca_model_world.specs.ClientEvents.{Outcomes, client_after, refused, sent_on}
-use Rattle.ca_model_world.specs.World.{ClientSide, Joined, Names, World}
+use Rattle.ca_model_world.specs.World.{ClientSide, Joined, Names, World, with_circuit, with_client}
 use Rattle.ca_laws_circuit.proofs.Settled.{three-ways}
 use Rattle.ca_laws_runs.specs.Circuit.{HeldAt, HeldOn, sent_to, stamped}
 use Rattle.ca_laws_runs.proofs.Sending.{with_up}
@@ -46,7 +46,7 @@ more-writes kept n x j writes h = record {
 
 -- A call of client i: what is held of its circuits after it, and of the others, is held in the world after it.
 pub after-call : (kept : List ℕ) (w : World) (i k : ℕ) (x : ClientSide) (spoken : Names) (o : Outcomes) → At w.clients i x
-    → ((j : Joined) → j.client ≡ i → HeldOn kept x.names x.core j → HeldOn kept o.names o.core (sent_to i spoken o.sent j)) → HeldAt kept w k → HeldAt kept (client_after i x spoken o w) k
+    → ((j : Joined) → At w.circuits k j → j.client ≡ i → HeldOn kept x.names x.core j → HeldOn kept o.names o.core (sent_to i spoken o.sent j)) → HeldAt kept w k → HeldAt kept (client_after i x spoken o w) k
 after-call kept w i k x spoken o at keeps held =
     let j : Joined = held.0 in
     let there : At (map (sent_to i spoken o.sent) w.circuits) k (sent_to i spoken o.sent j) = At-map (sent_to i spoken o.sent) w.circuits k j held.2 in
@@ -60,7 +60,7 @@ after-call kept w i k x spoken o at keeps held =
             after,
             there,
             subst (λ (c : ℕ). At (slice_set w.clients i after) c after) (sym mine) (set-there w.clients i after (At-within w.clients i x at)),
-            keeps j mine was,
+            keeps j held.2 mine was,
           )
       | inr other ↦ (
         sent_to i spoken o.sent j,
@@ -74,3 +74,31 @@ after-call kept w i k x spoken o at keeps held =
 -- a call that was refused changes nothing but the log
 pub refused-held : (kept : List ℕ) (w new : World) (i k : ℕ) (x : ClientSide) (e : Refusal) → new ≡ refused i x e w → HeldAt kept w k → HeldAt kept new k
 refused-held kept w new i k x e is held = subst (λ (v : World). HeldAt kept v k) (sym is) (held.0, held.1, held.2, held.3, held.4)
+
+-- A circuit is changed so that what was held of it still is; the others stay.
+pub circuit-changed : (kept : List ℕ) (w : World) (k l : ℕ) (j new : Joined) → At w.circuits k j → new.client ≡ j.client → ((n : Names) (x : Client) → HeldOn kept n x j → HeldOn kept n x new) → HeldAt kept w l → HeldAt kept (with_circuit k new w) l
+circuit-changed kept w k l j new at same keeps held = elim (number-or l k) [
+  | inl is ↦
+      let one : held.0 ≡ j = At-one w.circuits k held.0 j (subst (λ (a : ℕ). At w.circuits a held.0) is held.2) at in
+      let was : HeldOn kept held.1.names held.1.core j = subst (λ (z : Joined). HeldOn kept held.1.names held.1.core z) one held.4 in
+      (
+        new,
+        held.1,
+        subst (λ (a : ℕ). At (slice_set w.circuits k new) a new) (sym is) (set-there w.circuits k new (At-within w.circuits k j at)),
+        subst (λ (a : ℕ). At w.clients a held.1) (ap (λ (z : Joined). z.client) one ∙ sym same) held.3,
+        keeps held.1.names held.1.core was,
+      )
+  | inr other ↦ (held.0, held.1, At-set-other w.circuits k l held.0 new held.2 other, held.3, held.4)
+]
+
+-- A client is changed so that what was held of its circuits still is; the others stay.
+pub client-changed : (kept : List ℕ) (w : World) (i k : ℕ) (x new : ClientSide) → At w.clients i x → ((j : Joined) → j.client ≡ i → HeldOn kept x.names x.core j → HeldOn kept new.names new.core j) → HeldAt kept w k → HeldAt kept (with_client i new w) k
+client-changed kept w i k x new at keeps held =
+    let j : Joined = held.0 in
+    elim (number-or j.client i) [
+      | inl mine ↦
+          let same : held.1 ≡ x = At-one w.clients i held.1 x (subst (λ (c : ℕ). At w.clients c held.1) mine held.3) at in
+          let was : HeldOn kept x.names x.core j = subst (λ (z : ClientSide). HeldOn kept z.names z.core j) same held.4 in
+          (j, new, held.2, subst (λ (c : ℕ). At (slice_set w.clients i new) c new) (sym mine) (set-there w.clients i new (At-within w.clients i x at)), keeps j mine was)
+      | inr other ↦ (j, held.1, held.2, At-set-other w.clients i j.client held.1 new held.3 other, held.4)
+    ]

@@ -3,7 +3,7 @@ use Rattle.std.specs.Prelude.{ℕ, ◌≡◌, ◌≤◌, ◌++◌, true, List}
 use Rattle.ca_text.specs.Place.{At}
 use Rattle.ca_arena.specs.Arena.{place_at}
 use Rattle.ca_arena.specs.declared.handle.Handle.{Handle}
-use Rattle.ca_ids.specs.Table.{Table}
+use Rattle.ca_ids.specs.Table.{Table, same_handle}
 use Rattle.ca_ids.specs.Wire.{wire_of}
 use Rattle.ca_model.specs.Answers.{Sending}
 use Rattle.ca_model.specs.Client.{Client}
@@ -45,3 +45,8 @@ AreGiven names t = (i : ℕ) (e : Handle × Intent) → At names i e → WasGive
 abbrev pub HeldAt : (kept : List ℕ) → World → (k : ℕ) → Type 0
 HeldAt kept w k =
     (j : Joined) × (x : ClientSide) × At w.circuits k j × At w.clients j.client x × HeldOn kept x.names x.core j
+
+-- Circuits whose ends at one client are open have handles of their own there.
+abbrev pub HaveHandles : World → Type 0
+HaveHandles w = (k l : ℕ) (a b : Joined) → At w.circuits k a → At w.circuits l b → a.client ≡ b.client
+    → a.lists.client_open ≡ true → b.lists.client_open ≡ true → same_handle a.at_client b.at_client ≡ true → k ≡ l
