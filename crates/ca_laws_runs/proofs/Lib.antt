@@ -5,3 +5,4 @@ pub mod Moves
 pub mod Worlds
 pub mod Happens
 pub mod Bytes
+pub mod Heard
