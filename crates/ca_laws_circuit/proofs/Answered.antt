@@ -24,7 +24,8 @@ use Rattle.ca_model_world.specs.ClientEvents.{channel_number, meant_by}
 use Rattle.ca_model_world.specs.World.{Names}
 use Rattle.ca_laws_circuit.specs.Flows.{Ends, Flows, IsLast, IsPending, NoMore, with_heard}
 use Rattle.ca_laws_circuit.specs.Held.{Holds, HoldsChannels, HoldsRequests, HoldsSubscriptions, OnChannels, has_id, is_asked, is_subscribed}
-use Rattle.ca_laws_circuit.proofs.Clears.{handle-or, is-on, same-is, same-itself}
+use Rattle.ca_laws_circuit.proofs.Clears.{is-on}
+use Rattle.ca_laws_circuit.proofs.Handles.{handle-or, same-is, same-itself}
 use Rattle.ca_laws_circuit.proofs.Heard.{channel-on, has-too, holds-heard}
 use Rattle.ca_laws_circuit.proofs.Held.{ids-kept}
 use Rattle.ca_laws_circuit.proofs.Requests.{requests-freed}

@@ -20,25 +20,10 @@ use Rattle.ca_model_world.specs.World.{Names}
 use Rattle.ca_laws_circuit.specs.Flows.{Concerns, MaySend, MeansOwn, with_sent}
 use Rattle.ca_laws_circuit.specs.Held.{clear_of, Holds, HoldsChannels, HoldsRequests, HoldsSubscriptions, has_id, is_asked, is_subscribed}
 use Rattle.ca_laws_circuit.proofs.Flows.{given-sent}
+use Rattle.ca_laws_circuit.proofs.Handles.{handle-or, same-is, same-itself}
 use Rattle.ca_laws_circuit.proofs.Held.{ids-kept, ids-sent}
 use Rattle.ca_laws_circuit.proofs.Requests.{requests-over, requests-sent}
 use Rattle.ca_laws_circuit.proofs.Tables.{all-back, all-there, changed-back, changed-few, changed-other, changed-own, handle-is}
-
--- ---- handles
-
-pub same-itself : (h : Handle) → same_handle h h ≡ true
-same-itself h = and_from (eqb h.index h.index) (eqb h.generation h.generation) (eq-eqb h.index h.index refl) (eq-eqb h.generation h.generation refl)
-
-pub same-is : (g h : Handle) → same_handle g h ≡ true → g ≡ h
-same-is g h is =
-    let parts = and_parts (eqb g.index h.index) (eqb g.generation h.generation) is in
-    handle-is g h (eqb-true g.index h.index parts.0) (eqb-true g.generation h.generation parts.1)
-
-pub handle-or : (g h : Handle) → (g ≡ h) ⊎ (g ≡ h → ⊥)
-handle-or g h = elim (cases_Bool (same_handle g h)) [
-  | inl is ↦ inl (same-is g h is)
-  | inr other ↦ inr (λ e. both_ways (same_handle g h) other (subst (λ (x : Handle). same_handle g x ≡ true) e (same-itself g)))
-]
 
 -- ---- the channel
 
@@ -64,7 +49,7 @@ is-on test on ch p is =
     ap (λ (s : Standing). unwrap_or (option_map test (phase_on on s)) false) is
     ∙ ap (λ (b : Bool). unwrap_or (option_map test (cond b (Some p) None)) false) (same-itself on)
 
-gives-none : (n : Names) (sid : ℕ) (h : Handle) (id : Id) → Gives (clear_of n sid h).message id → ⊥
+pub gives-none : (n : Names) (sid : ℕ) (h : Handle) (id : Id) → Gives (clear_of n sid h).message id → ⊥
 gives-none n sid h (Cid m) g = (let e : ◌≡◌ {A = ℕ} 12 18 = g.0 in omega (arith, e))
 gives-none n sid h (Ioid m) g = elim g.0 [
   | inl e ↦ (let f : ◌≡◌ {A = ℕ} 12 15 = e in omega (arith, f))
@@ -73,7 +58,7 @@ gives-none n sid h (Ioid m) g = elim g.0 [
 gives-none n sid h (SubId m) g = (let e : ◌≡◌ {A = ℕ} 12 1 = g.0 in omega (arith, e))
 
 -- it concerns its CID alone
-concerns-cid : (n : Names) (sid : ℕ) (h : Handle) (c : Circuit) (id : Id) → Concerns (c.up ++ clear_of n sid h ∷ []) (length c.up) id → id ≡ Cid (wire_of h)
+pub concerns-cid : (n : Names) (sid : ℕ) (h : Handle) (c : Circuit) (id : Id) → Concerns (c.up ++ clear_of n sid h ∷ []) (length c.up) id → id ≡ Cid (wire_of h)
 concerns-cid n sid h c id concerns =
     let s : Sent = clear_of n sid h in
     let same : concerns.0 ≡ s = At-one (c.up ++ s ∷ []) (length c.up) concerns.0 s concerns.1 (At-last c.up s) in
@@ -131,6 +116,41 @@ over-had on t u d live (Cancelled o) e is =
 over-had on t u d live (Ended o) e is =
     subst (λ (s : Stage). (drains_in on s || (stands_in s && unwrap_or (option_map (is_on_in is_subscribed on) (under t d.channel)) false)) ≡ true) (sym e) is
 
+-- ---- a CLEAR_CHANNEL goes out, of a channel whose CREATE_CHAN went out
+
+module _ (Awaits : ℕ → Type 0) (on : Handle) (n : Names) (x : Client) (c : Circuit) (h : Handle) (sid : ℕ) (ch : Channel) (there : under x.channels h ≡ Some ch) (asked : is_on_in is_asked on ch ≡ true) (holds : Holds Awaits on n x c) where
+  abbrev clearing-it : Sent
+  clearing-it = clear_of n sid h
+
+  no-ioid : (m : ℕ) → Ioid m ≡ Cid (wire_of h) → ⊥
+  no-ioid m e = cc
+
+  no-sub : (m : ℕ) → SubId m ≡ Cid (wire_of h) → ⊥
+  no-sub m e = cc
+
+  pub clear-goes : MaySend Awaits c clearing-it
+  clear-goes = record {
+    suits = refl;
+    fresh = λ p id gives pending. gives-none n sid h id gives;
+    means = λ id concerns.
+        let is : id ≡ Cid (wire_of h) = concerns-cid n sid h c id concerns in
+        let m = holds.channels.own h ch there asked in
+        let k : m.0 < length c.up = At-within c.up m.0 m.2.0 m.2.1 in
+        subst (λ (y : Id). MeansOwn (c.up ++ clearing-it ∷ []) (length c.up) y) (sym is)
+        (m.0, m.1, clearing-it, given-sent c.up clearing-it (Cid (wire_of h)) m.0 m.1 (gives-none n sid h (Cid (wire_of h))) m.2, omega (arith, k), At-last c.up clearing-it, m.3);
+  }
+
+  pub clear-gone : Holds Awaits on n x (with_sent clearing-it c)
+  clear-gone = record {
+    channels =
+        ids-sent Cid _ Awaits (is_on_in is_asked on) x.channels c clearing-it (λ m. gives-none n sid h (Cid m))
+        (λ m concerns. (h, ch, there, sym (cid-is m (wire_of h) (concerns-cid n sid h c (Cid m) concerns)), asked)) holds.channels;
+    requests = requests-sent on _ Awaits x.requests c clearing-it (λ m. gives-none n sid h (Ioid m)) holds.requests;
+    subscriptions =
+        ids-sent SubId _ Awaits (has_id x.channels on) x.subscriptions c clearing-it (λ m. gives-none n sid h (SubId m))
+        (λ m concerns. absurd (no-sub m (concerns-cid n sid h c (SubId m) concerns))) holds.subscriptions;
+  }
+
 -- ---- all that is held
 
 module _ (Awaits : ℕ → Type 0) (on : Handle) (n : Names) (x : Client) (c : Circuit) (h : Handle) (native : Native) (rights : ℕ) (ch : Channel) (there : under x.channels h ≡ Some ch) (stands : ch.standing ≡ On on (Live native rights)) (holds : Holds Awaits on n x c) where
@@ -146,22 +166,11 @@ module _ (Awaits : ℕ → Type 0) (on : Handle) (n : Names) (x : Client) (c : C
   pub is-asked : is_on_in is_asked on ch ≡ true
   is-asked = is-on is_asked on ch (Live native rights) stands
 
-  clear-may : MaySend Awaits c stamped
-  clear-may = record {
-    suits = refl;
-    fresh = λ p id gives pending. gives-none n native.sid h id gives;
-    means = λ id concerns.
-        let is : id ≡ Cid (wire_of h) = concerns-cid n native.sid h c id concerns in
-        let m = holds.channels.own h ch there is-asked in
-        let k : m.0 < length c.up = At-within c.up m.0 m.2.0 m.2.1 in
-        subst (λ (y : Id). MeansOwn (c.up ++ stamped ∷ []) (length c.up) y) (sym is)
-        (m.0, m.1, stamped, given-sent c.up stamped (Cid (wire_of h)) m.0 m.1 (gives-none n native.sid h (Cid (wire_of h))) m.2, omega (arith, k), At-last c.up stamped, m.3);
-  }
+  went : Holds Awaits on n x (with_sent stamped c)
+  went = clear-gone Awaits on n x c h native.sid ch there is-asked holds
 
   pub channels-sent : HoldsChannels Awaits on (channel_number n) x.channels (with_sent stamped c)
-  channels-sent =
-      ids-sent Cid _ Awaits (is_on_in is_asked on) x.channels c stamped (λ m. gives-none n native.sid h (Cid m))
-      (λ m concerns. (h, ch, there, sym (cid-is m (wire_of h) (concerns-cid n native.sid h c (Cid m) concerns)), is-asked)) holds.channels
+  channels-sent = went.channels
 
   channels-cleared : HoldsChannels Awaits on (channel_number n) after (with_sent stamped c)
   channels-cleared =
@@ -177,16 +186,10 @@ module _ (Awaits : ℕ → Type 0) (on : Handle) (n : Names) (x : Client) (c : C
       ])
       channels-sent
 
-  no-ioid : (m : ℕ) → Ioid m ≡ Cid (wire_of h) → ⊥
-  no-ioid m e = cc
-
-  no-sub : (m : ℕ) → SubId m ≡ Cid (wire_of h) → ⊥
-  no-sub m e = cc
-
   pub requests-cleared : HoldsRequests Awaits on (meant_by n.requests) (channel_over h x.requests) (with_sent stamped c)
   requests-cleared =
       requests-over on _ Awaits h x.requests (with_sent stamped c)
-      (requests-sent on _ Awaits x.requests c stamped (λ m. gives-none n native.sid h (Ioid m)) holds.requests)
+      went.requests
 
   -- the channel is live in the table before
   live-there : (d : Subscription) → d.channel ≡ h → unwrap_or (option_map (is_on_in is_subscribed on) (under x.channels d.channel)) false ≡ true
@@ -216,9 +219,7 @@ module _ (Awaits : ℕ → Type 0) (on : Handle) (n : Names) (x : Client) (c : C
           ]) f
 
   pub subscriptions-sent : HoldsSubscriptions Awaits on (meant_by n.subscriptions) x.channels x.subscriptions (with_sent stamped c)
-  subscriptions-sent =
-      ids-sent SubId _ Awaits (has_id x.channels on) x.subscriptions c stamped (λ m. gives-none n native.sid h (SubId m))
-      (λ m concerns. absurd (no-sub m (concerns-cid n native.sid h c (SubId m) concerns))) holds.subscriptions
+  subscriptions-sent = went.subscriptions
 
   subscriptions-cleared : HoldsSubscriptions Awaits on (meant_by n.subscriptions) after (monitor.channel_over on h x.subscriptions) (with_sent stamped c)
   subscriptions-cleared =
@@ -234,7 +235,7 @@ module _ (Awaits : ℕ → Type 0) (on : Handle) (n : Names) (x : Client) (c : C
   clear-holds = record { channels = channels-cleared; requests = requests-cleared; subscriptions = subscriptions-cleared }
 
   pub clear-may-be-sent : MaySend Awaits c stamped
-  clear-may-be-sent = clear-may
+  clear-may-be-sent = clear-goes Awaits on n x c h native.sid ch there is-asked holds
 
 -- the same by the standing that the call found
 pub clears : (Awaits : ℕ → Type 0) (on : Handle) (n : Names) (x : Client) (c : Circuit) (h : Handle) (native : Native) (rights : ℕ) → standing_at x h ≡ Some (On on (Live native rights)) → Holds Awaits on n x c

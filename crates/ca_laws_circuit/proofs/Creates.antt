@@ -24,16 +24,16 @@ use Rattle.ca_laws_circuit.proofs.Held.{ids-again, ids-free, ids-kept, ids-sent}
 use Rattle.ca_laws_circuit.proofs.Requests.{given-new}
 use Rattle.ca_laws_circuit.proofs.Tables.{changed-back, changed-other, one-value}
 
-cid-is : (a b : ℕ) → Cid a ≡ Cid b → a ≡ b
+pub cid-is : (a b : ℕ) → Cid a ≡ Cid b → a ≡ b
 cid-is a b e = cc
 
-no-ioid : (a b : ℕ) → Ioid a ≡ Cid b → ⊥
+pub no-ioid : (a b : ℕ) → Ioid a ≡ Cid b → ⊥
 no-ioid a b e = cc
 
-no-sub : (a b : ℕ) → SubId a ≡ Cid b → ⊥
+pub no-sub : (a b : ℕ) → SubId a ≡ Cid b → ⊥
 no-sub a b e = cc
 
-creates-gives : (s : Sent) (id : Id) → Is command.CreateChannel s.message → Gives s.message id → id ≡ Cid s.message.p1
+pub creates-gives : (s : Sent) (id : Id) → Is command.CreateChannel s.message → Gives s.message id → id ≡ Cid s.message.p1
 creates-gives s (Cid n) is g = ap Cid (sym g.1)
 creates-gives s (SubId n) is g = (let e : ◌≡◌ {A = ℕ} 18 1 = sym is ∙ g.0 in absurd (omega (arith, e)))
 creates-gives s (Ioid n) is g = absurd (elim g.0 [
@@ -41,7 +41,7 @@ creates-gives s (Ioid n) is g = absurd (elim g.0 [
   | inr e ↦ (let f : ◌≡◌ {A = ℕ} 18 19 = sym is ∙ e in omega (arith, f))
 ])
 
-creates-concerns : (c : Circuit) (s : Sent) (id : Id) → Is command.CreateChannel s.message → Concerns (c.up ++ s ∷ []) (length c.up) id → id ≡ Cid s.message.p1
+pub creates-concerns : (c : Circuit) (s : Sent) (id : Id) → Is command.CreateChannel s.message → Concerns (c.up ++ s ∷ []) (length c.up) id → id ≡ Cid s.message.p1
 creates-concerns c s id is concerns =
     let same : concerns.0 ≡ s = At-one (c.up ++ s ∷ []) (length c.up) concerns.0 s concerns.1 (At-last c.up s) in
     let command : concerns.0.message.command ≡ s.message.command = ap (λ (x : Sent). x.message.command) same in

@@ -22,7 +22,8 @@ use Rattle.ca_model_world.specs.World.{Names}
 use Rattle.ca_laws_circuit.specs.Flows.{Ends, Flows, IsCidOf, IsLast, IsPending, NoMore, with_heard}
 use Rattle.ca_laws_circuit.specs.Held.{Holds, HoldsChannels, HoldsSubscriptions, OnChannels, has_id, is_asked, is_subscribed}
 use Rattle.ca_laws_circuit.proofs.Answered.{cid-named, subscribed-asked}
-use Rattle.ca_laws_circuit.proofs.Clears.{handle-or, is-on}
+use Rattle.ca_laws_circuit.proofs.Clears.{is-on}
+use Rattle.ca_laws_circuit.proofs.Handles.{handle-or}
 use Rattle.ca_laws_circuit.proofs.Flows.{given-now}
 use Rattle.ca_laws_circuit.proofs.Heard.{channel-on, has-too, holds-heard}
 use Rattle.ca_laws_circuit.proofs.Held.{ids-kept}
@@ -193,7 +194,7 @@ cancelled-has on channels d is = or_left (drains_in on d.stage) (stands_in d.sta
     go (monitor.Cancelled o) f = f
     go (monitor.Ended o) f = absurd (both_ways false refl f)
 
-on-is : (a n : ℕ) (p q : Ask) → history.On a p ≡ history.On n q → a ≡ n
+pub on-is : (a n : ℕ) (p q : Ask) → history.On a p ≡ history.On n q → a ≡ n
 on-is a n p q e = cc
 
 channel-is : (a b : ℕ) (p q r s : Ask) (n : ℕ) → history.On a p ≡ history.On n q → history.On b r ≡ history.On n s → a ≡ b
@@ -257,7 +258,7 @@ rights-heard Awaits on n x c g cid h p q finds like alike holds =
     phase-kept Awaits on n x (with_heard g c) h found.0 p q found.1 (is-on is_asked on found.0 p found.3) (is-on is_subscribed on found.0 p found.3) like alike (holds-heard Awaits on n x c g holds)
 
 -- what a message at this place concerns
-abbrev Of : Circuit → (place : ℕ) → Sent → Id → Type 0
+abbrev pub Of : Circuit → (place : ℕ) → Sent → Id → Type 0
 Of c place z id =
     Gives z.message id
     ⊎ ((Is command.ClearChannel z.message × (id ≡ Cid z.message.p2))

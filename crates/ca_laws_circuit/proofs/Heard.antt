@@ -24,7 +24,8 @@ use Rattle.ca_model_world.specs.ClientEvents.{channel_number, meant_by}
 use Rattle.ca_model_world.specs.World.{Names}
 use Rattle.ca_laws_circuit.specs.Flows.{Flows, IsLast, MaySend, with_heard, with_sent}
 use Rattle.ca_laws_circuit.specs.Held.{Holds, HoldsChannels, HoldsSubscriptions, clear_of, has_id, is_asked, is_subscribed}
-use Rattle.ca_laws_circuit.proofs.Clears.{channels-sent, clear-may-be-sent, handle-or, is-on, requests-cleared, same-is, subscriptions-sent}
+use Rattle.ca_laws_circuit.proofs.Clears.{channels-sent, clear-may-be-sent, is-on, requests-cleared, subscriptions-sent}
+use Rattle.ca_laws_circuit.proofs.Handles.{handle-or, same-is}
 use Rattle.ca_laws_circuit.proofs.Held.{ids-heard, ids-kept}
 use Rattle.ca_laws_circuit.proofs.Requests.{requests-replied}
 use Rattle.ca_laws_circuit.proofs.Settled.{ioid-gives, read-means}
@@ -70,13 +71,13 @@ answered-is on command ioid t q r is = go (by_wire t ioid) refl is
             subst (λ (x : Handle × Request). (under t x.0 ≡ Some x.1) × (wire_of x.0 ≡ ioid) × (was_sent_on on x.1 ≡ true)) same (there.0, there.1, sent)
         by false is_it f = absurd cc
 
--- A reply that finds a request is about what was meant by it, and frees its IOID.
-pub reply-heard : (Awaits : ℕ → Type 0) (on : Handle) (n : Names) (x : Client) (c : Circuit) (g : Step) (t : Told) (s : Sent) (q : Handle) (r : Request) → Flows Awaits c → Holds Awaits on n x c
-    → At c.down (length c.heard) t → t.cause ≡ Reply → Is command.ReadNotify t.message ⊎ Is command.WriteNotify t.message → At c.up t.place s → answered_by on t.message.command t.message.p2 x.requests ≡ Some (q, r)
+-- A reply or an ERROR that finds a request is about what was meant by it, and frees its IOID.
+pub request-over : (Awaits : ℕ → Type 0) (on : Handle) (n : Names) (x : Client) (c : Circuit) (g : Step) (t : Told) (s : Sent) (q : Handle) (r : Request) (command_read ioid : ℕ) → Flows Awaits c → Holds Awaits on n x c
+    → At c.down (length c.heard) t → t.cause ≡ Reply → Speaks t.message (Ioid ioid) → At c.up t.place s → answered_by on command_read ioid x.requests ≡ Some (q, r)
     → Holds Awaits on n (without_request q x) (with_heard g c) × (named (Ioid (wire_of q)) s.intent ≡ named (Ioid (wire_of q)) (meant_by n.requests q))
-reply-heard Awaits on n x c g t s q r f h at cause is there finds =
-    let found = answered-is on t.message.command t.message.p2 x.requests q r finds in
-    let speaks : Speaks t.message (Ioid (wire_of q)) = inl (is, sym found.1) in
+request-over Awaits on n x c g t s q r command_read ioid f h at cause spoken there finds =
+    let found = answered-is on command_read ioid x.requests q r finds in
+    let speaks : Speaks t.message (Ioid (wire_of q)) = subst (λ (k : ℕ). Speaks t.message (Ioid k)) (sym found.1) spoken in
     let gave = ioid-gives c.up t.place (wire_of q) (f.concerns (length c.heard) t (Ioid (wire_of q)) at speaks) in
     let same : gave.0 ≡ s = At-one c.up t.place gave.0 s gave.1 there in
     let gives : Gives s.message (Ioid (wire_of q)) = subst (λ (z : Sent). Gives z.message (Ioid (wire_of q))) same gave.2 in
@@ -91,6 +92,12 @@ reply-heard Awaits on n x c g t s q r f h at cause is there finds =
       },
       sym (ap (λ (z : Sent). named (Ioid (wire_of q)) z.intent) one) ∙ means.2 ∙ sym own.3,
     )
+
+pub reply-heard : (Awaits : ℕ → Type 0) (on : Handle) (n : Names) (x : Client) (c : Circuit) (g : Step) (t : Told) (s : Sent) (q : Handle) (r : Request) → Flows Awaits c → Holds Awaits on n x c
+    → At c.down (length c.heard) t → t.cause ≡ Reply → Is command.ReadNotify t.message ⊎ Is command.WriteNotify t.message → At c.up t.place s → answered_by on t.message.command t.message.p2 x.requests ≡ Some (q, r)
+    → Holds Awaits on n (without_request q x) (with_heard g c) × (named (Ioid (wire_of q)) s.intent ≡ named (Ioid (wire_of q)) (meant_by n.requests q))
+reply-heard Awaits on n x c g t s q r f h at cause is there finds =
+    request-over Awaits on n x c g t s q r t.message.command t.message.p2 f h at cause (inl (is, refl)) there finds
 
 -- ---- a channel's record was removed
 

@@ -1,15 +1,16 @@
 -- A table of ids on one circuit, as the circuit's lists grow and as the table changes.
-use Rattle.std.proofs.Common.{◌≡◌, ℕ, ◌≤◌, inl, inr, Bool, true, false, [], ◌∷◌, ◌++◌, length, Some, sym, subst, arith}
-use Rattle.std.proofs.lemmas.Bool.{both_ways}
+use Rattle.std.proofs.Common.{◌≡◌, ℕ, ◌≤◌, inl, inr, Bool, true, false, ◌||◌, [], ◌∷◌, ◌++◌, length, Some, sym, subst, arith}
+use Rattle.std.proofs.lemmas.Bool.{both_ways, or_cases, or_left, or_right}
 use Rattle.ca_text.specs.Limits.{arena_slots}
 use Rattle.ca_arena.specs.declared.handle.Handle.{Handle}
-use Rattle.ca_ids.specs.Table.{MayGive, Table, under, with_changed, with_held}
+use Rattle.ca_ids.specs.Table.{MayGive, Table, same_handle, under, with_changed, with_held}
 use Rattle.ca_ids.specs.Wire.{wire_of}
 use Rattle.ca_model.specs.Speech.{Id, Gives}
 use Rattle.ca_model.specs.History.{Intent, Sent, Told, Step, Circuit}
 use Rattle.ca_model_safe.specs.Channels.{named}
 use Rattle.ca_laws_circuit.specs.Flows.{Concerns, IsPending, MayTell, with_handled, with_heard, with_sent, with_told}
-use Rattle.ca_laws_circuit.specs.Held.{HoldsIds, IsHeld, IsMeant}
+use Rattle.ca_laws_circuit.specs.Held.{HoldsIds, HoldsIdsBy, IsHeld, IsHeldBy, IsMeant}
+use Rattle.ca_laws_circuit.proofs.Handles.{handle-or, same-is, same-itself}
 use Rattle.ca_laws_circuit.proofs.Requests.{given-new, meant-sent, pending-fewer, pending-sent, pending-told}
 use Rattle.ca_laws_circuit.proofs.Settled.{pending-before}
 use Rattle.ca_laws_circuit.proofs.Tables.{changed-back, changed-few, changed-other, changed-own, given-fresh, held-back, held-few, held-other, held-own, one-by-wire, one-value}
@@ -31,15 +32,62 @@ module _ {T : Type 0} (kind : ℕ → Id) (meant : Handle → Intent) where
 
   module _ (Awaits : ℕ → Type 0) where
     -- a message is sent that gives no id of this kind, and concerns none but those that are held
-    pub ids-sent : (here : T → Bool) (t : Table T) (c : Circuit) (s : Sent) → ((n : ℕ) → Gives s.message (kind n) → ⊥) → ((n : ℕ) → Concerns (c.up ++ s ∷ []) (length c.up) (kind n) → IsHeld here t n)
-        → HoldsIds Awaits kind here meant t c → HoldsIds Awaits kind here meant t (with_sent s c)
-    ids-sent here t c s none held h = record {
+    pub ids-sent-by : (here : Handle → T → Bool) (t : Table T) (c : Circuit) (s : Sent) → ((n : ℕ) → Gives s.message (kind n) → ⊥) → ((n : ℕ) → Concerns (c.up ++ s ∷ []) (length c.up) (kind n) → IsHeldBy here t n)
+        → HoldsIdsBy Awaits kind here meant t c → HoldsIdsBy Awaits kind here meant t (with_sent s c)
+    ids-sent-by here t c s none held h = record {
       few = h.few;
       busy = λ p n pending. elim (pending-sent Awaits c s p (kind n) pending) [
         | inl old ↦ h.busy p n old
         | inr new ↦ held n new.1
       ];
       own = λ g v is in_it. meant-sent c s (meant g) (kind (wire_of g)) (none (wire_of g)) (h.own g v is in_it);
+    }
+
+    pub ids-sent : (here : T → Bool) (t : Table T) (c : Circuit) (s : Sent) → ((n : ℕ) → Gives s.message (kind n) → ⊥) → ((n : ℕ) → Concerns (c.up ++ s ∷ []) (length c.up) (kind n) → IsHeld here t n)
+        → HoldsIds Awaits kind here meant t c → HoldsIds Awaits kind here meant t (with_sent s c)
+    ids-sent here t c s none held h = ids-sent-by (λ (g : Handle). here) t c s none held h
+
+    -- a message gives the id of something in the table that did not have its id here: now it has it
+    pub ids-named : (here : Handle → T → Bool) (t : Table T) (c : Circuit) (q : Handle) (u : T) (s : Sent) (number : ℕ) → under t q ≡ Some u → Gives s.message (kind (wire_of q))
+        → ((n : ℕ) → Concerns (c.up ++ s ∷ []) (length c.up) (kind n) → wire_of q ≡ n) → ((n : ℕ) → Gives s.message (kind n) → wire_of q ≡ n)
+        → named (kind (wire_of q)) s.intent ≡ Some number → named (kind (wire_of q)) (meant q) ≡ Some number
+        → HoldsIdsBy Awaits kind here meant t c → HoldsIdsBy Awaits kind (λ (g : Handle) (v : T). here g v || same_handle g q) meant t (with_sent s c)
+    ids-named here t c q u s number there gives only gives_only is means h = record {
+      few = h.few;
+      busy = λ p n pending. elim (pending-sent Awaits c s p (kind n) pending) [
+        | inl old ↦ (let holder = h.busy p n old in (holder.0, holder.1, holder.2, holder.3, or_left (here holder.0 holder.1) (same_handle holder.0 q) holder.4))
+        | inr new ↦ (q, u, there, only n new.1, or_right (here q u) (same_handle q q) (same-itself q))
+      ];
+      own = λ g w stands in_too. elim (handle-or g q) [
+        | inl same ↦
+            let m : IsMeant (with_sent s c) (meant q) (kind (wire_of q)) = (length c.up, number, given-new c s (kind (wire_of q)) number gives is, means) in
+            subst (λ (k : Handle). IsMeant (with_sent s c) (meant k) (kind (wire_of k))) (sym same) m
+        | inr other ↦
+            meant-sent c s (meant g) (kind (wire_of g)) (λ again. other (one-by-wire t g q w u h.few stands there (sym (gives_only (wire_of g) again))))
+            (h.own g w stands (elim (or_cases (here g w) (same_handle g q) in_too) [
+              | inl was ↦ was
+              | inr is_it ↦ absurd (other (same-is g q is_it))
+            ]))
+      ];
+    }
+
+    -- nothing that may still come speaks of the id of what is in the table and does not have its id here
+    pub ids-away : (here : Handle → T → Bool) (t : Table T) (c : Circuit) (q : Handle) (u : T) → under t q ≡ Some u → here q u ≡ false → HoldsIdsBy Awaits kind here meant t c → (p : ℕ) → IsPending Awaits c p (kind (wire_of q)) → ⊥
+    ids-away here t c q u is away h p pending =
+        let holder = h.busy p (wire_of q) pending in
+        let same : holder.0 ≡ q = one-by-wire t holder.0 q holder.1 u h.few holder.2 is holder.3 in
+        let value : holder.1 ≡ u = one-value t q holder.1 u (subst (λ (x : Handle). under t x ≡ Some holder.1) same holder.2) is in
+        both_ways (here q u) away (subst (λ (x : Handle × T). here x.0 x.1 ≡ true) (λ i. (same i, value i)) holder.4)
+
+    -- the table and its test change, and the lists stay: what is pending stays held, and nothing is held anew
+    pub ids-kept-by : (here there : Handle → T → Bool) (t u : Table T) (c : Circuit) → length u ≤ arena_slots
+        → ((p n : ℕ) → IsPending Awaits c p (kind n) → IsHeldBy here t n → IsHeldBy there u n)
+        → ((g : Handle) (v : T) → under u g ≡ Some v → there g v ≡ true → (w : T) × (under t g ≡ Some w) × (here g w ≡ true))
+        → HoldsIdsBy Awaits kind here meant t c → HoldsIdsBy Awaits kind there meant u c
+    ids-kept-by here there t u c few keeps back h = record {
+      few = few;
+      busy = λ p n pending. keeps p n pending (h.busy p n pending);
+      own = λ g v is in_it. (let was = back g v is in_it in h.own g was.0 was.1 was.2);
     }
 
     -- ---- the table changes, and the lists stay

@@ -3,9 +3,12 @@ pub mod Flows
 pub mod Settled
 pub mod Replies
 pub mod Tables
+pub mod Handles
 pub mod Requests
 pub mod Told
 pub mod Held
+pub mod Marks
+pub mod Many
 pub mod Clears
 pub mod Sids
 pub mod Steps
@@ -16,3 +19,10 @@ pub mod Answered
 pub mod Subscribes
 pub mod Creates
 pub mod Ended
+pub mod Alike
+pub mod Lives
+pub mod Writes
+pub mod Refused
+pub mod Others
+pub mod Ends
+pub mod Connects

@@ -21,24 +21,24 @@ use Rattle.ca_model_world.specs.World.{Names}
 use Rattle.ca_laws_circuit.specs.Flows.{Concerns, IsPending, MaySend, MeansOwn, with_sent}
 use Rattle.ca_laws_circuit.specs.Held.{Holds, HoldsSubscriptions, IsNew, has_id, is_asked, is_subscribed, with_subscription}
 use Rattle.ca_laws_circuit.proofs.Calls.{meant-others, meant-own}
-use Rattle.ca_laws_circuit.proofs.Clears.{handle-or, same-itself}
+use Rattle.ca_laws_circuit.proofs.Handles.{handle-or, same-itself}
 use Rattle.ca_laws_circuit.proofs.Flows.{given-sent}
 use Rattle.ca_laws_circuit.proofs.Held.{ids-fresh, ids-given, ids-kept, ids-sent}
 use Rattle.ca_laws_circuit.proofs.Requests.{given-new}
 use Rattle.ca_laws_circuit.proofs.Tables.{changed-back, changed-few, changed-other, changed-own}
 
-sub-is : (a b : ℕ) → SubId a ≡ SubId b → a ≡ b
+pub sub-is : (a b : ℕ) → SubId a ≡ SubId b → a ≡ b
 sub-is a b e = cc
 
-no-cid : (a b : ℕ) → Cid a ≡ SubId b → ⊥
+pub no-cid : (a b : ℕ) → Cid a ≡ SubId b → ⊥
 no-cid a b e = cc
 
-no-ioid : (a b : ℕ) → Ioid a ≡ SubId b → ⊥
+pub no-ioid : (a b : ℕ) → Ioid a ≡ SubId b → ⊥
 no-ioid a b e = cc
 
 -- ---- what an EVENT_ADD and an EVENT_CANCEL concern
 
-adds-gives : (s : Sent) (id : Id) → Is command.EventAdd s.message → Gives s.message id → id ≡ SubId s.message.p2
+pub adds-gives : (s : Sent) (id : Id) → Is command.EventAdd s.message → Gives s.message id → id ≡ SubId s.message.p2
 adds-gives s (SubId n) is g = ap SubId (sym g.1)
 adds-gives s (Cid n) is g = (let e : ◌≡◌ {A = ℕ} 1 18 = sym is ∙ g.0 in absurd (omega (arith, e)))
 adds-gives s (Ioid n) is g = absurd (elim g.0 [
@@ -46,7 +46,7 @@ adds-gives s (Ioid n) is g = absurd (elim g.0 [
   | inr e ↦ (let f : ◌≡◌ {A = ℕ} 1 19 = sym is ∙ e in omega (arith, f))
 ])
 
-adds-concerns : (c : Circuit) (s : Sent) (id : Id) → Is command.EventAdd s.message → Concerns (c.up ++ s ∷ []) (length c.up) id → id ≡ SubId s.message.p2
+pub adds-concerns : (c : Circuit) (s : Sent) (id : Id) → Is command.EventAdd s.message → Concerns (c.up ++ s ∷ []) (length c.up) id → id ≡ SubId s.message.p2
 adds-concerns c s id is concerns =
     let same : concerns.0 ≡ s = At-one (c.up ++ s ∷ []) (length c.up) concerns.0 s concerns.1 (At-last c.up s) in
     let command : concerns.0.message.command ≡ s.message.command = ap (λ (x : Sent). x.message.command) same in
@@ -57,7 +57,7 @@ adds-concerns c s id is concerns =
       | inr (inr (inr writes)) ↦ (let e : ◌≡◌ {A = ℕ} 1 4 = sym is ∙ sym command ∙ writes.0 in absurd (omega (arith, e)))
     ]
 
-cancels-gives : (s : Sent) (id : Id) → Is command.EventCancel s.message → Gives s.message id → ⊥
+pub cancels-gives : (s : Sent) (id : Id) → Is command.EventCancel s.message → Gives s.message id → ⊥
 cancels-gives s (SubId n) is g = (let e : ◌≡◌ {A = ℕ} 2 1 = sym is ∙ g.0 in omega (arith, e))
 cancels-gives s (Cid n) is g = (let e : ◌≡◌ {A = ℕ} 2 18 = sym is ∙ g.0 in omega (arith, e))
 cancels-gives s (Ioid n) is g = elim g.0 [
@@ -65,7 +65,7 @@ cancels-gives s (Ioid n) is g = elim g.0 [
   | inr e ↦ (let f : ◌≡◌ {A = ℕ} 2 19 = sym is ∙ e in omega (arith, f))
 ]
 
-cancels-concerns : (c : Circuit) (s : Sent) (id : Id) → Is command.EventCancel s.message → Concerns (c.up ++ s ∷ []) (length c.up) id → id ≡ SubId s.message.p2
+pub cancels-concerns : (c : Circuit) (s : Sent) (id : Id) → Is command.EventCancel s.message → Concerns (c.up ++ s ∷ []) (length c.up) id → id ≡ SubId s.message.p2
 cancels-concerns c s id is concerns =
     let same : concerns.0 ≡ s = At-one (c.up ++ s ∷ []) (length c.up) concerns.0 s concerns.1 (At-last c.up s) in
     let command : concerns.0.message.command ≡ s.message.command = ap (λ (x : Sent). x.message.command) same in

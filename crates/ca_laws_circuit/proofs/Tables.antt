@@ -354,3 +354,36 @@ module _ {T : Type 0} where
       let same : f.0.0 ≡ h = one-by-wire t f.0.0 h f.0.1 v few w.0 is w.1 in
       let value : f.0.1 ≡ v = one-value t h f.0.1 v (subst (λ (x : Handle). under t x ≡ Some f.0.1) same w.0) is in
       f.1 ∙ ap (λ (x : Handle × T). Some x) (λ i. (same i, value i))
+
+  -- all that is held is what holds an id
+  pub held-under : (t : Table T) (i : ℕ) (e : Handle × T) → At (held t) i e → under t e.0 ≡ Some e.1
+  held-under t i e at =
+      let r = held-at 0 t i e at in
+      let is : r.0 ≡ e.0.index = (let x : e.0.index ≡ 0 + r.0 = r.1 in omega (arith, x)) in
+      at-under t e.0 e.1 (subst (λ (n : ℕ). At t n (place e.0 e.1)) is r.2)
+
+  pub under-held : (t : Table T) (h : Handle) (v : T) → under t h ≡ Some v → (i : ℕ) × At (held t) i (h, v)
+  under-held t h v is = at-held 0 t h.index h v (omega arith) (under-at t h v is)
+
+  -- and each under a handle of its own
+  abbrev pub AreApart : List (Handle × T) → Type 0
+  AreApart [] = Unit {0}
+  AreApart (e ∷ es) = ((i : ℕ) (f : Handle × T) → At es i f → f.0 ≡ e.0 → ⊥) × AreApart es
+
+  held-apart-from : (n : ℕ) (t : Table T) → AreApart (held_from n t)
+  held-apart-from n [] = tt
+  held-apart-from n (p ∷ t) = go p.value (held-apart-from (n + 1) t)
+    where
+      go : (o : Option T) → AreApart (held_from (n + 1) t) → AreApart (option_to_list (option_map (λ (v : T). (record { index = n; generation = p.generation }, v)) o) ++ held_from (n + 1) t)
+      go (Some v) rest = (
+        (λ i f at same.
+            let r = held-at (n + 1) t i f at in
+            let index : f.0.index ≡ n = ap (λ (x : Handle). x.index) same in
+            let past : f.0.index ≡ (n + 1) + r.0 = r.1 in
+            omega (arith, index, past)),
+        rest,
+      )
+      go None rest = rest
+
+  pub held-apart : (t : Table T) → AreApart (held t)
+  held-apart t = held-apart-from 0 t

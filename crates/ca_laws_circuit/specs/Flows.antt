@@ -14,6 +14,10 @@ use Rattle.ca_model_safe.specs.Headline.{TakesOwn}
 abbrev pub with_sent : Sent → Circuit → Circuit
 with_sent s c = record c { up = c.up ++ s ∷ [] }
 
+-- the client sent these messages
+abbrev pub with_all_sent : List Sent → Circuit → Circuit
+with_all_sent ss c = record c { up = c.up ++ ss }
+
 -- the server sent a message: a reply, or a later message about one that it handled
 abbrev pub with_told : Told → Circuit → Circuit
 with_told t c = record c { down = c.down ++ t ∷ [] }
@@ -114,6 +118,11 @@ module _ (Awaits : ℕ → Type 0) where
     pub suits : Suits s.intent s.message
     pub fresh : (p : ℕ) (id : Id) → Gives s.message id → IsPending c p id → ⊥
     pub means : (id : Id) → Concerns (c.up ++ s ∷ []) (length c.up) id → MeansOwn (c.up ++ s ∷ []) (length c.up) id
+
+  -- These messages may be sent, one after another.
+  abbrev pub MaySendAll : Circuit → List Sent → Type 0
+  MaySendAll c [] = Unit {0}
+  MaySendAll c (s ∷ ss) = MaySend c s × MaySendAll (with_sent s c) ss
 
 -- A message may be told, after which less may still come: something may still come about what it is about, and it speaks of
 -- nothing else; and if it is the last about that, or ends other things, nothing more may come about these.

@@ -1,18 +1,20 @@
 -- Working: what a client's tables hold of one circuit: each id that may still come back, and what it was given to.
 use Rattle.std.specs.Prelude.{ℕ, ◌≡◌, ◌≤◌, ◌⊎◌, ◌&&◌, ◌||◌, ◌++◌, Bool, true, false, List, [], ◌∷◌, Some, None}
-use Rattle.std.specs.Prelude.{find, length, option_map, unwrap_or}
+use Rattle.std.specs.Prelude.{filter, find, length, option_map, unwrap_or}
 use Rattle.ca_text.specs.declared.command.Command.TheVariants as command
 use Rattle.ca_text.specs.Limits.{arena_slots}
 use Rattle.ca_text.specs.Place.{At}
 use Rattle.ca_arena.specs.declared.handle.Handle.{Handle}
-use Rattle.ca_ids.specs.Table.{Table, same_handle, under}
+use Rattle.ca_ids.specs.Table.{Table, held, same_handle, under}
 use Rattle.ca_ids.specs.Wire.{wire_of}
-use Rattle.ca_wire.specs.Messages.{clear_request}
+use Rattle.ca_wire.specs.Messages.{clear_request, create_request, event_add_request}
 use Rattle.ca_requests.specs.Requests.{Request, was_sent_on}
 use Rattle.ca_monitor.specs.Subscriptions.{Subscription, drains_in, stands_in}
-use Rattle.ca_model.specs.Client.{Channel, Client, Connecting, Leaving, Live, Phase, is_on_in}
+use Rattle.ca_model.specs.Client.{Channel, Clearing, Client, Connecting, Leaving, Live, Phase, is_on_in}
+use Rattle.ca_model.specs.ClientCalls.{wanted_by}
+use Rattle.ca_model.specs.ClientEnds.{is_connecting}
 use Rattle.ca_model.specs.Speech.{Cid, Gives, Id, Ioid, Is, SubId}
-use Rattle.ca_model.specs.History.{Ask, Circuit, Clear, Create, Intent, On, Sent}
+use Rattle.ca_model.specs.History.{Ask, Circuit, Clear, Create, Intent, On, Sent, Subscribe}
 use Rattle.ca_model_safe.specs.Channels.{named}
 use Rattle.ca_model_world.specs.ClientEvents.{channel_number, meant_by}
 use Rattle.ca_model_world.specs.World.{Names}
@@ -22,20 +24,28 @@ use Rattle.ca_laws_circuit.specs.Flows.{IsGiven, IsPending}
 abbrev pub IsMeant : Circuit → Intent → Id → Type 0
 IsMeant c intent id = (k number : ℕ) × IsGiven c.up id k number × (named id intent ≡ Some number)
 
--- an id of this kind and number is held: by what passes the test
-abbrev pub IsHeld : {T : Type 0} → (here : T → Bool) → Table T → (n : ℕ) → Type 0
-IsHeld {T} here t n = (h : Handle) × (v : T) × (under t h ≡ Some v) × (wire_of h ≡ n) × (here v ≡ true)
+-- an id of this kind and number is held: by what passes the test under its handle
+abbrev pub IsHeldBy : {T : Type 0} → (here : Handle → T → Bool) → Table T → (n : ℕ) → Type 0
+IsHeldBy {T} here t n = (h : Handle) × (v : T) × (under t h ≡ Some v) × (wire_of h ≡ n) × (here h v ≡ true)
 
 -- A table whose handles' wire ids are ids of one kind: those that pass the test have theirs on this circuit. What is meant by a
 -- handle is told by its client's names.
-pub record HoldsIds {T : Type 0} (Awaits : ℕ → Type 0) (kind : ℕ → Id) (here : T → Bool) (meant : Handle → Intent)
-    (t : Table T) (c : Circuit) : Type 0 where
+pub record HoldsIdsBy {T : Type 0} (Awaits : ℕ → Type 0) (kind : ℕ → Id) (here : Handle → T → Bool)
+    (meant : Handle → Intent) (t : Table T) (c : Circuit) : Type 0 where
   -- there are no more indices than ids have
   pub few : length t ≤ arena_slots
   -- For `own` of AnswersOwn: an id that may still come back is held, so that it is given to nothing else.
-  pub busy : (p n : ℕ) → IsPending Awaits c p (kind n) → IsHeld here t n
+  pub busy : (p n : ℕ) → IsPending Awaits c p (kind n) → IsHeldBy here t n
   -- For `told` of CompletesOnce: what holds an id was given it last, so that the message that finds it is about it.
-  pub own : (h : Handle) (v : T) → under t h ≡ Some v → here v ≡ true → IsMeant c (meant h) (kind (wire_of h))
+  pub own : (h : Handle) (v : T) → under t h ≡ Some v → here h v ≡ true → IsMeant c (meant h) (kind (wire_of h))
+
+-- the same where the test does not look at handles
+abbrev pub IsHeld : {T : Type 0} → (here : T → Bool) → Table T → (n : ℕ) → Type 0
+IsHeld {T} here t n = IsHeldBy (λ (h : Handle). here) t n
+
+abbrev pub HoldsIds : {T : Type 0} → (Awaits : ℕ → Type 0) → (kind : ℕ → Id) → (here : T → Bool) → (meant : Handle → Intent)
+    → Table T → Circuit → Type 0
+HoldsIds {T} Awaits kind here meant t c = HoldsIdsBy Awaits kind (λ (h : Handle). here) meant t c
 
 -- ---- requests: those that were sent on the circuit of this handle, open or draining
 
@@ -75,7 +85,72 @@ pub record Holds (Awaits : ℕ → Type 0) (on : Handle) (n : Names) (x : Client
   pub requests : HoldsRequests Awaits on (meant_by n.requests) x.requests c
   pub subscriptions : HoldsSubscriptions Awaits on (meant_by n.subscriptions) x.channels x.subscriptions c
 
--- the CLEAR_CHANNEL of a channel, as the world stamps it
+-- ---- two tables that hold the same
+
+-- What the one test names in one table the other test names in the other, under the same handle.
+pub record IsAlike {T : Type 0} (here there : T → Bool) (t u : Table T) : Type 0 where
+  pub few : length t ≤ arena_slots → length u ≤ arena_slots
+  pub keeps : (g : Handle) (v : T) → under t g ≡ Some v → here v ≡ true → (w : T) × (under u g ≡ Some w) × (there w ≡ true)
+  pub back : (g : Handle) (w : T) → under u g ≡ Some w → there w ≡ true → (v : T) × (under t g ≡ Some v) × (here v ≡ true)
+
+-- Both clients hold the same ids of the circuit of this handle.
+pub record HoldAlike (on : Handle) (x y : Client) : Type 0 where
+  pub asked : IsAlike (is_on_in is_asked on) (is_on_in is_asked on) x.channels y.channels
+  pub requests : IsAlike (was_sent_on on) (was_sent_on on) x.requests y.requests
+  pub subscriptions : IsAlike (has_id x.channels on) (has_id y.channels on) x.subscriptions y.subscriptions
+
+-- ---- what requests and subscriptions are attached to
+
+-- the channel was live on its circuit, and its clear is not answered
+abbrev pub was_live : Phase → Bool
+was_live (Live n rights) = true
+was_live Leaving = true
+was_live Clearing = true
+was_live p = false
+
+-- A channel is in the table, and was live on this circuit.
+abbrev pub WasLive : Client → (channel on : Handle) → Type 0
+WasLive x channel on = (ch : Channel) × (under x.channels channel ≡ Some ch) × (is_on_in was_live on ch ≡ true)
+
+-- A client's requests are on circuits on which their channels were live, and there alone ids of subscriptions drain.
+pub record Attached (x : Client) : Type 0 where
+  pub requests : (q : Handle) (r : Request) → under x.requests q ≡ Some r → WasLive x r.channel r.circuit
+  pub subscriptions : (g : Handle) (d : Subscription) (on : Handle) → under x.subscriptions g ≡ Some d → drains_in on d.stage ≡ true
+      → WasLive x d.channel on
+
+-- ---- a circuit that is wanted, and not connected yet
+
+-- No channel's CREATE_CHAN went out on it.
+abbrev pub NoneAsked : (on : Handle) → Client → Type 0
+NoneAsked on x = (h : Handle) (ch : Channel) → under x.channels h ≡ Some ch → is_on_in is_asked on ch ≡ false
+
+-- A client's tables have no more indices than ids have.
+pub record AreFew (x : Client) : Type 0 where
+  pub channels : length x.channels ≤ arena_slots
+  pub requests : length x.requests ≤ arena_slots
+  pub subscriptions : length x.subscriptions ≤ arena_slots
+
+-- the channels that wait for it, in order of index
+abbrev pub waiting_on : Handle → Client → List (Handle × Channel)
+waiting_on on x = filter (λ (e : Handle × Channel). is_on_in is_connecting on e.1) (held x.channels)
+
+-- ---- messages as the world stamps them
+
+-- the EVENT_ADD of a subscription
+abbrev pub event_add_of : Names → (sid : ℕ) → Handle × Subscription → Sent
+event_add_of n sid e =
+    record { message = event_add_request (wanted_by sid e.0 e.1) e.1.mask; intent = meant_by n.subscriptions e.0 }
+
+-- the CREATE_CHAN of a channel
+abbrev pub create_of : Names → Handle × Channel → Sent
+create_of n e = record { message = create_request (wire_of e.0) e.1.name; intent = On (channel_number n e.0) Create }
+
+-- what is meant by each subscription in a table is to subscribe
+abbrev pub MeanToSubscribe : Names → Table Subscription → Type 0
+MeanToSubscribe n t = (g : Handle) (d : Subscription) → under t g ≡ Some d
+    → (channel number : ℕ) × (meant_by n.subscriptions g ≡ On channel (Subscribe number))
+
+-- the CLEAR_CHANNEL of a channel
 abbrev pub clear_of : Names → (sid : ℕ) → Handle → Sent
 clear_of n sid h = record { message = clear_request sid (wire_of h); intent = On (channel_number n h) Clear }
 

@@ -1,0 +1,104 @@
+-- What an event of a client leaves of each circuit of a world, by what it leaves of those of that client.
+use Rattle.std.proofs.Common.{◌≡◌, ℕ, zero, suc, ◌<◌, ◌⊎◌, inl, inr, Bool, true, false, ◌&&◌, cond, eqb, List, [], ◌∷◌, ◌++◌, Option, Some, None, refl, sym, ap, ◌∙◌, subst, arith}
+use Rattle.std.specs.Prelude.{filter, length, map, slice_set}
+use Rattle.std.proofs.lemmas.Bool.{both_ways, cases_Bool, eq-eqb, eqb-true}
+use Rattle.std.proofs.lemmas.List.{append-nil}
+use Rattle.ca_text.specs.Place.{At}
+use Rattle.ca_text.proofs.Places.{At-map, At-one, At-set-other, At-within}
+use Rattle.ca_text.specs.declared.refusal.Refusal.{Refusal}
+use Rattle.ca_ids.specs.Table.{same_handle}
+use Rattle.ca_model.specs.Answers.{Sending}
+use Rattle.ca_model.specs.Client.{Client}
+use Rattle.ca_model.specs.History.{Line, Sent}
+use Rattle.ca_model_world.specs.ClientEvents.{Outcomes, client_after, refused, sent_on}
+use Rattle.ca_model_world.specs.World.{ClientSide, Joined, Names, World, with_circuit, with_client}
+use Rattle.ca_laws_circuit.proofs.Settled.{three-ways}
+use Rattle.ca_laws_runs.specs.Circuit.{HeldAt, HeldOn, sent_to, stamped}
+use Rattle.ca_laws_runs.proofs.Sending.{with_up}
+
+set-there : {A : Type 0} (xs : List A) (i : ℕ) (y : A) → i < length xs → At (slice_set xs i y) i y
+set-there [] i y lt = absurd (omega (arith, lt))
+set-there (z ∷ xs) zero y lt = refl
+set-there (z ∷ xs) (suc i) y lt = set-there xs i y (omega (arith, lt))
+
+number-or : (a b : ℕ) → (a ≡ b) ⊎ (a ≡ b → ⊥)
+number-or a b = elim (three-ways a b) [
+  | inl lt ↦ inr (λ e. omega (arith, lt, e))
+  | inr (inl is) ↦ inl is
+  | inr (inr lt) ↦ inr (λ e. omega (arith, lt, e))
+]
+
+-- a circuit of another client
+other-client : (kept : List ℕ) (i : ℕ) (n : Names) (m : Names) (x : Client) (sent : List Sending) (j : Joined) → (j.client ≡ i → ⊥) → HeldOn kept n x j → HeldOn kept n x (sent_to i m sent j)
+other-client kept i n m x sent j other held = go (eqb j.client i) refl
+  where
+    go : (b : Bool) → eqb j.client i ≡ b → HeldOn kept n x (with_up (j.lists.up ++ cond (b && j.lists.client_open) (map (stamped m) (filter (λ (s : Sending). same_handle s.circuit j.at_client) sent)) []) j)
+    go true is = absurd (other (eqb-true j.client i is))
+    go false is = subst (λ (l : List Sent). HeldOn kept n x (with_up l j)) (sym (append-nil j.lists.up)) held
+
+-- names of writes play no part
+pub more-writes : (kept : List ℕ) (n : Names) (x : Client) (j : Joined) (writes : ℕ) → HeldOn kept n x j → HeldOn kept (record n { writes = writes }) x j
+more-writes kept n x j writes h = record {
+  flows = h.flows;
+  cids = h.cids;
+  holds = λ o. (let r = h.holds o in record { channels = r.channels; requests = r.requests; subscriptions = r.subscriptions });
+}
+
+-- A call of client i: what is held of its circuits after it, and of the others, is held in the world after it.
+pub after-call : (kept : List ℕ) (w : World) (i k : ℕ) (x : ClientSide) (spoken : Names) (o : Outcomes) → At w.clients i x
+    → ((j : Joined) → At w.circuits k j → j.client ≡ i → HeldOn kept x.names x.core j → HeldOn kept o.names o.core (sent_to i spoken o.sent j)) → HeldAt kept w k → HeldAt kept (client_after i x spoken o w) k
+after-call kept w i k x spoken o at keeps held =
+    let j : Joined = held.0 in
+    let there : At (map (sent_to i spoken o.sent) w.circuits) k (sent_to i spoken o.sent j) = At-map (sent_to i spoken o.sent) w.circuits k j held.2 in
+    let after : ClientSide = record x { core = o.core; names = o.names } in
+    elim (number-or j.client i) [
+      | inl mine ↦
+          let same : held.1 ≡ x = At-one w.clients i held.1 x (subst (λ (c : ℕ). At w.clients c held.1) mine held.3) at in
+          let was : HeldOn kept x.names x.core j = subst (λ (z : ClientSide). HeldOn kept z.names z.core j) same held.4 in
+          (
+            sent_to i spoken o.sent j,
+            after,
+            there,
+            subst (λ (c : ℕ). At (slice_set w.clients i after) c after) (sym mine) (set-there w.clients i after (At-within w.clients i x at)),
+            keeps j held.2 mine was,
+          )
+      | inr other ↦ (
+        sent_to i spoken o.sent j,
+        held.1,
+        there,
+        At-set-other w.clients i j.client held.1 after held.3 other,
+        other-client kept i held.1.names spoken held.1.core o.sent j other held.4,
+      )
+    ]
+
+-- a call that was refused changes nothing but the log
+pub refused-held : (kept : List ℕ) (w new : World) (i k : ℕ) (x : ClientSide) (e : Refusal) → new ≡ refused i x e w → HeldAt kept w k → HeldAt kept new k
+refused-held kept w new i k x e is held = subst (λ (v : World). HeldAt kept v k) (sym is) (held.0, held.1, held.2, held.3, held.4)
+
+-- A circuit is changed so that what was held of it still is; the others stay.
+pub circuit-changed : (kept : List ℕ) (w : World) (k l : ℕ) (j new : Joined) → At w.circuits k j → new.client ≡ j.client → ((n : Names) (x : Client) → HeldOn kept n x j → HeldOn kept n x new) → HeldAt kept w l → HeldAt kept (with_circuit k new w) l
+circuit-changed kept w k l j new at same keeps held = elim (number-or l k) [
+  | inl is ↦
+      let one : held.0 ≡ j = At-one w.circuits k held.0 j (subst (λ (a : ℕ). At w.circuits a held.0) is held.2) at in
+      let was : HeldOn kept held.1.names held.1.core j = subst (λ (z : Joined). HeldOn kept held.1.names held.1.core z) one held.4 in
+      (
+        new,
+        held.1,
+        subst (λ (a : ℕ). At (slice_set w.circuits k new) a new) (sym is) (set-there w.circuits k new (At-within w.circuits k j at)),
+        subst (λ (a : ℕ). At w.clients a held.1) (ap (λ (z : Joined). z.client) one ∙ sym same) held.3,
+        keeps held.1.names held.1.core was,
+      )
+  | inr other ↦ (held.0, held.1, At-set-other w.circuits k l held.0 new held.2 other, held.3, held.4)
+]
+
+-- A client is changed so that what was held of its circuits still is; the others stay.
+pub client-changed : (kept : List ℕ) (w : World) (i k : ℕ) (x new : ClientSide) → At w.clients i x → ((j : Joined) → j.client ≡ i → HeldOn kept x.names x.core j → HeldOn kept new.names new.core j) → HeldAt kept w k → HeldAt kept (with_client i new w) k
+client-changed kept w i k x new at keeps held =
+    let j : Joined = held.0 in
+    elim (number-or j.client i) [
+      | inl mine ↦
+          let same : held.1 ≡ x = At-one w.clients i held.1 x (subst (λ (c : ℕ). At w.clients c held.1) mine held.3) at in
+          let was : HeldOn kept x.names x.core j = subst (λ (z : ClientSide). HeldOn kept z.names z.core j) same held.4 in
+          (j, new, held.2, subst (λ (c : ℕ). At (slice_set w.clients i new) c new) (sym mine) (set-there w.clients i new (At-within w.clients i x at)), keeps j mine was)
+      | inr other ↦ (j, held.1, held.2, At-set-other w.clients i j.client held.1 new held.3 other, held.4)
+    ]

@@ -1,0 +1,47 @@
+ghost use Rattle.std.specs.Prelude.{◌≡◌, List, true, ℕ};
+ghost use Rattle.ca_text.specs.Place.{At};
+ghost use Rattle.ca_arena.specs.declared.handle.Handle.{Handle};
+ghost use Rattle.ca_dbr.specs.Elements.{Elements};
+ghost use Rattle.ca_model.specs.History.{Intent};
+ghost use Rattle.ca_model_world.specs.ClientEvents.{HappensClear, HappensCutClient, HappensDown, HappensRead, HappensSubscribe, HappensUnsubscribe, HappensUp, HappensWrite, HappensWriteNotify};
+ghost use Rattle.ca_model_world.specs.World.{ClientSide, Joined, ServerSide, World};
+ghost use Rattle.ca_laws_circuit.specs.Held.{Attached, MeanToSubscribe};
+ghost use Rattle.ca_laws_runs.specs.Circuit.{AreGiven, HaveHandles, HeldAt};
+
+/// A call of a client, done or refused, keeps what is held of each circuit of the world: its
+/// messages may be sent, and each id that may still come back is held by what it was given to last.
+pub fn calls_keep_each_circuit()
+    ensures read { (kept : List ℕ) (w new : World) (i k c : ℕ) (x : ClientSide) (h : Handle)
+        (data_type count : ℕ) → At w.clients i x → AreGiven x.names.requests x.core.requests
+        → HappensRead w i x c h data_type count new → HeldAt kept w k → HeldAt kept new k }
+    ensures write_notify { (kept : List ℕ) (w new : World) (i k c : ℕ) (x : ClientSide) (h : Handle)
+        (e : Elements) → At w.clients i x → AreGiven x.names.requests x.core.requests
+        → HappensWriteNotify w i x c h e new → HeldAt kept w k → HeldAt kept new k }
+    ensures write { (kept : List ℕ) (w new : World) (i k c : ℕ) (x : ClientSide) (h : Handle)
+        (e : Elements) → At w.clients i x → HappensWrite w i x c h e new → HeldAt kept w k
+        → HeldAt kept new k }
+    ensures subscribe { (kept : List ℕ) (w new : World) (i k c : ℕ) (x : ClientSide) (h : Handle)
+        (data_type count mask : ℕ) → At w.clients i x
+        → AreGiven x.names.subscriptions x.core.subscriptions
+        → HappensSubscribe w i x c h data_type count mask new → HeldAt kept w k
+        → HeldAt kept new k }
+    ensures unsubscribe { (kept : List ℕ) (w new : World) (i k : ℕ) (x : ClientSide)
+        (s : Handle × Intent) → At w.clients i x → MeanToSubscribe x.names x.core.subscriptions
+        → HappensUnsubscribe w i x s new → HeldAt kept w k → HeldAt kept new k }
+    ensures clear { (kept : List ℕ) (w new : World) (i k c : ℕ) (x : ClientSide) (h : Handle)
+        → At w.clients i x → Attached x.core → HappensClear w i x c h new → HeldAt kept w k
+        → HeldAt kept new k }
+{}
+
+/// So do bytes that move on any circuit, and the end of a client's end.
+pub fn moves_keep_each_circuit()
+    ensures up { (kept : List ℕ) (w new : World) (k l n : ℕ) (j : Joined) (x : ClientSide)
+        (y : ServerSide) → At w.circuits k j → At w.clients j.client x → HappensUp w k n j x y new
+        → HeldAt kept w l → HeldAt kept new l }
+    ensures down { (kept : List ℕ) (w new : World) (k l n : ℕ) (j : Joined) (x : ClientSide)
+        (y : ServerSide) → At w.circuits k j → At w.clients j.client x → HappensDown w k n j x y new
+        → HeldAt kept w l → HeldAt kept new l }
+    ensures cut { (kept : List ℕ) (w new : World) (k l : ℕ) (j : Joined) (x : ClientSide)
+        → At w.circuits k j → At w.clients j.client x → j.lists.client_open ≡ true → HaveHandles w
+        → HappensCutClient w k j x new → HeldAt kept w l → HeldAt kept new l }
+{}

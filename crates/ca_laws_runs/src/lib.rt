@@ -1,0 +1,6 @@
+//! Laws of runs: what each event of a world keeps, from the laws of its parts.
+#![tactic(auto)]
+
+mod circuits;
+
+pub use circuits::{calls_keep_each_circuit, moves_keep_each_circuit};
