@@ -1,0 +1,4 @@
+pub mod Lists
+pub mod Once
+pub mod Parts
+pub mod Records

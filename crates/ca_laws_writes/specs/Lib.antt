@@ -1,0 +1,3 @@
+pub mod Both
+pub mod Once
+pub mod Agrees
