@@ -2,3 +2,4 @@ pub mod Lists
 pub mod Once
 pub mod Parts
 pub mod Records
+pub mod Lives

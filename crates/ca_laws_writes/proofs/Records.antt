@@ -1,5 +1,5 @@
 -- One record beside the log, as one entry more is told.
-use Rattle.std.proofs.Common.{◌≡◌, ℕ, zero, suc, ◌+◌, ◌<◌, ◌⊎◌, inl, inr, Bool, true, false, cond, not, ◌&&◌, ◌||◌, eq-eqb, List, [], ◌∷◌, ◌++◌, length, Option, Some, None, refl, sym, ap, subst, ◌∙◌, append-nil, arith}
+use Rattle.std.proofs.Common.{◌≡◌, ℕ, zero, suc, ◌+◌, ◌<◌, ◌⊎◌, inl, inr, Bool, true, false, cond, not, ◌&&◌, ◌||◌, eq-eqb, ne_eqb, List, [], ◌∷◌, ◌++◌, length, Option, Some, None, refl, sym, ap, subst, ◌∙◌, append-nil, arith}
 use Rattle.std.specs.Prelude.{filter, map}
 use Rattle.std.specs.List.{fold, list_any}
 use Rattle.std.proofs.lemmas.List.{map-append}
@@ -131,6 +131,16 @@ withdrawals-keep P y (w ∷ ws) step p =
     append-one : (l : List Entry) (e : Entry) (es : List Entry) → (l ++ e ∷ []) ++ es ≡ l ++ e ∷ es
     append-one [] e es = refl
     append-one (x ∷ l) e es = ap (λ (z : List Entry). x ∷ z) (append-one l e es)
+
+-- the entry is about record r
+abbrev pub IsOf : (r : ℕ) → Entry → Type 0
+IsOf r (Added i s) = i ≡ r
+IsOf r (Removed i) = i ≡ r
+IsOf r (Posted i mask v) = i ≡ r
+IsOf r (Waits n k i v) = i ≡ r
+IsOf r (Applied n k i v b) = i ≡ r
+IsOf r (Finished n k) = ⊥
+IsOf r (Withdrawn n k) = ⊥
 
 -- ---- one record
 
@@ -301,3 +311,87 @@ module _ (Is : PutPlace → Put → Type 0) where
         busy = busy-kept y r.number r.busy e (record { no_other = λ n k u is. (let x : Applied n k r.number u true ≡ Waits p.circuit p.place r.number v = is in cc); not_it = λ q b is. (let x : Finished q.circuit q.place ≡ Waits p.circuit p.place r.number v = is in cc) }) a.busy;
         busy_as = a.busy_as;
       }
+
+  -- Of the puts that wait for it those are withdrawn that two tests name, which agree; the log withdraws these, and perhaps others.
+  pub agrees-withdrawn : (y : List Entry) (c : Record) (r : RecordSide) (ws : List PutPlace) (which : PutPlace → Bool) (test : Put → Bool) → ((p : PutPlace) → In r.waiting p → is_among ws (pair_of p) ≡ which p) → ((i : ℕ) (p : PutPlace) (w : WaitingPut) → At r.waiting i p → At c.waiting i w → which p ≡ test w.put) → Agrees Is y c r → Agrees Is (y ++ withdrawing ws) (without_puts test c) (record r { waiting = filter (λ (p : PutPlace). not (which p)) r.waiting })
+  agrees-withdrawn y c r ws which test among agree a = record {
+    name = a.name;
+    first = a.first;
+    added = In-append y (withdrawing ws) (Added r.number a.first) a.added;
+    there = withdrawals-keep (λ l. In l (Removed r.number) → ⊥) y ws (λ l w there. still-there l (Withdrawn w.circuit w.place) r.number (λ is. (let x : Removed r.number ≡ Withdrawn w.circuit w.place = is in cc)) there) a.there;
+    state = a.state;
+    base = a.base;
+    value = withdrawals-keep (λ l. value_by l r.number ≡ Some (stored c)) y ws (λ l w is. value-other l (Withdrawn w.circuit w.place) r.number refl ∙ is) a.value;
+    waits =
+        fold-append (waiting_after r.number) [] y (withdrawing ws)
+        ∙ withdrawn-waits r.number ws (waiting y r.number)
+        ∙ ap (λ (l : List (ℕ × ℕ)). filter (λ (q : ℕ × ℕ). not (is_among ws q)) l) a.waits
+        ∙ left-waits ws r.waiting which among;
+    each = both-filter (WaitsAs Is y r.number) (WaitsAs Is (y ++ withdrawing ws) r.number) (λ (p : PutPlace). not (which p)) (λ (w : WaitingPut). not (test w.put)) r.waiting c.waiting a.each
+        (λ i p w at there h. ap (λ (b : Bool). not b) (agree i p w at there))
+        (λ i p w at there h stays. (waits-on p w.value (among p (i, at)) stays h.0, h.1));
+    apart = apart-kept (λ (p : PutPlace). not (which p)) r.waiting a.apart;
+    busy = withdrawals-keep (λ l. IsBusyBy l r.number r.busy) y ws (λ l w b. busy-kept l r.number r.busy (Withdrawn w.circuit w.place) (record { no_other = λ n k u is. (let x : Applied n k r.number u true ≡ Withdrawn w.circuit w.place = is in cc); not_it = λ q h is. (let x : Finished q.circuit q.place ≡ Withdrawn w.circuit w.place = is in cc) }) b) a.busy;
+    busy_as = a.busy_as;
+  }
+    where
+      waits-on : (p : PutPlace) (value : Elements) → is_among ws (pair_of p) ≡ which p → not (which p) ≡ true → StillWaits y r.number p value → StillWaits (y ++ withdrawing ws) r.number p value
+      waits-on p value same stays w = record {
+        v = w.v;
+        came = In-append y (withdrawing ws) (Waits p.circuit p.place r.number w.v) w.came;
+        with_it = w.with_it;
+        unapplied = withdrawals-keep (λ l. IsApplied l p → ⊥) y ws (λ l q un h. elim (In-snoc l (Withdrawn q.circuit q.place) (Applied p.circuit p.place h.0 h.1 h.2) h.3) [
+          | inl old ↦ un (h.0, h.1, h.2, old)
+          | inr is ↦ (let x : Applied p.circuit p.place h.0 h.1 h.2 ≡ Withdrawn q.circuit q.place = is in cc)
+        ]) w.unapplied;
+        kept = λ h. elim (At-parts y (withdrawing ws) h.0 (Withdrawn p.circuit p.place) h.1) [
+          | inl old ↦ w.kept (h.0, old)
+          | inr new ↦
+              let m = At-mapped (λ (q : PutPlace). Withdrawn q.circuit q.place) ws new.0 (Withdrawn p.circuit p.place) new.2 in
+              let q : PutPlace = m.0 in
+              let e : Withdrawn p.circuit p.place ≡ Withdrawn q.circuit q.place = m.2 in
+              let n : p.circuit ≡ q.circuit = cc in
+              let k : p.place ≡ q.place = cc in
+              let in_it : In ws p = subst (λ (z : PutPlace). In ws z) (sym (place-is p q n k)) (new.0, m.1) in
+              let named : which p ≡ true = sym same ∙ among-there ws p in_it in
+              (let f : not true ≡ true = ap (λ (b : Bool). not b) (sym named) ∙ stays in cc)
+        ];
+      }
+
+  -- A record is added.
+  pub agrees-new : (y : List Entry) (number : ℕ) (s : RecordState) → ((e : Entry) → In y e → IsOf number e → ⊥) → Agrees Is (y ++ Added number s ∷ []) (new_record s) (record_begun number s)
+  agrees-new y number s none =
+      let e : Entry = Added number s in
+      record {
+        name = refl;
+        first = s;
+        added = In-last y e;
+        there = still-there y e number (λ is. (let x : Removed number ≡ Added number s = is in cc)) (λ h. none (Removed number) h refl);
+        state = refl;
+        base = refl;
+        value = value-own y e number (record { value = s.value; meta = s.meta }) (posts-added number s);
+        waits = waiting-more y e number ∙ nobody y [] none;
+        each = tt;
+        apart = tt;
+        busy = λ n k v h. elim (In-snoc y e (Applied n k number v true) h) [
+          | inl old ↦ absurd (none (Applied n k number v true) old refl)
+          | inr is ↦ absurd (let x : Applied n k number v true ≡ Added number s = is in cc)
+        ];
+        busy_as = tt;
+      }
+    where
+      filter-nil : (t : ℕ × ℕ → Bool) (qs : List (ℕ × ℕ)) → qs ≡ [] → filter t qs ≡ []
+      filter-nil t qs is = ap (λ (l : List (ℕ × ℕ)). filter t l) is
+      step : (e : Entry) (qs : List (ℕ × ℕ)) → (IsOf number e → ⊥) → qs ≡ [] → waiting_after number qs e ≡ []
+      step (Added i t) qs other is = is
+      step (Removed i) qs other is = is
+      step (Posted i mask v) qs other is = is
+      step (Waits n k i v) qs other is = ap (λ (b : Bool). cond b (qs ++ (n, k) ∷ []) qs) (ne_eqb i number (λ h. other h)) ∙ is
+      step (Applied n k i v b) qs other is = filter-nil (λ (p : ℕ × ℕ). not (same_place p (n, k))) qs is
+      step (Finished n k) qs other is = is
+      step (Withdrawn n k) qs other is = filter-nil (λ (p : ℕ × ℕ). not (same_place p (n, k))) qs is
+      nobody-from : (es : List Entry) (qs : List (ℕ × ℕ)) → ((e : Entry) → In es e → IsOf number e → ⊥) → qs ≡ [] → fold (waiting_after number) qs es ≡ []
+      nobody-from [] qs none is = is
+      nobody-from (x ∷ es) qs none is = nobody-from es (waiting_after number qs x) (λ e h. none e (suc h.0, h.1)) (step x qs (none x (0, refl)) is)
+      nobody : (es : List Entry) (qs : List (ℕ × ℕ)) → ((e : Entry) → In es e → IsOf number e → ⊥) → fold (waiting_after number) [] es ≡ []
+      nobody es qs none = nobody-from es [] none refl
