@@ -18,7 +18,7 @@ use Rattle.ca_model_world.specs.ServerEvents as event
 use Rattle.ca_model_world.specs.World.{PutPlace, RecordSide}
 use Rattle.ca_laws_writes.specs.Both.{Both}
 use Rattle.ca_laws_writes.specs.Once.{IsApplied, IsFinished, IsUntold, IsWithdrawn, MayTell, Once}
-use Rattle.ca_laws_writes.specs.Agrees.{Agree, Agrees, AreOthers, IsBusyAs, Lack, StillWaits, WaitsAs, stored}
+use Rattle.ca_laws_writes.specs.Agrees.{Agree, Agrees, AreOthers, IsBusyAs, IsOf, Lack, StillWaits, WaitsAs, stored}
 use Rattle.ca_laws_writes.proofs.Lists.{In-append, In-snoc, beside-left, beside-right, both-all, both-left, both-map, none_at}
 use Rattle.ca_laws_writes.proofs.Once.{once-told}
 use Rattle.ca_laws_writes.proofs.Parts.{Spares}
@@ -133,14 +133,22 @@ module _ (Is : PutPlace → Put → Type 0) where
 
 module _ (Came : PutPlace → (i r : ℕ) → Elements → Type 0) (Is : PutPlace → Put → Type 0) where
   -- one more entry, by which no record comes or goes
-  agree-told : (y : List Entry) (cs ds : List Record) (rs qs : List RecordSide) (n : ℕ) (e : Entry) → ((r : ℕ) (s : RecordState) → Added r s ≡ e → ⊥) → ((r : ℕ) → Removed r ≡ e → ⊥) → MayTell Came y e → Both (Agrees Is (y ++ e ∷ [])) ds qs → AreOthers qs → Agree Came Is y cs rs n → Agree Came Is (y ++ e ∷ []) ds qs n
-  agree-told y cs ds rs qs n e no_new no_old may both others a = record {
+  pub agree-told : (y : List Entry) (cs ds : List Record) (rs qs : List RecordSide) (n : ℕ) (e : Entry) → ((r : ℕ) → IsOf r e → r < n) → MayTell Came y e → Both (Agrees Is (y ++ e ∷ [])) ds qs → AreOthers qs → Agree Came Is y cs rs n → Agree Came Is (y ++ e ∷ []) ds qs n
+  agree-told y cs ds rs qs n e below may both others a = record {
     once = once-told Came y e a.once may;
     each = both;
     others = others;
-    numbers = λ r s h. elim (In-snoc y e (Added r s) h) [ inl old ↦ a.numbers r s old | inr new ↦ absurd (no_new r s new) ];
-    removed = λ r h. elim (In-snoc y e (Removed r) h) [ inl old ↦ a.removed r old | inr new ↦ absurd (no_old r new) ];
+    numbers = λ r f h of_it. elim (In-snoc y e f h) [
+      | inl old ↦ a.numbers r f old of_it
+      | inr new ↦ below r (subst (λ (z : Entry). IsOf r z) new of_it)
+    ];
   }
+
+  -- an entry about a record that is there has its number
+  pub below-all : (y : List Entry) (cs : List Record) (rs : List RecordSide) (n i : ℕ) (r : RecordSide) (q : ℕ) → At rs i r → Agree Came Is y cs rs n → r.number ≡ q → q < n
+  below-all y cs rs n i r q at a is =
+      let there = beside-right (Agrees Is y) cs rs i r a.each at in
+      subst (λ (z : ℕ). z < n) is (a.numbers r.number (Added r.number there.2.first) there.2.added refl)
 
   -- a write may be told as applied to a record that is there, if nothing was told of it, or it waits there
   may-apply : (y : List Entry) (c : Record) (r : RecordSide) (p : PutPlace) (v : Stored) (b : Bool) → IsUntold y p → Agrees Is y c r → Came p (length y) r.number v.value → MayTell Came y (Applied p.circuit p.place r.number v b)
@@ -163,8 +171,7 @@ module _ (Came : PutPlace → (i r : ℕ) → Elements → Type 0) (Is : PutPlac
       (λ j d q at other b. agrees-spared Is y d q e (other, untold-waits Is y d q p untold b) b)
       a.each in
       agree-told y cs (with_record r.name (with_value v.value v.meta) cs) rs rs n e
-      (λ q s is. (let x : Added q s ≡ Applied p.circuit p.place r.number v false = is in cc))
-      (λ q is. (let x : Removed q ≡ Applied p.circuit p.place r.number v false = is in cc))
+      (λ q of_it. below-all y cs rs n i r q in_rs a of_it)
       (may-apply y there.0 r p v false untold there.2 came)
       (subst (λ (l : List RecordSide). Both (Agrees Is (y ++ e ∷ [])) (with_record r.name (with_value v.value v.meta) cs) l) (same-list r.name rs) both)
       a.others a
@@ -196,8 +203,7 @@ module _ (Came : PutPlace → (i r : ℕ) → Elements → Type 0) (Is : PutPlac
       (λ j d q at other g. agrees-spared Is y d q e (other, untold-waits Is y d q p untold g) g)
       a.each in
       agree-told y cs (with_record r.name (λ (d : Record). record (with_value v.value v.meta d) { busy = Some b }) cs) rs (event.with_record r.name (λ (q : RecordSide). record q { busy = Some p }) rs) n e
-      (λ q s is. (let x : Added q s ≡ Applied p.circuit p.place r.number v true = is in cc))
-      (λ q is. (let x : Removed q ≡ Applied p.circuit p.place r.number v true = is in cc))
+      (λ q of_it. below-all y cs rs n i r q in_rs a of_it)
       (may-apply y there.0 r p v true untold there.2 came)
       both
       (others-with r.name (λ (q : RecordSide). record q { busy = Some p }) rs (λ q. (refl, refl)) a.others) a
@@ -218,8 +224,7 @@ module _ (Came : PutPlace → (i r : ℕ) → Elements → Type 0) (Is : PutPlac
       (λ j d q at other g. agrees-spared Is y d q e other g)
       a.each in
       agree-told y cs (with_record r.name (with_waiting w) cs) rs (event.with_record r.name (λ (q : RecordSide). record q { waiting = q.waiting ++ p ∷ [] }) rs) n e
-      (λ q s is. (let x : Added q s ≡ Waits p.circuit p.place r.number v = is in cc))
-      (λ q is. (let x : Removed q ≡ Waits p.circuit p.place r.number v = is in cc))
+      (λ q of_it. below-all y cs rs n i r q in_rs a of_it)
       (untold, came)
       both
       (others-with r.name (λ (q : RecordSide). record q { waiting = q.waiting ++ p ∷ [] }) rs (λ q. (refl, refl)) a.others) a
@@ -233,8 +238,7 @@ module _ (Came : PutPlace → (i r : ℕ) → Elements → Type 0) (Is : PutPlac
       (λ j d q at other b. agrees-spared Is y d q e other b)
       a.each in
       agree-told y cs (with_record r.name (with_value v.value v.meta) cs) rs rs n e
-      (λ q s is. (let x : Added q s ≡ Posted r.number mask v = is in cc))
-      (λ q is. (let x : Removed q ≡ Posted r.number mask v = is in cc))
+      (λ q of_it. below-all y cs rs n i r q in_rs a of_it)
       tt
       (subst (λ (l : List RecordSide). Both (Agrees Is (y ++ e ∷ [])) (with_record r.name (with_value v.value v.meta) cs) l) (same-list r.name rs) both)
       a.others a

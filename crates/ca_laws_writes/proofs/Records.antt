@@ -17,7 +17,7 @@ use Rattle.ca_model_safe.specs.Known.{same_place, waiting, waiting_after}
 use Rattle.ca_model_world.specs.World.{PutPlace, RecordSide, record_begun}
 use Rattle.ca_laws_writes.specs.Both.{Both}
 use Rattle.ca_laws_writes.specs.Once.{IsApplied, IsFinished, IsUntold, IsWithdrawn}
-use Rattle.ca_laws_writes.specs.Agrees.{Agrees, AreApart, IsBusyBy, IsBusyAs, IsBusyWith, IsIdle, StillWaits, WaitsAs, pair_of, stored, value_by}
+use Rattle.ca_laws_writes.specs.Agrees.{Agrees, AreApart, IsBusyBy, IsOf, IsBusyAs, IsBusyWith, IsIdle, StillWaits, WaitsAs, pair_of, stored, value_by}
 use Rattle.ca_laws_writes.proofs.Lists.{In-append, In-kept, beside-left, In-last, In-snoc, both-all, both-filter, both-snoc, filter-all, filter-and, filter-ext, kept-in, none_at}
 use Rattle.ca_laws_writes.proofs.Parts.{KeepsBusy, PostsNone, Spares, busy-begins, busy-ends, busy-kept, first-out, none-out, place-is, posts-added, posts-applied, posts-none, posts-posted, same-other, same-self, same-true, spared-busy, value-other, value-own, waiting-more, waits-spared}
 
@@ -122,25 +122,15 @@ there-among (w ∷ ws) p e = go (same_place (pair_of p) (pair_of w)) refl e (λ 
     go true is h more = (0, ap (λ (x : PutPlace). Some x) (sym (same-true p w is)))
     go false is h more = (let r = more h in (suc r.0, r.1))
 
+pub append-one : {A : Type 0} (l : List A) (e : A) (es : List A) → (l ++ e ∷ []) ++ es ≡ l ++ e ∷ es
+append-one [] e es = refl
+append-one {A} (x ∷ l) e es = ap (λ (z : List A). x ∷ z) (append-one l e es)
+
 -- a fact that single withdrawals keep
-withdrawals-keep : (P : List Entry → Type 0) (y : List Entry) (ws : List PutPlace) → ((l : List Entry) (w : PutPlace) → P l → P (l ++ Withdrawn w.circuit w.place ∷ [])) → P y → P (y ++ withdrawing ws)
+pub withdrawals-keep : (P : List Entry → Type 0) (y : List Entry) (ws : List PutPlace) → ((l : List Entry) (w : PutPlace) → P l → P (l ++ Withdrawn w.circuit w.place ∷ [])) → P y → P (y ++ withdrawing ws)
 withdrawals-keep P y [] step p = subst P (sym (append-nil y)) p
 withdrawals-keep P y (w ∷ ws) step p =
     subst P (append-one y (Withdrawn w.circuit w.place) (withdrawing ws)) (withdrawals-keep P (y ++ Withdrawn w.circuit w.place ∷ []) ws step (step y w p))
-  where
-    append-one : (l : List Entry) (e : Entry) (es : List Entry) → (l ++ e ∷ []) ++ es ≡ l ++ e ∷ es
-    append-one [] e es = refl
-    append-one (x ∷ l) e es = ap (λ (z : List Entry). x ∷ z) (append-one l e es)
-
--- the entry is about record r
-abbrev pub IsOf : (r : ℕ) → Entry → Type 0
-IsOf r (Added i s) = i ≡ r
-IsOf r (Removed i) = i ≡ r
-IsOf r (Posted i mask v) = i ≡ r
-IsOf r (Waits n k i v) = i ≡ r
-IsOf r (Applied n k i v b) = i ≡ r
-IsOf r (Finished n k) = ⊥
-IsOf r (Withdrawn n k) = ⊥
 
 -- ---- one record
 
@@ -370,7 +360,7 @@ module _ (Is : PutPlace → Put → Type 0) where
         state = refl;
         base = refl;
         value = value-own y e number (record { value = s.value; meta = s.meta }) (posts-added number s);
-        waits = waiting-more y e number ∙ nobody y [] none;
+        waits = waiting-more y e number ∙ nobody-from y [] none refl;
         each = tt;
         apart = tt;
         busy = λ n k v h. elim (In-snoc y e (Applied n k number v true) h) [
@@ -393,5 +383,3 @@ module _ (Is : PutPlace → Put → Type 0) where
       nobody-from : (es : List Entry) (qs : List (ℕ × ℕ)) → ((e : Entry) → In es e → IsOf number e → ⊥) → qs ≡ [] → fold (waiting_after number) qs es ≡ []
       nobody-from [] qs none is = is
       nobody-from (x ∷ es) qs none is = nobody-from es (waiting_after number qs x) (λ e h. none e (suc h.0, h.1)) (step x qs (none x (0, refl)) is)
-      nobody : (es : List Entry) (qs : List (ℕ × ℕ)) → ((e : Entry) → In es e → IsOf number e → ⊥) → fold (waiting_after number) [] es ≡ []
-      nobody es qs none = nobody-from es [] none refl

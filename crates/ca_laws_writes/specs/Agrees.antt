@@ -105,11 +105,20 @@ abbrev pub AreOthers : List RecordSide → Type 0
 AreOthers [] = Unit {0}
 AreOthers (r ∷ rs) = Lack r.name r.number rs × AreOthers rs
 
+-- the entry is about record r
+abbrev pub IsOf : (r : ℕ) → Entry → Type 0
+IsOf r (Added i s) = i ≡ r
+IsOf r (Removed i) = i ≡ r
+IsOf r (Posted i mask v) = i ≡ r
+IsOf r (Waits n k i v) = i ≡ r
+IsOf r (Applied n k i v busies) = i ≡ r
+IsOf r (Finished n k) = ⊥
+IsOf r (Withdrawn n k) = ⊥
+
 -- A server's life: its log has each write once, and its records, of which so many were added, are what the log tells.
 pub record Agree (Came : PutPlace → (i r : ℕ) → Elements → Type 0) (Is : PutPlace → Put → Type 0) (y : List Entry) (records : List Record)
     (sides : List RecordSide) (added : ℕ) : Type 0 where
   pub once : Once Came y
   pub each : Both (Agrees Is y) records sides
   pub others : AreOthers sides
-  pub numbers : (r : ℕ) (s : RecordState) → In y (Added r s) → r < added
-  pub removed : (r : ℕ) → In y (Removed r) → r < added
+  pub numbers : (r : ℕ) (e : Entry) → In y e → IsOf r e → r < added
