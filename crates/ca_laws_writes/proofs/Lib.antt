@@ -3,3 +3,5 @@ pub mod Once
 pub mod Parts
 pub mod Records
 pub mod Lives
+pub mod Finishes
+
