@@ -122,12 +122,13 @@ module _ (Came : PutPlace → (i r : ℕ) → Elements → Type 0) (Is : PutPlac
           ]
 
   -- The busy put of a record is finished, and the next is applied, if one waits.
-  pub agree-finished : (y : List Entry) (side : ServerSide) (cs : List Record) (rs : List RecordSide) (n i : ℕ) (c : Record) (r : RecordSide) (p : PutPlace) → At cs i c → At rs i r → r.busy ≡ Some p → ((j : ℕ) (w : WaitingPut) → At c.waiting j w → base_of w.value ≡ base_of c.state.value) → Agree Came Is y cs rs n
+  pub agree-finished : (y : List Entry) (side : ServerSide) (cs : List Record) (rs : List RecordSide) (n i : ℕ) (c : Record) (r : RecordSide) (p : PutPlace) → At cs i c → At rs i r → r.busy ≡ Some p → Agree Came Is y cs rs n
       → Agree Came Is (y ++ finish_entry p ∷ next_entries side r (first_of c.waiting) (first_of r.waiting)) (with_record r.name (λ (q : Record). finished side.core.stamp q q.waiting) cs) (event.with_record r.name next_busy rs) n
-  agree-finished y side cs rs n i c r p in_cs in_rs busy based a =
+  agree-finished y side cs rs n i c r p in_cs in_rs busy a =
       let more : List Entry = y ++ finish_entry p ∷ next_entries side r (first_of c.waiting) (first_of r.waiting) in
       let g : Agrees Is y c r = both-at (Agrees Is y) cs rs i c r a.each in_cs in_rs in
       let by : IsBusyWith y r.number p = busy-with y c g in
+      let based : (j : ℕ) (w : WaitingPut) → At c.waiting j w → base_of w.value ≡ base_of c.state.value = λ j w at. g.based j w at ∙ sym g.base in
       let own : (q : PutPlace) → In r.waiting q → IsFinished y q → ⊥ = λ q h. (let w = waits-there Is y c r q g h in waits-unfinished Came y r.number q w.0.value a.once w.1) in
       record {
         once = once-finished y side c r p c.waiting r.waiting by g.each g a.once;

@@ -5,3 +5,4 @@ pub mod Records
 pub mod Lives
 pub mod Finishes
 
+pub mod Leaving

@@ -214,13 +214,13 @@ module _ (Came : PutPlace → (i r : ℕ) → Elements → Type 0) (Is : PutPlac
       both-none (Some p) (Some d) e h = absurd cc
 
   -- A put comes to wait.
-  pub agree-waits : (y : List Entry) (cs : List Record) (rs : List RecordSide) (n : ℕ) (i : ℕ) (r : RecordSide) (p : PutPlace) (w : WaitingPut) (meta : Meta) → At rs i r → IsUntold y p → Came p (length y) r.number w.value → Is p w.put → Agree Came Is y cs rs n
+  pub agree-waits : (y : List Entry) (cs : List Record) (rs : List RecordSide) (n : ℕ) (i : ℕ) (c : Record) (r : RecordSide) (p : PutPlace) (w : WaitingPut) (meta : Meta) → At cs i c → At rs i r → base_of w.value ≡ base_of c.state.value → IsUntold y p → Came p (length y) r.number w.value → Is p w.put → Agree Came Is y cs rs n
       → Agree Came Is (y ++ Waits p.circuit p.place r.number (record { value = w.value; meta = meta }) ∷ []) (with_record r.name (with_waiting w) cs) (event.with_record r.name (λ (q : RecordSide). record q { waiting = q.waiting ++ p ∷ [] }) rs) n
-  agree-waits y cs rs n i r p w meta in_rs untold came is_it a =
+  agree-waits y cs rs n i c r p w meta in_cs in_rs fits untold came is_it a =
       let v : Stored = record { value = w.value; meta = meta } in
       let e : Entry = Waits p.circuit p.place r.number v in
       let both = one-changes Is y (y ++ e ∷ []) cs rs i r (with_waiting w) (λ (q : RecordSide). record q { waiting = q.waiting ++ p ∷ [] }) a.others in_rs
-      (λ d at g. agrees-waits Is y d r p w v refl untold is_it g)
+      (λ d at g. agrees-waits Is y d r p w v refl (fits ∙ ap (λ (z : Record). base_of z.state.value) (At-one cs i c d in_cs at)) untold is_it g)
       (λ j d q at other g. agrees-spared Is y d q e other g)
       a.each in
       agree-told y cs (with_record r.name (with_waiting w) cs) rs (event.with_record r.name (λ (q : RecordSide). record q { waiting = q.waiting ++ p ∷ [] }) rs) n e

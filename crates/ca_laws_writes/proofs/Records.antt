@@ -155,6 +155,7 @@ module _ (Is : PutPlace → Put → Type 0) where
     waits = waits-spared y r e spares a.waits;
     each = each-kept y e r.number r.waiting c.waiting (λ p h. spares-waiting r e p spares h) a.each;
     apart = a.apart;
+    based = a.based;
     busy = busy-kept y r.number r.busy e (spared-busy r e spares) a.busy;
     busy_as = a.busy_as;
   }
@@ -177,6 +178,7 @@ module _ (Is : PutPlace → Put → Type 0) where
         waits = waiting-more y e r.number ∙ a.waits;
         each = each-kept y e r.number r.waiting c.waiting (λ p h. record { unapplied = λ i u b is. (let x : Applied p.circuit p.place i u b ≡ Posted r.number mask v = is in cc); kept = λ is. (let x : Withdrawn p.circuit p.place ≡ Posted r.number mask v = is in cc) }) a.each;
         apart = a.apart;
+        based = a.based;
         busy = busy-kept y r.number r.busy e (record { no_other = λ n k u is. (let x : Applied n k r.number u true ≡ Posted r.number mask v = is in cc); not_it = λ p b is. (let x : Finished p.circuit p.place ≡ Posted r.number mask v = is in cc) }) a.busy;
         busy_as = a.busy_as;
       }
@@ -201,6 +203,7 @@ module _ (Is : PutPlace → Put → Type 0) where
         waits = waiting-more y e r.number ∙ ap (λ (l : List (ℕ × ℕ)). waiting_after r.number l e) a.waits ∙ none-out r.waiting p new;
         each = each-kept y e r.number r.waiting c.waiting (λ q h. applied-other q p (λ is. new (subst (λ (z : PutPlace). In r.waiting z) is h)) r.number v false) a.each;
         apart = a.apart;
+        based = a.based;
         busy = busy-kept y r.number r.busy e (record { no_other = λ n k u is. (let x : Applied n k r.number u true ≡ Applied p.circuit p.place r.number v false = is in cc); not_it = λ q b is. (let x : Finished q.circuit q.place ≡ Applied p.circuit p.place r.number v false = is in cc) }) a.busy;
         busy_as = a.busy_as;
       }
@@ -221,6 +224,7 @@ module _ (Is : PutPlace → Put → Type 0) where
         waits = waiting-more y e number ∙ ap (λ (l : List (ℕ × ℕ)). waiting_after number l e) a.waits ∙ none-out ps p new;
         each = each-kept y e number ps ws (λ q h. applied-other q p (λ is. new (subst (λ (z : PutPlace). In ps z) is h)) number v true) a.each;
         apart = a.apart;
+        based = a.based;
         busy = busy-begins y number p v a.busy fresh;
         busy_as = is_it;
       }
@@ -240,6 +244,7 @@ module _ (Is : PutPlace → Put → Type 0) where
         waits = waiting-more y e number ∙ ap (λ (l : List (ℕ × ℕ)). waiting_after number l e) a.waits ∙ first-out p ps a.apart.0;
         each = each-kept y e number ps ws (λ q h. applied-other q p (λ is. a.apart.0 (subst (λ (z : PutPlace). In ps z) is h)) number v true) a.each.1;
         apart = a.apart.1;
+        based = λ i u at. a.based (suc i) u at;
         busy = busy-begins y number p v a.busy fresh;
         busy_as = a.each.0.1;
       }
@@ -259,13 +264,14 @@ module _ (Is : PutPlace → Put → Type 0) where
         waits = waiting-more y e number ∙ a.waits;
         each = each-kept y e number ps ws (λ q h. record { unapplied = λ i u d is. (let x : Applied q.circuit q.place i u d ≡ Finished p.circuit p.place = is in cc); kept = λ is. (let x : Withdrawn q.circuit q.place ≡ Finished p.circuit p.place = is in cc) }) a.each;
         apart = a.apart;
+        based = a.based;
         busy = busy-ends y number p a.busy;
         busy_as = tt;
       }
 
   -- A put comes to wait behind the others.
-  pub agrees-waits : (y : List Entry) (c : Record) (r : RecordSide) (p : PutPlace) (w : WaitingPut) (v : Stored) → v.value ≡ w.value → IsUntold y p → Is p w.put → Agrees Is y c r → Agrees Is (y ++ Waits p.circuit p.place r.number v ∷ []) (with_waiting w c) (record r { waiting = r.waiting ++ p ∷ [] })
-  agrees-waits y c r p w v same fresh is_it a =
+  pub agrees-waits : (y : List Entry) (c : Record) (r : RecordSide) (p : PutPlace) (w : WaitingPut) (v : Stored) → v.value ≡ w.value → base_of w.value ≡ base_of c.state.value → IsUntold y p → Is p w.put → Agrees Is y c r → Agrees Is (y ++ Waits p.circuit p.place r.number v ∷ []) (with_waiting w c) (record r { waiting = r.waiting ++ p ∷ [] })
+  agrees-waits y c r p w v same fits fresh is_it a =
       let e : Entry = Waits p.circuit p.place r.number v in
       let new : In r.waiting p → ⊥ = λ h. (let there = beside-left (WaitsAs Is y r.number) r.waiting c.waiting h.0 p a.each h.1 in fresh (Waits p.circuit p.place r.number there.2.0.v) there.2.0.came refl) in
       let snoc : map pair_of (r.waiting ++ p ∷ []) ≡ map pair_of r.waiting ++ pair_of p ∷ [] = map-append pair_of r.waiting (p ∷ []) in
@@ -298,6 +304,10 @@ module _ (Is : PutPlace → Put → Type 0) where
               ];
             }, is_it);
         apart = apart-front r.waiting p a.apart new;
+        based = λ i u at. elim (At-snoc c.waiting w i u at) [
+          | inl old ↦ a.based i u old
+          | inr is ↦ ap (λ (z : WaitingPut). base_of z.value) is.1 ∙ fits ∙ a.base
+        ];
         busy = busy-kept y r.number r.busy e (record { no_other = λ n k u is. (let x : Applied n k r.number u true ≡ Waits p.circuit p.place r.number v = is in cc); not_it = λ q b is. (let x : Finished q.circuit q.place ≡ Waits p.circuit p.place r.number v = is in cc) }) a.busy;
         busy_as = a.busy_as;
       }
@@ -320,6 +330,7 @@ module _ (Is : PutPlace → Put → Type 0) where
     each = both-filter (WaitsAs Is y r.number) (WaitsAs Is (y ++ withdrawing ws) r.number) (λ (p : PutPlace). not (which p)) (λ (w : WaitingPut). not (test w.put)) r.waiting c.waiting a.each
         (λ i p w at there h. ap (λ (b : Bool). not b) (agree i p w at there))
         (λ i p w at there h stays. (waits-on p w.value (among p (i, at)) stays h.0, h.1));
+    based = λ i w at. (let k = In-kept (λ (w : WaitingPut). not (test w.put)) c.waiting w (i, at) in a.based k.0.0 w k.0.1);
     apart = apart-kept (λ (p : PutPlace). not (which p)) r.waiting a.apart;
     busy = withdrawals-keep (λ l. IsBusyBy l r.number r.busy) y ws (λ l w b. busy-kept l r.number r.busy (Withdrawn w.circuit w.place) (record { no_other = λ n k u is. (let x : Applied n k r.number u true ≡ Withdrawn w.circuit w.place = is in cc); not_it = λ q h is. (let x : Finished q.circuit q.place ≡ Withdrawn w.circuit w.place = is in cc) }) b) a.busy;
     busy_as = a.busy_as;
@@ -363,6 +374,7 @@ module _ (Is : PutPlace → Put → Type 0) where
         waits = waiting-more y e number ∙ nobody-from y [] none refl;
         each = tt;
         apart = tt;
+        based = λ i w at. absurd (none_at i w at);
         busy = λ n k v h. elim (In-snoc y e (Applied n k number v true) h) [
           | inl old ↦ absurd (none (Applied n k number v true) old refl)
           | inr is ↦ absurd (let x : Applied n k number v true ≡ Added number s = is in cc)

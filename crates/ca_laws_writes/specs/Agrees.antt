@@ -90,6 +90,7 @@ module _ (Is : PutPlace → Put → Type 0) where
     pub waits : waiting y r.number ≡ map pair_of r.waiting
     pub each : Both (WaitsAs y r.number) r.waiting c.waiting
     pub apart : AreApart r.waiting
+    pub based : (i : ℕ) (w : WaitingPut) → At c.waiting i w → base_of w.value ≡ base_of first.value
     pub busy : IsBusyBy y r.number r.busy
     pub busy_as : IsBusyAs r.busy c.busy
 
