@@ -65,7 +65,7 @@ module _ (Came : PutPlace → (i r : ℕ) → Elements → Type 0) where
       ])
       (once-told Came y e once (un w (0, refl))))
 
-numbers-withdrawn : (y : List Entry) (ws : List PutPlace) (n : ℕ) → ((i : ℕ) (e : Entry) → In y e → IsOf i e → i < n) → (i : ℕ) (e : Entry) → In (y ++ withdrawing ws) e → IsOf i e → i < n
+pub numbers-withdrawn : (y : List Entry) (ws : List PutPlace) (n : ℕ) → ((i : ℕ) (e : Entry) → In y e → IsOf i e → i < n) → (i : ℕ) (e : Entry) → In (y ++ withdrawing ws) e → IsOf i e → i < n
 numbers-withdrawn y ws n below i e h of_it =
     elim (At-parts y (withdrawing ws) h.0 e h.1) [
       | inl old ↦ below i e (h.0, old) of_it

@@ -6,3 +6,4 @@ pub mod Lives
 pub mod Finishes
 
 pub mod Leaving
+pub mod Coming
