@@ -4,7 +4,7 @@ use Rattle.std.specs.Prelude.{filter, map}
 use Rattle.std.specs.List.{flat_map}
 use Rattle.std.specs.Str.{bytes_eq}
 use Rattle.ca_text.specs.Place.{At}
-use Rattle.ca_text.proofs.Places.{some_is, At-one, At-snoc}
+use Rattle.ca_text.proofs.Places.{some_is, At-append, At-one, At-snoc}
 use Rattle.ca_dbr.specs.Elements.{Elements}
 use Rattle.ca_records.specs.declared.puts.Put.{Put}
 use Rattle.ca_records.specs.Puts.{Record, new_record, removed}
@@ -16,12 +16,12 @@ use Rattle.ca_model_world.specs.World.{PutPlace, RecordSide, numbered, record_be
 use Rattle.ca_laws_writes.specs.Both.{Both}
 use Rattle.ca_laws_writes.specs.Once.{IsApplied, MayTell, Once}
 use Rattle.ca_laws_writes.specs.Agrees.{Agree, Agrees, AreOthers, IsOf, Lack, StillWaits}
-use Rattle.ca_laws_writes.proofs.Lists.{In-append, In-snoc, beside-right, both-all, both-at, both-filter, both-snoc, none_at}
+use Rattle.ca_laws_writes.proofs.Lists.{In-append, In-last, In-snoc, length-more, beside-right, both-all, both-at, both-filter, both-snoc, none_at}
 use Rattle.ca_laws_writes.proofs.Once.{once-begins, once-told}
 use Rattle.ca_laws_writes.proofs.Records.{agrees-new, agrees-spared, append-one, withdrawing}
 use Rattle.ca_laws_writes.proofs.Lives.{below-all, bytes-other, bytes-same, others-apart, waits-there}
 use Rattle.ca_laws_writes.proofs.Finishes.{waits-one}
-use Rattle.ca_laws_writes.proofs.Leaving.{numbers-withdrawn, once-withdrawn}
+use Rattle.ca_laws_writes.proofs.Leaving.{had-waited, numbers-withdrawn, once-withdrawn}
 
 -- ---- removals
 
@@ -77,20 +77,25 @@ module _ (Is : PutPlace → Put → Type 0) where
       subst (λ (l : List Entry). Agrees Is l c r) (append-one y e (withdrawing ws))
       (spared-withdrawing (y ++ e ∷ []) c r ws (λ p h. apart p (suc h.0, h.1)) (agrees-spared Is y c r e (apart w (0, refl)) a))
 
-module _ (Came : PutPlace → (i r : ℕ) → Elements → Type 0) (Is : PutPlace → Put → Type 0) where
+module _ (Came : PutPlace → (i : ℕ) → Elements → Type 0) (Lost : PutPlace → (i : ℕ) → Type 0) (Is : PutPlace → Put → Type 0) where
   -- A record is removed, and the puts that wait for it are withdrawn.
-  pub agree-removed : (y : List Entry) (cs : List Record) (rs : List RecordSide) (n i : ℕ) (r : RecordSide) → At rs i r → Agree Came Is y cs rs n → Agree Came Is (y ++ removal_entries r.name rs) (removed r.name cs) (filter (λ (q : RecordSide). not (bytes_eq q.name r.name)) rs) n
+  pub agree-removed : (y : List Entry) (cs : List Record) (rs : List RecordSide) (n i : ℕ) (r : RecordSide) → At rs i r → Agree Came Lost Is y cs rs n → Agree Came Lost Is (y ++ removal_entries r.name rs) (removed r.name cs) (filter (λ (q : RecordSide). not (bytes_eq q.name r.name)) rs) n
   agree-removed y cs rs n i r in_rs a =
       let gone : Entry = Removed r.number in
       let there = beside-right (Agrees Is y) cs rs i r a.each in_rs in
       let more : List Entry = y ++ gone ∷ [] in
       let all : List Entry = more ++ withdrawing r.waiting in
       let same : all ≡ y ++ removal_entries r.name rs = append-one y gone (withdrawing r.waiting) ∙ ap (λ (l : List Entry). y ++ l) (sym (removal-is rs i r a.others in_rs)) in
-      subst (λ (l : List Entry). Agree Came Is l (removed r.name cs) (filter (λ (q : RecordSide). not (bytes_eq q.name r.name)) rs) n) same (record {
-        once = once-withdrawn Came more r.waiting (λ w h applied. (let s = waits-there Is y there.0 r w there.2 h in elim (In-snoc y gone (Applied w.circuit w.place applied.0 applied.1 applied.2) applied.3) [
+      subst (λ (l : List Entry). Agree Came Lost Is l (removed r.name cs) (filter (λ (q : RecordSide). not (bytes_eq q.name r.name)) rs) n) same (record {
+        once = once-withdrawn Came Lost more r.waiting (λ w h applied. (let s = waits-there Is y there.0 r w there.2 h in elim (In-snoc y gone (Applied w.circuit w.place applied.0 applied.1 applied.2) applied.3) [
           | inl old ↦ s.1.unapplied (applied.0, applied.1, applied.2, old)
           | inr new ↦ (let x : Applied w.circuit w.place applied.0 applied.1 applied.2 ≡ Removed r.number = new in cc)
-        ])) (once-told Came y gone a.once tt);
+        ])) (λ w h. (let s = waits-there Is y there.0 r w there.2 h in let len : length more ≡ length y + 1 = length-more y gone in let b = had-waited y w r.number s.0.value s.1 in (
+          r.number,
+          s.0.value,
+          (b.0, b.1, (let lt : b.0 < length y = b.2 in omega (arith, lt, len)), At-append y (gone ∷ []) b.0 (Waits w.circuit w.place r.number b.1) b.3, b.4),
+          inl (In-last y gone),
+        ))) (once-told Came Lost y gone a.once tt);
         each = both-filter (Agrees Is y) (Agrees Is all) (λ (c : Record). not (bytes_eq c.state.name r.name)) (λ (q : RecordSide). not (bytes_eq q.name r.name)) cs rs a.each
             (λ j c q in_cs at g. ap (λ (nm : List ℕ). not (bytes_eq nm r.name)) g.name)
             (λ j c q in_cs at g stays. elim (others-apart rs i j r q a.others in_rs at) [
@@ -100,13 +105,13 @@ module _ (Came : PutPlace → (i r : ℕ) → Elements → Type 0) (Is : PutPlac
                   absurd (let f : not true ≡ true = ap (λ (b : Bool). not b) (sym hit) ∙ stays in cc)
               | inr other ↦
                   spared-withdrawing Is more c q r.waiting
-                  (λ p mine too. other.1 (let s = waits-there Is y c q p g too in let t = waits-there Is y there.0 r p there.2 mine in waits-one Came y q.number r.number p s.0.value t.0.value a.once s.1 t.1))
+                  (λ p mine too. other.1 (let s = waits-there Is y c q p g too in let t = waits-there Is y there.0 r p there.2 mine in waits-one Came Lost y q.number r.number p s.0.value t.0.value a.once s.1 t.1))
                   (agrees-spared Is y c q gone other.1 g)
             ]);
         others = others-kept (λ (q : RecordSide). not (bytes_eq q.name r.name)) rs a.others;
         numbers = numbers-withdrawn more r.waiting n (λ k e h of_it. elim (In-snoc y gone e h) [
           | inl old ↦ a.numbers k e old of_it
-          | inr new ↦ below-all Came Is y cs rs n i r k in_rs a (subst (λ (z : Entry). IsOf k z) new of_it)
+          | inr new ↦ below-all Came Lost Is y cs rs n i r k in_rs a (subst (λ (z : Entry). IsOf k z) new of_it)
         ]);
       })
 
@@ -135,19 +140,19 @@ pub lack-of : (name : List ℕ) (number : ℕ) (rs : List RecordSide) → ((i : 
 lack-of name number [] h = tt
 lack-of name number (r ∷ rs) h = (h 0 r refl, lack-of name number rs (λ i q at. h (suc i) q at))
 
-module _ (Came : PutPlace → (i r : ℕ) → Elements → Type 0) (Is : PutPlace → Put → Type 0) where
+module _ (Came : PutPlace → (i : ℕ) → Elements → Type 0) (Lost : PutPlace → (i : ℕ) → Type 0) (Is : PutPlace → Put → Type 0) where
   -- what was there agrees with the log in which a record was added
-  still-agree : (y : List Entry) (cs : List Record) (rs : List RecordSide) (n : ℕ) (s : RecordState) → Agree Came Is y cs rs n → Both (Agrees Is (y ++ Added n s ∷ [])) cs rs
+  still-agree : (y : List Entry) (cs : List Record) (rs : List RecordSide) (n : ℕ) (s : RecordState) → Agree Came Lost Is y cs rs n → Both (Agrees Is (y ++ Added n s ∷ [])) cs rs
   still-agree y cs rs n s a =
       both-all (Agrees Is y) (Agrees Is (y ++ Added n s ∷ [])) cs rs a.each
-      (λ i c r in_cs in_rs g. agrees-spared Is y c r (Added n s) (λ is. (let lt : r.number < n = below-all Came Is y cs rs n i r r.number in_rs a refl in omega (arith, lt, is))) g)
+      (λ i c r in_cs in_rs g. agrees-spared Is y c r (Added n s) (λ is. (let lt : r.number < n = below-all Came Lost Is y cs rs n i r r.number in_rs a refl in omega (arith, lt, is))) g)
 
-  new-agrees : (y : List Entry) (cs : List Record) (rs : List RecordSide) (n : ℕ) (s : RecordState) → Agree Came Is y cs rs n → Agrees Is (y ++ Added n s ∷ []) (new_record s) (record_begun n s)
+  new-agrees : (y : List Entry) (cs : List Record) (rs : List RecordSide) (n : ℕ) (s : RecordState) → Agree Came Lost Is y cs rs n → Agrees Is (y ++ Added n s ∷ []) (new_record s) (record_begun n s)
   new-agrees y cs rs n s a = agrees-new Is y n s (λ e h of_it. (let lt : n < n = a.numbers n e h of_it in omega (arith, lt)))
 
-  lack-new : (y : List Entry) (cs : List Record) (rs : List RecordSide) (n : ℕ) (name : List ℕ) → ((i : ℕ) (r : RecordSide) → At rs i r → r.name ≡ name → ⊥) → Agree Came Is y cs rs n → Lack name n rs
+  lack-new : (y : List Entry) (cs : List Record) (rs : List RecordSide) (n : ℕ) (name : List ℕ) → ((i : ℕ) (r : RecordSide) → At rs i r → r.name ≡ name → ⊥) → Agree Came Lost Is y cs rs n → Lack name n rs
   lack-new y cs rs n name none a =
-      lack-of name n rs (λ i r at. (none i r at, λ is. (let lt : r.number < n = below-all Came Is y cs rs n i r r.number at a refl in omega (arith, lt, is))))
+      lack-of name n rs (λ i r at. (none i r at, λ is. (let lt : r.number < n = below-all Came Lost Is y cs rs n i r r.number at a refl in omega (arith, lt, is))))
 
   numbers-new : (y : List Entry) (n : ℕ) (s : RecordState) → ((i : ℕ) (e : Entry) → In y e → IsOf i e → i < n) → (i : ℕ) (e : Entry) → In (y ++ Added n s ∷ []) e → IsOf i e → i < n + 1
   numbers-new y n s below i e h of_it = elim (In-snoc y (Added n s) e h) [
@@ -156,18 +161,18 @@ module _ (Came : PutPlace → (i r : ℕ) → Elements → Type 0) (Is : PutPlac
   ]
 
   -- A record is added behind so many others.
-  pub agree-added : (y : List Entry) (cs : List Record) (rs : List RecordSide) (n : ℕ) (s : RecordState) (behind : ℕ) → ((i : ℕ) (r : RecordSide) → At rs i r → r.name ≡ s.name → ⊥) → Agree Came Is y cs rs n → Agree Came Is (y ++ Added n s ∷ []) (take behind cs ++ new_record s ∷ drop behind cs) (take behind rs ++ record_begun n s ∷ drop behind rs) (n + 1)
+  pub agree-added : (y : List Entry) (cs : List Record) (rs : List RecordSide) (n : ℕ) (s : RecordState) (behind : ℕ) → ((i : ℕ) (r : RecordSide) → At rs i r → r.name ≡ s.name → ⊥) → Agree Came Lost Is y cs rs n → Agree Came Lost Is (y ++ Added n s ∷ []) (take behind cs ++ new_record s ∷ drop behind cs) (take behind rs ++ record_begun n s ∷ drop behind rs) (n + 1)
   agree-added y cs rs n s behind none a = record {
-    once = once-told Came y (Added n s) a.once tt;
+    once = once-told Came Lost y (Added n s) a.once tt;
     each = both-more (Agrees Is (y ++ Added n s ∷ [])) cs rs (new_record s) (record_begun n s) behind (still-agree y cs rs n s a) (new-agrees y cs rs n s a);
     others = others-more rs (record_begun n s) behind (lack-new y cs rs n s.name none a) a.others;
     numbers = numbers-new y n s a.numbers;
   }
 
   -- and behind all others
-  agree-added-last : (y : List Entry) (cs : List Record) (rs : List RecordSide) (n : ℕ) (s : RecordState) → ((i : ℕ) (r : RecordSide) → At rs i r → r.name ≡ s.name → ⊥) → Agree Came Is y cs rs n → Agree Came Is (y ++ Added n s ∷ []) (cs ++ new_record s ∷ []) (rs ++ record_begun n s ∷ []) (n + 1)
+  agree-added-last : (y : List Entry) (cs : List Record) (rs : List RecordSide) (n : ℕ) (s : RecordState) → ((i : ℕ) (r : RecordSide) → At rs i r → r.name ≡ s.name → ⊥) → Agree Came Lost Is y cs rs n → Agree Came Lost Is (y ++ Added n s ∷ []) (cs ++ new_record s ∷ []) (rs ++ record_begun n s ∷ []) (n + 1)
   agree-added-last y cs rs n s none a = record {
-    once = once-told Came y (Added n s) a.once tt;
+    once = once-told Came Lost y (Added n s) a.once tt;
     each = both-snoc (Agrees Is (y ++ Added n s ∷ [])) cs rs (new_record s) (record_begun n s) (still-agree y cs rs n s a) (new-agrees y cs rs n s a);
     others = others-snoc rs (lack-new y cs rs n s.name none a) a.others;
     numbers = numbers-new y n s a.numbers;
@@ -183,11 +188,11 @@ module _ (Came : PutPlace → (i r : ℕ) → Elements → Type 0) (Is : PutPlac
 
   -- ---- a life begins
 
-  agree-more : (y : List Entry) (cs : List Record) (rs : List RecordSide) (n : ℕ) (ss : List RecordState) → ((i j : ℕ) (r : RecordSide) (s : RecordState) → At rs i r → At ss j s → r.name ≡ s.name → ⊥) → ((i j : ℕ) (r s : RecordState) → At ss i r → At ss j s → r.name ≡ s.name → i ≡ j) → Agree Came Is y cs rs n → Agree Came Is (y ++ numbered n Added ss) (cs ++ map new_record ss) (rs ++ numbered n record_begun ss) (n + length ss)
+  agree-more : (y : List Entry) (cs : List Record) (rs : List RecordSide) (n : ℕ) (ss : List RecordState) → ((i j : ℕ) (r : RecordSide) (s : RecordState) → At rs i r → At ss j s → r.name ≡ s.name → ⊥) → ((i j : ℕ) (r s : RecordState) → At ss i r → At ss j s → r.name ≡ s.name → i ≡ j) → Agree Came Lost Is y cs rs n → Agree Came Lost Is (y ++ numbered n Added ss) (cs ++ map new_record ss) (rs ++ numbered n record_begun ss) (n + length ss)
   agree-more y cs rs n [] none apart a =
-      subst (λ (l : List Entry). Agree Came Is l (cs ++ []) (rs ++ []) (n + 0)) (sym (append-nil y))
-      (subst (λ (l : List Record). Agree Came Is y l (rs ++ []) (n + 0)) (sym (append-nil cs))
-      (subst (λ (l : List RecordSide). Agree Came Is y cs l (n + 0)) (sym (append-nil rs))
+      subst (λ (l : List Entry). Agree Came Lost Is l (cs ++ []) (rs ++ []) (n + 0)) (sym (append-nil y))
+      (subst (λ (l : List Record). Agree Came Lost Is y l (rs ++ []) (n + 0)) (sym (append-nil cs))
+      (subst (λ (l : List RecordSide). Agree Came Lost Is y cs l (n + 0)) (sym (append-nil rs))
       (let z : n + 0 ≡ n = omega arith in rw z a)))
   agree-more y cs rs n (s ∷ ss) none apart a =
       let one = agree-added-last y cs rs n s (λ i r at e. none i 0 r s at refl e) a in
@@ -199,15 +204,15 @@ module _ (Came : PutPlace → (i r : ℕ) → Elements → Type 0) (Is : PutPlac
       (λ i j r q at there e. (let k : suc i ≡ suc j = apart (suc i) (suc j) r q at there e in omega (arith, k)))
       one in
       let len : n + 1 + length ss ≡ n + suc (length ss) = omega arith in
-      subst (λ (m : ℕ). Agree Came Is (y ++ numbered n Added (s ∷ ss)) (cs ++ map new_record (s ∷ ss)) (rs ++ numbered n record_begun (s ∷ ss)) m) len
-      (subst (λ (l : List Entry). Agree Came Is l (cs ++ map new_record (s ∷ ss)) (rs ++ numbered n record_begun (s ∷ ss)) (n + 1 + length ss)) (append-one y (Added n s) (numbered (n + 1) Added ss))
-      (subst (λ (l : List Record). Agree Came Is ((y ++ Added n s ∷ []) ++ numbered (n + 1) Added ss) l (rs ++ numbered n record_begun (s ∷ ss)) (n + 1 + length ss)) (append-one cs (new_record s) (map new_record ss))
-      (subst (λ (l : List RecordSide). Agree Came Is ((y ++ Added n s ∷ []) ++ numbered (n + 1) Added ss) ((cs ++ new_record s ∷ []) ++ map new_record ss) l (n + 1 + length ss)) (append-one rs (record_begun n s) (numbered (n + 1) record_begun ss)) rest)))
+      subst (λ (m : ℕ). Agree Came Lost Is (y ++ numbered n Added (s ∷ ss)) (cs ++ map new_record (s ∷ ss)) (rs ++ numbered n record_begun (s ∷ ss)) m) len
+      (subst (λ (l : List Entry). Agree Came Lost Is l (cs ++ map new_record (s ∷ ss)) (rs ++ numbered n record_begun (s ∷ ss)) (n + 1 + length ss)) (append-one y (Added n s) (numbered (n + 1) Added ss))
+      (subst (λ (l : List Record). Agree Came Lost Is ((y ++ Added n s ∷ []) ++ numbered (n + 1) Added ss) l (rs ++ numbered n record_begun (s ∷ ss)) (n + 1 + length ss)) (append-one cs (new_record s) (map new_record ss))
+      (subst (λ (l : List RecordSide). Agree Came Lost Is ((y ++ Added n s ∷ []) ++ numbered (n + 1) Added ss) ((cs ++ new_record s ∷ []) ++ map new_record ss) l (n + 1 + length ss)) (append-one rs (record_begun n s) (numbered (n + 1) record_begun ss)) rest)))
 
   -- A life begins with records of different names.
-  pub agree-begun : (ss : List RecordState) → ((i j : ℕ) (r s : RecordState) → At ss i r → At ss j s → r.name ≡ s.name → i ≡ j) → Agree Came Is (numbered 0 Added ss) (map new_record ss) (numbered 0 record_begun ss) (length ss)
+  pub agree-begun : (ss : List RecordState) → ((i j : ℕ) (r s : RecordState) → At ss i r → At ss j s → r.name ≡ s.name → i ≡ j) → Agree Came Lost Is (numbered 0 Added ss) (map new_record ss) (numbered 0 record_begun ss) (length ss)
   agree-begun ss apart =
-      let none : Agree Came Is [] [] [] 0 = record { once = once-begins Came; each = tt; others = tt; numbers = λ r e h of_it. absurd (none_at h.0 e h.1) } in
+      let none : Agree Came Lost Is [] [] [] 0 = record { once = once-begins Came Lost; each = tt; others = tt; numbers = λ r e h of_it. absurd (none_at h.0 e h.1) } in
       let z : 0 + length ss ≡ length ss = omega arith in
-      subst (λ (m : ℕ). Agree Came Is (numbered 0 Added ss) (map new_record ss) (numbered 0 record_begun ss) m) z
+      subst (λ (m : ℕ). Agree Came Lost Is (numbered 0 Added ss) (map new_record ss) (numbered 0 record_begun ss) m) z
       (agree-more [] [] [] 0 ss (λ i j r s at there e. none_at i r at) apart none)

@@ -5,7 +5,7 @@ use Rattle.std.specs.List.{flat_map}
 use Rattle.std.specs.Str.{bytes_eq}
 use Rattle.std.proofs.lemmas.Slice.Eq.{bytes_eq-Decides}
 use Rattle.ca_text.specs.Place.{At}
-use Rattle.ca_text.proofs.Places.{some_is, At-after, At-append, At-mapped, At-one, At-parts}
+use Rattle.ca_text.proofs.Places.{some_is, At-after, At-append, At-mapped, At-one, At-parts, At-within}
 use Rattle.ca_dbr.specs.Elements.{Elements}
 use Rattle.ca_records.specs.declared.puts.Put.{Put}
 use Rattle.ca_records.specs.Puts.{Record, WaitingPut, removed, withdrawn, without_puts}
@@ -16,9 +16,9 @@ use Rattle.ca_model_world.specs.ServerEvents.{channel_withdrawals, places_where,
 use Rattle.ca_model_world.specs.ServerEvents as event
 use Rattle.ca_model_world.specs.World.{PutPlace, RecordSide}
 use Rattle.ca_laws_writes.specs.Both.{Both}
-use Rattle.ca_laws_writes.specs.Once.{IsApplied, IsWithdrawn, MayTell, Once}
+use Rattle.ca_laws_writes.specs.Once.{HadWaited, IsApplied, IsLost, IsWithdrawn, MayTell, Once}
 use Rattle.ca_laws_writes.specs.Agrees.{Agree, Agrees, AreOthers, IsOf, Lack, StillWaits, WaitsAs, pair_of}
-use Rattle.ca_laws_writes.proofs.Lists.{In-append, In-kept, In-snoc, beside-right, both-all, both-at, both-filter, both-map, kept-in, none_at}
+use Rattle.ca_laws_writes.proofs.Lists.{In-append, In-kept, In-snoc, beside-right, both-all, both-at, both-filter, both-map, kept-in, length-more, none_at, take-whole}
 use Rattle.ca_laws_writes.proofs.Once.{once-told}
 use Rattle.ca_laws_writes.proofs.Records.{agrees-spared, agrees-withdrawn, among-there, append-one, is_among, there-among, withdrawals-keep, withdrawing}
 use Rattle.ca_laws_writes.proofs.Lives.{bytes-other, bytes-same, others-apart, others-map, waits-there}
@@ -51,19 +51,35 @@ bool-same false false f g = refl
 
 -- ---- the log
 
-module _ (Came : PutPlace → (i r : ℕ) → Elements → Type 0) where
+module _ (Came : PutPlace → (i : ℕ) → Elements → Type 0) (Lost : PutPlace → (i : ℕ) → Type 0) where
   -- the log may withdraw puts that were not applied
-  pub once-withdrawn : (y : List Entry) (ws : List PutPlace) → ((w : PutPlace) → In ws w → IsApplied y w → ⊥) → Once Came y → Once Came (y ++ withdrawing ws)
-  once-withdrawn y [] un once = subst (λ (l : List Entry). Once Came l) (sym (append-nil y)) once
-  once-withdrawn y (w ∷ ws) un once =
+  pub once-withdrawn : (y : List Entry) (ws : List PutPlace) → ((w : PutPlace) → In ws w → IsApplied y w → ⊥) → ((w : PutPlace) → In ws w → (r : ℕ) × (value : Elements) × HadWaited y w (length y) r value × (In y (Removed r) ⊎ ((i : ℕ) → length y ≤ i → Lost w i))) → Once Came Lost y → Once Came Lost (y ++ withdrawing ws)
+  once-withdrawn y [] un lost once = subst (λ (l : List Entry). Once Came Lost l) (sym (append-nil y)) once
+  once-withdrawn y (w ∷ ws) un lost once =
       let e : Entry = Withdrawn w.circuit w.place in
-      subst (λ (l : List Entry). Once Came l) (append-one y e (withdrawing ws))
+      subst (λ (l : List Entry). Once Came Lost l) (append-one y e (withdrawing ws))
       (once-withdrawn (y ++ e ∷ []) ws
       (λ u h ap. elim (In-snoc y e (Applied u.circuit u.place ap.0 ap.1 ap.2) ap.3) [
         | inl old ↦ un u (suc h.0, h.1) (ap.0, ap.1, ap.2, old)
         | inr new ↦ (let x : Applied u.circuit u.place ap.0 ap.1 ap.2 ≡ Withdrawn w.circuit w.place = new in cc)
       ])
-      (once-told Came y e once (un w (0, refl))))
+      (λ u h. (let l = lost u (suc h.0, h.1) in let len : length (y ++ e ∷ []) ≡ length y + 1 = length-more y e in (
+        l.0,
+        l.1,
+        (l.2.0, l.2.1, (let lt : l.2.0 < length y = l.2.2 in omega (arith, lt, len)), At-append y (e ∷ []) l.2.0 (Waits u.circuit u.place l.0 l.2.1) l.2.3, l.2.4),
+        elim l.3 [ inl gone ↦ inl (In-append y (e ∷ []) (Removed l.0) gone) | inr rest ↦ inr (λ i le. rest i (omega (arith, le, len))) ],
+      )))
+      (once-told Came Lost y e once (un w (0, refl), now w (lost w (0, refl)))))
+    where
+      now : (w : PutPlace) → ((r : ℕ) × (value : Elements) × HadWaited y w (length y) r value × (In y (Removed r) ⊎ ((i : ℕ) → length y ≤ i → Lost w i))) → IsLost Came Lost y w (length y)
+      now w l = (l.0, l.1, l.2, elim l.3 [
+        | inl gone ↦ inl (subst (λ (x : List Entry). In x (Removed l.0)) (sym (take-whole y)) gone)
+        | inr rest ↦ inr (rest (length y) (omega arith))
+      ])
+
+-- a put that waits had waited
+pub had-waited : (y : List Entry) (p : PutPlace) (r : ℕ) (value : Elements) → StillWaits y r p value → HadWaited y p (length y) r value
+had-waited y p r value w = (w.came.0, w.v, At-within y w.came.0 (Waits p.circuit p.place r w.v) w.came.1, w.came.1, w.with_it)
 
 pub numbers-withdrawn : (y : List Entry) (ws : List PutPlace) (n : ℕ) → ((i : ℕ) (e : Entry) → In y e → IsOf i e → i < n) → (i : ℕ) (e : Entry) → In (y ++ withdrawing ws) e → IsOf i e → i < n
 numbers-withdrawn y ws n below i e h of_it =
@@ -87,22 +103,32 @@ abbrev pub TestsAgree : (PutPlace → Bool) → (Put → Bool) → List Record �
 TestsAgree which test cs rs =
     (i j : ℕ) (c : Record) (r : RecordSide) (p : PutPlace) (w : WaitingPut) → At cs i c → At rs i r → At r.waiting j p → At c.waiting j w → which p ≡ test w.put
 
+-- those that it names are lost from now on
+abbrev pub LoseAll : (PutPlace → (i : ℕ) → Type 0) → (PutPlace → Bool) → List Entry → List RecordSide → Type 0
+LoseAll Lost which y rs =
+    (j : ℕ) (r : RecordSide) (p : PutPlace) → At rs j r → In r.waiting p → which p ≡ true → (i : ℕ) → length y ≤ i → Lost p i
+
 named-among : (which : PutPlace → Bool) (rs : List RecordSide) (i : ℕ) (r : RecordSide) (p : PutPlace) → At rs i r → In r.waiting p → is_among (named_by which rs) (pair_of p) ≡ which p
 named-among which rs i r p at waits =
     bool-same (is_among (named_by which rs) (pair_of p)) (which p)
     (λ e. (let h = flat-in (λ (q : RecordSide). filter which q.waiting) rs p (there-among (named_by which rs) p e) in (In-kept which h.0.waiting p h.2).1))
     (λ e. among-there (named_by which rs) p (In-flat (λ (q : RecordSide). filter which q.waiting) rs r p (i, at) (kept-in which r.waiting p waits e)))
 
-module _ (Came : PutPlace → (i r : ℕ) → Elements → Type 0) (Is : PutPlace → Put → Type 0) where
-  pub agree-withdrawn : (y : List Entry) (cs : List Record) (rs : List RecordSide) (n : ℕ) (which : PutPlace → Bool) (test : Put → Bool) → TestsAgree which test cs rs → Agree Came Is y cs rs n → Agree Came Is (y ++ withdrawing (named_by which rs)) (withdrawn test cs) (map (without_waiting which) rs) n
-  agree-withdrawn y cs rs n which test agree a =
+module _ (Came : PutPlace → (i : ℕ) → Elements → Type 0) (Lost : PutPlace → (i : ℕ) → Type 0) (Is : PutPlace → Put → Type 0) where
+  pub agree-withdrawn : (y : List Entry) (cs : List Record) (rs : List RecordSide) (n : ℕ) (which : PutPlace → Bool) (test : Put → Bool) → TestsAgree which test cs rs → LoseAll Lost which y rs → Agree Came Lost Is y cs rs n → Agree Came Lost Is (y ++ withdrawing (named_by which rs)) (withdrawn test cs) (map (without_waiting which) rs) n
+  agree-withdrawn y cs rs n which test agree lose a =
       let ws : List PutPlace = named_by which rs in
       record {
-        once = once-withdrawn Came y ws (λ w h applied.
+        once = once-withdrawn Came Lost y ws (λ w h applied.
             let f = flat-in (λ (q : RecordSide). filter which q.waiting) rs w h in
             let there = beside-right (Agrees Is y) cs rs f.1.0 f.0 a.each f.1.1 in
             let s = waits-there Is y there.0 f.0 w there.2 (In-kept which f.0.waiting w f.2).0 in
-            s.1.unapplied applied) a.once;
+            s.1.unapplied applied) (λ w h.
+            let f = flat-in (λ (q : RecordSide). filter which q.waiting) rs w h in
+            let there = beside-right (Agrees Is y) cs rs f.1.0 f.0 a.each f.1.1 in
+            let k = In-kept which f.0.waiting w f.2 in
+            let s = waits-there Is y there.0 f.0 w there.2 k.0 in
+            (f.0.number, s.0.value, had-waited y w f.0.number s.0.value s.1, inr (λ i le. lose f.1.0 f.0 w f.1.1 k.0 k.1 i le))) a.once;
         each = both-map (Agrees Is y) (Agrees Is (y ++ withdrawing ws)) (without_puts test) (without_waiting which) cs rs a.each
             (λ i c r in_cs in_rs g. agrees-withdrawn Is y c r ws which test (λ p h. named-among which rs i r p in_rs h) (λ j p w at there. agree i j c r p w in_cs in_rs at there) g);
         others = others-map (without_waiting which) rs (λ r. (refl, refl)) a.others;
@@ -111,10 +137,10 @@ module _ (Came : PutPlace → (i r : ℕ) → Elements → Type 0) (Is : PutPlac
 
 -- ---- of circuits that end
 
-module _ (Came : PutPlace → (i r : ℕ) → Elements → Type 0) (Is : PutPlace → Put → Type 0) where
+module _ (Came : PutPlace → (i : ℕ) → Elements → Type 0) (Lost : PutPlace → (i : ℕ) → Type 0) (Is : PutPlace → Put → Type 0) where
   -- Circuits end: `gone` names them by number, `lost` by what the core knows of a put.
-  pub agree-gone : (y : List Entry) (cs : List Record) (rs : List RecordSide) (n : ℕ) (gone : ℕ → Bool) (lost : Put → Bool) → TestsAgree (λ (p : PutPlace). gone p.circuit) lost cs rs → Agree Came Is y cs rs n → Agree Came Is (y ++ withdrawals gone rs) (withdrawn lost cs) (map (event.without_puts gone) rs) n
-  agree-gone y cs rs n gone lost agree a = agree-withdrawn Came Is y cs rs n (λ (p : PutPlace). gone p.circuit) lost agree a
+  pub agree-gone : (y : List Entry) (cs : List Record) (rs : List RecordSide) (n : ℕ) (gone : ℕ → Bool) (lost : Put → Bool) → TestsAgree (λ (p : PutPlace). gone p.circuit) lost cs rs → LoseAll Lost (λ (p : PutPlace). gone p.circuit) y rs → Agree Came Lost Is y cs rs n → Agree Came Lost Is (y ++ withdrawals gone rs) (withdrawn lost cs) (map (event.without_puts gone) rs) n
+  agree-gone y cs rs n gone lost agree lose a = agree-withdrawn Came Lost Is y cs rs n (λ (p : PutPlace). gone p.circuit) lost agree lose a
 
 -- ---- of a channel that is cleared
 
@@ -151,12 +177,12 @@ module _ (Is : PutPlace → Put → Type 0) (y : List Entry) where
       places-filter (WaitsAs Is y r.number) (event.is_of_channel h sid) which r.waiting c.waiting both.0.each (λ j p w at there. agree 0 j c r p w refl refl at there) in
       λ i. mine i ++ rest i
 
-module _ (Came : PutPlace → (i r : ℕ) → Elements → Type 0) (Is : PutPlace → Put → Type 0) where
+module _ (Came : PutPlace → (i : ℕ) → Elements → Type 0) (Lost : PutPlace → (i : ℕ) → Type 0) (Is : PutPlace → Put → Type 0) where
   -- A channel is cleared: `which` names its puts by place.
-  pub agree-cleared : (y : List Entry) (cs : List Record) (rs : List RecordSide) (n : ℕ) (h : _) (sid : ℕ) (which : PutPlace → Bool) → TestsAgree which (event.is_of_channel h sid) cs rs → Agree Came Is y cs rs n → Agree Came Is (y ++ channel_withdrawals h sid cs rs) (withdrawn (event.is_of_channel h sid) cs) (with_core (event.without_channel h sid) cs rs) n
-  agree-cleared y cs rs n h sid which agree a =
-      let w = agree-withdrawn Came Is y cs rs n which (event.is_of_channel h sid) agree a in
+  pub agree-cleared : (y : List Entry) (cs : List Record) (rs : List RecordSide) (n : ℕ) (h : _) (sid : ℕ) (which : PutPlace → Bool) → TestsAgree which (event.is_of_channel h sid) cs rs → LoseAll Lost which y rs → Agree Came Lost Is y cs rs n → Agree Came Lost Is (y ++ channel_withdrawals h sid cs rs) (withdrawn (event.is_of_channel h sid) cs) (with_core (event.without_channel h sid) cs rs) n
+  agree-cleared y cs rs n h sid which agree lose a =
+      let w = agree-withdrawn Came Lost Is y cs rs n which (event.is_of_channel h sid) agree lose a in
       let records = channel-records Is y h sid which cs rs a.each agree in
       let places = channel-places Is y h sid which cs rs a.each agree in
-      subst (λ (l : List RecordSide). Agree Came Is (y ++ channel_withdrawals h sid cs rs) (withdrawn (event.is_of_channel h sid) cs) l n) (sym records)
-      (subst (λ (ws : List PutPlace). Agree Came Is (y ++ withdrawing ws) (withdrawn (event.is_of_channel h sid) cs) (map (without_waiting which) rs) n) (sym places) w)
+      subst (λ (l : List RecordSide). Agree Came Lost Is (y ++ channel_withdrawals h sid cs rs) (withdrawn (event.is_of_channel h sid) cs) l n) (sym records)
+      (subst (λ (ws : List PutPlace). Agree Came Lost Is (y ++ withdrawing ws) (withdrawn (event.is_of_channel h sid) cs) (map (without_waiting which) rs) n) (sym places) w)

@@ -19,7 +19,7 @@ use Rattle.ca_model_world.specs.World.{PutPlace, RecordSide}
 use Rattle.ca_laws_writes.specs.Both.{Both}
 use Rattle.ca_laws_writes.specs.Once.{IsApplied, IsFinished, IsUntold, IsWithdrawn, MayTell, Once}
 use Rattle.ca_laws_writes.specs.Agrees.{Agree, Agrees, AreOthers, IsBusyAs, IsOf, Lack, StillWaits, WaitsAs, stored}
-use Rattle.ca_laws_writes.proofs.Lists.{In-append, In-snoc, beside-left, beside-right, both-all, both-left, both-map, none_at}
+use Rattle.ca_laws_writes.proofs.Lists.{In-append, In-snoc, beside-left, beside-right, both-all, both-at, both-left, both-map, none_at}
 use Rattle.ca_laws_writes.proofs.Once.{once-told}
 use Rattle.ca_laws_writes.proofs.Parts.{Spares}
 use Rattle.ca_laws_writes.proofs.Records.{agrees-applied, agrees-busied, agrees-finished, agrees-next, agrees-posted, agrees-spared, agrees-waits}
@@ -131,11 +131,11 @@ module _ (Is : PutPlace → Put → Type 0) where
 
 -- ---- the whole life
 
-module _ (Came : PutPlace → (i r : ℕ) → Elements → Type 0) (Is : PutPlace → Put → Type 0) where
+module _ (Came : PutPlace → (i : ℕ) → Elements → Type 0) (Lost : PutPlace → (i : ℕ) → Type 0) (Is : PutPlace → Put → Type 0) where
   -- one more entry, by which no record comes or goes
-  pub agree-told : (y : List Entry) (cs ds : List Record) (rs qs : List RecordSide) (n : ℕ) (e : Entry) → ((r : ℕ) → IsOf r e → r < n) → MayTell Came y e → Both (Agrees Is (y ++ e ∷ [])) ds qs → AreOthers qs → Agree Came Is y cs rs n → Agree Came Is (y ++ e ∷ []) ds qs n
+  pub agree-told : (y : List Entry) (cs ds : List Record) (rs qs : List RecordSide) (n : ℕ) (e : Entry) → ((r : ℕ) → IsOf r e → r < n) → MayTell Came Lost y e → Both (Agrees Is (y ++ e ∷ [])) ds qs → AreOthers qs → Agree Came Lost Is y cs rs n → Agree Came Lost Is (y ++ e ∷ []) ds qs n
   agree-told y cs ds rs qs n e below may both others a = record {
-    once = once-told Came y e a.once may;
+    once = once-told Came Lost y e a.once may;
     each = both;
     others = others;
     numbers = λ r f h of_it. elim (In-snoc y e f h) [
@@ -145,24 +145,24 @@ module _ (Came : PutPlace → (i r : ℕ) → Elements → Type 0) (Is : PutPlac
   }
 
   -- an entry about a record that is there has its number
-  pub below-all : (y : List Entry) (cs : List Record) (rs : List RecordSide) (n i : ℕ) (r : RecordSide) (q : ℕ) → At rs i r → Agree Came Is y cs rs n → r.number ≡ q → q < n
+  pub below-all : (y : List Entry) (cs : List Record) (rs : List RecordSide) (n i : ℕ) (r : RecordSide) (q : ℕ) → At rs i r → Agree Came Lost Is y cs rs n → r.number ≡ q → q < n
   below-all y cs rs n i r q at a is =
       let there = beside-right (Agrees Is y) cs rs i r a.each at in
       subst (λ (z : ℕ). z < n) is (a.numbers r.number (Added r.number there.2.first) there.2.added refl)
 
   -- a write may be told as applied to a record that is there, if nothing was told of it, or it waits there
-  may-apply : (y : List Entry) (c : Record) (r : RecordSide) (p : PutPlace) (v : Stored) (b : Bool) → IsUntold y p → Agrees Is y c r → Came p (length y) r.number v.value → MayTell Came y (Applied p.circuit p.place r.number v b)
-  may-apply y c r p v b untold a came =
+  may-apply : (y : List Entry) (c : Record) (r : RecordSide) (p : PutPlace) (v : Stored) (b : Bool) → base_of v.value ≡ base_of c.state.value → IsUntold y p → Agrees Is y c r → Came p (length y) v.value → MayTell Came Lost y (Applied p.circuit p.place r.number v b)
+  may-apply y c r p v b same untold a came =
       (
         λ h. untold (Applied p.circuit p.place h.0 h.1 h.2) h.3 refl,
         λ h. untold (Withdrawn p.circuit p.place) h refl,
-        (a.first, a.added),
+        (a.first, a.added, same ∙ a.base),
         a.there,
         inl came,
       )
 
   -- A write is applied, and makes its record not busy.
-  pub agree-applied : (y : List Entry) (cs : List Record) (rs : List RecordSide) (n : ℕ) (i : ℕ) (c : Record) (r : RecordSide) (p : PutPlace) (v : Stored) → At cs i c → At rs i r → IsUntold y p → Came p (length y) r.number v.value → base_of v.value ≡ base_of c.state.value → Agree Came Is y cs rs n → Agree Came Is (y ++ Applied p.circuit p.place r.number v false ∷ []) (with_record r.name (with_value v.value v.meta) cs) rs n
+  pub agree-applied : (y : List Entry) (cs : List Record) (rs : List RecordSide) (n : ℕ) (i : ℕ) (c : Record) (r : RecordSide) (p : PutPlace) (v : Stored) → At cs i c → At rs i r → IsUntold y p → Came p (length y) v.value → base_of v.value ≡ base_of c.state.value → Agree Came Lost Is y cs rs n → Agree Came Lost Is (y ++ Applied p.circuit p.place r.number v false ∷ []) (with_record r.name (with_value v.value v.meta) cs) rs n
   agree-applied y cs rs n i c r p v in_cs in_rs untold came same a =
       let e : Entry = Applied p.circuit p.place r.number v false in
       let there = beside-right (Agrees Is y) cs rs i r a.each in_rs in
@@ -172,7 +172,7 @@ module _ (Came : PutPlace → (i r : ℕ) → Elements → Type 0) (Is : PutPlac
       a.each in
       agree-told y cs (with_record r.name (with_value v.value v.meta) cs) rs rs n e
       (λ q of_it. below-all y cs rs n i r q in_rs a of_it)
-      (may-apply y there.0 r p v false untold there.2 came)
+      (may-apply y c r p v false same untold (both-at (Agrees Is y) cs rs i c r a.each in_cs in_rs) came)
       (subst (λ (l : List RecordSide). Both (Agrees Is (y ++ e ∷ [])) (with_record r.name (with_value v.value v.meta) cs) l) (same-list r.name rs) both)
       a.others a
     where
@@ -186,8 +186,8 @@ module _ (Came : PutPlace → (i r : ℕ) → Elements → Type 0) (Is : PutPlac
           ∙ ap (λ (l : List RecordSide). q ∷ l) (same-list name qs)
 
   -- A put is applied, and makes its record busy, which was not.
-  pub agree-busied : (y : List Entry) (cs : List Record) (rs : List RecordSide) (n : ℕ) (i : ℕ) (c : Record) (r : RecordSide) (p : PutPlace) (b : Put) (v : Stored) → At cs i c → At rs i r → c.busy ≡ None → IsUntold y p → Came p (length y) r.number v.value → base_of v.value ≡ base_of c.state.value → Is p b → Agree Came Is y cs rs n
-      → Agree Came Is (y ++ Applied p.circuit p.place r.number v true ∷ []) (with_record r.name (λ (d : Record). record (with_value v.value v.meta d) { busy = Some b }) cs) (event.with_record r.name (λ (q : RecordSide). record q { busy = Some p }) rs) n
+  pub agree-busied : (y : List Entry) (cs : List Record) (rs : List RecordSide) (n : ℕ) (i : ℕ) (c : Record) (r : RecordSide) (p : PutPlace) (b : Put) (v : Stored) → At cs i c → At rs i r → c.busy ≡ None → IsUntold y p → Came p (length y) v.value → base_of v.value ≡ base_of c.state.value → Is p b → Agree Came Lost Is y cs rs n
+      → Agree Came Lost Is (y ++ Applied p.circuit p.place r.number v true ∷ []) (with_record r.name (λ (d : Record). record (with_value v.value v.meta d) { busy = Some b }) cs) (event.with_record r.name (λ (q : RecordSide). record q { busy = Some p }) rs) n
   agree-busied y cs rs n i c r p b v in_cs in_rs idle untold came same is_it a =
       let e : Entry = Applied p.circuit p.place r.number v true in
       let there = beside-right (Agrees Is y) cs rs i r a.each in_rs in
@@ -204,7 +204,7 @@ module _ (Came : PutPlace → (i r : ℕ) → Elements → Type 0) (Is : PutPlac
       a.each in
       agree-told y cs (with_record r.name (λ (d : Record). record (with_value v.value v.meta d) { busy = Some b }) cs) rs (event.with_record r.name (λ (q : RecordSide). record q { busy = Some p }) rs) n e
       (λ q of_it. below-all y cs rs n i r q in_rs a of_it)
-      (may-apply y there.0 r p v true untold there.2 came)
+      (may-apply y c r p v true same untold (both-at (Agrees Is y) cs rs i c r a.each in_cs in_rs) came)
       both
       (others-with r.name (λ (q : RecordSide). record q { busy = Some p }) rs (λ q. (refl, refl)) a.others) a
     where
@@ -214,8 +214,8 @@ module _ (Came : PutPlace → (i r : ℕ) → Elements → Type 0) (Is : PutPlac
       both-none (Some p) (Some d) e h = absurd cc
 
   -- A put comes to wait.
-  pub agree-waits : (y : List Entry) (cs : List Record) (rs : List RecordSide) (n : ℕ) (i : ℕ) (c : Record) (r : RecordSide) (p : PutPlace) (w : WaitingPut) (meta : Meta) → At cs i c → At rs i r → base_of w.value ≡ base_of c.state.value → IsUntold y p → Came p (length y) r.number w.value → Is p w.put → Agree Came Is y cs rs n
-      → Agree Came Is (y ++ Waits p.circuit p.place r.number (record { value = w.value; meta = meta }) ∷ []) (with_record r.name (with_waiting w) cs) (event.with_record r.name (λ (q : RecordSide). record q { waiting = q.waiting ++ p ∷ [] }) rs) n
+  pub agree-waits : (y : List Entry) (cs : List Record) (rs : List RecordSide) (n : ℕ) (i : ℕ) (c : Record) (r : RecordSide) (p : PutPlace) (w : WaitingPut) (meta : Meta) → At cs i c → At rs i r → base_of w.value ≡ base_of c.state.value → IsUntold y p → Came p (length y) w.value → Is p w.put → Agree Came Lost Is y cs rs n
+      → Agree Came Lost Is (y ++ Waits p.circuit p.place r.number (record { value = w.value; meta = meta }) ∷ []) (with_record r.name (with_waiting w) cs) (event.with_record r.name (λ (q : RecordSide). record q { waiting = q.waiting ++ p ∷ [] }) rs) n
   agree-waits y cs rs n i c r p w meta in_cs in_rs fits untold came is_it a =
       let v : Stored = record { value = w.value; meta = meta } in
       let e : Entry = Waits p.circuit p.place r.number v in
@@ -230,7 +230,7 @@ module _ (Came : PutPlace → (i r : ℕ) → Elements → Type 0) (Is : PutPlac
       (others-with r.name (λ (q : RecordSide). record q { waiting = q.waiting ++ p ∷ [] }) rs (λ q. (refl, refl)) a.others) a
 
   -- A value is posted.
-  pub agree-posted : (y : List Entry) (cs : List Record) (rs : List RecordSide) (n : ℕ) (i : ℕ) (c : Record) (r : RecordSide) (mask : ℕ) (v : Stored) → At cs i c → At rs i r → base_of v.value ≡ base_of c.state.value → Agree Came Is y cs rs n → Agree Came Is (y ++ Posted r.number mask v ∷ []) (with_record r.name (with_value v.value v.meta) cs) rs n
+  pub agree-posted : (y : List Entry) (cs : List Record) (rs : List RecordSide) (n : ℕ) (i : ℕ) (c : Record) (r : RecordSide) (mask : ℕ) (v : Stored) → At cs i c → At rs i r → base_of v.value ≡ base_of c.state.value → Agree Came Lost Is y cs rs n → Agree Came Lost Is (y ++ Posted r.number mask v ∷ []) (with_record r.name (with_value v.value v.meta) cs) rs n
   agree-posted y cs rs n i c r mask v in_cs in_rs same a =
       let e : Entry = Posted r.number mask v in
       let both = one-changes Is y (y ++ e ∷ []) cs rs i r (with_value v.value v.meta) (λ (q : RecordSide). q) a.others in_rs

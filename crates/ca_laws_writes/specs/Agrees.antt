@@ -117,9 +117,9 @@ IsOf r (Finished n k) = ⊥
 IsOf r (Withdrawn n k) = ⊥
 
 -- A server's life: its log has each write once, and its records, of which so many were added, are what the log tells.
-pub record Agree (Came : PutPlace → (i r : ℕ) → Elements → Type 0) (Is : PutPlace → Put → Type 0) (y : List Entry) (records : List Record)
+pub record Agree (Came : PutPlace → (i : ℕ) → Elements → Type 0) (Lost : PutPlace → (i : ℕ) → Type 0) (Is : PutPlace → Put → Type 0) (y : List Entry) (records : List Record)
     (sides : List RecordSide) (added : ℕ) : Type 0 where
-  pub once : Once Came y
+  pub once : Once Came Lost y
   pub each : Both (Agrees Is y) records sides
   pub others : AreOthers sides
   pub numbers : (r : ℕ) (e : Entry) → In y e → IsOf r e → r < added
