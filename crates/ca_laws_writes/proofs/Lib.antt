@@ -7,3 +7,5 @@ pub mod Finishes
 
 pub mod Leaving
 pub mod Coming
+pub mod Going
+pub mod Told

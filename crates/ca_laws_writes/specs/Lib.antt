@@ -1,3 +1,4 @@
 pub mod Both
 pub mod Once
 pub mod Agrees
+pub mod Lives
