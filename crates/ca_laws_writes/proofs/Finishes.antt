@@ -16,7 +16,7 @@ use Rattle.ca_model_world.specs.ServerEvents as event
 use Rattle.ca_model_world.specs.World.{PutPlace, RecordSide, ServerSide}
 use Rattle.ca_laws_writes.specs.Both.{Both}
 use Rattle.ca_laws_writes.specs.Once.{HadWaited, IsApplied, IsFinished, IsWithdrawn, MayTell, Once}
-use Rattle.ca_laws_writes.specs.Agrees.{Agree, Agrees, AreOthers, IsBusyBy, IsBusyWith, IsOf, StillWaits, WaitsAs}
+use Rattle.ca_laws_writes.specs.Agrees.{Agree, Agrees, AreOthers, IsBusyAs, IsBusyBy, IsBusyWith, IsOf, StillWaits, WaitsAs}
 use Rattle.ca_laws_writes.proofs.Lists.{In-append, In-snoc, beside-right, both-at, none_at}
 use Rattle.ca_laws_writes.proofs.Once.{once-told}
 use Rattle.ca_laws_writes.proofs.Parts.{Spares, place-is}
@@ -47,12 +47,12 @@ waits-unfinished Came Lost y r p v once w h =
 
 module _ (Is : PutPlace → Put → Type 0) where
   -- the record whose put was finished, and whose next was applied
-  one-finished : (y : List Entry) (side : ServerSide) (s : RecordState) (b : Option Put) (ws : List WaitingPut) (name : List ℕ) (number : ℕ) (p : PutPlace) (ps : List PutPlace) → ((q : PutPlace) → In ps q → IsFinished y q → ⊥) → ((q : PutPlace) (qs : List PutPlace) → ps ≡ q ∷ qs → q ≡ p → ⊥) → ((i : ℕ) (w : WaitingPut) → At ws i w → base_of w.value ≡ base_of s.value)
+  one-finished : (y : List Entry) (side : ServerSide) (s : RecordState) (b : Option Put) (ws : List WaitingPut) (name : List ℕ) (number : ℕ) (p : PutPlace) (ps : List PutPlace) → ((q : PutPlace) → In ps q → IsFinished y q → ⊥) → ((q : PutPlace) (qs : List PutPlace) → ps ≡ q ∷ qs → q ≡ p → ⊥) → ((i : ℕ) (w : WaitingPut) → At ws i w → base_of w.value ≡ base_of s.value) → s.slow ≡ true
       → let c : Record = record { state = s; busy = b; waiting = ws } in let r : RecordSide = record { name = name; number = number; busy = Some p; waiting = ps } in Agrees Is y c r → Agrees Is (y ++ finish_entry p ∷ next_entries side r (first_of ws) (first_of ps)) (finished side.core.stamp c ws) (next_busy r)
-  one-finished y side s b [] name number p [] free other based a = agrees-finished Is y s b [] name number p [] a
-  one-finished y side s b [] name number p (q ∷ ps) free other based a = absurd a.each
-  one-finished y side s b (w ∷ ws) name number p [] free other based a = absurd a.each
-  one-finished y side s b (w ∷ ws) name number p (q ∷ ps) free other based a =
+  one-finished y side s b [] name number p [] free other based slow a = agrees-finished Is y s b [] name number p [] a
+  one-finished y side s b [] name number p (q ∷ ps) free other based slow a = absurd a.each
+  one-finished y side s b (w ∷ ws) name number p [] free other based slow a = absurd a.each
+  one-finished y side s b (w ∷ ws) name number p (q ∷ ps) free other based slow a =
       let r : RecordSide = record { name = name; number = number; busy = Some p; waiting = q ∷ ps } in
       let next : Entry = Applied q.circuit q.place number (record { value = w.value; meta = written_meta side.core.stamp }) true in
       let still : IsFinished (y ++ finish_entry p ∷ []) q → ⊥ = λ h. elim (In-snoc y (finish_entry p) (Finished q.circuit q.place) h) [
@@ -60,7 +60,7 @@ module _ (Is : PutPlace → Put → Type 0) where
         | inr is ↦ (let x : Finished q.circuit q.place ≡ Finished p.circuit p.place = is in let n : q.circuit ≡ p.circuit = cc in let k : q.place ≡ p.place = cc in other q ps refl (place-is q p n k))
       ] in
       subst (λ (l : List Entry). Agrees Is l (finished side.core.stamp (record { state = s; busy = b; waiting = w ∷ ws }) (w ∷ ws)) (next_busy r)) (append-one y (finish_entry p) (next ∷ []))
-      (agrees-next Is (y ++ finish_entry p ∷ []) s w ws name number q ps (written_meta side.core.stamp) (based 0 w refl) still (agrees-finished Is y s b (w ∷ ws) name number p (q ∷ ps) a))
+      (agrees-next Is (y ++ finish_entry p ∷ []) s w ws name number q ps (written_meta side.core.stamp) (based 0 w refl) still slow (agrees-finished Is y s b (w ∷ ws) name number p (q ∷ ps) a))
 
   -- another record
   other-finished : (y : List Entry) (side : ServerSide) (c : Record) (r x : RecordSide) (p : PutPlace) (ws : List WaitingPut) (ps : List PutPlace) → (x.number ≡ r.number → ⊥) → (x.busy ≡ Some p → ⊥) → ((q : PutPlace) → In ps q → In x.waiting q → ⊥) → Agrees Is y c x → Agrees Is (y ++ finish_entry p ∷ next_entries side r (first_of ws) (first_of ps)) c x
@@ -151,6 +151,11 @@ module _ (Came : PutPlace → (i : ℕ) → Elements → Type 0) (Lost : PutPlac
       busy-of y x d is h = subst (λ (o : Option PutPlace). IsBusyBy y x.number o) is h.busy
       busy-with : (y : List Entry) (c : Record) → Agrees Is y c r → IsBusyWith y r.number p
       busy-with y c g = subst (λ (o : Option PutPlace). IsBusyBy y r.number o) busy g.busy
+      some-busy : (d : Option Put) → IsBusyAs Is (Some p) d → (b : Put) × (d ≡ Some b)
+      some-busy None h = absurd h
+      some-busy (Some b) h = (b, refl)
+      was-slow : (c : Record) → Agrees Is y c r → c.state.slow ≡ true
+      was-slow c g = (let b = some-busy c.busy (subst (λ (o : Option PutPlace). IsBusyAs Is o c.busy) busy g.busy_as) in g.slow b.0 b.1)
       own-record : (c : Record) → Agrees Is y c r → ((q : PutPlace) → In r.waiting q → IsFinished y q → ⊥) → ((j : ℕ) (w : WaitingPut) → At c.waiting j w → base_of w.value ≡ base_of c.state.value) → ((q : PutPlace) (qs : List PutPlace) → r.waiting ≡ q ∷ qs → q ≡ p → ⊥) → Agrees Is (y ++ finish_entry p ∷ next_entries side r (first_of c.waiting) (first_of r.waiting)) (finished side.core.stamp c c.waiting) (next_busy r)
       own-record c g own based other =
-          one-finished Is y side c.state c.busy c.waiting r.name r.number p r.waiting own other based (subst (λ (o : Option PutPlace). Agrees Is y c (record r { busy = o })) busy g)
+          one-finished Is y side c.state c.busy c.waiting r.name r.number p r.waiting own other based (was-slow c g) (subst (λ (o : Option PutPlace). Agrees Is y c (record r { busy = o })) busy g)

@@ -94,6 +94,7 @@ agrees-as Is Now as_it y c r a = record {
   based = a.based;
   busy = a.busy;
   busy_as = busy-as Is Now as_it r.busy c.busy a.busy_as;
+  slow = a.slow;
 }
 
 pub once-later : (old new : List Joined) (life : ℕ) (y : List Entry) → AreLater old new → Once (CameOn old life) (LostOn old) y → Once (CameOn new life) (LostOn new) y

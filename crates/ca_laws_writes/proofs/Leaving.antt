@@ -17,7 +17,7 @@ use Rattle.ca_model_world.specs.ServerEvents as event
 use Rattle.ca_model_world.specs.World.{PutPlace, RecordSide}
 use Rattle.ca_laws_writes.specs.Both.{Both}
 use Rattle.ca_laws_writes.specs.Once.{HadWaited, IsApplied, IsLost, IsWithdrawn, MayTell, Once}
-use Rattle.ca_laws_writes.specs.Agrees.{Agree, Agrees, AreOthers, IsOf, Lack, StillWaits, WaitsAs, pair_of}
+use Rattle.ca_laws_writes.specs.Agrees.{LoseAll, TestsAgree, Agree, Agrees, AreOthers, IsOf, Lack, StillWaits, WaitsAs, pair_of}
 use Rattle.ca_laws_writes.proofs.Lists.{In-append, In-kept, In-snoc, beside-right, both-all, both-at, both-filter, both-map, kept-in, length-more, none_at, take-whole}
 use Rattle.ca_laws_writes.proofs.Once.{once-told}
 use Rattle.ca_laws_writes.proofs.Records.{agrees-spared, agrees-withdrawn, among-there, append-one, is_among, there-among, withdrawals-keep, withdrawing}
@@ -97,16 +97,6 @@ without_waiting which r = record r { waiting = filter (λ (p : PutPlace). not (w
 -- of all waiting puts, the places that pass
 abbrev pub named_by : (PutPlace → Bool) → List RecordSide → List PutPlace
 named_by which rs = flat_map (λ (r : RecordSide). filter which r.waiting) rs
-
--- Two tests agree on the puts that wait.
-abbrev pub TestsAgree : (PutPlace → Bool) → (Put → Bool) → List Record → List RecordSide → Type 0
-TestsAgree which test cs rs =
-    (i j : ℕ) (c : Record) (r : RecordSide) (p : PutPlace) (w : WaitingPut) → At cs i c → At rs i r → At r.waiting j p → At c.waiting j w → which p ≡ test w.put
-
--- those that it names are lost from now on
-abbrev pub LoseAll : (PutPlace → (i : ℕ) → Type 0) → (PutPlace → Bool) → List Entry → List RecordSide → Type 0
-LoseAll Lost which y rs =
-    (j : ℕ) (r : RecordSide) (p : PutPlace) → At rs j r → In r.waiting p → which p ≡ true → (i : ℕ) → length y ≤ i → Lost p i
 
 named-among : (which : PutPlace → Bool) (rs : List RecordSide) (i : ℕ) (r : RecordSide) (p : PutPlace) → At rs i r → In r.waiting p → is_among (named_by which rs) (pair_of p) ≡ which p
 named-among which rs i r p at waits =

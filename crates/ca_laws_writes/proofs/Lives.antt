@@ -186,9 +186,9 @@ module _ (Came : PutPlace → (i : ℕ) → Elements → Type 0) (Lost : PutPlac
           ∙ ap (λ (l : List RecordSide). q ∷ l) (same-list name qs)
 
   -- A put is applied, and makes its record busy, which was not.
-  pub agree-busied : (y : List Entry) (cs : List Record) (rs : List RecordSide) (n : ℕ) (i : ℕ) (c : Record) (r : RecordSide) (p : PutPlace) (b : Put) (v : Stored) → At cs i c → At rs i r → c.busy ≡ None → IsUntold y p → Came p (length y) v.value → base_of v.value ≡ base_of c.state.value → Is p b → Agree Came Lost Is y cs rs n
+  pub agree-busied : (y : List Entry) (cs : List Record) (rs : List RecordSide) (n : ℕ) (i : ℕ) (c : Record) (r : RecordSide) (p : PutPlace) (b : Put) (v : Stored) → At cs i c → At rs i r → c.busy ≡ None → IsUntold y p → Came p (length y) v.value → base_of v.value ≡ base_of c.state.value → Is p b → c.state.slow ≡ true → Agree Came Lost Is y cs rs n
       → Agree Came Lost Is (y ++ Applied p.circuit p.place r.number v true ∷ []) (with_record r.name (λ (d : Record). record (with_value v.value v.meta d) { busy = Some b }) cs) (event.with_record r.name (λ (q : RecordSide). record q { busy = Some p }) rs) n
-  agree-busied y cs rs n i c r p b v in_cs in_rs idle untold came same is_it a =
+  agree-busied y cs rs n i c r p b v in_cs in_rs idle untold came same is_it slow a =
       let e : Entry = Applied p.circuit p.place r.number v true in
       let there = beside-right (Agrees Is y) cs rs i r a.each in_rs in
       let both = one-changes Is y (y ++ e ∷ []) cs rs i r (λ (d : Record). record (with_value v.value v.meta d) { busy = Some b }) (λ (q : RecordSide). record q { busy = Some p }) a.others in_rs
@@ -199,7 +199,7 @@ module _ (Came : PutPlace → (i : ℕ) → Elements → Type 0) (Lost : PutPlac
           let g1 : Agrees Is y (record d { busy = None }) r = subst (λ (o : Option Put). Agrees Is y (record d { busy = o }) r) free g in
           let g2 : Agrees Is y (record d { busy = None }) (record r { busy = None }) = subst (λ (o : Option PutPlace). Agrees Is y (record d { busy = None }) (record r { busy = o })) none g1 in
           agrees-busied Is y d.state b d.waiting r.name r.number p r.waiting v (same ∙ ap (λ (z : Record). base_of z.state.value) is) (untold-waits Is y d r p untold g)
-          (λ h. untold (Finished p.circuit p.place) h refl) is_it g2)
+          (λ h. untold (Finished p.circuit p.place) h refl) is_it (ap (λ (z : Record). z.state.slow) (sym is) ∙ slow) g2)
       (λ j d q at other g. agrees-spared Is y d q e (other, untold-waits Is y d q p untold g) g)
       a.each in
       agree-told y cs (with_record r.name (λ (d : Record). record (with_value v.value v.meta d) { busy = Some b }) cs) rs (event.with_record r.name (λ (q : RecordSide). record q { busy = Some p }) rs) n e

@@ -158,6 +158,7 @@ module _ (Is : PutPlace → Put → Type 0) where
     based = a.based;
     busy = busy-kept y r.number r.busy e (spared-busy r e spares) a.busy;
     busy_as = a.busy_as;
+    slow = a.slow;
   }
 
   still-there : (y : List Entry) (e : Entry) (r : ℕ) → (Removed r ≡ e → ⊥) → (In y (Removed r) → ⊥) → In (y ++ e ∷ []) (Removed r) → ⊥
@@ -181,6 +182,7 @@ module _ (Is : PutPlace → Put → Type 0) where
         based = a.based;
         busy = busy-kept y r.number r.busy e (record { no_other = λ n k u is. (let x : Applied n k r.number u true ≡ Posted r.number mask v = is in cc); not_it = λ p b is. (let x : Finished p.circuit p.place ≡ Posted r.number mask v = is in cc) }) a.busy;
         busy_as = a.busy_as;
+        slow = a.slow;
       }
 
   applied-other : (q p : PutPlace) → (q ≡ p → ⊥) → (r : ℕ) (v : Stored) (b : Bool) → KeepsWaiting q (Applied p.circuit p.place r v b)
@@ -206,12 +208,13 @@ module _ (Is : PutPlace → Put → Type 0) where
         based = a.based;
         busy = busy-kept y r.number r.busy e (record { no_other = λ n k u is. (let x : Applied n k r.number u true ≡ Applied p.circuit p.place r.number v false = is in cc); not_it = λ q b is. (let x : Finished q.circuit q.place ≡ Applied p.circuit p.place r.number v false = is in cc) }) a.busy;
         busy_as = a.busy_as;
+        slow = a.slow;
       }
 
 
   -- A put makes an idle record busy: one that waits for nothing, or the first that waits.
-  pub agrees-busied : (y : List Entry) (s : RecordState) (b : Put) (ws : List WaitingPut) (name : List ℕ) (number : ℕ) (p : PutPlace) (ps : List PutPlace) (v : Stored) → base_of v.value ≡ base_of s.value → (In ps p → ⊥) → (IsFinished y p → ⊥) → Is p b → Agrees Is y (record { state = s; busy = None; waiting = ws }) (record { name = name; number = number; busy = None; waiting = ps }) → Agrees Is (y ++ Applied p.circuit p.place number v true ∷ []) (record { state = record s { value = v.value; meta = v.meta }; busy = Some b; waiting = ws }) (record { name = name; number = number; busy = Some p; waiting = ps })
-  agrees-busied y s b ws name number p ps v same new fresh is_it a =
+  pub agrees-busied : (y : List Entry) (s : RecordState) (b : Put) (ws : List WaitingPut) (name : List ℕ) (number : ℕ) (p : PutPlace) (ps : List PutPlace) (v : Stored) → base_of v.value ≡ base_of s.value → (In ps p → ⊥) → (IsFinished y p → ⊥) → Is p b → s.slow ≡ true → Agrees Is y (record { state = s; busy = None; waiting = ws }) (record { name = name; number = number; busy = None; waiting = ps }) → Agrees Is (y ++ Applied p.circuit p.place number v true ∷ []) (record { state = record s { value = v.value; meta = v.meta }; busy = Some b; waiting = ws }) (record { name = name; number = number; busy = Some p; waiting = ps })
+  agrees-busied y s b ws name number p ps v same new fresh is_it slow a =
       let e : Entry = Applied p.circuit p.place number v true in
       record {
         name = a.name;
@@ -227,10 +230,11 @@ module _ (Is : PutPlace → Put → Type 0) where
         based = a.based;
         busy = busy-begins y number p v a.busy fresh;
         busy_as = is_it;
+        slow = λ d e. slow;
       }
 
-  pub agrees-next : (y : List Entry) (s : RecordState) (w : WaitingPut) (ws : List WaitingPut) (name : List ℕ) (number : ℕ) (p : PutPlace) (ps : List PutPlace) (meta : Meta) → base_of w.value ≡ base_of s.value → (IsFinished y p → ⊥) → Agrees Is y (record { state = s; busy = None; waiting = w ∷ ws }) (record { name = name; number = number; busy = None; waiting = p ∷ ps }) → Agrees Is (y ++ Applied p.circuit p.place number (record { value = w.value; meta = meta }) true ∷ []) (record { state = record s { value = w.value; meta = meta }; busy = Some w.put; waiting = ws }) (record { name = name; number = number; busy = Some p; waiting = ps })
-  agrees-next y s w ws name number p ps meta same fresh a =
+  pub agrees-next : (y : List Entry) (s : RecordState) (w : WaitingPut) (ws : List WaitingPut) (name : List ℕ) (number : ℕ) (p : PutPlace) (ps : List PutPlace) (meta : Meta) → base_of w.value ≡ base_of s.value → (IsFinished y p → ⊥) → s.slow ≡ true → Agrees Is y (record { state = s; busy = None; waiting = w ∷ ws }) (record { name = name; number = number; busy = None; waiting = p ∷ ps }) → Agrees Is (y ++ Applied p.circuit p.place number (record { value = w.value; meta = meta }) true ∷ []) (record { state = record s { value = w.value; meta = meta }; busy = Some w.put; waiting = ws }) (record { name = name; number = number; busy = Some p; waiting = ps })
+  agrees-next y s w ws name number p ps meta same fresh slow a =
       let v : Stored = record { value = w.value; meta = meta } in
       let e : Entry = Applied p.circuit p.place number v true in
       record {
@@ -247,6 +251,7 @@ module _ (Is : PutPlace → Put → Type 0) where
         based = λ i u at. a.based (suc i) u at;
         busy = busy-begins y number p v a.busy fresh;
         busy_as = a.each.0.1;
+        slow = λ d e. slow;
       }
 
   -- The put that makes it busy is finished.
@@ -267,6 +272,7 @@ module _ (Is : PutPlace → Put → Type 0) where
         based = a.based;
         busy = busy-ends y number p a.busy;
         busy_as = tt;
+        slow = λ d e. absurd cc;
       }
 
   -- A put comes to wait behind the others.
@@ -310,6 +316,7 @@ module _ (Is : PutPlace → Put → Type 0) where
         ];
         busy = busy-kept y r.number r.busy e (record { no_other = λ n k u is. (let x : Applied n k r.number u true ≡ Waits p.circuit p.place r.number v = is in cc); not_it = λ q b is. (let x : Finished q.circuit q.place ≡ Waits p.circuit p.place r.number v = is in cc) }) a.busy;
         busy_as = a.busy_as;
+        slow = a.slow;
       }
 
   -- Of the puts that wait for it those are withdrawn that two tests name, which agree; the log withdraws these, and perhaps others.
@@ -334,6 +341,7 @@ module _ (Is : PutPlace → Put → Type 0) where
     apart = apart-kept (λ (p : PutPlace). not (which p)) r.waiting a.apart;
     busy = withdrawals-keep (λ l. IsBusyBy l r.number r.busy) y ws (λ l w b. busy-kept l r.number r.busy (Withdrawn w.circuit w.place) (record { no_other = λ n k u is. (let x : Applied n k r.number u true ≡ Withdrawn w.circuit w.place = is in cc); not_it = λ q h is. (let x : Finished q.circuit q.place ≡ Withdrawn w.circuit w.place = is in cc) }) b) a.busy;
     busy_as = a.busy_as;
+    slow = a.slow;
   }
     where
       waits-on : (p : PutPlace) (value : Elements) → is_among ws (pair_of p) ≡ which p → not (which p) ≡ true → StillWaits y r.number p value → StillWaits (y ++ withdrawing ws) r.number p value
@@ -380,6 +388,7 @@ module _ (Is : PutPlace → Put → Type 0) where
           | inr is ↦ absurd (let x : Applied n k number v true ≡ Added number s = is in cc)
         ];
         busy_as = tt;
+        slow = λ d e. absurd cc;
       }
     where
       filter-nil : (t : ℕ × ℕ → Bool) (qs : List (ℕ × ℕ)) → qs ≡ [] → filter t qs ≡ []

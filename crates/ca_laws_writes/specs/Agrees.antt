@@ -1,5 +1,5 @@
 -- Working: a server's records beside the log of its life: what each record is, the log tells.
-use Rattle.std.specs.Prelude.{ℕ, ◌≡◌, ◌<◌, ◌⊎◌, ◌++◌, Bool, true, List, [], ◌∷◌, Option, Some, None, filter_map, map}
+use Rattle.std.specs.Prelude.{ℕ, ◌≡◌, ◌<◌, ◌≤◌, ◌⊎◌, ◌++◌, Bool, true, List, [], ◌∷◌, Option, Some, None, filter_map, length, map}
 use Rattle.ca_text.specs.Place.{At}
 use Rattle.ca_dbr.specs.declared.value.Meta.{Meta}
 use Rattle.ca_dbr.specs.Elements.{Elements, base_of}
@@ -93,6 +93,8 @@ module _ (Is : PutPlace → Put → Type 0) where
     pub based : (i : ℕ) (w : WaitingPut) → At c.waiting i w → base_of w.value ≡ base_of first.value
     pub busy : IsBusyBy y r.number r.busy
     pub busy_as : IsBusyAs r.busy c.busy
+    -- only a slow record is made busy
+    pub slow : (b : Put) → c.busy ≡ Some b → c.state.slow ≡ true
 
 -- ---- all records
 
@@ -105,6 +107,20 @@ Lack name number (r ∷ rs) = ((r.name ≡ name → ⊥) × (r.number ≡ number
 abbrev pub AreOthers : List RecordSide → Type 0
 AreOthers [] = Unit {0}
 AreOthers (r ∷ rs) = Lack r.name r.number rs × AreOthers rs
+
+-- ---- tests of waiting puts
+
+-- Two tests agree on the puts that wait.
+abbrev pub TestsAgree : (PutPlace → Bool) → (Put → Bool) → List Record → List RecordSide → Type 0
+TestsAgree which test cs rs =
+    (i j : ℕ) (c : Record) (r : RecordSide) (p : PutPlace) (w : WaitingPut) → At cs i c → At rs i r → At r.waiting j p → At c.waiting j w → which p ≡ test w.put
+
+-- those that it names are lost from now on
+abbrev pub LoseAll : (PutPlace → (i : ℕ) → Type 0) → (PutPlace → Bool) → List Entry → List RecordSide → Type 0
+LoseAll Lost which y rs =
+    (j : ℕ) (r : RecordSide) (p : PutPlace) → At rs j r → In r.waiting p → which p ≡ true → (i : ℕ) → length y ≤ i → Lost p i
+
+-- ---- a life
 
 -- the entry is about record r
 abbrev pub IsOf : (r : ℕ) → Entry → Type 0
