@@ -9,3 +9,4 @@ pub mod Leaving
 pub mod Coming
 pub mod Going
 pub mod Told
+pub mod Ending

@@ -1,5 +1,5 @@
 -- Working: a server's life in a world: where its writes came from, and what their replies say.
-use Rattle.std.specs.Prelude.{ℕ, ◌≡◌, ◌<◌, ◌≤◌, ◌⊎◌, false, true, List, Ok, Option, Some, length, take}
+use Rattle.std.specs.Prelude.{ℕ, ◌≡◌, ◌<◌, ◌≤◌, ◌⊎◌, false, true, List, Ok, Bool, Option, Some, is_some, length, take}
 use Rattle.ca_text.specs.declared.command.Command.TheVariants as command
 use Rattle.ca_text.specs.declared.status.Status.{Status}
 use Rattle.ca_text.specs.Place.{At}
@@ -117,3 +117,17 @@ abbrev pub SayWhatIsSo : List Entry → (n : ℕ) → Circuit → Type 0
 SayWhatIsSo y n c =
     (j : ℕ) (t : Told) (s : Sent) → At c.down j t → t.cause ≡ Reply → At c.up t.place s
     → SaysSo y (record { circuit = n; place = t.place }) s t.message
+
+-- ---- circuits end
+
+-- each put that waits came on a circuit whose end at the server is open
+abbrev pub AreOpen : List Joined → List RecordSide → Type 0
+AreOpen circuits rs =
+    (j : ℕ) (r : RecordSide) (p : PutPlace) (c : Joined) → At rs j r → In r.waiting p → At circuits p.circuit c
+    → c.lists.server_open ≡ true
+
+-- The core withdraws just the puts of the circuits of a server that end, among those that are open.
+abbrev pub EndsAgree : List Joined → (server : ℕ) → (ends : Joined → Option (List ℕ)) → (lost : Put → Bool) → Type 0
+EndsAgree circuits server ends lost =
+    (n : ℕ) (c : Joined) (b : Put) → At circuits n c → c.server ≡ server → c.lists.server_open ≡ true → b.circuit ≡ c.at_server
+    → lost b ≡ is_some (ends c)
