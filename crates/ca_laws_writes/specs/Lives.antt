@@ -12,7 +12,7 @@ use Rattle.ca_records.specs.Puts.{Record}
 use Rattle.ca_records.specs.Record.{RecordState}
 use Rattle.ca_requests.specs.Meaning.{Means}
 use Rattle.ca_wire.specs.Fields.{Fields}
-use Rattle.ca_model.specs.Due.{PutReads}
+use Rattle.ca_model.specs.Due.{KnownRecord, Knows, PutReads}
 use Rattle.ca_model.specs.Speech.{In, Is, Stored, sid_in}
 use Rattle.ca_model.specs.History.{Added, Applied, Circuit, Entry, Removed, Reply, Sent, Step, Told}
 use Rattle.ca_model_safe.specs.Channels.{HasWaited, IsCleared, IsTaken}
@@ -131,3 +131,9 @@ abbrev pub EndsAgree : List Joined → (server : ℕ) → (ends : Joined → Opt
 EndsAgree circuits server ends lost =
     (n : ℕ) (c : Joined) (b : Put) → At circuits n c → c.server ≡ server → c.lists.server_open ≡ true → b.circuit ≡ c.at_server
     → lost b ≡ is_some (ends c)
+
+-- ---- what is due
+
+-- the server knows of no busy record that is not slow
+abbrev pub AreSlow : Knows → Type 0
+AreSlow k = (name : List ℕ) (r : KnownRecord) → k.record_of name ≡ Some r → r.busy ≡ true → r.state.slow ≡ true

@@ -3,19 +3,24 @@ ghost use Rattle.std.specs.Str.{bytes_eq};
 ghost use Rattle.ca_text.specs.Place.{At};
 ghost use Rattle.ca_arena.specs.declared.handle.Handle.{Handle};
 ghost use Rattle.ca_dbr.specs.declared.value.Meta.{Meta};
-ghost use Rattle.ca_dbr.specs.Elements.{base_of};
+ghost use Rattle.ca_text.specs.declared.command.Command.TheVariants.{WriteNotify};
+ghost use Rattle.ca_text.specs.declared.status.Status.{Status};
+ghost use Rattle.ca_dbr.specs.declared.value.Outcome.TheVariants.{Done, Failed};
+ghost use Rattle.ca_dbr.specs.Elements.{Elements, base_of};
+ghost use Rattle.ca_model.specs.Due.{Action, Applies, Due, Knows, Nothing};
+ghost use Rattle.ca_requests.specs.Meaning.{Means};
 ghost use Rattle.ca_records.specs.declared.puts.Put.{Put};
 ghost use Rattle.ca_records.specs.Puts.{Record, WaitingPut, finished, new_record, removed, with_record, with_value, with_waiting, withdrawn};
 ghost use Rattle.ca_records.specs.Record.{RecordState};
 ghost use Rattle.ca_wire.specs.Fields.{Fields};
-ghost use Rattle.ca_model.specs.Speech.{In, Stored};
+ghost use Rattle.ca_model.specs.Speech.{In, Is, Stored};
 ghost use Rattle.ca_model.specs.History.{Added, Applied, Entry, Finished, Posted, Sent, Waits, Withdrawn};
 ghost use Rattle.ca_model_safe.specs.Channels.{IsApplied, IsBusyUntil, IsDropped};
-ghost use Rattle.ca_model_world.specs.ServerEvents.{channel_withdrawals, finish_entry, first_of, is_of_channel, next_busy, next_entries, number_of, removal_entries, with_core, withdrawals, without_channel, without_puts};
+ghost use Rattle.ca_model_world.specs.ServerEvents.{channel_withdrawals, ending, ends_at, finish_entry, first_of, is_of_channel, next_busy, next_entries, number_of, removal_entries, with_core, withdrawals, without_channel, without_puts};
 ghost use Rattle.ca_model_world.specs.ServerEvents as event;
 ghost use Rattle.ca_model_world.specs.World.{Joined, PutPlace, RecordSide, ServerSide, World, numbered, record_begun, told};
 ghost use Rattle.ca_laws_writes.specs.Agrees.{LoseAll, TestsAgree};
-ghost use Rattle.ca_laws_writes.specs.Lives.{AreLater, CameOn, IsOfMessage, IsPutOf, Life, LogsOnce, LostOn, SaysSo};
+ghost use Rattle.ca_laws_writes.specs.Lives.{AreLater, AreOpen, AreSlow, CameOn, EndsAgree, IsOfMessage, IsPutOf, IsWriting, Life, LogsOnce, LostOn, SaysSo};
 ghost use Rattle.ca_laws_writes.specs.Once.{IsUntold, MayTell, Once, write_in};
 
 /// A log has each write once, as long as each new entry may be told.
@@ -134,6 +139,30 @@ pub fn no_write_is_applied_twice()
     ensures finished { (w : World) → LogsOnce w → (n k l e : ℕ) (y : List Entry)
         → At w.server_logs l y → At y e (Finished n k)
         → IsBusyUntil y n k e × ((f : ℕ) → At y f (Finished n k) → e ≡ f) }
+{}
+
+/// Ends of a server's circuits end, in whatever event: the puts that wait there are withdrawn, and
+/// records and log agree again. A put that waits came on a circuit whose end is open.
+pub fn ends_of_circuits_withdraw_puts()
+    ensures { (circuits : List Joined) (server life : ℕ) (y : List Entry) (cs : List Record)
+        (rs : List RecordSide) (n : ℕ) (ends : Joined → Option (List ℕ)) (lost : Put → Bool)
+        → AreOpen circuits rs → EndsAgree circuits server ends lost
+        → Life circuits server life y cs rs n
+        → Life (map (ending ends) circuits) server life
+        (y ++ withdrawals (ends_at ends circuits) rs) (withdrawn lost cs)
+        (map (without_puts (ends_at ends circuits)) rs) n
+        × AreOpen (map (ending ends) circuits) (map (without_puts (ends_at ends circuits)) rs) }
+{}
+
+/// What is due for a write says what is done: a put that is told Done at once is applied, and a
+/// write that is told Failed does nothing.
+pub fn due_replies_say_what_is_done()
+    ensures done { (k : Knows) (m : Fields) (replies : List Fields) (action : Action) (r : Fields)
+        → AreSlow k → Due k m replies action → Is WriteNotify m → In replies r → Means r Done
+        → (name : List ℕ) × (value : Elements) × (action ≡ Applies name value false) }
+    ensures failed { (k : Knows) (m : Fields) (replies : List Fields) (action : Action)
+        (r : Fields) (s : Status) → Due k m replies action → IsWriting m → In replies r
+        → Means r (Failed s) → action ≡ Nothing }
 {}
 
 /// What a reply says of a write stays so as the log grows, if each new entry about that write comes
