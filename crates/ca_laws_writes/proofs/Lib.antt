@@ -10,3 +10,4 @@ pub mod Coming
 pub mod Going
 pub mod Told
 pub mod Ending
+pub mod Moves

@@ -2,3 +2,4 @@ pub mod Both
 pub mod Once
 pub mod Agrees
 pub mod Lives
+pub mod Moves
