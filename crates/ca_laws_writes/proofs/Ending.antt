@@ -45,14 +45,14 @@ pub endings-later : (ends : Joined → Option (List ℕ)) (cs : List Joined) →
 endings-later ends cs n c at = (ending ends c, At-map (ending ends) cs n c at, ending-later ends c)
 
 -- one that ends is closed, and one that does not is as it was
-ending-closed : (ends : Joined → Option (List ℕ)) (c : Joined) → is_some (ends c) ≡ true → (ending ends c).lists.server_open ≡ false
+pub ending-closed : (ends : Joined → Option (List ℕ)) (c : Joined) → is_some (ends c) ≡ true → (ending ends c).lists.server_open ≡ false
 ending-closed ends c e = go (ends c) e
   where
     go : (o : Option (List ℕ)) → is_some o ≡ true → (unwrap_or (option_map (λ (left : List ℕ). server_closed left c) o) c).lists.server_open ≡ false
     go None is = absurd cc
     go (Some left) is = refl
 
-ending-not : (ends : Joined → Option (List ℕ)) (c : Joined) → is_some (ends c) ≡ false → ending ends c ≡ c
+pub ending-not : (ends : Joined → Option (List ℕ)) (c : Joined) → is_some (ends c) ≡ false → ending ends c ≡ c
 ending-not ends c e = go (ends c) e
   where
     go : (o : Option (List ℕ)) → is_some o ≡ false → unwrap_or (option_map (λ (left : List ℕ). server_closed left c) o) c ≡ c
@@ -60,7 +60,7 @@ ending-not ends c e = go (ends c) e
     go (Some left) is = absurd cc
 
 -- whether circuit n ends
-ends-at-is : (ends : Joined → Option (List ℕ)) (cs : List Joined) (n : ℕ) (c : Joined) → At cs n c → ends_at ends cs n ≡ is_some (ends c)
+pub ends-at-is : (ends : Joined → Option (List ℕ)) (cs : List Joined) (n : ℕ) (c : Joined) → At cs n c → ends_at ends cs n ≡ is_some (ends c)
 ends-at-is ends cs n c at = ap (λ (o : Option Joined). unwrap_or (option_map (λ (j : Joined). is_some (ends j)) o) false) at
 
 tests-agree : (circuits : List Joined) (server life : ℕ) (y : List Entry) (cs : List Record) (rs : List RecordSide) (n : ℕ) (ends : Joined → Option (List ℕ)) (lost : Put → Bool) → AreOpen circuits rs → EndsAgree circuits server ends lost → Life circuits server life y cs rs n → TestsAgree (λ (p : PutPlace). ends_at ends circuits p.circuit) lost cs rs

@@ -11,3 +11,4 @@ pub mod Going
 pub mod Told
 pub mod Ending
 pub mod Moves
+pub mod Midway

@@ -18,7 +18,7 @@ At-below [] k lt = absurd (omega (arith, lt))
 At-below (y ∷ xs) zero lt = (y, refl)
 At-below (y ∷ xs) (suc k) lt = At-below xs k (omega (arith, lt))
 
-same-or : (a b : ℕ) → (a ≡ b) ⊎ (a ≡ b → ⊥)
+pub same-or : (a b : ℕ) → (a ≡ b) ⊎ (a ≡ b → ⊥)
 same-or zero zero = inl refl
 same-or zero (suc b) = inr (λ e. omega (arith, e))
 same-or (suc a) zero = inr (λ e. omega (arith, e))
@@ -104,7 +104,7 @@ module _ (w new : World) (i : ℕ) (y next : ServerSide) (log more : List Entry)
       ]
 
 -- the circuit of a write that a log tells of
-told-on : (circuits : List Joined) (life : ℕ) (y : List Entry) (e : Entry) (p : PutPlace) → Once (CameOn circuits life) (LostOn circuits) y → In y e → write_in e ≡ Some p → (c : Joined) × At circuits p.circuit c
+pub told-on : (circuits : List Joined) (life : ℕ) (y : List Entry) (e : Entry) (p : PutPlace) → Once (CameOn circuits life) (LostOn circuits) y → In y e → write_in e ≡ Some p → (c : Joined) × At circuits p.circuit c
 told-on circuits life y e p once h about = go e h about
   where
     at-place : (q : PutPlace) → let a : Option PutPlace = Some q in let b : Option PutPlace = Some p in a ≡ b → ((c : Joined) × At circuits q.circuit c) → (c : Joined) × At circuits p.circuit c

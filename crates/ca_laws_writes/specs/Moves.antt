@@ -1,6 +1,7 @@
 -- Working: what holds of the writes of a world, and what an event at a server may do to them.
-use Rattle.std.specs.Prelude.{ℕ, ◌≡◌, ◌<◌, ◌++◌, ◌⊎◌, true, List, Option, Some, length}
+use Rattle.std.specs.Prelude.{ℕ, ◌≡◌, ◌<◌, ◌++◌, ◌⊎◌, true, false, List, Option, Some, is_some, length}
 use Rattle.ca_text.specs.Place.{At}
+use Rattle.ca_records.specs.Puts.{Record}
 use Rattle.ca_model.specs.Speech.{In}
 use Rattle.ca_model.specs.History.{Entry}
 use Rattle.ca_model_world.specs.World.{Joined, PutPlace, ServerSide, World}
@@ -43,3 +44,24 @@ pub record Moves (w new : World) (i : ℕ) (y next : ServerSide) (log more : Lis
   pub own_open : AreOpen new.circuits next.records
   pub others_open : (j : ℕ) (z : ServerSide) → At w.servers j z → (j ≡ i → ⊥) → AreOpen new.circuits z.records
   pub handled : (e : Entry) (p : PutPlace) → In more e → write_in e ≡ Some p → WasHandled new.circuits p
+
+-- An event at server i before circuits end: its log has these entries, and its core has these records, from which those puts are not
+-- withdrawn yet that wait on circuits that end.
+pub record Midway (w mid : World) (i : ℕ) (y side : ServerSide) (log more : List Entry) (records : List Record) : Type 0 where
+  pub is : At w.servers i y
+  pub others : (j : ℕ) (z : ServerSide) → At mid.servers j z → (j ≡ i → ⊥) → At w.servers j z
+  pub same_life : side.life ≡ y.life
+  pub here : At w.server_logs y.life log
+  pub logged : At mid.server_logs y.life (log ++ more)
+  pub logs : (l : ℕ) (z : List Entry) → At mid.server_logs l z → (l ≡ y.life) ⊎ At w.server_logs l z
+  pub stay : (l : ℕ) (z : List Entry) → At w.server_logs l z → (l ≡ y.life → ⊥) → At mid.server_logs l z
+  pub circuits : AreLater w.circuits mid.circuits
+  pub life : Life mid.circuits i y.life (log ++ more) records side.records side.added
+  pub own_open : AreOpen mid.circuits side.records
+  pub others_open : (j : ℕ) (z : ServerSide) → At w.servers j z → (j ≡ i → ⊥) → AreOpen mid.circuits z.records
+  pub handled : (e : Entry) (p : PutPlace) → In more e → write_in e ≡ Some p → WasHandled mid.circuits p
+
+-- Only circuits of this server end.
+abbrev pub EndsOnly : List Joined → (server : ℕ) → (Joined → Option (List ℕ)) → Type 0
+EndsOnly circuits server ends =
+    (n : ℕ) (c : Joined) → At circuits n c → (c.server ≡ server → ⊥) → is_some (ends c) ≡ false
