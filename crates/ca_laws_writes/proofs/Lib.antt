@@ -12,3 +12,4 @@ pub mod Told
 pub mod Ending
 pub mod Moves
 pub mod Midway
+pub mod Events
