@@ -1,6 +1,6 @@
 -- Events at a server: what each does before circuits end.
 use Rattle.std.proofs.Common.{◌≡◌, ℕ, zero, suc, ◌+◌, ◌<◌, ◌≤◌, ◌⊎◌, inl, inr, Bool, true, false, cond, not, ◌&&◌, ◌==◌, ne_eqb, List, [], ◌∷◌, ◌++◌, length, Option, Some, None, refl, sym, ap, subst, ◌∙◌, append-nil, arith}
-use Rattle.std.specs.Prelude.{filter, find, is_some, map, option_map, slice_set, slice_get, unwrap_or}
+use Rattle.std.specs.Prelude.{drop, filter, find, is_some, map, option_map, slice_set, slice_get, unwrap_or}
 use Rattle.std.specs.List.{fold, list_any}
 use Rattle.std.specs.Str.{bytes_eq}
 use Rattle.std.proofs.lemmas.Slice.Eq.{bytes_eq-Decides}
@@ -13,12 +13,14 @@ use Rattle.ca_queue.specs.declared.entry.SubKey.{SubKey}
 use Rattle.ca_records.specs.declared.puts.Put.{Put}
 use Rattle.ca_records.specs.Puts.{Record, WaitingPut, finished, record_named, removed, with_record, with_value}
 use Rattle.ca_records.specs.Record.{RecordState, unset}
+use Rattle.ca_wire.specs.Fields.{Fields}
 use Rattle.ca_model.specs.Server.{Server}
+use Rattle.ca_model.specs.ServerSteps.{stored_now}
 use Rattle.ca_model.specs.Speech.{In, Stored}
-use Rattle.ca_model.specs.History.{Applied, Entry, Finished, Posted, Removed, Sent, Step, Waits, Withdrawn}
-use Rattle.ca_model_world.specs.ServerEvents.{ends_by, finish_entry, first_of, left_by, next_busy, next_entries, next_numbers, number_of, numbers_posted, posted_entry, removal_entries, removed_at, replied_at, with_number}
+use Rattle.ca_model.specs.History.{Applied, Entry, Finished, Posted, Removed, Reply, Sent, Step, Waits, Withdrawn}
+use Rattle.ca_model_world.specs.ServerEvents.{about, ends_by, finish_entry, first_of, left_by, next_busy, next_entries, next_numbers, number_of, numbers_posted, posted_entry, removal_entries, removed_at, replied_at, with_number}
 use Rattle.ca_model_world.specs.ServerEvents as event
-use Rattle.ca_model_world.specs.World.{Joined, PutPlace, RecordSide, ServerSide, World, with_entries, with_server}
+use Rattle.ca_model_world.specs.World.{Joined, PutPlace, RecordSide, ServerSide, World, with_circuit, with_entries, with_server}
 use Rattle.ca_laws_writes.specs.Both.{Both}
 use Rattle.ca_laws_writes.specs.Once.{write_in}
 use Rattle.ca_laws_writes.specs.Agrees.{Agree, Agrees, AreOthers, IsBusyBy, IsBusyWith, WaitsAs}
@@ -30,7 +32,7 @@ use Rattle.ca_laws_writes.proofs.Lives.{agree-posted, bytes-same, number-of, oth
 use Rattle.ca_laws_writes.proofs.Going.{life-later}
 use Rattle.ca_laws_writes.proofs.Finishes.{agree-finished}
 use Rattle.ca_laws_writes.proofs.Coming.{agree-removed, removal-is}
-use Rattle.ca_laws_writes.proofs.Moves.{handled-later, told-on}
+use Rattle.ca_laws_writes.proofs.Moves.{handled-later, same-or, told-on}
 use Rattle.ca_laws_writes.proofs.Midway.{grown-back, grown-here, grown-other}
 use Rattle.ca_laws_writes.proofs.Records.{withdrawing}
 
@@ -210,3 +212,122 @@ midway-post w i y name v mask c at h named base =
         go : (e : Entry) (k : ℕ) → At (posted_entry y name v mask) k e → write_in e ≡ Some p → ⊥
         go e zero at is = (let q : Posted (number_of name y.records) mask v ≡ e = some_is (Posted (number_of name y.records) mask v) e at in let x : write_in (Posted (number_of name y.records) mask v) ≡ Some p = ap write_in q ∙ is in cc)
         go e (suc k) at is = none_at k e at
+
+-- ---- a finish
+
+pub replied-same : (p : PutPlace) (sent : List (Handle × Fields)) (w : World) → AreSame w.circuits (replied_at p sent w).circuits
+replied-same p sent w = go (slice_get w.circuits p.circuit) refl
+  where
+    set-here : {A : Type 0} (xs : List A) (i : ℕ) (x y : A) → At xs i x → At (slice_set xs i y) i y
+    set-here [] i x y at = absurd (none_at i x at)
+    set-here (z ∷ xs) zero x y at = refl
+    set-here (z ∷ xs) (suc i) x y at = set-here xs i x y at
+    nat-or : (a b : ℕ) → (a ≡ b) ⊎ (a ≡ b → ⊥)
+    nat-or a b = same-or a b
+    set-same : (cs : List Joined) (k : ℕ) (c d : Joined) → At cs k c → SameEnds c d → AreSame cs (slice_set cs k d)
+    set-same cs k c d at s =
+        (
+          λ n x there. elim (nat-or n k) [
+            | inl is ↦ (d, subst (λ (m : ℕ). At (slice_set cs k d) m d) (sym is) (set-here cs k c d at), subst (λ (z : Joined). SameEnds z d) (At-one cs k c x at (subst (λ (m : ℕ). At cs m x) is there)) s)
+            | inr other ↦ (x, At-set-other cs k n x d there other, same-self x)
+          ],
+          λ n x there. elim (At-set cs k d n x there) [
+            | inl new ↦ (c, subst (λ (m : ℕ). At cs m c) (sym new.0) at, subst (λ (z : Joined). SameEnds c z) (sym new.1) s)
+            | inr old ↦ (x, old.0, same-self x)
+          ],
+        )
+    said : Joined → Joined
+    said j = record j { lists = record j.lists { down = j.lists.down ++ about p.place Reply (map (λ (s : Handle × Fields). s.1) sent) } }
+    go : (o : Option Joined) → slice_get w.circuits p.circuit ≡ o → AreSame w.circuits (unwrap_or (option_map (λ (j : Joined). with_circuit p.circuit (said j) w) o) w).circuits
+    go None e = same-all w.circuits
+    go (Some j) e = set-same w.circuits p.circuit j (said j) e (record { server = refl; handle = refl; life = refl; up = refl; handled = refl; is_open = refl })
+
+-- the world in which a finish is told
+abbrev pub finish_told : World → (i : ℕ) → ServerSide → List ℕ → Record → RecordSide → PutPlace → World
+finish_told w i y name c r p =
+    with_entries y.life (finish_entry p ∷ next_entries y r (first_of c.waiting) (first_of r.waiting)) (with_server i (record y { records = event.with_record name next_busy y.records }) (record w { circuits = map (next_numbers i y.core name c.waiting) w.circuits }))
+
+pub midway-finish : (w : World) (i : ℕ) (y : ServerSide) (name : List ℕ) (sent : List (Handle × Fields)) (c : Record) (r : RecordSide) (place : ℕ) (p : PutPlace) (at : At w.servers i y) (h : Writes w) → record_named y.core.records name ≡ Some c → At y.records place r → r.name ≡ name → r.busy ≡ Some p
+    → Midway w (replied_at p sent (finish_told w i y name c r p)) i y (record y { records = event.with_record name next_busy y.records }) (h.lives i y at).log (finish_entry p ∷ next_entries y r (first_of c.waiting) (first_of r.waiting)) (with_record name (λ (q : Record). finished y.core.stamp q q.waiting) y.core.records)
+midway-finish w i y name sent c r place p at h named in_rs is_name busy =
+    let own = h.lives i y at in
+    let log : List Entry = own.log in
+    let more : List Entry = finish_entry p ∷ next_entries y r (first_of c.waiting) (first_of r.waiting) in
+    let told : World = finish_told w i y name c r p in
+    let mid : World = replied_at p sent told in
+    let new : List Joined = mid.circuits in
+    let same : AreSame w.circuits new = same-twice w.circuits told.circuits new (same-map (next_numbers i y.core name c.waiting) w.circuits (next-same i y.core name c.waiting)) (replied-same p sent told) in
+    let later : AreLater w.circuits new = are-later w.circuits new same in
+    let f = found (IsPutOf w.circuits i) log y.core.records y.records name c own.life.each named in
+    let one : f.i ≡ place = elim (others-apart y.records f.i place f.r r own.life.others f.in_rs in_rs) [
+      | inl e ↦ e
+      | inr apart ↦ absurd (apart.0 (is_name ∙ sym f.named))
+    ] in
+    let in_cs : At y.core.records place c = subst (λ (n : ℕ). At y.core.records n c) one f.in_cs in
+    let g : Agrees (IsPutOf w.circuits i) log c r = both-at (Agrees (IsPutOf w.circuits i) log) y.core.records y.records place c r own.life.each in_cs in_rs in
+    let by : IsBusyWith log r.number p = subst (λ (o : Option PutPlace). IsBusyBy log r.number o) busy g.busy in
+    let before : Life new i y.life log y.core.records y.records y.added = life-later w.circuits new i y.life log y.core.records y.records y.added later own.life in
+    let after = agree-finished (CameOn new y.life) (LostOn new) (IsPutOf new i) log y y.core.records y.records y.added place c r p in_cs in_rs busy before in
+    let side : ServerSide = record y { records = event.with_record name next_busy y.records } in
+    let servers : mid.servers ≡ told.servers = kept-servers told in
+    let logs : mid.server_logs ≡ told.server_logs = kept-logs told in
+    record {
+      is = at;
+      others = λ j z there other. elim (At-set w.servers i side j z (subst (λ (l : List ServerSide). At l j z) servers there)) [
+        | inl new ↦ absurd (other new.0)
+        | inr old ↦ old.0
+      ];
+      same_life = refl;
+      here = own.at;
+      logged = subst (λ (l : List (List Entry)). At l y.life (log ++ more)) (sym logs) (grown-here w.server_logs y.life log more own.at);
+      logs = λ l z there. grown-back w.server_logs y.life more l z (subst (λ (ls : List (List Entry)). At ls l z) logs there);
+      stay = λ l z there other. subst (λ (ls : List (List Entry)). At ls l z) (sym logs) (grown-other w.server_logs y.life more l z there other);
+      circuits = later;
+      life = subst (λ (n : List ℕ). Life new i y.life (log ++ more) (with_record n (λ (q : Record). finished y.core.stamp q q.waiting) y.core.records) (event.with_record n next_busy y.records) y.added) is_name after;
+      own_open = fewer-open new y.records (still-open w.circuits new y.records same own.still_open);
+      others_open = λ j z there other. still-open w.circuits new z.records same (h.lives j z there).still_open;
+      handled = λ e q in_it about. next-handled new later by.v c.waiting r.waiting (by.i, by.at) (λ x mine. (let s = waits-there (IsPutOf w.circuits i) log c r x g mine in (s.1.v, s.1.came))) e q in_it about;
+    }
+  where
+    kept-servers : (t : World) → (replied_at p sent t).servers ≡ t.servers
+    kept-servers t = go (slice_get t.circuits p.circuit)
+      where
+        go : (o : Option Joined) → (unwrap_or (option_map (λ (j : Joined). with_circuit p.circuit (record j { lists = record j.lists { down = j.lists.down ++ about p.place Reply (map (λ (s : Handle × Fields). s.1) sent) } }) t) o) t).servers ≡ t.servers
+        go None = refl
+        go (Some j) = refl
+    kept-logs : (t : World) → (replied_at p sent t).server_logs ≡ t.server_logs
+    kept-logs t = go (slice_get t.circuits p.circuit)
+      where
+        go : (o : Option Joined) → (unwrap_or (option_map (λ (j : Joined). with_circuit p.circuit (record j { lists = record j.lists { down = j.lists.down ++ about p.place Reply (map (λ (s : Handle × Fields). s.1) sent) } }) t) o) t).server_logs ≡ t.server_logs
+        go None = refl
+        go (Some j) = refl
+    -- what waits after a finish waited before
+    waits-before : (b : Bool) (q : RecordSide) (x : PutPlace) → In (cond b (next_busy q) q).waiting x → In q.waiting x
+    waits-before false q x mine = mine
+    waits-before true q x mine = dropped q.waiting mine
+      where
+        dropped : (ps : List PutPlace) → In (drop 1 ps) x → In ps x
+        dropped [] d = absurd (none_at d.0 x d.1)
+        dropped (z ∷ ps) d = (suc d.0, d.1)
+    fewer-open : (cs : List Joined) (rs : List RecordSide) → AreOpen cs rs → AreOpen cs (event.with_record name next_busy rs)
+    fewer-open cs rs are_open j q x d in_it mine on =
+        let was = At-mapped (λ (z : RecordSide). cond (bytes_eq z.name name) (next_busy z) z) rs j q in_it in
+        let back : In was.0.waiting x = waits-before (bytes_eq was.0.name name) was.0 x (subst (λ (z : RecordSide). In z.waiting x) was.2 mine) in
+        are_open j was.0 x d was.1 back on
+    next-handled : (cs : List Joined) → AreLater w.circuits cs → (v0 : Stored) (ws : List WaitingPut) (ps : List PutPlace) → In (h.lives i y at).log (Applied p.circuit p.place r.number v0 true) → ((x : PutPlace) → In ps x → (v : Stored) × In (h.lives i y at).log (Waits x.circuit x.place r.number v)) → (e : Entry) (q : PutPlace) → In (finish_entry p ∷ next_entries y r (first_of ws) (first_of ps)) e → write_in e ≡ Some q → WasHandled cs q
+    next-handled cs later v0 ws ps applied waited e q in_it tells = go ws ps waited in_it.0 in_it.1
+      where
+        own-log : List Entry
+        own-log = (h.lives i y at).log
+        first : finish_entry p ≡ e → WasHandled cs q
+        first is = (let x : p ≡ q = some_is p q (ap write_in is ∙ tells) in subst (λ (z : PutPlace). WasHandled cs z) x (still-handled w cs y.life own-log (Applied p.circuit p.place r.number v0 true) p h (h.lives i y at).at later applied refl))
+        go : (ws : List WaitingPut) (ps : List PutPlace) → ((x : PutPlace) → In ps x → (v : Stored) × In own-log (Waits x.circuit x.place r.number v)) → (k : ℕ) → At (finish_entry p ∷ next_entries y r (first_of ws) (first_of ps)) k e → WasHandled cs q
+        go ws ps waited zero is = first (some_is (finish_entry p) e is)
+        go [] ps waited (suc k) is = absurd (none_at k e is)
+        go (u ∷ ws) [] waited (suc k) is = absurd (none_at k e is)
+        go (u ∷ ws) (x ∷ ps) waited (suc zero) is =
+            let next : Entry = Applied x.circuit x.place r.number (stored_now y.core u.value) true in
+            let same : x ≡ q = some_is x q (ap write_in (some_is next e is) ∙ tells) in
+            let s = waited x (0, refl) in
+            subst (λ (z : PutPlace). WasHandled cs z) same (still-handled w cs y.life own-log (Waits x.circuit x.place r.number s.0) x h (h.lives i y at).at later s.1 refl)
+        go (u ∷ ws) (x ∷ ps) waited (suc (suc k)) is = absurd (none_at k e is)
