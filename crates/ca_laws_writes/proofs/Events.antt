@@ -1,0 +1,333 @@
+-- Events at a server: what each does before circuits end.
+use Rattle.std.proofs.Common.{◌≡◌, ℕ, zero, suc, ◌+◌, ◌<◌, ◌≤◌, ◌⊎◌, inl, inr, Bool, true, false, cond, not, ◌&&◌, ◌==◌, ne_eqb, List, [], ◌∷◌, ◌++◌, length, Option, Some, None, refl, sym, ap, subst, ◌∙◌, append-nil, arith}
+use Rattle.std.specs.Prelude.{drop, filter, find, is_some, map, option_map, slice_set, slice_get, unwrap_or}
+use Rattle.std.specs.List.{fold, list_any}
+use Rattle.std.specs.Str.{bytes_eq}
+use Rattle.std.proofs.lemmas.Slice.Eq.{bytes_eq-Decides}
+use Rattle.ca_arena.specs.declared.handle.Handle.{Handle}
+use Rattle.ca_text.specs.Place.{At}
+use Rattle.ca_text.proofs.Places.{some_is, At-map, At-mapped, At-one, At-parts, At-set, At-set-other, At-within}
+use Rattle.ca_dbr.specs.Elements.{base_of}
+use Rattle.ca_ids.specs.Table.{same_handle, under}
+use Rattle.ca_queue.specs.declared.entry.SubKey.{SubKey}
+use Rattle.ca_records.specs.declared.puts.Put.{Put}
+use Rattle.ca_records.specs.Puts.{Record, WaitingPut, finished, record_named, removed, with_record, with_value}
+use Rattle.ca_records.specs.Record.{RecordState, unset}
+use Rattle.ca_wire.specs.Fields.{Fields}
+use Rattle.ca_model.specs.Server.{Server}
+use Rattle.ca_model.specs.ServerSteps.{stored_now}
+use Rattle.ca_model.specs.Speech.{In, Stored}
+use Rattle.ca_model.specs.History.{Applied, Entry, Finished, Posted, Removed, Reply, Sent, Step, Waits, Withdrawn}
+use Rattle.ca_model_world.specs.ServerEvents.{about, ends_by, finish_entry, first_of, left_by, next_busy, next_entries, next_numbers, number_of, numbers_posted, posted_entry, removal_entries, removed_at, replied_at, with_number}
+use Rattle.ca_model_world.specs.ServerEvents as event
+use Rattle.ca_model_world.specs.World.{Joined, PutPlace, RecordSide, ServerSide, World, with_circuit, with_entries, with_server}
+use Rattle.ca_laws_writes.specs.Both.{Both}
+use Rattle.ca_laws_writes.specs.Once.{write_in}
+use Rattle.ca_laws_writes.specs.Agrees.{Agree, Agrees, AreOthers, IsBusyBy, IsBusyWith, WaitsAs}
+use Rattle.ca_laws_writes.specs.Lives.{AreLater, AreOpen, CameOn, IsPutOf, Later, Life, LostOn}
+use Rattle.ca_laws_writes.specs.Moves.{EndsOnly, Lives, Midway, WasHandled, Writes}
+use Rattle.ca_laws_writes.proofs.Lists.{both-at, beside-left, beside-right, none_at}
+use Rattle.ca_laws_writes.proofs.Ending.{later-self}
+use Rattle.ca_laws_writes.proofs.Lives.{agree-posted, bytes-same, number-of, others-apart, waits-there}
+use Rattle.ca_laws_writes.proofs.Going.{life-later}
+use Rattle.ca_laws_writes.proofs.Finishes.{agree-finished}
+use Rattle.ca_laws_writes.proofs.Coming.{agree-removed, removal-is}
+use Rattle.ca_laws_writes.proofs.Moves.{handled-later, same-or, told-on}
+use Rattle.ca_laws_writes.proofs.Midway.{grown-back, grown-here, grown-other}
+use Rattle.ca_laws_writes.proofs.Records.{withdrawing}
+
+-- ---- circuits of which the server's end stays as it is
+
+pub record SameEnds (c d : Joined) : Type 0 where
+  pub server : d.server ≡ c.server
+  pub handle : d.at_server ≡ c.at_server
+  pub life : d.lists.server ≡ c.lists.server
+  pub up : d.lists.up ≡ c.lists.up
+  pub handled : d.lists.handled ≡ c.lists.handled
+  pub is_open : d.lists.server_open ≡ c.lists.server_open
+
+pub same-self : (c : Joined) → SameEnds c c
+same-self c = record { server = refl; handle = refl; life = refl; up = refl; handled = refl; is_open = refl }
+
+same-trans : (a b c : Joined) → SameEnds a b → SameEnds b c → SameEnds a c
+same-trans a b c f g = record {
+  server = g.server ∙ f.server;
+  handle = g.handle ∙ f.handle;
+  life = g.life ∙ f.life;
+  up = g.up ∙ f.up;
+  handled = g.handled ∙ f.handled;
+  is_open = g.is_open ∙ f.is_open;
+}
+
+same-later : (c d : Joined) → SameEnds c d → Later c d
+same-later c d s = record {
+  server = s.server;
+  handle = s.handle;
+  life = s.life;
+  up = λ k x at. subst (λ (l : List Sent). At l k x) (sym s.up) at;
+  handled = λ k x at. subst (λ (l : List Step). At l k x) (sym s.handled) at;
+  ended = λ e. (s.is_open ∙ e, s.handled);
+}
+
+abbrev pub AreSame : List Joined → List Joined → Type 0
+AreSame old new =
+    ((n : ℕ) (c : Joined) → At old n c → (d : Joined) × At new n d × SameEnds c d)
+    × ((n : ℕ) (d : Joined) → At new n d → (c : Joined) × At old n c × SameEnds c d)
+
+are-later : (old new : List Joined) → AreSame old new → AreLater old new
+are-later old new s n c at = (let d = s.0 n c at in (d.0, d.1, same-later c d.0 d.2))
+
+still-open : (old new : List Joined) (rs : List RecordSide) → AreSame old new → AreOpen old rs → AreOpen new rs
+still-open old new rs s are_open j r p d in_rs waits on =
+    (let c = s.1 p.circuit d on in c.2.is_open ∙ are_open j r p c.0 in_rs waits c.1)
+
+pub same-all : (cs : List Joined) → AreSame cs cs
+same-all cs = (λ n c at. (c, at, same-self c), λ n c at. (c, at, same-self c))
+
+pub same-map : (f : Joined → Joined) (cs : List Joined) → ((c : Joined) → SameEnds c (f c)) → AreSame cs (map f cs)
+same-map f cs keeps =
+    (
+      λ n c at. (f c, At-map f cs n c at, keeps c),
+      λ n d at. (let c = At-mapped f cs n d at in (c.0, c.1, subst (λ (x : Joined). SameEnds c.0 x) (sym c.2) (keeps c.0))),
+    )
+
+same-twice : (a b c : List Joined) → AreSame a b → AreSame b c → AreSame a c
+same-twice a b c f g =
+    (
+      λ n x at. (let y = f.0 n x at in let z = g.0 n y.0 y.1 in (z.0, z.1, same-trans x y.0 z.0 y.2 z.2)),
+      λ n z at. (let y = g.1 n z at in let x = f.1 n y.0 y.1 in (x.0, x.1, same-trans x.0 y.0 z x.2 y.2)),
+    )
+
+numbers-same : (c : Joined) (keys : List SubKey) → SameEnds c (fold with_number c keys)
+numbers-same c [] = same-self c
+numbers-same c (k ∷ keys) = same-trans c (with_number c k) (fold with_number (with_number c k) keys) (record { server = refl; handle = refl; life = refl; up = refl; handled = refl; is_open = refl }) (numbers-same (with_number c k) keys)
+
+if-same : (b : Bool) (c d : Joined) → SameEnds c d → SameEnds c (cond b d c)
+if-same true c d s = s
+if-same false c d s = same-self c
+
+pub posted-same : (i : ℕ) (core : Server) (name : List ℕ) (mask : ℕ) (c : Joined) → SameEnds c (numbers_posted i core name mask c)
+posted-same i core name mask c =
+    if-same (c.server == i && c.lists.server_open) c (fold with_number c (event.keys_concerned name mask (under core.circuits c.at_server))) (numbers-same c (event.keys_concerned name mask (under core.circuits c.at_server)))
+
+next-same : (i : ℕ) (core : Server) (name : List ℕ) (ws : List WaitingPut) (c : Joined) → SameEnds c (next_numbers i core name ws c)
+next-same i core name [] c = same-self c
+next-same i core name (w ∷ ws) c = posted-same i core name 3 c
+
+removed-same : (i : ℕ) (core : Server) (name : List ℕ) (gone : Handle → Bool) (left : Handle → ℕ) (c : Joined) → SameEnds c (removed_at i core name gone left c)
+removed-same i core name gone left c =
+    if-same (c.server == i && c.lists.server_open) c _ (record { server = refl; handle = refl; life = refl; up = refl; handled = refl; is_open = refl })
+
+-- ---- only this server's circuits end
+
+pub ends-only : (circuits : List Joined) (i : ℕ) (core : Server) → EndsOnly circuits i (ends_by i core)
+ends-only circuits i core n c at other =
+    ap (λ (b : Bool). is_some (cond (b && c.lists.server_open) (left_by (under core.circuits c.at_server)) None)) (ne_eqb c.server i other)
+
+-- ---- the record of a name
+
+find-at : {A : Type 0} (test : A → Bool) (xs : List A) (x : A) → find test xs ≡ Some x → (i : ℕ) × At xs i x × (test x ≡ true)
+find-at test [] x is = absurd cc
+find-at {A} test (y ∷ xs) x is = go (test y) refl is (λ h. find-at test xs x h)
+  where
+    go : (b : Bool) → test y ≡ b → cond b (Some y) (find test xs) ≡ Some x → (find test xs ≡ Some x → (i : ℕ) × At xs i x × (test x ≡ true)) → (i : ℕ) × At (y ∷ xs) i x × (test x ≡ true)
+    go true yes_it h rest = (let same : y ≡ x = some_is y x h in (0, h, ap test (sym same) ∙ yes_it))
+    go false no_it h rest = (let r = rest h in (suc r.0, r.1, r.2))
+
+-- the record that a core finds under a name, and its side
+pub record Found (Is : PutPlace → Put → Type 0) (y : List Entry) (cs : List Record) (rs : List RecordSide) (name : List ℕ) (c : Record) : Type 0 where
+  pub i : ℕ
+  pub r : RecordSide
+  pub in_cs : At cs i c
+  pub in_rs : At rs i r
+  pub agrees : Agrees Is y c r
+  pub named : r.name ≡ name
+
+pub found : (Is : PutPlace → Put → Type 0) (y : List Entry) (cs : List Record) (rs : List RecordSide) (name : List ℕ) (c : Record) → Both (Agrees Is y) cs rs → record_named cs name ≡ Some c → Found Is y cs rs name c
+found Is y cs rs name c both is =
+    let f = find-at (λ (r : Record). bytes_eq r.state.name name) cs c is in
+    let b = beside-left (Agrees Is y) cs rs f.0 c both f.1 in
+    record { i = f.0; r = b.0; in_cs = f.1; in_rs = b.1; agrees = b.2; named = sym b.2.name ∙ (bytes_eq-Decides c.state.name name).0 f.2 }
+
+-- ---- what is told of was handled
+
+still-handled : (w : World) (circuits : List Joined) (life : ℕ) (log : List Entry) (e : Entry) (p : PutPlace) → Writes w → At w.server_logs life log → AreLater w.circuits circuits → In log e → write_in e ≡ Some p → WasHandled circuits p
+still-handled w circuits life log e p h at later told about =
+    (let c = told-on w.circuits life log e p (h.logs life log at) told about in handled-later w.circuits circuits p c.0 c.1 later (h.handled life log e p at told about))
+
+-- ---- a cut, or a step that closes its circuit: nothing else happens
+
+pub midway-nothing : (w : World) (i : ℕ) (y : ServerSide) (at : At w.servers i y) (h : Writes w) → Midway w w i y y (h.lives i y at).log [] y.core.records
+midway-nothing w i y at h =
+    let own = h.lives i y at in
+    let same : own.log ++ [] ≡ own.log = append-nil own.log in
+    record {
+      is = at;
+      others = λ j z there other. there;
+      same_life = refl;
+      here = own.at;
+      logged = subst (λ (l : List Entry). At w.server_logs y.life l) (sym same) own.at;
+      logs = λ l z there. inr there;
+      stay = λ l z there other. there;
+      circuits = λ n c there. (c, there, later-self c);
+      life = subst (λ (l : List Entry). Life w.circuits i y.life l y.core.records y.records y.added) (sym same) own.life;
+      own_open = own.still_open;
+      others_open = λ j z there other. (h.lives j z there).still_open;
+      handled = λ e p told about. absurd (none_at told.0 e told.1);
+    }
+
+-- ---- a post
+
+pub midway-post : (w : World) (i : ℕ) (y : ServerSide) (name : List ℕ) (v : Stored) (mask : ℕ) (c : Record) (at : At w.servers i y) (h : Writes w) → record_named y.core.records name ≡ Some c → base_of v.value ≡ base_of c.state.value
+    → Midway w (with_entries y.life (posted_entry y name v mask) (record w { circuits = map (numbers_posted i y.core name mask) w.circuits })) i y y (h.lives i y at).log (posted_entry y name v mask) (with_record name (with_value v.value v.meta) y.core.records)
+midway-post w i y name v mask c at h named base =
+    let own = h.lives i y at in
+    let more : List Entry = posted_entry y name v mask in
+    let f = found (IsPutOf w.circuits i) own.log y.core.records y.records name c own.life.each named in
+    let number : number_of name y.records ≡ f.r.number = ap (λ (n : List ℕ). number_of n y.records) (sym f.named) ∙ number-of y.records f.i f.r own.life.others f.in_rs in
+    let same : AreSame w.circuits (map (numbers_posted i y.core name mask) w.circuits) = same-map (numbers_posted i y.core name mask) w.circuits (posted-same i y.core name mask) in
+    let new : List Joined = map (numbers_posted i y.core name mask) w.circuits in
+    let later : AreLater w.circuits new = are-later w.circuits new same in
+    let before : Life new i y.life own.log y.core.records y.records y.added = life-later w.circuits new i y.life own.log y.core.records y.records y.added later own.life in
+    let after = agree-posted (CameOn new y.life) (LostOn new) (IsPutOf new i) own.log y.core.records y.records y.added f.i c f.r mask v f.in_cs f.in_rs base before in
+    record {
+      is = at;
+      others = λ j z there other. there;
+      same_life = refl;
+      here = own.at;
+      logged = grown-here w.server_logs y.life own.log more own.at;
+      logs = λ l z there. grown-back w.server_logs y.life more l z there;
+      stay = λ l z there other. grown-other w.server_logs y.life more l z there other;
+      circuits = later;
+      life = subst (λ (n : ℕ). Life new i y.life (own.log ++ Posted n mask v ∷ []) (with_record name (with_value v.value v.meta) y.core.records) y.records y.added) (sym number)
+          (subst (λ (n : List ℕ). Life new i y.life (own.log ++ Posted f.r.number mask v ∷ []) (with_record n (with_value v.value v.meta) y.core.records) y.records y.added) f.named after);
+      own_open = still-open w.circuits new y.records same own.still_open;
+      others_open = λ j z there other. still-open w.circuits new z.records same (h.lives j z there).still_open;
+      handled = λ e p told about. absurd (posts-none-told e p told about);
+    }
+  where
+    posts-none-told : (e : Entry) (p : PutPlace) → In (posted_entry y name v mask) e → write_in e ≡ Some p → ⊥
+    posts-none-told e p told about = go e told.0 told.1 about
+      where
+        go : (e : Entry) (k : ℕ) → At (posted_entry y name v mask) k e → write_in e ≡ Some p → ⊥
+        go e zero at is = (let q : Posted (number_of name y.records) mask v ≡ e = some_is (Posted (number_of name y.records) mask v) e at in let x : write_in (Posted (number_of name y.records) mask v) ≡ Some p = ap write_in q ∙ is in cc)
+        go e (suc k) at is = none_at k e at
+
+-- ---- a finish
+
+pub replied-same : (p : PutPlace) (sent : List (Handle × Fields)) (w : World) → AreSame w.circuits (replied_at p sent w).circuits
+replied-same p sent w = go (slice_get w.circuits p.circuit) refl
+  where
+    set-here : {A : Type 0} (xs : List A) (i : ℕ) (x y : A) → At xs i x → At (slice_set xs i y) i y
+    set-here [] i x y at = absurd (none_at i x at)
+    set-here (z ∷ xs) zero x y at = refl
+    set-here (z ∷ xs) (suc i) x y at = set-here xs i x y at
+    nat-or : (a b : ℕ) → (a ≡ b) ⊎ (a ≡ b → ⊥)
+    nat-or a b = same-or a b
+    set-same : (cs : List Joined) (k : ℕ) (c d : Joined) → At cs k c → SameEnds c d → AreSame cs (slice_set cs k d)
+    set-same cs k c d at s =
+        (
+          λ n x there. elim (nat-or n k) [
+            | inl is ↦ (d, subst (λ (m : ℕ). At (slice_set cs k d) m d) (sym is) (set-here cs k c d at), subst (λ (z : Joined). SameEnds z d) (At-one cs k c x at (subst (λ (m : ℕ). At cs m x) is there)) s)
+            | inr other ↦ (x, At-set-other cs k n x d there other, same-self x)
+          ],
+          λ n x there. elim (At-set cs k d n x there) [
+            | inl new ↦ (c, subst (λ (m : ℕ). At cs m c) (sym new.0) at, subst (λ (z : Joined). SameEnds c z) (sym new.1) s)
+            | inr old ↦ (x, old.0, same-self x)
+          ],
+        )
+    said : Joined → Joined
+    said j = record j { lists = record j.lists { down = j.lists.down ++ about p.place Reply (map (λ (s : Handle × Fields). s.1) sent) } }
+    go : (o : Option Joined) → slice_get w.circuits p.circuit ≡ o → AreSame w.circuits (unwrap_or (option_map (λ (j : Joined). with_circuit p.circuit (said j) w) o) w).circuits
+    go None e = same-all w.circuits
+    go (Some j) e = set-same w.circuits p.circuit j (said j) e (record { server = refl; handle = refl; life = refl; up = refl; handled = refl; is_open = refl })
+
+-- the world in which a finish is told
+abbrev pub finish_told : World → (i : ℕ) → ServerSide → List ℕ → Record → RecordSide → PutPlace → World
+finish_told w i y name c r p =
+    with_entries y.life (finish_entry p ∷ next_entries y r (first_of c.waiting) (first_of r.waiting)) (with_server i (record y { records = event.with_record name next_busy y.records }) (record w { circuits = map (next_numbers i y.core name c.waiting) w.circuits }))
+
+pub midway-finish : (w : World) (i : ℕ) (y : ServerSide) (name : List ℕ) (sent : List (Handle × Fields)) (c : Record) (r : RecordSide) (place : ℕ) (p : PutPlace) (at : At w.servers i y) (h : Writes w) → record_named y.core.records name ≡ Some c → At y.records place r → r.name ≡ name → r.busy ≡ Some p
+    → Midway w (replied_at p sent (finish_told w i y name c r p)) i y (record y { records = event.with_record name next_busy y.records }) (h.lives i y at).log (finish_entry p ∷ next_entries y r (first_of c.waiting) (first_of r.waiting)) (with_record name (λ (q : Record). finished y.core.stamp q q.waiting) y.core.records)
+midway-finish w i y name sent c r place p at h named in_rs is_name busy =
+    let own = h.lives i y at in
+    let log : List Entry = own.log in
+    let more : List Entry = finish_entry p ∷ next_entries y r (first_of c.waiting) (first_of r.waiting) in
+    let told : World = finish_told w i y name c r p in
+    let mid : World = replied_at p sent told in
+    let new : List Joined = mid.circuits in
+    let same : AreSame w.circuits new = same-twice w.circuits told.circuits new (same-map (next_numbers i y.core name c.waiting) w.circuits (next-same i y.core name c.waiting)) (replied-same p sent told) in
+    let later : AreLater w.circuits new = are-later w.circuits new same in
+    let f = found (IsPutOf w.circuits i) log y.core.records y.records name c own.life.each named in
+    let one : f.i ≡ place = elim (others-apart y.records f.i place f.r r own.life.others f.in_rs in_rs) [
+      | inl e ↦ e
+      | inr apart ↦ absurd (apart.0 (is_name ∙ sym f.named))
+    ] in
+    let in_cs : At y.core.records place c = subst (λ (n : ℕ). At y.core.records n c) one f.in_cs in
+    let g : Agrees (IsPutOf w.circuits i) log c r = both-at (Agrees (IsPutOf w.circuits i) log) y.core.records y.records place c r own.life.each in_cs in_rs in
+    let by : IsBusyWith log r.number p = subst (λ (o : Option PutPlace). IsBusyBy log r.number o) busy g.busy in
+    let before : Life new i y.life log y.core.records y.records y.added = life-later w.circuits new i y.life log y.core.records y.records y.added later own.life in
+    let after = agree-finished (CameOn new y.life) (LostOn new) (IsPutOf new i) log y y.core.records y.records y.added place c r p in_cs in_rs busy before in
+    let side : ServerSide = record y { records = event.with_record name next_busy y.records } in
+    let servers : mid.servers ≡ told.servers = kept-servers told in
+    let logs : mid.server_logs ≡ told.server_logs = kept-logs told in
+    record {
+      is = at;
+      others = λ j z there other. elim (At-set w.servers i side j z (subst (λ (l : List ServerSide). At l j z) servers there)) [
+        | inl new ↦ absurd (other new.0)
+        | inr old ↦ old.0
+      ];
+      same_life = refl;
+      here = own.at;
+      logged = subst (λ (l : List (List Entry)). At l y.life (log ++ more)) (sym logs) (grown-here w.server_logs y.life log more own.at);
+      logs = λ l z there. grown-back w.server_logs y.life more l z (subst (λ (ls : List (List Entry)). At ls l z) logs there);
+      stay = λ l z there other. subst (λ (ls : List (List Entry)). At ls l z) (sym logs) (grown-other w.server_logs y.life more l z there other);
+      circuits = later;
+      life = subst (λ (n : List ℕ). Life new i y.life (log ++ more) (with_record n (λ (q : Record). finished y.core.stamp q q.waiting) y.core.records) (event.with_record n next_busy y.records) y.added) is_name after;
+      own_open = fewer-open new y.records (still-open w.circuits new y.records same own.still_open);
+      others_open = λ j z there other. still-open w.circuits new z.records same (h.lives j z there).still_open;
+      handled = λ e q in_it about. next-handled new later by.v c.waiting r.waiting (by.i, by.at) (λ x mine. (let s = waits-there (IsPutOf w.circuits i) log c r x g mine in (s.1.v, s.1.came))) e q in_it about;
+    }
+  where
+    kept-servers : (t : World) → (replied_at p sent t).servers ≡ t.servers
+    kept-servers t = go (slice_get t.circuits p.circuit)
+      where
+        go : (o : Option Joined) → (unwrap_or (option_map (λ (j : Joined). with_circuit p.circuit (record j { lists = record j.lists { down = j.lists.down ++ about p.place Reply (map (λ (s : Handle × Fields). s.1) sent) } }) t) o) t).servers ≡ t.servers
+        go None = refl
+        go (Some j) = refl
+    kept-logs : (t : World) → (replied_at p sent t).server_logs ≡ t.server_logs
+    kept-logs t = go (slice_get t.circuits p.circuit)
+      where
+        go : (o : Option Joined) → (unwrap_or (option_map (λ (j : Joined). with_circuit p.circuit (record j { lists = record j.lists { down = j.lists.down ++ about p.place Reply (map (λ (s : Handle × Fields). s.1) sent) } }) t) o) t).server_logs ≡ t.server_logs
+        go None = refl
+        go (Some j) = refl
+    -- what waits after a finish waited before
+    waits-before : (b : Bool) (q : RecordSide) (x : PutPlace) → In (cond b (next_busy q) q).waiting x → In q.waiting x
+    waits-before false q x mine = mine
+    waits-before true q x mine = dropped q.waiting mine
+      where
+        dropped : (ps : List PutPlace) → In (drop 1 ps) x → In ps x
+        dropped [] d = absurd (none_at d.0 x d.1)
+        dropped (z ∷ ps) d = (suc d.0, d.1)
+    fewer-open : (cs : List Joined) (rs : List RecordSide) → AreOpen cs rs → AreOpen cs (event.with_record name next_busy rs)
+    fewer-open cs rs are_open j q x d in_it mine on =
+        let was = At-mapped (λ (z : RecordSide). cond (bytes_eq z.name name) (next_busy z) z) rs j q in_it in
+        let back : In was.0.waiting x = waits-before (bytes_eq was.0.name name) was.0 x (subst (λ (z : RecordSide). In z.waiting x) was.2 mine) in
+        are_open j was.0 x d was.1 back on
+    next-handled : (cs : List Joined) → AreLater w.circuits cs → (v0 : Stored) (ws : List WaitingPut) (ps : List PutPlace) → In (h.lives i y at).log (Applied p.circuit p.place r.number v0 true) → ((x : PutPlace) → In ps x → (v : Stored) × In (h.lives i y at).log (Waits x.circuit x.place r.number v)) → (e : Entry) (q : PutPlace) → In (finish_entry p ∷ next_entries y r (first_of ws) (first_of ps)) e → write_in e ≡ Some q → WasHandled cs q
+    next-handled cs later v0 ws ps applied waited e q in_it tells = go ws ps waited in_it.0 in_it.1
+      where
+        own-log : List Entry
+        own-log = (h.lives i y at).log
+        first : finish_entry p ≡ e → WasHandled cs q
+        first is = (let x : p ≡ q = some_is p q (ap write_in is ∙ tells) in subst (λ (z : PutPlace). WasHandled cs z) x (still-handled w cs y.life own-log (Applied p.circuit p.place r.number v0 true) p h (h.lives i y at).at later applied refl))
+        go : (ws : List WaitingPut) (ps : List PutPlace) → ((x : PutPlace) → In ps x → (v : Stored) × In own-log (Waits x.circuit x.place r.number v)) → (k : ℕ) → At (finish_entry p ∷ next_entries y r (first_of ws) (first_of ps)) k e → WasHandled cs q
+        go ws ps waited zero is = first (some_is (finish_entry p) e is)
+        go [] ps waited (suc k) is = absurd (none_at k e is)
+        go (u ∷ ws) [] waited (suc k) is = absurd (none_at k e is)
+        go (u ∷ ws) (x ∷ ps) waited (suc zero) is =
+            let next : Entry = Applied x.circuit x.place r.number (stored_now y.core u.value) true in
+            let same : x ≡ q = some_is x q (ap write_in (some_is next e is) ∙ tells) in
+            let s = waited x (0, refl) in
+            subst (λ (z : PutPlace). WasHandled cs z) same (still-handled w cs y.life own-log (Waits x.circuit x.place r.number s.0) x h (h.lives i y at).at later s.1 refl)
+        go (u ∷ ws) (x ∷ ps) waited (suc (suc k)) is = absurd (none_at k e is)

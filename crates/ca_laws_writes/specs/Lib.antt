@@ -1,0 +1,5 @@
+pub mod Both
+pub mod Once
+pub mod Agrees
+pub mod Lives
+pub mod Moves

@@ -1,0 +1,174 @@
+ghost use Rattle.std.specs.Prelude.{[], ◌≡◌, ◌<◌, ◌≤◌, ◌+◌, ◌++◌, ◌∷◌, ◌⊎◌, Bool, List, None, Option, Some, drop, false, filter, length, map, not, take, true, ℕ};
+ghost use Rattle.std.specs.Str.{bytes_eq};
+ghost use Rattle.ca_text.specs.Place.{At};
+ghost use Rattle.ca_arena.specs.declared.handle.Handle.{Handle};
+ghost use Rattle.ca_dbr.specs.declared.value.Meta.{Meta};
+ghost use Rattle.ca_text.specs.declared.command.Command.TheVariants.{WriteNotify};
+ghost use Rattle.ca_text.specs.declared.status.Status.{Status};
+ghost use Rattle.ca_dbr.specs.declared.value.Outcome.TheVariants.{Done, Failed};
+ghost use Rattle.ca_dbr.specs.Elements.{Elements, base_of};
+ghost use Rattle.ca_model.specs.Due.{Action, Applies, Due, Knows, Nothing};
+ghost use Rattle.ca_requests.specs.Meaning.{Means};
+ghost use Rattle.ca_records.specs.declared.puts.Put.{Put};
+ghost use Rattle.ca_records.specs.Puts.{Record, WaitingPut, finished, new_record, removed, with_record, with_value, with_waiting, withdrawn};
+ghost use Rattle.ca_records.specs.Record.{RecordState};
+ghost use Rattle.ca_wire.specs.Fields.{Fields};
+ghost use Rattle.ca_model.specs.Speech.{In, Is, Stored};
+ghost use Rattle.ca_model.specs.History.{Added, Applied, Entry, Finished, Posted, Sent, Waits, Withdrawn};
+ghost use Rattle.ca_model_safe.specs.Channels.{IsApplied, IsBusyUntil, IsDropped};
+ghost use Rattle.ca_model_world.specs.ServerEvents.{channel_withdrawals, ending, ends_at, finish_entry, first_of, is_of_channel, next_busy, next_entries, number_of, removal_entries, with_core, withdrawals, without_channel, without_puts};
+ghost use Rattle.ca_model_world.specs.ServerEvents as event;
+ghost use Rattle.ca_model_world.specs.World.{Joined, PutPlace, RecordSide, ServerSide, World, numbered, record_begun, told};
+ghost use Rattle.ca_laws_writes.specs.Agrees.{LoseAll, TestsAgree};
+ghost use Rattle.ca_laws_writes.specs.Lives.{AreLater, AreOpen, AreSlow, CameOn, EndsAgree, IsOfMessage, IsPutOf, IsWriting, Life, LogsOnce, LostOn, SaysSo};
+ghost use Rattle.ca_laws_writes.specs.Once.{IsUntold, MayTell, Once, write_in};
+
+/// A log has each write once, as long as each new entry may be told.
+pub fn a_log_has_each_write_once()
+    ensures begins { (circuits : List Joined) (life : ℕ)
+        → Once (CameOn circuits life) (LostOn circuits) [] }
+    ensures told { (circuits : List Joined) (life : ℕ) (y : List Entry) (e : Entry)
+        → Once (CameOn circuits life) (LostOn circuits) y
+        → MayTell (CameOn circuits life) (LostOn circuits) y e
+        → Once (CameOn circuits life) (LostOn circuits) (y ++ e ∷ []) }
+{}
+
+/// The records of a server are what the log of its life tells, whatever happens: a write is
+/// applied, a put makes its record busy or comes to wait, a busy put is finished and the next is
+/// applied, puts are withdrawn, values are posted, and records come and go.
+pub fn records_agree_with_their_log()
+    // A life begins, with records of different names.
+    ensures begins { (circuits : List Joined) (server life : ℕ) (states : List RecordState)
+        → ((i j : ℕ) (r s : RecordState) → At states i r → At states j s → r.name ≡ s.name
+        → i ≡ j)
+        → Life circuits server life (numbered 0 Added states) (map new_record states)
+        (numbered 0 record_begun states) (length states) }
+    // A write that the log does not tell of is applied, and makes its record busy or not.
+    ensures applied { (circuits : List Joined) (server life : ℕ) (y : List Entry)
+        (cs : List Record) (rs : List RecordSide) (n i : ℕ) (c : Record) (r : RecordSide)
+        (p : PutPlace) (v : Stored) → At cs i c → At rs i r → IsUntold y p
+        → CameOn circuits life p (length y) v.value → base_of v.value ≡ base_of c.state.value
+        → Life circuits server life y cs rs n
+        → Life circuits server life (y ++ Applied p.circuit p.place r.number v false ∷ [])
+        (with_record r.name (with_value v.value v.meta) cs) rs n }
+    ensures busied { (circuits : List Joined) (server life : ℕ) (y : List Entry)
+        (cs : List Record) (rs : List RecordSide) (n i : ℕ) (c : Record) (r : RecordSide)
+        (p : PutPlace) (b : Put) (v : Stored) → At cs i c → At rs i r → c.busy ≡ None
+        → IsUntold y p → CameOn circuits life p (length y) v.value
+        → base_of v.value ≡ base_of c.state.value → IsPutOf circuits server p b
+        → c.state.slow ≡ true → Life circuits server life y cs rs n
+        → Life circuits server life (y ++ Applied p.circuit p.place r.number v true ∷ [])
+        (with_record r.name
+        (λ (d : Record). record (with_value v.value v.meta d) { busy = Some b }) cs)
+        (event.with_record r.name (λ (q : RecordSide). record q { busy = Some p }) rs) n }
+    // A put comes to wait.
+    ensures waits { (circuits : List Joined) (server life : ℕ) (y : List Entry)
+        (cs : List Record) (rs : List RecordSide) (n i : ℕ) (c : Record) (r : RecordSide)
+        (p : PutPlace) (w : WaitingPut) (meta : Meta) → At cs i c → At rs i r
+        → base_of w.value ≡ base_of c.state.value → IsUntold y p
+        → CameOn circuits life p (length y) w.value → IsPutOf circuits server p w.put
+        → Life circuits server life y cs rs n
+        → Life circuits server life
+        (y ++ Waits p.circuit p.place r.number (record { value = w.value; meta = meta }) ∷ [])
+        (with_record r.name (with_waiting w) cs)
+        (event.with_record r.name
+        (λ (q : RecordSide). record q { waiting = q.waiting ++ p ∷ [] }) rs) n }
+    // The busy put is finished, and the next is applied, if one waits.
+    ensures finished { (circuits : List Joined) (server life : ℕ) (y : List Entry)
+        (side : ServerSide) (cs : List Record) (rs : List RecordSide) (n i : ℕ) (c : Record)
+        (r : RecordSide) (p : PutPlace) → At cs i c → At rs i r → r.busy ≡ Some p
+        → Life circuits server life y cs rs n
+        → Life circuits server life
+        (y ++ finish_entry p ∷ next_entries side r (first_of c.waiting) (first_of r.waiting))
+        (with_record r.name (λ (q : Record). finished side.core.stamp q q.waiting) cs)
+        (event.with_record r.name next_busy rs) n }
+    // Circuits end, or a channel is cleared: its waiting puts are withdrawn.
+    ensures gone { (circuits : List Joined) (server life : ℕ) (y : List Entry) (cs : List Record)
+        (rs : List RecordSide) (n : ℕ) (gone : ℕ → Bool) (lost : Put → Bool)
+        → TestsAgree (λ (p : PutPlace). gone p.circuit) lost cs rs
+        → LoseAll (LostOn circuits) (λ (p : PutPlace). gone p.circuit) y rs
+        → Life circuits server life y cs rs n
+        → Life circuits server life (y ++ withdrawals gone rs) (withdrawn lost cs)
+        (map (without_puts gone) rs) n }
+    ensures cleared { (circuits : List Joined) (server life : ℕ) (y : List Entry)
+        (cs : List Record) (rs : List RecordSide) (n : ℕ) (h : Handle) (sid : ℕ)
+        (which : PutPlace → Bool) → TestsAgree which (is_of_channel h sid) cs rs
+        → LoseAll (LostOn circuits) which y rs → Life circuits server life y cs rs n
+        → Life circuits server life (y ++ channel_withdrawals h sid cs rs)
+        (withdrawn (is_of_channel h sid) cs) (with_core (without_channel h sid) cs rs) n }
+    // A value is posted.
+    ensures posted { (circuits : List Joined) (server life : ℕ) (y : List Entry)
+        (cs : List Record) (rs : List RecordSide) (n i : ℕ) (c : Record) (r : RecordSide)
+        (mask : ℕ) (v : Stored) → At cs i c → At rs i r → base_of v.value ≡ base_of c.state.value
+        → Life circuits server life y cs rs n
+        → Life circuits server life (y ++ Posted r.number mask v ∷ [])
+        (with_record r.name (with_value v.value v.meta) cs) rs n }
+    // A record is removed, with the puts that wait for it; or one is added.
+    ensures removed { (circuits : List Joined) (server life : ℕ) (y : List Entry)
+        (cs : List Record) (rs : List RecordSide) (n i : ℕ) (r : RecordSide) → At rs i r
+        → Life circuits server life y cs rs n
+        → Life circuits server life (y ++ removal_entries r.name rs) (removed r.name cs)
+        (filter (λ (q : RecordSide). not (bytes_eq q.name r.name)) rs) n }
+    ensures added { (circuits : List Joined) (server life : ℕ) (y : List Entry)
+        (cs : List Record) (rs : List RecordSide) (n : ℕ) (s : RecordState) (behind : ℕ)
+        → ((i : ℕ) (r : RecordSide) → At rs i r → r.name ≡ s.name → ⊥)
+        → Life circuits server life y cs rs n
+        → Life circuits server life (y ++ Added n s ∷ [])
+        (take behind cs ++ new_record s ∷ drop behind cs)
+        (take behind rs ++ record_begun n s ∷ drop behind rs) (n + 1) }
+    // Nothing happens but that circuits go on.
+    ensures later { (old new : List Joined) (server life : ℕ) (y : List Entry)
+        (cs : List Record) (rs : List RecordSide) (n : ℕ) → AreLater old new
+        → Life old server life y cs rs n → Life new server life y cs rs n }
+    // The number by which an event tells of a record is that of the one that has the name.
+    ensures numbers { (circuits : List Joined) (server life : ℕ) (y : List Entry)
+        (cs : List Record) (rs : List RecordSide) (n i : ℕ) (r : RecordSide) → At rs i r
+        → Life circuits server life y cs rs n → number_of r.name rs ≡ r.number }
+{}
+
+/// Where the log of each life has each write once, no write is applied twice, in all lives of all
+/// servers; each has the value of its own message; a put that waits is dropped only with its
+/// record, its channel or its circuit; and a record finishes one put at a time, each once.
+pub fn no_write_is_applied_twice()
+    ensures once { (w : World) → LogsOnce w → (n k l m i j r q : ℕ) (v u : Stored)
+        → IsApplied (told w) n k l i r v → IsApplied (told w) n k m j q u → (l ≡ m) × (i ≡ j) }
+    ensures own { (w : World) → LogsOnce w → (n k l i r : ℕ) (v : Stored)
+        → IsApplied (told w) n k l i r v → IsOfMessage w n k l i r v }
+    ensures dropped { (w : World) → LogsOnce w → (n k l i : ℕ) (y : List Entry)
+        → At w.server_logs l y → At y i (Withdrawn n k) → IsDropped (told w) n k l i y }
+    ensures finished { (w : World) → LogsOnce w → (n k l e : ℕ) (y : List Entry)
+        → At w.server_logs l y → At y e (Finished n k)
+        → IsBusyUntil y n k e × ((f : ℕ) → At y f (Finished n k) → e ≡ f) }
+{}
+
+/// Ends of a server's circuits end, in whatever event: the puts that wait there are withdrawn, and
+/// records and log agree again. A put that waits came on a circuit whose end is open.
+pub fn ends_of_circuits_withdraw_puts()
+    ensures { (circuits : List Joined) (server life : ℕ) (y : List Entry) (cs : List Record)
+        (rs : List RecordSide) (n : ℕ) (ends : Joined → Option (List ℕ)) (lost : Put → Bool)
+        → AreOpen circuits rs → EndsAgree circuits server ends lost
+        → Life circuits server life y cs rs n
+        → Life (map (ending ends) circuits) server life
+        (y ++ withdrawals (ends_at ends circuits) rs) (withdrawn lost cs)
+        (map (without_puts (ends_at ends circuits)) rs) n
+        × AreOpen (map (ending ends) circuits) (map (without_puts (ends_at ends circuits)) rs) }
+{}
+
+/// What is due for a write says what is done: a put that is told Done at once is applied, and a
+/// write that is told Failed does nothing.
+pub fn due_replies_say_what_is_done()
+    ensures done { (k : Knows) (m : Fields) (replies : List Fields) (action : Action) (r : Fields)
+        → AreSlow k → Due k m replies action → Is WriteNotify m → In replies r → Means r Done
+        → (name : List ℕ) × (value : Elements) × (action ≡ Applies name value false) }
+    ensures failed { (k : Knows) (m : Fields) (replies : List Fields) (action : Action)
+        (r : Fields) (s : Status) → Due k m replies action → IsWriting m → In replies r
+        → Means r (Failed s) → action ≡ Nothing }
+{}
+
+/// What a reply says of a write stays so as the log grows, if each new entry about that write comes
+/// after another.
+pub fn what_a_reply_says_stays_so()
+    ensures { (y : List Entry) (p : PutPlace) (s : Sent) (m : Fields) (e : Entry)
+        → (write_in e ≡ Some p → (f : Entry) × In y f × (write_in f ≡ Some p)) → SaysSo y p s m
+        → SaysSo (y ++ e ∷ []) p s m }
+{}

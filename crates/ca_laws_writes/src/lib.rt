@@ -1,0 +1,10 @@
+//! Laws of writes: the records of a server beside the log of its life, in which each write is
+//! applied once and as it came.
+#![tactic(auto)]
+
+mod laws;
+
+pub use laws::{
+    a_log_has_each_write_once, due_replies_say_what_is_done, ends_of_circuits_withdraw_puts,
+    no_write_is_applied_twice, records_agree_with_their_log, what_a_reply_says_stays_so,
+};
