@@ -1,4 +1,4 @@
-ghost use Rattle.std.specs.Prelude.{◌≡◌, ◌↔◌, [], IsTrue, MatchOption, None, Some, is_some};
+ghost use Rattle.std.specs.Prelude.{◌≡◌, ◌↔◌, [], IsTrue, MatchOption, None, Some, is_some, true};
 ghost use Rattle.ca_records.specs.Puts.{record_named, waiting_in};
 ghost use Rattle.ca_records.specs.Rules.{rights};
 ghost use Rattle.ca_records.specs.Store.{Finds, HasAt, IsThere, records_of};
@@ -73,6 +73,27 @@ impl ServedRecords {
             (λ place. Finds self.now name.now place) }
     {
         self.places.get(name).copied()
+    }
+
+    /// The place of the record of this name, which is looked for at this place first.
+    pub fn find_near(&self, place: usize, name: &[u8]) -> Option<usize>
+        ensures { MatchOption result (record_named (records_of self.now) name.now ≡ None)
+            (λ place. Finds self.now name.now place) }
+    {
+        if self.is_named(place, name) {
+            return Some(place);
+        }
+        self.find(name)
+    }
+
+    // Whether the record at this place has this name.
+    fn is_named(&self, place: usize, name: &[u8]) -> bool
+        ensures { result ≡ true → Finds self.now name.now place }
+    {
+        match self.slots.get(place) {
+            Some(Slot::Full(served)) => served.state().name() == name,
+            _ => false,
+        }
     }
 
     /// Whether some record has this name.

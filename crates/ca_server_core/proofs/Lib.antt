@@ -1,0 +1,13 @@
+pub mod Tables
+pub mod Indexes
+pub mod Known
+pub mod Replying
+pub mod Types
+pub mod Shows
+pub mod Created
+pub mod Dues
+pub mod Taken
+pub mod Handled
+pub mod Cleared
+pub mod Subscribes
+pub mod Givens

@@ -1,0 +1,64 @@
+ghost use Rattle.std.specs.Prelude.{◌≡◌, false};
+
+use ca_wire::Cid;
+use std::marker::Model;
+
+/// An open channel of a circuit.
+#[derive(Debug, Drop)]
+pub(crate) struct Channel {
+    cid: Cid,
+    // The name of its record.
+    name: Vec<u8>,
+    // Where its record was as the channel was created. The record is mostly there still; its name decides.
+    place: usize,
+    // Its record was removed.
+    retired: bool,
+}
+
+impl Model for Channel {
+    ghost use Rattle.ca_model.specs.Server.{OpenChannel};
+
+    ghost Value = { OpenChannel };
+
+    ghost view = { λ c. record { cid = c.cid; name = c.name.items; retired = c.retired } };
+}
+
+impl Channel {
+    // A channel to the record of this name, which is at this place.
+    pub(crate) fn new(cid: Cid, name: Vec<u8>, place: usize) -> Channel
+        ensures { result ≡ record { cid = cid; name = name.items; retired = false } }
+    {
+        Channel {
+            cid,
+            name,
+            place,
+            retired: false,
+        }
+    }
+
+    // Its id at the client.
+    pub(crate) fn cid(&self) -> Cid
+        ensures { result ≡ self.now.cid }
+    {
+        self.cid
+    }
+
+    // The name of its record.
+    pub(crate) fn name(&self) -> &[u8]
+        ensures { result.now ≡ self.now.name }
+    {
+        &self.name
+    }
+
+    // Where its record was. It promises nothing.
+    pub(crate) fn place(&self) -> usize {
+        self.place
+    }
+
+    // Whether its record was removed.
+    pub(crate) fn is_retired(&self) -> bool
+        ensures { result ≡ self.now.retired }
+    {
+        self.retired
+    }
+}

@@ -1,0 +1,21 @@
+ghost use Rattle.std.specs.Prelude.{◌≡◌, OnOk, [], ◌∷◌};
+ghost use Rattle.ca_text.specs.declared.command.Command.TheVariants.{Echo};
+ghost use Rattle.ca_link.specs.Calls.{IsOpen};
+ghost use Rattle.ca_wire.specs.Messages.{bare};
+ghost use Rattle.ca_server_core.specs.Handling.{replied};
+
+use crate::end::{End, send};
+use ca_text::Command;
+use ca_wire::bare;
+use std::alloc::AllocError;
+
+impl End {
+    /// ECHO: sent back.
+    pub(crate) fn echo(&mut self) -> Result<(), AllocError>
+        requires { IsOpen self.old.link }
+        ensures { OnOk result (self.new ≡ replied (bare Echo ∷ []) self.old) }
+    {
+        send(&mut self.link, &bare(self.alloc, Command::Echo))?;
+        Ok(())
+    }
+}

@@ -1,0 +1,90 @@
+ghost use Rattle.std.specs.Prelude.{◌≡◌, IfOk, OnErr, OnOk, [], ◌∷◌};
+ghost use Rattle.ca_link.specs.Calls.{IsOpen};
+ghost use Rattle.ca_link.specs.Link.{with_sent};
+ghost use Rattle.ca_model.specs.Server.{new_end};
+ghost use Rattle.ca_wire.specs.Messages.{text_in};
+
+use crate::channels::Channels;
+use ca_link::Link;
+use ca_wire::Message;
+use std::alloc::{AllocError, Global};
+use std::marker::Model;
+
+/// An open end of a circuit.
+#[derive(Drop)]
+pub(crate) struct End {
+    pub(crate) alloc: Global,
+    pub(crate) link: Link,
+    // Whether the peer sent a VERSION.
+    pub(crate) greeted: bool,
+    // How the peer named itself.
+    pub(crate) user: Vec<u8>,
+    pub(crate) host: Vec<u8>,
+    // Whether a channel was created, so that the names count for good.
+    pub(crate) settled: bool,
+    pub(crate) channels: Channels,
+    // Whether the peer wants updates.
+    pub(crate) events_on: bool,
+}
+
+impl Model for End {
+    ghost use Rattle.std.specs.Prelude.{[]};
+    ghost use Rattle.ca_model.specs.Server.{ServerEnd};
+
+    ghost Value = { ServerEnd };
+
+    ghost use Rattle.ca_server_core.specs.Handling.{idle_queues};
+
+    ghost view = { λ e.
+        record {
+          link = e.link;
+          greeted = e.greeted;
+          peer = record { user = e.user.items; host = e.host.items };
+          settled = e.settled;
+          channels = e.channels;
+          subscriptions = [];
+          queues = idle_queues e.events_on;
+        } };
+}
+
+impl End {
+    /// The end of a circuit that was accepted at this moment. It takes no memory yet.
+    pub(crate) fn new(alloc: Global, now: u64) -> End
+        ensures { result ≡ new_end now }
+    {
+        End {
+            alloc,
+            link: Link::new(alloc, now),
+            greeted: false,
+            user: Vec::new(alloc),
+            host: Vec::new(alloc),
+            settled: false,
+            channels: Channels::new(alloc),
+            events_on: true,
+        }
+    }
+}
+
+/// Puts a message after what waits on an open link. Want of memory leaves the link as it was.
+pub(crate) fn send(link: &mut Link, message: &Message) -> Result<(), AllocError>
+    requires { IsOpen link.old }
+    ensures ok { OnOk result (link.new ≡ with_sent (message.now ∷ []) link.old) }
+    ensures err { OnErr result (link.new ≡ link.old) }
+{
+    match link.queue_own(message) {
+        Ok(()) => Ok(()),
+        Err(_) => Err(AllocError),
+    }
+}
+
+/// The text of a message, in a Vec of its own. An empty text takes no memory.
+pub(crate) fn text_of(alloc: Global, message: &Message) -> Result<Vec<u8>, AllocError>
+    ensures ok { IfOk result (λ v. v.items ≡ text_in message.now.payload) }
+    ensures err { OnErr result (text_in message.now.payload ≡ [] → ⊥) }
+{
+    let text = message.text();
+    if text.is_empty() {
+        return Ok(Vec::new(alloc));
+    }
+    Vec::from_slice(alloc, text)
+}

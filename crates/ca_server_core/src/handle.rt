@@ -1,0 +1,92 @@
+ghost use Rattle.std.specs.Prelude.{◌≡◌, IfOk, OnErr};
+ghost use Rattle.ca_link.specs.Calls.{IsOpen};
+ghost use Rattle.ca_records.specs.Store.{records_of};
+ghost use Rattle.ca_model.specs.Due.{Due};
+ghost use Rattle.ca_server_core.specs.Clearing.{ArePuts};
+ghost use Rattle.ca_server_core.specs.Handling.{AreServed, Does, MayLack, known};
+
+use crate::end::End;
+use ca_arena::Handle;
+use ca_records::ServedRecords;
+use ca_text::Command;
+use ca_wire::Message;
+use std::alloc::AllocError;
+
+impl End {
+    /// Handles one message of this circuit, at a server of this TCP port, and says whether a write was applied.
+    ///
+    /// If there is no memory for it the records are as they were, and the end is to be closed.
+    pub(crate) fn handle(
+        &mut self,
+        port: u16,
+        circuit: Handle,
+        records: &mut ServedRecords,
+        message: &Message,
+    ) -> Result<bool, AllocError>
+        requires open { IsOpen self.old.link }
+        requires served { AreServed (records_of records.old) self.old.channels }
+        requires puts { ArePuts circuit (records_of records.old) self.old.channels }
+        ensures ok { IfOk result (λ writes.
+            Does (Due (known port records.old self.old) message.now) records.old circuit self.old
+            message.now writes records.new self.new) }
+        ensures err { OnErr result (records.new ≡ records.old) }
+        ensures memory { OnErr result (MayLack (known port records.old self.old) message.now) }
+    {
+        let Some(command) = Command::of(message.command()) else {
+            return Ok(false);
+        };
+        match command {
+            Command::Write => self.write(records, message),
+            Command::WriteNotify => self.write_notify(circuit, records, message),
+            Command::Version => {
+                self.version()?;
+                Ok(false)
+            }
+            Command::ClientName => {
+                self.client_name(message)?;
+                Ok(false)
+            }
+            Command::HostName => {
+                self.host_name(message)?;
+                Ok(false)
+            }
+            Command::Echo => {
+                self.echo()?;
+                Ok(false)
+            }
+            Command::Search => {
+                self.search(port, records, message)?;
+                Ok(false)
+            }
+            Command::CreateChannel => {
+                self.create(records, message)?;
+                Ok(false)
+            }
+            Command::ClearChannel => {
+                self.clear(circuit, records, message)?;
+                Ok(false)
+            }
+            Command::ReadNotify => {
+                self.read(records, message)?;
+                Ok(false)
+            }
+            Command::EventAdd => {
+                self.subscribe(records, message)?;
+                Ok(false)
+            }
+            Command::EventCancel => {
+                self.cancel(message)?;
+                Ok(false)
+            }
+            Command::EventsOff => {
+                self.switch_events(false);
+                Ok(false)
+            }
+            Command::EventsOn => {
+                self.switch_events(true);
+                Ok(false)
+            }
+            _ => Ok(false),
+        }
+    }
+}

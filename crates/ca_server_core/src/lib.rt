@@ -1,0 +1,26 @@
+//! A server of Channel Access: its records, and its ends of circuits. It does no input and no output: bytes that came are
+//! given to it, and those that wait to be sent are asked of it.
+//!
+//! Subscriptions are not there yet: an EVENT_ADD without a fault closes its circuit as if there was no memory for it. No
+//! program uses this crate before that is mended.
+#![tactic(auto)]
+
+mod cause;
+mod channel;
+mod channels;
+mod clear;
+mod create;
+mod echo;
+mod end;
+mod events;
+mod handle;
+mod names;
+mod put;
+mod read;
+mod search;
+mod seek;
+mod version;
+mod write;
+mod write_notify;
+
+pub use cause::Cause;
