@@ -1,3 +1,4 @@
 pub mod Openings
 pub mod Circuits
 pub mod Cancelling
+pub mod Wanting

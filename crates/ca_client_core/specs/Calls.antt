@@ -1,11 +1,14 @@
 -- Working: parts of what the calls of a client's user answer and leave. No clause of a caller needs it.
-use Rattle.std.specs.Prelude.{ℕ, ◌≡◌, [], ◌∷◌, true, false, Result, Ok, Err}
+use Rattle.std.specs.Prelude.{ℕ, ◌≡◌, Bool, [], ◌∷◌, true, false, not, Option, Result, Ok, Err, is_none, nat_lt, option_and_then}
 use Rattle.ca_text.specs.declared.refusal.Refusal.{Refusal}
 use Rattle.ca_text.specs.declared.refusal.Refusal.TheVariants as refusal
 use Rattle.ca_arena.specs.declared.handle.Handle.{Handle}
 use Rattle.ca_monitor.specs.Subscriptions.{Cancelled, Subscription, with_stage}
-use Rattle.ca_model.specs.Client.{Client, sending}
-use Rattle.ca_model.specs.ClientCalls.{event_cancel_sent, is_over}
+use Rattle.ca_ids.specs.Table.{Table, under}
+use Rattle.ca_model.specs.Client.{Client, ClientCircuit, sending}
+use Rattle.ca_records.specs.Rules.{may_read}
+use Rattle.ca_model.specs.ClientCalls.{Shape, WantedCircuit, event_cancel_sent, first_refusal, is_over, wanted_as}
+use Rattle.ca_model.specs.Faults.{type_of}
 
 -- A subscription is cancelled on this circuit, under this SID: its EVENT_CANCEL goes out, and its id drains.
 abbrev pub CancelsOn : Client → Handle → Subscription → Handle → ℕ → Result (Unit {0}) Refusal → Client → Type 0
@@ -15,3 +18,17 @@ CancelsOn old s d c sid (Ok _) new =
 CancelsOn old s d c sid (Err refusal.OutputFull) new = (is_over old c ≡ true) × (new ≡ old)
 CancelsOn old s d c sid (Err refusal.OutOfMemory) new = (is_over old c ≡ false) × (new ≡ old)
 CancelsOn old s d c sid (Err _) new = ⊥
+
+-- why a read or a subscription on a live channel is refused
+abbrev pub live_ask_fault : Client → (full : Bool) → Handle → (greatest rights : ℕ) → Shape → Option Refusal
+live_ask_fault x full c greatest rights a =
+    first_refusal ((is_none (type_of a.data_type), refusal.BadType)
+    ∷ (not (may_read rights), refusal.NoAccess)
+    ∷ (nat_lt greatest a.count, refusal.BadCount)
+    ∷ (is_over x c, refusal.OutputFull)
+    ∷ (full, refusal.ArenaFull)
+    ∷ [])
+
+-- the circuit of this handle, if it is wanted and not connected
+abbrev pub wanted_at : Table ClientCircuit → Handle → Option WantedCircuit
+wanted_at t c = option_and_then (wanted_as c) (under t c)

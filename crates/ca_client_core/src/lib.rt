@@ -3,6 +3,7 @@
 //! A caller moves the bytes, and gives the moment. What is reported comes as answers of the calls.
 #![tactic(auto)]
 
+mod asking;
 mod channel;
 mod channel_state;
 mod circuit;
@@ -13,7 +14,9 @@ mod opening;
 mod output;
 mod queue;
 mod unsubscribing;
+mod wanted;
 
 pub use channel_state::ChannelState;
 pub use client::ClientCore;
 pub use ends::Address;
+pub use wanted::WantedCircuit;
