@@ -14,7 +14,6 @@ use Rattle.ca_records.specs.Puts.{Record, WaitingPut, with_record, without_puts,
 use Rattle.ca_records.specs.Store.{Store, records_of}
 use Rattle.ca_records.specs.Writes.{is_of}
 use Rattle.ca_records.specs.Writes as writes
-use Rattle.ca_records.proofs.Waiters.{true_or_false}
 use Rattle.ca_model.specs.Server.{OpenChannel, ServerEnd}
 use Rattle.ca_server_core.specs.declared.seek.Seat.{Seat}
 use Rattle.ca_server_core.specs.Clearing.{ArePuts, Withdraws, is_on}
@@ -156,9 +155,9 @@ withdraws-stray h s e sid cid few puts is =
     both b x y = cc
 
     apart : (g : Handle) (v : OpenChannel) → under e.channels g ≡ Some v → v.retired ≡ false → wire_of g ≡ sid → IsStray e sid cid → ⊥
-    apart g v here open same (inl none) =
+    apart g v here live same (inl none) =
         none-some (g, v) (sym none.0 ∙ subst (λ (n : ℕ). by_wire e.channels n ≡ Some (g, v)) same (under-wire e.channels g v few here))
-    apart g v here open same (inr r) =
+    apart g v here live same (inr r) =
         let found : by_wire e.channels sid ≡ Some (g, v) = subst (λ (n : ℕ). by_wire e.channels n ≡ Some (g, v)) same (under-wire e.channels g v few here) in
         let one : r.0 ≡ (g, v) = some_is r.0 (g, v) (sym r.1 ∙ found) in
-        both v.retired (sym (ap (λ (x : Handle × OpenChannel). x.1.retired) one) ∙ r.2) open
+        both v.retired (sym (ap (λ (x : Handle × OpenChannel). x.1.retired) one) ∙ r.2) live

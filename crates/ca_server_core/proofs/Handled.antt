@@ -1,5 +1,9 @@
 -- What a message of each command comes to.
 use Rattle.std.proofs.Common.{◌≡◌, ◌≢◌, ℕ, ◌⊎◌, inl, inr, ◌==◌, Bool, true, false, List, [], ◌∷◌, if◌then◌else◌, refl, sym, ap, ◌∙◌, subst}
+use Rattle.std.specs.Prelude.{All}
+use Rattle.std.proofs.lemmas.Bool.{ne_eqb}
+use Rattle.std.proofs.lemmas.List.Elements.{All-cons, All-nil}
+use Rattle.std.proofs.lemmas.List.Folds.{list_any_none}
 use Rattle.ca_text.specs.Command.{command_number}
 use Rattle.ca_text.specs.declared.command.Command.{Command}
 use Rattle.ca_text.specs.declared.command.Command.TheVariants as command
@@ -201,3 +205,43 @@ module _ (port : ℕ) (s : Store) (h : Handle) (e : ServerEnd) (m : Fields) wher
     fits = tt;
     leaves = sym (replied-none e);
   }
+
+-- a number that is no command's
+all-of : {A : Type 0} (P : A → Type 0) → ((x : A) → P x) → (xs : List A) → All P xs
+all-of P each [] = All-nil P
+all-of P each (x ∷ xs) = All-cons P x xs (each x) (all-of P each xs)
+
+abbrev commands : List Command
+commands = command.Version ∷ command.EventAdd ∷ command.EventCancel ∷ command.Write ∷ command.Search ∷ command.EventsOff ∷ command.EventsOn ∷ command.ClearChannel ∷ command.ReadNotify ∷ command.CreateChannel ∷ command.WriteNotify ∷ command.ClientName ∷ command.HostName ∷ command.Echo ∷ []
+
+pub not-a-command : (n : ℕ) → ((c : Command) → command_number c ≡ n → ⊥) → is_known n ≡ false
+not-a-command n none =
+    list_any_none (λ (c : Command). n == command_number c) commands (all-of (λ (c : Command). (n == command_number c) ≡ false) (λ c. ne_eqb n (command_number c) (λ e. none c (sym e))) commands)
+
+-- a command that a server does not act on
+pub other-command : (n : ℕ) (c : Command) → n ≡ command_number c → (c ≡ command.Version → ⊥) → (c ≡ command.EventAdd → ⊥) → (c ≡ command.EventCancel → ⊥) → (c ≡ command.Write → ⊥) → (c ≡ command.Search → ⊥) → (c ≡ command.EventsOff → ⊥) → (c ≡ command.EventsOn → ⊥) → (c ≡ command.ClearChannel → ⊥) → (c ≡ command.ReadNotify → ⊥) → (c ≡ command.CreateChannel → ⊥) → (c ≡ command.WriteNotify → ⊥) → (c ≡ command.ClientName → ⊥) → (c ≡ command.HostName → ⊥) → (c ≡ command.Echo → ⊥) → is_known n ≡ false
+other-command n c is n0 n1 n2 n3 n4 n5 n6 n7 n8 n9 n10 n11 n12 n13 = ap is_known is ∙ by c refl
+  where
+    by : (d : Command) → c ≡ d → is_known (command_number d) ≡ false
+    by command.Version e = absurd (n0 e)
+    by command.EventAdd e = absurd (n1 e)
+    by command.EventCancel e = absurd (n2 e)
+    by command.Write e = absurd (n3 e)
+    by command.Search e = absurd (n4 e)
+    by command.EventsOff e = absurd (n5 e)
+    by command.EventsOn e = absurd (n6 e)
+    by command.ClearChannel e = absurd (n7 e)
+    by command.ReadNotify e = absurd (n8 e)
+    by command.CreateChannel e = absurd (n9 e)
+    by command.WriteNotify e = absurd (n10 e)
+    by command.ClientName e = absurd (n11 e)
+    by command.HostName e = absurd (n12 e)
+    by command.Echo e = absurd (n13 e)
+    by command.Error e = refl
+    by command.RsrvIsUp e = refl
+    by command.NotFound e = refl
+    by command.RepeaterConfirm e = refl
+    by command.AccessRights e = refl
+    by command.RepeaterRegister e = refl
+    by command.CreateChannelFail e = refl
+    by command.ServerDisconnect e = refl

@@ -1,17 +1,25 @@
 -- What is due for a message on a channel, by what was found of its SID.
 use Rattle.std.proofs.Common.{◌≡◌, ℕ, ◌⊎◌, inl, inr, List, [], ◌∷◌, Option, Some, None, Result, Ok, Err, refl, sym, ap, ◌∙◌, subst}
-use Rattle.std.specs.Prelude.{OnOk}
+use Rattle.std.specs.Prelude.{OnOk, false, length, map, take}
+use Rattle.std.proofs.lemmas.List.{take_at}
+use Rattle.ca_text.proofs.Places.{At-one, some_is}
+use Rattle.ca_queue.specs.declared.entry.SubKey.{SubKey}
+use Rattle.ca_queue.specs.Keys.{is_among}
+use Rattle.ca_records.specs.Puts.{Record}
+use Rattle.ca_records.specs.Record.{RecordState}
+use Rattle.ca_wire.specs.Message.{spelled}
+use Rattle.ca_model.specs.Faults.{subscription_fault, type_of}
 use Rattle.ca_link.specs.Link.{LinkState, with_sent}
 use Rattle.ca_arena.specs.declared.handle.Handle.{Handle}
 use Rattle.ca_text.specs.Status.{bad_channel}
 use Rattle.ca_wire.specs.Fields.{Fields}
 use Rattle.ca_wire.specs.Messages.{error_reply, status_reply}
 use Rattle.ca_records.specs.Rules.{rights}
-use Rattle.ca_records.specs.Store.{Store}
-use Rattle.ca_model.specs.Due.{Action, Nothing, ReadDue, StrayDue}
-use Rattle.ca_model.specs.Server.{ServerEnd}
+use Rattle.ca_records.specs.Store.{HasAt, Store}
+use Rattle.ca_model.specs.Due.{Action, Nothing, ReadDue, StrayDue, fault_of_event, key_in}
+use Rattle.ca_model.specs.Server.{ServerEnd, Subscription, key_of}
 use Rattle.ca_server_core.specs.declared.seek.Seat.{Seat}
-use Rattle.ca_server_core.specs.Handling.{Reads, Replies, known, replied}
+use Rattle.ca_server_core.specs.Handling.{Reads, Replies, Subscribes, known, replied}
 use Rattle.ca_server_core.specs.Seeking.{IsServed, IsStray}
 use Rattle.ca_server_core.specs.Showing.{AnswersRead}
 use Rattle.ca_server_core.proofs.Known.{serves, stray}
@@ -37,15 +45,56 @@ stray-read port s e new m cid is done = record {
   leaves = done;
 }
 
-pub served-read : (port : ℕ) (s : Store) (e new : ServerEnd) (m reply : Fields) (seat : Seat) (i : IsServed s e m.p1 seat) → AnswersRead i.r.state (rights s.rules e.peer.user e.peer.host i.r.state.name) m reply → new ≡ replied (reply ∷ []) e → Replies (Reads (known port s e) m) e new
-served-read port s e new m reply seat i answers done =
-    let at : AnswersRead i.r.state (rights s.rules e.peer.user e.peer.host i.channel.name) m reply = subst (λ (name : List ℕ). AnswersRead i.r.state (rights s.rules e.peer.user e.peer.host name) m reply) i.named answers in
-    record {
-      replies = reply ∷ [];
-      due = inl (by at);
-      leaves = done;
-    }
+pub served-read : (port : ℕ) (s : Store) (e new : ServerEnd) (m reply : Fields) (seat : Seat) (i : IsServed s e m.p1 seat) → AnswersRead i.r.state (rights s.rules e.peer.user e.peer.host i.channel.name) m reply → new ≡ replied (reply ∷ []) e → Replies (Reads (known port s e) m) e new
+served-read port s e new m reply seat i answers done = record {
+  replies = reply ∷ [];
+  due = inl (by answers);
+  leaves = done;
+}
   where
     by : AnswersRead i.r.state (rights s.rules e.peer.user e.peer.host i.channel.name) m reply → ReadDue (known port s e) m (reply ∷ []) Nothing
     by (inl h) = (serves port s e m.p1 seat i, refl, inl (h.0, h.1, ap (λ (x : Fields). x ∷ []) h.2))
     by (inr h) = (serves port s e m.p1 seat i, refl, inr (h.0, (h.1.0, h.1.1, h.1.2, h.1.3, ap (λ (x : Fields). x ∷ []) h.1.4)))
+
+-- the rights on the record of a channel
+pub right-is : (s : Store) (e v : ServerEnd) (sid : ℕ) (seat : Seat) (i : IsServed s e sid seat) (bits : ℕ) (user host name : List ℕ) (q : Record) (state : RecordState) → v ≡ e → user ≡ v.peer.user → host ≡ v.peer.host → HasAt s seat.place q → state ≡ q.state → name ≡ state.name → bits ≡ rights s.rules user host name → bits ≡ rights s.rules e.peer.user e.peer.host i.channel.name
+right-is s e v sid seat i bits user host name q state is u h at st n b =
+    let one : q ≡ i.r = some_is q i.r (At-one s.slots seat.place (Some q) (Some i.r) at i.at) in
+    let named : name ≡ i.channel.name = n ∙ ap (λ (x : RecordState). x.name) st ∙ ap (λ (x : Record). x.state.name) one ∙ i.named in
+    b
+    ∙ ap (λ (x : List ℕ). rights s.rules x host name) (u ∙ ap (λ (x : ServerEnd). x.peer.user) is)
+    ∙ ap (λ (x : List ℕ). rights s.rules e.peer.user x name) (h ∙ ap (λ (x : ServerEnd). x.peer.host) is)
+    ∙ ap (λ (x : List ℕ). rights s.rules e.peer.user e.peer.host x) named
+
+-- the record at the place of a channel is the one that it is served
+pub state-is : (s : Store) (e : ServerEnd) (sid : ℕ) (seat : Seat) (i : IsServed s e sid seat) (q : Record) (state : RecordState) → HasAt s seat.place q → state ≡ q.state → state ≡ i.r.state
+state-is s e sid seat i q state at st =
+    st ∙ ap (λ (x : Record). x.state) (some_is q i.r (At-one s.slots seat.place (Some q) (Some i.r) at i.at))
+
+-- what was queued first is taken back, and this goes out in its place
+pub undone : (v e : ServerEnd) (ms : List Fields) (n : ℕ) (cut last : LinkState) (reply : Fields) → v ≡ replied ms e → n ≡ length e.link.output → (let l : LinkState = record v.link { output = take n v.link.output } in cut ≡ l) → last ≡ with_sent (reply ∷ []) cut → (let new : ServerEnd = record v { link = last } in new) ≡ replied (reply ∷ []) e
+undone v e ms n cut last reply was all is sent =
+    let back : cut ≡ e.link =
+    is ∙ ap (λ (x : ServerEnd). let l : LinkState = record x.link { output = take n x.link.output } in l) was ∙ ap (λ (o : List ℕ). let l : LinkState = record e.link { output = o } in l) (take_at e.link.output (spelled ms) n (sym all)) in
+    let link : last ≡ with_sent (reply ∷ []) e.link = sent ∙ ap (λ (l : LinkState). with_sent (reply ∷ []) l) back in
+    ap (λ (x : ServerEnd). let new : ServerEnd = record x { link = last } in new) was ∙ ap (λ (l : LinkState). let new : ServerEnd = record e { link = l } in new) link
+
+-- EVENT_ADD
+pub stray-event : (port : ℕ) (s : Store) (e new : ServerEnd) (m : Fields) (cid : ℕ) → IsStray e m.p1 cid → new ≡ replied (error_reply cid bad_channel m ∷ []) e → Replies (Subscribes (known port s e) m) e new
+stray-event port s e new m cid is done = record {
+  replies = error_reply cid bad_channel m ∷ [];
+  due = inr (stray-due port s e m cid (λ c. error_reply c bad_channel m) is);
+  leaves = done;
+}
+
+pub refused-event : (port : ℕ) (s : Store) (e new : ServerEnd) (m : Fields) (seat : Seat) (i : IsServed s e m.p1 seat) (bits status : ℕ) → e.subscriptions ≡ [] → bits ≡ rights s.rules e.peer.user e.peer.host i.channel.name → subscription_fault i.r.state bits false 0 m (type_of m.data_type) ≡ Some status → new ≡ replied (error_reply seat.cid status m ∷ []) e → Replies (Subscribes (known port s e) m) e new
+refused-event port s e new m seat i bits status none right fault done =
+    let keys : map key_of e.subscriptions ≡ [] = ap (λ (ss : List Subscription). map key_of ss) none in
+    let same : fault_of_event (known port s e) m (serves port s e m.p1 seat i) ≡ subscription_fault i.r.state bits false 0 m (type_of m.data_type) =
+    ap (λ (ks : List SubKey). subscription_fault i.r.state (rights s.rules e.peer.user e.peer.host i.channel.name) (is_among (key_in m) ks) (length ks) m (type_of m.data_type)) keys
+    ∙ ap (λ (n : ℕ). subscription_fault i.r.state n false 0 m (type_of m.data_type)) (sym right) in
+    record {
+      replies = error_reply i.channel.cid status m ∷ [];
+      due = inl (serves port s e m.p1 seat i, inl (status, same ∙ fault, refl, refl));
+      leaves = done ∙ ap (λ (cid : ℕ). replied (error_reply cid status m ∷ []) e) (sym i.cid);
+    }

@@ -89,7 +89,7 @@ module _ (r : RecordState) (rights : ℕ) (m : Fields) where
 
   -- ---- what is too much
 
-  over-count : (t : DataType) (n : ℕ) → r.count < n → too_many r t n ≡ true
+  pub over-count : (t : DataType) (n : ℕ) → r.count < n → too_many r t n ≡ true
   over-count t n over = ap (λ (b : Bool). b || nat_lt payload_limit (size_of_image t n)) (lt-ltb r.count n over)
 
   or-true : (b : Bool) → (b || true) ≡ true

@@ -32,6 +32,10 @@ use Rattle.ca_server_core.proofs.Replying.{stray-due}
 pub replied-none : (e : ServerEnd) → replied [] e ≡ e
 replied-none e = ap (λ (o : List ℕ). let new : ServerEnd = record e { link = record e.link { output = o } } in new) (append-nil e.link.output)
 
+-- what was done is done if the records are these
+pub with-store : (D : List Fields → Action → Type 0) (s t : Store) (h : Handle) (e new : ServerEnd) (m : Fields) (w : Bool) → t ≡ s → Does D s h e m w s new → Does D s h e m w t new
+with-store D s t h e new m w same d = subst (λ (x : Store). Does D s h e m w x new) (sym same) d
+
 -- a place has one record
 pub one-record : (s : Store) (place : ℕ) (a b : Record) → HasAt s place a → HasAt s place b → a ≡ b
 one-record s place a b at at' = some_is a b (At-one s.slots place (Some a) (Some b) at at')
@@ -179,12 +183,15 @@ put-applied port s t h e new m seat i bits true next right is taken becomes done
     record {
       replies = late i.r.state.slow m;
       action = Applies i.channel.name taken.v true;
-      due = inl (serves port s e m.p1 seat i, inr (
-        taken.v,
-        taken-as port s e m seat i bits (Some (put_in h seat m)) right (is-notify m is) (begun.Applied true) next taken,
-        refl,
-        sym (ap (λ (w : Bool). act i.channel.name taken.v w i.r.state.slow) wait ∙ ap (λ (w : Bool). Applies i.channel.name taken.v w) k.3),
-      ));
+      due = inl (
+        serves port s e m.p1 seat i,
+        inr (
+          taken.v,
+          taken-as port s e m seat i bits (Some (put_in h seat m)) right (is-notify m is) (begun.Applied true) next taken,
+          refl,
+          sym (ap (λ (w : Bool). act i.channel.name taken.v w i.r.state.slow) wait ∙ ap (λ (w : Bool). Applies i.channel.name taken.v w) k.3),
+        ),
+      );
       acted = e;
       acts = λ y same. refl;
       records = (k.0, ((seat.channel, i.channel), i.held, sym p), changed-records port s e m seat i bits (Some (put_in h seat m)) right (is-notify m is) next t (λ (r : Record). record (with_value taken.v (written_meta s.stamp) r) { busy = Some k.0 }) becomes (sym k.4));
@@ -200,12 +207,15 @@ put-applied port s t h e new m seat i bits false next right is taken becomes don
     record {
       replies = late i.r.state.slow m;
       action = Applies i.channel.name taken.v false;
-      due = inl (serves port s e m.p1 seat i, inr (
-        taken.v,
-        taken-as port s e m seat i bits (Some (put_in h seat m)) right (is-notify m is) (begun.Applied false) next taken,
-        refl,
-        sym (ap (λ (w : Bool). act i.channel.name taken.v w i.r.state.slow) wait ∙ ap (λ (w : Bool). Applies i.channel.name taken.v w) k.1),
-      ));
+      due = inl (
+        serves port s e m.p1 seat i,
+        inr (
+          taken.v,
+          taken-as port s e m seat i bits (Some (put_in h seat m)) right (is-notify m is) (begun.Applied false) next taken,
+          refl,
+          sym (ap (λ (w : Bool). act i.channel.name taken.v w i.r.state.slow) wait ∙ ap (λ (w : Bool). Applies i.channel.name taken.v w) k.1),
+        ),
+      );
       acted = e;
       acts = λ y same. refl;
       records = changed-records port s e m seat i bits (Some (put_in h seat m)) right (is-notify m is) next t (with_value taken.v (written_meta s.stamp)) becomes (sym k.2);
@@ -224,12 +234,15 @@ put-waits port s t h e new m seat i bits next right is taken becomes done =
     record {
       replies = late i.r.state.slow m;
       action = Waits i.channel.name taken.v;
-      due = inl (serves port s e m.p1 seat i, inr (
-        taken.v,
-        taken-as port s e m seat i bits (Some (put_in h seat m)) right (is-notify m is) begun.Waiting next taken,
-        refl,
-        sym (ap (λ (w : Bool). act i.channel.name taken.v w i.r.state.slow) wait),
-      ));
+      due = inl (
+        serves port s e m.p1 seat i,
+        inr (
+          taken.v,
+          taken-as port s e m seat i bits (Some (put_in h seat m)) right (is-notify m is) begun.Waiting next taken,
+          refl,
+          sym (ap (λ (w : Bool). act i.channel.name taken.v w i.r.state.slow) wait),
+        ),
+      );
       acted = e;
       acts = λ y same. refl;
       records = (k.0, ((seat.channel, i.channel), i.held, sym p), changed-records port s e m seat i bits (Some (put_in h seat m)) right (is-notify m is) next t (with_waiting (record { put = k.0; value = taken.v })) becomes (sym k.3));

@@ -109,12 +109,7 @@ fn count_of(of: &Record, message: &Message) -> u32
 }
 
 /// The reply with the elements that a read is shown, or with the status of the first that has no place in its type.
-fn shown(
-    alloc: Global,
-    of: &Record,
-    asked: Asked,
-    message: &Message,
-) -> Result<Message, AllocError>
+fn shown(alloc: Global, of: &Record, asked: Asked, message: &Message) -> Result<Message, AllocError>
     requires { IsInOrder of.now message.now asked }
     ensures { IfOk result (λ reply. ShowsRead of.now message.now reply) }
 {

@@ -1,34 +1,103 @@
-use Rattle.std.proofs.Common.{rules, ℕ, ◌≡◌, OnOk, MatchOption, [], ◌∷◌, None, Some, false, true, ◌+◌, ◌-◌, ◌*◌, ◌<◌, ◌≤◌, length, ◌/◌, ◌%◌, Bool, nat_eq, nat_lt, List, ◌++◌, slice_index_or, slice_set, bit_and, bit_or, Fits, w8, w32, w64, Bor, MutBor}
-use Rattle.ca_link.specs.Calls.{IsOpen}
-use Rattle.ca_records.specs.Store.{records_of}
-use Rattle.ca_wire.specs.Messages.{cancel_reply}
-use Rattle.ca_queue.specs.Keys.{same}
-use Rattle.ca_model.specs.Due.{key_in}
-use Rattle.ca_model.specs.Faults.{subscribed_count, subscription_fault, type_of}
-use Rattle.ca_model.specs.Server.{with_events, without_subscriptions}
-use Rattle.ca_server_core.specs.Handling.{AreServed, Replies, Subscribes, known, replied}
+use Rattle.std.proofs.Common.{◌≡◌, ◌<◌, ◌≤◌, ◌%◌, ◌==◌, ℕ, Bool, List, true, false, nat_lt, length, refl, sym, ap, ◌∙◌, subst, arith}
+use Rattle.std.proofs.lemmas.Bool.{eq-eqb, le-ltb, ne_eqb}
+use Rattle.ca_text.specs.Limits.{payload_limit}
+use Rattle.ca_text.proofs.Places.{some_is}
+use Rattle.ca_dbr.specs.declared.data_type.BaseType.{BaseType}
+use Rattle.ca_dbr.specs.declared.data_type.DataType.{DataType}
+use Rattle.ca_dbr.specs.Conversion.{HasConversion}
+use Rattle.ca_dbr.specs.Elements.{base_of}
+use Rattle.ca_dbr.specs.Types.{size_of_image}
+use Rattle.ca_wire.specs.Messages.{mask_in}
+use Rattle.ca_model.specs.Faults.{subscribed_count, too_many}
+use Rattle.ca_server_core.proofs.Shows.{not-many, over-count}
+use Rattle.ca_server_core.proofs.Subscribes.{event-blank, event-lacks, event-many, event-right, event-short, lacks-none, lacks-not}
+use Rattle.ca_server_core.proofs.Types.{type-of-number}
 use Rattle.ca_server_core.proofs.events.event_fault.Goals as goal
 
--- src/events.rt:86:9
+not-both : (b : Bool) → b ≡ true → b ≡ false → ⊥
+not-both b t f = cc
+
 pub returns-then-rights-ne1 : goal.returns-then-rights-ne1
-returns-then-rights-ne1 c = ?
+returns-then-rights-ne1 c =
+    let r = c.args.of.now in
+    let m = c.args.message.now in
+    let t = c.in-Some.data_type in
+    let typed = type-of-number t m.data_type (c.in-Some.ensures ∙ c.data_type-2.ensures) in
+    event-right r c.args.rights m t typed (ne_eqb (c.args.rights % 2) 1 c.if-rights-ne1.true)
 
--- src/events.rt:89:9
 pub returns-then-payload-lt-EVENT_SIZE : goal.returns-then-payload-lt-EVENT_SIZE
-returns-then-payload-lt-EVENT_SIZE c = ?
+returns-then-payload-lt-EVENT_SIZE c =
+    let r = c.args.of.now in
+    let m = c.args.message.now in
+    let t = c.in-Some.data_type in
+    let typed = type-of-number t m.data_type (c.in-Some.ensures ∙ c.data_type-2.ensures) in
+    let right = eq-eqb (c.args.rights % 2) 1 c.if-rights-ne1.false in
+    let bytes : length c.payload.result.now ≡ length m.payload = ap length c.payload.ensures in
+    let short : length m.payload < 16 = (let lt = c.if-payload-lt-EVENT_SIZE.true in omega (arith, bytes, lt)) in
+    event-short r c.args.rights m t typed right short
 
--- src/events.rt:92:9
 pub returns-then-mask_bits-eq0 : goal.returns-then-mask_bits-eq0
-returns-then-mask_bits-eq0 c = ?
+returns-then-mask_bits-eq0 c =
+    let r = c.args.of.now in
+    let m = c.args.message.now in
+    let t = c.in-Some.data_type in
+    let typed = type-of-number t m.data_type (c.in-Some.ensures ∙ c.data_type-2.ensures) in
+    let right = eq-eqb (c.args.rights % 2) 1 c.if-rights-ne1.false in
+    let bytes : length c.payload.result.now ≡ length m.payload = ap length c.payload.ensures in
+    let whole : nat_lt (length m.payload) 16 ≡ false = le-ltb (length m.payload) 16 (let le = c.if-payload-lt-EVENT_SIZE.false in omega (arith, bytes, le)) in
+    event-blank r c.args.rights m t typed right whole (eq-eqb (mask_in m % 16) 0 (sym (ap (λ (n : ℕ). n % 16) c.mask_bits.ensures) ∙ c.if-mask_bits-eq0.true))
 
--- src/events.rt:95:9
 pub returns-then-count : goal.returns-then-count
-returns-then-count c = ?
+returns-then-count c =
+    let r = c.args.of.now in
+    let m = c.args.message.now in
+    let t = c.in-Some.data_type in
+    let typed = type-of-number t m.data_type (c.in-Some.ensures ∙ c.data_type-2.ensures) in
+    let right = eq-eqb (c.args.rights % 2) 1 c.if-rights-ne1.false in
+    let bytes : length c.payload.result.now ≡ length m.payload = ap length c.payload.ensures in
+    let whole : nat_lt (length m.payload) 16 ≡ false = le-ltb (length m.payload) 16 (let le = c.if-payload-lt-EVENT_SIZE.false in omega (arith, bytes, le)) in
+    let masked : (mask_in m % 16 == 0) ≡ false = ne_eqb (mask_in m % 16) 0 (λ e. c.if-mask_bits-eq0.false (ap (λ (n : ℕ). n % 16) c.mask_bits.ensures ∙ e)) in
+    let count : c.count_of-count.result ≡ subscribed_count r m = c.count_of-count.ensures in
+    let over : r.count < c.count_of-count.result = (let e = c.count.ensures.count in let lt = c.if-count.true in omega (arith, e, lt)) in
+    let many : too_many r t (subscribed_count r m) ≡ true = subst (λ (n : ℕ). too_many r t n ≡ true) count (over-count r c.args.rights m t c.count_of-count.result over) in
+    event-many r c.args.rights m t typed right whole masked many
 
--- src/events.rt:101:9
 pub returns-then-not-has_conversion : goal.returns-then-not-has_conversion
-returns-then-not-has_conversion c = ?
+returns-then-not-has_conversion c =
+    let r = c.args.of.now in
+    let m = c.args.message.now in
+    let t = c.in-Some.data_type in
+    let typed = type-of-number t m.data_type (c.in-Some.ensures ∙ c.data_type-2.ensures) in
+    let right = eq-eqb (c.args.rights % 2) 1 c.if-rights-ne1.false in
+    let bytes : length c.payload.result.now ≡ length m.payload = ap length c.payload.ensures in
+    let whole : nat_lt (length m.payload) 16 ≡ false = le-ltb (length m.payload) 16 (let le = c.if-payload-lt-EVENT_SIZE.false in omega (arith, bytes, le)) in
+    let masked : (mask_in m % 16 == 0) ≡ false = ne_eqb (mask_in m % 16) 0 (λ e. c.if-mask_bits-eq0.false (ap (λ (n : ℕ). n % 16) c.mask_bits.ensures ∙ e)) in
+    let count : c.count_of-count.result ≡ subscribed_count r m = c.count_of-count.ensures in
+    let within : c.count_of-count.result ≤ r.count = (let e = c.count.ensures.count in let le = c.if-count.false in omega (arith, e, le)) in
+    let one : c.in-Ok.ensures.0 ≡ t = some_is c.in-Ok.ensures.0 t (sym (type-of-number c.in-Ok.ensures.0 m.data_type (c.in-Ok.ensures.1 ∙ c.data_type.ensures)) ∙ typed) in
+    let size : c.in-Ok.size ≡ size_of_image t c.count_of-count.result = c.in-Ok.ensures.2 ∙ ap (λ (x : DataType). size_of_image x c.count_of-count.result) one in
+    let small : size_of_image t c.count_of-count.result ≤ payload_limit = (let le = c.if-size-gt-PAYLOAD_LIMIT.false in omega (arith, size, le)) in
+    let few : too_many r t (subscribed_count r m) ≡ false = subst (λ (n : ℕ). too_many r t n ≡ false) count (not-many r c.args.rights m t c.count_of-count.result within small) in
+    let base = c.base_type.ensures ∙ ap base_of c.value.ensures.value in
+    let none : HasConversion (base_of r.value) t.base → ⊥ = λ has. not-both c.has_conversion.result (c.has_conversion.ensures.1 (subst (λ (b : BaseType). HasConversion b t.base) (sym base) has)) c.if-not-has_conversion.true in
+    event-lacks r c.args.rights m t typed right whole masked few true (lacks-none r.value t.base none)
 
--- src/events.rt:72:1
 pub returns : goal.returns
-returns c = ?
+returns c =
+    let r = c.args.of.now in
+    let m = c.args.message.now in
+    let t = c.in-Some.data_type in
+    let typed = type-of-number t m.data_type (c.in-Some.ensures ∙ c.data_type-2.ensures) in
+    let right = eq-eqb (c.args.rights % 2) 1 c.if-rights-ne1.false in
+    let bytes : length c.payload.result.now ≡ length m.payload = ap length c.payload.ensures in
+    let whole : nat_lt (length m.payload) 16 ≡ false = le-ltb (length m.payload) 16 (let le = c.if-payload-lt-EVENT_SIZE.false in omega (arith, bytes, le)) in
+    let masked : (mask_in m % 16 == 0) ≡ false = ne_eqb (mask_in m % 16) 0 (λ e. c.if-mask_bits-eq0.false (ap (λ (n : ℕ). n % 16) c.mask_bits.ensures ∙ e)) in
+    let count : c.count_of-count.result ≡ subscribed_count r m = c.count_of-count.ensures in
+    let within : c.count_of-count.result ≤ r.count = (let e = c.count.ensures.count in let le = c.if-count.false in omega (arith, e, le)) in
+    let one : c.in-Ok.ensures.0 ≡ t = some_is c.in-Ok.ensures.0 t (sym (type-of-number c.in-Ok.ensures.0 m.data_type (c.in-Ok.ensures.1 ∙ c.data_type.ensures)) ∙ typed) in
+    let size : c.in-Ok.size ≡ size_of_image t c.count_of-count.result = c.in-Ok.ensures.2 ∙ ap (λ (x : DataType). size_of_image x c.count_of-count.result) one in
+    let small : size_of_image t c.count_of-count.result ≤ payload_limit = (let le = c.if-size-gt-PAYLOAD_LIMIT.false in omega (arith, size, le)) in
+    let few : too_many r t (subscribed_count r m) ≡ false = subst (λ (n : ℕ). too_many r t n ≡ false) count (not-many r c.args.rights m t c.count_of-count.result within small) in
+    let base = c.base_type.ensures ∙ ap base_of c.value.ensures.value in
+    let has : HasConversion (base_of r.value) t.base = subst (λ (b : BaseType). HasConversion b t.base) base (c.has_conversion.ensures.0 c.if-not-has_conversion.false) in
+    event-lacks r c.args.rights m t typed right whole masked few false (lacks-not r.value t.base has)

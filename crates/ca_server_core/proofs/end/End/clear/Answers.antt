@@ -1,15 +1,10 @@
-use Rattle.std.proofs.Common.{rules, ◌≡◌, ◌==◌, ◌&&◌, OnOk, OnErr, [], ◌∷◌, ℕ, ◌+◌, ◌-◌, ◌*◌, ◌<◌, ◌≤◌, length, ◌/◌, ◌%◌, Bool, true, false, nat_eq, nat_lt, List, ◌++◌, slice_index_or, slice_set, bit_and, bit_or, Fits, w8, w32, w64, Bor, MutBor}
-use Rattle.ca_ids.specs.Table.{same_handle}
-use Rattle.ca_ids.specs.Wire.{wire_of}
-use Rattle.ca_link.specs.Calls.{IsOpen}
-use Rattle.ca_records.specs.Puts.{withdrawn}
+use Rattle.std.proofs.Common.{sym, ap, subst}
+use Rattle.ca_ids.specs.Table.{Table}
 use Rattle.ca_records.specs.Store.{records_of}
-use Rattle.ca_wire.specs.Messages.{cleared_reply}
-use Rattle.ca_model.specs.ServerSteps.{without_channel}
-use Rattle.ca_server_core.specs.Clearing.{ArePuts, Withdraws}
-use Rattle.ca_server_core.specs.Handling.{AreServed, replied}
+use Rattle.ca_model.specs.Server.{OpenChannel, ServerEnd}
+use Rattle.ca_server_core.specs.Handling.{AreServed}
 use Rattle.ca_server_core.proofs.end.End.clear.Goals as goal
 
--- src/clear.rt:38:9
 pub withdraw-requires-clause-served : goal.withdraw-requires-clause-served
-withdraw-requires-clause-served c = ?
+withdraw-requires-clause-served c =
+    subst (λ (t : Table OpenChannel). AreServed (records_of c.args.records.now) t) (sym (ap (λ (x : ServerEnd). x.channels) c.self.view_is)) c.requires.served

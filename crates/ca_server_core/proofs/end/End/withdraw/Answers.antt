@@ -1,19 +1,10 @@
-use Rattle.std.proofs.Common.{rules, ◌≡◌, ◌==◌, ◌&&◌, OnOk, OnErr, [], ◌∷◌, ℕ, ◌+◌, ◌-◌, ◌*◌, ◌<◌, ◌≤◌, length, ◌/◌, ◌%◌, Bool, true, false, nat_eq, nat_lt, List, ◌++◌, slice_index_or, slice_set, bit_and, bit_or, Fits, w8, w32, w64, Bor, MutBor}
-use Rattle.ca_ids.specs.Table.{same_handle}
-use Rattle.ca_ids.specs.Wire.{wire_of}
-use Rattle.ca_link.specs.Calls.{IsOpen}
-use Rattle.ca_records.specs.Puts.{withdrawn}
-use Rattle.ca_records.specs.Store.{records_of}
-use Rattle.ca_wire.specs.Messages.{cleared_reply}
-use Rattle.ca_model.specs.ServerSteps.{without_channel}
-use Rattle.ca_server_core.specs.Clearing.{ArePuts, Withdraws}
-use Rattle.ca_server_core.specs.Handling.{AreServed, replied}
+use Rattle.ca_server_core.proofs.Cleared.{withdraws-served, withdraws-stray}
 use Rattle.ca_server_core.proofs.end.End.withdraw.Goals as goal
 
--- src/clear.rt:44:5
 pub returns-in-Served : goal.returns-in-Served
-returns-in-Served c = ?
+returns-in-Served c =
+    withdraws-served c.args.circuit c.args.records.now c.withdraw.new.self c.args.self.now c.args.sid c.in-Served.seat c.in-Served.ensures.limit c.requires.puts c.in-Served.ensures.seeks c.withdraw.ensures
 
--- src/clear.rt:44:5
 pub returns-in-Stray : goal.returns-in-Stray
-returns-in-Stray c = ?
+returns-in-Stray c =
+    withdraws-stray c.args.circuit c.args.records.now c.args.self.now c.args.sid c.in-Stray.field-0 c.in-Stray.ensures.limit c.requires.puts c.in-Stray.ensures.seeks

@@ -1,14 +1,12 @@
-use Rattle.std.proofs.Common.{rules, ℕ, ◌≡◌, IfOk, OnErr, OnOk, [], ◌∷◌, ◌+◌, ◌-◌, ◌*◌, ◌<◌, ◌≤◌, length, ◌/◌, ◌%◌, Bool, true, false, nat_eq, nat_lt, List, ◌++◌, slice_index_or, slice_set, bit_and, bit_or, Fits, w8, w32, w64, Bor, MutBor}
-use Rattle.ca_arena.specs.declared.handle.Handle.{Handle}
-use Rattle.ca_text.specs.Command.{command_number}
-use Rattle.ca_text.specs.declared.command.Command.TheVariants as Command
-use Rattle.ca_link.specs.Calls.{IsOpen}
-use Rattle.ca_wire.specs.Messages.{error_reply}
-use Rattle.ca_records.specs.Store.{records_of}
-use Rattle.ca_server_core.specs.Handling.{AreServed, Does, Writes, known, replied}
-use Rattle.ca_server_core.specs.Seeking.{IsServed}
+use Rattle.std.proofs.Common.{ℕ, ap, subst}
+use Rattle.ca_wire.specs.declared.requests.Wanted.{Wanted}
+use Rattle.ca_server_core.specs.Seeking.{IsStray}
+use Rattle.ca_server_core.proofs.Taken.{write-stray}
 use Rattle.ca_server_core.proofs.end.End.write.Goals as goal
 
--- src/write.rt:21:5
 pub returns-in_ok-refuse-in-Stray-clause-ok : goal.returns-in_ok-refuse-in-Stray-clause-ok
-returns-in_ok-refuse-in-Stray-clause-ok c = ?
+returns-in_ok-refuse-in-Stray-clause-ok c port h =
+    let e = c.args.self.now in
+    let m = c.args.message.now in
+    let is : IsStray e m.p1 c.in-Stray.cid = subst (λ (n : ℕ). IsStray e n c.in-Stray.cid) (ap (λ (w : Wanted). w.sid) c.wanted.ensures) c.in-Stray.ensures.seeks in
+    write-stray port c.args.records.now h e c.refuse.new.self m c.in-Stray.cid is c.in_ok-refuse-in-Stray.ensures

@@ -1,15 +1,17 @@
-use Rattle.std.proofs.Common.{rules, ℕ, ◌≡◌, IfOk, OnErr, OnOk, [], ◌∷◌, if◌then◌else◌, take, ◌+◌, ◌-◌, ◌*◌, ◌<◌, ◌≤◌, length, ◌/◌, ◌%◌, Bool, true, false, nat_eq, nat_lt, List, ◌++◌, slice_index_or, slice_set, bit_and, bit_or, Fits, w8, w32, w64, Bor, MutBor}
-use Rattle.ca_text.specs.Command.{command_number}
-use Rattle.ca_text.specs.declared.command.Command.TheVariants as Command
-use Rattle.ca_text.specs.Status.{normal}
-use Rattle.ca_link.specs.Calls.{IsOpen}
+use Rattle.std.proofs.Common.{ℕ, List, [], ◌∷◌, ap, ◌∙◌, subst}
 use Rattle.ca_link.specs.Link.{with_sent}
-use Rattle.ca_records.specs.Store.{records_of}
+use Rattle.ca_wire.specs.Fields.{Fields}
+use Rattle.ca_wire.specs.declared.requests.Wanted.{Wanted}
 use Rattle.ca_wire.specs.Messages.{status_reply}
-use Rattle.ca_server_core.specs.Handling.{AreServed, Does, Puts, known, replied}
-use Rattle.ca_server_core.specs.Seeking.{IsServed}
+use Rattle.ca_server_core.specs.Seeking.{IsStray}
+use Rattle.ca_server_core.proofs.Replying.{relinked}
+use Rattle.ca_server_core.proofs.Taken.{put-stray}
 use Rattle.ca_server_core.proofs.end.End.write_notify.Goals as goal
 
--- src/write_notify.rt:27:5
 pub returns-in_ok-send-in-Stray-clause-ok : goal.returns-in_ok-send-in-Stray-clause-ok
-returns-in_ok-send-in-Stray-clause-ok c = ?
+returns-in_ok-send-in-Stray-clause-ok c port =
+    let e = c.args.self.now in
+    let m = c.args.message.now in
+    let is : IsStray e m.p1 c.in-Stray.field-0 = subst (λ (n : ℕ). IsStray e n c.in-Stray.field-0) (ap (λ (w : Wanted). w.sid) c.wanted.ensures) c.in-Stray.ensures.seeks in
+    let sent = c.in_ok-send-in-Stray.ensures.ok ∙ ap (λ (x : Fields). with_sent (x ∷ []) c.self.inside.link) c.status_reply-reply.ensures in
+    put-stray port c.args.records.now c.args.circuit e _ m c.in-Stray.field-0 is (relinked _ e c.send.new.link (status_reply m 410 ∷ []) c.self.view_is sent)
