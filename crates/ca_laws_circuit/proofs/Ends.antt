@@ -22,7 +22,7 @@ use Rattle.ca_laws_circuit.proofs.Tables.{changed-back, freed-back, held-under, 
 -- ---- on one circuit, and on no other
 
 -- a channel is on one circuit
-on-one : (test also : Phase → Bool) (c on : Handle) (ch : Channel) → is_on_in test c ch ≡ true → is_on_in also on ch ≡ true → c ≡ on
+pub on-one : (test also : Phase → Bool) (c on : Handle) (ch : Channel) → is_on_in test c ch ≡ true → is_on_in also on ch ≡ true → c ≡ on
 on-one test also c on ch a b = go ch.standing a b
   where
     go : (s : Standing) → unwrap_or (option_map test (phase_on c s)) false ≡ true → unwrap_or (option_map also (phase_on on s)) false ≡ true → c ≡ on
@@ -35,7 +35,7 @@ on-one test also c on ch a b = go ch.standing a b
         by false y f g p q = absurd (both_ways false refl p)
 
 -- an id drains on one circuit
-drains-one : (c on : Handle) (s : Stage) → drains_in c s ≡ true → drains_in on s ≡ true → c ≡ on
+pub drains-one : (c on : Handle) (s : Stage) → drains_in c s ≡ true → drains_in on s ≡ true → c ≡ on
 drains-one c on Stands a b = absurd (both_ways false refl a)
 drains-one c on (Cancelled d) a b = sym (same-is d c a) ∙ same-is d on b
 drains-one c on (Ended d) a b = sym (same-is d c a) ∙ same-is d on b

@@ -6,3 +6,4 @@ pub mod Worlds
 pub mod Happens
 pub mod Bytes
 pub mod Heard
+pub mod Ids
