@@ -40,9 +40,6 @@ sent-elsewhere on other r here differ = subst (λ (k : Handle). same_handle k ot
 cancelled-elsewhere : (on other : Handle) (t : Table Channel) (d : Subscription) → is_cancelled_in on d.stage ≡ true → same_handle on other ≡ false → has_id t other d ≡ false
 cancelled-elsewhere on other t d here differ = go d.stage here
   where
-    rest : Bool
-    rest = unwrap_or (option_map (is_on_in is_subscribed other) (under t d.channel)) false
-
     go : (s : Stage) → is_cancelled_in on s ≡ true → (drains_in other s || (stands_in s && unwrap_or (option_map (is_on_in is_subscribed other) (under t d.channel)) false)) ≡ false
     go Stands f = absurd (both_ways false refl f)
     go (Ended o) f = absurd (both_ways false refl f)

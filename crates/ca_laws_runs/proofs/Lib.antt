@@ -7,3 +7,4 @@ pub mod Happens
 pub mod Bytes
 pub mod Heard
 pub mod Ids
+pub mod Steps
