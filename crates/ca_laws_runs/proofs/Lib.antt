@@ -8,3 +8,4 @@ pub mod Bytes
 pub mod Heard
 pub mod Ids
 pub mod Steps
+pub mod Finds

@@ -102,3 +102,49 @@ client-changed kept w i k x new at keeps held =
           (j, new, held.2, subst (λ (c : ℕ). At (slice_set w.clients i new) c new) (sym mine) (set-there w.clients i new (At-within w.clients i x at)), keeps j mine was)
       | inr other ↦ (j, held.1, held.2, At-set-other w.clients i j.client held.1 new held.3 other, held.4)
     ]
+
+-- A step of a client on circuit k: what is held of that after it, and of the client's others, is held in the world after it.
+pub after-step : (kept : List ℕ) (w : World) (k l : ℕ) (j next : Joined) (x : ClientSide) (spoken : Names) (o : Outcomes) → At w.circuits k j → At w.clients j.client x → next.client ≡ j.client
+    → (HeldOn kept x.names x.core j → HeldOn kept o.names o.core (sent_to j.client spoken o.sent next))
+    → ((a : Joined) → At w.circuits l a → (l ≡ k → ⊥) → a.client ≡ j.client → HeldOn kept x.names x.core a → HeldOn kept o.names o.core (sent_to j.client spoken o.sent a))
+    → HeldAt kept w l → HeldAt kept (client_after j.client x spoken o (with_circuit k next w)) l
+after-step kept w k l j next x spoken o at there same own others held =
+    let i : ℕ = j.client in
+    let after : ClientSide = record x { core = o.core; names = o.names } in
+    let a : Joined = held.0 in
+    let ours : At (slice_set w.clients i after) i after = set-there w.clients i after (At-within w.clients i x there) in
+    elim (number-or l k) [
+      | inl is ↦
+          let one : a ≡ j = At-one w.circuits k a j (subst (λ (b : ℕ). At w.circuits b a) is held.2) at in
+          let client : held.1 ≡ x = At-one w.clients i held.1 x (subst (λ (z : Joined). At w.clients z.client held.1) one held.3) there in
+          let was : HeldOn kept x.names x.core j = subst (λ (z : Joined × ClientSide). HeldOn kept z.1.names z.1.core z.0) (λ b. (one b, client b)) held.4 in
+          (
+            sent_to i spoken o.sent next,
+            after,
+            subst (λ (b : ℕ). At (map (sent_to i spoken o.sent) (slice_set w.circuits k next)) b (sent_to i spoken o.sent next)) (sym is)
+                (At-map (sent_to i spoken o.sent) (slice_set w.circuits k next) k next (set-there w.circuits k next (At-within w.circuits k j at))),
+            subst (λ (b : ℕ). At (slice_set w.clients i after) b after) (sym same) ours,
+            own was,
+          )
+      | inr differs ↦
+          let stands : At (map (sent_to i spoken o.sent) (slice_set w.circuits k next)) l (sent_to i spoken o.sent a) =
+          At-map (sent_to i spoken o.sent) (slice_set w.circuits k next) l a (At-set-other w.circuits k l a next held.2 differs) in
+          elim (number-or a.client i) [
+            | inl mine ↦
+                let client : held.1 ≡ x = At-one w.clients i held.1 x (subst (λ (b : ℕ). At w.clients b held.1) mine held.3) there in
+                (
+                  sent_to i spoken o.sent a,
+                  after,
+                  stands,
+                  subst (λ (b : ℕ). At (slice_set w.clients i after) b after) (sym mine) ours,
+                  others a held.2 differs mine (subst (λ (z : ClientSide). HeldOn kept z.names z.core a) client held.4),
+                )
+            | inr other ↦ (
+              sent_to i spoken o.sent a,
+              held.1,
+              stands,
+              At-set-other w.clients i a.client held.1 after held.3 other,
+              other-client kept i held.1.names spoken held.1.core o.sent a other held.4,
+            )
+          ]
+    ]
