@@ -1,19 +1,17 @@
 -- The end of a circuit, and what else a client does on one circuit: other circuits see no difference.
-use Rattle.std.proofs.Common.{◌≡◌, ℕ, zero, suc, ◌⊎◌, inl, inr, Bool, true, false, ◌&&◌, ◌||◌, cond, List, [], ◌∷◌, Option, Some, None, refl, sym, ap, ◌∙◌, subst}
-use Rattle.std.specs.Prelude.{filter_map, fold, is_some, not, option_map, unwrap_or}
+use Rattle.std.proofs.Common.{◌≡◌, ℕ, zero, suc, inl, inr, Bool, true, false, ◌&&◌, cond, List, [], ◌∷◌, Option, Some, None, refl, sym, ap, ◌∙◌, subst}
+use Rattle.std.specs.Prelude.{filter_map, fold, not, option_map, unwrap_or}
 use Rattle.std.specs.List.{cons_option}
 use Rattle.std.proofs.lemmas.Bool.{both_ways, cases_Bool, or_cases, and_parts}
 use Rattle.ca_text.specs.Place.{At}
 use Rattle.ca_text.proofs.Places.{some_is}
 use Rattle.ca_arena.specs.declared.handle.Handle.{Handle}
-use Rattle.ca_ids.specs.Table.{MayGive, Table, held, same_handle, under, with_changed, with_freed, with_held}
-use Rattle.ca_monitor.specs.Subscriptions.{Stage, Stands, Cancelled, Ended, Subscription, drains_in, is_to, stands_in, with_stage}
-use Rattle.ca_monitor.specs.Subscriptions as monitor
+use Rattle.ca_ids.specs.Table.{Table, held, same_handle, under}
+use Rattle.ca_monitor.specs.Subscriptions.{Stage, Stands, Cancelled, Ended, Subscription, drains_in, is_to, stands_in}
 use Rattle.ca_requests.specs.Requests.{Request, asks_on, was_sent_on}
-use Rattle.ca_requests.specs.Requests as request
-use Rattle.ca_model.specs.Client.{Channel, Client, ClientCircuit, On, Phase, Searching, Standing, channels_ended, channels_on, ended, is_cleared, is_on_in, let_go, phase_on, searched_again, with_requests, with_standing, without_channel, without_ids}
+use Rattle.ca_model.specs.Client.{Channel, Client, ClientCircuit, On, Phase, Searching, Standing, channels_ended, channels_on, ended, is_cleared, is_on_in, let_go, phase_on, searched_again, with_standing, without_channel, without_ids}
 use Rattle.ca_model.specs.Hears.{without_drained, without_request, without_subscription}
-use Rattle.ca_laws_circuit.specs.Held.{Attached, HoldAlike, IsAlike, has_id, is_asked, is_subscribed, was_live}
+use Rattle.ca_laws_circuit.specs.Held.{Attached, HoldAlike, has_id, is_asked, is_subscribed, was_live}
 use Rattle.ca_laws_circuit.proofs.Alike.{alike-itself, all-freed-alike, channel-freed-if, client-itself, client-then, freed-alike, not-subscribed, restood, restood-if, with-others}
 use Rattle.ca_laws_circuit.proofs.Handles.{not-same, same-is, same-not}
 use Rattle.ca_laws_circuit.proofs.Others.{fails-elsewhere, let-go-alike}

@@ -1,13 +1,11 @@
 -- A message that a client reads about a request or a subscription: what it does to the client's tables.
-use Rattle.std.proofs.Common.{◌≡◌, ℕ, ◌⊎◌, inl, inr, Bool, true, false, ◌&&◌, ◌||◌, cond, eqb, List, [], ◌∷◌, ◌++◌, length, Option, Some, None, refl, sym, ap, ◌∙◌, subst, arith}
+use Rattle.std.proofs.Common.{◌≡◌, ℕ, ◌⊎◌, inl, inr, Bool, true, false, ◌&&◌, ◌||◌, cond, eqb, List, [], Option, Some, None, refl, sym, ap, ◌∙◌, subst, arith}
 use Rattle.std.specs.Prelude.{option_map, unwrap_or}
-use Rattle.std.proofs.lemmas.Bool.{and_parts, both_ways, cases_Bool, eqb-true, or_cases}
+use Rattle.std.proofs.lemmas.Bool.{both_ways, cases_Bool, eqb-true}
 use Rattle.ca_text.specs.Command.{command_number}
 use Rattle.ca_text.specs.declared.command.Command.TheVariants as command
-use Rattle.ca_text.specs.Place.{At}
 use Rattle.ca_arena.specs.declared.handle.Handle.{Handle}
 use Rattle.ca_ids.specs.Table.{Table, same_handle, under}
-use Rattle.ca_ids.specs.Wire.{wire_of}
 use Rattle.ca_monitor.specs.Subscriptions.{Stage, Stands, Cancelled, Ended, Subscription, confirmed_by, drains_in, is_cancelled_in, stands_in}
 use Rattle.ca_requests.specs.Requests.{Asked, Draining, Open, Put, Read, Request, answered_by, command_of, was_sent_on}
 use Rattle.ca_requests.specs.Requests as request
@@ -15,18 +13,16 @@ use Rattle.ca_requests.specs.Meaning.{QuotesHeader}
 use Rattle.ca_wire.specs.Fields.{Fields}
 use Rattle.ca_wire.specs.declared.header.Header.{Header}
 use Rattle.ca_model.specs.Client.{Channel, Client, Clearing, Connecting, Creating, Doomed, Leaving, Live, Phase, channel_on, is_on_in}
-use Rattle.ca_model.specs.Hears.{Answers, Completes, Effect, Fails, Updates, any_failed, confirmed, doing, failing, heard_by, request_failed, subscription_failed, without_request, without_subscription, write_failed}
+use Rattle.ca_model.specs.Hears.{Answers, Completes, Effect, Fails, Updates, any_failed, confirmed, doing, heard_by, request_failed, subscription_failed, without_request, without_subscription, write_failed}
 use Rattle.ca_model.specs.History.{Circuit, Step}
 use Rattle.ca_model.specs.History as history
-use Rattle.ca_model.specs.Speech.{Id, Ioid, SubId, Is, Speaks}
-use Rattle.ca_model_safe.specs.Channels.{named}
-use Rattle.ca_model_world.specs.ClientEvents.{meant_by}
+use Rattle.ca_model.specs.Speech.{Ioid, SubId, Is, Speaks}
 use Rattle.ca_model_world.specs.World.{Names}
-use Rattle.ca_laws_circuit.specs.Flows.{Awaits, Flows}
-use Rattle.ca_laws_circuit.specs.Held.{HoldAlike, Holds, has_id, is_subscribed}
+use Rattle.ca_laws_circuit.specs.Flows.{Awaits}
+use Rattle.ca_laws_circuit.specs.Held.{has_id, is_subscribed}
 use Rattle.ca_laws_circuit.proofs.Ended.{confirmation-heard, confirmed-is}
-use Rattle.ca_laws_circuit.proofs.Ends.{drains-one, on-one, request-elsewhere, subscription-elsewhere}
-use Rattle.ca_laws_circuit.proofs.Handles.{not-same, same-is, same-not}
+use Rattle.ca_laws_circuit.proofs.Ends.{on-one, request-elsewhere, subscription-elsewhere}
+use Rattle.ca_laws_circuit.proofs.Handles.{not-same, same-is}
 use Rattle.ca_laws_circuit.proofs.Heard.{answered-is, request-over}
 use Rattle.ca_laws_circuit.proofs.Refused.{heard-is, refusal-heard}
 use Rattle.ca_laws_runs.specs.Circuit.{IsKnown}

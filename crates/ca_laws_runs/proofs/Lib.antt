@@ -9,3 +9,4 @@ pub mod Heard
 pub mod Ids
 pub mod Steps
 pub mod Finds
+pub mod ClientSteps

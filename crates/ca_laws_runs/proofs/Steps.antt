@@ -1,14 +1,12 @@
 -- A step of a client's end: what is held of its own circuit and of the others stays so.
-use Rattle.std.proofs.Common.{◌≡◌, ℕ, zero, suc, ◌<◌, ◌⊎◌, inl, inr, Bool, true, false, ◌&&◌, cond, eqb, List, [], ◌∷◌, ◌++◌, length, Option, Some, None, refl, sym, ap, ◌∙◌, subst, arith}
+use Rattle.std.proofs.Common.{◌≡◌, ℕ, suc, ◌<◌, inl, inr, Bool, true, false, ◌&&◌, cond, eqb, List, [], ◌∷◌, ◌++◌, length, refl, sym, ap, subst}
 use Rattle.std.specs.Prelude.{filter, map}
-use Rattle.std.proofs.lemmas.Bool.{and_from, and_parts, both_ways, cases_Bool, eq-eqb}
+use Rattle.std.proofs.lemmas.Bool.{and_from, and_parts, both_ways, eq-eqb}
 use Rattle.std.proofs.lemmas.List.{append-nil}
 use Rattle.ca_text.specs.Place.{At}
-use Rattle.ca_text.proofs.Places.{At-append, At-parts, At-within}
+use Rattle.ca_text.proofs.Places.{At-parts}
 use Rattle.ca_arena.specs.declared.handle.Handle.{Handle}
 use Rattle.ca_ids.specs.Table.{same_handle}
-use Rattle.ca_ids.specs.Wire.{wire_of}
-use Rattle.ca_wire.specs.Fields.{Fields}
 use Rattle.ca_model.specs.Answers.{Sending}
 use Rattle.ca_model.specs.Client.{Client, sending}
 use Rattle.ca_model.specs.Hears.{Effect}
@@ -16,12 +14,11 @@ use Rattle.ca_model.specs.History.{Circuit, Intent, Sent, Step}
 use Rattle.ca_model.specs.History as history
 use Rattle.ca_model_world.specs.ClientEvents.{heard_in}
 use Rattle.ca_model_world.specs.World.{Joined, Names}
-use Rattle.ca_laws_circuit.specs.Flows.{Awaits, Flows, MaySendAll, with_all_sent, with_heard}
-use Rattle.ca_laws_circuit.specs.Held.{HoldAlike, Holds}
-use Rattle.ca_laws_circuit.proofs.Alike.{client-itself, client-then, holds-alike, sending-alike}
+use Rattle.ca_laws_circuit.specs.Flows.{Awaits, MaySendAll, with_all_sent, with_heard}
+use Rattle.ca_laws_circuit.specs.Held.{Holds}
+use Rattle.ca_laws_circuit.proofs.Alike.{client-then, holds-alike, sending-alike}
 use Rattle.ca_laws_circuit.proofs.Flows.{flows-heard}
 use Rattle.ca_laws_circuit.proofs.Handles.{same-itself}
-use Rattle.ca_laws_circuit.proofs.Heard.{holds-heard}
 use Rattle.ca_laws_circuit.proofs.Many.{flows-all-sent}
 use Rattle.ca_laws_runs.specs.Circuit.{AreCids, HeldOn, sent_to, stamped}
 use Rattle.ca_laws_runs.proofs.Heard.{Did}

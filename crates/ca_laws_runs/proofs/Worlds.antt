@@ -1,7 +1,7 @@
 -- What an event of a client leaves of each circuit of a world, by what it leaves of those of that client.
-use Rattle.std.proofs.Common.{◌≡◌, ℕ, zero, suc, ◌<◌, ◌⊎◌, inl, inr, Bool, true, false, ◌&&◌, cond, eqb, List, [], ◌∷◌, ◌++◌, Option, Some, None, refl, sym, ap, ◌∙◌, subst, arith}
+use Rattle.std.proofs.Common.{◌≡◌, ℕ, zero, suc, ◌<◌, ◌⊎◌, inl, inr, Bool, true, false, ◌&&◌, cond, eqb, List, [], ◌∷◌, ◌++◌, refl, sym, ap, ◌∙◌, subst, arith}
 use Rattle.std.specs.Prelude.{filter, length, map, slice_set}
-use Rattle.std.proofs.lemmas.Bool.{both_ways, cases_Bool, eq-eqb, eqb-true}
+use Rattle.std.proofs.lemmas.Bool.{eqb-true}
 use Rattle.std.proofs.lemmas.List.{append-nil}
 use Rattle.ca_text.specs.Place.{At}
 use Rattle.ca_text.proofs.Places.{At-map, At-one, At-set-other, At-within}
@@ -9,8 +9,8 @@ use Rattle.ca_text.specs.declared.refusal.Refusal.{Refusal}
 use Rattle.ca_ids.specs.Table.{same_handle}
 use Rattle.ca_model.specs.Answers.{Sending}
 use Rattle.ca_model.specs.Client.{Client}
-use Rattle.ca_model.specs.History.{Line, Sent}
-use Rattle.ca_model_world.specs.ClientEvents.{Outcomes, client_after, refused, sent_on}
+use Rattle.ca_model.specs.History.{Sent}
+use Rattle.ca_model_world.specs.ClientEvents.{Outcomes, client_after, refused}
 use Rattle.ca_model_world.specs.World.{ClientSide, Joined, Names, World, with_circuit, with_client}
 use Rattle.ca_laws_circuit.proofs.Settled.{three-ways}
 use Rattle.ca_laws_runs.specs.Circuit.{HeldAt, HeldOn, sent_to, stamped}
