@@ -1,18 +1,16 @@
 -- Tables that hold the same ids of a circuit, and clients that do: what is held of the circuit stays so.
-use Rattle.std.proofs.Common.{◌≡◌, ℕ, ◌≤◌, ◌⊎◌, inl, inr, Bool, true, false, ◌&&◌, ◌||◌, List, [], ◌∷◌, length, Option, Some, None, refl, sym, ap, ◌∙◌, subst, arith}
-use Rattle.std.specs.Prelude.{option_map, unwrap_or}
+use Rattle.std.proofs.Common.{◌≡◌, ℕ, inl, inr, Bool, true, false, List, [], ◌∷◌, length, Some, sym, ◌∙◌, subst, arith}
 use Rattle.std.proofs.lemmas.Bool.{both_ways, cases_Bool}
 use Rattle.std.proofs.lemmas.List.{length-map}
-use Rattle.ca_text.specs.Limits.{arena_slots}
 use Rattle.ca_arena.specs.declared.handle.Handle.{Handle}
 use Rattle.ca_ids.specs.Table.{MayGive, Table, under, with_all, with_all_freed, with_changed, with_freed, with_held}
 use Rattle.ca_model.specs.Answers.{Sending}
-use Rattle.ca_model.specs.Client.{Channel, Client, On, Phase, Searching, Standing, is_on_in, searched_again, sending, with_one_sent, with_standing, without_channel}
+use Rattle.ca_model.specs.Client.{Channel, Client, Standing, is_on_in, sending, with_one_sent, with_standing, without_channel}
 use Rattle.ca_model.specs.Speech.{Id, Cid, Ioid, SubId}
 use Rattle.ca_model.specs.History.{Circuit, Intent}
 use Rattle.ca_model_world.specs.World.{Names}
-use Rattle.ca_monitor.specs.Subscriptions.{Subscription, drains_in, stands_in}
-use Rattle.ca_requests.specs.Requests.{Request, was_sent_on}
+use Rattle.ca_monitor.specs.Subscriptions.{Subscription}
+use Rattle.ca_requests.specs.Requests.{was_sent_on}
 use Rattle.ca_laws_circuit.specs.Held.{HoldAlike, Holds, HoldsIds, IsAlike, has_id, is_asked, is_subscribed}
 use Rattle.ca_laws_circuit.proofs.Answered.{subscribed-asked}
 use Rattle.ca_laws_circuit.proofs.Handles.{handle-or}

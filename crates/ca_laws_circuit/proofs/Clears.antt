@@ -1,7 +1,7 @@
 -- A caller clears a live channel: its CLEAR_CHANNEL goes out, its CID and the ids of its requests and subscriptions drain.
-use Rattle.std.proofs.Common.{◌≡◌, ℕ, ◌<◌, ◌≤◌, ◌⊎◌, inl, inr, Bool, true, false, ◌&&◌, ◌||◌, cond, eqb, [], ◌∷◌, ◌++◌, length, Option, Some, None, refl, sym, ap, ◌∙◌, subst, arith}
+use Rattle.std.proofs.Common.{◌≡◌, ℕ, ◌<◌, ◌≤◌, inl, inr, Bool, true, false, ◌&&◌, ◌||◌, cond, [], ◌∷◌, ◌++◌, length, Option, Some, None, refl, sym, ap, ◌∙◌, subst, arith}
 use Rattle.std.specs.Prelude.{option_and_then, option_map, unwrap_or}
-use Rattle.std.proofs.lemmas.Bool.{and_from, and_parts, both_ways, cases_Bool, eq-eqb, eqb-true, or_cases, or_left, or_right}
+use Rattle.std.proofs.lemmas.Bool.{and_from, and_parts, both_ways, or_cases, or_left, or_right}
 use Rattle.std.proofs.lemmas.List.{length-map}
 use Rattle.ca_text.specs.Limits.{arena_slots}
 use Rattle.ca_text.proofs.Places.{some_is, At-last, At-one, At-within}
@@ -23,7 +23,7 @@ use Rattle.ca_laws_circuit.proofs.Flows.{given-sent}
 use Rattle.ca_laws_circuit.proofs.Handles.{handle-or, same-is, same-itself}
 use Rattle.ca_laws_circuit.proofs.Held.{ids-kept, ids-sent}
 use Rattle.ca_laws_circuit.proofs.Requests.{requests-over, requests-sent}
-use Rattle.ca_laws_circuit.proofs.Tables.{all-back, all-there, changed-back, changed-few, changed-other, changed-own, handle-is}
+use Rattle.ca_laws_circuit.proofs.Tables.{all-back, all-there, changed-back, changed-few, changed-other, changed-own}
 
 -- ---- the channel
 

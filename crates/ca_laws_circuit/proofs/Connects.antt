@@ -1,25 +1,23 @@
 -- A circuit is connected: its set-up goes out, and the CREATE_CHANs of the channels that waited for it; and messages of a circuit as a
 -- whole.
-use Rattle.std.proofs.Common.{◌≡◌, ℕ, ◌≤◌, ◌⊎◌, inl, inr, Bool, true, false, ◌&&◌, ◌||◌, cond, List, [], ◌∷◌, ◌++◌, length, Option, Some, None, refl, sym, ap, ◌∙◌, subst, arith}
-use Rattle.std.specs.Prelude.{filter, map, option_map, unwrap_or}
+use Rattle.std.proofs.Common.{◌≡◌, ℕ, ◌≤◌, inl, inr, Bool, true, false, ◌&&◌, cond, List, [], ◌∷◌, ◌++◌, length, Option, Some, None, refl, sym, ap, ◌∙◌, subst, arith}
+use Rattle.std.specs.Prelude.{map, option_map, unwrap_or}
 use Rattle.std.proofs.lemmas.Bool.{both_ways, cases_Bool, or_cases, and_parts}
 use Rattle.std.proofs.lemmas.List.{length-map}
-use Rattle.ca_text.specs.declared.command.Command.TheVariants as command
 use Rattle.ca_text.specs.Limits.{arena_slots}
 use Rattle.ca_text.specs.Place.{At}
 use Rattle.ca_text.proofs.Places.{At-last, At-mapped, At-one}
 use Rattle.ca_arena.specs.declared.handle.Handle.{Handle}
-use Rattle.ca_ids.specs.Table.{Table, held, same_handle, under, with_all, with_changed}
-use Rattle.ca_ids.specs.Wire.{wire_of}
-use Rattle.ca_monitor.specs.Subscriptions.{Subscription, drains_in, stands_in}
-use Rattle.ca_requests.specs.Requests.{Request, was_sent_on}
+use Rattle.ca_ids.specs.Table.{Table, held, same_handle, under, with_all}
+use Rattle.ca_monitor.specs.Subscriptions.{drains_in, stands_in}
+use Rattle.ca_requests.specs.Requests.{was_sent_on}
 use Rattle.ca_model.specs.Answers.{Sending}
-use Rattle.ca_model.specs.Client.{Channel, Client, ClientCircuit, Clearing, Connecting, Creating, Doomed, Leaving, Live, On, Phase, Searching, Standing, is_on_in, phase_on, sending}
+use Rattle.ca_model.specs.Client.{Channel, Client, Clearing, Connecting, Creating, Doomed, Leaving, Live, On, Phase, Searching, Standing, is_on_in, phase_on, sending}
 use Rattle.ca_model.specs.ClientEnds.{begun, creating, is_connecting}
 use Rattle.ca_model.specs.Speech.{Id, Cid, Ioid, SubId, Gives}
 use Rattle.ca_model.specs.History.{Circuit, Sent, Told}
 use Rattle.ca_model.specs.History as history
-use Rattle.ca_model_safe.specs.Channels.{Suits, named}
+use Rattle.ca_model_safe.specs.Channels.{Suits}
 use Rattle.ca_model_world.specs.ClientEvents.{channel_number, meant_by}
 use Rattle.ca_model_world.specs.World.{Names as ClientNames}
 use Rattle.ca_laws_circuit.specs.Flows.{Concerns, IsPending, MaySend, MaySendAll, with_all_sent, with_sent}

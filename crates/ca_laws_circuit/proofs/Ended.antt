@@ -170,7 +170,7 @@ module _ (Awaits : ℕ → Type 0) (on : Handle) (n : Names) (x : Client) (c : C
 -- ---- a cancel is confirmed
 
 -- a confirmation finds a subscription that was cancelled on its circuit
-confirmed-is : (on : Handle) (id : ℕ) (t : Table Subscription) (q : Handle) → confirmed_by on id t ≡ Some q → (d : Subscription) × (under t q ≡ Some d) × (wire_of q ≡ id) × (is_cancelled_in on d.stage ≡ true)
+pub confirmed-is : (on : Handle) (id : ℕ) (t : Table Subscription) (q : Handle) → confirmed_by on id t ≡ Some q → (d : Subscription) × (under t q ≡ Some d) × (wire_of q ≡ id) × (is_cancelled_in on d.stage ≡ true)
 confirmed-is on id t q is = go (by_wire t id) refl is
   where
     go : (o : Option (Handle × Subscription)) → by_wire t id ≡ o → option_and_then (λ (e : Handle × Subscription). cond (is_cancelled_in on e.1.stage) (Some e.0) None) o ≡ Some q

@@ -1,19 +1,17 @@
 -- The end of a circuit, and what else a client does on one circuit: other circuits see no difference.
-use Rattle.std.proofs.Common.{◌≡◌, ℕ, zero, suc, ◌⊎◌, inl, inr, Bool, true, false, ◌&&◌, ◌||◌, cond, List, [], ◌∷◌, Option, Some, None, refl, sym, ap, ◌∙◌, subst}
-use Rattle.std.specs.Prelude.{filter_map, fold, is_some, not, option_map, unwrap_or}
+use Rattle.std.proofs.Common.{◌≡◌, ℕ, zero, suc, inl, inr, Bool, true, false, ◌&&◌, cond, List, [], ◌∷◌, Option, Some, None, refl, sym, ap, ◌∙◌, subst}
+use Rattle.std.specs.Prelude.{filter_map, fold, not, option_map, unwrap_or}
 use Rattle.std.specs.List.{cons_option}
 use Rattle.std.proofs.lemmas.Bool.{both_ways, cases_Bool, or_cases, and_parts}
 use Rattle.ca_text.specs.Place.{At}
 use Rattle.ca_text.proofs.Places.{some_is}
 use Rattle.ca_arena.specs.declared.handle.Handle.{Handle}
-use Rattle.ca_ids.specs.Table.{MayGive, Table, held, same_handle, under, with_changed, with_freed, with_held}
-use Rattle.ca_monitor.specs.Subscriptions.{Stage, Stands, Cancelled, Ended, Subscription, drains_in, is_to, stands_in, with_stage}
-use Rattle.ca_monitor.specs.Subscriptions as monitor
+use Rattle.ca_ids.specs.Table.{Table, held, same_handle, under}
+use Rattle.ca_monitor.specs.Subscriptions.{Stage, Stands, Cancelled, Ended, Subscription, drains_in, is_to, stands_in}
 use Rattle.ca_requests.specs.Requests.{Request, asks_on, was_sent_on}
-use Rattle.ca_requests.specs.Requests as request
-use Rattle.ca_model.specs.Client.{Channel, Client, ClientCircuit, On, Phase, Searching, Standing, channels_ended, channels_on, ended, is_cleared, is_on_in, let_go, phase_on, searched_again, with_requests, with_standing, without_channel, without_ids}
+use Rattle.ca_model.specs.Client.{Channel, Client, ClientCircuit, On, Phase, Searching, Standing, channels_ended, channels_on, ended, is_cleared, is_on_in, let_go, phase_on, searched_again, with_standing, without_channel, without_ids}
 use Rattle.ca_model.specs.Hears.{without_drained, without_request, without_subscription}
-use Rattle.ca_laws_circuit.specs.Held.{Attached, HoldAlike, IsAlike, has_id, is_asked, is_subscribed, was_live}
+use Rattle.ca_laws_circuit.specs.Held.{Attached, HoldAlike, has_id, is_asked, is_subscribed, was_live}
 use Rattle.ca_laws_circuit.proofs.Alike.{alike-itself, all-freed-alike, channel-freed-if, client-itself, client-then, freed-alike, not-subscribed, restood, restood-if, with-others}
 use Rattle.ca_laws_circuit.proofs.Handles.{not-same, same-is, same-not}
 use Rattle.ca_laws_circuit.proofs.Others.{fails-elsewhere, let-go-alike}
@@ -22,7 +20,7 @@ use Rattle.ca_laws_circuit.proofs.Tables.{changed-back, freed-back, held-under, 
 -- ---- on one circuit, and on no other
 
 -- a channel is on one circuit
-on-one : (test also : Phase → Bool) (c on : Handle) (ch : Channel) → is_on_in test c ch ≡ true → is_on_in also on ch ≡ true → c ≡ on
+pub on-one : (test also : Phase → Bool) (c on : Handle) (ch : Channel) → is_on_in test c ch ≡ true → is_on_in also on ch ≡ true → c ≡ on
 on-one test also c on ch a b = go ch.standing a b
   where
     go : (s : Standing) → unwrap_or (option_map test (phase_on c s)) false ≡ true → unwrap_or (option_map also (phase_on on s)) false ≡ true → c ≡ on
@@ -35,7 +33,7 @@ on-one test also c on ch a b = go ch.standing a b
         by false y f g p q = absurd (both_ways false refl p)
 
 -- an id drains on one circuit
-drains-one : (c on : Handle) (s : Stage) → drains_in c s ≡ true → drains_in on s ≡ true → c ≡ on
+pub drains-one : (c on : Handle) (s : Stage) → drains_in c s ≡ true → drains_in on s ≡ true → c ≡ on
 drains-one c on Stands a b = absurd (both_ways false refl a)
 drains-one c on (Cancelled d) a b = sym (same-is d c a) ∙ same-is d on b
 drains-one c on (Ended d) a b = sym (same-is d c a) ∙ same-is d on b

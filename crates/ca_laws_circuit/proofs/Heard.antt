@@ -1,7 +1,7 @@
 -- What a client reads: the reply to a request, and that a channel's record was removed.
 use Rattle.std.proofs.Common.{◌≡◌, ℕ, ◌≤◌, ◌⊎◌, inl, inr, Bool, true, false, ◌&&◌, cond, eqb, [], ◌∷◌, length, Option, Some, None, refl, sym, ap, ◌∙◌, subst, arith}
 use Rattle.std.specs.Prelude.{option_and_then, option_map, unwrap_or}
-use Rattle.std.proofs.lemmas.Bool.{and_from, and_parts, both_ways, or_cases, or_left, or_right}
+use Rattle.std.proofs.lemmas.Bool.{and_from, and_parts, both_ways, eqb-true, or_cases, or_left, or_right}
 use Rattle.ca_text.specs.Command.{command_number}
 use Rattle.ca_text.specs.declared.command.Command.TheVariants as command
 use Rattle.ca_text.specs.Limits.{arena_slots}
@@ -54,21 +54,22 @@ asks-last (history.On a (history.Cancel n)) m q suits is = tt
 asks-last history.OfCircuit m q suits is = tt
 
 -- what a reply finds was sent on its circuit, and has its IOID
-answered-is : (on : Handle) (command ioid : ℕ) (t : Table Request) (q : Handle) (r : Request) → answered_by on command ioid t ≡ Some (q, r) → (under t q ≡ Some r) × (wire_of q ≡ ioid) × (was_sent_on on r ≡ true)
+pub answered-is : (on : Handle) (command ioid : ℕ) (t : Table Request) (q : Handle) (r : Request) → answered_by on command ioid t ≡ Some (q, r) → (under t q ≡ Some r) × (wire_of q ≡ ioid) × (was_sent_on on r ≡ true) × (command_number (command_of r.asked) ≡ command)
 answered-is on command ioid t q r is = go (by_wire t ioid) refl is
   where
     go : (o : Option (Handle × Request)) → by_wire t ioid ≡ o
         → option_and_then (λ (e : Handle × Request). cond (was_sent_on on e.1 && eqb (command_number (command_of e.1.asked)) command) (Some e) None) o ≡ Some (q, r)
-        → (under t q ≡ Some r) × (wire_of q ≡ ioid) × (was_sent_on on r ≡ true)
+        → (under t q ≡ Some r) × (wire_of q ≡ ioid) × (was_sent_on on r ≡ true) × (command_number (command_of r.asked) ≡ command)
     go None found h = absurd cc
     go (Some e) found h = by (was_sent_on on e.1 && eqb (command_number (command_of e.1.asked)) command) refl h
       where
-        by : (b : Bool) → (was_sent_on on e.1 && eqb (command_number (command_of e.1.asked)) command) ≡ b → cond b (Some e) None ≡ Some (q, r) → (under t q ≡ Some r) × (wire_of q ≡ ioid) × (was_sent_on on r ≡ true)
+        by : (b : Bool) → (was_sent_on on e.1 && eqb (command_number (command_of e.1.asked)) command) ≡ b → cond b (Some e) None ≡ Some (q, r) → (under t q ≡ Some r) × (wire_of q ≡ ioid) × (was_sent_on on r ≡ true) × (command_number (command_of r.asked) ≡ command)
         by true is_it f =
             let same : e ≡ (q, r) = some_is e (q, r) f in
             let there = wire-under t ioid e found in
-            let sent : was_sent_on on e.1 ≡ true = (and_parts (was_sent_on on e.1) (eqb (command_number (command_of e.1.asked)) command) is_it).0 in
-            subst (λ (x : Handle × Request). (under t x.0 ≡ Some x.1) × (wire_of x.0 ≡ ioid) × (was_sent_on on x.1 ≡ true)) same (there.0, there.1, sent)
+            let parts = and_parts (was_sent_on on e.1) (eqb (command_number (command_of e.1.asked)) command) is_it in
+            subst (λ (x : Handle × Request). (under t x.0 ≡ Some x.1) × (wire_of x.0 ≡ ioid) × (was_sent_on on x.1 ≡ true) × (command_number (command_of x.1.asked) ≡ command)) same
+            (there.0, there.1, parts.0, eqb-true (command_number (command_of e.1.asked)) command parts.1)
         by false is_it f = absurd cc
 
 -- A reply or an ERROR that finds a request is about what was meant by it, and frees its IOID.

@@ -1,26 +1,25 @@
 -- The reply to a CREATE_CHAN was read: the channel is live, and the EVENT_ADDs of its subscriptions go out; or its caller cleared it
 -- meanwhile, and its CLEAR_CHANNEL goes out.
-use Rattle.std.proofs.Common.{◌≡◌, ℕ, ◌⊎◌, inl, inr, Bool, true, false, ◌&&◌, ◌||◌, List, [], ◌∷◌, ◌++◌, length, Option, Some, None, refl, sym, ap, ◌∙◌, subst}
-use Rattle.std.specs.Prelude.{filter, map, option_map, unwrap_or}
+use Rattle.std.proofs.Common.{◌≡◌, ℕ, inl, inr, Bool, true, false, ◌&&◌, ◌||◌, List, [], ◌∷◌, Option, Some, refl, sym, ap, ◌∙◌, subst}
+use Rattle.std.specs.Prelude.{map, option_map, unwrap_or}
 use Rattle.std.proofs.lemmas.Bool.{and_from, and_parts, both_ways, or_cases, or_left, or_right}
 use Rattle.ca_text.specs.Place.{At}
-use Rattle.ca_text.proofs.Places.{At-last, At-mapped, At-one, At-within}
+use Rattle.ca_text.proofs.Places.{At-mapped}
 use Rattle.ca_arena.specs.declared.handle.Handle.{Handle}
 use Rattle.ca_ids.specs.Table.{Table, held, under, with_changed}
 use Rattle.ca_ids.specs.Wire.{wire_of}
 use Rattle.ca_monitor.specs.Subscriptions.{Stage, Stands, Cancelled, Ended, Subscription, drains_in, is_to, standing_to, stands_in}
 use Rattle.ca_requests.specs.Requests.{was_sent_on}
 use Rattle.ca_model.specs.Answers.{Sending}
-use Rattle.ca_model.specs.Client.{Channel, Client, Clearing, Creating, Doomed, Live, Native, On, Phase, channel_on, is_on_in, sending, with_standing}
+use Rattle.ca_model.specs.Client.{Channel, Client, Clearing, Creating, Doomed, Live, Native, On, channel_on, is_on_in, sending, with_standing}
 use Rattle.ca_model.specs.ClientCalls.{clear_sent}
 use Rattle.ca_model.specs.Hears.{event_adds}
-use Rattle.ca_model.specs.Speech.{Id, Cid, Ioid, SubId, Gives}
+use Rattle.ca_model.specs.Speech.{Cid, Ioid, SubId}
 use Rattle.ca_model.specs.History.{Circuit, Intent, Sent, Step}
-use Rattle.ca_model.specs.History as history
 use Rattle.ca_model_safe.specs.Channels.{Suits, named}
 use Rattle.ca_model_world.specs.ClientEvents.{channel_number, meant_by}
 use Rattle.ca_model_world.specs.World.{Names as ClientNames}
-use Rattle.ca_laws_circuit.specs.Flows.{Concerns, MaySend, MaySendAll, with_all_sent, with_heard, with_sent}
+use Rattle.ca_laws_circuit.specs.Flows.{MaySend, MaySendAll, with_all_sent, with_heard, with_sent}
 use Rattle.ca_laws_circuit.specs.Held.{Holds, HoldsChannels, HoldsRequests, HoldsSubscriptions, HoldsIdsBy, IsAlike, MeanToSubscribe, clear_of, event_add_of, has_id, is_asked, is_subscribed}
 use Rattle.ca_laws_circuit.proofs.Alike.{changed-alike, holds-alike, ids-alike, sending-alike}
 use Rattle.ca_laws_circuit.proofs.Clears.{clear-goes, clear-gone, is-on}

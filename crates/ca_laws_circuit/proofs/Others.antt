@@ -1,16 +1,14 @@
 -- What a client does with a channel that is not on a circuit, or not live there: the circuit sees no difference.
-use Rattle.std.proofs.Common.{◌≡◌, ℕ, ◌⊎◌, inl, inr, Bool, true, false, ◌&&◌, ◌||◌, cond, List, [], ◌∷◌, Option, Some, None, refl, sym, ap, ◌∙◌, subst}
-use Rattle.std.specs.Prelude.{◌==◌, filter_map, fold, length, option_map, unwrap_or}
+use Rattle.std.proofs.Common.{◌≡◌, ℕ, ◌⊎◌, inl, inr, Bool, true, false, ◌&&◌, ◌||◌, cond, Option, Some, None, refl, sym, ap, ◌∙◌, subst}
+use Rattle.std.specs.Prelude.{◌==◌, length, option_map, unwrap_or}
 use Rattle.std.proofs.lemmas.Bool.{both_ways, cases_Bool, or_cases, and_parts}
-use Rattle.ca_text.specs.Place.{At}
-use Rattle.ca_text.proofs.Places.{some_is, At-mapped}
 use Rattle.ca_arena.specs.declared.handle.Handle.{Handle}
-use Rattle.ca_ids.specs.Table.{Table, held, same_handle, under, with_changed, with_freed}
+use Rattle.ca_ids.specs.Table.{Table, same_handle, under, with_changed}
 use Rattle.ca_monitor.specs.Subscriptions.{Stage, Stands, Cancelled, Ended, Subscription, drains_in, is_to, stage_over, stands_in, standing_under}
 use Rattle.ca_monitor.specs.Subscriptions as monitor
 use Rattle.ca_requests.specs.Requests.{Draining, Request, asks_on, was_sent_on}
 use Rattle.ca_requests.specs.Requests as request
-use Rattle.ca_model.specs.Client.{Channel, Client, ClientCircuit, Clearing, Connecting, Creating, Doomed, Leaving, Live, Native, On, Phase, Searching, Standing, channels_ended, channels_on, disconnected, ended, is_cleared, is_on_in, let_go, phase_on, searched_again, standing_at, with_requests, with_standing, without_channel, without_circuit, without_ids}
+use Rattle.ca_model.specs.Client.{Channel, Client, ClientCircuit, Clearing, Connecting, Creating, Doomed, Leaving, Live, Native, On, Phase, Searching, Standing, channels_on, disconnected, is_on_in, let_go, phase_on, standing_at, with_requests, with_standing, without_channel, without_circuit}
 use Rattle.ca_model.specs.ClientCalls.{all_over, cleared, unsubscribed_all, unwanted}
 use Rattle.ca_laws_circuit.specs.Held.{Attached, HoldAlike, IsAlike, has_id, is_asked, is_subscribed, was_live}
 use Rattle.ca_laws_circuit.proofs.Alike.{alike-itself, all-alike, all-freed-alike, changed-alike, channel-freed, client-itself, client-then, restood, with-others}

@@ -1,5 +1,5 @@
 -- An ERROR was read that refuses a subscription: its id is free.
-use Rattle.std.proofs.Common.{◌≡◌, ℕ, ◌<◌, ◌≤◌, ◌⊎◌, inl, inr, Bool, true, false, cond, length, Option, Some, None, refl, sym, ap, ◌∙◌, subst, arith}
+use Rattle.std.proofs.Common.{◌≡◌, ℕ, ◌≤◌, ◌⊎◌, inl, inr, Bool, true, false, cond, length, Option, Some, None, refl, sym, ap, ◌∙◌, subst, arith}
 use Rattle.std.specs.Prelude.{◌&&◌, option_and_then, option_map, unwrap_or}
 use Rattle.std.proofs.lemmas.Bool.{and_from, both_ways, or_right}
 use Rattle.ca_text.specs.declared.command.Command.TheVariants as command
@@ -7,9 +7,9 @@ use Rattle.ca_text.specs.Limits.{arena_slots}
 use Rattle.ca_text.specs.Place.{At}
 use Rattle.ca_text.proofs.Places.{some_is, At-one}
 use Rattle.ca_arena.specs.declared.handle.Handle.{Handle}
-use Rattle.ca_ids.specs.Table.{Table, by_wire, same_handle, under, with_freed}
+use Rattle.ca_ids.specs.Table.{by_wire, same_handle, under, with_freed}
 use Rattle.ca_ids.specs.Wire.{wire_of}
-use Rattle.ca_monitor.specs.Subscriptions.{Subscription, drains_in, standing_by, stands_in}
+use Rattle.ca_monitor.specs.Subscriptions.{Subscription, drains_in, stands_in}
 use Rattle.ca_model.specs.Client.{Channel, Client, Clearing, Connecting, Creating, Doomed, Leaving, Live, On, Phase, Searching, Standing, is_live, is_on_in}
 use Rattle.ca_model.specs.Hears.{heard_by, is_live_on, without_subscription}
 use Rattle.ca_model.specs.Speech.{Id, SubId, Gives, Is, Speaks}
@@ -18,7 +18,7 @@ use Rattle.ca_model.specs.History as history
 use Rattle.ca_model_safe.specs.Channels.{Suits, named}
 use Rattle.ca_model_world.specs.ClientEvents.{meant_by}
 use Rattle.ca_model_world.specs.World.{Names}
-use Rattle.ca_laws_circuit.specs.Flows.{Concerns, Flows, IsLast, IsPending, NoMore, with_heard}
+use Rattle.ca_laws_circuit.specs.Flows.{Flows, IsLast, IsPending, NoMore, with_heard}
 use Rattle.ca_laws_circuit.specs.Held.{Holds, has_id, is_subscribed}
 use Rattle.ca_laws_circuit.proofs.Ended.{Of}
 use Rattle.ca_laws_circuit.proofs.Flows.{given-now}

@@ -1,21 +1,20 @@
 -- Bytes that move and ends that end, as events of a world: what is held of each circuit stays so.
-use Rattle.std.proofs.Common.{◌≡◌, ℕ, ◌⊎◌, inl, inr, Bool, true, false, cond, List, [], ◌∷◌, ◌++◌, Option, Some, None, refl, sym, ap, ◌∙◌, subst}
-use Rattle.std.specs.Prelude.{Ok, drop, length, nat_lt, take}
+use Rattle.std.proofs.Common.{◌≡◌, ℕ, inl, inr, Bool, true, false, cond, List, [], refl, sym, ap, ◌∙◌, subst}
+use Rattle.std.specs.Prelude.{drop, length, nat_lt, take}
 use Rattle.std.proofs.lemmas.Bool.{both_ways, cases_Bool}
 use Rattle.ca_text.specs.Place.{At}
 use Rattle.ca_text.proofs.Places.{At-set}
-use Rattle.ca_arena.specs.declared.handle.Handle.{Handle}
 use Rattle.ca_ids.specs.Table.{same_handle}
-use Rattle.ca_model.specs.Answers.{Closing, Sending}
+use Rattle.ca_model.specs.Answers.{Closing}
 use Rattle.ca_model.specs.Client.{Client, ended}
 use Rattle.ca_model.specs.ClientEnds.{handed_over}
-use Rattle.ca_model.specs.History.{Line, OfCircuit}
-use Rattle.ca_model_world.specs.ClientEvents.{DownTaken, HappensCutClient, HappensDown, HappensUp, Outcomes, client_after, client_closed, client_ended, lines_of, up_taken, waiting_down}
+use Rattle.ca_model.specs.History.{OfCircuit}
+use Rattle.ca_model_world.specs.ClientEvents.{DownTaken, HappensCutClient, HappensDown, HappensUp, Outcomes, client_closed, client_ended, lines_of, waiting_down}
 use Rattle.ca_model_world.specs.World.{ClientSide, Joined, Names, ServerSide, World, with_circuit, with_client, with_server}
 use Rattle.ca_laws_circuit.specs.Flows.{Awaits}
 use Rattle.ca_laws_circuit.proofs.Alike.{holds-alike}
 use Rattle.ca_laws_circuit.proofs.Ends.{ended-elsewhere}
-use Rattle.ca_laws_runs.specs.Circuit.{HaveHandles, HeldAt, HeldOn, sent_to}
+use Rattle.ca_laws_runs.specs.Circuit.{HaveHandles, HeldAt, HeldOn}
 use Rattle.ca_laws_runs.proofs.Moves.{closed-held, down-held, up-held}
 use Rattle.ca_laws_runs.proofs.Sending.{none-sent-to}
 use Rattle.ca_laws_runs.proofs.Worlds.{after-call, circuit-changed, client-changed}

@@ -1,23 +1,21 @@
 -- A caller reads, puts, writes or subscribes: what is held of each circuit of its client stays so.
-use Rattle.std.proofs.Common.{◌≡◌, ℕ, inl, inr, Bool, true, false, List, [], ◌∷◌, ◌++◌, Option, Some, None, refl, sym, ap, ◌∙◌, subst}
-use Rattle.std.specs.Prelude.{Ok, length, option_and_then, option_map, unwrap_or}
-use Rattle.std.proofs.lemmas.Bool.{both_ways}
-use Rattle.ca_text.specs.declared.command.Command.TheVariants as command
+use Rattle.std.proofs.Common.{◌≡◌, ℕ, inl, inr, true, false, List, [], ◌∷◌, Option, refl, sym, ap, ◌∙◌, subst}
+use Rattle.std.specs.Prelude.{Ok, option_map, unwrap_or}
 use Rattle.ca_dbr.specs.Elements.{Elements}
 use Rattle.ca_text.specs.Place.{At}
 use Rattle.ca_arena.specs.declared.handle.Handle.{Handle}
-use Rattle.ca_ids.specs.Table.{MayGive, Table, same_handle, under, with_held}
+use Rattle.ca_ids.specs.Table.{MayGive, same_handle, with_held}
 use Rattle.ca_ids.specs.Wire.{wire_of}
 use Rattle.ca_monitor.specs.Subscriptions.{Subscription}
 use Rattle.ca_requests.specs.Requests.{Asked, Request, was_sent_on}
 use Rattle.ca_requests.specs.Requests as request
 use Rattle.ca_model.specs.Answers.{Sending}
-use Rattle.ca_model.specs.Client.{Channel, Client, Live, Native, On, is_on_in, sending, standing_at}
-use Rattle.ca_model.specs.ClientCalls.{ClientPuts, ClientReads, ClientSubscribes, ClientWrites, IsLive, LiveChannel, Shape, event_add_sent, issued, new_subscription, put_sent, read_sent, write_sent}
+use Rattle.ca_model.specs.Client.{Channel, Client, Live, On, is_on_in, sending}
+use Rattle.ca_model.specs.ClientCalls.{ClientPuts, ClientReads, ClientSubscribes, ClientWrites, LiveChannel, Shape, event_add_sent, issued, new_subscription, put_sent, read_sent, write_sent}
 use Rattle.ca_model.specs.History.{Circuit, Intent, Kind, Sent}
 use Rattle.ca_model.specs.History as history
-use Rattle.ca_model.specs.Speech.{Id, Cid, Ioid, SubId, Is}
-use Rattle.ca_model_safe.specs.Channels.{Suits, named}
+use Rattle.ca_model.specs.Speech.{Ioid, SubId}
+use Rattle.ca_model_safe.specs.Channels.{Suits}
 use Rattle.ca_model_world.specs.ClientEvents.{channel_number, intent_of, meant_by}
 use Rattle.ca_model_world.specs.World.{Joined, Names}
 use Rattle.ca_laws_circuit.specs.Flows.{Awaits, MaySend, with_sent}
@@ -29,7 +27,7 @@ use Rattle.ca_laws_circuit.proofs.Others.{fails-elsewhere}
 use Rattle.ca_laws_circuit.proofs.Subscribes.{subscribe-keeps, subscribe-may}
 use Rattle.ca_laws_circuit.proofs.Writes.{write-keeps, write-may}
 use Rattle.ca_laws_runs.specs.Circuit.{AreGiven, HeldOn, sent_to, stamped}
-use Rattle.ca_laws_runs.proofs.Sending.{channel-named, new-name, none-sent-to, one-sent}
+use Rattle.ca_laws_runs.proofs.Sending.{channel-named, new-name, one-sent}
 
 -- ---- one name more
 

@@ -1,28 +1,26 @@
 -- A caller clears a channel or ends a subscription: what is held of each circuit of its client stays so.
-use Rattle.std.proofs.Common.{◌≡◌, ℕ, ◌⊎◌, inl, inr, Bool, true, false, ◌&&◌, ◌||◌, cond, List, [], ◌∷◌, ◌++◌, Option, Some, None, refl, sym, ap, ◌∙◌, subst}
+use Rattle.std.proofs.Common.{◌≡◌, ℕ, inl, inr, Bool, true, false, ◌&&◌, ◌||◌, cond, List, [], ◌∷◌, Option, Some, None, refl, sym, ap, ◌∙◌, subst}
 use Rattle.std.specs.Prelude.{Ok, option_and_then, option_map, unwrap_or}
-use Rattle.std.proofs.lemmas.Bool.{and_from, both_ways, cases_Bool, or_right}
-use Rattle.ca_text.specs.Place.{At}
+use Rattle.std.proofs.lemmas.Bool.{both_ways}
 use Rattle.ca_text.proofs.Places.{some_is}
 use Rattle.ca_arena.specs.declared.handle.Handle.{Handle}
-use Rattle.ca_ids.specs.Table.{Table, same_handle, under, with_changed, with_freed}
-use Rattle.ca_ids.specs.Wire.{wire_of}
-use Rattle.ca_monitor.specs.Subscriptions.{Stage, Stands, Cancelled, Ended, Subscription, drains_in, standing_under, stands_in, with_stage}
+use Rattle.ca_ids.specs.Table.{same_handle, under, with_freed}
+use Rattle.ca_monitor.specs.Subscriptions.{Stage, Stands, Cancelled, Ended, Subscription, drains_in, stands_in, with_stage}
 use Rattle.ca_requests.specs.Requests.{was_sent_on}
 use Rattle.ca_model.specs.Answers.{Notice, Sending}
-use Rattle.ca_model.specs.Client.{Channel, Client, Clearing, Connecting, Creating, Doomed, Leaving, Live, Native, On, Phase, Searching, Standing, is_cleared, is_on_in, phase_on, sending, standing_at, standing_unless_cleared}
+use Rattle.ca_model.specs.Client.{Channel, Client, Clearing, Connecting, Creating, Doomed, Leaving, Live, On, Phase, Searching, Standing, is_cleared, is_on_in, phase_on, sending, standing_at, standing_unless_cleared}
 use Rattle.ca_model.specs.ClientCalls.{ClientClears, ClientUnsubscribes, StandsAs, cancel_sent, clear_sent, cleared, clearing_sent, event_cancel_sent, unsubscribed}
 use Rattle.ca_model.specs.History.{Circuit, Intent, Sent}
 use Rattle.ca_model.specs.History as history
 use Rattle.ca_model_safe.specs.Channels.{Suits}
-use Rattle.ca_model_world.specs.ClientEvents.{cancelled, channel_number, meant_by}
+use Rattle.ca_model_world.specs.ClientEvents.{cancelled, channel_number}
 use Rattle.ca_model_world.specs.World.{Joined, Names}
 use Rattle.ca_laws_circuit.specs.Flows.{Awaits, MaySend, with_sent}
 use Rattle.ca_laws_circuit.specs.Held.{Attached, HoldAlike, Holds, MeanToSubscribe, clear_of, has_id, is_subscribed}
 use Rattle.ca_laws_circuit.proofs.Alike.{alike-itself, changed-alike, freed-alike, holds-alike, sending-alike, with-others}
-use Rattle.ca_laws_circuit.proofs.Clears.{clears, found-standing, is-on}
+use Rattle.ca_laws_circuit.proofs.Clears.{clears, found-standing}
 use Rattle.ca_laws_circuit.proofs.Handles.{same-itself}
-use Rattle.ca_laws_circuit.proofs.Others.{cleared-away, cleared-early, cleared-elsewhere, cleared-left, fails-anywhere, fails-elsewhere, fails-searched}
+use Rattle.ca_laws_circuit.proofs.Others.{cleared-away, cleared-early, cleared-elsewhere, cleared-left, fails-anywhere, fails-searched}
 use Rattle.ca_laws_circuit.proofs.Subscribes.{unsubscribe-keeps, unsubscribe-may}
 use Rattle.ca_laws_runs.specs.Circuit.{HeldOn, sent_to, stamped}
 use Rattle.ca_laws_runs.proofs.Calls.{no-creation-clear}

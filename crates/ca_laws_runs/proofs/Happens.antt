@@ -1,12 +1,10 @@
 -- The calls of a client as events of a world: what is held of each circuit stays so.
-use Rattle.std.proofs.Common.{◌≡◌, ℕ, ◌+◌, List, [], ◌∷◌, ◌++◌, Option, Some, None, inl, inr, refl, sym, subst}
-use Rattle.std.specs.Prelude.{Ok, length}
+use Rattle.std.proofs.Common.{ℕ, ◌+◌, List, [], ◌∷◌, Some, None, inl, inr, sym, subst}
+use Rattle.std.specs.Prelude.{length}
 use Rattle.ca_text.specs.Place.{At}
 use Rattle.ca_arena.specs.declared.handle.Handle.{Handle}
 use Rattle.ca_dbr.specs.Elements.{Elements}
-use Rattle.ca_model.specs.Answers.{Notice, Sending}
-use Rattle.ca_model.specs.Client.{Client}
-use Rattle.ca_model.specs.ClientCalls.{ClientClears, ClientPuts, ClientReads, ClientSubscribes, ClientUnsubscribes, ClientWrites, Shape}
+use Rattle.ca_model.specs.Answers.{Notice}
 use Rattle.ca_model.specs.History.{Intent}
 use Rattle.ca_model.specs.History as history
 use Rattle.ca_model_world.specs.ClientEvents.{HappensClear, HappensRead, HappensSubscribe, HappensUnsubscribe, HappensWrite, HappensWriteNotify, Outcomes, cancelled, lines_of}

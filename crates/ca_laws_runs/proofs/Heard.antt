@@ -1,45 +1,37 @@
 -- A message that a client reads: what it does to the client's tables, and what it sends, on its own circuit and seen from others.
-use Rattle.std.proofs.Common.{◌≡◌, ℕ, zero, suc, ◌<◌, ◌⊎◌, inl, inr, Bool, true, false, ◌&&◌, cond, eqb, List, [], ◌∷◌, ◌++◌, length, Option, Some, None, refl, sym, ap, ◌∙◌, subst, arith}
-use Rattle.std.specs.Prelude.{filter, map, option_map, unwrap_or}
-use Rattle.std.proofs.lemmas.Bool.{and_from, and_parts, both_ways, cases_Bool, eq-eqb}
-use Rattle.std.proofs.lemmas.List.{append-nil}
-use Rattle.ca_text.specs.Command.{command_number}
+use Rattle.std.proofs.Common.{◌≡◌, ℕ, zero, suc, true, false, ◌&&◌, List, [], ◌∷◌, Option, Some, None, refl, sym, ap, ◌∙◌, subst, arith}
+use Rattle.std.specs.Prelude.{map, option_map, unwrap_or}
 use Rattle.ca_text.specs.declared.command.Command.TheVariants as command
 use Rattle.ca_text.specs.Place.{At}
-use Rattle.ca_text.proofs.Places.{At-mapped, At-snoc, At-within}
+use Rattle.ca_text.proofs.Places.{At-mapped}
 use Rattle.ca_arena.specs.declared.handle.Handle.{Handle}
-use Rattle.ca_ids.specs.Table.{Table, held, same_handle, under}
-use Rattle.ca_ids.specs.Wire.{wire_of}
-use Rattle.ca_monitor.specs.Subscriptions.{Subscription, confirmed_by, is_to, standing_to, stands_in}
+use Rattle.ca_ids.specs.Table.{held, same_handle}
+use Rattle.ca_monitor.specs.Subscriptions.{Subscription, is_to, standing_to, stands_in}
 use Rattle.ca_requests.specs.Requests.{Draining, Open, Request, Stage, answered_by, was_sent_on}
 use Rattle.ca_requests.specs.Requests as request
 use Rattle.ca_wire.specs.Fields.{Fields}
-use Rattle.ca_wire.specs.declared.header.Header.{Header}
-use Rattle.ca_requests.specs.Meaning.{Means, QuotesHeader}
 use Rattle.ca_model.specs.Answers.{Notice, Sending}
-use Rattle.ca_model.specs.Client.{Channel, Client, Clearing, Connecting, Creating, Doomed, Leaving, Live, Native, On, Phase, Searching, Standing, channel_on, is_on_in, searched_again, sending, with_requests, with_standing, without_channel}
+use Rattle.ca_model.specs.Client.{Client, Clearing, Connecting, Creating, Doomed, Leaving, Live, On, Phase, channel_on, searched_again, sending, with_requests, with_standing, without_channel}
 use Rattle.ca_model.specs.ClientCalls.{clear_sent, event_add_sent}
-use Rattle.ca_model.specs.Hears.{Effect, becomes, clear_answered, created, doing, event_adds, failed, left, native_in, rights_told, without_drained}
+use Rattle.ca_model.specs.Hears.{Effect, clear_answered, created, doing, event_adds, failed, left, native_in, rights_told, without_drained}
 use Rattle.ca_model.specs.History.{Circuit, Intent, Sent, Step}
 use Rattle.ca_model.specs.History as history
-use Rattle.ca_model.specs.Speech.{Id, Cid, Ioid, SubId, Is}
-use Rattle.ca_model_world.specs.ClientEvents.{channel_number, intent_of, meant_by}
-use Rattle.ca_model_world.specs.World.{Joined, Names}
+use Rattle.ca_model.specs.Speech.{Is}
+use Rattle.ca_model_world.specs.ClientEvents.{channel_number, intent_of}
+use Rattle.ca_model_world.specs.World.{Names}
 use Rattle.ca_laws_circuit.specs.Flows.{Awaits, Flows, MaySendAll, with_all_sent, with_heard, with_sent}
 use Rattle.ca_laws_circuit.specs.Held.{Attached, HoldAlike, Holds, MeanToSubscribe, clear_of, event_add_of, is_asked, is_subscribed}
-use Rattle.ca_laws_circuit.proofs.Alike.{client-itself, holds-alike, restood, sending-alike}
+use Rattle.ca_laws_circuit.proofs.Alike.{client-itself, holds-alike, restood}
 use Rattle.ca_laws_circuit.proofs.Answered.{answered-heard}
 use Rattle.ca_laws_circuit.proofs.Ended.{failure-heard}
 use Rattle.ca_laws_circuit.proofs.Ends.{answered-elsewhere, gone-elsewhere, phase-elsewhere}
-use Rattle.ca_laws_circuit.proofs.Handles.{same-is}
 use Rattle.ca_laws_circuit.proofs.Heard.{channel-on, holds-heard, removal-heard}
 use Rattle.ca_laws_circuit.proofs.Lives.{doomed-heard, live-heard}
-use Rattle.ca_laws_circuit.proofs.Many.{flows-all-sent, none-sent}
+use Rattle.ca_laws_circuit.proofs.Many.{none-sent}
 use Rattle.ca_laws_circuit.proofs.Marks.{at-filter}
 use Rattle.ca_laws_circuit.proofs.Others.{left-elsewhere, passes-alike}
 use Rattle.ca_laws_circuit.proofs.Tables.{held-under}
-use Rattle.ca_laws_runs.specs.Circuit.{AreCids, HeldOn, IsKnown, sent_to, stamped}
-use Rattle.ca_laws_runs.proofs.Sending.{KeepNames, with_up}
+use Rattle.ca_laws_runs.specs.Circuit.{IsKnown, stamped}
 
 -- ---- many messages on one circuit
 

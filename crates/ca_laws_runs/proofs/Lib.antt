@@ -6,3 +6,7 @@ pub mod Worlds
 pub mod Happens
 pub mod Bytes
 pub mod Heard
+pub mod Ids
+pub mod Steps
+pub mod Finds
+pub mod ClientSteps

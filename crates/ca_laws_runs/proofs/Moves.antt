@@ -1,22 +1,20 @@
 -- Bytes move, and ends of circuits end: what is held of each circuit of the client stays so.
-use Rattle.std.proofs.Common.{◌≡◌, ℕ, inl, inr, Bool, true, false, cond, eqb, List, [], ◌∷◌, ◌++◌, Option, Some, None, refl, sym, ap, ◌∙◌, subst, arith}
+use Rattle.std.proofs.Common.{◌≡◌, ℕ, Bool, true, false, cond, List, [], ◌∷◌, Option, Some, None, refl, sym, subst, arith}
 use Rattle.std.specs.Prelude.{Ok, is_some, map, option_to_list}
 use Rattle.ca_link.specs.Link.{with_handed}
 use Rattle.std.proofs.lemmas.Bool.{both_ways}
-use Rattle.ca_text.specs.Command.{command_number}
 use Rattle.ca_text.specs.declared.command.Command.{Command}
 use Rattle.ca_text.specs.declared.command.Command.TheVariants as command
 use Rattle.ca_arena.specs.declared.handle.Handle.{Handle}
 use Rattle.ca_ids.specs.Table.{same_handle}
 use Rattle.ca_monitor.specs.ReadRun.{after_read, asked_between, sent_by_read}
-use Rattle.ca_model.specs.Answers.{Closing, Sending}
+use Rattle.ca_model.specs.Answers.{Sending}
 use Rattle.ca_model.specs.Client.{Client, Connection, connection_at, ended, on_connection, sending}
 use Rattle.ca_model.specs.ClientEnds.{ClientGives, GivesOn, given, handed_over, of_circuit}
-use Rattle.ca_model.specs.ClientEnds as ends
 use Rattle.ca_model.specs.History.{Circuit}
 use Rattle.ca_model.specs.History as history
 use Rattle.ca_wire.specs.Messages.{bare}
-use Rattle.ca_model_safe.specs.Channels.{Asks, Suits}
+use Rattle.ca_model_safe.specs.Channels.{Suits}
 use Rattle.ca_model_world.specs.ClientEvents.{client_closed}
 use Rattle.ca_model_world.specs.World.{Joined, Names}
 use Rattle.ca_laws_circuit.specs.Flows.{Awaits, Flows}

@@ -1,6 +1,6 @@
 -- One message of a client, on its own circuit and on the others; and names of which one is new.
-use Rattle.std.proofs.Common.{◌≡◌, ℕ, zero, suc, ◌+◌, ◌≤◌, inl, inr, Bool, true, false, ◌&&◌, cond, eqb, List, [], ◌∷◌, ◌++◌, Option, Some, None, refl, sym, ap, ◌∙◌, subst, arith}
-use Rattle.std.specs.Prelude.{filter, find, length, map}
+use Rattle.std.proofs.Common.{◌≡◌, ℕ, suc, ◌+◌, ◌≤◌, inl, inr, Bool, true, false, ◌&&◌, cond, eqb, List, [], ◌∷◌, ◌++◌, Some, None, refl, sym, ap, ◌∙◌, subst, arith}
+use Rattle.std.specs.Prelude.{find, map}
 use Rattle.std.proofs.lemmas.Bool.{and_from, and_parts, both_ways, cases_Bool, eq-eqb}
 use Rattle.std.proofs.lemmas.List.{append-nil}
 use Rattle.ca_text.specs.Place.{At}
@@ -14,7 +14,7 @@ use Rattle.ca_model.specs.Client.{Client}
 use Rattle.ca_model.specs.History.{Circuit, Create, Intent, On, Sent}
 use Rattle.ca_model_world.specs.ClientEvents.{channel_number, place_of}
 use Rattle.ca_model_world.specs.World.{Joined, Names}
-use Rattle.ca_laws_circuit.specs.Flows.{Awaits, Flows, MaySend, with_sent}
+use Rattle.ca_laws_circuit.specs.Flows.{Awaits, MaySend, with_sent}
 use Rattle.ca_laws_circuit.specs.Held.{Holds, IsNew}
 use Rattle.ca_laws_circuit.proofs.Flows.{flows-sent}
 use Rattle.ca_laws_circuit.proofs.Handles.{same-is}

@@ -1,7 +1,7 @@
 -- What an event of a client leaves of each circuit of a world, by what it leaves of those of that client.
-use Rattle.std.proofs.Common.{◌≡◌, ℕ, zero, suc, ◌<◌, ◌⊎◌, inl, inr, Bool, true, false, ◌&&◌, cond, eqb, List, [], ◌∷◌, ◌++◌, Option, Some, None, refl, sym, ap, ◌∙◌, subst, arith}
+use Rattle.std.proofs.Common.{◌≡◌, ℕ, zero, suc, ◌<◌, ◌⊎◌, inl, inr, Bool, true, false, ◌&&◌, cond, eqb, List, [], ◌∷◌, ◌++◌, refl, sym, ap, ◌∙◌, subst, arith}
 use Rattle.std.specs.Prelude.{filter, length, map, slice_set}
-use Rattle.std.proofs.lemmas.Bool.{both_ways, cases_Bool, eq-eqb, eqb-true}
+use Rattle.std.proofs.lemmas.Bool.{eqb-true}
 use Rattle.std.proofs.lemmas.List.{append-nil}
 use Rattle.ca_text.specs.Place.{At}
 use Rattle.ca_text.proofs.Places.{At-map, At-one, At-set-other, At-within}
@@ -9,8 +9,8 @@ use Rattle.ca_text.specs.declared.refusal.Refusal.{Refusal}
 use Rattle.ca_ids.specs.Table.{same_handle}
 use Rattle.ca_model.specs.Answers.{Sending}
 use Rattle.ca_model.specs.Client.{Client}
-use Rattle.ca_model.specs.History.{Line, Sent}
-use Rattle.ca_model_world.specs.ClientEvents.{Outcomes, client_after, refused, sent_on}
+use Rattle.ca_model.specs.History.{Sent}
+use Rattle.ca_model_world.specs.ClientEvents.{Outcomes, client_after, refused}
 use Rattle.ca_model_world.specs.World.{ClientSide, Joined, Names, World, with_circuit, with_client}
 use Rattle.ca_laws_circuit.proofs.Settled.{three-ways}
 use Rattle.ca_laws_runs.specs.Circuit.{HeldAt, HeldOn, sent_to, stamped}
@@ -101,4 +101,50 @@ client-changed kept w i k x new at keeps held =
           let was : HeldOn kept x.names x.core j = subst (λ (z : ClientSide). HeldOn kept z.names z.core j) same held.4 in
           (j, new, held.2, subst (λ (c : ℕ). At (slice_set w.clients i new) c new) (sym mine) (set-there w.clients i new (At-within w.clients i x at)), keeps j mine was)
       | inr other ↦ (j, held.1, held.2, At-set-other w.clients i j.client held.1 new held.3 other, held.4)
+    ]
+
+-- A step of a client on circuit k: what is held of that after it, and of the client's others, is held in the world after it.
+pub after-step : (kept : List ℕ) (w : World) (k l : ℕ) (j next : Joined) (x : ClientSide) (spoken : Names) (o : Outcomes) → At w.circuits k j → At w.clients j.client x → next.client ≡ j.client
+    → (HeldOn kept x.names x.core j → HeldOn kept o.names o.core (sent_to j.client spoken o.sent next))
+    → ((a : Joined) → At w.circuits l a → (l ≡ k → ⊥) → a.client ≡ j.client → HeldOn kept x.names x.core a → HeldOn kept o.names o.core (sent_to j.client spoken o.sent a))
+    → HeldAt kept w l → HeldAt kept (client_after j.client x spoken o (with_circuit k next w)) l
+after-step kept w k l j next x spoken o at there same own others held =
+    let i : ℕ = j.client in
+    let after : ClientSide = record x { core = o.core; names = o.names } in
+    let a : Joined = held.0 in
+    let ours : At (slice_set w.clients i after) i after = set-there w.clients i after (At-within w.clients i x there) in
+    elim (number-or l k) [
+      | inl is ↦
+          let one : a ≡ j = At-one w.circuits k a j (subst (λ (b : ℕ). At w.circuits b a) is held.2) at in
+          let client : held.1 ≡ x = At-one w.clients i held.1 x (subst (λ (z : Joined). At w.clients z.client held.1) one held.3) there in
+          let was : HeldOn kept x.names x.core j = subst (λ (z : Joined × ClientSide). HeldOn kept z.1.names z.1.core z.0) (λ b. (one b, client b)) held.4 in
+          (
+            sent_to i spoken o.sent next,
+            after,
+            subst (λ (b : ℕ). At (map (sent_to i spoken o.sent) (slice_set w.circuits k next)) b (sent_to i spoken o.sent next)) (sym is)
+                (At-map (sent_to i spoken o.sent) (slice_set w.circuits k next) k next (set-there w.circuits k next (At-within w.circuits k j at))),
+            subst (λ (b : ℕ). At (slice_set w.clients i after) b after) (sym same) ours,
+            own was,
+          )
+      | inr differs ↦
+          let stands : At (map (sent_to i spoken o.sent) (slice_set w.circuits k next)) l (sent_to i spoken o.sent a) =
+          At-map (sent_to i spoken o.sent) (slice_set w.circuits k next) l a (At-set-other w.circuits k l a next held.2 differs) in
+          elim (number-or a.client i) [
+            | inl mine ↦
+                let client : held.1 ≡ x = At-one w.clients i held.1 x (subst (λ (b : ℕ). At w.clients b held.1) mine held.3) there in
+                (
+                  sent_to i spoken o.sent a,
+                  after,
+                  stands,
+                  subst (λ (b : ℕ). At (slice_set w.clients i after) b after) (sym mine) ours,
+                  others a held.2 differs mine (subst (λ (z : ClientSide). HeldOn kept z.names z.core a) client held.4),
+                )
+            | inr other ↦ (
+              sent_to i spoken o.sent a,
+              held.1,
+              stands,
+              At-set-other w.clients i a.client held.1 after held.3 other,
+              other-client kept i held.1.names spoken held.1.core o.sent a other held.4,
+            )
+          ]
     ]

@@ -1,12 +1,16 @@
-ghost use Rattle.std.specs.Prelude.{◌≡◌, List, true, ℕ};
+ghost use Rattle.std.specs.Prelude.{◌≡◌, List, Some, true, ℕ};
 ghost use Rattle.ca_text.specs.Place.{At};
 ghost use Rattle.ca_arena.specs.declared.handle.Handle.{Handle};
 ghost use Rattle.ca_dbr.specs.Elements.{Elements};
+ghost use Rattle.ca_link.specs.Link.{TakesFirst};
+ghost use Rattle.ca_wire.specs.Fields.{Fields};
+ghost use Rattle.ca_model.specs.Client.{Connection, connection_at};
+ghost use Rattle.ca_model.specs.ClientEnds.{after_taking};
 ghost use Rattle.ca_model.specs.History.{Intent};
-ghost use Rattle.ca_model_world.specs.ClientEvents.{HappensClear, HappensCutClient, HappensDown, HappensRead, HappensSubscribe, HappensUnsubscribe, HappensUp, HappensWrite, HappensWriteNotify};
+ghost use Rattle.ca_model_world.specs.ClientEvents.{HappensClear, HappensClientStep, HappensCutClient, HappensDown, HappensRead, HappensSubscribe, HappensUnsubscribe, HappensUp, HappensWrite, HappensWriteNotify};
 ghost use Rattle.ca_model_world.specs.World.{ClientSide, Joined, ServerSide, World};
 ghost use Rattle.ca_laws_circuit.specs.Held.{Attached, MeanToSubscribe};
-ghost use Rattle.ca_laws_runs.specs.Circuit.{AreGiven, HaveHandles, HeldAt};
+ghost use Rattle.ca_laws_runs.specs.Circuit.{AreGiven, AreNumbered, HaveHandles, HeldAt, IsKnown};
 
 /// A call of a client, done or refused, keeps what is held of each circuit of the world: its
 /// messages may be sent, and each id that may still come back is held by what it was given to last.
@@ -44,4 +48,17 @@ pub fn moves_keep_each_circuit()
     ensures cut { (kept : List ℕ) (w new : World) (k l : ℕ) (j : Joined) (x : ClientSide)
         → At w.circuits k j → At w.clients j.client x → j.lists.client_open ≡ true → HaveHandles w
         → HappensCutClient w k j x new → HeldAt kept w l → HeldAt kept new l }
+{}
+
+/// So does a step of a client's end: whatever message it reads, and whether it reads one or closes.
+/// The message that comes next is one that the server sent, and it is known what that is about.
+pub fn a_clients_step_keeps_each_circuit()
+    ensures { (kept : List ℕ) (w new : World) (k l : ℕ) (j : Joined) (x : ClientSide)
+        (d : Connection) → At w.circuits k j → At w.clients j.client x
+        → j.lists.client_open ≡ true → connection_at x.core j.at_client ≡ Some d → HaveHandles w
+        → Attached x.core → MeanToSubscribe x.names x.core.subscriptions
+        → AreNumbered x.names x.core
+        → ((m : Fields) (rest : List ℕ) → TakesFirst d.link m rest
+        → IsKnown x.names (after_taking j.at_client rest x.core) j.at_client j.lists m)
+        → HappensClientStep w k j x new → HeldAt kept w l → HeldAt kept new l }
 {}

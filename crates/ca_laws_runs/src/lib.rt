@@ -3,4 +3,6 @@
 
 mod circuits;
 
-pub use circuits::{calls_keep_each_circuit, moves_keep_each_circuit};
+pub use circuits::{
+    a_clients_step_keeps_each_circuit, calls_keep_each_circuit, moves_keep_each_circuit,
+};
