@@ -1,6 +1,6 @@
 -- Events at a server: what each does before circuits end.
 use Rattle.std.proofs.Common.{◌≡◌, ℕ, zero, suc, ◌+◌, ◌<◌, ◌≤◌, ◌⊎◌, inl, inr, Bool, true, false, cond, not, ◌&&◌, ◌==◌, ne_eqb, List, [], ◌∷◌, ◌++◌, length, Option, Some, None, refl, sym, ap, subst, ◌∙◌, append-nil, arith}
-use Rattle.std.specs.Prelude.{drop, filter, find, is_some, map, option_map, slice_set, slice_get, unwrap_or}
+use Rattle.std.specs.Prelude.{drop, take, filter, find, is_some, map, option_map, slice_set, slice_get, unwrap_or}
 use Rattle.std.specs.List.{fold, list_any}
 use Rattle.std.specs.Str.{bytes_eq}
 use Rattle.std.proofs.lemmas.Slice.Eq.{bytes_eq-Decides}
@@ -11,28 +11,28 @@ use Rattle.ca_dbr.specs.Elements.{base_of}
 use Rattle.ca_ids.specs.Table.{same_handle, under}
 use Rattle.ca_queue.specs.declared.entry.SubKey.{SubKey}
 use Rattle.ca_records.specs.declared.puts.Put.{Put}
-use Rattle.ca_records.specs.Puts.{Record, WaitingPut, finished, record_named, removed, with_record, with_value}
+use Rattle.ca_records.specs.Puts.{Record, WaitingPut, finished, new_record, record_named, removed, with_record, with_value}
 use Rattle.ca_records.specs.Record.{RecordState, unset}
 use Rattle.ca_wire.specs.Fields.{Fields}
 use Rattle.ca_model.specs.Server.{Server}
 use Rattle.ca_model.specs.ServerSteps.{stored_now}
 use Rattle.ca_model.specs.Speech.{In, Stored}
-use Rattle.ca_model.specs.History.{Applied, Entry, Finished, Posted, Removed, Reply, Sent, Step, Waits, Withdrawn}
+use Rattle.ca_model.specs.History.{Added, Applied, Entry, Finished, Posted, Removed, Reply, Sent, Step, Waits, Withdrawn}
 use Rattle.ca_model_world.specs.ServerEvents.{about, ends_by, finish_entry, first_of, left_by, next_busy, next_entries, next_numbers, number_of, numbers_posted, posted_entry, removal_entries, removed_at, replied_at, with_number}
 use Rattle.ca_model_world.specs.ServerEvents as event
-use Rattle.ca_model_world.specs.World.{Joined, PutPlace, RecordSide, ServerSide, World, with_circuit, with_entries, with_server}
+use Rattle.ca_model_world.specs.World.{Joined, PutPlace, RecordSide, ServerSide, World, record_begun, with_circuit, with_entries, with_server}
 use Rattle.ca_laws_writes.specs.Both.{Both}
 use Rattle.ca_laws_writes.specs.Once.{write_in}
 use Rattle.ca_laws_writes.specs.Agrees.{Agree, Agrees, AreOthers, IsBusyBy, IsBusyWith, WaitsAs}
 use Rattle.ca_laws_writes.specs.Lives.{AreLater, AreOpen, CameOn, IsPutOf, Later, Life, LostOn}
 use Rattle.ca_laws_writes.specs.Moves.{EndsOnly, Lives, Midway, WasHandled, Writes}
-use Rattle.ca_laws_writes.proofs.Lists.{both-at, beside-left, beside-right, none_at}
+use Rattle.ca_laws_writes.proofs.Lists.{At-take, In-kept, both-at, beside-left, beside-right, none_at}
 use Rattle.ca_laws_writes.proofs.Ending.{later-self}
 use Rattle.ca_laws_writes.proofs.Lives.{agree-posted, bytes-same, number-of, others-apart, waits-there}
 use Rattle.ca_laws_writes.proofs.Going.{life-later}
 use Rattle.ca_laws_writes.proofs.Finishes.{agree-finished}
-use Rattle.ca_laws_writes.proofs.Coming.{agree-removed, removal-is}
-use Rattle.ca_laws_writes.proofs.Moves.{handled-later, same-or, told-on}
+use Rattle.ca_laws_writes.proofs.Coming.{agree-added, agree-removed, removal-is}
+use Rattle.ca_laws_writes.proofs.Moves.{handled-later, moves-keep, same-or, told-on}
 use Rattle.ca_laws_writes.proofs.Midway.{grown-back, grown-here, grown-other}
 use Rattle.ca_laws_writes.proofs.Records.{withdrawing}
 
@@ -331,3 +331,119 @@ midway-finish w i y name sent c r place p at h named in_rs is_name busy =
             let s = waited x (0, refl) in
             subst (λ (z : PutPlace). WasHandled cs z) same (still-handled w cs y.life own-log (Waits x.circuit x.place r.number s.0) x h (h.lives i y at).at later s.1 refl)
         go (u ∷ ws) (x ∷ ps) waited (suc (suc k)) is = absurd (none_at k e is)
+
+-- ---- a removal
+
+-- the world in which a removal is told
+abbrev pub removal_told : World → (i : ℕ) → ServerSide → List ℕ → (gone : Handle → Bool) → (left : Handle → ℕ) → World
+removal_told w i y name gone left =
+    with_entries y.life (removal_entries name y.records) (with_server i (record y { records = filter (λ (r : RecordSide). not (bytes_eq r.name name)) y.records }) (record w { circuits = map (removed_at i y.core name gone left) w.circuits }))
+
+pub midway-remove : (w : World) (i : ℕ) (y : ServerSide) (name : List ℕ) (gone : Handle → Bool) (left : Handle → ℕ) (c : Record) (at : At w.servers i y) (h : Writes w) → record_named y.core.records name ≡ Some c
+    → Midway w (removal_told w i y name gone left) i y (record y { records = filter (λ (r : RecordSide). not (bytes_eq r.name name)) y.records }) (h.lives i y at).log (removal_entries name y.records) (removed name y.core.records)
+midway-remove w i y name gone left c at h named =
+    let own = h.lives i y at in
+    let log : List Entry = own.log in
+    let more : List Entry = removal_entries name y.records in
+    let new : List Joined = map (removed_at i y.core name gone left) w.circuits in
+    let same : AreSame w.circuits new = same-map (removed_at i y.core name gone left) w.circuits (removed-same i y.core name gone left) in
+    let later : AreLater w.circuits new = are-later w.circuits new same in
+    let f = found (IsPutOf w.circuits i) log y.core.records y.records name c own.life.each named in
+    let before : Life new i y.life log y.core.records y.records y.added = life-later w.circuits new i y.life log y.core.records y.records y.added later own.life in
+    let after = agree-removed (CameOn new y.life) (LostOn new) (IsPutOf new i) log y.core.records y.records y.added f.i f.r f.in_rs before in
+    let side : ServerSide = record y { records = filter (λ (r : RecordSide). not (bytes_eq r.name name)) y.records } in
+    let entries : more ≡ Removed f.r.number ∷ withdrawing f.r.waiting = ap (λ (n : List ℕ). removal_entries n y.records) (sym f.named) ∙ removal-is y.records f.i f.r own.life.others f.in_rs in
+    record {
+      is = at;
+      others = λ j z there other. elim (At-set w.servers i side j z there) [
+        | inl new ↦ absurd (other new.0)
+        | inr old ↦ old.0
+      ];
+      same_life = refl;
+      here = own.at;
+      logged = grown-here w.server_logs y.life log more own.at;
+      logs = λ l z there. grown-back w.server_logs y.life more l z there;
+      stay = λ l z there other. grown-other w.server_logs y.life more l z there other;
+      circuits = later;
+      life = subst (λ (n : List ℕ). Life new i y.life (log ++ removal_entries n y.records) (removed n y.core.records) (filter (λ (r : RecordSide). not (bytes_eq r.name n)) y.records) y.added) f.named after;
+      own_open = λ j r p d in_it mine on.
+          let k = In-kept (λ (r : RecordSide). not (bytes_eq r.name name)) y.records r (j, in_it) in
+          still-open w.circuits new y.records same own.still_open k.0.0 r p d k.0.1 mine on;
+      others_open = λ j z there other. still-open w.circuits new z.records same (h.lives j z there).still_open;
+      handled = λ e p told tells. withdrawn-handled new later f.r (λ x mine. (let s = waits-there (IsPutOf w.circuits i) log c f.r x f.agrees mine in (s.1.v, s.1.came))) e p (subst (λ (l : List Entry). In l e) entries told) tells;
+    }
+  where
+    withdrawn-handled : (cs : List Joined) → AreLater w.circuits cs → (r : RecordSide) → ((x : PutPlace) → In r.waiting x → (v : Stored) × In (h.lives i y at).log (Waits x.circuit x.place r.number v)) → (e : Entry) (p : PutPlace) → In (Removed r.number ∷ withdrawing r.waiting) e → write_in e ≡ Some p → WasHandled cs p
+    withdrawn-handled cs later r waited e p told tells = go told.0 told.1
+      where
+        go : (k : ℕ) → At (Removed r.number ∷ withdrawing r.waiting) k e → WasHandled cs p
+        go zero is = absurd (let q : Removed r.number ≡ e = some_is (Removed r.number) e is in let x : write_in (Removed r.number) ≡ Some p = ap write_in q ∙ tells in cc)
+        go (suc k) is =
+            let m = At-mapped (λ (q : PutPlace). Withdrawn q.circuit q.place) r.waiting k e is in
+            let same : m.0 ≡ p = some_is m.0 p (ap write_in (sym m.2) ∙ tells) in
+            let s = waited m.0 (k, m.1) in
+            subst (λ (z : PutPlace). WasHandled cs z) same (still-handled w cs y.life (h.lives i y at).log (Waits m.0.circuit m.0.place r.number s.0) m.0 h (h.lives i y at).at later s.1 refl)
+
+-- ---- an addition
+
+none-named : (name : List ℕ) (cs : List Record) → record_named cs name ≡ None → (j : ℕ) (c : Record) → At cs j c → c.state.name ≡ name → ⊥
+none-named name [] none j c at is = none_at j c at
+none-named name (x ∷ cs) none j c at is = go (bytes_eq x.state.name name) refl none (λ rest k there. none-named name cs rest k c there is) j at
+  where
+    go : (b : Bool) → bytes_eq x.state.name name ≡ b → cond b (Some x) (record_named cs name) ≡ None → (record_named cs name ≡ None → (k : ℕ) → At cs k c → ⊥) → (j : ℕ) → At (x ∷ cs) j c → ⊥
+    go true e h rest j there = absurd cc
+    go false e h rest zero there =
+        (let same : x ≡ c = some_is x c there in let hit : bytes_eq x.state.name name ≡ true = (bytes_eq-Decides x.state.name name).1 (ap (λ (z : Record). z.state.name) same ∙ is) in let f : true ≡ false = sym hit ∙ e in cc)
+    go false e h rest (suc j) there = rest h j there
+
+-- the world in which an addition is told
+abbrev pub addition_told : World → (i : ℕ) → ServerSide → RecordState → (behind : ℕ) → Server → World
+addition_told w i y r behind core =
+    let side : ServerSide = record y { core = core; records = take behind y.records ++ record_begun y.added r ∷ drop behind y.records; added = y.added + 1 } in
+    with_entries y.life (Added y.added r ∷ []) (with_server i side w)
+
+pub writes-added : (w : World) (i : ℕ) (y : ServerSide) (r : RecordState) (behind : ℕ) (core : Server) → At w.servers i y → record_named y.core.records r.name ≡ None → core.records ≡ take behind y.core.records ++ new_record r ∷ drop behind y.core.records → Writes w → Writes (addition_told w i y r behind core)
+writes-added w i y r behind core at none is h =
+    let own = h.lives i y at in
+    let log : List Entry = own.log in
+    let more : List Entry = Added y.added r ∷ [] in
+    let side : ServerSide = record y { core = core; records = take behind y.records ++ record_begun y.added r ∷ drop behind y.records; added = y.added + 1 } in
+    let after = agree-added (CameOn w.circuits y.life) (LostOn w.circuits) (IsPutOf w.circuits i) log y.core.records y.records y.added r behind
+    (λ j q there e. (let b = beside-right (Agrees (IsPutOf w.circuits i) log) y.core.records y.records j q own.life.each there in none-named r.name y.core.records none j b.0 b.1 (b.2.name ∙ e))) own.life in
+    moves-keep w (addition_told w i y r behind core) i y side log more own.at (record {
+      is = at;
+      server = λ j z there. elim (At-set w.servers i side j z there) [ inl new ↦ inl new | inr old ↦ inr old ];
+      same_life = refl;
+      logged = grown-here w.server_logs y.life log more own.at;
+      logs = λ l z there. grown-back w.server_logs y.life more l z there;
+      stay = λ l z there other. grown-other w.server_logs y.life more l z there other;
+      circuits = λ n c there. (c, there, later-self c);
+      life = subst (λ (cs : List Record). Life w.circuits i y.life (log ++ more) cs side.records side.added) (sym is) after;
+      own_open = λ j q p d there mine on. more-open behind y.records own.still_open j q p d there mine on;
+      others_open = λ j z there other. (h.lives j z there).still_open;
+      handled = λ e p told tells. absurd (go e p told.0 told.1 tells);
+    }) h
+  where
+    open-in : (rs : List RecordSide) → AreOpen w.circuits rs → (q : RecordSide) → In rs q → (p : PutPlace) (d : Joined) → In q.waiting p → At w.circuits p.circuit d → d.lists.server_open ≡ true
+    open-in rs are_open q there p d mine on = are_open there.0 q p d there.1 mine on
+    was-there : (k : ℕ) (rs : List RecordSide) (q : RecordSide) → In (take k rs ++ record_begun y.added r ∷ drop k rs) q → In rs q ⊎ (q ≡ record_begun y.added r)
+    was-there k rs q there = elim (At-parts (take k rs) (record_begun y.added r ∷ drop k rs) there.0 q there.1) [
+      | inl front ↦ inl (there.0, At-take k rs there.0 q front)
+      | inr back ↦ rest back.0 back.2
+    ]
+      where
+        dropped : (k : ℕ) (xs : List RecordSide) (j : ℕ) → At (drop k xs) j q → In xs q
+        dropped zero xs j x = (j, x)
+        dropped (suc k) [] j x = absurd (none_at j q x)
+        dropped (suc k) (z ∷ xs) j x = (let d = dropped k xs j x in (suc d.0, d.1))
+        rest : (j : ℕ) → At (record_begun y.added r ∷ drop k rs) j q → In rs q ⊎ (q ≡ record_begun y.added r)
+        rest zero x = inr (sym (some_is (record_begun y.added r) q x))
+        rest (suc j) x = inl (dropped k rs j x)
+    more-open : (k : ℕ) (rs : List RecordSide) → AreOpen w.circuits rs → AreOpen w.circuits (take k rs ++ record_begun y.added r ∷ drop k rs)
+    more-open k rs are_open j q p d there mine on = elim (was-there k rs q (j, there)) [
+      | inl old ↦ open-in rs are_open q old p d mine on
+      | inr new ↦ absurd (let x : In (record_begun y.added r).waiting p = subst (λ (z : RecordSide). In z.waiting p) new mine in none_at x.0 p x.1)
+    ]
+    go : (e : Entry) (p : PutPlace) (k : ℕ) → At (Added y.added r ∷ []) k e → write_in e ≡ Some p → ⊥
+    go e p zero is tells = (let q : Added y.added r ≡ e = some_is (Added y.added r) e is in let x : write_in (Added y.added r) ≡ Some p = ap write_in q ∙ tells in cc)
+    go e p (suc k) is tells = none_at k e is
