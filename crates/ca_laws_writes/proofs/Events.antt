@@ -6,7 +6,7 @@ use Rattle.std.specs.Str.{bytes_eq}
 use Rattle.std.proofs.lemmas.Slice.Eq.{bytes_eq-Decides}
 use Rattle.ca_arena.specs.declared.handle.Handle.{Handle}
 use Rattle.ca_text.specs.Place.{At}
-use Rattle.ca_text.proofs.Places.{some_is, At-map, At-mapped, At-one, At-parts, At-set, At-set-other, At-within}
+use Rattle.ca_text.proofs.Places.{some_is, At-append, At-last, At-snoc, At-map, At-mapped, At-one, At-parts, At-set, At-set-other, At-within}
 use Rattle.ca_dbr.specs.Elements.{base_of}
 use Rattle.ca_ids.specs.Table.{same_handle, under}
 use Rattle.ca_queue.specs.declared.entry.SubKey.{SubKey}
@@ -15,23 +15,23 @@ use Rattle.ca_records.specs.Puts.{Record, WaitingPut, finished, new_record, reco
 use Rattle.ca_records.specs.Record.{RecordState, unset}
 use Rattle.ca_wire.specs.Fields.{Fields}
 use Rattle.ca_model.specs.Server.{Server}
-use Rattle.ca_model.specs.ServerSteps.{stored_now}
+use Rattle.ca_model.specs.ServerSteps.{output_of, stored_now}
 use Rattle.ca_model.specs.Speech.{In, Stored}
 use Rattle.ca_model.specs.History.{Added, Applied, Entry, Finished, Posted, Removed, Reply, Sent, Step, Waits, Withdrawn}
-use Rattle.ca_model_world.specs.ServerEvents.{about, ends_by, finish_entry, first_of, left_by, next_busy, next_entries, next_numbers, number_of, numbers_posted, posted_entry, removal_entries, removed_at, replied_at, with_number}
+use Rattle.ca_model_world.specs.ServerEvents.{about, ending, ends_by, ends_untold, finish_entry, first_of, left_by, next_busy, next_entries, next_numbers, number_of, numbers_posted, posted_entry, removal_entries, removed_at, replied_at, with_number}
 use Rattle.ca_model_world.specs.ServerEvents as event
-use Rattle.ca_model_world.specs.World.{Joined, PutPlace, RecordSide, ServerSide, World, record_begun, with_circuit, with_entries, with_server}
+use Rattle.ca_model_world.specs.World.{Joined, PutPlace, RecordSide, ServerSide, World, log_begun, numbered, record_begun, server_begun, with_circuit, with_entries, with_server}
 use Rattle.ca_laws_writes.specs.Both.{Both}
-use Rattle.ca_laws_writes.specs.Once.{write_in}
+use Rattle.ca_laws_writes.specs.Once.{Once, write_in}
 use Rattle.ca_laws_writes.specs.Agrees.{Agree, Agrees, AreOthers, IsBusyBy, IsBusyWith, WaitsAs}
 use Rattle.ca_laws_writes.specs.Lives.{AreLater, AreOpen, CameOn, IsPutOf, Later, Life, LostOn}
 use Rattle.ca_laws_writes.specs.Moves.{EndsOnly, Lives, Midway, WasHandled, Writes}
 use Rattle.ca_laws_writes.proofs.Lists.{At-take, In-kept, both-at, beside-left, beside-right, none_at}
-use Rattle.ca_laws_writes.proofs.Ending.{later-self}
+use Rattle.ca_laws_writes.proofs.Ending.{ending-not, endings-later, later-self}
 use Rattle.ca_laws_writes.proofs.Lives.{agree-posted, bytes-same, number-of, others-apart, waits-there}
-use Rattle.ca_laws_writes.proofs.Going.{life-later}
+use Rattle.ca_laws_writes.proofs.Going.{life-later, once-later}
 use Rattle.ca_laws_writes.proofs.Finishes.{agree-finished}
-use Rattle.ca_laws_writes.proofs.Coming.{agree-added, agree-removed, removal-is}
+use Rattle.ca_laws_writes.proofs.Coming.{agree-added, agree-begun, agree-removed, removal-is}
 use Rattle.ca_laws_writes.proofs.Moves.{handled-later, moves-keep, same-or, told-on}
 use Rattle.ca_laws_writes.proofs.Midway.{grown-back, grown-here, grown-other}
 use Rattle.ca_laws_writes.proofs.Records.{withdrawing}
@@ -447,3 +447,99 @@ writes-added w i y r behind core at none is h =
     go : (e : Entry) (p : PutPlace) (k : ℕ) → At (Added y.added r ∷ []) k e → write_in e ≡ Some p → ⊥
     go e p zero is tells = (let q : Added y.added r ≡ e = some_is (Added y.added r) e is in let x : write_in (Added y.added r) ≡ Some p = ap write_in q ∙ tells in cc)
     go e p (suc k) is tells = none_at k e is
+
+-- ---- events that leave servers and logs alone
+
+-- the server's ends that are open stay open, and those that are not stay closed
+pub writes-later : (w new : World) → new.servers ≡ w.servers → new.server_logs ≡ w.server_logs → AreLater w.circuits new.circuits → ((n : ℕ) (c d : Joined) → At w.circuits n c → At new.circuits n d → d.lists.server_open ≡ c.lists.server_open) → Writes w → Writes new
+writes-later w new servers logs later ends h = record {
+  lives = λ i y at.
+      let own = h.lives i y (subst (λ (l : List ServerSide). At l i y) servers at) in
+      record {
+        log = own.log;
+        at = subst (λ (l : List (List Entry)). At l y.life own.log) (sym logs) own.at;
+        life = life-later w.circuits new.circuits i y.life own.log y.core.records y.records y.added later own.life;
+        still_open = λ j r p d in_rs mine on.
+            let there = beside-right (Agrees (IsPutOf w.circuits i) own.log) y.core.records y.records j r own.life.each in_rs in
+            let b = beside-left (WaitsAs (IsPutOf w.circuits i) own.log r.number) r.waiting there.0.waiting mine.0 p there.2.each mine.1 in
+            ends p.circuit b.2.1.c d b.2.1.on on ∙ own.still_open j r p b.2.1.c in_rs mine b.2.1.on;
+      };
+  apart = λ i j y z p q e. h.apart i j y z (subst (λ (l : List ServerSide). At l i y) servers p) (subst (λ (l : List ServerSide). At l j z) servers q) e;
+  logs = λ l y at. once-later w.circuits new.circuits l y later (h.logs l y (subst (λ (ls : List (List Entry)). At ls l y) logs at));
+  handled = λ l y e p at told tells. still-handled w new.circuits l y e p h (subst (λ (ls : List (List Entry)). At ls l y) logs at) later told tells;
+}
+
+-- ---- a restart
+
+-- A server begins a new life, and its open ends end untold.
+pub writes-restart : (w : World) (i : ℕ) (y : ServerSide) → At w.servers i y → ((j k : ℕ) (r s : RecordState) → At y.setting.records j r → At y.setting.records k s → r.name ≡ s.name → j ≡ k) → ((j : ℕ) (z : ServerSide) → At w.servers j z → z.life < length w.server_logs) → Writes w
+    → (let ends : Joined → Option (List ℕ) = ends_untold i y.core in Writes (with_server i (server_begun w.moment (length w.server_logs) y.setting) (record w { circuits = map (ending ends) w.circuits; server_logs = w.server_logs ++ log_begun y.setting ∷ [] })))
+writes-restart w i y at names fewer h = record {
+  lives = λ j z there. elim (At-set w.servers i next j z there) [
+    | inl same ↦
+        subst (λ (x : ServerSide). Lives new j x) (sym same.1)
+        (record {
+          log = log_begun y.setting;
+          at = At-last w.server_logs (log_begun y.setting);
+          life = agree-begun (CameOn new.circuits (length w.server_logs)) (LostOn new.circuits) (IsPutOf new.circuits j) y.setting.records names;
+          still_open = λ k r p d in_rs mine on. absurd (none-wait 0 y.setting.records k r p in_rs mine);
+        })
+    | inr old ↦
+        let own = h.lives j z old.0 in
+        record {
+          log = own.log;
+          at = At-append w.server_logs (log_begun y.setting ∷ []) z.life own.log own.at;
+          life = life-later w.circuits new.circuits j z.life own.log z.core.records z.records z.added later own.life;
+          still_open = λ k r p d in_rs mine on.
+              let was = At-mapped (ending ends) w.circuits p.circuit d on in
+              let there = beside-right (Agrees (IsPutOf w.circuits j) own.log) z.core.records z.records k r own.life.each in_rs in
+              let b = beside-left (WaitsAs (IsPutOf w.circuits j) own.log r.number) r.waiting there.0.waiting mine.0 p there.2.each mine.1 in
+              let same : b.2.1.c ≡ was.0 = At-one w.circuits p.circuit b.2.1.c was.0 b.2.1.on was.1 in
+              let of : was.0.server ≡ j = ap (λ (x : Joined). x.server) (sym same) ∙ b.2.1.of in
+              let stays : is_some (ends was.0) ≡ false = only was.0 (λ e. old.1 (sym of ∙ e)) in
+              subst (λ (x : Joined). x.lists.server_open ≡ true) (sym (was.2 ∙ ending-not ends was.0 stays)) (own.still_open k r p was.0 in_rs mine was.1);
+        }
+  ];
+  apart = λ j k z x p q e. elim (At-set w.servers i next j z p) [
+    | inl a ↦ elim (At-set w.servers i next k x q) [
+      | inl b ↦ a.0 ∙ sym b.0
+      | inr b ↦ absurd (let lt : x.life < length w.server_logs = fewer k x b.0 in let n : z.life ≡ length w.server_logs = ap (λ (s : ServerSide). s.life) a.1 in let m : z.life ≡ x.life = e in omega (arith, lt, n, m))
+    ]
+    | inr a ↦ elim (At-set w.servers i next k x q) [
+      | inl b ↦ absurd (let lt : z.life < length w.server_logs = fewer j z a.0 in let n : x.life ≡ length w.server_logs = ap (λ (s : ServerSide). s.life) b.1 in let m : z.life ≡ x.life = e in omega (arith, lt, n, m))
+      | inr b ↦ h.apart j k z x a.0 b.0 e
+    ]
+  ];
+  logs = λ l z there. elim (At-snoc w.server_logs (log_begun y.setting) l z there) [
+    | inl old ↦ once-later w.circuits new.circuits l z later (h.logs l z old)
+    | inr is ↦
+        subst (λ (x : List Entry). Once (CameOn new.circuits l) (LostOn new.circuits) x) (sym is.1)
+        (agree-begun (CameOn new.circuits l) (LostOn new.circuits) (IsPutOf new.circuits i) y.setting.records names).once
+  ];
+  handled = λ l z e p there told tells. elim (At-snoc w.server_logs (log_begun y.setting) l z there) [
+    | inl old ↦ still-handled w new.circuits l z e p h old later told tells
+    | inr is ↦ absurd (none-told 0 y.setting.records e p (subst (λ (x : List Entry). In x e) is.1 told) tells)
+  ];
+}
+  where
+    ends : Joined → Option (List ℕ)
+    ends = ends_untold i y.core
+    next : ServerSide
+    next = server_begun w.moment (length w.server_logs) y.setting
+    new : World
+    new = with_server i next (record w { circuits = map (ending ends) w.circuits; server_logs = w.server_logs ++ log_begun y.setting ∷ [] })
+    later : AreLater w.circuits (map (ending ends) w.circuits)
+    later = endings-later ends w.circuits
+    only : (c : Joined) → (c.server ≡ i → ⊥) → is_some (ends c) ≡ false
+    only c other = ap (λ (b : Bool). is_some (cond (b && c.lists.server_open) (Some (output_of (under y.core.circuits c.at_server))) None)) (ne_eqb c.server i other)
+    none-wait : (n : ℕ) (ss : List RecordState) (k : ℕ) (r : RecordSide) (p : PutPlace) → At (numbered n record_begun ss) k r → In r.waiting p → ⊥
+    none-wait n [] k r p there mine = none_at k r there
+    none-wait n (s ∷ ss) zero r p there mine = (let x : In (record_begun n s).waiting p = subst (λ (z : RecordSide). In z.waiting p) (sym (some_is (record_begun n s) r there)) mine in none_at x.0 p x.1)
+    none-wait n (s ∷ ss) (suc k) r p there mine = none-wait (n + 1) ss k r p there mine
+    none-told : (n : ℕ) (ss : List RecordState) (e : Entry) (p : PutPlace) → In (numbered n Added ss) e → write_in e ≡ Some p → ⊥
+    none-told n [] e p told tells = none_at told.0 e told.1
+    none-told n (s ∷ ss) e p told tells = go told.0 told.1 (λ rest. none-told (n + 1) ss e p rest tells)
+      where
+        go : (k : ℕ) → At (Added n s ∷ numbered (n + 1) Added ss) k e → (In (numbered (n + 1) Added ss) e → ⊥) → ⊥
+        go zero is more = (let q : Added n s ≡ e = some_is (Added n s) e is in let x : write_in (Added n s) ≡ Some p = ap write_in q ∙ tells in cc)
+        go (suc k) is more = more (k, is)
