@@ -20,12 +20,12 @@ use Rattle.ca_model.specs.Speech.{In, Stored}
 use Rattle.ca_model.specs.History.{Added, Applied, Entry, Finished, Posted, Removed, Reply, Sent, Step, Waits, Withdrawn}
 use Rattle.ca_model_world.specs.ServerEvents.{about, ending, ends_by, ends_untold, finish_entry, first_of, left_by, next_busy, next_entries, next_numbers, number_of, numbers_posted, posted_entry, removal_entries, removed_at, replied_at, with_number}
 use Rattle.ca_model_world.specs.ServerEvents as event
-use Rattle.ca_model_world.specs.World.{Joined, PutPlace, RecordSide, ServerSide, World, log_begun, numbered, record_begun, server_begun, with_circuit, with_entries, with_server}
+use Rattle.ca_model_world.specs.World.{IsSetting, Joined, PutPlace, RecordSide, ServerSide, Setting, World, log_begun, opening, numbered, record_begun, server_begun, with_circuit, with_entries, with_server}
 use Rattle.ca_laws_writes.specs.Both.{Both}
 use Rattle.ca_laws_writes.specs.Once.{Once, write_in}
 use Rattle.ca_laws_writes.specs.Agrees.{Agree, Agrees, AreOthers, IsBusyBy, IsBusyWith, WaitsAs}
 use Rattle.ca_laws_writes.specs.Lives.{AreLater, AreOpen, CameOn, IsPutOf, Later, Life, LostOn}
-use Rattle.ca_laws_writes.specs.Moves.{EndsOnly, Lives, Midway, WasHandled, Writes}
+use Rattle.ca_laws_writes.specs.Moves.{addition_told, finish_told, removal_told, EndsOnly, Lives, Midway, WasHandled, Writes}
 use Rattle.ca_laws_writes.proofs.Lists.{At-take, In-kept, both-at, beside-left, beside-right, none_at}
 use Rattle.ca_laws_writes.proofs.Ending.{ending-not, endings-later, later-self}
 use Rattle.ca_laws_writes.proofs.Lives.{agree-posted, bytes-same, number-of, others-apart, waits-there}
@@ -242,11 +242,6 @@ replied-same p sent w = go (slice_get w.circuits p.circuit) refl
     go None e = same-all w.circuits
     go (Some j) e = set-same w.circuits p.circuit j (said j) e (record { server = refl; handle = refl; life = refl; up = refl; handled = refl; is_open = refl })
 
--- the world in which a finish is told
-abbrev pub finish_told : World → (i : ℕ) → ServerSide → List ℕ → Record → RecordSide → PutPlace → World
-finish_told w i y name c r p =
-    with_entries y.life (finish_entry p ∷ next_entries y r (first_of c.waiting) (first_of r.waiting)) (with_server i (record y { records = event.with_record name next_busy y.records }) (record w { circuits = map (next_numbers i y.core name c.waiting) w.circuits }))
-
 pub midway-finish : (w : World) (i : ℕ) (y : ServerSide) (name : List ℕ) (sent : List (Handle × Fields)) (c : Record) (r : RecordSide) (place : ℕ) (p : PutPlace) (at : At w.servers i y) (h : Writes w) → record_named y.core.records name ≡ Some c → At y.records place r → r.name ≡ name → r.busy ≡ Some p
     → Midway w (replied_at p sent (finish_told w i y name c r p)) i y (record y { records = event.with_record name next_busy y.records }) (h.lives i y at).log (finish_entry p ∷ next_entries y r (first_of c.waiting) (first_of r.waiting)) (with_record name (λ (q : Record). finished y.core.stamp q q.waiting) y.core.records)
 midway-finish w i y name sent c r place p at h named in_rs is_name busy =
@@ -334,11 +329,6 @@ midway-finish w i y name sent c r place p at h named in_rs is_name busy =
 
 -- ---- a removal
 
--- the world in which a removal is told
-abbrev pub removal_told : World → (i : ℕ) → ServerSide → List ℕ → (gone : Handle → Bool) → (left : Handle → ℕ) → World
-removal_told w i y name gone left =
-    with_entries y.life (removal_entries name y.records) (with_server i (record y { records = filter (λ (r : RecordSide). not (bytes_eq r.name name)) y.records }) (record w { circuits = map (removed_at i y.core name gone left) w.circuits }))
-
 pub midway-remove : (w : World) (i : ℕ) (y : ServerSide) (name : List ℕ) (gone : Handle → Bool) (left : Handle → ℕ) (c : Record) (at : At w.servers i y) (h : Writes w) → record_named y.core.records name ≡ Some c
     → Midway w (removal_told w i y name gone left) i y (record y { records = filter (λ (r : RecordSide). not (bytes_eq r.name name)) y.records }) (h.lives i y at).log (removal_entries name y.records) (removed name y.core.records)
 midway-remove w i y name gone left c at h named =
@@ -395,12 +385,6 @@ none-named name (x ∷ cs) none j c at is = go (bytes_eq x.state.name name) refl
     go false e h rest zero there =
         (let same : x ≡ c = some_is x c there in let hit : bytes_eq x.state.name name ≡ true = (bytes_eq-Decides x.state.name name).1 (ap (λ (z : Record). z.state.name) same ∙ is) in let f : true ≡ false = sym hit ∙ e in cc)
     go false e h rest (suc j) there = rest h j there
-
--- the world in which an addition is told
-abbrev pub addition_told : World → (i : ℕ) → ServerSide → RecordState → (behind : ℕ) → Server → World
-addition_told w i y r behind core =
-    let side : ServerSide = record y { core = core; records = take behind y.records ++ record_begun y.added r ∷ drop behind y.records; added = y.added + 1 } in
-    with_entries y.life (Added y.added r ∷ []) (with_server i side w)
 
 pub writes-added : (w : World) (i : ℕ) (y : ServerSide) (r : RecordState) (behind : ℕ) (core : Server) → At w.servers i y → record_named y.core.records r.name ≡ None → core.records ≡ take behind y.core.records ++ new_record r ∷ drop behind y.core.records → Writes w → Writes (addition_told w i y r behind core)
 writes-added w i y r behind core at none is h =
@@ -543,3 +527,39 @@ writes-restart w i y at names fewer h = record {
         go : (k : ℕ) → At (Added n s ∷ numbered (n + 1) Added ss) k e → (In (numbered (n + 1) Added ss) e → ⊥) → ⊥
         go zero is more = (let q : Added n s ≡ e = some_is (Added n s) e is in let x : write_in (Added n s) ≡ Some p = ap write_in q ∙ tells in cc)
         go (suc k) is more = more (k, is)
+
+-- ---- before any event
+
+numbered-at : {A B : Type 0} (f : ℕ → A → B) (xs : List A) (n i : ℕ) (z : B) → At (numbered n f xs) i z → (x : A) × At xs i x × (z ≡ f (n + i) x)
+numbered-at f [] n i z at = absurd (none_at i z at)
+numbered-at f (x ∷ xs) n zero z at = (x, refl, (let e : n ≡ n + 0 = omega arith in sym (some_is (f n x) z at) ∙ ap (λ (k : ℕ). f k x) e))
+numbered-at f (x ∷ xs) n (suc i) z at =
+    let r = numbered-at f xs (n + 1) i z at in
+    let e : n + 1 + i ≡ n + suc i = omega arith in
+    (r.0, r.1, r.2 ∙ ap (λ (k : ℕ). f k r.0) e)
+
+-- What holds of writes holds of the world before any event.
+pub writes-opening : (s : Setting) → IsSetting s → Writes (opening s)
+writes-opening s ok = record {
+  lives = λ i y at.
+      let g = numbered-at (server_begun 0) s.servers 0 i y at in
+      let z : 0 + i ≡ i = omega arith in
+      let is : y ≡ server_begun 0 i g.0 = g.2 ∙ ap (λ (k : ℕ). server_begun 0 k g.0) z in
+      subst (λ (x : ServerSide). Lives (opening s) i x) (sym is) (record {
+        log = log_begun g.0;
+        at = At-map log_begun s.servers i g.0 g.1;
+        life = agree-begun (CameOn [] i) (LostOn []) (IsPutOf [] i) g.0.records (λ j k r q a b e. ok.names i j k g.0 r q g.1 a b e);
+        still_open = λ k r p d in_rs mine on. absurd (none_at p.circuit d on);
+      });
+  apart = λ i j y z p q e.
+      let a = numbered-at (server_begun 0) s.servers 0 i y p in
+      let b = numbered-at (server_begun 0) s.servers 0 j z q in
+      let u : y.life ≡ 0 + i = ap (λ (x : ServerSide). x.life) a.2 in
+      let v : z.life ≡ 0 + j = ap (λ (x : ServerSide). x.life) b.2 in
+      omega (arith, u, v, e);
+  logs = λ l y at.
+      let g = At-mapped log_begun s.servers l y at in
+      subst (λ (x : List Entry). Once (CameOn [] l) (LostOn []) x) (sym g.2)
+      (agree-begun (CameOn [] l) (LostOn []) (IsPutOf [] l) g.0.records (λ j k r q a b e. ok.names l j k g.0 r q g.1 a b e)).once;
+  handled = λ l y e p at told tells d on is_open. absurd (none_at p.circuit d on);
+}
