@@ -13,3 +13,4 @@ pub mod Ending
 pub mod Moves
 pub mod Midway
 pub mod Events
+pub mod Doing
