@@ -100,6 +100,75 @@ writes-only k m replies did due writes =
     names-not true p h = h
     names-not false p h = h
 
+-- A channel is cleared by its CLEAR_CHANNEL.
+pub clears-only : (k : Knows) (m : Fields) (replies : List Fields) (sid : ℕ) → Due k m replies (action.Clears sid) → Is command.ClearChannel m × (sid ≡ m.p1)
+clears-only k m replies sid due =
+    elim (known-or (is_known m.command)) [
+      | inr other ↦ not-it Nothing (due.other other).1 (λ h. h)
+      | inl known ↦ any-of m.command commands known When (each-at When commands (
+        (λ e. not-it action.Greets (due.version e).1 (λ h. h)),
+        (
+          (λ e. elim (due.subscribe e) [
+            | inl served ↦ elim served.1 [ inl refused ↦ not-it Nothing refused.3 (λ h. h) | inr added ↦ not-it (action.Adds _) added.2 (λ h. h) ]
+            | inr stray ↦ not-it Nothing stray.3 (λ h. h)
+          ]),
+          (
+            (λ e. not-it (action.Drops _) (due.cancel e).1 (λ h. h)),
+            (
+              (λ e. elim (due.write e) [
+                | inl served ↦ elim served.1 [ inl refused ↦ not-it Nothing refused.3 (λ h. h) | inr taken ↦ not-it (Applies _ _ _) taken.3 (λ h. h) ]
+                | inr stray ↦ not-it Nothing stray.3 (λ h. h)
+              ]),
+              (
+                (λ e. not-it Nothing (due.search e).1 (λ h. h)),
+                (
+                  (λ e. not-it (action.Switches false) (due.off e).1 (λ h. h)),
+                  (
+                    (λ e. not-it (action.Switches true) (due.on e).1 (λ h. h)),
+                    (
+                      (λ e. (e, same-sid (due.clear e).1)),
+                      (
+                        (λ e. elim (due.read e) [ inl served ↦ not-it Nothing served.1 (λ h. h) | inr stray ↦ not-it Nothing stray.3 (λ h. h) ]),
+                        (
+                          (λ e. elim (due.create e) [ inl made ↦ not-it (action.Opens _) made.does (λ h. h) | inr not ↦ not-it Nothing not.does (λ h. h) ]),
+                          (
+                            (λ e. elim (due.put e) [
+                              | inl served ↦ elim served.1 [ inl refused ↦ not-it Nothing refused.3 (λ h. h) | inr taken ↦ not-it (cond (must_wait k m served.0) (action.Waits _ _) (Applies _ _ _)) taken.3 (put-not (must_wait k m served.0) _ _ _) ]
+                              | inr stray ↦ not-it Nothing stray.3 (λ h. h)
+                            ]),
+                            (
+                              (λ e. not-it (named k _) (due.user e).1 (names-not k.settled _)),
+                              ((λ e. not-it (named k _) (due.host e).1 (names-not k.settled _)), ((λ e. not-it Nothing (due.echo e).1 (λ h. h)), tt)),
+                            ),
+                          ),
+                        ),
+                      ),
+                    ),
+                  ),
+                ),
+              ),
+            ),
+          ),
+        ),
+      )) refl
+    ]
+  where
+    When : ℕ → Type 0
+    When n = m.command ≡ n → Is command.ClearChannel m × (sid ≡ m.p1)
+    IsClear : Action → Type 0
+    IsClear (action.Clears x) = Unit {0}
+    IsClear a = ⊥
+    not-it : (a : Action) → action.Clears sid ≡ a → (IsClear a → ⊥) → Is command.ClearChannel m × (sid ≡ m.p1)
+    not-it a is none = absurd (none (subst (λ (x : Action). IsClear x) is tt))
+    same-sid : action.Clears sid ≡ action.Clears m.p1 → sid ≡ m.p1
+    same-sid is = cc
+    put-not : (b : Bool) (name : List ℕ) (value : Elements) (busies : Bool) → IsClear (cond b (action.Waits name value) (Applies name value busies)) → ⊥
+    put-not true name value busies h = h
+    put-not false name value busies h = h
+    names-not : (b : Bool) (p : Peer) → IsClear (cond b Nothing (Names p)) → ⊥
+    names-not true p h = h
+    names-not false p h = h
+
 and-true : (a b : Bool) → a ≡ true → a && b ≡ false → b ≡ false
 and-true true b e h = h
 and-true false b e h = absurd cc

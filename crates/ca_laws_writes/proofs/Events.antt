@@ -126,7 +126,7 @@ ends-only circuits i core n c at other =
 
 -- ---- the record of a name
 
-find-at : {A : Type 0} (test : A → Bool) (xs : List A) (x : A) → find test xs ≡ Some x → (i : ℕ) × At xs i x × (test x ≡ true)
+pub find-at : {A : Type 0} (test : A → Bool) (xs : List A) (x : A) → find test xs ≡ Some x → (i : ℕ) × At xs i x × (test x ≡ true)
 find-at test [] x is = absurd cc
 find-at {A} test (y ∷ xs) x is = go (test y) refl is (λ h. find-at test xs x h)
   where
