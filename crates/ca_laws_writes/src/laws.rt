@@ -16,12 +16,14 @@ ghost use Rattle.ca_wire.specs.Fields.{Fields};
 ghost use Rattle.ca_model.specs.Speech.{In, Is, Stored};
 ghost use Rattle.ca_model.specs.History.{Added, Applied, Entry, Finished, Posted, Sent, Waits, Withdrawn};
 ghost use Rattle.ca_model_safe.specs.Channels.{IsApplied, IsBusyUntil, IsDropped};
-ghost use Rattle.ca_model_world.specs.ServerEvents.{channel_withdrawals, ending, ends_at, ends_by, finish_entry, first_of, is_of_channel, next_busy, next_entries, number_of, posted_entry, removal_entries, replied_at, server_after, with_core, withdrawals, without_channel, without_puts};
+ghost use Rattle.ca_model_world.specs.ServerEvents.{channel_withdrawals, ending, ends_at, ends_by, finish_entry, first_of, is_of_channel, logged_by, next_busy, next_entries, number_of, posted_entry, records_after, removal_entries, replied_at, server_after, with_core, withdrawals, without_channel, without_puts};
 ghost use Rattle.ca_model_world.specs.ServerEvents as event;
 ghost use Rattle.ca_model_world.specs.World.{IsSetting, Joined, PutPlace, RecordSide, ServerSide, Setting, World, numbered, opening, record_begun, told};
 ghost use Rattle.ca_laws_writes.specs.Agrees.{LoseAll, TestsAgree};
 ghost use Rattle.ca_laws_writes.specs.Lives.{AreLater, AreOpen, AreSlow, CameOn, EndsAgree, IsOfMessage, IsPutOf, IsWriting, Life, LogsOnce, LostOn, SaysSo};
-ghost use Rattle.ca_model.specs.Server.{Server};
+ghost use Rattle.ca_model.specs.Server.{Server, ServerEnd};
+ghost use Rattle.ca_model.specs.ServerSteps.{Records, knows};
+ghost use Rattle.ca_laws_writes.specs.Taken.{Takes};
 ghost use Rattle.ca_laws_writes.specs.Moves.{EndsOnly, Midway, Writes, addition_told, finish_told, post_told, removal_told, restarted};
 ghost use Rattle.ca_laws_writes.specs.Once.{IsUntold, MayTell, Once, write_in};
 
@@ -141,6 +143,21 @@ pub fn no_write_is_applied_twice()
     ensures finished { (w : World) → LogsOnce w → (n k l e : ℕ) (y : List Entry)
         → At w.server_logs l y → At y e (Finished n k)
         → IsBusyUntil y n k e × ((f : ℕ) → At y f (Finished n k) → e ≡ f) }
+{}
+
+/// A server takes a message: what that does, by what is due for it, keeps records and log in
+/// agreement. Its write is applied or comes to wait, or the puts of the channel that it clears are
+/// withdrawn.
+pub fn a_message_keeps_records_and_log()
+    ensures { (circuits : List Joined) (i life : ℕ) (log : List Entry) (rs : List RecordSide)
+        (n : ℕ) (old : Server) (h : Handle) (e : ServerEnd) (p : PutPlace) (s : Sent)
+        (replies : List Fields) (did : Action) (new : Server)
+        → (t : Takes circuits i life log rs h p s)
+        → t.step.logged + length (logged_by old h p did rs) ≤ t.step.after
+        → Due (knows old e) s.message replies did → Records old h e s.message did new
+        → Life circuits i life log old.records rs n
+        → Life circuits i life (log ++ logged_by old h p did rs) new.records
+        (records_after old h p did rs) n }
 {}
 
 /// Ends of a server's circuits end, in whatever event: the puts that wait there are withdrawn, and
