@@ -13,3 +13,5 @@ pub mod Ending
 pub mod Moves
 pub mod Midway
 pub mod Events
+pub mod Doing
+pub mod Step

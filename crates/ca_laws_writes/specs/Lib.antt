@@ -3,3 +3,4 @@ pub mod Once
 pub mod Agrees
 pub mod Lives
 pub mod Moves
+pub mod Taken

@@ -12,7 +12,8 @@ use Rattle.ca_records.specs.Puts.{Record}
 use Rattle.ca_records.specs.Record.{RecordState}
 use Rattle.ca_requests.specs.Meaning.{Means}
 use Rattle.ca_wire.specs.Fields.{Fields}
-use Rattle.ca_model.specs.Due.{KnownRecord, Knows, PutReads}
+use Rattle.ca_model.specs.Due.{Action, Applies, KnownRecord, Knows, PutReads}
+use Rattle.ca_model.specs.Due as action
 use Rattle.ca_model.specs.Speech.{In, Is, Stored, sid_in}
 use Rattle.ca_model.specs.History.{Added, Applied, Circuit, Entry, Removed, Reply, Sent, Step, Told}
 use Rattle.ca_model_safe.specs.Channels.{HasWaited, IsCleared, IsTaken}
@@ -137,3 +138,17 @@ EndsAgree circuits server ends lost =
 -- the server knows of no busy record that is not slow
 abbrev pub AreSlow : Knows → Type 0
 AreSlow k = (name : List ℕ) (r : KnownRecord) → k.record_of name ≡ Some r → r.busy ≡ true → r.state.slow ≡ true
+
+-- the action writes: at once, or once its put waited
+abbrev pub IsWrite : Action → Type 0
+IsWrite (Applies name value busies) = Unit {0}
+IsWrite (action.Waits name value) = Unit {0}
+IsWrite did = ⊥
+
+-- A message writes this value to the record of this name, as the server knows it: its elements in the type of the record.
+pub record WritesTo (k : Knows) (m : Fields) (name : List ℕ) (value : Elements) : Type 0 where
+  pub known : KnownRecord
+  pub named : k.record_of name ≡ Some known
+  pub given : Elements
+  pub reads : PutReads m given
+  pub is : converted given (base_of known.state.value) ≡ Ok value

@@ -1,10 +1,16 @@
 -- Working: what holds of the writes of a world, and what an event at a server may do to them.
-use Rattle.std.specs.Prelude.{ℕ, ◌≡◌, ◌<◌, ◌++◌, ◌⊎◌, true, false, List, Option, Some, is_some, length}
+use Rattle.std.specs.Prelude.{ℕ, ◌≡◌, ◌<◌, ◌+◌, ◌++◌, ◌⊎◌, Bool, true, false, not, List, [], ◌∷◌, Option, Some, drop, filter, is_some, length, map, take}
+use Rattle.std.specs.Str.{bytes_eq}
+use Rattle.ca_arena.specs.declared.handle.Handle.{Handle}
+use Rattle.ca_records.specs.Record.{RecordState}
 use Rattle.ca_text.specs.Place.{At}
 use Rattle.ca_records.specs.Puts.{Record}
-use Rattle.ca_model.specs.Speech.{In}
-use Rattle.ca_model.specs.History.{Entry}
-use Rattle.ca_model_world.specs.World.{Joined, PutPlace, ServerSide, World}
+use Rattle.ca_model.specs.Server.{Server}
+use Rattle.ca_model.specs.Speech.{In, Stored}
+use Rattle.ca_model.specs.History.{Added, Entry}
+use Rattle.ca_model_world.specs.ServerEvents.{ending, ends_untold, finish_entry, first_of, next_busy, next_entries, next_numbers, numbers_posted, posted_entry, removal_entries, removed_at}
+use Rattle.ca_model_world.specs.ServerEvents as event
+use Rattle.ca_model_world.specs.World.{Joined, PutPlace, RecordSide, ServerSide, World, log_begun, record_begun, server_begun, with_entries, with_server}
 use Rattle.ca_laws_writes.specs.Lives.{AreLater, AreOpen, Life, LogsOnce}
 use Rattle.ca_laws_writes.specs.Once.{write_in}
 
@@ -65,3 +71,34 @@ pub record Midway (w mid : World) (i : ℕ) (y side : ServerSide) (log more : Li
 abbrev pub EndsOnly : List Joined → (server : ℕ) → (Joined → Option (List ℕ)) → Type 0
 EndsOnly circuits server ends =
     (n : ℕ) (c : Joined) → At circuits n c → (c.server ≡ server → ⊥) → is_some (ends c) ≡ false
+
+-- ---- worlds in which an event is told, before circuits end
+
+-- the world in which a finish is told
+abbrev pub finish_told : World → (i : ℕ) → ServerSide → List ℕ → Record → RecordSide → PutPlace → World
+finish_told w i y name c r p =
+    with_entries y.life (finish_entry p ∷ next_entries y r (first_of c.waiting) (first_of r.waiting)) (with_server i (record y { records = event.with_record name next_busy y.records }) (record w { circuits = map (next_numbers i y.core name c.waiting) w.circuits }))
+
+-- the world in which a removal is told
+abbrev pub removal_told : World → (i : ℕ) → ServerSide → List ℕ → (gone : Handle → Bool) → (left : Handle → ℕ) → World
+removal_told w i y name gone left =
+    with_entries y.life (removal_entries name y.records) (with_server i (record y { records = filter (λ (r : RecordSide). not (bytes_eq r.name name)) y.records }) (record w { circuits = map (removed_at i y.core name gone left) w.circuits }))
+
+-- the world in which an addition is told
+abbrev pub addition_told : World → (i : ℕ) → ServerSide → RecordState → (behind : ℕ) → Server → World
+addition_told w i y r behind core =
+    let side : ServerSide = record y { core = core; records = take behind y.records ++ record_begun y.added r ∷ drop behind y.records; added = y.added + 1 } in
+    with_entries y.life (Added y.added r ∷ []) (with_server i side w)
+
+-- the world in which a post is told
+abbrev pub post_told : World → (i : ℕ) → ServerSide → List ℕ → Stored → (mask : ℕ) → World
+post_told w i y name v mask =
+    with_entries y.life (posted_entry y name v mask) (record w { circuits = map (numbers_posted i y.core name mask) w.circuits })
+
+-- the world after a restart
+abbrev pub restarted : World → (i : ℕ) → ServerSide → World
+restarted w i y =
+    with_server i (server_begun w.moment (length w.server_logs) y.setting) (record w {
+      circuits = map (ending (ends_untold i y.core)) w.circuits;
+      server_logs = w.server_logs ++ log_begun y.setting ∷ [];
+    })

@@ -10,17 +10,21 @@ ghost use Rattle.ca_dbr.specs.Elements.{Elements, base_of};
 ghost use Rattle.ca_model.specs.Due.{Action, Applies, Due, Knows, Nothing};
 ghost use Rattle.ca_requests.specs.Meaning.{Means};
 ghost use Rattle.ca_records.specs.declared.puts.Put.{Put};
-ghost use Rattle.ca_records.specs.Puts.{Record, WaitingPut, finished, new_record, removed, with_record, with_value, with_waiting, withdrawn};
+ghost use Rattle.ca_records.specs.Puts.{Record, WaitingPut, finished, new_record, record_named, removed, with_record, with_value, with_waiting, withdrawn};
 ghost use Rattle.ca_records.specs.Record.{RecordState};
 ghost use Rattle.ca_wire.specs.Fields.{Fields};
 ghost use Rattle.ca_model.specs.Speech.{In, Is, Stored};
 ghost use Rattle.ca_model.specs.History.{Added, Applied, Entry, Finished, Posted, Sent, Waits, Withdrawn};
 ghost use Rattle.ca_model_safe.specs.Channels.{IsApplied, IsBusyUntil, IsDropped};
-ghost use Rattle.ca_model_world.specs.ServerEvents.{channel_withdrawals, ending, ends_at, finish_entry, first_of, is_of_channel, next_busy, next_entries, number_of, removal_entries, with_core, withdrawals, without_channel, without_puts};
+ghost use Rattle.ca_model_world.specs.ServerEvents.{channel_withdrawals, ending, ends_at, ends_by, finish_entry, first_of, is_of_channel, logged_by, next_busy, next_entries, number_of, posted_entry, records_after, removal_entries, replied_at, server_after, with_core, withdrawals, without_channel, without_puts};
 ghost use Rattle.ca_model_world.specs.ServerEvents as event;
-ghost use Rattle.ca_model_world.specs.World.{Joined, PutPlace, RecordSide, ServerSide, World, numbered, record_begun, told};
+ghost use Rattle.ca_model_world.specs.World.{IsSetting, Joined, PutPlace, RecordSide, ServerSide, Setting, World, numbered, opening, record_begun, told};
 ghost use Rattle.ca_laws_writes.specs.Agrees.{LoseAll, TestsAgree};
 ghost use Rattle.ca_laws_writes.specs.Lives.{AreLater, AreOpen, AreSlow, CameOn, EndsAgree, IsOfMessage, IsPutOf, IsWriting, Life, LogsOnce, LostOn, SaysSo};
+ghost use Rattle.ca_model.specs.Server.{Server, ServerEnd};
+ghost use Rattle.ca_model.specs.ServerSteps.{Records, knows};
+ghost use Rattle.ca_laws_writes.specs.Taken.{Takes};
+ghost use Rattle.ca_laws_writes.specs.Moves.{EndsOnly, Midway, Writes, addition_told, finish_told, post_told, removal_told, restarted};
 ghost use Rattle.ca_laws_writes.specs.Once.{IsUntold, MayTell, Once, write_in};
 
 /// A log has each write once, as long as each new entry may be told.
@@ -141,6 +145,21 @@ pub fn no_write_is_applied_twice()
         → IsBusyUntil y n k e × ((f : ℕ) → At y f (Finished n k) → e ≡ f) }
 {}
 
+/// A server takes a message: what that does, by what is due for it, keeps records and log in
+/// agreement. Its write is applied or comes to wait, or the puts of the channel that it clears are
+/// withdrawn.
+pub fn a_message_keeps_records_and_log()
+    ensures { (circuits : List Joined) (i life : ℕ) (log : List Entry) (rs : List RecordSide)
+        (n : ℕ) (old : Server) (h : Handle) (e : ServerEnd) (p : PutPlace) (s : Sent)
+        (replies : List Fields) (did : Action) (new : Server)
+        → (t : Takes circuits i life log rs h p s)
+        → t.step.logged + length (logged_by old h p did rs) ≤ t.step.after
+        → Due (knows old e) s.message replies did → Records old h e s.message did new
+        → Life circuits i life log old.records rs n
+        → Life circuits i life (log ++ logged_by old h p did rs) new.records
+        (records_after old h p did rs) n }
+{}
+
 /// Ends of a server's circuits end, in whatever event: the puts that wait there are withdrawn, and
 /// records and log agree again. A put that waits came on a circuit whose end is open.
 pub fn ends_of_circuits_withdraw_puts()
@@ -171,4 +190,62 @@ pub fn what_a_reply_says_stays_so()
     ensures { (y : List Entry) (p : PutPlace) (s : Sent) (m : Fields) (e : Entry)
         → (write_in e ≡ Some p → (f : Entry) × In y f × (write_in f ≡ Some p)) → SaysSo y p s m
         → SaysSo (y ++ e ∷ []) p s m }
+{}
+
+/// What holds of the writes of a world (each server's records are what the log of its life tells,
+/// and each log has each write once) holds before any event. It stays so while servers and logs
+/// stay as they are and circuits go on, as in each event at a client; as a record is added; and as
+/// a server begins a new life.
+pub fn writes_stay_as_a_world_goes_on()
+    ensures begins { (s : Setting) → IsSetting s → Writes (opening s) }
+    ensures stays { (w new : World) → new.servers ≡ w.servers → new.server_logs ≡ w.server_logs
+        → AreLater w.circuits new.circuits
+        → ((n : ℕ) (c d : Joined) → At w.circuits n c → At new.circuits n d
+        → d.lists.server_open ≡ c.lists.server_open) → Writes w → Writes new }
+    ensures added { (w : World) (i : ℕ) (y : ServerSide) (r : RecordState) (behind : ℕ)
+        (core : Server) → At w.servers i y → record_named y.core.records r.name ≡ None
+        → core.records ≡ take behind y.core.records ++ new_record r ∷ drop behind y.core.records
+        → Writes w → Writes (addition_told w i y r behind core) }
+    ensures restarted { (w : World) (i : ℕ) (y : ServerSide) → At w.servers i y
+        → ((j k : ℕ) (r s : RecordState) → At y.setting.records j r → At y.setting.records k s
+        → r.name ≡ s.name → j ≡ k)
+        → ((j : ℕ) (z : ServerSide) → At w.servers j z → z.life < length w.server_logs)
+        → Writes w → Writes (restarted w i y) }
+{}
+
+/// An event at a server keeps what holds of writes: first it is told, as a post, a finish, a
+/// removal, or nothing at all; then circuits of this server end, and the core withdraws just the
+/// puts that wait there.
+pub fn events_at_a_server_keep_writes()
+    ensures nothing { (w : World) (i : ℕ) (y : ServerSide) (at : At w.servers i y) (h : Writes w)
+        → Midway w w i y y (h.lives i y at).log [] y.core.records }
+    ensures posted { (w : World) (i : ℕ) (y : ServerSide) (name : List ℕ) (v : Stored) (mask : ℕ)
+        (c : Record) (at : At w.servers i y) (h : Writes w)
+        → record_named y.core.records name ≡ Some c → base_of v.value ≡ base_of c.state.value
+        → Midway w (post_told w i y name v mask) i y y (h.lives i y at).log
+        (posted_entry y name v mask)
+        (with_record name (with_value v.value v.meta) y.core.records) }
+    ensures finished { (w : World) (i : ℕ) (y : ServerSide) (name : List ℕ)
+        (sent : List (Handle × Fields)) (c : Record) (r : RecordSide) (place : ℕ) (p : PutPlace)
+        (at : At w.servers i y) (h : Writes w) → record_named y.core.records name ≡ Some c
+        → At y.records place r → r.name ≡ name → r.busy ≡ Some p
+        → Midway w (replied_at p sent (finish_told w i y name c r p)) i y
+        (record y { records = event.with_record name next_busy y.records }) (h.lives i y at).log
+        (finish_entry p ∷ next_entries y r (first_of c.waiting) (first_of r.waiting))
+        (with_record name (λ (q : Record). finished y.core.stamp q q.waiting) y.core.records) }
+    ensures removed { (w : World) (i : ℕ) (y : ServerSide) (name : List ℕ)
+        (gone : Handle → Bool) (left : Handle → ℕ) (c : Record) (at : At w.servers i y)
+        (h : Writes w) → record_named y.core.records name ≡ Some c
+        → Midway w (removal_told w i y name gone left) i y
+        (record y {
+          records = filter (λ (r : RecordSide). not (bytes_eq r.name name)) y.records;
+        }) (h.lives i y at).log (removal_entries name y.records)
+        (removed name y.core.records) }
+    ensures ends { (w mid : World) (i : ℕ) (y side : ServerSide) (log more : List Entry)
+        (records : List Record) (ends : Joined → Option (List ℕ)) (lost : Put → Bool)
+        (core : Server) → Midway w mid i y side log more records → Writes w
+        → core.records ≡ withdrawn lost records → EndsAgree mid.circuits i ends lost
+        → EndsOnly mid.circuits i ends → Writes (server_after i side ends core mid) }
+    ensures only { (circuits : List Joined) (i : ℕ) (core : Server)
+        → EndsOnly circuits i (ends_by i core) }
 {}

@@ -1,0 +1,13 @@
+use Rattle.ca_laws_writes.proofs.Events.{ends-only, midway-finish, midway-nothing, midway-post, midway-remove}
+use Rattle.ca_laws_writes.proofs.Midway.{ended-keep}
+use Rattle.ca_laws_writes.proofs.laws.events_at_a_server_keep_writes.Goals as goal
+
+pub returns : goal.returns
+returns c = record {
+  nothing = midway-nothing;
+  posted = midway-post;
+  finished = midway-finish;
+  removed = midway-remove;
+  ends = λ w mid i y side log more records ends lost core m h is agree only. ended-keep w mid i y side log more records ends lost core m h is agree only;
+  only = ends-only;
+}
