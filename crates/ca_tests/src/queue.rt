@@ -210,7 +210,7 @@ fn cancel_keeps_the_order_of_the_others(rt: HostRuntime) -> Result<(), Fail> {
 
 #[test]
 fn cancel_makes_room_for_a_37th(rt: HostRuntime) -> Result<(), Fail> {
-    let mut queue = ListQueue::new(rt.alloc());
+    let mut queue: ListQueue<Entry> = ListQueue::new(rt.alloc());
     for sub in 0..36 {
         queue.add(SubKey { sid: 1, sub })?;
     }
@@ -226,7 +226,7 @@ fn cancel_makes_room_for_a_37th(rt: HostRuntime) -> Result<(), Fail> {
 // Run it too with the Nth growth refused, for each N: `rt try --test --fail-alloc N`.
 #[test]
 fn refused_growth_changes_nothing(rt: HostRuntime) -> Result<(), Fail> {
-    let mut queue = ListQueue::new(rt.alloc());
+    let mut queue: ListQueue<Entry> = ListQueue::new(rt.alloc());
     if let Err(refusal) = queue.add(KEY) {
         assert_eq!(rt; refusal, Refusal::OutOfMemory);
         queue.add(KEY)?;
