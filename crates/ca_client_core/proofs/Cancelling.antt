@@ -1,5 +1,5 @@
 -- A subscription is cancelled, by where its channel is.
-use Rattle.std.proofs.Common.{◌≡◌, ◌∙◌, ℕ, Bool, true, false, List, [], ◌∷◌, Option, Some, None, Result, Ok, Err, ap, if◌then◌else◌, refl, sym}
+use Rattle.std.proofs.Common.{◌≡◌, ◌∙◌, ℕ, Bool, true, false, List, [], Option, Some, None, Result, Ok, Err, ap, if◌then◌else◌, refl, sym}
 use Rattle.ca_text.specs.declared.refusal.Refusal.{Refusal}
 use Rattle.ca_text.specs.declared.refusal.Refusal.TheVariants as refusal
 use Rattle.ca_arena.specs.declared.handle.Handle.{Handle}
@@ -9,7 +9,7 @@ use Rattle.ca_ids.specs.Table.{Table}
 use Rattle.ca_model.specs.Answers.{Sending}
 use Rattle.ca_model.specs.Client.{Client, Native, On, Standing, sending, standing_at}
 use Rattle.ca_model.specs.Client as phase
-use Rattle.ca_model.specs.ClientCalls.{ClientUnsubscribes, LiveChannel, cancel_fault, cancel_sent, event_cancel_sent, is_over, is_over_at, unsubscribed}
+use Rattle.ca_model.specs.ClientCalls.{ClientUnsubscribes, LiveChannel, cancel_fault, cancel_sent, is_over_at, unsubscribed}
 use Rattle.ca_client_core.specs.Calls.{CancelsOn}
 
 -- where it is known where its channel is

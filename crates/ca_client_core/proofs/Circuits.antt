@@ -1,5 +1,5 @@
 -- A change to one circuit of a client.
-use Rattle.std.proofs.Common.{◌≡◌, ◌≢◌, ◌⊎◌, ◌==◌, inl, inr, ℕ, Bool, true, false, List, [], ◌∷◌, ◌++◌, Option, Some, None, Result, Ok, Err, is_some, if◌then◌else◌, map, option_and_then, option_map, option_to_list, refl, sym, ap, ◌∙◌, subst, arith, slice_set}
+use Rattle.std.proofs.Common.{◌≡◌, ◌≢◌, ◌⊎◌, inl, inr, ℕ, Bool, List, [], ◌∷◌, Option, Some, None, Result, Ok, Err, if◌then◌else◌, map, option_and_then, option_map, option_to_list, refl, sym, ap, ◌∙◌, subst, slice_set}
 use Rattle.std.proofs.lemmas.Bool.{eq-eqb}
 use Rattle.std.proofs.lemmas.List.{get_or-set_same, set-get_or, set-set}
 use Rattle.ca_text.specs.declared.command.Command.{Command}
@@ -13,8 +13,7 @@ use Rattle.ca_link.specs.Link.{with_given, with_sent}
 use Rattle.ca_monitor.specs.ReadRun.{after_read, sent_by_read}
 use Rattle.ca_wire.specs.Messages.{bare}
 use Rattle.ca_model.specs.Answers.{Sending}
-use Rattle.ca_model.specs.Client.{Client, ClientCircuit, Connection, connection_at, on_connection, sending}
-use Rattle.ca_model.specs.ClientCalls.{Does}
+use Rattle.ca_model.specs.Client.{Client, ClientCircuit, Connection, connection_at, sending}
 use Rattle.ca_model.specs.ClientEnds.{ClientGives, GivesOn, flow_sent, given, of_circuit}
 use Rattle.ca_client_core.specs.Ends.{GivesAt, read_given, with_command}
 use Rattle.ca_client_core.specs.Ends as end

@@ -2,3 +2,4 @@ pub mod Openings
 pub mod Circuits
 pub mod Cancelling
 pub mod Wanting
+pub mod Beginnings

@@ -3,3 +3,4 @@ pub mod Sound
 pub mod Codes
 pub mod Ends
 pub mod Calls
+pub mod Names

@@ -4,6 +4,7 @@
 #![tactic(auto)]
 
 mod asking;
+mod beginning;
 mod channel;
 mod channel_state;
 mod circuit;

@@ -1,4 +1,4 @@
-use Rattle.std.proofs.Common.{◌≡◌, ◌≢◌, ◌++◌, ◌∙◌, List, [], Result, Ok, Err, ap, get_or, option_to_list, sym}
+use Rattle.std.proofs.Common.{◌++◌, ◌∙◌, List, Result, Ok, Err, ap, get_or, option_to_list, sym}
 use Rattle.std.specs.Prelude.{OnErr}
 use Rattle.ca_arena.specs.declared.handle.Handle.{Handle}
 use Rattle.ca_model.specs.ClientCalls.{WantedCircuit}

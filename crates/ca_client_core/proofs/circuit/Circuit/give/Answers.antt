@@ -1,4 +1,4 @@
-use Rattle.std.proofs.Common.{◌≡◌, ◌≢◌, ◌⊎◌, ◌∙◌, Bool, [], Err, None, Ok, Option, Result, Some, ap, refl, false, subst, sym, true}
+use Rattle.std.proofs.Common.{◌≡◌, ◌≢◌, ◌⊎◌, [], Err, None, Ok, Option, Result, Some, ap, refl, false, subst, sym, true}
 use Rattle.std.specs.Prelude.{OnErr, OnOk, is_err}
 use Rattle.ca_text.specs.declared.refusal.Refusal.TheVariants as refusal
 use Rattle.ca_monitor.specs.ReadRun.{sent_by_read}
