@@ -11,3 +11,4 @@ pub mod Handled
 pub mod Cleared
 pub mod Subscribes
 pub mod Givens
+pub mod Steps

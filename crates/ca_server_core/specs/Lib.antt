@@ -5,3 +5,6 @@ pub mod Handling
 pub mod Putting
 pub mod Seeking
 pub mod Showing
+pub mod Stepping
+pub mod Circuits
+pub mod Sound

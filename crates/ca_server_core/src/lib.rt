@@ -8,7 +8,9 @@
 mod cause;
 mod channel;
 mod channels;
+mod circuit;
 mod clear;
+mod core;
 mod create;
 mod echo;
 mod end;
@@ -19,8 +21,10 @@ mod put;
 mod read;
 mod search;
 mod seek;
+mod step;
 mod version;
 mod write;
 mod write_notify;
 
 pub use cause::Cause;
+pub use core::ServerCore;

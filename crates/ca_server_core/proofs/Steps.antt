@@ -1,0 +1,34 @@
+-- One step of an open end.
+use Rattle.std.proofs.Common.{◌≡◌, ◌≢◌, ℕ, ◌<◌, inl, inr, true, false, List, [], length, Result, Err, refl, sym, ap, ◌∙◌, subst}
+use Rattle.ca_arena.specs.declared.handle.Handle.{Handle}
+use Rattle.ca_link.specs.Calls.{IsOpen, Nexts}
+use Rattle.ca_link.specs.Link.{LinkState, TakesFirst, with_rest}
+use Rattle.ca_records.specs.Store.{Store}
+use Rattle.ca_text.specs.declared.refusal.Refusal.{Refusal}
+use Rattle.ca_text.specs.declared.refusal.Refusal.TheVariants as refusal
+use Rattle.ca_text.specs.Limits.{output_limit}
+use Rattle.ca_wire.specs.Fields.{Fields}
+use Rattle.ca_model.specs.Server.{ServerEnd}
+use Rattle.ca_server_core.specs.Stepping.{BreaksBy, Takes, after_first, cause_for}
+
+closed-open : (l : LinkState) → l.input.closed ≡ true → l.input.closed ≡ false → ⊥
+closed-open l a b = cc
+
+-- an end whose link refuses to read breaks
+pub breaks-by : (port : ℕ) (s : Store) (e : ServerEnd) (l : LinkState) (r : Refusal) → length e.link.output < output_limit → IsOpen e.link → Nexts e.link (Err r) l → BreaksBy port s e (cause_for r)
+breaks-by port s e l refusal.CircuitClosed room live n = absurd (closed-open e.link n.0 live)
+breaks-by port s e l refusal.Misaligned room live n = (room, n.1)
+breaks-by port s e l refusal.TooLarge room live n = (room, n.1)
+breaks-by port s e l refusal.OutOfMemory room live n =
+    let t = n.1 in (record { room = room; m = t.0; rest = t.1; takes = t.2 }, inl t.3)
+breaks-by port s e l _ room live n = absurd n
+
+-- the end that its first message was taken from
+pub taken-first : (v e : ServerEnd) (l : LinkState) (rest : List ℕ) → v ≡ e → l ≡ with_rest rest v.link → (let new : ServerEnd = record v { link = l } in new) ≡ (let new : ServerEnd = record e { link = with_rest rest e.link } in new)
+taken-first v e l rest is took =
+    ap (λ (k : LinkState). let new : ServerEnd = record v { link = k } in new) took
+    ∙ ap (λ (x : ServerEnd). let new : ServerEnd = record x { link = with_rest rest x.link } in new) is
+
+-- the end is as it was
+pub same-link : (v e : ServerEnd) (l : LinkState) → v ≡ e → l ≡ v.link → (let new : ServerEnd = record v { link = l } in new) ≡ e
+same-link v e l is same = ap (λ (k : LinkState). let new : ServerEnd = record v { link = k } in new) same ∙ is

@@ -1,0 +1,115 @@
+ghost use Rattle.std.specs.Prelude.{◌≡◌, ◌≤◌, length};
+ghost use Rattle.ca_ids.specs.Table.{under};
+ghost use Rattle.ca_model.specs.ServerCalls.{stamped, waiting};
+ghost use Rattle.ca_model.specs.ServerSteps.{Accepts, Gives, Sends, output_of};
+
+use crate::circuit::Circuit;
+use ca_arena::Handle;
+use ca_beacon::BeaconClock;
+use ca_ids::HeldTable;
+use ca_records::ServedRecords;
+use ca_text::Refusal;
+use std::alloc::Global;
+use std::marker::Model;
+
+/// A server: its records, and its ends of circuits. It does no input and no output: bytes that came are given to it, and
+/// those that wait to be sent are asked of it.
+#[derive(Drop)]
+pub struct ServerCore {
+    alloc: Global,
+    port: u16,
+    records: ServedRecords,
+    // The moment that was given last.
+    moment: u64,
+    circuits: HeldTable<Circuit>,
+    beacons: BeaconClock,
+    // How many writes were applied.
+    applied: u64,
+}
+
+impl Model for ServerCore {
+    ghost use Rattle.ca_model.specs.Server.{Server};
+
+    ghost Value = { Server };
+
+    ghost use Rattle.ca_records.specs.Store.{records_of};
+    ghost use Rattle.ca_server_core.specs.Sound.{IsSound};
+
+    ghost view = { λ s.
+        record {
+          port = s.port;
+          rules = s.records.rules;
+          records = records_of s.records;
+          stamp = s.records.stamp;
+          moment = s.moment;
+          circuits = s.circuits;
+          beacons = s.beacons;
+          applied = s.applied;
+        } };
+
+    ghost invariant = { λ s. IsSound (records_of s.records) s.circuits };
+}
+
+impl ServerCore {
+    /// A circuit is accepted, and gets a handle. Refused by 9 if none may be given, then by 1. A refusal changes nothing.
+    pub fn accept(&mut self) -> Result<Handle, Refusal>
+        ensures { Accepts self.old result self.new }
+    {
+        match self.circuits.open(Circuit::new(self.alloc, self.moment)) {
+            Ok(handle) => Ok(handle),
+            Err((_, refusal)) => Err(refusal),
+        }
+    }
+
+    /// Takes bytes that came on a circuit. Refused by 17 if its end is not open, then by 1. A refusal changes nothing.
+    pub fn give(&mut self, circuit: Handle, bytes: &[u8]) -> Result<(), Refusal>
+        ensures { Gives self.old circuit bytes.now result self.new }
+    {
+        let now = self.moment;
+        match self.circuits.by_handle_mut(circuit) {
+            Some(found) => found.give(now, bytes),
+            None => Err(Refusal::CircuitClosed),
+        }
+    }
+
+    /// The bytes that wait to be sent on a circuit: none if its end is not open.
+    pub fn out_bytes(&self, circuit: Handle) -> &[u8]
+        ensures { result.now ≡ output_of (under self.now.circuits circuit) }
+    {
+        match self.circuits.by_handle(circuit) {
+            Some(found) => found.out_bytes(),
+            None => &[],
+        }
+    }
+
+    /// The first n of the bytes that wait on a circuit were handed over.
+    pub fn sent(&mut self, circuit: Handle, n: usize)
+        requires { n ≤ length (output_of (under self.old.circuits circuit)) }
+        ensures { Sends self.old circuit n self.new }
+    {
+        if let Some(found) = self.circuits.by_handle_mut(circuit) {
+            found.sent(n);
+        }
+    }
+
+    /// Writes that are applied from now on have this time stamp: seconds since 1990-01-01 00:00:00 UTC, and nanoseconds.
+    pub fn stamp(&mut self, seconds: u32, nanos: u32)
+        ensures { self.new ≡ stamped (record { seconds = seconds; nanos = nanos }) self.old }
+    {
+        self.records.stamp(seconds, nanos);
+    }
+
+    /// How many writes were applied. It stays at 2^63.
+    pub fn applied(&self) -> u64
+        ensures { result ≡ self.now.applied }
+    {
+        self.applied
+    }
+
+    /// How many puts wait.
+    pub fn waiting(&self) -> u64
+        ensures { result ≡ waiting self.now }
+    {
+        self.records.waiting() as u64
+    }
+}

@@ -1,0 +1,63 @@
+ghost use Rattle.std.specs.Prelude.{◌≡◌};
+ghost use Rattle.ca_link.specs.Calls.{IsOpen};
+ghost use Rattle.ca_records.specs.Store.{records_of};
+ghost use Rattle.ca_server_core.specs.Clearing.{ArePuts};
+ghost use Rattle.ca_server_core.specs.Handling.{AreServed};
+ghost use Rattle.ca_server_core.specs.Stepping.{EndSteps, cause_for};
+
+use crate::cause::Cause;
+use crate::end::End;
+use ca_arena::Handle;
+use ca_records::ServedRecords;
+use ca_text::Refusal;
+
+/// What one step of an open end did.
+#[derive(Clone, Copy, Debug, PartialEq, Eq)]
+pub(crate) enum EndStep {
+    /// It handled a message; true if that applied a write.
+    Handled(bool),
+    /// No complete message is there.
+    NeedBytes,
+    /// So much waits to be sent that no message is handled.
+    OutputFull,
+    /// The end is to be closed.
+    Breaks(Cause),
+}
+
+impl End {
+    /// Handles the next message of this circuit, unless 262,144 bytes wait to be sent.
+    pub(crate) fn step(
+        &mut self,
+        port: u16,
+        circuit: Handle,
+        records: &mut ServedRecords,
+    ) -> EndStep
+        requires open { IsOpen self.old.link }
+        requires served { AreServed (records_of records.old) self.old.channels }
+        requires puts { ArePuts circuit (records_of records.old) self.old.channels }
+        ensures { EndSteps port circuit self.old records.old result self.new records.new }
+    {
+        if self.link.is_full() {
+            return EndStep::OutputFull;
+        }
+        match self.link.next_message() {
+            Ok(None) => EndStep::NeedBytes,
+            Ok(Some(message)) => match self.handle(port, circuit, records, &message) {
+                Ok(writes) => EndStep::Handled(writes),
+                Err(_) => EndStep::Breaks(Cause::OutOfMemory),
+            },
+            Err(refusal) => EndStep::Breaks(cause_of(refusal)),
+        }
+    }
+}
+
+/// Why an end is to be closed if its link refuses to read.
+fn cause_of(refusal: Refusal) -> Cause
+    ensures { result ≡ cause_for refusal }
+{
+    match refusal {
+        Refusal::Misaligned => Cause::Misaligned,
+        Refusal::TooLarge => Cause::TooLarge,
+        _ => Cause::OutOfMemory,
+    }
+}
