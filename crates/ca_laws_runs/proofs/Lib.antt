@@ -10,3 +10,4 @@ pub mod Ids
 pub mod Steps
 pub mod Finds
 pub mod ClientSteps
+pub mod Servers

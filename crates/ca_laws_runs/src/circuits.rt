@@ -8,6 +8,7 @@ ghost use Rattle.ca_model.specs.Client.{Connection, connection_at};
 ghost use Rattle.ca_model.specs.ClientEnds.{after_taking};
 ghost use Rattle.ca_model.specs.History.{Intent};
 ghost use Rattle.ca_model_world.specs.ClientEvents.{HappensClear, HappensClientStep, HappensCutClient, HappensDown, HappensRead, HappensSubscribe, HappensUnsubscribe, HappensUp, HappensWrite, HappensWriteNotify};
+ghost use Rattle.ca_model_world.specs.ServerEvents.{HappensCutServer};
 ghost use Rattle.ca_model_world.specs.World.{ClientSide, Joined, ServerSide, World};
 ghost use Rattle.ca_laws_circuit.specs.Held.{Attached, MeanToSubscribe};
 ghost use Rattle.ca_laws_runs.specs.Circuit.{AreGiven, AreNumbered, HaveHandles, HeldAt, IsKnown};
@@ -37,7 +38,7 @@ pub fn calls_keep_each_circuit()
         → HeldAt kept new k }
 {}
 
-/// So do bytes that move on any circuit, and the end of a client's end.
+/// So do bytes that move on any circuit, and the cut of an end at its client or at its server.
 pub fn moves_keep_each_circuit()
     ensures up { (kept : List ℕ) (w new : World) (k l n : ℕ) (j : Joined) (x : ClientSide)
         (y : ServerSide) → At w.circuits k j → At w.clients j.client x → HappensUp w k n j x y new
@@ -45,9 +46,11 @@ pub fn moves_keep_each_circuit()
     ensures down { (kept : List ℕ) (w new : World) (k l n : ℕ) (j : Joined) (x : ClientSide)
         (y : ServerSide) → At w.circuits k j → At w.clients j.client x → HappensDown w k n j x y new
         → HeldAt kept w l → HeldAt kept new l }
-    ensures cut { (kept : List ℕ) (w new : World) (k l : ℕ) (j : Joined) (x : ClientSide)
+    ensures cut_client { (kept : List ℕ) (w new : World) (k l : ℕ) (j : Joined) (x : ClientSide)
         → At w.circuits k j → At w.clients j.client x → j.lists.client_open ≡ true → HaveHandles w
         → HappensCutClient w k j x new → HeldAt kept w l → HeldAt kept new l }
+    ensures cut_server { (kept : List ℕ) (w new : World) (k l : ℕ) (j : Joined) (y : ServerSide)
+        → HappensCutServer w k j y new → HeldAt kept w l → HeldAt kept new l }
 {}
 
 /// So does a step of a client's end: whatever message it reads, and whether it reads one or closes.
