@@ -11,3 +11,4 @@ pub mod Steps
 pub mod Finds
 pub mod ClientSteps
 pub mod Servers
+pub mod Handled
