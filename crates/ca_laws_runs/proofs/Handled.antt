@@ -29,10 +29,10 @@ use Rattle.ca_laws_runs.specs.Circuit.{HeldAt, HeldOn, IsNext}
 -- ---- what changes no list
 
 -- Both circuits have the same lists, client and handle there.
-abbrev Like : (j next : Joined) → Type 0
+abbrev pub Like : (j next : Joined) → Type 0
 Like j next = (next.lists ≡ j.lists) × (next.at_client ≡ j.at_client) × (next.client ≡ j.client)
 
-like-held : (kept : List ℕ) (n : world.Names) (x : Client) (j next : Joined) → Like j next → HeldOn kept n x j → HeldOn kept n x next
+pub like-held : (kept : List ℕ) (n : world.Names) (x : Client) (j next : Joined) → Like j next → HeldOn kept n x j → HeldOn kept n x next
 like-held kept n x j next like h =
     let start : HeldOn kept n x (record next { lists = j.lists; at_client = j.at_client }) = record { flows = h.flows; cids = h.cids; holds = h.holds } in
     subst (λ (p : Circuit × Handle). HeldOn kept n x (record next { lists = p.0; at_client = p.1 })) (λ i. (sym like.0 i, sym like.1 i)) start

@@ -12,3 +12,4 @@ pub mod Finds
 pub mod ClientSteps
 pub mod Servers
 pub mod Handled
+pub mod ServerSteps

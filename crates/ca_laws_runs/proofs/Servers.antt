@@ -14,7 +14,7 @@ use Rattle.ca_laws_circuit.specs.Held.{Holds}
 use Rattle.ca_laws_runs.specs.Circuit.{HeldAt, HeldOn}
 
 -- a circuit whose end at the server has ended
-closed-server : (kept : List ℕ) (n : Names) (x : Client) (j : Joined) (left : List ℕ) → HeldOn kept n x j → HeldOn kept n x (server_closed left j)
+pub closed-server : (kept : List ℕ) (n : Names) (x : Client) (j : Joined) (left : List ℕ) → HeldOn kept n x j → HeldOn kept n x (server_closed left j)
 closed-server kept n x j left h =
     let f = h.flows in
     record {
@@ -33,7 +33,7 @@ ending-held : (kept : List ℕ) (n : Names) (x : Client) (j : Joined) (o : Optio
 ending-held kept n x j (Some left) h = closed-server kept n x j left h
 ending-held kept n x j None h = h
 
-ending-client : (j : Joined) (o : Option (List ℕ)) → (unwrap_or (option_map (λ (left : List ℕ). server_closed left j) o) j).client ≡ j.client
+pub ending-client : (j : Joined) (o : Option (List ℕ)) → (unwrap_or (option_map (λ (left : List ℕ). server_closed left j) o) j).client ≡ j.client
 ending-client j (Some left) = refl
 ending-client j None = refl
 

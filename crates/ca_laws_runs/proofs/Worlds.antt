@@ -16,12 +16,12 @@ use Rattle.ca_laws_circuit.proofs.Settled.{three-ways}
 use Rattle.ca_laws_runs.specs.Circuit.{HeldAt, HeldOn, sent_to, stamped}
 use Rattle.ca_laws_runs.proofs.Sending.{with_up}
 
-set-there : {A : Type 0} (xs : List A) (i : ℕ) (y : A) → i < length xs → At (slice_set xs i y) i y
+pub set-there : {A : Type 0} (xs : List A) (i : ℕ) (y : A) → i < length xs → At (slice_set xs i y) i y
 set-there [] i y lt = absurd (omega (arith, lt))
 set-there (z ∷ xs) zero y lt = refl
 set-there (z ∷ xs) (suc i) y lt = set-there xs i y (omega (arith, lt))
 
-number-or : (a b : ℕ) → (a ≡ b) ⊎ (a ≡ b → ⊥)
+pub number-or : (a b : ℕ) → (a ≡ b) ⊎ (a ≡ b → ⊥)
 number-or a b = elim (three-ways a b) [
   | inl lt ↦ inr (λ e. omega (arith, lt, e))
   | inr (inl is) ↦ inl is
