@@ -1,9 +1,9 @@
 -- A step of a server's end that handles a message: what is held of its circuit and of the others stays so.
-use Rattle.std.proofs.Common.{◌≡◌, ℕ, ◌<◌, ◌⊎◌, inl, inr, Bool, true, false, ◌&&◌, cond, eqb, List, [], ◌∷◌, ◌++◌, length, Option, Some, None, refl, sym, ap, ◌∙◌, subst}
-use Rattle.std.specs.Prelude.{map, option_map, slice_get, unwrap_or}
+use Rattle.std.proofs.Common.{◌≡◌, ℕ, Bool, true, false, ◌&&◌, cond, eqb, List, [], ◌∷◌, length, refl, sym, ◌∙◌, subst}
+use Rattle.std.specs.Prelude.{map}
 use Rattle.std.specs.List.{fold}
 use Rattle.ca_text.specs.Place.{At}
-use Rattle.ca_text.proofs.Places.{At-map, At-one, At-set-other, At-within, some_is}
+use Rattle.ca_text.proofs.Places.{At-map}
 use Rattle.ca_arena.specs.declared.handle.Handle.{Handle}
 use Rattle.ca_ids.specs.Table.{under}
 use Rattle.ca_queue.specs.declared.entry.SubKey.{SubKey}
@@ -19,9 +19,8 @@ use Rattle.ca_model.specs.Server.{Server}
 use Rattle.ca_model_world.specs.ServerEvents.{handled_at, keys_concerned, numbers_after, numbers_posted, with_number, write_numbers}
 use Rattle.ca_model_world.specs.World.{ClientSide, Joined, World, with_circuit}
 use Rattle.ca_model_world.specs.World as world
-use Rattle.ca_laws_circuit.specs.Flows.{Awaits, IsCidOf, with_handled}
+use Rattle.ca_laws_circuit.specs.Flows.{IsCidOf}
 use Rattle.ca_laws_circuit.specs.Replies.{IsCidAt}
-use Rattle.ca_laws_circuit.specs.Held.{Holds}
 use Rattle.ca_laws_circuit.proofs.Answering.{due-answers}
 use Rattle.ca_laws_circuit.proofs.Steps.{flows-step, holds-step}
 use Rattle.ca_laws_runs.specs.Circuit.{HeldAt, HeldOn, IsNext}

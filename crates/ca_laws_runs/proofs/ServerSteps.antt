@@ -1,6 +1,6 @@
 -- The step of a server's end that handles a message, as an event of a world.
-use Rattle.std.proofs.Common.{◌≡◌, ℕ, inl, inr, Bool, true, false, List, [], ◌∷◌, length, Option, Some, None, refl, sym, ap, ◌∙◌, subst}
-use Rattle.std.specs.Prelude.{map, option_map, slice_get, slice_set, unwrap_or}
+use Rattle.std.proofs.Common.{◌≡◌, ℕ, Bool, false, List, length, Option, Some, None, refl, sym, ap, ◌∙◌, subst}
+use Rattle.std.specs.Prelude.{map, option_map, slice_set, unwrap_or}
 use Rattle.ca_text.specs.Place.{At}
 use Rattle.ca_text.proofs.Places.{At-map, At-one, At-set-other, At-within}
 use Rattle.ca_arena.specs.declared.handle.Handle.{Handle}
@@ -9,14 +9,14 @@ use Rattle.ca_wire.specs.Fields.{Fields}
 use Rattle.ca_model.specs.Client.{Client}
 use Rattle.ca_model.specs.Due.{Action, Due, Knows}
 use Rattle.ca_model.specs.History.{Circuit, Step}
-use Rattle.ca_model.specs.Server.{Server, ServerEnd}
-use Rattle.ca_model.specs.ServerSteps.{Next, knows}
-use Rattle.ca_model_world.specs.ServerEvents.{StepHandles, acted, ending, ends_by, handled_at, logged, noted, numbers_after, server_after, server_closed, side_of, write_numbers}
-use Rattle.ca_model_world.specs.World.{ClientSide, Joined, Names, ServerSide, World, with_circuit}
+use Rattle.ca_model.specs.Ends as why
+use Rattle.ca_model.specs.ServerSteps.{Closed, Handled, NeedBytes, OutputFull, Stepped, closed, knows}
+use Rattle.ca_model_world.specs.ServerEvents.{ServerStepped, StepHandles, acted, ending, ends_by, ends_here, handled_at, logged, numbers_after, server_after, server_closed, side_of, unsaid, write_numbers}
+use Rattle.ca_model_world.specs.World.{Joined, Names, ServerSide, World, with_circuit}
 use Rattle.ca_laws_runs.specs.Circuit.{HeldAt, HeldOn, IsNext}
 use Rattle.ca_laws_runs.proofs.Handled.{handled-held, like-held, mapped-held, numbers-like, writes-like}
 use Rattle.ca_laws_runs.proofs.Servers.{closed-server, ending-client, server-held}
-use Rattle.ca_laws_runs.proofs.Worlds.{circuit-changed, number-or, set-there}
+use Rattle.ca_laws_runs.proofs.Worlds.{circuit-changed, set-there}
 
 closed-next : (kept now : List ℕ) (c : Circuit) (k : Knows) (m : Fields) (replies : List Fields) → IsNext kept now c k m replies → IsNext kept now (record c { server_open = false }) k m replies
 closed-next kept now c k m replies h = record { s = h.s; at = h.at; is = h.is; fits = h.fits; writes = h.writes; were = h.were; gone = h.gone; over = h.over }
@@ -30,6 +30,33 @@ own-ended kept now n x j (Some left) place h k m replies action is due next held
     let c : Joined = server_closed left j in
     subst (λ (p : ℕ). HeldOn now n x (handled_at p h replies c)) (sym is)
     (handled-held kept now n x c h k m replies action due (closed-next kept now j.lists k m replies next) (closed-server kept n x j left held))
+
+-- what a message does to places and numbers changes no list
+acted-held : (kept : List ℕ) (w : World) (k l : ℕ) (j : Joined) (y : ServerSide) (action : Action) → At w.circuits k j → HeldAt kept w l → HeldAt kept (acted k j y action w) l
+acted-held kept w k l j y action at held =
+    let place : ℕ = length j.lists.handled in
+    let here : World = with_circuit k (numbers_after place action j) w in
+    let numbered : HeldAt kept here l =
+    circuit-changed kept w k l j (numbers_after place action j) at (numbers-like place action j).2
+    (λ n x h. like-held kept n x j (numbers_after place action j) (numbers-like place action j) h) held in
+    let written = mapped-held kept here l (write_numbers j.server y.core action) (writes-like j.server y.core action) numbered in
+    (written.0, written.1, written.2, written.3, written.4)
+
+-- A step that handles no message: it takes none, or closes the circuit.
+pub keeps-unhandled : (kept : List ℕ) (w new : World) (k l : ℕ) (j : Joined) (y : ServerSide) (did : Stepped) → At w.circuits k j → (did ≡ Handled → ⊥) → ServerStepped w k j y did new → HeldAt kept w l → HeldAt kept new l
+keeps-unhandled kept w new k l j y Handled at not steps held = absurd (not refl)
+keeps-unhandled kept w new k l j y NeedBytes at not steps held = subst (λ (v : World). HeldAt kept v l) (sym steps.3) held
+keeps-unhandled kept w new k l j y OutputFull at not steps held = subst (λ (v : World). HeldAt kept v l) (sym steps.3) held
+keeps-unhandled kept w new k l j y (Closed why.OutOfMemory left) at not steps held =
+    subst (λ (v : World). HeldAt kept v l) (sym steps.leaves)
+    (server-held kept (unsaid k j y steps.lacks.next.action steps.lacks.written w) j.server l (side_of j.server y (unsaid k j y steps.lacks.next.action steps.lacks.written w)) (ends_here j left j.server steps.core) steps.core (go steps.lacks.written))
+  where
+    go : (o : Option (Handle → Bool)) → HeldAt kept (unsaid k j y steps.lacks.next.action o w) l
+    go None = held
+    go (Some gone) = acted-held kept w k l j y steps.lacks.next.action at held
+keeps-unhandled kept w new k l j y (Closed cause left) at not steps held =
+    subst (λ (v : World). HeldAt kept v l) (sym steps.3)
+    (server-held kept w j.server l y (ends_here j left j.server y.core) (closed j.at_server y.core) held)
 
 module _ (kept : List ℕ) (w new : World) (k : ℕ) (j : Joined) (y : ServerSide) (s : StepHandles w k j y new) (at : At w.circuits k j) where
   abbrev mid : World
@@ -60,13 +87,7 @@ module _ (kept : List ℕ) (w new : World) (k : ℕ) (j : Joined) (y : ServerSid
   -- the others
   after-held : (l : ℕ) → HeldAt kept w l → HeldAt kept after l
   after-held l held =
-      let here : World = with_circuit k (numbers_after (length j.lists.handled) (s.steps.0).action j) w in
-      let numbered : HeldAt kept here l =
-      circuit-changed kept w k l j (numbers_after (length j.lists.handled) (s.steps.0).action j) at (numbers-like (length j.lists.handled) (s.steps.0).action j).2
-      (λ n x h. like-held kept n x j (numbers_after (length j.lists.handled) (s.steps.0).action j) (numbers-like (length j.lists.handled) (s.steps.0).action j) h) held in
-      let written = mapped-held kept here l (write_numbers j.server y.core (s.steps.0).action) (writes-like j.server y.core (s.steps.0).action) numbered in
-      let acted_it : HeldAt kept mid l = (written.0, written.1, written.2, written.3, written.4) in
-      server-held kept mid j.server l (side_of j.server y mid) (ends_by j.server s.core) s.core acted_it
+      server-held kept mid j.server l (side_of j.server y mid) (ends_by j.server s.core) s.core (acted-held kept w k l j y (s.steps.0).action at held)
 
   pub others-handled : (l : ℕ) → (l ≡ k → ⊥) → HeldAt kept w l → HeldAt kept new l
   others-handled l differs held =

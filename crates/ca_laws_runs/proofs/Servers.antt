@@ -1,16 +1,12 @@
 -- Ends of circuits at a server end: what is held of each circuit by its client stays so.
-use Rattle.std.proofs.Common.{◌≡◌, ℕ, true, false, List, Option, Some, None, refl, sym, subst}
-use Rattle.std.specs.Prelude.{map, option_map, unwrap_or}
+use Rattle.std.proofs.Common.{◌≡◌, ℕ, List, Option, Some, None, refl, sym, subst}
+use Rattle.std.specs.Prelude.{option_map, unwrap_or}
 use Rattle.ca_text.specs.Place.{At}
 use Rattle.ca_text.proofs.Places.{At-map}
-use Rattle.ca_arena.specs.declared.handle.Handle.{Handle}
 use Rattle.ca_model.specs.Client.{Client}
-use Rattle.ca_model.specs.History.{Circuit}
 use Rattle.ca_model.specs.Server.{Server}
 use Rattle.ca_model_world.specs.ServerEvents.{HappensCutServer, ending, ends_by, server_after, server_closed}
 use Rattle.ca_model_world.specs.World.{Joined, Names, ServerSide, World}
-use Rattle.ca_laws_circuit.specs.Flows.{Awaits}
-use Rattle.ca_laws_circuit.specs.Held.{Holds}
 use Rattle.ca_laws_runs.specs.Circuit.{HeldAt, HeldOn}
 
 -- a circuit whose end at the server has ended
