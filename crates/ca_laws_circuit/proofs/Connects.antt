@@ -225,24 +225,33 @@ module _ (Awaits : ℕ → Type 0) (on : Handle) (n : ClientNames) (x : Client) 
   channels-made =
       ids-kept-by Cid (λ (h : Handle). history.On (channel_number n h) history.Create) Awaits (marked here es) (λ (g : Handle). is_on_in is_asked on) x.channels after (with_all_sent adds c)
       (let e : length after ≡ length x.channels = length-map x.channels _ in let l : length x.channels ≤ arena_slots = holds.channels.few in omega (arith, e, l))
-      (λ p m pending was. (was.0, creating on was.1, all-there (creating on) x.channels was.0 was.1 was.2, was.3, elim (marked-back here es was.0 was.1 was.4) [
-        | inl old ↦ absurd (both_ways (is_on_in is_asked on was.1) (none was.0 was.1 was.2) old)
-        | inr new ↦
-            let in_it = in-es new.0 new.1 new.2 in
-            let same : new.1.1 ≡ was.1 = one-value x.channels was.0 new.1.1 was.1 (subst (λ (k : Handle). under x.channels k ≡ Some new.1.1) (sym new.3) in_it.0) was.2 in
-            asked-now was.1 (subst (λ (z : Channel). is_on_in is_connecting on z ≡ true) same in_it.1)
-      ]))
+      (λ p m pending was. (
+        was.0,
+        creating on was.1,
+        all-there (creating on) x.channels was.0 was.1 was.2,
+        was.3,
+        elim (marked-back here es was.0 was.1 was.4) [
+          | inl old ↦ absurd (both_ways (is_on_in is_asked on was.1) (none was.0 was.1 was.2) old)
+          | inr new ↦
+              let in_it = in-es new.0 new.1 new.2 in
+              let same : new.1.1 ≡ was.1 = one-value x.channels was.0 new.1.1 was.1 (subst (λ (k : Handle). under x.channels k ≡ Some new.1.1) (sym new.3) in_it.0) was.2 in
+              asked-now was.1 (subst (λ (z : Channel). is_on_in is_connecting on z ≡ true) same in_it.1)
+        ],
+      ))
       (λ g w is pass.
-      let was = all-back (creating on) x.channels g w is in
-      (was.0, was.1, elim (cases_Bool (is_on_in is_connecting on was.0)) [
-        | inl waits ↦
-            let at = under-held x.channels g was.0 was.1 in
-            let there = filter-at (λ (e : Handle × Channel). is_on_in is_connecting on e.1) (held x.channels) at.0 (g, was.0) at.1 waits in
-            marked-new here es there.0 (g, was.0) g was.0 there.1 refl
-        | inr stays ↦
-            let same : w ≡ was.0 = was.2 ∙ as-before was.0 stays in
-            absurd (both_ways (is_on_in is_asked on was.0) (none g was.0 was.1) (subst (λ (z : Channel). is_on_in is_asked on z ≡ true) same pass))
-      ]))
+      let was = all-back (creating on) x.channels g w is in (
+        was.0,
+        was.1,
+        elim (cases_Bool (is_on_in is_connecting on was.0)) [
+          | inl waits ↦
+              let at = under-held x.channels g was.0 was.1 in
+              let there = filter-at (λ (e : Handle × Channel). is_on_in is_connecting on e.1) (held x.channels) at.0 (g, was.0) at.1 waits in
+              marked-new here es there.0 (g, was.0) g was.0 there.1 refl
+          | inr stays ↦
+              let same : w ≡ was.0 = was.2 ∙ as-before was.0 stays in
+              absurd (both_ways (is_on_in is_asked on was.0) (none g was.0 was.1) (subst (λ (z : Channel). is_on_in is_asked on z ≡ true) same pass))
+        ],
+      ))
       all-named.1
 
   pub connects-holds : (sends : List Sending) → Holds Awaits on n (sending sends (begun on x)) (with_all_sent adds c)

@@ -1,11 +1,19 @@
-ghost use Rattle.std.specs.Prelude.{[], ◌≡◌, ◌⊎◌, ◌∷◌, List, Some, false, length, map, true, ℕ};
-ghost use Rattle.ca_text.specs.declared.command.Command.TheVariants.{EventAdd, Write};
+ghost use Rattle.std.specs.Prelude.{[], ◌≡◌, ◌<◌, ◌++◌, ◌⊎◌, ◌∷◌, List, Some, false, length, map, true, ℕ};
+ghost use Rattle.ca_text.specs.declared.command.Command.TheVariants.{CreateChannel, EventAdd, Write, WriteNotify};
 ghost use Rattle.ca_text.specs.Place.{At};
 ghost use Rattle.ca_arena.specs.declared.handle.Handle.{Handle};
 ghost use Rattle.ca_ids.specs.Table.{same_handle, under};
 ghost use Rattle.ca_ids.specs.Wire.{wire_of};
 ghost use Rattle.ca_monitor.specs.Subscriptions.{Subscription, standing_to};
 ghost use Rattle.ca_requests.specs.Requests.{Request as HeldRequest, answered_by, was_sent_on};
+ghost use Rattle.ca_wire.specs.Fields.{Fields};
+ghost use Rattle.ca_wire.specs.Header.{HeaderFits};
+ghost use Rattle.ca_wire.specs.Message.{header_of};
+ghost use Rattle.ca_wire.specs.declared.requests.Wanted.{Wanted};
+ghost use Rattle.ca_records.specs.declared.puts.Put.{Put};
+ghost use Rattle.ca_model.specs.Due.{Action, Due, Knows};
+ghost use Rattle.ca_model.specs.ServerCalls.{finish_reply};
+ghost use Rattle.ca_model.specs.Updates.{ShowsTo};
 ghost use Rattle.ca_model.specs.Answers.{Sending};
 ghost use Rattle.ca_model.specs.Client.{Channel, Client, Clearing, Connecting, Creating, Doomed, Leaving, Live, Native, Phase, Searching, Standing, channel_on, ended, is_on_in, searched_again, sending, standing_at, with_standing, without_channel};
 ghost use Rattle.ca_model.specs.Client as standing;
@@ -14,11 +22,13 @@ ghost use Rattle.ca_model.specs.ClientEnds.{begun};
 ghost use Rattle.ca_model.specs.Hears.{event_adds, heard_by, without_drained, without_request, without_subscription};
 ghost use Rattle.ca_model.specs.History.{Cancel, Circuit, Create, Intent, OfCircuit, On, Reply, Request, Sent, Step, Told};
 ghost use Rattle.ca_model.specs.History as history;
-ghost use Rattle.ca_model.specs.Speech.{Ioid, Is, Speaks, SubId};
+ghost use Rattle.ca_model.specs.Speech.{In, Ioid, Is, Speaks, Stored, SubId};
 ghost use Rattle.ca_model_safe.specs.Channels.{Suits, named};
 ghost use Rattle.ca_model_world.specs.ClientEvents.{channel_number, meant_by};
 ghost use Rattle.ca_model_world.specs.World.{Names};
-ghost use Rattle.ca_laws_circuit.specs.Flows.{Awaits, Flows, MaySend, MaySendAll, with_all_sent, with_heard, with_sent};
+ghost use Rattle.ca_laws_circuit.specs.Flows.{Awaits, Ends, Flows, IsCidOf, MaySend, MaySendAll, with_all_sent, with_handled, with_heard, with_sent, with_told};
+ghost use Rattle.ca_laws_circuit.specs.Replies.{IsCidAt};
+ghost use Rattle.ca_laws_circuit.specs.Steps.{removal_of, replied, update_of};
 ghost use Rattle.ca_laws_circuit.specs.Held.{AreFew, Attached, HoldAlike, Holds, MeanToSubscribe, NoneAsked, clear_of, create_of, event_add_of, has_id, is_asked, waiting_on};
 
 /// The reply to a CREATE_CHAN is read: the channel is live, and the EVENT_ADDs of its subscriptions
@@ -143,4 +153,37 @@ pub fn a_new_circuit_holds_what_it_creates()
         → MaySendAll (Awaits c kept) c (map (create_of n) (waiting_on on x))
         × Holds (Awaits c kept) on n (sending sends (begun on x))
         (with_all_sent (map (create_of n) (waiting_on on x)) c) }
+{}
+
+/// A server's events leave what a client's tables hold of the circuit as it was: it handles its next
+/// message with the replies that are due, a put is finished, and later messages go out.
+pub fn a_servers_events_keep_what_is_held()
+    ensures step { (kept now : List ℕ) (on : Handle) (n : Names) (x : Client) (c : Circuit)
+        (h : Step) (s : Sent) (k : Knows) (replies : List Fields) (action : Action)
+        → At c.up (length c.handled) s → HeaderFits (header_of s.message)
+        → Due k s.message replies action
+        → (Is Write s.message → (cid : ℕ) → IsCidAt k s.message.p1 cid
+        → IsCidOf c.up (length c.handled) s.intent cid)
+        → ((p : ℕ) → In now p → In kept p ⊎ (p ≡ length c.handled))
+        → ((m : Fields) → replies ≡ m ∷ [] → In now (length c.handled) → ⊥)
+        → ((p : ℕ) (r : Sent) → At c.up p r → p < length c.handled → Ends s.intent r.intent
+        → In now p → ⊥) → Flows (Awaits c kept) c → Holds (Awaits c kept) on n x c
+        → Holds (Awaits (with_handled h c) now) on n x
+        (with_handled h (record c { down = c.down ++ map (replied (length c.handled)) replies })) }
+    ensures finish { (kept fewer : List ℕ) (on : Handle) (n : Names) (x : Client) (c : Circuit)
+        (place : ℕ) (s : Sent) (p : Put) → At c.up place s → Is WriteNotify s.message
+        → s.message.p2 ≡ p.ioid → place < length c.handled → In kept place
+        → ((l : ℕ) → In fewer l → In kept l) → (In fewer place → ⊥) → Flows (Awaits c kept) c
+        → Holds (Awaits c kept) on n x c
+        → Holds (Awaits c fewer) on n x (with_told (replied place (finish_reply p)) c) }
+    ensures removal { (kept fewer : List ℕ) (on : Handle) (n : Names) (x : Client) (c : Circuit)
+        (place cid : ℕ) (s : Sent) → At c.up place s → Is CreateChannel s.message
+        → s.message.p1 ≡ cid → In kept place → ((l : ℕ) → In fewer l → In kept l)
+        → Holds (Awaits c kept) on n x c
+        → Holds (Awaits c fewer) on n x (with_told (removal_of place cid) c) }
+    ensures update { (kept fewer : List ℕ) (on : Handle) (n : Names) (x : Client) (c : Circuit)
+        (place number : ℕ) (s : Sent) (w : Wanted) (v : Stored) (m : Fields) → At c.up place s
+        → Is EventAdd s.message → s.message.p2 ≡ w.id → ShowsTo w v m → In kept place
+        → ((l : ℕ) → In fewer l → In kept l) → Holds (Awaits c kept) on n x c
+        → Holds (Awaits c fewer) on n x (with_told (update_of place number m) c) }
 {}

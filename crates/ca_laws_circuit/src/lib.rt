@@ -6,7 +6,8 @@ mod laws;
 
 pub use channels::{
     a_clear_before_live_keeps_what_is_held, a_created_channel_keeps_what_is_held,
-    a_new_circuit_holds_what_it_creates, a_refusal_keeps_what_is_held, a_write_keeps_what_is_held,
+    a_new_circuit_holds_what_it_creates, a_refusal_keeps_what_is_held,
+    a_servers_events_keep_what_is_held, a_write_keeps_what_is_held,
     other_circuits_keep_what_is_held,
 };
 pub use laws::{

@@ -10,3 +10,6 @@ pub mod Ids
 pub mod Steps
 pub mod Finds
 pub mod ClientSteps
+pub mod Servers
+pub mod Handled
+pub mod ServerSteps

@@ -16,12 +16,12 @@ use Rattle.ca_laws_circuit.proofs.Settled.{three-ways}
 use Rattle.ca_laws_runs.specs.Circuit.{HeldAt, HeldOn, sent_to, stamped}
 use Rattle.ca_laws_runs.proofs.Sending.{with_up}
 
-set-there : {A : Type 0} (xs : List A) (i : ℕ) (y : A) → i < length xs → At (slice_set xs i y) i y
+pub set-there : {A : Type 0} (xs : List A) (i : ℕ) (y : A) → i < length xs → At (slice_set xs i y) i y
 set-there [] i y lt = absurd (omega (arith, lt))
 set-there (z ∷ xs) zero y lt = refl
 set-there (z ∷ xs) (suc i) y lt = set-there xs i y (omega (arith, lt))
 
-number-or : (a b : ℕ) → (a ≡ b) ⊎ (a ≡ b → ⊥)
+pub number-or : (a b : ℕ) → (a ≡ b) ⊎ (a ≡ b → ⊥)
 number-or a b = elim (three-ways a b) [
   | inl lt ↦ inr (λ e. omega (arith, lt, e))
   | inr (inl is) ↦ inl is
@@ -54,8 +54,7 @@ after-call kept w i k x spoken o at keeps held =
     elim (number-or j.client i) [
       | inl mine ↦
           let same : held.1 ≡ x = At-one w.clients i held.1 x (subst (λ (c : ℕ). At w.clients c held.1) mine held.3) at in
-          let was : HeldOn kept x.names x.core j = subst (λ (z : ClientSide). HeldOn kept z.names z.core j) same held.4 in
-          (
+          let was : HeldOn kept x.names x.core j = subst (λ (z : ClientSide). HeldOn kept z.names z.core j) same held.4 in (
             sent_to i spoken o.sent j,
             after,
             there,
@@ -80,8 +79,7 @@ pub circuit-changed : (kept : List ℕ) (w : World) (k l : ℕ) (j new : Joined)
 circuit-changed kept w k l j new at same keeps held = elim (number-or l k) [
   | inl is ↦
       let one : held.0 ≡ j = At-one w.circuits k held.0 j (subst (λ (a : ℕ). At w.circuits a held.0) is held.2) at in
-      let was : HeldOn kept held.1.names held.1.core j = subst (λ (z : Joined). HeldOn kept held.1.names held.1.core z) one held.4 in
-      (
+      let was : HeldOn kept held.1.names held.1.core j = subst (λ (z : Joined). HeldOn kept held.1.names held.1.core z) one held.4 in (
         new,
         held.1,
         subst (λ (a : ℕ). At (slice_set w.circuits k new) a new) (sym is) (set-there w.circuits k new (At-within w.circuits k j at)),
@@ -117,8 +115,7 @@ after-step kept w k l j next x spoken o at there same own others held =
       | inl is ↦
           let one : a ≡ j = At-one w.circuits k a j (subst (λ (b : ℕ). At w.circuits b a) is held.2) at in
           let client : held.1 ≡ x = At-one w.clients i held.1 x (subst (λ (z : Joined). At w.clients z.client held.1) one held.3) there in
-          let was : HeldOn kept x.names x.core j = subst (λ (z : Joined × ClientSide). HeldOn kept z.1.names z.1.core z.0) (λ b. (one b, client b)) held.4 in
-          (
+          let was : HeldOn kept x.names x.core j = subst (λ (z : Joined × ClientSide). HeldOn kept z.1.names z.1.core z.0) (λ b. (one b, client b)) held.4 in (
             sent_to i spoken o.sent next,
             after,
             subst (λ (b : ℕ). At (map (sent_to i spoken o.sent) (slice_set w.circuits k next)) b (sent_to i spoken o.sent next)) (sym is)
@@ -131,8 +128,7 @@ after-step kept w k l j next x spoken o at there same own others held =
           At-map (sent_to i spoken o.sent) (slice_set w.circuits k next) l a (At-set-other w.circuits k l a next held.2 differs) in
           elim (number-or a.client i) [
             | inl mine ↦
-                let client : held.1 ≡ x = At-one w.clients i held.1 x (subst (λ (b : ℕ). At w.clients b held.1) mine held.3) there in
-                (
+                let client : held.1 ≡ x = At-one w.clients i held.1 x (subst (λ (b : ℕ). At w.clients b held.1) mine held.3) there in (
                   sent_to i spoken o.sent a,
                   after,
                   stands,

@@ -1,5 +1,5 @@
 -- Working: what holds of one circuit of a world, by its client's core and names.
-use Rattle.std.specs.Prelude.{ℕ, ◌≡◌, ◌<◌, ◌≤◌, ◌⊎◌, ◌++◌, true, List, [], Some, length}
+use Rattle.std.specs.Prelude.{ℕ, ◌≡◌, ◌<◌, ◌≤◌, ◌⊎◌, ◌++◌, true, List, [], ◌∷◌, Some, length}
 use Rattle.ca_text.specs.Command.{command_number}
 use Rattle.ca_text.specs.declared.command.Command.TheVariants as command
 use Rattle.ca_text.specs.Place.{At}
@@ -10,12 +10,16 @@ use Rattle.ca_ids.specs.Wire.{wire_of}
 use Rattle.ca_model.specs.Answers.{Sending}
 use Rattle.ca_model.specs.Client.{Channel, Client, Phase, channel_on}
 use Rattle.ca_model.specs.Hears.{heard_by}
-use Rattle.ca_model.specs.Speech.{Id, Is, SubId}
+use Rattle.ca_model.specs.Speech.{Id, In, Is, SubId}
 use Rattle.ca_model.specs.History.{Ask, Cancel, Circuit, Clear, Create, Intent, On, Reply, Sent, Subscribe, Told}
 use Rattle.ca_model_safe.specs.Channels.{named}
 use Rattle.ca_model_world.specs.ClientEvents.{channel_number, intent_of, meant_by, sent_on}
 use Rattle.ca_model_world.specs.World.{ClientSide, Joined, Names, World}
-use Rattle.ca_laws_circuit.specs.Flows.{Awaits, Flows}
+use Rattle.ca_laws_circuit.specs.Flows.{Awaits, Ends, Flows, IsCidOf}
+use Rattle.ca_laws_circuit.specs.Replies.{IsCidAt}
+use Rattle.ca_model.specs.Due.{Knows}
+use Rattle.ca_wire.specs.Header.{HeaderFits}
+use Rattle.ca_wire.specs.Message.{header_of}
 use Rattle.ca_laws_circuit.specs.Held.{Holds, OnChannels}
 use Rattle.ca_monitor.specs.Subscriptions.{confirmed_by}
 use Rattle.ca_requests.specs.Meaning.{QuotesHeader}
@@ -93,3 +97,16 @@ pub record IsKnown (n : Names) (x : Client) (on : Handle) (c : Circuit) (m : Fie
 -- Each channel of a client has a number.
 abbrev pub AreNumbered : Names → Client → Type 0
 AreNumbered n x = (h : Handle) (ch : Channel) → under x.channels h ≡ Some ch → At n.channels (channel_number n h) h
+
+-- What is known of the message that a server handles next on a circuit, with these replies, if it keeps something for other places then:
+-- it is one that the client sent; a WRITE is handled on the channel for which it was meant; the server keeps nothing new but for this
+-- message, and nothing for it if it has its one reply, nor for what it ends.
+pub record IsNext (kept now : List ℕ) (c : Circuit) (k : Knows) (m : Fields) (replies : List Fields) : Type 0 where
+  pub s : Sent
+  pub at : At c.up (length c.handled) s
+  pub is : s.message ≡ m
+  pub fits : HeaderFits (header_of m)
+  pub writes : Is command.Write m → (cid : ℕ) → IsCidAt k m.p1 cid → IsCidOf c.up (length c.handled) s.intent cid
+  pub were : (p : ℕ) → In now p → In kept p ⊎ (p ≡ length c.handled)
+  pub gone : (r : Fields) → replies ≡ r ∷ [] → In now (length c.handled) → ⊥
+  pub over : (p : ℕ) (r : Sent) → At c.up p r → p < length c.handled → Ends s.intent r.intent → In now p → ⊥

@@ -2,15 +2,17 @@ ghost use Rattle.std.specs.Prelude.{◌≡◌, List, Some, true, ℕ};
 ghost use Rattle.ca_text.specs.Place.{At};
 ghost use Rattle.ca_arena.specs.declared.handle.Handle.{Handle};
 ghost use Rattle.ca_dbr.specs.Elements.{Elements};
-ghost use Rattle.ca_link.specs.Link.{TakesFirst};
+ghost use Rattle.ca_link.specs.Link.{TakesFirst, with_rest};
 ghost use Rattle.ca_wire.specs.Fields.{Fields};
 ghost use Rattle.ca_model.specs.Client.{Connection, connection_at};
 ghost use Rattle.ca_model.specs.ClientEnds.{after_taking};
 ghost use Rattle.ca_model.specs.History.{Intent};
+ghost use Rattle.ca_model.specs.ServerSteps.{Handled, Stepped, knows};
 ghost use Rattle.ca_model_world.specs.ClientEvents.{HappensClear, HappensClientStep, HappensCutClient, HappensDown, HappensRead, HappensSubscribe, HappensUnsubscribe, HappensUp, HappensWrite, HappensWriteNotify};
+ghost use Rattle.ca_model_world.specs.ServerEvents.{HappensCutServer, ServerStepped, StepHandles};
 ghost use Rattle.ca_model_world.specs.World.{ClientSide, Joined, ServerSide, World};
 ghost use Rattle.ca_laws_circuit.specs.Held.{Attached, MeanToSubscribe};
-ghost use Rattle.ca_laws_runs.specs.Circuit.{AreGiven, AreNumbered, HaveHandles, HeldAt, IsKnown};
+ghost use Rattle.ca_laws_runs.specs.Circuit.{AreGiven, AreNumbered, HaveHandles, HeldAt, IsKnown, IsNext};
 
 /// A call of a client, done or refused, keeps what is held of each circuit of the world: its
 /// messages may be sent, and each id that may still come back is held by what it was given to last.
@@ -37,7 +39,7 @@ pub fn calls_keep_each_circuit()
         → HeldAt kept new k }
 {}
 
-/// So do bytes that move on any circuit, and the end of a client's end.
+/// So do bytes that move on any circuit, and the cut of an end at its client or at its server.
 pub fn moves_keep_each_circuit()
     ensures up { (kept : List ℕ) (w new : World) (k l n : ℕ) (j : Joined) (x : ClientSide)
         (y : ServerSide) → At w.circuits k j → At w.clients j.client x → HappensUp w k n j x y new
@@ -45,9 +47,11 @@ pub fn moves_keep_each_circuit()
     ensures down { (kept : List ℕ) (w new : World) (k l n : ℕ) (j : Joined) (x : ClientSide)
         (y : ServerSide) → At w.circuits k j → At w.clients j.client x → HappensDown w k n j x y new
         → HeldAt kept w l → HeldAt kept new l }
-    ensures cut { (kept : List ℕ) (w new : World) (k l : ℕ) (j : Joined) (x : ClientSide)
+    ensures cut_client { (kept : List ℕ) (w new : World) (k l : ℕ) (j : Joined) (x : ClientSide)
         → At w.circuits k j → At w.clients j.client x → j.lists.client_open ≡ true → HaveHandles w
         → HappensCutClient w k j x new → HeldAt kept w l → HeldAt kept new l }
+    ensures cut_server { (kept : List ℕ) (w new : World) (k l : ℕ) (j : Joined) (y : ServerSide)
+        → HappensCutServer w k j y new → HeldAt kept w l → HeldAt kept new l }
 {}
 
 /// So does a step of a client's end: whatever message it reads, and whether it reads one or closes.
@@ -61,4 +65,20 @@ pub fn a_clients_step_keeps_each_circuit()
         → ((m : Fields) (rest : List ℕ) → TakesFirst d.link m rest
         → IsKnown x.names (after_taking j.at_client rest x.core) j.at_client j.lists m)
         → HappensClientStep w k j x new → HeldAt kept w l → HeldAt kept new l }
+{}
+
+/// So does a step of a server's end: on its own circuit with what the server keeps for places then,
+/// by what is known of the message that it handled; on the others, and if it handled none, as it was.
+pub fn a_servers_step_keeps_each_circuit()
+    ensures own { (kept now : List ℕ) (w new : World) (k : ℕ) (j : Joined) (y : ServerSide)
+        (s : StepHandles w k j y new) → At w.circuits k j
+        → IsNext kept now j.lists
+        (knows y.core (record s.e { link = with_rest (s.steps.0).rest s.e.link })) (s.steps.0).m
+        (s.steps.0).replies → HeldAt kept w k → HeldAt now new k }
+    ensures others { (kept : List ℕ) (w new : World) (k l : ℕ) (j : Joined) (y : ServerSide)
+        → At w.circuits k j → StepHandles w k j y new → (l ≡ k → ⊥) → HeldAt kept w l
+        → HeldAt kept new l }
+    ensures unhandled { (kept : List ℕ) (w new : World) (k l : ℕ) (j : Joined) (y : ServerSide)
+        (did : Stepped) → At w.circuits k j → (did ≡ Handled → ⊥) → ServerStepped w k j y did new
+        → HeldAt kept w l → HeldAt kept new l }
 {}

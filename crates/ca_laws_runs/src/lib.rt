@@ -4,5 +4,6 @@
 mod circuits;
 
 pub use circuits::{
-    a_clients_step_keeps_each_circuit, calls_keep_each_circuit, moves_keep_each_circuit,
+    a_clients_step_keeps_each_circuit, a_servers_step_keeps_each_circuit, calls_keep_each_circuit,
+    moves_keep_each_circuit,
 };

@@ -1,5 +1,6 @@
 use Rattle.ca_laws_runs.proofs.Bytes.{keeps-cut-client, keeps-down, keeps-up}
+use Rattle.ca_laws_runs.proofs.Servers.{keeps-cut-server}
 use Rattle.ca_laws_runs.proofs.circuits.moves_keep_each_circuit.Goals as goal
 
 pub returns : goal.returns
-returns c = record { up = keeps-up; down = keeps-down; cut = keeps-cut-client }
+returns c = record { up = keeps-up; down = keeps-down; cut_client = keeps-cut-client; cut_server = keeps-cut-server }
