@@ -4,7 +4,6 @@ pub mod Parts
 pub mod Records
 pub mod Lives
 pub mod Finishes
-
 pub mod Leaving
 pub mod Coming
 pub mod Going
