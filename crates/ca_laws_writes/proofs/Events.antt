@@ -74,7 +74,7 @@ AreSame old new =
     ((n : ℕ) (c : Joined) → At old n c → (d : Joined) × At new n d × SameEnds c d)
     × ((n : ℕ) (d : Joined) → At new n d → (c : Joined) × At old n c × SameEnds c d)
 
-are-later : (old new : List Joined) → AreSame old new → AreLater old new
+pub are-later : (old new : List Joined) → AreSame old new → AreLater old new
 are-later old new s n c at = (let d = s.0 n c at in (d.0, d.1, same-later c d.0 d.2))
 
 still-open : (old new : List Joined) (rs : List RecordSide) → AreSame old new → AreOpen old rs → AreOpen new rs
@@ -90,7 +90,7 @@ same-map f cs keeps = (
   λ n d at. (let c = At-mapped f cs n d at in (c.0, c.1, subst (λ (x : Joined). SameEnds c.0 x) (sym c.2) (keeps c.0))),
 )
 
-same-twice : (a b c : List Joined) → AreSame a b → AreSame b c → AreSame a c
+pub same-twice : (a b c : List Joined) → AreSame a b → AreSame b c → AreSame a c
 same-twice a b c f g = (
   λ n x at. (let y = f.0 n x at in let z = g.0 n y.0 y.1 in (z.0, z.1, same-trans x y.0 z.0 y.2 z.2)),
   λ n z at. (let y = g.1 n z at in let x = f.1 n y.0 y.1 in (x.0, x.1, same-trans x.0 y.0 z x.2 y.2)),
@@ -149,7 +149,7 @@ found Is y cs rs name c both is =
 
 -- ---- what is told of was handled
 
-still-handled : (w : World) (circuits : List Joined) (life : ℕ) (log : List Entry) (e : Entry) (p : PutPlace) → Writes w → At w.server_logs life log → AreLater w.circuits circuits → In log e → write_in e ≡ Some p → WasHandled circuits p
+pub still-handled : (w : World) (circuits : List Joined) (life : ℕ) (log : List Entry) (e : Entry) (p : PutPlace) → Writes w → At w.server_logs life log → AreLater w.circuits circuits → In log e → write_in e ≡ Some p → WasHandled circuits p
 still-handled w circuits life log e p h at later told about =
     (let c = told-on w.circuits life log e p (h.logs life log at) told about in handled-later w.circuits circuits p c.0 c.1 later (h.handled life log e p at told about))
 

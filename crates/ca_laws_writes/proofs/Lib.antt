@@ -14,3 +14,4 @@ pub mod Midway
 pub mod Events
 pub mod Doing
 pub mod Step
+pub mod Stepped

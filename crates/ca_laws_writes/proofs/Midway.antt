@@ -24,7 +24,7 @@ use Rattle.ca_laws_writes.proofs.Moves.{handled-later, later-trans, moves-keep, 
 
 -- ---- logs that grow
 
-set-here : {A : Type 0} (xs : List A) (i : ℕ) (x y : A) → At xs i x → At (slice_set xs i y) i y
+pub set-here : {A : Type 0} (xs : List A) (i : ℕ) (x y : A) → At xs i x → At (slice_set xs i y) i y
 set-here [] i x y at = absurd (none_at i x at)
 set-here (z ∷ xs) zero x y at = refl
 set-here (z ∷ xs) (suc i) x y at = set-here xs i x y at
