@@ -1,6 +1,6 @@
 -- A step of a server's end in a world: its message is handled, circuits end, and the step is noted.
 use Rattle.std.proofs.Common.{◌≡◌, ℕ, zero, suc, ◌+◌, ◌<◌, ◌≤◌, ◌⊎◌, inl, inr, Bool, true, false, cond, not, ◌&&◌, List, [], ◌∷◌, ◌++◌, length, Option, Some, None, refl, sym, ap, subst, ◌∙◌, append_assoc, arith}
-use Rattle.std.specs.Prelude.{filter, is_some, map, nat_eq, option_map, slice_get, slice_set, unwrap_or}
+use Rattle.std.specs.Prelude.{filter, is_some, map, nat_eq, option_map, slice_set, unwrap_or}
 use Rattle.std.specs.List.{flat_map}
 use Rattle.std.specs.Str.{bytes_eq}
 use Rattle.std.proofs.lemmas.List.{length-append}
@@ -21,12 +21,12 @@ use Rattle.ca_model.specs.History as history
 use Rattle.ca_model_world.specs.ServerEvents.{acted, ending, ends_at, ends_by, handled_at, left_by, logged_by, noted, numbers_after, places_where, records_after, reported, server_after, side_of, with_core, withdrawals, write_numbers}
 use Rattle.ca_model_world.specs.ServerEvents as event
 use Rattle.ca_model_world.specs.World.{Joined, PutPlace, RecordSide, ServerSide, World, log_length, with_circuit}
-use Rattle.ca_laws_writes.specs.Agrees.{Agree, Agrees, LoseAll, TestsAgree, WaitsAs}
-use Rattle.ca_laws_writes.specs.Lives.{AreLater, AreOpen, CameOn, EndsAgree, IsPutOf, Later, Life, LostOn}
+use Rattle.ca_laws_writes.specs.Agrees.{Agrees, LoseAll, TestsAgree, WaitsAs}
+use Rattle.ca_laws_writes.specs.Lives.{AreLater, AreOpen, CameOn, IsPutOf, Later, Life, LostOn}
 use Rattle.ca_laws_writes.specs.Moves.{Lives, Moves, WasHandled, Writes}
-use Rattle.ca_laws_writes.specs.Once.{IsUntold, write_in}
+use Rattle.ca_laws_writes.specs.Once.{write_in}
 use Rattle.ca_laws_writes.specs.Taken.{Handling, Takes}
-use Rattle.ca_laws_writes.proofs.Ending.{ending-closed, ending-later, ending-not, endings-later, ends-at-is}
+use Rattle.ca_laws_writes.proofs.Ending.{ending-closed, ending-later, ending-not, ends-at-is}
 use Rattle.ca_laws_writes.proofs.Events.{AreSame, SameEnds, are-later, ends-only, posted-same, same-map, same-self, same-twice, still-handled}
 use Rattle.ca_laws_writes.proofs.Going.{life-later}
 use Rattle.ca_laws_writes.proofs.Midway.{grown-back, grown-here, grown-other, set-here}
@@ -54,6 +54,7 @@ places-back test (w ∷ ws) (p ∷ ps) q h = go (test w.put) h (λ rest. places-
     first : (k : ℕ) → At (p ∷ places_where test ws ps) k q → (In (places_where test ws ps) q → In ps q) → In (p ∷ ps) q
     first zero at more = (0, at)
     first (suc k) at more = (let r = more (k, at) in (suc r.0, r.1))
+
     go : (b : Bool) → In (cond b (p ∷ places_where test ws ps) (places_where test ws ps)) q → (In (places_where test ws ps) q → In ps q) → In (p ∷ ps) q
     go true x more = first x.0 x.1 more
     go false x more = (let r = more x in (suc r.0, r.1))
@@ -98,6 +99,7 @@ logged-back old h p (Applies name value busies) rs e q h1 tells = inl (one h1.0 
   where
     entry : Entry
     entry = history.Applied p.circuit p.place (event.number_of name rs) (stored_now old value) busies
+
     one : (k : ℕ) → At (entry ∷ []) k e → q ≡ p
     one zero at = sym (some_is p q (ap write_in (some_is entry e at) ∙ tells))
     one (suc k) at = absurd (none_at k e at)
@@ -105,6 +107,7 @@ logged-back old h p (action.Waits name value) rs e q h1 tells = inl (one h1.0 h1
   where
     entry : Entry
     entry = history.Waits p.circuit p.place (event.number_of name rs) (stored_now old value)
+
     one : (k : ℕ) → At (entry ∷ []) k e → q ≡ p
     one zero at = sym (some_is p q (ap write_in (some_is entry e at) ∙ tells))
     one (suc k) at = absurd (none_at k e at)
@@ -132,17 +135,16 @@ logged-back old h p (action.Switches x) rs e q h1 tells = absurd (none_at h1.0 e
 -- ---- the circuits of a step
 
 set-same : (cs : List Joined) (k : ℕ) (c d : Joined) → At cs k c → SameEnds c d → AreSame cs (slice_set cs k d)
-set-same cs k c d at s =
-    (
-      λ n x there. elim (same-or n k) [
-        | inl is ↦ (d, subst (λ (m : ℕ). At (slice_set cs k d) m d) (sym is) (set-here cs k c d at), subst (λ (z : Joined). SameEnds z d) (At-one cs k c x at (subst (λ (m : ℕ). At cs m x) is there)) s)
-        | inr other ↦ (x, At-set-other cs k n x d there other, same-self x)
-      ],
-      λ n x there. elim (At-set cs k d n x there) [
-        | inl new ↦ (c, subst (λ (m : ℕ). At cs m c) (sym new.0) at, subst (λ (z : Joined). SameEnds c z) (sym new.1) s)
-        | inr old ↦ (x, old.0, same-self x)
-      ],
-    )
+set-same cs k c d at s = (
+  λ n x there. elim (same-or n k) [
+    | inl is ↦ (d, subst (λ (m : ℕ). At (slice_set cs k d) m d) (sym is) (set-here cs k c d at), subst (λ (z : Joined). SameEnds z d) (At-one cs k c x at (subst (λ (m : ℕ). At cs m x) is there)) s)
+    | inr other ↦ (x, At-set-other cs k n x d there other, same-self x)
+  ],
+  λ n x there. elim (At-set cs k d n x there) [
+    | inl new ↦ (c, subst (λ (m : ℕ). At cs m c) (sym new.0) at, subst (λ (z : Joined). SameEnds c z) (sym new.1) s)
+    | inr old ↦ (x, old.0, same-self x)
+  ],
+)
 
 numbers-after-same : (place : ℕ) (did : Action) (j : Joined) → SameEnds j (numbers_after place did j)
 numbers-after-same place (Applies name value busies) j = same-self j
@@ -272,14 +274,18 @@ module _ (w : World) (k : ℕ) (j : Joined) (y : ServerSide) (e : ServerEnd) (s 
   later-all : AreLater w.circuits V.circuits
   later-all n c at = elim (now-is n c at) [
     | inl same ↦ (d, subst (λ (m : ℕ). At V.circuits m d) (sym same.0) at-V, subst (λ (z : Joined). Later z d) (sym same.1) later-d)
-    | inr x ↦ (let a = are-later w.circuits mid.circuits same-mid n c at in let same : a.0 ≡ x.0 = At-one mid.circuits n a.0 x.0 a.1 x.1 in let b = ending-later ends x.0 in let l : Later c x.0 = subst (λ (z : Joined). Later c z) same a.2 in (ending ends x.0, x.3, record {
-      server = b.server ∙ l.server;
-      handle = b.handle ∙ l.handle;
-      life = b.life ∙ l.life;
-      up = λ m z h2. b.up m z (l.up m z h2);
-      handled = λ m z h2. b.handled m z (l.handled m z h2);
-      ended = λ shut. (let u = l.ended shut in let v = b.ended u.0 in (v.0, v.1 ∙ u.1));
-    }))
+    | inr x ↦ (let a = are-later w.circuits mid.circuits same-mid n c at in let same : a.0 ≡ x.0 = At-one mid.circuits n a.0 x.0 a.1 x.1 in let b = ending-later ends x.0 in let l : Later c x.0 = subst (λ (z : Joined). Later c z) same a.2 in (
+      ending ends x.0,
+      x.3,
+      record {
+        server = b.server ∙ l.server;
+        handle = b.handle ∙ l.handle;
+        life = b.life ∙ l.life;
+        up = λ m z h2. b.up m z (l.up m z h2);
+        handled = λ m z h2. b.handled m z (l.handled m z h2);
+        ended = λ shut. (let u = l.ended shut in let v = b.ended u.0 in (v.0, v.1 ∙ u.1));
+      },
+    ))
   ]
 
   logged-mid : At mid.server_logs y.life (own.log ++ L)
