@@ -15,3 +15,4 @@ pub mod Events
 pub mod Doing
 pub mod Step
 pub mod Stepped
+pub mod Now

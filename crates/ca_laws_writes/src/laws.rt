@@ -15,14 +15,15 @@ ghost use Rattle.ca_records.specs.Record.{RecordState};
 ghost use Rattle.ca_wire.specs.Fields.{Fields};
 ghost use Rattle.ca_model.specs.Speech.{In, Is, Stored};
 ghost use Rattle.ca_model.specs.History.{Added, Applied, Entry, Finished, Posted, Sent, Waits, Withdrawn};
-ghost use Rattle.ca_model_safe.specs.Channels.{IsApplied, IsBusyUntil, IsDropped};
+ghost use Rattle.ca_model_safe.specs.Known.{IsNow};
+ghost use Rattle.ca_model_safe.specs.Channels.{Has, IsApplied, IsBusyUntil, IsDropped};
 ghost use Rattle.ca_model_world.specs.ServerEvents.{acted, channel_withdrawals, ending, ends_at, ends_by, finish_entry, first_of, is_of_channel, logged_by, next_busy, next_entries, noted, number_of, posted_entry, records_after, removal_entries, replied_at, server_after, side_of, with_core, withdrawals, without_channel, without_puts};
 ghost use Rattle.ca_model_world.specs.ServerEvents as event;
 ghost use Rattle.ca_model_world.specs.World.{IsSetting, Joined, PutPlace, RecordSide, ServerSide, Setting, World, numbered, opening, record_begun, told};
 ghost use Rattle.ca_laws_writes.specs.Agrees.{LoseAll, TestsAgree};
 ghost use Rattle.ca_laws_writes.specs.Lives.{AreLater, AreOpen, AreSlow, CameOn, EndsAgree, IsOfMessage, IsPutOf, IsWriting, Life, LogsOnce, LostOn, SaysSo};
 ghost use Rattle.ca_model.specs.Server.{Server, ServerEnd};
-ghost use Rattle.ca_model.specs.ServerSteps.{Records, knows};
+ghost use Rattle.ca_model.specs.ServerSteps.{Records, known_record, knows};
 ghost use Rattle.ca_laws_writes.specs.Taken.{Handling, Takes};
 ghost use Rattle.ca_laws_writes.specs.Moves.{EndsOnly, Midway, Writes, addition_told, finish_told, post_told, removal_told, restarted};
 ghost use Rattle.ca_laws_writes.specs.Once.{IsUntold, MayTell, Once, write_in};
@@ -124,6 +125,11 @@ pub fn records_agree_with_their_log()
     ensures later { (old new : List Joined) (server life : ℕ) (y : List Entry)
         (cs : List Record) (rs : List RecordSide) (n : ℕ) → AreLater old new
         → Life old server life y cs rs n → Life new server life y cs rs n }
+    // What the server knows of a record is what the log tells of its number, which has its name.
+    ensures known { (circuits : List Joined) (server life : ℕ) (y : List Entry)
+        (cs : List Record) (rs : List RecordSide) (n i : ℕ) (c : Record) (r : RecordSide)
+        → At cs i c → At rs i r → Life circuits server life y cs rs n
+        → IsNow y r.number (known_record c) × Has y r.number r.name }
     // The number by which an event tells of a record is that of the one that has the name.
     ensures numbers { (circuits : List Joined) (server life : ℕ) (y : List Entry)
         (cs : List Record) (rs : List RecordSide) (n i : ℕ) (r : RecordSide) → At rs i r
