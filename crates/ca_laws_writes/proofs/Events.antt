@@ -8,7 +8,7 @@ use Rattle.ca_arena.specs.declared.handle.Handle.{Handle}
 use Rattle.ca_text.specs.Place.{At}
 use Rattle.ca_text.proofs.Places.{some_is, At-append, At-last, At-snoc, At-map, At-mapped, At-one, At-parts, At-set, At-set-other}
 use Rattle.ca_dbr.specs.Elements.{base_of}
-use Rattle.ca_ids.specs.Table.{under}
+use Rattle.ca_ids.specs.Table.{same_handle, under}
 use Rattle.ca_queue.specs.declared.entry.SubKey.{SubKey}
 use Rattle.ca_records.specs.declared.puts.Put.{Put}
 use Rattle.ca_records.specs.Puts.{Record, WaitingPut, finished, new_record, record_named, removed, with_record, with_value}
@@ -18,7 +18,7 @@ use Rattle.ca_model.specs.Server.{Server}
 use Rattle.ca_model.specs.ServerSteps.{output_of, stored_now}
 use Rattle.ca_model.specs.Speech.{In, Stored}
 use Rattle.ca_model.specs.History.{Added, Applied, Entry, Posted, Removed, Reply, Sent, Step, Waits, Withdrawn}
-use Rattle.ca_model_world.specs.ServerEvents.{about, ending, ends_by, ends_untold, finish_entry, first_of, left_by, next_busy, next_entries, next_numbers, number_of, numbers_posted, posted_entry, removal_entries, removed_at, replied_at, with_number}
+use Rattle.ca_model_world.specs.ServerEvents.{about, ending, ends_by, ends_here, ends_untold, finish_entry, first_of, left_by, next_busy, next_entries, next_numbers, number_of, numbers_posted, posted_entry, removal_entries, removed_at, replied_at, with_number}
 use Rattle.ca_model_world.specs.ServerEvents as event
 use Rattle.ca_model_world.specs.World.{IsSetting, Joined, PutPlace, RecordSide, ServerSide, Setting, World, log_begun, opening, numbered, record_begun, server_begun, with_circuit, with_entries, with_server}
 use Rattle.ca_laws_writes.specs.Both.{Both}
@@ -580,3 +580,14 @@ writes-opening s ok = record {
       (agree-begun (CameOn [] l) (LostOn []) (IsPutOf [] l) g.0.records (λ j k r q a b e. ok.names l j k g.0 r q g.1 a b e)).once;
   handled = λ l y e p at told tells d on is_open. absurd (none_at p.circuit d on);
 }
+
+-- also of a step that closes its own circuit
+pub ends-here-only : (circuits : List Joined) (j : Joined) (left : List ℕ) (i : ℕ) (core : Server) → EndsOnly circuits i (ends_here j left i core)
+ends-here-only circuits j left i core n c at other =
+    ap (λ (b : Bool). is_some (cond (same_handle c.at_server j.at_server && (b && c.lists.server_open)) (Some left) (ends_by i core c))) (ne_eqb c.server i other)
+    ∙ go (same_handle c.at_server j.at_server)
+    ∙ ends-only circuits i core n c at other
+  where
+    go : (b : Bool) → is_some (cond (b && false) (Some left) (ends_by i core c)) ≡ is_some (ends_by i core c)
+    go true = refl
+    go false = refl

@@ -17,7 +17,7 @@ ghost use Rattle.ca_model.specs.Speech.{In, Is, Stored};
 ghost use Rattle.ca_model.specs.History.{Added, Applied, Entry, Finished, Posted, Sent, Waits, Withdrawn};
 ghost use Rattle.ca_model_safe.specs.Known.{IsNow};
 ghost use Rattle.ca_model_safe.specs.Channels.{Has, IsApplied, IsBusyUntil, IsDropped};
-ghost use Rattle.ca_model_world.specs.ServerEvents.{acted, channel_withdrawals, ending, ends_at, ends_by, finish_entry, first_of, is_of_channel, logged_by, next_busy, next_entries, noted, number_of, posted_entry, records_after, removal_entries, replied_at, server_after, side_of, with_core, withdrawals, without_channel, without_puts};
+ghost use Rattle.ca_model_world.specs.ServerEvents.{acted, channel_withdrawals, ending, ends_at, ends_by, ends_here, finish_entry, first_of, is_of_channel, logged_by, next_busy, next_entries, noted, number_of, posted_entry, records_after, removal_entries, replied_at, server_after, side_of, with_core, withdrawals, without_channel, without_puts};
 ghost use Rattle.ca_model_world.specs.ServerEvents as event;
 ghost use Rattle.ca_model_world.specs.World.{IsSetting, Joined, PutPlace, RecordSide, ServerSide, Setting, World, numbered, opening, record_begun, told};
 ghost use Rattle.ca_laws_writes.specs.Agrees.{LoseAll, TestsAgree};
@@ -262,6 +262,9 @@ pub fn events_at_a_server_keep_writes()
         (core : Server) → Midway w mid i y side log more records → Writes w
         → core.records ≡ withdrawn lost records → EndsAgree mid.circuits i ends lost
         → EndsOnly mid.circuits i ends → Writes (server_after i side ends core mid) }
+    // By the core's answer only circuits of this server end, also in a step that closes its own.
     ensures only { (circuits : List Joined) (i : ℕ) (core : Server)
         → EndsOnly circuits i (ends_by i core) }
+    ensures closed { (circuits : List Joined) (j : Joined) (left : List ℕ) (i : ℕ) (core : Server)
+        → EndsOnly circuits i (ends_here j left i core) }
 {}
