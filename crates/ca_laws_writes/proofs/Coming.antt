@@ -1,5 +1,5 @@
 -- Records are removed and added, and a server's life begins.
-use Rattle.std.proofs.Common.{◌≡◌, ℕ, zero, suc, ◌+◌, ◌<◌, ◌≤◌, ◌⊎◌, inl, inr, Bool, true, false, cond, not, List, [], ◌∷◌, ◌++◌, length, take, drop, Option, Some, None, refl, sym, ap, subst, ◌∙◌, append-nil, append_assoc, arith}
+use Rattle.std.proofs.Common.{◌≡◌, ℕ, zero, suc, ◌+◌, ◌<◌, inl, inr, Bool, true, false, cond, not, List, [], ◌∷◌, ◌++◌, length, take, drop, refl, sym, ap, subst, ◌∙◌, append-nil, arith}
 use Rattle.std.specs.Prelude.{filter, map}
 use Rattle.std.specs.List.{flat_map}
 use Rattle.std.specs.Str.{bytes_eq}
@@ -9,14 +9,13 @@ use Rattle.ca_dbr.specs.Elements.{Elements}
 use Rattle.ca_records.specs.declared.puts.Put.{Put}
 use Rattle.ca_records.specs.Puts.{Record, new_record, removed}
 use Rattle.ca_records.specs.Record.{RecordState}
-use Rattle.ca_model.specs.Speech.{In, Stored}
-use Rattle.ca_model.specs.History.{Entry, Added, Applied, Finished, Posted, Removed, Waits, Withdrawn}
+use Rattle.ca_model.specs.Speech.{In}
+use Rattle.ca_model.specs.History.{Entry, Added, Applied, Removed, Waits, Withdrawn}
 use Rattle.ca_model_world.specs.ServerEvents.{removal_entries}
 use Rattle.ca_model_world.specs.World.{PutPlace, RecordSide, numbered, record_begun}
 use Rattle.ca_laws_writes.specs.Both.{Both}
-use Rattle.ca_laws_writes.specs.Once.{IsApplied, MayTell, Once}
-use Rattle.ca_laws_writes.specs.Agrees.{Agree, Agrees, AreOthers, IsOf, Lack, StillWaits}
-use Rattle.ca_laws_writes.proofs.Lists.{In-append, In-last, In-snoc, length-more, beside-right, both-all, both-at, both-filter, both-snoc, none_at}
+use Rattle.ca_laws_writes.specs.Agrees.{Agree, Agrees, AreOthers, IsOf, Lack}
+use Rattle.ca_laws_writes.proofs.Lists.{In-last, In-snoc, length-more, beside-right, both-all, both-filter, both-snoc, none_at}
 use Rattle.ca_laws_writes.proofs.Once.{once-begins, once-told}
 use Rattle.ca_laws_writes.proofs.Records.{agrees-new, agrees-spared, append-one, withdrawing}
 use Rattle.ca_laws_writes.proofs.Lives.{below-all, bytes-other, bytes-same, others-apart, waits-there}
@@ -181,6 +180,7 @@ module _ (Came : PutPlace → (i : ℕ) → Elements → Type 0) (Lost : PutPlac
       lack-snoc : (name : List ℕ) (number : ℕ) (qs : List RecordSide) (r : RecordSide) → (r.name ≡ name → ⊥) → (r.number ≡ number → ⊥) → Lack name number qs → Lack name number (qs ++ r ∷ [])
       lack-snoc name number [] r u v lack = ((u, v), tt)
       lack-snoc name number (q ∷ qs) r u v lack = (lack.0, lack-snoc name number qs r u v lack.1)
+
       others-snoc : (qs : List RecordSide) → Lack s.name n qs → AreOthers qs → AreOthers (qs ++ record_begun n s ∷ [])
       others-snoc [] lack others = (tt, tt)
       others-snoc (q ∷ qs) lack others =

@@ -1,5 +1,5 @@
 -- What a message that writes does, by what is due for it.
-use Rattle.std.proofs.Common.{◌≡◌, ℕ, zero, suc, ◌⊎◌, inl, inr, Bool, true, false, cond, ◌==◌, ◌&&◌, ◌||◌, eqb, eq-eqb, eqb-true, List, [], ◌∷◌, Ok, Option, Some, None, refl, sym, ap, subst, ◌∙◌, arith}
+use Rattle.std.proofs.Common.{◌≡◌, ℕ, zero, suc, ◌⊎◌, inl, inr, Bool, true, false, cond, ◌&&◌, ◌||◌, eqb, eq-eqb, eqb-true, List, [], ◌∷◌, Ok, Some, refl, sym, ap, subst, ◌∙◌}
 use Rattle.std.specs.List.{list_any}
 use Rattle.ca_text.specs.Command.{command_number}
 use Rattle.ca_text.specs.declared.command.Command.{Command}
@@ -94,8 +94,10 @@ writes-only k m replies did due writes =
   where
     When : ℕ → Type 0
     When n = m.command ≡ n → IsWriting m
+
     not-it : (a : Action) → did ≡ a → (IsWrite a → ⊥) → IsWriting m
     not-it a is none = absurd (none (subst (λ (x : Action). IsWrite x) is writes))
+
     names-not : (b : Bool) (p : Peer) → IsWrite (cond b Nothing (Names p)) → ⊥
     names-not true p h = h
     names-not false p h = h
@@ -155,16 +157,21 @@ clears-only k m replies sid due =
   where
     When : ℕ → Type 0
     When n = m.command ≡ n → Is command.ClearChannel m × (sid ≡ m.p1)
+
     IsClear : Action → Type 0
     IsClear (action.Clears x) = Unit {0}
     IsClear a = ⊥
+
     not-it : (a : Action) → action.Clears sid ≡ a → (IsClear a → ⊥) → Is command.ClearChannel m × (sid ≡ m.p1)
     not-it a is none = absurd (none (subst (λ (x : Action). IsClear x) is tt))
+
     same-sid : action.Clears sid ≡ action.Clears m.p1 → sid ≡ m.p1
     same-sid is = cc
+
     put-not : (b : Bool) (name : List ℕ) (value : Elements) (busies : Bool) → IsClear (cond b (action.Waits name value) (Applies name value busies)) → ⊥
     put-not true name value busies h = h
     put-not false name value busies h = h
+
     names-not : (b : Bool) (p : Peer) → IsClear (cond b Nothing (Names p)) → ⊥
     names-not true p h = h
     names-not false p h = h
@@ -182,14 +189,14 @@ due-applies k m replies name value busies due = elim (writes-only k m replies (A
   where
     Says : Type 0
     Says = (to : WritesTo k m name value) × (busies ≡ true → Is command.WriteNotify m × (to.known.state.slow ≡ true) × (to.known.busy ≡ false))
+
     wrote : WriteDue k m replies (Applies name value busies) → Says
     wrote (c, inl refused) = absurd (let x : Applies name value busies ≡ Nothing = refused.3 in cc)
     wrote (c, inr taken) =
         let x : Applies name value busies ≡ Applies c.channel.name taken.0 false = taken.3 in
         let n : c.channel.name ≡ name = cc in
         let v : taken.0 ≡ value = cc in
-        let b : busies ≡ false = cc in
-        (
+        let b : busies ≡ false = cc in (
           record {
             known = c.known;
             named = subst (λ (z : List ℕ). k.record_of z ≡ Some c.known) n c.named;
@@ -199,6 +206,7 @@ due-applies k m replies name value busies due = elim (writes-only k m replies (A
           },
           λ e. absurd (let f : true ≡ false = sym e ∙ b in cc),
         )
+
     put : Is command.WriteNotify m → PutDue k m replies (Applies name value busies) → Says
     put is (c, inl refused) = absurd (let x : Applies name value busies ≡ Nothing = refused.3 in cc)
     put is (c, inr taken) = go (must_wait k m c) refl taken.3
@@ -208,8 +216,7 @@ due-applies k m replies name value busies due = elim (writes-only k m replies (A
         go false waits x =
             let n : c.channel.name ≡ name = cc in
             let v : taken.0 ≡ value = cc in
-            let b : busies ≡ c.known.state.slow = cc in
-            (
+            let b : busies ≡ c.known.state.slow = cc in (
               record {
                 known = c.known;
                 named = subst (λ (z : List ℕ). k.record_of z ≡ Some c.known) n c.named;
@@ -230,6 +237,7 @@ due-waits k m replies name value due = elim (writes-only k m replies (action.Wai
     wrote : WriteDue k m replies (action.Waits name value) → WritesTo k m name value × Is command.WriteNotify m
     wrote (c, inl refused) = absurd (let x : action.Waits name value ≡ Nothing = refused.3 in cc)
     wrote (c, inr taken) = absurd (let x : action.Waits name value ≡ Applies c.channel.name taken.0 false = taken.3 in cc)
+
     put : Is command.WriteNotify m → PutDue k m replies (action.Waits name value) → WritesTo k m name value × Is command.WriteNotify m
     put is (c, inl refused) = absurd (let x : action.Waits name value ≡ Nothing = refused.3 in cc)
     put is (c, inr taken) = go (must_wait k m c) taken.3
@@ -238,8 +246,7 @@ due-waits k m replies name value due = elim (writes-only k m replies (action.Wai
         go false x = absurd cc
         go true x =
             let n : c.channel.name ≡ name = cc in
-            let v : taken.0 ≡ value = cc in
-            (
+            let v : taken.0 ≡ value = cc in (
               record {
                 known = c.known;
                 named = subst (λ (z : List ℕ). k.record_of z ≡ Some c.known) n c.named;

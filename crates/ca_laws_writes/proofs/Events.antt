@@ -1,34 +1,34 @@
 -- Events at a server: what each does before circuits end.
-use Rattle.std.proofs.Common.{◌≡◌, ℕ, zero, suc, ◌+◌, ◌<◌, ◌≤◌, ◌⊎◌, inl, inr, Bool, true, false, cond, not, ◌&&◌, ◌==◌, ne_eqb, List, [], ◌∷◌, ◌++◌, length, Option, Some, None, refl, sym, ap, subst, ◌∙◌, append-nil, arith}
+use Rattle.std.proofs.Common.{◌≡◌, ℕ, zero, suc, ◌+◌, ◌<◌, ◌⊎◌, inl, inr, Bool, true, false, cond, not, ◌&&◌, ◌==◌, ne_eqb, List, [], ◌∷◌, ◌++◌, length, Option, Some, None, refl, sym, ap, subst, ◌∙◌, append-nil, arith}
 use Rattle.std.specs.Prelude.{drop, take, filter, find, is_some, map, option_map, slice_set, slice_get, unwrap_or}
-use Rattle.std.specs.List.{fold, list_any}
+use Rattle.std.specs.List.{fold}
 use Rattle.std.specs.Str.{bytes_eq}
 use Rattle.std.proofs.lemmas.Slice.Eq.{bytes_eq-Decides}
 use Rattle.ca_arena.specs.declared.handle.Handle.{Handle}
 use Rattle.ca_text.specs.Place.{At}
-use Rattle.ca_text.proofs.Places.{some_is, At-append, At-last, At-snoc, At-map, At-mapped, At-one, At-parts, At-set, At-set-other, At-within}
+use Rattle.ca_text.proofs.Places.{some_is, At-append, At-last, At-snoc, At-map, At-mapped, At-one, At-parts, At-set, At-set-other}
 use Rattle.ca_dbr.specs.Elements.{base_of}
 use Rattle.ca_ids.specs.Table.{same_handle, under}
 use Rattle.ca_queue.specs.declared.entry.SubKey.{SubKey}
 use Rattle.ca_records.specs.declared.puts.Put.{Put}
 use Rattle.ca_records.specs.Puts.{Record, WaitingPut, finished, new_record, record_named, removed, with_record, with_value}
-use Rattle.ca_records.specs.Record.{RecordState, unset}
+use Rattle.ca_records.specs.Record.{RecordState}
 use Rattle.ca_wire.specs.Fields.{Fields}
 use Rattle.ca_model.specs.Server.{Server}
 use Rattle.ca_model.specs.ServerSteps.{output_of, stored_now}
 use Rattle.ca_model.specs.Speech.{In, Stored}
-use Rattle.ca_model.specs.History.{Added, Applied, Entry, Finished, Posted, Removed, Reply, Sent, Step, Waits, Withdrawn}
-use Rattle.ca_model_world.specs.ServerEvents.{about, ending, ends_by, ends_untold, finish_entry, first_of, left_by, next_busy, next_entries, next_numbers, number_of, numbers_posted, posted_entry, removal_entries, removed_at, replied_at, with_number}
+use Rattle.ca_model.specs.History.{Added, Applied, Entry, Posted, Removed, Reply, Sent, Step, Waits, Withdrawn}
+use Rattle.ca_model_world.specs.ServerEvents.{about, ending, ends_by, ends_here, ends_untold, finish_entry, first_of, left_by, next_busy, next_entries, next_numbers, number_of, numbers_posted, posted_entry, removal_entries, removed_at, replied_at, with_number}
 use Rattle.ca_model_world.specs.ServerEvents as event
 use Rattle.ca_model_world.specs.World.{IsSetting, Joined, PutPlace, RecordSide, ServerSide, Setting, World, log_begun, opening, numbered, record_begun, server_begun, with_circuit, with_entries, with_server}
 use Rattle.ca_laws_writes.specs.Both.{Both}
 use Rattle.ca_laws_writes.specs.Once.{Once, write_in}
-use Rattle.ca_laws_writes.specs.Agrees.{Agree, Agrees, AreOthers, IsBusyBy, IsBusyWith, WaitsAs}
+use Rattle.ca_laws_writes.specs.Agrees.{Agrees, IsBusyBy, IsBusyWith, WaitsAs}
 use Rattle.ca_laws_writes.specs.Lives.{AreLater, AreOpen, CameOn, IsPutOf, Later, Life, LostOn}
 use Rattle.ca_laws_writes.specs.Moves.{addition_told, finish_told, removal_told, EndsOnly, Lives, Midway, WasHandled, Writes}
 use Rattle.ca_laws_writes.proofs.Lists.{At-take, In-kept, both-at, beside-left, beside-right, none_at}
 use Rattle.ca_laws_writes.proofs.Ending.{ending-not, endings-later, later-self}
-use Rattle.ca_laws_writes.proofs.Lives.{agree-posted, bytes-same, number-of, others-apart, waits-there}
+use Rattle.ca_laws_writes.proofs.Lives.{agree-posted, number-of, others-apart, waits-there}
 use Rattle.ca_laws_writes.proofs.Going.{life-later, once-later}
 use Rattle.ca_laws_writes.proofs.Finishes.{agree-finished}
 use Rattle.ca_laws_writes.proofs.Coming.{agree-added, agree-begun, agree-removed, removal-is}
@@ -74,7 +74,7 @@ AreSame old new =
     ((n : ℕ) (c : Joined) → At old n c → (d : Joined) × At new n d × SameEnds c d)
     × ((n : ℕ) (d : Joined) → At new n d → (c : Joined) × At old n c × SameEnds c d)
 
-are-later : (old new : List Joined) → AreSame old new → AreLater old new
+pub are-later : (old new : List Joined) → AreSame old new → AreLater old new
 are-later old new s n c at = (let d = s.0 n c at in (d.0, d.1, same-later c d.0 d.2))
 
 still-open : (old new : List Joined) (rs : List RecordSide) → AreSame old new → AreOpen old rs → AreOpen new rs
@@ -85,18 +85,16 @@ pub same-all : (cs : List Joined) → AreSame cs cs
 same-all cs = (λ n c at. (c, at, same-self c), λ n c at. (c, at, same-self c))
 
 pub same-map : (f : Joined → Joined) (cs : List Joined) → ((c : Joined) → SameEnds c (f c)) → AreSame cs (map f cs)
-same-map f cs keeps =
-    (
-      λ n c at. (f c, At-map f cs n c at, keeps c),
-      λ n d at. (let c = At-mapped f cs n d at in (c.0, c.1, subst (λ (x : Joined). SameEnds c.0 x) (sym c.2) (keeps c.0))),
-    )
+same-map f cs keeps = (
+  λ n c at. (f c, At-map f cs n c at, keeps c),
+  λ n d at. (let c = At-mapped f cs n d at in (c.0, c.1, subst (λ (x : Joined). SameEnds c.0 x) (sym c.2) (keeps c.0))),
+)
 
-same-twice : (a b c : List Joined) → AreSame a b → AreSame b c → AreSame a c
-same-twice a b c f g =
-    (
-      λ n x at. (let y = f.0 n x at in let z = g.0 n y.0 y.1 in (z.0, z.1, same-trans x y.0 z.0 y.2 z.2)),
-      λ n z at. (let y = g.1 n z at in let x = f.1 n y.0 y.1 in (x.0, x.1, same-trans x.0 y.0 z x.2 y.2)),
-    )
+pub same-twice : (a b c : List Joined) → AreSame a b → AreSame b c → AreSame a c
+same-twice a b c f g = (
+  λ n x at. (let y = f.0 n x at in let z = g.0 n y.0 y.1 in (z.0, z.1, same-trans x y.0 z.0 y.2 z.2)),
+  λ n z at. (let y = g.1 n z at in let x = f.1 n y.0 y.1 in (x.0, x.1, same-trans x.0 y.0 z x.2 y.2)),
+)
 
 numbers-same : (c : Joined) (keys : List SubKey) → SameEnds c (fold with_number c keys)
 numbers-same c [] = same-self c
@@ -151,7 +149,7 @@ found Is y cs rs name c both is =
 
 -- ---- what is told of was handled
 
-still-handled : (w : World) (circuits : List Joined) (life : ℕ) (log : List Entry) (e : Entry) (p : PutPlace) → Writes w → At w.server_logs life log → AreLater w.circuits circuits → In log e → write_in e ≡ Some p → WasHandled circuits p
+pub still-handled : (w : World) (circuits : List Joined) (life : ℕ) (log : List Entry) (e : Entry) (p : PutPlace) → Writes w → At w.server_logs life log → AreLater w.circuits circuits → In log e → write_in e ≡ Some p → WasHandled circuits p
 still-handled w circuits life log e p h at later told about =
     (let c = told-on w.circuits life log e p (h.logs life log at) told about in handled-later w.circuits circuits p c.0 c.1 later (h.handled life log e p at told about))
 
@@ -222,22 +220,25 @@ replied-same p sent w = go (slice_get w.circuits p.circuit) refl
     set-here [] i x y at = absurd (none_at i x at)
     set-here (z ∷ xs) zero x y at = refl
     set-here (z ∷ xs) (suc i) x y at = set-here xs i x y at
+
     nat-or : (a b : ℕ) → (a ≡ b) ⊎ (a ≡ b → ⊥)
     nat-or a b = same-or a b
+
     set-same : (cs : List Joined) (k : ℕ) (c d : Joined) → At cs k c → SameEnds c d → AreSame cs (slice_set cs k d)
-    set-same cs k c d at s =
-        (
-          λ n x there. elim (nat-or n k) [
-            | inl is ↦ (d, subst (λ (m : ℕ). At (slice_set cs k d) m d) (sym is) (set-here cs k c d at), subst (λ (z : Joined). SameEnds z d) (At-one cs k c x at (subst (λ (m : ℕ). At cs m x) is there)) s)
-            | inr other ↦ (x, At-set-other cs k n x d there other, same-self x)
-          ],
-          λ n x there. elim (At-set cs k d n x there) [
-            | inl new ↦ (c, subst (λ (m : ℕ). At cs m c) (sym new.0) at, subst (λ (z : Joined). SameEnds c z) (sym new.1) s)
-            | inr old ↦ (x, old.0, same-self x)
-          ],
-        )
+    set-same cs k c d at s = (
+      λ n x there. elim (nat-or n k) [
+        | inl is ↦ (d, subst (λ (m : ℕ). At (slice_set cs k d) m d) (sym is) (set-here cs k c d at), subst (λ (z : Joined). SameEnds z d) (At-one cs k c x at (subst (λ (m : ℕ). At cs m x) is there)) s)
+        | inr other ↦ (x, At-set-other cs k n x d there other, same-self x)
+      ],
+      λ n x there. elim (At-set cs k d n x there) [
+        | inl new ↦ (c, subst (λ (m : ℕ). At cs m c) (sym new.0) at, subst (λ (z : Joined). SameEnds c z) (sym new.1) s)
+        | inr old ↦ (x, old.0, same-self x)
+      ],
+    )
+
     said : Joined → Joined
     said j = record j { lists = record j.lists { down = j.lists.down ++ about p.place Reply (map (λ (s : Handle × Fields). s.1) sent) } }
+
     go : (o : Option Joined) → slice_get w.circuits p.circuit ≡ o → AreSame w.circuits (unwrap_or (option_map (λ (j : Joined). with_circuit p.circuit (said j) w) o) w).circuits
     go None e = same-all w.circuits
     go (Some j) e = set-same w.circuits p.circuit j (said j) e (record { server = refl; handle = refl; life = refl; up = refl; handled = refl; is_open = refl })
@@ -290,12 +291,14 @@ midway-finish w i y name sent c r place p at h named in_rs is_name busy =
         go : (o : Option Joined) → (unwrap_or (option_map (λ (j : Joined). with_circuit p.circuit (record j { lists = record j.lists { down = j.lists.down ++ about p.place Reply (map (λ (s : Handle × Fields). s.1) sent) } }) t) o) t).servers ≡ t.servers
         go None = refl
         go (Some j) = refl
+
     kept-logs : (t : World) → (replied_at p sent t).server_logs ≡ t.server_logs
     kept-logs t = go (slice_get t.circuits p.circuit)
       where
         go : (o : Option Joined) → (unwrap_or (option_map (λ (j : Joined). with_circuit p.circuit (record j { lists = record j.lists { down = j.lists.down ++ about p.place Reply (map (λ (s : Handle × Fields). s.1) sent) } }) t) o) t).server_logs ≡ t.server_logs
         go None = refl
         go (Some j) = refl
+
     -- what waits after a finish waited before
     waits-before : (b : Bool) (q : RecordSide) (x : PutPlace) → In (cond b (next_busy q) q).waiting x → In q.waiting x
     waits-before false q x mine = mine
@@ -304,18 +307,22 @@ midway-finish w i y name sent c r place p at h named in_rs is_name busy =
         dropped : (ps : List PutPlace) → In (drop 1 ps) x → In ps x
         dropped [] d = absurd (none_at d.0 x d.1)
         dropped (z ∷ ps) d = (suc d.0, d.1)
+
     fewer-open : (cs : List Joined) (rs : List RecordSide) → AreOpen cs rs → AreOpen cs (event.with_record name next_busy rs)
     fewer-open cs rs are_open j q x d in_it mine on =
         let was = At-mapped (λ (z : RecordSide). cond (bytes_eq z.name name) (next_busy z) z) rs j q in_it in
         let back : In was.0.waiting x = waits-before (bytes_eq was.0.name name) was.0 x (subst (λ (z : RecordSide). In z.waiting x) was.2 mine) in
         are_open j was.0 x d was.1 back on
+
     next-handled : (cs : List Joined) → AreLater w.circuits cs → (v0 : Stored) (ws : List WaitingPut) (ps : List PutPlace) → In (h.lives i y at).log (Applied p.circuit p.place r.number v0 true) → ((x : PutPlace) → In ps x → (v : Stored) × In (h.lives i y at).log (Waits x.circuit x.place r.number v)) → (e : Entry) (q : PutPlace) → In (finish_entry p ∷ next_entries y r (first_of ws) (first_of ps)) e → write_in e ≡ Some q → WasHandled cs q
     next-handled cs later v0 ws ps applied waited e q in_it tells = go ws ps waited in_it.0 in_it.1
       where
         own-log : List Entry
         own-log = (h.lives i y at).log
+
         first : finish_entry p ≡ e → WasHandled cs q
         first is = (let x : p ≡ q = some_is p q (ap write_in is ∙ tells) in subst (λ (z : PutPlace). WasHandled cs z) x (still-handled w cs y.life own-log (Applied p.circuit p.place r.number v0 true) p h (h.lives i y at).at later applied refl))
+
         go : (ws : List WaitingPut) (ps : List PutPlace) → ((x : PutPlace) → In ps x → (v : Stored) × In own-log (Waits x.circuit x.place r.number v)) → (k : ℕ) → At (finish_entry p ∷ next_entries y r (first_of ws) (first_of ps)) k e → WasHandled cs q
         go ws ps waited zero is = first (some_is (finish_entry p) e is)
         go [] ps waited (suc k) is = absurd (none_at k e is)
@@ -410,6 +417,7 @@ writes-added w i y r behind core at none is h =
   where
     open-in : (rs : List RecordSide) → AreOpen w.circuits rs → (q : RecordSide) → In rs q → (p : PutPlace) (d : Joined) → In q.waiting p → At w.circuits p.circuit d → d.lists.server_open ≡ true
     open-in rs are_open q there p d mine on = are_open there.0 q p d there.1 mine on
+
     was-there : (k : ℕ) (rs : List RecordSide) (q : RecordSide) → In (take k rs ++ record_begun y.added r ∷ drop k rs) q → In rs q ⊎ (q ≡ record_begun y.added r)
     was-there k rs q there = elim (At-parts (take k rs) (record_begun y.added r ∷ drop k rs) there.0 q there.1) [
       | inl front ↦ inl (there.0, At-take k rs there.0 q front)
@@ -420,14 +428,17 @@ writes-added w i y r behind core at none is h =
         dropped zero xs j x = (j, x)
         dropped (suc k) [] j x = absurd (none_at j q x)
         dropped (suc k) (z ∷ xs) j x = (let d = dropped k xs j x in (suc d.0, d.1))
+
         rest : (j : ℕ) → At (record_begun y.added r ∷ drop k rs) j q → In rs q ⊎ (q ≡ record_begun y.added r)
         rest zero x = inr (sym (some_is (record_begun y.added r) q x))
         rest (suc j) x = inl (dropped k rs j x)
+
     more-open : (k : ℕ) (rs : List RecordSide) → AreOpen w.circuits rs → AreOpen w.circuits (take k rs ++ record_begun y.added r ∷ drop k rs)
     more-open k rs are_open j q p d there mine on = elim (was-there k rs q (j, there)) [
       | inl old ↦ open-in rs are_open q old p d mine on
       | inr new ↦ absurd (let x : In (record_begun y.added r).waiting p = subst (λ (z : RecordSide). In z.waiting p) new mine in none_at x.0 p x.1)
     ]
+
     go : (e : Entry) (p : PutPlace) (k : ℕ) → At (Added y.added r ∷ []) k e → write_in e ≡ Some p → ⊥
     go e p zero is tells = (let q : Added y.added r ≡ e = some_is (Added y.added r) e is in let x : write_in (Added y.added r) ≡ Some p = ap write_in q ∙ tells in cc)
     go e p (suc k) is tells = none_at k e is
@@ -508,18 +519,24 @@ writes-restart w i y at names fewer h = record {
   where
     ends : Joined → Option (List ℕ)
     ends = ends_untold i y.core
+
     next : ServerSide
     next = server_begun w.moment (length w.server_logs) y.setting
+
     new : World
     new = with_server i next (record w { circuits = map (ending ends) w.circuits; server_logs = w.server_logs ++ log_begun y.setting ∷ [] })
+
     later : AreLater w.circuits (map (ending ends) w.circuits)
     later = endings-later ends w.circuits
+
     only : (c : Joined) → (c.server ≡ i → ⊥) → is_some (ends c) ≡ false
     only c other = ap (λ (b : Bool). is_some (cond (b && c.lists.server_open) (Some (output_of (under y.core.circuits c.at_server))) None)) (ne_eqb c.server i other)
+
     none-wait : (n : ℕ) (ss : List RecordState) (k : ℕ) (r : RecordSide) (p : PutPlace) → At (numbered n record_begun ss) k r → In r.waiting p → ⊥
     none-wait n [] k r p there mine = none_at k r there
     none-wait n (s ∷ ss) zero r p there mine = (let x : In (record_begun n s).waiting p = subst (λ (z : RecordSide). In z.waiting p) (sym (some_is (record_begun n s) r there)) mine in none_at x.0 p x.1)
     none-wait n (s ∷ ss) (suc k) r p there mine = none-wait (n + 1) ss k r p there mine
+
     none-told : (n : ℕ) (ss : List RecordState) (e : Entry) (p : PutPlace) → In (numbered n Added ss) e → write_in e ≡ Some p → ⊥
     none-told n [] e p told tells = none_at told.0 e told.1
     none-told n (s ∷ ss) e p told tells = go told.0 told.1 (λ rest. none-told (n + 1) ss e p rest tells)
@@ -563,3 +580,14 @@ writes-opening s ok = record {
       (agree-begun (CameOn [] l) (LostOn []) (IsPutOf [] l) g.0.records (λ j k r q a b e. ok.names l j k g.0 r q g.1 a b e)).once;
   handled = λ l y e p at told tells d on is_open. absurd (none_at p.circuit d on);
 }
+
+-- also of a step that closes its own circuit
+pub ends-here-only : (circuits : List Joined) (j : Joined) (left : List ℕ) (i : ℕ) (core : Server) → EndsOnly circuits i (ends_here j left i core)
+ends-here-only circuits j left i core n c at other =
+    ap (λ (b : Bool). is_some (cond (same_handle c.at_server j.at_server && (b && c.lists.server_open)) (Some left) (ends_by i core c))) (ne_eqb c.server i other)
+    ∙ go (same_handle c.at_server j.at_server)
+    ∙ ends-only circuits i core n c at other
+  where
+    go : (b : Bool) → is_some (cond (b && false) (Some left) (ends_by i core c)) ≡ is_some (ends_by i core c)
+    go true = refl
+    go false = refl

@@ -1,27 +1,25 @@
 -- A put is finished, and the next that waits is applied.
-use Rattle.std.proofs.Common.{◌≡◌, ℕ, zero, suc, ◌+◌, ◌<◌, ◌≤◌, ◌⊎◌, inl, inr, Bool, true, false, List, [], ◌∷◌, ◌++◌, length, Option, Some, None, refl, sym, ap, subst, ◌∙◌, arith}
-use Rattle.std.specs.Prelude.{drop, slice_get}
+use Rattle.std.proofs.Common.{◌≡◌, ℕ, ◌<◌, inl, inr, true, List, [], ◌∷◌, ◌++◌, Option, Some, None, refl, sym, ap, subst, ◌∙◌, arith}
+use Rattle.std.specs.Prelude.{slice_get}
 use Rattle.ca_text.specs.Place.{At}
-use Rattle.ca_text.proofs.Places.{some_is, At-append, At-one, At-within}
+use Rattle.ca_text.proofs.Places.{At-one, At-within}
 use Rattle.ca_dbr.specs.Elements.{Elements, base_of}
 use Rattle.ca_records.specs.declared.puts.Put.{Put}
-use Rattle.ca_records.specs.declared.puts.Stamp.{Stamp}
 use Rattle.ca_records.specs.Puts.{Record, WaitingPut, finished, with_record, written_meta}
 use Rattle.ca_records.specs.Record.{RecordState}
 use Rattle.ca_model.specs.Speech.{In, Stored}
-use Rattle.ca_model.specs.History.{Entry, Added, Applied, Finished, Posted, Removed, Waits, Withdrawn}
-use Rattle.ca_model_safe.specs.Channels.{IsBusyUntil}
+use Rattle.ca_model.specs.History.{Entry, Added, Applied, Finished, Removed, Waits, Withdrawn}
 use Rattle.ca_model_world.specs.ServerEvents.{finish_entry, first_of, next_busy, next_entries}
 use Rattle.ca_model_world.specs.ServerEvents as event
 use Rattle.ca_model_world.specs.World.{PutPlace, RecordSide, ServerSide}
 use Rattle.ca_laws_writes.specs.Both.{Both}
-use Rattle.ca_laws_writes.specs.Once.{HadWaited, IsApplied, IsFinished, IsWithdrawn, MayTell, Once}
-use Rattle.ca_laws_writes.specs.Agrees.{Agree, Agrees, AreOthers, IsBusyAs, IsBusyBy, IsBusyWith, IsOf, StillWaits, WaitsAs}
-use Rattle.ca_laws_writes.proofs.Lists.{In-append, In-snoc, beside-right, both-at, none_at}
+use Rattle.ca_laws_writes.specs.Once.{IsApplied, IsFinished, MayTell, Once}
+use Rattle.ca_laws_writes.specs.Agrees.{Agree, Agrees, IsBusyAs, IsBusyBy, IsBusyWith, IsOf, StillWaits, WaitsAs}
+use Rattle.ca_laws_writes.proofs.Lists.{In-append, In-snoc, both-at}
 use Rattle.ca_laws_writes.proofs.Once.{once-told}
-use Rattle.ca_laws_writes.proofs.Parts.{Spares, place-is}
-use Rattle.ca_laws_writes.proofs.Records.{KeepsWaiting, agrees-finished, agrees-next, agrees-spared, append-one, still-waits}
-use Rattle.ca_laws_writes.proofs.Lives.{agree-told, below-all, one-changes, others-with, waits-there}
+use Rattle.ca_laws_writes.proofs.Parts.{place-is}
+use Rattle.ca_laws_writes.proofs.Records.{agrees-finished, agrees-next, agrees-spared, append-one, still-waits}
+use Rattle.ca_laws_writes.proofs.Lives.{below-all, one-changes, others-with, waits-there}
 
 -- one place waits for one record
 pub waits-one : (Came : PutPlace → (i : ℕ) → Elements → Type 0) (Lost : PutPlace → (i : ℕ) → Type 0) (y : List Entry) (r q : ℕ) (p : PutPlace) (v u : Elements) → Once Came Lost y → StillWaits y r p v → StillWaits y q p u → r ≡ q
@@ -80,8 +78,7 @@ module _ (Came : PutPlace → (i : ℕ) → Elements → Type 0) (Lost : PutPlac
   may-next : (y : List Entry) (c : Record) (r : RecordSide) (p q : PutPlace) (value : Elements) (w : StillWaits y r.number q value) (v : Stored) → v.value ≡ value → base_of v.value ≡ base_of c.state.value → Agrees Is y c r → MayTell Came Lost (y ++ finish_entry p ∷ []) (Applied q.circuit q.place r.number v true)
   may-next y c r p q value w v is same a =
       let e : Entry = finish_entry p in
-      let still : StillWaits (y ++ e ∷ []) r.number q value = still-waits y e r.number q value (record { unapplied = λ i u d h. (let x : Applied q.circuit q.place i u d ≡ Finished p.circuit p.place = h in cc); kept = λ h. (let x : Withdrawn q.circuit q.place ≡ Finished p.circuit p.place = h in cc) }) w in
-      (
+      let still : StillWaits (y ++ e ∷ []) r.number q value = still-waits y e r.number q value (record { unapplied = λ i u d h. (let x : Applied q.circuit q.place i u d ≡ Finished p.circuit p.place = h in cc); kept = λ h. (let x : Withdrawn q.circuit q.place ≡ Finished p.circuit p.place = h in cc) }) w in (
         still.unapplied,
         still.kept,
         (a.first, In-append y (e ∷ []) (Added r.number a.first) a.added, same ∙ a.base),
@@ -111,6 +108,7 @@ module _ (Came : PutPlace → (i : ℕ) → Elements → Type 0) (Lost : PutPlac
         | inl old ↦ below i e old of_it
         | inr new ↦ absurd (subst (λ (z : Entry). IsOf i z) new of_it)
       ]
+
       go : (o : Option WaitingPut) (q : Option PutPlace) → In (y ++ finish_entry p ∷ next_entries side r o q) e → i < n
       go None q x = first x
       go (Some w) None x = first x
@@ -134,14 +132,14 @@ module _ (Came : PutPlace → (i : ℕ) → Elements → Type 0) (Lost : PutPlac
         once = once-finished y side c r p c.waiting r.waiting by g.each based g a.once;
         each = one-changes Is y more cs rs i r (λ (q : Record). finished side.core.stamp q q.waiting) next_busy a.others in_rs
             (λ d at h.
-                let is : c ≡ d = At-one cs i c d in_cs at in
-                subst (λ (z : Record). Agrees Is more (finished side.core.stamp z z.waiting) (next_busy r)) is
-                (own-record c g own based (λ q qs front same. (let h : In r.waiting q = (0, ap (λ (l : List PutPlace). slice_get l 0) front) in let w = waits-there Is y c r q g h in w.1.unapplied (subst (λ (z : PutPlace). IsApplied y z) (sym same) (r.number, by.v, true, (by.i, by.at))))))
+            let is : c ≡ d = At-one cs i c d in_cs at in
+            subst (λ (z : Record). Agrees Is more (finished side.core.stamp z z.waiting) (next_busy r)) is
+            (own-record c g own based (λ q qs front same. (let h : In r.waiting q = (0, ap (λ (l : List PutPlace). slice_get l 0) front) in let w = waits-there Is y c r q g h in w.1.unapplied (subst (λ (z : PutPlace). IsApplied y z) (sym same) (r.number, by.v, true, (by.i, by.at))))))
             )
             (λ j d x at other h. other-finished Is y side d r x p c.waiting r.waiting other
-                (λ is. other (busy-one Came Lost y x.number r.number p a.once (busy-of y x d is h) by))
-                (λ q mine too. other (let s = waits-there Is y d x q h too in let t = waits-there Is y c r q g mine in waits-one Came Lost y x.number r.number q s.0.value t.0.value a.once s.1 t.1))
-                h)
+            (λ is. other (busy-one Came Lost y x.number r.number p a.once (busy-of y x d is h) by))
+            (λ q mine too. other (let s = waits-there Is y d x q h too in let t = waits-there Is y c r q g mine in waits-one Came Lost y x.number r.number q s.0.value t.0.value a.once s.1 t.1))
+            h)
             a.each;
         others = others-with r.name next_busy rs (λ q. (refl, refl)) a.others;
         numbers = numbers-finished y side r p (first_of c.waiting) (first_of r.waiting) n (below-all Came Lost Is y cs rs n i r r.number in_rs a refl) a.numbers;
@@ -149,13 +147,17 @@ module _ (Came : PutPlace → (i : ℕ) → Elements → Type 0) (Lost : PutPlac
     where
       busy-of : (y : List Entry) (x : RecordSide) (d : Record) → x.busy ≡ Some p → Agrees Is y d x → IsBusyWith y x.number p
       busy-of y x d is h = subst (λ (o : Option PutPlace). IsBusyBy y x.number o) is h.busy
+
       busy-with : (y : List Entry) (c : Record) → Agrees Is y c r → IsBusyWith y r.number p
       busy-with y c g = subst (λ (o : Option PutPlace). IsBusyBy y r.number o) busy g.busy
+
       some-busy : (d : Option Put) → IsBusyAs Is (Some p) d → (b : Put) × (d ≡ Some b)
       some-busy None h = absurd h
       some-busy (Some b) h = (b, refl)
+
       was-slow : (c : Record) → Agrees Is y c r → c.state.slow ≡ true
       was-slow c g = (let b = some-busy c.busy (subst (λ (o : Option PutPlace). IsBusyAs Is o c.busy) busy g.busy_as) in g.slow b.0 b.1)
+
       own-record : (c : Record) → Agrees Is y c r → ((q : PutPlace) → In r.waiting q → IsFinished y q → ⊥) → ((j : ℕ) (w : WaitingPut) → At c.waiting j w → base_of w.value ≡ base_of c.state.value) → ((q : PutPlace) (qs : List PutPlace) → r.waiting ≡ q ∷ qs → q ≡ p → ⊥) → Agrees Is (y ++ finish_entry p ∷ next_entries side r (first_of c.waiting) (first_of r.waiting)) (finished side.core.stamp c c.waiting) (next_busy r)
       own-record c g own based other =
           one-finished Is y side c.state c.busy c.waiting r.name r.number p r.waiting own other based (was-slow c g) (subst (λ (o : Option PutPlace). Agrees Is y c (record r { busy = o })) busy g)

@@ -1,21 +1,17 @@
 -- A life as its circuits go on, and what its log says of each write.
-use Rattle.std.proofs.Common.{◌≡◌, ℕ, ◌+◌, ◌<◌, ◌≤◌, ◌⊎◌, inl, inr, Bool, true, false, List, [], ◌∷◌, ◌++◌, length, take, Ok, Option, Some, Result, refl, sym, ap, subst, ◌∙◌, arith}
-use Rattle.std.specs.Prelude.{map}
+use Rattle.std.proofs.Common.{◌≡◌, ℕ, ◌⊎◌, inl, inr, Bool, false, List, length, Ok, Option, Some, sym, ap, subst, ◌∙◌}
 use Rattle.ca_text.specs.Place.{At}
-use Rattle.ca_text.specs.declared.refusal.Refusal.{Refusal}
 use Rattle.ca_text.proofs.Places.{At-map, At-one}
 use Rattle.ca_dbr.specs.Conversion.{converted}
-use Rattle.ca_dbr.specs.Elements.{Elements, base_of}
+use Rattle.ca_dbr.specs.Elements.{Elements}
 use Rattle.ca_records.specs.declared.puts.Put.{Put}
-use Rattle.ca_records.specs.Puts.{Record, WaitingPut}
-use Rattle.ca_records.specs.Record.{RecordState}
-use Rattle.ca_model.specs.Speech.{In, Stored, sid_in}
-use Rattle.ca_model.specs.History.{Added, Applied, Entry, Finished, Removed, Sent, Step, Waits, Withdrawn}
+use Rattle.ca_records.specs.Puts.{Record}
+use Rattle.ca_model.specs.Speech.{Stored, sid_in}
+use Rattle.ca_model.specs.History.{Applied, Entry, Finished, Sent, Step, Withdrawn}
 use Rattle.ca_model_safe.specs.Channels.{HasWaited, IsApplied as IsAppliedIn, IsBusyUntil, IsCleared, IsDropped, IsTaken}
 use Rattle.ca_model_world.specs.World.{Joined, PutPlace, RecordSide, World, circuit_of, told}
-use Rattle.ca_laws_writes.specs.Both.{Both}
-use Rattle.ca_laws_writes.specs.Once.{HadWaited, Once}
-use Rattle.ca_laws_writes.specs.Agrees.{Agree, Agrees, IsBusyAs, WaitsAs}
+use Rattle.ca_laws_writes.specs.Once.{Once}
+use Rattle.ca_laws_writes.specs.Agrees.{Agrees, IsBusyAs, WaitsAs}
 use Rattle.ca_laws_writes.specs.Lives.{AreLater, CameOn, IsOfMessage, IsPutOf, Later, Life, LogsOnce, LostOn}
 use Rattle.ca_laws_writes.proofs.Lists.{both-all}
 use Rattle.ca_laws_writes.proofs.Once.{once-as}

@@ -1,28 +1,24 @@
 -- Puts that wait are withdrawn: those of circuits that end, those of a channel that is cleared, and those of a record that is removed.
-use Rattle.std.proofs.Common.{◌≡◌, ℕ, zero, suc, ◌+◌, ◌<◌, ◌≤◌, ◌⊎◌, inl, inr, Bool, true, false, cond, not, List, [], ◌∷◌, ◌++◌, length, Option, Some, None, refl, sym, ap, subst, ◌∙◌, append-nil, arith}
+use Rattle.std.proofs.Common.{◌≡◌, ℕ, zero, suc, ◌+◌, ◌<◌, ◌≤◌, ◌⊎◌, inl, inr, Bool, true, false, cond, not, List, [], ◌∷◌, ◌++◌, length, refl, sym, ap, subst, ◌∙◌, append-nil, arith}
 use Rattle.std.specs.Prelude.{filter, map}
 use Rattle.std.specs.List.{flat_map}
-use Rattle.std.specs.Str.{bytes_eq}
-use Rattle.std.proofs.lemmas.Slice.Eq.{bytes_eq-Decides}
 use Rattle.ca_text.specs.Place.{At}
-use Rattle.ca_text.proofs.Places.{some_is, At-after, At-append, At-mapped, At-one, At-parts, At-within}
+use Rattle.ca_text.proofs.Places.{some_is, At-after, At-append, At-mapped, At-parts, At-within}
 use Rattle.ca_dbr.specs.Elements.{Elements}
 use Rattle.ca_records.specs.declared.puts.Put.{Put}
-use Rattle.ca_records.specs.Puts.{Record, WaitingPut, removed, withdrawn, without_puts}
-use Rattle.ca_records.specs.Record.{RecordState}
-use Rattle.ca_model.specs.Speech.{In, Stored}
-use Rattle.ca_model.specs.History.{Entry, Added, Applied, Finished, Posted, Removed, Waits, Withdrawn}
+use Rattle.ca_records.specs.Puts.{Record, WaitingPut, withdrawn, without_puts}
+use Rattle.ca_model.specs.Speech.{In}
+use Rattle.ca_model.specs.History.{Entry, Applied, Removed, Waits, Withdrawn}
 use Rattle.ca_model_world.specs.ServerEvents.{channel_withdrawals, places_where, removal_entries, with_core, withdrawals}
 use Rattle.ca_model_world.specs.ServerEvents as event
 use Rattle.ca_model_world.specs.World.{PutPlace, RecordSide}
 use Rattle.ca_laws_writes.specs.Both.{Both}
-use Rattle.ca_laws_writes.specs.Once.{HadWaited, IsApplied, IsLost, IsWithdrawn, MayTell, Once}
-use Rattle.ca_laws_writes.specs.Agrees.{LoseAll, TestsAgree, Agree, Agrees, AreOthers, IsOf, Lack, StillWaits, WaitsAs, pair_of}
-use Rattle.ca_laws_writes.proofs.Lists.{In-append, In-kept, In-snoc, beside-right, both-all, both-at, both-filter, both-map, kept-in, length-more, none_at, take-whole}
+use Rattle.ca_laws_writes.specs.Once.{HadWaited, IsApplied, IsLost, Once}
+use Rattle.ca_laws_writes.specs.Agrees.{LoseAll, TestsAgree, Agree, Agrees, IsOf, StillWaits, WaitsAs, pair_of}
+use Rattle.ca_laws_writes.proofs.Lists.{In-append, In-kept, In-snoc, beside-right, both-map, kept-in, length-more, none_at, take-whole}
 use Rattle.ca_laws_writes.proofs.Once.{once-told}
-use Rattle.ca_laws_writes.proofs.Records.{agrees-spared, agrees-withdrawn, among-there, append-one, is_among, there-among, withdrawals-keep, withdrawing}
-use Rattle.ca_laws_writes.proofs.Lives.{bytes-other, bytes-same, others-apart, others-map, waits-there}
-use Rattle.ca_laws_writes.proofs.Finishes.{waits-one}
+use Rattle.ca_laws_writes.proofs.Records.{agrees-withdrawn, among-there, append-one, is_among, there-among, withdrawing}
+use Rattle.ca_laws_writes.proofs.Lives.{others-map, waits-there}
 
 -- ---- lists of lists
 
@@ -32,6 +28,7 @@ In-flat {A} {B} f (z ∷ xs) x y h at = go h.0 h.1 (λ rest. In-flat f xs x y re
   where
     later : In (flat_map f xs) y → In (f z ++ flat_map f xs) y
     later r = (_, At-after (f z) (flat_map f xs) r.0 y r.1)
+
     go : (k : ℕ) → At (z ∷ xs) k x → (In xs x → In (flat_map f xs) y) → In (f z ++ flat_map f xs) y
     go zero is more = (let e : z ≡ x = some_is z x is in let here : In (f z) y = subst (λ (w : A). In (f w) y) (sym e) at in In-append (f z) (flat_map f xs) y here)
     go (suc k) is more = later (more (k, is))
@@ -72,10 +69,15 @@ module _ (Came : PutPlace → (i : ℕ) → Elements → Type 0) (Lost : PutPlac
       (once-told Came Lost y e once (un w (0, refl), now w (lost w (0, refl)))))
     where
       now : (w : PutPlace) → ((r : ℕ) × (value : Elements) × HadWaited y w (length y) r value × (In y (Removed r) ⊎ ((i : ℕ) → length y ≤ i → Lost w i))) → IsLost Came Lost y w (length y)
-      now w l = (l.0, l.1, l.2, elim l.3 [
-        | inl gone ↦ inl (subst (λ (x : List Entry). In x (Removed l.0)) (sym (take-whole y)) gone)
-        | inr rest ↦ inr (rest (length y) (omega arith))
-      ])
+      now w l = (
+        l.0,
+        l.1,
+        l.2,
+        elim l.3 [
+          | inl gone ↦ inl (subst (λ (x : List Entry). In x (Removed l.0)) (sym (take-whole y)) gone)
+          | inr rest ↦ inr (rest (length y) (omega arith))
+        ],
+      )
 
 -- a put that waits had waited
 pub had-waited : (y : List Entry) (p : PutPlace) (r : ℕ) (value : Elements) → StillWaits y r p value → HadWaited y p (length y) r value

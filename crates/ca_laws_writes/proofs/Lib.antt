@@ -4,7 +4,6 @@ pub mod Parts
 pub mod Records
 pub mod Lives
 pub mod Finishes
-
 pub mod Leaving
 pub mod Coming
 pub mod Going
@@ -15,3 +14,5 @@ pub mod Midway
 pub mod Events
 pub mod Doing
 pub mod Step
+pub mod Stepped
+pub mod Now

@@ -1,9 +1,9 @@
 -- Places of lists that grow, and of two lists side by side.
-use Rattle.std.proofs.Common.{◌≡◌, ℕ, zero, suc, ◌+◌, ◌<◌, ◌≤◌, ◌⊎◌, inl, inr, Bool, true, false, cond, not, ◌&&◌, ◌||◌, List, [], ◌∷◌, ◌++◌, length, take, Option, Some, None, refl, sym, ap, subst, ◌∙◌, arith}
+use Rattle.std.proofs.Common.{◌≡◌, ℕ, zero, suc, ◌+◌, ◌≤◌, ◌⊎◌, inl, inr, Bool, true, false, cond, ◌&&◌, List, [], ◌∷◌, ◌++◌, length, take, refl, sym, ap, subst, ◌∙◌, arith}
 use Rattle.std.specs.Prelude.{filter, map}
 use Rattle.std.proofs.lemmas.List.{length-append}
 use Rattle.ca_text.specs.Place.{At}
-use Rattle.ca_text.proofs.Places.{some_is, At-append, At-back, At-last, At-snoc, At-within}
+use Rattle.ca_text.proofs.Places.{some_is, At-append, At-last, At-snoc}
 use Rattle.ca_model.specs.Speech.{In}
 use Rattle.ca_laws_writes.specs.Both.{Both}
 
@@ -78,6 +78,7 @@ kept-in {A} p (y ∷ ys) x h is = go (p y) refl h.0 h.1 (λ at. kept-in p ys x a
     rest : (b : Bool) → In (filter p ys) x → In (cond b (y ∷ filter p ys) (filter p ys)) x
     rest true r = (suc r.0, r.1)
     rest false r = r
+
     go : (b : Bool) → p y ≡ b → (k : ℕ) → At (y ∷ ys) k x → (In ys x → In (filter p ys) x) → In (cond b (y ∷ filter p ys) (filter p ys)) x
     go true e zero at more = (0, at)
     go false e zero at more = absurd (let f : true ≡ false = sym is ∙ ap p (sym (some_is y x at)) ∙ e in cc)

@@ -1,5 +1,5 @@
 -- A server's records beside the log of its life, as a write, a put, a finish or a post is told.
-use Rattle.std.proofs.Common.{◌≡◌, ℕ, zero, suc, ◌+◌, ◌<◌, ◌≤◌, ◌⊎◌, inl, inr, Bool, true, false, cond, not, List, [], ◌∷◌, ◌++◌, length, Option, Some, None, refl, sym, ap, subst, ◌∙◌, arith}
+use Rattle.std.proofs.Common.{◌≡◌, ℕ, zero, suc, ◌<◌, ◌⊎◌, inl, inr, Bool, true, false, cond, List, [], ◌∷◌, ◌++◌, length, Option, Some, None, refl, sym, ap, subst, ◌∙◌}
 use Rattle.std.specs.Prelude.{map}
 use Rattle.std.specs.Str.{bytes_eq}
 use Rattle.std.proofs.lemmas.Slice.Eq.{bytes_eq-Decides}
@@ -8,21 +8,18 @@ use Rattle.ca_text.proofs.Places.{some_is, At-one}
 use Rattle.ca_dbr.specs.declared.value.Meta.{Meta}
 use Rattle.ca_dbr.specs.Elements.{Elements, base_of}
 use Rattle.ca_records.specs.declared.puts.Put.{Put}
-use Rattle.ca_records.specs.declared.puts.Stamp.{Stamp}
-use Rattle.ca_records.specs.Puts.{Record, WaitingPut, finished, with_record, with_value, with_waiting, written_meta}
-use Rattle.ca_records.specs.Record.{RecordState}
+use Rattle.ca_records.specs.Puts.{Record, WaitingPut, with_record, with_value, with_waiting}
 use Rattle.ca_model.specs.Speech.{In, Stored}
-use Rattle.ca_model.specs.History.{Entry, Added, Applied, Finished, Posted, Removed, Waits, Withdrawn}
+use Rattle.ca_model.specs.History.{Entry, Added, Applied, Finished, Posted, Waits, Withdrawn}
 use Rattle.ca_model_world.specs.ServerEvents.{first_of, next_busy, number_of}
 use Rattle.ca_model_world.specs.ServerEvents as event
 use Rattle.ca_model_world.specs.World.{PutPlace, RecordSide}
 use Rattle.ca_laws_writes.specs.Both.{Both}
-use Rattle.ca_laws_writes.specs.Once.{IsApplied, IsFinished, IsUntold, IsWithdrawn, MayTell, Once}
-use Rattle.ca_laws_writes.specs.Agrees.{Agree, Agrees, AreOthers, IsBusyAs, IsOf, Lack, StillWaits, WaitsAs, stored}
-use Rattle.ca_laws_writes.proofs.Lists.{In-append, In-snoc, beside-left, beside-right, both-all, both-at, both-left, both-map, none_at}
+use Rattle.ca_laws_writes.specs.Once.{IsUntold, MayTell}
+use Rattle.ca_laws_writes.specs.Agrees.{Agree, Agrees, AreOthers, IsBusyAs, IsOf, Lack, StillWaits, WaitsAs}
+use Rattle.ca_laws_writes.proofs.Lists.{In-snoc, beside-left, beside-right, both-at, both-map, none_at}
 use Rattle.ca_laws_writes.proofs.Once.{once-told}
-use Rattle.ca_laws_writes.proofs.Parts.{Spares}
-use Rattle.ca_laws_writes.proofs.Records.{agrees-applied, agrees-busied, agrees-finished, agrees-next, agrees-posted, agrees-spared, agrees-waits}
+use Rattle.ca_laws_writes.proofs.Records.{agrees-applied, agrees-busied, agrees-posted, agrees-spared, agrees-waits}
 
 -- ---- names
 
@@ -75,8 +72,7 @@ lack-map f name number (r ∷ rs) keeps lack =
 pub others-map : (f : RecordSide → RecordSide) (rs : List RecordSide) → ((r : RecordSide) → ((f r).name ≡ r.name) × ((f r).number ≡ r.number)) → AreOthers rs → AreOthers (map f rs)
 others-map f [] keeps others = tt
 others-map f (r ∷ rs) keeps others =
-    let k = keeps r in
-    (
+    let k = keeps r in (
       subst (λ (n : List ℕ). Lack n (f r).number (map f rs)) (sym k.0) (subst (λ (n : ℕ). Lack r.name n (map f rs)) (sym k.1) (lack-map f r.name r.number rs keeps others.0)),
       others-map f rs keeps others.1,
     )
@@ -116,6 +112,7 @@ module _ (Is : PutPlace → Put → Type 0) where
       both-ways c q s t a =
           subst (λ (b : Bool). Agrees Is more (cond b (f c) c) (cond (bytes_eq q.name r.name) (g q) q)) (sym s)
           (subst (λ (b : Bool). Agrees Is more (f c) (cond b (g q) q)) (sym t) a)
+
       neither : (c : Record) (q : RecordSide) → bytes_eq c.state.name r.name ≡ false → bytes_eq q.name r.name ≡ false → Agrees Is more c q → Agrees Is more (cond (bytes_eq c.state.name r.name) (f c) c) (cond (bytes_eq q.name r.name) (g q) q)
       neither c q s t a =
           subst (λ (b : Bool). Agrees Is more (cond b (f c) c) (cond (bytes_eq q.name r.name) (g q) q)) (sym s)
@@ -152,14 +149,13 @@ module _ (Came : PutPlace → (i : ℕ) → Elements → Type 0) (Lost : PutPlac
 
   -- a write may be told as applied to a record that is there, if nothing was told of it, or it waits there
   may-apply : (y : List Entry) (c : Record) (r : RecordSide) (p : PutPlace) (v : Stored) (b : Bool) → base_of v.value ≡ base_of c.state.value → IsUntold y p → Agrees Is y c r → Came p (length y) v.value → MayTell Came Lost y (Applied p.circuit p.place r.number v b)
-  may-apply y c r p v b same untold a came =
-      (
-        λ h. untold (Applied p.circuit p.place h.0 h.1 h.2) h.3 refl,
-        λ h. untold (Withdrawn p.circuit p.place) h refl,
-        (a.first, a.added, same ∙ a.base),
-        a.there,
-        inl came,
-      )
+  may-apply y c r p v b same untold a came = (
+    λ h. untold (Applied p.circuit p.place h.0 h.1 h.2) h.3 refl,
+    λ h. untold (Withdrawn p.circuit p.place) h refl,
+    (a.first, a.added, same ∙ a.base),
+    a.there,
+    inl came,
+  )
 
   -- A write is applied, and makes its record not busy.
   pub agree-applied : (y : List Entry) (cs : List Record) (rs : List RecordSide) (n : ℕ) (i : ℕ) (c : Record) (r : RecordSide) (p : PutPlace) (v : Stored) → At cs i c → At rs i r → IsUntold y p → Came p (length y) v.value → base_of v.value ≡ base_of c.state.value → Agree Came Lost Is y cs rs n → Agree Came Lost Is (y ++ Applied p.circuit p.place r.number v false ∷ []) (with_record r.name (with_value v.value v.meta) cs) rs n
@@ -179,6 +175,7 @@ module _ (Came : PutPlace → (i : ℕ) → Elements → Type 0) (Lost : PutPlac
       same-one : (b : Bool) (q : RecordSide) → cond b q q ≡ q
       same-one true q = refl
       same-one false q = refl
+
       same-list : (name : List ℕ) (qs : List RecordSide) → event.with_record name (λ (q : RecordSide). q) qs ≡ qs
       same-list name [] = refl
       same-list name (q ∷ qs) =
@@ -193,13 +190,13 @@ module _ (Came : PutPlace → (i : ℕ) → Elements → Type 0) (Lost : PutPlac
       let there = beside-right (Agrees Is y) cs rs i r a.each in_rs in
       let both = one-changes Is y (y ++ e ∷ []) cs rs i r (λ (d : Record). record (with_value v.value v.meta d) { busy = Some b }) (λ (q : RecordSide). record q { busy = Some p }) a.others in_rs
       (λ d at g.
-          let is : c ≡ d = At-one cs i c d in_cs at in
-          let free : d.busy ≡ None = ap (λ (z : Record). z.busy) (sym is) ∙ idle in
-          let none : r.busy ≡ None = both-none r.busy d.busy free g.busy_as in
-          let g1 : Agrees Is y (record d { busy = None }) r = subst (λ (o : Option Put). Agrees Is y (record d { busy = o }) r) free g in
-          let g2 : Agrees Is y (record d { busy = None }) (record r { busy = None }) = subst (λ (o : Option PutPlace). Agrees Is y (record d { busy = None }) (record r { busy = o })) none g1 in
-          agrees-busied Is y d.state b d.waiting r.name r.number p r.waiting v (same ∙ ap (λ (z : Record). base_of z.state.value) is) (untold-waits Is y d r p untold g)
-          (λ h. untold (Finished p.circuit p.place) h refl) is_it (ap (λ (z : Record). z.state.slow) (sym is) ∙ slow) g2)
+      let is : c ≡ d = At-one cs i c d in_cs at in
+      let free : d.busy ≡ None = ap (λ (z : Record). z.busy) (sym is) ∙ idle in
+      let none : r.busy ≡ None = both-none r.busy d.busy free g.busy_as in
+      let g1 : Agrees Is y (record d { busy = None }) r = subst (λ (o : Option Put). Agrees Is y (record d { busy = o }) r) free g in
+      let g2 : Agrees Is y (record d { busy = None }) (record r { busy = None }) = subst (λ (o : Option PutPlace). Agrees Is y (record d { busy = None }) (record r { busy = o })) none g1 in
+      agrees-busied Is y d.state b d.waiting r.name r.number p r.waiting v (same ∙ ap (λ (z : Record). base_of z.state.value) is) (untold-waits Is y d r p untold g)
+      (λ h. untold (Finished p.circuit p.place) h refl) is_it (ap (λ (z : Record). z.state.slow) (sym is) ∙ slow) g2)
       (λ j d q at other g. agrees-spared Is y d q e (other, untold-waits Is y d q p untold g) g)
       a.each in
       agree-told y cs (with_record r.name (λ (d : Record). record (with_value v.value v.meta d) { busy = Some b }) cs) rs (event.with_record r.name (λ (q : RecordSide). record q { busy = Some p }) rs) n e
@@ -246,6 +243,7 @@ module _ (Came : PutPlace → (i : ℕ) → Elements → Type 0) (Lost : PutPlac
       same-one : (b : Bool) (q : RecordSide) → cond b q q ≡ q
       same-one true q = refl
       same-one false q = refl
+
       same-list : (name : List ℕ) (qs : List RecordSide) → event.with_record name (λ (q : RecordSide). q) qs ≡ qs
       same-list name [] = refl
       same-list name (q ∷ qs) =

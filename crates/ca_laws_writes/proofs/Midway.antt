@@ -1,9 +1,9 @@
 -- The end of an event at a server: circuits that ended in it are closed, and the puts that wait there are withdrawn.
-use Rattle.std.proofs.Common.{◌≡◌, ℕ, zero, suc, ◌+◌, ◌<◌, ◌≤◌, ◌⊎◌, inl, inr, Bool, true, false, not, List, [], ◌∷◌, ◌++◌, length, Option, Some, None, refl, sym, ap, subst, ◌∙◌, append_assoc, append-nil, arith}
+use Rattle.std.proofs.Common.{◌≡◌, ℕ, zero, suc, ◌⊎◌, inl, inr, Bool, true, false, List, [], ◌∷◌, ◌++◌, Option, Some, refl, sym, ap, subst, ◌∙◌, append_assoc}
 use Rattle.std.specs.Prelude.{filter, is_some, map, slice_set, slice_get, unwrap_or}
 use Rattle.std.specs.List.{flat_map}
 use Rattle.ca_text.specs.Place.{At}
-use Rattle.ca_text.proofs.Places.{some_is, At-map, At-mapped, At-one, At-parts, At-set, At-set-other, At-within}
+use Rattle.ca_text.proofs.Places.{some_is, At-mapped, At-one, At-parts, At-set, At-set-other}
 use Rattle.ca_records.specs.declared.puts.Put.{Put}
 use Rattle.ca_records.specs.Puts.{Record, withdrawn}
 use Rattle.ca_model.specs.Server.{Server}
@@ -14,8 +14,8 @@ use Rattle.ca_model_world.specs.ServerEvents as event
 use Rattle.ca_model_world.specs.World.{Joined, PutPlace, RecordSide, ServerSide, World, grown}
 use Rattle.ca_laws_writes.specs.Once.{write_in}
 use Rattle.ca_laws_writes.specs.Agrees.{Agrees, WaitsAs}
-use Rattle.ca_laws_writes.specs.Lives.{AreLater, AreOpen, CameOn, EndsAgree, IsPutOf, Later, Life, LostOn}
-use Rattle.ca_laws_writes.specs.Moves.{EndsOnly, Lives, Midway, Moves, WasHandled, Writes}
+use Rattle.ca_laws_writes.specs.Lives.{EndsAgree, IsPutOf, Life}
+use Rattle.ca_laws_writes.specs.Moves.{EndsOnly, Midway, Moves, WasHandled, Writes}
 use Rattle.ca_laws_writes.proofs.Lists.{In-kept, beside-left, beside-right, none_at}
 use Rattle.ca_laws_writes.proofs.Ending.{ending-not, endings-later, life-ended}
 use Rattle.ca_laws_writes.proofs.Leaving.{flat-in}
@@ -24,7 +24,7 @@ use Rattle.ca_laws_writes.proofs.Moves.{handled-later, later-trans, moves-keep, 
 
 -- ---- logs that grow
 
-set-here : {A : Type 0} (xs : List A) (i : ℕ) (x y : A) → At xs i x → At (slice_set xs i y) i y
+pub set-here : {A : Type 0} (xs : List A) (i : ℕ) (x y : A) → At xs i x → At (slice_set xs i y) i y
 set-here [] i x y at = absurd (none_at i x at)
 set-here (z ∷ xs) zero x y at = refl
 set-here (z ∷ xs) (suc i) x y at = set-here xs i x y at

@@ -1,16 +1,14 @@
 -- An event at a server keeps what holds of the writes of a world.
-use Rattle.std.proofs.Common.{◌≡◌, ℕ, zero, suc, ◌+◌, ◌<◌, ◌≤◌, ◌⊎◌, inl, inr, Bool, true, false, List, [], ◌∷◌, ◌++◌, length, Option, Some, None, refl, sym, ap, subst, ◌∙◌, append-nil, arith}
-use Rattle.std.specs.Prelude.{map, slice_set, slice_get, unwrap_or}
+use Rattle.std.proofs.Common.{◌≡◌, ℕ, zero, suc, ◌<◌, ◌⊎◌, inl, inr, Bool, true, false, List, [], ◌∷◌, ◌++◌, length, Option, Some, refl, sym, ap, subst, ◌∙◌, arith}
 use Rattle.ca_text.specs.Place.{At}
-use Rattle.ca_text.proofs.Places.{some_is, At-one, At-parts, At-set, At-set-other, At-within}
+use Rattle.ca_text.proofs.Places.{some_is, At-one, At-parts, At-within}
 use Rattle.ca_model.specs.Speech.{In}
 use Rattle.ca_model.specs.History.{Entry, Step}
 use Rattle.ca_model.specs.History as history
-use Rattle.ca_model_world.specs.World.{Joined, PutPlace, RecordSide, ServerSide, World, grown}
+use Rattle.ca_model_world.specs.World.{Joined, PutPlace, ServerSide, World}
 use Rattle.ca_laws_writes.specs.Once.{Once, write_in}
-use Rattle.ca_laws_writes.specs.Lives.{AreLater, AreOpen, CameOn, Later, Life, LogsOnce, LostOn}
+use Rattle.ca_laws_writes.specs.Lives.{AreLater, CameOn, Later, Life, LogsOnce, LostOn}
 use Rattle.ca_laws_writes.specs.Moves.{Lives, Moves, WasHandled, Writes}
-use Rattle.ca_laws_writes.proofs.Lists.{none_at}
 use Rattle.ca_laws_writes.proofs.Going.{life-later, once-later}
 
 pub At-below : {A : Type 0} (xs : List A) (k : ℕ) → k < length xs → (x : A) × At xs k x
@@ -45,15 +43,18 @@ handled-later old new p c at later was d on is_open =
 pub later-trans : (a b c : List Joined) → AreLater a b → AreLater b c → AreLater a c
 later-trans a b c f g n x at =
     let y = f n x at in
-    let z = g n y.0 y.1 in
-    (z.0, z.1, record {
-      server = z.2.server ∙ y.2.server;
-      handle = z.2.handle ∙ y.2.handle;
-      life = z.2.life ∙ y.2.life;
-      up = λ k s h. z.2.up k s (y.2.up k s h);
-      handled = λ k s h. z.2.handled k s (y.2.handled k s h);
-      ended = λ e. (let u = y.2.ended e in let v = z.2.ended u.0 in (v.0, v.1 ∙ u.1));
-    })
+    let z = g n y.0 y.1 in (
+      z.0,
+      z.1,
+      record {
+        server = z.2.server ∙ y.2.server;
+        handle = z.2.handle ∙ y.2.handle;
+        life = z.2.life ∙ y.2.life;
+        up = λ k s h. z.2.up k s (y.2.up k s h);
+        handled = λ k s h. z.2.handled k s (y.2.handled k s h);
+        ended = λ e. (let u = y.2.ended e in let v = z.2.ended u.0 in (v.0, v.1 ∙ u.1));
+      },
+    )
 
 -- ---- an event at a server
 
@@ -109,10 +110,13 @@ told-on circuits life y e p once h about = go e h about
   where
     at-place : (q : PutPlace) → let a : Option PutPlace = Some q in let b : Option PutPlace = Some p in a ≡ b → ((c : Joined) × At circuits q.circuit c) → (c : Joined) × At circuits p.circuit c
     at-place q is r = subst (λ (z : PutPlace). (c : Joined) × At circuits z.circuit c) (some_is q p is) r
+
     waits : (i n k r : ℕ) (v : _) → At y i (history.Waits n k r v) → (c : Joined) × At circuits n c
     waits i n k r v at = (let c = once.came i n k r v at in (c.c, c.on))
+
     applied : (i n k r : ℕ) (v : _) (b : Bool) → At y i (history.Applied n k r v b) → (c : Joined) × At circuits n c
     applied i n k r v b at = elim (once.own i n k r v b at) [ inl c ↦ (c.c, c.on) | inr was ↦ waits was.0 n k r was.1 was.3 ]
+
     go : (f : Entry) → In y f → write_in f ≡ Some p → (c : Joined) × At circuits p.circuit c
     go (history.Added r s) at is = absurd cc
     go (history.Removed r) at is = absurd cc

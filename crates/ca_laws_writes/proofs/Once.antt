@@ -1,26 +1,25 @@
 -- A log that grows has each write once.
-use Rattle.std.proofs.Common.{◌≡◌, ℕ, ◌<◌, ◌≤◌, ◌⊎◌, inl, inr, Bool, true, List, [], ◌∷◌, ◌++◌, length, take, Some, refl, sym, ap, subst, ◌∙◌, arith}
+use Rattle.std.proofs.Common.{◌≡◌, ℕ, ◌<◌, ◌≤◌, ◌⊎◌, inl, inr, true, List, [], ◌∷◌, ◌++◌, length, take, refl, sym, ap, subst, ◌∙◌, arith}
 use Rattle.ca_text.specs.Place.{At}
 use Rattle.ca_text.proofs.Places.{At-append, At-back, At-snoc, At-within}
 use Rattle.ca_dbr.specs.Elements.{Elements, base_of}
 use Rattle.ca_records.specs.Record.{RecordState}
-use Rattle.ca_model.specs.Speech.{In, Stored}
-use Rattle.ca_model.specs.History.{Entry, Added, Applied, Finished, Posted, Removed, Waits, Withdrawn}
+use Rattle.ca_model.specs.Speech.{In}
+use Rattle.ca_model.specs.History.{Entry, Added, Applied, Finished, Removed, Waits, Withdrawn}
 use Rattle.ca_model_safe.specs.Channels.{IsBusyUntil}
 use Rattle.ca_model_world.specs.World.{PutPlace}
-use Rattle.ca_laws_writes.specs.Once.{HadWaited, IsApplied, IsLost, IsUntold, MayTell, Once}
-use Rattle.ca_laws_writes.proofs.Lists.{In-append, take-front, take-whole}
+use Rattle.ca_laws_writes.specs.Once.{HadWaited, IsLost, MayTell, Once}
+use Rattle.ca_laws_writes.proofs.Lists.{take-front, take-whole}
 
 busy-until-grown : (y es : List Entry) (n k e : ℕ) → e ≤ length y → IsBusyUntil y n k e → IsBusyUntil (y ++ es) n k e
-busy-until-grown y es n k e le b =
-    (
-      b.0,
-      b.1,
-      b.2,
-      At-append y es b.0 (Applied n k b.1 b.2 true) b.3,
-      b.4,
-      λ j m l u lt below at. b.5 j m l u lt below (At-back y es j (Applied m l b.1 u true) at (omega (arith, below, le))),
-    )
+busy-until-grown y es n k e le b = (
+  b.0,
+  b.1,
+  b.2,
+  At-append y es b.0 (Applied n k b.1 b.2 true) b.3,
+  b.4,
+  λ j m l u lt below at. b.5 j m l u lt below (At-back y es j (Applied m l b.1 u true) at (omega (arith, below, le))),
+)
 
 had-waited-grown : (y es : List Entry) (p : PutPlace) (i r : ℕ) (value : Elements) → HadWaited y p i r value → HadWaited (y ++ es) p i r value
 had-waited-grown y es p i r value h =
@@ -110,8 +109,7 @@ module _ (Came : PutPlace → (i : ℕ) → Elements → Type 0) (Lost : PutPlac
         finished = λ n k f p. elim (At-snoc y e f (Finished n k) p) [
           | inl old ↦
               let was = once.finished n k f old in
-              let lt : f < length y = At-within y f (Finished n k) old in
-              (
+              let lt : f < length y = At-within y f (Finished n k) old in (
                 busy-until-grown y (e ∷ []) n k f (omega (arith, lt)) was.0,
                 λ g s. elim (At-snoc y e g (Finished n k) s) [
                   | inl too ↦ was.1 g too
@@ -119,8 +117,7 @@ module _ (Came : PutPlace → (i : ℕ) → Elements → Type 0) (Lost : PutPlac
                 ],
               )
           | inr new ↦
-              let m = it (Finished n k) new.1 in
-              (
+              let m = it (Finished n k) new.1 in (
                 subst (λ (l : ℕ). IsBusyUntil (y ++ e ∷ []) n k l) (sym new.0) (busy-until-grown y (e ∷ []) n k (length y) (omega arith) m.0),
                 λ g s. elim (At-snoc y e g (Finished n k) s) [
                   | inl old ↦ absurd (m.1 (g, old))

@@ -1,11 +1,11 @@
 -- What each entry of a log makes of one record's value, of the puts that wait for it, and of the one that makes it busy.
-use Rattle.std.proofs.Common.{◌≡◌, ℕ, suc, ◌+◌, ◌<◌, ◌≤◌, ◌⊎◌, inl, inr, Bool, true, false, cond, not, ◌&&◌, ◌||◌, eqb, ne_eqb, eq-eqb, eqb-true, List, [], ◌∷◌, ◌++◌, length, Option, Some, None, refl, sym, ap, subst, ◌∙◌, append-nil, arith}
+use Rattle.std.proofs.Common.{◌≡◌, ℕ, suc, ◌+◌, ◌<◌, inl, inr, Bool, true, false, cond, not, ◌&&◌, eqb, ne_eqb, eq-eqb, eqb-true, List, [], ◌∷◌, ◌++◌, length, Option, Some, None, refl, sym, ap, subst, ◌∙◌, append-nil, arith}
 use Rattle.std.specs.Prelude.{filter, filter_map, map}
-use Rattle.std.specs.List.{cons_option, fold}
+use Rattle.std.specs.List.{cons_option}
 use Rattle.std.proofs.lemmas.List.Elements.{filter_map-append}
 use Rattle.std.proofs.lemmas.List.Sums.{fold-append}
 use Rattle.ca_text.specs.Place.{At}
-use Rattle.ca_text.proofs.Places.{some_is, At-append, At-last, At-snoc, At-within}
+use Rattle.ca_text.proofs.Places.{At-append, At-last, At-snoc, At-within}
 use Rattle.ca_queue.specs.Order.{last_of}
 use Rattle.ca_queue.proofs.Order.{last_push}
 use Rattle.ca_records.specs.Record.{RecordState}

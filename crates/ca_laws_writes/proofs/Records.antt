@@ -1,11 +1,11 @@
 -- One record beside the log, as one entry more is told.
-use Rattle.std.proofs.Common.{◌≡◌, ℕ, zero, suc, ◌+◌, ◌<◌, ◌⊎◌, inl, inr, Bool, true, false, cond, not, ◌&&◌, ◌||◌, eq-eqb, ne_eqb, List, [], ◌∷◌, ◌++◌, length, Option, Some, None, refl, sym, ap, subst, ◌∙◌, append-nil, arith}
+use Rattle.std.proofs.Common.{◌≡◌, ℕ, zero, suc, inl, inr, Bool, true, false, cond, not, ◌&&◌, ◌||◌, eq-eqb, ne_eqb, List, [], ◌∷◌, ◌++◌, Option, Some, None, refl, sym, ap, subst, ◌∙◌, append-nil}
 use Rattle.std.specs.Prelude.{filter, map}
 use Rattle.std.specs.List.{fold, list_any}
 use Rattle.std.proofs.lemmas.List.{map-append}
 use Rattle.std.proofs.lemmas.List.Sums.{fold-append}
 use Rattle.ca_text.specs.Place.{At}
-use Rattle.ca_text.proofs.Places.{some_is, At-append, At-last, At-mapped, At-parts, At-snoc}
+use Rattle.ca_text.proofs.Places.{some_is, At-mapped, At-parts, At-snoc}
 use Rattle.ca_dbr.specs.declared.value.Meta.{Meta}
 use Rattle.ca_dbr.specs.Elements.{Elements, base_of}
 use Rattle.ca_records.specs.declared.puts.Put.{Put}
@@ -16,10 +16,10 @@ use Rattle.ca_model.specs.History.{Entry, Added, Applied, Finished, Posted, Remo
 use Rattle.ca_model_safe.specs.Known.{same_place, waiting, waiting_after}
 use Rattle.ca_model_world.specs.World.{PutPlace, RecordSide, record_begun}
 use Rattle.ca_laws_writes.specs.Both.{Both}
-use Rattle.ca_laws_writes.specs.Once.{IsApplied, IsFinished, IsUntold, IsWithdrawn}
-use Rattle.ca_laws_writes.specs.Agrees.{Agrees, AreApart, IsBusyBy, IsOf, IsBusyAs, IsBusyWith, IsIdle, StillWaits, WaitsAs, pair_of, stored, value_by}
-use Rattle.ca_laws_writes.proofs.Lists.{In-append, In-kept, beside-left, In-last, In-snoc, both-all, both-filter, both-snoc, filter-all, filter-and, filter-ext, kept-in, none_at}
-use Rattle.ca_laws_writes.proofs.Parts.{KeepsBusy, PostsNone, Spares, busy-begins, busy-ends, busy-kept, first-out, none-out, place-is, posts-added, posts-applied, posts-none, posts-posted, same-other, same-self, same-true, spared-busy, value-other, value-own, waiting-more, waits-spared}
+use Rattle.ca_laws_writes.specs.Once.{IsApplied, IsFinished, IsUntold}
+use Rattle.ca_laws_writes.specs.Agrees.{Agrees, AreApart, IsBusyBy, IsOf, StillWaits, WaitsAs, pair_of, stored, value_by}
+use Rattle.ca_laws_writes.proofs.Lists.{In-append, In-kept, beside-left, In-last, In-snoc, both-all, both-filter, both-snoc, filter-all, filter-and, filter-ext, none_at}
+use Rattle.ca_laws_writes.proofs.Parts.{Spares, busy-begins, busy-ends, busy-kept, first-out, none-out, place-is, posts-added, posts-applied, posts-none, posts-posted, same-self, same-true, spared-busy, value-other, value-own, waiting-more, waits-spared}
 
 -- ---- puts that wait
 
@@ -51,14 +51,13 @@ spares-waiting r e p spares waits = record {
 
 pub apart-front : (ps : List PutPlace) (p : PutPlace) → AreApart ps → (In ps p → ⊥) → AreApart (ps ++ p ∷ [])
 apart-front [] p apart new = (λ h. absurd (none_at h.0 p h.1), tt)
-apart-front (q ∷ ps) p apart new =
-    (
-      λ h. elim (In-snoc ps p q h) [
-        | inl old ↦ apart.0 old
-        | inr is ↦ new (0, ap (λ (x : PutPlace). Some x) is)
-      ],
-      apart-front ps p apart.1 (λ h. new (suc h.0, h.1)),
-    )
+apart-front (q ∷ ps) p apart new = (
+  λ h. elim (In-snoc ps p q h) [
+    | inl old ↦ apart.0 old
+    | inr is ↦ new (0, ap (λ (x : PutPlace). Some x) is)
+  ],
+  apart-front ps p apart.1 (λ h. new (suc h.0, h.1)),
+)
 
 pub apart-kept : (t : PutPlace → Bool) (ps : List PutPlace) → AreApart ps → AreApart (filter t ps)
 apart-kept t [] apart = tt
@@ -110,6 +109,7 @@ among-there (w ∷ ws) p h = go h.0 h.1 (λ at. among-there ws p at)
     or-true : (b : Bool) → b || true ≡ true
     or-true true = refl
     or-true false = refl
+
     go : (k : ℕ) → At (w ∷ ws) k p → (In ws p → is_among ws (pair_of p) ≡ true) → same_place (pair_of p) (pair_of w) || is_among ws (pair_of p) ≡ true
     go zero at more = ap (λ (b : Bool). b || is_among ws (pair_of p)) (subst (λ (x : PutPlace). same_place (pair_of p) (pair_of x) ≡ true) (sym (some_is w p at)) (same-self p))
     go (suc k) at more = ap (λ (b : Bool). same_place (pair_of p) (pair_of w) || b) (more (k, at)) ∙ or-true (same_place (pair_of p) (pair_of w))
@@ -211,7 +211,6 @@ module _ (Is : PutPlace → Put → Type 0) where
         slow = a.slow;
       }
 
-
   -- A put makes an idle record busy: one that waits for nothing, or the first that waits.
   pub agrees-busied : (y : List Entry) (s : RecordState) (b : Put) (ws : List WaitingPut) (name : List ℕ) (number : ℕ) (p : PutPlace) (ps : List PutPlace) (v : Stored) → base_of v.value ≡ base_of s.value → (In ps p → ⊥) → (IsFinished y p → ⊥) → Is p b → s.slow ≡ true → Agrees Is y (record { state = s; busy = None; waiting = ws }) (record { name = name; number = number; busy = None; waiting = ps }) → Agrees Is (y ++ Applied p.circuit p.place number v true ∷ []) (record { state = record s { value = v.value; meta = v.meta }; busy = Some b; waiting = ws }) (record { name = name; number = number; busy = Some p; waiting = ps })
   agrees-busied y s b ws name number p ps v same new fresh is_it slow a =
@@ -295,20 +294,22 @@ module _ (Is : PutPlace → Put → Type 0) where
             ∙ ap (λ (b : Bool). cond b (map pair_of r.waiting ++ pair_of p ∷ []) (map pair_of r.waiting)) (eq-eqb r.number r.number refl)
             ∙ sym snoc;
         each = both-snoc (WaitsAs Is (y ++ e ∷ []) r.number) r.waiting c.waiting p w
-            (each-kept y e r.number r.waiting c.waiting (λ q h. record { unapplied = λ i u d is. (let x : Applied q.circuit q.place i u d ≡ Waits p.circuit p.place r.number v = is in cc); kept = λ is. (let x : Withdrawn q.circuit q.place ≡ Waits p.circuit p.place r.number v = is in cc) }) a.each)
-            (record {
-              v = v;
-              came = In-last y e;
-              with_it = same;
-              unapplied = λ h. elim (In-snoc y e (Applied p.circuit p.place h.0 h.1 h.2) h.3) [
-                | inl old ↦ fresh (Applied p.circuit p.place h.0 h.1 h.2) old refl
-                | inr is ↦ (let x : Applied p.circuit p.place h.0 h.1 h.2 ≡ Waits p.circuit p.place r.number v = is in cc)
-              ];
-              kept = λ h. elim (In-snoc y e (Withdrawn p.circuit p.place) h) [
-                | inl old ↦ fresh (Withdrawn p.circuit p.place) old refl
-                | inr is ↦ (let x : Withdrawn p.circuit p.place ≡ Waits p.circuit p.place r.number v = is in cc)
-              ];
-            }, is_it);
+            (each-kept y e r.number r.waiting c.waiting (λ q h. record { unapplied = λ i u d is. (let x : Applied q.circuit q.place i u d ≡ Waits p.circuit p.place r.number v = is in cc); kept = λ is. (let x : Withdrawn q.circuit q.place ≡ Waits p.circuit p.place r.number v = is in cc) }) a.each) (
+              record {
+                v = v;
+                came = In-last y e;
+                with_it = same;
+                unapplied = λ h. elim (In-snoc y e (Applied p.circuit p.place h.0 h.1 h.2) h.3) [
+                  | inl old ↦ fresh (Applied p.circuit p.place h.0 h.1 h.2) old refl
+                  | inr is ↦ (let x : Applied p.circuit p.place h.0 h.1 h.2 ≡ Waits p.circuit p.place r.number v = is in cc)
+                ];
+                kept = λ h. elim (In-snoc y e (Withdrawn p.circuit p.place) h) [
+                  | inl old ↦ fresh (Withdrawn p.circuit p.place) old refl
+                  | inr is ↦ (let x : Withdrawn p.circuit p.place ≡ Waits p.circuit p.place r.number v = is in cc)
+                ];
+              },
+              is_it,
+            );
         apart = apart-front r.waiting p a.apart new;
         based = λ i u at. elim (At-snoc c.waiting w i u at) [
           | inl old ↦ a.based i u old
@@ -393,6 +394,7 @@ module _ (Is : PutPlace → Put → Type 0) where
     where
       filter-nil : (t : ℕ × ℕ → Bool) (qs : List (ℕ × ℕ)) → qs ≡ [] → filter t qs ≡ []
       filter-nil t qs is = ap (λ (l : List (ℕ × ℕ)). filter t l) is
+
       step : (e : Entry) (qs : List (ℕ × ℕ)) → (IsOf number e → ⊥) → qs ≡ [] → waiting_after number qs e ≡ []
       step (Added i t) qs other is = is
       step (Removed i) qs other is = is
@@ -401,6 +403,7 @@ module _ (Is : PutPlace → Put → Type 0) where
       step (Applied n k i v b) qs other is = filter-nil (λ (p : ℕ × ℕ). not (same_place p (n, k))) qs is
       step (Finished n k) qs other is = is
       step (Withdrawn n k) qs other is = filter-nil (λ (p : ℕ × ℕ). not (same_place p (n, k))) qs is
+
       nobody-from : (es : List Entry) (qs : List (ℕ × ℕ)) → ((e : Entry) → In es e → IsOf number e → ⊥) → qs ≡ [] → fold (waiting_after number) qs es ≡ []
       nobody-from [] qs none is = is
       nobody-from (x ∷ es) qs none is = nobody-from es (waiting_after number qs x) (λ e h. none e (suc h.0, h.1)) (step x qs (none x (0, refl)) is)

@@ -1,6 +1,6 @@
 -- A step of a server: what a message does to records and log.
-use Rattle.std.proofs.Common.{◌≡◌, ℕ, zero, suc, ◌+◌, ◌<◌, ◌≤◌, ◌⊎◌, inl, inr, Bool, true, false, cond, not, ◌&&◌, eqb, eq-eqb, eqb-true, List, [], ◌∷◌, ◌++◌, length, Ok, Option, Some, None, refl, sym, ap, subst, ◌∙◌, append-nil, arith}
-use Rattle.std.specs.Prelude.{is_some, map, option_map, slice_get, unwrap_or}
+use Rattle.std.proofs.Common.{◌≡◌, ℕ, ◌+◌, ◌<◌, ◌≤◌, inl, Bool, true, false, ◌&&◌, eqb, eq-eqb, eqb-true, List, [], ◌∷◌, ◌++◌, length, Option, Some, None, refl, sym, ap, subst, ◌∙◌, append-nil, arith}
+use Rattle.std.specs.Prelude.{is_some, option_map, slice_get, unwrap_or}
 use Rattle.ca_arena.specs.declared.handle.Handle.{Handle}
 use Rattle.ca_text.specs.declared.command.Command.TheVariants as command
 use Rattle.ca_text.specs.Place.{At}
@@ -8,18 +8,16 @@ use Rattle.ca_text.proofs.Places.{some_is, At-one}
 use Rattle.ca_dbr.specs.Conversion.{converted}
 use Rattle.ca_dbr.specs.Elements.{Elements, base_of}
 use Rattle.ca_dbr.proofs.Shows.{converted-based}
-use Rattle.ca_ids.specs.Table.{by_wire, held, same_handle}
+use Rattle.ca_ids.specs.Table.{held, same_handle}
 use Rattle.ca_ids.specs.Wire.{wire_of}
 use Rattle.ca_records.specs.declared.puts.Put.{Put}
-use Rattle.ca_records.specs.Puts.{Record, WaitingPut, record_named, with_record, with_value, with_waiting, withdrawn, written_meta}
-use Rattle.ca_records.specs.Record.{RecordState}
+use Rattle.ca_records.specs.Puts.{Record, WaitingPut, record_named, with_record, with_value, with_waiting, written_meta}
 use Rattle.ca_model.specs.Due.{Action, Applies, Due, KnownRecord}
 use Rattle.ca_model.specs.Due as action
 use Rattle.ca_model.specs.Server.{OpenChannel, Server, ServerEnd}
 use Rattle.ca_model.specs.ServerSteps.{IsPut, Records, knows, known_record, stored_now}
-use Rattle.ca_model.specs.Speech.{In, Is, Stored, sid_in}
-use Rattle.ca_model.specs.History.{Applied, Entry, Sent, Step, Waits}
-use Rattle.ca_model_safe.specs.Channels.{IsCleared}
+use Rattle.ca_model.specs.Speech.{Is, Stored, sid_in}
+use Rattle.ca_model.specs.History.{Applied, Entry, Sent, Waits}
 use Rattle.ca_model_world.specs.ServerEvents.{is_of_channel, logged_by, number_of, records_after}
 use Rattle.ca_model_world.specs.ServerEvents as event
 use Rattle.ca_model_world.specs.World.{Joined, PutPlace, RecordSide}
@@ -96,8 +94,7 @@ module _ (N : List Joined) (i life : ℕ) (log : List Entry) (rs : List RecordSi
   written : (name : List ℕ) (value : Elements) (to : WritesTo (knows old e) s.message name value) → (w : Written name value) × (known_record w.c ≡ to.known)
   written name value to =
       let k = known-one old.records name to.known to.named in
-      let f = found (IsPutOf N i) log old.records rs name k.0 a.each k.1 in
-      (
+      let f = found (IsPutOf N i) log old.records rs name k.0 a.each k.1 in (
         record {
           c = k.0;
           f = f;

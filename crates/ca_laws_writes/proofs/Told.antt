@@ -1,5 +1,5 @@
 -- What replies say of the log stays so as it grows, and what is due for a write says what is done.
-use Rattle.std.proofs.Common.{◌≡◌, ℕ, zero, suc, ◌+◌, ◌<◌, ◌≤◌, ◌⊎◌, inl, inr, Bool, true, false, cond, not, ◌==◌, ◌&&◌, ◌||◌, length, nat_lt, List, [], ◌∷◌, ◌++◌, Option, Some, None, refl, sym, ap, subst, ◌∙◌, arith}
+use Rattle.std.proofs.Common.{◌≡◌, ℕ, zero, suc, ◌<◌, inl, inr, Bool, true, false, cond, not, ◌==◌, ◌&&◌, ◌||◌, length, nat_lt, List, [], ◌∷◌, ◌++◌, Option, Some, None, refl, sym, ap, subst, ◌∙◌, arith}
 use Rattle.std.specs.Prelude.{find, option_map}
 use Rattle.ca_text.specs.declared.command.Command.TheVariants as command
 use Rattle.ca_text.specs.Limits.{waiting_puts}
@@ -19,7 +19,7 @@ use Rattle.ca_wire.specs.Messages.{status_reply}
 use Rattle.ca_model.specs.Due.{Action, Applies, Due, Knows, Nothing, PutDue, PutRefused, Serves, Waits, must_wait, rights_at}
 use Rattle.ca_model.specs.Faults.{base_type_of, early_put_fault}
 use Rattle.ca_text.specs.declared.status.Status.{Status}
-use Rattle.ca_model.specs.Speech.{In, Is, Stored}
+use Rattle.ca_model.specs.Speech.{In, Is}
 use Rattle.ca_wire.specs.Fields.{Fields}
 use Rattle.ca_model.specs.History.{Applied, Entry, Sent}
 use Rattle.ca_model_world.specs.World.{PutPlace}
@@ -118,6 +118,7 @@ due-done k m replies action r slow due is h means =
         and-false : (b : Bool) → b && false ≡ false
         and-false true = refl
         and-false false = refl
+
         go : (s b : Bool) → c.known.state.slow ≡ s → c.known.busy ≡ b → replies ≡ cond s [] (status_reply m normal ∷ []) → action ≡ cond (m.command == 19 && b) (Waits c.channel.name taken.0) (Applies c.channel.name taken.0 s) → (name : List ℕ) × (value : Elements) × (action ≡ Applies name value false)
         go true b is_slow is_busy none does = absurd (none-of r replies none h)
         go false true is_slow is_busy one does = absurd (let f : c.known.state.slow ≡ true = slow c.channel.name c.known c.named is_busy in let g : true ≡ false = sym f ∙ is_slow in cc)

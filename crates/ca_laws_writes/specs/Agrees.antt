@@ -1,7 +1,6 @@
 -- Working: a server's records beside the log of its life: what each record is, the log tells.
-use Rattle.std.specs.Prelude.{ℕ, ◌≡◌, ◌<◌, ◌≤◌, ◌⊎◌, ◌++◌, Bool, true, List, [], ◌∷◌, Option, Some, None, filter_map, length, map}
+use Rattle.std.specs.Prelude.{ℕ, ◌≡◌, ◌<◌, ◌≤◌, ◌⊎◌, Bool, true, List, [], ◌∷◌, Option, Some, None, filter_map, length, map}
 use Rattle.ca_text.specs.Place.{At}
-use Rattle.ca_dbr.specs.declared.value.Meta.{Meta}
 use Rattle.ca_dbr.specs.Elements.{Elements, base_of}
 use Rattle.ca_queue.specs.Order.{last_of}
 use Rattle.ca_records.specs.declared.puts.Put.{Put}

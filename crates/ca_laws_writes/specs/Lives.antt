@@ -1,5 +1,5 @@
 -- Working: a server's life in a world: where its writes came from, and what their replies say.
-use Rattle.std.specs.Prelude.{ℕ, ◌≡◌, ◌<◌, ◌≤◌, ◌⊎◌, false, true, List, Ok, Bool, Option, Some, is_some, length, take}
+use Rattle.std.specs.Prelude.{ℕ, ◌≡◌, ◌⊎◌, false, true, List, Ok, Bool, Option, Some, is_some, take}
 use Rattle.ca_text.specs.declared.command.Command.TheVariants as command
 use Rattle.ca_text.specs.declared.status.Status.{Status}
 use Rattle.ca_text.specs.Place.{At}
@@ -15,7 +15,7 @@ use Rattle.ca_wire.specs.Fields.{Fields}
 use Rattle.ca_model.specs.Due.{Action, Applies, KnownRecord, Knows, PutReads}
 use Rattle.ca_model.specs.Due as action
 use Rattle.ca_model.specs.Speech.{In, Is, Stored, sid_in}
-use Rattle.ca_model.specs.History.{Added, Applied, Circuit, Entry, Removed, Reply, Sent, Step, Told}
+use Rattle.ca_model.specs.History.{Added, Circuit, Entry, Removed, Reply, Sent, Step, Told}
 use Rattle.ca_model_safe.specs.Channels.{HasWaited, IsCleared, IsTaken}
 use Rattle.ca_model_world.specs.World.{Joined, PutPlace, RecordSide, World}
 use Rattle.ca_laws_writes.specs.Agrees.{Agree}

@@ -4,7 +4,7 @@ use Rattle.ca_text.specs.Place.{At}
 use Rattle.ca_dbr.specs.Elements.{Elements, base_of}
 use Rattle.ca_records.specs.Record.{RecordState}
 use Rattle.ca_model.specs.Speech.{In, Stored}
-use Rattle.ca_model.specs.History.{Entry, Added, Applied, Finished, Posted, Removed, Waits, Withdrawn}
+use Rattle.ca_model.specs.History.{Entry, Added, Applied, Finished, Removed, Waits, Withdrawn}
 use Rattle.ca_model_safe.specs.Channels.{IsBusyUntil}
 use Rattle.ca_model_world.specs.World.{PutPlace}
 

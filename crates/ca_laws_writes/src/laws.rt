@@ -15,15 +15,16 @@ ghost use Rattle.ca_records.specs.Record.{RecordState};
 ghost use Rattle.ca_wire.specs.Fields.{Fields};
 ghost use Rattle.ca_model.specs.Speech.{In, Is, Stored};
 ghost use Rattle.ca_model.specs.History.{Added, Applied, Entry, Finished, Posted, Sent, Waits, Withdrawn};
-ghost use Rattle.ca_model_safe.specs.Channels.{IsApplied, IsBusyUntil, IsDropped};
-ghost use Rattle.ca_model_world.specs.ServerEvents.{channel_withdrawals, ending, ends_at, ends_by, finish_entry, first_of, is_of_channel, logged_by, next_busy, next_entries, number_of, posted_entry, records_after, removal_entries, replied_at, server_after, with_core, withdrawals, without_channel, without_puts};
+ghost use Rattle.ca_model_safe.specs.Known.{IsNow};
+ghost use Rattle.ca_model_safe.specs.Channels.{Has, IsApplied, IsBusyUntil, IsDropped};
+ghost use Rattle.ca_model_world.specs.ServerEvents.{acted, channel_withdrawals, ending, ends_at, ends_by, ends_here, finish_entry, first_of, is_of_channel, logged_by, next_busy, next_entries, noted, number_of, posted_entry, records_after, removal_entries, replied_at, server_after, side_of, with_core, withdrawals, without_channel, without_puts};
 ghost use Rattle.ca_model_world.specs.ServerEvents as event;
 ghost use Rattle.ca_model_world.specs.World.{IsSetting, Joined, PutPlace, RecordSide, ServerSide, Setting, World, numbered, opening, record_begun, told};
 ghost use Rattle.ca_laws_writes.specs.Agrees.{LoseAll, TestsAgree};
 ghost use Rattle.ca_laws_writes.specs.Lives.{AreLater, AreOpen, AreSlow, CameOn, EndsAgree, IsOfMessage, IsPutOf, IsWriting, Life, LogsOnce, LostOn, SaysSo};
 ghost use Rattle.ca_model.specs.Server.{Server, ServerEnd};
-ghost use Rattle.ca_model.specs.ServerSteps.{Records, knows};
-ghost use Rattle.ca_laws_writes.specs.Taken.{Takes};
+ghost use Rattle.ca_model.specs.ServerSteps.{Records, known_record, knows};
+ghost use Rattle.ca_laws_writes.specs.Taken.{Handling, Takes};
 ghost use Rattle.ca_laws_writes.specs.Moves.{EndsOnly, Midway, Writes, addition_told, finish_told, post_told, removal_told, restarted};
 ghost use Rattle.ca_laws_writes.specs.Once.{IsUntold, MayTell, Once, write_in};
 
@@ -124,6 +125,11 @@ pub fn records_agree_with_their_log()
     ensures later { (old new : List Joined) (server life : ℕ) (y : List Entry)
         (cs : List Record) (rs : List RecordSide) (n : ℕ) → AreLater old new
         → Life old server life y cs rs n → Life new server life y cs rs n }
+    // What the server knows of a record is what the log tells of its number, which has its name.
+    ensures known { (circuits : List Joined) (server life : ℕ) (y : List Entry)
+        (cs : List Record) (rs : List RecordSide) (n i : ℕ) (c : Record) (r : RecordSide)
+        → At cs i c → At rs i r → Life circuits server life y cs rs n
+        → IsNow y r.number (known_record c) × Has y r.number r.name }
     // The number by which an event tells of a record is that of the one that has the name.
     ensures numbers { (circuits : List Joined) (server life : ℕ) (y : List Entry)
         (cs : List Record) (rs : List RecordSide) (n i : ℕ) (r : RecordSide) → At rs i r
@@ -213,9 +219,9 @@ pub fn writes_stay_as_a_world_goes_on()
         → Writes w → Writes (restarted w i y) }
 {}
 
-/// An event at a server keeps what holds of writes: first it is told, as a post, a finish, a
-/// removal, or nothing at all; then circuits of this server end, and the core withdraws just the
-/// puts that wait there.
+/// An event at a server keeps what holds of writes: a message is handled, with all that follows; or
+/// the event is told first, as a post, a finish, a removal, or nothing at all, and then circuits of
+/// this server end, and the core withdraws just the puts that wait there.
 pub fn events_at_a_server_keep_writes()
     ensures nothing { (w : World) (i : ℕ) (y : ServerSide) (at : At w.servers i y) (h : Writes w)
         → Midway w w i y y (h.lives i y at).log [] y.core.records }
@@ -241,11 +247,24 @@ pub fn events_at_a_server_keep_writes()
           records = filter (λ (r : RecordSide). not (bytes_eq r.name name)) y.records;
         }) (h.lives i y at).log (removal_entries name y.records)
         (removed name y.core.records) }
+    // A step of a server's end handles a message, and is noted.
+    ensures handled { (w : World) (k : ℕ) (j : Joined) (y : ServerSide) (e : ServerEnd) (s : Sent)
+        (replies : List Fields) (did : Action) (recorded core : Server) (lost : Put → Bool)
+        → Handling w k j y core lost s → Due (knows y.core e) s.message replies did
+        → Records y.core j.at_server e s.message did recorded
+        → core.records ≡ withdrawn lost recorded.records → Writes w
+        → Writes (noted k j y replies w
+        (server_after j.server (side_of j.server y (acted k j y did w)) (ends_by j.server core)
+        core (acted k j y did w))) }
+    // In any other event circuits end after it is told.
     ensures ends { (w mid : World) (i : ℕ) (y side : ServerSide) (log more : List Entry)
         (records : List Record) (ends : Joined → Option (List ℕ)) (lost : Put → Bool)
         (core : Server) → Midway w mid i y side log more records → Writes w
         → core.records ≡ withdrawn lost records → EndsAgree mid.circuits i ends lost
         → EndsOnly mid.circuits i ends → Writes (server_after i side ends core mid) }
+    // By the core's answer only circuits of this server end, also in a step that closes its own.
     ensures only { (circuits : List Joined) (i : ℕ) (core : Server)
         → EndsOnly circuits i (ends_by i core) }
+    ensures closed { (circuits : List Joined) (j : Joined) (left : List ℕ) (i : ℕ) (core : Server)
+        → EndsOnly circuits i (ends_here j left i core) }
 {}

@@ -1,4 +1,7 @@
 use Rattle.ca_laws_writes.specs.Lives.{CameOn, IsPutOf, LostOn}
+use Rattle.ca_laws_writes.specs.Agrees.{Agrees}
+use Rattle.ca_laws_writes.proofs.Lists.{both-at}
+use Rattle.ca_laws_writes.proofs.Now.{has-name, is-now}
 use Rattle.ca_laws_writes.proofs.Coming.{agree-added, agree-begun, agree-removed}
 use Rattle.ca_laws_writes.proofs.Finishes.{agree-finished}
 use Rattle.ca_laws_writes.proofs.Going.{life-later}
@@ -18,6 +21,7 @@ returns c = record {
   posted = λ cs server l y ds rs n i d r mask v in_ds in_rs same a. agree-posted (CameOn cs l) (LostOn cs) (IsPutOf cs server) y ds rs n i d r mask v in_ds in_rs same a;
   removed = λ cs server l y ds rs n i r in_rs a. agree-removed (CameOn cs l) (LostOn cs) (IsPutOf cs server) y ds rs n i r in_rs a;
   added = λ cs server l y ds rs n s behind none a. agree-added (CameOn cs l) (LostOn cs) (IsPutOf cs server) y ds rs n s behind none a;
+  known = λ cs server l y ds rs n i d r in_ds in_rs a. (let g = both-at (Agrees (IsPutOf cs server) y) ds rs i d r a.each in_ds in_rs in (is-now (IsPutOf cs server) y d r g, has-name (IsPutOf cs server) y d r g));
   later = life-later;
   numbers = λ cs server l y ds rs n i r at a. number-of rs i r a.others at;
 }
