@@ -25,14 +25,14 @@ goes-record : (a b m : FileReading) (words : List (List ℕ)) → SameNames a b 
 goes-record a b m words same h =
     let r : RecordState = h.says.r in
     let to : FileReading = record { records = b.records ++ r ∷ []; rules = b.rules } in
-    let says : SaysRecord h.behind b.records (b.records ++ r ∷ []) = says-too a.records b.records h.records h.behind same h.says in
-    let takes : TakesRecord b words to = record { behind = h.behind; records = b.records ++ r ∷ []; are = h.are; says = says; after = refl } in
-    (to, inl takes, ap names_read h.after ∙ names-more a.records h.records h.behind h.says ∙ ap (λ (ns : List (List ℕ)). ns ++ r.name ∷ []) same ∙ sym (map-append name_of b.records (r ∷ [])))
+    let says : SaysRecord h.rest b.records (b.records ++ r ∷ []) = says-too a.records b.records h.records h.rest same h.says in
+    let takes : TakesRecord b words to = record { rest = h.rest; records = b.records ++ r ∷ []; are = h.are; says = says; after = refl } in
+    (to, inl takes, ap names_read h.after ∙ names-more a.records h.records h.rest h.says ∙ ap (λ (ns : List (List ℕ)). ns ++ r.name ∷ []) same ∙ sym (map-append name_of b.records (r ∷ [])))
 
 goes-rule : (a b m : FileReading) (words : List (List ℕ)) → SameNames a b → TakesRule a words m → (to : FileReading) × TakesLine b words to × SameNames m to
 goes-rule a b m words same h =
     let to : FileReading = record { records = b.records; rules = b.rules ++ h.rule ∷ [] } in
-    let takes : TakesRule b words to = record { behind = h.behind; rule = h.rule; are = h.are; says = h.says; after = refl } in
+    let takes : TakesRule b words to = record { rest = h.rest; rule = h.rule; are = h.are; says = h.says; after = refl } in
     (to, inr takes, ap names_read h.after ∙ same)
 
 pub goes-line : (a b m : FileReading) (words : List (List ℕ)) → SameNames a b → TakesLine a words m → (to : FileReading) × TakesLine b words to × SameNames m to
@@ -43,32 +43,32 @@ goes-line a b m words same (inr h) = goes-rule a b m words same h
 
 pub of-record-line : (a m : FileReading) (rest words : List (List ℕ)) → words ≡ codes "record" ∷ rest → TakesLine a words m → TakesRecord a words m
 of-record-line a m rest words e (inl h) = h
-of-record-line a m rest words e (inr h) = absurd (apart (codes "record") (codes "rule") rest h.behind words (λ x. omega (arith, x)) e h.are)
+of-record-line a m rest words e (inr h) = absurd (apart (codes "record") (codes "rule") rest h.rest words (λ x. omega (arith, x)) e h.are)
 
 pub of-rule-line : (a m : FileReading) (rest words : List (List ℕ)) → words ≡ codes "rule" ∷ rest → TakesLine a words m → TakesRule a words m
-of-rule-line a m rest words e (inl h) = absurd (apart (codes "rule") (codes "record") rest h.behind words (λ x. omega (arith, x)) e h.are)
+of-rule-line a m rest words e (inl h) = absurd (apart (codes "rule") (codes "record") rest h.rest words (λ x. omega (arith, x)) e h.are)
 of-rule-line a m rest words e (inr h) = h
 
 -- ---- what a line leads to has the same names
 
 same-record : (a m n : FileReading) (words : List (List ℕ)) → TakesRecord a words m → TakesRecord a words n → SameNames m n
 same-record a m n words h k =
-    let behind : h.behind ≡ k.behind = behind-same (codes "record") (codes "record") h.behind k.behind words h.are k.are in
+    let behind : h.rest ≡ k.rest = behind-same (codes "record") (codes "record") h.rest k.rest words h.are k.are in
     let name : h.says.r.name ≡ k.says.r.name = ap (λ (ws : List (List ℕ)). get_or ws 0 []) (sym h.says.are ∙ behind ∙ k.says.are) in
-    ap names_read h.after ∙ names-more a.records h.records h.behind h.says ∙ ap (λ (n : List ℕ). names_read a ++ n ∷ []) name ∙ sym (names-more a.records k.records k.behind k.says) ∙ sym (ap names_read k.after)
+    ap names_read h.after ∙ names-more a.records h.records h.rest h.says ∙ ap (λ (n : List ℕ). names_read a ++ n ∷ []) name ∙ sym (names-more a.records k.records k.rest k.says) ∙ sym (ap names_read k.after)
 
 same-rule : (a m n : FileReading) (words : List (List ℕ)) → TakesRule a words m → TakesRule a words n → SameNames m n
 same-rule a m n words h k = ap names_read h.after ∙ sym (ap names_read k.after)
 
 pub same-names : (a m n : FileReading) (words : List (List ℕ)) → TakesLine a words m → TakesLine a words n → SameNames m n
-same-names a m n words (inl h) k = same-record a m n words h (of-record-line a n h.behind words h.are k)
-same-names a m n words (inr h) k = same-rule a m n words h (of-rule-line a n h.behind words h.are k)
+same-names a m n words (inl h) k = same-record a m n words h (of-record-line a n h.rest words h.are k)
+same-names a m n words (inr h) k = same-rule a m n words h (of-rule-line a n h.rest words h.are k)
 
 -- ---- what is read, and what is refused
 
 no-file-line : (old : FileReading) (words : List (List ℕ)) (new : FileReading) → NoWord words → TakesLine old words new → ⊥
-no-file-line old words new nay (inl h) = nay (codes "record") h.behind h.are (omega arith)
-no-file-line old words new nay (inr h) = nay (codes "rule") h.behind h.are (omega arith)
+no-file-line old words new nay (inl h) = nay (codes "record") h.rest h.are (omega arith)
+no-file-line old words new nay (inr h) = nay (codes "rule") h.rest h.are (omega arith)
 
 -- a line whose first word is none, or is empty
 pub file-line-refused : (old : FileReading) (words : List (List ℕ)) (e : Refusal) → (e ≡ BadText) × NoWord words → Refuses (TakesLine old words) e
@@ -81,7 +81,7 @@ record-taken r old new words rest first split is after says =
     ok-then r
     (λ (x : SaysRecord rest old.records new.records).
     let takes : TakesRecord old words new = record {
-      behind = rest;
+      rest = rest;
       records = new.records;
       are = split ∙ ap (λ (w : List ℕ). w ∷ rest) is;
       says = x;
@@ -97,7 +97,7 @@ record-refused r old words rest first split is nay =
     (λ e no. refuses-whole (SaysRecord rest old.records) (TakesLine old words) e
     (λ (new : FileReading) (h : TakesLine old words new).
     let k = of-record-line old new rest words are h in
-    let same : k.behind ≡ rest = behind-same (codes "record") (codes "record") k.behind rest words k.are are in
+    let same : k.rest ≡ rest = behind-same (codes "record") (codes "record") k.rest rest words k.are are in
     (k.records, subst (λ (ws : List (List ℕ)). SaysRecord ws old.records k.records) same k.says))
     no)
     nay
@@ -109,6 +109,6 @@ rule-refused old words rest first e split is nay =
     refuses-whole (SaysRule rest) (TakesLine old words) e
     (λ (new : FileReading) (h : TakesLine old words new).
     let k = of-rule-line old new rest words are h in
-    let same : k.behind ≡ rest = behind-same (codes "rule") (codes "rule") k.behind rest words k.are are in
+    let same : k.rest ≡ rest = behind-same (codes "rule") (codes "rule") k.rest rest words k.are are in
     (k.rule, subst (λ (ws : List (List ℕ)). SaysRule ws k.rule) same k.says))
     nay

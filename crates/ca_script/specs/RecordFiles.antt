@@ -20,18 +20,18 @@ no_lines = record { records = []; rules = [] }
 
 -- a record of a new name, after the others
 pub record TakesRecord (old : FileReading) (words : List (List ℕ)) (new : FileReading) : Type 0 where
-  pub behind : List (List ℕ)
+  pub rest : List (List ℕ)
   pub records : List RecordState
-  pub are : words ≡ codes "record" ∷ behind
-  pub says : SaysRecord behind old.records records
+  pub are : words ≡ codes "record" ∷ rest
+  pub says : SaysRecord rest old.records records
   pub after : new ≡ record old { records = records }
 
 -- a rule, after the others
 pub record TakesRule (old : FileReading) (words : List (List ℕ)) (new : FileReading) : Type 0 where
-  pub behind : List (List ℕ)
+  pub rest : List (List ℕ)
   pub rule : Rule
-  pub are : words ≡ codes "rule" ∷ behind
-  pub says : SaysRule behind rule
+  pub are : words ≡ codes "rule" ∷ rest
+  pub says : SaysRule rest rule
   pub after : new ≡ record old { rules = old.rules ++ rule ∷ [] }
 
 -- from old, a line of these words leads to new
