@@ -47,7 +47,7 @@ and-same false b c h = refl
 
 -- ---- handles and wire ids
 
-same-is : (g h : Handle) → same_handle g h ≡ true → g ≡ h
+pub same-is : (g h : Handle) → same_handle g h ≡ true → g ≡ h
 same-is g h e = go (g.index == h.index) (g.generation == h.generation) refl refl e
   where
     go : (a b : Bool) → (g.index == h.index) ≡ a → (g.generation == h.generation) ≡ b → (a && b) ≡ true → g ≡ h
@@ -55,7 +55,7 @@ same-is g h e = go (g.index == h.index) (g.generation == h.generation) refl refl
     go true false ea eb both = absurd cc
     go false b ea eb both = absurd cc
 
-is-same : (g h : Handle) → g ≡ h → same_handle g h ≡ true
+pub is-same : (g h : Handle) → g ≡ h → same_handle g h ≡ true
 is-same g h e = subst (λ (x : Handle). same_handle g x ≡ true) e (both (eq-eqb g.index g.index refl) (eq-eqb g.generation g.generation refl))
   where
     both : (g.index == g.index) ≡ true → (g.generation == g.generation) ≡ true → same_handle g g ≡ true

@@ -12,3 +12,5 @@ pub mod Cleared
 pub mod Subscribes
 pub mod Givens
 pub mod Steps
+pub mod Sounds
+pub mod Moves

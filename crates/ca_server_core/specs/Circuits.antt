@@ -1,5 +1,7 @@
 -- Working: a circuit as the statement has it, and what the calls of one answer and leave.
-use Rattle.std.specs.Prelude.{ℕ, ◌≡◌, ◌≢◌, List, [], Ok, Err, Result}
+use Rattle.std.specs.Prelude.{ℕ, ◌≡◌, ◌≢◌, ◌⊎◌, List, [], Some, None, Ok, Err, Result}
+use Rattle.ca_arena.specs.declared.handle.Handle.{Handle}
+use Rattle.ca_ids.specs.Table.{Table, under, with_changed}
 use Rattle.ca_link.specs.Calls.{IsOpen}
 use Rattle.ca_link.specs.Link.{with_given, with_handed}
 use Rattle.ca_text.specs.declared.refusal.Refusal.{Refusal}
@@ -30,3 +32,21 @@ GivesAt now bytes (server.Ended w left) result new = (result ≡ Err refusal.Cir
 abbrev pub SendsAt : ℕ → ServerCircuit → ServerCircuit → Type 0
 SendsAt n (server.Open e) new = new ≡ server.Open (record e { link = with_handed n e.link })
 SendsAt n (server.Ended w left) new = new ≡ server.Ended w left
+
+-- ---- of a table
+
+-- no bad header was met at any end that is open
+abbrev pub AreLive : Table ServerCircuit → Type 0
+AreLive t = (h : Handle) (c : ServerCircuit) → under t h ≡ Some c → IsLive c
+
+-- these bytes came on the circuit of a handle
+abbrev pub GivesIn : Table ServerCircuit → Handle → (now : ℕ) → List ℕ → Result (Unit {0}) Refusal → Table ServerCircuit → Type 0
+GivesIn t h now bytes result after =
+    ((c : ServerCircuit) × (new : ServerCircuit) × (under t h ≡ Some c) × GivesAt now bytes c result new × (after ≡ with_changed (λ (x : ServerCircuit). new) h t))
+    ⊎ ((under t h ≡ None) × (result ≡ Err refusal.CircuitClosed) × (after ≡ t))
+
+-- the first n bytes that waited on the circuit of a handle were handed over
+abbrev pub SendsIn : Table ServerCircuit → Handle → ℕ → Table ServerCircuit → Type 0
+SendsIn t h n after =
+    ((c : ServerCircuit) × (new : ServerCircuit) × (under t h ≡ Some c) × SendsAt n c new × (after ≡ with_changed (λ (x : ServerCircuit). new) h t))
+    ⊎ ((under t h ≡ None) × (after ≡ t))

@@ -1,15 +1,17 @@
-ghost use Rattle.std.specs.Prelude.{◌≡◌, ◌≤◌, length};
+ghost use Rattle.std.specs.Prelude.{◌≡◌, ◌≤◌, IfOk, length};
+ghost use Rattle.ca_model.specs.Server.{new_server};
 ghost use Rattle.ca_ids.specs.Table.{under};
 ghost use Rattle.ca_model.specs.ServerCalls.{stamped, waiting};
 ghost use Rattle.ca_model.specs.ServerSteps.{Accepts, Gives, Sends, output_of};
+ghost use Rattle.ca_server_core.specs.Circuits.{AreLive, GivesIn, SendsIn};
 
 use crate::circuit::Circuit;
 use ca_arena::Handle;
 use ca_beacon::BeaconClock;
 use ca_ids::HeldTable;
-use ca_records::ServedRecords;
+use ca_records::{Records, Rule, ServedRecords};
 use ca_text::Refusal;
-use std::alloc::Global;
+use std::alloc::{AllocError, Global};
 use std::marker::Model;
 
 /// A server: its records, and its ends of circuits. It does no input and no output: bytes that came are given to it, and
@@ -51,6 +53,29 @@ impl Model for ServerCore {
 }
 
 impl ServerCore {
+    /// A server of this TCP port that begins at this moment with these records, under these rules. It has no circuit.
+    pub fn new(
+        port: u16,
+        now: u64,
+        records: &Records,
+        rules: Vec<Rule>,
+    ) -> Result<ServerCore, AllocError>
+        ensures { IfOk result (λ core.
+            core ≡ new_server port now rules.items records.now) }
+    {
+        let alloc = *rules.allocator();
+        let records = ServedRecords::of(records, rules)?;
+        Ok(ServerCore {
+            alloc,
+            port,
+            records,
+            moment: now,
+            circuits: HeldTable::new(alloc),
+            beacons: BeaconClock::new(now),
+            applied: 0,
+        })
+    }
+
     /// A circuit is accepted, and gets a handle. Refused by 9 if none may be given, then by 1. A refusal changes nothing.
     pub fn accept(&mut self) -> Result<Handle, Refusal>
         ensures { Accepts self.old result self.new }
@@ -65,11 +90,7 @@ impl ServerCore {
     pub fn give(&mut self, circuit: Handle, bytes: &[u8]) -> Result<(), Refusal>
         ensures { Gives self.old circuit bytes.now result self.new }
     {
-        let now = self.moment;
-        match self.circuits.by_handle_mut(circuit) {
-            Some(found) => found.give(now, bytes),
-            None => Err(Refusal::CircuitClosed),
-        }
+        give_on(&mut self.circuits, circuit, self.moment, bytes)
     }
 
     /// The bytes that wait to be sent on a circuit: none if its end is not open.
@@ -87,9 +108,7 @@ impl ServerCore {
         requires { n ≤ length (output_of (under self.old.circuits circuit)) }
         ensures { Sends self.old circuit n self.new }
     {
-        if let Some(found) = self.circuits.by_handle_mut(circuit) {
-            found.sent(n);
-        }
+        sent_on(&mut self.circuits, circuit, n);
     }
 
     /// Writes that are applied from now on have this time stamp: seconds since 1990-01-01 00:00:00 UTC, and nanoseconds.
@@ -112,4 +131,31 @@ impl ServerCore {
     {
         self.records.waiting() as u64
     }
+}
+
+// Takes bytes that came on a circuit at this moment.
+fn give_on(
+    circuits: &mut HeldTable<Circuit>,
+    circuit: Handle,
+    now: u64,
+    bytes: &[u8],
+) -> Result<(), Refusal>
+    requires { AreLive circuits.old }
+    ensures { GivesIn circuits.old circuit now bytes.now result circuits.new }
+{
+    let Some(found) = circuits.by_handle_mut(circuit) else {
+        return Err(Refusal::CircuitClosed);
+    };
+    found.give(now, bytes)
+}
+
+// The first n of the bytes that wait on a circuit were handed over.
+fn sent_on(circuits: &mut HeldTable<Circuit>, circuit: Handle, n: usize)
+    requires { n ≤ length (output_of (under circuits.old circuit)) }
+    ensures { SendsIn circuits.old circuit n circuits.new }
+{
+    let Some(found) = circuits.by_handle_mut(circuit) else {
+        return;
+    };
+    found.sent(n);
 }

@@ -1,0 +1,14 @@
+use Rattle.ca_records.specs.Store.{records_of}
+use Rattle.ca_server_core.proofs.Moves.{gives-at}
+use Rattle.ca_server_core.proofs.Sounds.{sound-given, sound-live}
+use Rattle.ca_server_core.proofs.core.ServerCore.give.Goals as goal
+
+pub give_on-requires : goal.give_on-requires
+give_on-requires c = sound-live (records_of c.self.inside.records) c.self.inside.circuits c.self.invariant
+
+pub invariant_of-self : goal.invariant_of-self
+invariant_of-self c =
+    sound-given (records_of c.self.inside.records) c.self.inside.circuits c.give_on.new.circuits c.args.circuit c.self.inside.moment c.args.bytes.now c.give_on.result c.self.invariant c.give_on.ensures
+
+pub returns : goal.returns
+returns c = gives-at _ c.args.self.now c.args.circuit c.args.bytes.now c.give_on.result c.give_on.new.circuits c.self.view_is c.give_on.ensures
