@@ -54,7 +54,8 @@ fn wanted_in(
     circuits: &HeldTable<Circuit>,
     order: &[Handle],
 ) -> Result<Vec<WantedCircuit>, AllocError>
-    ensures ok { IfOk result (λ found. found.items ≡ filter_map (wanted_at circuits.now) order.now) }
+    ensures ok { IfOk result (λ found.
+        found.items ≡ filter_map (wanted_at circuits.now) order.now) }
     ensures some { OnErr result (filter_map (wanted_at circuits.now) order.now ≢ []) }
 {
     let mut found = Vec::new(alloc);

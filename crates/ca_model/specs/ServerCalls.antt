@@ -24,7 +24,8 @@ use Rattle.ca_text.specs.Limits.{datagram_replies}
 use Rattle.ca_text.specs.Place.{At}
 use Rattle.ca_text.specs.Status.{normal}
 use Rattle.ca_wire.specs.Fields.{Fields}
-use Rattle.ca_wire.specs.Message.{spelled, spelling}
+use Rattle.ca_wire.specs.Header.{short_header}
+use Rattle.ca_wire.specs.Message.{header_of, spelled}
 use Rattle.ca_wire.specs.Messages.{disconnect, search_reply, text_in, version_reply}
 use Rattle.ca_model.specs.Ends as why
 use Rattle.ca_model.specs.Server.{Ended, Open, OpenChannel, Server, ServerCircuit, ServerEnd, without_subscriptions}
@@ -164,12 +165,12 @@ AnswersDatagram y bytes (Ok datagrams) = (ms : List Fields) × IsDatagram bytes 
 AnswersDatagram y bytes (Err refusal.OutOfMemory) = (ms : List Fields) × IsDatagram bytes ms × (ms ≢ [])
 AnswersDatagram y bytes (Err e) = ⊥
 
--- `beacon`: the beacon that is due at this moment, once; else nothing. A moment does not go back.
+-- `beacon`: the beacon that is due at this moment, once, in 16 bytes whatever the port; else nothing. A moment does not go back.
 abbrev pub Beacons : Server → (now : ℕ) → Option (List ℕ) → Server → Type 0
 Beacons old now None new = let at : ℕ = max old.moment now in (at < old.beacons.due) × (new ≡ record old { moment = at })
 Beacons old now (Some bytes) new =
     let at : ℕ = max old.moment now in
-    (old.beacons.due ≤ at) × (bytes ≡ spelling (beacon_message old.beacons.number old.port))
+    (old.beacons.due ≤ at) × (bytes ≡ short_header (header_of (beacon_message old.beacons.number old.port)))
     × (new ≡ record old { moment = at; beacons = beacon.sent_at old.beacons at })
 
 -- ---- stamps and counts

@@ -54,7 +54,8 @@ impl End {
     pub(crate) fn cancel(&mut self, message: &Message) -> Result<(), AllocError>
         requires { IsOpen self.old.link }
         ensures { OnOk result (self.new
-            ≡ replied (cancel_reply message.now ∷ []) (without_subscriptions (same (key_in message.now)) self.old)) }
+            ≡ replied (cancel_reply message.now ∷ [])
+            (without_subscriptions (same (key_in message.now)) self.old)) }
     {
         send(&mut self.link, &cancel_reply(self.alloc, message))?;
         Ok(())

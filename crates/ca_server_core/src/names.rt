@@ -9,7 +9,10 @@ impl End {
     /// CLIENT_NAME: it counts until a channel was created.
     pub(crate) fn client_name(&mut self, message: &Message) -> Result<(), AllocError>
         ensures ok { OnOk result (self.new
-            ≡ (if self.old.settled then self.old else record self.old { peer = record self.old.peer { user = text_in message.now.payload } })) }
+            ≡ (if self.old.settled then self.old
+            else record self.old {
+              peer = record self.old.peer { user = text_in message.now.payload };
+            })) }
         ensures err { OnErr result (text_in message.now.payload ≡ [] → ⊥) }
     {
         if self.settled {
@@ -22,7 +25,10 @@ impl End {
     /// HOST_NAME: it counts until a channel was created.
     pub(crate) fn host_name(&mut self, message: &Message) -> Result<(), AllocError>
         ensures ok { OnOk result (self.new
-            ≡ (if self.old.settled then self.old else record self.old { peer = record self.old.peer { host = text_in message.now.payload } })) }
+            ≡ (if self.old.settled then self.old
+            else record self.old {
+              peer = record self.old.peer { host = text_in message.now.payload };
+            })) }
         ensures err { OnErr result (text_in message.now.payload ≡ [] → ⊥) }
     {
         if self.settled {

@@ -12,7 +12,8 @@ impl End {
     pub(crate) fn version(&mut self) -> Result<(), AllocError>
         requires { IsOpen self.old.link }
         ensures ok { OnOk result (self.new
-            ≡ replied (if self.old.greeted then [] else version_reply ∷ []) (record self.old { greeted = true })) }
+            ≡ replied (if self.old.greeted then [] else version_reply ∷ [])
+            (record self.old { greeted = true })) }
         ensures err { OnErr result (self.old.greeted ≡ false) }
     {
         if self.greeted {

@@ -101,7 +101,13 @@ impl End {
 
 /// The put with notification that a message on a channel is.
 fn put_of(circuit: Handle, seat: Seat, message: &Message) -> Put
-    ensures { result ≡ record { circuit = circuit; channel = seat.channel; data_type = message.now.data_type; count = message.now.count; ioid = message.now.p2 } }
+    ensures { result ≡ record {
+      circuit = circuit;
+      channel = seat.channel;
+      data_type = message.now.data_type;
+      count = message.now.count;
+      ioid = message.now.p2;
+    } }
 {
     Put {
         circuit,
