@@ -1,7 +1,7 @@
 use Rattle.ca_records.specs.Store.{records_of}
 use Rattle.ca_server_core.proofs.Moves.{sends-at}
 use Rattle.ca_server_core.proofs.Sounds.{sound-sent}
-use Rattle.ca_server_core.proofs.core.ServerCore.sent.Goals as goal
+use Rattle.ca_server_core.proofs.server.ServerCore.sent.Goals as goal
 
 pub invariant_of-self : goal.invariant_of-self
 invariant_of-self c =

@@ -1,7 +1,7 @@
 use Rattle.ca_records.specs.Store.{records_of}
 use Rattle.ca_server_core.proofs.Moves.{gives-at}
 use Rattle.ca_server_core.proofs.Sounds.{sound-given, sound-live}
-use Rattle.ca_server_core.proofs.core.ServerCore.give.Goals as goal
+use Rattle.ca_server_core.proofs.server.ServerCore.give.Goals as goal
 
 pub give_on-requires : goal.give_on-requires
 give_on-requires c = sound-live (records_of c.self.inside.records) c.self.inside.circuits c.self.invariant

@@ -1,6 +1,6 @@
 use Rattle.ca_records.specs.Store.{records_of}
 use Rattle.ca_server_core.proofs.Sounds.{sound-opened}
-use Rattle.ca_server_core.proofs.core.ServerCore.accept.Goals as goal
+use Rattle.ca_server_core.proofs.server.ServerCore.accept.Goals as goal
 
 pub invariant_of-self : goal.invariant_of-self
 invariant_of-self c =
