@@ -35,7 +35,7 @@ module _ {D : Type 0} (went refuses : D → Address → List ℕ → D → Type 
       pub receives : Receives members from bytes (Ok sends) enrolled
       pub sent : Sends got enrolled sends.items t after
 
-    -- so many rounds, the first with no members
+    -- n rounds, the first with no members
     abbrev pub Rounds : ℕ → D → D → List Address → Type 0
     Rounds zero s0 s members = (s ≡ s0) × (members ≡ [])
     Rounds (suc n) s0 s members = (mid : D) × (known : List Address) × Rounds n s0 mid known × Round mid known s members
@@ -64,12 +64,12 @@ module _ {D : Type 0} (went refuses : D → Address → List ℕ → D → Type 
           (s ≡ s0) ⊎ ((i : ℕ) × (mid : D) × (members after : List Address) × (i < n) × Rounds i s0 mid members × Lacks mid members s after)
       Repeats n s0 (Err _) s = ⊥
 
-      -- so many datagrams at most; without a number so many that they never come
+      -- n datagrams at most; without a number more than ever come
       abbrev pub limit_of : Option ℕ → ℕ
       limit_of None = 2 ^ 64 - 1
       limit_of (Some n) = n
 
-      -- A run for so many datagrams at most ended with some outcome, which has this exit status.
+      -- A run for n datagrams at most ended with some outcome, which has this exit status.
       pub record RepeatsTo (limit : Option ℕ) (s0 s : D) (status : ℕ) : Type 0 where
         pub outcome : Result (Unit {0}) Refusal
         pub repeats : Repeats (limit_of limit) s0 outcome s

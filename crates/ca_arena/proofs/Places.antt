@@ -24,7 +24,7 @@ none_from_test (Some x) test = absurd (cc)
 abbrev pub one_if : {T : Type 0} → Place T → ℕ
 one_if place = cond (is_some place.value) 1 0
 
--- of what is listed, all but the first is listed behind it
+-- of what is listed, all but the first is listed after it
 pub listed_behind : (k index : ℕ) (rest : List ℕ) → k ≢ index → IsListed k (index ∷ rest) → IsListed k rest
 listed_behind k index rest other (inl same) = absurd (other (sym same))
 listed_behind k index rest other (inr listed) = listed
@@ -130,7 +130,7 @@ module _ {T : Type 0} where
         | inr other ↦ listed k (IsFree-unset given index k place other free) other
       ]
 
-  -- a value behind the others leaves those that are free as they are
+  -- a value after the others leaves those that are free as they are
   pub listed-push : (given : List (Place T)) (place : Place T) (value : T) (freed : List ℕ) → place.value ≡ Some value → ((k : ℕ) → IsFree given k → IsListed k freed) → (k : ℕ) → IsFree (given ++ place ∷ []) k → IsListed k freed
   listed-push given place value freed filled listed k free =
       elim (cases_lt k (length given)) [

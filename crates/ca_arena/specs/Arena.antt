@@ -13,7 +13,7 @@ pub record Place (T : Type 0) : Type 0 where
   pub value : Option T
 
 -- the places of the indices given so far, from index 0 on, and those of these indices that are free again, the one
--- freed last first; behind them come the indices that were never given, in order
+-- freed last first; after them come the indices that were never given, in order
 pub record Contents (T : Type 0) : Type 0 where
   pub given : List (Place T)
   pub freed : List ℕ
@@ -42,7 +42,7 @@ abbrev pub next_from : List ℕ → ℕ → ℕ
 next_from [] unused = unused
 next_from (index ∷ _) _ = index
 
--- where a walk over the handles goes on: at index 0, or behind this handle
+-- where a walk over the handles goes on: at index 0, or after this handle
 abbrev pub walk_start : Option Handle → ℕ
 walk_start None = 0
 walk_start (Some handle) = handle.index + 1

@@ -11,12 +11,12 @@ use Rattle.ca_arena.specs.Arena.{Contents, written}
 abbrev pub filled : {T : Type 0} → Slot T → T → Slot T
 filled s value = record { generation = s.generation; value = Some value }
 
--- the slot ends with the last value behind the result
+-- the slot ends with the last value that the result refers to
 abbrev pub lends_filled : (T : RattleType) → MutBor (Slot T.Denot) → MutBor T.Denot → Fml
 lends_filled T s r = Lends (slot.the_row T) T s r (filled s.now)
 
 module _ (T : RattleType) (a : MutBor (Contents T.Denot)) (handle : Handle) where
-  -- the handle ends with the last value behind the result
+  -- the handle ends with the last value that the result refers to
   abbrev pub lends_live : MutBor T.Denot → Fml
   lends_live r = Lends (arena.the_row T) T a r (written a.now handle)
 

@@ -50,7 +50,7 @@ impl<T> Model for Arena<T> {
 impl<T> Arena<T> {
     ghost use Rattle.ca_arena.specs.Lending.{lends_live, lends_found};
 
-    /// An arena with no value. It takes no memory yet.
+    /// An arena with no value. It does not allocate yet.
     pub fn new(alloc: Global) -> Self
         ensures { result ≡ empty }
     {

@@ -24,7 +24,7 @@ anomaly (Some last) number = not (nat_eq number ((last + 1) % 2 ^ 32))
 abbrev pub noted : Servers → ℕ → ℕ → Servers
 noted old s number = if is_some (map.get old s) || nat_lt (map.len old) beacon_servers then map.insert old s number else old
 
--- Hearing this number of this server, with this answer, leaves new. Only a server that is kept anew takes memory.
+-- Hearing this number of this server, with this answer, leaves new. Only a server that is kept again takes memory.
 abbrev pub Hears : Servers → ℕ → ℕ → Result Bool Refusal → Servers → Type 0
 Hears old s number (Ok told) new = (told ≡ anomaly (map.get old s) number) × (new ≡ noted old s number)
 Hears old s number (Err OutOfMemory) new = (map.get old s ≡ None) × (map.len old < beacon_servers) × (new ≡ old)

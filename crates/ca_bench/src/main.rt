@@ -65,7 +65,7 @@ fn measured(alloc: Global, what: &str, size: u32, rounds: u32) -> Result<(), Ref
     }
 }
 
-/// Rounds of look-up, retirement, draining and opening in a table of so many open ids.
+/// Rounds of look-up, retirement, draining and opening in a table of n open ids.
 fn ids(alloc: Global, live: u32, rounds: u32) -> Result<(), Refusal> {
     let mut table = IdTable::new(alloc);
     let mut last = None;
@@ -132,7 +132,7 @@ fn copies(alloc: Global, size: usize, rounds: u32) -> Result<(), Refusal> {
     Ok(())
 }
 
-/// Rounds of one message of 65,536 bytes, which goes from link to link in parts of so many bytes.
+/// Rounds of one message of 65,536 bytes, which goes from link to link in parts of n bytes.
 fn parts(alloc: Global, part: usize, rounds: u32) -> Result<(), Refusal> {
     let message = large_message(alloc)?;
     let mut from = Link::new(alloc, 0);
@@ -146,7 +146,7 @@ fn parts(alloc: Global, part: usize, rounds: u32) -> Result<(), Refusal> {
     Ok(())
 }
 
-/// Gives the bytes to the link in parts of so many, and takes each message as soon as it is complete.
+/// Gives the bytes to the link in parts of n, and takes each message as soon as it is complete.
 fn give_parts(to: &mut Link, bytes: &[u8], part: usize) -> Result<(), Refusal> {
     for piece in bytes.chunks(part.max(1)) {
         to.give(0, piece)?;

@@ -17,7 +17,7 @@ use Rattle.ca_board.proofs.Rule.{Takers, seats_stay, wait_by, still}
 use Rattle.ca_board.proofs.Collecting.{pick, pick_yes, pick_no, caller_sat, off}
 use Rattle.ca_board.proofs.Meeting.{given_joined, nobody_ok}
 
--- places of two lists, one behind the other
+-- places of two lists, one after the other
 at_behind : {A : Type 0} (xs ys : List A) (i : ℕ) (x : A) → get_elem? ys i ≡ some x → get_elem? (xs ++ ys) (length xs + i) ≡ some x
 at_behind [] ys i x at = ap (λ (k : ℕ). get_elem? ys k) {x = 0 + i} {y = i} (omega arith) ∙ at
 at_behind (y ∷ xs) ys i x at = ap (λ (k : ℕ). get_elem? (y ∷ (xs ++ ys)) k) {x = suc (length xs) + i} {y = suc (length xs + i)} (omega arith) ∙ at_behind xs ys i x at
@@ -31,7 +31,7 @@ at_either [] ys i x at = inr (i, omega arith, at)
 at_either (y ∷ xs) ys zero x at = inl at
 at_either (y ∷ xs) ys (suc i) x at = ⊎_elim (λ (was : get_elem? xs i ≡ some x). inl was) (λ (is : Behind xs ys i x). let e = is.1 in inr (is.0, omega arith, is.2)) (at_either xs ys i x at)
 
--- what the other seats know, where the takes of one seat are numbered anew
+-- what the other seats know, where the takes of one seat are numbered again
 elsewhere : (keeper : ℕ) (log : CoreLog) (taker : Takers) (ws : List ℕ) (a j : ℕ) (v : View) (f : ℕ × ℕ → ℕ × ℕ) → ((x : ℕ × ℕ) → x.0 ≢ a → f x ≡ x) → j ≢ a → SeatOk keeper log taker ws j v → SeatOk keeper log (λ c g. f (taker c g)) ws j v
 elsewhere keeper log taker ws a j v f same other ok = record {
   core = ok.core;
@@ -41,7 +41,7 @@ elsewhere keeper log taker ws a j v f same other ok = record {
   hand = λ c is. let p = ok.hand c is in (p.0, ap (λ (x : ℕ × ℕ). x.0) (same (taker c v.caller.round) (λ z. other (sym p.1 ∙ z))) ∙ p.1);
 }
 
--- the takes of seat a go behind those of seat b, which has n
+-- the takes of seat a go after those of seat b, which has n
 abbrev behind_to : ℕ → ℕ → ℕ → ℕ × ℕ → ℕ × ℕ
 behind_to a b n x = pick (ℕ_discrete x.0 a) (b, n + x.1) x
 

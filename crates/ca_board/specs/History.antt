@@ -104,7 +104,7 @@ abbrev pub HandOk : (ℕ → ℕ → ℕ × ℕ) → List ℕ → ℕ → Caller
 HandOk taker words j c = (k : ℕ) → c.hand ≡ suc k → (slice_index words k ≡ 8 * c.round + 3) × ((taker k c.round).0 ≡ j)
 
 -- what one seat knows: its core's part is the core's lists, each of its takes and give-ups is right, and no word went back
--- behind what it found
+-- after what it found
 pub record SeatOk (keeper : ℕ) (log : CoreLog) (taker : ℕ → ℕ → ℕ × ℕ) (words : List ℕ) (j : ℕ) (v : View) : Type 0 where
   pub core : v.is_core ≡ true → (j ≡ keeper) × (v.core ≡ log)
   pub takes : (i : ℕ) (e : Entry) → get_elem? v.caller.takes i ≡ some e → TakeOk log taker words j i e

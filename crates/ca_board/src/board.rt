@@ -37,7 +37,7 @@ impl Model for Board {
 }
 
 impl Board {
-    /// A board with every cell free, and the seat of its core. Refused by 1.
+    /// A board with every cell free, and the seat of its core. Refused as OutOfMemory.
     pub fn new(alloc: Global) -> Result<(Board, CoreSeat), Refusal>
         ensures ok { IfOk result (λ r. r.1 ≡ core_start r.0) }
         ensures err { IfErr result (λ e. e ≡ OutOfMemory) }
@@ -57,7 +57,7 @@ impl Board {
         CallerSeat { seat }
     }
 
-    /// A ticket that was never armed, for a cell that is free. Refused by 24 where every cell is in use: armed and not
+    /// A ticket that was never armed, for a cell that is free. Refused as NoCell if every cell is in use: armed and not
     /// recycled since. A cell at its last generation is never recycled.
     pub fn arm(&self, core: &mut CoreSeat) -> Result<Ticket, Refusal>
         requires { core.old.board ≡ self.now }

@@ -21,7 +21,7 @@ impl ClientCore {
     /// One of this user at this host that did nothing yet. Searches go in datagrams to the servers, and on a circuit to each
     /// name server.
     ///
-    /// Refused by 9 for more name servers than circuits may be, then by 1.
+    /// Refused as ArenaFull for more name servers than circuits may be, then as OutOfMemory.
     pub fn new(
         alloc: Global,
         user: Vec<u8>,

@@ -24,7 +24,7 @@ pub enum ChannelState {
 }
 
 impl ClientCore {
-    /// Where a channel is. Refused by 10 if the handle is stale.
+    /// Where a channel is. Refused as StaleHandle if the handle is stale.
     pub fn channel_state(&self, channel: Handle) -> Result<ChannelState, Refusal>
         ensures { stated result ≡ channel_state self.now channel }
     {

@@ -15,7 +15,7 @@ impl ClientCore {
     /// Takes bytes that were read on a circuit, where the read left more waiting or not: after several reads in a row that did,
     /// the client asks for a pause of updates.
     ///
-    /// Refused by 17 if the circuit is not connected, then by 1.
+    /// Refused as CircuitClosed if the circuit is not connected, then as OutOfMemory.
     pub fn give(&mut self, circuit: Handle, bytes: &[u8], more: bool) -> Result<(), Refusal>
         ensures { (sent : List Sending)
             × ClientGives self.old circuit bytes.now more result sent self.new }

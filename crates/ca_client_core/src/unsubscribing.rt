@@ -16,7 +16,7 @@ use ca_wire::{Ioid, Sid, Wanted, event_cancel_request};
 impl ClientCore {
     /// Cancels a subscription: none of its updates is reported from now on.
     ///
-    /// Refused by 10 if the handle is stale, by 26 if too much waits for an EVENT_CANCEL, then by 1.
+    /// Refused as StaleHandle if the handle is stale, as OutputFull if too much waits for an EVENT_CANCEL, then as OutOfMemory.
     pub fn unsubscribe(&mut self, subscription: Handle) -> Result<(), Refusal>
         ensures { (sent : List Sending)
             × ClientUnsubscribes self.old subscription result sent self.new }

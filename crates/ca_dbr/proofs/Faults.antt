@@ -132,7 +132,7 @@ not_range h = cc
 not_convert : refusal.NoConvert ≡ refusal.OutOfMemory → ⊥
 not_convert h = cc
 
--- no element is refused for want of memory
+-- no element is refused as out of memory
 fault-memory : IsFault refusal.OutOfMemory → ⊥
 fault-memory (inl f) = not_text f
 fault-memory (inr f) = not_range f

@@ -13,7 +13,7 @@ use Rattle.ca_dbr.specs.Image.{meta_bytes}
 use Rattle.ca_dbr.specs.Reading.{carried, IsMeta, filled, ReadsElements, Reads, least_size, IsLong}
 use Rattle.ca_dbr.proofs.Images.{length-bytes_of, length-meta_bytes}
 
--- the front of a text, with zero bytes behind it
+-- the front of a text, with zero bytes after it
 pub text_filled : (bytes front zeros : List ℕ) (n : ℕ) → n ≡ min (length bytes) 40 → front ≡ take n bytes → zeros ≡ replicate 40 0 → front ++ drop n zeros ≡ take 40 (bytes ++ replicate (40 - length bytes) 0)
 text_filled bytes front zeros n is_min is_front is_zeros =
     ⊎_elim (λ (short : length bytes < 40).
@@ -80,7 +80,7 @@ reads_parts t count bytes body e m front long is_body elements meta only =
       only = only;
     }
 
--- so many elements take their bytes, but for one text
+-- n elements take their bytes, but for one text
 least_taken : (b : BaseType) (count : ℕ) (bytes : List ℕ) (n : ℕ) → n ≡ length (filled b count bytes) → count * element_size b ≤ n → least_size b count ≤ length bytes
 least_taken base.String count bytes n e h =
     let by_case : (one : Bool) → n ≡ length (cond one (bytes ++ replicate (40 - length bytes) 0) bytes) → cond one 0 (count * 40) ≤ length bytes = elim [ true ↦ λ _. omega arith | false ↦ λ (f : n ≡ length bytes). omega arith ] in

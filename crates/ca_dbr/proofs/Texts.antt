@@ -39,7 +39,7 @@ digit_not_space c h = let r = digit_range c h in ne_eqb c 32 (λ e. absurd (omeg
 digit_not_minus : (c : ℕ) → is_ascii_digit c ≡ true → eqb c 45 ≡ false
 digit_not_minus c h = let r = digit_range c h in ne_eqb c 45 (λ e. absurd (omega (arith, r.0, e)))
 
--- behind digits stand spaces or nothing, and so no digit
+-- after digits stand spaces or nothing, and so no digit
 no_digit_behind : (n : ℕ) → is_ascii_digit (get_or (spaces n) 0 0) ≡ false
 no_digit_behind zero = refl
 no_digit_behind (suc n) = refl

@@ -11,7 +11,7 @@ text_of bytes = before_first (λ c. c == 0) bytes
 abbrev pub is_space : ℕ → Bool
 is_space c = c == 32
 
--- the number of decimal digits: each digit's worth times ten to how many digits stand behind it
+-- the number of decimal digits: each digit's worth times ten to how many digits stand after it
 abbrev pub digits_number : List ℕ → ℕ
 digits_number [] = 0
 digits_number (c ∷ cs) = (c - 48) * 10 ^ length cs + digits_number cs
@@ -27,11 +27,11 @@ abbrev pub signed_in : List ℕ → Option ℤ
 signed_in [] = None
 signed_in (c ∷ cs) = if c == 45 then option_map (λ n. neg_ℤ (pos n)) (unsigned_in cs) else option_map pos (unsigned_in (c ∷ cs))
 
--- the number that a text is, if it is one: spaces may stand before it and behind it
+-- the number that a text is, if it is one: spaces may stand before it and after it
 abbrev pub number_in : List ℕ → Option ℤ
 number_in text = signed_in (drop (prefix_len is_space text) text)
 
--- the decimal text of a number, with zero bytes behind it
+-- the decimal text of a number, with zero bytes after it
 abbrev pub number_text : ℤ → List ℕ
 number_text z = signed_decimal z ++ replicate (40 - length (signed_decimal z)) 0
 

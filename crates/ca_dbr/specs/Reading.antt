@@ -25,7 +25,7 @@ pub record IsMeta (m : Meta) : Type 0 where
   pub seconds : m.seconds < 2 ^ 32
   pub nanos : m.nanos < 2 ^ 32
 
--- The bytes of so many elements: one STRING may come in fewer than 40 bytes, even in none, and the missing ones are zero.
+-- The bytes of n elements: one STRING may come in fewer than 40 bytes, even in none, and the missing ones are zero.
 abbrev pub filled : BaseType → ℕ → List ℕ → List ℕ
 filled base.String count bytes = (if count == 1 then bytes ++ replicate (40 - length bytes) 0 else bytes)
 filled base.Int count bytes = bytes
@@ -35,7 +35,7 @@ filled base.Char count bytes = bytes
 filled base.Long count bytes = bytes
 filled base.Double count bytes = bytes
 
--- The front of these bytes is read as so many elements of this base type.
+-- The front of these bytes is read as n elements of this base type.
 pub record ReadsElements (b : BaseType) (count : ℕ) (bytes : List ℕ) (e : Elements) : Type 0 where
   pub behind : List ℕ
   pub spelled : filled b count bytes ≡ bytes_of e ++ behind
@@ -43,7 +43,7 @@ pub record ReadsElements (b : BaseType) (count : ℕ) (bytes : List ℕ) (e : El
   pub counted : count_of e ≡ count
   pub valued : IsValue e
 
--- These bytes are read as these elements and this metadata: metadata, any padding, the elements, and anything behind them.
+-- These bytes are read as these elements and this metadata: metadata, any padding, the elements, and anything after them.
 pub record Reads (t : DataType) (count : ℕ) (bytes : List ℕ) (e : Elements) (m : Meta) : Type 0 where
   pub padding : List ℕ
   pub body : List ℕ
@@ -53,7 +53,7 @@ pub record Reads (t : DataType) (count : ℕ) (bytes : List ℕ) (e : Elements) 
   pub meta : IsMeta m
   pub only : carried t.form m ≡ m
 
--- how many bytes so many elements take at least
+-- how many bytes n elements take at least
 abbrev pub least_size : BaseType → ℕ → ℕ
 least_size base.String count = (if count == 1 then 0 else count * 40)
 least_size base.Int count = count * 2

@@ -72,6 +72,6 @@ padding_size form.Time base.Char = 3
 padding_size form.Time base.Long = 0
 padding_size form.Time base.Double = 4
 
--- how many bytes an image of so many elements takes
+-- how many bytes an image of n elements takes
 abbrev pub size_of_image : DataType → ℕ → ℕ
 size_of_image t count = meta_size t.form + padding_size t.form t.base + count * element_size t.base

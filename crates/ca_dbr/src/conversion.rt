@@ -146,8 +146,8 @@ pub fn has_conversion(from: BaseType, to: BaseType) -> bool
     from == to || (has_numbers(from) && has_numbers(to))
 }
 
-/// Converts a value to the plain type of this number. Refused by 4 where there is none, by 6 where the types do
-/// not convert, then by 8 or 7 by the first element that is no number or outside the type, then by 1, only if there
+/// Converts a value to the plain type of this number. Refused as BadType if there is none, as NoConvert if the types do
+/// not convert, then as BadText or OutOfRange by the first element that is no number or outside the type, then as OutOfMemory, only if there
 /// are elements.
 pub fn convert(alloc: Global, value: &Value, number: u16) -> Result<Value, Refusal>
     ensures ok { IfOk result (λ v.

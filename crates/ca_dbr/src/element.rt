@@ -228,7 +228,7 @@ pub(crate) fn put_all<E: Element>(items: &[E], out: &mut Vec<u8>)
     }
 }
 
-/// Reads so many elements from the front.
+/// Reads n elements from the front.
 pub(crate) fn read_all<E: Element>(
     alloc: Global,
     count: usize,

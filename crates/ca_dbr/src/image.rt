@@ -11,7 +11,7 @@ use crate::element::{Element, put_all};
 use crate::value::{Meta, Value};
 use ca_text::Refusal;
 
-/// How many bytes an image of so many elements takes. Refused by 4 where the type does not exist.
+/// How many bytes an image of n elements takes. Refused as BadType if the type does not exist.
 pub fn image_size(number: u16, count: u32) -> Result<usize, Refusal>
     ensures { MatchResult result
         (λ size. (t : DataType) × (type_number t ≡ number) × (size ≡ size_of_image t count))
@@ -55,7 +55,7 @@ pub(crate) fn put_meta(form: Form, meta: Meta, out: &mut Vec<u8>)
     }
 }
 
-/// Puts so many zero bytes at the end, where room was made for them.
+/// Puts n zero bytes at the end, where room was made for them.
 pub(crate) fn put_zeros(count: usize, out: &mut Vec<u8>)
     requires { vec_len out.old + count ≤ vec_capacity out.old }
     ensures after { out.new.items ≡ out.old.items ++ replicate count 0 }
@@ -87,8 +87,8 @@ fn put_elements(value: &Value, out: &mut Vec<u8>)
     }
 }
 
-/// Writes the image of a value at the end of the bytes. Refused by 4 where the type does not exist or is not
-/// the value's own, then by 1, only if there is no room for it; the bytes are then as before.
+/// Writes the image of a value at the end of the bytes. Refused as BadType if the type does not exist or is not
+/// the value's own, then as OutOfMemory, only if there is no room for it; the bytes are then as before.
 pub fn write_value(
     number: u16,
     value: &Value,
@@ -118,8 +118,8 @@ pub fn write_value(
     Ok(())
 }
 
-/// Writes as many zero bytes as an image of so many elements takes. Refused by 4 where the type does not exist,
-/// then by 1, only if there is no room for it; the bytes are then as before.
+/// Writes as many zero bytes as an image of n elements takes. Refused as BadType if the type does not exist,
+/// then as OutOfMemory, only if there is no room for it; the bytes are then as before.
 pub fn write_zero_image(number: u16, count: u32, out: &mut Vec<u8>) -> Result<(), Refusal>
     ensures ok { OnOk result ((t : DataType) × (type_number t ≡ number)
         × (out.new.items ≡ out.old.items ++ replicate (size_of_image t count) 0)) }

@@ -11,7 +11,7 @@ use crate::value::{Meta, Value};
 use ca_text::Refusal;
 use std::alloc::{AllocError, Global};
 
-/// How many bytes so many elements take at least: a single STRING may come in any number.
+/// How many bytes n elements take at least: a single STRING may come in any number.
 fn least_size(base: BaseType, count: u32) -> usize
     ensures { result ≡ least_size base count }
 {
@@ -83,10 +83,10 @@ fn read_elements(
     }
 }
 
-/// Reads the image of so many elements. Refused by 4 where the type does not exist, by 5 where the bytes are
-/// too few, then by 1, only if there are elements.
+/// Reads the image of n elements. Refused as BadType if the type does not exist, as Short if the bytes are
+/// too few, then as OutOfMemory, only if there are elements.
 ///
-/// A STRING of count 1 may come in fewer than 40 bytes, the missing ones are zero. Padding, and bytes behind the
+/// A STRING of count 1 may come in fewer than 40 bytes, the missing ones are zero. Padding, and bytes after the
 /// last element, are not read. Metadata that the type does not carry is zero.
 pub fn read_value(
     alloc: Global,

@@ -199,11 +199,11 @@ fn put_shown(
     }
 }
 
-/// Writes the image of a read at the end of the bytes: so many elements of a value, in a type.
+/// Writes the image of a read at the end of the bytes: n elements of a value, in a type.
 ///
-/// A count below the present one takes the first elements, before they are converted; behind the present ones
-/// elements of zero bytes follow. Refused by 4 where the type does not exist, by 6 where the value does not
-/// convert to it, then by 8 or 7 by the first element at fault, then by 1, only if there is no room for it; the bytes are
+/// A count below the present one takes the first elements, before they are converted; after the present ones
+/// elements of zero bytes follow. Refused as BadType if the type does not exist, as NoConvert if the value does not
+/// convert to it, then as BadText or OutOfRange by the first element at fault, then as OutOfMemory, only if there is no room for it; the bytes are
 /// then as before.
 pub fn write_shown(
     number: u16,

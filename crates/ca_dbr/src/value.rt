@@ -103,7 +103,7 @@ impl Value {
         }
     }
 
-    /// The same elements again. Refused by 1, only if there are elements.
+    /// The same elements again. Refused as OutOfMemory, only if there are elements.
     pub fn copy(&self, alloc: Global) -> Result<Value, Refusal>
         ensures ok { IfOk result (λ v. elements v ≡ elements self.now) }
         ensures err { IfErr result (λ e. (e ≡ OutOfMemory) × (count_of (elements self.now) ≢ 0)) }

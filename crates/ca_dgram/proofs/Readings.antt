@@ -19,7 +19,7 @@ use Rattle.ca_wire.proofs.Padding.{padded-none}
 use Rattle.ca_wire.proofs.Taking.{whole-spells}
 use Rattle.ca_dgram.specs.Datagram.{Reads, SpellsFront}
 
--- the message of a header and the payload behind it
+-- the message of a header and the payload after it
 abbrev pub fields_at : List ℕ → Head → Fields
 fields_at bytes head = record { command = head.header.command; data_type = head.header.data_type; count = head.header.count; p1 = head.header.p1; p2 = head.header.p2; payload = take head.header.size (drop head.start bytes) }
 
@@ -89,7 +89,7 @@ begins-snoc bytes rest front back [] m begins s e = (front, back, s, begins ∙ 
 begins-snoc bytes rest front back (n ∷ ms) m begins s e =
     (begins.0, begins.1, begins.2, begins.3, begins-snoc begins.1 rest front back ms m begins.4 s e)
 
--- where more messages stand behind the first ones, a message begins the bytes
+-- where more messages stand after the first ones, a message begins the bytes
 pub begins-some : (bytes rest : List ℕ) (ms : List Fields) → Begins bytes ms rest → (NoneBegins rest → ⊥) → NoneBegins bytes → ⊥
 begins-some bytes rest [] begins some none = some (subst NoneBegins begins none)
 begins-some bytes rest (m ∷ ms) begins some none = none m begins.0 begins.1 begins.2 begins.3

@@ -11,7 +11,7 @@ const HEADER: usize = 16;
 
 /// Writes the search for this name at the end of the datagram; where that is empty, the VERSION first.
 ///
-/// Refused by 19 where the datagram would have more than 1,024 bytes. A refusal changes nothing; by 1 only
+/// Refused as DatagramTooLong if the datagram would have more than 1,024 bytes. A refusal changes nothing; as OutOfMemory only
 /// where the buffer has no room for it.
 pub fn search_into(cid: u32, name: &ChannelName, out: &mut Vec<u8>) -> Result<(), Refusal>
     ensures searches { Searches out.old.items cid name.now result out.new.items }

@@ -17,7 +17,7 @@ module _ {T : Type 0} where
       (is_full old ≡ false) × (has_free old ≡ false) × (back ≡ value) × (new ≡ old)
   Gives old value (Err _) new = ⊥
 
-  -- the arena of a table is sound, and so many indices were given
+  -- the arena of a table is sound, and n indices were given
   pub record IsCounted (a : Contents T) (places : ℕ) : Type 0 where
     pub sound : IsSound a
     pub counted : places ≡ length a.given

@@ -40,7 +40,7 @@ impl<T> Model for HeldTable<T> {
 impl<T> HeldTable<T> {
     ghost use Rattle.ca_ids.specs.Lending.{lends_changed, lends_held};
 
-    /// A table in which nothing holds an id. It takes no memory yet.
+    /// A table in which nothing holds an id. It does not allocate yet.
     pub fn new(alloc: Global) -> Self
         ensures { result ≡ [] }
     {

@@ -52,7 +52,7 @@ impl<T> Entry<T> {
 impl<T> IdTable<T> {
     ghost use Rattle.ca_ids.specs.Lending.{lends_found};
 
-    /// A table with no entry. It takes no memory yet.
+    /// A table with no entry. It does not allocate yet.
     pub fn new(alloc: Global) -> Self
         ensures { result ≡ empty }
     {

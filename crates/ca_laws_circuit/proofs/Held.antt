@@ -79,7 +79,7 @@ module _ {T : Type 0} (kind : ℕ → Id) (meant : Handle → Intent) where
         let value : holder.1 ≡ u = one-value t q holder.1 u (subst (λ (x : Handle). under t x ≡ Some holder.1) same holder.2) is in
         both_ways (here q u) away (subst (λ (x : Handle × T). here x.0 x.1 ≡ true) (λ i. (same i, value i)) holder.4)
 
-    -- the table and its test change, and the lists stay: what is pending stays held, and nothing is held anew
+    -- the table and its test change, and the lists stay: what is pending stays held, and nothing is held again
     pub ids-kept-by : (here there : Handle → T → Bool) (t u : Table T) (c : Circuit) → length u ≤ arena_slots
         → ((p n : ℕ) → IsPending Awaits c p (kind n) → IsHeldBy here t n → IsHeldBy there u n)
         → ((g : Handle) (v : T) → under u g ≡ Some v → there g v ≡ true → (w : T) × (under t g ≡ Some w) × (here g w ≡ true))
@@ -92,7 +92,7 @@ module _ {T : Type 0} (kind : ℕ → Id) (meant : Handle → Intent) where
 
     -- ---- the table changes, and the lists stay
 
-    -- what is pending stays held, and nothing is held anew
+    -- what is pending stays held, and nothing is held again
     pub ids-kept : (here there : T → Bool) (t u : Table T) (c : Circuit) → length u ≤ arena_slots
         → ((p n : ℕ) → IsPending Awaits c p (kind n) → IsHeld here t n → IsHeld there u n)
         → ((g : Handle) (v : T) → under u g ≡ Some v → there v ≡ true → (w : T) × (under t g ≡ Some w) × (here w ≡ true))

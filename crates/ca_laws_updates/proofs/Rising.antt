@@ -94,7 +94,7 @@ module _ {E : Type 0} (stamp : ℕ → E) (key : SubKey) where
       no_end [] last e = cc
       no_end (x ∷ front) last e = cc
 
-  -- a post goes behind the others, or takes the place of the last of them
+  -- a post goes after the others, or takes the place of the last of them
   pub rising-posted : (gone : List ℕ) (next : ℕ) (q : Queue E) → Rising stamp key gone next q → Rising stamp key gone (next + 1) (posted key (stamp next) q)
   rising-posted gone next q r =
       let below : (i a : ℕ) → At (gone ++ r.wait) i a → a < next =

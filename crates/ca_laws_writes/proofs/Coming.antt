@@ -159,7 +159,7 @@ module _ (Came : PutPlace → (i : ℕ) → Elements → Type 0) (Lost : PutPlac
     | inr new ↦ (let is : n ≡ i = subst (λ (z : Entry). IsOf i z) new of_it in omega (arith, is))
   ]
 
-  -- A record is added behind so many others.
+  -- A record is added after n others.
   pub agree-added : (y : List Entry) (cs : List Record) (rs : List RecordSide) (n : ℕ) (s : RecordState) (behind : ℕ) → ((i : ℕ) (r : RecordSide) → At rs i r → r.name ≡ s.name → ⊥) → Agree Came Lost Is y cs rs n → Agree Came Lost Is (y ++ Added n s ∷ []) (take behind cs ++ new_record s ∷ drop behind cs) (take behind rs ++ record_begun n s ∷ drop behind rs) (n + 1)
   agree-added y cs rs n s behind none a = record {
     once = once-told Came Lost y (Added n s) a.once tt;
@@ -168,7 +168,7 @@ module _ (Came : PutPlace → (i : ℕ) → Elements → Type 0) (Lost : PutPlac
     numbers = numbers-new y n s a.numbers;
   }
 
-  -- and behind all others
+  -- and after all others
   agree-added-last : (y : List Entry) (cs : List Record) (rs : List RecordSide) (n : ℕ) (s : RecordState) → ((i : ℕ) (r : RecordSide) → At rs i r → r.name ≡ s.name → ⊥) → Agree Came Lost Is y cs rs n → Agree Came Lost Is (y ++ Added n s ∷ []) (cs ++ new_record s ∷ []) (rs ++ record_begun n s ∷ []) (n + 1)
   agree-added-last y cs rs n s none a = record {
     once = once-told Came Lost y (Added n s) a.once tt;

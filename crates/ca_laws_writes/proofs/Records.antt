@@ -274,7 +274,7 @@ module _ (Is : PutPlace → Put → Type 0) where
         slow = λ d e. absurd cc;
       }
 
-  -- A put comes to wait behind the others.
+  -- A put comes to wait after the others.
   pub agrees-waits : (y : List Entry) (c : Record) (r : RecordSide) (p : PutPlace) (w : WaitingPut) (v : Stored) → v.value ≡ w.value → base_of w.value ≡ base_of c.state.value → IsUntold y p → Is p w.put → Agrees Is y c r → Agrees Is (y ++ Waits p.circuit p.place r.number v ∷ []) (with_waiting w c) (record r { waiting = r.waiting ++ p ∷ [] })
   agrees-waits y c r p w v same fits fresh is_it a =
       let e : Entry = Waits p.circuit p.place r.number v in

@@ -131,7 +131,7 @@ IsOf r (Applied n k i v busies) = i ≡ r
 IsOf r (Finished n k) = ⊥
 IsOf r (Withdrawn n k) = ⊥
 
--- A server's life: its log has each write once, and its records, of which so many were added, are what the log tells.
+-- A server's life: its log has each write once, and its records, of which n were added, are what the log tells.
 pub record Agree (Came : PutPlace → (i : ℕ) → Elements → Type 0) (Lost : PutPlace → (i : ℕ) → Type 0) (Is : PutPlace → Put → Type 0) (y : List Entry) (records : List Record)
     (sides : List RecordSide) (added : ℕ) : Type 0 where
   pub once : Once Came Lost y

@@ -20,7 +20,7 @@ appends-kept (Some xs) None c x p q = absurd p
 appends-kept (Some xs) (Some ys) None x p q = absurd q
 appends-kept (Some xs) (Some ys) (Some zs) x p q = q ∙ p
 
--- the next n bytes behind the first few
+-- the next n bytes after the first few
 pub appends-more : (a b c : Option (List ℕ)) (bytes : List ℕ) (i n : ℕ) → Appends a b (take i bytes) → Appends b c (take n (drop i bytes)) → Appends a c (take (i + n) bytes)
 appends-more a b c bytes i n p q =
     rw take-add (appends-then a b c (take i bytes) (take n (drop i bytes)) p q)

@@ -1,7 +1,7 @@
 -- Calls that are passed on.
 use Rattle.std.specs.Prelude.{ℕ, ◌≡◌, ◌+◌, ◌<◌, ◌^◌}
 
--- One call more can be passed on to what has counted so many calls and faults: a pass is left, and both counts have room.
+-- One call more can be passed on to what has counted n calls and faults: a pass is left, and both counts have room.
 pub record CanPass (passes calls faults : ℕ) : Type 0 where
   pub left : 0 < passes
   pub room_for_call : calls + 1 < 2 ^ 64

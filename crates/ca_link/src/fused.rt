@@ -15,7 +15,7 @@ pub struct Fused<T> {
 }
 
 impl<T> Fused<T> {
-    /// One that passes so many calls on.
+    /// One that passes n calls on.
     pub fn new(inner: T, passes: u64) -> Fused<T>
         ensures { result ≡ record { inner = inner; passes = passes; calls = 0; faults = 0 } }
     {
@@ -27,7 +27,7 @@ impl<T> Fused<T> {
         }
     }
 
-    // Whether the next call is passed on, to what counted so many calls and faults. It is one less then.
+    // Whether the next call is passed on, to what counted n calls and faults. It is one less then.
     fn takes_pass(&mut self, calls: u64, faults: u64) -> bool
         ensures passed { IsTrue result ↔ CanPass self.old.passes calls faults }
         ensures left { self.new

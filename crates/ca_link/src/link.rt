@@ -51,7 +51,7 @@ impl Link {
 
     /// Takes bytes that came at this moment, which ends a silence; no bytes do nothing.
     ///
-    /// Refused by 17, then by 1, and by that only if there are bytes.
+    /// Refused as CircuitClosed, then as OutOfMemory, only if there are bytes.
     pub fn give(&mut self, now: u64, bytes: &[u8]) -> Result<(), Refusal>
         ensures { Gives now bytes.now self.old result self.new }
     {
@@ -65,7 +65,7 @@ impl Link {
 
     /// Takes the first message that came, if it is complete.
     ///
-    /// Refused by 17, 2 or 3, and by 1 only for a payload.
+    /// Refused as CircuitClosed, Misaligned or TooLarge, and as OutOfMemory only for a payload.
     pub fn next_message(&mut self) -> Result<Option<Message>, Refusal>
         ensures { Nexts self.old result self.new }
     {
@@ -88,7 +88,7 @@ impl Link {
 
     /// Puts a message of a caller after what waits.
     ///
-    /// Refused by 17, by 26 if as many bytes wait as may, and by 1, since a message takes memory.
+    /// Refused as CircuitClosed, as OutputFull if as many bytes wait as may, and as OutOfMemory, since a message takes memory.
     pub fn queue(&mut self, message: &Message) -> Result<(), Refusal>
         ensures { Queues message.now self.old result self.new }
     {
@@ -100,7 +100,7 @@ impl Link {
 
     /// Puts a message of the end's own after what waits, however much that is.
     ///
-    /// Refused by 17, then by 1.
+    /// Refused as CircuitClosed, then as OutOfMemory.
     pub fn queue_own(&mut self, message: &Message) -> Result<(), Refusal>
         ensures { QueuesOwn message.now self.old result self.new }
     {
@@ -111,10 +111,10 @@ impl Link {
         Ok(())
     }
 
-    /// Puts a message after what waits, however much that is, with this payload of so many bytes. It is made in its
+    /// Puts a message after what waits, however much that is, with this payload of n bytes. It is made in its
     /// place.
     ///
-    /// Refused by 17, by 1 before the payload is made, or as the payload is.
+    /// Refused as CircuitClosed, as OutOfMemory before the payload is made, or as the payload is.
     pub fn queue_made<P: Payload>(
         &mut self,
         head: &Message,

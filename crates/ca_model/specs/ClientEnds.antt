@@ -199,11 +199,11 @@ ClientSteps old c answer sent new = StepsOn old c (connection_at old c) answer s
 
 -- ---- cut, close
 
--- `cut`. It takes no memory.
+-- `cut`. It does not allocate.
 abbrev pub ClientCuts : Client → Handle → Closing → List Sending → Client → Type 0
 ClientCuts old c k sent new = EndsFor why.Cut old c k sent new
 
--- `close`. It takes no memory.
+-- `close`. It does not allocate.
 abbrev pub ClientCloses : Client → Handle → Closing → List Sending → Client → Type 0
 ClientCloses old c k sent new = EndsFor why.Asked old c k sent new
 

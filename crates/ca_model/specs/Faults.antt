@@ -40,7 +40,7 @@ base_type_of n = find (λ (b : BaseType). base_number b == n) base_types
 
 -- ---- single faults
 
--- so many elements are over the greatest count, or their image is over the payload limit
+-- n elements are over the greatest count, or their image is over the payload limit
 abbrev pub too_many : RecordState → DataType → ℕ → Bool
 too_many r t n = nat_lt r.count n || nat_lt payload_limit (size_of_image t n)
 

@@ -139,7 +139,7 @@ Removes old name gone left (Ok _) new =
 Removes old name gone left (Err refusal.UnknownRecord) new = (record_named old.records name ≡ None) × (new ≡ old)
 Removes old name gone left (Err e) new = ⊥
 
--- `add_record`: the record comes behind so many of the others, neither busy nor waited for.
+-- `add_record`: the record comes after n of the others, neither busy nor waited for.
 abbrev pub AddsRecord : Server → RecordState → (behind : ℕ) → Result (Unit {0}) Refusal → Server → Type 0
 AddsRecord old s behind (Ok _) new =
     MayAdd old.records s × (new ≡ record old { records = take behind old.records ++ new_record s ∷ drop behind old.records })

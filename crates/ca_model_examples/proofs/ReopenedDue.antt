@@ -18,7 +18,7 @@ use Rattle.ca_model_examples.proofs.SmallDue.{TrueDue, clear-due, knew, knows, n
 use Rattle.ca_model_examples.proofs.Reopened.{reply-at}
 use Rattle.ca_model_examples.proofs.ReopenedSafe.{added-at, back, not-removed, open-1, open-2, open-4, sid-at}
 
--- the log after so many entries
+-- the log after n entries
 abbrev logged : ℕ → List Entry
 logged n = take n reopened_entries
 

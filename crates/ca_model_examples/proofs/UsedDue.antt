@@ -21,7 +21,7 @@ use Rattle.ca_model_examples.proofs.UsedWhole.{used-is-safe}
 
 -- ---- what the server knew
 
--- the log after so many entries
+-- the log after n entries
 abbrev logged : ℕ → List Entry
 logged n = take n used_entries
 

@@ -20,7 +20,7 @@ use Rattle.ca_model_examples.proofs.WaitedActs.{first-only, open-1, open-2}
 
 -- ---- what the server knew
 
--- after so many entries
+-- after n entries
 abbrev logged : ℕ → List Entry
 logged n = take n waited_entries
 

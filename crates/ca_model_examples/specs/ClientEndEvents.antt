@@ -58,7 +58,7 @@ UpMoves =
     )
     × CanNot (between (with_output (1 ∷ 2 ∷ 3 ∷ []) alive.core) (server_with (link_of [] []))) (event.Up 3 4)
 
--- the client to which these bytes came, after so many reads in a row that left some
+-- the client to which these bytes came, after n reads in a row that left some
 abbrev pub with_input : List ℕ → ℕ → Client → Client
 with_input bytes reads x =
     on_connection (λ (e : Connection). record { link = link_of bytes e.link.output; run = record { reads = reads; events_off = false } }) first x
@@ -116,7 +116,7 @@ CutEnds =
     with_last cut_off (world (anna_side (ended first reading) with_read) (opened_line ∷ lost_lines) [])
     )
 
--- A client that begins anew tells nothing of the end of its old life: all its open ends end, and what waited is left.
+-- A client that begins again tells nothing of the end of its old life: all its open ends end, and what waited is left.
 abbrev pub RestartForgets : Type 0
 RestartForgets =
     let before : World = world (anna_side reading with_read) (opened_line ∷ []) [] in

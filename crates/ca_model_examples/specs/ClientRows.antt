@@ -250,7 +250,7 @@ OnlySkipped = Hears cancelled first late_update (becomes cancelled) × ((e : Eff
 
 -- ---- reads in a row
 
--- after so many reads that left bytes
+-- after n reads that left bytes
 abbrev pub after : ℕ → ReadRun
 after zero = no_reads
 after (suc n) = after_read true (after n)

@@ -14,7 +14,7 @@ use Rattle.ca_model_examples.specs.Worlds.{temp, temp_name}
 
 -- ---- what the server knows
 
--- TEMP is served, and SLOW, which is busy or not and for which so many puts wait
+-- TEMP is served, and SLOW, which is busy or not and for which n puts wait
 abbrev pub served : (busy : Bool) → (waits : ℕ) → List ℕ → Option KnownRecord
 served busy waits name =
     if bytes_eq name temp_name then Some (record { state = temp; busy = false; waits = 0 }) else if bytes_eq name slow_name then Some (record { state = slow; busy = busy; waits = waits }) else None

@@ -103,7 +103,7 @@ abbrev pub LackHappens : Type 0
 LackHappens =
     Happens (before (spelling writing) []) (event.ServerStep 0) closed_unapplied × Happens (before (spelling writing) []) (event.ServerStep 0) closed_applied
 
--- ---- a server begins anew
+-- ---- a server begins again
 
 abbrev pub restarted : World
 restarted =
@@ -187,7 +187,7 @@ removed_slow =
 abbrev pub RemoveHappens : Type 0
 RemoveHappens = Happens (before [] []) (event.Remove 0 slow_name) removed_slow × Happens (before [] []) (event.Remove 0 (1 ∷ [])) (before [] [])
 
--- WAVE is the third record of this life, behind so many of the others
+-- WAVE is the third record of this life, after n of the others
 abbrev pub added_wave : ℕ → World
 added_wave behind =
     let records : List Record = temp_now (long 21) ∷ slow_busy ∷ [] in

@@ -74,7 +74,7 @@ abbrev pub image_of : RecordState → Fields → Option DataType → List ℕ
 image_of r m (Some t) = image_in t r.meta (read_shown r m t)
 image_of r m None = []
 
--- what a read of so many elements in the type of this number shows
+-- what a read of n elements in the type of this number shows
 abbrev pub shown_as : (number : ℕ) → RecordState → (count : ℕ) → List ℕ
 shown_as number r count = image_of r (read_of number count) (type_of number)
 
@@ -141,7 +141,7 @@ ReadsUpToTheLimit = let r : RecordState = record wave { count = 500000 } in (fau
 
 -- ---- faults of puts
 
--- a put of so many elements, with these bytes
+-- a put of n elements, with these bytes
 abbrev pub put_of : (data_type count : ℕ) → List ℕ → Fields
 put_of data_type count bytes = put_request command.WriteNotify (on_first data_type count) bytes
 

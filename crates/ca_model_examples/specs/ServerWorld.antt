@@ -124,7 +124,7 @@ side_of records core = record { setting = setting; core = core; life = 0; record
 abbrev pub client : ClientSide
 client = client_begun (setting.address ∷ []) 0 0 (record { peer = record { user = []; host = [] }; name_servers = [] })
 
--- what went on before: so many messages were handled, and a VERSION was answered
+-- what went on before: n messages were handled, and a VERSION was answered
 abbrev pub lists : Bool → Bool → List Told → List Step → Circuit
 lists client_open server_open more steps = record {
   client = 0;

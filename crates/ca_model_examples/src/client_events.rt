@@ -61,7 +61,7 @@ pub fn a_cut_is_told()
     ensures { CutEnds }
 {}
 
-/// A client begins anew in a life of its own, and tells nothing of the old one.
+/// A client begins again in a life of its own, and tells nothing of the old one.
 pub fn a_restart_forgets()
     ensures { RestartForgets }
 {}

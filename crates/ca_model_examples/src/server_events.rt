@@ -6,7 +6,7 @@ pub fn a_write_reaches_its_subscriptions()
     ensures pump { PumpHappens }
 {}
 
-/// A circuit is cut, and a server begins anew: puts that wait are withdrawn, and what waited to be sent may still come.
+/// A circuit is cut, and a server begins again: puts that wait are withdrawn, and what waited to be sent may still come.
 pub fn ends_leave_what_waited()
     ensures cut { CutHappens }
     ensures restart { RestartHappens }

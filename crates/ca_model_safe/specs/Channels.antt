@@ -140,7 +140,7 @@ IsOpen c y j k sid r =
     Created c y j k sid r × ((i : ℕ) (t : Told) → j < i → At c.down i t → Creates t.message sid → ⊥)
     × ((l : ℕ) (s : Sent) → k < l → l < length c.handled → At c.up l s → Clears s.message sid → ⊥)
 
--- When the server's log had so many entries, it had handled a CLEAR_CHANNEL of this SID that was sent after place k.
+-- When the server's log had n entries, it had handled a CLEAR_CHANNEL of this SID that was sent after place k.
 abbrev pub IsCleared : Circuit → (k sid logged : ℕ) → Type 0
 IsCleared c k sid logged =
     (l : ℕ) × (s : Sent) × (h : Step) × (k < l) × At c.up l s × At c.handled l h × (h.logged ≤ logged)

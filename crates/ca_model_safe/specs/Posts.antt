@@ -11,7 +11,7 @@ post_in r passes (Applied n k i v busies) = if i == r && passes 3 then Some v el
 post_in r passes (Posted i mask v) = if i == r && passes mask then Some v else None
 post_in r passes entry = None
 
--- The posts of record r for a subscription made when the log had so many entries: its value then, and all since that share a bit.
+-- The posts of record r for a subscription made when the log had n entries: its value then, and all since that share a bit.
 abbrev pub matching : List Entry → (logged r mask : ℕ) → List Stored
 matching y logged r mask =
     option_to_list (last_of (filter_map (post_in r (λ bits. true)) (take logged y))) ++ filter_map (post_in r (share_bit mask)) (drop logged y)

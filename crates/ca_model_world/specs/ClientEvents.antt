@@ -314,7 +314,7 @@ HappensClientDatagram w i x from bytes new =
     (sent : List Sending) × (core : Client) × ClientReceives x.core (record { now = w.moment; from = from; bytes = bytes }) (Ok tt) sent core
     × (new ≡ client_after i x x.names (record { core = core; names = x.names; lines = []; sent = sent }) w)
 
--- a circuit of client i whose open end ends untold, since the client begins anew
+-- a circuit of client i whose open end ends untold, since the client begins again
 abbrev pub client_gone : (i : ℕ) → ClientSide → Joined → Joined
 client_gone i x j = if j.client == i && j.lists.client_open then client_closed (out_bytes x.core j.at_client) j else j
 

@@ -19,7 +19,7 @@ pub data Event : Type 0 where
   ClientDatagram ServerDatagram : (to : ℕ) → (from : Address) → (bytes : List ℕ) → Event
   -- the first circuit that the client wants, and whose address has a server, is made
   Accept : (client : ℕ) → Event
-  -- so many bytes of a circuit reach the server, or the client
+  -- n bytes of a circuit reach the server, or the client
   Up Down : (circuit n : ℕ) → Event
   -- an end of a circuit takes a step; updates leave its queues; an end is cut
   ServerStep ClientStep Pump CutClient CutServer : (circuit : ℕ) → Event

@@ -396,7 +396,7 @@ HappensAdd w i y r new =
 abbrev pub HappensServerDatagram : World → ServerSide → List ℕ → World → Type 0
 HappensServerDatagram w y bytes new = (datagrams : List (List ℕ)) × AnswersDatagram y.core bytes (Ok datagrams) × (new ≡ w)
 
--- what a circuit's open end at a server leaves when that begins anew, untold
+-- what a circuit's open end at a server leaves when that begins again, untold
 abbrev pub ends_untold : (i : ℕ) → Server → Joined → Option (List ℕ)
 ends_untold i core j = if j.server == i && j.lists.server_open then Some (output_of (under core.circuits j.at_server)) else None
 

@@ -32,7 +32,7 @@ impl Model for Monitors {
 }
 
 impl Monitors {
-    /// No subscription. It takes no memory yet.
+    /// No subscription. It does not allocate yet.
     pub fn new(alloc: Global) -> Self
         ensures { result ≡ [] }
     {
@@ -50,7 +50,7 @@ impl Monitors {
 
     /// Adds a subscription to this channel, which stands from now on.
     ///
-    /// Refused by 9 where no id may be given, then by 1.
+    /// Refused as ArenaFull if no id may be given, then as OutOfMemory.
     pub fn add(
         &mut self,
         channel: Handle,
@@ -95,7 +95,7 @@ impl Monitors {
 
     /// A subscription that stands is cancelled on this circuit: its id drains until the confirmation.
     ///
-    /// Refused by 10 where none stands under the handle.
+    /// Refused as StaleHandle if none stands under the handle.
     pub fn cancel(&mut self, handle: Handle, circuit: Handle) -> Result<Subscription, Refusal>
         ensures { Comes (monitor.Cancelled circuit) self.old handle result self.new }
     {
@@ -108,7 +108,7 @@ impl Monitors {
 
     /// A subscription that stands is over: its id drains on this circuit until its channel's clear is answered.
     ///
-    /// Refused by 10 where none stands under the handle.
+    /// Refused as StaleHandle if none stands under the handle.
     pub fn end(&mut self, handle: Handle, circuit: Handle) -> Result<Subscription, Refusal>
         ensures { Comes (monitor.Ended circuit) self.old handle result self.new }
     {
@@ -178,21 +178,21 @@ impl Monitors {
         end_all(&mut self.table, circuit, channel);
     }
 
-    /// The ids of this channel's subscriptions are free. It takes no memory.
+    /// The ids of this channel's subscriptions are free. It does not allocate.
     pub fn free_channel(&mut self, channel: Handle)
         ensures { self.new ≡ channel_gone channel self.old }
     {
         free_all(&mut self.table, Which::ToChannel(channel));
     }
 
-    /// The ids of this channel's subscriptions that drain on this circuit are free. It takes no memory.
+    /// The ids of this channel's subscriptions that drain on this circuit are free. It does not allocate.
     pub fn drained(&mut self, circuit: Handle, channel: Handle)
         ensures { self.new ≡ channel_drained circuit channel self.old }
     {
         free_all(&mut self.table, Which::DrainingTo(channel, circuit));
     }
 
-    /// The ids that drain on this circuit are free. It takes no memory.
+    /// The ids that drain on this circuit are free. It does not allocate.
     pub fn free_circuit(&mut self, circuit: Handle)
         ensures { self.new ≡ circuit_gone circuit self.old }
     {

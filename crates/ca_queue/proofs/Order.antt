@@ -4,7 +4,7 @@ use Rattle.ca_queue.specs.Order.{Sub, last_from}
 use Rattle.ca_queue.specs.Runs.{Follows}
 
 module _ {A : Type 0} where
-  -- the same item behind both
+  -- the same item after both
   Sub-push : (xs ys : List A) (z : A) → Sub xs ys → Sub (xs ++ z ∷ []) (ys ++ z ∷ [])
   Sub-push [] [] z sub = inl (refl, tt)
   Sub-push [] (y ∷ ys) z sub = inr (Sub-push [] ys z tt)

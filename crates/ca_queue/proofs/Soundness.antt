@@ -100,7 +100,7 @@ module _ {E : Type 0} where
       go true goes = replaced key entry q sound
       go false goes = pushed key entry q there goes sound
 
-  -- what is behind the front
+  -- what is after the front
   pub sound_rest : (w : SubKey × E) (rest : List (SubKey × E)) (keys : List SubKey) (on : Bool) → IsSound (record { waiting = w ∷ rest; subscriptions = keys; events_on = on }) → IsSound (record { waiting = rest; subscriptions = keys; events_on = on })
   sound_rest w rest keys on sound =
       let p : SubKey → Bool = λ k. has_entry k (w ∷ rest) in

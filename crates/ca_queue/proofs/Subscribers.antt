@@ -60,7 +60,7 @@ module _ {E : Type 0} where
       go true true is rest = ap (λ (es : List E). cond (is_of k w) (w.1 ∷ es) es) rest
       go false h is rest = ap (λ (es : List E). cond (is_of k w) (w.1 ∷ es) es) rest
 
-  -- a post puts its entry behind the others of its subscription, or in place of the last of them
+  -- a post puts its entry after the others of its subscription, or in place of the last of them
   pub entries_posted : (on : Bool) (key : SubKey) (entry : E) (q : List (SubKey × E)) → (entries_of key (after_post on key entry q) ≡ entries_of key q ++ entry ∷ []) ⊎ Replaced (entries_of key q) (entries_of key (after_post on key entry q)) entry
   entries_posted on key entry q = go (replaces on key q) refl
     where

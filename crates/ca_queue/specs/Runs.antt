@@ -27,7 +27,7 @@ module _ {E : Type 0} where
   Leads old (Cancelled key ∷ calls) new = Leads (cancelled key old) calls new
   Leads old (Switched on ∷ calls) new = Leads (switched on old) calls new
 
-  -- what was posted to a subscription, in order: this before these calls, and anew from its last cancel on
+  -- what was posted to a subscription, in order: this before these calls, and again from its last cancel on
   abbrev pub posts_to : SubKey → List E → List (Call E) → List E
   posts_to key before [] = before
   posts_to key before (Added k ∷ calls) = posts_to key before calls

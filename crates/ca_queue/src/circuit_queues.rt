@@ -79,7 +79,7 @@ impl<E: Drop, Q: Queues<E>> CircuitQueues<E, Q> {
         None
     }
 
-    /// Puts an entry of a subscription into the queue that has it, which is at this place. It takes no memory.
+    /// Puts an entry of a subscription into the queue that has it, which is at this place. It does not allocate.
     pub fn post(&mut self, place: usize, key: SubKey, entry: E)
         requires { HasAt self.old place key }
         ensures { self.new ≡ map (queue_posted key entry) self.old }

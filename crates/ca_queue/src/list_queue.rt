@@ -173,7 +173,7 @@ fn may_take(subscriptions: &[Subscription], events_on: bool) -> bool
     events_on || is_crowded(subscriptions)
 }
 
-// Whether a post takes the place of its subscription's last entry: it has so many, of so many that wait.
+// Whether a post takes the place of its subscription's last entry: it has n, of m that wait.
 fn is_replacing(count: usize, length: usize, events_on: bool) -> bool
     requires { length ≤ queue_places }
     ensures { result

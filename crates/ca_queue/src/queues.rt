@@ -20,7 +20,7 @@ pub trait Queues<E> {
     /// Whether the room for all that comes was made.
     ghost has_room: { Self → Bool };
 
-    /// A queue with no subscription, with events on. It takes no memory yet.
+    /// A queue with no subscription, with events on. It does not allocate yet.
     fn new(alloc: Global) -> Self
         ensures made { contents result ≡ no_queue }
         ensures room { IsFalse (has_room result) }

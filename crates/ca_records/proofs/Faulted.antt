@@ -20,7 +20,7 @@ not_fault : IsFault refusal.OutOfMemory → ⊥
 not_fault (inl f) = not_text f
 not_fault (inr f) = not_range f
 
--- a conversion has no fault for want of memory
+-- a conversion has no fault as out of memory
 pub converted-memory : (e : Elements) (b : BaseType) → converted e b ≡ Err refusal.OutOfMemory → ⊥
 converted-memory e b h =
     let none : HasConversion (base_of e) b → ⊥ = λ c. not_fault (converted-fault e b c refusal.OutOfMemory h) in

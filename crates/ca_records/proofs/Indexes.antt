@@ -60,7 +60,7 @@ pub place_of-insert : {K : Type 0} (bytes : K → List ℕ) (es : List (K × ℕ
 place_of-insert bytes [] k v name = rw is_eq-slice_cmp
 place_of-insert bytes (e ∷ es) k v name = put bytes e es (insert_entry (λ x y. slice_cmp nat_cmp (bytes x) (bytes y)) es k v) k v name (slice_cmp nat_cmp (bytes k) (bytes e.0)) refl (place_of-insert bytes es k v name)
 
--- an index after a record of a new name was put behind the others
+-- an index after a record of a new name was put after the others
 pub index-grows : (records : List RecordState) (r : RecordState) (f g : List ℕ → Option ℕ) → IsIndex records f → (IsServed records r.name → ⊥) → ((name : List ℕ) → g name ≡ cond (bytes_eq name r.name) (Some (length records)) (f name)) → IsIndex (records ++ r ∷ []) g
 index-grows records r f g index new grown = record {
   found = λ name place e. elim (true_or_false (bytes_eq name r.name)) [

@@ -5,6 +5,6 @@ use Rattle.ca_text.specs.Place.{At}
 use Rattle.ca_records.specs.declared.puts.Put.{Put}
 use Rattle.ca_records.specs.Puts.{Record}
 
--- this put waits for the record after so many others
+-- this put waits for the record after n others
 abbrev pub WaitsAt : Record → ℕ → Put → Type 0
 WaitsAt r place p = (value : Elements) × At r.waiting place (record { put = p; value = value })

@@ -6,6 +6,6 @@ use Rattle.ca_records.specs.contracts.served_record.ServedRecord as served_recor
 use Rattle.ca_records.specs.contracts.slot.Slot as slot
 use Rattle.ca_records.specs.Puts.{Record}
 
--- the slot ends with the last value behind the result
+-- the slot ends with the last value that the result refers to
 abbrev pub lends_full : MutBor Slot → MutBor Record → Fml
 lends_full s r = Lends slot.the_row served_record.the_row s r Full

@@ -23,7 +23,7 @@ pub record RecordState : Type 0 where
 abbrev pub unset : Meta
 unset = record { status = 0; severity = 0; seconds = 0; nanos = 0 }
 
--- A count that a record may have, and a value that fits it: one element to so many.
+-- A count that a record may have, and a value that fits it: one element to n.
 pub record HoldsValue (count : ℕ) (value : Elements) : Type 0 where
   pub one : 0 < count_of value
   pub within : count_of value ≤ count

@@ -109,13 +109,13 @@ Posts old name e meta (Err fault) new = PostFault (records_of old) name e fault 
 
 -- ---- records come and go
 
--- The record comes to a place; or it is refused, last for want of memory.
+-- The record comes to a place; or it is refused, last as OutOfMemory.
 abbrev pub Adds : Store → RecordState → Result ℕ Refusal → Store → Type 0
 Adds old s (Ok place) new = MayAdd (records_of old) s × Enters old place (new_record s) new
 Adds old s (Err refusal.OutOfMemory) new = MayAdd (records_of old) s × (new ≡ old)
 Adds old s (Err e) new = AddFault (records_of old) s e × (new ≡ old)
 
--- The same, of a record whose name is new: it comes to a new place, behind all others.
+-- The same, of a record whose name is new: it comes to a new place, after all others.
 abbrev pub Defines : Store → RecordState → Result ℕ Refusal → Store → Type 0
 Defines old s (Ok place) new = MayAdd (records_of old) s × (place ≡ length old.slots) × (new ≡ with_place (new_record s) old) × (records_of new ≡ records_of old ++ new_record s ∷ [])
 Defines old s (Err refusal.OutOfMemory) new = MayAdd (records_of old) s × (new ≡ old)

@@ -14,7 +14,7 @@ pub fn busy_put(served: &ServedRecord) -> Option<Put>
     served.busy_put()
 }
 
-/// The put that waits for this record after so many others.
+/// The put that waits for this record after n others.
 pub fn waiting_put(served: &ServedRecord, place: usize) -> Put
     requires { place < length served.now.waiting }
     ensures { WaitsAt served.now place result }

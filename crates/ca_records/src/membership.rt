@@ -40,9 +40,9 @@ impl ServedRecords {
         Ok(())
     }
 
-    /// Adds a record of a new name behind all others, with metadata of zeros, and tells its place.
+    /// Adds a record of a new name after all others, with metadata of zeros, and tells its place.
     ///
-    /// Refused by 12 if this is no name, by 15 if the record may not have this value, and then by 1. A refusal changes
+    /// Refused as NameLength if this is no name, as BadCount if the record may not have this value, and then as OutOfMemory. A refusal changes
     /// nothing.
     pub fn define(
         &mut self,
@@ -70,8 +70,8 @@ impl ServedRecords {
 
     /// Adds a record, with metadata of zeros, and tells its place: the one that became free last, or a new one.
     ///
-    /// Refused by 12 if this is no name, by 28 if it is served, by 15 if the record may not have this value, and then
-    /// by 1. A refusal changes nothing.
+    /// Refused as NameLength if this is no name, as RecordExists if it is served, as BadCount if the record may not have this value, and then
+    /// as OutOfMemory. A refusal changes nothing.
     pub fn add(
         &mut self,
         name: &[u8],
@@ -135,9 +135,9 @@ impl ServedRecords {
         Ok(place)
     }
 
-    /// Takes the record of this name out, with its puts, and tells its place, which is free then. It takes no memory.
+    /// Takes the record of this name out, with its puts, and tells its place, which is free then. It does not allocate.
     ///
-    /// Refused by 20 if no record has the name.
+    /// Refused as UnknownRecord if no record has the name.
     pub fn remove(&mut self, name: &[u8]) -> Result<usize, Refusal>
         ensures { Removes self.old name.now result self.new }
     {

@@ -89,7 +89,7 @@ impl Records {
         }
     }
 
-    /// Adds a record behind the others, with metadata of zeros. A refusal changes nothing.
+    /// Adds a record after the others, with metadata of zeros. A refusal changes nothing.
     pub fn define(
         &mut self,
         name: &[u8],
@@ -109,7 +109,7 @@ impl Records {
         self.add(name, count, slow, value, Meta::ZERO)
     }
 
-    /// Adds a record behind the others.
+    /// Adds a record after the others.
     fn add(
         &mut self,
         name: &[u8],
@@ -150,7 +150,7 @@ impl Records {
         Ok(copy)
     }
 
-    /// Adds a copy of another's record behind the others.
+    /// Adds a copy of another's record after the others.
     fn put_copy(&mut self, other: &Record) -> Result<(), AllocError>
         requires { IsServed self.old other.now.name → ⊥ }
         ensures { OnOk result (self.new ≡ self.old ++ other.now ∷ []) }

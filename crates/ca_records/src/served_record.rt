@@ -40,7 +40,7 @@ impl Model for ServedRecord {
 }
 
 impl ServedRecord {
-    // A record, neither busy nor waited for. It takes no memory.
+    // A record, neither busy nor waited for. It does not allocate.
     pub(crate) fn new(alloc: Global, state: Record) -> ServedRecord
         ensures { result ≡ new_record state }
     {

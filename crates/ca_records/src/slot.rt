@@ -7,7 +7,7 @@ ghost use Rattle.ca_records.specs.Lending.{lends_full};
 use crate::served_record::ServedRecord;
 use std::mem;
 
-// What is at a place: a record, or nothing; then it names the free place behind it, if there is one.
+// What is at a place: a record, or nothing; then it names the free place after it, if there is one.
 #[derive(Debug, Drop)]
 pub(crate) enum Slot {
     Full(ServedRecord),

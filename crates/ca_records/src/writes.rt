@@ -14,7 +14,7 @@ impl ServedRecords {
     /// Begins a write to the record at this place: a put with notification, or a plain write, which has none.
     ///
     /// A plain write is applied at once. A put is applied at once too if the record is not busy, and makes a slow one
-    /// busy; if it is busy the put waits, behind the others. A refused write changes nothing, and neither does one
+    /// busy; if it is busy the put waits, after the others. A refused write changes nothing, and neither does one
     /// for which there is no memory.
     pub fn begin_write(
         &mut self,
@@ -34,9 +34,9 @@ impl ServedRecords {
         begun
     }
 
-    /// Ends the busy put of the record of this name, and applies the next one that waits. It takes no memory.
+    /// Ends the busy put of the record of this name, and applies the next one that waits. It does not allocate.
     ///
-    /// Refused by 20 if no record has the name, and by 21 if its record is not busy.
+    /// Refused as UnknownRecord if no record has the name, and as NotBusy if its record is not busy.
     pub fn finish(&mut self, name: &[u8]) -> Result<Finished, Refusal>
         ensures { Finishes self.old name.now result self.new }
     {
@@ -58,7 +58,7 @@ impl ServedRecords {
     }
 
     /// Takes the waiting puts of a circuit, or of one channel of it, out of the record at this place. They are never
-    /// applied. It takes no memory.
+    /// applied. It does not allocate.
     pub fn withdraw(&mut self, place: usize, circuit: Handle, channel: Option<Handle>)
         requires { IsThere self.old place }
         ensures { Withdraws self.old place circuit channel self.new }
@@ -69,7 +69,7 @@ impl ServedRecords {
 
     /// Sets the value of the record of this name, and what goes with it. Tells its place.
     ///
-    /// Refused by 20 if no record has the name, by 4 if the value is not of its type, and by 15 if it has no element
+    /// Refused as UnknownRecord if no record has the name, as BadType if the value is not of its type, and as BadCount if it has no element
     /// or more than the greatest count.
     pub fn post(&mut self, name: &[u8], value: Value, meta: Meta) -> Result<usize, Refusal>
         ensures { Posts self.old name.now (elements value) meta result self.new }

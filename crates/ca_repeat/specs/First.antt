@@ -8,13 +8,13 @@ use Rattle.ca_wire.specs.Message.{Spells}
 use Rattle.ca_repeat.specs.declared.first.First.{First}
 use Rattle.ca_repeat.specs.declared.first.First.TheVariants.{Registration, BlankBeacon, Other}
 
--- a whole message of this form stands first, and this behind it
+-- a whole message of this form stands first, and this after it
 pub record StandsFirst (bytes : List ℕ) (m : Fields) (behind : List ℕ) : Type 0 where
   pub front : List ℕ
   pub spells : Spells front m
   pub are : bytes ≡ front ++ behind
 
--- no byte, or a whole REPEATER_REGISTER and this behind it
+-- no byte, or a whole REPEATER_REGISTER and this after it
 abbrev pub Registers : List ℕ → List ℕ → Type 0
 Registers bytes behind = ((bytes ≡ []) × (behind ≡ [])) ⊎ ((m : Fields) × StandsFirst bytes m behind × (m.command ≡ command_number RepeaterRegister))
 
@@ -32,7 +32,7 @@ registers (Registration end) = true
 registers BlankBeacon = false
 registers Other = false
 
--- What is handed on of a datagram from this address: what stands behind a registration; a beacon with no address
+-- What is handed on of a datagram from this address: what stands after a registration; a beacon with no address
 -- with its sender's in place of the second parameter; any other datagram as it is.
 abbrev pub passed : First → ℕ → List ℕ → List ℕ
 passed (Registration end) ip bytes = drop end bytes

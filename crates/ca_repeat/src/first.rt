@@ -9,7 +9,7 @@ use std::alloc::{AllocError, Global};
 /// What a datagram begins with.
 #[derive(Clone, Copy)]
 pub(crate) enum First {
-    /// Nothing, or a REPEATER_REGISTER of so many bytes.
+    /// Nothing, or a REPEATER_REGISTER of n bytes.
     Registration(usize),
     /// An RSRV_IS_UP whose address is zero.
     BlankBeacon,

@@ -68,7 +68,7 @@ fn is_among(members: &[Address], from: Address) -> bool
     members.iter().any(|member| is_same(*member, from))
 }
 
-/// Whether the registration of this sender is answered, among so many members.
+/// Whether the registration of this sender is answered, among n members.
 fn is_admitted(first: First, from: Address, known: bool, count: usize) -> bool
     ensures { result
         ≡ (registers first && loopback from && (known || nat_lt count repeater_members)) }
@@ -115,7 +115,7 @@ fn hand_on(
     Ok(())
 }
 
-/// Puts a new member behind the others.
+/// Puts a new member after the others.
 fn enroll(
     members: &mut Vec<Address>,
     answered: bool,

@@ -42,7 +42,7 @@ impl Model for Requests {
 }
 
 impl Requests {
-    /// No request. It takes no memory yet.
+    /// No request. It does not allocate yet.
     pub fn new(alloc: Global) -> Self
         ensures { result ≡ record { table = []; order = [] } }
     {
@@ -62,7 +62,7 @@ impl Requests {
 
     /// Issues a request on this channel, which is sent on this circuit. It is open from now on.
     ///
-    /// Refused by 9 if no IOID may be given, then by 1.
+    /// Refused as ArenaFull if no IOID may be given, then as OutOfMemory.
     pub fn issue(
         &mut self,
         channel: Handle,
@@ -190,7 +190,7 @@ impl Requests {
         self.count(Which::OnCircuit(circuit))
     }
 
-    /// Puts the open requests that were sent on this circuit after what is told, in order of issue. It takes no memory: there
+    /// Puts the open requests that were sent on this circuit after what is told, in order of issue. It does not allocate: there
     /// is room for them.
     pub fn tell_circuit(&self, circuit: Handle, told: &mut Vec<Handle>)
         requires { vec_len told.old + length (open_of (was_sent_on circuit) self.now)
@@ -216,21 +216,21 @@ impl Requests {
         tell_in(&self.table, &self.listed, which, told);
     }
 
-    /// The requests on this channel are over, and their IOIDs drain. It takes no memory.
+    /// The requests on this channel are over, and their IOIDs drain. It does not allocate.
     pub fn end_channel(&mut self, channel: Handle)
         ensures { self.new ≡ with_table (channel_over channel self.old.table) self.old }
     {
         end_all(&mut self.table, channel);
     }
 
-    /// The IOIDs of this channel's requests are free. It takes no memory.
+    /// The IOIDs of this channel's requests are free. It does not allocate.
     pub fn free_channel(&mut self, channel: Handle)
         ensures { self.new ≡ with_table (channel_gone channel self.old.table) self.old }
     {
         free_all(&mut self.table, Which::OnChannel(channel));
     }
 
-    /// The IOIDs of the requests that were sent on this circuit are free. It takes no memory.
+    /// The IOIDs of the requests that were sent on this circuit are free. It does not allocate.
     pub fn free_circuit(&mut self, circuit: Handle)
         ensures { self.new ≡ with_table (circuit_gone circuit self.old.table) self.old }
     {

@@ -88,7 +88,7 @@ goes-server a b m words same h =
       };
     }
 
--- the names behind a record more
+-- the names after a record more
 pub names-more : (old new : List RecordState) (words : List (List ℕ)) (h : SaysRecord words old new) → map name_of new ≡ map name_of old ++ h.r.name ∷ []
 names-more old new words h = ap (λ (rs : List RecordState). map name_of rs) h.after ∙ map-append name_of old (h.r ∷ [])
 

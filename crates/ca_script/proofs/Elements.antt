@@ -7,7 +7,7 @@ use Rattle.ca_text.proofs.Places.{At-one, At-within}
 use Rattle.ca_records.specs.Record.{IsRecord, RecordState}
 use Rattle.ca_script.specs.Lines.{IsHex, IsString}
 
--- so many bytes in front of zeros are a text
+-- n bytes in front of zeros are a text
 pub hex-string : (word bytes : List ℕ) (k : ℕ) → IsHex word bytes → length bytes ≡ k → k ≤ 40 → IsString word (bytes ++ drop k (replicate 40 0))
 hex-string word bytes k hex len le =
     let left : 40 - k ≡ 40 - length bytes = omega (arith, len) in

@@ -14,7 +14,7 @@ leads-on {S} Adds old mid final line left left' e adds h = subst (λ (ls : List 
 pub leads-here : {S : Type 0} (Adds : S → List (List ℕ) → S → Type 0) (old : S) (left : List ℕ) → left ≡ [] → Lead Adds old (lines_of left) old
 leads-here {S} Adds old left e = subst (λ (ls : List (List ℕ)). Lead {S = S} Adds old ls old) (sym (lines-none left e)) refl
 
--- what can be read behind one can be read behind the other
+-- what can be read after one can be read after the other
 reads-too : {S : Type 0} (Adds : S → List (List ℕ) → S → Type 0) (Alike : S → S → Type 0) → ((a b m : S) (words : List (List ℕ)) → Alike a b → Adds a words m → (to : S) × Adds b words to × Alike m to) → (a b final : S) (lines : List (List ℕ)) → Alike a b → Lead Adds a lines final → (end : S) × Lead Adds b lines end
 reads-too Adds Alike goes a b final [] same h = (b, refl)
 reads-too Adds Alike goes a b final (line ∷ lines) same (m, adds, more) =
@@ -22,7 +22,7 @@ reads-too Adds Alike goes a b final (line ∷ lines) same (m, adds, more) =
     let rest = reads-too Adds Alike goes m next.0 final lines next.2 more in
     (rest.0, (next.0, next.1, rest.1))
 
--- where all lines that are left can be read, the others can be read behind what the first one was taken to say
+-- where all lines that are left can be read, the others can be read after what the first one was taken to say
 pub follows-left : {S : Type 0} (Adds : S → List (List ℕ) → S → Type 0) (Alike : S → S → Type 0) → ((a b m : S) (words : List (List ℕ)) → Alike a b → Adds a words m → (to : S) × Adds b words to × Alike m to) → ((a m n : S) (words : List (List ℕ)) → Adds a words m → Adds a words n → Alike m n) → (here mid final : S) (line left left' : List ℕ) → lines_of left ≡ line ∷ lines_of left' → Adds here (parted 32 line) mid → Lead Adds here (lines_of left) final → (end : S) × Lead Adds mid (lines_of left') end
 follows-left {S} Adds Alike goes same here mid final line left left' e adds h =
     let all : Lead Adds here (line ∷ lines_of left') final = subst (λ (ls : List (List ℕ)). Lead {S = S} Adds here ls final) e h in

@@ -37,7 +37,7 @@ address-numbers text pieces address is h = subst (λ (ps : List (List ℕ)). Are
 pub no-first-octet : (text : List ℕ) (pieces : List (List ℕ)) → pieces ≡ parted 46 text → NoOctet pieces → (address : ℕ) → IsAddress text address → ⊥
 no-first-octet text pieces is nay address h = no-octet pieces nay h.a (h.b ∷ h.c ∷ h.d ∷ []) (address-numbers text pieces address is h) h.bytes.0
 
--- the numbers behind the first, the second, the third and the fourth
+-- the numbers after the first, the second, the third and the fourth
 behind-a : (text : List ℕ) (p q : List (List ℕ)) (v : List ℕ) (address : ℕ) → p ≡ parted 46 text → p ≡ v ∷ q → (h : IsAddress text address) → AreNumbers q (h.b ∷ h.c ∷ h.d ∷ [])
 behind-a text p q v address is first h = behind-first p v q first h.a (h.b ∷ h.c ∷ h.d ∷ []) (address-numbers text p address is h)
 
@@ -62,7 +62,7 @@ no-third-octet text p q r v w is first second nay address h = no-octet r nay h.c
 pub no-last-octet : (text : List ℕ) (p q r s : List (List ℕ)) (v w x : List ℕ) → p ≡ parted 46 text → p ≡ v ∷ q → q ≡ w ∷ r → r ≡ x ∷ s → NoOctet s → (address : ℕ) → IsAddress text address → ⊥
 no-last-octet text p q r s v w x is first second third nay address h = no-octet s nay h.d [] (behind-c text p q r s v w x address is first second third h) h.bytes.3
 
--- nor where a fifth stands behind them
+-- nor where a fifth stands after them
 pub address-goes-on : (text : List ℕ) (p q r s t : List (List ℕ)) (v w x y : List ℕ) → p ≡ parted 46 text → p ≡ v ∷ q → q ≡ w ∷ r → r ≡ x ∷ s → s ≡ y ∷ t → (t ≡ [] → ⊥) → (address : ℕ) → IsAddress text address → ⊥
 address-goes-on text p q r s t v w x y is first second third fourth nay address h = nay (no-numbers t (behind-d text p q r s t v w x y address is first second third fourth h))
 

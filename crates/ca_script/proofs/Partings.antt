@@ -1,4 +1,4 @@
--- A text is parted at its first separator.
+-- A text is separated at its first separator.
 use Rattle.std.proofs.Common.{◌≡◌, Bor, Option, Some, ℕ, zero, suc, ◌+◌, ◌-◌, ◌<◌, Bool, true, false, cond, eqb, List, [], ◌∷◌, length, get_or, take, drop, refl, ap, ◌∙◌, arith}
 use Rattle.std.proofs.lemmas.List.{take_all, length-drop}
 use Rattle.std.specs.Prelude.{option_map}
@@ -25,7 +25,7 @@ parted-at s (x ∷ xs) (suc k) l h e =
     let rest : parted s xs ≡ take k xs ∷ parted s (drop (suc k) xs) = parted-at s xs k (omega (arith, l)) (λ i m. h (suc i) (omega arith)) e in
     rw (here, rest) refl
 
--- what is left behind a place, as a slice gives it
+-- what is left after a place, as a slice gives it
 pub left-behind : (text : List ℕ) (k : ℕ) → take (length text - k) (drop k text) ≡ drop k text
 left-behind text k = take_all (length text - k) (drop k text) (omega (arith, length-drop k text))
 

@@ -11,7 +11,7 @@ rights-is-some true false = omega arith
 rights-is-some false true = omega arith
 rights-is-some false false = omega arith
 
--- what is left behind three words of a rule
+-- what is left after three words of a rule
 pub behind-three : (words a b c : List (List ℕ)) (user host name : List ℕ) → words ≡ user ∷ a → a ≡ host ∷ b → b ≡ name ∷ c → (r : Rule) → SaysRule words r → c ≡ rights_word r.reads r.writes ∷ []
 behind-three words a b c user host name first second third r h =
     cc (h.are)

@@ -21,7 +21,7 @@ pub none-first : (words : List (List ℕ)) → ((w : List ℕ) (ws : List (List 
 none-first [] nay n ns h = absurd h
 none-first (w ∷ ws) nay n ns h = nay w ws n refl h.0
 
--- behind the first word stand the other numbers
+-- after the first word stand the other numbers
 pub behind-first : (words : List (List ℕ)) (w : List ℕ) (rest : List (List ℕ)) → words ≡ w ∷ rest → (n : ℕ) (ns : List ℕ) → AreNumbers words (n ∷ ns) → AreNumbers rest ns
 behind-first words w rest e n ns h = let both : AreNumbers (w ∷ rest) (n ∷ ns) = subst (λ (x : List (List ℕ)). AreNumbers x (n ∷ ns)) e h in both.1
 
@@ -29,7 +29,7 @@ pub no-numbers : (words : List (List ℕ)) → AreNumbers words [] → words ≡
 no-numbers [] h = refl
 no-numbers (w ∷ ws) h = absurd h
 
--- what is left behind two words
+-- what is left after two words
 behind-two : (words mid rest more : List (List ℕ)) (w name v u : List ℕ) → words ≡ w ∷ mid → mid ≡ name ∷ rest → words ≡ v ∷ u ∷ more → rest ≡ more
 behind-two words mid rest more w name v u first second are =
     let mids : mid ≡ u ∷ more = ap (λ (xs : List (List ℕ)). drop 1 xs) (sym first ∙ are) in

@@ -30,7 +30,7 @@ abbrev pub end_word : End → List ℕ
 end_word end.Client = codes "client"
 end_word end.Server = codes "server"
 
--- `open C NAME PRIORITY`, behind the verb: any word is a name here
+-- `open C NAME PRIORITY`, after the verb: any word is a name here
 pub record SaysOpen (client : ℕ) (name : List ℕ) (priority : ℕ) (words : List (List ℕ)) : Type 0 where
   pub first : List ℕ
   pub last : List ℕ
@@ -39,13 +39,13 @@ pub record SaysOpen (client : ℕ) (name : List ℕ) (priority : ℕ) (words : L
   pub named : 0 < length name
   pub level : IsNumber last priority
 
--- `cut K client|server`, behind the verb
+-- `cut K client|server`, after the verb
 pub record SaysCut (circuit : ℕ) (e : End) (words : List (List ℕ)) : Type 0 where
   pub first : List ℕ
   pub are : words ≡ first ∷ end_word e ∷ []
   pub of : IsNumber first circuit
 
--- these words behind this verb say this event
+-- these words after this verb say this event
 abbrev pub Says : Verb → List (List ℕ) → Event → Type 0
 Says verb.Open words (event.Open client name priority) = SaysOpen client name.items priority words
 Says verb.Read words (event.Read client channel data_type count) = AreNumbers words (client ∷ channel ∷ data_type ∷ count ∷ [])

@@ -34,7 +34,7 @@ abbrev pub Lead : {S : Type 0} → (S → List (List ℕ) → S → Type 0) → 
 Lead Adds old [] new = new ≡ old
 Lead {S} Adds old (line ∷ lines) new = (mid : S) × Adds old (parted 32 line) mid × Lead Adds mid lines new
 
--- Why a text is refused: as one that says nothing of this kind, or for want of memory.
+-- Why a text is refused: as one that says nothing of this kind, or as out of memory.
 abbrev pub Refuses : {A : Type 0} → (A → Type 0) → Refusal → Type 0
 Refuses Says BadText = (x : _) → Says x → ⊥
 Refuses Says OutOfMemory = ⊤

@@ -20,7 +20,7 @@ pub record SaysClient (words : List (List ℕ)) (c : List ℕ × List ℕ) : Typ
   pub host : 0 < length c.1
   pub fits : IsNamed c
 
--- four numbers below 256, parted by dots: the bytes of an address, the highest first
+-- four numbers below 256, separated by dots: the bytes of an address, the highest first
 pub record IsAddress (text : List ℕ) (address : ℕ) : Type 0 where
   pub a : ℕ
   pub b : ℕ
@@ -71,7 +71,7 @@ IsFloat word n = IsHex word (bytes_4 n)
 abbrev pub IsDouble : List ℕ → ℕ → Type 0
 IsDouble word n = IsHex word (bytes_8 n)
 
--- a word is the digits of the text's first bytes; zeros stand behind them
+-- a word is the digits of the text's first bytes; zeros stand after them
 abbrev pub IsString : List ℕ → List ℕ → Type 0
 IsString word text = (bytes : List ℕ) × IsHex word bytes × (length bytes ≤ 40) × (text ≡ bytes ++ replicate (40 - length bytes) 0)
 
@@ -104,7 +104,7 @@ abbrev pub slow_word : Bool → List ℕ
 slow_word true = codes "slow"
 slow_word false = codes "quick"
 
--- `record NAME TYPE COUNT quick|slow V1 V2 ..`: a record of a new name stands behind the old ones
+-- `record NAME TYPE COUNT quick|slow V1 V2 ..`: a record of a new name stands after the old ones
 pub record SaysRecord (words : List (List ℕ)) (old new : List RecordState) : Type 0 where
   pub r : RecordState
   pub number : List ℕ

@@ -12,7 +12,7 @@ use Rattle.ca_small_model.specs.declared.data.Logged.TheVariants as logged
 use Rattle.ca_small_model.specs.declared.data.Notice.{Notice}
 use Rattle.ca_small_model.specs.declared.data.Notice.TheVariants as notice
 
--- a word and a number: the number stands behind a space
+-- a word and a number: the number stands after a space
 abbrev pub counted : List ℕ → ℕ → List ℕ
 counted word n = word ++ decimal n
 

@@ -67,7 +67,7 @@ Adds old words new = AddsClient old words new ⊎ (AddsServer old words new ⊎ 
 abbrev pub AddsAll : Reading → List (List ℕ) → Reading → Type 0
 AddsAll old lines new = Lead Adds old lines new
 
--- no line stands behind the last line feed
+-- no line stands after the last line feed
 abbrev pub whole_lines : List (List ℕ) → List (List ℕ)
 whole_lines [] = []
 whole_lines ([] ∷ []) = []

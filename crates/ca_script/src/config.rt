@@ -27,7 +27,7 @@ impl Model for Named {
 }
 
 impl Named {
-    /// Refused by 8 where one of them is too long for a message.
+    /// Refused as BadText if one of them is too long for a message.
     pub fn new(user: Vec<u8>, host: Vec<u8>) -> Result<Named, Refusal>
         ensures { MatchResult result (λ n. (n ≡ (user.items, host.items)) × IsNamed n)
             (λ e. (e ≡ BadText) × (IsNamed (user.items, host.items) → ⊥)) }

@@ -17,13 +17,13 @@ const PLUS: u8 = b'+';
 trait Element: Copy + Drop {
     ghost says: { List ℕ → Self → Type 0 };
 
-    /// The element that a word is. Refused by 8.
+    /// The element that a word is. Refused as BadText.
     fn read(word: &[u8]) -> Result<Self, Refusal>
         ensures ok { IfOk result (λ x. says word.now x) }
         ensures err { IfErr result (λ e. (e ≡ BadText) × ((x : Self) → says word.now x → ⊥)) };
 }
 
-/// The base type that a word names. Refused by 8.
+/// The base type that a word names. Refused as BadText.
 pub(crate) fn base_in(word: &[u8]) -> Result<BaseType, Refusal>
     ensures ok { IfOk result (λ b. word.now ≡ type_word b) }
     ensures err { IfErr result (λ e.
@@ -53,7 +53,7 @@ pub(crate) fn base_in(word: &[u8]) -> Result<BaseType, Refusal>
     Err(Refusal::BadText)
 }
 
-/// The elements of this type that the words left are. Refused by 8, then by 1.
+/// The elements of this type that the words left are. Refused as BadText, then as OutOfMemory.
 pub(crate) fn read_value(alloc: Global, base: BaseType, words: Words<'_>) -> Result<Value, Refusal>
     ensures ok { IfOk result (λ v. AreElements words.entry (elements v)) }
     ensures base { IfOk result (λ v. base_of (elements v) ≡ base) }
@@ -71,7 +71,7 @@ pub(crate) fn read_value(alloc: Global, base: BaseType, words: Words<'_>) -> Res
     }
 }
 
-/// The elements that the words left are. Refused by 8, then by 1.
+/// The elements that the words left are. Refused as BadText, then as OutOfMemory.
 fn read_all<E: Element>(alloc: Global, mut words: Words<'_>) -> Result<Vec<E>, Refusal>
     ensures ok { IfOk result (λ v. AreEach E.says words.entry v.items) }
     ensures err { IfErr result (λ e. Refuses (AreEach E.says words.entry) e) }
@@ -83,7 +83,7 @@ fn read_all<E: Element>(alloc: Global, mut words: Words<'_>) -> Result<Vec<E>, R
     Ok(items)
 }
 
-/// The whole number that a word is, where it has at most 64 bits. Refused by 8.
+/// The whole number that a word is, where it has at most 64 bits. Refused as BadText.
 fn whole_in(word: &[u8]) -> Result<i64, Refusal>
     ensures ok { IfOk result (λ z. IsWhole word.now z) }
     ensures err { IfErr result (λ e.
@@ -101,7 +101,7 @@ fn whole_in(word: &[u8]) -> Result<i64, Refusal>
     }
 }
 
-/// Reads a word's hexadecimal digits into just as many bytes. Refused by 8.
+/// Reads a word's hexadecimal digits into just as many bytes. Refused as BadText.
 fn read_hex(word: &[u8], bytes: &mut [u8]) -> Result<(), Refusal>
     ensures ok { OnOk result (IsHex word.now bytes.new) }
     ensures err { IfErr result (λ e.

@@ -57,7 +57,7 @@ impl Verb {
     }
 }
 
-/// Reads an event from the words behind its verb. Refused by 8 where they are none, then by 1.
+/// Reads an event from the words after its verb. Refused as BadText if they are none, then as OutOfMemory.
 pub(crate) fn read_event(alloc: Global, verb: Verb, words: Words<'_>) -> Result<Event, Refusal>
     ensures ok { IfOk result (λ e. Says verb words.entry e) }
     ensures err { IfErr result (λ e. Refuses (Says verb words.entry) e) }
@@ -97,7 +97,7 @@ pub(crate) fn read_event(alloc: Global, verb: Verb, words: Words<'_>) -> Result<
     }
 }
 
-/// `open C NAME PRIORITY`, behind the verb.
+/// `open C NAME PRIORITY`, after the verb.
 fn read_open(alloc: Global, mut words: Words<'_>) -> Result<Event, Refusal>
     ensures ok { IfOk result (λ e. Says verb.Open words.entry e) }
     ensures err { IfErr result (λ e. Refuses (Says verb.Open words.entry) e) }
@@ -113,7 +113,7 @@ fn read_open(alloc: Global, mut words: Words<'_>) -> Result<Event, Refusal>
     })
 }
 
-/// `cut K client|server`, behind the verb.
+/// `cut K client|server`, after the verb.
 fn read_cut(mut words: Words<'_>) -> Result<Event, Refusal>
     ensures ok { IfOk result (λ e. Says verb.Cut words.entry e) }
     ensures err { IfErr result (λ e. Refuses (Says verb.Cut words.entry) e) }

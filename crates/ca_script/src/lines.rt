@@ -10,7 +10,7 @@ use ca_records::{Records, Rule};
 use ca_text::Refusal;
 use std::alloc::{AllocError, Global};
 
-/// `USER HOST`, behind the line's first word. Refused by 8, then by 1.
+/// `USER HOST`, after the line's first word. Refused as BadText, then as OutOfMemory.
 pub(crate) fn read_client(alloc: Global, mut words: Words<'_>) -> Result<Named, Refusal>
     ensures ok { IfOk result (λ n. SaysClient words.entry n) }
     ensures err { IfErr result (λ e. Refuses (SaysClient words.entry) e) }
@@ -23,7 +23,7 @@ pub(crate) fn read_client(alloc: Global, mut words: Words<'_>) -> Result<Named, 
     Named::new(user, host)
 }
 
-/// `A.B.C.D:PORT`, behind the line's first word: an IPv4 address and a port. Refused by 8.
+/// `A.B.C.D:PORT`, after the line's first word: an IPv4 address and a port. Refused as BadText.
 pub(crate) fn read_server(mut words: Words<'_>) -> Result<(u32, u16), Refusal>
     ensures ok { IfOk result (λ p. SaysServer words.entry p.0 p.1) }
     ensures err { IfErr result (λ e.
@@ -42,7 +42,7 @@ pub(crate) fn read_server(mut words: Words<'_>) -> Result<(u32, u16), Refusal>
     }
 }
 
-/// The address that a text is: four numbers below 256, parted by dots. Refused by 8.
+/// The address that a text is: four numbers below 256, separated by dots. Refused as BadText.
 fn address_in(text: &[u8]) -> Result<u32, Refusal>
     ensures ok { IfOk result (λ address. IsAddress text.now address) }
     ensures err { IfErr result (λ e.
@@ -71,8 +71,8 @@ fn octet(parts: &mut Pieces<'_, 46>) -> Result<u8, Refusal>
     }
 }
 
-/// `NAME TYPE COUNT quick|slow V1 V2 ..`, behind the line's first word: a record of a new name is defined. Refused by 8, then
-/// by 1, with no record defined.
+/// `NAME TYPE COUNT quick|slow V1 V2 ..`, after the line's first word: a record of a new name is defined. Refused as BadText, then
+/// as OutOfMemory, with no record defined.
 pub(crate) fn read_record(
     alloc: Global,
     mut words: Words<'_>,
@@ -102,7 +102,7 @@ pub(crate) fn read_record(
     }
 }
 
-/// Whether a put takes the record time, as a word says. Refused by 8.
+/// Whether a put takes the record time, as a word says. Refused as BadText.
 fn slow_in(word: &[u8]) -> Result<bool, Refusal>
     ensures ok { IfOk result (λ slow. word.now ≡ slow_word slow) }
     ensures err { IfErr result (λ e.
@@ -117,7 +117,7 @@ fn slow_in(word: &[u8]) -> Result<bool, Refusal>
     Err(Refusal::BadText)
 }
 
-/// `USER HOST RECORD rw|r|w|-`, after the line's first word: `*` stands for everything. Refused by 8, then by 1.
+/// `USER HOST RECORD rw|r|w|-`, after the line's first word: `*` stands for everything. Refused as BadText, then as OutOfMemory.
 pub(crate) fn read_rule(alloc: Global, mut words: Words<'_>) -> Result<Rule, Refusal>
     ensures ok { IfOk result (λ r. SaysRule words.entry r) }
     ensures err { IfErr result (λ e. Refuses (SaysRule words.entry) e) }
@@ -146,7 +146,7 @@ fn pattern(alloc: Global, word: &[u8]) -> Result<Option<Vec<u8>>, AllocError>
     Ok(Some(Vec::from_slice(alloc, word)?))
 }
 
-/// Whether a rule lets read and write, as a word says. Refused by 8.
+/// Whether a rule lets read and write, as a word says. Refused as BadText.
 fn rights_in(word: &[u8]) -> Result<(bool, bool), Refusal>
     ensures ok { IfOk result (λ r. word.now ≡ rights_word r.0 r.1) }
     ensures err { IfErr result (λ e.

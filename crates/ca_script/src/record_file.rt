@@ -17,7 +17,7 @@ pub struct RecordFile {
     pub rules: Vec<Rule>,
 }
 
-/// Reads a record file: lines of records and of rules, in any order. Refused by 8 if a line is not understood, and by 1; an
+/// Reads a record file: lines of records and of rules, in any order. Refused as BadText if a line is not understood, and as OutOfMemory; an
 /// empty text is never refused.
 pub fn read_records(alloc: Global, text: &[u8]) -> Result<RecordFile, Refusal>
     ensures says { IfOk result (λ f. SaysFile text.now (file_reading f)) }

@@ -9,7 +9,7 @@ use ca_small_model::{Logged, Notice};
 use ca_text::Refusal;
 use itoa::Buffer;
 
-/// Writes a line for each entry of a client's log. Refused by 1 only if it has one; the text is then as before.
+/// Writes a line for each entry of a client's log. Refused as OutOfMemory only if it has one; the text is then as before.
 pub fn write_log(client: u64, log: &[Logged], out: &mut Vec<u8>) -> Result<(), Refusal>
     ensures ok { OnOk result (out.new.items ≡ out.old.items ++ log_text client log.now) }
     ensures err { IfErr result (λ e. (e ≡ OutOfMemory) × (out.new.items ≡ out.old.items)) }
@@ -26,7 +26,7 @@ pub fn write_log(client: u64, log: &[Logged], out: &mut Vec<u8>) -> Result<(), R
     Ok(())
 }
 
-/// Writes the last line of a report: how many events were done. Refused by 1; the text is then as before.
+/// Writes the last line of a report: how many events were done. Refused as OutOfMemory; the text is then as before.
 pub fn write_end(events: u64, out: &mut Vec<u8>) -> Result<(), Refusal>
     ensures ok { OnOk result (out.new.items ≡ out.old.items ++ end_text events) }
     ensures err { IfErr result (λ e. (e ≡ OutOfMemory) × (out.new.items ≡ out.old.items)) }

@@ -20,8 +20,8 @@ pub struct Script {
     pub events: Vec<Event>,
 }
 
-/// Reads a script: lines of a client, of a server and its records, and then of events. Refused by 8 where a line is not
-/// understood, and by 1; an empty text is never refused. The small world knows no rules of access, so that a line of a
+/// Reads a script: lines of a client, of a server and its records, and then of events. Refused as BadText if a line is not
+/// understood, and as OutOfMemory; an empty text is never refused. The small world knows no rules of access, so that a line of a
 /// rule is not understood.
 pub fn read_script(alloc: Global, text: &[u8]) -> Result<Script, Refusal>
     ensures lines { IfOk result (λ s. AddsAll nothing (lines_of text.now) (reading s)) }
@@ -121,7 +121,7 @@ fn add_server(alloc: Global, words: Words<'_>, script: &mut Script) -> Result<()
     Ok(())
 }
 
-/// A record comes behind its server, and before the events.
+/// A record comes after its server, and before the events.
 fn add_record(alloc: Global, words: Words<'_>, script: &mut Script) -> Result<(), Refusal>
     requires clients { length script.old.config.clients.items ≤ 1 }
     requires servers { length script.old.config.servers.items ≤ 1 }

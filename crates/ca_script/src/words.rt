@@ -8,7 +8,7 @@ use std::marker::Model;
 
 const PLUS: u8 = b'+';
 
-/// What stands before the first separator, and what stands behind it, where there is one.
+/// What stands before the first separator, and what stands after it, where there is one.
 pub(crate) fn cut<'a>(text: &'a [u8], separator: u8) -> (&'a [u8], Option<&'a [u8]>)
     ensures pieces { parted separator text.now
         ≡ result.0.now ∷ pieces_left separator (option_map (λ r. r.now) result.1) }
@@ -56,7 +56,7 @@ impl<'a, const SEPARATOR: u8> Pieces<'a, SEPARATOR> {
         }
     }
 
-    /// Takes the next piece, which has a byte at least. Refused by 8 where there is none.
+    /// Takes the next piece, which has a byte at least. Refused as BadText if there is none.
     pub(crate) fn word(&mut self) -> Result<&'a [u8], Refusal>
         ensures ok { IfOk result (λ w. (self.old ≡ w.now ∷ self.new) × (0 < length w.now)) }
         ensures err { IfErr result (λ e.
@@ -74,7 +74,7 @@ impl<'a, const SEPARATOR: u8> Pieces<'a, SEPARATOR> {
         Ok(word)
     }
 
-    /// Takes the next piece, which is a decimal number. Refused by 8 where there is none.
+    /// Takes the next piece, which is a decimal number. Refused as BadText if there is none.
     pub(crate) fn number(&mut self) -> Result<u64, Refusal>
         ensures ok { IfOk result (λ n. (w : List ℕ) × (self.old ≡ w ∷ self.new) × IsNumber w n) }
         ensures err { IfErr result (λ e.
@@ -84,7 +84,7 @@ impl<'a, const SEPARATOR: u8> Pieces<'a, SEPARATOR> {
         number_in(self.word()?)
     }
 
-    /// Refused by 8 where a piece is left.
+    /// Refused as BadText if a piece is left.
     pub(crate) fn end(&self) -> Result<(), Refusal>
         ensures ok { IfOk result (λ _. self.now ≡ []) }
         ensures err { IfErr result (λ e. (e ≡ BadText) × (self.now ≡ [] → ⊥)) }
@@ -103,7 +103,7 @@ pub(crate) fn is_word(word: &[u8], text: &str) -> bool
     word == text.as_bytes()
 }
 
-/// The decimal number that a word is. Refused by 8.
+/// The decimal number that a word is. Refused as BadText.
 fn number_in(word: &[u8]) -> Result<u64, Refusal>
     ensures { MatchResult result (λ n. IsNumber word.now n)
         (λ e. (e ≡ BadText) × ((n : ℕ) → IsNumber word.now n → ⊥)) }

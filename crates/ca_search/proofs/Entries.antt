@@ -28,7 +28,7 @@ none_is (Some x) e = absurd cc
 pub not-held : (cid : ℕ) (es : Entries) → holds cid es ≡ false → lookup (nat_eq cid) es ≡ None
 not-held cid es e = none_is _ (held cid es ∙ e)
 
--- one put behind the others
+-- one put after the others
 pub one-added : (old : Searches) (moment now top cid : ℕ) (es ns : Entries) (name given : List ℕ) (place : Channel) → ◌≡◌ {A = Searches} (record { moment = moment; channels = es }) old → top ≡ max moment now → ◌≡◌ {A = Channel} place (record { name = given; clock = Some (fresh top) }) → given ≡ name → ns ≡ es ++ (cid, place) ∷ []
     → ◌≡◌ {A = Searches} (record { moment = top; channels = ns }) (record { moment = at old now; channels = old.channels ++ (cid, record { name = name; clock = Some (fresh (at old now)) }) ∷ [] })
 one-added old moment now top cid es ns name given place view a b c d = rw (← view, d, b, c, a) refl
@@ -78,7 +78,7 @@ one-set f cid es ns v w set is found = set ∙ ap (λ (x : Channel). set_value (
 pub none-set : (f : Channel → Channel) (cid : ℕ) (es ns : Entries) → ns ≡ es → None ≡ lookup (nat_eq cid) es → ns ≡ with_one f cid es
 none-set f cid es ns same none = same ∙ none-written f cid es (sym none)
 
--- this done to the first so many
+-- this done to the first n
 abbrev pub stepped : (Channel → Channel) → ℕ → Entries → Entries
 stepped f zero es = es
 stepped f (suc n) [] = []

@@ -11,7 +11,7 @@ pub record Channel : Type 0 where
 abbrev pub paused : Channel → Channel
 paused c = record c { clock = None }
 
--- resumed: its count of searches begins anew
+-- resumed: its count of searches begins again
 abbrev pub resumed : ℕ → Channel → Channel
 resumed now c = record c { clock = Some (fresh now) }
 

@@ -72,7 +72,7 @@ impl Place {
         self.clock = Some(SearchClock::new(now));
     }
 
-    /// Begins anew, unless the channel is paused.
+    /// Begins again, unless the channel is paused.
     pub fn boost(&mut self, now: u64)
         ensures { self.new ≡ boosted now self.old }
     {

@@ -45,7 +45,7 @@ impl Searcher {
         self.places.contains_key(&cid)
     }
 
-    /// Adds a channel behind the others: its first search is due at once. Refused by 1, which changes nothing.
+    /// Adds a channel after the others: its first search is due at once. Refused as OutOfMemory, which changes nothing.
     pub fn add(&mut self, cid: u32, name: &ChannelName<'_>, now: u64) -> Result<(), Refusal>
         requires { holds cid self.old.channels ≡ false }
         ensures { Adds self.old cid name.now now result self.new }
@@ -67,7 +67,7 @@ impl Searcher {
         }
     }
 
-    /// The channel is searched anew: its first search is due at once.
+    /// The channel is searched again: its first search is due at once.
     pub fn resume(&mut self, cid: u32, now: u64)
         ensures { self.new
             ≡ record {
@@ -102,7 +102,7 @@ impl Searcher {
         Ok(found)
     }
 
-    /// All that are not paused begin anew: their first searches are due at once.
+    /// All that are not paused begin again: their first searches are due at once.
     pub fn boost(&mut self, now: u64)
         ensures { self.new
             ≡ record {
@@ -142,7 +142,7 @@ fn pass(places: &mut IndexMap<u32, Place>, now: u64)
     }
 }
 
-/// Begins anew for all that are not paused.
+/// Begins again for all that are not paused.
 fn boost(places: &mut IndexMap<u32, Place>, now: u64)
     ensures { places.new.entries ≡ with_all (boosted now) places.old.entries }
 {

@@ -42,7 +42,7 @@ pub record Takes (e : ServerEnd) : Type 0 where
 abbrev pub after_first : {e : ServerEnd} → Takes e → ServerEnd
 after_first {e} t = record e { link = with_rest t.rest e.link }
 
--- Why an end breaks: for want of memory for its first message, or at a bad header.
+-- Why an end breaks: out of memory for its first message, or at a bad header.
 abbrev pub BreaksBy : (port : ℕ) → Store → ServerEnd → Cause → Type 0
 BreaksBy port s e cause.OutOfMemory = (t : Takes e) × ((t.m.payload ≢ []) ⊎ MayLack (known port s (after_first t)) t.m)
 BreaksBy port s e cause.Misaligned = (length e.link.output < output_limit) × BadAt e.link.input.bytes refusal.Misaligned

@@ -34,7 +34,7 @@ impl Model for Channels {
 }
 
 impl Channels {
-    // None. It takes no memory yet.
+    // None. It does not allocate yet.
     pub(crate) fn new(alloc: Global) -> Channels
         ensures { result ≡ [] }
     {

@@ -35,7 +35,7 @@ impl Model for Circuit {
 }
 
 impl Circuit {
-    // One that was accepted at this moment. It takes no memory yet.
+    // One that was accepted at this moment. It does not allocate yet.
     pub(crate) fn new(alloc: Global, now: u64) -> Circuit
         ensures { result ≡ server.Open (new_end now) }
     {
@@ -44,7 +44,7 @@ impl Circuit {
         }
     }
 
-    // Takes bytes that came at this moment. Refused by 17 if its end is not open, then by 1.
+    // Takes bytes that came at this moment. Refused as CircuitClosed if its end is not open, then as OutOfMemory.
     pub(crate) fn give(&mut self, now: u64, bytes: &[u8]) -> Result<(), Refusal>
         requires { IsLive self.old }
         ensures { GivesAt now bytes.now self.old result self.new }

@@ -48,7 +48,7 @@ impl Model for End {
 }
 
 impl End {
-    /// The end of a circuit that was accepted at this moment. It takes no memory yet.
+    /// The end of a circuit that was accepted at this moment. It does not allocate yet.
     pub(crate) fn new(alloc: Global, now: u64) -> End
         ensures { result ≡ new_end now }
     {
@@ -77,7 +77,7 @@ pub(crate) fn send(link: &mut Link, message: &Message) -> Result<(), AllocError>
     }
 }
 
-/// The text of a message, in a Vec of its own. An empty text takes no memory.
+/// The text of a message, in a Vec of its own. An empty text does not allocate.
 pub(crate) fn text_of(alloc: Global, message: &Message) -> Result<Vec<u8>, AllocError>
     ensures ok { IfOk result (λ v. v.items ≡ text_in message.now.payload) }
     ensures err { OnErr result (text_in message.now.payload ≡ [] → ⊥) }

@@ -73,7 +73,7 @@ fn read_elements(
     }
 }
 
-/// How many bytes so many elements take at least: a single STRING may come in any number.
+/// How many bytes n elements take at least: a single STRING may come in any number.
 fn least_size(base: BaseType, count: u32) -> usize
     ensures { result ≡ least_size base count }
 {

@@ -76,7 +76,7 @@ impl ServerCore {
         })
     }
 
-    /// A circuit is accepted, and gets a handle. Refused by 9 if none may be given, then by 1. A refusal changes nothing.
+    /// A circuit is accepted, and gets a handle. Refused as ArenaFull if none may be given, then as OutOfMemory. A refusal changes nothing.
     pub fn accept(&mut self) -> Result<Handle, Refusal>
         ensures { Accepts self.old result self.new }
     {
@@ -86,7 +86,7 @@ impl ServerCore {
         }
     }
 
-    /// Takes bytes that came on a circuit. Refused by 17 if its end is not open, then by 1. A refusal changes nothing.
+    /// Takes bytes that came on a circuit. Refused as CircuitClosed if its end is not open, then as OutOfMemory. A refusal changes nothing.
     pub fn give(&mut self, circuit: Handle, bytes: &[u8]) -> Result<(), Refusal>
         ensures { Gives self.old circuit bytes.now result self.new }
     {

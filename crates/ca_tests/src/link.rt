@@ -4,7 +4,7 @@ use ca_wire::{Message, Payload};
 use std::io::Write;
 use std::test::Fail;
 
-/// Reads once, into a buffer of so many bytes.
+/// Reads once, into a buffer of n bytes.
 fn read_piece<S: Source>(source: &mut S, buffer: &mut [u8]) -> Option<Result<usize, Fault>> {
     if buffer.is_empty() || source.calls() == u64::MAX || source.faults() == u64::MAX {
         return None;
@@ -196,7 +196,7 @@ fn a_full_output_takes_own_messages_alone(rt: HostRuntime) -> Result<(), Fail> {
     Ok(())
 }
 
-/// Hands over the first n bytes that wait, if there are so many.
+/// Hands over the first n bytes that wait, if there are that many.
 fn handed_over(link: &mut Link, n: usize) {
     if n <= link.out_bytes().len() {
         link.sent(n);

@@ -204,7 +204,7 @@ fn a_bad_header_is_final(rt: HostRuntime) -> Result<(), Fail> {
     Ok(())
 }
 
-/// A message is spelled, with bytes behind it, and read back: so many bytes, of which the first ones are these.
+/// A message is spelled, with bytes after it, and read back: n bytes, of which the first ones are these.
 fn read_back(alloc: Global, message: &Message, bytes: &[u8]) -> Result<Message, Fail> {
     let mut out = Vec::new(alloc);
     spell(message, &mut out)?;

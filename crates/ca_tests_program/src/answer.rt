@@ -11,7 +11,7 @@ const REQUESTS: &[u8] =
 const CREATED: &[u8] =
     b"\0\x16\0\0\0\0\0\0\0\x01\0\0\0\0\0\x03\0\x12\0\0\0\x05\0\x01\0\x01\0\0\0\x01\0\0";
 
-/// Bytes that come in pieces of at most so many.
+/// Bytes that come in pieces of at most n.
 #[derive(Drop)]
 struct Pieces<'a> {
     bytes: &'a [u8],

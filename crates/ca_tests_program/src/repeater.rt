@@ -44,7 +44,7 @@ fn the_greatest_datagram_goes_on_whole(rt: HostRuntime) -> Result<(), Fail> {
     let repeater = bound(&rt)?;
     let at = repeater.local_addr()?;
     let (member, sender) = (bound(&rt)?, bound(&rt)?);
-    // IPv4 has room for so many bytes behind its header and UDP's.
+    // IPv4 has room for as many bytes after its header and UDP's.
     let datagram = vec![in rt.alloc(); 0u8; 65_507]?;
     member.send_to(b"", at)?;
     sender.send_to(&datagram, at)?;

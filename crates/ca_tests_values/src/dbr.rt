@@ -230,7 +230,7 @@ fn texts(rt: HostRuntime) -> Result<(), Fail> {
     )
 }
 
-/// A read of so many elements in a type shows these bytes, or is refused so.
+/// A read of n elements in a type shows these bytes, or is refused so.
 fn shows<R: AllocGlobal + Abort>(
     rt: &R,
     number: u16,

@@ -67,7 +67,7 @@ fn withdraw(served: &mut ServedRecords, name: &[u8], circuit: u16) {
     }
 }
 
-/// Whether the record of this name has this value, is busy or not, and has so many puts that wait.
+/// Whether the record of this name has this value, is busy or not, and has that many puts that wait.
 fn has(served: &ServedRecords, name: &[u8], value: &Value, is_busy: bool, waits: usize) -> bool {
     match served.find(name) {
         None => false,

@@ -19,7 +19,7 @@ At-append [] ys k x h = absurd cc
 At-append (z ∷ xs) ys zero x h = h
 At-append (z ∷ xs) ys (suc k) x h = At-append xs ys k x h
 
--- what stands behind a list stands at its length and on
+-- what stands after a list stands at its length and on
 pub At-after : {A : Type 0} (xs ys : List A) (k : ℕ) (x : A) → At ys k x → At (xs ++ ys) (length xs + k) x
 At-after [] ys k x h = (let z : 0 + k ≡ k = omega arith in rw z h)
 At-after (y ∷ xs) ys k x h = (let z : suc (length xs) + k ≡ suc (length xs + k) = omega arith in rw z (At-after xs ys k x h))

@@ -30,7 +30,7 @@ impl<'a, const LIMIT: usize> Model for Name<'a, LIMIT> {
 }
 
 impl<'a, const LIMIT: usize> Name<'a, LIMIT> {
-    /// Refused by 12 where these bytes are no such name.
+    /// Refused as NameLength if these bytes are no such name.
     pub fn read(bytes: &'a [u8]) -> Result<Name<'a, LIMIT>, Refusal>
         ensures { MatchResult result (λ n. (n ≡ bytes.now) × IsName LIMIT bytes.now)
             (λ e. (e ≡ NameLength) × (IsName LIMIT bytes.now → ⊥)) }

@@ -21,7 +21,7 @@ pub never-err : {T E : Type 0} (r : Result T E) (P Q : Type 0) → OnErr r P →
 never-err (Ok x) P Q p refuted = tt
 never-err (Err x) P Q p refuted = absurd (refuted p)
 
--- room was missing for so many more
+-- room was missing for n more
 pub lacked : {T E : Type 0} (r : Result T E) (capacity was m n : ℕ) → OnErr r (capacity < was + m) → m ≡ n → OnErr r (capacity < was + n)
 lacked (Ok x) capacity was m n full e = tt
 lacked (Err x) capacity was m n full e = omega (arith, full, e)

@@ -20,7 +20,7 @@ message-same m n h p =
     let made : Header → List ℕ → Fields = λ g t. record { command = g.command; data_type = g.data_type; count = g.count; p1 = g.p1; p2 = g.p2; payload = t } in
     ap (λ (g : Header). made g m.payload) h ∙ ap (λ (t : List ℕ). made (header_of n) t) p
 
--- the header, and what stands behind it
+-- the header, and what stands after it
 pub spells-behind : (m : Fields) (a x : List ℕ) (s : Spells a m) → a ++ x ≡ s.head ++ (m.payload ++ x)
 spells-behind m a x s = ap (λ (t : List ℕ). t ++ x) s.are ∙ append_assoc s.head m.payload x
 

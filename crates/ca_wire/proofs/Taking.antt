@@ -12,7 +12,7 @@ use Rattle.ca_wire.specs.Message.{header_of, Spells}
 use Rattle.ca_wire.specs.Stream.{Held}
 use Rattle.ca_wire.specs.Reading.{IsWhole, Takes, HasPayload, Nexts}
 
--- the bytes behind a header that stands there
+-- the bytes after a header that stands there
 pub held-part : (lent held : List ℕ) (start size : ℕ) → lent ≡ held → take (start + size - start) (drop start lent) ≡ take size (drop start held)
 held-part lent held start size e =
     let n : start + size - start ≡ size = omega arith in

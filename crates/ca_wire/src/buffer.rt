@@ -78,7 +78,7 @@ impl Buffer {
         spell(message, &mut self.bytes)
     }
 
-    /// Puts the message after the others with this payload of so many bytes, which is made in its place. A refusal
+    /// Puts the message after the others with this payload of n bytes, which is made in its place. A refusal
     /// changes nothing.
     pub fn put_made<P: Payload>(
         &mut self,

@@ -117,7 +117,7 @@ impl Model for Priority {
 }
 
 impl Priority {
-    /// The one of this number. Refused by 25 if it is over 99.
+    /// The one of this number. Refused as BadPriority if it is over 99.
     pub fn read(number: u64) -> Result<Priority, Refusal>
         ensures { MatchResult result (λ p. (p ≡ number) × (number ≤ priority_limit))
             (λ e. (e ≡ BadPriority) × (priority_limit < number)) }

@@ -18,7 +18,7 @@ pub trait Payload {
         ensures { Makes (made self.now) out.old.items result out.new.items };
 }
 
-/// Writes the one spelling of the message with this payload, of so many bytes, at the end. A refusal changes nothing.
+/// Writes the one spelling of the message with this payload, of n bytes, at the end. A refusal changes nothing.
 pub fn spell_made<P: Payload>(
     head: &Message,
     size: usize,
@@ -66,7 +66,7 @@ fn write_made<P: Payload>(
     Ok(())
 }
 
-/// Puts zeros after so many bytes of a payload, up to a multiple of 8.
+/// Puts zeros after n bytes of a payload, up to a multiple of 8.
 fn pad(size: usize, out: &mut Vec<u8>) -> Result<(), AllocError>
     ensures ok { OnOk result (out.new.items ≡ out.old.items ++ replicate ((8 - size % 8) % 8) 0) }
     ensures err { OnErr result (out.new.items ≡ out.old.items) }

@@ -52,7 +52,7 @@ impl Model for Message {
 impl Message {
     /// The message of these fields, its payload filled with zeros up to a multiple of 8.
     ///
-    /// Refused by 3 where the payload is over the limit.
+    /// Refused as TooLarge if the payload is over the limit.
     pub fn new(
         command: u16,
         data_type: u16,
@@ -88,7 +88,7 @@ impl Message {
         })
     }
 
-    /// The message of these fields, whose payload needs no padding. It takes no memory.
+    /// The message of these fields, whose payload needs no padding. It does not allocate.
     pub(crate) fn of_fields(
         command: u16,
         data_type: u16,
@@ -118,7 +118,7 @@ impl Message {
         }
     }
 
-    /// The message of these fields, with no payload. It takes no memory.
+    /// The message of these fields, with no payload. It does not allocate.
     pub(crate) fn with_no_payload(
         alloc: Global,
         command: Command,

@@ -59,7 +59,7 @@ impl Pipe {
         self.buffer.put(message)
     }
 
-    /// Puts the message after what waits, with this payload of so many bytes, which is made in its place. A refusal
+    /// Puts the message after what waits, with this payload of n bytes, which is made in its place. A refusal
     /// changes nothing.
     pub fn put_made<P: Payload>(
         &mut self,

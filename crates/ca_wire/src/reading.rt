@@ -20,7 +20,7 @@ pub enum One {
     Whole(Head),
     /// Less than one.
     More,
-    /// A whole header that is refused: by 2 for a size that is no multiple of 8, else by 3 for one over the limit.
+    /// A whole header that is refused: as Misaligned for a size that is no multiple of 8, else as TooLarge for one over the limit.
     Bad(Refusal),
 }
 
@@ -86,7 +86,7 @@ pub(crate) fn head_at(bytes: &[u8]) -> Option<Head>
     Some(Head { header, start: 24 })
 }
 
-/// The two-byte number at the front, and what stands behind it.
+/// The two-byte number at the front, and what stands after it.
 fn number16_at(bytes: &[u8]) -> (u16, &[u8])
     requires { 2 ≤ length bytes.now }
     ensures front { bytes.now ≡ number16 result.0 ++ result.1.now }
@@ -96,7 +96,7 @@ fn number16_at(bytes: &[u8]) -> (u16, &[u8])
     (u16::from_be_bytes([front[0], front[1]]), rest)
 }
 
-/// The four-byte number at the front, and what stands behind it.
+/// The four-byte number at the front, and what stands after it.
 fn number32_at(bytes: &[u8]) -> (u32, &[u8])
     requires { 4 ≤ length bytes.now }
     ensures front { bytes.now ≡ number32 result.0 ++ result.1.now }

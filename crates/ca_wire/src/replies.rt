@@ -41,7 +41,7 @@ pub struct Answered {
     pub count: u32,
 }
 
-// ---- how they are made. One without a payload takes no memory.
+// ---- how they are made. One without a payload does not allocate.
 
 /// VERSION.
 pub fn version_reply(alloc: Global) -> Message
@@ -119,7 +119,7 @@ pub fn cleared_reply(alloc: Global, request: &Message) -> Message
     clear_request(alloc, sid, cid)
 }
 
-/// READ_NOTIFY, answered by so many elements and their image. Only padding takes memory.
+/// READ_NOTIFY, answered by n elements and their image. Only padding takes memory.
 pub fn value_reply(request: &Message, count: u32, image: Vec<u8>) -> Result<Message, AllocError>
     requires { length image.items ≤ payload_limit }
     ensures ok { IfOk result (λ m. m ≡ value_reply request.now count image.items) }
@@ -186,7 +186,7 @@ pub fn error_reply(
     Ok(Message::of_fields(command, 0, 0, cid.number(), status.number, payload))
 }
 
-/// An update: so many elements of this type and their image. Only padding takes memory.
+/// An update: n elements of this type and their image. Only padding takes memory.
 pub fn update(answered: Answered, image: Vec<u8>) -> Result<Message, AllocError>
     requires { length image.items ≤ payload_limit }
     ensures ok { IfOk result (λ m.

@@ -29,7 +29,7 @@ pub struct ChannelIds {
     pub cid: Cid,
 }
 
-// ---- how they are made. One without a payload takes no memory.
+// ---- how they are made. One without a payload does not allocate.
 
 /// A command alone: ECHO, EVENTS_OFF or EVENTS_ON.
 pub fn bare(alloc: Global, command: Command) -> Message
@@ -66,7 +66,7 @@ pub fn search_request(alloc: Global, cid: Cid, name: &[u8]) -> Result<Message, A
     Message::with_padding(command, NO_REPLY_WANTED, minor, cid, cid, payload)
 }
 
-/// The header of a SEARCH whose payload has so many bytes.
+/// The header of a SEARCH whose payload has n bytes.
 pub fn search_header(cid: Cid, size: u32) -> Header
     ensures { result ≡ record (header_of (search_request cid [])) { size = size } }
 {

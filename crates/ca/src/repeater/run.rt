@@ -14,7 +14,7 @@ use std::net::Ipv4Addr;
 const DATAGRAM: usize = 65_535;
 
 /// Runs the host's repeater on what was bound, tells a refusal on `err`, and returns the exit status. Where nothing could
-/// be bound it is refused by 23. Port 0 is the system's choice, and a line to the sink says which it is.
+/// be bound it is refused as Device. Port 0 is the system's choice, and a line to the sink says which it is.
 pub fn repeater_bound<D: Datagrams + Drop, K: Sink, W: Write>(
     alloc: Global,
     bound: Result<D, Fault>,
@@ -36,7 +36,7 @@ pub fn repeater_bound<D: Datagrams + Drop, K: Sink, W: Write>(
     }
 }
 
-/// Writes where datagrams are received, if the system chose the port. Refused by 23 where it cannot, and by 1.
+/// Writes where datagrams are received, if the system chose the port. Refused as Device if it cannot, and as OutOfMemory.
 fn told_port<D: Datagrams, K: Sink>(
     alloc: Global,
     datagrams: &D,
@@ -67,7 +67,7 @@ fn told_port<D: Datagrams, K: Sink>(
     }
 }
 
-/// Runs the host's repeater until it took so many datagrams, or without end; tells a refusal on `err`, and returns the
+/// Runs the host's repeater until it took n datagrams, or without end; tells a refusal on `err`, and returns the
 /// exit status.
 ///
 /// A send that is refused drops that member. A receive that fails ends the run with refusal 23, no memory with 1.
@@ -87,7 +87,7 @@ pub fn repeater_run<D: Datagrams, W: Write>(
     report(repeat(alloc, datagrams, count), err)
 }
 
-/// Runs the host's repeater until so many datagrams came. Refused by 23 where a receive fails, and by 1; a send that fails
+/// Runs the host's repeater until n datagrams came. Refused as Device if a receive fails, and as OutOfMemory; a send that fails
 /// drops that member.
 pub fn repeat<D: Datagrams>(alloc: Global, datagrams: &mut D, count: u64) -> Result<(), Refusal>
     ensures { Repeats D.went D.refuses D.came D.fails count datagrams.old result datagrams.new }

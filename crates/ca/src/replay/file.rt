@@ -9,7 +9,7 @@ use std::alloc::Global;
 use std::io::{self, Error, ErrorKind, Read, Write};
 
 /// Replays the script that a file holds, tells a refusal on `err`, and returns the exit status. A file that could not be
-/// opened, or cannot be read, is refused by 23.
+/// opened, or cannot be read, is refused as Device.
 pub fn replay_file<F: Read + Drop, K: Sink, W: Write>(
     alloc: Global,
     file: io::Result<F>,

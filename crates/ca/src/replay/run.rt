@@ -17,8 +17,8 @@ use std::io::Write;
 /// Does a script's events in a world, writes the report, tells a refusal on `err`, and returns the exit status. No seed is
 /// known yet.
 ///
-/// A line that is not understood is refused by 8 before any event; an event that cannot be done by 22, after the report
-/// of those before it; an output that cannot be written by 23.
+/// A line that is not understood is refused as BadText before any event; an event that cannot be done as BadEvent, after the report
+/// of those before it; an output that cannot be written as Device.
 pub fn replay_run<K: Sink, W: Write>(
     alloc: Global,
     script: &[u8],
