@@ -64,7 +64,7 @@ with_reading v k n = record { board = v.board; takes = v.takes; gives = v.gives;
 abbrev pub IsDue : CoreView → Ticket → Type 0
 IsDue v t = Has v.arms t × IsUnfilled v.fills t × ¬ (Has v.refused t)
 
--- What an arm answers: the next ticket of a cell that is free, which is then to be filled; or refusal 24, where each
+-- What an arm answers: the next ticket of a cell that is free, which is then to be filled; or NoCell, if each
 -- cell is in use
 abbrev pub HasArmed : CoreView → Result Ticket Refusal → CoreView → Type 0
 HasArmed old result new = MatchResult result

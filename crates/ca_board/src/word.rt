@@ -1,5 +1,5 @@
 //! The words of cells. A word holds a cell's generation and its state, and only grows.
-ghost use Rattle.std.specs.Prelude.{◌≡◌, ◌<◌, ◌+◌, ◌*◌, ◌/◌, ◌⊎◌, IsTrue};
+ghost use Rattle.std.specs.Prelude.{◌≡◌, ◌<◌, ◌+◌, ◌*◌, ◌/◌, ◌⊎◌, ◌≢◌, IsFalse, IsTrue};
 ghost use Rattle.ca_board.specs.Words.{state_number, word_of};
 
 use crate::ticket::Ticket;
@@ -25,7 +25,9 @@ pub(crate) fn word(ticket: Ticket, state: State) -> u64
 
 /// The ticket of a cell with this word has ended: its outcome was taken and the slot is back, or it was given up.
 pub(crate) fn has_ended(word: u64) -> bool
-    ensures { IsTrue result → (word ≡ 8 * (word / 8) + 4) ⊎ (word ≡ 8 * (word / 8) + 5) }
+    ensures ended { IsTrue result → (word ≡ 8 * (word / 8) + 4) ⊎ (word ≡ 8 * (word / 8) + 5) }
+    ensures other { IsFalse result
+        → (word ≢ 8 * (word / 8) + 4) × (word ≢ 8 * (word / 8) + 5) }
 {
     word % 8 == number(State::Empty) || word % 8 == number(State::GivenUp)
 }

@@ -1,4 +1,4 @@
--- Working: what the code has of a channel as the vocabulary has it.
+-- Vocabulary: what the code has of a channel as the vocabulary has it.
 use Rattle.std.specs.Prelude.{◌≡◌, Bool, false, None, Some, Result, Ok, Err, if◌then◌else◌, refl}
 use Rattle.ca_text.specs.declared.refusal.Refusal.{Refusal}
 use Rattle.ca_client_core.specs.declared.channel.Native.{Native}

@@ -51,7 +51,8 @@ impl ClientCore {
         count: u32,
     ) -> Option<Refusal>
         ensures { result
-            ≡ live_ask_fault self.now full circuit native.count rights (record { data_type = data_type; count = count }) }
+            ≡ live_ask_fault self.now full circuit native.count rights
+            (record { data_type = data_type; count = count }) }
     {
         if data_type > LAST_TYPE {
             return Some(Refusal::BadType);

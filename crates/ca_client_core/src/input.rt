@@ -12,10 +12,10 @@ use ca_wire::bare;
 use std::alloc::{AllocError, Global};
 
 impl ClientCore {
-    /// Takes bytes that were read on a circuit, where the read left more waiting or not: after several reads in a row that did,
+    /// Takes bytes that were read on a circuit, and whether the read left more waiting: after several reads in a row that did,
     /// the client asks for a pause of updates.
     ///
-    /// Refused as CircuitClosed if the circuit is not connected, then as OutOfMemory.
+    /// Refused as CircuitClosed if the circuit is not connected, then as OutOfMemory, only if there are bytes or a message to send.
     pub fn give(&mut self, circuit: Handle, bytes: &[u8], more: bool) -> Result<(), Refusal>
         ensures { (sent : List Sending)
             × ClientGives self.old circuit bytes.now more result sent self.new }

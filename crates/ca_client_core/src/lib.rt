@@ -1,6 +1,9 @@
 //! The client's end of Channel Access: channels, requests and subscriptions over many circuits, with no input and no output of its own.
 //!
-//! A caller moves the bytes, and gives the moment. What is reported comes as answers of the calls.
+//! A caller moves the bytes, and hands in the moment. What is reported comes as answers of the calls.
+//!
+//! Begun: `new`, `open`, `channel_state`, `give`, `out_bytes`, `sent`, `unsubscribe` and `wanted` are there. `connected`, `step`, `read`,
+//! `write`, `write_notify`, `subscribe`, `clear`, `cut`, `close`, `tick` and `datagram` are not, so that no circuit has an end yet.
 #![tactic(auto)]
 
 mod asking;

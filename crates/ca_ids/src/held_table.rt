@@ -81,7 +81,7 @@ impl<T> HeldTable<T> {
 
     /// Puts `value` under a handle that was never given before, whose wire id it holds from now on.
     ///
-    /// It is refused, and handed back, where no id may be given, and where the room for one more is missing.
+    /// It is refused, and handed back, if no id may be given, and if there is no memory for one more index.
     pub fn open(&mut self, value: T) -> Result<Handle, (T, Refusal)>
         ensures { Gives self.old value result self.new }
     {

@@ -1,4 +1,5 @@
-//! Laws of one circuit: what the ids that are in flight mean, as its two lists grow.
+//! Laws of one circuit: what the ids in flight mean as its two lists grow, and what a client's
+//! tables hold of it.
 #![tactic(auto)]
 
 mod channels;

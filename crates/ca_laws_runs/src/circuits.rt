@@ -14,8 +14,12 @@ ghost use Rattle.ca_model_world.specs.World.{ClientSide, Joined, ServerSide, Wor
 ghost use Rattle.ca_laws_circuit.specs.Held.{Attached, MeanToSubscribe};
 ghost use Rattle.ca_laws_runs.specs.Circuit.{AreGiven, AreNumbered, HaveHandles, HeldAt, IsKnown, IsNext};
 
-/// A call of a client, done or refused, keeps what is held of each circuit of the world: its
-/// messages may be sent, and each id that may still come back is held by what it was given to last.
+/// A read, a put, a write, a subscription, its end, or a clear by a client, done or refused, keeps
+/// what is held of each circuit of the world: its messages may be sent, and each id that may still
+/// come back is held by what it was given to last.
+///
+/// Names name only handles that its tables gave; what is meant by each subscription is to subscribe;
+/// requests are on circuits on which their channels were live.
 pub fn calls_keep_each_circuit()
     ensures read { (kept : List ℕ) (w new : World) (i k c : ℕ) (x : ClientSide) (h : Handle)
         (data_type count : ℕ) → At w.clients i x → AreGiven x.names.requests x.core.requests
@@ -40,6 +44,7 @@ pub fn calls_keep_each_circuit()
 {}
 
 /// So do bytes that move on any circuit, and the cut of an end at its client or at its server.
+/// The open ends of one client have handles of their own.
 pub fn moves_keep_each_circuit()
     ensures up { (kept : List ℕ) (w new : World) (k l n : ℕ) (j : Joined) (x : ClientSide)
         (y : ServerSide) → At w.circuits k j → At w.clients j.client x → HappensUp w k n j x y new
@@ -56,6 +61,9 @@ pub fn moves_keep_each_circuit()
 
 /// So does a step of a client's end: whatever message it reads, and whether it reads one or closes.
 /// The message that comes next is one that the server sent, and it is known what that is about.
+///
+/// Its end is open and connected, its channels have numbers, and what the calls need of names and
+/// tables holds here too.
 pub fn a_clients_step_keeps_each_circuit()
     ensures { (kept : List ℕ) (w new : World) (k l : ℕ) (j : Joined) (x : ClientSide)
         (d : Connection) → At w.circuits k j → At w.clients j.client x

@@ -179,8 +179,8 @@ pub fn ends_of_circuits_withdraw_puts()
         × AreOpen (map (ending ends) circuits) (map (without_puts (ends_at ends circuits)) rs) }
 {}
 
-/// What is due for a write says what is done: a put that is told Done at once is applied, and a
-/// write that is told Failed does nothing.
+/// What is due for a write says what is done: a put that is told Done at once is applied, if only
+/// slow records are busy; and a write that is told Failed does nothing.
 pub fn due_replies_say_what_is_done()
     ensures done { (k : Knows) (m : Fields) (replies : List Fields) (action : Action) (r : Fields)
         → AreSlow k → Due k m replies action → Is WriteNotify m → In replies r → Means r Done
@@ -200,7 +200,7 @@ pub fn what_a_reply_says_stays_so()
 
 /// What holds of the writes of a world (each server's records are what the log of its life tells,
 /// and each log has each write once) holds before any event. It stays so while servers and logs
-/// stay as they are and circuits go on, as in each event at a client; as a record is added; and as
+/// stay as they are and circuits go on, as is meant for events at a client; as a record is added; and as
 /// a server begins a new life.
 pub fn writes_stay_as_a_world_goes_on()
     ensures begins { (s : Setting) → IsSetting s → Writes (opening s) }

@@ -14,6 +14,7 @@ use Rattle.ca_ids.specs.Wire.{wire_of}
 use Rattle.ca_search.specs.Clock.{fresh}
 use Rattle.ca_wire.specs.declared.requests.Wanted.{Wanted}
 use Rattle.ca_wire.specs.Messages.{clear_request, event_add_request, event_cancel_request, put_request, read_request}
+use Rattle.ca_requests.specs.Calls.{new_request}
 use Rattle.ca_requests.specs.Requests.{Asked, Request, asks_on}
 use Rattle.ca_requests.specs.Requests as request
 use Rattle.ca_monitor.specs.Subscriptions.{Subscription, standing_under, with_stage}
@@ -126,7 +127,7 @@ put_fault x full h e =
 -- the client with this open request
 abbrev pub issued : Handle → LiveChannel → Asked → Handle → Client → Client
 issued h l asked q x = record x {
-  requests = with_held q (record { channel = h; circuit = l.circuit; asked = asked; stage = request.Open }) x.requests;
+  requests = with_held q (new_request h l.circuit asked) x.requests;
   issued = x.issued ++ q ∷ [];
 }
 

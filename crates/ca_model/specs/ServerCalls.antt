@@ -1,5 +1,6 @@
 -- Vocabulary: the calls of a server beside its circuits, by answer (sections "Process Variables", "CA_PROTO_WRITE_NOTIFY",
--- "CA_PROTO_SERVER_DISCONN", "CA_PROTO_SEARCH"). Each is to be the contract of the call of `ServerCore` that its comment names.
+-- "CA_PROTO_SERVER_DISCONN", "CA_PROTO_SEARCH"). Each is to be the contract of the call of `ServerCore` that its comment names; those of
+-- `stamp`, `applied` and `waiting` are.
 use Rattle.std.specs.Prelude.{ℕ, ◌≡◌, ◌≢◌, ◌<◌, ◌≤◌, ◌+◌, ◌==◌, ◌&&◌, ◌||◌, ◌++◌, ◌⊎◌, Bool, true, not, List, [], ◌∷◌, Option, Some, None, Ok, Err, Result, drop, filter, if◌then◌else◌, is_some, length, map, max, take}
 use Rattle.std.specs.List.{flat_map, list_any}
 use Rattle.std.specs.Str.{bytes_eq}

@@ -1,5 +1,5 @@
--- Vocabulary: the calls of a server on one circuit, by answer (sections "Virtual Circuit" and "CA Protocol Messages"). Each is the
--- contract of the call of `ServerCore` that its comment names.
+-- Vocabulary: the calls of a server on one circuit, by answer (sections "Virtual Circuit" and "CA Protocol Messages"). Each is to be the
+-- contract of the call of `ServerCore` that its comment names; those of `accept`, `give`, `out_bytes` and `sent` are.
 use Rattle.std.specs.Prelude.{ℕ, ◌≡◌, ◌≢◌, ◌<◌, ◌≤◌, ◌+◌, ◌==◌, ◌&&◌, ◌++◌, ◌⊎◌, Bool, true, false, List, [], ◌∷◌, Option, Some, None, Ok, Err, Result, if◌then◌else◌, is_some, length, map, min, option_map, slice_set, unwrap_or}
 use Rattle.std.specs.List.{FoldsTo, list_any}
 use Rattle.ca_arena.specs.declared.handle.Handle.{Handle}
@@ -137,7 +137,7 @@ knows y e = record {
   keys = map key_of e.subscriptions;
 }
 
--- ---- what a message does
+-- ---- what that makes of the end and of the records
 
 -- The first queue with room takes a new subscription, and its first entry is the value then ("CA_PROTO_EVENT_ADD").
 pub record TakesIn (s : Subscription) (v : Stored) (e new : ServerEnd) : Type 0 where
@@ -265,7 +265,8 @@ StepsAt old h (Some (Open e)) did new = StepsOpen old h e did new
 StepsAt old h (Some (Ended w left)) did new = (did ≡ Closed w left) × (new ≡ closed h old)
 StepsAt old h None did new = (did ≡ Closed why.Cut []) × (new ≡ old)
 
--- `step`: an open end takes one message, or the answer tells why it takes none; the end of a circuit is reported once.
+-- `step`: an open end takes one message, or the answer tells why it takes none. The end of a circuit is
+-- reported once, with what it left; under a handle without a circuit each step answers Cut.
 abbrev pub Steps : Server → Handle → Stepped → Server → Type 0
 Steps old h did new = StepsAt old h (under old.circuits h) did new
 

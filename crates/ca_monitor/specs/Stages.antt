@@ -1,4 +1,4 @@
--- Working: the stages of the code as those of the vocabulary.
+-- Vocabulary: the stages of the code as those of the vocabulary.
 use Rattle.std.specs.Prelude.{◌≡◌, refl}
 use Rattle.ca_monitor.specs.declared.stage.Stage.{Stage}
 use Rattle.ca_monitor.specs.declared.stage.Stage.TheVariants as code

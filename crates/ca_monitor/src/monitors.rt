@@ -153,7 +153,8 @@ impl Monitors {
         }
     }
 
-    /// The subscriptions to this channel that stand, in order of index. It takes memory only if there is one.
+    /// The subscriptions to this channel that stand, in order of index. It goes over each index that was ever given, and takes
+    /// memory only if there is one.
     pub fn standing_to(
         &self,
         alloc: Global,

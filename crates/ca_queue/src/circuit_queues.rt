@@ -50,8 +50,8 @@ impl<E: Drop, Q: Queues<E>> CircuitQueues<E, Q> {
 
     /// Adds a subscription to the first queue with room, with its first entry, and returns the queue's place.
     ///
-    /// Refused as `TooManySubscriptions` if no queue has room, and as `OutOfMemory` only by a queue that has no subscription. A refusal
-    /// changes nothing.
+    /// Refused as `TooManySubscriptions` if no queue has room, and as `OutOfMemory` only by a queue that has no subscription, also if
+    /// it had some. A refusal changes nothing.
     pub fn begin(&mut self, key: SubKey, entry: E) -> Result<usize, Refusal>
         requires { HasNone self.old key }
         ensures { Begins self.old key entry result self.new }

@@ -25,8 +25,7 @@ has_misfit (Err refusal.NoConvert) = false
 has_misfit (Err _) = true
 has_misfit (Ok e) = false
 
--- by what the conversion gives and whether the put finds no place to wait: no conversion NOCONVERT; a text or a range PUTFAIL; no place
--- PUTFAIL
+-- The first fault by what the conversion answers: none possible NOCONVERT; a text or a range PUTFAIL; and no place to wait PUTFAIL.
 abbrev pub put_fault : Result Elements Refusal → (crowded : Bool) → Option ℕ
 put_fault c crowded = first_fault ((lacks_conversion c, no_convert) ∷ (has_misfit c, put_fail) ∷ (crowded, put_fail) ∷ [])
 

@@ -14,8 +14,8 @@ use std::marker::Model;
 /// The records of a server that come and go, with the puts that make them busy and those that wait, the rules of
 /// access, and the stamp of the writes that are applied now.
 ///
-/// A record keeps its place while it is there, so that a channel finds its record without a look at names. A name is
-/// looked up by its hash, so that a call costs the same with few records and with many.
+/// A record keeps its place while it is there, so that a channel finds its record there by one comparison of names. A name
+/// is looked up by its hash: on average a call costs the same with few records and with many.
 #[derive(Debug, Drop)]
 pub struct ServedRecords {
     pub(crate) slots: Vec<Slot>,
@@ -78,7 +78,7 @@ impl ServedRecords {
     /// The place of the record of this name, which is looked for at this place first.
     pub fn find_near(&self, place: usize, name: &[u8]) -> Option<usize>
         ensures { MatchOption result (record_named (records_of self.now) name.now ≡ None)
-            (λ place. Finds self.now name.now place) }
+            (λ found. Finds self.now name.now found) }
     {
         if self.is_named(place, name) {
             return Some(place);

@@ -33,7 +33,8 @@ new_request channel circuit asked = record { channel = channel; circuit = circui
 abbrev pub issued_last : Handle → Request → Issued → Issued
 issued_last q r x = record { table = with_held q r x.table; order = x.order ++ q ∷ [] }
 
--- From old, this request was issued, with this answer, and left new. Memory is asked for last.
+-- From old, this request was issued, with this answer, and left new. Memory is asked for last. Whether the list of those that were issued
+-- has to grow is no part of what is seen here, so OutOfMemory may come while an id is free.
 abbrev pub Issues : Issued → Request → Result Handle Refusal → Issued → Type 0
 Issues old r (Ok q) new = MayGive old.table q × (new ≡ issued_last q r old)
 Issues old r (Err refusal.ArenaFull) new = IsFull old.table × (new ≡ old)

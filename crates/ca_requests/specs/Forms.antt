@@ -1,4 +1,4 @@
--- Working: what the code asks, and its stages, as those of the vocabulary.
+-- Vocabulary: what the code asks, and its stages, as those of the vocabulary.
 use Rattle.std.specs.Prelude.{◌≡◌, refl}
 use Rattle.ca_requests.specs.declared.asked.Asked.{Asked}
 use Rattle.ca_requests.specs.declared.asked.Asked.TheVariants as asked

@@ -19,7 +19,9 @@ use std::marker::Model;
 
 /// A client's requests: by their handles, by their IOIDs, and in order of issue.
 ///
-/// Issuing one and answering one cost the same however many are open. What ends many at once goes over all of them.
+/// Answering one costs the same however many are open, and so does issuing one on average: an issue that finds the list at its
+/// limit goes over all of it, at most once in as many issues as were open. What ends many at once goes over each index that was
+/// ever given, or over the list.
 #[derive(Drop)]
 pub struct Requests {
     table: HeldTable<Request>,
@@ -127,7 +129,7 @@ impl Requests {
     /// A reply was read on this circuit: the open request that it completes, with its outcome. The IOID is free then, also
     /// if it drained.
     ///
-    /// Only a value takes memory; want of it changes nothing.
+    /// Only a value takes memory; without it nothing changes.
     pub fn answer(
         &mut self,
         circuit: Handle,

@@ -81,7 +81,7 @@ impl Place {
         }
     }
 
-    /// Counts the search that is made now, where one is due.
+    /// Counts the search that is made now, if one is due.
     pub fn pass(&mut self, now: u64)
         ensures { self.new ≡ passed now self.old }
     {

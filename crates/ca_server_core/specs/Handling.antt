@@ -88,7 +88,7 @@ pub record Replies (D : List Fields → Action → Type 0) (e new : ServerEnd) :
   pub due : D replies Nothing
   pub leaves : new ≡ replied replies e
 
--- whatever is due for the message, memory may lack for it
+-- Whatever is due for the message, memory may lack for it. That something is always due is not shown here.
 abbrev pub MayLack : Knows → Fields → Type 0
 MayLack k m = (replies : List Fields) (action : Action) → Due k m replies action → NeedsMemory m replies action
 

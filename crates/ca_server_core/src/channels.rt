@@ -67,7 +67,7 @@ impl Channels {
         self.table.by_wire(WireId::new(sid.number()))
     }
 
-    // Opens a channel, and says under which handle. Want of memory leaves the channels as they were.
+    // Opens a channel, and says under which handle. Without memory the channels are as they were.
     pub(crate) fn open(&mut self, channel: Channel) -> Result<Handle, AllocError>
         requires room { is_full self.old ≡ false }
         requires new { UsesCid self.old channel.cid → ⊥ }

@@ -65,7 +65,7 @@ impl End {
     }
 }
 
-/// Puts a message after what waits on an open link. Want of memory leaves the link as it was.
+/// Puts a message after what waits on an open link. Without memory the link is as it was.
 pub(crate) fn send(link: &mut Link, message: &Message) -> Result<(), AllocError>
     requires { IsOpen link.old }
     ensures ok { OnOk result (link.new ≡ with_sent (message.now ∷ []) link.old) }

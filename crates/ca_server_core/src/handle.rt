@@ -15,7 +15,8 @@ use std::alloc::AllocError;
 impl End {
     /// Handles one message of this circuit, at a server of this TCP port, and says whether a write was applied.
     ///
-    /// If there is no memory for it the records are as they were, and the end is to be closed.
+    /// If there is no memory for it the records are as they were, and the end is to be closed. Replies to this message may wait in
+    /// its output then, and are not to be sent.
     pub(crate) fn handle(
         &mut self,
         port: u16,

@@ -1,8 +1,9 @@
 //! A server of Channel Access: its records, and its ends of circuits. It does no input and no output: bytes that came are
 //! given to it, and those that wait to be sent are asked of it.
 //!
-//! Subscriptions are not there yet: an EVENT_ADD without a fault closes its circuit as if there was no memory for it. No
-//! program uses this crate before that is mended.
+//! It is begun: the end of a circuit handles each message (within the crate), and `ServerCore` has `new`, `accept`, `give`, `out_bytes`, `sent`,
+//! `stamp`, `applied` and `waiting`. It has no call yet for steps, cuts, posts, finishes, removals, datagrams and beacons. Subscriptions are
+//! missing: an EVENT_ADD without a fault ends its step as if there was no memory for it. No program uses this crate.
 #![tactic(auto)]
 
 mod cause;

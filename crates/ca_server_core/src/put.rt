@@ -19,7 +19,7 @@ pub(crate) enum Given {
 }
 
 /// Begins the write of this message to the record at this place under these rights: a put with notification, or a plain write,
-/// which has none. Want of memory changes nothing.
+/// which has none. Without memory nothing changes.
 pub(crate) fn begin(
     alloc: Global,
     records: &mut ServedRecords,

@@ -1,4 +1,4 @@
-ghost use Rattle.std.specs.Prelude.{◌≡◌, ◌≤◌, IfOk, length};
+ghost use Rattle.std.specs.Prelude.{◌≡◌, ◌≢◌, ◌≤◌, IfOk, OnErr, length};
 ghost use Rattle.ca_model.specs.Server.{new_server};
 ghost use Rattle.ca_ids.specs.Table.{under};
 ghost use Rattle.ca_model.specs.ServerCalls.{stamped, waiting};
@@ -53,15 +53,17 @@ impl Model for ServerCore {
 }
 
 impl ServerCore {
-    /// A server of this TCP port that begins at this moment with these records, under these rules. It has no circuit.
+    /// A server of this TCP port that begins at this moment with these records, under these rules. It has no circuit. It is refused only
+    /// if there are records, since these are copied.
     pub fn new(
         port: u16,
         now: u64,
         records: &Records,
         rules: Vec<Rule>,
     ) -> Result<ServerCore, AllocError>
-        ensures { IfOk result (λ core.
+        ensures ok { IfOk result (λ core.
             core ≡ new_server port now rules.items records.now) }
+        ensures some { OnErr result (length records.now ≢ 0) }
     {
         let alloc = *rules.allocator();
         let records = ServedRecords::of(records, rules)?;

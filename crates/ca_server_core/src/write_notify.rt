@@ -23,7 +23,7 @@ impl End {
     /// record its reply comes as it is finished. Says whether it was applied.
     ///
     /// The reply of a quick one goes first, and is taken back if it is refused, so that none is applied for whose reply
-    /// there is no memory.
+    /// there is no memory. If there is no memory for the put itself, that reply still waits, and is not to be sent.
     pub(crate) fn write_notify(
         &mut self,
         circuit: Handle,
