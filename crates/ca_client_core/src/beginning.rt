@@ -1,4 +1,4 @@
-ghost use Rattle.std.specs.Prelude.{◌≡◌, ◌<◌, ◌+◌, ◌++◌, ◌∷◌, [], IfOk, OnOk, if◌then◌else◌, length, map, slice_index_or, take};
+ghost use Rattle.std.specs.Prelude.{◌≡◌, ◌≢◌, ◌<◌, ◌+◌, ◌++◌, ◌∷◌, [], IfOk, OnErr, OnOk, if◌then◌else◌, length, map, slice_index_or, take};
 ghost use Rattle.ca_ids.specs.Table.{Table, held};
 ghost use Rattle.ca_model.specs.Client.{new_circuit};
 ghost use Rattle.ca_model.specs.ClientEnds.{ClientBegins, distinct, name_circuits};
@@ -112,7 +112,8 @@ fn add_names(
     names: &[Address],
 ) -> Result<(), AllocError>
     requires { HasNames [] circuits.old order.old.items }
-    ensures { OnOk result (HasNames names.now circuits.new order.new.items) }
+    ensures ok { OnOk result (HasNames names.now circuits.new order.new.items) }
+    ensures some { OnErr result (names.now ≢ []) }
 {
     for index in 0..names.len() {
         add_at(circuits, order, names, index)?;

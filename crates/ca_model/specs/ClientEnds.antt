@@ -65,11 +65,11 @@ new_client a = record {
   beacons = finite.empty;
 }
 
--- `new`: with this answer. There may be as many name servers as circuits.
+-- `new`: with this answer. There may be as many name servers as circuits. Memory is asked for their circuits alone.
 abbrev pub ClientBegins : ClientSetting → Result Client Refusal → Type 0
 ClientBegins a (Ok x) = (length (distinct a.names) ≤ arena_slots) × (x ≡ new_client a)
 ClientBegins a (Err refusal.ArenaFull) = arena_slots < length (distinct a.names)
-ClientBegins a (Err refusal.OutOfMemory) = length (distinct a.names) ≤ arena_slots
+ClientBegins a (Err refusal.OutOfMemory) = (a.names ≢ []) × (length (distinct a.names) ≤ arena_slots)
 ClientBegins a (Err _) = ⊥
 
 -- ---- connected

@@ -1,5 +1,5 @@
 -- Vocabulary: a server by what its callers and its peers can know of it (sections "Virtual Circuit" and "Overall Server Operation").
-use Rattle.std.specs.Prelude.{ℕ, ◌&&◌, Bool, false, not, List, [], filter, if◌then◌else◌, map, replicate}
+use Rattle.std.specs.Prelude.{ℕ, ◌&&◌, Bool, false, not, List, [], filter, map, replicate}
 use Rattle.std.specs.List.{fold}
 use Rattle.std.specs.Str.{bytes_eq}
 use Rattle.ca_ids.specs.Table.{Table}
