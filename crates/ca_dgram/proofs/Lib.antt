@@ -1,3 +1,4 @@
 pub mod Spellings
 pub mod Readings
 pub mod Searches
+pub mod Packings

@@ -1,5 +1,5 @@
 -- How a datagram is read.
-use Rattle.std.proofs.Common.{◌≡◌, ℕ, ◌+◌, ◌-◌, ◌%◌, ◌≤◌, List, [], ◌∷◌, ◌++◌, length, take, drop, Result, Ok, Err, MatchResult, refl, sym, ap, ◌∙◌, subst, arith}
+use Rattle.std.proofs.Common.{◌≡◌, ◌≢◌, ℕ, ◌<◌, ◌+◌, ◌-◌, ◌%◌, ◌≤◌, List, [], ◌∷◌, ◌++◌, length, take, drop, Result, Ok, Err, MatchResult, refl, sym, ap, ◌∙◌, subst, arith}
 use Rattle.std.specs.Result.{IsErrAnd}
 use Rattle.std.proofs.lemmas.List.{take-append-drop, length-take-le, length-drop}
 use Rattle.ca_text.specs.declared.refusal.Refusal.{Refusal}
@@ -17,7 +17,7 @@ use Rattle.ca_wire.proofs.Headers.{header-long, header-short}
 use Rattle.ca_wire.proofs.Messages.{spells-good}
 use Rattle.ca_wire.proofs.Padding.{padded-none}
 use Rattle.ca_wire.proofs.Taking.{whole-spells}
-use Rattle.ca_dgram.specs.Datagram.{Reads, SpellsFront}
+use Rattle.ca_dgram.specs.Datagram.{IsDatagram, Reads, SpellsFront}
 
 -- the message of a header and the payload after it
 abbrev pub fields_at : List ℕ → Head → Fields
@@ -94,12 +94,26 @@ pub begins-some : (bytes rest : List ℕ) (ms : List Fields) → Begins bytes ms
 begins-some bytes rest [] begins some none = some (subst NoneBegins begins none)
 begins-some bytes rest (m ∷ ms) begins some none = none m begins.0 begins.1 begins.2 begins.3
 
-pub reads-refused : (bytes : List ℕ) (e : Refusal) (r : Result (List Fields) Refusal) → IsErrAnd r (λ f. f ≡ e) → e ≡ OutOfMemory → (NoneBegins bytes → ⊥) → Reads bytes r
-reads-refused bytes e (Ok x) is memory some = absurd is
-reads-refused bytes e (Err f) is memory some = subst (λ (x : Refusal). Reads bytes (Err x)) (sym (is ∙ memory)) some
+-- bytes that a message begins have one at least
+pub some-read : (bytes : List ℕ) (ms : List Fields) → IsDatagram bytes ms → (NoneBegins bytes → ⊥) → ms ≢ []
+some-read bytes [] is some e = some (subst NoneBegins (sym is.stream.reads) is.stream.partial)
+some-read bytes (m ∷ ms) is some e = omega (arith, ap length e)
+
+-- as many messages as these are some
+pub counted-some : (n : ℕ) (ms : List Fields) → n ≡ length ms → 0 < n → ms ≢ []
+counted-some n [] is some e = omega (arith, is)
+counted-some n (m ∷ ms) is some e = omega (arith, ap length e)
+
+pub reads-refused : (bytes : List ℕ) (e : Refusal) (r : Result (List Fields) Refusal) → IsErrAnd r (λ f. f ≡ e) → e ≡ OutOfMemory → (ms : List Fields) → IsDatagram bytes ms → ms ≢ [] → Reads bytes r
+reads-refused bytes e (Ok x) is memory ms read some = absurd is
+reads-refused bytes e (Err f) is memory ms read some = subst (λ (x : Refusal). Reads bytes (Err x)) (sym (is ∙ memory)) (ms, read, some)
 
 -- the message at the front is one more
 pub begins-next : (bytes rest behind : List ℕ) (ms ns : List Fields) (m : Fields) (head : Head) → Begins bytes ms rest → SpellsFront rest head m → behind ≡ drop (head.start + head.header.size) rest → ns ≡ ms ++ m ∷ [] → Begins bytes ns behind
 begins-next bytes rest behind ms ns m head begins s e f =
     let next : Begins bytes (ms ++ m ∷ []) behind = begins-snoc bytes rest (take (head.start + head.header.size) rest) behind ms m begins s (sym (take-append-drop (head.start + head.header.size) rest) ∙ ap (λ (t : List ℕ). take (head.start + head.header.size) rest ++ t) (sym e)) in
     subst (λ (ks : List Fields). Begins bytes ks behind) (sym f) next
+
+-- one message more was counted
+pub counts-next : (bytes rest behind : List ℕ) (head : Head) (ms : List Fields) → Begins bytes ms rest → IsWhole rest head → behind ≡ drop (head.start + head.header.size) rest → Begins bytes (ms ++ fields_at rest head ∷ []) behind
+counts-next bytes rest behind head ms begins whole e = begins-next bytes rest behind ms (ms ++ fields_at rest head ∷ []) (fields_at rest head) head begins (spells-fields_at rest head whole) e refl

@@ -1,3 +1,4 @@
 pub mod Messages
 pub mod Datagram
 pub mod Search
+pub mod Packing

@@ -1,7 +1,8 @@
-ghost use Rattle.std.specs.Prelude.{◌≡◌, MatchResult};
+ghost use Rattle.std.specs.Prelude.{◌≡◌, List, MatchResult, length};
 ghost use Rattle.ca_text.specs.declared.refusal.Refusal.TheVariants.{OutOfMemory};
 ghost use Rattle.ca_wire.specs.Reading.{IsWhole};
-ghost use Rattle.ca_dgram.specs.Datagram.{Reads, SpellsFront};
+ghost use Rattle.ca_wire.specs.Fields.{Fields};
+ghost use Rattle.ca_dgram.specs.Datagram.{IsDatagram, Reads, SpellsFront};
 
 use ca_text::Refusal;
 use ca_wire::{Head, Message, One, read_one};
@@ -30,6 +31,7 @@ impl Datagram {
         ensures { Reads bytes.now result }
     {
         let mut messages = Vec::new(alloc);
+        messages.reserve(count(bytes))?;
         let mut rest = bytes;
         while let One::Whole(head) = read_one(rest) {
             let message = message_at(alloc, rest, head)?;
@@ -46,6 +48,20 @@ impl Datagram {
     {
         &self.messages
     }
+}
+
+/// How many messages the longest good beginning of these bytes has.
+fn count(bytes: &[u8]) -> usize
+    ensures { (ms : List Fields) × IsDatagram bytes.now ms × (result ≡ length ms) }
+{
+    let mut count = 0;
+    let mut rest = bytes;
+    while let One::Whole(head) = read_one(rest) {
+        let (_whole, behind) = rest.split_at(head.start + head.header.size as usize);
+        rest = behind;
+        count += 1;
+    }
+    count
 }
 
 /// The message at the front, of this header.

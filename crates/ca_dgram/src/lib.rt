@@ -1,11 +1,13 @@
-//! Datagrams: what their bytes say, searches packed into one, and the four fixed messages of beacons and of the
-//! host's repeater.
+//! Datagrams: what their bytes say, searches packed into one, replies packed into several, and the three fixed messages of
+//! beacons and of the host's repeater.
 #![tactic(auto)]
 
 mod datagram;
 mod fixed;
+mod packing;
 mod search;
 
 pub use datagram::Datagram;
 pub use fixed::{beacon, confirm, register};
+pub use packing::pack_replies;
 pub use search::search_into;

@@ -7,6 +7,7 @@ use Rattle.std.specs.Str.{bytes_eq}
 use Rattle.ca_arena.specs.declared.handle.Handle.{Handle}
 use Rattle.ca_beacon.specs.Clock as beacon
 use Rattle.ca_dgram.specs.Datagram.{IsDatagram}
+use Rattle.ca_dgram.specs.Packing.{ArePacked}
 use Rattle.ca_dgram.specs.Messages.{beacon_message}
 use Rattle.ca_ids.specs.Table.{held, under, with_each}
 use Rattle.ca_ids.specs.Wire.{wire_of}
@@ -152,13 +153,6 @@ AddsRecord old s behind (Err e) new = AddFault old.records s e × (new ≡ old)
 -- the reply that is due for one message of a datagram: a search for a name that is served is answered, and nothing else
 abbrev pub search_answer : Server → Fields → List Fields
 search_answer y m = if m.command == command_number command.Search && is_some (record_named y.records (text_in m.payload)) then search_reply y.port m ∷ [] else []
-
--- The datagrams of these replies, in order: each one VERSION and 42 replies, and the last what is left.
-pub record ArePacked (replies : List Fields) (datagrams : List (List ℕ)) : Type 0 where
-  pub groups : List (List Fields)
-  pub all : flat_map (λ (g : List Fields). g) groups ≡ replies
-  pub sizes : (i : ℕ) (g : List Fields) → At groups i g → (g ≢ []) × (length g ≤ datagram_replies) × (i + 1 < length groups → length g ≡ datagram_replies)
-  pub are : datagrams ≡ map (λ (g : List Fields). spelled (version_reply ∷ g)) groups
 
 -- `datagram`: the answers to a datagram, in the order of its searches; the server is as it was.
 abbrev pub AnswersDatagram : Server → List ℕ → Result (List (List ℕ)) Refusal → Type 0

@@ -14,7 +14,8 @@ use Rattle.ca_model.specs.Due.{Adds, Clears}
 use Rattle.ca_model.specs.Ends.{Why}
 use Rattle.ca_model.specs.Ends as why
 use Rattle.ca_model.specs.Server.{Ended, Open, Server, ServerCircuit, ServerEnd, new_end}
-use Rattle.ca_model.specs.ServerCalls.{AddsRecord, ArePacked, Beacons, Finishes, search_answer}
+use Rattle.ca_dgram.specs.Packing.{ArePacked}
+use Rattle.ca_model.specs.ServerCalls.{AddsRecord, Beacons, Finishes, search_answer}
 use Rattle.ca_model.specs.ServerSteps.{Accepts, Acts, Cuts, Gives, HasEnd, Leaves, MayEnd, Pumps, Reaches, Records, Sends, StepsOpen, Steps, Update}
 use Rattle.ca_model.specs.ServerSteps as stepped
 use Rattle.ca_model.specs.Speech.{Stored}

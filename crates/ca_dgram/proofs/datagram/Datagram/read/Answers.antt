@@ -1,15 +1,25 @@
 use Rattle.std.proofs.Common.{◌+◌, refl, arith, ap, length}
 use Rattle.std.proofs.lemmas.List.{length-drop}
-use Rattle.ca_dgram.proofs.Readings.{begins-next, begins-some, not_whole-none, reads-refused, whole-long, whole-short, whole-some}
+use Rattle.ca_dgram.proofs.Readings.{begins-next, begins-some, counted-some, not_whole-none, reads-refused, some-read, whole-long, whole-short, whole-some}
+use Rattle.ca_wire.specs.Stream.{NoneBegins}
 use Rattle.ca_dgram.proofs.datagram.Datagram.read.Goals as goal
+
+pub returns-in_err-reserve : goal.returns-in_err-reserve
+returns-in_err-reserve c =
+    let ms = c.count.ensures.0 in
+    reads-refused c.args.bytes.now _ c.from_residual.result c.from_residual.ensures.1 refl ms c.count.ensures.1 (counted-some c.count.result ms c.count.ensures.2 (omega (arith, c.in_err-reserve.ensures.full, c.new-messages.ensures.len)))
 
 pub returns-in_err-message : goal.returns-in_err-message
 returns-in_err-message c =
-    reads-refused c.args.bytes.now _ c.from_residual.result c.from_residual.ensures.1 c.in_err-message.ensures (begins-some c.args.bytes.now c.loop-head.rest.now c.loop-head.messages.items c.loop-head.invariant (whole-some c.loop-head.rest.now c.in-Whole.head c.in-Whole.ensures))
+    let ms = c.count.ensures.0 in
+    let some : NoneBegins c.args.bytes.now → ⊥ = begins-some c.args.bytes.now c.loop-head.rest.now c.loop-head.messages.items c.loop-head.invariant (whole-some c.loop-head.rest.now c.in-Whole.head c.in-Whole.ensures) in
+    reads-refused c.args.bytes.now _ c.from_residual-in_err-message.result c.from_residual-in_err-message.ensures.1 c.in_err-message.ensures ms c.count.ensures.1 (some-read c.args.bytes.now ms c.count.ensures.1 some)
 
 pub returns-in_err-push : goal.returns-in_err-push
 returns-in_err-push c =
-    reads-refused c.args.bytes.now _ c.from_residual-in_err-push.result c.from_residual-in_err-push.ensures.1 refl (begins-some c.args.bytes.now c.loop-head.rest.now c.loop-head.messages.items c.loop-head.invariant (whole-some c.loop-head.rest.now c.in-Whole.head c.in-Whole.ensures))
+    let ms = c.count.ensures.0 in
+    let some : NoneBegins c.args.bytes.now → ⊥ = begins-some c.args.bytes.now c.loop-head.rest.now c.loop-head.messages.items c.loop-head.invariant (whole-some c.loop-head.rest.now c.in-Whole.head c.in-Whole.ensures) in
+    reads-refused c.args.bytes.now _ c.from_residual-in_err-push.result c.from_residual-in_err-push.ensures.1 refl ms c.count.ensures.1 (some-read c.args.bytes.now ms c.count.ensures.1 some)
 
 pub overflow_add-head : goal.overflow_add-head
 overflow_add-head c = omega (arith, whole-short c.loop-head.rest.now c.in-Whole.head c.in-Whole.ensures)
