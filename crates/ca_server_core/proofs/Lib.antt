@@ -14,3 +14,4 @@ pub mod Givens
 pub mod Steps
 pub mod Sounds
 pub mod Moves
+pub mod Stays
