@@ -15,3 +15,4 @@ pub mod Steps
 pub mod Sounds
 pub mod Moves
 pub mod Stays
+pub mod Ending
