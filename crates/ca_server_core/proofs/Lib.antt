@@ -14,3 +14,5 @@ pub mod Givens
 pub mod Steps
 pub mod Sounds
 pub mod Moves
+pub mod Stays
+pub mod Ending

@@ -23,6 +23,14 @@ breaks-by port s e l refusal.OutOfMemory room live n =
     let t = n.1 in (record { room = room; m = t.0; rest = t.1; takes = t.2 }, inl t.3)
 breaks-by port s e l _ room live n = absurd n
 
+-- and what waits to be sent stays
+pub same-output : (k l : LinkState) (r : Refusal) → Nexts k (Err r) l → l.output ≡ k.output
+same-output k l refusal.CircuitClosed n = ap (λ (x : LinkState). x.output) n.1
+same-output k l refusal.Misaligned n = ap (λ (x : LinkState). x.output) n.2
+same-output k l refusal.TooLarge n = ap (λ (x : LinkState). x.output) n.2
+same-output k l refusal.OutOfMemory n = ap (λ (x : LinkState). x.output) n.2
+same-output k l _ n = absurd n
+
 -- the end that its first message was taken from
 pub taken-first : (v e : ServerEnd) (l : LinkState) (rest : List ℕ) → v ≡ e → l ≡ with_rest rest v.link → (let new : ServerEnd = record v { link = l } in new) ≡ (let new : ServerEnd = record e { link = with_rest rest e.link } in new)
 taken-first v e l rest is took =

@@ -1,5 +1,5 @@
 -- Working: what holds of the records and the circuits of a server.
-use Rattle.std.specs.Prelude.{ℕ, ◌≡◌, List, Some}
+use Rattle.std.specs.Prelude.{ℕ, ◌≡◌, List, [], Some}
 use Rattle.ca_arena.specs.declared.handle.Handle.{Handle}
 use Rattle.ca_ids.specs.Table.{Table, under}
 use Rattle.ca_link.specs.Calls.{IsOpen}
@@ -9,9 +9,10 @@ use Rattle.ca_model.specs.Server.{Open, ServerCircuit, ServerEnd}
 use Rattle.ca_server_core.specs.Clearing.{ArePuts}
 use Rattle.ca_server_core.specs.Handling.{AreServed}
 
--- An open end of this circuit: no bad header was met, its channels are served, and so are its puts that wait.
+-- An open end of this circuit: no bad header was met, it has no subscription yet, its channels are served, and so are its puts that wait.
 pub record EndIsSound (rs : List Record) (h : Handle) (e : ServerEnd) : Type 0 where
   pub live : IsOpen e.link
+  pub quiet : e.subscriptions ≡ []
   pub served : AreServed rs e.channels
   pub puts : ArePuts h rs e.channels
 

@@ -49,11 +49,11 @@ BreaksBy port s e cause.Misaligned = (length e.link.output < output_limit) × Ba
 BreaksBy port s e cause.TooLarge = (length e.link.output < output_limit) × BadAt e.link.input.bytes refusal.TooLarge
 BreaksBy port s e cause.Cut = ⊥
 
--- One step of an open end on this circuit: what it did, and left. An end that breaks is to be closed.
+-- One step of an open end on this circuit: what it did, and left. An end that breaks is to be closed, with what waited before.
 abbrev pub EndSteps : (port : ℕ) → Handle → ServerEnd → Store → EndStep → ServerEnd → Store → Type 0
 EndSteps port h e s OutputFull new t = (output_limit ≤ length e.link.output) × (new ≡ e) × (t ≡ s)
 EndSteps port h e s NeedBytes new t =
     (length e.link.output < output_limit) × NoneBegins e.link.input.bytes × NotBad e.link.input.bytes × (new ≡ e) × (t ≡ s)
 EndSteps port h e s (Handled writes) new t =
     (x : Takes e) × Does (Due (known port s (after_first x)) x.m) s h (after_first x) x.m writes t new
-EndSteps port h e s (Breaks c) new t = BreaksBy port s e c × (t ≡ s)
+EndSteps port h e s (Breaks c) new t = BreaksBy port s e c × (new.link.output ≡ e.link.output) × (t ≡ s)

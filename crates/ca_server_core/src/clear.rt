@@ -32,6 +32,7 @@ impl End {
             ≡ replied (cleared_reply message.now ∷ []) (without_channel message.now.p1 self.old)) }
         ensures records { OnOk result (Withdraws circuit message.now.p1 records.old records.new) }
         ensures err { OnErr result (records.new ≡ records.old) }
+        ensures output { OnErr result (self.new.link.output ≡ self.old.link.output) }
     {
         send(&mut self.link, &cleared_reply(self.alloc, message))?;
         let sid = message.channel_ids().sid;

@@ -1,4 +1,4 @@
-ghost use Rattle.std.specs.Prelude.{ℕ, ◌≡◌, OnOk, [], ◌∷◌, false};
+ghost use Rattle.std.specs.Prelude.{ℕ, ◌≡◌, OnErr, OnOk, [], ◌∷◌, false};
 ghost use Rattle.ca_ids.specs.Table.{is_full};
 ghost use Rattle.ca_link.specs.Calls.{IsOpen};
 ghost use Rattle.ca_records.specs.Store.{Finds};
@@ -22,8 +22,9 @@ impl End {
         message: &Message,
     ) -> Result<(), AllocError>
         requires { IsOpen self.old.link }
-        ensures { OnOk result ((port : ℕ)
+        ensures ok { OnOk result ((port : ℕ)
             → Creation port records.now self.old message.now self.new) }
+        ensures output { OnErr result (self.new.link.output ≡ self.old.link.output) }
     {
         let Some(place) = records.find(message.text()) else {
             return self.refuse_channel(message);
@@ -40,14 +41,15 @@ impl End {
     /// CREATE_CH_FAIL.
     fn refuse_channel(&mut self, message: &Message) -> Result<(), AllocError>
         requires { IsOpen self.old.link }
-        ensures { OnOk result (self.new ≡ replied (failed_reply message.now ∷ []) self.old) }
+        ensures ok { OnOk result (self.new ≡ replied (failed_reply message.now ∷ []) self.old) }
+        ensures output { OnErr result (self.new.link.output ≡ self.old.link.output) }
     {
         let reply = failed_reply(self.alloc, message);
         send(&mut self.link, &reply)?;
         Ok(())
     }
 
-    /// Opens a channel to the record at this place: ACCESS_RIGHTS goes before the reply.
+    /// Opens a channel to the record at this place: ACCESS_RIGHTS goes before the reply, and is taken back if there is no memory for that.
     fn open_channel(
         &mut self,
         records: &ServedRecords,
@@ -58,7 +60,8 @@ impl End {
         requires found { Finds records.now (text_in message.now.payload) place }
         requires room { is_full self.old.channels ≡ false }
         requires new { UsesCid self.old.channels message.now.p1 → ⊥ }
-        ensures { OnOk result (IsCreation records.now self.old message.now self.new) }
+        ensures ok { OnOk result (IsCreation records.now self.old message.now self.new) }
+        ensures output { OnErr result (self.new.link.output ≡ self.old.link.output) }
     {
         let served = records.at(place);
         let state = served.state();
@@ -68,12 +71,18 @@ impl End {
         let handle = self.channels.open(channel)?;
         let sid = Sid::new(WireId::of(handle).number());
         let data_type = state.value().base_type().number();
+        let waited = self.link.out_bytes().len();
         send(&mut self.link, &rights_reply(self.alloc, message, rights))?;
-        send(
-            &mut self.link,
-            &created_reply(self.alloc, message, data_type, state.count(), sid),
-        )?;
-        self.settled = true;
-        Ok(())
+        let reply = created_reply(self.alloc, message, data_type, state.count(), sid);
+        match send(&mut self.link, &reply) {
+            Ok(()) => {
+                self.settled = true;
+                Ok(())
+            }
+            Err(error) => {
+                self.link.truncate(waited);
+                Err(error)
+            }
+        }
     }
 }

@@ -1,4 +1,4 @@
-ghost use Rattle.std.specs.Prelude.{◌≡◌, OnOk, [], ◌∷◌};
+ghost use Rattle.std.specs.Prelude.{◌≡◌, OnErr, OnOk, [], ◌∷◌};
 ghost use Rattle.ca_text.specs.declared.command.Command.TheVariants.{Echo};
 ghost use Rattle.ca_link.specs.Calls.{IsOpen};
 ghost use Rattle.ca_wire.specs.Messages.{bare};
@@ -13,7 +13,8 @@ impl End {
     /// ECHO: sent back.
     pub(crate) fn echo(&mut self) -> Result<(), AllocError>
         requires { IsOpen self.old.link }
-        ensures { OnOk result (self.new ≡ replied (bare Echo ∷ []) self.old) }
+        ensures ok { OnOk result (self.new ≡ replied (bare Echo ∷ []) self.old) }
+        ensures output { OnErr result (self.new.link.output ≡ self.old.link.output) }
     {
         send(&mut self.link, &bare(self.alloc, Command::Echo))?;
         Ok(())

@@ -1,4 +1,4 @@
-ghost use Rattle.std.specs.Prelude.{ℕ, ◌≡◌, OnOk, MatchOption, [], ◌∷◌, None, Some, false, true};
+ghost use Rattle.std.specs.Prelude.{ℕ, ◌≡◌, OnErr, OnOk, MatchOption, [], ◌∷◌, None, Some, false, true};
 ghost use Rattle.ca_link.specs.Calls.{IsOpen};
 ghost use Rattle.ca_records.specs.Store.{records_of};
 ghost use Rattle.ca_wire.specs.Messages.{cancel_reply};
@@ -28,8 +28,9 @@ impl End {
     ) -> Result<(), AllocError>
         requires open { IsOpen self.old.link }
         requires served { AreServed (records_of records.now) self.old.channels }
-        ensures { OnOk result ((port : ℕ)
+        ensures ok { OnOk result ((port : ℕ)
             → Replies (Subscribes (known port records.now self.old) message.now) self.old self.new) }
+        ensures output { OnErr result (self.new.link.output ≡ self.old.link.output) }
     {
         match self.seek(records, message.wanted().sid) {
             Sought::Stray(cid) => {
@@ -53,9 +54,10 @@ impl End {
     /// EVENT_CANCEL: always confirmed.
     pub(crate) fn cancel(&mut self, message: &Message) -> Result<(), AllocError>
         requires { IsOpen self.old.link }
-        ensures { OnOk result (self.new
+        ensures ok { OnOk result (self.new
             ≡ replied (cancel_reply message.now ∷ [])
             (without_subscriptions (same (key_in message.now)) self.old)) }
+        ensures output { OnErr result (self.new.link.output ≡ self.old.link.output) }
     {
         send(&mut self.link, &cancel_reply(self.alloc, message))?;
         Ok(())

@@ -15,8 +15,7 @@ use std::alloc::AllocError;
 impl End {
     /// Handles one message of this circuit, at a server of this TCP port, and says whether a write was applied.
     ///
-    /// If there is no memory for it the records are as they were, and the end is to be closed. Replies to this message may wait in
-    /// its output then, and are not to be sent.
+    /// If there is no memory for it the records and what waits to be sent are as they were, and the end is to be closed.
     pub(crate) fn handle(
         &mut self,
         port: u16,
@@ -31,6 +30,7 @@ impl End {
             Does (Due (known port records.old self.old) message.now) records.old circuit self.old
             message.now writes records.new self.new) }
         ensures err { OnErr result (records.new ≡ records.old) }
+        ensures output { OnErr result (self.new.link.output ≡ self.old.link.output) }
         ensures memory { OnErr result (MayLack (known port records.old self.old) message.now) }
     {
         let Some(command) = Command::of(message.command()) else {

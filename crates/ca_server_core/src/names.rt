@@ -14,6 +14,7 @@ impl End {
               peer = record self.old.peer { user = text_in message.now.payload };
             })) }
         ensures err { OnErr result (text_in message.now.payload ≡ [] → ⊥) }
+        ensures output { OnErr result (self.new.link.output ≡ self.old.link.output) }
     {
         if self.settled {
             return Ok(());
@@ -30,6 +31,7 @@ impl End {
               peer = record self.old.peer { host = text_in message.now.payload };
             })) }
         ensures err { OnErr result (text_in message.now.payload ≡ [] → ⊥) }
+        ensures output { OnErr result (self.new.link.output ≡ self.old.link.output) }
     {
         if self.settled {
             return Ok(());

@@ -1,4 +1,4 @@
-ghost use Rattle.std.specs.Prelude.{ℕ, ◌≡◌, IfOk, MatchOption, OnOk, [], ◌∷◌};
+ghost use Rattle.std.specs.Prelude.{ℕ, ◌≡◌, IfOk, MatchOption, OnErr, OnOk, [], ◌∷◌};
 ghost use Rattle.ca_text.specs.declared.refusal.Refusal.TheVariants.{OutOfMemory};
 ghost use Rattle.ca_link.specs.Calls.{IsOpen};
 ghost use Rattle.ca_link.specs.Link.{with_sent};
@@ -34,8 +34,9 @@ impl End {
     ) -> Result<(), AllocError>
         requires open { IsOpen self.old.link }
         requires served { AreServed (records_of records.now) self.old.channels }
-        ensures { OnOk result ((port : ℕ)
+        ensures ok { OnOk result ((port : ℕ)
             → Replies (Reads (known port records.now self.old) message.now) self.old self.new) }
+        ensures output { OnErr result (self.new.link.output ≡ self.old.link.output) }
     {
         match self.seek(records, message.wanted().sid) {
             Sought::Stray(_) => {
@@ -62,8 +63,9 @@ fn answer(
     message: &Message,
 ) -> Result<(), AllocError>
     requires { IsOpen link.old }
-    ensures { OnOk result ((reply : Fields) × AnswersRead of.now rights message.now reply
+    ensures ok { OnOk result ((reply : Fields) × AnswersRead of.now rights message.now reply
         × (link.new ≡ with_sent (reply ∷ []) link.old)) }
+    ensures err { OnErr result (link.new ≡ link.old) }
 {
     match measure(of, rights, message) {
         Err(status) => {

@@ -24,6 +24,7 @@ impl End {
             ≡ replied (search_due (known port records.now self.old) message.now) self.old) }
         ensures err { OnErr result (search_due (known port records.now self.old) message.now
             ≡ [] → ⊥) }
+        ensures output { OnErr result (self.new.link.output ≡ self.old.link.output) }
     {
         if records.has(message.text()) {
             let reply = search_reply(self.alloc, port, message)?;

@@ -15,6 +15,7 @@ impl End {
             ≡ replied (if self.old.greeted then [] else version_reply ∷ [])
             (record self.old { greeted = true })) }
         ensures err { OnErr result (self.old.greeted ≡ false) }
+        ensures output { OnErr result (self.new.link.output ≡ self.old.link.output) }
     {
         if self.greeted {
             return Ok(());

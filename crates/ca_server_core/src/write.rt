@@ -30,6 +30,7 @@ impl End {
             → Does (Writes (known port records.old self.old) message.now) records.old h self.old
             message.now writes records.new self.new) }
         ensures err { OnErr result (records.new ≡ records.old) }
+        ensures output { OnErr result (self.new.link.output ≡ self.old.link.output) }
     {
         match self.seek(records, message.wanted().sid) {
             Sought::Stray(cid) => {
@@ -54,6 +55,7 @@ impl End {
             → Does (Writes (known port records.old self.old) message.now) records.old h self.old
             message.now writes records.new self.new) }
         ensures err { OnErr result (records.new ≡ records.old) }
+        ensures output { OnErr result (self.new.link.output ≡ self.old.link.output) }
     {
         let name = records.at(seat.place).state().name();
         let rights = records.rights(&self.user, &self.host, name);
@@ -76,8 +78,9 @@ impl End {
         message: &Message,
     ) -> Result<(), AllocError>
         requires { IsOpen self.old.link }
-        ensures { OnOk result (self.new
+        ensures ok { OnOk result (self.new
             ≡ replied (error_reply cid status.number message.now ∷ []) self.old) }
+        ensures output { OnErr result (self.new.link.output ≡ self.old.link.output) }
     {
         let reply = error_reply(self.alloc, cid, status, message)?;
         send(&mut self.link, &reply)?;

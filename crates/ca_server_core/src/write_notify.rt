@@ -22,8 +22,8 @@ impl End {
     /// WRITE_NOTIFY on this circuit: refused in its reply, or applied at once, or it waits until the record is free. On a slow
     /// record its reply comes as it is finished. Says whether it was applied.
     ///
-    /// The reply of a quick one goes first, and is taken back if it is refused, so that none is applied for whose reply
-    /// there is no memory. If there is no memory for the put itself, that reply still waits, and is not to be sent.
+    /// The reply of a quick one goes first, so that none is applied for whose reply there is no memory. It is taken back if the put is
+    /// refused, or if there is no memory for the put itself.
     pub(crate) fn write_notify(
         &mut self,
         circuit: Handle,
@@ -37,6 +37,7 @@ impl End {
             → Does (Puts (known port records.old self.old) message.now) records.old circuit self.old
             message.now writes records.new self.new) }
         ensures err { OnErr result (records.new ≡ records.old) }
+        ensures output { OnErr result (self.new.link.output ≡ self.old.link.output) }
     {
         match self.seek(records, message.wanted().sid) {
             Sought::Stray(_) => {
@@ -63,6 +64,7 @@ impl End {
             → Does (Puts (known port records.old self.old) message.now) records.old circuit self.old
             message.now writes records.new self.new) }
         ensures err { OnErr result (records.new ≡ records.old) }
+        ensures output { OnErr result (self.new.link.output ≡ self.old.link.output) }
     {
         let alloc = self.alloc;
         let place = seat.place;
@@ -72,7 +74,10 @@ impl End {
         let waited = self.link.out_bytes().len();
         self.acknowledge(is_slow, message)?;
         let put = Some(put_of(circuit, seat, message));
-        let begun = begin(alloc, records, place, rights, put, message)?;
+        let Ok(begun) = begin(alloc, records, place, rights, put, message) else {
+            self.link.truncate(waited);
+            return Err(AllocError);
+        };
         match begun {
             Begun::Applied(_) => Ok(true),
             Begun::Waiting => Ok(false),
@@ -87,8 +92,9 @@ impl End {
     /// The reply to a put with notification on a record that is quick.
     fn acknowledge(&mut self, is_slow: bool, message: &Message) -> Result<(), AllocError>
         requires { IsOpen self.old.link }
-        ensures { OnOk result (self.new
+        ensures ok { OnOk result (self.new
             ≡ replied (if is_slow then [] else status_reply message.now normal ∷ []) self.old) }
+        ensures output { OnErr result (self.new.link.output ≡ self.old.link.output) }
     {
         if is_slow {
             return Ok(());

@@ -36,7 +36,7 @@ returns-in_ok-host_name-in-HostName-clause-ok c =
 
 pub returns-in_ok-echo-in-Echo-clause-ok : goal.returns-in_ok-echo-in-Echo-clause-ok
 returns-in_ok-echo-in-Echo-clause-ok c =
-    does-echo c.args.port c.args.records.now c.args.circuit c.args.self.now c.args.message.now c.echo.new.self (sym (ap command_number (sym c.in-Echo.is) ∙ c.in-Some.ensures ∙ c.command.ensures)) c.in_ok-echo-in-Echo.ensures
+    does-echo c.args.port c.args.records.now c.args.circuit c.args.self.now c.args.message.now c.echo.new.self (sym (ap command_number (sym c.in-Echo.is) ∙ c.in-Some.ensures ∙ c.command.ensures)) c.in_ok-echo-in-Echo.ensures.ok
 
 pub returns-in_ok-search-in-Search-clause-ok : goal.returns-in_ok-search-in-Search-clause-ok
 returns-in_ok-search-in-Search-clause-ok c =
@@ -44,11 +44,11 @@ returns-in_ok-search-in-Search-clause-ok c =
 
 pub returns-in_ok-cancel-in-EventCancel-clause-ok : goal.returns-in_ok-cancel-in-EventCancel-clause-ok
 returns-in_ok-cancel-in-EventCancel-clause-ok c =
-    does-cancel c.args.port c.args.records.now c.args.circuit c.args.self.now c.args.message.now c.cancel.new.self (sym (ap command_number (sym c.in-EventCancel.is) ∙ c.in-Some.ensures ∙ c.command.ensures)) c.in_ok-cancel-in-EventCancel.ensures
+    does-cancel c.args.port c.args.records.now c.args.circuit c.args.self.now c.args.message.now c.cancel.new.self (sym (ap command_number (sym c.in-EventCancel.is) ∙ c.in-Some.ensures ∙ c.command.ensures)) c.in_ok-cancel-in-EventCancel.ensures.ok
 
 pub returns-in_ok-create-in-CreateChannel-clause-ok : goal.returns-in_ok-create-in-CreateChannel-clause-ok
 returns-in_ok-create-in-CreateChannel-clause-ok c =
-    does-create c.args.port c.args.records.now c.args.circuit c.args.self.now c.args.message.now c.create.new.self (sym (ap command_number (sym c.in-CreateChannel.is) ∙ c.in-Some.ensures ∙ c.command.ensures)) (c.in_ok-create-in-CreateChannel.ensures c.args.port)
+    does-create c.args.port c.args.records.now c.args.circuit c.args.self.now c.args.message.now c.create.new.self (sym (ap command_number (sym c.in-CreateChannel.is) ∙ c.in-Some.ensures ∙ c.command.ensures)) (c.in_ok-create-in-CreateChannel.ensures.ok c.args.port)
 
 pub returns-in_ok-clear-in-ClearChannel-clause-ok : goal.returns-in_ok-clear-in-ClearChannel-clause-ok
 returns-in_ok-clear-in-ClearChannel-clause-ok c =
@@ -56,11 +56,11 @@ returns-in_ok-clear-in-ClearChannel-clause-ok c =
 
 pub returns-in_ok-read-in-ReadNotify-clause-ok : goal.returns-in_ok-read-in-ReadNotify-clause-ok
 returns-in_ok-read-in-ReadNotify-clause-ok c =
-    does-reply c.args.port c.args.records.now c.args.circuit c.args.self.now c.args.message.now c.read.new.self command.ReadNotify (sym (ap command_number (sym c.in-ReadNotify.is) ∙ c.in-Some.ensures ∙ c.command.ensures)) refl refl (c.in_ok-read-in-ReadNotify.ensures c.args.port)
+    does-reply c.args.port c.args.records.now c.args.circuit c.args.self.now c.args.message.now c.read.new.self command.ReadNotify (sym (ap command_number (sym c.in-ReadNotify.is) ∙ c.in-Some.ensures ∙ c.command.ensures)) refl refl (c.in_ok-read-in-ReadNotify.ensures.ok c.args.port)
 
 pub returns-in_ok-subscribe-in-EventAdd-clause-ok : goal.returns-in_ok-subscribe-in-EventAdd-clause-ok
 returns-in_ok-subscribe-in-EventAdd-clause-ok c =
-    does-reply c.args.port c.args.records.now c.args.circuit c.args.self.now c.args.message.now c.subscribe.new.self command.EventAdd (sym (ap command_number (sym c.in-EventAdd.is) ∙ c.in-Some.ensures ∙ c.command.ensures)) refl refl (c.in_ok-subscribe-in-EventAdd.ensures c.args.port)
+    does-reply c.args.port c.args.records.now c.args.circuit c.args.self.now c.args.message.now c.subscribe.new.self command.EventAdd (sym (ap command_number (sym c.in-EventAdd.is) ∙ c.in-Some.ensures ∙ c.command.ensures)) refl refl (c.in_ok-subscribe-in-EventAdd.ensures.ok c.args.port)
 
 pub returns-in-EventsOff-clause-ok : goal.returns-in-EventsOff-clause-ok
 returns-in-EventsOff-clause-ok c =

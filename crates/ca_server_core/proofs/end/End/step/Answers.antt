@@ -11,7 +11,7 @@ use Rattle.ca_model.specs.Server.{OpenChannel, ServerEnd}
 use Rattle.ca_server_core.specs.declared.cause.Cause.{Cause}
 use Rattle.ca_server_core.specs.Handling.{AreServed, Does, MayLack, known}
 use Rattle.ca_server_core.specs.Stepping.{BreaksBy, Takes}
-use Rattle.ca_server_core.proofs.Steps.{breaks-by, same-link, taken-first}
+use Rattle.ca_server_core.proofs.Steps.{breaks-by, same-link, same-output, taken-first}
 use Rattle.ca_server_core.proofs.end.End.step.Goals as goal
 
 pub returns-in-Ok-None : goal.returns-in-Ok-None
@@ -53,7 +53,8 @@ returns-in-Ok-Some c =
     let takes = subst (λ (x : ServerEnd). TakesFirst x.link m t.0) c.self.view_is t.1 in
     let first = taken-first _ e c.next_message.new.self t.0 c.self.view_is t.2 in
     let x : Takes e = record { room = room; m = m; rest = t.0; takes = takes } in
-    ((x, inr (subst (λ (w : ServerEnd). MayLack (known c.args.port s w) m) first c.in-Err-handle.ensures.memory)), c.in-Err-handle.ensures.err)
+    let output = c.in-Err-handle.ensures.output ∙ ap (λ (l : LinkState). l.output) t.2 ∙ ap (λ (w : ServerEnd). w.link.output) c.self.view_is in
+    ((x, inr (subst (λ (w : ServerEnd). MayLack (known c.args.port s w) m) first c.in-Err-handle.ensures.memory)), output, c.in-Err-handle.ensures.err)
 
 pub returns : goal.returns
 returns c =
@@ -62,4 +63,4 @@ returns c =
     let r = c.in-Err.refusal in
     let room = subst (λ (x : ServerEnd). length x.link.output < output_limit) c.self.view_is (leb-false output_limit (length c.self.inside.link.output) (sym c.if-is_full.ensures)) in
     let nexts = subst (λ (x : ServerEnd). Nexts x.link (Err r) c.next_message.new.self) c.self.view_is c.in-Err.ensures in
-    (subst (λ (k : Cause). BreaksBy c.args.port s e k) (sym c.cause_of.ensures) (breaks-by c.args.port s e c.next_message.new.self r room c.requires.open nexts), refl)
+    (subst (λ (k : Cause). BreaksBy c.args.port s e k) (sym c.cause_of.ensures) (breaks-by c.args.port s e c.next_message.new.self r room c.requires.open nexts), same-output e.link c.next_message.new.self r nexts, refl)
