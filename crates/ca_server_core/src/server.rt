@@ -18,9 +18,9 @@ use std::marker::Model;
 /// those that wait to be sent are asked of it.
 #[derive(Drop)]
 pub struct ServerCore {
-    alloc: Global,
-    port: u16,
-    records: ServedRecords,
+    pub(crate) alloc: Global,
+    pub(crate) port: u16,
+    pub(crate) records: ServedRecords,
     // The moment that was given last.
     moment: u64,
     circuits: HeldTable<Circuit>,
