@@ -2,10 +2,11 @@
 //! given to it, and those that wait to be sent are asked of it.
 //!
 //! It is begun: the end of a circuit handles each message (within the crate), and `ServerCore` has `new`, `accept`, `give`, `out_bytes`, `sent`,
-//! `stamp`, `applied`, `waiting` and `datagram`. It has no call yet for steps, cuts, posts, finishes, removals and beacons. Subscriptions are
+//! `stamp`, `applied`, `waiting`, `datagram` and `beacon`. It has no call yet for steps, cuts, posts, finishes and removals. Subscriptions are
 //! missing: an EVENT_ADD without a fault ends its step as if there was no memory for it. No program uses this crate.
 #![tactic(auto)]
 
+mod beacons;
 mod cause;
 mod channel;
 mod channels;

@@ -22,9 +22,9 @@ pub struct ServerCore {
     pub(crate) port: u16,
     pub(crate) records: ServedRecords,
     // The moment that was given last.
-    moment: u64,
+    pub(crate) moment: u64,
     circuits: HeldTable<Circuit>,
-    beacons: BeaconClock,
+    pub(crate) beacons: BeaconClock,
     // How many writes were applied.
     applied: u64,
 }
