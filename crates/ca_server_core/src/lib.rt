@@ -6,14 +6,17 @@
 //! missing: an EVENT_ADD without a fault ends its step as if there was no memory for it. No program uses this crate.
 #![tactic(auto)]
 
+mod beacons;
 mod cause;
 mod channel;
 mod channels;
 mod circuit;
 mod clear;
 mod create;
+mod cutting;
 mod echo;
 mod end;
+mod ending;
 mod events;
 mod handle;
 mod names;

@@ -18,15 +18,15 @@ use std::marker::Model;
 /// those that wait to be sent are asked of it.
 #[derive(Drop)]
 pub struct ServerCore {
-    alloc: Global,
-    port: u16,
-    records: ServedRecords,
+    pub(crate) alloc: Global,
+    pub(crate) port: u16,
+    pub(crate) records: ServedRecords,
     // The moment that was given last.
-    moment: u64,
-    circuits: HeldTable<Circuit>,
-    beacons: BeaconClock,
+    pub(crate) moment: u64,
+    pub(crate) circuits: HeldTable<Circuit>,
+    pub(crate) beacons: BeaconClock,
     // How many writes were applied.
-    applied: u64,
+    pub(crate) applied: u64,
 }
 
 impl Model for ServerCore {
