@@ -134,7 +134,8 @@ withdraws-served h s t e sid seat few puts i w =
 
 -- ---- nothing that is served
 
-none-of : (f : Put → Bool) (qs : List Record) → ((i k : ℕ) (q : Record) (w : WaitingPut) → At qs i q → At q.waiting k w → f w.put ≡ false) → qs ≡ withdrawn f qs
+-- nothing that waits is one of these: none is taken out
+pub none-of : (f : Put → Bool) (qs : List Record) → ((i k : ℕ) (q : Record) (w : WaitingPut) → At qs i q → At q.waiting k w → f w.put ≡ false) → qs ≡ withdrawn f qs
 none-of f [] none = refl
 none-of f (q ∷ qs) none =
     ap (λ (x : Record). x ∷ qs) (sym (kept f q (λ k w at. none 0 k q w refl at))) ∙ ap (λ (xs : List Record). without_puts f q ∷ xs) (none-of f qs (λ i k r w at at'. none (suc i) k r w at at'))

@@ -5,7 +5,7 @@ use Rattle.ca_text.specs.Limits.{arena_slots}
 use Rattle.ca_text.specs.Place.{At}
 use Rattle.ca_text.proofs.Places.{At-map, At-mapped, At-within}
 use Rattle.ca_arena.specs.declared.handle.Handle.{Handle}
-use Rattle.ca_ids.specs.Table.{MayGive, Table, held, under}
+use Rattle.ca_ids.specs.Table.{MayGive, Table, held, under, with_held}
 use Rattle.ca_ids.specs.Wire.{wire_of}
 use Rattle.ca_ids.proofs.Wires.{wire_of-index}
 use Rattle.ca_records.specs.Puts.{Record, record_named}
@@ -18,8 +18,8 @@ use Rattle.ca_model.specs.ServerSteps.{known_channel, known_record}
 use Rattle.ca_model.specs.Speech.{In}
 use Rattle.ca_server_core.specs.Cids.{UsesCid}
 use Rattle.ca_server_core.specs.Creating.{Creation, IsCreation, creation_replies, with_channel}
-use Rattle.ca_server_core.specs.Handling.{known, replied}
-use Rattle.ca_server_core.proofs.Tables.{given-none, listed-under, place, under-at, under-listed}
+use Rattle.ca_server_core.specs.Handling.{AllStay, known, replied}
+use Rattle.ca_server_core.proofs.Tables.{given-none, held-other, listed-under, place, under-at, under-listed}
 
 -- ---- CIDs
 
@@ -84,3 +84,8 @@ is-created port s e new m few unused did = record {
   fits = (did.r, did.named);
   leaves = did.leaves;
 }
+
+-- the other channels stay open as one is opened
+pub opened-stay : (t u v : Table OpenChannel) (h : Handle) (c : OpenChannel) → t ≡ v → MayGive t h × (u ≡ with_held h c t) → AllStay v u
+opened-stay t u v h c same made g o at =
+    subst (λ (x : Table OpenChannel). under x g ≡ Some o) (sym made.1) (held-other t g h c o made.0 (subst (λ (x : Table OpenChannel). under x g ≡ Some o) (sym same) at))

@@ -15,4 +15,6 @@ pub mod Steps
 pub mod Sounds
 pub mod Moves
 pub mod Stays
-pub mod Ending
+pub mod Closing
+pub mod Walking
+pub mod Servers

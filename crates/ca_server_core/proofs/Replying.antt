@@ -1,6 +1,6 @@
 -- What is due for a message on a channel, by what was found of its SID.
 use Rattle.std.proofs.Common.{◌≡◌, ℕ, ◌⊎◌, inl, inr, List, [], ◌∷◌, Option, Some, None, Result, Ok, Err, refl, sym, ap, ◌∙◌, subst}
-use Rattle.std.specs.Prelude.{OnOk, false, length, map, take}
+use Rattle.std.specs.Prelude.{OnErr, OnOk, false, length, map, take}
 use Rattle.std.proofs.lemmas.List.{take_at}
 use Rattle.ca_text.proofs.Places.{At-one, some_is}
 use Rattle.ca_queue.specs.declared.entry.SubKey.{SubKey}
@@ -28,6 +28,11 @@ use Rattle.ca_server_core.proofs.Known.{serves, stray}
 pub ok-then : {T E P Q : Type 0} (r : Result T E) → (P → Q) → OnOk r P → OnOk r Q
 ok-then (Ok x) f p = f p
 ok-then (Err e) f p = tt
+
+-- what holds anyway holds if the call was refused
+pub in-err : {T E P : Type 0} (r : Result T E) → P → OnErr r P
+in-err (Ok x) p = tt
+in-err (Err e) p = p
 
 -- an end whose link has these messages after the others
 pub relinked : (v e : ServerEnd) (link : LinkState) (ms : List Fields) → v ≡ e → link ≡ with_sent ms v.link → (let new : ServerEnd = record v { link = link } in new) ≡ replied ms e

@@ -4,12 +4,14 @@ use Rattle.ca_arena.specs.declared.handle.Handle.{Handle}
 use Rattle.ca_ids.specs.Table.{Table, under, with_changed}
 use Rattle.ca_link.specs.Calls.{IsOpen}
 use Rattle.ca_link.specs.Link.{with_given, with_handed}
+use Rattle.ca_records.specs.Puts.{Record}
 use Rattle.ca_text.specs.declared.refusal.Refusal.{Refusal}
 use Rattle.ca_text.specs.declared.refusal.Refusal.TheVariants as refusal
 use Rattle.ca_model.specs.Server.{ServerCircuit}
 use Rattle.ca_model.specs.Server as server
 use Rattle.ca_server_core.specs.declared.circuit.State.{State}
 use Rattle.ca_server_core.specs.declared.circuit.State.TheVariants.{Ended, Open}
+use Rattle.ca_server_core.specs.Sound.{EndIsSound}
 use Rattle.ca_server_core.specs.Stepping.{why_is}
 
 abbrev pub circuit_of : State → ServerCircuit
@@ -20,6 +22,11 @@ circuit_of (Ended cause left) = server.Ended (why_is cause) left
 abbrev pub IsLive : ServerCircuit → Type 0
 IsLive (server.Open e) = IsOpen e.link
 IsLive (server.Ended w left) = Unit {0}
+
+-- what is known of a circuit beside these records
+abbrev pub CircuitIsSound : List Record → Handle → ServerCircuit → Type 0
+CircuitIsSound rs h (server.Open e) = EndIsSound rs h e
+CircuitIsSound rs h (server.Ended w left) = Unit {0}
 
 -- these bytes came
 abbrev pub GivesAt : (now : ℕ) → List ℕ → ServerCircuit → Result (Unit {0}) Refusal → ServerCircuit → Type 0

@@ -49,6 +49,10 @@ abbrev pub AreServed : List Record → Table OpenChannel → Type 0
 AreServed records t =
     (h : Handle) (c : OpenChannel) → under t h ≡ Some c → c.retired ≡ false → (r : Record) × (record_named records c.name ≡ Some r)
 
+-- each channel that is open stays so
+abbrev pub AllStay : Table OpenChannel → Table OpenChannel → Type 0
+AllStay old new = (h : Handle) (c : OpenChannel) → under old h ≡ Some c → under new h ≡ Some c
+
 -- ---- what a message does
 
 -- What a message makes of the records under a stamp: `Records` of the server round them.

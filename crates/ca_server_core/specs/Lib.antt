@@ -8,4 +8,8 @@ pub mod Showing
 pub mod Stepping
 pub mod Circuits
 pub mod Sound
+<<<<<<< HEAD
 pub mod Searching
+=======
+pub mod Ending
+>>>>>>> server

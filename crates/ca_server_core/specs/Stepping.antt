@@ -16,7 +16,7 @@ use Rattle.ca_server_core.specs.declared.cause.Cause.{Cause}
 use Rattle.ca_server_core.specs.declared.cause.Cause.TheVariants as cause
 use Rattle.ca_server_core.specs.declared.step.EndStep.{EndStep}
 use Rattle.ca_server_core.specs.declared.step.EndStep.TheVariants.{Breaks, Handled, NeedBytes, OutputFull}
-use Rattle.ca_server_core.specs.Handling.{Does, MayLack, known}
+use Rattle.ca_server_core.specs.Handling.{AllStay, Does, MayLack, known}
 
 -- the cause, as the statement names it
 abbrev pub why_is : Cause → Why
@@ -56,4 +56,4 @@ EndSteps port h e s NeedBytes new t =
     (length e.link.output < output_limit) × NoneBegins e.link.input.bytes × NotBad e.link.input.bytes × (new ≡ e) × (t ≡ s)
 EndSteps port h e s (Handled writes) new t =
     (x : Takes e) × Does (Due (known port s (after_first x)) x.m) s h (after_first x) x.m writes t new
-EndSteps port h e s (Breaks c) new t = BreaksBy port s e c × (new.link.output ≡ e.link.output) × (t ≡ s)
+EndSteps port h e s (Breaks c) new t = BreaksBy port s e c × (new.link.output ≡ e.link.output) × AllStay e.channels new.channels × (t ≡ s)

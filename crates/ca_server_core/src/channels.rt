@@ -1,6 +1,7 @@
-ghost use Rattle.std.specs.Prelude.{◌≡◌, ◌≤◌, ◌↔◌, length, [], IsTrue, IfOk, OnErr, false, option_map};
+ghost use Rattle.std.specs.Prelude.{◌≡◌, ◌<◌, ◌≤◌, ◌↔◌, length, [], IsTrue, IfOk, OnErr, false, option_map};
 ghost use Rattle.ca_text.specs.Limits.{arena_slots};
-ghost use Rattle.ca_ids.specs.Table.{MayGive, by_wire, is_full, with_held};
+ghost use Rattle.ca_arena.specs.Arena.{place_at};
+ghost use Rattle.ca_ids.specs.Table.{MayGive, by_wire, held_at, is_full, with_held};
 ghost use Rattle.ca_server_core.specs.Cids.{UsesCid};
 ghost use Rattle.ca_server_core.specs.Clearing.{without_sid};
 
@@ -65,6 +66,22 @@ impl Channels {
         ensures limit { length self.now ≤ arena_slots }
     {
         self.table.by_wire(WireId::new(sid.number()))
+    }
+
+    // How many indices were given so far.
+    pub(crate) fn places(&self) -> usize
+        ensures { result ≡ length self.now }
+    {
+        self.table.places()
+    }
+
+    // The channel of this index, with its handle.
+    pub(crate) fn at(&self, index: usize) -> Option<(Handle, &Channel)>
+        requires { index < length self.now }
+        ensures { option_map (λ e. (e.0, e.1.now)) result
+            ≡ held_at index (place_at self.now index) }
+    {
+        self.table.at(index)
     }
 
     // Opens a channel, and says under which handle. Without memory the channels are as they were.

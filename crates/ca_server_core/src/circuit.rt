@@ -2,10 +2,15 @@ ghost use Rattle.std.specs.Prelude.{◌≡◌, ◌≤◌, Some, length};
 ghost use Rattle.ca_model.specs.Server.{new_end};
 ghost use Rattle.ca_model.specs.Server as server;
 ghost use Rattle.ca_model.specs.ServerSteps.{output_of};
-ghost use Rattle.ca_server_core.specs.Circuits.{GivesAt, IsLive, SendsAt};
+ghost use Rattle.ca_records.specs.Store.{records_of};
+ghost use Rattle.ca_server_core.specs.Circuits.{CircuitIsSound, GivesAt, IsLive, SendsAt};
+ghost use Rattle.ca_server_core.specs.Ending.{EndsAt};
+ghost use Rattle.ca_server_core.specs.Stepping.{why_is};
 
 use crate::cause::Cause;
 use crate::end::End;
+use ca_arena::Handle;
+use ca_records::ServedRecords;
 use ca_text::Refusal;
 use ca_wire::Pipe;
 use std::alloc::Global;
@@ -62,6 +67,21 @@ impl Circuit {
         match &self.state {
             State::Open(end) => end.link.out_bytes(),
             State::Ended(_, _) => &[],
+        }
+    }
+
+    // Its end ends for this cause, if it is open: its puts that wait are taken out of the records, and what waits to be sent is left.
+    // It does not allocate.
+    pub(crate) fn end(&mut self, circuit: Handle, cause: Cause, records: &mut ServedRecords)
+        requires { CircuitIsSound (records_of records.old) circuit self.old }
+        ensures { EndsAt circuit self.old records.old (why_is cause) self.new records.new }
+    {
+        match &mut self.state {
+            State::Open(end) => {
+                let left = end.leave(circuit, records);
+                self.state = State::Ended(cause, left);
+            }
+            State::Ended(_, _) => {}
         }
     }
 

@@ -33,6 +33,7 @@ impl End {
         ensures records { OnOk result (Withdraws circuit message.now.p1 records.old records.new) }
         ensures err { OnErr result (records.new ≡ records.old) }
         ensures output { OnErr result (self.new.link.output ≡ self.old.link.output) }
+        ensures channels { OnErr result (self.new.channels ≡ self.old.channels) }
     {
         send(&mut self.link, &cleared_reply(self.alloc, message))?;
         let sid = message.channel_ids().sid;

@@ -5,7 +5,7 @@ ghost use Rattle.ca_records.specs.Store.{Finds};
 ghost use Rattle.ca_wire.specs.Messages.{failed_reply, text_in};
 ghost use Rattle.ca_server_core.specs.Cids.{UsesCid};
 ghost use Rattle.ca_server_core.specs.Creating.{Creation, IsCreation};
-ghost use Rattle.ca_server_core.specs.Handling.{replied};
+ghost use Rattle.ca_server_core.specs.Handling.{AllStay, replied};
 
 use crate::channel::Channel;
 use crate::end::{End, send};
@@ -25,6 +25,7 @@ impl End {
         ensures ok { OnOk result ((port : ℕ)
             → Creation port records.now self.old message.now self.new) }
         ensures output { OnErr result (self.new.link.output ≡ self.old.link.output) }
+        ensures channels { OnErr result (AllStay self.old.channels self.new.channels) }
     {
         let Some(place) = records.find(message.text()) else {
             return self.refuse_channel(message);
@@ -43,6 +44,7 @@ impl End {
         requires { IsOpen self.old.link }
         ensures ok { OnOk result (self.new ≡ replied (failed_reply message.now ∷ []) self.old) }
         ensures output { OnErr result (self.new.link.output ≡ self.old.link.output) }
+        ensures channels { OnErr result (self.new.channels ≡ self.old.channels) }
     {
         let reply = failed_reply(self.alloc, message);
         send(&mut self.link, &reply)?;
@@ -62,6 +64,7 @@ impl End {
         requires new { UsesCid self.old.channels message.now.p1 → ⊥ }
         ensures ok { OnOk result (IsCreation records.now self.old message.now self.new) }
         ensures output { OnErr result (self.new.link.output ≡ self.old.link.output) }
+        ensures channels { OnErr result (AllStay self.old.channels self.new.channels) }
     {
         let served = records.at(place);
         let state = served.state();

@@ -15,6 +15,7 @@ impl End {
         requires { IsOpen self.old.link }
         ensures ok { OnOk result (self.new ≡ replied (bare Echo ∷ []) self.old) }
         ensures output { OnErr result (self.new.link.output ≡ self.old.link.output) }
+        ensures channels { OnErr result (self.new.channels ≡ self.old.channels) }
     {
         send(&mut self.link, &bare(self.alloc, Command::Echo))?;
         Ok(())

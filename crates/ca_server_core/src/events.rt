@@ -31,6 +31,7 @@ impl End {
         ensures ok { OnOk result ((port : ℕ)
             → Replies (Subscribes (known port records.now self.old) message.now) self.old self.new) }
         ensures output { OnErr result (self.new.link.output ≡ self.old.link.output) }
+        ensures channels { OnErr result (self.new.channels ≡ self.old.channels) }
     {
         match self.seek(records, message.wanted().sid) {
             Sought::Stray(cid) => {
@@ -58,6 +59,7 @@ impl End {
             ≡ replied (cancel_reply message.now ∷ [])
             (without_subscriptions (same (key_in message.now)) self.old)) }
         ensures output { OnErr result (self.new.link.output ≡ self.old.link.output) }
+        ensures channels { OnErr result (self.new.channels ≡ self.old.channels) }
     {
         send(&mut self.link, &cancel_reply(self.alloc, message))?;
         Ok(())

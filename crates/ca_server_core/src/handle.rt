@@ -3,7 +3,7 @@ ghost use Rattle.ca_link.specs.Calls.{IsOpen};
 ghost use Rattle.ca_records.specs.Store.{records_of};
 ghost use Rattle.ca_model.specs.Due.{Due};
 ghost use Rattle.ca_server_core.specs.Clearing.{ArePuts};
-ghost use Rattle.ca_server_core.specs.Handling.{AreServed, Does, MayLack, known};
+ghost use Rattle.ca_server_core.specs.Handling.{AllStay, AreServed, Does, MayLack, known};
 
 use crate::end::End;
 use ca_arena::Handle;
@@ -31,6 +31,7 @@ impl End {
             message.now writes records.new self.new) }
         ensures err { OnErr result (records.new ≡ records.old) }
         ensures output { OnErr result (self.new.link.output ≡ self.old.link.output) }
+        ensures channels { OnErr result (AllStay self.old.channels self.new.channels) }
         ensures memory { OnErr result (MayLack (known port records.old self.old) message.now) }
     {
         let Some(command) = Command::of(message.command()) else {

@@ -15,6 +15,7 @@ impl End {
             })) }
         ensures err { OnErr result (text_in message.now.payload ≡ [] → ⊥) }
         ensures output { OnErr result (self.new.link.output ≡ self.old.link.output) }
+        ensures channels { OnErr result (self.new.channels ≡ self.old.channels) }
     {
         if self.settled {
             return Ok(());
@@ -32,6 +33,7 @@ impl End {
             })) }
         ensures err { OnErr result (text_in message.now.payload ≡ [] → ⊥) }
         ensures output { OnErr result (self.new.link.output ≡ self.old.link.output) }
+        ensures channels { OnErr result (self.new.channels ≡ self.old.channels) }
     {
         if self.settled {
             return Ok(());

@@ -37,6 +37,7 @@ impl End {
         ensures ok { OnOk result ((port : ℕ)
             → Replies (Reads (known port records.now self.old) message.now) self.old self.new) }
         ensures output { OnErr result (self.new.link.output ≡ self.old.link.output) }
+        ensures channels { OnErr result (self.new.channels ≡ self.old.channels) }
     {
         match self.seek(records, message.wanted().sid) {
             Sought::Stray(_) => {

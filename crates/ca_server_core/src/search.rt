@@ -25,6 +25,7 @@ impl End {
         ensures err { OnErr result (search_due (known port records.now self.old) message.now
             ≡ [] → ⊥) }
         ensures output { OnErr result (self.new.link.output ≡ self.old.link.output) }
+        ensures channels { OnErr result (self.new.channels ≡ self.old.channels) }
     {
         if records.has(message.text()) {
             let reply = search_reply(self.alloc, port, message)?;

@@ -23,10 +23,10 @@ pub struct ServerCore {
     pub(crate) records: ServedRecords,
     // The moment that was given last.
     pub(crate) moment: u64,
-    circuits: HeldTable<Circuit>,
+    pub(crate) circuits: HeldTable<Circuit>,
     pub(crate) beacons: BeaconClock,
     // How many writes were applied.
-    applied: u64,
+    pub(crate) applied: u64,
 }
 
 impl Model for ServerCore {

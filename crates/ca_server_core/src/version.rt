@@ -16,6 +16,7 @@ impl End {
             (record self.old { greeted = true })) }
         ensures err { OnErr result (self.old.greeted ≡ false) }
         ensures output { OnErr result (self.new.link.output ≡ self.old.link.output) }
+        ensures channels { OnErr result (self.new.channels ≡ self.old.channels) }
     {
         if self.greeted {
             return Ok(());

@@ -31,6 +31,7 @@ impl End {
             message.now writes records.new self.new) }
         ensures err { OnErr result (records.new ≡ records.old) }
         ensures output { OnErr result (self.new.link.output ≡ self.old.link.output) }
+        ensures channels { OnErr result (self.new.channels ≡ self.old.channels) }
     {
         match self.seek(records, message.wanted().sid) {
             Sought::Stray(cid) => {
@@ -56,6 +57,7 @@ impl End {
             message.now writes records.new self.new) }
         ensures err { OnErr result (records.new ≡ records.old) }
         ensures output { OnErr result (self.new.link.output ≡ self.old.link.output) }
+        ensures channels { OnErr result (self.new.channels ≡ self.old.channels) }
     {
         let name = records.at(seat.place).state().name();
         let rights = records.rights(&self.user, &self.host, name);
@@ -81,6 +83,7 @@ impl End {
         ensures ok { OnOk result (self.new
             ≡ replied (error_reply cid status.number message.now ∷ []) self.old) }
         ensures output { OnErr result (self.new.link.output ≡ self.old.link.output) }
+        ensures channels { OnErr result (self.new.channels ≡ self.old.channels) }
     {
         let reply = error_reply(self.alloc, cid, status, message)?;
         send(&mut self.link, &reply)?;

@@ -38,6 +38,7 @@ impl End {
             message.now writes records.new self.new) }
         ensures err { OnErr result (records.new ≡ records.old) }
         ensures output { OnErr result (self.new.link.output ≡ self.old.link.output) }
+        ensures channels { OnErr result (self.new.channels ≡ self.old.channels) }
     {
         match self.seek(records, message.wanted().sid) {
             Sought::Stray(_) => {
@@ -65,6 +66,7 @@ impl End {
             message.now writes records.new self.new) }
         ensures err { OnErr result (records.new ≡ records.old) }
         ensures output { OnErr result (self.new.link.output ≡ self.old.link.output) }
+        ensures channels { OnErr result (self.new.channels ≡ self.old.channels) }
     {
         let alloc = self.alloc;
         let place = seat.place;
@@ -95,6 +97,7 @@ impl End {
         ensures ok { OnOk result (self.new
             ≡ replied (if is_slow then [] else status_reply message.now normal ∷ []) self.old) }
         ensures output { OnErr result (self.new.link.output ≡ self.old.link.output) }
+        ensures channels { OnErr result (self.new.channels ≡ self.old.channels) }
     {
         if is_slow {
             return Ok(());

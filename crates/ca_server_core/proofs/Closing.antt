@@ -6,8 +6,6 @@ use Rattle.ca_link.specs.Link.{LinkState}
 use Rattle.ca_records.specs.declared.puts.Put.{Put}
 use Rattle.ca_records.specs.Puts.{Record, WaitingPut, withdrawn}
 use Rattle.ca_records.specs.Store.{Store, records_of}
-use Rattle.ca_records.specs.Writes.{HaveNone}
-use Rattle.ca_records.proofs.Withdrawals.{withdrawn-none}
 use Rattle.ca_text.specs.Place.{At}
 use Rattle.ca_text.proofs.Places.{some_is}
 use Rattle.ca_wire.specs.Fields.{Fields}
@@ -16,7 +14,7 @@ use Rattle.ca_model.specs.Ends.{Why}
 use Rattle.ca_model.specs.Server.{Ended, Open, OpenChannel, Server, ServerCircuit, ServerEnd, Subscription}
 use Rattle.ca_server_core.specs.Handling.{Does}
 use Rattle.ca_server_core.specs.Sound.{EndIsSound, IsSound}
-use Rattle.ca_server_core.proofs.Cleared.{is-same, same-is}
+use Rattle.ca_server_core.proofs.Cleared.{is-same, none-of, same-is}
 use Rattle.ca_server_core.proofs.Stays.{IsNew, Keeps, Stays, Waited, back-channel, link-kept, new-channel, new-circuit, recorded-keeps, stay-channel, withdrawn-keeps}
 use Rattle.ca_server_core.proofs.Tables.{changed-back, changed-other, changed-own, freed-back, freed-other}
 
@@ -136,7 +134,7 @@ sound-ended rs c h w left i =
 
 -- no put waits of a circuit whose end is not open
 pub none-waits : (rs : List Record) (c : Circuits) (h : Handle) → IsSound rs c → ((x : ServerEnd) → under c h ≡ Some (Open x) → ⊥) → withdrawn (is_its h) rs ≡ rs
-none-waits rs c h i none = withdrawn-none (is_its h) rs (λ j r k w at at'. (let u = i.waits j r k w at at' in by w (same_handle w.put.circuit h) refl u.0 u.1))
+none-waits rs c h i none = sym (none-of (is_its h) rs (λ j k r w at at'. (let u = i.waits j r k w at at' in by w (same_handle w.put.circuit h) refl u.0 u.1)))
   where
     by : (w : WaitingPut) (b : Bool) → same_handle w.put.circuit h ≡ b → (x : ServerEnd) → under c w.put.circuit ≡ Some (Open x) → is_its h w.put ≡ false
     by w true hit x at = absurd (none x (subst (λ (g : Handle). under c g ≡ Some (Open x)) (same-is w.put.circuit h hit) at))
