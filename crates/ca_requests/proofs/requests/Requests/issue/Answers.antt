@@ -8,17 +8,17 @@ use Rattle.ca_requests.proofs.requests.Requests.issue.Goals as goal
 
 pub invariant_of-self-in-Ok : goal.invariant_of-self-in-Ok
 invariant_of-self-in-Ok c =
-    let listed = c.self-2.inside.listed.items in
-    let q = c.in-Ok.handle in
+    let listed = c.self.inside.listed.items in
+    let q = c.args.vacant in
     let r = new_request c.args.channel c.args.circuit (asked_of c.args.asked) in
     let is : c.push_reserved.new.self.items ≡ listed ++ q ∷ [] = c.push_reserved.ensures.items ∙ ap (λ (xs : List Handle). xs ++ q ∷ []) c.reserve.ensures.items in
-    issues-given c.self-2.inside.table c.open.new.self listed c.push_reserved.new.self.items r q c.self-2.invariant c.in-Ok.ensures is
+    issues-given c.self.inside.table c.open_at.new.self listed c.push_reserved.new.self.items r q c.self.invariant c.in-Ok.ensures is
 
 pub returns-in-Ok : goal.returns-in-Ok
 returns-in-Ok c =
-    let listed = c.self-2.inside.listed.items in
-    let q = c.in-Ok.handle in
+    let listed = c.self.inside.listed.items in
+    let q = c.args.vacant in
     let r = new_request c.args.channel c.args.circuit (asked_of c.args.asked) in
     let is : c.push_reserved.new.self.items ≡ listed ++ q ∷ [] = c.push_reserved.ensures.items ∙ ap (λ (xs : List Handle). xs ++ q ∷ []) c.reserve.ensures.items in
-    subst (λ (x : Issued). Issues x r (Ok q) (issued_of c.open.new.self c.push_reserved.new.self.items)) (c.self-2.view_is ∙ c.tidy.ensures)
-    (issues c.self-2.inside.table c.open.new.self listed c.push_reserved.new.self.items r q c.self-2.invariant refl c.in-Ok.ensures is)
+    subst (λ (x : Issued). Issues x q r (Ok tt) (issued_of c.open_at.new.self c.push_reserved.new.self.items)) (c.self.view_is ∙ c.tidy.ensures)
+    (issues c.self.inside.table c.open_at.new.self listed c.push_reserved.new.self.items r q c.self.invariant refl c.in-Ok.ensures is)
