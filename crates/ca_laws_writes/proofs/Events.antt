@@ -6,7 +6,7 @@ use Rattle.std.specs.Str.{bytes_eq}
 use Rattle.std.proofs.lemmas.Slice.Eq.{bytes_eq-Decides}
 use Rattle.ca_arena.specs.declared.handle.Handle.{Handle}
 use Rattle.ca_text.specs.Place.{At}
-use Rattle.ca_text.proofs.Places.{some_is, At-append, At-last, At-snoc, At-map, At-mapped, At-one, At-parts, At-set, At-set-other}
+use Rattle.ca_text.proofs.Places.{some_is, At-append, At-last, At-snoc, At-map, At-mapped, At-one, At-parts, At-set, At-set-other, At-within}
 use Rattle.ca_dbr.specs.Elements.{base_of}
 use Rattle.ca_ids.specs.Table.{same_handle, under}
 use Rattle.ca_queue.specs.declared.entry.SubKey.{SubKey}
@@ -49,7 +49,7 @@ pub record SameEnds (c d : Joined) : Type 0 where
 pub same-self : (c : Joined) → SameEnds c c
 same-self c = record { server = refl; handle = refl; life = refl; up = refl; handled = refl; is_open = refl }
 
-same-trans : (a b c : Joined) → SameEnds a b → SameEnds b c → SameEnds a c
+pub same-trans : (a b c : Joined) → SameEnds a b → SameEnds b c → SameEnds a c
 same-trans a b c f g = record {
   server = g.server ∙ f.server;
   handle = g.handle ∙ f.handle;
@@ -59,7 +59,7 @@ same-trans a b c f g = record {
   is_open = g.is_open ∙ f.is_open;
 }
 
-same-later : (c d : Joined) → SameEnds c d → Later c d
+pub same-later : (c d : Joined) → SameEnds c d → Later c d
 same-later c d s = record {
   server = s.server;
   handle = s.handle;
@@ -77,7 +77,7 @@ AreSame old new =
 pub are-later : (old new : List Joined) → AreSame old new → AreLater old new
 are-later old new s n c at = (let d = s.0 n c at in (d.0, d.1, same-later c d.0 d.2))
 
-still-open : (old new : List Joined) (rs : List RecordSide) → AreSame old new → AreOpen old rs → AreOpen new rs
+pub still-open : (old new : List Joined) (rs : List RecordSide) → AreSame old new → AreOpen old rs → AreOpen new rs
 still-open old new rs s are_open j r p d in_rs waits on =
     (let c = s.1 p.circuit d on in c.2.is_open ∙ are_open j r p c.0 in_rs waits c.1)
 
@@ -108,11 +108,11 @@ pub posted-same : (i : ℕ) (core : Server) (name : List ℕ) (mask : ℕ) (c : 
 posted-same i core name mask c =
     if-same (c.server == i && c.lists.server_open) c (fold with_number c (event.keys_concerned name mask (under core.circuits c.at_server))) (numbers-same c (event.keys_concerned name mask (under core.circuits c.at_server)))
 
-next-same : (i : ℕ) (core : Server) (name : List ℕ) (ws : List WaitingPut) (c : Joined) → SameEnds c (next_numbers i core name ws c)
+pub next-same : (i : ℕ) (core : Server) (name : List ℕ) (ws : List WaitingPut) (c : Joined) → SameEnds c (next_numbers i core name ws c)
 next-same i core name [] c = same-self c
 next-same i core name (w ∷ ws) c = posted-same i core name 3 c
 
-removed-same : (i : ℕ) (core : Server) (name : List ℕ) (gone : Handle → Bool) (left : Handle → ℕ) (c : Joined) → SameEnds c (removed_at i core name gone left c)
+pub removed-same : (i : ℕ) (core : Server) (name : List ℕ) (gone : Handle → Bool) (left : Handle → ℕ) (c : Joined) → SameEnds c (removed_at i core name gone left c)
 removed-same i core name gone left c =
     if-same (c.server == i && c.lists.server_open) c _ (record { server = refl; handle = refl; life = refl; up = refl; handled = refl; is_open = refl })
 
@@ -467,9 +467,9 @@ writes-later w new servers logs later ends h = record {
 -- ---- a restart
 
 -- A server begins a new life, and its open ends end untold.
-pub writes-restart : (w : World) (i : ℕ) (y : ServerSide) → At w.servers i y → ((j k : ℕ) (r s : RecordState) → At y.setting.records j r → At y.setting.records k s → r.name ≡ s.name → j ≡ k) → ((j : ℕ) (z : ServerSide) → At w.servers j z → z.life < length w.server_logs) → Writes w
+pub writes-restart : (w : World) (i : ℕ) (y : ServerSide) → At w.servers i y → ((j k : ℕ) (r s : RecordState) → At y.setting.records j r → At y.setting.records k s → r.name ≡ s.name → j ≡ k) → Writes w
     → (let ends : Joined → Option (List ℕ) = ends_untold i y.core in Writes (with_server i (server_begun w.moment (length w.server_logs) y.setting) (record w { circuits = map (ending ends) w.circuits; server_logs = w.server_logs ++ log_begun y.setting ∷ [] })))
-writes-restart w i y at names fewer h = record {
+writes-restart w i y at names h = record {
   lives = λ j z there. elim (At-set w.servers i next j z there) [
     | inl same ↦
         subst (λ (x : ServerSide). Lives new j x) (sym same.1)
@@ -520,6 +520,10 @@ writes-restart w i y at names fewer h = record {
     ends : Joined → Option (List ℕ)
     ends = ends_untold i y.core
 
+    -- a present life has a log
+    fewer : (j : ℕ) (z : ServerSide) → At w.servers j z → z.life < length w.server_logs
+    fewer j z at = (let own = h.lives j z at in At-within w.server_logs z.life own.log own.at)
+
     next : ServerSide
     next = server_begun w.moment (length w.server_logs) y.setting
 
@@ -547,7 +551,7 @@ writes-restart w i y at names fewer h = record {
 
 -- ---- before any event
 
-numbered-at : {A B : Type 0} (f : ℕ → A → B) (xs : List A) (n i : ℕ) (z : B) → At (numbered n f xs) i z → (x : A) × At xs i x × (z ≡ f (n + i) x)
+pub numbered-at : {A B : Type 0} (f : ℕ → A → B) (xs : List A) (n i : ℕ) (z : B) → At (numbered n f xs) i z → (x : A) × At xs i x × (z ≡ f (n + i) x)
 numbered-at f [] n i z at = absurd (none_at i z at)
 numbered-at f (x ∷ xs) n zero z at = (x, refl, (let e : n ≡ n + 0 = omega arith in sym (some_is (f n x) z at) ∙ ap (λ (k : ℕ). f k x) e))
 numbered-at f (x ∷ xs) n (suc i) z at =

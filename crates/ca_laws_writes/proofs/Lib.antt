@@ -14,5 +14,16 @@ pub mod Midway
 pub mod Events
 pub mod Doing
 pub mod Step
+pub mod Waited
 pub mod Stepped
 pub mod Now
+pub mod Frames
+pub mod Cores
+pub mod Seats
+pub mod HappensPost
+pub mod Closing
+pub mod Unsaid
+pub mod HappensStep
+pub mod HappensAdd
+pub mod HappensClient
+pub mod Every

@@ -4,3 +4,4 @@ pub mod Agrees
 pub mod Lives
 pub mod Moves
 pub mod Taken
+pub mod Seats

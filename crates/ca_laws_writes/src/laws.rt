@@ -215,7 +215,6 @@ pub fn writes_stay_as_a_world_goes_on()
     ensures restarted { (w : World) (i : ℕ) (y : ServerSide) → At w.servers i y
         → ((j k : ℕ) (r s : RecordState) → At y.setting.records j r → At y.setting.records k s
         → r.name ≡ s.name → j ≡ k)
-        → ((j : ℕ) (z : ServerSide) → At w.servers j z → z.life < length w.server_logs)
         → Writes w → Writes (restarted w i y) }
 {}
 
