@@ -3,3 +3,4 @@ pub mod Circuits
 pub mod Cancelling
 pub mod Wanting
 pub mod Beginnings
+pub mod Ended

@@ -4,3 +4,5 @@ pub mod Codes
 pub mod Ends
 pub mod Calls
 pub mod Names
+pub mod Ending
+pub mod Hearing
