@@ -3,3 +3,7 @@ pub mod Circuits
 pub mod Cancelling
 pub mod Wanting
 pub mod Beginnings
+pub mod Faults
+pub mod Requesting
+pub mod Adding
+pub mod Putting

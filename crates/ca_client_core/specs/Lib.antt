@@ -4,3 +4,6 @@ pub mod Codes
 pub mod Ends
 pub mod Calls
 pub mod Names
+pub mod Lives
+pub mod Asks
+pub mod Puts
