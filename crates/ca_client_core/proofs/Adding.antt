@@ -39,7 +39,16 @@ subscribes-out x h a mask s new none may is = ([], (may-subscribe x h a s none m
 pub subscribes-done : (x : Client) (h : Handle) (a : Shape) (mask : ℕ) (l : LiveChannel) (s : Handle) (d : Subscription) (m : Fields) (new : Client) → IsLive x h l → ask_fault x false h a ≡ None → d ≡ new_subscription h a mask → m ≡ (event_add_sent l.circuit l.native.sid s (new_subscription h a mask)).message → Subscribes x s l.circuit d m (Ok tt) new → (sent : List Sending) × ClientSubscribes x h a mask (Ok s) sent new
 subscribes-done x h a mask l s d m new live none is says did = (
   event_add_sent l.circuit l.native.sid s (new_subscription h a mask) ∷ [],
-  (l, live, may-subscribe x h a s none did.0, did.0, (refl, did.1
-      ∙ ap (λ (f : Fields). with_message l.circuit f (with_subscription s d x)) says
-      ∙ ap (λ (e : Subscription). with_message l.circuit (event_add_sent l.circuit l.native.sid s (new_subscription h a mask)).message (with_subscription s e x)) is)),
+  (
+    l,
+    live,
+    may-subscribe x h a s none did.0,
+    did.0,
+    (
+      refl,
+      did.1
+          ∙ ap (λ (f : Fields). with_message l.circuit f (with_subscription s d x)) says
+          ∙ ap (λ (e : Subscription). with_message l.circuit (event_add_sent l.circuit l.native.sid s (new_subscription h a mask)).message (with_subscription s e x)) is,
+    ),
+  ),
 )

@@ -1,6 +1,5 @@
 -- The bytes of a value, as the payload of a write, and what a write leaves.
-use Rattle.std.proofs.Common.{◌≡◌, ◌≢◌, ◌∙◌, ◌++◌, ℕ, ◌+◌, Bool, true, false, not, List, [], ◌∷◌, Option, Some, None, Result, Ok, Err, ap, append-nil, arith, length, refl, replicate, subst, sym}
-use Rattle.std.specs.declared.alloc.AllocError.{AllocError}
+use Rattle.std.proofs.Common.{◌≡◌, ◌∙◌, ◌++◌, ℕ, ◌+◌, Bool, true, false, not, List, [], ◌∷◌, Some, None, Result, Ok, Err, ap, append-nil, arith, refl, replicate, subst, sym}
 use Rattle.ca_text.specs.declared.command.Command.TheVariants as command
 use Rattle.ca_text.specs.declared.refusal.Refusal.{Refusal}
 use Rattle.ca_text.specs.declared.refusal.Refusal.TheVariants as refusal
@@ -22,12 +21,11 @@ use Rattle.ca_requests.specs.Requests as request
 use Rattle.ca_wire.specs.Fields.{Fields}
 use Rattle.ca_wire.specs.Made.{Makes, with_payload}
 use Rattle.ca_model.specs.Answers.{Sending}
-use Rattle.ca_model.specs.Client.{Client, out_bytes, standing_at}
+use Rattle.ca_model.specs.Client.{Client, standing_at}
 use Rattle.ca_model.specs.ClientCalls.{ClientPuts, ClientWrites, IsLive, LiveChannel, is_misfit, is_over, notify_fault, put_fault, put_sent, write_sent}
-use Rattle.ca_client_core.specs.Asks.{Asks, IssuesOr, with_message, with_request}
+use Rattle.ca_client_core.specs.Asks.{Asks, with_message, with_request}
 use Rattle.ca_client_core.specs.Puts.{put_message}
 use Rattle.ca_client_core.proofs.Faults.{Faults, and_then, earlier-fault, fault-memory, last-fault}
-use Rattle.ca_client_core.proofs.Requesting.{asks-or}
 
 -- ---- the bytes of a value
 
@@ -108,6 +106,15 @@ puts-out x h e q new none may is = ([], (may-put-now x h e q none may, (refl, is
 pub puts-done : (x : Client) (h : Handle) (e : Elements) (l : LiveChannel) (q : Handle) (id : ℕ) (new : Client) → IsLive x h l → put_fault x false h e ≡ None → id ≡ wire_of q → Asks x q h l.circuit request.Put (put_message command.WriteNotify l e id) (Ok tt) new → (sent : List Sending) × ClientPuts x h e (Ok q) sent new
 puts-done x h e l q id new live none is did = (
   put_sent h l e q ∷ [],
-  (l, live, may-put-now x h e q none did.0, did.0, (refl, did.1
-      ∙ ap (λ (n : ℕ). with_message l.circuit (put_message command.WriteNotify l e n) (with_request q h l.circuit request.Put x)) is)),
+  (
+    l,
+    live,
+    may-put-now x h e q none did.0,
+    did.0,
+    (
+      refl,
+      did.1
+          ∙ ap (λ (n : ℕ). with_message l.circuit (put_message command.WriteNotify l e n) (with_request q h l.circuit request.Put x)) is,
+    ),
+  ),
 )

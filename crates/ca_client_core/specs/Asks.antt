@@ -8,7 +8,7 @@ use Rattle.ca_wire.specs.Fields.{Fields}
 use Rattle.ca_requests.specs.Calls.{new_request}
 use Rattle.ca_requests.specs.Requests.{Asked}
 use Rattle.ca_monitor.specs.Subscriptions.{Subscription, new_subscription}
-use Rattle.ca_model.specs.Client.{Client, ClientCircuit, Connection, on_connection}
+use Rattle.ca_model.specs.Client.{Client, Connection, on_connection}
 
 -- the end of which only the first n bytes still wait
 abbrev pub cut_end : ℕ → Connection → Connection

@@ -16,12 +16,7 @@ impl ClientCore {
     /// Refused as StaleHandle, as NotLive, as BadType for a type over 20, as NoAccess without the right to read, as BadCount for
     /// more elements than the channel has, as OutputFull if too much waits, as ArenaFull if no IOID may be given, then as
     /// OutOfMemory.
-    pub fn read(
-        &mut self,
-        channel: Handle,
-        data_type: u16,
-        count: u32,
-    ) -> Result<Handle, Refusal>
+    pub fn read(&mut self, channel: Handle, data_type: u16, count: u32) -> Result<Handle, Refusal>
         ensures { (sent : List Sending)
             × ClientReads
             self.old

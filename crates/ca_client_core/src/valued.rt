@@ -29,7 +29,12 @@ impl Payload for Elements<'_> {
     ghost made = { λ p. Ok (bytes_of (elements p.value.now)) };
 
     fn put(&self, out: &mut Vec<u8>) -> Result<(), Refusal> {
-        write_value(self.value.base_type().number(), self.value, &Meta::ZERO, out)
+        write_value(
+            self.value.base_type().number(),
+            self.value,
+            &Meta::ZERO,
+            out,
+        )
     }
 }
 
@@ -87,9 +92,10 @@ impl Connection {
         requires { IsSmall (elements value.now) }
         ensures ok { OnOk result (self.new
             ≡ record self.old {
-            link = with_sent
-            (with_payload (bytes_of (elements value.now)) head.now ∷ [])
-            self.old.link } ) }
+              link = with_sent
+                  (with_payload (bytes_of (elements value.now)) head.now ∷ [])
+                  self.old.link;
+            }) }
         ensures err { OnErr result (self.new ≡ self.old) }
     {
         match self

@@ -1,4 +1,4 @@
-use Rattle.std.proofs.Common.{◌≡◌, List, Result, subst, sym}
+use Rattle.std.proofs.Common.{List, Result, subst, sym}
 use Rattle.ca_text.specs.declared.refusal.Refusal.{Refusal}
 use Rattle.ca_dbr.specs.Elements.{elements}
 use Rattle.ca_model.specs.Answers.{Sending}
