@@ -2,3 +2,4 @@ pub mod Places
 pub mod Runs
 mod Slots
 pub mod Stale
+mod Vacant

@@ -125,6 +125,11 @@ module _ {T : Type 0} where
   Inserts old value (Err (back, OutOfMemory)) new = (old.freed ≡ []) × (0 < free_slots old) × (back ≡ value) × (new ≡ old)
   Inserts old value (Err _) new = ⊥
 
+  -- From old, this value was inserted under a handle that was asked for, with this answer, and left new.
+  abbrev pub InsertsAt : Contents T → Handle → T → Result (Unit {0}) T → Contents T → Type 0
+  InsertsAt old handle value (Ok _) new = Inserts old value (Ok handle) new
+  InsertsAt old handle value (Err back) new = (back ≡ value) × (new ≡ old)
+
   -- From old, the value of this handle was removed, with this answer, and left new.
   abbrev pub Removes : Contents T → Handle → Result T Refusal → Contents T → Type 0
   Removes old handle (Ok value) new = (find old handle ≡ Some value) × (new ≡ removed old handle)

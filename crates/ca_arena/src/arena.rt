@@ -1,9 +1,9 @@
-ghost use Rattle.std.specs.Prelude.{◌≡◌, ◌+◌, ◌<◌, ◌==◌, ◌↔◌, ℕ, IsTrue, IsNone, IsSome, IfOk, Some, None, option_copied, []};
+ghost use Rattle.std.specs.Prelude.{◌≡◌, ◌+◌, ◌<◌, ◌==◌, ◌↔◌, ℕ, IsTrue, IsNone, IsSome, IfOk, OnOk, Some, None, if◌then◌else◌, option_copied, []};
 ghost use Rattle.std.specs.Option.{option_copied_mut};
 ghost use Rattle.std.specs.Borrow.{sem};
 ghost use Rattle.ca_text.specs.Limits.{last_generation};
 ghost use Rattle.ca_arena.specs.Sound.{IsSound};
-ghost use Rattle.ca_arena.specs.Arena.{empty, find, live_count, free_slots, IsLive, Inserts, Removes, IsFresh, IsFirstFrom, IsHandleAt, walk_start};
+ghost use Rattle.ca_arena.specs.Arena.{empty, find, live_count, free_slots, IsLive, Inserts, InsertsAt, Removes, IsFresh, IsFirstFrom, IsHandleAt, next_handle, walk_start};
 
 use crate::handle::Handle;
 use ca_text::{ARENA_SLOTS, LAST_GENERATION, Refusal};
@@ -81,6 +81,34 @@ impl<T> Arena<T> {
         ensures { result ≡ free_slots self.now }
     {
         self.freed.len() + (ARENA_SLOTS - self.slots.len())
+    }
+
+    /// The handle that `insert` gives next. None if no index is free.
+    pub fn vacant(&self) -> Option<Handle>
+        ensures { result
+            ≡ (if free_slots self.now == 0 then None else Some (next_handle self.now)) }
+    {
+        if self.free_slots() == 0 {
+            return None;
+        }
+        Some(self.next_handle())
+    }
+
+    fn next_handle(&self) -> Handle
+        requires { 0 < free_slots self.now }
+        ensures { result ≡ next_handle self.now }
+    {
+        match self.freed.last() {
+            None => Handle {
+                index: self.slots.len() as u16,
+                generation: 1,
+            },
+            Some(freed) => {
+                let index = *freed;
+                let generation = self.slots[usize::from(index)].generation + 1;
+                Handle { index, generation }
+            }
+        }
     }
 
     /// The value of this handle, unless it is stale.
@@ -163,6 +191,28 @@ impl<T> Arena<T> {
                 let generation = slot.generation;
                 Ok(Handle { index, generation })
             }
+        }
+    }
+
+    /// `insert` under the handle that `vacant` tells, for whoever has to know it before.
+    ///
+    /// The value is handed back if another handle is the next, and where the room for one more is missing.
+    pub fn insert_at(&mut self, vacant: Handle, value: T) -> Result<(), T>
+        ensures inserts { InsertsAt self.old vacant value result self.new }
+        ensures sound { OnOk result (IsSound self.new) }
+    {
+        let Some(next) = self.vacant() else {
+            return Err(value);
+        };
+        if next.index != vacant.index {
+            return Err(value);
+        }
+        if next.generation != vacant.generation {
+            return Err(value);
+        }
+        match self.insert(value) {
+            Ok(_) => Ok(()),
+            Err((value, _)) => Err(value),
         }
     }
 

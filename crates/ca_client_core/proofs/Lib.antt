@@ -4,3 +4,7 @@ pub mod Cancelling
 pub mod Wanting
 pub mod Beginnings
 pub mod Ended
+pub mod Faults
+pub mod Requesting
+pub mod Adding
+pub mod Putting

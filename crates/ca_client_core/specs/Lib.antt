@@ -6,3 +6,6 @@ pub mod Calls
 pub mod Names
 pub mod Ending
 pub mod Hearing
+pub mod Lives
+pub mod Asks
+pub mod Puts

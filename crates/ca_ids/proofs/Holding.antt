@@ -1,6 +1,6 @@
 -- A table of wire ids by index, as the contents of an arena.
 use Rattle.std.proofs.Common.{◌≡◌, ◌≢◌, ℕ, ◌+◌, ◌-◌, ◌%◌, ◌<◌, ◌≤◌, ◌==◌, ◌&&◌, Bool, true, false, not, leb, List, [], ◌∷◌, ◌++◌, length, Option, Some, None, is_some, find, if◌then◌else◌, option_map, option_to_list, Result, Ok, Err, refl, sym, ap, ◌∙◌, subst, inl, inr, arith, zero, suc, lit≤, max, slice_set, length-set}
-use Rattle.std.proofs.lemmas.Bool.{cases_lt, eq-eqb, ne_eqb, le-leb, lt-leb, le-ltb, lt-ltb}
+use Rattle.std.proofs.lemmas.Bool.{cases_lt, eq-eqb, eqb-false, ne_eqb, le-leb, lt-leb, le-ltb, lt-ltb}
 use Rattle.std.proofs.lemmas.List.{get_or_past, length_push}
 use Rattle.std.proofs.lemmas.List.Elements.{All-from_get_or}
 use Rattle.std.proofs.lemmas.List.Folds.{list_any_at, list_any_none}
@@ -15,7 +15,7 @@ use Rattle.ca_arena.specs.Sound.{IsFree, IsListed, IsSound}
 use Rattle.ca_arena.proofs.Places.{IsSound-removed, live_value, value_for-some}
 use Rattle.ca_ids.specs.Wire.{wire_of}
 use Rattle.ca_ids.specs.Table.{MayGive, Table, by_wire, has_free, held_at, held_from, is_full, with_changed, with_held}
-use Rattle.ca_ids.specs.Holding.{Gives}
+use Rattle.ca_ids.specs.Holding.{Gives, IsVacant}
 use Rattle.ca_ids.proofs.Wires.{wire_of-index}
 
 -- ---- full or not
@@ -67,33 +67,61 @@ module _ {T : Type 0} where
           let slots : (length (i ∷ rest) + (arena_slots - length given) == 0) ≡ false = ne_eqb (length (i ∷ rest) + (arena_slots - length given)) 0 (λ none. absurd (omega arith)) in
           slots ∙ sym (ap (λ (b : Bool). leb arena_slots (length given) && not b) (some_free given i sound.free.0) ∙ and_false (leb arena_slots (length given)))
 
+  -- an id may be given: not each index is held
+  pub may-not-full : (t : Table T) (h : Handle) → MayGive t h → is_full t ≡ false
+  may-not-full t h may =
+      elim (cases_lt h.index (length t)) [
+        | inl within ↦
+            let free : IsFree t h.index = record { within = within; vacant = may.free; lasting = omega (arith, may.next, may.last) } in
+            ap (λ (b : Bool). leb arena_slots (length t) && not b) (some_free t h.index free) ∙ and_false (leb arena_slots (length t))
+        | inr past ↦ ap (λ (b : Bool). b && not (has_free t)) (lt-leb arena_slots (length t) (omega (arith, may.slot)))
+      ]
+
   -- ---- an id is given
+
+  may_next : (given : List (Place T)) (freed : List ℕ) → IsSound (record { given = given; freed = freed }) → 0 < free_slots (record { given = given; freed = freed }) → MayGive given (next_handle (record { given = given; freed = freed }))
+  may_next given [] sound free =
+      let none : place_at given (length given) ≡ blank = get_or_past given (length given) blank (omega arith) in
+      let first : (place_at given (length given)).generation ≡ 0 = ap (λ (p : Place T). p.generation) none in
+      record {
+        index = omega arith;
+        slot = omega arith;
+        free = ap (λ (p : Place T). p.value) none;
+        next = refl;
+        last = rw first (lit≤ tt);
+      }
+  may_next given (i ∷ rest) sound free =
+      let here = sound.free.0 in
+      let within = here.within in
+      record {
+        index = omega arith;
+        slot = omega (arith, sound.limit);
+        free = here.vacant;
+        next = refl;
+        last = omega (arith, here.lasting);
+      }
 
   given_next : (given : List (Place T)) (freed : List ℕ) (value : T) → IsSound (record { given = given; freed = freed }) → 0 < free_slots (record { given = given; freed = freed }) → MayGive given (next_handle (record { given = given; freed = freed })) × ((inserted_from given freed value).given ≡ with_held (next_handle (record { given = given; freed = freed })) value given)
   given_next given [] value sound free =
       let none : place_at given (length given) ≡ blank = get_or_past given (length given) blank (omega arith) in
-      let first : (place_at given (length given)).generation ≡ 0 = ap (λ (p : Place T). p.generation) none in (
-        record {
-          index = omega arith;
-          slot = omega arith;
-          free = ap (λ (p : Place T). p.value) none;
-          next = refl;
-          last = rw first (lit≤ tt);
-        },
-        rw (eq-eqb (length given) (length given) refl, first) refl,
-      )
+      let first : (place_at given (length given)).generation ≡ 0 = ap (λ (p : Place T). p.generation) none in
+      (may_next given [] sound free, rw (eq-eqb (length given) (length given) refl, first) refl)
   given_next given (i ∷ rest) value sound free =
-      let here = sound.free.0 in
-      let within = here.within in (
-        record {
-          index = omega arith;
-          slot = omega (arith, sound.limit);
-          free = here.vacant;
-          next = refl;
-          last = omega (arith, here.lasting);
-        },
-        rw (ne_eqb i (length given) (λ same. absurd (omega arith))) refl,
-      )
+      let within = sound.free.0.within in
+      (may_next given (i ∷ rest) sound free, rw (ne_eqb i (length given) (λ same. absurd (omega arith))) refl)
+
+  -- what is told of the handle that comes next
+  pub vacant-next : (a : Contents T) (o : Option Handle) → IsSound a → o ≡ (if free_slots a == 0 then None else Some (next_handle a)) → IsVacant a.given o
+  vacant-next a o sound is = by_test (free_slots a == 0) refl
+    where
+      by_test : (b : Bool) → (free_slots a == 0) ≡ b → IsVacant a.given o
+      by_test true none =
+          let nothing : o ≡ None = is ∙ ap (λ (b : Bool). if b then None else Some (next_handle a)) none in
+          subst (IsVacant a.given) (sym nothing) (sym (is_full-slots a sound) ∙ none)
+      by_test false some =
+          let next : o ≡ Some (next_handle a) = is ∙ ap (λ (b : Bool). if b then None else Some (next_handle a)) some in
+          let differs = eqb-false (free_slots a) 0 some in
+          subst (IsVacant a.given) (sym next) (may_next a.given a.freed sound (omega arith))
 
   pub gives : (a b : Contents T) (value : T) (r : Result Handle (T × Refusal)) → IsSound a → Inserts a value r b → Gives a.given value r b.given
   gives a b value (Ok handle) sound h =

@@ -1,5 +1,5 @@
 -- Vocabulary: what the calls of a table of wire ids answer and leave, whose values hold their ids until they are free.
-use Rattle.std.specs.Prelude.{ℕ, ◌≡◌, false, length, Result, Ok, Err}
+use Rattle.std.specs.Prelude.{ℕ, ◌≡◌, false, length, Option, Some, None, Result, Ok, Err}
 use Rattle.ca_text.specs.declared.refusal.Refusal.{Refusal}
 use Rattle.ca_text.specs.declared.refusal.Refusal.TheVariants as refusal
 use Rattle.ca_arena.specs.declared.handle.Handle.{Handle}
@@ -16,6 +16,16 @@ module _ {T : Type 0} where
   Gives old value (Err (back, refusal.OutOfMemory)) new =
       (is_full old ≡ false) × (has_free old ≡ false) × (back ≡ value) × (new ≡ old)
   Gives old value (Err _) new = ⊥
+
+  -- what is told of the id that is given next
+  abbrev pub IsVacant : Table T → Option Handle → Type 0
+  IsVacant t (Some handle) = MayGive t handle
+  IsVacant t None = IsFull t
+
+  -- From old, this value was given the id that was told, with this answer, and left new.
+  abbrev pub Fills : Table T → Handle → T → Result (Unit {0}) T → Table T → Type 0
+  Fills old handle value (Ok _) new = MayGive old handle × (new ≡ with_held handle value old)
+  Fills old handle value (Err back) new = (back ≡ value) × (new ≡ old)
 
   -- the arena of a table is sound, and n indices were given
   pub record IsCounted (a : Contents T) (places : ℕ) : Type 0 where

@@ -3,7 +3,7 @@ ghost use Rattle.std.specs.Option.{option_copied_mut};
 ghost use Rattle.std.specs.Borrow.{sem};
 ghost use Rattle.ca_arena.specs.Arena.{place_at};
 ghost use Rattle.ca_ids.specs.Table.{by_wire, held_at, is_full, under, with_freed};
-ghost use Rattle.ca_ids.specs.Holding.{Gives};
+ghost use Rattle.ca_ids.specs.Holding.{Fills, Gives, IsVacant};
 
 use crate::wire_id::WireId;
 use ca_arena::{Arena, Handle};
@@ -91,6 +91,29 @@ impl<T> HeldTable<T> {
                 Ok(handle)
             }
             Err(refused) => Err(refused),
+        }
+    }
+
+    /// The handle that is given next. None if no id may be given.
+    pub fn vacant(&self) -> Option<Handle>
+        ensures { IsVacant self.now result }
+    {
+        self.entries.vacant()
+    }
+
+    /// Puts `value` under the handle that `vacant` tells, whose wire id it holds from now on: for a value whose id has to be
+    /// known before.
+    ///
+    /// It is handed back if there is no memory for one more index, or if another handle is the one to be given next.
+    pub fn open_at(&mut self, vacant: Handle, value: T) -> Result<(), T>
+        ensures { Fills self.old vacant value result self.new }
+    {
+        match self.entries.insert_at(vacant, value) {
+            Ok(()) => {
+                self.places = self.places.max(usize::from(vacant.index) + 1);
+                Ok(())
+            }
+            Err(value) => Err(value),
         }
     }
 

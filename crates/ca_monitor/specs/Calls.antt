@@ -1,17 +1,16 @@
 -- Vocabulary: what the calls on a client's subscriptions answer and leave.
-use Rattle.std.specs.Prelude.{◌≡◌, false, Option, Some, None, Result, Ok, Err}
+use Rattle.std.specs.Prelude.{◌≡◌, Option, Some, None, Result, Ok, Err}
+use Rattle.std.specs.declared.alloc.AllocError.{AllocError}
 use Rattle.ca_text.specs.declared.refusal.Refusal.{Refusal}
 use Rattle.ca_text.specs.declared.refusal.Refusal.TheVariants as refusal
 use Rattle.ca_arena.specs.declared.handle.Handle.{Handle}
-use Rattle.ca_ids.specs.Table.{IsFull, MayGive, Table, has_free, is_full, with_freed, with_held}
+use Rattle.ca_ids.specs.Table.{MayGive, Table, with_freed, with_held}
 use Rattle.ca_monitor.specs.Subscriptions.{Stage, Subscription, standing_under, with_stage}
 
--- From old, this subscription was added, with this answer, and left new. Memory is asked for only where no index may have another id.
-abbrev pub Adds : Table Subscription → Subscription → Result Handle Refusal → Table Subscription → Type 0
-Adds old s (Ok h) new = MayGive old h × (new ≡ with_held h s old)
-Adds old s (Err refusal.ArenaFull) new = IsFull old × (new ≡ old)
-Adds old s (Err refusal.OutOfMemory) new = (is_full old ≡ false) × (has_free old ≡ false) × (new ≡ old)
-Adds old s (Err _) new = ⊥
+-- From old, this subscription was added under the handle that was told, with this answer, and left new.
+abbrev pub Adds : Table Subscription → Handle → Subscription → Result (Unit {0}) AllocError → Table Subscription → Type 0
+Adds old h s (Ok _) new = MayGive old h × (new ≡ with_held h s old)
+Adds old h s (Err _) new = new ≡ old
 
 -- From old, the subscription of this handle came to this stage, with this answer, and left new.
 abbrev pub Comes : Stage → Table Subscription → Handle → Result Subscription Refusal → Table Subscription → Type 0

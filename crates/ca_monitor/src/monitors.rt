@@ -1,5 +1,6 @@
 ghost use Rattle.std.specs.Prelude.{◌≡◌, ◌≢◌, ◌<◌, ◌++◌, [], IfOk, OnErr, OnOk, filter, length, option_to_list};
 ghost use Rattle.ca_arena.specs.Arena.{place_at};
+ghost use Rattle.ca_ids.specs.Holding.{IsVacant};
 ghost use Rattle.ca_ids.specs.Table.{held_at, is_full, with_freed};
 ghost use Rattle.ca_monitor.specs.Calls.{Adds, Comes, freed_if};
 ghost use Rattle.ca_monitor.specs.Layout.{is_standing_to};
@@ -48,17 +49,30 @@ impl Monitors {
         self.table.is_full()
     }
 
-    /// Adds a subscription to this channel, which stands from now on.
+    /// The handle of the subscription that is added next. None if no id may be given.
+    pub fn vacant(&self) -> Option<Handle>
+        ensures { IsVacant self.now result }
+    {
+        self.table.vacant()
+    }
+
+    /// Adds a subscription to this channel under the handle that `vacant` tells. It stands from now on.
     ///
-    /// Refused as ArenaFull if no id may be given, then as OutOfMemory.
+    /// Refused if there is no memory, or if another handle is the next.
     pub fn add(
         &mut self,
+        vacant: Handle,
         channel: Handle,
         data_type: u16,
         count: u32,
         mask: u16,
-    ) -> Result<Handle, Refusal>
-        ensures { Adds self.old (new_subscription channel data_type count mask) result self.new }
+    ) -> Result<(), AllocError>
+        ensures { Adds
+            self.old
+            vacant
+            (new_subscription channel data_type count mask)
+            result
+            self.new }
     {
         let added = Subscription {
             channel,
@@ -67,9 +81,9 @@ impl Monitors {
             mask,
             stage: Stage::Stands,
         };
-        match self.table.open(added) {
-            Ok(handle) => Ok(handle),
-            Err((_, refusal)) => Err(refusal),
+        match self.table.open_at(vacant, added) {
+            Ok(()) => Ok(()),
+            Err(_) => Err(AllocError),
         }
     }
 

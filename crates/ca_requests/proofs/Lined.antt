@@ -6,7 +6,7 @@ use Rattle.std.proofs.lemmas.List.Elements.{filter-append}
 use Rattle.ca_arena.specs.declared.handle.Handle.{Handle}
 use Rattle.ca_arena.specs.Arena.{Place}
 use Rattle.ca_ids.specs.Table.{MayGive, Table, kept_of, same_handle, under, with_freed, with_held}
-use Rattle.ca_ids.specs.Holding.{Gives}
+use Rattle.ca_ids.specs.Holding.{Fills}
 use Rattle.ca_requests.specs.Layout.{AreGiven}
 use Rattle.ca_requests.specs.Lines.{AreLines, AreOf, AreRequests, Hands, Line, Notes, Readies, ReadyAll, handed_to, line_at, no_line, told_of}
 use Rattle.ca_requests.specs.Requests.{Open, Request, in_order_of_issue, is_open, is_open_in, was_sent_on}
@@ -221,7 +221,7 @@ issued-lines t q r listed lines next may begins old notes =
           ];
     }
 
-pub requests-issued : (t u : Table Request) (listed after : List Handle) (lines next : List Line) (r : Request) (q : Handle) → Gives t r (Ok q) u → r.stage ≡ Open → after ≡ listed ++ q ∷ [] → Notes r.circuit q lines next → AreRequests t listed lines → AreRequests u after next
+pub requests-issued : (t u : Table Request) (listed after : List Handle) (lines next : List Line) (r : Request) (q : Handle) → Fills t q r (Ok tt) u → r.stage ≡ Open → after ≡ listed ++ q ∷ [] → Notes r.circuit q lines next → AreRequests t listed lines → AreRequests u after next
 requests-issued t u listed after lines next r q gives begins is notes old =
     let made : AreRequests (with_held q r t) (listed ++ q ∷ []) next = record {
       given = given-push (with_held q r t) listed q (given-grows t (with_held q r t) listed (grows-held t q r gives.0) old.given) (given-new t q r gives.0);

@@ -1,12 +1,10 @@
 -- Lists of handles, of which those count that are open, as the table changes.
-use Rattle.std.proofs.Common.{◌≡◌, ℕ, ◌≤◌, inl, inr, Bool, true, cond, List, [], ◌∷◌, ◌++◌, length, map, take, drop, Ok, Err, refl, sym, ap, ◌∙◌, subst, arith, filter, length-append}
+use Rattle.std.proofs.Common.{◌≡◌, ℕ, ◌≤◌, inl, inr, Bool, true, cond, List, [], ◌∷◌, ◌++◌, length, map, take, drop, Ok, refl, sym, ap, ◌∙◌, subst, arith, filter, length-append}
 use Rattle.std.proofs.lemmas.List.{take-append-drop}
 use Rattle.std.proofs.lemmas.List.Elements.{filter-append}
-use Rattle.ca_text.specs.declared.refusal.Refusal.{Refusal}
-use Rattle.ca_text.specs.declared.refusal.Refusal.TheVariants as refusal
 use Rattle.ca_arena.specs.declared.handle.Handle.{Handle}
 use Rattle.ca_ids.specs.Table.{MayGive, Table, under, with_freed, with_held}
-use Rattle.ca_ids.specs.Holding.{Gives}
+use Rattle.ca_ids.specs.Holding.{Fills}
 use Rattle.ca_requests.specs.Calls.{Issued, Issues, issued_last, open_of, with_table, without}
 use Rattle.ca_requests.specs.Layout.{AreGiven, WasGiven, issued_of}
 use Rattle.ca_requests.specs.Requests.{Open, Request, in_order_of_issue, is_open, is_open_in}
@@ -85,7 +83,7 @@ order-issued t q r xs may given begins =
     ∙ ap (λ (ys : List Handle). ys ++ filter (is_open any (with_held q r t)) (q ∷ [])) (order-held t q r xs may given)
     ∙ ap (λ (b : Bool). filter (is_open any t) xs ++ cond b (q ∷ []) []) here
 
-pub issues : (t u : Table Request) (listed after : List Handle) (r : Request) (q : Handle) → AreGiven t listed → r.stage ≡ Open → Gives t r (Ok q) u → after ≡ listed ++ q ∷ [] → Issues (issued_of t listed) r (Ok q) (issued_of u after)
+pub issues : (t u : Table Request) (listed after : List Handle) (r : Request) (q : Handle) → AreGiven t listed → r.stage ≡ Open → Fills t q r (Ok tt) u → after ≡ listed ++ q ∷ [] → Issues (issued_of t listed) q r (Ok tt) (issued_of u after)
 issues t u listed after r q given begins gives is = (
   gives.0,
   subst (λ (w : Table Request). issued_of w after ≡ issued_last q r (issued_of t listed)) (sym gives.1)
@@ -93,21 +91,11 @@ issues t u listed after r q given begins gives is = (
       (ap (λ (order : List Handle). let x : Issued = record { table = with_held q r t; order = order } in x) (order-issued t q r listed gives.0 given begins))),
 )
 
-pub issues-given : (t u : Table Request) (listed after : List Handle) (r : Request) (q : Handle) → AreGiven t listed → Gives t r (Ok q) u → after ≡ listed ++ q ∷ [] → AreGiven u after
+pub issues-given : (t u : Table Request) (listed after : List Handle) (r : Request) (q : Handle) → AreGiven t listed → Fills t q r (Ok tt) u → after ≡ listed ++ q ∷ [] → AreGiven u after
 issues-given t u listed after r q given gives is =
     let old : AreGiven (with_held q r t) listed = given-grows t (with_held q r t) listed (grows-held t q r gives.0) given in
     subst (λ (w : Table Request). AreGiven w after) (sym gives.1)
     (subst (λ (ys : List Handle). AreGiven (with_held q r t) ys) (sym is) (given-push (with_held q r t) listed q old (given-new t q r gives.0)))
-
-pub issues-not : (t u : Table Request) (listed : List Handle) (r back : Request) (e : Refusal) → Gives t r (Err (back, e)) u → Issues (issued_of t listed) r (Err e) (issued_of u listed)
-issues-not t u listed r back refusal.ArenaFull gives = (gives.0, ap (λ (w : Table Request). issued_of w listed) gives.2)
-issues-not t u listed r back refusal.OutOfMemory gives = (gives.0, ap (λ (w : Table Request). issued_of w listed) gives.3)
-issues-not t u listed r back _ gives = absurd gives
-
-pub not-given : (t u : Table Request) (r back : Request) (e : Refusal) → Gives t r (Err (back, e)) u → u ≡ t
-not-given t u r back refusal.ArenaFull gives = gives.2
-not-given t u r back refusal.OutOfMemory gives = gives.3
-not-given t u r back _ gives = absurd gives
 
 -- ---- what is told
 

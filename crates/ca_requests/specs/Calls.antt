@@ -1,13 +1,12 @@
 -- Vocabulary: what the calls on a client's requests answer and leave.
-use Rattle.std.specs.Prelude.{◌≡◌, ◌++◌, Bool, true, false, List, [], ◌∷◌, Option, Some, None, Result, Ok, Err}
+use Rattle.std.specs.Prelude.{◌≡◌, ◌++◌, Bool, true, List, [], ◌∷◌, Option, Some, None, Result, Ok, Err}
 use Rattle.std.specs.declared.alloc.AllocError.{AllocError}
-use Rattle.ca_text.specs.declared.refusal.Refusal.{Refusal}
 use Rattle.ca_text.specs.declared.refusal.Refusal.TheVariants as refusal
 use Rattle.ca_text.specs.Status.{normal}
 use Rattle.ca_dbr.specs.declared.value.Outcome.{Outcome}
 use Rattle.ca_dbr.specs.Reading.{ReadRefused}
 use Rattle.ca_arena.specs.declared.handle.Handle.{Handle}
-use Rattle.ca_ids.specs.Table.{IsFull, MayGive, Table, is_full, with_freed, with_held}
+use Rattle.ca_ids.specs.Table.{MayGive, Table, with_freed, with_held}
 use Rattle.ca_wire.specs.Fields.{Fields}
 use Rattle.ca_requests.specs.Meaning.{Means}
 use Rattle.ca_requests.specs.Requests.{Asked, Draining, Open, Request, Stage, answered_by, in_order_of_issue}
@@ -33,13 +32,10 @@ new_request channel circuit asked = record { channel = channel; circuit = circui
 abbrev pub issued_last : Handle → Request → Issued → Issued
 issued_last q r x = record { table = with_held q r x.table; order = x.order ++ q ∷ [] }
 
--- From old, this request was issued, with this answer, and left new. Memory is asked for last. Whether the list of those that were issued
--- has to grow is no part of what is seen here, so OutOfMemory may come while an id is free.
-abbrev pub Issues : Issued → Request → Result Handle Refusal → Issued → Type 0
-Issues old r (Ok q) new = MayGive old.table q × (new ≡ issued_last q r old)
-Issues old r (Err refusal.ArenaFull) new = IsFull old.table × (new ≡ old)
-Issues old r (Err refusal.OutOfMemory) new = (is_full old.table ≡ false) × (new ≡ old)
-Issues old r (Err _) new = ⊥
+-- From old, this request was issued under the handle that was told, with this answer, and left new.
+abbrev pub Issues : Issued → Handle → Request → Result (Unit {0}) AllocError → Issued → Type 0
+Issues old q r (Ok _) new = MayGive old.table q × (new ≡ issued_last q r old)
+Issues old q r (Err _) new = new ≡ old
 
 -- nothing has the IOID of this request
 abbrev pub without : Handle → Issued → Issued

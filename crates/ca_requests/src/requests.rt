@@ -1,4 +1,5 @@
 ghost use Rattle.std.specs.Prelude.{◌≡◌, ◌≢◌, ◌≤◌, ◌+◌, ◌<◌, ◌++◌, ◌∷◌, [], if◌then◌else◌, true, IfOk, OnErr, length, vec_capacity, vec_len};
+ghost use Rattle.ca_ids.specs.Holding.{IsVacant};
 ghost use Rattle.ca_ids.specs.Table.{is_full, under};
 ghost use Rattle.ca_requests.specs.Calls.{Answers, Issues, failed_in, new_request, open_of, with_table, without, without_if};
 ghost use Rattle.ca_requests.specs.Forms.{asked_of};
@@ -14,7 +15,6 @@ use crate::request::Request;
 use ca_arena::Handle;
 use ca_dbr::Outcome;
 use ca_ids::{HeldTable, WireId};
-use ca_text::Refusal;
 use ca_wire::Message;
 use std::alloc::{AllocError, Global};
 use std::marker::Model;
@@ -68,41 +68,48 @@ impl Requests {
         self.table.is_full()
     }
 
-    /// Issues a request on this channel, which is sent on this circuit. It is open from now on.
+    /// The handle of the request that is issued next. None if no IOID may be given.
+    pub fn vacant(&self) -> Option<Handle>
+        ensures { IsVacant self.now.table result }
+    {
+        self.table.vacant()
+    }
+
+    /// Issues a request on this channel, which is sent on this circuit, under the handle that `vacant` tells. It is open from
+    /// now on.
     ///
-    /// Refused as ArenaFull if no IOID may be given, then as OutOfMemory.
+    /// Refused if there is no memory, or if another handle is the next.
     pub fn issue(
         &mut self,
+        vacant: Handle,
         channel: Handle,
         circuit: Handle,
         asked: Asked,
-    ) -> Result<Handle, Refusal>
-        ensures { Issues self.old (new_request channel circuit (asked_of asked)) result self.new }
+    ) -> Result<(), AllocError>
+        ensures { Issues
+            self.old
+            vacant
+            (new_request channel circuit (asked_of asked))
+            result
+            self.new }
     {
-        if self.table.is_full() {
-            return Err(Refusal::ArenaFull);
-        }
         self.tidy();
         let alloc = *self.listed.allocator();
-        if prepare(alloc, &mut self.lines, &self.table, circuit).is_err() {
-            return Err(Refusal::OutOfMemory);
-        }
-        if self.listed.reserve(1).is_err() {
-            return Err(Refusal::OutOfMemory);
-        }
+        prepare(alloc, &mut self.lines, &self.table, circuit)?;
+        self.listed.reserve(1)?;
         let request = Request {
             channel,
             circuit,
             asked,
             stage: Stage::Open,
         };
-        match self.table.open(request) {
-            Ok(handle) => {
-                self.listed.push_reserved(handle);
-                note(&mut self.lines, circuit, handle);
-                Ok(handle)
+        match self.table.open_at(vacant, request) {
+            Ok(()) => {
+                self.listed.push_reserved(vacant);
+                note(&mut self.lines, circuit, vacant);
+                Ok(())
             }
-            Err((_, refusal)) => Err(refusal),
+            Err(_) => Err(AllocError),
         }
     }
 

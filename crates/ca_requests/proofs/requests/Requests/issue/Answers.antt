@@ -9,18 +9,18 @@ use Rattle.ca_requests.proofs.requests.Requests.issue.Goals as goal
 
 pub invariant_of-self-in-Ok : goal.invariant_of-self-in-Ok
 invariant_of-self-in-Ok c =
-    let listed = c.self-2.inside.listed.items in
-    let q = c.in-Ok.handle in
+    let listed = c.self.inside.listed.items in
+    let q = c.args.vacant in
     let r = new_request c.args.channel c.args.circuit (asked_of c.args.asked) in
     let is : c.push_reserved.new.self.items ≡ listed ++ q ∷ [] = c.push_reserved.ensures.items ∙ ap (λ (xs : List Handle). xs ++ q ∷ []) c.reserve.ensures.items in
-    let ready = requests-readied c.self-2.inside.table listed c.self-2.inside.lines.items c.prepare.new.lines.items c.prepare.ensures.readies c.self-2.invariant in
-    requests-issued c.self-2.inside.table c.open.new.self listed c.push_reserved.new.self.items c.prepare.new.lines.items c.note.new.lines.items r q c.in-Ok.ensures refl is c.note.ensures ready
+    let ready = requests-readied c.self.inside.table listed c.self.inside.lines.items c.prepare.new.lines.items c.prepare.ensures.readies c.self.invariant in
+    requests-issued c.self.inside.table c.open_at.new.self listed c.push_reserved.new.self.items c.prepare.new.lines.items c.note.new.lines.items r q c.in-Ok.ensures refl is c.note.ensures ready
 
 pub returns-in-Ok : goal.returns-in-Ok
 returns-in-Ok c =
-    let listed = c.self-2.inside.listed.items in
-    let q = c.in-Ok.handle in
+    let listed = c.self.inside.listed.items in
+    let q = c.args.vacant in
     let r = new_request c.args.channel c.args.circuit (asked_of c.args.asked) in
     let is : c.push_reserved.new.self.items ≡ listed ++ q ∷ [] = c.push_reserved.ensures.items ∙ ap (λ (xs : List Handle). xs ++ q ∷ []) c.reserve.ensures.items in
-    subst (λ (x : Issued). Issues x r (Ok q) (issued_of c.open.new.self c.push_reserved.new.self.items)) (c.self-2.view_is ∙ c.tidy.ensures)
-    (issues c.self-2.inside.table c.open.new.self listed c.push_reserved.new.self.items r q c.self-2.invariant.given refl c.in-Ok.ensures is)
+    subst (λ (x : Issued). Issues x q r (Ok tt) (issued_of c.open_at.new.self c.push_reserved.new.self.items)) (c.self.view_is ∙ c.tidy.ensures)
+    (issues c.self.inside.table c.open_at.new.self listed c.push_reserved.new.self.items r q c.self.invariant.given refl c.in-Ok.ensures is)
