@@ -1,5 +1,5 @@
 -- A value under the handle that was told before.
-use Rattle.std.proofs.Common.{◌≡◌, ◌==◌, ◌∙◌, ℕ, Bool, Err, None, Ok, Option, Some, ap, false, if◌then◌else◌, refl, sym, true}
+use Rattle.std.proofs.Common.{◌≡◌, ◌==◌, ◌∙◌, ℕ, Bool, Err, None, Ok, Option, Some, ap, false, if◌then◌else◌, sym, true}
 use Rattle.ca_text.specs.declared.refusal.Refusal.{Refusal}
 use Rattle.ca_text.specs.declared.refusal.Refusal.TheVariants as refusal
 use Rattle.ca_arena.specs.declared.handle.Handle.{Handle}

@@ -72,7 +72,7 @@ none-sent c None none = refl
 none-sent c (Some k) none = absurd cc
 
 -- the same circuit in its place
-this-same : (x : Client) (c : Handle) (d : ClientCircuit) → under x.circuits c ≡ Some d → with_this x c d ≡ x
+pub this-same : (x : Client) (c : Handle) (d : ClientCircuit) → under x.circuits c ≡ Some d → with_this x c d ≡ x
 this-same x c d found =
     let place = place_at x.circuits c.index in
     let there = value_for-some c.generation place d found in

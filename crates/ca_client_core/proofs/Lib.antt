@@ -3,3 +3,8 @@ pub mod Circuits
 pub mod Cancelling
 pub mod Wanting
 pub mod Beginnings
+pub mod Ended
+pub mod Faults
+pub mod Requesting
+pub mod Adding
+pub mod Putting

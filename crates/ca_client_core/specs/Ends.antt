@@ -1,5 +1,5 @@
 -- Working: what waits on one circuit, and what is left of it. No clause of a caller needs it.
-use Rattle.std.specs.Prelude.{ℕ, ◌≡◌, ◌≢◌, ◌⊎◌, Bool, List, [], ◌∷◌, Option, Some, None, Result, Ok, Err, option_map, unwrap_or}
+use Rattle.std.specs.Prelude.{ℕ, ◌≡◌, ◌≢◌, ◌⊎◌, Bool, List, [], ◌∷◌, Option, Some, None, Result, Ok, Err, option_map, take, unwrap_or}
 use Rattle.ca_text.specs.declared.command.Command.{Command}
 use Rattle.ca_text.specs.declared.refusal.Refusal.{Refusal}
 use Rattle.ca_text.specs.declared.refusal.Refusal.TheVariants as refusal
@@ -16,6 +16,10 @@ waiting_in d = unwrap_or (option_map (λ (e : Connection). e.link.output) d.conn
 -- the circuit of whose bytes the first n were handed over
 abbrev pub handed : ℕ → ClientCircuit → ClientCircuit
 handed n d = record d { connection = option_map (λ (e : Connection). record e { link = with_handed n e.link }) d.connection }
+
+-- the circuit on which only the first n bytes still wait
+abbrev pub cut_in : ℕ → ClientCircuit → ClientCircuit
+cut_in n d = record d { connection = option_map (λ (e : Connection). record e { link = record e.link { output = take n e.link.output } }) d.connection }
 
 -- the link, with this command waiting after the others, if there is one
 abbrev pub with_command : Option Command → LinkState → LinkState

@@ -4,3 +4,8 @@ pub mod Codes
 pub mod Ends
 pub mod Calls
 pub mod Names
+pub mod Ending
+pub mod Hearing
+pub mod Lives
+pub mod Asks
+pub mod Puts

@@ -1,9 +1,9 @@
-ghost use Rattle.std.specs.Prelude.{◌≡◌};
-ghost use Rattle.ca_model.specs.ClientCalls.{ask_fault};
+ghost use Rattle.std.specs.Prelude.{◌≡◌, false};
 ghost use Rattle.ca_client_core.specs.Calls.{live_ask_fault};
+ghost use Rattle.ca_client_core.specs.Lives.{MayAsk};
 
-use crate::channel::{Native, Phase, Standing};
 use crate::client::ClientCore;
+use crate::live::Live;
 use ca_arena::Handle;
 use ca_text::Refusal;
 
@@ -11,63 +11,45 @@ use ca_text::Refusal;
 const LAST_TYPE: u16 = 20;
 
 impl ClientCore {
-    // Why a read or a subscription is refused, while the table of its ids is full or not.
-    pub(crate) fn ask_fault(
+    // The live channel on which a read or a subscription may go out, while an id is free for it.
+    //
+    // Refused as StaleHandle, NotLive, BadType, NoAccess, BadCount, then as OutputFull.
+    pub(crate) fn askable(
         &self,
-        full: bool,
         channel: Handle,
         data_type: u16,
         count: u32,
-    ) -> Option<Refusal>
-        ensures { result
-            ≡ ask_fault self.now full channel (record { data_type = data_type; count = count }) }
+    ) -> Result<Live, Refusal>
+        ensures { MayAsk
+            self.now
+            channel
+            (record { data_type = data_type; count = count })
+            result }
     {
-        let Some(standing) = self.standing(channel) else {
-            return Some(Refusal::StaleHandle);
-        };
-        match standing {
-            Standing::Searching => Some(Refusal::NotLive),
-            Standing::On(circuit, phase) => match phase {
-                Phase::Connecting => Some(Refusal::NotLive),
-                Phase::Creating(_) => Some(Refusal::NotLive),
-                Phase::Live(native, rights) => {
-                    self.live_ask_fault(full, circuit, native, rights, data_type, count)
-                }
-                Phase::Leaving => Some(Refusal::NotLive),
-                Phase::Clearing => Some(Refusal::NotLive),
-                Phase::Doomed => Some(Refusal::NotLive),
-            },
+        let live = self.live(channel)?;
+        match self.ask_fault(live, data_type, count) {
+            Some(refusal) => Err(refusal),
+            None => Ok(live),
         }
     }
 
-    // The same, on a live channel.
-    fn live_ask_fault(
-        &self,
-        full: bool,
-        circuit: Handle,
-        native: Native,
-        rights: u32,
-        data_type: u16,
-        count: u32,
-    ) -> Option<Refusal>
+    // Why a read or a subscription on a live channel is refused while an id is free for it.
+    fn ask_fault(&self, live: Live, data_type: u16, count: u32) -> Option<Refusal>
         ensures { result
-            ≡ live_ask_fault self.now full circuit native.count rights
+            ≡ live_ask_fault self.now false live.circuit live.native.count live.rights
             (record { data_type = data_type; count = count }) }
     {
         if data_type > LAST_TYPE {
             return Some(Refusal::BadType);
         }
-        if rights % 2 != 1 {
+        if live.rights % 2 != 1 {
             return Some(Refusal::NoAccess);
         }
-        if count > native.count {
+        if count > live.native.count {
             return Some(Refusal::BadCount);
         }
-        if self.is_over(circuit) {
+        if self.is_over(live.circuit) {
             return Some(Refusal::OutputFull);
-        }
-        if full {
-            return Some(Refusal::ArenaFull);
         }
         None
     }

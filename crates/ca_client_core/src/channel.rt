@@ -1,7 +1,9 @@
 ghost use Rattle.std.specs.Prelude.{◌≡◌, ◌≤◌, option_map};
 ghost use Rattle.ca_text.specs.Limits.{channel_name_limit, priority_limit};
 ghost use Rattle.ca_text.specs.Name.{IsName};
-ghost use Rattle.ca_client_core.specs.Forms.{cleared_in, standing_of};
+ghost use Rattle.ca_ids.specs.Table.{same_handle};
+ghost use Rattle.ca_client_core.specs.Ending.{is_kept};
+ghost use Rattle.ca_client_core.specs.Forms.{cleared_in, phase_of, standing_of};
 ghost use Rattle.ca_model.specs.Client as client;
 ghost use Rattle.ca_model.specs.Client.{standing_unless_cleared};
 
@@ -65,6 +67,29 @@ impl Model for Channel {
         IsName channel_name_limit c.name.items × (c.priority ≤ priority_limit) };
 }
 
+impl Phase {
+    /// Whether its caller cleared it.
+    pub(crate) fn is_cleared(self) -> bool
+        ensures { result ≡ client.is_cleared (phase_of self) }
+    {
+        match self {
+            Phase::Connecting => false,
+            Phase::Creating(_) => false,
+            Phase::Live(_, _) => false,
+            Phase::Leaving => false,
+            Phase::Clearing => true,
+            Phase::Doomed => true,
+        }
+    }
+}
+
+// Whether both are one handle.
+pub(crate) fn is_same(a: Handle, b: Handle) -> bool
+    ensures { result ≡ same_handle a b }
+{
+    a.index == b.index && a.generation == b.generation
+}
+
 impl Channel {
     /// One that is searched for.
     pub(crate) fn new(name: Vec<u8>, priority: u16) -> Channel
@@ -102,6 +127,40 @@ impl Channel {
                 Phase::Doomed => true,
             },
         }
+    }
+
+    /// Whether its caller cleared it, and its end on this circuit is waited for.
+    pub(crate) fn is_cleared_on(&self, circuit: Handle) -> bool
+        ensures { result ≡ client.is_on_in client.is_cleared circuit self.now }
+    {
+        match self.standing {
+            Standing::Searching => false,
+            Standing::On(on, phase) => is_same(on, circuit) && phase.is_cleared(),
+        }
+    }
+
+    /// Whether it is on this circuit, and its caller did not clear it.
+    pub(crate) fn is_kept_on(&self, circuit: Handle) -> bool
+        ensures { result ≡ client.is_on_in is_kept circuit self.now }
+    {
+        match self.standing {
+            Standing::Searching => false,
+            Standing::On(on, phase) => is_same(on, circuit) && !phase.is_cleared(),
+        }
+    }
+
+    /// It is there now.
+    pub(crate) fn set_standing(&mut self, standing: Standing)
+        ensures { self.new ≡ record self.old { standing = standing_of standing } }
+    {
+        self.standing = standing;
+    }
+
+    /// It is searched for again.
+    pub(crate) fn search_again(&mut self)
+        ensures { self.new ≡ record self.old { standing = client.Searching } }
+    {
+        self.standing = Standing::Searching;
     }
 
     /// Where it is, until its caller clears it.

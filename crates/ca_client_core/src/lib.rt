@@ -2,8 +2,8 @@
 //!
 //! A caller moves the bytes, and hands in the moment. What is reported comes as answers of the calls.
 //!
-//! Begun: `new`, `open`, `channel_state`, `give`, `out_bytes`, `sent`, `unsubscribe` and `wanted` are there. `connected`, `step`, `read`,
-//! `write`, `write_notify`, `subscribe`, `clear`, `cut`, `close`, `tick` and `datagram` are not, so that no circuit has an end yet.
+//! Begun: `new`, `open`, `channel_state`, `give`, `out_bytes`, `sent`, `read`, `write`, `write_notify`, `subscribe`, `unsubscribe` and
+//! `wanted` are there. `connected`, `step`, `clear`, `cut`, `close`, `tick` and `datagram` are not, so that no circuit has an end yet.
 #![tactic(auto)]
 
 mod asking;
@@ -12,13 +12,22 @@ mod channel;
 mod channel_state;
 mod circuit;
 mod client;
+mod ending;
 mod ends;
+mod hearing;
 mod input;
+mod letting_go;
+mod issuing;
+mod live;
 mod opening;
 mod output;
 mod queue;
+mod reading;
+mod subscribing;
 mod unsubscribing;
+mod valued;
 mod wanted;
+mod writing;
 
 pub use channel_state::ChannelState;
 pub use client::ClientCore;

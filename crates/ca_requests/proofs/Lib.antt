@@ -1,2 +1,3 @@
+pub mod Lined
 pub mod Orders
 pub mod Tables

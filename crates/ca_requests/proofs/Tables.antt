@@ -209,3 +209,98 @@ open-beside t q r h may given =
 
 pub given-new : (t : Table Request) (q : Handle) (r : Request) → MayGive t q → WasGiven (with_held q r t) q
 given-new t q r may = omega (arith, ap (λ (p : Place Request). p.generation) (place-held t q r may))
+
+-- ---- what is found
+
+-- what is open after was found before
+abbrev pub Keeps : Table Request → Table Request → Type 0
+Keeps t u = (q : Handle) → is_open any u q ≡ true → under u q ≡ under t q
+
+pub keeps-freed : (t : Table Request) (h : Handle) → Keeps t (with_freed h t)
+keeps-freed t h = λ q opened. found q opened (thins-freed t h q.index)
+  where
+    found : (q : Handle) → is_open any (with_freed h t) q ≡ true → Thins t (with_freed h t) q.index → under (with_freed h t) q ≡ under t q
+    found q opened thins =
+        elim thins.value [
+          | inl none ↦
+              let nothing : value_for q.generation (place_at (with_freed h t) q.index) ≡ None = value_for-vacant q.generation (place_at (with_freed h t) q.index) none in
+              let bad : false ≡ true = sym (ap (opens any) nothing) ∙ opened in
+              absurd cc
+          | inr same ↦ ap (value_for q.generation) same
+        ]
+
+-- what is open at a place after a change is as it was
+abbrev pub Stays : (Place Request → Place Request) → Type 0
+Stays f = (p : Place Request) (g : ℕ) → opens any (value_for g (f p)) ≡ true → value_for g (f p) ≡ value_for g p
+
+stays-value : (g : Option Request → Option Request) → ((o : Option Request) → opens any (g o) ≡ true → g o ≡ o) → Stays (by_value g)
+stays-value g keeps = λ p n h. by_test (p.generation == n) p.value h
+  where
+    by_test : (b : Bool) (o : Option Request) → opens any (if b then g o else None) ≡ true → ◌≡◌ {A = Option Request} (if b then g o else None) (if b then o else None)
+    by_test true o h = keeps o h
+    by_test false o h = refl
+
+pub stays-freed : (named : Request → Bool) → Stays (by_value (kept_of named))
+stays-freed named = stays-value (kept_of named) keeps
+  where
+    keeps : (o : Option Request) → opens any (kept_of named o) ≡ true → kept_of named o ≡ o
+    keeps None h = refl
+    keeps (Some r) h =
+        elim (true_or_false (named r)) [
+          | inl meant ↦
+              let bad : opens any (if true then None else Some r) ≡ true = rw meant at h in
+              let worse : false ≡ true = bad in
+              absurd cc
+          | inr other ↦ rw other refl
+        ]
+
+pub stays-over : (channel : Handle) → Stays (by_value (option_map (over_on channel)))
+stays-over channel = stays-value (option_map (over_on channel)) keeps
+  where
+    keeps : (o : Option Request) → opens any (option_map (over_on channel) o) ≡ true → option_map (over_on channel) o ≡ o
+    keeps None h = refl
+    keeps (Some r) h =
+        elim (true_or_false (asks_on channel r)) [
+          | inl meant ↦
+              let worse : false ≡ true = rw meant at h in
+              absurd cc
+          | inr other ↦ rw other refl
+        ]
+
+pub keeps-map : (f : Place Request → Place Request) (t : Table Request) → Dims f → Stays f → Keeps t (map f t)
+keeps-map f t dims stays = λ q h.
+    ap (value_for q.generation) (place-map f t q.index dims)
+    ∙ stays (place_at t q.index) q.generation (subst (λ (p : Place Request). opens any (value_for q.generation p) ≡ true) (place-map f t q.index dims) h)
+
+-- of those whose ids are free none is open
+pub none-freed : (named : Request → Bool) (t : Table Request) (q : Handle) → is_open named (map (by_value (kept_of named)) t) q ≡ false
+none-freed named t q =
+    ap (λ (p : Place Request). opens named (value_for q.generation p)) (place-map (by_value (kept_of named)) t q.index (dims-freed named))
+    ∙ by_test ((place_at t q.index).generation == q.generation) (place_at t q.index).value
+  where
+    by_test : (b : Bool) (o : Option Request) → opens named (if b then kept_of named o else None) ≡ false
+    by_test false o = refl
+    by_test true None = refl
+    by_test true (Some r) =
+        elim (true_or_false (named r)) [ inl meant ↦ rw meant refl | inr other ↦ rw (other, other) refl ]
+
+pub under-held : (t : Table Request) (q : Handle) (r : Request) → MayGive t q → under (with_held q r t) q ≡ Some r
+under-held t q r may =
+    ap (value_for q.generation) (place-held t q r may)
+    ∙ ap (λ (b : Bool). if b then Some r else None) (eq-eqb q.generation q.generation refl)
+
+-- what was given before is found as it was
+pub under-beside : (t : Table Request) (q : Handle) (r : Request) (h : Handle) → MayGive t q → WasGiven t h → under (with_held q r t) h ≡ under t h
+under-beside t q r h may given =
+    elim (cases_eq h.index q.index) [
+      | inl here ↦
+          let new : place_at (with_held q r t) h.index ≡ record { generation = q.generation; value = Some r } =
+          ap (place_at (with_held q r t)) here ∙ place-held t q r may in
+          let late : q.generation ≢ h.generation = λ same. absurd (omega (arith, may.next, ap (λ (j : ℕ). (place_at t j).generation) here)) in
+          let after : value_for h.generation (place_at (with_held q r t) h.index) ≡ None =
+          ap (value_for h.generation) new ∙ ap (λ (b : Bool). if b then Some r else None) (ne_eqb q.generation h.generation late) in
+          let vacant : (place_at t h.index).value ≡ None = ap (λ (j : ℕ). (place_at t j).value) here ∙ may.free in
+          let before : value_for h.generation (place_at t h.index) ≡ None = value_for-vacant h.generation (place_at t h.index) vacant in
+          after ∙ sym before
+      | inr other ↦ ap (value_for h.generation) (place-beside t q r h.index may other)
+    ]

@@ -3,3 +3,4 @@ pub mod Requests
 pub mod Calls
 pub mod Forms
 pub mod Layout
+pub mod Lines

@@ -3,6 +3,8 @@
 
 mod asked;
 mod drops;
+mod line;
+mod lines;
 mod outcome;
 mod request;
 mod requests;

@@ -78,7 +78,7 @@ impl Request {
 }
 
 // Whether both are one handle.
-fn is_same(a: Handle, b: Handle) -> bool
+pub(crate) fn is_same(a: Handle, b: Handle) -> bool
     ensures { result ≡ same_handle a b }
 {
     a.index == b.index && a.generation == b.generation

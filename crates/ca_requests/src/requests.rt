@@ -8,6 +8,8 @@ ghost use Rattle.ca_requests.specs.Requests.{answered_by, asks_on, channel_gone,
 
 use crate::asked::{Asked, Stage};
 use crate::drops::{Which, end_all, free_all};
+use crate::line::Line;
+use crate::lines::{hand_out, note, prepare};
 use crate::outcome::{image_outcome, status_outcome};
 use crate::request::Request;
 use ca_arena::Handle;
@@ -20,8 +22,8 @@ use std::marker::Model;
 /// A client's requests: by their handles, by their IOIDs, and in order of issue.
 ///
 /// Answering one costs the same however many are open, and so does issuing one on average: an issue that finds the list at its
-/// limit goes over all of it, at most once in as many issues as were open. What ends many at once goes over each index that was
-/// ever given, or over the list.
+/// limit goes over all of it, at most once in as many issues as were open. Those of a circuit are found without a look at the
+/// others; to free ids, what ends many at once goes over each index that was ever given.
 #[derive(Drop)]
 pub struct Requests {
     table: HeldTable<Request>,
@@ -29,6 +31,8 @@ pub struct Requests {
     listed: Vec<Handle>,
     // How many are listed before those that are over are taken out.
     limit: usize,
+    // Those of each circuit, by its index.
+    lines: Vec<Line>,
 }
 
 impl Model for Requests {
@@ -36,11 +40,12 @@ impl Model for Requests {
 
     ghost Value = { Issued };
 
-    ghost use Rattle.ca_requests.specs.Layout.{AreGiven, issued_of};
+    ghost use Rattle.ca_requests.specs.Layout.{issued_of};
+    ghost use Rattle.ca_requests.specs.Lines.{AreRequests};
 
     ghost view = { λ r. issued_of r.table r.listed.items };
 
-    ghost invariant = { λ r. AreGiven r.table r.listed.items };
+    ghost invariant = { λ r. AreRequests r.table r.listed.items r.lines.items };
 }
 
 impl Requests {
@@ -52,6 +57,7 @@ impl Requests {
             table: HeldTable::new(alloc),
             listed: Vec::new(alloc),
             limit: 64,
+            lines: Vec::new(alloc),
         }
     }
 
@@ -88,6 +94,8 @@ impl Requests {
             self.new }
     {
         self.tidy();
+        let alloc = *self.listed.allocator();
+        prepare(alloc, &mut self.lines, &self.table, circuit)?;
         self.listed.reserve(1)?;
         let request = Request {
             channel,
@@ -98,6 +106,7 @@ impl Requests {
         match self.table.open_at(vacant, request) {
             Ok(()) => {
                 self.listed.push_reserved(vacant);
+                note(&mut self.lines, circuit, vacant);
                 Ok(())
             }
             Err(_) => Err(AllocError),
@@ -194,23 +203,6 @@ impl Requests {
         Ok(told)
     }
 
-    /// How many open requests were sent on this circuit.
-    pub fn count_on_circuit(&self, circuit: Handle) -> usize
-        ensures { result ≡ length (open_of (was_sent_on circuit) self.now) }
-    {
-        self.count(Which::OnCircuit(circuit))
-    }
-
-    /// Puts the open requests that were sent on this circuit after what is told, in order of issue. It does not allocate: there
-    /// is room for them.
-    pub fn tell_circuit(&self, circuit: Handle, told: &mut Vec<Handle>)
-        requires { vec_len told.old + length (open_of (was_sent_on circuit) self.now)
-            ≤ vec_capacity told.old }
-        ensures { told.new.items ≡ told.old.items ++ open_of (was_sent_on circuit) self.now }
-    {
-        self.tell(Which::OnCircuit(circuit), told);
-    }
-
     // How many open requests are meant.
     fn count(&self, which: Which) -> usize
         ensures { result ≡ length (open_of (named which) self.now) }
@@ -241,12 +233,25 @@ impl Requests {
         free_all(&mut self.table, Which::OnChannel(channel));
     }
 
-    /// The IOIDs of the requests that were sent on this circuit are free. It does not allocate.
-    pub fn free_circuit(&mut self, circuit: Handle)
-        ensures { self.new ≡ with_table (circuit_gone circuit self.old.table) self.old }
+    /// The IOIDs of the requests that were sent on this circuit are free: those that were open, in order of issue. It does not allocate.
+    pub fn end_circuit(&mut self, circuit: Handle) -> Vec<Handle>
+        ensures told { result.items ≡ open_of (was_sent_on circuit) self.old }
+        ensures freed { self.new ≡ with_table (circuit_gone circuit self.old.table) self.old }
     {
+        let alloc = *self.listed.allocator();
+        let mut told = hand_out(alloc, &mut self.lines, circuit);
+        keep_open(&mut told, &self.table, circuit);
         free_all(&mut self.table, Which::OnCircuit(circuit));
+        told
     }
+}
+
+// Takes those out of a list that are not open, or were not sent on this circuit.
+fn keep_open(listed: &mut Vec<Handle>, table: &HeldTable<Request>, circuit: Handle)
+    ensures { listed.new.items
+        ≡ in_order_of_issue (was_sent_on circuit) table.now listed.old.items }
+{
+    listed.retain(|handle| is_meant(table, *handle, Which::OnCircuit(circuit)));
 }
 
 // Whether the request of this handle is open, and meant.
@@ -309,7 +314,7 @@ fn tell_one(table: &HeldTable<Request>, handle: Handle, which: Which, told: &mut
 }
 
 // Takes those that are over out of a list.
-fn forget(listed: &mut Vec<Handle>, table: &HeldTable<Request>)
+pub(crate) fn forget(listed: &mut Vec<Handle>, table: &HeldTable<Request>)
     ensures { listed.new.items ≡ in_order_of_issue (λ q. true) table.now listed.old.items }
 {
     listed.retain(|handle| is_still_open(table, *handle));

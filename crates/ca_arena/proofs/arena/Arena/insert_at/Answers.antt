@@ -1,4 +1,4 @@
-use Rattle.ca_arena.proofs.Vacant.{handed-back, inserted-at}
+use Rattle.ca_arena.proofs.Vacant.{inserted-at}
 use Rattle.ca_arena.proofs.arena.Arena.insert_at.Goals as goal
 
 pub returns-in-Ok-clause-inserts : goal.returns-in-Ok-clause-inserts

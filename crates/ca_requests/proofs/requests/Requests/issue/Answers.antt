@@ -3,7 +3,8 @@ use Rattle.ca_arena.specs.declared.handle.Handle.{Handle}
 use Rattle.ca_requests.specs.Calls.{Issued, Issues, new_request}
 use Rattle.ca_requests.specs.Forms.{asked_of}
 use Rattle.ca_requests.specs.Layout.{issued_of}
-use Rattle.ca_requests.proofs.Orders.{issues, issues-given}
+use Rattle.ca_requests.proofs.Lined.{requests-issued, requests-readied}
+use Rattle.ca_requests.proofs.Orders.{issues}
 use Rattle.ca_requests.proofs.requests.Requests.issue.Goals as goal
 
 pub invariant_of-self-in-Ok : goal.invariant_of-self-in-Ok
@@ -12,7 +13,8 @@ invariant_of-self-in-Ok c =
     let q = c.args.vacant in
     let r = new_request c.args.channel c.args.circuit (asked_of c.args.asked) in
     let is : c.push_reserved.new.self.items ≡ listed ++ q ∷ [] = c.push_reserved.ensures.items ∙ ap (λ (xs : List Handle). xs ++ q ∷ []) c.reserve.ensures.items in
-    issues-given c.self.inside.table c.open_at.new.self listed c.push_reserved.new.self.items r q c.self.invariant c.in-Ok.ensures is
+    let ready = requests-readied c.self.inside.table listed c.self.inside.lines.items c.prepare.new.lines.items c.prepare.ensures.readies c.self.invariant in
+    requests-issued c.self.inside.table c.open_at.new.self listed c.push_reserved.new.self.items c.prepare.new.lines.items c.note.new.lines.items r q c.in-Ok.ensures refl is c.note.ensures ready
 
 pub returns-in-Ok : goal.returns-in-Ok
 returns-in-Ok c =
@@ -21,4 +23,4 @@ returns-in-Ok c =
     let r = new_request c.args.channel c.args.circuit (asked_of c.args.asked) in
     let is : c.push_reserved.new.self.items ≡ listed ++ q ∷ [] = c.push_reserved.ensures.items ∙ ap (λ (xs : List Handle). xs ++ q ∷ []) c.reserve.ensures.items in
     subst (λ (x : Issued). Issues x q r (Ok tt) (issued_of c.open_at.new.self c.push_reserved.new.self.items)) (c.self.view_is ∙ c.tidy.ensures)
-    (issues c.self.inside.table c.open_at.new.self listed c.push_reserved.new.self.items r q c.self.invariant refl c.in-Ok.ensures is)
+    (issues c.self.inside.table c.open_at.new.self listed c.push_reserved.new.self.items r q c.self.invariant.given refl c.in-Ok.ensures is)

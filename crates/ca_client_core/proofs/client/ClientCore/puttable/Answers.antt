@@ -1,0 +1,15 @@
+use Rattle.std.proofs.Common.{◌∙◌, false, sym}
+use Rattle.ca_text.specs.declared.refusal.Refusal.TheVariants as refusal
+use Rattle.ca_dbr.specs.Elements.{elements}
+use Rattle.ca_model.specs.Client.{standing_at}
+use Rattle.ca_client_core.specs.Lives.{live_of}
+use Rattle.ca_client_core.proofs.Faults.{and_then, fault-live, live-at}
+use Rattle.ca_client_core.proofs.Putting.{puts}
+use Rattle.ca_client_core.proofs.client.ClientCore.puttable.Goals as goal
+
+pub returns-in-Some : goal.returns-in-Some
+returns-in-Some c =
+    let x = c.args.self.now in
+    let l = live_of c.in_ok-live.live in
+    let s = standing_at x c.args.channel in
+    fault-live (and_then (puts x (elements c.args.value.now)) false refusal.ArenaFull) s l (live-at s l (sym c.in_ok-live.ensures)) ∙ sym c.put_fault.ensures.fault ∙ c.in-Some.is

@@ -1,0 +1,48 @@
+use Rattle.std.proofs.Common.{◌≡◌, ◌∙◌, ℕ, List, ap, false, is_some, subst, sym}
+use Rattle.ca_ids.specs.Table.{Table, with_freed}
+use Rattle.ca_ids.specs.Wire.{wire_of}
+use Rattle.ca_search.specs.Searcher.{holds, without}
+use Rattle.ca_search.specs.Searches as search
+use Rattle.ca_search.proofs.Entries.{held, one-removed}
+use Rattle.ca_model.specs.Client.{Channel, Client, without_channel}
+use Rattle.ca_client_core.proofs.Ended.{client-gone}
+use Rattle.ca_client_core.proofs.client.ClientCore.remove_channel.Goals as goal
+
+pub invariant_of-self : goal.invariant_of-self
+invariant_of-self c =
+    let h = c.args.channel in
+    let i = c.self.inside in
+    let es = i.searches.entries in
+    let ns = c.shift_remove.new.self.entries in
+    let cid : c.number.result ≡ wire_of h = c.number.ensures ∙ c.of.ensures in
+    let out : ns ≡ without (wire_of h) es = c.shift_remove.ensures.entries ∙ one-removed c.number.result es ∙ ap (λ (n : ℕ). without n es) cid in
+    let none : holds (wire_of h) ns ≡ false =
+    ap (λ (n : ℕ). holds n ns) (sym cid) ∙ sym (held c.number.result ns) ∙ ap is_some c.shift_remove.ensures.updates.1 in
+    client-gone i.channels c.free.new.self es ns h c.free.ensures.after out none c.self.invariant
+
+pub returns : goal.returns
+returns c =
+    let h = c.args.channel in
+    let i = c.self.inside in
+    let es = i.searches.entries in
+    let ns = c.shift_remove.new.self.entries in
+    let cid : c.number.result ≡ wire_of h = c.number.ensures ∙ c.of.ensures in
+    let out : ns ≡ without (wire_of h) es = c.shift_remove.ensures.entries ∙ one-removed c.number.result es ∙ ap (λ (n : ℕ). without n es) cid in
+    let x : Client = record {
+      peer = record { user = i.user.items; host = i.host.items };
+      servers = i.servers.items;
+      moment = i.moment;
+      channels = i.channels;
+      requests = i.requests.table;
+      subscriptions = i.monitors;
+      circuits = i.circuits;
+      order = i.order.items;
+      issued = i.requests.order;
+      searches = es;
+      beacons = i.beacons;
+    } in
+    let left : Client = record x { channels = c.free.new.self; searches = ns } in
+    let is : left ≡ without_channel x h =
+    ap (λ (t : Table Channel). let y : Client = record x { channels = t; searches = ns } in y) c.free.ensures.after
+    ∙ ap (λ (ms : List (ℕ × search.Channel)). let y : Client = record x { channels = with_freed h x.channels; searches = ms } in y) out in
+    subst (λ (y : Client). left ≡ without_channel y h) c.self.view_is is

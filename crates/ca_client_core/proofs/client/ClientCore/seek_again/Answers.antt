@@ -1,0 +1,17 @@
+use Rattle.std.proofs.Common.{◌≡◌, ◌∙◌, ℕ, ap}
+use Rattle.ca_ids.specs.Wire.{wire_of}
+use Rattle.ca_search.specs.Searcher.{with_one}
+use Rattle.ca_search.specs.Searches.{resumed}
+use Rattle.ca_model.specs.Client.{Channel, Searching}
+use Rattle.ca_client_core.proofs.Ended.{client-again}
+use Rattle.ca_client_core.proofs.client.ClientCore.seek_again.Goals as goal
+
+pub invariant_of-self : goal.invariant_of-self
+invariant_of-self c =
+    let h = c.args.channel in
+    let i = c.self.inside in
+    let es = i.searches.entries in
+    let ns = c.resume.new.searches.entries in
+    let cid : c.number.result ≡ wire_of h = c.number.ensures ∙ c.of.ensures in
+    let begins : ns ≡ with_one (resumed i.moment) (wire_of h) es = c.resume.ensures ∙ ap (λ (n : ℕ). with_one (resumed i.moment) n es) cid in
+    client-again i.channels c.bring_back.new.channels es ns (λ (here : Channel). record here { standing = Searching }) (resumed i.moment) h c.bring_back.ensures begins c.self.invariant

@@ -1,0 +1,54 @@
+use Rattle.std.proofs.Common.{◌≡◌, ◌∙◌, ℕ, List, Result, ap, refl, subst, sym}
+use Rattle.ca_text.specs.declared.refusal.Refusal.{Refusal}
+use Rattle.ca_arena.specs.declared.handle.Handle.{Handle}
+use Rattle.ca_ids.specs.Table.{MayGive, is_full}
+use Rattle.ca_wire.specs.declared.requests.Wanted.{Wanted}
+use Rattle.ca_wire.specs.Messages.{event_add_request}
+use Rattle.ca_model.specs.Answers.{Sending}
+use Rattle.ca_model.specs.Client.{Client}
+use Rattle.ca_model.specs.ClientCalls.{ClientSubscribes, Shape, event_add_sent, new_subscription}
+use Rattle.ca_client_core.specs.Lives.{live_of}
+use Rattle.ca_client_core.proofs.Adding.{subscribes-done, subscribes-full, subscribes-not, subscribes-out}
+use Rattle.ca_client_core.proofs.Faults.{same-error}
+use Rattle.ca_client_core.proofs.client.ClientCore.subscribe.Goals as goal
+
+pub returns-in_err-live : goal.returns-in_err-live
+returns-in_err-live c =
+    let x = c.args.self.now in
+    let a : Shape = record { data_type = c.args.data_type; count = c.args.count } in
+    let e = c.in_err-live.field-0.0 in
+    subst (λ (r : Result Handle Refusal). (sent : List Sending) × ClientSubscribes x c.args.channel a c.args.mask r sent x) (sym (same-error c.from_residual.result e c.from_residual.ensures.1))
+    (subscribes-not x c.args.channel a c.args.mask e c.in_err-live.ensures)
+
+pub returns-in_default : goal.returns-in_default
+returns-in_default c =
+    let x = c.args.self.now in
+    let a : Shape = record { data_type = c.args.data_type; count = c.args.count } in
+    subscribes-full x c.args.channel a c.args.mask (live_of c.in_ok-live.live) c.in_ok-live.ensures.0 c.in_ok-live.ensures.1
+    (sym (ap (λ (y : Client). is_full y.subscriptions) c.self.view_is) ∙ c.in_default.ensures)
+
+pub returns-in_default-event_add_request : goal.returns-in_default-event_add_request
+returns-in_default-event_add_request c =
+    let x = c.args.self.now in
+    let a : Shape = record { data_type = c.args.data_type; count = c.args.count } in
+    let s = c.in-Some.vacant in
+    subscribes-out x c.args.channel a c.args.mask s x c.in_ok-live.ensures.1 (subst (λ (y : Client). MayGive y.subscriptions s) c.self.view_is c.in-Some.ensures) refl
+
+pub returns-in-Ok-add : goal.returns-in-Ok-add
+returns-in-Ok-add c =
+    let x = c.args.self.now in
+    let a : Shape = record { data_type = c.args.data_type; count = c.args.count } in
+    let l = live_of c.in_ok-live.live in
+    let s = c.in-Some.vacant in
+    let says : c.in-Ok.message ≡ (event_add_sent l.circuit l.native.sid s (new_subscription c.args.channel a c.args.mask)).message =
+    c.in-Ok.ensures
+    ∙ ap (λ (i : ℕ). let w : Wanted = record { sid = i; id = c.new-2.result; data_type = c.args.data_type; count = c.args.count } in event_add_request w c.args.mask) c.new.ensures
+    ∙ ap (λ (i : ℕ). let w : Wanted = record { sid = l.native.sid; id = i; data_type = c.args.data_type; count = c.args.count } in event_add_request w c.args.mask) (c.new-2.ensures ∙ c.number.ensures ∙ c.of.ensures) in
+    subscribes-done x c.args.channel a c.args.mask l s (new_subscription c.args.channel a c.bits.result) c.in-Ok.message c.add.new.self c.in_ok-live.ensures.0 c.in_ok-live.ensures.1 (ap (new_subscription c.args.channel a) c.bits.ensures.bits) says c.in-Ok-add.ensures
+
+pub returns : goal.returns
+returns c =
+    let x = c.args.self.now in
+    let a : Shape = record { data_type = c.args.data_type; count = c.args.count } in
+    let s = c.in-Some.vacant in
+    subscribes-out x c.args.channel a c.args.mask s c.add.new.self c.in_ok-live.ensures.1 (subst (λ (y : Client). MayGive y.subscriptions s) c.self.view_is c.in-Some.ensures) c.in-Err.ensures

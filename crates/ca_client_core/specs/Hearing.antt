@@ -1,0 +1,40 @@
+-- Working: parts of what a message that is read does. No clause of a caller needs it.
+use Rattle.std.specs.Prelude.{◌≡◌, List, [], ◌∷◌, Option, Some, None, Result, Ok, Err}
+use Rattle.std.specs.declared.alloc.AllocError.{AllocError}
+use Rattle.ca_arena.specs.declared.handle.Handle.{Handle}
+use Rattle.ca_dbr.specs.declared.value.Outcome.{Outcome}
+use Rattle.ca_wire.specs.Fields.{Fields}
+use Rattle.ca_requests.specs.Calls.{HasImage}
+use Rattle.ca_requests.specs.Requests.{Request, answered_by}
+use Rattle.ca_requests.specs.Requests as request
+use Rattle.ca_model.specs.Answers.{Notice}
+use Rattle.ca_model.specs.Answers as notice
+use Rattle.ca_model.specs.Client.{Client}
+use Rattle.ca_model.specs.Client as client
+use Rattle.ca_model.specs.Hears.{Answers, doing}
+use Rattle.ca_client_core.specs.declared.channel.Phase.{Phase}
+use Rattle.ca_client_core.specs.Forms.{phase_of}
+
+-- a channel that was found on a circuit
+abbrev pub found_as : Handle × Phase → Handle × client.Phase
+found_as e = (e.0, phase_of e.1)
+
+-- the notice of a request that is complete
+abbrev pub completed : Option (Handle × Outcome) → List Notice
+completed None = []
+completed (Some (q, o)) = notice.Completed q o ∷ []
+
+-- a reply was read that is about this request, or about none; without memory for its value nothing happens
+abbrev pub HearsReplyTo : Client → Fields → Option (Handle × Request) → Result (Option (Handle × Outcome)) AllocError → Client → Type 0
+HearsReplyTo old m about (Ok told) new = Answers old m about (doing [] (completed told) new)
+HearsReplyTo old m (Some (q, r)) (Err e) new = (r.stage ≡ request.Open) × HasImage m × (new ≡ old)
+HearsReplyTo old m None (Err e) new = ⊥
+
+-- READ_NOTIFY and WRITE_NOTIFY
+abbrev pub HearsReply : Client → Handle → Fields → Result (Option (Handle × Outcome)) AllocError → Client → Type 0
+HearsReply old c m answer new = HearsReplyTo old m (answered_by c m.command m.p2 old.requests) answer new
+
+-- the notice of an update
+abbrev pub updated : Option (Handle × Outcome) → List Notice
+updated None = []
+updated (Some (s, o)) = notice.Update s o ∷ []

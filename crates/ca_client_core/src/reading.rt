@@ -1,0 +1,46 @@
+ghost use Rattle.std.specs.Prelude.{List};
+ghost use Rattle.ca_model.specs.Answers.{Sending};
+ghost use Rattle.ca_model.specs.ClientCalls.{ClientReads};
+
+use crate::client::ClientCore;
+use ca_arena::Handle;
+use ca_ids::WireId;
+use ca_requests::Asked;
+use ca_text::Refusal;
+use ca_wire::{Ioid, Sid, Wanted, read_request};
+
+impl ClientCore {
+    /// Asks for the value of a channel, as this type from 0 to 20 and with this many elements; a count of 0 asks for those that
+    /// there are.
+    ///
+    /// Refused as StaleHandle, as NotLive, as BadType for a type over 20, as NoAccess without the right to read, as BadCount for
+    /// more elements than the channel has, as OutputFull if too much waits, as ArenaFull if no IOID may be given, then as
+    /// OutOfMemory.
+    pub fn read(&mut self, channel: Handle, data_type: u16, count: u32) -> Result<Handle, Refusal>
+        ensures { (sent : List Sending)
+            × ClientReads
+            self.old
+            channel
+            (record { data_type = data_type; count = count })
+            result
+            sent
+            self.new }
+    {
+        let live = self.askable(channel, data_type, count)?;
+        let Some(request) = self.requests.vacant() else {
+            return Err(Refusal::ArenaFull);
+        };
+        let wanted = Wanted {
+            sid: Sid::new(live.native.sid),
+            id: Ioid::new(WireId::of(request).number()),
+            data_type,
+            count,
+        };
+        let message = read_request(self.alloc, wanted);
+        let asked = Asked::Read(data_type, count);
+        match self.ask(request, channel, live.circuit, asked, &message) {
+            Ok(()) => Ok(request),
+            Err(_) => Err(Refusal::OutOfMemory),
+        }
+    }
+}

@@ -1,0 +1,373 @@
+-- The requests of each circuit, as the table and the lines change.
+use Rattle.std.proofs.Common.{◌≡◌, ◌≢◌, ℕ, ◌==◌, ◌&&◌, inl, inr, Bool, true, false, List, [], ◌∷◌, ◌++◌, length, map, Option, Some, None, Ok, if◌then◌else◌, refl, sym, ap, ◌∙◌, subst, filter, arith, length-append}
+use Rattle.std.proofs.lemmas.Bool.{cases_eq, cases_lt, eq-eqb, eqb-true, ne_eqb}
+use Rattle.std.proofs.lemmas.List.{append-nil, get_or_append_left, get_or_past, get_or_push}
+use Rattle.std.proofs.lemmas.List.Elements.{filter-append}
+use Rattle.ca_arena.specs.declared.handle.Handle.{Handle}
+use Rattle.ca_arena.specs.Arena.{Place}
+use Rattle.ca_ids.specs.Table.{MayGive, Table, kept_of, same_handle, under, with_freed, with_held}
+use Rattle.ca_ids.specs.Holding.{Fills}
+use Rattle.ca_requests.specs.Layout.{AreGiven}
+use Rattle.ca_requests.specs.Lines.{AreLines, AreOf, AreRequests, Hands, Line, Notes, Readies, ReadyAll, handed_to, line_at, no_line, told_of}
+use Rattle.ca_requests.specs.Requests.{Open, Request, in_order_of_issue, is_open, is_open_in, was_sent_on}
+use Rattle.ca_requests.proofs.Orders.{filter-narrow, given-filter, given-grows, given-push}
+use Rattle.ca_requests.proofs.Tables.{Dims, Grows, Keeps, Stays, any, by_value, dims-freed, first_of, given-new, grows-freed, grows-held, grows-map, keeps-freed, keeps-map, none-freed, opens, opens-any, second_of, stays-freed, true_or_false, under-beside, under-held}
+
+-- ---- handles
+
+pub one-handle : (a b : Handle) → same_handle a b ≡ true → a ≡ b
+one-handle a b same =
+    let i : a.index ≡ b.index = eqb-true _ _ (first_of (a.index == b.index) (a.generation == b.generation) same) in
+    let g : a.generation ≡ b.generation = eqb-true _ _ (second_of (a.index == b.index) (a.generation == b.generation) same) in
+    ap (λ (n : ℕ). let h : Handle = record { index = n; generation = a.generation } in h) i
+    ∙ ap (λ (n : ℕ). let h : Handle = record { index = b.index; generation = n } in h) g
+
+pub same-itself : (a : Handle) → same_handle a a ≡ true
+same-itself a = rw (eq-eqb a.index a.index refl, eq-eqb a.generation a.generation refl) refl
+
+other-index : (a b : Handle) → a.index ≢ b.index → same_handle a b ≡ false
+other-index a b other = ap (λ (x : Bool). x && a.generation == b.generation) (ne_eqb a.index b.index other)
+
+-- ---- a line loses some that are over
+
+filtered-same : (t : Table Request) (xs : List Handle) (which : Request → Bool) → in_order_of_issue which t (filter (is_open any t) xs) ≡ in_order_of_issue which t xs
+filtered-same t xs which = filter-narrow (is_open which t) (is_open any t) xs (λ q h. opens-any which (under t q) h)
+
+of-filter : (t : Table Request) (c : Handle) (p : Handle → Bool) (xs : List Handle) → AreOf t c xs → AreOf t c (filter p xs)
+of-filter t c p [] all = tt
+of-filter t c p (q ∷ xs) all =
+    let rest = of-filter t c p xs all.1 in
+    elim (true_or_false (p q)) [ inl passes ↦ rw passes (all.0, rest) | inr fails ↦ rw fails rest ]
+
+-- the line of this circuit with these requests, and room for so many
+abbrev pub line : Handle → List Handle → ℕ → Line
+line c xs n = record { circuit = c; handles = xs; room = n }
+
+pub readies-same : (t : Table Request) (l : Line) → Readies t l l
+readies-same t l = record { same = λ which. refl; given = λ h. h; owned = λ h. h }
+
+pub readies-filtered : (t : Table Request) (c : Handle) (xs ys : List Handle) (m n : ℕ) → ys ≡ filter (is_open any t) xs → Readies t (line c xs m) (line c ys n)
+readies-filtered t c xs ys m n is = record {
+  same = λ which. ap (in_order_of_issue which t) is ∙ filtered-same t xs which;
+  given = λ h. subst (λ (zs : List Handle). AreGiven t zs) (sym is) (given-filter t (is_open any t) xs h);
+  owned = λ h. subst (λ (zs : List Handle). AreOf t c zs) (sym is) (of-filter t c (is_open any t) xs h);
+}
+
+pub readies-emptied : (t : Table Request) (c d : Handle) (xs ys : List Handle) (m n : ℕ) → ys ≡ filter (is_open any t) xs → ys ≡ [] → Readies t (line c xs m) (line d ys n)
+readies-emptied t c d xs ys m n is none = record {
+  same = λ which. ap (in_order_of_issue which t) is ∙ filtered-same t xs which;
+  given = λ h. subst (λ (zs : List Handle). AreGiven t zs) (sym none) tt;
+  owned = λ h. subst (λ (zs : List Handle). AreOf t d zs) (sym none) tt;
+}
+
+pub empty-of : (xs : List Handle) → length xs ≡ 0 → xs ≡ []
+empty-of [] none = refl
+empty-of (x ∷ xs) none = absurd (omega (arith, none))
+
+pub readies-on : (t : Table Request) (a b c : Line) → Readies t a b → Readies t b c → Readies t a c
+readies-on t a b c first next = record {
+  same = λ which. next.same which ∙ first.same which;
+  given = λ h. next.given (first.given h);
+  owned = λ h. next.owned (first.owned h);
+}
+
+pub requests-readied : (t : Table Request) (listed : List Handle) (lines next : List Line) → ReadyAll t lines next → AreRequests t listed lines → AreRequests t listed next
+requests-readied t listed lines next ready old = record {
+  given = old.given;
+  each = record {
+    same = λ c. (ready c.index).same (was_sent_on c) ∙ old.each.same c;
+    given = λ i. (ready i).given (old.each.given i);
+    owned = λ i. (ready i).owned (old.each.owned i);
+  };
+}
+
+pub requests-tidied : (t : Table Request) (listed : List Handle) (lines : List Line) → AreRequests t listed lines → AreRequests t (filter (is_open any t) listed) lines
+requests-tidied t listed lines old = record {
+  given = given-filter t (is_open any t) listed old.given;
+  each = record {
+    same = λ c. old.each.same c ∙ sym (filtered-same t listed (was_sent_on c));
+    given = old.each.given;
+    owned = old.each.owned;
+  };
+}
+
+-- ---- the table thins
+
+-- what is open and named was
+narrow : (t u : Table Request) → Keeps t u → (which : Request → Bool) (q : Handle) → is_open which u q ≡ true → is_open which t q ≡ true
+narrow t u keeps which q h = subst (λ (o : Option Request). opens which o ≡ true) (keeps q (opens-any which (under u q) h)) h
+
+of-thins : (t u : Table Request) → Keeps t u → (c : Handle) (xs : List Handle) → AreOf t c xs → AreOf u c xs
+of-thins t u keeps c [] all = tt
+of-thins t u keeps c (q ∷ xs) all = (
+  λ h. subst (λ (o : Option Request). opens (was_sent_on c) o ≡ true) (sym (keeps q h)) (all.0 (narrow t u keeps any q h)),
+  of-thins t u keeps c xs all.1,
+)
+
+lines-thin : (t u : Table Request) (listed : List Handle) (lines : List Line) → Keeps t u → Grows t u → AreLines t listed lines → AreLines u listed lines
+lines-thin t u listed lines keeps grows old = record {
+  same = λ c.
+      let p = is_open (was_sent_on c) t in
+      let n = is_open (was_sent_on c) u in
+      let xs = (line_at lines c.index).handles in
+      sym (filter-narrow n p xs (narrow t u keeps (was_sent_on c)))
+      ∙ ap (λ (ys : List Handle). filter n ys) (old.same c)
+      ∙ filter-narrow n p listed (narrow t u keeps (was_sent_on c));
+  given = λ i. given-grows t u (line_at lines i).handles grows (old.given i);
+  owned = λ i. of-thins t u keeps (line_at lines i).circuit (line_at lines i).handles (old.owned i);
+}
+
+pub requests-thin : (t u : Table Request) (listed : List Handle) (lines : List Line) → Keeps t u → Grows t u → AreRequests t listed lines → AreRequests u listed lines
+requests-thin t u listed lines keeps grows old = record {
+  given = given-grows t u listed grows old.given;
+  each = lines-thin t u listed lines keeps grows old.each;
+}
+
+pub requests-map : (f : Place Request → Place Request) (t u : Table Request) (listed : List Handle) (lines : List Line) → Dims f → Stays f → u ≡ map f t → AreRequests t listed lines → AreRequests u listed lines
+requests-map f t u listed lines dims stays is old =
+    subst (λ (w : Table Request). AreRequests w listed lines) (sym is)
+    (requests-thin t (map f t) listed lines (keeps-map f t dims stays) (grows-map f t dims) old)
+
+pub requests-freed : (t u : Table Request) (listed : List Handle) (lines : List Line) (h : Handle) → u ≡ with_freed h t → AreRequests t listed lines → AreRequests u listed lines
+requests-freed t u listed lines h is old =
+    subst (λ (w : Table Request). AreRequests w listed lines) (sym is)
+    (requests-thin t (with_freed h t) listed lines (keeps-freed t h) (grows-freed t h) old)
+
+-- ---- a request is issued
+
+order-beside : (t : Table Request) (q : Handle) (r : Request) (xs : List Handle) (which : Request → Bool) → MayGive t q → AreGiven t xs → filter (is_open which (with_held q r t)) xs ≡ filter (is_open which t) xs
+order-beside t q r [] which may given = refl
+order-beside t q r (h ∷ xs) which may given =
+    let same : is_open which (with_held q r t) h ≡ is_open which t h = ap (opens which) (under-beside t q r h may given.0) in
+    let rest : filter (is_open which (with_held q r t)) xs ≡ filter (is_open which t) xs = order-beside t q r xs which may given.1 in
+    ap (λ (b : Bool). let ys : List Handle = if b then h ∷ filter (is_open which (with_held q r t)) xs else filter (is_open which (with_held q r t)) xs in ys) same
+    ∙ ap (λ (ys : List Handle). let zs : List Handle = if is_open which t h then h ∷ ys else ys in zs) rest
+
+of-beside : (t : Table Request) (q : Handle) (r : Request) (c : Handle) (xs : List Handle) → MayGive t q → AreGiven t xs → AreOf t c xs → AreOf (with_held q r t) c xs
+of-beside t q r c [] may given all = tt
+of-beside t q r c (h ∷ xs) may given all =
+    let same = under-beside t q r h may given.0 in (
+      λ opened. subst (λ (o : Option Request). opens (was_sent_on c) o ≡ true) (sym same) (all.0 (subst (λ (o : Option Request). opens any o ≡ true) same opened)),
+      of-beside t q r c xs may given.1 all.1,
+    )
+
+of-push : (t : Table Request) (c q : Handle) (xs : List Handle) → AreOf t c xs → (is_open any t q ≡ true → is_open (was_sent_on c) t q ≡ true) → AreOf t c (xs ++ q ∷ [])
+of-push t c q [] all last = (last, tt)
+of-push t c q (x ∷ xs) all last = (all.0, of-push t c q xs all.1 last)
+
+none-kept : (n : Handle → Bool) (q : Handle) → n q ≡ false → filter n (q ∷ []) ≡ []
+none-kept n q h = rw h refl
+
+issued-same : (t : Table Request) (q : Handle) (r : Request) (listed : List Handle) (lines next : List Line) → MayGive t q → AreRequests t listed lines → Notes r.circuit q lines next → (c : Handle) → in_order_of_issue (was_sent_on c) (with_held q r t) (line_at next c.index).handles ≡ in_order_of_issue (was_sent_on c) (with_held q r t) (listed ++ q ∷ [])
+issued-same t q r listed lines next may old notes c =
+    let n = is_open (was_sent_on c) (with_held q r t) in
+    let xs = (line_at lines c.index).handles in
+    let mine : filter n xs ≡ filter n listed =
+    order-beside t q r xs (was_sent_on c) may (old.each.given c.index)
+    ∙ old.each.same c
+    ∙ sym (order-beside t q r listed (was_sent_on c) may old.given) in
+    elim (cases_eq c.index r.circuit.index) [
+      | inl here ↦
+          let is : (line_at next c.index).handles ≡ xs ++ q ∷ [] =
+          ap (λ (i : ℕ). (line_at next i).handles) here ∙ notes.handles ∙ ap (λ (i : ℕ). (line_at lines i).handles ++ q ∷ []) (sym here) in
+          ap (λ (ys : List Handle). filter n ys) is
+          ∙ filter-append n xs (q ∷ [])
+          ∙ ap (λ (ys : List Handle). ys ++ filter n (q ∷ [])) mine
+          ∙ sym (filter-append n listed (q ∷ []))
+      | inr other ↦
+          let is : (line_at next c.index).handles ≡ xs = ap (λ (l : Line). l.handles) (notes.others c.index other) in
+          let away : n q ≡ false =
+          ap (opens (was_sent_on c)) (under-held t q r may) ∙ ap (λ (b : Bool). b && is_open_in r.stage) (other-index r.circuit c (λ same. other (sym same))) in
+          let none : filter n (q ∷ []) ≡ [] = none-kept n q away in
+          let more : filter n (listed ++ q ∷ []) ≡ filter n listed =
+          filter-append n listed (q ∷ []) ∙ ap (λ (ys : List Handle). filter n listed ++ ys) none ∙ append-nil (filter n listed) in
+          ap (λ (ys : List Handle). filter n ys) is ∙ mine ∙ sym more
+    ]
+
+issued-lines : (t : Table Request) (q : Handle) (r : Request) (listed : List Handle) (lines next : List Line) → MayGive t q → r.stage ≡ Open → AreRequests t listed lines → Notes r.circuit q lines next → AreLines (with_held q r t) (listed ++ q ∷ []) next
+issued-lines t q r listed lines next may begins old notes =
+    let u = with_held q r t in
+    let grows = grows-held t q r may in
+    let k = r.circuit.index in
+    let xs = (line_at lines k).handles in
+    let itself : is_open any u q ≡ true → is_open (was_sent_on r.circuit) u q ≡ true = λ opened.
+    ap (opens (was_sent_on r.circuit)) (under-held t q r may)
+    ∙ ap (λ (b : Bool). b && is_open_in r.stage) (same-itself r.circuit)
+    ∙ ap is_open_in begins in
+    let before : AreOf t r.circuit xs = subst (λ (c : Handle). AreOf t c xs) notes.own (old.each.owned k) in
+    let after : AreOf u r.circuit (xs ++ q ∷ []) = of-push u r.circuit q xs (of-beside t q r r.circuit xs may (old.each.given k) before) itself in
+    record {
+      same = issued-same t q r listed lines next may old notes;
+      given = λ i.
+          elim (cases_eq i k) [
+            | inl here ↦
+                let there : AreGiven u (line_at next k).handles =
+                subst (λ (ys : List Handle). AreGiven u ys) (sym notes.handles)
+                (given-push u xs q (given-grows t u xs grows (old.each.given k)) (given-new t q r may)) in
+                subst (λ (j : ℕ). AreGiven u (line_at next j).handles) (sym here) there
+            | inr other ↦
+                subst (λ (l : Line). AreGiven u l.handles) (sym (notes.others i other)) (given-grows t u (line_at lines i).handles grows (old.each.given i))
+          ];
+      owned = λ i.
+          elim (cases_eq i k) [
+            | inl here ↦
+                let there : AreOf u (line_at next k).circuit (line_at next k).handles =
+                subst (λ (c : Handle). AreOf u c (line_at next k).handles) (sym notes.circuit)
+                (subst (λ (ys : List Handle). AreOf u r.circuit ys) (sym notes.handles) after) in
+                subst (λ (j : ℕ). AreOf u (line_at next j).circuit (line_at next j).handles) (sym here) there
+            | inr other ↦
+                subst (λ (l : Line). AreOf u l.circuit l.handles) (sym (notes.others i other))
+                (of-beside t q r (line_at lines i).circuit (line_at lines i).handles may (old.each.given i) (old.each.owned i))
+          ];
+    }
+
+pub requests-issued : (t u : Table Request) (listed after : List Handle) (lines next : List Line) (r : Request) (q : Handle) → Fills t q r (Ok tt) u → r.stage ≡ Open → after ≡ listed ++ q ∷ [] → Notes r.circuit q lines next → AreRequests t listed lines → AreRequests u after next
+requests-issued t u listed after lines next r q gives begins is notes old =
+    let made : AreRequests (with_held q r t) (listed ++ q ∷ []) next = record {
+      given = given-push (with_held q r t) listed q (given-grows t (with_held q r t) listed (grows-held t q r gives.0) old.given) (given-new t q r gives.0);
+      each = issued-lines t q r listed lines next gives.0 begins old notes;
+    } in
+    subst (λ (w : Table Request). AreRequests w after next) (sym gives.1)
+    (subst (λ (ys : List Handle). AreRequests (with_held q r t) ys next) (sym is) made)
+
+-- ---- those of a circuit are handed out
+
+-- what was sent on one circuit was not sent on another
+none-of : (t : Table Request) (c d : Handle) (xs : List Handle) → AreOf t d xs → same_handle d c ≡ false → filter (is_open (was_sent_on c) t) xs ≡ []
+none-of t c d [] all other = refl
+none-of t c d (q ∷ xs) all other =
+    let rest = none-of t c d xs all.1 other in
+    elim (true_or_false (is_open (was_sent_on c) t q)) [
+      | inl named ↦ absurd (both (under t q) (all.0 (opens-any (was_sent_on c) (under t q) named)) named)
+      | inr not_named ↦ rw not_named rest
+    ]
+  where
+    both : (o : Option Request) → opens (was_sent_on d) o ≡ true → opens (was_sent_on c) o ≡ true → ⊥
+    both None on_d on_c =
+        let bad : false ≡ true = on_d in
+        absurd cc
+    both (Some r) on_d on_c =
+        let at_d : r.circuit ≡ d = one-handle r.circuit d (first_of (same_handle r.circuit d) (is_open_in r.stage) on_d) in
+        let at_c : same_handle r.circuit c ≡ true = first_of (same_handle r.circuit c) (is_open_in r.stage) on_c in
+        let bad : same_handle d c ≡ true = subst (λ (h : Handle). same_handle h c ≡ true) at_d at_c in
+        absurd cc
+
+pub told-open : (t : Table Request) (listed : List Handle) (lines : List Line) (c : Handle) → AreRequests t listed lines → filter (is_open (was_sent_on c) t) (told_of c (line_at lines c.index)) ≡ filter (is_open (was_sent_on c) t) listed
+told-open t listed lines c old =
+    let l = line_at lines c.index in
+    elim (true_or_false (same_handle l.circuit c)) [
+      | inl own ↦
+          ap (λ (b : Bool). filter (is_open (was_sent_on c) t) (if b then l.handles else [])) own ∙ old.each.same c
+      | inr other ↦
+          ap (λ (b : Bool). filter (is_open (was_sent_on c) t) (if b then l.handles else [])) other
+          ∙ sym (none-of t c l.circuit l.handles (old.each.owned c.index) other)
+          ∙ old.each.same c
+    ]
+
+-- of a circuit none of whose requests is open
+no-open : (u : Table Request) (c : Handle) (which : Request → Bool) (xs : List Handle) → AreOf u c xs → ((q : Handle) → is_open (was_sent_on c) u q ≡ false) → filter (is_open which u) xs ≡ []
+no-open u c which [] all none = refl
+no-open u c which (q ∷ xs) all none =
+    elim (true_or_false (is_open which u q)) [
+      | inl named ↦
+          let bad : is_open (was_sent_on c) u q ≡ true = all.0 (opens-any which (under u q) named) in
+          let worse : false ≡ true = sym (none q) ∙ bad in
+          absurd cc
+      | inr not_named ↦ rw not_named (no-open u c which xs all.1 none)
+    ]
+
+lines-handed : (u : Table Request) (listed : List Handle) (lines next : List Line) (c : Handle) → ((q : Handle) → is_open (was_sent_on c) u q ≡ false) → Hands c lines next → AreLines u listed lines → AreLines u listed next
+lines-handed u listed lines next c none hands old =
+    let k = c.index in
+    let l = line_at lines k in
+    elim (true_or_false (same_handle l.circuit c)) [
+      | inl own ↦
+          let empty : (line_at next k).handles ≡ [] = hands.handles ∙ ap (λ (b : Bool). let ys : List Handle = if b then [] else l.handles in ys) own in
+          let mine : AreOf u c l.handles = subst (λ (d : Handle). AreOf u d l.handles) (one-handle l.circuit c own) (old.owned k) in
+          record {
+            same = λ d. elim (cases_eq d.index k) [
+              | inl here ↦
+                  let left : in_order_of_issue (was_sent_on d) u (line_at next d.index).handles ≡ [] =
+                  ap (λ (i : ℕ). in_order_of_issue (was_sent_on d) u (line_at next i).handles) here ∙ ap (λ (ys : List Handle). in_order_of_issue (was_sent_on d) u ys) empty in
+                  let was : in_order_of_issue (was_sent_on d) u (line_at lines d.index).handles ≡ [] =
+                  ap (λ (i : ℕ). in_order_of_issue (was_sent_on d) u (line_at lines i).handles) here ∙ no-open u c (was_sent_on d) l.handles mine none in
+                  left ∙ sym was ∙ old.same d
+              | inr other ↦
+                  ap (λ (m : Line). in_order_of_issue (was_sent_on d) u m.handles) (hands.others d.index other) ∙ old.same d
+            ];
+            given = λ i. elim (cases_eq i k) [
+              | inl here ↦
+                  subst (λ (j : ℕ). AreGiven u (line_at next j).handles) (sym here) (subst (λ (ys : List Handle). AreGiven u ys) (sym empty) tt)
+              | inr other ↦ subst (λ (m : Line). AreGiven u m.handles) (sym (hands.others i other)) (old.given i)
+            ];
+            owned = λ i. elim (cases_eq i k) [
+              | inl here ↦
+                  subst (λ (j : ℕ). AreOf u (line_at next j).circuit (line_at next j).handles) (sym here)
+                  (subst (λ (ys : List Handle). AreOf u (line_at next k).circuit ys) (sym empty) tt)
+              | inr other ↦ subst (λ (m : Line). AreOf u m.circuit m.handles) (sym (hands.others i other)) (old.owned i)
+            ];
+          }
+      | inr other_circuit ↦
+          let same : (line_at next k).handles ≡ l.handles = hands.handles ∙ ap (λ (b : Bool). let ys : List Handle = if b then [] else l.handles in ys) other_circuit in
+          record {
+            same = λ d. elim (cases_eq d.index k) [
+              | inl here ↦
+                  ap (λ (i : ℕ). in_order_of_issue (was_sent_on d) u (line_at next i).handles) here
+                  ∙ ap (λ (ys : List Handle). in_order_of_issue (was_sent_on d) u ys) same
+                  ∙ ap (λ (i : ℕ). in_order_of_issue (was_sent_on d) u (line_at lines i).handles) (sym here)
+                  ∙ old.same d
+              | inr other ↦
+                  ap (λ (m : Line). in_order_of_issue (was_sent_on d) u m.handles) (hands.others d.index other) ∙ old.same d
+            ];
+            given = λ i. elim (cases_eq i k) [
+              | inl here ↦
+                  subst (λ (j : ℕ). AreGiven u (line_at next j).handles) (sym here) (subst (λ (ys : List Handle). AreGiven u ys) (sym same) (old.given k))
+              | inr other ↦ subst (λ (m : Line). AreGiven u m.handles) (sym (hands.others i other)) (old.given i)
+            ];
+            owned = λ i. elim (cases_eq i k) [
+              | inl here ↦
+                  subst (λ (j : ℕ). AreOf u (line_at next j).circuit (line_at next j).handles) (sym here)
+                  (subst (λ (d : Handle). AreOf u d (line_at next k).handles) (sym hands.circuit)
+                  (subst (λ (ys : List Handle). AreOf u l.circuit ys) (sym same) (old.owned k)))
+              | inr other ↦ subst (λ (m : Line). AreOf u m.circuit m.handles) (sym (hands.others i other)) (old.owned i)
+            ];
+          }
+    ]
+
+pub requests-handed : (t u : Table Request) (listed : List Handle) (lines next : List Line) (c : Handle) → u ≡ map (by_value (kept_of (was_sent_on c))) t → Hands c lines next → AreRequests t listed lines → AreRequests u listed next
+requests-handed t u listed lines next c is hands old =
+    let f = by_value (kept_of (was_sent_on c)) in
+    let thin : AreRequests (map f t) listed lines = requests-map f t (map f t) listed lines (dims-freed (was_sent_on c)) (stays-freed (was_sent_on c)) refl old in
+    let made : AreRequests (map f t) listed next = record {
+      given = thin.given;
+      each = lines-handed (map f t) listed lines next c (none-freed (was_sent_on c) t) hands thin.each;
+    } in
+    subst (λ (w : Table Request). AreRequests w listed next) (sym is) made
+
+-- ---- the places of lines
+
+pub told-nowhere : (c : Handle) → told_of c no_line ≡ []
+told-nowhere c = by_test (same_handle no_line.circuit c)
+  where
+    by_test : (b : Bool) → ◌≡◌ {A = List Handle} (if b then [] else []) []
+    by_test true = refl
+    by_test false = refl
+
+pub handed-nowhere : (c : Handle) → handed_to c no_line ≡ []
+handed-nowhere c = by_test (same_handle no_line.circuit c)
+  where
+    by_test : (b : Bool) → ◌≡◌ {A = List Handle} (if b then [] else []) []
+    by_test true = refl
+    by_test false = refl
+
+pub line-pushed : (lines : List Line) (i : ℕ) → line_at (lines ++ no_line ∷ []) i ≡ line_at lines i
+line-pushed lines i =
+    elim (cases_lt i (length lines)) [
+      | inl within ↦ get_or_append_left lines (no_line ∷ []) no_line i within
+      | inr past ↦ elim (cases_eq (length lines) i) [
+        | inl last ↦ get_or_push lines no_line no_line i last ∙ sym (get_or_past lines i no_line past)
+        | inr beyond ↦
+            get_or_past (lines ++ no_line ∷ []) i no_line (omega (arith, length-append lines (no_line ∷ []), past, beyond))
+            ∙ sym (get_or_past lines i no_line past)
+      ]
+    ]

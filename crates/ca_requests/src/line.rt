@@ -1,0 +1,115 @@
+//! The requests of one circuit, so that its end needs no look at the others.
+ghost use Rattle.std.specs.Prelude.{◌≡◌, ◌<◌, ◌++◌, ◌∷◌, [], OnOk};
+ghost use Rattle.ca_requests.specs.Lines.{Readies, handed_to, no_line, told_of};
+
+use crate::request::{Request, is_same};
+use crate::requests::forget;
+use ca_arena::Handle;
+use ca_ids::HeldTable;
+use std::alloc::{AllocError, Global};
+use std::marker::Model;
+use std::mem;
+
+/// The requests that were sent on a circuit, in order of issue: all that are open, and some that are over.
+#[derive(Debug, Drop)]
+pub(crate) struct Line {
+    circuit: Handle,
+    listed: Vec<Handle>,
+    // How many are listed before those that are over are taken out.
+    limit: usize,
+}
+
+impl Model for Line {
+    ghost use Rattle.ca_requests.specs.Lines as lines;
+
+    ghost Value = { lines.Line };
+
+    ghost use Rattle.std.specs.Prelude.{◌-◌, vec_capacity, vec_len};
+
+    ghost view = { λ l. record {
+      circuit = l.circuit;
+      handles = l.listed.items;
+      room = vec_capacity l.listed - vec_len l.listed;
+    } };
+}
+
+impl Line {
+    /// That of no circuit yet. It does not allocate.
+    pub(crate) fn new(alloc: Global) -> Line
+        ensures { result ≡ no_line }
+    {
+        Line {
+            circuit: Handle {
+                index: 0,
+                generation: 0,
+            },
+            listed: Vec::new(alloc),
+            limit: 16,
+        }
+    }
+
+    /// Makes room for one more request of this circuit. There is none while one of another circuit is open.
+    pub(crate) fn prepare(
+        &mut self,
+        table: &HeldTable<Request>,
+        circuit: Handle,
+    ) -> Result<(), AllocError>
+        ensures readies { Readies table.now self.old self.new }
+        ensures circuit { OnOk result (self.new.circuit ≡ circuit) }
+        ensures room { OnOk result (0 < self.new.room) }
+    {
+        self.own(table, circuit)?;
+        self.tidy(table);
+        self.listed.reserve(1)?;
+        Ok(())
+    }
+
+    // It is this circuit's, unless a request of another is open.
+    fn own(&mut self, table: &HeldTable<Request>, circuit: Handle) -> Result<(), AllocError>
+        ensures readies { Readies table.now self.old self.new }
+        ensures circuit { OnOk result (self.new.circuit ≡ circuit) }
+    {
+        if is_same(self.circuit, circuit) {
+            return Ok(());
+        }
+        forget(&mut self.listed, table);
+        if self.listed.len() > 0 {
+            return Err(AllocError);
+        }
+        self.circuit = circuit;
+        Ok(())
+    }
+
+    // Takes those that are over out once it is long.
+    fn tidy(&mut self, table: &HeldTable<Request>)
+        ensures readies { Readies table.now self.old self.new }
+        ensures circuit { self.new.circuit ≡ self.old.circuit }
+    {
+        if self.listed.len() < self.limit {
+            return;
+        }
+        forget(&mut self.listed, table);
+        self.limit = self.listed.len().saturating_mul(2).max(16);
+    }
+
+    /// One more request is the last. There is room for it.
+    pub(crate) fn push(&mut self, handle: Handle)
+        requires { 0 < self.old.room }
+        ensures circuit { self.new.circuit ≡ self.old.circuit }
+        ensures handles { self.new.handles ≡ self.old.handles ++ handle ∷ [] }
+    {
+        self.listed.push_reserved(handle);
+    }
+
+    /// Hands out what is listed, if it is this circuit's.
+    pub(crate) fn take(&mut self, alloc: Global, circuit: Handle) -> Vec<Handle>
+        ensures told { result.items ≡ told_of circuit self.old }
+        ensures left { self.new.handles ≡ handed_to circuit self.old }
+        ensures circuit { self.new.circuit ≡ self.old.circuit }
+    {
+        if !is_same(self.circuit, circuit) {
+            return Vec::new(alloc);
+        }
+        mem::replace(&mut self.listed, Vec::new(alloc))
+    }
+}

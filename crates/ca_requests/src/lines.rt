@@ -1,0 +1,56 @@
+//! The requests of each circuit, by the circuit's index.
+ghost use Rattle.std.specs.Prelude.{◌≡◌, ◌<◌, ◌++◌, ◌∷◌, [], ℕ, OnOk, length};
+ghost use Rattle.ca_requests.specs.Lines.{Hands, HasRoom, Notes, ReadyAll, line_at, told_of};
+
+use crate::line::Line;
+use crate::request::Request;
+use ca_arena::Handle;
+use ca_ids::HeldTable;
+use std::alloc::{AllocError, Global};
+
+/// Makes room for one more request of this circuit.
+pub(crate) fn prepare(
+    alloc: Global,
+    lines: &mut Vec<Line>,
+    table: &HeldTable<Request>,
+    circuit: Handle,
+) -> Result<(), AllocError>
+    ensures readies { ReadyAll table.now lines.old.items lines.new.items }
+    ensures room { OnOk result (HasRoom circuit lines.new.items) }
+{
+    let index = usize::from(circuit.index);
+    extend(alloc, lines, circuit.index)?;
+    lines[index].prepare(table, circuit)?;
+    Ok(())
+}
+
+// Has a line at this index.
+fn extend(alloc: Global, lines: &mut Vec<Line>, index: u16) -> Result<(), AllocError>
+    ensures same { (i : ℕ) → line_at lines.new.items i ≡ line_at lines.old.items i }
+    ensures within { OnOk result (index < length lines.new.items) }
+{
+    for _ in lines.len()..usize::from(index) + 1 {
+        lines.push(Line::new(alloc))?;
+    }
+    Ok(())
+}
+
+/// The request is the last of its circuit. There is room for it.
+pub(crate) fn note(lines: &mut Vec<Line>, circuit: Handle, handle: Handle)
+    requires { HasRoom circuit lines.old.items }
+    ensures { Notes circuit handle lines.old.items lines.new.items }
+{
+    lines[usize::from(circuit.index)].push(handle);
+}
+
+/// Hands out what is listed for this circuit. It does not allocate.
+pub(crate) fn hand_out(alloc: Global, lines: &mut Vec<Line>, circuit: Handle) -> Vec<Handle>
+    ensures told { result.items ≡ told_of circuit (line_at lines.old.items circuit.index) }
+    ensures hands { Hands circuit lines.old.items lines.new.items }
+{
+    let index = usize::from(circuit.index);
+    if index >= lines.len() {
+        return Vec::new(alloc);
+    }
+    lines[index].take(alloc, circuit)
+}
