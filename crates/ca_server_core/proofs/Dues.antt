@@ -33,7 +33,7 @@ IsDueFor k m r a command.EventsOn = (r ≡ []) × (a ≡ Switches true)
 IsDueFor k m r a command.ClearChannel = (r ≡ cleared_reply m ∷ []) × (a ≡ Clears m.p1)
 IsDueFor k m r a _ = Unit {0}
 
-due-of : (k : Knows) (m : Fields) (r : List Fields) (a : Action) → IsDueFor k m r a (command_at m.command) → (is_known m.command ≡ false → (r ≡ []) × (a ≡ Nothing)) → Due k m r a
+pub due-of : (k : Knows) (m : Fields) (r : List Fields) (a : Action) → IsDueFor k m r a (command_at m.command) → (is_known m.command ≡ false → (r ≡ []) × (a ≡ Nothing)) → Due k m r a
 due-of k m r a h other =
     let here : (c : Command) → m.command ≡ command_number c → IsDueFor k m r a (command_at (command_number c)) = λ c e. subst (λ (n : ℕ). IsDueFor k m r a (command_at n)) e h in
     record {

@@ -18,3 +18,5 @@ pub mod Stays
 pub mod Closing
 pub mod Walking
 pub mod Servers
+pub mod LongBytes
+pub mod Could

@@ -43,7 +43,8 @@ sound-accepted rs t h now i may = record {
     fresh : (g : Handle) → g ≡ h → EndIsSound rs g (new_end now)
     fresh g own = record {
       live = refl;
-      quiet = refl;
+      quiet = record { none = refl; on = true; idle = refl };
+      few = omega arith;
       served = λ c o at. absurd (no-channel c o at);
       puts = λ j r k w at at' hit.
           let there = i.waits j r k w at at' in
@@ -82,7 +83,7 @@ sound-opened rs t after now c (Err (back, _)) i is g = absurd g
 
 -- an end whose link alone changed is as sound as before
 relinked-sound : (rs : List Record) (h : Handle) (e : ServerEnd) (l : LinkState) → l.input.closed ≡ false → EndIsSound rs h e → (let new : ServerEnd = record e { link = l } in EndIsSound rs h new)
-relinked-sound rs h e l live i = record { live = live; quiet = i.quiet; served = i.served; puts = i.puts }
+relinked-sound rs h e l live i = record { live = live; quiet = record { none = i.quiet.none; on = i.quiet.on; idle = i.quiet.idle }; served = i.served; puts = i.puts; few = i.few }
 
 given-live : (now : ℕ) (bytes : List ℕ) (l : LinkState) → l.input.closed ≡ false → (with_given now bytes l).input.closed ≡ false
 given-live now [] l live = live

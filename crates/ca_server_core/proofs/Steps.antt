@@ -9,19 +9,19 @@ use Rattle.ca_text.specs.declared.refusal.Refusal.TheVariants as refusal
 use Rattle.ca_text.specs.Limits.{output_limit}
 use Rattle.ca_wire.specs.Fields.{Fields}
 use Rattle.ca_model.specs.Server.{ServerEnd}
-use Rattle.ca_server_core.specs.Stepping.{BreaksBy, Takes, after_first, cause_for}
+use Rattle.ca_server_core.specs.Stepping.{AreBytes, BreaksBy, Takes, after_first, cause_for}
 
 closed-open : (l : LinkState) → l.input.closed ≡ true → l.input.closed ≡ false → ⊥
 closed-open l a b = cc
 
 -- an end whose link refuses to read breaks
-pub breaks-by : (port : ℕ) (s : Store) (e : ServerEnd) (l : LinkState) (r : Refusal) → length e.link.output < output_limit → IsOpen e.link → Nexts e.link (Err r) l → BreaksBy port s e (cause_for r)
-breaks-by port s e l refusal.CircuitClosed room live n = absurd (closed-open e.link n.0 live)
-breaks-by port s e l refusal.Misaligned room live n = (room, n.1)
-breaks-by port s e l refusal.TooLarge room live n = (room, n.1)
-breaks-by port s e l refusal.OutOfMemory room live n =
-    let t = n.1 in (record { room = room; m = t.0; rest = t.1; takes = t.2 }, inl t.3)
-breaks-by port s e l _ room live n = absurd n
+pub breaks-by : (port : ℕ) (s : Store) (e : ServerEnd) (l : LinkState) (r : Refusal) → AreBytes e.link.input.bytes → length e.link.output < output_limit → IsOpen e.link → Nexts e.link (Err r) l → BreaksBy port s e (cause_for r)
+breaks-by port s e l refusal.CircuitClosed are room live n = absurd (closed-open e.link n.0 live)
+breaks-by port s e l refusal.Misaligned are room live n = (room, n.1)
+breaks-by port s e l refusal.TooLarge are room live n = (room, n.1)
+breaks-by port s e l refusal.OutOfMemory are room live n =
+    let t = n.1 in (record { room = room; m = t.0; rest = t.1; takes = t.2 }, are, inl t.3)
+breaks-by port s e l _ are room live n = absurd n
 
 -- and what waits to be sent stays
 pub same-output : (k l : LinkState) (r : Refusal) → Nexts k (Err r) l → l.output ≡ k.output

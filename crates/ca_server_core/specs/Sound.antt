@@ -1,20 +1,29 @@
 -- Working: what holds of the records and the circuits of a server.
-use Rattle.std.specs.Prelude.{ℕ, ◌≡◌, List, [], Some}
+use Rattle.std.specs.Prelude.{ℕ, ◌≡◌, ◌≤◌, Bool, List, [], Some, length}
 use Rattle.ca_arena.specs.declared.handle.Handle.{Handle}
 use Rattle.ca_ids.specs.Table.{Table, under}
 use Rattle.ca_link.specs.Calls.{IsOpen}
 use Rattle.ca_records.specs.Puts.{Record, WaitingPut}
+use Rattle.ca_text.specs.Limits.{arena_slots}
 use Rattle.ca_text.specs.Place.{At}
 use Rattle.ca_model.specs.Server.{Open, ServerCircuit, ServerEnd}
 use Rattle.ca_server_core.specs.Clearing.{ArePuts}
-use Rattle.ca_server_core.specs.Handling.{AreServed}
+use Rattle.ca_server_core.specs.Handling.{AreServed, idle_queues}
 
--- An open end of this circuit: no bad header was met, it has no subscription yet, its channels are served, and so are its puts that wait.
+-- The end has no subscription.
+pub record IsQuiet (e : ServerEnd) : Type 0 where
+  pub none : e.subscriptions ≡ []
+  pub on : Bool
+  pub idle : e.queues ≡ idle_queues on
+
+-- An open end of this circuit: no bad header was met, it has no subscription yet, its channels are served and not
+-- too many, and its puts that wait are on them.
 pub record EndIsSound (rs : List Record) (h : Handle) (e : ServerEnd) : Type 0 where
   pub live : IsOpen e.link
-  pub quiet : e.subscriptions ≡ []
+  pub quiet : IsQuiet e
   pub served : AreServed rs e.channels
   pub puts : ArePuts h rs e.channels
+  pub few : length e.channels ≤ arena_slots
 
 -- each open end is sound, and each put that waits has one
 pub record IsSound (rs : List Record) (t : Table ServerCircuit) : Type 0 where

@@ -7,6 +7,7 @@
 #![tactic(auto)]
 
 mod beacons;
+mod bytes;
 mod cause;
 mod channel;
 mod channels;

@@ -5,6 +5,7 @@ ghost use Rattle.ca_server_core.specs.Clearing.{ArePuts};
 ghost use Rattle.ca_server_core.specs.Handling.{AreServed};
 ghost use Rattle.ca_server_core.specs.Stepping.{EndSteps, cause_for};
 
+use crate::bytes::know_bytes;
 use crate::cause::Cause;
 use crate::end::End;
 use ca_arena::Handle;
@@ -40,6 +41,7 @@ impl End {
         if self.link.is_full() {
             return EndStep::OutputFull;
         }
+        know_bytes(self.link.in_bytes());
         match self.link.next_message() {
             Ok(None) => EndStep::NeedBytes,
             Ok(Some(message)) => match self.handle(port, circuit, records, &message) {

@@ -10,7 +10,7 @@ use Rattle.ca_model.specs.Due.{Due}
 use Rattle.ca_model.specs.Server.{OpenChannel, ServerEnd}
 use Rattle.ca_server_core.specs.declared.cause.Cause.{Cause}
 use Rattle.ca_server_core.specs.Handling.{AllStay, AreServed, Does, MayLack, known}
-use Rattle.ca_server_core.specs.Stepping.{BreaksBy, Takes}
+use Rattle.ca_server_core.specs.Stepping.{AreBytes, BreaksBy, Takes}
 use Rattle.ca_server_core.proofs.Steps.{breaks-by, same-link, same-output, taken-first}
 use Rattle.ca_server_core.proofs.end.End.step.Goals as goal
 
@@ -55,7 +55,8 @@ returns-in-Ok-Some c =
     let x : Takes e = record { room = room; m = m; rest = t.0; takes = takes } in
     let stay = subst (λ (u : Table OpenChannel). AllStay u c.handle.new.self.channels) (ap (λ (w : ServerEnd). w.channels) c.self.view_is) c.in-Err-handle.ensures.channels in
     let output = c.in-Err-handle.ensures.output ∙ ap (λ (l : LinkState). l.output) t.2 ∙ ap (λ (w : ServerEnd). w.link.output) c.self.view_is in
-    ((x, inr (subst (λ (w : ServerEnd). MayLack (known c.args.port s w) m) first c.in-Err-handle.ensures.memory)), output, stay, c.in-Err-handle.ensures.err)
+    let are = subst (λ (w : ServerEnd). AreBytes w.link.input.bytes) c.self.view_is (subst AreBytes c.in_bytes.ensures c.know_bytes.ensures) in
+    ((x, are, inr (subst (λ (w : ServerEnd). MayLack (known c.args.port s w) m) first c.in-Err-handle.ensures.memory)), output, stay, c.in-Err-handle.ensures.err)
 
 pub returns : goal.returns
 returns c =
@@ -65,4 +66,5 @@ returns c =
     let room = subst (λ (x : ServerEnd). length x.link.output < output_limit) c.self.view_is (leb-false output_limit (length c.self.inside.link.output) (sym c.if-is_full.ensures)) in
     let stay : AllStay e.channels c.self.inside.channels = λ h o at. subst (λ (x : ServerEnd). under x.channels h ≡ Some o) (sym c.self.view_is) at in
     let nexts = subst (λ (x : ServerEnd). Nexts x.link (Err r) c.next_message.new.self) c.self.view_is c.in-Err.ensures in
-    (subst (λ (k : Cause). BreaksBy c.args.port s e k) (sym c.cause_of.ensures) (breaks-by c.args.port s e c.next_message.new.self r room c.requires.open nexts), same-output e.link c.next_message.new.self r nexts, stay, refl)
+    let are = subst (λ (w : ServerEnd). AreBytes w.link.input.bytes) c.self.view_is (subst AreBytes c.in_bytes.ensures c.know_bytes.ensures) in
+    (subst (λ (k : Cause). BreaksBy c.args.port s e k) (sym c.cause_of.ensures) (breaks-by c.args.port s e c.next_message.new.self r are room c.requires.open nexts), same-output e.link c.next_message.new.self r nexts, stay, refl)

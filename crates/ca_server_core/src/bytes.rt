@@ -1,0 +1,6 @@
+ghost use Rattle.ca_server_core.specs.Stepping.{AreBytes};
+
+/// Each element of a slice of bytes is a byte.
+pub(crate) fn know_bytes(bytes: &[u8])
+    ensures { AreBytes bytes.now }
+{}
