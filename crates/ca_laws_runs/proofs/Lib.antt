@@ -24,3 +24,4 @@ pub mod ClientsKeep
 pub mod ClientsMore
 pub mod ServersKeep
 pub mod Events
+pub mod Known
