@@ -25,3 +25,4 @@ pub mod ClientsMore
 pub mod ServersKeep
 pub mod Events
 pub mod Known
+pub mod OtherEvents
