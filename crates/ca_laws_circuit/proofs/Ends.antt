@@ -60,7 +60,7 @@ sent-not-here c on r other here = same-not r.circuit c (λ e. other (sym e ∙ s
 -- ---- the end of a circuit
 
 -- of those that pass, what a list has
-at-filter-map : {A B : Type 0} (f : A → Option B) (xs : List A) (i : ℕ) (y : B) → At (filter_map f xs) i y → (j : ℕ) × (x : A) × At xs j x × (f x ≡ Some y)
+pub at-filter-map : {A B : Type 0} (f : A → Option B) (xs : List A) (i : ℕ) (y : B) → At (filter_map f xs) i y → (j : ℕ) × (x : A) × At xs j x × (f x ≡ Some y)
 at-filter-map f [] i y at = absurd cc
 at-filter-map {A} {B} f (z ∷ xs) i y at = go (f z) refl i at (λ k h. at-filter-map f xs k y h)
   where
@@ -70,7 +70,7 @@ at-filter-map {A} {B} f (z ∷ xs) i y at = go (f z) refl i at (λ k h. at-filte
     go None is i h rest = (let r = rest i h in (suc r.0, r.1, r.2, r.3))
 
 -- the channels that are on a circuit in a phase that the test names
-on-circuit : (test : Phase → Bool) (c : Handle) (x : Client) (i : ℕ) (h : Handle) → At (channels_on test c x) i h → (ch : Channel) × (under x.channels h ≡ Some ch) × (is_on_in test c ch ≡ true)
+pub on-circuit : (test : Phase → Bool) (c : Handle) (x : Client) (i : ℕ) (h : Handle) → At (channels_on test c x) i h → (ch : Channel) × (under x.channels h ≡ Some ch) × (is_on_in test c ch ≡ true)
 on-circuit test c x i h at =
     let f : Handle × Channel → Option Handle = λ (e : Handle × Channel). cond (is_on_in test c e.1) (Some e.0) None in
     let r = at-filter-map f (held x.channels) i h at in

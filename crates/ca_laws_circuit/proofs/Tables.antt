@@ -33,7 +33,7 @@ set-length [] i y = refl
 set-length (z ∷ xs) zero y = refl
 set-length (z ∷ xs) (suc i) y = ap (λ (n : ℕ). suc n) (set-length xs i y)
 
-find-at : {A : Type 0} (test : A → Bool) (xs : List A) (x : A) → find test xs ≡ Some x → (i : ℕ) × At xs i x × (test x ≡ true)
+pub find-at : {A : Type 0} (test : A → Bool) (xs : List A) (x : A) → find test xs ≡ Some x → (i : ℕ) × At xs i x × (test x ≡ true)
 find-at test [] x is = absurd (none-some x is)
 find-at {A} test (y ∷ xs) x is = go (test y) refl is (λ h. find-at test xs x h)
   where
@@ -41,7 +41,7 @@ find-at {A} test (y ∷ xs) x is = go (test y) refl is (λ h. find-at test xs x 
     go true yes_it h rest = (let same : y ≡ x = some_is y x h in (0, h, ap test (sym same) ∙ yes_it))
     go false no_it h rest = (let r = rest h in (suc r.0, r.1, r.2))
 
-at-find : {A : Type 0} (test : A → Bool) (xs : List A) (i : ℕ) (x : A) → At xs i x → test x ≡ true → (y : A) × (find test xs ≡ Some y)
+pub at-find : {A : Type 0} (test : A → Bool) (xs : List A) (i : ℕ) (x : A) → At xs i x → test x ≡ true → (y : A) × (find test xs ≡ Some y)
 at-find test [] i x at is = absurd cc
 at-find {A} test (y ∷ xs) zero x at is = (y, ap (λ (b : Bool). cond b (Some y) (find test xs)) (ap test (some_is y x at) ∙ is))
 at-find {A} test (y ∷ xs) (suc i) x at is = (let r = at-find test xs i x at is in go (test y) r.0 r.1)
@@ -93,7 +93,7 @@ module _ {T : Type 0} where
 
   -- ---- an id that may be given
 
-  given-none : (t : Table T) (g h : Handle) (v : T) → MayGive t h → under t g ≡ Some v → g.index ≡ h.index → ⊥
+  pub given-none : (t : Table T) (g h : Handle) (v : T) → MayGive t h → under t g ≡ Some v → g.index ≡ h.index → ⊥
   given-none t g h v may is same =
       let at : place_at t g.index ≡ place g v = get_or_from_slice_get t g.index (place g v) blank (under-at t g v is) in
       none-some v (sym may.free ∙ ap (λ (i : ℕ). (place_at t i).value) (sym same) ∙ ap (λ (p : Place T). p.value) at)

@@ -29,7 +29,7 @@ use Rattle.ca_laws_runs.proofs.Sending.{none-sent-to, one-sent}
 -- ---- clear
 
 -- a handle names no channel that was cleared
-never-cleared : (x : Client) (h o : Handle) (p : Phase) → standing_at x h ≡ Some (On o p) → is_cleared p ≡ false
+pub never-cleared : (x : Client) (h o : Handle) (p : Phase) → standing_at x h ≡ Some (On o p) → is_cleared p ≡ false
 never-cleared x h o p at = go (under x.channels h) at
   where
     phase-is : (c d : Handle) (q r : Phase) → On c q ≡ On d r → q ≡ r
@@ -74,7 +74,7 @@ clear-held kept i n x y j h notices sent attached clearing held mine =
 
 -- ---- unsubscribe
 
-stands-as : (x : Client) (g : Handle) (d : Subscription) → StandsAs x g d → (under x.subscriptions g ≡ Some d) × (stands_in d.stage ≡ true)
+pub stands-as : (x : Client) (g : Handle) (d : Subscription) → StandsAs x g d → (under x.subscriptions g ≡ Some d) × (stands_in d.stage ≡ true)
 stands-as x g d is = go (under x.subscriptions g) refl is
   where
     pick : (e : Subscription) → under x.subscriptions g ≡ Some e → (b : Bool) → stands_in e.stage ≡ b → cond b (Some e) None ≡ Some d → (under x.subscriptions g ≡ Some d) × (stands_in d.stage ≡ true)

@@ -22,7 +22,7 @@ use Rattle.ca_laws_runs.specs.Circuit.{AreNumbered, HeldOn, sent_to, stamped}
 use Rattle.ca_laws_runs.proofs.Sending.{none-sent-to, one-sent}
 
 -- what a search reply finds is searched for
-searched-is : (cid : ℕ) (x : Client) (h : Handle) (here : Channel) → searched_by cid x ≡ Some (h, here) → (under x.channels h ≡ Some here) × (here.standing ≡ Searching)
+pub searched-is : (cid : ℕ) (x : Client) (h : Handle) (here : Channel) → searched_by cid x ≡ Some (h, here) → (under x.channels h ≡ Some here) × (here.standing ≡ Searching)
 searched-is cid x h here is = go (by_wire x.channels cid) refl is
   where
     stands : (s : Standing) → is_searched s ≡ true → s ≡ Searching

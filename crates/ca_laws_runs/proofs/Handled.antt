@@ -43,7 +43,7 @@ all-numbers : (keys : List SubKey) (j : Joined) → Like j (fold with_number j k
 all-numbers [] j = (refl, refl, refl)
 all-numbers (key ∷ keys) j = like-then j (with_number j key) (fold with_number (with_number j key) keys) (refl, refl, refl) (all-numbers keys (with_number j key))
 
-posted-like : (i : ℕ) (core : Server) (name : List ℕ) (mask : ℕ) (j : Joined) → Like j (numbers_posted i core name mask j)
+pub posted-like : (i : ℕ) (core : Server) (name : List ℕ) (mask : ℕ) (j : Joined) → Like j (numbers_posted i core name mask j)
 posted-like i core name mask j = go (eqb j.server i && j.lists.server_open)
   where
     go : (b : Bool) → Like j (cond b (fold with_number j (keys_concerned name mask (under core.circuits j.at_server))) j)

@@ -13,3 +13,16 @@ pub mod ClientSteps
 pub mod Servers
 pub mod Handled
 pub mod ServerSteps
+pub mod Thinner
+pub mod Named
+pub mod Placed
+pub mod Letting
+pub mod Changes
+pub mod Hearing
+pub mod Stands
+pub mod ClientsKeep
+pub mod ClientsMore
+pub mod ServersKeep
+pub mod Events
+pub mod Known
+pub mod OtherEvents

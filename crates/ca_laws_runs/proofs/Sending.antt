@@ -98,7 +98,7 @@ new-name names t q given may =
     ])
 
 -- what stands at the first place that passes a test passes
-place-passes : {A : Type 0} (test : A → Bool) (xs : List A) (y : A) → At xs (place_of test xs) y → test y ≡ true
+pub place-passes : {A : Type 0} (test : A → Bool) (xs : List A) (y : A) → At xs (place_of test xs) y → test y ≡ true
 place-passes test [] y at = absurd cc
 place-passes {A} test (x ∷ xs) y at = go (test x) refl at (λ h. place-passes test xs y h)
   where

@@ -25,7 +25,7 @@ closed-server kept n x j left h =
           };
     }
 
-ending-held : (kept : List ℕ) (n : Names) (x : Client) (j : Joined) (o : Option (List ℕ)) → HeldOn kept n x j → HeldOn kept n x (unwrap_or (option_map (λ (left : List ℕ). server_closed left j) o) j)
+pub ending-held : (kept : List ℕ) (n : Names) (x : Client) (j : Joined) (o : Option (List ℕ)) → HeldOn kept n x j → HeldOn kept n x (unwrap_or (option_map (λ (left : List ℕ). server_closed left j) o) j)
 ending-held kept n x j (Some left) h = closed-server kept n x j left h
 ending-held kept n x j None h = h
 

@@ -1,1 +1,3 @@
 pub mod Circuit
+pub mod Client
+pub mod Clients

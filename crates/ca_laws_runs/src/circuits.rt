@@ -11,40 +11,37 @@ ghost use Rattle.ca_model.specs.ServerSteps.{Handled, Stepped, knows};
 ghost use Rattle.ca_model_world.specs.ClientEvents.{HappensClear, HappensClientStep, HappensCutClient, HappensDown, HappensRead, HappensSubscribe, HappensUnsubscribe, HappensUp, HappensWrite, HappensWriteNotify};
 ghost use Rattle.ca_model_world.specs.ServerEvents.{HappensCutServer, ServerStepped, StepHandles};
 ghost use Rattle.ca_model_world.specs.World.{ClientSide, Joined, ServerSide, World};
-ghost use Rattle.ca_laws_circuit.specs.Held.{Attached, MeanToSubscribe};
-ghost use Rattle.ca_laws_runs.specs.Circuit.{AreGiven, AreNumbered, HaveHandles, HeldAt, IsKnown, IsNext};
+ghost use Rattle.ca_laws_runs.specs.Circuit.{HeldAt, IsKnown, IsNext};
+ghost use Rattle.ca_laws_runs.specs.Clients.{ClientsStand};
 
 /// A read, a put, a write, a subscription, its end, or a clear by a client, done or refused, keeps
 /// what is held of each circuit of the world: its messages may be sent, and each id that may still
 /// come back is held by what it was given to last.
 ///
-/// Names name only handles that its tables gave; what is meant by each subscription is to subscribe;
-/// requests are on circuits on which their channels were live.
+/// All clients stand, as in every run.
 pub fn calls_keep_each_circuit()
     ensures read { (kept : List ℕ) (w new : World) (i k c : ℕ) (x : ClientSide) (h : Handle)
-        (data_type count : ℕ) → At w.clients i x → AreGiven x.names.requests x.core.requests
+        (data_type count : ℕ) → At w.clients i x → ClientsStand w
         → HappensRead w i x c h data_type count new → HeldAt kept w k → HeldAt kept new k }
     ensures write_notify { (kept : List ℕ) (w new : World) (i k c : ℕ) (x : ClientSide) (h : Handle)
-        (e : Elements) → At w.clients i x → AreGiven x.names.requests x.core.requests
-        → HappensWriteNotify w i x c h e new → HeldAt kept w k → HeldAt kept new k }
+        (e : Elements) → At w.clients i x → ClientsStand w → HappensWriteNotify w i x c h e new
+        → HeldAt kept w k → HeldAt kept new k }
     ensures write { (kept : List ℕ) (w new : World) (i k c : ℕ) (x : ClientSide) (h : Handle)
         (e : Elements) → At w.clients i x → HappensWrite w i x c h e new → HeldAt kept w k
         → HeldAt kept new k }
     ensures subscribe { (kept : List ℕ) (w new : World) (i k c : ℕ) (x : ClientSide) (h : Handle)
-        (data_type count mask : ℕ) → At w.clients i x
-        → AreGiven x.names.subscriptions x.core.subscriptions
+        (data_type count mask : ℕ) → At w.clients i x → ClientsStand w
         → HappensSubscribe w i x c h data_type count mask new → HeldAt kept w k
         → HeldAt kept new k }
     ensures unsubscribe { (kept : List ℕ) (w new : World) (i k : ℕ) (x : ClientSide)
-        (s : Handle × Intent) → At w.clients i x → MeanToSubscribe x.names x.core.subscriptions
-        → HappensUnsubscribe w i x s new → HeldAt kept w k → HeldAt kept new k }
+        (s : Handle × Intent) → At w.clients i x → ClientsStand w → HappensUnsubscribe w i x s new
+        → HeldAt kept w k → HeldAt kept new k }
     ensures clear { (kept : List ℕ) (w new : World) (i k c : ℕ) (x : ClientSide) (h : Handle)
-        → At w.clients i x → Attached x.core → HappensClear w i x c h new → HeldAt kept w k
+        → At w.clients i x → ClientsStand w → HappensClear w i x c h new → HeldAt kept w k
         → HeldAt kept new k }
 {}
 
 /// So do bytes that move on any circuit, and the cut of an end at its client or at its server.
-/// The open ends of one client have handles of their own.
 pub fn moves_keep_each_circuit()
     ensures up { (kept : List ℕ) (w new : World) (k l n : ℕ) (j : Joined) (x : ClientSide)
         (y : ServerSide) → At w.circuits k j → At w.clients j.client x → HappensUp w k n j x y new
@@ -53,7 +50,7 @@ pub fn moves_keep_each_circuit()
         (y : ServerSide) → At w.circuits k j → At w.clients j.client x → HappensDown w k n j x y new
         → HeldAt kept w l → HeldAt kept new l }
     ensures cut_client { (kept : List ℕ) (w new : World) (k l : ℕ) (j : Joined) (x : ClientSide)
-        → At w.circuits k j → At w.clients j.client x → j.lists.client_open ≡ true → HaveHandles w
+        → At w.circuits k j → At w.clients j.client x → j.lists.client_open ≡ true → ClientsStand w
         → HappensCutClient w k j x new → HeldAt kept w l → HeldAt kept new l }
     ensures cut_server { (kept : List ℕ) (w new : World) (k l : ℕ) (j : Joined) (y : ServerSide)
         → HappensCutServer w k j y new → HeldAt kept w l → HeldAt kept new l }
@@ -62,15 +59,12 @@ pub fn moves_keep_each_circuit()
 /// So does a step of a client's end: whatever message it reads, and whether it reads one or closes.
 /// The message that comes next is one that the server sent, and it is known what that is about.
 ///
-/// Its end is open and connected, its channels have numbers, and what the calls need of names and
-/// tables holds here too.
+/// Its end is open; it is connected, and sound, as all clients are in a run.
 pub fn a_clients_step_keeps_each_circuit()
     ensures { (kept : List ℕ) (w new : World) (k l : ℕ) (j : Joined) (x : ClientSide)
-        (d : Connection) → At w.circuits k j → At w.clients j.client x
-        → j.lists.client_open ≡ true → connection_at x.core j.at_client ≡ Some d → HaveHandles w
-        → Attached x.core → MeanToSubscribe x.names x.core.subscriptions
-        → AreNumbered x.names x.core
-        → ((m : Fields) (rest : List ℕ) → TakesFirst d.link m rest
+        → At w.circuits k j → At w.clients j.client x → j.lists.client_open ≡ true → ClientsStand w
+        → ((d : Connection) (m : Fields) (rest : List ℕ)
+        → connection_at x.core j.at_client ≡ Some d → TakesFirst d.link m rest
         → IsKnown x.names (after_taking j.at_client rest x.core) j.at_client j.lists m)
         → HappensClientStep w k j x new → HeldAt kept w l → HeldAt kept new l }
 {}

@@ -2,8 +2,12 @@
 #![tactic(auto)]
 
 mod circuits;
+mod clients;
+mod others;
 
 pub use circuits::{
     a_clients_step_keeps_each_circuit, a_servers_step_keeps_each_circuit, calls_keep_each_circuit,
     moves_keep_each_circuit,
 };
+pub use clients::clients_stand_in_runs;
+pub use others::quiet_events_keep_each_circuit;

@@ -1,0 +1,29 @@
+ghost use Rattle.std.specs.Prelude.{List, Option, ℕ};
+ghost use Rattle.ca_text.specs.Place.{At};
+ghost use Rattle.ca_dbr.specs.Elements.{Elements};
+ghost use Rattle.ca_dbr.specs.declared.value.Outcome.{Outcome};
+ghost use Rattle.ca_records.specs.Record.{RecordState};
+ghost use Rattle.ca_model.specs.History.{Intent, Line};
+ghost use Rattle.ca_model_world.specs.ClientEvents.{HappensHandingOut, HappensOpen};
+ghost use Rattle.ca_model_world.specs.ServerEvents.{HappensAdd, HappensPost, HappensServerRestart};
+ghost use Rattle.ca_model_world.specs.World.{ClientSide, ServerSide, World};
+ghost use Rattle.ca_laws_runs.specs.Circuit.{HeldAt};
+ghost use Rattle.ca_laws_runs.specs.Clients.{ClientsStand};
+
+/// So does a channel that is opened, what became of a request that is handed out or given up, a post
+/// or a new record at a server, and a server that begins again.
+pub fn quiet_events_keep_each_circuit()
+    ensures opened { (kept : List ℕ) (w new : World) (i k : ℕ) (x : ClientSide) (name : List ℕ)
+        (priority : ℕ) → At w.clients i x → ClientsStand w → HappensOpen w i x name priority new
+        → HeldAt kept w k → HeldAt kept new k }
+    ensures handed_out { (kept : List ℕ) (w new : World) (k : ℕ) (x : ClientSide) (number : ℕ)
+        (meant : Intent) (line : Option Outcome → Line)
+        → HappensHandingOut w x number meant line new → HeldAt kept w k → HeldAt kept new k }
+    ensures post { (kept : List ℕ) (w new : World) (i k : ℕ) (y : ServerSide) (name : List ℕ)
+        (e : Elements) (mask : ℕ) → HappensPost w i y name e mask new → HeldAt kept w k
+        → HeldAt kept new k }
+    ensures add { (kept : List ℕ) (w new : World) (i k : ℕ) (y : ServerSide) (r : RecordState)
+        → HappensAdd w i y r new → HeldAt kept w k → HeldAt kept new k }
+    ensures server_restart { (kept : List ℕ) (w new : World) (i k : ℕ) (y : ServerSide)
+        → HappensServerRestart w i y new → HeldAt kept w k → HeldAt kept new k }
+{}
