@@ -1,5 +1,5 @@
 -- Every event, and every run.
-use Rattle.std.proofs.Common.{ℕ, suc, inl, inr, List, [], ◌∷◌, length, Option, Some, refl, sym, ap, subst}
+use Rattle.std.proofs.Common.{◌≡◌, ◌⊎◌, ℕ, suc, inl, inr, List, [], ◌∷◌, length, Option, Some, refl, sym, ap, subst}
 use Rattle.std.specs.List.{FoldsTo}
 use Rattle.ca_text.specs.Place.{At}
 use Rattle.ca_model.specs.History.{Collected, GaveUp}
@@ -15,6 +15,10 @@ use Rattle.ca_laws_writes.proofs.HappensClient.{accept-keeps, begun-frame, clear
 use Rattle.ca_laws_writes.proofs.HappensPost.{cut-keeps, finish-keeps, post-keeps, pump-keeps, remove-keeps}
 use Rattle.ca_laws_writes.proofs.HappensStep.{step-keeps}
 use Rattle.ca_laws_writes.proofs.Lists.{none_at}
+use Rattle.ca_laws_writes.specs.Says.{AllNumbered, AreNumbered, Says}
+use Rattle.ca_laws_writes.proofs.Says.{Grew, says-grow}
+use Rattle.ca_laws_writes.proofs.Grown.{accept-grew, add-grew, cut-grew, down-grew, grew-by, post-grew, pump-grew, remove-grew, restart-grew, up-grew}
+use Rattle.ca_laws_writes.proofs.Replied.{finish-grew, step-grew-by}
 
 ticks-frame : (moment : ℕ) (w : World) (is : List ℕ) (new : World) → TicksAll moment w is new → Frame w new
 ticks-frame moment w [] new same = frame-self w new (ap (λ (z : World). z.servers) (sym same)) (ap (λ (z : World). z.server_logs) (sym same)) (ap (λ (z : World). z.circuits) (sym same))
@@ -83,3 +87,62 @@ stops-sound s mid stopped w stops h = subst (λ (z : World). Sound s z) (sym sto
 
 pub run-sound : (s : Setting) (es : List Event) (stopped : Option Event) (w : World) → IsSetting s → Runs s es stopped w → AllTakeSent (opening s) es → Sound s w
 run-sound s es stopped w ok (mid, folds, stops) t = stops-sound s mid stopped w stops (events-sound s es (opening s) mid ok folds t (opening-sound s ok))
+
+-- ---- what replies say
+
+leaves-grew : (s : Setting) (w new : World) (e : Event) → TakesSent w → AreNumbered w → (at : CanBe w e) → Leaves w e at new → Sound s w → (new ≡ w) ⊎ Grew w new
+leaves-grew s w new (event.Open i name priority) t u at l h = inr (grew-by w new new (open-frame w new i at.x name priority l) refl refl)
+leaves-grew s w new (event.Clear i c) t u at l h = inr (grew-by w new new (clear-frame w new i at.x c at.h l) refl refl)
+leaves-grew s w new (event.Read i c data_type count) t u at l h = inr (grew-by w new new (read-frame w new i at.x c at.h data_type count l) refl refl)
+leaves-grew s w new (event.Write i c e) t u at l h = inr (grew-by w new new (write-frame w new i at.x c at.h e l) refl refl)
+leaves-grew s w new (event.WriteNotify i c e) t u at l h = inr (grew-by w new new (put-frame w new i at.x c at.h e l) refl refl)
+leaves-grew s w new (event.Subscribe i c data_type count mask) t u at l h = inr (grew-by w new new (subscribe-frame w new i at.x c at.h data_type count mask l) refl refl)
+leaves-grew s w new (event.Unsubscribe i n) t u at l h = inr (grew-by w new new (unsubscribe-frame w new i at.x at.s l) refl refl)
+leaves-grew s w new (event.Collect i r) t u at l h = inr (grew-by w new new (handing-frame w new at.x r at.q.1 (Collected r) l) refl refl)
+leaves-grew s w new (event.GiveUp i r) t u at l h = inr (grew-by w new new (handing-frame w new at.x r at.q.1 (GaveUp r) l) refl refl)
+leaves-grew s w new (event.ClientDatagram i from bytes) t u at l h = inr (grew-by w new new (datagram-frame w new i at.x from bytes l) refl refl)
+leaves-grew s w new (event.ServerDatagram i from bytes) t u at l h = inl l.2
+leaves-grew s w new (event.Accept i) t u at l h = accept-grew w new i at.x at.v l
+leaves-grew s w new (event.Up k n) t u at l h = inr (up-grew w new k n at.0.j at.0.x at.0.y at.0.joins.at l)
+leaves-grew s w new (event.Down k n) t u at l h = inr (down-grew w new k n at.0.j at.0.x at.0.y at.0.joins.at l)
+leaves-grew s w new (event.ServerStep k) t u at l h = step-grew-by s w new k at.j at.y l.0 at.joins.at at.joins.server at.is_open t h l.1
+leaves-grew s w new (event.ClientStep k) t u at l h = inr (grew-by w new new (hear-frame w new k at.j at.x at.joins.at l) refl refl)
+leaves-grew s w new (event.Pump k) t u at l h = inr (pump-grew w new k at.j at.y at.joins.at at.joins.server at.is_open u l)
+leaves-grew s w new (event.CutClient k) t u at l h = inr (grew-by w new new (cut-frame w new k at.j at.x at.joins.at l) refl refl)
+leaves-grew s w new (event.CutServer k) t u at l h = inr (cut-grew w new k at.j at.y l)
+leaves-grew s w new (event.ClientRestart i) t u at l h = inr (grew-by w new new (begun-frame w new i at.x l) refl refl)
+leaves-grew s w new (event.ServerRestart i) t u at l h = inr (restart-grew w new i at.y l)
+leaves-grew s w new (event.Post i name e mask) t u at l h = inr (post-grew w new i at.y name e mask l)
+leaves-grew s w new (event.Finish i name) t u at l h = finish-grew s w new i at.y name at.at h l
+leaves-grew s w new (event.Remove i name) t u at l h = remove-grew w new i at.y name l
+leaves-grew s w new (event.Add i r) t u at l h = add-grew w new i at.y r l
+leaves-grew s w new (event.Tick moment) t u at (mid, ticks, is) h =
+    inr (grew-by w mid new (ticks-frame moment w (clients_below (length w.clients)) mid ticks) (ap (λ (z : World). z.server_logs) is) (ap (λ (z : World). z.circuits) is))
+
+pub event-says : (s : Setting) (w new : World) (e : Event) → IsSetting s → TakesSent w → AreNumbered w → Happens w e new → Sound s w → Says w → Says new
+event-says s w new e ok t u happens h says = elim (leaves-grew s w new e t u happens.0 happens.1 h) [
+  | inl same ↦ subst (λ (z : World). Says z) (sym same) says
+  | inr grew ↦ says-grow s w new h (event-sound s w new e ok t happens h) grew says
+]
+
+pub opening-says : (s : Setting) → Says (opening s)
+opening-says s = record { so = λ n c y at. absurd (none_at n c at); about = λ n i c t at. absurd (none_at n c at) }
+
+events-says : (s : Setting) (es : List Event) (w new : World) → IsSetting s → FoldsTo Happens w es new → AllTakeSent w es → AllNumbered w es → Sound s w → Says w → Says new
+events-says s [] w new ok same t u h says = subst (λ (z : World). Says z) same says
+events-says s (e ∷ es) w new ok (mid, one, rest) t u h says =
+    events-says s es mid new ok rest (λ n v folds. t (suc n) v (mid, one, folds)) (λ n v folds. u (suc n) v (mid, one, folds)) (event-sound s w mid e ok (t 0 w refl) one h)
+    (event-says s w mid e ok (t 0 w refl) (u 0 w refl) one h says)
+
+stops-says : (s : Setting) (mid : World) (stopped : Option Event) (w : World) → StopsAt mid stopped w → Sound s mid → Says mid → Says w
+stops-says s mid (Some (event.Tick moment)) w stops h says = elim stops [
+  | inl same ↦ subst (λ (z : World). Says z) (sym same) says
+  | inr ticked ↦
+      let f = ticks-frame moment mid (clients_below ticked.0) w ticked.3 in
+      says-grow s mid w h (frame-keeps s mid w f h) (grew-by mid w w f refl refl) says
+]
+stops-says s mid stopped w stops h says = subst (λ (z : World). Says z) (sym stops) says
+
+pub run-says : (s : Setting) (es : List Event) (stopped : Option Event) (w : World) → IsSetting s → Runs s es stopped w → AllTakeSent (opening s) es → AllNumbered (opening s) es → Says w
+run-says s es stopped w ok (mid, folds, stops) t u =
+    stops-says s mid stopped w stops (events-sound s es (opening s) mid ok folds t (opening-sound s ok)) (events-says s es (opening s) mid ok folds t u (opening-sound s ok) (opening-says s))

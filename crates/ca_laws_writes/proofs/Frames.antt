@@ -20,12 +20,13 @@ pub record Goes (c d : Joined) : Type 0 where
   pub later : Later c d
   pub is_open : d.lists.server_open ≡ c.lists.server_open
   pub handled : d.lists.handled ≡ c.lists.handled
+  pub down : d.lists.down ≡ c.lists.down
 
 pub goes-self : (c : Joined) → Goes c c
-goes-self c = record { later = later-self c; is_open = refl; handled = refl }
+goes-self c = record { later = later-self c; is_open = refl; handled = refl; down = refl }
 
-pub goes-same : (c d : Joined) → SameEnds c d → Goes c d
-goes-same c d s = record { later = same-later c d s; is_open = s.is_open; handled = s.handled }
+pub goes-same : (c d : Joined) → SameEnds c d → d.lists.down ≡ c.lists.down → Goes c d
+goes-same c d s down = record { later = same-later c d s; is_open = s.is_open; handled = s.handled; down = down }
 
 pub later-then : (a b c : Joined) → Later a b → Later b c → Later a c
 later-then a b c y z = record {
@@ -38,7 +39,7 @@ later-then a b c y z = record {
 }
 
 pub goes-then : (a b c : Joined) → Goes a b → Goes b c → Goes a c
-goes-then a b c f g = record { later = later-then a b c f.later g.later; is_open = g.is_open ∙ f.is_open; handled = g.handled ∙ f.handled }
+goes-then a b c f g = record { later = later-then a b c f.later g.later; is_open = g.is_open ∙ f.is_open; handled = g.handled ∙ f.handled; down = g.down ∙ f.down }
 
 -- Servers and their logs stay, and each circuit goes on.
 pub record Frame (w new : World) : Type 0 where
@@ -100,6 +101,7 @@ sent-goes i n sent c = record {
   };
   is_open = refl;
   handled = refl;
+  down = refl;
 }
 
 pub frame-after : (i : ℕ) (x : ClientSide) (spoken : Names) (o : Outcomes) (w : World) → Frame w (client_after i x spoken o w)
@@ -110,7 +112,7 @@ pub frame-lines : (life : ℕ) (lines : List Line) (w : World) → Frame w (with
 frame-lines life lines w = frame-self w (with_lines life lines w) refl refl refl
 
 pub closed-goes : (left : List ℕ) (c : Joined) → Goes c (client_closed left c)
-closed-goes left c = goes-same c (client_closed left c) (record { server = refl; handle = refl; life = refl; up = refl; handled = refl; is_open = refl })
+closed-goes left c = goes-same c (client_closed left c) (record { server = refl; handle = refl; life = refl; up = refl; handled = refl; is_open = refl }) refl
 
 -- ---- what that keeps
 

@@ -108,7 +108,7 @@ life-later old new server life y cs rs n later a = record {
 -- ---- each write once, over all lives
 
 -- how an applied write came: now, or when it came to wait
-came-as : (cs : List Joined) (life : ℕ) (y : List Entry) (i n k r : ℕ) (v : Stored) (b : Bool) → Once (CameOn cs life) (LostOn cs) y → At y i (Applied n k r v b) → (e : ℕ) × CameOn cs life (record { circuit = n; place = k }) e v.value
+pub came-as : (cs : List Joined) (life : ℕ) (y : List Entry) (i n k r : ℕ) (v : Stored) (b : Bool) → Once (CameOn cs life) (LostOn cs) y → At y i (Applied n k r v b) → (e : ℕ) × CameOn cs life (record { circuit = n; place = k }) e v.value
 came-as cs life y i n k r v b once at =
     elim (once.own i n k r v b at) [
       | inl came ↦ (i, came)

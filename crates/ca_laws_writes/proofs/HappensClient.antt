@@ -29,7 +29,7 @@ same-frame : (w new v : World) → new ≡ v → v.servers ≡ w.servers → v.s
 same-frame w new v is servers logs circuits = subst (λ (z : World). Frame w z) (sym is) (frame-self w v servers logs circuits)
 
 -- its messages go up
-sent-frame : (w new : World) (i : ℕ) (n : Names) (sent : List Sending) → new.servers ≡ w.servers → new.server_logs ≡ w.server_logs → new.circuits ≡ (with_sent i n sent w).circuits → Frame w new
+pub sent-frame : (w new : World) (i : ℕ) (n : Names) (sent : List Sending) → new.servers ≡ w.servers → new.server_logs ≡ w.server_logs → new.circuits ≡ (with_sent i n sent w).circuits → Frame w new
 sent-frame w new i n sent servers logs circuits =
     frame-map w new (λ (c : Joined). record c { lists = record c.lists { up = c.lists.up ++ sent_on i n sent c } }) servers logs circuits (sent-goes i n sent)
 
@@ -85,7 +85,7 @@ ended-frame w new k j x c core at is =
     (sent-frame mid new j.client x.names [] (ap (λ (z : World). z.servers) is) (ap (λ (z : World). z.server_logs) is) (ap (λ (z : World). z.circuits) is))
 
 heard-goes : (step : Step) (j : Joined) → Goes j (heard_in step j)
-heard-goes step j = goes-same j (heard_in step j) (record { server = refl; handle = refl; life = refl; up = refl; handled = refl; is_open = refl })
+heard-goes step j = goes-same j (heard_in step j) (record { server = refl; handle = refl; life = refl; up = refl; handled = refl; is_open = refl }) refl
 
 pub cut-frame : (w new : World) (k : ℕ) (j : Joined) (x : ClientSide) → At w.circuits k j → HappensCutClient w k j x new → Frame w new
 cut-frame w new k j x at (c, sent, core, cuts, is) = ended-frame w new k j x c core at is
@@ -130,25 +130,30 @@ tick-frame moment w i new (x, at, t, sent, core, ticks, is) =
 
 -- ---- bytes move
 
+pub up-frame : (w : World) (k n : ℕ) (j : Joined) (x : ClientSide) → At w.circuits k j → Frame w (up_taken k n j x w)
+up-frame w k n j x at = taken j.lists.client_open
+  where
+    taken : (b : Bool) → Frame w (cond b (with_client j.client (record x { core = handed_over j.at_client n x.core }) w) (with_circuit k (record j { left_up = drop n j.left_up }) w))
+    taken true = frame-self w (with_client j.client (record x { core = handed_over j.at_client n x.core }) w) refl refl refl
+    taken false = frame-circuit w k j (record j { left_up = drop n j.left_up }) at (goes-same j (record j { left_up = drop n j.left_up }) (record { server = refl; handle = refl; life = refl; up = refl; handled = refl; is_open = refl }) refl)
+
 pub up-keeps : (s : Setting) (w new : World) (k n : ℕ) (j : Joined) (x : ClientSide) (y : ServerSide) → At w.circuits k j → At w.servers j.server y → HappensUp w k n j x y new → Sound s w → Sound s new
 up-keeps s w new k n j x y at server (core, gives, is) h =
     let mid : World = up_taken k n j x w in
-    let f = taken j.lists.client_open in
+    let f = up-frame w k n j x at in
     let g = gives-stay y.core core j.at_server _ gives in
     subst (λ (z : World). Sound s z) (sym is)
     (core-keeps s mid j.server y core (subst (λ (l : List ServerSide). At l j.server y) (sym f.servers) server) g.0 g.1 (frame-keeps s w mid f h))
-  where
-    taken : (b : Bool) → Frame w (cond b (with_client j.client (record x { core = handed_over j.at_client n x.core }) w) (with_circuit k (record j { left_up = drop n j.left_up }) w))
-    taken true = frame-self w _ refl refl refl
-    taken false = frame-circuit w k j (record j { left_up = drop n j.left_up }) at (goes-same j _ (record { server = refl; handle = refl; life = refl; up = refl; handled = refl; is_open = refl }))
+
+pub left-frame : (w : World) (k n : ℕ) (j : Joined) → At w.circuits k j → Frame w (with_circuit k (record j { left_down = drop n j.left_down }) w)
+left-frame w k n j at = frame-circuit w k j (record j { left_down = drop n j.left_down }) at (goes-same j (record j { left_down = drop n j.left_down }) (record { server = refl; handle = refl; life = refl; up = refl; handled = refl; is_open = refl }) refl)
 
 down-taken : (s : Setting) (w mid : World) (k n : ℕ) (j : Joined) (y : ServerSide) → At w.circuits k j → At w.servers j.server y → DownTaken w k n j y mid → Sound s w → Sound s mid
 down-taken s w mid k n j y at server (inl (opened, (core, sends, is))) h =
     let g = sends-stay y.core core j.at_server n sends in
     subst (λ (z : World). Sound s z) (sym is) (core-keeps s w j.server y core server g.0 g.1 h)
 down-taken s w mid k n j y at server (inr (shut, is)) h =
-    subst (λ (z : World). Sound s z) (sym is)
-    (frame-keeps s w (with_circuit k (record j { left_down = drop n j.left_down }) w) (frame-circuit w k j (record j { left_down = drop n j.left_down }) at (goes-same j _ (record { server = refl; handle = refl; life = refl; up = refl; handled = refl; is_open = refl }))) h)
+    subst (λ (z : World). Sound s z) (sym is) (frame-keeps s w (with_circuit k (record j { left_down = drop n j.left_down }) w) (left-frame w k n j at) h)
 
 pub down-keeps : (s : Setting) (w new : World) (k n : ℕ) (j : Joined) (x : ClientSide) (y : ServerSide) → At w.circuits k j → At w.servers j.server y → HappensDown w k n j x y new → Sound s w → Sound s new
 down-keeps s w new k n j x y at server (mid, sent, core, taken, gives, is) h =

@@ -127,7 +127,7 @@ cut-keeps s w new k j y at f h =
     (λ l z there other. there) (y, at) (ends-by-at j.server y.core f.core c.0 c.1) (ends-only w.circuits j.server f.core) refl c.2)
 
 -- updates move numbers of a circuit alone
-stamped-same : (us : List Update) (j : Joined) → SameEnds j (stamped us j)
+pub stamped-same : (us : List Update) (j : Joined) → SameEnds j (stamped us j)
 stamped-same [] j = same-self j
 stamped-same (u ∷ us) j =
     let item : ℕ × Cause = unwrap_or (event.front_number j.queues u.queue) (0, Reply) in

@@ -20,7 +20,8 @@ use Rattle.ca_laws_writes.specs.Taken.{Handling}
 use Rattle.ca_laws_writes.proofs.Cores.{EndsBy, reaches-ends, stay-then}
 use Rattle.ca_laws_writes.proofs.Events.{same-all}
 use Rattle.ca_laws_writes.proofs.Seats.{ends-agree, ends-by-at}
-use Rattle.ca_laws_writes.proofs.Stepped.{sound-step}
+use Rattle.ca_laws_writes.proofs.Stepped.{sound-step, step-grew}
+use Rattle.ca_laws_writes.proofs.Says.{Grew}
 use Rattle.ca_laws_writes.proofs.Unsaid.{lacks-keeps}
 use Rattle.ca_laws_writes.proofs.Closing.{bad-keeps, next-stay}
 
@@ -54,6 +55,40 @@ handled-keeps s w new k j y at server opened takes f h =
     (subst (λ (m : Fields). Records y.core j.at_server e m next.action made.recorded) (sym sent.2) made.records)
     (reaches.1 ∙ ap (λ (x : Server). withdrawn (λ (p : Put). gone p.circuit) x.records) made.leaves)
     h.writes s h gone by)
+  where
+    stays-own : ((is_some (ends_by j.server f.core j) ≡ true) × (f.steps.1 j.at_server ≡ true)) ⊎ ((is_some (ends_by j.server f.core j) ≡ false) × (f.steps.1 j.at_server ≡ false) × ((x : ServerEnd) × HasEnd f.core j.at_server x)) → f.steps.1 j.at_server ≡ false → is_some (ends_by j.server f.core j) ≡ false
+    stays-own (inl over) none = absurd (let t : true ≡ false = sym over.1 ∙ none in cc)
+    stays-own (inr stays) none = stays.0
+
+-- and what its server told
+pub handled-grew : (s : Setting) (w new : World) (k : ℕ) (j : Joined) (y : ServerSide) → At w.circuits k j → At w.servers j.server y → j.lists.server_open ≡ true → TakesSent w → StepHandles w k j y new → Sound s w → Grew w new
+handled-grew s w new k j y at server opened takes f h =
+    let next : Next y.core j.at_server f.e = f.steps.0 in
+    let gone : Handle → Bool = f.steps.1 in
+    let reaches = reaches-ends next.action gone next.after f.core f.steps.3 in
+    let by : EndsBy y.core f.core gone = stay-then y.core next.after f.core gone (next-stay y.core j.at_server f.e f.has next) reaches.0 in
+    let sent = takes k j y f.e next.m next.rest at server opened f.has next.takes in
+    let e : ServerEnd = record f.e { link = with_rest next.rest f.e.link } in
+    let ends = ends-by-at j.server y.core f.core gone by in
+    let seat = h.seated.each k j at opened in
+    let own : seat.y ≡ y = At-one w.servers j.server seat.y y seat.at server in
+    let made = next.handles in
+    let handling : Handling w k j y f.core (λ (p : Put). gone p.circuit) sent.0 = record {
+      at = at;
+      server = server;
+      still_open = opened;
+      joins = seat.joins ∙ ap (λ (z : ServerSide). z.life) own;
+      sent = sent.1;
+      one = λ n c on same is_open handle. h.seated.one n k c j on at same is_open opened handle;
+      agree = ends-agree w w j.server y (record y { core = reported f.core }) (ends_by j.server f.core) f.core gone server refl refl (same-all w.circuits).1 (λ l z there other. there) (y, server) ends h.seated;
+      stays = stays-own (ends j f.e refl opened f.has) f.steps.2;
+    } in
+    subst (λ (z : World). Grew w z) (sym f.leaves)
+    (step-grew w k j y e sent.0 next.replies next.action made.recorded f.core (λ (p : Put). gone p.circuit) handling
+    (subst (λ (m : Fields). Due (knows y.core e) m next.replies next.action) (sym sent.2) made.due)
+    (subst (λ (m : Fields). Records y.core j.at_server e m next.action made.recorded) (sym sent.2) made.records)
+    (reaches.1 ∙ ap (λ (x : Server). withdrawn (λ (p : Put). gone p.circuit) x.records) made.leaves)
+    h.writes)
   where
     stays-own : ((is_some (ends_by j.server f.core j) ≡ true) × (f.steps.1 j.at_server ≡ true)) ⊎ ((is_some (ends_by j.server f.core j) ≡ false) × (f.steps.1 j.at_server ≡ false) × ((x : ServerEnd) × HasEnd f.core j.at_server x)) → f.steps.1 j.at_server ≡ false → is_some (ends_by j.server f.core j) ≡ false
     stays-own (inl over) none = absurd (let t : true ≡ false = sym over.1 ∙ none in cc)

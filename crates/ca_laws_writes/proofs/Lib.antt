@@ -26,4 +26,8 @@ pub mod Unsaid
 pub mod HappensStep
 pub mod HappensAdd
 pub mod HappensClient
+pub mod Says
+pub mod Grown
+pub mod Replied
 pub mod Every
+pub mod Noticed

@@ -32,7 +32,7 @@ use Rattle.ca_laws_writes.proofs.Lists.{beside-left, beside-right, both-at}
 use Rattle.ca_laws_writes.proofs.Lives.{agree-applied, agree-busied, agree-waits, number-of}
 
 -- the record that a server knows under a name
-known-one : (cs : List Record) (name : List ℕ) (known : KnownRecord) → option_map known_record (record_named cs name) ≡ Some known → (c : Record) × (record_named cs name ≡ Some c) × (known_record c ≡ known)
+pub known-one : (cs : List Record) (name : List ℕ) (known : KnownRecord) → option_map known_record (record_named cs name) ≡ Some known → (c : Record) × (record_named cs name ≡ Some c) × (known_record c ≡ known)
 known-one cs name known is = go (record_named cs name) refl is
   where
     go : (o : Option Record) → record_named cs name ≡ o → option_map known_record o ≡ Some known → (c : Record) × (record_named cs name ≡ Some c) × (known_record c ≡ known)

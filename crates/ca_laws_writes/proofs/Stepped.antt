@@ -1,5 +1,5 @@
 -- A step of a server's end in a world: its message is handled, circuits end, and the step is noted.
-use Rattle.std.proofs.Common.{◌≡◌, ℕ, ◌+◌, ◌<◌, ◌≤◌, ◌⊎◌, inl, inr, Bool, true, false, not, List, [], ◌∷◌, ◌++◌, length, Option, Some, refl, sym, ap, subst, ◌∙◌, append_assoc, arith}
+use Rattle.std.proofs.Common.{◌≡◌, ℕ, ◌+◌, ◌<◌, ◌≤◌, ◌⊎◌, inl, inr, Bool, true, false, not, List, [], ◌∷◌, ◌++◌, length, Option, Some, None, refl, sym, ap, subst, ◌∙◌, append_assoc, arith}
 use Rattle.std.specs.Prelude.{filter, is_some, map, option_map, slice_set, unwrap_or}
 use Rattle.std.specs.List.{flat_map}
 use Rattle.std.proofs.lemmas.List.{length-append}
@@ -37,6 +37,20 @@ use Rattle.ca_laws_writes.proofs.Seats.{ending-lists, ends-by-at, seated-ended, 
 use Rattle.ca_laws_writes.proofs.Frames.{seated-like}
 use Rattle.ca_laws_writes.specs.Seats.{Seated, Sound}
 use Rattle.ca_laws_writes.proofs.Cores.{EndsBy}
+use Rattle.ca_model.specs.Due.{KnownRecord}
+use Rattle.ca_model.specs.Due as action
+use Rattle.ca_model.specs.ServerSteps.{stored_now}
+use Rattle.ca_model.specs.History.{Told}
+use Rattle.ca_model_world.specs.ServerEvents.{about}
+use Rattle.ca_laws_writes.specs.Lives.{AreSlow, SaysSo}
+use Rattle.ca_laws_writes.proofs.Events.{found, same-later, same-trans}
+use Rattle.ca_laws_writes.proofs.Frames.{later-then}
+use Rattle.ca_laws_writes.proofs.Grown.{Quiet, ending-down, grew-ended, numbers-after-down, quiet-down, quiet-then, set-back, write-numbers-down}
+use Rattle.ca_laws_writes.proofs.Says.{Grew, IsNew, logs-grown}
+use Rattle.ca_laws_writes.proofs.Step.{known-one}
+use Rattle.ca_laws_writes.proofs.Told.{due-done, due-failed}
+use Rattle.ca_laws_writes.proofs.Lists.{none_at}
+use Rattle.ca_text.proofs.Places.{At-after}
 
 -- ---- the step
 
@@ -391,3 +405,108 @@ module _ (w : World) (k : ℕ) (j : Joined) (y : ServerSide) (e : ServerEnd) (s 
               λ m z on. inl (subst (λ (o : List Step). At o m z) (ap (λ (z : Joined). z.lists.handled) u.2 ∙ l.1 ∙ b.2.handled) on),
             )
       ]
+
+  -- ---- its replies
+
+  -- only slow records are busy
+  slow-known : AreSlow (knows y.core e)
+  slow-known name r named busy =
+      let c = known-one y.core.records name r named in
+      let found_it = found (IsPutOf w.circuits i) own.log y.core.records y.records name c.0 own.life.each c.1 in
+      let b = some-put c.0.busy (ap (λ (z : KnownRecord). z.busy) c.2 ∙ busy) in
+      ap (λ (z : KnownRecord). z.state.slow) (sym c.2) ∙ found_it.agrees.slow b.0 b.1
+    where
+      some-put : (o : Option Put) → is_some o ≡ true → (b : Put) × (o ≡ Some b)
+      some-put None is_it = absurd cc
+      some-put (Some b) is_it = (b, refl)
+
+  -- the log did not tell of the message's place
+  untold : (x : Entry) → In own.log x → write_in x ≡ Some p → ⊥
+  untold x told tells = (let lt : length j.lists.handled < length j.lists.handled = h.handled y.life own.log x p own.at told tells j f.at f.still_open in omega (arith, lt))
+
+  -- if nothing is done, it does not tell of it now
+  still-untold : did ≡ action.Nothing → (x : Entry) → In (own.log ++ (L ++ G)) x → write_in x ≡ Some p → ⊥
+  still-untold nothing x told tells = elim (At-parts own.log (L ++ G) told.0 x told.1) [
+    | inl old ↦ untold x (told.0, old) tells
+    | inr new ↦ elim (At-parts L G new.0 x new.2) [
+      | inl first ↦ none_at new.0 x (subst (λ (a : Action). At (logged_by y.core j.at_server p a y.records) new.0 x) nothing first)
+      | inr last ↦
+          let m = At-mapped (λ (z : PutPlace). history.Withdrawn z.circuit z.place) (flat_map (λ (r : RecordSide). filter (λ (z : PutPlace). ends_at ends mid.circuits z.circuit) r.waiting) rs1) last.0 x last.2 in
+          let same : m.0 ≡ p = some_is m.0 p (ap write_in (sym m.2) ∙ tells) in
+          let g = flat-in (λ (r : RecordSide). filter (λ (z : PutPlace). ends_at ends mid.circuits z.circuit) r.waiting) rs1 m.0 (last.0, m.1) in
+          let kept = In-kept (λ (z : PutPlace). ends_at ends mid.circuits z.circuit) g.0.waiting m.0 g.2 in
+          let old : WaitsIn y.records m.0 = subst (λ (a : Action). WaitsIn (records_after y.core j.at_server p a y.records) m.0) nothing (g.0, g.1, kept.0) in
+          let there = beside-right (Agrees (IsPutOf w.circuits i) own.log) y.core.records y.records old.1.0 old.0 own.life.each old.1.1 in
+          let s2 = waits-there (IsPutOf w.circuits i) own.log there.0 old.0 m.0 there.2 old.2 in
+          untold (history.Waits m.0.circuit m.0.place old.0.number s2.1.v) s2.1.came (ap (λ (z : PutPlace). Some z) same)
+    ]
+  ]
+
+  said-so : (r : Fields) → In replies r → SaysSo (own.log ++ (L ++ G)) p s r
+  said-so r among = record {
+    done = λ asks means.
+        let d2 = due-done (knows y.core e) s.message replies did r slow-known due asks among means in
+        let entry : Entry = history.Applied p.circuit p.place (event.number_of d2.0 y.records) (stored_now y.core d2.1) false in (
+          event.number_of d2.0 y.records,
+          stored_now y.core d2.1,
+          false,
+          subst (λ (a : Action). In (own.log ++ (logged_by y.core j.at_server p a y.records ++ G)) entry) (sym d2.2) (length own.log + 0, At-after own.log (entry ∷ G) 0 entry refl),
+        );
+    failed = λ status writes means x told tells. still-untold (due-failed (knows y.core e) s.message replies did r status due writes among means) x told tells;
+  }
+
+  mid-back : (n : ℕ) (x : Joined) → At mid.circuits n x → (c : Joined) × At w.circuits n c × SameEnds c x × Quiet c x
+  mid-back n x at =
+      let a = At-mapped (write_numbers i y.core did) (slice_set w.circuits k (numbers_after p.place did j)) n x at in
+      let b = set-back w k j (numbers_after p.place did j) f.at (numbers-after-same p.place did j) (quiet-down j (numbers_after p.place did j) (numbers-after-down p.place did j)) n a.0 a.1 in
+      let c = write-numbers-same i y.core did a.0 in (
+        b.0,
+        b.1,
+        subst (λ (z : Joined). SameEnds b.0 z) (sym a.2) (same-trans b.0 a.0 (write_numbers i y.core did a.0) b.2 c),
+        subst (λ (z : Joined). Quiet b.0 z) (sym a.2) (quiet-then b.0 a.0 (write_numbers i y.core did a.0) b.3 (quiet-down a.0 (write_numbers i y.core did a.0) (write-numbers-down i y.core did a.0))),
+      )
+
+  cE-down : cE.lists.down ≡ j.lists.down
+  cE-down = ending-down ends c1 ∙ write-numbers-down i y.core did (numbers_after p.place did j) ∙ numbers-after-down p.place did j
+
+  mine-new : (m : ℕ) (t : Told) → At d.lists.down m t → t.cause ≡ history.Reply → At j.lists.down m t ⊎ IsNew V k d t
+  mine-new m t told reply = elim (At-parts cE.lists.down (about p.place history.Reply replies) m t told) [
+    | inl old ↦ inl (subst (λ (l : List Told). At l m t) cE-down old)
+    | inr new ↦
+        let a = At-mapped (λ (q : Fields). let u : Told = record { message = q; place = p.place; cause = history.Reply } in u) replies new.0 t new.2 in
+        let so : SaysSo (own.log ++ (L ++ G)) p s a.0 = said-so a.0 (new.0, a.1) in
+        let len : length d.lists.handled ≡ length j.lists.handled + 1 = ap (λ (l : List Step). length l) handled-d ∙ length-append j.lists.handled (step ∷ []) in
+        let joined : (own.log ++ L) ++ G ≡ own.log ++ (L ++ G) = append_assoc own.log L G in
+        inr (subst (λ (z : Told). IsNew V k d z) (sym a.2) (record {
+          says = λ z x log sent.
+              let life : d.lists.server ≡ y.life = later-d.life ∙ f.joins in
+              let z_is : own.log ++ (L ++ G) ≡ z = At-one V.server_logs y.life (own.log ++ (L ++ G)) z (subst (λ (o : List Entry). At V.server_logs y.life o) joined logged-W) (subst (λ (l : ℕ). At V.server_logs l z) life log) in
+              let x_is : s ≡ x = At-one d.lists.up p.place s x (later-d.up p.place s f.sent) sent in
+              subst (λ (o : List Entry). SaysSo o p x a.0) z_is (subst (λ (o : Sent). SaysSo (own.log ++ (L ++ G)) p o a.0) x_is so);
+          about = ((s, later-d.up p.place s f.sent), inl (omega (arith, len)));
+        }))
+  ]
+
+  -- Logs grew, and each reply was there, or says what is so.
+  pub step-grew : Grew w (noted k j y replies w (server_after i (side_of i y mid) ends core mid))
+  step-grew = subst (λ (x : World). Grew w x) (sym step-is) (record {
+    logs = (grew-ended w mid i side ends core (logs-grown w.server_logs y.life L) mid-back).logs;
+    back = λ n x at. elim (At-set W.circuits k d n x at) [
+      | inl new ↦ inl (record {
+        c = j;
+        at = subst (λ (m : ℕ). At w.circuits m j) (sym new.0) f.at;
+        later = subst (λ (z : Joined). Later j z) (sym new.1) later-d;
+        replies = λ m t told reply.
+            subst (λ (q : ℕ × Joined). At j.lists.down m t ⊎ IsNew V q.0 q.1 t) (λ l. (sym new.0 l, sym new.1 l)) (mine-new m t (subst (λ (z : Joined). At z.lists.down m t) new.1 told) reply);
+      })
+      | inr old ↦
+          let u = At-mapped (ending ends) mid.circuits n x old.0 in
+          let b = mid-back n u.0 u.1 in
+          inl (record {
+            c = b.0;
+            at = b.1;
+            later = subst (λ (z : Joined). Later b.0 z) (sym u.2) (later-then b.0 u.0 (ending ends u.0) (same-later b.0 u.0 b.2) (ending-later ends u.0));
+            replies = λ m t told reply. inl (b.3 m t (subst (λ (l : List Told). At l m t) (ap (λ (z : Joined). z.lists.down) u.2 ∙ ending-down ends u.0) told) reply);
+          })
+    ];
+  })

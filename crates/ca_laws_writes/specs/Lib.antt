@@ -5,3 +5,4 @@ pub mod Lives
 pub mod Moves
 pub mod Taken
 pub mod Seats
+pub mod Says

@@ -10,4 +10,7 @@ pub use laws::{
     ends_of_circuits_withdraw_puts, events_at_a_server_keep_writes, no_write_is_applied_twice,
     records_agree_with_their_log, what_a_reply_says_stays_so, writes_stay_as_a_world_goes_on,
 };
-pub use runs::each_event_keeps_writes;
+pub use runs::{
+    callers_are_told_what_became_of_writes, each_event_keeps_what_replies_say,
+    each_event_keeps_writes, sound_writes_are_applied_once,
+};
