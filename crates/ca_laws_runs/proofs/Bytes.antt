@@ -81,7 +81,7 @@ keeps-client-end kept w k l j x c at there open_it apart held =
         | inr old ↦ old.1 (sym (apart k l j a at old.0 (sym mine) open_it o same))
       ])
     ])) holds))
-    (circuit-changed kept w k l j closed at refl (λ n z h. closed-held kept n z z j c.left h) held)
+    (circuit-changed kept w k l j closed at refl (λ n z h. closed-held kept n n z z j c.left h) held)
 
 pub keeps-cut-client : (kept : List ℕ) (w new : World) (k l : ℕ) (j : Joined) (x : ClientSide) → At w.circuits k j → At w.clients j.client x → j.lists.client_open ≡ true → HaveHandles w → HappensCutClient w k j x new → HeldAt kept w l → HeldAt kept new l
 keeps-cut-client kept w new k l j x at there open_it apart happens held =

@@ -131,7 +131,7 @@ write-held kept i n x y j h e sent writes held mine =
     let asked : is_on_in is_asked j.at_client found.0 ≡ true =
     subst (λ (k : Handle). is_on_in is_asked k found.0 ≡ true) same (is-on is_asked l.circuit found.0 (Live l.native l.rights) found.2) in
     let cids : (k : ℕ) (r : Sent) → At j.lists.up k r → r.intent ≡ history.On (channel_number n h) history.Create → r.message.p1 ≡ wire_of h =
-    λ k r at is. (let c = held.cids k (channel_number n h) r at is in c.2 ∙ ap wire_of (channel-named n h c.0 c.1)) in (
+    λ k r at is. (let c = held.cids open_it k (channel_number n h) r at is in c.2 ∙ ap wire_of (channel-named n h c.0 c.1)) in (
       write-may (Awaits j.lists kept) j.at_client n x j.lists (stamped n s) h n.writes refl refl found.0 found.1 asked cids holds,
       write-keeps (Awaits j.lists kept) j.at_client n x j.lists (stamped n s) h n.writes refl refl found.0 found.1 asked cids holds (s ∷ []),
     ))

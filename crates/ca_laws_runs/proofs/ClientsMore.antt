@@ -58,7 +58,7 @@ keeps-beacon from m x = record {
 becomes-keeps : (x z : Client) (e : Effect) → e ≡ becomes z → Keeps x z → Keeps x e.core
 becomes-keeps x z e is keeps = subst (λ (w : Effect). Keeps x w.core) (sym is) keeps
 
-received-keeps : (from : Address) (x : Client) (m : Fields) (e : Effect) → Receives from x m e → Keeps x e.core
+pub received-keeps : (from : Address) (x : Client) (m : Fields) (e : Effect) → Receives from x m e → Keeps x e.core
 received-keeps from x m e (ends.Search is finds) = keeps-finds x (found_at from m) m.p2 (searched_by m.p2 x) e refl finds
 received-keeps from x m e (ends.Beacon is port does) = becomes-keeps x (beacon_heard from m x) e does (keeps-beacon from m x)
 received-keeps from x m e (ends.Other not_search not_beacon does) = becomes-keeps x x e does (keeps-itself x)

@@ -26,3 +26,4 @@ pub mod ServersKeep
 pub mod Events
 pub mod Known
 pub mod OtherEvents
+pub mod Restarts

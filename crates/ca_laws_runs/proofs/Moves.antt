@@ -111,9 +111,9 @@ flows-closed kept c f =
     record { within = f.within; early = f.early; about = f.about; asked = f.asked; own = f.own; concerns = f.concerns; next = f.next; last = f.last; over = f.over }
 
 -- the client's end of this circuit has ended: nothing need be held of it
-pub closed-held : (kept : List ℕ) (n : Names) (x y : Client) (j : Joined) (left : List ℕ) → HeldOn kept n x j → HeldOn kept n y (client_closed left j)
-closed-held kept n x y j left held =
-    record { flows = flows-closed kept j.lists held.flows; cids = held.cids; holds = λ o. absurd (both_ways false refl o) }
+pub closed-held : (kept : List ℕ) (n m : Names) (x y : Client) (j : Joined) (left : List ℕ) → HeldOn kept n x j → HeldOn kept m y (client_closed left j)
+closed-held kept n m x y j left held =
+    record { flows = flows-closed kept j.lists held.flows; cids = λ o. absurd (both_ways false refl o); holds = λ o. absurd (both_ways false refl o) }
 
 -- and of the others what was held
 pub others-held : (kept : List ℕ) (n : Names) (x : Client) (j : Joined) (c : Handle) → (j.lists.client_open ≡ true → same_handle c j.at_client ≡ false) → HeldOn kept n x j → HeldOn kept n (ended c x) j

@@ -1,20 +1,19 @@
 -- Events that add nothing to a circuit's lists, and those of a server that end ends: what is held of each circuit stays so.
-use Rattle.std.proofs.Common.{◌≡◌, ℕ, suc, ◌+◌, inl, inr, Bool, true, false, List, [], ◌∷◌, ◌++◌, length, Option, Some, None, refl, sym, ap, ◌∙◌, subst}
+use Rattle.std.proofs.Common.{◌≡◌, ℕ, inl, inr, List, [], ◌∷◌, ◌++◌, length, Option, Some, refl, sym, ap, ◌∙◌, subst}
 use Rattle.std.specs.Prelude.{map}
 use Rattle.ca_text.specs.Place.{At}
 use Rattle.ca_text.proofs.Places.{At-append, At-map}
 use Rattle.ca_arena.specs.declared.handle.Handle.{Handle}
 use Rattle.ca_dbr.specs.Elements.{Elements}
 use Rattle.ca_dbr.specs.declared.value.Outcome.{Outcome}
-use Rattle.ca_ids.specs.Table.{MayGive, Table, same_handle, with_held}
+use Rattle.ca_ids.specs.Table.{MayGive, same_handle, with_held}
 use Rattle.ca_records.specs.Record.{RecordState, unset}
-use Rattle.ca_requests.specs.Requests.{was_sent_on}
 use Rattle.ca_model.specs.Answers.{Sending}
-use Rattle.ca_model.specs.Client.{Channel, Client, Searching, is_on_in, sending}
+use Rattle.ca_model.specs.Client.{Channel, Client, Searching, is_on_in}
 use Rattle.ca_model.specs.ClientCalls.{Opening, opened}
 use Rattle.ca_model.specs.History.{Circuit, Create, Intent, Line, On}
 use Rattle.ca_model.specs.History as history
-use Rattle.ca_model_world.specs.ClientEvents.{HappensHandingOut, HappensOpen, Outcomes, channel_number, meant_by, place_of}
+use Rattle.ca_model_world.specs.ClientEvents.{HappensHandingOut, HappensOpen, Outcomes, place_of}
 use Rattle.ca_model_world.specs.ServerEvents.{HappensAdd, HappensPost, HappensServerRestart, ending, ends_by, ends_untold, numbers_posted, posted_entry}
 use Rattle.ca_model_world.specs.World.{ClientSide, Joined, Names, ServerSide, World, with_entries}
 use Rattle.ca_laws_circuit.specs.Flows.{Awaits}

@@ -46,7 +46,7 @@ pub none-sent-to : (kept : List ℕ) (i : ℕ) (n now : Names) (x y : Client) (j
 none-sent-to kept i n now x y j h keeps stays = go (eqb j.client i && j.lists.client_open)
   where
     as-was : HeldOn kept now y (with_up (j.lists.up ++ []) j)
-    as-was = subst (λ (l : List Sent). HeldOn kept now y (with_up l j)) (sym (append-nil j.lists.up)) (record { flows = h.flows; cids = cids-kept n now j.lists keeps h.cids; holds = λ o. stays o (h.holds o) })
+    as-was = subst (λ (l : List Sent). HeldOn kept now y (with_up l j)) (sym (append-nil j.lists.up)) (record { flows = h.flows; cids = λ o. cids-kept n now j.lists keeps (h.cids o); holds = λ o. stays o (h.holds o) })
 
     go : (b : Bool) → HeldOn kept now y (with_up (j.lists.up ++ cond b [] []) j)
     go true = as-was
@@ -62,14 +62,14 @@ pub one-sent : (kept : List ℕ) (i : ℕ) (n now : Names) (x y : Client) (j : J
 one-sent kept i n now x y j s h mine keeps create near far = go (eqb j.client i && j.lists.client_open) (same_handle s.circuit j.at_client) refl refl
   where
     as-was : (j.lists.client_open ≡ true → Holds (Awaits j.lists kept) j.at_client now y j.lists) → HeldOn kept now y (with_up (j.lists.up ++ []) j)
-    as-was holds = subst (λ (l : List Sent). HeldOn kept now y (with_up l j)) (sym (append-nil j.lists.up)) (record { flows = h.flows; cids = cids-kept n now j.lists keeps h.cids; holds = holds })
+    as-was holds = subst (λ (l : List Sent). HeldOn kept now y (with_up l j)) (sym (append-nil j.lists.up)) (record { flows = h.flows; cids = λ o. cids-kept n now j.lists keeps (h.cids o); holds = holds })
 
     go : (a b : Bool) → (eqb j.client i && j.lists.client_open) ≡ a → same_handle s.circuit j.at_client ≡ b
         → HeldOn kept now y (with_up (j.lists.up ++ cond a (map (stamped now) (cond b (s ∷ []) [])) []) j)
     go true true ours on =
         let open_it : j.lists.client_open ≡ true = (and_parts (eqb j.client i) j.lists.client_open ours).1 in
         let r = near open_it (same-is s.circuit j.at_client on) (h.holds open_it) in
-        record { flows = flows-sent (Awaits j.lists kept) j.lists (stamped now s) r.0 h.flows; cids = cids-more n now j.lists (stamped now s) keeps h.cids create; holds = λ o. r.1 }
+        record { flows = flows-sent (Awaits j.lists kept) j.lists (stamped now s) r.0 h.flows; cids = λ o. cids-more n now j.lists (stamped now s) keeps (h.cids o) create; holds = λ o. r.1 }
     go true false ours off = as-was (λ o. far o off (h.holds o))
     go false b ours on = as-was (λ o.
         absurd (both_ways (eqb j.client i && j.lists.client_open) ours (and_from (eqb j.client i) j.lists.client_open (eq-eqb j.client i mine) o)))

@@ -64,7 +64,7 @@ module _ (kept : List ℕ) (i : ℕ) (n : Names) (x : Client) where
       all : HeldOn kept n (sending did.sends did.z) (with_up (j.lists.up ++ map (stamped n) did.sends) (heard_in g j))
       all = record {
         flows = flows-all-sent (Awaits j.lists kept) (map (stamped n) did.sends) (with_heard g j.lists) r.0 (flows-heard (Awaits j.lists kept) j.lists g now more held.flows);
-        cids = cids-all n (with_heard g j.lists) (map (stamped n) did.sends) held.cids did.no_creates;
+        cids = λ o. cids-all n (with_heard g j.lists) (map (stamped n) did.sends) (held.cids o) did.no_creates;
         holds = λ o. r.1;
       }
 

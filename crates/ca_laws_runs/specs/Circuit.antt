@@ -43,7 +43,7 @@ AreCids n c = (k channel : ℕ) (s : Sent) → At c.up k s → s.intent ≡ On c
 -- server keeps something.
 pub record HeldOn (kept : List ℕ) (n : Names) (x : Client) (j : Joined) : Type 0 where
   pub flows : Flows (Awaits j.lists kept) j.lists
-  pub cids : AreCids n j.lists
+  pub cids : j.lists.client_open ≡ true → AreCids n j.lists
   pub holds : j.lists.client_open ≡ true → Holds (Awaits j.lists kept) j.at_client n x j.lists
 
 -- The table gave this handle.

@@ -10,4 +10,4 @@ pub use circuits::{
     moves_keep_each_circuit,
 };
 pub use clients::clients_stand_in_runs;
-pub use others::quiet_events_keep_each_circuit;
+pub use others::{a_clients_life_keeps_each_circuit, quiet_events_keep_each_circuit};

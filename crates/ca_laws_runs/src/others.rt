@@ -3,8 +3,9 @@ ghost use Rattle.ca_text.specs.Place.{At};
 ghost use Rattle.ca_dbr.specs.Elements.{Elements};
 ghost use Rattle.ca_dbr.specs.declared.value.Outcome.{Outcome};
 ghost use Rattle.ca_records.specs.Record.{RecordState};
+ghost use Rattle.ca_model.specs.Ends.{Address};
 ghost use Rattle.ca_model.specs.History.{Intent, Line};
-ghost use Rattle.ca_model_world.specs.ClientEvents.{HappensHandingOut, HappensOpen};
+ghost use Rattle.ca_model_world.specs.ClientEvents.{HappensClientDatagram, HappensClientRestart, HappensHandingOut, HappensOpen};
 ghost use Rattle.ca_model_world.specs.ServerEvents.{HappensAdd, HappensPost, HappensServerRestart};
 ghost use Rattle.ca_model_world.specs.World.{ClientSide, ServerSide, World};
 ghost use Rattle.ca_laws_runs.specs.Circuit.{HeldAt};
@@ -26,4 +27,14 @@ pub fn quiet_events_keep_each_circuit()
         → HappensAdd w i y r new → HeldAt kept w k → HeldAt kept new k }
     ensures server_restart { (kept : List ℕ) (w new : World) (i k : ℕ) (y : ServerSide)
         → HappensServerRestart w i y new → HeldAt kept w k → HeldAt kept new k }
+{}
+
+/// So does a client that begins again, whose ends are closed then, and a datagram that reaches one:
+/// channels that it finds are created.
+pub fn a_clients_life_keeps_each_circuit()
+    ensures restart { (kept : List ℕ) (w new : World) (i k : ℕ) (x : ClientSide)
+        → At w.clients i x → HappensClientRestart w i x new → HeldAt kept w k → HeldAt kept new k }
+    ensures datagram { (kept : List ℕ) (w new : World) (i k : ℕ) (x : ClientSide) (from : Address)
+        (bytes : List ℕ) → At w.clients i x → ClientsStand w
+        → HappensClientDatagram w i x from bytes new → HeldAt kept w k → HeldAt kept new k }
 {}

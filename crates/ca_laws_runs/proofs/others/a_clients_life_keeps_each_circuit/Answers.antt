@@ -1,0 +1,5 @@
+use Rattle.ca_laws_runs.proofs.Restarts.{keeps-client-restart, keeps-datagram}
+use Rattle.ca_laws_runs.proofs.others.a_clients_life_keeps_each_circuit.Goals as goal
+
+pub returns : goal.returns
+returns c = record { restart = keeps-client-restart; datagram = keeps-datagram }
