@@ -1,5 +1,5 @@
--- The requests of each circuit, as the table and the lines change.
-use Rattle.std.proofs.Common.{◌≡◌, ◌≢◌, ℕ, ◌==◌, ◌&&◌, inl, inr, Bool, true, false, List, [], ◌∷◌, ◌++◌, length, map, Option, Some, None, Ok, if◌then◌else◌, refl, sym, ap, ◌∙◌, subst, filter, arith, length-append}
+-- The requests of each circuit and of each channel, as the table and the lines change.
+use Rattle.std.proofs.Common.{◌≡◌, ◌≢◌, ℕ, ◌==◌, ◌&&◌, inl, inr, Bool, true, false, List, [], ◌∷◌, ◌++◌, length, map, Option, Some, None, Ok, option_map, if◌then◌else◌, refl, sym, ap, ◌∙◌, subst, filter, arith, length-append}
 use Rattle.std.proofs.lemmas.Bool.{cases_eq, cases_lt, eq-eqb, eqb-true, ne_eqb}
 use Rattle.std.proofs.lemmas.List.{append-nil, get_or_append_left, get_or_past, get_or_push}
 use Rattle.std.proofs.lemmas.List.Elements.{filter-append}
@@ -8,10 +8,10 @@ use Rattle.ca_arena.specs.Arena.{Place}
 use Rattle.ca_ids.specs.Table.{MayGive, Table, kept_of, same_handle, under, with_freed, with_held}
 use Rattle.ca_ids.specs.Holding.{Fills}
 use Rattle.ca_requests.specs.Layout.{AreGiven}
-use Rattle.ca_requests.specs.Lines.{AreLines, AreOf, AreRequests, Hands, Line, Notes, Readies, ReadyAll, handed_to, line_at, no_line, told_of}
-use Rattle.ca_requests.specs.Requests.{Open, Request, in_order_of_issue, is_open, is_open_in, was_sent_on}
+use Rattle.ca_requests.specs.Lines.{AreLines, AreOf, AreRequests, Hands, Line, Notes, Readies, ReadyAll, belongs, channel_of, circuit_of, handed_to, line_at, no_line, told_of}
+use Rattle.ca_requests.specs.Requests.{Open, Request, asks_on, in_order_of_issue, is_open, is_open_in, over_on, was_sent_on}
 use Rattle.ca_requests.proofs.Orders.{filter-narrow, given-filter, given-grows, given-push}
-use Rattle.ca_requests.proofs.Tables.{Dims, Grows, Keeps, Stays, any, by_value, dims-freed, first_of, given-new, grows-freed, grows-held, grows-map, keeps-freed, keeps-map, none-freed, opens, opens-any, second_of, stays-freed, true_or_false, under-beside, under-held}
+use Rattle.ca_requests.proofs.Tables.{Dims, Grows, Keeps, Stays, any, by_value, dims-freed, dims-over, first_of, given-new, grows-freed, grows-held, grows-map, keeps-freed, keeps-map, none-freed, none-over, opens, opens-any, second_of, stays-freed, stays-over, true_or_false, under-beside, under-held}
 
 -- ---- handles
 
@@ -33,31 +33,34 @@ other-index a b other = ap (λ (x : Bool). x && a.generation == b.generation) (n
 filtered-same : (t : Table Request) (xs : List Handle) (which : Request → Bool) → in_order_of_issue which t (filter (is_open any t) xs) ≡ in_order_of_issue which t xs
 filtered-same t xs which = filter-narrow (is_open which t) (is_open any t) xs (λ q h. opens-any which (under t q) h)
 
-of-filter : (t : Table Request) (c : Handle) (p : Handle → Bool) (xs : List Handle) → AreOf t c xs → AreOf t c (filter p xs)
-of-filter t c p [] all = tt
-of-filter t c p (q ∷ xs) all =
-    let rest = of-filter t c p xs all.1 in
-    elim (true_or_false (p q)) [ inl passes ↦ rw passes (all.0, rest) | inr fails ↦ rw fails rest ]
+module _ (whose : Request → Handle) where
+  of-filter : (t : Table Request) (c : Handle) (p : Handle → Bool) (xs : List Handle) → AreOf whose t c xs → AreOf whose t c (filter p xs)
+  of-filter t c p [] all = tt
+  of-filter t c p (q ∷ xs) all =
+      let rest = of-filter t c p xs all.1 in
+      elim (true_or_false (p q)) [ inl passes ↦ rw passes (all.0, rest) | inr fails ↦ rw fails rest ]
 
--- the line of this circuit with these requests, and room for so many
+-- the line of this owner with these requests, and room for so many
 abbrev pub line : Handle → List Handle → ℕ → Line
-line c xs n = record { circuit = c; handles = xs; room = n }
+line c xs n = record { owner = c; handles = xs; room = n }
 
 pub readies-same : (t : Table Request) (l : Line) → Readies t l l
-readies-same t l = record { same = λ which. refl; given = λ h. h; owned = λ h. h }
+readies-same t l = record { same = λ which. refl; given = λ h. h; owned = λ h. h; also = λ h. h }
 
 pub readies-filtered : (t : Table Request) (c : Handle) (xs ys : List Handle) (m n : ℕ) → ys ≡ filter (is_open any t) xs → Readies t (line c xs m) (line c ys n)
 readies-filtered t c xs ys m n is = record {
   same = λ which. ap (in_order_of_issue which t) is ∙ filtered-same t xs which;
   given = λ h. subst (λ (zs : List Handle). AreGiven t zs) (sym is) (given-filter t (is_open any t) xs h);
-  owned = λ h. subst (λ (zs : List Handle). AreOf t c zs) (sym is) (of-filter t c (is_open any t) xs h);
+  owned = λ h. subst (λ (zs : List Handle). AreOf circuit_of t c zs) (sym is) (of-filter circuit_of t c (is_open any t) xs h);
+  also = λ h. subst (λ (zs : List Handle). AreOf channel_of t c zs) (sym is) (of-filter channel_of t c (is_open any t) xs h);
 }
 
 pub readies-emptied : (t : Table Request) (c d : Handle) (xs ys : List Handle) (m n : ℕ) → ys ≡ filter (is_open any t) xs → ys ≡ [] → Readies t (line c xs m) (line d ys n)
 readies-emptied t c d xs ys m n is none = record {
   same = λ which. ap (in_order_of_issue which t) is ∙ filtered-same t xs which;
   given = λ h. subst (λ (zs : List Handle). AreGiven t zs) (sym none) tt;
-  owned = λ h. subst (λ (zs : List Handle). AreOf t d zs) (sym none) tt;
+  owned = λ h. subst (λ (zs : List Handle). AreOf circuit_of t d zs) (sym none) tt;
+  also = λ h. subst (λ (zs : List Handle). AreOf channel_of t d zs) (sym none) tt;
 }
 
 pub empty-of : (xs : List Handle) → length xs ≡ 0 → xs ≡ []
@@ -69,71 +72,12 @@ readies-on t a b c first next = record {
   same = λ which. next.same which ∙ first.same which;
   given = λ h. next.given (first.given h);
   owned = λ h. next.owned (first.owned h);
+  also = λ h. next.also (first.also h);
 }
-
-pub requests-readied : (t : Table Request) (listed : List Handle) (lines next : List Line) → ReadyAll t lines next → AreRequests t listed lines → AreRequests t listed next
-requests-readied t listed lines next ready old = record {
-  given = old.given;
-  each = record {
-    same = λ c. (ready c.index).same (was_sent_on c) ∙ old.each.same c;
-    given = λ i. (ready i).given (old.each.given i);
-    owned = λ i. (ready i).owned (old.each.owned i);
-  };
-}
-
-pub requests-tidied : (t : Table Request) (listed : List Handle) (lines : List Line) → AreRequests t listed lines → AreRequests t (filter (is_open any t) listed) lines
-requests-tidied t listed lines old = record {
-  given = given-filter t (is_open any t) listed old.given;
-  each = record {
-    same = λ c. old.each.same c ∙ sym (filtered-same t listed (was_sent_on c));
-    given = old.each.given;
-    owned = old.each.owned;
-  };
-}
-
--- ---- the table thins
 
 -- what is open and named was
 narrow : (t u : Table Request) → Keeps t u → (which : Request → Bool) (q : Handle) → is_open which u q ≡ true → is_open which t q ≡ true
 narrow t u keeps which q h = subst (λ (o : Option Request). opens which o ≡ true) (keeps q (opens-any which (under u q) h)) h
-
-of-thins : (t u : Table Request) → Keeps t u → (c : Handle) (xs : List Handle) → AreOf t c xs → AreOf u c xs
-of-thins t u keeps c [] all = tt
-of-thins t u keeps c (q ∷ xs) all = (
-  λ h. subst (λ (o : Option Request). opens (was_sent_on c) o ≡ true) (sym (keeps q h)) (all.0 (narrow t u keeps any q h)),
-  of-thins t u keeps c xs all.1,
-)
-
-lines-thin : (t u : Table Request) (listed : List Handle) (lines : List Line) → Keeps t u → Grows t u → AreLines t listed lines → AreLines u listed lines
-lines-thin t u listed lines keeps grows old = record {
-  same = λ c.
-      let p = is_open (was_sent_on c) t in
-      let n = is_open (was_sent_on c) u in
-      let xs = (line_at lines c.index).handles in
-      sym (filter-narrow n p xs (narrow t u keeps (was_sent_on c)))
-      ∙ ap (λ (ys : List Handle). filter n ys) (old.same c)
-      ∙ filter-narrow n p listed (narrow t u keeps (was_sent_on c));
-  given = λ i. given-grows t u (line_at lines i).handles grows (old.given i);
-  owned = λ i. of-thins t u keeps (line_at lines i).circuit (line_at lines i).handles (old.owned i);
-}
-
-pub requests-thin : (t u : Table Request) (listed : List Handle) (lines : List Line) → Keeps t u → Grows t u → AreRequests t listed lines → AreRequests u listed lines
-requests-thin t u listed lines keeps grows old = record {
-  given = given-grows t u listed grows old.given;
-  each = lines-thin t u listed lines keeps grows old.each;
-}
-
-pub requests-map : (f : Place Request → Place Request) (t u : Table Request) (listed : List Handle) (lines : List Line) → Dims f → Stays f → u ≡ map f t → AreRequests t listed lines → AreRequests u listed lines
-requests-map f t u listed lines dims stays is old =
-    subst (λ (w : Table Request). AreRequests w listed lines) (sym is)
-    (requests-thin t (map f t) listed lines (keeps-map f t dims stays) (grows-map f t dims) old)
-
-pub requests-freed : (t u : Table Request) (listed : List Handle) (lines : List Line) (h : Handle) → u ≡ with_freed h t → AreRequests t listed lines → AreRequests u listed lines
-requests-freed t u listed lines h is old =
-    subst (λ (w : Table Request). AreRequests w listed lines) (sym is)
-    (requests-thin t (with_freed h t) listed lines (keeps-freed t h) (grows-freed t h) old)
-
--- ---- a request is issued
 
 order-beside : (t : Table Request) (q : Handle) (r : Request) (xs : List Handle) (which : Request → Bool) → MayGive t q → AreGiven t xs → filter (is_open which (with_held q r t)) xs ≡ filter (is_open which t) xs
 order-beside t q r [] which may given = refl
@@ -143,218 +87,311 @@ order-beside t q r (h ∷ xs) which may given =
     ap (λ (b : Bool). let ys : List Handle = if b then h ∷ filter (is_open which (with_held q r t)) xs else filter (is_open which (with_held q r t)) xs in ys) same
     ∙ ap (λ (ys : List Handle). let zs : List Handle = if is_open which t h then h ∷ ys else ys in zs) rest
 
-of-beside : (t : Table Request) (q : Handle) (r : Request) (c : Handle) (xs : List Handle) → MayGive t q → AreGiven t xs → AreOf t c xs → AreOf (with_held q r t) c xs
-of-beside t q r c [] may given all = tt
-of-beside t q r c (h ∷ xs) may given all =
-    let same = under-beside t q r h may given.0 in (
-      λ opened. subst (λ (o : Option Request). opens (was_sent_on c) o ≡ true) (sym same) (all.0 (subst (λ (o : Option Request). opens any o ≡ true) same opened)),
-      of-beside t q r c xs may given.1 all.1,
-    )
-
-of-push : (t : Table Request) (c q : Handle) (xs : List Handle) → AreOf t c xs → (is_open any t q ≡ true → is_open (was_sent_on c) t q ≡ true) → AreOf t c (xs ++ q ∷ [])
-of-push t c q [] all last = (last, tt)
-of-push t c q (x ∷ xs) all last = (all.0, of-push t c q xs all.1 last)
-
 none-kept : (n : Handle → Bool) (q : Handle) → n q ≡ false → filter n (q ∷ []) ≡ []
 none-kept n q h = rw h refl
 
-issued-same : (t : Table Request) (q : Handle) (r : Request) (listed : List Handle) (lines next : List Line) → MayGive t q → AreRequests t listed lines → Notes r.circuit q lines next → (c : Handle) → in_order_of_issue (was_sent_on c) (with_held q r t) (line_at next c.index).handles ≡ in_order_of_issue (was_sent_on c) (with_held q r t) (listed ++ q ∷ [])
-issued-same t q r listed lines next may old notes c =
-    let n = is_open (was_sent_on c) (with_held q r t) in
-    let xs = (line_at lines c.index).handles in
-    let mine : filter n xs ≡ filter n listed =
-    order-beside t q r xs (was_sent_on c) may (old.each.given c.index)
-    ∙ old.each.same c
-    ∙ sym (order-beside t q r listed (was_sent_on c) may old.given) in
-    elim (cases_eq c.index r.circuit.index) [
-      | inl here ↦
-          let is : (line_at next c.index).handles ≡ xs ++ q ∷ [] =
-          ap (λ (i : ℕ). (line_at next i).handles) here ∙ notes.handles ∙ ap (λ (i : ℕ). (line_at lines i).handles ++ q ∷ []) (sym here) in
-          ap (λ (ys : List Handle). filter n ys) is
-          ∙ filter-append n xs (q ∷ [])
-          ∙ ap (λ (ys : List Handle). ys ++ filter n (q ∷ [])) mine
-          ∙ sym (filter-append n listed (q ∷ []))
-      | inr other ↦
-          let is : (line_at next c.index).handles ≡ xs = ap (λ (l : Line). l.handles) (notes.others c.index other) in
-          let away : n q ≡ false =
-          ap (opens (was_sent_on c)) (under-held t q r may) ∙ ap (λ (b : Bool). b && is_open_in r.stage) (other-index r.circuit c (λ same. other (sym same))) in
-          let none : filter n (q ∷ []) ≡ [] = none-kept n q away in
-          let more : filter n (listed ++ q ∷ []) ≡ filter n listed =
-          filter-append n listed (q ∷ []) ∙ ap (λ (ys : List Handle). filter n listed ++ ys) none ∙ append-nil (filter n listed) in
-          ap (λ (ys : List Handle). filter n ys) is ∙ mine ∙ sym more
-    ]
+module _ (whose : Request → Handle) where
+  lines-tidied : (t : Table Request) (listed : List Handle) (lines : List Line) → AreLines whose t listed lines → AreLines whose t (filter (is_open any t) listed) lines
+  lines-tidied t listed lines old = record {
+    same = λ c. old.same c ∙ sym (filtered-same t listed (belongs whose c));
+    given = old.given;
+    owned = old.owned;
+  }
 
-issued-lines : (t : Table Request) (q : Handle) (r : Request) (listed : List Handle) (lines next : List Line) → MayGive t q → r.stage ≡ Open → AreRequests t listed lines → Notes r.circuit q lines next → AreLines (with_held q r t) (listed ++ q ∷ []) next
-issued-lines t q r listed lines next may begins old notes =
-    let u = with_held q r t in
-    let grows = grows-held t q r may in
-    let k = r.circuit.index in
-    let xs = (line_at lines k).handles in
-    let itself : is_open any u q ≡ true → is_open (was_sent_on r.circuit) u q ≡ true = λ opened.
-    ap (opens (was_sent_on r.circuit)) (under-held t q r may)
-    ∙ ap (λ (b : Bool). b && is_open_in r.stage) (same-itself r.circuit)
-    ∙ ap is_open_in begins in
-    let before : AreOf t r.circuit xs = subst (λ (c : Handle). AreOf t c xs) notes.own (old.each.owned k) in
-    let after : AreOf u r.circuit (xs ++ q ∷ []) = of-push u r.circuit q xs (of-beside t q r r.circuit xs may (old.each.given k) before) itself in
-    record {
-      same = issued-same t q r listed lines next may old notes;
-      given = λ i.
-          elim (cases_eq i k) [
-            | inl here ↦
-                let there : AreGiven u (line_at next k).handles =
-                subst (λ (ys : List Handle). AreGiven u ys) (sym notes.handles)
-                (given-push u xs q (given-grows t u xs grows (old.each.given k)) (given-new t q r may)) in
-                subst (λ (j : ℕ). AreGiven u (line_at next j).handles) (sym here) there
-            | inr other ↦
-                subst (λ (l : Line). AreGiven u l.handles) (sym (notes.others i other)) (given-grows t u (line_at lines i).handles grows (old.each.given i))
-          ];
-      owned = λ i.
-          elim (cases_eq i k) [
-            | inl here ↦
-                let there : AreOf u (line_at next k).circuit (line_at next k).handles =
-                subst (λ (c : Handle). AreOf u c (line_at next k).handles) (sym notes.circuit)
-                (subst (λ (ys : List Handle). AreOf u r.circuit ys) (sym notes.handles) after) in
-                subst (λ (j : ℕ). AreOf u (line_at next j).circuit (line_at next j).handles) (sym here) there
-            | inr other ↦
-                subst (λ (l : Line). AreOf u l.circuit l.handles) (sym (notes.others i other))
-                (of-beside t q r (line_at lines i).circuit (line_at lines i).handles may (old.each.given i) (old.each.owned i))
-          ];
-    }
+  -- ---- the table thins
 
-pub requests-issued : (t u : Table Request) (listed after : List Handle) (lines next : List Line) (r : Request) (q : Handle) → Fills t q r (Ok tt) u → r.stage ≡ Open → after ≡ listed ++ q ∷ [] → Notes r.circuit q lines next → AreRequests t listed lines → AreRequests u after next
-requests-issued t u listed after lines next r q gives begins is notes old =
-    let made : AreRequests (with_held q r t) (listed ++ q ∷ []) next = record {
-      given = given-push (with_held q r t) listed q (given-grows t (with_held q r t) listed (grows-held t q r gives.0) old.given) (given-new t q r gives.0);
-      each = issued-lines t q r listed lines next gives.0 begins old notes;
-    } in
-    subst (λ (w : Table Request). AreRequests w after next) (sym gives.1)
-    (subst (λ (ys : List Handle). AreRequests (with_held q r t) ys next) (sym is) made)
+  of-thins : (t u : Table Request) → Keeps t u → (c : Handle) (xs : List Handle) → AreOf whose t c xs → AreOf whose u c xs
+  of-thins t u keeps c [] all = tt
+  of-thins t u keeps c (q ∷ xs) all = (
+    λ h. subst (λ (o : Option Request). opens (belongs whose c) o ≡ true) (sym (keeps q h)) (all.0 (narrow t u keeps any q h)),
+    of-thins t u keeps c xs all.1,
+  )
 
--- ---- those of a circuit are handed out
+  lines-thin : (t u : Table Request) (listed : List Handle) (lines : List Line) → Keeps t u → Grows t u → AreLines whose t listed lines → AreLines whose u listed lines
+  lines-thin t u listed lines keeps grows old = record {
+    same = λ c.
+        let p = is_open (belongs whose c) t in
+        let n = is_open (belongs whose c) u in
+        let xs = (line_at lines c.index).handles in
+        sym (filter-narrow n p xs (narrow t u keeps (belongs whose c)))
+        ∙ ap (λ (ys : List Handle). filter n ys) (old.same c)
+        ∙ filter-narrow n p listed (narrow t u keeps (belongs whose c));
+    given = λ i. given-grows t u (line_at lines i).handles grows (old.given i);
+    owned = λ i. of-thins t u keeps (line_at lines i).owner (line_at lines i).handles (old.owned i);
+  }
 
--- what was sent on one circuit was not sent on another
-none-of : (t : Table Request) (c d : Handle) (xs : List Handle) → AreOf t d xs → same_handle d c ≡ false → filter (is_open (was_sent_on c) t) xs ≡ []
-none-of t c d [] all other = refl
-none-of t c d (q ∷ xs) all other =
-    let rest = none-of t c d xs all.1 other in
-    elim (true_or_false (is_open (was_sent_on c) t q)) [
-      | inl named ↦ absurd (both (under t q) (all.0 (opens-any (was_sent_on c) (under t q) named)) named)
-      | inr not_named ↦ rw not_named rest
-    ]
-  where
-    both : (o : Option Request) → opens (was_sent_on d) o ≡ true → opens (was_sent_on c) o ≡ true → ⊥
-    both None on_d on_c =
-        let bad : false ≡ true = on_d in
-        absurd cc
-    both (Some r) on_d on_c =
-        let at_d : r.circuit ≡ d = one-handle r.circuit d (first_of (same_handle r.circuit d) (is_open_in r.stage) on_d) in
-        let at_c : same_handle r.circuit c ≡ true = first_of (same_handle r.circuit c) (is_open_in r.stage) on_c in
-        let bad : same_handle d c ≡ true = subst (λ (h : Handle). same_handle h c ≡ true) at_d at_c in
-        absurd cc
+  -- ---- a request is issued
 
-pub told-open : (t : Table Request) (listed : List Handle) (lines : List Line) (c : Handle) → AreRequests t listed lines → filter (is_open (was_sent_on c) t) (told_of c (line_at lines c.index)) ≡ filter (is_open (was_sent_on c) t) listed
-told-open t listed lines c old =
-    let l = line_at lines c.index in
-    elim (true_or_false (same_handle l.circuit c)) [
-      | inl own ↦
-          ap (λ (b : Bool). filter (is_open (was_sent_on c) t) (if b then l.handles else [])) own ∙ old.each.same c
-      | inr other ↦
-          ap (λ (b : Bool). filter (is_open (was_sent_on c) t) (if b then l.handles else [])) other
-          ∙ sym (none-of t c l.circuit l.handles (old.each.owned c.index) other)
-          ∙ old.each.same c
-    ]
+  of-beside : (t : Table Request) (q : Handle) (r : Request) (c : Handle) (xs : List Handle) → MayGive t q → AreGiven t xs → AreOf whose t c xs → AreOf whose (with_held q r t) c xs
+  of-beside t q r c [] may given all = tt
+  of-beside t q r c (h ∷ xs) may given all =
+      let same = under-beside t q r h may given.0 in (
+        λ opened. subst (λ (o : Option Request). opens (belongs whose c) o ≡ true) (sym same) (all.0 (subst (λ (o : Option Request). opens any o ≡ true) same opened)),
+        of-beside t q r c xs may given.1 all.1,
+      )
 
--- of a circuit none of whose requests is open
-no-open : (u : Table Request) (c : Handle) (which : Request → Bool) (xs : List Handle) → AreOf u c xs → ((q : Handle) → is_open (was_sent_on c) u q ≡ false) → filter (is_open which u) xs ≡ []
-no-open u c which [] all none = refl
-no-open u c which (q ∷ xs) all none =
-    elim (true_or_false (is_open which u q)) [
-      | inl named ↦
-          let bad : is_open (was_sent_on c) u q ≡ true = all.0 (opens-any which (under u q) named) in
-          let worse : false ≡ true = sym (none q) ∙ bad in
+  of-push : (t : Table Request) (c q : Handle) (xs : List Handle) → AreOf whose t c xs → (is_open any t q ≡ true → is_open (belongs whose c) t q ≡ true) → AreOf whose t c (xs ++ q ∷ [])
+  of-push t c q [] all last = (last, tt)
+  of-push t c q (x ∷ xs) all last = (all.0, of-push t c q xs all.1 last)
+
+  issued-same : (t : Table Request) (q : Handle) (r : Request) (listed : List Handle) (lines next : List Line) → MayGive t q → AreGiven t listed → AreLines whose t listed lines → Notes (whose r) q lines next → (c : Handle) → in_order_of_issue (belongs whose c) (with_held q r t) (line_at next c.index).handles ≡ in_order_of_issue (belongs whose c) (with_held q r t) (listed ++ q ∷ [])
+  issued-same t q r listed lines next may given old notes c =
+      let n = is_open (belongs whose c) (with_held q r t) in
+      let xs = (line_at lines c.index).handles in
+      let mine : filter n xs ≡ filter n listed =
+      order-beside t q r xs (belongs whose c) may (old.given c.index)
+      ∙ old.same c
+      ∙ sym (order-beside t q r listed (belongs whose c) may given) in
+      elim (cases_eq c.index (whose r).index) [
+        | inl here ↦
+            let is : (line_at next c.index).handles ≡ xs ++ q ∷ [] =
+            ap (λ (i : ℕ). (line_at next i).handles) here ∙ notes.handles ∙ ap (λ (i : ℕ). (line_at lines i).handles ++ q ∷ []) (sym here) in
+            ap (λ (ys : List Handle). filter n ys) is
+            ∙ filter-append n xs (q ∷ [])
+            ∙ ap (λ (ys : List Handle). ys ++ filter n (q ∷ [])) mine
+            ∙ sym (filter-append n listed (q ∷ []))
+        | inr other ↦
+            let is : (line_at next c.index).handles ≡ xs = ap (λ (l : Line). l.handles) (notes.others c.index other) in
+            let away : n q ≡ false =
+            ap (opens (belongs whose c)) (under-held t q r may) ∙ ap (λ (b : Bool). b && is_open_in r.stage) (other-index (whose r) c (λ same. other (sym same))) in
+            let none : filter n (q ∷ []) ≡ [] = none-kept n q away in
+            let more : filter n (listed ++ q ∷ []) ≡ filter n listed =
+            filter-append n listed (q ∷ []) ∙ ap (λ (ys : List Handle). filter n listed ++ ys) none ∙ append-nil (filter n listed) in
+            ap (λ (ys : List Handle). filter n ys) is ∙ mine ∙ sym more
+      ]
+
+  issued-lines : (t : Table Request) (q : Handle) (r : Request) (listed : List Handle) (lines next : List Line) → MayGive t q → r.stage ≡ Open → AreGiven t listed → AreLines whose t listed lines → Notes (whose r) q lines next → AreLines whose (with_held q r t) (listed ++ q ∷ []) next
+  issued-lines t q r listed lines next may begins given old notes =
+      let u = with_held q r t in
+      let grows = grows-held t q r may in
+      let k = (whose r).index in
+      let xs = (line_at lines k).handles in
+      let itself : is_open any u q ≡ true → is_open (belongs whose (whose r)) u q ≡ true = λ opened.
+      ap (opens (belongs whose (whose r))) (under-held t q r may)
+      ∙ ap (λ (b : Bool). b && is_open_in r.stage) (same-itself (whose r))
+      ∙ ap is_open_in begins in
+      let before : AreOf whose t (whose r) xs = subst (λ (c : Handle). AreOf whose t c xs) notes.own (old.owned k) in
+      let after : AreOf whose u (whose r) (xs ++ q ∷ []) = of-push u (whose r) q xs (of-beside t q r (whose r) xs may (old.given k) before) itself in
+      record {
+        same = issued-same t q r listed lines next may given old notes;
+        given = λ i.
+            elim (cases_eq i k) [
+              | inl here ↦
+                  let there : AreGiven u (line_at next k).handles =
+                  subst (λ (ys : List Handle). AreGiven u ys) (sym notes.handles)
+                  (given-push u xs q (given-grows t u xs grows (old.given k)) (given-new t q r may)) in
+                  subst (λ (j : ℕ). AreGiven u (line_at next j).handles) (sym here) there
+              | inr other ↦
+                  subst (λ (l : Line). AreGiven u l.handles) (sym (notes.others i other)) (given-grows t u (line_at lines i).handles grows (old.given i))
+            ];
+        owned = λ i.
+            elim (cases_eq i k) [
+              | inl here ↦
+                  let there : AreOf whose u (line_at next k).owner (line_at next k).handles =
+                  subst (λ (c : Handle). AreOf whose u c (line_at next k).handles) (sym notes.owner)
+                  (subst (λ (ys : List Handle). AreOf whose u (whose r) ys) (sym notes.handles) after) in
+                  subst (λ (j : ℕ). AreOf whose u (line_at next j).owner (line_at next j).handles) (sym here) there
+              | inr other ↦
+                  subst (λ (l : Line). AreOf whose u l.owner l.handles) (sym (notes.others i other))
+                  (of-beside t q r (line_at lines i).owner (line_at lines i).handles may (old.given i) (old.owned i))
+            ];
+      }
+
+  -- ---- those of an owner are handed out
+
+  -- what is one owner's is not another's
+  none-of : (t : Table Request) (c d : Handle) (xs : List Handle) → AreOf whose t d xs → same_handle d c ≡ false → filter (is_open (belongs whose c) t) xs ≡ []
+  none-of t c d [] all other = refl
+  none-of t c d (q ∷ xs) all other =
+      let rest = none-of t c d xs all.1 other in
+      elim (true_or_false (is_open (belongs whose c) t q)) [
+        | inl named ↦ absurd (both (under t q) (all.0 (opens-any (belongs whose c) (under t q) named)) named)
+        | inr not_named ↦ rw not_named rest
+      ]
+    where
+      both : (o : Option Request) → opens (belongs whose d) o ≡ true → opens (belongs whose c) o ≡ true → ⊥
+      both None on_d on_c =
+          let bad : false ≡ true = on_d in
           absurd cc
-      | inr not_named ↦ rw not_named (no-open u c which xs all.1 none)
-    ]
+      both (Some r) on_d on_c =
+          let at_d : (whose r) ≡ d = one-handle (whose r) d (first_of (same_handle (whose r) d) (is_open_in r.stage) on_d) in
+          let at_c : same_handle (whose r) c ≡ true = first_of (same_handle (whose r) c) (is_open_in r.stage) on_c in
+          let bad : same_handle d c ≡ true = subst (λ (h : Handle). same_handle h c ≡ true) at_d at_c in
+          absurd cc
 
-lines-handed : (u : Table Request) (listed : List Handle) (lines next : List Line) (c : Handle) → ((q : Handle) → is_open (was_sent_on c) u q ≡ false) → Hands c lines next → AreLines u listed lines → AreLines u listed next
-lines-handed u listed lines next c none hands old =
-    let k = c.index in
-    let l = line_at lines k in
-    elim (true_or_false (same_handle l.circuit c)) [
-      | inl own ↦
-          let empty : (line_at next k).handles ≡ [] = hands.handles ∙ ap (λ (b : Bool). let ys : List Handle = if b then [] else l.handles in ys) own in
-          let mine : AreOf u c l.handles = subst (λ (d : Handle). AreOf u d l.handles) (one-handle l.circuit c own) (old.owned k) in
-          record {
-            same = λ d. elim (cases_eq d.index k) [
-              | inl here ↦
-                  let left : in_order_of_issue (was_sent_on d) u (line_at next d.index).handles ≡ [] =
-                  ap (λ (i : ℕ). in_order_of_issue (was_sent_on d) u (line_at next i).handles) here ∙ ap (λ (ys : List Handle). in_order_of_issue (was_sent_on d) u ys) empty in
-                  let was : in_order_of_issue (was_sent_on d) u (line_at lines d.index).handles ≡ [] =
-                  ap (λ (i : ℕ). in_order_of_issue (was_sent_on d) u (line_at lines i).handles) here ∙ no-open u c (was_sent_on d) l.handles mine none in
-                  left ∙ sym was ∙ old.same d
-              | inr other ↦
-                  ap (λ (m : Line). in_order_of_issue (was_sent_on d) u m.handles) (hands.others d.index other) ∙ old.same d
-            ];
-            given = λ i. elim (cases_eq i k) [
-              | inl here ↦
-                  subst (λ (j : ℕ). AreGiven u (line_at next j).handles) (sym here) (subst (λ (ys : List Handle). AreGiven u ys) (sym empty) tt)
-              | inr other ↦ subst (λ (m : Line). AreGiven u m.handles) (sym (hands.others i other)) (old.given i)
-            ];
-            owned = λ i. elim (cases_eq i k) [
-              | inl here ↦
-                  subst (λ (j : ℕ). AreOf u (line_at next j).circuit (line_at next j).handles) (sym here)
-                  (subst (λ (ys : List Handle). AreOf u (line_at next k).circuit ys) (sym empty) tt)
-              | inr other ↦ subst (λ (m : Line). AreOf u m.circuit m.handles) (sym (hands.others i other)) (old.owned i)
-            ];
-          }
-      | inr other_circuit ↦
-          let same : (line_at next k).handles ≡ l.handles = hands.handles ∙ ap (λ (b : Bool). let ys : List Handle = if b then [] else l.handles in ys) other_circuit in
-          record {
-            same = λ d. elim (cases_eq d.index k) [
-              | inl here ↦
-                  ap (λ (i : ℕ). in_order_of_issue (was_sent_on d) u (line_at next i).handles) here
-                  ∙ ap (λ (ys : List Handle). in_order_of_issue (was_sent_on d) u ys) same
-                  ∙ ap (λ (i : ℕ). in_order_of_issue (was_sent_on d) u (line_at lines i).handles) (sym here)
-                  ∙ old.same d
-              | inr other ↦
-                  ap (λ (m : Line). in_order_of_issue (was_sent_on d) u m.handles) (hands.others d.index other) ∙ old.same d
-            ];
-            given = λ i. elim (cases_eq i k) [
-              | inl here ↦
-                  subst (λ (j : ℕ). AreGiven u (line_at next j).handles) (sym here) (subst (λ (ys : List Handle). AreGiven u ys) (sym same) (old.given k))
-              | inr other ↦ subst (λ (m : Line). AreGiven u m.handles) (sym (hands.others i other)) (old.given i)
-            ];
-            owned = λ i. elim (cases_eq i k) [
-              | inl here ↦
-                  subst (λ (j : ℕ). AreOf u (line_at next j).circuit (line_at next j).handles) (sym here)
-                  (subst (λ (d : Handle). AreOf u d (line_at next k).handles) (sym hands.circuit)
-                  (subst (λ (ys : List Handle). AreOf u l.circuit ys) (sym same) (old.owned k)))
-              | inr other ↦ subst (λ (m : Line). AreOf u m.circuit m.handles) (sym (hands.others i other)) (old.owned i)
-            ];
-          }
-    ]
+  pub told-open : (t : Table Request) (listed : List Handle) (lines : List Line) (c : Handle) → AreLines whose t listed lines → filter (is_open (belongs whose c) t) (told_of c (line_at lines c.index)) ≡ filter (is_open (belongs whose c) t) listed
+  told-open t listed lines c old =
+      let l = line_at lines c.index in
+      elim (true_or_false (same_handle l.owner c)) [
+        | inl own ↦
+            ap (λ (b : Bool). filter (is_open (belongs whose c) t) (if b then l.handles else [])) own ∙ old.same c
+        | inr other ↦
+            ap (λ (b : Bool). filter (is_open (belongs whose c) t) (if b then l.handles else [])) other
+            ∙ sym (none-of t c l.owner l.handles (old.owned c.index) other)
+            ∙ old.same c
+      ]
 
-pub requests-handed : (t u : Table Request) (listed : List Handle) (lines next : List Line) (c : Handle) → u ≡ map (by_value (kept_of (was_sent_on c))) t → Hands c lines next → AreRequests t listed lines → AreRequests u listed next
-requests-handed t u listed lines next c is hands old =
-    let f = by_value (kept_of (was_sent_on c)) in
-    let thin : AreRequests (map f t) listed lines = requests-map f t (map f t) listed lines (dims-freed (was_sent_on c)) (stays-freed (was_sent_on c)) refl old in
-    let made : AreRequests (map f t) listed next = record {
-      given = thin.given;
-      each = lines-handed (map f t) listed lines next c (none-freed (was_sent_on c) t) hands thin.each;
+  -- of an owner none of whose requests is open
+  no-open : (u : Table Request) (c : Handle) (which : Request → Bool) (xs : List Handle) → AreOf whose u c xs → ((q : Handle) → is_open (belongs whose c) u q ≡ false) → filter (is_open which u) xs ≡ []
+  no-open u c which [] all none = refl
+  no-open u c which (q ∷ xs) all none =
+      elim (true_or_false (is_open which u q)) [
+        | inl named ↦
+            let bad : is_open (belongs whose c) u q ≡ true = all.0 (opens-any which (under u q) named) in
+            let worse : false ≡ true = sym (none q) ∙ bad in
+            absurd cc
+        | inr not_named ↦ rw not_named (no-open u c which xs all.1 none)
+      ]
+
+  lines-handed : (u : Table Request) (listed : List Handle) (lines next : List Line) (c : Handle) → ((q : Handle) → is_open (belongs whose c) u q ≡ false) → Hands c lines next → AreLines whose u listed lines → AreLines whose u listed next
+  lines-handed u listed lines next c none hands old =
+      let k = c.index in
+      let l = line_at lines k in
+      elim (true_or_false (same_handle l.owner c)) [
+        | inl own ↦
+            let empty : (line_at next k).handles ≡ [] = hands.handles ∙ ap (λ (b : Bool). let ys : List Handle = if b then [] else l.handles in ys) own in
+            let mine : AreOf whose u c l.handles = subst (λ (d : Handle). AreOf whose u d l.handles) (one-handle l.owner c own) (old.owned k) in
+            record {
+              same = λ d. elim (cases_eq d.index k) [
+                | inl here ↦
+                    let left : in_order_of_issue (belongs whose d) u (line_at next d.index).handles ≡ [] =
+                    ap (λ (i : ℕ). in_order_of_issue (belongs whose d) u (line_at next i).handles) here ∙ ap (λ (ys : List Handle). in_order_of_issue (belongs whose d) u ys) empty in
+                    let was : in_order_of_issue (belongs whose d) u (line_at lines d.index).handles ≡ [] =
+                    ap (λ (i : ℕ). in_order_of_issue (belongs whose d) u (line_at lines i).handles) here ∙ no-open u c (belongs whose d) l.handles mine none in
+                    left ∙ sym was ∙ old.same d
+                | inr other ↦
+                    ap (λ (m : Line). in_order_of_issue (belongs whose d) u m.handles) (hands.others d.index other) ∙ old.same d
+              ];
+              given = λ i. elim (cases_eq i k) [
+                | inl here ↦
+                    subst (λ (j : ℕ). AreGiven u (line_at next j).handles) (sym here) (subst (λ (ys : List Handle). AreGiven u ys) (sym empty) tt)
+                | inr other ↦ subst (λ (m : Line). AreGiven u m.handles) (sym (hands.others i other)) (old.given i)
+              ];
+              owned = λ i. elim (cases_eq i k) [
+                | inl here ↦
+                    subst (λ (j : ℕ). AreOf whose u (line_at next j).owner (line_at next j).handles) (sym here)
+                    (subst (λ (ys : List Handle). AreOf whose u (line_at next k).owner ys) (sym empty) tt)
+                | inr other ↦ subst (λ (m : Line). AreOf whose u m.owner m.handles) (sym (hands.others i other)) (old.owned i)
+              ];
+            }
+        | inr other_circuit ↦
+            let same : (line_at next k).handles ≡ l.handles = hands.handles ∙ ap (λ (b : Bool). let ys : List Handle = if b then [] else l.handles in ys) other_circuit in
+            record {
+              same = λ d. elim (cases_eq d.index k) [
+                | inl here ↦
+                    ap (λ (i : ℕ). in_order_of_issue (belongs whose d) u (line_at next i).handles) here
+                    ∙ ap (λ (ys : List Handle). in_order_of_issue (belongs whose d) u ys) same
+                    ∙ ap (λ (i : ℕ). in_order_of_issue (belongs whose d) u (line_at lines i).handles) (sym here)
+                    ∙ old.same d
+                | inr other ↦
+                    ap (λ (m : Line). in_order_of_issue (belongs whose d) u m.handles) (hands.others d.index other) ∙ old.same d
+              ];
+              given = λ i. elim (cases_eq i k) [
+                | inl here ↦
+                    subst (λ (j : ℕ). AreGiven u (line_at next j).handles) (sym here) (subst (λ (ys : List Handle). AreGiven u ys) (sym same) (old.given k))
+                | inr other ↦ subst (λ (m : Line). AreGiven u m.handles) (sym (hands.others i other)) (old.given i)
+              ];
+              owned = λ i. elim (cases_eq i k) [
+                | inl here ↦
+                    subst (λ (j : ℕ). AreOf whose u (line_at next j).owner (line_at next j).handles) (sym here)
+                    (subst (λ (d : Handle). AreOf whose u d (line_at next k).handles) (sym hands.owner)
+                    (subst (λ (ys : List Handle). AreOf whose u l.owner ys) (sym same) (old.owned k)))
+                | inr other ↦ subst (λ (m : Line). AreOf whose u m.owner m.handles) (sym (hands.others i other)) (old.owned i)
+              ];
+            }
+      ]
+
+-- ---- the lines of circuits, and those of channels
+
+pub requests-readied : (t : Table Request) (listed : List Handle) (lines next mine own : List Line) → ReadyAll t lines next → ReadyAll t mine own → AreRequests t listed lines mine → AreRequests t listed next own
+requests-readied t listed lines next mine own ready also old = record {
+  given = old.given;
+  circuits = record {
+    same = λ c. (ready c.index).same (was_sent_on c) ∙ old.circuits.same c;
+    given = λ i. (ready i).given (old.circuits.given i);
+    owned = λ i. (ready i).owned (old.circuits.owned i);
+  };
+  channels = record {
+    same = λ h. (also h.index).same (asks_on h) ∙ old.channels.same h;
+    given = λ i. (also i).given (old.channels.given i);
+    owned = λ i. (also i).also (old.channels.owned i);
+  };
+}
+
+pub requests-tidied : (t : Table Request) (listed : List Handle) (lines mine : List Line) → AreRequests t listed lines mine → AreRequests t (filter (is_open any t) listed) lines mine
+requests-tidied t listed lines mine old = record {
+  given = given-filter t (is_open any t) listed old.given;
+  circuits = lines-tidied circuit_of t listed lines old.circuits;
+  channels = lines-tidied channel_of t listed mine old.channels;
+}
+
+pub requests-thin : (t u : Table Request) (listed : List Handle) (lines mine : List Line) → Keeps t u → Grows t u → AreRequests t listed lines mine → AreRequests u listed lines mine
+requests-thin t u listed lines mine keeps grows old = record {
+  given = given-grows t u listed grows old.given;
+  circuits = lines-thin circuit_of t u listed lines keeps grows old.circuits;
+  channels = lines-thin channel_of t u listed mine keeps grows old.channels;
+}
+
+pub requests-map : (f : Place Request → Place Request) (t u : Table Request) (listed : List Handle) (lines mine : List Line) → Dims f → Stays f → u ≡ map f t → AreRequests t listed lines mine → AreRequests u listed lines mine
+requests-map f t u listed lines mine dims stays is old =
+    subst (λ (w : Table Request). AreRequests w listed lines mine) (sym is)
+    (requests-thin t (map f t) listed lines mine (keeps-map f t dims stays) (grows-map f t dims) old)
+
+pub requests-freed : (t u : Table Request) (listed : List Handle) (lines mine : List Line) (h : Handle) → u ≡ with_freed h t → AreRequests t listed lines mine → AreRequests u listed lines mine
+requests-freed t u listed lines mine h is old =
+    subst (λ (w : Table Request). AreRequests w listed lines mine) (sym is)
+    (requests-thin t (with_freed h t) listed lines mine (keeps-freed t h) (grows-freed t h) old)
+
+pub requests-issued : (t u : Table Request) (listed after : List Handle) (lines next mine own : List Line) (r : Request) (q : Handle) → Fills t q r (Ok tt) u → r.stage ≡ Open → after ≡ listed ++ q ∷ [] → Notes r.circuit q lines next → Notes r.channel q mine own → AreRequests t listed lines mine → AreRequests u after next own
+requests-issued t u listed after lines next mine own r q gives begins is notes also old =
+    let made : AreRequests (with_held q r t) (listed ++ q ∷ []) next own = record {
+      given = given-push (with_held q r t) listed q (given-grows t (with_held q r t) listed (grows-held t q r gives.0) old.given) (given-new t q r gives.0);
+      circuits = issued-lines circuit_of t q r listed lines next gives.0 begins old.given old.circuits notes;
+      channels = issued-lines channel_of t q r listed mine own gives.0 begins old.given old.channels also;
     } in
-    subst (λ (w : Table Request). AreRequests w listed next) (sym is) made
+    subst (λ (w : Table Request). AreRequests w after next own) (sym gives.1)
+    (subst (λ (ys : List Handle). AreRequests (with_held q r t) ys next own) (sym is) made)
+
+pub requests-handed : (t u : Table Request) (listed : List Handle) (lines next mine : List Line) (c : Handle) → u ≡ map (by_value (kept_of (was_sent_on c))) t → Hands c lines next → AreRequests t listed lines mine → AreRequests u listed next mine
+requests-handed t u listed lines next mine c is hands old =
+    let f = by_value (kept_of (was_sent_on c)) in
+    let thin : AreRequests (map f t) listed lines mine = requests-map f t (map f t) listed lines mine (dims-freed (was_sent_on c)) (stays-freed (was_sent_on c)) refl old in
+    let made : AreRequests (map f t) listed next mine = record {
+      given = thin.given;
+      circuits = lines-handed circuit_of (map f t) listed lines next c (none-freed (was_sent_on c) t) hands thin.circuits;
+      channels = thin.channels;
+    } in
+    subst (λ (w : Table Request). AreRequests w listed next mine) (sym is) made
+
+pub requests-over : (t u : Table Request) (listed : List Handle) (lines mine own : List Line) (h : Handle) → u ≡ map (by_value (option_map (over_on h))) t → Hands h mine own → AreRequests t listed lines mine → AreRequests u listed lines own
+requests-over t u listed lines mine own h is hands old =
+    let f = by_value (option_map (over_on h)) in
+    let thin : AreRequests (map f t) listed lines mine = requests-map f t (map f t) listed lines mine (dims-over h) (stays-over h) refl old in
+    let made : AreRequests (map f t) listed lines own = record {
+      given = thin.given;
+      circuits = thin.circuits;
+      channels = lines-handed channel_of (map f t) listed mine own h (none-over h t) hands thin.channels;
+    } in
+    subst (λ (w : Table Request). AreRequests w listed lines own) (sym is) made
+
+-- what is handed out of a circuit's line, or of a channel's
+pub told-circuit : (t : Table Request) (listed : List Handle) (lines mine : List Line) (c : Handle) → AreRequests t listed lines mine → filter (is_open (was_sent_on c) t) (told_of c (line_at lines c.index)) ≡ filter (is_open (was_sent_on c) t) listed
+told-circuit t listed lines mine c old = told-open circuit_of t listed lines c old.circuits
+
+pub told-channel : (t : Table Request) (listed : List Handle) (lines mine : List Line) (h : Handle) → AreRequests t listed lines mine → filter (is_open (asks_on h) t) (told_of h (line_at mine h.index)) ≡ filter (is_open (asks_on h) t) listed
+told-channel t listed lines mine h old = told-open channel_of t listed mine h old.channels
 
 -- ---- the places of lines
 
 pub told-nowhere : (c : Handle) → told_of c no_line ≡ []
-told-nowhere c = by_test (same_handle no_line.circuit c)
+told-nowhere c = by_test (same_handle no_line.owner c)
   where
     by_test : (b : Bool) → ◌≡◌ {A = List Handle} (if b then [] else []) []
     by_test true = refl
     by_test false = refl
 
 pub handed-nowhere : (c : Handle) → handed_to c no_line ≡ []
-handed-nowhere c = by_test (same_handle no_line.circuit c)
+handed-nowhere c = by_test (same_handle no_line.owner c)
   where
     by_test : (b : Bool) → ◌≡◌ {A = List Handle} (if b then [] else []) []
     by_test true = refl

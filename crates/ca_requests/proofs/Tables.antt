@@ -8,7 +8,7 @@ use Rattle.ca_arena.specs.Arena.{Place, blank, place_at, value_for}
 use Rattle.ca_arena.proofs.Places.{value_for-some, value_for-vacant, within_from_value}
 use Rattle.ca_ids.specs.Table.{MayGive, Table, kept_of, under, with_freed, with_held}
 use Rattle.ca_requests.specs.Layout.{WasGiven}
-use Rattle.ca_requests.specs.Requests.{Request, asks_on, is_open, is_open_in, over_on}
+use Rattle.ca_requests.specs.Requests.{Draining, Request, asks_on, is_open, is_open_in, over_on}
 
 pub true_or_false : (b : Bool) → (b ≡ true) ⊎ (b ≡ false)
 true_or_false true = inl refl
@@ -283,6 +283,29 @@ none-freed named t q =
     by_test true None = refl
     by_test true (Some r) =
         elim (true_or_false (named r)) [ inl meant ↦ rw meant refl | inr other ↦ rw (other, other) refl ]
+
+and-false : (b : Bool) → (b && false) ≡ false
+and-false true = refl
+and-false false = refl
+
+-- of those that are over none is open
+pub none-over : (channel : Handle) (t : Table Request) (q : Handle) → is_open (asks_on channel) (map (by_value (option_map (over_on channel))) t) q ≡ false
+none-over channel t q =
+    ap (λ (p : Place Request). opens (asks_on channel) (value_for q.generation p)) (place-map (by_value (option_map (over_on channel))) t q.index (dims-over channel))
+    ∙ by_test ((place_at t q.index).generation == q.generation) (place_at t q.index).value
+  where
+    by_test : (b : Bool) (o : Option Request) → opens (asks_on channel) (if b then option_map (over_on channel) o else None) ≡ false
+    by_test false o = refl
+    by_test true None = refl
+    by_test true (Some r) =
+        elim (true_or_false (asks_on channel r)) [
+          | inl meant ↦
+              ap (λ (b : Bool). let s : Request = if b then record r { stage = Draining } else r in opens (asks_on channel) (Some s)) meant
+              ∙ and-false (asks_on channel r)
+          | inr other ↦
+              ap (λ (b : Bool). let s : Request = if b then record r { stage = Draining } else r in opens (asks_on channel) (Some s)) other
+              ∙ ap (λ (b : Bool). b && is_open_in r.stage) other
+        ]
 
 pub under-held : (t : Table Request) (q : Handle) (r : Request) → MayGive t q → under (with_held q r t) q ≡ Some r
 under-held t q r may =

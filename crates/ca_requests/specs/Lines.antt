@@ -1,74 +1,87 @@
--- Working: the requests of each circuit, beside those of all. No clause of a caller needs it.
+-- Working: the requests of each circuit, and those of each channel, beside those of all. No clause of a caller needs it.
 use Rattle.std.specs.Prelude.{ℕ, ◌≡◌, ◌≢◌, ◌<◌, ◌++◌, Bool, true, List, [], ◌∷◌, if◌then◌else◌, length, slice_index_or}
 use Rattle.std.specs.List.{AllByRecursion}
 use Rattle.ca_arena.specs.declared.handle.Handle.{Handle}
 use Rattle.ca_ids.specs.Table.{Table, same_handle}
 use Rattle.ca_requests.specs.Layout.{AreGiven}
-use Rattle.ca_requests.specs.Requests.{Request, in_order_of_issue, is_open, was_sent_on}
+use Rattle.ca_requests.specs.Requests.{Request, in_order_of_issue, is_open}
 
--- the circuit, its requests in order of issue, and for how many more there is room
+-- the circuit or the channel, its requests in order of issue, and for how many more there is room
 pub record Line : Type 0 where
-  pub circuit : Handle
+  pub owner : Handle
   pub handles : List Handle
   pub room : ℕ
 
--- that of no circuit
+-- that of none
 abbrev pub no_line : Line
-no_line = record { circuit = record { index = 0; generation = 0 }; handles = []; room = 0 }
+no_line = record { owner = record { index = 0; generation = 0 }; handles = []; room = 0 }
 
--- the line at this index of a circuit
+-- the line at this index of its owner
 abbrev pub line_at : List Line → ℕ → Line
 line_at lines i = slice_index_or lines i no_line
 
--- what is open was sent on this circuit
-abbrev pub AreOf : Table Request → Handle → List Handle → Type 0
-AreOf t c xs =
-    AllByRecursion (λ (q : Handle). is_open (λ (r : Request). true) t q ≡ true → is_open (was_sent_on c) t q ≡ true) xs
+-- the owner of a request: its circuit, or its channel
+abbrev pub circuit_of : Request → Handle
+circuit_of r = r.circuit
 
--- A line lost some that are over, or came to another circuit.
+abbrev pub channel_of : Request → Handle
+channel_of r = r.channel
+
+-- the request is this owner's
+abbrev pub belongs : (whose : Request → Handle) → Handle → Request → Bool
+belongs whose c r = same_handle (whose r) c
+
+-- what is open is this owner's
+abbrev pub AreOf : (whose : Request → Handle) → Table Request → Handle → List Handle → Type 0
+AreOf whose t c xs =
+    AllByRecursion (λ (q : Handle). is_open (λ (r : Request). true) t q ≡ true → is_open (belongs whose c) t q ≡ true) xs
+
+-- A line lost some that are over, or came to another owner.
 pub record Readies (t : Table Request) (old new : Line) : Type 0 where
   pub same : (which : Request → Bool) → in_order_of_issue which t new.handles ≡ in_order_of_issue which t old.handles
   pub given : AreGiven t old.handles → AreGiven t new.handles
-  pub owned : AreOf t old.circuit old.handles → AreOf t new.circuit new.handles
+  pub owned : AreOf circuit_of t old.owner old.handles → AreOf circuit_of t new.owner new.handles
+  pub also : AreOf channel_of t old.owner old.handles → AreOf channel_of t new.owner new.handles
 
 -- each line did
 abbrev pub ReadyAll : Table Request → List Line → List Line → Type 0
 ReadyAll t old new = (i : ℕ) → Readies t (line_at old i) (line_at new i)
 
--- the line of this circuit has room for one more
+-- the line of this owner has room for one more
 pub record HasRoom (c : Handle) (lines : List Line) : Type 0 where
   pub within : c.index < length lines
-  pub circuit : (line_at lines c.index).circuit ≡ c
+  pub owner : (line_at lines c.index).owner ≡ c
   pub room : 0 < (line_at lines c.index).room
 
--- Of each circuit, those that are open are in its line, in order of issue.
-pub record AreLines (t : Table Request) (listed : List Handle) (lines : List Line) : Type 0 where
-  pub same : (c : Handle) → in_order_of_issue (was_sent_on c) t (line_at lines c.index).handles ≡ in_order_of_issue (was_sent_on c) t listed
+-- Of each owner, those that are open are in its line, in order of issue.
+pub record AreLines (whose : Request → Handle) (t : Table Request) (listed : List Handle) (lines : List Line) : Type 0 where
+  pub same : (c : Handle) → in_order_of_issue (belongs whose c) t (line_at lines c.index).handles ≡ in_order_of_issue (belongs whose c) t listed
   pub given : (i : ℕ) → AreGiven t (line_at lines i).handles
-  pub owned : (i : ℕ) → AreOf t (line_at lines i).circuit (line_at lines i).handles
+  pub owned : (i : ℕ) → AreOf whose t (line_at lines i).owner (line_at lines i).handles
 
--- what is handed out of a line as that of this circuit
+-- what is handed out of a line as that of this owner
 abbrev pub told_of : Handle → Line → List Handle
-told_of c l = if same_handle l.circuit c then l.handles else []
+told_of c l = if same_handle l.owner c then l.handles else []
 
 -- what it has then
 abbrev pub handed_to : Handle → Line → List Handle
-handed_to c l = if same_handle l.circuit c then [] else l.handles
+handed_to c l = if same_handle l.owner c then [] else l.handles
 
--- The request was put after those of its circuit's line.
+-- The request was put after those of its owner's line.
 pub record Notes (c q : Handle) (old new : List Line) : Type 0 where
-  pub own : (line_at old c.index).circuit ≡ c
-  pub circuit : (line_at new c.index).circuit ≡ c
+  pub own : (line_at old c.index).owner ≡ c
+  pub owner : (line_at new c.index).owner ≡ c
   pub handles : (line_at new c.index).handles ≡ (line_at old c.index).handles ++ q ∷ []
   pub others : (i : ℕ) → i ≢ c.index → line_at new i ≡ line_at old i
 
--- What was listed for the circuit was handed out of its line.
+-- What was listed for the owner was handed out of its line.
 pub record Hands (c : Handle) (old new : List Line) : Type 0 where
-  pub circuit : (line_at new c.index).circuit ≡ (line_at old c.index).circuit
+  pub owner : (line_at new c.index).owner ≡ (line_at old c.index).owner
   pub handles : (line_at new c.index).handles ≡ handed_to c (line_at old c.index)
   pub others : (i : ℕ) → i ≢ c.index → line_at new i ≡ line_at old i
 
 -- what holds of the fields of a client's requests
-pub record AreRequests (t : Table Request) (listed : List Handle) (lines : List Line) : Type 0 where
+pub record AreRequests (t : Table Request) (listed : List Handle) (lines mine : List Line) : Type 0 where
   pub given : AreGiven t listed
-  pub each : AreLines t listed lines
+  pub circuits : AreLines circuit_of t listed lines
+  pub channels : AreLines channel_of t listed mine

@@ -1,4 +1,4 @@
-//! The requests of one circuit, so that its end needs no look at the others.
+//! The requests of one circuit or one channel, so that its end needs no look at the others.
 ghost use Rattle.std.specs.Prelude.{◌≡◌, ◌<◌, ◌++◌, ◌∷◌, [], OnOk};
 ghost use Rattle.ca_requests.specs.Lines.{Readies, handed_to, no_line, told_of};
 
@@ -10,10 +10,10 @@ use std::alloc::{AllocError, Global};
 use std::marker::Model;
 use std::mem;
 
-/// The requests that were sent on a circuit, in order of issue: all that are open, and some that are over.
+/// The requests of a circuit or of a channel, in order of issue: all that are open, and some that are over.
 #[derive(Debug, Drop)]
 pub(crate) struct Line {
-    circuit: Handle,
+    owner: Handle,
     listed: Vec<Handle>,
     // How many are listed before those that are over are taken out.
     limit: usize,
@@ -27,19 +27,19 @@ impl Model for Line {
     ghost use Rattle.std.specs.Prelude.{◌-◌, vec_capacity, vec_len};
 
     ghost view = { λ l. record {
-      circuit = l.circuit;
+      owner = l.owner;
       handles = l.listed.items;
       room = vec_capacity l.listed - vec_len l.listed;
     } };
 }
 
 impl Line {
-    /// That of no circuit yet. It does not allocate.
+    /// That of none yet. It does not allocate.
     pub(crate) fn new(alloc: Global) -> Line
         ensures { result ≡ no_line }
     {
         Line {
-            circuit: Handle {
+            owner: Handle {
                 index: 0,
                 generation: 0,
             },
@@ -48,42 +48,42 @@ impl Line {
         }
     }
 
-    /// Makes room for one more request of this circuit. There is none while one of another circuit is open.
+    /// Makes room for one more request of this owner. There is none while one of another is open.
     pub(crate) fn prepare(
         &mut self,
         table: &HeldTable<Request>,
-        circuit: Handle,
+        owner: Handle,
     ) -> Result<(), AllocError>
         ensures readies { Readies table.now self.old self.new }
-        ensures circuit { OnOk result (self.new.circuit ≡ circuit) }
+        ensures owner { OnOk result (self.new.owner ≡ owner) }
         ensures room { OnOk result (0 < self.new.room) }
     {
-        self.own(table, circuit)?;
+        self.own(table, owner)?;
         self.tidy(table);
         self.listed.reserve(1)?;
         Ok(())
     }
 
-    // It is this circuit's, unless a request of another is open.
-    fn own(&mut self, table: &HeldTable<Request>, circuit: Handle) -> Result<(), AllocError>
+    // It is this owner's, unless a request of another is open.
+    fn own(&mut self, table: &HeldTable<Request>, owner: Handle) -> Result<(), AllocError>
         ensures readies { Readies table.now self.old self.new }
-        ensures circuit { OnOk result (self.new.circuit ≡ circuit) }
+        ensures owner { OnOk result (self.new.owner ≡ owner) }
     {
-        if is_same(self.circuit, circuit) {
+        if is_same(self.owner, owner) {
             return Ok(());
         }
         forget(&mut self.listed, table);
         if self.listed.len() > 0 {
             return Err(AllocError);
         }
-        self.circuit = circuit;
+        self.owner = owner;
         Ok(())
     }
 
     // Takes those that are over out once it is long.
     fn tidy(&mut self, table: &HeldTable<Request>)
         ensures readies { Readies table.now self.old self.new }
-        ensures circuit { self.new.circuit ≡ self.old.circuit }
+        ensures owner { self.new.owner ≡ self.old.owner }
     {
         if self.listed.len() < self.limit {
             return;
@@ -95,19 +95,19 @@ impl Line {
     /// One more request is the last. There is room for it.
     pub(crate) fn push(&mut self, handle: Handle)
         requires { 0 < self.old.room }
-        ensures circuit { self.new.circuit ≡ self.old.circuit }
+        ensures owner { self.new.owner ≡ self.old.owner }
         ensures handles { self.new.handles ≡ self.old.handles ++ handle ∷ [] }
     {
         self.listed.push_reserved(handle);
     }
 
-    /// Hands out what is listed, if it is this circuit's.
-    pub(crate) fn take(&mut self, alloc: Global, circuit: Handle) -> Vec<Handle>
-        ensures told { result.items ≡ told_of circuit self.old }
-        ensures left { self.new.handles ≡ handed_to circuit self.old }
-        ensures circuit { self.new.circuit ≡ self.old.circuit }
+    /// Hands out what is listed, if it is this owner's.
+    pub(crate) fn take(&mut self, alloc: Global, owner: Handle) -> Vec<Handle>
+        ensures told { result.items ≡ told_of owner self.old }
+        ensures left { self.new.handles ≡ handed_to owner self.old }
+        ensures owner { self.new.owner ≡ self.old.owner }
     {
-        if !is_same(self.circuit, circuit) {
+        if !is_same(self.owner, owner) {
             return Vec::new(alloc);
         }
         mem::replace(&mut self.listed, Vec::new(alloc))

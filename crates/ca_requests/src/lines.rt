@@ -1,4 +1,4 @@
-//! The requests of each circuit, by the circuit's index.
+//! The requests of each circuit, or of each channel, by its index.
 ghost use Rattle.std.specs.Prelude.{◌≡◌, ◌<◌, ◌++◌, ◌∷◌, [], ℕ, OnOk, length};
 ghost use Rattle.ca_requests.specs.Lines.{Hands, HasRoom, Notes, ReadyAll, line_at, told_of};
 
@@ -8,19 +8,19 @@ use ca_arena::Handle;
 use ca_ids::HeldTable;
 use std::alloc::{AllocError, Global};
 
-/// Makes room for one more request of this circuit.
+/// Makes room for one more request of this owner.
 pub(crate) fn prepare(
     alloc: Global,
     lines: &mut Vec<Line>,
     table: &HeldTable<Request>,
-    circuit: Handle,
+    owner: Handle,
 ) -> Result<(), AllocError>
     ensures readies { ReadyAll table.now lines.old.items lines.new.items }
-    ensures room { OnOk result (HasRoom circuit lines.new.items) }
+    ensures room { OnOk result (HasRoom owner lines.new.items) }
 {
-    let index = usize::from(circuit.index);
-    extend(alloc, lines, circuit.index)?;
-    lines[index].prepare(table, circuit)?;
+    let index = usize::from(owner.index);
+    extend(alloc, lines, owner.index)?;
+    lines[index].prepare(table, owner)?;
     Ok(())
 }
 
@@ -35,22 +35,22 @@ fn extend(alloc: Global, lines: &mut Vec<Line>, index: u16) -> Result<(), AllocE
     Ok(())
 }
 
-/// The request is the last of its circuit. There is room for it.
-pub(crate) fn note(lines: &mut Vec<Line>, circuit: Handle, handle: Handle)
-    requires { HasRoom circuit lines.old.items }
-    ensures { Notes circuit handle lines.old.items lines.new.items }
+/// The request is the last of its owner. There is room for it.
+pub(crate) fn note(lines: &mut Vec<Line>, owner: Handle, handle: Handle)
+    requires { HasRoom owner lines.old.items }
+    ensures { Notes owner handle lines.old.items lines.new.items }
 {
-    lines[usize::from(circuit.index)].push(handle);
+    lines[usize::from(owner.index)].push(handle);
 }
 
-/// Hands out what is listed for this circuit. It does not allocate.
-pub(crate) fn hand_out(alloc: Global, lines: &mut Vec<Line>, circuit: Handle) -> Vec<Handle>
-    ensures told { result.items ≡ told_of circuit (line_at lines.old.items circuit.index) }
-    ensures hands { Hands circuit lines.old.items lines.new.items }
+/// Hands out what is listed for this owner. It does not allocate.
+pub(crate) fn hand_out(alloc: Global, lines: &mut Vec<Line>, owner: Handle) -> Vec<Handle>
+    ensures told { result.items ≡ told_of owner (line_at lines.old.items owner.index) }
+    ensures hands { Hands owner lines.old.items lines.new.items }
 {
-    let index = usize::from(circuit.index);
+    let index = usize::from(owner.index);
     if index >= lines.len() {
         return Vec::new(alloc);
     }
-    lines[index].take(alloc, circuit)
+    lines[index].take(alloc, owner)
 }

@@ -22,8 +22,8 @@ use std::marker::Model;
 /// A client's requests: by their handles, by their IOIDs, and in order of issue.
 ///
 /// Answering one costs the same however many are open, and so does issuing one on average: an issue that finds the list at its
-/// limit goes over all of it, at most once in as many issues as were open. Those of a circuit are found without a look at the
-/// others; to free ids, what ends many at once goes over each index that was ever given.
+/// limit goes over all of it, at most once in as many issues as were open. Those of a circuit or a channel are found without a look
+/// at the others; to free ids, what ends many at once goes over each index that was ever given.
 #[derive(Drop)]
 pub struct Requests {
     table: HeldTable<Request>,
@@ -32,7 +32,9 @@ pub struct Requests {
     // How many are listed before those that are over are taken out.
     limit: usize,
     // Those of each circuit, by its index.
-    lines: Vec<Line>,
+    circuits: Vec<Line>,
+    // Those of each channel, by its index.
+    channels: Vec<Line>,
 }
 
 impl Model for Requests {
@@ -45,7 +47,11 @@ impl Model for Requests {
 
     ghost view = { λ r. issued_of r.table r.listed.items };
 
-    ghost invariant = { λ r. AreRequests r.table r.listed.items r.lines.items };
+    ghost invariant = { λ r. AreRequests
+        r.table
+        r.listed.items
+        r.circuits.items
+        r.channels.items };
 }
 
 impl Requests {
@@ -57,7 +63,8 @@ impl Requests {
             table: HeldTable::new(alloc),
             listed: Vec::new(alloc),
             limit: 64,
-            lines: Vec::new(alloc),
+            circuits: Vec::new(alloc),
+            channels: Vec::new(alloc),
         }
     }
 
@@ -95,7 +102,8 @@ impl Requests {
     {
         self.tidy();
         let alloc = *self.listed.allocator();
-        prepare(alloc, &mut self.lines, &self.table, circuit)?;
+        prepare(alloc, &mut self.circuits, &self.table, circuit)?;
+        prepare(alloc, &mut self.channels, &self.table, channel)?;
         self.listed.reserve(1)?;
         let request = Request {
             channel,
@@ -106,7 +114,8 @@ impl Requests {
         match self.table.open_at(vacant, request) {
             Ok(()) => {
                 self.listed.push_reserved(vacant);
-                note(&mut self.lines, circuit, vacant);
+                note(&mut self.circuits, circuit, vacant);
+                note(&mut self.channels, channel, vacant);
                 Ok(())
             }
             Err(_) => Err(AllocError),
@@ -219,11 +228,16 @@ impl Requests {
         tell_in(&self.table, &self.listed, which, told);
     }
 
-    /// The requests on this channel are over, and their IOIDs drain. It does not allocate.
-    pub fn end_channel(&mut self, channel: Handle)
-        ensures { self.new ≡ with_table (channel_over channel self.old.table) self.old }
+    /// The requests on this channel are over, and their IOIDs drain: those that were open, in order of issue. It does not allocate.
+    pub fn end_channel(&mut self, channel: Handle) -> Vec<Handle>
+        ensures told { result.items ≡ open_of (asks_on channel) self.old }
+        ensures over { self.new ≡ with_table (channel_over channel self.old.table) self.old }
     {
+        let alloc = *self.listed.allocator();
+        let mut told = hand_out(alloc, &mut self.channels, channel);
+        keep_open(&mut told, &self.table, Which::OnChannel(channel));
         end_all(&mut self.table, channel);
+        told
     }
 
     /// The IOIDs of this channel's requests are free. It does not allocate.
@@ -239,19 +253,18 @@ impl Requests {
         ensures freed { self.new ≡ with_table (circuit_gone circuit self.old.table) self.old }
     {
         let alloc = *self.listed.allocator();
-        let mut told = hand_out(alloc, &mut self.lines, circuit);
-        keep_open(&mut told, &self.table, circuit);
+        let mut told = hand_out(alloc, &mut self.circuits, circuit);
+        keep_open(&mut told, &self.table, Which::OnCircuit(circuit));
         free_all(&mut self.table, Which::OnCircuit(circuit));
         told
     }
 }
 
-// Takes those out of a list that are not open, or were not sent on this circuit.
-fn keep_open(listed: &mut Vec<Handle>, table: &HeldTable<Request>, circuit: Handle)
-    ensures { listed.new.items
-        ≡ in_order_of_issue (was_sent_on circuit) table.now listed.old.items }
+// Takes those out of a list that are not open, or not meant.
+fn keep_open(listed: &mut Vec<Handle>, table: &HeldTable<Request>, which: Which)
+    ensures { listed.new.items ≡ in_order_of_issue (named which) table.now listed.old.items }
 {
-    listed.retain(|handle| is_meant(table, *handle, Which::OnCircuit(circuit)));
+    listed.retain(|handle| is_meant(table, *handle, which));
 }
 
 // Whether the request of this handle is open, and meant.

@@ -6,4 +6,4 @@ pub returns-clause-readies : goal.returns-clause-readies
 returns-clause-readies c =
     let i = c.self.inside in
     rw (← c.self.view_is)
-    (readies-filtered c.args.table.now i.circuit i.listed.items c.forget.new.listed.items (vec_capacity i.listed - vec_len i.listed) (vec_capacity c.forget.new.listed - vec_len c.forget.new.listed) c.forget.ensures)
+    (readies-filtered c.args.table.now i.owner i.listed.items c.forget.new.listed.items (vec_capacity i.listed - vec_len i.listed) (vec_capacity c.forget.new.listed - vec_len c.forget.new.listed) c.forget.ensures)

@@ -1,15 +1,27 @@
-use Rattle.std.proofs.Common.{option_map}
-use Rattle.ca_requests.specs.Requests.{over_on}
-use Rattle.ca_requests.proofs.Lined.{requests-map}
-use Rattle.ca_requests.proofs.Orders.{still-map}
-use Rattle.ca_requests.proofs.Tables.{by_value, dims-over, stays-over}
+use Rattle.std.proofs.Common.{◌∙◌, List, ap, filter, option_map, sym}
+use Rattle.ca_arena.specs.declared.handle.Handle.{Handle}
+use Rattle.ca_requests.specs.Calls.{Issued, open_of}
+use Rattle.ca_requests.specs.Requests.{asks_on, is_open, over_on}
+use Rattle.ca_requests.proofs.Lined.{requests-over, told-channel}
+use Rattle.ca_requests.proofs.Orders.{named-open, still-map}
+use Rattle.ca_requests.proofs.Tables.{by_value, dims-over}
 use Rattle.ca_requests.proofs.requests.Requests.end_channel.Goals as goal
 
 pub invariant_of-self : goal.invariant_of-self
 invariant_of-self c =
-    requests-map (by_value (option_map (over_on c.args.channel))) c.self.inside.table c.end_all.new.table c.self.inside.listed.items c.self.inside.lines.items (dims-over c.args.channel) (stays-over c.args.channel) c.end_all.ensures c.self.invariant
+    requests-over c.self.inside.table c.end_all.new.table c.self.inside.listed.items c.self.inside.circuits.items c.self.inside.channels.items c.hand_out-told.new.lines.items c.args.channel c.end_all.ensures c.hand_out-told.ensures.hands c.self.invariant
 
-pub returns : goal.returns
-returns c =
+pub returns-clause-told : goal.returns-clause-told
+returns-clause-told c =
+    let p = is_open (asks_on c.args.channel) c.self.inside.table in
+    let listed = c.self.inside.listed.items in
+    c.keep_open.ensures
+    ∙ ap (λ (xs : List Handle). filter p xs) c.hand_out-told.ensures.told
+    ∙ told-channel c.self.inside.table listed c.self.inside.circuits.items c.self.inside.channels.items c.args.channel c.self.invariant
+    ∙ sym (named-open (asks_on c.args.channel) c.self.inside.table listed)
+    ∙ ap (λ (x : Issued). open_of (asks_on c.args.channel) x) c.self.view_is
+
+pub returns-clause-over : goal.returns-clause-over
+returns-clause-over c =
     rw (← c.self.view_is)
     (still-map (by_value (option_map (over_on c.args.channel))) c.self.inside.table c.end_all.new.table c.self.inside.listed.items (dims-over c.args.channel) c.end_all.ensures)

@@ -4,7 +4,7 @@ use Rattle.ca_requests.proofs.requests.Requests.free.Goals as goal
 
 pub invariant_of-self : goal.invariant_of-self
 invariant_of-self c =
-    requests-freed c.self.inside.table c.free.new.self c.self.inside.listed.items c.self.inside.lines.items c.args.handle c.free.ensures.after c.self.invariant
+    requests-freed c.self.inside.table c.free.new.self c.self.inside.listed.items c.self.inside.circuits.items c.self.inside.channels.items c.args.handle c.free.ensures.after c.self.invariant
 
 pub returns : goal.returns
 returns c =

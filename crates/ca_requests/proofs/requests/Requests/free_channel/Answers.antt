@@ -7,7 +7,7 @@ use Rattle.ca_requests.proofs.requests.Requests.free_channel.Goals as goal
 
 pub invariant_of-self : goal.invariant_of-self
 invariant_of-self c =
-    requests-map (by_value (kept_of (asks_on c.args.channel))) c.self.inside.table c.free_all.new.table c.self.inside.listed.items c.self.inside.lines.items (dims-freed (asks_on c.args.channel)) (stays-freed (asks_on c.args.channel)) c.free_all.ensures c.self.invariant
+    requests-map (by_value (kept_of (asks_on c.args.channel))) c.self.inside.table c.free_all.new.table c.self.inside.listed.items c.self.inside.circuits.items c.self.inside.channels.items (dims-freed (asks_on c.args.channel)) (stays-freed (asks_on c.args.channel)) c.free_all.ensures c.self.invariant
 
 pub returns : goal.returns
 returns c =
