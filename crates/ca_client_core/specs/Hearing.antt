@@ -3,6 +3,7 @@ use Rattle.std.specs.Prelude.{◌≡◌, List, [], ◌∷◌, Option, Some, None
 use Rattle.std.specs.declared.alloc.AllocError.{AllocError}
 use Rattle.ca_arena.specs.declared.handle.Handle.{Handle}
 use Rattle.ca_dbr.specs.declared.value.Outcome.{Outcome}
+use Rattle.ca_dbr.specs.declared.value.Outcome.TheVariants as outcome
 use Rattle.ca_wire.specs.Fields.{Fields}
 use Rattle.ca_requests.specs.Calls.{HasImage}
 use Rattle.ca_requests.specs.Requests.{Request, answered_by}
@@ -38,3 +39,18 @@ HearsReply old c m answer new = HearsReplyTo old m (answered_by c m.command m.p2
 abbrev pub updated : Option (Handle × Outcome) → List Notice
 updated None = []
 updated (Some (s, o)) = notice.Update s o ∷ []
+
+-- what an ERROR tells: a plain write was refused on a channel
+abbrev pub write_refused : Fields → Option Handle → List Notice
+write_refused m None = []
+write_refused m (Some h) = notice.WriteRefused h (record { number = m.p2 }) ∷ []
+
+-- a subscription is over
+abbrev pub subscription_over : Fields → Option Handle → List Notice
+subscription_over m None = []
+subscription_over m (Some s) = notice.SubscriptionEnded s (record { number = m.p2 }) ∷ []
+
+-- a request failed
+abbrev pub request_over : Fields → Option Handle → List Notice
+request_over m None = []
+request_over m (Some q) = notice.Completed q (outcome.Failed (record { number = m.p2 })) ∷ []

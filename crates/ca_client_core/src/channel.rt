@@ -68,6 +68,20 @@ impl Model for Channel {
 }
 
 impl Phase {
+    /// Whether the channel is live.
+    pub(crate) fn is_live(self) -> bool
+        ensures { result ≡ client.is_live (phase_of self) }
+    {
+        match self {
+            Phase::Connecting => false,
+            Phase::Creating(_) => false,
+            Phase::Live(_, _) => true,
+            Phase::Leaving => false,
+            Phase::Clearing => false,
+            Phase::Doomed => false,
+        }
+    }
+
     /// Whether its caller cleared it.
     pub(crate) fn is_cleared(self) -> bool
         ensures { result ≡ client.is_cleared (phase_of self) }
@@ -136,6 +150,16 @@ impl Channel {
         match self.standing {
             Standing::Searching => false,
             Standing::On(on, phase) => is_same(on, circuit) && phase.is_cleared(),
+        }
+    }
+
+    /// Whether it is live on this circuit.
+    pub(crate) fn is_live_on(&self, circuit: Handle) -> bool
+        ensures { result ≡ client.is_on_in client.is_live circuit self.now }
+    {
+        match self.standing {
+            Standing::Searching => false,
+            Standing::On(on, phase) => is_same(on, circuit) && phase.is_live(),
         }
     }
 

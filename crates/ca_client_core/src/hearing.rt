@@ -106,7 +106,7 @@ impl ClientCore {
     }
 
     // The channel of this CID, and how far it is on this circuit.
-    fn channel_on(&self, circuit: Handle, cid: u32) -> Option<(Handle, Phase)>
+    pub(crate) fn channel_on(&self, circuit: Handle, cid: u32) -> Option<(Handle, Phase)>
         ensures { option_map found_as result ≡ channel_on self.now circuit cid }
     {
         let Some((handle, channel)) = self.channels.by_wire(WireId::new(cid)) else {
