@@ -20,3 +20,4 @@ pub mod Walking
 pub mod Servers
 pub mod LongBytes
 pub mod Could
+pub mod Stepped

@@ -8,8 +8,6 @@ pub mod Showing
 pub mod Stepping
 pub mod Circuits
 pub mod Sound
-<<<<<<< HEAD
 pub mod Searching
-=======
 pub mod Ending
->>>>>>> server
+pub mod Serving

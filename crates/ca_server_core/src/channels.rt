@@ -68,6 +68,13 @@ impl Channels {
         self.table.by_wire(WireId::new(sid.number()))
     }
 
+    // There are no more than SIDs have indices.
+    pub(crate) fn know(&self)
+        ensures { length self.now ≤ arena_slots }
+    {
+        let _ = &self.table;
+    }
+
     // How many indices were given so far.
     pub(crate) fn places(&self) -> usize
         ensures { result ≡ length self.now }

@@ -4,11 +4,13 @@ ghost use Rattle.ca_model.specs.Server as server;
 ghost use Rattle.ca_model.specs.ServerSteps.{output_of};
 ghost use Rattle.ca_records.specs.Store.{records_of};
 ghost use Rattle.ca_server_core.specs.Circuits.{CircuitIsSound, GivesAt, IsLive, SendsAt};
-ghost use Rattle.ca_server_core.specs.Ending.{EndsAt};
+ghost use Rattle.ca_server_core.specs.Ending.{EndsAt, IsLeft};
+ghost use Rattle.ca_server_core.specs.Serving.{CircuitSteps};
 ghost use Rattle.ca_server_core.specs.Stepping.{why_is};
 
 use crate::cause::Cause;
 use crate::end::End;
+use crate::step::EndStep;
 use ca_arena::Handle;
 use ca_records::ServedRecords;
 use ca_text::Refusal;
@@ -67,6 +69,45 @@ impl Circuit {
         match &self.state {
             State::Open(end) => end.link.out_bytes(),
             State::Ended(_, _) => &[],
+        }
+    }
+
+    // One step of its end, which has ended if it broke. None if it had ended.
+    pub(crate) fn step(
+        &mut self,
+        port: u16,
+        circuit: Handle,
+        records: &mut ServedRecords,
+    ) -> Option<EndStep>
+        requires { CircuitIsSound (records_of records.old) circuit self.old }
+        ensures { CircuitSteps port circuit self.old records.old result self.new records.new }
+    {
+        match &mut self.state {
+            State::Open(end) => {
+                let did = end.step(port, circuit, records);
+                end.know();
+                match did {
+                    EndStep::Handled(writes) => Some(EndStep::Handled(writes)),
+                    EndStep::NeedBytes => Some(EndStep::NeedBytes),
+                    EndStep::OutputFull => Some(EndStep::OutputFull),
+                    EndStep::Breaks(cause) => {
+                        let left = end.leave(circuit, records);
+                        self.state = State::Ended(cause, left);
+                        Some(EndStep::Breaks(cause))
+                    }
+                }
+            }
+            State::Ended(_, _) => None,
+        }
+    }
+
+    // Why its end has ended, and what it left. One that is open is cut.
+    pub(crate) fn into_left(self) -> (Cause, Pipe)
+        ensures { IsLeft self result.0 result.1 }
+    {
+        match self.state {
+            State::Open(end) => (Cause::Cut, end.link.into_left()),
+            State::Ended(cause, left) => (cause, left),
         }
     }
 

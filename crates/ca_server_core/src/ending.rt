@@ -1,7 +1,9 @@
-ghost use Rattle.std.specs.Prelude.{◌≡◌, ◌+◌, ◌<◌, length};
+ghost use Rattle.std.specs.Prelude.{◌≡◌, ◌+◌, ◌<◌, ◌≤◌, length};
+ghost use Rattle.ca_text.specs.Limits.{arena_slots};
 ghost use Rattle.ca_records.specs.Store.{records_of};
 ghost use Rattle.ca_server_core.specs.Clearing.{ArePuts};
 ghost use Rattle.ca_server_core.specs.Ending.{Walks, WithdrawsAll};
+ghost use Rattle.ca_server_core.specs.Sound.{IsQuiet};
 
 use crate::end::End;
 use ca_arena::Handle;
@@ -20,6 +22,14 @@ impl End {
         self.withdraw_all(circuit, records);
         let ended = std::mem::replace(&mut self.link, Link::new(self.alloc, 0));
         ended.into_left()
+    }
+
+    /// It has no subscription yet, and not too many channels.
+    pub(crate) fn know(&self)
+        ensures quiet { IsQuiet self.now }
+        ensures few { length self.now.channels ≤ arena_slots }
+    {
+        self.channels.know();
     }
 
     /// Takes the puts of this circuit that wait out of the records, channel by channel.

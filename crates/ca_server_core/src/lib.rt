@@ -1,9 +1,9 @@
 //! A server of Channel Access: its records, and its ends of circuits. It does no input and no output: bytes that came are
 //! given to it, and those that wait to be sent are asked of it.
 //!
-//! It is begun: the end of a circuit handles each message (within the crate), and `ServerCore` has `new`, `accept`, `give`, `out_bytes`, `sent`,
-//! `stamp`, `applied`, `waiting`, `datagram` and `beacon`. It has no call yet for steps, cuts, posts, finishes and removals. Subscriptions are
-//! missing: an EVENT_ADD without a fault ends its step as if there was no memory for it. No program uses this crate.
+//! It is begun: `ServerCore` has `new`, `accept`, `give`, `out_bytes`, `sent`, `step`, `cut`, `stamp`, `applied`, `waiting`, `datagram` and
+//! `beacon`. It has no call yet for posts, finishes, removals and pumps. Subscriptions are missing: an EVENT_ADD without a fault ends its
+//! circuit as if there was no memory for it. No program uses this crate.
 #![tactic(auto)]
 
 mod beacons;
@@ -28,9 +28,11 @@ mod search;
 mod seek;
 mod server;
 mod step;
+mod stepping;
 mod version;
 mod write;
 mod write_notify;
 
 pub use cause::Cause;
 pub use server::ServerCore;
+pub use stepping::Step;

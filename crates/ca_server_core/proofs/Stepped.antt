@@ -1,0 +1,395 @@
+-- A step of a server, from what it made of one circuit.
+use Rattle.std.proofs.Common.{◌≡◌, ◌≢◌, ℕ, suc, ◌+◌, ◌<◌, ◌≤◌, ◌⊎◌, inl, inr, Bool, true, false, cond, List, [], ◌∷◌, length, filter, map, Option, Some, None, refl, sym, ap, ◌∙◌, subst}
+use Rattle.std.specs.Prelude.{min, option_map}
+use Rattle.std.specs.List.{fold}
+use Rattle.ca_arena.specs.declared.handle.Handle.{Handle}
+use Rattle.ca_arena.specs.Arena.{Place}
+use Rattle.ca_beacon.specs.Clock.{Clock}
+use Rattle.ca_dbr.specs.Elements.{Elements}
+use Rattle.ca_ids.specs.Table.{Table, same_handle, under, with_changed, with_each, with_each_from, with_freed}
+use Rattle.ca_link.specs.Link.{TakesFirst, with_rest}
+use Rattle.ca_queue.specs.Circuit.{queue_posted}
+use Rattle.ca_queue.specs.Queue.{Queue}
+use Rattle.ca_records.specs.declared.puts.Put.{Put}
+use Rattle.ca_records.specs.declared.puts.Stamp.{Stamp}
+use Rattle.ca_records.specs.Puts.{Record, WaitingPut, withdrawn}
+use Rattle.ca_records.specs.Rules.{Rule}
+use Rattle.ca_records.specs.Store.{Store, records_of}
+use Rattle.ca_text.specs.declared.refusal.Refusal.TheVariants as refusal
+use Rattle.ca_text.specs.Limits.{arena_slots, output_limit}
+use Rattle.ca_text.specs.Place.{At}
+use Rattle.ca_text.proofs.Places.{some_is}
+use Rattle.ca_wire.specs.Fields.{Fields}
+use Rattle.ca_wire.specs.Message.{Spells}
+use Rattle.ca_model.specs.Due.{Action, Adds, Applies, Clears, Drops, Due, Greets, Names, Nothing, Opens, Switches, Waits}
+use Rattle.ca_model.specs.Ends as why
+use Rattle.ca_model.specs.Server.{Ended, Open, Server, ServerCircuit, ServerEnd, Subscription, concerns, key_of}
+use Rattle.ca_model.specs.ServerSteps.{Acts, Handles, LacksMemory, NeedsMemory, Next, Reaches, Records, Stepped, Steps, StepsAt, StepsOpen, after_post, closed, counted, is_write, knows, reached, stored_now, with_end, write_mask}
+use Rattle.ca_model.specs.ServerSteps as steps
+use Rattle.ca_model.specs.Speech.{Stored}
+use Rattle.ca_server_core.specs.declared.cause.Cause.{Cause}
+use Rattle.ca_server_core.specs.declared.cause.Cause.TheVariants as cause
+use Rattle.ca_server_core.specs.declared.step.EndStep.TheVariants as step
+use Rattle.ca_server_core.specs.declared.stepping.Step.{Step}
+use Rattle.ca_server_core.specs.Ending.{WithdrawsAll}
+use Rattle.ca_server_core.specs.Handling.{Does, MayLack, Recorded, known, replied}
+use Rattle.ca_server_core.specs.Serving.{CircuitSteps, IsReport, Reports, StepsIn, more_applied, stepped}
+use Rattle.ca_server_core.specs.Sound.{EndIsSound, IsQuiet, IsSound}
+use Rattle.ca_server_core.specs.Stepping.{AreBytes, BreaksBy, EndSteps, Takes, after_first, why_is}
+use Rattle.ca_server_core.proofs.Cleared.{none-of}
+use Rattle.ca_server_core.proofs.Closing.{none-waits, not-ended, sound-freed, sound-handled}
+use Rattle.ca_server_core.proofs.Could.{Could, could}
+use Rattle.ca_server_core.proofs.LongBytes.{are-back, are-front}
+use Rattle.ca_server_core.proofs.Servers.{became, freed-changed, freed-nothing, made_of, same-parts, server_of, stayed}
+use Rattle.ca_server_core.proofs.Tables.{at-under, changed-own, place}
+
+-- ---- a post reaches nobody yet
+
+-- an end without subscriptions is as it was
+unreached : (name : List ℕ) (mask : ℕ) (v : Stored) (h : Handle) (e : ServerEnd) → IsQuiet e → reached name mask v (λ (g : Handle). false) h (Open e) ≡ Open e
+unreached name mask v h e quiet =
+    ap (λ (ss : List Subscription). let new : ServerEnd = record e { queues = fold (λ (qs : List (Queue Stored)) (s : Subscription). map (queue_posted (key_of s) v) qs) e.queues (filter (concerns name mask) ss) } in Open new) quiet.none
+
+-- a table in which nothing changes
+each-same : (f : Handle → ServerCircuit → ServerCircuit) (n : ℕ) (t : Table ServerCircuit) → ((i : ℕ) (p : Place ServerCircuit) (c : ServerCircuit) → At t i p → p.value ≡ Some c → (h : Handle) → f h c ≡ c) → with_each_from n f t ≡ t
+each-same f n [] same = refl
+each-same f n (p ∷ t) same =
+    ap (λ (o : Option ServerCircuit). let q : Place ServerCircuit = record { generation = p.generation; value = o } in q ∷ with_each_from (n + 1) f t) (by p.value (λ c is. same 0 p c refl is (record { index = n; generation = p.generation })))
+    ∙ ap (λ (u : Table ServerCircuit). p ∷ u) (each-same f (n + 1) t (λ i q c at is h. same (suc i) q c at is h))
+  where
+    by : (o : Option ServerCircuit) → ((c : ServerCircuit) → o ≡ Some c → f (record { index = n; generation = p.generation }) c ≡ c) → option_map (f (record { index = n; generation = p.generation })) o ≡ o
+    by None h = refl
+    by (Some c) h = ap (λ (x : ServerCircuit). Some x) (h c refl)
+
+reaches-nobody : (t : Table ServerCircuit) (name : List ℕ) (mask : ℕ) (v : Stored) → ((h : Handle) (e : ServerEnd) → under t h ≡ Some (Open e) → IsQuiet e) → with_each (reached name mask v (λ (g : Handle). false)) t ≡ t
+reaches-nobody t name mask v quiet = each-same (reached name mask v (λ (g : Handle). false)) 0 t by
+  where
+    by : (i : ℕ) (p : Place ServerCircuit) (c : ServerCircuit) → At t i p → p.value ≡ Some c → (h : Handle) → reached name mask v (λ (g : Handle). false) h c ≡ c
+    by i p (Ended w left) at is h = refl
+    by i p (Open e) at is h =
+        let g : Handle = record { index = i; generation = p.generation } in
+        let whole : p ≡ place g (Open e) = ap (λ (o : Option ServerCircuit). let q : Place ServerCircuit = record { generation = p.generation; value = o } in q) is in
+        unreached name mask v h e (quiet g e (at-under t g (Open e) (subst (λ (q : Place ServerCircuit). At t i q) whole at)))
+
+-- no put is taken out
+none-gone : (rs : List Record) → withdrawn (λ (p : Put). false) rs ≡ rs
+none-gone rs = sym (none-of (λ (p : Put). false) rs (λ i k q w at at'. refl))
+
+module _ (port now n : ℕ) (b : Clock) where
+  reaches : (a : Action) (rules : List Rule) (rs : List Record) (stamp : Stamp) (t : Table ServerCircuit) (n : ℕ) → ((h : Handle) (e : ServerEnd) → under t h ≡ Some (Open e) → IsQuiet e) → (let y : Server = made_of port rules rs stamp now t b n in Reaches a (λ (g : Handle). false) y y)
+  reaches (Applies name value busies) rules rs stamp t n quiet =
+      let y : Server = made_of port rules rs stamp now t b n in
+      ((λ h is. absurd (clash is)), same-parts port now b rules rules rs _ stamp stamp t _ n n refl (sym (none-gone rs)) refl (sym (reaches-nobody t name write_mask (stored_now y value) quiet)) refl)
+    where
+      clash : false ≡ true → ⊥
+      clash e = cc
+  reaches Nothing rules rs stamp t n quiet = ((λ h. refl), refl)
+  reaches Greets rules rs stamp t n quiet = ((λ h. refl), refl)
+  reaches (Names p) rules rs stamp t n quiet = ((λ h. refl), refl)
+  reaches (Opens c) rules rs stamp t n quiet = ((λ h. refl), refl)
+  reaches (Clears sid) rules rs stamp t n quiet = ((λ h. refl), refl)
+  reaches (Waits name value) rules rs stamp t n quiet = ((λ h. refl), refl)
+  reaches (Adds s) rules rs stamp t n quiet = ((λ h. refl), refl)
+  reaches (Drops k) rules rs stamp t n quiet = ((λ h. refl), refl)
+  reaches (Switches on) rules rs stamp t n quiet = ((λ h. refl), refl)
+
+  -- what a message makes of the records makes it of the server
+  records-of : (s : Store) (t : Table ServerCircuit) (h : Handle) (e : ServerEnd) (m : Fields) (a : Action) (rs : List Record) → Recorded (records_of s) s.stamp h e m a rs
+      → Records (server_of port s now t b n) h e m a (made_of port s.rules rs s.stamp now t b (more_applied (is_write a) n))
+  records-of s t h e m (Applies name value false) rs is = ap (λ (x : List Record). made_of port s.rules x s.stamp now t b (more_applied true n)) is
+  records-of s t h e m (Applies name value true) rs is = (is.0, is.1, ap (λ (x : List Record). made_of port s.rules x s.stamp now t b (more_applied true n)) is.2)
+  records-of s t h e m (Waits name value) rs is = (is.0, is.1, ap (λ (x : List Record). made_of port s.rules x s.stamp now t b n) is.2)
+  records-of s t h e m (Clears sid) rs is = ap (λ (x : List Record). made_of port s.rules x s.stamp now t b n) is
+  records-of s t h e m Nothing rs is = ap (λ (x : List Record). made_of port s.rules x s.stamp now t b n) is
+  records-of s t h e m Greets rs is = ap (λ (x : List Record). made_of port s.rules x s.stamp now t b n) is
+  records-of s t h e m (Names p) rs is = ap (λ (x : List Record). made_of port s.rules x s.stamp now t b n) is
+  records-of s t h e m (Opens c) rs is = ap (λ (x : List Record). made_of port s.rules x s.stamp now t b n) is
+  records-of s t h e m (Adds x) rs is = ap (λ (x : List Record). made_of port s.rules x s.stamp now t b n) is
+  records-of s t h e m (Drops k) rs is = ap (λ (x : List Record). made_of port s.rules x s.stamp now t b n) is
+  records-of s t h e m (Switches on) rs is = ap (λ (x : List Record). made_of port s.rules x s.stamp now t b n) is
+
+  -- what an end did is what its server did
+  handles-of : (s u : Store) (t after : Table ServerCircuit) (h : Handle) (e : ServerEnd) (m : Fields) (writes : Bool) (new : ServerEnd) (d : Does (Due (known port s e) m) s h e m writes u new) → after ≡ with_changed (λ (x : ServerCircuit). Open new) h t
+      → Handles (server_of port s now t b n) h e m d.replies d.action (server_of port u now after b (more_applied writes n))
+  handles-of s u t after h e m writes new d changed = record {
+    due = d.due;
+    acted = d.acted;
+    acts = d.acts (server_of port s now t b n) refl;
+    recorded = made_of port s.rules (records_of u) s.stamp now t b (more_applied (is_write d.action) n);
+    records = records-of s t h e m d.action (records_of u) d.records;
+    leaves = same-parts port now b u.rules s.rules (records_of u) (records_of u) u.stamp s.stamp after _ (more_applied writes n) (more_applied (is_write d.action) n) d.rules refl d.stamp
+        (changed ∙ ap (λ (x : ServerEnd). with_changed (λ (z : ServerCircuit). Open x) h t) d.leaves) (ap (λ (w : Bool). more_applied w n) d.kind);
+  }
+
+  -- an end that its first message is taken from
+  first-sound : (rs : List Record) (h : Handle) (e : ServerEnd) (x : Takes e) → EndIsSound rs h e → EndIsSound rs h (after_first x)
+  first-sound rs h e x i = record {
+    live = i.live;
+    quiet = record { none = i.quiet.none; on = i.quiet.on; idle = i.quiet.idle };
+    served = i.served;
+    puts = i.puts;
+    few = i.few;
+  }
+
+  step-at : (y : Server) (h : Handle) (c : ServerCircuit) (did : Stepped) (new : Server) → under y.circuits h ≡ Some c → StepsAt y h (Some c) did new → Steps y h did new
+  step-at y h c did new there is = subst (λ (o : Option ServerCircuit). StepsAt y h o did new) (sym there) is
+
+  -- ---- a message was handled
+
+  quiet-of : (rs : List Record) (t : Table ServerCircuit) → IsSound rs t → (h : Handle) (e : ServerEnd) → under t h ≡ Some (Open e) → IsQuiet e
+  quiet-of rs t i h e at = (i.ends h e at).quiet
+
+  -- the circuits after a message was handled are sound
+  handled-sound : (s u : Store) (t after : Table ServerCircuit) (h : Handle) (e new : ServerEnd) (writes : Bool) → under t h ≡ Some (Open e) → EndSteps port h e s (step.Handled writes) new u → IsQuiet new → length new.channels ≤ arena_slots → after ≡ with_changed (λ (x : ServerCircuit). Open new) h t → IsSound (records_of s) t → IsSound (records_of u) after
+  handled-sound s u t after h e new writes there did quiet few changed i =
+      subst (λ (x : Table ServerCircuit). IsSound (records_of u) x) (sym changed)
+      (sound-handled (server_of port s now t b n) s u h e (after_first did.0) did.0.m writes (Due (known port s (after_first did.0)) did.0.m) new t refl i there (first-sound (records_of s) h e did.0 (i.ends h e there)) did.1 quiet few)
+
+  handled-steps : (s u : Store) (t after : Table ServerCircuit) (h : Handle) (e new : ServerEnd) (writes : Bool) → under t h ≡ Some (Open e) → EndSteps port h e s (step.Handled writes) new u → after ≡ with_changed (λ (x : ServerCircuit). Open new) h t → IsSound (records_of u) after
+      → Steps (server_of port s now t b n) h steps.Handled (server_of port u now after b (more_applied writes n))
+  handled-steps s u t after h e new writes there did changed sound =
+      let x = did.0 in
+      let d = did.1 in
+      let y : Server = server_of port s now t b n in
+      let final : Server = server_of port u now after b (more_applied writes n) in
+      let next : Next y h e = record {
+        room = x.room;
+        m = x.m;
+        rest = x.rest;
+        takes = x.takes;
+        replies = d.replies;
+        action = d.action;
+        after = final;
+        handles = handles-of s u t after h (after_first x) x.m writes new d changed;
+      } in
+      step-at y h (Open e) steps.Handled final there (next, (λ (g : Handle). false), refl, reaches d.action u.rules (records_of u) u.stamp after (more_applied writes n) (λ g z at. quiet-of (records_of u) after sound g z at))
+
+  -- ---- nothing was done
+
+  same-server : (s u : Store) (t after : Table ServerCircuit) → u ≡ s → after ≡ t → server_of port u now after b n ≡ server_of port s now t b n
+  same-server s u t after su ta = ap (λ (x : Store). server_of port x now after b n) su ∙ ap (λ (x : Table ServerCircuit). server_of port s now x b n) ta
+
+  idle-steps : (s u : Store) (t after : Table ServerCircuit) (h : Handle) (e new : ServerEnd) → under t h ≡ Some (Open e) → EndSteps port h e s step.NeedBytes new u → after ≡ with_changed (λ (x : ServerCircuit). Open new) h t
+      → Steps (server_of port s now t b n) h steps.NeedBytes (server_of port u now after b n)
+  idle-steps s u t after h e new there did changed =
+      step-at (server_of port s now t b n) h (Open e) steps.NeedBytes (server_of port u now after b n) there
+      (did.0, did.1, did.2, same-server s u t after did.4 (stayed t after h (Open new) (Open e) there changed (ap (λ (x : ServerEnd). Open x) did.3)))
+
+  full-steps : (s u : Store) (t after : Table ServerCircuit) (h : Handle) (e new : ServerEnd) → under t h ≡ Some (Open e) → EndSteps port h e s step.OutputFull new u → after ≡ with_changed (λ (x : ServerCircuit). Open new) h t
+      → Steps (server_of port s now t b n) h steps.OutputFull (server_of port u now after b n)
+  full-steps s u t after h e new there did changed =
+      step-at (server_of port s now t b n) h (Open e) steps.OutputFull (server_of port u now after b n) there
+      (did.0, same-server s u t after did.2 (stayed t after h (Open new) (Open e) there changed (ap (λ (x : ServerEnd). Open x) did.1)))
+
+  -- ---- an end closes
+
+  -- the server without the circuit and its puts
+  closed-is : (s u : Store) (t last : Table ServerCircuit) (h : Handle) → WithdrawsAll h s u → last ≡ with_freed h t → server_of port u now last b n ≡ closed h (server_of port s now t b n)
+  closed-is s u t last h w freed = same-parts port now b u.rules s.rules (records_of u) _ u.stamp s.stamp last _ n n w.rules w.records w.stamp freed refl
+
+  needs-for : (m : Fields) (replies : List Fields) (a : Action) → m.payload ≢ [] → NeedsMemory m replies a
+  needs-for m replies (Applies name value busies) some = tt
+  needs-for m replies (Waits name value) some = tt
+  needs-for m replies (Adds s) some = tt
+  needs-for m replies Nothing some = inl some
+  needs-for m replies Greets some = inl some
+  needs-for m replies (Names p) some = inl some
+  needs-for m replies (Opens c) some = inl some
+  needs-for m replies (Clears sid) some = inl some
+  needs-for m replies (Drops k) some = inl some
+  needs-for m replies (Switches on) some = inl some
+
+  -- the payload of the first message is bytes
+  payload-bytes : (e : ServerEnd) (x : Takes e) → AreBytes e.link.input.bytes → AreBytes x.m.payload
+  payload-bytes e x are =
+      let front = are-front x.takes.0 x.rest (subst AreBytes x.takes.2 are) in
+      are-back x.takes.1.head x.m.payload (subst AreBytes x.takes.1.are front)
+
+  lacks : (s : Store) (t : Table ServerCircuit) (h : Handle) (e : ServerEnd) (new : Server) → EndIsSound (records_of s) h e → BreaksBy port s e cause.OutOfMemory → new ≡ closed h (server_of port s now t b n) → LacksMemory (server_of port s now t b n) h e new
+  lacks s t h e new i did is =
+      let x = did.0 in
+      let y : Server = server_of port s now t b n in
+      let c = could port s h (after_first x) x.m (first-sound (records_of s) h e x i) (payload-bytes e x did.1) in
+      let next : Next y h e = record {
+        room = x.room;
+        m = x.m;
+        rest = x.rest;
+        takes = x.takes;
+        replies = c.replies;
+        action = c.action;
+        after = with_end h (replied c.replies c.acted) (made_of port s.rules c.after s.stamp now t b (more_applied (is_write c.action) n));
+        handles = record {
+          due = c.due;
+          acted = c.acted;
+          acts = c.acts y refl;
+          recorded = made_of port s.rules c.after s.stamp now t b (more_applied (is_write c.action) n);
+          records = records-of s t h (after_first x) x.m c.action c.after c.records;
+          leaves = refl;
+        };
+      } in
+      record {
+        next = next;
+        needs = elim did.2 [
+          | inl some ↦ needs-for x.m c.replies c.action some
+          | inr lack ↦ lack c.replies c.action c.due
+        ];
+        written = None;
+        mid = y;
+        left_is = refl;
+        leaves = is;
+      }
+
+  breaks-steps : (s : Store) (t : Table ServerCircuit) (h : Handle) (e : ServerEnd) (c : Cause) (new : Server) → EndIsSound (records_of s) h e → BreaksBy port s e c → new ≡ closed h (server_of port s now t b n) → StepsOpen (server_of port s now t b n) h e (steps.Closed (why_is c) e.link.output) new
+  breaks-steps s t h e cause.OutOfMemory new i did is = (refl, lacks s t h e new i did is)
+  breaks-steps s t h e cause.Misaligned new i did is = (did.0, (refusal.Misaligned, did.1, refl), refl, is)
+  breaks-steps s t h e cause.TooLarge new i did is = (did.0, (refusal.TooLarge, did.1, refl), refl, is)
+  breaks-steps s t h e cause.Cut new i did is = absurd did
+
+-- ---- by what the step of one circuit did
+
+not-some : {A B : Type 0} (d : A) → (let none : Option A = None in Some d ≡ none) → B
+not-some d e = absurd cc
+
+pub step-sound : (port : ℕ) (s u : Store) (t after : Table ServerCircuit) (h : Handle) (writes : Bool) → StepsIn port t h s (Some (step.Handled writes)) after u → IsSound (records_of s) t → IsSound (records_of u) after
+step-sound port s u t after h writes (inr none) i = not-some (step.Handled writes) none.1
+step-sound port s u t after h writes (inl g) i = by g.0 g.1 g.2 g.3 g.4
+  where
+    by : (c new : ServerCircuit) → under t h ≡ Some c → CircuitSteps port h c s (Some (step.Handled writes)) new u → after ≡ with_changed (λ (x : ServerCircuit). new) h t → IsSound (records_of u) after
+    by (Open e) new there did changed =
+        handled-sound port 0 0 (record { number = 0; wait = 0; due = 0 }) s u t after h e did.0 writes there did.1 did.2 did.3 (became t after h new (Open did.0) changed did.4) i
+    by (Ended w left) new there did changed = not-some (step.Handled writes) did.0
+
+pub steps-handled : (port now n : ℕ) (b : Clock) (s u : Store) (t after : Table ServerCircuit) (h : Handle) (writes : Bool) → StepsIn port t h s (Some (step.Handled writes)) after u → IsSound (records_of u) after → Steps (server_of port s now t b n) h steps.Handled (server_of port u now after b (more_applied writes n))
+steps-handled port now n b s u t after h writes (inr none) i = not-some (step.Handled writes) none.1
+steps-handled port now n b s u t after h writes (inl g) i = by g.0 g.1 g.2 g.3 g.4
+  where
+    by : (c new : ServerCircuit) → under t h ≡ Some c → CircuitSteps port h c s (Some (step.Handled writes)) new u → after ≡ with_changed (λ (x : ServerCircuit). new) h t → Steps (server_of port s now t b n) h steps.Handled (server_of port u now after b (more_applied writes n))
+    by (Open e) new there did changed = handled-steps port now n b s u t after h e did.0 writes there did.1 (became t after h new (Open did.0) changed did.4) i
+    by (Ended w left) new there did changed = not-some (step.Handled writes) did.0
+
+-- a step that finds nothing to do leaves all as it was
+pub idle-same : (port : ℕ) (s u : Store) (t after : Table ServerCircuit) (h : Handle) → StepsIn port t h s (Some step.NeedBytes) after u → (u ≡ s) × (after ≡ t)
+idle-same port s u t after h (inr none) = not-some step.NeedBytes none.1
+idle-same port s u t after h (inl g) = by g.0 g.1 g.2 g.3 g.4
+  where
+    by : (c new : ServerCircuit) → under t h ≡ Some c → CircuitSteps port h c s (Some step.NeedBytes) new u → after ≡ with_changed (λ (x : ServerCircuit). new) h t → (u ≡ s) × (after ≡ t)
+    by (Open e) new there did changed = (did.1.4, stayed t after h new (Open e) there changed (did.4 ∙ ap (λ (x : ServerEnd). Open x) did.1.3))
+    by (Ended w left) new there did changed = not-some step.NeedBytes did.0
+
+pub full-same : (port : ℕ) (s u : Store) (t after : Table ServerCircuit) (h : Handle) → StepsIn port t h s (Some step.OutputFull) after u → (u ≡ s) × (after ≡ t)
+full-same port s u t after h (inr none) = not-some step.OutputFull none.1
+full-same port s u t after h (inl g) = by g.0 g.1 g.2 g.3 g.4
+  where
+    by : (c new : ServerCircuit) → under t h ≡ Some c → CircuitSteps port h c s (Some step.OutputFull) new u → after ≡ with_changed (λ (x : ServerCircuit). new) h t → (u ≡ s) × (after ≡ t)
+    by (Open e) new there did changed = (did.1.2, stayed t after h new (Open e) there changed (did.4 ∙ ap (λ (x : ServerEnd). Open x) did.1.1))
+    by (Ended w left) new there did changed = not-some step.OutputFull did.0
+
+pub still-sound : (s u : Store) (t after : Table ServerCircuit) → (u ≡ s) × (after ≡ t) → IsSound (records_of s) t → IsSound (records_of u) after
+still-sound s u t after e i = subst (λ (x : Table ServerCircuit). IsSound (records_of u) x) (sym e.1) (subst (λ (x : Store). IsSound (records_of x) t) (sym e.0) i)
+
+pub steps-idle : (port now n : ℕ) (b : Clock) (s u : Store) (t after : Table ServerCircuit) (h : Handle) → StepsIn port t h s (Some step.NeedBytes) after u → Steps (server_of port s now t b n) h steps.NeedBytes (server_of port u now after b n)
+steps-idle port now n b s u t after h (inr none) = not-some step.NeedBytes none.1
+steps-idle port now n b s u t after h (inl g) = by g.0 g.1 g.2 g.3 g.4
+  where
+    by : (c new : ServerCircuit) → under t h ≡ Some c → CircuitSteps port h c s (Some step.NeedBytes) new u → after ≡ with_changed (λ (x : ServerCircuit). new) h t → Steps (server_of port s now t b n) h steps.NeedBytes (server_of port u now after b n)
+    by (Open e) new there did changed = idle-steps port now n b s u t after h e did.0 there did.1 (became t after h new (Open did.0) changed did.4)
+    by (Ended w left) new there did changed = not-some step.NeedBytes did.0
+
+pub steps-full : (port now n : ℕ) (b : Clock) (s u : Store) (t after : Table ServerCircuit) (h : Handle) → StepsIn port t h s (Some step.OutputFull) after u → Steps (server_of port s now t b n) h steps.OutputFull (server_of port u now after b n)
+steps-full port now n b s u t after h (inr none) = not-some step.OutputFull none.1
+steps-full port now n b s u t after h (inl g) = by g.0 g.1 g.2 g.3 g.4
+  where
+    by : (c new : ServerCircuit) → under t h ≡ Some c → CircuitSteps port h c s (Some step.OutputFull) new u → after ≡ with_changed (λ (x : ServerCircuit). new) h t → Steps (server_of port s now t b n) h steps.OutputFull (server_of port u now after b n)
+    by (Open e) new there did changed = full-steps port now n b s u t after h e did.0 there did.1 (became t after h new (Open did.0) changed did.4)
+    by (Ended w left) new there did changed = not-some step.OutputFull did.0
+
+-- ---- an end that broke is reported
+
+report-at : (t : Table ServerCircuit) (h : Handle) (c : ServerCircuit) (did : Stepped) → under t h ≡ Some c → IsReport (under t h) did → IsReport (Some c) did
+report-at t h c did there is = subst (λ (o : Option ServerCircuit). IsReport o did) there is
+
+pub broke-sound : (port : ℕ) (s u : Store) (t after last : Table ServerCircuit) (h : Handle) (c : Cause) (did : Step) → StepsIn port t h s (Some (step.Breaks c)) after u → Reports after h did last → IsSound (records_of s) t → IsSound (records_of u) last
+broke-sound port s u t after last h c did (inr none) r i = not-some (step.Breaks c) none.1
+broke-sound port s u t after last h c did (inl g) r i = by g.0 g.1 g.2 g.3 g.4
+  where
+    by : (x new : ServerCircuit) → under t h ≡ Some x → CircuitSteps port h x s (Some (step.Breaks c)) new u → after ≡ with_changed (λ (z : ServerCircuit). new) h t → IsSound (records_of u) last
+    by (Open e) new there broke changed =
+        let gone : last ≡ with_freed h t = r.1 ∙ ap (λ (z : Table ServerCircuit). with_freed h z) changed ∙ freed-changed t h (Open e) new there in
+        subst (λ (z : Table ServerCircuit). IsSound (records_of u) z) (sym gone) (subst (λ (rs : List Record). IsSound rs (with_freed h t)) (sym broke.2.records) (sound-freed (records_of s) t h i))
+    by (Ended w left) new there broke changed = not-some (step.Breaks c) broke.0
+
+pub steps-broke : (port now n : ℕ) (b : Clock) (s u : Store) (t after last : Table ServerCircuit) (h : Handle) (c : Cause) (did : Step) → StepsIn port t h s (Some (step.Breaks c)) after u → Reports after h did last → IsSound (records_of s) t → Steps (server_of port s now t b n) h (stepped did) (server_of port u now last b n)
+steps-broke port now n b s u t after last h c did (inr none) r i = not-some (step.Breaks c) none.1
+steps-broke port now n b s u t after last h c did (inl g) r i = by g.0 g.1 g.2 g.3 g.4
+  where
+    by : (x new : ServerCircuit) → under t h ≡ Some x → CircuitSteps port h x s (Some (step.Breaks c)) new u → after ≡ with_changed (λ (z : ServerCircuit). new) h t → Steps (server_of port s now t b n) h (stepped did) (server_of port u now last b n)
+    by (Open e) new there broke changed =
+        let gone : last ≡ with_freed h t = r.1 ∙ ap (λ (z : Table ServerCircuit). with_freed h z) changed ∙ freed-changed t h (Open e) new there in
+        let now_ended = became t after h new (Ended (why_is c) e.link.output) changed broke.1 in
+        let found : under after h ≡ Some (Ended (why_is c) e.link.output) = ap (λ (z : Table ServerCircuit). under z h) now_ended ∙ changed-own (λ (z : ServerCircuit). Ended (why_is c) e.link.output) t h (Open e) there in
+        let report : stepped did ≡ steps.Closed (why_is c) e.link.output = report-at after h (Ended (why_is c) e.link.output) (stepped did) found r.0 in
+        let whole = closed-is port now n b s u t last h broke.2 gone in
+        subst (λ (z : Stepped). Steps (server_of port s now t b n) h z (server_of port u now last b n)) (sym report)
+        (step-at port now n b (server_of port s now t b n) h (Open e) (steps.Closed (why_is c) e.link.output) (server_of port u now last b n) there (breaks-steps port now n b s t h e c (server_of port u now last b n) (i.ends h e there) broke.0 whole))
+    by (Ended w left) new there broke changed = not-some (step.Breaks c) broke.0
+
+-- ---- an end that had ended is reported
+
+pub none-sound : (port : ℕ) (s u : Store) (t after last : Table ServerCircuit) (h : Handle) (did : Step) → StepsIn port t h s None after u → Reports after h did last → IsSound (records_of s) t → IsSound (records_of u) last
+none-sound port s u t after last h did (inr none) r i =
+    let gone : last ≡ t = r.1 ∙ ap (λ (z : Table ServerCircuit). with_freed h z) none.2 ∙ freed-nothing t h none.0 in
+    still-sound s u t last (none.3, gone) i
+none-sound port s u t after last h did (inl g) r i = by g.0 g.1 g.2 g.3 g.4
+  where
+    by : (x new : ServerCircuit) → under t h ≡ Some x → CircuitSteps port h x s None new u → after ≡ with_changed (λ (z : ServerCircuit). new) h t → IsSound (records_of u) last
+    by (Open e) new there was changed = absurd was
+    by (Ended w left) new there was changed =
+        let gone : last ≡ with_freed h t = r.1 ∙ ap (λ (z : Table ServerCircuit). with_freed h z) (stayed t after h new (Ended w left) there changed was.1) in
+        let clear = none-waits (records_of s) t h i (λ e at. not-ended e w left (some_is (Open e) (Ended w left) (sym at ∙ there))) in
+        subst (λ (z : Table ServerCircuit). IsSound (records_of u) z) (sym gone)
+        (subst (λ (z : Store). IsSound (records_of z) (with_freed h t)) (sym was.2) (subst (λ (rs : List Record). IsSound rs (with_freed h t)) clear (sound-freed (records_of s) t h i)))
+
+pub steps-none : (port now n : ℕ) (b : Clock) (s u : Store) (t after last : Table ServerCircuit) (h : Handle) (did : Step) → StepsIn port t h s None after u → Reports after h did last → IsSound (records_of s) t → Steps (server_of port s now t b n) h (stepped did) (server_of port u now last b n)
+steps-none port now n b s u t after last h did (inr none) r i =
+    let gone : last ≡ t = r.1 ∙ ap (λ (z : Table ServerCircuit). with_freed h z) none.2 ∙ freed-nothing t h none.0 in
+    let report : stepped did ≡ steps.Closed why.Cut [] = subst (λ (o : Option ServerCircuit). IsReport o (stepped did)) (ap (λ (z : Table ServerCircuit). under z h) none.2 ∙ none.0) r.0 in
+    subst (λ (o : Option ServerCircuit). StepsAt (server_of port s now t b n) h o (stepped did) (server_of port u now last b n)) (sym none.0)
+    (report, same-server port now n b s u t last none.3 gone)
+steps-none port now n b s u t after last h did (inl g) r i = by g.0 g.1 g.2 g.3 g.4
+  where
+    by : (x new : ServerCircuit) → under t h ≡ Some x → CircuitSteps port h x s None new u → after ≡ with_changed (λ (z : ServerCircuit). new) h t → Steps (server_of port s now t b n) h (stepped did) (server_of port u now last b n)
+    by (Open e) new there was changed = absurd was
+    by (Ended w left) new there was changed =
+        let stays = stayed t after h new (Ended w left) there changed was.1 in
+        let gone : last ≡ with_freed h t = r.1 ∙ ap (λ (z : Table ServerCircuit). with_freed h z) stays in
+        let found : under after h ≡ Some (Ended w left) = ap (λ (z : Table ServerCircuit). under z h) stays ∙ there in
+        let clear = none-waits (records_of s) t h i (λ e at. not-ended e w left (some_is (Open e) (Ended w left) (sym at ∙ there))) in
+        let w_all : WithdrawsAll h s u = record {
+          records = ap (λ (z : Store). records_of z) was.2 ∙ sym clear;
+          rules = ap (λ (z : Store). z.rules) was.2;
+          stamp = ap (λ (z : Store). z.stamp) was.2;
+        } in
+        step-at port now n b (server_of port s now t b n) h (Ended w left) (stepped did) (server_of port u now last b n) there
+        (report-at after h (Ended w left) (stepped did) found r.0, closed-is port now n b s u t last h w_all gone)
+
+-- ---- the same along the view of the fields
+
+pub viewed-handled : (y : Server) (port now n k : ℕ) (b : Clock) (s u : Store) (t after : Table ServerCircuit) (h : Handle) (writes : Bool) → server_of port s now t b n ≡ y → k ≡ more_applied writes n → StepsIn port t h s (Some (step.Handled writes)) after u → IsSound (records_of s) t → Steps y h steps.Handled (server_of port u now after b k)
+viewed-handled y port now n k b s u t after h writes is more did i =
+    let final = steps-handled port now n b s u t after h writes did (step-sound port s u t after h writes did i) in
+    subst (λ (x : Server). Steps x h steps.Handled (server_of port u now after b k)) is
+    (subst (λ (m : ℕ). Steps (server_of port s now t b n) h steps.Handled (server_of port u now after b m)) (sym more) final)
+
+pub viewed-idle : (y : Server) (port now n : ℕ) (b : Clock) (s u : Store) (t after : Table ServerCircuit) (h : Handle) → server_of port s now t b n ≡ y → StepsIn port t h s (Some step.NeedBytes) after u → Steps y h steps.NeedBytes (server_of port u now after b n)
+viewed-idle y port now n b s u t after h is did = subst (λ (x : Server). Steps x h steps.NeedBytes (server_of port u now after b n)) is (steps-idle port now n b s u t after h did)
+
+pub viewed-full : (y : Server) (port now n : ℕ) (b : Clock) (s u : Store) (t after : Table ServerCircuit) (h : Handle) → server_of port s now t b n ≡ y → StepsIn port t h s (Some step.OutputFull) after u → Steps y h steps.OutputFull (server_of port u now after b n)
+viewed-full y port now n b s u t after h is did = subst (λ (x : Server). Steps x h steps.OutputFull (server_of port u now after b n)) is (steps-full port now n b s u t after h did)
+
+pub viewed-broke : (y : Server) (port now n : ℕ) (b : Clock) (s u : Store) (t after last : Table ServerCircuit) (h : Handle) (c : Cause) (did : Step) → server_of port s now t b n ≡ y → StepsIn port t h s (Some (step.Breaks c)) after u → Reports after h did last → IsSound (records_of s) t → Steps y h (stepped did) (server_of port u now last b n)
+viewed-broke y port now n b s u t after last h c did is g r i =
+    subst (λ (x : Server). Steps x h (stepped did) (server_of port u now last b n)) is (steps-broke port now n b s u t after last h c did g r i)
+
+pub viewed-none : (y : Server) (port now n : ℕ) (b : Clock) (s u : Store) (t after last : Table ServerCircuit) (h : Handle) (did : Step) → server_of port s now t b n ≡ y → StepsIn port t h s None after u → Reports after h did last → IsSound (records_of s) t → Steps y h (stepped did) (server_of port u now last b n)
+viewed-none y port now n b s u t after last h did is g r i =
+    subst (λ (x : Server). Steps x h (stepped did) (server_of port u now last b n)) is (steps-none port now n b s u t after last h did g r i)

@@ -1,0 +1,53 @@
+-- Working: what a step makes of one circuit, and of the table of circuits.
+use Rattle.std.specs.Prelude.{ℕ, ◌≡◌, ◌≤◌, ◌+◌, ◌⊎◌, Bool, true, false, List, [], Option, Some, None, if◌then◌else◌, length, min}
+use Rattle.ca_arena.specs.declared.handle.Handle.{Handle}
+use Rattle.ca_ids.specs.Table.{Table, under, with_changed, with_freed}
+use Rattle.ca_records.specs.Store.{Store}
+use Rattle.ca_text.specs.Limits.{applied_limit, arena_slots}
+use Rattle.ca_model.specs.Ends as why
+use Rattle.ca_model.specs.Server.{ServerCircuit, ServerEnd}
+use Rattle.ca_model.specs.Server as server
+use Rattle.ca_model.specs.ServerSteps.{Stepped}
+use Rattle.ca_model.specs.ServerSteps as steps
+use Rattle.ca_server_core.specs.declared.step.EndStep.{EndStep}
+use Rattle.ca_server_core.specs.declared.step.EndStep.TheVariants.{Breaks}
+use Rattle.ca_server_core.specs.declared.stepping.Step.{Step}
+use Rattle.ca_server_core.specs.declared.stepping.Step.TheVariants.{Closed, Handled, NeedBytes, OutputFull}
+use Rattle.ca_server_core.specs.Ending.{WithdrawsAll}
+use Rattle.ca_server_core.specs.Sound.{IsQuiet}
+use Rattle.ca_server_core.specs.Stepping.{BreaksBy, EndSteps, why_is}
+
+-- what a step did, as the statement names it
+abbrev pub stepped : Step → Stepped
+stepped Handled = steps.Handled
+stepped NeedBytes = steps.NeedBytes
+stepped OutputFull = steps.OutputFull
+stepped (Closed cause left) = steps.Closed (why_is cause) left
+
+-- how many writes were applied after a message that applied one, or not
+abbrev pub more_applied : (writes : Bool) → ℕ → ℕ
+more_applied writes n = if writes then min (n + 1) applied_limit else n
+
+-- One step of a circuit: its end did this, or has ended if it broke; one that had ended does nothing.
+abbrev pub CircuitSteps : (port : ℕ) → Handle → ServerCircuit → Store → Option EndStep → ServerCircuit → Store → Type 0
+CircuitSteps port h (server.Open e) s (Some (Breaks c)) new t = BreaksBy port s e c × (new ≡ server.Ended (why_is c) e.link.output) × WithdrawsAll h s t
+CircuitSteps port h (server.Open e) s (Some did) new t =
+    (after : ServerEnd) × EndSteps port h e s did after t × IsQuiet after × (length after.channels ≤ arena_slots) × (new ≡ server.Open after)
+CircuitSteps port h (server.Open e) s None new t = ⊥
+CircuitSteps port h (server.Ended w left) s did new t = (did ≡ None) × (new ≡ server.Ended w left) × (t ≡ s)
+
+-- One step of the circuit of a handle.
+abbrev pub StepsIn : (port : ℕ) → Table ServerCircuit → Handle → Store → Option EndStep → Table ServerCircuit → Store → Type 0
+StepsIn port t h s did after u =
+    ((c : ServerCircuit) × (new : ServerCircuit) × (under t h ≡ Some c) × CircuitSteps port h c s did new u × (after ≡ with_changed (λ (x : ServerCircuit). new) h t))
+    ⊎ ((under t h ≡ None) × (did ≡ None) × (after ≡ t) × (u ≡ s))
+
+-- how the end of a circuit that has ended is reported
+abbrev pub IsReport : Option ServerCircuit → Stepped → Type 0
+IsReport None did = did ≡ steps.Closed why.Cut []
+IsReport (Some (server.Ended w left)) did = did ≡ steps.Closed w left
+IsReport (Some (server.Open e)) did = Unit {0}
+
+-- the circuit of a handle was taken out, and its end is reported
+abbrev pub Reports : Table ServerCircuit → Handle → Step → Table ServerCircuit → Type 0
+Reports t h did after = IsReport (under t h) (stepped did) × (after ≡ with_freed h t)

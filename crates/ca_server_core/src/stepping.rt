@@ -1,0 +1,95 @@
+ghost use Rattle.std.specs.Prelude.{◌≡◌};
+ghost use Rattle.ca_model.specs.ServerSteps.{Steps};
+ghost use Rattle.ca_records.specs.Store.{records_of};
+ghost use Rattle.ca_server_core.specs.Serving.{Reports, StepsIn, more_applied, stepped};
+ghost use Rattle.ca_server_core.specs.Sound.{IsSound};
+
+use crate::cause::Cause;
+use crate::circuit::Circuit;
+use crate::server::ServerCore;
+use crate::step::EndStep;
+use ca_arena::Handle;
+use ca_ids::HeldTable;
+use ca_records::ServedRecords;
+use ca_wire::Pipe;
+use std::alloc::Global;
+
+/// How many writes are counted at most.
+const APPLIED_LIMIT: u64 = 0x8000_0000_0000_0000;
+
+/// What a step of a server's end of a circuit did.
+#[derive(Debug, Drop)]
+pub enum Step {
+    /// It handled a message.
+    Handled,
+    /// No complete message is there.
+    NeedBytes,
+    /// So many bytes wait to be sent that no message is handled.
+    OutputFull,
+    /// The end has ended for this cause, and these bytes are left to be sent. Nothing of it is kept.
+    Closed(Cause, Pipe),
+}
+
+impl ServerCore {
+    /// Handles the next message of a circuit, unless 262,144 bytes wait to be sent on it.
+    ///
+    /// The end closes at a header that is refused, and out of memory if there is none for the message: then the message changes nothing, and the
+    /// puts of the circuit that wait are never applied. The end of a circuit is reported once, whichever call ended it. From then on, and
+    /// under a handle without a circuit, a step reports a cut.
+    pub fn step(&mut self, circuit: Handle) -> Step
+        ensures { Steps self.old circuit (stepped result) self.new }
+    {
+        match step_on(self.port, &mut self.circuits, &mut self.records, circuit) {
+            Some(EndStep::Handled(writes)) => {
+                self.applied = more_applied(self.applied, writes);
+                Step::Handled
+            }
+            Some(EndStep::NeedBytes) => Step::NeedBytes,
+            Some(EndStep::OutputFull) => Step::OutputFull,
+            Some(EndStep::Breaks(_)) => report(self.alloc, &mut self.circuits, circuit),
+            None => report(self.alloc, &mut self.circuits, circuit),
+        }
+    }
+}
+
+/// One step of a circuit's end, which has ended if it broke. None if there is no circuit, or its end had ended.
+fn step_on(
+    port: u16,
+    circuits: &mut HeldTable<Circuit>,
+    records: &mut ServedRecords,
+    circuit: Handle,
+) -> Option<EndStep>
+    requires { IsSound (records_of records.old) circuits.old }
+    ensures { StepsIn port circuits.old circuit records.old result circuits.new records.new }
+{
+    let Some(found) = circuits.by_handle_mut(circuit) else {
+        return None;
+    };
+    found.step(port, circuit, records)
+}
+
+/// Takes a circuit out whose end has ended, and reports that.
+fn report(alloc: Global, circuits: &mut HeldTable<Circuit>, circuit: Handle) -> Step
+    ensures { Reports circuits.old circuit result circuits.new }
+{
+    match circuits.free(circuit) {
+        None => Step::Closed(Cause::Cut, Pipe::new(alloc)),
+        Some(found) => {
+            let (cause, left) = found.into_left();
+            Step::Closed(cause, left)
+        }
+    }
+}
+
+/// How many writes were applied, with one more or not. The count stays at 2^63.
+fn more_applied(applied: u64, writes: bool) -> u64
+    ensures { result ≡ more_applied writes applied }
+{
+    if !writes {
+        return applied;
+    }
+    if applied < APPLIED_LIMIT {
+        return applied + 1;
+    }
+    APPLIED_LIMIT
+}
