@@ -27,3 +27,4 @@ pub mod Events
 pub mod Known
 pub mod OtherEvents
 pub mod Restarts
+pub mod Accepts
