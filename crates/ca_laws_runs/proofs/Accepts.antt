@@ -43,7 +43,7 @@ use Rattle.ca_laws_runs.proofs.Worlds.{after-call}
 
 -- ---- messages of a new circuit
 
-serves-version : (priority : ℕ) → Suits history.OfCircuit (version_request priority)
+pub serves-version : (priority : ℕ) → Suits history.OfCircuit (version_request priority)
 serves-version priority history.Create e = (let f : ◌≡◌ {A = ℕ} 0 18 = e in omega (arith, f))
 serves-version priority history.Clear e = (let f : ◌≡◌ {A = ℕ} 0 12 = e in omega (arith, f))
 serves-version priority (history.Request history.Read n) e = (let f : ◌≡◌ {A = ℕ} 0 15 = e in omega (arith, f))
@@ -52,7 +52,7 @@ serves-version priority (history.Request history.Write n) e = (let f : ◌≡◌
 serves-version priority (history.Subscribe n) e = (let f : ◌≡◌ {A = ℕ} 0 1 = e in omega (arith, f))
 serves-version priority (history.Cancel n) e = (let f : ◌≡◌ {A = ℕ} 0 2 = e in omega (arith, f))
 
-serves-user : (text : List ℕ) → Suits history.OfCircuit (name_request command.ClientName text)
+pub serves-user : (text : List ℕ) → Suits history.OfCircuit (name_request command.ClientName text)
 serves-user text history.Create e = (let f : ◌≡◌ {A = ℕ} 20 18 = e in omega (arith, f))
 serves-user text history.Clear e = (let f : ◌≡◌ {A = ℕ} 20 12 = e in omega (arith, f))
 serves-user text (history.Request history.Read n) e = (let f : ◌≡◌ {A = ℕ} 20 15 = e in omega (arith, f))
@@ -61,7 +61,7 @@ serves-user text (history.Request history.Write n) e = (let f : ◌≡◌ {A = �
 serves-user text (history.Subscribe n) e = (let f : ◌≡◌ {A = ℕ} 20 1 = e in omega (arith, f))
 serves-user text (history.Cancel n) e = (let f : ◌≡◌ {A = ℕ} 20 2 = e in omega (arith, f))
 
-serves-host : (text : List ℕ) → Suits history.OfCircuit (name_request command.HostName text)
+pub serves-host : (text : List ℕ) → Suits history.OfCircuit (name_request command.HostName text)
 serves-host text history.Create e = (let f : ◌≡◌ {A = ℕ} 21 18 = e in omega (arith, f))
 serves-host text history.Clear e = (let f : ◌≡◌ {A = ℕ} 21 12 = e in omega (arith, f))
 serves-host text (history.Request history.Read n) e = (let f : ◌≡◌ {A = ℕ} 21 15 = e in omega (arith, f))
@@ -72,7 +72,7 @@ serves-host text (history.Cancel n) e = (let f : ◌≡◌ {A = ℕ} 21 2 = e in
 
 module _ (on : Handle) (n : Names) (x : Client) where
   -- the CREATE_CHANs, as the world stamps them
-  creations-stamped : map (stamped n) (creations on x) ≡ map (create_of n) (waiting_on on x)
+  pub creations-stamped : map (stamped n) (creations on x) ≡ map (create_of n) (waiting_on on x)
   creations-stamped = all (held x.channels)
     where
       all : (es : List (Handle × Channel)) → map (stamped n) (filter_map (λ (e : Handle × Channel). cond (is_on_in is_connecting on e.1) (Some (create_sent on e.0 e.1)) None) es)
@@ -87,7 +87,7 @@ module _ (on : Handle) (n : Names) (x : Client) where
           go false rest = rest
 
   -- all that is sent goes on this circuit
-  sent-here : (d : ClientCircuit) (i : ℕ) (s : Sending) → At (set_up x.peer on d ++ creations on x) i s → s.circuit ≡ on
+  pub sent-here : (d : ClientCircuit) (i : ℕ) (s : Sending) → At (set_up x.peer on d ++ creations on x) i s → s.circuit ≡ on
   sent-here d zero s at = ap (λ (o : Option Sending). unwrap_or (option_map (λ (w : Sending). w.circuit) o) on) (sym at)
   sent-here d (suc zero) s at = ap (λ (o : Option Sending). unwrap_or (option_map (λ (w : Sending). w.circuit) o) on) (sym at)
   sent-here d (suc (suc zero)) s at = ap (λ (o : Option Sending). unwrap_or (option_map (λ (w : Sending). w.circuit) o) on) (sym at)
@@ -101,7 +101,7 @@ module _ (on : Handle) (n : Names) (x : Client) where
 
   -- ---- the circuit itself
 
-  none-asked : AreWaiting x → is_none (connection_at x on) ≡ true → NoneAsked on x
+  pub none-asked : AreWaiting x → is_none (connection_at x on) ≡ true → NoneAsked on x
   none-asked waiting none h ch there = go ch.standing refl
     where
       phases : (p : Phase) → is_connecting p ≡ true → is_asked p ≡ false
@@ -121,7 +121,7 @@ module _ (on : Handle) (n : Names) (x : Client) where
           by false same = refl
 
   -- a circuit on which nothing was sent
-  flows-new : (kept : List ℕ) (c : Circuit) → c.up ≡ [] → c.down ≡ [] → c.heard ≡ [] → Flows (Awaits c kept) c
+  pub flows-new : (kept : List ℕ) (c : Circuit) → c.up ≡ [] → c.down ≡ [] → c.heard ≡ [] → Flows (Awaits c kept) c
   flows-new kept c up down heard = record {
     within = (let e : length c.heard ≡ 0 = ap (λ (l : List history.Step). length l) heard in omega (arith, e));
     early = λ j h at. absurd (no_step j h (subst (λ (l : List history.Step). At l j h) heard at));
@@ -144,7 +144,7 @@ module _ (on : Handle) (n : Names) (x : Client) where
       no_told k a e = cc
 
   module _ (kept : List ℕ) (i : ℕ) (j : Joined) (up : j.lists.up ≡ []) (down : j.lists.down ≡ []) (heard : j.lists.heard ≡ []) (sound : IsSound n x) (none : is_none (connection_at x on) ≡ true) (here : j.at_client ≡ on) where
-    nothing-held : HeldOn kept n x j
+    pub nothing-held : HeldOn kept n x j
     nothing-held = record {
       flows = flows-new kept j.lists up down heard;
       cids = λ o k channel s at is. absurd (no_sent k s (subst (λ (l : List Sent). At l k s) up at));

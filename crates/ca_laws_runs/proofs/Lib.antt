@@ -28,3 +28,4 @@ pub mod Known
 pub mod OtherEvents
 pub mod Restarts
 pub mod Accepts
+pub mod NewCircuits

@@ -1,4 +1,4 @@
-ghost use Rattle.std.specs.Prelude.{List, Option, ℕ};
+ghost use Rattle.std.specs.Prelude.{◌<◌, List, Option, length, ℕ};
 ghost use Rattle.ca_text.specs.Place.{At};
 ghost use Rattle.ca_dbr.specs.Elements.{Elements};
 ghost use Rattle.ca_dbr.specs.declared.value.Outcome.{Outcome};
@@ -40,4 +40,8 @@ pub fn a_clients_life_keeps_each_circuit()
     ensures accept { (kept : List ℕ) (w new : World) (c k : ℕ) (x : ClientSide) (v : WantsFirst w x)
         → At w.clients c x → ClientsStand w → HappensAccept w c x v new → HeldAt kept w k
         → HeldAt kept new k }
+    // And it is held of the circuit that was made.
+    ensures made { (kept : List ℕ) (w new : World) (c : ℕ) (x : ClientSide) (v : WantsFirst w x)
+        → At w.clients c x → ClientsStand w → HappensAccept w c x v new
+        → length w.circuits < length new.circuits → HeldAt kept new (length w.circuits) }
 {}
