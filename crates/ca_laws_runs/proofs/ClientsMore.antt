@@ -79,7 +79,7 @@ stands-datagram w new i x from bytes at s happens =
 -- ---- a new circuit
 
 -- what is wanted is there, and not connected
-wanted-there : (x : Client) (i : ℕ) (v : WantedCircuit) → At (wanted x) i v → (d : ClientCircuit) × (under x.circuits v.circuit ≡ Some d) × (d.connection ≡ None)
+pub wanted-there : (x : Client) (i : ℕ) (v : WantedCircuit) → At (wanted x) i v → (d : ClientCircuit) × (under x.circuits v.circuit ≡ Some d) × (d.connection ≡ None)
 wanted-there x i v at =
     let r = at-filter-map (λ (c : Handle). option_and_then (wanted_as c) (under x.circuits c)) x.order i v at in
     go r.1 (under x.circuits r.1) refl r.3
@@ -118,7 +118,7 @@ connects x y c d (Some k) sent there none does = (subst (λ (z : Client). KeepsB
     not_none : let a : Option Closing = Some k in a ≡ None → ⊥
     not_none e = cc
 
-unconnected-is : (x : Client) (c : Handle) (d : ClientCircuit) → under x.circuits c ≡ Some d → d.connection ≡ None → unconnected x c ≡ Some d
+pub unconnected-is : (x : Client) (c : Handle) (d : ClientCircuit) → under x.circuits c ≡ Some d → d.connection ≡ None → unconnected x c ≡ Some d
 unconnected-is x c d there none =
     ap (λ (o : Option ClientCircuit). option_and_then (λ (e : ClientCircuit). cond (is_none e.connection) (Some e) None) o) there
     ∙ ap (λ (o : Option Connection). cond (is_none o) (Some d) None) none

@@ -27,3 +27,5 @@ pub mod Events
 pub mod Known
 pub mod OtherEvents
 pub mod Restarts
+pub mod Accepts
+pub mod NewCircuits

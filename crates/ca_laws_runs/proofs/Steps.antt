@@ -25,7 +25,7 @@ use Rattle.ca_laws_runs.proofs.Heard.{Did}
 use Rattle.ca_laws_runs.proofs.Sending.{with_up}
 
 -- of messages on one circuit a filter by that leaves all, or none
-all-here : (on at : Handle) (ss : List Sending) → ((i : ℕ) (s : Sending) → At ss i s → s.circuit ≡ on) → same_handle on at ≡ true → filter (λ (s : Sending). same_handle s.circuit at) ss ≡ ss
+pub all-here : (on at : Handle) (ss : List Sending) → ((i : ℕ) (s : Sending) → At ss i s → s.circuit ≡ on) → same_handle on at ≡ true → filter (λ (s : Sending). same_handle s.circuit at) ss ≡ ss
 all-here on at [] all is = refl
 all-here on at (s ∷ ss) all is =
     go (same_handle s.circuit at) (subst (λ (k : Handle). same_handle k at ≡ true) (sym (all 0 s refl)) is) (all-here on at ss (λ i r there. all (suc i) r there) is)
@@ -34,7 +34,7 @@ all-here on at (s ∷ ss) all is =
     go true e rest = ap (λ (l : List Sending). s ∷ l) rest
     go false e rest = absurd (both_ways false refl e)
 
-none-here : (on at : Handle) (ss : List Sending) → ((i : ℕ) (s : Sending) → At ss i s → s.circuit ≡ on) → same_handle on at ≡ false → filter (λ (s : Sending). same_handle s.circuit at) ss ≡ []
+pub none-here : (on at : Handle) (ss : List Sending) → ((i : ℕ) (s : Sending) → At ss i s → s.circuit ≡ on) → same_handle on at ≡ false → filter (λ (s : Sending). same_handle s.circuit at) ss ≡ []
 none-here on at [] all is = refl
 none-here on at (s ∷ ss) all is =
     go (same_handle s.circuit at) (subst (λ (k : Handle). same_handle k at ≡ false) (sym (all 0 s refl)) is) (none-here on at ss (λ i r there. all (suc i) r there) is)
@@ -44,7 +44,7 @@ none-here on at (s ∷ ss) all is =
     go false e rest = rest
 
 -- CIDs stay those of their channels if no message creates one
-cids-all : (n : Names) (c : Circuit) (ss : List Sent) → AreCids n c → ((i : ℕ) (s : Sent) (channel : ℕ) → At ss i s → s.intent ≡ history.On channel history.Create → ⊥) → AreCids n (with_all_sent ss c)
+pub cids-all : (n : Names) (c : Circuit) (ss : List Sent) → AreCids n c → ((i : ℕ) (s : Sent) (channel : ℕ) → At ss i s → s.intent ≡ history.On channel history.Create → ⊥) → AreCids n (with_all_sent ss c)
 cids-all n c ss were none k channel r at is = elim (At-parts c.up ss k r at) [
   | inl old ↦ were k channel r old is
   | inr new ↦ absurd (none new.0 r channel new.2 is)

@@ -1,11 +1,11 @@
-ghost use Rattle.std.specs.Prelude.{List, Option, ℕ};
+ghost use Rattle.std.specs.Prelude.{◌<◌, List, Option, length, ℕ};
 ghost use Rattle.ca_text.specs.Place.{At};
 ghost use Rattle.ca_dbr.specs.Elements.{Elements};
 ghost use Rattle.ca_dbr.specs.declared.value.Outcome.{Outcome};
 ghost use Rattle.ca_records.specs.Record.{RecordState};
 ghost use Rattle.ca_model.specs.Ends.{Address};
 ghost use Rattle.ca_model.specs.History.{Intent, Line};
-ghost use Rattle.ca_model_world.specs.ClientEvents.{HappensClientDatagram, HappensClientRestart, HappensHandingOut, HappensOpen};
+ghost use Rattle.ca_model_world.specs.ClientEvents.{HappensAccept, HappensClientDatagram, HappensClientRestart, HappensHandingOut, HappensOpen, WantsFirst};
 ghost use Rattle.ca_model_world.specs.ServerEvents.{HappensAdd, HappensPost, HappensServerRestart};
 ghost use Rattle.ca_model_world.specs.World.{ClientSide, ServerSide, World};
 ghost use Rattle.ca_laws_runs.specs.Circuit.{HeldAt};
@@ -29,12 +29,19 @@ pub fn quiet_events_keep_each_circuit()
         → HappensServerRestart w i y new → HeldAt kept w k → HeldAt kept new k }
 {}
 
-/// So does a client that begins again, whose ends are closed then, and a datagram that reaches one:
-/// channels that it finds are created.
+/// So does a client that begins again, whose ends are closed then, a datagram that reaches one, which
+/// may create channels, and a circuit that is made, for those that were there before it.
 pub fn a_clients_life_keeps_each_circuit()
     ensures restart { (kept : List ℕ) (w new : World) (i k : ℕ) (x : ClientSide)
         → At w.clients i x → HappensClientRestart w i x new → HeldAt kept w k → HeldAt kept new k }
     ensures datagram { (kept : List ℕ) (w new : World) (i k : ℕ) (x : ClientSide) (from : Address)
         (bytes : List ℕ) → At w.clients i x → ClientsStand w
         → HappensClientDatagram w i x from bytes new → HeldAt kept w k → HeldAt kept new k }
+    ensures accept { (kept : List ℕ) (w new : World) (c k : ℕ) (x : ClientSide) (v : WantsFirst w x)
+        → At w.clients c x → ClientsStand w → HappensAccept w c x v new → HeldAt kept w k
+        → HeldAt kept new k }
+    // And it is held of the circuit that was made.
+    ensures made { (kept : List ℕ) (w new : World) (c : ℕ) (x : ClientSide) (v : WantsFirst w x)
+        → At w.clients c x → ClientsStand w → HappensAccept w c x v new
+        → length w.circuits < length new.circuits → HeldAt kept new (length w.circuits) }
 {}
