@@ -1,5 +1,5 @@
 -- Values and numbers wait side by side, whatever is done to both.
-use Rattle.std.proofs.Common.{◌≡◌, ℕ, zero, suc, inl, inr, Bool, true, false, cond, List, [], ◌∷◌, ◌++◌, Option, Some, None, refl, sym, ap, subst, ◌∙◌}
+use Rattle.std.proofs.Common.{◌≡◌, ℕ, zero, suc, ◌<◌, ◌≤◌, inl, inr, Bool, true, false, cond, List, [], ◌∷◌, ◌++◌, length, le-ltb, lt-ltb, Option, Some, None, refl, sym, ap, subst, ◌∙◌, arith}
 use Rattle.std.specs.Prelude.{map, option_and_then, option_map, replicate, slice_get, slice_set, unwrap_or}
 use Rattle.std.specs.List.{FoldsTo, fold}
 use Rattle.ca_text.specs.Place.{At}
@@ -8,15 +8,17 @@ use Rattle.ca_queue.specs.declared.entry.SubKey.{SubKey}
 use Rattle.ca_queue.specs.Circuit.{queue_posted, queue_without, without_each}
 use Rattle.ca_queue.specs.Images.{image_if, images, queue_images}
 use Rattle.ca_queue.specs.Keys.{is_among}
-use Rattle.ca_queue.specs.Queue.{Queue, cancelled, no_queue, posted, switched, with_front_taken}
+use Rattle.ca_queue.specs.Queue.{Queue, added, cancelled, no_queue, posted, switched, with_front_taken}
 use Rattle.ca_queue.specs.Waiting.{front, may_take, taken}
 use Rattle.ca_queue.proofs.Images.{cancelled_images, front_taken_images, posted_images, taken_images}
-use Rattle.ca_model.specs.Server.{ServerEnd, key_of}
-use Rattle.ca_model.specs.ServerSteps.{Leaves}
+use Rattle.ca_arena.specs.declared.handle.Handle.{Handle}
+use Rattle.ca_text.specs.Limits.{queue_subscriptions}
+use Rattle.ca_model.specs.Server.{Server, ServerEnd, Subscription, key_of}
+use Rattle.ca_model.specs.ServerSteps.{HasEnd, Leaves, Pumps, TakesIn}
 use Rattle.ca_model.specs.ServerSteps as stepped
 use Rattle.ca_model.specs.Speech.{Stored}
 use Rattle.ca_model.specs.History.{Cause, Reply, Told, Update}
-use Rattle.ca_model_world.specs.ServerEvents.{front_number, stamped}
+use Rattle.ca_model_world.specs.ServerEvents.{front_number, number_taken, stamped}
 use Rattle.ca_model_world.specs.World.{Joined}
 use Rattle.ca_laws_updates.specs.InStep.{InStep, Numbered, number_in, value_in}
 
@@ -184,3 +186,47 @@ step-pumped (u ∷ us) e after j (mid, one, rest) s =
     let a = one-leaves u e mid j one s in
     let b = step-pumped us mid after (one-stamped u j) rest a.0 in
     (b.0, λ i t at reply. a.1 i t (b.1 i t at reply) reply)
+
+-- ---- a subscription begins
+
+-- it is taken by the first queue with room, in both
+taken-first : (key : SubKey) (v : Stored) (place : ℕ) (both : List (Queue Numbered)) (i : ℕ) (q : Queue Stored) → At (map (queue_images value_in) both) i q → length q.subscriptions < queue_subscriptions
+    → ((k : ℕ) (r : Queue Stored) → k < i → At (map (queue_images value_in) both) k r → queue_subscriptions ≤ length r.subscriptions)
+    → (out : List (Queue Numbered)) × (slice_set (map (queue_images value_in) both) i (posted key v (added key q)) ≡ map (queue_images value_in) out)
+    × (number_taken key (place, Update 0) (map (queue_images number_in) both) ≡ map (queue_images number_in) out)
+taken-first key v place [] i q at room first = absurd (none_at i q at)
+taken-first key v place (z ∷ zs) zero q at room first =
+    let entry : Numbered = record { value = v; place = place; number = 0 } in
+    let is : queue_images value_in z ≡ q = some_is (queue_images value_in z) q at in
+    let fits : length z.subscriptions < queue_subscriptions = subst (λ (x : Queue Stored). length x.subscriptions < queue_subscriptions) (sym is) room in (
+      posted key entry (added key z) ∷ zs,
+      ap (λ (x : Queue Stored). posted key v (added key x) ∷ map (queue_images value_in) zs) (sym is)
+          ∙ ap (λ (x : Queue Stored). x ∷ map (queue_images value_in) zs) (posted_images value_in key entry (added key z)),
+      ap (λ (b : Bool). cond b (posted key (place, Update 0) (added key (queue_images number_in z)) ∷ map (queue_images number_in) zs) (queue_images number_in z ∷ number_taken key (place, Update 0) (map (queue_images number_in) zs))) (lt-ltb (length z.subscriptions) queue_subscriptions fits)
+          ∙ ap (λ (x : Queue (ℕ × Cause)). x ∷ map (queue_images number_in) zs) (posted_images number_in key entry (added key z)),
+    )
+taken-first key v place (z ∷ zs) (suc i) q at room first =
+    let r = taken-first key v place zs i q at room (λ k x lt there. first (suc k) x (omega (arith, lt)) there) in
+    let full : queue_subscriptions ≤ length z.subscriptions = first 0 (queue_images value_in z) (omega arith) refl in (
+      z ∷ r.0,
+      ap (λ (l : List (Queue Stored)). queue_images value_in z ∷ l) r.1,
+      ap (λ (b : Bool). cond b (posted key (place, Update 0) (added key (queue_images number_in z)) ∷ map (queue_images number_in) zs) (queue_images number_in z ∷ number_taken key (place, Update 0) (map (queue_images number_in) zs))) (le-ltb (length z.subscriptions) queue_subscriptions full)
+          ∙ ap (λ (l : List (Queue (ℕ × Cause))). queue_images number_in z ∷ l) r.2,
+    )
+
+-- A subscription is taken in, and its first number waits beside its first value.
+pub step-taken-in : (s : Subscription) (v : Stored) (place : ℕ) (e new : ServerEnd) (numbers : List (Queue (ℕ × Cause))) → TakesIn s v e new → InStep e.queues numbers → InStep new.queues (number_taken (key_of s) (place, Update 0) numbers)
+step-taken-in s v place e new numbers t step =
+    let at : At (map (queue_images value_in) step.both) t.place t.q = subst (λ (l : List (Queue Stored)). At l t.place t.q) step.values_are t.at in
+    let r = taken-first (key_of s) v place step.both t.place t.q at t.room (λ k x lt there. t.first k x lt (subst (λ (l : List (Queue Stored)). At l k x) (sym step.values_are) there)) in
+    record {
+      both = r.0;
+      values_are = ap (λ (x : ServerEnd). x.queues) t.leaves ∙ ap (λ (l : List (Queue Stored)). slice_set l t.place (posted (key_of s) v (added (key_of s) t.q))) step.values_are ∙ r.1;
+      numbers_are = ap (λ (l : List (Queue (ℕ × Cause))). number_taken (key_of s) (place, Update 0) l) step.numbers_are ∙ r.2;
+    }
+
+-- ---- a pump of an end
+
+pub pumps-numbered : (y core : Server) (h : Handle) (updates : List stepped.Update) (j : Joined) → ((e : ServerEnd) → HasEnd y h e → InStep e.queues j.queues) → Pumps y h updates core → NoReply j (stamped updates j)
+pumps-numbered y core h updates j step (inl (e, has, (after, folds, rest))) = (step-pumped updates e after j folds (step e has)).1
+pumps-numbered y core h updates j step (inr (none, nothing, is)) = subst (λ (us : List stepped.Update). NoReply j (stamped us j)) (sym nothing) (λ i t at reply. at)

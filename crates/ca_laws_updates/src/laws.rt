@@ -2,11 +2,12 @@ ghost use Rattle.std.specs.Prelude.{[], ◌≡◌, ◌+◌, ◌++◌, ◌∷◌,
 ghost use Rattle.std.specs.List.{FoldsTo};
 ghost use Rattle.ca_text.specs.Place.{At};
 ghost use Rattle.ca_queue.specs.Circuit.{queue_posted, without_each};
-ghost use Rattle.ca_model.specs.Server.{ServerEnd};
-ghost use Rattle.ca_model.specs.ServerSteps.{Leaves};
+ghost use Rattle.ca_model.specs.Server.{Server, ServerEnd, Subscription, key_of};
+ghost use Rattle.ca_arena.specs.declared.handle.Handle.{Handle};
+ghost use Rattle.ca_model.specs.ServerSteps.{HasEnd, Leaves, Pumps, TakesIn};
 ghost use Rattle.ca_model.specs.ServerSteps as event;
 ghost use Rattle.ca_model.specs.Speech.{Stored};
-ghost use Rattle.ca_model_world.specs.ServerEvents.{stamped};
+ghost use Rattle.ca_model_world.specs.ServerEvents.{number_taken, stamped};
 ghost use Rattle.ca_model_world.specs.World.{Joined};
 ghost use Rattle.ca_laws_updates.specs.InStep.{InStep};
 ghost use Rattle.ca_queue.specs.declared.entry.SubKey.{SubKey};
@@ -82,9 +83,17 @@ pub fn values_and_numbers_stay_in_step()
     ensures switched { (on : Bool) (values : List (Queue Stored))
         (numbers : List (Queue (ℕ × Cause))) → InStep values numbers
         → InStep (map (switched on) values) (map (switched on) numbers) }
+    ensures taken_in { (s : Subscription) (v : Stored) (place : ℕ) (e new : ServerEnd)
+        (numbers : List (Queue (ℕ × Cause))) → TakesIn s v e new → InStep e.queues numbers
+        → InStep new.queues (number_taken (key_of s) (place, Update 0) numbers) }
+    // Updates leave the end.
     ensures pumped { (updates : List event.Update) (e after : ServerEnd) (j : Joined)
         → FoldsTo Leaves e updates after → InStep e.queues j.queues
         → InStep after.queues (stamped updates j).queues
         × ((i : ℕ) (t : Told) → At (stamped updates j).lists.down i t → t.cause ≡ Reply
         → At j.lists.down i t) }
+    ensures numbered { (y core : Server) (h : Handle) (updates : List event.Update) (j : Joined)
+        → ((e : ServerEnd) → HasEnd y h e → InStep e.queues j.queues)
+        → Pumps y h updates core → (i : ℕ) (t : Told) → At (stamped updates j).lists.down i t
+        → t.cause ≡ Reply → At j.lists.down i t }
 {}
