@@ -1,3 +1,4 @@
 pub mod Numbers
 pub mod Seen
 pub mod Rising
+pub mod InStep

@@ -1,3 +1,4 @@
 pub mod Subsequence
 pub mod Seen
 pub mod Rising
+pub mod InStep

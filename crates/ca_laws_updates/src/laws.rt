@@ -1,10 +1,21 @@
-ghost use Rattle.std.specs.Prelude.{[], ◌≡◌, ◌+◌, ◌++◌, ◌∷◌, Bool, List, None, Some, false, take, ℕ};
+ghost use Rattle.std.specs.Prelude.{[], ◌≡◌, ◌+◌, ◌++◌, ◌∷◌, Bool, List, None, Some, false, map, replicate, take, ℕ};
+ghost use Rattle.std.specs.List.{FoldsTo};
+ghost use Rattle.ca_text.specs.Place.{At};
+ghost use Rattle.ca_queue.specs.Circuit.{queue_posted, without_each};
+ghost use Rattle.ca_model.specs.Server.{Server, ServerEnd, Subscription, key_of};
+ghost use Rattle.ca_arena.specs.declared.handle.Handle.{Handle};
+ghost use Rattle.ca_model.specs.ServerSteps.{HasEnd, Leaves, Pumps, TakesIn};
+ghost use Rattle.ca_model.specs.ServerSteps as event;
+ghost use Rattle.ca_model.specs.Speech.{Stored};
+ghost use Rattle.ca_model_world.specs.ServerEvents.{number_taken, stamped};
+ghost use Rattle.ca_model_world.specs.World.{Joined};
+ghost use Rattle.ca_laws_updates.specs.InStep.{InStep};
 ghost use Rattle.ca_queue.specs.declared.entry.SubKey.{SubKey};
 ghost use Rattle.ca_queue.specs.Keys.{same};
-ghost use Rattle.ca_queue.specs.Queue.{Queue, added, cancelled, posted, switched, with_front_taken};
+ghost use Rattle.ca_queue.specs.Queue.{Queue, added, cancelled, no_queue, posted, switched, with_front_taken};
 ghost use Rattle.ca_queue.specs.Waiting.{entries_of, taken};
 ghost use Rattle.ca_records.specs.Rules.{Rule};
-ghost use Rattle.ca_model.specs.History.{World};
+ghost use Rattle.ca_model.specs.History.{Cause, Reply, Told, Update, World};
 ghost use Rattle.ca_model_safe.specs.Channels.{OfCircuits};
 ghost use Rattle.ca_model_safe.specs.Known.{IsSafe};
 ghost use Rattle.ca_laws_updates.specs.Rising.{Rises, Rising};
@@ -55,4 +66,34 @@ pub fn a_queue_keeps_numbers_rising<T>()
         (q : Queue T) → Rising stamp key gone next q
         → Rising stamp key gone next (switched on q)
         × (taken q.events_on q.waiting ≡ None → Rising stamp key gone next (with_front_taken q)) }
+{}
+
+/// The queues of a server's end hold the values, and those of its circuit the numbers: the same
+/// updates wait in both, in the same order, whatever is done to both. So each update that leaves
+/// the end has its number in front, and is told as an update.
+pub fn values_and_numbers_stay_in_step()
+    ensures begins { (n : ℕ) → InStep (replicate n no_queue) (replicate n no_queue) }
+    ensures posted { (key : SubKey) (v : Stored) (place number : ℕ) (values : List (Queue Stored))
+        (numbers : List (Queue (ℕ × Cause))) → InStep values numbers
+        → InStep (map (queue_posted key v) values)
+        (map (queue_posted key (place, Update number)) numbers) }
+    ensures without { (gone : SubKey → Bool) (values : List (Queue Stored))
+        (numbers : List (Queue (ℕ × Cause))) → InStep values numbers
+        → InStep (without_each gone values) (without_each gone numbers) }
+    ensures switched { (on : Bool) (values : List (Queue Stored))
+        (numbers : List (Queue (ℕ × Cause))) → InStep values numbers
+        → InStep (map (switched on) values) (map (switched on) numbers) }
+    ensures taken_in { (s : Subscription) (v : Stored) (place : ℕ) (e new : ServerEnd)
+        (numbers : List (Queue (ℕ × Cause))) → TakesIn s v e new → InStep e.queues numbers
+        → InStep new.queues (number_taken (key_of s) (place, Update 0) numbers) }
+    // Updates leave the end.
+    ensures pumped { (updates : List event.Update) (e after : ServerEnd) (j : Joined)
+        → FoldsTo Leaves e updates after → InStep e.queues j.queues
+        → InStep after.queues (stamped updates j).queues
+        × ((i : ℕ) (t : Told) → At (stamped updates j).lists.down i t → t.cause ≡ Reply
+        → At j.lists.down i t) }
+    ensures numbered { (y core : Server) (h : Handle) (updates : List event.Update) (j : Joined)
+        → ((e : ServerEnd) → HasEnd y h e → InStep e.queues j.queues)
+        → Pumps y h updates core → (i : ℕ) (t : Told) → At (stamped updates j).lists.down i t
+        → t.cause ≡ Reply → At j.lists.down i t }
 {}

@@ -1,0 +1,13 @@
+use Rattle.ca_laws_updates.proofs.InStep.{pumps-numbered, step-begins, step-posted, step-pumped, step-switched, step-taken-in, step-without}
+use Rattle.ca_laws_updates.proofs.laws.values_and_numbers_stay_in_step.Goals as goal
+
+pub returns : goal.returns
+returns c = record {
+  begins = step-begins;
+  posted = step-posted;
+  without = step-without;
+  switched = step-switched;
+  taken_in = step-taken-in;
+  pumped = step-pumped;
+  numbered = pumps-numbered;
+}

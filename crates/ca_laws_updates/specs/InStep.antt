@@ -1,0 +1,25 @@
+-- Working: the queues of a server's end beside those of its circuit's numbers.
+use Rattle.std.specs.Prelude.{ℕ, ◌≡◌, List, map}
+use Rattle.ca_queue.specs.Images.{queue_images}
+use Rattle.ca_queue.specs.Queue.{Queue}
+use Rattle.ca_model.specs.Speech.{Stored}
+use Rattle.ca_model.specs.History.{Cause, Update}
+
+-- an update that waits: the value that it carries, the place of its EVENT_ADD, and the number of its post
+pub record Numbered : Type 0 where
+  pub value : Stored
+  pub place : ℕ
+  pub number : ℕ
+
+-- as the server's core has it, and as the circuit does
+abbrev pub value_in : Numbered → Stored
+value_in n = n.value
+
+abbrev pub number_in : Numbered → ℕ × Cause
+number_in n = (n.place, Update n.number)
+
+-- The same updates wait in both, in the same order: each value has its number beside it.
+pub record InStep (values : List (Queue Stored)) (numbers : List (Queue (ℕ × Cause))) : Type 0 where
+  pub both : List (Queue Numbered)
+  pub values_are : values ≡ map (queue_images value_in) both
+  pub numbers_are : numbers ≡ map (queue_images number_in) both
