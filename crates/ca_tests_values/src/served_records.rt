@@ -24,6 +24,10 @@ fn long(alloc: Global, number: i32) -> Result<Value, Refusal> {
     Ok(Value::Longs(vec![in alloc; number; 1]?))
 }
 
+fn int(alloc: Global, number: i16) -> Result<Value, Refusal> {
+    Ok(Value::Ints(vec![in alloc; number; 1]?))
+}
+
 /// A put of a LONG that came on this circuit.
 fn put_of(circuit: u16, ioid: u32) -> Put {
     Put {
@@ -248,53 +252,87 @@ fn record_files_are_judged(rt: HostRuntime) -> Result<(), Fail> {
     Ok(())
 }
 
-// Run it too with the Nth growth refused, for each N: `rt try --test --fail-alloc N`.
+/// A growth of the test's own is made again if it is refused: each refusal that counts is one of the records'.
+fn own_long(alloc: Global, number: i32) -> Result<Value, Refusal> {
+    match long(alloc, number) {
+        Ok(value) => Ok(value),
+        Err(_) => long(alloc, number),
+    }
+}
+
+/// The same for an INT, of which a record of LONG makes elements of its own.
+fn own_int(alloc: Global, number: i16) -> Result<Value, Refusal> {
+    match int(alloc, number) {
+        Ok(value) => Ok(value),
+        Err(_) => int(alloc, number),
+    }
+}
+
+// Run it too with the Nth growth refused, for each N from 1 to 26: `rt try --test --fail-alloc N`.
 #[test]
-fn refused_growth_leaves_records(rt: HostRuntime) -> Result<(), Fail> {
-    let mut served = match served_of_file(rt.alloc()) {
+fn refused_growth_of_a_file_is_out_of_memory(rt: HostRuntime) -> Result<(), Fail> {
+    let served = match served_of_file(rt.alloc()) {
         Ok(served) => served,
         Err(refusal) => {
             assert_eq!(rt; refusal, Refusal::OutOfMemory);
             served_of_file(rt.alloc())?
         }
     };
-    write(
-        &mut served,
-        b"SLOW",
-        Some(put_of(0, 0)),
-        long(rt.alloc(), 1)?,
-    )?;
-    let text = Value::Strings(vec![in rt.alloc(); [0x32; 40]; 1]?);
-    assert_eq!(rt;
-        write(&mut served, b"SLOW", Some(put_of(0, 1)), text),
-        Ok(Begun::Refused(Status::PUTFAIL))
-    );
-    if let Err(refusal) = write(
-        &mut served,
-        b"SLOW",
-        Some(put_of(0, 1)),
-        long(rt.alloc(), 2)?,
-    ) {
-        assert!(rt; refusal == Refusal::OutOfMemory && served.waiting() == 0);
-        write(
-            &mut served,
-            b"SLOW",
-            Some(put_of(0, 1)),
-            long(rt.alloc(), 2)?,
-        )?;
+    assert!(rt; served.has(b"TEMP") && served.has(b"SLOW"));
+    Ok(())
+}
+
+/// SLOW, on which puts take time, and the put that makes it busy.
+fn busy_served(alloc: Global) -> Result<ServedRecords, Refusal> {
+    let mut served = ServedRecords::new(alloc, Vec::new(alloc));
+    if let Err(_) = served.add(b"SLOW", 1, true, own_long(alloc, 0)?) {
+        served.add(b"SLOW", 1, true, own_long(alloc, 0)?)?;
     }
-    assert!(rt; has(&served, b"SLOW", &long(rt.alloc(), 1)?, true, 1));
-    let small = Value::Ints(vec![in rt.alloc(); 3; 1]?);
-    if let Err(refusal) = write(&mut served, b"TEMP", None, small) {
+    let busy = Some(put_of(0, 0));
+    write(&mut served, b"SLOW", busy, own_long(alloc, 1)?)?;
+    Ok(served)
+}
+
+// Run it too with the Nth growth refused, for each N from 1 to 20: `rt try --test --fail-alloc N`.
+#[test]
+fn refused_growth_leaves_records(rt: HostRuntime) -> Result<(), Fail> {
+    let mut served = busy_served(rt.alloc())?;
+    let one = own_long(rt.alloc(), 1)?;
+    let waits = Some(put_of(0, 1));
+    if let Err(refusal) = write(&mut served, b"SLOW", waits, own_int(rt.alloc(), 2)?) {
         assert!(rt; refusal == Refusal::OutOfMemory);
-        assert!(rt; has(&served, b"TEMP", &long(rt.alloc(), 21)?, false, 0));
-        write(&mut served, b"TEMP", None, long(rt.alloc(), 3)?)?;
+        assert!(rt; has(&served, b"SLOW", &one, true, 0));
+        write(&mut served, b"SLOW", waits, own_int(rt.alloc(), 2)?)?;
     }
-    assert!(rt; has(&served, b"TEMP", &long(rt.alloc(), 3)?, false, 0));
-    if let Err(refusal) = served.add(b"NEW", 1, false, long(rt.alloc(), 4)?) {
+    assert!(rt; has(&served, b"SLOW", &one, true, 1));
+    if let Err(refusal) = write(&mut served, b"SLOW", None, own_int(rt.alloc(), 3)?) {
+        assert!(rt; refusal == Refusal::OutOfMemory);
+        assert!(rt; has(&served, b"SLOW", &one, true, 1));
+        write(&mut served, b"SLOW", None, own_int(rt.alloc(), 3)?)?;
+    }
+    if let Err(refusal) = served.add(b"NEW", 1, false, own_long(rt.alloc(), 4)?) {
         assert!(rt; refusal == Refusal::OutOfMemory && !served.has(b"NEW"));
-        served.add(b"NEW", 1, false, long(rt.alloc(), 4)?)?;
+        served.add(b"NEW", 1, false, own_long(rt.alloc(), 4)?)?;
     }
-    assert!(rt; has(&served, b"NEW", &long(rt.alloc(), 4)?, false, 0));
+    assert!(rt; has(&served, b"SLOW", &own_long(rt.alloc(), 3)?, true, 1));
+    assert!(rt; has(&served, b"NEW", &own_long(rt.alloc(), 4)?, false, 0));
+    Ok(())
+}
+
+#[test]
+fn with_memory_no_call_is_refused_for_it(rt: HostRuntime) -> Result<(), Fail> {
+    let mut served = served_of_file(rt.alloc())?;
+    for (ioid, begun) in [(0, Begun::Applied(true)), (1, Begun::Waiting)] {
+        let put = Some(put_of(0, ioid));
+        assert_eq!(rt;
+            write(&mut served, b"SLOW", put, int(rt.alloc(), 3)?)?,
+            begun
+        );
+    }
+    assert_eq!(rt; served.remove(b"TEMP"), Ok(0));
+    for (name, place) in [(b"A".as_slice(), 0), (b"B", 2)] {
+        let added = served.add(name, 1, false, long(rt.alloc(), 5)?);
+        assert_eq!(rt; added, Ok(place));
+    }
     Ok(())
 }
