@@ -8,3 +8,4 @@ pub mod Faults
 pub mod Requesting
 pub mod Adding
 pub mod Putting
+pub mod Quoted

@@ -9,3 +9,4 @@ pub mod Hearing
 pub mod Lives
 pub mod Asks
 pub mod Puts
+pub mod Notices

@@ -1,0 +1,18 @@
+-- Vocabulary: the notices of the code as those of the vocabulary.
+use Rattle.std.specs.Prelude.{List, [], ◌∷◌, Option, Some, None}
+use Rattle.ca_client_core.specs.declared.notice.Notice.{Notice}
+use Rattle.ca_client_core.specs.declared.notice.Notice.TheVariants as told
+use Rattle.ca_model.specs.Answers as notice
+
+abbrev pub notice_of : Notice → notice.Notice
+notice_of (told.Live h) = notice.Live h
+notice_of (told.Lost h) = notice.Lost h
+notice_of (told.Completed q o) = notice.Completed q o
+notice_of (told.Update s o) = notice.Update s o
+notice_of (told.SubscriptionEnded s status) = notice.SubscriptionEnded s status
+notice_of (told.WriteRefused h status) = notice.WriteRefused h status
+
+-- one notice, or none
+abbrev pub noticed : Option Notice → List notice.Notice
+noticed None = []
+noticed (Some n) = notice_of n ∷ []
