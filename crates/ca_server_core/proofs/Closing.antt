@@ -32,7 +32,7 @@ both : (b : Bool) → b ≡ true → b ≡ false → ⊥
 both b p q = cc
 
 -- an end is as sound beside records that kept what is its own
-end-stays : (rs qs : List Record) (g : Handle) (x : ServerEnd) (Stays : WaitingPut → Type 0) (New : Record → WaitingPut → Type 0) → Keeps rs qs Stays New
+pub end-stays : (rs qs : List Record) (g : Handle) (x : ServerEnd) (Stays : WaitingPut → Type 0) (New : Record → WaitingPut → Type 0) → Keeps rs qs Stays New
     → ((q : Record) (w : WaitingPut) → New q w → same_handle w.put.circuit g ≡ true → ⊥) → EndIsSound rs g x → EndIsSound qs g x
 end-stays rs qs g x St New k none i = record {
   live = i.live;

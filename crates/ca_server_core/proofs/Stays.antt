@@ -81,7 +81,7 @@ map-keeps g Stays New names each rs = ((λ n r is. named-still g names rs n r is
         ]
 
 -- one record is changed
-record-keeps : (name : List ℕ) (f : Record → Record) (New : Record → WaitingPut → Type 0) → ((r : Record) → (f r).state.name ≡ r.state.name)
+pub record-keeps : (name : List ℕ) (f : Record → Record) (New : Record → WaitingPut → Type 0) → ((r : Record) → (f r).state.name ≡ r.state.name)
     → ((r : Record) (k : ℕ) (w : WaitingPut) → bytes_eq r.state.name name ≡ true → At (f r).waiting k w → (((j : ℕ) × At r.waiting j w) × Unit {0}) ⊎ New (f r) w)
     → (rs : List Record) → Keeps rs (map (λ (r : Record). cond (bytes_eq r.state.name name) (f r) r) rs) (λ (w : WaitingPut). Unit {0}) New
 record-keeps name f New names each rs =

@@ -46,12 +46,12 @@ use Rattle.ca_server_core.proofs.Tables.{at-under, changed-own, place}
 -- ---- a post reaches nobody yet
 
 -- an end without subscriptions is as it was
-unreached : (name : List ℕ) (mask : ℕ) (v : Stored) (h : Handle) (e : ServerEnd) → IsQuiet e → reached name mask v (λ (g : Handle). false) h (Open e) ≡ Open e
+pub unreached : (name : List ℕ) (mask : ℕ) (v : Stored) (h : Handle) (e : ServerEnd) → IsQuiet e → reached name mask v (λ (g : Handle). false) h (Open e) ≡ Open e
 unreached name mask v h e quiet =
     ap (λ (ss : List Subscription). let new : ServerEnd = record e { queues = fold (λ (qs : List (Queue Stored)) (s : Subscription). map (queue_posted (key_of s) v) qs) e.queues (filter (concerns name mask) ss) } in Open new) quiet.none
 
 -- a table in which nothing changes
-each-same : (f : Handle → ServerCircuit → ServerCircuit) (n : ℕ) (t : Table ServerCircuit) → ((i : ℕ) (p : Place ServerCircuit) (c : ServerCircuit) → At t i p → p.value ≡ Some c → (h : Handle) → f h c ≡ c) → with_each_from n f t ≡ t
+pub each-same : (f : Handle → ServerCircuit → ServerCircuit) (n : ℕ) (t : Table ServerCircuit) → ((i : ℕ) (p : Place ServerCircuit) (c : ServerCircuit) → At t i p → p.value ≡ Some c → (h : Handle) → f h c ≡ c) → with_each_from n f t ≡ t
 each-same f n [] same = refl
 each-same f n (p ∷ t) same =
     ap (λ (o : Option ServerCircuit). let q : Place ServerCircuit = record { generation = p.generation; value = o } in q ∷ with_each_from (n + 1) f t) (by p.value (λ c is. same 0 p c refl is (record { index = n; generation = p.generation })))
@@ -61,7 +61,7 @@ each-same f n (p ∷ t) same =
     by None h = refl
     by (Some c) h = ap (λ (x : ServerCircuit). Some x) (h c refl)
 
-reaches-nobody : (t : Table ServerCircuit) (name : List ℕ) (mask : ℕ) (v : Stored) → ((h : Handle) (e : ServerEnd) → under t h ≡ Some (Open e) → IsQuiet e) → with_each (reached name mask v (λ (g : Handle). false)) t ≡ t
+pub reaches-nobody : (t : Table ServerCircuit) (name : List ℕ) (mask : ℕ) (v : Stored) → ((h : Handle) (e : ServerEnd) → under t h ≡ Some (Open e) → IsQuiet e) → with_each (reached name mask v (λ (g : Handle). false)) t ≡ t
 reaches-nobody t name mask v quiet = each-same (reached name mask v (λ (g : Handle). false)) 0 t by
   where
     by : (i : ℕ) (p : Place ServerCircuit) (c : ServerCircuit) → At t i p → p.value ≡ Some c → (h : Handle) → reached name mask v (λ (g : Handle). false) h c ≡ c
@@ -72,7 +72,7 @@ reaches-nobody t name mask v quiet = each-same (reached name mask v (λ (g : Han
         unreached name mask v h e (quiet g e (at-under t g (Open e) (subst (λ (q : Place ServerCircuit). At t i q) whole at)))
 
 -- no put is taken out
-none-gone : (rs : List Record) → withdrawn (λ (p : Put). false) rs ≡ rs
+pub none-gone : (rs : List Record) → withdrawn (λ (p : Put). false) rs ≡ rs
 none-gone rs = sym (none-of (λ (p : Put). false) rs (λ i k q w at at'. refl))
 
 module _ (port now n : ℕ) (b : Clock) where

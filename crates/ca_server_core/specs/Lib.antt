@@ -10,3 +10,4 @@ pub mod Circuits
 pub mod Sound
 pub mod Ending
 pub mod Serving
+pub mod Finishing

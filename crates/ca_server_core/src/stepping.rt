@@ -82,7 +82,7 @@ fn report(alloc: Global, circuits: &mut HeldTable<Circuit>, circuit: Handle) -> 
 }
 
 /// How many writes were applied, with one more or not. The count stays at 2^63.
-fn more_applied(applied: u64, writes: bool) -> u64
+pub(crate) fn more_applied(applied: u64, writes: bool) -> u64
     ensures { result ≡ more_applied writes applied }
 {
     if !writes {
