@@ -1,8 +1,6 @@
 -- A put is finished: its reply goes out, and the next that waits is applied.
-use Rattle.std.proofs.Common.{◌≡◌, ◌≢◌, ℕ, zero, suc, ◌+◌, ◌⊎◌, inl, inr, Bool, true, false, cond, List, [], ◌∷◌, length, map, Option, Some, None, is_some, slice_set, Result, Ok, Err, refl, sym, ap, ◌∙◌, subst, arith}
+use Rattle.std.proofs.Common.{◌≡◌, ℕ, zero, suc, ◌+◌, inl, inr, Bool, true, false, cond, List, [], ◌∷◌, Option, Some, None, is_some, slice_set, Ok, refl, sym, ap, ◌∙◌, subst, arith}
 use Rattle.std.specs.Prelude.{option_map}
-use Rattle.std.proofs.lemmas.Bool.{ne_eqb}
-use Rattle.std.specs.Str.{bytes_eq}
 use Rattle.ca_arena.specs.declared.handle.Handle.{Handle}
 use Rattle.ca_arena.specs.Arena.{Place}
 use Rattle.ca_beacon.specs.Clock.{Clock}
@@ -14,16 +12,14 @@ use Rattle.ca_records.specs.Rules.{Rule}
 use Rattle.ca_records.specs.Puts.{Record, WaitingPut, finished, with_record, withdrawn}
 use Rattle.ca_records.specs.Store.{Store, records_of}
 use Rattle.ca_records.specs.Writes as writes
-use Rattle.ca_text.specs.declared.refusal.Refusal.{Refusal}
-use Rattle.ca_text.specs.declared.refusal.Refusal.TheVariants as refusal
 use Rattle.ca_text.specs.Place.{At}
 use Rattle.ca_text.proofs.Places.{some_is}
 use Rattle.ca_wire.specs.Fields.{Fields}
 use Rattle.ca_model.specs.Ends as why
 use Rattle.ca_model.specs.Server.{Ended, Open, Server, ServerCircuit, ServerEnd, with_post}
 use Rattle.ca_model.specs.Speech.{Stored}
-use Rattle.ca_model.specs.ServerCalls.{Finish, Finishes, IsAwaited, Replies, after_next, finish_reply, lacking, with_finish, with_message}
-use Rattle.ca_model.specs.ServerSteps.{HasEnd, counted, reached, stored_now, write_mask}
+use Rattle.ca_model.specs.ServerCalls.{Finishes, IsAwaited, after_next, finish_reply, lacking, with_message}
+use Rattle.ca_model.specs.ServerSteps.{counted, reached, stored_now, write_mask}
 use Rattle.ca_server_core.specs.Ending.{WithdrawsAll}
 use Rattle.ca_server_core.specs.Finishing.{RepliesAt, RepliesIn, with_reply}
 use Rattle.ca_server_core.specs.Serving.{more_applied}
