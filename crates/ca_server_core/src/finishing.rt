@@ -19,8 +19,8 @@ use ca_wire::Message;
 use std::alloc::{AllocError, Global};
 
 impl ServerCore {
-    /// Finishes the busy put of the record of this name. Its reply is sent, unless its channel or its circuit is gone. The next put that waits
-    /// is applied, and makes the record busy. If there is no memory for the reply, its circuit's end has ended.
+    /// Finishes the busy put of the record of this name. Its reply is sent, unless its channel or its circuit is gone. The next put that
+    /// waits is applied, and makes the record busy. If there is no memory for the reply, its circuit's end has ended.
     ///
     /// Refused as UnknownRecord if no record has the name, and as NotBusy if its record is not busy. A refusal changes nothing.
     pub fn finish(&mut self, name: &[u8]) -> Result<(), Refusal>
