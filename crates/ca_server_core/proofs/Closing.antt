@@ -1,5 +1,5 @@
 -- The records and the circuits of a server stay sound as an end handles a message, and as one ends.
-use Rattle.std.proofs.Common.{◌≡◌, ◌≤◌, ℕ, ◌⊎◌, inl, inr, Bool, true, false, List, [], length, map, Option, Some, None, refl, sym, ap, ◌∙◌, subst}
+use Rattle.std.proofs.Common.{◌≡◌, ◌≤◌, ℕ, inl, inr, Bool, true, false, List, length, Some, refl, sym, ap, ◌∙◌, subst}
 use Rattle.ca_arena.specs.declared.handle.Handle.{Handle}
 use Rattle.ca_ids.specs.Table.{Table, same_handle, under, with_changed, with_freed}
 use Rattle.ca_link.specs.Link.{LinkState}
@@ -7,16 +7,14 @@ use Rattle.ca_records.specs.declared.puts.Put.{Put}
 use Rattle.ca_records.specs.Puts.{Record, WaitingPut, withdrawn}
 use Rattle.ca_records.specs.Store.{Store, records_of}
 use Rattle.ca_text.specs.Limits.{arena_slots}
-use Rattle.ca_text.specs.Place.{At}
-use Rattle.ca_text.proofs.Places.{some_is}
 use Rattle.ca_wire.specs.Fields.{Fields}
 use Rattle.ca_model.specs.Due.{Action}
 use Rattle.ca_model.specs.Ends.{Why}
-use Rattle.ca_model.specs.Server.{Ended, Open, OpenChannel, Server, ServerCircuit, ServerEnd, Subscription}
+use Rattle.ca_model.specs.Server.{Ended, Open, OpenChannel, Server, ServerCircuit, ServerEnd}
 use Rattle.ca_server_core.specs.Handling.{Does}
 use Rattle.ca_server_core.specs.Sound.{EndIsSound, IsQuiet, IsSound}
 use Rattle.ca_server_core.proofs.Cleared.{is-same, none-of, same-is}
-use Rattle.ca_server_core.proofs.Stays.{IsNew, Keeps, Stays, Waited, back-channel, link-kept, new-channel, new-circuit, recorded-keeps, stay-channel, withdrawn-keeps}
+use Rattle.ca_server_core.proofs.Stays.{IsNew, Keeps, Stays, back-channel, link-kept, new-channel, new-circuit, recorded-keeps, stay-channel, withdrawn-keeps}
 use Rattle.ca_server_core.proofs.Tables.{changed-back, changed-other, changed-own, freed-back, freed-other}
 
 abbrev Circuits : Type 0
@@ -32,7 +30,7 @@ both : (b : Bool) → b ≡ true → b ≡ false → ⊥
 both b p q = cc
 
 -- an end is as sound beside records that kept what is its own
-end-stays : (rs qs : List Record) (g : Handle) (x : ServerEnd) (Stays : WaitingPut → Type 0) (New : Record → WaitingPut → Type 0) → Keeps rs qs Stays New
+pub end-stays : (rs qs : List Record) (g : Handle) (x : ServerEnd) (Stays : WaitingPut → Type 0) (New : Record → WaitingPut → Type 0) → Keeps rs qs Stays New
     → ((q : Record) (w : WaitingPut) → New q w → same_handle w.put.circuit g ≡ true → ⊥) → EndIsSound rs g x → EndIsSound qs g x
 end-stays rs qs g x St New k none i = record {
   live = i.live;

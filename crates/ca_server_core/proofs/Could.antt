@@ -1,13 +1,11 @@
 -- Something is due for every message on an end that is sound, and can be done.
 use Rattle.std.proofs.Common.{◌≡◌, ℕ, zero, suc, ◌+◌, ◌<◌, ◌≤◌, ◌⊎◌, inl, inr, ◌==◌, ◌&&◌, ◌||◌, Bool, true, false, not, List, [], ◌∷◌, ◌++◌, length, if◌then◌else◌, Option, Some, None, is_some, slice_set, Result, Ok, Err, refl, sym, ap, ◌∙◌, subst, arith}
 use Rattle.std.specs.Prelude.{map, nat_le, nat_lt, option_map}
-use Rattle.std.specs.List.{list_any}
 use Rattle.std.specs.Str.{bytes_eq}
 use Rattle.std.proofs.lemmas.Bool.{and_cases, eq-eqb, eqb-true, leb-false, ltb-false, ltb-true, or_parts}
 use Rattle.std.proofs.lemmas.List.{get_or_past}
 use Rattle.std.proofs.lemmas.Option.{get_or_from_slice_get}
 use Rattle.std.proofs.lemmas.Slice.Eq.{bytes_eq-Decides}
-use Rattle.ca_text.specs.Command.{command_number}
 use Rattle.ca_text.specs.declared.command.Command.{Command}
 use Rattle.ca_text.specs.declared.command.Command.TheVariants as command
 use Rattle.ca_text.specs.declared.refusal.Refusal.{Refusal}
@@ -27,7 +25,6 @@ use Rattle.ca_ids.specs.Table.{MayGive, Table, by_wire, has_free, held, is_full,
 use Rattle.ca_ids.specs.Wire.{wire_of}
 use Rattle.ca_records.specs.declared.puts.Put.{Put}
 use Rattle.ca_records.specs.Faults.{first_fault, has_misfit, lacks_conversion}
-use Rattle.ca_records.specs.declared.puts.Stamp.{Stamp}
 use Rattle.ca_records.specs.Puts.{Record, record_named, with_record, with_value, with_waiting, withdrawn, written_meta}
 use Rattle.ca_records.specs.Record.{RecordState}
 use Rattle.ca_records.specs.Rules.{may_read, rights}
@@ -44,7 +41,7 @@ use Rattle.ca_model.specs.ServerSteps.{Acts, TakesIn, known_channel, known_recor
 use Rattle.ca_model.specs.Speech.{In, Stored}
 use Rattle.ca_server_core.specs.declared.seek.Seat.{Seat}
 use Rattle.ca_server_core.specs.Creating.{Creation, IsCreation, creation_replies, with_channel}
-use Rattle.ca_server_core.specs.Handling.{Recorded, Replies, known, replied}
+use Rattle.ca_server_core.specs.Handling.{Recorded, known, replied}
 use Rattle.ca_server_core.specs.Seeking.{IsServed, IsStray}
 use Rattle.ca_server_core.specs.Showing.{AnswersRead}
 use Rattle.ca_server_core.specs.Sound.{EndIsSound}

@@ -1,19 +1,18 @@
 -- What is due for a CREATE_CHAN.
-use Rattle.std.proofs.Common.{◌≡◌, ◌≢◌, ℕ, ◌<◌, ◌≤◌, ◌%◌, ◌^◌, ◌⊎◌, inl, inr, Bool, true, false, List, [], ◌∷◌, length, Option, Some, None, refl, sym, ap, ◌∙◌, subst, arith}
+use Rattle.std.proofs.Common.{◌≡◌, ◌≢◌, ℕ, ◌<◌, ◌≤◌, ◌%◌, ◌^◌, ◌⊎◌, inl, inr, true, false, [], ◌∷◌, length, Option, Some, None, refl, sym, ap, ◌∙◌, subst, arith}
 use Rattle.std.specs.Prelude.{map, option_map}
 use Rattle.ca_text.specs.Limits.{arena_slots}
-use Rattle.ca_text.specs.Place.{At}
 use Rattle.ca_text.proofs.Places.{At-map, At-mapped, At-within}
 use Rattle.ca_arena.specs.declared.handle.Handle.{Handle}
 use Rattle.ca_ids.specs.Table.{MayGive, Table, held, under, with_held}
 use Rattle.ca_ids.specs.Wire.{wire_of}
 use Rattle.ca_ids.proofs.Wires.{wire_of-index}
-use Rattle.ca_records.specs.Puts.{Record, record_named}
-use Rattle.ca_records.specs.Store.{Store, records_of}
+use Rattle.ca_records.specs.Puts.{Record}
+use Rattle.ca_records.specs.Store.{Store}
 use Rattle.ca_wire.specs.Fields.{Fields}
 use Rattle.ca_wire.specs.Messages.{failed_reply, text_in}
-use Rattle.ca_model.specs.Due.{CidTaken, IsCreated, IsNotCreated, KnownChannel, Knows, Nothing, Opens}
-use Rattle.ca_model.specs.Server.{OpenChannel, Server, ServerEnd}
+use Rattle.ca_model.specs.Due.{CidTaken, KnownChannel, Nothing, Opens}
+use Rattle.ca_model.specs.Server.{OpenChannel, ServerEnd}
 use Rattle.ca_model.specs.ServerSteps.{known_channel, known_record}
 use Rattle.ca_model.specs.Speech.{In}
 use Rattle.ca_server_core.specs.Cids.{UsesCid}

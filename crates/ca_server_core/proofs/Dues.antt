@@ -1,10 +1,10 @@
 -- What is due for a message, by its command; and that memory may lack for one that is answered.
-use Rattle.std.proofs.Common.{◌≡◌, ◌≢◌, ℕ, ◌⊎◌, inl, inr, ◌==◌, Bool, true, false, List, [], ◌∷◌, if◌then◌else◌, Option, Some, None, refl, sym, ap, ◌∙◌, subst, arith}
+use Rattle.std.proofs.Common.{◌≡◌, ◌≢◌, ℕ, ◌⊎◌, inl, inr, ◌==◌, Bool, true, false, List, [], ◌∷◌, if◌then◌else◌, refl, sym, ap, ◌∙◌, subst}
 use Rattle.ca_text.specs.Command.{command_number}
 use Rattle.ca_text.specs.declared.command.Command.{Command}
 use Rattle.ca_text.specs.declared.command.Command.TheVariants as command
 use Rattle.ca_wire.specs.Fields.{Fields}
-use Rattle.ca_wire.specs.Messages.{bare, cancel_reply, cleared_reply, error_reply, failed_reply, status_reply, text_in, version_reply}
+use Rattle.ca_wire.specs.Messages.{bare, cancel_reply, cleared_reply, error_reply, status_reply, text_in, version_reply}
 use Rattle.ca_text.specs.Status.{bad_channel}
 use Rattle.ca_model.specs.Due.{Action, Adds, Applies, Clears, Drops, Due, EventDue, Greets, IsCreated, IsNotCreated, Knows, Names, Nothing, Opens, PutDue, ReadDue, StrayDue, Switches, Waits, WriteDue, is_known, key_in, named, search_due}
 use Rattle.ca_model.specs.ServerSteps.{NeedsMemory}

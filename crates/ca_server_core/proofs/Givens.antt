@@ -1,12 +1,12 @@
 -- The elements of a put.
-use Rattle.std.proofs.Common.{◌≡◌, ℕ, ◌<◌, ◌≤◌, ◌==◌, ◌||◌, Bool, true, false, not, nat_lt, List, [], ◌∷◌, ◌++◌, length, Option, Some, None, refl, sym, ap, ◌∙◌, subst, arith}
+use Rattle.std.proofs.Common.{◌≡◌, ℕ, ◌≤◌, ◌==◌, ◌||◌, Bool, true, false, not, nat_lt, List, [], ◌∷◌, ◌++◌, length, Option, None, refl, sym, ap, ◌∙◌, subst, arith}
 use Rattle.std.proofs.lemmas.Bool.{le-ltb, ne_eqb}
 use Rattle.ca_text.specs.Status.{bad_count, no_write_access}
 use Rattle.ca_dbr.specs.declared.data_type.BaseType.{BaseType}
 use Rattle.ca_dbr.specs.declared.data_type.DataType.{DataType}
 use Rattle.ca_dbr.specs.declared.data_type.Form.TheVariants as form
 use Rattle.ca_dbr.specs.declared.value.Meta.{Meta}
-use Rattle.ca_dbr.specs.Elements.{Elements, count_of}
+use Rattle.ca_dbr.specs.Elements.{Elements}
 use Rattle.ca_dbr.specs.Reading.{Reads, ReadsElements, least_size}
 use Rattle.ca_dbr.specs.Types.{base_number, type_number}
 use Rattle.ca_records.specs.Faults.{first_fault}
@@ -14,7 +14,7 @@ use Rattle.ca_records.specs.Record.{RecordState}
 use Rattle.ca_records.specs.Rules.{may_write}
 use Rattle.ca_wire.specs.Fields.{Fields}
 use Rattle.ca_model.specs.Due.{PutReads}
-use Rattle.ca_model.specs.Faults.{base_type_of, early_put_fault}
+use Rattle.ca_model.specs.Faults.{early_put_fault}
 use Rattle.ca_server_core.specs.Putting.{early}
 use Rattle.ca_server_core.proofs.Types.{base-of-number, plain-is}
 

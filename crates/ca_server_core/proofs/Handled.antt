@@ -1,5 +1,5 @@
 -- What a message of each command comes to.
-use Rattle.std.proofs.Common.{◌≡◌, ◌≢◌, ℕ, ◌⊎◌, inl, inr, ◌==◌, Bool, true, false, List, [], ◌∷◌, if◌then◌else◌, refl, sym, ap, ◌∙◌, subst}
+use Rattle.std.proofs.Common.{◌≡◌, ℕ, ◌==◌, Bool, true, false, List, [], ◌∷◌, if◌then◌else◌, refl, sym, ap, ◌∙◌}
 use Rattle.std.specs.Prelude.{All}
 use Rattle.std.proofs.lemmas.Bool.{ne_eqb}
 use Rattle.std.proofs.lemmas.List.Elements.{All-cons, All-nil}
@@ -14,11 +14,11 @@ use Rattle.ca_wire.specs.Fields.{Fields}
 use Rattle.ca_wire.specs.Messages.{bare, cancel_reply, cleared_reply, text_in, version_reply}
 use Rattle.ca_model.specs.Due.{Action, Clears, Drops, Due, Greets, Names, Nothing, Switches, is_known, key_in, named, search_due}
 use Rattle.ca_model.specs.Ends.{Peer}
-use Rattle.ca_model.specs.Server.{Server, ServerEnd, with_events, without_subscriptions}
-use Rattle.ca_model.specs.ServerSteps.{Acts, without_channel}
+use Rattle.ca_model.specs.Server.{ServerEnd, with_events, without_subscriptions}
+use Rattle.ca_model.specs.ServerSteps.{without_channel}
 use Rattle.ca_server_core.specs.Clearing.{Withdraws}
 use Rattle.ca_server_core.specs.Creating.{Creation}
-use Rattle.ca_server_core.specs.Handling.{Creates, Does, Replies, known, replied}
+use Rattle.ca_server_core.specs.Handling.{Does, Replies, known, replied}
 use Rattle.ca_server_core.proofs.Dues.{IsDueFor, command_at, due-for, due-other}
 use Rattle.ca_server_core.proofs.Taken.{replied-none}
 

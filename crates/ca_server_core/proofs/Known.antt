@@ -1,11 +1,10 @@
 -- What a server knows of the channels of a circuit.
-use Rattle.std.proofs.Common.{◌≡◌, ◌≢◌, ℕ, ◌⊎◌, inl, inr, Bool, true, false, eqb, List, Option, Some, None, refl, sym, ap, ◌∙◌}
+use Rattle.std.proofs.Common.{◌≡◌, ℕ, ◌⊎◌, inl, inr, eqb, Option, Some, None, sym, ap, ◌∙◌}
 use Rattle.std.specs.Prelude.{map, option_map}
 use Rattle.std.proofs.lemmas.Bool.{eq-eqb}
-use Rattle.ca_text.specs.Place.{At}
 use Rattle.ca_text.proofs.Places.{At-map, At-mapped}
 use Rattle.ca_arena.specs.declared.handle.Handle.{Handle}
-use Rattle.ca_ids.specs.Table.{by_wire, held, under}
+use Rattle.ca_ids.specs.Table.{by_wire, held}
 use Rattle.ca_ids.specs.Wire.{wire_of}
 use Rattle.ca_records.specs.Puts.{Record}
 use Rattle.ca_records.specs.Store.{Store}

@@ -21,3 +21,4 @@ pub mod Servers
 pub mod LongBytes
 pub mod Could
 pub mod Stepped
+pub mod Finished

@@ -9,7 +9,7 @@ use Rattle.std.specs.List.{flat_map}
 use Rattle.std.specs.Prelude.{ℤ, FitsSigned}
 use Rattle.ca_dbr.specs.declared.data_type.BaseType.{BaseType}
 use Rattle.ca_dbr.specs.declared.data_type.BaseType.TheVariants as base
-use Rattle.ca_dbr.specs.Elements.{Elements, IsValue, base_of, byte_1, bytes_2, bytes_4, bytes_8, bytes_of, chars, count_of, doubles, enums, floats, ints, longs, signed_bytes_2, signed_bytes_4, string_bytes, strings}
+use Rattle.ca_dbr.specs.Elements.{Elements, byte_1, bytes_2, bytes_4, bytes_8, chars, doubles, enums, floats, ints, longs, signed_bytes_2, signed_bytes_4, string_bytes, strings}
 use Rattle.ca_dbr.specs.Reading.{ReadsElements, filled, least_size}
 use Rattle.ca_server_core.specs.Stepping.{AreBytes}
 

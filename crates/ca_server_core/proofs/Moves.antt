@@ -1,5 +1,5 @@
 -- Bytes that come on a circuit of a server, and that are handed over.
-use Rattle.std.proofs.Common.{◌≡◌, ◌≢◌, ℕ, ◌≤◌, zero, suc, ◌⊎◌, inl, inr, cond, List, [], ◌∷◌, length, Option, Some, None, is_some, slice_set, Result, Ok, Err, refl, sym, ap, ◌∙◌, subst, arith}
+use Rattle.std.proofs.Common.{◌≡◌, ℕ, ◌≤◌, zero, suc, inl, inr, cond, List, [], ◌∷◌, length, Option, Some, None, is_some, slice_set, Result, Ok, Err, refl, sym, ap, ◌∙◌, subst, arith}
 use Rattle.std.specs.Prelude.{option_map}
 use Rattle.ca_arena.specs.declared.handle.Handle.{Handle}
 use Rattle.ca_arena.specs.Arena.{Place}

@@ -1,5 +1,5 @@
 -- What is due for a message on a channel, by what was found of its SID.
-use Rattle.std.proofs.Common.{◌≡◌, ℕ, ◌⊎◌, inl, inr, List, [], ◌∷◌, Option, Some, None, Result, Ok, Err, refl, sym, ap, ◌∙◌, subst}
+use Rattle.std.proofs.Common.{◌≡◌, ℕ, inl, inr, List, [], ◌∷◌, Some, Result, Ok, Err, refl, sym, ap, ◌∙◌}
 use Rattle.std.specs.Prelude.{OnErr, OnOk, false, length, map, take}
 use Rattle.std.proofs.lemmas.List.{take_at}
 use Rattle.ca_text.proofs.Places.{At-one, some_is}
@@ -10,13 +10,12 @@ use Rattle.ca_records.specs.Record.{RecordState}
 use Rattle.ca_wire.specs.Message.{spelled}
 use Rattle.ca_model.specs.Faults.{subscription_fault, type_of}
 use Rattle.ca_link.specs.Link.{LinkState, with_sent}
-use Rattle.ca_arena.specs.declared.handle.Handle.{Handle}
 use Rattle.ca_text.specs.Status.{bad_channel}
 use Rattle.ca_wire.specs.Fields.{Fields}
 use Rattle.ca_wire.specs.Messages.{error_reply, status_reply}
 use Rattle.ca_records.specs.Rules.{rights}
 use Rattle.ca_records.specs.Store.{HasAt, Store}
-use Rattle.ca_model.specs.Due.{Action, Nothing, ReadDue, StrayDue, fault_of_event, key_in}
+use Rattle.ca_model.specs.Due.{Nothing, ReadDue, StrayDue, fault_of_event, key_in}
 use Rattle.ca_model.specs.Server.{ServerEnd, Subscription, key_of}
 use Rattle.ca_server_core.specs.declared.seek.Seat.{Seat}
 use Rattle.ca_server_core.specs.Handling.{Reads, Replies, Subscribes, known, replied}

@@ -1,5 +1,5 @@
 -- A server by its parts, and what ends on it.
-use Rattle.std.proofs.Common.{◌≡◌, ℕ, zero, suc, ◌⊎◌, inl, inr, Bool, true, false, cond, List, [], ◌∷◌, Option, Some, None, is_some, slice_set, refl, sym, ap, ◌∙◌, subst}
+use Rattle.std.proofs.Common.{◌≡◌, ℕ, zero, suc, inl, inr, cond, List, [], ◌∷◌, Option, Some, None, is_some, slice_set, refl, sym, ap, ◌∙◌, subst}
 use Rattle.std.specs.Prelude.{option_map}
 use Rattle.ca_arena.specs.declared.handle.Handle.{Handle}
 use Rattle.ca_arena.specs.Arena.{Place}
@@ -13,8 +13,8 @@ use Rattle.ca_text.proofs.Places.{some_is}
 use Rattle.ca_model.specs.Ends.{Why}
 use Rattle.ca_model.specs.Ends as why
 use Rattle.ca_model.specs.Server.{Ended, Open, Server, ServerCircuit, ServerEnd}
-use Rattle.ca_model.specs.ServerSteps.{Cuts, HasEnd, closed, ended}
-use Rattle.ca_server_core.specs.Ending.{EndsAt, EndsIn, WithdrawsAll}
+use Rattle.ca_model.specs.ServerSteps.{Cuts}
+use Rattle.ca_server_core.specs.Ending.{EndsAt, EndsIn}
 use Rattle.ca_server_core.specs.Sound.{IsSound}
 use Rattle.ca_server_core.proofs.Closing.{not-ended, sound-ended}
 use Rattle.ca_server_core.proofs.Moves.{changed-nothing}

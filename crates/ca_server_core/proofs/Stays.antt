@@ -5,9 +5,8 @@ use Rattle.std.specs.Str.{bytes_eq}
 use Rattle.std.proofs.lemmas.Bool.{eq-eqb}
 use Rattle.std.proofs.lemmas.Slice.Eq.{bytes_eq-Decides}
 use Rattle.ca_arena.specs.declared.handle.Handle.{Handle}
-use Rattle.ca_ids.specs.Table.{Table, by_wire, same_handle, under, with_freed, with_held}
+use Rattle.ca_ids.specs.Table.{Table, by_wire, same_handle, under, with_freed}
 use Rattle.ca_ids.specs.Wire.{wire_of}
-use Rattle.ca_link.specs.Link.{LinkState}
 use Rattle.ca_records.specs.declared.puts.Put.{Put}
 use Rattle.ca_records.specs.declared.puts.Stamp.{Stamp}
 use Rattle.ca_records.specs.Puts.{Record, WaitingPut, record_named, with_value, with_waiting, without_puts, written_meta}
@@ -18,7 +17,6 @@ use Rattle.ca_model.specs.Due.{Action, Adds, Applies, Clears, Drops, Greets, Nam
 use Rattle.ca_model.specs.Server.{OpenChannel, Server, ServerEnd}
 use Rattle.ca_model.specs.ServerSteps.{Acts, IsPut}
 use Rattle.ca_server_core.specs.Handling.{Fits, Recorded}
-use Rattle.ca_server_core.proofs.Cleared.{same-is}
 use Rattle.ca_server_core.proofs.Tables.{freed-back, freed-other, held-back, held-other, none-some, wire-under}
 
 -- ---- lists
@@ -81,7 +79,7 @@ map-keeps g Stays New names each rs = ((λ n r is. named-still g names rs n r is
         ]
 
 -- one record is changed
-record-keeps : (name : List ℕ) (f : Record → Record) (New : Record → WaitingPut → Type 0) → ((r : Record) → (f r).state.name ≡ r.state.name)
+pub record-keeps : (name : List ℕ) (f : Record → Record) (New : Record → WaitingPut → Type 0) → ((r : Record) → (f r).state.name ≡ r.state.name)
     → ((r : Record) (k : ℕ) (w : WaitingPut) → bytes_eq r.state.name name ≡ true → At (f r).waiting k w → (((j : ℕ) × At r.waiting j w) × Unit {0}) ⊎ New (f r) w)
     → (rs : List Record) → Keeps rs (map (λ (r : Record). cond (bytes_eq r.state.name name) (f r) r) rs) (λ (w : WaitingPut). Unit {0}) New
 record-keeps name f New names each rs =

@@ -1,26 +1,23 @@
 -- A step of a server, from what it made of one circuit.
-use Rattle.std.proofs.Common.{◌≡◌, ◌≢◌, ℕ, suc, ◌+◌, ◌<◌, ◌≤◌, ◌⊎◌, inl, inr, Bool, true, false, cond, List, [], ◌∷◌, length, filter, map, Option, Some, None, refl, sym, ap, ◌∙◌, subst}
-use Rattle.std.specs.Prelude.{min, option_map}
+use Rattle.std.proofs.Common.{◌≡◌, ◌≢◌, ℕ, suc, ◌+◌, ◌≤◌, inl, inr, Bool, true, false, List, [], ◌∷◌, length, filter, map, Option, Some, None, refl, sym, ap, ◌∙◌, subst}
+use Rattle.std.specs.Prelude.{option_map}
 use Rattle.std.specs.List.{fold}
 use Rattle.ca_arena.specs.declared.handle.Handle.{Handle}
 use Rattle.ca_arena.specs.Arena.{Place}
 use Rattle.ca_beacon.specs.Clock.{Clock}
-use Rattle.ca_dbr.specs.Elements.{Elements}
-use Rattle.ca_ids.specs.Table.{Table, same_handle, under, with_changed, with_each, with_each_from, with_freed}
-use Rattle.ca_link.specs.Link.{TakesFirst, with_rest}
+use Rattle.ca_ids.specs.Table.{Table, under, with_changed, with_each, with_each_from, with_freed}
 use Rattle.ca_queue.specs.Circuit.{queue_posted}
 use Rattle.ca_queue.specs.Queue.{Queue}
 use Rattle.ca_records.specs.declared.puts.Put.{Put}
 use Rattle.ca_records.specs.declared.puts.Stamp.{Stamp}
-use Rattle.ca_records.specs.Puts.{Record, WaitingPut, withdrawn}
+use Rattle.ca_records.specs.Puts.{Record, withdrawn}
 use Rattle.ca_records.specs.Rules.{Rule}
 use Rattle.ca_records.specs.Store.{Store, records_of}
 use Rattle.ca_text.specs.declared.refusal.Refusal.TheVariants as refusal
-use Rattle.ca_text.specs.Limits.{arena_slots, output_limit}
+use Rattle.ca_text.specs.Limits.{arena_slots}
 use Rattle.ca_text.specs.Place.{At}
 use Rattle.ca_text.proofs.Places.{some_is}
 use Rattle.ca_wire.specs.Fields.{Fields}
-use Rattle.ca_wire.specs.Message.{Spells}
 use Rattle.ca_model.specs.Due.{Action, Adds, Applies, Clears, Drops, Due, Greets, Names, Nothing, Opens, Switches, Waits}
 use Rattle.ca_model.specs.Ends as why
 use Rattle.ca_model.specs.Server.{Ended, Open, Server, ServerCircuit, ServerEnd, Subscription, concerns, key_of}
@@ -32,13 +29,13 @@ use Rattle.ca_server_core.specs.declared.cause.Cause.TheVariants as cause
 use Rattle.ca_server_core.specs.declared.step.EndStep.TheVariants as step
 use Rattle.ca_server_core.specs.declared.stepping.Step.{Step}
 use Rattle.ca_server_core.specs.Ending.{WithdrawsAll}
-use Rattle.ca_server_core.specs.Handling.{Does, MayLack, Recorded, known, replied}
+use Rattle.ca_server_core.specs.Handling.{Does, Recorded, known, replied}
 use Rattle.ca_server_core.specs.Serving.{CircuitSteps, IsReport, Reports, StepsIn, more_applied, stepped}
 use Rattle.ca_server_core.specs.Sound.{EndIsSound, IsQuiet, IsSound}
 use Rattle.ca_server_core.specs.Stepping.{AreBytes, BreaksBy, EndSteps, Takes, after_first, why_is}
 use Rattle.ca_server_core.proofs.Cleared.{none-of}
 use Rattle.ca_server_core.proofs.Closing.{none-waits, not-ended, sound-freed, sound-handled}
-use Rattle.ca_server_core.proofs.Could.{Could, could}
+use Rattle.ca_server_core.proofs.Could.{could}
 use Rattle.ca_server_core.proofs.LongBytes.{are-back, are-front}
 use Rattle.ca_server_core.proofs.Servers.{became, freed-changed, freed-nothing, made_of, same-parts, server_of, stayed}
 use Rattle.ca_server_core.proofs.Tables.{at-under, changed-own, place}
@@ -46,12 +43,12 @@ use Rattle.ca_server_core.proofs.Tables.{at-under, changed-own, place}
 -- ---- a post reaches nobody yet
 
 -- an end without subscriptions is as it was
-unreached : (name : List ℕ) (mask : ℕ) (v : Stored) (h : Handle) (e : ServerEnd) → IsQuiet e → reached name mask v (λ (g : Handle). false) h (Open e) ≡ Open e
+pub unreached : (name : List ℕ) (mask : ℕ) (v : Stored) (h : Handle) (e : ServerEnd) → IsQuiet e → reached name mask v (λ (g : Handle). false) h (Open e) ≡ Open e
 unreached name mask v h e quiet =
     ap (λ (ss : List Subscription). let new : ServerEnd = record e { queues = fold (λ (qs : List (Queue Stored)) (s : Subscription). map (queue_posted (key_of s) v) qs) e.queues (filter (concerns name mask) ss) } in Open new) quiet.none
 
 -- a table in which nothing changes
-each-same : (f : Handle → ServerCircuit → ServerCircuit) (n : ℕ) (t : Table ServerCircuit) → ((i : ℕ) (p : Place ServerCircuit) (c : ServerCircuit) → At t i p → p.value ≡ Some c → (h : Handle) → f h c ≡ c) → with_each_from n f t ≡ t
+pub each-same : (f : Handle → ServerCircuit → ServerCircuit) (n : ℕ) (t : Table ServerCircuit) → ((i : ℕ) (p : Place ServerCircuit) (c : ServerCircuit) → At t i p → p.value ≡ Some c → (h : Handle) → f h c ≡ c) → with_each_from n f t ≡ t
 each-same f n [] same = refl
 each-same f n (p ∷ t) same =
     ap (λ (o : Option ServerCircuit). let q : Place ServerCircuit = record { generation = p.generation; value = o } in q ∷ with_each_from (n + 1) f t) (by p.value (λ c is. same 0 p c refl is (record { index = n; generation = p.generation })))
@@ -61,7 +58,7 @@ each-same f n (p ∷ t) same =
     by None h = refl
     by (Some c) h = ap (λ (x : ServerCircuit). Some x) (h c refl)
 
-reaches-nobody : (t : Table ServerCircuit) (name : List ℕ) (mask : ℕ) (v : Stored) → ((h : Handle) (e : ServerEnd) → under t h ≡ Some (Open e) → IsQuiet e) → with_each (reached name mask v (λ (g : Handle). false)) t ≡ t
+pub reaches-nobody : (t : Table ServerCircuit) (name : List ℕ) (mask : ℕ) (v : Stored) → ((h : Handle) (e : ServerEnd) → under t h ≡ Some (Open e) → IsQuiet e) → with_each (reached name mask v (λ (g : Handle). false)) t ≡ t
 reaches-nobody t name mask v quiet = each-same (reached name mask v (λ (g : Handle). false)) 0 t by
   where
     by : (i : ℕ) (p : Place ServerCircuit) (c : ServerCircuit) → At t i p → p.value ≡ Some c → (h : Handle) → reached name mask v (λ (g : Handle). false) h c ≡ c
@@ -72,7 +69,7 @@ reaches-nobody t name mask v quiet = each-same (reached name mask v (λ (g : Han
         unreached name mask v h e (quiet g e (at-under t g (Open e) (subst (λ (q : Place ServerCircuit). At t i q) whole at)))
 
 -- no put is taken out
-none-gone : (rs : List Record) → withdrawn (λ (p : Put). false) rs ≡ rs
+pub none-gone : (rs : List Record) → withdrawn (λ (p : Put). false) rs ≡ rs
 none-gone rs = sym (none-of (λ (p : Put). false) rs (λ i k q w at at'. refl))
 
 module _ (port now n : ℕ) (b : Clock) where

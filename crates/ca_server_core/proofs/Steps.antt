@@ -1,15 +1,13 @@
 -- One step of an open end.
-use Rattle.std.proofs.Common.{◌≡◌, ◌≢◌, ℕ, ◌<◌, inl, inr, true, false, List, [], length, Result, Err, refl, sym, ap, ◌∙◌, subst}
-use Rattle.ca_arena.specs.declared.handle.Handle.{Handle}
+use Rattle.std.proofs.Common.{◌≡◌, ℕ, ◌<◌, inl, true, false, List, length, Err, ap, ◌∙◌}
 use Rattle.ca_link.specs.Calls.{IsOpen, Nexts}
-use Rattle.ca_link.specs.Link.{LinkState, TakesFirst, with_rest}
+use Rattle.ca_link.specs.Link.{LinkState, with_rest}
 use Rattle.ca_records.specs.Store.{Store}
 use Rattle.ca_text.specs.declared.refusal.Refusal.{Refusal}
 use Rattle.ca_text.specs.declared.refusal.Refusal.TheVariants as refusal
 use Rattle.ca_text.specs.Limits.{output_limit}
-use Rattle.ca_wire.specs.Fields.{Fields}
 use Rattle.ca_model.specs.Server.{ServerEnd}
-use Rattle.ca_server_core.specs.Stepping.{AreBytes, BreaksBy, Takes, after_first, cause_for}
+use Rattle.ca_server_core.specs.Stepping.{AreBytes, BreaksBy, cause_for}
 
 closed-open : (l : LinkState) → l.input.closed ≡ true → l.input.closed ≡ false → ⊥
 closed-open l a b = cc

@@ -1,15 +1,12 @@
 -- The faults of an EVENT_ADD, on a circuit with no subscription.
-use Rattle.std.proofs.Common.{◌≡◌, ℕ, ◌<◌, ◌≤◌, ◌%◌, ◌==◌, ◌||◌, ◌⊎◌, inl, inr, Bool, true, false, not, nat_lt, List, [], ◌∷◌, length, Option, Some, None, Result, Ok, Err, refl, sym, ap, ◌∙◌, subst}
+use Rattle.std.proofs.Common.{◌≡◌, ℕ, ◌<◌, ◌%◌, ◌==◌, ◌||◌, inl, inr, Bool, true, false, not, nat_lt, [], ◌∷◌, length, Option, Some, Result, Ok, Err, refl, ap, ◌∙◌}
 use Rattle.std.proofs.lemmas.Bool.{lt-ltb}
 use Rattle.ca_text.specs.declared.refusal.Refusal.{Refusal}
-use Rattle.ca_text.specs.declared.refusal.Refusal.TheVariants as refusal
-use Rattle.ca_text.specs.Limits.{payload_limit}
 use Rattle.ca_text.specs.Status.{add_fail, bad_count, bad_type, no_convert, no_read_access}
 use Rattle.ca_dbr.specs.declared.data_type.BaseType.{BaseType}
 use Rattle.ca_dbr.specs.declared.data_type.DataType.{DataType}
 use Rattle.ca_dbr.specs.Conversion.{HasConversion, IsFault, converted}
 use Rattle.ca_dbr.specs.Elements.{Elements, base_of}
-use Rattle.ca_dbr.specs.Types.{size_of_image, type_number}
 use Rattle.ca_dbr.proofs.Faults.{converted-fault, converted-none}
 use Rattle.ca_records.specs.Faults.{first_fault, lacks_conversion}
 use Rattle.ca_records.specs.Record.{RecordState}

@@ -1,13 +1,12 @@
 -- What is due for a write, by what it came to on the record of its channel.
-use Rattle.std.proofs.Common.{◌≡◌, ℕ, ◌⊎◌, inl, inr, ◌==◌, ◌&&◌, Bool, true, false, cond, List, [], ◌∷◌, ◌++◌, length, is_some, if◌then◌else◌, Option, Some, None, Ok, refl, sym, ap, ◌∙◌, subst}
+use Rattle.std.proofs.Common.{◌≡◌, ℕ, inl, inr, ◌==◌, ◌&&◌, Bool, true, false, List, [], ◌∷◌, length, is_some, if◌then◌else◌, Option, Some, None, refl, sym, ap, ◌∙◌, subst}
 use Rattle.std.proofs.lemmas.List.{append-nil}
 use Rattle.ca_text.specs.Command.{command_number}
 use Rattle.ca_text.specs.declared.command.Command.TheVariants as command
-use Rattle.ca_text.specs.Place.{At}
 use Rattle.ca_text.specs.Status.{normal}
 use Rattle.ca_text.proofs.Places.{At-one, some_is}
 use Rattle.ca_arena.specs.declared.handle.Handle.{Handle}
-use Rattle.ca_dbr.specs.Elements.{Elements, base_of}
+use Rattle.ca_dbr.specs.Elements.{Elements}
 use Rattle.ca_records.specs.declared.puts.Begun.{Begun}
 use Rattle.ca_records.specs.declared.puts.Begun.TheVariants as begun
 use Rattle.ca_records.specs.declared.puts.Put.{Put}
@@ -15,15 +14,14 @@ use Rattle.ca_records.specs.Faults.{late_put_fault}
 use Rattle.ca_records.specs.Puts.{Record, with_record, with_value, with_waiting, written_meta}
 use Rattle.ca_records.specs.Rules.{rights}
 use Rattle.ca_records.specs.Store.{Becomes, HasAt, Store, records_of}
-use Rattle.ca_records.specs.Writes.{Takes, write_fault}
+use Rattle.ca_records.specs.Writes.{write_fault}
 use Rattle.ca_wire.specs.Fields.{Fields}
 use Rattle.ca_wire.specs.Messages.{error_reply, status_reply}
 use Rattle.ca_model.specs.Due.{Action, Applies, Nothing, PutRefused, PutTaken, Serves, Waits, early_fault, late_fault}
-use Rattle.ca_model.specs.Server.{OpenChannel, ServerEnd}
-use Rattle.ca_model.specs.ServerSteps.{IsPut}
+use Rattle.ca_model.specs.Server.{ServerEnd}
 use Rattle.ca_server_core.specs.declared.seek.Seat.{Seat}
 use Rattle.ca_server_core.specs.Handling.{Does, Puts, Writes, known, replied}
-use Rattle.ca_server_core.specs.Putting.{IsRefused, IsTaken, WritesTo, early}
+use Rattle.ca_server_core.specs.Putting.{IsRefused, IsTaken, early}
 use Rattle.ca_server_core.specs.Seeking.{IsServed, IsStray}
 use Rattle.ca_server_core.proofs.Known.{serves}
 use Rattle.ca_server_core.proofs.Replying.{stray-due}

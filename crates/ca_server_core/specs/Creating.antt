@@ -11,7 +11,7 @@ use Rattle.ca_records.specs.Rules.{rights}
 use Rattle.ca_records.specs.Store.{Store, records_of}
 use Rattle.ca_wire.specs.Fields.{Fields}
 use Rattle.ca_wire.specs.Messages.{created_reply, rights_reply, text_in}
-use Rattle.ca_model.specs.Due.{Action, Nothing, Opens}
+use Rattle.ca_model.specs.Due.{Action}
 use Rattle.ca_model.specs.Server.{Server, ServerEnd}
 use Rattle.ca_model.specs.ServerSteps.{Acts, is_write}
 use Rattle.ca_server_core.specs.Handling.{Creates, Fits, Recorded, known, replied}

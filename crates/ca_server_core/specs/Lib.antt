@@ -11,3 +11,4 @@ pub mod Sound
 pub mod Searching
 pub mod Ending
 pub mod Serving
+pub mod Finishing

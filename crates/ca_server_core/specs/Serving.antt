@@ -1,5 +1,5 @@
 -- Working: what a step makes of one circuit, and of the table of circuits.
-use Rattle.std.specs.Prelude.{ℕ, ◌≡◌, ◌≤◌, ◌+◌, ◌⊎◌, Bool, true, false, List, [], Option, Some, None, if◌then◌else◌, length, min}
+use Rattle.std.specs.Prelude.{ℕ, ◌≡◌, ◌≤◌, ◌+◌, ◌⊎◌, Bool, [], Option, Some, None, if◌then◌else◌, length, min}
 use Rattle.ca_arena.specs.declared.handle.Handle.{Handle}
 use Rattle.ca_ids.specs.Table.{Table, under, with_changed, with_freed}
 use Rattle.ca_records.specs.Store.{Store}

@@ -1,7 +1,7 @@
-ghost use Rattle.std.specs.Prelude.{◌≡◌, ◌<◌, ◌≤◌, ◌↔◌, length, [], IsTrue, IfOk, OnErr, false, option_map};
+ghost use Rattle.std.specs.Prelude.{◌≡◌, ◌<◌, ◌≤◌, ◌↔◌, length, [], IsTrue, IfOk, OnErr, false, is_some, option_map};
 ghost use Rattle.ca_text.specs.Limits.{arena_slots};
 ghost use Rattle.ca_arena.specs.Arena.{place_at};
-ghost use Rattle.ca_ids.specs.Table.{MayGive, by_wire, held_at, is_full, with_held};
+ghost use Rattle.ca_ids.specs.Table.{MayGive, by_wire, held_at, is_full, under, with_held};
 ghost use Rattle.ca_server_core.specs.Cids.{UsesCid};
 ghost use Rattle.ca_server_core.specs.Clearing.{without_sid};
 
@@ -80,6 +80,13 @@ impl Channels {
         ensures { result ≡ length self.now }
     {
         self.table.places()
+    }
+
+    // Whether a channel is open under this handle.
+    pub(crate) fn has(&self, channel: Handle) -> bool
+        ensures { result ≡ is_some (under self.now channel) }
+    {
+        self.table.by_handle(channel).is_some()
     }
 
     // The channel of this index, with its handle.

@@ -5,6 +5,7 @@ ghost use Rattle.ca_model.specs.ServerSteps.{output_of};
 ghost use Rattle.ca_records.specs.Store.{records_of};
 ghost use Rattle.ca_server_core.specs.Circuits.{CircuitIsSound, GivesAt, IsLive, SendsAt};
 ghost use Rattle.ca_server_core.specs.Ending.{EndsAt, IsLeft};
+ghost use Rattle.ca_server_core.specs.Finishing.{RepliesAt};
 ghost use Rattle.ca_server_core.specs.Serving.{CircuitSteps};
 ghost use Rattle.ca_server_core.specs.Stepping.{why_is};
 
@@ -12,7 +13,7 @@ use crate::cause::Cause;
 use crate::end::End;
 use crate::step::EndStep;
 use ca_arena::Handle;
-use ca_records::ServedRecords;
+use ca_records::{Put, ServedRecords};
 use ca_text::Refusal;
 use ca_wire::Pipe;
 use std::alloc::Global;
@@ -98,6 +99,28 @@ impl Circuit {
                 }
             }
             State::Ended(_, _) => None,
+        }
+    }
+
+    // The reply of a put that is finished, if its channel is open. The end has ended if there is no memory for it.
+    pub(crate) fn reply(&mut self, put: Put, records: &mut ServedRecords)
+        requires { CircuitIsSound (records_of records.old) put.circuit self.old }
+        ensures { RepliesAt put self.old records.old self.new records.new }
+    {
+        match &mut self.state {
+            State::Open(end) => {
+                if !end.channels.has(put.channel) {
+                    return;
+                }
+                match end.finish(put) {
+                    Ok(()) => {}
+                    Err(_) => {
+                        let left = end.leave(put.circuit, records);
+                        self.state = State::Ended(Cause::OutOfMemory, left);
+                    }
+                }
+            }
+            State::Ended(_, _) => {}
         }
     }
 

@@ -33,9 +33,9 @@ pub enum Step {
 impl ServerCore {
     /// Handles the next message of a circuit, unless 262,144 bytes wait to be sent on it.
     ///
-    /// The end closes at a header that is refused, and out of memory if there is none for the message: then the message changes nothing, and the
-    /// puts of the circuit that wait are never applied. The end of a circuit is reported once, whichever call ended it. From then on, and
-    /// under a handle without a circuit, a step reports a cut.
+    /// The end closes at a header that is refused, and out of memory if there is none for the message, which changes nothing then. The
+    /// puts of the circuit that wait are never applied. The end of a circuit is reported once, whichever call ended it. From then on,
+    /// and under a handle without a circuit, a step reports a cut.
     pub fn step(&mut self, circuit: Handle) -> Step
         ensures { Steps self.old circuit (stepped result) self.new }
     {
@@ -82,7 +82,7 @@ fn report(alloc: Global, circuits: &mut HeldTable<Circuit>, circuit: Handle) -> 
 }
 
 /// How many writes were applied, with one more or not. The count stays at 2^63.
-fn more_applied(applied: u64, writes: bool) -> u64
+pub(crate) fn more_applied(applied: u64, writes: bool) -> u64
     ensures { result ≡ more_applied writes applied }
 {
     if !writes {

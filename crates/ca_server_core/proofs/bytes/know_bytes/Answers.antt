@@ -1,4 +1,4 @@
-use Rattle.std.proofs.Common.{ℕ, ◌<◌, get_or, rules}
+use Rattle.std.proofs.Common.{◌<◌, get_or, rules}
 use Rattle.ca_server_core.proofs.LongBytes.{are-bytes}
 use Rattle.ca_server_core.proofs.bytes.know_bytes.Goals as goal
 

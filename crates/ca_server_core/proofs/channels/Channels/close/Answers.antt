@@ -1,4 +1,4 @@
-use Rattle.std.proofs.Common.{◌≡◌, ℕ, false, sym, ◌∙◌, subst}
+use Rattle.std.proofs.Common.{ℕ, false, sym, ◌∙◌, subst}
 use Rattle.ca_server_core.proofs.Indexes.{Changes, indexed-close}
 use Rattle.ca_server_core.proofs.Tables.{wire-under}
 use Rattle.ca_server_core.proofs.channels.Channels.close.Goals as goal

@@ -1,4 +1,4 @@
-use Rattle.std.proofs.Common.{◌≡◌, ℕ, true, sym, ◌∙◌, subst}
+use Rattle.std.proofs.Common.{ℕ, true, ◌∙◌, subst}
 use Rattle.ca_server_core.proofs.Indexes.{Changes, indexed-open}
 use Rattle.ca_server_core.proofs.channels.Channels.open.Goals as goal
 

@@ -4,7 +4,6 @@ use Rattle.ca_text.specs.Limits.{arena_slots}
 use Rattle.ca_ids.specs.Table.{Table, is_full}
 use Rattle.ca_records.specs.Puts.{Record, record_named}
 use Rattle.ca_records.specs.Store.{records_of}
-use Rattle.ca_wire.specs.Messages.{text_in}
 use Rattle.ca_model.specs.Server.{OpenChannel, ServerEnd}
 use Rattle.ca_model.specs.ServerSteps.{known_record}
 use Rattle.ca_server_core.specs.Cids.{UsesCid}

@@ -1,7 +1,6 @@
-use Rattle.std.proofs.Common.{◌≡◌, ℕ, Bool, true, false, List, [], ◌∷◌, ◌==◌, Result, Ok, Err, refl, sym, ap, ◌∙◌}
+use Rattle.std.proofs.Common.{Result, Ok, Err, refl, sym, ap, ◌∙◌}
 use Rattle.std.specs.Prelude.{IfOk}
 use Rattle.ca_text.specs.Command.{command_number}
-use Rattle.ca_text.specs.declared.command.Command.{Command}
 use Rattle.ca_text.specs.declared.command.Command.TheVariants as command
 use Rattle.ca_server_core.proofs.Handled.{does-cancel, does-clear, does-create, does-echo, does-for, does-host, does-nothing, does-off, does-on, does-reply, does-search, does-user, does-version, not-a-command, other-command}
 use Rattle.ca_server_core.proofs.end.End.handle.Goals as goal

@@ -1,4 +1,4 @@
-use Rattle.std.proofs.Common.{◌≡◌, ℕ, List, Some, None, Option, false, sym, ap, ◌∙◌, subst}
+use Rattle.std.proofs.Common.{◌≡◌, ℕ, List, Some, None, Option, sym, ap, ◌∙◌, subst}
 use Rattle.ca_ids.specs.Table.{Table, under}
 use Rattle.ca_records.specs.Puts.{Record, record_named}
 use Rattle.ca_records.specs.Store.{records_of}

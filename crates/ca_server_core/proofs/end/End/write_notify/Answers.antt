@@ -1,4 +1,4 @@
-use Rattle.std.proofs.Common.{ℕ, List, [], ◌∷◌, ap, ◌∙◌, subst}
+use Rattle.std.proofs.Common.{ℕ, [], ◌∷◌, ap, ◌∙◌, subst}
 use Rattle.ca_link.specs.Link.{with_sent}
 use Rattle.ca_wire.specs.Fields.{Fields}
 use Rattle.ca_wire.specs.declared.requests.Wanted.{Wanted}

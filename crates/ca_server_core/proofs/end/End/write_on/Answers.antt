@@ -1,5 +1,4 @@
-use Rattle.std.proofs.Common.{◌≡◌, ℕ, false, None, refl, sym, ap, ◌∙◌, subst}
-use Rattle.ca_arena.specs.declared.handle.Handle.{Handle}
+use Rattle.std.proofs.Common.{◌≡◌, false, None, refl, sym, subst}
 use Rattle.ca_records.specs.declared.puts.Begun.TheVariants as begun
 use Rattle.ca_records.specs.Puts.{Record}
 use Rattle.ca_records.specs.Store.{Becomes, Store}

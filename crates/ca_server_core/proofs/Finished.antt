@@ -1,0 +1,288 @@
+-- A put is finished: its reply goes out, and the next that waits is applied.
+use Rattle.std.proofs.Common.{◌≡◌, ℕ, zero, suc, ◌+◌, inl, inr, Bool, true, false, cond, List, [], ◌∷◌, Option, Some, None, is_some, slice_set, Ok, refl, sym, ap, ◌∙◌, subst, arith}
+use Rattle.std.specs.Prelude.{option_map}
+use Rattle.ca_arena.specs.declared.handle.Handle.{Handle}
+use Rattle.ca_arena.specs.Arena.{Place}
+use Rattle.ca_beacon.specs.Clock.{Clock}
+use Rattle.ca_ids.specs.Table.{Table, same_handle, under, with_changed, with_each, with_each_from}
+use Rattle.ca_records.specs.declared.puts.Put.{Put}
+use Rattle.ca_records.specs.declared.puts.Finished.{Finished}
+use Rattle.ca_records.specs.declared.puts.Stamp.{Stamp}
+use Rattle.ca_records.specs.Rules.{Rule}
+use Rattle.ca_records.specs.Puts.{Record, WaitingPut, finished, with_record, withdrawn}
+use Rattle.ca_records.specs.Store.{Store, records_of}
+use Rattle.ca_records.specs.Writes as writes
+use Rattle.ca_text.specs.Place.{At}
+use Rattle.ca_text.proofs.Places.{some_is}
+use Rattle.ca_wire.specs.Fields.{Fields}
+use Rattle.ca_model.specs.Ends as why
+use Rattle.ca_model.specs.Server.{Ended, Open, Server, ServerCircuit, ServerEnd, with_post}
+use Rattle.ca_model.specs.Speech.{Stored}
+use Rattle.ca_model.specs.ServerCalls.{Finishes, IsAwaited, after_next, finish_reply, lacking, with_message}
+use Rattle.ca_model.specs.ServerSteps.{counted, reached, stored_now, write_mask}
+use Rattle.ca_server_core.specs.Ending.{WithdrawsAll}
+use Rattle.ca_server_core.specs.Finishing.{RepliesAt, RepliesIn, with_reply}
+use Rattle.ca_server_core.specs.Serving.{more_applied}
+use Rattle.ca_server_core.specs.Sound.{EndIsSound, IsQuiet, IsSound}
+use Rattle.ca_server_core.proofs.Cleared.{is-same, same-is}
+use Rattle.ca_server_core.proofs.Closing.{end-stays, not-ended, sound-ended}
+use Rattle.ca_server_core.proofs.Servers.{became, made_of, same-parts, server_of, stayed}
+use Rattle.ca_server_core.proofs.Sounds.{sound-changed}
+use Rattle.ca_server_core.proofs.Stays.{Keeps, record-keeps}
+use Rattle.ca_server_core.proofs.Stepped.{each-same, none-gone, reaches-nobody, unreached}
+use Rattle.ca_server_core.proofs.Tables.{at-under, handle-is, place, under-at}
+
+-- ---- the records
+
+-- circuits stay sound beside records on which no new put waits
+pub sound-kept : (rs qs : List Record) (t : Table ServerCircuit) → Keeps rs qs (λ (w : WaitingPut). Unit {0}) (λ (q : Record) (w : WaitingPut). ⊥) → IsSound rs t → IsSound qs t
+sound-kept rs qs t k i = record {
+  ends = λ h e at. end-stays rs qs h e (λ (w : WaitingPut). Unit {0}) (λ (q : Record) (w : WaitingPut). ⊥) k (λ q w n hit. n) (i.ends h e at);
+  waits = λ j q l w at at'. elim (k.1 j q l w at at') [
+    | inl old ↦ (let o = old.0 in i.waits o.0 o.1 o.2 w o.3 o.4)
+    | inr n ↦ absurd n
+  ];
+}
+
+finished-name : (p : Stamp) (r : Record) (ws : List WaitingPut) → (finished p r ws).state.name ≡ r.state.name
+finished-name p r [] = refl
+finished-name p r (w ∷ ws) = refl
+
+finished-waits : (p : Stamp) (r : Record) (ws : List WaitingPut) (k : ℕ) (w : WaitingPut) → At (finished p r ws).waiting k w → (j : ℕ) × At ws j w
+finished-waits p r [] k w at = (k, at)
+finished-waits p r (x ∷ ws) k w at = (suc k, at)
+
+pub finished-keeps : (p : Stamp) (name : List ℕ) (rs : List Record) → Keeps rs (with_record name (λ (q : Record). finished p q q.waiting) rs) (λ (w : WaitingPut). Unit {0}) (λ (q : Record) (w : WaitingPut). ⊥)
+finished-keeps p name rs =
+    record-keeps name (λ (q : Record). finished p q q.waiting) (λ (q : Record) (w : WaitingPut). ⊥) (λ r. finished-name p r r.waiting) (λ r k w e at. inl (finished-waits p r r.waiting k w at, tt)) rs
+
+-- the records after the put of one was finished
+pub finished-records : (s u : Store) (name : List ℕ) (f : Finished) → writes.Finishes s name (Ok f) u → records_of u ≡ with_record name (λ (q : Record). finished s.stamp q q.waiting) (records_of s)
+finished-records s u name f did =
+    did.3.becomes.records (λ (q : Record). finished s.stamp q q.waiting) refl ∙ ap (λ (n : List ℕ). with_record n (λ (q : Record). finished s.stamp q q.waiting) (records_of s)) did.3.named
+
+pub finished-sound : (s u : Store) (t : Table ServerCircuit) (name : List ℕ) (f : Finished) → writes.Finishes s name (Ok f) u → IsSound (records_of s) t → IsSound (records_of u) t
+finished-sound s u t name f did i =
+    subst (λ (rs : List Record). IsSound rs t) (sym (finished-records s u name f did)) (sound-kept (records_of s) _ t (finished-keeps s.stamp name (records_of s)) i)
+
+-- ---- the circuit of the put
+
+pub replied-sound : (s u : Store) (t after : Table ServerCircuit) (p : Put) → RepliesIn t p s after u → IsSound (records_of s) t → IsSound (records_of u) after
+replied-sound s u t after p (inr none) i =
+    subst (λ (x : Table ServerCircuit). IsSound (records_of u) x) (sym none.1) (subst (λ (x : Store). IsSound (records_of x) t) (sym none.2) i)
+replied-sound s u t after p (inl g) i = by g.0 g.1 g.2 g.3 g.4
+  where
+    by : (c new : ServerCircuit) → under t p.circuit ≡ Some c → RepliesAt p c s new u → after ≡ with_changed (λ (x : ServerCircuit). new) p.circuit t → IsSound (records_of u) after
+    by (Open e) new there (inl sent) changed =
+        let o = i.ends p.circuit e there in
+        let sound : EndIsSound (records_of s) p.circuit (with_reply p e) = record { live = o.live; quiet = record { none = o.quiet.none; on = o.quiet.on; idle = o.quiet.idle }; served = o.served; puts = o.puts; few = o.few } in
+        subst (λ (x : Table ServerCircuit). IsSound (records_of u) x) (sym (became t after p.circuit new (Open (with_reply p e)) changed sent.1))
+        (subst (λ (x : Store). IsSound (records_of x) (with_changed (λ (z : ServerCircuit). Open (with_reply p e)) p.circuit t)) (sym sent.2) (sound-changed (records_of s) t p.circuit e (with_reply p e) i there sound))
+    by (Open e) new there (inr (inl lack)) changed =
+        subst (λ (x : Table ServerCircuit). IsSound (records_of u) x) (sym (became t after p.circuit new (Ended why.OutOfMemory e.link.output) changed lack.1))
+        (subst (λ (rs : List Record). IsSound rs (with_changed (λ (z : ServerCircuit). Ended why.OutOfMemory e.link.output) p.circuit t)) (sym lack.2.records) (sound-ended (records_of s) t p.circuit why.OutOfMemory e.link.output i))
+    by (Open e) new there (inr (inr quiet)) changed =
+        subst (λ (x : Table ServerCircuit). IsSound (records_of u) x) (sym (stayed t after p.circuit new (Open e) there changed quiet.1)) (subst (λ (x : Store). IsSound (records_of x) t) (sym quiet.2) i)
+    by (Ended w left) new there did changed =
+        subst (λ (x : Table ServerCircuit). IsSound (records_of u) x) (sym (stayed t after p.circuit new (Ended w left) there changed did.0)) (subst (λ (x : Store). IsSound (records_of x) t) (sym did.1) i)
+
+-- ---- one circuit of a table changes
+
+zero-on : (n : ℕ) → n + 0 ≡ n
+zero-on n = omega arith
+
+one-on : (n i : ℕ) → n + suc i ≡ n + 1 + i
+one-on n i = omega arith
+
+-- a table in which nothing from an index on changes
+each-kept : (f : Handle → ServerCircuit → ServerCircuit) (n : ℕ) (t : Table ServerCircuit) → ((i : ℕ) (p : Place ServerCircuit) (c : ServerCircuit) → At t i p → p.value ≡ Some c → f (record { index = n + i; generation = p.generation }) c ≡ c) → with_each_from n f t ≡ t
+each-kept f n [] same = refl
+each-kept f n (p ∷ t) same =
+    ap (λ (o : Option ServerCircuit). let q : Place ServerCircuit = record { generation = p.generation; value = o } in q ∷ with_each_from (n + 1) f t) (by p.value (λ c is. subst (λ (k : ℕ). f (record { index = k; generation = p.generation }) c ≡ c) (zero-on n) (same 0 p c refl is)))
+    ∙ ap (λ (u : Table ServerCircuit). p ∷ u) (each-kept f (n + 1) t (λ i q c at is. subst (λ (k : ℕ). f (record { index = k; generation = q.generation }) c ≡ c) (one-on n i) (same (suc i) q c at is)))
+  where
+    by : (o : Option ServerCircuit) → ((c : ServerCircuit) → o ≡ Some c → f (record { index = n; generation = p.generation }) c ≡ c) → option_map (f (record { index = n; generation = p.generation })) o ≡ o
+    by None h = refl
+    by (Some c) h = ap (λ (x : ServerCircuit). Some x) (h c refl)
+
+-- of these only the one at a place changes
+each-one : (f : Handle → ServerCircuit → ServerCircuit) (n : ℕ) (t : Table ServerCircuit) (j : ℕ) (h : Handle) (c d : ServerCircuit) → h.index ≡ n + j → At t j (place h c) → f h c ≡ d
+    → ((i : ℕ) (p : Place ServerCircuit) (x : ServerCircuit) → At t i p → p.value ≡ Some x → (i ≡ j → ⊥) → f (record { index = n + i; generation = p.generation }) x ≡ x) → with_each_from n f t ≡ slice_set t j (place h d)
+each-one f n [] j h c d is at there other = absurd cc
+each-one f n (p ∷ t) zero h c d is at there other =
+    let same : p ≡ place h c = some_is p (place h c) at in
+    let mine : h ≡ (record { index = n; generation = h.generation }) = handle-is h (record { index = n; generation = h.generation }) (omega (arith, is)) refl in
+    ap (λ (q : Place ServerCircuit). let r : Place ServerCircuit = record { generation = q.generation; value = option_map (f (record { index = n; generation = q.generation })) q.value } in r ∷ with_each_from (n + 1) f t) same
+    ∙ ap (λ (x : ServerCircuit). place h x ∷ with_each_from (n + 1) f t) (ap (λ (g : Handle). f g c) (sym mine) ∙ there)
+    ∙ ap (λ (u : Table ServerCircuit). place h d ∷ u) (each-kept f (n + 1) t (λ i q x at is_x. subst (λ (k : ℕ). f (record { index = k; generation = q.generation }) x ≡ x) (one-on n i) (other (suc i) q x at is_x (λ e. omega (arith, e)))))
+each-one f n (p ∷ t) (suc j) h c d is at there other =
+    ap (λ (o : Option ServerCircuit). let q : Place ServerCircuit = record { generation = p.generation; value = o } in q ∷ with_each_from (n + 1) f t) (by p.value (λ x is_x. subst (λ (k : ℕ). f (record { index = k; generation = p.generation }) x ≡ x) (zero-on n) (other 0 p x refl is_x (λ e. omega (arith, e)))))
+    ∙ ap (λ (u : Table ServerCircuit). p ∷ u) (each-one f (n + 1) t j h c d (omega (arith, is)) at there (λ i q x at is_x ne. subst (λ (k : ℕ). f (record { index = k; generation = q.generation }) x ≡ x) (one-on n i) (other (suc i) q x at is_x (λ e. ne (omega (arith, e))))))
+  where
+    by : (o : Option ServerCircuit) → ((x : ServerCircuit) → o ≡ Some x → f (record { index = n; generation = p.generation }) x ≡ x) → option_map (f (record { index = n; generation = p.generation })) o ≡ o
+    by None same = refl
+    by (Some x) same = ap (λ (y : ServerCircuit). Some y) (same x refl)
+
+changed-there : (t : Table ServerCircuit) (h : Handle) (c d : ServerCircuit) → under t h ≡ Some c → with_changed (λ (x : ServerCircuit). d) h t ≡ slice_set t h.index (place h d)
+changed-there t h c d is =
+    ap (λ (o : Option ServerCircuit). let p : Place ServerCircuit = record { generation = h.generation; value = option_map (λ (x : ServerCircuit). d) o } in cond (is_some o) (slice_set t h.index p) t) is
+
+pub one-changes : (f : Handle → ServerCircuit → ServerCircuit) (t : Table ServerCircuit) (h : Handle) (c d : ServerCircuit) → under t h ≡ Some c → f h c ≡ d → ((g : Handle) (x : ServerCircuit) → under t g ≡ Some x → (g ≡ h → ⊥) → f g x ≡ x) → with_changed (λ (x : ServerCircuit). d) h t ≡ with_each f t
+one-changes f t h c d is there other = changed-there t h c d is ∙ sym (each-one f 0 t h.index h c d (omega arith) (under-at t h c is) there by)
+  where
+    by : (i : ℕ) (p : Place ServerCircuit) (x : ServerCircuit) → At t i p → p.value ≡ Some x → (i ≡ h.index → ⊥) → f (record { index = 0 + i; generation = p.generation }) x ≡ x
+    by i p x at is_x ne =
+        let g : Handle = record { index = i; generation = p.generation } in
+        let whole : p ≡ place g x = ap (λ (o : Option ServerCircuit). let q : Place ServerCircuit = record { generation = p.generation; value = o } in q) is_x in
+        let back : i ≡ 0 + i = omega arith in
+        subst (λ (k : ℕ). f (record { index = k; generation = p.generation }) x ≡ x) back
+        (other g x (at-under t g x (subst (λ (q : Place ServerCircuit). At t i q) whole at)) (λ one. ne (ap (λ (k : Handle). k.index) one)))
+
+-- ---- the next put
+
+none-true : {A : Type 0} → false ≡ true → A
+none-true e = absurd cc
+
+module _ (port now n : ℕ) (b : Clock) where
+  -- no circuit ends
+  next-quiet : (name : List ℕ) (ws : List WaitingPut) (rules : List Rule) (rs : List Record) (p : Stamp) (t : Table ServerCircuit) → ((h : Handle) (e : ServerEnd) → under t h ≡ Some (Open e) → IsQuiet e)
+      → made_of port rules rs p now t b (more_applied (is_some (writes.next_put ws)) n) ≡ after_next name ws (λ (g : Handle). false) (made_of port rules rs p now t b n)
+  next-quiet name [] rules rs p t quiet =
+      same-parts port now b rules rules rs _ p p t _ n n refl (sym (none-gone rs)) refl (sym (each-same (lacking (λ (g : Handle). false)) 0 t by)) refl
+    where
+      by : (i : ℕ) (q : Place ServerCircuit) (c : ServerCircuit) → At t i q → q.value ≡ Some c → (h : Handle) → lacking (λ (g : Handle). false) h c ≡ c
+      by i q (Open e) at is h = refl
+      by i q (Ended w left) at is h = refl
+  next-quiet name (w ∷ ws) rules rs p t quiet =
+      let y : Server = made_of port rules rs p now t b n in
+      same-parts port now b rules rules rs _ p p t _ (more_applied true n) (more_applied true n) refl (sym (none-gone rs)) refl (sym (reaches-nobody t name write_mask (stored_now (counted y) w.value) quiet)) refl
+
+  -- one circuit ends
+  module _ (h : Handle) (e : ServerEnd) (t : Table ServerCircuit) (there : under t h ≡ Some (Open e)) (quiet : (g : Handle) (x : ServerEnd) → under t g ≡ Some (Open x) → IsQuiet x) where
+    gone : Handle → Bool
+    gone g = same_handle g h
+
+    its-own : same_handle h h ≡ true
+    its-own = is-same h h refl
+
+    not-it : (g : Handle) → (g ≡ h → ⊥) → (b : Bool) → same_handle g h ≡ b → same_handle g h ≡ false
+    not-it g other true hit = absurd (other (same-is g h hit))
+    not-it g other false miss = miss
+
+    lacking-own : lacking (λ (g : Handle). same_handle g h) h (Open e) ≡ Ended why.OutOfMemory e.link.output
+    lacking-own = ap (λ (b : Bool). cond b (Ended why.OutOfMemory e.link.output) (Open e)) its-own
+
+    lacking-other : (g : Handle) (x : ServerCircuit) → under t g ≡ Some x → (g ≡ h → ⊥) → lacking (λ (k : Handle). same_handle k h) g x ≡ x
+    lacking-other g (Open z) at other = ap (λ (b : Bool). cond b (Ended why.OutOfMemory z.link.output) (Open z)) (not-it g other (same_handle g h) refl)
+    lacking-other g (Ended w left) at other = refl
+
+    reached-own : (name : List ℕ) (mask : ℕ) (v : Stored) → reached name mask v (λ (g : Handle). same_handle g h) h (Open e) ≡ Ended why.OutOfMemory e.link.output
+    reached-own name mask v = ap (λ (b : Bool). cond b (Ended why.OutOfMemory e.link.output) (Open (with_post name mask v e))) its-own
+
+    reached-other : (name : List ℕ) (mask : ℕ) (v : Stored) (g : Handle) (x : ServerCircuit) → under t g ≡ Some x → (g ≡ h → ⊥) → reached name mask v (λ (k : Handle). same_handle k h) g x ≡ x
+    reached-other name mask v g (Open z) at other =
+        ap (λ (b : Bool). cond b (Ended why.OutOfMemory z.link.output) (Open (with_post name mask v z))) (not-it g other (same_handle g h) refl) ∙ unreached name mask v g z (quiet g z at)
+    reached-other name mask v g (Ended w left) at other = refl
+
+    next-lacking : (name : List ℕ) (ws : List WaitingPut) (rules : List Rule) (rs : List Record) (p : Stamp)
+        → made_of port rules (withdrawn (λ (q : Put). same_handle q.circuit h) rs) p now (with_changed (λ (x : ServerCircuit). Ended why.OutOfMemory e.link.output) h t) b (more_applied (is_some (writes.next_put ws)) n)
+        ≡ after_next name ws (λ (g : Handle). same_handle g h) (made_of port rules rs p now t b n)
+    next-lacking name [] rules rs p =
+        same-parts port now b rules rules _ _ p p _ _ n n refl refl refl (one-changes (lacking (λ (g : Handle). same_handle g h)) t h (Open e) (Ended why.OutOfMemory e.link.output) there lacking-own lacking-other) refl
+    next-lacking name (w ∷ ws) rules rs p =
+        let v : Stored = stored_now (counted (made_of port rules rs p now t b n)) w.value in
+        same-parts port now b rules rules _ _ p p _ _ (more_applied true n) (more_applied true n) refl refl refl (one-changes (reached name write_mask v (λ (g : Handle). same_handle g h)) t h (Open e) (Ended why.OutOfMemory e.link.output) there (reached-own name write_mask v) (reached-other name write_mask v)) refl
+
+  -- ---- a put is finished
+
+  module _ (s s1 : Store) (t : Table ServerCircuit) (name : List ℕ) (f : Finished) (did : writes.Finishes s name (Ok f) s1) (sound : IsSound (records_of s) t) where
+    abbrev rs1 : List Record
+    rs1 = with_record name (λ (q : Record). finished s.stamp q q.waiting) (records_of s)
+
+    abbrev y1 : Server
+    y1 = made_of port s.rules rs1 s.stamp now t b n
+
+    rules-1 : s1.rules ≡ s.rules
+    rules-1 = ap (λ (x : Store). x.rules) did.3.becomes.leaves
+
+    stamp-1 : s1.stamp ≡ s.stamp
+    stamp-1 = ap (λ (x : Store). x.stamp) did.3.becomes.leaves
+
+    more-is : more_applied (is_some f.applied) n ≡ more_applied (is_some (writes.next_put did.0.waiting)) n
+    more-is = ap (λ (o : Option Put). more_applied (is_some o) n) did.2
+
+    -- its reply is not awaited
+    unawaited : (u : Store) (after : Table ServerCircuit) → u ≡ s1 → after ≡ t → ((e : ServerEnd) → IsAwaited y1 f.ended e → ⊥) → (sent : List (Handle × Fields)) × Finishes (server_of port s now t b n) name sent (Ok tt) (server_of port u now after b (more_applied (is_some f.applied) n))
+    unawaited u after us at none = (
+      [],
+      (
+        record { r = did.0; named = did.3.found; p = f.ended; busy = did.1; gone = λ (g : Handle). false; may = λ g e. none-true e },
+        y1,
+        inr (inl none, refl, refl),
+        ap (λ (x : Store). server_of port x now after b (more_applied (is_some f.applied) n)) us
+            ∙ same-parts port now b s1.rules s.rules (records_of s1) rs1 s1.stamp s.stamp after t _ _ rules-1 (finished-records s s1 name f did) stamp-1 at more-is
+            ∙ next-quiet name did.0.waiting s.rules rs1 s.stamp t (λ g e here. (sound.ends g e here).quiet),
+      ),
+    )
+
+    -- it goes out
+    answered : (u : Store) (after : Table ServerCircuit) (e : ServerEnd) → under t f.ended.circuit ≡ Some (Open e) → is_some (under e.channels f.ended.channel) ≡ true → u ≡ s1 → after ≡ with_changed (λ (x : ServerCircuit). Open (with_reply f.ended e)) f.ended.circuit t → IsSound (records_of u) after → (sent : List (Handle × Fields)) × Finishes (server_of port s now t b n) name sent (Ok tt) (server_of port u now after b (more_applied (is_some f.applied) n))
+    answered u after e there awaited us at i =
+        let t2 = with_changed (λ (x : ServerCircuit). Open (with_reply f.ended e)) f.ended.circuit t in
+        let i2 = subst (λ (x : Table ServerCircuit). IsSound (records_of u) x) at i in (
+          (f.ended.circuit, finish_reply f.ended) ∷ [],
+          (
+            record { r = did.0; named = did.3.found; p = f.ended; busy = did.1; gone = λ (g : Handle). false; may = λ g e. none-true e },
+            with_message f.ended.circuit e (finish_reply f.ended) y1,
+            inl (e, (there, awaited), refl, refl),
+            ap (λ (x : Store). server_of port x now after b (more_applied (is_some f.applied) n)) us
+                ∙ same-parts port now b s1.rules s.rules (records_of s1) rs1 s1.stamp s.stamp after t2 _ _ rules-1 (finished-records s s1 name f did) stamp-1 at more-is
+                ∙ next-quiet name did.0.waiting s.rules rs1 s.stamp t2 (λ g z here. (i2.ends g z here).quiet),
+          ),
+        )
+
+    -- there is no memory for it
+    unanswered : (u : Store) (after : Table ServerCircuit) (e : ServerEnd) → under t f.ended.circuit ≡ Some (Open e) → is_some (under e.channels f.ended.channel) ≡ true → WithdrawsAll f.ended.circuit s1 u → after ≡ with_changed (λ (x : ServerCircuit). Ended why.OutOfMemory e.link.output) f.ended.circuit t → (sent : List (Handle × Fields)) × Finishes (server_of port s now t b n) name sent (Ok tt) (server_of port u now after b (more_applied (is_some f.applied) n))
+    unanswered u after e there awaited w at =
+        let h = f.ended.circuit in (
+          [],
+          (
+            record { r = did.0; named = did.3.found; p = f.ended; busy = did.1; gone = λ (g : Handle). same_handle g h; may = λ g hit. inl (same-is g h hit, (e, (there, awaited))) },
+            y1,
+            inr (inr (is-same h h refl), refl, refl),
+            same-parts port now b u.rules s.rules (records_of u) (withdrawn (λ (q : Put). same_handle q.circuit h) rs1) u.stamp s.stamp after _ _ _ (w.rules ∙ rules-1) (w.records ∙ ap (λ (rs : List Record). withdrawn (λ (q : Put). same_handle q.circuit h) rs) (finished-records s s1 name f did)) (w.stamp ∙ stamp-1) at more-is
+                ∙ next-lacking h e t there (λ g x here. (sound.ends g x here).quiet) name did.0.waiting s.rules rs1 s.stamp,
+          ),
+        )
+
+    same-end : (a c : ServerEnd) → Open a ≡ Open c → a ≡ c
+    same-end a c is = cc
+
+    no-channel : (x : Bool) → x ≡ true → x ≡ false → ⊥
+    no-channel x p q = cc
+
+    none-there : (e : ServerEnd) → (let none : Option ServerCircuit = None in none ≡ Some (Open e)) → ⊥
+    none-there e is = cc
+
+    by-circuit : (u : Store) (after : Table ServerCircuit) (c new : ServerCircuit) → under t f.ended.circuit ≡ Some c → RepliesAt f.ended c s1 new u → after ≡ with_changed (λ (x : ServerCircuit). new) f.ended.circuit t → IsSound (records_of u) after → (sent : List (Handle × Fields)) × Finishes (server_of port s now t b n) name sent (Ok tt) (server_of port u now after b (more_applied (is_some f.applied) n))
+    by-circuit u after (Open e) new there (inl sent) changed i = answered u after e there sent.0 sent.2 (became t after f.ended.circuit new (Open (with_reply f.ended e)) changed sent.1) i
+    by-circuit u after (Open e) new there (inr (inl lack)) changed i = unanswered u after e there lack.0 lack.2 (became t after f.ended.circuit new (Ended why.OutOfMemory e.link.output) changed lack.1)
+    by-circuit u after (Open e) new there (inr (inr shut)) changed i =
+        unawaited u after shut.2 (stayed t after f.ended.circuit new (Open e) there changed shut.1)
+        (λ z has. no-channel (is_some (under z.channels f.ended.channel)) has.1 (subst (λ (x : ServerEnd). is_some (under x.channels f.ended.channel) ≡ false) (same-end e z (some_is (Open e) (Open z) (sym there ∙ has.0))) shut.0))
+    by-circuit u after (Ended w left) new there at changed i =
+        unawaited u after at.1 (stayed t after f.ended.circuit new (Ended w left) there changed at.0)
+        (λ z has. not-ended z w left (some_is (Open z) (Ended w left) (sym has.0 ∙ there)))
+
+    pub finishes-ok : (u : Store) (after : Table ServerCircuit) → RepliesIn t f.ended s1 after u → IsSound (records_of u) after → (sent : List (Handle × Fields)) × Finishes (server_of port s now t b n) name sent (Ok tt) (server_of port u now after b (more_applied (is_some f.applied) n))
+    finishes-ok u after (inl g) i = by-circuit u after g.0 g.1 g.2 g.3 g.4 i
+    finishes-ok u after (inr none) i = unawaited u after none.2 none.1 (λ z has. none-there z (sym none.0 ∙ has.0))
+
+-- the same along the view of the fields
+pub viewed-finish : (y : Server) (port now n k : ℕ) (b : Clock) (s s1 u : Store) (t after : Table ServerCircuit) (name : List ℕ) (f : Finished) (q : Bool) → server_of port s now t b n ≡ y → q ≡ is_some f.applied → k ≡ more_applied q n → writes.Finishes s name (Ok f) s1 → RepliesIn t f.ended s1 after u → IsSound (records_of s) t
+    → (sent : List (Handle × Fields)) × Finishes y name sent (Ok tt) (server_of port u now after b k)
+viewed-finish y port now n k b s s1 u t after name f q is next more did r i =
+    let final = replied-sound s1 u t after f.ended r (finished-sound s s1 t name f did i) in
+    let g = finishes-ok port now n b s s1 t name f did i u after r final in
+    subst (λ (x : Server). (sent : List (Handle × Fields)) × Finishes x name sent (Ok tt) (server_of port u now after b k)) is
+    (subst (λ (m : ℕ). (sent : List (Handle × Fields)) × Finishes (server_of port s now t b n) name sent (Ok tt) (server_of port u now after b m)) (sym (more ∙ ap (λ (p : Bool). more_applied p n) next)) g)

@@ -1,0 +1,72 @@
+ghost use Rattle.std.specs.Prelude.{◌≡◌, List, OnErr, OnOk, [], ◌∷◌};
+ghost use Rattle.ca_arena.specs.declared.handle.Handle.{Handle};
+ghost use Rattle.ca_link.specs.Calls.{IsOpen};
+ghost use Rattle.ca_model.specs.ServerCalls.{Finishes, finish_reply};
+ghost use Rattle.ca_records.specs.Store.{records_of};
+ghost use Rattle.ca_server_core.specs.Finishing.{RepliesIn};
+ghost use Rattle.ca_server_core.specs.Handling.{replied};
+ghost use Rattle.ca_server_core.specs.Sound.{IsSound};
+ghost use Rattle.ca_wire.specs.Fields.{Fields};
+
+use crate::circuit::Circuit;
+use crate::end::{End, send};
+use crate::server::ServerCore;
+use crate::stepping::more_applied;
+use ca_ids::HeldTable;
+use ca_records::{Put, ServedRecords};
+use ca_text::{Command, Refusal, Status};
+use ca_wire::Message;
+use std::alloc::{AllocError, Global};
+
+impl ServerCore {
+    /// Finishes the busy put of the record of this name. Its reply is sent, unless its channel or its circuit is gone. The next put that
+    /// waits is applied, and makes the record busy. If there is no memory for the reply, its circuit's end has ended.
+    ///
+    /// Refused as UnknownRecord if no record has the name, and as NotBusy if its record is not busy. A refusal changes nothing.
+    pub fn finish(&mut self, name: &[u8]) -> Result<(), Refusal>
+        ensures { (sent : List (Handle × Fields))
+            × Finishes self.old name.now sent result self.new }
+    {
+        let finished = self.records.finish(name)?;
+        reply_on(&mut self.circuits, &mut self.records, finished.ended);
+        self.applied = more_applied(self.applied, finished.applied.is_some());
+        Ok(())
+    }
+}
+
+/// Sends the reply of a put that is finished, if its channel is open. If there is no memory for it, the end of its circuit has ended.
+fn reply_on(circuits: &mut HeldTable<Circuit>, records: &mut ServedRecords, put: Put)
+    requires { IsSound (records_of records.old) circuits.old }
+    ensures { RepliesIn circuits.old put records.old circuits.new records.new }
+{
+    let Some(found) = circuits.by_handle_mut(put.circuit) else {
+        return;
+    };
+    found.reply(put, records);
+}
+
+impl End {
+    /// The reply of a put that is finished. Without memory nothing changes.
+    pub(crate) fn finish(&mut self, put: Put) -> Result<(), AllocError>
+        requires { IsOpen self.old.link }
+        ensures ok { OnOk result (self.new ≡ replied (finish_reply put ∷ []) self.old) }
+        ensures err { OnErr result (self.new ≡ self.old) }
+    {
+        let reply = reply_to(self.alloc, put);
+        send(&mut self.link, &reply)?;
+        Ok(())
+    }
+}
+
+/// The reply of a put that is finished.
+fn reply_to(alloc: Global, put: Put) -> Message
+    ensures { result ≡ finish_reply put }
+{
+    let command = Command::WriteNotify.number();
+    let status = Status::NORMAL.number;
+    let payload = Vec::new(alloc);
+    match Message::new(command, put.data_type, put.count, status, put.ioid, payload) {
+        Ok(reply) => reply,
+        Err(_) => unreachable!(),
+    }
+}
