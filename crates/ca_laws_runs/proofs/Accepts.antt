@@ -1,44 +1,37 @@
 -- A new circuit: what is held of the others stays so, and it holds what it creates.
-use Rattle.std.proofs.Common.{◌≡◌, ℕ, zero, suc, ◌+◌, ◌<◌, inl, inr, Bool, true, false, ◌&&◌, cond, eqb, List, [], ◌∷◌, ◌++◌, length, Option, Some, None, refl, sym, ap, ◌∙◌, subst, arith}
-use Rattle.std.specs.Prelude.{filter, filter_map, is_none, map, option_and_then, option_map, slice_set, unwrap_or}
+use Rattle.std.proofs.Common.{◌≡◌, ℕ, zero, suc, inl, inr, Bool, true, false, ◌&&◌, cond, eqb, List, [], ◌∷◌, ◌++◌, length, Option, Some, None, refl, sym, ap, ◌∙◌, subst, arith}
+use Rattle.std.specs.Prelude.{filter, filter_map, is_none, map, option_and_then, option_map, unwrap_or}
 use Rattle.std.specs.List.{cons_option}
-use Rattle.std.proofs.lemmas.Bool.{and_from, both_ways, cases_Bool, eq-eqb}
+use Rattle.std.proofs.lemmas.Bool.{both_ways, eq-eqb}
 use Rattle.std.proofs.lemmas.List.{append-nil}
 use Rattle.ca_text.specs.Place.{At}
-use Rattle.ca_text.proofs.Places.{At-append, At-last, At-mapped, At-one, some_is}
+use Rattle.ca_text.proofs.Places.{At-append, At-one, some_is}
 use Rattle.ca_text.specs.declared.command.Command.TheVariants as command
 use Rattle.ca_arena.specs.declared.handle.Handle.{Handle}
 use Rattle.ca_ids.specs.Table.{held, same_handle, under, with_all}
-use Rattle.ca_ids.specs.Wire.{wire_of}
-use Rattle.ca_wire.specs.Fields.{Fields}
 use Rattle.ca_wire.specs.Messages.{name_request, version_request}
 use Rattle.ca_model.specs.Answers.{Closing, Sending}
-use Rattle.ca_model.specs.Client.{Channel, Client, ClientCircuit, Clearing, Connecting, Connection, Creating, Doomed, Leaving, Live, On, Phase, Searching, Standing, connection_at, ended, is_on_in, phase_on, sending}
+use Rattle.ca_model.specs.Client.{Channel, Client, ClientCircuit, Clearing, Connecting, Creating, Doomed, Leaving, Live, On, Phase, Searching, Standing, connection_at, ended, is_on_in, phase_on, sending}
 use Rattle.ca_model.specs.ClientEnds.{ConnectsOn, begun, creating, creations, is_connecting, set_up}
 use Rattle.ca_model.specs.Hears.{create_sent}
 use Rattle.ca_model.specs.History.{Circuit, Sent}
 use Rattle.ca_model.specs.History as history
 use Rattle.ca_model_safe.specs.Channels.{Suits}
-use Rattle.ca_model_world.specs.ClientEvents.{HappensAccept, Outcomes, WantsFirst, channel_number, client_closed, connected_as, lines_of, new_circuit, told_by}
-use Rattle.ca_model_world.specs.World.{ClientSide, Joined, Names, ServerSide, World, with_server}
-use Rattle.ca_laws_circuit.specs.Flows.{Awaits, Flows, MaySendAll, with_all_sent, with_sent}
+use Rattle.ca_model_world.specs.ClientEvents.{HappensAccept, Outcomes, WantsFirst, connected_as, lines_of, new_circuit, told_by}
+use Rattle.ca_model_world.specs.World.{ClientSide, Joined, Names, World, with_server}
+use Rattle.ca_laws_circuit.specs.Flows.{Awaits, Flows}
 use Rattle.ca_laws_circuit.specs.Held.{HoldAlike, Holds, NoneAsked, create_of, is_asked, is_subscribed, waiting_on}
 use Rattle.ca_laws_circuit.proofs.Alike.{all-alike, client-then, holds-alike, sending-alike, with-channels}
-use Rattle.ca_laws_circuit.proofs.Connects.{connects-holds, connects-may, new-holds, serving-keeps, serving-may}
+use Rattle.ca_laws_circuit.proofs.Connects.{new-holds}
 use Rattle.ca_laws_circuit.proofs.Ends.{at-filter-map, ended-elsewhere}
-use Rattle.ca_laws_circuit.proofs.Flows.{flows-sent}
-use Rattle.ca_laws_circuit.proofs.Handles.{same-is, same-itself, same-not}
-use Rattle.ca_laws_circuit.proofs.Many.{flows-all-sent}
-use Rattle.ca_laws_circuit.proofs.Marks.{at-filter}
-use Rattle.ca_laws_circuit.proofs.Others.{fails-anywhere, fails-elsewhere}
-use Rattle.ca_laws_circuit.proofs.Tables.{held-under}
-use Rattle.ca_laws_runs.specs.Circuit.{AreCids, AreNumbered, HeldAt, HeldOn, sent_to, stamped}
+use Rattle.ca_laws_circuit.proofs.Handles.{same-is, same-not}
+use Rattle.ca_laws_circuit.proofs.Others.{fails-elsewhere}
+use Rattle.ca_laws_runs.specs.Circuit.{HeldAt, HeldOn, sent_to, stamped}
 use Rattle.ca_laws_runs.specs.Client.{AreWaiting, IsSound}
 use Rattle.ca_laws_runs.specs.Clients.{ClientsStand}
 use Rattle.ca_laws_runs.proofs.ClientsMore.{unconnected-is, wanted-there}
-use Rattle.ca_laws_runs.proofs.Moves.{closed-held}
 use Rattle.ca_laws_runs.proofs.Sending.{none-sent-to, with_up}
-use Rattle.ca_laws_runs.proofs.Steps.{all-here, none-here}
+use Rattle.ca_laws_runs.proofs.Steps.{none-here}
 use Rattle.ca_laws_runs.proofs.Worlds.{after-call}
 
 -- ---- messages of a new circuit

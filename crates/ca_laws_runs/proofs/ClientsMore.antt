@@ -335,7 +335,7 @@ stands-ticked moment w i x sent lines at s =
     still-open i t.closings m.0 l f there (is ∙ e.handle) (sym e.client ∙ mine) (e.opens open_it) (ap (λ (z : Joined). z.lists.client_open) (sym m.2) ∙ open_it))
     ∙ connected) s
 
-abbrev left-by : (moment : ℕ) → World → ℕ → ClientSide → List Sending → answer.Ticked → Client → World
+abbrev pub left-by : (moment : ℕ) → World → ℕ → ClientSide → List Sending → answer.Ticked → Client → World
 left-by moment w i x sent t core =
     let o : Outcomes = record { core = core; names = x.names; lines = lines_of history.OfCircuit x.names t.notices; sent = sent } in
     let after : World = client_after i x x.names o w in

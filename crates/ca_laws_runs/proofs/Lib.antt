@@ -29,3 +29,4 @@ pub mod OtherEvents
 pub mod Restarts
 pub mod Accepts
 pub mod NewCircuits
+pub mod Ticks

@@ -13,6 +13,7 @@ use Rattle.ca_model.specs.Client.{Client, Connection, connection_at, ended, on_c
 use Rattle.ca_model.specs.ClientEnds.{ClientGives, GivesOn, given, handed_over, of_circuit}
 use Rattle.ca_model.specs.History.{Circuit}
 use Rattle.ca_model.specs.History as history
+use Rattle.ca_wire.specs.Fields.{Fields}
 use Rattle.ca_wire.specs.Messages.{bare}
 use Rattle.ca_model_safe.specs.Channels.{Suits}
 use Rattle.ca_model_world.specs.ClientEvents.{client_closed}
@@ -31,10 +32,10 @@ no-creation : (a : ℕ) → history.OfCircuit ≡ history.On a history.Create �
 no-creation a e = cc
 
 -- it is sent, by a client that holds the same after it
-pub served-held : (kept : List ℕ) (i : ℕ) (n : Names) (x z : Client) (j : Joined) (c : Handle) (k : Command) → HoldAlike j.at_client x z → Suits history.OfCircuit (bare k) → HeldOn kept n x j → j.client ≡ i
-    → HeldOn kept n (sending (of_circuit c (bare k) ∷ []) z) (sent_to i n (of_circuit c (bare k) ∷ []) j)
-served-held kept i n x z j c k alike serves held mine =
-    let s : Sending = of_circuit c (bare k) in
+pub served-held : (kept : List ℕ) (i : ℕ) (n : Names) (x z : Client) (j : Joined) (c : Handle) (m : Fields) → HoldAlike j.at_client x z → Suits history.OfCircuit m → HeldOn kept n x j → j.client ≡ i
+    → HeldOn kept n (sending (of_circuit c m ∷ []) z) (sent_to i n (of_circuit c m ∷ []) j)
+served-held kept i n x z j c m alike serves held mine =
+    let s : Sending = of_circuit c m in
     let now : Holds (Awaits j.lists kept) j.at_client n x j.lists → Holds (Awaits j.lists kept) j.at_client n (sending (s ∷ []) z) j.lists = λ holds.
     holds-alike (Awaits j.lists kept) j.at_client n z (sending (s ∷ []) z) j.lists (sending-alike j.at_client (s ∷ []) z)
     (holds-alike (Awaits j.lists kept) j.at_client n x z j.lists alike holds) in
@@ -80,9 +81,9 @@ down-held kept i n x y j c bytes more sent gives held mine = go (connection_at x
 
     by : (o : Option Command) → (a b : Bool) → o ≡ asked_between a b → HeldOn kept n (sending (map (λ (k : Command). of_circuit c (bare k)) (option_to_list o)) (given c bytes more x)) (sent_to i n (map (λ (k : Command). of_circuit c (bare k)) (option_to_list o)) j)
     by o false true is = subst (λ (o : Option Command). HeldOn kept n (sending (map (λ (k : Command). of_circuit c (bare k)) (option_to_list o)) (given c bytes more x)) (sent_to i n (map (λ (k : Command). of_circuit c (bare k)) (option_to_list o)) j)) (sym is)
-        (served-held kept i n x (given c bytes more x) j c command.EventsOff alike serves-off held mine)
+        (served-held kept i n x (given c bytes more x) j c (bare command.EventsOff) alike serves-off held mine)
     by o true false is = subst (λ (o : Option Command). HeldOn kept n (sending (map (λ (k : Command). of_circuit c (bare k)) (option_to_list o)) (given c bytes more x)) (sent_to i n (map (λ (k : Command). of_circuit c (bare k)) (option_to_list o)) j)) (sym is)
-        (served-held kept i n x (given c bytes more x) j c command.EventsOn alike serves-on held mine)
+        (served-held kept i n x (given c bytes more x) j c (bare command.EventsOn) alike serves-on held mine)
     by o false false is = subst (λ (o : Option Command). HeldOn kept n (sending (map (λ (k : Command). of_circuit c (bare k)) (option_to_list o)) (given c bytes more x)) (sent_to i n (map (λ (k : Command). of_circuit c (bare k)) (option_to_list o)) j)) (sym is)
         (none-sent-to kept i n n x (given c bytes more x) j held (λ a h at. at) (λ o holds. holds-alike (Awaits j.lists kept) j.at_client n x (given c bytes more x) j.lists alike holds))
     by o true true is = subst (λ (o : Option Command). HeldOn kept n (sending (map (λ (k : Command). of_circuit c (bare k)) (option_to_list o)) (given c bytes more x)) (sent_to i n (map (λ (k : Command). of_circuit c (bare k)) (option_to_list o)) j)) (sym is)
@@ -106,7 +107,7 @@ up-held kept n x j c bytes held =
 
 -- ---- ends
 
-flows-closed : (kept : List ℕ) (c : Circuit) → Flows (Awaits c kept) c → Flows (Awaits c kept) (record c { client_open = false })
+pub flows-closed : (kept : List ℕ) (c : Circuit) → Flows (Awaits c kept) c → Flows (Awaits c kept) (record c { client_open = false })
 flows-closed kept c f =
     record { within = f.within; early = f.early; about = f.about; asked = f.asked; own = f.own; concerns = f.concerns; next = f.next; last = f.last; over = f.over }
 

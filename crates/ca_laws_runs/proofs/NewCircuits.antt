@@ -1,6 +1,6 @@
 -- A circuit that was just made: its set-up and its CREATE_CHANs may be sent, and its client holds what they give.
-use Rattle.std.proofs.Common.{◌≡◌, ℕ, zero, suc, ◌+◌, ◌<◌, inl, inr, Bool, true, false, ◌&&◌, cond, eqb, List, [], ◌∷◌, ◌++◌, length, Option, Some, None, refl, sym, ap, ◌∙◌, subst, arith}
-use Rattle.std.specs.Prelude.{filter, is_none, map, option_and_then, option_map, unwrap_or}
+use Rattle.std.proofs.Common.{◌≡◌, ℕ, zero, suc, ◌<◌, inl, inr, Bool, true, false, ◌&&◌, cond, eqb, List, [], ◌∷◌, ◌++◌, length, Option, Some, None, refl, sym, ap, ◌∙◌, subst, arith}
+use Rattle.std.specs.Prelude.{filter, is_none, map, option_and_then}
 use Rattle.std.proofs.lemmas.Bool.{and_from, both_ways, eq-eqb}
 use Rattle.ca_text.specs.Place.{At}
 use Rattle.ca_text.proofs.Places.{At-last, At-mapped, At-one, some_is}
@@ -14,7 +14,7 @@ use Rattle.ca_model.specs.Client.{Channel, Client, ClientCircuit, connection_at,
 use Rattle.ca_model.specs.ClientEnds.{ConnectsOn, begun, creations, is_connecting, of_circuit, set_up}
 use Rattle.ca_model.specs.History.{Circuit, Sent}
 use Rattle.ca_model.specs.History as history
-use Rattle.ca_model_world.specs.ClientEvents.{HappensAccept, Outcomes, WantsFirst, channel_number, client_after, connected_as, lines_of, new_circuit, told_by}
+use Rattle.ca_model_world.specs.ClientEvents.{HappensAccept, WantsFirst, channel_number, client_after, connected_as, lines_of, new_circuit, told_by}
 use Rattle.ca_model_world.specs.World.{ClientSide, Joined, Names, ServerSide, World, with_server}
 use Rattle.ca_laws_circuit.specs.Flows.{Awaits, Flows, with_all_sent, with_sent}
 use Rattle.ca_laws_circuit.specs.Held.{Holds, NoneAsked, create_of, waiting_on}

@@ -31,7 +31,7 @@ use Rattle.ca_laws_runs.proofs.Worlds.{after-call, number-or, set-there}
 -- ---- a client begins again
 
 -- an end that is not open holds nothing, whoever its client is now
-shut-held : (kept : List ℕ) (n m : Names) (x y : Client) (j : Joined) → j.lists.client_open ≡ false → HeldOn kept n x j → HeldOn kept m y j
+pub shut-held : (kept : List ℕ) (n m : Names) (x y : Client) (j : Joined) → j.lists.client_open ≡ false → HeldOn kept n x j → HeldOn kept m y j
 shut-held kept n m x y j shut held =
     record { flows = held.flows; cids = λ o. absurd (both_ways j.lists.client_open shut o); holds = λ o. absurd (both_ways j.lists.client_open shut o) }
 
@@ -82,7 +82,7 @@ keeps-client-restart kept w new i k x at happens held =
 -- ---- a datagram
 
 -- messages that are sent after others
-sent-after : (i : ℕ) (n : Names) (xs ys : List Sending) (j : Joined) → sent_to i n (xs ++ ys) j ≡ sent_to i n ys (sent_to i n xs j)
+pub sent-after : (i : ℕ) (n : Names) (xs ys : List Sending) (j : Joined) → sent_to i n (xs ++ ys) j ≡ sent_to i n ys (sent_to i n xs j)
 sent-after i n xs ys j = go (eqb j.client i && j.lists.client_open)
   where
     go : (b : Bool) → with_up (j.lists.up ++ cond b (map (stamped n) (filter (λ (s : Sending). same_handle s.circuit j.at_client) (xs ++ ys))) []) j

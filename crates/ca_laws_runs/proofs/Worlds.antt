@@ -29,7 +29,7 @@ number-or a b = elim (three-ways a b) [
 ]
 
 -- a circuit of another client
-other-client : (kept : List ℕ) (i : ℕ) (n : Names) (m : Names) (x : Client) (sent : List Sending) (j : Joined) → (j.client ≡ i → ⊥) → HeldOn kept n x j → HeldOn kept n x (sent_to i m sent j)
+pub other-client : (kept : List ℕ) (i : ℕ) (n : Names) (m : Names) (x : Client) (sent : List Sending) (j : Joined) → (j.client ≡ i → ⊥) → HeldOn kept n x j → HeldOn kept n x (sent_to i m sent j)
 other-client kept i n m x sent j other held = go (eqb j.client i) refl
   where
     go : (b : Bool) → eqb j.client i ≡ b → HeldOn kept n x (with_up (j.lists.up ++ cond (b && j.lists.client_open) (map (stamped m) (filter (λ (s : Sending). same_handle s.circuit j.at_client) sent)) []) j)

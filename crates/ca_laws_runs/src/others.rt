@@ -7,6 +7,7 @@ ghost use Rattle.ca_model.specs.Ends.{Address};
 ghost use Rattle.ca_model.specs.History.{Intent, Line};
 ghost use Rattle.ca_model_world.specs.ClientEvents.{HappensAccept, HappensClientDatagram, HappensClientRestart, HappensHandingOut, HappensOpen, WantsFirst};
 ghost use Rattle.ca_model_world.specs.ServerEvents.{HappensAdd, HappensPost, HappensServerRestart};
+ghost use Rattle.ca_model_world.specs.Runs.{TicksAll};
 ghost use Rattle.ca_model_world.specs.World.{ClientSide, ServerSide, World};
 ghost use Rattle.ca_laws_runs.specs.Circuit.{HeldAt};
 ghost use Rattle.ca_laws_runs.specs.Clients.{ClientsStand};
@@ -30,7 +31,7 @@ pub fn quiet_events_keep_each_circuit()
 {}
 
 /// So does a client that begins again, whose ends are closed then, a datagram that reaches one, which
-/// may create channels, and a circuit that is made, for those that were there before it.
+/// may create channels, a circuit that is made, and a moment that is handed in.
 pub fn a_clients_life_keeps_each_circuit()
     ensures restart { (kept : List ℕ) (w new : World) (i k : ℕ) (x : ClientSide)
         → At w.clients i x → HappensClientRestart w i x new → HeldAt kept w k → HeldAt kept new k }
@@ -44,4 +45,7 @@ pub fn a_clients_life_keeps_each_circuit()
     ensures made { (kept : List ℕ) (w new : World) (c : ℕ) (x : ClientSide) (v : WantsFirst w x)
         → At w.clients c x → ClientsStand w → HappensAccept w c x v new
         → length w.circuits < length new.circuits → HeldAt kept new (length w.circuits) }
+    // A moment is handed to clients, in order.
+    ensures ticks { (kept : List ℕ) (moment k : ℕ) (clients : List ℕ) (w new : World)
+        → TicksAll moment w clients new → HeldAt kept w k → HeldAt kept new k }
 {}
