@@ -3,3 +3,4 @@ pub mod Seen
 pub mod Rising
 pub mod InStep
 pub mod Posted
+pub mod Acts

@@ -2,7 +2,9 @@
 use Rattle.std.specs.Prelude.{ℕ, ◌≡◌, List, map}
 use Rattle.ca_queue.specs.declared.entry.SubKey.{SubKey}
 use Rattle.ca_queue.specs.Images.{queue_images}
+use Rattle.ca_queue.specs.Keys.{AreApart}
 use Rattle.ca_queue.specs.Queue.{Queue}
+use Rattle.ca_model.specs.Server.{ServerEnd, key_of}
 use Rattle.ca_model.specs.Speech.{Stored}
 use Rattle.ca_model.specs.History.{Cause, Update}
 use Rattle.ca_model_world.specs.World.{Joined, Standing}
@@ -29,3 +31,9 @@ pub record InStep (values : List (Queue Stored)) (numbers : List (Queue (ℕ × 
 -- the keys of the subscriptions that stand on a circuit, in the order of their EVENT_ADDs
 abbrev pub keys_standing : Joined → List SubKey
 keys_standing j = map (λ (s : Standing). s.key) j.standing
+
+-- So are an open end and its circuit: the same subscriptions stand in both, each once.
+pub record EndInStep (e : ServerEnd) (j : Joined) : Type 0 where
+  pub queues : InStep e.queues j.queues
+  pub keys : map key_of e.subscriptions ≡ keys_standing j
+  pub apart : AreApart (keys_standing j)
