@@ -1,17 +1,18 @@
 ghost use Rattle.std.specs.Prelude.{[], ◌≡◌, ◌+◌, ◌++◌, ◌∷◌, Bool, List, None, Some, false, map, replicate, take, ℕ};
-ghost use Rattle.std.specs.List.{FoldsTo};
+ghost use Rattle.std.specs.List.{FoldsTo, fold};
 ghost use Rattle.ca_text.specs.Place.{At};
 ghost use Rattle.ca_queue.specs.Circuit.{queue_posted, without_each};
-ghost use Rattle.ca_model.specs.Server.{Server, ServerEnd, Subscription, key_of};
+ghost use Rattle.ca_model.specs.Server.{Open, Server, ServerEnd, Subscription, key_of, with_post, without_subscriptions};
 ghost use Rattle.ca_arena.specs.declared.handle.Handle.{Handle};
-ghost use Rattle.ca_model.specs.ServerSteps.{HasEnd, Leaves, Pumps, TakesIn};
+ghost use Rattle.ca_model.specs.ServerSteps.{Acts, HasEnd, Leaves, Pumps, TakesIn};
 ghost use Rattle.ca_model.specs.ServerSteps as event;
 ghost use Rattle.ca_model.specs.Speech.{Stored};
-ghost use Rattle.ca_model_world.specs.ServerEvents.{number_taken, stamped};
+ghost use Rattle.ca_model_world.specs.ServerEvents.{keys_concerned, number_taken, numbers_after, stamped, with_number, without_standing};
+ghost use Rattle.ca_model.specs.Due.{Action, Adds};
 ghost use Rattle.ca_model_world.specs.World.{Joined};
-ghost use Rattle.ca_laws_updates.specs.InStep.{InStep};
+ghost use Rattle.ca_laws_updates.specs.InStep.{EndInStep, InStep, keys_standing};
 ghost use Rattle.ca_queue.specs.declared.entry.SubKey.{SubKey};
-ghost use Rattle.ca_queue.specs.Keys.{same};
+ghost use Rattle.ca_queue.specs.Keys.{AreApart, is_among, same};
 ghost use Rattle.ca_queue.specs.Queue.{Queue, added, cancelled, no_queue, posted, switched, with_front_taken};
 ghost use Rattle.ca_queue.specs.Waiting.{entries_of, taken};
 ghost use Rattle.ca_records.specs.Rules.{Rule};
@@ -86,6 +87,12 @@ pub fn values_and_numbers_stay_in_step()
     ensures taken_in { (s : Subscription) (v : Stored) (place : ℕ) (e new : ServerEnd)
         (numbers : List (Queue (ℕ × Cause))) → TakesIn s v e new → InStep e.queues numbers
         → InStep new.queues (number_taken (key_of s) (place, Update 0) numbers) }
+    // A post, or a write, reaches the subscriptions of the end that it concerns.
+    ensures reached { (name : List ℕ) (mask : ℕ) (v : Stored) (e : ServerEnd) (j : Joined)
+        → map key_of e.subscriptions ≡ keys_standing j → AreApart (keys_standing j)
+        → InStep e.queues j.queues
+        → InStep (with_post name mask v e).queues
+        (fold with_number j (keys_concerned name mask (Some (Open e)))).queues }
     // Updates leave the end.
     ensures pumped { (updates : List event.Update) (e after : ServerEnd) (j : Joined)
         → FoldsTo Leaves e updates after → InStep e.queues j.queues
@@ -96,4 +103,17 @@ pub fn values_and_numbers_stay_in_step()
         → ((e : ServerEnd) → HasEnd y h e → InStep e.queues j.queues)
         → Pumps y h updates core → (i : ℕ) (t : Told) → At (stamped updates j).lists.down i t
         → t.cause ≡ Reply → At j.lists.down i t }
+{}
+
+/// So an open end and its circuit stay in step as a message is handled, and as subscriptions end
+/// with their channel: the same subscriptions stand in both, each once, and the same updates wait.
+///
+/// A subscription begins only under a key that none has.
+pub fn an_end_and_its_circuit_stay_in_step()
+    ensures acts { (y : Server) (e new : ServerEnd) (place : ℕ) (did : Action) (j : Joined)
+        → Acts y e did new
+        → ((s : Subscription) → did ≡ Adds s → is_among (key_of s) (keys_standing j) ≡ false)
+        → EndInStep e j → EndInStep new (numbers_after place did j) }
+    ensures without { (gone : SubKey → Bool) (e : ServerEnd) (j : Joined) → EndInStep e j
+        → EndInStep (without_subscriptions gone e) (without_standing gone j) }
 {}

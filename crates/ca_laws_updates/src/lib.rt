@@ -6,5 +6,5 @@ mod laws;
 
 pub use laws::{
     a_queue_keeps_numbers_rising, a_subscriber_sees_posts, a_subsequence_begins_with_one,
-    values_and_numbers_stay_in_step,
+    an_end_and_its_circuit_stay_in_step, values_and_numbers_stay_in_step,
 };

@@ -1,4 +1,5 @@
 use Rattle.ca_laws_updates.proofs.InStep.{pumps-numbered, step-begins, step-posted, step-pumped, step-switched, step-taken-in, step-without}
+use Rattle.ca_laws_updates.proofs.Posted.{step-post}
 use Rattle.ca_laws_updates.proofs.laws.values_and_numbers_stay_in_step.Goals as goal
 
 pub returns : goal.returns
@@ -8,6 +9,7 @@ returns c = record {
   without = step-without;
   switched = step-switched;
   taken_in = step-taken-in;
+  reached = step-post;
   pumped = step-pumped;
   numbered = pumps-numbered;
 }
