@@ -30,3 +30,4 @@ pub mod Restarts
 pub mod Accepts
 pub mod NewCircuits
 pub mod Ticks
+pub mod CalmEvents

@@ -1,3 +1,4 @@
 pub mod Circuit
 pub mod Client
 pub mod Clients
+pub mod Calm
