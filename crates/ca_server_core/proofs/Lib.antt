@@ -14,3 +14,7 @@ pub mod Givens
 pub mod Steps
 pub mod Sounds
 pub mod Moves
+pub mod Sieves
+pub mod Placing
+pub mod Dropping
+pub mod Joining

@@ -1,30 +1,22 @@
 -- Working: what the end of a circuit makes of one message, with the records of its server.
-use Rattle.std.specs.Prelude.{ℕ, ◌≡◌, ◌≢◌, ◌==◌, ◌&&◌, ◌⊎◌, Bool, true, false, not, List, [], ◌∷◌, ◌++◌, Option, Some, None, length, map, option_map, replicate}
+use Rattle.std.specs.Prelude.{ℕ, ◌≡◌, ◌==◌, ◌&&◌, ◌⊎◌, Bool, true, false, List, [], Some, map, option_map}
 use Rattle.ca_arena.specs.declared.handle.Handle.{Handle}
-use Rattle.ca_dbr.specs.Elements.{Elements}
 use Rattle.ca_ids.specs.Table.{Table, by_wire, held, is_full, same_handle, under}
 use Rattle.ca_ids.specs.Wire.{wire_of}
 use Rattle.ca_link.specs.Link.{with_sent}
-use Rattle.ca_queue.specs.Queue.{Queue, no_queue, switched}
 use Rattle.ca_records.specs.declared.puts.Put.{Put}
 use Rattle.ca_records.specs.declared.puts.Stamp.{Stamp}
 use Rattle.ca_records.specs.Puts.{Record, record_named, with_record, with_value, with_waiting, withdrawn, written_meta}
 use Rattle.ca_records.specs.Store.{Store, records_of}
-use Rattle.ca_text.specs.Limits.{circuit_queues}
 use Rattle.ca_text.specs.Status.{bad_channel}
 use Rattle.ca_wire.specs.Fields.{Fields}
-use Rattle.ca_wire.specs.Messages.{error_reply, status_reply, text_in}
-use Rattle.ca_model.specs.Due.{Action, Adds, Applies, Clears, Drops, Due, EventDue, Greets, IsCreated, IsNotCreated, KnownRecord, Knows, Names, Nothing, Opens, PutDue, ReadDue, StrayDue, Switches, Waits, WriteDue, named}
+use Rattle.ca_wire.specs.Messages.{error_reply, status_reply}
+use Rattle.ca_model.specs.Due.{Action, Applies, Clears, Due, EventDue, IsCreated, IsNotCreated, Knows, Nothing, Opens, PutDue, ReadDue, StrayDue, Waits, WriteDue}
 use Rattle.ca_model.specs.Ends.{Peer}
 use Rattle.ca_model.specs.Server.{OpenChannel, Server, ServerEnd, key_of}
 use Rattle.ca_model.specs.ServerSteps.{Acts, IsPut, NeedsMemory, is_write, known_channel, known_record}
-use Rattle.ca_model.specs.Speech.{Stored}
 
 -- ---- the end
-
--- the queues of an end that has no subscription
-abbrev pub idle_queues : (events_on : Bool) → List (Queue Stored)
-idle_queues on = replicate circuit_queues (switched on no_queue)
 
 -- these messages wait after the others
 abbrev pub replied : List Fields → ServerEnd → ServerEnd

@@ -8,3 +8,4 @@ pub mod Showing
 pub mod Stepping
 pub mod Circuits
 pub mod Sound
+pub mod Subscribed

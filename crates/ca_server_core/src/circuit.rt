@@ -1,4 +1,4 @@
-ghost use Rattle.std.specs.Prelude.{◌≡◌, ◌≤◌, Some, length};
+ghost use Rattle.std.specs.Prelude.{◌≡◌, ◌≤◌, IfOk, Some, length};
 ghost use Rattle.ca_model.specs.Server.{new_end};
 ghost use Rattle.ca_model.specs.Server as server;
 ghost use Rattle.ca_model.specs.ServerSteps.{output_of};
@@ -8,7 +8,7 @@ use crate::cause::Cause;
 use crate::end::End;
 use ca_text::Refusal;
 use ca_wire::Pipe;
-use std::alloc::Global;
+use std::alloc::{AllocError, Global};
 use std::marker::Model;
 
 /// A circuit of a server.
@@ -35,13 +35,14 @@ impl Model for Circuit {
 }
 
 impl Circuit {
-    // One that was accepted at this moment. It does not allocate yet.
-    pub(crate) fn new(alloc: Global, now: u64) -> Circuit
-        ensures { result ≡ server.Open (new_end now) }
+    // One that was accepted at this moment. It makes room for its queues.
+    pub(crate) fn new(alloc: Global, now: u64) -> Result<Circuit, AllocError>
+        ensures { IfOk result (λ c. c ≡ server.Open (new_end now)) }
     {
-        Circuit {
-            state: State::Open(End::new(alloc, now)),
-        }
+        let end = End::new(alloc, now)?;
+        Ok(Circuit {
+            state: State::Open(end),
+        })
     }
 
     // Takes bytes that came at this moment. Refused as CircuitClosed if its end is not open, then as OutOfMemory.

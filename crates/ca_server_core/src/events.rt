@@ -1,4 +1,5 @@
-ghost use Rattle.std.specs.Prelude.{ℕ, ◌≡◌, OnOk, MatchOption, [], ◌∷◌, None, Some, false, true};
+ghost use Rattle.std.specs.Prelude.{ℕ, ◌≡◌, OnErr, OnOk, MatchOption, [], ◌∷◌, None, Some, false};
+ghost use Rattle.ca_arena.specs.declared.handle.Handle.{Handle};
 ghost use Rattle.ca_link.specs.Calls.{IsOpen};
 ghost use Rattle.ca_records.specs.Store.{records_of};
 ghost use Rattle.ca_wire.specs.Messages.{cancel_reply};
@@ -6,13 +7,17 @@ ghost use Rattle.ca_queue.specs.Keys.{same};
 ghost use Rattle.ca_model.specs.Due.{key_in};
 ghost use Rattle.ca_model.specs.Faults.{subscribed_count, subscription_fault, type_of};
 ghost use Rattle.ca_model.specs.Server.{with_events, without_subscriptions};
-ghost use Rattle.ca_server_core.specs.Handling.{AreServed, Replies, Subscribes, known, replied};
+ghost use Rattle.ca_server_core.specs.Handling.{AreServed, Does, Subscribes, known, replied};
+ghost use Rattle.ca_server_core.specs.Seeking.{IsServed};
+ghost use Rattle.ca_server_core.specs.Subscribed.{CanJoin, HasJoined, MayBegin};
 
 use crate::end::{End, send};
-use crate::seek::Sought;
+use crate::seek::{Seat, Sought};
+use crate::update::Update;
 use ca_dbr::{DataType, has_conversion, image_size};
+use ca_queue::SubKey;
 use ca_records::{Record, ServedRecords};
-use ca_text::{PAYLOAD_LIMIT, Status};
+use ca_text::{CIRCUIT_QUEUES, PAYLOAD_LIMIT, QUEUE_SUBSCRIPTIONS, Status};
 use ca_wire::{Message, cancel_reply};
 use std::alloc::AllocError;
 
@@ -20,7 +25,7 @@ use std::alloc::AllocError;
 const EVENT_SIZE: usize = 16;
 
 impl End {
-    /// EVENT_ADD: refused by ERROR. One without a fault is answered as if there was no memory, as long as subscriptions are missing.
+    /// EVENT_ADD: refused by ERROR; or its subscription begins, whose first update is the present value.
     pub(crate) fn subscribe(
         &mut self,
         records: &ServedRecords,
@@ -28,8 +33,10 @@ impl End {
     ) -> Result<(), AllocError>
         requires open { IsOpen self.old.link }
         requires served { AreServed (records_of records.now) self.old.channels }
-        ensures { OnOk result ((port : ℕ)
-            → Replies (Subscribes (known port records.now self.old) message.now) self.old self.new) }
+        ensures ok { OnOk result ((port : ℕ) (h : Handle)
+            → Does (Subscribes (known port records.now self.old) message.now) records.now h self.old
+            message.now false records.now self.new) }
+        ensures output { OnErr result (self.new.link.output ≡ self.old.link.output) }
     {
         match self.seek(records, message.wanted().sid) {
             Sought::Stray(cid) => {
@@ -37,27 +44,65 @@ impl End {
                 Ok(())
             }
             Sought::Served(seat) => {
-                let state = records.at(seat.place).state();
-                let rights = records.rights(&self.user, &self.host, state.name());
-                match event_fault(state, rights, message) {
-                    None => Err(AllocError),
-                    Some(status) => {
-                        self.refuse(seat.cid, status, message)?;
-                        Ok(())
-                    }
-                }
+                self.subscribe_on(seat, records, message)?;
+                Ok(())
             }
         }
+    }
+
+    /// EVENT_ADD on the record of this channel.
+    fn subscribe_on(
+        &mut self,
+        seat: Seat,
+        records: &ServedRecords,
+        message: &Message,
+    ) -> Result<(), AllocError>
+        requires open { IsOpen self.old.link }
+        requires served { IsServed records.now self.old message.now.p1 seat }
+        ensures ok { OnOk result ((port : ℕ) (h : Handle)
+            → Does (Subscribes (known port records.now self.old) message.now) records.now h self.old
+            message.now false records.now self.new) }
+        ensures output { OnErr result (self.new.link.output ≡ self.old.link.output) }
+    {
+        let state = records.at(seat.place).state();
+        let rights = records.rights(&self.user, &self.host, state.name());
+        let in_use = self.subscriptions.has(key_of(message));
+        let others = self.subscriptions.len();
+        match event_fault(state, rights, in_use, others, message) {
+            None => {
+                self.join(state, message)?;
+                Ok(())
+            }
+            Some(status) => {
+                self.refuse(seat.cid, status, message)?;
+                Ok(())
+            }
+        }
+    }
+
+    /// Begins the subscription that an EVENT_ADD asks for, on this record. Without memory all is as it was.
+    fn join(&mut self, of: &Record, message: &Message) -> Result<(), AllocError>
+        requires { CanJoin self.old message.now }
+        ensures ok { OnOk result (HasJoined of.now message.now self.old self.new) }
+        ensures err { OnErr result (self.new ≡ self.old) }
+    {
+        let name = Vec::from_slice(self.alloc, of.name())?;
+        let update = Update::of(self.alloc, of.value(), *of.meta())?;
+        self.subscriptions
+            .begin(message.wanted(), name, message.mask_bits(), update)?;
+        Ok(())
     }
 
     /// EVENT_CANCEL: always confirmed.
     pub(crate) fn cancel(&mut self, message: &Message) -> Result<(), AllocError>
         requires { IsOpen self.old.link }
-        ensures { OnOk result (self.new
+        ensures ok { OnOk result (self.new
             ≡ replied (cancel_reply message.now ∷ [])
             (without_subscriptions (same (key_in message.now)) self.old)) }
+        ensures output { OnErr result (self.new.link.output ≡ self.old.link.output) }
     {
         send(&mut self.link, &cancel_reply(self.alloc, message))?;
+        self.subscriptions.cancel(key_of(message));
         Ok(())
     }
 
@@ -65,15 +110,33 @@ impl End {
     pub(crate) fn switch_events(&mut self, on: bool)
         ensures { self.new ≡ with_events on self.old }
     {
-        self.events_on = on;
+        self.subscriptions.switch(on);
     }
 }
 
-/// The first fault of an EVENT_ADD on this record under these rights, on a circuit with no subscription.
-fn event_fault(of: &Record, rights: u32, message: &Message) -> Option<Status>
+/// The key of the subscription that an EVENT_ADD or an EVENT_CANCEL names.
+fn key_of(message: &Message) -> SubKey
+    ensures { result ≡ key_in message.now }
+{
+    SubKey {
+        sid: message.p1(),
+        sub: message.p2(),
+    }
+}
+
+/// The first fault of an EVENT_ADD on this record under these rights, whose key is in use or not, beside so many other subscriptions.
+fn event_fault(
+    of: &Record,
+    rights: u32,
+    in_use: bool,
+    others: usize,
+    message: &Message,
+) -> Option<Status>
     ensures { MatchOption result
-        (subscription_fault of.now rights false 0 message.now (type_of message.now.data_type) ≡ None)
-        (λ s. subscription_fault of.now rights false 0 message.now (type_of message.now.data_type)
+        ((subscription_fault of.now rights in_use others message.now (type_of message.now.data_type)
+        ≡ None) × MayBegin in_use others message.now)
+        (λ s.
+        subscription_fault of.now rights in_use others message.now (type_of message.now.data_type)
         ≡ Some s.number) }
 {
     let count = count_of(of, message);
@@ -92,6 +155,9 @@ fn event_fault(of: &Record, rights: u32, message: &Message) -> Option<Status>
     if message.mask_bits() % 16 == 0 {
         return Some(Status::ADDFAIL);
     }
+    if in_use {
+        return Some(Status::ADDFAIL);
+    }
     if count > of.count() {
         return Some(Status::BADCOUNT);
     }
@@ -100,6 +166,9 @@ fn event_fault(of: &Record, rights: u32, message: &Message) -> Option<Status>
     }
     if !has_conversion(of.value().base_type(), data_type.base) {
         return Some(Status::NOCONVERT);
+    }
+    if others >= CIRCUIT_QUEUES * QUEUE_SUBSCRIPTIONS {
+        return Some(Status::ADDFAIL);
     }
     None
 }

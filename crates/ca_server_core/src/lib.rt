@@ -2,8 +2,8 @@
 //! given to it, and those that wait to be sent are asked of it.
 //!
 //! It is begun: the end of a circuit handles each message (within the crate), and `ServerCore` has `new`, `accept`, `give`, `out_bytes`, `sent`,
-//! `stamp`, `applied` and `waiting`. It has no call yet for steps, cuts, posts, finishes, removals, datagrams and beacons. Subscriptions are
-//! missing: an EVENT_ADD without a fault ends its step as if there was no memory for it. No program uses this crate.
+//! `stamp`, `applied` and `waiting`. It has no call yet for steps, cuts, posts, pumps, finishes, removals, datagrams and beacons. No
+//! program uses this crate.
 #![tactic(auto)]
 
 mod cause;
@@ -22,7 +22,10 @@ mod read;
 mod search;
 mod seek;
 mod server;
+mod standing;
 mod step;
+mod subscriptions;
+mod update;
 mod version;
 mod write;
 mod write_notify;

@@ -1,5 +1,6 @@
 ghost use Rattle.std.specs.Prelude.{◌≡◌, ◌≢◌, ◌≤◌, IfOk, OnErr, length};
-ghost use Rattle.ca_model.specs.Server.{new_server};
+ghost use Rattle.ca_model.specs.Server.{new_end, new_server};
+ghost use Rattle.ca_model.specs.Server as server;
 ghost use Rattle.ca_ids.specs.Table.{under};
 ghost use Rattle.ca_model.specs.ServerCalls.{stamped, waiting};
 ghost use Rattle.ca_model.specs.ServerSteps.{Accepts, Gives, Sends, output_of};
@@ -82,7 +83,21 @@ impl ServerCore {
     pub fn accept(&mut self) -> Result<Handle, Refusal>
         ensures { Accepts self.old result self.new }
     {
-        match self.circuits.open(Circuit::new(self.alloc, self.moment)) {
+        if self.circuits.is_full() {
+            return Err(Refusal::ArenaFull);
+        }
+        let Ok(circuit) = Circuit::new(self.alloc, self.moment) else {
+            return Err(Refusal::OutOfMemory);
+        };
+        self.hold(circuit)
+    }
+
+    // Holds a circuit that begins now under a handle.
+    fn hold(&mut self, circuit: Circuit) -> Result<Handle, Refusal>
+        requires { circuit ≡ server.Open (new_end self.old.moment) }
+        ensures { Accepts self.old result self.new }
+    {
+        match self.circuits.open(circuit) {
             Ok(handle) => Ok(handle),
             Err((_, refusal)) => Err(refusal),
         }

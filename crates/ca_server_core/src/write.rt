@@ -76,8 +76,9 @@ impl End {
         message: &Message,
     ) -> Result<(), AllocError>
         requires { IsOpen self.old.link }
-        ensures { OnOk result (self.new
+        ensures ok { OnOk result (self.new
             ≡ replied (error_reply cid status.number message.now ∷ []) self.old) }
+        ensures output { OnErr result (self.new.link.output ≡ self.old.link.output) }
     {
         let reply = error_reply(self.alloc, cid, status, message)?;
         send(&mut self.link, &reply)?;

@@ -1,7 +1,6 @@
-use Rattle.std.proofs.Common.{◌≡◌, ℕ, Bool, true, false, List, [], ◌∷◌, ◌==◌, Result, Ok, Err, refl, sym, ap, ◌∙◌}
+use Rattle.std.proofs.Common.{false, Result, Ok, Err, refl, sym, ap, ◌∙◌}
 use Rattle.std.specs.Prelude.{IfOk}
 use Rattle.ca_text.specs.Command.{command_number}
-use Rattle.ca_text.specs.declared.command.Command.{Command}
 use Rattle.ca_text.specs.declared.command.Command.TheVariants as command
 use Rattle.ca_server_core.proofs.Handled.{does-cancel, does-clear, does-create, does-echo, does-for, does-host, does-nothing, does-off, does-on, does-reply, does-search, does-user, does-version, not-a-command, other-command}
 use Rattle.ca_server_core.proofs.end.End.handle.Goals as goal
@@ -44,7 +43,7 @@ returns-in_ok-search-in-Search-clause-ok c =
 
 pub returns-in_ok-cancel-in-EventCancel-clause-ok : goal.returns-in_ok-cancel-in-EventCancel-clause-ok
 returns-in_ok-cancel-in-EventCancel-clause-ok c =
-    does-cancel c.args.port c.args.records.now c.args.circuit c.args.self.now c.args.message.now c.cancel.new.self (sym (ap command_number (sym c.in-EventCancel.is) ∙ c.in-Some.ensures ∙ c.command.ensures)) c.in_ok-cancel-in-EventCancel.ensures
+    does-cancel c.args.port c.args.records.now c.args.circuit c.args.self.now c.args.message.now c.cancel.new.self (sym (ap command_number (sym c.in-EventCancel.is) ∙ c.in-Some.ensures ∙ c.command.ensures)) c.in_ok-cancel-in-EventCancel.ensures.ok
 
 pub returns-in_ok-create-in-CreateChannel-clause-ok : goal.returns-in_ok-create-in-CreateChannel-clause-ok
 returns-in_ok-create-in-CreateChannel-clause-ok c =
@@ -60,7 +59,7 @@ returns-in_ok-read-in-ReadNotify-clause-ok c =
 
 pub returns-in_ok-subscribe-in-EventAdd-clause-ok : goal.returns-in_ok-subscribe-in-EventAdd-clause-ok
 returns-in_ok-subscribe-in-EventAdd-clause-ok c =
-    does-reply c.args.port c.args.records.now c.args.circuit c.args.self.now c.args.message.now c.subscribe.new.self command.EventAdd (sym (ap command_number (sym c.in-EventAdd.is) ∙ c.in-Some.ensures ∙ c.command.ensures)) refl refl (c.in_ok-subscribe-in-EventAdd.ensures c.args.port)
+    does-for c.args.port c.args.records.now c.args.circuit c.args.self.now c.args.message.now false c.args.records.now c.subscribe.new.self command.EventAdd (sym (ap command_number (sym c.in-EventAdd.is) ∙ c.in-Some.ensures ∙ c.command.ensures)) refl refl (c.in_ok-subscribe-in-EventAdd.ensures.ok c.args.port c.args.circuit)
 
 pub returns-in-EventsOff-clause-ok : goal.returns-in-EventsOff-clause-ok
 returns-in-EventsOff-clause-ok c =

@@ -9,4 +9,4 @@ returns-in_ok-refuse-in-Stray-clause-ok c port h =
     let e = c.args.self.now in
     let m = c.args.message.now in
     let is : IsStray e m.p1 c.in-Stray.cid = subst (λ (n : ℕ). IsStray e n c.in-Stray.cid) (ap (λ (w : Wanted). w.sid) c.wanted.ensures) c.in-Stray.ensures.seeks in
-    write-stray port c.args.records.now h e c.refuse.new.self m c.in-Stray.cid is c.in_ok-refuse-in-Stray.ensures
+    write-stray port c.args.records.now h e c.refuse.new.self m c.in-Stray.cid is c.in_ok-refuse-in-Stray.ensures.ok

@@ -1,5 +1,4 @@
-use Rattle.std.proofs.Common.{◌≡◌, ℕ, false, None, refl, sym, ap, ◌∙◌, subst}
-use Rattle.ca_arena.specs.declared.handle.Handle.{Handle}
+use Rattle.std.proofs.Common.{◌≡◌, false, None, refl, sym, subst}
 use Rattle.ca_records.specs.declared.puts.Begun.TheVariants as begun
 use Rattle.ca_records.specs.Puts.{Record}
 use Rattle.ca_records.specs.Store.{Becomes, Store}
@@ -36,4 +35,4 @@ returns-in_ok-refuse-in-Refused-clause-ok c port h =
     let one : w.0 ≡ i.r = one-record s c.args.seat.place w.0 i.r w.1 i.at in
     let refused = subst (λ (r : Record). IsRefused r bits None m c.in-Refused.status.number) one w.2 in
     subst (λ (t : Store). Does (Writes (known port s e) m) s h e m false t c.refuse.new.self) (sym w.3)
-    (write-refused port s h e c.refuse.new.self m c.args.seat i bits c.in-Refused.status.number right c.requires.command refused c.in_ok-refuse-in-Refused.ensures)
+    (write-refused port s h e c.refuse.new.self m c.args.seat i bits c.in-Refused.status.number right c.requires.command refused c.in_ok-refuse-in-Refused.ensures.ok)
