@@ -18,3 +18,4 @@ pub mod Sieves
 pub mod Placing
 pub mod Dropping
 pub mod Joining
+pub mod Pumps

@@ -9,3 +9,4 @@ pub mod Stepping
 pub mod Circuits
 pub mod Sound
 pub mod Subscribed
+pub mod Pumping

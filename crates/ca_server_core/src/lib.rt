@@ -26,6 +26,7 @@ mod standing;
 mod step;
 mod subscriptions;
 mod update;
+mod updates;
 mod version;
 mod write;
 mod write_notify;

@@ -1,9 +1,10 @@
-ghost use Rattle.std.specs.Prelude.{◌≡◌, ◌<◌, ◌==◌, ◌≤◌, ◌*◌, ℕ, Bool, IfOk, OnErr, OnOk, MatchOption, false, map, length};
+ghost use Rattle.std.specs.Prelude.{◌≡◌, ◌<◌, ◌==◌, ◌≤◌, ◌*◌, ℕ, Bool, IfOk, IfSome, OnErr, OnOk, MatchOption, false, map, length};
 ghost use Rattle.ca_text.specs.Limits.{circuit_queues, element_limit, queue_subscriptions};
 ghost use Rattle.ca_dbr.specs.Elements.{count_of, elements};
 ghost use Rattle.ca_queue.specs.Keys.{same};
 ghost use Rattle.ca_queue.specs.Queue.{switched};
 ghost use Rattle.ca_model.specs.Server.{concerns};
+ghost use Rattle.ca_server_core.specs.Pumping.{GivesUpdate};
 ghost use Rattle.ca_server_core.specs.Subscribed.{AreKnown, AtPlace, IsAskable, Joins, after_post, has_key, is_of_sid, none_yet, with_update, without_one, without_those};
 
 use crate::standing::Standing;
@@ -189,5 +190,17 @@ impl Subscriptions {
         let update = Update::of(alloc, value, *meta)?;
         self.queues.post(queue, key, update);
         Ok(())
+    }
+
+    // Takes an update from the first queue that may give one, and says what its subscription asked for.
+    pub(crate) fn take(&mut self) -> Option<(Wanted, Update)>
+        ensures gives { GivesUpdate self.old result self.new }
+        ensures askable { IfSome result (λ r. IsAskable r.0) }
+    {
+        let (_, key, update) = self.queues.take()?;
+        let Some(standing) = self.standing.get(&key) else {
+            unreachable!()
+        };
+        Some((standing.wanted(), update))
     }
 }
