@@ -9,15 +9,21 @@ mod beacon;
 #[cfg(test)]
 mod dgram;
 #[cfg(test)]
+mod held;
+#[cfg(test)]
 mod ids;
 #[cfg(test)]
 mod link;
 #[cfg(test)]
 mod messages;
 #[cfg(test)]
+mod monitors;
+#[cfg(test)]
 mod queue;
 #[cfg(test)]
 mod repeat;
+#[cfg(test)]
+mod requests;
 #[cfg(test)]
 mod search;
 #[cfg(test)]

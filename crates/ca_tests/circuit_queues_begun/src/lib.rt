@@ -1,0 +1,5 @@
+//! Scratch.
+#![tactic(auto)]
+
+#[cfg(test)]
+mod circuit_queues;
