@@ -4,7 +4,7 @@ ghost use Rattle.ca_queue.specs.Keys.{same};
 use ca_dbr::{Meta, Value};
 
 /// The name of a subscription on its circuit.
-#[derive(Clone, Copy, Debug, PartialEq, Eq)]
+#[derive(Clone, Copy, Debug, PartialEq, Eq, Hash)]
 pub struct SubKey {
     /// The SID of its channel.
     pub sid: u32,

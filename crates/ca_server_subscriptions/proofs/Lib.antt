@@ -1,0 +1,4 @@
+pub mod Sieves
+pub mod Placing
+pub mod Dropping
+pub mod Pumps

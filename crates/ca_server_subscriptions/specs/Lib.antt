@@ -1,0 +1,2 @@
+pub mod Subscribed
+pub mod Pumping

@@ -1,0 +1,11 @@
+//! The subscriptions of one circuit at a server, each in the queue that it was given, and the updates that wait for it.
+//!
+//! The server's core is to hold one for each open end, and does not yet.
+#![tactic(auto)]
+
+mod standing;
+mod subscriptions;
+mod update;
+
+pub use subscriptions::Subscriptions;
+pub use update::Update;

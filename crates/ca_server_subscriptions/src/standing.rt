@@ -1,0 +1,67 @@
+ghost use Rattle.std.specs.Prelude.{◌≡◌};
+ghost use Rattle.ca_model.specs.Server.{concerns};
+ghost use Rattle.ca_server_subscriptions.specs.Subscribed.{IsAskable};
+
+use ca_wire::Wanted;
+use std::marker::Model;
+
+/// A subscription of an end, and the place of the queue that has it.
+#[derive(Drop)]
+pub(crate) struct Standing {
+    wanted: Wanted,
+    // The name of its record.
+    name: Vec<u8>,
+    mask: u16,
+    queue: usize,
+}
+
+impl Model for Standing {
+    ghost use Rattle.std.specs.Prelude.{ℕ};
+    ghost use Rattle.ca_model.specs.Server.{Subscription};
+
+    ghost Value = { Subscription × ℕ };
+
+    ghost use Rattle.ca_server_subscriptions.specs.Subscribed.{IsAskable};
+
+    ghost view = { λ s.
+        (record { wanted = s.wanted; name = s.name.items; mask = s.mask }, s.queue) };
+
+    ghost invariant = { λ s. IsAskable s.wanted };
+}
+
+impl Standing {
+    // A subscription that the queue at this place has.
+    pub(crate) fn new(wanted: Wanted, name: Vec<u8>, mask: u16, queue: usize) -> Standing
+        requires { IsAskable wanted }
+        ensures { result ≡ (record { wanted = wanted; name = name.items; mask = mask }, queue) }
+    {
+        Standing {
+            wanted,
+            name,
+            mask,
+            queue,
+        }
+    }
+
+    // What its EVENT_ADD asks for.
+    pub(crate) fn wanted(&self) -> Wanted
+        ensures wanted { result ≡ self.now.0.wanted }
+        ensures askable { IsAskable result }
+    {
+        self.wanted
+    }
+
+    // The place of the queue that has it.
+    pub(crate) fn queue(&self) -> usize
+        ensures { result ≡ self.now.1 }
+    {
+        self.queue
+    }
+
+    // Whether a post to the record of this name, with this mask, concerns it.
+    pub(crate) fn is_concerned(&self, name: &[u8], mask: u16) -> bool
+        ensures { result ≡ concerns name.now mask self.now.0 }
+    {
+        self.name.as_slice() == name && (mask & self.mask) % 16 != 0
+    }
+}

@@ -1,0 +1,208 @@
+ghost use Rattle.std.specs.Prelude.{◌≡◌, ◌<◌, ◌==◌, ◌≤◌, ◌*◌, IfOk, IfSome, OnErr, OnOk, false, map, length};
+ghost use Rattle.ca_text.specs.Limits.{circuit_queues, element_limit, queue_subscriptions};
+ghost use Rattle.ca_dbr.specs.Elements.{count_of, elements};
+ghost use Rattle.ca_queue.specs.Keys.{same};
+ghost use Rattle.ca_queue.specs.Queue.{switched};
+ghost use Rattle.ca_model.specs.Server.{concerns};
+ghost use Rattle.ca_server_subscriptions.specs.Pumping.{GivesUpdate};
+ghost use Rattle.ca_server_subscriptions.specs.Subscribed.{AreKnown, AtPlace, IsAskable, Joins, after_post, has_key, is_of_sid, none_yet, with_update, without_one, without_those};
+
+use crate::standing::Standing;
+use crate::update::Update;
+use ca_dbr::{Meta, Value};
+use ca_queue::{CircuitQueues, ListQueue, SubKey};
+use ca_text::Refusal;
+use ca_wire::{Sid, Wanted};
+use indexmap::IndexMap;
+use std::alloc::{AllocError, Global};
+use std::marker::Model;
+
+/// The subscriptions of an end, in the order of their EVENT_ADDs, and the queues of their updates.
+#[derive(Drop)]
+pub struct Subscriptions {
+    standing: IndexMap<SubKey, Standing>,
+    queues: CircuitQueues<Update, ListQueue<Update>>,
+}
+
+impl Model for Subscriptions {
+    ghost use Rattle.ca_server_subscriptions.specs.Subscribed.{Subscribed};
+
+    ghost Value = { Subscribed };
+
+    ghost use Rattle.ca_server_subscriptions.specs.Subscribed.{ArePlaced, subscriptions_in};
+
+    ghost view = { λ s.
+        record { subscriptions = subscriptions_in s.standing.entries; queues = s.queues } };
+
+    ghost invariant = { λ s. ArePlaced s.standing.entries s.queues };
+}
+
+impl Subscriptions {
+    /// None. It makes room for the queues. Refused without memory.
+    pub fn new(alloc: Global) -> Result<Subscriptions, AllocError>
+        ensures { IfOk result (λ s. s ≡ none_yet) }
+    {
+        let queues = CircuitQueues::new(alloc)?;
+        Ok(Subscriptions {
+            standing: IndexMap::new(alloc),
+            queues,
+        })
+    }
+
+    /// How many there are.
+    pub fn len(&self) -> usize
+        ensures { result ≡ length self.now.subscriptions }
+    {
+        self.standing.len()
+    }
+
+    /// Whether one has this key.
+    pub fn has(&self, key: SubKey) -> bool
+        ensures { result ≡ has_key key self.now }
+    {
+        self.standing.contains_key(&key)
+    }
+
+    /// Adds one that is new, to the record of this name, and puts its first update in the first queue with room. Without memory all is
+    /// as it was.
+    pub fn begin(
+        &mut self,
+        wanted: Wanted,
+        name: Vec<u8>,
+        mask: u16,
+        update: Update,
+    ) -> Result<(), AllocError>
+        requires askable { IsAskable wanted }
+        requires new { has_key (record { sid = wanted.sid; sub = wanted.id }) self.old ≡ false }
+        requires few { length self.old.subscriptions < circuit_queues * queue_subscriptions }
+        ensures ok { OnOk result (Joins (record { wanted = wanted; name = name.items; mask = mask })
+            update self.old self.new) }
+        ensures err { OnErr result (self.new ≡ self.old) }
+    {
+        let key = SubKey {
+            sid: wanted.sid.number(),
+            sub: wanted.id.number(),
+        };
+        self.standing.reserve(1)?;
+        let queue = match self.queues.begin(key, update) {
+            Ok(queue) => queue,
+            Err(Refusal::TooManySubscriptions) => unreachable!(),
+            Err(_) => return Err(AllocError),
+        };
+        let standing = Standing::new(wanted, name, mask, queue);
+        match self.standing.insert(key, standing) {
+            Ok(_) => Ok(()),
+            Err(_) => unreachable!(),
+        }
+    }
+
+    /// Takes the one of this key out, if there is one, with its updates.
+    pub fn cancel(&mut self, key: SubKey)
+        ensures { self.new ≡ without_those (same key) self.old }
+    {
+        let Some(standing) = self.standing.get(&key) else {
+            return;
+        };
+        let queue = standing.queue();
+        self.queues.cancel(queue, key);
+        self.standing.shift_remove(&key);
+    }
+
+    /// Turns events on or off.
+    pub fn switch(&mut self, on: bool)
+        ensures { self.new ≡ record self.old { queues = map (switched on) self.old.queues } }
+    {
+        self.queues.set_events(on);
+    }
+
+    /// Takes those of this SID out, with their updates.
+    pub fn clear(&mut self, sid: Sid)
+        ensures { self.new ≡ without_those (is_of_sid sid) self.old }
+    {
+        let mut place = self.len();
+        'clearing: while place > 0 {
+            place -= 1;
+            self.clear_at(place, sid);
+        }
+        self.know();
+    }
+
+    // Takes the one at this place out if it has this SID.
+    fn clear_at(&mut self, place: usize, sid: Sid)
+        ensures { AtPlace (λ s. s.wanted.sid == sid) without_one place self.old self.new }
+    {
+        let Some((key, _)) = self.standing.get_index(place) else {
+            return;
+        };
+        let key = *key;
+        if key.sid == sid.number() {
+            self.cancel(key);
+        }
+    }
+
+    // Tells that the queues have no other subscriptions. It does nothing.
+    fn know(&self)
+        ensures { AreKnown self.now }
+    {
+        let _ = &self.standing;
+    }
+
+    /// A post to the record of this name: each that it concerns gets an update, in their order. Without memory some have it, so that the
+    /// end is to be closed.
+    pub fn post(
+        &mut self,
+        alloc: Global,
+        name: &[u8],
+        mask: u16,
+        value: &Value,
+        meta: &Meta,
+    ) -> Result<(), AllocError>
+        requires { count_of (elements value.now) ≤ element_limit }
+        ensures { OnOk result (self.new ≡ after_post name.now mask
+            (record { value = elements value.now; meta = meta.now }) self.old) }
+    {
+        'posting: for place in 0..self.len() {
+            self.post_at(alloc, place, name, mask, value, meta)?;
+        }
+        Ok(())
+    }
+
+    // Gives the one at this place an update if the post concerns it.
+    fn post_at(
+        &mut self,
+        alloc: Global,
+        place: usize,
+        name: &[u8],
+        mask: u16,
+        value: &Value,
+        meta: &Meta,
+    ) -> Result<(), AllocError>
+        requires { count_of (elements value.now) ≤ element_limit }
+        ensures { OnOk result (AtPlace (concerns name.now mask)
+            (with_update (record { value = elements value.now; meta = meta.now })) place self.old
+            self.new) }
+    {
+        let Some((key, standing)) = self.standing.get_index(place) else {
+            return Ok(());
+        };
+        if !standing.is_concerned(name, mask) {
+            return Ok(());
+        }
+        let (key, queue) = (*key, standing.queue());
+        let update = Update::of(alloc, value, *meta)?;
+        self.queues.post(queue, key, update);
+        Ok(())
+    }
+
+    /// Takes an update from the first queue that may give one, and says what its subscription asked for. None if none may.
+    pub fn take(&mut self) -> Option<(Wanted, Update)>
+        ensures gives { GivesUpdate self.old result self.new }
+        ensures askable { IfSome result (λ r. IsAskable r.0) }
+    {
+        let (_, key, update) = self.queues.take()?;
+        let Some(standing) = self.standing.get(&key) else {
+            unreachable!()
+        };
+        Some((standing.wanted(), update))
+    }
+}
