@@ -29,5 +29,7 @@ pub mod HappensClient
 pub mod Says
 pub mod Grown
 pub mod Replied
+pub mod Keeping
+pub mod KeepingPost
 pub mod Every
 pub mod Noticed

@@ -5,9 +5,12 @@ ghost use Rattle.ca_model.specs.History.{Entry, Finished, Intent, Line, Noticed,
 ghost use Rattle.ca_model_safe.specs.Channels.{IsApplied, IsBusyUntil, IsDropped, Stands};
 ghost use Rattle.ca_model_world.specs.Events.{Event};
 ghost use Rattle.ca_model_world.specs.Runs.{Happens, Runs};
-ghost use Rattle.ca_model_world.specs.World.{IsSetting, Setting, World, opening, told};
+ghost use Rattle.ca_model_world.specs.World.{IsSetting, Joined, ServerSide, Setting, World, opening, told};
 ghost use Rattle.ca_laws_writes.specs.Lives.{IsOfMessage};
-ghost use Rattle.ca_laws_writes.specs.Seats.{AllTakeSent, Sound, TakesSent};
+ghost use Rattle.ca_laws_writes.specs.Seats.{AllTakeSent, Seated, Sound, TakesSent};
+ghost use Rattle.ca_model_world.specs.ServerEvents.{HappensCutServer, HappensPost, HappensRemove};
+ghost use Rattle.ca_dbr.specs.Elements.{Elements};
+ghost use Rattle.ca_laws_writes.specs.Steps.{AllInStep};
 ghost use Rattle.ca_laws_writes.specs.Says.{AllAsked, AllNumbered, AreNumbered, CompleteOnce, Says};
 ghost use Rattle.ca_text.specs.declared.status.Status.{Status};
 ghost use Rattle.ca_dbr.specs.declared.value.Outcome.TheVariants.{Done, Failed};
@@ -52,6 +55,20 @@ pub fn each_event_keeps_what_replies_say()
     ensures run { (s : Setting) (es : List Event) (stopped : Option Event) (w : World)
         → IsSetting s → Runs s es stopped w → AllTakeSent (opening s) es
         → AllNumbered (opening s) es → Says w }
+{}
+
+/// While each open circuit is in step with its end at its server, an update that leaves a queue has
+/// its number in front there. So it is before any event, and a post, a removal and a cut keep it.
+pub fn ends_and_circuits_stay_in_step()
+    ensures begins { (s : Setting) → AllInStep (opening s) }
+    ensures numbered { (w : World) → AllInStep w → AreNumbered w }
+    ensures post { (w new : World) (i : ℕ) (y : ServerSide) (name : List ℕ) (e : Elements)
+        (mask : ℕ) → At w.servers i y → HappensPost w i y name e mask new → Seated w
+        → AllInStep w → AllInStep new }
+    ensures remove { (w new : World) (i : ℕ) (y : ServerSide) (name : List ℕ) → At w.servers i y
+        → HappensRemove w i y name new → Seated w → AllInStep w → AllInStep new }
+    ensures cut { (w new : World) (k : ℕ) (j : Joined) (y : ServerSide) → At w.servers j.server y
+        → HappensCutServer w k j y new → Seated w → AllInStep w → AllInStep new }
 {}
 
 /// Where replies say what is so, a put that completed Done was applied, and a write whose caller
