@@ -1,4 +1,3 @@
-pub mod Decimal
 pub mod Lines
 pub mod Programs
 pub mod RepeaterWords

@@ -1,9 +1,9 @@
 -- The words of `repeater [--port P] [--datagrams N]`.
-use Rattle.std.specs.Prelude.{ℕ, ◌≡◌, List, [], Option, None, Some, true, false, codes, ⊤}
+use Rattle.std.specs.Prelude.{ℕ, ◌≡◌, ◌<◌, ◌^◌, List, [], Option, None, Some, true, false, codes, ⊤}
 use Rattle.clap.specs.Words.{App, Rule, Text, fault_of, first_of, matches_of, new_app, new_rule, with_rule}
 use Rattle.ca_text.specs.Limits.{repeater_port}
 use Rattle.ca.specs.declared.repeater.line.RepeaterLine.{RepeaterLine}
-use Rattle.ca.specs.Decimal.{IsDecimal}
+use Rattle.ca_script.specs.Grammar.{IsNumber}
 use Rattle.ca.specs.Words.{has_escape}
 
 -- an option that takes one value, `--name V` or `--name=V`
@@ -22,15 +22,19 @@ repeater_app =
 abbrev pub given : List ℕ → List Text → Option Text
 given name words = first_of name (matches_of repeater_app words)
 
+-- a text is the decimal number of a port
+abbrev pub IsPort : Text → ℕ → Type 0
+IsPort text port = IsNumber text port × (port < 2 ^ 16)
+
 abbrev pub MeansPort : Option Text → ℕ → Type 0
 MeansPort None port = port ≡ repeater_port
-MeansPort (Some text) port = IsDecimal 16 text port
+MeansPort (Some text) port = IsPort text port
 
 abbrev pub MeansCount : Option Text → Option ℕ → Type 0
 MeansCount None None = ⊤
 MeansCount None (Some n) = ⊥
 MeansCount (Some text) None = ⊥
-MeansCount (Some text) (Some n) = IsDecimal 64 text n
+MeansCount (Some text) (Some n) = IsNumber text n
 
 -- Options of these values mean this line: the port is the repeater's own if none is given, and each number is decimal.
 abbrev pub Means : Option Text → Option Text → RepeaterLine → Type 0

@@ -2,7 +2,6 @@
 #![tactic(auto)]
 
 mod answer;
-mod decimal;
 mod line;
 mod outcome;
 mod program;

@@ -13,7 +13,7 @@ use ca_beacon::BeaconTable;
 use ca_ids::HeldTable;
 use ca_monitor::Monitors;
 use ca_requests::Requests;
-use ca_text::{ARENA_SLOTS, Refusal};
+use ca_text::{ARENA_SLOTS, PAYLOAD_LIMIT, Refusal};
 use indexmap::IndexMap;
 use std::alloc::{AllocError, Global};
 
@@ -21,7 +21,8 @@ impl ClientCore {
     /// One of this user at this host that did nothing yet. Searches go in datagrams to the servers, and on a circuit to each
     /// name server.
     ///
-    /// Refused as ArenaFull for more name servers than circuits may be, then as OutOfMemory.
+    /// Refused as NameLength if the user's or the host's name has no room in a message, as ArenaFull for more name servers than circuits
+    /// may be, then as OutOfMemory.
     pub fn new(
         alloc: Global,
         user: Vec<u8>,
@@ -37,6 +38,12 @@ impl ClientCore {
           now = now;
         }) result }
     {
+        if user.len() >= PAYLOAD_LIMIT {
+            return Err(Refusal::NameLength);
+        }
+        if host.len() >= PAYLOAD_LIMIT {
+            return Err(Refusal::NameLength);
+        }
         if count_names(names) > ARENA_SLOTS {
             return Err(Refusal::ArenaFull);
         }

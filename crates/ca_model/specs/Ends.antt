@@ -1,7 +1,8 @@
 -- Vocabulary: what both ends of a circuit have in common (section "Virtual Circuit").
-use Rattle.std.specs.Prelude.{ℕ, ◌==◌, ◌&&◌, Bool, List}
+use Rattle.std.specs.Prelude.{ℕ, ◌<◌, ◌==◌, ◌&&◌, Bool, List, length}
 use Rattle.ca_text.specs.declared.refusal.Refusal.{Refusal}
 use Rattle.ca_text.specs.declared.refusal.Refusal.TheVariants as refusal
+use Rattle.ca_text.specs.Limits.{payload_limit}
 
 -- an IPv4 address and a port
 pub record Address : Type 0 where
@@ -16,6 +17,10 @@ same_address a b = a.host == b.host && a.port == b.port
 pub record Peer : Type 0 where
   pub user : List ℕ
   pub host : List ℕ
+
+-- Each of its names has room in the payload of a message, with the zero at its end.
+abbrev pub HasRoom : Peer → Type 0
+HasRoom p = (length p.user < payload_limit) × (length p.host < payload_limit)
 
 -- Why an end of a circuit ended: out of memory, a payload size that is no multiple of 8 or over the limit, a silence that was too long,
 -- the caller's wish, or a cut.

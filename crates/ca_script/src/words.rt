@@ -2,11 +2,10 @@ ghost use Rattle.std.specs.Prelude.{◌≡◌, ◌↔◌, IsTrue, ◌<◌, ◌�
 ghost use Rattle.ca_text.specs.declared.refusal.Refusal.TheVariants.{BadText};
 ghost use Rattle.ca_script.specs.Grammar.{IsNumber, parted, pieces_left};
 
+use crate::decimal::decimal;
 use ca_text::Refusal;
 use memchr::memchr;
 use std::marker::Model;
-
-const PLUS: u8 = b'+';
 
 /// What stands before the first separator, and what stands after it, where there is one.
 pub(crate) fn cut<'a>(text: &'a [u8], separator: u8) -> (&'a [u8], Option<&'a [u8]>)
@@ -108,14 +107,8 @@ fn number_in(word: &[u8]) -> Result<u64, Refusal>
     ensures { MatchResult result (λ n. IsNumber word.now n)
         (λ e. (e ≡ BadText) × ((n : ℕ) → IsNumber word.now n → ⊥)) }
 {
-    if word.first() == Some(&PLUS) {
-        return Err(Refusal::BadText);
-    }
-    let Ok(text) = str::from_utf8(word) else {
-        return Err(Refusal::BadText);
-    };
-    match text.parse::<u64>() {
-        Ok(number) => Ok(number),
-        Err(_) => Err(Refusal::BadText),
+    match decimal(word) {
+        Some(number) => Ok(number),
+        None => Err(Refusal::BadText),
     }
 }

@@ -1,11 +1,10 @@
 ghost use Rattle.std.specs.Prelude.{◌≡◌, IfErr, IfOk, ℕ, MatchOption, map, option_map, string_bytes};
 ghost use Rattle.ca_text.specs.declared.refusal.Refusal.TheVariants.{OutOfMemory};
 ghost use Rattle.clap.specs.Words.{app_of};
-ghost use Rattle.ca.specs.Decimal.{IsDecimal};
-ghost use Rattle.ca.specs.RepeaterWords.{IsAsked, IsMeant, repeater_app};
+ghost use Rattle.ca.specs.RepeaterWords.{IsAsked, IsMeant, IsPort, repeater_app};
 
-use crate::decimal::decimal;
 use crate::words::escapes;
+use ca_script::decimal;
 use ca_text::{REPEATER_PORT, Refusal};
 use clap::error::ErrorKind;
 use clap::{Arg, Command};
@@ -63,15 +62,15 @@ fn meant(port: Option<&str>, datagrams: Option<&str>) -> Option<RepeaterLine>
     };
     let datagrams = match datagrams {
         None => None,
-        Some(text) => Some(decimal(text)?),
+        Some(text) => Some(decimal(text.as_bytes())?),
     };
     Some(RepeaterLine { port, datagrams })
 }
 
 fn port_of(text: &str) -> Option<u16>
-    ensures { MatchOption result ((n : ℕ) → IsDecimal 16 text.now n → ⊥) (IsDecimal 16 text.now) }
+    ensures { MatchOption result ((n : ℕ) → IsPort text.now n → ⊥) (IsPort text.now) }
 {
-    match decimal(text) {
+    match decimal(text.as_bytes()) {
         None => None,
         Some(number) => u16::try_from(number).ok(),
     }

@@ -1,0 +1,13 @@
+ghost use Rattle.std.specs.Prelude.{◌≡◌, ℕ, MatchOption};
+ghost use Rattle.ca_script.specs.Grammar.{IsNumber};
+
+/// The number that a word of decimal digits writes, if it is a `u64`.
+pub fn decimal(word: &[u8]) -> Option<u64>
+    ensures { MatchOption result ((n : ℕ) → IsNumber word.now n → ⊥) (IsNumber word.now) }
+{
+    if word.first() == Some(&b'+') {
+        return None;
+    }
+    let text = str::from_utf8(word).ok()?;
+    text.parse::<u64>().ok()
+}
