@@ -2,7 +2,7 @@
 #![tactic(auto)]
 
 mod config;
-mod decimal;
+mod decimals;
 mod element;
 mod event;
 mod lines;
@@ -13,7 +13,7 @@ mod setting;
 mod words;
 
 pub use config::{Config, Named, Served};
-pub use decimal::decimal;
+pub use decimals::decimal;
 pub use record_file::{RecordFile, read_records};
 pub use report::{write_end, write_log};
 pub use script::{Script, read_script, rules_are_not_read};

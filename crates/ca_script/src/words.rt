@@ -2,7 +2,7 @@ ghost use Rattle.std.specs.Prelude.{◌≡◌, ◌↔◌, IsTrue, ◌<◌, ◌�
 ghost use Rattle.ca_text.specs.declared.refusal.Refusal.TheVariants.{BadText};
 ghost use Rattle.ca_script.specs.Grammar.{IsNumber, parted, pieces_left};
 
-use crate::decimal::decimal;
+use crate::decimals::decimal;
 use ca_text::Refusal;
 use memchr::memchr;
 use std::marker::Model;

@@ -8,6 +8,8 @@ pub fn decimal(word: &[u8]) -> Option<u64>
     if word.first() == Some(&b'+') {
         return None;
     }
-    let text = str::from_utf8(word).ok()?;
+    let Ok(text) = str::from_utf8(word) else {
+        return None;
+    };
     text.parse::<u64>().ok()
 }
