@@ -22,7 +22,7 @@ use Rattle.ca_wire.specs.Fields.{Fields}
 use Rattle.ca_wire.specs.Messages.{bare, name_request, search_request, version_request}
 use Rattle.ca_wire.specs.Stream.{BadAt, NoneBegins, NotBad}
 use Rattle.ca_monitor.specs.ReadRun.{after_read, no_reads, sent_by_read}
-use Rattle.ca_model.specs.Ends.{Address, Cut, HasRoom, Peer, Why, same_address}
+use Rattle.ca_model.specs.Ends.{Address, Cut, NamesFit, Peer, Why, same_address}
 use Rattle.ca_model.specs.Ends as why
 use Rattle.ca_model.specs.Speech.{Is}
 use Rattle.ca_model.specs.Answers.{Closed, Closing, Datagram, Left, NeedBytes, Notice, Notices, OfCircuit, Sending, Stepped, Ticked}
@@ -67,10 +67,10 @@ new_client a = record {
 
 -- `new`: with this answer. There may be as many name servers as circuits. Memory is asked for their circuits alone.
 abbrev pub ClientBegins : ClientSetting → Result Client Refusal → Type 0
-ClientBegins a (Ok x) = HasRoom a.peer × (length (distinct a.names) ≤ arena_slots) × (x ≡ new_client a)
-ClientBegins a (Err refusal.NameLength) = HasRoom a.peer → ⊥
-ClientBegins a (Err refusal.ArenaFull) = HasRoom a.peer × (arena_slots < length (distinct a.names))
-ClientBegins a (Err refusal.OutOfMemory) = HasRoom a.peer × (a.names ≢ []) × (length (distinct a.names) ≤ arena_slots)
+ClientBegins a (Ok x) = NamesFit a.peer × (length (distinct a.names) ≤ arena_slots) × (x ≡ new_client a)
+ClientBegins a (Err refusal.NameLength) = NamesFit a.peer → ⊥
+ClientBegins a (Err refusal.ArenaFull) = NamesFit a.peer × (arena_slots < length (distinct a.names))
+ClientBegins a (Err refusal.OutOfMemory) = NamesFit a.peer × (a.names ≢ []) × (length (distinct a.names) ≤ arena_slots)
 ClientBegins a (Err _) = ⊥
 
 -- ---- connected

@@ -19,8 +19,8 @@ pub record Peer : Type 0 where
   pub host : List ℕ
 
 -- Each of its names has room in the payload of a message, with the zero at its end.
-abbrev pub HasRoom : Peer → Type 0
-HasRoom p = (length p.user < payload_limit) × (length p.host < payload_limit)
+abbrev pub NamesFit : Peer → Type 0
+NamesFit p = (length p.user < payload_limit) × (length p.host < payload_limit)
 
 -- Why an end of a circuit ended: out of memory, a payload size that is no multiple of 8 or over the limit, a silence that was too long,
 -- the caller's wish, or a cut.

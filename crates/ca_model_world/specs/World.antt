@@ -10,7 +10,7 @@ use Rattle.ca_text.specs.Place.{At}
 use Rattle.ca_text.specs.Limits.{arena_slots}
 use Rattle.ca_model.specs.Client.{Client}
 use Rattle.ca_model.specs.ClientEnds.{distinct, new_client}
-use Rattle.ca_model.specs.Ends.{Address, HasRoom, Peer}
+use Rattle.ca_model.specs.Ends.{Address, NamesFit, Peer}
 use Rattle.ca_model.specs.History.{Cause, Circuit, Entry, Added, Intent, Line, Sent, Step, Told}
 use Rattle.ca_model.specs.History as history
 use Rattle.ca_model.specs.Server.{Server, new_server}
@@ -36,7 +36,7 @@ pub record Setting : Type 0 where
 -- Users and hosts fit into a message, and name servers into a table; the records of a server are records, and have different names; ports
 -- are ports, and the servers have different addresses.
 pub record IsSetting (s : Setting) : Type 0 where
-  pub fit : (i : ℕ) (c : ClientSetting) → At s.clients i c → HasRoom c.peer
+  pub fit : (i : ℕ) (c : ClientSetting) → At s.clients i c → NamesFit c.peer
   pub few : (i : ℕ) (c : ClientSetting) → At s.clients i c → length (distinct c.name_servers) ≤ arena_slots
   pub records : (i j : ℕ) (y : ServerSetting) (r : RecordState) → At s.servers i y → At y.records j r → IsRecord r
   pub names : (i j k : ℕ) (y : ServerSetting) (r q : RecordState) → At s.servers i y → At y.records j r → At y.records k q → r.name ≡ q.name → j ≡ k

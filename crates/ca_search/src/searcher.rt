@@ -89,8 +89,8 @@ impl Searcher {
         self.places.shift_remove(&cid);
     }
 
-    /// The searches that are due, in the order in which their channels were added; they count as made now. Refused by
-    /// 1 only if there is one, which changes nothing.
+    /// The searches that are due, in the order in which their channels were added; they count as made now. Refused as
+    /// OutOfMemory only if there is one, which changes nothing.
     pub fn due(&mut self, now: u64) -> Result<Vec<Search>, Refusal>
         ensures { Finds self.old now result self.new }
     {
