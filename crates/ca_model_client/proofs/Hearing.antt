@@ -1,5 +1,5 @@
 -- What the messages that a client reads keep of its channels' places, and its search replies, and a circuit that is connected.
-use Rattle.std.proofs.Common.{◌≡◌, ℕ, inl, inr, Bool, true, false, ◌&&◌, cond, eqb, List, [], Option, Some, None, refl, sym, ap, ◌∙◌, subst}
+use Rattle.std.proofs.Common.{◌≡◌, ℕ, inl, inr, Bool, true, false, ◌&&◌, cond, eqb, List, [], ◌∷◌, Option, Some, None, refl, sym, ap, ◌∙◌, subst}
 use Rattle.std.specs.Prelude.{is_none, option_and_then, option_map, unwrap_or}
 use Rattle.std.proofs.lemmas.Bool.{and_from, both_ways}
 use Rattle.ca_arena.specs.declared.handle.Handle.{Handle}
@@ -13,22 +13,23 @@ use Rattle.ca_wire.specs.declared.header.Header.{Header}
 use Rattle.ca_model.specs.Answers.{Notice, Sending}
 use Rattle.ca_model.specs.Ends.{Address, same_address}
 use Rattle.ca_model.specs.Client.{Channel, Client, ClientCircuit, Clearing, Connecting, Connection, Creating, Doomed, Leaving, Live, On, Phase, Searching, Standing, channel_on, circuit_to, connection_at, found_on, is_on_in, new_circuit, phase_on, searched_again, sending, with_requests, with_standing, without_channel}
-use Rattle.ca_model.specs.ClientEnds.{begun, creating, is_connecting, new_connection}
-use Rattle.ca_model.specs.Hears.{Answers, Completes, Effect, Fails, FindsAt, Hears, PutsOn, Updates, any_failed, clear_answered, confirmed, created, doing, failed, failing, found_at, heard_by, left, native_in, put_on, request_failed, rights_told, searched_by, subscription_failed, with_circuit, without_drained, without_request, without_subscription, write_failed}
+use Rattle.ca_model.specs.ClientEnds.{Receives, ReceivesAll, beacon_heard, begun, creating, is_connecting, new_connection}
+use Rattle.ca_model.specs.ClientEnds as ends
+use Rattle.ca_model.specs.Hears.{Answers, Completes, Effect, Fails, FindsAt, Hears, PutsOn, Updates, any_failed, becomes, clear_answered, confirmed, created, doing, failed, failing, found_at, heard_by, left, native_in, put_on, request_failed, rights_told, searched_by, subscription_failed, with_circuit, without_drained, without_request, without_subscription, write_failed}
 use Rattle.ca_model.specs.Hears as hears
-use Rattle.ca_laws_circuit.specs.Held.{WasLive, was_live}
-use Rattle.ca_laws_circuit.proofs.Clears.{is-on}
-use Rattle.ca_laws_circuit.proofs.Ends.{on-one}
-use Rattle.ca_laws_circuit.proofs.Handles.{handle-or, same-itself}
-use Rattle.ca_laws_circuit.proofs.Heard.{channel-on}
-use Rattle.ca_laws_circuit.proofs.Others.{fails-anywhere, fails-searched}
-use Rattle.ca_laws_circuit.proofs.Tables.{all-back, all-freed-back, all-there, changed-own, find-at, freed-back, given-none, held-back, held-other, held-own, held-under, one-value}
-use Rattle.ca_laws_runs.specs.Client.{IsPlaced}
-use Rattle.ca_laws_runs.proofs.Changes.{freed-keeps, keeps-phase, keeps-searches, on-handle, on-phase, over-requests}
-use Rattle.ca_laws_runs.proofs.Finds.{searched-is}
-use Rattle.ca_laws_runs.proofs.Letting.{KeepsBut}
-use Rattle.ca_laws_runs.proofs.Placed.{IsBare, Keeps, Links, bare-never, keeps-again, keeps-gone, keeps-itself, keeps-requests, keeps-sending, keeps-stood, keeps-subscriptions, keeps-then, options-agree, under-other}
-use Rattle.ca_laws_runs.proofs.Thinner.{thin-all, thin-all-freed, thin-freed, thin-itself}
+use Rattle.ca_model_client.specs.Placed.{IsBare, WasLive, was_live}
+use Rattle.ca_model_client.proofs.Standings.{is-on}
+use Rattle.ca_model_client.proofs.Standings.{on-one}
+use Rattle.ca_model_client.proofs.Handles.{handle-or, same-itself}
+use Rattle.ca_model_client.proofs.Standings.{channel-on}
+use Rattle.ca_model_client.proofs.Standings.{fails-anywhere, fails-searched}
+use Rattle.ca_model_client.proofs.Tables.{all-back, all-freed-back, all-there, changed-own, find-at, freed-back, given-none, held-back, held-other, held-own, held-under, one-value}
+use Rattle.ca_model_client.specs.Placed.{IsPlaced}
+use Rattle.ca_model_client.proofs.Changes.{freed-keeps, keeps-phase, keeps-searches, on-handle, on-phase, over-requests}
+use Rattle.ca_model_client.proofs.Standings.{searched-is}
+use Rattle.ca_model_client.proofs.Letting.{KeepsBut}
+use Rattle.ca_model_client.proofs.Placed.{Keeps, Links, bare-never, keeps-again, keeps-gone, keeps-itself, keeps-requests, keeps-sending, keeps-stood, keeps-subscriptions, keeps-then, options-agree, under-other}
+use Rattle.ca_model_client.proofs.Thinner.{thin-all, thin-all-freed, thin-freed, thin-itself}
 
 abbrev connection-of : Option ClientCircuit → Option Connection
 connection-of o = option_and_then (λ (d : ClientCircuit). d.connection) o
@@ -343,3 +344,33 @@ keeps-begun c d x there none = record {
               let waiting : is_connecting q ≡ true = p.waiting h ch c q here on_c ∙ ap (λ (o : Option ClientCircuit). is_none (connection-of o)) there ∙ ap is_none none in
               absurd (both_ways (is_on_in is_connecting c ch) pass (is-on is_connecting c ch q on_c ∙ waiting))
         ]
+
+-- ---- datagrams
+
+pub keeps-moment : (moment : ℕ) (x : Client) → Keeps x (record x { moment = moment })
+keeps-moment moment x = record {
+  thins = record { channels = thin-itself x.channels; requests = thin-itself x.requests; subscriptions = thin-itself x.subscriptions };
+  placed = λ p. record { attached = record { requests = p.attached.requests; subscriptions = p.attached.subscriptions }; waiting = p.waiting };
+  links = λ c. refl;
+}
+
+pub keeps-beacon : (from : Address) (m : Fields) (x : Client) → Keeps x (beacon_heard from m x)
+keeps-beacon from m x = record {
+  thins = record { channels = thin-itself x.channels; requests = thin-itself x.requests; subscriptions = thin-itself x.subscriptions };
+  placed = λ p. record { attached = record { requests = p.attached.requests; subscriptions = p.attached.subscriptions }; waiting = p.waiting };
+  links = λ c. refl;
+}
+
+pub becomes-keeps : (x z : Client) (e : Effect) → e ≡ becomes z → Keeps x z → Keeps x e.core
+becomes-keeps x z e is keeps = subst (λ (w : Effect). Keeps x w.core) (sym is) keeps
+
+pub received-keeps : (from : Address) (x : Client) (m : Fields) (e : Effect) → Receives from x m e → Keeps x e.core
+received-keeps from x m e (ends.Search is finds) = keeps-finds x (found_at from m) m.p2 (searched_by m.p2 x) e refl finds
+received-keeps from x m e (ends.Beacon is port does) = becomes-keeps x (beacon_heard from m x) e does (keeps-beacon from m x)
+received-keeps from x m e (ends.Other not_search not_beacon does) = becomes-keeps x x e does (keeps-itself x)
+
+pub all-received : (from : Address) (ms : List Fields) (x : Client) (e : Effect) → ReceivesAll from x ms e → Keeps x e.core
+all-received from [] x e does = becomes-keeps x x e does (keeps-itself x)
+all-received from (m ∷ ms) x e does =
+    subst (λ (w : Effect). Keeps x w.core) (sym does.4)
+    (keeps-then x does.0.core does.1.core (received-keeps from x m does.0 does.2) (all-received from ms does.0.core does.1 does.3))
