@@ -10,3 +10,4 @@ pub mod Lives
 pub mod Asks
 pub mod Puts
 pub mod Notices
+pub mod Turns

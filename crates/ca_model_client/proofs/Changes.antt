@@ -143,7 +143,7 @@ keeps-cleared h s x placed at = by s refl (found-standing x h s at)
 -- ---- unsubscribe
 
 -- an id drains where its channel was live
-keeps-staged : (stage : Stage) (c g : Handle) (x : Client) (d : Subscription) → ((on : Handle) → drains_in on stage ≡ same_handle c on) → under x.subscriptions g ≡ Some d → WasLive x d.channel c → Keeps x (record x { subscriptions = with_stage stage g x.subscriptions })
+pub keeps-staged : (stage : Stage) (c g : Handle) (x : Client) (d : Subscription) → ((on : Handle) → drains_in on stage ≡ same_handle c on) → under x.subscriptions g ≡ Some d → WasLive x d.channel c → Keeps x (record x { subscriptions = with_stage stage g x.subscriptions })
 keeps-staged stage c g x d only there live = keeps-subscriptions (with_stage stage g x.subscriptions) x (thin-changed f g x.subscriptions) (λ p k w on is drains. elim (changed-back f x.subscriptions k g w is) [
   | inr old ↦ inl (w, old.1, refl, drains)
   | inl own ↦
