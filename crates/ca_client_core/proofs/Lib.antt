@@ -11,3 +11,4 @@ pub mod Putting
 pub mod Quoted
 pub mod Placing
 pub mod Endings
+pub mod Cleared

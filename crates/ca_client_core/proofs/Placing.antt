@@ -13,20 +13,22 @@ use Rattle.ca_ids.specs.Table.{MayGive, Table, same_handle, under, with_changed,
 use Rattle.ca_requests.specs.Calls.{AnswersOne, Issued, new_request, without_if}
 use Rattle.ca_requests.specs.Calls as requests
 use Rattle.ca_requests.specs.Requests.{Asked, Draining, Open, Request, Stage}
+use Rattle.ca_requests.specs.Requests as request
 use Rattle.ca_monitor.specs.Calls.{freed_if}
 use Rattle.ca_monitor.specs.Subscriptions.{Subscription, drains_in, with_stage}
 use Rattle.ca_monitor.specs.Subscriptions as monitor
 use Rattle.ca_search.specs.Searches as search
 use Rattle.ca_model.specs.Answers as notice
-use Rattle.ca_model.specs.Client.{Channel, Client, ClientCircuit, Connection, On, Phase, Searching, channel_on, on_connection, standing_at}
+use Rattle.ca_model.specs.Client.{Channel, Client, ClientCircuit, Connection, On, Phase, Clearing, Searching, channel_on, on_connection, standing_at, with_standing}
+use Rattle.ca_model.specs.ClientCalls.{all_over}
 use Rattle.ca_model.specs.ClientEnds.{is_connecting}
 use Rattle.ca_model.specs.Hears.{Effect, doing, without_drained}
 use Rattle.ca_model.specs.Hears as hears
 use Rattle.ca_model_client.specs.Placed.{ArePlaced, IsBare, IsBareIn, IsPlaced, WasLive, WasLiveIn, was_live}
-use Rattle.ca_model_client.proofs.Changes.{freed-keeps, keeps-phase, keeps-staged, placed-opened, placed-subscribed}
+use Rattle.ca_model_client.proofs.Changes.{freed-keeps, keeps-phase, keeps-staged, over-keeps, placed-opened, placed-subscribed}
 use Rattle.ca_model_client.proofs.Handles.{handle-or}
 use Rattle.ca_model_client.proofs.Hearing.{bare-so, drained-bare, keeps-request}
-use Rattle.ca_model_client.proofs.Placed.{Keeps, keeps-again, keeps-gone, placed-linked, under-other}
+use Rattle.ca_model_client.proofs.Placed.{keeps-again, keeps-gone, keeps-then, placed-linked, under-other}
 use Rattle.ca_model_client.proofs.Standings.{channel-on, found-standing, is-on}
 use Rattle.ca_model_client.proofs.Tables.{changed-own, held-back}
 use Rattle.ca_client_core.specs.Ends.{GivesAt, GivesOn, read_given}
@@ -34,7 +36,7 @@ use Rattle.ca_client_core.specs.Forms.{phase_of}
 use Rattle.ca_client_core.specs.Hearing.{HearsReplyTo, completed, found_as}
 use Rattle.ca_client_core.specs.declared.channel.Phase as code
 use Rattle.ca_client_core.specs.Sound.{IsClient, IsSound}
-use Rattle.ca_client_core.specs.Turns.{MayTurn, TurnsIn}
+use Rattle.ca_client_core.specs.Turns.{MayTurn, TurnsIn, WasLiveAs}
 
 -- a client with these tables, and nothing else
 abbrev pub plain : Table Channel → Table Request → Table Subscription → Table ClientCircuit → Client
@@ -192,6 +194,16 @@ module _ (t : Table Channel) (q : Table Request) (s : Table Subscription) (cs : 
   -- one is gone
   pub placed-gone : (h : Handle) (u : Table Channel) → IsBareIn h q s → u ≡ with_freed h t → ArePlaced u q s cs
   placed-gone h u bare is = subst (λ (z : Table Channel). ArePlaced z q s cs) (sym is) ((keeps-gone h (plain t q s cs) (λ p. bare)).placed placed)
+
+  -- one that was live is cleared, or left
+  pub placed-over : (h c : Handle) (u : Table Channel) (v : Table Request) (w : Table Subscription) → WasLiveAs h c t → u ≡ with_changed (λ (here : Channel). record here { standing = On c Clearing }) h t → v ≡ request.channel_over h q → w ≡ monitor.channel_over c h s → ArePlaced u v w cs
+  placed-over h c u v w was us vs ws =
+      let x : Client = plain t q s cs in
+      let y : Client = all_over c h x in
+      let z : Client = with_standing (On c Clearing) h y in
+      let live : WasLiveIn t h c = (was.channel, was.there, is-on was_live c was.channel was.phase was.stands ∙ was.live) in
+      subst (λ (e : Table Channel × Table Request × Table Subscription). ArePlaced e.0 e.1 e.2 cs) (λ i. (sym us i, sym vs i, sym ws i))
+          ((keeps-then x y z (over-keeps c h x live) (keeps-phase c h y was.channel was.phase Clearing was.there was.stands was.waits (λ e. refl))).placed placed)
 
 -- one that was refused is not there
 pub refused-same : (t u : Table Channel) (v : Channel) (back : Channel) (e : Refusal) → Gives t v (Err (back, e)) u → u ≡ t

@@ -11,3 +11,4 @@ pub mod Asks
 pub mod Puts
 pub mod Notices
 pub mod Turns
+pub mod Clearing

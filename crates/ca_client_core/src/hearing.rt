@@ -182,7 +182,7 @@ impl ClientCore {
 }
 
 // The channel of this handle is there now.
-fn put(channels: &mut HeldTable<Channel>, handle: Handle, standing: Standing)
+pub(crate) fn put(channels: &mut HeldTable<Channel>, handle: Handle, standing: Standing)
     ensures { channels.new
         ≡ with_changed
         (λ here. record here { standing = standing_of standing })

@@ -48,7 +48,7 @@ impl ClientCore {
 }
 
 // Of a circuit that has ended nothing is kept, but a name server's is wanted again.
-fn let_go(
+pub(crate) fn let_go(
     alloc: Global,
     circuits: &mut HeldTable<Circuit>,
     order: &mut Vec<Handle>,

@@ -109,7 +109,7 @@ filter-map-at {A} {B} f (z ∷ xs) (suc j) x y at is = (let r = filter-map-at f 
     go None i h = (i, h)
 
 -- a channel that the test names there is listed
-listed-there : (test : Phase → Bool) (c : Handle) (x : Client) (h : Handle) (ch : Channel) → under x.channels h ≡ Some ch → is_on_in test c ch ≡ true → (i : ℕ) × At (channels_on test c x) i h
+pub listed-there : (test : Phase → Bool) (c : Handle) (x : Client) (h : Handle) (ch : Channel) → under x.channels h ≡ Some ch → is_on_in test c ch ≡ true → (i : ℕ) × At (channels_on test c x) i h
 listed-there test c x h ch is on =
     let f : Handle × Channel → Option Handle = λ (e : Handle × Channel). cond (is_on_in test c e.1) (Some e.0) None in
     let r = under-held x.channels h ch is in
