@@ -9,3 +9,6 @@ pub mod Requesting
 pub mod Adding
 pub mod Putting
 pub mod Quoted
+pub mod Placing
+pub mod Endings
+pub mod Cleared
