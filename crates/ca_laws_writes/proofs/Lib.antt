@@ -29,5 +29,8 @@ pub mod HappensClient
 pub mod Says
 pub mod Grown
 pub mod Replied
+pub mod Lasting
+pub mod LastingEvents
+pub mod Fresh
 pub mod Every
 pub mod Noticed
