@@ -31,6 +31,7 @@ pub mod Grown
 pub mod Replied
 pub mod Lasting
 pub mod LastingEvents
+pub mod LastingStep
 pub mod Fresh
 pub mod Every
 pub mod Noticed
