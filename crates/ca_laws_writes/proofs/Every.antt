@@ -20,7 +20,7 @@ use Rattle.ca_laws_writes.proofs.Says.{Grew, says-grow}
 use Rattle.ca_laws_writes.proofs.Grown.{accept-grew, add-grew, cut-grew, down-grew, grew-by, post-grew, pump-grew, remove-grew, restart-grew, up-grew}
 use Rattle.ca_laws_writes.proofs.Replied.{finish-grew, step-grew-by}
 
-ticks-frame : (moment : ℕ) (w : World) (is : List ℕ) (new : World) → TicksAll moment w is new → Frame w new
+pub ticks-frame : (moment : ℕ) (w : World) (is : List ℕ) (new : World) → TicksAll moment w is new → Frame w new
 ticks-frame moment w [] new same = frame-self w new (ap (λ (z : World). z.servers) (sym same)) (ap (λ (z : World). z.server_logs) (sym same)) (ap (λ (z : World). z.circuits) (sym same))
 ticks-frame moment w (i ∷ is) new (mid, one, rest) = frame-then w mid new (tick-frame moment w i mid one) (ticks-frame moment mid is new rest)
 

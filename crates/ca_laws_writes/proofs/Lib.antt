@@ -34,4 +34,6 @@ pub mod LastingEvents
 pub mod LastingStep
 pub mod Fresh
 pub mod Every
+pub mod LastingAll
+pub mod InStepLasts
 pub mod Noticed
