@@ -7,27 +7,26 @@ use Rattle.ca_ids.specs.Table.{with_each}
 use Rattle.ca_link.specs.Link.{with_sent}
 use Rattle.ca_queue.specs.declared.entry.SubKey.{SubKey}
 use Rattle.ca_queue.specs.Keys.{AreApart, is_among}
-use Rattle.ca_queue.specs.Queue.{Queue, no_queue, with_front_taken}
+use Rattle.ca_queue.specs.Queue.{Queue, with_front_taken}
 use Rattle.ca_text.specs.Limits.{circuit_queues}
 use Rattle.ca_text.specs.Place.{At}
 use Rattle.ca_wire.specs.Fields.{Fields}
-use Rattle.ca_model.specs.Due.{Action, Adds, Due}
+use Rattle.ca_model.specs.Due.{Action, Due}
 use Rattle.ca_model.specs.History.{Cause, Reply, Sent, Step}
 use Rattle.ca_model.specs.Server.{OpenChannel, Server, ServerEnd, Subscription, concerns, key_of, new_end, with_post}
 use Rattle.ca_model.specs.ServerCalls.{channels_of, disconnects, end_without, is_on, retired}
-use Rattle.ca_model.specs.ServerSteps.{Acts, Leaves, Pumps, Update, knows}
+use Rattle.ca_model.specs.ServerSteps.{Acts, Leaves, Update, knows}
 use Rattle.ca_model.specs.Speech.{Stored}
 use Rattle.ca_model_world.specs.ServerEvents.{front_number, handled_at, numbers_after, removal_told, stamped, with_number}
-use Rattle.ca_model_world.specs.World.{Joined, ServerSide, Standing, World}
+use Rattle.ca_model_world.specs.World.{Joined, Standing, World}
 use Rattle.ca_laws_updates.specs.InStep.{EndInStep, InStep, keys_standing}
 use Rattle.ca_laws_updates.proofs.Acts.{end-acts, end-without}
 use Rattle.ca_laws_updates.proofs.InStep.{pumps-numbered, step-begins, step-pumped}
 use Rattle.ca_laws_updates.proofs.Posted.{keys-stay, step-post}
 use Rattle.ca_laws_writes.specs.Says.{AreNumbered}
 use Rattle.ca_laws_writes.specs.Steps.{AllInStep}
-use Rattle.ca_laws_writes.proofs.Frames.{Goes}
 use Rattle.ca_laws_writes.proofs.Fresh.{adds-fresh}
-use Rattle.ca_laws_writes.proofs.Lasting.{IsNew, Lasting, SameHeld, numbered_for, told_gone, told_late}
+use Rattle.ca_laws_writes.proofs.Lasting.{IsNew, Lasting, numbered_for, told_gone, told_late}
 
 -- ---- what keeps it
 

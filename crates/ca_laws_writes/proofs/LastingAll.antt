@@ -1,11 +1,11 @@
 -- What holds of open ends and their circuits stays so over every event, and over runs.
-use Rattle.std.proofs.Common.{◌≡◌, ℕ, suc, inl, inr, List, [], ◌∷◌, length, Option, Some, refl, sym, ap, subst}
+use Rattle.std.proofs.Common.{suc, inl, inr, List, [], ◌∷◌, length, Option, Some, refl, sym, ap, subst}
 use Rattle.std.specs.List.{FoldsTo}
 use Rattle.ca_model.specs.History.{Collected, GaveUp}
 use Rattle.ca_model.specs.Server.{ServerEnd}
 use Rattle.ca_model_world.specs.Events.{Event}
 use Rattle.ca_model_world.specs.Events as event
-use Rattle.ca_model_world.specs.Runs.{CanBe, Happens, Leaves, Runs, StopsAt, TicksAll, clients_below}
+use Rattle.ca_model_world.specs.Runs.{CanBe, Happens, Leaves, Runs, StopsAt, clients_below}
 use Rattle.ca_model_world.specs.World.{IsSetting, Joined, Setting, World, opening}
 use Rattle.ca_laws_writes.specs.Seats.{AllTakeSent, Sound, TakesSent}
 use Rattle.ca_laws_writes.proofs.Every.{event-sound, opening-sound, ticks-frame}

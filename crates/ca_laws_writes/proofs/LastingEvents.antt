@@ -5,14 +5,13 @@ use Rattle.std.specs.List.{fold}
 use Rattle.std.specs.Str.{bytes_eq}
 use Rattle.ca_arena.specs.declared.handle.Handle.{Handle}
 use Rattle.ca_dbr.specs.Elements.{Elements}
-use Rattle.ca_ids.specs.Table.{MayGive, Table, under, with_each}
+use Rattle.ca_ids.specs.Table.{Table, under, with_each}
 use Rattle.ca_laws_circuit.proofs.Tables.{changed-back, freed-back, held-back, one-value}
-use Rattle.ca_link.specs.Link.{with_given, with_handed, with_sent}
-use Rattle.ca_queue.specs.declared.entry.SubKey.{SubKey}
+use Rattle.ca_link.specs.Link.{with_given, with_handed}
 use Rattle.ca_records.specs.Puts.{with_record, with_value}
 use Rattle.ca_records.specs.Record.{RecordState, unset}
 use Rattle.ca_text.specs.Place.{At}
-use Rattle.ca_text.proofs.Places.{At-append, At-mapped, At-one, At-set, At-set-other, At-snoc}
+use Rattle.ca_text.proofs.Places.{At-mapped, At-one, At-set, At-snoc}
 use Rattle.ca_wire.specs.Message.{spelled}
 use Rattle.ca_model.specs.Answers.{Closing, Sending}
 use Rattle.ca_model.specs.Client.{Client}

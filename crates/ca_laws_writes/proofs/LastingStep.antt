@@ -1,5 +1,5 @@
 -- What holds of open ends and their circuits stays so: a finish, and a step of a server's end.
-use Rattle.std.proofs.Common.{◌≡◌, ℕ, ◌⊎◌, inl, inr, Bool, true, false, cond, ◌&&◌, eqb, List, [], ◌∷◌, ◌++◌, Option, Some, None, refl, sym, ap, subst, ◌∙◌}
+use Rattle.std.proofs.Common.{◌≡◌, ℕ, ◌⊎◌, inl, inr, Bool, true, false, cond, ◌&&◌, eqb, List, [], ◌∷◌, Option, Some, None, refl, sym, ap, subst, ◌∙◌}
 use Rattle.std.specs.Prelude.{length, map, option_map, slice_get, slice_set, unwrap_or}
 use Rattle.std.specs.List.{fold}
 use Rattle.ca_arena.specs.declared.handle.Handle.{Handle}
@@ -16,21 +16,21 @@ use Rattle.ca_wire.specs.Fields.{Fields}
 use Rattle.ca_model.specs.Due.{Action, Applies, Due}
 use Rattle.ca_model.specs.Due as action
 use Rattle.ca_model.specs.Ends as why
-use Rattle.ca_model.specs.Server.{Ended, Open, Server, ServerCircuit, ServerEnd, concerns, key_of}
+use Rattle.ca_model.specs.Server.{Ended, Open, Server, ServerCircuit, ServerEnd}
 use Rattle.ca_model.specs.ServerCalls.{Replies, after_next, finish_reply, lacking, with_finish}
 use Rattle.ca_model.specs.ServerSteps.{Acts, HasEnd, LeftOf, Next, Reaches, Stepped, closed, is_write, knows, stored_now, with_end, write_mask}
 use Rattle.ca_model.specs.ServerSteps as stepped
-use Rattle.ca_model.specs.History.{Reply, Sent, Step}
+use Rattle.ca_model.specs.History.{Sent, Step}
 use Rattle.ca_model_world.specs.ServerEvents.{Finished, HappensFinish, HappensServerStep, ServerStepped, StepHandles, StepLacks, about, acted, ending, ends_at, ends_by, ends_here, handled_at, logged, next_busy, next_numbers, numbers_after, numbers_posted, replied_at, reported, server_after, side_of, unsaid, with_number, without_puts, write_numbers}
 use Rattle.ca_model_world.specs.ServerEvents as event
-use Rattle.ca_model_world.specs.World.{Joined, PutPlace, RecordSide, ServerSide, Setting, World, with_circuit}
+use Rattle.ca_model_world.specs.World.{Joined, PutPlace, ServerSide, World, with_circuit}
 use Rattle.ca_laws_writes.specs.Moves.{finish_told}
 use Rattle.ca_laws_writes.specs.Seats.{Seated, TakesSent}
 use Rattle.ca_laws_writes.proofs.Cores.{each-there, records-stay}
-use Rattle.ca_laws_writes.proofs.Events.{SameEnds, next-same, posted-same, same-self, same-trans}
+use Rattle.ca_laws_writes.proofs.Events.{SameEnds, next-same, same-self, same-trans}
 use Rattle.ca_laws_writes.proofs.Frames.{goes-self}
-use Rattle.ca_laws_writes.proofs.Lasting.{AllEnds, EndsWere, Lasting, SameHeld, SameSeat, after-lasts, at-server, held-self, held-then, numbered_for, seat-of, told_late}
-use Rattle.ca_laws_writes.proofs.LastingEvents.{as-before, mapped-one, one-end, other-posted, post-ends-last, were-closed, were-self}
+use Rattle.ca_laws_writes.proofs.Lasting.{AllEnds, EndsWere, Lasting, SameHeld, SameSeat, after-lasts, at-server, held-self, seat-of, told_late}
+use Rattle.ca_laws_writes.proofs.LastingEvents.{as-before, mapped-one, one-end, other-posted, post-ends-last, were-closed}
 use Rattle.ca_laws_writes.proofs.Midway.{set-here}
 use Rattle.ca_laws_writes.proofs.Moves.{same-or}
 use Rattle.ca_laws_writes.proofs.Seats.{open-still}

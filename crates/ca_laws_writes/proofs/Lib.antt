@@ -36,4 +36,5 @@ pub mod Fresh
 pub mod Every
 pub mod LastingAll
 pub mod InStepLasts
+pub mod SaysRuns
 pub mod Noticed
