@@ -26,7 +26,7 @@ use Rattle.ca_laws_updates.proofs.Posted.{keys-stay, step-post}
 use Rattle.ca_laws_writes.specs.Says.{AreNumbered}
 use Rattle.ca_laws_writes.specs.Steps.{AllInStep}
 use Rattle.ca_laws_writes.proofs.Fresh.{adds-fresh}
-use Rattle.ca_laws_writes.proofs.Lasting.{IsNew, Lasting, numbered_for, told_gone, told_late}
+use Rattle.ca_laws_writes.proofs.Lasting.{Begins, Handled, IsNew, Lasting, numbered_for, told_gone, told_late}
 
 -- ---- what keeps it
 
@@ -96,16 +96,24 @@ in-step-handled y e new s replies did step c at due acts h =
     (λ x is. subst (λ (l : List SubKey). is_among (key_of x) l ≡ false) h.keys (adds-fresh (knows y e) s.message replies x (subst (λ (a : Action). Due (knows y e) s.message replies a) is due))) h in
     record { queues = r.queues; keys = r.keys; apart = r.apart }
 
-pub in-step-lasting : Lasting EndInStep
+-- so it is of each circuit, whatever its number
+abbrev pub EndsInStep : ℕ → ServerEnd → Joined → Type 0
+EndsInStep n e c = EndInStep e c
+
+pub in-step-lasting : Lasting EndsInStep
 in-step-lasting = record {
-  stays = λ e f c d held goes s. in-step-alike e f c d held.queues held.subscriptions goes.standing goes.queues s;
-  begins = in-step-begins;
-  posted = in-step-posted;
-  removed = in-step-removed;
-  pumped = in-step-pumped;
-  replied = λ e c place ms s. in-step-alike e e c (told_late place ms c) refl refl refl refl s;
-  handled = in-step-handled;
+  stays = λ n e f c d held goes s. in-step-alike e f c d held.queues held.subscriptions goes.standing goes.queues s;
+  posted = λ n. in-step-posted;
+  removed = λ n. in-step-removed;
+  pumped = λ n. in-step-pumped;
+  replied = λ n e c place ms s. in-step-alike e e c (told_late place ms c) refl refl refl refl s;
 }
+
+pub in-step-begun : (w : World) → Begins EndsInStep w
+in-step-begun w n moment c more new = in-step-begins moment c new
+
+pub in-step-kept : Handled EndsInStep
+in-step-kept n = in-step-handled
 
 -- ---- what it is for
 

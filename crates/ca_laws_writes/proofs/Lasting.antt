@@ -1,5 +1,5 @@
 -- What holds of each open end of a server and of its circuit stays so as an event goes by, if each change of the two keeps it.
-use Rattle.std.proofs.Common.{◌≡◌, ℕ, ◌⊎◌, inl, inr, true, List, [], ◌++◌, length, Option, Some, refl, sym, ap, subst, ◌∙◌}
+use Rattle.std.proofs.Common.{◌≡◌, ℕ, ◌≤◌, ◌⊎◌, inl, inr, true, List, [], ◌++◌, length, Option, Some, refl, sym, ap, subst, ◌∙◌}
 use Rattle.std.specs.Prelude.{filter, is_some, map, replicate, slice_set}
 use Rattle.std.specs.List.{FoldsTo, fold}
 use Rattle.ca_arena.specs.declared.handle.Handle.{Handle}
@@ -73,29 +73,34 @@ EndsWere old new = (h : Handle) (f : ServerEnd) → HasEnd new h f → (e : Serv
 
 -- ---- what is to hold of ends and circuits
 
-module _ (P : ServerEnd → Joined → Type 0) where
+module _ (P : ℕ → ServerEnd → Joined → Type 0) where
   abbrev pub AllEnds : World → Type 0
   AllEnds w = (n : ℕ) (c : Joined) (y : ServerSide) (e : ServerEnd) → At w.circuits n c → At w.servers c.server y → c.lists.server_open ≡ true
-      → HasEnd y.core c.at_server e → P e c
+      → HasEnd y.core c.at_server e → P n e c
 
-  -- Each change of an end and its circuit keeps it: what happens at the client, and to bytes; a post; a removal; updates that leave their
-  -- queues; a late reply; and a message that is handled.
+  -- Each change of an end and its circuit, of this number, keeps it: what happens at the client, and to bytes; a post; a removal; updates
+  -- that leave their queues; and a late reply. A new circuit has it.
   pub record Lasting : Type 0 where
-    pub stays : (e f : ServerEnd) (c d : Joined) → SameHeld e f → Goes c d → P e c → P f d
-    pub begins : (moment : ℕ) (c : Joined) → IsNew c → P (new_end moment) c
-    pub posted : (name : List ℕ) (mask : ℕ) (v : Stored) (e : ServerEnd) (c : Joined) → P e c → P (with_post name mask v e) (numbered_for name mask e c)
-    pub removed : (name : List ℕ) (e : ServerEnd) (c : Joined) → P e c → P (end_without name e) (told_gone (channels_of name e) c)
-    pub pumped : (updates : List Update) (e after : ServerEnd) (c : Joined) → FoldsTo Leaves e updates after → P e c → P after (stamped updates c)
-    pub replied : (e : ServerEnd) (c : Joined) (place : ℕ) (ms : List Fields) → P e c → P e (told_late place ms c)
-    pub handled : (y : Server) (e new : ServerEnd) (s : Sent) (replies : List Fields) (did : Action) (step : Step) (c : Joined)
-        → At c.lists.up (length c.lists.handled) s → Due (knows y e) s.message replies did → Acts y e did new → P e c
-        → P new (handled_at (length c.lists.handled) step replies (numbers_after (length c.lists.handled) did c))
+    pub stays : (n : ℕ) (e f : ServerEnd) (c d : Joined) → SameHeld e f → Goes c d → P n e c → P n f d
+    pub posted : (n : ℕ) (name : List ℕ) (mask : ℕ) (v : Stored) (e : ServerEnd) (c : Joined) → P n e c → P n (with_post name mask v e) (numbered_for name mask e c)
+    pub removed : (n : ℕ) (name : List ℕ) (e : ServerEnd) (c : Joined) → P n e c → P n (end_without name e) (told_gone (channels_of name e) c)
+    pub pumped : (n : ℕ) (updates : List Update) (e after : ServerEnd) (c : Joined) → FoldsTo Leaves e updates after → P n e c → P n after (stamped updates c)
+    pub replied : (n : ℕ) (e : ServerEnd) (c : Joined) (place : ℕ) (ms : List Fields) → P n e c → P n e (told_late place ms c)
+
+  abbrev pub Begins : World → Type 0
+  Begins w = (n moment : ℕ) (c : Joined) → length w.circuits ≤ n → IsNew c → P n (new_end moment) c
+
+  -- And so does a message that is handled.
+  abbrev pub Handled : Type 0
+  Handled = (n : ℕ) (y : Server) (e new : ServerEnd) (s : Sent) (replies : List Fields) (did : Action) (step : Step) (c : Joined)
+      → At c.lists.up (length c.lists.handled) s → Due (knows y e) s.message replies did → Acts y e did new → P n e c
+      → P n new (handled_at (length c.lists.handled) step replies (numbers_after (length c.lists.handled) did c))
 
   -- servers stay, and circuits go on
   pub frame-lasts : Lasting → (w new : World) → Frame w new → AllEnds w → AllEnds new
   frame-lasts k w new f all n d y e at there opened has =
       let c = f.back n d at in
-      k.stays e e c.0 d (held-self e) c.2
+      k.stays n e e c.0 d (held-self e) c.2
       (all n c.0 y e c.1 (subst (λ (m : ℕ). At w.servers m y) c.2.later.server (subst (λ (l : List ServerSide). At l d.server y) f.servers there)) (sym c.2.is_open ∙ opened)
       (subst (λ (h : Handle). HasEnd y.core h e) c.2.later.handle has))
 
@@ -106,19 +111,19 @@ module _ (P : ServerEnd → Joined → Type 0) where
       elim (At-set w.servers i next c.server z (subst (λ (l : List ServerSide). At l c.server z) servers there)) [
         | inl own ↦
             let was = were c.at_server e (subst (λ (s : ServerSide). HasEnd s.core c.at_server e) own.1 has) in
-            k.stays was.0 e c c was.2 (goes-self c) (all n c y was.0 on (subst (λ (m : ℕ). At w.servers m y) (sym own.0) is) opened was.1)
+            k.stays n was.0 e c c was.2 (goes-self c) (all n c y was.0 on (subst (λ (m : ℕ). At w.servers m y) (sym own.0) is) opened was.1)
         | inr old ↦ all n c z e on old.0 opened has
       ]
 
 -- An event at server i, after which its core is this. The law says what it makes of each circuit of the server that is open then.
-module _ (P : ServerEnd → Joined → Type 0) (w : World) (i : ℕ) (y : ServerSide) (core : Server) where
+module _ (P : ℕ → ServerEnd → Joined → Type 0) (w : World) (i : ℕ) (y : ServerSide) (core : Server) where
   abbrev pub Back : World → Type 0
   Back new = (n : ℕ) (d : Joined) → At new.circuits n d → d.lists.server_open ≡ true
-      → (c : Joined) × At w.circuits n c × SameSeat c d × ((c.server ≡ i → ⊥) → (e : ServerEnd) → P e c → P e d)
+      → (c : Joined) × At w.circuits n c × SameSeat c d × ((c.server ≡ i → ⊥) → (e : ServerEnd) → P n e c → P n e d)
 
   abbrev pub Law : World → Type 0
   Law new = (n : ℕ) (c d : Joined) (e f : ServerEnd) → At w.circuits n c → At new.circuits n d → d.lists.server_open ≡ true → c.server ≡ i
-      → HasEnd y.core c.at_server e → P e c → HasEnd core c.at_server f → P f d
+      → HasEnd y.core c.at_server e → P n e c → HasEnd core c.at_server f → P n f d
 
   pub at-server : (new : World) → At w.servers i y → Back new
       → ((j : ℕ) (z : ServerSide) → At new.servers j z → ((j ≡ i) × (z.core ≡ reported core)) ⊎ (At w.servers j z × (j ≡ i → ⊥))) → Law new → Seated w → AllEnds P w
@@ -154,7 +159,7 @@ module _ (P : ServerEnd → Joined → Type 0) (w : World) (i : ℕ) (y : Server
         b.0,
         b.1,
         subst (λ (j : Joined). SameSeat b.0 j) (sym still.1) b.2,
-        λ other e h. subst (λ (j : Joined). P e j) (sym still.1) (b.3 other e h),
+        λ other e h. subst (λ (j : Joined). P n e j) (sym still.1) (b.3 other e h),
       ))
       (λ j z at. elim (At-set mid.servers i (record side { core = reported core; records = map (without_puts (ends_at ends mid.circuits)) side.records }) j z at) [
         | inl own ↦ inl (own.0, ap (λ (s : ServerSide). s.core) own.1)
@@ -163,6 +168,6 @@ module _ (P : ServerEnd → Joined → Type 0) (w : World) (i : ℕ) (y : Server
       (λ n c d e f on at opened mine had h has.
       let x = At-mapped (ending ends) mid.circuits n d at in
       let still = open-still ends x.0 d x.2 opened in
-      subst (λ (j : Joined). P f j) (sym still.1)
+      subst (λ (j : Joined). P n f j) (sym still.1)
       (law n c x.0 e f on x.1 (ap (λ (j : Joined). j.lists.server_open) (sym still.1) ∙ opened) mine had h has))
       seated all

@@ -1,5 +1,5 @@
 -- What holds of open ends and their circuits stays so: bytes, circuits that are made, posts, removals, pumps, cuts and restarts.
-use Rattle.std.proofs.Common.{◌≡◌, ℕ, ◌+◌, inl, inr, Bool, true, false, cond, ◌&&◌, eqb, ne_eqb, eq-eqb, not, List, [], ◌∷◌, ◌++◌, Option, Some, None, refl, sym, ap, subst, ◌∙◌}
+use Rattle.std.proofs.Common.{◌≡◌, ℕ, ◌+◌, inl, inr, Bool, true, false, cond, ◌&&◌, eqb, ne_eqb, eq-eqb, not, List, [], ◌∷◌, ◌++◌, Option, Some, None, refl, sym, ap, subst, ◌∙◌, arith}
 use Rattle.std.specs.Prelude.{Ok, drop, filter, is_some, length, map, take}
 use Rattle.std.specs.List.{fold}
 use Rattle.std.specs.Str.{bytes_eq}
@@ -33,7 +33,7 @@ use Rattle.ca_laws_writes.proofs.Frames.{goes-self}
 use Rattle.ca_laws_writes.proofs.HappensAdd.{given-free}
 use Rattle.ca_laws_writes.proofs.HappensClient.{left-frame, sent-frame, up-frame}
 use Rattle.ca_laws_writes.proofs.HappensPost.{stamped-same}
-use Rattle.ca_laws_writes.proofs.Lasting.{AllEnds, EndsWere, IsNew, Lasting, SameHeld, SameSeat, after-lasts, core-lasts, frame-lasts, held-self, numbered_for, seat-of, told_gone}
+use Rattle.ca_laws_writes.proofs.Lasting.{AllEnds, Begins, EndsWere, IsNew, Lasting, SameHeld, SameSeat, after-lasts, core-lasts, frame-lasts, held-self, numbered_for, seat-of, told_gone}
 use Rattle.ca_laws_writes.proofs.Seats.{open-still}
 
 -- ---- ends of a core
@@ -90,18 +90,18 @@ is-here i c d mine opened =
 pub not-here : (i : ℕ) (c d : Joined) → (c.server ≡ i → ⊥) → cond (eqb c.server i && c.lists.server_open) d c ≡ c
 not-here i c d other = ap (λ (b : Bool). cond (b && c.lists.server_open) d c) (ne_eqb c.server i other)
 
-module _ (P : ServerEnd → Joined → Type 0) (k : Lasting P) where
+module _ (P : ℕ → ServerEnd → Joined → Type 0) (k : Lasting P) where
   -- ---- what other circuits are
 
   -- circuits that were mapped
   pub mapped-from : (w : World) (i : ℕ) (f : Joined → Joined) → ((c : Joined) → SameEnds c (f c)) → ((c : Joined) → (c.server ≡ i → ⊥) → f c ≡ c) → (n : ℕ) (d : Joined) → At (map f w.circuits) n d
-      → (c : Joined) × At w.circuits n c × SameSeat c d × ((c.server ≡ i → ⊥) → (e : ServerEnd) → P e c → P e d)
+      → (c : Joined) × At w.circuits n c × SameSeat c d × ((c.server ≡ i → ⊥) → (e : ServerEnd) → P n e c → P n e d)
   mapped-from w i f same other n d at =
       let c = At-mapped f w.circuits n d at in (
         c.0,
         c.1,
         subst (λ (x : Joined). SameSeat c.0 x) (sym c.2) (seat-of c.0 (f c.0) (same c.0)),
-        λ far e h. subst (λ (x : Joined). P e x) (sym (c.2 ∙ other c.0 far)) h,
+        λ far e h. subst (λ (x : Joined). P n e x) (sym (c.2 ∙ other c.0 far)) h,
       )
 
   pub mapped-one : (w : World) (f : Joined → Joined) (n : ℕ) (c d : Joined) → At w.circuits n c → At (map f w.circuits) n d → d ≡ f c
@@ -110,10 +110,10 @@ module _ (P : ServerEnd → Joined → Type 0) (k : Lasting P) where
   -- ---- a post
 
   -- A post reaches an end and its circuit; the core told the numbers when it had this end with the same subscriptions.
-  pub post-ends-last : (i : ℕ) (core mid : Server) (name : List ℕ) (mask : ℕ) (v : Stored) (gone : Handle → Bool) (c : Joined) (b e f : ServerEnd) → c.server ≡ i → c.lists.server_open ≡ true → HasEnd core c.at_server b
-      → HasEnd mid c.at_server e → e.subscriptions ≡ b.subscriptions → P e c → HasEnd (after_post name mask v gone mid) c.at_server f → P f (numbers_posted i core name mask c)
-  post-ends-last i core mid name mask v gone c b e f mine opened before has subs p after =
-      subst (λ (d : Joined). P f d) (sym numbers)
+  pub post-ends-last : (n i : ℕ) (core mid : Server) (name : List ℕ) (mask : ℕ) (v : Stored) (gone : Handle → Bool) (c : Joined) (b e f : ServerEnd) → c.server ≡ i → c.lists.server_open ≡ true → HasEnd core c.at_server b
+      → HasEnd mid c.at_server e → e.subscriptions ≡ b.subscriptions → P n e c → HasEnd (after_post name mask v gone mid) c.at_server f → P n f (numbers_posted i core name mask c)
+  post-ends-last n i core mid name mask v gone c b e f mine opened before has subs p after =
+      subst (λ (d : Joined). P n f d) (sym numbers)
       (go (gone c.at_server)
       (one-value (after_post name mask v gone mid).circuits c.at_server (Open f) (reached name mask v gone c.at_server (Open e)) after
       (each-there (reached name mask v gone) mid.circuits c.at_server (Open e) has)))
@@ -127,9 +127,9 @@ module _ (P : ServerEnd → Joined → Type 0) (k : Lasting P) where
       same-end : (x : ServerEnd) → Open f ≡ Open x → f ≡ x
       same-end x is = cc
 
-      go : (x : Bool) → Open f ≡ cond x (Ended why.OutOfMemory e.link.output) (Open (with_post name mask v e)) → P f (numbered_for name mask e c)
+      go : (x : Bool) → Open f ≡ cond x (Ended why.OutOfMemory e.link.output) (Open (with_post name mask v e)) → P n f (numbered_for name mask e c)
       go true is = absurd cc
-      go false is = subst (λ (x : ServerEnd). P x (numbered_for name mask e c)) (sym (same-end (with_post name mask v e) is)) (k.posted name mask v e c p)
+      go false is = subst (λ (x : ServerEnd). P n x (numbered_for name mask e c)) (sym (same-end (with_post name mask v e) is)) (k.posted n name mask v e c p)
 
   -- a circuit of another server gets no numbers
   pub other-posted : (i : ℕ) (core : Server) (name : List ℕ) (mask : ℕ) (c : Joined) → (c.server ≡ i → ⊥) → numbers_posted i core name mask c ≡ c
@@ -146,8 +146,8 @@ module _ (P : ServerEnd → Joined → Type 0) (k : Lasting P) where
       (λ n c d b f on there opened mine had p has.
       let is_d : d ≡ numbers c = mapped-one w numbers n c d on there in
       let opened_c : c.lists.server_open ≡ true = sym (posted-same i y.core name mask c).is_open ∙ ap (λ (x : Joined). x.lists.server_open) (sym is_d) ∙ opened in
-      subst (λ (x : Joined). P f x) (sym is_d)
-      (post-ends-last i y.core stored name mask v gone c b b f mine opened_c had had refl p (subst (λ (x : Server). HasEnd x c.at_server f) posts.2 has)))
+      subst (λ (x : Joined). P n f x) (sym is_d)
+      (post-ends-last n i y.core stored name mask v gone c b b f mine opened_c had had refl p (subst (λ (x : Server). HasEnd x c.at_server f) posts.2 has)))
       seated all)
   post-lasts w new i y name e mask at (gone, core, inr refused) seated all = subst (λ (z : World). AllEnds P z) (sym refused.3) all
 
@@ -164,13 +164,13 @@ module _ (P : ServerEnd → Joined → Type 0) (k : Lasting P) where
       (λ n c d e f on there opened mine had p has.
       let is_d : d ≡ over c = mapped-one w over n c d on there in
       let opened_c : c.lists.server_open ≡ true = sym (removed-same i y.core name gone left c).is_open ∙ ap (λ (x : Joined). x.lists.server_open) (sym is_d) ∙ opened in
-      subst (λ (x : Joined). P f x) (sym is_d)
-      (one c e f mine opened_c had p (subst (λ (x : Server). HasEnd x c.at_server f) removes.2 has)))
+      subst (λ (x : Joined). P n f x) (sym is_d)
+      (one n c e f mine opened_c had p (subst (λ (x : Server). HasEnd x c.at_server f) removes.2 has)))
       seated all)
     where
-      one : (c : Joined) (e f : ServerEnd) → c.server ≡ i → c.lists.server_open ≡ true → HasEnd y.core c.at_server e → P e c → under (with_each (circuit_without name gone left) y.core.circuits) c.at_server ≡ Some (Open f)
-          → P f (removed_at i y.core name gone left c)
-      one c e f mine opened had p has =
+      one : (n : ℕ) (c : Joined) (e f : ServerEnd) → c.server ≡ i → c.lists.server_open ≡ true → HasEnd y.core c.at_server e → P n e c → under (with_each (circuit_without name gone left) y.core.circuits) c.at_server ≡ Some (Open f)
+          → P n f (removed_at i y.core name gone left c)
+      one n c e f mine opened had p has =
           go (gone c.at_server) refl
           (one-value (with_each (circuit_without name gone left) y.core.circuits) c.at_server (Open f) (circuit_without name gone left c.at_server (Open e)) has
           (each-there (circuit_without name gone left) y.core.circuits c.at_server (Open e) had))
@@ -182,25 +182,25 @@ module _ (P : ServerEnd → Joined → Type 0) (k : Lasting P) where
           same-end x is = cc
 
           go : (b : Bool) → gone c.at_server ≡ b → Open f ≡ cond b (Ended why.OutOfMemory (e.link.output ++ spelled (take (left c.at_server) (disconnects name e)))) (Open (end_without name e))
-              → P f (removed_at i y.core name gone left c)
+              → P n f (removed_at i y.core name gone left c)
           go true is_gone same = absurd cc
           go false is_gone same =
               let now : removed_at i y.core name gone left c ≡ told_gone channels c =
               is-here i c (told_gone (disconnected_at name gone left c.at_server (under y.core.circuits c.at_server)) c) mine opened
               ∙ ap (λ (o : Option ServerCircuit). told_gone (disconnected_at name gone left c.at_server o) c) had
               ∙ ap (λ (b : Bool). told_gone (cond b (take (left c.at_server) channels) channels) c) is_gone in
-              subst (λ (x : ServerEnd). P x (removed_at i y.core name gone left c)) (sym (same-end (end_without name e) same))
-              (subst (λ (d : Joined). P (end_without name e) d) (sym now) (k.removed name e c p))
+              subst (λ (x : ServerEnd). P n x (removed_at i y.core name gone left c)) (sym (same-end (end_without name e) same))
+              (subst (λ (d : Joined). P n (end_without name e) d) (sym now) (k.removed n name e c p))
   remove-lasts w new i y name at (gone, left, core, inr (removes, is)) seated all = subst (λ (z : World). AllEnds P z) (sym is) all
 
   -- ---- a cut, a pump
 
   -- ends go on as they were, and so do circuits
-  pub as-before : (c : Joined) (e f : ServerEnd) (y core : Server) → HasEnd y c.at_server e → P e c → EndsWere y core → HasEnd core c.at_server f → P f c
-  as-before c e f y core had p were has =
+  pub as-before : (n : ℕ) (c : Joined) (e f : ServerEnd) (y core : Server) → HasEnd y c.at_server e → P n e c → EndsWere y core → HasEnd core c.at_server f → P n f c
+  as-before n c e f y core had p were has =
       let was = were c.at_server f has in
       let one : was.0 ≡ e = one-end y c.at_server was.0 e was.1 had in
-      k.stays e f c c (subst (λ (x : ServerEnd). SameHeld x f) one was.2) (goes-self c) p
+      k.stays n e f c c (subst (λ (x : ServerEnd). SameHeld x f) one was.2) (goes-self c) p
 
   pub cut-lasts : (w new : World) (n : ℕ) (j : Joined) (y : ServerSide) → At w.servers j.server y → HappensCutServer w n j y new → Seated w → AllEnds P w → AllEnds P new
   cut-lasts w new n j y at f seated all =
@@ -208,7 +208,7 @@ module _ (P : ServerEnd → Joined → Type 0) (k : Lasting P) where
       (after-lasts P w j.server y f.core w y (ends_by j.server f.core) at (λ n d on opened. (d, on, seat-of d d (same-self d), λ other e h. h)) (λ i z there other. there)
       (λ n c d e x on there opened mine had p has.
       let same : d ≡ c = At-one w.circuits n d c there on in
-      subst (λ (z : Joined). P x z) (sym same) (as-before c e x y.core f.core had p (cuts-were y.core j.at_server f.core f.cuts) has))
+      subst (λ (z : Joined). P n x z) (sym same) (as-before n c e x y.core f.core had p (cuts-were y.core j.at_server f.core f.cuts) has))
       seated all)
 
   pub pump-lasts : (w new : World) (m : ℕ) (j : Joined) (y : ServerSide) → At w.circuits m j → At w.servers j.server y → j.lists.server_open ≡ true → HappensPump w m j y new → Seated w → AllEnds P w → AllEnds P new
@@ -230,46 +230,46 @@ module _ (P : ServerEnd → Joined → Type 0) (k : Lasting P) where
       (λ n c d e x on there opened mine had p has. elim (At-set w.circuits m pumped n d there) [
         | inl own ↦
             let one : c ≡ j = At-one w.circuits m c j (subst (λ (z : ℕ). At w.circuits z c) own.0 on) at_m in
-            subst (λ (z : Joined). P x z) (sym own.1)
-            (own-pump e x f.pumps (subst (λ (z : Joined). HasEnd y.core z.at_server e) one had) (subst (λ (z : Joined). P e z) one p) (subst (λ (z : Joined). HasEnd f.core z.at_server x) one has))
+            subst (λ (z : Joined). P n x z) (sym own.1)
+            (own-pump e x n own.0 f.pumps (subst (λ (z : Joined). HasEnd y.core z.at_server e) one had) (subst (λ (z : Joined). P n e z) one p) (subst (λ (z : Joined). HasEnd f.core z.at_server x) one has))
         | inr old ↦
             let same : d ≡ c = At-one w.circuits n d c old.0 on in
             let apart : c.at_server ≡ j.at_server → ⊥ = λ handles. old.1 (seated.one n m c j on at_m mine (ap (λ (z : Joined). z.lists.server_open) (sym same) ∙ opened) open_m handles) in
-            subst (λ (z : Joined). P x z) (sym same) (other-pump c e x f.pumps apart had p has)
+            subst (λ (z : Joined). P n x z) (sym same) (other-pump n c e x f.pumps apart had p has)
       ])
       seated all)
     where
       same-open : (a b : ServerEnd) → Open a ≡ Open b → a ≡ b
       same-open a b is = cc
 
-      own-pump : (e x : ServerEnd) → Pumps y.core j.at_server f.updates f.core → HasEnd y.core j.at_server e → P e j → HasEnd f.core j.at_server x → P x (stamped f.updates j)
-      own-pump e x (inl (d, hd, (after, folds, inl (rests, is)))) had p has =
+      own-pump : (e x : ServerEnd) (n : ℕ) → n ≡ m → Pumps y.core j.at_server f.updates f.core → HasEnd y.core j.at_server e → P n e j → HasEnd f.core j.at_server x → P n x (stamped f.updates j)
+      own-pump e x n own_is (inl (d, hd, (after, folds, inl (rests, is)))) had p has =
           let there : HasEnd (with_end j.at_server after y.core) j.at_server x = subst (λ (z : Server). HasEnd z j.at_server x) is has in
           let one : d ≡ e = one-end y.core j.at_server d e hd had in
           elim (changed-back (λ (c : ServerCircuit). Open after) y.core.circuits j.at_server j.at_server (Open x) there) [
             | inl own ↦
-                subst (λ (z : ServerEnd). P z (stamped f.updates j)) (sym (same-open x after own.1.2))
-                (k.pumped f.updates d after j folds (subst (λ (z : ServerEnd). P z j) (sym one) p))
+                subst (λ (z : ServerEnd). P n z (stamped f.updates j)) (sym (same-open x after own.1.2))
+                (k.pumped n f.updates d after j folds (subst (λ (z : ServerEnd). P n z j) (sym one) p))
             | inr old ↦ absurd (old.0 refl)
           ]
-      own-pump e x (inl (d, hd, (after, folds, inr (more, is)))) had p has =
+      own-pump e x n own_is (inl (d, hd, (after, folds, inr (more, is)))) had p has =
           let there : HasEnd (ended j.at_server why.OutOfMemory after.link.output y.core) j.at_server x = subst (λ (z : Server). HasEnd z j.at_server x) is has in
           elim (changed-back (λ (c : ServerCircuit). Ended why.OutOfMemory after.link.output) y.core.circuits j.at_server j.at_server (Open x) there) [
             | inl own ↦ absurd (let e : Open x ≡ Ended why.OutOfMemory after.link.output = own.1.2 in cc)
             | inr old ↦ absurd (old.0 refl)
           ]
-      own-pump e x (inr (none, nothing, is)) had p has = absurd (none e had)
+      own-pump e x n own_is (inr (none, nothing, is)) had p has = absurd (none e had)
 
-      other-pump : (c : Joined) (e x : ServerEnd) → Pumps y.core j.at_server f.updates f.core → (c.at_server ≡ j.at_server → ⊥) → HasEnd y.core c.at_server e → P e c → HasEnd f.core c.at_server x → P x c
-      other-pump c e x (inl (d, hd, (after, folds, inl (rests, is)))) apart had p has =
+      other-pump : (n : ℕ) (c : Joined) (e x : ServerEnd) → Pumps y.core j.at_server f.updates f.core → (c.at_server ≡ j.at_server → ⊥) → HasEnd y.core c.at_server e → P n e c → HasEnd f.core c.at_server x → P n x c
+      other-pump n c e x (inl (d, hd, (after, folds, inl (rests, is)))) apart had p has =
           let there : HasEnd (with_end j.at_server after y.core) c.at_server x = subst (λ (z : Server). HasEnd z c.at_server x) is has in
           elim (changed-back (λ (c : ServerCircuit). Open after) y.core.circuits c.at_server j.at_server (Open x) there) [
             | inl own ↦ absurd (apart own.0)
-            | inr old ↦ subst (λ (z : ServerEnd). P z c) (one-end y.core c.at_server e x had old.1) p
+            | inr old ↦ subst (λ (z : ServerEnd). P n z c) (one-end y.core c.at_server e x had old.1) p
           ]
-      other-pump c e x (inl (d, hd, (after, folds, inr (more, is)))) apart had p has =
-          as-before c e x y.core f.core had p (subst (λ (z : Server). EndsWere y.core z) (sym is) (were-ended y.core j.at_server why.OutOfMemory after.link.output)) has
-      other-pump c e x (inr (none, nothing, is)) apart had p has = as-before c e x y.core f.core had p (were-self y.core f.core (ap (λ (z : Server). z.circuits) is)) has
+      other-pump n c e x (inl (d, hd, (after, folds, inr (more, is)))) apart had p has =
+          as-before n c e x y.core f.core had p (subst (λ (z : Server). EndsWere y.core z) (sym is) (were-ended y.core j.at_server why.OutOfMemory after.link.output)) has
+      other-pump n c e x (inr (none, nothing, is)) apart had p has = as-before n c e x y.core f.core had p (were-self y.core f.core (ap (λ (z : Server). z.circuits) is)) has
 
   -- ---- a record is added, a server begins again
 
@@ -300,7 +300,7 @@ module _ (P : ServerEnd → Joined → Type 0) (k : Lasting P) where
           let c : Joined = x.0 in
           let opened_c : c.lists.server_open ≡ true = ap (λ (q : Joined). q.lists.server_open) (sym still.1) ∙ opened in
           let other : c.server ≡ i → ⊥ = λ mine. over c mine opened_c still.0 in
-          subst (λ (q : Joined). P e q) (sym still.1)
+          subst (λ (q : Joined). P n e q) (sym still.1)
           (elim (At-set w.servers i (server_begun w.moment (length w.server_logs) y.setting) d.server z there) [
             | inl own ↦ absurd (other (ap (λ (q : Joined). q.server) (sym still.1) ∙ own.0))
             | inr old ↦ all n c z e x.1 (subst (λ (q : Joined). At w.servers q.server z) still.1 old.0) opened_c (subst (λ (q : Joined). HasEnd z.core q.at_server e) still.1 has)
@@ -327,8 +327,8 @@ module _ (P : ServerEnd → Joined → Type 0) (k : Lasting P) where
 
   -- ---- a circuit is made
 
-  pub accept-lasts : (w new : World) (c : ℕ) (x : ClientSide) (v : WantsFirst w x) → HappensAccept w c x v new → Seated w → AllEnds P w → AllEnds P new
-  accept-lasts w new c x v f seated all = elim f.leaves [
+  pub accept-lasts : (w new : World) (c : ℕ) (x : ClientSide) (v : WantsFirst w x) → Begins P w → HappensAccept w c x v new → Seated w → AllEnds P w → AllEnds P new
+  accept-lasts w new c x v begins f seated all = elim f.leaves [
     | inl full ↦ subst (λ (z : World). AllEnds P z) (sym full.1) all
     | inr made ↦ (let accepts : Accepts v.y.core (Ok made.0) f.server = subst (λ (a : _). Accepts v.y.core a f.server) made.4 f.accepts in joined made.0 made.1 made.2 made.3 accepts made.6)
   ]
@@ -366,8 +366,8 @@ module _ (P : ServerEnd → Joined → Type 0) (k : Lasting P) where
                       ]
                   | inr last ↦ elim back [
                     | inl this ↦
-                        subst (λ (q : ServerEnd). P q d) (sym (same-open e fresh this.1))
-                        (subst (λ (q : Joined). P fresh q) (sym last.1) (k.begins v.y.core.moment (circuit g o) new-is.0))
+                        subst (λ (q : ServerEnd). P n q d) (sym (same-open e fresh this.1))
+                        (subst (λ (q : Joined). P n fresh q) (sym last.1) (begins n v.y.core.moment (circuit g o) (let is : n ≡ length w.circuits = last.0 in omega (arith, is)) new-is.0))
                     | inr was ↦
                         absurd (given-free v.y.core.circuits g (Open e) accepts.0
                         (subst (λ (m : Handle). HasEnd v.y.core m e) (ap (λ (q : Joined). q.at_server) last.1 ∙ new-is.2) was))

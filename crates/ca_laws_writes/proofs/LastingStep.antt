@@ -128,21 +128,21 @@ handled-posted i core name mask place step replies c = go (eqb c.server i && c.l
     go true = handled-numbers place step replies keys c
     go false = refl
 
-module _ (P : ServerEnd → Joined → Type 0) (k : Lasting P) where
+module _ (P : ℕ → ServerEnd → Joined → Type 0) (k : Lasting P) where
   -- ---- a finish
 
-  next-ends-last : (i : ℕ) (core mid : Server) (name : List ℕ) (ws : List WaitingPut) (gone : Handle → Bool) (c : Joined) (b e f : ServerEnd) → c.server ≡ i → c.lists.server_open ≡ true → HasEnd core c.at_server b
-      → HasEnd mid c.at_server e → e.subscriptions ≡ b.subscriptions → P e c → HasEnd (after_next name ws gone mid) c.at_server f → P f (next_numbers i core name ws c)
-  next-ends-last i core mid name [] gone c b e f mine opened before has subs p after =
+  next-ends-last : (n i : ℕ) (core mid : Server) (name : List ℕ) (ws : List WaitingPut) (gone : Handle → Bool) (c : Joined) (b e f : ServerEnd) → c.server ≡ i → c.lists.server_open ≡ true → HasEnd core c.at_server b
+      → HasEnd mid c.at_server e → e.subscriptions ≡ b.subscriptions → P n e c → HasEnd (after_next name ws gone mid) c.at_server f → P n f (next_numbers i core name ws c)
+  next-ends-last n i core mid name [] gone c b e f mine opened before has subs p after =
       go (gone c.at_server)
       (one-value (after_next name [] gone mid).circuits c.at_server (Open f) (lacking gone c.at_server (Open e)) after
       (each-there (lacking gone) mid.circuits c.at_server (Open e) has))
     where
-      go : (x : Bool) → Open f ≡ cond x (Ended why.OutOfMemory e.link.output) (Open e) → P f c
+      go : (x : Bool) → Open f ≡ cond x (Ended why.OutOfMemory e.link.output) (Open e) → P n f c
       go true is = absurd cc
-      go false is = subst (λ (x : ServerEnd). P x c) (sym (same-open f e is)) p
-  next-ends-last i core mid name (w ∷ ws) gone c b e f mine opened before has subs p after =
-      post-ends-last P k i core (stepped.counted mid) name write_mask (stored_now mid w.value) gone c b e f mine opened before has subs p after
+      go false is = subst (λ (x : ServerEnd). P n x c) (sym (same-open f e is)) p
+  next-ends-last n i core mid name (w ∷ ws) gone c b e f mine opened before has subs p after =
+      post-ends-last P k n i core (stepped.counted mid) name write_mask (stored_now mid w.value) gone c b e f mine opened before has subs p after
 
   finished-lasts : (w new : World) (i : ℕ) (y : ServerSide) (name : List ℕ) → At w.servers i y → Finished w i y name new → Seated w → AllEnds P w → AllEnds P new
   finished-lasts w new i y name at f seated all =
@@ -160,8 +160,8 @@ module _ (P : ServerEnd → Joined → Type 0) (k : Lasting P) where
           | inr is ↦ subst (λ (x : Joined). SameSeat c.0 x) (sym is) (seat-of c.0 (late r.0) (same-trans c.0 r.0 (late r.0) same_c (late-same f.p.place ms r.0)))
         ],
         λ other e h. elim r.2 [
-          | inl is ↦ subst (λ (x : Joined). P e x) (sym (is ∙ far other)) h
-          | inr is ↦ subst (λ (x : Joined). P e x) (sym is) (k.replied e r.0 f.p.place ms (subst (λ (x : Joined). P e x) (sym (far other)) h))
+          | inl is ↦ subst (λ (x : Joined). P n e x) (sym (is ∙ far other)) h
+          | inr is ↦ subst (λ (x : Joined). P n e x) (sym is) (k.replied n e r.0 f.p.place ms (subst (λ (x : Joined). P n e x) (sym (far other)) h))
         ],
       ))
       (λ j z there other. elim (At-set w.servers i side j z (subst (λ (l : List ServerSide). At l j z) (told-servers f.p f.sent told) there)) [ inl own ↦ absurd (other own.0) | inr old ↦ old.0 ])
@@ -171,13 +171,13 @@ module _ (P : ServerEnd → Joined → Type 0) (k : Lasting P) where
       let same_c : SameEnds c r.0 = subst (λ (z : Joined). SameEnds c z) (sym numbered) (next-same i y.core name f.cr.waiting c) in
       let opened_c : c.lists.server_open ≡ true = sym same_c.is_open ∙ open-of r.0 d r.2 opened in
       let made = stays c.at_server e had in
-      let q : P x r.0 =
-      subst (λ (z : Joined). P x z) (sym numbered)
-      (next-ends-last i y.core f.finishes.1 name f.cr.waiting gone c e made.0 x mine opened_c had made.1 made.2.subscriptions (k.stays e made.0 c c made.2 (goes-self c) p)
+      let q : P n x r.0 =
+      subst (λ (z : Joined). P n x z) (sym numbered)
+      (next-ends-last n i y.core f.finishes.1 name f.cr.waiting gone c e made.0 x mine opened_c had made.1 made.2.subscriptions (k.stays n e made.0 c c made.2 (goes-self c) p)
       (subst (λ (ws : List WaitingPut). HasEnd (after_next name ws gone f.finishes.1) c.at_server x) (ap (λ (z : Record). z.waiting) one_record) (subst (λ (z : Server). HasEnd z c.at_server x) f.finishes.3 has))) in
       elim r.2 [
-        | inl is ↦ subst (λ (z : Joined). P x z) (sym is) q
-        | inr is ↦ subst (λ (z : Joined). P x z) (sym is) (k.replied x r.0 f.p.place ms q)
+        | inl is ↦ subst (λ (z : Joined). P n x z) (sym is) q
+        | inr is ↦ subst (λ (z : Joined). P n x z) (sym is) (k.replied n x r.0 f.p.place ms q)
       ])
       seated all)
     where
@@ -241,19 +241,19 @@ module _ (P : ServerEnd → Joined → Type 0) (k : Lasting P) where
       subst (λ (x : Server). HasEnd x h d) (sym made.leaves) (changed-own (λ (c : ServerCircuit). Open d) made.recorded.circuits h (Open e) there)
 
   -- a circuit of this server whose message this is not
-  others-last : (y : Server) (i : ℕ) (h : Handle) (e : ServerEnd) (next : Next y h e) (gone : Handle → Bool) (core : Server) (c : Joined) (b f : ServerEnd) → Reaches next.action gone next.after core → c.server ≡ i → c.lists.server_open ≡ true
-      → (c.at_server ≡ h → ⊥) → HasEnd y c.at_server b → P b c → HasEnd core c.at_server f → P f (write_numbers i y next.action c)
-  others-last y i h e next gone core c b f reaches mine opened apart has p after = elim (reaches-or next.action) [
+  others-last : (n : ℕ) (y : Server) (i : ℕ) (h : Handle) (e : ServerEnd) (next : Next y h e) (gone : Handle → Bool) (core : Server) (c : Joined) (b f : ServerEnd) → Reaches next.action gone next.after core → c.server ≡ i → c.lists.server_open ≡ true
+      → (c.at_server ≡ h → ⊥) → HasEnd y c.at_server b → P n b c → HasEnd core c.at_server f → P n f (write_numbers i y next.action c)
+  others-last n y i h e next gone core c b f reaches mine opened apart has p after = elim (reaches-or next.action) [
     | inl writes ↦
         let name : List ℕ = writes.0 in
         let r = subst (λ (a : Action). Reaches a gone next.after core) writes.3 reaches in
-        subst (λ (a : Action). P f (write_numbers i y a c)) (sym writes.3)
-        (post-ends-last P k i y next.after name write_mask (stored_now next.after writes.1) gone c b b f mine opened has (next-others y h e next c.at_server b apart has) refl p
+        subst (λ (a : Action). P n f (write_numbers i y a c)) (sym writes.3)
+        (post-ends-last P k n i y next.after name write_mask (stored_now next.after writes.1) gone c b b f mine opened has (next-others y h e next c.at_server b apart has) refl p
         (subst (λ (x : Server). HasEnd x c.at_server f) r.1 after))
     | inr quiet ↦
         let same : core ≡ next.after = quiet.0 gone next.after core reaches in
         let one : b ≡ f = one-end next.after c.at_server b f (next-others y h e next c.at_server b apart has) (subst (λ (x : Server). HasEnd x c.at_server f) same after) in
-        subst (λ (d : Joined). P f d) (sym (quiet.1 i y c)) (subst (λ (x : ServerEnd). P x c) one p)
+        subst (λ (d : Joined). P n f d) (sym (quiet.1 i y c)) (subst (λ (x : ServerEnd). P n x c) one p)
   ]
 
   -- what a circuit is after a message was handled, before that is noted
@@ -288,7 +288,7 @@ module _ (P : ServerEnd → Joined → Type 0) (k : Lasting P) where
       after-lasts P w j.server y core w side ends at (λ n d on opened. (d, on, seat-of d d (same-self d), λ other e h. h)) (λ i z there other. there)
       (λ n c d e x on there opened mine had p has.
       let same : d ≡ c = At-one w.circuits n d c there on in
-      subst (λ (z : Joined). P x z) (sym same) (as-before P k c e x y.core core had p (subst (λ (z : Server). EndsWere y.core z) (sym is) (were-closed y.core j.at_server)) has))
+      subst (λ (z : Joined). P n x z) (sym same) (as-before P k n c e x y.core core had p (subst (λ (z : Server). EndsWere y.core z) (sym is) (were-closed y.core j.at_server)) has))
       seated all
 
   lacks-lasts : (w new : World) (m : ℕ) (j : Joined) (y : ServerSide) (left : List ℕ) → At w.circuits m j → At w.servers j.server y → StepLacks w m j y left new → Seated w → AllEnds P w → AllEnds P new
@@ -316,7 +316,7 @@ module _ (P : ServerEnd → Joined → Type 0) (k : Lasting P) where
               old.1.0,
               old.1.1,
               written-seat i y.core f.lacks.next.action old.1.0 d old.1.2,
-              λ other e h. subst (λ (z : Joined). P e z) (sym (old.1.2 ∙ not-written i y.core f.lacks.next.action old.1.0 other)) h,
+              λ other e h. subst (λ (z : Joined). P n e z) (sym (old.1.2 ∙ not-written i y.core f.lacks.next.action old.1.0 other)) h,
             )
           ])
           (λ l z there other. acted-servers w m j y f.lacks.next.action l z there other)
@@ -330,31 +330,37 @@ module _ (P : ServerEnd → Joined → Type 0) (k : Lasting P) where
                 let one : old.1.0 ≡ c = At-one w.circuits n old.1.0 c old.1.1 on in
                 let is_d : d ≡ write_numbers i y.core f.lacks.next.action c = old.1.2 ∙ ap (λ (z : Joined). write_numbers i y.core f.lacks.next.action z) one in
                 let opened_c : c.lists.server_open ≡ true = sym (written-seat i y.core f.lacks.next.action c d is_d).is_open ∙ opened in
-                subst (λ (z : Joined). P x z) (sym is_d)
-                (others-last y.core i j.at_server f.e f.lacks.next gone made c e x wrote.1 mine opened_c apart.0 had p apart.1)
+                subst (λ (z : Joined). P n x z) (sym is_d)
+                (others-last n y.core i j.at_server f.e f.lacks.next gone made c e x wrote.1 mine opened_c apart.0 had p apart.1)
           ])
           seated all
 
   -- ---- a step that handles a message
 
-  own-last : (y : Server) (i : ℕ) (j : Joined) (e : ServerEnd) (next : Next y j.at_server e) (gone : Handle → Bool) (core : Server) (f : ServerEnd) (s : Sent) (step : Step) → At j.lists.up (length j.lists.handled) s → s.message ≡ next.m
-      → Reaches next.action gone next.after core → j.server ≡ i → j.lists.server_open ≡ true → HasEnd y j.at_server e → P e j → HasEnd core j.at_server f
-      → P f (handled_at (length j.lists.handled) step next.replies (write_numbers i y next.action (numbers_after (length j.lists.handled) next.action j)))
-  own-last y i j e next gone core f s step sent is reaches mine opened has p after = elim (reaches-or next.action) [
+  -- The message that is handled next on circuit m, whose end this server has, keeps it.
+  abbrev pub HandledHere : (m : ℕ) → Joined → Server → Type 0
+  HandledHere m j y = (e taken new : ServerEnd) (s : Sent) (replies : List Fields) (did : Action) (step : Step) → HasEnd y j.at_server e → SameHeld e taken
+      → At j.lists.up (length j.lists.handled) s → Due (knows y taken) s.message replies did → Acts y taken did new → P m e j
+      → P m new (handled_at (length j.lists.handled) step replies (numbers_after (length j.lists.handled) did j))
+
+  own-last : (n : ℕ) (y : Server) (i : ℕ) (j : Joined) (e : ServerEnd) (next : Next y j.at_server e) (gone : Handle → Bool) (core : Server) (f : ServerEnd) (s : Sent) (step : Step) → HandledHere n j y → At j.lists.up (length j.lists.handled) s → s.message ≡ next.m
+      → Reaches next.action gone next.after core → j.server ≡ i → j.lists.server_open ≡ true → HasEnd y j.at_server e → P n e j → HasEnd core j.at_server f
+      → P n f (handled_at (length j.lists.handled) step next.replies (write_numbers i y next.action (numbers_after (length j.lists.handled) next.action j)))
+  own-last n y i j e next gone core f s step law sent is reaches mine opened has p after = elim (reaches-or next.action) [
     | inl writes ↦
         let name : List ℕ = writes.0 in
         let r = subst (λ (a : Action). Reaches a gone next.after core) writes.3 reaches in
         let acts : made.acted ≡ taken = subst (λ (a : Action). Acts y taken a made.acted) writes.3 made.acts in
-        let q : P d (handled_at place step next.replies j) = subst (λ (a : Action). P d (handled_at place step next.replies (numbers_after place a j))) writes.3 handled in
-        subst (λ (a : Action). P f (handled_at place step next.replies (write_numbers i y a (numbers_after place a j)))) (sym writes.3)
-        (subst (λ (c : Joined). P f c) (handled-posted i y name write_mask place step next.replies j)
-        (post-ends-last P k i y next.after name write_mask (stored_now next.after writes.1) gone (handled_at place step next.replies j) e d f mine opened has (next-own y j.at_server e next has)
+        let q : P n d (handled_at place step next.replies j) = subst (λ (a : Action). P n d (handled_at place step next.replies (numbers_after place a j))) writes.3 handled in
+        subst (λ (a : Action). P n f (handled_at place step next.replies (write_numbers i y a (numbers_after place a j)))) (sym writes.3)
+        (subst (λ (c : Joined). P n f c) (handled-posted i y name write_mask place step next.replies j)
+        (post-ends-last P k n i y next.after name write_mask (stored_now next.after writes.1) gone (handled_at place step next.replies j) e d f mine opened has (next-own y j.at_server e next has)
         (ap (λ (x : ServerEnd). x.subscriptions) acts) q (subst (λ (x : Server). HasEnd x j.at_server f) r.1 after)))
     | inr quiet ↦
         let same : core ≡ next.after = quiet.0 gone next.after core reaches in
         let one : d ≡ f = one-end next.after j.at_server d f (next-own y j.at_server e next has) (subst (λ (x : Server). HasEnd x j.at_server f) same after) in
-        subst (λ (c : Joined). P f (handled_at place step next.replies c)) (sym (quiet.1 i y (numbers_after place next.action j)))
-        (subst (λ (x : ServerEnd). P x (handled_at place step next.replies (numbers_after place next.action j))) one handled)
+        subst (λ (c : Joined). P n f (handled_at place step next.replies c)) (sym (quiet.1 i y (numbers_after place next.action j)))
+        (subst (λ (x : ServerEnd). P n x (handled_at place step next.replies (numbers_after place next.action j))) one handled)
   ]
     where
       made : stepped.Handles y j.at_server (record e { link = with_rest next.rest e.link }) next.m next.replies next.action next.after
@@ -369,20 +375,17 @@ module _ (P : ServerEnd → Joined → Type 0) (k : Lasting P) where
       d : ServerEnd
       d = record made.acted { link = with_sent next.replies made.acted.link }
 
-      taken-p : P taken j
-      taken-p = k.stays e taken j j (record { channels = refl; subscriptions = refl; queues = refl }) (goes-self j) p
-
       due : Due (knows y taken) s.message next.replies next.action
       due = subst (λ (m : Fields). Due (knows y taken) m next.replies next.action) (sym is) made.due
 
-      acted-p : P made.acted (handled_at place step next.replies (numbers_after place next.action j))
-      acted-p = k.handled y taken made.acted s next.replies next.action step j sent due made.acts taken-p
+      acted-p : P n made.acted (handled_at place step next.replies (numbers_after place next.action j))
+      acted-p = law e taken made.acted s next.replies next.action step has (record { channels = refl; subscriptions = refl; queues = refl }) sent due made.acts p
 
-      handled : P d (handled_at place step next.replies (numbers_after place next.action j))
-      handled = k.stays made.acted d (handled_at place step next.replies (numbers_after place next.action j)) (handled_at place step next.replies (numbers_after place next.action j)) (record { channels = refl; subscriptions = refl; queues = refl }) (goes-self (handled_at place step next.replies (numbers_after place next.action j))) acted-p
+      handled : P n d (handled_at place step next.replies (numbers_after place next.action j))
+      handled = k.stays n made.acted d (handled_at place step next.replies (numbers_after place next.action j)) (handled_at place step next.replies (numbers_after place next.action j)) (record { channels = refl; subscriptions = refl; queues = refl }) (goes-self (handled_at place step next.replies (numbers_after place next.action j))) acted-p
 
-  handles-lasts : (w new : World) (m : ℕ) (j : Joined) (y : ServerSide) → At w.circuits m j → At w.servers j.server y → j.lists.server_open ≡ true → TakesSent w → StepHandles w m j y new → Seated w → AllEnds P w → AllEnds P new
-  handles-lasts w new m j y at server opened_j takes f seated all =
+  handles-lasts : (w new : World) (m : ℕ) (j : Joined) (y : ServerSide) → HandledHere m j y.core → At w.circuits m j → At w.servers j.server y → j.lists.server_open ≡ true → TakesSent w → StepHandles w m j y new → Seated w → AllEnds P w → AllEnds P new
+  handles-lasts w new m j y law at server opened_j takes f seated all =
       subst (λ (z : World). AllEnds P z) (sym new-is)
       (at-server P w i y f.core (with_circuit m noted_last after) server
       (λ n d there opened. elim (from n d there opened) [
@@ -396,7 +399,7 @@ module _ (P : ServerEnd → Joined → Type 0) (k : Lasting P) where
           old.1.0,
           old.1.1,
           written-seat i y.core did old.1.0 d old.1.2,
-          λ other e h. subst (λ (z : Joined). P e z) (sym (old.1.2 ∙ not-written i y.core did old.1.0 other)) h,
+          λ other e h. subst (λ (z : Joined). P n e z) (sym (old.1.2 ∙ not-written i y.core did old.1.0 other)) h,
         )
       ])
       (λ l z there. elim (At-set mid.servers i (record (side_of i y mid) { core = reported f.core; records = map (without_puts (ends_at (ends_by i f.core) mid.circuits)) (side_of i y mid).records }) l z there) [
@@ -408,15 +411,15 @@ module _ (P : ServerEnd → Joined → Type 0) (k : Lasting P) where
             let one : c ≡ j = At-one w.circuits m c j (subst (λ (z : ℕ). At w.circuits z c) own.0 on) at in
             let e_is : e ≡ f.e = one-end y.core j.at_server e f.e (subst (λ (z : Joined). HasEnd y.core z.at_server e) one had) f.has in
             let sent = takes m j y f.e next.m next.rest at server opened_j f.has next.takes in
-            subst (λ (z : Joined). P x z) (sym own.1)
-            (own-last y.core i j f.e next gone f.core x sent.0 step sent.1 sent.2 f.steps.3 refl opened_j f.has (subst (λ (z : ServerEnd). P z j) e_is (subst (λ (z : Joined). P e z) one p))
+            subst (λ (z : Joined). P n x z) (sym own.1)
+            (own-last n y.core i j f.e next gone f.core x sent.0 step (subst (λ (q : ℕ). HandledHere q j y.core) (sym own.0) law) sent.1 sent.2 f.steps.3 refl opened_j f.has (subst (λ (z : ServerEnd). P n z j) e_is (subst (λ (z : Joined). P n e z) one p))
             (subst (λ (z : Joined). HasEnd f.core z.at_server x) one has))
         | inr old ↦
             let one : old.1.0 ≡ c = At-one w.circuits n old.1.0 c old.1.1 on in
             let is_d : d ≡ write_numbers i y.core did c = old.1.2 ∙ ap (λ (z : Joined). write_numbers i y.core did z) one in
             let opened_c : c.lists.server_open ≡ true = sym (written-seat i y.core did c d is_d).is_open ∙ opened in
             let apart : c.at_server ≡ j.at_server → ⊥ = λ handles. old.0 (seated.one n m c j on at mine opened_c opened_j handles) in
-            subst (λ (z : Joined). P x z) (sym is_d) (others-last y.core i j.at_server f.e next gone f.core c e x f.steps.3 mine opened_c apart had p has)
+            subst (λ (z : Joined). P n x z) (sym is_d) (others-last n y.core i j.at_server f.e next gone f.core c e x f.steps.3 mine opened_c apart had p has)
       ])
       seated all)
     where
@@ -480,10 +483,10 @@ module _ (P : ServerEnd → Joined → Type 0) (k : Lasting P) where
             ]
       ]
 
-  pub step-lasts : (w new : World) (m : ℕ) (j : Joined) (y : ServerSide) (did : Stepped) → At w.circuits m j → At w.servers j.server y → j.lists.server_open ≡ true → TakesSent w → ServerStepped w m j y did new → Seated w → AllEnds P w → AllEnds P new
-  step-lasts w new m j y stepped.Handled at server opened takes f seated all = handles-lasts w new m j y at server opened takes f seated all
-  step-lasts w new m j y stepped.NeedBytes at server opened takes f seated all = subst (λ (z : World). AllEnds P z) (sym f.3) all
-  step-lasts w new m j y stepped.OutputFull at server opened takes f seated all = subst (λ (z : World). AllEnds P z) (sym f.3) all
-  step-lasts w new m j y (stepped.Closed why.OutOfMemory left) at server opened takes f seated all = lacks-lasts w new m j y left at server f seated all
-  step-lasts w new m j y (stepped.Closed cause left) at server opened takes f seated all =
+  pub step-lasts : (w new : World) (m : ℕ) (j : Joined) (y : ServerSide) (did : Stepped) → HandledHere m j y.core → At w.circuits m j → At w.servers j.server y → j.lists.server_open ≡ true → TakesSent w → ServerStepped w m j y did new → Seated w → AllEnds P w → AllEnds P new
+  step-lasts w new m j y stepped.Handled law at server opened takes f seated all = handles-lasts w new m j y law at server opened takes f seated all
+  step-lasts w new m j y stepped.NeedBytes law at server opened takes f seated all = subst (λ (z : World). AllEnds P z) (sym f.3) all
+  step-lasts w new m j y stepped.OutputFull law at server opened takes f seated all = subst (λ (z : World). AllEnds P z) (sym f.3) all
+  step-lasts w new m j y (stepped.Closed why.OutOfMemory left) law at server opened takes f seated all = lacks-lasts w new m j y left at server f seated all
+  step-lasts w new m j y (stepped.Closed cause left) law at server opened takes f seated all =
       subst (λ (z : World). AllEnds P z) (sym f.3) (bad-lasts w m j y y (ends_here j left j.server y.core) (closed j.at_server y.core) server refl seated all)

@@ -5,25 +5,24 @@ use Rattle.ca_model_world.specs.Events.{Event}
 use Rattle.ca_model_world.specs.Events as event
 use Rattle.ca_model_world.specs.Runs.{Happens, Runs, StopsAt, clients_below}
 use Rattle.ca_model_world.specs.World.{IsSetting, Setting, World, opening}
-use Rattle.ca_laws_updates.specs.InStep.{EndInStep}
 use Rattle.ca_laws_writes.specs.Says.{Says}
 use Rattle.ca_laws_writes.specs.Seats.{AllTakeSent, Sound, TakesSent}
 use Rattle.ca_laws_writes.specs.Steps.{AllInStep}
 use Rattle.ca_laws_writes.proofs.Every.{event-says, event-sound, events-sound, opening-says, opening-sound, ticks-frame}
 use Rattle.ca_laws_writes.proofs.Frames.{frame-keeps}
 use Rattle.ca_laws_writes.proofs.Grown.{grew-by}
-use Rattle.ca_laws_writes.proofs.InStepLasts.{in-step-lasting, world-numbered}
+use Rattle.ca_laws_writes.proofs.InStepLasts.{EndsInStep, in-step-begun, in-step-kept, in-step-lasting, world-numbered}
 use Rattle.ca_laws_writes.proofs.LastingAll.{event-lasts, opening-lasts, run-lasts}
 use Rattle.ca_laws_writes.proofs.Says.{says-grow}
 
 pub event-in-step : (s : Setting) (w new : World) (e : Event) → TakesSent w → Happens w e new → Sound s w → AllInStep w → AllInStep new
-event-in-step s w new e t happens h all = event-lasts EndInStep in-step-lasting s w new e t happens h all
+event-in-step s w new e t happens h all = event-lasts EndsInStep in-step-lasting in-step-begun in-step-kept s w new e t happens h all
 
 pub opening-in-step : (s : Setting) → AllInStep (opening s)
-opening-in-step s = opening-lasts EndInStep in-step-lasting s
+opening-in-step s = opening-lasts EndsInStep in-step-lasting s
 
 pub run-in-step : (s : Setting) (es : List Event) (stopped : Option Event) (w : World) → IsSetting s → Runs s es stopped w → AllTakeSent (opening s) es → AllInStep w
-run-in-step s es stopped w ok runs t = run-lasts EndInStep in-step-lasting s es stopped w ok runs t
+run-in-step s es stopped w ok runs t = run-lasts EndsInStep in-step-lasting in-step-begun in-step-kept s es stopped w ok runs t
 
 -- what replies say, in a world whose ends and circuits are in step
 pub event-says-so : (s : Setting) (w new : World) (e : Event) → IsSetting s → TakesSent w → AllInStep w → Happens w e new → Sound s w → Says w → Says new
