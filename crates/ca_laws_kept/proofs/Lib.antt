@@ -1,1 +1,4 @@
 pub mod Since
+pub mod Puts
+pub mod PutEvents
+pub mod Thins

@@ -136,10 +136,10 @@ handled-grows Extra place step replies did c extra =
 -- Circuits that were there since a world: what they have now they had then, or it came by a message at a place of theirs.
 module _ (w : World) (Extra : (n : ℕ) → ℕ → Type 0) where
   abbrev pub Since : ℕ → ServerEnd → Joined → Type 0
-  Since n f d = ((c : Joined) × At w.circuits n c × Grows (Extra n) c d) ⊎ (length w.circuits ≤ n)
+  Since n f d = ((c : Joined) × At w.circuits n c × (c.lists.server_open ≡ true) × Grows (Extra n) c d) ⊎ (length w.circuits ≤ n)
 
   since-then : (n : ℕ) (e f : ServerEnd) (c d : Joined) → Grows (Extra n) c d → Since n e c → Since n f d
-  since-then n e f c d g (inl (b, at, h)) = inl (b, at, grows-then (Extra n) b c d h g)
+  since-then n e f c d g (inl (b, at, opened, h)) = inl (b, at, opened, grows-then (Extra n) b c d h g)
   since-then n e f c d g (inr new) = inr new
 
   pub since-lasting : Lasting Since
@@ -159,5 +159,5 @@ module _ (w : World) (Extra : (n : ℕ) → ℕ → Type 0) where
         creations = λ x at. inl at;
       }
 
-  pub since-handled : (m : ℕ) (j : Joined) (y : _) → At w.circuits m j → Extra m (length j.lists.handled) → HandledHere Since since-lasting m j y
-  since-handled m j y at extra e taken new s replies did step has held sent due acts p = inl (j, at, handled-grows (Extra m) (length j.lists.handled) step replies did j extra)
+  pub since-handled : (m : ℕ) (j : Joined) (y : _) → At w.circuits m j → j.lists.server_open ≡ true → Extra m (length j.lists.handled) → HandledHere Since since-lasting m j y
+  since-handled m j y at opened extra e taken new s replies did step has held sent due acts p = inl (j, at, opened, handled-grows (Extra m) (length j.lists.handled) step replies did j extra)

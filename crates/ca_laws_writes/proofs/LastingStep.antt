@@ -90,7 +90,7 @@ late-same : (place : ℕ) (ms : List Fields) (c : Joined) → SameEnds c (told_l
 late-same place ms c = record { server = refl; handle = refl; life = refl; up = refl; handled = refl; is_open = refl }
 
 -- a server's sides after a finish is told
-told-servers : (p : PutPlace) (sent : List (Handle × Fields)) (t : World) → (replied_at p sent t).servers ≡ t.servers
+pub told-servers : (p : PutPlace) (sent : List (Handle × Fields)) (t : World) → (replied_at p sent t).servers ≡ t.servers
 told-servers p sent t = go (slice_get t.circuits p.circuit)
   where
     go : (o : Option Joined) → (unwrap_or (option_map (λ (j : Joined). with_circuit p.circuit (told_late p.place (map (λ (x : Handle × Fields). x.1) sent) j) t) o) t).servers ≡ t.servers
