@@ -2,3 +2,4 @@ pub mod Since
 pub mod Puts
 pub mod PutEvents
 pub mod Thins
+pub mod Messages

@@ -161,3 +161,11 @@ module _ (w : World) (Extra : (n : ℕ) → ℕ → Type 0) where
 
   pub since-handled : (m : ℕ) (j : Joined) (y : _) → At w.circuits m j → j.lists.server_open ≡ true → Extra m (length j.lists.handled) → HandledHere Since since-lasting m j y
   since-handled m j y at opened extra e taken new s replies did step has held sent due acts p = inl (j, at, opened, handled-grows (Extra m) (length j.lists.handled) step replies did j extra)
+
+-- updates leave messages, steps, subscriptions and channels as they were
+pub stamped-parts : (us : List Update) (c : Joined) → ((stamped us c).lists.up ≡ c.lists.up) × ((stamped us c).lists.handled ≡ c.lists.handled) × ((stamped us c).standing ≡ c.standing) × ((stamped us c).creations ≡ c.creations)
+stamped-parts [] c = (refl, refl, refl, refl)
+stamped-parts (u ∷ us) c =
+    let item : ℕ × Cause = unwrap_or (front_number c.queues u.queue) (0, Reply) in
+    let queues : List (Queue (ℕ × Cause)) = unwrap_or (option_map (λ (q : Queue (ℕ × Cause)). slice_set c.queues u.queue (with_front_taken q)) (slice_get c.queues u.queue)) c.queues in
+    stamped-parts us (record c { queues = queues; lists = record c.lists { down = c.lists.down ++ record { message = u.message; place = item.0; cause = item.1 } ∷ [] } })
