@@ -3,3 +3,4 @@ pub mod Puts
 pub mod PutEvents
 pub mod Thins
 pub mod Messages
+pub mod Laters
