@@ -70,7 +70,7 @@ step-number key v vs j apart among step =
     subst (λ (l : List (Queue (ℕ × Cause))). InStep (map (queue_posted key v) vs) l) (sym r.1) (step-posted key v r.0.place r.0.posts vs j.queues step)
 
 -- keys stay
-keys-stay : (key : SubKey) (j : Joined) → keys_standing (with_number j key) ≡ keys_standing j
+pub keys-stay : (key : SubKey) (j : Joined) → keys_standing (with_number j key) ≡ keys_standing j
 keys-stay key j = all j.standing
   where
     one : (s : Standing) (b : Bool) → (cond b (record s { posts = s.posts + 1 }) s).key ≡ s.key

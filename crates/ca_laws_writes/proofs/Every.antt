@@ -15,12 +15,12 @@ use Rattle.ca_laws_writes.proofs.HappensClient.{accept-keeps, begun-frame, clear
 use Rattle.ca_laws_writes.proofs.HappensPost.{cut-keeps, finish-keeps, post-keeps, pump-keeps, remove-keeps}
 use Rattle.ca_laws_writes.proofs.HappensStep.{step-keeps}
 use Rattle.ca_laws_writes.proofs.Lists.{none_at}
-use Rattle.ca_laws_writes.specs.Says.{AllNumbered, AreNumbered, Says}
+use Rattle.ca_laws_writes.specs.Says.{AreNumbered, Says}
 use Rattle.ca_laws_writes.proofs.Says.{Grew, says-grow}
 use Rattle.ca_laws_writes.proofs.Grown.{accept-grew, add-grew, cut-grew, down-grew, grew-by, post-grew, pump-grew, remove-grew, restart-grew, up-grew}
 use Rattle.ca_laws_writes.proofs.Replied.{finish-grew, step-grew-by}
 
-ticks-frame : (moment : ℕ) (w : World) (is : List ℕ) (new : World) → TicksAll moment w is new → Frame w new
+pub ticks-frame : (moment : ℕ) (w : World) (is : List ℕ) (new : World) → TicksAll moment w is new → Frame w new
 ticks-frame moment w [] new same = frame-self w new (ap (λ (z : World). z.servers) (sym same)) (ap (λ (z : World). z.server_logs) (sym same)) (ap (λ (z : World). z.circuits) (sym same))
 ticks-frame moment w (i ∷ is) new (mid, one, rest) = frame-then w mid new (tick-frame moment w i mid one) (ticks-frame moment mid is new rest)
 
@@ -73,7 +73,7 @@ opening-sound s ok = record {
 
 -- ---- every run
 
-events-sound : (s : Setting) (es : List Event) (w new : World) → IsSetting s → FoldsTo Happens w es new → AllTakeSent w es → Sound s w → Sound s new
+pub events-sound : (s : Setting) (es : List Event) (w new : World) → IsSetting s → FoldsTo Happens w es new → AllTakeSent w es → Sound s w → Sound s new
 events-sound s [] w new ok same t h = subst (λ (z : World). Sound s z) same h
 events-sound s (e ∷ es) w new ok (mid, one, rest) t h =
     events-sound s es mid new ok rest (λ n v folds. t (suc n) v (mid, one, folds)) (event-sound s w mid e ok (t 0 w refl) one h)
@@ -127,22 +127,3 @@ event-says s w new e ok t u happens h says = elim (leaves-grew s w new e t u hap
 
 pub opening-says : (s : Setting) → Says (opening s)
 opening-says s = record { so = λ n c y at. absurd (none_at n c at); about = λ n i c t at. absurd (none_at n c at) }
-
-events-says : (s : Setting) (es : List Event) (w new : World) → IsSetting s → FoldsTo Happens w es new → AllTakeSent w es → AllNumbered w es → Sound s w → Says w → Says new
-events-says s [] w new ok same t u h says = subst (λ (z : World). Says z) same says
-events-says s (e ∷ es) w new ok (mid, one, rest) t u h says =
-    events-says s es mid new ok rest (λ n v folds. t (suc n) v (mid, one, folds)) (λ n v folds. u (suc n) v (mid, one, folds)) (event-sound s w mid e ok (t 0 w refl) one h)
-    (event-says s w mid e ok (t 0 w refl) (u 0 w refl) one h says)
-
-stops-says : (s : Setting) (mid : World) (stopped : Option Event) (w : World) → StopsAt mid stopped w → Sound s mid → Says mid → Says w
-stops-says s mid (Some (event.Tick moment)) w stops h says = elim stops [
-  | inl same ↦ subst (λ (z : World). Says z) (sym same) says
-  | inr ticked ↦
-      let f = ticks-frame moment mid (clients_below ticked.0) w ticked.3 in
-      says-grow s mid w h (frame-keeps s mid w f h) (grew-by mid w w f refl refl) says
-]
-stops-says s mid stopped w stops h says = subst (λ (z : World). Says z) (sym stops) says
-
-pub run-says : (s : Setting) (es : List Event) (stopped : Option Event) (w : World) → IsSetting s → Runs s es stopped w → AllTakeSent (opening s) es → AllNumbered (opening s) es → Says w
-run-says s es stopped w ok (mid, folds, stops) t u =
-    stops-says s mid stopped w stops (events-sound s es (opening s) mid ok folds t (opening-sound s ok)) (events-says s es (opening s) mid ok folds t u (opening-sound s ok) (opening-says s))

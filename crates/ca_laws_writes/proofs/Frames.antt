@@ -21,12 +21,15 @@ pub record Goes (c d : Joined) : Type 0 where
   pub is_open : d.lists.server_open ≡ c.lists.server_open
   pub handled : d.lists.handled ≡ c.lists.handled
   pub down : d.lists.down ≡ c.lists.down
+  pub standing : d.standing ≡ c.standing
+  pub queues : d.queues ≡ c.queues
+  pub creations : d.creations ≡ c.creations
 
 pub goes-self : (c : Joined) → Goes c c
-goes-self c = record { later = later-self c; is_open = refl; handled = refl; down = refl }
+goes-self c = record { later = later-self c; is_open = refl; handled = refl; down = refl; standing = refl; queues = refl; creations = refl }
 
-pub goes-same : (c d : Joined) → SameEnds c d → d.lists.down ≡ c.lists.down → Goes c d
-goes-same c d s down = record { later = same-later c d s; is_open = s.is_open; handled = s.handled; down = down }
+pub goes-same : (c d : Joined) → SameEnds c d → d.lists.down ≡ c.lists.down → d.standing ≡ c.standing → d.queues ≡ c.queues → d.creations ≡ c.creations → Goes c d
+goes-same c d s down standing queues creations = record { later = same-later c d s; is_open = s.is_open; handled = s.handled; down = down; standing = standing; queues = queues; creations = creations }
 
 pub later-then : (a b c : Joined) → Later a b → Later b c → Later a c
 later-then a b c y z = record {
@@ -39,7 +42,7 @@ later-then a b c y z = record {
 }
 
 pub goes-then : (a b c : Joined) → Goes a b → Goes b c → Goes a c
-goes-then a b c f g = record { later = later-then a b c f.later g.later; is_open = g.is_open ∙ f.is_open; handled = g.handled ∙ f.handled; down = g.down ∙ f.down }
+goes-then a b c f g = record { later = later-then a b c f.later g.later; is_open = g.is_open ∙ f.is_open; handled = g.handled ∙ f.handled; down = g.down ∙ f.down; standing = g.standing ∙ f.standing; queues = g.queues ∙ f.queues; creations = g.creations ∙ f.creations }
 
 -- Servers and their logs stay, and each circuit goes on.
 pub record Frame (w new : World) : Type 0 where
@@ -102,6 +105,9 @@ sent-goes i n sent c = record {
   is_open = refl;
   handled = refl;
   down = refl;
+  standing = refl;
+  queues = refl;
+  creations = refl;
 }
 
 pub frame-after : (i : ℕ) (x : ClientSide) (spoken : Names) (o : Outcomes) (w : World) → Frame w (client_after i x spoken o w)
@@ -112,7 +118,7 @@ pub frame-lines : (life : ℕ) (lines : List Line) (w : World) → Frame w (with
 frame-lines life lines w = frame-self w (with_lines life lines w) refl refl refl
 
 pub closed-goes : (left : List ℕ) (c : Joined) → Goes c (client_closed left c)
-closed-goes left c = goes-same c (client_closed left c) (record { server = refl; handle = refl; life = refl; up = refl; handled = refl; is_open = refl }) refl
+closed-goes left c = goes-same c (client_closed left c) (record { server = refl; handle = refl; life = refl; up = refl; handled = refl; is_open = refl }) refl refl refl refl
 
 -- ---- what that keeps
 

@@ -85,7 +85,7 @@ ended-frame w new k j x c core at is =
     (sent-frame mid new j.client x.names [] (ap (λ (z : World). z.servers) is) (ap (λ (z : World). z.server_logs) is) (ap (λ (z : World). z.circuits) is))
 
 heard-goes : (step : Step) (j : Joined) → Goes j (heard_in step j)
-heard-goes step j = goes-same j (heard_in step j) (record { server = refl; handle = refl; life = refl; up = refl; handled = refl; is_open = refl }) refl
+heard-goes step j = goes-same j (heard_in step j) (record { server = refl; handle = refl; life = refl; up = refl; handled = refl; is_open = refl }) refl refl refl refl
 
 pub cut-frame : (w new : World) (k : ℕ) (j : Joined) (x : ClientSide) → At w.circuits k j → HappensCutClient w k j x new → Frame w new
 cut-frame w new k j x at (c, sent, core, cuts, is) = ended-frame w new k j x c core at is
@@ -135,7 +135,7 @@ up-frame w k n j x at = taken j.lists.client_open
   where
     taken : (b : Bool) → Frame w (cond b (with_client j.client (record x { core = handed_over j.at_client n x.core }) w) (with_circuit k (record j { left_up = drop n j.left_up }) w))
     taken true = frame-self w (with_client j.client (record x { core = handed_over j.at_client n x.core }) w) refl refl refl
-    taken false = frame-circuit w k j (record j { left_up = drop n j.left_up }) at (goes-same j (record j { left_up = drop n j.left_up }) (record { server = refl; handle = refl; life = refl; up = refl; handled = refl; is_open = refl }) refl)
+    taken false = frame-circuit w k j (record j { left_up = drop n j.left_up }) at (goes-same j (record j { left_up = drop n j.left_up }) (record { server = refl; handle = refl; life = refl; up = refl; handled = refl; is_open = refl }) refl refl refl refl)
 
 pub up-keeps : (s : Setting) (w new : World) (k n : ℕ) (j : Joined) (x : ClientSide) (y : ServerSide) → At w.circuits k j → At w.servers j.server y → HappensUp w k n j x y new → Sound s w → Sound s new
 up-keeps s w new k n j x y at server (core, gives, is) h =
@@ -146,7 +146,7 @@ up-keeps s w new k n j x y at server (core, gives, is) h =
     (core-keeps s mid j.server y core (subst (λ (l : List ServerSide). At l j.server y) (sym f.servers) server) g.0 g.1 (frame-keeps s w mid f h))
 
 pub left-frame : (w : World) (k n : ℕ) (j : Joined) → At w.circuits k j → Frame w (with_circuit k (record j { left_down = drop n j.left_down }) w)
-left-frame w k n j at = frame-circuit w k j (record j { left_down = drop n j.left_down }) at (goes-same j (record j { left_down = drop n j.left_down }) (record { server = refl; handle = refl; life = refl; up = refl; handled = refl; is_open = refl }) refl)
+left-frame w k n j at = frame-circuit w k j (record j { left_down = drop n j.left_down }) at (goes-same j (record j { left_down = drop n j.left_down }) (record { server = refl; handle = refl; life = refl; up = refl; handled = refl; is_open = refl }) refl refl refl refl)
 
 down-taken : (s : Setting) (w mid : World) (k n : ℕ) (j : Joined) (y : ServerSide) → At w.circuits k j → At w.servers j.server y → DownTaken w k n j y mid → Sound s w → Sound s mid
 down-taken s w mid k n j y at server (inl (opened, (core, sends, is))) h =

@@ -29,5 +29,12 @@ pub mod HappensClient
 pub mod Says
 pub mod Grown
 pub mod Replied
+pub mod Lasting
+pub mod LastingEvents
+pub mod LastingStep
+pub mod Fresh
 pub mod Every
+pub mod LastingAll
+pub mod InStepLasts
+pub mod SaysRuns
 pub mod Noticed

@@ -28,14 +28,14 @@ use Rattle.ca_laws_writes.proofs.Moves.{same-or}
 
 -- ---- what waits after a message waited before, or is its own put
 
-core-back : (f : Record → RecordSide → RecordSide) (cs : List Record) (rs : List RecordSide) (k : ℕ) (z : RecordSide) → At (with_core f cs rs) k z → (c : Record) × (r : RecordSide) × In rs r × (z ≡ f c r)
+pub core-back : (f : Record → RecordSide → RecordSide) (cs : List Record) (rs : List RecordSide) (k : ℕ) (z : RecordSide) → At (with_core f cs rs) k z → (c : Record) × (r : RecordSide) × In rs r × (z ≡ f c r)
 core-back f [] [] k z at = absurd (none_at k z at)
 core-back f [] (r ∷ rs) k z at = absurd (none_at k z at)
 core-back f (c ∷ cs) [] k z at = absurd (none_at k z at)
 core-back f (c ∷ cs) (r ∷ rs) zero z at = (c, r, (0, refl), sym (some_is (f c r) z at))
 core-back f (c ∷ cs) (r ∷ rs) (suc k) z at = (let b = core-back f cs rs k z at in (b.0, b.1, (suc b.2.0, b.2.1), b.3))
 
-places-back : (test : Put → Bool) (ws : List WaitingPut) (ps : List PutPlace) (q : PutPlace) → In (places_where test ws ps) q → In ps q
+pub places-back : (test : Put → Bool) (ws : List WaitingPut) (ps : List PutPlace) (q : PutPlace) → In (places_where test ws ps) q → In ps q
 places-back test [] [] q h = absurd (none_at h.0 q h.1)
 places-back test [] (p ∷ ps) q h = absurd (none_at h.0 q h.1)
 places-back test (w ∷ ws) [] q h = absurd (none_at h.0 q h.1)

@@ -6,3 +6,4 @@ pub mod Moves
 pub mod Taken
 pub mod Seats
 pub mod Says
+pub mod Steps

@@ -1,6 +1,5 @@
 -- Working: the replies of all circuits of a world, and what they say of writes.
-use Rattle.std.specs.Prelude.{ℕ, ◌≡◌, ◌<◌, ◌⊎◌, true, List, length, take}
-use Rattle.std.specs.List.{FoldsTo}
+use Rattle.std.specs.Prelude.{ℕ, ◌≡◌, ◌<◌, ◌⊎◌, true, List, length}
 use Rattle.ca_dbr.specs.declared.value.Outcome.TheVariants.{Failed}
 use Rattle.ca_text.specs.declared.status.Status.{Status}
 use Rattle.ca_text.specs.Place.{At}
@@ -12,8 +11,6 @@ use Rattle.ca_model.specs.Updates.{Shows}
 use Rattle.ca_model_safe.specs.Channels.{OfClients, Suits}
 use Rattle.ca_model_safe.specs.Headline.{CompletesOnce}
 use Rattle.ca_model_safe.specs.Known.{IsDue}
-use Rattle.ca_model_world.specs.Events.{Event}
-use Rattle.ca_model_world.specs.Runs.{Happens}
 use Rattle.ca_model_world.specs.ServerEvents.{stamped}
 use Rattle.ca_model_world.specs.World.{Joined, ServerSide, World, port_of, rules_of, told}
 use Rattle.ca_laws_writes.specs.Lives.{SayWhatIsSo}
@@ -33,10 +30,6 @@ abbrev pub AreNumbered : World → Type 0
 AreNumbered w = (k : ℕ) (j : Joined) (y : ServerSide) (updates : List Update) (core : Server) → At w.circuits k j
     → At w.servers j.server y → j.lists.server_open ≡ true → Pumps y.core j.at_server updates core
     → (i : ℕ) (t : Told) → At (stamped updates j).lists.down i t → t.cause ≡ Reply → At j.lists.down i t
-
--- So it is in each world to which a beginning of these events leads.
-abbrev pub AllNumbered : World → List Event → Type 0
-AllNumbered w es = (n : ℕ) (mid : World) → FoldsTo Happens w (take n es) mid → AreNumbered mid
 
 -- ---- what callers are told
 

@@ -12,5 +12,5 @@ pub use laws::{
 };
 pub use runs::{
     callers_are_told_what_became_of_writes, each_event_keeps_what_replies_say,
-    each_event_keeps_writes, sound_writes_are_applied_once,
+    each_event_keeps_writes, ends_and_circuits_stay_in_step, sound_writes_are_applied_once,
 };

@@ -8,7 +8,8 @@ ghost use Rattle.ca_model_world.specs.Runs.{Happens, Runs};
 ghost use Rattle.ca_model_world.specs.World.{IsSetting, Setting, World, opening, told};
 ghost use Rattle.ca_laws_writes.specs.Lives.{IsOfMessage};
 ghost use Rattle.ca_laws_writes.specs.Seats.{AllTakeSent, Sound, TakesSent};
-ghost use Rattle.ca_laws_writes.specs.Says.{AllAsked, AllNumbered, AreNumbered, CompleteOnce, Says};
+ghost use Rattle.ca_laws_writes.specs.Says.{AllAsked, AreNumbered, CompleteOnce, Says};
+ghost use Rattle.ca_laws_writes.specs.Steps.{AllInStep};
 ghost use Rattle.ca_text.specs.declared.status.Status.{Status};
 ghost use Rattle.ca_dbr.specs.declared.value.Outcome.TheVariants.{Done, Failed};
 
@@ -44,14 +45,26 @@ pub fn sound_writes_are_applied_once()
 /// after every run: a put that a reply tells Done is applied, and of a write that a reply tells
 /// Failed the log never tells.
 ///
-/// An update that leaves a queue has its number in front there.
+/// Each open circuit is in step with its end at its server there, as in every run.
 pub fn each_event_keeps_what_replies_say()
     ensures begins { (s : Setting) → Says (opening s) }
     ensures event { (s : Setting) (w new : World) (e : Event) → IsSetting s → TakesSent w
-        → AreNumbered w → Happens w e new → Sound s w → Says w → Says new }
+        → AllInStep w → Happens w e new → Sound s w → Says w → Says new }
     ensures run { (s : Setting) (es : List Event) (stopped : Option Event) (w : World)
-        → IsSetting s → Runs s es stopped w → AllTakeSent (opening s) es
-        → AllNumbered (opening s) es → Says w }
+        → IsSetting s → Runs s es stopped w → AllTakeSent (opening s) es → Says w }
+{}
+
+/// Each circuit that is open at its server is in step with its end there: the same subscriptions
+/// stand in both, each once, and the same updates wait in both. So it is before any event, after
+/// each event, and after every run; and so each update that leaves a queue has its number in front
+/// there, and is told as an update.
+pub fn ends_and_circuits_stay_in_step()
+    ensures begins { (s : Setting) → AllInStep (opening s) }
+    ensures event { (s : Setting) (w new : World) (e : Event) → TakesSent w → Happens w e new
+        → Sound s w → AllInStep w → AllInStep new }
+    ensures run { (s : Setting) (es : List Event) (stopped : Option Event) (w : World)
+        → IsSetting s → Runs s es stopped w → AllTakeSent (opening s) es → AllInStep w }
+    ensures numbered { (w : World) → AllInStep w → AreNumbered w }
 {}
 
 /// Where replies say what is so, a put that completed Done was applied, and a write whose caller
