@@ -1,0 +1,3 @@
+pub mod Streaming
+pub mod Links
+pub mod Clients
