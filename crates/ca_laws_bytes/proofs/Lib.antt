@@ -1,3 +1,4 @@
 pub mod Streaming
 pub mod Links
 pub mod Clients
+pub mod ClientEvents

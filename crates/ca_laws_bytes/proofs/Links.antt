@@ -33,6 +33,20 @@ use Rattle.ca_laws_bytes.proofs.Streaming.{spelled-more}
 abbrev pub messages_on : Handle → List Sending → List Fields
 messages_on h sent = map (λ (s : Sending). s.message) (filter (λ (s : Sending). same_handle s.circuit h) sent)
 
+pub messages-both : (h : Handle) (xs ys : List Sending) → messages_on h (xs ++ ys) ≡ messages_on h xs ++ messages_on h ys
+messages-both h [] ys = refl
+messages-both h (s ∷ xs) ys = go (same_handle s.circuit h) (messages-both h xs ys)
+  where
+    f : List Sending → List Sending
+    f l = filter (λ (s : Sending). same_handle s.circuit h) l
+
+    g : List Sending → List Fields
+    g l = map (λ (s : Sending). s.message) l
+
+    go : (b : Bool) → g (f (xs ++ ys)) ≡ g (f xs) ++ g (f ys) → g (cond b (s ∷ f (xs ++ ys)) (f (xs ++ ys))) ≡ g (cond b (s ∷ f xs) (f xs)) ++ g (f ys)
+    go true e = ap (λ (l : List Fields). s.message ∷ l) e
+    go false e = e
+
 -- an end goes on: the same bytes came, and these messages wait after the others
 abbrev pub GoesOn : (x y : Client) → Handle → List Fields → Type 0
 GoesOn x y h more =
