@@ -2,3 +2,4 @@ pub mod Streaming
 pub mod Links
 pub mod Clients
 pub mod ClientEvents
+pub mod Ticks

@@ -148,7 +148,7 @@ circuits-fold : (f : Client → Handle → Client) → ((y : Client) (h : Handle
 circuits-fold f one [] y = refl
 circuits-fold f one (h ∷ hs) y = circuits-fold f one hs (f y h) ∙ one y h
 
-channels-ended-circuits : (c : Handle) (x : Client) → (channels_ended c x).circuits ≡ x.circuits
+pub channels-ended-circuits : (c : Handle) (x : Client) → (channels_ended c x).circuits ≡ x.circuits
 channels-ended-circuits c x =
     circuits-fold searched_again (λ y h. refl) (channels_on (λ (p : Phase). not (is_cleared p)) c x) (fold without_channel x (channels_on is_cleared c x))
     ∙ circuits-fold without_channel (λ y h. refl) (channels_on is_cleared c x) x
