@@ -3,3 +3,4 @@ pub mod Links
 pub mod Clients
 pub mod ClientEvents
 pub mod Ticks
+pub mod ServerEnds
