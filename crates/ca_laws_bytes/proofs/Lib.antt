@@ -4,3 +4,4 @@ pub mod Clients
 pub mod ClientEvents
 pub mod Ticks
 pub mod ServerEnds
+pub mod Servers
