@@ -5,3 +5,5 @@ pub mod ClientEvents
 pub mod Ticks
 pub mod ServerEnds
 pub mod Servers
+pub mod ServerEvents
+pub mod ServerSteps

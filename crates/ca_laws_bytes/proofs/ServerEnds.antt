@@ -178,7 +178,7 @@ reaches-stays (action.Switches x) gone y new r h stays e has = same-stays y new 
 
 -- ---- replies of a finish, and updates
 
-open-one : (d e : ServerEnd) → Open d ≡ Open e → d ≡ e
+pub open-one : (d e : ServerEnd) → Open d ≡ Open e → d ≡ e
 open-one d e is = cc
 
 pub replies-own : (y : Server) (p : Put) (e : ServerEnd) (new : Server) → HasEnd y p.circuit e → new ≡ with_message p.circuit e (finish_reply p) y → (d : ServerEnd) → HasEnd y p.circuit d → Stays y new p.circuit d (finish_reply p ∷ [])

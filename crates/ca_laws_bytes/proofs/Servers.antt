@@ -216,15 +216,47 @@ goes-ends i old core m h e more same opened handle has goes =
       | inr over ↦ inr (over.1, by ∙ ap (λ (o : Option ServerCircuit). left_by o) over.2, over.3)
     ]
 
--- ---- an event after which circuits end as the core says
+-- ---- an event after which circuits end
 
+-- a circuit before, midway and after such an event
+pub circuit-ends : (w : World) (i : ℕ) (y z : ServerSide) (core : Server) (ends : Joined → Option (List ℕ)) (n : ℕ) (c m d : Joined) (more : List Fields) → z.core ≡ reported core → d ≡ ending ends m → Tells c m more
+    → (c.server ≡ i → c.lists.server_open ≡ true → (e : ServerEnd) × HasEnd y.core c.at_server e × EndsAs y.core core ends m c.at_server e more)
+    → ((c.server ≡ i → c.lists.server_open ≡ true → ⊥) → (ends m ≡ None) × (more ≡ []))
+    → Like c d × (c.server ≡ i → Acts (server_end y c) (server_end z d)) × ((c.server ≡ i → ⊥) → (s : ServerSide) → server_end s d ≡ server_end s c)
+circuit-ends w i y z core ends n c m d more is after t opens shuts = (
+  subst (λ (q : Joined). Like c q) (sym after) (like-then c m (ending ends m) t.like (ending-like ends m)),
+  (λ mine.
+  subst (λ (q : Joined). Acts (server_end y c) (server_end z q)) (sym after)
+  (ending-acts y z core ends c m more is t (λ opened. opens mine opened) (λ shut. shuts (λ same opened. both_ways c.lists.server_open shut opened)))),
+  (λ other s.
+  let none = shuts (λ same opened. other same) in
+  ap (λ (q : Joined). server_end s q) (after ∙ ending-none ends m none.0) ∙ tells-same c m (subst (λ (l : List Fields). Tells c m l) none.1 t) s),
+)
+
+-- the end of an open circuit of a server
+pub seat-of : (w : World) (i : ℕ) (y : ServerSide) (n : ℕ) (c : Joined) → At w.servers i y → Seated w → At w.circuits n c → c.server ≡ i → c.lists.server_open ≡ true → (e : ServerEnd) × HasEnd y.core c.at_server e
+seat-of w i y n c at seated on mine opened =
+    let seat = seated.each n c on opened in
+    let own : seat.y ≡ y = At-one w.servers i seat.y y (subst (λ (k : ℕ). At w.servers k seat.y) mine seat.at) at in
+    (seat.e, subst (λ (v : ServerSide). HasEnd v.core c.at_server seat.e) own seat.has)
+
+-- none of these circuits ends, or is one of this server that is open
+pub not-open : (i : ℕ) (core : Server) (c m : Joined) (more : List Fields) → Tells c m more → (c.server ≡ i → c.lists.server_open ≡ true → ⊥) → ends_by i core m ≡ None
+not-open i core c m more t none = elim (number-or c.server i) [
+  | inl mine ↦ elim (cases_Bool c.lists.server_open) [
+    | inl opened ↦ absurd (none mine opened)
+    | inr shut ↦ by-core-shut i core m (t.is_open ∙ shut)
+  ]
+  | inr other ↦ by-core-other i core m (λ q. other (sym t.like.server ∙ q))
+]
+
+-- as the core says
 pub after-streams : (w mid : World) (i : ℕ) (y side : ServerSide) (core : Server) → At w.servers i y → mid.clients ≡ w.clients → ((l : ℕ) (s : ServerSide) → At w.servers l s → (l ≡ i → ⊥) → At mid.servers l s) → ((s : ServerSide) × At mid.servers i s)
     → ((n : ℕ) (m : Joined) → At mid.circuits n m → (c : Joined) × At w.circuits n c × (more : List Fields) × Tells c m more × (c.server ≡ i → c.lists.server_open ≡ true → Goes y.core core c.at_server more)
     × ((c.server ≡ i → c.lists.server_open ≡ true → ⊥) → more ≡ []))
     → Seated w → AreMessages w → AllStream w → AllStream (server_after i side (ends_by i core) core mid)
 after-streams w mid i y side core at clients others there back seated good all =
-    server-event w new i y z at (set-here mid.servers i there.0 z there.1)
-    (λ l s on other. At-set-other mid.servers i l s z (others l s on other) other) clients circuits good all
+    server-event w new i y z at (set-here mid.servers i there.0 z there.1) (λ l s on other. At-set-other mid.servers i l s z (others l s on other) other) clients circuits good all
   where
     new : World
     new = server_after i side (ends_by i core) core mid
@@ -237,21 +269,10 @@ after-streams w mid i y side core at clients others there back seated good all =
         let m = At-mapped (ending (ends_by i core)) mid.circuits n d stands in
         let b = back n m.0 m.1 in
         let c : Joined = b.0 in
-        let t = b.3 in (
-          c,
-          b.1,
-          subst (λ (q : Joined). Like c q) (sym m.2) (like-then c m.0 (ending (ends_by i core) m.0) t.like (ending-like (ends_by i core) m.0)),
-          (λ mine.
-          subst (λ (q : Joined). Acts (server_end y c) (server_end z q)) (sym m.2)
-          (ending-acts y z core (ends_by i core) c m.0 b.2 refl t
-          (λ opened.
-          let seat = seated.each n c b.1 opened in
-          let own : seat.y ≡ y = At-one w.servers i seat.y y (subst (λ (k : ℕ). At w.servers k seat.y) mine seat.at) at in
-          let has : HasEnd y.core c.at_server seat.e = subst (λ (v : ServerSide). HasEnd v.core c.at_server seat.e) own seat.has in
-          (seat.e, has, goes-ends i y.core core m.0 c.at_server seat.e b.2 (t.like.server ∙ mine) (t.is_open ∙ opened) t.like.handle has (b.4 mine opened)))
-          (λ shut. (by-core-shut i core m.0 (t.is_open ∙ shut), b.5 (λ same opened. both_ways c.lists.server_open shut opened))))),
-          (λ other s.
-          let quiet : b.2 ≡ [] = b.5 (λ same opened. other same) in
-          ap (λ (q : Joined). server_end s q) (m.2 ∙ ending-none (ends_by i core) m.0 (by-core-other i core m.0 (λ q. other (sym t.like.server ∙ q))))
-          ∙ tells-same c m.0 (subst (λ (l : List Fields). Tells c m.0 l) quiet t) s),
-        )
+        let t = b.3 in
+        let r = circuit-ends w i y z core (ends_by i core) n c m.0 d b.2 refl m.2 t
+        (λ mine opened.
+        let e = seat-of w i y n c at seated b.1 mine opened in
+        (e.0, e.1, goes-ends i y.core core m.0 c.at_server e.0 b.2 (t.like.server ∙ mine) (t.is_open ∙ opened) t.like.handle e.1 (b.4 mine opened)))
+        (λ none. (not-open i core c m.0 b.2 t none, b.5 none)) in
+        (c, b.1, r.0, r.1, r.2)
