@@ -7,3 +7,4 @@ pub mod ServerEnds
 pub mod Servers
 pub mod ServerEvents
 pub mod ServerSteps
+pub mod Moves

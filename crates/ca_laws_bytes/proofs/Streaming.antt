@@ -186,18 +186,18 @@ meets-moved a o n m = record {
 -- ---- a new circuit
 
 -- two ends of which none did anything
+pub streams-new : (p q : CircuitEnd) → q.came ≡ [] → p.waiting ≡ [] → p.sent ≡ [] → q.read ≡ 0 → Streams p q
+streams-new p q came waiting sent read = record {
+  within = omega (arith, read);
+  lost = [];
+  are =
+      ap (λ (l : List ℕ). l ++ (p.waiting ++ [])) came ∙ ap (λ (l : List ℕ). l ++ []) waiting
+      ∙ sym (ap (λ (l : List Fields). spelled (drop q.read l)) sent ∙ ap (λ (n : ℕ). spelled (drop n [])) read);
+  whole = λ e. refl;
+}
+
 pub meets-new : (a b : CircuitEnd) → a.came ≡ [] → b.came ≡ [] → a.waiting ≡ [] → b.waiting ≡ [] → a.sent ≡ [] → b.sent ≡ [] → a.read ≡ 0 → b.read ≡ 0 → Meets a b
-meets-new a b ca cb wa wb sa sb ra rb = record { there = λ e. one a b cb wa sa rb; back = λ e. one b a ca wb sb ra }
-  where
-    one : (p q : CircuitEnd) → q.came ≡ [] → p.waiting ≡ [] → p.sent ≡ [] → q.read ≡ 0 → Streams p q
-    one p q came waiting sent read = record {
-      within = omega (arith, read);
-      lost = [];
-      are =
-          ap (λ (l : List ℕ). l ++ (p.waiting ++ [])) came ∙ ap (λ (l : List ℕ). l ++ []) waiting
-          ∙ sym (ap (λ (l : List Fields). spelled (drop q.read l)) sent ∙ ap (λ (n : ℕ). spelled (drop n [])) read);
-      whole = λ e. refl;
-    }
+meets-new a b ca cb wa wb sa sb ra rb = record { there = λ e. streams-new a b cb wa sa rb; back = λ e. streams-new b a ca wb sb ra }
 
 -- ---- each way to go on
 
