@@ -8,3 +8,5 @@ pub mod Servers
 pub mod ServerEvents
 pub mod ServerSteps
 pub mod Moves
+pub mod Comes
+pub mod Made

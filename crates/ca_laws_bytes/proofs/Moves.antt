@@ -103,7 +103,7 @@ server-or w new i y z c d at is same mine others v there = elim (number-or c.ser
 
 -- ---- bytes
 
-given-bytes : (now : ℕ) (bytes : List ℕ) (l : LinkState) → ((with_given now bytes l).input.bytes ≡ l.input.bytes ++ bytes) × ((with_given now bytes l).output ≡ l.output)
+pub given-bytes : (now : ℕ) (bytes : List ℕ) (l : LinkState) → ((with_given now bytes l).input.bytes ≡ l.input.bytes ++ bytes) × ((with_given now bytes l).output ≡ l.output)
 given-bytes now [] l = (sym (append-nil l.input.bytes), refl)
 given-bytes now (b ∷ bytes) l = (refl, refl)
 
