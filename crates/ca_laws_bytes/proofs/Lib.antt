@@ -10,3 +10,5 @@ pub mod ServerSteps
 pub mod Moves
 pub mod Comes
 pub mod Made
+pub mod Tables
+pub mod Handles

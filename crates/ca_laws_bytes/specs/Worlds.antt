@@ -1,5 +1,5 @@
 -- Working: the bytes on all circuits of a world.
-use Rattle.std.specs.Prelude.{ℕ, ◌≡◌, List, [], Option, Some, None, length, map, option_map, unwrap_or}
+use Rattle.std.specs.Prelude.{ℕ, ◌≡◌, false, List, [], Option, Some, None, length, map, option_map, unwrap_or}
 use Rattle.ca_ids.specs.Table.{under}
 use Rattle.ca_text.specs.Place.{At}
 use Rattle.ca_wire.specs.Fields.{Fields}
@@ -9,6 +9,7 @@ use Rattle.ca_model.specs.History.{Sent, Told}
 use Rattle.ca_model.specs.Server.{Open, ServerCircuit}
 use Rattle.ca_model_world.specs.ClientEvents.{waiting_down, waiting_up}
 use Rattle.ca_model_world.specs.World.{ClientSide, Joined, ServerSide, World}
+use Rattle.ca_laws_runs.specs.Circuit.{WasGiven}
 use Rattle.ca_laws_bytes.specs.Streams.{CircuitEnd, Meets}
 
 -- what came to a client's end and was not read, and to a server's
@@ -65,3 +66,9 @@ AreGood ms = (i : ℕ) (m : Fields) → At ms i m → IsMessage m
 pub record AreMessages (w : World) : Type 0 where
   pub up : (k : ℕ) (j : Joined) → At w.circuits k j → AreGood (sent_up j)
   pub down : (k : ℕ) (j : Joined) → At w.circuits k j → AreGood (sent_down j)
+
+-- The handles of circuits at a server in its present life: its table gave each, and once the end there has ended nothing has it.
+pub record HandlesStand (w : World) : Type 0 where
+  pub given : (n : ℕ) (c : Joined) (y : ServerSide) → At w.circuits n c → At w.servers c.server y → c.lists.server ≡ y.life → WasGiven y.core.circuits c.at_server
+  pub gone : (n : ℕ) (c : Joined) (y : ServerSide) (v : ServerCircuit) → At w.circuits n c → At w.servers c.server y → c.lists.server ≡ y.life → c.lists.server_open ≡ false
+      → under y.core.circuits c.at_server ≡ Some v → ⊥
