@@ -12,3 +12,5 @@ pub mod Comes
 pub mod Made
 pub mod Tables
 pub mod Handles
+pub mod HandleEvents
+pub mod Finish

@@ -58,7 +58,7 @@ write-tells i core (action.Drops x) j = tells-itself j
 write-tells i core (action.Switches x) j = tells-itself j
 
 -- circuits midway in such a step tell nothing
-acted-tells : (w : World) (k : ℕ) (j : Joined) (y : ServerSide) (did : Action) → At w.circuits k j → (n : ℕ) (m : Joined) → At (acted k j y did w).circuits n m → (c : Joined) × At w.circuits n c × Tells c m []
+pub acted-tells : (w : World) (k : ℕ) (j : Joined) (y : ServerSide) (did : Action) → At w.circuits k j → (n : ℕ) (m : Joined) → At (acted k j y did w).circuits n m → (c : Joined) × At w.circuits n c × Tells c m []
 acted-tells w k j y did at n m there =
     let d : Joined = numbers_after (length j.lists.handled) did j in
     let f : Joined → Joined = write_numbers j.server y.core did in
@@ -75,11 +75,11 @@ acted-tells w k j y did at n m there =
 -- ---- a message is handled
 
 -- what is noted of circuit k, which is there
-noted-is : (k : ℕ) (place : ℕ) (g : Step) (replies : List Fields) (w : World) (c : Joined) → At w.circuits k c
+pub noted-is : (k : ℕ) (place : ℕ) (g : Step) (replies : List Fields) (w : World) (c : Joined) → At w.circuits k c
     → unwrap_or (option_map (λ (c : Joined). with_circuit k (handled_at place g replies c) w) (slice_get w.circuits k)) w ≡ with_circuit k (handled_at place g replies c) w
 noted-is k place g replies w c at = ap (λ (o : Option Joined). unwrap_or (option_map (λ (c : Joined). with_circuit k (handled_at place g replies c) w) o) w) at
 
-map-about : (place : ℕ) (ms : List Fields) → map (λ (t : Told). t.message) (about place Reply ms) ≡ ms
+pub map-about : (place : ℕ) (ms : List Fields) → map (λ (t : Told). t.message) (about place Reply ms) ≡ ms
 map-about place [] = refl
 map-about place (m ∷ ms) = ap (λ (l : List Fields). m ∷ l) (map-about place ms)
 
