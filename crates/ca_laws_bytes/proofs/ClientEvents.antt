@@ -26,7 +26,7 @@ use Rattle.ca_laws_circuit.proofs.Handles.{same-itself}
 use Rattle.ca_laws_runs.specs.Circuit.{sent_to}
 use Rattle.ca_laws_runs.specs.Clients.{ClientsStand}
 use Rattle.ca_laws_runs.proofs.Worlds.{number-or}
-use Rattle.ca_laws_bytes.specs.Worlds.{AllStream, AreMessages, StreamsOn, client_end, sent_up, server_end}
+use Rattle.ca_laws_bytes.specs.Worlds.{AllStream, StreamsOn, client_end, sent_up, server_end}
 use Rattle.ca_laws_bytes.proofs.Clients.{called, client-acts, client-ends, client-kept, client-shut, client-took, connected-so, on-shut, out-of, spoke, stepped, up-open, up-shut}
 use Rattle.ca_laws_bytes.proofs.Links.{AllGoOn, GoesOn, clear-goes, connection-other, connection-own, ended-goes, finds-goes, goes-itself, goes-then, hears-goes, messages_on, effect-goes, messages-both, open-goes, put-goes, read-goes, subscribe-goes, unsubscribe-goes, write-goes}
 use Rattle.ca_laws_bytes.proofs.Streaming.{Acts}
@@ -48,9 +48,9 @@ refused-streams w new i x e is all = subst (λ (v : World). AllStream v) (sym is
 
 -- ---- calls
 
-module _ (w new : World) (i : ℕ) (x : ClientSide) (at : At w.clients i x) (s : ClientsStand w) (good : AreMessages w) (all : AllStream w) where
+module _ (w new : World) (i : ℕ) (x : ClientSide) (at : At w.clients i x) (s : ClientsStand w) (all : AllStream w) where
   done : (spoken : Names) (o : Outcomes) → AllGoOn x.core o.core o.sent → new ≡ client_after i x spoken o w → AllStream new
-  done spoken o goes is = subst (λ (v : World). AllStream v) (sym is) (called w i x spoken o at s good goes all)
+  done spoken o goes is = subst (λ (v : World). AllStream v) (sym is) (called w i x spoken o at s goes all)
 
   pub open-streams : (name : List ℕ) (priority : ℕ) → HappensOpen w i x name priority new → AllStream new
   open-streams name priority happens = elim happens [
@@ -123,7 +123,7 @@ handing-streams w new x number meant line happens all =
 
 -- ---- a step, and a cut
 
-module _ (w : World) (k : ℕ) (j : Joined) (x : ClientSide) (at : At w.circuits k j) (there : At w.clients j.client x) (opened : j.lists.client_open ≡ true) (s : ClientsStand w) (good : AreMessages w) (all : AllStream w) where
+module _ (w : World) (k : ℕ) (j : Joined) (x : ClientSide) (at : At w.circuits k j) (there : At w.clients j.client x) (opened : j.lists.client_open ≡ true) (s : ClientsStand w) (all : AllStream w) where
   -- an open end of another circuit has another handle
   apart : (l : ℕ) (a : Joined) → At w.circuits l a → (l ≡ k → ⊥) → a.client ≡ j.client → a.lists.client_open ≡ true → a.at_client ≡ j.at_client → ⊥
   apart l a on other mine is_open same =
@@ -143,7 +143,7 @@ module _ (w : World) (k : ℕ) (j : Joined) (x : ClientSide) (at : At w.circuits
       (append-nil d.0.link.output ∙ sym (out-of x.core j.at_client d.0 d.1) ∙ sym left ∙ sym (append-nil c.left)))
       (λ l a on other mine.
       spoke j.client x z x.names [] a mine (λ is_open. link l a on mine is_open)
-      (λ is_open. subst (λ (v : Client). GoesOn x.core v a.at_client []) (sym is) (ended-goes j.at_client a.at_client x.core (apart l a on other mine is_open)))) good all
+      (λ is_open. subst (λ (v : Client). GoesOn x.core v a.at_client []) (sym is) (ended-goes j.at_client a.at_client x.core (apart l a on other mine is_open)))) all
 
   pub cut-client-streams : (new : World) → HappensCutClient w k j x new → AllStream new
   cut-client-streams new happens = subst (λ (v : World). AllStream v) (sym happens.4) (ended-streams happens.0 happens.2 (ap (λ (c : Closing). c.left) happens.3.0) happens.3.2)
@@ -165,7 +165,7 @@ module _ (w : World) (k : ℕ) (j : Joined) (x : ClientSide) (at : At w.circuits
       (λ is_open.
       goes-then x.core y o.core a.at_client [] (messages_on a.at_client o.sent)
       (λ b there. (b, connection-other (λ (e : Connection). record e { link = with_rest rest e.link }) j.at_client a.at_client x.core b (apart l a on other mine is_open) there, refl, sym (append-nil b.link.output)))
-      (goes a.at_client))) good all
+      (goes a.at_client))) all
 
   pub client-step-streams : (new : World) → HappensClientStep w k j x new → AllStream new
   client-step-streams new happens = subst (λ (v : World). AllStream v) (sym happens.4) (go (connection_at x.core j.at_client) refl happens.0 happens.1 happens.2 happens.3)
@@ -187,23 +187,23 @@ pub mapped : (w new : World) (i : ℕ) (x z : ClientSide) (f : Joined → Joined
     → ((k : ℕ) (j : Joined) → At w.circuits k j → j.client ≡ i → Acts (client_end x j) (client_end z (f j)))
     → ((v : World) (j : Joined) → (j.client ≡ i → ⊥) → StreamsOn v j → StreamsOn v (f j))
     → ((j : Joined) → ((f j).client ≡ j.client) × ((f j).server ≡ j.server) × ((y : ServerSide) → server_end y (f j) ≡ server_end y j))
-    → AreMessages w → AllStream w → AllStream new
-mapped w new i x z f at clients servers circuits own others like good all k d stands =
+    → AllStream w → AllStream new
+mapped w new i x z f at clients servers circuits own others like all k d stands =
     let c = At-mapped f w.circuits k d (subst (λ (l : List Joined). At l k d) circuits stands) in
     subst (λ (v : Joined). StreamsOn new v) (sym c.2) (elim (number-or c.0.client i) [
       | inl mine ↦
-          client-acts w new i x z c.0 (f c.0) at clients servers mine ((like c.0).0 ∙ mine) (like c.0).1 (like c.0).2 (own k c.0 c.1 mine) (λ y. good.down k c.0 c.1) (all k c.0 c.1)
+          client-acts w new i x z c.0 (f c.0) at clients servers mine ((like c.0).0 ∙ mine) (like c.0).1 (like c.0).2 (own k c.0 c.1 mine) (all k c.0 c.1)
       | inr other ↦ others new c.0 other (client-kept w new i z c.0 clients servers other (all k c.0 c.1))
     ])
 
 -- ---- a new life
 
-pub client-restart-streams : (w new : World) (i : ℕ) (x : ClientSide) → At w.clients i x → ClientsStand w → AreMessages w → HappensClientRestart w i x new → AllStream w → AllStream new
-client-restart-streams w new i x at s good happens all =
+pub client-restart-streams : (w new : World) (i : ℕ) (x : ClientSide) → At w.clients i x → ClientsStand w → HappensClientRestart w i x new → AllStream w → AllStream new
+client-restart-streams w new i x at s happens all =
     let servers : List Address = addresses (map (λ (y : ServerSide). y.setting) w.servers) in
     let z : ClientSide = client_begun servers w.moment (length w.client_logs) x.setting in
     let after : World = with_client i z (record w { circuits = map (client_gone i x) w.circuits; client_logs = w.client_logs ++ [] ∷ [] }) in
-    subst (λ (v : World). AllStream v) (sym happens) (mapped w after i x z (client_gone i x) at refl refl refl own others like good all)
+    subst (λ (v : World). AllStream v) (sym happens) (mapped w after i x z (client_gone i x) at refl refl refl own others like all)
   where
     begun : ClientSide
     begun = client_begun (addresses (map (λ (y : ServerSide). y.setting) w.servers)) w.moment (length w.client_logs) x.setting

@@ -18,7 +18,7 @@ use Rattle.ca_laws_runs.specs.Circuit.{sent_to, stamped}
 use Rattle.ca_laws_runs.specs.Clients.{ClientsStand}
 use Rattle.ca_laws_runs.proofs.Worlds.{number-or, set-there}
 use Rattle.ca_laws_bytes.specs.Streams.{CircuitEnd, Meets}
-use Rattle.ca_laws_bytes.specs.Worlds.{AllStream, AreGood, AreMessages, StreamsOn, came_to, client_end, sent_up, server_end}
+use Rattle.ca_laws_bytes.specs.Worlds.{AllStream, StreamsOn, came_to, client_end, sent_up, server_end}
 use Rattle.ca_laws_bytes.proofs.Links.{AllGoOn, GoesOn, messages_on}
 use Rattle.ca_laws_bytes.proofs.Streaming.{Acts, Reads, close-acts, meets-on, open-acts, shut-acts}
 
@@ -147,8 +147,8 @@ client-kept w new i z j clients servers other s = record {
 
 -- the client's end of one of its circuits goes on
 pub client-acts : (w new : World) (i : ℕ) (x z : ClientSide) (j next : Joined) → At w.clients i x → new.clients ≡ slice_set w.clients i z → new.servers ≡ w.servers → j.client ≡ i → next.client ≡ i → next.server ≡ j.server
-    → ((y : ServerSide) → server_end y next ≡ server_end y j) → Acts (client_end x j) (client_end z next) → ((y : ServerSide) → AreGood (server_end y j).sent) → StreamsOn w j → StreamsOn new next
-client-acts w new i x z j next at clients servers mine same server side acts good s =
+    → ((y : ServerSide) → server_end y next ≡ server_end y j) → Acts (client_end x j) (client_end z next) → StreamsOn w j → StreamsOn new next
+client-acts w new i x z j next at clients servers mine same server side acts s =
     let is : s.x ≡ x = At-one w.clients i s.x x (subst (λ (n : ℕ). At w.clients n s.x) mine s.client) at in
     record {
       x = z;
@@ -156,17 +156,17 @@ client-acts w new i x z j next at clients servers mine same server side acts goo
       y = s.y;
       server = subst (λ (n : ℕ). At new.servers n s.y) (sym server) (subst (λ (l : List ServerSide). At l j.server s.y) (sym servers) s.server);
       meets = subst (λ (e : CircuitEnd). Meets (client_end z next) e) (sym (side s.y))
-          (meets-on (client_end x j) (client_end z next) (server_end s.y j) acts (good s.y) (subst (λ (v : ClientSide). Meets (client_end v j) (server_end s.y j)) is s.meets));
+          (meets-on (client_end x j) (client_end z next) (server_end s.y j) acts (subst (λ (v : ClientSide). Meets (client_end v j) (server_end s.y j)) is s.meets));
     }
 
 -- a call of client i
-pub called : (w : World) (i : ℕ) (x : ClientSide) (spoken : Names) (o : Outcomes) → At w.clients i x → ClientsStand w → AreMessages w → AllGoOn x.core o.core o.sent → AllStream w → AllStream (client_after i x spoken o w)
-called w i x spoken o at s good goes all k d there =
+pub called : (w : World) (i : ℕ) (x : ClientSide) (spoken : Names) (o : Outcomes) → At w.clients i x → ClientsStand w → AllGoOn x.core o.core o.sent → AllStream w → AllStream (client_after i x spoken o w)
+called w i x spoken o at s goes all k d there =
     let c = At-mapped (sent_to i spoken o.sent) w.circuits k d there in
     subst (λ (z : Joined). StreamsOn new z) (sym c.2) (elim (number-or c.0.client i) [
       | inl mine ↦
           client-acts w new i x side c.0 (sent_to i spoken o.sent c.0) at refl refl mine mine refl (λ y. refl)
-          (spoke i x side spoken o.sent c.0 mine (λ opened. s.connected k c.0 x c.1 (subst (λ (n : ℕ). At w.clients n x) (sym mine) at) opened) (λ opened. goes c.0.at_client)) (λ y. good.down k c.0 c.1) (all k c.0 c.1)
+          (spoke i x side spoken o.sent c.0 mine (λ opened. s.connected k c.0 x c.1 (subst (λ (n : ℕ). At w.clients n x) (sym mine) at) opened) (λ opened. goes c.0.at_client)) (all k c.0 c.1)
       | inr other ↦ other-streams i spoken o.sent new c.0 other (client-kept w new i side c.0 refl refl other (all k c.0 c.1))
     ])
   where
@@ -180,15 +180,15 @@ called w i x spoken o at s good goes all k d there =
 pub stepped : (w : World) (k : ℕ) (j next : Joined) (x : ClientSide) (spoken : Names) (o : Outcomes) → At w.circuits k j → At w.clients j.client x → next.client ≡ j.client → next.server ≡ j.server → ((y : ServerSide) → server_end y next ≡ server_end y j)
     → Acts (client_end x j) (client_end (record x { core = o.core; names = o.names }) (sent_to j.client spoken o.sent next))
     → ((l : ℕ) (a : Joined) → At w.circuits l a → (l ≡ k → ⊥) → a.client ≡ j.client → Acts (client_end x a) (client_end (record x { core = o.core; names = o.names }) (sent_to j.client spoken o.sent a)))
-    → AreMessages w → AllStream w → AllStream (client_after j.client x spoken o (with_circuit k next w))
-stepped w k j next x spoken o at there client server side own others good all l d stands =
+    → AllStream w → AllStream (client_after j.client x spoken o (with_circuit k next w))
+stepped w k j next x spoken o at there client server side own others all l d stands =
     let c = At-mapped (sent_to i spoken o.sent) (slice_set w.circuits k next) l d stands in
     subst (λ (z : Joined). StreamsOn new z) (sym c.2) (elim (At-set w.circuits k next l c.0 c.1) [
       | inl here ↦
           subst (λ (z : Joined). StreamsOn new (sent_to i spoken o.sent z)) (sym here.1)
-          (client-acts w new i x z j (sent_to i spoken o.sent next) there refl refl refl client server side own (λ y. good.down k j at) (all k j at))
+          (client-acts w new i x z j (sent_to i spoken o.sent next) there refl refl refl client server side own (all k j at))
       | inr old ↦ elim (number-or c.0.client i) [
-        | inl mine ↦ client-acts w new i x z c.0 (sent_to i spoken o.sent c.0) there refl refl mine mine refl (λ y. refl) (others l c.0 old.0 old.1 mine) (λ y. good.down l c.0 old.0) (all l c.0 old.0)
+        | inl mine ↦ client-acts w new i x z c.0 (sent_to i spoken o.sent c.0) there refl refl mine mine refl (λ y. refl) (others l c.0 old.0 old.1 mine) (all l c.0 old.0)
         | inr other ↦ other-streams i spoken o.sent new c.0 other (client-kept w new i z c.0 refl refl other (all l c.0 old.0))
       ]
     ])

@@ -28,7 +28,7 @@ use Rattle.ca_laws_runs.proofs.ClientsMore.{unconnected-is, wanted-there}
 use Rattle.ca_laws_runs.proofs.Worlds.{number-or, set-there}
 use Rattle.ca_laws_writes.specs.Seats.{Seated}
 use Rattle.ca_laws_bytes.specs.Streams.{CircuitEnd, Meets, Streams}
-use Rattle.ca_laws_bytes.specs.Worlds.{AllStream, AreGood, AreMessages, StreamsOn, came_to, client_end, input_of, sent_down, sent_up, server_end}
+use Rattle.ca_laws_bytes.specs.Worlds.{AllStream, StreamsOn, came_to, client_end, input_of, sent_down, sent_up, server_end}
 use Rattle.ca_laws_bytes.proofs.ClientEvents.{same-streams}
 use Rattle.ca_laws_bytes.proofs.Clients.{client-open, client-shut, connected-so, on-shut, on-other, out-of, spoke, up-shut, waits-open, waits-shut, came-so}
 use Rattle.ca_laws_bytes.proofs.Moves.{both-on, client-or, given-bytes, quiet-client, quiet-server, server-or}
@@ -37,7 +37,7 @@ use Rattle.ca_laws_bytes.proofs.ServerEnds.{Stays, end-own, go-end, open-one}
 use Rattle.ca_laws_bytes.proofs.Servers.{seat-of, server-came, server-left, server-open, server-shut, server-waits}
 use Rattle.ca_laws_bytes.proofs.Streaming.{Acts, acts-itself, meets-moved, meets-on, meets-on-back, meets-new, meets-turned, streams-new}
 
-module _ (w : World) (k n : ℕ) (j : Joined) (x : ClientSide) (y : ServerSide) (on : At w.circuits k j) (client : At w.clients j.client x) (server : At w.servers j.server y) (opened : j.lists.client_open ≡ true) (s : ClientsStand w) (seated : Seated w) (good : AreMessages w) (all : AllStream w) where
+module _ (w : World) (k n : ℕ) (j : Joined) (x : ClientSide) (y : ServerSide) (on : At w.circuits k j) (client : At w.clients j.client x) (server : At w.servers j.server y) (opened : j.lists.client_open ≡ true) (s : ClientsStand w) (seated : Seated w) (all : AllStream w) where
   apart : (l : ℕ) (a : Joined) → At w.circuits l a → (l ≡ k → ⊥) → a.client ≡ j.client → a.lists.client_open ≡ true → a.at_client ≡ j.at_client → ⊥
   apart l a at other mine is_open same =
       other (s.handles l k a j at on mine is_open opened (subst (λ (h : Handle). same_handle a.at_client h ≡ true) same (same-itself a.at_client)))
@@ -94,9 +94,9 @@ module _ (w : World) (k n : ℕ) (j : Joined) (x : ClientSide) (y : ServerSide) 
 
     -- the ends of this circuit, at a server's end that handed these bytes over
     moved : (v : ServerSide) (j1 : Joined) → bytes ≡ take n (waiting_down y j) → client_end (record x { core = come bytes more }) j1 ≡ client_end (record x { core = come bytes more }) j → Acts (client_end (record x { core = come bytes more }) j1) (client_end z (f j1))
-        → server_end v j1 ≡ record (server_end y j) { waiting = drop n (waiting_down y j) } → AreGood (sent_down j) → Meets (client_end z (f j1)) (server_end v j1)
-    moved v j1 are same acts is down =
-        meets-on (client_end (record x { core = come bytes more }) j1) (client_end z (f j1)) (server_end v j1) acts (subst (λ (q : CircuitEnd). AreGood q.sent) (sym is) down)
+        → server_end v j1 ≡ record (server_end y j) { waiting = drop n (waiting_down y j) } → Meets (client_end z (f j1)) (server_end v j1)
+    moved v j1 are same acts is =
+        meets-on (client_end (record x { core = come bytes more }) j1) (client_end z (f j1)) (server_end v j1) acts
         (subst (λ (q : CircuitEnd × CircuitEnd). Meets q.0 q.1) (λ i. (sym (same ∙ came-here bytes more ∙ ap (λ (l : List ℕ). record (client_end x j) { came = (client_end x j).came ++ l }) are) i, sym is i))
         (meets-turned _ _ (meets-moved (server_end y j) (client_end x j) n (meets-turned _ _ here))))
 
@@ -119,10 +119,10 @@ module _ (w : World) (k n : ℕ) (j : Joined) (x : ClientSide) (y : ServerSide) 
                 client = set-there w.clients j.client z (At-within w.clients j.client x client);
                 y = v;
                 server = set-there w.servers j.server v (At-within w.servers j.server y server);
-                meets = moved v j are refl own-acts handed (good.down k j on);
+                meets = moved v j are refl own-acts handed;
               })
           | inr other ↦
-              both-on w new c.0 (f c.0) (all l c.0 c.1) (good.up l c.0 c.1) (good.down l c.0 c.1) (client-or w new j.client x z c.0 (f c.0) client refl refl (other-acts l c.0 c.1 other) (far-acts c.0))
+              both-on w new c.0 (f c.0) (all l c.0 c.1) (client-or w new j.client x z c.0 (f c.0) client refl refl (other-acts l c.0 c.1 other) (far-acts c.0))
               (server-or w new j.server y v c.0 (f c.0) server refl refl
               (λ mine.
               quiet-server y v c.0 (λ q.
@@ -151,10 +151,10 @@ module _ (w : World) (k n : ℕ) (j : Joined) (x : ClientSide) (y : ServerSide) 
                 client = set-there w.clients j.client z (At-within w.clients j.client x client);
                 y = y;
                 server = server;
-                meets = moved y j1 are refl (spoke j.client (record x { core = come bytes more }) z x.names sent j1 refl (λ q. come-connected bytes more) (λ q. goes j.at_client)) handed (good.down k j on);
+                meets = moved y j1 are refl (spoke j.client (record x { core = come bytes more }) z x.names sent j1 refl (λ q. come-connected bytes more) (λ q. goes j.at_client)) handed;
               })
           | inr old ↦
-              both-on w new c.0 (f c.0) (all l c.0 old.0) (good.up l c.0 old.0) (good.down l c.0 old.0) (client-or w new j.client x z c.0 (f c.0) client refl refl (other-acts l c.0 old.0 old.1) (far-acts c.0)) (λ q at. (q, at, acts-itself (server_end q c.0)))
+              both-on w new c.0 (f c.0) (all l c.0 old.0) (client-or w new j.client x z c.0 (f c.0) client refl refl (other-acts l c.0 old.0 old.1) (far-acts c.0)) (λ q at. (q, at, acts-itself (server_end q c.0)))
         ])
       where
         j1 : Joined

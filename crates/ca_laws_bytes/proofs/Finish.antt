@@ -29,7 +29,7 @@ use Rattle.ca_laws_writes.proofs.Going.{came-as}
 use Rattle.ca_laws_writes.proofs.Lists.{both-at}
 use Rattle.ca_laws_writes.proofs.Lives.{others-apart}
 use Rattle.ca_laws_writes.proofs.Midway.{set-here}
-use Rattle.ca_laws_bytes.specs.Worlds.{AllStream, AreMessages, HandlesStand, sent_down}
+use Rattle.ca_laws_bytes.specs.Worlds.{AllStream, HandlesStand, sent_down}
 use Rattle.ca_laws_bytes.proofs.Clients.{map-both}
 use Rattle.ca_laws_bytes.proofs.Handles.{handles-after, over-by-core}
 use Rattle.ca_laws_bytes.proofs.ServerEnds.{AllGo, Goes, Stays, go-end, go-same, go-then, next-go, open-one, replies-own}
@@ -180,11 +180,11 @@ module _ (s : Setting) (w new : World) (i : ℕ) (y : ServerSide) (name : List �
       go None = refl
       go (Some j) = refl
 
-  pub finished-streams : AreMessages w → AllStream w → AllStream new
-  finished-streams good all =
+  pub finished-streams : AllStream w → AllStream new
+  finished-streams all =
       subst (λ (z : World). AllStream z) (sym f.leaves)
       (after-streams w mid i y side f.core at mid-clients (λ l s stands other. subst (λ (q : List ServerSide). At q l s) (sym mid-servers) (At-set-other w.servers i l s side stands other))
-      (side, subst (λ (q : List ServerSide). At q i side) (sym mid-servers) (set-here w.servers i y side at)) back sound.seated good all)
+      (side, subst (λ (q : List ServerSide). At q i side) (sym mid-servers) (set-here w.servers i y side at)) back sound.seated all)
     where
       back : (n : ℕ) (m : Joined) → At mid.circuits n m → (c : Joined) × At w.circuits n c × (more : List Fields) × Tells c m more × (c.server ≡ i → c.lists.server_open ≡ true → Goes y.core f.core c.at_server more)
           × ((c.server ≡ i → c.lists.server_open ≡ true → ⊥) → more ≡ [])
@@ -223,9 +223,9 @@ module _ (s : Setting) (w new : World) (i : ℕ) (y : ServerSide) (name : List �
       let c = mid-is n m there in
       elim c.2 [ inl here ↦ (c.0, c.1, here.1.like, here.1.is_open) | inr other ↦ (c.0, c.1, other.1.like, other.1.is_open) ]) (over-by-core i f.core) stand)
 
-pub finish-streams : (s : Setting) (w new : World) (i : ℕ) (y : ServerSide) (name : List ℕ) → At w.servers i y → Sound s w → HandlesStand w → AreMessages w → HappensFinish w i y name new → AllStream w → AllStream new
-finish-streams s w new i y name at sound stand good (inl f) all = finished-streams s w new i y name at sound stand f good all
-finish-streams s w new i y name at sound stand good (inr refused) all = subst (λ (z : World). AllStream z) (sym refused.2) all
+pub finish-streams : (s : Setting) (w new : World) (i : ℕ) (y : ServerSide) (name : List ℕ) → At w.servers i y → Sound s w → HandlesStand w → HappensFinish w i y name new → AllStream w → AllStream new
+finish-streams s w new i y name at sound stand (inl f) all = finished-streams s w new i y name at sound stand f all
+finish-streams s w new i y name at sound stand (inr refused) all = subst (λ (z : World). AllStream z) (sym refused.2) all
 
 pub finish-handles : (s : Setting) (w new : World) (i : ℕ) (y : ServerSide) (name : List ℕ) → At w.servers i y → Sound s w → HandlesStand w → HappensFinish w i y name new → HandlesStand new
 finish-handles s w new i y name at sound stand (inl f) = finished-handles s w new i y name at sound stand f

@@ -28,7 +28,7 @@ use Rattle.ca_laws_runs.proofs.ClientsMore.{unconnected-is, wanted-there}
 use Rattle.ca_laws_runs.proofs.Worlds.{number-or, set-there}
 use Rattle.ca_laws_writes.specs.Seats.{Seated}
 use Rattle.ca_laws_bytes.specs.Streams.{CircuitEnd, Meets, Streams}
-use Rattle.ca_laws_bytes.specs.Worlds.{AllStream, AreGood, AreMessages, StreamsOn, came_to, client_end, input_of, sent_down, sent_up, server_end}
+use Rattle.ca_laws_bytes.specs.Worlds.{AllStream, StreamsOn, came_to, client_end, input_of, sent_down, sent_up, server_end}
 use Rattle.ca_laws_bytes.proofs.ClientEvents.{same-streams}
 use Rattle.ca_laws_bytes.proofs.Clients.{client-open, client-shut, connected-so, on-shut, on-other, out-of, spoke, up-shut, waits-open, waits-shut, came-so}
 use Rattle.ca_laws_bytes.proofs.Moves.{both-on, client-or, given-bytes, quiet-client, quiet-server, server-or}
@@ -78,21 +78,17 @@ module _ (i : ℕ) (x : ClientSide) (z : ClientSide) (v : ServerSide) (at : ℕ)
       let is : connection_at u.core c ≡ Some e = at-circuit u.core c (record d { connection = Some e }) (changed-own (λ (v : ClientCircuit). record v { connection = Some (new_connection x.core.moment) }) x.core.circuits c d there) in
       meets-on (client_end u n) (client_end z (sent_to i x.names sent n)) (server_end side n)
       (spoke i u z x.names sent n refl (λ q. ap is_none is) (λ q. goes-does u.core u.core z.core _ sent (λ g. goes-itself u.core u.core g refl) does c))
-      (λ l m stands. absurd (no_message l m stands))
       (meets-new (client_end u n) (server_end side n) (came-so u.core c e is) (server-came side n (new_end v.core.moment) has-new) (waits-open u n e refl is) (server-waits side n (new_end v.core.moment) refl has-new) refl refl refl refl)
-    where
-      no_message : (l : ℕ) (m : Fields) → At [] l m → ⊥
-      no_message l m e = cc
   new-meets (Some k) does =
       let ended_n : Joined = client_closed k.left n in
       let left : k.left ≡ [] = ap (λ (q : Closing). q.left) does.0 ∙ ap (λ (o : Option Connection). unwrap_or (option_map (λ (e : Connection). e.link.output) o) []) (at-circuit x.core c d there ∙ none) in
       record {
-        there = λ e. streams-new (client_end z (sent_to i x.names sent ended_n)) (server_end side ended_n) (server-came side n (new_end v.core.moment) has-new) left (up-shut i x.names sent ended_n refl) refl;
-        back = λ e. absurd (both_ways false refl e);
+        there = λ e good. streams-new (client_end z (sent_to i x.names sent ended_n)) (server_end side ended_n) (server-came side n (new_end v.core.moment) has-new) left (up-shut i x.names sent ended_n refl) refl;
+        back = λ e good. absurd (both_ways false refl e);
       }
 
-pub accept-streams : (w new : World) (c : ℕ) (x : ClientSide) (v : WantsFirst w x) → At w.clients c x → ClientsStand w → Seated w → AreMessages w → HappensAccept w c x v new → AllStream w → AllStream new
-accept-streams w new c x v at s seated good happens all = elim happens.leaves [
+pub accept-streams : (w new : World) (c : ℕ) (x : ClientSide) (v : WantsFirst w x) → At w.clients c x → ClientsStand w → Seated w → HappensAccept w c x v new → AllStream w → AllStream new
+accept-streams w new c x v at s seated happens all = elim happens.leaves [
   | inl refusal ↦ subst (λ (u : World). AllStream u) (sym refusal.1) all
   | inr did ↦ made did.0 did.1 did.2 did.3 did.4 did.5 did.6
 ]
@@ -144,7 +140,7 @@ accept-streams w new c x v at s seated good happens all = elim happens.leaves [
             let m = At-mapped f (w.circuits ++ n ∷ []) l d there in
             subst (λ (q : Joined). StreamsOn after q) (sym m.2) (elim (At-snoc w.circuits n l m.0 m.1) [
               | inl old ↦
-                  both-on w after m.0 (f m.0) (all l m.0 old) (good.up l m.0 old) (good.down l m.0 old)
+                  both-on w after m.0 (f m.0) (all l m.0 old)
                   (client-or w after c x z m.0 (f m.0) at refl refl (λ mine. spoke c x z x.names sent m.0 mine (λ q. s.connected l m.0 x old (subst (λ (b : ℕ). At w.clients b x) (sym mine) at) q) (λ q. goes m.0.at_client))
                   (λ far q.
                   subst (λ (b : List history.Sent). Acts (client_end q m.0) (client_end q (record m.0 { lists = record m.0.lists { up = b } }))) (sym (ap (λ (b : List history.Sent). m.0.lists.up ++ b) (on-other c x.names sent m.0 far) ∙ append-nil m.0.lists.up))

@@ -27,7 +27,7 @@ use Rattle.ca_laws_runs.proofs.ClientsMore.{unconnected-is, wanted-there}
 use Rattle.ca_laws_runs.proofs.Worlds.{number-or, set-there}
 use Rattle.ca_laws_writes.specs.Seats.{Seated}
 use Rattle.ca_laws_bytes.specs.Streams.{CircuitEnd, Meets, Streams}
-use Rattle.ca_laws_bytes.specs.Worlds.{AllStream, AreGood, AreMessages, StreamsOn, came_to, client_end, input_of, sent_down, sent_up, server_end}
+use Rattle.ca_laws_bytes.specs.Worlds.{AllStream, StreamsOn, came_to, client_end, input_of, sent_down, sent_up, server_end}
 use Rattle.ca_laws_bytes.proofs.ClientEvents.{same-streams}
 use Rattle.ca_laws_bytes.proofs.Clients.{client-open, client-shut, connected-so, on-shut, on-other, out-of, spoke, up-shut, waits-open, waits-shut, came-so}
 use Rattle.ca_laws_bytes.proofs.Links.{AllGoOn, GoesOn, at-circuit, circuit-of, connection-other, connection-own, ended-goes, goes-does, goes-itself, goes-sending, goes-then, messages_on}
@@ -55,9 +55,9 @@ quiet-server y z c goes = elim (cases_Bool c.lists.server_open) [
 ]
 
 -- both ends of a circuit go on
-pub both-on : (w new : World) (c d : Joined) → StreamsOn w c → AreGood (sent_up c) → AreGood (sent_down d) → ((v : ClientSide) → At w.clients c.client v → (u : ClientSide) × At new.clients d.client u × Acts (client_end v c) (client_end u d))
+pub both-on : (w new : World) (c d : Joined) → StreamsOn w c → ((v : ClientSide) → At w.clients c.client v → (u : ClientSide) × At new.clients d.client u × Acts (client_end v c) (client_end u d))
     → ((v : ServerSide) → At w.servers c.server v → (u : ServerSide) × At new.servers d.server u × Acts (server_end v c) (server_end u d)) → StreamsOn new d
-both-on w new c d s up down client server =
+both-on w new c d s client server =
     let a = client s.x s.client in
     let b = server s.y s.server in
     record {
@@ -65,7 +65,7 @@ both-on w new c d s up down client server =
       client = a.1;
       y = b.0;
       server = b.1;
-      meets = meets-on (client_end s.x c) (client_end a.0 d) (server_end b.0 d) a.2 down (meets-on-back (server_end s.y c) (server_end b.0 d) (client_end s.x c) b.2 up s.meets);
+      meets = meets-on (client_end s.x c) (client_end a.0 d) (server_end b.0 d) a.2 (meets-on-back (server_end s.y c) (server_end b.0 d) (client_end s.x c) b.2 s.meets);
     }
 
 -- a side of which this one is changed
@@ -119,7 +119,7 @@ handed-own x c n d is =
     ap (λ (o : Option Connection). connection_at (cond (is_some o) (on_connection (λ (e : Connection). record e { link = with_handed n e.link }) c x) x) c) is
     ∙ connection-own (λ (e : Connection). record e { link = with_handed n e.link }) c x d is
 
-module _ (w : World) (k n : ℕ) (j : Joined) (x : ClientSide) (y : ServerSide) (on : At w.circuits k j) (client : At w.clients j.client x) (server : At w.servers j.server y) (s : ClientsStand w) (seated : Seated w) (good : AreMessages w) (all : AllStream w) where
+module _ (w : World) (k n : ℕ) (j : Joined) (x : ClientSide) (y : ServerSide) (on : At w.circuits k j) (client : At w.clients j.client x) (server : At w.servers j.server y) (s : ClientsStand w) (seated : Seated w) (all : AllStream w) where
   client-apart : (l : ℕ) (a : Joined) → At w.circuits l a → (l ≡ k → ⊥) → a.client ≡ j.client → a.lists.client_open ≡ true → j.lists.client_open ≡ true → a.at_client ≡ j.at_client → ⊥
   client-apart l a at other mine is_open opened same =
       other (s.handles l k a j at on mine is_open opened (subst (λ (h : Handle). same_handle a.at_client h ≡ true) same (same-itself a.at_client)))
@@ -182,7 +182,7 @@ module _ (w : World) (k n : ℕ) (j : Joined) (x : ClientSide) (y : ServerSide) 
                   meets = subst (λ (q : CircuitEnd × CircuitEnd). Meets q.0 q.1) (λ i. (sym mine i, sym (given-own (take n (waiting_up x j)) core j gives opened refl refl refl refl) i)) (meets-moved (client_end x j) (server_end y j) n here);
                 })
             | inr other ↦
-                both-on w v d d (all l d there) (good.up l d there) (good.down l d there)
+                both-on w v d d (all l d there)
                 (client-or w v j.client x u d d client refl refl
                 (λ own. quiet-client x u d (λ q. client-link l d there own q) (λ q. handed-goes x.core j.at_client d.at_client n (client-apart l d there other own q is_open)))
                 (λ far q. acts-itself (client_end q d)))
@@ -204,6 +204,6 @@ module _ (w : World) (k n : ℕ) (j : Joined) (x : ClientSide) (y : ServerSide) 
                   meets = subst (λ (q : CircuitEnd × CircuitEnd). Meets q.0 q.1) (λ i. (sym mine i, sym (given-own (take n (waiting_up x j)) core j1 gives opened refl refl refl refl) i)) (meets-moved (client_end x j) (server_end y j) n here);
                 })
             | inr old ↦
-                both-on w v d d (all l d old.0) (good.up l d old.0) (good.down l d old.0) (λ q at. (q, at, acts-itself (client_end q d)))
+                both-on w v d d (all l d old.0) (λ q at. (q, at, acts-itself (client_end q d)))
                 (server-or w v j.server y z d d server refl refl (λ own. given-other (take n (waiting_up x j)) core gives opened l d old.0 old.1 own) (λ far q. acts-itself (server_end q d)))
           ]

@@ -29,7 +29,7 @@ use Rattle.ca_model_world.specs.World.{ClientSide, Creation, Joined, RecordSide,
 use Rattle.ca_laws_circuit.proofs.Handles.{handle-or}
 use Rattle.ca_laws_writes.specs.Seats.{Seated}
 use Rattle.ca_laws_writes.proofs.Midway.{set-here}
-use Rattle.ca_laws_bytes.specs.Worlds.{AllStream, AreMessages, sent_down, server_end}
+use Rattle.ca_laws_bytes.specs.Worlds.{AllStream, sent_down, server_end}
 use Rattle.ca_laws_bytes.proofs.Clients.{map-both}
 use Rattle.ca_laws_bytes.proofs.ServerEnds.{AllGo, Ends, Goes, Stays, ended-go, ended-own, go-end, go-same, end-own, leaves-all, open-one, post-go, removal-goes, go-then}
 use Rattle.ca_laws_bytes.proofs.Servers.{Like, Tells, after-streams, ending-like, like-itself, seat-of, server-ends, server-event, server-shut, tells-itself, tells-then}
@@ -64,14 +64,14 @@ mapped-back w f core new i tells go n m at =
 
 -- ---- a post
 
-pub post-streams : (w new : World) (i : ℕ) (y : ServerSide) (name : List ℕ) (e : Elements) (mask : ℕ) → At w.servers i y → Seated w → AreMessages w → HappensPost w i y name e mask new → AllStream w → AllStream new
-post-streams w new i y name e mask at seated good (gone, core, inl (posts, is)) all =
+pub post-streams : (w new : World) (i : ℕ) (y : ServerSide) (name : List ℕ) (e : Elements) (mask : ℕ) → At w.servers i y → Seated w → HappensPost w i y name e mask new → AllStream w → AllStream new
+post-streams w new i y name e mask at seated (gone, core, inl (posts, is)) all =
     let v : Stored = record { value = e; meta = unset } in
     let stored : Server = record y.core { records = with_record name (with_value v.value v.meta) y.core.records } in
     let go : AllGo y.core core = subst (λ (x : Server). AllGo y.core x) (sym posts.2) (λ h. go-then y.core stored (after_post name mask v gone stored) h [] [] (λ d has. (d, has, refl, sym (append-nil d.link.output))) (post-go name mask v gone stored h)) in
     subst (λ (z : World). AllStream z) (sym is)
-    (after-streams w _ i y y core at refl (λ l s on other. on) (y, at) (mapped-back w (numbers_posted i y.core name mask) y.core core i (posted-tells i y.core name mask) go) seated good all)
-post-streams w new i y name e mask at seated good (gone, core, inr refused) all = subst (λ (z : World). AllStream z) (sym refused.3) all
+    (after-streams w _ i y y core at refl (λ l s on other. on) (y, at) (mapped-back w (numbers_posted i y.core name mask) y.core core i (posted-tells i y.core name mask) go) seated all)
+post-streams w new i y name e mask at seated (gone, core, inr refused) all = subst (λ (z : World). AllStream z) (sym refused.3) all
 
 -- ---- a cut
 
@@ -91,10 +91,10 @@ pub itself-back : (w : World) (core new : Server) (i : ℕ) → AllGo core new �
     × ((c.server ≡ i → c.lists.server_open ≡ true → ⊥) → more ≡ [])
 itself-back w core new i go n m at = (m, at, [], tells-itself m, (λ mine opened. go m.at_server), (λ none. refl))
 
-pub cut-streams : (w new : World) (k : ℕ) (j : Joined) (y : ServerSide) → At w.servers j.server y → Seated w → AreMessages w → HappensCutServer w k j y new → AllStream w → AllStream new
-cut-streams w new k j y at seated good f all =
+pub cut-streams : (w new : World) (k : ℕ) (j : Joined) (y : ServerSide) → At w.servers j.server y → Seated w → HappensCutServer w k j y new → AllStream w → AllStream new
+cut-streams w new k j y at seated f all =
     subst (λ (z : World). AllStream z) (sym f.leaves)
-    (after-streams w w j.server y y f.core at refl (λ l s on other. on) (y, at) (itself-back w y.core f.core j.server (cuts-go y.core j.at_server f.core f.cuts)) seated good all)
+    (after-streams w w j.server y y f.core at refl (λ l s on other. on) (y, at) (itself-back w y.core f.core j.server (cuts-go y.core j.at_server f.core f.cuts)) seated all)
 
 -- ---- a pump
 
@@ -146,11 +146,11 @@ one-back w k j d ms core new at opened seated tells own others n m there = elim 
       (m, old.0, [], tells-itself m, (λ mine is_open. others m.at_server (λ same. old.1 (seated.one n k m j old.0 at mine is_open opened same))), (λ none. refl))
 ]
 
-pub pump-streams : (w new : World) (k : ℕ) (j : Joined) (y : ServerSide) → At w.circuits k j → At w.servers j.server y → j.lists.server_open ≡ true → Seated w → AreMessages w → HappensPump w k j y new → AllStream w → AllStream new
-pump-streams w new k j y on at opened seated good f all =
+pub pump-streams : (w new : World) (k : ℕ) (j : Joined) (y : ServerSide) → At w.circuits k j → At w.servers j.server y → j.lists.server_open ≡ true → Seated w → HappensPump w k j y new → AllStream w → AllStream new
+pump-streams w new k j y on at opened seated f all =
     subst (λ (z : World). AllStream z) (sym f.leaves)
     (after-streams w (with_circuit k (stamped f.updates j) w) j.server y y f.core at refl (λ l s on other. on) (y, at)
-    (one-back w k j (stamped f.updates j) _ y.core f.core on opened seated (stamped-tells f.updates j) (pumps-own y.core j.at_server f.updates f.core f.pumps) (pumps-others y.core j.at_server f.updates f.core f.pumps)) seated good all)
+    (one-back w k j (stamped f.updates j) _ y.core f.core on opened seated (stamped-tells f.updates j) (pumps-own y.core j.at_server f.updates f.core f.pumps) (pumps-others y.core j.at_server f.updates f.core f.pumps)) seated all)
 
 -- ---- a removal
 
@@ -163,11 +163,11 @@ map-take f zero xs = refl
 map-take f (suc n) [] = refl
 map-take {A} {B} f (suc n) (x ∷ xs) = ap (λ (l : List B). f x ∷ l) (map-take f n xs)
 
-pub remove-streams : (w new : World) (i : ℕ) (y : ServerSide) (name : List ℕ) → At w.servers i y → Seated w → AreMessages w → HappensRemove w i y name new → AllStream w → AllStream new
-remove-streams w new i y name at seated good (gone, left, core, inr (removes, is)) all = subst (λ (z : World). AllStream z) (sym is) all
-remove-streams w new i y name at seated good (gone, left, core, inl (removes, is)) all =
+pub remove-streams : (w new : World) (i : ℕ) (y : ServerSide) (name : List ℕ) → At w.servers i y → Seated w → HappensRemove w i y name new → AllStream w → AllStream new
+remove-streams w new i y name at seated (gone, left, core, inr (removes, is)) all = subst (λ (z : World). AllStream z) (sym is) all
+remove-streams w new i y name at seated (gone, left, core, inl (removes, is)) all =
     subst (λ (z : World). AllStream z) (sym is)
-    (after-streams w _ i y side core at refl (λ l s on other. At-set-other w.servers i l s side on other) (side, set-here w.servers i y side at) back seated good all)
+    (after-streams w _ i y side core at refl (λ l s on other. At-set-other w.servers i l s side on other) (side, set-here w.servers i y side at) back seated all)
   where
     side : ServerSide
     side = record y { records = filter (λ (r : RecordSide). not (bytes_eq r.name name)) y.records }
@@ -228,12 +228,12 @@ remove-streams w new i y name at seated good (gone, left, core, inl (removes, is
 
 -- ---- an addition, and a new life
 
-pub add-streams : (w new : World) (i : ℕ) (y : ServerSide) (r : RecordState) → At w.servers i y → AreMessages w → HappensAdd w i y r new → AllStream w → AllStream new
-add-streams w new i y r at good (core, behind, inr refused) all = subst (λ (z : World). AllStream z) (sym refused.3) all
-add-streams w new i y r at good (core, behind, inl (adds, is)) all =
+pub add-streams : (w new : World) (i : ℕ) (y : ServerSide) (r : RecordState) → At w.servers i y → HappensAdd w i y r new → AllStream w → AllStream new
+add-streams w new i y r at (core, behind, inr refused) all = subst (λ (z : World). AllStream z) (sym refused.3) all
+add-streams w new i y r at (core, behind, inl (adds, is)) all =
     subst (λ (z : World). AllStream z) (sym is)
     (server-event w _ i y _ at (set-here w.servers i y _ at) (λ l s on other. At-set-other w.servers i l s _ on other) refl
-    (λ n d there. (d, there, like-itself d, (λ mine. same-acts d), (λ other s. refl))) good all)
+    (λ n d there. (d, there, like-itself d, (λ mine. same-acts d), (λ other s. refl))) all)
   where
     same : core.circuits ≡ y.core.circuits
     same = ap (λ (x : Server). x.circuits) adds.1
@@ -242,10 +242,10 @@ add-streams w new i y r at good (core, behind, inl (adds, is)) all =
     same-acts d =
         subst (λ (t : Table ServerCircuit). Acts (server_end y d) (server_end (record y { core = record core { circuits = t } }) d)) (sym same) (acts-itself (server_end y d))
 
-pub server-restart-streams : (w new : World) (i : ℕ) (y : ServerSide) → At w.servers i y → Seated w → AreMessages w → HappensServerRestart w i y new → AllStream w → AllStream new
-server-restart-streams w new i y at seated good is all =
+pub server-restart-streams : (w new : World) (i : ℕ) (y : ServerSide) → At w.servers i y → Seated w → HappensServerRestart w i y new → AllStream w → AllStream new
+server-restart-streams w new i y at seated is all =
     subst (λ (v : World). AllStream v) (sym is)
-    (server-event w _ i y z at (set-here w.servers i y z at) (λ l s on other. At-set-other w.servers i l s z on other) refl back good all)
+    (server-event w _ i y z at (set-here w.servers i y z at) (λ l s on other. At-set-other w.servers i l s z on other) refl back all)
   where
     z : ServerSide
     z = server_begun w.moment (length w.server_logs) y.setting

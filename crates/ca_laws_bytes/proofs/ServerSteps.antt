@@ -24,7 +24,7 @@ use Rattle.ca_laws_runs.proofs.Placed.{options-agree}
 use Rattle.ca_laws_runs.proofs.Worlds.{number-or}
 use Rattle.ca_laws_writes.specs.Seats.{Seated}
 use Rattle.ca_laws_writes.proofs.Midway.{set-here}
-use Rattle.ca_laws_bytes.specs.Worlds.{AllStream, AreMessages, sent_down, server_end}
+use Rattle.ca_laws_bytes.specs.Worlds.{AllStream, sent_down, server_end}
 use Rattle.ca_laws_bytes.proofs.Clients.{map-both}
 use Rattle.ca_laws_bytes.proofs.ServerEnds.{AllGo, Goes, Stays, go-same, go-then, next-others, next-own, open-one, reaches-go, reaches-stays}
 use Rattle.ca_laws_bytes.proofs.ServerEvents.{posted-tells}
@@ -83,7 +83,7 @@ pub map-about : (place : ℕ) (ms : List Fields) → map (λ (t : Told). t.messa
 map-about place [] = refl
 map-about place (m ∷ ms) = ap (λ (l : List Fields). m ∷ l) (map-about place ms)
 
-module _ (w : World) (k : ℕ) (j : Joined) (y : ServerSide) (on : At w.circuits k j) (at : At w.servers j.server y) (opened : j.lists.server_open ≡ true) (seated : Seated w) (good : AreMessages w) (all : AllStream w) where
+module _ (w : World) (k : ℕ) (j : Joined) (y : ServerSide) (on : At w.circuits k j) (at : At w.servers j.server y) (opened : j.lists.server_open ≡ true) (seated : Seated w) (all : AllStream w) where
   -- an open end of another circuit of the server has another handle
   apart : (n : ℕ) (c : Joined) → At w.circuits n c → (n ≡ k → ⊥) → c.server ≡ j.server → c.lists.server_open ≡ true → c.at_server ≡ j.at_server → ⊥
   apart n c there other mine is_open same = other (seated.one n k c j there on mine is_open opened same)
@@ -92,7 +92,7 @@ module _ (w : World) (k : ℕ) (j : Joined) (y : ServerSide) (on : At w.circuits
   next-go e next gone core reaches g other = go-then y.core next.after core g [] [] (next-others y.core j.at_server e next g other) (reaches-go next.action gone next.after core reaches g)
 
   pub handled-streams : (new : World) → StepHandles w k j y new → AllStream new
-  handled-streams new f = subst (λ (v : World). AllStream v) (sym (f.leaves ∙ noted-is k (length j.lists.handled) g next.replies ended own own-there)) (server-event w after j.server y z at now others refl back good all)
+  handled-streams new f = subst (λ (v : World). AllStream v) (sym (f.leaves ∙ noted-is k (length j.lists.handled) g next.replies ended own own-there)) (server-event w after j.server y z at now others refl back all)
     where
       next : Next y.core j.at_server f.e
       next = f.steps.0
@@ -234,7 +234,7 @@ module _ (w : World) (k : ℕ) (j : Joined) (y : ServerSide) (on : At w.circuits
       → ((g : Handle) → (g ≡ j.at_server → ⊥) → Goes y.core core g []) → ((m : Joined) (o : Option (List ℕ)) (more : (m.at_server ≡ j.at_server → ⊥)) → ends_by j.server core m ≡ o → ends_by j.server said m ≡ o)
       → AllStream (server_after j.server side (ends_here j left j.server said) core mid)
   closing-streams mid side left e core said has is clients others there back goes same =
-      server-event w new j.server y z at (set-here mid.servers j.server there.0 z there.1) (λ l s stands other. At-set-other mid.servers j.server l s z (others l s stands other) other) clients circuits good all
+      server-event w new j.server y z at (set-here mid.servers j.server there.0 z there.1) (λ l s stands other. At-set-other mid.servers j.server l s z (others l s stands other) other) clients circuits all
     where
       ends : Joined → Option (List ℕ)
       ends = ends_here j left j.server said

@@ -21,7 +21,7 @@ use Rattle.ca_laws_runs.proofs.Worlds.{number-or}
 use Rattle.ca_laws_writes.specs.Seats.{Seated}
 use Rattle.ca_laws_writes.proofs.Midway.{set-here}
 use Rattle.ca_laws_bytes.specs.Streams.{CircuitEnd, Meets}
-use Rattle.ca_laws_bytes.specs.Worlds.{AllStream, AreMessages, StreamsOn, client_end, input_of, sent_down, server_end}
+use Rattle.ca_laws_bytes.specs.Worlds.{AllStream, StreamsOn, client_end, input_of, sent_down, server_end}
 use Rattle.ca_laws_bytes.proofs.ServerEnds.{Ends, Goes, Stays}
 use Rattle.ca_laws_bytes.proofs.Streaming.{Acts, close-acts, meets-on-back, open-acts, shut-acts}
 
@@ -117,8 +117,8 @@ tells-same c d t s = λ i. record {
 -- Of each circuit of this server its end goes on; those of others are as they were.
 pub server-event : (w new : World) (i : ℕ) (y z : ServerSide) → At w.servers i y → At new.servers i z → ((l : ℕ) (s : ServerSide) → At w.servers l s → (l ≡ i → ⊥) → At new.servers l s) → new.clients ≡ w.clients
     → ((n : ℕ) (d : Joined) → At new.circuits n d → (c : Joined) × At w.circuits n c × Like c d × (c.server ≡ i → Acts (server_end y c) (server_end z d)) × ((c.server ≡ i → ⊥) → (s : ServerSide) → server_end s d ≡ server_end s c))
-    → AreMessages w → AllStream w → AllStream new
-server-event w new i y z at now others clients back good all n d there =
+    → AllStream w → AllStream new
+server-event w new i y z at now others clients back all n d there =
     let b = back n d there in
     let c : Joined = b.0 in
     let st = all n c b.1 in
@@ -132,7 +132,7 @@ server-event w new i y z at now others clients back good all n d there =
             y = z;
             server = subst (λ (k : ℕ). At new.servers k z) (sym (b.2.server ∙ mine)) now;
             meets = subst (λ (e : CircuitEnd). Meets e (server_end z d)) (sym (b.2.side st.x))
-                (meets-on-back (server_end y c) (server_end z d) (client_end st.x c) (b.3 mine) (good.up n c b.1) (subst (λ (v : ServerSide). Meets (client_end st.x c) (server_end v c)) is st.meets));
+                (meets-on-back (server_end y c) (server_end z d) (client_end st.x c) (b.3 mine) (subst (λ (v : ServerSide). Meets (client_end st.x c) (server_end v c)) is st.meets));
           }
       | inr other ↦
           record {
@@ -255,9 +255,9 @@ not-open i core c m more t none = elim (number-or c.server i) [
 pub after-streams : (w mid : World) (i : ℕ) (y side : ServerSide) (core : Server) → At w.servers i y → mid.clients ≡ w.clients → ((l : ℕ) (s : ServerSide) → At w.servers l s → (l ≡ i → ⊥) → At mid.servers l s) → ((s : ServerSide) × At mid.servers i s)
     → ((n : ℕ) (m : Joined) → At mid.circuits n m → (c : Joined) × At w.circuits n c × (more : List Fields) × Tells c m more × (c.server ≡ i → c.lists.server_open ≡ true → Goes y.core core c.at_server more)
     × ((c.server ≡ i → c.lists.server_open ≡ true → ⊥) → more ≡ []))
-    → Seated w → AreMessages w → AllStream w → AllStream (server_after i side (ends_by i core) core mid)
-after-streams w mid i y side core at clients others there back seated good all =
-    server-event w new i y z at (set-here mid.servers i there.0 z there.1) (λ l s on other. At-set-other mid.servers i l s z (others l s on other) other) clients circuits good all
+    → Seated w → AllStream w → AllStream (server_after i side (ends_by i core) core mid)
+after-streams w mid i y side core at clients others there back seated all =
+    server-event w new i y z at (set-here mid.servers i there.0 z there.1) (λ l s on other. At-set-other mid.servers i l s z (others l s on other) other) clients circuits all
   where
     new : World
     new = server_after i side (ends_by i core) core mid

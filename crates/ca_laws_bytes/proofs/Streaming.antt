@@ -4,12 +4,11 @@ use Rattle.std.specs.Prelude.{drop, length, take}
 use Rattle.std.proofs.lemmas.Bool.{both_ways}
 use Rattle.std.proofs.lemmas.List.{append-nil, length-append, take-append-drop}
 use Rattle.ca_text.specs.Place.{At}
-use Rattle.ca_text.proofs.Places.{At-or, At-within, some_is}
+use Rattle.ca_text.proofs.Places.{At-append, At-or, At-within, some_is}
 use Rattle.ca_wire.specs.Fields.{Fields}
 use Rattle.ca_wire.specs.Message.{IsMessage, Spells, spelled, spelling}
 use Rattle.ca_wire.proofs.Messages.{spelling-spells, spells-front, spells-long}
-use Rattle.ca_laws_bytes.specs.Streams.{CircuitEnd, Meets, Streams}
-use Rattle.ca_laws_bytes.specs.Worlds.{AreGood}
+use Rattle.ca_laws_bytes.specs.Streams.{AreGood, CircuitEnd, Meets, Streams}
 
 -- ---- lists
 
@@ -152,25 +151,29 @@ reads-on a b o acts good opened s = elim (acts.stays opened).2 [
       }
 ]
 
-pub meets-on : (a b o : CircuitEnd) → Acts a b → AreGood o.sent → Meets a o → Meets b o
-meets-on a b o acts good m = record {
-  there = λ e. sends-on a b o acts (m.there e);
-  back = λ e. reads-on a b o acts good e (m.back (acts.stays e).0);
+-- what was sent before are messages too
+good-before : (a b : CircuitEnd) → Acts a b → AreGood b.sent → AreGood a.sent
+good-before a b acts good i m at = good i m (subst (λ (l : List Fields). At l i m) (sym acts.sends) (At-append a.sent acts.more i m at))
+
+pub meets-on : (a b o : CircuitEnd) → Acts a b → Meets a o → Meets b o
+meets-on a b o acts m = record {
+  there = λ e good. sends-on a b o acts (m.there e (good-before a b acts good));
+  back = λ e good. reads-on a b o acts good e (m.back (acts.stays e).0 good);
 }
 
 pub meets-turned : (a b : CircuitEnd) → Meets a b → Meets b a
 meets-turned a b m = record { there = m.back; back = m.there }
 
-pub meets-on-back : (a b o : CircuitEnd) → Acts a b → AreGood o.sent → Meets o a → Meets o b
-meets-on-back a b o acts good m = meets-turned b o (meets-on a b o acts good (meets-turned o a m))
+pub meets-on-back : (a b o : CircuitEnd) → Acts a b → Meets o a → Meets o b
+meets-on-back a b o acts m = meets-turned b o (meets-on a b o acts (meets-turned o a m))
 
 -- ---- bytes move
 
 -- the first n bytes that wait at the one end come to the other
 pub meets-moved : (a o : CircuitEnd) (n : ℕ) → Meets a o → Meets (record a { waiting = drop n a.waiting }) (record o { came = o.came ++ take n a.waiting })
 meets-moved a o n m = record {
-  there = λ e.
-      let s = m.there e in
+  there = λ e good.
+      let s = m.there e good in
       record {
         within = s.within;
         lost = s.lost;
@@ -180,7 +183,7 @@ meets-moved a o n m = record {
             ∙ s.are;
         whole = s.whole;
       };
-  back = λ e. (let s = m.back e in record { within = s.within; lost = s.lost; are = s.are; whole = s.whole });
+  back = λ e good. (let s = m.back e good in record { within = s.within; lost = s.lost; are = s.are; whole = s.whole });
 }
 
 -- ---- a new circuit
@@ -197,7 +200,7 @@ streams-new p q came waiting sent read = record {
 }
 
 pub meets-new : (a b : CircuitEnd) → a.came ≡ [] → b.came ≡ [] → a.waiting ≡ [] → b.waiting ≡ [] → a.sent ≡ [] → b.sent ≡ [] → a.read ≡ 0 → b.read ≡ 0 → Meets a b
-meets-new a b ca cb wa wb sa sb ra rb = record { there = λ e. streams-new a b cb wa sa rb; back = λ e. streams-new b a ca wb sb ra }
+meets-new a b ca cb wa wb sa sb ra rb = record { there = λ e good. streams-new a b cb wa sa rb; back = λ e good. streams-new b a ca wb sb ra }
 
 -- ---- each way to go on
 

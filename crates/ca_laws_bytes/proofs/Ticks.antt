@@ -30,7 +30,7 @@ use Rattle.ca_laws_runs.specs.Clients.{ClientsStand}
 use Rattle.ca_laws_runs.proofs.ClientsMore.{left-by}
 use Rattle.ca_laws_runs.proofs.Letting.{ends-ended}
 use Rattle.ca_laws_runs.proofs.Placed.{keeps-on, keeps-sending}
-use Rattle.ca_laws_bytes.specs.Worlds.{AllStream, AreMessages, StreamsOn, client_end, sent_up, server_end}
+use Rattle.ca_laws_bytes.specs.Worlds.{AllStream, StreamsOn, client_end, sent_up, server_end}
 use Rattle.ca_laws_bytes.proofs.ClientEvents.{mapped}
 use Rattle.ca_laws_bytes.proofs.Clients.{client-ends, client-open, client-shut, connected-so, on-other, other-streams, out-of, up-open, up-shut}
 use Rattle.ca_laws_bytes.proofs.Links.{GoesOn, at-circuit, channels-ended-circuits, circuit-of, connection-other, connection-own, ended-goes, goes-sending, goes-then, messages-both, messages_on}
@@ -274,7 +274,7 @@ made-closings t = all (due t.core) (filter (is_name_connected t.core) t.core.ord
 
 -- ---- a world
 
-module _ (moment : ℕ) (w : World) (i : ℕ) (x : ClientSide) (at : At w.clients i x) (s : ClientsStand w) (good : AreMessages w) (all : AllStream w) where
+module _ (moment : ℕ) (w : World) (i : ℕ) (x : ClientSide) (at : At w.clients i x) (s : ClientsStand w) (all : AllStream w) where
   abbrev t : Ticking
   t = circuits_ticked moment x.core
 
@@ -339,12 +339,12 @@ module _ (moment : ℕ) (w : World) (i : ℕ) (x : ClientSide) (at : At w.client
   twice (c ∷ cs) = ap (λ (l : List Joined). f c ∷ l) (twice cs)
 
   pub tick-streams : (lines : answer.Ticked) → AllStream (left-by moment w i x made.sent (record lines { closings = t.closings }) made.core)
-  tick-streams told = mapped w (left-by moment w i x made.sent (record told { closings = t.closings }) made.core) i x z f at refl refl (twice w.circuits) own others like good all
+  tick-streams told = mapped w (left-by moment w i x made.sent (record told { closings = t.closings }) made.core) i x z f at refl refl (twice w.circuits) own others like all
 
-pub tick-one-streams : (moment : ℕ) (w : World) (i : ℕ) (new : World) → ClientsStand w → AreMessages w → TicksOne moment w i new → AllStream w → AllStream new
-tick-one-streams moment w i new s good happens all =
+pub tick-one-streams : (moment : ℕ) (w : World) (i : ℕ) (new : World) → ClientsStand w → TicksOne moment w i new → AllStream w → AllStream new
+tick-one-streams moment w i new s happens all =
     let x : ClientSide = happens.0 in
     let does = happens.5 in
     subst (λ (v : World). AllStream v) (sym happens.6)
     (subst (λ (q : List Sending × (answer.Ticked × Client)). AllStream (left-by moment w i x q.0 q.1.0 q.1.1)) (λ e. (sym does.1 e, (sym does.0 e, sym does.2 e)))
-    (tick-streams moment w i x happens.1 s good all (ticked (circuits_ticked moment x.core))))
+    (tick-streams moment w i x happens.1 s all (ticked (circuits_ticked moment x.core))))

@@ -1,7 +1,8 @@
 -- Working: the bytes of a circuit, as what messages that were sent and not read are spelled.
 use Rattle.std.specs.Prelude.{ℕ, ◌≡◌, ◌≤◌, ◌++◌, Bool, true, List, [], drop, length}
+use Rattle.ca_text.specs.Place.{At}
 use Rattle.ca_wire.specs.Fields.{Fields}
-use Rattle.ca_wire.specs.Message.{spelled}
+use Rattle.ca_wire.specs.Message.{IsMessage, spelled}
 
 -- An end of a circuit: the bytes that came and were not read; those that wait to leave it, or that it left as it ended; whether it is
 -- open; the messages that it sent; and how many it read.
@@ -20,7 +21,11 @@ pub record Streams (sender receiver : CircuitEnd) : Type 0 where
   pub are : receiver.came ++ (sender.waiting ++ lost) ≡ spelled (drop receiver.read sender.sent)
   pub whole : sender.is_open ≡ true → lost ≡ []
 
--- So it is both ways, to each end that is open.
+-- these are messages, each field of its width
+abbrev pub AreGood : List Fields → Type 0
+AreGood ms = (i : ℕ) (m : Fields) → At ms i m → IsMessage m
+
+-- So it is both ways, to each end that is open, if what was sent to it are messages.
 pub record Meets (a b : CircuitEnd) : Type 0 where
-  pub there : b.is_open ≡ true → Streams a b
-  pub back : a.is_open ≡ true → Streams b a
+  pub there : b.is_open ≡ true → AreGood a.sent → Streams a b
+  pub back : a.is_open ≡ true → AreGood b.sent → Streams b a

@@ -3,14 +3,13 @@ use Rattle.std.specs.Prelude.{ℕ, ◌≡◌, false, List, [], Option, Some, Non
 use Rattle.ca_ids.specs.Table.{under}
 use Rattle.ca_text.specs.Place.{At}
 use Rattle.ca_wire.specs.Fields.{Fields}
-use Rattle.ca_wire.specs.Message.{IsMessage}
 use Rattle.ca_model.specs.Client.{Connection, connection_at}
 use Rattle.ca_model.specs.History.{Sent, Told}
 use Rattle.ca_model.specs.Server.{Open, ServerCircuit}
 use Rattle.ca_model_world.specs.ClientEvents.{waiting_down, waiting_up}
 use Rattle.ca_model_world.specs.World.{ClientSide, Joined, ServerSide, World}
 use Rattle.ca_laws_runs.specs.Circuit.{WasGiven}
-use Rattle.ca_laws_bytes.specs.Streams.{CircuitEnd, Meets}
+use Rattle.ca_laws_bytes.specs.Streams.{AreGood, CircuitEnd, Meets}
 
 -- what came to a client's end and was not read, and to a server's
 abbrev pub came_to : Option Connection → List ℕ
@@ -57,10 +56,6 @@ pub record StreamsOn (w : World) (j : Joined) : Type 0 where
 -- all circuits
 abbrev pub AllStream : World → Type 0
 AllStream w = (k : ℕ) (j : Joined) → At w.circuits k j → StreamsOn w j
-
--- these are messages, each field of its width
-abbrev pub AreGood : List Fields → Type 0
-AreGood ms = (i : ℕ) (m : Fields) → At ms i m → IsMessage m
 
 -- What was sent on circuits are messages.
 pub record AreMessages (w : World) : Type 0 where

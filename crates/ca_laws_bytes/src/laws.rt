@@ -2,8 +2,7 @@ ghost use Rattle.std.specs.Prelude.{◌≡◌, ◌+◌, ◌++◌, List, ℕ};
 ghost use Rattle.ca_text.specs.Place.{At};
 ghost use Rattle.ca_wire.specs.Fields.{Fields};
 ghost use Rattle.ca_wire.specs.Message.{Spells};
-ghost use Rattle.ca_laws_bytes.specs.Streams.{CircuitEnd, Streams};
-ghost use Rattle.ca_laws_bytes.specs.Worlds.{AreGood};
+ghost use Rattle.ca_laws_bytes.specs.Streams.{AreGood, CircuitEnd, Streams};
 
 /// The message that begins the bytes which came to an end is the next of those that the other end
 /// sent, and after it so it is of the rest.
