@@ -14,3 +14,4 @@ pub mod Tables
 pub mod Handles
 pub mod HandleEvents
 pub mod Finish
+pub mod Runs

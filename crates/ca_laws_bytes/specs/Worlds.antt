@@ -57,10 +57,12 @@ pub record StreamsOn (w : World) (j : Joined) : Type 0 where
 abbrev pub AllStream : World → Type 0
 AllStream w = (k : ℕ) (j : Joined) → At w.circuits k j → StreamsOn w j
 
--- What was sent on circuits are messages.
-pub record AreMessages (w : World) : Type 0 where
-  pub up : (k : ℕ) (j : Joined) → At w.circuits k j → AreGood (sent_up j)
-  pub down : (k : ℕ) (j : Joined) → At w.circuits k j → AreGood (sent_down j)
+-- What clients sent on circuits are messages, and what servers sent.
+abbrev pub ClientsSpeak : World → Type 0
+ClientsSpeak w = (k : ℕ) (j : Joined) → At w.circuits k j → AreGood (sent_up j)
+
+abbrev pub ServersSpeak : World → Type 0
+ServersSpeak w = (k : ℕ) (j : Joined) → At w.circuits k j → AreGood (sent_down j)
 
 -- The handles of circuits at a server in its present life: its table gave each, and once the end there has ended nothing has it.
 pub record HandlesStand (w : World) : Type 0 where
