@@ -3,7 +3,7 @@ use Rattle.std.proofs.Common.{◌≡◌, ℕ, ◌≤◌, ◌⊎◌, inl, inr, tr
 use Rattle.std.specs.Prelude.{filter, is_some, map, replicate, slice_set}
 use Rattle.std.specs.List.{FoldsTo, fold}
 use Rattle.ca_arena.specs.declared.handle.Handle.{Handle}
-use Rattle.ca_laws_circuit.proofs.Tables.{all-freed-back}
+use Rattle.ca_model_client.proofs.Tables.{all-freed-back}
 use Rattle.ca_queue.specs.Queue.{no_queue}
 use Rattle.ca_text.specs.Limits.{circuit_queues}
 use Rattle.ca_text.specs.Place.{At}

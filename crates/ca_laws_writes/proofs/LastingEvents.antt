@@ -6,7 +6,7 @@ use Rattle.std.specs.Str.{bytes_eq}
 use Rattle.ca_arena.specs.declared.handle.Handle.{Handle}
 use Rattle.ca_dbr.specs.Elements.{Elements}
 use Rattle.ca_ids.specs.Table.{Table, under, with_each}
-use Rattle.ca_laws_circuit.proofs.Tables.{changed-back, freed-back, held-back, one-value}
+use Rattle.ca_model_client.proofs.Tables.{changed-back, freed-back, held-back, one-value}
 use Rattle.ca_link.specs.Link.{with_given, with_handed}
 use Rattle.ca_records.specs.Puts.{with_record, with_value}
 use Rattle.ca_records.specs.Record.{RecordState, unset}

@@ -5,7 +5,7 @@ use Rattle.std.specs.List.{fold}
 use Rattle.ca_arena.specs.declared.handle.Handle.{Handle}
 use Rattle.ca_dbr.specs.Elements.{Elements}
 use Rattle.ca_ids.specs.Table.{Table, under}
-use Rattle.ca_laws_circuit.proofs.Tables.{changed-other, changed-own, freed-back, handle-is, one-value}
+use Rattle.ca_model_client.proofs.Tables.{changed-other, changed-own, freed-back, handle-is, one-value}
 use Rattle.ca_link.specs.Link.{with_rest, with_sent}
 use Rattle.ca_queue.specs.declared.entry.SubKey.{SubKey}
 use Rattle.ca_records.specs.Puts.{Record, WaitingPut}

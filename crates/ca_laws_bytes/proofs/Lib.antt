@@ -1,0 +1,17 @@
+pub mod Streaming
+pub mod Links
+pub mod Clients
+pub mod ClientEvents
+pub mod Ticks
+pub mod ServerEnds
+pub mod Servers
+pub mod ServerEvents
+pub mod ServerSteps
+pub mod Moves
+pub mod Comes
+pub mod Made
+pub mod Tables
+pub mod Handles
+pub mod HandleEvents
+pub mod Finish
+pub mod Runs

@@ -1,0 +1,6 @@
+//! Laws of bytes: what an end of a circuit takes next is the next message that was sent to it.
+#![tactic(auto)]
+
+mod laws;
+
+pub use laws::{bytes_are_messages_in_runs, ends_take_what_was_sent};
