@@ -241,7 +241,7 @@ up-handles w new k n j x y on at (core, gives, is) h = subst (λ (v : World). Ha
     go false =
         let j1 : Joined = record j { left_up = drop n j.left_up } in
         alone-handles (with_circuit k j1 w) _ j.server y z at refl refl refl (gives-thin y.core core j.at_server _ gives)
-        (frame-handles w (with_circuit k j1 w) (frame-circuit w k j j1 on (goes-same j j1 (record { server = refl; handle = refl; life = refl; up = refl; handled = refl; is_open = refl }) refl)) h)
+        (frame-handles w (with_circuit k j1 w) (frame-circuit w k j j1 on (goes-same j j1 (record { server = refl; handle = refl; life = refl; up = refl; handled = refl; is_open = refl }) refl refl refl refl)) h)
 
 pub down-handles : (w new : World) (k n : ℕ) (j : Joined) (x : ClientSide) (y : ServerSide) → At w.circuits k j → At w.servers j.server y → HappensDown w k n j x y new → HandlesStand w → HandlesStand new
 down-handles w new k n j x y on at (mid, sent, core, taken, gives, is) h =
