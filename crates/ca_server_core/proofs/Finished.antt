@@ -23,13 +23,12 @@ use Rattle.ca_model.specs.ServerSteps.{counted, reached, stored_now, write_mask}
 use Rattle.ca_server_core.specs.Ending.{WithdrawsAll}
 use Rattle.ca_server_core.specs.Finishing.{RepliesAt, RepliesIn, with_reply}
 use Rattle.ca_server_core.specs.Serving.{more_applied}
-use Rattle.ca_server_core.specs.Sound.{EndIsSound, IsQuiet, IsSound}
+use Rattle.ca_server_core.specs.Sound.{EndIsSound, IsSound}
 use Rattle.ca_server_core.proofs.Cleared.{is-same, same-is}
 use Rattle.ca_server_core.proofs.Closing.{end-stays, not-ended, sound-ended}
 use Rattle.ca_server_core.proofs.Servers.{became, made_of, same-parts, server_of, stayed}
 use Rattle.ca_server_core.proofs.Sounds.{sound-changed}
 use Rattle.ca_server_core.proofs.Stays.{Keeps, record-keeps}
-use Rattle.ca_server_core.proofs.Stepped.{each-same, none-gone, reaches-nobody, unreached}
 use Rattle.ca_server_core.proofs.Tables.{at-under, handle-is, place, under-at}
 
 -- ---- the records

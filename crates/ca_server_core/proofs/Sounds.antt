@@ -44,7 +44,7 @@ sound-accepted rs t h now i may = record {
     fresh : (g : Handle) → g ≡ h → EndIsSound rs g (new_end now)
     fresh g own = record {
       live = refl;
-      room = λ few. (0, no_queue, refl, omega arith, (λ i q lt at. absurd (omega (arith, lt))));
+      room = λ few. (0, no_queue, (refl, omega arith, (λ i q less at. absurd (omega (arith, less)))));
       few = omega arith;
       served = λ c o at. absurd (no-channel c o at);
       puts = λ j r k w at at' hit.

@@ -15,7 +15,7 @@ use Rattle.ca_model.specs.Due.{Action}
 use Rattle.ca_model.specs.Server.{Server, ServerEnd}
 use Rattle.ca_model.specs.ServerSteps.{Acts}
 use Rattle.ca_server_core.specs.declared.step.Effect.TheVariants as effect
-use Rattle.ca_server_core.specs.Handling.{Creates, Fits, Recorded, known, replied}
+use Rattle.ca_server_core.specs.Handling.{Creates, Fits, Recorded, Tells, known, replied}
 
 -- the replies by which a channel to a record is created, under this SID
 abbrev pub creation_replies : Store → ServerEnd → Fields → RecordState → (sid : ℕ) → List Fields
