@@ -23,3 +23,5 @@ pub mod LongBytes
 pub mod Could
 pub mod Stepped
 pub mod Finished
+pub mod Pumps
+pub mod Pumped

@@ -14,3 +14,4 @@ pub mod Serving
 pub mod Finishing
 pub mod Subscribing
 pub mod Posting
+pub mod Pumping

@@ -23,6 +23,7 @@ mod events;
 mod finishing;
 mod handle;
 mod names;
+mod pumping;
 mod put;
 mod read;
 mod search;
