@@ -25,3 +25,4 @@ pub mod Stepped
 pub mod Finished
 pub mod Pumps
 pub mod Pumped
+pub mod Added
