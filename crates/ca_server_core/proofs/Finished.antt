@@ -136,4 +136,3 @@ one-changes f t h c d is there other = changed-there t h c d is ∙ sym (each-on
         let back : i ≡ 0 + i = omega arith in
         subst (λ (k : ℕ). f (record { index = k; generation = p.generation }) x ≡ x) back
         (other g x (at-under t g x (subst (λ (q : Place ServerCircuit). At t i q) whole at)) (λ one. ne (ap (λ (k : Handle). k.index) one)))
-
