@@ -10,6 +10,7 @@ pub mod Taken
 pub mod Handled
 pub mod Cleared
 pub mod Subscribes
+pub mod Joining
 pub mod Givens
 pub mod Steps
 pub mod Sounds

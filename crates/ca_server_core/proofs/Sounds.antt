@@ -8,6 +8,7 @@ use Rattle.ca_text.specs.declared.refusal.Refusal.TheVariants as refusal
 use Rattle.ca_model.specs.Ends.{Why}
 use Rattle.ca_server_core.specs.Circuits.{AreLive, GivesAt, GivesIn, SendsAt, SendsIn}
 use Rattle.ca_ids.specs.Table.{MayGive, Table, same_handle, under, with_changed, with_held}
+use Rattle.ca_queue.specs.Queue.{no_queue}
 use Rattle.ca_records.specs.Puts.{Record, WaitingPut, new_record}
 use Rattle.std.specs.Prelude.{map}
 use Rattle.ca_records.specs.Record.{RecordState}
@@ -43,7 +44,7 @@ sound-accepted rs t h now i may = record {
     fresh : (g : Handle) → g ≡ h → EndIsSound rs g (new_end now)
     fresh g own = record {
       live = refl;
-      quiet = record { none = refl; on = true; idle = refl };
+      room = λ few. (0, no_queue, (refl, omega arith, (λ i q less at. absurd (omega (arith, less)))));
       few = omega arith;
       served = λ c o at. absurd (no-channel c o at);
       puts = λ j r k w at at' hit.
@@ -83,7 +84,7 @@ sound-opened rs t after now c (Err (back, _)) i is g = absurd g
 
 -- an end whose link alone changed is as sound as before
 relinked-sound : (rs : List Record) (h : Handle) (e : ServerEnd) (l : LinkState) → l.input.closed ≡ false → EndIsSound rs h e → (let new : ServerEnd = record e { link = l } in EndIsSound rs h new)
-relinked-sound rs h e l live i = record { live = live; quiet = record { none = i.quiet.none; on = i.quiet.on; idle = i.quiet.idle }; served = i.served; puts = i.puts; few = i.few }
+relinked-sound rs h e l live i = record { live = live; room = i.room; served = i.served; puts = i.puts; few = i.few }
 
 given-live : (now : ℕ) (bytes : List ℕ) (l : LinkState) → l.input.closed ≡ false → (with_given now bytes l).input.closed ≡ false
 given-live now [] l live = live

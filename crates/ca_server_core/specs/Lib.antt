@@ -12,3 +12,5 @@ pub mod Searching
 pub mod Ending
 pub mod Serving
 pub mod Finishing
+pub mod Subscribing
+pub mod Posting

@@ -1,11 +1,12 @@
-ghost use Rattle.std.specs.Prelude.{◌≡◌, ◌≤◌, Some, length};
+ghost use Rattle.std.specs.Prelude.{◌≡◌, ◌≤◌, IfOk, Some, length};
 ghost use Rattle.ca_model.specs.Server.{new_end};
 ghost use Rattle.ca_model.specs.Server as server;
 ghost use Rattle.ca_model.specs.ServerSteps.{output_of};
-ghost use Rattle.ca_records.specs.Store.{records_of};
+ghost use Rattle.ca_records.specs.Store.{IsThere, records_of};
 ghost use Rattle.ca_server_core.specs.Circuits.{CircuitIsSound, GivesAt, IsLive, SendsAt};
 ghost use Rattle.ca_server_core.specs.Ending.{EndsAt, IsLeft};
 ghost use Rattle.ca_server_core.specs.Finishing.{RepliesAt};
+ghost use Rattle.ca_server_core.specs.Posting.{PostsAt};
 ghost use Rattle.ca_server_core.specs.Serving.{CircuitSteps};
 ghost use Rattle.ca_server_core.specs.Stepping.{why_is};
 
@@ -16,7 +17,7 @@ use ca_arena::Handle;
 use ca_records::{Put, ServedRecords};
 use ca_text::Refusal;
 use ca_wire::Pipe;
-use std::alloc::Global;
+use std::alloc::{AllocError, Global};
 use std::marker::Model;
 
 /// A circuit of a server.
@@ -43,13 +44,14 @@ impl Model for Circuit {
 }
 
 impl Circuit {
-    // One that was accepted at this moment. It does not allocate yet.
-    pub(crate) fn new(alloc: Global, now: u64) -> Circuit
-        ensures { result ≡ server.Open (new_end now) }
+    // One that was accepted at this moment. It makes room for the queues of its end.
+    pub(crate) fn new(alloc: Global, now: u64) -> Result<Circuit, AllocError>
+        ensures { IfOk result (λ c. c ≡ server.Open (new_end now)) }
     {
-        Circuit {
-            state: State::Open(End::new(alloc, now)),
-        }
+        let end = End::new(alloc, now)?;
+        Ok(Circuit {
+            state: State::Open(end),
+        })
     }
 
     // Takes bytes that came at this moment. Refused as CircuitClosed if its end is not open, then as OutOfMemory.
@@ -88,7 +90,7 @@ impl Circuit {
                 let did = end.step(port, circuit, records);
                 end.know();
                 match did {
-                    EndStep::Handled(writes) => Some(EndStep::Handled(writes)),
+                    EndStep::Handled(effect) => Some(EndStep::Handled(effect)),
                     EndStep::NeedBytes => Some(EndStep::NeedBytes),
                     EndStep::OutputFull => Some(EndStep::OutputFull),
                     EndStep::Breaks(cause) => {
@@ -120,6 +122,31 @@ impl Circuit {
                     }
                 }
             }
+            State::Ended(_, _) => {}
+        }
+    }
+
+    // A post to the record at this place: the subscriptions of its end that it concerns get an update. The end has ended if there is no
+    // memory for one.
+    pub(crate) fn post(
+        &mut self,
+        circuit: Handle,
+        place: usize,
+        mask: u16,
+        records: &mut ServedRecords,
+    )
+        requires there { IsThere records.old place }
+        requires sound { CircuitIsSound (records_of records.old) circuit self.old }
+        ensures { PostsAt circuit place mask self.old records.old self.new records.new }
+    {
+        match &mut self.state {
+            State::Open(end) => match end.post(records.at(place).state(), mask) {
+                Ok(()) => end.know(),
+                Err(_) => {
+                    let left = end.leave(circuit, records);
+                    self.state = State::Ended(Cause::OutOfMemory, left);
+                }
+            },
             State::Ended(_, _) => {}
         }
     }

@@ -6,6 +6,7 @@ ghost use Rattle.ca_server_core.specs.Clearing.{ArePuts};
 ghost use Rattle.ca_server_core.specs.Handling.{AllStay, AreServed, Does, MayLack, known};
 
 use crate::end::End;
+use crate::step::Effect;
 use ca_arena::Handle;
 use ca_records::ServedRecords;
 use ca_text::Command;
@@ -13,7 +14,7 @@ use ca_wire::Message;
 use std::alloc::AllocError;
 
 impl End {
-    /// Handles one message of this circuit, at a server of this TCP port, and says whether a write was applied.
+    /// Handles one message of this circuit, at a server of this TCP port, and says what it leaves the server to do.
     ///
     /// If there is no memory for it the records and what waits to be sent are as they were, and the end is to be closed.
     pub(crate) fn handle(
@@ -22,73 +23,70 @@ impl End {
         circuit: Handle,
         records: &mut ServedRecords,
         message: &Message,
-    ) -> Result<bool, AllocError>
+    ) -> Result<Effect, AllocError>
         requires open { IsOpen self.old.link }
         requires served { AreServed (records_of records.old) self.old.channels }
         requires puts { ArePuts circuit (records_of records.old) self.old.channels }
-        ensures ok { IfOk result (λ writes.
+        ensures ok { IfOk result (λ effect.
             Does (Due (known port records.old self.old) message.now) records.old circuit self.old
-            message.now writes records.new self.new) }
+            message.now effect records.new self.new) }
         ensures err { OnErr result (records.new ≡ records.old) }
         ensures output { OnErr result (self.new.link.output ≡ self.old.link.output) }
         ensures channels { OnErr result (AllStay self.old.channels self.new.channels) }
         ensures memory { OnErr result (MayLack (known port records.old self.old) message.now) }
     {
         let Some(command) = Command::of(message.command()) else {
-            return Ok(false);
+            return Ok(Effect::Quiet);
         };
         match command {
             Command::Write => self.write(records, message),
             Command::WriteNotify => self.write_notify(circuit, records, message),
+            Command::EventAdd => self.subscribe(records, message),
             Command::Version => {
                 self.version()?;
-                Ok(false)
+                Ok(Effect::Quiet)
             }
             Command::ClientName => {
                 self.client_name(message)?;
-                Ok(false)
+                Ok(Effect::Quiet)
             }
             Command::HostName => {
                 self.host_name(message)?;
-                Ok(false)
+                Ok(Effect::Quiet)
             }
             Command::Echo => {
                 self.echo()?;
-                Ok(false)
+                Ok(Effect::Quiet)
             }
             Command::Search => {
                 self.search(port, records, message)?;
-                Ok(false)
+                Ok(Effect::Quiet)
             }
             Command::CreateChannel => {
                 self.create(records, message)?;
-                Ok(false)
+                Ok(Effect::Quiet)
             }
             Command::ClearChannel => {
                 self.clear(circuit, records, message)?;
-                Ok(false)
+                Ok(Effect::Quiet)
             }
             Command::ReadNotify => {
                 self.read(records, message)?;
-                Ok(false)
-            }
-            Command::EventAdd => {
-                self.subscribe(records, message)?;
-                Ok(false)
+                Ok(Effect::Quiet)
             }
             Command::EventCancel => {
                 self.cancel(message)?;
-                Ok(false)
+                Ok(Effect::Quiet)
             }
             Command::EventsOff => {
                 self.switch_events(false);
-                Ok(false)
+                Ok(Effect::Quiet)
             }
             Command::EventsOn => {
                 self.switch_events(true);
-                Ok(false)
+                Ok(Effect::Quiet)
             }
-            _ => Ok(false),
+            _ => Ok(Effect::Quiet),
         }
     }
 }

@@ -30,6 +30,7 @@ mod seek;
 mod server;
 mod step;
 mod stepping;
+mod updates;
 mod version;
 mod write;
 mod write_notify;

@@ -82,7 +82,13 @@ impl ServerCore {
     pub fn accept(&mut self) -> Result<Handle, Refusal>
         ensures { Accepts self.old result self.new }
     {
-        match self.circuits.open(Circuit::new(self.alloc, self.moment)) {
+        if self.circuits.is_full() {
+            return Err(Refusal::ArenaFull);
+        }
+        let Ok(circuit) = Circuit::new(self.alloc, self.moment) else {
+            return Err(Refusal::OutOfMemory);
+        };
+        match self.circuits.open(circuit) {
             Ok(handle) => Ok(handle),
             Err((_, refusal)) => Err(refusal),
         }

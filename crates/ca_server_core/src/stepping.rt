@@ -40,8 +40,8 @@ impl ServerCore {
         ensures { Steps self.old circuit (stepped result) self.new }
     {
         match step_on(self.port, &mut self.circuits, &mut self.records, circuit) {
-            Some(EndStep::Handled(writes)) => {
-                self.applied = more_applied(self.applied, writes);
+            Some(EndStep::Handled(effect)) => {
+                self.applied = more_applied(self.applied, effect.is_write());
                 Step::Handled
             }
             Some(EndStep::NeedBytes) => Step::NeedBytes,

@@ -57,9 +57,9 @@ pub returns-in_ok-read-in-ReadNotify-clause-ok : goal.returns-in_ok-read-in-Read
 returns-in_ok-read-in-ReadNotify-clause-ok c =
     does-reply c.args.port c.args.records.now c.args.circuit c.args.self.now c.args.message.now c.read.new.self command.ReadNotify (sym (ap command_number (sym c.in-ReadNotify.is) ∙ c.in-Some.ensures ∙ c.command.ensures)) refl refl (c.in_ok-read-in-ReadNotify.ensures.ok c.args.port)
 
-pub returns-in_ok-subscribe-in-EventAdd-clause-ok : goal.returns-in_ok-subscribe-in-EventAdd-clause-ok
-returns-in_ok-subscribe-in-EventAdd-clause-ok c =
-    does-reply c.args.port c.args.records.now c.args.circuit c.args.self.now c.args.message.now c.subscribe.new.self command.EventAdd (sym (ap command_number (sym c.in-EventAdd.is) ∙ c.in-Some.ensures ∙ c.command.ensures)) refl refl (c.in_ok-subscribe-in-EventAdd.ensures.ok c.args.port)
+pub returns-in-EventAdd-clause-ok : goal.returns-in-EventAdd-clause-ok
+returns-in-EventAdd-clause-ok c =
+    if-then c.subscribe.result (λ did d. does-for c.args.port c.args.records.now c.args.circuit c.args.self.now c.args.message.now did c.args.records.now c.subscribe.new.self command.EventAdd (sym (ap command_number (sym c.in-EventAdd.is) ∙ c.in-Some.ensures ∙ c.command.ensures)) refl refl (d c.args.port c.args.circuit)) c.subscribe.ensures.ok
 
 pub returns-in-EventsOff-clause-ok : goal.returns-in-EventsOff-clause-ok
 returns-in-EventsOff-clause-ok c =
