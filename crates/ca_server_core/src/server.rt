@@ -3,7 +3,7 @@ ghost use Rattle.ca_model.specs.Server.{new_server};
 ghost use Rattle.ca_ids.specs.Table.{under};
 ghost use Rattle.ca_model.specs.ServerCalls.{stamped, waiting};
 ghost use Rattle.ca_model.specs.ServerSteps.{Accepts, Gives, Sends, output_of};
-ghost use Rattle.ca_server_core.specs.Circuits.{AreLive, GivesIn, SendsIn};
+ghost use Rattle.ca_server_core.specs.Circuits.{AreLive, GivesIn, OpensIn, SendsIn};
 
 use crate::circuit::Circuit;
 use ca_arena::Handle;
@@ -88,10 +88,7 @@ impl ServerCore {
         let Ok(circuit) = Circuit::new(self.alloc, self.moment) else {
             return Err(Refusal::OutOfMemory);
         };
-        match self.circuits.open(circuit) {
-            Ok(handle) => Ok(handle),
-            Err((_, refusal)) => Err(refusal),
-        }
+        open_on(&mut self.circuits, circuit)
     }
 
     /// Takes bytes that came on a circuit. Refused as CircuitClosed if its end is not open, then as OutOfMemory. A refusal changes nothing.
@@ -138,6 +135,16 @@ impl ServerCore {
         ensures { result ≡ waiting self.now }
     {
         self.records.waiting() as u64
+    }
+}
+
+// Holds a circuit that is new, under a handle.
+fn open_on(circuits: &mut HeldTable<Circuit>, circuit: Circuit) -> Result<Handle, Refusal>
+    ensures { OpensIn circuits.old circuit result circuits.new }
+{
+    match circuits.open(circuit) {
+        Ok(handle) => Ok(handle),
+        Err((_, refusal)) => Err(refusal),
     }
 }
 
