@@ -23,3 +23,4 @@ pub mod LongBytes
 pub mod Could
 pub mod Stepped
 pub mod Finished
+pub mod Covered

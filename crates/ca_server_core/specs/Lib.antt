@@ -14,3 +14,5 @@ pub mod Serving
 pub mod Finishing
 pub mod Subscribing
 pub mod Posting
+pub mod Covering
+pub mod Reaching

@@ -23,6 +23,7 @@ mod events;
 mod finishing;
 mod handle;
 mod names;
+mod posting;
 mod put;
 mod read;
 mod search;
