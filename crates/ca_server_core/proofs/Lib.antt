@@ -24,3 +24,5 @@ pub mod Could
 pub mod Stepped
 pub mod Finished
 pub mod Covered
+pub mod Each
+pub mod Reached
