@@ -5,6 +5,7 @@ use Rattle.std.specs.Str.{bytes_eq}
 use Rattle.std.proofs.lemmas.Bool.{eq-eqb, eqb-true}
 use Rattle.std.proofs.lemmas.Slice.Eq.{bytes_eq-Decides}
 use Rattle.ca_arena.specs.declared.handle.Handle.{Handle}
+use Rattle.ca_records.specs.Store.{Store}
 use Rattle.ca_ids.specs.Table.{MayGive, Table, under, with_changed, with_freed, with_held}
 use Rattle.ca_text.specs.Place.{At}
 use Rattle.ca_text.proofs.Places.{some_is}
@@ -13,7 +14,10 @@ use Rattle.ca_model.specs.Ends.{Why}
 use Rattle.ca_model.specs.Server.{Ended, Open, ServerCircuit, ServerEnd, Subscription, new_end}
 use Rattle.ca_model.specs.Speech.{In}
 use Rattle.ca_server_core.specs.Covering.{Covers, is_on, watches_under}
+use Rattle.ca_server_core.specs.Ending.{EndsAt, EndsIn}
+use Rattle.ca_server_core.specs.Following.{CoversBut}
 use Rattle.ca_server_core.proofs.Closing.{not-ended}
+use Rattle.ca_server_core.proofs.Servers.{became, stayed}
 use Rattle.ca_server_core.proofs.Tables.{changed-back, freed-back, handle-is, held-back, one-at-index, place, under-at}
 
 abbrev Circuits : Type 0
@@ -115,10 +119,6 @@ covers-left w v t name k h l at none c g e s there i = by (bytes_eq s.name name)
         subst (λ (n : List ℕ). IsAmong (watching v n) g) (sym same)
         (l.leaves.others a.0 g a.1 (λ e. it hit (some_is g h (sym a.1 ∙ ap (λ (n : ℕ). slice_get (watching w name) n) e ∙ at))))
 
--- each open end but this one, with its subscriptions on this record, is among those that watch
-abbrev pub CoversBut : Handle → List ℕ → Watched → Circuits → Type 0
-CoversBut h name w t = (g : Handle) (e : ServerEnd) (s : Subscription) → under t g ≡ Some (Open e) → In e.subscriptions s → (IsAmong (watching w s.name) g) ⊎ ((g ≡ h) × (s.name ≡ name))
-
 -- it watches the record too
 pub covers-watched : (w v : Watched) (t : Circuits) (name : List ℕ) (h : Handle) (c : ServerCircuit) → Watches name h w v → under t h ≡ Some c → CoversBut h name w t → Covers v t
 covers-watched w v t name h c l here but g e s there i = elim (but g e s there i) [
@@ -135,3 +135,36 @@ covers-watched w v t name h c l here but g e s there i = elim (but g e s there i
         index : (b : Bool) → nat_eq g.index h.index ≡ b → IsAmong (watching w name) g → IsAmong (watching v name) g
         index true is old = subst (λ (x : Handle). IsAmong (watching v name) x) (sym (one-at-index t g h (Open e) c there here (eqb-true g.index h.index is))) l.joins.own
         index false is old = l.joins.others g old (λ e. both (nat_eq g.index h.index) (eq-eqb g.index h.index e) is)
+
+-- ---- a circuit ends
+
+-- no other is open then
+pub ended-others : (t after : Circuits) (h : Handle) (s u : Store) (w : Why) → EndsIn t h s w after u → (g : Handle) (x : ServerEnd) → under after g ≡ Some (Open x) → (g ≡ h → ⊥) × (under t g ≡ Some (Open x))
+ended-others t after h s u w (inr none) g x at =
+    let there = subst (λ (y : Circuits). under y g ≡ Some (Open x)) none.1 at in
+    ((λ same. nothing (sym none.0 ∙ ap (λ (k : Handle). under t k) (sym same) ∙ there)), there)
+  where
+    nothing : (let none : Option ServerCircuit = None in none ≡ Some (Open x)) → ⊥
+    nothing e = cc
+ended-others t after h s u w (inl g) f x at = by g.0 g.1 g.2 g.3 g.4
+  where
+    by : (c new : ServerCircuit) → under t h ≡ Some c → EndsAt h c s w new u → after ≡ with_changed (λ (y : ServerCircuit). new) h t → (f ≡ h → ⊥) × (under t f ≡ Some (Open x))
+    by (Open e) new there did changed =
+        elim (changed-back (λ (y : ServerCircuit). Ended w e.link.output) t f h (Open x) (subst (λ (y : Circuits). under y f ≡ Some (Open x)) (became t after h new (Ended w e.link.output) changed did.0) at)) [
+          | inl own ↦ absurd (not-ended x w e.link.output own.1.2)
+          | inr old ↦ old
+        ]
+    by (Ended v left) new there did changed =
+        let here = subst (λ (y : Circuits). under y f ≡ Some (Open x)) (stayed t after h new (Ended v left) there changed did.0) at in
+        ((λ same. not-ended x v left (some_is (Open x) (Ended v left) (sym here ∙ ap (λ (k : Handle). under t k) same ∙ there))), here)
+
+pub thins-out : (t after : Circuits) (h : Handle) (s u : Store) (w : Why) → EndsIn t h s w after u → Thins t after
+thins-out t after h s u w did g x at = (x, (ended-others t after h s u w did g x at).1, (λ y i. i))
+
+pub covers-out : (w : Watched) (t after : Circuits) (h : Handle) (name : List ℕ) (s u : Store) (y : Why) → EndsIn t h s y after u → CoversBut h name w t → Covers w after
+covers-out w t after h name s u y did but g e x there i =
+    let o = ended-others t after h s u y did g e there in
+    elim (but g e x o.1 i) [
+      | inl old ↦ old
+      | inr own ↦ absurd (o.0 own.0)
+    ]

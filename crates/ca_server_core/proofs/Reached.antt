@@ -263,7 +263,7 @@ walk-begins place mask k w t s r at apart is sound covered = record {
   covered = covered;
 }
 
-there-is : (s : Store) (place : ℕ) (r q : Record) → HasAt s place r → HasAt s place q → r ≡ q
+pub there-is : (s : Store) (place : ℕ) (r q : Record) → HasAt s place r → HasAt s place q → r ≡ q
 there-is s place r q a b = some_is r q (At-one s.slots place (Some r) (Some q) a b)
 
 -- an end after a post, by what the record has

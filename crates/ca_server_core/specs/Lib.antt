@@ -16,3 +16,4 @@ pub mod Subscribing
 pub mod Posting
 pub mod Covering
 pub mod Reaching
+pub mod Following

@@ -7,6 +7,7 @@ ghost use Rattle.ca_server_core.specs.Circuits.{CircuitIsSound, GivesAt, IsLive,
 ghost use Rattle.ca_server_core.specs.Covering.{watches};
 ghost use Rattle.ca_server_core.specs.Ending.{EndsAt, IsLeft};
 ghost use Rattle.ca_server_core.specs.Finishing.{RepliesAt};
+ghost use Rattle.ca_server_core.specs.Following.{is_open};
 ghost use Rattle.ca_server_core.specs.Posting.{PostsAt};
 ghost use Rattle.ca_server_core.specs.Serving.{CircuitSteps};
 ghost use Rattle.ca_server_core.specs.Stepping.{why_is};
@@ -185,6 +186,16 @@ impl Circuit {
         match &mut self.state {
             State::Open(end) => end.link.sent(n),
             State::Ended(_, _) => {}
+        }
+    }
+
+    // Whether its end is open.
+    pub(crate) fn is_open(&self) -> bool
+        ensures { result ≡ is_open (Some self.now) }
+    {
+        match &self.state {
+            State::Open(_) => true,
+            State::Ended(_, _) => false,
         }
     }
 

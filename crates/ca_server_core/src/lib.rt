@@ -21,6 +21,7 @@ mod end;
 mod ending;
 mod events;
 mod finishing;
+mod following;
 mod handle;
 mod names;
 mod posting;
