@@ -26,3 +26,4 @@ pub mod Finished
 pub mod Covered
 pub mod Each
 pub mod Reached
+pub mod Followed

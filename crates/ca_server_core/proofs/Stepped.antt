@@ -109,7 +109,7 @@ module _ (port now n : ℕ) (b : Clock) where
     few = i.few;
   }
 
-  step-at : (y : Server) (h : Handle) (c : ServerCircuit) (did : Stepped) (new : Server) → under y.circuits h ≡ Some c → StepsAt y h (Some c) did new → Steps y h did new
+  pub step-at : (y : Server) (h : Handle) (c : ServerCircuit) (did : Stepped) (new : Server) → under y.circuits h ≡ Some c → StepsAt y h (Some c) did new → Steps y h did new
   step-at y h c did new there is = subst (λ (o : Option ServerCircuit). StepsAt y h o did new) (sym there) is
 
   -- ---- a message was handled
@@ -221,7 +221,7 @@ module _ (port now n : ℕ) (b : Clock) where
 
 -- ---- by what the step of one circuit did
 
-not-some : {A B : Type 0} (d : A) → (let none : Option A = None in Some d ≡ none) → B
+pub not-some : {A B : Type 0} (d : A) → (let none : Option A = None in Some d ≡ none) → B
 not-some d e = absurd cc
 
 pub step-sound : (port : ℕ) (s u : Store) (t after : Table ServerCircuit) (h : Handle) (did : Effect) → StepsIn port t h s (Some (step.Handled did)) after u → IsSound (records_of s) t → IsSound (records_of u) after
