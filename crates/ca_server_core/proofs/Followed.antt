@@ -17,9 +17,10 @@ use Rattle.ca_server_watchers.specs.Watching.{IsAmong, Watched, watching}
 use Rattle.ca_model.specs.Due.{Action, Adds, Applies, Clears, Drops, Greets, Names, Nothing, Opens, Switches, Waits}
 use Rattle.ca_model.specs.Ends as why
 use Rattle.ca_model.specs.Server.{Ended, Open, Server, ServerCircuit, ServerEnd, Subscription, key_of, with_post}
-use Rattle.ca_model.specs.ServerSteps.{Acts, MayEnd, NeedsMemory, Next, Reaches, Stepped, Steps, StepsAt, after_post, closed, is_write, reached, stored_now, write_mask}
+use Rattle.ca_model.specs.ServerSteps.{Acts, MayEnd, NeedsMemory, Next, Reaches, Stepped, Steps, StepsAt, after_post, closed, is_write, output_of, reached, stored_now, write_mask}
 use Rattle.ca_model.specs.ServerSteps as steps
 use Rattle.ca_model.specs.Speech.{In, Stored}
+use Rattle.ca_server_core.specs.declared.cause.Cause.{Cause}
 use Rattle.ca_server_core.specs.declared.step.Effect.{Effect}
 use Rattle.ca_server_core.specs.declared.step.Effect.TheVariants as effect
 use Rattle.ca_server_core.specs.declared.step.EndStep.TheVariants as step
@@ -29,14 +30,14 @@ use Rattle.ca_server_core.specs.Ending.{EndsAt, EndsIn}
 use Rattle.ca_server_core.specs.Following.{CoversAt, CoversFor, Follows, IsSettled, Settles, is_open}
 use Rattle.ca_server_core.specs.Handling.{Does, Recorded, Tells, is_wrote, replied}
 use Rattle.ca_server_core.specs.Reaching.{ReachesAll, ReachesFrom}
-use Rattle.ca_server_core.specs.Serving.{CircuitSteps, StepsIn, more_applied, stepped}
+use Rattle.ca_server_core.specs.Serving.{CircuitSteps, Reports, StepsIn, more_applied, stepped}
 use Rattle.ca_server_core.specs.Sound.{IsSound}
-use Rattle.ca_server_core.specs.Stepping.{EndSteps, after_first}
-use Rattle.ca_server_core.proofs.Closing.{none-waits, not-ended}
-use Rattle.ca_server_core.proofs.Covered.{covers-thinned, thins-changed}
+use Rattle.ca_server_core.specs.Stepping.{EndSteps, after_first, why_is}
+use Rattle.ca_server_core.proofs.Closing.{none-waits, not-ended, sound-freed}
+use Rattle.ca_server_core.proofs.Covered.{Thins, covers-thinned, thins-both, thins-changed, thins-ended, thins-freed, thins-same}
 use Rattle.ca_server_core.proofs.Each.{under-each}
 use Rattle.ca_server_core.proofs.Reached.{there-is}
-use Rattle.ca_server_core.proofs.Servers.{became, freed-changed, made_of, same-parts, server_of}
+use Rattle.ca_server_core.proofs.Servers.{became, freed-changed, freed-nothing, made_of, same-parts, server_of, stayed}
 use Rattle.ca_server_core.proofs.Stays.{at-filtered, link-kept}
 use Rattle.ca_server_core.proofs.Stepped.{handled-next, not-some, step-at}
 use Rattle.ca_server_core.proofs.Tables.{changed-back, changed-own}
@@ -186,7 +187,7 @@ module _ (port now n : ℕ) (b : Clock) (s u : Store) (t : Circuits) (h : Handle
   here : under (with_changed (λ (x : ServerCircuit). Open new) h t) h ≡ Some (Open new)
   here = changed-own (λ (x : ServerCircuit). Open new) t h (Open e) there
 
-  the-next : (next : Next y h e) × (next.after ≡ mid) × Tells next.action did u
+  the-next : (next : Next y h e) × (next.after ≡ mid) × (next.action ≡ d.1.action)
   the-next = handled-next port now n b s u t (with_changed (λ (x : ServerCircuit). Open new) h t) h e new did d refl
 
   no-true : {A : Type 0} → false ≡ true → A
@@ -309,6 +310,73 @@ module _ (port now n : ℕ) (b : Clock) (s u : Store) (t : Circuits) (h : Handle
   handled-all x last result final f sound settled = by (kind-of d.1.action did u d.1.tells)
     where
       by : Kind d.1.action did u → Steps y h (stepped result) (server_of port x now final b k)
-      by (Rests quiet reach none) = rests x last result final quiet reach f settled
-      by (Writes name value busies is told) = writes x last result final name value busies is told f sound settled
-      by (Begins q is told) = begins x last result final q is is told f settled
+      by (Rests quiet reach none) =
+          rests x last result final quiet (λ z. subst (λ (a : Action). Reaches a (λ (g : Handle). false) z z) (sym the-next.2) (reach z)) f settled
+      by (Writes name value busies is told) = writes x last result final name value busies (the-next.2 ∙ is) told f sound settled
+      by (Begins q is told) = begins x last result final q (the-next.2 ∙ is) is told f settled
+
+-- ---- the same along the view of the fields
+
+pub viewed-followed : (y : Server) (port now n k waited : ℕ) (b : Clock) (s u x : Store) (t after last final : Circuits) (h : Handle) (did : Effect) (q : Bool) (result : Step) → server_of port s now t b n ≡ y → q ≡ is_wrote did → k ≡ more_applied q n → waited ≡ length (output_of (under y.circuits h))
+    → StepsIn port t h s (Some (step.Handled did)) after u → Follows did h after u last x → IsSound (records_of x) last → Settles last h waited result final → Steps y h (stepped result) (server_of port x now final b k)
+viewed-followed y port now n k waited b s u x t after last final h did q result is wrote more long steps_in f sound settled =
+    subst (λ (z : Server). Steps z h (stepped result) (server_of port x now final b k)) is
+    (subst (λ (m : ℕ). Steps (server_of port s now t b n) h (stepped result) (server_of port x now final b m)) (sym (more ∙ ap (λ (z : Bool). more_applied z n) wrote))
+    (go steps_in))
+  where
+    long_is : waited ≡ length (output_of (under t h))
+    long_is = long ∙ ap (λ (z : Server). length (output_of (under z.circuits h))) (sym is)
+
+    go : StepsIn port t h s (Some (step.Handled did)) after u → Steps (server_of port s now t b n) h (stepped result) (server_of port x now final b (more_applied (is_wrote did) n))
+    go (inr none) = not-some (step.Handled did) none.1
+    go (inl g) = by g.0 g.1 g.2 g.3 g.4
+      where
+        by : (c new : ServerCircuit) → under t h ≡ Some c → CircuitSteps port h c s (Some (step.Handled did)) new u → after ≡ with_changed (λ (z : ServerCircuit). new) h t → Steps (server_of port s now t b n) h (stepped result) (server_of port x now final b (more_applied (is_wrote did) n))
+        by (Open e) new there d changed =
+            let at = became t after h new (Open d.0) changed d.4 in
+            let output : waited ≡ length e.link.output = long_is ∙ ap (λ (o : Option ServerCircuit). length (output_of o)) there in
+            handled-all port now n b s u t h e d.0 did there d.1 x last result final (subst (λ (z : Circuits). Follows did h z u last x) at f) sound (subst (λ (m : ℕ). Settles last h m result final) output settled)
+        by (Ended v left) new there d changed = not-some (step.Handled did) d.0
+
+-- ---- what holds then
+
+pub settled-sound : (rs : List Record) (last final : Circuits) (h : Handle) (waited : ℕ) (result : Step) → Settles last h waited result final → IsSound rs last → IsSound rs final
+settled-sound rs last final h waited result settled sound = by (under last h) refl
+  where
+    is : (o : Option ServerCircuit) → under last h ≡ o → final ≡ cond (is_open o) last (with_freed h last)
+    is o at = settled.1 ∙ ap (λ (z : Option ServerCircuit). cond (is_open z) last (with_freed h last)) at
+
+    by : (o : Option ServerCircuit) → under last h ≡ o → IsSound rs final
+    by (Some (Open e)) at = subst (λ (z : Circuits). IsSound rs z) (sym (is (Some (Open e)) at)) sound
+    by None at = subst (λ (z : Circuits). IsSound rs z) (sym (is None at ∙ freed-nothing last h at)) sound
+    by (Some (Ended w left)) at =
+        let clear = none-waits rs last h sound (λ z open_at. not-ended z w left (some_is (Open z) (Ended w left) (sym open_at ∙ at))) in
+        subst (λ (z : Circuits). IsSound rs z) (sym (is (Some (Ended w left)) at)) (subst (λ (qs : List Record). IsSound qs (with_freed h last)) clear (sound-freed rs last h sound))
+
+pub settled-thins : (last final : Circuits) (h : Handle) (waited : ℕ) (result : Step) → Settles last h waited result final → Thins last final
+settled-thins last final h waited result settled = subst (λ (z : Circuits). Thins last z) (sym settled.1) (by (is_open (under last h)))
+  where
+    by : (b : Bool) → Thins last (cond b last (with_freed h last))
+    by true = thins-same last
+    by false = thins-freed last h
+
+pub broke-thins : (port : ℕ) (s u : Store) (t after last : Circuits) (h : Handle) (c : Cause) (did : Step) → StepsIn port t h s (Some (step.Breaks c)) after u → Reports after h did last → Thins t last
+broke-thins port s u t after last h c did (inr none) r = not-some (step.Breaks c) none.1
+broke-thins port s u t after last h c did (inl g) r = by g.0 g.1 g.2 g.3 g.4
+  where
+    by : (x new : ServerCircuit) → under t h ≡ Some x → CircuitSteps port h x s (Some (step.Breaks c)) new u → after ≡ with_changed (λ (z : ServerCircuit). new) h t → Thins t last
+    by (Open e) new there broke changed =
+        let at = became t after h new (Ended (why_is c) e.link.output) changed broke.1 in
+        subst (λ (z : Circuits). Thins t z) (sym r.1)
+        (thins-both t after (with_freed h after) (subst (λ (z : Circuits). Thins t z) (sym at) (thins-ended t h (why_is c) e.link.output)) (thins-freed after h))
+    by (Ended w left) new there broke changed = not-some (step.Breaks c) broke.0
+
+pub none-thins : (port : ℕ) (s u : Store) (t after last : Circuits) (h : Handle) (did : Step) → StepsIn port t h s None after u → Reports after h did last → Thins t last
+none-thins port s u t after last h did (inr none) r =
+    subst (λ (z : Circuits). Thins t z) (sym (r.1 ∙ ap (λ (z : Circuits). with_freed h z) none.2)) (thins-freed t h)
+none-thins port s u t after last h did (inl g) r = by g.0 g.1 g.2 g.3 g.4
+  where
+    by : (x new : ServerCircuit) → under t h ≡ Some x → CircuitSteps port h x s None new u → after ≡ with_changed (λ (z : ServerCircuit). new) h t → Thins t last
+    by (Open e) new there was changed = absurd was
+    by (Ended w left) new there was changed =
+        subst (λ (z : Circuits). Thins t z) (sym (r.1 ∙ ap (λ (z : Circuits). with_freed h z) (stayed t after h new (Ended w left) there changed was.1))) (thins-freed t h)

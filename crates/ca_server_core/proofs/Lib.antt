@@ -27,3 +27,4 @@ pub mod Covered
 pub mod Each
 pub mod Reached
 pub mod Followed
+pub mod Thinned

@@ -121,8 +121,8 @@ module _ (port now n : ℕ) (b : Clock) where
       (sound-handled (server_of port s now t b n) s u h e (after_first x.0) x.0.m did (Due (known port s (after_first x.0)) x.0.m) new t refl i there (first-sound (records_of s) h e x.0 (i.ends h e there)) x.1 room few)
 
   -- the next message, whose write has not reached the subscriptions yet
-  pub handled-next : (s u : Store) (t after : Table ServerCircuit) (h : Handle) (e new : ServerEnd) (did : Effect) → EndSteps port h e s (step.Handled did) new u → after ≡ with_changed (λ (x : ServerCircuit). Open new) h t
-      → (next : Next (server_of port s now t b n) h e) × (next.after ≡ server_of port u now after b (more_applied (is_wrote did) n)) × Tells next.action did u
+  pub handled-next : (s u : Store) (t after : Table ServerCircuit) (h : Handle) (e new : ServerEnd) (did : Effect) (d : EndSteps port h e s (step.Handled did) new u) → after ≡ with_changed (λ (x : ServerCircuit). Open new) h t
+      → (next : Next (server_of port s now t b n) h e) × (next.after ≡ server_of port u now after b (more_applied (is_wrote did) n)) × (next.action ≡ d.1.action)
   handled-next s u t after h e new did (x, d) changed = (
     record {
       room = x.room;
@@ -135,7 +135,7 @@ module _ (port now n : ℕ) (b : Clock) where
       handles = handles-of s u t after h (after_first x) x.m did new d changed;
     },
     refl,
-    d.tells,
+    refl,
   )
 
   -- ---- nothing was done

@@ -1,15 +1,44 @@
-ghost use Rattle.std.specs.Prelude.{◌≡◌};
+ghost use Rattle.std.specs.Prelude.{◌≡◌, Bool};
+ghost use Rattle.ca_arena.specs.declared.handle.Handle.{Handle};
+ghost use Rattle.ca_dbr.specs.Elements.{elements};
 ghost use Rattle.ca_ids.specs.Table.{under};
+ghost use Rattle.ca_model.specs.ServerCalls.{Posts};
 ghost use Rattle.ca_records.specs.Store.{IsThere, records_of};
 ghost use Rattle.ca_server_core.specs.Covering.{Covers, watches_under};
 ghost use Rattle.ca_server_core.specs.Reaching.{PostsIn, ReachesFrom, ReachesNext};
 ghost use Rattle.ca_server_core.specs.Sound.{IsSound};
 
 use crate::circuit::Circuit;
+use crate::server::ServerCore;
 use ca_arena::Handle;
+use ca_dbr::{Meta, Value};
 use ca_ids::HeldTable;
 use ca_records::ServedRecords;
 use ca_server_watchers::Watchers;
+use ca_text::Refusal;
+
+impl ServerCore {
+    /// The record of this name has this value from now on, with its alarm and its time stamp. It reaches all subscriptions on the record
+    /// whose mask shares a bit with this one, on all circuits. A circuit's end without memory for an update has ended.
+    ///
+    /// Refused as UnknownRecord if no record has the name, as BadType if the value is not of its type, and as BadCount if it has no element
+    /// or more than the greatest count. A refusal changes nothing.
+    pub fn post(&mut self, name: &[u8], value: Value, meta: Meta, mask: u16) -> Result<(), Refusal>
+        ensures { (gone : Handle → Bool)
+            × Posts self.old name.now (record { value = elements value; meta = meta }) mask gone
+            result self.new }
+    {
+        let place = self.records.post(name, value, meta)?;
+        post_to_all(
+            &mut self.circuits,
+            &mut self.records,
+            &mut self.watchers,
+            place,
+            mask,
+        );
+        Ok(())
+    }
+}
 
 /// The value of the record at this place reaches all subscriptions on it whose mask shares a bit with this one, on all circuits. An end
 /// without memory for an update has ended. No circuit is visited that does not watch the record.
