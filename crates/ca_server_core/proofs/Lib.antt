@@ -26,3 +26,8 @@ pub mod Finished
 pub mod Pumps
 pub mod Pumped
 pub mod Added
+pub mod Covered
+pub mod Each
+pub mod Reached
+pub mod Followed
+pub mod Thinned

@@ -109,7 +109,7 @@ module _ (port now n : ℕ) (b : Clock) where
     few = i.few;
   }
 
-  step-at : (y : Server) (h : Handle) (c : ServerCircuit) (did : Stepped) (new : Server) → under y.circuits h ≡ Some c → StepsAt y h (Some c) did new → Steps y h did new
+  pub step-at : (y : Server) (h : Handle) (c : ServerCircuit) (did : Stepped) (new : Server) → under y.circuits h ≡ Some c → StepsAt y h (Some c) did new → Steps y h did new
   step-at y h c did new there is = subst (λ (o : Option ServerCircuit). StepsAt y h o did new) (sym there) is
 
   -- ---- a message was handled
@@ -121,8 +121,8 @@ module _ (port now n : ℕ) (b : Clock) where
       (sound-handled (server_of port s now t b n) s u h e (after_first x.0) x.0.m did (Due (known port s (after_first x.0)) x.0.m) new t refl i there (first-sound (records_of s) h e x.0 (i.ends h e there)) x.1 room few)
 
   -- the next message, whose write has not reached the subscriptions yet
-  pub handled-next : (s u : Store) (t after : Table ServerCircuit) (h : Handle) (e new : ServerEnd) (did : Effect) → EndSteps port h e s (step.Handled did) new u → after ≡ with_changed (λ (x : ServerCircuit). Open new) h t
-      → (next : Next (server_of port s now t b n) h e) × (next.after ≡ server_of port u now after b (more_applied (is_wrote did) n)) × Tells next.action did u
+  pub handled-next : (s u : Store) (t after : Table ServerCircuit) (h : Handle) (e new : ServerEnd) (did : Effect) (d : EndSteps port h e s (step.Handled did) new u) → after ≡ with_changed (λ (x : ServerCircuit). Open new) h t
+      → (next : Next (server_of port s now t b n) h e) × (next.after ≡ server_of port u now after b (more_applied (is_wrote did) n)) × (next.action ≡ d.1.action)
   handled-next s u t after h e new did (x, d) changed = (
     record {
       room = x.room;
@@ -135,7 +135,7 @@ module _ (port now n : ℕ) (b : Clock) where
       handles = handles-of s u t after h (after_first x) x.m did new d changed;
     },
     refl,
-    d.tells,
+    refl,
   )
 
   -- ---- nothing was done
@@ -221,7 +221,7 @@ module _ (port now n : ℕ) (b : Clock) where
 
 -- ---- by what the step of one circuit did
 
-not-some : {A B : Type 0} (d : A) → (let none : Option A = None in Some d ≡ none) → B
+pub not-some : {A B : Type 0} (d : A) → (let none : Option A = None in Some d ≡ none) → B
 not-some d e = absurd cc
 
 pub step-sound : (port : ℕ) (s u : Store) (t after : Table ServerCircuit) (h : Handle) (did : Effect) → StepsIn port t h s (Some (step.Handled did)) after u → IsSound (records_of s) t → IsSound (records_of u) after

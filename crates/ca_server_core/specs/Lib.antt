@@ -15,3 +15,6 @@ pub mod Finishing
 pub mod Subscribing
 pub mod Posting
 pub mod Pumping
+pub mod Covering
+pub mod Reaching
+pub mod Following

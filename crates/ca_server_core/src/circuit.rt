@@ -4,8 +4,10 @@ ghost use Rattle.ca_model.specs.Server as server;
 ghost use Rattle.ca_model.specs.ServerSteps.{output_of};
 ghost use Rattle.ca_records.specs.Store.{IsThere, records_of};
 ghost use Rattle.ca_server_core.specs.Circuits.{CircuitIsSound, GivesAt, IsLive, SendsAt};
+ghost use Rattle.ca_server_core.specs.Covering.{watches};
 ghost use Rattle.ca_server_core.specs.Ending.{EndsAt, IsLeft};
 ghost use Rattle.ca_server_core.specs.Finishing.{RepliesAt};
+ghost use Rattle.ca_server_core.specs.Following.{is_open};
 ghost use Rattle.ca_server_core.specs.Posting.{PostsAt};
 ghost use Rattle.ca_server_core.specs.Pumping.{PumpsAt};
 ghost use Rattle.ca_server_core.specs.Serving.{CircuitSteps};
@@ -202,6 +204,26 @@ impl Circuit {
         match &mut self.state {
             State::Open(end) => end.link.sent(n),
             State::Ended(_, _) => {}
+        }
+    }
+
+    // Whether its end is open.
+    pub(crate) fn is_open(&self) -> bool
+        ensures { result ≡ is_open (Some self.now) }
+    {
+        match &self.state {
+            State::Open(_) => true,
+            State::Ended(_, _) => false,
+        }
+    }
+
+    // Whether its end is open, and has a subscription on the record of this name.
+    pub(crate) fn watches(&self, name: &[u8]) -> bool
+        ensures { result ≡ watches name.now self.now }
+    {
+        match &self.state {
+            State::Open(end) => end.subscriptions.watches(name),
+            State::Ended(_, _) => false,
         }
     }
 }

@@ -10,6 +10,7 @@ use ca_arena::Handle;
 use ca_beacon::BeaconClock;
 use ca_ids::HeldTable;
 use ca_records::{Records, Rule, ServedRecords};
+use ca_server_watchers::Watchers;
 use ca_text::Refusal;
 use std::alloc::{AllocError, Global};
 use std::marker::Model;
@@ -24,6 +25,8 @@ pub struct ServerCore {
     // The moment that was given last.
     pub(crate) moment: u64,
     pub(crate) circuits: HeldTable<Circuit>,
+    // The circuits with subscriptions on each record.
+    pub(crate) watchers: Watchers,
     pub(crate) beacons: BeaconClock,
     // How many writes were applied.
     pub(crate) applied: u64,
@@ -35,7 +38,7 @@ impl Model for ServerCore {
     ghost Value = { Server };
 
     ghost use Rattle.ca_records.specs.Store.{records_of};
-    ghost use Rattle.ca_server_core.specs.Sound.{IsSound};
+    ghost use Rattle.ca_server_core.specs.Covering.{IsServer};
 
     ghost view = { λ s.
         record {
@@ -49,7 +52,7 @@ impl Model for ServerCore {
           applied = s.applied;
         } };
 
-    ghost invariant = { λ s. IsSound (records_of s.records) s.circuits };
+    ghost invariant = { λ s. IsServer (records_of s.records) s.watchers s.circuits };
 }
 
 impl ServerCore {
@@ -73,6 +76,7 @@ impl ServerCore {
             records,
             moment: now,
             circuits: HeldTable::new(alloc),
+            watchers: Watchers::new(alloc),
             beacons: BeaconClock::new(now),
             applied: 0,
         })

@@ -1,5 +1,6 @@
-ghost use Rattle.std.specs.Prelude.{◌≡◌, ◌<◌, ◌==◌, ◌≤◌, ◌*◌, IfOk, IfSome, OnErr, OnOk, false, true, map, length};
+ghost use Rattle.std.specs.Prelude.{◌≡◌, ◌<◌, ◌==◌, ◌≤◌, ◌*◌, IfOk, IfSome, OnErr, OnOk, false, true, map, length, option_to_list, slice_get};
 ghost use Rattle.std.specs.List.{list_any};
+ghost use Rattle.std.specs.Str.{bytes_eq};
 ghost use Rattle.ca_text.specs.Limits.{circuit_queues, element_limit, queue_subscriptions};
 ghost use Rattle.ca_dbr.specs.Elements.{count_of, elements};
 ghost use Rattle.ca_queue.specs.Keys.{same};
@@ -197,6 +198,29 @@ impl Subscriptions {
         let update = Update::of(alloc, value, *meta)?;
         self.queues.post(queue, key, update);
         Ok(())
+    }
+
+    /// Whether one of them is on the record of this name.
+    pub fn watches(&self, name: &[u8]) -> bool
+        ensures { result ≡ list_any (λ s. bytes_eq s.name name.now) self.now.subscriptions }
+    {
+        'seeking: for place in 0..self.len() {
+            if self.is_on(place, name) {
+                return true;
+            }
+        }
+        false
+    }
+
+    // Whether the one at this place, if there is one, is on the record of this name.
+    fn is_on(&self, place: usize, name: &[u8]) -> bool
+        ensures { result ≡ list_any (λ s. bytes_eq s.name name.now)
+            (option_to_list (slice_get self.now.subscriptions place)) }
+    {
+        match self.standing.get_index(place) {
+            Some((_, standing)) => standing.is_on(name),
+            None => false,
+        }
     }
 
     /// Takes an update from the first queue that may give one, and says what its subscription asked for. None if none may.
