@@ -28,3 +28,5 @@ pub mod Each
 pub mod Reached
 pub mod Followed
 pub mod Thinned
+pub mod Nexts
+pub mod Posted

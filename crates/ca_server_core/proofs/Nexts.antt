@@ -180,7 +180,7 @@ module _ (port now n : ℕ) (b : Clock) where
       abbrev all_gone : Handle → Bool
       all_gone g = same_handle g h || gone g
 
-      only : Handle → ServerCircuit → ServerCircuit
+      abbrev only : Handle → ServerCircuit → ServerCircuit
       only g x = cond (same_handle g h) (Ended why.OutOfMemory e.link.output) x
 
       not-it : (g : Handle) → (g ≡ h → ⊥) → (b : Bool) → same_handle g h ≡ b → same_handle g h ≡ false
