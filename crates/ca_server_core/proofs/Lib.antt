@@ -30,3 +30,5 @@ pub mod Followed
 pub mod Thinned
 pub mod Nexts
 pub mod Posted
+pub mod Pumps
+pub mod Pumped

@@ -27,6 +27,11 @@ pub ok-then : {T E P Q : Type 0} (r : Result T E) → (P → Q) → OnOk r P →
 ok-then (Ok x) f p = f p
 ok-then (Err e) f p = tt
 
+-- the same for two facts
+pub ok-both : {T E P Q R : Type 0} (r : Result T E) → (P → Q → R) → OnOk r P → OnOk r Q → OnOk r R
+ok-both (Ok x) f p q = f p q
+ok-both (Err e) f p q = tt
+
 -- what holds anyway holds if the call was refused
 pub in-err : {T E P : Type 0} (r : Result T E) → P → OnErr r P
 in-err (Ok x) p = tt

@@ -8,6 +8,9 @@ use Rattle.ca_records.specs.declared.puts.Put.{Put}
 use Rattle.ca_records.specs.declared.puts.Stamp.{Stamp}
 use Rattle.ca_records.specs.Puts.{Record, record_named, with_record, with_value, with_waiting, withdrawn, written_meta}
 use Rattle.ca_records.specs.Store.{HasAt, Store, records_of}
+use Rattle.ca_text.specs.Command.{command_number}
+use Rattle.ca_text.specs.declared.command.Command.{Command}
+use Rattle.ca_text.specs.declared.command.Command.TheVariants as command
 use Rattle.ca_text.specs.Status.{bad_channel}
 use Rattle.ca_wire.specs.Fields.{Fields}
 use Rattle.ca_wire.specs.Messages.{error_reply, status_reply}
@@ -65,6 +68,13 @@ abbrev pub Fits : List Record → ServerEnd → Fields → Action → Type 0
 Fits rs e m (Opens c) = (r : Record) × (record_named rs c.name ≡ Some r)
 Fits rs e m (Waits name value) = (c : Handle × OpenChannel) × (by_wire e.channels m.p1 ≡ Some c) × (c.1.name ≡ name) × (c.1.retired ≡ false)
 Fits rs e m action = Unit {0}
+
+-- the message is of this command, which leaves its server nothing to do
+pub record IsQuiet (c : Command) (m : Fields) : Type 0 where
+  pub is : m.command ≡ command_number c
+  pub no_write : c ≡ command.Write → ⊥
+  pub no_put : c ≡ command.WriteNotify → ⊥
+  pub no_event : c ≡ command.EventAdd → ⊥
 
 -- whether a write was applied
 abbrev pub is_wrote : Effect → Bool

@@ -17,3 +17,4 @@ pub mod Posting
 pub mod Covering
 pub mod Reaching
 pub mod Following
+pub mod Pumping

@@ -9,6 +9,7 @@ ghost use Rattle.ca_server_core.specs.Ending.{EndsAt, IsLeft};
 ghost use Rattle.ca_server_core.specs.Finishing.{RepliesAt};
 ghost use Rattle.ca_server_core.specs.Following.{is_open};
 ghost use Rattle.ca_server_core.specs.Posting.{PostsAt};
+ghost use Rattle.ca_server_core.specs.Pumping.{PumpsAt};
 ghost use Rattle.ca_server_core.specs.Serving.{CircuitSteps};
 ghost use Rattle.ca_server_core.specs.Stepping.{why_is};
 
@@ -143,6 +144,23 @@ impl Circuit {
     {
         match &mut self.state {
             State::Open(end) => match end.post(records.at(place).state(), mask) {
+                Ok(()) => end.know(),
+                Err(_) => {
+                    let left = end.leave(circuit, records);
+                    self.state = State::Ended(Cause::OutOfMemory, left);
+                }
+            },
+            State::Ended(_, _) => {}
+        }
+    }
+
+    // Updates leave the queues of its end until none may. The end has ended if there is no memory for the next.
+    pub(crate) fn pump(&mut self, circuit: Handle, records: &mut ServedRecords)
+        requires { CircuitIsSound (records_of records.old) circuit self.old }
+        ensures { PumpsAt circuit self.old records.old self.new records.new }
+    {
+        match &mut self.state {
+            State::Open(end) => match end.pump() {
                 Ok(()) => end.know(),
                 Err(_) => {
                     let left = end.leave(circuit, records);

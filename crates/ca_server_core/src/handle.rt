@@ -1,9 +1,10 @@
-ghost use Rattle.std.specs.Prelude.{◌≡◌, IfOk, OnErr};
+ghost use Rattle.std.specs.Prelude.{◌≡◌, IfOk, OnErr, OnOk};
 ghost use Rattle.ca_link.specs.Calls.{IsOpen};
 ghost use Rattle.ca_records.specs.Store.{records_of};
 ghost use Rattle.ca_model.specs.Due.{Due};
 ghost use Rattle.ca_server_core.specs.Clearing.{ArePuts};
-ghost use Rattle.ca_server_core.specs.Handling.{AllStay, AreServed, Does, MayLack, known};
+ghost use Rattle.ca_server_core.specs.declared.step.Effect.TheVariants.{Quiet};
+ghost use Rattle.ca_server_core.specs.Handling.{AllStay, AreServed, Does, IsQuiet, MayLack, known};
 
 use crate::end::End;
 use crate::step::Effect;
@@ -42,51 +43,52 @@ impl End {
             Command::Write => self.write(records, message),
             Command::WriteNotify => self.write_notify(circuit, records, message),
             Command::EventAdd => self.subscribe(records, message),
-            Command::Version => {
-                self.version()?;
+            _ => {
+                self.handle_quiet(port, circuit, records, command, message)?;
                 Ok(Effect::Quiet)
             }
-            Command::ClientName => {
-                self.client_name(message)?;
-                Ok(Effect::Quiet)
-            }
-            Command::HostName => {
-                self.host_name(message)?;
-                Ok(Effect::Quiet)
-            }
-            Command::Echo => {
-                self.echo()?;
-                Ok(Effect::Quiet)
-            }
-            Command::Search => {
-                self.search(port, records, message)?;
-                Ok(Effect::Quiet)
-            }
-            Command::CreateChannel => {
-                self.create(records, message)?;
-                Ok(Effect::Quiet)
-            }
-            Command::ClearChannel => {
-                self.clear(circuit, records, message)?;
-                Ok(Effect::Quiet)
-            }
-            Command::ReadNotify => {
-                self.read(records, message)?;
-                Ok(Effect::Quiet)
-            }
-            Command::EventCancel => {
-                self.cancel(message)?;
-                Ok(Effect::Quiet)
-            }
+        }
+    }
+
+    /// Handles a message of a command that leaves the server nothing to do.
+    fn handle_quiet(
+        &mut self,
+        port: u16,
+        circuit: Handle,
+        records: &mut ServedRecords,
+        command: Command,
+        message: &Message,
+    ) -> Result<(), AllocError>
+        requires open { IsOpen self.old.link }
+        requires served { AreServed (records_of records.old) self.old.channels }
+        requires puts { ArePuts circuit (records_of records.old) self.old.channels }
+        requires quiet { IsQuiet command message.now }
+        ensures ok { OnOk result (Does (Due (known port records.old self.old) message.now)
+            records.old circuit self.old message.now Quiet records.new self.new) }
+        ensures err { OnErr result (records.new ≡ records.old) }
+        ensures output { OnErr result (self.new.link.output ≡ self.old.link.output) }
+        ensures channels { OnErr result (AllStay self.old.channels self.new.channels) }
+        ensures memory { OnErr result (MayLack (known port records.old self.old) message.now) }
+    {
+        match command {
+            Command::Version => self.version(),
+            Command::ClientName => self.client_name(message),
+            Command::HostName => self.host_name(message),
+            Command::Echo => self.echo(),
+            Command::Search => self.search(port, records, message),
+            Command::CreateChannel => self.create(records, message),
+            Command::ClearChannel => self.clear(circuit, records, message),
+            Command::ReadNotify => self.read(records, message),
+            Command::EventCancel => self.cancel(message),
             Command::EventsOff => {
                 self.switch_events(false);
-                Ok(Effect::Quiet)
+                Ok(())
             }
             Command::EventsOn => {
                 self.switch_events(true);
-                Ok(Effect::Quiet)
+                Ok(())
             }
-            _ => Ok(Effect::Quiet),
+            _ => Ok(()),
         }
     }
 }

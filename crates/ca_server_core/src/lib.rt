@@ -1,9 +1,8 @@
 //! A server of Channel Access: its records, and its ends of circuits. It does no input and no output: bytes that came are
 //! given to it, and those that wait to be sent are asked of it.
 //!
-//! It is begun: `ServerCore` has `new`, `accept`, `give`, `out_bytes`, `sent`, `step`, `cut`, `finish`, `stamp`, `applied`, `waiting`,
-//! `datagram` and `beacon`. It has no call yet for posts, removals and pumps. Subscriptions are missing: an EVENT_ADD without a fault ends its
-//! circuit as if there was no memory for it. No program uses this crate.
+//! It is begun: `ServerCore` has `new`, `accept`, `give`, `out_bytes`, `sent`, `step`, `pump`, `cut`, `finish`, `stamp`, `applied`, `waiting`,
+//! `datagram` and `beacon`. It has no call yet for posts and removals. No program uses this crate.
 #![tactic(auto)]
 
 mod beacons;
@@ -25,6 +24,7 @@ mod following;
 mod handle;
 mod names;
 mod posting;
+mod pumping;
 mod put;
 mod read;
 mod search;
