@@ -23,11 +23,13 @@ pub mod LongBytes
 pub mod Could
 pub mod Stepped
 pub mod Finished
-pub mod Pumps
-pub mod Pumped
-pub mod Added
 pub mod Covered
 pub mod Each
 pub mod Reached
 pub mod Followed
 pub mod Thinned
+pub mod Nexts
+pub mod Posted
+pub mod Pumps
+pub mod Pumped
+pub mod Added

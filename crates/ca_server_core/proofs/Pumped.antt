@@ -1,5 +1,5 @@
 -- A server after the updates of a circuit left their queues.
-use Rattle.std.proofs.Common.{◌≡◌, ◌≤◌, ◌⊎◌, ℕ, inl, inr, List, [], ◌∷◌, length, Some, None, Option, refl, sym, ap, ◌∙◌, subst}
+use Rattle.std.proofs.Common.{◌≡◌, ◌≤◌, ◌⊎◌, ℕ, inl, inr, List, [], length, Some, None, Option, refl, sym, ap, ◌∙◌, subst}
 use Rattle.std.specs.List.{FoldsTo}
 use Rattle.ca_arena.specs.declared.handle.Handle.{Handle}
 use Rattle.ca_beacon.specs.Clock.{Clock}
@@ -10,9 +10,8 @@ use Rattle.ca_text.specs.Limits.{arena_slots}
 use Rattle.ca_text.proofs.Places.{some_is}
 use Rattle.ca_model.specs.Ends.{Why}
 use Rattle.ca_model.specs.Ends as why
-use Rattle.ca_model.specs.Server.{Ended, Open, OpenChannel, Server, ServerCircuit, ServerEnd, Subscription}
+use Rattle.ca_model.specs.Server.{Ended, Open, OpenChannel, Server, ServerCircuit, ServerEnd}
 use Rattle.ca_model.specs.ServerSteps.{Leaves, Pumps, Rests, Update, ended, with_end}
-use Rattle.ca_model.specs.Speech.{In}
 use Rattle.ca_server_core.specs.Clearing.{ArePuts}
 use Rattle.ca_server_core.specs.Ending.{WithdrawsAll}
 use Rattle.ca_server_core.specs.Handling.{AreServed}
@@ -21,7 +20,6 @@ use Rattle.ca_server_core.specs.Sound.{EndIsSound, IsSound}
 use Rattle.ca_server_core.specs.Subscribing.{events_of}
 use Rattle.ca_server_subscriptions.specs.Subscribed.{HasRoom}
 use Rattle.ca_server_core.proofs.Closing.{not-ended, sound-ended}
-use Rattle.ca_server_core.proofs.Covered.{Thins, thins-changed, thins-ended, thins-same}
 use Rattle.ca_server_core.proofs.Pumps.{folds-channels, folds-open}
 use Rattle.ca_server_core.proofs.Servers.{became, same-parts, server_of, stayed}
 use Rattle.ca_server_core.proofs.Sounds.{sound-changed}
@@ -55,23 +53,6 @@ sound-pumped s u t after h (inl g) i = by g.0 g.1 g.2 g.3 g.4
         (subst (λ (rs : List Record). IsSound rs (with_changed (λ (z : ServerCircuit). Ended why.OutOfMemory last.link.output) h t)) (sym w.records) (sound-ended (records_of s) t h why.OutOfMemory last.link.output i))
     by (Ended v left) new there did changed =
         subst (λ (x : Circuits). IsSound (records_of u) x) (sym (stayed t after h new (Ended v left) there changed did.0)) (subst (λ (x : Store). IsSound (records_of x) t) (sym did.1) i)
-
--- its subscriptions are the same
-folds-subscriptions : (p : ServerEnd) (us : List Update) (q : ServerEnd) → FoldsTo Leaves p us q → q.subscriptions ≡ p.subscriptions
-folds-subscriptions p [] q is = ap (λ (x : ServerEnd). x.subscriptions) (sym is)
-folds-subscriptions p (u ∷ us) q f = folds-subscriptions f.0 us q f.2 ∙ ap (λ (x : ServerEnd). x.subscriptions) f.1.leaves
-
-pub thins-pumped : (s u : Store) (t after : Circuits) (h : Handle) → PumpsIn t h s after u → Thins t after
-thins-pumped s u t after h (inr none) = subst (λ (x : Circuits). Thins t x) (sym none.1) (thins-same t)
-thins-pumped s u t after h (inl g) = by g.0 g.1 g.2 g.3 g.4
-  where
-    by : (c new : ServerCircuit) → under t h ≡ Some c → PumpsAt h c s new u → after ≡ with_changed (λ (x : ServerCircuit). new) h t → Thins t after
-    by (Open e) new there (us, last, f, inl (rests, is, room, same)) changed =
-        subst (λ (x : Circuits). Thins t x) (sym (became t after h new (Open last) changed is))
-        (thins-changed t h e last there (λ x i. subst (λ (ss : List Subscription). In ss x) (folds-subscriptions e us last f) i))
-    by (Open e) new there (us, last, f, inr (more, is, w)) changed =
-        subst (λ (x : Circuits). Thins t x) (sym (became t after h new (Ended why.OutOfMemory last.link.output) changed is)) (thins-ended t h why.OutOfMemory last.link.output)
-    by (Ended v left) new there did changed = subst (λ (x : Circuits). Thins t x) (sym (stayed t after h new (Ended v left) there changed did.0)) (thins-same t)
 
 not-open : (w : Why) (left : List ℕ) (e : ServerEnd) (o : Option ServerCircuit) → o ≡ Some (Ended w left) → o ≡ Some (Open e) → ⊥
 not-open w left e o a b = not-ended e w left (some_is (Open e) (Ended w left) (sym b ∙ a))

@@ -1,5 +1,6 @@
 -- The calls that begin no subscription leave the lists of those that watch complete.
-use Rattle.std.proofs.Common.{◌≡◌, ℕ, inl, inr, List, Some, Result, Ok, Err, refl, sym, ap, ◌∙◌, subst}
+use Rattle.std.proofs.Common.{◌≡◌, ℕ, inl, inr, List, [], ◌∷◌, Some, Result, Ok, Err, refl, sym, ap, ◌∙◌, subst}
+use Rattle.std.specs.List.{FoldsTo}
 use Rattle.ca_arena.specs.declared.handle.Handle.{Handle}
 use Rattle.ca_ids.specs.Table.{Table, under, with_changed, with_held}
 use Rattle.ca_link.specs.Link.{with_given, with_handed}
@@ -9,10 +10,13 @@ use Rattle.ca_text.specs.declared.refusal.Refusal.{Refusal}
 use Rattle.ca_text.specs.declared.refusal.Refusal.TheVariants as refusal
 use Rattle.ca_server_watchers.specs.Watching.{Watched}
 use Rattle.ca_model.specs.Ends as why
-use Rattle.ca_model.specs.Server.{Ended, Open, ServerCircuit, ServerEnd, new_end}
+use Rattle.ca_model.specs.Server.{Ended, Open, ServerCircuit, ServerEnd, Subscription, new_end}
+use Rattle.ca_model.specs.ServerSteps.{Leaves, Update}
+use Rattle.ca_model.specs.Speech.{In}
 use Rattle.ca_server_core.specs.Circuits.{GivesAt, GivesIn, OpensIn, SendsAt, SendsIn}
 use Rattle.ca_server_core.specs.Covering.{Covers}
 use Rattle.ca_server_core.specs.Finishing.{RepliesAt, RepliesIn, with_reply}
+use Rattle.ca_server_core.specs.Pumping.{PumpsAt, PumpsIn}
 use Rattle.ca_server_core.proofs.Covered.{Thins, covers-accepted, thins-changed, thins-ended, thins-same}
 use Rattle.ca_server_core.proofs.Servers.{became, stayed}
 
@@ -63,3 +67,21 @@ covers-opened w t after now c (Ok h) i is g = subst (λ (x : Circuits). Covers w
 covers-opened w t after now c (Err refusal.ArenaFull) i is g = subst (λ (x : Circuits). Covers w x) (sym g.1) i
 covers-opened w t after now c (Err refusal.OutOfMemory) i is g = subst (λ (x : Circuits). Covers w x) (sym g.1) i
 covers-opened w t after now c (Err _) i is g = absurd g
+
+-- updates that leave take no subscription with them
+folds-subscriptions : (e : ServerEnd) (us : List Update) (after : ServerEnd) → FoldsTo Leaves e us after → after.subscriptions ≡ e.subscriptions
+folds-subscriptions e [] after f = ap (λ (x : ServerEnd). x.subscriptions) (sym f)
+folds-subscriptions e (u ∷ us) after f = folds-subscriptions f.0 us after f.2 ∙ ap (λ (x : ServerEnd). x.subscriptions) f.1.leaves
+
+pub thins-pumped : (s u : Store) (t after : Circuits) (h : Handle) → PumpsIn t h s after u → Thins t after
+thins-pumped s u t after h (inr none) = same-thins t after none.1
+thins-pumped s u t after h (inl g) = by g.0 g.1 g.2 g.3 g.4
+  where
+    by : (c new : ServerCircuit) → under t h ≡ Some c → PumpsAt h c s new u → after ≡ with_changed (λ (x : ServerCircuit). new) h t → Thins t after
+    by (Open e) new there (us, last, f, inl (rests, is, room, same)) changed =
+        let subs = folds-subscriptions e us last f in
+        subst (λ (z : Circuits). Thins t z) (sym (became t after h new (Open last) changed is))
+        (thins-changed t h e last there (λ s i. subst (λ (ss : List Subscription). In ss s) subs i))
+    by (Open e) new there (us, last, f, inr (more, is, w)) changed =
+        subst (λ (z : Circuits). Thins t z) (sym (became t after h new (Ended why.OutOfMemory last.link.output) changed is)) (thins-ended t h why.OutOfMemory last.link.output)
+    by (Ended v left) new there did changed = same-thins t after (stayed t after h new (Ended v left) there changed did.0)

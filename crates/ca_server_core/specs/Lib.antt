@@ -14,7 +14,7 @@ pub mod Serving
 pub mod Finishing
 pub mod Subscribing
 pub mod Posting
-pub mod Pumping
 pub mod Covering
 pub mod Reaching
 pub mod Following
+pub mod Pumping

@@ -1,8 +1,8 @@
 //! A server of Channel Access: its records, and its ends of circuits. It does no input and no output: bytes that came are
 //! given to it, and those that wait to be sent are asked of it.
 //!
-//! It is begun: `ServerCore` has `new`, `accept`, `give`, `out_bytes`, `sent`, `step`, `pump`, `cut`, `finish`, `add_record`, `stamp`,
-//! `applied`, `waiting`, `datagram` and `beacon`. It has no call yet for posts and removals. No program uses this crate.
+//! It is begun: `ServerCore` has `new`, `accept`, `give`, `out_bytes`, `sent`, `step`, `pump`, `cut`, `finish`, `post`, `add_record`,
+//! `stamp`, `applied`, `waiting`, `datagram` and `beacon`. It has no call yet for removals. No program uses this crate.
 #![tactic(auto)]
 
 mod adding;

@@ -1,9 +1,7 @@
 use Rattle.ca_server_core.proofs.Covered.{covers-thinned}
-use Rattle.ca_server_core.proofs.Pumped.{pumps-at, sound-pumped, thins-pumped}
+use Rattle.ca_server_core.proofs.Pumped.{pumps-at, sound-pumped}
+use Rattle.ca_server_core.proofs.Thinned.{thins-pumped}
 use Rattle.ca_server_core.proofs.server.ServerCore.pump.Goals as goal
-
-pub pump_on-requires : goal.pump_on-requires
-pump_on-requires c = c.self.invariant.sound
 
 pub invariant_of-self : goal.invariant_of-self
 invariant_of-self c =
