@@ -11,8 +11,11 @@ use Rattle.ca_wire.specs.Fields.{Fields}
 use Rattle.ca_model.specs.Due.{Action}
 use Rattle.ca_model.specs.Ends.{Why}
 use Rattle.ca_model.specs.Server.{Ended, Open, OpenChannel, Server, ServerCircuit, ServerEnd}
+use Rattle.ca_server_core.specs.declared.step.Effect.{Effect}
 use Rattle.ca_server_core.specs.Handling.{Does}
-use Rattle.ca_server_core.specs.Sound.{EndIsSound, IsQuiet, IsSound}
+use Rattle.ca_server_core.specs.Sound.{EndIsSound, IsSound}
+use Rattle.ca_server_core.specs.Subscribing.{events_of}
+use Rattle.ca_server_subscriptions.specs.Subscribed.{HasRoom}
 use Rattle.ca_server_core.proofs.Cleared.{is-same, none-of, same-is}
 use Rattle.ca_server_core.proofs.Stays.{IsNew, Keeps, Stays, back-channel, link-kept, new-channel, new-circuit, recorded-keeps, stay-channel, withdrawn-keeps}
 use Rattle.ca_server_core.proofs.Tables.{changed-back, changed-other, changed-own, freed-back, freed-other}
@@ -34,7 +37,7 @@ pub end-stays : (rs qs : List Record) (g : Handle) (x : ServerEnd) (Stays : Wait
     → ((q : Record) (w : WaitingPut) → New q w → same_handle w.put.circuit g ≡ true → ⊥) → EndIsSound rs g x → EndIsSound qs g x
 end-stays rs qs g x St New k none i = record {
   live = i.live;
-  quiet = i.quiet;
+  room = i.room;
   few = i.few;
   served = λ f c at live. (let r = i.served f c at live in k.0 c.name r.0 r.1);
   puts = λ j q l w at at' hit. elim (k.1 j q l w at at') [
@@ -46,14 +49,14 @@ end-stays rs qs g x St New k none i = record {
 -- ---- a message is handled
 
 -- the end that handled it is sound
-handled-end : (y : Server) (s t : Store) (h : Handle) (e : ServerEnd) (m : Fields) (writes : Bool) (D : List Fields → Action → Type 0) (new : ServerEnd) → y.records ≡ records_of s → Does D s h e m writes t new → EndIsSound (records_of s) h e → IsQuiet new → length new.channels ≤ arena_slots → EndIsSound (records_of t) h new
-handled-end y s t h e m writes D new same d i quiet few =
+handled-end : (y : Server) (s t : Store) (h : Handle) (e : ServerEnd) (m : Fields) (did : Effect) (D : List Fields → Action → Type 0) (new : ServerEnd) → y.records ≡ records_of s → Does D s h e m did t new → EndIsSound (records_of s) h e → HasRoom (events_of new) → length new.channels ≤ arena_slots → EndIsSound (records_of t) h new
+handled-end y s t h e m did D new same d i room few =
     let k = recorded-keeps (records_of s) (records_of t) s.stamp h e m d.action d.records in
     let acts = d.acts y same in
     let channels : new.channels ≡ d.acted.channels = ap (λ (x : ServerEnd). x.channels) d.leaves in
     record {
       live = ap (λ (x : ServerEnd). x.link.input.closed) d.leaves ∙ ap (λ (l : LinkState). l.input.closed) (link-kept y e d.action d.acted acts) ∙ i.live;
-      quiet = quiet;
+      room = room;
       few = few;
       served = λ g c at live. elim (back-channel y (records_of s) e m d.action d.acted g c acts d.fits (subst (λ (u : Table OpenChannel). under u g ≡ Some c) channels at)) [
         | inl old ↦ (let r = i.served g c old live in k.0 c.name r.0 r.1)
@@ -78,15 +81,15 @@ stands c h was new there g x at = by (same_handle g h) refl
     by true hit = (new, subst (λ (k : Handle). under (with_changed (λ (z : ServerCircuit). Open new) h c) k ≡ Some (Open new)) (sym (same-is g h hit)) (changed-own (λ (z : ServerCircuit). Open new) c h (Open was) there))
     by false miss = (x, changed-other (λ (z : ServerCircuit). Open new) c g h (Open x) at (λ one. both (same_handle g h) (is-same g h one) miss))
 
-pub sound-handled : (y : Server) (s t : Store) (h : Handle) (was e : ServerEnd) (m : Fields) (writes : Bool) (D : List Fields → Action → Type 0) (new : ServerEnd) (c : Circuits) → y.records ≡ records_of s → IsSound (records_of s) c → under c h ≡ Some (Open was) → EndIsSound (records_of s) h e → Does D s h e m writes t new → IsQuiet new → length new.channels ≤ arena_slots → IsSound (records_of t) (with_changed (λ (z : ServerCircuit). Open new) h c)
-sound-handled y s t h was e m writes D new c same i there sound d quiet few =
+pub sound-handled : (y : Server) (s t : Store) (h : Handle) (was e : ServerEnd) (m : Fields) (did : Effect) (D : List Fields → Action → Type 0) (new : ServerEnd) (c : Circuits) → y.records ≡ records_of s → IsSound (records_of s) c → under c h ≡ Some (Open was) → EndIsSound (records_of s) h e → Does D s h e m did t new → HasRoom (events_of new) → length new.channels ≤ arena_slots → IsSound (records_of t) (with_changed (λ (z : ServerCircuit). Open new) h c)
+sound-handled y s t h was e m did D new c same i there sound d room few =
     let k = recorded-keeps (records_of s) (records_of t) s.stamp h e m d.action d.records in
     record {
       ends = λ g x at. elim (changed-back (λ (z : ServerCircuit). Open new) c g h (Open x) at) [
         | inl own ↦
             let same_end : x ≡ new = open-is x new own.1.2 in
             subst (λ (z : ServerEnd). EndIsSound (records_of t) g z) (sym same_end)
-            (subst (λ (f : Handle). EndIsSound (records_of t) f new) (sym own.0) (handled-end y s t h e m writes D new same d sound quiet few))
+            (subst (λ (f : Handle). EndIsSound (records_of t) f new) (sym own.0) (handled-end y s t h e m did D new same d sound room few))
         | inr old ↦
             end-stays (records_of s) (records_of t) g x (Stays h d.action) (IsNew h e m d.action) k
             (λ q w made hit. old.0 (sym (same-is w.put.circuit g hit) ∙ new-circuit h e m d.action q w made)) (i.ends g x old.1)

@@ -1,9 +1,9 @@
 -- Something is due for every message on an end that is sound, and can be done.
-use Rattle.std.proofs.Common.{◌≡◌, ℕ, zero, suc, ◌+◌, ◌<◌, ◌≤◌, ◌⊎◌, inl, inr, ◌==◌, ◌&&◌, ◌||◌, Bool, true, false, not, List, [], ◌∷◌, ◌++◌, length, if◌then◌else◌, Option, Some, None, is_some, slice_set, Result, Ok, Err, refl, sym, ap, ◌∙◌, subst, arith}
+use Rattle.std.proofs.Common.{◌≡◌, ℕ, zero, suc, ◌+◌, ◌<◌, ◌≤◌, ◌%◌, ◌⊎◌, inl, inr, ◌==◌, ◌&&◌, ◌||◌, Bool, true, false, not, List, [], ◌∷◌, ◌++◌, length, if◌then◌else◌, Option, Some, None, is_some, slice_set, Result, Ok, Err, refl, sym, ap, ◌∙◌, subst, arith}
 use Rattle.std.specs.Prelude.{map, nat_le, nat_lt, option_map}
 use Rattle.std.specs.Str.{bytes_eq}
 use Rattle.std.proofs.lemmas.Bool.{and_cases, eq-eqb, eqb-true, leb-false, ltb-false, ltb-true, or_parts}
-use Rattle.std.proofs.lemmas.List.{get_or_past}
+use Rattle.std.proofs.lemmas.List.{get_or_past, length-map}
 use Rattle.std.proofs.lemmas.Option.{get_or_from_slice_get}
 use Rattle.std.proofs.lemmas.Slice.Eq.{bytes_eq-Decides}
 use Rattle.ca_text.specs.declared.command.Command.{Command}
@@ -12,7 +12,7 @@ use Rattle.ca_text.specs.declared.refusal.Refusal.{Refusal}
 use Rattle.ca_text.specs.declared.refusal.Refusal.TheVariants as refusal
 use Rattle.ca_text.specs.Limits.{arena_slots, last_generation}
 use Rattle.ca_text.specs.Place.{At}
-use Rattle.ca_text.specs.Status.{bad_channel, bad_count, bad_type, get_fail, no_convert, no_read_access, normal}
+use Rattle.ca_text.specs.Status.{add_fail, bad_channel, bad_count, bad_type, get_fail, no_convert, no_read_access, normal}
 use Rattle.ca_text.proofs.Places.{At-within, some_is}
 use Rattle.ca_arena.specs.declared.handle.Handle.{Handle}
 use Rattle.ca_arena.specs.Arena.{Place, blank, place_at}
@@ -30,12 +30,12 @@ use Rattle.ca_records.specs.Record.{RecordState}
 use Rattle.ca_records.specs.Rules.{may_read, rights}
 use Rattle.ca_records.specs.Store.{Store, present, records_of}
 use Rattle.ca_wire.specs.Fields.{Fields}
-use Rattle.ca_wire.specs.Messages.{bare, cancel_reply, cleared_reply, error_reply, failed_reply, no_cid, status_reply, text_in, value_reply, version_reply}
-use Rattle.ca_queue.specs.Keys.{same}
-use Rattle.ca_queue.specs.Queue.{Queue, added, no_queue, posted, switched}
+use Rattle.ca_wire.specs.Messages.{bare, cancel_reply, cleared_reply, error_reply, failed_reply, mask_in, no_cid, status_reply, text_in, value_reply, version_reply}
+use Rattle.ca_queue.specs.Keys.{is_among, same}
+use Rattle.ca_queue.specs.Queue.{added, posted}
 use Rattle.ca_model.specs.Due.{Action, Adds, Applies, CidTaken, Clears, Drops, Due, Greets, KnownChannel, Knows, Names, Nothing, PutReads, PutRefused, PutTaken, Serves, Switches, Waits, early_fault, fault_of_event, is_known, key_in, late_fault, must_wait, named, search_due, subscription_in}
 use Rattle.ca_model.specs.Ends.{Peer}
-use Rattle.ca_model.specs.Faults.{base_type_of, early_put_fault, read_count, read_fault, read_shown, too_many, type_of}
+use Rattle.ca_model.specs.Faults.{base_type_of, early_put_fault, read_count, read_fault, read_shown, subscribed_count, subscription_fault, too_many, type_of}
 use Rattle.ca_model.specs.Server.{OpenChannel, Server, ServerEnd, Subscription, key_of, with_events, without_subscriptions}
 use Rattle.ca_model.specs.ServerSteps.{Acts, TakesIn, known_channel, known_record, without_channel}
 use Rattle.ca_model.specs.Speech.{In, Stored}
@@ -76,6 +76,23 @@ faultless-4 false true c d p q r t is = none-is q is
 faultless-4 false false true d p q r t is = none-is r is
 faultless-4 false false false true p q r t is = none-is t is
 faultless-4 false false false false p q r t is = (refl, refl)
+
+faultless-5 : (a b c d f : Bool) (p q r t u : ℕ) → first_fault ((a, p) ∷ (b, q) ∷ (c, r) ∷ (d, t) ∷ (f, u) ∷ []) ≡ None → f ≡ false
+faultless-5 true b c d f p q r t u is = none-is p is
+faultless-5 false true c d f p q r t u is = none-is q is
+faultless-5 false false true d f p q r t u is = none-is r is
+faultless-5 false false false true f p q r t u is = none-is t is
+faultless-5 false false false false true p q r t u is = none-is u is
+faultless-5 false false false false false p q r t u is = refl
+
+-- an EVENT_ADD without a fault leaves no more subscriptions than there may be
+few-others : (r : RecordState) (bits : ℕ) (used : Bool) (others : ℕ) (m : Fields) (o : Option DataType) → subscription_fault r bits used others m o ≡ None → others < 288
+few-others r bits used others m None is = none-is bad_type is
+few-others r bits used others m (Some t) is = ltb-true others 288 (not-false (nat_lt others 288) (faultless-5 (not (may_read bits)) (nat_lt (length m.payload) 16 || (mask_in m % 16 == 0 || used)) (too_many r t (subscribed_count r m)) (lacks_conversion (converted r.value t.base)) (not (nat_lt others 288)) no_read_access add_fail bad_count no_convert add_fail is))
+  where
+    not-false : (b : Bool) → not b ≡ false → b ≡ true
+    not-false true e = refl
+    not-false false e = absurd cc
 
 shown-ok : (c : Result Elements Refusal) → lacks_conversion c ≡ false → has_misfit c ≡ false → (e : Elements) × (c ≡ Ok e)
 shown-ok (Ok e) a b = (e, refl)
@@ -352,29 +369,27 @@ module _ (port : ℕ) (s : Store) (h : Handle) (e : ServerEnd) (m : Fields) (sou
       ]
 
   -- EVENT_ADD
-  begun : (x : Subscription) (v : Stored) → (let q : Queue Stored = switched sound.quiet.on no_queue in let new : ServerEnd = record e { subscriptions = e.subscriptions ++ x ∷ []; queues = slice_set e.queues 0 (posted (key_of x) v (added (key_of x) q)) } in TakesIn x v e new)
-  begun x v = record {
-    place = 0;
-    q = switched sound.quiet.on no_queue;
-    at = subst (λ (qs : List (Queue Stored)). At qs 0 (switched sound.quiet.on no_queue)) (sym sound.quiet.idle) refl;
-    room = omega arith;
-    first = λ i r lt at. absurd (omega (arith, lt));
-    leaves = refl;
-  }
+  begun : (x : Subscription) (v : Stored) → length e.subscriptions < 288 → (new : ServerEnd) × TakesIn x v e new
+  begun x v few =
+      let r = sound.room few in (
+        record e { subscriptions = e.subscriptions ++ x ∷ []; queues = slice_set e.queues r.0 (posted (key_of x) v (added (key_of x) r.1)) },
+        record { place = r.0; q = r.1; at = r.2.0; room = r.2.1; first = r.2.2; leaves = refl },
+      )
 
   event-of : (seat : Seat) (i : IsServed s e m.p1 seat) (f : Option ℕ) → fault_of_event k m (serves port s e m.p1 seat i) ≡ f → Part port s h e m command.EventAdd
   event-of seat i (Some st) fault = quiet command.EventAdd (error_reply i.channel.cid st m ∷ []) (inl (serves port s e m.p1 seat i, inl (st, fault, refl, refl)))
   event-of seat i None fault =
       let x : Subscription = subscription_in m i.channel.name in
       let v : Stored = record { value = i.r.state.value; meta = i.r.state.meta } in
-      let q : Queue Stored = switched sound.quiet.on no_queue in
-      let new : ServerEnd = record e { subscriptions = e.subscriptions ++ x ∷ []; queues = slice_set e.queues 0 (posted (key_of x) v (added (key_of x) q)) } in
+      let all : length (map key_of e.subscriptions) ≡ length e.subscriptions = length-map e.subscriptions key_of in
+      let few = few-others i.r.state (rights s.rules e.peer.user e.peer.host i.channel.name) (is_among (key_in m) (map key_of e.subscriptions)) (length (map key_of e.subscriptions)) m (type_of m.data_type) fault in
+      let new = begun x v (omega (arith, few, all)) in
       record {
         replies = [];
         action = Adds x;
         due = inl (serves port s e m.p1 seat i, inr (fault, refl, refl));
-        acted = new;
-        acts = λ y same. (i.r, subst (λ (rs : List Record). record_named rs i.channel.name ≡ Some i.r) (sym same) i.found, begun x v);
+        acted = new.0;
+        acts = λ y same. (i.r, subst (λ (rs : List Record). record_named rs i.channel.name ≡ Some i.r) (sym same) i.found, new.1);
         after = records_of s;
         records = refl;
       }

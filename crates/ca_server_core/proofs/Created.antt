@@ -57,7 +57,7 @@ not-created port s e new m why is = record {
   acted = e;
   acts = λ y. refl;
   quiet = λ h. refl;
-  kind = refl;
+  tells = refl;
   fits = tt;
   leaves = is;
 }
@@ -79,7 +79,7 @@ is-created port s e new m few unused did = record {
   acted = with_channel did.h m e;
   acts = λ y. (did.h, did.may, refl, refl);
   quiet = λ h. refl;
-  kind = refl;
+  tells = refl;
   fits = (did.r, did.named);
   leaves = did.leaves;
 }

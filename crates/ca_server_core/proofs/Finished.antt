@@ -23,13 +23,12 @@ use Rattle.ca_model.specs.ServerSteps.{counted, reached, stored_now, write_mask}
 use Rattle.ca_server_core.specs.Ending.{WithdrawsAll}
 use Rattle.ca_server_core.specs.Finishing.{RepliesAt, RepliesIn, with_reply}
 use Rattle.ca_server_core.specs.Serving.{more_applied}
-use Rattle.ca_server_core.specs.Sound.{EndIsSound, IsQuiet, IsSound}
+use Rattle.ca_server_core.specs.Sound.{EndIsSound, IsSound}
 use Rattle.ca_server_core.proofs.Cleared.{is-same, same-is}
 use Rattle.ca_server_core.proofs.Closing.{end-stays, not-ended, sound-ended}
 use Rattle.ca_server_core.proofs.Servers.{became, made_of, same-parts, server_of, stayed}
 use Rattle.ca_server_core.proofs.Sounds.{sound-changed}
 use Rattle.ca_server_core.proofs.Stays.{Keeps, record-keeps}
-use Rattle.ca_server_core.proofs.Stepped.{each-same, none-gone, reaches-nobody, unreached}
 use Rattle.ca_server_core.proofs.Tables.{at-under, handle-is, place, under-at}
 
 -- ---- the records
@@ -75,7 +74,7 @@ replied-sound s u t after p (inl g) i = by g.0 g.1 g.2 g.3 g.4
     by : (c new : ServerCircuit) → under t p.circuit ≡ Some c → RepliesAt p c s new u → after ≡ with_changed (λ (x : ServerCircuit). new) p.circuit t → IsSound (records_of u) after
     by (Open e) new there (inl sent) changed =
         let o = i.ends p.circuit e there in
-        let sound : EndIsSound (records_of s) p.circuit (with_reply p e) = record { live = o.live; quiet = record { none = o.quiet.none; on = o.quiet.on; idle = o.quiet.idle }; served = o.served; puts = o.puts; few = o.few } in
+        let sound : EndIsSound (records_of s) p.circuit (with_reply p e) = record { live = o.live; room = o.room; served = o.served; puts = o.puts; few = o.few } in
         subst (λ (x : Table ServerCircuit). IsSound (records_of u) x) (sym (became t after p.circuit new (Open (with_reply p e)) changed sent.1))
         (subst (λ (x : Store). IsSound (records_of x) (with_changed (λ (z : ServerCircuit). Open (with_reply p e)) p.circuit t)) (sym sent.2) (sound-changed (records_of s) t p.circuit e (with_reply p e) i there sound))
     by (Open e) new there (inr (inl lack)) changed =
@@ -137,152 +136,3 @@ one-changes f t h c d is there other = changed-there t h c d is ∙ sym (each-on
         let back : i ≡ 0 + i = omega arith in
         subst (λ (k : ℕ). f (record { index = k; generation = p.generation }) x ≡ x) back
         (other g x (at-under t g x (subst (λ (q : Place ServerCircuit). At t i q) whole at)) (λ one. ne (ap (λ (k : Handle). k.index) one)))
-
--- ---- the next put
-
-none-true : {A : Type 0} → false ≡ true → A
-none-true e = absurd cc
-
-module _ (port now n : ℕ) (b : Clock) where
-  -- no circuit ends
-  next-quiet : (name : List ℕ) (ws : List WaitingPut) (rules : List Rule) (rs : List Record) (p : Stamp) (t : Table ServerCircuit) → ((h : Handle) (e : ServerEnd) → under t h ≡ Some (Open e) → IsQuiet e)
-      → made_of port rules rs p now t b (more_applied (is_some (writes.next_put ws)) n) ≡ after_next name ws (λ (g : Handle). false) (made_of port rules rs p now t b n)
-  next-quiet name [] rules rs p t quiet =
-      same-parts port now b rules rules rs _ p p t _ n n refl (sym (none-gone rs)) refl (sym (each-same (lacking (λ (g : Handle). false)) 0 t by)) refl
-    where
-      by : (i : ℕ) (q : Place ServerCircuit) (c : ServerCircuit) → At t i q → q.value ≡ Some c → (h : Handle) → lacking (λ (g : Handle). false) h c ≡ c
-      by i q (Open e) at is h = refl
-      by i q (Ended w left) at is h = refl
-  next-quiet name (w ∷ ws) rules rs p t quiet =
-      let y : Server = made_of port rules rs p now t b n in
-      same-parts port now b rules rules rs _ p p t _ (more_applied true n) (more_applied true n) refl (sym (none-gone rs)) refl (sym (reaches-nobody t name write_mask (stored_now (counted y) w.value) quiet)) refl
-
-  -- one circuit ends
-  module _ (h : Handle) (e : ServerEnd) (t : Table ServerCircuit) (there : under t h ≡ Some (Open e)) (quiet : (g : Handle) (x : ServerEnd) → under t g ≡ Some (Open x) → IsQuiet x) where
-    gone : Handle → Bool
-    gone g = same_handle g h
-
-    its-own : same_handle h h ≡ true
-    its-own = is-same h h refl
-
-    not-it : (g : Handle) → (g ≡ h → ⊥) → (b : Bool) → same_handle g h ≡ b → same_handle g h ≡ false
-    not-it g other true hit = absurd (other (same-is g h hit))
-    not-it g other false miss = miss
-
-    lacking-own : lacking (λ (g : Handle). same_handle g h) h (Open e) ≡ Ended why.OutOfMemory e.link.output
-    lacking-own = ap (λ (b : Bool). cond b (Ended why.OutOfMemory e.link.output) (Open e)) its-own
-
-    lacking-other : (g : Handle) (x : ServerCircuit) → under t g ≡ Some x → (g ≡ h → ⊥) → lacking (λ (k : Handle). same_handle k h) g x ≡ x
-    lacking-other g (Open z) at other = ap (λ (b : Bool). cond b (Ended why.OutOfMemory z.link.output) (Open z)) (not-it g other (same_handle g h) refl)
-    lacking-other g (Ended w left) at other = refl
-
-    reached-own : (name : List ℕ) (mask : ℕ) (v : Stored) → reached name mask v (λ (g : Handle). same_handle g h) h (Open e) ≡ Ended why.OutOfMemory e.link.output
-    reached-own name mask v = ap (λ (b : Bool). cond b (Ended why.OutOfMemory e.link.output) (Open (with_post name mask v e))) its-own
-
-    reached-other : (name : List ℕ) (mask : ℕ) (v : Stored) (g : Handle) (x : ServerCircuit) → under t g ≡ Some x → (g ≡ h → ⊥) → reached name mask v (λ (k : Handle). same_handle k h) g x ≡ x
-    reached-other name mask v g (Open z) at other =
-        ap (λ (b : Bool). cond b (Ended why.OutOfMemory z.link.output) (Open (with_post name mask v z))) (not-it g other (same_handle g h) refl) ∙ unreached name mask v g z (quiet g z at)
-    reached-other name mask v g (Ended w left) at other = refl
-
-    next-lacking : (name : List ℕ) (ws : List WaitingPut) (rules : List Rule) (rs : List Record) (p : Stamp)
-        → made_of port rules (withdrawn (λ (q : Put). same_handle q.circuit h) rs) p now (with_changed (λ (x : ServerCircuit). Ended why.OutOfMemory e.link.output) h t) b (more_applied (is_some (writes.next_put ws)) n)
-        ≡ after_next name ws (λ (g : Handle). same_handle g h) (made_of port rules rs p now t b n)
-    next-lacking name [] rules rs p =
-        same-parts port now b rules rules _ _ p p _ _ n n refl refl refl (one-changes (lacking (λ (g : Handle). same_handle g h)) t h (Open e) (Ended why.OutOfMemory e.link.output) there lacking-own lacking-other) refl
-    next-lacking name (w ∷ ws) rules rs p =
-        let v : Stored = stored_now (counted (made_of port rules rs p now t b n)) w.value in
-        same-parts port now b rules rules _ _ p p _ _ (more_applied true n) (more_applied true n) refl refl refl (one-changes (reached name write_mask v (λ (g : Handle). same_handle g h)) t h (Open e) (Ended why.OutOfMemory e.link.output) there (reached-own name write_mask v) (reached-other name write_mask v)) refl
-
-  -- ---- a put is finished
-
-  module _ (s s1 : Store) (t : Table ServerCircuit) (name : List ℕ) (f : Finished) (did : writes.Finishes s name (Ok f) s1) (sound : IsSound (records_of s) t) where
-    abbrev rs1 : List Record
-    rs1 = with_record name (λ (q : Record). finished s.stamp q q.waiting) (records_of s)
-
-    abbrev y1 : Server
-    y1 = made_of port s.rules rs1 s.stamp now t b n
-
-    rules-1 : s1.rules ≡ s.rules
-    rules-1 = ap (λ (x : Store). x.rules) did.3.becomes.leaves
-
-    stamp-1 : s1.stamp ≡ s.stamp
-    stamp-1 = ap (λ (x : Store). x.stamp) did.3.becomes.leaves
-
-    more-is : more_applied (is_some f.applied) n ≡ more_applied (is_some (writes.next_put did.0.waiting)) n
-    more-is = ap (λ (o : Option Put). more_applied (is_some o) n) did.2
-
-    -- its reply is not awaited
-    unawaited : (u : Store) (after : Table ServerCircuit) → u ≡ s1 → after ≡ t → ((e : ServerEnd) → IsAwaited y1 f.ended e → ⊥) → (sent : List (Handle × Fields)) × Finishes (server_of port s now t b n) name sent (Ok tt) (server_of port u now after b (more_applied (is_some f.applied) n))
-    unawaited u after us at none = (
-      [],
-      (
-        record { r = did.0; named = did.3.found; p = f.ended; busy = did.1; gone = λ (g : Handle). false; may = λ g e. none-true e },
-        y1,
-        inr (inl none, refl, refl),
-        ap (λ (x : Store). server_of port x now after b (more_applied (is_some f.applied) n)) us
-            ∙ same-parts port now b s1.rules s.rules (records_of s1) rs1 s1.stamp s.stamp after t _ _ rules-1 (finished-records s s1 name f did) stamp-1 at more-is
-            ∙ next-quiet name did.0.waiting s.rules rs1 s.stamp t (λ g e here. (sound.ends g e here).quiet),
-      ),
-    )
-
-    -- it goes out
-    answered : (u : Store) (after : Table ServerCircuit) (e : ServerEnd) → under t f.ended.circuit ≡ Some (Open e) → is_some (under e.channels f.ended.channel) ≡ true → u ≡ s1 → after ≡ with_changed (λ (x : ServerCircuit). Open (with_reply f.ended e)) f.ended.circuit t → IsSound (records_of u) after → (sent : List (Handle × Fields)) × Finishes (server_of port s now t b n) name sent (Ok tt) (server_of port u now after b (more_applied (is_some f.applied) n))
-    answered u after e there awaited us at i =
-        let t2 = with_changed (λ (x : ServerCircuit). Open (with_reply f.ended e)) f.ended.circuit t in
-        let i2 = subst (λ (x : Table ServerCircuit). IsSound (records_of u) x) at i in (
-          (f.ended.circuit, finish_reply f.ended) ∷ [],
-          (
-            record { r = did.0; named = did.3.found; p = f.ended; busy = did.1; gone = λ (g : Handle). false; may = λ g e. none-true e },
-            with_message f.ended.circuit e (finish_reply f.ended) y1,
-            inl (e, (there, awaited), refl, refl),
-            ap (λ (x : Store). server_of port x now after b (more_applied (is_some f.applied) n)) us
-                ∙ same-parts port now b s1.rules s.rules (records_of s1) rs1 s1.stamp s.stamp after t2 _ _ rules-1 (finished-records s s1 name f did) stamp-1 at more-is
-                ∙ next-quiet name did.0.waiting s.rules rs1 s.stamp t2 (λ g z here. (i2.ends g z here).quiet),
-          ),
-        )
-
-    -- there is no memory for it
-    unanswered : (u : Store) (after : Table ServerCircuit) (e : ServerEnd) → under t f.ended.circuit ≡ Some (Open e) → is_some (under e.channels f.ended.channel) ≡ true → WithdrawsAll f.ended.circuit s1 u → after ≡ with_changed (λ (x : ServerCircuit). Ended why.OutOfMemory e.link.output) f.ended.circuit t → (sent : List (Handle × Fields)) × Finishes (server_of port s now t b n) name sent (Ok tt) (server_of port u now after b (more_applied (is_some f.applied) n))
-    unanswered u after e there awaited w at =
-        let h = f.ended.circuit in (
-          [],
-          (
-            record { r = did.0; named = did.3.found; p = f.ended; busy = did.1; gone = λ (g : Handle). same_handle g h; may = λ g hit. inl (same-is g h hit, (e, (there, awaited))) },
-            y1,
-            inr (inr (is-same h h refl), refl, refl),
-            same-parts port now b u.rules s.rules (records_of u) (withdrawn (λ (q : Put). same_handle q.circuit h) rs1) u.stamp s.stamp after _ _ _ (w.rules ∙ rules-1) (w.records ∙ ap (λ (rs : List Record). withdrawn (λ (q : Put). same_handle q.circuit h) rs) (finished-records s s1 name f did)) (w.stamp ∙ stamp-1) at more-is
-                ∙ next-lacking h e t there (λ g x here. (sound.ends g x here).quiet) name did.0.waiting s.rules rs1 s.stamp,
-          ),
-        )
-
-    same-end : (a c : ServerEnd) → Open a ≡ Open c → a ≡ c
-    same-end a c is = cc
-
-    no-channel : (x : Bool) → x ≡ true → x ≡ false → ⊥
-    no-channel x p q = cc
-
-    none-there : (e : ServerEnd) → (let none : Option ServerCircuit = None in none ≡ Some (Open e)) → ⊥
-    none-there e is = cc
-
-    by-circuit : (u : Store) (after : Table ServerCircuit) (c new : ServerCircuit) → under t f.ended.circuit ≡ Some c → RepliesAt f.ended c s1 new u → after ≡ with_changed (λ (x : ServerCircuit). new) f.ended.circuit t → IsSound (records_of u) after → (sent : List (Handle × Fields)) × Finishes (server_of port s now t b n) name sent (Ok tt) (server_of port u now after b (more_applied (is_some f.applied) n))
-    by-circuit u after (Open e) new there (inl sent) changed i = answered u after e there sent.0 sent.2 (became t after f.ended.circuit new (Open (with_reply f.ended e)) changed sent.1) i
-    by-circuit u after (Open e) new there (inr (inl lack)) changed i = unanswered u after e there lack.0 lack.2 (became t after f.ended.circuit new (Ended why.OutOfMemory e.link.output) changed lack.1)
-    by-circuit u after (Open e) new there (inr (inr shut)) changed i =
-        unawaited u after shut.2 (stayed t after f.ended.circuit new (Open e) there changed shut.1)
-        (λ z has. no-channel (is_some (under z.channels f.ended.channel)) has.1 (subst (λ (x : ServerEnd). is_some (under x.channels f.ended.channel) ≡ false) (same-end e z (some_is (Open e) (Open z) (sym there ∙ has.0))) shut.0))
-    by-circuit u after (Ended w left) new there at changed i =
-        unawaited u after at.1 (stayed t after f.ended.circuit new (Ended w left) there changed at.0)
-        (λ z has. not-ended z w left (some_is (Open z) (Ended w left) (sym has.0 ∙ there)))
-
-    pub finishes-ok : (u : Store) (after : Table ServerCircuit) → RepliesIn t f.ended s1 after u → IsSound (records_of u) after → (sent : List (Handle × Fields)) × Finishes (server_of port s now t b n) name sent (Ok tt) (server_of port u now after b (more_applied (is_some f.applied) n))
-    finishes-ok u after (inl g) i = by-circuit u after g.0 g.1 g.2 g.3 g.4 i
-    finishes-ok u after (inr none) i = unawaited u after none.2 none.1 (λ z has. none-there z (sym none.0 ∙ has.0))
-
--- the same along the view of the fields
-pub viewed-finish : (y : Server) (port now n k : ℕ) (b : Clock) (s s1 u : Store) (t after : Table ServerCircuit) (name : List ℕ) (f : Finished) (q : Bool) → server_of port s now t b n ≡ y → q ≡ is_some f.applied → k ≡ more_applied q n → writes.Finishes s name (Ok f) s1 → RepliesIn t f.ended s1 after u → IsSound (records_of s) t
-    → (sent : List (Handle × Fields)) × Finishes y name sent (Ok tt) (server_of port u now after b k)
-viewed-finish y port now n k b s s1 u t after name f q is next more did r i =
-    let final = replied-sound s1 u t after f.ended r (finished-sound s s1 t name f did i) in
-    let g = finishes-ok port now n b s s1 t name f did i u after r final in
-    subst (λ (x : Server). (sent : List (Handle × Fields)) × Finishes x name sent (Ok tt) (server_of port u now after b k)) is
-    (subst (λ (m : ℕ). (sent : List (Handle × Fields)) × Finishes (server_of port s now t b n) name sent (Ok tt) (server_of port u now after b m)) (sym (more ∙ ap (λ (p : Bool). more_applied p n) next)) g)

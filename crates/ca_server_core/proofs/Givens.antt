@@ -1,13 +1,15 @@
 -- The elements of a put.
 use Rattle.std.proofs.Common.{◌≡◌, ℕ, ◌≤◌, ◌==◌, ◌||◌, Bool, true, false, not, nat_lt, List, [], ◌∷◌, ◌++◌, length, Option, None, refl, sym, ap, ◌∙◌, subst, arith}
 use Rattle.std.proofs.lemmas.Bool.{le-ltb, ne_eqb}
+use Rattle.ca_text.specs.declared.refusal.Refusal.{Refusal}
+use Rattle.ca_text.specs.declared.refusal.Refusal.TheVariants as refusal
 use Rattle.ca_text.specs.Status.{bad_count, no_write_access}
 use Rattle.ca_dbr.specs.declared.data_type.BaseType.{BaseType}
 use Rattle.ca_dbr.specs.declared.data_type.DataType.{DataType}
 use Rattle.ca_dbr.specs.declared.data_type.Form.TheVariants as form
 use Rattle.ca_dbr.specs.declared.value.Meta.{Meta}
 use Rattle.ca_dbr.specs.Elements.{Elements}
-use Rattle.ca_dbr.specs.Reading.{Reads, ReadsElements, least_size}
+use Rattle.ca_dbr.specs.Reading.{IsLong, ReadRefused, Reads, ReadsElements, least_size}
 use Rattle.ca_dbr.specs.Types.{base_number, type_number}
 use Rattle.ca_records.specs.Faults.{first_fault}
 use Rattle.ca_records.specs.Record.{RecordState}
@@ -15,6 +17,7 @@ use Rattle.ca_records.specs.Rules.{may_write}
 use Rattle.ca_wire.specs.Fields.{Fields}
 use Rattle.ca_model.specs.Due.{PutReads}
 use Rattle.ca_model.specs.Faults.{early_put_fault}
+use Rattle.ca_dbr.proofs.OneReading.{base_number-small}
 use Rattle.ca_server_core.specs.Putting.{early}
 use Rattle.ca_server_core.proofs.Types.{base-of-number, plain-is}
 
@@ -31,6 +34,18 @@ plain-reads b count bytes e meta reads =
     let none : reads.padding ≡ [] = no-items reads.padding reads.padded in
     let same : reads.body ≡ bytes = sym (reads.parts ∙ ap (λ (p : List ℕ). p ++ reads.body) none) in
     subst (λ (x : List ℕ). ReadsElements b count x e) same reads.elements
+
+-- what is read of enough bytes of a plain type is refused for memory alone
+pub never-refused : (b : BaseType) (number count : ℕ) (bytes : List ℕ) (r : Refusal) → base_number b ≡ number → least_size b count ≤ length bytes → (r ≡ refusal.OutOfMemory → ⊥) → ReadRefused number count bytes r → ⊥
+never-refused b number count bytes refusal.BadType is long other over = (let small = base_number-small b in absurd (omega (arith, small, is, over)))
+never-refused b number count bytes refusal.Short is long other refused =
+    let one : refused.0 ≡ plain b = plain-is refused.0 b (refused.1 ∙ sym is) in
+    refused.2 (subst (λ (t : DataType). IsLong t count bytes) (sym one) (long-plain b count bytes long))
+  where
+    long-plain : (b : BaseType) (count : ℕ) (bytes : List ℕ) → least_size b count ≤ length bytes → IsLong (plain b) count bytes
+    long-plain b count bytes long = omega (arith, long)
+never-refused b number count bytes refusal.OutOfMemory is long other refused = other refl
+never-refused b number count bytes _ is long other refused = absurd refused
 
 abbrev two : (forbidden bad : Bool) → Option ℕ
 two forbidden bad = first_fault ((forbidden, no_write_access) ∷ (bad, bad_count) ∷ [])

@@ -16,6 +16,8 @@ use Rattle.ca_model.specs.Due.{Action, Clears, Drops, Due, Greets, Names, Nothin
 use Rattle.ca_model.specs.Ends.{Peer}
 use Rattle.ca_model.specs.Server.{ServerEnd, with_events, without_subscriptions}
 use Rattle.ca_model.specs.ServerSteps.{without_channel}
+use Rattle.ca_server_core.specs.declared.step.Effect.{Effect}
+use Rattle.ca_server_core.specs.declared.step.Effect.TheVariants as effect
 use Rattle.ca_server_core.specs.Clearing.{Withdraws}
 use Rattle.ca_server_core.specs.Creating.{Creation}
 use Rattle.ca_server_core.specs.Handling.{Does, Replies, known, replied}
@@ -31,8 +33,8 @@ module _ (port : ℕ) (s : Store) (h : Handle) (e : ServerEnd) (m : Fields) wher
   DueHere r a = Due (known port s e) m r a
 
   -- what was done by the relation of a command was done by what is due
-  pub does-for : (writes : Bool) (t : Store) (new : ServerEnd) (c : Command) → m.command ≡ command_number c → is_known (command_number c) ≡ true → command_at (command_number c) ≡ c → Does (DueFor c) s h e m writes t new → Does DueHere s h e m writes t new
-  does-for writes t new c is yes_it one d = record {
+  pub does-for : (did : Effect) (t : Store) (new : ServerEnd) (c : Command) → m.command ≡ command_number c → is_known (command_number c) ≡ true → command_at (command_number c) ≡ c → Does (DueFor c) s h e m did t new → Does DueHere s h e m did t new
+  does-for did t new c is yes_it one d = record {
     replies = d.replies;
     action = d.action;
     due = due-for (known port s e) m d.replies d.action c is yes_it one d.due;
@@ -41,13 +43,13 @@ module _ (port : ℕ) (s : Store) (h : Handle) (e : ServerEnd) (m : Fields) wher
     records = d.records;
     rules = d.rules;
     stamp = d.stamp;
-    kind = d.kind;
+    tells = d.tells;
     fits = d.fits;
     leaves = d.leaves;
   }
 
   -- only replies go out
-  pub does-reply : (new : ServerEnd) (c : Command) → m.command ≡ command_number c → is_known (command_number c) ≡ true → command_at (command_number c) ≡ c → Replies (DueFor c) e new → Does DueHere s h e m false s new
+  pub does-reply : (new : ServerEnd) (c : Command) → m.command ≡ command_number c → is_known (command_number c) ≡ true → command_at (command_number c) ≡ c → Replies (DueFor c) e new → Does DueHere s h e m effect.Quiet s new
   does-reply new c is yes_it one r = record {
     replies = r.replies;
     action = Nothing;
@@ -57,12 +59,12 @@ module _ (port : ℕ) (s : Store) (h : Handle) (e : ServerEnd) (m : Fields) wher
     records = refl;
     rules = refl;
     stamp = refl;
-    kind = refl;
+    tells = refl;
     fits = tt;
     leaves = r.leaves;
   }
 
-  pub does-version : (new : ServerEnd) → m.command ≡ command_number command.Version → new ≡ replied (if e.greeted then [] else version_reply ∷ []) (record e { greeted = true }) → Does DueHere s h e m false s new
+  pub does-version : (new : ServerEnd) → m.command ≡ command_number command.Version → new ≡ replied (if e.greeted then [] else version_reply ∷ []) (record e { greeted = true }) → Does DueHere s h e m effect.Quiet s new
   does-version new is done = record {
     replies = (if e.greeted then [] else version_reply ∷ []);
     action = Greets;
@@ -72,16 +74,16 @@ module _ (port : ℕ) (s : Store) (h : Handle) (e : ServerEnd) (m : Fields) wher
     records = refl;
     rules = refl;
     stamp = refl;
-    kind = refl;
+    tells = refl;
     fits = tt;
     leaves = done;
   }
 
   -- a name of the peer, which counts unless it is settled
-  pub does-name : (new : ServerEnd) (p : Peer) → ((a : Action) → a ≡ named (known port s e) p → DueHere [] a) → new ≡ (if e.settled then e else record e { peer = p }) → Does DueHere s h e m false s new
+  pub does-name : (new : ServerEnd) (p : Peer) → ((a : Action) → a ≡ named (known port s e) p → DueHere [] a) → new ≡ (if e.settled then e else record e { peer = p }) → Does DueHere s h e m effect.Quiet s new
   does-name new p due done = by e.settled refl
     where
-      by : (b : Bool) → e.settled ≡ b → Does DueHere s h e m false s new
+      by : (b : Bool) → e.settled ≡ b → Does DueHere s h e m effect.Quiet s new
       by true is = record {
         replies = [];
         action = Nothing;
@@ -91,7 +93,7 @@ module _ (port : ℕ) (s : Store) (h : Handle) (e : ServerEnd) (m : Fields) wher
         records = refl;
         rules = refl;
         stamp = refl;
-        kind = refl;
+        tells = refl;
         fits = tt;
         leaves = done ∙ ap (λ (x : Bool). if x then e else record e { peer = p }) is ∙ sym (replied-none e);
       }
@@ -104,28 +106,28 @@ module _ (port : ℕ) (s : Store) (h : Handle) (e : ServerEnd) (m : Fields) wher
         records = refl;
         rules = refl;
         stamp = refl;
-        kind = refl;
+        tells = refl;
         fits = tt;
         leaves = done ∙ ap (λ (x : Bool). if x then e else record e { peer = p }) is ∙ sym (replied-none (record e { peer = p }));
       }
 
-  pub does-user : (new : ServerEnd) → m.command ≡ command_number command.ClientName → new ≡ (if e.settled then e else record e { peer = record e.peer { user = text_in m.payload } }) → Does DueHere s h e m false s new
+  pub does-user : (new : ServerEnd) → m.command ≡ command_number command.ClientName → new ≡ (if e.settled then e else record e { peer = record e.peer { user = text_in m.payload } }) → Does DueHere s h e m effect.Quiet s new
   does-user new is done =
       does-name new (record e.peer { user = text_in m.payload }) (λ a same. due-for (known port s e) m [] a command.ClientName is refl refl (refl, same)) done
 
-  pub does-host : (new : ServerEnd) → m.command ≡ command_number command.HostName → new ≡ (if e.settled then e else record e { peer = record e.peer { host = text_in m.payload } }) → Does DueHere s h e m false s new
+  pub does-host : (new : ServerEnd) → m.command ≡ command_number command.HostName → new ≡ (if e.settled then e else record e { peer = record e.peer { host = text_in m.payload } }) → Does DueHere s h e m effect.Quiet s new
   does-host new is done =
       does-name new (record e.peer { host = text_in m.payload }) (λ a same. due-for (known port s e) m [] a command.HostName is refl refl (refl, same)) done
 
-  pub does-echo : (new : ServerEnd) → m.command ≡ command_number command.Echo → new ≡ replied (bare command.Echo ∷ []) e → Does DueHere s h e m false s new
+  pub does-echo : (new : ServerEnd) → m.command ≡ command_number command.Echo → new ≡ replied (bare command.Echo ∷ []) e → Does DueHere s h e m effect.Quiet s new
   does-echo new is done =
       does-reply new command.Echo is refl refl (record { replies = bare command.Echo ∷ []; due = (refl, refl); leaves = done })
 
-  pub does-search : (new : ServerEnd) → m.command ≡ command_number command.Search → new ≡ replied (search_due (known port s e) m) e → Does DueHere s h e m false s new
+  pub does-search : (new : ServerEnd) → m.command ≡ command_number command.Search → new ≡ replied (search_due (known port s e) m) e → Does DueHere s h e m effect.Quiet s new
   does-search new is done =
       does-reply new command.Search is refl refl (record { replies = search_due (known port s e) m; due = (refl, refl); leaves = done })
 
-  pub does-create : (new : ServerEnd) → m.command ≡ command_number command.CreateChannel → Creation port s e m new → Does DueHere s h e m false s new
+  pub does-create : (new : ServerEnd) → m.command ≡ command_number command.CreateChannel → Creation port s e m new → Does DueHere s h e m effect.Quiet s new
   does-create new is c = record {
     replies = c.replies;
     action = c.action;
@@ -135,12 +137,12 @@ module _ (port : ℕ) (s : Store) (h : Handle) (e : ServerEnd) (m : Fields) wher
     records = c.quiet h;
     rules = refl;
     stamp = refl;
-    kind = c.kind;
+    tells = c.tells;
     fits = c.fits;
     leaves = c.leaves;
   }
 
-  pub does-cancel : (new : ServerEnd) → m.command ≡ command_number command.EventCancel → new ≡ replied (cancel_reply m ∷ []) (without_subscriptions (same (key_in m)) e) → Does DueHere s h e m false s new
+  pub does-cancel : (new : ServerEnd) → m.command ≡ command_number command.EventCancel → new ≡ replied (cancel_reply m ∷ []) (without_subscriptions (same (key_in m)) e) → Does DueHere s h e m effect.Quiet s new
   does-cancel new is done = record {
     replies = cancel_reply m ∷ [];
     action = Drops (key_in m);
@@ -150,12 +152,12 @@ module _ (port : ℕ) (s : Store) (h : Handle) (e : ServerEnd) (m : Fields) wher
     records = refl;
     rules = refl;
     stamp = refl;
-    kind = refl;
+    tells = refl;
     fits = tt;
     leaves = done;
   }
 
-  pub does-switch : (new : ServerEnd) (on : Bool) → DueHere [] (Switches on) → new ≡ with_events on e → Does DueHere s h e m false s new
+  pub does-switch : (new : ServerEnd) (on : Bool) → DueHere [] (Switches on) → new ≡ with_events on e → Does DueHere s h e m effect.Quiet s new
   does-switch new on due done = record {
     replies = [];
     action = Switches on;
@@ -165,18 +167,18 @@ module _ (port : ℕ) (s : Store) (h : Handle) (e : ServerEnd) (m : Fields) wher
     records = refl;
     rules = refl;
     stamp = refl;
-    kind = refl;
+    tells = refl;
     fits = tt;
     leaves = done ∙ sym (replied-none (with_events on e));
   }
 
-  pub does-off : (new : ServerEnd) → m.command ≡ command_number command.EventsOff → new ≡ with_events false e → Does DueHere s h e m false s new
+  pub does-off : (new : ServerEnd) → m.command ≡ command_number command.EventsOff → new ≡ with_events false e → Does DueHere s h e m effect.Quiet s new
   does-off new is done = does-switch new false (due-for (known port s e) m [] (Switches false) command.EventsOff is refl refl (refl, refl)) done
 
-  pub does-on : (new : ServerEnd) → m.command ≡ command_number command.EventsOn → new ≡ with_events true e → Does DueHere s h e m false s new
+  pub does-on : (new : ServerEnd) → m.command ≡ command_number command.EventsOn → new ≡ with_events true e → Does DueHere s h e m effect.Quiet s new
   does-on new is done = does-switch new true (due-for (known port s e) m [] (Switches true) command.EventsOn is refl refl (refl, refl)) done
 
-  pub does-clear : (t : Store) (new : ServerEnd) → m.command ≡ command_number command.ClearChannel → Withdraws h m.p1 s t → new ≡ replied (cleared_reply m ∷ []) (without_channel m.p1 e) → Does DueHere s h e m false t new
+  pub does-clear : (t : Store) (new : ServerEnd) → m.command ≡ command_number command.ClearChannel → Withdraws h m.p1 s t → new ≡ replied (cleared_reply m ∷ []) (without_channel m.p1 e) → Does DueHere s h e m effect.Quiet t new
   does-clear t new is w done = record {
     replies = cleared_reply m ∷ [];
     action = Clears m.p1;
@@ -186,12 +188,12 @@ module _ (port : ℕ) (s : Store) (h : Handle) (e : ServerEnd) (m : Fields) wher
     records = w.records;
     rules = w.rules;
     stamp = w.stamp;
-    kind = refl;
+    tells = refl;
     fits = tt;
     leaves = done;
   }
 
-  pub does-nothing : is_known m.command ≡ false → Does DueHere s h e m false s e
+  pub does-nothing : is_known m.command ≡ false → Does DueHere s h e m effect.Quiet s e
   does-nothing other = record {
     replies = [];
     action = Nothing;
@@ -201,7 +203,7 @@ module _ (port : ℕ) (s : Store) (h : Handle) (e : ServerEnd) (m : Fields) wher
     records = refl;
     rules = refl;
     stamp = refl;
-    kind = refl;
+    tells = refl;
     fits = tt;
     leaves = sym (replied-none e);
   }

@@ -10,6 +10,7 @@ pub mod Taken
 pub mod Handled
 pub mod Cleared
 pub mod Subscribes
+pub mod Joining
 pub mod Givens
 pub mod Steps
 pub mod Sounds
@@ -22,3 +23,13 @@ pub mod LongBytes
 pub mod Could
 pub mod Stepped
 pub mod Finished
+pub mod Covered
+pub mod Each
+pub mod Reached
+pub mod Followed
+pub mod Thinned
+pub mod Nexts
+pub mod Posted
+pub mod Pumps
+pub mod Pumped
+pub mod Added

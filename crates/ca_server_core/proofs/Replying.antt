@@ -1,9 +1,8 @@
 -- What is due for a message on a channel, by what was found of its SID.
 use Rattle.std.proofs.Common.{◌≡◌, ℕ, inl, inr, List, [], ◌∷◌, Some, Result, Ok, Err, refl, sym, ap, ◌∙◌}
-use Rattle.std.specs.Prelude.{OnErr, OnOk, false, length, map, take}
+use Rattle.std.specs.Prelude.{OnErr, OnOk, length, map, take}
 use Rattle.std.proofs.lemmas.List.{take_at}
 use Rattle.ca_text.proofs.Places.{At-one, some_is}
-use Rattle.ca_queue.specs.declared.entry.SubKey.{SubKey}
 use Rattle.ca_queue.specs.Keys.{is_among}
 use Rattle.ca_records.specs.Puts.{Record}
 use Rattle.ca_records.specs.Record.{RecordState}
@@ -16,7 +15,7 @@ use Rattle.ca_wire.specs.Messages.{error_reply, status_reply}
 use Rattle.ca_records.specs.Rules.{rights}
 use Rattle.ca_records.specs.Store.{HasAt, Store}
 use Rattle.ca_model.specs.Due.{Nothing, ReadDue, StrayDue, fault_of_event, key_in}
-use Rattle.ca_model.specs.Server.{ServerEnd, Subscription, key_of}
+use Rattle.ca_model.specs.Server.{ServerEnd, key_of}
 use Rattle.ca_server_core.specs.declared.seek.Seat.{Seat}
 use Rattle.ca_server_core.specs.Handling.{Reads, Replies, Subscribes, known, replied}
 use Rattle.ca_server_core.specs.Seeking.{IsServed, IsStray}
@@ -27,6 +26,11 @@ use Rattle.ca_server_core.proofs.Known.{serves, stray}
 pub ok-then : {T E P Q : Type 0} (r : Result T E) → (P → Q) → OnOk r P → OnOk r Q
 ok-then (Ok x) f p = f p
 ok-then (Err e) f p = tt
+
+-- the same for two facts
+pub ok-both : {T E P Q R : Type 0} (r : Result T E) → (P → Q → R) → OnOk r P → OnOk r Q → OnOk r R
+ok-both (Ok x) f p q = f p q
+ok-both (Err e) f p q = tt
 
 -- what holds anyway holds if the call was refused
 pub in-err : {T E P : Type 0} (r : Result T E) → P → OnErr r P
@@ -91,12 +95,12 @@ stray-event port s e new m cid is done = record {
   leaves = done;
 }
 
-pub refused-event : (port : ℕ) (s : Store) (e new : ServerEnd) (m : Fields) (seat : Seat) (i : IsServed s e m.p1 seat) (bits status : ℕ) → e.subscriptions ≡ [] → bits ≡ rights s.rules e.peer.user e.peer.host i.channel.name → subscription_fault i.r.state bits false 0 m (type_of m.data_type) ≡ Some status → new ≡ replied (error_reply seat.cid status m ∷ []) e → Replies (Subscribes (known port s e) m) e new
-refused-event port s e new m seat i bits status none right fault done =
-    let keys : map key_of e.subscriptions ≡ [] = ap (λ (ss : List Subscription). map key_of ss) none in
-    let same : fault_of_event (known port s e) m (serves port s e m.p1 seat i) ≡ subscription_fault i.r.state bits false 0 m (type_of m.data_type) =
-    ap (λ (ks : List SubKey). subscription_fault i.r.state (rights s.rules e.peer.user e.peer.host i.channel.name) (is_among (key_in m) ks) (length ks) m (type_of m.data_type)) keys
-    ∙ ap (λ (n : ℕ). subscription_fault i.r.state n false 0 m (type_of m.data_type)) (sym right) in
+pub refused-event : (port : ℕ) (s : Store) (e new : ServerEnd) (m : Fields) (seat : Seat) (i : IsServed s e m.p1 seat) (bits status : ℕ) → bits ≡ rights s.rules e.peer.user e.peer.host i.channel.name
+    → subscription_fault i.r.state bits (is_among (key_in m) (map key_of e.subscriptions)) (length (map key_of e.subscriptions)) m (type_of m.data_type) ≡ Some status
+    → new ≡ replied (error_reply seat.cid status m ∷ []) e → Replies (Subscribes (known port s e) m) e new
+refused-event port s e new m seat i bits status right fault done =
+    let same : fault_of_event (known port s e) m (serves port s e m.p1 seat i) ≡ subscription_fault i.r.state bits (is_among (key_in m) (map key_of e.subscriptions)) (length (map key_of e.subscriptions)) m (type_of m.data_type) =
+    ap (λ (n : ℕ). subscription_fault i.r.state n (is_among (key_in m) (map key_of e.subscriptions)) (length (map key_of e.subscriptions)) m (type_of m.data_type)) (sym right) in
     record {
       replies = error_reply i.channel.cid status m ∷ [];
       due = inl (serves port s e m.p1 seat i, inl (status, same ∙ fault, refl, refl));

@@ -1,19 +1,20 @@
 -- What holds of the records and the circuits of a server, after a call.
 use Rattle.std.proofs.Common.{◌≡◌, ℕ, inl, inr, Bool, true, false, List, [], ◌∷◌, Some, Result, Ok, Err, refl, sym, ap, ◌∙◌, subst, arith}
 use Rattle.ca_arena.specs.declared.handle.Handle.{Handle}
-use Rattle.ca_ids.specs.Holding as table
 use Rattle.ca_link.specs.Link.{LinkState, with_given, with_handed}
 use Rattle.ca_text.specs.declared.refusal.Refusal.{Refusal}
 use Rattle.ca_text.specs.declared.refusal.Refusal.TheVariants as refusal
 use Rattle.ca_model.specs.Ends.{Why}
-use Rattle.ca_server_core.specs.Circuits.{AreLive, GivesAt, GivesIn, SendsAt, SendsIn}
+use Rattle.ca_server_core.specs.Circuits.{AreLive, GivesAt, GivesIn, OpensIn, SendsAt, SendsIn}
 use Rattle.ca_ids.specs.Table.{MayGive, Table, same_handle, under, with_changed, with_held}
+use Rattle.ca_queue.specs.Queue.{no_queue}
 use Rattle.ca_records.specs.Puts.{Record, WaitingPut, new_record}
 use Rattle.std.specs.Prelude.{map}
 use Rattle.ca_records.specs.Record.{RecordState}
 use Rattle.ca_text.specs.Place.{At}
 use Rattle.ca_text.proofs.Places.{At-mapped, At-within, some_is}
-use Rattle.ca_model.specs.Server.{Ended, Open, OpenChannel, ServerCircuit, ServerEnd, new_end}
+use Rattle.ca_model.specs.Server.{Ended, Open, OpenChannel, Server, ServerCircuit, ServerEnd, new_end}
+use Rattle.ca_model.specs.ServerSteps.{Accepts}
 use Rattle.ca_server_core.specs.Sound.{EndIsSound, IsSound}
 use Rattle.ca_server_core.proofs.Cleared.{is-same, same-is}
 use Rattle.ca_server_core.proofs.Tables.{changed-back, changed-other, changed-own, given-none, held-back, held-other, place, under-at}
@@ -43,7 +44,7 @@ sound-accepted rs t h now i may = record {
     fresh : (g : Handle) → g ≡ h → EndIsSound rs g (new_end now)
     fresh g own = record {
       live = refl;
-      quiet = record { none = refl; on = true; idle = refl };
+      room = λ few. (0, no_queue, (refl, omega arith, (λ i q less at. absurd (omega (arith, less)))));
       few = omega arith;
       served = λ c o at. absurd (no-channel c o at);
       puts = λ j r k w at at' hit.
@@ -72,18 +73,30 @@ sound-changed rs t h e new i there sound = record {
     kept g x at false miss = (x, changed-other (λ (c : ServerCircuit). Open new) t g h (Open x) at (λ one. both (same_handle g h) (is-same g h one) miss))
 
 -- a circuit was to be accepted
-pub sound-opened : (rs : List Record) (t after : Circuits) (now : ℕ) (c : ServerCircuit) (r : Result Handle (ServerCircuit × Refusal)) → IsSound rs t → c ≡ Open (new_end now) → table.Gives t c r after → IsSound rs after
+pub sound-opened : (rs : List Record) (t after : Circuits) (now : ℕ) (c : ServerCircuit) (r : Result Handle Refusal) → IsSound rs t → c ≡ Open (new_end now) → OpensIn t c r after → IsSound rs after
 sound-opened rs t after now c (Ok h) i is g =
     subst (λ (x : Circuits). IsSound rs x) (sym (g.1 ∙ ap (λ (x : ServerCircuit). with_held h x t) is)) (sound-accepted rs t h now i g.0)
-sound-opened rs t after now c (Err (back, refusal.ArenaFull)) i is g = subst (λ (x : Circuits). IsSound rs x) (sym g.2) i
-sound-opened rs t after now c (Err (back, refusal.OutOfMemory)) i is g = subst (λ (x : Circuits). IsSound rs x) (sym g.3) i
-sound-opened rs t after now c (Err (back, _)) i is g = absurd g
+sound-opened rs t after now c (Err refusal.ArenaFull) i is g = subst (λ (x : Circuits). IsSound rs x) (sym g.1) i
+sound-opened rs t after now c (Err refusal.OutOfMemory) i is g = subst (λ (x : Circuits). IsSound rs x) (sym g.1) i
+sound-opened rs t after now c (Err _) i is g = absurd g
+
+pub accepts : (v y : Server) (after : Circuits) (c : ServerCircuit) (r : Result Handle Refusal) → v ≡ y → c ≡ Open (new_end v.moment) → OpensIn v.circuits c r after → (let new : Server = record v { circuits = after } in Accepts y r new)
+accepts v y after c r same is g = (let new : Server = record v { circuits = after } in subst (λ (x : Server). Accepts x r new) same (by r g))
+  where
+    at : (t : Circuits) → after ≡ t → (let new : Server = record v { circuits = after } in new) ≡ (let new : Server = record v { circuits = t } in new)
+    at t e = ap (λ (x : Circuits). let new : Server = record v { circuits = x } in new) e
+
+    by : (r : Result Handle Refusal) → OpensIn v.circuits c r after → (let new : Server = record v { circuits = after } in Accepts v r new)
+    by (Ok h) g = (g.0, at (with_held h (Open (new_end v.moment)) v.circuits) (g.1 ∙ ap (λ (x : ServerCircuit). with_held h x v.circuits) is))
+    by (Err refusal.ArenaFull) g = (g.0, at v.circuits g.1)
+    by (Err refusal.OutOfMemory) g = (g.0, at v.circuits g.1)
+    by (Err _) g = absurd g
 
 -- ---- bytes come and go
 
 -- an end whose link alone changed is as sound as before
 relinked-sound : (rs : List Record) (h : Handle) (e : ServerEnd) (l : LinkState) → l.input.closed ≡ false → EndIsSound rs h e → (let new : ServerEnd = record e { link = l } in EndIsSound rs h new)
-relinked-sound rs h e l live i = record { live = live; quiet = record { none = i.quiet.none; on = i.quiet.on; idle = i.quiet.idle }; served = i.served; puts = i.puts; few = i.few }
+relinked-sound rs h e l live i = record { live = live; room = i.room; served = i.served; puts = i.puts; few = i.few }
 
 given-live : (now : ℕ) (bytes : List ℕ) (l : LinkState) → l.input.closed ≡ false → (with_given now bytes l).input.closed ≡ false
 given-live now [] l live = live

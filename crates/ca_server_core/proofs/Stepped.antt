@@ -1,13 +1,10 @@
 -- A step of a server, from what it made of one circuit.
 use Rattle.std.proofs.Common.{◌≡◌, ◌≢◌, ℕ, suc, ◌+◌, ◌≤◌, inl, inr, Bool, true, false, List, [], ◌∷◌, length, filter, map, Option, Some, None, refl, sym, ap, ◌∙◌, subst}
 use Rattle.std.specs.Prelude.{option_map}
-use Rattle.std.specs.List.{fold}
 use Rattle.ca_arena.specs.declared.handle.Handle.{Handle}
 use Rattle.ca_arena.specs.Arena.{Place}
 use Rattle.ca_beacon.specs.Clock.{Clock}
 use Rattle.ca_ids.specs.Table.{Table, under, with_changed, with_each, with_each_from, with_freed}
-use Rattle.ca_queue.specs.Circuit.{queue_posted}
-use Rattle.ca_queue.specs.Queue.{Queue}
 use Rattle.ca_records.specs.declared.puts.Put.{Put}
 use Rattle.ca_records.specs.declared.puts.Stamp.{Stamp}
 use Rattle.ca_records.specs.Puts.{Record, withdrawn}
@@ -23,29 +20,27 @@ use Rattle.ca_model.specs.Ends as why
 use Rattle.ca_model.specs.Server.{Ended, Open, Server, ServerCircuit, ServerEnd, Subscription, concerns, key_of}
 use Rattle.ca_model.specs.ServerSteps.{Acts, Handles, LacksMemory, NeedsMemory, Next, Reaches, Records, Stepped, Steps, StepsAt, StepsOpen, after_post, closed, counted, is_write, knows, reached, stored_now, with_end, write_mask}
 use Rattle.ca_model.specs.ServerSteps as steps
-use Rattle.ca_model.specs.Speech.{Stored}
 use Rattle.ca_server_core.specs.declared.cause.Cause.{Cause}
 use Rattle.ca_server_core.specs.declared.cause.Cause.TheVariants as cause
 use Rattle.ca_server_core.specs.declared.step.EndStep.TheVariants as step
 use Rattle.ca_server_core.specs.declared.stepping.Step.{Step}
-use Rattle.ca_server_core.specs.Ending.{WithdrawsAll}
-use Rattle.ca_server_core.specs.Handling.{Does, Recorded, known, replied}
+use Rattle.ca_server_core.specs.declared.step.Effect.{Effect}
+use Rattle.ca_server_core.specs.Ending.{KeepsPlaces, WithdrawsAll}
+use Rattle.ca_server_core.specs.Handling.{Does, Recorded, Tells, is_wrote, known, replied}
 use Rattle.ca_server_core.specs.Serving.{CircuitSteps, IsReport, Reports, StepsIn, more_applied, stepped}
-use Rattle.ca_server_core.specs.Sound.{EndIsSound, IsQuiet, IsSound}
+use Rattle.ca_server_core.specs.Sound.{EndIsSound, IsSound}
 use Rattle.ca_server_core.specs.Stepping.{AreBytes, BreaksBy, EndSteps, Takes, after_first, why_is}
+use Rattle.ca_server_core.specs.Subscribing.{events_of}
+use Rattle.ca_server_subscriptions.specs.Subscribed.{HasRoom}
 use Rattle.ca_server_core.proofs.Cleared.{none-of}
 use Rattle.ca_server_core.proofs.Closing.{none-waits, not-ended, sound-freed, sound-handled}
 use Rattle.ca_server_core.proofs.Could.{could}
 use Rattle.ca_server_core.proofs.LongBytes.{are-back, are-front}
 use Rattle.ca_server_core.proofs.Servers.{became, freed-changed, freed-nothing, made_of, same-parts, server_of, stayed}
-use Rattle.ca_server_core.proofs.Tables.{at-under, changed-own, place}
+use Rattle.ca_server_core.proofs.Tables.{changed-own}
+use Rattle.ca_server_core.proofs.Walking.{keeps-same}
 
--- ---- a post reaches nobody yet
-
--- an end without subscriptions is as it was
-pub unreached : (name : List ℕ) (mask : ℕ) (v : Stored) (h : Handle) (e : ServerEnd) → IsQuiet e → reached name mask v (λ (g : Handle). false) h (Open e) ≡ Open e
-unreached name mask v h e quiet =
-    ap (λ (ss : List Subscription). let new : ServerEnd = record e { queues = fold (λ (qs : List (Queue Stored)) (s : Subscription). map (queue_posted (key_of s) v) qs) e.queues (filter (concerns name mask) ss) } in Open new) quiet.none
+-- ---- nothing changes
 
 -- a table in which nothing changes
 pub each-same : (f : Handle → ServerCircuit → ServerCircuit) (n : ℕ) (t : Table ServerCircuit) → ((i : ℕ) (p : Place ServerCircuit) (c : ServerCircuit) → At t i p → p.value ≡ Some c → (h : Handle) → f h c ≡ c) → with_each_from n f t ≡ t
@@ -58,37 +53,23 @@ each-same f n (p ∷ t) same =
     by None h = refl
     by (Some c) h = ap (λ (x : ServerCircuit). Some x) (h c refl)
 
-pub reaches-nobody : (t : Table ServerCircuit) (name : List ℕ) (mask : ℕ) (v : Stored) → ((h : Handle) (e : ServerEnd) → under t h ≡ Some (Open e) → IsQuiet e) → with_each (reached name mask v (λ (g : Handle). false)) t ≡ t
-reaches-nobody t name mask v quiet = each-same (reached name mask v (λ (g : Handle). false)) 0 t by
-  where
-    by : (i : ℕ) (p : Place ServerCircuit) (c : ServerCircuit) → At t i p → p.value ≡ Some c → (h : Handle) → reached name mask v (λ (g : Handle). false) h c ≡ c
-    by i p (Ended w left) at is h = refl
-    by i p (Open e) at is h =
-        let g : Handle = record { index = i; generation = p.generation } in
-        let whole : p ≡ place g (Open e) = ap (λ (o : Option ServerCircuit). let q : Place ServerCircuit = record { generation = p.generation; value = o } in q) is in
-        unreached name mask v h e (quiet g e (at-under t g (Open e) (subst (λ (q : Place ServerCircuit). At t i q) whole at)))
-
 -- no put is taken out
 pub none-gone : (rs : List Record) → withdrawn (λ (p : Put). false) rs ≡ rs
 none-gone rs = sym (none-of (λ (p : Put). false) rs (λ i k q w at at'. refl))
 
 module _ (port now n : ℕ) (b : Clock) where
-  reaches : (a : Action) (rules : List Rule) (rs : List Record) (stamp : Stamp) (t : Table ServerCircuit) (n : ℕ) → ((h : Handle) (e : ServerEnd) → under t h ≡ Some (Open e) → IsQuiet e) → (let y : Server = made_of port rules rs stamp now t b n in Reaches a (λ (g : Handle). false) y y)
-  reaches (Applies name value busies) rules rs stamp t n quiet =
-      let y : Server = made_of port rules rs stamp now t b n in
-      ((λ h is. absurd (clash is)), same-parts port now b rules rules rs _ stamp stamp t _ n n refl (sym (none-gone rs)) refl (sym (reaches-nobody t name write_mask (stored_now y value) quiet)) refl)
-    where
-      clash : false ≡ true → ⊥
-      clash e = cc
-  reaches Nothing rules rs stamp t n quiet = ((λ h. refl), refl)
-  reaches Greets rules rs stamp t n quiet = ((λ h. refl), refl)
-  reaches (Names p) rules rs stamp t n quiet = ((λ h. refl), refl)
-  reaches (Opens c) rules rs stamp t n quiet = ((λ h. refl), refl)
-  reaches (Clears sid) rules rs stamp t n quiet = ((λ h. refl), refl)
-  reaches (Waits name value) rules rs stamp t n quiet = ((λ h. refl), refl)
-  reaches (Adds s) rules rs stamp t n quiet = ((λ h. refl), refl)
-  reaches (Drops k) rules rs stamp t n quiet = ((λ h. refl), refl)
-  reaches (Switches on) rules rs stamp t n quiet = ((λ h. refl), refl)
+  -- whether a write was applied
+  wrote-is : (a : Action) (did : Effect) (u : Store) → Tells a did u → is_wrote did ≡ is_write a
+  wrote-is (Applies name value busies) did u is = ap is_wrote is.2
+  wrote-is (Adds x) did u is = ap is_wrote is.2
+  wrote-is Nothing did u is = ap is_wrote is
+  wrote-is Greets did u is = ap is_wrote is
+  wrote-is (Names p) did u is = ap is_wrote is
+  wrote-is (Opens c) did u is = ap is_wrote is
+  wrote-is (Clears sid) did u is = ap is_wrote is
+  wrote-is (Waits name value) did u is = ap is_wrote is
+  wrote-is (Drops k) did u is = ap is_wrote is
+  wrote-is (Switches on) did u is = ap is_wrote is
 
   -- what a message makes of the records makes it of the server
   records-of : (s : Store) (t : Table ServerCircuit) (h : Handle) (e : ServerEnd) (m : Fields) (a : Action) (rs : List Record) → Recorded (records_of s) s.stamp h e m a rs
@@ -106,60 +87,56 @@ module _ (port now n : ℕ) (b : Clock) where
   records-of s t h e m (Switches on) rs is = ap (λ (x : List Record). made_of port s.rules x s.stamp now t b n) is
 
   -- what an end did is what its server did
-  handles-of : (s u : Store) (t after : Table ServerCircuit) (h : Handle) (e : ServerEnd) (m : Fields) (writes : Bool) (new : ServerEnd) (d : Does (Due (known port s e) m) s h e m writes u new) → after ≡ with_changed (λ (x : ServerCircuit). Open new) h t
-      → Handles (server_of port s now t b n) h e m d.replies d.action (server_of port u now after b (more_applied writes n))
-  handles-of s u t after h e m writes new d changed = record {
+  handles-of : (s u : Store) (t after : Table ServerCircuit) (h : Handle) (e : ServerEnd) (m : Fields) (did : Effect) (new : ServerEnd) (d : Does (Due (known port s e) m) s h e m did u new) → after ≡ with_changed (λ (x : ServerCircuit). Open new) h t
+      → Handles (server_of port s now t b n) h e m d.replies d.action (server_of port u now after b (more_applied (is_wrote did) n))
+  handles-of s u t after h e m did new d changed = record {
     due = d.due;
     acted = d.acted;
     acts = d.acts (server_of port s now t b n) refl;
     recorded = made_of port s.rules (records_of u) s.stamp now t b (more_applied (is_write d.action) n);
     records = records-of s t h e m d.action (records_of u) d.records;
-    leaves = same-parts port now b u.rules s.rules (records_of u) (records_of u) u.stamp s.stamp after _ (more_applied writes n) (more_applied (is_write d.action) n) d.rules refl d.stamp
-        (changed ∙ ap (λ (x : ServerEnd). with_changed (λ (z : ServerCircuit). Open x) h t) d.leaves) (ap (λ (w : Bool). more_applied w n) d.kind);
+    leaves = same-parts port now b u.rules s.rules (records_of u) (records_of u) u.stamp s.stamp after _ (more_applied (is_wrote did) n) (more_applied (is_write d.action) n) d.rules refl d.stamp
+        (changed ∙ ap (λ (x : ServerEnd). with_changed (λ (z : ServerCircuit). Open x) h t) d.leaves) (ap (λ (w : Bool). more_applied w n) (wrote-is d.action did u d.tells));
   }
 
   -- an end that its first message is taken from
   first-sound : (rs : List Record) (h : Handle) (e : ServerEnd) (x : Takes e) → EndIsSound rs h e → EndIsSound rs h (after_first x)
   first-sound rs h e x i = record {
     live = i.live;
-    quiet = record { none = i.quiet.none; on = i.quiet.on; idle = i.quiet.idle };
+    room = i.room;
     served = i.served;
     puts = i.puts;
     few = i.few;
   }
 
-  step-at : (y : Server) (h : Handle) (c : ServerCircuit) (did : Stepped) (new : Server) → under y.circuits h ≡ Some c → StepsAt y h (Some c) did new → Steps y h did new
+  pub step-at : (y : Server) (h : Handle) (c : ServerCircuit) (did : Stepped) (new : Server) → under y.circuits h ≡ Some c → StepsAt y h (Some c) did new → Steps y h did new
   step-at y h c did new there is = subst (λ (o : Option ServerCircuit). StepsAt y h o did new) (sym there) is
 
   -- ---- a message was handled
 
-  quiet-of : (rs : List Record) (t : Table ServerCircuit) → IsSound rs t → (h : Handle) (e : ServerEnd) → under t h ≡ Some (Open e) → IsQuiet e
-  quiet-of rs t i h e at = (i.ends h e at).quiet
-
   -- the circuits after a message was handled are sound
-  handled-sound : (s u : Store) (t after : Table ServerCircuit) (h : Handle) (e new : ServerEnd) (writes : Bool) → under t h ≡ Some (Open e) → EndSteps port h e s (step.Handled writes) new u → IsQuiet new → length new.channels ≤ arena_slots → after ≡ with_changed (λ (x : ServerCircuit). Open new) h t → IsSound (records_of s) t → IsSound (records_of u) after
-  handled-sound s u t after h e new writes there did quiet few changed i =
-      subst (λ (x : Table ServerCircuit). IsSound (records_of u) x) (sym changed)
-      (sound-handled (server_of port s now t b n) s u h e (after_first did.0) did.0.m writes (Due (known port s (after_first did.0)) did.0.m) new t refl i there (first-sound (records_of s) h e did.0 (i.ends h e there)) did.1 quiet few)
+  handled-sound : (s u : Store) (t after : Table ServerCircuit) (h : Handle) (e new : ServerEnd) (did : Effect) → under t h ≡ Some (Open e) → EndSteps port h e s (step.Handled did) new u → HasRoom (events_of new) → length new.channels ≤ arena_slots → after ≡ with_changed (λ (x : ServerCircuit). Open new) h t → IsSound (records_of s) t → IsSound (records_of u) after
+  handled-sound s u t after h e new did there x room few changed i =
+      subst (λ (z : Table ServerCircuit). IsSound (records_of u) z) (sym changed)
+      (sound-handled (server_of port s now t b n) s u h e (after_first x.0) x.0.m did (Due (known port s (after_first x.0)) x.0.m) new t refl i there (first-sound (records_of s) h e x.0 (i.ends h e there)) x.1 room few)
 
-  handled-steps : (s u : Store) (t after : Table ServerCircuit) (h : Handle) (e new : ServerEnd) (writes : Bool) → under t h ≡ Some (Open e) → EndSteps port h e s (step.Handled writes) new u → after ≡ with_changed (λ (x : ServerCircuit). Open new) h t → IsSound (records_of u) after
-      → Steps (server_of port s now t b n) h steps.Handled (server_of port u now after b (more_applied writes n))
-  handled-steps s u t after h e new writes there did changed sound =
-      let x = did.0 in
-      let d = did.1 in
-      let y : Server = server_of port s now t b n in
-      let final : Server = server_of port u now after b (more_applied writes n) in
-      let next : Next y h e = record {
-        room = x.room;
-        m = x.m;
-        rest = x.rest;
-        takes = x.takes;
-        replies = d.replies;
-        action = d.action;
-        after = final;
-        handles = handles-of s u t after h (after_first x) x.m writes new d changed;
-      } in
-      step-at y h (Open e) steps.Handled final there (next, (λ (g : Handle). false), refl, reaches d.action u.rules (records_of u) u.stamp after (more_applied writes n) (λ g z at. quiet-of (records_of u) after sound g z at))
+  -- the next message, whose write has not reached the subscriptions yet
+  pub handled-next : (s u : Store) (t after : Table ServerCircuit) (h : Handle) (e new : ServerEnd) (did : Effect) (d : EndSteps port h e s (step.Handled did) new u) → after ≡ with_changed (λ (x : ServerCircuit). Open new) h t
+      → (next : Next (server_of port s now t b n) h e) × (next.after ≡ server_of port u now after b (more_applied (is_wrote did) n)) × (next.action ≡ d.1.action)
+  handled-next s u t after h e new did (x, d) changed = (
+    record {
+      room = x.room;
+      m = x.m;
+      rest = x.rest;
+      takes = x.takes;
+      replies = d.replies;
+      action = d.action;
+      after = server_of port u now after b (more_applied (is_wrote did) n);
+      handles = handles-of s u t after h (after_first x) x.m did new d changed;
+    },
+    refl,
+    refl,
+  )
 
   -- ---- nothing was done
 
@@ -244,25 +221,17 @@ module _ (port now n : ℕ) (b : Clock) where
 
 -- ---- by what the step of one circuit did
 
-not-some : {A B : Type 0} (d : A) → (let none : Option A = None in Some d ≡ none) → B
+pub not-some : {A B : Type 0} (d : A) → (let none : Option A = None in Some d ≡ none) → B
 not-some d e = absurd cc
 
-pub step-sound : (port : ℕ) (s u : Store) (t after : Table ServerCircuit) (h : Handle) (writes : Bool) → StepsIn port t h s (Some (step.Handled writes)) after u → IsSound (records_of s) t → IsSound (records_of u) after
-step-sound port s u t after h writes (inr none) i = not-some (step.Handled writes) none.1
-step-sound port s u t after h writes (inl g) i = by g.0 g.1 g.2 g.3 g.4
+pub step-sound : (port : ℕ) (s u : Store) (t after : Table ServerCircuit) (h : Handle) (did : Effect) → StepsIn port t h s (Some (step.Handled did)) after u → IsSound (records_of s) t → IsSound (records_of u) after
+step-sound port s u t after h did (inr none) i = not-some (step.Handled did) none.1
+step-sound port s u t after h did (inl g) i = by g.0 g.1 g.2 g.3 g.4
   where
-    by : (c new : ServerCircuit) → under t h ≡ Some c → CircuitSteps port h c s (Some (step.Handled writes)) new u → after ≡ with_changed (λ (x : ServerCircuit). new) h t → IsSound (records_of u) after
-    by (Open e) new there did changed =
-        handled-sound port 0 0 (record { number = 0; wait = 0; due = 0 }) s u t after h e did.0 writes there did.1 did.2 did.3 (became t after h new (Open did.0) changed did.4) i
-    by (Ended w left) new there did changed = not-some (step.Handled writes) did.0
-
-pub steps-handled : (port now n : ℕ) (b : Clock) (s u : Store) (t after : Table ServerCircuit) (h : Handle) (writes : Bool) → StepsIn port t h s (Some (step.Handled writes)) after u → IsSound (records_of u) after → Steps (server_of port s now t b n) h steps.Handled (server_of port u now after b (more_applied writes n))
-steps-handled port now n b s u t after h writes (inr none) i = not-some (step.Handled writes) none.1
-steps-handled port now n b s u t after h writes (inl g) i = by g.0 g.1 g.2 g.3 g.4
-  where
-    by : (c new : ServerCircuit) → under t h ≡ Some c → CircuitSteps port h c s (Some (step.Handled writes)) new u → after ≡ with_changed (λ (x : ServerCircuit). new) h t → Steps (server_of port s now t b n) h steps.Handled (server_of port u now after b (more_applied writes n))
-    by (Open e) new there did changed = handled-steps port now n b s u t after h e did.0 writes there did.1 (became t after h new (Open did.0) changed did.4) i
-    by (Ended w left) new there did changed = not-some (step.Handled writes) did.0
+    by : (c new : ServerCircuit) → under t h ≡ Some c → CircuitSteps port h c s (Some (step.Handled did)) new u → after ≡ with_changed (λ (x : ServerCircuit). new) h t → IsSound (records_of u) after
+    by (Open e) new there d changed =
+        handled-sound port 0 0 (record { number = 0; wait = 0; due = 0 }) s u t after h e d.0 did there d.1 d.2 d.3 (became t after h new (Open d.0) changed d.4) i
+    by (Ended w left) new there d changed = not-some (step.Handled did) d.0
 
 -- a step that finds nothing to do leaves all as it was
 pub idle-same : (port : ℕ) (s u : Store) (t after : Table ServerCircuit) (h : Handle) → StepsIn port t h s (Some step.NeedBytes) after u → (u ≡ s) × (after ≡ t)
@@ -365,17 +334,12 @@ steps-none port now n b s u t after last h did (inl g) r i = by g.0 g.1 g.2 g.3 
           records = ap (λ (z : Store). records_of z) was.2 ∙ sym clear;
           rules = ap (λ (z : Store). z.rules) was.2;
           stamp = ap (λ (z : Store). z.stamp) was.2;
+          places = subst (λ (z : Store). KeepsPlaces s z) (sym was.2) (keeps-same s);
         } in
         step-at port now n b (server_of port s now t b n) h (Ended w left) (stepped did) (server_of port u now last b n) there
         (report-at after h (Ended w left) (stepped did) found r.0, closed-is port now n b s u t last h w_all gone)
 
 -- ---- the same along the view of the fields
-
-pub viewed-handled : (y : Server) (port now n k : ℕ) (b : Clock) (s u : Store) (t after : Table ServerCircuit) (h : Handle) (writes : Bool) → server_of port s now t b n ≡ y → k ≡ more_applied writes n → StepsIn port t h s (Some (step.Handled writes)) after u → IsSound (records_of s) t → Steps y h steps.Handled (server_of port u now after b k)
-viewed-handled y port now n k b s u t after h writes is more did i =
-    let final = steps-handled port now n b s u t after h writes did (step-sound port s u t after h writes did i) in
-    subst (λ (x : Server). Steps x h steps.Handled (server_of port u now after b k)) is
-    (subst (λ (m : ℕ). Steps (server_of port s now t b n) h steps.Handled (server_of port u now after b m)) (sym more) final)
 
 pub viewed-idle : (y : Server) (port now n : ℕ) (b : Clock) (s u : Store) (t after : Table ServerCircuit) (h : Handle) → server_of port s now t b n ≡ y → StepsIn port t h s (Some step.NeedBytes) after u → Steps y h steps.NeedBytes (server_of port u now after b n)
 viewed-idle y port now n b s u t after h is did = subst (λ (x : Server). Steps x h steps.NeedBytes (server_of port u now after b n)) is (steps-idle port now n b s u t after h did)

@@ -1,4 +1,4 @@
--- The faults of an EVENT_ADD, on a circuit with no subscription.
+-- The faults of an EVENT_ADD.
 use Rattle.std.proofs.Common.{◌≡◌, ℕ, ◌<◌, ◌%◌, ◌==◌, ◌||◌, inl, inr, Bool, true, false, not, nat_lt, [], ◌∷◌, length, Option, Some, Result, Ok, Err, refl, ap, ◌∙◌}
 use Rattle.std.proofs.lemmas.Bool.{lt-ltb}
 use Rattle.ca_text.specs.declared.refusal.Refusal.{Refusal}
@@ -36,12 +36,15 @@ lacks-not e b has = by (converted e b) refl
     by (Ok f) is = ap (λ (r : Result Elements Refusal). lacks_conversion r) is
     by (Err why) is = ap (λ (r : Result Elements Refusal). lacks_conversion r) is ∙ fault why (converted-fault e b has why is)
 
-module _ (r : RecordState) (rights : ℕ) (m : Fields) where
+module _ (r : RecordState) (rights : ℕ) (in_use : Bool) (others : ℕ) (m : Fields) where
   abbrev told : Option ℕ → Type 0
-  told o = subscription_fault r rights false 0 m (type_of m.data_type) ≡ o
+  told o = subscription_fault r rights in_use others m (type_of m.data_type) ≡ o
+
+  abbrev full : Bool
+  full = not (nat_lt others 288)
 
   pub event-type : 20 < m.data_type → told (Some bad_type)
-  event-type over = ap (λ (o : Option DataType). subscription_fault r rights false 0 m o) (type-of-none m.data_type over)
+  event-type over = ap (λ (o : Option DataType). subscription_fault r rights in_use others m o) (type-of-none m.data_type over)
 
   module _ (t : DataType) (typed : type_of m.data_type ≡ Some t) where
     abbrev short : Bool
@@ -56,26 +59,38 @@ module _ (r : RecordState) (rights : ℕ) (m : Fields) where
     abbrev lacks : Bool
     lacks = lacks_conversion (converted r.value t.base)
 
-    start : (b : Bool) → may_read rights ≡ b → told (five (not b) (short || (blank || false)) many lacks false)
+    start : (b : Bool) → may_read rights ≡ b → told (five (not b) (short || (blank || in_use)) many lacks full)
     start b right =
-        ap (λ (o : Option DataType). subscription_fault r rights false 0 m o) typed ∙ ap (λ (x : Bool). five (not x) (short || (blank || false)) many lacks false) right
+        ap (λ (o : Option DataType). subscription_fault r rights in_use others m o) typed ∙ ap (λ (x : Bool). five (not x) (short || (blank || in_use)) many lacks full) right
 
     pub event-right : may_read rights ≡ false → told (Some no_read_access)
     event-right right = start false right
 
     pub event-short : may_read rights ≡ true → length m.payload < 16 → told (Some add_fail)
-    event-short right lt = start true right ∙ ap (λ (x : Bool). five false (x || (blank || false)) many lacks false) (lt-ltb (length m.payload) 16 lt)
+    event-short right lt = start true right ∙ ap (λ (x : Bool). five false (x || (blank || in_use)) many lacks full) (lt-ltb (length m.payload) 16 lt)
 
-    past : may_read rights ≡ true → short ≡ false → (b : Bool) → blank ≡ b → told (five false (b || false) many lacks false)
+    past : may_read rights ≡ true → short ≡ false → (b : Bool) → blank ≡ b → told (five false (b || in_use) many lacks full)
     past right whole b e =
-        start true right ∙ ap (λ (x : Bool). five false (x || (blank || false)) many lacks false) whole ∙ ap (λ (x : Bool). five false (x || false) many lacks false) e
+        start true right ∙ ap (λ (x : Bool). five false (x || (blank || in_use)) many lacks full) whole ∙ ap (λ (x : Bool). five false (x || in_use) many lacks full) e
 
     pub event-blank : may_read rights ≡ true → short ≡ false → blank ≡ true → told (Some add_fail)
     event-blank right whole e = past right whole true e
 
-    pub event-many : may_read rights ≡ true → short ≡ false → blank ≡ false → many ≡ true → told (Some bad_count)
-    event-many right whole e f = past right whole false e ∙ ap (λ (x : Bool). five false false x lacks false) f
+    used : may_read rights ≡ true → short ≡ false → blank ≡ false → (b : Bool) → in_use ≡ b → told (five false b many lacks full)
+    used right whole e b u = past right whole false e ∙ ap (λ (x : Bool). five false x many lacks full) u
 
-    pub event-lacks : may_read rights ≡ true → short ≡ false → blank ≡ false → many ≡ false → (b : Bool) → lacks ≡ b → told (five false false false b false)
-    event-lacks right whole e f b g =
-        past right whole false e ∙ ap (λ (x : Bool). five false false x lacks false) f ∙ ap (λ (x : Bool). five false false false x false) g
+    pub event-used : may_read rights ≡ true → short ≡ false → blank ≡ false → in_use ≡ true → told (Some add_fail)
+    event-used right whole e u = used right whole e true u
+
+    pub event-many : may_read rights ≡ true → short ≡ false → blank ≡ false → in_use ≡ false → many ≡ true → told (Some bad_count)
+    event-many right whole e u f = used right whole e false u ∙ ap (λ (x : Bool). five false false x lacks full) f
+
+    lacking : may_read rights ≡ true → short ≡ false → blank ≡ false → in_use ≡ false → many ≡ false → (b : Bool) → lacks ≡ b → told (five false false false b full)
+    lacking right whole e u f b g =
+        used right whole e false u ∙ ap (λ (x : Bool). five false false x lacks full) f ∙ ap (λ (x : Bool). five false false false x full) g
+
+    pub event-lacks : may_read rights ≡ true → short ≡ false → blank ≡ false → in_use ≡ false → many ≡ false → lacks ≡ true → told (Some no_convert)
+    event-lacks right whole e u f g = lacking right whole e u f true g
+
+    pub event-last : may_read rights ≡ true → short ≡ false → blank ≡ false → in_use ≡ false → many ≡ false → lacks ≡ false → (b : Bool) → full ≡ b → told (five false false false false b)
+    event-last right whole e u f g b c = lacking right whole e u f false g ∙ ap (λ (x : Bool). five false false false false x) c

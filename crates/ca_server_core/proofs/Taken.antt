@@ -20,6 +20,8 @@ use Rattle.ca_wire.specs.Messages.{error_reply, status_reply}
 use Rattle.ca_model.specs.Due.{Action, Applies, Nothing, PutRefused, PutTaken, Serves, Waits, early_fault, late_fault}
 use Rattle.ca_model.specs.Server.{ServerEnd}
 use Rattle.ca_server_core.specs.declared.seek.Seat.{Seat}
+use Rattle.ca_server_core.specs.declared.step.Effect.{Effect}
+use Rattle.ca_server_core.specs.declared.step.Effect.TheVariants as effect
 use Rattle.ca_server_core.specs.Handling.{Does, Puts, Writes, known, replied}
 use Rattle.ca_server_core.specs.Putting.{IsRefused, IsTaken, early}
 use Rattle.ca_server_core.specs.Seeking.{IsServed, IsStray}
@@ -31,7 +33,7 @@ pub replied-none : (e : ServerEnd) → replied [] e ≡ e
 replied-none e = ap (λ (o : List ℕ). let new : ServerEnd = record e { link = record e.link { output = o } } in new) (append-nil e.link.output)
 
 -- what was done is done if the records are these
-pub with-store : (D : List Fields → Action → Type 0) (s t : Store) (h : Handle) (e new : ServerEnd) (m : Fields) (w : Bool) → t ≡ s → Does D s h e m w s new → Does D s h e m w t new
+pub with-store : (D : List Fields → Action → Type 0) (s t : Store) (h : Handle) (e new : ServerEnd) (m : Fields) (w : Effect) → t ≡ s → Does D s h e m w s new → Does D s h e m w t new
 with-store D s t h e new m w same d = subst (λ (x : Store). Does D s h e m w x new) (sym same) d
 
 -- a place has one record
@@ -69,6 +71,12 @@ module _ (port : ℕ) (s : Store) (e : ServerEnd) (m : Fields) (seat : Seat) (i 
   pub changed-records : (next : Record) (t : Store) (f : Record → Record) → Becomes s seat.place i.r next t → f i.r ≡ next → records_of t ≡ with_record i.channel.name f (records_of s)
   changed-records next t f b is = b.records f is ∙ ap (λ (name : List ℕ). with_record name f (records_of s)) i.named
 
+-- where a write was applied
+wrote : (s t : Store) (place : ℕ) (r next : Record) (name : List ℕ) (v : Elements) → Becomes s place r next t → r.state.name ≡ name → next.state.value ≡ v → next.state.meta ≡ written_meta s.stamp
+    → (at : ℕ) × (x : Record) × (effect.Wrote place ≡ effect.Wrote at) × HasAt t at x × (x.state.name ≡ name) × (x.state.value ≡ v) × (x.state.meta ≡ written_meta t.stamp)
+wrote s t place r next name v b named value meta =
+    (place, next, refl, b.there, b.name ∙ named, value, meta ∙ sym (ap (λ (x : Store). written_meta x.stamp) b.leaves))
+
 -- ---- WRITE
 
 no-put : {A : Type 0} (p : Put) → (let none : Option Put = None in none ≡ Some p) → A
@@ -80,7 +88,7 @@ not-notify m is = ap (λ (n : ℕ). n == command_number command.WriteNotify) is
 is-notify : (m : Fields) → m.command ≡ command_number command.WriteNotify → (m.command == command_number command.WriteNotify) ≡ true
 is-notify m is = ap (λ (n : ℕ). n == command_number command.WriteNotify) is
 
-pub write-stray : (port : ℕ) (s : Store) (h : Handle) (e new : ServerEnd) (m : Fields) (cid : ℕ) → IsStray e m.p1 cid → new ≡ replied (error_reply cid 410 m ∷ []) e → Does (Writes (known port s e) m) s h e m false s new
+pub write-stray : (port : ℕ) (s : Store) (h : Handle) (e new : ServerEnd) (m : Fields) (cid : ℕ) → IsStray e m.p1 cid → new ≡ replied (error_reply cid 410 m ∷ []) e → Does (Writes (known port s e) m) s h e m effect.Quiet s new
 write-stray port s h e new m cid is done = record {
   replies = error_reply cid 410 m ∷ [];
   action = Nothing;
@@ -90,12 +98,12 @@ write-stray port s h e new m cid is done = record {
   records = refl;
   rules = refl;
   stamp = refl;
-  kind = refl;
+  tells = refl;
   fits = tt;
   leaves = done;
 }
 
-pub write-refused : (port : ℕ) (s : Store) (h : Handle) (e new : ServerEnd) (m : Fields) (seat : Seat) (i : IsServed s e m.p1 seat) (bits status : ℕ) → bits ≡ rights s.rules e.peer.user e.peer.host i.channel.name → m.command ≡ command_number command.Write → IsRefused i.r bits None m status → new ≡ replied (error_reply seat.cid status m ∷ []) e → Does (Writes (known port s e) m) s h e m false s new
+pub write-refused : (port : ℕ) (s : Store) (h : Handle) (e new : ServerEnd) (m : Fields) (seat : Seat) (i : IsServed s e m.p1 seat) (bits status : ℕ) → bits ≡ rights s.rules e.peer.user e.peer.host i.channel.name → m.command ≡ command_number command.Write → IsRefused i.r bits None m status → new ≡ replied (error_reply seat.cid status m ∷ []) e → Does (Writes (known port s e) m) s h e m effect.Quiet s new
 write-refused port s h e new m seat i bits status right is refused done = record {
   replies = error_reply i.channel.cid status m ∷ [];
   action = Nothing;
@@ -105,12 +113,12 @@ write-refused port s h e new m seat i bits status right is refused done = record
   records = refl;
   rules = refl;
   stamp = refl;
-  kind = refl;
+  tells = refl;
   fits = tt;
   leaves = done ∙ ap (λ (cid : ℕ). replied (error_reply cid status m ∷ []) e) (sym i.cid);
 }
 
-pub write-applied : (port : ℕ) (s t : Store) (h : Handle) (e new : ServerEnd) (m : Fields) (seat : Seat) (i : IsServed s e m.p1 seat) (bits : ℕ) (b : Bool) (next : Record) → bits ≡ rights s.rules e.peer.user e.peer.host i.channel.name → m.command ≡ command_number command.Write → IsTaken s i.r bits None m (begun.Applied b) next → Becomes s seat.place i.r next t → new ≡ e → Does (Writes (known port s e) m) s h e m true t new
+pub write-applied : (port : ℕ) (s t : Store) (h : Handle) (e new : ServerEnd) (m : Fields) (seat : Seat) (i : IsServed s e m.p1 seat) (bits : ℕ) (b : Bool) (next : Record) → bits ≡ rights s.rules e.peer.user e.peer.host i.channel.name → m.command ≡ command_number command.Write → IsTaken s i.r bits None m (begun.Applied b) next → Becomes s seat.place i.r next t → new ≡ e → Does (Writes (known port s e) m) s h e m (effect.Wrote seat.place) t new
 write-applied port s t h e new m seat i bits true next right is taken becomes done = (let k = taken.takes in no-put k.0 k.1)
 write-applied port s t h e new m seat i bits false next right is taken becomes done = record {
   replies = [];
@@ -121,14 +129,14 @@ write-applied port s t h e new m seat i bits false next right is taken becomes d
   records = changed-records port s e m seat i bits None right (not-notify m is) next t (with_value taken.v (written_meta s.stamp)) becomes (sym taken.takes.2);
   rules = ap (λ (x : Store). x.rules) becomes.leaves;
   stamp = ap (λ (x : Store). x.stamp) becomes.leaves;
-  kind = refl;
+  tells = wrote s t seat.place i.r next i.channel.name taken.v becomes i.named (ap (λ (x : Record). x.state.value) taken.takes.2) (ap (λ (x : Record). x.state.meta) taken.takes.2);
   fits = tt;
   leaves = done ∙ sym (replied-none e);
 }
 
 -- ---- WRITE_NOTIFY
 
-pub put-stray : (port : ℕ) (s : Store) (h : Handle) (e new : ServerEnd) (m : Fields) (cid : ℕ) → IsStray e m.p1 cid → new ≡ replied (status_reply m 410 ∷ []) e → Does (Puts (known port s e) m) s h e m false s new
+pub put-stray : (port : ℕ) (s : Store) (h : Handle) (e new : ServerEnd) (m : Fields) (cid : ℕ) → IsStray e m.p1 cid → new ≡ replied (status_reply m 410 ∷ []) e → Does (Puts (known port s e) m) s h e m effect.Quiet s new
 put-stray port s h e new m cid is done = record {
   replies = status_reply m 410 ∷ [];
   action = Nothing;
@@ -138,12 +146,12 @@ put-stray port s h e new m cid is done = record {
   records = refl;
   rules = refl;
   stamp = refl;
-  kind = refl;
+  tells = refl;
   fits = tt;
   leaves = done;
 }
 
-pub put-refused : (port : ℕ) (s : Store) (h : Handle) (e new : ServerEnd) (m : Fields) (seat : Seat) (i : IsServed s e m.p1 seat) (bits status : ℕ) (p : Put) → bits ≡ rights s.rules e.peer.user e.peer.host i.channel.name → m.command ≡ command_number command.WriteNotify → IsRefused i.r bits (Some p) m status → new ≡ replied (status_reply m status ∷ []) e → Does (Puts (known port s e) m) s h e m false s new
+pub put-refused : (port : ℕ) (s : Store) (h : Handle) (e new : ServerEnd) (m : Fields) (seat : Seat) (i : IsServed s e m.p1 seat) (bits status : ℕ) (p : Put) → bits ≡ rights s.rules e.peer.user e.peer.host i.channel.name → m.command ≡ command_number command.WriteNotify → IsRefused i.r bits (Some p) m status → new ≡ replied (status_reply m status ∷ []) e → Does (Puts (known port s e) m) s h e m effect.Quiet s new
 put-refused port s h e new m seat i bits status p right is refused done = record {
   replies = status_reply m status ∷ [];
   action = Nothing;
@@ -153,7 +161,7 @@ put-refused port s h e new m seat i bits status p right is refused done = record
   records = refl;
   rules = refl;
   stamp = refl;
-  kind = refl;
+  tells = refl;
   fits = tt;
   leaves = done;
 }
@@ -172,7 +180,7 @@ late slow m = if slow then [] else status_reply m normal ∷ []
 none-busy : (r : Record) → r.busy ≡ None → is_some r.busy ≡ false
 none-busy r e = ap (λ (o : Option Put). is_some o) e
 
-pub put-applied : (port : ℕ) (s t : Store) (h : Handle) (e new : ServerEnd) (m : Fields) (seat : Seat) (i : IsServed s e m.p1 seat) (bits : ℕ) (b : Bool) (next : Record) → bits ≡ rights s.rules e.peer.user e.peer.host i.channel.name → m.command ≡ command_number command.WriteNotify → IsTaken s i.r bits (Some (put_in h seat m)) m (begun.Applied b) next → Becomes s seat.place i.r next t → new ≡ replied (late i.r.state.slow m) e → Does (Puts (known port s e) m) s h e m true t new
+pub put-applied : (port : ℕ) (s t : Store) (h : Handle) (e new : ServerEnd) (m : Fields) (seat : Seat) (i : IsServed s e m.p1 seat) (bits : ℕ) (b : Bool) (next : Record) → bits ≡ rights s.rules e.peer.user e.peer.host i.channel.name → m.command ≡ command_number command.WriteNotify → IsTaken s i.r bits (Some (put_in h seat m)) m (begun.Applied b) next → Becomes s seat.place i.r next t → new ≡ replied (late i.r.state.slow m) e → Does (Puts (known port s e) m) s h e m (effect.Wrote seat.place) t new
 put-applied port s t h e new m seat i bits true next right is taken becomes done =
     let k = taken.takes in
     let p : put_in h seat m ≡ k.0 = some_is (put_in h seat m) k.0 k.1 in
@@ -195,7 +203,7 @@ put-applied port s t h e new m seat i bits true next right is taken becomes done
       records = (k.0, ((seat.channel, i.channel), i.held, sym p), changed-records port s e m seat i bits (Some (put_in h seat m)) right (is-notify m is) next t (λ (r : Record). record (with_value taken.v (written_meta s.stamp) r) { busy = Some k.0 }) becomes (sym k.4));
       rules = ap (λ (x : Store). x.rules) becomes.leaves;
       stamp = ap (λ (x : Store). x.stamp) becomes.leaves;
-      kind = refl;
+      tells = wrote s t seat.place i.r next i.channel.name taken.v becomes i.named (ap (λ (x : Record). x.state.value) k.4) (ap (λ (x : Record). x.state.meta) k.4);
       fits = tt;
       leaves = done;
     }
@@ -219,12 +227,12 @@ put-applied port s t h e new m seat i bits false next right is taken becomes don
       records = changed-records port s e m seat i bits (Some (put_in h seat m)) right (is-notify m is) next t (with_value taken.v (written_meta s.stamp)) becomes (sym k.2);
       rules = ap (λ (x : Store). x.rules) becomes.leaves;
       stamp = ap (λ (x : Store). x.stamp) becomes.leaves;
-      kind = refl;
+      tells = wrote s t seat.place i.r next i.channel.name taken.v becomes i.named (ap (λ (x : Record). x.state.value) k.2) (ap (λ (x : Record). x.state.meta) k.2);
       fits = tt;
       leaves = done;
     }
 
-pub put-waits : (port : ℕ) (s t : Store) (h : Handle) (e new : ServerEnd) (m : Fields) (seat : Seat) (i : IsServed s e m.p1 seat) (bits : ℕ) (next : Record) → bits ≡ rights s.rules e.peer.user e.peer.host i.channel.name → m.command ≡ command_number command.WriteNotify → IsTaken s i.r bits (Some (put_in h seat m)) m begun.Waiting next → Becomes s seat.place i.r next t → new ≡ replied (late i.r.state.slow m) e → Does (Puts (known port s e) m) s h e m false t new
+pub put-waits : (port : ℕ) (s t : Store) (h : Handle) (e new : ServerEnd) (m : Fields) (seat : Seat) (i : IsServed s e m.p1 seat) (bits : ℕ) (next : Record) → bits ≡ rights s.rules e.peer.user e.peer.host i.channel.name → m.command ≡ command_number command.WriteNotify → IsTaken s i.r bits (Some (put_in h seat m)) m begun.Waiting next → Becomes s seat.place i.r next t → new ≡ replied (late i.r.state.slow m) e → Does (Puts (known port s e) m) s h e m effect.Quiet t new
 put-waits port s t h e new m seat i bits next right is taken becomes done =
     let k = taken.takes in
     let p : put_in h seat m ≡ k.0 = some_is (put_in h seat m) k.0 k.1 in
@@ -246,7 +254,7 @@ put-waits port s t h e new m seat i bits next right is taken becomes done =
       records = (k.0, ((seat.channel, i.channel), i.held, sym p), changed-records port s e m seat i bits (Some (put_in h seat m)) right (is-notify m is) next t (with_waiting (record { put = k.0; value = taken.v })) becomes (sym k.3));
       rules = ap (λ (x : Store). x.rules) becomes.leaves;
       stamp = ap (λ (x : Store). x.stamp) becomes.leaves;
-      kind = refl;
+      tells = refl;
       fits = ((seat.channel, i.channel), i.held, refl, i.there);
       leaves = done;
     }

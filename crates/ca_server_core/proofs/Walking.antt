@@ -1,6 +1,7 @@
 -- The walk over the channels of a circuit that ends: its puts that wait are taken out of the records.
-use Rattle.std.proofs.Common.{◌≡◌, ℕ, zero, suc, ◌+◌, ◌<◌, ◌≤◌, Bool, true, false, not, List, length, cond, Option, Some, None, refl, sym, ap, ◌∙◌, subst, arith}
+use Rattle.std.proofs.Common.{◌≡◌, ℕ, zero, suc, ◌+◌, ◌<◌, ◌≤◌, ◌==◌, Bool, true, false, not, List, length, cond, Option, Some, None, refl, sym, ap, ◌∙◌, subst, arith}
 use Rattle.std.specs.Str.{bytes_eq}
+use Rattle.std.proofs.lemmas.Bool.{eq-eqb, eqb-true}
 use Rattle.std.proofs.lemmas.Option.{get_or_from_slice_get}
 use Rattle.std.proofs.lemmas.Slice.Eq.{bytes_eq-Decides}
 use Rattle.ca_arena.specs.declared.handle.Handle.{Handle}
@@ -8,14 +9,14 @@ use Rattle.ca_arena.specs.Arena.{Place, blank, place_at}
 use Rattle.ca_ids.specs.Table.{Table, held_at, same_handle, under}
 use Rattle.ca_records.specs.declared.puts.Put.{Put}
 use Rattle.ca_records.specs.Puts.{Record, WaitingPut, record_named, without_puts}
-use Rattle.ca_records.specs.Store.{Finds, Store, records_of}
+use Rattle.ca_records.specs.Store.{Becomes, Finds, HasAt, Store, records_of}
 use Rattle.ca_records.specs.Writes.{is_of}
 use Rattle.ca_records.specs.Writes as writes
 use Rattle.ca_text.specs.Place.{At}
-use Rattle.ca_text.proofs.Places.{At-mapped, At-within, some_is}
+use Rattle.ca_text.proofs.Places.{At-mapped, At-set-other, At-within, some_is}
 use Rattle.ca_model.specs.Server.{OpenChannel}
 use Rattle.ca_server_core.specs.Clearing.{ArePuts}
-use Rattle.ca_server_core.specs.Ending.{ArePutsFrom, Walks, WithdrawsAll}
+use Rattle.ca_server_core.specs.Ending.{ArePutsFrom, KeepsPlaces, Walks, WithdrawsAll}
 use Rattle.ca_server_core.proofs.Cleared.{none-of}
 use Rattle.ca_server_core.proofs.Stays.{at-filtered}
 use Rattle.ca_server_core.proofs.Tables.{at-find, handle-is, none-some, place, under-at}
@@ -37,16 +38,40 @@ at-index t n w c is same =
     ap (λ (p : Place OpenChannel). held_at n p) (get_or_from_slice_get t n (place w c) blank at)
     ∙ ap (λ (h : Handle). let x : Handle × OpenChannel = (h, c) in Some x) (handle-is (record { index = n; generation = w.generation }) w (sym same) refl)
 
+-- ---- the places of records
+
+pub keeps-same : (s : Store) → KeepsPlaces s s
+keeps-same s place r at = (r, at, refl)
+
+pub keeps-both : (s u v : Store) → KeepsPlaces s u → KeepsPlaces u v → KeepsPlaces s v
+keeps-both s u v a b place r at = (let x = a place r at in let y = b place x.0 x.1 in (y.0, y.1, y.2 ∙ x.2))
+
+pub keeps-becomes : (s u : Store) (at_place : ℕ) (r next : Record) → Becomes s at_place r next u → next.state ≡ r.state → KeepsPlaces s u
+keeps-becomes s u at_place r next w same place q at = by (place == at_place) refl
+  where
+    by : (b : Bool) → (place == at_place) ≡ b → (x : Record) × HasAt u place x × (x.state ≡ q.state)
+    by true hit =
+        let here : place ≡ at_place = eqb-true place at_place hit in
+        let one : q ≡ r = one-record s at_place q r (subst (λ (n : ℕ). HasAt s n q) here at) w.at in
+        (next, subst (λ (n : ℕ). HasAt u n next) (sym here) w.there, same ∙ ap (λ (x : Record). x.state) (sym one))
+    by false miss = (
+      q,
+      subst (λ (x : Store). HasAt x place q) (sym w.leaves)
+          (At-set-other s.slots at_place place (Some q) (Some next) at (λ e. both (place == at_place) (eq-eqb place at_place e) miss)),
+      refl,
+    )
+
 -- ---- the whole walk
 
 pub walks-none : (h : Handle) (t : Table OpenChannel) (s : Store) → Walks 0 0 h t s s
-walks-none h t s = record { rest = refl; rules = refl; stamp = refl; left = λ from. from }
+walks-none h t s = record { rest = refl; rules = refl; stamp = refl; places = keeps-same s; left = λ from. from }
 
 pub walks-more : (n : ℕ) (h : Handle) (t : Table OpenChannel) (s u v : Store) → Walks 0 n h t s u → Walks n (n + 1) h t u v → Walks 0 (n + 1) h t s v
 walks-more n h t s u v a b = record {
   rest = b.rest ∙ a.rest;
   rules = b.rules ∙ a.rules;
   stamp = b.stamp ∙ a.stamp;
+  places = keeps-both s u v a.places b.places;
   left = λ from. b.left (a.left from);
 }
 
@@ -55,6 +80,7 @@ walks-all n h t s u puts all a = record {
   records = none-of (λ (p : Put). same_handle p.circuit h) (records_of u) (λ i k r w at at'. by i k r w at at' (same_handle w.put.circuit h) refl) ∙ a.rest;
   rules = a.rules;
   stamp = a.stamp;
+  places = a.places;
 }
   where
     first : ArePutsFrom 0 h (records_of s) t
@@ -76,6 +102,7 @@ walks-past n h t s none = record {
   rest = refl;
   rules = refl;
   stamp = refl;
+  places = keeps-same s;
   left = λ from i r k w at at' hit. (let p = from i r k w at at' hit in (p.0, p.1, p.2, p.3, next n w.put.channel.index p.4 (λ same. none w.put.channel p.0 i r p.1 same p.3 at p.2)));
 }
 
@@ -103,6 +130,7 @@ walks-on n h t s u g o at_place is f w = record {
   rest = w.rest;
   rules = ap (λ (x : Store). x.rules) w.becomes.leaves;
   stamp = ap (λ (x : Store). x.stamp) w.becomes.leaves;
+  places = keeps-becomes s u at_place w.r (without_puts (is_of h None) w.r) w.becomes refl;
   left = λ from i q k v at at' hit. left from i q k v at at' hit;
 }
   where

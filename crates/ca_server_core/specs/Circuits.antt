@@ -1,7 +1,7 @@
 -- Working: a circuit as the statement has it, and what the calls of one answer and leave.
-use Rattle.std.specs.Prelude.{ℕ, ◌≡◌, ◌≢◌, ◌⊎◌, List, [], Some, None, Ok, Err, Result}
+use Rattle.std.specs.Prelude.{ℕ, ◌≡◌, ◌≢◌, ◌⊎◌, true, false, List, [], Some, None, Ok, Err, Result}
 use Rattle.ca_arena.specs.declared.handle.Handle.{Handle}
-use Rattle.ca_ids.specs.Table.{Table, under, with_changed}
+use Rattle.ca_ids.specs.Table.{MayGive, Table, is_full, under, with_changed, with_held}
 use Rattle.ca_link.specs.Calls.{IsOpen}
 use Rattle.ca_link.specs.Link.{with_given, with_handed}
 use Rattle.ca_records.specs.Puts.{Record}
@@ -45,6 +45,13 @@ SendsAt n (server.Ended w left) new = new ≡ server.Ended w left
 -- no bad header was met at any end that is open
 abbrev pub AreLive : Table ServerCircuit → Type 0
 AreLive t = (h : Handle) (c : ServerCircuit) → under t h ≡ Some c → IsLive c
+
+-- a circuit is held under a handle that may be given
+abbrev pub OpensIn : Table ServerCircuit → ServerCircuit → Result Handle Refusal → Table ServerCircuit → Type 0
+OpensIn t c (Ok h) after = MayGive t h × (after ≡ with_held h c t)
+OpensIn t c (Err refusal.ArenaFull) after = (is_full t ≡ true) × (after ≡ t)
+OpensIn t c (Err refusal.OutOfMemory) after = (is_full t ≡ false) × (after ≡ t)
+OpensIn t c (Err _) after = ⊥
 
 -- these bytes came on the circuit of a handle
 abbrev pub GivesIn : Table ServerCircuit → Handle → (now : ℕ) → List ℕ → Result (Unit {0}) Refusal → Table ServerCircuit → Type 0

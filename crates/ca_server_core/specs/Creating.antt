@@ -13,8 +13,9 @@ use Rattle.ca_wire.specs.Fields.{Fields}
 use Rattle.ca_wire.specs.Messages.{created_reply, rights_reply, text_in}
 use Rattle.ca_model.specs.Due.{Action}
 use Rattle.ca_model.specs.Server.{Server, ServerEnd}
-use Rattle.ca_model.specs.ServerSteps.{Acts, is_write}
-use Rattle.ca_server_core.specs.Handling.{Creates, Fits, Recorded, known, replied}
+use Rattle.ca_model.specs.ServerSteps.{Acts}
+use Rattle.ca_server_core.specs.declared.step.Effect.TheVariants as effect
+use Rattle.ca_server_core.specs.Handling.{Creates, Fits, Recorded, Tells, known, replied}
 
 -- the replies by which a channel to a record is created, under this SID
 abbrev pub creation_replies : Store → ServerEnd → Fields → RecordState → (sid : ℕ) → List Fields
@@ -42,6 +43,6 @@ pub record Creation (port : ℕ) (s : Store) (e : ServerEnd) (m : Fields) (new :
   pub acted : ServerEnd
   pub acts : (y : Server) → Acts y e action acted
   pub quiet : (h : Handle) → Recorded (records_of s) s.stamp h e m action (records_of s)
-  pub kind : false ≡ is_write action
+  pub tells : Tells action effect.Quiet s
   pub fits : Fits (records_of s) e m action
   pub leaves : new ≡ replied replies acted

@@ -4,7 +4,7 @@ use Rattle.ca_arena.specs.declared.handle.Handle.{Handle}
 use Rattle.ca_ids.specs.Table.{Table, same_handle, under, with_changed}
 use Rattle.ca_records.specs.declared.puts.Put.{Put}
 use Rattle.ca_records.specs.Puts.{Record, WaitingPut, withdrawn}
-use Rattle.ca_records.specs.Store.{Store, records_of}
+use Rattle.ca_records.specs.Store.{HasAt, Store, records_of}
 use Rattle.ca_text.specs.Place.{At}
 use Rattle.ca_model.specs.Ends.{Why}
 use Rattle.ca_model.specs.Ends as why
@@ -15,11 +15,16 @@ use Rattle.ca_server_core.specs.Stepping.{why_is}
 
 -- ---- the puts of a circuit
 
+-- each record is at its place still, and as it was but for its puts
+abbrev pub KeepsPlaces : Store → Store → Type 0
+KeepsPlaces s t = (place : ℕ) (r : Record) → HasAt s place r → (q : Record) × HasAt t place q × (q.state ≡ r.state)
+
 -- the puts of a circuit that wait were taken out
 pub record WithdrawsAll (h : Handle) (s t : Store) : Type 0 where
   pub records : records_of t ≡ withdrawn (λ (p : Put). same_handle p.circuit h) (records_of s)
   pub rules : t.rules ≡ s.rules
   pub stamp : t.stamp ≡ s.stamp
+  pub places : KeepsPlaces s t
 
 -- each put of a circuit that waits is on an open channel of it, of this index or a later one, to the record for which it waits
 abbrev pub ArePutsFrom : ℕ → Handle → List Record → Table OpenChannel → Type 0
@@ -32,6 +37,7 @@ pub record Walks (n last : ℕ) (h : Handle) (t : Table OpenChannel) (s u : Stor
   pub rest : withdrawn (λ (p : Put). same_handle p.circuit h) (records_of u) ≡ withdrawn (λ (p : Put). same_handle p.circuit h) (records_of s)
   pub rules : u.rules ≡ s.rules
   pub stamp : u.stamp ≡ s.stamp
+  pub places : KeepsPlaces s u
   pub left : ArePutsFrom n h (records_of s) t → ArePutsFrom last h (records_of u) t
 
 -- ---- the circuit

@@ -1,29 +1,27 @@
 -- Working: what the end of a circuit makes of one message, with the records of its server.
-use Rattle.std.specs.Prelude.{ℕ, ◌≡◌, ◌==◌, ◌&&◌, ◌⊎◌, Bool, true, false, List, [], Some, map, option_map, replicate}
+use Rattle.std.specs.Prelude.{ℕ, ◌≡◌, ◌==◌, ◌&&◌, ◌⊎◌, Bool, true, false, List, [], Some, map, option_map}
 use Rattle.ca_arena.specs.declared.handle.Handle.{Handle}
 use Rattle.ca_ids.specs.Table.{Table, by_wire, held, is_full, same_handle, under}
 use Rattle.ca_ids.specs.Wire.{wire_of}
 use Rattle.ca_link.specs.Link.{with_sent}
-use Rattle.ca_queue.specs.Queue.{Queue, no_queue, switched}
 use Rattle.ca_records.specs.declared.puts.Put.{Put}
 use Rattle.ca_records.specs.declared.puts.Stamp.{Stamp}
 use Rattle.ca_records.specs.Puts.{Record, record_named, with_record, with_value, with_waiting, withdrawn, written_meta}
-use Rattle.ca_records.specs.Store.{Store, records_of}
-use Rattle.ca_text.specs.Limits.{circuit_queues}
+use Rattle.ca_records.specs.Store.{HasAt, Store, records_of}
+use Rattle.ca_text.specs.Command.{command_number}
+use Rattle.ca_text.specs.declared.command.Command.{Command}
+use Rattle.ca_text.specs.declared.command.Command.TheVariants as command
 use Rattle.ca_text.specs.Status.{bad_channel}
 use Rattle.ca_wire.specs.Fields.{Fields}
 use Rattle.ca_wire.specs.Messages.{error_reply, status_reply}
-use Rattle.ca_model.specs.Due.{Action, Applies, Clears, Due, EventDue, IsCreated, IsNotCreated, Knows, Nothing, Opens, PutDue, ReadDue, StrayDue, Waits, WriteDue}
+use Rattle.ca_model.specs.Due.{Action, Adds, Applies, Clears, Due, EventDue, IsCreated, IsNotCreated, Knows, Nothing, Opens, PutDue, ReadDue, StrayDue, Waits, WriteDue}
 use Rattle.ca_model.specs.Ends.{Peer}
 use Rattle.ca_model.specs.Server.{OpenChannel, Server, ServerEnd, key_of}
-use Rattle.ca_model.specs.ServerSteps.{Acts, IsPut, NeedsMemory, is_write, known_channel, known_record}
-use Rattle.ca_model.specs.Speech.{Stored}
+use Rattle.ca_model.specs.ServerSteps.{Acts, IsPut, NeedsMemory, known_channel, known_record}
+use Rattle.ca_server_core.specs.declared.step.Effect.{Effect}
+use Rattle.ca_server_core.specs.declared.step.Effect.TheVariants as effect
 
 -- ---- the end
-
--- the queues of an end that has no subscription
-abbrev pub idle_queues : (events_on : Bool) → List (Queue Stored)
-idle_queues on = replicate circuit_queues (switched on no_queue)
 
 -- these messages wait after the others
 abbrev pub replied : List Fields → ServerEnd → ServerEnd
@@ -71,8 +69,29 @@ Fits rs e m (Opens c) = (r : Record) × (record_named rs c.name ≡ Some r)
 Fits rs e m (Waits name value) = (c : Handle × OpenChannel) × (by_wire e.channels m.p1 ≡ Some c) × (c.1.name ≡ name) × (c.1.retired ≡ false)
 Fits rs e m action = Unit {0}
 
+-- the message is of this command, which leaves its server nothing to do
+pub record IsQuiet (c : Command) (m : Fields) : Type 0 where
+  pub is : m.command ≡ command_number c
+  pub no_write : c ≡ command.Write → ⊥
+  pub no_put : c ≡ command.WriteNotify → ⊥
+  pub no_event : c ≡ command.EventAdd → ⊥
+
+-- whether a write was applied
+abbrev pub is_wrote : Effect → Bool
+is_wrote (effect.Wrote place) = true
+is_wrote _ = false
+
+-- What an action leaves the server to do, by the places of records: a write that was applied is to reach the subscriptions of its record,
+-- which has its value and the stamp now; and a subscription began.
+abbrev pub Tells : Action → Effect → Store → Type 0
+Tells (Applies name value busies) did t =
+    (place : ℕ) × (r : Record) × (did ≡ effect.Wrote place) × HasAt t place r × (r.state.name ≡ name) × (r.state.value ≡ value)
+    × (r.state.meta ≡ written_meta t.stamp)
+Tells (Adds x) did t = (place : ℕ) × (r : Record) × (did ≡ effect.Began place) × HasAt t place r × (r.state.name ≡ x.name)
+Tells action did t = did ≡ effect.Quiet
+
 -- What is due by this relation was done: the replies wait, and so the records and the end are after it.
-pub record Does (D : List Fields → Action → Type 0) (s : Store) (h : Handle) (e : ServerEnd) (m : Fields) (writes : Bool) (t : Store) (new : ServerEnd) : Type 0 where
+pub record Does (D : List Fields → Action → Type 0) (s : Store) (h : Handle) (e : ServerEnd) (m : Fields) (did : Effect) (t : Store) (new : ServerEnd) : Type 0 where
   pub replies : List Fields
   pub action : Action
   pub due : D replies action
@@ -81,7 +100,7 @@ pub record Does (D : List Fields → Action → Type 0) (s : Store) (h : Handle)
   pub records : Recorded (records_of s) s.stamp h e m action (records_of t)
   pub rules : t.rules ≡ s.rules
   pub stamp : t.stamp ≡ s.stamp
-  pub kind : writes ≡ is_write action
+  pub tells : Tells action did t
   pub fits : Fits (records_of s) e m action
   pub leaves : new ≡ replied replies acted
 

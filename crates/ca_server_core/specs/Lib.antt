@@ -12,3 +12,9 @@ pub mod Searching
 pub mod Ending
 pub mod Serving
 pub mod Finishing
+pub mod Subscribing
+pub mod Posting
+pub mod Covering
+pub mod Reaching
+pub mod Following
+pub mod Pumping

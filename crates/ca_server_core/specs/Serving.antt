@@ -14,8 +14,9 @@ use Rattle.ca_server_core.specs.declared.step.EndStep.TheVariants.{Breaks}
 use Rattle.ca_server_core.specs.declared.stepping.Step.{Step}
 use Rattle.ca_server_core.specs.declared.stepping.Step.TheVariants.{Closed, Handled, NeedBytes, OutputFull}
 use Rattle.ca_server_core.specs.Ending.{WithdrawsAll}
-use Rattle.ca_server_core.specs.Sound.{IsQuiet}
 use Rattle.ca_server_core.specs.Stepping.{BreaksBy, EndSteps, why_is}
+use Rattle.ca_server_core.specs.Subscribing.{events_of}
+use Rattle.ca_server_subscriptions.specs.Subscribed.{HasRoom}
 
 -- what a step did, as the statement names it
 abbrev pub stepped : Step → Stepped
@@ -32,7 +33,7 @@ more_applied writes n = if writes then min (n + 1) applied_limit else n
 abbrev pub CircuitSteps : (port : ℕ) → Handle → ServerCircuit → Store → Option EndStep → ServerCircuit → Store → Type 0
 CircuitSteps port h (server.Open e) s (Some (Breaks c)) new t = BreaksBy port s e c × (new ≡ server.Ended (why_is c) e.link.output) × WithdrawsAll h s t
 CircuitSteps port h (server.Open e) s (Some did) new t =
-    (after : ServerEnd) × EndSteps port h e s did after t × IsQuiet after × (length after.channels ≤ arena_slots) × (new ≡ server.Open after)
+    (after : ServerEnd) × EndSteps port h e s did after t × HasRoom (events_of after) × (length after.channels ≤ arena_slots) × (new ≡ server.Open after)
 CircuitSteps port h (server.Open e) s None new t = ⊥
 CircuitSteps port h (server.Ended w left) s did new t = (did ≡ None) × (new ≡ server.Ended w left) × (t ≡ s)
 

@@ -1,5 +1,5 @@
 -- Working: what holds of the records and the circuits of a server.
-use Rattle.std.specs.Prelude.{ℕ, ◌≡◌, ◌≤◌, Bool, List, [], Some, length}
+use Rattle.std.specs.Prelude.{ℕ, ◌≡◌, ◌≤◌, List, Some, length}
 use Rattle.ca_arena.specs.declared.handle.Handle.{Handle}
 use Rattle.ca_ids.specs.Table.{Table, under}
 use Rattle.ca_link.specs.Calls.{IsOpen}
@@ -8,19 +8,15 @@ use Rattle.ca_text.specs.Limits.{arena_slots}
 use Rattle.ca_text.specs.Place.{At}
 use Rattle.ca_model.specs.Server.{Open, ServerCircuit, ServerEnd}
 use Rattle.ca_server_core.specs.Clearing.{ArePuts}
-use Rattle.ca_server_core.specs.Handling.{AreServed, idle_queues}
+use Rattle.ca_server_core.specs.Handling.{AreServed}
+use Rattle.ca_server_core.specs.Subscribing.{events_of}
+use Rattle.ca_server_subscriptions.specs.Subscribed.{HasRoom}
 
--- The end has no subscription.
-pub record IsQuiet (e : ServerEnd) : Type 0 where
-  pub none : e.subscriptions ≡ []
-  pub on : Bool
-  pub idle : e.queues ≡ idle_queues on
-
--- An open end of this circuit: no bad header was met, it has no subscription yet, its channels are served and not
--- too many, and its puts that wait are on them.
+-- An open end of this circuit: no bad header was met, a queue has room unless there are as many subscriptions as there may be, its
+-- channels are served and not too many, and its puts that wait are on them.
 pub record EndIsSound (rs : List Record) (h : Handle) (e : ServerEnd) : Type 0 where
   pub live : IsOpen e.link
-  pub quiet : IsQuiet e
+  pub room : HasRoom (events_of e)
   pub served : AreServed rs e.channels
   pub puts : ArePuts h rs e.channels
   pub few : length e.channels ≤ arena_slots

@@ -59,6 +59,6 @@ abbrev pub EndSteps : (port : ℕ) → Handle → ServerEnd → Store → EndSte
 EndSteps port h e s OutputFull new t = (output_limit ≤ length e.link.output) × (new ≡ e) × (t ≡ s)
 EndSteps port h e s NeedBytes new t =
     (length e.link.output < output_limit) × NoneBegins e.link.input.bytes × NotBad e.link.input.bytes × (new ≡ e) × (t ≡ s)
-EndSteps port h e s (Handled writes) new t =
-    (x : Takes e) × Does (Due (known port s (after_first x)) x.m) s h (after_first x) x.m writes t new
+EndSteps port h e s (Handled did) new t =
+    (x : Takes e) × Does (Due (known port s (after_first x)) x.m) s h (after_first x) x.m did t new
 EndSteps port h e s (Breaks c) new t = BreaksBy port s e c × (new.link.output ≡ e.link.output) × AllStay e.channels new.channels × (t ≡ s)

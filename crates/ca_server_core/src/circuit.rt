@@ -1,11 +1,15 @@
-ghost use Rattle.std.specs.Prelude.{◌≡◌, ◌≤◌, Some, length};
+ghost use Rattle.std.specs.Prelude.{◌≡◌, ◌≤◌, IfOk, Some, length};
 ghost use Rattle.ca_model.specs.Server.{new_end};
 ghost use Rattle.ca_model.specs.Server as server;
 ghost use Rattle.ca_model.specs.ServerSteps.{output_of};
-ghost use Rattle.ca_records.specs.Store.{records_of};
+ghost use Rattle.ca_records.specs.Store.{IsThere, records_of};
 ghost use Rattle.ca_server_core.specs.Circuits.{CircuitIsSound, GivesAt, IsLive, SendsAt};
+ghost use Rattle.ca_server_core.specs.Covering.{watches};
 ghost use Rattle.ca_server_core.specs.Ending.{EndsAt, IsLeft};
 ghost use Rattle.ca_server_core.specs.Finishing.{RepliesAt};
+ghost use Rattle.ca_server_core.specs.Following.{is_open};
+ghost use Rattle.ca_server_core.specs.Posting.{PostsAt};
+ghost use Rattle.ca_server_core.specs.Pumping.{PumpsAt};
 ghost use Rattle.ca_server_core.specs.Serving.{CircuitSteps};
 ghost use Rattle.ca_server_core.specs.Stepping.{why_is};
 
@@ -16,7 +20,7 @@ use ca_arena::Handle;
 use ca_records::{Put, ServedRecords};
 use ca_text::Refusal;
 use ca_wire::Pipe;
-use std::alloc::Global;
+use std::alloc::{AllocError, Global};
 use std::marker::Model;
 
 /// A circuit of a server.
@@ -43,13 +47,14 @@ impl Model for Circuit {
 }
 
 impl Circuit {
-    // One that was accepted at this moment. It does not allocate yet.
-    pub(crate) fn new(alloc: Global, now: u64) -> Circuit
-        ensures { result ≡ server.Open (new_end now) }
+    // One that was accepted at this moment. It makes room for the queues of its end.
+    pub(crate) fn new(alloc: Global, now: u64) -> Result<Circuit, AllocError>
+        ensures { IfOk result (λ c. c ≡ server.Open (new_end now)) }
     {
-        Circuit {
-            state: State::Open(End::new(alloc, now)),
-        }
+        let end = End::new(alloc, now)?;
+        Ok(Circuit {
+            state: State::Open(end),
+        })
     }
 
     // Takes bytes that came at this moment. Refused as CircuitClosed if its end is not open, then as OutOfMemory.
@@ -88,7 +93,7 @@ impl Circuit {
                 let did = end.step(port, circuit, records);
                 end.know();
                 match did {
-                    EndStep::Handled(writes) => Some(EndStep::Handled(writes)),
+                    EndStep::Handled(effect) => Some(EndStep::Handled(effect)),
                     EndStep::NeedBytes => Some(EndStep::NeedBytes),
                     EndStep::OutputFull => Some(EndStep::OutputFull),
                     EndStep::Breaks(cause) => {
@@ -120,6 +125,48 @@ impl Circuit {
                     }
                 }
             }
+            State::Ended(_, _) => {}
+        }
+    }
+
+    // A post to the record at this place: the subscriptions of its end that it concerns get an update. The end has ended if there is no
+    // memory for one.
+    pub(crate) fn post(
+        &mut self,
+        circuit: Handle,
+        place: usize,
+        mask: u16,
+        records: &mut ServedRecords,
+    )
+        requires there { IsThere records.old place }
+        requires sound { CircuitIsSound (records_of records.old) circuit self.old }
+        ensures { PostsAt circuit place mask self.old records.old self.new records.new }
+    {
+        match &mut self.state {
+            State::Open(end) => match end.post(records.at(place).state(), mask) {
+                Ok(()) => end.know(),
+                Err(_) => {
+                    let left = end.leave(circuit, records);
+                    self.state = State::Ended(Cause::OutOfMemory, left);
+                }
+            },
+            State::Ended(_, _) => {}
+        }
+    }
+
+    // Updates leave the queues of its end until none may. The end has ended if there is no memory for the next.
+    pub(crate) fn pump(&mut self, circuit: Handle, records: &mut ServedRecords)
+        requires { CircuitIsSound (records_of records.old) circuit self.old }
+        ensures { PumpsAt circuit self.old records.old self.new records.new }
+    {
+        match &mut self.state {
+            State::Open(end) => match end.pump() {
+                Ok(()) => end.know(),
+                Err(_) => {
+                    let left = end.leave(circuit, records);
+                    self.state = State::Ended(Cause::OutOfMemory, left);
+                }
+            },
             State::Ended(_, _) => {}
         }
     }
@@ -157,6 +204,26 @@ impl Circuit {
         match &mut self.state {
             State::Open(end) => end.link.sent(n),
             State::Ended(_, _) => {}
+        }
+    }
+
+    // Whether its end is open.
+    pub(crate) fn is_open(&self) -> bool
+        ensures { result ≡ is_open (Some self.now) }
+    {
+        match &self.state {
+            State::Open(_) => true,
+            State::Ended(_, _) => false,
+        }
+    }
+
+    // Whether its end is open, and has a subscription on the record of this name.
+    pub(crate) fn watches(&self, name: &[u8]) -> bool
+        ensures { result ≡ watches name.now self.now }
+    {
+        match &self.state {
+            State::Open(end) => end.subscriptions.watches(name),
+            State::Ended(_, _) => false,
         }
     }
 }

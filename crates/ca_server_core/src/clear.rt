@@ -38,6 +38,7 @@ impl End {
         send(&mut self.link, &cleared_reply(self.alloc, message))?;
         let sid = message.channel_ids().sid;
         self.withdraw(circuit, records, sid);
+        self.subscriptions.clear(sid);
         self.channels.close(sid);
         Ok(())
     }

@@ -6,6 +6,7 @@ ghost use Rattle.ca_wire.specs.Messages.{text_in};
 
 use crate::channels::Channels;
 use ca_link::Link;
+use ca_server_subscriptions::Subscriptions;
 use ca_wire::Message;
 use std::alloc::{AllocError, Global};
 use std::marker::Model;
@@ -23,17 +24,13 @@ pub(crate) struct End {
     // Whether a channel was created, so that the names count for good.
     pub(crate) settled: bool,
     pub(crate) channels: Channels,
-    // Whether the peer wants updates.
-    pub(crate) events_on: bool,
+    pub(crate) subscriptions: Subscriptions,
 }
 
 impl Model for End {
-    ghost use Rattle.std.specs.Prelude.{[]};
     ghost use Rattle.ca_model.specs.Server.{ServerEnd};
 
     ghost Value = { ServerEnd };
-
-    ghost use Rattle.ca_server_core.specs.Handling.{idle_queues};
 
     ghost view = { λ e.
         record {
@@ -42,17 +39,18 @@ impl Model for End {
           peer = record { user = e.user.items; host = e.host.items };
           settled = e.settled;
           channels = e.channels;
-          subscriptions = [];
-          queues = idle_queues e.events_on;
+          subscriptions = e.subscriptions.subscriptions;
+          queues = e.subscriptions.queues;
         } };
 }
 
 impl End {
-    /// The end of a circuit that was accepted at this moment. It does not allocate yet.
-    pub(crate) fn new(alloc: Global, now: u64) -> End
-        ensures { result ≡ new_end now }
+    /// The end of a circuit that was accepted at this moment. It makes room for its queues.
+    pub(crate) fn new(alloc: Global, now: u64) -> Result<End, AllocError>
+        ensures { IfOk result (λ e. e ≡ new_end now) }
     {
-        End {
+        let subscriptions = Subscriptions::new(alloc)?;
+        Ok(End {
             alloc,
             link: Link::new(alloc, now),
             greeted: false,
@@ -60,8 +58,8 @@ impl End {
             host: Vec::new(alloc),
             settled: false,
             channels: Channels::new(alloc),
-            events_on: true,
-        }
+            subscriptions,
+        })
     }
 }
 

@@ -3,7 +3,8 @@ ghost use Rattle.ca_text.specs.Limits.{arena_slots};
 ghost use Rattle.ca_records.specs.Store.{records_of};
 ghost use Rattle.ca_server_core.specs.Clearing.{ArePuts};
 ghost use Rattle.ca_server_core.specs.Ending.{Walks, WithdrawsAll};
-ghost use Rattle.ca_server_core.specs.Sound.{IsQuiet};
+ghost use Rattle.ca_server_core.specs.Subscribing.{events_of};
+ghost use Rattle.ca_server_subscriptions.specs.Subscribed.{HasRoom};
 
 use crate::end::End;
 use ca_arena::Handle;
@@ -24,11 +25,12 @@ impl End {
         ended.into_left()
     }
 
-    /// It has no subscription yet, and not too many channels.
+    /// A queue has room unless there are as many subscriptions as there may be, and there are not too many channels.
     pub(crate) fn know(&self)
-        ensures quiet { IsQuiet self.now }
+        ensures room { HasRoom (events_of self.now) }
         ensures few { length self.now.channels ≤ arena_slots }
     {
+        self.subscriptions.know();
         self.channels.know();
     }
 

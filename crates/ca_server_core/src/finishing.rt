@@ -3,24 +3,27 @@ ghost use Rattle.ca_arena.specs.declared.handle.Handle.{Handle};
 ghost use Rattle.ca_link.specs.Calls.{IsOpen};
 ghost use Rattle.ca_model.specs.ServerCalls.{Finishes, finish_reply};
 ghost use Rattle.ca_records.specs.Store.{records_of};
-ghost use Rattle.ca_server_core.specs.Finishing.{RepliesIn};
+ghost use Rattle.ca_server_core.specs.Finishing.{RepliesIn, effect_after};
 ghost use Rattle.ca_server_core.specs.Handling.{replied};
 ghost use Rattle.ca_server_core.specs.Sound.{IsSound};
 ghost use Rattle.ca_wire.specs.Fields.{Fields};
 
 use crate::circuit::Circuit;
 use crate::end::{End, send};
+use crate::following::follow;
 use crate::server::ServerCore;
+use crate::step::Effect;
 use crate::stepping::more_applied;
 use ca_ids::HeldTable;
-use ca_records::{Put, ServedRecords};
+use ca_records::{Finished, Put, ServedRecords};
 use ca_text::{Command, Refusal, Status};
 use ca_wire::Message;
 use std::alloc::{AllocError, Global};
 
 impl ServerCore {
     /// Finishes the busy put of the record of this name. Its reply is sent, unless its channel or its circuit is gone. The next put that
-    /// waits is applied, and makes the record busy. If there is no memory for the reply, its circuit's end has ended.
+    /// waits is applied, makes the record busy, and reaches all subscriptions on it, on all circuits. A circuit's end without memory for
+    /// the reply, or for an update, has ended.
     ///
     /// Refused as UnknownRecord if no record has the name, and as NotBusy if its record is not busy. A refusal changes nothing.
     pub fn finish(&mut self, name: &[u8]) -> Result<(), Refusal>
@@ -29,8 +32,26 @@ impl ServerCore {
     {
         let finished = self.records.finish(name)?;
         reply_on(&mut self.circuits, &mut self.records, finished.ended);
-        self.applied = more_applied(self.applied, finished.applied.is_some());
+        let effect = effect_of(&finished);
+        self.applied = more_applied(self.applied, effect.is_write());
+        follow(
+            &mut self.circuits,
+            &mut self.records,
+            &mut self.watchers,
+            finished.ended.circuit,
+            effect,
+        );
         Ok(())
+    }
+}
+
+/// What the end of a busy put leaves to do: the next one, if it was applied, is to reach the subscriptions of its record.
+fn effect_of(finished: &Finished) -> Effect
+    ensures { result ≡ effect_after finished.now }
+{
+    match finished.applied {
+        Some(_) => Effect::Wrote(finished.place),
+        None => Effect::Quiet,
     }
 }
 

@@ -1,11 +1,13 @@
-ghost use Rattle.std.specs.Prelude.{◌≡◌, IfOk, OnErr};
+ghost use Rattle.std.specs.Prelude.{◌≡◌, IfOk, OnErr, OnOk};
 ghost use Rattle.ca_link.specs.Calls.{IsOpen};
 ghost use Rattle.ca_records.specs.Store.{records_of};
 ghost use Rattle.ca_model.specs.Due.{Due};
 ghost use Rattle.ca_server_core.specs.Clearing.{ArePuts};
-ghost use Rattle.ca_server_core.specs.Handling.{AllStay, AreServed, Does, MayLack, known};
+ghost use Rattle.ca_server_core.specs.declared.step.Effect.TheVariants.{Quiet};
+ghost use Rattle.ca_server_core.specs.Handling.{AllStay, AreServed, Does, IsQuiet, MayLack, known};
 
 use crate::end::End;
+use crate::step::Effect;
 use ca_arena::Handle;
 use ca_records::ServedRecords;
 use ca_text::Command;
@@ -13,7 +15,7 @@ use ca_wire::Message;
 use std::alloc::AllocError;
 
 impl End {
-    /// Handles one message of this circuit, at a server of this TCP port, and says whether a write was applied.
+    /// Handles one message of this circuit, at a server of this TCP port, and says what it leaves the server to do.
     ///
     /// If there is no memory for it the records and what waits to be sent are as they were, and the end is to be closed.
     pub(crate) fn handle(
@@ -22,73 +24,71 @@ impl End {
         circuit: Handle,
         records: &mut ServedRecords,
         message: &Message,
-    ) -> Result<bool, AllocError>
+    ) -> Result<Effect, AllocError>
         requires open { IsOpen self.old.link }
         requires served { AreServed (records_of records.old) self.old.channels }
         requires puts { ArePuts circuit (records_of records.old) self.old.channels }
-        ensures ok { IfOk result (λ writes.
+        ensures ok { IfOk result (λ effect.
             Does (Due (known port records.old self.old) message.now) records.old circuit self.old
-            message.now writes records.new self.new) }
+            message.now effect records.new self.new) }
         ensures err { OnErr result (records.new ≡ records.old) }
         ensures output { OnErr result (self.new.link.output ≡ self.old.link.output) }
         ensures channels { OnErr result (AllStay self.old.channels self.new.channels) }
         ensures memory { OnErr result (MayLack (known port records.old self.old) message.now) }
     {
         let Some(command) = Command::of(message.command()) else {
-            return Ok(false);
+            return Ok(Effect::Quiet);
         };
         match command {
             Command::Write => self.write(records, message),
             Command::WriteNotify => self.write_notify(circuit, records, message),
-            Command::Version => {
-                self.version()?;
-                Ok(false)
+            Command::EventAdd => self.subscribe(records, message),
+            _ => {
+                self.handle_quiet(port, circuit, records, command, message)?;
+                Ok(Effect::Quiet)
             }
-            Command::ClientName => {
-                self.client_name(message)?;
-                Ok(false)
-            }
-            Command::HostName => {
-                self.host_name(message)?;
-                Ok(false)
-            }
-            Command::Echo => {
-                self.echo()?;
-                Ok(false)
-            }
-            Command::Search => {
-                self.search(port, records, message)?;
-                Ok(false)
-            }
-            Command::CreateChannel => {
-                self.create(records, message)?;
-                Ok(false)
-            }
-            Command::ClearChannel => {
-                self.clear(circuit, records, message)?;
-                Ok(false)
-            }
-            Command::ReadNotify => {
-                self.read(records, message)?;
-                Ok(false)
-            }
-            Command::EventAdd => {
-                self.subscribe(records, message)?;
-                Ok(false)
-            }
-            Command::EventCancel => {
-                self.cancel(message)?;
-                Ok(false)
-            }
+        }
+    }
+
+    /// Handles a message of a command that leaves the server nothing to do.
+    fn handle_quiet(
+        &mut self,
+        port: u16,
+        circuit: Handle,
+        records: &mut ServedRecords,
+        command: Command,
+        message: &Message,
+    ) -> Result<(), AllocError>
+        requires open { IsOpen self.old.link }
+        requires served { AreServed (records_of records.old) self.old.channels }
+        requires puts { ArePuts circuit (records_of records.old) self.old.channels }
+        requires quiet { IsQuiet command message.now }
+        ensures ok { OnOk result (Does (Due (known port records.old self.old) message.now)
+            records.old circuit self.old message.now Quiet records.new self.new) }
+        ensures err { OnErr result (records.new ≡ records.old) }
+        ensures output { OnErr result (self.new.link.output ≡ self.old.link.output) }
+        ensures channels { OnErr result (AllStay self.old.channels self.new.channels) }
+        ensures memory { OnErr result (MayLack (known port records.old self.old) message.now) }
+    {
+        match command {
+            Command::Version => self.version(),
+            Command::ClientName => self.client_name(message),
+            Command::HostName => self.host_name(message),
+            Command::Echo => self.echo(),
+            Command::Search => self.search(port, records, message),
+            Command::CreateChannel => self.create(records, message),
+            Command::ClearChannel => self.clear(circuit, records, message),
+            Command::ReadNotify => self.read(records, message),
+            Command::EventCancel => self.cancel(message),
             Command::EventsOff => {
                 self.switch_events(false);
-                Ok(false)
+                Ok(())
             }
             Command::EventsOn => {
                 self.switch_events(true);
-                Ok(false)
+                Ok(())
             }
-            _ => Ok(false),
+            _ => Ok(()),
         }
     }
 }

@@ -1,11 +1,11 @@
 //! A server of Channel Access: its records, and its ends of circuits. It does no input and no output: bytes that came are
 //! given to it, and those that wait to be sent are asked of it.
 //!
-//! It is begun: `ServerCore` has `new`, `accept`, `give`, `out_bytes`, `sent`, `step`, `cut`, `finish`, `stamp`, `applied`, `waiting`,
-//! `datagram` and `beacon`. It has no call yet for posts, removals and pumps. Subscriptions are missing: an EVENT_ADD without a fault ends its
-//! circuit as if there was no memory for it. No program uses this crate.
+//! It is begun: `ServerCore` has `new`, `accept`, `give`, `out_bytes`, `sent`, `step`, `pump`, `cut`, `finish`, `post`, `add_record`,
+//! `stamp`, `applied`, `waiting`, `datagram` and `beacon`. It has no call yet for removals. No program uses this crate.
 #![tactic(auto)]
 
+mod adding;
 mod beacons;
 mod bytes;
 mod cause;
@@ -21,8 +21,11 @@ mod end;
 mod ending;
 mod events;
 mod finishing;
+mod following;
 mod handle;
 mod names;
+mod posting;
+mod pumping;
 mod put;
 mod read;
 mod search;
@@ -30,6 +33,7 @@ mod seek;
 mod server;
 mod step;
 mod stepping;
+mod updates;
 mod version;
 mod write;
 mod write_notify;

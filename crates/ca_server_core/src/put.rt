@@ -5,7 +5,7 @@ ghost use Rattle.ca_server_core.specs.Putting.{IsGiven, WritesTo};
 
 use ca_dbr::{BaseType, Value, read_value};
 use ca_records::{Begun, Put, Record, ServedRecords};
-use ca_text::Status;
+use ca_text::{Refusal, Status};
 use ca_wire::Message;
 use std::alloc::{AllocError, Global};
 
@@ -69,7 +69,10 @@ fn read_elements(
     }
     match read_value(alloc, base.number(), count, message.payload()) {
         Ok((value, _)) => Ok(Given::Elements(value)),
-        Err(_) => Err(AllocError),
+        Err(refusal) => match refusal {
+            Refusal::OutOfMemory => Err(AllocError),
+            _ => unreachable!(),
+        },
     }
 }
 

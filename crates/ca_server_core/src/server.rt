@@ -3,13 +3,14 @@ ghost use Rattle.ca_model.specs.Server.{new_server};
 ghost use Rattle.ca_ids.specs.Table.{under};
 ghost use Rattle.ca_model.specs.ServerCalls.{stamped, waiting};
 ghost use Rattle.ca_model.specs.ServerSteps.{Accepts, Gives, Sends, output_of};
-ghost use Rattle.ca_server_core.specs.Circuits.{AreLive, GivesIn, SendsIn};
+ghost use Rattle.ca_server_core.specs.Circuits.{AreLive, GivesIn, OpensIn, SendsIn};
 
 use crate::circuit::Circuit;
 use ca_arena::Handle;
 use ca_beacon::BeaconClock;
 use ca_ids::HeldTable;
 use ca_records::{Records, Rule, ServedRecords};
+use ca_server_watchers::Watchers;
 use ca_text::Refusal;
 use std::alloc::{AllocError, Global};
 use std::marker::Model;
@@ -24,6 +25,8 @@ pub struct ServerCore {
     // The moment that was given last.
     pub(crate) moment: u64,
     pub(crate) circuits: HeldTable<Circuit>,
+    // The circuits with subscriptions on each record.
+    pub(crate) watchers: Watchers,
     pub(crate) beacons: BeaconClock,
     // How many writes were applied.
     pub(crate) applied: u64,
@@ -35,7 +38,7 @@ impl Model for ServerCore {
     ghost Value = { Server };
 
     ghost use Rattle.ca_records.specs.Store.{records_of};
-    ghost use Rattle.ca_server_core.specs.Sound.{IsSound};
+    ghost use Rattle.ca_server_core.specs.Covering.{IsServer};
 
     ghost view = { λ s.
         record {
@@ -49,7 +52,7 @@ impl Model for ServerCore {
           applied = s.applied;
         } };
 
-    ghost invariant = { λ s. IsSound (records_of s.records) s.circuits };
+    ghost invariant = { λ s. IsServer (records_of s.records) s.watchers s.circuits };
 }
 
 impl ServerCore {
@@ -73,6 +76,7 @@ impl ServerCore {
             records,
             moment: now,
             circuits: HeldTable::new(alloc),
+            watchers: Watchers::new(alloc),
             beacons: BeaconClock::new(now),
             applied: 0,
         })
@@ -82,10 +86,13 @@ impl ServerCore {
     pub fn accept(&mut self) -> Result<Handle, Refusal>
         ensures { Accepts self.old result self.new }
     {
-        match self.circuits.open(Circuit::new(self.alloc, self.moment)) {
-            Ok(handle) => Ok(handle),
-            Err((_, refusal)) => Err(refusal),
+        if self.circuits.is_full() {
+            return Err(Refusal::ArenaFull);
         }
+        let Ok(circuit) = Circuit::new(self.alloc, self.moment) else {
+            return Err(Refusal::OutOfMemory);
+        };
+        open_on(&mut self.circuits, circuit)
     }
 
     /// Takes bytes that came on a circuit. Refused as CircuitClosed if its end is not open, then as OutOfMemory. A refusal changes nothing.
@@ -132,6 +139,16 @@ impl ServerCore {
         ensures { result ≡ waiting self.now }
     {
         self.records.waiting() as u64
+    }
+}
+
+// Holds a circuit that is new, under a handle.
+fn open_on(circuits: &mut HeldTable<Circuit>, circuit: Circuit) -> Result<Handle, Refusal>
+    ensures { OpensIn circuits.old circuit result circuits.new }
+{
+    match circuits.open(circuit) {
+        Ok(handle) => Ok(handle),
+        Err((_, refusal)) => Err(refusal),
     }
 }
 

@@ -2,7 +2,7 @@ ghost use Rattle.std.specs.Prelude.{◌≡◌};
 ghost use Rattle.ca_link.specs.Calls.{IsOpen};
 ghost use Rattle.ca_records.specs.Store.{records_of};
 ghost use Rattle.ca_server_core.specs.Clearing.{ArePuts};
-ghost use Rattle.ca_server_core.specs.Handling.{AreServed};
+ghost use Rattle.ca_server_core.specs.Handling.{AreServed, is_wrote};
 ghost use Rattle.ca_server_core.specs.Stepping.{EndSteps, cause_for};
 
 use crate::bytes::know_bytes;
@@ -12,17 +12,40 @@ use ca_arena::Handle;
 use ca_records::ServedRecords;
 use ca_text::Refusal;
 
+/// What a message that was handled leaves its server to do.
+#[derive(Clone, Copy, Debug, PartialEq, Eq)]
+pub(crate) enum Effect {
+    /// Nothing.
+    Quiet,
+    /// The write to the record at this place was applied, and is to reach its subscriptions.
+    Wrote(usize),
+    /// A subscription to the record at this place began.
+    Began(usize),
+}
+
 /// What one step of an open end did.
 #[derive(Clone, Copy, Debug, PartialEq, Eq)]
 pub(crate) enum EndStep {
-    /// It handled a message; true if that applied a write.
-    Handled(bool),
+    /// It handled a message.
+    Handled(Effect),
     /// No complete message is there.
     NeedBytes,
     /// So much waits to be sent that no message is handled.
     OutputFull,
     /// The end is to be closed.
     Breaks(Cause),
+}
+
+impl Effect {
+    /// Whether a write was applied.
+    pub(crate) fn is_write(self) -> bool
+        ensures { result ≡ is_wrote self }
+    {
+        match self {
+            Effect::Wrote(_) => true,
+            _ => false,
+        }
+    }
 }
 
 impl End {
@@ -45,7 +68,7 @@ impl End {
         match self.link.next_message() {
             Ok(None) => EndStep::NeedBytes,
             Ok(Some(message)) => match self.handle(port, circuit, records, &message) {
-                Ok(writes) => EndStep::Handled(writes),
+                Ok(effect) => EndStep::Handled(effect),
                 Err(_) => EndStep::Breaks(Cause::OutOfMemory),
             },
             Err(refusal) => EndStep::Breaks(cause_of(refusal)),

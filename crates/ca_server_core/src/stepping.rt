@@ -1,11 +1,14 @@
-ghost use Rattle.std.specs.Prelude.{◌≡◌};
+ghost use Rattle.std.specs.Prelude.{◌≡◌, take};
+ghost use Rattle.ca_ids.specs.Table.{under};
 ghost use Rattle.ca_model.specs.ServerSteps.{Steps};
 ghost use Rattle.ca_records.specs.Store.{records_of};
+ghost use Rattle.ca_server_core.specs.Following.{Settles, is_open};
 ghost use Rattle.ca_server_core.specs.Serving.{Reports, StepsIn, more_applied, stepped};
 ghost use Rattle.ca_server_core.specs.Sound.{IsSound};
 
 use crate::cause::Cause;
 use crate::circuit::Circuit;
+use crate::following::follow;
 use crate::server::ServerCore;
 use crate::step::EndStep;
 use ca_arena::Handle;
@@ -39,10 +42,18 @@ impl ServerCore {
     pub fn step(&mut self, circuit: Handle) -> Step
         ensures { Steps self.old circuit (stepped result) self.new }
     {
+        let waited = self.out_bytes(circuit).len();
         match step_on(self.port, &mut self.circuits, &mut self.records, circuit) {
-            Some(EndStep::Handled(writes)) => {
-                self.applied = more_applied(self.applied, writes);
-                Step::Handled
+            Some(EndStep::Handled(effect)) => {
+                self.applied = more_applied(self.applied, effect.is_write());
+                follow(
+                    &mut self.circuits,
+                    &mut self.records,
+                    &mut self.watchers,
+                    circuit,
+                    effect,
+                );
+                settle(self.alloc, &mut self.circuits, circuit, waited)
             }
             Some(EndStep::NeedBytes) => Step::NeedBytes,
             Some(EndStep::OutputFull) => Step::OutputFull,
@@ -66,6 +77,44 @@ fn step_on(
         return None;
     };
     found.step(port, circuit, records)
+}
+
+/// What a step of a circuit that handled a message answers. If its end has ended since, out of memory, nothing is left of its replies:
+/// these come after the first bytes that waited, and these alone are left.
+fn settle(
+    alloc: Global,
+    circuits: &mut HeldTable<Circuit>,
+    circuit: Handle,
+    waited: usize,
+) -> Step
+    ensures { Settles circuits.old circuit waited result circuits.new }
+{
+    if is_open(circuits, circuit) {
+        return Step::Handled;
+    }
+    match report(alloc, circuits, circuit) {
+        Step::Closed(cause, left) => Step::Closed(cause, first_of(left, waited)),
+        other => other,
+    }
+}
+
+/// The first n of these bytes.
+fn first_of(bytes: Pipe, n: usize) -> Pipe
+    ensures { result ≡ take n bytes }
+{
+    let mut first = bytes;
+    first.truncate(n);
+    first
+}
+
+/// Whether the end of a circuit is open.
+fn is_open(circuits: &HeldTable<Circuit>, circuit: Handle) -> bool
+    ensures { result ≡ is_open (under circuits.now circuit) }
+{
+    match circuits.by_handle(circuit) {
+        Some(found) => found.is_open(),
+        None => false,
+    }
 }
 
 /// Takes a circuit out whose end has ended, and reports that.

@@ -11,24 +11,25 @@ ghost use Rattle.ca_server_core.specs.Seeking.{IsServed};
 use crate::end::{End, send};
 use crate::put::begin;
 use crate::seek::{Seat, Sought};
+use crate::step::Effect;
 use ca_records::{Begun, ServedRecords};
 use ca_text::Status;
 use ca_wire::{Cid, Message, error_reply};
 use std::alloc::AllocError;
 
 impl End {
-    /// WRITE: applied at once, with no reply; a refused one is answered by ERROR. Says whether it was applied.
+    /// WRITE: applied at once, with no reply; a refused one is answered by ERROR. Says where it was applied.
     pub(crate) fn write(
         &mut self,
         records: &mut ServedRecords,
         message: &Message,
-    ) -> Result<bool, AllocError>
+    ) -> Result<Effect, AllocError>
         requires open { IsOpen self.old.link }
         requires served { AreServed (records_of records.old) self.old.channels }
         requires command { message.now.command ≡ command_number Command.Write }
-        ensures ok { IfOk result (λ writes. (port : ℕ) (h : Handle)
+        ensures ok { IfOk result (λ effect. (port : ℕ) (h : Handle)
             → Does (Writes (known port records.old self.old) message.now) records.old h self.old
-            message.now writes records.new self.new) }
+            message.now effect records.new self.new) }
         ensures err { OnErr result (records.new ≡ records.old) }
         ensures output { OnErr result (self.new.link.output ≡ self.old.link.output) }
         ensures channels { OnErr result (self.new.channels ≡ self.old.channels) }
@@ -36,7 +37,7 @@ impl End {
         match self.seek(records, message.wanted().sid) {
             Sought::Stray(cid) => {
                 self.refuse(cid, Status::BADCHID, message)?;
-                Ok(false)
+                Ok(Effect::Quiet)
             }
             Sought::Served(seat) => self.write_on(seat, records, message),
         }
@@ -48,13 +49,13 @@ impl End {
         seat: Seat,
         records: &mut ServedRecords,
         message: &Message,
-    ) -> Result<bool, AllocError>
+    ) -> Result<Effect, AllocError>
         requires open { IsOpen self.old.link }
         requires served { IsServed records.old self.old message.now.p1 seat }
         requires command { message.now.command ≡ command_number Command.Write }
-        ensures ok { IfOk result (λ writes. (port : ℕ) (h : Handle)
+        ensures ok { IfOk result (λ effect. (port : ℕ) (h : Handle)
             → Does (Writes (known port records.old self.old) message.now) records.old h self.old
-            message.now writes records.new self.new) }
+            message.now effect records.new self.new) }
         ensures err { OnErr result (records.new ≡ records.old) }
         ensures output { OnErr result (self.new.link.output ≡ self.old.link.output) }
         ensures channels { OnErr result (self.new.channels ≡ self.old.channels) }
@@ -63,11 +64,11 @@ impl End {
         let rights = records.rights(&self.user, &self.host, name);
         let begun = begin(self.alloc, records, seat.place, rights, None, message)?;
         match begun {
-            Begun::Applied(_) => Ok(true),
+            Begun::Applied(_) => Ok(Effect::Wrote(seat.place)),
             Begun::Waiting => unreachable!(),
             Begun::Refused(status) => {
                 self.refuse(seat.cid, status, message)?;
-                Ok(false)
+                Ok(Effect::Quiet)
             }
         }
     }

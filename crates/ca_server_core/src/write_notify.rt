@@ -12,6 +12,7 @@ ghost use Rattle.ca_server_core.specs.Seeking.{IsServed};
 use crate::end::{End, send};
 use crate::put::begin;
 use crate::seek::{Seat, Sought};
+use crate::step::Effect;
 use ca_arena::Handle;
 use ca_records::{Begun, Put, ServedRecords};
 use ca_text::Status;
@@ -20,7 +21,7 @@ use std::alloc::AllocError;
 
 impl End {
     /// WRITE_NOTIFY on this circuit: refused in its reply, or applied at once, or it waits until the record is free. On a slow
-    /// record its reply comes as it is finished. Says whether it was applied.
+    /// record its reply comes as it is finished. Says where it was applied.
     ///
     /// The reply of a quick one goes first, so that none is applied for whose reply there is no memory. It is taken back if the put is
     /// refused, or if there is no memory for the put itself.
@@ -29,13 +30,13 @@ impl End {
         circuit: Handle,
         records: &mut ServedRecords,
         message: &Message,
-    ) -> Result<bool, AllocError>
+    ) -> Result<Effect, AllocError>
         requires open { IsOpen self.old.link }
         requires served { AreServed (records_of records.old) self.old.channels }
         requires command { message.now.command ≡ command_number Command.WriteNotify }
-        ensures ok { IfOk result (λ writes. (port : ℕ)
+        ensures ok { IfOk result (λ effect. (port : ℕ)
             → Does (Puts (known port records.old self.old) message.now) records.old circuit self.old
-            message.now writes records.new self.new) }
+            message.now effect records.new self.new) }
         ensures err { OnErr result (records.new ≡ records.old) }
         ensures output { OnErr result (self.new.link.output ≡ self.old.link.output) }
         ensures channels { OnErr result (self.new.channels ≡ self.old.channels) }
@@ -44,7 +45,7 @@ impl End {
             Sought::Stray(_) => {
                 let reply = status_reply(self.alloc, message, Status::BADCHID);
                 send(&mut self.link, &reply)?;
-                Ok(false)
+                Ok(Effect::Quiet)
             }
             Sought::Served(seat) => self.put_on(seat, circuit, records, message),
         }
@@ -57,13 +58,13 @@ impl End {
         circuit: Handle,
         records: &mut ServedRecords,
         message: &Message,
-    ) -> Result<bool, AllocError>
+    ) -> Result<Effect, AllocError>
         requires open { IsOpen self.old.link }
         requires served { IsServed records.old self.old message.now.p1 seat }
         requires command { message.now.command ≡ command_number Command.WriteNotify }
-        ensures ok { IfOk result (λ writes. (port : ℕ)
+        ensures ok { IfOk result (λ effect. (port : ℕ)
             → Does (Puts (known port records.old self.old) message.now) records.old circuit self.old
-            message.now writes records.new self.new) }
+            message.now effect records.new self.new) }
         ensures err { OnErr result (records.new ≡ records.old) }
         ensures output { OnErr result (self.new.link.output ≡ self.old.link.output) }
         ensures channels { OnErr result (self.new.channels ≡ self.old.channels) }
@@ -81,12 +82,12 @@ impl End {
             return Err(AllocError);
         };
         match begun {
-            Begun::Applied(_) => Ok(true),
-            Begun::Waiting => Ok(false),
+            Begun::Applied(_) => Ok(Effect::Wrote(place)),
+            Begun::Waiting => Ok(Effect::Quiet),
             Begun::Refused(status) => {
                 self.link.truncate(waited);
                 send(&mut self.link, &status_reply(alloc, message, status))?;
-                Ok(false)
+                Ok(Effect::Quiet)
             }
         }
     }

@@ -1,7 +1,7 @@
 -- Subscriptions place by place: those of a SID are taken out, and those that a post concerns get an update.
 use Rattle.std.proofs.Common.{◌≡◌, ℕ, zero, suc, ◌+◌, ◌≤◌, ◌⊎◌, ◌||◌, ◌==◌, inl, inr, Bool, true, false, not, cond, List, [], ◌∷◌, length, filter, map, drop, refl, sym, ap, ◌∙◌, subst, arith}
-use Rattle.std.specs.List.{fold}
-use Rattle.std.proofs.lemmas.Bool.{both_ways, cases_Bool, or_cases}
+use Rattle.std.specs.List.{fold, list_any}
+use Rattle.std.proofs.lemmas.Bool.{both_ways, cases_Bool, or_cases, or_left, or_right}
 use Rattle.ca_text.specs.Place.{At}
 use Rattle.ca_text.proofs.Places.{At-mapped, At-one, At-within, some_is}
 use Rattle.ca_queue.specs.declared.entry.SubKey.{SubKey}
@@ -12,7 +12,7 @@ use Rattle.ca_queue.proofs.Keys.{same_is, same_itself}
 use Rattle.ca_model.specs.Server.{Subscription, key_of}
 use Rattle.ca_model.specs.Speech.{Stored}
 use Rattle.ca_server_subscriptions.proofs.Sieves.{Test, each-both, each-false, filter-all, filter-both}
-use Rattle.ca_server_subscriptions.specs.Subscribed.{AreKnown, AtPlace, Subscribed, is_of_sid, with_update, without_one, without_those}
+use Rattle.ca_server_subscriptions.specs.Subscribed.{AreKnown, AtPlace, PassesAt, Subscribed, is_of_sid, with_update, without_one, without_those}
 
 -- what passes a test was no earlier in the list
 pub filtered-later : {A : Type 0} (f : A → Bool) (xs : List A) (i : ℕ) (x : A) → At (filter f xs) i x → (k : ℕ) × (i ≤ k) × At xs k x × (f x ≡ true)
@@ -181,3 +181,13 @@ posts-all c v old now place all p =
     let queues : now.queues ≡ posting c v old.queues old.subscriptions = sym (ap (λ (ss : List Subscription). posting c v now.queues ss) none) ∙ p.rest in
     let subs = p.same_ones in
     λ i. record { subscriptions = subs i; queues = queues i }
+
+-- one that passes is among them
+any-at : {A : Type 0} (test : A → Bool) (xs : List A) (i : ℕ) (x : A) → At xs i x → test x ≡ true → list_any test xs ≡ true
+any-at test [] i x at hit = absurd cc
+any-at test (y ∷ xs) zero x at hit = or_left (test y) (list_any test xs) (ap test (some_is y x at) ∙ hit)
+any-at test (y ∷ xs) (suc i) x at hit = or_right (test y) (list_any test xs) (any-at test xs i x at hit)
+
+pub passes-some : (c : Subscription → Bool) (v : Stored) (old now : Subscribed) (place : ℕ) → Posts c v old now place → PassesAt c place now → list_any c old.subscriptions ≡ true
+passes-some c v old now place p hit =
+    any-at c old.subscriptions place hit.0 (subst (λ (ss : List Subscription). At ss place hit.0) p.same_ones hit.1) hit.2

@@ -2,3 +2,4 @@ pub mod Sieves
 pub mod Placing
 pub mod Dropping
 pub mod Pumps
+pub mod Seeking

@@ -1,14 +1,14 @@
 -- The subscriptions of an end, each in the queue that it was given.
-use Rattle.std.proofs.Common.{◌≡◌, ℕ, zero, suc, ◌+◌, ◌*◌, ◌<◌, ◌≤◌, ◌⊎◌, ◌||◌, inl, inr, Bool, true, false, not, cond, List, [], ◌∷◌, ◌++◌, length, filter, map, Option, Some, None, Ok, is_some, refl, sym, ap, ◌∙◌, subst, arith}
-use Rattle.std.specs.Prelude.{slice_set}
-use Rattle.std.proofs.lemmas.Bool.{both_ways, cases_Bool, or_left, or_right, or_parts, or_cases}
+use Rattle.std.proofs.Common.{◌≡◌, ℕ, zero, suc, ◌+◌, ◌*◌, ◌<◌, ◌≤◌, ◌⊎◌, ◌||◌, inl, inr, Bool, true, false, not, cond, List, [], ◌∷◌, ◌++◌, length, filter, map, Option, Some, None, Result, Ok, Err, is_some, nat_lt, refl, sym, ap, ◌∙◌, subst, arith}
+use Rattle.std.specs.Prelude.{OnErr, slice_set}
+use Rattle.std.proofs.lemmas.Bool.{both_ways, cases_Bool, ltb-false, ltb-true, or_left, or_right, or_parts, or_cases}
 use Rattle.std.proofs.lemmas.List.{length_push, length-map}
 use Rattle.std.specs.Map.{lookup, remove_entry}
 use Rattle.ca_text.specs.Limits.{queue_subscriptions}
 use Rattle.ca_text.specs.Place.{At}
 use Rattle.ca_text.proofs.Places.{At-map, At-mapped, At-one, At-set, At-set-other, At-snoc, At-within, some_is}
 use Rattle.ca_queue.specs.declared.entry.SubKey.{SubKey}
-use Rattle.ca_queue.specs.Circuit.{AreFull, Begins, HasAt, HasNone, queue_posted, queue_without, without_each}
+use Rattle.ca_queue.specs.Circuit.{AreFull, Begins, HasAt, HasNone, IsFirstWithRoom, queue_posted, queue_without, without_each}
 use Rattle.ca_queue.specs.Keys.{AreApart, is_among, same}
 use Rattle.ca_queue.specs.Queue.{Queue, added, cancelled, posted, switched, with_front_taken}
 use Rattle.ca_queue.specs.Sound.{IsSound}
@@ -18,7 +18,12 @@ use Rattle.ca_queue.proofs.Soundness.{sound_added, sound_cancelled, sound_posted
 use Rattle.ca_model.specs.Server.{Subscription, key_of}
 use Rattle.ca_model.specs.Speech.{Stored}
 use Rattle.ca_server_subscriptions.proofs.Sieves.{each-none, without-none, without-one}
-use Rattle.ca_server_subscriptions.specs.Subscribed.{ArePlaced, AtPlace, Joins, Standings, Subscribed, has_key, keys_in, subscriptions_in, total, with_update, without_one, without_those}
+use Rattle.ca_server_subscriptions.specs.Subscribed.{ArePlaced, AtPlace, HasRoom, Joins, PassesAt, Standings, Subscribed, has_key, keys_in, subscriptions_in, total, with_update, without_one, without_those}
+
+-- what holds anyway holds if the call was refused
+pub in-err : {T E P : Type 0} (r : Result T E) → P → OnErr r P
+in-err (Ok x) p = tt
+in-err (Err e) p = p
 
 abbrev pub Q : Type 0
 Q = Queue Stored
@@ -447,11 +452,48 @@ pub some-room : (es : Standings) (qs : List Q) → ArePlaced es qs → AreFull q
 some-room es qs p full few =
     let sum = full-total qs full in let eight : length qs ≡ 8 = p.eight in let many = p.many in omega (arith, sum, eight, many, few)
 
+-- the first with room, or none has room
+first-room : (qs : List Q) → ((place : ℕ) × (q : Q) × IsFirstWithRoom qs place q) ⊎ AreFull qs
+first-room [] = inr (λ i q at. nothing i q at)
+  where
+    nothing : {A : Type 0} (i : ℕ) (q : Q) → (let none : List Q = [] in At none i q) → A
+    nothing i q at = absurd cc
+first-room (q ∷ qs) = by (nat_lt (length q.subscriptions) queue_subscriptions) refl (first-room qs)
+  where
+    none-before : (i : ℕ) (r : Q) → i < 0 → At (q ∷ qs) i r → queue_subscriptions ≤ length r.subscriptions
+    none-before i r less at = absurd (omega (arith, less))
+
+    full-one : (r : Q) → queue_subscriptions ≤ length q.subscriptions → q ≡ r → queue_subscriptions ≤ length r.subscriptions
+    full-one r full is = subst (λ (z : Q). queue_subscriptions ≤ length z.subscriptions) is full
+
+    full-before : (place : ℕ) (i : ℕ) (r : Q) → queue_subscriptions ≤ length q.subscriptions
+        → ((j : ℕ) (z : Q) → j < place → At qs j z → queue_subscriptions ≤ length z.subscriptions) → i < suc place → At (q ∷ qs) i r → queue_subscriptions ≤ length r.subscriptions
+    full-before place zero r full rest less at = full-one r full (some_is q r at)
+    full-before place (suc i) r full rest less at = rest i r (omega (arith, less)) at
+
+    full-all : (i : ℕ) (r : Q) → queue_subscriptions ≤ length q.subscriptions → AreFull qs → At (q ∷ qs) i r → queue_subscriptions ≤ length r.subscriptions
+    full-all zero r full rest at = full-one r full (some_is q r at)
+    full-all (suc i) r full rest at = rest i r at
+
+    by : (b : Bool) → nat_lt (length q.subscriptions) queue_subscriptions ≡ b → ((place : ℕ) × (r : Q) × IsFirstWithRoom qs place r) ⊎ AreFull qs
+        → ((place : ℕ) × (r : Q) × IsFirstWithRoom (q ∷ qs) place r) ⊎ AreFull (q ∷ qs)
+    by true room rest = inl (0, q, (refl, ltb-true (length q.subscriptions) queue_subscriptions room, none-before))
+    by false full (inl f) =
+        inl (suc f.0, f.1, (f.2.0, f.2.1, (λ i r less at. full-before f.0 i r (ltb-false (length q.subscriptions) queue_subscriptions full) f.2.2 less at)))
+    by false full (inr all) = inr (λ i r at. full-all i r (ltb-false (length q.subscriptions) queue_subscriptions full) all at)
+
 -- ---- the calls
 
 module _ (es : Standings) (qs : List Q) (p : ArePlaced es qs) where
   abbrev pub whole : Subscribed
   whole = record { subscriptions = subscriptions_in es; queues = qs }
+
+  pub room-is : (old : Subscribed) → whole ≡ old → HasRoom old
+  room-is old is = subst (λ (s : Subscribed). HasRoom s) is (λ few. by (first-room qs) few)
+    where
+      by : ((place : ℕ) × (q : Q) × IsFirstWithRoom qs place q) ⊎ AreFull qs → length (subscriptions_in es) < 288 → (place : ℕ) × (q : Q) × IsFirstWithRoom qs place q
+      by (inl f) few = f
+      by (inr full) few = (let n = length-map es (λ (e : Entry). e.1.0) in absurd (some-room es qs p full (omega (arith, n, few))))
 
   -- the queue of one that was found has it
   pub found-at : (key : SubKey) (x : Subscription × ℕ) (place : ℕ) → lookup (same key) es ≡ Some x → place ≡ x.1 → HasAt qs place key
@@ -517,6 +559,10 @@ module _ (es : Standings) (qs : List Q) (p : ArePlaced es qs) where
         subst (λ (s : Subscribed). At s.subscriptions place e.1.0) is (At-map (λ (x : Entry). x.1.0) es place e at),
         did ∙ sym (ap (λ (c : Bool). cond c (f e.1.0 old) old) told),
       )
+
+  pub passes-at : (test : Subscription → Bool) (old : Subscribed) (place : ℕ) (e : Entry) → whole ≡ old → At es place e → test e.1.0 ≡ true → PassesAt test place old
+  passes-at test old place e is at hit =
+      (e.1.0, subst (λ (s : Subscribed). At s.subscriptions place e.1.0) is (At-map (λ (x : Entry). x.1.0) es place e at), hit)
 
   -- the SID of the one at a place, by its key
   pub sid-at : (place : ℕ) (e : Entry) → At es place e → e.0.sid ≡ e.1.0.wanted.sid

@@ -1,7 +1,7 @@
 -- Working: the subscriptions of an end, and the queues that have them.
-use Rattle.std.specs.Prelude.{ℕ, ◌≡◌, ◌≤◌, ◌+◌, ◌==◌, ◌⊎◌, Bool, true, not, List, [], ◌∷◌, ◌++◌, filter, if◌then◌else◌, length, map, replicate, slice_set}
+use Rattle.std.specs.Prelude.{ℕ, ◌≡◌, ◌<◌, ◌≤◌, ◌+◌, ◌*◌, ◌==◌, ◌⊎◌, Bool, true, not, List, [], ◌∷◌, ◌++◌, filter, if◌then◌else◌, length, map, replicate, slice_set}
 use Rattle.std.specs.List.{fold}
-use Rattle.ca_text.specs.Limits.{circuit_queues, element_limit}
+use Rattle.ca_text.specs.Limits.{circuit_queues, element_limit, queue_subscriptions}
 use Rattle.ca_text.specs.Place.{At}
 use Rattle.ca_queue.specs.declared.entry.SubKey.{SubKey}
 use Rattle.ca_queue.specs.Circuit.{AreInOne, HasAt, IsFirstWithRoom, queue_posted, without_each}
@@ -77,6 +77,10 @@ pub record Joins (s : Subscription) (v : Stored) (old new : Subscribed) : Type 0
 abbrev pub AreKnown : Subscribed → Type 0
 AreKnown s = (i : ℕ) (q : Queue Stored) (key : SubKey) → At s.queues i q → is_among key q.subscriptions ≡ true → has_key key s ≡ true
 
+-- a queue has room, unless there are as many subscriptions as there may be
+abbrev pub HasRoom : Subscribed → Type 0
+HasRoom s = length s.subscriptions < circuit_queues * queue_subscriptions → (place : ℕ) × (q : Queue Stored) × IsFirstWithRoom s.queues place q
+
 -- the key has this SID
 abbrev pub is_of_sid : ℕ → SubKey → Bool
 is_of_sid sid key = key.sid == sid
@@ -86,6 +90,10 @@ abbrev pub AtPlace : (test : Subscription → Bool) → (f : Subscription → Su
 AtPlace test f place old new =
     ((s : Subscription) × At old.subscriptions place s × (new ≡ (if test s then f s old else old)))
     ⊎ ((length old.subscriptions ≤ place) × (new ≡ old))
+
+-- the subscription at a place passes the test
+abbrev pub PassesAt : (test : Subscription → Bool) → (place : ℕ) → Subscribed → Type 0
+PassesAt test place old = (s : Subscription) × At old.subscriptions place s × (test s ≡ true)
 
 -- without this subscription
 abbrev pub without_one : Subscription → Subscribed → Subscribed

@@ -1,6 +1,6 @@
 //! The subscriptions of one circuit at a server, each in the queue that it was given, and the updates that wait for it.
 //!
-//! The server's core is to hold one for each open end, and does not yet.
+//! The server's core holds one for each open end.
 #![tactic(auto)]
 
 mod standing;

@@ -1,4 +1,5 @@
 ghost use Rattle.std.specs.Prelude.{◌≡◌};
+ghost use Rattle.std.specs.Str.{bytes_eq};
 ghost use Rattle.ca_model.specs.Server.{concerns};
 ghost use Rattle.ca_server_subscriptions.specs.Subscribed.{IsAskable};
 
@@ -56,6 +57,13 @@ impl Standing {
         ensures { result ≡ self.now.1 }
     {
         self.queue
+    }
+
+    // Whether it is on the record of this name.
+    pub(crate) fn is_on(&self, name: &[u8]) -> bool
+        ensures { result ≡ bytes_eq self.now.0.name name.now }
+    {
+        self.name.as_slice() == name
     }
 
     // Whether a post to the record of this name, with this mask, concerns it.

@@ -1,11 +1,13 @@
-ghost use Rattle.std.specs.Prelude.{◌≡◌, ◌<◌, ◌==◌, ◌≤◌, ◌*◌, IfOk, IfSome, OnErr, OnOk, false, map, length};
+ghost use Rattle.std.specs.Prelude.{◌≡◌, ◌<◌, ◌==◌, ◌≤◌, ◌*◌, IfOk, IfSome, OnErr, OnOk, false, true, map, length, option_to_list, slice_get};
+ghost use Rattle.std.specs.List.{list_any};
+ghost use Rattle.std.specs.Str.{bytes_eq};
 ghost use Rattle.ca_text.specs.Limits.{circuit_queues, element_limit, queue_subscriptions};
 ghost use Rattle.ca_dbr.specs.Elements.{count_of, elements};
 ghost use Rattle.ca_queue.specs.Keys.{same};
 ghost use Rattle.ca_queue.specs.Queue.{switched};
 ghost use Rattle.ca_model.specs.Server.{concerns};
 ghost use Rattle.ca_server_subscriptions.specs.Pumping.{GivesUpdate};
-ghost use Rattle.ca_server_subscriptions.specs.Subscribed.{AreKnown, AtPlace, IsAskable, Joins, after_post, has_key, is_of_sid, none_yet, with_update, without_one, without_those};
+ghost use Rattle.ca_server_subscriptions.specs.Subscribed.{AreKnown, AtPlace, HasRoom, IsAskable, Joins, PassesAt, after_post, has_key, is_of_sid, none_yet, with_update, without_one, without_those};
 
 use crate::standing::Standing;
 use crate::update::Update;
@@ -140,15 +142,16 @@ impl Subscriptions {
         }
     }
 
-    // Tells that the queues have no other subscriptions. It does nothing.
-    fn know(&self)
-        ensures { AreKnown self.now }
+    /// Tells that the queues have no other subscriptions, and that one has room unless there are as many as there may be. It does nothing.
+    pub fn know(&self)
+        ensures known { AreKnown self.now }
+        ensures room { HasRoom self.now }
     {
         let _ = &self.standing;
     }
 
-    /// A post to the record of this name: each that it concerns gets an update, in their order. Without memory some have it, so that the
-    /// end is to be closed.
+    /// A post to the record of this name: each that it concerns gets an update, in their order. Without memory for one some have it, so
+    /// that the end is to be closed.
     pub fn post(
         &mut self,
         alloc: Global,
@@ -158,8 +161,10 @@ impl Subscriptions {
         meta: &Meta,
     ) -> Result<(), AllocError>
         requires { count_of (elements value.now) ≤ element_limit }
-        ensures { OnOk result (self.new ≡ after_post name.now mask
+        ensures ok { OnOk result (self.new ≡ after_post name.now mask
             (record { value = elements value.now; meta = meta.now }) self.old) }
+        ensures err { OnErr result
+            (list_any (concerns name.now mask) self.old.subscriptions ≡ true) }
     {
         'posting: for place in 0..self.len() {
             self.post_at(alloc, place, name, mask, value, meta)?;
@@ -178,9 +183,10 @@ impl Subscriptions {
         meta: &Meta,
     ) -> Result<(), AllocError>
         requires { count_of (elements value.now) ≤ element_limit }
-        ensures { OnOk result (AtPlace (concerns name.now mask)
+        ensures ok { OnOk result (AtPlace (concerns name.now mask)
             (with_update (record { value = elements value.now; meta = meta.now })) place self.old
             self.new) }
+        ensures err { OnErr result (PassesAt (concerns name.now mask) place self.old) }
     {
         let Some((key, standing)) = self.standing.get_index(place) else {
             return Ok(());
@@ -192,6 +198,29 @@ impl Subscriptions {
         let update = Update::of(alloc, value, *meta)?;
         self.queues.post(queue, key, update);
         Ok(())
+    }
+
+    /// Whether one of them is on the record of this name.
+    pub fn watches(&self, name: &[u8]) -> bool
+        ensures { result ≡ list_any (λ s. bytes_eq s.name name.now) self.now.subscriptions }
+    {
+        'seeking: for place in 0..self.len() {
+            if self.is_on(place, name) {
+                return true;
+            }
+        }
+        false
+    }
+
+    // Whether the one at this place, if there is one, is on the record of this name.
+    fn is_on(&self, place: usize, name: &[u8]) -> bool
+        ensures { result ≡ list_any (λ s. bytes_eq s.name name.now)
+            (option_to_list (slice_get self.now.subscriptions place)) }
+    {
+        match self.standing.get_index(place) {
+            Some((_, standing)) => standing.is_on(name),
+            None => false,
+        }
     }
 
     /// Takes an update from the first queue that may give one, and says what its subscription asked for. None if none may.

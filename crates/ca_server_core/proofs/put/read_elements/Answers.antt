@@ -1,9 +1,9 @@
-use Rattle.std.proofs.Common.{◌≡◌, ◌≤◌, ◌/◌, ◌%◌, ℕ, List, length, ap, ◌∙◌, subst, arith}
+use Rattle.std.proofs.Common.{◌≡◌, ◌≤◌, ◌/◌, ◌%◌, ℕ, List, length, sym, ap, ◌∙◌, subst, arith}
 use Rattle.std.proofs.lemmas.Bool.{eq-eqb}
 use Rattle.ca_dbr.specs.Elements.{count_of, elements}
 use Rattle.ca_dbr.specs.Reading.{Reads, least_size}
 use Rattle.ca_dbr.specs.Types.{base_number}
-use Rattle.ca_server_core.proofs.Givens.{no-early, put-reads}
+use Rattle.ca_server_core.proofs.Givens.{never-refused, no-early, put-reads}
 use Rattle.ca_server_core.proofs.put.read_elements.Goals as goal
 
 pub returns-in-Ok : goal.returns-in-Ok
@@ -29,3 +29,13 @@ returns-in-Ok c =
       omega (arith, counted, some),
       omega (arith, counted, within),
     )
+
+pub unreachable-requires : goal.unreachable-requires
+unreachable-requires c =
+    let m = c.args.message.now in
+    let base = c.in-Some.base in
+    let bytes : length c.payload-2.result.now ≡ length m.payload = ap length c.payload-2.ensures in
+    let had : length c.payload.result.now ≡ length m.payload = ap length c.payload.ensures in
+    let least : c.least_size.result ≡ least_size base c.count-count.result = c.least_size.ensures in
+    let long : least_size base c.count-count.result ≤ length c.payload-2.result.now = (let le = c.if-payload-least_size.false in omega (arith, bytes, had, least, le)) in
+    never-refused base c.number.result c.count-count.result c.payload-2.result.now c.in-Err.refusal (sym c.number.ensures) long c.in_default-refusal.not-OutOfMemory c.in-Err.ensures.refused

@@ -15,4 +15,4 @@ returns-in-NeedBytes c =
     let was : server.Open c.in-Open.end ≡ c.args.self.now = ap (λ (x : State). circuit_of x) (sym c.in-Open.is) ∙ c.self.view_is in
     let did = subst (λ (d : EndStep). EndSteps c.args.port c.args.circuit c.in-Open.end c.args.records.now d new c.step-did.new.records) c.in-NeedBytes.is c.step-did.ensures in
     subst (λ (x : ServerCircuit). CircuitSteps c.args.port c.args.circuit x c.args.records.now (Some step.NeedBytes) (server.Open new) c.step-did.new.records) was
-    (new, did, c.know.ensures.quiet, c.know.ensures.few, refl)
+    (new, did, c.know.ensures.room, c.know.ensures.few, refl)

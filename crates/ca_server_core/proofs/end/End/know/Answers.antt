@@ -1,6 +1,8 @@
-use Rattle.std.proofs.Common.{refl, subst}
-use Rattle.ca_server_core.specs.Sound.{IsQuiet}
+use Rattle.std.proofs.Common.{subst}
+use Rattle.ca_model.specs.Server.{ServerEnd}
+use Rattle.ca_server_core.specs.Subscribing.{events_of}
+use Rattle.ca_server_subscriptions.specs.Subscribed.{HasRoom}
 use Rattle.ca_server_core.proofs.end.End.know.Goals as goal
 
-pub returns-clause-quiet : goal.returns-clause-quiet
-returns-clause-quiet c = subst IsQuiet c.self.view_is (record { none = refl; on = c.self.inside.events_on; idle = refl })
+pub returns-clause-room : goal.returns-clause-room
+returns-clause-room c = subst (λ (e : ServerEnd). HasRoom (events_of e)) c.self.view_is c.know.ensures.room

@@ -7,6 +7,7 @@ use Rattle.ca_link.specs.Link.{with_sent}
 use Rattle.ca_wire.specs.Fields.{Fields}
 use Rattle.ca_wire.specs.Messages.{status_reply}
 use Rattle.ca_model.specs.Server.{ServerEnd}
+use Rattle.ca_server_core.specs.declared.step.Effect.TheVariants as effect
 use Rattle.ca_server_core.specs.Handling.{Puts, known, replied}
 use Rattle.ca_server_core.specs.Putting.{IsRefused, IsTaken}
 use Rattle.ca_server_core.proofs.Replying.{right-is, state-is, undone}
@@ -64,5 +65,5 @@ returns-in_ok-send-in-Refused-clause-ok c port =
     let all = ap length (c.out_bytes-waited.ensures ∙ ap (λ (x : ServerEnd). x.link.output) c.self.view_is) in
     let sent = c.in_ok-send-in-Refused.ensures.ok ∙ ap (λ (x : Fields). with_sent (x ∷ []) c.truncate-in-Refused.new.self) c.status_reply.ensures in
     let done = undone _ e _ _ c.truncate-in-Refused.new.self c.send-in-Refused.new.link (status_reply m c.in-Refused.status.number) (c.self-2.view_is ∙ c.in_ok-acknowledge.ensures.ok) all c.truncate-in-Refused.ensures sent in
-    with-store (Puts (known port s e) m) s c.begin.new.records c.args.circuit e _ m false w.3
+    with-store (Puts (known port s e) m) s c.begin.new.records c.args.circuit e _ m effect.Quiet w.3
     (put-refused port s c.args.circuit e _ m c.args.seat i bits c.in-Refused.status.number p right c.requires.command refused done)

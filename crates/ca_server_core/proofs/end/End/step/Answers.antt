@@ -40,7 +40,7 @@ returns-in-Ok c =
     let takes = subst (λ (x : ServerEnd). TakesFirst x.link m t.0) c.self.view_is t.1 in
     let first = taken-first _ e c.next_message.new.self t.0 c.self.view_is t.2 in
     let x : Takes e = record { room = room; m = m; rest = t.0; takes = takes } in
-    (x, subst (λ (w : ServerEnd). Does (Due (known c.args.port s w) m) s c.args.circuit w m c.in-Ok.writes c.handle.new.records c.handle.new.self) first c.in-Ok.ensures.ok)
+    (x, subst (λ (w : ServerEnd). Does (Due (known c.args.port s w) m) s c.args.circuit w m c.in-Ok.effect c.handle.new.records c.handle.new.self) first c.in-Ok.ensures.ok)
 
 pub returns-in-Ok-Some : goal.returns-in-Ok-Some
 returns-in-Ok-Some c =

@@ -2,6 +2,7 @@ use Rattle.std.proofs.Common.{◌≡◌, false, None, refl, sym, subst}
 use Rattle.ca_records.specs.declared.puts.Begun.TheVariants as begun
 use Rattle.ca_records.specs.Puts.{Record}
 use Rattle.ca_records.specs.Store.{Becomes, Store}
+use Rattle.ca_server_core.specs.declared.step.Effect.TheVariants as effect
 use Rattle.ca_server_core.specs.Handling.{Does, Writes, known}
 use Rattle.ca_server_core.specs.Putting.{IsRefused, IsTaken}
 use Rattle.ca_server_core.proofs.Replying.{right-is}
@@ -34,5 +35,5 @@ returns-in_ok-refuse-in-Refused-clause-ok c port h =
     let w = rw c.in-Refused.is at c.in_ok-begun.ensures.ok in
     let one : w.0 ≡ i.r = one-record s c.args.seat.place w.0 i.r w.1 i.at in
     let refused = subst (λ (r : Record). IsRefused r bits None m c.in-Refused.status.number) one w.2 in
-    subst (λ (t : Store). Does (Writes (known port s e) m) s h e m false t c.refuse.new.self) (sym w.3)
+    subst (λ (t : Store). Does (Writes (known port s e) m) s h e m effect.Quiet t c.refuse.new.self) (sym w.3)
     (write-refused port s h e c.refuse.new.self m c.args.seat i bits c.in-Refused.status.number right c.requires.command refused c.in_ok-refuse-in-Refused.ensures.ok)

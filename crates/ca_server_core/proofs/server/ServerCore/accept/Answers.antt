@@ -1,7 +1,15 @@
 use Rattle.ca_records.specs.Store.{records_of}
-use Rattle.ca_server_core.proofs.Sounds.{sound-opened}
+use Rattle.ca_server_core.proofs.Sounds.{accepts, sound-opened}
+use Rattle.ca_server_core.proofs.Thinned.{covers-opened}
 use Rattle.ca_server_core.proofs.server.ServerCore.accept.Goals as goal
 
 pub invariant_of-self : goal.invariant_of-self
 invariant_of-self c =
-    sound-opened (records_of c.self.inside.records) c.self.inside.circuits c.open.new.self c.self.inside.moment c.new.result c.open.result c.self.invariant c.new.ensures c.open.ensures
+    let i = c.self.inside in
+    record {
+      sound = sound-opened (records_of i.records) i.circuits c.open_on.new.circuits i.moment c.in-Ok.circuit c.open_on.result c.self.invariant.sound c.in-Ok.ensures c.open_on.ensures;
+      covered = covers-opened i.watchers i.circuits c.open_on.new.circuits i.moment c.in-Ok.circuit c.open_on.result c.self.invariant.covered c.in-Ok.ensures c.open_on.ensures;
+    }
+
+pub returns : goal.returns
+returns c = accepts _ c.args.self.now c.open_on.new.circuits c.in-Ok.circuit c.open_on.result c.self.view_is c.in-Ok.ensures c.open_on.ensures

@@ -1,9 +1,17 @@
+use Rattle.ca_server_core.proofs.Covered.{covers-thinned, thins-out}
 use Rattle.ca_server_core.proofs.Servers.{cuts-at, sound-end}
 use Rattle.ca_server_core.proofs.server.ServerCore.cut.Goals as goal
 
+pub end_on-requires : goal.end_on-requires
+end_on-requires c = c.self.invariant.sound
+
 pub invariant_of-self : goal.invariant_of-self
 invariant_of-self c =
-    sound-end c.self.inside.records c.end_on.new.records c.self.inside.circuits c.end_on.new.circuits c.args.circuit _ c.end_on.ensures c.self.invariant
+    let i = c.self.inside in
+    record {
+      sound = sound-end i.records c.end_on.new.records i.circuits c.end_on.new.circuits c.args.circuit _ c.end_on.ensures c.self.invariant.sound;
+      covered = covers-thinned i.watchers i.circuits c.end_on.new.circuits (thins-out i.circuits c.end_on.new.circuits c.args.circuit i.records c.end_on.new.records _ c.end_on.ensures) c.self.invariant.covered;
+    }
 
 pub returns : goal.returns
 returns c =

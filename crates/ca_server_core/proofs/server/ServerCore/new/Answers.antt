@@ -1,6 +1,12 @@
 use Rattle.ca_records.specs.Store.{records_of}
+use Rattle.ca_server_core.proofs.Covered.{covers-none}
 use Rattle.ca_server_core.proofs.Sounds.{sound-new}
 use Rattle.ca_server_core.proofs.server.ServerCore.new.Goals as goal
 
 pub invariant_of-result : goal.invariant_of-result
-invariant_of-result c = rw c.new.ensures (sound-new (records_of c.in_ok-records.records) c.args.records.now c.in_ok-records.ensures.list)
+invariant_of-result c =
+    rw c.new.ensures
+    (record {
+      sound = sound-new (records_of c.in_ok-records.records) c.args.records.now c.in_ok-records.ensures.list;
+      covered = covers-none _;
+    })

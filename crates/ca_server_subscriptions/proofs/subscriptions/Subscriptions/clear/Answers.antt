@@ -13,4 +13,4 @@ pub returns : goal.returns
 returns c =
     let none : c.clearing.place ≡ 0 = (let le = c.clearing-test.false in omega (arith, le)) in
     leaves-all (is_of_sid c.args.sid) c.args.self.now c.clearing.self
-    (subst (λ (n : ℕ). Leaves (is_of_sid c.args.sid) c.args.self.now c.clearing.self n) none c.clearing.invariant) c.know.ensures
+    (subst (λ (n : ℕ). Leaves (is_of_sid c.args.sid) c.args.self.now c.clearing.self n) none c.clearing.invariant) c.know.ensures.known

@@ -5,7 +5,7 @@ use Rattle.ca_queue.specs.Queue.{Queue}
 use Rattle.ca_model.specs.Server.{concerns}
 use Rattle.ca_model.specs.Speech.{Stored}
 use Rattle.ca_server_subscriptions.specs.Subscribed.{ArePlaced, subscriptions_in, with_update}
-use Rattle.ca_server_subscriptions.proofs.Placing.{Entry, alike-posted, at-entry, placed-alike, updated-at}
+use Rattle.ca_server_subscriptions.proofs.Placing.{Entry, alike-posted, at-entry, in-err, passes-at, placed-alike, updated-at}
 use Rattle.ca_server_subscriptions.proofs.subscriptions.Subscriptions.post_at.Goals as goal
 
 pub returns-then-not-is_concerned : goal.returns-then-not-is_concerned
@@ -14,8 +14,11 @@ returns-then-not-is_concerned c =
     let qs = c.self.inside.queues in
     let e : Entry = (c.in-Some.key.now, c.in-Some.standing.now) in
     let v : Stored = record { value = elements c.args.value.now; meta = c.args.meta.now } in
-    at-entry es qs c.self.invariant (concerns c.args.name.now c.args.mask) (with_update v) c.args.self.now c.args.self.now c.args.place e false c.self.view_is
-    (sym c.in-Some.ensures.entry) (sym c.is_concerned.ensures ∙ c.if-not-is_concerned.true) (λ i. c.args.self.now)
+    record {
+      ok = at-entry es qs c.self.invariant (concerns c.args.name.now c.args.mask) (with_update v) c.args.self.now c.args.self.now c.args.place e false c.self.view_is
+          (sym c.in-Some.ensures.entry) (sym c.is_concerned.ensures ∙ c.if-not-is_concerned.true) (λ i. c.args.self.now);
+      err = tt;
+    }
 
 pub invariant_of-self : goal.invariant_of-self
 invariant_of-self c =
@@ -24,8 +27,8 @@ invariant_of-self c =
     subst (λ (rs : List (Queue Stored)). ArePlaced es rs) (sym c.post.ensures)
     (placed-alike es qs (map (queue_posted c.in-Some.key.now c.in_ok-update.update) qs) (alike-posted c.in-Some.key.now c.in_ok-update.update qs) c.self.invariant)
 
-pub returns : goal.returns
-returns c =
+pub returns-clause-ok : goal.returns-clause-ok
+returns-clause-ok c =
     let es = c.self.inside.standing.entries in
     let qs = c.self.inside.queues in
     let e : Entry = (c.in-Some.key.now, c.in-Some.standing.now) in
@@ -34,3 +37,10 @@ returns c =
     at-entry es qs c.self.invariant (concerns c.args.name.now c.args.mask) (with_update v) c.args.self.now (record { subscriptions = subscriptions_in es; queues = c.post.new.self }) c.args.place e true c.self.view_is
     at (sym c.is_concerned.ensures ∙ c.if-not-is_concerned.false)
     (updated-at es qs c.self.invariant c.args.self.now c.args.place e c.in_ok-update.update v c.post.new.self c.self.view_is at c.in_ok-update.ensures c.post.ensures)
+
+pub returns-in_err-update-clause-err : goal.returns-in_err-update-clause-err
+returns-in_err-update-clause-err c =
+    let es = c.self.inside.standing.entries in
+    let e : Entry = (c.in-Some.key.now, c.in-Some.standing.now) in
+    in-err _
+    (passes-at es c.self.inside.queues c.self.invariant (concerns c.args.name.now c.args.mask) c.args.self.now c.args.place e c.self.view_is (sym c.in-Some.ensures.entry) (sym c.is_concerned.ensures ∙ c.if-not-is_concerned.false))

@@ -1,0 +1,28 @@
+use Rattle.std.proofs.Common.{◌≡◌, ℕ, List, sym, ap, ◌∙◌, subst}
+use Rattle.ca_records.specs.Puts.{Record}
+use Rattle.ca_records.specs.Record.{RecordState}
+use Rattle.ca_server_watchers.specs.Watching.{Watches}
+use Rattle.ca_model.specs.Ends as why
+use Rattle.ca_server_core.proofs.Covered.{covers-out, covers-watched}
+use Rattle.ca_server_core.proofs.Reached.{there-is}
+use Rattle.ca_server_core.proofs.Servers.{sound-end}
+use Rattle.ca_server_core.proofs.following.watch.Goals as goal
+
+pub returns-in-Ok-clause-covered : goal.returns-in-Ok-clause-covered
+returns-in-Ok-clause-covered c =
+    let r = c.requires.covered.0 in
+    let there = c.requires.covered.1 in
+    let named : c.name.result.now ≡ r.state.name =
+    c.name.ensures ∙ ap (λ (x : RecordState). x.name) c.state.ensures ∙ ap (λ (x : Record). x.state.name) (there-is c.args.records.now c.args.place c.at.result.now r c.at.ensures.at there) in
+    covers-watched c.args.watchers.now c.watch.new.self c.args.circuits.now r.state.name c.args.circuit c.requires.covered.2.0
+    (subst (λ (n : List ℕ). Watches n c.args.circuit c.args.watchers.now c.watch.new.self) named c.in-Ok.ensures.ok) c.requires.covered.2.1 c.requires.covered.3
+
+pub returns-in-Err-clause-sound : goal.returns-in-Err-clause-sound
+returns-in-Err-clause-sound c =
+    sound-end c.args.records.now c.end_on.new.records c.args.circuits.now c.end_on.new.circuits c.args.circuit why.OutOfMemory c.end_on.ensures c.requires.sound
+
+pub returns-in-Err-clause-covered : goal.returns-in-Err-clause-covered
+returns-in-Err-clause-covered c h e s at i =
+    let r = c.requires.covered.0 in
+    rw (c.in-Err.ensures.err)
+    (covers-out c.args.watchers.now c.args.circuits.now c.end_on.new.circuits c.args.circuit r.state.name c.args.records.now c.end_on.new.records why.OutOfMemory c.end_on.ensures c.requires.covered.3 h e s at i)

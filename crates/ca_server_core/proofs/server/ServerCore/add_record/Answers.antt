@@ -1,0 +1,13 @@
+use Rattle.ca_server_core.proofs.Added.{adds-ok, sound-added}
+use Rattle.ca_server_core.proofs.server.ServerCore.add_record.Goals as goal
+
+pub invariant_of-self-2 : goal.invariant_of-self-2
+invariant_of-self-2 c = record {
+  sound = sound-added c.self.inside.records c.add.new.self _ c.in_ok-add.field-0 c.in_ok-add.ensures c.self.inside.circuits c.self.invariant.sound;
+  covered = c.self.invariant.covered;
+}
+
+pub returns : goal.returns
+returns c =
+    let i = c.self.inside in
+    adds-ok i.records c.add.new.self _ c.in_ok-add.field-0 c.in_ok-add.ensures c.args.self.now i.port i.moment i.applied i.beacons i.circuits c.self.view_is

@@ -1,0 +1,27 @@
+use Rattle.std.proofs.Common.{Result, sym, subst}
+use Rattle.ca_arena.specs.declared.handle.Handle.{Handle}
+use Rattle.ca_dbr.specs.Elements.{elements}
+use Rattle.ca_text.specs.declared.refusal.Refusal.{Refusal}
+use Rattle.std.proofs.Common.{Bool}
+use Rattle.ca_model.specs.ServerCalls.{Posts}
+use Rattle.ca_server_core.proofs.Posted.{posted-sound, same-error, viewed-post, viewed-refused}
+use Rattle.ca_server_core.proofs.Servers.{server_of}
+use Rattle.ca_server_core.proofs.server.ServerCore.post.Goals as goal
+
+pub returns-in_err-place : goal.returns-in_err-place
+returns-in_err-place c =
+    let i = c.self.inside in
+    let f = c.in_err-place.field-0.0 in
+    subst (λ (r : Result (Unit {0}) Refusal). (gone : Handle → Bool) × Posts c.args.self.now c.args.name.now (record { value = elements c.args.value; meta = c.args.meta }) c.args.mask gone r (server_of i.port c.post.new.self i.moment i.circuits i.beacons i.applied))
+    (sym (same-error c.from_residual.result f c.from_residual.ensures.1))
+    (viewed-refused c.args.self.now i.port i.moment i.applied c.args.mask i.beacons i.records c.post.new.self i.circuits c.args.name.now (elements c.args.value) c.args.meta f c.self.view_is c.in_err-place.ensures)
+
+pub post_to_all-requires-clause-sound : goal.post_to_all-requires-clause-sound
+post_to_all-requires-clause-sound c =
+    let i = c.self.inside in
+    posted-sound i.records c.post.new.self i.circuits c.args.name.now (elements c.args.value) c.args.meta c.in_ok-place.place c.in_ok-place.ensures c.self.invariant.sound
+
+pub returns : goal.returns
+returns c =
+    let i = c.self.inside in
+    viewed-post c.args.self.now i.port i.moment i.applied c.args.mask i.beacons i.records c.post.new.self c.post_to_all.new.records i.circuits c.post_to_all.new.circuits c.args.name.now (elements c.args.value) c.args.meta c.in_ok-place.place c.self.view_is c.in_ok-place.ensures c.post_to_all.ensures.reaches

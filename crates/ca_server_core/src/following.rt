@@ -1,0 +1,60 @@
+ghost use Rattle.ca_records.specs.Store.{records_of};
+ghost use Rattle.ca_server_core.specs.Covering.{Covers};
+ghost use Rattle.ca_server_core.specs.Following.{Begins, CoversAt, CoversFor, Follows};
+ghost use Rattle.ca_server_core.specs.Sound.{IsSound};
+
+use crate::cause::Cause;
+use crate::circuit::Circuit;
+use crate::cutting::end_on;
+use crate::posting::post_to_all;
+use crate::step::Effect;
+use ca_arena::Handle;
+use ca_ids::HeldTable;
+use ca_records::ServedRecords;
+use ca_server_watchers::Watchers;
+
+/// The mask of a write that was applied: VALUE and LOG.
+pub(crate) const WRITE_MASK: u16 = 3;
+
+/// What a message that was handled leaves to do: a write reaches all subscriptions on its record; and the circuit watches the record of a
+/// subscription that began. Without memory for that its end has ended.
+pub(crate) fn follow(
+    circuits: &mut HeldTable<Circuit>,
+    records: &mut ServedRecords,
+    watchers: &mut Watchers,
+    circuit: Handle,
+    effect: Effect,
+)
+    requires sound { IsSound (records_of records.old) circuits.old }
+    requires covered { CoversFor effect circuit records.old watchers.old circuits.old }
+    ensures follows {
+        Follows effect circuit circuits.old records.old circuits.new records.new }
+    ensures sound { IsSound (records_of records.new) circuits.new }
+    ensures covered { Covers watchers.new circuits.new }
+{
+    match effect {
+        Effect::Quiet => {}
+        Effect::Wrote(place) => post_to_all(circuits, records, watchers, place, WRITE_MASK),
+        Effect::Began(place) => watch(circuits, records, watchers, circuit, place),
+    }
+}
+
+/// The circuit watches the record at this place. Without memory its end has ended.
+fn watch(
+    circuits: &mut HeldTable<Circuit>,
+    records: &mut ServedRecords,
+    watchers: &mut Watchers,
+    circuit: Handle,
+    place: usize,
+)
+    requires sound { IsSound (records_of records.old) circuits.old }
+    requires covered { CoversAt place circuit records.old watchers.old circuits.old }
+    ensures follows { Begins circuit circuits.old records.old circuits.new records.new }
+    ensures sound { IsSound (records_of records.new) circuits.new }
+    ensures covered { Covers watchers.new circuits.new }
+{
+    match watchers.watch(records.at(place).state().name(), circuit) {
+        Ok(()) => {}
+        Err(_) => end_on(circuits, records, circuit, Cause::OutOfMemory),
+    }
+}

@@ -1,0 +1,118 @@
+ghost use Rattle.std.specs.Prelude.{◌≡◌, Bool};
+ghost use Rattle.ca_arena.specs.declared.handle.Handle.{Handle};
+ghost use Rattle.ca_dbr.specs.Elements.{elements};
+ghost use Rattle.ca_ids.specs.Table.{under};
+ghost use Rattle.ca_model.specs.ServerCalls.{Posts};
+ghost use Rattle.ca_records.specs.Store.{IsThere, records_of};
+ghost use Rattle.ca_server_core.specs.Covering.{Covers, watches_under};
+ghost use Rattle.ca_server_core.specs.Reaching.{PostsIn, ReachesFrom, ReachesNext};
+ghost use Rattle.ca_server_core.specs.Sound.{IsSound};
+
+use crate::circuit::Circuit;
+use crate::server::ServerCore;
+use ca_arena::Handle;
+use ca_dbr::{Meta, Value};
+use ca_ids::HeldTable;
+use ca_records::ServedRecords;
+use ca_server_watchers::Watchers;
+use ca_text::Refusal;
+
+impl ServerCore {
+    /// The record of this name has this value from now on, with its alarm and its time stamp. It reaches all subscriptions on the record
+    /// whose mask shares a bit with this one, on all circuits. A circuit's end without memory for an update has ended.
+    ///
+    /// Refused as UnknownRecord if no record has the name, as BadType if the value is not of its type, and as BadCount if it has no element
+    /// or more than the greatest count. A refusal changes nothing.
+    pub fn post(&mut self, name: &[u8], value: Value, meta: Meta, mask: u16) -> Result<(), Refusal>
+        ensures { (gone : Handle → Bool)
+            × Posts self.old name.now (record { value = elements value; meta = meta }) mask gone
+            result self.new }
+    {
+        let place = self.records.post(name, value, meta)?;
+        post_to_all(
+            &mut self.circuits,
+            &mut self.records,
+            &mut self.watchers,
+            place,
+            mask,
+        );
+        Ok(())
+    }
+}
+
+/// The value of the record at this place reaches all subscriptions on it whose mask shares a bit with this one, on all circuits. An end
+/// without memory for an update has ended. No circuit is visited that does not watch the record.
+pub(crate) fn post_to_all(
+    circuits: &mut HeldTable<Circuit>,
+    records: &mut ServedRecords,
+    watchers: &mut Watchers,
+    place: usize,
+    mask: u16,
+)
+    requires there { IsThere records.old place }
+    requires sound { IsSound (records_of records.old) circuits.old }
+    requires covered { Covers watchers.old circuits.old }
+    ensures reaches {
+        ReachesFrom place mask circuits.old records.old circuits.new records.new }
+    ensures sound { IsSound (records_of records.new) circuits.new }
+    ensures covered { Covers watchers.new circuits.new }
+{
+    let mut left = watchers.count(records.at(place).state().name());
+    'posting: while left > 0 {
+        left -= 1;
+        post_to_one(circuits, records, watchers, place, mask, left);
+    }
+}
+
+/// The same for the circuit at this place of the list of those that watch the record. It is taken out if it watches it no more.
+fn post_to_one(
+    circuits: &mut HeldTable<Circuit>,
+    records: &mut ServedRecords,
+    watchers: &mut Watchers,
+    place: usize,
+    mask: u16,
+    watcher: usize,
+)
+    requires there { IsThere records.old place }
+    requires sound { IsSound (records_of records.old) circuits.old }
+    ensures { ReachesNext place mask watcher watchers.old circuits.old records.old watchers.new
+        circuits.new records.new }
+{
+    let name = records.at(place).state().name();
+    let Some(circuit) = watchers.at(name, watcher) else {
+        return;
+    };
+    if is_watching(circuits, circuit, name) {
+        post_on(circuits, records, circuit, place, mask);
+    } else {
+        watchers.forget(name, watcher);
+    }
+}
+
+/// Whether a circuit has a subscription on the record of this name.
+fn is_watching(circuits: &HeldTable<Circuit>, circuit: Handle, name: &[u8]) -> bool
+    ensures { result ≡ watches_under name.now (under circuits.now circuit) }
+{
+    match circuits.by_handle(circuit) {
+        Some(found) => found.watches(name),
+        None => false,
+    }
+}
+
+/// The same for this circuit.
+fn post_on(
+    circuits: &mut HeldTable<Circuit>,
+    records: &mut ServedRecords,
+    circuit: Handle,
+    place: usize,
+    mask: u16,
+)
+    requires there { IsThere records.old place }
+    requires sound { IsSound (records_of records.old) circuits.old }
+    ensures { PostsIn circuits.old circuit place mask records.old circuits.new records.new }
+{
+    let Some(found) = circuits.by_handle_mut(circuit) else {
+        return;
+    };
+    found.post(circuit, place, mask, records);
+}

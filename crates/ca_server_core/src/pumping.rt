@@ -1,0 +1,34 @@
+ghost use Rattle.std.specs.Prelude.{List};
+ghost use Rattle.ca_model.specs.ServerSteps.{Pumps, Update};
+ghost use Rattle.ca_records.specs.Store.{records_of};
+ghost use Rattle.ca_server_core.specs.Pumping.{PumpsIn};
+ghost use Rattle.ca_server_core.specs.Sound.{IsSound};
+
+use crate::circuit::Circuit;
+use crate::server::ServerCore;
+use ca_arena::Handle;
+use ca_ids::HeldTable;
+use ca_records::ServedRecords;
+
+impl ServerCore {
+    /// Puts updates that wait on a circuit after what waits to be sent, until none may go: none is left that may be taken, or 262,144 bytes
+    /// wait. Nothing happens if its end is not open.
+    ///
+    /// If there is no memory for the next, the end of the circuit has ended, with those before it. A step reports that.
+    pub fn pump(&mut self, circuit: Handle)
+        ensures { (updates : List Update) × Pumps self.old circuit updates self.new }
+    {
+        pump_on(&mut self.circuits, &mut self.records, circuit);
+    }
+}
+
+/// Pumps the end of a circuit, if it is open.
+fn pump_on(circuits: &mut HeldTable<Circuit>, records: &mut ServedRecords, circuit: Handle)
+    requires { IsSound (records_of records.old) circuits.old }
+    ensures { PumpsIn circuits.old circuit records.old circuits.new records.new }
+{
+    let Some(found) = circuits.by_handle_mut(circuit) else {
+        return;
+    };
+    found.pump(circuit, records);
+}

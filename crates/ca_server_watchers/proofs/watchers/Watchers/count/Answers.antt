@@ -1,0 +1,29 @@
+use Rattle.std.proofs.Common.{length, List, sym, ap, subst, ◌∙◌}
+use Rattle.ca_arena.specs.declared.handle.Handle.{Handle}
+use Rattle.ca_server_watchers.specs.Watching.{AreApart, Watched, watching}
+use Rattle.ca_server_watchers.proofs.Lines.{none-apart, unwatched, watched}
+use Rattle.ca_server_watchers.proofs.watchers.Watchers.count.Goals as goal
+
+pub returns-in-Some-clause-count : goal.returns-in-Some-clause-count
+returns-in-Some-clause-count c =
+    let name = c.args.name.now in
+    let here = watched (λ k. k.items) name c.self.inside.lines.entries c.in-Some.line.now (sym c.in-Some.ensures.value) in
+    c.len.ensures.count ∙ ap (λ (hs : List Handle). length hs) (sym here ∙ ap (λ (w : Watched). watching w name) c.self.view_is)
+
+pub returns-in-Some-clause-apart : goal.returns-in-Some-clause-apart
+returns-in-Some-clause-apart c =
+    let name = c.args.name.now in
+    let here = watched (λ k. k.items) name c.self.inside.lines.entries c.in-Some.line.now (sym c.in-Some.ensures.value) in
+    subst (λ (hs : List Handle). AreApart hs) (sym here ∙ ap (λ (w : Watched). watching w name) c.self.view_is) c.len.ensures.apart
+
+pub returns-in-None-clause-count : goal.returns-in-None-clause-count
+returns-in-None-clause-count c =
+    let name = c.args.name.now in
+    let none = unwatched (λ k. k.items) name c.self.inside.lines.entries (sym c.in-None.ensures.value) in
+    ap (λ (hs : List Handle). length hs) (sym none ∙ ap (λ (w : Watched). watching w name) c.self.view_is)
+
+pub returns-in-None-clause-apart : goal.returns-in-None-clause-apart
+returns-in-None-clause-apart c =
+    let name = c.args.name.now in
+    let none = unwatched (λ k. k.items) name c.self.inside.lines.entries (sym c.in-None.ensures.value) in
+    subst (λ (hs : List Handle). AreApart hs) (sym none ∙ ap (λ (w : Watched). watching w name) c.self.view_is) none-apart

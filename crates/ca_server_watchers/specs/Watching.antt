@@ -1,0 +1,64 @@
+-- Working: the circuits that watch records, each by its handle.
+use Rattle.std.specs.Prelude.{ℕ, ◌≡◌, ◌<◌, false, List, [], map, slice_get, unwrap_or}
+use Rattle.std.specs.Map.{lookup}
+use Rattle.std.specs.Str.{bytes_eq}
+use Rattle.ca_arena.specs.declared.handle.Handle.{Handle}
+use Rattle.ca_text.specs.Place.{At}
+
+-- the names of records, each with the circuits that watch it
+abbrev pub Watched : Type 0
+Watched = List (List ℕ × List Handle)
+
+-- the circuits that watch the record of this name
+abbrev pub watching : Watched → List ℕ → List Handle
+watching w name = unwrap_or (lookup (bytes_eq name) w) []
+
+-- it is one of these
+abbrev pub IsAmong : List Handle → Handle → Type 0
+IsAmong hs h = (k : ℕ) × At hs k h
+
+-- ---- in the maps
+
+abbrev pub handle_of : ℕ × ℕ → Handle
+handle_of e = record { index = e.0; generation = e.1 }
+
+abbrev pub handles_in : List (ℕ × ℕ) → List Handle
+handles_in es = map handle_of es
+
+abbrev pub lines_in : {K : Type 0} → (K → List ℕ) → List (K × List Handle) → Watched
+lines_in bytes es = map (λ e. (bytes e.0, e.1)) es
+
+-- ---- what calls leave
+
+-- no two are of one index
+abbrev pub AreApart : List Handle → Type 0
+AreApart hs = (i j : ℕ) (g h : Handle) → At hs i g → At hs j h → g.index ≡ h.index → i ≡ j
+
+-- This one is in the list now, and all others are that are not of its index.
+pub record Joins (h : Handle) (old new : List Handle) : Type 0 where
+  pub own : IsAmong new h
+  pub others : (g : Handle) → IsAmong old g → (g.index ≡ h.index → ⊥) → IsAmong new g
+
+-- The one at a place was taken out: the others are there, and those before it at their places.
+pub record Leaves (k : ℕ) (old new : List Handle) : Type 0 where
+  pub before : (i : ℕ) → i < k → slice_get new i ≡ slice_get old i
+  pub others : (i : ℕ) (g : Handle) → At old i g → (i ≡ k → ⊥) → IsAmong new g
+
+-- all other records are watched as before
+abbrev pub OthersStay : List ℕ → Watched → Watched → Type 0
+OthersStay name old new = (other : List ℕ) → bytes_eq other name ≡ false → watching new other ≡ watching old other
+
+-- This circuit watches the record of this name.
+pub record Watches (name : List ℕ) (h : Handle) (old new : Watched) : Type 0 where
+  pub joins : Joins h (watching old name) (watching new name)
+  pub stay : OthersStay name old new
+
+-- The one at a place watches the record of this name no more.
+pub record LeavesAt (name : List ℕ) (k : ℕ) (old new : Watched) : Type 0 where
+  pub leaves : Leaves k (watching old name) (watching new name)
+  pub stay : OthersStay name old new
+
+-- Nobody watches the record of this name.
+pub record Clears (name : List ℕ) (old new : Watched) : Type 0 where
+  pub none : watching new name ≡ []
+  pub stay : OthersStay name old new

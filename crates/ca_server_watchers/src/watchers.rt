@@ -1,0 +1,98 @@
+ghost use Rattle.std.specs.Prelude.{◌≡◌, OnErr, OnOk, [], length, slice_get};
+ghost use Rattle.ca_server_watchers.specs.Watching.{AreApart, Clears, LeavesAt, Watches, watching};
+
+use crate::line::Line;
+use ca_arena::Handle;
+use indexmap::IndexMap;
+use std::alloc::{AllocError, Global};
+use std::marker::Model;
+
+/// For each record that is watched, the circuits that watch it.
+#[derive(Drop)]
+pub struct Watchers {
+    lines: IndexMap<Vec<u8>, Line>,
+}
+
+impl Model for Watchers {
+    ghost use Rattle.ca_server_watchers.specs.Watching.{Watched};
+
+    ghost Value = { Watched };
+
+    ghost use Rattle.ca_server_watchers.specs.Watching.{lines_in};
+
+    ghost view = { λ w. lines_in (λ k. k.items) w.lines.entries };
+}
+
+impl Watchers {
+    /// None. It does not allocate yet.
+    pub fn new(alloc: Global) -> Watchers
+        ensures { result ≡ [] }
+    {
+        Watchers {
+            lines: IndexMap::new(alloc),
+        }
+    }
+
+    /// How many circuits watch the record of this name.
+    pub fn count(&self, name: &[u8]) -> usize
+        ensures count { result ≡ length (watching self.now name.now) }
+        ensures apart { AreApart (watching self.now name.now) }
+    {
+        match self.lines.get(name) {
+            Some(line) => line.len(),
+            None => 0,
+        }
+    }
+
+    /// The one at this place among them.
+    pub fn at(&self, name: &[u8], place: usize) -> Option<Handle>
+        ensures { result ≡ slice_get (watching self.now name.now) place }
+    {
+        match self.lines.get(name) {
+            Some(line) => line.at(place),
+            None => None,
+        }
+    }
+
+    /// This circuit watches the record of this name from now on. Without memory all is as it was.
+    pub fn watch(&mut self, name: &[u8], circuit: Handle) -> Result<(), AllocError>
+        ensures ok { OnOk result (Watches name.now circuit self.old self.new) }
+        ensures err { OnErr result (self.new ≡ self.old) }
+    {
+        if let Some(line) = self.lines.get_mut(name) {
+            line.add(circuit)?;
+            return Ok(());
+        }
+        self.begin(name, circuit)
+    }
+
+    // The same for a record that has no line.
+    fn begin(&mut self, name: &[u8], circuit: Handle) -> Result<(), AllocError>
+        requires { watching self.old name.now ≡ [] }
+        ensures ok { OnOk result (Watches name.now circuit self.old self.new) }
+        ensures err { OnErr result (self.new ≡ self.old) }
+    {
+        let alloc = *self.lines.allocator();
+        let mut line = Line::new(alloc);
+        line.add(circuit)?;
+        let name = Vec::from_slice(alloc, name)?;
+        self.lines.insert(name, line)?;
+        Ok(())
+    }
+
+    /// The circuit at this place of the list of this record watches it no more. The last of the list comes there.
+    pub fn forget(&mut self, name: &[u8], place: usize)
+        ensures { LeavesAt name.now place self.old self.new }
+    {
+        if let Some(line) = self.lines.get_mut(name) {
+            line.take_out(place);
+        }
+    }
+
+    /// Nobody watches the record of this name.
+    pub fn forget_all(&mut self, name: &[u8])
+        ensures { Clears name.now self.old self.new }
+    {
+        self.lines.swap_remove(name);
+    }
+}
