@@ -75,15 +75,15 @@ returns-in_ok-message-in-Err-clause-ok c =
     let bytes : c.resize.new.self.items ≡ replicate (size_of_image t n) 0 =
     c.in_ok-resize-in-Err.ensures.items ∙ all-zero _ c.in-Ok.size _ none zero_len ∙ ap (λ (k : ℕ). replicate k 0) size in
     let memory : c.in-Err.field-0 ≡ refusal.OutOfMemory → ⊥ = λ lack.
-        let r = c.in-Err.ensures.room lack in
-        let one : r.0 ≡ t = some_is r.0 t (sym (type-of-number r.0 w.data_type r.1) ∙ type-of-number t w.data_type numbered) in
-        let same : size_of_image r.0 n ≡ size_of_image t n = ap (λ (x : DataType). size_of_image x n) one in
-        let lt = r.2 in
-        let cap = c.in_ok-image.ensures.capacity in
-        let lower = c.next_multiple_of.ensures.lower_bound in
-        omega (arith, lt, same, cap, lower, size, zero_old) in
+    let r = c.in-Err.ensures.room lack in
+    let one : r.0 ≡ t = some_is r.0 t (sym (type-of-number r.0 w.data_type r.1) ∙ type-of-number t w.data_type numbered) in
+    let same : size_of_image r.0 n ≡ size_of_image t n = ap (λ (x : DataType). size_of_image x n) one in
+    let lt = r.2 in
+    let cap = c.in_ok-image.ensures.capacity in
+    let lower = c.next_multiple_of.ensures.lower_bound in
+    omega (arith, lt, same, cap, lower, size, zero_old) in
     let fails = subst (λ (k : ℕ). ((20 < w.data_type) × (c.in-Err.field-0 ≡ refusal.BadType)) ⊎ ((x : DataType) × (type_number x ≡ w.data_type) × Fails (shown v.value k x.base) c.in-Err.field-0)) counted
-        (subst (λ (e : Elements). ((20 < w.data_type) × (c.in-Err.field-0 ≡ refusal.BadType)) ⊎ ((x : DataType) × (type_number x ≡ w.data_type) × Fails (shown e n x.base) c.in-Err.field-0)) c.value.ensures.value y.1) in
+    (subst (λ (e : Elements). ((20 < w.data_type) × (c.in-Err.field-0 ≡ refusal.BadType)) ⊎ ((x : DataType) × (type_number x ≡ w.data_type) × Fails (shown e n x.base) c.in-Err.field-0)) c.value.ensures.value y.1) in
     fails-by w v t numbered c.in-Err.field-0 c.in_ok-message-in-Err.message c.requires.typed memory fails
     (c.in_ok-message-in-Err.ensures.ok
     ∙ ap (λ (a : Answered). update a.data_type a.count a.status.number a.id c.resize.new.self.items) c.answered-in-Err.ensures

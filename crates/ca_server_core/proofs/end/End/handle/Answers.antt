@@ -24,4 +24,3 @@ returns-in-WriteNotify-clause-ok c =
 pub returns-in-EventAdd-clause-ok : goal.returns-in-EventAdd-clause-ok
 returns-in-EventAdd-clause-ok c =
     if-then c.subscribe.result (λ did d. does-for c.args.port c.args.records.now c.args.circuit c.args.self.now c.args.message.now did c.args.records.now c.subscribe.new.self command.EventAdd (sym (ap command_number (sym c.in-EventAdd.is) ∙ c.in-Some.ensures ∙ c.command.ensures)) refl refl (d c.args.port c.args.circuit)) c.subscribe.ensures.ok
-
