@@ -34,11 +34,13 @@ pub enum Step {
 }
 
 impl ServerCore {
-    /// Handles the next message of a circuit, unless 262,144 bytes wait to be sent on it.
+    /// Handles the next message of a circuit, unless 262,144 bytes wait to be sent on it. A write that it applies reaches all subscriptions on
+    /// its record, on all circuits. An end without memory for an update has ended.
     ///
-    /// The end closes at a header that is refused, and out of memory if there is none for the message, which changes nothing then. The
-    /// puts of the circuit that wait are never applied. The end of a circuit is reported once, whichever call ended it. From then on,
-    /// and under a handle without a circuit, a step reports a cut.
+    /// The end closes at a header that is refused, and out of memory if there is none for the message, which changes nothing then, or
+    /// for an update of its own write, which is applied then; its replies are not sent. The puts of the circuit that wait are never applied.
+    /// The end of a circuit is reported once, whichever call ended it. From then on, and under a handle without a circuit, a step reports a
+    /// cut.
     pub fn step(&mut self, circuit: Handle) -> Step
         ensures { Steps self.old circuit (stepped result) self.new }
     {
@@ -81,12 +83,7 @@ fn step_on(
 
 /// What a step of a circuit that handled a message answers. If its end has ended since, out of memory, nothing is left of its replies:
 /// these come after the first bytes that waited, and these alone are left.
-fn settle(
-    alloc: Global,
-    circuits: &mut HeldTable<Circuit>,
-    circuit: Handle,
-    waited: usize,
-) -> Step
+fn settle(alloc: Global, circuits: &mut HeldTable<Circuit>, circuit: Handle, waited: usize) -> Step
     ensures { Settles circuits.old circuit waited result circuits.new }
 {
     if is_open(circuits, circuit) {
