@@ -61,15 +61,16 @@ pub mapped-none : (f : Connection → Connection) (o : Option Connection) → is
 mapped-none f (Some e) = refl
 mapped-none f None = refl
 
-module _ (t : Table Channel) (es : List (ℕ × search.Channel)) (q : Table Request) (s : Table Subscription) (cs : Table ClientCircuit) (sound : IsSound t es q s cs) where
+module _ (t : Table Channel) (es : List (ℕ × search.Channel)) (q : Table Request) (s : Table Subscription) (cs : Table ClientCircuit) (ls : List (List Handle)) (sound : IsSound t es q s cs ls) where
   -- ---- circuits
 
   -- another end is in the place of this one, which is connected if that was
-  pub sound-this : (c : Handle) (v w : ClientCircuit) → under cs c ≡ Some v → is_none w.connection ≡ is_none v.connection → IsSound t es q s (with_changed (λ (e : ClientCircuit). w) c cs)
+  pub sound-this : (c : Handle) (v w : ClientCircuit) → under cs c ≡ Some v → is_none w.connection ≡ is_none v.connection → IsSound t es q s (with_changed (λ (e : ClientCircuit). w) c cs) ls
   sound-this c v w there same =
       let f : ClientCircuit → ClientCircuit = λ (e : ClientCircuit). w in
       record {
         client = sound.client;
+        listed = sound.listed;
         placed =
             placed-linked (plain t q s cs) (plain t q s (with_changed f c cs)) refl refl refl
                 (λ k. elim (handle-or k c) [
@@ -83,11 +84,11 @@ module _ (t : Table Channel) (es : List (ℕ × search.Channel)) (q : Table Requ
       }
 
   -- something was done to its end
-  pub sound-mapped : (f : Connection → Connection) (c : Handle) (v w : ClientCircuit) → under cs c ≡ Some v → w ≡ record v { connection = option_map f v.connection } → IsSound t es q s (with_changed (λ (e : ClientCircuit). w) c cs)
+  pub sound-mapped : (f : Connection → Connection) (c : Handle) (v w : ClientCircuit) → under cs c ≡ Some v → w ≡ record v { connection = option_map f v.connection } → IsSound t es q s (with_changed (λ (e : ClientCircuit). w) c cs) ls
   sound-mapped f c v w there is = sound-this c v w there (ap (λ (d : ClientCircuit). is_none d.connection) is ∙ mapped-none f v.connection)
 
   -- a read
-  pub sound-given : (moment : ℕ) (bytes : List ℕ) (more : Bool) (r : Result (Unit {0}) Refusal) (c : Handle) (v w : ClientCircuit) → under cs c ≡ Some v → GivesAt moment bytes more v r w → IsSound t es q s (with_changed (λ (e : ClientCircuit). w) c cs)
+  pub sound-given : (moment : ℕ) (bytes : List ℕ) (more : Bool) (r : Result (Unit {0}) Refusal) (c : Handle) (v w : ClientCircuit) → under cs c ≡ Some v → GivesAt moment bytes more v r w → IsSound t es q s (with_changed (λ (e : ClientCircuit). w) c cs) ls
   sound-given moment bytes more r c v w there gives = sound-this c v w there (ap (λ (d : ClientCircuit). is_none d.connection) gives.2 ∙ by v.connection r gives.0 gives.1)
     where
       by : (o : Option Connection) (a : Result (Unit {0}) Refusal) (n : Option Connection) → GivesOn moment bytes more o a n → is_none n ≡ is_none o
@@ -101,36 +102,40 @@ module _ (t : Table Channel) (es : List (ℕ × search.Channel)) (q : Table Requ
   -- ---- subscriptions
 
   -- one begins
-  pub sound-added : (g h : Handle) (data_type count mask : ℕ) (u : Table Subscription) → u ≡ with_held g (monitor.new_subscription h data_type count mask) s → IsSound t es q u cs
+  pub sound-added : (g h : Handle) (data_type count mask : ℕ) (u : Table Subscription) → u ≡ with_held g (monitor.new_subscription h data_type count mask) s → IsSound t es q u cs ls
   sound-added g h data_type count mask u is = record {
     client = sound.client;
+    listed = sound.listed;
     placed = subst (λ (w : Table Subscription). ArePlaced t q w cs) (sym is) (placed-subscribed (plain t q s cs) h (record { data_type = data_type; count = count }) mask g sound.placed);
   }
 
   -- nothing has the id of one
-  pub sound-forgot : (g : Handle) (u : Table Subscription) → u ≡ with_freed g s → IsSound t es q u cs
+  pub sound-forgot : (g : Handle) (u : Table Subscription) → u ≡ with_freed g s → IsSound t es q u cs ls
   sound-forgot g u is = record {
     client = sound.client;
+    listed = sound.listed;
     placed = subst (λ (w : Table Subscription). ArePlaced t q w cs) (sym is) ((freed-keeps g (plain t q s cs)).placed sound.placed);
   }
 
-  pub sound-forgot-if : (o : Option Handle) (u : Table Subscription) → u ≡ freed_if o s → IsSound t es q u cs
-  sound-forgot-if None u is = subst (λ (w : Table Subscription). IsSound t es q w cs) (sym is) sound
+  pub sound-forgot-if : (o : Option Handle) (u : Table Subscription) → u ≡ freed_if o s → IsSound t es q u cs ls
+  sound-forgot-if None u is = subst (λ (w : Table Subscription). IsSound t es q w cs ls) (sym is) sound
   sound-forgot-if (Some g) u is = sound-forgot g u is
 
   -- the id of one drains where its channel was live
-  pub sound-staged : (stage : monitor.Stage) (c g : Handle) (d : Subscription) (u : Table Subscription) → ((on : Handle) → drains_in on stage ≡ same_handle c on) → under s g ≡ Some d → WasLiveIn t d.channel c → u ≡ with_stage stage g s → IsSound t es q u cs
+  pub sound-staged : (stage : monitor.Stage) (c g : Handle) (d : Subscription) (u : Table Subscription) → ((on : Handle) → drains_in on stage ≡ same_handle c on) → under s g ≡ Some d → WasLiveIn t d.channel c → u ≡ with_stage stage g s → IsSound t es q u cs ls
   sound-staged stage c g d u only there live is = record {
     client = sound.client;
+    listed = sound.listed;
     placed = subst (λ (w : Table Subscription). ArePlaced t q w cs) (sym is) ((keeps-staged stage c g (plain t q s cs) d only there live).placed sound.placed);
   }
 
   -- ---- requests
 
   -- one was issued
-  pub sound-issued : (g h c : Handle) (asked : Asked) (u : Table Request) → WasLiveIn t h c → u ≡ with_held g (new_request h c asked) q → IsSound t es u s cs
+  pub sound-issued : (g h c : Handle) (asked : Asked) (u : Table Request) → WasLiveIn t h c → u ≡ with_held g (new_request h c asked) q → IsSound t es u s cs ls
   sound-issued g h c asked u live is = record {
     client = sound.client;
+    listed = sound.listed;
     placed = subst (λ (w : Table Request). ArePlaced t w s cs) (sym is) (record {
       attached = record {
         requests = λ k r found. elim (held-back q k g (new_request h c asked) r found) [
@@ -144,24 +149,25 @@ module _ (t : Table Channel) (es : List (ℕ × search.Channel)) (q : Table Requ
   }
 
   -- nothing has the id of one
-  pub sound-freed : (g : Handle) (u : Table Request) → u ≡ with_freed g q → IsSound t es u s cs
+  pub sound-freed : (g : Handle) (u : Table Request) → u ≡ with_freed g q → IsSound t es u s cs ls
   sound-freed g u is = record {
     client = sound.client;
+    listed = sound.listed;
     placed = subst (λ (w : Table Request). ArePlaced t w s cs) (sym is) ((keeps-request g (plain t q s cs)).placed sound.placed);
   }
 
-  pub sound-without : (o : Option Handle) (old n : Issued) → old.table ≡ q → n ≡ without_if o old → IsSound t es n.table s cs
-  sound-without None old n of is = subst (λ (w : Table Request). IsSound t es w s cs) (sym (ap (λ (z : Issued). z.table) is ∙ of)) sound
+  pub sound-without : (o : Option Handle) (old n : Issued) → old.table ≡ q → n ≡ without_if o old → IsSound t es n.table s cs ls
+  sound-without None old n of is = subst (λ (w : Table Request). IsSound t es w s cs ls) (sym (ap (λ (z : Issued). z.table) is ∙ of)) sound
   sound-without (Some g) old n of is = sound-freed g n.table (ap (λ (z : Issued). z.table) is ∙ ap (with_freed g) of)
 
   -- a reply was read
-  pub sound-answered : (old n : Issued) (m : Fields) (o : Option (Handle × Request)) (r : Result (Option (Handle × Outcome)) AllocError) → old.table ≡ q → AnswersOne old m o r n → IsSound t es n.table s cs
+  pub sound-answered : (old n : Issued) (m : Fields) (o : Option (Handle × Request)) (r : Result (Option (Handle × Outcome)) AllocError) → old.table ≡ q → AnswersOne old m o r n → IsSound t es n.table s cs ls
   sound-answered old n m None (Ok None) of h = sound-without None old n of h
   sound-answered old n m None (Ok (Some e)) of h = absurd h
   sound-answered old n m None (Err e) of h = absurd h
   sound-answered old n m (Some (g, v)) r of h = by v.stage r h
     where
-      by : (stage : Stage) (a : Result (Option (Handle × Outcome)) AllocError) → requests.Completes old m g stage a n → IsSound t es n.table s cs
+      by : (stage : Stage) (a : Result (Option (Handle × Outcome)) AllocError) → requests.Completes old m g stage a n → IsSound t es n.table s cs ls
       by Open (Ok (Some (p, e))) k = sound-without (Some g) old n of k.2
       by Open (Ok None) k = absurd k
       by Open (Err e) k = sound-without None old n of k.1
