@@ -8,13 +8,13 @@ use Rattle.ca_text.specs.Place.{At}
 use Rattle.ca_arena.specs.declared.handle.Handle.{Handle}
 use Rattle.ca_arena.specs.Arena.{Place, place_at}
 use Rattle.ca_arena.proofs.Places.{value_for-some}
-use Rattle.ca_ids.specs.Table.{Table, held, held_at, held_from, same_handle, under, with_changed, with_freed, with_held}
+use Rattle.ca_ids.specs.Table.{Table, held_at, held_from, same_handle, under, with_changed, with_freed, with_held}
 use Rattle.ca_requests.specs.Requests.{Request, in_order_of_issue, is_open, is_open_in, was_sent_on}
 use Rattle.ca_dbr.specs.declared.value.Outcome.TheVariants as outcome
 use Rattle.ca_model.specs.Answers as notice
 use Rattle.ca_model.specs.Answers.{Closing}
 use Rattle.ca_model.specs.Ends.{Why}
-use Rattle.ca_model.specs.Client.{Channel, Client, ClientCircuit, Connecting, Connection, Creating, Clearing, Doomed, Leaving, Live, Native, On, Phase, Searching, Standing, channel_on, channels_ended, channels_on, closing, connection_at, disconnections, farewell, is_live, is_on_in, out_bytes, phase_on, without_ids}
+use Rattle.ca_model.specs.Client.{Channel, Client, ClientCircuit, Connecting, Connection, Creating, Clearing, Doomed, Leaving, Live, Native, On, Phase, Searching, Standing, channel_on, channels_ended, channels_on, closing, disconnections, farewell, is_live, is_on_in, out_bytes, phase_on, without_ids}
 use Rattle.ca_model.specs.ClientEnds.{is_connecting}
 use Rattle.ca_model_client.specs.Placed.{IsPlaced, was_live}
 use Rattle.ca_model_client.proofs.Handles.{same-is, same-itself}
@@ -202,9 +202,9 @@ module _ (test : Phase → Bool) (c : Handle) where
         let there : Has gs h = all h (subst (λ (hs : List Handle). Has hs h) (sym is) (inl refl)) in
         let rest : length (from (i + 1) t) ≤ length (less h gs) =
         few-from (i + 1) t (less h gs) (λ k has. less-has h k gs (λ same.
-            let later : i + 1 ≤ k.index = from-index (i + 1) t k has in
-            let at : k.index ≡ i = ap (λ (g : Handle). g.index) same ∙ one.2 in
-            omega (arith, later, at)) (all k (subst (λ (hs : List Handle). Has hs k) (sym is) (inr has)))) in
+        let later : i + 1 ≤ k.index = from-index (i + 1) t k has in
+        let at : k.index ≡ i = ap (λ (g : Handle). g.index) same ∙ one.2 in
+        omega (arith, later, at)) (all k (subst (λ (hs : List Handle). Has hs k) (sym is) (inr has)))) in
         let l : length gs ≡ length (less h gs) + 1 = less-length h gs there in
         omega (arith, e, rest, l)
   ]

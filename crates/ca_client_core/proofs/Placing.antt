@@ -1,5 +1,5 @@
 -- What a change of one of a client's tables keeps of where its channels are.
-use Rattle.std.proofs.Common.{◌≡◌, ◌⊎◌, inl, inr, Bool, true, false, List, [], ◌∷◌, Option, Some, None, Result, Ok, Err, refl, sym, ap, ◌∙◌, subst}
+use Rattle.std.proofs.Common.{◌≡◌, inl, inr, Bool, true, false, List, [], ◌∷◌, Option, Some, None, Result, Ok, Err, refl, sym, ap, ◌∙◌, subst}
 use Rattle.std.specs.Prelude.{ℕ, OnErr, OnOk, is_none, option_and_then, option_map}
 use Rattle.std.specs.FinMap as finite
 use Rattle.std.specs.declared.alloc.AllocError.{AllocError}
@@ -31,11 +31,11 @@ use Rattle.ca_model_client.proofs.Hearing.{bare-so, drained-bare, keeps-request}
 use Rattle.ca_model_client.proofs.Placed.{keeps-again, keeps-gone, keeps-then, placed-linked, under-other}
 use Rattle.ca_model_client.proofs.Standings.{channel-on, found-standing, is-on}
 use Rattle.ca_model_client.proofs.Tables.{changed-own, held-back}
-use Rattle.ca_client_core.specs.Ends.{GivesAt, GivesOn, read_given}
+use Rattle.ca_client_core.specs.Ends.{GivesAt, GivesOn}
 use Rattle.ca_client_core.specs.Forms.{phase_of}
 use Rattle.ca_client_core.specs.Hearing.{HearsReplyTo, completed, found_as}
 use Rattle.ca_client_core.specs.declared.channel.Phase as code
-use Rattle.ca_client_core.specs.Sound.{IsClient, IsSound}
+use Rattle.ca_client_core.specs.Sound.{IsSound}
 use Rattle.ca_client_core.specs.Turns.{MayTurn, TurnsIn, WasLiveAs}
 
 -- a client with these tables, and nothing else
@@ -73,14 +73,14 @@ module _ (t : Table Channel) (es : List (ℕ × search.Channel)) (q : Table Requ
         listed = sound.listed;
         placed =
             placed-linked (plain t q s cs) (plain t q s (with_changed f c cs)) refl refl refl
-                (λ k. elim (handle-or k c) [
-                | inr other ↦ ap (λ (o : Option ClientCircuit). is_none (connection-of o)) (under-other f cs c k other)
-                | inl here ↦
-                    subst (λ (j : Handle). is_none (connection-of (under (with_changed f c cs) j)) ≡ is_none (connection-of (under cs j))) (sym here)
-                        (ap (λ (o : Option ClientCircuit). is_none (connection-of o)) (changed-own f cs c v there) ∙ same
-                        ∙ ap (λ (o : Option ClientCircuit). is_none (connection-of o)) (sym there))
-                ])
-                sound.placed;
+            (λ k. elim (handle-or k c) [
+              | inr other ↦ ap (λ (o : Option ClientCircuit). is_none (connection-of o)) (under-other f cs c k other)
+              | inl here ↦
+                  subst (λ (j : Handle). is_none (connection-of (under (with_changed f c cs) j)) ≡ is_none (connection-of (under cs j))) (sym here)
+                  (ap (λ (o : Option ClientCircuit). is_none (connection-of o)) (changed-own f cs c v there) ∙ same
+                  ∙ ap (λ (o : Option ClientCircuit). is_none (connection-of o)) (sym there))
+            ])
+            sound.placed;
       }
 
   -- something was done to its end
@@ -184,14 +184,14 @@ module _ (t : Table Channel) (q : Table Request) (s : Table Subscription) (cs : 
       let w : Channel = record v { standing = Searching } in
       let same : w ≡ v = ap (λ (z : _). let d : Channel = record v { standing = z } in d) (sym stands) in
       subst (λ (z : Table Channel). ArePlaced z q s cs) (sym is)
-          (subst (λ (z : Channel). ArePlaced (with_held h z t) q s cs) same
-          (placed-opened (record { name = v.name; priority = v.priority; now = 0 }) h (plain t q s cs) may placed))
+      (subst (λ (z : Channel). ArePlaced (with_held h z t) q s cs) same
+      (placed-opened (record { name = v.name; priority = v.priority; now = 0 }) h (plain t q s cs) may placed))
 
   -- one comes to another phase
   pub placed-turned : (h c : Handle) (next : Phase) (u : Table Channel) → TurnsIn h c next t → u ≡ with_changed (λ (here : Channel). record here { standing = On c next }) h t → ArePlaced u q s cs
   placed-turned h c next u turn is =
       subst (λ (z : Table Channel). ArePlaced z q s cs) (sym is)
-          ((keeps-phase c h (plain t q s cs) turn.channel turn.phase next turn.there turn.stands turn.waits turn.live).placed placed)
+      ((keeps-phase c h (plain t q s cs) turn.channel turn.phase next turn.there turn.stands turn.waits turn.live).placed placed)
 
   -- one is searched for again
   pub placed-again : (h : Handle) (u : Table Channel) → IsBareIn h q s → u ≡ with_changed (λ (here : Channel). record here { standing = Searching }) h t → ArePlaced u q s cs
@@ -209,7 +209,7 @@ module _ (t : Table Channel) (q : Table Request) (s : Table Subscription) (cs : 
       let z : Client = with_standing (On c Clearing) h y in
       let live : WasLiveIn t h c = (was.channel, was.there, is-on was_live c was.channel was.phase was.stands ∙ was.live) in
       subst (λ (e : Table Channel × Table Request × Table Subscription). ArePlaced e.0 e.1 e.2 cs) (λ i. (sym us i, sym vs i, sym ws i))
-          ((keeps-then x y z (over-keeps c h x live) (keeps-phase c h y was.channel was.phase Clearing was.there was.stands was.waits (λ e. refl))).placed placed)
+      ((keeps-then x y z (over-keeps c h x live) (keeps-phase c h y was.channel was.phase Clearing was.there was.stands was.waits (λ e. refl))).placed placed)
 
 -- one that was refused is not there
 pub refused-same : (t u : Table Channel) (v : Channel) (back : Channel) (e : Refusal) → Gives t v (Err (back, e)) u → u ≡ t
@@ -238,7 +238,7 @@ hears-reply x n m (Some (g, v)) r h = by v.stage refl r h
     by : (stage : Stage) → v.stage ≡ stage → (a : Result (Option (Handle × Outcome)) AllocError) → requests.Completes old m g stage a n → HearsReplyTo x m (Some (g, v)) a (with_issued x n)
     by Open is (Ok (Some (p, o))) k =
         told Open is (doing [] (completed (Some (p, o))) (with_issued x n))
-            (o, k.1, λ i. doing [] (notice.Completed (k.0 i) o ∷ []) (with_issued x (k.2 i)))
+        (o, k.1, λ i. doing [] (notice.Completed (k.0 i) o ∷ []) (with_issued x (k.2 i)))
     by Open is (Ok None) k = absurd k
     by Open is (Err e) k = (is, k.0, ap (with_issued x) k.1)
     by Draining is (Ok None) k = told Draining is (doing [] [] (with_issued x n)) (ap (λ (z : Issued). doing [] [] (with_issued x z)) k)

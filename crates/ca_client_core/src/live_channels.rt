@@ -119,7 +119,11 @@ fn extend(alloc: Global, lists: &mut Vec<LiveChannels>, index: u16) -> Result<()
 }
 
 /// Hands out what is listed for this circuit. It does not allocate.
-pub(crate) fn take_live(alloc: Global, lists: &mut Vec<LiveChannels>, circuit: Handle) -> Vec<Handle>
+pub(crate) fn take_live(
+    alloc: Global,
+    lists: &mut Vec<LiveChannels>,
+    circuit: Handle,
+) -> Vec<Handle>
     ensures told { result.items ≡ list_at lists.old.items circuit.index }
     ensures others { (i : ℕ) → i ≢ circuit.index
         → list_at lists.new.items i ≡ list_at lists.old.items i }
@@ -144,12 +148,7 @@ pub(crate) fn list_live(channels: &HeldTable<Channel>, circuit: Handle, room: &m
 }
 
 // Puts the channel at this index after the others, if it is live on this circuit. There is room for it.
-fn push_live(
-    channels: &HeldTable<Channel>,
-    circuit: Handle,
-    index: usize,
-    room: &mut Vec<Handle>,
-)
+fn push_live(channels: &HeldTable<Channel>, circuit: Handle, index: usize, room: &mut Vec<Handle>)
     requires within { index < length channels.now }
     requires room { length (named_at is_live circuit index channels.now) + vec_len room.old
         ≤ vec_capacity room.old }

@@ -26,7 +26,7 @@ loop-index-preserved c =
     record {
       items =
           c.push_live.ensures.items
-              ∙ ap (λ (hs : List Handle). hs ++ named_at is_live h i t) c.loop-index.invariant.items
-              ∙ sym (named-more gone is_live (gone_at h) h t i (omega arith));
+          ∙ ap (λ (hs : List Handle). hs ++ named_at is_live h i t) c.loop-index.invariant.items
+          ∙ sym (named-more gone is_live (gone_at h) h t i (omega arith));
       room = subst (λ (k : ℕ). length (named_in is_live h t) ≤ k) (sym c.push_live.ensures.capacity) c.loop-index.invariant.room;
     }

@@ -1,4 +1,3 @@
-use Rattle.std.proofs.Common.{◌∙◌, ap, sym, subst}
 use Rattle.ca_client_core.proofs.Placing.{sound-added}
 use Rattle.ca_client_core.proofs.client.ClientCore.add_or_cut.Goals as goal
 

@@ -90,7 +90,7 @@ returns-in_default-clause-told c =
     } in
     let k : Closing = record { why = why_is c.args.why; notices = c.none.result; left = c.new.result } in
     subst (λ (y : Client). k ≡ closing (why_is c.args.why) c.args.circuit y) c.self.view_is
-        (closing-gone (why_is c.args.why) x c.args.circuit c.self.invariant.placed (sym c.in_default.ensures) k refl c.none.ensures c.new.ensures)
+    (closing-gone (why_is c.args.why) x c.args.circuit c.self.invariant.placed (sym c.in_default.ensures) k refl c.none.ensures c.new.ensures)
 
 pub returns-clause-told : goal.returns-clause-told
 returns-clause-told c =
@@ -110,4 +110,4 @@ returns-clause-told c =
     } in
     let k : Closing = record { why = why_is c.args.why; notices = c.of.result; left = c.let_go-left.result } in
     subst (λ (y : Client). k ≡ closing (why_is c.args.why) c.args.circuit y) c.self.view_is
-        (closing-told (why_is c.args.why) x c.args.circuit c.end_circuit-told.result.items c.list_live.new.room.items c.of.result c.let_go-left.result c.end_circuit-told.ensures.told c.list_live.ensures c.of.ensures c.let_go-left.ensures.left)
+    (closing-told (why_is c.args.why) x c.args.circuit c.end_circuit-told.result.items c.list_live.new.room.items c.of.result c.let_go-left.result c.end_circuit-told.ensures.told c.list_live.ensures c.of.ensures c.let_go-left.ensures.left)

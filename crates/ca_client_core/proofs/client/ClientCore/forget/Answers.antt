@@ -1,4 +1,3 @@
-use Rattle.std.proofs.Common.{◌∙◌, ap, sym, subst}
 use Rattle.ca_client_core.proofs.Placing.{sound-forgot}
 use Rattle.ca_client_core.proofs.client.ClientCore.forget.Goals as goal
 

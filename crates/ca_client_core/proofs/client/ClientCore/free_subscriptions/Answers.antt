@@ -12,5 +12,5 @@ invariant_of-self c =
       listed = c.self.invariant.listed;
       placed =
           subst (λ w. ArePlaced i.channels i.requests.table w i.circuits) (sym c.free_channel.ensures)
-              ((unsubscribed-keeps c.args.channel (plain c.self.inside.channels c.self.inside.requests.table c.self.inside.monitors c.self.inside.circuits)).placed c.self.invariant.placed);
+          ((unsubscribed-keeps c.args.channel (plain c.self.inside.channels c.self.inside.requests.table c.self.inside.monitors c.self.inside.circuits)).placed c.self.invariant.placed);
     }

@@ -1,4 +1,3 @@
-use Rattle.std.proofs.Common.{◌∙◌, ap, sym, subst}
 use Rattle.ca_client_core.proofs.Placing.{sound-forgot-if}
 use Rattle.ca_client_core.proofs.client.ClientCore.hear_confirmation.Goals as goal
 

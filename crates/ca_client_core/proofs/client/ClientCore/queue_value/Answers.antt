@@ -1,4 +1,4 @@
-use Rattle.std.proofs.Common.{◌∙◌, ap, sym, subst}
+use Rattle.std.proofs.Common.{sym}
 use Rattle.ca_client_core.proofs.Placing.{sound-mapped}
 use Rattle.ca_client_core.proofs.client.ClientCore.queue_value.Goals as goal
 

@@ -10,8 +10,6 @@ use Rattle.ca_client_core.specs.declared.channel.Standing.TheVariants as standin
 use Rattle.ca_client_core.specs.declared.channel.Phase.{Phase}
 use Rattle.ca_client_core.specs.Forms.{native_of, standing_of}
 use Rattle.ca_client_core.proofs.Cancelling.{cancelled-live, cancelled-there, comes-to}
-use Rattle.ca_ids.specs.Table.{under}
-use Rattle.ca_model_client.specs.Placed.{WasLiveIn}
 use Rattle.ca_model_client.proofs.Standings.{stands-as}
 use Rattle.ca_client_core.proofs.Placing.{live-at, sound-staged}
 use Rattle.ca_client_core.proofs.client.ClientCore.unsubscribe.Goals as goal
@@ -89,8 +87,8 @@ invariant_of-self c =
     ∙ ap (option_map standing_of) found
     ∙ ap (λ (p : Phase). option_map standing_of (Some (standing.On c.in-On.circuit p))) c.in-Leaving.is in
     sound-staged c.self.inside.channels c.self.inside.searches.entries c.self.inside.requests.table c.self.inside.monitors c.self.inside.circuits c.self.inside.lives.items c.self.invariant (Ended c.in-On.circuit) c.in-On.circuit s d c.end.new.self (λ on. refl)
-        (stands-as x s d stands).0 (live-at x d.channel c.in-On.circuit phase.Leaving at refl)
-        (comes-to (Ended c.in-On.circuit) i.monitors c.end.new.self s d c.end.result stands c.end.ensures)
+    (stands-as x s d stands).0 (live-at x d.channel c.in-On.circuit phase.Leaving at refl)
+    (comes-to (Ended c.in-On.circuit) i.monitors c.end.new.self s d c.end.result stands c.end.ensures)
 
 pub cancel-requires-clause-live : goal.cancel-requires-clause-live
 cancel-requires-clause-live c =
@@ -118,7 +116,7 @@ returns-in-Connecting c =
     ∙ ap (option_map standing_of) found
     ∙ ap (λ (p : Phase). option_map standing_of (Some (standing.On c.in-On.circuit p))) c.in-Connecting.is in
     subst (λ (r : Result (Unit {0}) Refusal). (sent : List Sending) × ClientUnsubscribes x s r sent c.forget-in-Connecting.new.self) (sym c.forget-in-Connecting.ensures.ok)
-        (cancelled-there x s d (Some (On c.in-On.circuit (phase.Connecting))) c.forget-in-Connecting.new.self stands at refl c.forget-in-Connecting.ensures.freed)
+    (cancelled-there x s d (Some (On c.in-On.circuit (phase.Connecting))) c.forget-in-Connecting.new.self stands at refl c.forget-in-Connecting.ensures.freed)
 
 pub returns-in-Creating : goal.returns-in-Creating
 returns-in-Creating c =
@@ -134,4 +132,4 @@ returns-in-Creating c =
     ∙ ap (option_map standing_of) found
     ∙ ap (λ (p : Phase). option_map standing_of (Some (standing.On c.in-On.circuit p))) c.in-Creating.is in
     subst (λ (r : Result (Unit {0}) Refusal). (sent : List Sending) × ClientUnsubscribes x s r sent c.forget-in-Creating.new.self) (sym c.forget-in-Creating.ensures.ok)
-        (cancelled-there x s d (Some (On c.in-On.circuit (phase.Creating c.in-Creating.field-0))) c.forget-in-Creating.new.self stands at refl c.forget-in-Creating.ensures.freed)
+    (cancelled-there x s d (Some (On c.in-On.circuit (phase.Creating c.in-Creating.field-0))) c.forget-in-Creating.new.self stands at refl c.forget-in-Creating.ensures.freed)
