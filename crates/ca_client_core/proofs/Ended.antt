@@ -26,10 +26,10 @@ use Rattle.ca_requests.proofs.Tables.{true_or_false}
 abbrev pub named_of : (Phase → Bool) → Handle → Option (Handle × Channel) → List Handle
 named_of test c o = filter_map (named_by test c) (option_to_list o)
 
-named-not : (test : Phase → Bool) (c h : Handle) (v : Channel) → is_on_in test c v ≡ false → named_of test c (Some (h, v)) ≡ []
+pub named-not : (test : Phase → Bool) (c h : Handle) (v : Channel) → is_on_in test c v ≡ false → named_of test c (Some (h, v)) ≡ []
 named-not test c h v other = rw other refl
 
-named-yes : (test : Phase → Bool) (c h : Handle) (v : Channel) → is_on_in test c v ≡ true → named_of test c (Some (h, v)) ≡ h ∷ []
+pub named-yes : (test : Phase → Bool) (c h : Handle) (v : Channel) → is_on_in test c v ≡ true → named_of test c (Some (h, v)) ≡ h ∷ []
 named-yes test c h v named = rw named refl
 
 module _ (f : Sought → Handle → Sought) (test : Phase → Bool) (g : Option Channel → Option Channel) (c : Handle) where

@@ -12,3 +12,4 @@ pub mod Quoted
 pub mod Placing
 pub mod Endings
 pub mod Cleared
+pub mod Listing

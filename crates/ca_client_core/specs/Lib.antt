@@ -12,3 +12,5 @@ pub mod Puts
 pub mod Notices
 pub mod Turns
 pub mod Clearing
+pub mod Listed
+pub mod Closings

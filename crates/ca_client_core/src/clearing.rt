@@ -85,12 +85,7 @@ impl ClientCore {
     }
 
     // A live channel is cleared: its CLEAR_CHANNEL goes out. Without memory nothing changes.
-    fn clear_live(
-        &mut self,
-        channel: Handle,
-        circuit: Handle,
-        sid: u32,
-    ) -> Result<Notices, Refusal>
+    fn clear_live(&mut self, channel: Handle, circuit: Handle, sid: u32) -> Result<Notices, Refusal>
         requires { WasLiveOn channel circuit self.old }
         ensures { ClearsLive self.old channel circuit sid result self.new }
     {

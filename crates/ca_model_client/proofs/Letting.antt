@@ -200,7 +200,7 @@ module _ (c : Handle) (x : Client) where
   )
 
   -- a channel that is on a circuit now was on it, and that is another
-  ended-back : (k : Handle) (w : Channel) (on : Handle) (p : Phase) → under (channels_ended c x).channels k ≡ Some w → w.standing ≡ On on p → (under x.channels k ≡ Some w) × (on ≡ c → ⊥)
+  pub ended-back : (k : Handle) (w : Channel) (on : Handle) (p : Phase) → under (channels_ended c x).channels k ≡ Some w → w.standing ≡ On on p → (under x.channels k ≡ Some w) × (on ≡ c → ⊥)
   ended-back k w on p is stands = elim (again-back (channels_on (λ (p : Phase). not (is_cleared p)) c x) mid k w is) [
     | inl searched ↦ absurd (nowhere (sym searched ∙ stands))
     | inr again ↦

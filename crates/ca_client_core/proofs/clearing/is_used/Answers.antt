@@ -1,4 +1,4 @@
-use Rattle.std.proofs.Common.{◌≡◌, ◌∙◌, ◌++◌, [], List, ap, arith, length, nat_eq, sym, take_all}
+use Rattle.std.proofs.Common.{◌∙◌, ◌++◌, [], List, ap, arith, length, nat_eq, sym, take_all}
 use Rattle.ca_arena.specs.declared.handle.Handle.{Handle}
 use Rattle.ca_ids.specs.Table.{Table}
 use Rattle.ca_model.specs.Client.{Channel}

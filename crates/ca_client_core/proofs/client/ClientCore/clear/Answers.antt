@@ -35,7 +35,7 @@ returns-in-Connecting c =
     let at : standing_at x h ≡ Some (On c.in-On.circuit (phase.Connecting)) =
     sym c.standing.ensures ∙ ap (option_map standing_of) found ∙ ap (λ (p : Phase). option_map standing_of (Some (standing.On c.in-On.circuit p))) c.in-Connecting.is in
     cleared-bare x c.let_unwanted_go.new.self h (On c.in-On.circuit phase.Connecting) c.none-in-Connecting.result c.none-in-Connecting.ensures at refl (bare-early x h c.in-On.circuit phase.Connecting at refl c.know.ensures)
-        (c.let_unwanted_go.ensures ∙ ap (λ (y : Client). unwanted c.in-On.circuit y) c.let_channel_go-in-Connecting.ensures)
+    (c.let_unwanted_go.ensures ∙ ap (λ (y : Client). unwanted c.in-On.circuit y) c.let_channel_go-in-Connecting.ensures)
 
 pub returns-in-Creating : goal.returns-in-Creating
 returns-in-Creating c =

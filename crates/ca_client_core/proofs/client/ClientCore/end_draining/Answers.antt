@@ -1,4 +1,4 @@
-use Rattle.std.proofs.Common.{◌∙◌, ap, sym, subst}
+use Rattle.std.proofs.Common.{ap, sym, subst}
 use Rattle.ca_requests.specs.Calls.{Issued}
 use Rattle.ca_requests.specs.Requests.{Request}
 use Rattle.ca_ids.specs.Table.{Table}
@@ -13,8 +13,9 @@ invariant_of-self c =
     let i = c.self.inside in
     record {
       client = c.self.invariant.client;
+      listed = c.self.invariant.listed;
       placed =
           subst (λ (w : Table Request × Table Subscription). ArePlaced i.channels w.0 w.1 i.circuits)
-              (λ k. (ap (λ (z : Issued). z.table) (sym c.free_channel.ensures) k, sym c.drained.ensures k))
-              ((drained-keeps c.args.circuit (plain i.channels i.requests.table i.monitors i.circuits) c.args.channel).placed c.self.invariant.placed);
+          (λ k. (ap (λ (z : Issued). z.table) (sym c.free_channel.ensures) k, sym c.drained.ensures k))
+          ((drained-keeps c.args.circuit (plain i.channels i.requests.table i.monitors i.circuits) c.args.channel).placed c.self.invariant.placed);
     }

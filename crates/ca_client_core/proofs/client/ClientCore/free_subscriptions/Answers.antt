@@ -9,7 +9,8 @@ invariant_of-self c =
     let i = c.self.inside in
     record {
       client = c.self.invariant.client;
+      listed = c.self.invariant.listed;
       placed =
           subst (λ w. ArePlaced i.channels i.requests.table w i.circuits) (sym c.free_channel.ensures)
-              ((unsubscribed-keeps c.args.channel (plain c.self.inside.channels c.self.inside.requests.table c.self.inside.monitors c.self.inside.circuits)).placed c.self.invariant.placed);
+          ((unsubscribed-keeps c.args.channel (plain c.self.inside.channels c.self.inside.requests.table c.self.inside.monitors c.self.inside.circuits)).placed c.self.invariant.placed);
     }

@@ -26,4 +26,4 @@ invariant_of-self c =
     let is : ◌≡◌ {A = Client} (record x { circuits = c.let_go.new.circuits; order = c.let_go.new.order.items }) (unwanted c.args.circuit x) =
     unwanted-there x c.args.circuit _ c.let_go.new.circuits c.let_go.new.order.items (c.is_used.ensures ∙ ap not c.if-is_used.false) (sym c.in-Some.ensures ∙ ap (λ d. Some d) (sym c.found.view_is)) c.let_go.ensures.gone c.let_go.ensures.order in
     let none : is_none (connection_at x c.args.circuit) ≡ true = subst (λ (y : Client). is_none (connection_at y c.args.circuit) ≡ true) (sym c.self.view_is) c.requires in
-    record { client = c.self.invariant.client; placed = subst (λ (y : Client). IsPlaced y) (sym is) ((keeps-unwanted c.args.circuit x none).placed c.self.invariant.placed) }
+    record { client = c.self.invariant.client; listed = c.self.invariant.listed; placed = subst (λ (y : Client). IsPlaced y) (sym is) ((keeps-unwanted c.args.circuit x none).placed c.self.invariant.placed) }

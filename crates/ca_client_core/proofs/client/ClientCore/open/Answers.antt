@@ -9,9 +9,10 @@ use Rattle.ca_ids.specs.Wire.{wire_of}
 use Rattle.ca_model.specs.Client.{Channel, Client, Searching}
 use Rattle.ca_model.specs.ClientCalls.{ClientOpens, Opening, opened}
 use Rattle.ca_client_core.proofs.Openings.{client-opened, opened-is, searched-fresh}
-use Rattle.std.proofs.Common.{◌≡◌, sym, ◌⊎◌}
+use Rattle.std.proofs.Common.{◌≡◌, sym}
 use Rattle.ca_client_core.specs.Sound.{IsSound}
 use Rattle.ca_client_core.proofs.Placing.{placed-held, refused-same}
+use Rattle.ca_client_core.proofs.Listing.{listed-opened}
 use Rattle.ca_client_core.proofs.client.ClientCore.open.Goals as goal
 
 pub invariant_of-self-2 : goal.invariant_of-self-2
@@ -28,8 +29,12 @@ invariant_of-self-2 c =
     ∙ ap (λ (es : List (ℕ × search.Channel)). es ++ (c.number-cid.result, c.new-2.result) ∷ []) c.in_ok-reserve.ensures.entries
     ∙ ap (λ (n : ℕ). c.self.inside.searches.entries ++ (n, c.new-2.result) ∷ []) cid in
     let kept = client-opened c.self.inside.channels c.open.new.self c.self.inside.searches.entries c.insert.new.self.entries q c.new.result c.new-2.result c.in-Ok.ensures.0 c.in-Ok.ensures.1 more c.self.invariant.client in
-    record { client = kept; placed =
-    placed-held c.self.inside.channels c.self.inside.requests.table c.self.inside.monitors c.self.inside.circuits c.self.invariant.placed q c.new.result c.open.new.self (ap (λ (d : Channel). d.standing) c.new.ensures) c.in-Ok.ensures.0 c.in-Ok.ensures.1 }
+    record {
+      client = kept;
+      placed =
+          placed-held c.self.inside.channels c.self.inside.requests.table c.self.inside.monitors c.self.inside.circuits c.self.invariant.placed q c.new.result c.open.new.self (ap (λ (d : Channel). d.standing) c.new.ensures) c.in-Ok.ensures.0 c.in-Ok.ensures.1;
+      listed = listed-opened c.self.inside.channels c.open.new.self c.self.inside.lives.items q c.new.result (ap (λ (d : Channel). d.standing) c.new.ensures) c.in-Ok.ensures.1 c.self.invariant.listed;
+    }
 
 pub returns : goal.returns
 returns c =
@@ -76,5 +81,5 @@ pub invariant_of-self-in-Err : goal.invariant_of-self-in-Err
 invariant_of-self-in-Err c =
     let i = c.self.inside in
     let same : c.open.new.self ≡ i.channels = refused-same i.channels c.open.new.self c.new.result _ c.in-Err.refusal c.in-Err.ensures in
-    subst (λ t. IsSound t c.reserve.new.self.entries i.requests.table i.monitors i.circuits) (sym same)
-        (subst (λ es. IsSound i.channels es i.requests.table i.monitors i.circuits) (sym c.in_ok-reserve.ensures.entries) c.self.invariant)
+    subst (λ t. IsSound t c.reserve.new.self.entries i.requests.table i.monitors i.circuits i.lives.items) (sym same)
+    (subst (λ es. IsSound i.channels es i.requests.table i.monitors i.circuits i.lives.items) (sym c.in_ok-reserve.ensures.entries) c.self.invariant)
