@@ -1,3 +1,5 @@
 pub mod Kept
 pub mod Messages
 pub mod Later
+pub mod Numbers
+pub mod Own
