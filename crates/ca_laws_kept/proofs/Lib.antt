@@ -7,3 +7,5 @@ pub mod Laters
 pub mod Numbers
 pub mod Updates
 pub mod Runs
+pub mod Channels
+pub mod Removals

@@ -3,3 +3,4 @@ pub mod Messages
 pub mod Later
 pub mod Numbers
 pub mod Own
+pub mod Channels
