@@ -9,3 +9,4 @@ pub mod Updates
 pub mod Runs
 pub mod Channels
 pub mod Removals
+pub mod Finishes

@@ -4,3 +4,4 @@ pub mod Later
 pub mod Numbers
 pub mod Own
 pub mod Channels
+pub mod Awaited
