@@ -5,6 +5,7 @@
 mod kept;
 
 pub use kept::{
-    calm_events_keep_what_is_held, updates_keep_what_is_held, what_is_kept_was_kept,
-    what_stands_came_by_messages,
+    calm_events_keep_what_is_held, channels_are_those_that_were_created,
+    finishes_keep_what_is_held, removals_keep_what_is_held, steps_keep_what_others_hold,
+    updates_keep_what_is_held, what_is_kept_was_kept, what_stands_came_by_messages,
 };
