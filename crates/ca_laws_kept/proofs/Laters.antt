@@ -26,9 +26,9 @@ use Rattle.ca_laws_runs.proofs.CalmEvents.{keeps-calm}
 use Rattle.ca_laws_runs.proofs.Handled.{like-held}
 use Rattle.ca_laws_runs.proofs.Servers.{server-held}
 use Rattle.ca_laws_writes.specs.Seats.{Sound, TakesSent}
+use Rattle.ca_laws_kept.specs.Own.{IsOwnPlace}
 use Rattle.ca_laws_kept.specs.Kept.{kept}
 use Rattle.ca_laws_kept.specs.Later.{IsLater, stamped_told}
-use Rattle.ca_laws_kept.proofs.PutEvents.{IsOwnPlace}
 use Rattle.ca_laws_kept.proofs.Thins.{kept-from}
 use Rattle.ca_laws_writes.proofs.Midway.{set-here}
 use Rattle.ca_laws_writes.proofs.Moves.{same-or}

@@ -4,3 +4,9 @@ pub mod PutEvents
 pub mod Thins
 pub mod Messages
 pub mod Laters
+pub mod Numbers
+pub mod Updates
+pub mod Runs
+pub mod Channels
+pub mod Removals
+pub mod Finishes

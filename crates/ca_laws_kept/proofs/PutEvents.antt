@@ -25,12 +25,8 @@ use Rattle.ca_laws_writes.proofs.HappensClient.{begun-frame, clear-frame, cut-fr
 use Rattle.ca_laws_writes.proofs.Frames.{Frame}
 use Rattle.ca_laws_writes.proofs.LastingStep.{told-servers}
 use Rattle.ca_laws_writes.proofs.Midway.{set-here}
+use Rattle.ca_laws_kept.specs.Own.{IsOwnPlace}
 use Rattle.ca_laws_kept.proofs.Puts.{PutIn, PutsBack, ServersBack, puts-acted, puts-added, puts-begun, puts-filter, puts-next, servers-after, servers-same, servers-set}
-
--- the place of the message that a server's end handles in this event, on circuit n
-abbrev pub IsOwnPlace : World → Event → (n p : ℕ) → Type 0
-IsOwnPlace w (event.ServerStep k) n p = (n ≡ k) × ((j : Joined) → At w.circuits k j → p ≡ length j.lists.handled)
-IsOwnPlace w e n p = ⊥
 
 -- the put of that message
 abbrev pub IsOwnPut : World → Event → PutPlace → Type 0

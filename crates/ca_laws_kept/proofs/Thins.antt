@@ -23,9 +23,10 @@ use Rattle.ca_laws_writes.proofs.Every.{event-sound}
 use Rattle.ca_laws_writes.proofs.Lasting.{AllEnds, Begins}
 use Rattle.ca_laws_writes.proofs.LastingAll.{OnStep, event-by}
 use Rattle.ca_laws_writes.proofs.Lists.{In-kept, beside-left, beside-right, kept-in, none_at}
+use Rattle.ca_laws_kept.specs.Own.{IsOwnPlace}
 use Rattle.ca_laws_kept.specs.Kept.{has_channel, is_kept, kept, kept_of, put_places, records_at, sid_at}
 use Rattle.ca_laws_kept.proofs.Puts.{HasPut, In-map, In-mapped, In-parts, In-right, PutIn, have-places, places-have}
-use Rattle.ca_laws_kept.proofs.PutEvents.{IsOwnPlace, IsOwnPut, leaves-back}
+use Rattle.ca_laws_kept.proofs.PutEvents.{IsOwnPut, leaves-back}
 use Rattle.ca_laws_kept.proofs.Since.{Grows, Since, grows-same, since-handled, since-lasting}
 use Rattle.ca_laws_writes.proofs.Lists.{In-append}
 
@@ -95,7 +96,7 @@ records-there w j y at = ap (λ (o : Option ServerSide). unwrap_or (option_map (
 
 -- ---- an open channel
 
-any-at : {A : Type 0} (test : A → Bool) (xs : List A) → list_any test xs ≡ true → (x : A) × In xs x × (test x ≡ true)
+pub any-at : {A : Type 0} (test : A → Bool) (xs : List A) → list_any test xs ≡ true → (x : A) × In xs x × (test x ≡ true)
 any-at test [] e = absurd cc
 any-at {A} test (x ∷ xs) e = go (test x) refl e (λ h. any-at test xs h)
   where
