@@ -15,3 +15,4 @@ pub mod Handles
 pub mod HandleEvents
 pub mod Finish
 pub mod Runs
+pub mod Fits
