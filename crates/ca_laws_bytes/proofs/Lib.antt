@@ -16,3 +16,5 @@ pub mod HandleEvents
 pub mod Finish
 pub mod Runs
 pub mod Fits
+pub mod Speaks
+pub mod HearSpeaks

@@ -43,3 +43,7 @@ pub record ClientFits (x : Client) : Type 0 where
 -- all that is sent are messages
 abbrev pub AllMessages : List Sending → Type 0
 AllMessages sent = (i : ℕ) (s : Sending) → At sent i s → IsMessage s.message
+
+-- A client is so after it sent these, and they are messages.
+abbrev pub Speaks : Client → List Sending → Type 0
+Speaks y sent = ClientFits y × AllMessages sent
