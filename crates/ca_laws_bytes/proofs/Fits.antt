@@ -1,26 +1,24 @@
 -- What a client's core is made of fits messages, whatever it does to its tables.
-use Rattle.std.proofs.Common.{◌≡◌, ℕ, zero, suc, ◌+◌, ◌*◌, ◌%◌, ◌^◌, ◌<◌, ◌≤◌, ◌⊎◌, inl, inr, Bool, true, false, cond, eqb, List, [], ◌∷◌, ◌++◌, length, Option, Some, None, refl, sym, ap, ◌∙◌, subst, arith}
-use Rattle.std.specs.Prelude.{◌==◌, fold, is_none, map, not, option_map, replicate, unwrap_or}
+use Rattle.std.proofs.Common.{◌≡◌, ℕ, zero, suc, ◌%◌, ◌^◌, ◌<◌, ◌≤◌, inl, inr, Bool, true, false, cond, eqb, List, [], ◌∷◌, ◌++◌, length, Option, Some, None, refl, sym, subst, arith}
+use Rattle.std.specs.Prelude.{◌==◌, fold, not, option_map, unwrap_or}
 use Rattle.std.proofs.lemmas.List.{length-append}
 use Rattle.ca_arena.specs.declared.handle.Handle.{Handle}
-use Rattle.ca_ids.specs.Table.{MayGive, Table, same_handle, under, with_all, with_all_freed, with_changed, with_freed, with_held}
+use Rattle.ca_ids.specs.Table.{MayGive, Table, under, with_all, with_all_freed, with_changed, with_freed, with_held}
 use Rattle.ca_ids.specs.Wire.{wire_of}
 use Rattle.ca_monitor.specs.Subscriptions.{Stage, Subscription, is_to}
 use Rattle.ca_monitor.specs.Subscriptions as monitor
-use Rattle.ca_requests.specs.Requests as request
 use Rattle.ca_search.specs.Searcher.{with_one, without}
 use Rattle.ca_search.specs.Searcher as searcher
 use Rattle.ca_search.specs.Searches as search
-use Rattle.ca_text.specs.Limits.{arena_slots, channel_name_limit, payload_limit, priority_limit}
-use Rattle.ca_text.specs.Place.{At}
-use Rattle.ca_text.proofs.Places.{At-mapped, At-parts, At-snoc, At-within, some_is}
-use Rattle.ca_wire.specs.Fields.{Fields, IsPayload}
+use Rattle.ca_text.specs.Limits.{arena_slots, channel_name_limit, payload_limit}
+use Rattle.ca_text.proofs.Places.{At-mapped, At-parts, At-within, some_is}
+use Rattle.ca_wire.specs.Fields.{IsPayload}
 use Rattle.ca_wire.specs.Message.{IsMessage}
 use Rattle.ca_wire.specs.Messages.{text_payload}
-use Rattle.ca_wire.proofs.Padding.{message-of, padded-payload}
+use Rattle.ca_wire.proofs.Padding.{padded-payload}
 use Rattle.ca_model.specs.Answers.{Sending}
 use Rattle.ca_model.specs.Client.{Channel, Client, ClientCircuit, Connection, Connecting, Creating, Doomed, Clearing, Leaving, Live, Native, On, Phase, Searching, Standing, channels_ended, channels_on, disconnected, ended, found_on, is_cleared, let_go, on_connection, searched_again, sending, with_one_sent, with_standing, without_channel, without_circuit, without_ids}
-use Rattle.ca_model.specs.ClientCalls.{unsubscribed, unsubscribed_all, unwanted, all_over, cleared}
+use Rattle.ca_model.specs.ClientCalls.{unsubscribed_all, unwanted, all_over, cleared}
 use Rattle.ca_model.specs.Ends.{Peer}
 use Rattle.ca_laws_circuit.proofs.Tables.{all-back, all-freed-back, changed-back, freed-back, held-back, under-at}
 use Rattle.ca_laws_bytes.specs.Speaks.{AllMessages, ChannelFits, CircuitFits, ClientFits, Holds, SearchesFit, SubscriptionFits}

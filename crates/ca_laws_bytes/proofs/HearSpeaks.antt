@@ -1,50 +1,26 @@
 -- All that a client sends as it hears a message are messages, and its core fits messages after that.
-use Rattle.std.proofs.Common.{◌≡◌, ℕ, zero, suc, ◌+◌, ◌*◌, ◌%◌, ◌^◌, ◌<◌, ◌≤◌, ◌⊎◌, inl, inr, Bool, true, false, ◌==◌, ◌&&◌, ◌||◌, cond, List, [], ◌∷◌, ◌++◌, length, Option, Some, None, refl, sym, ap, ◌∙◌, subst, arith}
-use Rattle.std.specs.Prelude.{Ok, filter, filter_map, find, fold, is_none, map, nat_le, nat_lt, not, option_and_then, option_map, option_to_list, unwrap_or}
-use Rattle.std.proofs.lemmas.Bool.{both_ways, eqb-true, ltb-false}
-use Rattle.std.proofs.lemmas.List.{length-append, length-replicate}
+use Rattle.std.proofs.Common.{◌≡◌, ℕ, zero, suc, ◌^◌, ◌<◌, ◌≤◌, inl, inr, Bool, true, false, ◌==◌, ◌&&◌, cond, List, [], ◌∷◌, length, Option, Some, None, refl, sym, ap, ◌∙◌, subst}
+use Rattle.std.specs.Prelude.{filter, option_and_then, option_map}
 use Rattle.ca_arena.specs.declared.handle.Handle.{Handle}
-use Rattle.ca_dbr.specs.declared.data_type.DataType.{DataType}
-use Rattle.ca_dbr.specs.Elements.{Elements, base_of, bytes_of, count_of}
-use Rattle.ca_dbr.specs.Types.{base_number, type_number}
-use Rattle.ca_dbr.proofs.OneReading.{base_number-small}
-use Rattle.ca_dbr.proofs.Valued.{type_number-small}
-use Rattle.ca_ids.specs.Table.{MayGive, by_wire, held, is_full, same_handle, under, with_all, with_freed}
+use Rattle.ca_ids.specs.Table.{by_wire, held, same_handle, under, with_freed}
 use Rattle.ca_ids.specs.Wire.{wire_of}
-use Rattle.ca_link.specs.Link.{TakesFirst, with_given, with_rest}
-use Rattle.ca_monitor.specs.ReadRun.{sent_by_read}
 use Rattle.ca_monitor.specs.Subscriptions.{Cancelled, Ended, Stage, Subscription, is_to, standing_to, stands_in, with_stage}
 use Rattle.ca_monitor.specs.Subscriptions as monitor
 use Rattle.ca_requests.specs.Requests.{Request, answered_by}
 use Rattle.ca_requests.specs.Requests as request
-use Rattle.ca_search.specs.Clock.{fresh}
-use Rattle.ca_search.specs.Searches as search
 use Rattle.ca_text.specs.Command.{command_number}
-use Rattle.ca_text.specs.declared.command.Command.{Command}
 use Rattle.ca_text.specs.declared.command.Command.TheVariants as command
-use Rattle.ca_text.specs.declared.refusal.Refusal.{Refusal}
-use Rattle.ca_text.specs.declared.refusal.Refusal.TheVariants as refusal
-use Rattle.ca_text.specs.Limits.{arena_slots, channel_name_limit, payload_limit, priority_limit}
+use Rattle.ca_text.specs.Limits.{channel_name_limit}
 use Rattle.ca_text.specs.Place.{At}
-use Rattle.ca_text.proofs.Places.{At-mapped, At-snoc, some_is}
+use Rattle.ca_text.proofs.Places.{At-mapped, some_is}
 use Rattle.ca_wire.specs.declared.header.Header.{Header}
-use Rattle.ca_wire.specs.declared.requests.Wanted.{Wanted}
-use Rattle.ca_wire.specs.Fields.{Fields, IsPayload}
-use Rattle.ca_wire.specs.Header.{number16}
+use Rattle.ca_wire.specs.Fields.{Fields}
 use Rattle.ca_wire.specs.Message.{IsMessage}
-use Rattle.ca_wire.specs.Messages.{bare, clear_request, create_request, event_add_request, event_cancel_request, mask_payload, name_request, put_request, read_request, version_request}
-use Rattle.ca_wire.proofs.Padding.{message-of, padded-payload}
 use Rattle.ca_model.specs.Answers.{Notice, Sending}
-use Rattle.ca_model.specs.Client.{Channel, Client, ClientCircuit, Clearing, Connecting, Connection, Creating, Doomed, Leaving, Live, Native, On, Phase, Searching, Standing, channel_on, connection_at, circuit_to, found_on, is_on_in, later, new_circuit, phase_on, searched_again, sending, standing_at, with_requests, with_standing, without_channel}
-use Rattle.ca_model.specs.ClientCalls.{ClientClears, ClientOpens, ClientPuts, ClientReads, ClientSubscribes, ClientUnsubscribes, ClientWrites, Does, LiveChannel, Opening, Shape, ask_fault, cancel_sent, cleared, clearing_sent, fault_at, first_refusal, is_misfit, is_over, put_fault, unsubscribed}
-use Rattle.ca_model.specs.ClientEnds.{is_connecting}
-use Rattle.ca_model.specs.Faults.{all_types, type_of}
-use Rattle.ca_records.specs.Rules.{may_read, may_write}
+use Rattle.ca_model.specs.Client.{Channel, Client, ClientCircuit, Clearing, Connecting, Connection, Creating, Doomed, Leaving, Live, Native, On, Phase, Searching, Standing, channel_on, circuit_to, found_on, new_circuit, phase_on, searched_again, with_requests, with_standing, without_channel}
 use Rattle.ca_laws_circuit.specs.Held.{AreFew}
-use Rattle.ca_laws_circuit.proofs.Clears.{found-standing}
 use Rattle.ca_laws_circuit.proofs.Tables.{find-at, held-under}
-use Rattle.ca_laws_runs.proofs.Ending.{stands-as}
-use Rattle.ca_laws_bytes.specs.Speaks.{AllMessages, ChannelFits, CircuitFits, ClientFits, SearchesFit, Speaks, SubscriptionFits}
+use Rattle.ca_laws_bytes.specs.Speaks.{AllMessages, ChannelFits, CircuitFits, ClientFits, Speaks, SubscriptionFits}
 use Rattle.ca_laws_bytes.proofs.Fits.{fits-circuits, fits-like, fits-sending, found-fits, gone-fits, holds-all-freed, holds-freed, holds-held, never-live, none-sent, not-clearing, one-more, searched-fits, standing-fits, subscriptions-fit, wire-under}
 use Rattle.ca_laws_bytes.proofs.Speaks.{add-good, clear-good, create-good}
 use Rattle.ca_laws_circuit.proofs.Tables as circuit
