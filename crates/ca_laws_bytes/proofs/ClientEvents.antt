@@ -1,5 +1,5 @@
 -- Events at a client keep bytes as messages: its calls, what is handed out, datagrams, a step, a cut, and a new life.
-use Rattle.std.proofs.Common.{◌≡◌, ℕ, suc, zero, ◌+◌, ◌⊎◌, inl, inr, Bool, true, false, ◌&&◌, cond, eqb, List, [], ◌∷◌, ◌++◌, Option, Some, None, refl, sym, ap, ◌∙◌, subst, arith}
+use Rattle.std.proofs.Common.{◌≡◌, ℕ, ◌+◌, inl, inr, Bool, true, false, ◌&&◌, cond, eqb, List, [], ◌∷◌, ◌++◌, Option, Some, None, refl, sym, ap, ◌∙◌, subst}
 use Rattle.std.specs.Prelude.{is_none, length, map, slice_set}
 use Rattle.std.proofs.lemmas.Bool.{and_from, both_ways, cases_Bool, eq-eqb, eqb-true}
 use Rattle.std.proofs.lemmas.List.{append-nil, length-append}
@@ -12,7 +12,7 @@ use Rattle.ca_text.specs.Place.{At}
 use Rattle.ca_text.proofs.Places.{At-mapped}
 use Rattle.ca_text.specs.declared.refusal.Refusal.{Refusal}
 use Rattle.ca_wire.specs.Fields.{Fields}
-use Rattle.ca_model.specs.Answers.{Closed, Closing, NeedBytes, Notice, Notices, Sending, Stepped}
+use Rattle.ca_model.specs.Answers.{Closed, Closing, NeedBytes, Notices, Sending, Stepped}
 use Rattle.ca_model.specs.Client.{Client, Connection, connection_at, ended, later, out_bytes}
 use Rattle.ca_model.specs.ClientEnds.{EndsFor, Receives, ReceivesAll, StepsOn, after_taking}
 use Rattle.ca_model.specs.ClientEnds as ends
@@ -20,14 +20,14 @@ use Rattle.ca_model.specs.Ends.{Address}
 use Rattle.ca_model.specs.Hears.{Effect}
 use Rattle.ca_model.specs.History.{Intent, Line, Step}
 use Rattle.ca_model.specs.History as history
-use Rattle.ca_model_world.specs.ClientEvents.{HappensClear, HappensClientDatagram, HappensClientRestart, HappensClientStep, HappensCutClient, HappensHandingOut, HappensOpen, HappensRead, HappensSubscribe, HappensUnsubscribe, HappensWrite, HappensWriteNotify, Outcomes, about_at, client_after, client_closed, client_ended, client_gone, client_stepped, heard_in, lines_of, refused, with_request}
+use Rattle.ca_model_world.specs.ClientEvents.{HappensClear, HappensClientDatagram, HappensClientRestart, HappensClientStep, HappensCutClient, HappensHandingOut, HappensOpen, HappensRead, HappensSubscribe, HappensUnsubscribe, HappensWrite, HappensWriteNotify, Outcomes, about_at, client_after, client_closed, client_ended, client_gone, client_stepped, heard_in, lines_of, refused}
 use Rattle.ca_model_world.specs.World.{ClientSide, Joined, Names, ServerSide, World, addresses, client_begun, log_length, with_circuit, with_client}
 use Rattle.ca_model_client.proofs.Handles.{same-itself}
 use Rattle.ca_laws_runs.specs.Circuit.{sent_to}
 use Rattle.ca_laws_runs.specs.Clients.{ClientsStand}
 use Rattle.ca_model_client.proofs.Thinner.{number-or}
 use Rattle.ca_laws_bytes.specs.Worlds.{AllStream, StreamsOn, client_end, sent_up, server_end}
-use Rattle.ca_laws_bytes.proofs.Clients.{called, client-acts, client-ends, client-kept, client-shut, client-took, connected-so, on-shut, out-of, spoke, stepped, up-open, up-shut}
+use Rattle.ca_laws_bytes.proofs.Clients.{called, client-acts, client-ends, client-kept, client-shut, client-took, connected-so, out-of, spoke, stepped, up-open, up-shut}
 use Rattle.ca_laws_bytes.proofs.Links.{AllGoOn, GoesOn, clear-goes, connection-other, connection-own, ended-goes, finds-goes, goes-itself, goes-then, hears-goes, messages_on, effect-goes, messages-both, open-goes, put-goes, read-goes, subscribe-goes, unsubscribe-goes, write-goes}
 use Rattle.ca_laws_bytes.proofs.Streaming.{Acts}
 

@@ -1,18 +1,18 @@
 -- What an event at a client does to the ends of its circuits, and that bytes are as messages after it.
-use Rattle.std.proofs.Common.{◌≡◌, ℕ, suc, zero, ◌+◌, ◌⊎◌, inl, inr, Bool, true, false, ◌&&◌, cond, eqb, List, [], ◌∷◌, ◌++◌, Option, Some, None, refl, sym, ap, ◌∙◌, subst, arith}
+use Rattle.std.proofs.Common.{◌≡◌, ℕ, ◌+◌, inl, inr, Bool, true, false, ◌&&◌, cond, eqb, List, [], ◌∷◌, ◌++◌, Option, Some, None, refl, sym, ap, ◌∙◌, subst}
 use Rattle.std.specs.Prelude.{filter, is_none, length, map, option_map, slice_set, unwrap_or}
 use Rattle.std.proofs.lemmas.Bool.{and_from, both_ways, cases_Bool, eq-eqb, eqb-true}
-use Rattle.std.proofs.lemmas.List.{append-nil, length-append}
+use Rattle.std.proofs.lemmas.List.{append-nil}
 use Rattle.ca_arena.specs.declared.handle.Handle.{Handle}
 use Rattle.ca_ids.specs.Table.{same_handle}
 use Rattle.ca_text.specs.Place.{At}
-use Rattle.ca_text.proofs.Places.{At-map, At-mapped, At-one, At-set, At-set-other, At-within}
+use Rattle.ca_text.proofs.Places.{At-mapped, At-one, At-set, At-set-other, At-within}
 use Rattle.ca_wire.specs.Fields.{Fields}
 use Rattle.ca_wire.specs.Message.{Spells, spelled}
 use Rattle.ca_model.specs.Answers.{Sending}
 use Rattle.ca_model.specs.Client.{Client, Connection, connection_at, out_bytes}
-use Rattle.ca_model.specs.History.{Circuit, Sent, Told}
-use Rattle.ca_model_world.specs.ClientEvents.{Outcomes, client_after, client_closed, sent_on, waiting_down, waiting_up}
+use Rattle.ca_model.specs.History.{Sent}
+use Rattle.ca_model_world.specs.ClientEvents.{Outcomes, client_after, sent_on, waiting_up}
 use Rattle.ca_model_world.specs.World.{ClientSide, Joined, Names, ServerSide, World, with_circuit}
 use Rattle.ca_laws_runs.specs.Circuit.{sent_to, stamped}
 use Rattle.ca_laws_runs.specs.Clients.{ClientsStand}
@@ -20,7 +20,7 @@ use Rattle.ca_model_client.proofs.Thinner.{number-or, set-there}
 use Rattle.ca_laws_bytes.specs.Streams.{CircuitEnd, Meets}
 use Rattle.ca_laws_bytes.specs.Worlds.{AllStream, StreamsOn, came_to, client_end, sent_up, server_end}
 use Rattle.ca_laws_bytes.proofs.Links.{AllGoOn, GoesOn, messages_on}
-use Rattle.ca_laws_bytes.proofs.Streaming.{Acts, Reads, close-acts, meets-on, open-acts, shut-acts}
+use Rattle.ca_laws_bytes.proofs.Streaming.{Acts, close-acts, meets-on, open-acts, shut-acts}
 
 -- ---- lists
 

@@ -1,41 +1,34 @@
 -- Bytes that come to a client keep bytes as messages.
-use Rattle.std.proofs.Common.{◌≡◌, ℕ, suc, zero, ◌⊎◌, inl, inr, Bool, true, false, ◌&&◌, cond, eqb, List, [], ◌∷◌, ◌++◌, Option, Some, None, refl, sym, ap, ◌∙◌, subst}
-use Rattle.std.specs.Prelude.{Ok, Result, drop, is_none, is_some, length, map, option_map, slice_set, take, unwrap_or, nat_lt}
-use Rattle.std.proofs.lemmas.Bool.{both_ways, cases_Bool}
+use Rattle.std.proofs.Common.{◌≡◌, ℕ, inl, inr, Bool, true, false, List, [], ◌++◌, Option, Some, None, refl, sym, ap, ◌∙◌, subst}
+use Rattle.std.specs.Prelude.{Ok, drop, is_none, length, slice_set, take, nat_lt}
 use Rattle.std.proofs.lemmas.List.{append-nil}
 use Rattle.ca_arena.specs.declared.handle.Handle.{Handle}
-use Rattle.ca_ids.specs.Table.{MayGive, same_handle, under, with_changed}
-use Rattle.ca_link.specs.Link.{LinkState, with_given, with_handed}
+use Rattle.ca_ids.specs.Table.{same_handle, under}
+use Rattle.ca_link.specs.Link.{with_given, with_handed}
 use Rattle.ca_text.specs.Place.{At}
-use Rattle.ca_text.specs.declared.refusal.Refusal.{Refusal}
-use Rattle.ca_text.proofs.Places.{At-last, At-mapped, At-one, At-set, At-set-other, At-snoc, At-within, some_is}
-use Rattle.ca_wire.specs.Fields.{Fields}
-use Rattle.ca_wire.specs.Message.{spelled}
+use Rattle.ca_text.proofs.Places.{At-mapped, At-one, At-set, At-within}
 use Rattle.ca_monitor.specs.ReadRun.{after_read}
-use Rattle.ca_model.specs.Answers.{Closing, Sending}
-use Rattle.ca_model.specs.Client.{Client, ClientCircuit, Connection, connection_at, ended, on_connection, out_bytes, sending}
-use Rattle.ca_model.specs.ClientEnds.{ConnectsOn, GivesOn, begun, creations, flow_sent, given, handed_over, new_connection, set_up}
+use Rattle.ca_model.specs.Answers.{Sending}
+use Rattle.ca_model.specs.Client.{Client, Connection, connection_at}
+use Rattle.ca_model.specs.ClientEnds.{GivesOn, flow_sent, given}
 use Rattle.ca_model.specs.History as history
-use Rattle.ca_model.specs.Server.{Open, Server, ServerCircuit, ServerEnd, new_end}
-use Rattle.ca_model.specs.ServerSteps.{Accepts, Gives, HasEnd, Sends, with_end}
-use Rattle.ca_model_world.specs.ClientEvents.{DownTaken, HappensAccept, HappensDown, HappensUp, Outcomes, WantsFirst, client_after, client_closed, connected_as, lines_of, new_circuit, sent_on, told_by, up_taken, waiting_down, waiting_up}
-use Rattle.ca_model_world.specs.World.{ClientSide, Joined, Names, ServerSide, World, with_circuit, with_client, with_server}
-use Rattle.ca_model_client.proofs.Handles.{handle-or, same-itself}
-use Rattle.ca_model_client.proofs.Tables.{changed-other, changed-own, held-other, held-own}
+use Rattle.ca_model.specs.Server.{Server, ServerEnd}
+use Rattle.ca_model.specs.ServerSteps.{HasEnd, Sends}
+use Rattle.ca_model_world.specs.ClientEvents.{HappensDown, client_after, waiting_down, waiting_up}
+use Rattle.ca_model_world.specs.World.{ClientSide, Joined, ServerSide, World, with_circuit, with_server}
+use Rattle.ca_model_client.proofs.Handles.{same-itself}
 use Rattle.ca_laws_runs.specs.Circuit.{sent_to}
 use Rattle.ca_laws_runs.specs.Clients.{ClientsStand}
-use Rattle.ca_laws_runs.proofs.ClientsMore.{unconnected-is, wanted-there}
 use Rattle.ca_model_client.proofs.Thinner.{number-or, set-there}
 use Rattle.ca_laws_writes.specs.Seats.{Seated}
-use Rattle.ca_laws_bytes.specs.Streams.{CircuitEnd, Meets, Streams}
+use Rattle.ca_laws_bytes.specs.Streams.{CircuitEnd, Meets}
 use Rattle.ca_laws_bytes.specs.Worlds.{AllStream, StreamsOn, came_to, client_end, input_of, sent_down, sent_up, server_end}
-use Rattle.ca_laws_bytes.proofs.ClientEvents.{same-streams}
-use Rattle.ca_laws_bytes.proofs.Clients.{client-open, client-shut, connected-so, on-shut, on-other, out-of, spoke, up-shut, waits-open, waits-shut, came-so}
-use Rattle.ca_laws_bytes.proofs.Moves.{both-on, client-or, given-bytes, quiet-client, quiet-server, server-or}
-use Rattle.ca_laws_bytes.proofs.Links.{AllGoOn, GoesOn, at-circuit, circuit-of, connection-other, connection-own, ended-goes, goes-does, goes-itself, goes-sending, goes-then, messages_on}
-use Rattle.ca_laws_bytes.proofs.ServerEnds.{Stays, end-own, go-end, open-one}
-use Rattle.ca_laws_bytes.proofs.Servers.{seat-of, server-came, server-left, server-open, server-shut, server-waits}
-use Rattle.ca_laws_bytes.proofs.Streaming.{Acts, acts-itself, meets-moved, meets-on, meets-on-back, meets-new, meets-turned, streams-new}
+use Rattle.ca_laws_bytes.proofs.Clients.{connected-so, on-other, spoke, waits-open, came-so}
+use Rattle.ca_laws_bytes.proofs.Moves.{both-on, client-or, given-bytes, quiet-server, server-or}
+use Rattle.ca_laws_bytes.proofs.Links.{AllGoOn, connection-other, connection-own, goes-does, goes-itself, goes-then, messages_on}
+use Rattle.ca_laws_bytes.proofs.ServerEnds.{Stays, end-own, go-end}
+use Rattle.ca_laws_bytes.proofs.Servers.{seat-of, server-came, server-left, server-waits}
+use Rattle.ca_laws_bytes.proofs.Streaming.{Acts, acts-itself, meets-moved, meets-on, meets-turned}
 
 module _ (w : World) (k n : ℕ) (j : Joined) (x : ClientSide) (y : ServerSide) (on : At w.circuits k j) (client : At w.clients j.client x) (server : At w.servers j.server y) (opened : j.lists.client_open ≡ true) (s : ClientsStand w) (seated : Seated w) (all : AllStream w) where
   apart : (l : ℕ) (a : Joined) → At w.circuits l a → (l ≡ k → ⊥) → a.client ≡ j.client → a.lists.client_open ≡ true → a.at_client ≡ j.at_client → ⊥

@@ -1,27 +1,26 @@
 -- The finish of a busy put keeps bytes as messages, and handles: its reply goes down the circuit on which the put came.
-use Rattle.std.proofs.Common.{◌≡◌, ℕ, zero, suc, ◌⊎◌, inl, inr, Bool, true, false, ◌&&◌, cond, List, [], ◌∷◌, ◌++◌, Option, Some, None, refl, sym, ap, ◌∙◌, subst}
-use Rattle.std.specs.Prelude.{Ok, map, option_map, slice_get, slice_set, unwrap_or}
-use Rattle.std.proofs.lemmas.Bool.{both_ways, cases_Bool}
+use Rattle.std.proofs.Common.{◌≡◌, ℕ, ◌⊎◌, inl, inr, true, List, [], ◌∷◌, ◌++◌, Option, Some, None, refl, sym, ap, ◌∙◌, subst}
+use Rattle.std.specs.Prelude.{map, option_map, slice_get, slice_set, unwrap_or}
+use Rattle.std.proofs.lemmas.Bool.{cases_Bool}
 use Rattle.std.proofs.lemmas.List.{append-nil}
 use Rattle.ca_arena.specs.declared.handle.Handle.{Handle}
 use Rattle.ca_ids.specs.Table.{under}
 use Rattle.ca_records.specs.declared.puts.Put.{Put}
-use Rattle.ca_records.specs.Puts.{Record, WaitingPut, record_named}
+use Rattle.ca_records.specs.Puts.{Record}
 use Rattle.ca_text.specs.Place.{At}
 use Rattle.ca_text.proofs.Places.{At-map, At-mapped, At-one, At-set, At-set-other, some_is}
 use Rattle.ca_wire.specs.Fields.{Fields}
 use Rattle.ca_model.specs.Server.{Open, Server, ServerEnd}
-use Rattle.ca_model.specs.ServerCalls.{IsAwaited, Replies, after_next, finish_reply, with_finish}
+use Rattle.ca_model.specs.ServerCalls.{Replies, after_next, finish_reply, with_finish}
 use Rattle.ca_model.specs.ServerSteps.{HasEnd}
-use Rattle.ca_model.specs.History.{Entry, Reply, Told}
+use Rattle.ca_model.specs.History.{Reply, Told}
 use Rattle.ca_model_world.specs.ServerEvents.{Finished, HappensFinish, about, ends_by, finish_entry, first_of, next_busy, next_entries, next_numbers, replied_at}
 use Rattle.ca_model_world.specs.ServerEvents as event
-use Rattle.ca_model_world.specs.World.{Joined, PutPlace, RecordSide, ServerSide, Setting, World, with_circuit}
+use Rattle.ca_model_world.specs.World.{Joined, PutPlace, ServerSide, Setting, World, with_circuit}
 use Rattle.ca_model_client.proofs.Handles.{handle-or}
 use Rattle.ca_model_client.proofs.Thinner.{thin-then}
-use Rattle.ca_model_client.proofs.Thinner.{number-or}
 use Rattle.ca_laws_writes.specs.Agrees.{Agrees, IsBusyAs, IsBusyBy, IsBusyWith}
-use Rattle.ca_laws_writes.specs.Lives.{CameOn, IsPutOf, LostOn}
+use Rattle.ca_laws_writes.specs.Lives.{CameOn, IsPutOf}
 use Rattle.ca_laws_writes.specs.Moves.{Lives, finish_told}
 use Rattle.ca_laws_writes.specs.Seats.{Sound}
 use Rattle.ca_laws_writes.proofs.Events.{found}
@@ -32,11 +31,11 @@ use Rattle.ca_laws_writes.proofs.Midway.{set-here}
 use Rattle.ca_laws_bytes.specs.Worlds.{AllStream, HandlesStand, sent_down}
 use Rattle.ca_laws_bytes.proofs.Clients.{map-both}
 use Rattle.ca_laws_bytes.proofs.Handles.{handles-after, over-by-core}
-use Rattle.ca_laws_bytes.proofs.ServerEnds.{AllGo, Goes, Stays, go-end, go-same, go-then, next-go, open-one, replies-own}
+use Rattle.ca_laws_bytes.proofs.ServerEnds.{Goes, Stays, go-end, go-then, next-go, replies-own}
 use Rattle.ca_laws_bytes.proofs.ServerEvents.{next-tells}
 use Rattle.ca_laws_bytes.proofs.ServerSteps.{map-about}
-use Rattle.ca_laws_bytes.proofs.Servers.{Like, Tells, after-streams, tells-then}
-use Rattle.ca_laws_bytes.proofs.Tables.{Thin, next-write-thin, replies-thin, thin-is, thin-server}
+use Rattle.ca_laws_bytes.proofs.Servers.{Tells, after-streams, tells-then}
+use Rattle.ca_laws_bytes.proofs.Tables.{next-write-thin, replies-thin, thin-is, thin-server}
 
 module _ (s : Setting) (w new : World) (i : ℕ) (y : ServerSide) (name : List ℕ) (at : At w.servers i y) (sound : Sound s w) (stand : HandlesStand w) (f : Finished w i y name new) where
   abbrev own : Lives w i y

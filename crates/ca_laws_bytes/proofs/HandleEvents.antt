@@ -1,45 +1,41 @@
 -- Events at a server keep the handles of its circuits.
-use Rattle.std.proofs.Common.{◌≡◌, ℕ, zero, suc, ◌<◌, ◌⊎◌, inl, inr, Bool, true, false, ◌&&◌, cond, eqb, List, [], ◌∷◌, ◌++◌, length, Option, Some, None, refl, sym, ap, ◌∙◌, subst, arith}
+use Rattle.std.proofs.Common.{◌≡◌, ℕ, ◌<◌, inl, inr, Bool, true, false, ◌&&◌, cond, eqb, List, [], ◌∷◌, ◌++◌, length, Option, Some, None, refl, sym, ap, ◌∙◌, subst, arith}
 use Rattle.std.specs.Prelude.{Ok, Result, drop, filter, map, not, option_map, slice_get, slice_set, unwrap_or}
 use Rattle.std.specs.Str.{bytes_eq}
 use Rattle.std.proofs.lemmas.Bool.{both_ways, eqb-true}
-use Rattle.std.proofs.lemmas.List.{append-nil}
 use Rattle.ca_arena.specs.declared.handle.Handle.{Handle}
 use Rattle.ca_dbr.specs.Elements.{Elements}
-use Rattle.ca_ids.specs.Table.{MayGive, Table, under}
+use Rattle.ca_ids.specs.Table.{under}
 use Rattle.ca_records.specs.Record.{RecordState}
 use Rattle.ca_text.specs.Place.{At}
 use Rattle.ca_text.specs.declared.refusal.Refusal.{Refusal}
-use Rattle.ca_text.proofs.Places.{At-map, At-mapped, At-set, At-set-other, At-snoc, At-within}
+use Rattle.ca_text.proofs.Places.{At-map, At-mapped, At-set, At-snoc, At-within}
 use Rattle.ca_ids.specs.Wire.{wire_of}
 use Rattle.ca_queue.specs.declared.entry.SubKey.{SubKey}
 use Rattle.std.specs.List.{list_any}
 use Rattle.ca_model.specs.ClientEnds.{handed_over}
 use Rattle.ca_model.specs.Due.{Action}
 use Rattle.ca_model.specs.Ends as why
-use Rattle.ca_model.specs.Answers.{Closing, Sending}
-use Rattle.ca_model.specs.Client.{Client}
+use Rattle.ca_model.specs.Answers.{Closing}
 use Rattle.ca_model.specs.History as history
-use Rattle.ca_model.specs.Server.{Open, OpenChannel, Server, ServerCircuit, new_end}
+use Rattle.ca_model.specs.Server.{OpenChannel, Server, ServerCircuit}
 use Rattle.ca_model.specs.ServerSteps.{Accepts, Next, Stepped, closed, output_of}
 use Rattle.ca_model.specs.ServerSteps as stepped
-use Rattle.ca_model_world.specs.ClientEvents.{HappensAccept, HappensDown, HappensUp, Outcomes, WantsFirst, client_after, connected_as, lines_of, new_circuit, told_by, up_taken, waiting_down}
+use Rattle.ca_model_world.specs.ClientEvents.{HappensAccept, HappensDown, HappensUp, Outcomes, WantsFirst, connected_as, lines_of, new_circuit, told_by}
 use Rattle.ca_model_world.specs.ServerEvents.{HappensAdd, HappensCutServer, HappensPost, HappensPump, HappensRemove, HappensServerRestart, ServerStepped, StepHandles, StepLacks, acted, disconnected_at, ending, ends_by, ends_here, ends_untold, handled_at, logged, numbers_after, numbers_posted, records_after, removal_told, removed_at, reported, server_after, server_closed, side_of, stamped, unsaid, without_standing, write_numbers}
 use Rattle.ca_model_world.specs.World.{ClientSide, Joined, RecordSide, ServerSide, Setting, World, server_begun, with_circuit, with_client, with_server}
 use Rattle.ca_model_client.proofs.Tables.{freed-back, held-back}
 use Rattle.ca_model_client.specs.Placed.{WasGiven}
 use Rattle.ca_laws_runs.proofs.Sending.{not-given}
 use Rattle.ca_model_client.proofs.Thinner.{given-held, given-own, thin-then}
-use Rattle.ca_model_client.proofs.Thinner.{number-or}
 use Rattle.ca_laws_writes.specs.Seats.{Sound}
-use Rattle.ca_laws_writes.proofs.Events.{same-self}
 use Rattle.ca_laws_writes.proofs.Frames.{frame-after, frame-circuit, goes-same}
 use Rattle.ca_laws_writes.proofs.Midway.{set-here}
 use Rattle.ca_laws_bytes.specs.Worlds.{HandlesStand}
 use Rattle.ca_laws_bytes.proofs.Handles.{circuit-handles, frame-handles, handles-after, over-by-core, over-here, server-handles}
 use Rattle.ca_laws_bytes.proofs.ServerEvents.{posted-tells, stamped-tells}
 use Rattle.ca_laws_bytes.proofs.ServerSteps.{acted-tells, noted-is}
-use Rattle.ca_laws_bytes.proofs.Servers.{Like, Tells, ending-like, like-itself}
+use Rattle.ca_laws_bytes.proofs.Servers.{Like, ending-like, like-itself}
 use Rattle.ca_laws_bytes.proofs.Tables.{Thin, cuts-thin, gives-thin, left-thin, next-thin, pumps-thin, reaches-thin, removal-thin, sends-thin, thin-closed, thin-each, thin-is, thin-server}
 
 itself-back : (w : World) (n : ℕ) (m : Joined) → At w.circuits n m → (c : Joined) × At w.circuits n c × Like c m × (m.lists.server_open ≡ c.lists.server_open)

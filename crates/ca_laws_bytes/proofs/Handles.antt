@@ -1,20 +1,19 @@
 -- The handles of circuits at servers stand, whatever happens.
-use Rattle.std.proofs.Common.{◌≡◌, ℕ, zero, suc, ◌+◌, ◌<◌, ◌⊎◌, inl, inr, Bool, true, false, ◌&&◌, cond, eqb, List, [], ◌∷◌, ◌++◌, length, Option, Some, None, refl, sym, ap, ◌∙◌, subst, arith}
-use Rattle.std.specs.Prelude.{is_some, map, option_map, slice_set, unwrap_or}
+use Rattle.std.proofs.Common.{◌≡◌, ℕ, ◌⊎◌, inl, inr, Bool, true, false, ◌&&◌, cond, eqb, List, Option, Some, None, refl, sym, ap, ◌∙◌, subst}
+use Rattle.std.specs.Prelude.{is_some, map, option_map, unwrap_or}
 use Rattle.std.proofs.lemmas.Bool.{both_ways, eqb-true}
 use Rattle.ca_arena.specs.declared.handle.Handle.{Handle}
-use Rattle.ca_ids.specs.Table.{Table, same_handle, under}
+use Rattle.ca_ids.specs.Table.{same_handle, under}
 use Rattle.ca_text.specs.Place.{At}
-use Rattle.ca_text.proofs.Places.{At-mapped, At-set, some_is}
-use Rattle.ca_model.specs.Server.{Ended, Open, Server, ServerCircuit}
+use Rattle.ca_text.proofs.Places.{At-mapped, At-set}
+use Rattle.ca_model.specs.Server.{Server, ServerCircuit}
 use Rattle.ca_model.specs.ServerSteps.{closed}
 use Rattle.ca_model_world.specs.ServerEvents.{ending, ends_by, ends_here, left_by, reported, server_after, server_closed}
 use Rattle.ca_model_world.specs.World.{Joined, ServerSide, World, with_circuit}
 use Rattle.ca_model_client.proofs.Handles.{same-is}
 use Rattle.ca_model_client.proofs.Tables.{all-freed-back, freed-back}
 use Rattle.ca_model_client.specs.Placed.{WasGiven}
-use Rattle.ca_model_client.proofs.Thinner.{IsThinner, given-thin, thin-then}
-use Rattle.ca_model_client.proofs.Thinner.{number-or}
+use Rattle.ca_model_client.proofs.Thinner.{given-thin, thin-then}
 use Rattle.ca_laws_writes.proofs.Frames.{Frame}
 use Rattle.ca_laws_bytes.specs.Worlds.{HandlesStand}
 use Rattle.ca_laws_bytes.proofs.Servers.{Like}
@@ -143,10 +142,13 @@ over-here j left said mid same m l is = go (same_handle m.at_server j.at_server)
     core = closed j.at_server mid
 
     by : ends_by j.server said m ≡ Some l → (m.server ≡ j.server) × ((v : ServerCircuit) → under (reported core).circuits m.at_server ≡ Some v → ⊥)
-    by e = (own-by-core j.server said m l e, λ v there.
-        let b = all-freed-back (λ (c : ServerCircuit). is_some (left_by (Some c))) core.circuits m.at_server v there in
-        let was = same m.at_server v b.0 in
-        left-over (eqb m.server j.server && m.lists.server_open) v (ap (λ (o : Option ServerCircuit). cond (eqb m.server j.server && m.lists.server_open) (left_by o) None) (sym was) ∙ e) b.1)
+    by e = (
+      own-by-core j.server said m l e,
+      λ v there.
+          let b = all-freed-back (λ (c : ServerCircuit). is_some (left_by (Some c))) core.circuits m.at_server v there in
+          let was = same m.at_server v b.0 in
+          left-over (eqb m.server j.server && m.lists.server_open) v (ap (λ (o : Option ServerCircuit). cond (eqb m.server j.server && m.lists.server_open) (left_by o) None) (sym was) ∙ e) b.1,
+    )
       where
         left-over : (b : Bool) (v : ServerCircuit) → cond b (left_by (Some v)) None ≡ Some l → is_some (left_by (Some v)) ≡ false → ⊥
         left-over true v e f = both_ways (is_some (left_by (Some v))) f (ap is_some e)

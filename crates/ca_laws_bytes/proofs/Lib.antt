@@ -15,3 +15,6 @@ pub mod Handles
 pub mod HandleEvents
 pub mod Finish
 pub mod Runs
+pub mod Fits
+pub mod Speaks
+pub mod HearSpeaks

@@ -5,10 +5,8 @@ use Rattle.std.specs.Prelude.{◌==◌, Ok, filter, fold, is_none, length, map, 
 use Rattle.std.proofs.lemmas.List.{append-nil}
 use Rattle.std.proofs.lemmas.Bool.{both_ways}
 use Rattle.ca_arena.specs.declared.handle.Handle.{Handle}
-use Rattle.ca_dbr.specs.declared.value.Outcome.{Outcome}
 use Rattle.ca_dbr.specs.Elements.{Elements}
-use Rattle.ca_ids.specs.Table.{MayGive, Table, same_handle, under, with_changed, with_freed}
-use Rattle.ca_monitor.specs.Subscriptions.{Subscription}
+use Rattle.ca_ids.specs.Table.{MayGive, Table, same_handle, under}
 use Rattle.ca_requests.specs.Requests.{Request, Stage}
 use Rattle.ca_requests.specs.Requests as request
 use Rattle.ca_text.specs.Command.{command_number}
@@ -19,12 +17,11 @@ use Rattle.ca_wire.specs.Message.{spelled}
 use Rattle.ca_model.specs.Answers.{Notice, Sending}
 use Rattle.ca_model.specs.Client.{Channel, Client, ClientCircuit, Connection, Clearing, Connecting, Creating, Doomed, Leaving, Live, On, Phase, Searching, Standing, channel_on, channels_ended, channels_on, connection_at, disconnected, ended, found_on, is_cleared, let_go, on_connection, searched_again, sending, standing_at, with_one_sent, without_channel, without_circuit, without_ids}
 use Rattle.ca_model.specs.ClientCalls.{ClientClears, ClientOpens, ClientPuts, ClientReads, ClientSubscribes, ClientUnsubscribes, ClientWrites, Does, Opening, Shape, cleared, unsubscribed, unsubscribed_all, unwanted}
-use Rattle.ca_model.specs.ClientEnds.{is_connecting}
 use Rattle.ca_model.specs.Ends.{Address}
 use Rattle.ca_model.specs.Hears.{Answers, Completes, Effect, FindsAt, Hears, PutsOn, Updates, any_failed, becomes, clear_answered, confirmed, create_sent, created, doing, failed, failing, heard_by, left, put_on, request_failed, rights_told, subscription_failed, with_circuit, write_failed}
 use Rattle.ca_model.specs.Hears as hears
 use Rattle.ca_model_client.proofs.Standings.{found-standing}
-use Rattle.ca_model_client.proofs.Handles.{handle-or, not-same, same-is}
+use Rattle.ca_model_client.proofs.Handles.{not-same, same-is}
 use Rattle.ca_model_client.proofs.Tables.{changed-other, changed-own, freed-other, held-other}
 use Rattle.ca_model_client.specs.Placed.{IsPlaced}
 use Rattle.ca_laws_bytes.proofs.Streaming.{spelled-more}
@@ -56,9 +53,6 @@ GoesOn x y h more =
 -- all ends go on, and these messages were sent
 abbrev pub AllGoOn : (x y : Client) → List Sending → Type 0
 AllGoOn x y sent = (h : Handle) → GoesOn x y h (messages_on h sent)
-
-
-
 
 pub goes-itself : (x y : Client) (h : Handle) → y.circuits ≡ x.circuits → GoesOn x y h []
 goes-itself x y h same d is =

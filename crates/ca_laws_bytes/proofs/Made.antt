@@ -1,41 +1,36 @@
 -- A circuit that is made keeps bytes as messages.
-use Rattle.std.proofs.Common.{◌≡◌, ℕ, suc, zero, ◌⊎◌, inl, inr, Bool, true, false, ◌&&◌, cond, eqb, List, [], ◌∷◌, ◌++◌, Option, Some, None, refl, sym, ap, ◌∙◌, subst}
-use Rattle.std.specs.Prelude.{Ok, Result, drop, is_none, is_some, length, map, option_map, slice_set, take, unwrap_or, nat_lt}
-use Rattle.std.proofs.lemmas.Bool.{both_ways, cases_Bool}
+use Rattle.std.proofs.Common.{◌≡◌, ℕ, inl, inr, false, List, [], ◌∷◌, ◌++◌, Option, Some, None, refl, sym, ap, ◌∙◌, subst}
+use Rattle.std.specs.Prelude.{Ok, Result, is_none, option_map, unwrap_or}
+use Rattle.std.proofs.lemmas.Bool.{both_ways}
 use Rattle.std.proofs.lemmas.List.{append-nil}
 use Rattle.ca_arena.specs.declared.handle.Handle.{Handle}
-use Rattle.ca_ids.specs.Table.{MayGive, same_handle, under, with_changed, with_held}
-use Rattle.ca_link.specs.Link.{LinkState, with_given, with_handed}
+use Rattle.ca_ids.specs.Table.{MayGive, under, with_held}
 use Rattle.ca_text.specs.Place.{At}
 use Rattle.ca_text.specs.declared.refusal.Refusal.{Refusal}
-use Rattle.ca_text.proofs.Places.{At-last, At-mapped, At-one, At-set, At-set-other, At-snoc, At-within, some_is}
-use Rattle.ca_wire.specs.Fields.{Fields}
-use Rattle.ca_wire.specs.Message.{spelled}
-use Rattle.ca_monitor.specs.ReadRun.{after_read}
+use Rattle.ca_text.proofs.Places.{At-mapped, At-snoc, At-within}
 use Rattle.ca_model.specs.Answers.{Closing, Sending}
-use Rattle.ca_model.specs.Client.{Client, ClientCircuit, Connection, connection_at, ended, on_connection, out_bytes, sending}
-use Rattle.ca_model.specs.ClientEnds.{ClientConnects, ConnectsOn, GivesOn, begun, creations, flow_sent, given, handed_over, new_connection, set_up}
+use Rattle.ca_model.specs.Client.{Client, ClientCircuit, Connection, connection_at, ended}
+use Rattle.ca_model.specs.ClientEnds.{ClientConnects, ConnectsOn, begun, new_connection}
 use Rattle.ca_model.specs.History as history
-use Rattle.ca_model.specs.Server.{Open, Server, ServerCircuit, ServerEnd, new_end}
-use Rattle.ca_model.specs.ServerSteps.{Accepts, Gives, HasEnd, Sends, with_end}
-use Rattle.ca_model_world.specs.ClientEvents.{DownTaken, HappensAccept, HappensDown, HappensUp, Outcomes, WantsFirst, client_after, client_closed, connected_as, lines_of, new_circuit, sent_on, told_by, up_taken, waiting_down, waiting_up}
-use Rattle.ca_model_world.specs.World.{ClientSide, Joined, Names, ServerSide, World, with_circuit, with_client, with_server}
-use Rattle.ca_model_client.proofs.Handles.{handle-or, same-itself}
+use Rattle.ca_model.specs.Server.{Open, Server, new_end}
+use Rattle.ca_model.specs.ServerSteps.{Accepts, HasEnd}
+use Rattle.ca_model_world.specs.ClientEvents.{HappensAccept, WantsFirst, client_after, client_closed, connected_as, lines_of, new_circuit, told_by}
+use Rattle.ca_model_world.specs.World.{ClientSide, Joined, ServerSide, World, with_server}
+use Rattle.ca_model_client.proofs.Handles.{handle-or}
 use Rattle.ca_model_client.proofs.Tables.{changed-other, changed-own, held-other, held-own}
 use Rattle.ca_laws_runs.specs.Circuit.{sent_to}
 use Rattle.ca_laws_runs.specs.Clients.{ClientsStand}
 use Rattle.ca_laws_runs.proofs.ClientsMore.{unconnected-is, wanted-there}
-use Rattle.ca_model_client.proofs.Thinner.{number-or, set-there}
+use Rattle.ca_model_client.proofs.Thinner.{set-there}
 use Rattle.ca_laws_writes.specs.Seats.{Seated}
-use Rattle.ca_laws_bytes.specs.Streams.{CircuitEnd, Meets, Streams}
-use Rattle.ca_laws_bytes.specs.Worlds.{AllStream, StreamsOn, came_to, client_end, input_of, sent_down, sent_up, server_end}
-use Rattle.ca_laws_bytes.proofs.ClientEvents.{same-streams}
-use Rattle.ca_laws_bytes.proofs.Clients.{client-open, client-shut, connected-so, on-shut, on-other, out-of, spoke, up-shut, waits-open, waits-shut, came-so}
-use Rattle.ca_laws_bytes.proofs.Moves.{both-on, client-or, given-bytes, quiet-client, quiet-server, server-or}
-use Rattle.ca_laws_bytes.proofs.Links.{AllGoOn, GoesOn, at-circuit, circuit-of, connection-other, connection-own, ended-goes, goes-does, goes-itself, goes-sending, goes-then, messages_on}
-use Rattle.ca_laws_bytes.proofs.ServerEnds.{Stays, end-own, go-end, open-one}
-use Rattle.ca_laws_bytes.proofs.Servers.{seat-of, server-came, server-left, server-open, server-shut, server-waits}
-use Rattle.ca_laws_bytes.proofs.Streaming.{Acts, acts-itself, meets-moved, meets-on, meets-on-back, meets-new, meets-turned, streams-new}
+use Rattle.ca_laws_bytes.specs.Streams.{Meets}
+use Rattle.ca_laws_bytes.specs.Worlds.{AllStream, StreamsOn, client_end, server_end}
+use Rattle.ca_laws_bytes.proofs.Clients.{on-other, spoke, up-shut, waits-open, came-so}
+use Rattle.ca_laws_bytes.proofs.Moves.{both-on, client-or, quiet-server, server-or}
+use Rattle.ca_laws_bytes.proofs.Links.{AllGoOn, GoesOn, at-circuit, circuit-of, ended-goes, goes-does, goes-itself}
+use Rattle.ca_laws_bytes.proofs.ServerEnds.{Stays}
+use Rattle.ca_laws_bytes.proofs.Servers.{seat-of, server-came, server-waits}
+use Rattle.ca_laws_bytes.proofs.Streaming.{Acts, acts-itself, meets-on, meets-new, streams-new}
 
 -- ---- a circuit is made
 

@@ -1,39 +1,31 @@
 -- Bytes that move on a circuit, and a circuit that is made, keep bytes as messages.
-use Rattle.std.proofs.Common.{◌≡◌, ℕ, suc, zero, ◌⊎◌, inl, inr, Bool, true, false, ◌&&◌, cond, eqb, List, [], ◌∷◌, ◌++◌, Option, Some, None, refl, sym, ap, ◌∙◌, subst}
-use Rattle.std.specs.Prelude.{Ok, Result, drop, is_none, is_some, length, map, option_map, slice_set, take, unwrap_or, nat_lt}
-use Rattle.std.proofs.lemmas.Bool.{both_ways, cases_Bool}
+use Rattle.std.proofs.Common.{◌≡◌, ℕ, inl, inr, Bool, true, false, cond, List, [], ◌∷◌, ◌++◌, Option, Some, refl, sym, ap, ◌∙◌, subst}
+use Rattle.std.specs.Prelude.{Ok, drop, is_none, is_some, length, slice_set, take}
+use Rattle.std.proofs.lemmas.Bool.{cases_Bool}
 use Rattle.std.proofs.lemmas.List.{append-nil}
 use Rattle.ca_arena.specs.declared.handle.Handle.{Handle}
-use Rattle.ca_ids.specs.Table.{MayGive, same_handle, under, with_changed}
+use Rattle.ca_ids.specs.Table.{same_handle, under}
 use Rattle.ca_link.specs.Link.{LinkState, with_given, with_handed}
 use Rattle.ca_text.specs.Place.{At}
-use Rattle.ca_text.specs.declared.refusal.Refusal.{Refusal}
-use Rattle.ca_text.proofs.Places.{At-last, At-mapped, At-one, At-set, At-set-other, At-snoc, At-within, some_is}
-use Rattle.ca_wire.specs.Fields.{Fields}
+use Rattle.ca_text.proofs.Places.{At-one, At-set, At-set-other, At-within}
 use Rattle.ca_wire.specs.Message.{spelled}
-use Rattle.ca_model.specs.Answers.{Closing, Sending}
-use Rattle.ca_model.specs.Client.{Client, ClientCircuit, Connection, connection_at, ended, on_connection, out_bytes, sending}
-use Rattle.ca_model.specs.ClientEnds.{ConnectsOn, GivesOn, begun, creations, flow_sent, given, handed_over, new_connection, set_up}
-use Rattle.ca_model.specs.History as history
-use Rattle.ca_model.specs.Server.{Open, Server, ServerCircuit, ServerEnd, new_end}
-use Rattle.ca_model.specs.ServerSteps.{Accepts, Gives, HasEnd, Sends, with_end}
-use Rattle.ca_model_world.specs.ClientEvents.{DownTaken, HappensAccept, HappensDown, HappensUp, Outcomes, WantsFirst, client_after, client_closed, connected_as, lines_of, new_circuit, sent_on, told_by, up_taken, waiting_down, waiting_up}
-use Rattle.ca_model_world.specs.World.{ClientSide, Joined, Names, ServerSide, World, with_circuit, with_client, with_server}
-use Rattle.ca_model_client.proofs.Handles.{handle-or, same-itself}
-use Rattle.ca_model_client.proofs.Tables.{changed-other, changed-own, held-other, held-own}
-use Rattle.ca_laws_runs.specs.Circuit.{sent_to}
+use Rattle.ca_model.specs.Client.{Client, Connection, connection_at, on_connection}
+use Rattle.ca_model.specs.ClientEnds.{handed_over}
+use Rattle.ca_model.specs.Server.{Server, ServerEnd}
+use Rattle.ca_model.specs.ServerSteps.{Gives, HasEnd}
+use Rattle.ca_model_world.specs.ClientEvents.{HappensUp, waiting_down, waiting_up}
+use Rattle.ca_model_world.specs.World.{ClientSide, Joined, ServerSide, World, with_circuit, with_client, with_server}
+use Rattle.ca_model_client.proofs.Handles.{same-itself}
 use Rattle.ca_laws_runs.specs.Clients.{ClientsStand}
-use Rattle.ca_laws_runs.proofs.ClientsMore.{unconnected-is, wanted-there}
 use Rattle.ca_model_client.proofs.Thinner.{number-or, set-there}
 use Rattle.ca_laws_writes.specs.Seats.{Seated}
-use Rattle.ca_laws_bytes.specs.Streams.{CircuitEnd, Meets, Streams}
+use Rattle.ca_laws_bytes.specs.Streams.{CircuitEnd, Meets}
 use Rattle.ca_laws_bytes.specs.Worlds.{AllStream, StreamsOn, came_to, client_end, input_of, sent_down, sent_up, server_end}
-use Rattle.ca_laws_bytes.proofs.ClientEvents.{same-streams}
-use Rattle.ca_laws_bytes.proofs.Clients.{client-open, client-shut, connected-so, on-shut, on-other, out-of, spoke, up-shut, waits-open, waits-shut, came-so}
-use Rattle.ca_laws_bytes.proofs.Links.{AllGoOn, GoesOn, at-circuit, circuit-of, connection-other, connection-own, ended-goes, goes-does, goes-itself, goes-sending, goes-then, messages_on}
-use Rattle.ca_laws_bytes.proofs.ServerEnds.{Stays, end-own, go-end, open-one}
-use Rattle.ca_laws_bytes.proofs.Servers.{seat-of, server-came, server-left, server-open, server-shut, server-waits}
-use Rattle.ca_laws_bytes.proofs.Streaming.{Acts, acts-itself, meets-moved, meets-on, meets-on-back, meets-new, meets-turned, streams-new}
+use Rattle.ca_laws_bytes.proofs.Clients.{client-open, client-shut, connected-so, waits-open, waits-shut, came-so}
+use Rattle.ca_laws_bytes.proofs.Links.{GoesOn, connection-other, connection-own}
+use Rattle.ca_laws_bytes.proofs.ServerEnds.{Stays, end-own, go-end}
+use Rattle.ca_laws_bytes.proofs.Servers.{seat-of, server-came, server-open, server-shut, server-waits}
+use Rattle.ca_laws_bytes.proofs.Streaming.{Acts, acts-itself, meets-moved, meets-on, meets-on-back}
 
 -- ---- ends that say nothing
 
@@ -139,9 +131,12 @@ module _ (w : World) (k n : ℕ) (j : Joined) (x : ClientSide) (y : ServerSide) 
   given-other : (bytes : List ℕ) (core : Server) → Gives y.core j.at_server bytes (Ok tt) core → j.lists.server_open ≡ true → (l : ℕ) (a : Joined) → At w.circuits l a → (l ≡ k → ⊥) → a.server ≡ j.server → Acts (server_end y a) (server_end (record y { core = core }) a)
   given-other bytes core gives opened l a at other mine =
       quiet-server y (record y { core = core }) a (λ is_open.
-      let e = seat-of w j.server y l a server seated at mine is_open in
-      (e.0, e.1, subst (λ (q : Server). Stays y.core q a.at_server e.0 []) (sym gives.2)
-      (go-end y.core j.at_server a.at_server _ (λ same. other (seated.one l k a j at on mine is_open opened same)) e.0 e.1)))
+      let e = seat-of w j.server y l a server seated at mine is_open in (
+        e.0,
+        e.1,
+        subst (λ (q : Server). Stays y.core q a.at_server e.0 []) (sym gives.2)
+            (go-end y.core j.at_server a.at_server _ (λ same. other (seated.one l k a j at on mine is_open opened same)) e.0 e.1),
+      ))
 
   given-own : (bytes : List ℕ) (core : Server) (d : Joined) → Gives y.core j.at_server bytes (Ok tt) core → j.lists.server_open ≡ true → d.at_server ≡ j.at_server → d.lists.server_open ≡ j.lists.server_open → sent_down d ≡ sent_down j → length d.lists.handled ≡ length j.lists.handled
       → server_end (record y { core = core }) d ≡ record (server_end y j) { came = (server_end y j).came ++ bytes }

@@ -1,29 +1,23 @@
 -- Every event keeps bytes as messages, and so does every run.
-use Rattle.std.proofs.Common.{◌≡◌, ℕ, suc, inl, inr, true, List, [], ◌∷◌, length, Option, Some, None, refl, sym, ap, ◌∙◌, subst}
+use Rattle.std.proofs.Common.{◌≡◌, ℕ, suc, inl, inr, List, [], ◌∷◌, length, Option, Some, refl, sym, ap, ◌∙◌, subst}
 use Rattle.std.specs.List.{FoldsTo}
-use Rattle.ca_link.specs.Link.{TakesFirst}
-use Rattle.ca_text.specs.Place.{At}
 use Rattle.ca_text.proofs.Places.{At-mapped, At-one}
-use Rattle.ca_wire.specs.Fields.{Fields}
-use Rattle.ca_model.specs.Client.{Connection, connection_at}
 use Rattle.ca_model.specs.History.{Collected, GaveUp, Sent, Told}
-use Rattle.ca_model.specs.Server.{ServerEnd}
-use Rattle.ca_model.specs.ServerSteps.{HasEnd}
 use Rattle.ca_model_world.specs.ClientEvents.{TicksOne}
 use Rattle.ca_model_world.specs.Events.{Event}
 use Rattle.ca_model_world.specs.Events as event
 use Rattle.ca_model_world.specs.Runs.{CanBe, Happens, Leaves, Runs, StopsAt, clients_below}
-use Rattle.ca_model_world.specs.World.{ClientSide, IsSetting, Joined, ServerSide, Setting, World, opening}
+use Rattle.ca_model_world.specs.World.{ClientSide, IsSetting, ServerSide, Setting, World, opening}
 use Rattle.ca_laws_runs.specs.Clients.{ClientsStand}
 use Rattle.ca_laws_runs.proofs.Events.{stands-happens, stands-opening}
 use Rattle.ca_laws_runs.proofs.ClientsMore.{stands-ticks}
-use Rattle.ca_laws_writes.specs.Seats.{Sound, TakesSent}
+use Rattle.ca_laws_writes.specs.Seats.{TakesSent}
 use Rattle.ca_laws_writes.proofs.Every.{event-sound, opening-sound}
 use Rattle.ca_laws_writes.proofs.Frames.{Frame, frame-keeps, frame-self, frame-then}
 use Rattle.ca_laws_writes.proofs.HappensClient.{begun-frame, clear-frame, cut-frame, datagram-frame, handing-frame, hear-frame, open-frame, put-frame, read-frame, subscribe-frame, tick-frame, unsubscribe-frame, write-frame}
 use Rattle.ca_laws_writes.proofs.Lists.{none_at}
 use Rattle.ca_laws_bytes.specs.Runs.{AllSpeak, HearsSent, Stands}
-use Rattle.ca_laws_bytes.specs.Worlds.{AllStream, ClientsSpeak, HandlesStand, ServersSpeak, client_end, sent_down, sent_up, server_end}
+use Rattle.ca_laws_bytes.specs.Worlds.{AllStream, ClientsSpeak, HandlesStand, ServersSpeak, client_end, server_end}
 use Rattle.ca_laws_bytes.proofs.ClientEvents.{clear-streams, client-restart-streams, client-step-streams, cut-client-streams, datagram-streams, handing-streams, open-streams, put-streams, read-streams, same-streams, subscribe-streams, unsubscribe-streams, write-streams}
 use Rattle.ca_laws_bytes.proofs.Clients.{came-so}
 use Rattle.ca_laws_bytes.proofs.Comes.{down-streams}

@@ -1,11 +1,11 @@
 -- What each call of a server's core makes of the bytes of its ends: the same bytes came, what is sent waits after the rest, and an end that
 -- ends leaves a beginning of that.
-use Rattle.std.proofs.Common.{◌≡◌, ℕ, zero, suc, ◌⊎◌, inl, inr, Bool, true, false, cond, List, [], ◌∷◌, ◌++◌, Option, Some, None, refl, sym, ap, ◌∙◌, subst, append_assoc}
-use Rattle.std.specs.Prelude.{Ok, drop, filter, map, option_map, take}
+use Rattle.std.proofs.Common.{◌≡◌, ℕ, ◌⊎◌, inl, inr, Bool, true, false, cond, List, [], ◌∷◌, ◌++◌, Some, refl, sym, ap, ◌∙◌, subst, append_assoc}
+use Rattle.std.specs.Prelude.{drop, map, take}
 use Rattle.std.specs.List.{FoldsTo}
 use Rattle.std.proofs.lemmas.List.{append-nil, take-append-drop}
 use Rattle.ca_arena.specs.declared.handle.Handle.{Handle}
-use Rattle.ca_ids.specs.Table.{MayGive, Table, same_handle, under, with_each}
+use Rattle.ca_ids.specs.Table.{Table, under, with_each}
 use Rattle.ca_link.specs.Link.{LinkState, with_rest, with_sent}
 use Rattle.ca_records.specs.declared.puts.Put.{Put}
 use Rattle.ca_records.specs.Puts.{WaitingPut}
@@ -17,11 +17,10 @@ use Rattle.ca_model.specs.Due as action
 use Rattle.ca_model.specs.Ends.{Why}
 use Rattle.ca_model.specs.Ends as why
 use Rattle.ca_model.specs.Server.{Ended, Open, Server, ServerCircuit, ServerEnd, with_post}
-use Rattle.ca_model.specs.ServerCalls.{Replies, after_next, circuit_without, disconnects, end_without, finish_reply, lacking, with_message}
+use Rattle.ca_model.specs.ServerCalls.{after_next, circuit_without, disconnects, end_without, finish_reply, lacking, with_message}
 use Rattle.ca_model.specs.ServerSteps.{Acts, HasEnd, LeftOf, Next, Pumps, Reaches, Update, after_post, counted, ended, reached, stored_now, with_end, write_mask}
 use Rattle.ca_model.specs.ServerSteps as steps
 use Rattle.ca_model.specs.Speech.{Stored}
-use Rattle.ca_model_client.proofs.Handles.{handle-or, not-same, same-is}
 use Rattle.ca_model_client.proofs.Tables.{changed-other, changed-own}
 use Rattle.ca_laws_writes.proofs.Cores.{each-there, records-stay}
 use Rattle.ca_laws_bytes.proofs.Streaming.{spelled-more}

@@ -1,20 +1,20 @@
 -- Events at a server keep bytes as messages: posts, removals, additions, pumps, cuts, and a new life.
-use Rattle.std.proofs.Common.{◌≡◌, ℕ, suc, zero, ◌⊎◌, inl, inr, Bool, true, false, ◌&&◌, cond, eqb, List, [], ◌∷◌, ◌++◌, Option, Some, None, refl, sym, ap, ◌∙◌, subst}
-use Rattle.std.specs.Prelude.{drop, filter, is_some, length, map, not, option_map, slice_get, slice_set, take, unwrap_or}
+use Rattle.std.proofs.Common.{◌≡◌, ℕ, suc, zero, inl, inr, Bool, true, false, ◌&&◌, cond, eqb, List, [], ◌∷◌, ◌++◌, Option, Some, None, refl, sym, ap, ◌∙◌, subst}
+use Rattle.std.specs.Prelude.{filter, length, map, not, option_map, slice_get, slice_set, take, unwrap_or}
 use Rattle.std.specs.List.{fold, list_any}
 use Rattle.std.specs.Str.{bytes_eq}
-use Rattle.std.proofs.lemmas.Bool.{and_from, and_parts, both_ways, cases_Bool, eq-eqb, eqb-true}
+use Rattle.std.proofs.lemmas.Bool.{and_from, and_parts, eq-eqb, eqb-true}
 use Rattle.std.proofs.lemmas.List.{append-nil}
 use Rattle.ca_arena.specs.declared.handle.Handle.{Handle}
 use Rattle.ca_dbr.specs.Elements.{Elements}
-use Rattle.ca_ids.specs.Table.{Table, same_handle, under}
+use Rattle.ca_ids.specs.Table.{Table, under}
 use Rattle.ca_ids.specs.Wire.{wire_of}
 use Rattle.ca_queue.specs.declared.entry.SubKey.{SubKey}
 use Rattle.ca_queue.specs.Queue.{Queue, with_front_taken}
 use Rattle.ca_records.specs.Puts.{WaitingPut, with_record, with_value}
 use Rattle.ca_records.specs.Record.{RecordState, unset}
 use Rattle.ca_text.specs.Place.{At}
-use Rattle.ca_text.proofs.Places.{At-mapped, At-one, At-set, At-set-other, some_is}
+use Rattle.ca_text.proofs.Places.{At-mapped, At-set, At-set-other, some_is}
 use Rattle.ca_wire.specs.Fields.{Fields}
 use Rattle.ca_wire.specs.Message.{spelled}
 use Rattle.ca_wire.specs.Messages.{disconnect}
@@ -25,7 +25,7 @@ use Rattle.ca_model.specs.ServerCalls.{channels_of, disconnects}
 use Rattle.ca_model.specs.ServerSteps.{Cuts, HasEnd, Pumps, Update, after_post, ended, output_of}
 use Rattle.ca_model.specs.Speech.{Stored}
 use Rattle.ca_model_world.specs.ServerEvents.{HappensAdd, HappensCutServer, HappensPost, HappensPump, HappensRemove, HappensServerRestart, disconnected_at, ending, ends_untold, front_number, keys_concerned, next_numbers, numbers_posted, removal_told, removed_at, server_closed, stamped, with_number, without_standing}
-use Rattle.ca_model_world.specs.World.{ClientSide, Creation, Joined, RecordSide, ServerSide, World, server_begun, with_circuit}
+use Rattle.ca_model_world.specs.World.{Creation, Joined, RecordSide, ServerSide, World, server_begun, with_circuit}
 use Rattle.ca_model_client.proofs.Handles.{handle-or}
 use Rattle.ca_laws_writes.specs.Seats.{Seated}
 use Rattle.ca_laws_writes.proofs.Midway.{set-here}
@@ -267,9 +267,9 @@ server-restart-streams w new i y at seated is all =
           c.1,
           subst (λ (q : Joined). Like c.0 q) (sym c.2) (ending-like (ends_untold i y.core) c.0),
           (λ mine.
-          subst (λ (q : Joined). Acts (server_end y c.0) (server_end z q)) (sym c.2)
-          (by (eqb c.0.server i && c.0.lists.server_open) c.0 (λ opened yes_it. seat-of w i y n c.0 at seated c.1 mine opened) (λ e. (and_parts (eqb c.0.server i) c.0.lists.server_open e).1)
-          (λ e. shut c.0 mine e))),
+              subst (λ (q : Joined). Acts (server_end y c.0) (server_end z q)) (sym c.2)
+              (by (eqb c.0.server i && c.0.lists.server_open) c.0 (λ opened yes_it. seat-of w i y n c.0 at seated c.1 mine opened) (λ e. (and_parts (eqb c.0.server i) c.0.lists.server_open e).1)
+              (λ e. shut c.0 mine e))),
           (λ other s. ap (λ (q : Joined). server_end s q) (c.2 ∙ elsewhere c.0 other)),
         )
       where

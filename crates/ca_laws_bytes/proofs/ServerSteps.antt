@@ -1,12 +1,12 @@
 -- A step of a server's end keeps bytes as messages: it handles the message that comes first, or closes its circuit.
-use Rattle.std.proofs.Common.{◌≡◌, ℕ, suc, zero, ◌+◌, ◌⊎◌, inl, inr, Bool, true, false, ◌&&◌, cond, eqb, List, [], ◌∷◌, ◌++◌, Option, Some, None, refl, sym, ap, ◌∙◌, subst}
+use Rattle.std.proofs.Common.{◌≡◌, ℕ, ◌+◌, inl, inr, Bool, true, false, ◌&&◌, cond, eqb, List, [], ◌∷◌, ◌++◌, Option, Some, None, refl, sym, ap, ◌∙◌, subst}
 use Rattle.std.specs.Prelude.{is_some, length, map, option_map, slice_get, slice_set, unwrap_or}
-use Rattle.std.proofs.lemmas.Bool.{and_from, both_ways, cases_Bool, eq-eqb, eqb-true}
+use Rattle.std.proofs.lemmas.Bool.{and_from, eq-eqb, eqb-true}
 use Rattle.std.proofs.lemmas.List.{append-nil, length-append}
 use Rattle.ca_arena.specs.declared.handle.Handle.{Handle}
 use Rattle.ca_ids.specs.Table.{same_handle, under}
 use Rattle.ca_text.specs.Place.{At}
-use Rattle.ca_text.proofs.Places.{At-map, At-mapped, At-one, At-set, At-set-other, some_is}
+use Rattle.ca_text.proofs.Places.{At-map, At-mapped, At-one, At-set, At-set-other}
 use Rattle.ca_wire.specs.Fields.{Fields}
 use Rattle.ca_wire.specs.Message.{spelled}
 use Rattle.ca_model.specs.Due.{Action, Applies}
@@ -17,8 +17,8 @@ use Rattle.ca_model.specs.Server.{Ended, Open, Server, ServerCircuit, ServerEnd}
 use Rattle.ca_model.specs.ServerSteps.{HasEnd, LeftOf, Next, Stepped, closed}
 use Rattle.ca_model.specs.ServerSteps as stepped
 use Rattle.ca_model_world.specs.ServerEvents.{ServerStepped, StepHandles, StepLacks, about, acted, ending, ends_at, ends_by, ends_here, handled_at, left_by, logged, numbers_after, records_after, reported, server_after, server_closed, side_of, unsaid, without_puts, write_numbers}
-use Rattle.ca_model_world.specs.World.{ClientSide, Joined, PutPlace, ServerSide, World, with_circuit}
-use Rattle.ca_model_client.proofs.Handles.{handle-or, same-is, same-itself, same-not}
+use Rattle.ca_model_world.specs.World.{Joined, ServerSide, World, with_circuit}
+use Rattle.ca_model_client.proofs.Handles.{same-itself, same-not}
 use Rattle.ca_model_client.proofs.Tables.{all-freed-there, freed-back, freed-other}
 use Rattle.ca_model_client.proofs.Placed.{options-agree}
 use Rattle.ca_model_client.proofs.Thinner.{number-or}
@@ -26,9 +26,9 @@ use Rattle.ca_laws_writes.specs.Seats.{Seated}
 use Rattle.ca_laws_writes.proofs.Midway.{set-here}
 use Rattle.ca_laws_bytes.specs.Worlds.{AllStream, sent_down, server_end}
 use Rattle.ca_laws_bytes.proofs.Clients.{map-both}
-use Rattle.ca_laws_bytes.proofs.ServerEnds.{AllGo, Goes, Stays, go-same, go-then, next-others, next-own, open-one, reaches-go, reaches-stays}
+use Rattle.ca_laws_bytes.proofs.ServerEnds.{Goes, Stays, go-same, go-then, next-others, next-own, reaches-go, reaches-stays}
 use Rattle.ca_laws_bytes.proofs.ServerEvents.{posted-tells}
-use Rattle.ca_laws_bytes.proofs.Servers.{EndsAs, Like, Tells, by-core, by-core-other, by-core-shut, circuit-ends, ending-like, goes-ends, like-itself, like-then, not-open, seat-of, server-event, server-took, tells-itself, tells-then}
+use Rattle.ca_laws_bytes.proofs.Servers.{Like, Tells, by-core, circuit-ends, goes-ends, not-open, seat-of, server-event, server-took, tells-itself, tells-then}
 use Rattle.ca_laws_bytes.proofs.Streaming.{Acts}
 
 -- ---- numbers
@@ -191,9 +191,12 @@ module _ (w : World) (k : ℕ) (j : Joined) (y : ServerSide) (on : At w.circuits
             let c = acted-tells w k j y next.action on n m.0 m.1 in
             let r = circuit-ends w j.server y z f.core ends n c.0 m.0 d [] refl m.2 c.2
             (λ mine is_open.
-            let e = seat-of w j.server y n c.0 at seated c.1 mine is_open in
-            (e.0, e.1, goes-ends j.server y.core f.core m.0 c.0.at_server e.0 [] (c.2.like.server ∙ mine) (c.2.is_open ∙ is_open) c.2.like.handle e.1
-            (next-go f.e next f.steps.1 f.core f.steps.3 c.0.at_server (apart n c.0 c.1 old.1 mine is_open))))
+            let e = seat-of w j.server y n c.0 at seated c.1 mine is_open in (
+              e.0,
+              e.1,
+              goes-ends j.server y.core f.core m.0 c.0.at_server e.0 [] (c.2.like.server ∙ mine) (c.2.is_open ∙ is_open) c.2.like.handle e.1
+                  (next-go f.e next f.steps.1 f.core f.steps.3 c.0.at_server (apart n c.0 c.1 old.1 mine is_open)),
+            ))
             (λ none. (not-open j.server f.core c.0 m.0 [] c.2 none, refl)) in
             (c.0, c.1, r.0, r.1, r.2)
       ]
@@ -261,11 +264,14 @@ module _ (w : World) (k : ℕ) (j : Joined) (y : ServerSide) (on : At w.circuits
             | inr other ↦
                 let s = seat-of w j.server y n c.0 at seated c.1 mine is_open in
                 let far : c.0.at_server ≡ j.at_server → ⊥ = apart n c.0 c.1 other mine is_open in
-                let off : m.0.at_server ≡ j.at_server → ⊥ = λ q. far (sym c.2.like.handle ∙ q) in
-                (s.0, s.1, elim (goes-ends j.server y.core core m.0 c.0.at_server s.0 [] (c.2.like.server ∙ mine) (c.2.is_open ∙ is_open) c.2.like.handle s.1 (goes c.0.at_server far)) [
-                  | inl stays ↦ inl (here-other left said m.0 off ∙ same m.0 None off stays.0, stays.1)
-                  | inr over ↦ inr (over.0, here-other left said m.0 off ∙ same m.0 (Some over.0) off over.1, over.2)
-                ])
+                let off : m.0.at_server ≡ j.at_server → ⊥ = λ q. far (sym c.2.like.handle ∙ q) in (
+                  s.0,
+                  s.1,
+                  elim (goes-ends j.server y.core core m.0 c.0.at_server s.0 [] (c.2.like.server ∙ mine) (c.2.is_open ∙ is_open) c.2.like.handle s.1 (goes c.0.at_server far)) [
+                    | inl stays ↦ inl (here-other left said m.0 off ∙ same m.0 None off stays.0, stays.1)
+                    | inr over ↦ inr (over.0, here-other left said m.0 off ∙ same m.0 (Some over.0) off over.1, over.2)
+                  ],
+                )
           ])
           (λ none. (here-none left said c.0 m.0 c.2 none, refl)) in
           (c.0, c.1, r.0, r.1, r.2)

@@ -1,28 +1,26 @@
 -- What an event at a server does to the ends of its circuits, and that bytes are as messages after it.
-use Rattle.std.proofs.Common.{◌≡◌, ℕ, suc, zero, ◌+◌, ◌⊎◌, inl, inr, Bool, true, false, ◌&&◌, ne_eqb, cond, eqb, List, [], ◌∷◌, ◌++◌, Option, Some, None, refl, sym, ap, ◌∙◌, subst, append_assoc}
-use Rattle.std.specs.Prelude.{drop, is_some, length, map, option_map, slice_set, unwrap_or}
+use Rattle.std.proofs.Common.{◌≡◌, ℕ, ◌+◌, ◌⊎◌, inl, inr, Bool, true, false, ◌&&◌, ne_eqb, cond, eqb, List, [], ◌++◌, Option, Some, None, refl, sym, ap, ◌∙◌, subst, append_assoc}
+use Rattle.std.specs.Prelude.{is_some, length, map, option_map, unwrap_or}
 use Rattle.std.proofs.lemmas.Bool.{both_ways, cases_Bool, eq-eqb}
 use Rattle.std.proofs.lemmas.List.{append-nil}
 use Rattle.ca_arena.specs.declared.handle.Handle.{Handle}
-use Rattle.ca_ids.specs.Table.{same_handle, under}
+use Rattle.ca_ids.specs.Table.{under}
 use Rattle.ca_text.specs.Place.{At}
 use Rattle.ca_text.proofs.Places.{At-mapped, At-one, At-set-other}
 use Rattle.ca_wire.specs.Fields.{Fields}
 use Rattle.ca_wire.specs.Message.{Spells, spelled}
-use Rattle.ca_model.specs.History.{Sent, Told}
-use Rattle.ca_model.specs.Server.{Ended, Open, Server, ServerCircuit, ServerEnd}
+use Rattle.ca_model.specs.Server.{Open, Server, ServerCircuit, ServerEnd}
 use Rattle.ca_model.specs.ServerSteps.{HasEnd, output_of}
 use Rattle.ca_model_world.specs.ClientEvents.{waiting_down}
-use Rattle.ca_model_world.specs.ServerEvents.{ending, ends_at, ends_by, ends_here, left_by, reported, server_after, server_closed, without_puts}
+use Rattle.ca_model_world.specs.ServerEvents.{ending, ends_at, ends_by, left_by, reported, server_after, server_closed, without_puts}
 use Rattle.ca_model_world.specs.World.{ClientSide, Joined, ServerSide, World}
-use Rattle.ca_model_client.proofs.Handles.{not-same, same-not}
-use Rattle.ca_model_client.proofs.Tables.{all-freed-there, freed-other}
+use Rattle.ca_model_client.proofs.Tables.{all-freed-there}
 use Rattle.ca_model_client.proofs.Thinner.{number-or}
 use Rattle.ca_laws_writes.specs.Seats.{Seated}
 use Rattle.ca_laws_writes.proofs.Midway.{set-here}
 use Rattle.ca_laws_bytes.specs.Streams.{CircuitEnd, Meets}
-use Rattle.ca_laws_bytes.specs.Worlds.{AllStream, StreamsOn, client_end, input_of, sent_down, server_end}
-use Rattle.ca_laws_bytes.proofs.ServerEnds.{Ends, Goes, Stays}
+use Rattle.ca_laws_bytes.specs.Worlds.{AllStream, client_end, input_of, sent_down, server_end}
+use Rattle.ca_laws_bytes.proofs.ServerEnds.{Goes, Stays}
 use Rattle.ca_laws_bytes.proofs.Streaming.{Acts, close-acts, meets-on-back, open-acts, shut-acts}
 
 -- ---- the end of a circuit at its server
@@ -227,11 +225,11 @@ pub circuit-ends : (w : World) (i : ℕ) (y z : ServerSide) (core : Server) (end
 circuit-ends w i y z core ends n c m d more is after t opens shuts = (
   subst (λ (q : Joined). Like c q) (sym after) (like-then c m (ending ends m) t.like (ending-like ends m)),
   (λ mine.
-  subst (λ (q : Joined). Acts (server_end y c) (server_end z q)) (sym after)
-  (ending-acts y z core ends c m more is t (λ opened. opens mine opened) (λ shut. shuts (λ same opened. both_ways c.lists.server_open shut opened)))),
+      subst (λ (q : Joined). Acts (server_end y c) (server_end z q)) (sym after)
+      (ending-acts y z core ends c m more is t (λ opened. opens mine opened) (λ shut. shuts (λ same opened. both_ways c.lists.server_open shut opened)))),
   (λ other s.
-  let none = shuts (λ same opened. other same) in
-  ap (λ (q : Joined). server_end s q) (after ∙ ending-none ends m none.0) ∙ tells-same c m (subst (λ (l : List Fields). Tells c m l) none.1 t) s),
+      let none = shuts (λ same opened. other same) in
+      ap (λ (q : Joined). server_end s q) (after ∙ ending-none ends m none.0) ∙ tells-same c m (subst (λ (l : List Fields). Tells c m l) none.1 t) s),
 )
 
 -- the end of an open circuit of a server

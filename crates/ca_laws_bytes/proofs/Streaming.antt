@@ -6,7 +6,7 @@ use Rattle.std.proofs.lemmas.List.{append-nil, length-append, take-append-drop}
 use Rattle.ca_text.specs.Place.{At}
 use Rattle.ca_text.proofs.Places.{At-append, At-or, At-within, some_is}
 use Rattle.ca_wire.specs.Fields.{Fields}
-use Rattle.ca_wire.specs.Message.{IsMessage, Spells, spelled, spelling}
+use Rattle.ca_wire.specs.Message.{Spells, spelled, spelling}
 use Rattle.ca_wire.proofs.Messages.{spelling-spells, spells-front, spells-long}
 use Rattle.ca_laws_bytes.specs.Streams.{AreGood, CircuitEnd, Meets, Streams}
 

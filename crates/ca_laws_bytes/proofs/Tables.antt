@@ -1,9 +1,9 @@
 -- What each call of a server's core keeps of its table of circuits: what was given stays so, and nothing new has a handle.
-use Rattle.std.proofs.Common.{◌≡◌, ℕ, zero, suc, ◌+◌, ◌≤◌, inl, inr, Bool, true, false, List, [], ◌∷◌, length, Option, Some, None, refl, sym, ap, ◌∙◌, subst, arith}
+use Rattle.std.proofs.Common.{◌≡◌, ℕ, zero, suc, ◌+◌, ◌≤◌, inl, inr, Bool, List, [], ◌∷◌, length, Option, Some, None, refl, sym, ap, subst, arith}
 use Rattle.std.specs.Prelude.{Ok, is_some, option_map}
 use Rattle.ca_arena.specs.Arena.{Place}
 use Rattle.ca_arena.specs.declared.handle.Handle.{Handle}
-use Rattle.ca_ids.specs.Table.{Table, under, with_each, with_each_from}
+use Rattle.ca_ids.specs.Table.{Table, with_each, with_each_from}
 use Rattle.ca_records.specs.declared.puts.Put.{Put}
 use Rattle.ca_records.specs.Puts.{WaitingPut}
 use Rattle.ca_text.specs.Place.{At}
@@ -15,7 +15,7 @@ use Rattle.ca_model.specs.Due as action
 use Rattle.ca_model.specs.Ends.{Why}
 use Rattle.ca_model.specs.Server.{Ended, Open, Server, ServerCircuit, ServerEnd}
 use Rattle.ca_model.specs.ServerCalls.{Replies, after_next, circuit_without, lacking}
-use Rattle.ca_model.specs.ServerSteps.{Cuts, Gives, HasEnd, LeftOf, Next, Pumps, Reaches, Sends, Update, closed, ended, reached, with_end}
+use Rattle.ca_model.specs.ServerSteps.{Cuts, Gives, LeftOf, Next, Pumps, Reaches, Sends, Update, closed, ended, with_end}
 use Rattle.ca_model_world.specs.ServerEvents.{left_by, reported}
 use Rattle.ca_model_client.proofs.Tables.{at-under, place, under-at}
 use Rattle.ca_model_client.proofs.Thinner.{IsThinner, thin-all-freed, thin-changed, thin-freed, thin-itself, thin-then}

@@ -1,7 +1,6 @@
 -- A moment is handed to clients: what is sent waits, and an end that fell silent leaves what waited.
 use Rattle.std.proofs.Common.{◌≡◌, ℕ, suc, zero, ◌⊎◌, inl, inr, Bool, true, false, ◌&&◌, cond, eqb, List, [], ◌∷◌, ◌++◌, Option, Some, None, refl, sym, ap, ◌∙◌, subst, append_assoc}
 use Rattle.std.specs.Prelude.{filter, find, fold, is_none, is_some, map, option_and_then, option_map, unwrap_or}
-use Rattle.std.specs.List.{FoldsTo}
 use Rattle.std.proofs.lemmas.Bool.{and_from, both_ways, cases_Bool, eq-eqb, eqb-true}
 use Rattle.std.proofs.lemmas.List.{append-nil}
 use Rattle.ca_arena.specs.declared.handle.Handle.{Handle}
@@ -12,7 +11,7 @@ use Rattle.ca_link.specs.Link.{kept}
 use Rattle.ca_search.specs.Searches as search
 use Rattle.ca_text.specs.declared.command.Command.TheVariants as command
 use Rattle.ca_text.specs.Place.{At}
-use Rattle.ca_text.proofs.Places.{At-map, some_is}
+use Rattle.ca_text.proofs.Places.{some_is}
 use Rattle.ca_wire.specs.Fields.{Fields}
 use Rattle.ca_wire.specs.Message.{spelled}
 use Rattle.ca_wire.specs.Messages.{bare, search_request}
@@ -21,8 +20,8 @@ use Rattle.ca_model.specs.Answers as answer
 use Rattle.ca_model.specs.Client.{Client, ClientCircuit, Connection, channels_ended, connection_at, disconnected, ended, later, let_go, on_connection, out_bytes, sending, without_circuit, without_ids}
 use Rattle.ca_model.specs.ClientCalls.{is_over}
 use Rattle.ca_model.specs.ClientEnds.{Ticking, all_searched_on, circuits_ticked, due, is_name_connected, of_circuit, searches_made, searches_on, ticked, ticks, ticks_as, with_sending}
-use Rattle.ca_model_world.specs.ClientEvents.{Outcomes, TicksOne, after_tick, client_after, client_closed}
-use Rattle.ca_model_world.specs.World.{ClientSide, Joined, Names, ServerSide, World}
+use Rattle.ca_model_world.specs.ClientEvents.{TicksOne, after_tick, client_closed}
+use Rattle.ca_model_world.specs.World.{ClientSide, Joined, ServerSide, World}
 use Rattle.ca_model_client.proofs.Handles.{handle-or, same-itself, same-not}
 use Rattle.ca_model_client.proofs.Tables.{changed-own, freed-back}
 use Rattle.ca_laws_runs.specs.Circuit.{sent_to}
@@ -30,9 +29,9 @@ use Rattle.ca_laws_runs.specs.Clients.{ClientsStand}
 use Rattle.ca_laws_runs.proofs.ClientsMore.{left-by}
 use Rattle.ca_model_client.proofs.Letting.{ends-ended}
 use Rattle.ca_model_client.proofs.Placed.{keeps-on, keeps-sending}
-use Rattle.ca_laws_bytes.specs.Worlds.{AllStream, StreamsOn, client_end, sent_up, server_end}
+use Rattle.ca_laws_bytes.specs.Worlds.{AllStream, StreamsOn, client_end, server_end}
 use Rattle.ca_laws_bytes.proofs.ClientEvents.{mapped}
-use Rattle.ca_laws_bytes.proofs.Clients.{client-ends, client-open, client-shut, connected-so, on-other, other-streams, out-of, up-open, up-shut}
+use Rattle.ca_laws_bytes.proofs.Clients.{client-ends, client-open, client-shut, connected-so, other-streams, out-of, up-open, up-shut}
 use Rattle.ca_laws_bytes.proofs.Links.{GoesOn, at-circuit, channels-ended-circuits, circuit-of, connection-other, connection-own, ended-goes, goes-sending, goes-then, messages-both, messages_on}
 use Rattle.ca_laws_bytes.proofs.Streaming.{Acts, spelled-more}
 

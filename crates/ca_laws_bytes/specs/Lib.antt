@@ -1,3 +1,4 @@
 pub mod Streams
 pub mod Worlds
 pub mod Runs
+pub mod Speaks

@@ -1,5 +1,5 @@
 -- Working: the bytes on all circuits of a world.
-use Rattle.std.specs.Prelude.{ℕ, ◌≡◌, false, List, [], Option, Some, None, length, map, option_map, unwrap_or}
+use Rattle.std.specs.Prelude.{ℕ, ◌≡◌, false, List, [], Option, Some, length, map, option_map, unwrap_or}
 use Rattle.ca_ids.specs.Table.{under}
 use Rattle.ca_text.specs.Place.{At}
 use Rattle.ca_wire.specs.Fields.{Fields}

@@ -1,12 +1,20 @@
-ghost use Rattle.std.specs.Prelude.{◌≡◌, ◌+◌, ◌++◌, List, Option, ℕ};
+ghost use Rattle.std.specs.Prelude.{◌≡◌, ◌+◌, ◌++◌, List, Ok, Option, ℕ};
 ghost use Rattle.ca_text.specs.Place.{At};
+ghost use Rattle.ca_arena.specs.declared.handle.Handle.{Handle};
+ghost use Rattle.ca_dbr.specs.Elements.{Elements};
+ghost use Rattle.ca_model.specs.Answers.{Notice, Sending};
+ghost use Rattle.ca_model.specs.Client.{Client, ended};
+ghost use Rattle.ca_model.specs.ClientCalls.{ClientClears, ClientOpens, ClientPuts, ClientReads, ClientSubscribes, ClientUnsubscribes, ClientWrites, Opening, Shape};
+ghost use Rattle.ca_model.specs.Hears.{Effect, Hears};
+ghost use Rattle.ca_laws_circuit.specs.Held.{AreFew};
 ghost use Rattle.ca_wire.specs.Fields.{Fields};
-ghost use Rattle.ca_wire.specs.Message.{Spells};
+ghost use Rattle.ca_wire.specs.Message.{IsMessage, Spells};
 ghost use Rattle.ca_model_world.specs.Events.{Event};
 ghost use Rattle.ca_model_world.specs.Runs.{Happens, Runs};
 ghost use Rattle.ca_model_world.specs.World.{IsSetting, Setting, World, opening};
 ghost use Rattle.ca_laws_writes.specs.Seats.{TakesSent};
 ghost use Rattle.ca_laws_bytes.specs.Runs.{AllSpeak, HearsSent, Stands};
+ghost use Rattle.ca_laws_bytes.specs.Speaks.{ClientFits, Speaks};
 ghost use Rattle.ca_laws_bytes.specs.Streams.{AreGood, CircuitEnd, Streams};
 ghost use Rattle.ca_laws_bytes.specs.Worlds.{AllStream, ClientsSpeak, ServersSpeak};
 
@@ -31,4 +39,29 @@ pub fn bytes_are_messages_in_runs()
         → Happens w e new → Stands s w → Stands s new }
     ensures run { (s : Setting) (es : List Event) (stopped : Option Event) (w : World)
         → IsSetting s → Runs s es stopped w → AllSpeak (opening s) es → Stands s w }
+{}
+
+/// All that a client's calls send are messages, each field of its width, and its core fits messages
+/// after them; so it is as the client hears a message, whatever that is, and as one of its ends ends.
+///
+/// Its tables have no more slots than an arena.
+pub fn a_client_sends_messages()
+    ensures opens { (x y : Client) (a : Opening) (q : Handle) (sent : List Sending) → ClientFits x
+        → ClientOpens x a (Ok q) sent y → Speaks y sent }
+    ensures reads { (x y : Client) (h : Handle) (a : Shape) (q : Handle) (sent : List Sending)
+        → ClientFits x → ClientReads x h a (Ok q) sent y → Speaks y sent }
+    ensures puts { (x y : Client) (h : Handle) (e : Elements) (q : Handle) (sent : List Sending)
+        → ClientFits x → ClientPuts x h e (Ok q) sent y → Speaks y sent }
+    ensures writes { (x y : Client) (h : Handle) (e : Elements) (u : Unit {0})
+        (sent : List Sending) → ClientFits x → ClientWrites x h e (Ok u) sent y → Speaks y sent }
+    ensures subscribes { (x y : Client) (h : Handle) (a : Shape) (mask : ℕ) (q : Handle)
+        (sent : List Sending) → ClientFits x → ClientSubscribes x h a mask (Ok q) sent y
+        → Speaks y sent }
+    ensures unsubscribes { (x y : Client) (s : Handle) (u : Unit {0}) (sent : List Sending)
+        → AreFew x → ClientFits x → ClientUnsubscribes x s (Ok u) sent y → Speaks y sent }
+    ensures clears { (x y : Client) (h : Handle) (notices : List Notice) (sent : List Sending)
+        → AreFew x → ClientFits x → ClientClears x h (Ok notices) sent y → Speaks y sent }
+    ensures hears { (x : Client) → AreFew x → ClientFits x → (c : Handle) (m : Fields)
+        → IsMessage m → (e : Effect) → Hears x c m e → Speaks e.core e.sent }
+    ensures ends { (c : Handle) (x : Client) → ClientFits x → ClientFits (ended c x) }
 {}

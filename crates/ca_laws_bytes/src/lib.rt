@@ -3,4 +3,4 @@
 
 mod laws;
 
-pub use laws::{bytes_are_messages_in_runs, ends_take_what_was_sent};
+pub use laws::{a_client_sends_messages, bytes_are_messages_in_runs, ends_take_what_was_sent};

@@ -6,7 +6,7 @@ use Rattle.ca_arena.specs.Arena.{Place}
 use Rattle.ca_arena.specs.declared.handle.Handle.{Handle}
 use Rattle.ca_ids.specs.Table.{MayGive, Table, by_wire, under, with_each, with_each_from, with_freed, with_held}
 use Rattle.ca_ids.specs.Wire.{wire_of}
-use Rattle.ca_laws_circuit.proofs.Tables.{at-under, freed-back, freed-few, freed-other, given-fresh, held-back, held-few, held-other, held-own, place, under-at, under-wire, wire-under}
+use Rattle.ca_model_client.proofs.Tables.{at-under, freed-back, freed-few, freed-other, given-fresh, held-back, held-few, held-other, held-own, place, under-at, under-wire, wire-under}
 use Rattle.ca_queue.specs.declared.entry.SubKey.{SubKey}
 use Rattle.ca_text.specs.Limits.{arena_slots}
 use Rattle.ca_text.specs.Place.{At}

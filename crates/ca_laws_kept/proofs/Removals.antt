@@ -5,7 +5,7 @@ use Rattle.std.specs.Str.{bytes_eq}
 use Rattle.ca_arena.specs.declared.handle.Handle.{Handle}
 use Rattle.ca_ids.specs.Table.{held, under}
 use Rattle.ca_ids.specs.Wire.{wire_of}
-use Rattle.ca_laws_circuit.proofs.Tables.{held-under}
+use Rattle.ca_model_client.proofs.Tables.{held-under}
 use Rattle.ca_laws_circuit.proofs.Told.{removal-speaks}
 use Rattle.ca_laws_circuit.specs.Flows.{Concerns}
 use Rattle.ca_text.specs.Place.{At}
