@@ -1,10 +1,10 @@
 -- The open channels of an end beside the creations of its circuit.
-use Rattle.std.proofs.Common.{◌≡◌, ℕ, zero, suc, ◌+◌, ◌<◌, ◌≤◌, inl, inr, Bool, true, false, cond, not, eqb, eq-eqb, eqb-true, List, [], ◌∷◌, ◌++◌, length, Option, Some, None, refl, sym, ap, subst, ◌∙◌, arith}
+use Rattle.std.proofs.Common.{◌≡◌, ℕ, zero, suc, ◌+◌, ◌≤◌, inl, inr, Bool, true, false, cond, not, eqb, eq-eqb, eqb-true, List, [], ◌∷◌, ◌++◌, length, Option, Some, None, refl, sym, ap, subst, ◌∙◌, arith}
 use Rattle.std.specs.Prelude.{filter, find, map, option_map, unwrap_or}
 use Rattle.std.specs.List.{FoldsTo, fold}
 use Rattle.ca_arena.specs.Arena.{Place}
 use Rattle.ca_arena.specs.declared.handle.Handle.{Handle}
-use Rattle.ca_ids.specs.Table.{MayGive, Table, by_wire, under, with_each, with_each_from, with_freed, with_held}
+use Rattle.ca_ids.specs.Table.{Table, by_wire, under, with_each, with_each_from, with_freed, with_held}
 use Rattle.ca_ids.specs.Wire.{wire_of}
 use Rattle.ca_model_client.proofs.Tables.{at-under, freed-back, freed-few, freed-other, given-fresh, held-back, held-few, held-other, held-own, place, under-at, under-wire, wire-under}
 use Rattle.ca_queue.specs.declared.entry.SubKey.{SubKey}
@@ -14,12 +14,12 @@ use Rattle.ca_text.proofs.Places.{some_is}
 use Rattle.ca_wire.specs.Fields.{Fields}
 use Rattle.ca_model.specs.Due.{Action, Adds, Applies, Clears, Drops, Due, KnownChannel, Opens, Switches}
 use Rattle.ca_model.specs.Due as action
-use Rattle.ca_model.specs.History.{Sent, Step}
+use Rattle.ca_model.specs.History.{Sent}
 use Rattle.ca_model.specs.Server.{OpenChannel, Server, ServerEnd, concerns, key_of, new_end}
 use Rattle.ca_model.specs.ServerCalls.{end_without, retired}
 use Rattle.ca_model.specs.ServerSteps.{Acts, Leaves, Update, knows, without_channel}
 use Rattle.ca_model.specs.Speech.{In}
-use Rattle.ca_model_world.specs.ServerEvents.{handled_at, numbers_after, stamped, with_number}
+use Rattle.ca_model_world.specs.ServerEvents.{handled_at, numbers_after, with_number}
 use Rattle.ca_model_world.specs.World.{Creation, Joined, World}
 use Rattle.ca_laws_writes.proofs.Cores.{each-there}
 use Rattle.ca_laws_writes.proofs.Fresh.{due-opens}

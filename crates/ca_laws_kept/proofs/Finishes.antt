@@ -1,14 +1,14 @@
 -- A finish: its reply is the last message about its put.
-use Rattle.std.proofs.Common.{◌≡◌, ℕ, zero, suc, ◌<◌, ◌⊎◌, inl, inr, Bool, true, false, not, List, [], ◌∷◌, ◌++◌, length, Option, Some, None, refl, sym, ap, subst, ◌∙◌, append-nil, arith}
-use Rattle.std.specs.Prelude.{map, option_map, slice_get, slice_set, unwrap_or}
+use Rattle.std.proofs.Common.{◌≡◌, ℕ, ◌<◌, ◌⊎◌, inl, inr, true, List, [], ◌∷◌, ◌++◌, length, Option, Some, None, refl, sym, ap, subst, ◌∙◌, append-nil, arith}
+use Rattle.std.specs.Prelude.{map, option_map, slice_get, unwrap_or}
 use Rattle.ca_arena.specs.declared.handle.Handle.{Handle}
-use Rattle.ca_laws_circuit.specs.Flows.{Awaits, Concerns, Flows, MayTell}
+use Rattle.ca_laws_circuit.specs.Flows.{Awaits, MayTell}
 use Rattle.ca_laws_circuit.proofs.Flows.{flows-told}
 use Rattle.ca_laws_circuit.proofs.Steps.{holds-told, may-finish}
 use Rattle.ca_laws_circuit.proofs.Told.{finish-speaks}
 use Rattle.ca_laws_circuit.specs.Steps.{replied}
 use Rattle.ca_records.specs.declared.puts.Put.{Put}
-use Rattle.ca_records.specs.Puts.{Record, WaitingPut}
+use Rattle.ca_records.specs.Puts.{WaitingPut}
 use Rattle.ca_text.specs.declared.command.Command.TheVariants as command
 use Rattle.ca_text.specs.Place.{At}
 use Rattle.ca_text.proofs.Places.{some_is, At-map, At-mapped, At-one, At-set-other, At-within}
@@ -16,13 +16,13 @@ use Rattle.ca_wire.specs.Fields.{Fields}
 use Rattle.ca_model.specs.Client.{Client}
 use Rattle.ca_model.specs.History.{Applied, Circuit, Entry, Finished, Sent, Told}
 use Rattle.ca_model.specs.Server.{Server}
-use Rattle.ca_model.specs.ServerCalls.{Replies, finish_reply, with_finish}
-use Rattle.ca_model.specs.Speech.{Id, In, Is, Speaks}
+use Rattle.ca_model.specs.ServerCalls.{finish_reply}
+use Rattle.ca_model.specs.Speech.{In, Is}
 use Rattle.ca_model_world.specs.Events as event
 use Rattle.ca_model_world.specs.Runs.{Happens}
 use Rattle.ca_model_world.specs.ServerEvents.{ending, ends_at, ends_by, finish_entry, first_of, next_busy, next_entries, next_numbers, replied_at, reported, server_after, withdrawals, without_puts}
 use Rattle.ca_model_world.specs.ServerEvents as server
-use Rattle.ca_model_world.specs.World.{Creation, IsSetting, Joined, Names, PutPlace, RecordSide, ServerSide, Setting, Standing, World, with_circuit}
+use Rattle.ca_model_world.specs.World.{IsSetting, Joined, Names, PutPlace, RecordSide, ServerSide, Setting, World, with_circuit}
 use Rattle.ca_laws_runs.specs.Circuit.{HeldAt, HeldOn}
 use Rattle.ca_laws_runs.proofs.Handled.{Like, like-held, posted-like}
 use Rattle.ca_laws_runs.proofs.Servers.{server-held}

@@ -1,6 +1,6 @@
 -- What is held of circuits, by what their servers keep for them: calm events, and later messages that go down.
-use Rattle.std.proofs.Common.{◌≡◌, ℕ, zero, suc, ◌<◌, ◌⊎◌, inl, inr, List, [], ◌∷◌, ◌++◌, length, Option, Some, None, refl, sym, ap, subst, ◌∙◌, append_assoc, append-nil, arith}
-use Rattle.std.specs.Prelude.{map, option_map, slice_get, slice_set, unwrap_or}
+use Rattle.std.proofs.Common.{◌≡◌, ℕ, suc, ◌<◌, ◌⊎◌, inl, inr, List, [], ◌∷◌, ◌++◌, length, refl, sym, ap, subst, ◌∙◌, append_assoc, append-nil}
+use Rattle.std.specs.Prelude.{option_map, slice_get, slice_set, unwrap_or}
 use Rattle.ca_arena.specs.declared.handle.Handle.{Handle}
 use Rattle.ca_queue.specs.Queue.{Queue, with_front_taken}
 use Rattle.ca_text.specs.Place.{At}
@@ -8,13 +8,13 @@ use Rattle.ca_text.proofs.Places.{At-one, At-set-other, At-within}
 use Rattle.ca_model.specs.Client.{Client}
 use Rattle.ca_model.specs.History.{Cause, Circuit, Reply, Told}
 use Rattle.ca_model.specs.ServerSteps.{Update}
-use Rattle.ca_model.specs.Speech.{Cid, Id, In, Ioid, Speaks, SubId}
+use Rattle.ca_model.specs.Speech.{Cid, In, Ioid, SubId}
 use Rattle.ca_model_world.specs.Events.{Event}
 use Rattle.ca_model_world.specs.Events as event
 use Rattle.ca_model_world.specs.Runs.{Happens}
 use Rattle.ca_model_world.specs.ServerEvents.{HappensPump, ends_by, front_number, stamped}
 use Rattle.ca_model_world.specs.World.{IsSetting, Joined, Names, ServerSide, Setting, World, with_circuit}
-use Rattle.ca_laws_circuit.specs.Flows.{Awaits, with_told}
+use Rattle.ca_laws_circuit.specs.Flows.{Awaits}
 use Rattle.ca_laws_circuit.specs.Held.{Holds}
 use Rattle.ca_laws_circuit.proofs.Flows.{flows-fewer, flows-told}
 use Rattle.ca_laws_circuit.proofs.Requests.{pending-fewer}

@@ -1,7 +1,7 @@
 -- The subscriptions that stand on a circuit, and its open channels, came by EVENT_ADDs and CREATE_CHANs that were handled.
 use Rattle.std.proofs.Common.{◌≡◌, ℕ, ◌+◌, ◌<◌, inl, inr, Bool, true, false, cond, not, eqb, List, [], ◌∷◌, ◌++◌, length, refl, sym, ap, subst, ◌∙◌, arith}
-use Rattle.std.specs.Prelude.{filter, map, option_map, slice_get, slice_set, unwrap_or}
-use Rattle.std.specs.List.{FoldsTo, fold}
+use Rattle.std.specs.Prelude.{filter, map}
+use Rattle.std.specs.List.{fold}
 use Rattle.ca_arena.specs.declared.handle.Handle.{Handle}
 use Rattle.ca_queue.specs.declared.entry.SubKey.{SubKey}
 use Rattle.ca_queue.specs.Keys.{same}
@@ -12,14 +12,14 @@ use Rattle.ca_wire.specs.Fields.{Fields}
 use Rattle.ca_model.specs.Due.{Action, Adds, Applies, Clears, Drops, Due, Opens, Switches, key_in, subscription_in}
 use Rattle.ca_model.specs.Due as action
 use Rattle.ca_model.specs.History.{Sent, Step}
-use Rattle.ca_model.specs.Server.{OpenChannel, Server, ServerEnd, Subscription, concerns, key_of}
+use Rattle.ca_model.specs.Server.{OpenChannel, Server, ServerEnd, concerns, key_of}
 use Rattle.ca_model.specs.ServerCalls.{is_on}
 use Rattle.ca_model.specs.ServerSteps.{Acts, knows}
 use Rattle.ca_model.specs.Speech.{In, Is}
 use Rattle.ca_model_world.specs.ServerEvents.{handled_at, numbers_after, with_number}
 use Rattle.ca_model_world.specs.World.{Creation, Joined, Standing, World}
 use Rattle.ca_laws_writes.proofs.Fresh.{added-is, due-adds, due-opens}
-use Rattle.ca_laws_writes.proofs.Lasting.{Begins, Handled, Lasting, numbered_for, told_gone, told_late}
+use Rattle.ca_laws_writes.proofs.Lasting.{Begins, Handled, Lasting, told_gone, told_late}
 use Rattle.ca_laws_writes.proofs.Lists.{In-kept, In-snoc, length-more, none_at}
 use Rattle.ca_laws_kept.specs.Messages.{Messages}
 use Rattle.ca_laws_kept.proofs.Since.{stamped-parts}

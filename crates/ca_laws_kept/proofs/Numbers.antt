@@ -1,28 +1,26 @@
 -- The numbers that wait in the queues of a circuit are those of subscriptions that stand.
 use Rattle.std.proofs.Common.{◌≡◌, ℕ, zero, suc, ◌+◌, ◌&&◌, ◌⊎◌, inl, inr, Bool, true, false, cond, not, eqb, ◌||◌, List, [], ◌∷◌, ◌++◌, length, Option, Some, None, refl, sym, ap, subst, ◌∙◌}
 use Rattle.std.specs.Prelude.{drop, filter, map, nat_lt, option_map, replicate, slice_get, slice_set, unwrap_or}
-use Rattle.std.specs.List.{FoldsTo, fold}
-use Rattle.ca_arena.specs.declared.handle.Handle.{Handle}
+use Rattle.std.specs.List.{fold}
 use Rattle.ca_queue.specs.declared.entry.SubKey.{SubKey}
 use Rattle.ca_queue.specs.Circuit.{queue_posted, queue_without, without_each}
 use Rattle.ca_queue.specs.Keys.{is_among, same}
 use Rattle.ca_queue.specs.Queue.{Queue, added, cancelled, no_queue, posted, switched, with_front_taken}
-use Rattle.ca_queue.specs.Waiting.{after_post, after_take, has_entry, is_of, may_take, replaces, with_last}
+use Rattle.ca_queue.specs.Waiting.{after_post, has_entry, is_of, may_take, replaces, with_last}
 use Rattle.ca_queue.proofs.Keys.{among_push, among_without, same_is, same_itself}
 use Rattle.ca_text.specs.Limits.{circuit_queues, queue_subscriptions}
 use Rattle.ca_text.specs.Place.{At}
 use Rattle.ca_text.proofs.Places.{some_is, At-set}
-use Rattle.ca_wire.specs.Fields.{Fields}
 use Rattle.ca_model.specs.Due.{Action, Adds, Applies, Clears, Drops, Due, Opens, Switches}
 use Rattle.ca_model.specs.Due as action
-use Rattle.ca_model.specs.History.{Cause, Reply, Sent, Step, Update}
-use Rattle.ca_model.specs.Server.{OpenChannel, ServerEnd, concerns, key_of}
+use Rattle.ca_model.specs.History.{Cause, Reply, Update}
+use Rattle.ca_model.specs.Server.{ServerEnd, concerns, key_of}
 use Rattle.ca_model.specs.ServerCalls.{is_on}
 use Rattle.ca_model.specs.ServerSteps as event
 use Rattle.ca_model.specs.Speech.{In}
-use Rattle.ca_model_world.specs.ServerEvents.{front_number, handled_at, number_taken, numbers_after, stamped, with_number, without_standing}
+use Rattle.ca_model_world.specs.ServerEvents.{front_number, number_taken, numbers_after, stamped, with_number}
 use Rattle.ca_model_world.specs.World.{Joined, Standing, World}
-use Rattle.ca_laws_writes.proofs.Lasting.{Begins, Handled, Lasting, numbered_for, told_gone}
+use Rattle.ca_laws_writes.proofs.Lasting.{Begins, Handled, Lasting}
 use Rattle.ca_laws_writes.proofs.Lists.{In-append, In-kept, In-last, In-snoc, kept-in, none_at}
 use Rattle.ca_laws_kept.specs.Numbers.{HasNumbers, HaveNumbers, IsNumberOf}
 use Rattle.ca_laws_kept.proofs.Puts.{In-map, In-mapped}

@@ -1,6 +1,6 @@
 -- Where puts came, over every event: they were there before, or a server's end has just handled one.
 use Rattle.std.proofs.Common.{◌≡◌, ℕ, ◌+◌, inl, inr, Bool, not, List, ◌∷◌, ◌++◌, length, Option, Some, None, refl, sym, ap, subst, ◌∙◌}
-use Rattle.std.specs.Prelude.{drop, filter, map, option_map, slice_get, slice_set, take, unwrap_or}
+use Rattle.std.specs.Prelude.{drop, filter, option_map, slice_get, slice_set, take, unwrap_or}
 use Rattle.std.specs.Str.{bytes_eq}
 use Rattle.ca_arena.specs.declared.handle.Handle.{Handle}
 use Rattle.ca_dbr.specs.Elements.{Elements}
@@ -15,7 +15,7 @@ use Rattle.ca_model.specs.ServerSteps as stepped
 use Rattle.ca_model_world.specs.ClientEvents.{HappensAccept, HappensDown, WantsFirst}
 use Rattle.ca_model_world.specs.Events.{Event}
 use Rattle.ca_model_world.specs.Events as event
-use Rattle.ca_model_world.specs.Runs.{CanBe, Happens, Leaves, clients_below}
+use Rattle.ca_model_world.specs.Runs.{CanBe, Leaves, clients_below}
 use Rattle.ca_model_world.specs.ServerEvents.{Finished, HappensAdd, HappensFinish, HappensPost, HappensRemove, ServerStepped, acted, ends_by, ends_here, next_busy, noted, records_after, replied_at, server_after, side_of, unsaid}
 use Rattle.ca_model_world.specs.ServerEvents as server
 use Rattle.ca_model_world.specs.World.{ClientSide, Joined, PutPlace, RecordSide, ServerSide, World, record_begun, server_begun, with_circuit}

@@ -1,17 +1,14 @@
 -- Where puts of a server's records came, as events go by.
 use Rattle.std.proofs.Common.{◌≡◌, ℕ, zero, suc, ◌+◌, ◌⊎◌, inl, inr, Bool, true, false, cond, not, List, [], ◌∷◌, ◌++◌, length, Option, Some, None, refl, sym, ap, subst, ◌∙◌}
-use Rattle.std.specs.Prelude.{drop, filter, map, option_map, option_to_list, slice_get, slice_set, take, unwrap_or}
+use Rattle.std.specs.Prelude.{drop, filter, map, option_to_list, slice_set, take}
 use Rattle.std.specs.List.{flat_map}
 use Rattle.std.specs.Str.{bytes_eq}
 use Rattle.ca_arena.specs.declared.handle.Handle.{Handle}
-use Rattle.ca_records.specs.declared.puts.Put.{Put}
-use Rattle.ca_records.specs.Puts.{WaitingPut}
 use Rattle.ca_records.specs.Record.{RecordState}
 use Rattle.ca_text.specs.Place.{At}
-use Rattle.ca_text.proofs.Places.{some_is, At-after, At-append, At-map, At-mapped, At-one, At-parts, At-set}
+use Rattle.ca_text.proofs.Places.{some_is, At-after, At-map, At-mapped, At-parts, At-set}
 use Rattle.ca_model.specs.Due.{Action, Applies}
 use Rattle.ca_model.specs.Due as action
-use Rattle.ca_model.specs.History.{Entry}
 use Rattle.ca_model.specs.Server.{Server}
 use Rattle.ca_model.specs.Speech.{In}
 use Rattle.ca_model_world.specs.ServerEvents.{next_busy, records_after, reported, server_after, without_puts}

@@ -1,6 +1,6 @@
 -- A removal: its SERVER_DISCONNs are about channels that are open.
-use Rattle.std.proofs.Common.{◌≡◌, ℕ, zero, suc, ◌<◌, inl, inr, Bool, true, false, cond, ◌&&◌, eqb, eqb-true, not, List, [], ◌∷◌, ◌++◌, length, Option, Some, None, refl, sym, ap, subst, ◌∙◌}
-use Rattle.std.specs.Prelude.{Ok, filter, find, map, option_map, take, unwrap_or}
+use Rattle.std.proofs.Common.{◌≡◌, ℕ, ◌<◌, inl, inr, Bool, true, false, cond, ◌&&◌, eqb, eqb-true, not, List, ◌++◌, length, Option, Some, refl, sym, ap, subst, ◌∙◌}
+use Rattle.std.specs.Prelude.{filter, map, option_map, take, unwrap_or}
 use Rattle.std.specs.Str.{bytes_eq}
 use Rattle.ca_arena.specs.declared.handle.Handle.{Handle}
 use Rattle.ca_ids.specs.Table.{held, under}
@@ -19,15 +19,15 @@ use Rattle.ca_model.specs.ServerSteps.{HasEnd}
 use Rattle.ca_model.specs.Speech.{In, Speaks}
 use Rattle.ca_model_world.specs.Events as event
 use Rattle.ca_model_world.specs.Runs.{Happens}
-use Rattle.ca_model_world.specs.ServerEvents.{HappensRemove, created_at, disconnected_at, ends_by, removal_told, removed_at}
+use Rattle.ca_model_world.specs.ServerEvents.{HappensRemove, disconnected_at, ends_by, removal_told, removed_at}
 use Rattle.ca_model_world.specs.World.{Creation, IsSetting, Joined, Names, RecordSide, ServerSide, Setting, World}
 use Rattle.ca_laws_runs.specs.Circuit.{HeldAt, HeldOn}
 use Rattle.ca_laws_runs.proofs.Handled.{like-held}
 use Rattle.ca_laws_runs.proofs.Servers.{server-held}
 use Rattle.ca_laws_writes.specs.Moves.{removal_told as removal_world}
-use Rattle.ca_laws_writes.specs.Seats.{Seated, Sound, TakesSent}
-use Rattle.ca_laws_writes.proofs.Events.{find-at, removed-same}
-use Rattle.ca_laws_writes.proofs.Lists.{At-take, In-kept, none_at}
+use Rattle.ca_laws_writes.specs.Seats.{Sound, TakesSent}
+use Rattle.ca_laws_writes.proofs.Events.{find-at}
+use Rattle.ca_laws_writes.proofs.Lists.{At-take, In-kept}
 use Rattle.ca_laws_writes.proofs.Lasting.{told_gone}
 use Rattle.ca_laws_kept.specs.Channels.{AllChannels, ChannelsOn, has_sid}
 use Rattle.ca_laws_kept.specs.Kept.{kept}

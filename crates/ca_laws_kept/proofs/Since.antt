@@ -1,25 +1,24 @@
 -- What a circuit has of subscriptions and channels since an earlier world.
-use Rattle.std.proofs.Common.{◌≡◌, ℕ, ◌+◌, ◌≤◌, eqb, ◌⊎◌, inl, inr, Bool, true, false, cond, not, List, [], ◌∷◌, ◌++◌, length, zero, suc, Option, Some, None, refl, sym, ap, subst, ◌∙◌}
+use Rattle.std.proofs.Common.{◌≡◌, ℕ, ◌+◌, ◌≤◌, eqb, ◌⊎◌, inl, inr, Bool, true, false, cond, not, List, [], ◌∷◌, ◌++◌, length, refl, sym, ap, subst, ◌∙◌}
 use Rattle.std.specs.Prelude.{filter, map, option_map, slice_get, slice_set, unwrap_or}
-use Rattle.std.specs.List.{FoldsTo, fold}
+use Rattle.std.specs.List.{fold}
 use Rattle.ca_arena.specs.declared.handle.Handle.{Handle}
 use Rattle.ca_queue.specs.declared.entry.SubKey.{SubKey}
 use Rattle.ca_queue.specs.Keys.{same}
 use Rattle.ca_queue.specs.Queue.{Queue, with_front_taken}
 use Rattle.ca_text.specs.Place.{At}
-use Rattle.ca_text.proofs.Places.{At-append, At-mapped, At-snoc}
+use Rattle.ca_text.proofs.Places.{At-mapped}
 use Rattle.ca_wire.specs.Fields.{Fields}
 use Rattle.ca_model.specs.Due.{Action, Adds, Applies, Clears, Drops, Opens, Switches}
 use Rattle.ca_model.specs.Due as action
-use Rattle.ca_model.specs.History.{Cause, Reply, Sent, Step, Told}
+use Rattle.ca_model.specs.History.{Cause, Reply, Sent, Step}
 use Rattle.ca_model.specs.Server.{OpenChannel, ServerEnd, concerns, key_of}
 use Rattle.ca_model.specs.ServerCalls.{is_on}
-use Rattle.ca_model.specs.ServerSteps.{Leaves, Update}
+use Rattle.ca_model.specs.ServerSteps.{Update}
 use Rattle.ca_model.specs.Speech.{In}
-use Rattle.ca_model_world.specs.ServerEvents.{front_number, handled_at, numbers_after, removal_told, stamped, with_number, without_standing}
+use Rattle.ca_model_world.specs.ServerEvents.{front_number, handled_at, numbers_after, stamped, with_number, without_standing}
 use Rattle.ca_model_world.specs.World.{Creation, Joined, Standing, World}
-use Rattle.ca_laws_writes.proofs.Frames.{Goes}
-use Rattle.ca_laws_writes.proofs.Lasting.{Lasting, SameHeld, numbered_for, told_gone, told_late}
+use Rattle.ca_laws_writes.proofs.Lasting.{Lasting, numbered_for, told_gone, told_late}
 use Rattle.ca_laws_writes.proofs.LastingStep.{HandledHere}
 use Rattle.ca_laws_writes.proofs.Lists.{In-kept, In-snoc}
 

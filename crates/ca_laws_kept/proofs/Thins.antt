@@ -1,15 +1,13 @@
 -- What a server keeps for a circuit it kept before, or it came by the message that its end has just handled.
-use Rattle.std.proofs.Common.{◌≡◌, ℕ, zero, suc, ◌+◌, ◌<◌, ◌≤◌, ◌⊎◌, inl, inr, Bool, true, false, cond, ◌&&◌, ◌||◌, eqb, ltb, eqb-true, eq-eqb, lt-ltb, List, [], ◌∷◌, ◌++◌, length, Option, Some, None, refl, sym, ap, subst, ◌∙◌, arith}
-use Rattle.std.specs.Prelude.{filter, map, nat_lt, option_map, slice_get, unwrap_or}
+use Rattle.std.proofs.Common.{◌≡◌, ℕ, zero, suc, ◌<◌, ◌⊎◌, inl, inr, Bool, true, false, cond, ◌&&◌, ◌||◌, eqb, ltb, eqb-true, eq-eqb, lt-ltb, List, [], ◌∷◌, length, Option, Some, None, refl, sym, ap, subst, ◌∙◌, arith}
+use Rattle.std.specs.Prelude.{filter, map, option_map, slice_get, unwrap_or}
 use Rattle.std.proofs.lemmas.Bool.{ltb-true}
 use Rattle.std.specs.List.{list_any}
-use Rattle.ca_arena.specs.declared.handle.Handle.{Handle}
 use Rattle.ca_records.specs.declared.puts.Put.{Put}
 use Rattle.ca_text.specs.declared.command.Command.TheVariants as command
 use Rattle.ca_text.specs.Place.{At}
-use Rattle.ca_text.proofs.Places.{some_is, At-one, At-within}
+use Rattle.ca_text.proofs.Places.{some_is, At-one}
 use Rattle.ca_model.specs.History.{Applied, Circuit, Entry, Sent, Waits}
-use Rattle.ca_model.specs.Server.{ServerEnd}
 use Rattle.ca_model.specs.Speech.{In, Is, sid_in}
 use Rattle.ca_model_world.specs.Events.{Event}
 use Rattle.ca_model_world.specs.Events as event
@@ -17,7 +15,6 @@ use Rattle.ca_model_world.specs.Runs.{Happens}
 use Rattle.ca_model_world.specs.World.{Creation, IsSetting, Joined, PutPlace, RecordSide, ServerSide, Setting, Standing, World}
 use Rattle.ca_laws_writes.specs.Agrees.{Agrees, IsBusyAs, IsBusyBy, WaitsAs}
 use Rattle.ca_laws_writes.specs.Lives.{IsPutOf}
-use Rattle.ca_laws_writes.specs.Moves.{WasHandled}
 use Rattle.ca_laws_writes.specs.Seats.{HasSeat, Sound, TakesSent}
 use Rattle.ca_laws_writes.proofs.Every.{event-sound}
 use Rattle.ca_laws_writes.proofs.Lasting.{AllEnds, Begins}
@@ -25,7 +22,7 @@ use Rattle.ca_laws_writes.proofs.LastingAll.{OnStep, event-by}
 use Rattle.ca_laws_writes.proofs.Lists.{In-kept, beside-left, beside-right, kept-in, none_at}
 use Rattle.ca_laws_kept.specs.Own.{IsOwnPlace}
 use Rattle.ca_laws_kept.specs.Kept.{has_channel, is_kept, kept, kept_of, put_places, records_at, sid_at}
-use Rattle.ca_laws_kept.proofs.Puts.{HasPut, In-map, In-mapped, In-parts, In-right, PutIn, have-places, places-have}
+use Rattle.ca_laws_kept.proofs.Puts.{In-map, In-mapped, In-parts, In-right, PutIn, have-places, places-have}
 use Rattle.ca_laws_kept.proofs.PutEvents.{IsOwnPut, leaves-back}
 use Rattle.ca_laws_kept.proofs.Since.{Grows, Since, grows-same, since-handled, since-lasting}
 use Rattle.ca_laws_writes.proofs.Lists.{In-append}
@@ -186,7 +183,6 @@ put-facts s w i y q h at put =
     busy-as i log (Some p) (Some b) came q is = (b, subst (λ (z : PutPlace). IsPutOf w.circuits i z b) (some_is p q is) came)
 
 -- ---- over an event
-
 
 -- ---- over an event
 

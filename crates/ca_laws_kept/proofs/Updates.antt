@@ -1,30 +1,28 @@
 -- Updates that leave the queues of an end are about subscriptions that stand.
 use Rattle.std.proofs.Common.{◌≡◌, ℕ, zero, suc, ◌<◌, inl, inr, true, List, [], ◌∷◌, ◌++◌, length, Option, Some, refl, sym, ap, subst, ◌∙◌}
-use Rattle.std.specs.Prelude.{map, option_and_then, option_map, slice_get, slice_set, unwrap_or}
+use Rattle.std.specs.Prelude.{option_and_then, option_map, slice_get, slice_set, unwrap_or}
 use Rattle.std.specs.List.{FoldsTo}
 use Rattle.ca_queue.specs.declared.entry.SubKey.{SubKey}
 use Rattle.ca_queue.specs.Queue.{Queue, with_front_taken}
 use Rattle.ca_queue.specs.Waiting.{front}
 use Rattle.ca_text.specs.declared.command.Command.TheVariants as command
 use Rattle.ca_text.specs.Place.{At}
-use Rattle.ca_text.proofs.Places.{some_is, At-one, At-within}
-use Rattle.ca_model.specs.Due.{key_in}
+use Rattle.ca_text.proofs.Places.{some_is, At-within}
 use Rattle.ca_model.specs.History.{Cause, Reply, Sent, Told}
 use Rattle.ca_model.specs.History as history
 use Rattle.ca_model.specs.Server.{ServerEnd, key_of}
-use Rattle.ca_model.specs.ServerSteps.{HasEnd, Leaves, Pumps, Update}
+use Rattle.ca_model.specs.ServerSteps.{Leaves, Pumps, Update}
 use Rattle.ca_model.specs.Speech.{In, Is, Speaks, Stored}
 use Rattle.ca_wire.specs.Fields.{Fields}
 use Rattle.ca_laws_circuit.specs.Flows.{Concerns}
 use Rattle.ca_model_world.specs.ServerEvents.{HappensPump, front_number}
-use Rattle.ca_model_world.specs.World.{IsSetting, Joined, ServerSide, Setting, Standing, World}
+use Rattle.ca_model_world.specs.World.{Joined, ServerSide, Standing, World}
 use Rattle.ca_laws_circuit.proofs.Told.{update-speaks}
 use Rattle.ca_laws_updates.specs.InStep.{InStep}
 use Rattle.ca_laws_updates.proofs.InStep.{step-taken}
-use Rattle.ca_laws_writes.specs.Seats.{Sound, TakesSent}
 use Rattle.ca_laws_writes.specs.Steps.{AllInStep}
 use Rattle.ca_laws_writes.proofs.Lists.{none_at}
-use Rattle.ca_laws_kept.specs.Kept.{kept, kept_of, records_at}
+use Rattle.ca_laws_kept.specs.Kept.{kept}
 use Rattle.ca_laws_kept.specs.Later.{IsLater, stamped_told}
 use Rattle.ca_laws_kept.specs.Messages.{AllMessages, Messages}
 use Rattle.ca_laws_kept.specs.Numbers.{AllNumbers, HaveNumbers}

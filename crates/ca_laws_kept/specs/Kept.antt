@@ -1,5 +1,5 @@
 -- Working: for which messages of a client its server keeps something, so that it may still send messages about them.
-use Rattle.std.specs.Prelude.{ℕ, ◌==◌, ◌&&◌, ◌++◌, Bool, List, [], Option, filter, if◌then◌else◌, map, nat_lt, option_map, option_to_list, slice_get, unwrap_or}
+use Rattle.std.specs.Prelude.{ℕ, ◌==◌, ◌&&◌, ◌++◌, Bool, List, [], filter, if◌then◌else◌, map, nat_lt, option_map, option_to_list, slice_get, unwrap_or}
 use Rattle.std.specs.List.{flat_map, list_any}
 use Rattle.ca_model.specs.History.{Circuit, Sent}
 use Rattle.ca_model.specs.Speech.{sid_in}

@@ -1,7 +1,6 @@
 -- Working: messages that a server sends later about messages that it handled before.
 use Rattle.std.specs.Prelude.{ℕ, ◌≡◌, ◌<◌, ◌++◌, List, [], ◌∷◌, length, option_map, slice_get, slice_set, unwrap_or}
 use Rattle.ca_queue.specs.Queue.{Queue, with_front_taken}
-use Rattle.ca_wire.specs.Fields.{Fields}
 use Rattle.ca_model.specs.History.{Cause, Circuit, Reply, Told}
 use Rattle.ca_model.specs.ServerSteps.{Update}
 use Rattle.ca_model.specs.Speech.{Id, In, Speaks}
