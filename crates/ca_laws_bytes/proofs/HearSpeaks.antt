@@ -33,7 +33,7 @@ abbrev paired : Handle → Phase → Handle × Phase
 paired h p = (h, p)
 
 -- what passes a test is in the list
-filtered-at : {A : Type 0} (test : A → Bool) (xs : List A) (i : ℕ) (y : A) → At (filter test xs) i y → (k : ℕ) × At xs k y
+pub filtered-at : {A : Type 0} (test : A → Bool) (xs : List A) (i : ℕ) (y : A) → At (filter test xs) i y → (k : ℕ) × At xs k y
 filtered-at test [] i y at = absurd cc
 filtered-at {A} test (x ∷ xs) i y at = go (test x) i at (λ k e. filtered-at test xs k y e)
   where

@@ -18,3 +18,4 @@ pub mod Runs
 pub mod Fits
 pub mod Speaks
 pub mod HearSpeaks
+pub mod MoreSpeaks

@@ -1,10 +1,12 @@
-ghost use Rattle.std.specs.Prelude.{◌≡◌, ◌+◌, ◌++◌, List, Ok, Option, ℕ};
+ghost use Rattle.std.specs.Prelude.{◌≡◌, ◌+◌, ◌++◌, Bool, List, Ok, Option, Some, ℕ};
 ghost use Rattle.ca_text.specs.Place.{At};
 ghost use Rattle.ca_arena.specs.declared.handle.Handle.{Handle};
 ghost use Rattle.ca_dbr.specs.Elements.{Elements};
-ghost use Rattle.ca_model.specs.Answers.{Notice, Sending};
-ghost use Rattle.ca_model.specs.Client.{Client, ended};
+ghost use Rattle.ca_ids.specs.Table.{under};
+ghost use Rattle.ca_model.specs.Answers.{Closing, Notice, Sending};
+ghost use Rattle.ca_model.specs.Client.{Client, ClientCircuit, Connection, ended};
 ghost use Rattle.ca_model.specs.ClientCalls.{ClientClears, ClientOpens, ClientPuts, ClientReads, ClientSubscribes, ClientUnsubscribes, ClientWrites, Opening, Shape};
+ghost use Rattle.ca_model.specs.ClientEnds.{ConnectsOn, GivesOn, circuits_ticked, searches_made};
 ghost use Rattle.ca_model.specs.Hears.{Effect, Hears};
 ghost use Rattle.ca_laws_circuit.specs.Held.{AreFew};
 ghost use Rattle.ca_wire.specs.Fields.{Fields};
@@ -42,7 +44,8 @@ pub fn bytes_are_messages_in_runs()
 {}
 
 /// All that a client's calls send are messages, each field of its width, and its core fits messages
-/// after them; so it is as the client hears a message, whatever that is, and as one of its ends ends.
+/// after them; so it is as the client hears a message, whatever that is, as one of its ends ends or
+/// is connected, and as bytes come or a moment is handed in.
 ///
 /// Its tables have no more slots than an arena.
 pub fn a_client_sends_messages()
@@ -64,4 +67,14 @@ pub fn a_client_sends_messages()
     ensures hears { (x : Client) → AreFew x → ClientFits x → (c : Handle) (m : Fields)
         → IsMessage m → (e : Effect) → Hears x c m e → Speaks e.core e.sent }
     ensures ends { (c : Handle) (x : Client) → ClientFits x → ClientFits (ended c x) }
+    // Bytes come, a circuit is connected, or a moment is handed in.
+    ensures gives { (x y : Client) (c : Handle) (bytes : List ℕ) (more : Bool)
+        (o : Option Connection) (sent : List Sending) → ClientFits x
+        → GivesOn x c bytes more o (Ok tt) sent y → Speaks y sent }
+    ensures connects { (x y : Client) (c : Handle) (d : ClientCircuit) (k : Option Closing)
+        (sent : List Sending) → AreFew x → ClientFits x → under x.circuits c ≡ Some d
+        → ConnectsOn x c (Some d) k sent y → Speaks y sent }
+    ensures ticks { (moment : ℕ) (x : Client) → ClientFits x
+        → Speaks (searches_made (circuits_ticked moment x)).core
+        (searches_made (circuits_ticked moment x)).sent }
 {}

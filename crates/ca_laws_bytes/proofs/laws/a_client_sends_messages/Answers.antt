@@ -1,5 +1,6 @@
 use Rattle.ca_laws_bytes.proofs.Fits.{ended-fits}
 use Rattle.ca_laws_bytes.proofs.HearSpeaks.{hears-speaks}
+use Rattle.ca_laws_bytes.proofs.MoreSpeaks.{connects-speaks, gives-speaks, tick-speaks}
 use Rattle.ca_laws_bytes.proofs.Speaks.{clear-speaks, open-speaks, put-speaks, read-speaks, subscribe-speaks, unsubscribe-speaks, write-speaks}
 use Rattle.ca_laws_bytes.proofs.laws.a_client_sends_messages.Goals as goal
 
@@ -14,4 +15,7 @@ returns c = record {
   clears = clear-speaks;
   hears = λ x few f c m good e h. hears-speaks x few f c m good e h;
   ends = ended-fits;
+  gives = gives-speaks;
+  connects = connects-speaks;
+  ticks = tick-speaks;
 }
