@@ -23,7 +23,7 @@ use Rattle.ca_model_client.proofs.Tables.{find-at, held-under}
 use Rattle.ca_laws_bytes.specs.Speaks.{AllMessages, ChannelFits, CircuitFits, ClientFits, Speaks, SubscriptionFits}
 use Rattle.ca_laws_bytes.proofs.Fits.{fits-circuits, fits-like, fits-sending, found-fits, gone-fits, holds-all-freed, holds-freed, holds-held, never-live, none-sent, not-clearing, one-more, searched-fits, standing-fits, subscriptions-fit, wire-under}
 use Rattle.ca_laws_bytes.proofs.Speaks.{add-good, clear-good, create-good}
-use Rattle.ca_laws_circuit.proofs.Tables as circuit
+use Rattle.ca_model_client.proofs.Tables as circuit
 use Rattle.ca_model.specs.Ends.{Address}
 use Rattle.ca_model.specs.Hears.{Answers, Completes, Effect, FindsAt, Hears, PutsOn, Updates, any_failed, clear_answered, confirmed, create_sent, created, doing, event_adds, failed, failing, heard_by, is_searched, left, native_in, put_on, request_failed, rights_told, searched_by, subscription_failed, with_circuit, without_drained, without_request, without_subscription, write_failed}
 use Rattle.ca_model.specs.Hears as hears

@@ -23,8 +23,8 @@ use Rattle.ca_model.specs.ClientEnds.{ConnectsOn, GivesOn, Ticking, all_searched
 use Rattle.ca_model.specs.ClientCalls.{is_over}
 use Rattle.ca_model.specs.Hears.{create_sent}
 use Rattle.ca_laws_circuit.specs.Held.{AreFew}
-use Rattle.ca_laws_circuit.proofs.Ends.{at-filter-map}
-use Rattle.ca_laws_circuit.proofs.Tables.{held-under}
+use Rattle.ca_model_client.proofs.Standings.{at-filter-map}
+use Rattle.ca_model_client.proofs.Tables.{held-under}
 use Rattle.ca_laws_bytes.specs.Speaks.{AllMessages, ChannelFits, CircuitFits, ClientFits, Speaks}
 use Rattle.ca_laws_bytes.proofs.Fits.{all-fit, both-sent, empty-payload, ended-fits, fits-like, fits-on, fits-sending, holds-all, holds-changed, none-sent, one-more, text-fits, wire-under}
 use Rattle.ca_laws_bytes.proofs.HearSpeaks.{filtered-at}
