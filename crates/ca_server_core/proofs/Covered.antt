@@ -1,5 +1,5 @@
 -- The lists of those that watch records stay complete, as circuits and lists change.
-use Rattle.std.proofs.Common.{◌≡◌, ℕ, zero, suc, ◌⊎◌, inl, inr, Bool, true, false, cond, ◌||◌, nat_eq, List, [], ◌∷◌, Option, Some, None, refl, sym, ap, ◌∙◌, slice_get, subst}
+use Rattle.std.proofs.Common.{◌≡◌, ℕ, zero, suc, inl, inr, Bool, true, false, ◌||◌, nat_eq, List, [], ◌∷◌, Option, Some, None, refl, sym, ap, ◌∙◌, slice_get, subst}
 use Rattle.std.specs.List.{list_any}
 use Rattle.std.specs.Str.{bytes_eq}
 use Rattle.std.proofs.lemmas.Bool.{eq-eqb, eqb-true}
@@ -9,7 +9,7 @@ use Rattle.ca_records.specs.Store.{Store}
 use Rattle.ca_ids.specs.Table.{MayGive, Table, under, with_changed, with_freed, with_held}
 use Rattle.ca_text.specs.Place.{At}
 use Rattle.ca_text.proofs.Places.{some_is}
-use Rattle.ca_server_watchers.specs.Watching.{IsAmong, LeavesAt, OthersStay, Watched, Watches, watching}
+use Rattle.ca_server_watchers.specs.Watching.{IsAmong, LeavesAt, Watched, Watches, watching}
 use Rattle.ca_model.specs.Ends.{Why}
 use Rattle.ca_model.specs.Server.{Ended, Open, ServerCircuit, ServerEnd, Subscription, new_end}
 use Rattle.ca_model.specs.Speech.{In}
@@ -18,7 +18,7 @@ use Rattle.ca_server_core.specs.Ending.{EndsAt, EndsIn}
 use Rattle.ca_server_core.specs.Following.{CoversBut}
 use Rattle.ca_server_core.proofs.Closing.{not-ended}
 use Rattle.ca_server_core.proofs.Servers.{became, stayed}
-use Rattle.ca_server_core.proofs.Tables.{changed-back, freed-back, handle-is, held-back, one-at-index, place, under-at}
+use Rattle.ca_server_core.proofs.Tables.{changed-back, freed-back, held-back, one-at-index, place, under-at}
 
 abbrev Circuits : Type 0
 Circuits = Table ServerCircuit

@@ -1,11 +1,11 @@
 -- A table each of whose values is changed by its handle, and puts that are taken out in turn.
-use Rattle.std.proofs.Common.{◌≡◌, ℕ, zero, suc, ◌+◌, Bool, true, false, cond, not, ◌||◌, List, [], ◌∷◌, filter, map, Option, Some, None, refl, sym, ap, ◌∙◌, subst, arith}
+use Rattle.std.proofs.Common.{◌≡◌, ℕ, zero, suc, ◌+◌, Bool, true, false, cond, not, ◌||◌, List, [], ◌∷◌, filter, Option, Some, None, refl, sym, ap, ◌∙◌, subst, arith}
 use Rattle.std.specs.Prelude.{option_map}
 use Rattle.ca_arena.specs.declared.handle.Handle.{Handle}
 use Rattle.ca_arena.specs.Arena.{Place}
 use Rattle.ca_ids.specs.Table.{Table, same_handle, under, with_changed, with_each, with_each_from}
 use Rattle.ca_records.specs.declared.puts.Put.{Put}
-use Rattle.ca_records.specs.Puts.{Record, WaitingPut, without_puts, withdrawn}
+use Rattle.ca_records.specs.Puts.{Record, WaitingPut, withdrawn}
 use Rattle.ca_text.specs.Place.{At}
 use Rattle.ca_text.proofs.Places.{some_is}
 use Rattle.ca_model.specs.Server.{ServerCircuit}
@@ -61,7 +61,7 @@ ext-from f g n [] same = refl
 ext-from f g n (p ∷ t) same =
     ap (λ (o : Option ServerCircuit). let q : Place ServerCircuit = record { generation = p.generation; value = o } in q ∷ with_each_from (n + 1) f t) (by p.value refl)
     ∙ ap (λ (u : Circuits). let q : Place ServerCircuit = record { generation = p.generation; value = option_map (g (record { index = n; generation = p.generation })) p.value } in q ∷ u)
-        (ext-from f g (n + 1) t (λ j h c is at. same (suc j) h c (omega (arith, is)) at))
+    (ext-from f g (n + 1) t (λ j h c is at. same (suc j) h c (omega (arith, is)) at))
   where
     own : Handle
     own = record { index = n; generation = p.generation }
@@ -81,7 +81,7 @@ fuse-from f g n [] = refl
 fuse-from f g n (p ∷ t) =
     ap (λ (o : Option ServerCircuit). let q : Place ServerCircuit = record { generation = p.generation; value = o } in q ∷ with_each_from (n + 1) g (with_each_from (n + 1) f t)) (by p.value)
     ∙ ap (λ (u : Circuits). let q : Place ServerCircuit = record { generation = p.generation; value = option_map (λ (c : ServerCircuit). g (record { index = n; generation = p.generation }) (f (record { index = n; generation = p.generation }) c)) p.value } in q ∷ u)
-        (fuse-from f g (n + 1) t)
+    (fuse-from f g (n + 1) t)
   where
     by : (o : Option ServerCircuit) → option_map (g (record { index = n; generation = p.generation })) (option_map (f (record { index = n; generation = p.generation })) o)
         ≡ option_map (λ (c : ServerCircuit). g (record { index = n; generation = p.generation }) (f (record { index = n; generation = p.generation }) c)) o

@@ -1,32 +1,23 @@
 -- A put is finished: its reply goes out, and the next that waits is applied.
-use Rattle.std.proofs.Common.{◌≡◌, ℕ, zero, suc, ◌+◌, inl, inr, Bool, true, false, cond, List, [], ◌∷◌, Option, Some, None, is_some, slice_set, Ok, refl, sym, ap, ◌∙◌, subst, arith}
+use Rattle.std.proofs.Common.{◌≡◌, ℕ, zero, suc, ◌+◌, inl, inr, cond, List, [], ◌∷◌, Option, Some, None, is_some, slice_set, Ok, refl, sym, ap, ◌∙◌, subst, arith}
 use Rattle.std.specs.Prelude.{option_map}
 use Rattle.ca_arena.specs.declared.handle.Handle.{Handle}
 use Rattle.ca_arena.specs.Arena.{Place}
-use Rattle.ca_beacon.specs.Clock.{Clock}
-use Rattle.ca_ids.specs.Table.{Table, same_handle, under, with_changed, with_each, with_each_from}
+use Rattle.ca_ids.specs.Table.{Table, under, with_changed, with_each, with_each_from}
 use Rattle.ca_records.specs.declared.puts.Put.{Put}
 use Rattle.ca_records.specs.declared.puts.Finished.{Finished}
 use Rattle.ca_records.specs.declared.puts.Stamp.{Stamp}
-use Rattle.ca_records.specs.Rules.{Rule}
-use Rattle.ca_records.specs.Puts.{Record, WaitingPut, finished, with_record, withdrawn}
+use Rattle.ca_records.specs.Puts.{Record, WaitingPut, finished, with_record}
 use Rattle.ca_records.specs.Store.{Store, records_of}
 use Rattle.ca_records.specs.Writes as writes
 use Rattle.ca_text.specs.Place.{At}
 use Rattle.ca_text.proofs.Places.{some_is}
-use Rattle.ca_wire.specs.Fields.{Fields}
 use Rattle.ca_model.specs.Ends as why
-use Rattle.ca_model.specs.Server.{Ended, Open, Server, ServerCircuit, ServerEnd, with_post}
-use Rattle.ca_model.specs.Speech.{Stored}
-use Rattle.ca_model.specs.ServerCalls.{Finishes, IsAwaited, after_next, finish_reply, lacking, with_message}
-use Rattle.ca_model.specs.ServerSteps.{counted, reached, stored_now, write_mask}
-use Rattle.ca_server_core.specs.Ending.{WithdrawsAll}
+use Rattle.ca_model.specs.Server.{Ended, Open, ServerCircuit}
 use Rattle.ca_server_core.specs.Finishing.{RepliesAt, RepliesIn, with_reply}
-use Rattle.ca_server_core.specs.Serving.{more_applied}
 use Rattle.ca_server_core.specs.Sound.{EndIsSound, IsSound}
-use Rattle.ca_server_core.proofs.Cleared.{is-same, same-is}
-use Rattle.ca_server_core.proofs.Closing.{end-stays, not-ended, sound-ended}
-use Rattle.ca_server_core.proofs.Servers.{became, made_of, same-parts, server_of, stayed}
+use Rattle.ca_server_core.proofs.Closing.{end-stays, sound-ended}
+use Rattle.ca_server_core.proofs.Servers.{became, stayed}
 use Rattle.ca_server_core.proofs.Sounds.{sound-changed}
 use Rattle.ca_server_core.proofs.Stays.{Keeps, record-keeps}
 use Rattle.ca_server_core.proofs.Tables.{at-under, handle-is, place, under-at}

@@ -1,14 +1,14 @@
 -- A step of a server that handled a message, with what followed from it.
-use Rattle.std.proofs.Common.{◌≡◌, ℕ, ◌+◌, ◌≤◌, ◌⊎◌, inl, inr, Bool, true, false, cond, eqb, filter, not, List, [], ◌∷◌, ◌++◌, length, take, Option, Some, None, refl, sym, ap, ◌∙◌, subst, arith}
+use Rattle.std.proofs.Common.{◌≡◌, ℕ, ◌⊎◌, inl, inr, Bool, true, false, cond, eqb, filter, not, List, [], ◌∷◌, ◌++◌, length, take, Option, Some, None, refl, sym, ap, ◌∙◌, subst}
 use Rattle.ca_arena.specs.declared.handle.Handle.{Handle}
 use Rattle.ca_beacon.specs.Clock.{Clock}
-use Rattle.ca_ids.specs.Table.{Table, same_handle, under, with_changed, with_each, with_freed}
+use Rattle.ca_ids.specs.Table.{Table, same_handle, under, with_changed, with_freed}
 use Rattle.ca_link.specs.Link.{LinkState}
 use Rattle.ca_dbr.specs.Elements.{Elements}
 use Rattle.ca_queue.specs.Keys.{same}
 use Rattle.ca_records.specs.declared.puts.Put.{Put}
 use Rattle.ca_records.specs.Puts.{Record, withdrawn, written_meta}
-use Rattle.ca_records.specs.Store.{HasAt, Store, records_of}
+use Rattle.ca_records.specs.Store.{Store, records_of}
 use Rattle.ca_text.specs.Place.{At}
 use Rattle.ca_text.proofs.Places.{At-snoc, some_is}
 use Rattle.ca_wire.specs.Fields.{Fields}
@@ -27,9 +27,9 @@ use Rattle.ca_server_core.specs.declared.step.EndStep.TheVariants as step
 use Rattle.ca_server_core.specs.declared.stepping.Step.{Step}
 use Rattle.ca_server_core.specs.Covering.{Covers}
 use Rattle.ca_server_core.specs.Ending.{EndsAt, EndsIn}
-use Rattle.ca_server_core.specs.Following.{CoversAt, CoversFor, Follows, IsSettled, Settles, is_open}
-use Rattle.ca_server_core.specs.Handling.{Does, Recorded, Tells, is_wrote, replied}
-use Rattle.ca_server_core.specs.Reaching.{ReachesAll, ReachesFrom}
+use Rattle.ca_server_core.specs.Following.{CoversFor, Follows, IsSettled, Settles, is_open}
+use Rattle.ca_server_core.specs.Handling.{Does, Recorded, Tells, is_wrote}
+use Rattle.ca_server_core.specs.Reaching.{ReachesAll}
 use Rattle.ca_server_core.specs.Serving.{CircuitSteps, Reports, StepsIn, more_applied, stepped}
 use Rattle.ca_server_core.specs.Sound.{IsSound}
 use Rattle.ca_server_core.specs.Stepping.{EndSteps, after_first, why_is}
@@ -37,7 +37,7 @@ use Rattle.ca_server_core.proofs.Closing.{none-waits, not-ended, sound-freed}
 use Rattle.ca_server_core.proofs.Covered.{Thins, covers-thinned, thins-both, thins-changed, thins-ended, thins-freed, thins-same}
 use Rattle.ca_server_core.proofs.Each.{under-each}
 use Rattle.ca_server_core.proofs.Reached.{there-is}
-use Rattle.ca_server_core.proofs.Servers.{became, freed-changed, freed-nothing, made_of, same-parts, server_of, stayed}
+use Rattle.ca_server_core.proofs.Servers.{became, freed-changed, freed-nothing, same-parts, server_of, stayed}
 use Rattle.ca_server_core.proofs.Stays.{at-filtered, link-kept}
 use Rattle.ca_server_core.proofs.Stepped.{handled-next, not-some, step-at}
 use Rattle.ca_server_core.proofs.Tables.{changed-back, changed-own}
@@ -128,16 +128,20 @@ covers-handled w y s u t h was e new m did D same subs there d covers = by (kind
         subst (λ (k : Effect). CoversFor k h u w after) (sym told.2)
         ((told.1, told.3), thinner (λ x j. subst (λ (a : Action). Joined a e x → In e.subscriptions x) (sym is) (λ i. i) j))
     by (Begins x is told) =
-        subst (λ (k : Effect). CoversFor k h u w after) (sym told.2)
-        (told.1, told.3, (Open new, changed-own (λ (c : ServerCircuit). Open new) t h (Open was) there), (λ g z q at i. elim (changed-back (λ (c : ServerCircuit). Open new) t g h (Open z) at) [
-          | inl own ↦
-              let i_new = subst (λ (v : ServerEnd). In v.subscriptions q) (open-is z new own.1.2) i in
-              elim (subst (λ (a : Action). Joined a e q) is (joined q i_new)) [
-                | inl old ↦ inl (subst (λ (k : Handle). IsAmong (watching w q.name) k) (sym own.0) (covers h was q there (old-in q old)))
-                | inr new_one ↦ inr (own.0, ap (λ (v : Subscription). v.name) new_one ∙ sym told.4)
-              ]
-          | inr old ↦ inl (covers g z q old.1 i)
-        ]))
+        subst (λ (k : Effect). CoversFor k h u w after) (sym told.2) (
+          told.1,
+          told.3,
+          (Open new, changed-own (λ (c : ServerCircuit). Open new) t h (Open was) there),
+          (λ g z q at i. elim (changed-back (λ (c : ServerCircuit). Open new) t g h (Open z) at) [
+            | inl own ↦
+                let i_new = subst (λ (v : ServerEnd). In v.subscriptions q) (open-is z new own.1.2) i in
+                elim (subst (λ (a : Action). Joined a e q) is (joined q i_new)) [
+                  | inl old ↦ inl (subst (λ (k : Handle). IsAmong (watching w q.name) k) (sym own.0) (covers h was q there (old-in q old)))
+                  | inr new_one ↦ inr (own.0, ap (λ (v : Subscription). v.name) new_one ∙ sym told.4)
+                ]
+            | inr old ↦ inl (covers g z q old.1 i)
+          ]),
+        )
 
 pub step-covers : (port : ℕ) (w : Watched) (s u : Store) (t after : Circuits) (h : Handle) (did : Effect) → StepsIn port t h s (Some (step.Handled did)) after u → Covers w t → CoversFor did h u w after
 step-covers port w s u t after h did (inr none) covers = not-some (step.Handled did) none.1

@@ -2,7 +2,6 @@
 use Rattle.std.proofs.Common.{◌≡◌, ◌≢◌, ℕ, ◌⊎◌, inl, inr, Bool, true, false, cond, ◌||◌, List, [], ◌∷◌, Option, Some, None, is_some, Ok, refl, sym, ap, ◌∙◌, subst}
 use Rattle.ca_arena.specs.declared.handle.Handle.{Handle}
 use Rattle.ca_beacon.specs.Clock.{Clock}
-use Rattle.ca_dbr.specs.declared.value.Meta.{Meta}
 use Rattle.ca_ids.specs.Table.{Table, same_handle, under, with_changed, with_each}
 use Rattle.ca_records.specs.declared.puts.Finished.{Finished}
 use Rattle.ca_records.specs.declared.puts.Put.{Put}
@@ -209,8 +208,8 @@ module _ (port now n : ℕ) (b : Clock) where
       whole : (ws : List WaitingPut) → under t h ≡ Some (Open e) → with_each (next_change name ws s.stamp gone) (with_changed (λ (x : ServerCircuit). Ended why.OutOfMemory e.link.output) h t) ≡ with_each (next_change name ws s.stamp (λ (k : Handle). same_handle k h || gone k)) t
       whole ws there =
           ap (λ (x : Circuits). with_each (next_change name ws s.stamp gone) x)
-              (one-changes only t h (Open e) (Ended why.OutOfMemory e.link.output) there (ap (λ (b : Bool). cond b (Ended why.OutOfMemory e.link.output) (Open e)) (is-same h h refl))
-              (λ g x at other. ap (λ (b : Bool). cond b (Ended why.OutOfMemory e.link.output) x) (not-it g other (same_handle g h) refl)))
+          (one-changes only t h (Open e) (Ended why.OutOfMemory e.link.output) there (ap (λ (b : Bool). cond b (Ended why.OutOfMemory e.link.output) (Open e)) (is-same h h refl))
+          (λ g x at other. ap (λ (b : Bool). cond b (Ended why.OutOfMemory e.link.output) x) (not-it g other (same_handle g h) refl)))
           ∙ each-fuse only (next_change name ws s.stamp gone) t
           ∙ each-ext (λ g x. next_change name ws s.stamp gone g (only g x)) (next_change name ws s.stamp (λ (k : Handle). same_handle k h || gone k)) t (λ g x at. by g x at (same_handle g h) refl)
         where

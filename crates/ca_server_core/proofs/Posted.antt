@@ -1,5 +1,5 @@
 -- A post of a caller.
-use Rattle.std.proofs.Common.{◌≡◌, ℕ, inl, inr, Bool, true, false, List, Result, Ok, Err, refl, sym, ap, ◌∙◌, subst}
+use Rattle.std.proofs.Common.{◌≡◌, ℕ, inl, Bool, false, List, Result, Ok, Err, refl, sym, ap, ◌∙◌, subst}
 use Rattle.std.specs.Prelude.{IsErrAnd}
 use Rattle.ca_arena.specs.declared.handle.Handle.{Handle}
 use Rattle.ca_beacon.specs.Clock.{Clock}

@@ -1,5 +1,5 @@
 -- A server after the updates of a circuit left their queues.
-use Rattle.std.proofs.Common.{◌≡◌, ◌≤◌, ◌⊎◌, ℕ, inl, inr, List, [], length, Some, None, Option, refl, sym, ap, ◌∙◌, subst}
+use Rattle.std.proofs.Common.{◌≡◌, ◌≤◌, ℕ, inl, inr, List, [], length, Some, None, Option, refl, sym, ap, ◌∙◌, subst}
 use Rattle.std.specs.List.{FoldsTo}
 use Rattle.ca_arena.specs.declared.handle.Handle.{Handle}
 use Rattle.ca_beacon.specs.Clock.{Clock}
@@ -11,9 +11,8 @@ use Rattle.ca_text.proofs.Places.{some_is}
 use Rattle.ca_model.specs.Ends.{Why}
 use Rattle.ca_model.specs.Ends as why
 use Rattle.ca_model.specs.Server.{Ended, Open, OpenChannel, Server, ServerCircuit, ServerEnd}
-use Rattle.ca_model.specs.ServerSteps.{Leaves, Pumps, Rests, Update, ended, with_end}
+use Rattle.ca_model.specs.ServerSteps.{Leaves, Pumps, Update}
 use Rattle.ca_server_core.specs.Clearing.{ArePuts}
-use Rattle.ca_server_core.specs.Ending.{WithdrawsAll}
 use Rattle.ca_server_core.specs.Handling.{AreServed}
 use Rattle.ca_server_core.specs.Pumping.{PumpsAt, PumpsIn}
 use Rattle.ca_server_core.specs.Sound.{EndIsSound, IsSound}

@@ -1,6 +1,5 @@
 -- Updates leave the queues of an end.
 use Rattle.std.proofs.Common.{◌≡◌, ℕ, zero, suc, take, ◌+◌, ◌-◌, ◌*◌, ◌<◌, ◌≤◌, ◌⊎◌, inl, inr, Bool, true, false, cond, List, [], ◌∷◌, ◌++◌, length, replicate, Option, Some, None, Result, Ok, Err, refl, sym, ap, ◌∙◌, subst, arith}
-use Rattle.std.specs.Prelude.{slice_set}
 use Rattle.std.proofs.lemmas.List.{append-nil, length-append}
 use Rattle.std.specs.List.{FoldsTo}
 use Rattle.std.specs.Result.{IsErr}
@@ -8,7 +7,6 @@ use Rattle.std.specs.declared.alloc.AllocError.{AllocError}
 use Rattle.ca_text.specs.declared.refusal.Refusal.{Refusal}
 use Rattle.ca_text.specs.declared.refusal.Refusal.TheVariants as refusal
 use Rattle.ca_text.specs.Limits.{element_limit, output_limit, payload_limit}
-use Rattle.ca_text.specs.Place.{At}
 use Rattle.ca_text.specs.Status.{get_fail, normal}
 use Rattle.ca_text.proofs.Places.{At-within, some_is}
 use Rattle.ca_dbr.specs.declared.data_type.BaseType.{BaseType}
@@ -21,7 +19,6 @@ use Rattle.ca_dbr.specs.Elements.{Elements}
 use Rattle.ca_dbr.specs.Image.{image}
 use Rattle.ca_dbr.specs.Shown.{shown}
 use Rattle.ca_dbr.specs.Types.{element_size, meta_size, padding_size, size_of_image, type_number}
-use Rattle.ca_ids.specs.Table.{Table}
 use Rattle.ca_link.specs.Calls.{IsOpen}
 use Rattle.ca_link.specs.Link.{LinkState, with_sent}
 use Rattle.ca_queue.specs.declared.entry.SubKey.{SubKey}
@@ -32,7 +29,7 @@ use Rattle.ca_wire.specs.Header.{header_spelling}
 use Rattle.ca_wire.specs.Message.{header_of, spelled, spelling}
 use Rattle.ca_wire.proofs.Headers.{length-header_spelling}
 use Rattle.ca_wire.specs.Messages.{update}
-use Rattle.ca_model.specs.Server.{OpenChannel, ServerEnd, key_of}
+use Rattle.ca_model.specs.Server.{ServerEnd, key_of}
 use Rattle.ca_model.specs.ServerSteps.{Leaves, Rests, Update}
 use Rattle.ca_model.specs.Speech.{Stored}
 use Rattle.ca_model.specs.Updates.{ShowsTo, update_count, update_in}

@@ -11,7 +11,7 @@ use Rattle.ca_queue.specs.Queue.{Queue}
 use Rattle.ca_records.specs.declared.puts.Put.{Put}
 use Rattle.ca_records.specs.Puts.{Record, withdrawn}
 use Rattle.ca_records.specs.Record.{RecordState}
-use Rattle.ca_records.specs.Store.{HasAt, IsThere, Store, records_of}
+use Rattle.ca_records.specs.Store.{HasAt, Store, records_of}
 use Rattle.ca_text.specs.Place.{At}
 use Rattle.ca_text.proofs.Places.{At-one, At-within, some_is}
 use Rattle.ca_server_watchers.specs.Watching.{AreApart, IsAmong, LeavesAt, Watched, watching}
@@ -28,8 +28,8 @@ use Rattle.ca_server_core.specs.Subscribing.{events_of}
 use Rattle.ca_server_subscriptions.specs.Subscribed.{HasRoom}
 use Rattle.ca_server_core.proofs.Cleared.{is-same, same-is}
 use Rattle.ca_server_core.proofs.Closing.{sound-ended}
-use Rattle.ca_server_core.proofs.Covered.{Thins, covers-left, covers-thinned, thins-changed, thins-ended, thins-same}
-use Rattle.ca_server_core.proofs.Each.{each-back, each-ext, each-one-more, under-each, withdrawn-both, withdrawn-ext}
+use Rattle.ca_server_core.proofs.Covered.{covers-left, covers-thinned, thins-changed, thins-ended}
+use Rattle.ca_server_core.proofs.Each.{each-back, each-ext, each-one-more, under-each, withdrawn-both}
 use Rattle.ca_server_core.proofs.Servers.{became, stayed}
 use Rattle.ca_server_core.proofs.Sounds.{sound-changed}
 use Rattle.ca_server_core.proofs.Stepped.{each-same, none-gone}
@@ -158,7 +158,7 @@ module _ (name : List ℕ) (mask : ℕ) (v : Stored) where
           circuits = changed
               ∙ ap (λ (y : Circuits). with_changed (λ (c : ServerCircuit). Open (with_post name mask v e)) h y) w.circuits
               ∙ each-one-more (passed ds gone) (passed (h ∷ ds) gone) t h (Open e) (Open (with_post name mask v e)) (fresh (Open e) there)
-                  (own-of (Open e) gone ∙ ap (λ (b : Bool). cond b (Ended why.OutOfMemory e.link.output) (Open (with_post name mask v e))) stays) (λ k c at other. sym (first-of k c gone other));
+              (own-of (Open e) gone ∙ ap (λ (b : Bool). cond b (Ended why.OutOfMemory e.link.output) (Open (with_post name mask v e))) stays) (λ k c at other. sym (first-of k c gone other));
           records = w.records;
           rules = w.rules;
           stamp = w.stamp;
@@ -180,8 +180,8 @@ module _ (name : List ℕ) (mask : ℕ) (v : Stored) where
       circuits = changed
           ∙ ap (λ (y : Circuits). with_changed (λ (c : ServerCircuit). Ended why.OutOfMemory e.link.output) h y) w.circuits
           ∙ each-one-more (passed ds gone) (passed (h ∷ ds) to) t h (Open e) (Ended why.OutOfMemory e.link.output) (fresh (Open e) there)
-              (own-of (Open e) to ∙ ap (λ (b : Bool). cond b (Ended why.OutOfMemory e.link.output) (Open (with_post name mask v e))) (or-right (gone h) (same_handle h h) (is-same h h refl)))
-              (λ k c at other. others k c other);
+          (own-of (Open e) to ∙ ap (λ (b : Bool). cond b (Ended why.OutOfMemory e.link.output) (Open (with_post name mask v e))) (or-right (gone h) (same_handle h h) (is-same h h refl)))
+          (λ k c at other. others k c other);
       records = taken.records ∙ ap (λ (rs : List Record). withdrawn (λ (p : Put). same_handle p.circuit h) rs) w.records ∙ withdrawn-both (λ (p : Put). same_handle p.circuit h) (λ (p : Put). gone p.circuit) (records_of s);
       rules = taken.rules ∙ w.rules;
       stamp = taken.stamp ∙ w.stamp;
@@ -466,8 +466,8 @@ module _ (place mask : ℕ) (w0 : Watched) (t0 : Circuits) (s0 : Store) (k : ℕ
   walk-next v after u (q, at, did) =
       let st : q.state ≡ a.r.state = ap (λ (x : Record). x.state) (there-is s place q a.here.0 at a.here.1) ∙ a.here.2 in
       elim (subst (λ (x : RecordState).
-        ((h : Handle) × At (watching w x.name) j h × ReachesOne x.name place mask j h (watches_under x.name (under t h)) w t s v after u)
-        ⊎ ((slice_get (watching w x.name) j ≡ None) × (v ≡ w) × (after ≡ t) × (u ≡ s))) st did) [
+      ((h : Handle) × At (watching w x.name) j h × ReachesOne x.name place mask j h (watches_under x.name (under t h)) w t s v after u)
+      ⊎ ((slice_get (watching w x.name) j ≡ None) × (v ≡ w) × (after ≡ t) × (u ≡ s))) st did) [
         | inl one ↦ next-one one.0 one.1 v after u one.2
         | inr none ↦ next-none v after u none.0 none.1 none.2 none.3
       ]

@@ -1,14 +1,12 @@
 -- A step of a server, from what it made of one circuit.
-use Rattle.std.proofs.Common.{◌≡◌, ◌≢◌, ℕ, suc, ◌+◌, ◌≤◌, inl, inr, Bool, true, false, List, [], ◌∷◌, length, filter, map, Option, Some, None, refl, sym, ap, ◌∙◌, subst}
+use Rattle.std.proofs.Common.{◌≡◌, ◌≢◌, ℕ, suc, ◌+◌, ◌≤◌, inl, inr, Bool, true, false, List, [], ◌∷◌, length, Option, Some, None, refl, sym, ap, ◌∙◌, subst}
 use Rattle.std.specs.Prelude.{option_map}
 use Rattle.ca_arena.specs.declared.handle.Handle.{Handle}
 use Rattle.ca_arena.specs.Arena.{Place}
 use Rattle.ca_beacon.specs.Clock.{Clock}
-use Rattle.ca_ids.specs.Table.{Table, under, with_changed, with_each, with_each_from, with_freed}
+use Rattle.ca_ids.specs.Table.{Table, under, with_changed, with_each_from, with_freed}
 use Rattle.ca_records.specs.declared.puts.Put.{Put}
-use Rattle.ca_records.specs.declared.puts.Stamp.{Stamp}
 use Rattle.ca_records.specs.Puts.{Record, withdrawn}
-use Rattle.ca_records.specs.Rules.{Rule}
 use Rattle.ca_records.specs.Store.{Store, records_of}
 use Rattle.ca_text.specs.declared.refusal.Refusal.TheVariants as refusal
 use Rattle.ca_text.specs.Limits.{arena_slots}
@@ -17,7 +15,7 @@ use Rattle.ca_text.proofs.Places.{some_is}
 use Rattle.ca_wire.specs.Fields.{Fields}
 use Rattle.ca_model.specs.Due.{Action, Adds, Applies, Clears, Drops, Due, Greets, Names, Nothing, Opens, Switches, Waits}
 use Rattle.ca_model.specs.Ends as why
-use Rattle.ca_model.specs.Server.{Ended, Open, Server, ServerCircuit, ServerEnd, Subscription, concerns, key_of}
+use Rattle.ca_model.specs.Server.{Ended, Open, Server, ServerCircuit, ServerEnd}
 use Rattle.ca_model.specs.ServerSteps.{Acts, Handles, LacksMemory, NeedsMemory, Next, Reaches, Records, Stepped, Steps, StepsAt, StepsOpen, after_post, closed, counted, is_write, knows, reached, stored_now, with_end, write_mask}
 use Rattle.ca_model.specs.ServerSteps as steps
 use Rattle.ca_server_core.specs.declared.cause.Cause.{Cause}

@@ -1,11 +1,10 @@
 -- Working: updates leave the queues of an end.
-use Rattle.std.specs.Prelude.{ℕ, ◌≡◌, ◌≤◌, ◌⊎◌, Bool, true, false, List, Option, Some, None, Ok, Err, Result, length}
+use Rattle.std.specs.Prelude.{◌≡◌, ◌⊎◌, Bool, true, false, List, Some, None, Ok, Err, Result}
 use Rattle.std.specs.List.{FoldsTo}
 use Rattle.std.specs.declared.alloc.AllocError.{AllocError}
 use Rattle.ca_arena.specs.declared.handle.Handle.{Handle}
 use Rattle.ca_ids.specs.Table.{Table, under, with_changed}
 use Rattle.ca_records.specs.Store.{Store}
-use Rattle.ca_text.specs.Limits.{arena_slots}
 use Rattle.ca_model.specs.Ends as why
 use Rattle.ca_model.specs.Server.{ServerCircuit, ServerEnd}
 use Rattle.ca_model.specs.Server as server

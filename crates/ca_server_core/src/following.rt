@@ -27,8 +27,7 @@ pub(crate) fn follow(
 )
     requires sound { IsSound (records_of records.old) circuits.old }
     requires covered { CoversFor effect circuit records.old watchers.old circuits.old }
-    ensures follows {
-        Follows effect circuit circuits.old records.old circuits.new records.new }
+    ensures follows { Follows effect circuit circuits.old records.old circuits.new records.new }
     ensures sound { IsSound (records_of records.new) circuits.new }
     ensures covered { Covers watchers.new circuits.new }
 {

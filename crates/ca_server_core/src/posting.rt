@@ -52,8 +52,7 @@ pub(crate) fn post_to_all(
     requires there { IsThere records.old place }
     requires sound { IsSound (records_of records.old) circuits.old }
     requires covered { Covers watchers.old circuits.old }
-    ensures reaches {
-        ReachesFrom place mask circuits.old records.old circuits.new records.new }
+    ensures reaches { ReachesFrom place mask circuits.old records.old circuits.new records.new }
     ensures sound { IsSound (records_of records.new) circuits.new }
     ensures covered { Covers watchers.new circuits.new }
 {

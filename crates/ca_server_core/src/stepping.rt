@@ -81,12 +81,7 @@ fn step_on(
 
 /// What a step of a circuit that handled a message answers. If its end has ended since, out of memory, nothing is left of its replies:
 /// these come after the first bytes that waited, and these alone are left.
-fn settle(
-    alloc: Global,
-    circuits: &mut HeldTable<Circuit>,
-    circuit: Handle,
-    waited: usize,
-) -> Step
+fn settle(alloc: Global, circuits: &mut HeldTable<Circuit>, circuit: Handle, waited: usize) -> Step
     ensures { Settles circuits.old circuit waited result circuits.new }
 {
     if is_open(circuits, circuit) {

@@ -1,4 +1,4 @@
-use Rattle.std.proofs.Common.{◌≡◌, ℕ, List, sym, ap, ◌∙◌, subst}
+use Rattle.std.proofs.Common.{◌≡◌, ℕ, List, ap, ◌∙◌, subst}
 use Rattle.ca_records.specs.Puts.{Record}
 use Rattle.ca_records.specs.Record.{RecordState}
 use Rattle.ca_server_watchers.specs.Watching.{Watches}

@@ -1,4 +1,4 @@
-use Rattle.std.proofs.Common.{◌≡◌, ℕ, ◌+◌, ◌-◌, ◌<◌, List, length, ap, ◌∙◌, subst, arith}
+use Rattle.std.proofs.Common.{◌≡◌, ℕ, ◌-◌, ◌<◌, List, length, ap, ◌∙◌, subst, arith}
 use Rattle.ca_records.specs.Record.{RecordState}
 use Rattle.ca_server_watchers.specs.Watching.{AreApart, watching}
 use Rattle.ca_server_core.proofs.Reached.{walk-begins, walk-ends, walk-next}

@@ -1,4 +1,3 @@
-use Rattle.std.proofs.Common.{ℕ}
 use Rattle.ca_server_core.proofs.Reached.{Walk}
 use Rattle.ca_server_core.proofs.posting.post_to_all.Given as goal
 

@@ -1,4 +1,4 @@
-use Rattle.std.proofs.Common.{◌∷◌, [], length, sym, ap, ◌∙◌, refl}
+use Rattle.std.proofs.Common.{length, sym, refl}
 use Rattle.std.proofs.lemmas.Bool.{leb-false}
 use Rattle.ca_text.specs.Limits.{output_limit}
 use Rattle.ca_server_core.proofs.Pumps.{lacks-one, leaves-one}

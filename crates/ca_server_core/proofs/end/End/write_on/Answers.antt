@@ -1,4 +1,4 @@
-use Rattle.std.proofs.Common.{◌≡◌, false, None, refl, sym, subst}
+use Rattle.std.proofs.Common.{◌≡◌, None, refl, sym, subst}
 use Rattle.ca_records.specs.declared.puts.Begun.TheVariants as begun
 use Rattle.ca_records.specs.Puts.{Record}
 use Rattle.ca_records.specs.Store.{Becomes, Store}

@@ -1,4 +1,4 @@
-use Rattle.std.proofs.Common.{◌≡◌, sym, subst}
+use Rattle.std.proofs.Common.{sym, subst}
 use Rattle.ca_server_core.specs.declared.step.Effect.{Effect}
 use Rattle.ca_server_core.specs.Following.{CoversFor}
 use Rattle.ca_server_core.proofs.Covered.{covers-thinned}

@@ -1,4 +1,4 @@
-use Rattle.std.proofs.Common.{◌≡◌, length, List, ℕ, sym, ap, ◌∙◌, subst}
+use Rattle.std.proofs.Common.{length, List, ℕ, ap}
 use Rattle.ca_records.specs.Store.{records_of}
 use Rattle.ca_server_core.proofs.Covered.{covers-thinned}
 use Rattle.ca_server_core.proofs.Followed.{broke-thins, none-thins, settled-sound, settled-thins, step-covers, viewed-followed}
