@@ -1,14 +1,11 @@
 -- A server that serves one more record.
-use Rattle.std.proofs.Common.{◌≡◌, ℕ, zero, suc, ◌+◌, ◌⊎◌, inl, inr, Bool, true, false, cond, List, [], ◌∷◌, ◌++◌, length, take, drop, Option, Some, None, Ok, refl, sym, ap, ◌∙◌, subst}
+use Rattle.std.proofs.Common.{◌≡◌, ℕ, zero, suc, ◌+◌, ◌⊎◌, inl, inr, Bool, true, false, cond, List, [], ◌∷◌, ◌++◌, length, take, drop, Some, Ok, refl, sym, ap, ◌∙◌, subst}
 use Rattle.std.proofs.lemmas.List.{drop_at, take_at}
 use Rattle.std.specs.Str.{bytes_eq}
-use Rattle.ca_arena.specs.declared.handle.Handle.{Handle}
 use Rattle.ca_beacon.specs.Clock.{Clock}
 use Rattle.ca_ids.specs.Table.{Table}
-use Rattle.ca_records.specs.declared.puts.Stamp.{Stamp}
 use Rattle.ca_records.specs.Puts.{Record, WaitingPut, new_record, record_named}
 use Rattle.ca_records.specs.Record.{RecordState}
-use Rattle.ca_records.specs.Rules.{Rule}
 use Rattle.ca_records.specs.Store.{Enters, Store, records_of}
 use Rattle.ca_records.specs.Writes as writes
 use Rattle.ca_text.specs.Place.{At}
@@ -19,7 +16,6 @@ use Rattle.ca_server_core.specs.Sound.{IsSound}
 use Rattle.ca_server_core.proofs.Finished.{sound-kept}
 use Rattle.ca_server_core.proofs.Servers.{same-parts, server_of}
 use Rattle.ca_server_core.proofs.Stays.{Keeps, Waited}
-use Rattle.ca_server_core.proofs.Tables.{none-some}
 
 -- a record is found still among one more
 named-in : (before after : List Record) (r : Record) (n : List ℕ) (x : Record) → record_named (before ++ after) n ≡ Some x → (q : Record) × (record_named (before ++ r ∷ after) n ≡ Some q)
