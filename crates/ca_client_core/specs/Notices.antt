@@ -1,5 +1,7 @@
 -- Vocabulary: the notices of the code as those of the vocabulary.
-use Rattle.std.specs.Prelude.{List, [], ◌∷◌, Option, Some, None}
+use Rattle.std.specs.Prelude.{◌≡◌, ◌++◌, List, [], ◌∷◌, Option, Some, None, map}
+use Rattle.ca_arena.specs.declared.handle.Handle.{Handle}
+use Rattle.ca_dbr.specs.declared.value.Outcome.TheVariants as outcome
 use Rattle.ca_client_core.specs.declared.notice.Notice.{Notice}
 use Rattle.ca_client_core.specs.declared.notice.Notice.TheVariants as told
 use Rattle.ca_model.specs.Answers as notice
@@ -16,3 +18,13 @@ notice_of (told.WriteRefused h status) = notice.WriteRefused h status
 abbrev pub noticed : Option Notice → List notice.Notice
 noticed None = []
 noticed (Some n) = notice_of n ∷ []
+
+-- these requests are complete with Disconnected, these channels are lost, and then this one
+abbrev pub told_by : List Handle → List Handle → Option Notice → List notice.Notice
+told_by requests channels last =
+    map (λ (q : Handle). notice.Completed q outcome.Disconnected) requests ++ (map notice.Lost channels ++ noticed last)
+
+-- the first of the notices was taken
+abbrev pub TakesNotice : List notice.Notice → Option Notice → List notice.Notice → Type 0
+TakesNotice old None new = (old ≡ []) × (new ≡ [])
+TakesNotice old (Some n) new = old ≡ notice_of n ∷ new

@@ -1,0 +1,81 @@
+ghost use Rattle.std.specs.Prelude.{◌≡◌, [], None, Some, map};
+ghost use Rattle.ca_client_core.specs.Notices.{TakesNotice, notice_of, told_by};
+ghost use Rattle.ca_client_core.specs.declared.notice.Notice.TheVariants as told;
+ghost use Rattle.ca_model.specs.Answers as notice;
+
+use crate::notice::Notice;
+use ca_arena::Handle;
+use ca_dbr::Outcome;
+use std::alloc::Global;
+use std::marker::Model;
+
+/// What a call reports, in order: first the requests that are complete without an answer, then the channels that were lost, then anything else.
+///
+/// It takes no memory to make, since its handles were listed before.
+#[derive(Debug, Drop)]
+pub struct Notices {
+    disconnected: Vec<Handle>,
+    // How many of these were taken.
+    completed: usize,
+    lost: Vec<Handle>,
+    // How many of these were taken.
+    parted: usize,
+    last: Option<Notice>,
+}
+
+impl Model for Notices {
+    ghost use Rattle.std.specs.Prelude.{List, drop};
+    ghost use Rattle.ca_client_core.specs.Notices.{told_by};
+    ghost use Rattle.ca_model.specs.Answers as notice;
+
+    ghost Value = { List notice.Notice };
+
+    ghost view = { λ n.
+        told_by (drop n.completed n.disconnected.items) (drop n.parted n.lost.items) n.last };
+}
+
+impl Notices {
+    /// None.
+    pub(crate) fn none(alloc: Global) -> Notices
+        ensures { result ≡ [] }
+    {
+        Notices::of(Vec::new(alloc), Vec::new(alloc), None)
+    }
+
+    /// This one, if there is one.
+    pub(crate) fn one(alloc: Global, last: Option<Notice>) -> Notices
+        ensures { result ≡ told_by [] [] last }
+    {
+        Notices::of(Vec::new(alloc), Vec::new(alloc), last)
+    }
+
+    /// These requests are complete with Disconnected, these channels are lost, and then this one.
+    pub(crate) fn of(disconnected: Vec<Handle>, lost: Vec<Handle>, last: Option<Notice>) -> Notices
+        ensures { result ≡ told_by disconnected.items lost.items last }
+    {
+        Notices {
+            disconnected,
+            completed: 0,
+            lost,
+            parted: 0,
+            last,
+        }
+    }
+
+    /// Takes the first.
+    pub fn next(&mut self) -> Option<Notice>
+        ensures { TakesNotice self.old result self.new }
+    {
+        if self.completed < self.disconnected.len() {
+            let request = self.disconnected[self.completed];
+            self.completed += 1;
+            return Some(Notice::Completed(request, Outcome::Disconnected));
+        }
+        if self.parted < self.lost.len() {
+            let channel = self.lost[self.parted];
+            self.parted += 1;
+            return Some(Notice::Lost(channel));
+        }
+        self.last.take()
+    }
+}
