@@ -9,3 +9,5 @@ pub mod Requesting
 pub mod Adding
 pub mod Putting
 pub mod Quoted
+mod Queued
+mod Found

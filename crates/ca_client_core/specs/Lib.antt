@@ -10,3 +10,5 @@ pub mod Lives
 pub mod Asks
 pub mod Puts
 pub mod Notices
+pub mod Again
+pub mod Finding

@@ -119,7 +119,7 @@ impl ClientCore {
     }
 
     // The channel is on this circuit, in this phase.
-    fn set_phase(&mut self, channel: Handle, circuit: Handle, phase: Phase)
+    pub(crate) fn set_phase(&mut self, channel: Handle, circuit: Handle, phase: Phase)
         ensures { self.new ≡ with_standing (On circuit (phase_of phase)) channel self.old }
     {
         put(&mut self.channels, channel, Standing::On(circuit, phase));
@@ -155,7 +155,7 @@ impl ClientCore {
 }
 
 // The channel of this handle is there now.
-fn put(channels: &mut HeldTable<Channel>, handle: Handle, standing: Standing)
+pub(crate) fn put(channels: &mut HeldTable<Channel>, handle: Handle, standing: Standing)
     ensures { channels.new
         ≡ with_changed
         (λ here. record here { standing = standing_of standing })
