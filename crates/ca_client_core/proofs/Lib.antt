@@ -11,3 +11,4 @@ pub mod Putting
 pub mod Quoted
 mod Queued
 mod Found
+mod Connected

@@ -12,3 +12,4 @@ pub mod Puts
 pub mod Notices
 pub mod Again
 pub mod Finding
+pub mod Connecting

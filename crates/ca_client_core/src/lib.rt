@@ -12,6 +12,7 @@ mod channel;
 mod channel_state;
 mod circuit;
 mod client;
+mod connecting;
 mod creating;
 mod ending;
 mod ends;
