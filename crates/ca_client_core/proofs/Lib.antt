@@ -12,3 +12,6 @@ pub mod Quoted
 mod Queued
 mod Found
 mod Connected
+mod Effects
+mod Outcomes
+mod Dispatched

@@ -13,3 +13,4 @@ pub mod Notices
 pub mod Again
 pub mod Finding
 pub mod Connecting
+pub mod Dispatch

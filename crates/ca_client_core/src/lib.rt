@@ -14,6 +14,7 @@ mod circuit;
 mod client;
 mod connecting;
 mod creating;
+mod dispatching;
 mod ending;
 mod ends;
 mod errors;
