@@ -24,6 +24,7 @@ use Rattle.ca_model.specs.Hears as hears
 use Rattle.ca_model.specs.Speech.{Is}
 use Rattle.ca_monitor.specs.Subscriptions.{confirmed_by}
 use Rattle.ca_client_core.specs.Dispatch.{HearsOr, IsReply}
+use Rattle.ca_client_core.specs.First.{MayWant}
 use Rattle.ca_client_core.specs.Hearing.{FindsOr, HasEffect, HearsReply, HearsReplyTo}
 use Rattle.ca_client_core.proofs.Effects.{head-of}
 use Rattle.ca_client_core.proofs.Outcomes.{image-means, status-means}
@@ -37,10 +38,6 @@ of-none n a b c d e f g h i j =
 
 -- ---- each message has an effect
 
--- one more circuit may be wanted, or not
-abbrev pub MayWant : Client → Type 0
-MayWant x = ((c : Handle) × MayGive x.circuits c) ⊎ IsFull x.circuits
-
 puts-on : (x : Client) (a : Address) (h : Handle) (here : Channel) → MayWant x → (o : Option (Handle × ClientCircuit)) → (e : Effect) × PutsOn x a h here o e
 puts-on x a h here room (Some (c, d)) = (put_on c d.connection h here x, refl)
 puts-on x a h here (inl (c, may)) None = (put_on c None h here (with_circuit c (new_circuit a here.priority false) x), inl (c, may, refl))
@@ -51,7 +48,7 @@ finds-at x a room None = (becomes x, refl)
 finds-at x a room (Some (h, here)) = puts-on x a h here room (circuit_to a here.priority x)
 
 -- what a reply means to the request that it is about
-reply-means : (w : Vec ℕ Global) (m : Fields) → IsReply m → m.count < 2 ^ 32 → AreBytes m.payload → (o : Outcome) × Means m o
+reply-means : {Y : Type 0} (w : Vec Y Global) (m : Fields) → IsReply m → m.count < 2 ^ 32 → AreBytes m.payload → (o : Outcome) × Means m o
 reply-means w m (inl read) few are =
     let o = image-means w m few are in
     (o.0, inl (inl read, o.1))
@@ -63,13 +60,13 @@ completes : (x : Client) (m : Fields) (q : Handle) (o : Outcome) → Means m o �
 completes x m q o means request.Open = (doing [] (notice.Completed q o ∷ []) (without_request q x), (o, means, refl))
 completes x m q o means request.Draining = (becomes (without_request q x), refl)
 
-answers : (w : Vec ℕ Global) (x : Client) (m : Fields) → IsReply m → m.count < 2 ^ 32 → AreBytes m.payload → (about : Option (Handle × Request)) → (e : Effect) × Answers x m about e
+answers : {Y : Type 0} (w : Vec Y Global) (x : Client) (m : Fields) → IsReply m → m.count < 2 ^ 32 → AreBytes m.payload → (about : Option (Handle × Request)) → (e : Effect) × Answers x m about e
 answers w x m is few are None = (becomes x, refl)
 answers w x m is few are (Some (q, r)) =
     let o = reply-means w m is few are in
     completes x m q o.0 o.1 r.stage
 
-updates : (w : Vec ℕ Global) (x : Client) (m : Fields) → Is command.EventAdd m → m.payload ≢ [] → m.count < 2 ^ 32 → AreBytes m.payload → (s : Option Handle) → (e : Effect) × Updates x m s e
+updates : {Y : Type 0} (w : Vec Y Global) (x : Client) (m : Fields) → Is command.EventAdd m → m.payload ≢ [] → m.count < 2 ^ 32 → AreBytes m.payload → (s : Option Handle) → (e : Effect) × Updates x m s e
 updates w x m is some few are None = (becomes x, refl)
 updates w x m is some few are (Some s) =
     let o = image-means w m few are in
@@ -87,7 +84,7 @@ has-payload [] = inl refl
 has-payload (b ∷ bytes) = inr (λ none. absurd cc)
 
 -- an EVENT_ADD is a confirmation, or an update
-event : (w : Vec ℕ Global) (x : Client) (c : Handle) (m : Fields) → Is command.EventAdd m → m.count < 2 ^ 32 → AreBytes m.payload → (e : Effect) × Hears x c m e
+event : {Y : Type 0} (w : Vec Y Global) (x : Client) (c : Handle) (m : Fields) → Is command.EventAdd m → m.count < 2 ^ 32 → AreBytes m.payload → (e : Effect) × Hears x c m e
 event w x c m is few are =
     elim (has-payload m.payload) [
       | inl none ↦ (confirmed x (confirmed_by c m.p2 x.subscriptions), hears.Confirmation is none refl)
@@ -96,7 +93,7 @@ event w x c m is few are =
           (u.0, hears.Update is some u.1)
     ]
 
-pub could-hear : (w : Vec ℕ Global) (x : Client) (c : Handle) (d : ClientCircuit) (m : Fields) → under x.circuits c ≡ Some d → MayWant x → m.count < 2 ^ 32 → AreBytes m.payload → (e : Effect) × Hears x c m e
+pub could-hear : {Y : Type 0} (w : Vec Y Global) (x : Client) (c : Handle) (d : ClientCircuit) (m : Fields) → under x.circuits c ≡ Some d → MayWant x → m.count < 2 ^ 32 → AreBytes m.payload → (e : Effect) × Hears x c m e
 could-hear w x c d m there room few are =
     elim (cases_eq m.command 6) [
       | inl is ↦ (let f = finds-at x (found_at d.address m) room (searched_by m.p2 x) in (f.0, hears.Search is d there f.1))
@@ -163,7 +160,7 @@ has-hears x c m e (Ok told) new heard did = (e, heard, did.0, did.1)
 has-hears x c m e (Err f) new heard did = (e, heard, inr did.0, did.1)
 
 -- there was no memory for the value of a reply
-out-for : (w : Vec ℕ Global) (x : Client) (m : Fields) (about : Option (Handle × Request)) (u : AllocError) (new : Client) → IsReply m → m.count < 2 ^ 32 → AreBytes m.payload → HearsReplyTo x m about (Err u) new → (e : Effect) × Answers x m about e × TakesMemory x m e × (new ≡ x)
+out-for : {Y : Type 0} (w : Vec Y Global) (x : Client) (m : Fields) (about : Option (Handle × Request)) (u : AllocError) (new : Client) → IsReply m → m.count < 2 ^ 32 → AreBytes m.payload → HearsReplyTo x m about (Err u) new → (e : Effect) × Answers x m about e × TakesMemory x m e × (new ≡ x)
 out-for w x m None u new is few are did = absurd did
 out-for w x m (Some (q, r)) u new is few are (stage, image, same) =
     let o = reply-means w m is few are in
@@ -171,7 +168,7 @@ out-for w x m (Some (q, r)) u new is few are (stage, image, same) =
     let tells : e.notices ≢ [] = λ none. absurd cc in
     (e, subst (λ (s : Stage). Completes x m q s e) (sym stage) (o.0, o.1, refl), inr (inr (inl tells)), same)
 
-pub reply-out : (w : Vec ℕ Global) (x : Client) (c : Handle) (m : Fields) (u : AllocError) (r : Result (List notice.Notice) AllocError) (new : Client) → IsReply m → m.count < 2 ^ 32 → AreBytes m.payload → HearsReply x c m (Err u) new → IsErr r → HearsOr x c m r new
+pub reply-out : {Y : Type 0} (w : Vec Y Global) (x : Client) (c : Handle) (m : Fields) (u : AllocError) (r : Result (List notice.Notice) AllocError) (new : Client) → IsReply m → m.count < 2 ^ 32 → AreBytes m.payload → HearsReply x c m (Err u) new → IsErr r → HearsOr x c m r new
 reply-out w x c m u (Ok told) new is few are did err =
     let bad : false ≡ true = err in
     absurd cc
@@ -179,7 +176,7 @@ reply-out w x c m u (Err f) new is few are did err =
     let e = out-for w x m (answered_by c m.command m.p2 x.requests) u new is few are did in
     (e.0, hears.Reply is e.1, e.2, e.3)
 
-pub update-out : (w : Vec ℕ Global) (x : Client) (c : Handle) (m : Fields) (r : Result (List notice.Notice) AllocError) → Is command.EventAdd m → m.payload ≢ [] → m.count < 2 ^ 32 → AreBytes m.payload → IsErr r → HearsOr x c m r x
+pub update-out : {Y : Type 0} (w : Vec Y Global) (x : Client) (c : Handle) (m : Fields) (r : Result (List notice.Notice) AllocError) → Is command.EventAdd m → m.payload ≢ [] → m.count < 2 ^ 32 → AreBytes m.payload → IsErr r → HearsOr x c m r x
 update-out w x c m (Ok told) is some few are err =
     let bad : false ≡ true = err in
     absurd cc

@@ -18,3 +18,5 @@ mod Dispatched
 pub mod Placing
 pub mod Endings
 mod Joining
+mod Walked
+mod Firsts

@@ -123,7 +123,7 @@ meta-of form.Time bytes long are =
 abbrev vec_of : {X Y Z : Type 0} → Vec Y Z → (xs : List X) → length xs < 2 ^ 32 → Vec X Z
 vec_of w xs small = record { ptr = w.ptr; len = length xs; cap = length xs; alloc = w.alloc; items = xs; ok = (refl, omega arith); small = omega (arith, small) }
 
-value-of : (w : Vec ℕ Global) (e : Elements) → count_of e < 2 ^ 32 → (v : Value) × (elements v ≡ e)
+value-of : {Y : Type 0} (w : Vec Y Global) (e : Elements) → count_of e < 2 ^ 32 → (v : Value) × (elements v ≡ e)
 value-of w (strings xs) small = (value.Strings (vec_of w xs small), refl)
 value-of w (ints xs) small = (value.Ints (vec_of w xs small), refl)
 value-of w (floats xs) small = (value.Floats (vec_of w xs small), refl)
@@ -135,7 +135,7 @@ value-of w (doubles xs) small = (value.Doubles (vec_of w xs small), refl)
 -- ---- an image
 
 -- one that is long enough has a value
-pub value-in : (w : Vec ℕ Global) (t : DataType) (count : ℕ) (bytes : List ℕ) → count < 2 ^ 32 → IsLong t count bytes → AreBytes bytes → (v : Value) × (m : Meta) × Reads t count bytes (elements v) m
+pub value-in : {Y : Type 0} (w : Vec Y Global) (t : DataType) (count : ℕ) (bytes : List ℕ) → count < 2 ^ 32 → IsLong t count bytes → AreBytes bytes → (v : Value) × (m : Meta) × Reads t count bytes (elements v) m
 value-in w t count bytes few long are =
     let k = meta_size t.form + padding_size t.form t.base in
     let body : List ℕ = drop k bytes in
@@ -147,7 +147,7 @@ value-in w t count bytes few long are =
     let reads : ReadsElements t.base count body (elements v.0) = subst (ReadsElements t.base count body) (sym v.1) r.1 in
     (v.0, m.m, reads_parts t count bytes body (elements v.0) m.m m.front (omega (arith, long)) refl reads m.fits m.only)
 
-pub image-means : (w : Vec ℕ Global) (m : Fields) → m.count < 2 ^ 32 → AreBytes m.payload → (o : Outcome) × ImageMeans m o
+pub image-means : {Y : Type 0} (w : Vec Y Global) (m : Fields) → m.count < 2 ^ 32 → AreBytes m.payload → (o : Outcome) × ImageMeans m o
 image-means w m few are =
     elim (cases_eq m.p1 normal) [
       | inr other ↦ (outcome.Failed (record { number = m.p1 }), (other, refl))

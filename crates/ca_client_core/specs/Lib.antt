@@ -15,3 +15,6 @@ pub mod Finding
 pub mod Connecting
 pub mod Dispatch
 pub mod Turns
+pub mod Closings
+pub mod First
+pub mod Stepping
