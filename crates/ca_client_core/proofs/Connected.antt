@@ -17,7 +17,7 @@ use Rattle.ca_wire.specs.Fields.{Fields}
 use Rattle.ca_model.specs.Answers.{OfCircuit, Sending}
 use Rattle.ca_model.specs.Answers as aim
 use Rattle.ca_model.specs.Client.{Channel, Client, ClientCircuit, Connection, is_on_in, sending, with_one_sent}
-use Rattle.ca_model.specs.ClientEnds.{begun, creating, creations, is_connecting, new_connection, set_up, unconnected}
+use Rattle.ca_model.specs.ClientEnds.{ConnectsOn, begun, creating, creations, is_connecting, new_connection, set_up, unconnected}
 use Rattle.ca_model.specs.Hears.{create_sent}
 use Rattle.ca_client_core.specs.Again.{with_messages}
 use Rattle.ca_client_core.specs.Connecting.{BeginsOn, creation, creations_at, creations_in, creations_of, greeting}
@@ -107,6 +107,10 @@ begins-not x c (Some d) priority (Ok u) of err =
     let bad : false ≡ true = err in
     absurd cc
 begins-not x c (Some d) priority (Err e) of err = refl
+
+pub connects-done : (x : Client) (c : Handle) (o : Option ClientCircuit) (u : Unit {0}) (new : Client) → BeginsOn x c o (Ok u) new → (sent : List Sending) × ConnectsOn x c o None sent new
+connects-done x c None u new did = absurd did
+connects-done x c (Some d) u new did = (set_up x.peer c d ++ creations c x, (refl, did))
 
 -- ---- its channels are channels still
 

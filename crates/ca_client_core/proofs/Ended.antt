@@ -26,10 +26,10 @@ use Rattle.ca_requests.proofs.Tables.{true_or_false}
 abbrev pub named_of : (Phase → Bool) → Handle → Option (Handle × Channel) → List Handle
 named_of test c o = filter_map (named_by test c) (option_to_list o)
 
-named-not : (test : Phase → Bool) (c h : Handle) (v : Channel) → is_on_in test c v ≡ false → named_of test c (Some (h, v)) ≡ []
+pub named-not : (test : Phase → Bool) (c h : Handle) (v : Channel) → is_on_in test c v ≡ false → named_of test c (Some (h, v)) ≡ []
 named-not test c h v other = rw other refl
 
-named-yes : (test : Phase → Bool) (c h : Handle) (v : Channel) → is_on_in test c v ≡ true → named_of test c (Some (h, v)) ≡ h ∷ []
+pub named-yes : (test : Phase → Bool) (c h : Handle) (v : Channel) → is_on_in test c v ≡ true → named_of test c (Some (h, v)) ≡ h ∷ []
 named-yes test c h v named = rw named refl
 
 module _ (f : Sought → Handle → Sought) (test : Phase → Bool) (g : Option Channel → Option Channel) (c : Handle) where
@@ -74,7 +74,7 @@ module _ (f : Sought → Handle → Sought) (test : Phase → Bool) (g : Option 
   place-ahead p (x ∷ t) zero = refl
   place-ahead p (x ∷ t) (suc i) = place-ahead p t i
 
-  named-more : (t : Table Channel) (i : ℕ) → i < length t → named_in test c (take (i + 1) t) ≡ named_in test c (take i t) ++ named_at test c i t
+  pub named-more : (t : Table Channel) (i : ℕ) → i < length t → named_in test c (take (i + 1) t) ≡ named_in test c (take i t) ++ named_at test c i t
   named-more t i within =
       ap (λ (es : List (Handle × Channel)). filter_map (named_by test c) es) (held-more t i within)
       ∙ filter_map-append (named_by test c) (held (take i t)) (option_to_list (held_at i (place_at t i)))

@@ -1,12 +1,12 @@
 -- A channel that was found is put on its circuit, and a circuit that is wanted is connected: what that keeps.
-use Rattle.std.proofs.Common.{◌≡◌, ◌∙◌, inl, inr, Bool, true, false, Option, Some, None, ap, if◌then◌else◌, not, refl, subst, sym}
+use Rattle.std.proofs.Common.{◌≡◌, ◌∙◌, inl, inr, Bool, true, false, List, Option, Some, None, ap, if◌then◌else◌, not, refl, subst, sym, unwrap_or}
 use Rattle.std.specs.Prelude.{ℕ, is_none, is_some, option_and_then, option_map}
 use Rattle.ca_text.proofs.Places.{some_is}
 use Rattle.ca_arena.specs.declared.handle.Handle.{Handle}
-use Rattle.ca_ids.specs.Table.{MayGive, Table, under, with_all, with_changed, with_held}
+use Rattle.ca_ids.specs.Table.{MayGive, Table, same_handle, under, with_all, with_changed, with_held}
 use Rattle.ca_requests.specs.Requests.{Request}
 use Rattle.ca_monitor.specs.Subscriptions.{Subscription}
-use Rattle.ca_model.specs.Client.{Channel, Client, ClientCircuit, Connecting, Connection, Creating, On, Phase, circuit_to, connection_at, on_connection}
+use Rattle.ca_model.specs.Client.{Channel, Client, ClientCircuit, Connecting, Connection, Creating, On, Phase, circuit_to, connection_at, Standing, is_live, is_on_in, on_connection, phase_on}
 use Rattle.ca_model.specs.ClientEnds.{begun, creating, is_connecting, new_connection}
 use Rattle.ca_model.specs.Ends.{Address}
 use Rattle.ca_model.specs.Hears.{searched_by, with_circuit}
@@ -14,7 +14,9 @@ use Rattle.ca_model_client.specs.Placed.{ArePlaced, IsPlaced}
 use Rattle.ca_model_client.proofs.Hearing.{circuit-there, found-keeps, keeps-begun, wanted-keeps}
 use Rattle.ca_model_client.proofs.Handles.{handle-or}
 use Rattle.ca_model_client.proofs.Placed.{keeps-on, placed-linked, under-other}
-use Rattle.ca_model_client.proofs.Tables.{changed-own}
+use Rattle.ca_model_client.proofs.Tables.{all-back, changed-own}
+use Rattle.ca_client_core.specs.Listed.{AreListed}
+use Rattle.ca_client_core.proofs.Listing.{listed-thin}
 use Rattle.ca_model_client.proofs.Standings.{searched-is}
 use Rattle.ca_client_core.specs.Finding.{IsFound, IsFoundIn, IsSought, circuit_in}
 use Rattle.ca_client_core.proofs.Found.{found-split}
@@ -81,22 +83,47 @@ none-some None b is = ap not is
 none-some (Some e) b is = ap not is
 
 -- it may be put on the circuit that was found
-pub found-is : (x : Client) (a : Address) (priority : ℕ) (c h : Handle) (b : Bool) (p : Phase) → IsSought h x → Some (c, b) ≡ circuit_in a priority x.circuits → is_connecting p ≡ not b → IsFound h c p x
-found-is x a priority c h b p sought to waits =
+pub found-is : (x : Client) (a : Address) (priority : ℕ) (c h : Handle) (b : Bool) (p : Phase) → IsSought h x → Some (c, b) ≡ circuit_in a priority x.circuits → is_connecting p ≡ not b → is_live p ≡ false → IsFound h c p x
+found-is x a priority c h b p sought to waits idle =
     let parts = found-split (circuit_to a priority x) c b (sym to) in
     let there : under x.circuits c ≡ Some parts.0 = circuit-there a priority x (c, parts.0) parts.1 in
     record {
       sought = sought;
       waits = waits ∙ sym (ap (λ (o : Option ClientCircuit). is_none (option_and_then (λ (d : ClientCircuit). d.connection) o)) there ∙ none-some parts.0.connection b parts.2);
+      idle = idle;
     }
 
 -- also after a message was queued there
 pub found-still : (f : Connection → Connection) (x y : Client) (h c : Handle) (p : Phase) → y ≡ on_connection f c x → IsFound h c p x → IsFound h c p y
 found-still f x y h c p is found =
-    subst (λ (z : Client). IsFound h c p z) (sym is) (record { sought = found.sought; waits = found.waits ∙ sym ((keeps-on f c x).links c) })
+    subst (λ (z : Client). IsFound h c p z) (sym is) (record { sought = found.sought; waits = found.waits ∙ sym ((keeps-on f c x).links c); idle = found.idle })
 
 -- and on a circuit that is wanted from now on
 pub found-new : (x y : Client) (h c : Handle) (d : ClientCircuit) → d.connection ≡ None → MayGive x.circuits c → IsSought h x → y ≡ with_circuit c d x → IsFound h c Connecting y
 found-new x y h c d none may sought is =
     let wanted = wanted-keeps x c d none may in
-    subst (λ (z : Client). IsFound h c Connecting z) (sym is) (record { sought = sought; waits = sym (ap is_none wanted.1) })
+    subst (λ (z : Client). IsFound h c Connecting z) (sym is) (record { sought = sought; waits = sym (ap is_none wanted.1); idle = refl })
+
+-- ---- live channels are listed still
+
+not-live : (c k : Handle) (w : Channel) → w.standing ≡ On c (Creating 0) → is_on_in is_live k w ≡ false
+not-live c k w stands = ap (λ (s : Standing). unwrap_or (option_map is_live (phase_on k s)) false) stands ∙ by_test (same_handle c k)
+  where
+    by_test : (b : Bool) → unwrap_or (option_map is_live (if b then Some (Creating 0) else None)) false ≡ false
+    by_test true = refl
+    by_test false = refl
+
+live-before : (c k : Handle) (v w : Channel) (b : Bool) → is_on_in is_connecting c v ≡ b → w ≡ (if b then record v { standing = On c (Creating 0) } else v) → is_on_in is_live k w ≡ true → is_on_in is_live k v ≡ true
+live-before c k v w true waits is live =
+    let bad : false ≡ true = sym (not-live c k w (ap (λ (d : Channel). d.standing) is)) ∙ live in
+    absurd cc
+live-before c k v w false waits is live = ap (λ (d : Channel). is_on_in is_live k d) (sym is) ∙ live
+
+pub listed-begun : (c : Handle) (t u : Table Channel) (lists : List (List Handle)) → u ≡ with_all (creating c) t → AreListed t lists → AreListed u lists
+listed-begun c t u lists is listed =
+    subst (λ (z : Table Channel). AreListed z lists) (sym is)
+    (listed-thin t (with_all (creating c) t) lists
+    (λ h ch k there live.
+    let was = all-back (creating c) t h ch there in
+    (was.0, was.1, live-before c k was.0 ch (is_on_in is_connecting c was.0) refl was.2 live))
+    listed)

@@ -20,3 +20,5 @@ pub mod Endings
 mod Joining
 mod Walked
 mod Firsts
+pub mod Cleared
+pub mod Listing

@@ -13,20 +13,22 @@ use Rattle.ca_ids.specs.Table.{MayGive, Table, same_handle, under, with_changed,
 use Rattle.ca_requests.specs.Calls.{AnswersOne, Issued, new_request, without_if}
 use Rattle.ca_requests.specs.Calls as requests
 use Rattle.ca_requests.specs.Requests.{Asked, Draining, Open, Request, Stage}
+use Rattle.ca_requests.specs.Requests as request
 use Rattle.ca_monitor.specs.Calls.{freed_if}
 use Rattle.ca_monitor.specs.Subscriptions.{Subscription, drains_in, with_stage}
 use Rattle.ca_monitor.specs.Subscriptions as monitor
 use Rattle.ca_search.specs.Searches as search
 use Rattle.ca_model.specs.Answers as notice
-use Rattle.ca_model.specs.Client.{Channel, Client, ClientCircuit, Connection, On, Phase, Searching, channel_on, on_connection, standing_at}
+use Rattle.ca_model.specs.Client.{Channel, Client, ClientCircuit, Connection, On, Phase, Clearing, Searching, channel_on, on_connection, standing_at, with_standing}
+use Rattle.ca_model.specs.ClientCalls.{all_over}
 use Rattle.ca_model.specs.ClientEnds.{is_connecting}
 use Rattle.ca_model.specs.Hears.{Effect, doing, without_drained}
 use Rattle.ca_model.specs.Hears as hears
 use Rattle.ca_model_client.specs.Placed.{ArePlaced, IsBare, IsBareIn, IsPlaced, WasLive, WasLiveIn, was_live}
-use Rattle.ca_model_client.proofs.Changes.{freed-keeps, keeps-phase, keeps-staged, placed-opened, placed-subscribed}
+use Rattle.ca_model_client.proofs.Changes.{freed-keeps, keeps-phase, keeps-staged, over-keeps, placed-opened, placed-subscribed}
 use Rattle.ca_model_client.proofs.Handles.{handle-or}
 use Rattle.ca_model_client.proofs.Hearing.{bare-so, drained-bare, keeps-request}
-use Rattle.ca_model_client.proofs.Placed.{Keeps, keeps-again, keeps-gone, placed-linked, under-other}
+use Rattle.ca_model_client.proofs.Placed.{keeps-again, keeps-gone, keeps-then, placed-linked, under-other}
 use Rattle.ca_model_client.proofs.Standings.{channel-on, found-standing, is-on}
 use Rattle.ca_model_client.proofs.Tables.{changed-own, held-back}
 use Rattle.ca_client_core.specs.Ends.{GivesAt, GivesOn, read_given}
@@ -34,7 +36,7 @@ use Rattle.ca_client_core.specs.Forms.{phase_of}
 use Rattle.ca_client_core.specs.Hearing.{HearsReplyTo, completed, found_as}
 use Rattle.ca_client_core.specs.declared.channel.Phase as code
 use Rattle.ca_client_core.specs.Sound.{IsClient, IsSound}
-use Rattle.ca_client_core.specs.Turns.{MayTurn, TurnsIn}
+use Rattle.ca_client_core.specs.Turns.{MayTurn, TurnsIn, WasLiveAs}
 
 -- a client with these tables, and nothing else
 abbrev pub plain : Table Channel → Table Request → Table Subscription → Table ClientCircuit → Client
@@ -59,15 +61,16 @@ pub mapped-none : (f : Connection → Connection) (o : Option Connection) → is
 mapped-none f (Some e) = refl
 mapped-none f None = refl
 
-module _ (t : Table Channel) (es : List (ℕ × search.Channel)) (q : Table Request) (s : Table Subscription) (cs : Table ClientCircuit) (sound : IsSound t es q s cs) where
+module _ (t : Table Channel) (es : List (ℕ × search.Channel)) (q : Table Request) (s : Table Subscription) (cs : Table ClientCircuit) (ls : List (List Handle)) (sound : IsSound t es q s cs ls) where
   -- ---- circuits
 
   -- another end is in the place of this one, which is connected if that was
-  pub sound-this : (c : Handle) (v w : ClientCircuit) → under cs c ≡ Some v → is_none w.connection ≡ is_none v.connection → IsSound t es q s (with_changed (λ (e : ClientCircuit). w) c cs)
+  pub sound-this : (c : Handle) (v w : ClientCircuit) → under cs c ≡ Some v → is_none w.connection ≡ is_none v.connection → IsSound t es q s (with_changed (λ (e : ClientCircuit). w) c cs) ls
   sound-this c v w there same =
       let f : ClientCircuit → ClientCircuit = λ (e : ClientCircuit). w in
       record {
         client = sound.client;
+        listed = sound.listed;
         placed =
             placed-linked (plain t q s cs) (plain t q s (with_changed f c cs)) refl refl refl
             (λ k. elim (handle-or k c) [
@@ -81,11 +84,11 @@ module _ (t : Table Channel) (es : List (ℕ × search.Channel)) (q : Table Requ
       }
 
   -- something was done to its end
-  pub sound-mapped : (f : Connection → Connection) (c : Handle) (v w : ClientCircuit) → under cs c ≡ Some v → w ≡ record v { connection = option_map f v.connection } → IsSound t es q s (with_changed (λ (e : ClientCircuit). w) c cs)
+  pub sound-mapped : (f : Connection → Connection) (c : Handle) (v w : ClientCircuit) → under cs c ≡ Some v → w ≡ record v { connection = option_map f v.connection } → IsSound t es q s (with_changed (λ (e : ClientCircuit). w) c cs) ls
   sound-mapped f c v w there is = sound-this c v w there (ap (λ (d : ClientCircuit). is_none d.connection) is ∙ mapped-none f v.connection)
 
   -- a read
-  pub sound-given : (moment : ℕ) (bytes : List ℕ) (more : Bool) (r : Result (Unit {0}) Refusal) (c : Handle) (v w : ClientCircuit) → under cs c ≡ Some v → GivesAt moment bytes more v r w → IsSound t es q s (with_changed (λ (e : ClientCircuit). w) c cs)
+  pub sound-given : (moment : ℕ) (bytes : List ℕ) (more : Bool) (r : Result (Unit {0}) Refusal) (c : Handle) (v w : ClientCircuit) → under cs c ≡ Some v → GivesAt moment bytes more v r w → IsSound t es q s (with_changed (λ (e : ClientCircuit). w) c cs) ls
   sound-given moment bytes more r c v w there gives = sound-this c v w there (ap (λ (d : ClientCircuit). is_none d.connection) gives.2 ∙ by v.connection r gives.0 gives.1)
     where
       by : (o : Option Connection) (a : Result (Unit {0}) Refusal) (n : Option Connection) → GivesOn moment bytes more o a n → is_none n ≡ is_none o
@@ -99,36 +102,40 @@ module _ (t : Table Channel) (es : List (ℕ × search.Channel)) (q : Table Requ
   -- ---- subscriptions
 
   -- one begins
-  pub sound-added : (g h : Handle) (data_type count mask : ℕ) (u : Table Subscription) → u ≡ with_held g (monitor.new_subscription h data_type count mask) s → IsSound t es q u cs
+  pub sound-added : (g h : Handle) (data_type count mask : ℕ) (u : Table Subscription) → u ≡ with_held g (monitor.new_subscription h data_type count mask) s → IsSound t es q u cs ls
   sound-added g h data_type count mask u is = record {
     client = sound.client;
+    listed = sound.listed;
     placed = subst (λ (w : Table Subscription). ArePlaced t q w cs) (sym is) (placed-subscribed (plain t q s cs) h (record { data_type = data_type; count = count }) mask g sound.placed);
   }
 
   -- nothing has the id of one
-  pub sound-forgot : (g : Handle) (u : Table Subscription) → u ≡ with_freed g s → IsSound t es q u cs
+  pub sound-forgot : (g : Handle) (u : Table Subscription) → u ≡ with_freed g s → IsSound t es q u cs ls
   sound-forgot g u is = record {
     client = sound.client;
+    listed = sound.listed;
     placed = subst (λ (w : Table Subscription). ArePlaced t q w cs) (sym is) ((freed-keeps g (plain t q s cs)).placed sound.placed);
   }
 
-  pub sound-forgot-if : (o : Option Handle) (u : Table Subscription) → u ≡ freed_if o s → IsSound t es q u cs
-  sound-forgot-if None u is = subst (λ (w : Table Subscription). IsSound t es q w cs) (sym is) sound
+  pub sound-forgot-if : (o : Option Handle) (u : Table Subscription) → u ≡ freed_if o s → IsSound t es q u cs ls
+  sound-forgot-if None u is = subst (λ (w : Table Subscription). IsSound t es q w cs ls) (sym is) sound
   sound-forgot-if (Some g) u is = sound-forgot g u is
 
   -- the id of one drains where its channel was live
-  pub sound-staged : (stage : monitor.Stage) (c g : Handle) (d : Subscription) (u : Table Subscription) → ((on : Handle) → drains_in on stage ≡ same_handle c on) → under s g ≡ Some d → WasLiveIn t d.channel c → u ≡ with_stage stage g s → IsSound t es q u cs
+  pub sound-staged : (stage : monitor.Stage) (c g : Handle) (d : Subscription) (u : Table Subscription) → ((on : Handle) → drains_in on stage ≡ same_handle c on) → under s g ≡ Some d → WasLiveIn t d.channel c → u ≡ with_stage stage g s → IsSound t es q u cs ls
   sound-staged stage c g d u only there live is = record {
     client = sound.client;
+    listed = sound.listed;
     placed = subst (λ (w : Table Subscription). ArePlaced t q w cs) (sym is) ((keeps-staged stage c g (plain t q s cs) d only there live).placed sound.placed);
   }
 
   -- ---- requests
 
   -- one was issued
-  pub sound-issued : (g h c : Handle) (asked : Asked) (u : Table Request) → WasLiveIn t h c → u ≡ with_held g (new_request h c asked) q → IsSound t es u s cs
+  pub sound-issued : (g h c : Handle) (asked : Asked) (u : Table Request) → WasLiveIn t h c → u ≡ with_held g (new_request h c asked) q → IsSound t es u s cs ls
   sound-issued g h c asked u live is = record {
     client = sound.client;
+    listed = sound.listed;
     placed = subst (λ (w : Table Request). ArePlaced t w s cs) (sym is) (record {
       attached = record {
         requests = λ k r found. elim (held-back q k g (new_request h c asked) r found) [
@@ -142,24 +149,25 @@ module _ (t : Table Channel) (es : List (ℕ × search.Channel)) (q : Table Requ
   }
 
   -- nothing has the id of one
-  pub sound-freed : (g : Handle) (u : Table Request) → u ≡ with_freed g q → IsSound t es u s cs
+  pub sound-freed : (g : Handle) (u : Table Request) → u ≡ with_freed g q → IsSound t es u s cs ls
   sound-freed g u is = record {
     client = sound.client;
+    listed = sound.listed;
     placed = subst (λ (w : Table Request). ArePlaced t w s cs) (sym is) ((keeps-request g (plain t q s cs)).placed sound.placed);
   }
 
-  pub sound-without : (o : Option Handle) (old n : Issued) → old.table ≡ q → n ≡ without_if o old → IsSound t es n.table s cs
-  sound-without None old n of is = subst (λ (w : Table Request). IsSound t es w s cs) (sym (ap (λ (z : Issued). z.table) is ∙ of)) sound
+  pub sound-without : (o : Option Handle) (old n : Issued) → old.table ≡ q → n ≡ without_if o old → IsSound t es n.table s cs ls
+  sound-without None old n of is = subst (λ (w : Table Request). IsSound t es w s cs ls) (sym (ap (λ (z : Issued). z.table) is ∙ of)) sound
   sound-without (Some g) old n of is = sound-freed g n.table (ap (λ (z : Issued). z.table) is ∙ ap (with_freed g) of)
 
   -- a reply was read
-  pub sound-answered : (old n : Issued) (m : Fields) (o : Option (Handle × Request)) (r : Result (Option (Handle × Outcome)) AllocError) → old.table ≡ q → AnswersOne old m o r n → IsSound t es n.table s cs
+  pub sound-answered : (old n : Issued) (m : Fields) (o : Option (Handle × Request)) (r : Result (Option (Handle × Outcome)) AllocError) → old.table ≡ q → AnswersOne old m o r n → IsSound t es n.table s cs ls
   sound-answered old n m None (Ok None) of h = sound-without None old n of h
   sound-answered old n m None (Ok (Some e)) of h = absurd h
   sound-answered old n m None (Err e) of h = absurd h
   sound-answered old n m (Some (g, v)) r of h = by v.stage r h
     where
-      by : (stage : Stage) (a : Result (Option (Handle × Outcome)) AllocError) → requests.Completes old m g stage a n → IsSound t es n.table s cs
+      by : (stage : Stage) (a : Result (Option (Handle × Outcome)) AllocError) → requests.Completes old m g stage a n → IsSound t es n.table s cs ls
       by Open (Ok (Some (p, e))) k = sound-without (Some g) old n of k.2
       by Open (Ok None) k = absurd k
       by Open (Err e) k = sound-without None old n of k.1
@@ -192,6 +200,16 @@ module _ (t : Table Channel) (q : Table Request) (s : Table Subscription) (cs : 
   -- one is gone
   pub placed-gone : (h : Handle) (u : Table Channel) → IsBareIn h q s → u ≡ with_freed h t → ArePlaced u q s cs
   placed-gone h u bare is = subst (λ (z : Table Channel). ArePlaced z q s cs) (sym is) ((keeps-gone h (plain t q s cs) (λ p. bare)).placed placed)
+
+  -- one that was live is cleared, or left
+  pub placed-over : (h c : Handle) (u : Table Channel) (v : Table Request) (w : Table Subscription) → WasLiveAs h c t → u ≡ with_changed (λ (here : Channel). record here { standing = On c Clearing }) h t → v ≡ request.channel_over h q → w ≡ monitor.channel_over c h s → ArePlaced u v w cs
+  placed-over h c u v w was us vs ws =
+      let x : Client = plain t q s cs in
+      let y : Client = all_over c h x in
+      let z : Client = with_standing (On c Clearing) h y in
+      let live : WasLiveIn t h c = (was.channel, was.there, is-on was_live c was.channel was.phase was.stands ∙ was.live) in
+      subst (λ (e : Table Channel × Table Request × Table Subscription). ArePlaced e.0 e.1 e.2 cs) (λ i. (sym us i, sym vs i, sym ws i))
+      ((keeps-then x y z (over-keeps c h x live) (keeps-phase c h y was.channel was.phase Clearing was.there was.stands was.waits (λ e. refl))).placed placed)
 
 -- one that was refused is not there
 pub refused-same : (t u : Table Channel) (v : Channel) (back : Channel) (e : Refusal) → Gives t v (Err (back, e)) u → u ≡ t

@@ -140,9 +140,11 @@ module _ (x : Client) (c : Handle) (d : ClientCircuit) (found : under x.circuits
     -- ---- the end has ended
 
     closed-as : (cause : why.Why) (k : answer.Closing) (new : Client) → MayEnd x c e cause → k ≡ closing cause c x → new ≡ ended c x → (sent : List answer.Sending) × ClientSteps x c (answer.Closed k) sent new
-    closed-as cause k new may is left =
-        ([], subst (λ (o : Option Connection). StepsOn x c o (answer.Closed k) [] new) (sym end-at)
-        (subst (λ (j : answer.Closing). MayEnd x c e j.why × EndsFor j.why x c j [] new) (sym is) (may, (refl, refl, left))))
+    closed-as cause k new may is left = (
+      [],
+      subst (λ (o : Option Connection). StepsOn x c o (answer.Closed k) [] new) (sym end-at)
+          (subst (λ (j : answer.Closing). MayEnd x c e j.why × EndsFor j.why x c j [] new) (sym is) (may, (refl, refl, left))),
+    )
 
     may-bad : (cause : why.Why) → IsBad e cause → MayEnd x c e cause
     may-bad why.Misaligned bad = bad
@@ -176,6 +178,7 @@ module _ (x : Client) (c : Handle) (d : ClientCircuit) (found : under x.circuits
     -- ---- without memory
 
     lacks : (m : Fields) (rest : List ℕ) (k : answer.Closing) (new y : Client) (effect : Effect) → TakesFirst e.link m rest → Hears (with_end x c d (without_first rest e)) c m effect → TakesMemory x m effect → k ≡ closing why.OutOfMemory c x → new ≡ ended c x → (sent : List answer.Sending) × ClientSteps x c (answer.Closed k) sent new
+    unfolding takes-it
     lacks m rest k new y effect first hears memory is left =
         closed-as why.OutOfMemory k new (effect, takes-it m rest effect first hears, memory) is left
 

@@ -35,10 +35,11 @@ pub record IsSoughtIn (h : Handle) (t : Table Channel) : Type 0 where
 abbrev pub IsSought : Handle → Client → Type 0
 IsSought h x = IsSoughtIn h x.channels
 
--- And it may be put on this circuit in this phase: it waits there exactly if that is not connected.
+-- And it may be put on this circuit in this phase: it waits there exactly if that is not connected, and is not live.
 pub record IsFoundIn (h c : Handle) (p : Phase) (t : Table Channel) (cs : Table ClientCircuit) : Type 0 where
   pub sought : IsSoughtIn h t
   pub waits : is_connecting p ≡ is_none (option_and_then (λ (d : ClientCircuit). d.connection) (under cs c))
+  pub idle : phase.is_live p ≡ false
 
 -- a client's channel may
 abbrev pub IsFound : (h c : Handle) → Phase → Client → Type 0

@@ -18,3 +18,5 @@ pub mod Turns
 pub mod Closings
 pub mod First
 pub mod Stepping
+pub mod Clearing
+pub mod Listed

@@ -10,6 +10,7 @@ use Rattle.ca_monitor.specs.Subscriptions.{Subscription}
 use Rattle.ca_model.specs.Client.{Channel, ClientCircuit}
 use Rattle.ca_model_client.specs.Placed.{ArePlaced}
 use Rattle.ca_search.specs.Searches as search
+use Rattle.ca_client_core.specs.Listed.{AreListed}
 
 -- a channel has this CID
 pub record HasCid (channels : Table Channel) (cid : ℕ) : Type 0 where
@@ -23,7 +24,9 @@ pub record HasCid (channels : Table Channel) (cid : ℕ) : Type 0 where
 pub record IsClient (channels : Table Channel) (searches : List (ℕ × search.Channel)) : Type 0 where
   pub searched : AllByRecursion (λ (e : ℕ × search.Channel). HasCid channels e.0) searches
 
--- And requests and subscriptions are where their channels are, and channels are on circuits that are connected or wanted.
-pub record IsSound (channels : Table Channel) (searches : List (ℕ × search.Channel)) (asked : Table Request) (subscribed : Table Subscription) (circuits : Table ClientCircuit) : Type 0 where
+-- And requests and subscriptions are where their channels are, channels are on circuits that are connected or wanted, and those that are
+-- live are listed.
+pub record IsSound (channels : Table Channel) (searches : List (ℕ × search.Channel)) (asked : Table Request) (subscribed : Table Subscription) (circuits : Table ClientCircuit) (lists : List (List Handle)) : Type 0 where
   pub client : IsClient channels searches
   pub placed : ArePlaced channels asked subscribed circuits
+  pub listed : AreListed channels lists

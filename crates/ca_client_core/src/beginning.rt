@@ -55,6 +55,7 @@ impl ClientCore {
             requests: Requests::new(alloc),
             monitors: Monitors::new(alloc),
             circuits,
+            lives: Vec::new(alloc),
             order,
             searches: IndexMap::new(alloc),
             beacons: BeaconTable::new(alloc),

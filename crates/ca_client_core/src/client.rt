@@ -1,6 +1,7 @@
 use crate::channel::Channel;
 use crate::circuit::Circuit;
 use crate::ends::Address;
+use crate::live_channels::LiveChannels;
 use ca_arena::Handle;
 use ca_beacon::BeaconTable;
 use ca_ids::HeldTable;
@@ -27,6 +28,8 @@ pub struct ClientCore {
     pub(crate) requests: Requests,
     pub(crate) monitors: Monitors,
     pub(crate) circuits: HeldTable<Circuit>,
+    /// The channels that are live on each circuit, by its index.
+    pub(crate) lives: Vec<LiveChannels>,
     /// The circuits of name servers, in the order of their list, then the others, in the order in which they came to be wanted.
     pub(crate) order: Vec<Handle>,
     /// The channels that are searched for, or were found, by CID, in the order in which they were opened.
@@ -61,5 +64,11 @@ impl Model for ClientCore {
     } };
 
     ghost invariant = { λ c.
-        IsSound c.channels c.searches.entries c.requests.table c.monitors c.circuits };
+        IsSound
+        c.channels
+        c.searches.entries
+        c.requests.table
+        c.monitors
+        c.circuits
+        c.lives.items };
 }

@@ -1,6 +1,6 @@
 //! A circuit that is wanted is connected.
 ghost use Rattle.std.specs.Prelude.{◌≡◌, ◌<◌, ◌≤◌, ◌∷◌, [], OnErr, OnOk, Some, length, option_copied, option_map};
-ghost use Rattle.ca_text.specs.Limits.{payload_limit, priority_limit};
+ghost use Rattle.ca_text.specs.Limits.{priority_limit};
 ghost use Rattle.ca_arena.specs.Arena.{place_at};
 ghost use Rattle.ca_ids.specs.Table.{held_at, with_all, with_changed};
 ghost use Rattle.ca_ids.specs.Walks.{with_place};
@@ -19,7 +19,7 @@ use ca_arena::Handle;
 use ca_ids::HeldTable;
 use ca_link::Link;
 use ca_monitor::ReadRun;
-use ca_text::Command;
+use ca_text::{Command, PAYLOAD_LIMIT};
 use ca_wire::{Message, Priority, name_request, version_request};
 use std::alloc::{AllocError, Global};
 
@@ -40,8 +40,6 @@ impl ClientCore {
         requires wanted { option_map (λ d. d.priority) (unconnected self.old circuit)
             ≡ Some priority }
         requires within { priority ≤ priority_limit }
-        requires user { length self.old.peer.user < payload_limit }
-        requires host { length self.old.peer.host < payload_limit }
         ensures { BeginsOn self.old circuit (unconnected self.old circuit) result self.new }
     {
         let mut link = Link::new(self.alloc, self.moment);
@@ -68,7 +66,7 @@ fn send(link: &mut Link, message: &Message) -> Result<(), AllocError>
     }
 }
 
-// VERSION, CLIENT_NAME and HOST_NAME wait on a link.
+// VERSION, CLIENT_NAME and HOST_NAME wait on a link. A name that has no room in a message counts as out of memory.
 fn set_up(
     alloc: Global,
     link: &mut Link,
@@ -78,11 +76,12 @@ fn set_up(
 ) -> Result<(), AllocError>
     requires open { IsOpen link.old }
     requires within { priority ≤ priority_limit }
-    requires user { length user.now < payload_limit }
-    requires host { length host.now < payload_limit }
     ensures { OnOk result (link.new
         ≡ with_sent (greeting priority user.now host.now) link.old) }
 {
+    if user.len() >= PAYLOAD_LIMIT || host.len() >= PAYLOAD_LIMIT {
+        return Err(AllocError);
+    }
     let priority = match Priority::read(u64::from(priority)) {
         Ok(priority) => priority,
         Err(_) => unreachable!(),

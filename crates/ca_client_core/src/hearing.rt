@@ -1,5 +1,5 @@
 //! What a client makes of the messages that it reads, each by its command.
-ghost use Rattle.std.specs.Prelude.{◌≡◌, OnErr, OnOk, option_map};
+ghost use Rattle.std.specs.Prelude.{◌≡◌, OnErr, OnOk, option_map, true};
 ghost use Rattle.ca_ids.specs.Table.{with_changed};
 ghost use Rattle.ca_monitor.specs.Subscriptions.{confirmed_by};
 ghost use Rattle.ca_model.specs.Client as client;
@@ -7,12 +7,14 @@ ghost use Rattle.ca_model.specs.Client.{On, channel_on, searched_again, with_sta
 ghost use Rattle.ca_model.specs.Hears.{becomes, clear_answered, confirmed, failed, rights_told, without_drained};
 ghost use Rattle.ca_client_core.specs.Forms.{native_of, phase_of, standing_of};
 ghost use Rattle.ca_client_core.specs.Hearing.{HearsReply, found_as};
+ghost use Rattle.ca_client_core.specs.Listed.{is_live_in};
 ghost use Rattle.ca_client_core.specs.Turns.{MayTurn};
 ghost use Rattle.ca_model_client.specs.Placed.{IsBare};
 
 use crate::channel::{Channel, Native, Phase, Standing, is_same};
 use crate::client::ClientCore;
 use crate::ending::{bring_back, resume};
+use crate::live_channels::note_live;
 use ca_arena::Handle;
 use ca_dbr::Outcome;
 use ca_ids::{HeldTable, WireId};
@@ -124,7 +126,9 @@ impl ClientCore {
 
     // The channel is on this circuit, in this phase.
     pub(crate) fn set_phase(&mut self, channel: Handle, circuit: Handle, phase: Phase)
-        requires { MayTurn channel circuit (phase_of phase) self.old }
+        requires turn { MayTurn channel circuit (phase_of phase) self.old }
+        requires alive { client.is_live (phase_of phase) ≡ true
+            → is_live_in self.old.channels channel ≡ true }
         ensures { self.new ≡ with_standing (On circuit (phase_of phase)) channel self.old }
     {
         put(&mut self.channels, channel, Standing::On(circuit, phase));
@@ -146,7 +150,18 @@ impl ClientCore {
             self.old) }
         ensures err { OnErr result (self.new ≡ self.old) }
     {
-        self.set_phase(channel, circuit, Phase::Live(native, rights));
+        note_live(
+            self.alloc,
+            &mut self.lives,
+            &self.channels,
+            circuit,
+            channel,
+        )?;
+        put(
+            &mut self.channels,
+            channel,
+            Standing::On(circuit, Phase::Live(native, rights)),
+        );
         Ok(())
     }
 

@@ -1,33 +1,38 @@
 //! The end of a circuit has ended, and what is left of it.
-ghost use Rattle.std.specs.Prelude.{◌≡◌, [], IsSome, None, filter, if◌then◌else◌, not, option_map, unwrap_or};
-ghost use Rattle.ca_ids.specs.Table.{same_handle, under, with_changed, with_freed};
-ghost use Rattle.ca_requests.specs.Requests.{in_order_of_issue, was_sent_on};
-ghost use Rattle.ca_model.specs.Client.{ended, out_bytes};
+ghost use Rattle.std.specs.Prelude.{◌≡◌, [], None, filter, if◌then◌else◌, not, option_map, unwrap_or};
+ghost use Rattle.ca_ids.specs.Table.{same_handle, with_changed, with_freed};
+ghost use Rattle.ca_model.specs.Client.{closing, ended};
+ghost use Rattle.ca_client_core.specs.Closings.{why_is};
 ghost use Rattle.ca_client_core.specs.Ends.{left_at, waiting_in};
 
 use crate::channel::is_same;
 use crate::circuit::{Circuit, Connection};
 use crate::client::ClientCore;
+use crate::closing::{Closing, Why};
 use crate::ending::end_channels;
+use crate::live_channels::{list_live, take_live};
+use crate::notices::Notices;
 use ca_arena::Handle;
 use ca_ids::HeldTable;
 use ca_wire::Pipe;
 use std::alloc::Global;
 
 impl ClientCore {
-    // The end of this circuit has ended. If the circuit is there these are its open requests, in order of issue, and the bytes
-    // that waited. It does not allocate.
-    pub(crate) fn end(&mut self, circuit: Handle) -> (Vec<Handle>, Pipe)
-        ensures told { IsSome (under self.old.circuits circuit)
-            → result.0.items
-            ≡ in_order_of_issue (was_sent_on circuit) self.old.requests self.old.issued }
-        ensures left { result.1 ≡ out_bytes self.old circuit }
+    // The end of this circuit has ended for this cause: its notices, and the bytes that waited. It does not allocate.
+    pub(crate) fn end(&mut self, circuit: Handle, why: Why) -> Closing
+        ensures told { result ≡ closing (why_is why) circuit self.old }
         ensures ended { self.new ≡ ended circuit self.old }
     {
         let Some(found) = self.circuits.by_handle(circuit) else {
-            return (Vec::new(self.alloc), Pipe::new(self.alloc));
+            return Closing {
+                why,
+                notices: Notices::none(self.alloc),
+                left: Pipe::new(self.alloc),
+            };
         };
         let is_name = found.is_name;
+        let mut lost = take_live(self.alloc, &mut self.lives, circuit);
+        list_live(&self.channels, circuit, &mut lost);
         let told = self.requests.end_circuit(circuit);
         self.monitors.free_circuit(circuit);
         end_channels(&mut self.channels, &mut self.searches, circuit, self.moment);
@@ -38,12 +43,16 @@ impl ClientCore {
             circuit,
             is_name,
         );
-        (told, left)
+        Closing {
+            why,
+            notices: Notices::of(told, lost, None),
+            left,
+        }
     }
 }
 
 // Of a circuit that has ended nothing is kept, but a name server's is wanted again.
-fn let_go(
+pub(crate) fn let_go(
     alloc: Global,
     circuits: &mut HeldTable<Circuit>,
     order: &mut Vec<Handle>,

@@ -56,7 +56,7 @@ keeps-searches x searches = record {
 
 -- ---- clear
 
-unsubscribed-keeps : (h : Handle) (x : Client) → Keeps x (unsubscribed_all h x)
+pub unsubscribed-keeps : (h : Handle) (x : Client) → Keeps x (unsubscribed_all h x)
 unsubscribed-keeps h x =
     keeps-subscriptions (monitor.channel_gone h x.subscriptions) x (thin-all-freed (is_to h) x.subscriptions) (λ p g d on is drains. inl (d, (all-freed-back (is_to h) x.subscriptions g d is).0, refl, drains))
 
@@ -105,7 +105,7 @@ over-subscriptions c h x live = keeps-subscriptions (monitor.channel_over c h x.
         by true to channel f = stage s.stage refl to channel f
         by false to channel f = inl (s, there, channel, f)
 
-over-keeps : (c h : Handle) (x : Client) → WasLive x h c → Keeps x (all_over c h x)
+pub over-keeps : (c h : Handle) (x : Client) → WasLive x h c → Keeps x (all_over c h x)
 over-keeps c h x live =
     let y : Client = record x { subscriptions = monitor.channel_over c h x.subscriptions } in
     keeps-then x y (all_over c h x) (over-subscriptions c h x live) (over-requests h y)

@@ -109,7 +109,7 @@ filter-map-at {A} {B} f (z ∷ xs) (suc j) x y at is = (let r = filter-map-at f 
     go None i h = (i, h)
 
 -- a channel that the test names there is listed
-listed-there : (test : Phase → Bool) (c : Handle) (x : Client) (h : Handle) (ch : Channel) → under x.channels h ≡ Some ch → is_on_in test c ch ≡ true → (i : ℕ) × At (channels_on test c x) i h
+pub listed-there : (test : Phase → Bool) (c : Handle) (x : Client) (h : Handle) (ch : Channel) → under x.channels h ≡ Some ch → is_on_in test c ch ≡ true → (i : ℕ) × At (channels_on test c x) i h
 listed-there test c x h ch is on =
     let f : Handle × Channel → Option Handle = λ (e : Handle × Channel). cond (is_on_in test c e.1) (Some e.0) None in
     let r = under-held x.channels h ch is in
@@ -200,7 +200,7 @@ module _ (c : Handle) (x : Client) where
   )
 
   -- a channel that is on a circuit now was on it, and that is another
-  ended-back : (k : Handle) (w : Channel) (on : Handle) (p : Phase) → under (channels_ended c x).channels k ≡ Some w → w.standing ≡ On on p → (under x.channels k ≡ Some w) × (on ≡ c → ⊥)
+  pub ended-back : (k : Handle) (w : Channel) (on : Handle) (p : Phase) → under (channels_ended c x).channels k ≡ Some w → w.standing ≡ On on p → (under x.channels k ≡ Some w) × (on ≡ c → ⊥)
   ended-back k w on p is stands = elim (again-back (channels_on (λ (p : Phase). not (is_cleared p)) c x) mid k w is) [
     | inl searched ↦ absurd (nowhere (sym searched ∙ stands))
     | inr again ↦

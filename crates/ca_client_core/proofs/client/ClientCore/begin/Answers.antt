@@ -7,7 +7,7 @@ use Rattle.ca_model.specs.Client.{Channel, Client, ClientCircuit, Connection}
 use Rattle.ca_model.specs.ClientEnds.{creating, unconnected}
 use Rattle.ca_client_core.specs.Connecting.{BeginsOn, creations_in, greeting}
 use Rattle.ca_client_core.proofs.Connected.{begins-on, client-all}
-use Rattle.ca_client_core.proofs.Joining.{placed-begun}
+use Rattle.ca_client_core.proofs.Joining.{listed-begun, placed-begun}
 use Rattle.ca_client_core.proofs.client.ClientCore.begin.Goals as goal
 
 pub invariant_of-self : goal.invariant_of-self
@@ -20,6 +20,7 @@ invariant_of-self c =
     record {
       client = client-all f i.channels c.begin_all.new.channels i.searches.entries c.begin_all.ensures c.self.invariant.client;
       placed = placed-begun i.channels i.requests.table i.monitors i.circuits c.self.invariant.placed h c.args.priority c.begin_all.new.channels c.connect.new.circuits _ wanted c.begin_all.ensures c.connect.ensures;
+      listed = listed-begun h i.channels c.begin_all.new.channels i.lives.items c.begin_all.ensures c.self.invariant.listed;
     }
 
 pub returns : goal.returns

@@ -21,5 +21,5 @@ invariant_of-self c =
     ap (λ (y : Client). under y.subscriptions s) c.self.view_is ∙ ap (λ (t : Table Subscription). under t s) same.1 ∙ (stands-as x s d c.requires.stands).0 in
     let live : WasLiveIn c.self.inside.channels d.channel c.args.circuit =
     subst (λ (t : Table Channel). WasLiveIn t d.channel c.args.circuit) (sym (ap (λ (y : Client). y.channels) c.self.view_is ∙ same.0)) c.requires.live in
-    sound-staged c.self.inside.channels c.self.inside.searches.entries c.self.inside.requests.table c.self.inside.monitors c.self.inside.circuits c.self.invariant (Cancelled c.args.circuit) c.args.circuit s d c.cancel.new.self (λ on. refl) there live
+    sound-staged c.self.inside.channels c.self.inside.searches.entries c.self.inside.requests.table c.self.inside.monitors c.self.inside.circuits c.self.inside.lives.items c.self.invariant (Cancelled c.args.circuit) c.args.circuit s d c.cancel.new.self (λ on. refl) there live
     (comes-to (Cancelled c.args.circuit) c.self.inside.monitors c.cancel.new.self s d c.cancel.result stands c.cancel.ensures)

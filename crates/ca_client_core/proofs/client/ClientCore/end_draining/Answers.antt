@@ -13,6 +13,7 @@ invariant_of-self c =
     let i = c.self.inside in
     record {
       client = c.self.invariant.client;
+      listed = c.self.invariant.listed;
       placed =
           subst (λ (w : Table Request × Table Subscription). ArePlaced i.channels w.0 w.1 i.circuits)
           (λ k. (ap (λ (z : Issued). z.table) (sym c.free_channel.ensures) k, sym c.drained.ensures k))

@@ -9,4 +9,5 @@ invariant_of-self-in-Ok c =
     record {
       client = c.self.invariant.client;
       placed = placed-wanted i.channels i.requests.table i.monitors i.circuits c.self.invariant.placed c.in-Some.vacant (new_circuit c.args.address c.args.priority false) c.open_at.new.self refl c.in-Ok.ensures.0 c.in-Ok.ensures.1;
+      listed = c.self.invariant.listed;
     }

@@ -7,6 +7,7 @@ use Rattle.ca_client_core.specs.Forms.{phase_of}
 use Rattle.ca_client_core.specs.Finding.{IsFound}
 use Rattle.ca_client_core.proofs.Ended.{client-again}
 use Rattle.ca_client_core.proofs.Joining.{placed-found}
+use Rattle.ca_client_core.proofs.Listing.{listed-not}
 use Rattle.ca_client_core.proofs.client.ClientCore.found_on.Goals as goal
 
 pub invariant_of-self : goal.invariant_of-self
@@ -23,4 +24,5 @@ invariant_of-self c =
       placed =
           placed-found i.channels i.requests.table i.monitors i.circuits c.self.invariant.placed h c.args.circuit (phase_of c.args.phase) c.put.new.channels
           (subst (λ (y : Client). IsFound h c.args.circuit (phase_of c.args.phase) y) (sym c.self.view_is) c.requires) c.put.ensures;
+      listed = listed-not (On c.args.circuit (phase_of c.args.phase)) h i.channels c.put.new.channels i.lives.items c.requires.idle c.put.ensures c.self.invariant.listed;
     }

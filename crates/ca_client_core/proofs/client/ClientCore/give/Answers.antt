@@ -27,4 +27,4 @@ returns c =
 
 pub invariant_of-self-2 : goal.invariant_of-self-2
 invariant_of-self-2 c =
-    sound-given c.self.inside.channels c.self.inside.searches.entries c.self.inside.requests.table c.self.inside.monitors c.self.inside.circuits c.self.invariant c.self.inside.moment c.args.bytes.now c.args.more c.give.result c.args.circuit c.in-Some.found.now c.give.new.self (sym c.in-Some.ensures.value) c.give.ensures
+    sound-given c.self.inside.channels c.self.inside.searches.entries c.self.inside.requests.table c.self.inside.monitors c.self.inside.circuits c.self.inside.lives.items c.self.invariant c.self.inside.moment c.args.bytes.now c.args.more c.give.result c.args.circuit c.in-Some.found.now c.give.new.self (sym c.in-Some.ensures.value) c.give.ensures

@@ -75,7 +75,7 @@ found_on-requires c =
     found-is x a here.priority c.in-Some-circuit_to.circuit c.in-Some.channel false Connecting
     (sought-is x c.args.message.now.p2 c.in-Some.channel here (c.in-Some.ensures ∙ ap (λ (n : ℕ). searched_by n x) c.p2.ensures))
     (ap (λ (b : Bool). Some (c.in-Some-circuit_to.circuit, b)) (sym waits) ∙ c.in-Some-circuit_to.ensures ∙ goes-as x c.self.inside.circuits c.found_at-address.result a c.priority-priority.result here.priority (ap (λ (y : Client). y.circuits) c.self.view_is) c.found_at-address.ensures c.priority-priority.ensures.is)
-    refl
+    refl refl
 
 pub create_on-requires : goal.create_on-requires
 create_on-requires c =
@@ -86,4 +86,4 @@ create_on-requires c =
     found-is x a here.priority c.in-Some-circuit_to.circuit c.in-Some.channel true (Creating 0)
     (sought-is x c.args.message.now.p2 c.in-Some.channel here (c.in-Some.ensures ∙ ap (λ (n : ℕ). searched_by n x) c.p2.ensures))
     (ap (λ (b : Bool). Some (c.in-Some-circuit_to.circuit, b)) (sym connected) ∙ c.in-Some-circuit_to.ensures ∙ goes-as x c.self.inside.circuits c.found_at-address.result a c.priority-priority.result here.priority (ap (λ (y : Client). y.circuits) c.self.view_is) c.found_at-address.ensures c.priority-priority.ensures.is)
-    refl
+    refl refl

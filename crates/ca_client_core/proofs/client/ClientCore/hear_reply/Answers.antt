@@ -5,7 +5,7 @@ use Rattle.ca_client_core.proofs.Placing.{hears-reply, sound-answered, with_issu
 use Rattle.ca_client_core.proofs.client.ClientCore.hear_reply.Goals as goal
 
 pub invariant_of-self : goal.invariant_of-self
-invariant_of-self c = sound-answered c.self.inside.channels c.self.inside.searches.entries c.self.inside.requests.table c.self.inside.monitors c.self.inside.circuits c.self.invariant _ c.answer.new.self c.args.message.now _ c.answer.result refl c.answer.ensures
+invariant_of-self c = sound-answered c.self.inside.channels c.self.inside.searches.entries c.self.inside.requests.table c.self.inside.monitors c.self.inside.circuits c.self.inside.lives.items c.self.invariant _ c.answer.new.self c.args.message.now _ c.answer.result refl c.answer.ensures
 
 pub returns : goal.returns
 returns c =

@@ -21,6 +21,7 @@ invariant_of-self c =
       placed =
           subst (λ (t : Table Request). ArePlaced i.channels t i.monitors i.circuits) (sym (ap (λ (n : Issued). n.table) c.end_channel-over.ensures.over))
           ((over-requests c.args.channel (plain i.channels i.requests.table i.monitors i.circuits)).placed c.self.invariant.placed);
+      listed = c.self.invariant.listed;
     }
 
 pub returns : goal.returns

@@ -12,6 +12,7 @@ use Rattle.ca_client_core.proofs.Openings.{client-opened, opened-is, searched-fr
 use Rattle.std.proofs.Common.{◌≡◌, sym, ◌⊎◌}
 use Rattle.ca_client_core.specs.Sound.{IsSound}
 use Rattle.ca_client_core.proofs.Placing.{placed-held, refused-same}
+use Rattle.ca_client_core.proofs.Listing.{listed-opened}
 use Rattle.ca_client_core.proofs.client.ClientCore.open.Goals as goal
 
 pub invariant_of-self-2 : goal.invariant_of-self-2
@@ -32,6 +33,7 @@ invariant_of-self-2 c =
       client = kept;
       placed =
           placed-held c.self.inside.channels c.self.inside.requests.table c.self.inside.monitors c.self.inside.circuits c.self.invariant.placed q c.new.result c.open.new.self (ap (λ (d : Channel). d.standing) c.new.ensures) c.in-Ok.ensures.0 c.in-Ok.ensures.1;
+      listed = listed-opened c.self.inside.channels c.open.new.self c.self.inside.lives.items q c.new.result (ap (λ (d : Channel). d.standing) c.new.ensures) c.in-Ok.ensures.1 c.self.invariant.listed;
     }
 
 pub returns : goal.returns
@@ -79,5 +81,5 @@ pub invariant_of-self-in-Err : goal.invariant_of-self-in-Err
 invariant_of-self-in-Err c =
     let i = c.self.inside in
     let same : c.open.new.self ≡ i.channels = refused-same i.channels c.open.new.self c.new.result _ c.in-Err.refusal c.in-Err.ensures in
-    subst (λ t. IsSound t c.reserve.new.self.entries i.requests.table i.monitors i.circuits) (sym same)
-    (subst (λ es. IsSound i.channels es i.requests.table i.monitors i.circuits) (sym c.in_ok-reserve.ensures.entries) c.self.invariant)
+    subst (λ t. IsSound t c.reserve.new.self.entries i.requests.table i.monitors i.circuits i.lives.items) (sym same)
+    (subst (λ es. IsSound i.channels es i.requests.table i.monitors i.circuits i.lives.items) (sym c.in_ok-reserve.ensures.entries) c.self.invariant)

@@ -8,6 +8,8 @@ use Rattle.std.proofs.Common.{subst, sym}
 use Rattle.ca_model.specs.Client.{Client}
 use Rattle.ca_model_client.specs.Placed.{IsBare}
 use Rattle.ca_client_core.proofs.Placing.{placed-again}
+use Rattle.std.proofs.Common.{refl}
+use Rattle.ca_client_core.proofs.Listing.{listed-not}
 use Rattle.ca_client_core.proofs.client.ClientCore.seek_again.Goals as goal
 
 pub invariant_of-self : goal.invariant_of-self
@@ -22,4 +24,5 @@ invariant_of-self c =
       client = client-again i.channels c.bring_back.new.channels es ns (λ (here : Channel). record here { standing = Searching }) (resumed i.moment) h c.bring_back.ensures begins c.self.invariant.client;
       placed =
           placed-again c.self.inside.channels c.self.inside.requests.table c.self.inside.monitors c.self.inside.circuits c.self.invariant.placed h c.bring_back.new.channels (subst (λ (y : Client). IsBare h y) (sym c.self.view_is) c.requires) c.bring_back.ensures;
+      listed = listed-not Searching h i.channels c.bring_back.new.channels i.lives.items refl c.bring_back.ensures c.self.invariant.listed;
     }

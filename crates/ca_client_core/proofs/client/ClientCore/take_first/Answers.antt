@@ -10,7 +10,7 @@ use Rattle.ca_client_core.proofs.client.ClientCore.take_first.Goals as goal
 pub invariant_of-self-2 : goal.invariant_of-self-2
 invariant_of-self-2 c =
     let i = c.self.inside in
-    sound-this i.channels i.searches.entries i.requests.table i.monitors i.circuits c.self.invariant c.args.circuit c.in-Some.found.now c.take_first.new.self (sym c.in-Some.ensures.value) (first-stays c.in-Some.found.now c.take_first.result c.take_first.new.self c.take_first.ensures)
+    sound-this i.channels i.searches.entries i.requests.table i.monitors i.circuits i.lives.items c.self.invariant c.args.circuit c.in-Some.found.now c.take_first.new.self (sym c.in-Some.ensures.value) (first-stays c.in-Some.found.now c.take_first.result c.take_first.new.self c.take_first.ensures)
 
 pub returns : goal.returns
 returns c =

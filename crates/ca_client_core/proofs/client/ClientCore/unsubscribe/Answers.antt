@@ -1,4 +1,5 @@
-use Rattle.std.proofs.Common.{◌≡◌, ◌∙◌, List, Ok, Some, ap, option_map, refl, subst, sym}
+use Rattle.ca_text.specs.declared.refusal.Refusal.{Refusal}
+use Rattle.std.proofs.Common.{◌≡◌, ◌∙◌, List, Result, Ok, Some, ap, option_map, refl, subst, sym}
 use Rattle.ca_monitor.specs.Subscriptions.{Ended, Subscription, standing_under, with_stage}
 use Rattle.ca_model.specs.Answers.{Sending}
 use Rattle.ca_model.specs.Client.{Client, On, standing_at}
@@ -87,7 +88,7 @@ invariant_of-self c =
     ∙ sym c.standing-2.ensures
     ∙ ap (option_map standing_of) found
     ∙ ap (λ (p : Phase). option_map standing_of (Some (standing.On c.in-On.circuit p))) c.in-Leaving.is in
-    sound-staged c.self.inside.channels c.self.inside.searches.entries c.self.inside.requests.table c.self.inside.monitors c.self.inside.circuits c.self.invariant (Ended c.in-On.circuit) c.in-On.circuit s d c.end.new.self (λ on. refl)
+    sound-staged c.self.inside.channels c.self.inside.searches.entries c.self.inside.requests.table c.self.inside.monitors c.self.inside.circuits c.self.inside.lives.items c.self.invariant (Ended c.in-On.circuit) c.in-On.circuit s d c.end.new.self (λ on. refl)
     (stands-as x s d stands).0 (live-at x d.channel c.in-On.circuit phase.Leaving at refl)
     (comes-to (Ended c.in-On.circuit) i.monitors c.end.new.self s d c.end.result stands c.end.ensures)
 
@@ -102,3 +103,35 @@ cancel-requires-clause-live c =
     ∙ ap (option_map standing_of) found
     ∙ ap (λ (p : Phase). option_map standing_of (Some (standing.On c.in-On.circuit p))) c.in-Live.is in
     live-at x d.channel c.in-On.circuit (phase.Live (native_of c.in-Live.native) c.in-Live.field-1) at refl
+
+pub returns-in-Connecting : goal.returns-in-Connecting
+returns-in-Connecting c =
+    let x = c.args.self.now in
+    let d = c.in-Some.found in
+    let s = c.args.subscription in
+    let stands : standing_under s x.subscriptions ≡ Some d =
+    sym (ap (λ (y : Client). standing_under s y.subscriptions) c.self.view_is) ∙ sym c.standing.ensures ∙ c.in-Some.is in
+    let found : c.standing-2.result ≡ Some (standing.On c.in-On.circuit c.in-On.phase) = c.in-Some-standing.is ∙ ap (λ (p : Standing). Some p) c.in-On.is in
+    let at : standing_at x d.channel ≡ Some (On c.in-On.circuit (phase.Connecting)) =
+    ap (λ (e : Subscription). standing_at x e.channel) (sym c.found.view_is)
+    ∙ sym c.standing-2.ensures
+    ∙ ap (option_map standing_of) found
+    ∙ ap (λ (p : Phase). option_map standing_of (Some (standing.On c.in-On.circuit p))) c.in-Connecting.is in
+    subst (λ (r : Result (Unit {0}) Refusal). (sent : List Sending) × ClientUnsubscribes x s r sent c.forget-in-Connecting.new.self) (sym c.forget-in-Connecting.ensures.ok)
+    (cancelled-there x s d (Some (On c.in-On.circuit (phase.Connecting))) c.forget-in-Connecting.new.self stands at refl c.forget-in-Connecting.ensures.freed)
+
+pub returns-in-Creating : goal.returns-in-Creating
+returns-in-Creating c =
+    let x = c.args.self.now in
+    let d = c.in-Some.found in
+    let s = c.args.subscription in
+    let stands : standing_under s x.subscriptions ≡ Some d =
+    sym (ap (λ (y : Client). standing_under s y.subscriptions) c.self.view_is) ∙ sym c.standing.ensures ∙ c.in-Some.is in
+    let found : c.standing-2.result ≡ Some (standing.On c.in-On.circuit c.in-On.phase) = c.in-Some-standing.is ∙ ap (λ (p : Standing). Some p) c.in-On.is in
+    let at : standing_at x d.channel ≡ Some (On c.in-On.circuit (phase.Creating c.in-Creating.field-0)) =
+    ap (λ (e : Subscription). standing_at x e.channel) (sym c.found.view_is)
+    ∙ sym c.standing-2.ensures
+    ∙ ap (option_map standing_of) found
+    ∙ ap (λ (p : Phase). option_map standing_of (Some (standing.On c.in-On.circuit p))) c.in-Creating.is in
+    subst (λ (r : Result (Unit {0}) Refusal). (sent : List Sending) × ClientUnsubscribes x s r sent c.forget-in-Creating.new.self) (sym c.forget-in-Creating.ensures.ok)
+    (cancelled-there x s d (Some (On c.in-On.circuit (phase.Creating c.in-Creating.field-0))) c.forget-in-Creating.new.self stands at refl c.forget-in-Creating.ensures.freed)
