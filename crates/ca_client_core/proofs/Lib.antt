@@ -9,7 +9,16 @@ pub mod Requesting
 pub mod Adding
 pub mod Putting
 pub mod Quoted
+mod Queued
+mod Found
+mod Connected
+mod Effects
+mod Outcomes
+mod Dispatched
 pub mod Placing
 pub mod Endings
+mod Joining
+mod Walked
+mod Firsts
 pub mod Cleared
 pub mod Listing

@@ -19,45 +19,14 @@ use Rattle.ca_model.specs.Client.{Client, ClientCircuit, Connection, out_bytes, 
 use Rattle.ca_model.specs.ClientCalls.{ClientReads, IsLive, LiveChannel, Shape, ask_fault, is_over, read_fault, read_sent}
 use Rattle.ca_model.specs.Faults.{type_of}
 use Rattle.ca_client_core.specs.Asks.{Asks, IssuesOr, cut_back, cut_end, with_message, with_request}
-use Rattle.ca_client_core.proofs.Circuits.{changed-same, changed-twice, this-same}
+use Rattle.ca_client_core.proofs.Queued.{cut-messages}
 use Rattle.ca_client_core.proofs.Faults.{Faults, and_then, earlier-fault, fault-memory, last-fault}
 
 -- ---- what was queued is taken back
 
-cut-queued-end : (e : Connection) (m : Fields) (n : ℕ) → n ≡ length e.link.output → cut_end n (record e { link = with_sent (m ∷ []) e.link }) ≡ e
-cut-queued-end e m n all =
-    ap (λ (o : List ℕ). let d : Connection = record e { link = record e.link { output = o } } in d) (take_at e.link.output (spelled (m ∷ [])) n (sym all))
-
-cut-queued-in : (d : ClientCircuit) (o : Option Connection) (m : Fields) (n : ℕ) → d.connection ≡ o → ((e : Connection) → o ≡ Some e → n ≡ length e.link.output) → ◌≡◌ {A = ClientCircuit} (record d { connection = option_map (cut_end n) (option_map (λ (e : Connection). record e { link = with_sent (m ∷ []) e.link }) o) }) d
-cut-queued-in d None m n is all = ap (λ (o : Option Connection). let c : ClientCircuit = record d { connection = o } in c) (sym is)
-cut-queued-in d (Some e) m n is all =
-    ap (λ (f : Connection). let c : ClientCircuit = record d { connection = Some f } in c) (cut-queued-end e m n (all e refl))
-    ∙ ap (λ (o : Option Connection). let c : ClientCircuit = record d { connection = o } in c) (sym is)
-
-unchanged : {T : Type 0} (t : Table T) (f : T → T) (h : Handle) → under t h ≡ None → with_changed f h t ≡ t
-unchanged t f h none = rw none refl
-
 -- only what waited before is left
 pub cut-queued : (x : Client) (c : Handle) (m : Fields) (n : ℕ) → n ≡ length (out_bytes x c) → cut_back c n (with_message c m x) ≡ x
-cut-queued x c m n all = by_value (under x.circuits c) refl
-  where
-    by_value : (o : Option ClientCircuit) → under x.circuits c ≡ o → cut_back c n (with_message c m x) ≡ x
-    by_value None none =
-        let queue = λ (d : ClientCircuit). record d { connection = option_map (λ (e : Connection). record e { link = with_sent (m ∷ []) e.link }) d.connection } in
-        let cut = λ (d : ClientCircuit). record d { connection = option_map (cut_end n) d.connection } in
-        ap (λ (t : Table ClientCircuit). let y : Client = record x { circuits = with_changed cut c t } in y) (unchanged x.circuits queue c none)
-        ∙ ap (λ (t : Table ClientCircuit). let y : Client = record x { circuits = t } in y) (unchanged x.circuits cut c none)
-    by_value (Some d) found =
-        let queue = λ (d : ClientCircuit). record d { connection = option_map (λ (e : Connection). record e { link = with_sent (m ∷ []) e.link }) d.connection } in
-        let cut = λ (d : ClientCircuit). record d { connection = option_map (cut_end n) d.connection } in
-        let waits : (e : Connection) → d.connection ≡ Some e → n ≡ length e.link.output =
-        λ e is. all
-        ∙ ap (λ (o : Option ClientCircuit). length (unwrap_or (option_map (λ (f : Connection). f.link.output) (option_and_then (λ (w : ClientCircuit). w.connection) o)) [])) found
-        ∙ ap (λ (o : Option Connection). length (unwrap_or (option_map (λ (f : Connection). f.link.output) o) [])) is in
-        ap (λ (t : Table ClientCircuit). let y : Client = record x { circuits = t } in y)
-        (changed-twice x.circuits queue cut c d found
-        ∙ changed-same x.circuits (λ (w : ClientCircuit). cut (queue w)) (λ (w : ClientCircuit). d) c d found (cut-queued-in d d.connection m n refl waits))
-        ∙ this-same x c d found
+cut-queued x c m n all = cut-messages x c (m ∷ []) n all
 
 -- ---- a request is issued, and its message waits
 

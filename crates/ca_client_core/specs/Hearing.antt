@@ -1,5 +1,5 @@
 -- Working: parts of what a message that is read does. No clause of a caller needs it.
-use Rattle.std.specs.Prelude.{◌≡◌, List, [], ◌∷◌, Option, Some, None, Result, Ok, Err}
+use Rattle.std.specs.Prelude.{◌≡◌, ◌≢◌, ◌⊎◌, List, [], ◌∷◌, Option, Some, None, Result, Ok, Err}
 use Rattle.std.specs.declared.alloc.AllocError.{AllocError}
 use Rattle.ca_arena.specs.declared.handle.Handle.{Handle}
 use Rattle.ca_dbr.specs.declared.value.Outcome.{Outcome}
@@ -12,7 +12,8 @@ use Rattle.ca_model.specs.Answers.{Notice}
 use Rattle.ca_model.specs.Answers as notice
 use Rattle.ca_model.specs.Client.{Client}
 use Rattle.ca_model.specs.Client as client
-use Rattle.ca_model.specs.Hears.{Answers, doing}
+use Rattle.ca_model.specs.Ends.{Address}
+use Rattle.ca_model.specs.Hears.{Answers, Effect, Finds, doing}
 use Rattle.ca_client_core.specs.declared.channel.Phase.{Phase}
 use Rattle.ca_client_core.specs.Forms.{phase_of}
 
@@ -54,3 +55,17 @@ subscription_over m (Some s) = notice.SubscriptionEnded s (record { number = m.p
 abbrev pub request_over : Fields → Option Handle → List Notice
 request_over m None = []
 request_over m (Some q) = notice.Completed q (outcome.Failed (record { number = m.p2 })) ∷ []
+
+-- it sends or reports something, or makes a circuit wanted
+abbrev pub DoesSome : Client → Effect → Type 0
+DoesSome old e = (e.sent ≢ []) ⊎ ((e.notices ≢ []) ⊎ (e.core.order ≢ old.order))
+
+-- A message had this effect; or there was no memory for it, which changed nothing.
+abbrev pub HasEffect : Client → Effect → Result (List Notice) AllocError → Client → Type 0
+HasEffect old e (Ok told) new = (told ≡ e.notices) × (new ≡ e.core)
+HasEffect old e (Err _) new = DoesSome old e × (new ≡ old)
+
+-- A search reply that came from this address was heard; or there was no memory for it, which changed nothing.
+abbrev pub FindsOr : Client → Address → Fields → Result (Unit {0}) AllocError → Client → Type 0
+FindsOr old from m (Ok _) new = (e : Effect) × Finds old from m e × (e.notices ≡ []) × (new ≡ e.core)
+FindsOr old from m (Err _) new = (e : Effect) × Finds old from m e × DoesSome old e × (new ≡ old)

@@ -10,7 +10,13 @@ pub mod Lives
 pub mod Asks
 pub mod Puts
 pub mod Notices
+pub mod Again
+pub mod Finding
+pub mod Connecting
+pub mod Dispatch
 pub mod Turns
+pub mod Closings
+pub mod First
+pub mod Stepping
 pub mod Clearing
 pub mod Listed
-pub mod Closings

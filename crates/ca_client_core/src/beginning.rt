@@ -107,7 +107,7 @@ fn is_among(address: Address, names: &[Address]) -> bool
     names.iter().any(|name| is_same(address, *name))
 }
 
-fn is_same(a: Address, b: Address) -> bool
+pub(crate) fn is_same(a: Address, b: Address) -> bool
     ensures { result ≡ same_address a b }
 {
     a.host == b.host && a.port == b.port

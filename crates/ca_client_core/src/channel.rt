@@ -1,13 +1,18 @@
-ghost use Rattle.std.specs.Prelude.{◌≡◌, ◌≤◌, option_map};
+ghost use Rattle.std.specs.Prelude.{◌≡◌, ◌≤◌, IfOk, option_map};
 ghost use Rattle.ca_text.specs.Limits.{channel_name_limit, priority_limit};
 ghost use Rattle.ca_text.specs.Name.{IsName};
 ghost use Rattle.ca_ids.specs.Table.{same_handle};
+ghost use Rattle.ca_ids.specs.Wire.{wire_of};
+ghost use Rattle.ca_wire.specs.Messages.{create_request};
 ghost use Rattle.ca_client_core.specs.Ending.{is_kept};
 ghost use Rattle.ca_client_core.specs.Forms.{cleared_in, phase_of, standing_of};
 ghost use Rattle.ca_model.specs.Client as client;
 ghost use Rattle.ca_model.specs.Client.{standing_unless_cleared};
 
 use ca_arena::Handle;
+use ca_ids::WireId;
+use ca_wire::{Cid, Message, create_request};
+use std::alloc::{AllocError, Global};
 use std::marker::Model;
 
 /// What the reply to a CREATE_CHAN says of a channel: its SID, its native type and its greatest count.
@@ -117,6 +122,21 @@ impl Channel {
             priority,
             standing: Standing::Searching,
         }
+    }
+
+    /// The priority of its circuit.
+    pub(crate) fn priority(&self) -> u16
+        ensures is { result ≡ self.now.priority }
+        ensures within { result ≤ priority_limit }
+    {
+        self.priority
+    }
+
+    /// The CREATE_CHAN of this channel, which has this handle.
+    pub(crate) fn create_message(&self, alloc: Global, own: Handle) -> Result<Message, AllocError>
+        ensures { IfOk result (λ m. m ≡ create_request (wire_of own) self.now.name) }
+    {
+        create_request(alloc, Cid::new(WireId::of(own).number()), &self.name)
     }
 
     /// Where it is.

@@ -37,10 +37,15 @@ impl Model for Circuit {
 
     ghost Value = { client.ClientCircuit };
 
+    ghost use Rattle.std.specs.Prelude.{◌≤◌};
+    ghost use Rattle.ca_text.specs.Limits.{priority_limit};
+
     ghost view = { λ c. record {
       address = c.address;
       priority = c.priority;
       is_name = c.is_name;
       connection = c.connection;
     } };
+
+    ghost invariant = { λ c. c.priority ≤ priority_limit };
 }

@@ -7,3 +7,4 @@ pub mod Readings
 pub mod Shows
 pub mod Texts
 pub mod Valued
+pub mod LongBytes

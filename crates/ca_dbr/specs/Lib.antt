@@ -5,3 +5,4 @@ pub mod Reading
 pub mod Number
 pub mod Conversion
 pub mod Shown
+pub mod Octets

@@ -45,12 +45,12 @@ use Rattle.ca_server_core.specs.Handling.{Recorded, known, replied}
 use Rattle.ca_server_core.specs.Seeking.{IsServed, IsStray}
 use Rattle.ca_server_core.specs.Showing.{AnswersRead}
 use Rattle.ca_server_core.specs.Sound.{EndIsSound}
-use Rattle.ca_server_core.specs.Stepping.{AreBytes}
+use Rattle.ca_dbr.specs.Octets.{AreBytes}
 use Rattle.ca_server_core.proofs.Created.{is-created, not-created, taken-known}
 use Rattle.ca_server_core.proofs.Dues.{IsDueFor, command_at, due-of}
 use Rattle.ca_server_core.proofs.Handled.{does-nothing}
 use Rattle.ca_server_core.proofs.Known.{serves}
-use Rattle.ca_server_core.proofs.LongBytes.{reading}
+use Rattle.ca_dbr.proofs.LongBytes.{reading}
 use Rattle.ca_server_core.proofs.Replying.{served-read, stray-due, stray-event, stray-read}
 use Rattle.ca_server_core.proofs.Tables.{find-at, wire-under}
 use Rattle.ca_server_core.proofs.Taken.{put_in}

@@ -19,7 +19,6 @@ pub mod Stays
 pub mod Closing
 pub mod Walking
 pub mod Servers
-pub mod LongBytes
 pub mod Could
 pub mod Stepped
 pub mod Finished

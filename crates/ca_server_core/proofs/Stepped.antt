@@ -27,13 +27,14 @@ use Rattle.ca_server_core.specs.Ending.{KeepsPlaces, WithdrawsAll}
 use Rattle.ca_server_core.specs.Handling.{Does, Recorded, Tells, is_wrote, known, replied}
 use Rattle.ca_server_core.specs.Serving.{CircuitSteps, IsReport, Reports, StepsIn, more_applied, stepped}
 use Rattle.ca_server_core.specs.Sound.{EndIsSound, IsSound}
-use Rattle.ca_server_core.specs.Stepping.{AreBytes, BreaksBy, EndSteps, Takes, after_first, why_is}
+use Rattle.ca_dbr.specs.Octets.{AreBytes}
+use Rattle.ca_server_core.specs.Stepping.{BreaksBy, EndSteps, Takes, after_first, why_is}
 use Rattle.ca_server_core.specs.Subscribing.{events_of}
 use Rattle.ca_server_subscriptions.specs.Subscribed.{HasRoom}
 use Rattle.ca_server_core.proofs.Cleared.{none-of}
 use Rattle.ca_server_core.proofs.Closing.{none-waits, not-ended, sound-freed, sound-handled}
 use Rattle.ca_server_core.proofs.Could.{could}
-use Rattle.ca_server_core.proofs.LongBytes.{are-back, are-front}
+use Rattle.ca_dbr.proofs.LongBytes.{are-back, are-front}
 use Rattle.ca_server_core.proofs.Servers.{became, freed-changed, freed-nothing, made_of, same-parts, server_of, stayed}
 use Rattle.ca_server_core.proofs.Tables.{changed-own}
 use Rattle.ca_server_core.proofs.Walking.{keeps-same}

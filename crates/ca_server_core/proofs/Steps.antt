@@ -7,7 +7,8 @@ use Rattle.ca_text.specs.declared.refusal.Refusal.{Refusal}
 use Rattle.ca_text.specs.declared.refusal.Refusal.TheVariants as refusal
 use Rattle.ca_text.specs.Limits.{output_limit}
 use Rattle.ca_model.specs.Server.{ServerEnd}
-use Rattle.ca_server_core.specs.Stepping.{AreBytes, BreaksBy, cause_for}
+use Rattle.ca_dbr.specs.Octets.{AreBytes}
+use Rattle.ca_server_core.specs.Stepping.{BreaksBy, cause_for}
 
 closed-open : (l : LinkState) → l.input.closed ≡ true → l.input.closed ≡ false → ⊥
 closed-open l a b = cc

@@ -1,6 +1,7 @@
 -- Working: what one step of an open end comes to.
-use Rattle.std.specs.Prelude.{ℕ, ◌≡◌, ◌≢◌, ◌<◌, ◌≤◌, ◌⊎◌, List, [], ◌∷◌, length}
+use Rattle.std.specs.Prelude.{ℕ, ◌≡◌, ◌≢◌, ◌<◌, ◌≤◌, ◌⊎◌, List, [], length}
 use Rattle.ca_arena.specs.declared.handle.Handle.{Handle}
+use Rattle.ca_dbr.specs.Octets.{AreBytes}
 use Rattle.ca_link.specs.Link.{TakesFirst, with_rest}
 use Rattle.ca_records.specs.Store.{Store}
 use Rattle.ca_text.specs.declared.refusal.Refusal.{Refusal}
@@ -41,11 +42,6 @@ pub record Takes (e : ServerEnd) : Type 0 where
 -- the end without its first message
 abbrev pub after_first : {e : ServerEnd} → Takes e → ServerEnd
 after_first {e} t = record e { link = with_rest t.rest e.link }
-
--- each is a byte
-abbrev pub AreBytes : List ℕ → Type 0
-AreBytes [] = Unit {0}
-AreBytes (b ∷ bs) = (b < 256) × AreBytes bs
 
 -- Why an end breaks: out of memory for its first message, or at a bad header.
 abbrev pub BreaksBy : (port : ℕ) → Store → ServerEnd → Cause → Type 0

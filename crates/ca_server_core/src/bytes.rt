@@ -1,4 +1,4 @@
-ghost use Rattle.ca_server_core.specs.Stepping.{AreBytes};
+ghost use Rattle.ca_dbr.specs.Octets.{AreBytes};
 
 /// Each element of a slice of bytes is a byte.
 pub(crate) fn know_bytes(bytes: &[u8])

@@ -1,5 +1,5 @@
 use Rattle.std.proofs.Common.{◌<◌, get_or, rules}
-use Rattle.ca_server_core.proofs.LongBytes.{are-bytes}
+use Rattle.ca_dbr.proofs.LongBytes.{are-bytes}
 use Rattle.ca_server_core.proofs.bytes.know_bytes.Goals as goal
 
 pub returns : goal.returns

@@ -10,7 +10,8 @@ use Rattle.ca_model.specs.Due.{Due}
 use Rattle.ca_model.specs.Server.{OpenChannel, ServerEnd}
 use Rattle.ca_server_core.specs.declared.cause.Cause.{Cause}
 use Rattle.ca_server_core.specs.Handling.{AllStay, AreServed, Does, MayLack, known}
-use Rattle.ca_server_core.specs.Stepping.{AreBytes, BreaksBy, Takes}
+use Rattle.ca_dbr.specs.Octets.{AreBytes}
+use Rattle.ca_server_core.specs.Stepping.{BreaksBy, Takes}
 use Rattle.ca_server_core.proofs.Steps.{breaks-by, same-link, same-output, taken-first}
 use Rattle.ca_server_core.proofs.end.End.step.Goals as goal
 

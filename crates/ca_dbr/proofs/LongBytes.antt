@@ -11,23 +11,23 @@ use Rattle.ca_dbr.specs.declared.data_type.BaseType.{BaseType}
 use Rattle.ca_dbr.specs.declared.data_type.BaseType.TheVariants as base
 use Rattle.ca_dbr.specs.Elements.{Elements, byte_1, bytes_2, bytes_4, bytes_8, chars, doubles, enums, floats, ints, longs, signed_bytes_2, signed_bytes_4, string_bytes, strings}
 use Rattle.ca_dbr.specs.Reading.{ReadsElements, filled, least_size}
-use Rattle.ca_server_core.specs.Stepping.{AreBytes}
+use Rattle.ca_dbr.specs.Octets.{AreBytes}
 
 pub are-bytes : (bs : List ℕ) → ((i : ℕ) → get_or bs i 0 < 256) → AreBytes bs
 are-bytes [] each = tt
 are-bytes (b ∷ bs) each = (each 0, are-bytes bs (λ i. each (suc i)))
 
-each-byte : (bs : List ℕ) → AreBytes bs → (i : ℕ) → get_or bs i 0 < 256
+pub each-byte : (bs : List ℕ) → AreBytes bs → (i : ℕ) → get_or bs i 0 < 256
 each-byte [] are i = omega arith
 each-byte (b ∷ bs) are zero = are.0
 each-byte (b ∷ bs) are (suc i) = each-byte bs are.1 i
 
-are-take : (n : ℕ) (bs : List ℕ) → AreBytes bs → AreBytes (take n bs)
+pub are-take : (n : ℕ) (bs : List ℕ) → AreBytes bs → AreBytes (take n bs)
 are-take zero bs are = tt
 are-take (suc n) [] are = tt
 are-take (suc n) (b ∷ bs) are = (are.0, are-take n bs are.1)
 
-are-drop : (n : ℕ) (bs : List ℕ) → AreBytes bs → AreBytes (drop n bs)
+pub are-drop : (n : ℕ) (bs : List ℕ) → AreBytes bs → AreBytes (drop n bs)
 are-drop zero bs are = are
 are-drop (suc n) [] are = tt
 are-drop (suc n) (b ∷ bs) are = are-drop n bs are.1
@@ -40,7 +40,7 @@ pub are-back : (xs ys : List ℕ) → AreBytes (xs ++ ys) → AreBytes ys
 are-back [] ys are = are
 are-back (x ∷ xs) ys are = are-back xs ys are.1
 
-are-zeros : (n : ℕ) → AreBytes (replicate n 0)
+pub are-zeros : (n : ℕ) → AreBytes (replicate n 0)
 are-zeros zero = tt
 are-zeros (suc n) = (omega arith, are-zeros n)
 
@@ -51,7 +51,7 @@ are-both (x ∷ xs) ys a b = (a.0, are-both xs ys a.1 b)
 -- ---- one element
 
 -- an element of these bytes
-abbrev Unit-of : {A : Type 0} → (A → List ℕ) → (A → Type 0) → List ℕ → Type 0
+abbrev pub Unit-of : {A : Type 0} → (A → List ℕ) → (A → Type 0) → List ℕ → Type 0
 Unit-of {A} spell ok bs = (x : A) × (spell x ≡ bs) × ok x
 
 text-of : (bs : List ℕ) → length bs ≡ 40 → AreBytes bs → Unit-of string_bytes (λ (x : List ℕ). length x ≡ 40) bs
@@ -64,13 +64,13 @@ char-of [] size are = absurd (omega (arith, size))
 char-of (a ∷ []) size are = (a, refl, are.0)
 char-of (a ∷ b ∷ bs) size are = absurd (omega (arith, size))
 
-below-2 : (bs : List ℕ) → length bs ≡ 2 → AreBytes bs → from_be_bytes w16 bs < 2 ^ 16
+pub below-2 : (bs : List ℕ) → length bs ≡ 2 → AreBytes bs → from_be_bytes w16 bs < 2 ^ 16
 below-2 [] size are = absurd (omega (arith, size))
 below-2 (a ∷ []) size are = absurd (omega (arith, size))
 below-2 (a ∷ b ∷ []) size are = omega (arith, are.0, are.1.0)
 below-2 (a ∷ b ∷ c ∷ bs) size are = absurd (omega (arith, size))
 
-below-4 : (bs : List ℕ) → length bs ≡ 4 → AreBytes bs → from_be_bytes w32 bs < 2 ^ 32
+pub below-4 : (bs : List ℕ) → length bs ≡ 4 → AreBytes bs → from_be_bytes w32 bs < 2 ^ 32
 below-4 [] size are = absurd (omega (arith, size))
 below-4 (a ∷ []) size are = absurd (omega (arith, size))
 below-4 (a ∷ b ∷ []) size are = absurd (omega (arith, size))
@@ -91,11 +91,11 @@ below-8 (a ∷ b ∷ c ∷ d ∷ e ∷ f ∷ g ∷ h ∷ []) size are =
     omega (arith, are.0, are.1.0, are.1.1.0, are.1.1.1.0, are.1.1.1.1.0, are.1.1.1.1.1.0, are.1.1.1.1.1.1.0, are.1.1.1.1.1.1.1.0)
 below-8 (a ∷ b ∷ c ∷ d ∷ e ∷ f ∷ g ∷ h ∷ i ∷ bs) size are = absurd (omega (arith, size))
 
-enum-of : (bs : List ℕ) → length bs ≡ 2 → AreBytes bs → Unit-of bytes_2 (λ (n : ℕ). n < 2 ^ 16) bs
+pub enum-of : (bs : List ℕ) → length bs ≡ 2 → AreBytes bs → Unit-of bytes_2 (λ (n : ℕ). n < 2 ^ 16) bs
 unfolding bytes_2
 enum-of bs size are = (from_be_bytes w16 bs, be_bytes_2 bs (from_be_bytes w16 bs) size (each-byte bs are) refl, below-2 bs size are)
 
-float-of : (bs : List ℕ) → length bs ≡ 4 → AreBytes bs → Unit-of bytes_4 (λ (n : ℕ). n < 2 ^ 32) bs
+pub float-of : (bs : List ℕ) → length bs ≡ 4 → AreBytes bs → Unit-of bytes_4 (λ (n : ℕ). n < 2 ^ 32) bs
 unfolding bytes_4
 float-of bs size are = (from_be_bytes w32 bs, be_bytes_4 bs (from_be_bytes w32 bs) size (each-byte bs are) refl, below-4 bs size are)
 

@@ -1,0 +1,14 @@
+use Rattle.std.proofs.Common.{◌≡◌, ◌∙◌, [], refl}
+use Rattle.ca_model.specs.Hears as hears
+use Rattle.ca_model.specs.Hears.{doing}
+use Rattle.ca_client_core.specs.Hearing.{completed}
+use Rattle.ca_client_core.proofs.Dispatched.{reply-out}
+use Rattle.ca_client_core.proofs.client.ClientCore.hear_completed.Goals as goal
+
+pub returns-in_err-told : goal.returns-in_err-told
+returns-in_err-told c =
+    reply-out c.self.inside.user c.args.self.now c.args.circuit c.args.message.now c.in_err-told.field-0.0 c.from_residual.result c.hear_reply.new.self c.requires c.know_message.ensures.count c.know_message.ensures.bytes c.in_err-told.ensures c.from_residual.ensures.0
+
+pub returns : goal.returns
+returns c =
+    (doing [] (completed c.in_ok-told.told) c.hear_reply.new.self, hears.Reply c.requires c.in_ok-told.ensures, c.one.ensures ∙ c.completed.ensures, refl)
