@@ -2,8 +2,7 @@
 //!
 //! A caller moves the bytes, and hands in the moment. What is reported comes as answers of the calls.
 //!
-//! Begun: `new`, `open`, `channel_state`, `give`, `out_bytes`, `sent`, `read`, `write`, `write_notify`, `subscribe`, `unsubscribe` and
-//! `wanted` are there. `connected`, `step`, `clear`, `cut`, `close`, `tick` and `datagram` are not, so that no circuit has an end yet.
+//! Begun: `tick` and `datagram` are not there yet, so that nothing is searched for in datagrams, and no silence ends a circuit.
 #![tactic(auto)]
 
 mod asking;

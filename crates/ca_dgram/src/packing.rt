@@ -1,11 +1,9 @@
 ghost use Rattle.std.specs.Prelude.{◌≡◌, ◌≢◌, ◌∷◌, [], IfOk, OnErr, map};
 ghost use Rattle.ca_dgram.specs.Packing.{ArePacked, datagram_of};
 
+use ca_text::DATAGRAM_REPLIES;
 use ca_wire::{Message, spell, version_reply};
 use std::alloc::{AllocError, Global};
-
-/// Replies to searches in one datagram, at most.
-const DATAGRAM_REPLIES: usize = 42;
 
 /// The datagrams of a server's replies to searches, in order: each is a VERSION and 42 of them, and the last what is left.
 ///

@@ -14,11 +14,9 @@ use crate::step::EndStep;
 use ca_arena::Handle;
 use ca_ids::HeldTable;
 use ca_records::ServedRecords;
+use ca_text::APPLIED_LIMIT;
 use ca_wire::Pipe;
 use std::alloc::Global;
-
-/// How many writes are counted at most.
-const APPLIED_LIMIT: u64 = 0x8000_0000_0000_0000;
 
 /// What a step of a server's end of a circuit did.
 #[derive(Debug, Drop)]

@@ -1,7 +1,7 @@
 //! The constants of the code are the numbers that definitions cite.
 ghost use Rattle.std.specs.Prelude.{◌≡◌, ◌∷◌, [], List, ℕ};
-ghost use Rattle.ca_text.specs.declared.limits.TheConstants.{ARENA_SLOTS, BEACON_SERVERS, BOARD_CELLS, CHANNEL_LIMIT, CHANNEL_NAME_LIMIT, CIRCUIT_QUEUES, CLOSE_SILENCE, DATAGRAM_LIMIT, ECHO_SILENCE, ELEMENT_LIMIT, ENGINE_TURNS, FLOW_READS, LAST_GENERATION, MINOR_VERSION, OUTPUT_LIMIT, PAYLOAD_LIMIT, PRIORITY_LIMIT, QUEUE_LOW_PLACES, QUEUE_PLACES, QUEUE_SUBSCRIPTIONS, RECORD_NAME_LIMIT, REPEATER_MEMBERS, REPEATER_PORT, SERVER_PORT, WAITING_PUTS};
-ghost use Rattle.ca_text.specs.Limits.{arena_slots, beacon_servers, board_cells, channel_limit, channel_name_limit, circuit_queues, close_silence, datagram_limit, echo_silence, element_limit, engine_turns, flow_reads, last_generation, minor_version, output_limit, payload_limit, priority_limit, queue_low_places, queue_places, queue_subscriptions, record_name_limit, repeater_members, repeater_port, server_port, waiting_puts};
+ghost use Rattle.ca_text.specs.declared.limits.TheConstants.{APPLIED_LIMIT, ARENA_SLOTS, BEACON_SERVERS, BOARD_CELLS, CHANNEL_LIMIT, CHANNEL_NAME_LIMIT, CIRCUIT_QUEUES, CLOSE_SILENCE, DATAGRAM_LIMIT, DATAGRAM_REPLIES, ECHO_SILENCE, ELEMENT_LIMIT, ENGINE_TURNS, FLOW_READS, LAST_GENERATION, MINOR_VERSION, OUTPUT_LIMIT, PAYLOAD_LIMIT, PRIORITY_LIMIT, QUEUE_LOW_PLACES, QUEUE_PLACES, QUEUE_SUBSCRIPTIONS, RECORD_NAME_LIMIT, REPEATER_MEMBERS, REPEATER_PORT, SERVER_PORT, WAITING_PUTS};
+ghost use Rattle.ca_text.specs.Limits.{applied_limit, arena_slots, beacon_servers, board_cells, channel_limit, channel_name_limit, circuit_queues, close_silence, datagram_limit, datagram_replies, echo_silence, element_limit, engine_turns, flow_reads, last_generation, minor_version, output_limit, payload_limit, priority_limit, queue_low_places, queue_places, queue_subscriptions, record_name_limit, repeater_members, repeater_port, server_port, waiting_puts};
 ghost use Rattle.ca_text.specs.declared.status.TheConstants.Status.{ADDFAIL, ALLOCMEM, BADCHID, BADCOUNT, BADTYPE, DISCONN, GETFAIL, INTERNAL, NOCONVERT, NORDACCESS, NORMAL, NOWTACCESS, PUTFAIL};
 ghost use Rattle.ca_text.specs.Status.{add_fail, alloc_mem, bad_channel, bad_count, bad_type, disconn, get_fail, internal, no_convert, no_read_access, no_write_access, normal, put_fail};
 
@@ -10,7 +10,7 @@ pub fn limits_are_these()
     ensures protocol { (MINOR_VERSION ≡ minor_version) × (PRIORITY_LIMIT ≡ priority_limit)
         × (SERVER_PORT ≡ server_port) × (REPEATER_PORT ≡ repeater_port) }
     ensures bytes { (PAYLOAD_LIMIT ≡ payload_limit) × (DATAGRAM_LIMIT ≡ datagram_limit)
-        × (OUTPUT_LIMIT ≡ output_limit) }
+        × (DATAGRAM_REPLIES ≡ datagram_replies) × (OUTPUT_LIMIT ≡ output_limit) }
     ensures names { (CHANNEL_NAME_LIMIT ≡ channel_name_limit)
         × (RECORD_NAME_LIMIT ≡ record_name_limit) }
     ensures values { ELEMENT_LIMIT ≡ element_limit }
@@ -18,7 +18,7 @@ pub fn limits_are_these()
         × (LAST_GENERATION ≡ last_generation) × (BOARD_CELLS ≡ board_cells) }
     ensures queues { (QUEUE_PLACES ≡ queue_places) × (QUEUE_LOW_PLACES ≡ queue_low_places)
         × (QUEUE_SUBSCRIPTIONS ≡ queue_subscriptions) × (CIRCUIT_QUEUES ≡ circuit_queues) }
-    ensures puts { WAITING_PUTS ≡ waiting_puts }
+    ensures puts { (WAITING_PUTS ≡ waiting_puts) × (APPLIED_LIMIT ≡ applied_limit) }
     ensures peers { (REPEATER_MEMBERS ≡ repeater_members) × (BEACON_SERVERS ≡ beacon_servers) }
     ensures turns { ENGINE_TURNS ≡ engine_turns }
     ensures flow { FLOW_READS ≡ flow_reads }

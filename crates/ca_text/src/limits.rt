@@ -72,3 +72,9 @@ pub const CLOSE_SILENCE: u64 = 35_000;
 
 /// Reads of a circuit in a row that left bytes waiting, after which a client asks for a pause of updates.
 pub const FLOW_READS: usize = 10;
+
+/// Replies to searches in one datagram of a server, at most.
+pub const DATAGRAM_REPLIES: usize = 42;
+
+/// The number at which a server's count of applied writes stays.
+pub const APPLIED_LIMIT: u64 = 0x8000_0000_0000_0000;
