@@ -74,7 +74,7 @@ module _ (f : Sought → Handle → Sought) (test : Phase → Bool) (g : Option 
   place-ahead p (x ∷ t) zero = refl
   place-ahead p (x ∷ t) (suc i) = place-ahead p t i
 
-  named-more : (t : Table Channel) (i : ℕ) → i < length t → named_in test c (take (i + 1) t) ≡ named_in test c (take i t) ++ named_at test c i t
+  pub named-more : (t : Table Channel) (i : ℕ) → i < length t → named_in test c (take (i + 1) t) ≡ named_in test c (take i t) ++ named_at test c i t
   named-more t i within =
       ap (λ (es : List (Handle × Channel)). filter_map (named_by test c) es) (held-more t i within)
       ∙ filter_map-append (named_by test c) (held (take i t)) (option_to_list (held_at i (place_at t i)))

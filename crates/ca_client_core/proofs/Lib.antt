@@ -15,3 +15,6 @@ mod Connected
 mod Effects
 mod Outcomes
 mod Dispatched
+pub mod Placing
+pub mod Endings
+pub mod Cleared

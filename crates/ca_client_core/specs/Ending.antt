@@ -62,3 +62,9 @@ pub record StepsAt (f : Sought → Handle → Sought) (test : Phase → Bool) (g
 pub record StepsAll (f : Sought → Handle → Sought) (test : Phase → Bool) (g : Option Channel → Option Channel) (c : Handle) (old new : Sought) : Type 0 where
   pub folds : new ≡ fold f old (named_in test c old.channels)
   pub walks : new.channels ≡ map (λ (p : Place Channel). record p { value = g p.value }) old.channels
+
+-- The channels of a circuit ended: those that were cleared went first, and then the others came back.
+pub record EndsAll (c : Handle) (moment : ℕ) (old new : Sought) : Type 0 where
+  pub between : Sought
+  pub first : StepsAll gone is_cleared (gone_at c) c old between
+  pub next : StepsAll (again moment) is_kept (back_at c) c between new

@@ -1,5 +1,7 @@
 -- Working: what waits on one circuit, and what is left of it. No clause of a caller needs it.
-use Rattle.std.specs.Prelude.{ℕ, ◌≡◌, ◌≢◌, ◌⊎◌, Bool, List, [], ◌∷◌, Option, Some, None, Result, Ok, Err, option_map, take, unwrap_or}
+use Rattle.std.specs.Prelude.{ℕ, ◌≡◌, ◌≢◌, ◌⊎◌, Bool, List, [], ◌∷◌, Option, Some, None, Result, Ok, Err, option_and_then, option_map, take, unwrap_or}
+use Rattle.ca_arena.specs.declared.handle.Handle.{Handle}
+use Rattle.ca_ids.specs.Table.{Table, under}
 use Rattle.ca_text.specs.declared.command.Command.{Command}
 use Rattle.ca_text.specs.declared.refusal.Refusal.{Refusal}
 use Rattle.ca_text.specs.declared.refusal.Refusal.TheVariants as refusal
@@ -12,6 +14,10 @@ use Rattle.ca_model.specs.Client.{ClientCircuit, Connection}
 -- the bytes that wait on a circuit
 abbrev pub waiting_in : ClientCircuit → List ℕ
 waiting_in d = unwrap_or (option_map (λ (e : Connection). e.link.output) d.connection) []
+
+-- those of the circuit of this handle, if it is connected
+abbrev pub left_at : Table ClientCircuit → Handle → List ℕ
+left_at t c = unwrap_or (option_map (λ (e : Connection). e.link.output) (option_and_then (λ (d : ClientCircuit). d.connection) (under t c))) []
 
 -- the circuit of whose bytes the first n were handed over
 abbrev pub handed : ℕ → ClientCircuit → ClientCircuit

@@ -14,3 +14,5 @@ pub mod Again
 pub mod Finding
 pub mod Connecting
 pub mod Dispatch
+pub mod Turns
+pub mod Clearing

@@ -5,7 +5,10 @@ use Rattle.ca_text.specs.Limits.{arena_slots}
 use Rattle.ca_arena.specs.declared.handle.Handle.{Handle}
 use Rattle.ca_ids.specs.Table.{Table, under}
 use Rattle.ca_ids.specs.Wire.{wire_of}
-use Rattle.ca_model.specs.Client.{Channel}
+use Rattle.ca_requests.specs.Requests.{Request}
+use Rattle.ca_monitor.specs.Subscriptions.{Subscription}
+use Rattle.ca_model.specs.Client.{Channel, ClientCircuit}
+use Rattle.ca_model_client.specs.Placed.{ArePlaced}
 use Rattle.ca_search.specs.Searches as search
 
 -- a channel has this CID
@@ -19,3 +22,8 @@ pub record HasCid (channels : Table Channel) (cid : ℕ) : Type 0 where
 -- what is searched for is a channel
 pub record IsClient (channels : Table Channel) (searches : List (ℕ × search.Channel)) : Type 0 where
   pub searched : AllByRecursion (λ (e : ℕ × search.Channel). HasCid channels e.0) searches
+
+-- And requests and subscriptions are where their channels are, and channels are on circuits that are connected or wanted.
+pub record IsSound (channels : Table Channel) (searches : List (ℕ × search.Channel)) (asked : Table Request) (subscribed : Table Subscription) (circuits : Table ClientCircuit) : Type 0 where
+  pub client : IsClient channels searches
+  pub placed : ArePlaced channels asked subscribed circuits

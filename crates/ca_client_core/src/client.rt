@@ -44,7 +44,7 @@ impl Model for ClientCore {
 
     ghost coded = { Prim.hlevel (codes, servers_code) };
 
-    ghost use Rattle.ca_client_core.specs.Sound.{IsClient};
+    ghost use Rattle.ca_client_core.specs.Sound.{IsSound};
 
     ghost view = { λ c. record {
       peer = record { user = c.user.items; host = c.host.items };
@@ -60,5 +60,6 @@ impl Model for ClientCore {
       beacons = c.beacons;
     } };
 
-    ghost invariant = { λ c. IsClient c.channels c.searches.entries };
+    ghost invariant = { λ c.
+        IsSound c.channels c.searches.entries c.requests.table c.monitors c.circuits };
 }

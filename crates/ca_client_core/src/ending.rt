@@ -1,27 +1,35 @@
 //! What becomes of the channels of a circuit that has ended.
 ghost use Rattle.std.specs.Prelude.{◌≡◌, ◌<◌, length};
-ghost use Rattle.ca_client_core.specs.Ending.{StepsAll, StepsAt, again, back_at, gone, gone_at, is_kept, sought};
+ghost use Rattle.ca_client_core.specs.Ending.{EndsAll, StepsAll, StepsAt, again, back_at, gone, gone_at, is_kept, sought};
 ghost use Rattle.ca_client_core.specs.Sound.{IsClient};
 ghost use Rattle.ca_ids.specs.Table.{with_changed};
 ghost use Rattle.ca_search.specs.Searcher.{with_one};
 ghost use Rattle.ca_search.specs.Searches.{resumed};
-ghost use Rattle.ca_model.specs.Client.{Searching, channels_ended, is_cleared};
+ghost use Rattle.ca_model.specs.Client.{Searching, is_cleared};
 
 use crate::channel::Channel;
-use crate::client::ClientCore;
 use ca_arena::Handle;
 use ca_ids::{HeldTable, WireId};
 use ca_search::Place;
 use indexmap::IndexMap;
 
-impl ClientCore {
-    // The channels of a circuit that has ended: those that were cleared are gone, the others are searched for again.
-    pub(crate) fn end_channels(&mut self, circuit: Handle)
-        ensures { self.new ≡ channels_ended circuit self.old }
-    {
-        let_cleared_go(&mut self.channels, &mut self.searches, circuit);
-        search_again(&mut self.channels, &mut self.searches, circuit, self.moment);
-    }
+// The channels of a circuit that has ended: those that were cleared are gone, the others are searched for again.
+pub(crate) fn end_channels(
+    channels: &mut HeldTable<Channel>,
+    searches: &mut IndexMap<u32, Place>,
+    circuit: Handle,
+    moment: u64,
+)
+    requires { IsClient channels.old searches.old.entries }
+    ensures steps { EndsAll
+        circuit
+        moment
+        (sought channels.old searches.old.entries)
+        (sought channels.new searches.new.entries) }
+    ensures client { IsClient channels.new searches.new.entries }
+{
+    let_cleared_go(channels, searches, circuit);
+    search_again(channels, searches, circuit, moment);
 }
 
 // The channels on this circuit that were cleared are gone.

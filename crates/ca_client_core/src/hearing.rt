@@ -1,14 +1,16 @@
 //! What a client makes of the messages that it reads, each by its command.
-ghost use Rattle.std.specs.Prelude.{◌≡◌, option_map};
+ghost use Rattle.std.specs.Prelude.{◌≡◌, OnErr, OnOk, option_map};
 ghost use Rattle.ca_ids.specs.Table.{with_changed};
 ghost use Rattle.ca_monitor.specs.Subscriptions.{confirmed_by};
 ghost use Rattle.ca_model.specs.Client as client;
 ghost use Rattle.ca_model.specs.Client.{On, channel_on, searched_again, with_standing, without_channel};
 ghost use Rattle.ca_model.specs.Hears.{becomes, clear_answered, confirmed, failed, rights_told, without_drained};
-ghost use Rattle.ca_client_core.specs.Forms.{phase_of, standing_of};
+ghost use Rattle.ca_client_core.specs.Forms.{native_of, phase_of, standing_of};
 ghost use Rattle.ca_client_core.specs.Hearing.{HearsReply, found_as};
+ghost use Rattle.ca_client_core.specs.Turns.{MayTurn};
+ghost use Rattle.ca_model_client.specs.Placed.{IsBare};
 
-use crate::channel::{Channel, Phase, Standing, is_same};
+use crate::channel::{Channel, Native, Phase, Standing, is_same};
 use crate::client::ClientCore;
 use crate::ending::{bring_back, resume};
 use ca_arena::Handle;
@@ -47,6 +49,7 @@ impl ClientCore {
         ensures { becomes self.new
             ≡ failed self.old (channel_on self.old circuit message.now.p1) }
     {
+        self.know();
         let Some((channel, phase)) = self.channel_on(circuit, message.p1()) else {
             return;
         };
@@ -65,6 +68,7 @@ impl ClientCore {
         ensures { becomes self.new
             ≡ clear_answered self.old circuit (channel_on self.old circuit message.now.p2) }
     {
+        self.know();
         let Some((channel, phase)) = self.channel_on(circuit, message.p2()) else {
             return;
         };
@@ -120,13 +124,35 @@ impl ClientCore {
 
     // The channel is on this circuit, in this phase.
     pub(crate) fn set_phase(&mut self, channel: Handle, circuit: Handle, phase: Phase)
+        requires { MayTurn channel circuit (phase_of phase) self.old }
         ensures { self.new ≡ with_standing (On circuit (phase_of phase)) channel self.old }
     {
         put(&mut self.channels, channel, Standing::On(circuit, phase));
     }
 
+    // The channel is live on this circuit. Without memory nothing changes.
+    pub(crate) fn make_live(
+        &mut self,
+        channel: Handle,
+        circuit: Handle,
+        native: Native,
+        rights: u32,
+    ) -> Result<(), AllocError>
+        requires { MayTurn channel circuit (client.Live (native_of native) rights) self.old }
+        ensures ok { OnOk result (self.new
+            ≡ with_standing
+            (On circuit (client.Live (native_of native) rights))
+            channel
+            self.old) }
+        ensures err { OnErr result (self.new ≡ self.old) }
+    {
+        self.set_phase(channel, circuit, Phase::Live(native, rights));
+        Ok(())
+    }
+
     // The channel is searched for again, as from the beginning.
     fn seek_again(&mut self, channel: Handle)
+        requires { IsBare channel self.old }
         ensures { self.new ≡ searched_again self.old channel }
     {
         bring_back(&mut self.channels, channel);
@@ -138,7 +164,8 @@ impl ClientCore {
     }
 
     // Nothing has the CID of this channel.
-    fn remove_channel(&mut self, channel: Handle)
+    pub(crate) fn remove_channel(&mut self, channel: Handle)
+        requires { IsBare channel self.old }
         ensures { self.new ≡ without_channel self.old channel }
     {
         let _ = self.channels.free(channel);

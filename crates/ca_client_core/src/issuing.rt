@@ -2,6 +2,7 @@ ghost use Rattle.std.specs.Prelude.{◌≡◌, take};
 ghost use Rattle.ca_requests.specs.Forms.{asked_of};
 ghost use Rattle.ca_client_core.specs.Asks.{Asks, IssuesOr, cut_back, cut_end};
 ghost use Rattle.ca_client_core.specs.Ends.{cut_in};
+ghost use Rattle.ca_model_client.specs.Placed.{WasLive};
 
 use crate::circuit::{Circuit, Connection};
 use crate::client::ClientCore;
@@ -20,6 +21,7 @@ impl ClientCore {
         asked: Asked,
         message: &Message,
     ) -> Result<(), AllocError>
+        requires { WasLive self.old channel circuit }
         ensures { Asks
             self.old
             vacant
@@ -44,6 +46,7 @@ impl ClientCore {
         circuit: Handle,
         asked: Asked,
     ) -> Result<(), AllocError>
+        requires { WasLive self.old channel circuit }
         ensures { IssuesOr
             waiting
             self.old

@@ -1,14 +1,16 @@
 //! The end of a circuit has ended, and what is left of it.
 ghost use Rattle.std.specs.Prelude.{◌≡◌, [], IsSome, None, filter, if◌then◌else◌, not, option_map, unwrap_or};
-ghost use Rattle.ca_ids.specs.Table.{same_handle, under};
+ghost use Rattle.ca_ids.specs.Table.{same_handle, under, with_changed, with_freed};
 ghost use Rattle.ca_requests.specs.Requests.{in_order_of_issue, was_sent_on};
-ghost use Rattle.ca_model.specs.Client.{disconnected, ended, out_bytes, without_circuit, without_ids};
-ghost use Rattle.ca_client_core.specs.Ends.{waiting_in};
+ghost use Rattle.ca_model.specs.Client.{ended, out_bytes};
+ghost use Rattle.ca_client_core.specs.Ends.{left_at, waiting_in};
 
 use crate::channel::is_same;
 use crate::circuit::{Circuit, Connection};
 use crate::client::ClientCore;
+use crate::ending::end_channels;
 use ca_arena::Handle;
+use ca_ids::HeldTable;
 use ca_wire::Pipe;
 use std::alloc::Global;
 
@@ -26,56 +28,61 @@ impl ClientCore {
             return (Vec::new(self.alloc), Pipe::new(self.alloc));
         };
         let is_name = found.is_name;
-        let told = self.free_ids(circuit);
-        self.end_channels(circuit);
-        let left = self.let_go(circuit, is_name);
-        (told, left)
-    }
-
-    // The IOIDs of a circuit's requests are free, and so are the subscription ids that drain on it.
-    fn free_ids(&mut self, circuit: Handle) -> Vec<Handle>
-        ensures told { result.items
-            ≡ in_order_of_issue (was_sent_on circuit) self.old.requests self.old.issued }
-        ensures freed { self.new ≡ without_ids circuit self.old }
-    {
         let told = self.requests.end_circuit(circuit);
         self.monitors.free_circuit(circuit);
-        told
+        end_channels(
+            &mut self.channels,
+            &mut self.searches,
+            circuit,
+            self.moment,
+        );
+        let left = let_go(
+            self.alloc,
+            &mut self.circuits,
+            &mut self.order,
+            circuit,
+            is_name,
+        );
+        (told, left)
     }
+}
 
-    // Of a circuit that has ended nothing is kept, but a name server's is wanted again.
-    fn let_go(&mut self, circuit: Handle, is_name: bool) -> Pipe
-        ensures left { result ≡ out_bytes self.old circuit }
-        ensures gone { self.new
-            ≡ (if is_name then disconnected circuit self.old else without_circuit circuit self.old) }
-    {
-        if is_name {
-            return self.disconnect(circuit);
-        }
-        self.remove_circuit(circuit)
+// Of a circuit that has ended nothing is kept, but a name server's is wanted again.
+pub(crate) fn let_go(
+    alloc: Global,
+    circuits: &mut HeldTable<Circuit>,
+    order: &mut Vec<Handle>,
+    circuit: Handle,
+    is_name: bool,
+) -> Pipe
+    ensures left { result ≡ left_at circuits.old circuit }
+    ensures gone { circuits.new
+        ≡ (if is_name then
+          with_changed (λ d. record d { connection = None }) circuit circuits.old
+        else with_freed circuit circuits.old) }
+    ensures order { order.new.items
+        ≡ (if is_name then order.old.items
+        else filter (λ d. not (same_handle d circuit)) order.old.items) }
+{
+    if is_name {
+        return disconnect(alloc, circuits, circuit);
     }
-
-    // It is not connected any more.
-    fn disconnect(&mut self, circuit: Handle) -> Pipe
-        ensures left { result ≡ out_bytes self.old circuit }
-        ensures gone { self.new ≡ disconnected circuit self.old }
-    {
-        match self.circuits.by_handle_mut(circuit) {
-            Some(found) => found.disconnect(self.alloc),
-            None => Pipe::new(self.alloc),
-        }
+    forget(order, circuit);
+    match circuits.free(circuit) {
+        Some(found) => found.into_left(alloc),
+        None => Pipe::new(alloc),
     }
+}
 
-    // Nothing has its handle.
-    fn remove_circuit(&mut self, circuit: Handle) -> Pipe
-        ensures left { result ≡ out_bytes self.old circuit }
-        ensures gone { self.new ≡ without_circuit circuit self.old }
-    {
-        forget(&mut self.order, circuit);
-        match self.circuits.free(circuit) {
-            Some(found) => found.into_left(self.alloc),
-            None => Pipe::new(self.alloc),
-        }
+// It is not connected any more.
+fn disconnect(alloc: Global, circuits: &mut HeldTable<Circuit>, circuit: Handle) -> Pipe
+    ensures left { result ≡ left_at circuits.old circuit }
+    ensures gone { circuits.new
+        ≡ with_changed (λ d. record d { connection = None }) circuit circuits.old }
+{
+    match circuits.by_handle_mut(circuit) {
+        Some(found) => found.disconnect(alloc),
+        None => Pipe::new(alloc),
     }
 }
 

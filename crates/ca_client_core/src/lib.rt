@@ -11,6 +11,7 @@ mod beginning;
 mod channel;
 mod channel_state;
 mod circuit;
+mod clearing;
 mod client;
 mod connecting;
 mod creating;

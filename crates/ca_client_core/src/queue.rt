@@ -3,6 +3,7 @@ ghost use Rattle.ca_link.specs.Link.{with_sent};
 ghost use Rattle.ca_model.specs.Client.{on_connection, standing_at};
 ghost use Rattle.ca_model.specs.ClientCalls.{is_over};
 ghost use Rattle.ca_client_core.specs.Ends.{queued};
+ghost use Rattle.ca_model_client.specs.Placed.{IsPlaced};
 ghost use Rattle.ca_client_core.specs.Forms.{standing_of};
 
 use crate::channel::Standing;
@@ -14,6 +15,13 @@ use ca_wire::Message;
 use std::alloc::AllocError;
 
 impl ClientCore {
+    // Its requests and subscriptions are where its channels are, and these on circuits that are connected or wanted.
+    pub(crate) fn know(&self)
+        ensures { IsPlaced self.now }
+    {
+        let _moment = self.moment;
+    }
+
     // Where the channel of this handle is; a stale handle names none.
     pub(crate) fn standing(&self, channel: Handle) -> Option<Standing>
         ensures { option_map standing_of result ≡ standing_at self.now channel }

@@ -2,6 +2,7 @@ ghost use Rattle.std.specs.Prelude.{◌≡◌, List, Ok, Some};
 ghost use Rattle.ca_ids.specs.Table.{with_freed};
 ghost use Rattle.ca_monitor.specs.Subscriptions.{standing_under};
 ghost use Rattle.ca_client_core.specs.Calls.{CancelsOn};
+ghost use Rattle.ca_model_client.specs.Placed.{WasLive};
 ghost use Rattle.ca_model.specs.Answers.{Sending};
 ghost use Rattle.ca_model.specs.ClientCalls.{ClientUnsubscribes};
 
@@ -62,7 +63,8 @@ impl ClientCore {
         circuit: Handle,
         sid: u32,
     ) -> Result<(), Refusal>
-        requires { standing_under subscription self.old.subscriptions ≡ Some found }
+        requires stands { standing_under subscription self.old.subscriptions ≡ Some found }
+        requires live { WasLive self.old found.channel circuit }
         ensures { CancelsOn self.old subscription found circuit sid result self.new }
     {
         if self.is_over(circuit) {

@@ -6,6 +6,7 @@ ghost use Rattle.ca_requests.specs.Requests.{Put};
 ghost use Rattle.ca_model.specs.Answers.{Sending};
 ghost use Rattle.ca_model.specs.ClientCalls.{ClientPuts, ClientWrites, is_misfit};
 ghost use Rattle.ca_client_core.specs.Asks.{Asks};
+ghost use Rattle.ca_model_client.specs.Placed.{WasLive};
 ghost use Rattle.ca_client_core.specs.Forms.{native_of};
 ghost use Rattle.ca_client_core.specs.Lives.{live_of};
 ghost use Rattle.ca_client_core.specs.Puts.{IsSmall, MayPut, live_put_fault, put_message};
@@ -64,7 +65,8 @@ impl ClientCore {
         live: Live,
         value: &Value,
     ) -> Result<(), AllocError>
-        requires { IsSmall (elements value.now) }
+        requires small { IsSmall (elements value.now) }
+        requires live { WasLive self.old channel live.circuit }
         ensures { Asks
             self.old
             vacant

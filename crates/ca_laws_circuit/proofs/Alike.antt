@@ -13,10 +13,10 @@ use Rattle.ca_monitor.specs.Subscriptions.{Subscription}
 use Rattle.ca_requests.specs.Requests.{was_sent_on}
 use Rattle.ca_laws_circuit.specs.Held.{HoldAlike, Holds, HoldsIds, IsAlike, has_id, is_asked, is_subscribed}
 use Rattle.ca_laws_circuit.proofs.Answered.{subscribed-asked}
-use Rattle.ca_laws_circuit.proofs.Handles.{handle-or}
+use Rattle.ca_model_client.proofs.Handles.{handle-or}
 use Rattle.ca_laws_circuit.proofs.Heard.{has-too}
 use Rattle.ca_laws_circuit.proofs.Held.{ids-kept}
-use Rattle.ca_laws_circuit.proofs.Tables.{all-back, all-freed-back, all-freed-there, all-there, changed-back, changed-few, changed-other, changed-own, freed-back, freed-few, freed-other, held-back, held-few, held-other, one-value}
+use Rattle.ca_model_client.proofs.Tables.{all-back, all-freed-back, all-freed-there, all-there, changed-back, changed-few, changed-other, changed-own, freed-back, freed-few, freed-other, held-back, held-few, held-other, one-value}
 
 module _ {T : Type 0} where
   pub alike-itself : (here : T → Bool) (t : Table T) → IsAlike here here t t

@@ -24,13 +24,15 @@ use Rattle.ca_model_world.specs.ClientEvents.{channel_number, meant_by}
 use Rattle.ca_model_world.specs.World.{Names}
 use Rattle.ca_laws_circuit.specs.Flows.{Ends, Flows, IsLast, IsPending, NoMore, with_heard}
 use Rattle.ca_laws_circuit.specs.Held.{Holds, HoldsChannels, HoldsRequests, HoldsSubscriptions, OnChannels, has_id, is_asked, is_subscribed}
-use Rattle.ca_laws_circuit.proofs.Clears.{is-on}
-use Rattle.ca_laws_circuit.proofs.Handles.{handle-or, same-is, same-itself}
-use Rattle.ca_laws_circuit.proofs.Heard.{channel-on, has-too, holds-heard}
+use Rattle.ca_model_client.proofs.Standings.{is-on}
+use Rattle.ca_model_client.proofs.Handles.{handle-or, same-is, same-itself}
+use Rattle.ca_laws_circuit.proofs.Heard.{has-too, holds-heard}
+use Rattle.ca_model_client.proofs.Standings.{channel-on}
 use Rattle.ca_laws_circuit.proofs.Held.{ids-kept}
 use Rattle.ca_laws_circuit.proofs.Requests.{requests-freed}
-use Rattle.ca_laws_circuit.proofs.Settled.{ioid-gives, none-pending, one-giver, pending-before, pending-concerns, pending-means, three-ways}
-use Rattle.ca_laws_circuit.proofs.Tables.{all-freed-back, all-freed-there, changed-back, changed-few, changed-other, freed-back, freed-few, freed-other}
+use Rattle.ca_laws_circuit.proofs.Settled.{ioid-gives, none-pending, one-giver, pending-before, pending-concerns, pending-means}
+use Rattle.ca_model_client.proofs.Thinner.{three-ways}
+use Rattle.ca_model_client.proofs.Tables.{all-freed-back, all-freed-there, changed-back, changed-few, changed-other, freed-back, freed-few, freed-other}
 
 -- what a CID names is a channel
 pub cid-named : (id : ℕ) (intent : Intent) (n : ℕ) → named (Cid id) intent ≡ Some n → (ask : Ask) × (intent ≡ history.On n ask)

@@ -18,7 +18,7 @@ use Rattle.ca_model_world.specs.ClientEvents.{meant_by}
 use Rattle.ca_model_world.specs.World.{Names}
 use Rattle.ca_laws_circuit.specs.Flows.{Concerns, IsPending, MaySend, MeansOwn, with_sent}
 use Rattle.ca_laws_circuit.specs.Held.{Holds, HoldsRequests, IsAsking, IsNew, has_id, is_asked, with_request}
-use Rattle.ca_laws_circuit.proofs.Handles.{same-itself}
+use Rattle.ca_model_client.proofs.Handles.{same-itself}
 use Rattle.ca_laws_circuit.proofs.Held.{ids-sent}
 use Rattle.ca_laws_circuit.proofs.Requests.{given-new, issue-fresh, requests-issued}
 

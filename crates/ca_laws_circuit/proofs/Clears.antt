@@ -20,34 +20,13 @@ use Rattle.ca_model_world.specs.World.{Names}
 use Rattle.ca_laws_circuit.specs.Flows.{Concerns, MaySend, MeansOwn, with_sent}
 use Rattle.ca_laws_circuit.specs.Held.{clear_of, Holds, HoldsChannels, HoldsRequests, HoldsSubscriptions, has_id, is_asked, is_subscribed}
 use Rattle.ca_laws_circuit.proofs.Flows.{given-sent}
-use Rattle.ca_laws_circuit.proofs.Handles.{handle-or, same-is, same-itself}
+use Rattle.ca_model_client.proofs.Handles.{handle-or, same-is, same-itself}
 use Rattle.ca_laws_circuit.proofs.Held.{ids-kept, ids-sent}
 use Rattle.ca_laws_circuit.proofs.Requests.{requests-over, requests-sent}
-use Rattle.ca_laws_circuit.proofs.Tables.{all-back, all-there, changed-back, changed-few, changed-other, changed-own}
+use Rattle.ca_model_client.proofs.Tables.{all-back, all-there, changed-back, changed-few, changed-other, changed-own}
+use Rattle.ca_model_client.proofs.Standings.{found-standing, is-on}
 
 -- ---- the channel
-
--- what stands where a standing was found
-pub found-standing : (x : Client) (h : Handle) (s : Standing) → standing_at x h ≡ Some s → (ch : Channel) × (under x.channels h ≡ Some ch) × (ch.standing ≡ s)
-found-standing x h s is = go (under x.channels h) refl is
-  where
-    by : (ch : Channel) (t : Standing) → ch.standing ≡ t → standing_unless_cleared t ≡ Some s → ch.standing ≡ s
-    by ch Searching e f = e ∙ some_is Searching s f
-    by ch (On c p) e f = pick (is_cleared p) f
-      where
-        pick : (b : Bool) → cond b None (Some (On c p)) ≡ Some s → ch.standing ≡ s
-        pick true f = absurd cc
-        pick false f = e ∙ some_is (On c p) s f
-
-    go : (o : Option Channel) → under x.channels h ≡ o → option_and_then (λ (here : Channel). standing_unless_cleared here.standing) o ≡ Some s → (ch : Channel) × (under x.channels h ≡ Some ch) × (ch.standing ≡ s)
-    go (Some ch) there f = (ch, there, by ch ch.standing refl f)
-    go None there f = absurd cc
-
--- a channel that stands so on a circuit passes the tests that name its phase there
-pub is-on : (test : Phase → Bool) (on : Handle) (ch : Channel) (p : Phase) → ch.standing ≡ On on p → is_on_in test on ch ≡ test p
-is-on test on ch p is =
-    ap (λ (s : Standing). unwrap_or (option_map test (phase_on on s)) false) is
-    ∙ ap (λ (b : Bool). unwrap_or (option_map test (cond b (Some p) None)) false) (same-itself on)
 
 pub gives-none : (n : Names) (sid : ℕ) (h : Handle) (id : Id) → Gives (clear_of n sid h).message id → ⊥
 gives-none n sid h (Cid m) g = (let e : ◌≡◌ {A = ℕ} 12 18 = g.0 in omega (arith, e))

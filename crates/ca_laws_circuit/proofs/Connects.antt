@@ -21,15 +21,16 @@ use Rattle.ca_model_safe.specs.Channels.{Suits}
 use Rattle.ca_model_world.specs.ClientEvents.{channel_number, meant_by}
 use Rattle.ca_model_world.specs.World.{Names as ClientNames}
 use Rattle.ca_laws_circuit.specs.Flows.{Concerns, IsPending, MaySend, MaySendAll, with_all_sent, with_sent}
-use Rattle.ca_laws_circuit.specs.Held.{AreFew, Attached, Holds, HoldsChannels, HoldsIdsBy, HoldsRequests, HoldsSubscriptions, IsAlike, NoneAsked, WasLive, create_of, has_id, is_asked, is_subscribed, waiting_on, was_live}
+use Rattle.ca_laws_circuit.specs.Held.{AreFew, Holds, HoldsChannels, HoldsIdsBy, HoldsRequests, HoldsSubscriptions, IsAlike, NoneAsked, create_of, has_id, is_asked, is_subscribed, waiting_on}
+use Rattle.ca_model_client.specs.Placed.{Attached, WasLive, was_live}
 use Rattle.ca_laws_circuit.proofs.Alike.{all-alike, has-alike, holds-alike, ids-alike, not-subscribed, sending-alike}
-use Rattle.ca_laws_circuit.proofs.Clears.{is-on}
+use Rattle.ca_model_client.proofs.Standings.{is-on}
 use Rattle.ca_laws_circuit.proofs.Creates.{cid-is, creates-concerns, creates-gives, no-ioid, no-sub}
-use Rattle.ca_laws_circuit.proofs.Handles.{same-is}
+use Rattle.ca_model_client.proofs.Handles.{same-is}
 use Rattle.ca_laws_circuit.proofs.Held.{ids-kept-by, ids-sent}
 use Rattle.ca_laws_circuit.proofs.Many.{Names, ids-all-named, ids-all-sent}
 use Rattle.ca_laws_circuit.proofs.Marks.{at-filter, filter-apart, filter-at, marked, marked-back, marked-new}
-use Rattle.ca_laws_circuit.proofs.Tables.{AreApart, all-back, all-there, held-apart, held-under, one-value, under-held}
+use Rattle.ca_model_client.proofs.Tables.{AreApart, all-back, all-there, held-apart, held-under, one-value, under-held}
 
 -- ---- messages of the circuit as a whole
 

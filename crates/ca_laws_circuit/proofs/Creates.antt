@@ -18,11 +18,11 @@ use Rattle.ca_model_world.specs.World.{Names}
 use Rattle.ca_laws_circuit.specs.Flows.{Concerns, IsPending, MaySend, MeansOwn, with_sent}
 use Rattle.ca_laws_circuit.specs.Held.{Holds, HoldsSubscriptions, has_id, is_asked, is_subscribed}
 use Rattle.ca_laws_circuit.proofs.Answered.{subscribed-asked}
-use Rattle.ca_laws_circuit.proofs.Clears.{is-on}
+use Rattle.ca_model_client.proofs.Standings.{is-on}
 use Rattle.ca_laws_circuit.proofs.Heard.{has-too}
 use Rattle.ca_laws_circuit.proofs.Held.{ids-again, ids-free, ids-kept, ids-sent}
 use Rattle.ca_laws_circuit.proofs.Requests.{given-new}
-use Rattle.ca_laws_circuit.proofs.Tables.{changed-back, changed-other, one-value}
+use Rattle.ca_model_client.proofs.Tables.{changed-back, changed-other, one-value}
 
 pub cid-is : (a b : ℕ) → Cid a ≡ Cid b → a ≡ b
 cid-is a b e = cc

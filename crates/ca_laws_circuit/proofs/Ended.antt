@@ -22,13 +22,15 @@ use Rattle.ca_model_world.specs.World.{Names}
 use Rattle.ca_laws_circuit.specs.Flows.{Ends, Flows, IsCidOf, IsLast, IsPending, NoMore, with_heard}
 use Rattle.ca_laws_circuit.specs.Held.{Holds, HoldsChannels, HoldsSubscriptions, OnChannels, has_id, is_asked, is_subscribed}
 use Rattle.ca_laws_circuit.proofs.Answered.{cid-named, subscribed-asked}
-use Rattle.ca_laws_circuit.proofs.Clears.{is-on}
-use Rattle.ca_laws_circuit.proofs.Handles.{handle-or}
+use Rattle.ca_model_client.proofs.Standings.{is-on}
+use Rattle.ca_model_client.proofs.Handles.{handle-or}
 use Rattle.ca_laws_circuit.proofs.Flows.{given-now}
-use Rattle.ca_laws_circuit.proofs.Heard.{channel-on, has-too, holds-heard}
+use Rattle.ca_laws_circuit.proofs.Heard.{has-too, holds-heard}
+use Rattle.ca_model_client.proofs.Standings.{channel-on}
 use Rattle.ca_laws_circuit.proofs.Held.{ids-kept}
-use Rattle.ca_laws_circuit.proofs.Settled.{none-pending, one-giver, pending-before, pending-means, three-ways}
-use Rattle.ca_laws_circuit.proofs.Tables.{changed-back, changed-few, changed-other, changed-own, freed-back, freed-few, freed-other, one-value, wire-under}
+use Rattle.ca_laws_circuit.proofs.Settled.{none-pending, one-giver, pending-before, pending-means}
+use Rattle.ca_model_client.proofs.Thinner.{three-ways}
+use Rattle.ca_model_client.proofs.Tables.{changed-back, changed-few, changed-other, changed-own, freed-back, freed-few, freed-other, one-value, wire-under}
 
 abbrev moved : Handle → Phase → Channel → Channel
 moved on q here = record here { standing = On on q }

@@ -11,26 +11,16 @@ use Rattle.ca_monitor.specs.Subscriptions.{Stage, Stands, Cancelled, Ended, Subs
 use Rattle.ca_requests.specs.Requests.{Request, asks_on, was_sent_on}
 use Rattle.ca_model.specs.Client.{Channel, Client, ClientCircuit, On, Phase, Searching, Standing, channels_ended, channels_on, ended, is_cleared, is_on_in, let_go, phase_on, searched_again, with_standing, without_channel, without_ids}
 use Rattle.ca_model.specs.Hears.{without_drained, without_request, without_subscription}
-use Rattle.ca_laws_circuit.specs.Held.{Attached, HoldAlike, has_id, is_asked, is_subscribed, was_live}
+use Rattle.ca_laws_circuit.specs.Held.{HoldAlike, has_id, is_asked, is_subscribed}
+use Rattle.ca_model_client.specs.Placed.{Attached, was_live}
 use Rattle.ca_laws_circuit.proofs.Alike.{alike-itself, all-freed-alike, channel-freed-if, client-itself, client-then, freed-alike, not-subscribed, restood, restood-if, with-others}
-use Rattle.ca_laws_circuit.proofs.Handles.{not-same, same-is, same-not}
-use Rattle.ca_laws_circuit.proofs.Others.{fails-elsewhere, let-go-alike}
-use Rattle.ca_laws_circuit.proofs.Tables.{changed-back, freed-back, held-under, one-value}
+use Rattle.ca_model_client.proofs.Handles.{not-same, same-is, same-not}
+use Rattle.ca_laws_circuit.proofs.Others.{let-go-alike}
+use Rattle.ca_model_client.proofs.Standings.{fails-elsewhere}
+use Rattle.ca_model_client.proofs.Tables.{changed-back, freed-back, held-under, one-value}
+use Rattle.ca_model_client.proofs.Standings.{on-one, on-circuit}
 
 -- ---- on one circuit, and on no other
-
--- a channel is on one circuit
-pub on-one : (test also : Phase → Bool) (c on : Handle) (ch : Channel) → is_on_in test c ch ≡ true → is_on_in also on ch ≡ true → c ≡ on
-on-one test also c on ch a b = go ch.standing a b
-  where
-    go : (s : Standing) → unwrap_or (option_map test (phase_on c s)) false ≡ true → unwrap_or (option_map also (phase_on on s)) false ≡ true → c ≡ on
-    go Searching p q = absurd (both_ways false refl p)
-    go (On d e) p q = by (same_handle d c) (same_handle d on) refl refl p q
-      where
-        by : (x y : Bool) → same_handle d c ≡ x → same_handle d on ≡ y → unwrap_or (option_map test (cond x (Some e) None)) false ≡ true → unwrap_or (option_map also (cond y (Some e) None)) false ≡ true → c ≡ on
-        by true true f g p q = sym (same-is d c f) ∙ same-is d on g
-        by true false f g p q = absurd (both_ways false refl q)
-        by false y f g p q = absurd (both_ways false refl p)
 
 -- an id drains on one circuit
 pub drains-one : (c on : Handle) (s : Stage) → drains_in c s ≡ true → drains_in on s ≡ true → c ≡ on
@@ -58,27 +48,6 @@ sent-not-here : (c on : Handle) (r : Request) → (c ≡ on → ⊥) → was_sen
 sent-not-here c on r other here = same-not r.circuit c (λ e. other (sym e ∙ same-is r.circuit on here))
 
 -- ---- the end of a circuit
-
--- of those that pass, what a list has
-pub at-filter-map : {A B : Type 0} (f : A → Option B) (xs : List A) (i : ℕ) (y : B) → At (filter_map f xs) i y → (j : ℕ) × (x : A) × At xs j x × (f x ≡ Some y)
-at-filter-map f [] i y at = absurd cc
-at-filter-map {A} {B} f (z ∷ xs) i y at = go (f z) refl i at (λ k h. at-filter-map f xs k y h)
-  where
-    go : (o : Option B) → f z ≡ o → (i : ℕ) → At (cons_option o (filter_map f xs)) i y → ((k : ℕ) → At (filter_map f xs) k y → (j : ℕ) × (x : A) × At xs j x × (f x ≡ Some y)) → (j : ℕ) × (x : A) × At (z ∷ xs) j x × (f x ≡ Some y)
-    go (Some v) is zero h rest = (0, z, refl, is ∙ ap (λ (w : B). Some w) (some_is v y h))
-    go (Some v) is (suc i) h rest = (let r = rest i h in (suc r.0, r.1, r.2, r.3))
-    go None is i h rest = (let r = rest i h in (suc r.0, r.1, r.2, r.3))
-
--- the channels that are on a circuit in a phase that the test names
-pub on-circuit : (test : Phase → Bool) (c : Handle) (x : Client) (i : ℕ) (h : Handle) → At (channels_on test c x) i h → (ch : Channel) × (under x.channels h ≡ Some ch) × (is_on_in test c ch ≡ true)
-on-circuit test c x i h at =
-    let f : Handle × Channel → Option Handle = λ (e : Handle × Channel). cond (is_on_in test c e.1) (Some e.0) None in
-    let r = at-filter-map f (held x.channels) i h at in
-    go r.1 (held-under x.channels r.0 r.1 r.2) (is_on_in test c r.1.1) refl r.3
-  where
-    go : (e : Handle × Channel) → under x.channels e.0 ≡ Some e.1 → (b : Bool) → is_on_in test c e.1 ≡ b → cond b (Some e.0) None ≡ Some h → (ch : Channel) × (under x.channels h ≡ Some ch) × (is_on_in test c ch ≡ true)
-    go e there true is same = (e.1, subst (λ (k : Handle). under x.channels k ≡ Some e.1) (some_is e.0 h same) there, is)
-    go e there false is same = absurd cc
 
 -- whatever channel has this handle is not on the circuit
 abbrev Away : (on : Handle) → Client → Handle → Type 0

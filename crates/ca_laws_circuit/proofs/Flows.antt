@@ -7,7 +7,8 @@ use Rattle.ca_model.specs.History.{Intent, Reply, Sent, Told, Step, Circuit}
 use Rattle.ca_model_safe.specs.Channels.{Suits, until}
 use Rattle.ca_model_safe.specs.Headline.{TakesOwn}
 use Rattle.ca_laws_circuit.specs.Flows.{Awaits, Concerns, Flows, IsCidOf, IsGiven, IsLast, MaySend, MayTell, MeansOwn, NoMore, with_handled, with_heard, with_sent, with_told}
-use Rattle.ca_laws_circuit.proofs.Lists.{At-old, length-more, until-heard, until-read, until-unread}
+use Rattle.ca_laws_circuit.proofs.Lists.{At-old, until-heard, until-read, until-unread}
+use Rattle.ca_model_client.proofs.Tables.{length-more}
 
 -- ---- what a message concerns is settled when it is sent
 

@@ -24,12 +24,14 @@ use Rattle.ca_model_world.specs.ClientEvents.{channel_number, meant_by}
 use Rattle.ca_model_world.specs.World.{Names}
 use Rattle.ca_laws_circuit.specs.Flows.{Flows, IsLast, MaySend, with_heard, with_sent}
 use Rattle.ca_laws_circuit.specs.Held.{Holds, HoldsChannels, HoldsSubscriptions, clear_of, has_id, is_asked, is_subscribed}
-use Rattle.ca_laws_circuit.proofs.Clears.{channels-sent, clear-may-be-sent, is-on, requests-cleared, subscriptions-sent}
-use Rattle.ca_laws_circuit.proofs.Handles.{handle-or, same-is}
+use Rattle.ca_laws_circuit.proofs.Clears.{channels-sent, clear-may-be-sent, requests-cleared, subscriptions-sent}
+use Rattle.ca_model_client.proofs.Standings.{is-on}
+use Rattle.ca_model_client.proofs.Handles.{handle-or, same-is}
 use Rattle.ca_laws_circuit.proofs.Held.{ids-heard, ids-kept}
 use Rattle.ca_laws_circuit.proofs.Requests.{requests-replied}
 use Rattle.ca_laws_circuit.proofs.Settled.{ioid-gives, read-means}
-use Rattle.ca_laws_circuit.proofs.Tables.{changed-back, changed-few, changed-other, changed-own, wire-under}
+use Rattle.ca_model_client.proofs.Tables.{changed-back, changed-few, changed-other, changed-own, wire-under}
+use Rattle.ca_model_client.proofs.Standings.{channel-on}
 
 -- a message was read: what is held stays so
 pub holds-heard : (Awaits : ℕ → Type 0) (on : Handle) (n : Names) (x : Client) (c : Circuit) (g : Step) → Holds Awaits on n x c → Holds Awaits on n x (with_heard g c)
@@ -101,29 +103,6 @@ reply-heard Awaits on n x c g t s q r f h at cause is there finds =
     request-over Awaits on n x c g t s q r t.message.command t.message.p2 f h at cause (inl (is, refl)) there finds
 
 -- ---- a channel's record was removed
-
--- the channel that a message finds on its circuit
-pub channel-on : (x : Client) (on : Handle) (cid : ℕ) (h : Handle) (p : Phase) → channel_on x on cid ≡ Some (h, p) → (ch : Channel) × (under x.channels h ≡ Some ch) × (wire_of h ≡ cid) × (ch.standing ≡ On on p)
-channel-on x on cid h p is = go (by_wire x.channels cid) refl is
-  where
-    stands : (e : Handle × Channel) (s : Standing) → e.1.standing ≡ s → option_map {U = Handle × Phase} (λ (q : Phase). (e.0, q)) (phase_on on s) ≡ Some (h, p) → (e.0 ≡ h) × (e.1.standing ≡ On on p)
-    stands e Searching here f = absurd cc
-    stands e (On d q) here f = by (same_handle d on) refl f
-      where
-        by : (b : Bool) → same_handle d on ≡ b → option_map {U = Handle × Phase} (λ (q : Phase). (e.0, q)) (cond b (Some q) None) ≡ Some (h, p) → (e.0 ≡ h) × (e.1.standing ≡ On on p)
-        by true is_it k =
-            let same : ◌≡◌ {A = Handle × Phase} (e.0, q) (h, p) = some_is (e.0, q) (h, p) k in
-            (ap (λ (z : Handle × Phase). z.0) same, here ∙ (λ i. On (same-is d on is_it i) ((ap (λ (z : Handle × Phase). z.1) same) i)))
-        by false is_it k = absurd cc
-
-    go : (o : Option (Handle × Channel)) → by_wire x.channels cid ≡ o
-        → option_and_then (λ (e : Handle × Channel). option_map {U = Handle × Phase} (λ (q : Phase). (e.0, q)) (phase_on on e.1.standing)) o ≡ Some (h, p)
-        → (ch : Channel) × (under x.channels h ≡ Some ch) × (wire_of h ≡ cid) × (ch.standing ≡ On on p)
-    go None found f = absurd cc
-    go (Some e) found f =
-        let there = wire-under x.channels cid e found in
-        let r = stands e e.1.standing refl f in
-        (e.1, subst (λ (k : Handle). under x.channels k ≡ Some e.1) r.0 there.0, sym (ap (λ (k : Handle). wire_of k) r.0) ∙ there.1, r.1)
 
 -- a subscription has its id if its channel passes in the other table too
 pub has-too : (on : Handle) (t u : Table Channel) (d : Subscription) → ((w : Channel) → under t d.channel ≡ Some w → is_on_in is_subscribed on w ≡ true → (v : Channel) × (under u d.channel ≡ Some v) × (is_on_in is_subscribed on v ≡ true))

@@ -10,10 +10,10 @@ use Rattle.ca_model.specs.History.{Intent, Sent, Told, Step, Circuit}
 use Rattle.ca_model_safe.specs.Channels.{named}
 use Rattle.ca_laws_circuit.specs.Flows.{Concerns, IsPending, MayTell, with_handled, with_heard, with_sent, with_told}
 use Rattle.ca_laws_circuit.specs.Held.{HoldsIds, HoldsIdsBy, IsHeld, IsHeldBy, IsMeant}
-use Rattle.ca_laws_circuit.proofs.Handles.{handle-or, same-is, same-itself}
+use Rattle.ca_model_client.proofs.Handles.{handle-or, same-is, same-itself}
 use Rattle.ca_laws_circuit.proofs.Requests.{given-new, meant-sent, pending-fewer, pending-sent, pending-told}
 use Rattle.ca_laws_circuit.proofs.Settled.{pending-before}
-use Rattle.ca_laws_circuit.proofs.Tables.{changed-back, changed-few, changed-other, changed-own, given-fresh, held-back, held-few, held-other, held-own, one-by-wire, one-value}
+use Rattle.ca_model_client.proofs.Tables.{changed-back, changed-few, changed-other, changed-own, given-fresh, held-back, held-few, held-other, held-own, one-by-wire, one-value}
 
 module _ {T : Type 0} (kind : ℕ → Id) (meant : Handle → Intent) where
   -- ---- the lists grow, and the table stays

@@ -2,8 +2,6 @@ pub mod Lists
 pub mod Flows
 pub mod Settled
 pub mod Replies
-pub mod Tables
-pub mod Handles
 pub mod Requests
 pub mod Told
 pub mod Held

@@ -8,9 +8,6 @@ use Rattle.ca_model.specs.History.{Circuit, Step}
 use Rattle.ca_model_safe.specs.Channels.{until}
 use Rattle.ca_laws_circuit.specs.Flows.{with_heard}
 
-pub length-more : {A : Type 0} (xs : List A) (x : A) → length (xs ++ x ∷ []) ≡ length xs + 1
-length-more xs x = (let e = length-append xs (x ∷ []) in omega (arith, e))
-
 pub nothing-past : {A : Type 0} (xs : List A) (j : ℕ) → length xs ≤ j → slice_get xs j ≡ None
 nothing-past [] j le = refl
 nothing-past (x ∷ xs) zero le = absurd (omega (arith, le))

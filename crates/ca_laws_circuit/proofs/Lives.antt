@@ -22,15 +22,17 @@ use Rattle.ca_model_world.specs.World.{Names as ClientNames}
 use Rattle.ca_laws_circuit.specs.Flows.{MaySend, MaySendAll, with_all_sent, with_heard, with_sent}
 use Rattle.ca_laws_circuit.specs.Held.{Holds, HoldsChannels, HoldsRequests, HoldsSubscriptions, HoldsIdsBy, IsAlike, MeanToSubscribe, clear_of, event_add_of, has_id, is_asked, is_subscribed}
 use Rattle.ca_laws_circuit.proofs.Alike.{changed-alike, holds-alike, ids-alike, sending-alike}
-use Rattle.ca_laws_circuit.proofs.Clears.{clear-goes, clear-gone, is-on}
+use Rattle.ca_laws_circuit.proofs.Clears.{clear-goes, clear-gone}
+use Rattle.ca_model_client.proofs.Standings.{is-on}
 use Rattle.ca_laws_circuit.proofs.Ended.{phase-kept}
-use Rattle.ca_laws_circuit.proofs.Handles.{handle-or, same-is, same-itself}
-use Rattle.ca_laws_circuit.proofs.Heard.{channel-on, has-too, holds-heard}
+use Rattle.ca_model_client.proofs.Handles.{handle-or, same-is, same-itself}
+use Rattle.ca_laws_circuit.proofs.Heard.{has-too, holds-heard}
+use Rattle.ca_model_client.proofs.Standings.{channel-on}
 use Rattle.ca_laws_circuit.proofs.Held.{ids-kept-by}
 use Rattle.ca_laws_circuit.proofs.Many.{Names, ids-all-named, ids-all-sent}
 use Rattle.ca_laws_circuit.proofs.Marks.{at-filter, filter-apart, filter-at, marked, marked-back, marked-new, marked-old}
 use Rattle.ca_laws_circuit.proofs.Subscribes.{adds-concerns, adds-gives, no-cid, no-ioid, sub-is}
-use Rattle.ca_laws_circuit.proofs.Tables.{AreApart, changed-back, changed-other, changed-own, held-apart, held-under, one-value, under-held}
+use Rattle.ca_model_client.proofs.Tables.{AreApart, changed-back, changed-other, changed-own, held-apart, held-under, one-value, under-held}
 
 module _ (Awaits : ℕ → Type 0) (on : Handle) (n : ClientNames) (x : Client) (c : Circuit) (h : Handle) (sid : ℕ) (native : Native) (rights : ℕ)
     (ch : Channel) (there : under x.channels h ≡ Some ch) (asked : is_on_in is_asked on ch ≡ true) (bare : is_on_in is_subscribed on ch ≡ false)

@@ -13,11 +13,11 @@ use Rattle.ca_model_safe.specs.Channels.{Suits, named}
 use Rattle.ca_laws_circuit.specs.Flows.{Concerns, Flows, IsPending, MaySend, MaySendAll, MeansOwn, with_all_sent, with_sent}
 use Rattle.ca_laws_circuit.specs.Held.{HoldsIdsBy}
 use Rattle.ca_laws_circuit.proofs.Flows.{flows-sent}
-use Rattle.ca_laws_circuit.proofs.Handles.{same-not}
+use Rattle.ca_model_client.proofs.Handles.{same-not}
 use Rattle.ca_laws_circuit.proofs.Held.{ids-away, ids-named, ids-sent-by}
 use Rattle.ca_laws_circuit.proofs.Marks.{marked}
 use Rattle.ca_laws_circuit.proofs.Requests.{given-new}
-use Rattle.ca_laws_circuit.proofs.Tables.{AreApart}
+use Rattle.ca_model_client.proofs.Tables.{AreApart}
 
 -- what holds after the first message and the others holds after all
 pub all-from-first : (P : Circuit → Type 0) (c : Circuit) (s : Sent) (ss : List Sent) → P (with_all_sent ss (with_sent s c)) → P (with_all_sent (s ∷ ss) c)

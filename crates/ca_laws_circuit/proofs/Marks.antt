@@ -6,8 +6,8 @@ use Rattle.ca_text.specs.Place.{At}
 use Rattle.ca_text.proofs.Places.{some_is}
 use Rattle.ca_arena.specs.declared.handle.Handle.{Handle}
 use Rattle.ca_ids.specs.Table.{same_handle}
-use Rattle.ca_laws_circuit.proofs.Handles.{same-is, same-itself}
-use Rattle.ca_laws_circuit.proofs.Tables.{AreApart}
+use Rattle.ca_model_client.proofs.Handles.{same-is, same-itself}
+use Rattle.ca_model_client.proofs.Tables.{AreApart}
 
 -- ---- filters
 

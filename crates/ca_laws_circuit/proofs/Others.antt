@@ -10,33 +10,16 @@ use Rattle.ca_requests.specs.Requests.{Draining, Request, asks_on, was_sent_on}
 use Rattle.ca_requests.specs.Requests as request
 use Rattle.ca_model.specs.Client.{Channel, Client, ClientCircuit, Clearing, Connecting, Creating, Doomed, Leaving, Live, Native, On, Phase, Searching, Standing, channels_on, disconnected, is_on_in, let_go, phase_on, standing_at, with_requests, with_standing, without_channel, without_circuit}
 use Rattle.ca_model.specs.ClientCalls.{all_over, cleared, unsubscribed_all, unwanted}
-use Rattle.ca_laws_circuit.specs.Held.{Attached, HoldAlike, IsAlike, has_id, is_asked, is_subscribed, was_live}
+use Rattle.ca_laws_circuit.specs.Held.{HoldAlike, IsAlike, has_id, is_asked, is_subscribed}
+use Rattle.ca_model_client.specs.Placed.{Attached, was_live}
 use Rattle.ca_laws_circuit.proofs.Alike.{alike-itself, all-alike, all-freed-alike, changed-alike, channel-freed, client-itself, client-then, restood, with-others}
-use Rattle.ca_laws_circuit.proofs.Clears.{found-standing, is-on}
-use Rattle.ca_laws_circuit.proofs.Handles.{not-same, same-is, same-itself}
+use Rattle.ca_model_client.proofs.Standings.{found-standing, is-on}
+use Rattle.ca_model_client.proofs.Handles.{not-same, same-is, same-itself}
 use Rattle.ca_laws_circuit.proofs.Heard.{has-too}
-use Rattle.ca_laws_circuit.proofs.Tables.{changed-back, changed-other, one-value}
+use Rattle.ca_model_client.proofs.Tables.{changed-back, changed-other, one-value}
+use Rattle.ca_model_client.proofs.Standings.{fails-anywhere, fails-elsewhere, fails-searched}
 
 -- ---- tests of a channel
-
--- a channel in a phase that a test does not name passes on no circuit
-pub fails-anywhere : (test : Phase → Bool) (on o : Handle) (ch : Channel) (p : Phase) → ch.standing ≡ On o p → test p ≡ false → is_on_in test on ch ≡ false
-fails-anywhere test on o ch p stands fails =
-    ap (λ (s : Standing). unwrap_or (option_map test (phase_on on s)) false) stands ∙ go (same_handle o on)
-  where
-    go : (b : Bool) → unwrap_or (option_map test (cond b (Some p) None)) false ≡ false
-    go true = fails
-    go false = refl
-
--- a channel on another circuit passes no test here
-pub fails-elsewhere : (test : Phase → Bool) (on o : Handle) (ch : Channel) (p : Phase) → ch.standing ≡ On o p → same_handle o on ≡ false → is_on_in test on ch ≡ false
-fails-elsewhere test on o ch p stands other =
-    ap (λ (s : Standing). unwrap_or (option_map test (phase_on on s)) false) stands
-    ∙ ap (λ (b : Bool). unwrap_or (option_map test (cond b (Some p) None)) false) other
-
--- nor does one that is searched for
-pub fails-searched : (test : Phase → Bool) (on : Handle) (ch : Channel) → ch.standing ≡ Searching → is_on_in test on ch ≡ false
-fails-searched test on ch stands = ap (λ (s : Standing). unwrap_or (option_map test (phase_on on s)) false) stands
 
 -- between phases that a test does not tell apart a channel passes as before
 pub passes-alike : (test : Phase → Bool) (on o : Handle) (ch : Channel) (p q : Phase) → ch.standing ≡ On o p → test p ≡ test q → is_on_in test on ch ≡ is_on_in test on (record ch { standing = On o q })

@@ -22,11 +22,12 @@ use Rattle.ca_laws_circuit.specs.Flows.{Flows, IsLast, IsPending, NoMore, with_h
 use Rattle.ca_laws_circuit.specs.Held.{Holds, has_id, is_subscribed}
 use Rattle.ca_laws_circuit.proofs.Ended.{Of}
 use Rattle.ca_laws_circuit.proofs.Flows.{given-now}
-use Rattle.ca_laws_circuit.proofs.Handles.{handle-or}
+use Rattle.ca_model_client.proofs.Handles.{handle-or}
 use Rattle.ca_laws_circuit.proofs.Heard.{holds-heard}
 use Rattle.ca_laws_circuit.proofs.Held.{ids-kept}
-use Rattle.ca_laws_circuit.proofs.Settled.{none-pending, one-giver, pending-before, pending-concerns, pending-means, three-ways}
-use Rattle.ca_laws_circuit.proofs.Tables.{freed-back, freed-few, freed-other, wire-under}
+use Rattle.ca_laws_circuit.proofs.Settled.{none-pending, one-giver, pending-before, pending-concerns, pending-means}
+use Rattle.ca_model_client.proofs.Thinner.{three-ways}
+use Rattle.ca_model_client.proofs.Tables.{freed-back, freed-few, freed-other, wire-under}
 
 -- ---- what an ERROR finds
 

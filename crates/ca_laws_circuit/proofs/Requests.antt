@@ -13,10 +13,10 @@ use Rattle.ca_model.specs.History.{Intent, Reply, Sent, Told, Step, Circuit}
 use Rattle.ca_model_safe.specs.Channels.{named}
 use Rattle.ca_laws_circuit.specs.Flows.{Concerns, Flows, IsGiven, IsLast, IsPending, MayTell, with_handled, with_heard, with_sent, with_told}
 use Rattle.ca_laws_circuit.specs.Held.{HoldsRequests, IsMeant}
-use Rattle.ca_laws_circuit.proofs.Lists.{length-more}
+use Rattle.ca_model_client.proofs.Tables.{length-more}
 use Rattle.ca_laws_circuit.proofs.Flows.{concerns-back, given-sent}
 use Rattle.ca_laws_circuit.proofs.Settled.{ioid-gives, pending-before, settled-request}
-use Rattle.ca_laws_circuit.proofs.Tables.{all-back, all-freed-back, all-freed-there, all-there, freed-back, freed-few, freed-other, given-fresh, held-back, held-few, held-other, held-own}
+use Rattle.ca_model_client.proofs.Tables.{all-back, all-freed-back, all-freed-there, all-there, freed-back, freed-few, freed-other, given-fresh, held-back, held-few, held-other, held-own}
 
 -- ---- what is pending as the lists grow
 

@@ -6,19 +6,9 @@ use Rattle.ca_model.specs.Speech.{Id, Cid, Ioid, SubId, Gives, Speaks}
 use Rattle.ca_model.specs.History.{Reply, Sent, Told, Step, Circuit}
 use Rattle.ca_model_safe.specs.Channels.{named}
 use Rattle.ca_laws_circuit.specs.Flows.{Concerns, Flows, IsGiven, IsLast, IsPending, MeansOwn, NoMore, with_heard}
-use Rattle.ca_laws_circuit.proofs.Lists.{length-more}
+use Rattle.ca_model_client.proofs.Tables.{length-more}
 use Rattle.ca_laws_circuit.proofs.Flows.{given-now}
-
--- below, the same, or above
-pub three-ways : (k l : ℕ) → (k < l) ⊎ ((k ≡ l) ⊎ (l < k))
-three-ways zero zero = inr (inl refl)
-three-ways zero (suc l) = inl (omega arith)
-three-ways (suc k) zero = inr (inr (omega arith))
-three-ways (suc k) (suc l) = elim (three-ways k l) [
-  | inl a ↦ inl (omega (arith, a))
-  | inr (inl a) ↦ inr (inl (ap (λ (n : ℕ). suc n) a))
-  | inr (inr a) ↦ inr (inr (omega (arith, a)))
-]
+use Rattle.ca_model_client.proofs.Thinner.{three-ways}
 
 -- an id was given last at one place, to one thing
 pub one-giver : (up : List Sent) (id : Id) (k l m n : ℕ) → IsGiven up id k m → IsGiven up id l n → (k ≡ l) × (m ≡ n)

@@ -7,8 +7,9 @@ use Rattle.ca_model.specs.History.{Ask, Create, Entry, On, Sent, Told, Step, Cir
 use Rattle.ca_model_safe.specs.Channels.{Has, IsOpen, before}
 use Rattle.ca_laws_circuit.specs.Flows.{with_handled, with_heard, with_sent, with_told}
 use Rattle.ca_laws_circuit.specs.Sids.{IsClearedWithin, IsLiveBefore, MayCreate, Sids}
-use Rattle.ca_laws_circuit.proofs.Lists.{At-old, length-more}
-use Rattle.ca_laws_circuit.proofs.Settled.{three-ways}
+use Rattle.ca_laws_circuit.proofs.Lists.{At-old}
+use Rattle.ca_model_client.proofs.Tables.{length-more}
+use Rattle.ca_model_client.proofs.Thinner.{three-ways}
 
 -- ---- clears between two places
 

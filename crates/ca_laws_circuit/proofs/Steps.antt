@@ -19,7 +19,7 @@ use Rattle.ca_laws_circuit.specs.Held.{Holds, has_id, is_asked}
 use Rattle.ca_laws_circuit.specs.Steps.{Answers, replied}
 use Rattle.ca_laws_circuit.proofs.Flows.{awaits-handled, flows-handled, flows-told}
 use Rattle.ca_laws_circuit.proofs.Held.{ids-handled, ids-told}
-use Rattle.ca_laws_circuit.proofs.Lists.{length-more}
+use Rattle.ca_model_client.proofs.Tables.{length-more}
 
 -- ---- later messages: they tell nothing's end, or that of a put
 

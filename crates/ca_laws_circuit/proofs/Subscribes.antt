@@ -21,11 +21,11 @@ use Rattle.ca_model_world.specs.World.{Names}
 use Rattle.ca_laws_circuit.specs.Flows.{Concerns, IsPending, MaySend, MeansOwn, with_sent}
 use Rattle.ca_laws_circuit.specs.Held.{Holds, HoldsSubscriptions, IsNew, has_id, is_asked, is_subscribed, with_subscription}
 use Rattle.ca_laws_circuit.proofs.Calls.{meant-others, meant-own}
-use Rattle.ca_laws_circuit.proofs.Handles.{handle-or, same-itself}
+use Rattle.ca_model_client.proofs.Handles.{handle-or, same-itself}
 use Rattle.ca_laws_circuit.proofs.Flows.{given-sent}
 use Rattle.ca_laws_circuit.proofs.Held.{ids-fresh, ids-given, ids-kept, ids-sent}
 use Rattle.ca_laws_circuit.proofs.Requests.{given-new}
-use Rattle.ca_laws_circuit.proofs.Tables.{changed-back, changed-few, changed-other, changed-own}
+use Rattle.ca_model_client.proofs.Tables.{changed-back, changed-few, changed-other, changed-own}
 
 pub sub-is : (a b : ℕ) → SubId a ≡ SubId b → a ≡ b
 sub-is a b e = cc

@@ -101,23 +101,6 @@ pub record HoldAlike (on : Handle) (x y : Client) : Type 0 where
 
 -- ---- what requests and subscriptions are attached to
 
--- the channel was live on its circuit, and its clear is not answered
-abbrev pub was_live : Phase → Bool
-was_live (Live n rights) = true
-was_live Leaving = true
-was_live Clearing = true
-was_live p = false
-
--- A channel is in the table, and was live on this circuit.
-abbrev pub WasLive : Client → (channel on : Handle) → Type 0
-WasLive x channel on = (ch : Channel) × (under x.channels channel ≡ Some ch) × (is_on_in was_live on ch ≡ true)
-
--- A client's requests are on circuits on which their channels were live, and there alone ids of subscriptions drain.
-pub record Attached (x : Client) : Type 0 where
-  pub requests : (q : Handle) (r : Request) → under x.requests q ≡ Some r → WasLive x r.channel r.circuit
-  pub subscriptions : (g : Handle) (d : Subscription) (on : Handle) → under x.subscriptions g ≡ Some d → drains_in on d.stage ≡ true
-      → WasLive x d.channel on
-
 -- ---- a circuit that is wanted, and not connected yet
 
 -- No channel's CREATE_CHAN went out on it.

@@ -29,7 +29,8 @@ ghost use Rattle.ca_model_world.specs.World.{Names};
 ghost use Rattle.ca_laws_circuit.specs.Flows.{Awaits, Ends, Flows, IsCidOf, MaySend, MaySendAll, with_all_sent, with_handled, with_heard, with_sent, with_told};
 ghost use Rattle.ca_laws_circuit.specs.Replies.{IsCidAt};
 ghost use Rattle.ca_laws_circuit.specs.Steps.{removal_of, replied, update_of};
-ghost use Rattle.ca_laws_circuit.specs.Held.{AreFew, Attached, HoldAlike, Holds, MeanToSubscribe, NoneAsked, clear_of, create_of, event_add_of, has_id, is_asked, waiting_on};
+ghost use Rattle.ca_laws_circuit.specs.Held.{AreFew, HoldAlike, Holds, MeanToSubscribe, NoneAsked, clear_of, create_of, event_add_of, has_id, is_asked, waiting_on};
+ghost use Rattle.ca_model_client.specs.Placed.{Attached};
 
 /// The reply to a CREATE_CHAN is read: the channel is live, and the EVENT_ADDs of its subscriptions
 /// may be sent; or its caller cleared it meanwhile, and its CLEAR_CHANNEL may be. What the client's

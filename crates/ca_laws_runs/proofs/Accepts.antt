@@ -23,11 +23,13 @@ use Rattle.ca_laws_circuit.specs.Flows.{Awaits, Flows}
 use Rattle.ca_laws_circuit.specs.Held.{HoldAlike, Holds, NoneAsked, create_of, is_asked, is_subscribed, waiting_on}
 use Rattle.ca_laws_circuit.proofs.Alike.{all-alike, client-then, holds-alike, sending-alike, with-channels}
 use Rattle.ca_laws_circuit.proofs.Connects.{new-holds}
-use Rattle.ca_laws_circuit.proofs.Ends.{at-filter-map, ended-elsewhere}
-use Rattle.ca_laws_circuit.proofs.Handles.{same-is, same-not}
-use Rattle.ca_laws_circuit.proofs.Others.{fails-elsewhere}
+use Rattle.ca_laws_circuit.proofs.Ends.{ended-elsewhere}
+use Rattle.ca_model_client.proofs.Standings.{at-filter-map}
+use Rattle.ca_model_client.proofs.Handles.{same-is, same-not}
+use Rattle.ca_model_client.proofs.Standings.{fails-elsewhere}
 use Rattle.ca_laws_runs.specs.Circuit.{HeldAt, HeldOn, sent_to, stamped}
-use Rattle.ca_laws_runs.specs.Client.{AreWaiting, IsSound}
+use Rattle.ca_laws_runs.specs.Client.{IsSound}
+use Rattle.ca_model_client.specs.Placed.{AreWaiting}
 use Rattle.ca_laws_runs.specs.Clients.{ClientsStand}
 use Rattle.ca_laws_runs.proofs.ClientsMore.{unconnected-is, wanted-there}
 use Rattle.ca_laws_runs.proofs.Sending.{none-sent-to, with_up}

@@ -22,8 +22,8 @@ use Rattle.ca_laws_circuit.specs.Flows.{Awaits, MaySend, with_sent}
 use Rattle.ca_laws_circuit.specs.Held.{HoldAlike, Holds, IsAsking, has_id, is_asked, is_subscribed, with_request, with_subscription}
 use Rattle.ca_laws_circuit.proofs.Alike.{alike-itself, held-alike, holds-alike, sending-alike, with-others}
 use Rattle.ca_laws_circuit.proofs.Calls.{call-keeps, call-may, meant-others, meant-own}
-use Rattle.ca_laws_circuit.proofs.Clears.{found-standing, is-on}
-use Rattle.ca_laws_circuit.proofs.Others.{fails-elsewhere}
+use Rattle.ca_model_client.proofs.Standings.{found-standing, is-on}
+use Rattle.ca_model_client.proofs.Standings.{fails-elsewhere}
 use Rattle.ca_laws_circuit.proofs.Subscribes.{subscribe-keeps, subscribe-may}
 use Rattle.ca_laws_circuit.proofs.Writes.{write-keeps, write-may}
 use Rattle.ca_laws_runs.specs.Circuit.{AreGiven, HeldOn, sent_to, stamped}

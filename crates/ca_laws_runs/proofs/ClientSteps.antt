@@ -17,7 +17,8 @@ use Rattle.ca_model.specs.History.{Circuit, Line, Step}
 use Rattle.ca_model_world.specs.ClientEvents.{HappensClientStep, Outcomes, about_at, client_ended, client_stepped, heard_in, lines_of}
 use Rattle.ca_model_world.specs.World.{ClientSide, Joined, Names, World, log_length}
 use Rattle.ca_laws_circuit.specs.Flows.{Awaits}
-use Rattle.ca_laws_circuit.specs.Held.{Attached, MeanToSubscribe}
+use Rattle.ca_laws_circuit.specs.Held.{MeanToSubscribe}
+use Rattle.ca_model_client.specs.Placed.{Attached}
 use Rattle.ca_laws_circuit.proofs.Alike.{holds-alike}
 use Rattle.ca_laws_circuit.proofs.Flows.{flows-heard}
 use Rattle.ca_laws_circuit.proofs.Heard.{holds-heard}

@@ -24,72 +24,22 @@ use Rattle.ca_model.specs.History.{Intent, Line, Step}
 use Rattle.ca_model.specs.History as history
 use Rattle.ca_model_world.specs.ClientEvents.{DownTaken, HappensClear, HappensClientRestart, HappensClientStep, HappensCutClient, HappensDown, HappensOpen, HappensRead, HappensSubscribe, HappensUnsubscribe, HappensUp, HappensWrite, HappensWriteNotify, Outcomes, about_at, cancelled, client_after, client_closed, client_ended, client_gone, client_stepped, heard_in, lines_of, refused}
 use Rattle.ca_model_world.specs.World.{ClientSide, Joined, Names, ServerSide, World, addresses, client_begun, log_length, with_circuit, with_client, with_server}
-use Rattle.ca_laws_circuit.specs.Held.{WasLive, was_live, with_request, with_subscription}
-use Rattle.ca_laws_circuit.proofs.Clears.{found-standing, is-on}
-use Rattle.ca_laws_circuit.proofs.Tables.{held-back, held-other, place, under-at}
-use Rattle.ca_laws_runs.specs.Client.{IsPlaced, IsSound}
+use Rattle.ca_laws_circuit.specs.Held.{with_request, with_subscription}
+use Rattle.ca_model_client.specs.Placed.{WasLive, was_live}
+use Rattle.ca_model_client.proofs.Standings.{found-standing, is-on}
+use Rattle.ca_model_client.proofs.Tables.{held-back, held-other, place, under-at}
+use Rattle.ca_laws_runs.specs.Client.{IsSound}
+use Rattle.ca_model_client.specs.Placed.{IsPlaced}
 use Rattle.ca_laws_runs.specs.Clients.{ClientsStand}
-use Rattle.ca_laws_runs.proofs.Changes.{keeps-cleared, keeps-unsubscribed}
-use Rattle.ca_laws_runs.proofs.Hearing.{keeps-heard}
-use Rattle.ca_laws_runs.proofs.Letting.{KeepsBut, ends-ended}
+use Rattle.ca_model_client.proofs.Changes.{keeps-cleared, keeps-unsubscribed}
+use Rattle.ca_model_client.proofs.Hearing.{keeps-heard}
+use Rattle.ca_model_client.proofs.Letting.{KeepsBut, ends-ended}
 use Rattle.ca_laws_runs.proofs.Named.{named-issued, named-opened, named-subscribed, named-wrote}
-use Rattle.ca_laws_runs.proofs.Placed.{Keeps, keeps-itself, keeps-on, keeps-sending, keeps-then}
+use Rattle.ca_model_client.proofs.Placed.{Keeps, keeps-itself, keeps-on, keeps-sending, keeps-then}
 use Rattle.ca_laws_runs.proofs.Stands.{IsEndOf, end-closed, fewer-itself, fewer-map, fewer-set, sound-kept, stands-but, stands-called, stands-kept, stands-moved, stands-same}
+use Rattle.ca_model_client.proofs.Changes.{placed-opened, placed-issued, placed-subscribed, handed-keeps, given-keeps}
 
 -- ---- what is new in a client
-
-placed-opened : (a : Opening) (h : Handle) (x : Client) → MayGive x.channels h → IsPlaced x → IsPlaced (opened a h x)
-placed-opened a h x may p = record {
-  attached = record {
-    requests = λ q r is. still r.channel r.circuit (p.attached.requests q r is);
-    subscriptions = λ g d on is drains. still d.channel on (p.attached.subscriptions g d on is drains);
-  };
-  waiting = λ g ch c q is stands. elim (held-back x.channels g h new ch is) [
-    | inl own ↦ absurd (nowhere c q (sym (ap (λ (z : Channel). z.standing) own.1) ∙ stands))
-    | inr old ↦ p.waiting g ch c q old stands
-  ];
-}
-  where
-    new : Channel
-    new = record { name = a.name; priority = a.priority; standing = Searching }
-
-    nowhere : (c : Handle) (q : Phase) → Searching ≡ On c q → ⊥
-    nowhere c q e = cc
-
-    still : (channel on : Handle) → WasLive x channel on → WasLive (opened a h x) channel on
-    still channel on was = (was.0, held-other x.channels channel h new was.0 may was.1, was.2)
-
--- a channel is live where its call goes
-live-there : (x : Client) (h : Handle) (l : LiveChannel) → IsLive x h l → WasLive x h l.circuit
-live-there x h l live =
-    let found = found-standing x h (On l.circuit (phase.Live l.native l.rights)) live in
-    (found.0, found.1, is-on was_live l.circuit found.0 (phase.Live l.native l.rights) found.2)
-
-placed-issued : (x : Client) (h : Handle) (l : LiveChannel) (asked : Asked) (q : Handle) → IsLive x h l → IsPlaced x → IsPlaced (issued h l asked q x)
-placed-issued x h l asked q live p =
-    let new : Request = new_request h l.circuit asked in
-    record {
-      attached = record {
-        requests = λ g r is. elim (held-back x.requests g q new r is) [
-          | inl own ↦ subst (λ (z : Request). WasLive x z.channel z.circuit) (sym own.1) (live-there x h l live)
-          | inr old ↦ p.attached.requests g r old
-        ];
-        subscriptions = p.attached.subscriptions;
-      };
-      waiting = p.waiting;
-    }
-
-placed-subscribed : (x : Client) (h : Handle) (a : Shape) (mask : ℕ) (q : Handle) → IsPlaced x → IsPlaced (record x { subscriptions = with_held q (new_subscription h a mask) x.subscriptions })
-placed-subscribed x h a mask q p = record {
-  attached = record {
-    requests = p.attached.requests;
-    subscriptions = λ g d on is drains. elim (held-back x.subscriptions g q (new_subscription h a mask) d is) [
-      | inl own ↦ absurd (both_ways (drains_in on d.stage) (ap (λ (z : Subscription). drains_in on z.stage) own.1) drains)
-      | inr old ↦ p.attached.subscriptions g d on old drains
-    ];
-  };
-  waiting = p.waiting;
-}
 
 sound-sending : (n : Names) (x y : Client) (sends : List Sending) → y ≡ sending sends x → IsSound n x → IsSound n y
 sound-sending n x y sends is s = subst (λ (z : Client). IsSound n z) (sym is) (sound-kept n x (sending sends x) (keeps-sending sends x) s)
@@ -198,17 +148,6 @@ module _ (w new : World) (i : ℕ) (x : ClientSide) (at : At w.clients i x) (s :
   ]
 
 -- ---- bytes move
-
-handed-keeps : (c : Handle) (n : ℕ) (x : Client) → Keeps x (handed_over c n x)
-handed-keeps c n x = go (is_some (connection_at x c))
-  where
-    go : (b : Bool) → Keeps x (cond b (on_connection (λ (e : Connection). record e { link = with_handed n e.link }) c x) x)
-    go true = keeps-on _ c x
-    go false = keeps-itself x
-
-given-keeps : (x y : Client) (c : Handle) (bytes : List ℕ) (more : Bool) (o : Option Connection) (sent : List Sending) → GivesOn x c bytes more o (Ok tt) sent y → Keeps x y
-given-keeps x y c bytes more (Some e) sent does = subst (λ (z : Client). Keeps x z) (sym does.1) (keeps-then x (given c bytes more x) _ (keeps-on _ c x) (keeps-sending (flow_sent c more e) (given c bytes more x)))
-given-keeps x y c bytes more None sent does = absurd does
 
 module _ (w new : World) (k : ℕ) (j : Joined) (x : ClientSide) (at : At w.circuits k j) (there : At w.clients j.client x) (s : ClientsStand w) where
   pub stands-up : (n : ℕ) (y : ServerSide) → HappensUp w k n j x y new → ClientsStand new

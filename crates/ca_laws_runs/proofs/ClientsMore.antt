@@ -25,49 +25,24 @@ use Rattle.ca_model.specs.Hears.{Effect, becomes, found_at, searched_by}
 use Rattle.ca_model.specs.History as history
 use Rattle.ca_model_world.specs.ClientEvents.{HappensAccept, HappensClientDatagram, Outcomes, TicksOne, WantsFirst, after_tick, client_after, client_closed, connected_as, left_silent, lines_of, new_circuit, told_by}
 use Rattle.ca_model_world.specs.World.{ClientSide, Joined, Names, ServerSide, World}
-use Rattle.ca_laws_circuit.proofs.Ends.{at-filter-map}
-use Rattle.ca_laws_circuit.proofs.Handles.{same-is, same-itself}
-use Rattle.ca_laws_circuit.proofs.Tables.{at-find, changed-own}
+use Rattle.ca_model_client.proofs.Standings.{at-filter-map}
+use Rattle.ca_model_client.proofs.Handles.{same-is, same-itself}
+use Rattle.ca_model_client.proofs.Tables.{at-find, changed-own}
 use Rattle.ca_laws_runs.specs.Circuit.{sent_to}
-use Rattle.ca_laws_runs.specs.Client.{IsPlaced, IsSound}
+use Rattle.ca_laws_runs.specs.Client.{IsSound}
+use Rattle.ca_model_client.specs.Placed.{IsPlaced}
 use Rattle.ca_laws_runs.specs.Clients.{ClientsStand}
-use Rattle.ca_laws_runs.proofs.Changes.{keeps-searches}
-use Rattle.ca_laws_runs.proofs.Hearing.{keeps-begun, keeps-finds}
-use Rattle.ca_laws_runs.proofs.Letting.{KeepsBut, ends-ended}
-use Rattle.ca_laws_runs.proofs.Named.{Thins, named-thins, thins-then}
-use Rattle.ca_laws_runs.proofs.Placed.{Keeps, keeps-itself, keeps-on, keeps-sending, keeps-then}
+use Rattle.ca_model_client.proofs.Changes.{keeps-searches}
+use Rattle.ca_model_client.proofs.Hearing.{keeps-begun, keeps-finds}
+use Rattle.ca_model_client.proofs.Letting.{KeepsBut, ends-ended}
+use Rattle.ca_laws_runs.proofs.Named.{named-thins}
+use Rattle.ca_model_client.proofs.Thinner.{Thins, thins-then}
+use Rattle.ca_model_client.proofs.Placed.{Keeps, keeps-itself, keeps-on, keeps-sending, keeps-then}
 use Rattle.ca_laws_runs.proofs.Stands.{IsEndOf, end-closed, end-itself, fewer-map, fewer-then, sound-but, stands-kept, stands-moved}
-use Rattle.ca_laws_runs.proofs.Thinner.{thin-itself}
+use Rattle.ca_model_client.proofs.Thinner.{thin-itself}
+use Rattle.ca_model_client.proofs.Hearing.{keeps-moment, all-received}
 
 -- ---- datagrams
-
-keeps-moment : (moment : ℕ) (x : Client) → Keeps x (record x { moment = moment })
-keeps-moment moment x = record {
-  thins = record { channels = thin-itself x.channels; requests = thin-itself x.requests; subscriptions = thin-itself x.subscriptions };
-  placed = λ p. record { attached = record { requests = p.attached.requests; subscriptions = p.attached.subscriptions }; waiting = p.waiting };
-  links = λ c. refl;
-}
-
-keeps-beacon : (from : Address) (m : Fields) (x : Client) → Keeps x (beacon_heard from m x)
-keeps-beacon from m x = record {
-  thins = record { channels = thin-itself x.channels; requests = thin-itself x.requests; subscriptions = thin-itself x.subscriptions };
-  placed = λ p. record { attached = record { requests = p.attached.requests; subscriptions = p.attached.subscriptions }; waiting = p.waiting };
-  links = λ c. refl;
-}
-
-becomes-keeps : (x z : Client) (e : Effect) → e ≡ becomes z → Keeps x z → Keeps x e.core
-becomes-keeps x z e is keeps = subst (λ (w : Effect). Keeps x w.core) (sym is) keeps
-
-pub received-keeps : (from : Address) (x : Client) (m : Fields) (e : Effect) → Receives from x m e → Keeps x e.core
-received-keeps from x m e (ends.Search is finds) = keeps-finds x (found_at from m) m.p2 (searched_by m.p2 x) e refl finds
-received-keeps from x m e (ends.Beacon is port does) = becomes-keeps x (beacon_heard from m x) e does (keeps-beacon from m x)
-received-keeps from x m e (ends.Other not_search not_beacon does) = becomes-keeps x x e does (keeps-itself x)
-
-all-received : (from : Address) (ms : List Fields) (x : Client) (e : Effect) → ReceivesAll from x ms e → Keeps x e.core
-all-received from [] x e does = becomes-keeps x x e does (keeps-itself x)
-all-received from (m ∷ ms) x e does =
-    subst (λ (w : Effect). Keeps x w.core) (sym does.4)
-    (keeps-then x does.0.core does.1.core (received-keeps from x m does.0 does.2) (all-received from ms does.0.core does.1 does.3))
 
 pub stands-datagram : (w new : World) (i : ℕ) (x : ClientSide) (from : Address) (bytes : List ℕ) → At w.clients i x → ClientsStand w → HappensClientDatagram w i x from bytes new → ClientsStand new
 stands-datagram w new i x from bytes at s happens =

@@ -16,36 +16,21 @@ use Rattle.ca_model_safe.specs.Channels.{Suits}
 use Rattle.ca_model_world.specs.ClientEvents.{cancelled, channel_number}
 use Rattle.ca_model_world.specs.World.{Joined, Names}
 use Rattle.ca_laws_circuit.specs.Flows.{Awaits, MaySend, with_sent}
-use Rattle.ca_laws_circuit.specs.Held.{Attached, HoldAlike, Holds, MeanToSubscribe, clear_of, has_id, is_subscribed}
+use Rattle.ca_laws_circuit.specs.Held.{HoldAlike, Holds, MeanToSubscribe, clear_of, has_id, is_subscribed}
+use Rattle.ca_model_client.specs.Placed.{Attached}
 use Rattle.ca_laws_circuit.proofs.Alike.{alike-itself, changed-alike, freed-alike, holds-alike, sending-alike, with-others}
-use Rattle.ca_laws_circuit.proofs.Clears.{clears, found-standing}
-use Rattle.ca_laws_circuit.proofs.Handles.{same-itself}
-use Rattle.ca_laws_circuit.proofs.Others.{cleared-away, cleared-early, cleared-elsewhere, cleared-left, fails-anywhere, fails-searched}
+use Rattle.ca_laws_circuit.proofs.Clears.{clears}
+use Rattle.ca_model_client.proofs.Standings.{found-standing}
+use Rattle.ca_model_client.proofs.Handles.{same-itself}
+use Rattle.ca_laws_circuit.proofs.Others.{cleared-away, cleared-early, cleared-elsewhere, cleared-left}
+use Rattle.ca_model_client.proofs.Standings.{fails-anywhere, fails-searched}
 use Rattle.ca_laws_circuit.proofs.Subscribes.{unsubscribe-keeps, unsubscribe-may}
 use Rattle.ca_laws_runs.specs.Circuit.{HeldOn, sent_to, stamped}
 use Rattle.ca_laws_runs.proofs.Calls.{no-creation-clear}
 use Rattle.ca_laws_runs.proofs.Sending.{none-sent-to, one-sent}
+use Rattle.ca_model_client.proofs.Standings.{never-cleared, stands-as}
 
 -- ---- clear
-
--- a handle names no channel that was cleared
-pub never-cleared : (x : Client) (h o : Handle) (p : Phase) → standing_at x h ≡ Some (On o p) → is_cleared p ≡ false
-never-cleared x h o p at = go (under x.channels h) at
-  where
-    phase-is : (c d : Handle) (q r : Phase) → On c q ≡ On d r → q ≡ r
-    phase-is c d q r e = cc
-
-    by : (s : Standing) → standing_unless_cleared s ≡ Some (On o p) → is_cleared p ≡ false
-    by Searching e = absurd cc
-    by (On c q) e = pick (is_cleared q) refl e
-      where
-        pick : (b : Bool) → is_cleared q ≡ b → cond b None (Some (On c q)) ≡ Some (On o p) → is_cleared p ≡ false
-        pick true is e = absurd cc
-        pick false is e = ap is_cleared (sym (phase-is c o q p (some_is (On c q) (On o p) e))) ∙ is
-
-    go : (w : Option Channel) → option_and_then (λ (here : Channel). standing_unless_cleared here.standing) w ≡ Some (On o p) → is_cleared p ≡ false
-    go (Some ch) e = by ch.standing e
-    go None e = absurd cc
 
 pub clear-held : (kept : List ℕ) (i : ℕ) (n : Names) (x y : Client) (j : Joined) (h : Handle) (notices : List Notice) (sent : List Sending) → Attached x → ClientClears x h (Ok notices) sent y → HeldOn kept n x j → j.client ≡ i → HeldOn kept n y (sent_to i n sent j)
 clear-held kept i n x y j h notices sent attached clearing held mine =
@@ -73,17 +58,6 @@ clear-held kept i n x y j h notices sent attached clearing held mine =
         (holds-alike (Awaits j.lists kept) j.at_client n x z j.lists (cleared-elsewhere j.at_client x h o native rights at other) holds))
 
 -- ---- unsubscribe
-
-pub stands-as : (x : Client) (g : Handle) (d : Subscription) → StandsAs x g d → (under x.subscriptions g ≡ Some d) × (stands_in d.stage ≡ true)
-stands-as x g d is = go (under x.subscriptions g) refl is
-  where
-    pick : (e : Subscription) → under x.subscriptions g ≡ Some e → (b : Bool) → stands_in e.stage ≡ b → cond b (Some e) None ≡ Some d → (under x.subscriptions g ≡ Some d) × (stands_in d.stage ≡ true)
-    pick e there true stands f = (let same : e ≡ d = some_is e d f in (there ∙ ap (λ (z : Subscription). Some z) same, ap (λ (z : Subscription). stands_in z.stage) (sym same) ∙ stands))
-    pick e there false stands f = absurd cc
-
-    go : (o : Option Subscription) → under x.subscriptions g ≡ o → option_and_then (λ (s : Subscription). cond (stands_in s.stage) (Some s) None) o ≡ Some d → (under x.subscriptions g ≡ Some d) × (stands_in d.stage ≡ true)
-    go (Some e) there f = pick e there (stands_in e.stage) refl f
-    go None there f = absurd cc
 
 -- whether a channel is subscribed to on a circuit
 abbrev subscribed-to : Client → (on : Handle) → (channel : Handle) → Bool

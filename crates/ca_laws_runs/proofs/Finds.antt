@@ -16,27 +16,11 @@ use Rattle.ca_laws_circuit.specs.Flows.{Awaits, MaySend, with_sent}
 use Rattle.ca_laws_circuit.specs.Held.{HoldAlike, Holds, is_asked, is_subscribed}
 use Rattle.ca_laws_circuit.proofs.Alike.{client-itself, holds-alike, restood, sending-alike}
 use Rattle.ca_laws_circuit.proofs.Creates.{create-keeps, create-may}
-use Rattle.ca_laws_circuit.proofs.Others.{fails-anywhere, fails-elsewhere, fails-searched}
-use Rattle.ca_laws_circuit.proofs.Tables.{wire-under}
+use Rattle.ca_model_client.proofs.Standings.{fails-anywhere, fails-elsewhere, fails-searched}
+use Rattle.ca_model_client.proofs.Tables.{wire-under}
 use Rattle.ca_laws_runs.specs.Circuit.{AreNumbered, HeldOn, sent_to, stamped}
 use Rattle.ca_laws_runs.proofs.Sending.{none-sent-to, one-sent}
-
--- what a search reply finds is searched for
-pub searched-is : (cid : ℕ) (x : Client) (h : Handle) (here : Channel) → searched_by cid x ≡ Some (h, here) → (under x.channels h ≡ Some here) × (here.standing ≡ Searching)
-searched-is cid x h here is = go (by_wire x.channels cid) refl is
-  where
-    stands : (s : Standing) → is_searched s ≡ true → s ≡ Searching
-    stands Searching f = refl
-    stands (On c p) f = absurd cc
-
-    pick : (e : Handle × Channel) → by_wire x.channels cid ≡ Some e → (b : Bool) → is_searched e.1.standing ≡ b → cond b (Some e) None ≡ Some (h, here) → (under x.channels h ≡ Some here) × (here.standing ≡ Searching)
-    pick e found true yes_it f =
-        subst (λ (z : Handle × Channel). (under x.channels z.0 ≡ Some z.1) × (z.1.standing ≡ Searching)) (some_is e (h, here) f) ((wire-under x.channels cid e found).0, stands e.1.standing yes_it)
-    pick e found false no_it f = absurd cc
-
-    go : (o : Option (Handle × Channel)) → by_wire x.channels cid ≡ o → option_and_then (λ (e : Handle × Channel). cond (is_searched e.1.standing) (Some e) None) o ≡ Some (h, here) → (under x.channels h ≡ Some here) × (here.standing ≡ Searching)
-    go (Some e) found f = pick e found (is_searched e.1.standing) refl f
-    go None found f = absurd cc
+use Rattle.ca_model_client.proofs.Standings.{searched-is}
 
 module _ (kept : List ℕ) (i : ℕ) (n : Names) (x : Client) (a : Joined) (held : HeldOn kept n x a) (mine : a.client ≡ i) where
   silent : (z : Client) → HoldAlike a.at_client x z → HeldOn kept n z (sent_to i n [] a)

@@ -9,7 +9,8 @@ use Rattle.ca_model.specs.History.{Intent}
 use Rattle.ca_model.specs.History as history
 use Rattle.ca_model_world.specs.ClientEvents.{HappensClear, HappensRead, HappensSubscribe, HappensUnsubscribe, HappensWrite, HappensWriteNotify, Outcomes, cancelled, lines_of}
 use Rattle.ca_model_world.specs.World.{ClientSide, Names, World}
-use Rattle.ca_laws_circuit.specs.Held.{Attached, MeanToSubscribe, with_request, with_subscription}
+use Rattle.ca_laws_circuit.specs.Held.{MeanToSubscribe, with_request, with_subscription}
+use Rattle.ca_model_client.specs.Placed.{Attached}
 use Rattle.ca_laws_runs.specs.Circuit.{AreGiven, HeldAt, sent_to}
 use Rattle.ca_laws_runs.proofs.Calls.{put-held, read-held, subscribe-held, write-held}
 use Rattle.ca_laws_runs.proofs.Ending.{clear-held, unsubscribe-held}

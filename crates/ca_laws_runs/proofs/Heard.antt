@@ -20,17 +20,19 @@ use Rattle.ca_model.specs.Speech.{Is}
 use Rattle.ca_model_world.specs.ClientEvents.{channel_number, intent_of}
 use Rattle.ca_model_world.specs.World.{Names}
 use Rattle.ca_laws_circuit.specs.Flows.{Awaits, Flows, MaySendAll, with_all_sent, with_heard, with_sent}
-use Rattle.ca_laws_circuit.specs.Held.{Attached, HoldAlike, Holds, MeanToSubscribe, clear_of, event_add_of, is_asked, is_subscribed}
+use Rattle.ca_laws_circuit.specs.Held.{HoldAlike, Holds, MeanToSubscribe, clear_of, event_add_of, is_asked, is_subscribed}
+use Rattle.ca_model_client.specs.Placed.{Attached}
 use Rattle.ca_laws_circuit.proofs.Alike.{client-itself, holds-alike, restood}
 use Rattle.ca_laws_circuit.proofs.Answered.{answered-heard}
 use Rattle.ca_laws_circuit.proofs.Ended.{failure-heard}
 use Rattle.ca_laws_circuit.proofs.Ends.{answered-elsewhere, gone-elsewhere, phase-elsewhere}
-use Rattle.ca_laws_circuit.proofs.Heard.{channel-on, holds-heard, removal-heard}
+use Rattle.ca_laws_circuit.proofs.Heard.{holds-heard, removal-heard}
+use Rattle.ca_model_client.proofs.Standings.{channel-on}
 use Rattle.ca_laws_circuit.proofs.Lives.{doomed-heard, live-heard}
 use Rattle.ca_laws_circuit.proofs.Many.{none-sent}
 use Rattle.ca_laws_circuit.proofs.Marks.{at-filter}
 use Rattle.ca_laws_circuit.proofs.Others.{left-elsewhere, passes-alike}
-use Rattle.ca_laws_circuit.proofs.Tables.{held-under}
+use Rattle.ca_model_client.proofs.Tables.{held-under}
 use Rattle.ca_laws_runs.specs.Circuit.{IsKnown, stamped}
 
 -- ---- many messages on one circuit

@@ -21,8 +21,9 @@ use Rattle.ca_model_world.specs.World.{Names}
 use Rattle.ca_laws_circuit.specs.Flows.{Awaits}
 use Rattle.ca_laws_circuit.specs.Held.{has_id, is_subscribed}
 use Rattle.ca_laws_circuit.proofs.Ended.{confirmation-heard, confirmed-is}
-use Rattle.ca_laws_circuit.proofs.Ends.{on-one, request-elsewhere, subscription-elsewhere}
-use Rattle.ca_laws_circuit.proofs.Handles.{not-same, same-is}
+use Rattle.ca_laws_circuit.proofs.Ends.{request-elsewhere, subscription-elsewhere}
+use Rattle.ca_model_client.proofs.Standings.{on-one}
+use Rattle.ca_model_client.proofs.Handles.{not-same, same-is}
 use Rattle.ca_laws_circuit.proofs.Heard.{answered-is, request-over}
 use Rattle.ca_laws_circuit.proofs.Refused.{heard-is, refusal-heard}
 use Rattle.ca_laws_runs.specs.Circuit.{IsKnown}

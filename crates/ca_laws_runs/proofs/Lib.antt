@@ -13,12 +13,7 @@ pub mod ClientSteps
 pub mod Servers
 pub mod Handled
 pub mod ServerSteps
-pub mod Thinner
 pub mod Named
-pub mod Placed
-pub mod Letting
-pub mod Changes
-pub mod Hearing
 pub mod Stands
 pub mod ClientsKeep
 pub mod ClientsMore

@@ -17,29 +17,16 @@ use Rattle.ca_model_world.specs.ClientEvents.{meant_by, place_of}
 use Rattle.ca_model_world.specs.World.{Names}
 use Rattle.ca_laws_circuit.specs.Held.{with_request, with_subscription}
 use Rattle.ca_laws_circuit.proofs.Calls.{meant-own}
-use Rattle.ca_laws_circuit.proofs.Handles.{same-is, same-itself}
-use Rattle.ca_laws_circuit.proofs.Tables.{held-back, held-few}
-use Rattle.ca_laws_runs.specs.Circuit.{AreGiven, WasGiven}
+use Rattle.ca_model_client.proofs.Handles.{same-is, same-itself}
+use Rattle.ca_model_client.proofs.Tables.{held-back, held-few}
+use Rattle.ca_laws_runs.specs.Circuit.{AreGiven}
+use Rattle.ca_model_client.specs.Placed.{WasGiven}
 use Rattle.ca_laws_runs.specs.Client.{IsNamed}
 use Rattle.ca_laws_runs.proofs.Sending.{new-name, place-passes}
-use Rattle.ca_laws_runs.proofs.Thinner.{IsThinner, given-held, given-own, given-thin, thin-itself, thin-then}
+use Rattle.ca_model_client.proofs.Thinner.{IsThinner, given-held, given-own, given-thin, thin-itself, thin-then}
+use Rattle.ca_model_client.proofs.Thinner.{Thins}
 
 -- ---- all three tables of a client
-
-pub record Thins (x y : Client) : Type 0 where
-  pub channels : IsThinner x.channels y.channels
-  pub requests : IsThinner x.requests y.requests
-  pub subscriptions : IsThinner x.subscriptions y.subscriptions
-
-pub thins-itself : (x : Client) → Thins x x
-thins-itself x = record { channels = thin-itself x.channels; requests = thin-itself x.requests; subscriptions = thin-itself x.subscriptions }
-
-pub thins-then : (x y z : Client) → Thins x y → Thins y z → Thins x z
-thins-then x y z a b = record {
-  channels = thin-then x.channels y.channels z.channels a.channels b.channels;
-  requests = thin-then x.requests y.requests z.requests a.requests b.requests;
-  subscriptions = thin-then x.subscriptions y.subscriptions z.subscriptions a.subscriptions b.subscriptions;
-}
 
 few-as : (a b : ℕ) → b ≡ a → a ≤ arena_slots → b ≤ arena_slots
 few-as a b same le = omega (arith, same, le)

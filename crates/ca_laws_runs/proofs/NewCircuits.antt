@@ -20,10 +20,10 @@ use Rattle.ca_laws_circuit.specs.Flows.{Awaits, Flows, with_all_sent, with_sent}
 use Rattle.ca_laws_circuit.specs.Held.{Holds, NoneAsked, create_of, waiting_on}
 use Rattle.ca_laws_circuit.proofs.Connects.{connects-holds, connects-may, new-holds, serving-keeps, serving-may}
 use Rattle.ca_laws_circuit.proofs.Flows.{flows-sent}
-use Rattle.ca_laws_circuit.proofs.Handles.{same-itself}
+use Rattle.ca_model_client.proofs.Handles.{same-itself}
 use Rattle.ca_laws_circuit.proofs.Many.{flows-all-sent}
 use Rattle.ca_laws_circuit.proofs.Marks.{at-filter}
-use Rattle.ca_laws_circuit.proofs.Tables.{held-under}
+use Rattle.ca_model_client.proofs.Tables.{held-under}
 use Rattle.ca_laws_runs.specs.Circuit.{AreCids, HeldAt, HeldOn, sent_to, stamped}
 use Rattle.ca_laws_runs.specs.Client.{IsSound}
 use Rattle.ca_laws_runs.specs.Clients.{ClientsStand}

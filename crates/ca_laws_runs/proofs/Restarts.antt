@@ -22,11 +22,12 @@ use Rattle.ca_laws_circuit.specs.Held.{HoldAlike}
 use Rattle.ca_laws_circuit.proofs.Alike.{client-itself, holds-alike}
 use Rattle.ca_laws_runs.specs.Circuit.{AreNumbered, HeldAt, HeldOn, sent_to, stamped}
 use Rattle.ca_laws_runs.specs.Clients.{ClientsStand}
-use Rattle.ca_laws_runs.proofs.ClientsMore.{received-keeps}
+use Rattle.ca_model_client.proofs.Hearing.{received-keeps}
 use Rattle.ca_laws_runs.proofs.Finds.{found-held}
 use Rattle.ca_laws_runs.proofs.Moves.{closed-held}
 use Rattle.ca_laws_runs.proofs.Sending.{none-sent-to, with_up}
-use Rattle.ca_laws_runs.proofs.Worlds.{after-call, number-or, set-there}
+use Rattle.ca_laws_runs.proofs.Worlds.{after-call}
+use Rattle.ca_model_client.proofs.Thinner.{number-or, set-there}
 
 -- ---- a client begins again
 

@@ -17,8 +17,9 @@ use Rattle.ca_model_world.specs.World.{Joined, Names}
 use Rattle.ca_laws_circuit.specs.Flows.{Awaits, MaySend, with_sent}
 use Rattle.ca_laws_circuit.specs.Held.{Holds, IsNew}
 use Rattle.ca_laws_circuit.proofs.Flows.{flows-sent}
-use Rattle.ca_laws_circuit.proofs.Handles.{same-is}
-use Rattle.ca_laws_runs.specs.Circuit.{AreCids, AreGiven, HeldOn, WasGiven, sent_to, stamped}
+use Rattle.ca_model_client.proofs.Handles.{same-is}
+use Rattle.ca_laws_runs.specs.Circuit.{AreCids, AreGiven, HeldOn, sent_to, stamped}
+use Rattle.ca_model_client.specs.Placed.{WasGiven}
 
 -- a circuit with these messages of its client
 abbrev pub with_up : List Sent → Joined → Joined

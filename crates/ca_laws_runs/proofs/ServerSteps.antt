@@ -16,7 +16,8 @@ use Rattle.ca_model_world.specs.World.{Joined, Names, ServerSide, World, with_ci
 use Rattle.ca_laws_runs.specs.Circuit.{HeldAt, HeldOn, IsNext}
 use Rattle.ca_laws_runs.proofs.Handled.{handled-held, like-held, mapped-held, numbers-like, writes-like}
 use Rattle.ca_laws_runs.proofs.Servers.{closed-server, ending-client, server-held}
-use Rattle.ca_laws_runs.proofs.Worlds.{circuit-changed, set-there}
+use Rattle.ca_laws_runs.proofs.Worlds.{circuit-changed}
+use Rattle.ca_model_client.proofs.Thinner.{set-there}
 
 closed-next : (kept now : List ℕ) (c : Circuit) (k : Knows) (m : Fields) (replies : List Fields) → IsNext kept now c k m replies → IsNext kept now (record c { server_open = false }) k m replies
 closed-next kept now c k m replies h = record { s = h.s; at = h.at; is = h.is; fits = h.fits; writes = h.writes; were = h.were; gone = h.gone; over = h.over }

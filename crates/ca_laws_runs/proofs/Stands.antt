@@ -12,14 +12,14 @@ use Rattle.ca_model.specs.Server.{Server}
 use Rattle.ca_model_world.specs.ClientEvents.{Outcomes, client_after, client_closed}
 use Rattle.ca_model_world.specs.ServerEvents.{ending, server_after, server_closed}
 use Rattle.ca_model_world.specs.World.{ClientSide, Joined, Names, ServerSide, World}
-use Rattle.ca_laws_circuit.proofs.Handles.{same-itself}
+use Rattle.ca_model_client.proofs.Handles.{same-itself}
 use Rattle.ca_laws_runs.specs.Circuit.{HaveHandles, sent_to}
 use Rattle.ca_laws_runs.specs.Client.{IsSound}
 use Rattle.ca_laws_runs.specs.Clients.{ClientsStand}
 use Rattle.ca_laws_runs.proofs.Handled.{Like}
-use Rattle.ca_laws_runs.proofs.Letting.{KeepsBut}
+use Rattle.ca_model_client.proofs.Letting.{KeepsBut}
 use Rattle.ca_laws_runs.proofs.Named.{named-thins}
-use Rattle.ca_laws_runs.proofs.Placed.{Keeps}
+use Rattle.ca_model_client.proofs.Placed.{Keeps}
 
 pub sound-kept : (n : Names) (x y : Client) → Keeps x y → IsSound n x → IsSound n y
 sound-kept n x y keeps s = record { named = named-thins n x y keeps.thins s.named; placed = keeps.placed s.placed }

@@ -18,7 +18,7 @@ use Rattle.ca_laws_circuit.specs.Flows.{Awaits, MaySendAll, with_all_sent, with_
 use Rattle.ca_laws_circuit.specs.Held.{Holds}
 use Rattle.ca_laws_circuit.proofs.Alike.{client-then, holds-alike, sending-alike}
 use Rattle.ca_laws_circuit.proofs.Flows.{flows-heard}
-use Rattle.ca_laws_circuit.proofs.Handles.{same-itself}
+use Rattle.ca_model_client.proofs.Handles.{same-itself}
 use Rattle.ca_laws_circuit.proofs.Many.{flows-all-sent}
 use Rattle.ca_laws_runs.specs.Circuit.{AreCids, HeldOn, sent_to, stamped}
 use Rattle.ca_laws_runs.proofs.Heard.{Did}

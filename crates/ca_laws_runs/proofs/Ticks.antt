@@ -30,14 +30,15 @@ use Rattle.ca_laws_circuit.specs.Held.{HoldAlike}
 use Rattle.ca_laws_circuit.proofs.Alike.{client-itself}
 use Rattle.ca_laws_circuit.proofs.Connects.{serving-may}
 use Rattle.ca_laws_circuit.proofs.Flows.{flows-sent}
-use Rattle.ca_laws_circuit.proofs.Handles.{same-itself, same-not}
-use Rattle.ca_laws_circuit.proofs.Tables.{at-find}
+use Rattle.ca_model_client.proofs.Handles.{same-itself, same-not}
+use Rattle.ca_model_client.proofs.Tables.{at-find}
 use Rattle.ca_laws_runs.specs.Circuit.{HeldAt, HeldOn, sent_to, stamped}
 use Rattle.ca_laws_runs.proofs.ClientsMore.{left-by}
 use Rattle.ca_laws_runs.proofs.Moves.{flows-closed, on-connection-alike, others-held, served-held}
 use Rattle.ca_laws_runs.proofs.Restarts.{sent-after}
 use Rattle.ca_laws_runs.proofs.Sending.{with_up}
-use Rattle.ca_laws_runs.proofs.Worlds.{number-or, other-client, set-there}
+use Rattle.ca_laws_runs.proofs.Worlds.{other-client}
+use Rattle.ca_model_client.proofs.Thinner.{number-or, set-there}
 
 serves-echo : Suits history.OfCircuit (bare command.Echo)
 serves-echo history.Create e = (let f : ◌≡◌ {A = ℕ} 23 18 = e in omega (arith, f))

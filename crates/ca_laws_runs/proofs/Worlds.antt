@@ -12,21 +12,10 @@ use Rattle.ca_model.specs.Client.{Client}
 use Rattle.ca_model.specs.History.{Sent}
 use Rattle.ca_model_world.specs.ClientEvents.{Outcomes, client_after, refused}
 use Rattle.ca_model_world.specs.World.{ClientSide, Joined, Names, World, with_circuit, with_client}
-use Rattle.ca_laws_circuit.proofs.Settled.{three-ways}
+use Rattle.ca_model_client.proofs.Thinner.{three-ways}
 use Rattle.ca_laws_runs.specs.Circuit.{HeldAt, HeldOn, sent_to, stamped}
 use Rattle.ca_laws_runs.proofs.Sending.{with_up}
-
-pub set-there : {A : Type 0} (xs : List A) (i : ℕ) (y : A) → i < length xs → At (slice_set xs i y) i y
-set-there [] i y lt = absurd (omega (arith, lt))
-set-there (z ∷ xs) zero y lt = refl
-set-there (z ∷ xs) (suc i) y lt = set-there xs i y (omega (arith, lt))
-
-pub number-or : (a b : ℕ) → (a ≡ b) ⊎ (a ≡ b → ⊥)
-number-or a b = elim (three-ways a b) [
-  | inl lt ↦ inr (λ e. omega (arith, lt, e))
-  | inr (inl is) ↦ inl is
-  | inr (inr lt) ↦ inr (λ e. omega (arith, lt, e))
-]
+use Rattle.ca_model_client.proofs.Thinner.{number-or, set-there}
 
 -- a circuit of another client
 pub other-client : (kept : List ℕ) (i : ℕ) (n : Names) (m : Names) (x : Client) (sent : List Sending) (j : Joined) → (j.client ≡ i → ⊥) → HeldOn kept n x j → HeldOn kept n x (sent_to i m sent j)

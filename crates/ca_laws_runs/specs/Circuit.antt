@@ -25,6 +25,7 @@ use Rattle.ca_monitor.specs.Subscriptions.{confirmed_by}
 use Rattle.ca_requests.specs.Meaning.{QuotesHeader}
 use Rattle.ca_wire.specs.declared.header.Header.{Header}
 use Rattle.ca_wire.specs.Fields.{Fields}
+use Rattle.ca_model_client.specs.Placed.{WasGiven}
 
 -- a message as the world stamps it
 abbrev pub stamped : Names → Sending → Sent
@@ -45,10 +46,6 @@ pub record HeldOn (kept : List ℕ) (n : Names) (x : Client) (j : Joined) : Type
   pub flows : Flows (Awaits j.lists kept) j.lists
   pub cids : j.lists.client_open ≡ true → AreCids n j.lists
   pub holds : j.lists.client_open ≡ true → Holds (Awaits j.lists kept) j.at_client n x j.lists
-
--- The table gave this handle.
-abbrev pub WasGiven : {T : Type 0} → Table T → Handle → Type 0
-WasGiven t h = h.generation ≤ (place_at t h.index).generation
 
 -- Names name only what the table gave.
 abbrev pub AreGiven : {T : Type 0} → List (Handle × Intent) → Table T → Type 0

@@ -4,8 +4,8 @@ use Rattle.std.specs.Prelude.{Ok, filter, option_map}
 use Rattle.ca_arena.specs.Arena.{Place}
 use Rattle.ca_arena.specs.declared.handle.Handle.{Handle}
 use Rattle.ca_ids.specs.Table.{Table, same_handle, under, with_each, with_each_from}
-use Rattle.ca_laws_circuit.proofs.Handles.{not-same, same-is}
-use Rattle.ca_laws_circuit.proofs.Tables.{at-under, changed-other, changed-own, held-other, place, under-at}
+use Rattle.ca_model_client.proofs.Handles.{not-same, same-is}
+use Rattle.ca_model_client.proofs.Tables.{at-under, changed-other, changed-own, held-other, place, under-at}
 use Rattle.ca_records.specs.declared.puts.Put.{Put}
 use Rattle.ca_records.specs.Puts.{Record, WaitingPut, without_puts, withdrawn}
 use Rattle.ca_text.specs.Place.{At}

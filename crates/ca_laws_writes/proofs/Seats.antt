@@ -4,8 +4,8 @@ use Rattle.std.specs.Prelude.{is_some, map, option_map, unwrap_or}
 use Rattle.std.proofs.lemmas.List.{length-append}
 use Rattle.ca_arena.specs.declared.handle.Handle.{Handle}
 use Rattle.ca_ids.specs.Table.{same_handle, under}
-use Rattle.ca_laws_circuit.proofs.Handles.{not-same}
-use Rattle.ca_laws_circuit.proofs.Tables.{all-freed-there, freed-other}
+use Rattle.ca_model_client.proofs.Handles.{not-same}
+use Rattle.ca_model_client.proofs.Tables.{all-freed-there, freed-other}
 use Rattle.ca_records.specs.declared.puts.Put.{Put}
 use Rattle.ca_records.specs.Puts.{Record, withdrawn}
 use Rattle.ca_text.specs.Place.{At}

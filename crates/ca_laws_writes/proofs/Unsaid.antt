@@ -6,7 +6,7 @@ use Rattle.ca_arena.specs.declared.handle.Handle.{Handle}
 use Rattle.ca_dbr.specs.Elements.{Elements}
 use Rattle.ca_ids.specs.Table.{same_handle}
 use Rattle.ca_link.specs.Link.{with_rest}
-use Rattle.ca_laws_circuit.proofs.Handles.{same-itself}
+use Rattle.ca_model_client.proofs.Handles.{same-itself}
 use Rattle.ca_records.specs.declared.puts.Put.{Put}
 use Rattle.ca_records.specs.Puts.{Record, withdrawn}
 use Rattle.ca_text.specs.Place.{At}

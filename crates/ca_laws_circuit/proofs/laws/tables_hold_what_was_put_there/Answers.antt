@@ -1,4 +1,4 @@
-use Rattle.ca_laws_circuit.proofs.Tables.{all-back, all-freed-back, all-freed-there, all-there, changed-back, changed-other, changed-own, freed-back, freed-other, given-fresh, held-back, held-other, held-own, one-by-wire, under-wire, wire-under}
+use Rattle.ca_model_client.proofs.Tables.{all-back, all-freed-back, all-freed-there, all-there, changed-back, changed-other, changed-own, freed-back, freed-other, given-fresh, held-back, held-other, held-own, one-by-wire, under-wire, wire-under}
 use Rattle.ca_laws_circuit.proofs.laws.tables_hold_what_was_put_there.Goals as goal
 
 pub returns : goal.returns

@@ -9,6 +9,9 @@ use Rattle.ca_ids.specs.Wire.{wire_of}
 use Rattle.ca_model.specs.Client.{Channel, Client, Searching}
 use Rattle.ca_model.specs.ClientCalls.{ClientOpens, Opening, opened}
 use Rattle.ca_client_core.proofs.Openings.{client-opened, opened-is, searched-fresh}
+use Rattle.std.proofs.Common.{◌≡◌, sym, ◌⊎◌}
+use Rattle.ca_client_core.specs.Sound.{IsSound}
+use Rattle.ca_client_core.proofs.Placing.{placed-held, refused-same}
 use Rattle.ca_client_core.proofs.client.ClientCore.open.Goals as goal
 
 pub invariant_of-self-2 : goal.invariant_of-self-2
@@ -18,13 +21,15 @@ invariant_of-self-2 c =
     let fresh_here : holds c.number-cid.result c.reserve.new.self.entries ≡ false =
     ap (λ (n : ℕ). holds n c.reserve.new.self.entries) cid
     ∙ ap (holds (wire_of q)) c.in_ok-reserve.ensures.entries
-    ∙ searched-fresh c.self.inside.channels c.self.inside.searches.entries q c.in-Ok.ensures.0 c.self.invariant.searched in
+    ∙ searched-fresh c.self.inside.channels c.self.inside.searches.entries q c.in-Ok.ensures.0 c.self.invariant.client.searched in
     let more : c.insert.new.self.entries ≡ c.self.inside.searches.entries ++ (wire_of q, c.new-2.result) ∷ [] =
     c.in-Ok-insert.ensures.entries
     ∙ insert_entry-new nat_eq c.reserve.new.self c.number-cid.result c.new-2.result (not-held c.number-cid.result c.reserve.new.self.entries fresh_here)
     ∙ ap (λ (es : List (ℕ × search.Channel)). es ++ (c.number-cid.result, c.new-2.result) ∷ []) c.in_ok-reserve.ensures.entries
     ∙ ap (λ (n : ℕ). c.self.inside.searches.entries ++ (n, c.new-2.result) ∷ []) cid in
-    client-opened c.self.inside.channels c.open.new.self c.self.inside.searches.entries c.insert.new.self.entries q c.new.result c.new-2.result c.in-Ok.ensures.0 c.in-Ok.ensures.1 more c.self.invariant
+    let kept = client-opened c.self.inside.channels c.open.new.self c.self.inside.searches.entries c.insert.new.self.entries q c.new.result c.new-2.result c.in-Ok.ensures.0 c.in-Ok.ensures.1 more c.self.invariant.client in
+    record { client = kept; placed =
+    placed-held c.self.inside.channels c.self.inside.requests.table c.self.inside.monitors c.self.inside.circuits c.self.invariant.placed q c.new.result c.open.new.self (ap (λ (d : Channel). d.standing) c.new.ensures) c.in-Ok.ensures.0 c.in-Ok.ensures.1 }
 
 pub returns : goal.returns
 returns c =
@@ -34,7 +39,7 @@ returns c =
     let fresh_here : holds c.number-cid.result c.reserve.new.self.entries ≡ false =
     ap (λ (n : ℕ). holds n c.reserve.new.self.entries) cid
     ∙ ap (holds (wire_of q)) c.in_ok-reserve.ensures.entries
-    ∙ searched-fresh c.self.inside.channels c.self.inside.searches.entries q c.in-Ok.ensures.0 c.self.invariant.searched in
+    ∙ searched-fresh c.self.inside.channels c.self.inside.searches.entries q c.in-Ok.ensures.0 c.self.invariant.client.searched in
     let named : c.in_ok-own.own.items ≡ c.args.name.now = c.in_ok-own.ensures.items ∙ c.bytes.ensures.bytes ∙ c.in_ok-name.ensures.0 in
     let also : c.in_ok-searched.searched.items ≡ c.args.name.now = c.in_ok-searched.ensures.items ∙ c.bytes-2.ensures.bytes ∙ c.in_ok-name.ensures.0 in
     let channel : c.new.result ≡ record { name = c.args.name.now; priority = c.args.priority; standing = Searching } =
@@ -66,3 +71,10 @@ returns c =
     opened-is x a q c.max-moment.result c.open.new.self c.insert.new.self.entries c.max-moment.ensures (c.in-Ok.ensures.1 ∙ ap (λ (d : Channel). with_held q d i.channels) channel) more in
     subst (λ (y : Client). ClientOpens y a (Ok q) [] left) c.self.view_is
     ((c.in_ok-name.ensures.1, c.if-priority-gt-PRIORITY_LIMIT.false), c.in-Ok.ensures.0, (refl, is))
+
+pub invariant_of-self-in-Err : goal.invariant_of-self-in-Err
+invariant_of-self-in-Err c =
+    let i = c.self.inside in
+    let same : c.open.new.self ≡ i.channels = refused-same i.channels c.open.new.self c.new.result _ c.in-Err.refusal c.in-Err.ensures in
+    subst (λ t. IsSound t c.reserve.new.self.entries i.requests.table i.monitors i.circuits) (sym same)
+        (subst (λ es. IsSound i.channels es i.requests.table i.monitors i.circuits) (sym c.in_ok-reserve.ensures.entries) c.self.invariant)

@@ -7,6 +7,9 @@ use Rattle.ca_client_core.specs.Asks.{with_message}
 use Rattle.ca_client_core.specs.Lives.{live_of}
 use Rattle.ca_client_core.specs.Puts.{put_message}
 use Rattle.ca_client_core.proofs.Requesting.{asks-or}
+use Rattle.std.proofs.Common.{subst, sym}
+use Rattle.ca_model.specs.Client.{Client}
+use Rattle.ca_model_client.specs.Placed.{WasLive}
 use Rattle.ca_client_core.proofs.client.ClientCore.put.Goals as goal
 
 pub returns : goal.returns
@@ -17,3 +20,6 @@ returns c =
     c.in_ok-queue_value.ensures.ok
     ∙ ap (λ (n : ℕ). with_message l.circuit (put_message command.WriteNotify l v n) c.args.self.now) (c.new-id.ensures ∙ c.number.ensures ∙ c.of.ensures) in
     asks-or c.args.self.now c.queue_value.new.self c.issue_or_cut.new.self (length c.out_bytes-waiting.result.now) c.args.vacant c.args.channel c.args.live.circuit request.Put (put_message command.WriteNotify l v (wire_of c.args.vacant)) c.issue_or_cut.result (ap length c.out_bytes-waiting.ensures) says c.issue_or_cut.ensures
+
+pub issue_or_cut-requires : goal.issue_or_cut-requires
+issue_or_cut-requires c = subst (λ (y : Client). WasLive y c.args.channel c.args.live.circuit) (sym c.in_ok-queue_value.ensures.ok) c.requires.live

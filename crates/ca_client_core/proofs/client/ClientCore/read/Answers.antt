@@ -10,6 +10,7 @@ use Rattle.ca_model.specs.ClientCalls.{ClientReads, Shape, read_sent}
 use Rattle.ca_client_core.specs.Lives.{live_of}
 use Rattle.ca_client_core.proofs.Faults.{same-error}
 use Rattle.ca_client_core.proofs.Requesting.{reads-done, reads-full, reads-not, reads-out}
+use Rattle.ca_model_client.proofs.Changes.{live-there}
 use Rattle.ca_client_core.proofs.client.ClientCore.read.Goals as goal
 
 pub returns-in_err-live : goal.returns-in_err-live
@@ -45,3 +46,6 @@ returns c =
     let a : Shape = record { data_type = c.args.data_type; count = c.args.count } in
     let q = c.in-Some.request in
     reads-out x c.args.channel a q c.ask.new.self c.in_ok-live.ensures.1 (subst (λ (y : Client). MayGive y.requests q) c.self.view_is c.in-Some.ensures) c.in-Err.ensures
+
+pub ask-requires : goal.ask-requires
+ask-requires c = live-there c.args.self.now c.args.channel (live_of c.in_ok-live.live) c.in_ok-live.ensures.0

@@ -6,6 +6,8 @@ use Rattle.ca_search.specs.Searches as search
 use Rattle.ca_search.proofs.Entries.{held, one-removed}
 use Rattle.ca_model.specs.Client.{Channel, Client, without_channel}
 use Rattle.ca_client_core.proofs.Ended.{client-gone}
+use Rattle.ca_model_client.specs.Placed.{IsBare}
+use Rattle.ca_client_core.proofs.Placing.{placed-gone}
 use Rattle.ca_client_core.proofs.client.ClientCore.remove_channel.Goals as goal
 
 pub invariant_of-self : goal.invariant_of-self
@@ -18,7 +20,11 @@ invariant_of-self c =
     let out : ns ≡ without (wire_of h) es = c.shift_remove.ensures.entries ∙ one-removed c.number.result es ∙ ap (λ (n : ℕ). without n es) cid in
     let none : holds (wire_of h) ns ≡ false =
     ap (λ (n : ℕ). holds n ns) (sym cid) ∙ sym (held c.number.result ns) ∙ ap is_some c.shift_remove.ensures.updates.1 in
-    client-gone i.channels c.free.new.self es ns h c.free.ensures.after out none c.self.invariant
+    record {
+  client = client-gone i.channels c.free.new.self es ns h c.free.ensures.after out none c.self.invariant.client;
+  placed =
+    placed-gone c.self.inside.channels c.self.inside.requests.table c.self.inside.monitors c.self.inside.circuits c.self.invariant.placed h c.free.new.self (subst (λ (y : Client). IsBare h y) (sym c.self.view_is) c.requires) c.free.ensures.after;
+}
 
 pub returns : goal.returns
 returns c =

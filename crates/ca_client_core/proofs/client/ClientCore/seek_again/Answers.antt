@@ -4,6 +4,10 @@ use Rattle.ca_search.specs.Searcher.{with_one}
 use Rattle.ca_search.specs.Searches.{resumed}
 use Rattle.ca_model.specs.Client.{Channel, Searching}
 use Rattle.ca_client_core.proofs.Ended.{client-again}
+use Rattle.std.proofs.Common.{subst, sym}
+use Rattle.ca_model.specs.Client.{Client}
+use Rattle.ca_model_client.specs.Placed.{IsBare}
+use Rattle.ca_client_core.proofs.Placing.{placed-again}
 use Rattle.ca_client_core.proofs.client.ClientCore.seek_again.Goals as goal
 
 pub invariant_of-self : goal.invariant_of-self
@@ -14,4 +18,8 @@ invariant_of-self c =
     let ns = c.resume.new.searches.entries in
     let cid : c.number.result ≡ wire_of h = c.number.ensures ∙ c.of.ensures in
     let begins : ns ≡ with_one (resumed i.moment) (wire_of h) es = c.resume.ensures ∙ ap (λ (n : ℕ). with_one (resumed i.moment) n es) cid in
-    client-again i.channels c.bring_back.new.channels es ns (λ (here : Channel). record here { standing = Searching }) (resumed i.moment) h c.bring_back.ensures begins c.self.invariant
+    record {
+  client = client-again i.channels c.bring_back.new.channels es ns (λ (here : Channel). record here { standing = Searching }) (resumed i.moment) h c.bring_back.ensures begins c.self.invariant.client;
+  placed =
+    placed-again c.self.inside.channels c.self.inside.requests.table c.self.inside.monitors c.self.inside.circuits c.self.invariant.placed h c.bring_back.new.channels (subst (λ (y : Client). IsBare h y) (sym c.self.view_is) c.requires) c.bring_back.ensures;
+}

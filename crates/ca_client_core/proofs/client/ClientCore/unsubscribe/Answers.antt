@@ -9,6 +9,10 @@ use Rattle.ca_client_core.specs.declared.channel.Standing.TheVariants as standin
 use Rattle.ca_client_core.specs.declared.channel.Phase.{Phase}
 use Rattle.ca_client_core.specs.Forms.{native_of, standing_of}
 use Rattle.ca_client_core.proofs.Cancelling.{cancelled-live, cancelled-there, comes-to}
+use Rattle.ca_ids.specs.Table.{under}
+use Rattle.ca_model_client.specs.Placed.{WasLiveIn}
+use Rattle.ca_model_client.proofs.Standings.{stands-as}
+use Rattle.ca_client_core.proofs.Placing.{live-at, sound-staged}
 use Rattle.ca_client_core.proofs.client.ClientCore.unsubscribe.Goals as goal
 
 pub returns-in-Live : goal.returns-in-Live
@@ -56,3 +60,45 @@ returns-in-Leaving c =
     ap (λ t. record x { subscriptions = t }) (comes-to (Ended c.in-On.circuit) i.monitors c.end.new.self s d c.end.result stands c.end.ensures) in
     let made = cancelled-there x s d (Some (On c.in-On.circuit phase.Leaving)) left stands at refl is in
     subst (λ (y : Client). (sent : List Sending) × ClientUnsubscribes y s (Ok tt) sent left) c.self.view_is made
+
+pub invariant_of-self : goal.invariant_of-self
+invariant_of-self c =
+    let i = c.self.inside in
+    let x : Client = record {
+      peer = record { user = i.user.items; host = i.host.items };
+      servers = i.servers.items;
+      moment = i.moment;
+      channels = i.channels;
+      requests = i.requests.table;
+      subscriptions = i.monitors;
+      circuits = i.circuits;
+      order = i.order.items;
+      issued = i.requests.order;
+      searches = i.searches.entries;
+      beacons = i.beacons;
+    } in
+    let d = c.in-Some.found in
+    let s = c.args.subscription in
+    let stands : standing_under s i.monitors ≡ Some d = sym c.standing.ensures ∙ c.in-Some.is in
+    let found : c.standing-2.result ≡ Some (standing.On c.in-On.circuit c.in-On.phase) = c.in-Some-standing.is ∙ ap (λ (p : Standing). Some p) c.in-On.is in
+    let at : standing_at x d.channel ≡ Some (On c.in-On.circuit phase.Leaving) =
+    ap (λ (y : Client). standing_at y d.channel) c.self.view_is
+    ∙ ap (λ (e : Subscription). standing_at c.args.self.now e.channel) (sym c.found.view_is)
+    ∙ sym c.standing-2.ensures
+    ∙ ap (option_map standing_of) found
+    ∙ ap (λ (p : Phase). option_map standing_of (Some (standing.On c.in-On.circuit p))) c.in-Leaving.is in
+    sound-staged c.self.inside.channels c.self.inside.searches.entries c.self.inside.requests.table c.self.inside.monitors c.self.inside.circuits c.self.invariant (Ended c.in-On.circuit) c.in-On.circuit s d c.end.new.self (λ on. refl)
+        (stands-as x s d stands).0 (live-at x d.channel c.in-On.circuit phase.Leaving at refl)
+        (comes-to (Ended c.in-On.circuit) i.monitors c.end.new.self s d c.end.result stands c.end.ensures)
+
+pub cancel-requires-clause-live : goal.cancel-requires-clause-live
+cancel-requires-clause-live c =
+    let x = c.args.self.now in
+    let d = c.in-Some.found in
+    let found : c.standing-2.result ≡ Some (standing.On c.in-On.circuit c.in-On.phase) = c.in-Some-standing.is ∙ ap (λ (s : Standing). Some s) c.in-On.is in
+    let at : standing_at x d.channel ≡ Some (On c.in-On.circuit (phase.Live (native_of c.in-Live.native) c.in-Live.field-1)) =
+    ap (λ (e : Subscription). standing_at x e.channel) (sym c.found.view_is)
+    ∙ sym c.standing-2.ensures
+    ∙ ap (option_map standing_of) found
+    ∙ ap (λ (p : Phase). option_map standing_of (Some (standing.On c.in-On.circuit p))) c.in-Live.is in
+    live-at x d.channel c.in-On.circuit (phase.Live (native_of c.in-Live.native) c.in-Live.field-1) at refl

@@ -10,6 +10,7 @@ use Rattle.ca_model.specs.ClientCalls.{ClientPuts}
 use Rattle.ca_client_core.specs.Lives.{live_of}
 use Rattle.ca_client_core.proofs.Faults.{same-error}
 use Rattle.ca_client_core.proofs.Putting.{puts-done, puts-full, puts-not, puts-out}
+use Rattle.ca_model_client.proofs.Changes.{live-there}
 use Rattle.ca_client_core.proofs.client.ClientCore.write_notify.Goals as goal
 
 pub returns-in_err-live : goal.returns-in_err-live
@@ -34,3 +35,6 @@ pub returns-in-Err : goal.returns-in-Err
 returns-in-Err c =
     let q = c.in-Some.request in
     puts-out c.args.self.now c.args.channel (elements c.args.value.now) q c.put.new.self c.in_ok-live.ensures.1 (subst (λ (y : Client). MayGive y.requests q) c.self.view_is c.in-Some.ensures) c.in-Err.ensures
+
+pub put-requires-clause-live : goal.put-requires-clause-live
+put-requires-clause-live c = live-there c.args.self.now c.args.channel (live_of c.in_ok-live.live) c.in_ok-live.ensures.0

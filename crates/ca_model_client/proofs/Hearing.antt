@@ -1,5 +1,5 @@
 -- What the messages that a client reads keep of its channels' places, and its search replies, and a circuit that is connected.
-use Rattle.std.proofs.Common.{◌≡◌, ℕ, inl, inr, Bool, true, false, ◌&&◌, cond, eqb, List, [], Option, Some, None, refl, sym, ap, ◌∙◌, subst}
+use Rattle.std.proofs.Common.{◌≡◌, ℕ, inl, inr, Bool, true, false, ◌&&◌, cond, eqb, List, [], ◌∷◌, Option, Some, None, refl, sym, ap, ◌∙◌, subst}
 use Rattle.std.specs.Prelude.{is_none, option_and_then, option_map, unwrap_or}
 use Rattle.std.proofs.lemmas.Bool.{and_from, both_ways}
 use Rattle.ca_arena.specs.declared.handle.Handle.{Handle}
@@ -13,22 +13,23 @@ use Rattle.ca_wire.specs.declared.header.Header.{Header}
 use Rattle.ca_model.specs.Answers.{Notice, Sending}
 use Rattle.ca_model.specs.Ends.{Address, same_address}
 use Rattle.ca_model.specs.Client.{Channel, Client, ClientCircuit, Clearing, Connecting, Connection, Creating, Doomed, Leaving, Live, On, Phase, Searching, Standing, channel_on, circuit_to, connection_at, found_on, is_on_in, new_circuit, phase_on, searched_again, sending, with_requests, with_standing, without_channel}
-use Rattle.ca_model.specs.ClientEnds.{begun, creating, is_connecting, new_connection}
-use Rattle.ca_model.specs.Hears.{Answers, Completes, Effect, Fails, FindsAt, Hears, PutsOn, Updates, any_failed, clear_answered, confirmed, created, doing, failed, failing, found_at, heard_by, left, native_in, put_on, request_failed, rights_told, searched_by, subscription_failed, with_circuit, without_drained, without_request, without_subscription, write_failed}
+use Rattle.ca_model.specs.ClientEnds.{Receives, ReceivesAll, beacon_heard, begun, creating, is_connecting, new_connection}
+use Rattle.ca_model.specs.ClientEnds as ends
+use Rattle.ca_model.specs.Hears.{Answers, Completes, Effect, Fails, FindsAt, Hears, PutsOn, Updates, any_failed, becomes, clear_answered, confirmed, created, doing, failed, failing, found_at, heard_by, left, native_in, put_on, request_failed, rights_told, searched_by, subscription_failed, with_circuit, without_drained, without_request, without_subscription, write_failed}
 use Rattle.ca_model.specs.Hears as hears
-use Rattle.ca_laws_circuit.specs.Held.{WasLive, was_live}
-use Rattle.ca_laws_circuit.proofs.Clears.{is-on}
-use Rattle.ca_laws_circuit.proofs.Ends.{on-one}
-use Rattle.ca_laws_circuit.proofs.Handles.{handle-or, same-itself}
-use Rattle.ca_laws_circuit.proofs.Heard.{channel-on}
-use Rattle.ca_laws_circuit.proofs.Others.{fails-anywhere, fails-searched}
-use Rattle.ca_laws_circuit.proofs.Tables.{all-back, all-freed-back, all-there, changed-own, find-at, freed-back, given-none, held-back, held-other, held-own, held-under, one-value}
-use Rattle.ca_laws_runs.specs.Client.{IsPlaced}
-use Rattle.ca_laws_runs.proofs.Changes.{freed-keeps, keeps-phase, keeps-searches, on-handle, on-phase, over-requests}
-use Rattle.ca_laws_runs.proofs.Finds.{searched-is}
-use Rattle.ca_laws_runs.proofs.Letting.{KeepsBut}
-use Rattle.ca_laws_runs.proofs.Placed.{IsBare, Keeps, Links, bare-never, keeps-again, keeps-gone, keeps-itself, keeps-requests, keeps-sending, keeps-stood, keeps-subscriptions, keeps-then, options-agree, under-other}
-use Rattle.ca_laws_runs.proofs.Thinner.{thin-all, thin-all-freed, thin-freed, thin-itself}
+use Rattle.ca_model_client.specs.Placed.{IsBare, WasLive, was_live}
+use Rattle.ca_model_client.proofs.Standings.{is-on}
+use Rattle.ca_model_client.proofs.Standings.{on-one}
+use Rattle.ca_model_client.proofs.Handles.{handle-or, same-itself}
+use Rattle.ca_model_client.proofs.Standings.{channel-on}
+use Rattle.ca_model_client.proofs.Standings.{fails-anywhere, fails-searched}
+use Rattle.ca_model_client.proofs.Tables.{all-back, all-freed-back, all-there, changed-own, find-at, freed-back, given-none, held-back, held-other, held-own, held-under, one-value}
+use Rattle.ca_model_client.specs.Placed.{IsPlaced}
+use Rattle.ca_model_client.proofs.Changes.{freed-keeps, keeps-phase, keeps-searches, on-handle, on-phase, over-requests}
+use Rattle.ca_model_client.proofs.Standings.{searched-is}
+use Rattle.ca_model_client.proofs.Letting.{KeepsBut}
+use Rattle.ca_model_client.proofs.Placed.{Keeps, Links, bare-never, keeps-again, keeps-gone, keeps-itself, keeps-requests, keeps-sending, keeps-stood, keeps-subscriptions, keeps-then, options-agree, under-other}
+use Rattle.ca_model_client.proofs.Thinner.{thin-all, thin-all-freed, thin-freed, thin-itself}
 
 abbrev connection-of : Option ClientCircuit → Option Connection
 connection-of o = option_and_then (λ (d : ClientCircuit). d.connection) o
@@ -46,7 +47,7 @@ keeps-request q x = keeps-requests (with_freed q x.requests) x (thin-freed q x.r
 -- ---- channels
 
 module _ (c : Handle) (x : Client) where
-  rights-keeps : (m : Fields) (e : Effect) (o : Option (Handle × Phase)) → channel_on x c m.p1 ≡ o → e ≡ rights_told x c m o → Keeps x e.core
+  pub rights-keeps : (m : Fields) (e : Effect) (o : Option (Handle × Phase)) → channel_on x c m.p1 ≡ o → e ≡ rights_told x c m o → Keeps x e.core
   rights-keeps m e None at is = keeps-doing x x [] [] e is (keeps-itself x)
   rights-keeps m e (Some (h, Connecting)) at is = keeps-doing x x [] [] e is (keeps-itself x)
   rights-keeps m e (Some (h, Leaving)) at is = keeps-doing x x [] [] e is (keeps-itself x)
@@ -59,7 +60,7 @@ module _ (c : Handle) (x : Client) where
       let found = channel-on x c m.p1 h (Live n rights) at in
       keeps-doing x (with_standing (On c (Live n m.p2)) h x) [] [] e is (keeps-phase c h x found.0 (Live n rights) (Live n m.p2) found.1 found.3 refl (λ f. f))
 
-  created-keeps : (m : Fields) (e : Effect) (o : Option (Handle × Phase)) → channel_on x c m.p1 ≡ o → e ≡ created x c m o → Keeps x e.core
+  pub created-keeps : (m : Fields) (e : Effect) (o : Option (Handle × Phase)) → channel_on x c m.p1 ≡ o → e ≡ created x c m o → Keeps x e.core
   created-keeps m e None at is = keeps-doing x x [] [] e is (keeps-itself x)
   created-keeps m e (Some (h, Connecting)) at is = keeps-doing x x [] [] e is (keeps-itself x)
   created-keeps m e (Some (h, Live n rights)) at is = keeps-doing x x [] [] e is (keeps-itself x)
@@ -73,11 +74,11 @@ module _ (c : Handle) (x : Client) where
       keeps-doing x (with_standing (On c Clearing) h x) _ _ e is (keeps-phase c h x found.0 Doomed Clearing found.1 found.3 refl (λ f. refl))
 
   -- a channel in a phase that was not live has nothing attached
-  bare-so : (h : Handle) (ch : Channel) (p : Phase) → under x.channels h ≡ Some ch → ch.standing ≡ On c p → was_live p ≡ false → IsPlaced x → IsBare h x
+  pub bare-so : (h : Handle) (ch : Channel) (p : Phase) → under x.channels h ≡ Some ch → ch.standing ≡ On c p → was_live p ≡ false → IsPlaced x → IsBare h x
   bare-so h ch p there stands never placed =
       bare-never h x placed (λ w on is. subst (λ (z : Channel). is_on_in was_live on z ≡ false) (one-value x.channels h ch w there is) (fails-anywhere was_live on c ch p stands never))
 
-  failed-keeps : (m : Fields) (e : Effect) (o : Option (Handle × Phase)) → channel_on x c m.p1 ≡ o → e ≡ failed x o → Keeps x e.core
+  pub failed-keeps : (m : Fields) (e : Effect) (o : Option (Handle × Phase)) → channel_on x c m.p1 ≡ o → e ≡ failed x o → Keeps x e.core
   failed-keeps m e None at is = keeps-doing x x [] [] e is (keeps-itself x)
   failed-keeps m e (Some (h, Connecting)) at is = keeps-doing x x [] [] e is (keeps-itself x)
   failed-keeps m e (Some (h, Live n rights)) at is = keeps-doing x x [] [] e is (keeps-itself x)
@@ -91,7 +92,7 @@ module _ (c : Handle) (x : Client) where
       keeps-doing x (without_channel x h) [] [] e is (keeps-gone h x (bare-so h found.0 Doomed found.1 found.3 refl))
 
   -- the ids of a channel drain no more
-  drained-keeps : (h : Handle) → Keeps x (without_drained c h x)
+  pub drained-keeps : (h : Handle) → Keeps x (without_drained c h x)
   drained-keeps h =
       let test : Subscription → Bool = λ (s : Subscription). is_to h s && drains_in c s.stage in
       let y : Client = record x { subscriptions = monitor.channel_drained c h x.subscriptions } in
@@ -99,7 +100,7 @@ module _ (c : Handle) (x : Client) where
       (keeps-subscriptions (monitor.channel_drained c h x.subscriptions) x (thin-all-freed test x.subscriptions) (λ p g d on is drains. inl (d, (all-freed-back test x.subscriptions g d is).0, refl, drains)))
       (keeps-requests (request.channel_gone h x.requests) y (thin-all-freed (asks_on h) x.requests) (λ q r is. (r, (all-freed-back (asks_on h) x.requests q r is).0, refl, refl)))
 
-  drained-bare : (h : Handle) (ch : Channel) (p : Phase) → under x.channels h ≡ Some ch → ch.standing ≡ On c p → IsPlaced x → IsBare h (without_drained c h x)
+  pub drained-bare : (h : Handle) (ch : Channel) (p : Phase) → under x.channels h ≡ Some ch → ch.standing ≡ On c p → IsPlaced x → IsBare h (without_drained c h x)
   drained-bare h ch p there stands placed = record {
     requests = λ q r is same.
         let was = all-freed-back (asks_on h) x.requests q r is in
@@ -113,7 +114,7 @@ module _ (c : Handle) (x : Client) where
         (and_from (is_to h d) (drains_in c d.stage) (subst (λ (k : Handle). same_handle k h ≡ true) (sym same) (same-itself h)) (subst (λ (k : Handle). drains_in k d.stage ≡ true) (sym here) drains));
   }
 
-  answered-keeps : IsPlaced x → (m : Fields) (e : Effect) (o : Option (Handle × Phase)) → channel_on x c m.p2 ≡ o → e ≡ clear_answered x c o → Keeps x e.core
+  pub answered-keeps : IsPlaced x → (m : Fields) (e : Effect) (o : Option (Handle × Phase)) → channel_on x c m.p2 ≡ o → e ≡ clear_answered x c o → Keeps x e.core
   answered-keeps placed m e None at is = keeps-doing x x [] [] e is (keeps-itself x)
   answered-keeps placed m e (Some (h, Connecting)) at is = keeps-doing x x [] [] e is (keeps-itself x)
   answered-keeps placed m e (Some (h, Creating rights)) at is = keeps-doing x x [] [] e is (keeps-itself x)
@@ -128,7 +129,7 @@ module _ (c : Handle) (x : Client) where
       let y : Client = without_drained c h x in
       keeps-doing x (searched_again y h) [] [] e is (keeps-then x y (searched_again y h) (drained-keeps h) (keeps-again h y (λ p. drained-bare h found.0 Leaving found.1 found.3 placed)))
 
-  left-keeps : (m : Fields) (e : Effect) (o : Option (Handle × Phase)) → channel_on x c m.p1 ≡ o → e ≡ left x c o → Keeps x e.core
+  pub left-keeps : (m : Fields) (e : Effect) (o : Option (Handle × Phase)) → channel_on x c m.p1 ≡ o → e ≡ left x c o → Keeps x e.core
   left-keeps m e None at is = keeps-doing x x [] [] e is (keeps-itself x)
   left-keeps m e (Some (h, Connecting)) at is = keeps-doing x x [] [] e is (keeps-itself x)
   left-keeps m e (Some (h, Creating rights)) at is = keeps-doing x x [] [] e is (keeps-itself x)
@@ -143,7 +144,7 @@ module _ (c : Handle) (x : Client) where
 
   -- ---- what is read by an id
 
-  reply-keeps : (m : Fields) (e : Effect) (o : Option (Handle × Request)) → Answers x m o e → Keeps x e.core
+  pub reply-keeps : (m : Fields) (e : Effect) (o : Option (Handle × Request)) → Answers x m o e → Keeps x e.core
   reply-keeps m e None is = keeps-doing x x [] [] e is (keeps-itself x)
   reply-keeps m e (Some (q, r)) is = go r.stage is
     where
@@ -151,11 +152,11 @@ module _ (c : Handle) (x : Client) where
       go request.Open done = keeps-doing x (without_request q x) [] _ e done.2 (keeps-request q x)
       go request.Draining done = keeps-doing x (without_request q x) [] [] e done (keeps-request q x)
 
-  confirmed-keeps : (e : Effect) (o : Option Handle) → e ≡ confirmed x o → Keeps x e.core
+  pub confirmed-keeps : (e : Effect) (o : Option Handle) → e ≡ confirmed x o → Keeps x e.core
   confirmed-keeps e None is = keeps-doing x x [] [] e is (keeps-itself x)
   confirmed-keeps e (Some q) is = keeps-doing x (without_subscription q x) [] [] e is (freed-keeps q x)
 
-  update-keeps : (m : Fields) (e : Effect) (o : Option Handle) → Updates x m o e → Keeps x e.core
+  pub update-keeps : (m : Fields) (e : Effect) (o : Option Handle) → Updates x m o e → Keeps x e.core
   update-keeps m e None is = keeps-doing x x [] [] e is (keeps-itself x)
   update-keeps m e (Some q) is = keeps-doing x x [] _ e is.2 (keeps-itself x)
 
@@ -168,11 +169,11 @@ module _ (c : Handle) (x : Client) where
   write-keeps m e (Some (h, Clearing)) is = keeps-doing x x [] [] e is (keeps-itself x)
   write-keeps m e (Some (h, Doomed)) is = keeps-doing x x [] [] e is (keeps-itself x)
 
-  refused-keeps : (m : Fields) (e : Effect) (o : Option Handle) → e ≡ subscription_failed x m o → Keeps x e.core
+  pub refused-keeps : (m : Fields) (e : Effect) (o : Option Handle) → e ≡ subscription_failed x m o → Keeps x e.core
   refused-keeps m e None is = keeps-doing x x [] [] e is (keeps-itself x)
   refused-keeps m e (Some q) is = keeps-doing x (without_subscription q x) [] _ e is (freed-keeps q x)
 
-  any-keeps : (m : Fields) (e : Effect) (o : Option (Handle × Request)) → e ≡ any_failed x m o → Keeps x e.core
+  pub any-keeps : (m : Fields) (e : Effect) (o : Option (Handle × Request)) → e ≡ any_failed x m o → Keeps x e.core
   any-keeps m e None is = keeps-doing x x [] [] e is (keeps-itself x)
   any-keeps m e (Some (q, r)) is = go r.stage is
     where
@@ -180,7 +181,7 @@ module _ (c : Handle) (x : Client) where
       go request.Open done = keeps-doing x (without_request q x) [] _ e done (keeps-request q x)
       go request.Draining done = keeps-doing x x [] [] e done (keeps-itself x)
 
-  error-keeps : (m : Fields) (e : Effect) → Fails x c m e → Keeps x e.core
+  pub error-keeps : (m : Fields) (e : Effect) → Fails x c m e → Keeps x e.core
   error-keeps m e fails = elim fails [
     | inr not_whole ↦ keeps-doing x x [] [] e not_whole.1 (keeps-itself x)
     | inl whole ↦ by whole.0 (eqb whole.0.command 4) (eqb whole.0.command 1) whole.2
@@ -193,13 +194,13 @@ module _ (c : Handle) (x : Client) where
 
 -- ---- search replies
 
-circuit-there : (address : Address) (priority : ℕ) (x : Client) (e : Handle × ClientCircuit) → circuit_to address priority x ≡ Some e → under x.circuits e.0 ≡ Some e.1
+pub circuit-there : (address : Address) (priority : ℕ) (x : Client) (e : Handle × ClientCircuit) → circuit_to address priority x ≡ Some e → under x.circuits e.0 ≡ Some e.1
 circuit-there address priority x e is =
     let f = find-at (λ (w : Handle × ClientCircuit). same_address w.1.address address && eqb w.1.priority priority) (held x.circuits) e is in
     held-under x.circuits f.0 e f.1
 
 -- a channel that is searched for stands on a circuit: it waits if that is not connected
-found-keeps : (x : Client) (c h : Handle) (p : Phase) (here : Channel) → under x.channels h ≡ Some here → here.standing ≡ Searching → is_connecting p ≡ is_none (connection_at x c) → Keeps x (found_on c p h x)
+pub found-keeps : (x : Client) (c h : Handle) (p : Phase) (here : Channel) → under x.channels h ≡ Some here → here.standing ≡ Searching → is_connecting p ≡ is_none (connection_at x c) → Keeps x (found_on c p h x)
 found-keeps x c h p here there searched waits =
     let y : Client = with_standing (On c p) h x in
     keeps-then x y (found_on c p h x)
@@ -210,13 +211,13 @@ found-keeps x c h p here there searched waits =
     )))
     (keeps-searches y _)
 
-put-keeps : (x : Client) (c : Handle) (o : Option Connection) (h : Handle) (here : Channel) (e : Effect) → connection_at x c ≡ o → under x.channels h ≡ Some here → here.standing ≡ Searching → e ≡ put_on c o h here x → Keeps x e.core
+pub put-keeps : (x : Client) (c : Handle) (o : Option Connection) (h : Handle) (here : Channel) (e : Effect) → connection_at x c ≡ o → under x.channels h ≡ Some here → here.standing ≡ Searching → e ≡ put_on c o h here x → Keeps x e.core
 put-keeps x c None h here e at there searched is = keeps-doing x (found_on c Connecting h x) [] [] e is (found-keeps x c h Connecting here there searched (sym (ap is_none at)))
 put-keeps x c (Some conn) h here e at there searched is =
     keeps-doing x (found_on c (Creating 0) h x) _ [] e is (found-keeps x c h (Creating 0) here there searched (sym (ap is_none at)))
 
 -- one more circuit is wanted
-wanted-keeps : (x : Client) (c : Handle) (d : ClientCircuit) → d.connection ≡ None → MayGive x.circuits c → Keeps x (with_circuit c d x) × (connection_at (with_circuit c d x) c ≡ None)
+pub wanted-keeps : (x : Client) (c : Handle) (d : ClientCircuit) → d.connection ≡ None → MayGive x.circuits c → Keeps x (with_circuit c d x) × (connection_at (with_circuit c d x) c ≡ None)
 wanted-keeps x c d none may = (
   record {
     thins = record { channels = thin-itself x.channels; requests = thin-itself x.requests; subscriptions = thin-itself x.subscriptions };
@@ -247,7 +248,7 @@ wanted-keeps x c d none may = (
           ]))
     ]
 
-puts-keeps : (x : Client) (address : Address) (h : Handle) (here : Channel) (o : Option (Handle × ClientCircuit)) (e : Effect) → circuit_to address here.priority x ≡ o → under x.channels h ≡ Some here → here.standing ≡ Searching → PutsOn x address h here o e → Keeps x e.core
+pub puts-keeps : (x : Client) (address : Address) (h : Handle) (here : Channel) (o : Option (Handle × ClientCircuit)) (e : Effect) → circuit_to address here.priority x ≡ o → under x.channels h ≡ Some here → here.standing ≡ Searching → PutsOn x address h here o e → Keeps x e.core
 puts-keeps x address h here (Some (c, d)) e at there searched is =
     put-keeps x c d.connection h here e (ap connection-of (circuit-there address here.priority x (c, d) at)) there searched is
 puts-keeps x address h here None e at there searched is = elim is [
@@ -343,3 +344,33 @@ keeps-begun c d x there none = record {
               let waiting : is_connecting q ≡ true = p.waiting h ch c q here on_c ∙ ap (λ (o : Option ClientCircuit). is_none (connection-of o)) there ∙ ap is_none none in
               absurd (both_ways (is_on_in is_connecting c ch) pass (is-on is_connecting c ch q on_c ∙ waiting))
         ]
+
+-- ---- datagrams
+
+pub keeps-moment : (moment : ℕ) (x : Client) → Keeps x (record x { moment = moment })
+keeps-moment moment x = record {
+  thins = record { channels = thin-itself x.channels; requests = thin-itself x.requests; subscriptions = thin-itself x.subscriptions };
+  placed = λ p. record { attached = record { requests = p.attached.requests; subscriptions = p.attached.subscriptions }; waiting = p.waiting };
+  links = λ c. refl;
+}
+
+pub keeps-beacon : (from : Address) (m : Fields) (x : Client) → Keeps x (beacon_heard from m x)
+keeps-beacon from m x = record {
+  thins = record { channels = thin-itself x.channels; requests = thin-itself x.requests; subscriptions = thin-itself x.subscriptions };
+  placed = λ p. record { attached = record { requests = p.attached.requests; subscriptions = p.attached.subscriptions }; waiting = p.waiting };
+  links = λ c. refl;
+}
+
+pub becomes-keeps : (x z : Client) (e : Effect) → e ≡ becomes z → Keeps x z → Keeps x e.core
+becomes-keeps x z e is keeps = subst (λ (w : Effect). Keeps x w.core) (sym is) keeps
+
+pub received-keeps : (from : Address) (x : Client) (m : Fields) (e : Effect) → Receives from x m e → Keeps x e.core
+received-keeps from x m e (ends.Search is finds) = keeps-finds x (found_at from m) m.p2 (searched_by m.p2 x) e refl finds
+received-keeps from x m e (ends.Beacon is port does) = becomes-keeps x (beacon_heard from m x) e does (keeps-beacon from m x)
+received-keeps from x m e (ends.Other not_search not_beacon does) = becomes-keeps x x e does (keeps-itself x)
+
+pub all-received : (from : Address) (ms : List Fields) (x : Client) (e : Effect) → ReceivesAll from x ms e → Keeps x e.core
+all-received from [] x e does = becomes-keeps x x e does (keeps-itself x)
+all-received from (m ∷ ms) x e does =
+    subst (λ (w : Effect). Keeps x w.core) (sym does.4)
+    (keeps-then x does.0.core does.1.core (received-keeps from x m does.0 does.2) (all-received from ms does.0.core does.1 does.3))

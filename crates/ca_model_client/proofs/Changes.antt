@@ -1,26 +1,30 @@
 -- What a client's calls, and the messages that it reads, keep of its channels' places.
-use Rattle.std.proofs.Common.{◌≡◌, inl, inr, ◌⊎◌, Bool, true, false, cond, Option, Some, None, refl, sym, ap, ◌∙◌, subst}
-use Rattle.std.specs.Prelude.{is_none, option_map, unwrap_or}
+use Rattle.std.proofs.Common.{◌≡◌, ℕ, List, inl, inr, ◌⊎◌, Bool, true, false, cond, Option, Some, None, refl, sym, ap, ◌∙◌, subst}
+use Rattle.std.specs.Prelude.{Ok, is_none, is_some, option_map, unwrap_or}
 use Rattle.std.proofs.lemmas.Bool.{both_ways}
 use Rattle.ca_arena.specs.declared.handle.Handle.{Handle}
-use Rattle.ca_ids.specs.Table.{same_handle, under, with_freed}
+use Rattle.ca_ids.specs.Table.{MayGive, same_handle, under, with_freed, with_held}
+use Rattle.ca_link.specs.Link.{with_handed}
+use Rattle.ca_requests.specs.Calls.{new_request}
 use Rattle.ca_monitor.specs.Subscriptions.{Stage, Stands, Cancelled, Ended, Subscription, drains_in, is_to, stage_over, with_stage}
 use Rattle.ca_monitor.specs.Subscriptions as monitor
-use Rattle.ca_requests.specs.Requests.{Request, asks_on, answered_by}
+use Rattle.ca_requests.specs.Requests.{Asked, Request, asks_on}
 use Rattle.ca_requests.specs.Requests as request
-use Rattle.ca_model.specs.Client.{Channel, Client, Clearing, Connecting, Creating, Doomed, Leaving, Live, On, Phase, Searching, Standing, connection_at, is_on_in, standing_at, with_requests, with_standing, without_channel}
-use Rattle.ca_model.specs.ClientCalls.{StandsAs, all_over, cleared, unsubscribed, unsubscribed_all, unwanted}
-use Rattle.ca_model.specs.ClientEnds.{is_connecting}
-use Rattle.ca_laws_circuit.specs.Held.{WasLive, was_live}
-use Rattle.ca_laws_circuit.proofs.Clears.{found-standing, is-on}
-use Rattle.ca_laws_circuit.proofs.Handles.{same-is}
-use Rattle.ca_laws_circuit.proofs.Others.{fails-anywhere, fails-searched}
-use Rattle.ca_laws_circuit.proofs.Tables.{all-back, all-freed-back, changed-back, freed-back, one-value}
-use Rattle.ca_laws_runs.specs.Client.{IsPlaced}
-use Rattle.ca_laws_runs.proofs.Ending.{never-cleared, stands-as}
-use Rattle.ca_laws_runs.proofs.Letting.{keeps-unwanted}
-use Rattle.ca_laws_runs.proofs.Placed.{Keeps, bare-never, keeps-gone, keeps-requests, keeps-stood, keeps-subscriptions, keeps-then, stands-in-test}
-use Rattle.ca_laws_runs.proofs.Thinner.{thin-all, thin-all-freed, thin-changed, thin-freed, thin-itself}
+use Rattle.ca_model.specs.Client.{Channel, Client, Clearing, Connecting, Connection, Creating, Doomed, Leaving, Live, On, Phase, Searching, Standing, connection_at, is_on_in, on_connection, standing_at, with_requests, with_standing, without_channel}
+use Rattle.ca_model.specs.Answers.{Sending}
+use Rattle.ca_model.specs.Client as phase
+use Rattle.ca_model.specs.ClientCalls.{IsLive, LiveChannel, Opening, Shape, StandsAs, all_over, cleared, issued, new_subscription, opened, unsubscribed, unsubscribed_all, unwanted}
+use Rattle.ca_model.specs.ClientEnds.{GivesOn, flow_sent, given, handed_over, is_connecting}
+use Rattle.ca_model_client.specs.Placed.{WasLive, was_live}
+use Rattle.ca_model_client.proofs.Standings.{found-standing, is-on}
+use Rattle.ca_model_client.proofs.Handles.{same-is}
+use Rattle.ca_model_client.proofs.Standings.{fails-anywhere, fails-searched}
+use Rattle.ca_model_client.proofs.Tables.{all-back, all-freed-back, changed-back, freed-back, held-back, held-other, one-value}
+use Rattle.ca_model_client.specs.Placed.{IsPlaced}
+use Rattle.ca_model_client.proofs.Standings.{never-cleared, stands-as}
+use Rattle.ca_model_client.proofs.Letting.{keeps-unwanted}
+use Rattle.ca_model_client.proofs.Placed.{Keeps, bare-never, keeps-gone, keeps-itself, keeps-on, keeps-requests, keeps-sending, keeps-stood, keeps-subscriptions, keeps-then, stands-in-test}
+use Rattle.ca_model_client.proofs.Thinner.{thin-all, thin-all-freed, thin-changed, thin-freed, thin-itself}
 
 pub on-handle : (c d : Handle) (q r : Phase) → On c q ≡ On d r → c ≡ d
 on-handle c d q r e = cc
@@ -52,7 +56,7 @@ keeps-searches x searches = record {
 
 -- ---- clear
 
-unsubscribed-keeps : (h : Handle) (x : Client) → Keeps x (unsubscribed_all h x)
+pub unsubscribed-keeps : (h : Handle) (x : Client) → Keeps x (unsubscribed_all h x)
 unsubscribed-keeps h x =
     keeps-subscriptions (monitor.channel_gone h x.subscriptions) x (thin-all-freed (is_to h) x.subscriptions) (λ p g d on is drains. inl (d, (all-freed-back (is_to h) x.subscriptions g d is).0, refl, drains))
 
@@ -101,7 +105,7 @@ over-subscriptions c h x live = keeps-subscriptions (monitor.channel_over c h x.
         by true to channel f = stage s.stage refl to channel f
         by false to channel f = inl (s, there, channel, f)
 
-over-keeps : (c h : Handle) (x : Client) → WasLive x h c → Keeps x (all_over c h x)
+pub over-keeps : (c h : Handle) (x : Client) → WasLive x h c → Keeps x (all_over c h x)
 over-keeps c h x live =
     let y : Client = record x { subscriptions = monitor.channel_over c h x.subscriptions } in
     keeps-then x y (all_over c h x) (over-subscriptions c h x live) (over-requests h y)
@@ -139,7 +143,7 @@ keeps-cleared h s x placed at = by s refl (found-standing x h s at)
 -- ---- unsubscribe
 
 -- an id drains where its channel was live
-keeps-staged : (stage : Stage) (c g : Handle) (x : Client) (d : Subscription) → ((on : Handle) → drains_in on stage ≡ same_handle c on) → under x.subscriptions g ≡ Some d → WasLive x d.channel c → Keeps x (record x { subscriptions = with_stage stage g x.subscriptions })
+pub keeps-staged : (stage : Stage) (c g : Handle) (x : Client) (d : Subscription) → ((on : Handle) → drains_in on stage ≡ same_handle c on) → under x.subscriptions g ≡ Some d → WasLive x d.channel c → Keeps x (record x { subscriptions = with_stage stage g x.subscriptions })
 keeps-staged stage c g x d only there live = keeps-subscriptions (with_stage stage g x.subscriptions) x (thin-changed f g x.subscriptions) (λ p k w on is drains. elim (changed-back f x.subscriptions k g w is) [
   | inr old ↦ inl (w, old.1, refl, drains)
   | inl own ↦
@@ -173,3 +177,69 @@ keeps-unsubscribed g x d stands = by (standing_at x d.channel) refl
     by (Some (On c Doomed)) at = freed-keeps g x
     by (Some (On c Leaving)) at = keeps-staged (Ended c) c g x d (λ on. refl) there (live c Leaving at refl)
     by (Some (On c (Live n rights))) at = keeps-staged (Cancelled c) c g x d (λ on. refl) there (live c (Live n rights) at refl)
+
+-- ---- open, and what asks and gives
+
+pub placed-opened : (a : Opening) (h : Handle) (x : Client) → MayGive x.channels h → IsPlaced x → IsPlaced (opened a h x)
+placed-opened a h x may p = record {
+  attached = record {
+    requests = λ q r is. still r.channel r.circuit (p.attached.requests q r is);
+    subscriptions = λ g d on is drains. still d.channel on (p.attached.subscriptions g d on is drains);
+  };
+  waiting = λ g ch c q is stands. elim (held-back x.channels g h new ch is) [
+    | inl own ↦ absurd (nowhere c q (sym (ap (λ (z : Channel). z.standing) own.1) ∙ stands))
+    | inr old ↦ p.waiting g ch c q old stands
+  ];
+}
+  where
+    new : Channel
+    new = record { name = a.name; priority = a.priority; standing = Searching }
+
+    nowhere : (c : Handle) (q : Phase) → Searching ≡ On c q → ⊥
+    nowhere c q e = cc
+
+    still : (channel on : Handle) → WasLive x channel on → WasLive (opened a h x) channel on
+    still channel on was = (was.0, held-other x.channels channel h new was.0 may was.1, was.2)
+
+-- a channel is live where its call goes
+pub live-there : (x : Client) (h : Handle) (l : LiveChannel) → IsLive x h l → WasLive x h l.circuit
+live-there x h l live =
+    let found = found-standing x h (On l.circuit (phase.Live l.native l.rights)) live in
+    (found.0, found.1, is-on was_live l.circuit found.0 (phase.Live l.native l.rights) found.2)
+
+pub placed-issued : (x : Client) (h : Handle) (l : LiveChannel) (asked : Asked) (q : Handle) → IsLive x h l → IsPlaced x → IsPlaced (issued h l asked q x)
+placed-issued x h l asked q live p =
+    let new : Request = new_request h l.circuit asked in
+    record {
+      attached = record {
+        requests = λ g r is. elim (held-back x.requests g q new r is) [
+          | inl own ↦ subst (λ (z : Request). WasLive x z.channel z.circuit) (sym own.1) (live-there x h l live)
+          | inr old ↦ p.attached.requests g r old
+        ];
+        subscriptions = p.attached.subscriptions;
+      };
+      waiting = p.waiting;
+    }
+
+pub placed-subscribed : (x : Client) (h : Handle) (a : Shape) (mask : ℕ) (q : Handle) → IsPlaced x → IsPlaced (record x { subscriptions = with_held q (new_subscription h a mask) x.subscriptions })
+placed-subscribed x h a mask q p = record {
+  attached = record {
+    requests = p.attached.requests;
+    subscriptions = λ g d on is drains. elim (held-back x.subscriptions g q (new_subscription h a mask) d is) [
+      | inl own ↦ absurd (both_ways (drains_in on d.stage) (ap (λ (z : Subscription). drains_in on z.stage) own.1) drains)
+      | inr old ↦ p.attached.subscriptions g d on old drains
+    ];
+  };
+  waiting = p.waiting;
+}
+
+pub handed-keeps : (c : Handle) (n : ℕ) (x : Client) → Keeps x (handed_over c n x)
+handed-keeps c n x = go (is_some (connection_at x c))
+  where
+    go : (b : Bool) → Keeps x (cond b (on_connection (λ (e : Connection). record e { link = with_handed n e.link }) c x) x)
+    go true = keeps-on _ c x
+    go false = keeps-itself x
+
+pub given-keeps : (x y : Client) (c : Handle) (bytes : List ℕ) (more : Bool) (o : Option Connection) (sent : List Sending) → GivesOn x c bytes more o (Ok tt) sent y → Keeps x y
+given-keeps x y c bytes more (Some e) sent does = subst (λ (z : Client). Keeps x z) (sym does.1) (keeps-then x (given c bytes more x) _ (keeps-on _ c x) (keeps-sending (flow_sent c more e) (given c bytes more x)))
+given-keeps x y c bytes more None sent does = absurd does

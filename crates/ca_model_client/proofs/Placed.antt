@@ -9,12 +9,12 @@ use Rattle.ca_requests.specs.Requests.{Request}
 use Rattle.ca_model.specs.Answers.{Sending}
 use Rattle.ca_model.specs.Client.{Channel, Client, ClientCircuit, Connection, On, Phase, Searching, Standing, connection_at, is_on_in, on_connection, phase_on, searched_again, sending, with_one_sent, with_requests, with_standing, without_channel}
 use Rattle.ca_model.specs.ClientEnds.{is_connecting}
-use Rattle.ca_laws_circuit.specs.Held.{WasLive, was_live}
-use Rattle.ca_laws_circuit.proofs.Handles.{handle-or}
-use Rattle.ca_laws_circuit.proofs.Tables.{changed-back, changed-other, changed-own, freed-back, freed-other}
-use Rattle.ca_laws_runs.specs.Client.{IsPlaced}
-use Rattle.ca_laws_runs.proofs.Named.{Thins, thins-itself, thins-then}
-use Rattle.ca_laws_runs.proofs.Thinner.{IsThinner, thin-changed, thin-freed, thin-itself}
+use Rattle.ca_model_client.specs.Placed.{IsBare, WasLive, was_live}
+use Rattle.ca_model_client.proofs.Handles.{handle-or}
+use Rattle.ca_model_client.proofs.Tables.{changed-back, changed-other, changed-own, freed-back, freed-other}
+use Rattle.ca_model_client.specs.Placed.{IsPlaced}
+use Rattle.ca_model_client.proofs.Thinner.{Thins, thins-itself, thins-then}
+use Rattle.ca_model_client.proofs.Thinner.{IsThinner, thin-changed, thin-freed, thin-itself}
 
 -- The same circuits are connected.
 abbrev pub Links : Client → Client → Type 0
@@ -142,11 +142,6 @@ keeps-stood s h x may = record {
     ]
 
 -- ---- a channel is gone, or searched for again
-
--- No request is on the channel, and no id of a subscription to it drains.
-pub record IsBare (h : Handle) (x : Client) : Type 0 where
-  pub requests : (q : Handle) (r : Request) → under x.requests q ≡ Some r → r.channel ≡ h → ⊥
-  pub subscriptions : (g : Handle) (d : Subscription) (on : Handle) → under x.subscriptions g ≡ Some d → drains_in on d.stage ≡ true → d.channel ≡ h → ⊥
 
 -- so it is with one that was not live
 pub bare-never : (h : Handle) (x : Client) → IsPlaced x → ((ch : Channel) (on : Handle) → under x.channels h ≡ Some ch → is_on_in was_live on ch ≡ false) → IsBare h x

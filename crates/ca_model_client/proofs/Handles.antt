@@ -3,7 +3,7 @@ use Rattle.std.proofs.Common.{◌≡◌, ◌⊎◌, inl, inr, true, false, eqb, 
 use Rattle.std.proofs.lemmas.Bool.{and_from, and_parts, both_ways, cases_Bool, eq-eqb, eqb-true}
 use Rattle.ca_arena.specs.declared.handle.Handle.{Handle}
 use Rattle.ca_ids.specs.Table.{same_handle}
-use Rattle.ca_laws_circuit.proofs.Tables.{handle-is}
+use Rattle.ca_model_client.proofs.Tables.{handle-is}
 
 pub same-itself : (h : Handle) → same_handle h h ≡ true
 same-itself h = and_from (eqb h.index h.index) (eqb h.generation h.generation) (eq-eqb h.index h.index refl) (eq-eqb h.generation h.generation refl)

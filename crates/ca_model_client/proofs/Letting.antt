@@ -11,15 +11,15 @@ use Rattle.ca_monitor.specs.Subscriptions.{Subscription, drains_in}
 use Rattle.ca_requests.specs.Requests.{Request, was_sent_on}
 use Rattle.ca_model.specs.Client.{Channel, Client, ClientCircuit, Connection, On, Phase, Searching, channels_ended, channels_on, connection_at, disconnected, ended, is_cleared, is_on_in, let_go, searched_again, without_channel, without_circuit, without_ids}
 use Rattle.ca_model.specs.ClientCalls.{unwanted}
-use Rattle.ca_laws_circuit.specs.Held.{Attached, WasLive, was_live}
-use Rattle.ca_laws_circuit.proofs.Clears.{is-on}
-use Rattle.ca_laws_circuit.proofs.Ends.{on-circuit, on-one}
-use Rattle.ca_laws_circuit.proofs.Handles.{handle-or, same-itself}
-use Rattle.ca_laws_circuit.proofs.Tables.{all-freed-back, changed-back, changed-other, changed-own, freed-back, freed-other, one-value, under-held}
-use Rattle.ca_laws_runs.specs.Client.{AreWaiting, IsPlaced}
-use Rattle.ca_laws_runs.proofs.Named.{Thins, thins-itself, thins-then}
-use Rattle.ca_laws_runs.proofs.Placed.{Keeps, Links, keeps-itself, options-agree, placed-linked, under-other}
-use Rattle.ca_laws_runs.proofs.Thinner.{IsThinner, thin-all-freed, thin-changed, thin-freed, thin-itself}
+use Rattle.ca_model_client.specs.Placed.{Attached, WasLive, was_live}
+use Rattle.ca_model_client.proofs.Standings.{is-on}
+use Rattle.ca_model_client.proofs.Standings.{on-circuit, on-one}
+use Rattle.ca_model_client.proofs.Handles.{handle-or, same-itself}
+use Rattle.ca_model_client.proofs.Tables.{all-freed-back, changed-back, changed-other, changed-own, freed-back, freed-other, one-value, under-held}
+use Rattle.ca_model_client.specs.Placed.{AreWaiting, IsPlaced}
+use Rattle.ca_model_client.proofs.Thinner.{Thins, thins-itself, thins-then}
+use Rattle.ca_model_client.proofs.Placed.{Keeps, Links, keeps-itself, options-agree, placed-linked, under-other}
+use Rattle.ca_model_client.proofs.Thinner.{IsThinner, thin-all-freed, thin-changed, thin-freed, thin-itself}
 
 abbrev connection-of : Option ClientCircuit → Option Connection
 connection-of o = option_and_then (λ (d : ClientCircuit). d.connection) o
@@ -109,7 +109,7 @@ filter-map-at {A} {B} f (z ∷ xs) (suc j) x y at is = (let r = filter-map-at f 
     go None i h = (i, h)
 
 -- a channel that the test names there is listed
-listed-there : (test : Phase → Bool) (c : Handle) (x : Client) (h : Handle) (ch : Channel) → under x.channels h ≡ Some ch → is_on_in test c ch ≡ true → (i : ℕ) × At (channels_on test c x) i h
+pub listed-there : (test : Phase → Bool) (c : Handle) (x : Client) (h : Handle) (ch : Channel) → under x.channels h ≡ Some ch → is_on_in test c ch ≡ true → (i : ℕ) × At (channels_on test c x) i h
 listed-there test c x h ch is on =
     let f : Handle × Channel → Option Handle = λ (e : Handle × Channel). cond (is_on_in test c e.1) (Some e.0) None in
     let r = under-held x.channels h ch is in

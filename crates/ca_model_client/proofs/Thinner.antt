@@ -1,17 +1,40 @@
 -- Tables in which nothing new holds an id, and no generation goes back: what names a table gave stay so.
-use Rattle.std.proofs.Common.{◌≡◌, ℕ, ◌+◌, ◌≤◌, inl, inr, Bool, true, false, cond, eqb, [], ◌∷◌, ◌++◌, length, Option, Some, None, refl, sym, ap, ◌∙◌, subst, arith}
+use Rattle.std.proofs.Common.{◌≡◌, ℕ, ◌+◌, ◌<◌, ◌≤◌, ◌⊎◌, zero, suc, inl, inr, Bool, List, true, false, cond, eqb, [], ◌∷◌, ◌++◌, length, Option, Some, None, refl, sym, ap, ◌∙◌, subst, arith}
 use Rattle.std.specs.Prelude.{is_some, option_map, slice_set}
 use Rattle.std.proofs.lemmas.List.{get_or_past, length-map}
 use Rattle.std.proofs.lemmas.Option.{get_or_from_slice_get}
 use Rattle.ca_text.specs.Place.{At}
 use Rattle.ca_text.proofs.Places.{At-append, At-map, At-one, At-or, At-set-other, At-within}
+use Rattle.ca_model.specs.Client.{Client}
 use Rattle.ca_arena.specs.declared.handle.Handle.{Handle}
 use Rattle.ca_arena.specs.Arena.{Place, blank, place_at}
 use Rattle.ca_arena.proofs.Places.{value_for-some}
 use Rattle.ca_ids.specs.Table.{MayGive, Table, kept_of, under, with_all, with_all_freed, with_changed, with_freed, with_held}
-use Rattle.ca_laws_circuit.proofs.Tables.{all-back, all-freed-back, changed-back, changed-few, freed-back, freed-few, held-own, place, under-at}
-use Rattle.ca_laws_runs.specs.Circuit.{WasGiven}
-use Rattle.ca_laws_runs.proofs.Worlds.{number-or, set-there}
+use Rattle.ca_model_client.proofs.Tables.{all-back, all-freed-back, changed-back, changed-few, freed-back, freed-few, held-own, place, under-at}
+use Rattle.ca_model_client.specs.Placed.{WasGiven}
+
+-- below, the same, or above
+pub three-ways : (k l : ℕ) → (k < l) ⊎ ((k ≡ l) ⊎ (l < k))
+three-ways zero zero = inr (inl refl)
+three-ways zero (suc l) = inl (omega arith)
+three-ways (suc k) zero = inr (inr (omega arith))
+three-ways (suc k) (suc l) = elim (three-ways k l) [
+  | inl a ↦ inl (omega (arith, a))
+  | inr (inl a) ↦ inr (inl (ap (λ (n : ℕ). suc n) a))
+  | inr (inr a) ↦ inr (inr (omega (arith, a)))
+]
+
+pub number-or : (a b : ℕ) → (a ≡ b) ⊎ (a ≡ b → ⊥)
+number-or a b = elim (three-ways a b) [
+  | inl lt ↦ inr (λ e. omega (arith, lt, e))
+  | inr (inl is) ↦ inl is
+  | inr (inr lt) ↦ inr (λ e. omega (arith, lt, e))
+]
+
+pub set-there : {A : Type 0} (xs : List A) (i : ℕ) (y : A) → i < length xs → At (slice_set xs i y) i y
+set-there [] i y lt = absurd (omega (arith, lt))
+set-there (z ∷ xs) zero y lt = refl
+set-there (z ∷ xs) (suc i) y lt = set-there xs i y (omega (arith, lt))
 
 -- What holds an id in u held it in t, and no generation goes back.
 pub record IsThinner {T : Type 0} (t u : Table T) : Type 0 where
@@ -145,3 +168,20 @@ module _ {T : Type 0} where
 
   pub given-own : (t : Table T) (h : Handle) (v : T) → MayGive t h → WasGiven (with_held h v t) h
   given-own t h v may = given-under (with_held h v t) h v (held-own t h v may)
+
+-- ---- all three tables of a client
+
+pub record Thins (x y : Client) : Type 0 where
+  pub channels : IsThinner x.channels y.channels
+  pub requests : IsThinner x.requests y.requests
+  pub subscriptions : IsThinner x.subscriptions y.subscriptions
+
+pub thins-itself : (x : Client) → Thins x x
+thins-itself x = record { channels = thin-itself x.channels; requests = thin-itself x.requests; subscriptions = thin-itself x.subscriptions }
+
+pub thins-then : (x y z : Client) → Thins x y → Thins y z → Thins x z
+thins-then x y z a b = record {
+  channels = thin-then x.channels y.channels z.channels a.channels b.channels;
+  requests = thin-then x.requests y.requests z.requests a.requests b.requests;
+  subscriptions = thin-then x.subscriptions y.subscriptions z.subscriptions a.subscriptions b.subscriptions;
+}

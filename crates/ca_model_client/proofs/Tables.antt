@@ -2,7 +2,7 @@
 use Rattle.std.proofs.Common.{◌≡◌, ℕ, zero, suc, ◌+◌, ◌%◌, ◌<◌, ◌≤◌, ◌⊎◌, inl, inr, Bool, true, false, cond, eqb, List, [], ◌∷◌, ◌++◌, length, Option, Some, None, refl, sym, ap, ◌∙◌, subst, arith}
 use Rattle.std.specs.Prelude.{find, is_some, option_map, option_to_list, slice_set}
 use Rattle.std.proofs.lemmas.Bool.{both_ways, eq-eqb, eqb-true}
-use Rattle.std.proofs.lemmas.List.{get_or_past}
+use Rattle.std.proofs.lemmas.List.{get_or_past, length-append}
 use Rattle.std.proofs.lemmas.Option.{get_or_from_slice_get}
 use Rattle.ca_text.specs.Limits.{arena_slots}
 use Rattle.ca_text.specs.Place.{At}
@@ -13,7 +13,9 @@ use Rattle.ca_arena.proofs.Places.{value_for-some}
 use Rattle.ca_ids.specs.Table.{MayGive, Table, by_wire, held, held_from, kept_of, under, with_all, with_all_freed, with_changed, with_freed, with_held}
 use Rattle.ca_ids.specs.Wire.{wire_of}
 use Rattle.ca_ids.proofs.Wires.{wire_of-index}
-use Rattle.ca_laws_circuit.proofs.Lists.{length-more}
+
+pub length-more : {A : Type 0} (xs : List A) (x : A) → length (xs ++ x ∷ []) ≡ length xs + 1
+length-more xs x = (let e = length-append xs (x ∷ []) in omega (arith, e))
 
 pub handle-is : (a b : Handle) → a.index ≡ b.index → a.generation ≡ b.generation → a ≡ b
 handle-is a b i g =

@@ -1,0 +1,180 @@
+ghost use Rattle.std.specs.Prelude.{◌≡◌, ◌<◌, [], List, Some, false, is_none, length, nat_eq, not, true};
+ghost use Rattle.ca_arena.specs.Arena.{place_at};
+ghost use Rattle.ca_arena.specs.declared.handle.Handle as handle;
+ghost use Rattle.ca_ids.specs.Table.{held_at};
+ghost use Rattle.ca_requests.specs.Requests.{asks_on};
+ghost use Rattle.ca_model.specs.Answers.{Sending};
+ghost use Rattle.ca_model.specs.Client as client;
+ghost use Rattle.ca_model.specs.Client.{On, connection_at, disconnections, is_on_in, with_standing, without_channel};
+ghost use Rattle.ca_model.specs.ClientCalls.{ClientClears, all_over, unsubscribed_all, unwanted};
+ghost use Rattle.ca_client_core.specs.Clearing.{ClearsLive, is_any};
+ghost use Rattle.ca_client_core.specs.Ending.{named_at, named_in};
+ghost use Rattle.ca_client_core.specs.Turns.{MayTurn, WasLiveOn};
+ghost use Rattle.ca_model_client.specs.Placed.{IsBare};
+
+use crate::channel::{Channel, Phase, Standing, is_same};
+use crate::client::ClientCore;
+use crate::hearing::put;
+use crate::letting_go::let_go;
+use crate::notices::Notices;
+use ca_arena::Handle;
+use ca_ids::{HeldTable, WireId};
+use ca_text::Refusal;
+use ca_wire::{Cid, Sid, clear_request};
+
+impl ClientCore {
+    /// Clears a channel: its handle names nothing from now on, and each of its open requests is complete with Disconnected, in
+    /// order of issue.
+    ///
+    /// Refused as StaleHandle if the handle is stale, then as OutOfMemory, only for the CLEAR_CHANNEL of a live channel.
+    pub fn clear(&mut self, channel: Handle) -> Result<Notices, Refusal>
+        ensures { (sent : List Sending)
+            × ClientClears self.old channel result sent self.new }
+    {
+        self.know();
+        let Some(standing) = self.standing(channel) else {
+            return Err(Refusal::StaleHandle);
+        };
+        match standing {
+            Standing::Searching => {
+                self.let_channel_go(channel);
+                Ok(Notices::none(self.alloc))
+            }
+            Standing::On(circuit, phase) => match phase {
+                Phase::Connecting => {
+                    self.let_channel_go(channel);
+                    self.let_unwanted_go(circuit);
+                    Ok(Notices::none(self.alloc))
+                }
+                Phase::Creating(_) => {
+                    self.doom(channel, circuit);
+                    Ok(Notices::none(self.alloc))
+                }
+                Phase::Live(native, _) => self.clear_live(channel, circuit, native.sid),
+                Phase::Leaving => Ok(self.end_all(channel, circuit)),
+                Phase::Clearing => Err(Refusal::StaleHandle),
+                Phase::Doomed => Err(Refusal::StaleHandle),
+            },
+        }
+    }
+
+    // The ids of the channel's subscriptions are free.
+    fn free_subscriptions(&mut self, channel: Handle)
+        ensures { self.new ≡ unsubscribed_all channel self.old }
+    {
+        self.monitors.free_channel(channel);
+    }
+
+    // Of a channel that was not live nothing is on the way.
+    fn let_channel_go(&mut self, channel: Handle)
+        requires { IsBare channel self.old }
+        ensures { self.new ≡ without_channel (unsubscribed_all channel self.old) channel }
+    {
+        self.free_subscriptions(channel);
+        self.remove_channel(channel);
+    }
+
+    // A channel that is being created is cleared once that is done.
+    fn doom(&mut self, channel: Handle, circuit: Handle)
+        requires { MayTurn channel circuit client.Doomed self.old }
+        ensures { self.new
+            ≡ with_standing (On circuit client.Doomed) channel (unsubscribed_all channel self.old) }
+    {
+        self.free_subscriptions(channel);
+        self.set_phase(channel, circuit, Phase::Doomed);
+    }
+
+    // A live channel is cleared: its CLEAR_CHANNEL goes out. Without memory nothing changes.
+    fn clear_live(
+        &mut self,
+        channel: Handle,
+        circuit: Handle,
+        sid: u32,
+    ) -> Result<Notices, Refusal>
+        requires { WasLiveOn channel circuit self.old }
+        ensures { ClearsLive self.old channel circuit sid result self.new }
+    {
+        let cid = Cid::new(WireId::of(channel).number());
+        let message = clear_request(self.alloc, Sid::new(sid), cid);
+        match self.queue(circuit, &message) {
+            Ok(()) => Ok(self.end_all(channel, circuit)),
+            Err(_) => Err(Refusal::OutOfMemory),
+        }
+    }
+
+    // The requests and subscriptions of a channel that was live are over, and it waits for the answer to its clear.
+    fn end_all(&mut self, channel: Handle, circuit: Handle) -> Notices
+        requires { WasLiveOn channel circuit self.old }
+        ensures told { result ≡ disconnections (asks_on channel) self.old }
+        ensures over { self.new
+            ≡ with_standing (On circuit client.Clearing) channel (all_over circuit channel self.old) }
+    {
+        let told = self.requests.end_channel(channel);
+        self.monitors.end_channel(circuit, channel);
+        put(
+            &mut self.channels,
+            channel,
+            Standing::On(circuit, Phase::Clearing),
+        );
+        Notices::of(told, Vec::new(self.alloc), None)
+    }
+
+    // A circuit that is not connected, and on which no channel is any more, is let go.
+    fn let_unwanted_go(&mut self, circuit: Handle)
+        requires { is_none (connection_at self.old circuit) ≡ true }
+        ensures { self.new ≡ unwanted circuit self.old }
+    {
+        if is_used(&self.channels, circuit) {
+            return;
+        }
+        let Some(found) = self.circuits.by_handle(circuit) else {
+            return;
+        };
+        let is_name = found.is_name;
+        let _ = let_go(
+            self.alloc,
+            &mut self.circuits,
+            &mut self.order,
+            circuit,
+            is_name,
+        );
+    }
+}
+
+// Whether a channel is on this circuit.
+fn is_used(channels: &HeldTable<Channel>, circuit: Handle) -> bool
+    ensures { nat_eq (length (named_in is_any circuit channels.now)) 0 ≡ not result }
+{
+    for index in 0..channels.places() {
+        if is_on_at(channels, circuit, index) {
+            return true;
+        }
+    }
+    false
+}
+
+// Whether the channel at this index is on this circuit.
+fn is_on_at(channels: &HeldTable<Channel>, circuit: Handle, index: usize) -> bool
+    requires { index < length channels.now }
+    ensures none { result ≡ false → named_at is_any circuit index channels.now ≡ [] }
+    ensures some { result ≡ true → (h : handle.Handle) × (v : client.Channel)
+        × (held_at index (place_at channels.now index) ≡ Some (h, v))
+        × (is_on_in is_any circuit v ≡ true) }
+{
+    let Some((_, channel)) = channels.at(index) else {
+        return false;
+    };
+    channel.is_on(circuit)
+}
+
+impl Channel {
+    // Whether it is on this circuit.
+    fn is_on(&self, circuit: Handle) -> bool
+        ensures { result ≡ is_on_in is_any circuit self.now }
+    {
+        match self.standing() {
+            Standing::Searching => false,
+            Standing::On(on, _) => is_same(on, circuit),
+        }
+    }
+}
