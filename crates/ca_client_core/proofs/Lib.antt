@@ -18,3 +18,6 @@ mod Dispatched
 pub mod Placing
 pub mod Endings
 pub mod Cleared
+mod Arrivals
+mod Packings
+mod Anomalies

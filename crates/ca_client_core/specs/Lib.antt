@@ -16,3 +16,5 @@ pub mod Connecting
 pub mod Dispatch
 pub mod Turns
 pub mod Clearing
+pub mod Receiving
+pub mod Packing

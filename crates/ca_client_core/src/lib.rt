@@ -7,6 +7,7 @@
 #![tactic(auto)]
 
 mod asking;
+mod beacons;
 mod beginning;
 mod channel;
 mod channel_state;
@@ -30,8 +31,11 @@ mod notice;
 mod notices;
 mod opening;
 mod output;
+mod packing;
 mod queue;
 mod reading;
+mod receiving;
+mod searching;
 mod subscribing;
 mod unsubscribing;
 mod updates;

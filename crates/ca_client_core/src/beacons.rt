@@ -1,0 +1,45 @@
+//! What a client makes of a beacon.
+ghost use Rattle.std.specs.Prelude.{◌≡◌, ◌==◌, if◌then◌else◌};
+ghost use Rattle.ca_client_core.specs.Receiving.{HearsBeacon};
+
+use crate::client::ClientCore;
+use crate::ends::Address;
+use crate::searching::boost;
+use ca_wire::Message;
+use std::alloc::AllocError;
+use std::net::Ipv4Addr;
+
+impl ClientCore {
+    // A beacon of the server at this port was heard: an anomaly makes all searches due at once.
+    pub(crate) fn hear_beacon(
+        &mut self,
+        from: Address,
+        message: &Message,
+        port: u16,
+    ) -> Result<(), AllocError>
+        requires { port ≡ message.now.count }
+        ensures { HearsBeacon self.old from message.now result self.new }
+    {
+        let address = Ipv4Addr::from_bits(beacon_host(from, message));
+        match self.beacons.heard(address, port, message.p1()) {
+            Ok(anomaly) => {
+                if anomaly {
+                    boost(&mut self.searches, self.moment);
+                }
+                Ok(())
+            }
+            Err(_) => Err(AllocError),
+        }
+    }
+}
+
+// The address of a beacon's server: the one in it, or where the beacon came from.
+fn beacon_host(from: Address, message: &Message) -> u32
+    ensures { result ≡ (if message.now.p2 == 0 then from.host else message.now.p2) }
+{
+    if message.p2() == 0 {
+        from.host
+    } else {
+        message.p2()
+    }
+}
