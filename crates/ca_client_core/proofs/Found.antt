@@ -68,7 +68,7 @@ none-left a p i t past =
 
 -- ---- a search reply, by what was found
 
-found-split : (o : Option (Handle × ClientCircuit)) (c : Handle) (b : Bool) → option_map as_found o ≡ Some (c, b) → (d : ClientCircuit) × (o ≡ Some (c, d)) × (is_some d.connection ≡ b)
+pub found-split : (o : Option (Handle × ClientCircuit)) (c : Handle) (b : Bool) → option_map as_found o ≡ Some (c, b) → (d : ClientCircuit) × (o ≡ Some (c, d)) × (is_some d.connection ≡ b)
 found-split None c b is = absurd cc
 found-split (Some (k, d)) c b is =
     let same : (k, is_some d.connection) ≡ (c, b) = some_is (k, is_some d.connection) (c, b) is in

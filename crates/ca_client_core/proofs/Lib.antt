@@ -21,3 +21,4 @@ pub mod Cleared
 mod Arrivals
 mod Packings
 mod Anomalies
+mod Joining

@@ -72,14 +72,14 @@ module _ (t : Table Channel) (es : List (ℕ × search.Channel)) (q : Table Requ
         client = sound.client;
         placed =
             placed-linked (plain t q s cs) (plain t q s (with_changed f c cs)) refl refl refl
-                (λ k. elim (handle-or k c) [
-                | inr other ↦ ap (λ (o : Option ClientCircuit). is_none (connection-of o)) (under-other f cs c k other)
-                | inl here ↦
-                    subst (λ (j : Handle). is_none (connection-of (under (with_changed f c cs) j)) ≡ is_none (connection-of (under cs j))) (sym here)
-                        (ap (λ (o : Option ClientCircuit). is_none (connection-of o)) (changed-own f cs c v there) ∙ same
-                        ∙ ap (λ (o : Option ClientCircuit). is_none (connection-of o)) (sym there))
-                ])
-                sound.placed;
+            (λ k. elim (handle-or k c) [
+              | inr other ↦ ap (λ (o : Option ClientCircuit). is_none (connection-of o)) (under-other f cs c k other)
+              | inl here ↦
+                  subst (λ (j : Handle). is_none (connection-of (under (with_changed f c cs) j)) ≡ is_none (connection-of (under cs j))) (sym here)
+                  (ap (λ (o : Option ClientCircuit). is_none (connection-of o)) (changed-own f cs c v there) ∙ same
+                  ∙ ap (λ (o : Option ClientCircuit). is_none (connection-of o)) (sym there))
+            ])
+            sound.placed;
       }
 
   -- something was done to its end
@@ -178,14 +178,14 @@ module _ (t : Table Channel) (q : Table Request) (s : Table Subscription) (cs : 
       let w : Channel = record v { standing = Searching } in
       let same : w ≡ v = ap (λ (z : _). let d : Channel = record v { standing = z } in d) (sym stands) in
       subst (λ (z : Table Channel). ArePlaced z q s cs) (sym is)
-          (subst (λ (z : Channel). ArePlaced (with_held h z t) q s cs) same
-          (placed-opened (record { name = v.name; priority = v.priority; now = 0 }) h (plain t q s cs) may placed))
+      (subst (λ (z : Channel). ArePlaced (with_held h z t) q s cs) same
+      (placed-opened (record { name = v.name; priority = v.priority; now = 0 }) h (plain t q s cs) may placed))
 
   -- one comes to another phase
   pub placed-turned : (h c : Handle) (next : Phase) (u : Table Channel) → TurnsIn h c next t → u ≡ with_changed (λ (here : Channel). record here { standing = On c next }) h t → ArePlaced u q s cs
   placed-turned h c next u turn is =
       subst (λ (z : Table Channel). ArePlaced z q s cs) (sym is)
-          ((keeps-phase c h (plain t q s cs) turn.channel turn.phase next turn.there turn.stands turn.waits turn.live).placed placed)
+      ((keeps-phase c h (plain t q s cs) turn.channel turn.phase next turn.there turn.stands turn.waits turn.live).placed placed)
 
   -- one is searched for again
   pub placed-again : (h : Handle) (u : Table Channel) → IsBareIn h q s → u ≡ with_changed (λ (here : Channel). record here { standing = Searching }) h t → ArePlaced u q s cs
@@ -232,7 +232,7 @@ hears-reply x n m (Some (g, v)) r h = by v.stage refl r h
     by : (stage : Stage) → v.stage ≡ stage → (a : Result (Option (Handle × Outcome)) AllocError) → requests.Completes old m g stage a n → HearsReplyTo x m (Some (g, v)) a (with_issued x n)
     by Open is (Ok (Some (p, o))) k =
         told Open is (doing [] (completed (Some (p, o))) (with_issued x n))
-            (o, k.1, λ i. doing [] (notice.Completed (k.0 i) o ∷ []) (with_issued x (k.2 i)))
+        (o, k.1, λ i. doing [] (notice.Completed (k.0 i) o ∷ []) (with_issued x (k.2 i)))
     by Open is (Ok None) k = absurd k
     by Open is (Err e) k = (is, k.0, ap (with_issued x) k.1)
     by Draining is (Ok None) k = told Draining is (doing [] [] (with_issued x n)) (ap (λ (z : Issued). doing [] [] (with_issued x z)) k)

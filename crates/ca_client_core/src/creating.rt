@@ -1,12 +1,14 @@
 //! What a client makes of the reply to a CREATE_CHAN.
 ghost use Rattle.std.specs.Prelude.{◌≡◌, IfOk, OnErr, OnOk, length};
 ghost use Rattle.ca_wire.specs.Messages.{event_add_request, mask_payload};
+ghost use Rattle.ca_model.specs.Client as client;
 ghost use Rattle.ca_model.specs.Client.{channel_on, out_bytes};
 ghost use Rattle.ca_model.specs.Hears.{created, native_in};
 ghost use Rattle.ca_client_core.specs.Forms.{native_of};
 ghost use Rattle.ca_client_core.specs.Hearing.{HasEffect};
 ghost use Rattle.ca_client_core.specs.Asks.{cut_back, with_message};
 ghost use Rattle.ca_client_core.specs.Again.{add_message, add_messages, dooming, living, subscribed_again, with_messages};
+ghost use Rattle.ca_client_core.specs.Turns.{MayTurn};
 
 use crate::channel::{Native, Phase};
 use crate::client::ClientCore;
@@ -60,15 +62,22 @@ impl ClientCore {
         native: Native,
         rights: u32,
     ) -> Result<Notices, AllocError>
+        requires { MayTurn channel circuit (client.Live (native_of native) rights) self.old }
         ensures { HasEffect
             self.old
             (living circuit (native_of native) rights channel self.old)
             result
             self.new }
     {
+        let waiting = self.out_bytes(circuit).len();
         self.subscribe_again(circuit, native.sid, channel)?;
-        self.set_phase(channel, circuit, Phase::Live(native, rights));
-        Ok(Notices::one(self.alloc, Some(Notice::Live(channel))))
+        match self.make_live(channel, circuit, native, rights) {
+            Ok(()) => Ok(Notices::one(self.alloc, Some(Notice::Live(channel)))),
+            Err(_) => {
+                self.cut_back(circuit, waiting);
+                Err(AllocError)
+            }
+        }
     }
 
     // A channel that its caller cleared while it was being created is cleared under this SID.
@@ -78,6 +87,7 @@ impl ClientCore {
         channel: Handle,
         sid: u32,
     ) -> Result<Notices, AllocError>
+        requires { MayTurn channel circuit client.Clearing self.old }
         ensures { HasEffect self.old (dooming circuit sid channel self.old) result self.new }
     {
         let cid = Cid::new(WireId::of(channel).number());

@@ -9,7 +9,7 @@ ghost use Rattle.ca_model.specs.Client.{found_on};
 ghost use Rattle.ca_model.specs.Client as client;
 ghost use Rattle.ca_model.specs.Hears.{Finds, found_at, is_searched, searched_by};
 ghost use Rattle.ca_client_core.specs.Asks.{with_message};
-ghost use Rattle.ca_client_core.specs.Finding.{FindsNew, circuit_in, goes_to};
+ghost use Rattle.ca_client_core.specs.Finding.{FindsNew, IsFound, IsSought, circuit_in, goes_to};
 ghost use Rattle.ca_client_core.specs.Forms.{phase_of};
 ghost use Rattle.ca_client_core.specs.Hearing.{FindsOr};
 
@@ -70,7 +70,8 @@ impl ClientCore {
         priority: u16,
         channel: Handle,
     ) -> Result<(), AllocError>
-        requires { priority ≤ priority_limit }
+        requires within { priority ≤ priority_limit }
+        requires sought { IsSought channel self.old }
         ensures { FindsNew self.old address priority channel result self.new }
     {
         let Some(vacant) = self.circuits.vacant() else {
@@ -100,6 +101,7 @@ impl ClientCore {
         channel: Handle,
         message: &Message,
     ) -> Result<(), AllocError>
+        requires { IsFound channel circuit (client.Creating 0) self.old }
         ensures ok { OnOk result (self.new
             ≡ with_message
             circuit
@@ -114,6 +116,7 @@ impl ClientCore {
 
     // The channel was found, and is now on a circuit.
     fn found_on(&mut self, circuit: Handle, channel: Handle, phase: Phase)
+        requires { IsFound channel circuit (phase_of phase) self.old }
         ensures { self.new ≡ found_on circuit (phase_of phase) channel self.old }
     {
         put(&mut self.channels, channel, Standing::On(circuit, phase));

@@ -1,8 +1,10 @@
 //! What a client makes of a SERVER_DISCONN.
+ghost use Rattle.ca_model.specs.Client as client;
 ghost use Rattle.ca_model.specs.Client.{channel_on};
 ghost use Rattle.ca_model.specs.Hears.{left};
 ghost use Rattle.ca_client_core.specs.Hearing.{HasEffect};
 ghost use Rattle.ca_client_core.specs.Again.{leaving};
+ghost use Rattle.ca_client_core.specs.Turns.{MayTurn};
 
 use crate::channel::Phase;
 use crate::client::ClientCore;
@@ -41,6 +43,7 @@ impl ClientCore {
 
     // A live channel is lost, and is cleared under this SID.
     fn leave(&mut self, circuit: Handle, channel: Handle, sid: u32) -> Result<Notices, AllocError>
+        requires { MayTurn channel circuit client.Leaving self.old }
         ensures { HasEffect self.old (leaving circuit sid channel self.old) result self.new }
     {
         let cid = Cid::new(WireId::of(channel).number());

@@ -30,12 +30,7 @@ impl ClientCore {
         let is_name = found.is_name;
         let told = self.requests.end_circuit(circuit);
         self.monitors.free_circuit(circuit);
-        end_channels(
-            &mut self.channels,
-            &mut self.searches,
-            circuit,
-            self.moment,
-        );
+        end_channels(&mut self.channels, &mut self.searches, circuit, self.moment);
         let left = let_go(
             self.alloc,
             &mut self.circuits,
@@ -58,7 +53,7 @@ pub(crate) fn let_go(
     ensures left { result ≡ left_at circuits.old circuit }
     ensures gone { circuits.new
         ≡ (if is_name then
-          with_changed (λ d. record d { connection = None }) circuit circuits.old
+        with_changed (λ d. record d { connection = None }) circuit circuits.old
         else with_freed circuit circuits.old) }
     ensures order { order.new.items
         ≡ (if is_name then order.old.items

@@ -1,15 +1,26 @@
-use Rattle.std.proofs.Common.{◌≡◌, ◌∙◌, List, Ok, Some, ap, option_map, refl, subst}
+use Rattle.ca_ids.specs.Table.{under}
+use Rattle.std.specs.Prelude.{is_none, option_and_then}
+use Rattle.std.proofs.Common.{None, if◌then◌else◌, ◌≡◌, ◌∙◌, List, Ok, Some, ap, option_map, refl, subst}
 use Rattle.ca_link.specs.Link.{LinkState, new_link, with_sent}
 use Rattle.ca_monitor.specs.ReadRun.{ReadRun, no_reads}
-use Rattle.ca_model.specs.Client.{Client, ClientCircuit, Connection}
+use Rattle.ca_model.specs.Client.{Channel, Client, ClientCircuit, Connection}
 use Rattle.ca_model.specs.ClientEnds.{creating, unconnected}
 use Rattle.ca_client_core.specs.Connecting.{BeginsOn, creations_in, greeting}
 use Rattle.ca_client_core.proofs.Connected.{begins-on, client-all}
+use Rattle.ca_client_core.proofs.Joining.{placed-begun}
 use Rattle.ca_client_core.proofs.client.ClientCore.begin.Goals as goal
 
 pub invariant_of-self : goal.invariant_of-self
 invariant_of-self c =
-    client-all (creating c.args.circuit) c.self.inside.channels c.begin_all.new.channels c.self.inside.searches.entries c.begin_all.ensures c.self.invariant
+    let i = c.self.inside in
+    let h = c.args.circuit in
+    let f : Channel → Channel = creating h in
+    let wanted : option_map (λ (d : ClientCircuit). d.priority) (option_and_then (λ (d : ClientCircuit). if is_none d.connection then Some d else None) (under i.circuits h)) ≡ Some c.args.priority =
+    ap (λ (y : Client). option_map (λ (d : ClientCircuit). d.priority) (unconnected y h)) c.self.view_is ∙ c.requires.wanted in
+    record {
+      client = client-all f i.channels c.begin_all.new.channels i.searches.entries c.begin_all.ensures c.self.invariant.client;
+      placed = placed-begun i.channels i.requests.table i.monitors i.circuits c.self.invariant.placed h c.args.priority c.begin_all.new.channels c.connect.new.circuits _ wanted c.begin_all.ensures c.connect.ensures;
+    }
 
 pub returns : goal.returns
 returns c =

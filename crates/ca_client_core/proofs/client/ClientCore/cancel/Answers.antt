@@ -22,4 +22,4 @@ invariant_of-self c =
     let live : WasLiveIn c.self.inside.channels d.channel c.args.circuit =
     subst (λ (t : Table Channel). WasLiveIn t d.channel c.args.circuit) (sym (ap (λ (y : Client). y.channels) c.self.view_is ∙ same.0)) c.requires.live in
     sound-staged c.self.inside.channels c.self.inside.searches.entries c.self.inside.requests.table c.self.inside.monitors c.self.inside.circuits c.self.invariant (Cancelled c.args.circuit) c.args.circuit s d c.cancel.new.self (λ on. refl) there live
-        (comes-to (Cancelled c.args.circuit) c.self.inside.monitors c.cancel.new.self s d c.cancel.result stands c.cancel.ensures)
+    (comes-to (Cancelled c.args.circuit) c.self.inside.monitors c.cancel.new.self s d c.cancel.result stands c.cancel.ensures)

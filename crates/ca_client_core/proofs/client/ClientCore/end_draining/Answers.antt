@@ -15,6 +15,6 @@ invariant_of-self c =
       client = c.self.invariant.client;
       placed =
           subst (λ (w : Table Request × Table Subscription). ArePlaced i.channels w.0 w.1 i.circuits)
-              (λ k. (ap (λ (z : Issued). z.table) (sym c.free_channel.ensures) k, sym c.drained.ensures k))
-              ((drained-keeps c.args.circuit (plain i.channels i.requests.table i.monitors i.circuits) c.args.channel).placed c.self.invariant.placed);
+          (λ k. (ap (λ (z : Issued). z.table) (sym c.free_channel.ensures) k, sym c.drained.ensures k))
+          ((drained-keeps c.args.circuit (plain i.channels i.requests.table i.monitors i.circuits) c.args.channel).placed c.self.invariant.placed);
     }

@@ -24,4 +24,4 @@ returns c =
       beacons = i.beacons;
     } in
     subst (λ (y : Client). HearsReply y c.args.circuit c.args.message.now c.answer.result (with_issued x c.answer.new.self)) c.self.view_is
-        (hears-reply x c.answer.new.self c.args.message.now _ c.answer.result c.answer.ensures)
+    (hears-reply x c.answer.new.self c.args.message.now _ c.answer.result c.answer.ensures)

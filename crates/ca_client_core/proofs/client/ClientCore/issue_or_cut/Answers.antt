@@ -9,4 +9,4 @@ use Rattle.ca_client_core.proofs.client.ClientCore.issue_or_cut.Goals as goal
 pub invariant_of-self : goal.invariant_of-self
 invariant_of-self c =
     sound-issued c.self.inside.channels c.self.inside.searches.entries c.self.inside.requests.table c.self.inside.monitors c.self.inside.circuits c.self.invariant c.args.vacant c.args.channel c.args.circuit (asked_of c.args.asked) c.issue.new.self.table
-        (subst (λ (y : Client). WasLive y c.args.channel c.args.circuit) (sym c.self.view_is) c.requires) (ap (λ (z : Issued). z.table) c.in-Ok.ensures.1)
+    (subst (λ (y : Client). WasLive y c.args.channel c.args.circuit) (sym c.self.view_is) c.requires) (ap (λ (z : Issued). z.table) c.in-Ok.ensures.1)

@@ -28,8 +28,11 @@ invariant_of-self-2 c =
     ∙ ap (λ (es : List (ℕ × search.Channel)). es ++ (c.number-cid.result, c.new-2.result) ∷ []) c.in_ok-reserve.ensures.entries
     ∙ ap (λ (n : ℕ). c.self.inside.searches.entries ++ (n, c.new-2.result) ∷ []) cid in
     let kept = client-opened c.self.inside.channels c.open.new.self c.self.inside.searches.entries c.insert.new.self.entries q c.new.result c.new-2.result c.in-Ok.ensures.0 c.in-Ok.ensures.1 more c.self.invariant.client in
-    record { client = kept; placed =
-    placed-held c.self.inside.channels c.self.inside.requests.table c.self.inside.monitors c.self.inside.circuits c.self.invariant.placed q c.new.result c.open.new.self (ap (λ (d : Channel). d.standing) c.new.ensures) c.in-Ok.ensures.0 c.in-Ok.ensures.1 }
+    record {
+      client = kept;
+      placed =
+          placed-held c.self.inside.channels c.self.inside.requests.table c.self.inside.monitors c.self.inside.circuits c.self.invariant.placed q c.new.result c.open.new.self (ap (λ (d : Channel). d.standing) c.new.ensures) c.in-Ok.ensures.0 c.in-Ok.ensures.1;
+    }
 
 pub returns : goal.returns
 returns c =
@@ -77,4 +80,4 @@ invariant_of-self-in-Err c =
     let i = c.self.inside in
     let same : c.open.new.self ≡ i.channels = refused-same i.channels c.open.new.self c.new.result _ c.in-Err.refusal c.in-Err.ensures in
     subst (λ t. IsSound t c.reserve.new.self.entries i.requests.table i.monitors i.circuits) (sym same)
-        (subst (λ es. IsSound i.channels es i.requests.table i.monitors i.circuits) (sym c.in_ok-reserve.ensures.entries) c.self.invariant)
+    (subst (λ es. IsSound i.channels es i.requests.table i.monitors i.circuits) (sym c.in_ok-reserve.ensures.entries) c.self.invariant)

@@ -21,10 +21,10 @@ invariant_of-self c =
     let none : holds (wire_of h) ns ≡ false =
     ap (λ (n : ℕ). holds n ns) (sym cid) ∙ sym (held c.number.result ns) ∙ ap is_some c.shift_remove.ensures.updates.1 in
     record {
-  client = client-gone i.channels c.free.new.self es ns h c.free.ensures.after out none c.self.invariant.client;
-  placed =
-    placed-gone c.self.inside.channels c.self.inside.requests.table c.self.inside.monitors c.self.inside.circuits c.self.invariant.placed h c.free.new.self (subst (λ (y : Client). IsBare h y) (sym c.self.view_is) c.requires) c.free.ensures.after;
-}
+      client = client-gone i.channels c.free.new.self es ns h c.free.ensures.after out none c.self.invariant.client;
+      placed =
+          placed-gone c.self.inside.channels c.self.inside.requests.table c.self.inside.monitors c.self.inside.circuits c.self.invariant.placed h c.free.new.self (subst (λ (y : Client). IsBare h y) (sym c.self.view_is) c.requires) c.free.ensures.after;
+    }
 
 pub returns : goal.returns
 returns c =

@@ -19,7 +19,7 @@ invariant_of-self c =
     let cid : c.number.result ≡ wire_of h = c.number.ensures ∙ c.of.ensures in
     let begins : ns ≡ with_one (resumed i.moment) (wire_of h) es = c.resume.ensures ∙ ap (λ (n : ℕ). with_one (resumed i.moment) n es) cid in
     record {
-  client = client-again i.channels c.bring_back.new.channels es ns (λ (here : Channel). record here { standing = Searching }) (resumed i.moment) h c.bring_back.ensures begins c.self.invariant.client;
-  placed =
-    placed-again c.self.inside.channels c.self.inside.requests.table c.self.inside.monitors c.self.inside.circuits c.self.invariant.placed h c.bring_back.new.channels (subst (λ (y : Client). IsBare h y) (sym c.self.view_is) c.requires) c.bring_back.ensures;
-}
+      client = client-again i.channels c.bring_back.new.channels es ns (λ (here : Channel). record here { standing = Searching }) (resumed i.moment) h c.bring_back.ensures begins c.self.invariant.client;
+      placed =
+          placed-again c.self.inside.channels c.self.inside.requests.table c.self.inside.monitors c.self.inside.circuits c.self.invariant.placed h c.bring_back.new.channels (subst (λ (y : Client). IsBare h y) (sym c.self.view_is) c.requires) c.bring_back.ensures;
+    }

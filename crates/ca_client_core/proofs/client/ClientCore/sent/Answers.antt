@@ -8,6 +8,6 @@ pub invariant_of-self : goal.invariant_of-self
 invariant_of-self c = elim c.match-by_handle_mut.branch [
   | in-Some w ↦
       subst (λ i. IsSound i.channels i.searches.entries i.requests.table i.monitors i.circuits) (sym w.self-inside-is)
-          (sound-mapped c.self.inside.channels c.self.inside.searches.entries c.self.inside.requests.table c.self.inside.monitors c.self.inside.circuits c.self.invariant _ c.args.circuit w.in-Some.found.now w.sent.new.self (sym w.in-Some.ensures.value) w.sent.ensures)
+      (sound-mapped c.self.inside.channels c.self.inside.searches.entries c.self.inside.requests.table c.self.inside.monitors c.self.inside.circuits c.self.invariant _ c.args.circuit w.in-Some.found.now w.sent.new.self (sym w.in-Some.ensures.value) w.sent.ensures)
   | in_default w ↦ subst (λ i. IsSound i.channels i.searches.entries i.requests.table i.monitors i.circuits) (sym w.self-inside-is) c.self.invariant
 ]

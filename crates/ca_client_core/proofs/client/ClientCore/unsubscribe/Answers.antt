@@ -88,8 +88,8 @@ invariant_of-self c =
     ∙ ap (option_map standing_of) found
     ∙ ap (λ (p : Phase). option_map standing_of (Some (standing.On c.in-On.circuit p))) c.in-Leaving.is in
     sound-staged c.self.inside.channels c.self.inside.searches.entries c.self.inside.requests.table c.self.inside.monitors c.self.inside.circuits c.self.invariant (Ended c.in-On.circuit) c.in-On.circuit s d c.end.new.self (λ on. refl)
-        (stands-as x s d stands).0 (live-at x d.channel c.in-On.circuit phase.Leaving at refl)
-        (comes-to (Ended c.in-On.circuit) i.monitors c.end.new.self s d c.end.result stands c.end.ensures)
+    (stands-as x s d stands).0 (live-at x d.channel c.in-On.circuit phase.Leaving at refl)
+    (comes-to (Ended c.in-On.circuit) i.monitors c.end.new.self s d c.end.result stands c.end.ensures)
 
 pub cancel-requires-clause-live : goal.cancel-requires-clause-live
 cancel-requires-clause-live c =
