@@ -22,3 +22,4 @@ mod Arrivals
 mod Packings
 mod Anomalies
 mod Joining
+mod Asked

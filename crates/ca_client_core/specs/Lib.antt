@@ -18,3 +18,4 @@ pub mod Turns
 pub mod Clearing
 pub mod Receiving
 pub mod Packing
+pub mod NameSearches

@@ -27,6 +27,7 @@ mod issuing;
 mod leaving;
 mod letting_go;
 mod live;
+mod name_servers;
 mod notice;
 mod notices;
 mod opening;

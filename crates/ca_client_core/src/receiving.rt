@@ -4,6 +4,7 @@ ghost use Rattle.ca_text.specs.Command.{command_number};
 ghost use Rattle.ca_text.specs.declared.command.Command.TheVariants as command;
 ghost use Rattle.ca_client_core.specs.Receiving.{Received, ReceivesOr};
 
+use crate::beacons::beacon_port;
 use crate::client::ClientCore;
 use crate::ends::Address;
 use ca_text::Command;
@@ -53,9 +54,9 @@ impl ClientCore {
         requires { message.now.command ≡ command_number command.RsrvIsUp }
         ensures { ReceivesOr self.old from message.now result self.new }
     {
-        match u16::try_from(message.count()) {
-            Ok(port) => self.hear_beacon(from, message, port),
-            Err(_) => Ok(()),
+        match beacon_port(message) {
+            Some(port) => self.hear_beacon(from, message, port),
+            None => Ok(()),
         }
     }
 }
