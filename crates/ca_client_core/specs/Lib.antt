@@ -19,3 +19,4 @@ pub mod Clearing
 pub mod Receiving
 pub mod Packing
 pub mod NameSearches
+pub mod Silences

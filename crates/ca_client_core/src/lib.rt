@@ -37,6 +37,7 @@ mod queue;
 mod reading;
 mod receiving;
 mod searching;
+mod silences;
 mod subscribing;
 mod unsubscribing;
 mod updates;
