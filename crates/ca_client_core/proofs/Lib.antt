@@ -23,3 +23,4 @@ mod Packings
 mod Anomalies
 mod Joining
 mod Asked
+mod Echoes
