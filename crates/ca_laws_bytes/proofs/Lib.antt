@@ -14,8 +14,10 @@ pub mod Tables
 pub mod Handles
 pub mod HandleEvents
 pub mod Finish
-pub mod Runs
 pub mod Fits
 pub mod Speaks
 pub mod HearSpeaks
 pub mod MoreSpeaks
+pub mod Quiet
+pub mod Speaking
+pub mod Runs
