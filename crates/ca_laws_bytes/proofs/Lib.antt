@@ -21,3 +21,6 @@ pub mod MoreSpeaks
 pub mod Quiet
 pub mod Speaking
 pub mod Runs
+pub mod DueFits
+pub mod ServerFits
+pub mod ServerCalls

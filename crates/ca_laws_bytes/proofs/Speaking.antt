@@ -33,6 +33,7 @@ use Rattle.ca_model_client.proofs.Thinner.{Thins}
 use Rattle.ca_laws_circuit.specs.Held.{AreFew}
 use Rattle.ca_laws_runs.specs.Circuit.{sent_to, stamped}
 use Rattle.ca_laws_runs.specs.Clients.{ClientsStand}
+use Rattle.ca_laws_runs.proofs.ClientsKeep.{none-under}
 use Rattle.ca_laws_runs.proofs.ClientsMore.{unconnected-is, wanted-there}
 use Rattle.ca_laws_bytes.specs.Runs.{AllFit}
 use Rattle.ca_laws_bytes.specs.Speaks.{ClientFits, SearchesFit, SendsMessages, SpeaksWell}
@@ -45,12 +46,6 @@ use Rattle.ca_laws_bytes.proofs.Quiet.{Quiet, quiet-as, quiet-map, quiet-set}
 use Rattle.ca_laws_bytes.proofs.Speaks.{clear-speaks, open-speaks, put-speaks, read-speaks, subscribe-speaks, unsubscribe-speaks, write-speaks}
 
 -- ---- a new client
-
-none-under : {T : Type 0} (h : Handle) (v : T) → under [] h ≡ Some v → ⊥
-none-under {T} h v is = nothing (place h v) (under-at [] h v is)
-  where
-    nothing : (p : Place T) → At [] h.index p → ⊥
-    nothing p e = cc
 
 pub new-fits : (a : ClientSetting) → NamesFit a.peer → ClientFits (new_client a)
 new-fits a fit = record {

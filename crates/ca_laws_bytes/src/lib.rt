@@ -3,7 +3,9 @@
 #![tactic(auto)]
 
 mod laws;
+mod sending;
 mod writes;
 
 pub use laws::{a_client_sends_messages, bytes_are_messages_in_runs, ends_take_what_was_sent};
+pub use sending::a_server_sends_messages;
 pub use writes::writes_are_applied_once_in_runs;
