@@ -81,7 +81,7 @@ fn check_sent<R: AllocGlobal + Abort>(
     row: &[u8],
 ) -> Result<(), Fail> {
     let expected = bytes_of(rt.alloc(), row)?;
-    assert_eq!(rt; taken(rt.alloc(), core, circuit)?, expected);
+    assert!(rt; taken(rt.alloc(), core, circuit)? == expected);
     Ok(())
 }
 
@@ -94,9 +94,9 @@ fn check_rows<R: AllocGlobal + Abort>(
 ) -> Result<(), Fail> {
     for (i, (row, answer, told)) in rows.iter().enumerate() {
         let heard = give(rt.alloc(), core, circuit, row)?;
-        assert_eq!(rt; heard.as_slice(), *told, "at {i}");
+        assert!(rt; heard.as_slice() == *told, "at {i}");
         let expected = bytes_of(rt.alloc(), answer)?;
-        assert_eq!(rt; taken(rt.alloc(), core, circuit)?, expected, "at {i}");
+        assert!(rt; taken(rt.alloc(), core, circuit)? == expected, "at {i}");
     }
     Ok(())
 }
@@ -106,7 +106,7 @@ fn connect<R: AllocGlobal + Abort>(rt: &R, core: &mut ClientCore) -> Result<Hand
     let circuit = wanted(core)?;
     assert!(rt; core.connected(circuit).is_none());
     check_sent(rt, core, circuit, SET_UP)?;
-    assert_eq!(rt; core.wanted()?.len(), 0);
+    assert!(rt; core.wanted()?.len() == 0);
     Ok(circuit)
 }
 
@@ -140,10 +140,10 @@ fn long(alloc: Global, number: i32) -> Result<Value, Refusal> {
 fn a_channel_is_found_and_read(rt: HostRuntime) -> Result<(), Fail> {
     let mut core = client(rt.alloc())?;
     let channel = core.open(b"TEMP", 0, 0)?;
-    assert_eq!(rt; core.channel_state(channel), Ok(ChannelState::Searching));
+    assert!(rt; core.channel_state(channel) == Ok(ChannelState::Searching));
     let circuit = connect(&rt, &mut core)?;
     check_rows(&rt, &mut core, circuit, &[(FOUND, CREATE, &[])])?;
-    assert_eq!(rt; core.channel_state(channel), Ok(ChannelState::Creating));
+    assert!(rt; core.channel_state(channel) == Ok(ChannelState::Creating));
     // A second reply is used for no channel that is not searched for.
     check_rows(&rt, &mut core, circuit, &[(FOUND, b"", &[])])?;
     check_rows(
@@ -152,12 +152,9 @@ fn a_channel_is_found_and_read(rt: HostRuntime) -> Result<(), Fail> {
         circuit,
         &[(RIGHTS, b"", &[]), (CREATED, b"", &[Told::Live(0x1_0000)])],
     )?;
-    assert_eq!(rt;
-        core.channel_state(channel),
-        Ok(ChannelState::Live(5, 1, 3))
-    );
+    assert!(rt; core.channel_state(channel) == Ok(ChannelState::Live(5, 1, 3)));
     let request = core.read(channel, 5, 1)?;
-    assert_eq!(rt; wire(request), 0x1_0000);
+    assert!(rt; wire(request) == 0x1_0000);
     check_sent(
         &rt,
         &mut core,
@@ -180,7 +177,7 @@ fn a_channel_is_found_and_read(rt: HostRuntime) -> Result<(), Fail> {
 fn ids_of_subscriptions_drain(rt: HostRuntime) -> Result<(), Fail> {
     let (mut core, circuit, channel) = live_client(&rt)?;
     let first = core.subscribe(channel, 5, 1, value_mask()?)?;
-    assert_eq!(rt; wire(first), 0x1_0000);
+    assert!(rt; wire(first) == 0x1_0000);
     check_sent(
         &rt,
         &mut core,
@@ -194,16 +191,16 @@ fn ids_of_subscriptions_drain(rt: HostRuntime) -> Result<(), Fail> {
         circuit,
         &[(update, b"", &[Told::Update(0x1_0000, 21)])],
     )?;
-    assert_eq!(rt; core.unsubscribe(first), Ok(()));
+    assert!(rt; core.unsubscribe(first) == Ok(()));
     check_sent(
         &rt,
         &mut core,
         circuit,
         b"0002 0000 0005 0001 00010000 00010000",
     )?;
-    assert_eq!(rt; core.unsubscribe(first), Err(Refusal::StaleHandle));
+    assert!(rt; core.unsubscribe(first) == Err(Refusal::StaleHandle));
     let second = core.subscribe(channel, 5, 1, value_mask()?)?;
-    assert_eq!(rt; wire(second), 0x1_0001);
+    assert!(rt; wire(second) == 0x1_0001);
     check_sent(
         &rt,
         &mut core,
@@ -222,7 +219,7 @@ fn ids_of_subscriptions_drain(rt: HostRuntime) -> Result<(), Fail> {
         ],
     )?;
     let third = core.subscribe(channel, 5, 1, value_mask()?)?;
-    assert_eq!(rt; wire(third), 0x2_0000);
+    assert!(rt; wire(third) == 0x2_0000);
     Ok(())
 }
 
@@ -234,8 +231,8 @@ fn a_channel_is_cleared_while_it_is_created(rt: HostRuntime) -> Result<(), Fail>
     check_rows(&rt, &mut core, circuit, &[(FOUND, CREATE, &[])])?;
     let mut told = Vec::new(rt.alloc());
     told_all(core.clear(channel)?, &mut told)?;
-    assert_eq!(rt; told.len(), 0);
-    assert_eq!(rt; core.channel_state(channel), Err(Refusal::StaleHandle));
+    assert!(rt; told.len() == 0);
+    assert!(rt; core.channel_state(channel) == Err(Refusal::StaleHandle));
     // The CLEAR_CHANNEL goes out once the channel is created, and once.
     check_rows(
         &rt,
@@ -244,9 +241,9 @@ fn a_channel_is_cleared_while_it_is_created(rt: HostRuntime) -> Result<(), Fail>
         &[(RIGHTS, b"", &[]), (CREATED, CLEAR, &[])],
     )?;
     let other = core.open(b"TEMP", 0, 0)?;
-    assert_eq!(rt; wire(other), 0x1_0001);
+    assert!(rt; wire(other) == 0x1_0001);
     check_rows(&rt, &mut core, circuit, &[(CLEAR, b"", &[])])?;
-    assert_eq!(rt; wire(core.open(b"TEMP", 0, 0)?), 0x2_0000);
+    assert!(rt; wire(core.open(b"TEMP", 0, 0)?) == 0x2_0000);
     Ok(())
 }
 
@@ -259,23 +256,23 @@ fn nothing_is_sent_again_after_a_loss(rt: HostRuntime) -> Result<(), Fail> {
     core.read(channel, 5, 1)?;
     assert!(rt; core.out_bytes(circuit).len() == 32 + 16 + 24 + 16);
     let closing = core.cut(circuit);
-    assert_eq!(rt; closing.why, Why::Cut);
+    assert!(rt; closing.why == Why::Cut);
     let mut told = Vec::new(rt.alloc());
     told_all(closing.notices, &mut told)?;
-    assert_eq!(rt;
-        told.as_slice(),
-        [
-            Told::Disconnected(0x1_0000),
-            Told::Disconnected(0x1_0001),
-            Told::Disconnected(0x1_0002),
-            Told::Lost(0x1_0000),
-        ]
-        .as_slice()
+    assert!(rt;
+        told.as_slice()
+            == [
+                Told::Disconnected(0x1_0000),
+                Told::Disconnected(0x1_0001),
+                Told::Disconnected(0x1_0002),
+                Told::Lost(0x1_0000),
+            ]
+            .as_slice()
     );
-    assert_eq!(rt; core.channel_state(channel), Ok(ChannelState::Searching));
-    assert_eq!(rt; core.read(channel, 5, 1), Err(Refusal::NotLive));
+    assert!(rt; core.channel_state(channel) == Ok(ChannelState::Searching));
+    assert!(rt; core.read(channel, 5, 1) == Err(Refusal::NotLive));
     assert!(rt; matches!(core.step(circuit), Stepped::Closed(it) if it.why == Why::Cut));
-    assert_eq!(rt; core.give(circuit, b"", false), Err(Refusal::CircuitClosed));
+    assert!(rt; core.give(circuit, b"", false) == Err(Refusal::CircuitClosed));
     // The name server is wanted again. The subscription is made again, under its id, and nothing else.
     let circuit = connect(&rt, &mut core)?;
     check_rows(
@@ -293,8 +290,8 @@ fn nothing_is_sent_again_after_a_loss(rt: HostRuntime) -> Result<(), Fail> {
         ],
     )?;
     // Requests' ids are free again, the highest first.
-    assert_eq!(rt; wire(core.read(channel, 5, 1)?), 0x2_0002);
-    assert_eq!(rt; wire(core.read(channel, 5, 1)?), 0x2_0001);
+    assert!(rt; wire(core.read(channel, 5, 1)?) == 0x2_0002);
+    assert!(rt; wire(core.read(channel, 5, 1)?) == 0x2_0001);
     Ok(())
 }
 
@@ -311,8 +308,8 @@ fn a_channel_leaves_with_its_record(rt: HostRuntime) -> Result<(), Fail> {
     let gone: &[u8] = b"001B 0000 0000 0000 00010000 00000000";
     let told: &[Told] = &[Told::Disconnected(0x1_0000), Told::Lost(0x1_0000)];
     check_rows(&rt, &mut core, circuit, &[(gone, CLEAR, told)])?;
-    assert_eq!(rt; core.channel_state(channel), Ok(ChannelState::Leaving));
-    assert_eq!(rt; core.read(channel, 5, 1), Err(Refusal::NotLive));
+    assert!(rt; core.channel_state(channel) == Ok(ChannelState::Leaving));
+    assert!(rt; core.read(channel, 5, 1) == Err(Refusal::NotLive));
     check_rows(
         &rt,
         &mut core,
@@ -323,15 +320,15 @@ fn a_channel_leaves_with_its_record(rt: HostRuntime) -> Result<(), Fail> {
             (CLEAR, b"", &[]),
         ],
     )?;
-    assert_eq!(rt; core.channel_state(channel), Ok(ChannelState::Searching));
+    assert!(rt; core.channel_state(channel) == Ok(ChannelState::Searching));
     check_rows(&rt, &mut core, circuit, &[(FOUND, CREATE, &[])])
 }
 
 #[test]
 fn calls_are_refused_in_order(rt: HostRuntime) -> Result<(), Fail> {
     let (mut core, circuit, channel) = live_client(&rt)?;
-    assert_eq!(rt; core.open(b"", 100, 0), Err(Refusal::NameLength));
-    assert_eq!(rt; core.open(b"TEMP", 100, 0), Err(Refusal::BadPriority));
+    assert!(rt; core.open(b"", 100, 0) == Err(Refusal::NameLength));
+    assert!(rt; core.open(b"TEMP", 100, 0) == Err(Refusal::BadPriority));
     let stale = Handle {
         index: channel.index,
         generation: 2,
@@ -345,13 +342,12 @@ fn calls_are_refused_in_order(rt: HostRuntime) -> Result<(), Fail> {
         (channel, 5, 2, Refusal::BadCount),
     ];
     for (i, (handle, data_type, count, refusal)) in rows.iter().enumerate() {
-        assert_eq!(rt;
-            core.read(*handle, *data_type, *count),
-            Err(*refusal),
+        assert!(rt;
+            core.read(*handle, *data_type, *count) == Err(*refusal),
             "at {i}"
         );
         let refused = core.subscribe(*handle, *data_type, *count, value_mask()?);
-        assert_eq!(rt; refused, Err(*refusal), "at {i}");
+        assert!(rt; refused == Err(*refusal), "at {i}");
     }
     let two = Value::Longs(vec![in rt.alloc(); 1; 2]?);
     let none = Value::Longs(Vec::new(rt.alloc()));
@@ -362,27 +358,27 @@ fn calls_are_refused_in_order(rt: HostRuntime) -> Result<(), Fail> {
         (channel, &none, Refusal::BadCount),
     ];
     for (i, (handle, value, refusal)) in rows.iter().enumerate() {
-        assert_eq!(rt; core.write(*handle, value), Err(*refusal), "at {i}");
-        assert_eq!(rt; core.write_notify(*handle, value), Err(*refusal), "at {i}");
+        assert!(rt; core.write(*handle, value) == Err(*refusal), "at {i}");
+        assert!(rt;
+            core.write_notify(*handle, value) == Err(*refusal),
+            "at {i}"
+        );
     }
-    assert_eq!(rt; core.unsubscribe(stale), Err(Refusal::StaleHandle));
+    assert!(rt; core.unsubscribe(stale) == Err(Refusal::StaleHandle));
     assert!(rt; matches!(core.clear(stale), Err(Refusal::StaleHandle)));
-    assert_eq!(rt; core.channel_state(stale), Err(Refusal::StaleHandle));
-    assert_eq!(rt; core.out_bytes(circuit).len(), 0);
+    assert!(rt; core.channel_state(stale) == Err(Refusal::StaleHandle));
+    assert!(rt; core.out_bytes(circuit).len() == 0);
     // Rights to read alone.
     let rights: &[u8] = b"0016 0000 0000 0000 00010000 00000001";
     check_rows(&rt, &mut core, circuit, &[(rights, b"", &[])])?;
-    assert_eq!(rt; core.write(channel, &two), Err(Refusal::NoAccess));
-    assert_eq!(rt; core.write_notify(channel, &two), Err(Refusal::NoAccess));
-    assert_eq!(rt; core.read(channel, 5, 2), Err(Refusal::BadCount));
+    assert!(rt; core.write(channel, &two) == Err(Refusal::NoAccess));
+    assert!(rt; core.write_notify(channel, &two) == Err(Refusal::NoAccess));
+    assert!(rt; core.read(channel, 5, 2) == Err(Refusal::BadCount));
     let rights: &[u8] = b"0016 0000 0000 0000 00010000 00000002";
     check_rows(&rt, &mut core, circuit, &[(rights, b"", &[])])?;
-    assert_eq!(rt; core.read(channel, 36, 2), Err(Refusal::BadType));
-    assert_eq!(rt; core.read(channel, 5, 2), Err(Refusal::NoAccess));
-    assert_eq!(rt;
-        core.subscribe(channel, 5, 2, value_mask()?),
-        Err(Refusal::NoAccess)
-    );
+    assert!(rt; core.read(channel, 36, 2) == Err(Refusal::BadType));
+    assert!(rt; core.read(channel, 5, 2) == Err(Refusal::NoAccess));
+    assert!(rt; core.subscribe(channel, 5, 2, value_mask()?) == Err(Refusal::NoAccess));
     Ok(())
 }
 
@@ -390,8 +386,8 @@ fn calls_are_refused_in_order(rt: HostRuntime) -> Result<(), Fail> {
 fn events_are_paused_after_ten_crowded_reads(rt: HostRuntime) -> Result<(), Fail> {
     let (mut core, circuit, _) = live_client(&rt)?;
     for i in 1..11 {
-        assert_eq!(rt; core.out_bytes(circuit).len(), 0, "at {i}");
-        assert_eq!(rt; core.give(circuit, b"", true), Ok(()));
+        assert!(rt; core.out_bytes(circuit).len() == 0, "at {i}");
+        assert!(rt; core.give(circuit, b"", true) == Ok(()));
     }
     check_sent(
         &rt,
@@ -399,9 +395,9 @@ fn events_are_paused_after_ten_crowded_reads(rt: HostRuntime) -> Result<(), Fail
         circuit,
         b"0008 0000 0000 0000 00000000 00000000",
     )?;
-    assert_eq!(rt; core.give(circuit, b"", true), Ok(()));
+    assert!(rt; core.give(circuit, b"", true) == Ok(()));
     check_sent(&rt, &mut core, circuit, b"")?;
-    assert_eq!(rt; core.give(circuit, b"", false), Ok(()));
+    assert!(rt; core.give(circuit, b"", false) == Ok(()));
     check_sent(
         &rt,
         &mut core,
@@ -587,7 +583,7 @@ fn a_refused_growth_leaves_a_client_of_use(rt: HostRuntime) -> Result<(), Fail> 
     let second = uses(rt.alloc(), &mut core, &mut circuit);
     assert!(rt; matches!(second, Ok(()) | Err(Refusal::OutOfMemory)));
     if second.is_err() {
-        assert_eq!(rt; uses(rt.alloc(), &mut core, &mut circuit), Ok(()));
+        assert!(rt; uses(rt.alloc(), &mut core, &mut circuit) == Ok(()));
     }
     Ok(())
 }

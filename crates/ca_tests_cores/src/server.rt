@@ -72,7 +72,7 @@ fn check_rows<R: AllocGlobal + Abort>(
         assert!(rt; matches!(step, Step::NeedBytes), "at {i}");
         core.pump(circuit);
         let expected = bytes_of(rt.alloc(), answer)?;
-        assert_eq!(rt; taken(rt.alloc(), core, circuit)?, expected, "at {i}");
+        assert!(rt; taken(rt.alloc(), core, circuit)? == expected, "at {i}");
     }
     Ok(())
 }
@@ -174,11 +174,11 @@ fn puts_of_a_circuit_that_is_cut_are_never_applied(rt: HostRuntime) -> Result<()
     for i in 1..17 {
         let row: &[u8] = b"0013 0008 0005 0001 00010000 00020000 00000007 00000000";
         check_rows(&rt, &mut core, writer, &[(row, b"")])?;
-        assert_eq!(rt; (core.applied(), core.waiting()), (1, i - 1));
+        assert!(rt; (core.applied(), core.waiting()) == (1, i - 1));
     }
     let row: &[u8] = b"0013 0008 0005 0001 00010000 00020000 00000008 00000000";
     check_rows(&rt, &mut core, writer, &[(row, b"")])?;
-    assert_eq!(rt; (core.applied(), core.waiting()), (1, 16));
+    assert!(rt; (core.applied(), core.waiting()) == (1, 16));
     check_rows(
         &rt,
         &mut core,
@@ -186,11 +186,11 @@ fn puts_of_a_circuit_that_is_cut_are_never_applied(rt: HostRuntime) -> Result<()
         &[(row, b"0013 0000 0005 0001 000000A0 00020000")],
     )?;
     core.cut(writer);
-    assert_eq!(rt; (core.applied(), core.waiting()), (1, 0));
-    assert_eq!(rt; core.finish(b"SLOW"), Ok(()));
-    assert_eq!(rt; core.finish(b"SLOW"), Err(Refusal::NotBusy));
-    assert_eq!(rt; core.finish(b"NONE"), Err(Refusal::UnknownRecord));
-    assert_eq!(rt; core.applied(), 1);
+    assert!(rt; (core.applied(), core.waiting()) == (1, 0));
+    assert!(rt; core.finish(b"SLOW") == Ok(()));
+    assert!(rt; core.finish(b"SLOW") == Err(Refusal::NotBusy));
+    assert!(rt; core.finish(b"NONE") == Err(Refusal::UnknownRecord));
+    assert!(rt; core.applied() == 1);
     check_rows(
         &rt,
         &mut core,
@@ -228,19 +228,19 @@ fn puts_are_answered_as_they_finish(rt: HostRuntime) -> Result<(), Fail> {
             ),
         ],
     )?;
-    assert_eq!(rt; core.finish(b"SLOW"), Ok(()));
-    assert_eq!(rt;
-        taken(rt.alloc(), &mut core, circuit)?,
-        bytes_of(rt.alloc(), b"0013 0000 0005 0001 00000001 00020000")?
+    assert!(rt; core.finish(b"SLOW") == Ok(()));
+    assert!(rt;
+        taken(rt.alloc(), &mut core, circuit)?
+            == bytes_of(rt.alloc(), b"0013 0000 0005 0001 00000001 00020000")?
     );
     let read: &[u8] = b"000F 0008 0005 0001 00000001 00010000 00000006 00000000";
     check_rows(&rt, &mut core, circuit, &[(READ, read)])?;
-    assert_eq!(rt; core.finish(b"SLOW"), Ok(()));
-    assert_eq!(rt;
-        taken(rt.alloc(), &mut core, circuit)?,
-        bytes_of(rt.alloc(), b"0013 0000 0005 0001 00000001 00020001")?
+    assert!(rt; core.finish(b"SLOW") == Ok(()));
+    assert!(rt;
+        taken(rt.alloc(), &mut core, circuit)?
+            == bytes_of(rt.alloc(), b"0013 0000 0005 0001 00000001 00020001")?
     );
-    assert_eq!(rt; (core.applied(), core.waiting()), (2, 0));
+    assert!(rt; (core.applied(), core.waiting()) == (2, 0));
     Ok(())
 }
 
@@ -272,25 +272,19 @@ fn posts_reach_subscriptions_on_all_circuits(rt: HostRuntime) -> Result<(), Fail
         b,
         &[(CREATE_TEMP, CREATED), (by_log, first)],
     )?;
-    assert_eq!(rt;
-        core.post(b"TEMP", long(rt.alloc(), 22)?, Meta::ZERO, 1),
-        Ok(())
-    );
+    assert!(rt; core.post(b"TEMP", long(rt.alloc(), 22)?, Meta::ZERO, 1) == Ok(()));
     let update = bytes_of(
         rt.alloc(),
         b"0001 0008 0005 0001 00000001 00010000 00000016 00000000",
     )?;
-    assert_eq!(rt; pumped(rt.alloc(), &mut core, a)?, update);
-    assert_eq!(rt; pumped(rt.alloc(), &mut core, a)?.len(), 0);
-    assert_eq!(rt; pumped(rt.alloc(), &mut core, b)?.len(), 0);
+    assert!(rt; pumped(rt.alloc(), &mut core, a)? == update);
+    assert!(rt; pumped(rt.alloc(), &mut core, a)?.len() == 0);
+    assert!(rt; pumped(rt.alloc(), &mut core, b)?.len() == 0);
     // A write on one circuit reaches both.
     let write: &[u8] = b"0004 0008 0005 0001 00010000 00000000 00000017 00000000";
     let update: &[u8] = b"0001 0008 0005 0001 00000001 00010000 00000017 00000000";
     check_rows(&rt, &mut core, a, &[(write, update)])?;
-    assert_eq!(rt;
-        pumped(rt.alloc(), &mut core, b)?,
-        bytes_of(rt.alloc(), update)?
-    );
+    assert!(rt; pumped(rt.alloc(), &mut core, b)? == bytes_of(rt.alloc(), update)?);
     // After the cancel nothing more.
     let cancel: &[u8] = b"0002 0000 0005 0001 00010000 00010000";
     let end: &[u8] = b"0001 0000 0005 0001 00010000 00010000";
@@ -300,20 +294,13 @@ fn posts_reach_subscriptions_on_all_circuits(rt: HostRuntime) -> Result<(), Fail
         a,
         &[(write, update), (cancel, end), (write, b"")],
     )?;
-    assert_eq!(rt;
-        core.post(b"NONE", long(rt.alloc(), 1)?, Meta::ZERO, 1),
-        Err(Refusal::UnknownRecord)
+    assert!(rt;
+        core.post(b"NONE", long(rt.alloc(), 1)?, Meta::ZERO, 1) == Err(Refusal::UnknownRecord)
     );
     let text = Value::Ints(vec![in rt.alloc(); 1; 1]?);
-    assert_eq!(rt;
-        core.post(b"TEMP", text, Meta::ZERO, 1),
-        Err(Refusal::BadType)
-    );
+    assert!(rt; core.post(b"TEMP", text, Meta::ZERO, 1) == Err(Refusal::BadType));
     let two = Value::Longs(vec![in rt.alloc(); 1; 2]?);
-    assert_eq!(rt;
-        core.post(b"TEMP", two, Meta::ZERO, 1),
-        Err(Refusal::BadCount)
-    );
+    assert!(rt; core.post(b"TEMP", two, Meta::ZERO, 1) == Err(Refusal::BadCount));
     Ok(())
 }
 
@@ -329,13 +316,13 @@ fn searches_and_beacons_are_sent(rt: HostRuntime) -> Result<(), Fail> {
         b"0000 0000 0000 000D 00000000 00000000 0006 0008 13C8 0000 FFFFFFFF 00010000 000D 0000 0000 0000",
     )?;
     let replies = core.datagram(search.as_slice())?;
-    assert_eq!(rt; replies.len(), 1);
+    assert!(rt; replies.len() == 1);
     assert!(rt; matches!(replies.first(), Some(it) if *it == reply));
     let none = bytes_of(
         rt.alloc(),
         b"0000 0000 0000 000D 00000000 00000000 0006 0008 0005 000D 00010000 00010000 4E4F4E45 00000000",
     )?;
-    assert_eq!(rt; core.datagram(none.as_slice())?.len(), 0);
+    assert!(rt; core.datagram(none.as_slice())?.len() == 0);
     let beacon = bytes_of(rt.alloc(), b"000D 0000 000D 13C8 00000000 00000000")?;
     assert!(rt; matches!(core.beacon(0), Some(it) if it.as_slice() == beacon.as_slice()));
     let rows = [
@@ -347,7 +334,7 @@ fn searches_and_beacons_are_sent(rt: HostRuntime) -> Result<(), Fail> {
         (140, true),
     ];
     for (now, is_due) in rows {
-        assert_eq!(rt; core.beacon(now).is_some(), is_due, "at {now}");
+        assert!(rt; core.beacon(now).is_some() == is_due, "at {now}");
     }
     Ok(())
 }
@@ -367,7 +354,7 @@ fn no_message_is_handled_while_too_much_waits(rt: HostRuntime) -> Result<(), Fai
             Step::OutputFull
         )
     );
-    assert_eq!(rt; core.out_bytes(circuit).len(), 2_097_176);
+    assert!(rt; core.out_bytes(circuit).len() == 2_097_176);
     let echo: &[u8] = b"0017 0000 0000 0000 00000000 00000000";
     assert!(rt;
         matches!(
@@ -375,9 +362,9 @@ fn no_message_is_handled_while_too_much_waits(rt: HostRuntime) -> Result<(), Fai
             Step::OutputFull
         )
     );
-    assert_eq!(rt; core.out_bytes(circuit).len(), 2_097_176);
+    assert!(rt; core.out_bytes(circuit).len() == 2_097_176);
     core.sent(circuit, 1_835_033);
     assert!(rt; matches!(core.step(circuit), Step::Handled));
-    assert_eq!(rt; core.out_bytes(circuit).len(), 262_159);
+    assert!(rt; core.out_bytes(circuit).len() == 262_159);
     Ok(())
 }

@@ -56,7 +56,7 @@ fn updated(subscription: u32, outcome: &Outcome) -> Told {
     }
 }
 
-fn told(notice: &Notice) -> Told {
+fn in_short(notice: &Notice) -> Told {
     match notice {
         Notice::Live(channel) => Told::Live(wire(*channel)),
         Notice::Lost(channel) => Told::Lost(wire(*channel)),
@@ -73,7 +73,7 @@ fn told(notice: &Notice) -> Told {
 pub fn told_all(mut notices: Notices, at: &mut Vec<Told>) -> Result<(), Refusal> {
     for _ in 0..1000 {
         match notices.next() {
-            Some(notice) => at.push(told(&notice))?,
+            Some(notice) => at.push(in_short(&notice))?,
             None => break,
         }
     }
