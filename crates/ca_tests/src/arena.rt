@@ -11,21 +11,21 @@ fn freed_index_comes_back_with_next_generation(rt: HostRuntime) -> Result<(), Fa
     let mut arena = Arena::new(rt.alloc());
     let a = arena.insert(b'a')?;
     let b = arena.insert(b'b')?;
-    assert_eq!(rt; arena.remove(a)?, b'a');
-    assert_eq!(rt; arena.handle_at(0), None);
+    assert!(rt; arena.remove(a)? == b'a');
+    assert!(rt; arena.handle_at(0) == None);
     let c = arena.insert(b'c')?;
-    assert_eq!(rt; c, handle(0, 2));
-    assert_eq!(rt; arena.get(a).copied(), None);
-    assert_eq!(rt; arena.remove(a), Err(Refusal::StaleHandle));
+    assert!(rt; c == handle(0, 2));
+    assert!(rt; arena.get(a).copied() == None);
+    assert!(rt; arena.remove(a) == Err(Refusal::StaleHandle));
     if let Some(value) = arena.get_mut(b) {
         *value = b'd';
     }
-    assert_eq!(rt; arena.get(b).copied(), Some(b'd'));
-    assert_eq!(rt; arena.next_of(None), Some(c));
-    assert_eq!(rt; arena.next_of(Some(a)), Some(b));
-    assert_eq!(rt; arena.next_of(Some(b)), None);
-    assert_eq!(rt; arena.handle_at(1), Some(handle(1, 1)));
-    assert_eq!(rt; arena.len(), 2);
+    assert!(rt; arena.get(b).copied() == Some(b'd'));
+    assert!(rt; arena.next_of(None) == Some(c));
+    assert!(rt; arena.next_of(Some(a)) == Some(b));
+    assert!(rt; arena.next_of(Some(b)) == None);
+    assert!(rt; arena.handle_at(1) == Some(handle(1, 1)));
+    assert!(rt; arena.len() == 2);
     assert!(rt; !arena.is_empty());
     Ok(())
 }
@@ -36,10 +36,10 @@ fn each_generation_finds_its_value(rt: HostRuntime) -> Result<(), Fail> {
     let mut arena = Arena::new(rt.alloc());
     for generation in 1..=70_000u32 {
         let given = arena.insert(generation)?;
-        assert_eq!(rt; given, handle(0, generation));
-        assert_eq!(rt; arena.get(given).copied(), Some(generation));
-        assert_eq!(rt; arena.get(handle(0, generation - 1)).copied(), None);
-        assert_eq!(rt; arena.remove(given)?, generation);
+        assert!(rt; given == handle(0, generation));
+        assert!(rt; arena.get(given).copied() == Some(generation));
+        assert!(rt; arena.get(handle(0, generation - 1)).copied() == None);
+        assert!(rt; arena.remove(given)? == generation);
     }
     Ok(())
 }
@@ -54,7 +54,7 @@ fn index_freed_last_goes_first(rt: HostRuntime) -> Result<(), Fail> {
         arena.remove(handle(index, 1))?;
     }
     for next in [handle(0, 2), handle(3, 2), handle(1, 2), handle(4, 1)] {
-        assert_eq!(rt; arena.insert(0)?, next);
+        assert!(rt; arena.insert(0)? == next);
     }
     Ok(())
 }
@@ -62,15 +62,15 @@ fn index_freed_last_goes_first(rt: HostRuntime) -> Result<(), Fail> {
 #[test]
 fn full_arena_hands_the_value_back(rt: HostRuntime) -> Result<(), Fail> {
     let mut arena = Arena::new(rt.alloc());
-    assert_eq!(rt; arena.free_slots(), 65_536);
+    assert!(rt; arena.free_slots() == 65_536);
     for index in 0..=u16::MAX {
-        assert_eq!(rt; arena.insert(index)?, handle(index, 1));
+        assert!(rt; arena.insert(index)? == handle(index, 1));
     }
-    assert_eq!(rt; arena.insert(7), Err((7, Refusal::ArenaFull)));
-    assert_eq!(rt; arena.len(), ARENA_SLOTS);
-    assert_eq!(rt; arena.free_slots(), 0);
+    assert!(rt; arena.insert(7) == Err((7, Refusal::ArenaFull)));
+    assert!(rt; arena.len() == ARENA_SLOTS);
+    assert!(rt; arena.free_slots() == 0);
     arena.remove(handle(40_000, 1))?;
-    assert_eq!(rt; arena.insert(7)?, handle(40_000, 2));
+    assert!(rt; arena.insert(7)? == handle(40_000, 2));
     Ok(())
 }
 
@@ -83,16 +83,16 @@ fn refused_growth_changes_nothing(rt: HostRuntime) -> Result<(), Fail> {
         let given = match arena.insert(index) {
             Ok(given) => given,
             Err(refused) => {
-                assert_eq!(rt; refused, (index, Refusal::OutOfMemory));
-                assert_eq!(rt; arena.len(), usize::from(index));
-                assert_eq!(rt; arena.free_slots(), free);
+                assert!(rt; refused == (index, Refusal::OutOfMemory));
+                assert!(rt; arena.len() == usize::from(index));
+                assert!(rt; arena.free_slots() == free);
                 for before in 0..index {
-                    assert_eq!(rt; arena.get(handle(before, 1)).copied(), Some(before));
+                    assert!(rt; arena.get(handle(before, 1)).copied() == Some(before));
                 }
                 arena.insert(index)?
             }
         };
-        assert_eq!(rt; given, handle(index, 1));
+        assert!(rt; given == handle(index, 1));
     }
     Ok(())
 }

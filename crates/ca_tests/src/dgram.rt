@@ -9,21 +9,21 @@ const SEARCH: &[u8] =
 
 #[test]
 fn fixed_messages_are_written(rt: HostRuntime) {
-    assert_eq!(rt;
-        beacon(0, 5_064).as_slice(),
-        b"\x00\x0d\x00\x00\x00\x0d\x13\xc8\0\0\0\0\0\0\0\0".as_slice()
+    assert!(rt;
+        beacon(0, 5_064).as_slice()
+            == b"\x00\x0d\x00\x00\x00\x0d\x13\xc8\0\0\0\0\0\0\0\0".as_slice()
     );
-    assert_eq!(rt;
-        beacon(7, 5_064).as_slice(),
-        b"\x00\x0d\x00\x00\x00\x0d\x13\xc8\0\0\0\x07\0\0\0\0".as_slice()
+    assert!(rt;
+        beacon(7, 5_064).as_slice()
+            == b"\x00\x0d\x00\x00\x00\x0d\x13\xc8\0\0\0\x07\0\0\0\0".as_slice()
     );
-    assert_eq!(rt;
-        register(Ipv4Addr::LOCALHOST).as_slice(),
-        b"\x00\x18\x00\x00\x00\x00\x00\x00\0\0\0\0\x7f\x00\x00\x01".as_slice()
+    assert!(rt;
+        register(Ipv4Addr::LOCALHOST).as_slice()
+            == b"\x00\x18\x00\x00\x00\x00\x00\x00\0\0\0\0\x7f\x00\x00\x01".as_slice()
     );
-    assert_eq!(rt;
-        confirm().as_slice(),
-        b"\x00\x11\x00\x00\x00\x00\x00\x00\0\0\0\0\x7f\x00\x00\x01".as_slice()
+    assert!(rt;
+        confirm().as_slice()
+            == b"\x00\x11\x00\x00\x00\x00\x00\x00\0\0\0\0\x7f\x00\x00\x01".as_slice()
     );
 }
 
@@ -31,7 +31,7 @@ fn fixed_messages_are_written(rt: HostRuntime) {
 fn a_search_is_written(rt: HostRuntime) -> Result<(), Fail> {
     let mut out = Vec::new(rt.alloc());
     search_into(0x1_0000, &ChannelName::read(b"TEMP")?, &mut out)?;
-    assert_eq!(rt; out.as_slice(), SEARCH);
+    assert!(rt; out.as_slice() == SEARCH);
     Ok(())
 }
 
@@ -41,12 +41,12 @@ fn a_datagram_has_1024_bytes(rt: HostRuntime) -> Result<(), Fail> {
     let letters = [b'a'; 500];
     let mut out = Vec::new(rt.alloc());
     search_into(1, &ChannelName::read(&letters)?, &mut out)?;
-    assert_eq!(rt; out.len(), 536);
+    assert!(rt; out.len() == 536);
     let refused = search_into(2, &ChannelName::read(&letters[..472])?, &mut out);
     assert!(rt; refused == Err(Refusal::DatagramTooLong));
-    assert_eq!(rt; out.len(), 536);
+    assert!(rt; out.len() == 536);
     search_into(2, &ChannelName::read(&letters[..471])?, &mut out)?;
-    assert_eq!(rt; out.len(), 1_024);
+    assert!(rt; out.len() == 1_024);
     Ok(())
 }
 
@@ -62,14 +62,11 @@ fn a_cut_datagram_is_read(rt: HostRuntime) -> Result<(), Fail> {
         } else {
             2
         };
-        assert_eq!(rt; datagram.messages().len(), whole);
+        assert!(rt; datagram.messages().len() == whole);
     }
     let datagram = Datagram::read(rt.alloc(), SEARCH)?;
-    assert_eq!(rt; datagram.messages().len(), 2);
-    assert_eq!(rt;
-        datagram.messages()[1].payload(),
-        b"TEMP\0\0\0\0".as_slice()
-    );
+    assert!(rt; datagram.messages().len() == 2);
+    assert!(rt; datagram.messages()[1].payload() == b"TEMP\0\0\0\0".as_slice());
     Ok(())
 }
 
@@ -79,6 +76,6 @@ fn a_bad_header_ends_the_reading(rt: HostRuntime) -> Result<(), Fail> {
     let bytes =
         b"\x00\x00\x00\x00\x00\x00\x00\x0d\0\0\0\0\0\0\0\0\x00\x06\x00\x0c\x00\x05\x00\x0d\0\0\0\0\0\0\0\0TEMP\0\0\0\0TEMP\0\0\0\0";
     let datagram = Datagram::read(rt.alloc(), bytes)?;
-    assert_eq!(rt; datagram.messages().len(), 1);
+    assert!(rt; datagram.messages().len() == 1);
     Ok(())
 }

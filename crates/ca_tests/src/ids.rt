@@ -11,15 +11,15 @@ const fn handle(index: u16, generation: u32) -> Handle {
 fn retired_handle_is_stale_while_its_id_drains(rt: HostRuntime) -> Result<(), Fail> {
     let mut table = IdTable::new(rt.alloc());
     let (open, id) = table.open(b'a')?;
-    assert_eq!(rt; table.by_wire(id)?, open);
+    assert!(rt; table.by_wire(id)? == open);
     if let Some(value) = table.by_handle_mut(open) {
         *value = b'b';
     }
-    assert_eq!(rt; table.retire(open)?, b'b');
-    assert_eq!(rt; table.by_handle(open).copied(), None);
-    assert_eq!(rt; table.by_wire(id), Err(Refusal::Draining));
-    assert_eq!(rt; table.retire(open), Err(Refusal::StaleHandle));
-    assert_eq!(rt; table.free_slots(), 65_535);
+    assert!(rt; table.retire(open)? == b'b');
+    assert!(rt; table.by_handle(open).copied() == None);
+    assert!(rt; table.by_wire(id) == Err(Refusal::Draining));
+    assert!(rt; table.retire(open) == Err(Refusal::StaleHandle));
+    assert!(rt; table.free_slots() == 65_535);
     Ok(())
 }
 
@@ -27,17 +27,17 @@ fn retired_handle_is_stale_while_its_id_drains(rt: HostRuntime) -> Result<(), Fa
 fn id_comes_back_after_it_drained(rt: HostRuntime) -> Result<(), Fail> {
     let mut table = IdTable::new(rt.alloc());
     let (first, id) = table.open(b'a')?;
-    assert_eq!(rt; id.number(), 0x0001_0000);
-    assert_eq!(rt; table.drained(id), Err(Refusal::StaleHandle));
+    assert!(rt; id.number() == 0x0001_0000);
+    assert!(rt; table.drained(id) == Err(Refusal::StaleHandle));
     table.retire(first)?;
     let (second, other) = table.open(b'b')?;
-    assert_eq!(rt; other.number(), 0x0001_0001);
-    assert_eq!(rt; table.next_of(None), Some(second));
+    assert!(rt; other.number() == 0x0001_0001);
+    assert!(rt; table.next_of(None) == Some(second));
     table.drained(id)?;
-    assert_eq!(rt; table.by_wire(id), Err(Refusal::StaleHandle));
+    assert!(rt; table.by_wire(id) == Err(Refusal::StaleHandle));
     let (third, again) = table.open(b'c')?;
-    assert_eq!(rt; again.number(), 0x0002_0000);
-    assert_eq!(rt; table.by_wire(WireId::new(0x0002_0000))?, third);
+    assert!(rt; again.number() == 0x0002_0000);
+    assert!(rt; table.by_wire(WireId::new(0x0002_0000))? == third);
     Ok(())
 }
 
@@ -54,7 +54,7 @@ fn highest_of_those_that_drained_goes_first(rt: HostRuntime) -> Result<(), Fail>
         table.drained(WireId::of(handle(index, 1)))?;
     }
     for number in [0x0002_0002, 0x0002_0001, 0x0002_0000] {
-        assert_eq!(rt; table.open(0)?.1.number(), number);
+        assert!(rt; table.open(0)?.1.number() == number);
     }
     Ok(())
 }
@@ -64,14 +64,14 @@ fn same_id_comes_round_under_another_handle(rt: HostRuntime) -> Result<(), Fail>
     let mut table = IdTable::new(rt.alloc());
     for round in 0..65_536u32 {
         let (open, id) = table.open(round)?;
-        assert_eq!(rt; table.retire(open)?, round);
+        assert!(rt; table.retire(open)? == round);
         table.drained(id)?;
     }
     let (last, id) = table.open(7)?;
-    assert_eq!(rt; id.number(), 0x0001_0000);
-    assert_eq!(rt; last, handle(0, 65_537));
-    assert_eq!(rt; table.by_handle(handle(0, 1)).copied(), None);
-    assert_eq!(rt; table.by_handle(last).copied(), Some(7));
+    assert!(rt; id.number() == 0x0001_0000);
+    assert!(rt; last == handle(0, 65_537));
+    assert!(rt; table.by_handle(handle(0, 1)).copied() == None);
+    assert!(rt; table.by_handle(last).copied() == Some(7));
     Ok(())
 }
 
@@ -82,8 +82,8 @@ fn full_table_hands_the_value_back(rt: HostRuntime) -> Result<(), Fail> {
         table.open(value)?;
     }
     table.retire(handle(9, 1))?;
-    assert_eq!(rt; table.open(1), Err((1, Refusal::ArenaFull)));
+    assert!(rt; table.open(1) == Err((1, Refusal::ArenaFull)));
     table.drained(WireId::of(handle(9, 1)))?;
-    assert_eq!(rt; table.open(1)?.0, handle(9, 2));
+    assert!(rt; table.open(1)?.0 == handle(9, 2));
     Ok(())
 }

@@ -48,22 +48,22 @@ fn reader_gives_pieces_and_then_nothing(rt: HostRuntime) {
     for piece in [b"chann".as_slice(), b"el ac", b"cess", b"", b""] {
         let mut buffer = [0; 5];
         let outcome = read_piece(&mut source, &mut buffer);
-        assert_eq!(rt; outcome, Some(Ok(piece.len())));
-        assert_eq!(rt; buffer.get(..piece.len()), Some(piece));
+        assert!(rt; outcome == Some(Ok(piece.len())));
+        assert!(rt; buffer.get(..piece.len()) == Some(piece));
     }
-    assert_eq!(rt; source.calls(), 5);
-    assert_eq!(rt; source.faults(), 0);
+    assert!(rt; source.calls() == 5);
+    assert!(rt; source.faults() == 0);
 }
 
 #[test]
 fn writer_takes_all_bytes(rt: HostRuntime) {
     let mut sink = Writer::new(Vec::new(rt.alloc()));
     for bytes in [b"channel".as_slice(), b"", b" access"] {
-        assert_eq!(rt; write_piece(&mut sink, bytes), Some(Ok(())));
+        assert!(rt; write_piece(&mut sink, bytes) == Some(Ok(())));
     }
-    assert_eq!(rt; sink.writer.as_slice(), b"channel access".as_slice());
-    assert_eq!(rt; sink.calls(), 3);
-    assert_eq!(rt; sink.faults(), 0);
+    assert!(rt; sink.writer.as_slice() == b"channel access".as_slice());
+    assert!(rt; sink.calls() == 3);
+    assert!(rt; sink.faults() == 0);
 }
 
 #[test]
@@ -72,11 +72,11 @@ fn writer_fails_after_first_bytes(rt: HostRuntime) {
         taken: Vec::new(rt.alloc()),
         calls: 3,
     });
-    assert_eq!(rt; write_piece(&mut sink, b"access"), Some(Ok(())));
-    assert_eq!(rt; write_piece(&mut sink, b"channel"), Some(Err(Fault)));
-    assert_eq!(rt; sink.writer.taken.as_slice(), b"accesscha".as_slice());
-    assert_eq!(rt; sink.calls(), 2);
-    assert_eq!(rt; sink.faults(), 1);
+    assert!(rt; write_piece(&mut sink, b"access") == Some(Ok(())));
+    assert!(rt; write_piece(&mut sink, b"channel") == Some(Err(Fault)));
+    assert!(rt; sink.writer.taken.as_slice() == b"accesscha".as_slice());
+    assert!(rt; sink.calls() == 2);
+    assert!(rt; sink.faults() == 1);
 }
 
 #[test]
@@ -90,24 +90,24 @@ fn fused_passes_two_calls(rt: HostRuntime) {
         } else {
             (Err(Fault), Err(Fault))
         };
-        assert_eq!(rt; read_piece(&mut source, &mut buffer), Some(got), "at {i}");
-        assert_eq!(rt; buffer.get(..piece.len()), Some(*piece), "at {i}");
-        assert_eq!(rt; write_piece(&mut sink, b"xyz"), Some(put), "at {i}");
+        assert!(rt; read_piece(&mut source, &mut buffer) == Some(got), "at {i}");
+        assert!(rt; buffer.get(..piece.len()) == Some(*piece), "at {i}");
+        assert!(rt; write_piece(&mut sink, b"xyz") == Some(put), "at {i}");
     }
-    assert_eq!(rt; source.calls(), 4);
-    assert_eq!(rt; source.faults(), 2);
-    assert_eq!(rt; source.inner.calls(), 2);
-    assert_eq!(rt; source.inner.faults(), 0);
-    assert_eq!(rt; source.inner.reader, b"gh".as_slice());
-    assert_eq!(rt; sink.calls(), 4);
-    assert_eq!(rt; sink.faults(), 2);
-    assert_eq!(rt; sink.inner.calls(), 2);
-    assert_eq!(rt; sink.inner.writer.as_slice(), b"xyzxyz".as_slice());
+    assert!(rt; source.calls() == 4);
+    assert!(rt; source.faults() == 2);
+    assert!(rt; source.inner.calls() == 2);
+    assert!(rt; source.inner.faults() == 0);
+    assert!(rt; source.inner.reader == b"gh".as_slice());
+    assert!(rt; sink.calls() == 4);
+    assert!(rt; sink.faults() == 2);
+    assert!(rt; sink.inner.calls() == 2);
+    assert!(rt; sink.inner.writer.as_slice() == b"xyzxyz".as_slice());
 }
 
 #[test]
 fn fault_is_refused_as_device(rt: HostRuntime) {
-    assert_eq!(rt; Refusal::from(Fault), Refusal::Device);
+    assert!(rt; Refusal::from(Fault) == Refusal::Device);
 }
 
 #[test]
@@ -165,7 +165,7 @@ fn a_bad_header_closes_a_link(rt: HostRuntime) -> Result<(), Fail> {
         assert!(rt; link.give(1, b"\0") == Err(Refusal::CircuitClosed));
         assert!(rt; link.queue(&echo) == Err(Refusal::CircuitClosed));
         assert!(rt; link.queue_own(&echo) == Err(Refusal::CircuitClosed));
-        assert_eq!(rt; link.in_bytes(), bytes);
+        assert!(rt; link.in_bytes() == bytes);
         assert!(rt; link.out_bytes().is_empty());
     }
     Ok(())
@@ -184,15 +184,12 @@ fn a_full_output_takes_own_messages_alone(rt: HostRuntime) -> Result<(), Fail> {
     assert!(rt; link.is_full());
     assert!(rt; link.queue(&echo) == Err(Refusal::OutputFull));
     link.queue_own(&echo)?;
-    assert_eq!(rt; link.out_bytes().len(), 262_160);
+    assert!(rt; link.out_bytes().len() == 262_160);
     link.truncate(262_144);
     handed_over(&mut link, 262_128);
-    assert_eq!(rt;
-        link.out_bytes(),
-        b"\x00\x17\0\0\0\0\0\0\0\0\0\0\0\0\0\0".as_slice()
-    );
+    assert!(rt; link.out_bytes() == b"\x00\x17\0\0\0\0\0\0\0\0\0\0\0\0\0\0".as_slice());
     link.queue(&echo)?;
-    assert_eq!(rt; link.into_left().bytes().len(), 32);
+    assert!(rt; link.into_left().bytes().len() == 32);
     Ok(())
 }
 
@@ -247,7 +244,7 @@ fn refused_growth_changes_nothing(rt: HostRuntime) -> Result<(), Fail> {
         assert!(rt; refusal == Refusal::OutOfMemory && link.out_bytes().is_empty());
         queue_part(&mut link, &head, b"\x01\x02\x03")?;
     }
-    assert_eq!(rt; link.out_bytes(), expected.as_slice());
+    assert!(rt; link.out_bytes() == expected.as_slice());
     if let Err(refusal) = link.give(0, expected) {
         assert!(rt; refusal == Refusal::OutOfMemory && link.in_bytes().is_empty());
         link.give(0, expected)?;
@@ -260,6 +257,6 @@ fn refused_growth_changes_nothing(rt: HostRuntime) -> Result<(), Fail> {
         }
     };
     let message = message.ok_or("no message")?;
-    assert_eq!(rt; message.payload(), b"\x01\x02\x03\0\0\0\0\0".as_slice());
+    assert!(rt; message.payload() == b"\x01\x02\x03\0\0\0\0\0".as_slice());
     Ok(())
 }

@@ -12,10 +12,10 @@ fn add<R: Abort>(rt: &R, searcher: &mut Searcher, cid: u32, now: u64) -> Result<
 
 /// The searches are for the channels of these CIDs.
 fn are<R: Abort>(rt: &R, searches: &[Search], cids: &[u32]) {
-    assert_eq!(rt; searches.len(), cids.len());
+    assert!(rt; searches.len() == cids.len());
     for (search, cid) in searches.iter().zip(cids) {
-        assert_eq!(rt; search.cid(), *cid);
-        assert_eq!(rt; search.name().bytes(), b"TEMP".as_slice());
+        assert!(rt; search.cid() == *cid);
+        assert!(rt; search.name().bytes() == b"TEMP".as_slice());
     }
 }
 

@@ -29,7 +29,7 @@ fn hold<R: AllocGlobal + Abort>(rt: &R, rows: &[Spelled]) -> Result<(), Fail> {
     for row in rows {
         let mut out = Vec::new(rt.alloc());
         spell_header(&row.header, &mut out)?;
-        assert_eq!(rt; out.as_slice(), row.bytes);
+        assert!(rt; out.as_slice() == row.bytes);
     }
     Ok(())
 }
@@ -162,13 +162,13 @@ fn bad_sizes_are_refused(rt: HostRuntime) {
 fn a_payload_is_padded(rt: HostRuntime) -> Result<(), Fail> {
     let name = Vec::from_slice(rt.alloc(), b"TEMP")?;
     let message = Message::new(18, 0, 0, 0x1_0000, 13, name)?;
-    assert_eq!(rt; message.payload(), b"TEMP\0\0\0\0".as_slice());
+    assert!(rt; message.payload() == b"TEMP\0\0\0\0".as_slice());
     assert!(rt; message.header() == header(18, 0, 8, 0, 0x1_0000, 13));
     let mut out = Vec::new(rt.alloc());
     spell(&message, &mut out)?;
-    assert_eq!(rt;
-        out.as_slice(),
-        b"\x00\x12\x00\x08\x00\x00\x00\x00\0\x01\0\0\0\0\0\x0dTEMP\0\0\0\0".as_slice()
+    assert!(rt;
+        out.as_slice()
+            == b"\x00\x12\x00\x08\x00\x00\x00\x00\0\x01\0\0\0\0\0\x0dTEMP\0\0\0\0".as_slice()
     );
     let long = vec![in rt.alloc(); 0u8; 16_777_217]?;
     assert!(rt; matches!(Message::new(18, 0, 0, 0, 0, long), Err(Refusal::TooLarge)));
@@ -184,11 +184,11 @@ fn a_request_comes_byte_by_byte(rt: HostRuntime) -> Result<(), Fail> {
         deframer.give(&[*byte])?;
     }
     let message = deframer.next_message()?.ok_or("no message")?;
-    assert_eq!(rt; message.command(), 15);
-    assert_eq!(rt; message.data_type(), 5);
-    assert_eq!(rt; message.count(), 1);
-    assert_eq!(rt; message.p1(), 0x1_0000);
-    assert_eq!(rt; message.p2(), 0x1_0000);
+    assert!(rt; message.command() == 15);
+    assert!(rt; message.data_type() == 5);
+    assert!(rt; message.count() == 1);
+    assert!(rt; message.p1() == 0x1_0000);
+    assert!(rt; message.p2() == 0x1_0000);
     assert!(rt; message.payload().is_empty());
     assert!(rt; deframer.next_message()?.is_none());
     Ok(())
@@ -240,7 +240,7 @@ fn a_spelled_message_is_read_back(rt: HostRuntime) -> Result<(), Fail> {
         let message = Message::new(15, 5, count, 0x1_0000, 13, payload)?;
         let again = read_back(rt.alloc(), &message, front)?;
         assert!(rt; again.header() == header(15, 5, size as u32, count, 0x1_0000, 13));
-        assert_eq!(rt; again.payload(), message.payload());
+        assert!(rt; again.payload() == message.payload());
     }
     Ok(())
 }

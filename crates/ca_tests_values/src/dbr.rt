@@ -39,7 +39,7 @@ pub(crate) fn round_in(
     let number = data_type.number();
     let mut bytes = Vec::new(alloc);
     assert!(rt; write_value(number, value, &META, &mut bytes) == Ok(()));
-    assert_eq!(rt; bytes.as_slice(), expected);
+    assert!(rt; bytes.as_slice() == expected);
     assert!(rt; image_size(number, count) == Ok(bytes.len()));
     bytes.extend_from_slice(b"behind")?;
     let (again, with) = read_value(alloc, number, count, &bytes)?;
@@ -243,7 +243,7 @@ fn shows<R: AllocGlobal + Abort>(
     match expected {
         Ok(expected) => {
             assert!(rt; outcome == Ok(()));
-            assert_eq!(rt; bytes.as_slice(), expected);
+            assert!(rt; bytes.as_slice() == expected);
         }
         Err(refusal) => assert!(rt; outcome == Err(refusal)),
     }
@@ -293,11 +293,11 @@ fn a_fault_leaves_the_bytes(rt: HostRuntime) -> Result<(), Fail> {
     let mut bytes = Vec::from_slice(alloc, b"x")?;
     let many = Value::Longs(vec![in alloc; 1, 256]?);
     assert!(rt; write_shown(4, 2, &many, &META, &mut bytes) == Err(Refusal::OutOfRange));
-    assert_eq!(rt; bytes.as_slice(), b"x".as_slice());
+    assert!(rt; bytes.as_slice() == b"x".as_slice());
     assert!(rt; write_shown(4, 1, &many, &META, &mut bytes) == Ok(()));
-    assert_eq!(rt; bytes.as_slice(), [b'x', 1].as_slice());
+    assert!(rt; bytes.as_slice() == [b'x', 1].as_slice());
     assert!(rt; write_zero_image(11, 2, &mut bytes) == Ok(()));
-    assert_eq!(rt; bytes.as_slice(), [b'x', 1, 0, 0, 0, 0, 0, 0, 0].as_slice());
+    assert!(rt; bytes.as_slice() == [b'x', 1, 0, 0, 0, 0, 0, 0, 0].as_slice());
     Ok(())
 }
 

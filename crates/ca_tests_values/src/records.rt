@@ -35,13 +35,13 @@ fn hold<R: AllocGlobal + Abort>(rt: &R, row: &Defined) -> Result<(), Fail> {
     match row.refusal {
         None => {
             records.define(row.name, row.count, false, value)?;
-            assert_eq!(rt; records.find(row.name), Some(0));
-            assert_eq!(rt; records.read(row.name)?.count(), row.elements);
+            assert!(rt; records.find(row.name) == Some(0));
+            assert!(rt; records.read(row.name)?.count() == row.elements);
         }
         Some(refusal) => {
             let outcome = records.define(row.name, row.count, false, value);
-            assert_eq!(rt; outcome, Err(refusal));
-            assert_eq!(rt; records.len(), 0);
+            assert!(rt; outcome == Err(refusal));
+            assert!(rt; records.len() == 0);
         }
     }
     Ok(())
@@ -107,30 +107,30 @@ fn standing<R: AllocGlobal + Abort>(rt: &R) -> Result<Records, Fail> {
 /// The record under this name is at this place, and has this value.
 fn is_found<R: Abort>(rt: &R, records: &Records, name: &[u8], place: usize, value: &Value) {
     assert!(rt; records.has(name));
-    assert_eq!(rt; records.find(name), Some(place));
+    assert!(rt; records.find(name) == Some(place));
     assert!(rt; records.read(name) == Ok(value));
     assert!(rt; place < records.len());
     is_as_defined(rt, records.at(place), name, place, value);
 }
 
 fn is_as_defined<R: Abort>(rt: &R, record: &Record, name: &[u8], place: usize, value: &Value) {
-    assert_eq!(rt; record.name(), name);
-    assert_eq!(rt; record.count(), 4);
-    assert_eq!(rt; record.is_slow(), place % 2 == 1);
+    assert!(rt; record.name() == name);
+    assert!(rt; record.count() == 4);
+    assert!(rt; record.is_slow() == (place % 2 == 1));
     assert!(rt; record.value() == value);
-    assert_eq!(rt; *record.meta(), Meta::ZERO);
+    assert!(rt; *record.meta() == Meta::ZERO);
 }
 
 #[test]
 fn records_are_found(rt: HostRuntime) -> Result<(), Fail> {
     let records = standing(&rt)?.copy()?;
-    assert_eq!(rt; records.len(), 7);
+    assert!(rt; records.len() == 7);
     for (place, (name, number)) in RECORDS.iter().enumerate() {
         let value = Value::Longs(vec![in rt.alloc(); *number]?);
         is_found(&rt, &records, name, place, &value);
     }
     for name in [b"bea".as_slice(), b"", b"beam:", b"z"] {
-        assert_eq!(rt; records.find(name), None);
+        assert!(rt; records.find(name) == None);
         assert!(rt; records.read(name) == Err(Refusal::UnknownRecord));
     }
     Ok(())

@@ -104,7 +104,7 @@ fn sixteen_puts_wait(rt: HostRuntime) -> Result<(), Fail> {
         Some(put_of(0, 0)),
         long(rt.alloc(), 100)?,
     )?;
-    assert_eq!(rt; begun, Begun::Applied(true));
+    assert!(rt; begun == Begun::Applied(true));
     for i in 1..18 {
         let begun = write(
             &mut served,
@@ -117,15 +117,15 @@ fn sixteen_puts_wait(rt: HostRuntime) -> Result<(), Fail> {
         } else {
             Begun::Refused(Status::PUTFAIL)
         };
-        assert_eq!(rt; begun, expected, "at {i}");
+        assert!(rt; begun == expected, "at {i}");
     }
     assert!(rt; has(&served, b"SLOW", &first, true, 16));
     withdraw(&mut served, b"SLOW", 0);
-    assert_eq!(rt; served.waiting(), 0);
+    assert!(rt; served.waiting() == 0);
     check_finish(&rt, served.finish(b"SLOW"), put_of(0, 0), None);
     assert!(rt; has(&served, b"SLOW", &first, false, 0));
-    assert_eq!(rt; served.finish(b"SLOW"), Err(Refusal::NotBusy));
-    assert_eq!(rt; served.finish(b"NONE"), Err(Refusal::UnknownRecord));
+    assert!(rt; served.finish(b"SLOW") == Err(Refusal::NotBusy));
+    assert!(rt; served.finish(b"NONE") == Err(Refusal::UnknownRecord));
     Ok(())
 }
 
@@ -149,7 +149,7 @@ fn puts_that_wait_are_applied_in_order(rt: HostRuntime) -> Result<(), Fail> {
     assert!(rt; has(&served, b"SLOW", &long(rt.alloc(), 3)?, true, 1));
     // A plain write is applied at once, and leaves the put busy.
     let begun = write(&mut served, b"SLOW", None, long(rt.alloc(), 6)?)?;
-    assert_eq!(rt; begun, Begun::Applied(false));
+    assert!(rt; begun == Begun::Applied(false));
     assert!(rt; has(&served, b"SLOW", &long(rt.alloc(), 6)?, true, 1));
     check_finish(
         &rt,
@@ -169,20 +169,17 @@ fn records_come_and_go(rt: HostRuntime) -> Result<(), Fail> {
         Value::Chars(vec![in rt.alloc(); 1; 1]?),
         Meta::ZERO,
     );
-    assert_eq!(rt; posted, Err(Refusal::BadType));
+    assert!(rt; posted == Err(Refusal::BadType));
     let posted = served.post(
         b"TEMP",
         Value::Longs(vec![in rt.alloc(); 1; 2]?),
         Meta::ZERO,
     );
-    assert_eq!(rt; posted, Err(Refusal::BadCount));
-    assert_eq!(rt;
-        served.post(b"TEMP", long(rt.alloc(), 22)?, Meta::ZERO),
-        Ok(0)
-    );
+    assert!(rt; posted == Err(Refusal::BadCount));
+    assert!(rt; served.post(b"TEMP", long(rt.alloc(), 22)?, Meta::ZERO) == Ok(0));
     assert!(rt; has(&served, b"TEMP", &long(rt.alloc(), 22)?, false, 0));
     let added = served.add(b"SLOW", 1, false, long(rt.alloc(), 1)?);
-    assert_eq!(rt; added, Err(Refusal::RecordExists));
+    assert!(rt; added == Err(Refusal::RecordExists));
     write(
         &mut served,
         b"SLOW",
@@ -195,13 +192,13 @@ fn records_come_and_go(rt: HostRuntime) -> Result<(), Fail> {
         Some(put_of(0, 1)),
         long(rt.alloc(), 2)?,
     )?;
-    assert_eq!(rt; served.remove(b"SLOW"), Ok(1));
-    assert_eq!(rt; served.remove(b"SLOW"), Err(Refusal::UnknownRecord));
-    assert_eq!(rt; served.waiting(), 0);
+    assert!(rt; served.remove(b"SLOW") == Ok(1));
+    assert!(rt; served.remove(b"SLOW") == Err(Refusal::UnknownRecord));
+    assert!(rt; served.waiting() == 0);
     // Another record of that name, at the place that became free, has none of those puts.
-    assert_eq!(rt; served.add(b"SLOW", 1, false, long(rt.alloc(), 5)?), Ok(1));
+    assert!(rt; served.add(b"SLOW", 1, false, long(rt.alloc(), 5)?) == Ok(1));
     assert!(rt; has(&served, b"SLOW", &long(rt.alloc(), 5)?, false, 0));
-    assert_eq!(rt; served.finish(b"SLOW"), Err(Refusal::NotBusy));
+    assert!(rt; served.finish(b"SLOW") == Err(Refusal::NotBusy));
     Ok(())
 }
 
@@ -219,7 +216,7 @@ fn first_rule_that_meets_decides(rt: HostRuntime) -> Result<(), Fail> {
         (b"bob", b"hall", b"NONE", 0),
     ];
     for (i, (user, host, name, bits)) in rows.iter().enumerate() {
-        assert_eq!(rt; served.rights(user, host, name), *bits, "at {i}");
+        assert!(rt; served.rights(user, host, name) == *bits, "at {i}");
     }
     Ok(())
 }
@@ -245,10 +242,10 @@ fn record_files_are_judged(rt: HostRuntime) -> Result<(), Fail> {
         assert!(rt; matches!(read, Err(Refusal::BadText)), "at {i}");
     }
     let file = read_records(rt.alloc(), b"rule * * * -\nrecord A LONG 1 quick 1")?;
-    assert_eq!(rt; file.records.len(), 1);
-    assert_eq!(rt; file.rules.len(), 1);
+    assert!(rt; file.records.len() == 1);
+    assert!(rt; file.rules.len() == 1);
     let empty = read_records(rt.alloc(), b"")?;
-    assert_eq!(rt; empty.records.len(), 0);
+    assert!(rt; empty.records.len() == 0);
     Ok(())
 }
 
@@ -274,7 +271,7 @@ fn refused_growth_of_a_file_is_out_of_memory(rt: HostRuntime) -> Result<(), Fail
     let served = match served_of_file(rt.alloc()) {
         Ok(served) => served,
         Err(refusal) => {
-            assert_eq!(rt; refusal, Refusal::OutOfMemory);
+            assert!(rt; refusal == Refusal::OutOfMemory);
             served_of_file(rt.alloc())?
         }
     };
@@ -324,15 +321,12 @@ fn with_memory_no_call_is_refused_for_it(rt: HostRuntime) -> Result<(), Fail> {
     let mut served = served_of_file(rt.alloc())?;
     for (ioid, begun) in [(0, Begun::Applied(true)), (1, Begun::Waiting)] {
         let put = Some(put_of(0, ioid));
-        assert_eq!(rt;
-            write(&mut served, b"SLOW", put, int(rt.alloc(), 3)?)?,
-            begun
-        );
+        assert!(rt; write(&mut served, b"SLOW", put, int(rt.alloc(), 3)?)? == begun);
     }
-    assert_eq!(rt; served.remove(b"TEMP"), Ok(0));
+    assert!(rt; served.remove(b"TEMP") == Ok(0));
     for (name, place) in [(b"A".as_slice(), 0), (b"B", 2)] {
         let added = served.add(name, 1, false, long(rt.alloc(), 5)?);
-        assert_eq!(rt; added, Ok(place));
+        assert!(rt; added == Ok(place));
     }
     Ok(())
 }
