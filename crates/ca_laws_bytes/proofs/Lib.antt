@@ -24,3 +24,4 @@ pub mod Runs
 pub mod DueFits
 pub mod ServerFits
 pub mod ServerCalls
+pub mod ServerSpeaking

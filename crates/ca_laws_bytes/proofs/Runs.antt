@@ -71,7 +71,7 @@ ticks-streams moment [] w new s folds all = subst (λ (v : World). AllStream v) 
 ticks-streams moment (i ∷ clients) w new s (mid, one, rest) all =
     ticks-streams moment clients mid new (stands-ticks moment (i ∷ []) w mid s (mid, one, refl)) rest (tick-one-streams moment w i mid s one all)
 
-ticks-frame : (moment : ℕ) (clients : List ℕ) (w new : World) → FoldsTo (TicksOne moment) w clients new → Frame w new
+pub ticks-frame : (moment : ℕ) (clients : List ℕ) (w new : World) → FoldsTo (TicksOne moment) w clients new → Frame w new
 ticks-frame moment [] w new same = frame-self w new (ap (λ (z : World). z.servers) (sym same)) (ap (λ (z : World). z.server_logs) (sym same)) (ap (λ (z : World). z.circuits) (sym same))
 ticks-frame moment (i ∷ clients) w new (mid, one, rest) = frame-then w mid new (tick-frame moment w i mid one) (ticks-frame moment clients mid new rest)
 
