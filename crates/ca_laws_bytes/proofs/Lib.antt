@@ -25,3 +25,4 @@ pub mod DueFits
 pub mod ServerFits
 pub mod ServerCalls
 pub mod ServerSpeaking
+pub mod Asking

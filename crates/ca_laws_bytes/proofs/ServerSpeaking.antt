@@ -1,7 +1,7 @@
 -- All that servers send in any event are messages, and their cores fit messages after it.
-use Rattle.std.proofs.Common.{◌≡◌, ℕ, ◌+◌, suc, inl, inr, ◌⊎◌, Bool, true, false, ◌&&◌, ◌==◌, not, cond, eqb, List, [], ◌∷◌, ◌++◌, length, Option, Some, None, refl, sym, ap, ◌∙◌, subst, append_assoc, arith}
+use Rattle.std.proofs.Common.{◌≡◌, ℕ, ◌+◌, suc, inl, inr, ◌⊎◌, Bool, true, false, ◌&&◌, not, cond, eqb, List, [], ◌∷◌, ◌++◌, length, Option, Some, None, refl, sym, ap, ◌∙◌, subst, append_assoc, arith}
 use Rattle.std.specs.List.{FoldsTo, list_any}
-use Rattle.std.specs.Prelude.{Ok, Result, drop, filter, map, option_map, slice_get, slice_set, unwrap_or}
+use Rattle.std.specs.Prelude.{Ok, Result, filter, map, option_map, slice_get, slice_set, unwrap_or}
 use Rattle.std.specs.Str.{bytes_eq}
 use Rattle.std.proofs.lemmas.List.{append-nil}
 use Rattle.ca_arena.specs.declared.handle.Handle.{Handle}
@@ -21,13 +21,13 @@ use Rattle.ca_model.specs.Due.{Action}
 use Rattle.ca_model.specs.Ends as why
 use Rattle.ca_model.specs.History.{Collected, GaveUp, Reply, Step, Told}
 use Rattle.ca_model.specs.Server.{OpenChannel, Server}
-use Rattle.ca_model.specs.ServerSteps.{Accepts, Stepped, Update, closed}
+use Rattle.ca_model.specs.ServerSteps.{Accepts, Stepped, closed}
 use Rattle.ca_model.specs.ServerSteps as stepped
-use Rattle.ca_model_world.specs.ClientEvents.{DownTaken, HappensAccept, HappensDown, HappensUp, WantsFirst, client_after, connected_as, lines_of, new_circuit, up_taken}
+use Rattle.ca_model_world.specs.ClientEvents.{DownTaken, HappensAccept, HappensDown, HappensUp, WantsFirst, connected_as, new_circuit, up_taken}
 use Rattle.ca_model_world.specs.Events.{Event}
 use Rattle.ca_model_world.specs.Events as event
 use Rattle.ca_model_world.specs.Runs.{AreEvents, CanBe, Happens, IsEvent, Leaves, Runs, StopsAt, clients_below}
-use Rattle.ca_model_world.specs.ServerEvents.{Finished, HappensAdd, HappensCutServer, HappensFinish, HappensPost, HappensPump, HappensRemove, HappensServerRestart, HappensServerStep, ServerStepped, StepHandles, StepLacks, about, acted, disconnected_at, ending, ends_by, ends_here, ends_untold, handled_at, logged, numbers_posted, records_after, removal_told, removed_at, server_after, server_closed, side_of, stamped, unsaid, without_standing}
+use Rattle.ca_model_world.specs.ServerEvents.{HappensAdd, HappensCutServer, HappensFinish, HappensPost, HappensPump, HappensRemove, HappensServerRestart, ServerStepped, StepHandles, StepLacks, about, acted, disconnected_at, ending, ends_by, ends_here, ends_untold, handled_at, logged, numbers_posted, removal_told, removed_at, server_after, server_closed, side_of, stamped, unsaid, without_standing}
 use Rattle.ca_model_world.specs.World.{ClientSide, IsSetting, Joined, RecordSide, ServerSide, Setting, World, opening, server_begun, with_circuit, with_entries, with_server}
 use Rattle.ca_laws_writes.specs.Seats.{Sound}
 use Rattle.ca_laws_writes.proofs.Events.{numbered-at}

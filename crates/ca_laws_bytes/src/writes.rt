@@ -5,15 +5,15 @@ ghost use Rattle.ca_model.specs.History.{Entry, Finished, Withdrawn};
 ghost use Rattle.ca_model_safe.specs.Channels.{IsApplied, IsBusyUntil, IsDropped};
 ghost use Rattle.ca_model_world.specs.World.{World, told};
 ghost use Rattle.ca_laws_writes.specs.Lives.{IsOfMessage};
-ghost use Rattle.ca_laws_writes.specs.Says.{Says};
+ghost use Rattle.ca_laws_writes.specs.Says.{AllAsked, Says};
 ghost use Rattle.ca_laws_writes.specs.Steps.{AllInStep};
 ghost use Rattle.ca_laws_bytes.specs.Runs.{IsReached};
 
 /// After every run no write is applied twice, in all lives of all servers, and each that is applied
 /// has the value of its own message. A put that waits is dropped only with its record, its channel
 /// or its circuit. A record finishes one put at a time, each once. What replies say of writes is so
-/// by the logs of servers, and the subscriptions and the updates of each open end are in step with
-/// its circuit.
+/// by the logs of servers; each message of a client is of the kind that was meant; and the
+/// subscriptions and the updates of each open end are in step with its circuit.
 ///
 /// The setting of the run is well-formed; nothing else is asked for.
 pub fn writes_are_applied_once_in_runs()
@@ -27,5 +27,6 @@ pub fn writes_are_applied_once_in_runs()
         → At w.server_logs l y → At y e (Finished n k)
         → IsBusyUntil y n k e × ((f : ℕ) → At y f (Finished n k) → e ≡ f) }
     ensures replies { (w : World) → IsReached w → Says w }
+    ensures asked { (w : World) → IsReached w → AllAsked w }
     ensures in_step { (w : World) → IsReached w → AllInStep w }
 {}
