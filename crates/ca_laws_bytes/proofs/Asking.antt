@@ -137,7 +137,8 @@ module _ (n : Names) (x : Client) (meant : MeanToSubscribe n x.subscriptions) (c
       let b = At-mapped (λ (g : Handle × Subscription). event_add_sent c sid g.0 g.1) (standing_to h x.subscriptions) i s at in
       let k = filtered-at (λ (e : Handle × Subscription). is_to h e.1 && stands_in e.1.stage) (held x.subscriptions) i b.0 b.1 in
       let g = meant b.0.0 b.0.1 (held-under x.subscriptions k.0 b.0 k.1) in
-      subst (λ (z : Sending). Suits (intent_of n z.aim) z.message) (sym b.2) (subst (λ (j : Intent). Suits j (event_add_sent c sid b.0.0 b.0.1).message) (sym g.2) refl)
+      let message : Sending = event_add_sent c sid b.0.0 b.0.1 in
+      subst (λ (z : Sending). Suits (intent_of n z.aim) z.message) (sym b.2) (suits-as n message (history.On g.0 (Subscribe g.1)) g.2 refl 0 message refl)
 
   rights-quiet : (o : Option (Handle × Phase)) → (rights_told x c m o).sent ≡ []
   rights-quiet None = refl

@@ -1,11 +1,13 @@
 ghost use Rattle.std.specs.Prelude.{◌≡◌, List, ℕ};
 ghost use Rattle.ca_text.specs.Place.{At};
-ghost use Rattle.ca_model.specs.Speech.{Stored};
-ghost use Rattle.ca_model.specs.History.{Entry, Finished, Withdrawn};
-ghost use Rattle.ca_model_safe.specs.Channels.{IsApplied, IsBusyUntil, IsDropped};
+ghost use Rattle.ca_text.specs.declared.status.Status.{Status};
+ghost use Rattle.ca_dbr.specs.declared.value.Outcome.TheVariants.{Done, Failed};
+ghost use Rattle.ca_model.specs.Speech.{In, Stored};
+ghost use Rattle.ca_model.specs.History.{Entry, Finished, Intent, Line, Noticed, On, Put, Request, Withdrawn};
+ghost use Rattle.ca_model_safe.specs.Channels.{IsApplied, IsBusyUntil, IsDropped, Stands};
 ghost use Rattle.ca_model_world.specs.World.{World, told};
 ghost use Rattle.ca_laws_writes.specs.Lives.{IsOfMessage};
-ghost use Rattle.ca_laws_writes.specs.Says.{AllAsked, Says};
+ghost use Rattle.ca_laws_writes.specs.Says.{AllAsked, CompleteOnce, Says};
 ghost use Rattle.ca_laws_writes.specs.Steps.{AllInStep};
 ghost use Rattle.ca_laws_bytes.specs.Runs.{IsReached};
 
@@ -29,4 +31,20 @@ pub fn writes_are_applied_once_in_runs()
     ensures replies { (w : World) → IsReached w → Says w }
     ensures asked { (w : World) → IsReached w → AllAsked w }
     ensures in_step { (w : World) → IsReached w → AllInStep w }
+{}
+
+/// After every run a put whose completion was told Done was applied, and a write whose caller was
+/// told of a failure never is, where notices tell what replies to their own messages mean.
+///
+/// The setting of the run is well-formed.
+pub fn callers_are_told_right_in_runs()
+    ensures done { (w : World) → IsReached w → CompleteOnce w → (life channel number : ℕ)
+        (x : List Line) → At w.client_logs life x
+        → In x (Noticed (On channel (Request Put number)) Done)
+        → (n k l i r : ℕ) × (v : Stored) × Stands (told w) life (On channel (Request Put number)) n k
+        × IsApplied (told w) n k l i r v }
+    ensures failed { (w : World) → IsReached w → CompleteOnce w → (life n k l i r : ℕ)
+        (intent : Intent) (status : Status) (x : List Line) (v : Stored) → At w.client_logs life x
+        → In x (Noticed intent (Failed status)) → Stands (told w) life intent n k
+        → IsApplied (told w) n k l i r v → ⊥ }
 {}
