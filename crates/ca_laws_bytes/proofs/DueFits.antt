@@ -1,5 +1,5 @@
 -- The replies that are due for a message are messages, and what it does beside them fits messages too.
-use Rattle.std.proofs.Common.{◌≡◌, ℕ, ◌+◌, ◌*◌, ◌%◌, ◌^◌, ◌<◌, ◌≤◌, ◌⊎◌, inl, inr, zero, suc, Bool, true, false, ◌==◌, ◌||◌, cond, List, [], ◌∷◌, ◌++◌, length, Option, Some, None, refl, sym, ap, ◌∙◌, subst, arith}
+use Rattle.std.proofs.Common.{◌≡◌, ℕ, ◌+◌, ◌*◌, ◌%◌, ◌^◌, ◌<◌, ◌≤◌, inl, inr, zero, suc, Bool, true, false, ◌==◌, ◌||◌, cond, List, [], ◌∷◌, ◌++◌, length, Option, Some, None, refl, sym, ap, ◌∙◌, subst, arith}
 use Rattle.std.specs.Prelude.{Ok, find, is_some, nat_lt, not, option_map, replicate, unwrap_or}
 use Rattle.std.proofs.lemmas.Bool.{both_ways, cases_Bool, eqb-true, ltb-false}
 use Rattle.std.proofs.lemmas.List.{length-append}
@@ -22,19 +22,17 @@ use Rattle.ca_queue.specs.Keys.{is_among}
 use Rattle.ca_records.specs.Faults.{first_fault, has_misfit, lacks_conversion, late_put_fault}
 use Rattle.ca_records.specs.Record.{RecordState}
 use Rattle.ca_records.specs.Rules.{Rule, may_read, may_write, rule_bits}
-use Rattle.ca_text.specs.Command.{command_number}
 use Rattle.ca_text.specs.declared.command.Command.TheVariants as command
 use Rattle.ca_text.specs.Limits.{circuit_queues, element_limit, minor_version, payload_limit, queue_subscriptions, waiting_puts}
-use Rattle.ca_text.specs.Place.{At}
 use Rattle.ca_text.specs.Status.{add_fail, bad_channel, bad_count, bad_type, get_fail, no_convert, no_read_access, no_write_access, normal, put_fail}
 use Rattle.ca_text.proofs.Places.{some_is}
 use Rattle.ca_wire.specs.Fields.{Fields, IsPayload}
 use Rattle.ca_wire.specs.Header.{header_spelling, number16}
 use Rattle.ca_wire.specs.Message.{IsMessage, header_of}
-use Rattle.ca_wire.specs.Messages.{bare, cancel_reply, clear_request, created_reply, error_reply, failed_reply, mask_in, no_cid, not_found_reply, rights_reply, search_reply, status_reply, text_in, value_reply, version_reply}
+use Rattle.ca_wire.specs.Messages.{bare, cancel_reply, clear_request, created_reply, error_reply, failed_reply, mask_in, not_found_reply, rights_reply, search_reply, status_reply, text_in, value_reply, version_reply}
 use Rattle.ca_wire.proofs.Headers.{length-header_spelling}
 use Rattle.ca_wire.proofs.Padding.{message-of, padded-payload}
-use Rattle.ca_model.specs.Due.{Action, Adds, Applies, Clears, Drops, Due, EventDue, Greets, IsRetired, IsUnknown, KnownChannel, KnownRecord, Knows, Names, Nothing, Opens, PutDue, PutRefused, PutTaken, ReadDue, Serves, StrayDue, Switches, Waits, WriteDue, early_fault, fault_of_event, fault_of_read, is_known, must_wait, named, rights_at}
+use Rattle.ca_model.specs.Due.{Action, Adds, Applies, Clears, Drops, Due, Greets, KnownChannel, KnownRecord, Knows, Names, Nothing, Opens, PutRefused, PutTaken, Serves, StrayDue, Switches, Waits, fault_of_read, is_known, must_wait, named, rights_at}
 use Rattle.ca_model.specs.Ends.{Peer}
 use Rattle.ca_model.specs.Faults.{base_type_of, early_put_fault, read_count, read_fault, read_shown, subscribed_count, subscription_fault, too_many, type_of}
 use Rattle.ca_model.specs.Speech.{In}

@@ -24,3 +24,5 @@ pub mod Runs
 pub mod DueFits
 pub mod ServerFits
 pub mod ServerCalls
+pub mod ServerSpeaking
+pub mod Asking

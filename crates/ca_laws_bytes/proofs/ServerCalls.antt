@@ -1,7 +1,7 @@
 -- What a server's calls send are messages, and its core fits messages after them.
-use Rattle.std.proofs.Common.{◌≡◌, ℕ, ◌+◌, zero, suc, ◌^◌, ◌<◌, ◌≤◌, inl, inr, Bool, true, false, ◌&&◌, ◌==◌, not, cond, List, [], ◌∷◌, ◌++◌, length, Option, Some, None, refl, sym, ap, ◌∙◌, subst, arith}
+use Rattle.std.proofs.Common.{◌≡◌, ℕ, zero, suc, ◌^◌, ◌<◌, ◌≤◌, inl, inr, Bool, true, false, ◌&&◌, ◌==◌, not, cond, List, [], ◌∷◌, ◌++◌, Option, Some, None, refl, sym, subst, arith}
 use Rattle.std.specs.List.{FoldsTo}
-use Rattle.std.specs.Prelude.{Err, Ok, Result, drop, filter, is_some, map, option_map, replicate, take}
+use Rattle.std.specs.Prelude.{Err, Ok, Result, drop, is_some, map, option_map, replicate, take}
 use Rattle.std.specs.Str.{bytes_eq}
 use Rattle.std.proofs.lemmas.List.{length-replicate}
 use Rattle.ca_arena.specs.declared.handle.Handle.{Handle}
@@ -11,7 +11,7 @@ use Rattle.ca_dbr.specs.Image.{image}
 use Rattle.ca_dbr.specs.Shown.{shown}
 use Rattle.ca_dbr.specs.Types.{size_of_image}
 use Rattle.ca_ids.specs.Table.{Table, held, under}
-use Rattle.ca_link.specs.Link.{with_given, with_handed, with_rest}
+use Rattle.ca_link.specs.Link.{with_rest}
 use Rattle.ca_queue.specs.declared.entry.SubKey.{SubKey}
 use Rattle.ca_queue.specs.Queue.{Queue}
 use Rattle.ca_queue.specs.Waiting.{front, may_take, taken}
@@ -37,7 +37,7 @@ use Rattle.ca_model.specs.Server.{Ended, Open, OpenChannel, Server, ServerCircui
 use Rattle.ca_model.specs.ServerCalls.{AddsRecord, Finishes, Posts, Removes, Replies, after_next, channels_of, circuit_without, disconnects, end_without, finish_reply, lacking, with_finish}
 use Rattle.ca_model.specs.ServerSteps.{Accepts, Cuts, Gives, HasEnd, LeftOf, Next, Pumps, Reaches, Sends, Update, after_post, closed, counted, ended, known_channel, known_record, knows, reached, stored_now, with_end, write_mask}
 use Rattle.ca_model.specs.ServerSteps as steps
-use Rattle.ca_model.specs.Speech.{In, Stored}
+use Rattle.ca_model.specs.Speech.{Stored}
 use Rattle.ca_model.specs.Updates.{ShowsTo, update_count, update_in}
 use Rattle.ca_model_world.specs.ServerEvents.{disconnected_at, left_by, reported}
 use Rattle.ca_model_client.proofs.Tables.{all-freed-back, changed-back, find-at, freed-back, held-back, held-under}
@@ -47,9 +47,8 @@ use Rattle.ca_laws_bytes.specs.ServerFits.{AllAt, EndFits, PutFits, QueueFits, R
 use Rattle.ca_laws_bytes.specs.Streams.{AreMessages}
 use Rattle.ca_laws_bytes.proofs.DueFits.{ActionFits, KnowsFits, due-fits, shown-payload, small-image}
 use Rattle.ca_laws_bytes.proofs.Fits.{empty-payload}
-use Rattle.ca_laws_bytes.proofs.HearSpeaks.{filtered-at}
 use Rattle.ca_laws_bytes.proofs.ServerEnds.{open-one}
-use Rattle.ca_laws_bytes.proofs.ServerFits.{acts-fits, append-at, changed-fits, drop-at, each-changed, end-like, filter-at, finished-fits, map-at, new-end-fits, new-fits, post-fits, records-fits, removal-fits, set-at, take-at, taken-fits, value-fits, withdrawn-fits}
+use Rattle.ca_laws_bytes.proofs.ServerFits.{acts-fits, append-at, changed-fits, drop-at, each-changed, end-like, filter-at, finished-fits, new-end-fits, new-fits, post-fits, records-fits, removal-fits, set-at, take-at, taken-fits, value-fits, withdrawn-fits}
 
 -- ---- tables of circuits
 

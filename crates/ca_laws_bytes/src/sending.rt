@@ -10,8 +10,12 @@ ghost use Rattle.ca_ids.specs.Table.{under};
 ghost use Rattle.ca_model.specs.Server.{OpenChannel, Server, ServerEnd, new_server};
 ghost use Rattle.ca_model.specs.ServerCalls.{AddsRecord, Finishes, Posts, Removes};
 ghost use Rattle.ca_model.specs.ServerSteps.{Accepts, Cuts, Gives, HasEnd, LeftOf, Next, Pumps, Reaches, Sends, Update, closed};
+ghost use Rattle.ca_model_world.specs.Events.{Event};
+ghost use Rattle.ca_model_world.specs.Runs.{AreEvents, Happens, IsEvent, Runs};
 ghost use Rattle.ca_model_world.specs.ServerEvents.{disconnected_at};
-ghost use Rattle.ca_laws_bytes.specs.ServerFits.{ServerFits};
+ghost use Rattle.ca_model_world.specs.World.{IsSetting, Setting, World, opening};
+ghost use Rattle.ca_laws_bytes.specs.Runs.{HearsSent, Stands};
+ghost use Rattle.ca_laws_bytes.specs.ServerFits.{ServerFits, ServersFit};
 ghost use Rattle.ca_laws_bytes.specs.Streams.{AreMessages};
 
 /// All that a server's calls send are messages, each field of its width, and its core fits messages
@@ -56,4 +60,18 @@ pub fn a_server_sends_messages()
         (disconnected_at name gone left h (under y.circuits h))) }
     ensures adds { (y : Server) (r : RecordState) (behind : ℕ) (new : Server) → IsValue r.value
         → AddsRecord y r behind (Ok tt) new → ServerFits y → ServerFits new }
+{}
+
+/// Whatever event happens to a world, what its servers sent are messages, each field of its width.
+/// So it is after every run; and an end at a client takes next there what was sent to it next.
+///
+/// The setting is well-formed, and so are the events: values are values, as their types say.
+pub fn servers_send_messages_in_runs()
+    ensures begins { (s : Setting) → IsSetting s → ServersFit (opening s) }
+    ensures event { (s : Setting) (w new : World) (e : Event) → IsSetting s → IsEvent e
+        → Stands s w → Happens w e new → ServersFit w → ServersFit new }
+    ensures run { (s : Setting) (es : List Event) (stopped : Option Event) (w : World)
+        → IsSetting s → AreEvents es → Runs s es stopped w → ServersFit w }
+    ensures hears { (s : Setting) (es : List Event) (stopped : Option Event) (w : World)
+        → IsSetting s → AreEvents es → Runs s es stopped w → HearsSent w }
 {}
