@@ -22,3 +22,7 @@ mod Walked
 mod Firsts
 pub mod Cleared
 pub mod Listing
+pub mod Finds
+pub mod Arriving
+pub mod Arrivals
+pub mod Settling

@@ -6,6 +6,7 @@
 #![tactic(auto)]
 
 mod asking;
+mod beacons;
 mod beginning;
 mod channel;
 mod channel_state;
@@ -35,8 +36,10 @@ mod opening;
 mod output;
 mod queue;
 mod reading;
+mod receiving;
 mod stepping;
 mod subscribing;
+mod undoing;
 mod unsubscribing;
 mod updates;
 mod valued;
