@@ -13,7 +13,7 @@ use Rattle.ca_wire.specs.Fields.{Fields}
 use Rattle.ca_model.specs.Answers.{Notice}
 use Rattle.ca_model.specs.Client.{Client}
 use Rattle.ca_model.specs.ClientEnds.{ReceivesAll, beacon_heard, beacon_server}
-use Rattle.ca_model.specs.ClientEnds.Receives as receives
+use Rattle.ca_model.specs.ClientEnds as receives
 use Rattle.ca_model.specs.Ends.{Address}
 use Rattle.ca_model.specs.Hears.{Effect, becomes}
 use Rattle.ca_model.specs.Speech.{Is}
@@ -34,14 +34,14 @@ as_received (Some f) = received.Found f
 pub reply-received : (old : Parts) (from : Address) (m : Fields) (o : Option Found) (t : Tables) → Is command.Search m → FindsIn (tables_in old) from m (Ok o) t → ReceivesIn old from m (Ok (as_received o)) (in_tables t old)
 reply-received old from m None t is did = (
   λ x at.
-  (let r = did.0 x (ap tables_in at) in
-  (r.0, receives.Search is r.1, r.2, r.3 ∙ ap (λ (p : Parts). with_parts (in_tables t p) x) at)),
+      (let r = did.0 x (ap tables_in at) in
+      (r.0, receives.Search is r.1, r.2, r.3 ∙ ap (λ (p : Parts). with_parts (in_tables t p) x) at)),
   ap (λ (u : Tables). in_tables u old) did.1,
 )
 reply-received old from m (Some f) t is did = (
   λ x at.
-  (let r = did.0 x (ap tables_in at) in
-  (r.0, receives.Search is r.1, r.2, r.3 ∙ ap (λ (p : Parts). settled (received.Found f) (with_parts (in_tables t p) x)) at)),
+      (let r = did.0 x (ap tables_in at) in
+      (r.0, receives.Search is r.1, r.2, r.3 ∙ ap (λ (p : Parts). settled (received.Found f) (with_parts (in_tables t p) x)) at)),
   ap (λ (u : Tables). in_tables u old) did.1,
 )
 
@@ -65,8 +65,8 @@ heard-as from m b bs x (told, notes, back) =
 pub beacon-received : (old : Parts) (from : Address) (m : Fields) (r : Result Received AllocError) (bs : Servers) → Is command.RsrvIsUp m → HearsIn old.beacons from m r bs → ReceivesIn old from m r (record old { beacons = bs })
 beacon-received old from m (Ok (received.Beacon b)) bs is (port, did) = (
   λ x at.
-  (let here : HearsBeacon x.beacons from m (Ok b) bs = subst (λ (p : Parts). HearsBeacon p.beacons from m (Ok b) bs) (sym at) did in
-  (becomes (beacon_heard from m x), receives.Beacon is port refl, refl, heard-as from m b bs x here ∙ ap (λ (p : Parts). settled (received.Beacon b) (with_parts (record p { beacons = bs }) x)) at)),
+      (let here : HearsBeacon x.beacons from m (Ok b) bs = subst (λ (p : Parts). HearsBeacon p.beacons from m (Ok b) bs) (sym at) did in
+      (becomes (beacon_heard from m x), receives.Beacon is port refl, refl, heard-as from m b bs x here ∙ ap (λ (p : Parts). settled (received.Beacon b) (with_parts (record p { beacons = bs }) x)) at)),
   ap (λ (t : Servers). let p : Parts = record old { beacons = t } in p) did.2,
 )
 beacon-received old from m (Ok received.Nothing) bs is (long, same) =
@@ -93,11 +93,12 @@ left-from ms i m within is =
     ∙ ap (λ (n : ℕ). m ∷ drop n ms) (sym (add-one i))
 
 have-more : (old mid final : Parts) (from : Address) (m : Fields) (rest : List Fields) (d : Received) (ds : List Received) → HasReceived old from m d mid → HaveReceived mid from rest ds final → HaveReceived old from (m ∷ rest) (d ∷ ds) final
-have-more old mid final from m rest d ds one others = λ x at.
-(let a = one x at in
-let b = others a.0.core (ap parts_of a.3) in
-let e : Effect = record { core = b.0.core; sent = a.0.sent ++ b.0.sent; notices = a.0.notices ++ b.0.notices } in
-(e, (a.0, b.0, a.1, b.1, refl), ap (λ (ns : List Notice). ns ++ b.0.notices) a.2 ∙ b.2, b.3 ∙ ap (λ (y : Client). all_settled ds (with_parts final y)) a.3))
+have-more old mid final from m rest d ds one others =
+    λ x at.
+    (let a = one x at in
+    let b = others a.0.core (ap parts_of a.3) in
+    let e : Effect = record { core = b.0.core; sent = a.0.sent ++ b.0.sent; notices = a.0.notices ++ b.0.notices } in
+    (e, (a.0, b.0, a.1, b.1, refl), ap (λ (ns : List Notice). ns ++ b.0.notices) a.2 ∙ b.2, b.3 ∙ ap (λ (y : Client). all_settled ds (with_parts final y)) a.3))
 
 pub undone-last : (ds : List Received) (d : Received) (p : Parts) → all_undone (ds ++ d ∷ []) p ≡ all_undone ds (received_undone d p)
 undone-last [] d p = refl
@@ -106,8 +107,8 @@ undone-last (e ∷ ds) d p = ap (received_undone e) (undone-last ds d p)
 pub so-far-more : (first now next : Parts) (from : Address) (ms : List Fields) (i : ℕ) (m : Fields) (done : List Received) (d : Received) → i < length ms → m ≡ get_or ms i m → ReceivesIn now from m (Ok d) next → SoFar first now from ms i done → SoFar first next from ms (i + 1) (done ++ d ∷ [])
 so-far-more first now next from ms i m done d within is did far = record {
   goes = λ ds final have.
-  subst (λ (es : List Received). HaveReceived first from ms es final) (sym (append_assoc done (d ∷ []) ds))
-  (far.goes (d ∷ ds) final (subst (λ (ns : List Fields). HaveReceived now from ns (d ∷ ds) final) (sym (left-from ms i m within is)) (have-more now next final from m (drop (i + 1) ms) d ds did.0 have)));
+      subst (λ (es : List Received). HaveReceived first from ms es final) (sym (append_assoc done (d ∷ []) ds))
+      (far.goes (d ∷ ds) final (subst (λ (ns : List Fields). HaveReceived now from ns (d ∷ ds) final) (sym (left-from ms i m within is)) (have-more now next final from m (drop (i + 1) ms) d ds did.0 have)));
   back = undone-last done d next ∙ ap (all_undone done) did.1 ∙ far.back;
 }
 

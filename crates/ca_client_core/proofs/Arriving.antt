@@ -10,7 +10,7 @@ use Rattle.ca_search.specs.Searches as search
 use Rattle.ca_wire.specs.Fields.{Fields}
 use Rattle.ca_model.specs.Client.{Channel, Client, ClientCircuit, Connecting, Connection, Creating, On, Phase, circuit_to, found_on, is_live, new_circuit}
 use Rattle.ca_model.specs.ClientEnds.{Receives, ReceivesAll, beacon_heard, beacon_server}
-use Rattle.ca_model.specs.ClientEnds.Receives as receives
+use Rattle.ca_model.specs.ClientEnds as receives
 use Rattle.ca_model.specs.Ends.{Address}
 use Rattle.ca_model.specs.Hears.{Effect, Finds, FindsAt, PutsOn, becomes, found_at, put_on, searched_by, with_circuit}
 use Rattle.ca_model_client.proofs.Hearing.{keeps-finds, received-keeps}

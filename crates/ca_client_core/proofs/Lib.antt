@@ -26,3 +26,5 @@ pub mod Finds
 pub mod Arriving
 pub mod Arrivals
 pub mod Settling
+pub mod Anomalies
+pub mod Datagrams

@@ -1,5 +1,5 @@
 -- Working: the messages of a datagram, received one after another, and undone. No clause of a caller needs it.
-use Rattle.std.specs.Prelude.{ℕ, ◌≡◌, ◌≢◌, ◌==◌, ◌<◌, ◌≤◌, ◌^◌, List, [], ◌∷◌, Option, Some, None, Result, Ok, Err, Vec, if◌then◌else◌}
+use Rattle.std.specs.Prelude.{ℕ, ◌≡◌, ◌≢◌, ◌==◌, ◌<◌, ◌≤◌, ◌^◌, Bool, List, [], ◌∷◌, Option, Some, None, Result, Ok, Err, Vec, if◌then◌else◌}
 use Rattle.std.specs.FinMap as finite
 use Rattle.std.specs.Net.Addr.{ipv4_bits}
 use Rattle.std.specs.declared.alloc.AllocError.{AllocError}
@@ -84,11 +84,15 @@ abbrev pub all_undone : List Received → Parts → Parts
 all_undone [] p = p
 all_undone (d ∷ ds) p = received_undone d (all_undone ds p)
 
+-- all begin again, if there was an anomaly
+abbrev pub boosted_if : Bool → ℕ → List (ℕ × search.Channel) → List (ℕ × search.Channel)
+boosted_if b moment es = if b then with_all (search.boosted moment) es else es
+
 -- the searches after a message: that for a channel that was found is paused, and after an anomaly all others begin again
 abbrev pub settled_in : ℕ → Received → List (ℕ × search.Channel) → List (ℕ × search.Channel)
 settled_in moment received.Nothing es = es
 settled_in moment (received.Found f) es = with_one search.paused (wire_of f.channel) es
-settled_in moment (received.Beacon b) es = if b.anomaly then with_all (search.boosted moment) es else es
+settled_in moment (received.Beacon b) es = boosted_if b.anomaly moment es
 
 -- after several, in order
 abbrev pub all_settled_in : ℕ → List Received → List (ℕ × search.Channel) → List (ℕ × search.Channel)

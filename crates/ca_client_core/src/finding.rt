@@ -95,7 +95,11 @@ pub(crate) fn find(
             if !connected {
                 put(channels, channel, Standing::On(circuit, Phase::Connecting));
                 let how = How::Waits;
-                return Ok(Some(Found { channel, circuit, how }));
+                return Ok(Some(Found {
+                    channel,
+                    circuit,
+                    how,
+                }));
             }
             let create = found.create_message(alloc, channel)?;
             create_on(channels, circuits, circuit, channel, &create)
@@ -178,7 +182,11 @@ fn create_on(
     queue_on(circuits, circuit, message)?;
     put(channels, channel, Standing::On(circuit, Phase::Creating(0)));
     let how = How::Created(waiting);
-    Ok(Some(Found { channel, circuit, how }))
+    Ok(Some(Found {
+        channel,
+        circuit,
+        how,
+    }))
 }
 
 // There are no more searches for this channel.

@@ -2,7 +2,7 @@
 //!
 //! A caller moves the bytes, and hands in the moment. What is reported comes as answers of the calls.
 //!
-//! Begun: `tick` and `datagram` are not there yet, so that nothing is searched for in datagrams, and no silence ends a circuit.
+//! Begun: `tick` is not there yet, so that nothing is searched for, and no silence ends a circuit.
 #![tactic(auto)]
 
 mod asking;

@@ -1,11 +1,10 @@
 //! What a client makes of a datagram.
-ghost use Rattle.std.specs.Prelude.{◌≡◌, List};
-ghost use Rattle.ca_search.specs.Searcher.{with_one};
+ghost use Rattle.std.specs.Prelude.{◌≡◌, ℕ, List};
 ghost use Rattle.ca_model.specs.Answers.{Sending};
 ghost use Rattle.ca_model.specs.ClientEnds.{ClientReceives};
 ghost use Rattle.ca_text.specs.Command.{command_number};
 ghost use Rattle.ca_text.specs.declared.command.Command.TheVariants as command;
-ghost use Rattle.ca_client_core.specs.Receiving.{HearsIn, ReceivesAllIn, ReceivesIn, all_settled_in};
+ghost use Rattle.ca_client_core.specs.Receiving.{HearsIn, ReceivesAllIn, ReceivesIn, all_settled_in, boosted_if, settled_in};
 
 use crate::beacons::{Beacon, beacon_port, hear_beacon};
 use crate::channel::Channel;
@@ -172,14 +171,25 @@ fn settle(searches: &mut IndexMap<u32, Place>, moment: u64, done: &[Received])
     ensures { searches.new.entries ≡ all_settled_in moment done.now searches.old.entries }
 {
     let mut anomaly = false;
-    for index in 0..done.len() {
-        match done[index] {
-            Received::Nothing => {}
-            Received::Found(found) => pause_found(searches, found.channel),
-            Received::Beacon(beacon) => anomaly = anomaly || beacon.anomaly,
-        }
+    for received in done {
+        anomaly = settle_one(searches, received, anomaly);
     }
     if anomaly {
         boost(searches, moment);
+    }
+}
+
+// They follow one more message, but that they begin again after an anomaly: whether there was one so far.
+fn settle_one(searches: &mut IndexMap<u32, Place>, received: &Received, anomaly: bool) -> bool
+    ensures { (moment : ℕ) → boosted_if result moment searches.new.entries
+        ≡ settled_in moment received.now (boosted_if anomaly moment searches.old.entries) }
+{
+    match *received {
+        Received::Nothing => anomaly,
+        Received::Found(found) => {
+            pause_found(searches, found.channel);
+            anomaly
+        }
+        Received::Beacon(beacon) => anomaly || beacon.anomaly,
     }
 }
