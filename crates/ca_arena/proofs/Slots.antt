@@ -1,15 +1,16 @@
 -- What the fields of an arena stand for, before and after each change.
-use Rattle.std.proofs.Common.{◌≡◌, ◌≢◌, ℕ, ◌+◌, ◌<◌, ◌≤◌, List, [], ◌∷◌, ◌++◌, length, map, get_or, set, Some, None, is_some, cond, eqb, refl, sym, ap, ◌∙◌, subst, arith, reverse, length-set}
-use Rattle.std.proofs.lemmas.List.{get_or-map, length-map, map-append, map-set, length_push}
+use Rattle.std.proofs.Common.{◌≡◌, ◌≢◌, ℕ, ◌+◌, ◌-◌, ◌<◌, ◌≤◌, List, [], ◌∷◌, ◌++◌, length, map, get_or, set, Some, None, is_some, cond, eqb, refl, sym, ap, ◌∙◌, subst, arith, reverse, length-set, take}
+use Rattle.std.proofs.lemmas.List.{get_or-map, get_or_push, length-map, map-append, map-set, length_push, take_at}
+use Rattle.std.proofs.lemmas.Bool.{eq-eqb, ne_eqb}
 use Rattle.std.proofs.lemmas.List.Sums.{sum_by_push}
 use Rattle.ca_arena.specs.declared.arena.Slot.{Slot}
 use Rattle.ca_arena.specs.declared.handle.Handle.{Handle}
 use Rattle.ca_text.specs.Limits.{arena_slots, last_generation}
-use Rattle.ca_arena.specs.Arena.{Place, Contents, place_at, find, IsLive, blank, last_at, free_slots, next_handle, inserted, inserted_from, removed, written}
+use Rattle.ca_arena.specs.Arena.{Place, Contents, place_at, find, IsLive, blank, last_at, free_slots, next_handle, inserted, inserted_from, live_count, removed, taken_back, written}
 use Rattle.ca_arena.specs.Lending.{filled}
 use Rattle.ca_arena.specs.Sound.{IsSound}
 use Rattle.ca_arena.specs.Layout.{place_of, contents_of, IsLaidOut}
-use Rattle.ca_arena.proofs.Places.{one_if, reverse_push, value_for-some, within_from_value, live_count-set, live_value, IsSound-appended, IsSound-filled, IsSound-removed, IsSound-written}
+use Rattle.ca_arena.proofs.Places.{one_if, reverse_push, value_for-some, within_from_value, live_count-set, live_value, IsSound-appended, IsSound-filled, IsSound-lowered, IsSound-removed, IsSound-shorter, IsSound-written}
 
 module _ {T : Type 0} where
   -- a slot that was read stands for the place at its index
@@ -150,4 +151,68 @@ module _ {T : Type 0} where
           roomy = omega (arith, length-set slots handle.index (filled old new), laid_out.roomy);
         };
         contents = contents;
+      }
+
+  -- what taking the last slot out leaves
+  pub record Shortened (slots : List (Slot T)) (last : Slot T) (freed : List ℕ) (handle : Handle) (retired room : ℕ) (value : T) : Type 0 where
+    pub laid_out : IsLaidOut slots freed retired room
+    pub found : find (contents_of (slots ++ last ∷ []) freed) handle ≡ Some value
+    pub contents : contents_of slots freed ≡ taken_back (contents_of (slots ++ last ∷ []) freed) handle (length slots)
+
+  pub shortened : (slots : List (Slot T)) (last : Slot T) (freed : List ℕ) (handle : Handle) (retired room : ℕ) (value : T) → IsLaidOut (slots ++ last ∷ []) freed retired room → IsLive (contents_of (slots ++ last ∷ []) freed) handle → handle.index ≡ length slots → last.value ≡ Some value → Shortened slots last freed handle retired room value
+  shortened slots last freed handle retired room value laid_out alive at had =
+      let given : List (Place T) = map place_of slots in
+      let place : Place T = place_of last in
+      let whole : List (Slot T) = slots ++ last ∷ [] in
+      let same_length : length given ≡ length slots = length-map slots place_of in
+      let stands : map place_of whole ≡ given ++ place ∷ [] = map-append place_of slots (last ∷ []) in
+      let sound : IsSound (record { given = given ++ place ∷ []; freed = reverse freed }) =
+      subst (λ (places : List (Place T)). IsSound (record { given = places; freed = reverse freed })) stands laid_out.sound in
+      let counted = sum_by_push one_if given place in
+      let one : one_if place ≡ 1 = ap (λ o. cond (is_some o) 1 0) had in
+      let was : live_count (given ++ place ∷ []) + length freed + retired ≡ length whole = rw stands at laid_out.counted in
+      let longer = length_push slots last in
+      let read : last ≡ get_or whole handle.index last = sym (get_or_push slots last last handle.index (sym at)) in
+      let known = read_live whole freed handle last value alive read had in
+      let first : take (length slots) (map place_of whole) ≡ given = ap (take (length slots)) stands ∙ take_at given (place ∷ []) (length slots) same_length in
+      record {
+        laid_out = record {
+          sound = IsSound-shorter given place value (reverse freed) had sound;
+          counted = omega arith;
+          roomy = omega (arith, laid_out.roomy);
+        };
+        found = known.found;
+        contents = rw (eq-eqb handle.index (length slots) at, first) refl;
+      }
+
+  -- what emptying the slot of another live handle leaves, as before it was filled
+  pub record Lowered (slots : List (Slot T)) (freed after : List ℕ) (handle : Handle) (n retired room : ℕ) (new : Slot T) (value : T) : Type 0 where
+    pub laid_out : IsLaidOut (set slots handle.index new) after retired room
+    pub found : find (contents_of slots freed) handle ≡ Some value
+    pub contents : contents_of (set slots handle.index new) after ≡ taken_back (contents_of slots freed) handle n
+
+  pub lowered : (slots : List (Slot T)) (freed after : List ℕ) (handle : Handle) (n retired room : ℕ) (old new : Slot T) (value : T) → IsLaidOut slots freed retired room → IsLive (contents_of slots freed) handle → old ≡ get_or slots handle.index old → old.value ≡ Some value → new ≡ record { generation = old.generation - 1; value = None } → handle.index ≢ n → after ≡ freed ++ handle.index ∷ [] → Lowered slots freed after handle n retired room new value
+  lowered slots freed after handle n retired room old new value laid_out alive read had made other more =
+      let given : List (Place T) = map place_of slots in
+      let before : Contents T = contents_of slots freed in
+      let known = read_live slots freed handle old value alive read had in
+      let same_length : length given ≡ length slots = length-map slots place_of in
+      let place : Place T = record { generation = handle.generation - 1; value = None } in
+      let stands : place_of new ≡ place = ap place_of made ∙ ap (λ (n : ℕ). let q : Place T = record { generation = n - 1; value = None } in q) known.generation in
+      let written : map place_of (set slots handle.index new) ≡ set given handle.index place = map-set place_of slots handle.index new ∙ ap (set given handle.index) stands in
+      let moved : reverse after ≡ handle.index ∷ reverse freed = ap reverse more ∙ reverse_push freed handle.index in
+      let contents : contents_of (set slots handle.index new) after ≡ record { given = set given handle.index place; freed = handle.index ∷ reverse freed } = rw (written, moved) refl in
+      let one : one_if (place_at given handle.index) ≡ 1 = ap (λ o. cond (is_some o) 1 0) known.there in
+      let counted = live_count-set given handle.index place (omega (arith, known.within)) in
+      let was = laid_out.counted in
+      let at = value_for-some handle.generation (place_at given handle.index) value known.found in
+      let below : handle.generation ≤ last_generation = omega (arith, at.0, laid_out.sound.fits handle.index) in
+      record {
+        laid_out = record {
+          sound = subst IsSound (sym contents) (IsSound-lowered given (reverse freed) handle.index handle.generation value below known.there laid_out.sound);
+          counted = rw written (omega (arith, length-set slots handle.index new, ap length more, length_push freed handle.index));
+          roomy = omega (arith, length-set slots handle.index new, laid_out.roomy);
+        };
+        found = known.found;
+        contents = contents ∙ rw (ne_eqb handle.index n other) refl;
       }

@@ -1,5 +1,5 @@
 -- What an arena is: a finite map from handles to values, which remembers for each index the generation given last.
-use Rattle.std.specs.Prelude.{ℕ, ◌≡◌, ◌+◌, ◌-◌, ◌<◌, ◌≤◌, ◌==◌, if◌then◌else◌, List, [], ◌∷◌, ◌++◌, length, Option, Some, None, IsSome, is_some, count_by, slice_index_or, slice_set, Result, Ok, Err, refl}
+use Rattle.std.specs.Prelude.{ℕ, ◌≡◌, ◌+◌, ◌-◌, ◌<◌, ◌≤◌, ◌==◌, if◌then◌else◌, List, [], ◌∷◌, ◌++◌, length, Option, Some, None, IsSome, is_some, count_by, slice_index_or, slice_set, take, Result, Ok, Err, refl}
 use Rattle.std.specs.Coded.{Coded, code_by, coded×, coded_ℕ, coded_list, coded_option}
 use Rattle.ca_text.specs.declared.refusal.Refusal.{Refusal}
 use Rattle.ca_text.specs.declared.refusal.Refusal.TheVariants.{OutOfMemory, ArenaFull, StaleHandle}
@@ -111,6 +111,14 @@ module _ {T : Type 0} where
     given = slice_set a.given handle.index (record { generation = handle.generation; value = None });
     freed = if handle.generation == last_generation then a.freed else handle.index ∷ a.freed;
   }
+
+  -- the contents as before this handle was given, which has a value, when n indices had been given: the last index is not given, another
+  -- is free, at the generation before
+  abbrev pub taken_back : Contents T → Handle → ℕ → Contents T
+  taken_back a handle n =
+      if handle.index == n
+      then record { given = take n a.given; freed = a.freed }
+      else record { given = slice_set a.given handle.index (record { generation = handle.generation - 1; value = None }); freed = handle.index ∷ a.freed }
 
   -- the handle was never given: its index has no value, and had a lesser generation last
   pub record IsFresh (a : Contents T) (handle : Handle) : Type 0 where

@@ -30,6 +30,11 @@ Hears old s number (Ok told) new = (told ≡ anomaly (map.get old s) number) × 
 Hears old s number (Err OutOfMemory) new = (map.get old s ≡ None) × (map.len old < beacon_servers) × (new ≡ old)
 Hears old s number (Err _) new = ⊥
 
+-- the table in which the last number of a server is again this one, or none; of a server that is not kept there is none
+abbrev pub restored : Servers → ℕ → Option ℕ → Servers
+restored t s None = map.remove t s
+restored t s (Some number) = if is_some (map.get t s) then map.insert t s number else t
+
 -- no server stands twice, and there are no more than may be
 pub record IsTable (entries : List (ℕ × ℕ)) : Type 0 where
   pub once : map.len (map.from_entries {R = nat_cmp} entries) ≡ length entries

@@ -1,13 +1,12 @@
 -- A circuit is found by its address and its priority, place by place.
-use Rattle.std.proofs.Common.{◌≡◌, ◌≢◌, ◌∙◌, ℕ, ◌+◌, ◌<◌, ◌≤◌, Bool, true, false, inl, inr, List, [], ◌∷◌, ◌++◌, Option, Some, None, Result, Ok, Err, ap, arith, drop, is_some, length, length-append, option_map, option_to_list, refl, subst, sym}
-use Rattle.std.specs.Prelude.{IsErr, OnErr, OnOk, find}
-use Rattle.std.specs.declared.alloc.AllocError.{AllocError}
+use Rattle.std.proofs.Common.{◌≡◌, ◌≢◌, ◌∙◌, ℕ, ◌+◌, ◌<◌, ◌≤◌, Bool, true, false, inl, inr, List, [], ◌∷◌, ◌++◌, Option, Some, None, ap, arith, drop, is_some, length, length-append, option_map, option_to_list, refl, subst, sym}
+use Rattle.std.specs.Prelude.{find}
 use Rattle.std.proofs.Math.Numerals.{add-one}
 use Rattle.std.proofs.Math.Seq.{drop-cons}
 use Rattle.std.proofs.lemmas.List.{drop_all}
 use Rattle.ca_arena.specs.declared.handle.Handle.{Handle}
 use Rattle.ca_arena.specs.Arena.{blank, place_at}
-use Rattle.ca_ids.specs.Table.{Table, held_at, held_from}
+use Rattle.ca_ids.specs.Table.{IsFull, MayGive, Table, held_at, held_from}
 use Rattle.ca_ids.specs.Wire.{wire_of}
 use Rattle.ca_text.proofs.Places.{some_is}
 use Rattle.ca_wire.specs.Fields.{Fields}
@@ -16,8 +15,8 @@ use Rattle.ca_model.specs.Client.{Channel, Client, ClientCircuit, Connecting, Co
 use Rattle.ca_model.specs.Ends.{Address}
 use Rattle.ca_model.specs.Hears.{Effect, Finds, FindsAt, PutsOn, becomes, create_sent, doing, found_at, put_on, searched_by, with_circuit}
 use Rattle.ca_client_core.specs.Asks.{with_message}
-use Rattle.ca_client_core.specs.Finding.{FindsNew, as_found, circuit_in, goes_there, goes_to}
-use Rattle.ca_client_core.specs.Hearing.{FindsOr}
+use Rattle.ca_client_core.specs.Finding.{as_found, circuit_in, goes_there, goes_to}
+use Rattle.ca_client_core.specs.Hearing.{DoesSome}
 use Rattle.ca_requests.proofs.Tables.{true_or_false}
 
 -- what the places from this index on give
@@ -96,16 +95,11 @@ put-waiting : (c : Handle) (o : Option Connection) (h : Handle) (here : Channel)
 put-waiting c None h here x is = refl
 put-waiting c (Some e) h here x is = absurd cc
 
-pub finds-connected : (x : Client) (from : Address) (m : Fields) (h : Handle) (here : Channel) (c : Handle) (k : Fields) (r : Result (Unit {0}) AllocError) (new : Client) → Some (h, here) ≡ searched_by m.p2 x → Some (c, true) ≡ circuit_in (found_at from m) here.priority x.circuits → k ≡ create_request (wire_of h) here.name → OnOk r (new ≡ with_message c k (found_on c (Creating 0) h x)) → OnErr r (new ≡ x) → FindsOr x from m r new
-finds-connected x from m h here c k (Ok u) new is to says ok err =
+pub finds-connected : (x : Client) (from : Address) (m : Fields) (h : Handle) (here : Channel) (c : Handle) (k : Fields) (new : Client) → Some (h, here) ≡ searched_by m.p2 x → Some (c, true) ≡ circuit_in (found_at from m) here.priority x.circuits → k ≡ create_request (wire_of h) here.name → new ≡ with_message c k (found_on c (Creating 0) h x) → (e : Effect) × Finds x from m e × (e.notices ≡ []) × (new ≡ e.core)
+finds-connected x from m h here c k new is to says left =
     let parts = found-split (circuit_to (found_at from m) here.priority x) c true (sym to) in
     let e : Effect = doing (create_sent c h here ∷ []) [] (found_on c (Creating 0) h x) in
-    (e, found-one x from m h here e (Some (c, parts.0)) is parts.1 (sym (put-connected c parts.0.connection h here x parts.2)), refl, ok ∙ ap (λ (f : Fields). with_message c f (found_on c (Creating 0) h x)) says)
-finds-connected x from m h here c k (Err f) new is to says ok err =
-    let parts = found-split (circuit_to (found_at from m) here.priority x) c true (sym to) in
-    let e : Effect = doing (create_sent c h here ∷ []) [] (found_on c (Creating 0) h x) in
-    let sends : e.sent ≢ [] = λ none. absurd cc in
-    (e, found-one x from m h here e (Some (c, parts.0)) is parts.1 (sym (put-connected c parts.0.connection h here x parts.2)), inl sends, err)
+    (e, found-one x from m h here e (Some (c, parts.0)) is parts.1 (sym (put-connected c parts.0.connection h here x parts.2)), refl, left ∙ ap (λ (f : Fields). with_message c f (found_on c (Creating 0) h x)) says)
 
 pub finds-waiting : (x : Client) (from : Address) (m : Fields) (h : Handle) (here : Channel) (c : Handle) (new : Client) → Some (h, here) ≡ searched_by m.p2 x → Some (c, false) ≡ circuit_in (found_at from m) here.priority x.circuits → new ≡ found_on c Connecting h x → (e : Effect) × Finds x from m e × (e.notices ≡ []) × (new ≡ e.core)
 finds-waiting x from m h here c new is to left =
@@ -117,29 +111,29 @@ finds-waiting x from m h here c new is to left =
 one-longer : {X : Type 0} (xs : List X) (x : X) → xs ++ x ∷ [] ≢ xs
 one-longer xs x = λ same. (let longer : length (xs ++ x ∷ []) ≡ length xs = ap length same in absurd (omega (arith, longer, length-append xs (x ∷ []))))
 
-pub finds-new : (x : Client) (from : Address) (m : Fields) (h : Handle) (here : Channel) (r : Result (Unit {0}) AllocError) (new : Client) → Some (h, here) ≡ searched_by m.p2 x → None ≡ circuit_in (found_at from m) here.priority x.circuits → FindsNew x (found_at from m) here.priority h r new → FindsOr x from m r new
-finds-new x from m h here (Ok u) new is to (inl (c, may, left)) =
+pub finds-new : (x : Client) (from : Address) (m : Fields) (h : Handle) (here : Channel) (c : Handle) (new : Client) → Some (h, here) ≡ searched_by m.p2 x → None ≡ circuit_in (found_at from m) here.priority x.circuits → MayGive x.circuits c → new ≡ found_on c Connecting h (with_circuit c (new_circuit (found_at from m) here.priority false) x) → (e : Effect) × Finds x from m e × (e.notices ≡ []) × (new ≡ e.core)
+finds-new x from m h here c new is to may left =
     let a = found_at from m in
     let none = found-none (circuit_to a here.priority x) (sym to) in
     let e : Effect = put_on c None h here (with_circuit c (new_circuit a here.priority false) x) in
     (e, found-one x from m h here e None is none (inl (c, may, refl)), refl, left)
-finds-new x from m h here (Ok u) new is to (inr (full, left)) =
+
+pub finds-full : (x : Client) (from : Address) (m : Fields) (h : Handle) (here : Channel) (new : Client) → Some (h, here) ≡ searched_by m.p2 x → None ≡ circuit_in (found_at from m) here.priority x.circuits → IsFull x.circuits → new ≡ x → (e : Effect) × Finds x from m e × (e.notices ≡ []) × (new ≡ e.core)
+finds-full x from m h here new is to full left =
     let none = found-none (circuit_to (found_at from m) here.priority x) (sym to) in
     (becomes x, found-one x from m h here (becomes x) None is none (inr (full, refl)), refl, left)
-finds-new x from m h here (Err f) new is to (c, may, left) =
+
+pub finds-none-new : (x : Client) (from : Address) (m : Fields) (h : Handle) (here : Channel) (c : Handle) → Some (h, here) ≡ searched_by m.p2 x → None ≡ circuit_in (found_at from m) here.priority x.circuits → MayGive x.circuits c → (e : Effect) × Finds x from m e × DoesSome x e
+finds-none-new x from m h here c is to may =
     let a = found_at from m in
     let none = found-none (circuit_to a here.priority x) (sym to) in
     let e : Effect = put_on c None h here (with_circuit c (new_circuit a here.priority false) x) in
-    (e, found-one x from m h here e None is none (inl (c, may, refl)), inr (inr (one-longer x.order c)), left)
+    (e, found-one x from m h here e None is none (inl (c, may, refl)), inr (inr (one-longer x.order c)))
 
 -- without memory for the message
-pub finds-out : (x : Client) (from : Address) (m : Fields) (h : Handle) (here : Channel) (c : Handle) (r : Result (Unit {0}) AllocError) → Some (h, here) ≡ searched_by m.p2 x → Some (c, true) ≡ circuit_in (found_at from m) here.priority x.circuits → IsErr r → FindsOr x from m r x
-finds-out x from m h here c (Ok u) is to err =
-    let bad : false ≡ true = err in
-    absurd cc
-finds-out x from m h here c (Err f) is to err =
-    finds-connected x from m h here c (create_request (wire_of h) here.name) (Err f) x is to refl tt refl
-
-pub goes-as : (x : Client) (t : Table ClientCircuit) (a b : Address) (p q : ℕ) → t ≡ x.circuits → a ≡ b → p ≡ q → circuit_in a p t ≡ circuit_in b q x.circuits
-goes-as x t a b p q there address priority =
-    ap (λ (u : Table ClientCircuit). circuit_in a p u) there ∙ ap (λ (d : Address). circuit_in d p x.circuits) address ∙ ap (λ (n : ℕ). circuit_in b n x.circuits) priority
+pub finds-out : (x : Client) (from : Address) (m : Fields) (h : Handle) (here : Channel) (c : Handle) → Some (h, here) ≡ searched_by m.p2 x → Some (c, true) ≡ circuit_in (found_at from m) here.priority x.circuits → (e : Effect) × Finds x from m e × DoesSome x e
+finds-out x from m h here c is to =
+    let parts = found-split (circuit_to (found_at from m) here.priority x) c true (sym to) in
+    let e : Effect = doing (create_sent c h here ∷ []) [] (found_on c (Creating 0) h x) in
+    let sends : e.sent ≢ [] = λ none. absurd cc in
+    (e, found-one x from m h here e (Some (c, parts.0)) is parts.1 (sym (put-connected c parts.0.connection h here x parts.2)), inl sends)

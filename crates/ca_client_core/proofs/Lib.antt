@@ -22,3 +22,9 @@ mod Walked
 mod Firsts
 pub mod Cleared
 pub mod Listing
+pub mod Finds
+pub mod Arriving
+pub mod Arrivals
+pub mod Settling
+pub mod Anomalies
+pub mod Datagrams

@@ -20,3 +20,4 @@ pub mod First
 pub mod Stepping
 pub mod Clearing
 pub mod Listed
+pub mod Receiving

@@ -2,10 +2,11 @@
 //!
 //! A caller moves the bytes, and hands in the moment. What is reported comes as answers of the calls.
 //!
-//! Begun: `tick` and `datagram` are not there yet, so that nothing is searched for in datagrams, and no silence ends a circuit.
+//! Begun: `tick` is not there yet, so that nothing is searched for, and no silence ends a circuit.
 #![tactic(auto)]
 
 mod asking;
+mod beacons;
 mod beginning;
 mod channel;
 mod channel_state;
@@ -35,8 +36,10 @@ mod opening;
 mod output;
 mod queue;
 mod reading;
+mod receiving;
 mod stepping;
 mod subscribing;
+mod undoing;
 mod unsubscribing;
 mod updates;
 mod valued;

@@ -2,3 +2,4 @@ pub mod Wires
 mod Walks
 pub mod Changes
 pub mod Holding
+pub mod Taken

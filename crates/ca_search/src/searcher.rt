@@ -142,8 +142,8 @@ fn pass(places: &mut IndexMap<u32, Place>, now: u64)
     }
 }
 
-/// Begins again for all that are not paused.
-fn boost(places: &mut IndexMap<u32, Place>, now: u64)
+/// All that are not paused begin again: their first searches are due at once.
+pub fn boost(places: &mut IndexMap<u32, Place>, now: u64)
     ensures { places.new.entries ≡ with_all (boosted now) places.old.entries }
 {
     for index in 0..places.len() {

@@ -1,89 +1,97 @@
-use Rattle.std.proofs.Common.{◌≡◌, ◌∙◌, ℕ, Bool, Option, Some, ap, false, refl, rules, subst, sym, true}
-use Rattle.ca_arena.specs.declared.handle.Handle.{Handle}
-use Rattle.ca_model.specs.Client.{Client, Connecting, Creating}
-use Rattle.ca_model.specs.Ends.{Address}
-use Rattle.ca_model.specs.Hears.{found_at, searched_by}
-use Rattle.ca_client_core.specs.Finding.{FindsNew, circuit_in}
+use Rattle.std.proofs.Common.{◌≡◌, List, None, Ok, Option, Some, ap, subst, sym, ℕ}
+use Rattle.ca_search.specs.Searches as search
+use Rattle.ca_model.specs.Client.{Client}
+use Rattle.ca_client_core.specs.Finding.{FindsIn, Tables, tables_of, with_tables}
 use Rattle.ca_client_core.specs.Hearing.{FindsOr}
-use Rattle.ca_client_core.proofs.Found.{finds-connected, finds-new, finds-nothing, finds-out, finds-waiting, goes-as}
-use Rattle.ca_client_core.proofs.Joining.{found-is, sought-is}
+use Rattle.ca_client_core.specs.declared.finding.Found.{Found}
+use Rattle.ca_client_core.proofs.Arriving.{IsSoundWith, sound-found}
+use Rattle.ca_client_core.proofs.Finds.{heard-found, heard-out}
 use Rattle.ca_client_core.proofs.client.ClientCore.hear_found.Goals as goal
+
+pub returns-in_err-found : goal.returns-in_err-found
+returns-in_err-found c =
+    let i = c.self.inside in
+    let x : Client = record {
+      peer = record { user = i.user.items; host = i.host.items };
+      servers = i.servers.items;
+      moment = i.moment;
+      channels = i.channels;
+      requests = i.requests.table;
+      subscriptions = i.monitors;
+      circuits = i.circuits;
+      order = i.order.items;
+      issued = i.requests.order;
+      searches = i.searches.entries;
+      beacons = i.beacons;
+    } in
+    let t : Tables = record { channels = c.find.new.channels; circuits = c.find.new.circuits; order = c.find.new.order.items } in
+    subst (λ (y : Client). FindsOr y c.args.from c.args.message.now c.from_residual.result (with_tables t x)) c.self.view_is
+    (heard-out x c.args.from c.args.message.now c.in_err-found.field-0.0 c.from_residual.result t (with_tables t x) c.in_err-found.ensures c.from_residual.ensures.0 (λ j. with_tables t x))
+
+pub returns-in-Some : goal.returns-in-Some
+returns-in-Some c =
+    let i = c.self.inside in
+    let x : Client = record {
+      peer = record { user = i.user.items; host = i.host.items };
+      servers = i.servers.items;
+      moment = i.moment;
+      channels = i.channels;
+      requests = i.requests.table;
+      subscriptions = i.monitors;
+      circuits = i.circuits;
+      order = i.order.items;
+      issued = i.requests.order;
+      searches = i.searches.entries;
+      beacons = i.beacons;
+    } in
+    let t : Tables = record { channels = c.find.new.channels; circuits = c.find.new.circuits; order = c.find.new.order.items } in
+    let new : Client = record (with_tables t x) { searches = c.pause_found.new.searches.entries } in
+    let did : FindsIn (tables_of x) c.args.from c.args.message.now (Ok (Some c.in-Some.found)) t =
+    subst (λ (o : Option Found). FindsIn (tables_of x) c.args.from c.args.message.now (Ok o) t) c.in-Some.is c.in_ok-found.ensures in
+    subst (λ (y : Client). FindsOr y c.args.from c.args.message.now (Ok tt) new) c.self.view_is
+    (heard-found x c.args.from c.args.message.now (Some c.in-Some.found) t new did (ap (λ (es : List (ℕ × search.Channel)). record (with_tables t x) { searches = es }) c.pause_found.ensures))
 
 pub returns-in_default : goal.returns-in_default
 returns-in_default c =
-    finds-nothing c.args.self.now c.args.from c.args.message.now (c.in_default.ensures ∙ ap (λ (n : ℕ). searched_by n c.args.self.now) c.p2.ensures)
+    let i = c.self.inside in
+    let x : Client = record {
+      peer = record { user = i.user.items; host = i.host.items };
+      servers = i.servers.items;
+      moment = i.moment;
+      channels = i.channels;
+      requests = i.requests.table;
+      subscriptions = i.monitors;
+      circuits = i.circuits;
+      order = i.order.items;
+      issued = i.requests.order;
+      searches = i.searches.entries;
+      beacons = i.beacons;
+    } in
+    let t : Tables = record { channels = c.find.new.channels; circuits = c.find.new.circuits; order = c.find.new.order.items } in
+    let did : FindsIn (tables_of x) c.args.from c.args.message.now (Ok None) t =
+    subst (λ (o : Option Found). FindsIn (tables_of x) c.args.from c.args.message.now (Ok o) t) c.in_default.is c.in_ok-found.ensures in
+    subst (λ (y : Client). FindsOr y c.args.from c.args.message.now (Ok tt) (with_tables t x)) c.self.view_is
+    (heard-found x c.args.from c.args.message.now None t (with_tables t x) did (λ j. with_tables t x))
 
-pub returns-then-not-connected : goal.returns-then-not-connected
-returns-then-not-connected c =
-    let x = c.args.self.now in
-    let a = found_at c.args.from c.args.message.now in
-    let here = c.in-Some.found.now in
-    let waits : c.in-Some-circuit_to.connected ≡ false = search rules in
-    finds-waiting x c.args.from c.args.message.now c.in-Some.channel here c.in-Some-circuit_to.circuit c.found_on.new.self
-    (c.in-Some.ensures ∙ ap (λ (n : ℕ). searched_by n x) c.p2.ensures)
-    (ap (λ (b : Bool). Some (c.in-Some-circuit_to.circuit, b)) (sym waits) ∙ c.in-Some-circuit_to.ensures ∙ goes-as x c.self.inside.circuits c.found_at-address.result a c.priority-priority.result here.priority (ap (λ (y : Client). y.circuits) c.self.view_is) c.found_at-address.ensures c.priority-priority.ensures.is)
-    c.found_on.ensures
-
-pub returns-in_err-create-in-Some-circuit_to : goal.returns-in_err-create-in-Some-circuit_to
-returns-in_err-create-in-Some-circuit_to c =
-    let x = c.args.self.now in
-    let a = found_at c.args.from c.args.message.now in
-    let here = c.in-Some.found.now in
-    let connected : c.in-Some-circuit_to.connected ≡ true = search rules in
-    finds-out x c.args.from c.args.message.now c.in-Some.channel here c.in-Some-circuit_to.circuit c.from_residual.result
-    (c.in-Some.ensures ∙ ap (λ (n : ℕ). searched_by n x) c.p2.ensures)
-    (ap (λ (b : Bool). Some (c.in-Some-circuit_to.circuit, b)) (sym connected) ∙ c.in-Some-circuit_to.ensures ∙ goes-as x c.self.inside.circuits c.found_at-address.result a c.priority-priority.result here.priority (ap (λ (y : Client). y.circuits) c.self.view_is) c.found_at-address.ensures c.priority-priority.ensures.is)
-    c.from_residual.ensures.0
-
-pub returns-in-None : goal.returns-in-None
-returns-in-None c =
-    let x = c.args.self.now in
-    let m = c.args.message.now in
-    let a = found_at c.args.from m in
-    let h = c.in-Some.channel in
-    let here = c.in-Some.found.now in
-    let did : FindsNew x a here.priority h c.find_new.result c.find_new.new.self =
-    subst (λ (n : ℕ). FindsNew x a n h c.find_new.result c.find_new.new.self) c.priority-priority.ensures.is
-    (subst (λ (b : Address). FindsNew x b c.priority-priority.result h c.find_new.result c.find_new.new.self) c.found_at-address.ensures c.find_new.ensures) in
-    finds-new x c.args.from m h here c.find_new.result c.find_new.new.self
-    (c.in-Some.ensures ∙ ap (λ (n : ℕ). searched_by n x) c.p2.ensures)
-    (c.in-None.ensures ∙ goes-as x c.self.inside.circuits c.found_at-address.result a c.priority-priority.result here.priority (ap (λ (y : Client). y.circuits) c.self.view_is) c.found_at-address.ensures c.priority-priority.ensures.is)
-    did
-
-pub returns-in_ok-create-in-Some-circuit_to : goal.returns-in_ok-create-in-Some-circuit_to
-returns-in_ok-create-in-Some-circuit_to c =
-    let x = c.args.self.now in
-    let a = found_at c.args.from c.args.message.now in
-    let here = c.in-Some.found.now in
-    let connected : c.in-Some-circuit_to.connected ≡ true = search rules in
-    finds-connected x c.args.from c.args.message.now c.in-Some.channel here c.in-Some-circuit_to.circuit c.in_ok-create-in-Some-circuit_to.create c.create_on.result c.create_on.new.self
-    (c.in-Some.ensures ∙ ap (λ (n : ℕ). searched_by n x) c.p2.ensures)
-    (ap (λ (b : Bool). Some (c.in-Some-circuit_to.circuit, b)) (sym connected) ∙ c.in-Some-circuit_to.ensures ∙ goes-as x c.self.inside.circuits c.found_at-address.result a c.priority-priority.result here.priority (ap (λ (y : Client). y.circuits) c.self.view_is) c.found_at-address.ensures c.priority-priority.ensures.is)
-    c.in_ok-create-in-Some-circuit_to.ensures c.create_on.ensures.ok c.create_on.ensures.err
-
-pub find_new-requires-clause-sought : goal.find_new-requires-clause-sought
-find_new-requires-clause-sought c =
-    let x = c.args.self.now in
-    sought-is x c.args.message.now.p2 c.in-Some.channel c.in-Some.found.now (c.in-Some.ensures ∙ ap (λ (n : ℕ). searched_by n x) c.p2.ensures)
-
-pub found_on-requires : goal.found_on-requires
-found_on-requires c =
-    let x = c.args.self.now in
-    let a = found_at c.args.from c.args.message.now in
-    let here = c.in-Some.found.now in
-    let waits : c.in-Some-circuit_to.connected ≡ false = search rules in
-    found-is x a here.priority c.in-Some-circuit_to.circuit c.in-Some.channel false Connecting
-    (sought-is x c.args.message.now.p2 c.in-Some.channel here (c.in-Some.ensures ∙ ap (λ (n : ℕ). searched_by n x) c.p2.ensures))
-    (ap (λ (b : Bool). Some (c.in-Some-circuit_to.circuit, b)) (sym waits) ∙ c.in-Some-circuit_to.ensures ∙ goes-as x c.self.inside.circuits c.found_at-address.result a c.priority-priority.result here.priority (ap (λ (y : Client). y.circuits) c.self.view_is) c.found_at-address.ensures c.priority-priority.ensures.is)
-    refl refl
-
-pub create_on-requires : goal.create_on-requires
-create_on-requires c =
-    let x = c.args.self.now in
-    let a = found_at c.args.from c.args.message.now in
-    let here = c.in-Some.found.now in
-    let connected : c.in-Some-circuit_to.connected ≡ true = search rules in
-    found-is x a here.priority c.in-Some-circuit_to.circuit c.in-Some.channel true (Creating 0)
-    (sought-is x c.args.message.now.p2 c.in-Some.channel here (c.in-Some.ensures ∙ ap (λ (n : ℕ). searched_by n x) c.p2.ensures))
-    (ap (λ (b : Bool). Some (c.in-Some-circuit_to.circuit, b)) (sym connected) ∙ c.in-Some-circuit_to.ensures ∙ goes-as x c.self.inside.circuits c.found_at-address.result a c.priority-priority.result here.priority (ap (λ (y : Client). y.circuits) c.self.view_is) c.found_at-address.ensures c.priority-priority.ensures.is)
-    refl refl
+pub invariant_of-self-in-Some : goal.invariant_of-self-in-Some
+invariant_of-self-in-Some c =
+    let i = c.self.inside in
+    let x : Client = record {
+      peer = record { user = i.user.items; host = i.host.items };
+      servers = i.servers.items;
+      moment = i.moment;
+      channels = i.channels;
+      requests = i.requests.table;
+      subscriptions = i.monitors;
+      circuits = i.circuits;
+      order = i.order.items;
+      issued = i.requests.order;
+      searches = i.searches.entries;
+      beacons = i.beacons;
+    } in
+    let t : Tables = record { channels = c.find.new.channels; circuits = c.find.new.circuits; order = c.find.new.order.items } in
+    let new : Client = record (with_tables t x) { searches = c.pause_found.new.searches.entries } in
+    let did : FindsIn (tables_of x) c.args.from c.args.message.now (Ok (Some c.in-Some.found)) t =
+    subst (λ (o : Option Found). FindsIn (tables_of x) c.args.from c.args.message.now (Ok o) t) c.in-Some.is c.in_ok-found.ensures in
+    let r = heard-found x c.args.from c.args.message.now (Some c.in-Some.found) t new did (ap (λ (es : List (ℕ × search.Channel)). record (with_tables t x) { searches = es }) c.pause_found.ensures) in
+    subst (IsSoundWith i.lives.items) (sym r.3) (sound-found i.lives.items x c.args.from c.args.message.now r.0 r.1 c.self.invariant)
