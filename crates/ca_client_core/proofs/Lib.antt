@@ -22,3 +22,13 @@ mod Walked
 mod Firsts
 pub mod Cleared
 pub mod Listing
+mod Aside
+mod Moments
+mod Ahead
+mod Packings
+mod Asked
+mod Sifting
+mod Marked
+mod Passing
+mod Prepared
+mod Rounds

@@ -20,3 +20,10 @@ pub mod First
 pub mod Stepping
 pub mod Clearing
 pub mod Listed
+pub mod Moments
+pub mod Marks
+pub mod Ahead
+pub mod Silences
+pub mod NameSearches
+pub mod Packing
+pub mod Ticked

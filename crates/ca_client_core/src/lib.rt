@@ -2,9 +2,10 @@
 //!
 //! A caller moves the bytes, and hands in the moment. What is reported comes as answers of the calls.
 //!
-//! Begun: `tick` and `datagram` are not there yet, so that nothing is searched for in datagrams, and no silence ends a circuit.
+//! Begun: `datagram` is not there yet, so that no reply to a search in a datagram is heard, and no beacon.
 #![tactic(auto)]
 
+mod addressing;
 mod asking;
 mod beginning;
 mod channel;
@@ -22,6 +23,7 @@ mod ends;
 mod errors;
 mod finding;
 mod first;
+mod foreseeing;
 mod hearing;
 mod input;
 mod issuing;
@@ -29,20 +31,26 @@ mod leaving;
 mod letting_go;
 mod live;
 mod live_channels;
+mod marks;
+mod name_searches;
 mod notice;
 mod notices;
 mod opening;
 mod output;
+mod packing;
 mod queue;
 mod reading;
+mod silences;
 mod stepping;
 mod subscribing;
+mod ticking;
 mod unsubscribing;
 mod updates;
 mod valued;
 mod wanted;
 mod writing;
 
+pub use addressing::Datagram;
 pub use channel_state::ChannelState;
 pub use client::ClientCore;
 pub use closing::{Closing, Why};
@@ -50,4 +58,5 @@ pub use ends::Address;
 pub use notice::Notice;
 pub use notices::Notices;
 pub use stepping::Stepped;
+pub use ticking::{Left, Ticked};
 pub use wanted::WantedCircuit;
