@@ -3,7 +3,8 @@ use Rattle.std.proofs.Common.{◌≡◌, ◌∙◌, ℕ, suc, zero, ◌≤◌, i
 use Rattle.std.specs.Prelude.{filter_map, option_and_then}
 use Rattle.std.specs.List.{AllByRecursion, IsDistinct, cons_option}
 use Rattle.std.specs.Map.{keys_of}
-use Rattle.std.proofs.lemmas.Bool.{both_ways, eq-eqb, eqb-true}
+use Rattle.std.proofs.lemmas.Bool.{both_ways, eq-eqb, eqb-true, le-leb}
+use Rattle.std.proofs.lemmas.Map.Keys.{IsDistinct-cons, IsDistinct-head, IsDistinct-tail}
 use Rattle.ca_text.specs.Limits.{arena_slots}
 use Rattle.ca_text.specs.Place.{At}
 use Rattle.ca_text.proofs.Places.{some_is}
@@ -55,12 +56,15 @@ and-false false = refl
 
 -- it is on the circuit, in a phase that the test names
 on-one-of : (test : Phase → Bool) (ends : Handle → Bool) (c : Handle) (s : Standing) → unwrap_or (option_map test (phase_on c s)) false ≡ true → ends c ≡ true → (p : Phase) × (sought_in ends s ≡ Some (not (is_cleared p))) × (test p ≡ true)
-on-one-of test ends c Searching on yes = absurd (both_ways false refl on)
-on-one-of test ends c (On d p) on yes = go (same_handle d c) refl on
+on-one-of test ends c Searching on ending = absurd (both_ways false refl on)
+on-one-of test ends c (On d p) on ending = go (same_handle d c) refl on
   where
     go : (b : Bool) → same_handle d c ≡ b → unwrap_or (option_map test (cond b (Some p) None)) false ≡ true → (q : Phase) × (sought_in ends (On d p) ≡ Some (not (is_cleared q))) × (test q ≡ true)
-    go true same on = (p, ap (λ (b : Bool). cond b (Some (not (is_cleared p))) None) (ap ends (same-is d c same) ∙ yes), on)
+    go true same on = (p, ap (λ (b : Bool). cond b (Some (not (is_cleared p))) None) (ap ends (same-is d c same) ∙ ending), on)
     go false same on = absurd (both_ways false refl on)
+
+at-once : (k : ℕ) → nat_le k k ≡ true
+at-once k = le-leb k k (omega arith)
 
 -- ---- the searches, entry by entry
 
@@ -87,7 +91,7 @@ module _ (ends : Handle → Bool) (m : ℕ) where
   others-same : (t u : Table Channel) (h : Handle) (es : Entries) → ((id : ℕ) → (wire_of h ≡ id → ⊥) → by_wire u id ≡ by_wire t id) → AllByRecursion (λ (k : ℕ). nat_eq (wire_of h) k ≡ false) (keys_of es) → AllByRecursion (λ (e : ℕ × search.Channel). by_wire u e.0 ≡ by_wire t e.0) es
   others-same t u h [] same all = tt
   others-same t u h (e ∷ es) same all =
-      (same e.0 (λ is. both_ways (nat_eq (wire_of h) e.0) (eq-eqb (wire_of h) e.0 is) all.0), others-same t u h es same all.1)
+      (same e.0 (λ is. both_ways (nat_eq (wire_of h) e.0) all.0 (eq-eqb (wire_of h) e.0 is)), others-same t u h es same all.1)
 
   -- one entry is left out, or is another
   step-other : (t u : Table Channel) (e : ℕ × search.Channel) (es ns : Entries) → by_wire u e.0 ≡ by_wire t e.0 → due_after ends m t es ≡ due_after ends m u ns → due_after ends m t (e ∷ es) ≡ due_after ends m u (e ∷ ns)
@@ -99,11 +103,11 @@ module _ (ends : Handle → Bool) (m : ℕ) where
       ∙ ap (λ (ws : List search.Wanted). cond (is_due_after ends m u e) (search.wanted e ∷ ws) ws) rest
       ∙ sym (due-cons u e ns)
 
-  module _ (c : Handle) (yes : ends c ≡ true) where
+  module _ (c : Handle) (ending : ends c ≡ true) where
     -- a channel that was cleared is gone
     gone-due : (t : Table Channel) (h : Handle) (v : Channel) (es : Entries) → length t ≤ arena_slots → under t h ≡ Some v → is_on_in is_cleared c v ≡ true → Once es → due_after ends m t es ≡ due_after ends m (with_freed h t) (without (wire_of h) es)
     gone-due t h v [] few found on once = refl
-    gone-due t h v (e ∷ es) few found on once = go (nat_eq (wire_of h) e.0) refl
+    gone-due t h v (e ∷ es) few found on once = go (nat_eq (wire_of h) e.0) refl (gone-due t h v es few found on (IsDistinct-tail nat_eq e.0 (keys_of es) once))
       where
         u : Table Channel
         u = with_freed h t
@@ -112,27 +116,27 @@ module _ (ends : Handle → Bool) (m : ℕ) where
         same id other =
             wire-apart t u h id few (subst (λ (n : ℕ). n ≤ arena_slots) (sym (freed-few t h)) few) (λ g apart. under-freed t h g apart) other
 
-        go : (b : Bool) → nat_eq (wire_of h) e.0 ≡ b → due_after ends m t (e ∷ es) ≡ due_after ends m u (without (wire_of h) (e ∷ es))
-        go true is =
+        go : (b : Bool) → nat_eq (wire_of h) e.0 ≡ b → due_after ends m t es ≡ due_after ends m u (without (wire_of h) es) → due_after ends m t (e ∷ es) ≡ due_after ends m u (without (wire_of h) (e ∷ es))
+        go true is rest =
             let cid : wire_of h ≡ e.0 = eqb-true (wire_of h) e.0 is in
             let there : by_wire t e.0 ≡ Some (h, v) = subst (λ (n : ℕ). by_wire t n ≡ Some (h, v)) cid (under-wire t h v few found) in
-            let s = on-one-of is_cleared ends c v.standing on yes in
+            let s = on-one-of is_cleared ends c v.standing on ending in
             let never : sought_by ends t e.0 ≡ Some false =
             ap (option_and_then (λ (k : Handle × Channel). sought_in ends k.1.standing)) there ∙ s.1 ∙ ap (λ (b : Bool). Some (not b)) s.2 in
             let out : is_due_after ends m t e ≡ false = ap (λ (o : Option Bool). unwrap_or o (search.is_due m e.1)) never in
             due-cons t e es
             ∙ ap (λ (b : Bool). cond b (search.wanted e ∷ due_after ends m t es) (due_after ends m t es)) out
-            ∙ due-same t u es (others-same t u h es same (subst (λ (n : ℕ). AllByRecursion (λ (k : ℕ). nat_eq n k ≡ false) (keys_of es)) (sym cid) once.0))
+            ∙ due-same t u es (others-same t u h es same (subst (λ (n : ℕ). AllByRecursion (λ (k : ℕ). nat_eq n k ≡ false) (keys_of es)) (sym cid) (IsDistinct-head nat_eq e.0 (keys_of es) once)))
             ∙ ap (λ (b : Bool). due_after ends m u (cond b es (e ∷ without (wire_of h) es))) (sym is)
-        go false is =
-            step-other t u e es (without (wire_of h) es) (same e.0 (λ at. both_ways (nat_eq (wire_of h) e.0) (eq-eqb (wire_of h) e.0 at) is))
-            (gone-due t h v es few found on once.1)
+        go false is rest =
+            step-other t u e es (without (wire_of h) es) (same e.0 (λ at. both_ways (nat_eq (wire_of h) e.0) is (eq-eqb (wire_of h) e.0 at)))
+            rest
             ∙ ap (λ (b : Bool). due_after ends m u (cond b es (e ∷ without (wire_of h) es))) (sym is)
 
     -- the others are searched for at once
     again-due : (t : Table Channel) (h : Handle) (v : Channel) (es : Entries) → length t ≤ arena_slots → under t h ≡ Some v → is_on_in is_kept c v ≡ true → Once es → due_after ends m t es ≡ due_after ends m (with_changed (λ (here : Channel). record here { standing = Searching }) h t) (with_one (search.resumed m) (wire_of h) es)
     again-due t h v [] few found on once = refl
-    again-due t h v (e ∷ es) few found on once = go (nat_eq (wire_of h) e.0) refl
+    again-due t h v (e ∷ es) few found on once = go (nat_eq (wire_of h) e.0) refl (again-due t h v es few found on (IsDistinct-tail nat_eq e.0 (keys_of es) once))
       where
         f : Channel → Channel
         f here = record here { standing = Searching }
@@ -146,13 +150,13 @@ module _ (ends : Handle → Bool) (m : ℕ) where
         same : (id : ℕ) → (wire_of h ≡ id → ⊥) → by_wire u id ≡ by_wire t id
         same id other = wire-apart t u h id few now (λ g apart. under-other f t h g apart) other
 
-        go : (b : Bool) → nat_eq (wire_of h) e.0 ≡ b → due_after ends m t (e ∷ es) ≡ due_after ends m u (with_one (search.resumed m) (wire_of h) (e ∷ es))
-        go true is =
+        go : (b : Bool) → nat_eq (wire_of h) e.0 ≡ b → due_after ends m t es ≡ due_after ends m u (with_one (search.resumed m) (wire_of h) es) → due_after ends m t (e ∷ es) ≡ due_after ends m u (with_one (search.resumed m) (wire_of h) (e ∷ es))
+        go true is rest =
             let cid : wire_of h ≡ e.0 = eqb-true (wire_of h) e.0 is in
             let n : ℕ × search.Channel = (e.0, search.resumed m e.1) in
             let there : by_wire t e.0 ≡ Some (h, v) = subst (λ (k : ℕ). by_wire t k ≡ Some (h, v)) cid (under-wire t h v few found) in
             let back : by_wire u e.0 ≡ Some (h, f v) = subst (λ (k : ℕ). by_wire u k ≡ Some (h, f v)) cid (under-wire u h (f v) now (changed-own f t h v found)) in
-            let s = on-one-of is_kept ends c v.standing on yes in
+            let s = on-one-of is_kept ends c v.standing on ending in
             let first : is_due_after ends m t e ≡ true =
             ap (λ (o : Option Bool). unwrap_or o (search.is_due m e.1))
             (ap (option_and_then (λ (k : Handle × Channel). sought_in ends k.1.standing)) there ∙ s.1 ∙ ap (λ (b : Bool). Some b) s.2) in
@@ -162,44 +166,41 @@ module _ (ends : Handle → Bool) (m : ℕ) where
             due-cons t e es
             ∙ ap (λ (b : Bool). cond b (search.wanted e ∷ due_after ends m t es) (due_after ends m t es)) first
             ∙ ap (λ (ws : List search.Wanted). search.wanted e ∷ ws)
-            (due-same t u es (others-same t u h es same (subst (λ (k : ℕ). AllByRecursion (λ (l : ℕ). nat_eq k l ≡ false) (keys_of es)) (sym cid) once.0)))
+            (due-same t u es (others-same t u h es same (subst (λ (k : ℕ). AllByRecursion (λ (l : ℕ). nat_eq k l ≡ false) (keys_of es)) (sym cid) (IsDistinct-head nat_eq e.0 (keys_of es) once))))
             ∙ ap (λ (b : Bool). cond b (search.wanted n ∷ due_after ends m u es) (due_after ends m u es)) (sym next)
             ∙ sym (due-cons u n es)
             ∙ ap (λ (b : Bool). due_after ends m u (cond b (n ∷ es) (e ∷ with_one (search.resumed m) (wire_of h) es))) (sym is)
-          where
-            at-once : (k : ℕ) → nat_le k k ≡ true
-            at-once zero = refl
-            at-once (suc k) = at-once k
-        go false is =
-            step-other t u e es (with_one (search.resumed m) (wire_of h) es) (same e.0 (λ at. both_ways (nat_eq (wire_of h) e.0) (eq-eqb (wire_of h) e.0 at) is))
-            (again-due t h v es few found on once.1)
+        go false is rest =
+            step-other t u e es (with_one (search.resumed m) (wire_of h) es) (same e.0 (λ at. both_ways (nat_eq (wire_of h) e.0) is (eq-eqb (wire_of h) e.0 at)))
+            rest
             ∙ ap (λ (b : Bool). due_after ends m u (cond b ((e.0, search.resumed m e.1) ∷ es) (e ∷ with_one (search.resumed m) (wire_of h) es))) (sym is)
 
 -- ---- each CID stays once
 
 keys-without : (cid n : ℕ) (es : Entries) → AllByRecursion (λ (k : ℕ). nat_eq n k ≡ false) (keys_of es) → AllByRecursion (λ (k : ℕ). nat_eq n k ≡ false) (keys_of (without cid es))
 keys-without cid n [] all = tt
-keys-without cid n (e ∷ es) all = go (nat_eq cid e.0)
+keys-without cid n (e ∷ es) all = go (nat_eq cid e.0) (keys-without cid n es all.1)
   where
-    go : (b : Bool) → AllByRecursion (λ (k : ℕ). nat_eq n k ≡ false) (keys_of (cond b es (e ∷ without cid es)))
-    go true = all.1
-    go false = (all.0, keys-without cid n es all.1)
+    go : (b : Bool) → AllByRecursion (λ (k : ℕ). nat_eq n k ≡ false) (keys_of (without cid es)) → AllByRecursion (λ (k : ℕ). nat_eq n k ≡ false) (keys_of (cond b es (e ∷ without cid es)))
+    go true rest = all.1
+    go false rest = (all.0, rest)
 
 once-without : (cid : ℕ) (es : Entries) → Once es → Once (without cid es)
-once-without cid [] once = tt
-once-without cid (e ∷ es) once = go (nat_eq cid e.0)
+once-without cid [] once = once
+once-without cid (e ∷ es) once = go (nat_eq cid e.0) (once-without cid es (IsDistinct-tail nat_eq e.0 (keys_of es) once))
   where
-    go : (b : Bool) → Once (cond b es (e ∷ without cid es))
-    go true = once.1
-    go false = (keys-without cid e.0 es once.0, once-without cid es once.1)
+    go : (b : Bool) → Once (without cid es) → Once (cond b es (e ∷ without cid es))
+    go true rest = IsDistinct-tail nat_eq e.0 (keys_of es) once
+    go false rest =
+        IsDistinct-cons nat_eq e.0 (keys_of (without cid es)) (keys-without cid e.0 es (IsDistinct-head nat_eq e.0 (keys_of es) once)) rest
 
 keys-one : (f : search.Channel → search.Channel) (cid : ℕ) (es : Entries) → keys_of (with_one f cid es) ≡ keys_of es
 keys-one f cid [] = refl
-keys-one f cid (e ∷ es) = go (nat_eq cid e.0)
+keys-one f cid (e ∷ es) = go (nat_eq cid e.0) (keys-one f cid es)
   where
-    go : (b : Bool) → keys_of (cond b ((e.0, f e.1) ∷ es) (e ∷ with_one f cid es)) ≡ e.0 ∷ keys_of es
-    go true = refl
-    go false = ap (λ (ks : List ℕ). e.0 ∷ ks) (keys-one f cid es)
+    go : (b : Bool) → keys_of (with_one f cid es) ≡ keys_of es → keys_of (cond b ((e.0, f e.1) ∷ es) (e ∷ with_one f cid es)) ≡ e.0 ∷ keys_of es
+    go true rest = refl
+    go false rest = ap (λ (ks : List ℕ). e.0 ∷ ks) rest
 
 -- ---- all of them
 
@@ -229,7 +230,7 @@ fit-again m s h fit = record {
   once = subst (IsDistinct nat_eq) (sym (keys-one (search.resumed m) (wire_of h) s.searches)) fit.once;
 }
 
-module _ (ends : Handle → Bool) (m : ℕ) (c : Handle) (yes : ends c ≡ true) where
+module _ (ends : Handle → Bool) (m : ℕ) (c : Handle) (ending : ends c ≡ true) where
   abbrev due_in : Sought → List search.Wanted
   due_in s = due_after ends m s.channels s.searches
 
@@ -240,7 +241,7 @@ module _ (ends : Handle → Bool) (m : ℕ) (c : Handle) (yes : ends c ≡ true)
       let rest = all-gone hs (gone s h) (fit-gone s h fit)
       (λ i g at. (let w = named (suc i) g at in (w.0, under-freed s.channels h g (apart.0 i g at) ∙ w.1, w.2)))
       apart.1 in
-      (gone-due ends m c yes s.channels h v.0 s.searches fit.few v.1 v.2 fit.once ∙ rest.0, rest.1)
+      (gone-due ends m c ending s.channels h v.0 s.searches fit.few v.1 v.2 fit.once ∙ rest.0, rest.1)
 
   all-again : (hs : List Handle) (s : Sought) → IsFit s → AllNamed is_kept c hs s.channels → Apart hs → (due_in s ≡ due_in (fold (again m) s hs)) × IsFit (fold (again m) s hs)
   all-again [] s fit named apart = (refl, fit)
@@ -249,7 +250,7 @@ module _ (ends : Handle → Bool) (m : ℕ) (c : Handle) (yes : ends c ≡ true)
       let rest = all-again hs (again m s h) (fit-again m s h fit)
       (λ i g at. (let w = named (suc i) g at in (w.0, under-other (λ (here : Channel). record here { standing = Searching }) s.channels h g (apart.0 i g at) ∙ w.1, w.2)))
       apart.1 in
-      (again-due ends m c yes s.channels h v.0 s.searches fit.few v.1 v.2 fit.once ∙ rest.0, rest.1)
+      (again-due ends m c ending s.channels h v.0 s.searches fit.few v.1 v.2 fit.once ∙ rest.0, rest.1)
 
 -- one that did not go is there still
 still-there : (g : Handle) (hs : List Handle) (s : Sought) → ((i : ℕ) (h : Handle) → At hs i h → g ≡ h → ⊥) → under (fold gone s hs).channels g ≡ under s.channels g
@@ -259,18 +260,15 @@ still-there g (h ∷ hs) s apart =
 
 named-apart : (test : Phase → Bool) (c : Handle) (es : List (Handle × Channel)) → AreApart es → Apart (filter_map (named_by test c) es)
 named-apart test c [] apart = tt
-named-apart test c (e ∷ es) apart = go (is_on_in test c e.1)
+named-apart test c (e ∷ es) apart = go (is_on_in test c e.1) (named-apart test c es apart.1)
   where
-    rest : Apart (filter_map (named_by test c) es)
-    rest = named-apart test c es apart.1
-
     own : (f : Handle × Channel) (b : Bool) (g : Handle) → cond b (Some f.0) None ≡ Some g → g ≡ f.0
     own f true g is = sym (some_is f.0 g is)
     own f false g is = absurd cc
 
-    go : (b : Bool) → Apart (cons_option (cond b (Some e.0) None) (filter_map (named_by test c) es))
-    go false = rest
-    go true = (
+    go : (b : Bool) → Apart (filter_map (named_by test c) es) → Apart (cons_option (cond b (Some e.0) None) (filter_map (named_by test c) es))
+    go false rest = rest
+    go true rest = (
       λ i g at same.
           (let r = at-filter-map (named_by test c) es i g at in
           apart.0 r.0 r.1 r.2 (sym (own r.1 (is_on_in test c r.1.1) g r.3) ∙ same)),
@@ -280,16 +278,16 @@ named-apart test c (e ∷ es) apart = go (is_on_in test c e.1)
 -- ---- one end
 
 cleared-not-kept : (p : Phase) → is_cleared p ≡ true → is_kept p ≡ true → ⊥
-cleared-not-kept p a b = both_ways (is_kept p) b (ap not a)
+cleared-not-kept p a b = both_ways (is_kept p) (ap not a) b
 
 -- which channel is on the circuit, and in which phase
 kept-apart : (c : Handle) (s : Standing) → unwrap_or (option_map is_cleared (phase_on c s)) false ≡ true → unwrap_or (option_map is_kept (phase_on c s)) false ≡ true → ⊥
-kept-apart c Searching a b = both_ways false a refl
+kept-apart c Searching a b = both_ways false refl a
 kept-apart c (On d p) a b = go (same_handle d c) a b
   where
     go : (x : Bool) → unwrap_or (option_map is_cleared (cond x (Some p) None)) false ≡ true → unwrap_or (option_map is_kept (cond x (Some p) None)) false ≡ true → ⊥
     go true a b = cleared-not-kept p a b
-    go false a b = both_ways false a refl
+    go false a b = both_ways false refl a
 
 -- the channels of a client, and what is searched of them
 abbrev sought_of : Client → Sought
@@ -297,12 +295,12 @@ sought_of x = sought x.channels x.searches
 
 sought-due : (ends : Handle → Bool) (c : Handle) (x : Client) → ends c ≡ true → IsFit (sought_of x)
     → (due_after ends x.moment x.channels x.searches ≡ due_after ends x.moment (sought_after c x).channels (sought_after c x).searches) × IsFit (sought_after c x)
-sought-due ends c x yes fit =
+sought-due ends c x ending fit =
     let a = channels_on is_cleared c x in
     let b = channels_on is_kept c x in
     let mid : Sought = fold gone (sought_of x) a in
-    let first = all-gone ends x.moment c yes a (sought_of x) fit (λ i h at. on-circuit is_cleared c x i h at) (named-apart is_cleared c (held x.channels) (held-apart x.channels)) in
-    let next = all-again ends x.moment c yes b mid first.1 kept (named-apart is_kept c (held x.channels) (held-apart x.channels)) in
+    let first = all-gone ends x.moment c ending a (sought_of x) fit (λ i h at. on-circuit is_cleared c x i h at) (named-apart is_cleared c (held x.channels) (held-apart x.channels)) in
+    let next = all-again ends x.moment c ending b mid first.1 kept (named-apart is_kept c (held x.channels) (held-apart x.channels)) in
     (first.0 ∙ next.0, next.1)
   where
     kept : AllNamed is_kept c (channels_on is_kept c x) (fold gone (sought_of x) (channels_on is_cleared c x)).channels
@@ -351,10 +349,10 @@ ends-same ends also m t (e ∷ es) same =
 -- an end, and then others
 end-due : (ends also : Handle → Bool) (c : Handle) (x : Client) (d : ClientCircuit) → under x.circuits c ≡ Some d → ends c ≡ true → ((e : Handle) → (e ≡ c → ⊥) → ends e ≡ also e) → IsFit (sought_of x)
     → (due_after ends x.moment x.channels x.searches ≡ due_after also x.moment (ended c x).channels (ended c x).searches) × IsFit (sought_of (ended c x))
-end-due ends also c x d found yes same fit =
+end-due ends also c x d found ending same fit =
     let n : Sought = sought_after c x in
     let is : sought_of (ended c x) ≡ n = ended-sought c x d found in
-    let r = sought-due ends c x yes fit in (
+    let r = sought-due ends c x ending fit in (
       r.0
           ∙ ap (λ (s : Sought). due_after ends x.moment s.channels s.searches) (sym is)
           ∙ ends-same ends also x.moment (ended c x).channels (ended c x).searches (λ h v e p there at. same e (apart h v e p there at)),
@@ -394,7 +392,7 @@ silent-there x c silent = go (under x.circuits c) refl
     go : (o : Option ClientCircuit) → under x.circuits c ≡ o → (d : ClientCircuit) × (under x.circuits c ≡ Some d)
     go (Some d) is = (d, is)
     go None is =
-        absurd (both_ways (is_silent x c) silent (ap (λ (o : Option ClientCircuit). asks_in is_close x.moment (option_and_then (λ (w : ClientCircuit). w.connection) o)) is))
+        absurd (both_ways (is_silent x c) (ap (λ (o : Option ClientCircuit). asks_in is_close x.moment (option_and_then (λ (w : ClientCircuit). w.connection) o)) is) silent)
 
 none-ends : (m : ℕ) (t : Table Channel) (es : Entries) → due_after (λ (d : Handle). false) m t es ≡ search.wanted_at m es
 none-ends m t [] = refl
@@ -422,26 +420,28 @@ none-due m t es = none-ends m t es
 
 ahead-all : (cs : List Handle) (t : Ticking) → IsFit (sought_of t.core) → due_after (ends_of t cs) t.core.moment t.core.channels t.core.searches ≡ due (all_ended cs t).core
 ahead-all [] t fit = none-ends t.core.moment t.core.channels t.core.searches
-ahead-all (c ∷ cs) t fit = go (is_silent t.core c) refl
+ahead-all (c ∷ cs) t fit = go (is_silent t.core c) refl (ahead-all cs t fit) (ahead-all cs (falls_silent c t))
   where
     x : Client
     x = t.core
 
-    go : (b : Bool) → is_silent t.core c ≡ b → due_after (ends_of t (c ∷ cs)) x.moment x.channels x.searches ≡ due (all_ended cs (end_step t c)).core
-    go false e =
+    go : (b : Bool) → is_silent t.core c ≡ b → due_after (ends_of t cs) x.moment x.channels x.searches ≡ due (all_ended cs t).core
+        → (IsFit (sought_of (ended c x)) → due_after (ends_of (falls_silent c t) cs) (ended c x).moment (ended c x).channels (ended c x).searches ≡ due (all_ended cs (falls_silent c t)).core)
+        → due_after (ends_of t (c ∷ cs)) x.moment x.channels x.searches ≡ due (all_ended cs (end_step t c)).core
+    go false e rest after =
         let stays : end_step t c ≡ t = ap (λ (b : Bool). cond b (falls_silent c t) t) e in
         ends-same (ends_of t (c ∷ cs)) (ends_of t cs) x.moment x.channels x.searches (λ h v d p there at. ends-more cs t c e d)
-        ∙ ahead-all cs t fit
+        ∙ rest
         ∙ ap (λ (u : Ticking). due (all_ended cs u).core) (sym stays)
-    go true e =
+    go true e rest after =
         let closes : end_step t c ≡ falls_silent c t = ap (λ (b : Bool). cond b (falls_silent c t) t) e in
         let d = silent-there x c e in
-        let yes : ends_of t (c ∷ cs) c ≡ true =
+        let ending : ends_of t (c ∷ cs) c ≡ true =
         ap (λ (b : Bool). (b || is_in cs c) && is_silent x c) (same-itself c) ∙ e in
-        let r = end-due (ends_of t (c ∷ cs)) (ends_of (falls_silent c t) cs) c x d.0 d.1 yes (λ k other. ends-other cs t c k other) fit in
+        let r = end-due (ends_of t (c ∷ cs)) (ends_of (falls_silent c t) cs) c x d.0 d.1 ending (λ k other. ends-other cs t c k other) fit in
         r.0
         ∙ ap (λ (n : ℕ). due_after (ends_of (falls_silent c t) cs) n (ended c x).channels (ended c x).searches) (sym (ended-moment c x))
-        ∙ ahead-all cs (falls_silent c t) r.1
+        ∙ after r.1
         ∙ ap (λ (u : Ticking). due (all_ended cs u).core) (sym closes)
 
 -- ECHOs leave channels, searches and the moment
@@ -461,30 +461,27 @@ echo-sought (c ∷ cs) t =
 
 silent-in-both : (cs : List Handle) (x : Client) (d : Handle) → is_in (silent_of x cs) d ≡ (is_in cs d && is_silent x d)
 silent-in-both [] x d = refl
-silent-in-both (c ∷ cs) x d = go (is_silent x c) (same_handle d c) refl refl
+silent-in-both (c ∷ cs) x d = go (is_silent x c) (same_handle d c) refl refl (silent-in-both cs x d)
   where
-    rest : is_in (silent_of x cs) d ≡ (is_in cs d && is_silent x d)
-    rest = silent-in-both cs x d
-
-    go : (a b : Bool) → is_silent x c ≡ a → same_handle d c ≡ b → is_in (cond (is_silent x c) (c ∷ silent_of x cs) (silent_of x cs)) d ≡ ((same_handle d c || is_in cs d) && is_silent x d)
-    go true true e f =
+    go : (a b : Bool) → is_silent x c ≡ a → same_handle d c ≡ b → is_in (silent_of x cs) d ≡ (is_in cs d && is_silent x d) → is_in (cond (is_silent x c) (c ∷ silent_of x cs) (silent_of x cs)) d ≡ ((same_handle d c || is_in cs d) && is_silent x d)
+    go true true e f rest =
         let own : is_silent x d ≡ true = subst (λ (k : Handle). is_silent x k ≡ true) (sym (same-is d c f)) e in
         ap (λ (a : Bool). is_in (cond a (c ∷ silent_of x cs) (silent_of x cs)) d) e
         ∙ ap (λ (b : Bool). b || is_in (silent_of x cs) d) f
         ∙ sym (ap (λ (b : Bool). (b || is_in cs d) && is_silent x d) f ∙ own)
-    go true false e f =
+    go true false e f rest =
         ap (λ (a : Bool). is_in (cond a (c ∷ silent_of x cs) (silent_of x cs)) d) e
         ∙ ap (λ (b : Bool). b || is_in (silent_of x cs) d) f
         ∙ rest
         ∙ sym (ap (λ (b : Bool). (b || is_in cs d) && is_silent x d) f)
-    go false true e f =
+    go false true e f rest =
         let own : is_silent x d ≡ false = subst (λ (k : Handle). is_silent x k ≡ false) (sym (same-is d c f)) e in
         ap (λ (a : Bool). is_in (cond a (c ∷ silent_of x cs) (silent_of x cs)) d) e
         ∙ rest
         ∙ ap (λ (b : Bool). is_in cs d && b) own
         ∙ and-false (is_in cs d)
         ∙ sym (ap (λ (b : Bool). (same_handle d c || is_in cs d) && b) own ∙ and-false (same_handle d c || is_in cs d))
-    go false false e f =
+    go false false e f rest =
         ap (λ (a : Bool). is_in (cond a (c ∷ silent_of x cs) (silent_of x cs)) d) e
         ∙ rest
         ∙ sym (ap (λ (b : Bool). (b || is_in cs d) && is_silent x d) f)

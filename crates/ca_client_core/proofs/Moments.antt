@@ -328,14 +328,11 @@ calm-still t c d calm = go (is_silent t.core c)
 
 silent-alone : (Q : Handle → Bool) (cs : List Handle) (t : Ticking) → ((d : Handle) → Q d ≡ false → is_silent t.core d ≡ false) → all_ended (filter Q cs) t ≡ all_ended cs t
 silent-alone Q [] t calm = refl
-silent-alone Q (c ∷ cs) t calm = go (Q c) refl
+silent-alone Q (c ∷ cs) t calm = go (Q c) refl (silent-alone Q cs (end_step t c) (λ d out. calm-still t c d (calm d out)))
   where
-    rest : all_ended (filter Q cs) (end_step t c) ≡ all_ended cs (end_step t c)
-    rest = silent-alone Q cs (end_step t c) (λ d out. calm-still t c d (calm d out))
-
-    go : (b : Bool) → Q c ≡ b → all_ended (filter Q (c ∷ cs)) t ≡ all_ended cs (end_step t c)
-    go true e = ap (λ (b : Bool). all_ended (cond b (c ∷ filter Q cs) (filter Q cs)) t) e ∙ rest
-    go false e =
+    go : (b : Bool) → Q c ≡ b → all_ended (filter Q cs) (end_step t c) ≡ all_ended cs (end_step t c) → all_ended (filter Q (c ∷ cs)) t ≡ all_ended cs (end_step t c)
+    go true e rest = ap (λ (b : Bool). all_ended (cond b (c ∷ filter Q cs) (filter Q cs)) t) e ∙ rest
+    go false e rest =
         let stays : end_step t c ≡ t = ap (λ (b : Bool). cond b (falls_silent c t) t) (calm c e) in
         ap (λ (b : Bool). all_ended (cond b (c ∷ filter Q cs) (filter Q cs)) t) e
         ∙ ap (all_ended (filter Q cs)) (sym stays)
@@ -374,7 +371,11 @@ name-searched c d (w ∷ ws) t = name-searched c d ws (searches_on d t w) ∙ go
 
 searched-so : (ws : List Wanted) (P : Handle → Bool) (ds : List Handle) (t : Ticking) → ((d : Handle) → P d ≡ is_name_connected t.core d) → AllByRecursion (λ (d : Handle). is_silent t.core d ≡ false) ds → all_searched ws ds t ≡ fold (all_searched_on ws) t (filter P ds)
 searched-so ws P [] t same calm = refl
-searched-so ws P (d ∷ ds) t same calm = go (P d) refl
+searched-so ws P (d ∷ ds) t same calm =
+    go (P d) refl
+    (searched-so ws P ds (all_searched_on ws t d) (λ k. same k ∙ sym (name-searched k d ws t))
+    (each-as (λ (k : Handle). is_silent t.core k ≡ false) (λ (k : Handle). is_silent (all_searched_on ws t d).core k ≡ false) ds (λ k calm. search-heard k d ws t ∙ calm) calm.1))
+    (searched-so ws P ds t same calm.1)
   where
     is : is_searched_on t.core d ≡ P d
     is =
@@ -385,35 +386,31 @@ searched-so ws P (d ∷ ds) t same calm = go (P d) refl
     next : Ticking
     next = all_searched_on ws t d
 
-    go : (b : Bool) → P d ≡ b → all_searched ws (d ∷ ds) t ≡ fold (all_searched_on ws) t (filter P (d ∷ ds))
-    go true e =
+    go : (b : Bool) → P d ≡ b → all_searched ws ds next ≡ fold (all_searched_on ws) next (filter P ds) → all_searched ws ds t ≡ fold (all_searched_on ws) t (filter P ds) → all_searched ws (d ∷ ds) t ≡ fold (all_searched_on ws) t (filter P (d ∷ ds))
+    go true e more rest =
         ap (λ (b : Bool). all_searched ws ds (cond b next t)) (is ∙ e)
-        ∙ searched-so ws P ds next (λ k. same k ∙ sym (name-searched k d ws t))
-        (each-as (λ (k : Handle). is_silent t.core k ≡ false) (λ (k : Handle). is_silent next.core k ≡ false) ds (λ k calm. search-heard k d ws t ∙ calm) calm.1)
+        ∙ more
         ∙ ap (λ (b : Bool). fold (all_searched_on ws) t (cond b (d ∷ filter P ds) (filter P ds))) (sym e)
-    go false e =
+    go false e more rest =
         ap (λ (b : Bool). all_searched ws ds (cond b next t)) (is ∙ e)
-        ∙ searched-so ws P ds t same calm.1
+        ∙ rest
         ∙ ap (λ (b : Bool). fold (all_searched_on ws) t (cond b (d ∷ filter P ds) (filter P ds))) (sym e)
 
 -- ---- the circuits of name servers, in order
 
 filter-within : {A : Type 0} (P Q : A → Bool) (xs : List A) → ((x : A) → P x ≡ true → Q x ≡ true) → filter P (filter Q xs) ≡ filter P xs
 filter-within P Q [] within = refl
-filter-within {A} P Q (x ∷ xs) within = go (Q x) refl
+filter-within {A} P Q (x ∷ xs) within = go (Q x) refl (filter-within P Q xs within)
   where
-    rest : filter P (filter Q xs) ≡ filter P xs
-    rest = filter-within P Q xs within
-
     out : (b : Bool) → P x ≡ b → Q x ≡ false → filter P xs ≡ filter P (x ∷ xs)
-    out true p e = absurd (both_ways (Q x) (within x p) e)
+    out true p e = absurd (both_ways (Q x) e (within x p))
     out false p e = ap (λ (b : Bool). cond b (x ∷ filter P xs) (filter P xs)) (sym p)
 
-    go : (b : Bool) → Q x ≡ b → filter P (filter Q (x ∷ xs)) ≡ filter P (x ∷ xs)
-    go true e =
+    go : (b : Bool) → Q x ≡ b → filter P (filter Q xs) ≡ filter P xs → filter P (filter Q (x ∷ xs)) ≡ filter P (x ∷ xs)
+    go true e rest =
         ap (λ (b : Bool). filter P (cond b (x ∷ filter Q xs) (filter Q xs))) e
         ∙ ap (λ (ys : List A). cond (P x) (x ∷ ys) ys) rest
-    go false e =
+    go false e rest =
         ap (λ (b : Bool). filter P (cond b (x ∷ filter Q xs) (filter Q xs))) e ∙ rest ∙ out (P x) refl e
 
 -- those of the order are those of these circuits
@@ -430,10 +427,10 @@ named-ended cs c x so = go (under x.circuits c) refl
     P = is_name_connected y
 
     apart : (d : Handle) → P d ≡ true → d ≡ c → ⊥
-    apart d yes same = both_ways (P d) yes (subst (λ (k : Handle). P k ≡ false) (sym same) (name-own c x))
+    apart d is_it same = both_ways (P d) (subst (λ (k : Handle). P k ≡ false) (sym same) (name-own c x)) is_it
 
     was : (d : Handle) → P d ≡ true → is_name_connected x d ≡ true
-    was d yes = sym (name-past c d x (apart d yes)) ∙ yes
+    was d is_it = sym (name-past c d x (apart d is_it)) ∙ is_it
 
     last : filter P y.order ≡ filter P x.order → filter P y.order ≡ filter P cs
     last same =
@@ -444,7 +441,7 @@ named-ended cs c x so = go (under x.circuits c) refl
 
     by : (b : Bool) → filter P (cond b (disconnected c (ended_but c x)) (without_circuit c (ended_but c x))).order ≡ filter P x.order
     by true = refl
-    by false = filter-within P (λ (d : Handle). not (same_handle d c)) x.order (λ d yes. ap not (same-not d c (apart d yes)))
+    by false = filter-within P (λ (d : Handle). not (same_handle d c)) x.order (λ d is_it. ap not (same-not d c (apart d is_it)))
 
     go : (o : Option ClientCircuit) → under x.circuits c ≡ o → filter P y.order ≡ filter P cs
     go None is = last (ap (λ (z : Client). filter P z.order) (ended-gone c x is))
@@ -576,15 +573,15 @@ closed-still (c ∷ cs) t some = closed-still cs (end_step t c) (go (is_silent t
 
 closed-some : (cs : List Handle) (t : Ticking) → silent_of t.core cs ≢ [] → (all_ended cs t).closings ≢ []
 closed-some [] t some = absurd (some refl)
-closed-some (c ∷ cs) t some = go (is_silent t.core c) refl
+closed-some (c ∷ cs) t some = go (is_silent t.core c) refl (closed-some cs t)
   where
-    go : (b : Bool) → is_silent t.core c ≡ b → (all_ended cs (end_step t c)).closings ≢ []
-    go true e =
+    go : (b : Bool) → is_silent t.core c ≡ b → (silent_of t.core cs ≢ [] → (all_ended cs t).closings ≢ []) → (all_ended cs (end_step t c)).closings ≢ []
+    go true e rest =
         closed-still cs (end_step t c)
         (subst (λ (b : Bool). (cond b (falls_silent c t) t).closings ≢ []) (sym e) (last-some t.closings (record { circuit = c; bytes = out_bytes t.core c })))
-    go false e =
+    go false e rest =
         subst (λ (b : Bool). (all_ended cs (cond b (falls_silent c t) t)).closings ≢ []) (sym e)
-        (closed-some cs t (λ none. some (ap (λ (b : Bool). cond b (c ∷ silent_of t.core cs) (silent_of t.core cs)) e ∙ none)))
+        (rest (λ none. some (ap (λ (b : Bool). cond b (c ∷ silent_of t.core cs) (silent_of t.core cs)) e ∙ none)))
 
 same-silent : (cs : List Handle) (x y : Client) → ((d : Handle) → is_silent y d ≡ is_silent x d) → silent_of y cs ≡ silent_of x cs
 same-silent [] x y same = refl

@@ -1,5 +1,5 @@
 -- A tick in two halves, of which the first can be taken back, is that of the statement.
-use Rattle.std.proofs.Common.{◌≡◌, ◌≢◌, ◌∙◌, ℕ, ◌+◌, ◌≤◌, ◌⊎◌, inl, inr, Bool, true, false, cond, List, [], ◌∷◌, ◌++◌, Result, Ok, Err, ap, fold, length, refl, subst, sym}
+use Rattle.std.proofs.Common.{◌≡◌, ◌≢◌, ◌∙◌, ℕ, ◌+◌, ◌≤◌, ◌⊎◌, inl, inr, Bool, true, false, cond, List, [], ◌∷◌, ◌++◌, Result, Ok, Err, ap, fold, length, map, refl, subst, sym}
 use Rattle.std.specs.Prelude.{Option, None, Some, filter, flat_map, vec_capacity, vec_len}
 use Rattle.ca_text.specs.Limits.{arena_slots}
 use Rattle.ca_text.specs.declared.refusal.Refusal.TheVariants as refusal
@@ -96,6 +96,13 @@ pub lacks-due : (x y : Client) (ends : List Handle) → length x.channels ≤ ar
 lacks-due x y ends few once echoes silent some t is =
     inr (inr (λ none. some (foreseen x y t ends few once echoes is silent ∙ none)))
 
+-- no datagrams without searches
+pub packs-some : {A : Type 0} (f : A → List ℕ) (ds : List A) (ws : List Wanted) → map f ds ≡ packed [] ws → ds ≢ [] → ws ≢ []
+packs-some f [] ws is some none = some refl
+packs-some f (d ∷ ds) ws is some none =
+    let bad : f d ∷ map f ds ≡ [] = is ∙ ap (packed []) none in
+    absurd cc
+
 -- ---- a plan
 
 pub plans-so : (x y z : Client) (p : Plan) (ws : List Wanted) (packs : List (List ℕ)) → length x.channels ≤ arena_slots → Once x.searches → EchoesAll x y → p.ends.items ≡ silent_of y y.order → p.closings.items ≡ [] → ws ≡ due_after (is_in p.ends.items) y.moment y.channels y.searches → packs ≡ packed [] ws → p.datagrams.items ≡ flat_map (to_server packs) y.servers → SearchesAll ws y z → length p.ends.items + vec_len p.closings ≤ vec_capacity p.closings → Plans x p z
@@ -141,23 +148,23 @@ tick-so x w y z now m p a at begun plans carries =
     let is : all_ended p.ends.items mid ≡ u = ap (λ (cs : List Handle). all_ended cs mid) planned.ends ∙ made-so start ws in
     let calm = calm-searches ws (filter (is_name_connected t.core) t.core.order) t in (
       (searches_made t).sent,
-      did.1
+      (did.1
           ∙ (λ i. record {
             notices = (ap (λ (v : Ticking). v.notices) is ∙ calm.0) i;
             datagrams = (planned.datagrams ∙ ap (flat_map (to_server (packed [] ws))) (sym (servers-stay start))) i;
             closings = (ap (λ (v : Ticking). v.closings) is ∙ calm.1) i;
           }),
       refl,
-      did.0 ∙ ap made_of is,
+      did.0 ∙ ap made_of is),
     )
 
 pub tick-lacks : (x w y new : Client) (now m before : ℕ) → m ≡ later now x → before ≡ x.moment → w ≡ record x { moment = m } → LacksMemory w → y ≡ w → new ≡ record y { moment = before } → (sent : List Sending) × ClientTicks x now (Err refusal.OutOfMemory) sent new
 tick-lacks x w y new now m before at was begun lacks back is =
     let start : Ticking = begins (record x { moment = later now x }) in (
       [],
-      lacks start (sym (begun ∙ ap (λ (n : ℕ). let v : Client = record x { moment = n } in v) at)),
-      refl,
+      (lacks start (sym (begun ∙ ap (λ (n : ℕ). let v : Client = record x { moment = n } in v) at)),
+      (refl,
       is
           ∙ ap (λ (v : Client). let u : Client = record v { moment = before } in u) (back ∙ begun)
-          ∙ ap (λ (n : ℕ). let u : Client = record x { moment = n } in u) was,
+          ∙ ap (λ (n : ℕ). let u : Client = record x { moment = n } in u) was)),
     )

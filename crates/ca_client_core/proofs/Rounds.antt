@@ -45,6 +45,10 @@ fold-next f xs i x s found =
     ∙ ap (fold f s) (take-next xs i x found)
     ∙ fold-append f s (take i xs) (x ∷ [])
 
+pub nil-is : {A : Type 0} (xs : List A) → length xs ≡ 0 → xs ≡ []
+nil-is [] e = refl
+nil-is (x ∷ xs) e = absurd (omega (arith, e))
+
 -- ---- one circuit
 
 restored-same : (x : Client) (c : Handle) → circuit_restored (mark_at x c) x ≡ x

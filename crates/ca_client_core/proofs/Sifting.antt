@@ -15,22 +15,22 @@ module _ {A : Type 0} where
 
 module _ {A B : Type 0} (taken : List A → List B) (test : A → Bool) (g : A → B) (one : (x : A) (xs : List A) → taken (x ∷ xs) ≡ cond (test x) (g x ∷ taken xs) (taken xs)) (none : taken [] ≡ []) where
   pub taken-one : (xs : List A) (n : ℕ) (x : A) (found : List B) → slice_get xs n ≡ Some x → test x ≡ true → found ++ taken (drop n xs) ≡ taken xs → (found ++ g x ∷ []) ++ taken (drop (n + 1) xs) ≡ taken xs
-  taken-one xs n x found here yes before =
+  taken-one xs n x found here is_it before =
       append_assoc found (g x ∷ []) (taken (drop (n + 1) xs))
       ∙ ap (λ (ys : List B). found ++ ys)
-      (sym (ap taken (drop-at xs n x here) ∙ one x (drop (n + 1) xs) ∙ ap (λ (b : Bool). cond b (g x ∷ taken (drop (n + 1) xs)) (taken (drop (n + 1) xs))) yes))
+      (sym (ap taken (drop-at xs n x here) ∙ one x (drop (n + 1) xs) ∙ ap (λ (b : Bool). cond b (g x ∷ taken (drop (n + 1) xs)) (taken (drop (n + 1) xs))) is_it))
       ∙ before
 
   pub taken-not : (xs : List A) (n : ℕ) (x : A) (found : List B) → slice_get xs n ≡ Some x → test x ≡ false → found ++ taken (drop n xs) ≡ taken xs → found ++ taken (drop (n + 1) xs) ≡ taken xs
-  taken-not xs n x found here no_one before =
+  taken-not xs n x found here not_it before =
       ap (λ (ys : List B). found ++ ys)
-      (sym (ap taken (drop-at xs n x here) ∙ one x (drop (n + 1) xs) ∙ ap (λ (b : Bool). cond b (g x ∷ taken (drop (n + 1) xs)) (taken (drop (n + 1) xs))) no_one))
+      (sym (ap taken (drop-at xs n x here) ∙ one x (drop (n + 1) xs) ∙ ap (λ (b : Bool). cond b (g x ∷ taken (drop (n + 1) xs)) (taken (drop (n + 1) xs))) not_it))
       ∙ before
 
   -- one that it names is among all that it does
   pub taken-some : (xs : List A) (n : ℕ) (x : A) (found : List B) → slice_get xs n ≡ Some x → test x ≡ true → found ++ taken (drop n xs) ≡ taken xs → taken xs ≢ []
-  taken-some xs n x found here yes before nothing =
-      let all = taken-one xs n x found here yes before ∙ nothing in
+  taken-some xs n x found here is_it before nothing =
+      let all = taken-one xs n x found here is_it before ∙ nothing in
       omega (arith, ap length all, length-append (found ++ g x ∷ []) (taken (drop (n + 1) xs)), length-append found (g x ∷ []))
 
   -- each was looked at

@@ -3,7 +3,7 @@ use Rattle.ca_arena.specs.declared.handle.Handle.{Handle}
 use Rattle.ca_search.specs.Searches.{Wanted}
 use Rattle.ca_model.specs.ClientEnds.{Ticking}
 use Rattle.ca_client_core.specs.Moments.{all_searched}
-use Rattle.ca_client_core.proofs.Rounds.{none-searched, searched-next, searched-order}
+use Rattle.ca_client_core.proofs.Rounds.{nil-is, none-searched, searched-next, searched-order}
 use Rattle.ca_client_core.proofs.client.ClientCore.search_names.Goals as goal
 
 pub listed_at-circuit-requires : goal.listed_at-circuit-requires
@@ -26,7 +26,8 @@ returns-clause-ok c t is =
 
 pub returns-then-is_empty-clause-ok : goal.returns-then-is_empty-clause-ok
 returns-then-is_empty-clause-ok c t is =
-    let none : c.args.searches.now ≡ [] = search rules in
+    let empty : length c.args.searches.now ≡ 0 = search rules in
+    let none : c.args.searches.now ≡ [] = nil-is c.args.searches.now empty in
     sym is
     ∙ ap (λ (u : Ticking). u.core) (sym (none-searched c.args.self.now.order t))
     ∙ ap (λ (ws : List Wanted). (all_searched ws c.args.self.now.order t).core) (sym none)
