@@ -148,23 +148,29 @@ tick-so x w y z now m p a at begun plans carries =
     let is : all_ended p.ends.items mid ≡ u = ap (λ (cs : List Handle). all_ended cs mid) planned.ends ∙ made-so start ws in
     let calm = calm-searches ws (filter (is_name_connected t.core) t.core.order) t in (
       (searches_made t).sent,
-      (did.1
-          ∙ (λ i. record {
-            notices = (ap (λ (v : Ticking). v.notices) is ∙ calm.0) i;
-            datagrams = (planned.datagrams ∙ ap (flat_map (to_server (packed [] ws))) (sym (servers-stay start))) i;
-            closings = (ap (λ (v : Ticking). v.closings) is ∙ calm.1) i;
-          }),
-      refl,
-      did.0 ∙ ap made_of is),
+      (
+        did.1
+            ∙ (λ i. record {
+              notices = (ap (λ (v : Ticking). v.notices) is ∙ calm.0) i;
+              datagrams = (planned.datagrams ∙ ap (flat_map (to_server (packed [] ws))) (sym (servers-stay start))) i;
+              closings = (ap (λ (v : Ticking). v.closings) is ∙ calm.1) i;
+            }),
+        refl,
+        did.0 ∙ ap made_of is,
+      ),
     )
 
 pub tick-lacks : (x w y new : Client) (now m before : ℕ) → m ≡ later now x → before ≡ x.moment → w ≡ record x { moment = m } → LacksMemory w → y ≡ w → new ≡ record y { moment = before } → (sent : List Sending) × ClientTicks x now (Err refusal.OutOfMemory) sent new
 tick-lacks x w y new now m before at was begun lacks back is =
     let start : Ticking = begins (record x { moment = later now x }) in (
       [],
-      (lacks start (sym (begun ∙ ap (λ (n : ℕ). let v : Client = record x { moment = n } in v) at)),
-      (refl,
-      is
-          ∙ ap (λ (v : Client). let u : Client = record v { moment = before } in u) (back ∙ begun)
-          ∙ ap (λ (n : ℕ). let u : Client = record x { moment = n } in u) was)),
+      (
+        lacks start (sym (begun ∙ ap (λ (n : ℕ). let v : Client = record x { moment = n } in v) at)),
+        (
+          refl,
+          is
+              ∙ ap (λ (v : Client). let u : Client = record v { moment = before } in u) (back ∙ begun)
+              ∙ ap (λ (n : ℕ). let u : Client = record x { moment = n } in u) was,
+        ),
+      ),
     )

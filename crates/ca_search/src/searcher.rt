@@ -117,7 +117,11 @@ impl Searcher {
 }
 
 /// The searches that are due at a moment, in order. Out of memory only if there is one.
-pub fn find(alloc: Global, places: &IndexMap<u32, Place>, now: u64) -> Result<Vec<Search>, AllocError>
+pub fn find(
+    alloc: Global,
+    places: &IndexMap<u32, Place>,
+    now: u64,
+) -> Result<Vec<Search>, AllocError>
     ensures found { IfOk result (λ v. v.items ≡ wanted_at now places.now.entries) }
     ensures some { OnErr result (wanted_at now places.now.entries ≢ []) }
 {

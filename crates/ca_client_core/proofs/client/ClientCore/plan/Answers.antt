@@ -23,9 +23,9 @@ returns-in_err-closings-clause-some c =
     on_err c.from_residual-in_err-closings.result
     (lacks-end c.args.self.now c.echo_all.new.self c.in_ok-echo_all.ensures.ok
     (λ none.
-        let empty : length c.in_ok-ends.ends.items ≡ 0 = ap (λ (hs : List Handle). length hs) (c.in_ok-ends.ensures.found ∙ none) in
-        let zero : c.len.result ≡ 0 = omega (arith, c.len.ensures, empty) in
-        both_ways false refl (c.in_err-closings.ensures.succeeds zero)))
+    let empty : length c.in_ok-ends.ends.items ≡ 0 = ap (λ (hs : List Handle). length hs) (c.in_ok-ends.ensures.found ∙ none) in
+    let zero : c.len.result ≡ 0 = omega (arith, c.len.ensures, empty) in
+    both_ways false refl (c.in_err-closings.ensures.succeeds zero)))
 
 pub returns-in_err-searches-clause-some : goal.returns-in_err-searches-clause-some
 returns-in_err-searches-clause-some c =
@@ -46,9 +46,9 @@ returns-in_err-datagrams-clause-some c =
     (lacks-due c.args.self.now c.echo_all.new.self c.deref.result.now c.know_searches.ensures.few c.know_searches.ensures.once c.in_ok-echo_all.ensures.ok
     (c.deref.ensures.value ∙ c.in_ok-ends.ensures.found)
     (λ none.
-        packs-some (λ d. d.items) c.in_ok-packed.packed.items c.deref-2.result.now c.in_ok-packed.ensures.ok
-        (λ nothing. c.in_err-datagrams.ensures.some (c.deref-3.ensures.value ∙ nothing))
-        (c.deref-2.ensures.value ∙ c.in_ok-searches.ensures.found ∙ none)))
+    packs-some (λ d. d.items) c.in_ok-packed.packed.items c.deref-2.result.now c.in_ok-packed.ensures.ok
+    (λ nothing. c.in_err-datagrams.ensures.some (c.deref-3.ensures.value ∙ nothing))
+    (c.deref-2.ensures.value ∙ c.in_ok-searches.ensures.found ∙ none)))
 
 pub returns-in_err-search_names-clause-some : goal.returns-in_err-search_names-clause-some
 returns-in_err-search_names-clause-some c =
