@@ -244,11 +244,11 @@ client-changed t u es ns f g h v found changed begins old =
 abbrev pub with_sought : Client → Sought → Client
 with_sought x s = record x { channels = s.channels; searches = s.searches }
 
-fold-gone : (x : Client) (hs : List Handle) → fold without_channel x hs ≡ with_sought x (fold gone (sought x.channels x.searches) hs)
+pub fold-gone : (x : Client) (hs : List Handle) → fold without_channel x hs ≡ with_sought x (fold gone (sought x.channels x.searches) hs)
 fold-gone x [] = refl
 fold-gone x (h ∷ hs) = fold-gone (without_channel x h) hs
 
-fold-again : (x : Client) (hs : List Handle) → fold searched_again x hs ≡ with_sought x (fold (again x.moment) (sought x.channels x.searches) hs)
+pub fold-again : (x : Client) (hs : List Handle) → fold searched_again x hs ≡ with_sought x (fold (again x.moment) (sought x.channels x.searches) hs)
 fold-again x [] = refl
 fold-again x (h ∷ hs) = fold-again (searched_again x h) hs
 

@@ -28,3 +28,13 @@ pub mod Arrivals
 pub mod Settling
 pub mod Anomalies
 pub mod Datagrams
+mod Aside
+mod Moments
+mod Ahead
+mod Packings
+mod Asked
+mod Sifting
+mod Marked
+mod Passing
+mod Prepared
+mod Rounds

@@ -21,3 +21,10 @@ pub mod Stepping
 pub mod Clearing
 pub mod Listed
 pub mod Receiving
+pub mod Moments
+pub mod Marks
+pub mod Ahead
+pub mod Silences
+pub mod NameSearches
+pub mod Packing
+pub mod Ticked

@@ -1,10 +1,9 @@
 //! The client's end of Channel Access: channels, requests and subscriptions over many circuits, with no input and no output of its own.
 //!
 //! A caller moves the bytes, and hands in the moment. What is reported comes as answers of the calls.
-//!
-//! Begun: `tick` is not there yet, so that nothing is searched for, and no silence ends a circuit.
 #![tactic(auto)]
 
+mod addressing;
 mod asking;
 mod beacons;
 mod beginning;
@@ -23,6 +22,7 @@ mod ends;
 mod errors;
 mod finding;
 mod first;
+mod foreseeing;
 mod hearing;
 mod input;
 mod issuing;
@@ -30,15 +30,20 @@ mod leaving;
 mod letting_go;
 mod live;
 mod live_channels;
+mod marks;
+mod name_searches;
 mod notice;
 mod notices;
 mod opening;
 mod output;
+mod packing;
 mod queue;
 mod reading;
 mod receiving;
+mod silences;
 mod stepping;
 mod subscribing;
+mod ticking;
 mod undoing;
 mod unsubscribing;
 mod updates;
@@ -46,6 +51,7 @@ mod valued;
 mod wanted;
 mod writing;
 
+pub use addressing::Datagram;
 pub use channel_state::ChannelState;
 pub use client::ClientCore;
 pub use closing::{Closing, Why};
@@ -53,4 +59,5 @@ pub use ends::Address;
 pub use notice::Notice;
 pub use notices::Notices;
 pub use stepping::Stepped;
+pub use ticking::{Left, Ticked};
 pub use wanted::WantedCircuit;

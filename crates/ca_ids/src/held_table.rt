@@ -1,6 +1,7 @@
-ghost use Rattle.std.specs.Prelude.{◌≡◌, ◌<◌, [], IsSome, Some, length, option_copied, option_map};
+ghost use Rattle.std.specs.Prelude.{◌≡◌, ◌<◌, ◌≤◌, [], IsSome, Some, length, option_copied, option_map};
 ghost use Rattle.std.specs.Option.{option_copied_mut};
 ghost use Rattle.std.specs.Borrow.{sem};
+ghost use Rattle.ca_text.specs.Limits.{arena_slots};
 ghost use Rattle.ca_arena.specs.Arena.{place_at};
 ghost use Rattle.ca_ids.specs.Table.{by_wire, held_at, is_full, taken_back, under, with_freed};
 ghost use Rattle.ca_ids.specs.Holding.{Fills, Gives, IsVacant};
@@ -55,6 +56,13 @@ impl<T> HeldTable<T> {
         ensures { result ≡ length self.now }
     {
         self.places
+    }
+
+    /// A law: no more indices were given than wire ids have.
+    pub fn know_places(&self)
+        ensures { length self.now ≤ arena_slots }
+    {
+        let _ = &self.entries;
     }
 
     /// The value that holds an id of this index, with its handle.

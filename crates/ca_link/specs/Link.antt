@@ -1,5 +1,5 @@
 -- Vocabulary: an end's two streams of bytes on a circuit, and its moments (sections "Virtual Circuit" and "CA_PROTO_ECHO").
-use Rattle.std.specs.Prelude.{ℕ, ◌≡◌, ◌-◌, ◌&&◌, ◌++◌, Bool, false, true, not, List, [], drop, if◌then◌else◌, nat_le}
+use Rattle.std.specs.Prelude.{ℕ, ◌≡◌, ◌-◌, ◌&&◌, ◌++◌, Bool, false, true, not, List, [], drop, if◌then◌else◌, length, nat_le, take}
 use Rattle.ca_text.specs.Limits.{close_silence, echo_silence}
 use Rattle.ca_wire.specs.Fields.{Fields}
 use Rattle.ca_wire.specs.Message.{Spells, spelled}
@@ -7,6 +7,7 @@ use Rattle.ca_wire.specs.Stream.{Held}
 -- What a moment asks of an end: nothing (Idle), an ECHO (Echo), or to close (Close).
 use Rattle.ca_link.specs.declared.keep.Keep.{Keep}
 use Rattle.ca_link.specs.declared.keep.Keep.TheVariants.{Close, Echo, Idle}
+use Rattle.ca_link.specs.declared.mark.Mark.{Mark}
 
 -- What came and was not read, and whether a bad header was met; what waits to be sent; the moment at which bytes came last; and whether
 -- an ECHO went out since.
@@ -53,3 +54,11 @@ kept now l = if nat_le close_silence (silence now l) then Close else if nat_le e
 abbrev pub noted : Keep → LinkState → LinkState
 noted Echo l = record l { echoed = true }
 noted k l = l
+
+-- how much waits, and whether an ECHO went out
+abbrev pub mark_of : LinkState → Mark
+mark_of l = record { waiting = length l.output; echoed = l.echoed }
+
+-- the link with what was sent since this mark taken back
+abbrev pub restored : Mark → LinkState → LinkState
+restored m l = record l { output = take m.waiting l.output; echoed = m.echoed }
