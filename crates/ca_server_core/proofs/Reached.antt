@@ -19,13 +19,13 @@ use Rattle.ca_model.specs.Ends as why
 use Rattle.ca_model.specs.Server.{Ended, Open, ServerCircuit, ServerEnd, Subscription, concerns, key_of, with_post}
 use Rattle.ca_model.specs.ServerSteps.{is_concerned, reached}
 use Rattle.ca_model.specs.Speech.{In, Stored, share_bit}
-use Rattle.ca_server_core.specs.Covering.{Covers, is_on, watches_under}
+use Rattle.ca_server_core.specs.Covering.{Covers, watches_under}
 use Rattle.ca_server_core.specs.Ending.{KeepsPlaces, WithdrawsAll}
 use Rattle.ca_server_core.specs.Posting.{PostsAt, posted}
 use Rattle.ca_server_core.specs.Reaching.{PostsIn, ReachesAll, ReachesFrom, ReachesNext, ReachesOne}
 use Rattle.ca_server_core.specs.Sound.{EndIsSound, IsSound}
 use Rattle.ca_server_core.specs.Subscribing.{events_of}
-use Rattle.ca_server_subscriptions.specs.Subscribed.{HasRoom}
+use Rattle.ca_server_subscriptions.specs.Subscribed.{HasRoom, is_on}
 use Rattle.ca_server_core.proofs.Cleared.{is-same, same-is}
 use Rattle.ca_server_core.proofs.Closing.{sound-ended}
 use Rattle.ca_server_core.proofs.Covered.{covers-left, covers-thinned, thins-changed, thins-ended}

@@ -416,14 +416,20 @@ module _ (name : List ℕ) where
 
     -- all have lost it
     pub losing-all : length t ≤ n → LosesAll name t s after u
-    losing-all past = (l.gone, (l.left, record {
-      may = l.may;
-      circuits = l.circuits ∙ each-ext (passed n l.gone l.left) (circuit_without name l.gone l.left) t (λ h c at. ap (λ (b : Bool). cond b (circuit_without name l.gone l.left h c) c) (lt-ltb h.index n (below h c at)));
-      records = l.records;
-      rules = l.rules;
-      stamp = l.stamp;
-      rooms = λ h e at. (let b = each-back (passed n l.gone l.left) t h (Open e) (sym (ap (λ (z : Circuits). under z h) l.circuits) ∙ at) in l.rooms h e at (below h b.0 b.1));
-    }))
+    losing-all past = (
+      l.gone,
+      (
+        l.left,
+        record {
+          may = l.may;
+          circuits = l.circuits ∙ each-ext (passed n l.gone l.left) (circuit_without name l.gone l.left) t (λ h c at. ap (λ (b : Bool). cond b (circuit_without name l.gone l.left h c) c) (lt-ltb h.index n (below h c at)));
+          records = l.records;
+          rules = l.rules;
+          stamp = l.stamp;
+          rooms = λ h e at. (let b = each-back (passed n l.gone l.left) t h (Open e) (sym (ap (λ (z : Circuits). under z h) l.circuits) ∙ at) in l.rooms h e at (below h b.0 b.1));
+        },
+      ),
+    )
       where
         below : (h : Handle) (c : ServerCircuit) → under t h ≡ Some c → h.index < n
         below h c at = (let lt = At-within t h.index (place h c) (under-at t h c at) in omega (arith, lt, past))
