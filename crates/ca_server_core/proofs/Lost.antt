@@ -1,30 +1,24 @@
 -- An end loses a record: the SERVER_DISCONNs of its channels, and then the channels with their subscriptions, one index after another.
-use Rattle.std.proofs.Common.{◌≡◌, ◌≢◌, ℕ, zero, suc, ◌+◌, ◌<◌, ◌≤◌, ◌==◌, ◌&&◌, ◌||◌, inl, inr, Bool, true, false, not, cond, List, [], ◌∷◌, ◌++◌, length, filter, map, take, drop, Option, Some, None, slice_set, refl, sym, ap, ◌∙◌, subst, arith, append_assoc, length-append}
-use Rattle.std.specs.Prelude.{option_map, option_to_list}
-use Rattle.std.specs.List.{list_any}
+use Rattle.std.proofs.Common.{◌≡◌, ◌≢◌, ℕ, zero, suc, ◌+◌, ◌<◌, ◌≤◌, ◌==◌, ◌&&◌, ◌||◌, Bool, true, false, not, cond, List, [], ◌∷◌, ◌++◌, length, filter, map, take, Option, Some, None, refl, sym, ap, ◌∙◌, subst, arith, append_assoc, length-append}
+use Rattle.std.specs.Prelude.{option_to_list}
 use Rattle.std.specs.Str.{bytes_eq}
-use Rattle.std.proofs.Math.Numerals.{add-one}
 use Rattle.std.proofs.lemmas.Bool.{eq-eqb, eqb-true}
 use Rattle.std.proofs.lemmas.Grind.{flat_map-append}
 use Rattle.std.proofs.lemmas.List.Elements.{filter-append}
 use Rattle.std.proofs.lemmas.List.{append-nil, length-map, map-append, take_all, take_at}
 use Rattle.ca_arena.specs.declared.handle.Handle.{Handle}
 use Rattle.ca_arena.specs.Arena.{Place, place_at}
-use Rattle.ca_ids.specs.Table.{Table, held, held_at, held_from, with_changed, with_each, with_each_from}
+use Rattle.ca_ids.specs.Table.{Table, held, held_at, held_from, with_changed, with_each_from}
 use Rattle.ca_ids.specs.Walks.{walked, with_place}
 use Rattle.ca_ids.specs.Wire.{wire_of}
 use Rattle.ca_ids.proofs.Changes.{changed-at, held-more, left-at, none-at, vacant-at, walk-all, walk-more}
-use Rattle.ca_link.specs.Link.{LinkState}
 use Rattle.ca_queue.specs.declared.entry.SubKey.{SubKey}
 use Rattle.ca_queue.specs.Circuit.{without_each}
-use Rattle.ca_queue.specs.Queue.{Queue}
-use Rattle.ca_text.specs.Place.{At}
 use Rattle.ca_wire.specs.Fields.{Fields}
 use Rattle.ca_wire.specs.Message.{spelled, spelling}
 use Rattle.ca_wire.specs.Messages.{disconnect}
 use Rattle.ca_model.specs.Server.{OpenChannel, ServerEnd, Subscription, key_of, without_subscriptions}
 use Rattle.ca_model.specs.ServerCalls.{channels_of, disconnects, end_without, is_on, retired}
-use Rattle.ca_model.specs.Speech.{Stored}
 use Rattle.ca_server_subscriptions.proofs.Sieves.{each-both, each-false, filter-all, filter-both}
 use Rattle.ca_server_subscriptions.specs.Subscribed.{Subscribed, is_of_sid, without_those}
 use Rattle.ca_server_core.specs.Handling.{replied}

@@ -1,21 +1,19 @@
 -- Each subscription of an end stays on an open channel, as the end handles a message.
-use Rattle.std.proofs.Common.{◌≡◌, ℕ, zero, suc, ◌≤◌, ◌==◌, inl, inr, Bool, true, false, not, List, [], ◌∷◌, ◌++◌, length, filter, Option, Some, None, refl, sym, ap, ◌∙◌, subst}
+use Rattle.std.proofs.Common.{◌≡◌, ℕ, ◌≤◌, ◌==◌, inl, inr, Bool, true, false, not, List, length, filter, Option, Some, None, refl, sym, ap, ◌∙◌, subst}
 use Rattle.std.specs.Prelude.{option_map, unwrap_or}
 use Rattle.std.proofs.lemmas.Bool.{eq-eqb}
 use Rattle.ca_arena.specs.declared.handle.Handle.{Handle}
-use Rattle.ca_ids.specs.Table.{Table, by_wire, under, with_freed, with_held}
+use Rattle.ca_ids.specs.Table.{Table, by_wire, under, with_freed}
 use Rattle.ca_ids.specs.Wire.{wire_of}
 use Rattle.ca_queue.specs.declared.entry.SubKey.{SubKey}
 use Rattle.ca_queue.specs.Keys.{same}
 use Rattle.ca_records.specs.Puts.{Record}
 use Rattle.ca_text.specs.Limits.{arena_slots}
-use Rattle.ca_text.specs.Place.{At}
 use Rattle.ca_text.proofs.Places.{At-snoc}
 use Rattle.ca_wire.specs.Fields.{Fields}
 use Rattle.ca_model.specs.Due.{Action, Adds, Applies, Clears, Drops, Greets, Names, Nothing, Opens, Switches, Waits}
-use Rattle.ca_model.specs.Server.{OpenChannel, Server, ServerEnd, Subscription, key_of, with_events, without_subscriptions}
+use Rattle.ca_model.specs.Server.{OpenChannel, Server, ServerEnd, Subscription, key_of}
 use Rattle.ca_model.specs.ServerSteps.{Acts, without_channel}
-use Rattle.ca_model.specs.Speech.{In}
 use Rattle.ca_server_core.specs.Handling.{Fits}
 use Rattle.ca_server_core.specs.Subscribing.{AreOnChannels, IsOnChannel}
 use Rattle.ca_server_core.proofs.Stays.{at-filtered}

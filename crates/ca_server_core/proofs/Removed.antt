@@ -1,13 +1,11 @@
 -- A record is removed, and one circuit after another loses it.
-use Rattle.std.proofs.Common.{◌≡◌, ◌≢◌, ℕ, zero, suc, ◌+◌, ◌<◌, ◌≤◌, ◌==◌, ◌&&◌, ◌||◌, ◌⊎◌, inl, inr, Bool, true, false, not, cond, nat_lt, nat_eq, List, [], ◌∷◌, ◌++◌, length, filter, take, Option, Some, None, is_some, Ok, Err, Result, refl, sym, ap, ◌∙◌, subst, arith}
-use Rattle.std.specs.Prelude.{option_map}
+use Rattle.std.proofs.Common.{◌≡◌, ◌≢◌, ℕ, zero, suc, ◌+◌, ◌<◌, ◌≤◌, ◌==◌, ◌&&◌, ◌||◌, ◌⊎◌, inl, inr, Bool, true, false, not, cond, nat_lt, nat_eq, List, [], ◌∷◌, ◌++◌, length, filter, take, Option, Some, None, is_some, Ok, Err, refl, sym, ap, ◌∙◌, subst, arith}
 use Rattle.std.specs.Str.{bytes_eq}
 use Rattle.std.proofs.lemmas.Bool.{eq-eqb, eqb-true, le-ltb, lt-ltb, ltb-false, ltb-true}
 use Rattle.std.proofs.lemmas.Slice.Eq.{bytes_eq-Decides}
 use Rattle.ca_arena.specs.declared.handle.Handle.{Handle}
-use Rattle.ca_arena.specs.Arena.{Place, place_at}
 use Rattle.ca_beacon.specs.Clock.{Clock}
-use Rattle.ca_ids.specs.Table.{Table, held, held_at, same_handle, under, with_changed, with_each}
+use Rattle.ca_ids.specs.Table.{Table, held, same_handle, under, with_changed, with_each}
 use Rattle.ca_ids.specs.Wire.{wire_of}
 use Rattle.ca_records.specs.declared.puts.Put.{Put}
 use Rattle.ca_records.specs.Puts.{Record, WaitingPut, record_named, removed, withdrawn, without_puts}
@@ -15,7 +13,6 @@ use Rattle.ca_records.specs.Store.{Store, records_of}
 use Rattle.ca_records.specs.Writes as writes
 use Rattle.ca_text.specs.declared.refusal.Refusal.{Refusal}
 use Rattle.ca_text.specs.declared.refusal.Refusal.TheVariants as refusal
-use Rattle.ca_text.specs.Limits.{arena_slots}
 use Rattle.ca_text.specs.Place.{At}
 use Rattle.ca_text.proofs.Places.{At-within, some_is}
 use Rattle.ca_server_watchers.specs.Watching.{Clears, IsAmong, Watched}
@@ -27,7 +24,7 @@ use Rattle.ca_model.specs.Speech.{In}
 use Rattle.ca_server_core.specs.Clearing.{ArePuts}
 use Rattle.ca_server_core.specs.Covering.{Covers, IsServer}
 use Rattle.ca_server_core.specs.Ending.{WithdrawsAll}
-use Rattle.ca_server_core.specs.Removing.{IsLost, LosesAll, LosesAt, LosesIn, MayAllLose, MayLose, MayLoseIn, leads_to}
+use Rattle.ca_server_core.specs.Removing.{LosesAll, LosesAt, LosesIn, MayAllLose, MayLose, MayLoseIn, leads_to}
 use Rattle.ca_server_core.specs.Sound.{EndIsSound, IsSound}
 use Rattle.ca_server_core.specs.Subscribing.{AreOnChannels, events_of}
 use Rattle.ca_server_subscriptions.specs.Subscribed.{HasRoom}

@@ -1,5 +1,5 @@
 -- Working: a record is removed, on one circuit and in the table of circuits.
-use Rattle.std.specs.Prelude.{ℕ, ◌≡◌, ◌≢◌, ◌<◌, ◌≤◌, ◌&&◌, ◌||◌, ◌⊎◌, ◌++◌, Bool, true, not, List, [], Option, Some, None, filter, length, map, option_map, option_to_list, take}
+use Rattle.std.specs.Prelude.{ℕ, ◌≡◌, ◌≢◌, ◌≤◌, ◌&&◌, ◌||◌, ◌⊎◌, ◌++◌, Bool, true, not, List, [], Option, Some, None, filter, length, map, option_map, option_to_list, take}
 use Rattle.std.specs.Str.{bytes_eq}
 use Rattle.ca_arena.specs.declared.handle.Handle.{Handle}
 use Rattle.ca_arena.specs.Arena.{Place, place_at}

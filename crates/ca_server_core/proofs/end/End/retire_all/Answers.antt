@@ -1,4 +1,4 @@
-use Rattle.std.proofs.Common.{ap, arith, length, sym, subst}
+use Rattle.std.proofs.Common.{ap, arith, length}
 use Rattle.ca_model.specs.Server.{ServerEnd}
 use Rattle.ca_server_core.proofs.Lost.{retired-all, retired-more, retired-none, walked-long}
 use Rattle.ca_server_core.proofs.end.End.retire_all.Goals as goal
