@@ -1,6 +1,5 @@
 -- Vocabulary: the calls of a server beside its circuits, by answer (sections "Process Variables", "CA_PROTO_WRITE_NOTIFY",
--- "CA_PROTO_SERVER_DISCONN", "CA_PROTO_SEARCH"). Each is to be the contract of the call of `ServerCore` that its comment names; those of
--- `stamp`, `applied` and `waiting` are.
+-- "CA_PROTO_SERVER_DISCONN", "CA_PROTO_SEARCH"). Each is the contract of the call of `ServerCore` that its comment names.
 use Rattle.std.specs.Prelude.{ℕ, ◌≡◌, ◌≢◌, ◌<◌, ◌≤◌, ◌+◌, ◌==◌, ◌&&◌, ◌||◌, ◌++◌, ◌⊎◌, Bool, true, not, List, [], ◌∷◌, Option, Some, None, Ok, Err, Result, drop, filter, if◌then◌else◌, is_some, length, map, max, take}
 use Rattle.std.specs.List.{flat_map, list_any}
 use Rattle.std.specs.Str.{bytes_eq}
@@ -37,12 +36,11 @@ use Rattle.ca_model.specs.Speech.{Stored}
 -- ---- posts
 
 -- `post`: the record has this value and its metadata now, and all subscriptions with a bit of the mask get it. Circuits that it concerns
--- may end out of memory.
+-- may end out of memory; a post that fits is never refused.
 abbrev pub Posts : Server → List ℕ → Stored → (mask : ℕ) → (gone : Handle → Bool) → Result (Unit {0}) Refusal → Server → Type 0
 Posts old name v mask gone (Ok _) new =
     let stored : Server = record old { records = with_record name (with_value v.value v.meta) old.records } in
     PostFits old.records name v.value × MayEnd old name mask gone × (new ≡ after_post name mask v gone stored)
-Posts old name v mask gone (Err refusal.OutOfMemory) new = PostFits old.records name v.value × (new ≡ old)
 Posts old name v mask gone (Err e) new = PostFault old.records name v.value e × (new ≡ old)
 
 -- ---- finishes

@@ -1,5 +1,5 @@
--- Vocabulary: the calls of a server on one circuit, by answer (sections "Virtual Circuit" and "CA Protocol Messages"). Each is to be the
--- contract of the call of `ServerCore` that its comment names; those of `accept`, `give`, `out_bytes` and `sent` are.
+-- Vocabulary: the calls of a server on one circuit, by answer (sections "Virtual Circuit" and "CA Protocol Messages"). Each is the
+-- contract of the call of `ServerCore` that its comment names.
 use Rattle.std.specs.Prelude.{ℕ, ◌≡◌, ◌≢◌, ◌<◌, ◌≤◌, ◌+◌, ◌==◌, ◌&&◌, ◌++◌, ◌⊎◌, Bool, true, false, List, [], ◌∷◌, Option, Some, None, Ok, Err, Result, if◌then◌else◌, is_some, length, map, min, option_map, slice_set, unwrap_or}
 use Rattle.std.specs.List.{FoldsTo, list_any}
 use Rattle.ca_arena.specs.declared.handle.Handle.{Handle}

@@ -16,7 +16,7 @@ use Rattle.ca_records.specs.Writes.{is_of}
 use Rattle.ca_records.specs.Writes as writes
 use Rattle.ca_model.specs.Server.{OpenChannel, ServerEnd}
 use Rattle.ca_server_core.specs.declared.seek.Seat.{Seat}
-use Rattle.ca_server_core.specs.Clearing.{ArePuts, Withdraws, is_on}
+use Rattle.ca_server_core.specs.Clearing.{ArePuts, Withdraws, is_on_sid}
 use Rattle.ca_server_core.specs.Seeking.{IsServed, IsStray}
 use Rattle.ca_server_core.proofs.Taken.{one-record}
 use Rattle.ca_server_core.proofs.Tables.{handle-is, none-some, one-by-wire, one-value, under-wire, wire-under}
@@ -77,13 +77,13 @@ module _ (t : Table OpenChannel) (sid : ℕ) (few : length t ≤ arena_slots) wh
   -- ---- a channel that is served
 
   module _ (h : Handle) (rs : List Record) (puts : ArePuts h rs t) (c : Handle) (o : OpenChannel) (there : under t c ≡ Some o) (is : wire_of c ≡ sid) where
-    agrees : (i k : ℕ) (q : Record) (w : WaitingPut) → At rs i q → At q.waiting k w → is_of h (Some c) w.put ≡ is_on h sid w.put
+    agrees : (i k : ℕ) (q : Record) (w : WaitingPut) → At rs i q → At q.waiting k w → is_of h (Some c) w.put ≡ is_on_sid h sid w.put
     agrees i k q w at at' =
         and-same (same_handle w.put.circuit h) (same_handle w.put.channel c) (wire_of w.put.channel == sid)
         (λ e. (let p = puts i q k w at at' e in wire-tells c w.put.channel o p.0 there is p.1))
 
     -- no put of it waits for another record
-    elsewhere : (i k : ℕ) (q : Record) (w : WaitingPut) → At rs i q → At q.waiting k w → bytes_eq q.state.name o.name ≡ false → is_on h sid w.put ≡ false
+    elsewhere : (i k : ℕ) (q : Record) (w : WaitingPut) → At rs i q → At q.waiting k w → bytes_eq q.state.name o.name ≡ false → is_on_sid h sid w.put ≡ false
     elsewhere i k q w at at' other =
         and-false (same_handle w.put.circuit h) (wire_of w.put.channel == sid)
         (λ e. (let p = puts i q k w at at' e in no (wire_of w.put.channel == sid) (λ hit. absurd (apart p.0 p.1 p.2 hit))))
@@ -102,21 +102,21 @@ module _ (t : Table OpenChannel) (sid : ℕ) (few : length t ≤ arena_slots) wh
             let name : q.state.name ≡ o.name = sym named ∙ ap (λ (x : OpenChannel). x.name) same in
             both (bytes_eq q.state.name o.name) ((bytes_eq-Decides q.state.name o.name).1 name) other
 
-    withdrawn-one : (n : ℕ) (qs : List Record) → ((i : ℕ) (q : Record) → At qs i q → (j : ℕ) × At rs j q) → with_record o.name (without_puts (is_of h (Some c))) qs ≡ withdrawn (is_on h sid) qs
+    withdrawn-one : (n : ℕ) (qs : List Record) → ((i : ℕ) (q : Record) → At qs i q → (j : ℕ) × At rs j q) → with_record o.name (without_puts (is_of h (Some c))) qs ≡ withdrawn (is_on_sid h sid) qs
     withdrawn-one n [] within = refl
     withdrawn-one n (q ∷ qs) within =
         let rest = withdrawn-one n qs (λ i r at. within (suc i) r at) in
         let here = within 0 q refl in
         ap (λ (x : Record). x ∷ with_record o.name (without_puts (is_of h (Some c))) qs) (by (bytes_eq q.state.name o.name) refl here.0 here.1)
-        ∙ ap (λ (xs : List Record). without_puts (is_on h sid) q ∷ xs) rest
+        ∙ ap (λ (xs : List Record). without_puts (is_on_sid h sid) q ∷ xs) rest
       where
-        by : (b : Bool) → bytes_eq q.state.name o.name ≡ b → (j : ℕ) → At rs j q → (if bytes_eq q.state.name o.name then without_puts (is_of h (Some c)) q else q) ≡ without_puts (is_on h sid) q
+        by : (b : Bool) → bytes_eq q.state.name o.name ≡ b → (j : ℕ) → At rs j q → (if bytes_eq q.state.name o.name then without_puts (is_of h (Some c)) q else q) ≡ without_puts (is_on_sid h sid) q
         by true e j at =
             ap (λ (b : Bool). if b then without_puts (is_of h (Some c)) q else q) e
-            ∙ ap (λ (ws : List WaitingPut). let x : Record = record q { waiting = ws } in x) (filter-same (is_of h (Some c)) (is_on h sid) q.waiting (λ k w at'. agrees j k q w at at'))
+            ∙ ap (λ (ws : List WaitingPut). let x : Record = record q { waiting = ws } in x) (filter-same (is_of h (Some c)) (is_on_sid h sid) q.waiting (λ k w at'. agrees j k q w at at'))
         by false e j at =
             ap (λ (b : Bool). if b then without_puts (is_of h (Some c)) q else q) e
-            ∙ sym (kept (is_on h sid) q (λ k w at'. elsewhere j k q w at at' e))
+            ∙ sym (kept (is_on_sid h sid) q (λ k w at'. elsewhere j k q w at at' e))
 
 pub withdraws-served : (h : Handle) (s t : Store) (e : ServerEnd) (sid : ℕ) (seat : Seat) → length e.channels ≤ arena_slots → ArePuts h (records_of s) e.channels → IsServed s e sid seat → writes.Withdraws s seat.place h (Some seat.channel) t → Withdraws h sid s t
 withdraws-served h s t e sid seat few puts i w =
@@ -143,7 +143,7 @@ none-of f (q ∷ qs) none =
 pub withdraws-stray : (h : Handle) (s : Store) (e : ServerEnd) (sid cid : ℕ) → length e.channels ≤ arena_slots → ArePuts h (records_of s) e.channels → IsStray e sid cid → Withdraws h sid s s
 withdraws-stray h s e sid cid few puts is =
     record {
-      records = none-of (is_on h sid) (records_of s) (λ i k q w at at'. and-false (same_handle w.put.circuit h) (wire_of w.put.channel == sid) (λ hit. (let p = puts i q k w at at' hit in no (wire_of w.put.channel == sid) (λ same. absurd (apart w.put.channel p.0 p.1 p.3 (eqb-true (wire_of w.put.channel) sid same) is)))));
+      records = none-of (is_on_sid h sid) (records_of s) (λ i k q w at at'. and-false (same_handle w.put.circuit h) (wire_of w.put.channel == sid) (λ hit. (let p = puts i q k w at at' hit in no (wire_of w.put.channel == sid) (λ same. absurd (apart w.put.channel p.0 p.1 p.3 (eqb-true (wire_of w.put.channel) sid same) is)))));
       rules = refl;
       stamp = refl;
     }

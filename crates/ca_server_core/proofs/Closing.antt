@@ -14,9 +14,10 @@ use Rattle.ca_model.specs.Server.{Ended, Open, OpenChannel, Server, ServerCircui
 use Rattle.ca_server_core.specs.declared.step.Effect.{Effect}
 use Rattle.ca_server_core.specs.Handling.{Does}
 use Rattle.ca_server_core.specs.Sound.{EndIsSound, IsSound}
-use Rattle.ca_server_core.specs.Subscribing.{events_of}
+use Rattle.ca_server_core.specs.Subscribing.{AreOnChannels, events_of}
 use Rattle.ca_server_subscriptions.specs.Subscribed.{HasRoom}
 use Rattle.ca_server_core.proofs.Cleared.{is-same, none-of, same-is}
+use Rattle.ca_server_core.proofs.Onward.{acts-on}
 use Rattle.ca_server_core.proofs.Stays.{IsNew, Keeps, Stays, back-channel, link-kept, new-channel, new-circuit, recorded-keeps, stay-channel, withdrawn-keeps}
 use Rattle.ca_server_core.proofs.Tables.{changed-back, changed-other, changed-own, freed-back, freed-other}
 
@@ -39,6 +40,7 @@ end-stays rs qs g x St New k none i = record {
   live = i.live;
   room = i.room;
   few = i.few;
+  on = i.on;
   served = λ f c at live. (let r = i.served f c at live in k.0 c.name r.0 r.1);
   puts = λ j q l w at at' hit. elim (k.1 j q l w at at') [
     | inl old ↦ (let o = old.0 in let p = i.puts o.0 o.1 o.2 w o.3 o.4 hit in (p.0, p.1, p.2 ∙ o.5, p.3))
@@ -58,6 +60,7 @@ handled-end y s t h e m did D new same d i room few =
       live = ap (λ (x : ServerEnd). x.link.input.closed) d.leaves ∙ ap (λ (l : LinkState). l.input.closed) (link-kept y e d.action d.acted acts) ∙ i.live;
       room = room;
       few = few;
+      on = subst (λ (x : ServerEnd). AreOnChannels x.channels x.subscriptions) (sym d.leaves) (acts-on y (records_of s) e m d.action d.acted i.few acts d.fits i.on);
       served = λ g c at live. elim (back-channel y (records_of s) e m d.action d.acted g c acts d.fits (subst (λ (u : Table OpenChannel). under u g ≡ Some c) channels at)) [
         | inl old ↦ (let r = i.served g c old live in k.0 c.name r.0 r.1)
         | inr made ↦ k.0 c.name made.0 made.1

@@ -9,11 +9,12 @@ use Rattle.ca_records.specs.Store.{Store}
 use Rattle.ca_ids.specs.Table.{MayGive, Table, under, with_changed, with_freed, with_held}
 use Rattle.ca_text.specs.Place.{At}
 use Rattle.ca_text.proofs.Places.{some_is}
+use Rattle.ca_server_subscriptions.specs.Subscribed.{is_on}
 use Rattle.ca_server_watchers.specs.Watching.{IsAmong, LeavesAt, Watched, Watches, watching}
 use Rattle.ca_model.specs.Ends.{Why}
 use Rattle.ca_model.specs.Server.{Ended, Open, ServerCircuit, ServerEnd, Subscription, new_end}
 use Rattle.ca_model.specs.Speech.{In}
-use Rattle.ca_server_core.specs.Covering.{Covers, is_on, watches_under}
+use Rattle.ca_server_core.specs.Covering.{Covers, watches_under}
 use Rattle.ca_server_core.specs.Ending.{EndsAt, EndsIn}
 use Rattle.ca_server_core.specs.Following.{CoversBut}
 use Rattle.ca_server_core.proofs.Closing.{not-ended}

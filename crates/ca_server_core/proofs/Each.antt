@@ -1,9 +1,12 @@
 -- A table each of whose values is changed by its handle, and puts that are taken out in turn.
-use Rattle.std.proofs.Common.{◌≡◌, ℕ, zero, suc, ◌+◌, Bool, true, false, cond, not, ◌||◌, List, [], ◌∷◌, filter, Option, Some, None, refl, sym, ap, ◌∙◌, subst, arith}
+use Rattle.std.proofs.Common.{◌≡◌, ℕ, zero, suc, ◌+◌, Bool, true, false, cond, not, ◌||◌, List, [], ◌∷◌, filter, length, Option, Some, None, refl, sym, ap, ◌∙◌, subst, arith}
 use Rattle.std.specs.Prelude.{option_map}
 use Rattle.ca_arena.specs.declared.handle.Handle.{Handle}
-use Rattle.ca_arena.specs.Arena.{Place}
-use Rattle.ca_ids.specs.Table.{Table, same_handle, under, with_changed, with_each, with_each_from}
+use Rattle.std.proofs.lemmas.Bool.{eq-eqb}
+use Rattle.std.proofs.lemmas.Option.{get_or_from_slice_get}
+use Rattle.ca_arena.specs.Arena.{Place, blank, place_at}
+use Rattle.ca_ids.specs.Table.{Table, held_at, same_handle, under, with_changed, with_each, with_each_from}
+use Rattle.ca_ids.proofs.Changes.{held-parts}
 use Rattle.ca_records.specs.declared.puts.Put.{Put}
 use Rattle.ca_records.specs.Puts.{Record, WaitingPut, withdrawn}
 use Rattle.ca_text.specs.Place.{At}
@@ -13,47 +16,68 @@ use Rattle.ca_server_core.proofs.Cleared.{is-same, same-is}
 use Rattle.ca_server_core.proofs.Finished.{one-changes}
 use Rattle.ca_server_core.proofs.Tables.{at-under, handle-is, place, under-at}
 
+module _ {T : Type 0} where
+  at-each : (f : Handle → T → T) (n : ℕ) (t : Table T) (j : ℕ) (h : Handle) (c : T) → h.index ≡ n + j → At t j (place h c) → At (with_each_from n f t) j (place h (f h c))
+  at-each f n [] j h c is at = absurd cc
+  at-each f n (p ∷ t) zero h c is at =
+      let same : p ≡ place h c = some_is p (place h c) at in
+      let mine : (record { index = n; generation = h.generation }) ≡ h = handle-is (record { index = n; generation = h.generation }) h (omega (arith, is)) refl in
+      ap (λ (q : Place T). let r : Place T = record { generation = q.generation; value = option_map (f (record { index = n; generation = q.generation })) q.value } in Some r) same
+      ∙ ap (λ (g : Handle). Some (place h (f g c))) mine
+  at-each f n (p ∷ t) (suc j) h c is at = at-each f (n + 1) t j h c (omega (arith, is)) at
+
+  back-each : (f : Handle → T → T) (n : ℕ) (t : Table T) (j : ℕ) (h : Handle) (d : T) → h.index ≡ n + j → At (with_each_from n f t) j (place h d) → (c : T) × At t j (place h c) × (d ≡ f h c)
+  back-each f n [] j h d is at = absurd cc
+  back-each f n (p ∷ t) zero h d is at = by p.value refl (some_is _ (place h d) at)
+    where
+      own : Handle
+      own = record { index = n; generation = p.generation }
+
+      by : (o : Option T) → p.value ≡ o → (let q : Place T = record { generation = p.generation; value = option_map (f (record { index = n; generation = p.generation })) o } in q ≡ place h d) → (c : T) × At (p ∷ t) zero (place h c) × (d ≡ f h c)
+      by None has e = absurd (nothing (ap (λ (q : Place T). q.value) e))
+        where
+          nothing : (let none : Option T = None in none ≡ Some d) → ⊥
+          nothing z = cc
+      by (Some c) has e =
+          let generation : p.generation ≡ h.generation = ap (λ (q : Place T). q.generation) e in
+          let mine : own ≡ h = handle-is own h (omega (arith, is)) generation in
+          let whole : p ≡ place h c = (λ i. record { generation = generation i; value = has i }) in
+          (c, ap (λ (q : Place T). Some q) whole, some_is d (f own c) (sym (ap (λ (q : Place T). q.value) e)) ∙ ap (λ (g : Handle). f g c) mine)
+  back-each f n (p ∷ t) (suc j) h d is at = back-each f (n + 1) t j h d (omega (arith, is)) at
+
+  pub under-each : (f : Handle → T → T) (t : Table T) (h : Handle) (c : T) → under t h ≡ Some c → under (with_each f t) h ≡ Some (f h c)
+  under-each f t h c is = at-under (with_each f t) h (f h c) (at-each f 0 t h.index h c (omega arith) (under-at t h c is))
+
+  pub each-back : (f : Handle → T → T) (t : Table T) (h : Handle) (d : T) → under (with_each f t) h ≡ Some d → (c : T) × (under t h ≡ Some c) × (d ≡ f h c)
+  each-back f t h d is =
+      let b = back-each f 0 t h.index h d (omega arith) (under-at (with_each f t) h d is) in
+      (b.0, at-under t h b.0 b.1, b.2)
+
+  each-long : (n : ℕ) (f : Handle → T → T) (t : Table T) → length (with_each_from n f t) ≡ length t
+  each-long n f [] = refl
+  each-long n f (p ∷ t) = ap (λ (m : ℕ). suc m) (each-long (n + 1) f t)
+
+  pub each-length : (f : Handle → T → T) (t : Table T) → length (with_each f t) ≡ length t
+  each-length f t = each-long 0 f t
+
+  -- what is held at an index
+  pub at-index : (t : Table T) (n : ℕ) (h : Handle) (c : T) → under t h ≡ Some c → h.index ≡ n → held_at n (place_at t n) ≡ Some (h, c)
+  at-index t n h c is same =
+      let at : At t n (place h c) = subst (λ (i : ℕ). At t i (place h c)) same (under-at t h c is) in
+      ap (λ (p : Place T). held_at n p) (get_or_from_slice_get t n (place h c) blank at)
+      ∙ ap (λ (g : Handle). let x : Handle × T = (g, c) in Some x) (handle-is (record { index = n; generation = h.generation }) h (sym same) refl)
+
+  pub index-at : (t : Table T) (n : ℕ) (h : Handle) (c : T) → held_at n (place_at t n) ≡ Some (h, c) → (under t h ≡ Some c) × (h.index ≡ n)
+  index-at t n h c is =
+      let p = place_at t n in
+      let parts = held-parts n p.generation p.value h c is in
+      (subst (λ (g : Handle). under t g ≡ Some c) (sym parts.0) (ap (λ (b : Bool). cond b p.value None) (eq-eqb p.generation p.generation refl) ∙ parts.1), ap (λ (g : Handle). g.index) parts.0)
+
 abbrev Circuits : Type 0
 Circuits = Table ServerCircuit
 
 abbrev Change : Type 0
 Change = Handle → ServerCircuit → ServerCircuit
-
-at-each : (f : Change) (n : ℕ) (t : Circuits) (j : ℕ) (h : Handle) (c : ServerCircuit) → h.index ≡ n + j → At t j (place h c) → At (with_each_from n f t) j (place h (f h c))
-at-each f n [] j h c is at = absurd cc
-at-each f n (p ∷ t) zero h c is at =
-    let same : p ≡ place h c = some_is p (place h c) at in
-    let mine : (record { index = n; generation = h.generation }) ≡ h = handle-is (record { index = n; generation = h.generation }) h (omega (arith, is)) refl in
-    ap (λ (q : Place ServerCircuit). let r : Place ServerCircuit = record { generation = q.generation; value = option_map (f (record { index = n; generation = q.generation })) q.value } in Some r) same
-    ∙ ap (λ (g : Handle). Some (place h (f g c))) mine
-at-each f n (p ∷ t) (suc j) h c is at = at-each f (n + 1) t j h c (omega (arith, is)) at
-
-back-each : (f : Change) (n : ℕ) (t : Circuits) (j : ℕ) (h : Handle) (d : ServerCircuit) → h.index ≡ n + j → At (with_each_from n f t) j (place h d) → (c : ServerCircuit) × At t j (place h c) × (d ≡ f h c)
-back-each f n [] j h d is at = absurd cc
-back-each f n (p ∷ t) zero h d is at = by p.value refl (some_is _ (place h d) at)
-  where
-    own : Handle
-    own = record { index = n; generation = p.generation }
-
-    by : (o : Option ServerCircuit) → p.value ≡ o → (let q : Place ServerCircuit = record { generation = p.generation; value = option_map (f (record { index = n; generation = p.generation })) o } in q ≡ place h d) → (c : ServerCircuit) × At (p ∷ t) zero (place h c) × (d ≡ f h c)
-    by None has e = absurd (nothing (ap (λ (q : Place ServerCircuit). q.value) e))
-      where
-        nothing : (let none : Option ServerCircuit = None in none ≡ Some d) → ⊥
-        nothing z = cc
-    by (Some c) has e =
-        let generation : p.generation ≡ h.generation = ap (λ (q : Place ServerCircuit). q.generation) e in
-        let mine : own ≡ h = handle-is own h (omega (arith, is)) generation in
-        let whole : p ≡ place h c = (λ i. record { generation = generation i; value = has i }) in
-        (c, ap (λ (q : Place ServerCircuit). Some q) whole, some_is d (f own c) (sym (ap (λ (q : Place ServerCircuit). q.value) e)) ∙ ap (λ (g : Handle). f g c) mine)
-back-each f n (p ∷ t) (suc j) h d is at = back-each f (n + 1) t j h d (omega (arith, is)) at
-
-pub under-each : (f : Change) (t : Circuits) (h : Handle) (c : ServerCircuit) → under t h ≡ Some c → under (with_each f t) h ≡ Some (f h c)
-under-each f t h c is = at-under (with_each f t) h (f h c) (at-each f 0 t h.index h c (omega arith) (under-at t h c is))
-
-pub each-back : (f : Change) (t : Circuits) (h : Handle) (d : ServerCircuit) → under (with_each f t) h ≡ Some d → (c : ServerCircuit) × (under t h ≡ Some c) × (d ≡ f h c)
-each-back f t h d is =
-    let b = back-each f 0 t h.index h d (omega arith) (under-at (with_each f t) h d is) in
-    (b.0, at-under t h b.0 b.1, b.2)
 
 -- two changes that agree on all that is held
 ext-from : (f g : Change) (n : ℕ) (t : Circuits) → ((j : ℕ) (h : Handle) (c : ServerCircuit) → h.index ≡ n + j → At t j (place h c) → f h c ≡ g h c) → with_each_from n f t ≡ with_each_from n g t

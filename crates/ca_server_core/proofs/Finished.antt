@@ -65,7 +65,7 @@ replied-sound s u t after p (inl g) i = by g.0 g.1 g.2 g.3 g.4
     by : (c new : ServerCircuit) → under t p.circuit ≡ Some c → RepliesAt p c s new u → after ≡ with_changed (λ (x : ServerCircuit). new) p.circuit t → IsSound (records_of u) after
     by (Open e) new there (inl sent) changed =
         let o = i.ends p.circuit e there in
-        let sound : EndIsSound (records_of s) p.circuit (with_reply p e) = record { live = o.live; room = o.room; served = o.served; puts = o.puts; few = o.few } in
+        let sound : EndIsSound (records_of s) p.circuit (with_reply p e) = record { live = o.live; room = o.room; served = o.served; puts = o.puts; on = o.on; few = o.few } in
         subst (λ (x : Table ServerCircuit). IsSound (records_of u) x) (sym (became t after p.circuit new (Open (with_reply p e)) changed sent.1))
         (subst (λ (x : Store). IsSound (records_of x) (with_changed (λ (z : ServerCircuit). Open (with_reply p e)) p.circuit t)) (sym sent.2) (sound-changed (records_of s) t p.circuit e (with_reply p e) i there sound))
     by (Open e) new there (inr (inl lack)) changed =

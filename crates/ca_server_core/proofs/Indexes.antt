@@ -1,15 +1,19 @@
 -- The channels of a circuit, and the set of CIDs that are in use.
-use Rattle.std.proofs.Common.{◌≡◌, ℕ, inl, inr, Bool, true, false, cond, nat_eq, Some, refl, sym, ap, ◌∙◌, subst, arith}
+use Rattle.std.proofs.Common.{◌≡◌, ℕ, inl, inr, Bool, true, false, cond, nat_eq, Option, Some, is_some, slice_set, refl, sym, ap, ◌∙◌, subst, arith}
 use Rattle.std.proofs.lemmas.Bool.{eq-eqb}
 use Rattle.std.proofs.lemmas.Bool.Decides.{eqb_tells}
 use Rattle.std.specs.HashSet.{HashSet, contains}
 use Rattle.std.specs.declared.hash.FoldHasher.{FoldHasher}
 use Rattle.std.specs.declared.hash.BuildHasherDefault.{BuildHasherDefault}
+use Rattle.std.specs.Prelude.{option_map}
+use Rattle.ca_arena.specs.Arena.{Place}
 use Rattle.ca_arena.specs.declared.handle.Handle.{Handle}
-use Rattle.ca_ids.specs.Table.{MayGive, Table, under, with_freed, with_held}
+use Rattle.ca_ids.specs.Table.{MayGive, Table, same_handle, under, with_changed, with_freed, with_held}
 use Rattle.ca_model.specs.Server.{OpenChannel}
 use Rattle.ca_server_core.specs.Cids.{IsIndexed, UsesCid}
-use Rattle.ca_server_core.proofs.Tables.{freed-back, freed-few, freed-other, held-back, held-few, held-other, held-own, one-value}
+use Rattle.ca_server_core.specs.Removing.{without_record}
+use Rattle.ca_server_core.proofs.Cleared.{is-same, same-is}
+use Rattle.ca_server_core.proofs.Tables.{changed-back, changed-few, changed-other, changed-own, freed-back, freed-few, freed-other, held-back, held-few, held-other, held-own, one-value}
 
 abbrev pub Cids : Type 0
 Cids = HashSet ℕ (BuildHasherDefault FoldHasher)
@@ -93,3 +97,39 @@ indexed-close t s n h ch i at change =
       apart = λ f g a b at' at'' same. i.apart f g a b (freed-back t f h a at').1 (freed-back t g h b at'').1 same;
       limit = (let few = freed-few t h in let limit = i.limit in omega (arith, few, limit));
     }
+
+-- the record of a channel was removed
+module _ (t : Table OpenChannel) (s : Cids) (h : Handle) (ch : OpenChannel) (i : IsIndexed t s) (there : under t h ≡ Some ch) where
+  -- what was there has its CID still
+  was-there : (g : Handle) (c : OpenChannel) → under (with_changed without_record h t) g ≡ Some c → (o : OpenChannel) × (under t g ≡ Some o) × (o.cid ≡ c.cid)
+  was-there g c at = elim (changed-back without_record t g h c at) [
+    | inl own ↦ (own.1.0, subst (λ (x : Handle). under t x ≡ Some own.1.0) (sym own.0) own.1.1, ap (λ (x : OpenChannel). x.cid) (sym own.1.2))
+    | inr other ↦ (c, other.1, refl)
+  ]
+
+  still-there : (cid : ℕ) → UsesCid t cid → UsesCid (with_changed without_record h t) cid
+  still-there cid (g, c, at, is) = by (same_handle g h) refl
+    where
+      by : (b : Bool) → same_handle g h ≡ b → UsesCid (with_changed without_record h t) cid
+      by true hit =
+          let one : g ≡ h = same-is g h hit in
+          (g, without_record c, subst (λ (x : Handle). under (with_changed without_record h t) x ≡ Some (without_record c)) (sym one) (changed-own without_record t h c (subst (λ (x : Handle). under t x ≡ Some c) one at)), is)
+      by false miss = (g, c, changed-other without_record t g h c at (λ e. not_both (same_handle g h) (is-same g h e) miss), is)
+
+  pub indexed-retire : IsIndexed (with_changed without_record h t) s
+  indexed-retire =
+      record {
+        sound = λ cid used. still-there cid (i.sound cid used);
+        complete = λ g c at. (let o = was-there g c at in subst (λ (n : ℕ). contains nat_eq s n ≡ true) o.2 (i.complete g o.0 o.1));
+        apart = λ f g a b at at' same. (let x = was-there f a at in let y = was-there g b at' in i.apart f g x.0 y.0 x.1 y.1 (x.2 ∙ same ∙ sym y.2));
+        limit = (let few = changed-few without_record t h in let limit = i.limit in omega (arith, few, limit));
+      }
+
+-- the same of a channel that became one whose record was removed
+pub indexed-retired : (t : Table OpenChannel) (s : Cids) (h : Handle) (ch new : OpenChannel) → IsIndexed t s → under t h ≡ Some ch → new ≡ without_record ch → IsIndexed (with_changed (λ (x : OpenChannel). new) h t) s
+indexed-retired t s h ch new i there is =
+    subst (λ (u : Table OpenChannel). IsIndexed u s)
+    (ap (λ (o : Option OpenChannel). let p : Place OpenChannel = record { generation = h.generation; value = option_map without_record o } in cond (is_some o) (slice_set t h.index p) t) there
+    ∙ ap (λ (c : OpenChannel). let p : Place OpenChannel = record { generation = h.generation; value = Some c } in slice_set t h.index p) (sym is)
+    ∙ sym (ap (λ (o : Option OpenChannel). let p : Place OpenChannel = record { generation = h.generation; value = option_map (λ (x : OpenChannel). new) o } in cond (is_some o) (slice_set t h.index p) t) there))
+    (indexed-retire t s h ch i there)

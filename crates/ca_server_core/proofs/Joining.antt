@@ -66,7 +66,7 @@ joined-event port s h e new m seat i bits right fault joined =
       rules = refl;
       stamp = refl;
       tells = (seat.place, i.r, refl, i.at, i.named);
-      fits = tt;
+      fits = ((seat.channel, i.channel), i.held, refl, i.there, refl);
       leaves = sym (replied-none new);
     }
 

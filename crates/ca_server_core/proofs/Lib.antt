@@ -16,6 +16,7 @@ pub mod Steps
 pub mod Sounds
 pub mod Moves
 pub mod Stays
+pub mod Onward
 pub mod Closing
 pub mod Walking
 pub mod Servers
@@ -32,3 +33,5 @@ pub mod Posted
 pub mod Pumps
 pub mod Pumped
 pub mod Added
+pub mod Lost
+pub mod Removed

@@ -13,7 +13,6 @@ use Rattle.ca_records.specs.Record.{RecordState}
 use Rattle.ca_records.specs.Store.{Store, records_of}
 use Rattle.ca_records.specs.Writes as writes
 use Rattle.ca_text.specs.declared.refusal.Refusal.{Refusal}
-use Rattle.ca_text.specs.declared.refusal.Refusal.TheVariants as refusal
 use Rattle.ca_model.specs.Server.{Server, ServerCircuit}
 use Rattle.ca_model.specs.ServerCalls.{Posts}
 use Rattle.ca_model.specs.Speech.{Stored}
@@ -61,10 +60,7 @@ viewed-refused y port now n mask b s u t name e meta f is did = ((λ (h : Handle
     rs-is = ap (λ (z : Server). z.records) is
 
     by : (f : Refusal) → PostFault (records_of s) name e f → Posts y name (record { value = e; meta = meta }) mask (λ (h : Handle). false) (Err f) (server_of port u now t b n)
-    by refusal.UnknownRecord fault = (subst (λ (rs : List Record). PostFault rs name e refusal.UnknownRecord) rs-is fault, same)
-    by refusal.BadType fault = (subst (λ (rs : List Record). PostFault rs name e refusal.BadType) rs-is fault, same)
-    by refusal.BadCount fault = (subst (λ (rs : List Record). PostFault rs name e refusal.BadCount) rs-is fault, same)
-    by _ fault = absurd fault
+    by f fault = (subst (λ (rs : List Record). PostFault rs name e f) rs-is fault, same)
 
 pub same-error : (r : Result (Unit {0}) Refusal) (e : Refusal) → IsErrAnd r (λ x. x ≡ e) → r ≡ Err e
 same-error (Ok x) e h = absurd h

@@ -10,18 +10,19 @@ use Rattle.ca_text.specs.Limits.{arena_slots}
 use Rattle.ca_text.proofs.Places.{some_is}
 use Rattle.ca_model.specs.Ends.{Why}
 use Rattle.ca_model.specs.Ends as why
-use Rattle.ca_model.specs.Server.{Ended, Open, OpenChannel, Server, ServerCircuit, ServerEnd}
+use Rattle.ca_model.specs.Server.{Ended, Open, OpenChannel, Server, ServerCircuit, ServerEnd, Subscription}
 use Rattle.ca_model.specs.ServerSteps.{Leaves, Pumps, Update}
 use Rattle.ca_server_core.specs.Clearing.{ArePuts}
 use Rattle.ca_server_core.specs.Handling.{AreServed}
 use Rattle.ca_server_core.specs.Pumping.{PumpsAt, PumpsIn}
 use Rattle.ca_server_core.specs.Sound.{EndIsSound, IsSound}
-use Rattle.ca_server_core.specs.Subscribing.{events_of}
+use Rattle.ca_server_core.specs.Subscribing.{AreOnChannels, events_of}
 use Rattle.ca_server_subscriptions.specs.Subscribed.{HasRoom}
 use Rattle.ca_server_core.proofs.Closing.{not-ended, sound-ended}
 use Rattle.ca_server_core.proofs.Pumps.{folds-channels, folds-open}
 use Rattle.ca_server_core.proofs.Servers.{became, same-parts, server_of, stayed}
 use Rattle.ca_server_core.proofs.Sounds.{sound-changed}
+use Rattle.ca_server_core.proofs.Thinned.{folds-subscriptions}
 
 abbrev Circuits : Type 0
 Circuits = Table ServerCircuit
@@ -35,6 +36,7 @@ pumped-end rs h e after us f room i =
       room = room;
       served = subst (λ (t : Table OpenChannel). AreServed rs t) same i.served;
       puts = subst (λ (t : Table OpenChannel). ArePuts h rs t) same i.puts;
+      on = subst (λ (t : Table OpenChannel). AreOnChannels t after.subscriptions) same (subst (λ (ss : List Subscription). AreOnChannels e.channels ss) (sym (folds-subscriptions e us after f)) i.on);
       few = subst (λ (t : Table OpenChannel). length t ≤ arena_slots) same i.few;
     }
 

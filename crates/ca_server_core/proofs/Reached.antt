@@ -19,13 +19,13 @@ use Rattle.ca_model.specs.Ends as why
 use Rattle.ca_model.specs.Server.{Ended, Open, ServerCircuit, ServerEnd, Subscription, concerns, key_of, with_post}
 use Rattle.ca_model.specs.ServerSteps.{is_concerned, reached}
 use Rattle.ca_model.specs.Speech.{In, Stored, share_bit}
-use Rattle.ca_server_core.specs.Covering.{Covers, is_on, watches_under}
+use Rattle.ca_server_core.specs.Covering.{Covers, watches_under}
 use Rattle.ca_server_core.specs.Ending.{KeepsPlaces, WithdrawsAll}
 use Rattle.ca_server_core.specs.Posting.{PostsAt, posted}
 use Rattle.ca_server_core.specs.Reaching.{PostsIn, ReachesAll, ReachesFrom, ReachesNext, ReachesOne}
 use Rattle.ca_server_core.specs.Sound.{EndIsSound, IsSound}
 use Rattle.ca_server_core.specs.Subscribing.{events_of}
-use Rattle.ca_server_subscriptions.specs.Subscribed.{HasRoom}
+use Rattle.ca_server_subscriptions.specs.Subscribed.{HasRoom, is_on}
 use Rattle.ca_server_core.proofs.Cleared.{is-same, same-is}
 use Rattle.ca_server_core.proofs.Closing.{sound-ended}
 use Rattle.ca_server_core.proofs.Covered.{covers-left, covers-thinned, thins-changed, thins-ended}
@@ -440,7 +440,7 @@ module _ (place mask : ℕ) (w0 : Watched) (t0 : Circuits) (s0 : Store) (k : ℕ
             let became_it = became t after h new (Open (with_post name mask (stored a.r) e)) changed is_new in
             let o = a.sound.ends h e there in
             let room = subst (λ (x : ServerEnd). HasRoom (events_of x)) (posted-is a.r q mask e st) p.1 in
-            let end_sound : EndIsSound (records_of s) h (with_post name mask (stored a.r) e) = record { live = o.live; room = room; served = o.served; puts = o.puts; few = o.few } in
+            let end_sound : EndIsSound (records_of s) h (with_post name mask (stored a.r) e) = record { live = o.live; room = room; served = o.served; puts = o.puts; on = o.on; few = o.few } in
             with-more v after u a.gone (subst (λ (x : Store). (q : Record) × HasAt x place q × (q.state ≡ a.r.state)) (sym p.2) a.here) still
             (walked-on name mask (stored a.r) a.ds a.gone t0 s0 t s a.walked h new_one after u e there became_it p.2)
             (subst (λ (x : Circuits). IsSound (records_of u) x) (sym became_it) (subst (λ (x : Store). IsSound (records_of x) (with_changed (λ (c : ServerCircuit). Open (with_post name mask (stored a.r) e)) h t)) (sym p.2) (sound-changed (records_of s) t h e (with_post name mask (stored a.r) e) a.sound there end_sound)))

@@ -13,7 +13,7 @@ use Rattle.std.specs.Prelude.{map}
 use Rattle.ca_records.specs.Record.{RecordState}
 use Rattle.ca_text.specs.Place.{At}
 use Rattle.ca_text.proofs.Places.{At-mapped, At-within, some_is}
-use Rattle.ca_model.specs.Server.{Ended, Open, OpenChannel, Server, ServerCircuit, ServerEnd, new_end}
+use Rattle.ca_model.specs.Server.{Ended, Open, OpenChannel, Server, ServerCircuit, ServerEnd, Subscription, new_end}
 use Rattle.ca_model.specs.ServerSteps.{Accepts}
 use Rattle.ca_server_core.specs.Sound.{EndIsSound, IsSound}
 use Rattle.ca_server_core.proofs.Cleared.{is-same, same-is}
@@ -31,6 +31,9 @@ no-channel h c is =
     let lt = At-within none h.index (place h c) (under-at none h c is) in
     absurd (omega (arith, lt))
 
+no-subscription : (s : Subscription) (k : ℕ) → (let none : List Subscription = [] in At none k s) → ⊥
+no-subscription s k at = cc
+
 -- a circuit was accepted
 pub sound-accepted : (rs : List Record) (t : Circuits) (h : Handle) (now : ℕ) → IsSound rs t → MayGive t h → IsSound rs (with_held h (Open (new_end now)) t)
 sound-accepted rs t h now i may = record {
@@ -46,6 +49,7 @@ sound-accepted rs t h now i may = record {
       live = refl;
       room = λ few. (0, no_queue, (refl, omega arith, (λ i q less at. absurd (omega (arith, less)))));
       few = omega arith;
+      on = λ s i. absurd (no-subscription s i.0 i.1);
       served = λ c o at. absurd (no-channel c o at);
       puts = λ j r k w at at' hit.
           let there = i.waits j r k w at at' in
@@ -96,7 +100,7 @@ accepts v y after c r same is g = (let new : Server = record v { circuits = afte
 
 -- an end whose link alone changed is as sound as before
 relinked-sound : (rs : List Record) (h : Handle) (e : ServerEnd) (l : LinkState) → l.input.closed ≡ false → EndIsSound rs h e → (let new : ServerEnd = record e { link = l } in EndIsSound rs h new)
-relinked-sound rs h e l live i = record { live = live; room = i.room; served = i.served; puts = i.puts; few = i.few }
+relinked-sound rs h e l live i = record { live = live; room = i.room; served = i.served; puts = i.puts; on = i.on; few = i.few }
 
 given-live : (now : ℕ) (bytes : List ℕ) (l : LinkState) → l.input.closed ≡ false → (with_given now bytes l).input.closed ≡ false
 given-live now [] l live = live

@@ -106,6 +106,7 @@ module _ (port now n : ℕ) (b : Clock) where
     served = i.served;
     puts = i.puts;
     few = i.few;
+    on = i.on;
   }
 
   pub step-at : (y : Server) (h : Handle) (c : ServerCircuit) (did : Stepped) (new : Server) → under y.circuits h ≡ Some c → StepsAt y h (Some c) did new → Steps y h did new

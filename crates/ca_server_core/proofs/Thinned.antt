@@ -69,7 +69,7 @@ covers-opened w t after now c (Err refusal.OutOfMemory) i is g = subst (λ (x : 
 covers-opened w t after now c (Err _) i is g = absurd g
 
 -- updates that leave take no subscription with them
-folds-subscriptions : (e : ServerEnd) (us : List Update) (after : ServerEnd) → FoldsTo Leaves e us after → after.subscriptions ≡ e.subscriptions
+pub folds-subscriptions : (e : ServerEnd) (us : List Update) (after : ServerEnd) → FoldsTo Leaves e us after → after.subscriptions ≡ e.subscriptions
 folds-subscriptions e [] after f = ap (λ (x : ServerEnd). x.subscriptions) (sym f)
 folds-subscriptions e (u ∷ us) after f = folds-subscriptions f.0 us after f.2 ∙ ap (λ (x : ServerEnd). x.subscriptions) f.1.leaves
 

@@ -16,12 +16,12 @@ ArePuts h rs t =
     → (c : OpenChannel) × (under t w.put.channel ≡ Some c) × (c.name ≡ r.state.name) × (c.retired ≡ false)
 
 -- the put is of this SID on a circuit
-abbrev pub is_on : Handle → (sid : ℕ) → Put → Bool
-is_on h sid p = same_handle p.circuit h && wire_of p.channel == sid
+abbrev pub is_on_sid : Handle → (sid : ℕ) → Put → Bool
+is_on_sid h sid p = same_handle p.circuit h && wire_of p.channel == sid
 
 -- the puts of this SID on a circuit that wait were taken out
 pub record Withdraws (h : Handle) (sid : ℕ) (s t : Store) : Type 0 where
-  pub records : records_of t ≡ withdrawn (is_on h sid) (records_of s)
+  pub records : records_of t ≡ withdrawn (is_on_sid h sid) (records_of s)
   pub rules : t.rules ≡ s.rules
   pub stamp : t.stamp ≡ s.stamp
 

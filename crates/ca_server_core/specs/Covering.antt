@@ -1,10 +1,10 @@
 -- Working: which circuits watch which records, beside the circuits of a server.
 use Rattle.std.specs.Prelude.{ℕ, ◌≡◌, Bool, false, List, Option, Some, None}
 use Rattle.std.specs.List.{list_any}
-use Rattle.std.specs.Str.{bytes_eq}
 use Rattle.ca_arena.specs.declared.handle.Handle.{Handle}
 use Rattle.ca_ids.specs.Table.{Table, under}
 use Rattle.ca_records.specs.Puts.{Record}
+use Rattle.ca_server_subscriptions.specs.Subscribed.{is_on}
 use Rattle.ca_server_watchers.specs.Watching.{IsAmong, Watched, watching}
 use Rattle.ca_model.specs.Server.{Open, ServerCircuit, ServerEnd, Subscription}
 use Rattle.ca_model.specs.Server as server
@@ -19,10 +19,6 @@ Covers w t = (h : Handle) (e : ServerEnd) (s : Subscription) → under t h ≡ S
 pub record IsServer (rs : List Record) (w : Watched) (t : Table ServerCircuit) : Type 0 where
   pub sound : IsSound rs t
   pub covered : Covers w t
-
--- the subscription is on the record of this name
-abbrev pub is_on : List ℕ → Subscription → Bool
-is_on name s = bytes_eq s.name name
 
 -- its end is open, and has a subscription on the record of this name
 abbrev pub watches : List ℕ → ServerCircuit → Bool

@@ -63,10 +63,12 @@ Recorded rs s h e m (Waits name value) new =
 Recorded rs s h e m (Clears sid) new = new ≡ withdrawn (λ (p : Put). same_handle p.circuit h && wire_of p.channel == sid) rs
 Recorded rs s h e m action new = new ≡ rs
 
--- A channel is created to a record that is there; and a put waits on the record of its channel.
+-- A channel is created to a record that is there; and a put waits on the record of its channel, and a subscription begins on that of its own.
 abbrev pub Fits : List Record → ServerEnd → Fields → Action → Type 0
 Fits rs e m (Opens c) = (r : Record) × (record_named rs c.name ≡ Some r)
 Fits rs e m (Waits name value) = (c : Handle × OpenChannel) × (by_wire e.channels m.p1 ≡ Some c) × (c.1.name ≡ name) × (c.1.retired ≡ false)
+Fits rs e m (Adds x) =
+    (c : Handle × OpenChannel) × (by_wire e.channels m.p1 ≡ Some c) × (c.1.name ≡ x.name) × (c.1.retired ≡ false) × (x.wanted.sid ≡ m.p1)
 Fits rs e m action = Unit {0}
 
 -- the message is of this command, which leaves its server nothing to do

@@ -18,3 +18,4 @@ pub mod Covering
 pub mod Reaching
 pub mod Following
 pub mod Pumping
+pub mod Removing

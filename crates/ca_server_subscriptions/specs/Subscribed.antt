@@ -1,6 +1,7 @@
 -- Working: the subscriptions of an end, and the queues that have them.
 use Rattle.std.specs.Prelude.{ℕ, ◌≡◌, ◌<◌, ◌≤◌, ◌+◌, ◌*◌, ◌==◌, ◌⊎◌, Bool, true, not, List, [], ◌∷◌, ◌++◌, filter, if◌then◌else◌, length, map, replicate, slice_set}
 use Rattle.std.specs.List.{fold}
+use Rattle.std.specs.Str.{bytes_eq}
 use Rattle.ca_text.specs.Limits.{circuit_queues, element_limit, queue_subscriptions}
 use Rattle.ca_text.specs.Place.{At}
 use Rattle.ca_queue.specs.declared.entry.SubKey.{SubKey}
@@ -55,6 +56,10 @@ pub record ArePlaced (es : Standings) (qs : List (Queue Stored)) : Type 0 where
 -- no subscription
 abbrev pub none_yet : Subscribed
 none_yet = record { subscriptions = []; queues = replicate circuit_queues no_queue }
+
+-- the subscription is on the record of this name
+abbrev pub is_on : (name : List ℕ) → Subscription → Bool
+is_on name s = bytes_eq s.name name
 
 -- a subscription has this key
 abbrev pub has_key : SubKey → Subscribed → Bool

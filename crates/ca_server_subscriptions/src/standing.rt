@@ -1,8 +1,8 @@
 ghost use Rattle.std.specs.Prelude.{◌≡◌};
-ghost use Rattle.std.specs.Str.{bytes_eq};
 ghost use Rattle.ca_model.specs.Server.{concerns};
-ghost use Rattle.ca_server_subscriptions.specs.Subscribed.{IsAskable};
+ghost use Rattle.ca_server_subscriptions.specs.Subscribed.{IsAskable, is_on};
 
+use ca_text::Mask;
 use ca_wire::Wanted;
 use std::marker::Model;
 
@@ -61,7 +61,7 @@ impl Standing {
 
     // Whether it is on the record of this name.
     pub(crate) fn is_on(&self, name: &[u8]) -> bool
-        ensures { result ≡ bytes_eq self.now.0.name name.now }
+        ensures { result ≡ is_on name.now self.now.0 }
     {
         self.name.as_slice() == name
     }
@@ -70,6 +70,6 @@ impl Standing {
     pub(crate) fn is_concerned(&self, name: &[u8], mask: u16) -> bool
         ensures { result ≡ concerns name.now mask self.now.0 }
     {
-        self.name.as_slice() == name && (mask & self.mask) % 16 != 0
+        self.is_on(name) && Mask::new(mask & self.mask).is_some()
     }
 }

@@ -1,13 +1,12 @@
 ghost use Rattle.std.specs.Prelude.{◌≡◌, ◌<◌, ◌==◌, ◌≤◌, ◌*◌, IfOk, IfSome, OnErr, OnOk, false, true, map, length, option_to_list, slice_get};
 ghost use Rattle.std.specs.List.{list_any};
-ghost use Rattle.std.specs.Str.{bytes_eq};
 ghost use Rattle.ca_text.specs.Limits.{circuit_queues, element_limit, queue_subscriptions};
 ghost use Rattle.ca_dbr.specs.Elements.{count_of, elements};
 ghost use Rattle.ca_queue.specs.Keys.{same};
 ghost use Rattle.ca_queue.specs.Queue.{switched};
 ghost use Rattle.ca_model.specs.Server.{concerns};
 ghost use Rattle.ca_server_subscriptions.specs.Pumping.{GivesUpdate};
-ghost use Rattle.ca_server_subscriptions.specs.Subscribed.{AreKnown, AtPlace, HasRoom, IsAskable, Joins, PassesAt, after_post, has_key, is_of_sid, none_yet, with_update, without_one, without_those};
+ghost use Rattle.ca_server_subscriptions.specs.Subscribed.{AreKnown, AtPlace, HasRoom, IsAskable, Joins, PassesAt, after_post, has_key, is_of_sid, is_on, none_yet, with_update, without_one, without_those};
 
 use crate::standing::Standing;
 use crate::update::Update;
@@ -150,8 +149,8 @@ impl Subscriptions {
         let _ = &self.standing;
     }
 
-    /// A post to the record of this name: each that it concerns gets an update, in their order. Without memory for one some have it, so
-    /// that the end is to be closed.
+    /// A post to the record of this name: each that it concerns gets an update, in their order. Without memory for one all subscriptions
+    /// stay, and some have the update, so that the end is to be closed.
     pub fn post(
         &mut self,
         alloc: Global,
@@ -165,6 +164,7 @@ impl Subscriptions {
             (record { value = elements value.now; meta = meta.now }) self.old) }
         ensures err { OnErr result
             (list_any (concerns name.now mask) self.old.subscriptions ≡ true) }
+        ensures stay { OnErr result (self.new.subscriptions ≡ self.old.subscriptions) }
     {
         'posting: for place in 0..self.len() {
             self.post_at(alloc, place, name, mask, value, meta)?;
@@ -187,6 +187,7 @@ impl Subscriptions {
             (with_update (record { value = elements value.now; meta = meta.now })) place self.old
             self.new) }
         ensures err { OnErr result (PassesAt (concerns name.now mask) place self.old) }
+        ensures stay { OnErr result (self.new ≡ self.old) }
     {
         let Some((key, standing)) = self.standing.get_index(place) else {
             return Ok(());
@@ -202,7 +203,7 @@ impl Subscriptions {
 
     /// Whether one of them is on the record of this name.
     pub fn watches(&self, name: &[u8]) -> bool
-        ensures { result ≡ list_any (λ s. bytes_eq s.name name.now) self.now.subscriptions }
+        ensures { result ≡ list_any (is_on name.now) self.now.subscriptions }
     {
         'seeking: for place in 0..self.len() {
             if self.is_on(place, name) {
@@ -214,7 +215,7 @@ impl Subscriptions {
 
     // Whether the one at this place, if there is one, is on the record of this name.
     fn is_on(&self, place: usize, name: &[u8]) -> bool
-        ensures { result ≡ list_any (λ s. bytes_eq s.name name.now)
+        ensures { result ≡ list_any (is_on name.now)
             (option_to_list (slice_get self.now.subscriptions place)) }
     {
         match self.standing.get_index(place) {

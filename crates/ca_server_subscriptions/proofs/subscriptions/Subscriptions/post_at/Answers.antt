@@ -18,6 +18,7 @@ returns-then-not-is_concerned c =
       ok = at-entry es qs c.self.invariant (concerns c.args.name.now c.args.mask) (with_update v) c.args.self.now c.args.self.now c.args.place e false c.self.view_is
           (sym c.in-Some.ensures.entry) (sym c.is_concerned.ensures ∙ c.if-not-is_concerned.true) (λ i. c.args.self.now);
       err = tt;
+      stay = tt;
     }
 
 pub invariant_of-self : goal.invariant_of-self
