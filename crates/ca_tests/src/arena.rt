@@ -1,5 +1,6 @@
 use ca_arena::{Arena, Handle};
 use ca_text::{ARENA_SLOTS, LAST_GENERATION, Refusal};
+use std::alloc::Global;
 use std::test::Fail;
 
 const fn handle(index: u16, generation: u32) -> Handle {
@@ -10,23 +11,44 @@ const fn handle(index: u16, generation: u32) -> Handle {
 fn freed_index_comes_back_with_next_generation(rt: HostRuntime) -> Result<(), Fail> {
     let mut arena = Arena::new(rt.alloc());
     let a = arena.insert(b'a')?;
-    let b = arena.insert(b'b')?;
+    arena.insert(b'b')?;
     assert!(rt; arena.remove(a)? == b'a');
     assert!(rt; arena.handle_at(0) == None);
-    let c = arena.insert(b'c')?;
-    assert!(rt; c == handle(0, 2));
+    assert!(rt; arena.insert(b'c')? == handle(0, 2));
     assert!(rt; arena.get(a).copied() == None);
     assert!(rt; arena.remove(a) == Err(Refusal::StaleHandle));
-    if let Some(value) = arena.get_mut(b) {
+    Ok(())
+}
+
+/// Two values, after a third one was removed: the handles (0, 2) and (1, 1).
+fn arena_of_two(alloc: Global) -> Result<Arena<u8>, Fail> {
+    let mut arena = Arena::new(alloc);
+    let first = arena.insert(b'a')?;
+    arena.insert(b'b')?;
+    arena.remove(first)?;
+    arena.insert(b'c')?;
+    Ok(arena)
+}
+
+#[test]
+fn a_value_is_changed_in_its_place(rt: HostRuntime) -> Result<(), Fail> {
+    let mut arena = arena_of_two(rt.alloc())?;
+    if let Some(value) = arena.get_mut(handle(1, 1)) {
         *value = b'd';
     }
-    assert!(rt; arena.get(b).copied() == Some(b'd'));
-    assert!(rt; arena.next_of(None) == Some(c));
-    assert!(rt; arena.next_of(Some(a)) == Some(b));
-    assert!(rt; arena.next_of(Some(b)) == None);
-    assert!(rt; arena.handle_at(1) == Some(handle(1, 1)));
+    assert!(rt; arena.get(handle(1, 1)).copied() == Some(b'd'));
     assert!(rt; arena.len() == 2);
     assert!(rt; !arena.is_empty());
+    Ok(())
+}
+
+#[test]
+fn handles_come_by_their_index(rt: HostRuntime) -> Result<(), Fail> {
+    let arena = arena_of_two(rt.alloc())?;
+    assert!(rt; arena.next_of(None) == Some(handle(0, 2)));
+    assert!(rt; arena.next_of(Some(handle(0, 1))) == Some(handle(1, 1)));
+    assert!(rt; arena.next_of(Some(handle(1, 1))) == None);
+    assert!(rt; arena.handle_at(1) == Some(handle(1, 1)));
     Ok(())
 }
 

@@ -24,7 +24,7 @@ fn retired_handle_is_stale_while_its_id_drains(rt: HostRuntime) -> Result<(), Fa
 }
 
 #[test]
-fn id_comes_back_after_it_drained(rt: HostRuntime) -> Result<(), Fail> {
+fn id_of_the_next_index_while_one_drains(rt: HostRuntime) -> Result<(), Fail> {
     let mut table = IdTable::new(rt.alloc());
     let (first, id) = table.open(b'a')?;
     assert!(rt; id.number() == 0x0001_0000);
@@ -33,6 +33,15 @@ fn id_comes_back_after_it_drained(rt: HostRuntime) -> Result<(), Fail> {
     let (second, other) = table.open(b'b')?;
     assert!(rt; other.number() == 0x0001_0001);
     assert!(rt; table.next_of(None) == Some(second));
+    Ok(())
+}
+
+#[test]
+fn id_comes_back_after_it_drained(rt: HostRuntime) -> Result<(), Fail> {
+    let mut table = IdTable::new(rt.alloc());
+    let (first, id) = table.open(b'a')?;
+    table.retire(first)?;
+    table.open(b'b')?;
     table.drained(id)?;
     assert!(rt; table.by_wire(id) == Err(Refusal::StaleHandle));
     let (third, again) = table.open(b'c')?;

@@ -167,21 +167,33 @@ fn values_are_answered(rt: HostRuntime) -> Result<(), Fail> {
 }
 
 #[test]
-fn messages_say_what_they_name(rt: HostRuntime) -> Result<(), Fail> {
+fn requests_say_what_they_name(rt: HostRuntime) -> Result<(), Fail> {
     let create = create_request(rt.alloc(), Cid::new(ID), b"TEMP")?;
     assert!(rt; create.channel_cid() == Cid::new(ID));
     assert!(rt; create.text() == b"TEMP".as_slice());
     let read = read_request(rt.alloc(), one_long());
     assert!(rt; read.wanted() == one_long());
-    let created = created_reply(rt.alloc(), &create, 5, 1, Sid::new(9)).created();
-    assert!(rt; created.sid == Sid::new(9) && created.cid == Cid::new(ID));
     let ids = clear_request(rt.alloc(), Sid::new(9), Cid::new(ID)).channel_ids();
     assert!(rt; ids.sid == Sid::new(9) && ids.cid == Cid::new(ID));
+    Ok(())
+}
+
+#[test]
+fn replies_say_what_they_name(rt: HostRuntime) -> Result<(), Fail> {
+    let create = create_request(rt.alloc(), Cid::new(ID), b"TEMP")?;
+    let created = created_reply(rt.alloc(), &create, 5, 1, Sid::new(9)).created();
+    assert!(rt; created.sid == Sid::new(9) && created.cid == Cid::new(ID));
+    let found = search_reply(rt.alloc(), 5_064, &create)?.found();
+    assert!(rt; found.port == 5_064 && found.address == u32::MAX);
+    Ok(())
+}
+
+#[test]
+fn an_error_says_what_it_quotes(rt: HostRuntime) -> Result<(), Fail> {
+    let read = read_request(rt.alloc(), one_long());
     let error = error_reply(rt.alloc(), Cid::new(ID), Status::PUTFAIL, &read)?;
     assert!(rt; error.error_status() == Status::PUTFAIL);
     let quoted = error.quoted().ok_or("no header")?;
     assert!(rt; quoted.header == read.header());
-    let found = search_reply(rt.alloc(), 5_064, &create)?.found();
-    assert!(rt; found.port == 5_064 && found.address == u32::MAX);
     Ok(())
 }

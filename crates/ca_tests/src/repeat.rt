@@ -1,4 +1,5 @@
-use ca_repeat::{Address, RepeaterCore};
+use ca_repeat::{Address, Outgoing, RepeaterCore};
+use std::process::Abort;
 use std::test::Fail;
 
 /// A beacon that names no address, and the same with the address 127.0.0.1.
@@ -17,27 +18,29 @@ const fn local(port: u16) -> Address {
     }
 }
 
+/// These bytes go to the members at these ports, in this order.
+fn go_to<R: Abort>(rt: &R, sends: &[Outgoing], ports: &[u16], bytes: &[u8]) {
+    assert!(rt; sends.len() == ports.len());
+    for (sent, port) in sends.iter().zip(ports) {
+        assert!(rt; sent.to() == local(*port));
+        assert!(rt; sent.bytes() == bytes);
+    }
+}
+
 #[test]
 fn a_beacon_goes_to_the_others(rt: HostRuntime) -> Result<(), Fail> {
     let mut repeater = RepeaterCore::new(rt.alloc());
     for port in [40_000u16, 40_001, 40_002] {
         let sends = repeater.receive(local(port), REGISTER)?;
-        assert!(rt; sends.len() == 1);
-        assert!(rt; sends[0].to() == local(port));
-        assert!(rt; sends[0].bytes() == CONFIRM);
+        go_to(&rt, &sends, &[port], CONFIRM);
     }
     for datagram in [BLANK, FILLED] {
         let sends = repeater.receive(local(40_000), datagram)?;
-        assert!(rt; sends.len() == 2);
-        assert!(rt; sends[0].to() == local(40_001));
-        assert!(rt; sends[0].bytes() == FILLED);
-        assert!(rt; sends[1].to() == local(40_002));
-        assert!(rt; sends[1].bytes() == FILLED);
+        go_to(&rt, &sends, &[40_001, 40_002], FILLED);
     }
     repeater.refused(local(40_001));
     let sends = repeater.receive(local(40_000), BLANK)?;
-    assert!(rt; sends.len() == 1);
-    assert!(rt; sends[0].to() == local(40_002));
+    go_to(&rt, &sends, &[40_002], FILLED);
     Ok(())
 }
 
