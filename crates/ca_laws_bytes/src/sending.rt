@@ -15,7 +15,7 @@ ghost use Rattle.ca_model_world.specs.Runs.{AreEvents, Happens, IsEvent, Runs};
 ghost use Rattle.ca_model_world.specs.ServerEvents.{disconnected_at};
 ghost use Rattle.ca_model_world.specs.World.{IsSetting, Setting, World, opening};
 ghost use Rattle.ca_laws_bytes.specs.Runs.{HearsSent, Stands};
-ghost use Rattle.ca_laws_bytes.specs.ServerFits.{ServerFits, ServersFit};
+ghost use Rattle.ca_laws_bytes.specs.ServerFits.{AllCaused, ServerFits, ServersFit};
 ghost use Rattle.ca_laws_bytes.specs.Streams.{AreMessages};
 
 /// All that a server's calls send are messages, each field of its width, and its core fits messages
@@ -74,4 +74,7 @@ pub fn servers_send_messages_in_runs()
         → IsSetting s → AreEvents es → Runs s es stopped w → ServersFit w }
     ensures hears { (s : Setting) (es : List Event) (stopped : Option Event) (w : World)
         → IsSetting s → AreEvents es → Runs s es stopped w → HearsSent w }
+    // What a server sends that is no reply is a SERVER_DISCONN, or an EVENT_ADD with a payload.
+    ensures caused { (s : Setting) (es : List Event) (stopped : Option Event) (w : World)
+        → IsSetting s → AreEvents es → Runs s es stopped w → AllCaused w }
 {}
