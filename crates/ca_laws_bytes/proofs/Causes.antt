@@ -1,5 +1,5 @@
 -- What servers told has a cause of its kind, whatever happens.
-use Rattle.std.proofs.Common.{◌≡◌, ℕ, ◌+◌, zero, suc, inl, inr, ◌⊎◌, Bool, true, false, ◌&&◌, cond, eqb, List, [], ◌∷◌, ◌++◌, length, Option, Some, None, refl, sym, ap, ◌∙◌, subst, arith}
+use Rattle.std.proofs.Common.{◌≡◌, ℕ, ◌+◌, zero, suc, inl, inr, ◌⊎◌, Bool, true, false, ◌&&◌, cond, eqb, List, [], ◌∷◌, ◌++◌, length, Option, Some, None, refl, sym, ap, subst, arith}
 use Rattle.std.specs.List.{FoldsTo, list_any}
 use Rattle.std.specs.Prelude.{filter, map, not, option_map, slice_get, slice_set, unwrap_or}
 use Rattle.std.specs.Str.{bytes_eq}
@@ -11,6 +11,7 @@ use Rattle.ca_queue.specs.declared.entry.SubKey.{SubKey}
 use Rattle.ca_queue.specs.Queue.{Queue, with_front_taken}
 use Rattle.ca_records.specs.Puts.{WaitingPut}
 use Rattle.ca_records.specs.Record.{RecordState}
+use Rattle.ca_text.specs.declared.command.Command.TheVariants as command
 use Rattle.ca_text.specs.Place.{At}
 use Rattle.ca_text.proofs.Places.{At-mapped, At-parts, At-set, At-snoc, some_is}
 use Rattle.ca_wire.specs.Fields.{Fields}
@@ -20,11 +21,12 @@ use Rattle.ca_model.specs.Ends as why
 use Rattle.ca_model.specs.History.{Cause, Circuit, Collected, GaveUp, Reply, Told}
 use Rattle.ca_model.specs.Server.{OpenChannel, Server}
 use Rattle.ca_model.specs.ServerSteps.{Closed, Handled, NeedBytes, OutputFull, Stepped, Update, closed}
+use Rattle.ca_model.specs.Speech.{Is}
 use Rattle.ca_model_world.specs.ClientEvents.{DownTaken, HappensAccept, HappensDown, HappensUp, WantsFirst, connected_as, new_circuit, up_taken}
 use Rattle.ca_model_world.specs.Events.{Event}
 use Rattle.ca_model_world.specs.Events as event
 use Rattle.ca_model_world.specs.Runs.{AreEvents, Happens, Runs, StopsAt, clients_below}
-use Rattle.ca_model_world.specs.ServerEvents.{HappensAdd, HappensCutServer, HappensFinish, HappensPost, HappensPump, HappensRemove, HappensServerRestart, HappensServerStep, ServerStepped, about, acted, disconnected_at, ending, ends_by, ends_here, ends_untold, front_number, handled_at, logged, next_busy, next_numbers, numbers_after, numbers_posted, removal_told, removed_at, replied_at, server_after, server_closed, side_of, stamped, unsaid, with_record, without_standing, write_numbers}
+use Rattle.ca_model_world.specs.ServerEvents.{HappensAdd, HappensCutServer, HappensFinish, HappensPost, HappensPump, HappensRemove, HappensServerRestart, ServerStepped, about, acted, disconnected_at, ending, ends_by, ends_here, ends_untold, front_number, handled_at, logged, next_busy, next_numbers, numbers_after, numbers_posted, removal_told, removed_at, replied_at, server_after, server_closed, side_of, stamped, unsaid, with_record, without_standing, write_numbers}
 use Rattle.ca_model_world.specs.World.{ClientSide, IsSetting, Joined, RecordSide, ServerSide, Setting, World, opening, with_circuit, with_entries, with_server}
 use Rattle.ca_laws_runs.proofs.Handled.{numbers-like, posted-like, writes-like}
 use Rattle.ca_laws_writes.proofs.Frames.{Frame, frame-after, frame-self, frame-then}
@@ -287,3 +289,11 @@ stops-caused mid stopped w stops all = subst (λ (z : World). AllCaused z) (sym 
 pub runs-caused : (s : Setting) (es : List Event) (stopped : Option Event) (w : World) → IsSetting s → AreEvents es → Runs s es stopped w → AllCaused w
 runs-caused s es stopped w ok fine (mid, folds, stops) =
     stops-caused mid stopped w stops (events-caused s es (opening s) mid ok fine folds (opening-stands s ok) (opening-servers s ok) (opening-caused s))
+
+-- what is no SERVER_DISCONN, and has no payload if it is an EVENT_ADD, is a reply
+pub is-reply : (w : World) → AllCaused w → (n i : ℕ) (c : Joined) (t : Told) → At w.circuits n c → At c.lists.down i t → (Is command.ServerDisconnect t.message → ⊥) → (Is command.EventAdd t.message → t.message.payload ≡ []) → t.cause ≡ Reply
+is-reply w all n i c t at there other empty = elim (all.each n c at i t there) [
+  | inl reply ↦ reply
+  | inr (inl removal) ↦ absurd (other removal)
+  | inr (inr update) ↦ absurd (update.1 (empty update.0))
+]
