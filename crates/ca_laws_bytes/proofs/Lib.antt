@@ -26,3 +26,4 @@ pub mod ServerFits
 pub mod ServerCalls
 pub mod ServerSpeaking
 pub mod Asking
+pub mod Causes
