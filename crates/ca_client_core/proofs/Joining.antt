@@ -18,8 +18,6 @@ use Rattle.ca_model_client.proofs.Tables.{all-back, changed-own}
 use Rattle.ca_client_core.specs.Listed.{AreListed}
 use Rattle.ca_client_core.proofs.Listing.{listed-thin}
 use Rattle.ca_model_client.proofs.Standings.{searched-is}
-use Rattle.ca_client_core.specs.Finding.{IsFound, IsFoundIn, IsSought, circuit_in}
-use Rattle.ca_client_core.proofs.Found.{found-split}
 use Rattle.ca_client_core.proofs.Placing.{plain}
 
 abbrev connection-of : Option ClientCircuit → Option Connection
