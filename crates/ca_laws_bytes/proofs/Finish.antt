@@ -45,16 +45,16 @@ module _ (s : Setting) (w new : World) (i : ℕ) (y : ServerSide) (name : List �
   abbrev put : Put
   put = f.finishes.0.p
 
-  abbrev side : ServerSide
+  abbrev pub side : ServerSide
   side = record y { records = event.with_record name next_busy y.records }
 
-  abbrev told : World
+  abbrev pub told : World
   told = finish_told w i y name f.cr f.r f.p
 
-  abbrev mid : World
+  abbrev pub mid : World
   mid = replied_at f.p f.sent told
 
-  abbrev said : List Fields
+  abbrev pub said : List Fields
   said = map (λ (x : Handle × Fields). x.1) f.sent
 
   abbrev reply : Joined → Joined
@@ -142,7 +142,7 @@ module _ (s : Setting) (w new : World) (i : ℕ) (y : ServerSide) (name : List �
   f-next = next_numbers i y.core name f.cr.waiting
 
   -- the world in which the reply is told
-  mid-is : (n : ℕ) (m : Joined) → At mid.circuits n m → (c : Joined) × At w.circuits n c × (((n ≡ f.p.circuit) × Tells c m said) ⊎ ((n ≡ f.p.circuit → ⊥) × Tells c m []))
+  pub mid-is : (n : ℕ) (m : Joined) → At mid.circuits n m → (c : Joined) × At w.circuits n c × (((n ≡ f.p.circuit) × Tells c m said) ⊎ ((n ≡ f.p.circuit → ⊥) × Tells c m []))
   mid-is n m there = go (slice_get told.circuits f.p.circuit) refl there
     where
       go : (o : Option Joined) → slice_get told.circuits f.p.circuit ≡ o → At (unwrap_or (option_map (λ (j : Joined). with_circuit f.p.circuit (reply j) told) o) told).circuits n m
@@ -172,7 +172,7 @@ module _ (s : Setting) (w new : World) (i : ℕ) (y : ServerSide) (name : List �
       go None = refl
       go (Some j) = refl
 
-  mid-servers : mid.servers ≡ slice_set w.servers i side
+  pub mid-servers : mid.servers ≡ slice_set w.servers i side
   mid-servers = go (slice_get told.circuits f.p.circuit)
     where
       go : (o : Option Joined) → (unwrap_or (option_map (λ (j : Joined). with_circuit f.p.circuit (reply j) told) o) told).servers ≡ slice_set w.servers i side

@@ -21,30 +21,30 @@ use Rattle.ca_model.specs.Client.{Channel, Client, ClientCircuit, Connection, Co
 use Rattle.ca_model.specs.ClientCalls.{unsubscribed_all, unwanted, all_over, cleared}
 use Rattle.ca_model.specs.Ends.{Peer}
 use Rattle.ca_model_client.proofs.Tables.{all-back, all-freed-back, changed-back, freed-back, held-back, under-at}
-use Rattle.ca_laws_bytes.specs.Speaks.{AllMessages, ChannelFits, CircuitFits, ClientFits, Holds, SearchesFit, SubscriptionFits}
+use Rattle.ca_laws_bytes.specs.Speaks.{SendsMessages, ChannelFits, CircuitFits, ClientFits, AllHeld, SearchesFit, SubscriptionFits}
 
 -- ---- tables
 
 module _ {T : Type 0} (P : T → Type 0) where
-  pub holds-held : (t : Table T) (h : Handle) (v : T) → MayGive t h → Holds P t → P v → Holds P (with_held h v t)
+  pub holds-held : (t : Table T) (h : Handle) (v : T) → MayGive t h → AllHeld P t → P v → AllHeld P (with_held h v t)
   holds-held t h v may all one g w is = elim (held-back t g h v w is) [
     | inl own ↦ subst P (sym own.1) one
     | inr old ↦ all g w old
   ]
 
-  pub holds-changed : (f : T → T) (t : Table T) (h : Handle) → Holds P t → ((u : T) → under t h ≡ Some u → P u → P (f u)) → Holds P (with_changed f h t)
+  pub holds-changed : (f : T → T) (t : Table T) (h : Handle) → AllHeld P t → ((u : T) → under t h ≡ Some u → P u → P (f u)) → AllHeld P (with_changed f h t)
   holds-changed f t h all one g w is = elim (changed-back f t g h w is) [
     | inl own ↦ subst P (sym own.1.2) (one own.1.0 own.1.1 (all h own.1.0 own.1.1))
     | inr old ↦ all g w old.1
   ]
 
-  pub holds-freed : (t : Table T) (h : Handle) → Holds P t → Holds P (with_freed h t)
+  pub holds-freed : (t : Table T) (h : Handle) → AllHeld P t → AllHeld P (with_freed h t)
   holds-freed t h all g w is = all g w (freed-back t g h w is).1
 
-  pub holds-all : (f : T → T) (t : Table T) → Holds P t → ((u : T) → P u → P (f u)) → Holds P (with_all f t)
+  pub holds-all : (f : T → T) (t : Table T) → AllHeld P t → ((u : T) → P u → P (f u)) → AllHeld P (with_all f t)
   holds-all f t all one g w is = (let b = all-back f t g w is in subst P (sym b.2) (one b.0 (all g b.0 b.1)))
 
-  pub holds-all-freed : (test : T → Bool) (t : Table T) → Holds P t → Holds P (with_all_freed test t)
+  pub holds-all-freed : (test : T → Bool) (t : Table T) → AllHeld P t → AllHeld P (with_all_freed test t)
   holds-all-freed test t all g w is = all g w (all-freed-back test t g w is).0
 
 -- an id of a table with no more slots than an arena fits a message
@@ -83,12 +83,12 @@ all-fit f cs same fit i d at =
 
 -- ---- changes of a core
 
-pub fits-circuits : (x y : Client) → y.peer ≡ x.peer → y.channels ≡ x.channels → y.subscriptions ≡ x.subscriptions → y.searches ≡ x.searches → Holds CircuitFits y.circuits → ClientFits x → ClientFits y
+pub fits-circuits : (x y : Client) → y.peer ≡ x.peer → y.channels ≡ x.channels → y.subscriptions ≡ x.subscriptions → y.searches ≡ x.searches → AllHeld CircuitFits y.circuits → ClientFits x → ClientFits y
 fits-circuits x y peer channels subscriptions searches circuits f = record {
   user = subst (λ (p : Peer). length p.user < payload_limit) (sym peer) f.user;
   host = subst (λ (p : Peer). length p.host < payload_limit) (sym peer) f.host;
-  channels = subst (λ (t : Table Channel). Holds ChannelFits t) (sym channels) f.channels;
-  subscriptions = subst (λ (t : Table Subscription). Holds SubscriptionFits t) (sym subscriptions) f.subscriptions;
+  channels = subst (λ (t : Table Channel). AllHeld ChannelFits t) (sym channels) f.channels;
+  subscriptions = subst (λ (t : Table Subscription). AllHeld SubscriptionFits t) (sym subscriptions) f.subscriptions;
   circuits = circuits;
   searches = subst (λ (l : List (ℕ × search.Channel)). SearchesFit l) (sym searches) f.searches;
 }
@@ -134,12 +134,12 @@ pub gone-fits : (x : Client) (h : Handle) → ClientFits x → ClientFits (witho
 gone-fits x h f =
     record { user = f.user; host = f.host; channels = holds-freed ChannelFits x.channels h f.channels; subscriptions = f.subscriptions; circuits = f.circuits; searches = without-fits (wire_of h) x.searches f.searches }
 
-pub subscriptions-fit : (x : Client) (t : Table Subscription) → Holds SubscriptionFits t → ClientFits x → ClientFits (record x { subscriptions = t })
+pub subscriptions-fit : (x : Client) (t : Table Subscription) → AllHeld SubscriptionFits t → ClientFits x → ClientFits (record x { subscriptions = t })
 subscriptions-fit x t all f = record { user = f.user; host = f.host; channels = f.channels; subscriptions = all; circuits = f.circuits; searches = f.searches }
 
 -- requests, their order, the moment and beacons play no part
 pub fits-like : (x y : Client) → y.peer ≡ x.peer → y.channels ≡ x.channels → y.subscriptions ≡ x.subscriptions → y.searches ≡ x.searches → y.circuits ≡ x.circuits → ClientFits x → ClientFits y
-fits-like x y peer channels subscriptions searches circuits f = fits-circuits x y peer channels subscriptions searches (subst (λ (t : Table ClientCircuit). Holds CircuitFits t) (sym circuits) f.circuits) f
+fits-like x y peer channels subscriptions searches circuits f = fits-circuits x y peer channels subscriptions searches (subst (λ (t : Table ClientCircuit). AllHeld CircuitFits t) (sym circuits) f.circuits) f
 
 pub all-over-fits : (c h : Handle) (x : Client) → ClientFits x → ClientFits (all_over c h x)
 all-over-fits c h x f =
@@ -219,12 +219,12 @@ pub text-fits : (text : List ℕ) → length text < payload_limit → IsPayload 
 text-fits text lt = padded-payload (text ++ 0 ∷ []) (omega (arith, length-append text (0 ∷ [])))
 
 -- what holds of each of these
-pub none-sent : AllMessages []
+pub none-sent : SendsMessages []
 none-sent i s at = absurd cc
 
-pub one-more : (s : Sending) (sent : List Sending) → IsMessage s.message → AllMessages sent → AllMessages (s ∷ sent)
+pub one-more : (s : Sending) (sent : List Sending) → IsMessage s.message → SendsMessages sent → SendsMessages (s ∷ sent)
 one-more s sent good rest zero r at = subst (λ (z : Sending). IsMessage z.message) (some_is s r at) good
 one-more s sent good rest (suc i) r at = rest i r at
 
-pub both-sent : (xs ys : List Sending) → AllMessages xs → AllMessages ys → AllMessages (xs ++ ys)
+pub both-sent : (xs ys : List Sending) → SendsMessages xs → SendsMessages ys → SendsMessages (xs ++ ys)
 both-sent xs ys a b i s at = elim (At-parts xs ys i s at) [ inl front ↦ a i s front | inr back ↦ b back.0 s back.2 ]

@@ -20,7 +20,7 @@ use Rattle.ca_model.specs.Answers.{Notice, Sending}
 use Rattle.ca_model.specs.Client.{Channel, Client, ClientCircuit, Clearing, Connecting, Connection, Creating, Doomed, Leaving, Live, Native, On, Phase, Searching, Standing, channel_on, circuit_to, found_on, new_circuit, phase_on, searched_again, with_requests, with_standing, without_channel}
 use Rattle.ca_laws_circuit.specs.Held.{AreFew}
 use Rattle.ca_model_client.proofs.Tables.{find-at, held-under}
-use Rattle.ca_laws_bytes.specs.Speaks.{AllMessages, ChannelFits, CircuitFits, ClientFits, Speaks, SubscriptionFits}
+use Rattle.ca_laws_bytes.specs.Speaks.{SendsMessages, ChannelFits, CircuitFits, ClientFits, SpeaksWell, SubscriptionFits}
 use Rattle.ca_laws_bytes.proofs.Fits.{fits-circuits, fits-like, fits-sending, found-fits, gone-fits, holds-all-freed, holds-freed, holds-held, never-live, none-sent, not-clearing, one-more, searched-fits, standing-fits, subscriptions-fit, wire-under}
 use Rattle.ca_laws_bytes.proofs.Speaks.{add-good, clear-good, create-good}
 use Rattle.ca_model_client.proofs.Tables as circuit
@@ -45,10 +45,10 @@ filtered-at {A} test (x ∷ xs) i y at = go (test x) i at (λ k e. filtered-at t
 -- ---- messages that are heard
 
 module _ (x : Client) (few : AreFew x) (f : ClientFits x) where
-  pub doing-speaks : (z : Client) (e : Effect) (sends : List Sending) (notices : List Notice) → ClientFits z → AllMessages sends → e ≡ doing sends notices z → Speaks e.core e.sent
-  doing-speaks z e sends notices fits good is = subst (λ (q : Effect). Speaks q.core q.sent) (sym is) (fits-sending sends z fits, good)
+  pub doing-speaks : (z : Client) (e : Effect) (sends : List Sending) (notices : List Notice) → ClientFits z → SendsMessages sends → e ≡ doing sends notices z → SpeaksWell e.core e.sent
+  doing-speaks z e sends notices fits good is = subst (λ (q : Effect). SpeaksWell q.core q.sent) (sym is) (fits-sending sends z fits, good)
 
-  pub quiet-speaks : (z : Client) (e : Effect) (notices : List Notice) → ClientFits z → e ≡ doing [] notices z → Speaks e.core e.sent
+  pub quiet-speaks : (z : Client) (e : Effect) (notices : List Notice) → ClientFits z → e ≡ doing [] notices z → SpeaksWell e.core e.sent
   quiet-speaks z e notices fits is = doing-speaks z e [] notices fits none-sent is
 
   -- what a channel on a circuit is
@@ -78,7 +78,7 @@ module _ (x : Client) (few : AreFew x) (f : ClientFits x) where
 
   -- ---- search replies
 
-  put-on-speaks : (z : Client) (c : Handle) (o : Option Connection) (h : Handle) (here : Channel) (e : Effect) → ClientFits z → wire_of h < 2 ^ 32 → length here.name ≤ channel_name_limit → e ≡ put_on c o h here z → Speaks e.core e.sent
+  put-on-speaks : (z : Client) (c : Handle) (o : Option Connection) (h : Handle) (here : Channel) (e : Effect) → ClientFits z → wire_of h < 2 ^ 32 → length here.name ≤ channel_name_limit → e ≡ put_on c o h here z → SpeaksWell e.core e.sent
   put-on-speaks z c (Some d) h here e fits id name is = doing-speaks (found_on c (Creating 0) h z) e (create_sent c h here ∷ []) [] (found-fits c (Creating 0) h z not_creating fits) (one-more _ [] (create-good (wire_of h) here.name id name) none-sent) is
     where
       not_creating : (n : Native) (r : ℕ) → Creating 0 ≡ Live n r → ⊥
@@ -88,21 +88,21 @@ module _ (x : Client) (few : AreFew x) (f : ClientFits x) where
       not_connecting : (n : Native) (r : ℕ) → Connecting ≡ Live n r → ⊥
       not_connecting n r e = cc
 
-  puts-on-speaks : (a : Address) (h : Handle) (here : Channel) (o : Option (Handle × ClientCircuit)) (e : Effect) → wire_of h < 2 ^ 32 → ChannelFits here → PutsOn x a h here o e → Speaks e.core e.sent
+  puts-on-speaks : (a : Address) (h : Handle) (here : Channel) (o : Option (Handle × ClientCircuit)) (e : Effect) → wire_of h < 2 ^ 32 → ChannelFits here → PutsOn x a h here o e → SpeaksWell e.core e.sent
   puts-on-speaks a h here (Some (c, k)) e id fit is = put-on-speaks x c k.connection h here e f id fit.name is
   puts-on-speaks a h here None e id fit (inl made) =
       put-on-speaks (with_circuit made.0 (new_circuit a here.priority false) x) made.0 None h here e
       (fits-circuits x (with_circuit made.0 (new_circuit a here.priority false) x) refl refl refl refl (holds-held CircuitFits x.circuits made.0 _ made.1 f.circuits fit.priority) f) id fit.name made.2
   puts-on-speaks a h here None e id fit (inr full) = quiet-speaks x e [] f full.1
 
-  pub finds-speaks : (a : Address) (cid : ℕ) (e : Effect) → FindsAt x a (searched_by cid x) e → Speaks e.core e.sent
+  pub finds-speaks : (a : Address) (cid : ℕ) (e : Effect) → FindsAt x a (searched_by cid x) e → SpeaksWell e.core e.sent
   finds-speaks a cid e finds = go (by_wire x.channels cid) refl finds
     where
-      if-searched : (g : Handle × Channel) (b : Bool) → under x.channels g.0 ≡ Some g.1 → FindsAt x a (cond b (Some g) None) e → Speaks e.core e.sent
+      if-searched : (g : Handle × Channel) (b : Bool) → under x.channels g.0 ≡ Some g.1 → FindsAt x a (cond b (Some g) None) e → SpeaksWell e.core e.sent
       if-searched g true there puts = puts-on-speaks a g.0 g.1 (circuit_to a g.1.priority x) e (wire-under x.channels g.0 g.1 few.channels there) (f.channels g.0 g.1 there) puts
       if-searched g false there is = quiet-speaks x e [] f is
 
-      go : (o : Option (Handle × Channel)) → by_wire x.channels cid ≡ o → FindsAt x a (option_and_then (λ (e : Handle × Channel). cond (is_searched e.1.standing) (Some e) None) o) e → Speaks e.core e.sent
+      go : (o : Option (Handle × Channel)) → by_wire x.channels cid ≡ o → FindsAt x a (option_and_then (λ (e : Handle × Channel). cond (is_searched e.1.standing) (Some e) None) o) e → SpeaksWell e.core e.sent
       go None w is = quiet-speaks x e [] f is
       go (Some g) w puts = if-searched g (is_searched g.1.standing) (circuit.wire-under x.channels cid g w).0 puts
 
@@ -122,7 +122,7 @@ module _ (x : Client) (few : AreFew x) (f : ClientFits x) where
     not-leaving : (k : Native) (n : ℕ) → Leaving ≡ Live k n → ⊥
     not-leaving k n q = cc
 
-    rights-speaks : (cid : ℕ) (o : Option (Handle × Phase)) → channel_on x c cid ≡ o → e ≡ rights_told x c m o → Speaks e.core e.sent
+    rights-speaks : (cid : ℕ) (o : Option (Handle × Phase)) → channel_on x c cid ≡ o → e ≡ rights_told x c m o → SpeaksWell e.core e.sent
     rights-speaks cid None at is = quiet-speaks x e [] f is
     rights-speaks cid (Some (h, Connecting)) at is = quiet-speaks x e [] f is
     rights-speaks cid (Some (h, Creating rights)) at is = quiet-speaks _ e [] (none-live (Creating m.p2) (λ n r q. not-creating m.p2 r n q) h) is
@@ -132,7 +132,7 @@ module _ (x : Client) (few : AreFew x) (f : ClientFits x) where
     rights-speaks cid (Some (h, Doomed)) at is = quiet-speaks x e [] f is
 
     -- EVENT_ADDs of subscriptions that are there
-    adds-good : (sid : ℕ) (h : Handle) → sid < 2 ^ 32 → AllMessages (event_adds c sid h x)
+    adds-good : (sid : ℕ) (h : Handle) → sid < 2 ^ 32 → SendsMessages (event_adds c sid h x)
     adds-good sid h lt i s at =
         let b = At-mapped (λ (g : Handle × Subscription). event_add_sent c sid g.0 g.1) (standing_to h x.subscriptions) i s at in
         let g : Handle × Subscription = b.0 in
@@ -141,7 +141,7 @@ module _ (x : Client) (few : AreFew x) (f : ClientFits x) where
         let fit = f.subscriptions g.0 g.1 there in
         subst (λ (z : Sending). IsMessage z.message) (sym b.2) (add-good _ g.1.mask fit.0 fit.1 lt (wire-under x.subscriptions g.0 g.1 few.subscriptions there))
 
-    created-speaks : (cid : ℕ) (o : Option (Handle × Phase)) → channel_on x c cid ≡ o → e ≡ created x c m o → Speaks e.core e.sent
+    created-speaks : (cid : ℕ) (o : Option (Handle × Phase)) → channel_on x c cid ≡ o → e ≡ created x c m o → SpeaksWell e.core e.sent
     created-speaks cid None at is = quiet-speaks x e [] f is
     created-speaks cid (Some (h, Connecting)) at is = quiet-speaks x e [] f is
     created-speaks cid (Some (h, Creating rights)) at is =
@@ -152,7 +152,7 @@ module _ (x : Client) (few : AreFew x) (f : ClientFits x) where
     created-speaks cid (Some (h, Doomed)) at is =
         doing-speaks (with_standing (On c Clearing) h x) e _ _ (none-live Clearing not-clearing h) (one-more _ [] (clear-good m.p2 (wire_of h) good.header.p2 (cid-fits c cid h Doomed at)) none-sent) is
 
-    failed-speaks : (o : Option (Handle × Phase)) → e ≡ failed x o → Speaks e.core e.sent
+    failed-speaks : (o : Option (Handle × Phase)) → e ≡ failed x o → SpeaksWell e.core e.sent
     failed-speaks None is = quiet-speaks x e [] f is
     failed-speaks (Some (h, Connecting)) is = quiet-speaks x e [] f is
     failed-speaks (Some (h, Creating rights)) is = quiet-speaks (searched_again x h) e [] (searched-fits x h f) is
@@ -166,7 +166,7 @@ module _ (x : Client) (few : AreFew x) (f : ClientFits x) where
         fits-like (record x { subscriptions = monitor.channel_drained c h x.subscriptions }) (without_drained c h x) refl refl refl refl refl
         (subscriptions-fit x (monitor.channel_drained c h x.subscriptions) (holds-all-freed SubscriptionFits _ x.subscriptions f.subscriptions) f)
 
-    answered-speaks : (o : Option (Handle × Phase)) → e ≡ clear_answered x c o → Speaks e.core e.sent
+    answered-speaks : (o : Option (Handle × Phase)) → e ≡ clear_answered x c o → SpeaksWell e.core e.sent
     answered-speaks None is = quiet-speaks x e [] f is
     answered-speaks (Some (h, Connecting)) is = quiet-speaks x e [] f is
     answered-speaks (Some (h, Creating rights)) is = quiet-speaks x e [] f is
@@ -175,7 +175,7 @@ module _ (x : Client) (few : AreFew x) (f : ClientFits x) where
     answered-speaks (Some (h, Clearing)) is = quiet-speaks (without_channel (without_drained c h x) h) e [] (gone-fits (without_drained c h x) h (drained h)) is
     answered-speaks (Some (h, Doomed)) is = quiet-speaks x e [] f is
 
-    left-speaks : (cid : ℕ) (o : Option (Handle × Phase)) → channel_on x c cid ≡ o → e ≡ left x c o → Speaks e.core e.sent
+    left-speaks : (cid : ℕ) (o : Option (Handle × Phase)) → channel_on x c cid ≡ o → e ≡ left x c o → SpeaksWell e.core e.sent
     left-speaks cid None at is = quiet-speaks x e [] f is
     left-speaks cid (Some (h, Connecting)) at is = quiet-speaks x e [] f is
     left-speaks cid (Some (h, Creating rights)) at is = quiet-speaks x e [] f is
@@ -193,23 +193,23 @@ module _ (x : Client) (few : AreFew x) (f : ClientFits x) where
     without-sub : (s : Handle) → ClientFits (without_subscription s x)
     without-sub s = subscriptions-fit x (with_freed s x.subscriptions) (holds-freed SubscriptionFits x.subscriptions s f.subscriptions) f
 
-    completes-speaks : (q : Handle) (s : request.Stage) → Completes x m q s e → Speaks e.core e.sent
+    completes-speaks : (q : Handle) (s : request.Stage) → Completes x m q s e → SpeaksWell e.core e.sent
     completes-speaks q request.Open does = quiet-speaks (without_request q x) e _ (without-request q) does.2
     completes-speaks q request.Draining does = quiet-speaks (without_request q x) e [] (without-request q) does
 
-    answers-speaks : (o : Option (Handle × Request)) → Answers x m o e → Speaks e.core e.sent
+    answers-speaks : (o : Option (Handle × Request)) → Answers x m o e → SpeaksWell e.core e.sent
     answers-speaks (Some (q, r)) does = completes-speaks q r.stage does
     answers-speaks None is = quiet-speaks x e [] f is
 
-    confirmed-speaks : (o : Option Handle) → e ≡ confirmed x o → Speaks e.core e.sent
+    confirmed-speaks : (o : Option Handle) → e ≡ confirmed x o → SpeaksWell e.core e.sent
     confirmed-speaks (Some s) is = quiet-speaks (without_subscription s x) e [] (without-sub s) is
     confirmed-speaks None is = quiet-speaks x e [] f is
 
-    updates-speaks : (o : Option Handle) → Updates x m o e → Speaks e.core e.sent
+    updates-speaks : (o : Option Handle) → Updates x m o e → SpeaksWell e.core e.sent
     updates-speaks (Some s) does = quiet-speaks x e _ f does.2
     updates-speaks None is = quiet-speaks x e [] f is
 
-    write-failed-speaks : (o : Option (Handle × Phase)) → e ≡ write_failed x m o → Speaks e.core e.sent
+    write-failed-speaks : (o : Option (Handle × Phase)) → e ≡ write_failed x m o → SpeaksWell e.core e.sent
     write-failed-speaks None is = quiet-speaks x e [] f is
     write-failed-speaks (Some (h, Connecting)) is = quiet-speaks x e [] f is
     write-failed-speaks (Some (h, Creating rights)) is = quiet-speaks x e [] f is
@@ -218,27 +218,27 @@ module _ (x : Client) (few : AreFew x) (f : ClientFits x) where
     write-failed-speaks (Some (h, Clearing)) is = quiet-speaks x e [] f is
     write-failed-speaks (Some (h, Doomed)) is = quiet-speaks x e [] f is
 
-    subscription-failed-speaks : (o : Option Handle) → e ≡ subscription_failed x m o → Speaks e.core e.sent
+    subscription-failed-speaks : (o : Option Handle) → e ≡ subscription_failed x m o → SpeaksWell e.core e.sent
     subscription-failed-speaks (Some s) is = quiet-speaks (without_subscription s x) e _ (without-sub s) is
     subscription-failed-speaks None is = quiet-speaks x e [] f is
 
-    request-failed-speaks : (q : Handle) (s : request.Stage) → e ≡ request_failed x m q s → Speaks e.core e.sent
+    request-failed-speaks : (q : Handle) (s : request.Stage) → e ≡ request_failed x m q s → SpeaksWell e.core e.sent
     request-failed-speaks q request.Open is = quiet-speaks (without_request q x) e _ (without-request q) is
     request-failed-speaks q request.Draining is = quiet-speaks x e [] f is
 
-    any-failed-speaks : (o : Option (Handle × Request)) → e ≡ any_failed x m o → Speaks e.core e.sent
+    any-failed-speaks : (o : Option (Handle × Request)) → e ≡ any_failed x m o → SpeaksWell e.core e.sent
     any-failed-speaks (Some (q, r)) is = request-failed-speaks q r.stage is
     any-failed-speaks None is = quiet-speaks x e [] f is
 
-    failing-speaks : (h : Header) → e ≡ failing x c m h → Speaks e.core e.sent
+    failing-speaks : (h : Header) → e ≡ failing x c m h → SpeaksWell e.core e.sent
     failing-speaks h is = go (h.command == command_number command.Write) (h.command == command_number command.EventAdd) is
       where
-        go : (a b : Bool) → e ≡ cond a (write_failed x m (channel_on x c m.p1)) (cond b (subscription_failed x m (heard_by x c h.p2)) (any_failed x m (answered_by c h.command h.p2 x.requests))) → Speaks e.core e.sent
+        go : (a b : Bool) → e ≡ cond a (write_failed x m (channel_on x c m.p1)) (cond b (subscription_failed x m (heard_by x c h.p2)) (any_failed x m (answered_by c h.command h.p2 x.requests))) → SpeaksWell e.core e.sent
         go true b is = write-failed-speaks (channel_on x c m.p1) is
         go false true is = subscription-failed-speaks (heard_by x c h.p2) is
         go false false is = any-failed-speaks (answered_by c h.command h.p2 x.requests) is
 
-    pub hears-speaks : Hears x c m e → Speaks e.core e.sent
+    pub hears-speaks : Hears x c m e → SpeaksWell e.core e.sent
     hears-speaks (hears.Search is d there finds) = finds-speaks _ m.p2 e finds
     hears-speaks (hears.AccessRights is does) = rights-speaks m.p1 (channel_on x c m.p1) refl does
     hears-speaks (hears.CreateChannel is does) = created-speaks m.p1 (channel_on x c m.p1) refl does

@@ -14,8 +14,13 @@ pub mod Tables
 pub mod Handles
 pub mod HandleEvents
 pub mod Finish
-pub mod Runs
 pub mod Fits
 pub mod Speaks
 pub mod HearSpeaks
 pub mod MoreSpeaks
+pub mod Quiet
+pub mod Speaking
+pub mod Runs
+pub mod DueFits
+pub mod ServerFits
+pub mod ServerCalls

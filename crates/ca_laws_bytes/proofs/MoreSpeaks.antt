@@ -25,23 +25,23 @@ use Rattle.ca_model.specs.Hears.{create_sent}
 use Rattle.ca_laws_circuit.specs.Held.{AreFew}
 use Rattle.ca_model_client.proofs.Standings.{at-filter-map}
 use Rattle.ca_model_client.proofs.Tables.{held-under}
-use Rattle.ca_laws_bytes.specs.Speaks.{AllMessages, ChannelFits, CircuitFits, ClientFits, Speaks}
+use Rattle.ca_laws_bytes.specs.Speaks.{SendsMessages, ChannelFits, CircuitFits, ClientFits, SpeaksWell}
 use Rattle.ca_laws_bytes.proofs.Fits.{all-fit, both-sent, empty-payload, ended-fits, fits-like, fits-on, fits-sending, holds-all, holds-changed, none-sent, one-more, text-fits, wire-under}
 use Rattle.ca_laws_bytes.proofs.HearSpeaks.{filtered-at}
 use Rattle.ca_laws_bytes.proofs.Speaks.{bare-good, create-good, does-speak}
 
 -- ---- bytes come
 
-flow-good : (c : Handle) (more : Bool) (d : Connection) → AllMessages (flow_sent c more d)
+flow-good : (c : Handle) (more : Bool) (d : Connection) → SendsMessages (flow_sent c more d)
 flow-good c more d = go d.run.events_off (after_read more d.run).events_off
   where
-    go : (a b : Bool) → AllMessages (map (λ (k : Command). of_circuit c (bare k)) (option_to_list (asked_between a b)))
+    go : (a b : Bool) → SendsMessages (map (λ (k : Command). of_circuit c (bare k)) (option_to_list (asked_between a b)))
     go false true = one-more _ [] (bare-good command.EventsOff (omega arith)) none-sent
     go true false = one-more _ [] (bare-good command.EventsOn (omega arith)) none-sent
     go false false = none-sent
     go true true = none-sent
 
-pub gives-speaks : (x y : Client) (c : Handle) (bytes : List ℕ) (more : Bool) (o : Option Connection) (sent : List Sending) → ClientFits x → GivesOn x c bytes more o (Ok tt) sent y → Speaks y sent
+pub gives-speaks : (x y : Client) (c : Handle) (bytes : List ℕ) (more : Bool) (o : Option Connection) (sent : List Sending) → ClientFits x → GivesOn x c bytes more o (Ok tt) sent y → SpeaksWell y sent
 gives-speaks x y c bytes more None sent f gives = absurd gives
 gives-speaks x y c bytes more (Some d) sent f gives = does-speak (given c bytes more x) y (flow_sent c more d) sent (fits-on _ c x f) (flow-good c more d) gives
 
@@ -66,8 +66,8 @@ name-good text lt = (
 version-good : (priority : ℕ) → priority ≤ priority_limit → IsMessage (version_request priority)
 version-good priority le = message-of (version_request priority) (omega arith) (omega (arith, le)) (omega arith) (omega arith) (omega arith) empty-payload
 
-pub connects-speaks : (x y : Client) (c : Handle) (d : ClientCircuit) (k : Option Closing) (sent : List Sending) → AreFew x → ClientFits x → under x.circuits c ≡ Some d → ConnectsOn x c (Some d) k sent y → Speaks y sent
-connects-speaks x y c d (Some k) sent few f there does = subst (λ (p : List Sending × Client). Speaks p.1 p.0) (λ i. (sym does.1 i, sym does.2 i)) (ended-fits c x f, none-sent)
+pub connects-speaks : (x y : Client) (c : Handle) (d : ClientCircuit) (k : Option Closing) (sent : List Sending) → AreFew x → ClientFits x → under x.circuits c ≡ Some d → ConnectsOn x c (Some d) k sent y → SpeaksWell y sent
+connects-speaks x y c d (Some k) sent few f there does = subst (λ (p : List Sending × Client). SpeaksWell p.1 p.0) (λ i. (sym does.1 i, sym does.2 i)) (ended-fits c x f, none-sent)
 connects-speaks x y c d None sent few f there does =
     let version : Sending = of_circuit c (version_request d.priority) in
     let user : Sending = of_circuit c (name_request command.ClientName x.peer.user) in
@@ -84,7 +84,7 @@ connects-speaks x y c d None sent few f there does =
     (one-more version (user ∷ host ∷ []) (version-good d.priority (f.circuits c d there)) (one-more user (host ∷ []) (name-good x.peer.user f.user).0 (one-more host [] (name-good x.peer.host f.host).1 none-sent)))
     created) does
   where
-    created : AllMessages (creations c x)
+    created : SendsMessages (creations c x)
     created i s at =
         let r = at-filter-map (λ (e : Handle × Channel). cond (is_on_in is_connecting c e.1) (Some (create_sent c e.0 e.1)) None) (held x.channels) i s at in
         go (is_on_in is_connecting c r.1.1) r.1 (held-under x.channels r.0 r.1 r.2) r.3
@@ -96,9 +96,9 @@ connects-speaks x y c d None sent few f there does =
 -- ---- a moment
 
 abbrev TicksSpeak : Ticking → Type 0
-TicksSpeak t = Speaks t.core t.sent
+TicksSpeak t = SpeaksWell t.core t.sent
 
-one-sends : (t : Ticking) (z : Client) (s : Sending) → ClientFits z → IsMessage s.message → AllMessages t.sent → Speaks (sending (s ∷ []) z) (t.sent ++ s ∷ [])
+one-sends : (t : Ticking) (z : Client) (s : Sending) → ClientFits z → IsMessage s.message → SendsMessages t.sent → SpeaksWell (sending (s ∷ []) z) (t.sent ++ s ∷ [])
 one-sends t z s f good all = (fits-sending (s ∷ []) z f, both-sent t.sent (s ∷ []) all (one-more s [] good none-sent))
 
 ticks-speak : (t : Ticking) (c : Handle) → TicksSpeak t → TicksSpeak (ticks t c)
@@ -148,7 +148,7 @@ due-fit x f i w at =
     let fit = f.searches k.0 b.0 k.1 in
     subst (λ (z : search.Wanted). (z.cid < 2 ^ 32) × (length z.name ≤ channel_name_limit)) (sym b.2) fit
 
-pub tick-speaks : (moment : ℕ) (x : Client) → ClientFits x → Speaks (searches_made (circuits_ticked moment x)).core (searches_made (circuits_ticked moment x)).sent
+pub tick-speaks : (moment : ℕ) (x : Client) → ClientFits x → SpeaksWell (searches_made (circuits_ticked moment x)).core (searches_made (circuits_ticked moment x)).sent
 tick-speaks moment x f =
     let y : Client = record x { moment = later moment x } in
     let t : Ticking = circuits_ticked moment x in

@@ -1,22 +1,30 @@
 -- Every event keeps bytes as messages, and so does every run.
-use Rattle.std.proofs.Common.{◌≡◌, ℕ, suc, inl, inr, List, [], ◌∷◌, length, Option, Some, refl, sym, ap, ◌∙◌, subst}
+use Rattle.std.proofs.Common.{◌≡◌, ℕ, ◌+◌, inl, inr, List, [], ◌∷◌, length, Option, Some, refl, sym, ap, ◌∙◌, subst}
 use Rattle.std.specs.List.{FoldsTo}
+use Rattle.std.specs.Prelude.{take}
+use Rattle.ca_text.specs.Place.{At}
 use Rattle.ca_text.proofs.Places.{At-mapped, At-one}
+use Rattle.ca_model.specs.Ends.{NamesFit}
 use Rattle.ca_model.specs.History.{Collected, GaveUp, Sent, Told}
 use Rattle.ca_model_world.specs.ClientEvents.{TicksOne}
 use Rattle.ca_model_world.specs.Events.{Event}
 use Rattle.ca_model_world.specs.Events as event
 use Rattle.ca_model_world.specs.Runs.{CanBe, Happens, Leaves, Runs, StopsAt, clients_below}
-use Rattle.ca_model_world.specs.World.{ClientSide, IsSetting, ServerSide, Setting, World, opening}
+use Rattle.ca_model_world.specs.World.{ClientSetting, ClientSide, IsSetting, ServerSide, Setting, World, addresses, client_begun, opening}
 use Rattle.ca_laws_runs.specs.Clients.{ClientsStand}
 use Rattle.ca_laws_runs.proofs.Events.{stands-happens, stands-opening}
 use Rattle.ca_laws_runs.proofs.ClientsMore.{stands-ticks}
-use Rattle.ca_laws_writes.specs.Seats.{TakesSent}
+use Rattle.ca_laws_writes.specs.Says.{Says}
+use Rattle.ca_laws_writes.specs.Seats.{AllTakeSent, TakesSent}
+use Rattle.ca_laws_writes.specs.Steps.{AllInStep}
+use Rattle.ca_laws_writes.proofs.Events.{numbered-at}
 use Rattle.ca_laws_writes.proofs.Every.{event-sound, opening-sound}
 use Rattle.ca_laws_writes.proofs.Frames.{Frame, frame-keeps, frame-self, frame-then}
 use Rattle.ca_laws_writes.proofs.HappensClient.{begun-frame, clear-frame, cut-frame, datagram-frame, handing-frame, hear-frame, open-frame, put-frame, read-frame, subscribe-frame, tick-frame, unsubscribe-frame, write-frame}
 use Rattle.ca_laws_writes.proofs.Lists.{none_at}
-use Rattle.ca_laws_bytes.specs.Runs.{AllSpeak, HearsSent, Stands}
+use Rattle.ca_laws_writes.proofs.SaysRuns.{run-in-step, run-says}
+use Rattle.ca_laws_bytes.specs.Runs.{AllFit, HearsSent, IsReached, Stands}
+use Rattle.ca_laws_bytes.specs.Speaks.{ClientFits}
 use Rattle.ca_laws_bytes.specs.Worlds.{AllStream, ClientsSpeak, HandlesStand, ServersSpeak, client_end, server_end}
 use Rattle.ca_laws_bytes.proofs.ClientEvents.{clear-streams, client-restart-streams, client-step-streams, cut-client-streams, datagram-streams, handing-streams, open-streams, put-streams, read-streams, same-streams, subscribe-streams, unsubscribe-streams, write-streams}
 use Rattle.ca_laws_bytes.proofs.Clients.{came-so}
@@ -26,9 +34,11 @@ use Rattle.ca_laws_bytes.proofs.HandleEvents.{accept-handles, add-handles, cut-h
 use Rattle.ca_laws_bytes.proofs.Handles.{frame-handles}
 use Rattle.ca_laws_bytes.proofs.Made.{accept-streams}
 use Rattle.ca_laws_bytes.proofs.Moves.{up-streams}
+use Rattle.ca_laws_bytes.proofs.Quiet.{add-quiet, cut-quiet, finish-quiet, post-quiet, pump-quiet, quiet-as, remove-quiet, restart-quiet, step-quiet}
 use Rattle.ca_laws_bytes.proofs.ServerEvents.{add-streams, cut-streams, post-streams, pump-streams, remove-streams, server-restart-streams}
 use Rattle.ca_laws_bytes.proofs.ServerSteps.{server-step-streams}
 use Rattle.ca_laws_bytes.proofs.Servers.{server-came}
+use Rattle.ca_laws_bytes.proofs.Speaking.{accept-fit, clear-fit, client-restart-fit, client-step-fit, cut-client-fit, datagram-fit, down-fit, fit-quiet, new-fits, open-fit, put-fit, read-fit, subscribe-fit, ticks-fit, unsubscribe-fit, up-fit, write-fit}
 use Rattle.ca_laws_bytes.proofs.Streaming.{first-next}
 use Rattle.ca_laws_bytes.proofs.Ticks.{tick-one-streams}
 
@@ -125,12 +135,42 @@ leaves-handles s w new (event.Add i r) h at l = add-handles w new i at.y r at.at
 leaves-handles s w new (event.Tick moment) h at (mid, ticks, is) =
     frame-handles w new (frame-then w mid new (ticks-frame moment (clients_below (length w.clients)) w mid ticks) (frame-self mid new (ap (λ (z : World). z.servers) is) (ap (λ (z : World). z.server_logs) is) (ap (λ (z : World). z.circuits) is))) h.handles
 
-pub event-stands : (s : Setting) (w new : World) (e : Event) → IsSetting s → ClientsSpeak w → Happens w e new → Stands s w → Stands s new
-event-stands s w new e ok speak happens h = record {
-  sound = event-sound s w new e ok (takes-sent w h.streams speak) happens h.sound;
+leaves-fit : (s : Setting) (w new : World) (e : Event) → Stands s w → (at : CanBe w e) → Leaves w e at new → AllFit new
+leaves-fit s w new (event.Open i name priority) h at l = open-fit w new i at.x at.at h.clients h.fit name priority l
+leaves-fit s w new (event.Clear i c) h at l = clear-fit w new i at.x at.at h.clients h.fit c at.h l
+leaves-fit s w new (event.Read i c data_type count) h at l = read-fit w new i at.x at.at h.clients h.fit c at.h data_type count l
+leaves-fit s w new (event.Write i c e) h at l = write-fit w new i at.x at.at h.clients h.fit c at.h e l
+leaves-fit s w new (event.WriteNotify i c e) h at l = put-fit w new i at.x at.at h.clients h.fit c at.h e l
+leaves-fit s w new (event.Subscribe i c data_type count mask) h at l = subscribe-fit w new i at.x at.at h.clients h.fit c at.h data_type count mask l
+leaves-fit s w new (event.Unsubscribe i n) h at l = unsubscribe-fit w new i at.x at.at h.clients h.fit at.s l
+leaves-fit s w new (event.Collect i r) h at l = fit-quiet w new (quiet-as w new (ap (λ (z : World). z.clients) l.2) (ap (λ (z : World). z.circuits) l.2)) h.fit
+leaves-fit s w new (event.GiveUp i r) h at l = fit-quiet w new (quiet-as w new (ap (λ (z : World). z.clients) l.2) (ap (λ (z : World). z.circuits) l.2)) h.fit
+leaves-fit s w new (event.ClientDatagram i from bytes) h at l = datagram-fit w new i at.x at.at h.clients h.fit from bytes l
+leaves-fit s w new (event.ServerDatagram i from bytes) h at l = subst (λ (z : World). AllFit z) (sym l.2) h.fit
+leaves-fit s w new (event.Accept i) h at l = accept-fit w new i at.x at.v at.at h.clients l h.fit
+leaves-fit s w new (event.Up k n) h at l = up-fit w new k at.0.j at.0.x at.0.joins.at at.0.joins.client h.clients h.fit n at.0.y l
+leaves-fit s w new (event.Down k n) h at l = down-fit w new k at.0.j at.0.x at.0.joins.at at.0.joins.client h.clients h.fit n at.0.y l
+leaves-fit s w new (event.ServerStep k) h at l = fit-quiet w new (step-quiet w new k at.j at.y at.joins.at l) h.fit
+leaves-fit s w new (event.ClientStep k) h at l = client-step-fit w new k at.j at.x at.joins.at at.joins.client h.clients h.fit at.is_open l
+leaves-fit s w new (event.Pump k) h at l = fit-quiet w new (pump-quiet w new k at.j at.y at.joins.at l) h.fit
+leaves-fit s w new (event.CutClient k) h at l = cut-client-fit w new k at.j at.x at.joins.at at.joins.client h.clients h.fit l
+leaves-fit s w new (event.CutServer k) h at l = fit-quiet w new (cut-quiet w new k at.j at.y at.joins.at l) h.fit
+leaves-fit s w new (event.ClientRestart i) h at l = client-restart-fit w new i at.x at.at l h.fit
+leaves-fit s w new (event.ServerRestart i) h at l = fit-quiet w new (restart-quiet w new i at.y l) h.fit
+leaves-fit s w new (event.Post i name e mask) h at l = fit-quiet w new (post-quiet w new i at.y name e mask l) h.fit
+leaves-fit s w new (event.Finish i name) h at l = fit-quiet w new (finish-quiet w new i at.y name l) h.fit
+leaves-fit s w new (event.Remove i name) h at l = fit-quiet w new (remove-quiet w new i at.y name l) h.fit
+leaves-fit s w new (event.Add i r) h at l = fit-quiet w new (add-quiet w new i at.y r l) h.fit
+leaves-fit s w new (event.Tick moment) h at (mid, ticks, is) =
+    fit-quiet mid new (quiet-as mid new (ap (λ (z : World). z.clients) is) (ap (λ (z : World). z.circuits) is)) (ticks-fit moment (clients_below (length w.clients)) w mid ticks h.fit)
+
+pub event-stands : (s : Setting) (w new : World) (e : Event) → IsSetting s → Happens w e new → Stands s w → Stands s new
+event-stands s w new e ok happens h = record {
+  sound = event-sound s w new e ok (takes-sent w h.streams h.fit.sent) happens h.sound;
   clients = stands-happens w new e h.clients happens;
   handles = leaves-handles s w new e h happens.0 happens.1;
   streams = leaves-streams s w new e h happens.0 happens.1;
+  fit = leaves-fit s w new e h happens.0 happens.1;
 }
 
 -- ---- every run
@@ -141,14 +181,21 @@ opening-stands s ok = record {
   clients = stands-opening s;
   handles = record { given = λ n c y at there life. absurd (none_at n c at); gone = λ n c y v at there life shut is. none_at n c at };
   streams = λ k j at. absurd (none_at k j at);
+  fit = record {
+    sent = λ k j at. absurd (none_at k j at);
+    cores = λ i x at. (let g = begun i x at in subst (λ (z : ClientSide). ClientFits z.core) (sym g.2) (new-fits _ (ok.fit i g.0 g.1)));
+    given = λ i x at. (let g = begun i x at in subst (λ (z : ClientSide). NamesFit z.setting.peer) (sym g.2) (ok.fit i g.0 g.1));
+  };
 }
+  where
+    begun : (i : ℕ) (x : ClientSide) → At (opening s).clients i x → (g : ClientSetting) × At s.clients i g × (x ≡ client_begun (addresses s.servers) 0 (0 + i) g)
+    begun i x at = numbered-at (client_begun (addresses s.servers) 0) s.clients 0 i x at
 
-pub events-stand : (s : Setting) (es : List Event) (w new : World) → IsSetting s → FoldsTo Happens w es new → AllSpeak w es → Stands s w → Stands s new
-events-stand s [] w new ok same speak h = subst (λ (z : World). Stands s z) same h
-events-stand s (e ∷ es) w new ok (mid, one, rest) speak h =
-    events-stand s es mid new ok rest (λ n v folds. speak (suc n) v (mid, one, folds)) (event-stands s w mid e ok (speak 0 w refl) one h)
+pub events-stand : (s : Setting) (es : List Event) (w new : World) → IsSetting s → FoldsTo Happens w es new → Stands s w → Stands s new
+events-stand s [] w new ok same h = subst (λ (z : World). Stands s z) same h
+events-stand s (e ∷ es) w new ok (mid, one, rest) h = events-stand s es mid new ok rest (event-stands s w mid e ok one h)
 
-pub stops-stand : (s : Setting) (mid : World) (stopped : Option Event) (w : World) → StopsAt mid stopped w → Stands s mid → Stands s w
+stops-stand : (s : Setting) (mid : World) (stopped : Option Event) (w : World) → StopsAt mid stopped w → Stands s mid → Stands s w
 stops-stand s mid (Some (event.Tick moment)) w stops h = elim stops [
   | inl same ↦ subst (λ (z : World). Stands s z) (sym same) h
   | inr ticked ↦
@@ -158,9 +205,25 @@ stops-stand s mid (Some (event.Tick moment)) w stops h = elim stops [
         clients = stands-ticks moment (clients_below ticked.0) mid w h.clients ticked.3;
         handles = frame-handles mid w frame h.handles;
         streams = ticks-streams moment (clients_below ticked.0) mid w h.clients ticked.3 h.streams;
+        fit = ticks-fit moment (clients_below ticked.0) mid w ticked.3 h.fit;
       }
 ]
 stops-stand s mid stopped w stops h = subst (λ (z : World). Stands s z) (sym stops) h
 
-pub runs-stand : (s : Setting) (es : List Event) (stopped : Option Event) (w : World) → IsSetting s → Runs s es stopped w → AllSpeak (opening s) es → Stands s w
-runs-stand s es stopped w ok (mid, folds, stops) speak = stops-stand s mid stopped w stops (events-stand s es (opening s) mid ok folds speak (opening-stands s ok))
+pub runs-stand : (s : Setting) (es : List Event) (stopped : Option Event) (w : World) → IsSetting s → Runs s es stopped w → Stands s w
+runs-stand s es stopped w ok (mid, folds, stops) = stops-stand s mid stopped w stops (events-stand s es (opening s) mid ok folds (opening-stands s ok))
+
+-- in each world on the way an end takes what was sent to it
+pub runs-take : (s : Setting) (es : List Event) → IsSetting s → AllTakeSent (opening s) es
+runs-take s es ok n mid folds = (let h = events-stand s (take n es) (opening s) mid ok folds (opening-stands s ok) in takes-sent mid h.streams h.fit.sent)
+
+-- ---- writes
+
+pub reached : (w : World) → IsReached w → (s : Setting) × Stands s w
+reached w (s, es, stopped, ok, runs) = (s, runs-stand s es stopped w ok runs)
+
+pub reached-says : (w : World) → IsReached w → Says w
+reached-says w (s, es, stopped, ok, runs) = run-says s es stopped w ok runs (runs-take s es ok)
+
+pub reached-in-step : (w : World) → IsReached w → AllInStep w
+reached-in-step w (s, es, stopped, ok, runs) = run-in-step s es stopped w ok runs (runs-take s es ok)

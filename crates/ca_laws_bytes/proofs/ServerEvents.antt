@@ -154,7 +154,7 @@ pump-streams w new k j y on at opened seated f all =
 
 -- ---- a removal
 
-map-told : (cs : List Creation) (es : List (Handle × OpenChannel)) → map (λ (t : Told). t.message) (map (removal_told cs) es) ≡ map (λ (e : Handle × OpenChannel). disconnect e.1.cid) es
+pub map-told : (cs : List Creation) (es : List (Handle × OpenChannel)) → map (λ (t : Told). t.message) (map (removal_told cs) es) ≡ map (λ (e : Handle × OpenChannel). disconnect e.1.cid) es
 map-told cs [] = refl
 map-told cs (e ∷ es) = ap (λ (l : List Fields). disconnect e.1.cid ∷ l) (map-told cs es)
 

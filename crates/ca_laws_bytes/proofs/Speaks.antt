@@ -35,12 +35,12 @@ use Rattle.ca_laws_circuit.specs.Held.{AreFew}
 use Rattle.ca_model_client.proofs.Standings.{found-standing}
 use Rattle.ca_model_client.proofs.Tables.{find-at}
 use Rattle.ca_model_client.proofs.Standings.{stands-as}
-use Rattle.ca_laws_bytes.specs.Speaks.{AllMessages, ChannelFits, ClientFits, SearchesFit, Speaks, SubscriptionFits}
+use Rattle.ca_laws_bytes.specs.Speaks.{SendsMessages, ChannelFits, ClientFits, SearchesFit, SpeaksWell, SubscriptionFits}
 use Rattle.ca_laws_bytes.proofs.Fits.{cleared-fits, empty-payload, fits-like, fits-sending, holds-changed, holds-freed, holds-held, none-sent, one-more, subscriptions-fit, text-fits, wire-fits, wire-under}
 
-pub does-speak : (z y : Client) (sends sent : List Sending) → ClientFits z → AllMessages sends → Does sends z sent y → Speaks y sent
+pub does-speak : (z y : Client) (sends sent : List Sending) → ClientFits z → SendsMessages sends → Does sends z sent y → SpeaksWell y sent
 does-speak z y sends sent fits good does =
-    subst (λ (p : List Sending × Client). Speaks p.1 p.0) (λ i. (sym does.0 i, sym does.1 i)) (fits-sending sends z fits, good)
+    subst (λ (p : List Sending × Client). SpeaksWell p.1 p.0) (λ i. (sym does.0 i, sym does.1 i)) (fits-sending sends z fits, good)
 
 -- ---- single messages
 
@@ -76,13 +76,13 @@ add-good w mask a b c d =
 
 -- ---- faults that are none
 
-none-each : (fs : List (Bool × Refusal)) → first_refusal fs ≡ None → (i : ℕ) (g : Bool × Refusal) → At fs i g → g.0 ≡ false
+pub none-each : {A : Type 0} (fs : List (Bool × A)) → option_map (λ (k : Bool × A). k.1) (find (λ (k : Bool × A). k.0) fs) ≡ None → (i : ℕ) (g : Bool × A) → At fs i g → g.0 ≡ false
 none-each [] e i g at = absurd cc
-none-each (h ∷ fs) e i g at = go h.0 refl e i at (λ r k q. none-each fs r k g q)
+none-each {A} (h ∷ fs) e i g at = go h.0 refl e i at (λ r k q. none-each fs r k g q)
   where
-    go : (b : Bool) → h.0 ≡ b → option_map (λ (k : Bool × Refusal). k.1) (cond b (Some h) (find (λ (k : Bool × Refusal). k.0) fs)) ≡ None → (i : ℕ) → At (h ∷ fs) i g → (first_refusal fs ≡ None → (k : ℕ) → At fs k g → g.0 ≡ false) → g.0 ≡ false
+    go : (b : Bool) → h.0 ≡ b → option_map (λ (k : Bool × A). k.1) (cond b (Some h) (find (λ (k : Bool × A). k.0) fs)) ≡ None → (i : ℕ) → At (h ∷ fs) i g → (option_map (λ (k : Bool × A). k.1) (find (λ (k : Bool × A). k.0) fs) ≡ None → (k : ℕ) → At fs k g → g.0 ≡ false) → g.0 ≡ false
     go true is e i at rest = absurd cc
-    go false is e zero at rest = ap (λ (k : Bool × Refusal). k.0) (sym (some_is h g at)) ∙ is
+    go false is e zero at rest = ap (λ (k : Bool × A). k.0) (sym (some_is h g at)) ∙ is
     go false is e (suc i) at rest = rest e i at
 
 -- the type of this number
@@ -129,7 +129,7 @@ native-at x h c n r f is = (let ch = found-standing x h (On c (Live n r)) is in 
 
 -- ---- calls
 
-pub open-speaks : (x y : Client) (a : Opening) (q : Handle) (sent : List Sending) → ClientFits x → ClientOpens x a (Ok q) sent y → Speaks y sent
+pub open-speaks : (x y : Client) (a : Opening) (q : Handle) (sent : List Sending) → ClientFits x → ClientOpens x a (Ok q) sent y → SpeaksWell y sent
 open-speaks x y a q sent f does =
     does-speak _ y [] sent (record {
       user = f.user;
@@ -149,7 +149,7 @@ open-speaks x y a q sent f does =
       | inr last ↦ subst (λ (z : ℕ × search.Channel). (z.0 < 2 ^ 32) × (length z.1.name ≤ channel_name_limit)) (sym last.1) (wire-fits q does.1.slot, does.0.0.within)
     ]
 
-pub read-speaks : (x y : Client) (h : Handle) (a : Shape) (q : Handle) (sent : List Sending) → ClientFits x → ClientReads x h a (Ok q) sent y → Speaks y sent
+pub read-speaks : (x y : Client) (h : Handle) (a : Shape) (q : Handle) (sent : List Sending) → ClientFits x → ClientReads x h a (Ok q) sent y → SpeaksWell y sent
 read-speaks x y h a q sent f does =
     let l : LiveChannel = does.0 in
     let n = native-at x h l.circuit l.native l.rights f does.1 in
@@ -158,7 +158,7 @@ read-speaks x y h a q sent f does =
     let lt : l.native.count < 2 ^ 32 = n.1 in
     does-speak _ y _ sent (fits-like x _ refl refl refl refl refl f) (one-more _ [] (read-good _ fault.0 (omega (arith, le, lt)) n.0 (wire-fits q does.3.slot)) none-sent) does.4
 
-pub put-speaks : (x y : Client) (h : Handle) (e : Elements) (q : Handle) (sent : List Sending) → ClientFits x → ClientPuts x h e (Ok q) sent y → Speaks y sent
+pub put-speaks : (x y : Client) (h : Handle) (e : Elements) (q : Handle) (sent : List Sending) → ClientFits x → ClientPuts x h e (Ok q) sent y → SpeaksWell y sent
 put-speaks x y h e q sent f does =
     let l : LiveChannel = does.0 in
     let n = native-at x h l.circuit l.native l.rights f does.1 in
@@ -168,7 +168,7 @@ put-speaks x y h e q sent f does =
     let base : base_number (base_of e) < 7 = base_number-small (base_of e) in
     does-speak _ y _ sent (fits-like x _ refl refl refl refl refl f) (one-more _ [] (put-good _ (bytes_of e) fault.1 (omega (arith, base)) (omega (arith, le, lt)) n.0 (wire-fits q does.3.slot)) none-sent) does.4
 
-pub write-speaks : (x y : Client) (h : Handle) (e : Elements) (u : Unit {0}) (sent : List Sending) → ClientFits x → ClientWrites x h e (Ok u) sent y → Speaks y sent
+pub write-speaks : (x y : Client) (h : Handle) (e : Elements) (u : Unit {0}) (sent : List Sending) → ClientFits x → ClientWrites x h e (Ok u) sent y → SpeaksWell y sent
 write-speaks x y h e u sent f does =
     let l : LiveChannel = does.0 in
     let n = native-at x h l.circuit l.native l.rights f does.1 in
@@ -178,7 +178,7 @@ write-speaks x y h e u sent f does =
     let base : base_number (base_of e) < 7 = base_number-small (base_of e) in
     does-speak x y _ sent f (one-more _ [] (write-good _ (bytes_of e) fault.1 (omega (arith, base)) (omega (arith, le, lt)) n.0 (omega arith)) none-sent) does.3
 
-pub subscribe-speaks : (x y : Client) (h : Handle) (a : Shape) (mask : ℕ) (q : Handle) (sent : List Sending) → ClientFits x → ClientSubscribes x h a mask (Ok q) sent y → Speaks y sent
+pub subscribe-speaks : (x y : Client) (h : Handle) (a : Shape) (mask : ℕ) (q : Handle) (sent : List Sending) → ClientFits x → ClientSubscribes x h a mask (Ok q) sent y → SpeaksWell y sent
 subscribe-speaks x y h a mask q sent f does =
     let l : LiveChannel = does.0 in
     let n = native-at x h l.circuit l.native l.rights f does.1 in
@@ -199,14 +199,14 @@ unsubscribed-fits s (Some (On c (Creating rights))) x f = subscriptions-fit x _ 
 unsubscribed-fits s (Some (On c Clearing)) x f = subscriptions-fit x _ (holds-freed SubscriptionFits x.subscriptions s f.subscriptions) f
 unsubscribed-fits s (Some (On c Doomed)) x f = subscriptions-fit x _ (holds-freed SubscriptionFits x.subscriptions s f.subscriptions) f
 
-pub unsubscribe-speaks : (x y : Client) (s : Handle) (u : Unit {0}) (sent : List Sending) → AreFew x → ClientFits x → ClientUnsubscribes x s (Ok u) sent y → Speaks y sent
+pub unsubscribe-speaks : (x y : Client) (s : Handle) (u : Unit {0}) (sent : List Sending) → AreFew x → ClientFits x → ClientUnsubscribes x s (Ok u) sent y → SpeaksWell y sent
 unsubscribe-speaks x y s u sent few f does =
     does-speak (unsubscribed s (standing_at x does.0.channel) x) y _ sent (unsubscribed-fits s (standing_at x does.0.channel) x f) (by (standing_at x does.0.channel) refl) does.3
   where
     there : under x.subscriptions s ≡ Some does.0
     there = (stands-as x s does.0 does.1).0
 
-    by : (o : Option Standing) → standing_at x does.0.channel ≡ o → AllMessages (cancel_sent s does.0 o)
+    by : (o : Option Standing) → standing_at x does.0.channel ≡ o → SendsMessages (cancel_sent s does.0 o)
     by None at = none-sent
     by (Some Searching) at = none-sent
     by (Some (On c Connecting)) at = none-sent
@@ -218,10 +218,10 @@ unsubscribe-speaks x y s u sent few f does =
         let fit = f.subscriptions s does.0 there in
         one-more _ [] (cancel-good _ fit.0 fit.1 (native-at x does.0.channel c n rights f at).0 (wire-under x.subscriptions s does.0 few.subscriptions there)) none-sent
 
-pub clear-speaks : (x y : Client) (h : Handle) (notices : List Notice) (sent : List Sending) → AreFew x → ClientFits x → ClientClears x h (Ok notices) sent y → Speaks y sent
+pub clear-speaks : (x y : Client) (h : Handle) (notices : List Notice) (sent : List Sending) → AreFew x → ClientFits x → ClientClears x h (Ok notices) sent y → SpeaksWell y sent
 clear-speaks x y h notices sent few f does = does-speak (cleared h does.0 x) y _ sent (cleared-fits h does.0 x f) (by does.0 does.1) does.3
   where
-    by : (s : Standing) → standing_at x h ≡ Some s → AllMessages (clearing_sent h s)
+    by : (s : Standing) → standing_at x h ≡ Some s → SendsMessages (clearing_sent h s)
     by Searching at = none-sent
     by (On c Connecting) at = none-sent
     by (On c (Creating rights)) at = none-sent

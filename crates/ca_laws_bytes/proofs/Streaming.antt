@@ -8,7 +8,7 @@ use Rattle.ca_text.proofs.Places.{At-append, At-or, At-within, some_is}
 use Rattle.ca_wire.specs.Fields.{Fields}
 use Rattle.ca_wire.specs.Message.{Spells, spelled, spelling}
 use Rattle.ca_wire.proofs.Messages.{spelling-spells, spells-front, spells-long}
-use Rattle.ca_laws_bytes.specs.Streams.{AreGood, CircuitEnd, Meets, Streams}
+use Rattle.ca_laws_bytes.specs.Streams.{AreMessages, CircuitEnd, Meets, Streams}
 
 -- ---- lists
 
@@ -38,7 +38,7 @@ spelled-more (m ∷ ms) ns = ap (λ (b : List ℕ). spelling m ++ b) (spelled-mo
 -- ---- the first message
 
 -- the message that begins what came is the next that was sent
-pub first-next : (a b : CircuitEnd) (m : Fields) (front rest : List ℕ) → AreGood a.sent → Streams a b → Spells front m → b.came ≡ front ++ rest
+pub first-next : (a b : CircuitEnd) (m : Fields) (front rest : List ℕ) → AreMessages a.sent → Streams a b → Spells front m → b.came ≡ front ++ rest
     → At a.sent b.read m × Streams a (record b { came = rest; read = b.read + 1 })
 first-next a b m front rest good s spells is =
     let tail : List ℕ = rest ++ (a.waiting ++ s.lost) in
@@ -132,7 +132,7 @@ sends-on a b o acts s = go a.is_open b.is_open refl refl
         }
 
 -- and what it reads
-reads-on : (a b o : CircuitEnd) → Acts a b → AreGood o.sent → b.is_open ≡ true → Streams o a → Streams o b
+reads-on : (a b o : CircuitEnd) → Acts a b → AreMessages o.sent → b.is_open ≡ true → Streams o a → Streams o b
 reads-on a b o acts good opened s = elim (acts.stays opened).2 [
   | inl same ↦
       record {
@@ -152,7 +152,7 @@ reads-on a b o acts good opened s = elim (acts.stays opened).2 [
 ]
 
 -- what was sent before are messages too
-good-before : (a b : CircuitEnd) → Acts a b → AreGood b.sent → AreGood a.sent
+good-before : (a b : CircuitEnd) → Acts a b → AreMessages b.sent → AreMessages a.sent
 good-before a b acts good i m at = good i m (subst (λ (l : List Fields). At l i m) (sym acts.sends) (At-append a.sent acts.more i m at))
 
 pub meets-on : (a b o : CircuitEnd) → Acts a b → Meets a o → Meets b o

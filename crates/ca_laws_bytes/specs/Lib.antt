@@ -2,3 +2,4 @@ pub mod Streams
 pub mod Worlds
 pub mod Runs
 pub mod Speaks
+pub mod ServerFits

@@ -1,28 +1,36 @@
--- Working: what holds of the bytes and the writes of a world that a run leads to.
-use Rattle.std.specs.Prelude.{ℕ, ◌≡◌, true, List, Some, length, take}
-use Rattle.std.specs.List.{FoldsTo}
+-- Working: the worlds to which runs lead, and what holds of their bytes and writes.
+use Rattle.std.specs.Prelude.{ℕ, ◌≡◌, true, List, Option, Some, length}
 use Rattle.ca_link.specs.Link.{TakesFirst}
 use Rattle.ca_text.specs.Place.{At}
 use Rattle.ca_wire.specs.Fields.{Fields}
 use Rattle.ca_model.specs.Client.{Connection, connection_at}
+use Rattle.ca_model.specs.Ends.{NamesFit}
 use Rattle.ca_model.specs.History.{Told}
 use Rattle.ca_model_world.specs.Events.{Event}
-use Rattle.ca_model_world.specs.Runs.{Happens}
-use Rattle.ca_model_world.specs.World.{ClientSide, Joined, Setting, World}
+use Rattle.ca_model_world.specs.Runs.{Runs}
+use Rattle.ca_model_world.specs.World.{ClientSide, IsSetting, Joined, Setting, World}
 use Rattle.ca_laws_runs.specs.Clients.{ClientsStand}
 use Rattle.ca_laws_writes.specs.Seats.{Sound}
+use Rattle.ca_laws_bytes.specs.Speaks.{ClientFits}
 use Rattle.ca_laws_bytes.specs.Worlds.{AllStream, ClientsSpeak, HandlesStand}
 
--- Writes are sound, clients and handles stand, and the bytes on all circuits are messages that were sent and not read.
+-- A run leads to this world, from a well-formed setting.
+abbrev pub IsReached : World → Type 0
+IsReached w = (s : Setting) × (es : List Event) × (stopped : Option Event) × IsSetting s × Runs s es stopped w
+
+-- What clients sent are messages; and each client's core fits messages, as do the names that it is given.
+pub record AllFit (w : World) : Type 0 where
+  pub sent : ClientsSpeak w
+  pub cores : (i : ℕ) (x : ClientSide) → At w.clients i x → ClientFits x.core
+  pub given : (i : ℕ) (x : ClientSide) → At w.clients i x → NamesFit x.setting.peer
+
+-- Writes are sound, clients and handles stand, clients send messages, and the bytes on all circuits are those that were sent and not read.
 pub record Stands (s : Setting) (w : World) : Type 0 where
   pub sound : Sound s w
   pub clients : ClientsStand w
   pub handles : HandlesStand w
   pub streams : AllStream w
-
--- In each world to which a beginning of these events leads, what clients sent are messages.
-abbrev pub AllSpeak : World → List Event → Type 0
-AllSpeak w es = (n : ℕ) (mid : World) → FoldsTo Happens w (take n es) mid → ClientsSpeak mid
+  pub fit : AllFit w
 
 -- What an open end of a client takes next is the next message that its server sent.
 abbrev pub HearsSent : World → Type 0

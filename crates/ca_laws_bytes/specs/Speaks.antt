@@ -11,8 +11,8 @@ use Rattle.ca_model.specs.Answers.{Sending}
 use Rattle.ca_model.specs.Client.{Channel, Client, ClientCircuit, Live, Native, On}
 
 -- So it is of all that a table holds.
-abbrev pub Holds : {T : Type 0} → (T → Type 0) → Table T → Type 0
-Holds {T} P t = (h : Handle) (v : T) → under t h ≡ Some v → P v
+abbrev pub AllHeld : {T : Type 0} → (T → Type 0) → Table T → Type 0
+AllHeld {T} P t = (h : Handle) (v : T) → under t h ≡ Some v → P v
 
 -- a channel whose name and priority fit messages, and what it was created with if it is live
 pub record ChannelFits (ch : Channel) : Type 0 where
@@ -35,15 +35,15 @@ SearchesFit cs = (i : ℕ) (c : ℕ × search.Channel) → At cs i c → (c.0 < 
 pub record ClientFits (x : Client) : Type 0 where
   pub user : length x.peer.user < payload_limit
   pub host : length x.peer.host < payload_limit
-  pub channels : Holds ChannelFits x.channels
-  pub subscriptions : Holds SubscriptionFits x.subscriptions
-  pub circuits : Holds CircuitFits x.circuits
+  pub channels : AllHeld ChannelFits x.channels
+  pub subscriptions : AllHeld SubscriptionFits x.subscriptions
+  pub circuits : AllHeld CircuitFits x.circuits
   pub searches : SearchesFit x.searches
 
 -- all that is sent are messages
-abbrev pub AllMessages : List Sending → Type 0
-AllMessages sent = (i : ℕ) (s : Sending) → At sent i s → IsMessage s.message
+abbrev pub SendsMessages : List Sending → Type 0
+SendsMessages sent = (i : ℕ) (s : Sending) → At sent i s → IsMessage s.message
 
 -- A client is so after it sent these, and they are messages.
-abbrev pub Speaks : Client → List Sending → Type 0
-Speaks y sent = ClientFits y × AllMessages sent
+abbrev pub SpeaksWell : Client → List Sending → Type 0
+SpeaksWell y sent = ClientFits y × SendsMessages sent

@@ -22,10 +22,10 @@ pub record Streams (sender receiver : CircuitEnd) : Type 0 where
   pub whole : sender.is_open ≡ true → lost ≡ []
 
 -- these are messages, each field of its width
-abbrev pub AreGood : List Fields → Type 0
-AreGood ms = (i : ℕ) (m : Fields) → At ms i m → IsMessage m
+abbrev pub AreMessages : List Fields → Type 0
+AreMessages ms = (i : ℕ) (m : Fields) → At ms i m → IsMessage m
 
 -- So it is both ways, to each end that is open, if what was sent to it are messages.
 pub record Meets (a b : CircuitEnd) : Type 0 where
-  pub there : b.is_open ≡ true → AreGood a.sent → Streams a b
-  pub back : a.is_open ≡ true → AreGood b.sent → Streams b a
+  pub there : b.is_open ≡ true → AreMessages a.sent → Streams a b
+  pub back : a.is_open ≡ true → AreMessages b.sent → Streams b a

@@ -9,7 +9,7 @@ use Rattle.ca_model.specs.Server.{Open, ServerCircuit}
 use Rattle.ca_model_world.specs.ClientEvents.{waiting_down, waiting_up}
 use Rattle.ca_model_world.specs.World.{ClientSide, Joined, ServerSide, World}
 use Rattle.ca_model_client.specs.Placed.{WasGiven}
-use Rattle.ca_laws_bytes.specs.Streams.{AreGood, CircuitEnd, Meets}
+use Rattle.ca_laws_bytes.specs.Streams.{AreMessages, CircuitEnd, Meets}
 
 -- what came to a client's end and was not read, and to a server's
 abbrev pub came_to : Option Connection → List ℕ
@@ -59,10 +59,10 @@ AllStream w = (k : ℕ) (j : Joined) → At w.circuits k j → StreamsOn w j
 
 -- What clients sent on circuits are messages, and what servers sent.
 abbrev pub ClientsSpeak : World → Type 0
-ClientsSpeak w = (k : ℕ) (j : Joined) → At w.circuits k j → AreGood (sent_up j)
+ClientsSpeak w = (k : ℕ) (j : Joined) → At w.circuits k j → AreMessages (sent_up j)
 
 abbrev pub ServersSpeak : World → Type 0
-ServersSpeak w = (k : ℕ) (j : Joined) → At w.circuits k j → AreGood (sent_down j)
+ServersSpeak w = (k : ℕ) (j : Joined) → At w.circuits k j → AreMessages (sent_down j)
 
 -- The handles of circuits at a server in its present life: its table gave each, and once the end there has ended nothing has it.
 pub record HandlesStand (w : World) : Type 0 where

@@ -207,8 +207,8 @@ error-speaks cid status m id fits h = elim h [
 
 -- ---- each reply that is due
 
--- the commands that a server acts on
-any-of : (n : ℕ) (cs : List Command) → list_any (λ (c : Command). eqb n (command_number c)) cs ≡ true → (P : ℕ → Type 0) → (each : (i : ℕ) (c : Command) → At cs i c → P (command_number c)) → P n
+-- a number that is one of these commands
+pub any-of : (n : ℕ) (cs : List Command) → list_any (λ (c : Command). eqb n (command_number c)) cs ≡ true → (P : ℕ → Type 0) → (each : (i : ℕ) (c : Command) → At cs i c → P (command_number c)) → P n
 any-of n [] some P each = absurd (both_ways false refl some)
 any-of n (c ∷ cs) some P each = elim (or_cases (eqb n (command_number c)) (list_any (λ (c : Command). eqb n (command_number c)) cs) some) [
   | inl is ↦ subst P (sym (eqb-true n (command_number c) is)) (each 0 c refl)
@@ -216,11 +216,11 @@ any-of n (c ∷ cs) some P each = elim (or_cases (eqb n (command_number c)) (lis
 ]
 
 -- what holds of each of a list
-abbrev Each : (ℕ → Type 0) → List Command → Type 0
+abbrev pub Each : (ℕ → Type 0) → List Command → Type 0
 Each P [] = Unit {0}
 Each P (c ∷ cs) = P (command_number c) × Each P cs
 
-each-at : (P : ℕ → Type 0) (cs : List Command) → Each P cs → (i : ℕ) (c : Command) → At cs i c → P (command_number c)
+pub each-at : (P : ℕ → Type 0) (cs : List Command) → Each P cs → (i : ℕ) (c : Command) → At cs i c → P (command_number c)
 each-at P [] each i c at = absurd cc
 each-at P (d ∷ cs) each zero c at = subst (λ (x : Command). P (command_number x)) (some_is d c at) each.0
 each-at P (d ∷ cs) each (suc i) c at = each-at P cs each.1 i c at
@@ -254,7 +254,7 @@ mute-from n none = (
 )
 
 -- the commands that a server acts on, in this order
-abbrev commands : List Command
+abbrev pub commands : List Command
 commands =
     command.Version ∷ command.EventAdd ∷ command.EventCancel ∷ command.Write ∷ command.Search ∷ command.EventsOff ∷ command.EventsOn ∷ command.ClearChannel
     ∷ command.ReadNotify ∷ command.CreateChannel ∷ command.WriteNotify ∷ command.ClientName ∷ command.HostName ∷ command.Echo ∷ []

@@ -217,7 +217,7 @@ module _ (w new : World) (k : ℕ) (j : Joined) (x : ClientSide) (at : At w.circ
 
 -- ---- a client begins again
 
-none-under : {T : Type 0} (h : Handle) (v : T) → under [] h ≡ Some v → ⊥
+pub none-under : {T : Type 0} (h : Handle) (v : T) → under [] h ≡ Some v → ⊥
 none-under {T} h v is = nothing (place h v) (under-at [] h v is)
   where
     nothing : (p : Place T) → At [] h.index p → ⊥
