@@ -72,7 +72,7 @@ keeps-awaited s w sound handles puts i y name c b r q e at named busy in_rs r_na
         let agrees : Agrees (IsPutOf w.circuits i) own.log c r = beside-named (IsPutOf w.circuits i) own.log y.core.records y.records own.life.each own.life.others c r pair.in_cs pair.in_rs pair.name in
         let by : IsBusyWith own.log r.number q = subst (λ (o : Option PutPlace). IsBusyBy own.log r.number o) side agrees.busy in
         let came = came-as w.circuits y.life own.log by.i q.circuit q.place r.number by.v true own.life.once by.at in
-        ap (λ (z : Joined). z.lists.server) (At-one w.circuits q.circuit put.c came.1.c put.on came.1.on) ∙ came.1.joins
+        subst (λ (z : Joined). z.lists.server ≡ y.life) (At-one w.circuits q.circuit came.1.c put.c came.1.on put.on) came.1.joins
 
     opened : put.c.lists.server_open ≡ true
     opened = go put.c.lists.server_open refl

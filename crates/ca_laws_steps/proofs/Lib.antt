@@ -6,3 +6,7 @@ pub mod Handled
 pub mod Stand
 pub mod Awaited
 pub mod Own
+pub mod Whole
+pub mod Circuits
+pub mod Holds
+pub mod Creations

@@ -8,7 +8,9 @@ use Rattle.ca_records.specs.Puts.{Record, record_named}
 use Rattle.ca_text.specs.declared.command.Command.TheVariants as command
 use Rattle.ca_text.specs.Place.{At}
 use Rattle.ca_text.proofs.Places.{At-one}
+use Rattle.ca_text.specs.Status.{normal}
 use Rattle.ca_wire.specs.Fields.{Fields}
+use Rattle.ca_wire.specs.Messages.{status_reply}
 use Rattle.ca_model.specs.Due.{Action, Adds, Applies, Due, KnownRecord, Knows, Nothing, Opens, PutDue, must_wait}
 use Rattle.ca_model.specs.Due as action
 use Rattle.ca_model.specs.Server.{Server, ServerEnd}
@@ -71,7 +73,7 @@ due-one k m replies (Applies name value true) r slow due one keeps = elim (due.p
         go true x = cc
         go false x =
             let b : true ≡ c.known.state.slow = cc in
-            none-one replies r (taken.2 ∙ ap (λ (t : Bool). cond t [] _) (sym b)) one
+            none-one replies r (taken.2 ∙ ap (λ (t : Bool). cond t [] (status_reply m normal ∷ [])) (sym b)) one
 due-one k m replies (action.Waits name value) r slow due one keeps = elim (due.put (due-waits k m replies name value due).1) [
   | inr stray ↦ (let x : action.Waits name value ≡ Nothing = stray.3 in cc)
   | inl served ↦ put served
@@ -83,7 +85,7 @@ due-one k m replies (action.Waits name value) r slow due one keeps = elim (due.p
       where
         go : (b : Bool) → must_wait k m c ≡ b → action.Waits name value ≡ cond b (action.Waits c.channel.name taken.0) (Applies c.channel.name taken.0 c.known.state.slow) → ⊥
         go false waits x = cc
-        go true waits x = none-one replies r (taken.2 ∙ ap (λ (t : Bool). cond t [] _) (slow c.channel.name c.known c.named (and-second (eqb m.command 19) c.known.busy waits))) one
+        go true waits x = none-one replies r (taken.2 ∙ ap (λ (t : Bool). cond t [] (status_reply m normal ∷ [])) (slow c.channel.name c.known c.named (and-second (eqb m.command 19) c.known.busy waits))) one
 due-one k m replies (action.Clears sid) r slow due one keeps = keeps
 due-one k m replies action.Nothing r slow due one keeps = keeps
 due-one k m replies action.Greets r slow due one keeps = keeps

@@ -119,7 +119,7 @@ ends-own j m left core handle same opened =
     ∙ ap (λ (b : Bool). is_some (cond b (Some left) (ends_by j.server core m))) opened
 
 -- a circuit as it ended
-abbrev Shut : World → ℕ → Type 0
+abbrev pub Shut : World → ℕ → Type 0
 Shut new k = (d : Joined) × At new.circuits k d × (d.lists.server_open ≡ true → ⊥)
 
 shut : (mid : World) (k : ℕ) (j m : Joined) (side : ServerSide) (left : List ℕ) (said core : Server) → At mid.circuits k m → SameEnds j m → Shut (server_after j.server side (ends_here j left j.server said) core mid) k
@@ -132,7 +132,7 @@ shut mid k j m side left said core at s =
           both_ways (is_some (ends m)) still.0 (ends-own j m left said s.handle s.server (ap (λ (z : Joined). z.lists.server_open) (sym still.1) ∙ opened)),
     )
 
-closes : (w new : World) (k : ℕ) (j : Joined) (y : ServerSide) (cause : why.Why) (left : List ℕ) → At w.circuits k j → ServerStepped w k j y (stepped.Closed cause left) new → Shut new k
+pub closes : (w new : World) (k : ℕ) (j : Joined) (y : ServerSide) (cause : why.Why) (left : List ℕ) → At w.circuits k j → ServerStepped w k j y (stepped.Closed cause left) new → Shut new k
 closes w new k j y why.OutOfMemory left on f = subst (λ (z : World). Shut z k) (sym f.leaves) (go f.lacks.written)
   where
     did : Action

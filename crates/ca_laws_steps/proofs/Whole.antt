@@ -70,7 +70,7 @@ event-serves s w new e ok happens h =
       puts = event-puts s w new e ok takes h.stands.sound h.messages h.channels h.puts happens;
     }
 
-events-serve : (s : Setting) (es : List Event) (w new : World) → IsSetting s → FoldsTo Happens w es new → ServersStand s w → ServersStand s new
+pub events-serve : (s : Setting) (es : List Event) (w new : World) → IsSetting s → FoldsTo Happens w es new → ServersStand s w → ServersStand s new
 events-serve s [] w new ok same h = subst (λ (z : World). ServersStand s z) same h
 events-serve s (e ∷ es) w new ok (mid, one, rest) h = events-serve s es mid new ok rest (event-serves s w mid e ok one h)
 

@@ -1,2 +1,5 @@
 pub mod Pairs
 pub mod Puts
+pub mod Worlds
+pub mod Held
+pub mod Creations

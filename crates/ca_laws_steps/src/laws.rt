@@ -2,7 +2,9 @@ ghost use Rattle.std.specs.Prelude.{◌≡◌, ◌∷◌, List, Option, [], leng
 ghost use Rattle.ca_text.specs.Place.{At};
 ghost use Rattle.ca_wire.specs.Fields.{Fields};
 ghost use Rattle.ca_model.specs.ServerSteps.{Handled, Stepped};
-ghost use Rattle.ca_model.specs.Speech.{In};
+ghost use Rattle.ca_model.specs.History.{Told};
+ghost use Rattle.ca_model.specs.Speech.{Id, In, Speaks};
+ghost use Rattle.ca_model_safe.specs.Headline.{TakesOwn};
 ghost use Rattle.ca_model_world.specs.Events.{Event, Finish, ServerStep};
 ghost use Rattle.ca_model_world.specs.Runs.{Happens, Runs};
 ghost use Rattle.ca_model_world.specs.ServerEvents.{ServerStepped, StepHandles};
@@ -11,6 +13,9 @@ ghost use Rattle.ca_laws_bytes.specs.Runs.{IsReached};
 ghost use Rattle.ca_laws_kept.specs.Awaited.{KeepsAwaited};
 ghost use Rattle.ca_laws_kept.specs.Kept.{kept};
 ghost use Rattle.ca_laws_runs.specs.Circuit.{HeldAt};
+ghost use Rattle.ca_laws_writes.specs.Says.{AllAsked};
+ghost use Rattle.ca_laws_steps.specs.Creations.{AllCreations};
+ghost use Rattle.ca_laws_steps.specs.Held.{AllCircuitsHeld, AllKnown, IsKnownStep};
 ghost use Rattle.ca_laws_steps.specs.Worlds.{IsOther, IsOwnNext, ServersStand};
 
 /// Each put that makes a record of a server busy, or waits, came on a channel whose handle had been
@@ -62,4 +67,31 @@ pub fn a_servers_step_keeps_what_is_held()
         (f : StepHandles w k j y new) → IsReached w → Happens w (ServerStep k) new
         → At w.circuits k j → At w.servers j.server y → j.lists.server_open ≡ true
         → IsOwnNext w new k j y f → HeldAt (kept w k) w k → HeldAt (kept new k) new k }
+{}
+
+/// What is held of all circuits stays so over every event, and over every run, as far as it is known
+/// of each message that an end takes what it is about: `IsKnown` at a client, `IsOwnNext` at a
+/// server. Nothing else is asked for but a well-formed setting.
+pub fn what_is_held_in_runs()
+    ensures begins { (s : Setting) → AllCircuitsHeld (opening s) }
+    ensures event { (w new : World) (e : Event) → IsReached w → Happens w e new
+        → IsKnownStep w e new → AllCircuitsHeld w → AllCircuitsHeld new }
+    ensures run { (s : Setting) (es : List Event) (stopped : Option Event) (w : World)
+        → IsSetting s → Runs s es stopped w → AllKnown (opening s) es → AllCircuitsHeld w }
+{}
+
+/// Where that is so, each message of a client is what was meant, and each id in a message of a
+/// server is taken for what that message is about, whatever ids were given again.
+pub fn what_is_held_is_what_was_meant()
+    ensures asked { (w : World) → AllCircuitsHeld w → AllAsked w }
+    ensures own { (w : World) → AllCircuitsHeld w → (n i : ℕ) (c : Joined) (t : Told) (id : Id)
+        → At w.circuits n c → At c.lists.down i t → Speaks t.message id
+        → TakesOwn c.lists i t.place id }
+{}
+
+/// In every world to which a run leads, each channel that is noted as open on a circuit was created
+/// by a reply about its CREATE_CHAN, under its SID; no CLEAR_CHANNEL of that SID was handled since;
+/// and no two are open under one SID.
+pub fn open_channels_were_told()
+    ensures { (w : World) → IsReached w → AllCreations w }
 {}
