@@ -1,23 +1,18 @@
 -- What a server's core awaits to send is kept, in every world whose puts stand.
-use Rattle.std.proofs.Common.{◌≡◌, ℕ, ◌<◌, inl, inr, Bool, true, false, List, Option, Some, None, refl, sym, ap, subst, ◌∙◌}
+use Rattle.std.proofs.Common.{◌≡◌, ℕ, inl, Bool, true, false, List, Option, Some, None, refl, sym, subst, ◌∙◌}
 use Rattle.std.proofs.lemmas.Slice.Eq.{bytes_eq-Decides}
 use Rattle.std.specs.Prelude.{is_some}
 use Rattle.std.specs.Str.{bytes_eq}
 use Rattle.ca_arena.specs.declared.handle.Handle.{Handle}
 use Rattle.ca_ids.specs.Table.{under}
-use Rattle.ca_records.specs.declared.puts.Put.{Put}
 use Rattle.ca_records.specs.Puts.{Record}
 use Rattle.ca_text.specs.Place.{At}
 use Rattle.ca_text.proofs.Places.{At-one}
-use Rattle.ca_model.specs.History.{Entry}
-use Rattle.ca_model.specs.Server.{Open, OpenChannel, ServerEnd}
-use Rattle.ca_model.specs.ServerCalls.{IsAwaited}
+use Rattle.ca_model.specs.Server.{Open}
 use Rattle.ca_model.specs.ServerSteps.{HasEnd}
-use Rattle.ca_model.specs.Speech.{In}
-use Rattle.ca_model_world.specs.World.{Creation, Joined, PutPlace, RecordSide, ServerSide, Setting, World}
+use Rattle.ca_model_world.specs.World.{Joined, PutPlace, RecordSide, Setting, World}
 use Rattle.ca_laws_bytes.specs.Worlds.{HandlesStand}
 use Rattle.ca_laws_kept.specs.Awaited.{KeepsAwaited}
-use Rattle.ca_laws_kept.specs.Kept.{has_channel}
 use Rattle.ca_laws_kept.proofs.Puts.{PutIn}
 use Rattle.ca_laws_kept.proofs.Thins.{of-channel, records-there, sid-is, there-kept}
 use Rattle.ca_laws_writes.specs.Agrees.{Agrees, IsBusyBy, IsBusyWith}

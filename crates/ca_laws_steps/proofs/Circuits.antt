@@ -1,5 +1,5 @@
 -- Over every event but an acceptance, each circuit was there before.
-use Rattle.std.proofs.Common.{◌≡◌, ℕ, ◌+◌, ◌<◌, ◌≤◌, ◌⊎◌, inl, inr, Bool, not, List, [], ◌∷◌, ◌++◌, length, Option, Some, None, refl, sym, ap, subst, ◌∙◌, arith}
+use Rattle.std.proofs.Common.{◌≡◌, ℕ, ◌<◌, ◌⊎◌, inl, inr, Bool, not, List, [], ◌∷◌, ◌++◌, length, Option, Some, None, refl, sym, ap, subst, arith}
 use Rattle.std.specs.Str.{bytes_eq}
 use Rattle.std.specs.Prelude.{drop, filter, map, option_map, slice_get, slice_set, unwrap_or}
 use Rattle.ca_arena.specs.declared.handle.Handle.{Handle}
@@ -13,7 +13,7 @@ use Rattle.ca_model.specs.History.{Collected, GaveUp, Step}
 use Rattle.ca_model.specs.Server.{Server}
 use Rattle.ca_model.specs.ServerSteps.{Stepped, closed}
 use Rattle.ca_model.specs.ServerSteps as stepped
-use Rattle.ca_model_world.specs.ClientEvents.{DownTaken, HappensAccept, HappensDown, WantsFirst, connected_as, new_circuit, up_taken}
+use Rattle.ca_model_world.specs.ClientEvents.{DownTaken, HappensAccept, HappensDown, WantsFirst, connected_as, new_circuit}
 use Rattle.ca_model_world.specs.Events.{Event}
 use Rattle.ca_model_world.specs.Events as event
 use Rattle.ca_model_world.specs.Runs.{CanBe, Leaves, clients_below}

@@ -1,11 +1,9 @@
 -- Where the puts of servers come from: a message that is handled, or the first that waits, as its record's busy put is finished.
-use Rattle.std.proofs.Common.{◌≡◌, ℕ, zero, suc, ◌⊎◌, inl, inr, Bool, true, false, List, [], ◌∷◌, ◌++◌, length, Option, Some, None, refl, sym, ap, subst, ◌∙◌}
-use Rattle.std.specs.Prelude.{drop}
+use Rattle.std.proofs.Common.{◌≡◌, ℕ, suc, ◌⊎◌, inl, inr, true, false, List, [], ◌∷◌, ◌++◌, length, Option, Some, refl, sym, ap, subst, ◌∙◌}
 use Rattle.ca_arena.specs.declared.handle.Handle.{Handle}
-use Rattle.ca_ids.specs.Table.{by_wire, under}
+use Rattle.ca_ids.specs.Table.{under}
 use Rattle.ca_ids.specs.Wire.{wire_of}
 use Rattle.ca_model_client.proofs.Tables.{wire-under}
-use Rattle.ca_link.specs.Link.{with_rest}
 use Rattle.ca_records.specs.declared.puts.Put.{Put}
 use Rattle.ca_records.specs.declared.puts.Stamp.{Stamp}
 use Rattle.ca_records.specs.Puts.{Record, WaitingPut, finished, with_record, with_value, with_waiting, withdrawn, written_meta}
@@ -24,7 +22,7 @@ use Rattle.ca_model_world.specs.World.{Joined, PutPlace, RecordSide, ServerSide,
 use Rattle.ca_laws_writes.specs.Agrees.{Agrees, AreOthers, IsBusyAs, WaitsAs}
 use Rattle.ca_laws_writes.specs.Both.{Both}
 use Rattle.ca_laws_writes.specs.Lives.{IsPutOf}
-use Rattle.ca_laws_writes.proofs.Lists.{In-snoc, beside-left, beside-right, none_at}
+use Rattle.ca_laws_writes.proofs.Lists.{In-snoc, beside-left, beside-right}
 use Rattle.ca_laws_writes.proofs.Lives.{others-apart}
 use Rattle.ca_laws_steps.specs.Pairs.{BusyPair, CoreWaits, SideWaits}
 use Rattle.ca_laws_steps.proofs.Pairs.{Follows, In-drop, cores-are, cores-with, cores-withdrawn, follows-keep, follows-with, none-some, sides-core, sides-same}

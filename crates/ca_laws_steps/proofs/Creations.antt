@@ -1,9 +1,7 @@
 -- The creations that are noted on circuits were told, and are not cleared, over every event and run.
-use Rattle.std.proofs.Common.{◌≡◌, ℕ, ◌+◌, ◌≤◌, ◌<◌, ◌⊎◌, inl, inr, Bool, true, false, not, eqb, eq-eqb, List, [], ◌∷◌, ◌++◌, length, Option, refl, sym, ap, subst, ◌∙◌, arith}
+use Rattle.std.proofs.Common.{◌≡◌, ℕ, ◌+◌, ◌≤◌, ◌<◌, inl, inr, Bool, true, false, not, eqb, eq-eqb, List, [], ◌∷◌, ◌++◌, length, Option, refl, sym, ap, subst, ◌∙◌, arith}
 use Rattle.std.specs.Prelude.{filter, map, option_map, slice_get, slice_set, unwrap_or}
-use Rattle.std.specs.List.{FoldsTo, fold}
-use Rattle.ca_arena.specs.declared.handle.Handle.{Handle}
-use Rattle.ca_ids.specs.Wire.{wire_of}
+use Rattle.std.specs.List.{fold}
 use Rattle.ca_model_client.proofs.Tables.{given-fresh}
 use Rattle.ca_model_client.proofs.Thinner.{three-ways}
 use Rattle.ca_queue.specs.declared.entry.SubKey.{SubKey}
@@ -15,7 +13,7 @@ use Rattle.ca_wire.specs.Fields.{Fields}
 use Rattle.ca_model.specs.Due.{Action, Adds, Applies, Due, KnownChannel, Opens}
 use Rattle.ca_model.specs.Due as action
 use Rattle.ca_model.specs.History.{Cause, Circuit, Reply, Sent, Step, Told}
-use Rattle.ca_model.specs.Server.{OpenChannel, Server, ServerEnd, concerns, key_of}
+use Rattle.ca_model.specs.Server.{Server, ServerEnd, concerns, key_of}
 use Rattle.ca_model.specs.ServerSteps.{Acts, Update, knows}
 use Rattle.ca_model.specs.Speech.{Clears, Creates, In, Is}
 use Rattle.ca_model_world.specs.Events.{Event}

@@ -1,21 +1,21 @@
 -- Over every event, puts were there before, beside their places, or came by the event.
 use Rattle.std.proofs.Common.{◌≡◌, ℕ, ◌+◌, ◌⊎◌, inl, inr, Bool, true, not, List, ◌∷◌, ◌++◌, length, Option, Some, None, refl, sym, ap, subst, ◌∙◌}
-use Rattle.std.specs.Prelude.{Ok, drop, filter, map, option_map, slice_get, slice_set, take, unwrap_or}
+use Rattle.std.specs.Prelude.{drop, filter, map, option_map, slice_get, slice_set, take, unwrap_or}
 use Rattle.std.specs.Str.{bytes_eq}
 use Rattle.ca_arena.specs.declared.handle.Handle.{Handle}
 use Rattle.ca_dbr.specs.Elements.{Elements}
 use Rattle.ca_link.specs.Link.{with_rest}
 use Rattle.ca_ids.specs.Table.{same_handle}
 use Rattle.ca_records.specs.declared.puts.Put.{Put}
-use Rattle.ca_records.specs.Puts.{Record, finished, new_record, removed, with_record, with_value, withdrawn}
+use Rattle.ca_records.specs.Puts.{Record, new_record, removed, with_record, with_value, withdrawn}
 use Rattle.ca_records.specs.Record.{RecordState, unset}
 use Rattle.ca_text.specs.Place.{At}
-use Rattle.ca_text.proofs.Places.{some_is, At-mapped, At-one, At-set}
+use Rattle.ca_text.proofs.Places.{At-set}
 use Rattle.ca_model.specs.Due.{Action}
 use Rattle.ca_model.specs.Ends as why
 use Rattle.ca_model.specs.History.{Collected, GaveUp}
 use Rattle.ca_model.specs.Server.{Server}
-use Rattle.ca_model.specs.ServerCalls.{after_next, with_finish}
+use Rattle.ca_model.specs.ServerCalls.{with_finish}
 use Rattle.ca_model.specs.ServerSteps.{Cuts, LeftOf, Next, Pumps, Stepped, Update, closed}
 use Rattle.ca_model.specs.ServerSteps as stepped
 use Rattle.ca_model_world.specs.ClientEvents.{HappensAccept, HappensDown, WantsFirst}
@@ -24,7 +24,7 @@ use Rattle.ca_model_world.specs.Events as event
 use Rattle.ca_model_world.specs.Runs.{CanBe, Leaves, clients_below}
 use Rattle.ca_model_world.specs.ServerEvents.{Finished, HappensAdd, HappensFinish, HappensPost, HappensRemove, ServerStepped, acted, ends_by, ends_here, next_busy, noted, records_after, replied_at, reported, server_after, side_of, unsaid, without_puts}
 use Rattle.ca_model_world.specs.ServerEvents as server
-use Rattle.ca_model_world.specs.World.{ClientSide, Joined, PutPlace, RecordSide, ServerSide, World, numbered, record_begun, server_begun, with_circuit}
+use Rattle.ca_model_world.specs.World.{ClientSide, Joined, PutPlace, RecordSide, ServerSide, World, record_begun, server_begun, with_circuit}
 use Rattle.ca_laws_writes.specs.Moves.{Lives, finish_told, post_told, removal_told}
 use Rattle.ca_laws_writes.specs.Seats.{Sound, TakesSent}
 use Rattle.ca_laws_writes.proofs.Cores.{accepts-stay, gives-stay, next-records, reaches-ends, replies-stay, sends-stay}

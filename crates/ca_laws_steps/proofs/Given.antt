@@ -1,5 +1,5 @@
 -- The puts of servers beside their channels, as one end and its circuit change.
-use Rattle.std.proofs.Common.{◌≡◌, ℕ, ◌≤◌, ◌<◌, inl, inr, Bool, true, false, not, eqb, eqb-true, List, [], ◌∷◌, ◌++◌, length, Option, Some, None, refl, sym, ap, subst, ◌∙◌}
+use Rattle.std.proofs.Common.{◌≡◌, ℕ, ◌≤◌, inl, inr, Bool, true, false, not, eqb, eqb-true, List, length, Option, Some, None, refl, sym, ap, subst, ◌∙◌}
 use Rattle.std.specs.Prelude.{filter, option_map, unwrap_or}
 use Rattle.ca_arena.specs.declared.handle.Handle.{Handle}
 use Rattle.ca_ids.specs.Table.{Table, by_wire, under, with_each, with_freed, with_held}
@@ -7,7 +7,6 @@ use Rattle.ca_ids.specs.Wire.{wire_of}
 use Rattle.ca_model_client.proofs.Tables.{freed-back, held-back, under-wire}
 use Rattle.ca_model_client.proofs.Thinner.{given-held, given-thin, thin-freed}
 use Rattle.ca_model_client.specs.Placed.{WasGiven}
-use Rattle.ca_records.specs.declared.puts.Put.{Put}
 use Rattle.ca_text.specs.Limits.{arena_slots}
 use Rattle.ca_text.specs.Place.{At}
 use Rattle.ca_wire.specs.Fields.{Fields}
@@ -24,8 +23,8 @@ use Rattle.ca_laws_bytes.proofs.Tables.{thin-each}
 use Rattle.ca_laws_kept.proofs.Channels.{each-back}
 use Rattle.ca_laws_runs.proofs.Sending.{not-given}
 use Rattle.ca_laws_writes.proofs.Lists.{In-append, kept-in}
-use Rattle.ca_laws_steps.specs.Pairs.{BusyPair, SideWaits}
-use Rattle.ca_laws_steps.specs.Puts.{CameOnChannel, IsOnChannel, PutsOn}
+use Rattle.ca_laws_steps.specs.Pairs.{SideWaits}
+use Rattle.ca_laws_steps.specs.Puts.{PutsOn}
 
 -- What is open still was open, no handle is forgotten, and creations of what is open stay.
 pub record Stays (y : ServerSide) (n : ℕ) (e f : ServerEnd) (c d : Joined) : Type 0 where

@@ -1,6 +1,6 @@
 -- A step of a server's end that handles a message: its circuit, and the records of its server, after it.
-use Rattle.std.proofs.Common.{◌≡◌, ℕ, ◌+◌, inl, inr, Bool, true, false, cond, ◌&&◌, eqb, not, List, [], ◌∷◌, ◌++◌, length, Option, Some, None, refl, sym, ap, subst, ◌∙◌}
-use Rattle.std.specs.Prelude.{filter, map, option_map, slice_get, slice_set, unwrap_or}
+use Rattle.std.proofs.Common.{◌≡◌, ℕ, ◌+◌, Bool, true, false, cond, ◌&&◌, eqb, List, [], ◌∷◌, length, Option, Some, None, refl, sym, ap, subst, ◌∙◌}
+use Rattle.std.specs.Prelude.{map, option_map, slice_get, slice_set, unwrap_or}
 use Rattle.std.specs.List.{fold}
 use Rattle.ca_ids.specs.Table.{under}
 use Rattle.ca_queue.specs.declared.entry.SubKey.{SubKey}
@@ -13,8 +13,7 @@ use Rattle.ca_model.specs.History.{Step}
 use Rattle.ca_model.specs.Server.{Server}
 use Rattle.ca_model.specs.Speech.{In}
 use Rattle.ca_model_world.specs.ServerEvents.{StepHandles, acted, ending, ends_at, ends_by, handled_at, keys_concerned, logged, numbers_after, records_after, reported, server_after, side_of, with_number, without_puts, write_numbers}
-use Rattle.ca_model_world.specs.World.{Creation, Joined, PutPlace, RecordSide, ServerSide, Standing, World, with_circuit}
-use Rattle.ca_laws_writes.proofs.Lists.{In-kept}
+use Rattle.ca_model_world.specs.World.{Joined, PutPlace, ServerSide, Standing, World, with_circuit}
 use Rattle.ca_laws_writes.proofs.Midway.{set-here}
 use Rattle.ca_laws_writes.proofs.Seats.{open-still}
 

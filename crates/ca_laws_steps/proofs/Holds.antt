@@ -1,5 +1,5 @@
 -- What is held of all circuits, over every event and run of which the next messages are known.
-use Rattle.std.proofs.Common.{◌≡◌, ℕ, suc, ◌<◌, ◌≤◌, ◌⊎◌, inl, inr, true, List, [], ◌∷◌, length, Option, Some, refl, sym, ap, subst, ◌∙◌, arith}
+use Rattle.std.proofs.Common.{◌≡◌, ℕ, suc, ◌<◌, ◌≤◌, inl, inr, true, List, [], ◌∷◌, length, Option, Some, refl, sym, subst, ◌∙◌, arith}
 use Rattle.std.specs.List.{FoldsTo}
 use Rattle.ca_text.specs.Place.{At}
 use Rattle.ca_text.proofs.Places.{At-one, At-or, At-within}
@@ -13,7 +13,7 @@ use Rattle.ca_model_world.specs.Events.{Event}
 use Rattle.ca_model_world.specs.Events as event
 use Rattle.ca_model_world.specs.Runs.{Happens, Runs, StopsAt, clients_below}
 use Rattle.ca_model_world.specs.ServerEvents.{ServerStepped}
-use Rattle.ca_model_world.specs.World.{ClientSide, Creation, IsSetting, Joined, RecordSide, ServerSide, Setting, Standing, World, opening}
+use Rattle.ca_model_world.specs.World.{Creation, IsSetting, Joined, RecordSide, ServerSide, Setting, Standing, World, opening}
 use Rattle.ca_laws_bytes.specs.Runs.{IsReached}
 use Rattle.ca_laws_kept.specs.Kept.{kept, sid_at}
 use Rattle.ca_laws_kept.proofs.Laters.{fewer-at, held-then}

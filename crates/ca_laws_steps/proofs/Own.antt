@@ -1,11 +1,9 @@
 -- A message with its one reply: its server keeps nothing for it.
-use Rattle.std.proofs.Common.{◌≡◌, ℕ, ◌<◌, ◌⊎◌, inl, inr, Bool, true, false, cond, ◌&&◌, eqb, not, List, [], ◌∷◌, ◌++◌, length, Option, Some, None, refl, sym, ap, subst, ◌∙◌, arith}
-use Rattle.std.specs.Prelude.{filter, is_some, map, option_map}
+use Rattle.std.proofs.Common.{◌≡◌, ℕ, ◌<◌, inl, inr, Bool, true, false, cond, ◌&&◌, eqb, not, List, [], ◌∷◌, length, Option, Some, None, refl, sym, ap, subst, ◌∙◌, arith}
+use Rattle.std.specs.Prelude.{is_some, map}
 use Rattle.ca_link.specs.Link.{with_rest}
 use Rattle.ca_queue.specs.Keys.{same}
 use Rattle.ca_records.specs.declared.puts.Put.{Put}
-use Rattle.ca_records.specs.Puts.{Record, record_named}
-use Rattle.ca_text.specs.declared.command.Command.TheVariants as command
 use Rattle.ca_text.specs.Place.{At}
 use Rattle.ca_text.proofs.Places.{At-one}
 use Rattle.ca_text.specs.Status.{normal}
@@ -14,12 +12,10 @@ use Rattle.ca_wire.specs.Messages.{status_reply}
 use Rattle.ca_model.specs.Due.{Action, Adds, Applies, Due, KnownRecord, Knows, Nothing, Opens, PutDue, must_wait}
 use Rattle.ca_model.specs.Due as action
 use Rattle.ca_model.specs.Server.{Server, ServerEnd}
-use Rattle.ca_model.specs.ServerSteps.{knows, known_record}
-use Rattle.ca_model.specs.Speech.{In, Is}
+use Rattle.ca_model.specs.ServerSteps.{knows}
+use Rattle.ca_model.specs.Speech.{In}
 use Rattle.ca_model_world.specs.ServerEvents.{StepHandles, ends_at, ends_by, handled_at, numbers_after, records_after, without_puts}
-use Rattle.ca_model_world.specs.ServerEvents as event
 use Rattle.ca_model_world.specs.World.{Creation, Joined, PutPlace, RecordSide, ServerSide, Setting, Standing, World}
-use Rattle.ca_laws_writes.specs.Agrees.{Agrees}
 use Rattle.ca_laws_writes.specs.Lives.{AreSlow, IsPutOf}
 use Rattle.ca_laws_writes.specs.Moves.{Lives}
 use Rattle.ca_laws_writes.specs.Seats.{Sound}
@@ -31,10 +27,10 @@ use Rattle.ca_laws_writes.proofs.Step.{known-one}
 use Rattle.ca_laws_writes.proofs.Waited.{numbers-after-same, write-numbers-same}
 use Rattle.ca_laws_kept.specs.Kept.{kept, records_at}
 use Rattle.ca_laws_kept.specs.Messages.{AllMessages}
-use Rattle.ca_laws_kept.proofs.Puts.{HasPut, PutIn}
+use Rattle.ca_laws_kept.proofs.Puts.{PutIn}
 use Rattle.ca_laws_kept.proofs.Thins.{KeptBy, kept-there, put-facts, records-there}
 use Rattle.ca_laws_steps.proofs.Handled.{circuit-is, mid, moved, own, sides-are, step, written-parts}
-use Rattle.ca_laws_steps.proofs.Pairs.{SidesKeep, sides-core, sides-same, sides-then, sides-without}
+use Rattle.ca_laws_steps.proofs.Pairs.{SidesKeep, sides-core, sides-same, sides-without}
 
 -- ---- what is due
 

@@ -1,7 +1,7 @@
 -- The puts of servers stand beside their channels, over every event and run.
-use Rattle.std.proofs.Common.{◌≡◌, ℕ, suc, ◌≤◌, ◌<◌, ◌⊎◌, inl, inr, Bool, true, false, cond, not, ◌&&◌, eqb, eq-eqb, eqb-true, List, [], ◌∷◌, ◌++◌, length, Option, Some, None, refl, sym, ap, subst, ◌∙◌, arith}
+use Rattle.std.proofs.Common.{◌≡◌, ℕ, ◌≤◌, ◌<◌, ◌⊎◌, inl, inr, Bool, true, cond, not, ◌&&◌, eqb, eq-eqb, eqb-true, List, [], ◌∷◌, ◌++◌, length, Option, Some, None, refl, sym, ap, subst, ◌∙◌, arith}
 use Rattle.std.proofs.lemmas.Bool.{both_ways}
-use Rattle.std.specs.Prelude.{filter, find, is_some, map, option_map, slice_get, slice_set, unwrap_or}
+use Rattle.std.specs.Prelude.{filter, is_some, map, option_map, slice_get, slice_set, unwrap_or}
 use Rattle.std.specs.List.{FoldsTo, fold}
 use Rattle.ca_arena.specs.declared.handle.Handle.{Handle}
 use Rattle.ca_ids.specs.Table.{same_handle, under}
@@ -12,12 +12,11 @@ use Rattle.ca_model_client.specs.Placed.{WasGiven}
 use Rattle.ca_queue.specs.declared.entry.SubKey.{SubKey}
 use Rattle.ca_queue.specs.Queue.{Queue, with_front_taken}
 use Rattle.ca_records.specs.declared.puts.Put.{Put}
-use Rattle.ca_records.specs.Puts.{Record, WaitingPut}
 use Rattle.ca_text.specs.declared.command.Command.TheVariants as command
 use Rattle.ca_ids.specs.Table.{Table}
 use Rattle.ca_text.specs.Limits.{arena_slots}
 use Rattle.ca_text.specs.Place.{At}
-use Rattle.ca_text.proofs.Places.{some_is, At-map, At-mapped, At-one, At-set, At-within}
+use Rattle.ca_text.proofs.Places.{At-map, At-one, At-within}
 use Rattle.ca_wire.specs.Fields.{Fields}
 use Rattle.ca_model.specs.Due.{Action, Clears}
 use Rattle.ca_model.specs.Due as action
@@ -30,10 +29,10 @@ use Rattle.ca_model.specs.ServerSteps as stepped
 use Rattle.ca_model.specs.Speech.{In, Is, sid_in}
 use Rattle.ca_model_world.specs.Events.{Event}
 use Rattle.ca_model_world.specs.Events as event
-use Rattle.ca_model_world.specs.Runs.{CanBe, Happens, HasServerEnd}
+use Rattle.ca_model_world.specs.Runs.{Happens, HasServerEnd}
 use Rattle.ca_model_world.specs.ServerEvents.{ServerStepped, acted, ending, ends_by, ends_here, front_number, numbers_after, records_after, reported, server_after, side_of, stamped, unsaid, with_number, without_puts, write_numbers}
 use Rattle.ca_model_world.specs.ServerEvents as server
-use Rattle.ca_model_world.specs.World.{Creation, IsSetting, Joined, PutPlace, RecordSide, ServerSide, Setting, World, opening}
+use Rattle.ca_model_world.specs.World.{Creation, IsSetting, Joined, PutPlace, RecordSide, ServerSide, Setting, World}
 use Rattle.ca_laws_writes.specs.Agrees.{Agrees, WaitsAs}
 use Rattle.ca_laws_writes.specs.Lives.{IsPutOf}
 use Rattle.ca_laws_writes.specs.Moves.{Lives}
@@ -45,18 +44,17 @@ use Rattle.ca_laws_writes.proofs.Lasting.{AllEnds, Begins, Lasting, numbered_for
 use Rattle.ca_laws_writes.proofs.LastingAll.{OnStep, event-by}
 use Rattle.ca_laws_writes.proofs.LastingEvents.{one-end}
 use Rattle.ca_laws_writes.proofs.LastingStep.{HandledHere}
-use Rattle.ca_laws_writes.proofs.Lists.{In-kept, both-at}
+use Rattle.ca_laws_writes.proofs.Lists.{both-at}
 use Rattle.ca_laws_writes.proofs.Midway.{set-here}
 use Rattle.ca_laws_writes.proofs.Seats.{open-still}
 use Rattle.ca_laws_writes.proofs.Waited.{numbers-after-same, write-numbers-same}
 use Rattle.ca_laws_kept.specs.Channels.{AllChannels, has_sid}
 use Rattle.ca_laws_kept.specs.Messages.{AllMessages}
-use Rattle.ca_laws_kept.proofs.Puts.{In-mapped}
-use Rattle.ca_laws_kept.proofs.Thins.{PutFacts, put-facts}
+use Rattle.ca_laws_kept.proofs.Thins.{put-facts}
 use Rattle.ca_laws_steps.specs.Pairs.{BusyPair, CoreWaits, SideWaits}
 use Rattle.ca_laws_steps.specs.Puts.{AllPuts, CameOnChannel, IsOnChannel, PutsOn}
-use Rattle.ca_laws_steps.proofs.Comes.{Comes, NextPut, StepPut, busy-beside, core-beside}
-use Rattle.ca_laws_steps.proofs.Follow.{NoPuts, PutsFollow, puts-follow}
+use Rattle.ca_laws_steps.proofs.Comes.{Comes, StepPut, core-beside}
+use Rattle.ca_laws_steps.proofs.Follow.{PutsFollow, puts-follow}
 use Rattle.ca_laws_steps.proofs.Handled.{mid, own, sides-are}
 use Rattle.ca_laws_steps.proofs.Given.{NoneCleared, Stays, puts-stay, stays-handled, stays-removed, stays-same}
 use Rattle.ca_laws_steps.proofs.Pairs.{Follows, core-at, places-at, sides-without}

@@ -1,6 +1,5 @@
 -- What holds of servers and circuits, over every event and run; and what is held of circuits.
-use Rattle.std.proofs.Common.{◌≡◌, ℕ, suc, ◌<◌, ◌≤◌, inl, inr, true, List, [], ◌∷◌, length, Option, Some, None, refl, sym, ap, subst, ◌∙◌}
-use Rattle.std.specs.Prelude.{slice_get}
+use Rattle.std.proofs.Common.{◌≡◌, ℕ, inl, inr, true, List, [], ◌∷◌, length, Option, Some, refl, sym, ap, subst, ◌∙◌}
 use Rattle.std.specs.List.{FoldsTo}
 use Rattle.ca_arena.specs.declared.handle.Handle.{Handle}
 use Rattle.ca_link.specs.Link.{with_rest}
@@ -8,7 +7,6 @@ use Rattle.ca_text.specs.declared.command.Command.TheVariants as command
 use Rattle.ca_text.specs.Place.{At}
 use Rattle.ca_text.proofs.Places.{At-one, At-within}
 use Rattle.ca_wire.specs.Fields.{Fields}
-use Rattle.ca_model.specs.Server.{ServerEnd}
 use Rattle.ca_model.specs.ServerSteps.{HasEnd, Stepped, knows}
 use Rattle.ca_model.specs.ServerSteps as stepped
 use Rattle.ca_model.specs.Speech.{In, Is}
@@ -24,14 +22,14 @@ use Rattle.ca_laws_circuit.specs.Replies.{IsCidAt}
 use Rattle.ca_laws_kept.specs.Awaited.{KeepsAwaited}
 use Rattle.ca_laws_kept.specs.Kept.{kept}
 use Rattle.ca_laws_kept.proofs.Finishes.{finish-keeps-held}
-use Rattle.ca_laws_kept.proofs.Laters.{calm-keeps, fewer-at, held-then}
+use Rattle.ca_laws_kept.proofs.Laters.{calm-keeps, fewer-at}
 use Rattle.ca_laws_kept.proofs.Removals.{remove-keeps-held}
 use Rattle.ca_laws_kept.proofs.Runs.{channels-event, channels-run, messages-event, messages-run, numbers-event, numbers-run, opening-channels, opening-messages, opening-numbers, pump-keeps-held, step-others, step-were}
 use Rattle.ca_laws_kept.proofs.Thins.{kept-from, kept-there}
 use Rattle.ca_laws_runs.specs.Calm.{IsCalm}
 use Rattle.ca_laws_runs.specs.Circuit.{HeldAt}
 use Rattle.ca_laws_runs.proofs.ServerSteps.{keeps-unhandled, own-handled}
-use Rattle.ca_laws_writes.specs.Seats.{Sound, TakesSent}
+use Rattle.ca_laws_writes.specs.Seats.{TakesSent}
 use Rattle.ca_laws_writes.proofs.Every.{event-sound, ticks-frame}
 use Rattle.ca_laws_writes.proofs.Frames.{Frame}
 use Rattle.ca_laws_writes.proofs.Lists.{none_at}
