@@ -3,6 +3,10 @@ use Rattle.std.proofs.Common.{◌≡◌, ℕ, suc, ◌<◌, ◌≤◌, inl, inr,
 use Rattle.std.specs.List.{FoldsTo}
 use Rattle.ca_text.specs.Place.{At}
 use Rattle.ca_text.proofs.Places.{At-one, At-or, At-within}
+use Rattle.ca_link.specs.Link.{TakesFirst}
+use Rattle.ca_wire.specs.Fields.{Fields}
+use Rattle.ca_model.specs.Client.{Connection, connection_at}
+use Rattle.ca_model.specs.ClientEnds.{after_taking}
 use Rattle.ca_model.specs.ServerSteps.{Stepped}
 use Rattle.ca_model.specs.ServerSteps as stepped
 use Rattle.ca_model.specs.History.{Told}
@@ -11,7 +15,7 @@ use Rattle.ca_model_safe.specs.Headline.{TakesOwn}
 use Rattle.ca_model_world.specs.ClientEvents.{TicksOne}
 use Rattle.ca_model_world.specs.Events.{Event}
 use Rattle.ca_model_world.specs.Events as event
-use Rattle.ca_model_world.specs.Runs.{Happens, Runs, StopsAt, clients_below}
+use Rattle.ca_model_world.specs.Runs.{Happens, HasClientEnd, Runs, StopsAt, clients_below}
 use Rattle.ca_model_world.specs.ServerEvents.{ServerStepped}
 use Rattle.ca_model_world.specs.World.{Creation, IsSetting, Joined, RecordSide, ServerSide, Setting, Standing, World, opening}
 use Rattle.ca_laws_bytes.specs.Runs.{IsReached}
@@ -19,7 +23,7 @@ use Rattle.ca_laws_kept.specs.Kept.{kept, sid_at}
 use Rattle.ca_laws_kept.proofs.Laters.{fewer-at, held-then}
 use Rattle.ca_laws_kept.proofs.Puts.{PutIn}
 use Rattle.ca_laws_kept.proofs.Thins.{channel-of, kept-there, of-channel, put-facts, records-there, sid-is, there-kept}
-use Rattle.ca_laws_runs.specs.Circuit.{HeldAt}
+use Rattle.ca_laws_runs.specs.Circuit.{HeldAt, IsKnown}
 use Rattle.ca_laws_runs.proofs.Known.{keeps-known-step}
 use Rattle.ca_laws_runs.proofs.NewCircuits.{keeps-accepted}
 use Rattle.ca_laws_runs.proofs.Ticks.{keeps-ticks}
@@ -28,7 +32,7 @@ use Rattle.ca_laws_writes.specs.Seats.{Sound}
 use Rattle.ca_laws_writes.proofs.Every.{ticks-frame}
 use Rattle.ca_laws_writes.proofs.Frames.{Frame, frame-keeps}
 use Rattle.ca_laws_writes.proofs.Lists.{none_at}
-use Rattle.ca_laws_writes.proofs.Moves.{same-or}
+use Rattle.ca_laws_writes.proofs.Moves.{At-below, same-or}
 use Rattle.ca_laws_steps.specs.Held.{AllCircuitsHeld, AllKnown, IsKnownStep}
 use Rattle.ca_laws_steps.specs.Worlds.{ServersStand}
 use Rattle.ca_laws_steps.proofs.Circuits.{IsAccept, accept-were, leaves-were}
@@ -53,40 +57,53 @@ module _ (s : Setting) (w new : World) (ok : IsSetting s) (h : ServersStand s w)
       go stepped.OutputFull f = unhandled-held s w new l ok h k stepped.OutputFull happens (λ e. cc) f held
       go (stepped.Closed cause left) f = unhandled-held s w new l ok h k (stepped.Closed cause left) happens (λ e. cc) f held
 
-  -- a step of a client's end
-  client-held : (k l : ℕ) (happens : Happens w (event.ClientStep k) new) → IsKnownStep w (event.ClientStep k) new → HeldAt (kept w l) w l → HeldAt (kept new l) new l
-  client-held k l happens known held =
-      let a = happens.0 in
-      held-then s w new (event.ClientStep k) l ok (takes-next s w h) h.stands.sound happens (At-within w.circuits l held.0 held.2) (λ p own. own)
-      (keeps-known-step (kept w l) w new k l a.j a.x a.joins.at a.joins.client a.is_open h.stands.clients (λ d m rest. known a.j a.x d m rest a.joins.at a.joins.client) happens.1 held)
+  -- a step of a client's end: the message that it takes is about one that it sent
+  module _ (k : ℕ) (happens : Happens w (event.ClientStep k) new) (known : IsKnownStep w (event.ClientStep k) new) (all : AllCircuitsHeld w) where
+    abbrev a : HasClientEnd w k
+    a = happens.0
 
-  there-held : (e : Event) (l : ℕ) → Happens w e new → IsKnownStep w e new → HeldAt (kept w l) w l → HeldAt (kept new l) new l
-  there-held (event.ServerStep k) l happens known held = step-held k l happens known held
-  there-held (event.ClientStep k) l happens known held = client-held k l happens known held
-  there-held (event.Open i name priority) l happens known held = other-held s w new l ok h (event.Open i name priority) tt happens held
-  there-held (event.Clear i c) l happens known held = other-held s w new l ok h (event.Clear i c) tt happens held
-  there-held (event.Read i c data_type count) l happens known held = other-held s w new l ok h (event.Read i c data_type count) tt happens held
-  there-held (event.Write i c e) l happens known held = other-held s w new l ok h (event.Write i c e) tt happens held
-  there-held (event.WriteNotify i c e) l happens known held = other-held s w new l ok h (event.WriteNotify i c e) tt happens held
-  there-held (event.Subscribe i c data_type count mask) l happens known held = other-held s w new l ok h (event.Subscribe i c data_type count mask) tt happens held
-  there-held (event.Unsubscribe i n) l happens known held = other-held s w new l ok h (event.Unsubscribe i n) tt happens held
-  there-held (event.Collect i r) l happens known held = other-held s w new l ok h (event.Collect i r) tt happens held
-  there-held (event.GiveUp i r) l happens known held = other-held s w new l ok h (event.GiveUp i r) tt happens held
-  there-held (event.ClientDatagram i from bytes) l happens known held = other-held s w new l ok h (event.ClientDatagram i from bytes) tt happens held
-  there-held (event.ServerDatagram i from bytes) l happens known held = other-held s w new l ok h (event.ServerDatagram i from bytes) tt happens held
-  there-held (event.Up k n) l happens known held = other-held s w new l ok h (event.Up k n) tt happens held
-  there-held (event.Down k n) l happens known held = other-held s w new l ok h (event.Down k n) tt happens held
-  there-held (event.Pump k) l happens known held = other-held s w new l ok h (event.Pump k) tt happens held
-  there-held (event.CutClient k) l happens known held = other-held s w new l ok h (event.CutClient k) tt happens held
-  there-held (event.CutServer k) l happens known held = other-held s w new l ok h (event.CutServer k) tt happens held
-  there-held (event.ClientRestart i) l happens known held = other-held s w new l ok h (event.ClientRestart i) tt happens held
-  there-held (event.ServerRestart i) l happens known held = other-held s w new l ok h (event.ServerRestart i) tt happens held
-  there-held (event.Post i name e mask) l happens known held = other-held s w new l ok h (event.Post i name e mask) tt happens held
-  there-held (event.Finish i name) l happens known held = other-held s w new l ok h (event.Finish i name) tt happens held
-  there-held (event.Remove i name) l happens known held = other-held s w new l ok h (event.Remove i name) tt happens held
-  there-held (event.Add i r) l happens known held = other-held s w new l ok h (event.Add i r) tt happens held
-  there-held (event.Tick moment) l happens known held = other-held s w new l ok h (event.Tick moment) tt happens held
-  there-held (event.Accept i) l happens known held = other-held s w new l ok h (event.Accept i) tt happens held
+    heard : (d : Connection) (m : Fields) (rest : List ℕ) → connection_at a.x.core a.j.at_client ≡ Some d → TakesFirst d.link m rest → IsKnown a.x.names (after_taking a.j.at_client rest a.x.core) a.j.at_client a.j.lists m
+    heard d m rest is takes =
+        let t = known.0 k a.j a.x d m rest a.joins.at a.joins.client a.is_open is takes in
+        let on = all k a.j a.joins.at in
+        let one : on.0 ≡ a.j = At-one w.circuits k on.0 a.j on.2 a.joins.at in
+        let lt : t.0.place < length a.j.lists.up = subst (λ (z : Joined). t.0.place < length z.lists.up) one (on.4.flows.about (length a.j.lists.heard) t.0 (subst (λ (z : Joined). At z.lists.down (length a.j.lists.heard) t.0) (sym one) t.1)) in
+        let s = At-below a.j.lists.up t.0.place lt in
+        let f = known.1 a.j a.x d m rest t.0 s.0 a.joins.at a.joins.client is takes t.1 s.1 in
+        record { t = t.0; at = t.1; is = t.2; s = s.0; there = s.1; reply = f.reply; own = f.own; failed = f.failed; cleared = f.cleared; confirms = f.confirms; refuses = f.refuses }
+
+    client-held : (l : ℕ) → HeldAt (kept w l) w l → HeldAt (kept new l) new l
+    client-held l held =
+        held-then s w new (event.ClientStep k) l ok (takes-next s w h) h.stands.sound happens (At-within w.circuits l held.0 held.2) (λ p own. own)
+        (keeps-known-step (kept w l) w new k l a.j a.x a.joins.at a.joins.client a.is_open h.stands.clients heard happens.1 held)
+
+  there-held : (e : Event) (l : ℕ) → Happens w e new → IsKnownStep w e new → AllCircuitsHeld w → HeldAt (kept w l) w l → HeldAt (kept new l) new l
+  there-held (event.ServerStep k) l happens known all held = step-held k l happens known held
+  there-held (event.ClientStep k) l happens known all held = client-held k happens known all l held
+  there-held (event.Open i name priority) l happens known all held = other-held s w new l ok h (event.Open i name priority) tt happens held
+  there-held (event.Clear i c) l happens known all held = other-held s w new l ok h (event.Clear i c) tt happens held
+  there-held (event.Read i c data_type count) l happens known all held = other-held s w new l ok h (event.Read i c data_type count) tt happens held
+  there-held (event.Write i c e) l happens known all held = other-held s w new l ok h (event.Write i c e) tt happens held
+  there-held (event.WriteNotify i c e) l happens known all held = other-held s w new l ok h (event.WriteNotify i c e) tt happens held
+  there-held (event.Subscribe i c data_type count mask) l happens known all held = other-held s w new l ok h (event.Subscribe i c data_type count mask) tt happens held
+  there-held (event.Unsubscribe i n) l happens known all held = other-held s w new l ok h (event.Unsubscribe i n) tt happens held
+  there-held (event.Collect i r) l happens known all held = other-held s w new l ok h (event.Collect i r) tt happens held
+  there-held (event.GiveUp i r) l happens known all held = other-held s w new l ok h (event.GiveUp i r) tt happens held
+  there-held (event.ClientDatagram i from bytes) l happens known all held = other-held s w new l ok h (event.ClientDatagram i from bytes) tt happens held
+  there-held (event.ServerDatagram i from bytes) l happens known all held = other-held s w new l ok h (event.ServerDatagram i from bytes) tt happens held
+  there-held (event.Up k n) l happens known all held = other-held s w new l ok h (event.Up k n) tt happens held
+  there-held (event.Down k n) l happens known all held = other-held s w new l ok h (event.Down k n) tt happens held
+  there-held (event.Pump k) l happens known all held = other-held s w new l ok h (event.Pump k) tt happens held
+  there-held (event.CutClient k) l happens known all held = other-held s w new l ok h (event.CutClient k) tt happens held
+  there-held (event.CutServer k) l happens known all held = other-held s w new l ok h (event.CutServer k) tt happens held
+  there-held (event.ClientRestart i) l happens known all held = other-held s w new l ok h (event.ClientRestart i) tt happens held
+  there-held (event.ServerRestart i) l happens known all held = other-held s w new l ok h (event.ServerRestart i) tt happens held
+  there-held (event.Post i name e mask) l happens known all held = other-held s w new l ok h (event.Post i name e mask) tt happens held
+  there-held (event.Finish i name) l happens known all held = other-held s w new l ok h (event.Finish i name) tt happens held
+  there-held (event.Remove i name) l happens known all held = other-held s w new l ok h (event.Remove i name) tt happens held
+  there-held (event.Add i r) l happens known all held = other-held s w new l ok h (event.Add i r) tt happens held
+  there-held (event.Tick moment) l happens known all held = other-held s w new l ok h (event.Tick moment) tt happens held
+  there-held (event.Accept i) l happens known all held = other-held s w new l ok h (event.Accept i) tt happens held
 
   -- no circuit is new, but by an acceptance
   not-new : (e : Event) (l : ℕ) (d : Joined) → (IsAccept e → ⊥) → Happens w e new → At new.circuits l d → length w.circuits ≤ l → HeldAt (kept new l) new l
@@ -127,7 +144,7 @@ module _ (s : Setting) (w new : World) (ok : IsSetting s) (h : ServersStand s w)
 
   pub event-held : (e : Event) → Happens w e new → IsKnownStep w e new → AllCircuitsHeld w → AllCircuitsHeld new
   event-held e happens known all l d at = elim (At-or w.circuits l) [
-    | inl old ↦ there-held e l happens known (all l old.0 old.1)
+    | inl old ↦ there-held e l happens known all (all l old.0 old.1)
     | inr past ↦ new-held e l d happens at past
   ]
 

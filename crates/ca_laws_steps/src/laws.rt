@@ -70,8 +70,9 @@ pub fn a_servers_step_keeps_what_is_held()
 {}
 
 /// What is held of all circuits stays so over every event, and over every run, as far as it is known
-/// of each message that an end takes what it is about: `IsKnown` at a client, `IsOwnNext` at a
-/// server. Nothing else is asked for but a well-formed setting.
+/// of each message that an end takes what it is about: `IsOwnNext` at a server; and at a client that
+/// it is the next that was sent there, and `IsHeard`. Nothing else is asked for but a well-formed
+/// setting.
 pub fn what_is_held_in_runs()
     ensures begins { (s : Setting) → AllCircuitsHeld (opening s) }
     ensures event { (w new : World) (e : Event) → IsReached w → Happens w e new
