@@ -8,5 +8,8 @@ pub mod Awaited
 pub mod Own
 pub mod Whole
 pub mod Circuits
+pub mod Answering
+pub mod Replied
+pub mod Found
 pub mod Holds
 pub mod Creations

@@ -14,7 +14,7 @@ use Rattle.ca_wire.specs.Fields.{Fields}
 use Rattle.ca_model.specs.Client.{Client, Connection, Phase, channel_on, connection_at}
 use Rattle.ca_model.specs.ClientEnds.{after_taking}
 use Rattle.ca_model.specs.Hears.{heard_by}
-use Rattle.ca_model.specs.History.{Cancel, Circuit, Clear, Create, On, Reply, Sent, Told}
+use Rattle.ca_model.specs.History.{Cancel, Circuit, On, Reply, Sent, Told}
 use Rattle.ca_model.specs.Speech.{Is, SubId}
 use Rattle.ca_model_safe.specs.Channels.{named}
 use Rattle.ca_model_world.specs.ClientEvents.{channel_number, meant_by}
@@ -33,15 +33,15 @@ use Rattle.ca_laws_steps.specs.Worlds.{IsOwnNext}
 abbrev pub AllCircuitsHeld : World → Type 0
 AllCircuitsHeld w = (l : ℕ) (j : Joined) → At w.circuits l j → HeldAt (kept w l) w l
 
--- What is not shown of all runs yet, of the message t that a client reads next, about its message s: of what is it the reply, what was
--- meant by what it finds in the client's tables, and that nothing was sent since on a channel that it ends.
+-- What is not shown of all runs yet, of the message t that a client reads next, about its message s: that it is a reply, what was meant by
+-- the request or the subscription that it finds, and that nothing was sent since on a channel that it ends.
 pub record IsHeard (n : Names) (x : Client) (on : Handle) (c : Circuit) (m : Fields) (t : Told) (s : Sent) : Type 0 where
   pub reply : (Is command.AccessRights m → ⊥) → (Is command.ServerDisconnect m → ⊥) → (Is command.EventAdd m → m.payload ≡ []) → t.cause ≡ Reply
   pub own : OnChannels n x c
   pub failed : (h : Handle) (p : Phase) → Is command.CreateChannelFail m → channel_on x on m.p1 ≡ Some (h, p)
-      → (s.intent ≡ On (channel_number n h) Create) × IsQuiet c t.place (channel_number n h)
+      → IsQuiet c t.place (channel_number n h)
   pub cleared : (h : Handle) (p : Phase) → Is command.ClearChannel m → channel_on x on m.p2 ≡ Some (h, p)
-      → (s.intent ≡ On (channel_number n h) Clear) × IsQuiet c t.place (channel_number n h)
+      → IsQuiet c t.place (channel_number n h)
   pub confirms : (q : Handle) → Is command.EventAdd m → m.payload ≡ [] → confirmed_by on m.p2 x.subscriptions ≡ Some q
       → (channel number : ℕ) × (s.intent ≡ On channel (Cancel number)) × IsLastCancel c t.place (SubId (wire_of q)) number
   pub refuses : (h : Header) (q : Handle) → Is command.Error m → QuotesHeader m h → h.command ≡ command_number command.EventAdd

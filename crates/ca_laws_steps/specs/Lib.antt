@@ -3,3 +3,4 @@ pub mod Puts
 pub mod Worlds
 pub mod Held
 pub mod Creations
+pub mod Answering

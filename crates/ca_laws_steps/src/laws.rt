@@ -14,6 +14,7 @@ ghost use Rattle.ca_laws_kept.specs.Awaited.{KeepsAwaited};
 ghost use Rattle.ca_laws_kept.specs.Kept.{kept};
 ghost use Rattle.ca_laws_runs.specs.Circuit.{HeldAt};
 ghost use Rattle.ca_laws_writes.specs.Says.{AllAsked};
+ghost use Rattle.ca_laws_steps.specs.Answering.{AllAnswer};
 ghost use Rattle.ca_laws_steps.specs.Creations.{AllCreations};
 ghost use Rattle.ca_laws_steps.specs.Held.{AllCircuitsHeld, AllKnown, IsKnownStep};
 ghost use Rattle.ca_laws_steps.specs.Worlds.{IsOther, IsOwnNext, ServersStand};
@@ -95,4 +96,11 @@ pub fn what_is_held_is_what_was_meant()
 /// and no two are open under one SID.
 pub fn open_channels_were_told()
     ensures { (w : World) → IsReached w → AllCreations w }
+{}
+
+/// In every world to which a run leads, each reply of a server is about a message of its kind: a
+/// CREATE_CH_FAIL about a CREATE_CHAN, a CLEAR_CHANNEL about the client's, and an EVENT_ADD about an
+/// EVENT_CANCEL.
+pub fn replies_answer_their_kind()
+    ensures { (w : World) → IsReached w → AllAnswer w }
 {}
