@@ -67,3 +67,13 @@ clear-is (Request Put k) m asks is = absurd (let e : ◌≡◌ {A = ℕ} 19 12 =
 clear-is (Request Write k) m asks is = absurd (let e : ◌≡◌ {A = ℕ} 4 12 = sym asks ∙ is in omega (arith, e))
 clear-is (Subscribe k) m asks is = absurd (let e : ◌≡◌ {A = ℕ} 1 12 = sym asks ∙ is in omega (arith, e))
 clear-is (Cancel k) m asks is = absurd (let e : ◌≡◌ {A = ℕ} 2 12 = sym asks ∙ is in omega (arith, e))
+
+pub cancel-is : (intent : Intent) (m : Fields) → Suits intent m → m.command ≡ 2 → (channel number : ℕ) × (intent ≡ history.On channel (Cancel number))
+cancel-is (history.On a (Cancel k)) m suits is = (a, k, refl)
+cancel-is (history.On a Create) m suits is = absurd (let e : ◌≡◌ {A = ℕ} 18 2 = sym suits ∙ is in omega (arith, e))
+cancel-is (history.On a Clear) m suits is = absurd (let e : ◌≡◌ {A = ℕ} 12 2 = sym suits ∙ is in omega (arith, e))
+cancel-is (history.On a (Request Read k)) m suits is = absurd (let e : ◌≡◌ {A = ℕ} 15 2 = sym suits ∙ is in omega (arith, e))
+cancel-is (history.On a (Request Put k)) m suits is = absurd (let e : ◌≡◌ {A = ℕ} 19 2 = sym suits ∙ is in omega (arith, e))
+cancel-is (history.On a (Request Write k)) m suits is = absurd (let e : ◌≡◌ {A = ℕ} 4 2 = sym suits ∙ is in omega (arith, e))
+cancel-is (history.On a (Subscribe k)) m suits is = absurd (let e : ◌≡◌ {A = ℕ} 1 2 = sym suits ∙ is in omega (arith, e))
+cancel-is history.OfCircuit m suits is = absurd (suits (Cancel 0) is)

@@ -43,7 +43,7 @@ use Rattle.ca_laws_steps.specs.Answering.{AllAnswer}
 use Rattle.ca_laws_steps.specs.Held.{AllCircuitsHeld, AllKnown, IsKnownStep}
 use Rattle.ca_laws_steps.specs.Worlds.{ServersStand}
 use Rattle.ca_laws_steps.proofs.Circuits.{IsAccept, accept-were, leaves-were}
-use Rattle.ca_laws_steps.proofs.Found.{asked-if, clear-is, create-is, found-intent}
+use Rattle.ca_laws_steps.proofs.Found.{asked-if, cancel-is, clear-is, create-is, found-intent}
 use Rattle.ca_laws_steps.proofs.Replied.{event-answer, opening-answer, reached-answer}
 use Rattle.ca_laws_steps.proofs.Whole.{event-serves, events-serve, opening-serves, other-held, others-held, own-held, reached-serves, takes-next, unhandled-held}
 
@@ -113,6 +113,12 @@ module _ (s : Setting) (w new : World) (ok : IsSetting s) (h : ServersStand s w)
         let asks : s2.message.command ≡ 12 = subst (λ (z : Sent). z.message.command ≡ 12) one (ans.2.cleared (ap (λ (z : Fields). z.command) message ∙ clears)) in
         r.1 ∙ ap (λ (z : Ask). history.On (channel_number a.x.names h2) z) (clear-is r.0 s2.message (subst (λ (z : Intent). Suits z s2.message) r.1 (on-own.flows.asked t.place s2 sent)) asks)
 
+    confirming : (m : Fields) (t : Told) (s2 : Sent) → At a.j.lists.down (length a.j.lists.heard) t → t.message ≡ m → At a.j.lists.up t.place s2 → m.command ≡ 1 → t.cause ≡ Reply → (channel number : ℕ) × (s2.intent ≡ history.On channel (history.Cancel number))
+    confirming m t s2 at message sent adds reply =
+        let ans = answer k (length a.j.lists.heard) a.j t a.joins.at at reply in
+        let one : ans.0 ≡ s2 = At-one a.j.lists.up t.place ans.0 s2 ans.1 sent in
+        cancel-is s2.intent s2.message (on-own.flows.asked t.place s2 sent) (subst (λ (z : Sent). z.message.command ≡ 2) one (ans.2.confirms (ap (λ (z : Fields). z.command) message ∙ adds)))
+
     heard : (d : Connection) (m : Fields) (rest : List ℕ) → connection_at a.x.core a.j.at_client ≡ Some d → TakesFirst d.link m rest → IsKnown a.x.names (after_taking a.j.at_client rest a.x.core) a.j.at_client a.j.lists m
     heard d m rest is takes =
         let t = known.0 k a.j a.x d m rest a.joins.at a.joins.client a.is_open is takes in
@@ -137,7 +143,9 @@ module _ (s : Setting) (w new : World) (ok : IsSetting s) (h : ServersStand s w)
             clearing d m t.0 s.0 h2 p is t.1 t.2 s.1 clears (f.reply (λ e. unlike m.command 12 22 clears e (λ z. cc)) (λ e. unlike m.command 12 27 clears e (λ z. cc)) (λ e. absurd (unlike m.command 12 1 clears e (λ z. cc)))) found,
             f.cleared h2 p clears found,
           );
-          confirms = f.confirms;
+          confirms = λ q adds empty found.
+              let r = confirming m t.0 s.0 t.1 t.2 s.1 adds (f.reply (λ e. unlike m.command 1 22 adds e (λ z. cc)) (λ e. unlike m.command 1 27 adds e (λ z. cc)) (λ e. empty)) in
+              (r.0, r.1, r.2, f.confirms q r.0 r.1 adds empty found r.2);
           refuses = f.refuses;
         }
 

@@ -42,8 +42,8 @@ pub record IsHeard (n : Names) (x : Client) (on : Handle) (c : Circuit) (m : Fie
       → IsQuiet c t.place (channel_number n h)
   pub cleared : (h : Handle) (p : Phase) → Is command.ClearChannel m → channel_on x on m.p2 ≡ Some (h, p)
       → IsQuiet c t.place (channel_number n h)
-  pub confirms : (q : Handle) → Is command.EventAdd m → m.payload ≡ [] → confirmed_by on m.p2 x.subscriptions ≡ Some q
-      → (channel number : ℕ) × (s.intent ≡ On channel (Cancel number)) × IsLastCancel c t.place (SubId (wire_of q)) number
+  pub confirms : (q : Handle) (channel number : ℕ) → Is command.EventAdd m → m.payload ≡ [] → confirmed_by on m.p2 x.subscriptions ≡ Some q
+      → s.intent ≡ On channel (Cancel number) → IsLastCancel c t.place (SubId (wire_of q)) number
   pub refuses : (h : Header) (q : Handle) → Is command.Error m → QuotesHeader m h → h.command ≡ command_number command.EventAdd
       → heard_by x on h.p2 ≡ Some q
       → (number : ℕ) × Is command.EventAdd s.message × (named (SubId (wire_of q)) (meant_by n.subscriptions q) ≡ Some number)
