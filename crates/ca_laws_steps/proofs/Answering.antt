@@ -9,7 +9,7 @@ use Rattle.ca_text.proofs.Places.{some_is}
 use Rattle.ca_wire.specs.Fields.{Fields}
 use Rattle.ca_wire.specs.Messages.{bare, cancel_reply, cleared_reply, error_reply, failed_reply, not_found_reply, search_reply, status_reply, text_in, version_reply}
 use Rattle.ca_model.specs.Due.{Action, Due, Knows, is_known}
-use Rattle.ca_model.specs.Speech.{In, Is}
+use Rattle.ca_model.specs.Speech.{In}
 use Rattle.ca_laws_writes.proofs.Doing.{any-of, commands, each-at, known-or}
 use Rattle.ca_laws_writes.proofs.Lists.{none_at}
 use Rattle.ca_laws_steps.specs.Answering.{Answers}

@@ -1,14 +1,13 @@
 -- What a reply that finds a channel of a client is about: a message on that channel.
 use Rattle.std.proofs.Common.{◌≡◌, ℕ, ◌≤◌, Bool, true, false, cond, List, length, Option, Some, None, refl, sym, ap, subst, ◌∙◌, arith}
-use Rattle.std.specs.Prelude.{is_none, option_map, unwrap_or}
+use Rattle.std.specs.Prelude.{option_map, unwrap_or}
 use Rattle.ca_arena.specs.declared.handle.Handle.{Handle}
-use Rattle.ca_ids.specs.Wire.{wire_of}
 use Rattle.ca_model_client.proofs.Handles.{same-itself}
 use Rattle.ca_model_client.proofs.Standings.{channel-on}
 use Rattle.ca_text.specs.Place.{At}
 use Rattle.ca_text.proofs.Places.{At-one}
 use Rattle.ca_wire.specs.Fields.{Fields}
-use Rattle.ca_model.specs.Client.{Channel, Client, Clearing, Connecting, Creating, Doomed, Leaving, Live, On, Phase, Standing, channel_on, is_on_in, phase_on}
+use Rattle.ca_model.specs.Client.{Client, Clearing, Connecting, Creating, Doomed, Leaving, Live, Phase, Standing, channel_on, is_on_in, phase_on}
 use Rattle.ca_model.specs.ClientEnds.{is_connecting}
 use Rattle.ca_model.specs.History.{Ask, Cancel, Circuit, Clear, Create, Intent, Put, Read, Request, Sent, Subscribe, Told, Write}
 use Rattle.ca_model.specs.History as history

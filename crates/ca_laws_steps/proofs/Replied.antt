@@ -26,10 +26,10 @@ use Rattle.ca_model.specs.Speech.{In}
 use Rattle.ca_model_world.specs.ClientEvents.{DownTaken, HappensAccept, HappensDown, WantsFirst, connected_as, new_circuit, up_taken}
 use Rattle.ca_model_world.specs.Events.{Event}
 use Rattle.ca_model_world.specs.Events as event
-use Rattle.ca_model_world.specs.Runs.{CanBe, Happens, Leaves, Runs, StopsAt, clients_below}
+use Rattle.ca_model_world.specs.Runs.{CanBe, Happens, Leaves, StopsAt, clients_below}
 use Rattle.ca_model_world.specs.ServerEvents.{HappensFinish, HappensPost, HappensRemove, ServerStepped, about, acted, disconnected_at, ending, ends_by, ends_here, handled_at, noted, numbers_after, server_after, server_closed, side_of, unsaid, write_numbers}
 use Rattle.ca_model_world.specs.ServerEvents as server
-use Rattle.ca_model_world.specs.World.{ClientSide, IsSetting, Joined, PutPlace, RecordSide, ServerSide, Setting, World, opening, with_circuit}
+use Rattle.ca_model_world.specs.World.{ClientSide, IsSetting, Joined, RecordSide, ServerSide, Setting, World, opening, with_circuit}
 use Rattle.ca_laws_bytes.specs.Runs.{IsReached}
 use Rattle.ca_laws_kept.proofs.Since.{stamped-parts}
 use Rattle.ca_laws_kept.proofs.Thins.{put-facts}
@@ -232,7 +232,7 @@ finish-back s w new i y name sound at (inl f) =
 
     answers : (m r : Fields) → In ms r → Answers m r
     answers m r there = elim f.finishes.2 [
-      | inl said ↦ go (ap (λ (l : List (Handle × Fields)). map (λ (x : Handle × Fields). x.1) l) said.2) 
+      | inl said ↦ go (ap (λ (l : List (Handle × Fields)). map (λ (x : Handle × Fields). x.1) l) said.2)
       | inr silent ↦ absurd (none_at there.0 r (subst (λ (l : List Fields). At l there.0 r) (ap (λ (l : List (Handle × Fields)). map (λ (x : Handle × Fields). x.1) l) silent.1) there.1))
     ]
       where
