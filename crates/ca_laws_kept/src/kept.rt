@@ -41,14 +41,17 @@ pub fn what_stands_came_by_messages()
         → IsSetting s → Runs s es stopped w → AllTakeSent (opening s) es → AllNumbers w }
 {}
 
-/// A calm event keeps what is held of each circuit, by what the server keeps for it then.
+/// A calm event keeps what is held of each circuit, by what the server keeps for it then: from a
+/// well-formed setting, if writes are sound, clients stand, and an open end at a server takes next
+/// what was sent to it next. So it is in every run.
 pub fn calm_events_keep_what_is_held()
     ensures { (s : Setting) (w new : World) (l : ℕ) (e : Event) → IsSetting s → TakesSent w
         → Sound s w → ClientsStand w → IsCalm e → Happens w e new → HeldAt (kept w l) w l
         → HeldAt (kept new l) new l }
 {}
 
-/// So do updates that leave the queues of an end.
+/// So do updates that leave the queues of an end, if also ends and circuits are in step, and what
+/// stands came by messages.
 pub fn updates_keep_what_is_held()
     ensures { (s : Setting) (w new : World) (k l : ℕ) → IsSetting s → TakesSent w → Sound s w
         → AllInStep w → AllMessages w → AllNumbers w → Happens w (Pump k) new
@@ -56,7 +59,8 @@ pub fn updates_keep_what_is_held()
 {}
 
 /// So does a removal: its SERVER_DISCONNs are about channels that were created on their circuits,
-/// each under its SID and with its CID.
+/// each under its SID and with its CID. What stands came by messages, and channels are those that
+/// were created.
 pub fn removals_keep_what_is_held()
     ensures { (s : Setting) (w new : World) (i l : ℕ) (name : List ℕ) → IsSetting s → TakesSent w
         → Sound s w → AllMessages w → AllChannels w → Happens w (Remove i name) new

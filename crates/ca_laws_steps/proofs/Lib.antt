@@ -1,0 +1,15 @@
+pub mod Pairs
+pub mod Comes
+pub mod Given
+pub mod Follow
+pub mod Handled
+pub mod Stand
+pub mod Awaited
+pub mod Own
+pub mod Whole
+pub mod Circuits
+pub mod Answering
+pub mod Replied
+pub mod Found
+pub mod Holds
+pub mod Creations
