@@ -1,8 +1,8 @@
 -- The replies that are due for a message are messages, and what it does beside them fits messages too.
-use Rattle.std.proofs.Common.{◌≡◌, ℕ, ◌+◌, ◌*◌, ◌%◌, ◌^◌, ◌<◌, ◌≤◌, ◌⊎◌, inl, inr, zero, suc, Bool, true, false, ◌==◌, ◌||◌, cond, List, [], ◌∷◌, ◌++◌, length, Option, Some, None, refl, sym, ap, ◌∙◌, subst, arith}
+use Rattle.std.proofs.Common.{◌≡◌, ℕ, ◌+◌, ◌*◌, ◌%◌, ◌^◌, ◌<◌, ◌≤◌, inl, inr, zero, suc, Bool, true, false, ◌==◌, ◌||◌, cond, List, [], ◌∷◌, ◌++◌, length, Option, Some, None, refl, sym, ap, ◌∙◌, subst, arith}
 use Rattle.std.specs.Prelude.{Ok, find, is_some, nat_lt, not, option_map, replicate, unwrap_or}
 use Rattle.std.proofs.lemmas.Bool.{both_ways, cases_Bool, eqb-true, ltb-false}
-use Rattle.std.proofs.lemmas.List.{length-append}
+use Rattle.std.proofs.lemmas.List.{length-append, length-replicate}
 use Rattle.ca_dbr.specs.Conversion.{converted}
 use Rattle.ca_dbr.specs.declared.data_type.BaseType.{BaseType}
 use Rattle.ca_dbr.specs.declared.data_type.BaseType.TheVariants as base
@@ -22,19 +22,17 @@ use Rattle.ca_queue.specs.Keys.{is_among}
 use Rattle.ca_records.specs.Faults.{first_fault, has_misfit, lacks_conversion, late_put_fault}
 use Rattle.ca_records.specs.Record.{RecordState}
 use Rattle.ca_records.specs.Rules.{Rule, may_read, may_write, rule_bits}
-use Rattle.ca_text.specs.Command.{command_number}
 use Rattle.ca_text.specs.declared.command.Command.TheVariants as command
 use Rattle.ca_text.specs.Limits.{circuit_queues, element_limit, minor_version, payload_limit, queue_subscriptions, waiting_puts}
-use Rattle.ca_text.specs.Place.{At}
 use Rattle.ca_text.specs.Status.{add_fail, bad_channel, bad_count, bad_type, get_fail, no_convert, no_read_access, no_write_access, normal, put_fail}
 use Rattle.ca_text.proofs.Places.{some_is}
 use Rattle.ca_wire.specs.Fields.{Fields, IsPayload}
 use Rattle.ca_wire.specs.Header.{header_spelling, number16}
 use Rattle.ca_wire.specs.Message.{IsMessage, header_of}
-use Rattle.ca_wire.specs.Messages.{bare, cancel_reply, clear_request, created_reply, error_reply, failed_reply, mask_in, no_cid, not_found_reply, rights_reply, search_reply, status_reply, text_in, value_reply, version_reply}
+use Rattle.ca_wire.specs.Messages.{bare, cancel_reply, clear_request, created_reply, error_reply, failed_reply, mask_in, not_found_reply, rights_reply, search_reply, status_reply, text_in, value_reply, version_reply}
 use Rattle.ca_wire.proofs.Headers.{length-header_spelling}
 use Rattle.ca_wire.proofs.Padding.{message-of, padded-payload}
-use Rattle.ca_model.specs.Due.{Action, Adds, Applies, Clears, Drops, Due, EventDue, Greets, IsRetired, IsUnknown, KnownChannel, KnownRecord, Knows, Names, Nothing, Opens, PutDue, PutRefused, PutTaken, ReadDue, Serves, StrayDue, Switches, Waits, WriteDue, early_fault, fault_of_event, fault_of_read, is_known, must_wait, named, rights_at}
+use Rattle.ca_model.specs.Due.{Action, Adds, Applies, Clears, Drops, Due, Greets, KnownChannel, KnownRecord, Knows, Names, Nothing, Opens, PutRefused, PutTaken, Serves, StrayDue, Switches, Waits, fault_of_read, is_known, must_wait, named, rights_at}
 use Rattle.ca_model.specs.Ends.{Peer}
 use Rattle.ca_model.specs.Faults.{base_type_of, early_put_fault, read_count, read_fault, read_shown, subscribed_count, subscription_fault, too_many, type_of}
 use Rattle.ca_model.specs.Speech.{In}
@@ -92,6 +90,28 @@ shown-payload v t n e meta valued few is =
     let s = shown-is v n t.base e is in
     let len : length (image t e meta) ≡ size_of_image t n = length-image t e meta (sym s.0) (shown-valued v n t.base e valued is) ∙ ap (λ (k : ℕ). size_of_image t k) s.1 in
     (s.1, subst (λ (k : ℕ). k ≤ payload_limit) (sym len) (small-image t n few))
+
+-- that of one element at least has a byte
+size-some : (t : DataType) (n : ℕ) → 0 < n → 0 < size_of_image t n
+size-some t n some = by t.base (meta_size t.form + padding_size t.form t.base)
+  where
+    by : (b : BaseType) (k : ℕ) → 0 < k + n * element_size b
+    by base.String k = omega (arith, some)
+    by base.Int k = omega (arith, some)
+    by base.Float k = omega (arith, some)
+    by base.Enum k = omega (arith, some)
+    by base.Char k = omega (arith, some)
+    by base.Long k = omega (arith, some)
+    by base.Double k = omega (arith, some)
+
+pub shown-some : (v : Elements) (t : DataType) (n : ℕ) (e : Elements) (meta : Meta) → IsValue v → 0 < n → shown v n t.base ≡ Ok e → 0 < length (image t e meta)
+shown-some v t n e meta valued some is =
+    let s = shown-is v n t.base e is in
+    let len : length (image t e meta) ≡ size_of_image t n = length-image t e meta (sym s.0) (shown-valued v n t.base e valued is) ∙ ap (λ (k : ℕ). size_of_image t k) s.1 in
+    subst (λ (k : ℕ). 0 < k) (sym len) (size-some t n some)
+
+pub blank-some : (t : DataType) (n : ℕ) → 0 < n → 0 < length {A = ℕ} (replicate (size_of_image t n) 0)
+blank-some t n some = subst (λ (k : ℕ). 0 < k) (sym (length-replicate (size_of_image t n) 0)) (size-some t n some)
 
 -- ---- statuses
 
@@ -170,6 +190,16 @@ put-few r rights m None e = absurd cc
 put-few r rights m (Some b) e =
     let f : (m.count == 0 || (nat_lt r.count m.count || nat_lt (length m.payload) (least_size b m.count))) ≡ false = none-each (early_faults r rights m b) e 1 (m.count == 0 || (nat_lt r.count m.count || nat_lt (length m.payload) (least_size b m.count)), bad_count) refl in
     ltb-false r.count m.count (or-left (nat_lt r.count m.count) (nat_lt (length m.payload) (least_size b m.count)) (or-right (m.count == 0) (nat_lt r.count m.count || nat_lt (length m.payload) (least_size b m.count)) f))
+
+pub some-of : (n : ℕ) → (n == 0) ≡ false → 0 < n
+some-of zero e = absurd (both_ways true e refl)
+some-of (suc n) e = omega arith
+
+put-some : (r : RecordState) (rights : ℕ) (m : Fields) (o : Option BaseType) → early_put_fault r rights m o ≡ None → 0 < m.count
+put-some r rights m None e = absurd cc
+put-some r rights m (Some b) e =
+    let rest : Bool = nat_lt r.count m.count || nat_lt (length m.payload) (least_size b m.count) in
+    some-of m.count (or-left (m.count == 0) rest (none-each (early_faults r rights m b) e 1 (m.count == 0 || rest, bad_count) refl))
 
 -- ---- lists of replies
 
@@ -324,7 +354,8 @@ module _ (k : Knows) (m : Fields) (replies : List Fields) (did : Action) (f : Kn
       let le : r.count ≤ element_limit = (f.records c.channel.name c.known c.named).0 in
       let few : m.count ≤ r.count = put-few r (rights_at k c.channel.name) m (base_type_of m.data_type) taken.early in
       let count : count_of value ≡ m.count = converted-counted taken.elements (base_of r.value) value taken.is ∙ taken.reads.reads.counted in
-      (converted-valued taken.elements (base_of r.value) value taken.reads.reads.valued taken.is, omega (arith, count, few, le))
+      let some : 0 < m.count = put-some r (rights_at k c.channel.name) m (base_type_of m.data_type) taken.early in
+      (converted-valued taken.elements (base_of r.value) value taken.reads.reads.valued taken.is, omega (arith, count, some), omega (arith, count, few, le))
 
   write-fits : IsSo → Whenever 4
   write-fits due e = elim (due.write e) [

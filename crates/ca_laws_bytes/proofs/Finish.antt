@@ -131,7 +131,7 @@ module _ (s : Setting) (w new : World) (i : ℕ) (y : ServerSide) (name : List �
 
   reply-tells : (c : Joined) → Tells c (reply c) said
   reply-tells c = record {
-    like = record { client = refl; server = refl; handle = refl; life = refl; side = λ x. refl };
+    like = record { client = refl; server = refl; handle = refl; life = refl; side = λ x. refl; up = refl };
     is_open = refl;
     left = refl;
     handled = refl;

@@ -93,7 +93,7 @@ remove-handles w new i y name at (gone, left, core, inl (removes, is)) h =
         over k = list_any (λ (e : Handle × OpenChannel). eqb (wire_of e.0) k.sid) told
 
         go : (b : Bool) → let d : Joined = cond b (without_standing over (record c { lists = record c.lists { down = c.lists.down ++ map (removal_told c.creations) told } })) c in Like c d × (d.lists.server_open ≡ c.lists.server_open)
-        go true = (record { client = refl; server = refl; handle = refl; life = refl; side = λ x. refl }, refl)
+        go true = (record { client = refl; server = refl; handle = refl; life = refl; side = λ x. refl; up = refl }, refl)
         go false = (like-itself c, refl)
 
 -- ---- a step
@@ -106,7 +106,7 @@ module _ (w : World) (k : ℕ) (j : Joined) (y : ServerSide) (on : At w.circuits
   side-life l same o is = ap (λ (q : Option ServerSide). (unwrap_or q y).life) is ∙ same
 
   handled-handles : (new : World) → StepHandles w k j y new → HandlesStand new
-  handled-handles new f = subst (λ (v : World). HandlesStand v) (sym (f.leaves ∙ noted-is k (length j.lists.handled) _ next.replies after own own-there)) (circuit-handles after k own (handled_at (length j.lists.handled) (record { sent = length j.lists.down; logged = logged y w; after = logged y after }) next.replies own) own-there (record { client = refl; server = refl; handle = refl; life = refl; side = λ x. refl }) refl ended)
+  handled-handles new f = subst (λ (v : World). HandlesStand v) (sym (f.leaves ∙ noted-is k (length j.lists.handled) _ next.replies after own own-there)) (circuit-handles after k own (handled_at (length j.lists.handled) (record { sent = length j.lists.down; logged = logged y w; after = logged y after }) next.replies own) own-there (record { client = refl; server = refl; handle = refl; life = refl; side = λ x. refl; up = refl }) refl ended)
     where
       next : Next y.core j.at_server f.e
       next = f.steps.0
@@ -244,7 +244,7 @@ down-handles w new k n j x y on at (mid, sent, core, taken, gives, is) h =
     subst (λ (v : World). HandlesStand v) (sym is) (frame-handles mid _ (frame-after j.client x x.names _ mid) (elim taken [
       | inl open_it ↦ subst (λ (v : World). HandlesStand v) (sym open_it.1.2) (alone-handles w _ j.server y (record y { core = open_it.1.0 }) at refl refl refl (sends-thin y.core open_it.1.0 j.at_server n open_it.1.1) h)
       | inr shut_it ↦
-          subst (λ (v : World). HandlesStand v) (sym shut_it.1) (circuit-handles w k j (record j { left_down = drop n j.left_down }) on (record { client = refl; server = refl; handle = refl; life = refl; side = λ q. refl }) refl h)
+          subst (λ (v : World). HandlesStand v) (sym shut_it.1) (circuit-handles w k j (record j { left_down = drop n j.left_down }) on (record { client = refl; server = refl; handle = refl; life = refl; side = λ q. refl; up = refl }) refl h)
     ]))
 
 pub accept-handles : (w new : World) (c : ℕ) (x : ClientSide) (v : WantsFirst w x) → HappensAccept w c x v new → HandlesStand w → HandlesStand new

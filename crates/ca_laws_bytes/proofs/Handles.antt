@@ -103,7 +103,7 @@ handles-after w mid i y side core ends at life others thin back over h =
       where
         go : (o : Option (List ℕ)) → Like c (unwrap_or (option_map (λ (left : List ℕ). server_closed left m) o) m)
         go None = t
-        go (Some left) = record { client = t.client; server = t.server; handle = t.handle; life = t.life; side = t.side }
+        go (Some left) = record { client = t.client; server = t.server; handle = t.handle; life = t.life; side = t.side; up = t.up }
 
     circuits : (n : ℕ) (d : Joined) → At (map (ending ends) mid.circuits) n d → (c : Joined) × At w.circuits n c × Like c d
         × (d.lists.server_open ≡ false → (c.lists.server_open ≡ false) ⊎ ((c.server ≡ i) × ((v : ServerCircuit) → under (reported core).circuits d.at_server ≡ Some v → ⊥)))

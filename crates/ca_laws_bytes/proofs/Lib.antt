@@ -24,3 +24,6 @@ pub mod Runs
 pub mod DueFits
 pub mod ServerFits
 pub mod ServerCalls
+pub mod ServerSpeaking
+pub mod Asking
+pub mod Causes

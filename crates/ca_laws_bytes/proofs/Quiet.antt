@@ -1,5 +1,5 @@
 -- Events at a server leave all clients, and what these sent, as they were.
-use Rattle.std.proofs.Common.{◌≡◌, ℕ, inl, inr, Bool, true, false, ◌&&◌, cond, eqb, List, [], ◌∷◌, ◌++◌, length, Option, Some, None, refl, sym, ap, ◌∙◌, subst}
+use Rattle.std.proofs.Common.{◌≡◌, ℕ, inl, inr, Bool, true, false, ◌&&◌, cond, eqb, List, ◌++◌, length, Option, Some, None, refl, sym, ap, ◌∙◌, subst}
 use Rattle.std.specs.List.{list_any}
 use Rattle.std.specs.Prelude.{filter, map, not, option_map, slice_get, unwrap_or}
 use Rattle.std.specs.Str.{bytes_eq}
@@ -8,7 +8,6 @@ use Rattle.ca_dbr.specs.Elements.{Elements}
 use Rattle.ca_ids.specs.Table.{under}
 use Rattle.ca_ids.specs.Wire.{wire_of}
 use Rattle.ca_queue.specs.declared.entry.SubKey.{SubKey}
-use Rattle.ca_records.specs.Puts.{WaitingPut}
 use Rattle.ca_records.specs.Record.{RecordState}
 use Rattle.ca_text.specs.Place.{At}
 use Rattle.ca_text.proofs.Places.{At-mapped, At-set}
@@ -19,17 +18,15 @@ use Rattle.ca_model.specs.History.{Reply}
 use Rattle.ca_model.specs.Server.{OpenChannel, Server}
 use Rattle.ca_model.specs.ServerSteps.{Closed, Handled, NeedBytes, OutputFull, Stepped, closed}
 use Rattle.ca_model_world.specs.ServerEvents.{HappensAdd, HappensCutServer, HappensFinish, HappensPost, HappensPump, HappensRemove, HappensServerRestart, HappensServerStep, ServerStepped, about, acted, disconnected_at, ending, ends_by, ends_here, ends_untold, handled_at, logged, next_busy, next_numbers, numbers_posted, removal_told, removed_at, replied_at, server_after, side_of, stamped, unsaid, with_record, without_standing}
-use Rattle.ca_model_world.specs.World.{ClientSide, Joined, RecordSide, ServerSide, World, client_begun, with_circuit, with_entries, with_server}
-use Rattle.ca_laws_bytes.specs.Streams.{CircuitEnd}
-use Rattle.ca_laws_bytes.specs.Worlds.{sent_up}
+use Rattle.ca_model_world.specs.World.{Joined, RecordSide, ServerSide, World, with_circuit, with_entries, with_server}
 use Rattle.ca_laws_bytes.proofs.ServerEvents.{next-tells, posted-tells, stamped-tells}
 use Rattle.ca_laws_bytes.proofs.ServerSteps.{acted-tells}
-use Rattle.ca_laws_bytes.proofs.Servers.{Like, ending-like}
+use Rattle.ca_laws_bytes.proofs.Servers.{ending-like}
 
 -- Clients are as they were, and each circuit has what its client sent before.
 pub record Quiet (w new : World) : Type 0 where
   pub clients : new.clients ≡ w.clients
-  pub back : (n : ℕ) (d : Joined) → At new.circuits n d → (c : Joined) × At w.circuits n c × (sent_up d ≡ sent_up c)
+  pub back : (n : ℕ) (d : Joined) → At new.circuits n d → (c : Joined) × At w.circuits n c × (d.lists.up ≡ c.lists.up)
 
 pub quiet-as : (w new : World) → new.clients ≡ w.clients → new.circuits ≡ w.circuits → Quiet w new
 quiet-as w new clients circuits = record { clients = clients; back = λ n d at. (d, subst (λ (l : List Joined). At l n d) circuits at, refl) }
@@ -40,42 +37,35 @@ quiet-then a b c p q = record {
   back = λ n d at. (let m = q.back n d at in let j = p.back n m.0 m.1 in (j.0, j.1, m.2 ∙ j.2));
 }
 
-pub quiet-map : (w new : World) (f : Joined → Joined) → new.clients ≡ w.clients → new.circuits ≡ map f w.circuits → ((c : Joined) → sent_up (f c) ≡ sent_up c) → Quiet w new
+pub quiet-map : (w new : World) (f : Joined → Joined) → new.clients ≡ w.clients → new.circuits ≡ map f w.circuits → ((c : Joined) → (f c).lists.up ≡ c.lists.up) → Quiet w new
 quiet-map w new f clients circuits same = record {
   clients = clients;
-  back = λ n d at. (let c = At-mapped f w.circuits n d (subst (λ (l : List Joined). At l n d) circuits at) in (c.0, c.1, ap (λ (z : Joined). sent_up z) c.2 ∙ same c.0));
+  back = λ n d at. (let c = At-mapped f w.circuits n d (subst (λ (l : List Joined). At l n d) circuits at) in (c.0, c.1, ap (λ (z : Joined). z.lists.up) c.2 ∙ same c.0));
 }
 
-pub quiet-set : (w : World) (k : ℕ) (j d : Joined) → At w.circuits k j → sent_up d ≡ sent_up j → Quiet w (with_circuit k d w)
+pub quiet-set : (w : World) (k : ℕ) (j d : Joined) → At w.circuits k j → d.lists.up ≡ j.lists.up → Quiet w (with_circuit k d w)
 quiet-set w k j d at same = record {
   clients = refl;
   back = λ n c there. elim (At-set w.circuits k d n c there) [
-    | inl here ↦ (j, subst (λ (l : ℕ). At w.circuits l j) (sym here.0) at, ap (λ (z : Joined). sent_up z) here.1 ∙ same)
+    | inl here ↦ (j, subst (λ (l : ℕ). At w.circuits l j) (sym here.0) at, ap (λ (z : Joined). z.lists.up) here.1 ∙ same)
     | inr old ↦ (c, old.0, refl)
   ];
 }
 
 -- a circuit is changed where it stands, if it is there
-quiet-at : (w : World) (k : ℕ) (f : Joined → Joined) → ((c : Joined) → sent_up (f c) ≡ sent_up c) → Quiet w (unwrap_or (option_map (λ (c : Joined). with_circuit k (f c) w) (slice_get w.circuits k)) w)
+quiet-at : (w : World) (k : ℕ) (f : Joined → Joined) → ((c : Joined) → (f c).lists.up ≡ c.lists.up) → Quiet w (unwrap_or (option_map (λ (c : Joined). with_circuit k (f c) w) (slice_get w.circuits k)) w)
 quiet-at w k f same = go (slice_get w.circuits k) refl
   where
     go : (o : Option Joined) → slice_get w.circuits k ≡ o → Quiet w (unwrap_or (option_map (λ (c : Joined). with_circuit k (f c) w) o) w)
     go None is = quiet-as w w refl refl
     go (Some c) is = quiet-set w k c (f c) is (same c)
 
--- a client, whichever it is
-anyone : ClientSide
-anyone = client_begun [] 0 0 (record { peer = record { user = []; host = [] }; name_servers = [] })
-
-like-up : (c d : Joined) → Like c d → sent_up d ≡ sent_up c
-like-up c d like = ap (λ (e : CircuitEnd). e.sent) (like.side anyone)
-
 pub quiet-server : (w : World) (i : ℕ) (side : ServerSide) (ends : Joined → Option (List ℕ)) (core : Server) → Quiet w (server_after i side ends core w)
-quiet-server w i side ends core = quiet-map w _ (ending ends) refl refl (λ c. like-up c (ending ends c) (ending-like ends c))
+quiet-server w i side ends core = quiet-map w _ (ending ends) refl refl (λ c. (ending-like ends c).up)
 
 module _ (w new : World) (k : ℕ) (j : Joined) (y : ServerSide) (at : At w.circuits k j) where
   acted-quiet : (did : Action) → Quiet w (acted k j y did w)
-  acted-quiet did = record { clients = refl; back = λ n m there. (let c = acted-tells w k j y did at n m there in (c.0, c.1, like-up c.0 m c.2.like)) }
+  acted-quiet did = record { clients = refl; back = λ n m there. (let c = acted-tells w k j y did at n m there in (c.0, c.1, c.2.like.up)) }
 
   unsaid-quiet : (did : Action) (o : Option (Handle → Bool)) → Quiet w (unsaid k j y did o w)
   unsaid-quiet did None = quiet-as w w refl refl
@@ -103,7 +93,7 @@ module _ (w new : World) (k : ℕ) (j : Joined) (y : ServerSide) (at : At w.circ
   pump-quiet f =
       let mid : World = with_circuit k (stamped f.updates j) w in
       subst (λ (v : World). Quiet w v) (sym f.leaves)
-      (quiet-then w mid _ (quiet-set w k j (stamped f.updates j) at (like-up j _ (stamped-tells f.updates j).like)) (quiet-server mid j.server y (ends_by j.server f.core) f.core))
+      (quiet-then w mid _ (quiet-set w k j (stamped f.updates j) at (stamped-tells f.updates j).like.up) (quiet-server mid j.server y (ends_by j.server f.core) f.core))
 
   pub cut-quiet : HappensCutServer w k j y new → Quiet w new
   cut-quiet f = subst (λ (v : World). Quiet w v) (sym f.leaves) (quiet-server w j.server y (ends_by j.server f.core) f.core)
@@ -114,7 +104,7 @@ module _ (w new : World) (i : ℕ) (y : ServerSide) where
   post-quiet name e mask (gone, core, inl (posts, is)) =
       let mid : World = with_entries y.life _ (record w { circuits = map (numbers_posted i y.core name mask) w.circuits }) in
       subst (λ (v : World). Quiet w v) (sym is)
-      (quiet-then w mid _ (quiet-map w mid (numbers_posted i y.core name mask) refl refl (λ c. like-up c _ (posted-tells i y.core name mask c).like)) (quiet-server mid i y (ends_by i core) core))
+      (quiet-then w mid _ (quiet-map w mid (numbers_posted i y.core name mask) refl refl (λ c. (posted-tells i y.core name mask c).like.up)) (quiet-server mid i y (ends_by i core) core))
 
   pub finish-quiet : (name : List ℕ) → HappensFinish w i y name new → Quiet w new
   finish-quiet name (inr refused) = quiet-as w new (ap (λ (v : World). v.clients) refused.2) (ap (λ (v : World). v.circuits) refused.2)
@@ -123,18 +113,18 @@ module _ (w new : World) (i : ℕ) (y : ServerSide) where
       let mid : World = with_entries y.life _ (with_server i side (record w { circuits = map (next_numbers i y.core name f.cr.waiting) w.circuits })) in
       let told : World = replied_at f.p f.sent mid in
       subst (λ (v : World). Quiet w v) (sym f.leaves)
-      (quiet-then w mid _ (quiet-map w mid (next_numbers i y.core name f.cr.waiting) refl refl (λ c. like-up c _ (next-tells i y.core name f.cr.waiting c).like))
+      (quiet-then w mid _ (quiet-map w mid (next_numbers i y.core name f.cr.waiting) refl refl (λ c. (next-tells i y.core name f.cr.waiting c).like.up))
       (quiet-then mid told _
       (quiet-at mid f.p.circuit (λ (j : Joined). record j { lists = record j.lists { down = j.lists.down ++ about f.p.place Reply (map (λ (m : Handle × Fields). m.1) f.sent) } }) (λ c. refl))
       (quiet-server told i side (ends_by i f.core) f.core)))
 
-  removed-up : (name : List ℕ) (gone : Handle → Bool) (left : Handle → ℕ) (c : Joined) → sent_up (removed_at i y.core name gone left c) ≡ sent_up c
+  removed-up : (name : List ℕ) (gone : Handle → Bool) (left : Handle → ℕ) (c : Joined) → (removed_at i y.core name gone left c).lists.up ≡ c.lists.up
   removed-up name gone left c = go (eqb c.server i && c.lists.server_open)
     where
       told : List (Handle × OpenChannel)
       told = disconnected_at name gone left c.at_server (under y.core.circuits c.at_server)
 
-      go : (b : Bool) → sent_up (cond b (without_standing (λ (k : SubKey). list_any (λ (e : Handle × OpenChannel). eqb (wire_of e.0) k.sid) told) (record c { lists = record c.lists { down = c.lists.down ++ map (removal_told c.creations) told } })) c) ≡ sent_up c
+      go : (b : Bool) → (cond b (without_standing (λ (k : SubKey). list_any (λ (e : Handle × OpenChannel). eqb (wire_of e.0) k.sid) told) (record c { lists = record c.lists { down = c.lists.down ++ map (removal_told c.creations) told } })) c).lists.up ≡ c.lists.up
       go true = refl
       go false = refl
 
@@ -151,4 +141,4 @@ module _ (w new : World) (i : ℕ) (y : ServerSide) where
 
   pub restart-quiet : HappensServerRestart w i y new → Quiet w new
   restart-quiet is =
-      quiet-map w new (ending (ends_untold i y.core)) (ap (λ (v : World). v.clients) is) (ap (λ (v : World). v.circuits) is) (λ c. like-up c _ (ending-like (ends_untold i y.core) c))
+      quiet-map w new (ending (ends_untold i y.core)) (ap (λ (v : World). v.clients) is) (ap (λ (v : World). v.circuits) is) (λ c. (ending-like (ends_untold i y.core) c).up)

@@ -14,7 +14,7 @@ use Rattle.ca_model_world.specs.World.{ClientSetting, ClientSide, IsSetting, Ser
 use Rattle.ca_laws_runs.specs.Clients.{ClientsStand}
 use Rattle.ca_laws_runs.proofs.Events.{stands-happens, stands-opening}
 use Rattle.ca_laws_runs.proofs.ClientsMore.{stands-ticks}
-use Rattle.ca_laws_writes.specs.Says.{Says}
+use Rattle.ca_laws_writes.specs.Says.{AllAsked, Says}
 use Rattle.ca_laws_writes.specs.Seats.{AllTakeSent, TakesSent}
 use Rattle.ca_laws_writes.specs.Steps.{AllInStep}
 use Rattle.ca_laws_writes.proofs.Events.{numbered-at}
@@ -26,6 +26,7 @@ use Rattle.ca_laws_writes.proofs.SaysRuns.{run-in-step, run-says}
 use Rattle.ca_laws_bytes.specs.Runs.{AllFit, HearsSent, IsReached, Stands}
 use Rattle.ca_laws_bytes.specs.Speaks.{ClientFits}
 use Rattle.ca_laws_bytes.specs.Worlds.{AllStream, ClientsSpeak, HandlesStand, ServersSpeak, client_end, server_end}
+use Rattle.ca_laws_bytes.proofs.Asking.{accept-asked, asked-quiet, clear-asked, client-restart-asked, client-step-asked, cut-client-asked, datagram-asked, down-asked, open-asked, put-asked, read-asked, subscribe-asked, ticks-asked, unsubscribe-asked, up-asked, write-asked}
 use Rattle.ca_laws_bytes.proofs.ClientEvents.{clear-streams, client-restart-streams, client-step-streams, cut-client-streams, datagram-streams, handing-streams, open-streams, put-streams, read-streams, same-streams, subscribe-streams, unsubscribe-streams, write-streams}
 use Rattle.ca_laws_bytes.proofs.Clients.{came-so}
 use Rattle.ca_laws_bytes.proofs.Comes.{down-streams}
@@ -71,7 +72,7 @@ ticks-streams moment [] w new s folds all = subst (λ (v : World). AllStream v) 
 ticks-streams moment (i ∷ clients) w new s (mid, one, rest) all =
     ticks-streams moment clients mid new (stands-ticks moment (i ∷ []) w mid s (mid, one, refl)) rest (tick-one-streams moment w i mid s one all)
 
-ticks-frame : (moment : ℕ) (clients : List ℕ) (w new : World) → FoldsTo (TicksOne moment) w clients new → Frame w new
+pub ticks-frame : (moment : ℕ) (clients : List ℕ) (w new : World) → FoldsTo (TicksOne moment) w clients new → Frame w new
 ticks-frame moment [] w new same = frame-self w new (ap (λ (z : World). z.servers) (sym same)) (ap (λ (z : World). z.server_logs) (sym same)) (ap (λ (z : World). z.circuits) (sym same))
 ticks-frame moment (i ∷ clients) w new (mid, one, rest) = frame-then w mid new (tick-frame moment w i mid one) (ticks-frame moment clients mid new rest)
 
@@ -164,6 +165,35 @@ leaves-fit s w new (event.Add i r) h at l = fit-quiet w new (add-quiet w new i a
 leaves-fit s w new (event.Tick moment) h at (mid, ticks, is) =
     fit-quiet mid new (quiet-as mid new (ap (λ (z : World). z.clients) is) (ap (λ (z : World). z.circuits) is)) (ticks-fit moment (clients_below (length w.clients)) w mid ticks h.fit)
 
+leaves-asked : (s : Setting) (w new : World) (e : Event) → Stands s w → (at : CanBe w e) → Leaves w e at new → AllAsked new
+leaves-asked s w new (event.Open i name priority) h at l = open-asked w new i at.x at.at h.clients h.asked name priority l
+leaves-asked s w new (event.Clear i c) h at l = clear-asked w new i at.x at.at h.clients h.asked c at.h l
+leaves-asked s w new (event.Read i c data_type count) h at l = read-asked w new i at.x at.at h.clients h.asked c at.h data_type count l
+leaves-asked s w new (event.Write i c e) h at l = write-asked w new i at.x at.at h.clients h.asked c at.h e l
+leaves-asked s w new (event.WriteNotify i c e) h at l = put-asked w new i at.x at.at h.clients h.asked c at.h e l
+leaves-asked s w new (event.Subscribe i c data_type count mask) h at l = subscribe-asked w new i at.x at.at h.clients h.asked c at.h data_type count mask l
+leaves-asked s w new (event.Unsubscribe i n) h at l = unsubscribe-asked w new i at.x at.at h.clients h.asked at.s l
+leaves-asked s w new (event.Collect i r) h at l = asked-quiet w new (quiet-as w new (ap (λ (z : World). z.clients) l.2) (ap (λ (z : World). z.circuits) l.2)) h.asked
+leaves-asked s w new (event.GiveUp i r) h at l = asked-quiet w new (quiet-as w new (ap (λ (z : World). z.clients) l.2) (ap (λ (z : World). z.circuits) l.2)) h.asked
+leaves-asked s w new (event.ClientDatagram i from bytes) h at l = datagram-asked w new i at.x at.at h.clients h.asked from bytes l
+leaves-asked s w new (event.ServerDatagram i from bytes) h at l = subst (λ (z : World). AllAsked z) (sym l.2) h.asked
+leaves-asked s w new (event.Accept i) h at l = accept-asked w new i at.x at.v l h.asked
+leaves-asked s w new (event.Up k n) h at l = up-asked w new k at.0.j at.0.x at.0.joins.at at.0.joins.client h.clients h.asked n at.0.y l
+leaves-asked s w new (event.Down k n) h at l = down-asked w new k at.0.j at.0.x at.0.joins.at at.0.joins.client h.clients h.asked n at.0.y l
+leaves-asked s w new (event.ServerStep k) h at l = asked-quiet w new (step-quiet w new k at.j at.y at.joins.at l) h.asked
+leaves-asked s w new (event.ClientStep k) h at l = client-step-asked w new k at.j at.x at.joins.at at.joins.client h.clients h.asked at.is_open l
+leaves-asked s w new (event.Pump k) h at l = asked-quiet w new (pump-quiet w new k at.j at.y at.joins.at l) h.asked
+leaves-asked s w new (event.CutClient k) h at l = cut-client-asked w new k at.j at.x at.joins.at at.joins.client h.clients h.asked l
+leaves-asked s w new (event.CutServer k) h at l = asked-quiet w new (cut-quiet w new k at.j at.y at.joins.at l) h.asked
+leaves-asked s w new (event.ClientRestart i) h at l = client-restart-asked w new i at.x l h.asked
+leaves-asked s w new (event.ServerRestart i) h at l = asked-quiet w new (restart-quiet w new i at.y l) h.asked
+leaves-asked s w new (event.Post i name e mask) h at l = asked-quiet w new (post-quiet w new i at.y name e mask l) h.asked
+leaves-asked s w new (event.Finish i name) h at l = asked-quiet w new (finish-quiet w new i at.y name l) h.asked
+leaves-asked s w new (event.Remove i name) h at l = asked-quiet w new (remove-quiet w new i at.y name l) h.asked
+leaves-asked s w new (event.Add i r) h at l = asked-quiet w new (add-quiet w new i at.y r l) h.asked
+leaves-asked s w new (event.Tick moment) h at (mid, ticks, is) =
+    asked-quiet mid new (quiet-as mid new (ap (λ (z : World). z.clients) is) (ap (λ (z : World). z.circuits) is)) (ticks-asked moment (clients_below (length w.clients)) w mid ticks h.asked)
+
 pub event-stands : (s : Setting) (w new : World) (e : Event) → IsSetting s → Happens w e new → Stands s w → Stands s new
 event-stands s w new e ok happens h = record {
   sound = event-sound s w new e ok (takes-sent w h.streams h.fit.sent) happens h.sound;
@@ -171,6 +201,7 @@ event-stands s w new e ok happens h = record {
   handles = leaves-handles s w new e h happens.0 happens.1;
   streams = leaves-streams s w new e h happens.0 happens.1;
   fit = leaves-fit s w new e h happens.0 happens.1;
+  asked = leaves-asked s w new e h happens.0 happens.1;
 }
 
 -- ---- every run
@@ -186,6 +217,7 @@ opening-stands s ok = record {
     cores = λ i x at. (let g = begun i x at in subst (λ (z : ClientSide). ClientFits z.core) (sym g.2) (new-fits _ (ok.fit i g.0 g.1)));
     given = λ i x at. (let g = begun i x at in subst (λ (z : ClientSide). NamesFit z.setting.peer) (sym g.2) (ok.fit i g.0 g.1));
   };
+  asked = λ n k c s at there. absurd (none_at n c at);
 }
   where
     begun : (i : ℕ) (x : ClientSide) → At (opening s).clients i x → (g : ClientSetting) × At s.clients i g × (x ≡ client_begun (addresses s.servers) 0 (0 + i) g)
@@ -206,6 +238,7 @@ stops-stand s mid (Some (event.Tick moment)) w stops h = elim stops [
         handles = frame-handles mid w frame h.handles;
         streams = ticks-streams moment (clients_below ticked.0) mid w h.clients ticked.3 h.streams;
         fit = ticks-fit moment (clients_below ticked.0) mid w ticked.3 h.fit;
+        asked = ticks-asked moment (clients_below ticked.0) mid w ticked.3 h.asked;
       }
 ]
 stops-stand s mid stopped w stops h = subst (λ (z : World). Stands s z) (sym stops) h

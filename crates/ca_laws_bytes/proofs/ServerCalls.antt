@@ -1,7 +1,7 @@
 -- What a server's calls send are messages, and its core fits messages after them.
-use Rattle.std.proofs.Common.{◌≡◌, ℕ, ◌+◌, zero, suc, ◌^◌, ◌<◌, ◌≤◌, inl, inr, Bool, true, false, ◌&&◌, ◌==◌, not, cond, List, [], ◌∷◌, ◌++◌, length, Option, Some, None, refl, sym, ap, ◌∙◌, subst, arith}
+use Rattle.std.proofs.Common.{◌≡◌, ℕ, ◌+◌, ◌-◌, ◌%◌, zero, suc, ◌^◌, ◌<◌, ◌≤◌, inl, inr, Bool, true, false, ◌&&◌, ◌==◌, not, cond, List, [], ◌∷◌, ◌++◌, length, Option, Some, None, refl, sym, ap, subst, arith}
 use Rattle.std.specs.List.{FoldsTo}
-use Rattle.std.specs.Prelude.{Err, Ok, Result, drop, filter, is_some, map, option_map, replicate, take}
+use Rattle.std.specs.Prelude.{Err, Ok, Result, drop, is_some, map, option_map, replicate, take}
 use Rattle.std.specs.Str.{bytes_eq}
 use Rattle.std.proofs.lemmas.List.{length-replicate}
 use Rattle.ca_arena.specs.declared.handle.Handle.{Handle}
@@ -11,7 +11,7 @@ use Rattle.ca_dbr.specs.Image.{image}
 use Rattle.ca_dbr.specs.Shown.{shown}
 use Rattle.ca_dbr.specs.Types.{size_of_image}
 use Rattle.ca_ids.specs.Table.{Table, held, under}
-use Rattle.ca_link.specs.Link.{with_given, with_handed, with_rest}
+use Rattle.ca_link.specs.Link.{with_rest}
 use Rattle.ca_queue.specs.declared.entry.SubKey.{SubKey}
 use Rattle.ca_queue.specs.Queue.{Queue}
 use Rattle.ca_queue.specs.Waiting.{front, may_take, taken}
@@ -19,16 +19,17 @@ use Rattle.ca_records.specs.declared.puts.Put.{Put}
 use Rattle.ca_records.specs.Puts.{Record, WaitingPut, finished, new_record, record_named, removed, with_record, with_value}
 use Rattle.ca_records.specs.Record.{IsRecord, RecordState, unset}
 use Rattle.ca_records.specs.Rules.{Rule}
+use Rattle.ca_text.specs.declared.command.Command.TheVariants as command
 use Rattle.ca_text.specs.declared.refusal.Refusal.{Refusal}
 use Rattle.ca_text.specs.Limits.{element_limit, payload_limit}
 use Rattle.ca_text.specs.Place.{At}
 use Rattle.ca_text.specs.Status.{get_fail, normal}
 use Rattle.ca_text.proofs.Places.{At-mapped, some_is}
 use Rattle.ca_wire.specs.declared.requests.Wanted.{Wanted}
-use Rattle.ca_wire.specs.Fields.{Fields}
+use Rattle.ca_wire.specs.Fields.{Fields, padded}
 use Rattle.ca_wire.specs.Message.{IsMessage, spelled}
 use Rattle.ca_wire.specs.Messages.{disconnect, update}
-use Rattle.ca_wire.proofs.Padding.{message-of, padded-payload}
+use Rattle.ca_wire.proofs.Padding.{length-padded, message-of, padded-payload}
 use Rattle.ca_model.specs.Due.{Action, Applies, KnownChannel, KnownRecord}
 use Rattle.ca_model.specs.Due as action
 use Rattle.ca_model.specs.Ends.{Why}
@@ -37,7 +38,7 @@ use Rattle.ca_model.specs.Server.{Ended, Open, OpenChannel, Server, ServerCircui
 use Rattle.ca_model.specs.ServerCalls.{AddsRecord, Finishes, Posts, Removes, Replies, after_next, channels_of, circuit_without, disconnects, end_without, finish_reply, lacking, with_finish}
 use Rattle.ca_model.specs.ServerSteps.{Accepts, Cuts, Gives, HasEnd, LeftOf, Next, Pumps, Reaches, Sends, Update, after_post, closed, counted, ended, known_channel, known_record, knows, reached, stored_now, with_end, write_mask}
 use Rattle.ca_model.specs.ServerSteps as steps
-use Rattle.ca_model.specs.Speech.{In, Stored}
+use Rattle.ca_model.specs.Speech.{Is, Stored}
 use Rattle.ca_model.specs.Updates.{ShowsTo, update_count, update_in}
 use Rattle.ca_model_world.specs.ServerEvents.{disconnected_at, left_by, reported}
 use Rattle.ca_model_client.proofs.Tables.{all-freed-back, changed-back, find-at, freed-back, held-back, held-under}
@@ -45,11 +46,10 @@ use Rattle.ca_laws_runs.proofs.ClientsKeep.{none-under}
 use Rattle.ca_laws_writes.proofs.Cores.{records-stay}
 use Rattle.ca_laws_bytes.specs.ServerFits.{AllAt, EndFits, PutFits, QueueFits, RecordFits, ServerFits, ValueFits, WantedFits}
 use Rattle.ca_laws_bytes.specs.Streams.{AreMessages}
-use Rattle.ca_laws_bytes.proofs.DueFits.{ActionFits, KnowsFits, due-fits, shown-payload, small-image}
+use Rattle.ca_laws_bytes.proofs.DueFits.{ActionFits, KnowsFits, blank-some, due-fits, shown-payload, shown-some, small-image, some-of}
 use Rattle.ca_laws_bytes.proofs.Fits.{empty-payload}
-use Rattle.ca_laws_bytes.proofs.HearSpeaks.{filtered-at}
 use Rattle.ca_laws_bytes.proofs.ServerEnds.{open-one}
-use Rattle.ca_laws_bytes.proofs.ServerFits.{acts-fits, append-at, changed-fits, drop-at, each-changed, end-like, filter-at, finished-fits, map-at, new-end-fits, new-fits, post-fits, records-fits, removal-fits, set-at, take-at, taken-fits, value-fits, withdrawn-fits}
+use Rattle.ca_laws_bytes.proofs.ServerFits.{acts-fits, append-at, cons-at, changed-fits, drop-at, each-changed, end-like, filter-at, finished-fits, new-end-fits, new-fits, post-fits, records-fits, removal-fits, set-at, take-at, taken-fits, value-fits, withdrawn-fits}
 
 -- ---- tables of circuits
 
@@ -117,7 +117,7 @@ posts-fits y name e mask gone core valued (post, may, is) f =
     let at = find-at (λ (r : Record). bytes_eq r.state.name name) y.records r post.1 in
     let limit : r.state.count ≤ element_limit = (f.records at.0 r at.1).count in
     let few : count_of e ≤ r.state.count = post.4 in
-    let one : ValueFits e = (valued, omega (arith, few, limit)) in
+    let one : ValueFits e = (valued, post.3, omega (arith, few, limit)) in
     let stored : Server = record y { records = with_record name (with_value e unset) y.records } in
     subst ServerFits (sym is) (after-post-fits name mask v gone stored one (record { port = f.port; records = changed-fits name (with_value e unset) y.records (λ r fit. value-fits e unset r one fit) f.records; ends = f.ends }))
 
@@ -206,7 +206,7 @@ update-good : (w : Wanted) (v : Stored) (m : Fields) → WantedFits w → ValueF
 update-good w v m fit one (t, typed, is) = subst IsMessage (sym is) (shown-good w v t (update_count w v) (shown v.value (update_count w v) t.base) fit one (few (w.count == 0)) refl refl)
   where
     few : (b : Bool) → cond b (count_of v.value) w.count ≤ element_limit
-    few true = one.1
+    few true = one.2
     few false = fit.1
 
 carried : (q : Queue Stored) (x : SubKey × Stored) → QueueFits q → taken q.events_on q.waiting ≡ Some x → ValueFits x.1.value
@@ -238,6 +238,41 @@ pumps-fits y h us new (inl (e, has, (after, folds, inr (more, is)))) f =
     let r = leaves-fits us e after (f.ends h e has) folds in
     (r.0, subst ServerFits (sym is) (ended-fits h why.OutOfMemory after.link.output y f))
 pumps-fits y h us new (inr (none, nothing, is)) f = (subst (λ (l : List Update). AreMessages (map (λ (u : Update). u.message) l)) (sym nothing) (λ i m at. absurd cc), subst ServerFits (sym is) f)
+
+-- an update is an EVENT_ADD with a payload
+abbrev pub IsUpdating : Fields → Type 0
+IsUpdating m = Is command.EventAdd m × (m.payload ≡ [] → ⊥)
+
+padded-some : (bytes : List ℕ) → 0 < length bytes → padded bytes ≡ [] → ⊥
+padded-some bytes some is =
+    let none : length (padded bytes) ≡ 0 = ap (λ (l : List ℕ). length l) is in
+    let len : length (padded bytes) ≡ length bytes + (8 - length bytes % 8) % 8 = length-padded bytes in
+    omega (arith, none, len, some)
+
+update-some : (w : Wanted) (v : Stored) (m : Fields) → ValueFits v.value → ShowsTo w v m → IsUpdating m
+update-some w v m one (t, typed, is) = subst IsUpdating (sym is) (by (shown v.value (update_count w v) t.base) refl)
+  where
+    count : 0 < update_count w v
+    count = go (w.count == 0) refl
+      where
+        go : (b : Bool) → (w.count == 0) ≡ b → 0 < cond b (count_of v.value) w.count
+        go true e = one.1
+        go false e = some-of w.count e
+
+    by : (r : Result Elements Refusal) → shown v.value (update_count w v) t.base ≡ r → IsUpdating (update_in w v t r)
+    by (Ok e) is = (refl, padded-some (image t e v.meta) (shown-some v.value t (update_count w v) e v.meta one.0 count is))
+    by (Err r) is = (refl, padded-some (replicate (size_of_image t (update_count w v)) 0) (blank-some t (update_count w v) count))
+
+leaves-update : (us : List Update) (e after : ServerEnd) → EndFits e → FoldsTo steps.Leaves e us after → AllAt (λ (u : Update). IsUpdating u.message) us
+leaves-update [] e after fit same = λ i u at. absurd cc
+leaves-update (u ∷ us) e after fit (mid, one, rest) =
+    let value : ValueFits u.carries.value = carried one.q _ (fit.queues u.queue one.q one.at) one.taken_is in
+    let next : EndFits mid = subst EndFits (sym one.leaves) (record { channels = fit.channels; subscriptions = fit.subscriptions; queues = set-at QueueFits e.queues u.queue _ fit.queues (taken-fits one.q (fit.queues u.queue one.q one.at)) }) in
+    cons-at (λ (u : Update). IsUpdating u.message) u us (update-some u.of.wanted u.carries u.message value one.shows) (leaves-update us mid after next rest)
+
+pub pumps-update : (y : Server) (h : Handle) (us : List Update) (new : Server) → Pumps y h us new → ServerFits y → AllAt (λ (u : Update). IsUpdating u.message) us
+pumps-update y h us new (inl (e, has, (after, folds, over))) f = leaves-update us e after (f.ends h e has) folds
+pumps-update y h us new (inr (none, nothing, is)) f = subst (λ (l : List Update). AllAt (λ (u : Update). IsUpdating u.message) l) (sym nothing) (λ i u at. absurd cc)
 
 -- ---- finishes
 
@@ -327,7 +362,7 @@ adds-fits y s behind new valued (may, is) f =
     let limit : s.count ≤ element_limit = may.2.limit in
     subst ServerFits (sym is) (record {
       port = f.port;
-      records = append-at RecordFits (take behind y.records) (new_record s ∷ drop behind y.records) (take-at RecordFits behind y.records f.records) (more (new-fits s limit (valued, omega (arith, within, limit))) (drop-at RecordFits behind y.records f.records));
+      records = append-at RecordFits (take behind y.records) (new_record s ∷ drop behind y.records) (take-at RecordFits behind y.records f.records) (more (new-fits s limit (valued, may.2.one, omega (arith, within, limit))) (drop-at RecordFits behind y.records f.records));
       ends = f.ends;
     })
   where
@@ -345,6 +380,6 @@ begins-fits port now rules states lt good = record {
       let g = (good i b.0 b.1).value in
       let within : count_of b.0.value ≤ b.0.count = g.within in
       let limit : b.0.count ≤ element_limit = g.limit in
-      subst RecordFits (sym b.2) (new-fits b.0 limit ((good i b.0 b.1).valued, omega (arith, within, limit)));
+      subst RecordFits (sym b.2) (new-fits b.0 limit ((good i b.0 b.1).valued, g.one, omega (arith, within, limit)));
   ends = λ h e has. absurd (none-under h (Open e) has);
 }

@@ -41,7 +41,7 @@ pub number-tells : (c : Joined) (keys : List SubKey) → Tells c (fold with_numb
 number-tells c [] = tells-itself c
 number-tells c (k ∷ keys) =
     tells-then c (with_number c k) (fold with_number (with_number c k) keys) [] []
-    (record { like = record { client = refl; server = refl; handle = refl; life = refl; side = λ x. refl }; is_open = refl; left = refl; handled = refl; said = sym (append-nil (sent_down c)) }) (number-tells (with_number c k) keys)
+    (record { like = record { client = refl; server = refl; handle = refl; life = refl; side = λ x. refl; up = refl }; is_open = refl; left = refl; handled = refl; said = sym (append-nil (sent_down c)) }) (number-tells (with_number c k) keys)
 
 pub posted-tells : (i : ℕ) (core : Server) (name : List ℕ) (mask : ℕ) (c : Joined) → Tells c (numbers_posted i core name mask c) []
 posted-tells i core name mask c = go (eqb c.server i && c.lists.server_open)
@@ -106,7 +106,7 @@ stamped-tells (u ∷ us) j =
     let d : Joined = record j { queues = queues; lists = record j.lists { down = j.lists.down ++ record { message = u.message; place = item.0; cause = item.1 } ∷ [] } } in
     tells-then j d (stamped us d) (u.message ∷ []) (map (λ (u : Update). u.message) us)
     (record {
-      like = record { client = refl; server = refl; handle = refl; life = refl; side = λ x. refl };
+      like = record { client = refl; server = refl; handle = refl; life = refl; side = λ x. refl; up = refl };
       is_open = refl;
       left = refl;
       handled = refl;
@@ -182,7 +182,7 @@ remove-streams w new i y name at seated (gone, left, core, inl (removes, is)) al
     tells : (b : Bool) (c : Joined) → let over : SubKey → Bool = λ (k : SubKey). list_any (λ (e : Handle × OpenChannel). eqb (wire_of e.0) k.sid) (told c) in
         Tells c (cond b (without_standing over (record c { lists = record c.lists { down = c.lists.down ++ map (removal_told c.creations) (told c) } })) c) (cond b (said c) [])
     tells true c = record {
-      like = record { client = refl; server = refl; handle = refl; life = refl; side = λ x. refl };
+      like = record { client = refl; server = refl; handle = refl; life = refl; side = λ x. refl; up = refl };
       is_open = refl;
       left = refl;
       handled = refl;

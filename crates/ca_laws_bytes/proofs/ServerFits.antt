@@ -1,38 +1,36 @@
 -- What a server's core is made of fits messages, whatever its calls do to its ends and records.
-use Rattle.std.proofs.Common.{◌≡◌, ℕ, ◌+◌, zero, suc, ◌^◌, ◌<◌, ◌≤◌, ◌⊎◌, inl, inr, Bool, true, false, ◌&&◌, ◌||◌, ◌==◌, not, cond, eqb, List, [], ◌∷◌, ◌++◌, length, Option, Some, None, refl, sym, ap, ◌∙◌, subst, arith}
-use Rattle.std.specs.List.{FoldsTo, fold}
-use Rattle.std.specs.Prelude.{Ok, drop, filter, map, option_map, replicate, slice_set, take, unwrap_or}
+use Rattle.std.proofs.Common.{◌≡◌, ℕ, ◌+◌, zero, suc, ◌^◌, ◌<◌, ◌≤◌, inl, inr, Bool, true, false, ◌&&◌, ◌==◌, not, cond, List, [], ◌∷◌, ◌++◌, Option, Some, None, refl, sym, ap, ◌∙◌, subst, arith}
+use Rattle.std.specs.List.{fold}
+use Rattle.std.specs.Prelude.{drop, filter, map, option_map, replicate, slice_set, take, unwrap_or}
 use Rattle.std.specs.Str.{bytes_eq}
 use Rattle.ca_arena.specs.Arena.{Place}
 use Rattle.ca_arena.specs.declared.handle.Handle.{Handle}
-use Rattle.ca_dbr.specs.Elements.{Elements, count_of}
+use Rattle.ca_dbr.specs.Elements.{Elements}
 use Rattle.ca_ids.specs.Table.{Table, by_wire, under, with_each, with_each_from, with_freed}
-use Rattle.ca_ids.specs.Wire.{wire_of}
 use Rattle.ca_queue.specs.declared.entry.SubKey.{SubKey}
 use Rattle.ca_queue.specs.Circuit.{queue_posted, queue_without, without_each}
 use Rattle.ca_queue.specs.Keys.{is_among, same}
 use Rattle.ca_queue.specs.Queue.{Queue, added, cancelled, no_queue, posted, switched, with_front_taken}
-use Rattle.ca_queue.specs.Waiting.{after_post, has_entry, is_of, may_take, replaces, with_last}
+use Rattle.ca_queue.specs.Waiting.{has_entry, is_of, may_take, replaces, with_last}
 use Rattle.ca_records.specs.declared.puts.Put.{Put}
 use Rattle.ca_records.specs.declared.puts.Stamp.{Stamp}
 use Rattle.ca_records.specs.Puts.{Record, WaitingPut, finished, new_record, with_record, with_value, with_waiting, withdrawn, without_puts, written_meta}
-use Rattle.ca_records.specs.Record.{IsRecord, RecordState}
+use Rattle.ca_records.specs.Record.{RecordState}
 use Rattle.ca_dbr.specs.declared.value.Meta.{Meta}
 use Rattle.ca_text.specs.Limits.{circuit_queues, element_limit}
 use Rattle.ca_text.specs.Place.{At}
 use Rattle.ca_text.proofs.Places.{At-mapped, At-parts, At-set, At-snoc, some_is}
 use Rattle.ca_wire.specs.Fields.{Fields}
 use Rattle.ca_wire.specs.Message.{IsMessage}
-use Rattle.ca_link.specs.Link.{LinkState, with_sent}
 use Rattle.ca_model.specs.Due.{Action, Adds, Applies}
 use Rattle.ca_model.specs.Due as action
-use Rattle.ca_model.specs.Server.{OpenChannel, Server, ServerEnd, Subscription, concerns, key_of, new_end, with_events, with_post, without_subscriptions}
+use Rattle.ca_model.specs.Server.{OpenChannel, Server, ServerEnd, Subscription, concerns, key_of, new_end, with_post, without_subscriptions}
 use Rattle.ca_model.specs.ServerCalls.{channels_of, end_without, is_on, retired}
-use Rattle.ca_model.specs.ServerSteps.{Acts, IsPut, Records, without_channel}
+use Rattle.ca_model.specs.ServerSteps.{Acts, IsPut, Records}
 use Rattle.ca_model.specs.Speech.{Stored}
-use Rattle.ca_model_client.proofs.Tables.{at-under, find-at, freed-back, held-back, place, under-at}
+use Rattle.ca_model_client.proofs.Tables.{at-under, find-at, freed-back, place, under-at}
 use Rattle.ca_laws_runs.proofs.ClientsKeep.{none-under}
-use Rattle.ca_laws_bytes.specs.ServerFits.{AllAt, EndFits, PutFits, QueueFits, RecordFits, ServerFits, ValueFits, WantedFits}
+use Rattle.ca_laws_bytes.specs.ServerFits.{AllAt, EndFits, PutFits, QueueFits, RecordFits, ValueFits, WantedFits}
 use Rattle.ca_laws_bytes.specs.Speaks.{AllHeld}
 use Rattle.ca_laws_bytes.proofs.DueFits.{ActionFits}
 use Rattle.ca_laws_bytes.proofs.Fits.{holds-held}

@@ -36,14 +36,14 @@ use Rattle.ca_laws_bytes.proofs.Streaming.{Acts}
 after-tells : (place : ℕ) (did : Action) (j : Joined) → Tells j (numbers_after place did j) []
 after-tells place (Applies name value busies) j = tells-itself j
 after-tells place (action.Waits name value) j = tells-itself j
-after-tells place (action.Clears sid) j = record { like = record { client = refl; server = refl; handle = refl; life = refl; side = λ x. refl }; is_open = refl; left = refl; handled = refl; said = sym (append-nil (sent_down j)) }
+after-tells place (action.Clears sid) j = record { like = record { client = refl; server = refl; handle = refl; life = refl; side = λ x. refl; up = refl }; is_open = refl; left = refl; handled = refl; said = sym (append-nil (sent_down j)) }
 after-tells place action.Nothing j = tells-itself j
 after-tells place action.Greets j = tells-itself j
 after-tells place (action.Names x) j = tells-itself j
-after-tells place (action.Opens x) j = record { like = record { client = refl; server = refl; handle = refl; life = refl; side = λ x. refl }; is_open = refl; left = refl; handled = refl; said = sym (append-nil (sent_down j)) }
-after-tells place (action.Adds x) j = record { like = record { client = refl; server = refl; handle = refl; life = refl; side = λ x. refl }; is_open = refl; left = refl; handled = refl; said = sym (append-nil (sent_down j)) }
-after-tells place (action.Drops x) j = record { like = record { client = refl; server = refl; handle = refl; life = refl; side = λ x. refl }; is_open = refl; left = refl; handled = refl; said = sym (append-nil (sent_down j)) }
-after-tells place (action.Switches x) j = record { like = record { client = refl; server = refl; handle = refl; life = refl; side = λ x. refl }; is_open = refl; left = refl; handled = refl; said = sym (append-nil (sent_down j)) }
+after-tells place (action.Opens x) j = record { like = record { client = refl; server = refl; handle = refl; life = refl; side = λ x. refl; up = refl }; is_open = refl; left = refl; handled = refl; said = sym (append-nil (sent_down j)) }
+after-tells place (action.Adds x) j = record { like = record { client = refl; server = refl; handle = refl; life = refl; side = λ x. refl; up = refl }; is_open = refl; left = refl; handled = refl; said = sym (append-nil (sent_down j)) }
+after-tells place (action.Drops x) j = record { like = record { client = refl; server = refl; handle = refl; life = refl; side = λ x. refl; up = refl }; is_open = refl; left = refl; handled = refl; said = sym (append-nil (sent_down j)) }
+after-tells place (action.Switches x) j = record { like = record { client = refl; server = refl; handle = refl; life = refl; side = λ x. refl; up = refl }; is_open = refl; left = refl; handled = refl; said = sym (append-nil (sent_down j)) }
 
 write-tells : (i : ℕ) (core : Server) (did : Action) (j : Joined) → Tells j (write_numbers i core did j) []
 write-tells i core (Applies name value busies) j = posted-tells i core name 3 j
@@ -162,7 +162,7 @@ module _ (w : World) (k : ℕ) (j : Joined) (y : ServerSide) (on : At w.circuits
       noted = handled_at (length j.lists.handled) g next.replies midway
 
       handled-like : Like j noted
-      handled-like = record { client = midway-tells.like.client; server = midway-tells.like.server; handle = midway-tells.like.handle; life = midway-tells.like.life; side = midway-tells.like.side }
+      handled-like = record { client = midway-tells.like.client; server = midway-tells.like.server; handle = midway-tells.like.handle; life = midway-tells.like.life; side = midway-tells.like.side; up = midway-tells.like.up }
 
       handled-acts : Acts (server_end y j) (server_end z noted)
       handled-acts =

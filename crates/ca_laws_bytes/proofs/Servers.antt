@@ -73,6 +73,7 @@ pub record Like (c d : Joined) : Type 0 where
   pub handle : d.at_server ≡ c.at_server
   pub life : d.lists.server ≡ c.lists.server
   pub side : (x : ClientSide) → client_end x d ≡ client_end x c
+  pub up : d.lists.up ≡ c.lists.up
 
 -- and its server's end is as it was, but that it sent these messages more
 pub record Tells (c d : Joined) (more : List Fields) : Type 0 where
@@ -83,10 +84,10 @@ pub record Tells (c d : Joined) (more : List Fields) : Type 0 where
   pub said : sent_down d ≡ sent_down c ++ more
 
 pub like-itself : (c : Joined) → Like c c
-like-itself c = record { client = refl; server = refl; handle = refl; life = refl; side = λ x. refl }
+like-itself c = record { client = refl; server = refl; handle = refl; life = refl; side = λ x. refl; up = refl }
 
 pub like-then : (a b c : Joined) → Like a b → Like b c → Like a c
-like-then a b c f g = record { client = g.client ∙ f.client; server = g.server ∙ f.server; handle = g.handle ∙ f.handle; life = g.life ∙ f.life; side = λ x. g.side x ∙ f.side x }
+like-then a b c f g = record { client = g.client ∙ f.client; server = g.server ∙ f.server; handle = g.handle ∙ f.handle; life = g.life ∙ f.life; side = λ x. g.side x ∙ f.side x; up = g.up ∙ f.up }
 
 pub tells-itself : (c : Joined) → Tells c c []
 tells-itself c = record { like = like-itself c; is_open = refl; left = refl; handled = refl; said = sym (append-nil (sent_down c)) }
@@ -155,7 +156,7 @@ ending-like ends m = go (ends m)
   where
     go : (o : Option (List ℕ)) → Like m (unwrap_or (option_map (λ (left : List ℕ). server_closed left m) o) m)
     go None = like-itself m
-    go (Some left) = record { client = refl; server = refl; handle = refl; life = refl; side = λ x. refl }
+    go (Some left) = record { client = refl; server = refl; handle = refl; life = refl; side = λ x. refl; up = refl }
 
 -- By these ends the circuit m ends with a beginning of what waits, or stays.
 abbrev pub EndsAs : (old core : Server) → (ends : Joined → Option (List ℕ)) → Joined → Handle → ServerEnd → List Fields → Type 0

@@ -1,13 +1,13 @@
 -- All that clients send in any event are messages, and their cores fit messages after it.
-use Rattle.std.proofs.Common.{◌≡◌, ℕ, ◌+◌, ◌≤◌, inl, inr, Bool, true, false, ◌&&◌, cond, eqb, List, [], ◌∷◌, ◌++◌, length, Option, Some, None, refl, sym, ap, ◌∙◌, subst, arith}
+use Rattle.std.proofs.Common.{◌≡◌, ℕ, ◌+◌, ◌≤◌, inl, inr, Bool, true, false, ◌&&◌, cond, eqb, List, [], ◌∷◌, ◌++◌, length, Option, Some, None, refl, sym, ap, subst, arith}
 use Rattle.std.specs.List.{FoldsTo}
-use Rattle.std.specs.Prelude.{Ok, drop, filter, find, is_none, is_some, map, option_map, slice_set, unwrap_or}
+use Rattle.std.specs.Prelude.{drop, filter, is_none, is_some, map, option_map, slice_set, unwrap_or}
 use Rattle.std.proofs.lemmas.Bool.{both_ways}
 use Rattle.ca_arena.specs.Arena.{Place}
 use Rattle.ca_arena.specs.declared.handle.Handle.{Handle}
 use Rattle.ca_dbr.specs.Elements.{Elements}
-use Rattle.ca_ids.specs.Table.{same_handle, under}
-use Rattle.ca_link.specs.Link.{with_handed, with_rest}
+use Rattle.ca_ids.specs.Table.{same_handle}
+use Rattle.ca_link.specs.Link.{with_handed}
 use Rattle.ca_search.specs.Searcher as searcher
 use Rattle.ca_search.specs.Searches as search
 use Rattle.ca_text.specs.Limits.{arena_slots, priority_limit}
@@ -18,13 +18,13 @@ use Rattle.ca_wire.specs.Fields.{Fields}
 use Rattle.ca_wire.specs.Message.{IsMessage}
 use Rattle.ca_model.specs.Answers.{Closed, Closing, Left, NeedBytes, Notices, Sending, Stepped}
 use Rattle.ca_model.specs.Client.{Client, ClientCircuit, Connection, connection_at, ended, later, new_circuit, on_connection, out_bytes}
-use Rattle.ca_model.specs.ClientEnds.{ClientSetting, ConnectsOn, Receives, ReceivesAll, StepsOn, Ticking, after_taking, beacon_heard, circuits_ticked, distinct, handed_over, new_client, searches_made}
+use Rattle.ca_model.specs.ClientEnds.{ClientSetting, ConnectsOn, Receives, ReceivesAll, StepsOn, after_taking, beacon_heard, distinct, handed_over, new_client}
 use Rattle.ca_model.specs.ClientEnds as ends
 use Rattle.ca_model.specs.Ends.{Address, NamesFit}
-use Rattle.ca_model.specs.Hears.{Effect, becomes}
+use Rattle.ca_model.specs.Hears.{Effect}
 use Rattle.ca_model.specs.History.{Intent, Line, Sent, Step}
 use Rattle.ca_model.specs.History as history
-use Rattle.ca_model_world.specs.ClientEvents.{DownTaken, HappensAccept, HappensClear, HappensClientDatagram, HappensClientRestart, HappensClientStep, HappensCutClient, HappensDown, HappensOpen, HappensRead, HappensSubscribe, HappensUnsubscribe, HappensUp, HappensWrite, HappensWriteNotify, Outcomes, TicksOne, WantsFirst, about_at, after_tick, client_after, client_closed, client_ended, client_gone, client_stepped, connected_as, heard_in, left_silent, lines_of, refused, sent_on, told_by, up_taken}
+use Rattle.ca_model_world.specs.ClientEvents.{DownTaken, HappensAccept, HappensClear, HappensClientDatagram, HappensClientRestart, HappensClientStep, HappensCutClient, HappensDown, HappensOpen, HappensRead, HappensSubscribe, HappensUnsubscribe, HappensUp, HappensWrite, HappensWriteNotify, Outcomes, TicksOne, WantsFirst, about_at, after_tick, client_after, client_closed, client_ended, client_gone, client_stepped, connected_as, heard_in, left_silent, lines_of, refused, sent_on, told_by}
 use Rattle.ca_model_world.specs.ClientEvents as event
 use Rattle.ca_model_world.specs.World.{ClientSide, Joined, Names, ServerSide, World, addresses, client_begun, log_length, with_circuit, with_client, with_server}
 use Rattle.ca_model_client.proofs.Hearing.{received-keeps}
@@ -102,7 +102,7 @@ all-received from (m ∷ ms) x few f e does =
 -- no client changes, and none sends anything
 pub fit-quiet : (w new : World) → Quiet w new → AllFit w → AllFit new
 fit-quiet w new q f = record {
-  sent = λ n d at. (let c = q.back n d at in subst (λ (l : List Fields). AreMessages l) (sym c.2) (f.sent n c.0 c.1));
+  sent = λ n d at. (let c = q.back n d at in subst (λ (l : List Sent). AreMessages (map (λ (s : Sent). s.message) l)) (sym c.2) (f.sent n c.0 c.1));
   cores = λ i x at. f.cores i x (subst (λ (l : List ClientSide). At l i x) q.clients at);
   given = λ i x at. f.given i x (subst (λ (l : List ClientSide). At l i x) q.clients at);
 }
@@ -255,10 +255,10 @@ client-restart-fit w new i x at is f =
     subst (λ (v : World). AllFit v) (sym is)
     (fit-client w _ i (client_begun servers w.moment (length w.client_logs) x.setting) refl (fit-quiet w _ q f).sent (new-fits _ (f.given i x at)) (f.given i x at) f)
   where
-    same : (c : Joined) → sent_up (client_gone i x c) ≡ sent_up c
+    same : (c : Joined) → (client_gone i x c).lists.up ≡ c.lists.up
     same c = go (eqb c.client i && c.lists.client_open)
       where
-        go : (b : Bool) → sent_up (cond b (client_closed (out_bytes x.core c.at_client) c) c) ≡ sent_up c
+        go : (b : Bool) → (cond b (client_closed (out_bytes x.core c.at_client) c) c).lists.up ≡ c.lists.up
         go true = refl
         go false = refl
 
@@ -336,10 +336,10 @@ tick-one-fit moment w i new (x, at, t, sent, core, does, is) f =
     subst (λ (v : World). AllFit v) (sym is)
     (fit-quiet after _ (quiet-map after _ (after_tick i t.closings) refl refl (same t.closings)) (fit-called w i x x.names o at speaks f))
   where
-    same : (closings : List Left) (c : Joined) → sent_up (after_tick i closings c) ≡ sent_up c
+    same : (closings : List Left) (c : Joined) → (after_tick i closings c).lists.up ≡ c.lists.up
     same closings c = go (eqb c.client i && c.lists.client_open) (left_silent closings c)
       where
-        go : (b : Bool) (o : Option (List ℕ)) → sent_up (cond b (unwrap_or (option_map (λ (left : List ℕ). client_closed left c) o) c) c) ≡ sent_up c
+        go : (b : Bool) (o : Option (List ℕ)) → (cond b (unwrap_or (option_map (λ (left : List ℕ). client_closed left c) o) c) c).lists.up ≡ c.lists.up
         go true (Some left) = refl
         go true None = refl
         go false o = refl

@@ -10,6 +10,7 @@ use Rattle.ca_model_world.specs.Events.{Event}
 use Rattle.ca_model_world.specs.Runs.{Runs}
 use Rattle.ca_model_world.specs.World.{ClientSide, IsSetting, Joined, Setting, World}
 use Rattle.ca_laws_runs.specs.Clients.{ClientsStand}
+use Rattle.ca_laws_writes.specs.Says.{AllAsked}
 use Rattle.ca_laws_writes.specs.Seats.{Sound}
 use Rattle.ca_laws_bytes.specs.Speaks.{ClientFits}
 use Rattle.ca_laws_bytes.specs.Worlds.{AllStream, ClientsSpeak, HandlesStand}
@@ -24,13 +25,15 @@ pub record AllFit (w : World) : Type 0 where
   pub cores : (i : ℕ) (x : ClientSide) → At w.clients i x → ClientFits x.core
   pub given : (i : ℕ) (x : ClientSide) → At w.clients i x → NamesFit x.setting.peer
 
--- Writes are sound, clients and handles stand, clients send messages, and the bytes on all circuits are those that were sent and not read.
+-- Writes are sound, clients and handles stand, what clients send are messages, each as it was meant, and the bytes on all circuits are
+-- those of what was sent and not read.
 pub record Stands (s : Setting) (w : World) : Type 0 where
   pub sound : Sound s w
   pub clients : ClientsStand w
   pub handles : HandlesStand w
   pub streams : AllStream w
   pub fit : AllFit w
+  pub asked : AllAsked w
 
 -- What an open end of a client takes next is the next message that its server sent.
 abbrev pub HearsSent : World → Type 0

@@ -1,18 +1,20 @@
 -- Working: what holds of a server's core so that all that it sends are messages.
-use Rattle.std.specs.Prelude.{ℕ, ◌≡◌, ◌<◌, ◌≤◌, ◌^◌, List, Some}
+use Rattle.std.specs.Prelude.{ℕ, ◌≡◌, ◌<◌, ◌≤◌, ◌⊎◌, ◌^◌, List, [], Some}
 use Rattle.ca_arena.specs.declared.handle.Handle.{Handle}
 use Rattle.ca_dbr.specs.Elements.{Elements, IsValue, count_of}
 use Rattle.ca_queue.specs.declared.entry.SubKey.{SubKey}
 use Rattle.ca_queue.specs.Queue.{Queue}
 use Rattle.ca_records.specs.declared.puts.Put.{Put}
 use Rattle.ca_records.specs.Puts.{Record, WaitingPut}
+use Rattle.ca_text.specs.declared.command.Command.TheVariants as command
 use Rattle.ca_text.specs.Limits.{element_limit}
 use Rattle.ca_text.specs.Place.{At}
 use Rattle.ca_wire.specs.declared.requests.Wanted.{Wanted}
+use Rattle.ca_model.specs.History.{Reply, Told}
 use Rattle.ca_model.specs.Server.{OpenChannel, Server, ServerEnd, Subscription}
 use Rattle.ca_model.specs.ServerSteps.{HasEnd}
-use Rattle.ca_model.specs.Speech.{Stored}
-use Rattle.ca_model_world.specs.World.{ServerSide, World}
+use Rattle.ca_model.specs.Speech.{Is, Stored}
+use Rattle.ca_model_world.specs.World.{Joined, ServerSide, World}
 use Rattle.ca_laws_bytes.specs.Speaks.{AllHeld}
 use Rattle.ca_laws_bytes.specs.Worlds.{ServersSpeak}
 
@@ -20,9 +22,9 @@ use Rattle.ca_laws_bytes.specs.Worlds.{ServersSpeak}
 abbrev pub AllAt : {A : Type 0} → (A → Type 0) → List A → Type 0
 AllAt {A} P xs = (i : ℕ) (x : A) → At xs i x → P x
 
--- a value that a record may have
+-- a value that a record may have: one element at least
 abbrev pub ValueFits : Elements → Type 0
-ValueFits e = IsValue e × (count_of e ≤ element_limit)
+ValueFits e = IsValue e × (0 < count_of e) × (count_of e ≤ element_limit)
 
 -- a put whose type, count and IOID fit messages
 abbrev pub PutFits : Put → Type 0
@@ -58,3 +60,11 @@ pub record ServerFits (y : Server) : Type 0 where
 pub record ServersFit (w : World) : Type 0 where
   pub sent : ServersSpeak w
   pub cores : (i : ℕ) (y : ServerSide) → At w.servers i y → ServerFits y.core
+
+-- A message that a server told is a reply, or a SERVER_DISCONN, or an EVENT_ADD with a payload.
+abbrev pub IsCaused : Told → Type 0
+IsCaused t = (t.cause ≡ Reply) ⊎ (Is command.ServerDisconnect t.message ⊎ (Is command.EventAdd t.message × (t.message.payload ≡ [] → ⊥)))
+
+-- So it is of all that servers told.
+pub record AllCaused (w : World) : Type 0 where
+  pub each : (n : ℕ) (c : Joined) → At w.circuits n c → AllAt IsCaused c.lists.down

@@ -1,17 +1,24 @@
-ghost use Rattle.std.specs.Prelude.{◌<◌, ◌^◌, Bool, List, Ok, Option, map, ℕ};
+ghost use Rattle.std.specs.Prelude.{[], ◌<◌, ◌≡◌, ◌^◌, Bool, List, Ok, Option, map, ℕ};
 ghost use Rattle.ca_arena.specs.declared.handle.Handle.{Handle};
 ghost use Rattle.ca_dbr.specs.Elements.{Elements, IsValue};
 ghost use Rattle.ca_records.specs.Record.{IsRecord, RecordState, unset};
 ghost use Rattle.ca_records.specs.Rules.{Rule};
 ghost use Rattle.ca_text.specs.Place.{At};
+ghost use Rattle.ca_text.specs.declared.command.Command.TheVariants.{EventAdd, ServerDisconnect};
+ghost use Rattle.ca_model.specs.History.{Reply, Told};
+ghost use Rattle.ca_model.specs.Speech.{Is};
 ghost use Rattle.ca_wire.specs.Fields.{Fields};
 ghost use Rattle.ca_wire.specs.Messages.{disconnect};
 ghost use Rattle.ca_ids.specs.Table.{under};
 ghost use Rattle.ca_model.specs.Server.{OpenChannel, Server, ServerEnd, new_server};
 ghost use Rattle.ca_model.specs.ServerCalls.{AddsRecord, Finishes, Posts, Removes};
 ghost use Rattle.ca_model.specs.ServerSteps.{Accepts, Cuts, Gives, HasEnd, LeftOf, Next, Pumps, Reaches, Sends, Update, closed};
+ghost use Rattle.ca_model_world.specs.Events.{Event};
+ghost use Rattle.ca_model_world.specs.Runs.{AreEvents, Happens, IsEvent, Runs};
 ghost use Rattle.ca_model_world.specs.ServerEvents.{disconnected_at};
-ghost use Rattle.ca_laws_bytes.specs.ServerFits.{ServerFits};
+ghost use Rattle.ca_model_world.specs.World.{IsSetting, Joined, Setting, World, opening};
+ghost use Rattle.ca_laws_bytes.specs.Runs.{HearsSent, Stands};
+ghost use Rattle.ca_laws_bytes.specs.ServerFits.{AllCaused, ServerFits, ServersFit};
 ghost use Rattle.ca_laws_bytes.specs.Streams.{AreMessages};
 
 /// All that a server's calls send are messages, each field of its width, and its core fits messages
@@ -56,4 +63,25 @@ pub fn a_server_sends_messages()
         (disconnected_at name gone left h (under y.circuits h))) }
     ensures adds { (y : Server) (r : RecordState) (behind : ℕ) (new : Server) → IsValue r.value
         → AddsRecord y r behind (Ok tt) new → ServerFits y → ServerFits new }
+{}
+
+/// Whatever event happens to a world, what its servers sent are messages, each field of its width.
+/// So it is after every run; and an end at a client takes next there what was sent to it next.
+///
+/// The setting is well-formed, and so are the events: values are values, as their types say.
+pub fn servers_send_messages_in_runs()
+    ensures begins { (s : Setting) → IsSetting s → ServersFit (opening s) }
+    ensures event { (s : Setting) (w new : World) (e : Event) → IsSetting s → IsEvent e
+        → Stands s w → Happens w e new → ServersFit w → ServersFit new }
+    ensures run { (s : Setting) (es : List Event) (stopped : Option Event) (w : World)
+        → IsSetting s → AreEvents es → Runs s es stopped w → ServersFit w }
+    ensures hears { (s : Setting) (es : List Event) (stopped : Option Event) (w : World)
+        → IsSetting s → AreEvents es → Runs s es stopped w → HearsSent w }
+    // What a server sends that is no reply is a SERVER_DISCONN, or an EVENT_ADD with a payload: so
+    // anything else is a reply.
+    ensures caused { (s : Setting) (es : List Event) (stopped : Option Event) (w : World)
+        → IsSetting s → AreEvents es → Runs s es stopped w → AllCaused w }
+    ensures reply { (w : World) → AllCaused w → (n i : ℕ) (c : Joined) (t : Told)
+        → At w.circuits n c → At c.lists.down i t → (Is ServerDisconnect t.message → ⊥)
+        → (Is EventAdd t.message → t.message.payload ≡ []) → t.cause ≡ Reply }
 {}

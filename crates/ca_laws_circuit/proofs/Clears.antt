@@ -1,17 +1,17 @@
 -- A caller clears a live channel: its CLEAR_CHANNEL goes out, its CID and the ids of its requests and subscriptions drain.
 use Rattle.std.proofs.Common.{◌≡◌, ℕ, ◌<◌, ◌≤◌, inl, inr, Bool, true, false, ◌&&◌, ◌||◌, cond, [], ◌∷◌, ◌++◌, length, Option, Some, None, refl, sym, ap, ◌∙◌, subst, arith}
-use Rattle.std.specs.Prelude.{option_and_then, option_map, unwrap_or}
+use Rattle.std.specs.Prelude.{option_map, unwrap_or}
 use Rattle.std.proofs.lemmas.Bool.{and_from, and_parts, both_ways, or_cases, or_left, or_right}
 use Rattle.std.proofs.lemmas.List.{length-map}
 use Rattle.ca_text.specs.Limits.{arena_slots}
-use Rattle.ca_text.proofs.Places.{some_is, At-last, At-one, At-within}
+use Rattle.ca_text.proofs.Places.{At-last, At-one, At-within}
 use Rattle.ca_arena.specs.declared.handle.Handle.{Handle}
 use Rattle.ca_ids.specs.Table.{Table, same_handle, under, with_changed}
 use Rattle.ca_ids.specs.Wire.{wire_of}
 use Rattle.ca_monitor.specs.Subscriptions.{Stage, Stands, Cancelled, Ended, Subscription, drains_in, is_to, stage_over, stands_in}
 use Rattle.ca_monitor.specs.Subscriptions as monitor
 use Rattle.ca_requests.specs.Requests.{channel_over}
-use Rattle.ca_model.specs.Client.{Channel, Client, Clearing, Live, Native, On, Phase, Searching, Standing, is_cleared, is_on_in, phase_on, sending, standing_at, standing_unless_cleared}
+use Rattle.ca_model.specs.Client.{Channel, Client, Clearing, Live, Native, On, is_on_in, sending, standing_at}
 use Rattle.ca_model.specs.ClientCalls.{clear_sent, cleared}
 use Rattle.ca_model.specs.Speech.{Id, Cid, Ioid, SubId, Gives}
 use Rattle.ca_model.specs.History.{Circuit, Sent}

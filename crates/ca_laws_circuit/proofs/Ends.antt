@@ -1,15 +1,13 @@
 -- The end of a circuit, and what else a client does on one circuit: other circuits see no difference.
-use Rattle.std.proofs.Common.{◌≡◌, ℕ, zero, suc, inl, inr, Bool, true, false, ◌&&◌, cond, List, [], ◌∷◌, Option, Some, None, refl, sym, ap, ◌∙◌, subst}
-use Rattle.std.specs.Prelude.{filter_map, fold, not, option_map, unwrap_or}
-use Rattle.std.specs.List.{cons_option}
+use Rattle.std.proofs.Common.{◌≡◌, ℕ, suc, inl, inr, Bool, true, false, ◌&&◌, List, [], ◌∷◌, Option, Some, None, refl, sym, ap, ◌∙◌, subst}
+use Rattle.std.specs.Prelude.{fold, not, option_map, unwrap_or}
 use Rattle.std.proofs.lemmas.Bool.{both_ways, cases_Bool, or_cases, and_parts}
 use Rattle.ca_text.specs.Place.{At}
-use Rattle.ca_text.proofs.Places.{some_is}
 use Rattle.ca_arena.specs.declared.handle.Handle.{Handle}
-use Rattle.ca_ids.specs.Table.{Table, held, same_handle, under}
+use Rattle.ca_ids.specs.Table.{Table, same_handle, under}
 use Rattle.ca_monitor.specs.Subscriptions.{Stage, Stands, Cancelled, Ended, Subscription, drains_in, is_to, stands_in}
 use Rattle.ca_requests.specs.Requests.{Request, asks_on, was_sent_on}
-use Rattle.ca_model.specs.Client.{Channel, Client, ClientCircuit, On, Phase, Searching, Standing, channels_ended, channels_on, ended, is_cleared, is_on_in, let_go, phase_on, searched_again, with_standing, without_channel, without_ids}
+use Rattle.ca_model.specs.Client.{Channel, Client, ClientCircuit, On, Phase, Searching, channels_ended, channels_on, ended, is_cleared, is_on_in, let_go, searched_again, with_standing, without_channel, without_ids}
 use Rattle.ca_model.specs.Hears.{without_drained, without_request, without_subscription}
 use Rattle.ca_laws_circuit.specs.Held.{HoldAlike, has_id, is_asked, is_subscribed}
 use Rattle.ca_model_client.specs.Placed.{Attached, was_live}
@@ -17,7 +15,7 @@ use Rattle.ca_laws_circuit.proofs.Alike.{alike-itself, all-freed-alike, channel-
 use Rattle.ca_model_client.proofs.Handles.{not-same, same-is, same-not}
 use Rattle.ca_laws_circuit.proofs.Others.{let-go-alike}
 use Rattle.ca_model_client.proofs.Standings.{fails-elsewhere}
-use Rattle.ca_model_client.proofs.Tables.{changed-back, freed-back, held-under, one-value}
+use Rattle.ca_model_client.proofs.Tables.{changed-back, freed-back, one-value}
 use Rattle.ca_model_client.proofs.Standings.{on-one, on-circuit}
 
 -- ---- on one circuit, and on no other

@@ -8,12 +8,12 @@ use Rattle.ca_text.specs.Limits.{arena_slots}
 use Rattle.ca_text.specs.Place.{At}
 use Rattle.ca_text.proofs.Places.{some_is, At-one}
 use Rattle.ca_arena.specs.declared.handle.Handle.{Handle}
-use Rattle.ca_ids.specs.Table.{Table, by_wire, same_handle, under, with_changed}
+use Rattle.ca_ids.specs.Table.{Table, by_wire, under, with_changed}
 use Rattle.ca_ids.specs.Wire.{wire_of}
 use Rattle.ca_wire.specs.Fields.{Fields}
 use Rattle.ca_monitor.specs.Subscriptions.{Subscription, drains_in, stands_in}
 use Rattle.ca_requests.specs.Requests.{Request, answered_by, channel_over, command_of, was_sent_on}
-use Rattle.ca_model.specs.Client.{Channel, Client, Leaving, Live, Native, On, Phase, Searching, Standing, channel_on, is_on_in, phase_on, sending, with_requests, with_standing}
+use Rattle.ca_model.specs.Client.{Channel, Client, Leaving, Live, Native, On, channel_on, is_on_in, sending, with_requests, with_standing}
 use Rattle.ca_model.specs.ClientCalls.{clear_sent}
 use Rattle.ca_model.specs.Hears.{without_request}
 use Rattle.ca_model.specs.Speech.{Cid, Ioid, SubId, Gives, Is, Speaks}
@@ -26,7 +26,7 @@ use Rattle.ca_laws_circuit.specs.Flows.{Flows, IsLast, MaySend, with_heard, with
 use Rattle.ca_laws_circuit.specs.Held.{Holds, HoldsChannels, HoldsSubscriptions, clear_of, has_id, is_asked, is_subscribed}
 use Rattle.ca_laws_circuit.proofs.Clears.{channels-sent, clear-may-be-sent, requests-cleared, subscriptions-sent}
 use Rattle.ca_model_client.proofs.Standings.{is-on}
-use Rattle.ca_model_client.proofs.Handles.{handle-or, same-is}
+use Rattle.ca_model_client.proofs.Handles.{handle-or}
 use Rattle.ca_laws_circuit.proofs.Held.{ids-heard, ids-kept}
 use Rattle.ca_laws_circuit.proofs.Requests.{requests-replied}
 use Rattle.ca_laws_circuit.proofs.Settled.{ioid-gives, read-means}

@@ -10,7 +10,7 @@ use Rattle.ca_ids.specs.Wire.{wire_of}
 use Rattle.ca_wire.specs.Messages.{clear_request, create_request, event_add_request}
 use Rattle.ca_requests.specs.Requests.{Request, was_sent_on}
 use Rattle.ca_monitor.specs.Subscriptions.{Subscription, drains_in, stands_in}
-use Rattle.ca_model.specs.Client.{Channel, Clearing, Client, Connecting, Leaving, Live, Phase, is_on_in}
+use Rattle.ca_model.specs.Client.{Channel, Client, Connecting, Leaving, Live, Phase, is_on_in}
 use Rattle.ca_model.specs.ClientCalls.{wanted_by}
 use Rattle.ca_model.specs.ClientEnds.{is_connecting}
 use Rattle.ca_model.specs.Speech.{Cid, Gives, Id, Ioid, Is, SubId}
@@ -98,8 +98,6 @@ pub record HoldAlike (on : Handle) (x y : Client) : Type 0 where
   pub asked : IsAlike (is_on_in is_asked on) (is_on_in is_asked on) x.channels y.channels
   pub requests : IsAlike (was_sent_on on) (was_sent_on on) x.requests y.requests
   pub subscriptions : IsAlike (has_id x.channels on) (has_id y.channels on) x.subscriptions y.subscriptions
-
--- ---- what requests and subscriptions are attached to
 
 -- ---- a circuit that is wanted, and not connected yet
 

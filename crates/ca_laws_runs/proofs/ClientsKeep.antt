@@ -1,6 +1,6 @@
 -- The events of a client keep what holds of all clients.
 use Rattle.std.proofs.Common.{◌≡◌, ℕ, ◌+◌, inl, inr, Bool, true, false, ◌&&◌, cond, eqb, List, [], ◌∷◌, ◌++◌, length, Option, Some, None, refl, sym, ap, ◌∙◌, subst, arith}
-use Rattle.std.specs.Prelude.{Ok, drop, is_none, is_some, map}
+use Rattle.std.specs.Prelude.{drop, is_none, map}
 use Rattle.std.proofs.lemmas.Bool.{and_from, both_ways, eq-eqb}
 use Rattle.ca_text.specs.Place.{At}
 use Rattle.ca_text.proofs.Places.{At-mapped}
@@ -8,34 +8,28 @@ use Rattle.ca_arena.specs.declared.handle.Handle.{Handle}
 use Rattle.ca_arena.specs.Arena.{Place}
 use Rattle.ca_dbr.specs.Elements.{Elements}
 use Rattle.ca_ids.specs.Table.{MayGive, under, with_held}
-use Rattle.ca_link.specs.Link.{with_handed}
-use Rattle.ca_monitor.specs.Subscriptions.{Subscription, drains_in}
-use Rattle.ca_requests.specs.Calls.{new_request}
+use Rattle.ca_monitor.specs.Subscriptions.{Subscription}
 use Rattle.ca_requests.specs.Requests.{Asked, Request}
 use Rattle.ca_requests.specs.Requests as request
 use Rattle.ca_text.specs.declared.refusal.Refusal.{Refusal}
 use Rattle.ca_model.specs.Answers.{Closed, Closing, NeedBytes, Notices, Sending, Stepped}
-use Rattle.ca_model.specs.Client.{Channel, Client, Connection, On, Phase, Searching, Standing, connection_at, is_on_in, on_connection, out_bytes, sending, standing_at}
-use Rattle.ca_model.specs.Client as phase
+use Rattle.ca_model.specs.Client.{Client, Connection, connection_at, out_bytes, sending, standing_at}
 use Rattle.ca_model.specs.ClientCalls.{IsLive, LiveChannel, Opening, Shape, cancel_sent, clearing_sent, event_add_sent, issued, new_subscription, opened, put_sent, read_sent, write_sent}
-use Rattle.ca_model.specs.ClientEnds.{GivesOn, StepsOn, after_taking, flow_sent, given, handed_over}
+use Rattle.ca_model.specs.ClientEnds.{StepsOn, after_taking, handed_over}
 use Rattle.ca_model.specs.Ends.{Address}
 use Rattle.ca_model.specs.History.{Intent, Line, Step}
 use Rattle.ca_model.specs.History as history
 use Rattle.ca_model_world.specs.ClientEvents.{DownTaken, HappensClear, HappensClientRestart, HappensClientStep, HappensCutClient, HappensDown, HappensOpen, HappensRead, HappensSubscribe, HappensUnsubscribe, HappensUp, HappensWrite, HappensWriteNotify, Outcomes, about_at, cancelled, client_after, client_closed, client_ended, client_gone, client_stepped, heard_in, lines_of, refused}
 use Rattle.ca_model_world.specs.World.{ClientSide, Joined, Names, ServerSide, World, addresses, client_begun, log_length, with_circuit, with_client, with_server}
 use Rattle.ca_laws_circuit.specs.Held.{with_request, with_subscription}
-use Rattle.ca_model_client.specs.Placed.{WasLive, was_live}
-use Rattle.ca_model_client.proofs.Standings.{found-standing, is-on}
-use Rattle.ca_model_client.proofs.Tables.{held-back, held-other, place, under-at}
+use Rattle.ca_model_client.proofs.Tables.{place, under-at}
 use Rattle.ca_laws_runs.specs.Client.{IsSound}
-use Rattle.ca_model_client.specs.Placed.{IsPlaced}
 use Rattle.ca_laws_runs.specs.Clients.{ClientsStand}
 use Rattle.ca_model_client.proofs.Changes.{keeps-cleared, keeps-unsubscribed}
 use Rattle.ca_model_client.proofs.Hearing.{keeps-heard}
 use Rattle.ca_model_client.proofs.Letting.{KeepsBut, ends-ended}
 use Rattle.ca_laws_runs.proofs.Named.{named-issued, named-opened, named-subscribed, named-wrote}
-use Rattle.ca_model_client.proofs.Placed.{Keeps, keeps-itself, keeps-on, keeps-sending, keeps-then}
+use Rattle.ca_model_client.proofs.Placed.{Keeps, keeps-on, keeps-sending, keeps-then}
 use Rattle.ca_laws_runs.proofs.Stands.{IsEndOf, end-closed, fewer-itself, fewer-map, fewer-set, sound-kept, stands-but, stands-called, stands-kept, stands-moved, stands-same}
 use Rattle.ca_model_client.proofs.Changes.{placed-opened, placed-issued, placed-subscribed, handed-keeps, given-keeps}
 

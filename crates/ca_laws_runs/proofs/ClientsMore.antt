@@ -12,7 +12,6 @@ use Rattle.ca_link.specs.declared.keep.Keep.TheVariants.{Close, Echo, Idle}
 use Rattle.ca_link.specs.Link.{kept}
 use Rattle.ca_search.specs.Searches as search
 use Rattle.ca_text.specs.declared.command.Command.TheVariants as command
-use Rattle.ca_wire.specs.Fields.{Fields}
 use Rattle.ca_wire.specs.Messages.{bare, search_request}
 use Rattle.ca_model.specs.Answers.{Closing, Left, Sending}
 use Rattle.ca_model.specs.Answers as answer
@@ -21,7 +20,6 @@ use Rattle.ca_model.specs.ClientCalls.{WantedCircuit, is_over, wanted, wanted_as
 use Rattle.ca_model.specs.ClientEnds.{ConnectsOn, Receives, ReceivesAll, Ticking, all_searched_on, beacon_heard, begun, circuits_ticked, creations, due, echoes, falls_silent, is_name_connected, of_circuit, searches_made, searches_on, set_up, ticked, ticks, ticks_as, unconnected, with_sending}
 use Rattle.ca_model.specs.ClientEnds as ends
 use Rattle.ca_model.specs.Ends.{Address}
-use Rattle.ca_model.specs.Hears.{Effect, becomes, found_at, searched_by}
 use Rattle.ca_model.specs.History as history
 use Rattle.ca_model_world.specs.ClientEvents.{HappensAccept, HappensClientDatagram, Outcomes, TicksOne, WantsFirst, after_tick, client_after, client_closed, connected_as, left_silent, lines_of, new_circuit, told_by}
 use Rattle.ca_model_world.specs.World.{ClientSide, Joined, Names, ServerSide, World}
@@ -33,13 +31,12 @@ use Rattle.ca_laws_runs.specs.Client.{IsSound}
 use Rattle.ca_model_client.specs.Placed.{IsPlaced}
 use Rattle.ca_laws_runs.specs.Clients.{ClientsStand}
 use Rattle.ca_model_client.proofs.Changes.{keeps-searches}
-use Rattle.ca_model_client.proofs.Hearing.{keeps-begun, keeps-finds}
+use Rattle.ca_model_client.proofs.Hearing.{keeps-begun}
 use Rattle.ca_model_client.proofs.Letting.{KeepsBut, ends-ended}
 use Rattle.ca_laws_runs.proofs.Named.{named-thins}
 use Rattle.ca_model_client.proofs.Thinner.{Thins, thins-then}
 use Rattle.ca_model_client.proofs.Placed.{Keeps, keeps-itself, keeps-on, keeps-sending, keeps-then}
 use Rattle.ca_laws_runs.proofs.Stands.{IsEndOf, end-closed, end-itself, fewer-map, fewer-then, sound-but, stands-kept, stands-moved}
-use Rattle.ca_model_client.proofs.Thinner.{thin-itself}
 use Rattle.ca_model_client.proofs.Hearing.{keeps-moment, all-received}
 
 -- ---- datagrams

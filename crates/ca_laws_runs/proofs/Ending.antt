@@ -2,14 +2,13 @@
 use Rattle.std.proofs.Common.{◌≡◌, ℕ, inl, inr, Bool, true, false, ◌&&◌, ◌||◌, cond, List, [], ◌∷◌, Option, Some, None, refl, sym, ap, ◌∙◌, subst}
 use Rattle.std.specs.Prelude.{Ok, option_and_then, option_map, unwrap_or}
 use Rattle.std.proofs.lemmas.Bool.{both_ways}
-use Rattle.ca_text.proofs.Places.{some_is}
 use Rattle.ca_arena.specs.declared.handle.Handle.{Handle}
 use Rattle.ca_ids.specs.Table.{same_handle, under, with_freed}
 use Rattle.ca_monitor.specs.Subscriptions.{Stage, Stands, Cancelled, Ended, Subscription, drains_in, stands_in, with_stage}
 use Rattle.ca_requests.specs.Requests.{was_sent_on}
 use Rattle.ca_model.specs.Answers.{Notice, Sending}
 use Rattle.ca_model.specs.Client.{Channel, Client, Clearing, Connecting, Creating, Doomed, Leaving, Live, On, Phase, Searching, Standing, is_cleared, is_on_in, phase_on, sending, standing_at, standing_unless_cleared}
-use Rattle.ca_model.specs.ClientCalls.{ClientClears, ClientUnsubscribes, StandsAs, cancel_sent, clear_sent, cleared, clearing_sent, event_cancel_sent, unsubscribed}
+use Rattle.ca_model.specs.ClientCalls.{ClientClears, ClientUnsubscribes, cancel_sent, clear_sent, cleared, clearing_sent, event_cancel_sent, unsubscribed}
 use Rattle.ca_model.specs.History.{Circuit, Intent, Sent}
 use Rattle.ca_model.specs.History as history
 use Rattle.ca_model_safe.specs.Channels.{Suits}

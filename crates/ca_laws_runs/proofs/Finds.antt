@@ -1,14 +1,12 @@
 -- A search reply: a channel that is searched for is put on a circuit, and what is held of each circuit of its client stays so.
-use Rattle.std.proofs.Common.{◌≡◌, ℕ, inl, inr, Bool, true, false, cond, List, [], ◌∷◌, Option, Some, None, refl, sym, ◌∙◌, subst}
-use Rattle.std.specs.Prelude.{option_and_then}
+use Rattle.std.proofs.Common.{◌≡◌, ℕ, inl, inr, false, List, [], ◌∷◌, Option, Some, None, refl, sym, ◌∙◌, subst}
 use Rattle.ca_text.specs.Place.{At}
-use Rattle.ca_text.proofs.Places.{some_is}
 use Rattle.ca_arena.specs.declared.handle.Handle.{Handle}
-use Rattle.ca_ids.specs.Table.{by_wire, under}
+use Rattle.ca_ids.specs.Table.{under}
 use Rattle.ca_model.specs.Answers.{Sending}
-use Rattle.ca_model.specs.Client.{Channel, Client, ClientCircuit, Connecting, Connection, Creating, On, Phase, Searching, Standing, circuit_to, found_on, is_on_in, new_circuit, sending, with_standing}
+use Rattle.ca_model.specs.Client.{Channel, Client, ClientCircuit, Connecting, Connection, Creating, On, Phase, Searching, circuit_to, found_on, is_on_in, new_circuit, sending, with_standing}
 use Rattle.ca_model.specs.Ends.{Address}
-use Rattle.ca_model.specs.Hears.{Effect, FindsAt, PutsOn, create_sent, is_searched, put_on, searched_by, with_circuit}
+use Rattle.ca_model.specs.Hears.{Effect, FindsAt, PutsOn, create_sent, put_on, searched_by, with_circuit}
 use Rattle.ca_model.specs.History as history
 use Rattle.ca_model_world.specs.ClientEvents.{channel_number}
 use Rattle.ca_model_world.specs.World.{Joined, Names}
@@ -17,7 +15,6 @@ use Rattle.ca_laws_circuit.specs.Held.{HoldAlike, Holds, is_asked, is_subscribed
 use Rattle.ca_laws_circuit.proofs.Alike.{client-itself, holds-alike, restood, sending-alike}
 use Rattle.ca_laws_circuit.proofs.Creates.{create-keeps, create-may}
 use Rattle.ca_model_client.proofs.Standings.{fails-anywhere, fails-elsewhere, fails-searched}
-use Rattle.ca_model_client.proofs.Tables.{wire-under}
 use Rattle.ca_laws_runs.specs.Circuit.{AreNumbered, HeldOn, sent_to, stamped}
 use Rattle.ca_laws_runs.proofs.Sending.{none-sent-to, one-sent}
 use Rattle.ca_model_client.proofs.Standings.{searched-is}

@@ -23,7 +23,7 @@ use Rattle.ca_laws_runs.specs.Circuit.{AreGiven}
 use Rattle.ca_model_client.specs.Placed.{WasGiven}
 use Rattle.ca_laws_runs.specs.Client.{IsNamed}
 use Rattle.ca_laws_runs.proofs.Sending.{new-name, place-passes}
-use Rattle.ca_model_client.proofs.Thinner.{IsThinner, given-held, given-own, given-thin, thin-itself, thin-then}
+use Rattle.ca_model_client.proofs.Thinner.{given-held, given-own, given-thin}
 use Rattle.ca_model_client.proofs.Thinner.{Thins}
 
 -- ---- all three tables of a client

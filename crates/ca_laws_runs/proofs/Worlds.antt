@@ -1,6 +1,6 @@
 -- What an event of a client leaves of each circuit of a world, by what it leaves of those of that client.
-use Rattle.std.proofs.Common.{◌≡◌, ℕ, zero, suc, ◌<◌, ◌⊎◌, inl, inr, Bool, true, false, ◌&&◌, cond, eqb, List, [], ◌∷◌, ◌++◌, refl, sym, ap, ◌∙◌, subst, arith}
-use Rattle.std.specs.Prelude.{filter, length, map, slice_set}
+use Rattle.std.proofs.Common.{◌≡◌, ℕ, inl, inr, Bool, true, false, ◌&&◌, cond, eqb, List, [], ◌++◌, refl, sym, ap, ◌∙◌, subst}
+use Rattle.std.specs.Prelude.{filter, map, slice_set}
 use Rattle.std.proofs.lemmas.Bool.{eqb-true}
 use Rattle.std.proofs.lemmas.List.{append-nil}
 use Rattle.ca_text.specs.Place.{At}
@@ -12,7 +12,6 @@ use Rattle.ca_model.specs.Client.{Client}
 use Rattle.ca_model.specs.History.{Sent}
 use Rattle.ca_model_world.specs.ClientEvents.{Outcomes, client_after, refused}
 use Rattle.ca_model_world.specs.World.{ClientSide, Joined, Names, World, with_circuit, with_client}
-use Rattle.ca_model_client.proofs.Thinner.{three-ways}
 use Rattle.ca_laws_runs.specs.Circuit.{HeldAt, HeldOn, sent_to, stamped}
 use Rattle.ca_laws_runs.proofs.Sending.{with_up}
 use Rattle.ca_model_client.proofs.Thinner.{number-or, set-there}

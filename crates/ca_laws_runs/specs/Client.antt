@@ -1,12 +1,7 @@
 -- Working: what holds of a client's core and of what its handles name, at each moment.
-use Rattle.std.specs.Prelude.{◌≡◌, Some, is_none}
-use Rattle.ca_arena.specs.declared.handle.Handle.{Handle}
-use Rattle.ca_ids.specs.Table.{under}
-use Rattle.ca_model.specs.Client.{Channel, Client, On, Phase, connection_at}
-use Rattle.ca_model.specs.ClientEnds.{is_connecting}
+use Rattle.ca_model.specs.Client.{Client}
 use Rattle.ca_model_world.specs.World.{Names}
 use Rattle.ca_laws_circuit.specs.Held.{AreFew, MeanToSubscribe}
-use Rattle.ca_model_client.specs.Placed.{Attached}
 use Rattle.ca_laws_runs.specs.Circuit.{AreGiven, AreNumbered}
 use Rattle.ca_model_client.specs.Placed.{IsPlaced}
 

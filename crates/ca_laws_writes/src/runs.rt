@@ -17,7 +17,8 @@ ghost use Rattle.ca_dbr.specs.declared.value.Outcome.TheVariants.{Done, Failed};
 /// the log of its life tells, each log has each write once, and each open circuit has its end at
 /// its server. So it is after every run.
 ///
-/// What the end of a circuit takes next is the message that its client sent next.
+/// What the end of a circuit takes next is the message that its client sent next, in each world on
+/// the way.
 pub fn each_event_keeps_writes()
     ensures begins { (s : Setting) → IsSetting s → Sound s (opening s) }
     ensures event { (s : Setting) (w new : World) (e : Event) → IsSetting s → TakesSent w
@@ -45,7 +46,9 @@ pub fn sound_writes_are_applied_once()
 /// after every run: a put that a reply tells Done is applied, and of a write that a reply tells
 /// Failed the log never tells.
 ///
-/// Each open circuit is in step with its end at its server there, as in every run.
+/// What the end of a circuit takes next is the message that its client sent next, in each world on
+/// the way. At an event each open circuit is in step with its end at its server, and writes are
+/// sound, as they are in every such run.
 pub fn each_event_keeps_what_replies_say()
     ensures begins { (s : Setting) → Says (opening s) }
     ensures event { (s : Setting) (w new : World) (e : Event) → IsSetting s → TakesSent w
@@ -58,6 +61,9 @@ pub fn each_event_keeps_what_replies_say()
 /// stand in both, each once, and the same updates wait in both. So it is before any event, after
 /// each event, and after every run; and so each update that leaves a queue has its number in front
 /// there, and is told as an update.
+///
+/// What the end of a circuit takes next is the message that its client sent next, in each world on
+/// the way; and at an event writes are sound, as they are in every such run.
 pub fn ends_and_circuits_stay_in_step()
     ensures begins { (s : Setting) → AllInStep (opening s) }
     ensures event { (s : Setting) (w new : World) (e : Event) → TakesSent w → Happens w e new

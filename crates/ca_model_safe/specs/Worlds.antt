@@ -11,7 +11,7 @@ use Rattle.ca_model_safe.specs.Legal.{Legal}
 abbrev pub IsSafeWorld : World → Type 0
 IsSafeWorld w = IsSafe (port_of w) (rules_of w) (told w)
 
--- Each end of each circuit sent what it may.
+-- Each end of each circuit sent what it may and what it has to, and each accepted subscription was sent.
 abbrev pub IsLegalWorld : World → Type 0
 IsLegalWorld w = Legal (told w)
 

@@ -9,5 +9,6 @@ returns c = record {
   dropped = λ w at. dropped-as w (reached w at).1.sound.writes.logs;
   finished = λ w at. finished-once w (reached w at).1.sound.writes.logs;
   replies = reached-says;
+  asked = λ w at. (reached w at).1.asked;
   in_step = reached-in-step;
 }
