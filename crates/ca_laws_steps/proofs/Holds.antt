@@ -21,10 +21,14 @@ use Rattle.ca_model_safe.specs.Channels.{Suits}
 use Rattle.ca_model_world.specs.ClientEvents.{TicksOne, channel_number}
 use Rattle.ca_model_world.specs.Events.{Event}
 use Rattle.ca_model_world.specs.Events as event
-use Rattle.ca_model_world.specs.Runs.{Happens, HasClientEnd, Runs, StopsAt, clients_below}
+use Rattle.ca_model_world.specs.Runs.{AreEvents, Happens, HasClientEnd, Runs, StopsAt, clients_below}
 use Rattle.ca_model_world.specs.ServerEvents.{ServerStepped}
 use Rattle.ca_model_world.specs.World.{ClientSide, Creation, IsSetting, Joined, RecordSide, ServerSide, Setting, Standing, World, opening}
-use Rattle.ca_laws_bytes.specs.Runs.{IsReached}
+use Rattle.ca_laws_bytes.specs.Runs.{HearsSent}
+use Rattle.ca_laws_bytes.specs.ServerFits.{AllCaused, ServersFit}
+use Rattle.ca_laws_bytes.proofs.Causes.{event-caused, opening-caused, runs-caused}
+use Rattle.ca_laws_bytes.proofs.Runs.{hears-sent}
+use Rattle.ca_laws_bytes.proofs.ServerSpeaking.{event-servers, opening-servers, runs-hear}
 use Rattle.ca_laws_kept.specs.Kept.{kept, sid_at}
 use Rattle.ca_laws_kept.proofs.Laters.{fewer-at, held-then}
 use Rattle.ca_laws_kept.proofs.Puts.{PutIn}
@@ -45,9 +49,15 @@ use Rattle.ca_laws_steps.specs.Worlds.{ServersStand}
 use Rattle.ca_laws_steps.proofs.Circuits.{IsAccept, accept-were, leaves-were}
 use Rattle.ca_laws_steps.proofs.Found.{asked-if, cancel-is, clear-is, create-is, found-intent}
 use Rattle.ca_laws_steps.proofs.Replied.{event-answer, opening-answer, reached-answer}
-use Rattle.ca_laws_steps.proofs.Whole.{event-serves, events-serve, opening-serves, other-held, others-held, own-held, reached-serves, takes-next, unhandled-held}
+use Rattle.ca_laws_steps.proofs.Whole.{event-serves, events-serve, opening-serves, other-held, others-held, own-held, run-serves, takes-next, unhandled-held}
 
 -- ---- an event
+
+-- A client takes next what was sent there next; what is no reply is an update or a SERVER_DISCONN; and replies answer their kind.
+pub record IsTold (w : World) : Type 0 where
+  pub hears : HearsSent w
+  pub caused : AllCaused w
+  pub answer : AllAnswer w
 
 module _ (s : Setting) (w new : World) (ok : IsSetting s) (h : ServersStand s w) where
   -- a step of a server's end
@@ -67,12 +77,19 @@ module _ (s : Setting) (w new : World) (ok : IsSetting s) (h : ServersStand s w)
       go (stepped.Closed cause left) f = unhandled-held s w new l ok h k (stepped.Closed cause left) happens (λ e. cc) f held
 
   -- a step of a client's end: the message that it takes is about one that it sent
-  module _ (k : ℕ) (happens : Happens w (event.ClientStep k) new) (known : IsKnownStep w (event.ClientStep k) new) (all : AllCircuitsHeld w) (answer : AllAnswer w) where
+  module _ (k : ℕ) (happens : Happens w (event.ClientStep k) new) (known : IsKnownStep w (event.ClientStep k) new) (all : AllCircuitsHeld w) (told : IsTold w) where
     abbrev a : HasClientEnd w k
     a = happens.0
 
     unlike : (n a b : ℕ) → n ≡ a → n ≡ b → (a ≡ b → ⊥) → ⊥
     unlike n a b f g other = other (sym f ∙ g)
+
+    reply-of : (m : Fields) (t : Told) → At a.j.lists.down (length a.j.lists.heard) t → t.message ≡ m → (m.command ≡ 27 → ⊥) → (m.command ≡ 1 → m.payload ≡ []) → t.cause ≡ Reply
+    reply-of m t at message gone empty = elim (told.caused.each k a.j a.joins.at (length a.j.lists.heard) t at) [
+      | inl reply ↦ reply
+      | inr (inl lost) ↦ absurd (gone (ap (λ (z : Fields). z.command) (sym message) ∙ lost))
+      | inr (inr update) ↦ absurd (update.1 (ap (λ (z : Fields). z.payload) message ∙ empty (ap (λ (z : Fields). z.command) (sym message) ∙ update.0)))
+    ]
 
     -- what is held of the circuit
     on-own : HeldOn (kept w k) a.x.names a.x.core a.j
@@ -98,7 +115,7 @@ module _ (s : Setting) (w new : World) (ok : IsSetting s) (h : ServersStand s w)
     failing d m t s2 h2 p is at message sent fails reply found =
         let speaks : Speaks t.message (Cid m.p1) = subst (λ (z : Fields). Speaks z (Cid m.p1)) (sym message) (inl (inl (inr (inl fails), refl))) in
         let r = on-it d t s2 m.p1 h2 p is at sent speaks found in
-        let ans = answer k (length a.j.lists.heard) a.j t a.joins.at at reply in
+        let ans = told.answer k (length a.j.lists.heard) a.j t a.joins.at at reply in
         let one : ans.0 ≡ s2 = At-one a.j.lists.up t.place ans.0 s2 ans.1 sent in
         let asks : s2.message.command ≡ 18 = subst (λ (z : Sent). z.message.command ≡ 18) one (ans.2.failed (ap (λ (z : Fields). z.command) message ∙ fails)) in
         r.1 ∙ ap (λ (z : Ask). history.On (channel_number a.x.names h2) z) (create-is r.0 s2.message (subst (λ (z : Intent). Suits z s2.message) r.1 (on-own.flows.asked t.place s2 sent)) asks)
@@ -108,43 +125,43 @@ module _ (s : Setting) (w new : World) (ok : IsSetting s) (h : ServersStand s w)
     clearing d m t s2 h2 p is at message sent clears reply found =
         let speaks : Speaks t.message (Cid m.p2) = subst (λ (z : Fields). Speaks z (Cid m.p2)) (sym message) (inl (inr (clears, refl))) in
         let r = on-it d t s2 m.p2 h2 p is at sent speaks found in
-        let ans = answer k (length a.j.lists.heard) a.j t a.joins.at at reply in
+        let ans = told.answer k (length a.j.lists.heard) a.j t a.joins.at at reply in
         let one : ans.0 ≡ s2 = At-one a.j.lists.up t.place ans.0 s2 ans.1 sent in
         let asks : s2.message.command ≡ 12 = subst (λ (z : Sent). z.message.command ≡ 12) one (ans.2.cleared (ap (λ (z : Fields). z.command) message ∙ clears)) in
         r.1 ∙ ap (λ (z : Ask). history.On (channel_number a.x.names h2) z) (clear-is r.0 s2.message (subst (λ (z : Intent). Suits z s2.message) r.1 (on-own.flows.asked t.place s2 sent)) asks)
 
     confirming : (m : Fields) (t : Told) (s2 : Sent) → At a.j.lists.down (length a.j.lists.heard) t → t.message ≡ m → At a.j.lists.up t.place s2 → m.command ≡ 1 → t.cause ≡ Reply → (channel number : ℕ) × (s2.intent ≡ history.On channel (history.Cancel number))
     confirming m t s2 at message sent adds reply =
-        let ans = answer k (length a.j.lists.heard) a.j t a.joins.at at reply in
+        let ans = told.answer k (length a.j.lists.heard) a.j t a.joins.at at reply in
         let one : ans.0 ≡ s2 = At-one a.j.lists.up t.place ans.0 s2 ans.1 sent in
         cancel-is s2.intent s2.message (on-own.flows.asked t.place s2 sent) (subst (λ (z : Sent). z.message.command ≡ 2) one (ans.2.confirms (ap (λ (z : Fields). z.command) message ∙ adds)))
 
     heard : (d : Connection) (m : Fields) (rest : List ℕ) → connection_at a.x.core a.j.at_client ≡ Some d → TakesFirst d.link m rest → IsKnown a.x.names (after_taking a.j.at_client rest a.x.core) a.j.at_client a.j.lists m
     heard d m rest is takes =
-        let t = known.0 k a.j a.x d m rest a.joins.at a.joins.client a.is_open is takes in
+        let t = told.hears k a.j a.x d m rest a.joins.at a.joins.client a.is_open is takes in
         let on = all k a.j a.joins.at in
         let one : on.0 ≡ a.j = At-one w.circuits k on.0 a.j on.2 a.joins.at in
         let lt : t.0.place < length a.j.lists.up = subst (λ (z : Joined). t.0.place < length z.lists.up) one (on.4.flows.about (length a.j.lists.heard) t.0 (subst (λ (z : Joined). At z.lists.down (length a.j.lists.heard) t.0) (sym one) t.1)) in
         let s = At-below a.j.lists.up t.0.place lt in
-        let f = known.1 a.j a.x d m rest t.0 s.0 a.joins.at a.joins.client is takes t.1 s.1 in
+        let f = known a.j a.x d m rest t.0 s.0 a.joins.at a.joins.client is takes t.1 s.1 in
         record {
           t = t.0;
           at = t.1;
           is = t.2;
           s = s.0;
           there = s.1;
-          reply = f.reply;
+          reply = λ rights gone empty. reply-of m t.0 t.1 t.2 gone empty;
           own = f.own;
           failed = λ h2 p fails found. (
-            failing d m t.0 s.0 h2 p is t.1 t.2 s.1 fails (f.reply (λ e. unlike m.command 26 22 fails e (λ z. cc)) (λ e. unlike m.command 26 27 fails e (λ z. cc)) (λ e. absurd (unlike m.command 26 1 fails e (λ z. cc)))) found,
+            failing d m t.0 s.0 h2 p is t.1 t.2 s.1 fails (reply-of m t.0 t.1 t.2 (λ e. unlike m.command 26 27 fails e (λ z. cc)) (λ e. absurd (unlike m.command 26 1 fails e (λ z. cc)))) found,
             f.failed h2 p fails found,
           );
           cleared = λ h2 p clears found. (
-            clearing d m t.0 s.0 h2 p is t.1 t.2 s.1 clears (f.reply (λ e. unlike m.command 12 22 clears e (λ z. cc)) (λ e. unlike m.command 12 27 clears e (λ z. cc)) (λ e. absurd (unlike m.command 12 1 clears e (λ z. cc)))) found,
+            clearing d m t.0 s.0 h2 p is t.1 t.2 s.1 clears (reply-of m t.0 t.1 t.2 (λ e. unlike m.command 12 27 clears e (λ z. cc)) (λ e. absurd (unlike m.command 12 1 clears e (λ z. cc)))) found,
             f.cleared h2 p clears found,
           );
           confirms = λ q adds empty found.
-              let r = confirming m t.0 s.0 t.1 t.2 s.1 adds (f.reply (λ e. unlike m.command 1 22 adds e (λ z. cc)) (λ e. unlike m.command 1 27 adds e (λ z. cc)) (λ e. empty)) in
+              let r = confirming m t.0 s.0 t.1 t.2 s.1 adds (reply-of m t.0 t.1 t.2 (λ e. unlike m.command 1 27 adds e (λ z. cc)) (λ e. empty)) in
               (r.0, r.1, r.2, f.confirms q r.0 r.1 adds empty found r.2);
           refuses = f.refuses;
         }
@@ -154,33 +171,33 @@ module _ (s : Setting) (w new : World) (ok : IsSetting s) (h : ServersStand s w)
         held-then s w new (event.ClientStep k) l ok (takes-next s w h) h.stands.sound happens (At-within w.circuits l held.0 held.2) (λ p own. own)
         (keeps-known-step (kept w l) w new k l a.j a.x a.joins.at a.joins.client a.is_open h.stands.clients heard happens.1 held)
 
-  there-held : (e : Event) (l : ℕ) → Happens w e new → IsKnownStep w e new → AllCircuitsHeld w → AllAnswer w → HeldAt (kept w l) w l → HeldAt (kept new l) new l
-  there-held (event.ServerStep k) l happens known all answer held = step-held k l happens known held
-  there-held (event.ClientStep k) l happens known all answer held = client-held k happens known all answer l held
-  there-held (event.Open i name priority) l happens known all answer held = other-held s w new l ok h (event.Open i name priority) tt happens held
-  there-held (event.Clear i c) l happens known all answer held = other-held s w new l ok h (event.Clear i c) tt happens held
-  there-held (event.Read i c data_type count) l happens known all answer held = other-held s w new l ok h (event.Read i c data_type count) tt happens held
-  there-held (event.Write i c e) l happens known all answer held = other-held s w new l ok h (event.Write i c e) tt happens held
-  there-held (event.WriteNotify i c e) l happens known all answer held = other-held s w new l ok h (event.WriteNotify i c e) tt happens held
-  there-held (event.Subscribe i c data_type count mask) l happens known all answer held = other-held s w new l ok h (event.Subscribe i c data_type count mask) tt happens held
-  there-held (event.Unsubscribe i n) l happens known all answer held = other-held s w new l ok h (event.Unsubscribe i n) tt happens held
-  there-held (event.Collect i r) l happens known all answer held = other-held s w new l ok h (event.Collect i r) tt happens held
-  there-held (event.GiveUp i r) l happens known all answer held = other-held s w new l ok h (event.GiveUp i r) tt happens held
-  there-held (event.ClientDatagram i from bytes) l happens known all answer held = other-held s w new l ok h (event.ClientDatagram i from bytes) tt happens held
-  there-held (event.ServerDatagram i from bytes) l happens known all answer held = other-held s w new l ok h (event.ServerDatagram i from bytes) tt happens held
-  there-held (event.Up k n) l happens known all answer held = other-held s w new l ok h (event.Up k n) tt happens held
-  there-held (event.Down k n) l happens known all answer held = other-held s w new l ok h (event.Down k n) tt happens held
-  there-held (event.Pump k) l happens known all answer held = other-held s w new l ok h (event.Pump k) tt happens held
-  there-held (event.CutClient k) l happens known all answer held = other-held s w new l ok h (event.CutClient k) tt happens held
-  there-held (event.CutServer k) l happens known all answer held = other-held s w new l ok h (event.CutServer k) tt happens held
-  there-held (event.ClientRestart i) l happens known all answer held = other-held s w new l ok h (event.ClientRestart i) tt happens held
-  there-held (event.ServerRestart i) l happens known all answer held = other-held s w new l ok h (event.ServerRestart i) tt happens held
-  there-held (event.Post i name e mask) l happens known all answer held = other-held s w new l ok h (event.Post i name e mask) tt happens held
-  there-held (event.Finish i name) l happens known all answer held = other-held s w new l ok h (event.Finish i name) tt happens held
-  there-held (event.Remove i name) l happens known all answer held = other-held s w new l ok h (event.Remove i name) tt happens held
-  there-held (event.Add i r) l happens known all answer held = other-held s w new l ok h (event.Add i r) tt happens held
-  there-held (event.Tick moment) l happens known all answer held = other-held s w new l ok h (event.Tick moment) tt happens held
-  there-held (event.Accept i) l happens known all answer held = other-held s w new l ok h (event.Accept i) tt happens held
+  there-held : (e : Event) (l : ℕ) → Happens w e new → IsKnownStep w e new → AllCircuitsHeld w → IsTold w → HeldAt (kept w l) w l → HeldAt (kept new l) new l
+  there-held (event.ServerStep k) l happens known all told held = step-held k l happens known held
+  there-held (event.ClientStep k) l happens known all told held = client-held k happens known all told l held
+  there-held (event.Open i name priority) l happens known all told held = other-held s w new l ok h (event.Open i name priority) tt happens held
+  there-held (event.Clear i c) l happens known all told held = other-held s w new l ok h (event.Clear i c) tt happens held
+  there-held (event.Read i c data_type count) l happens known all told held = other-held s w new l ok h (event.Read i c data_type count) tt happens held
+  there-held (event.Write i c e) l happens known all told held = other-held s w new l ok h (event.Write i c e) tt happens held
+  there-held (event.WriteNotify i c e) l happens known all told held = other-held s w new l ok h (event.WriteNotify i c e) tt happens held
+  there-held (event.Subscribe i c data_type count mask) l happens known all told held = other-held s w new l ok h (event.Subscribe i c data_type count mask) tt happens held
+  there-held (event.Unsubscribe i n) l happens known all told held = other-held s w new l ok h (event.Unsubscribe i n) tt happens held
+  there-held (event.Collect i r) l happens known all told held = other-held s w new l ok h (event.Collect i r) tt happens held
+  there-held (event.GiveUp i r) l happens known all told held = other-held s w new l ok h (event.GiveUp i r) tt happens held
+  there-held (event.ClientDatagram i from bytes) l happens known all told held = other-held s w new l ok h (event.ClientDatagram i from bytes) tt happens held
+  there-held (event.ServerDatagram i from bytes) l happens known all told held = other-held s w new l ok h (event.ServerDatagram i from bytes) tt happens held
+  there-held (event.Up k n) l happens known all told held = other-held s w new l ok h (event.Up k n) tt happens held
+  there-held (event.Down k n) l happens known all told held = other-held s w new l ok h (event.Down k n) tt happens held
+  there-held (event.Pump k) l happens known all told held = other-held s w new l ok h (event.Pump k) tt happens held
+  there-held (event.CutClient k) l happens known all told held = other-held s w new l ok h (event.CutClient k) tt happens held
+  there-held (event.CutServer k) l happens known all told held = other-held s w new l ok h (event.CutServer k) tt happens held
+  there-held (event.ClientRestart i) l happens known all told held = other-held s w new l ok h (event.ClientRestart i) tt happens held
+  there-held (event.ServerRestart i) l happens known all told held = other-held s w new l ok h (event.ServerRestart i) tt happens held
+  there-held (event.Post i name e mask) l happens known all told held = other-held s w new l ok h (event.Post i name e mask) tt happens held
+  there-held (event.Finish i name) l happens known all told held = other-held s w new l ok h (event.Finish i name) tt happens held
+  there-held (event.Remove i name) l happens known all told held = other-held s w new l ok h (event.Remove i name) tt happens held
+  there-held (event.Add i r) l happens known all told held = other-held s w new l ok h (event.Add i r) tt happens held
+  there-held (event.Tick moment) l happens known all told held = other-held s w new l ok h (event.Tick moment) tt happens held
+  there-held (event.Accept i) l happens known all told held = other-held s w new l ok h (event.Accept i) tt happens held
 
   -- no circuit is new, but by an acceptance
   not-new : (e : Event) (l : ℕ) (d : Joined) → (IsAccept e → ⊥) → Happens w e new → At new.circuits l d → length w.circuits ≤ l → HeldAt (kept new l) new l
@@ -219,9 +236,9 @@ module _ (s : Setting) (w new : World) (ok : IsSetting s) (h : ServersStand s w)
   new-held (event.ClientStep k) l d happens at past = not-new (event.ClientStep k) l d (λ a. a) happens at past
   new-held (event.ServerStep k) l d happens at past = not-new (event.ServerStep k) l d (λ a. a) happens at past
 
-  pub event-held : (e : Event) → Happens w e new → IsKnownStep w e new → AllAnswer w → AllCircuitsHeld w → AllCircuitsHeld new
-  event-held e happens known answer all l d at = elim (At-or w.circuits l) [
-    | inl old ↦ there-held e l happens known all answer (all l old.0 old.1)
+  pub event-held : (e : Event) → Happens w e new → IsKnownStep w e new → IsTold w → AllCircuitsHeld w → AllCircuitsHeld new
+  event-held e happens known told all l d at = elim (At-or w.circuits l) [
+    | inl old ↦ there-held e l happens known all told (all l old.0 old.1)
     | inr past ↦ new-held e l d happens at past
   ]
 
@@ -230,11 +247,11 @@ module _ (s : Setting) (w new : World) (ok : IsSetting s) (h : ServersStand s w)
 pub opening-held : (s : Setting) → AllCircuitsHeld (opening s)
 opening-held s l j at = absurd (none_at l j at)
 
-pub events-held : (s : Setting) (es : List Event) (w new : World) → IsSetting s → FoldsTo Happens w es new → AllKnown w es → ServersStand s w → AllAnswer w → AllCircuitsHeld w → AllCircuitsHeld new
-events-held s [] w new ok same known h answer all = subst (λ (z : World). AllCircuitsHeld z) same all
-events-held s (e ∷ es) w new ok (mid, one, rest) known h answer all =
-    events-held s es mid new ok rest (λ n f x y folds at happens. known (suc n) f x y (mid, one, folds) at happens) (event-serves s w mid e ok one h) (event-answer s w mid e h one answer)
-    (event-held s w mid ok h e one (known 0 e w mid refl refl one) answer all)
+pub events-held : (s : Setting) (es : List Event) (w new : World) → IsSetting s → FoldsTo Happens w es new → AllKnown w es → AreEvents es → ServersStand s w → ServersFit w → AllCaused w → AllAnswer w → AllCircuitsHeld w → AllCircuitsHeld new
+events-held s [] w new ok same known are h fit caused answer all = subst (λ (z : World). AllCircuitsHeld z) same all
+events-held s (e ∷ es) w new ok (mid, one, rest) known are h fit caused answer all =
+    events-held s es mid new ok rest (λ n f x y folds at happens. known (suc n) f x y (mid, one, folds) at happens) (λ i x at. are (suc i) x at) (event-serves s w mid e ok one h) (event-servers s w mid e ok (are 0 e refl) h.stands one fit) (event-caused w mid e fit one caused) (event-answer s w mid e h one answer)
+    (event-held s w mid ok h e one (known 0 e w mid refl refl one) (record { hears = hears-sent w h.stands.streams fit.sent; caused = caused; answer = answer }) all)
 
 -- ---- a tick that was not handed to all clients
 
@@ -278,13 +295,15 @@ stops-held s mid (Some (event.Tick moment)) w sound stops all = elim stops [
 ]
 stops-held s mid stopped w sound stops all = subst (λ (z : World). AllCircuitsHeld z) (sym stops) all
 
-pub run-held : (s : Setting) (es : List Event) (stopped : Option Event) (w : World) → IsSetting s → Runs s es stopped w → AllKnown (opening s) es → AllCircuitsHeld w
-run-held s es stopped w ok runs known =
+pub run-held : (s : Setting) (es : List Event) (stopped : Option Event) (w : World) → IsSetting s → AreEvents es → Runs s es stopped w → AllKnown (opening s) es → AllCircuitsHeld w
+run-held s es stopped w ok are runs known =
     stops-held s runs.0 stopped w (events-serve s es (opening s) runs.0 ok runs.1 (opening-serves s ok)).stands.sound runs.2
-    (events-held s es (opening s) runs.0 ok runs.1 known (opening-serves s ok) (opening-answer s) (opening-held s))
+    (events-held s es (opening s) runs.0 ok runs.1 known are (opening-serves s ok) (opening-servers s ok) (opening-caused s) (opening-answer s) (opening-held s))
 
-pub reached-event : (w new : World) (e : Event) → IsReached w → Happens w e new → IsKnownStep w e new → AllCircuitsHeld w → AllCircuitsHeld new
-reached-event w new e reached happens known all = (let r = reached-serves w reached in event-held r.0 w new r.1 r.2 e happens known (reached-answer w reached) all)
+pub after-run : (s : Setting) (es : List Event) (stopped : Option Event) (w new : World) (e : Event) → IsSetting s → AreEvents es → Runs s es stopped w → Happens w e new → IsKnownStep w e new → AllCircuitsHeld w → AllCircuitsHeld new
+after-run s es stopped w new e ok are runs happens known all =
+    event-held s w new ok (run-serves s es stopped w ok runs) e happens known
+    (record { hears = runs-hear s es stopped w ok are runs; caused = runs-caused s es stopped w ok are runs; answer = reached-answer w (s, es, stopped, ok, runs) }) all
 
 -- ---- what that says of messages
 

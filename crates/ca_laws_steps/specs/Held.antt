@@ -14,7 +14,7 @@ use Rattle.ca_wire.specs.Fields.{Fields}
 use Rattle.ca_model.specs.Client.{Client, Connection, Phase, channel_on, connection_at}
 use Rattle.ca_model.specs.ClientEnds.{after_taking}
 use Rattle.ca_model.specs.Hears.{heard_by}
-use Rattle.ca_model.specs.History.{Cancel, Circuit, On, Reply, Sent, Told}
+use Rattle.ca_model.specs.History.{Cancel, Circuit, On, Sent, Told}
 use Rattle.ca_model.specs.Speech.{Is, SubId}
 use Rattle.ca_model_safe.specs.Channels.{named}
 use Rattle.ca_model_world.specs.ClientEvents.{channel_number, meant_by}
@@ -24,7 +24,6 @@ use Rattle.ca_model_world.specs.Runs.{Happens}
 use Rattle.ca_model_world.specs.ServerEvents.{StepHandles}
 use Rattle.ca_model_world.specs.World.{ClientSide, Joined, Names, ServerSide, World}
 use Rattle.ca_laws_kept.specs.Kept.{kept}
-use Rattle.ca_laws_bytes.specs.Runs.{HearsSent}
 use Rattle.ca_laws_circuit.specs.Held.{OnChannels}
 use Rattle.ca_laws_runs.specs.Circuit.{HeldAt, IsLastCancel, IsQuiet}
 use Rattle.ca_laws_steps.specs.Worlds.{IsOwnNext}
@@ -33,10 +32,9 @@ use Rattle.ca_laws_steps.specs.Worlds.{IsOwnNext}
 abbrev pub AllCircuitsHeld : World → Type 0
 AllCircuitsHeld w = (l : ℕ) (j : Joined) → At w.circuits l j → HeldAt (kept w l) w l
 
--- What is not shown of all runs yet, of the message t that a client reads next, about its message s: that it is a reply, what was meant by
--- the request or the subscription that it finds, and that nothing was sent since on a channel that it ends.
+-- What is not shown of all runs yet, of the message t that a client reads next, about its message s: what was meant by the request or the
+-- subscription that it finds, and that nothing was sent since on a channel that it ends.
 pub record IsHeard (n : Names) (x : Client) (on : Handle) (c : Circuit) (m : Fields) (t : Told) (s : Sent) : Type 0 where
-  pub reply : (Is command.AccessRights m → ⊥) → (Is command.ServerDisconnect m → ⊥) → (Is command.EventAdd m → m.payload ≡ []) → t.cause ≡ Reply
   pub own : OnChannels n x c
   pub failed : (h : Handle) (p : Phase) → Is command.CreateChannelFail m → channel_on x on m.p1 ≡ Some (h, p)
       → IsQuiet c t.place (channel_number n h)
@@ -49,14 +47,12 @@ pub record IsHeard (n : Names) (x : Client) (on : Handle) (c : Circuit) (m : Fie
       → (number : ℕ) × Is command.EventAdd s.message × (named (SubId (wire_of q)) (meant_by n.subscriptions q) ≡ Some number)
       × ((p : ℕ) (r : Sent) (a : ℕ) → At c.up p r → r.intent ≡ On a (Cancel number) → ⊥)
 
--- Of the message that an end takes in this event it is known what it is about; at a client it is the next that was sent there. Other
--- events take none.
+-- Of the message that an end takes in this event it is known what it is about. Other events take none.
 abbrev pub IsKnownStep : World → Event → World → Type 0
 IsKnownStep w (event.ClientStep k) new =
-    HearsSent w
-    × ((j : Joined) (x : ClientSide) (d : Connection) (m : Fields) (rest : List ℕ) (t : Told) (s : Sent) → At w.circuits k j → At w.clients j.client x
+    (j : Joined) (x : ClientSide) (d : Connection) (m : Fields) (rest : List ℕ) (t : Told) (s : Sent) → At w.circuits k j → At w.clients j.client x
     → connection_at x.core j.at_client ≡ Some d → TakesFirst d.link m rest → At j.lists.down (length j.lists.heard) t → At j.lists.up t.place s
-    → IsHeard x.names (after_taking j.at_client rest x.core) j.at_client j.lists m t s)
+    → IsHeard x.names (after_taking j.at_client rest x.core) j.at_client j.lists m t s
 IsKnownStep w (event.ServerStep k) new =
     (j : Joined) (y : ServerSide) (f : StepHandles w k j y new) → At w.circuits k j → At w.servers j.server y → IsOwnNext w new k j y f
 IsKnownStep w e new = Unit {0}

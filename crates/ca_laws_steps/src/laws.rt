@@ -6,7 +6,7 @@ ghost use Rattle.ca_model.specs.History.{Told};
 ghost use Rattle.ca_model.specs.Speech.{Id, In, Speaks};
 ghost use Rattle.ca_model_safe.specs.Headline.{TakesOwn};
 ghost use Rattle.ca_model_world.specs.Events.{Event, Finish, ServerStep};
-ghost use Rattle.ca_model_world.specs.Runs.{Happens, Runs};
+ghost use Rattle.ca_model_world.specs.Runs.{AreEvents, Happens, Runs};
 ghost use Rattle.ca_model_world.specs.ServerEvents.{ServerStepped, StepHandles};
 ghost use Rattle.ca_model_world.specs.World.{IsSetting, Joined, ServerSide, Setting, World, opening};
 ghost use Rattle.ca_laws_bytes.specs.Runs.{IsReached};
@@ -71,15 +71,16 @@ pub fn a_servers_step_keeps_what_is_held()
 {}
 
 /// What is held of all circuits stays so over every event, and over every run, as far as it is known
-/// of each message that an end takes what it is about: `IsOwnNext` at a server; and at a client that
-/// it is the next that was sent there, and `IsHeard`. Nothing else is asked for but a well-formed
-/// setting.
+/// of each message that an end takes what it is about: `IsOwnNext` at a server, and `IsHeard` at a
+/// client. Nothing else is asked for but that setting and events are well-formed.
 pub fn what_is_held_in_runs()
     ensures begins { (s : Setting) → AllCircuitsHeld (opening s) }
-    ensures event { (w new : World) (e : Event) → IsReached w → Happens w e new
+    ensures event { (s : Setting) (es : List Event) (stopped : Option Event) (w new : World)
+        (e : Event) → IsSetting s → AreEvents es → Runs s es stopped w → Happens w e new
         → IsKnownStep w e new → AllCircuitsHeld w → AllCircuitsHeld new }
     ensures run { (s : Setting) (es : List Event) (stopped : Option Event) (w : World)
-        → IsSetting s → Runs s es stopped w → AllKnown (opening s) es → AllCircuitsHeld w }
+        → IsSetting s → AreEvents es → Runs s es stopped w → AllKnown (opening s) es
+        → AllCircuitsHeld w }
 {}
 
 /// Where that is so, each message of a client is what was meant, and each id in a message of a

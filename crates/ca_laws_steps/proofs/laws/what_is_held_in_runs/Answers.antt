@@ -1,5 +1,5 @@
-use Rattle.ca_laws_steps.proofs.Holds.{opening-held, reached-event, run-held}
+use Rattle.ca_laws_steps.proofs.Holds.{after-run, opening-held, run-held}
 use Rattle.ca_laws_steps.proofs.laws.what_is_held_in_runs.Goals as goal
 
 pub returns : goal.returns
-returns c = record { begins = opening-held; event = reached-event; run = run-held }
+returns c = record { begins = opening-held; event = after-run; run = run-held }
