@@ -73,8 +73,8 @@ module _ {T : Type 0} where
   taken_back h n t =
       if is_some (under t h)
       then if h.index == n
-          then if n + 1 == length t then take n t else t
-          else slice_set t h.index (record { generation = h.generation - 1; value = None })
+      then if n + 1 == length t then take n t else t
+      else slice_set t h.index (record { generation = h.generation - 1; value = None })
       else t
 
   -- the table with all that holds an id changed

@@ -39,7 +39,8 @@ pub fn a_server_sends_messages()
     ensures cuts { (y : Server) (h : Handle) (new : Server) → Cuts y h new → ServerFits y
         → ServerFits new }
     // A message is taken, and its write reaches subscriptions; or the end closes on it.
-    ensures takes { (y : Server) (h : Handle) (e : ServerEnd) (n : Next y h e) (gone : Handle → Bool)
+    ensures takes { (y : Server) (h : Handle) (e : ServerEnd) (n : Next y h e)
+        (gone : Handle → Bool)
         (new : Server) → HasEnd y h e → ServerFits y → Reaches n.action gone n.after new
         → AreMessages n.replies × ServerFits new }
     ensures closes { (y : Server) (h : Handle) (e : ServerEnd) (n : Next y h e)
