@@ -24,7 +24,7 @@ trait Element: Copy + Drop {
 }
 
 /// The base type that a word names. Refused as BadText.
-pub(crate) fn base_in(word: &[u8]) -> Result<BaseType, Refusal>
+pub fn base_in(word: &[u8]) -> Result<BaseType, Refusal>
     ensures ok { IfOk result (λ b. word.now ≡ type_word b) }
     ensures err { IfErr result (λ e.
         (e ≡ BadText) × ((b : BaseType) → word.now ≡ type_word b → ⊥)) }
@@ -54,7 +54,7 @@ pub(crate) fn base_in(word: &[u8]) -> Result<BaseType, Refusal>
 }
 
 /// The elements of this type that the words left are. Refused as BadText, then as OutOfMemory.
-pub(crate) fn read_value(alloc: Global, base: BaseType, words: Words<'_>) -> Result<Value, Refusal>
+pub fn read_value(alloc: Global, base: BaseType, words: Words<'_>) -> Result<Value, Refusal>
     ensures ok { IfOk result (λ v. AreElements words.entry (elements v)) }
     ensures base { IfOk result (λ v. base_of (elements v) ≡ base) }
     ensures err { IfErr result (λ e.

@@ -11,7 +11,7 @@ use ca_text::Refusal;
 use std::alloc::{AllocError, Global};
 
 /// `USER HOST`, after the line's first word. Refused as BadText, then as OutOfMemory.
-pub(crate) fn read_client(alloc: Global, mut words: Words<'_>) -> Result<Named, Refusal>
+pub fn read_client(alloc: Global, mut words: Words<'_>) -> Result<Named, Refusal>
     ensures ok { IfOk result (λ n. SaysClient words.entry n) }
     ensures err { IfErr result (λ e. Refuses (SaysClient words.entry) e) }
 {
@@ -24,7 +24,7 @@ pub(crate) fn read_client(alloc: Global, mut words: Words<'_>) -> Result<Named, 
 }
 
 /// `A.B.C.D:PORT`, after the line's first word: an IPv4 address and a port. Refused as BadText.
-pub(crate) fn read_server(mut words: Words<'_>) -> Result<(u32, u16), Refusal>
+pub fn read_server(mut words: Words<'_>) -> Result<(u32, u16), Refusal>
     ensures ok { IfOk result (λ p. SaysServer words.entry p.0 p.1) }
     ensures err { IfErr result (λ e.
         (e ≡ BadText) × ((address port : ℕ) → SaysServer words.entry address port → ⊥)) }
@@ -73,7 +73,7 @@ fn octet(parts: &mut Pieces<'_, 46>) -> Result<u8, Refusal>
 
 /// `NAME TYPE COUNT quick|slow V1 V2 ..`, after the line's first word: a record of a new name is defined. Refused as BadText, then
 /// as OutOfMemory, with no record defined.
-pub(crate) fn read_record(
+pub fn read_record(
     alloc: Global,
     mut words: Words<'_>,
     records: &mut Records,
@@ -118,7 +118,7 @@ fn slow_in(word: &[u8]) -> Result<bool, Refusal>
 }
 
 /// `USER HOST RECORD rw|r|w|-`, after the line's first word: `*` stands for everything. Refused as BadText, then as OutOfMemory.
-pub(crate) fn read_rule(alloc: Global, mut words: Words<'_>) -> Result<Rule, Refusal>
+pub fn read_rule(alloc: Global, mut words: Words<'_>) -> Result<Rule, Refusal>
     ensures ok { IfOk result (λ r. SaysRule words.entry r) }
     ensures err { IfErr result (λ e. Refuses (SaysRule words.entry) e) }
 {

@@ -73,7 +73,7 @@ fn put_notice(notice: &Notice, text: &mut Vec<u8>) -> Result<(), Refusal>
     }
 }
 
-fn put_outcome(outcome: &Outcome, text: &mut Vec<u8>) -> Result<(), Refusal>
+pub fn put_outcome(outcome: &Outcome, text: &mut Vec<u8>) -> Result<(), Refusal>
     ensures ok { OnOk result (text.new.items ≡ text.old.items ++ outcome_text outcome.now) }
     ensures err { IfErr result (λ e. e ≡ OutOfMemory) }
 {
@@ -113,7 +113,7 @@ fn put_elements(value: &Value, bytes: &mut Vec<u8>) -> Result<(), Refusal>
 }
 
 /// Puts a word and a decimal number at the end.
-fn put_count(word: &[u8], number: u64, text: &mut Vec<u8>) -> Result<(), Refusal>
+pub fn put_count(word: &[u8], number: u64, text: &mut Vec<u8>) -> Result<(), Refusal>
     ensures ok { OnOk result (text.new.items ≡ text.old.items ++ counted word.now number) }
     ensures err { IfErr result (λ e. e ≡ OutOfMemory) }
 {
