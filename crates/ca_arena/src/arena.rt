@@ -1,9 +1,9 @@
-ghost use Rattle.std.specs.Prelude.{◌≡◌, ◌+◌, ◌<◌, ◌==◌, ◌↔◌, ℕ, IsTrue, IsNone, IsSome, IfOk, OnOk, Some, None, if◌then◌else◌, option_copied, []};
+ghost use Rattle.std.specs.Prelude.{◌≡◌, ◌+◌, ◌-◌, ◌<◌, ◌==◌, ◌↔◌, ℕ, IsTrue, IsNone, IsSome, IfOk, OnOk, Some, None, if◌then◌else◌, length, option_copied, []};
 ghost use Rattle.std.specs.Option.{option_copied_mut};
 ghost use Rattle.std.specs.Borrow.{sem};
 ghost use Rattle.ca_text.specs.Limits.{last_generation};
 ghost use Rattle.ca_arena.specs.Sound.{IsSound};
-ghost use Rattle.ca_arena.specs.Arena.{empty, find, live_count, free_slots, IsLive, Inserts, InsertsAt, Removes, IsFresh, IsFirstFrom, IsHandleAt, next_handle, walk_start};
+ghost use Rattle.ca_arena.specs.Arena.{empty, find, live_count, free_slots, IsLive, Inserts, InsertsAt, Removes, IsFresh, IsFirstFrom, IsHandleAt, next_handle, taken_back, walk_start};
 
 use crate::handle::Handle;
 use ca_text::{ARENA_SLOTS, LAST_GENERATION, Refusal};
@@ -258,6 +258,26 @@ impl<T> Arena<T> {
         Ok(value)
     }
 
+    /// Takes the value of this handle out as if it had not been inserted, when `given` indices had been given: the handle may be
+    /// given again. No memory is asked for.
+    pub fn take_back(&mut self, handle: Handle, given: usize) -> T
+        requires live { IsLive self.old handle }
+        requires last { handle.index ≡ given → given + 1 ≡ length self.old.given }
+        ensures value { find self.old handle ≡ Some result }
+        ensures after { self.new ≡ taken_back self.old handle given }
+        ensures sound { IsSound self.new }
+    {
+        if usize::from(handle.index) == given {
+            return match self.slots.pop() {
+                Some(slot) => slot.into_value(),
+                None => unreachable!(),
+            };
+        }
+        let value = self.slots[usize::from(handle.index)].unfill();
+        self.freed.push_reserved(handle.index);
+        value
+    }
+
     fn is_live(&self, handle: Handle) -> bool
         ensures { IsTrue result ↔ IsLive self.now handle }
     {
@@ -300,6 +320,30 @@ impl<T> Slot<T> {
         ensures vacant { self.new ≡ record { generation = self.old.generation; value = None } }
     {
         match self.value.take() {
+            Some(value) => value,
+            None => unreachable!(),
+        }
+    }
+
+    // Takes the value out, as if the slot had not been filled.
+    fn unfill(&mut self) -> T
+        requires { IsSome self.old.value }
+        ensures value { self.old.value ≡ Some result }
+        ensures vacant { self.new
+            ≡ record { generation = self.old.generation - 1; value = None } }
+    {
+        let value = self.vacate();
+        self.generation = self.generation.saturating_sub(1);
+        value
+    }
+
+    // The value that is there.
+    fn into_value(self) -> T
+        requires { IsSome self.value }
+        ensures { self.value ≡ Some result }
+    {
+        let Slot { value, .. } = self;
+        match value {
             Some(value) => value,
             None => unreachable!(),
         }

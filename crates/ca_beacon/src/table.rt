@@ -1,7 +1,7 @@
-ghost use Rattle.std.specs.Prelude.{◌≡◌, ◌+◌, ◌*◌};
+ghost use Rattle.std.specs.Prelude.{◌≡◌, ◌+◌, ◌*◌, Some};
 ghost use Rattle.std.specs.FinMap as map;
 ghost use Rattle.std.specs.Net.Addr.{ipv4_bits};
-ghost use Rattle.ca_beacon.specs.Table.{Hears, anomaly, server};
+ghost use Rattle.ca_beacon.specs.Table.{Hears, anomaly, restored, server};
 
 use ca_text::{BEACON_SERVERS, Refusal};
 use std::alloc::Global;
@@ -56,6 +56,40 @@ impl BeaconTable {
         }
         self.last.insert(server, number)?;
         Ok(is_anomaly(last, number))
+    }
+
+    /// The number of the last beacon of this server, if one was heard and kept.
+    pub fn last(&self, address: Ipv4Addr, port: u16) -> Option<u32>
+        ensures { result ≡ map.get self.now (server (ipv4_bits address) port) }
+    {
+        self.last.get(&key(address, port)).copied()
+    }
+
+    /// Takes a beacon of this server back, whose last number was this one before, or none. No memory is asked for.
+    pub fn take_back(&mut self, address: Ipv4Addr, port: u16, last: Option<u32>)
+        ensures { self.new ≡ restored self.old (server (ipv4_bits address) port) last }
+    {
+        let server = key(address, port);
+        match last {
+            None => {
+                self.last.remove(&server);
+            }
+            Some(number) => self.renumber(server, number),
+        }
+    }
+
+    // The last number of a server that is kept is this one.
+    fn renumber(&mut self, server: u64, number: u32)
+        ensures { self.new ≡ restored self.old server (Some number) }
+    {
+        let last = self.last.get(&server).copied();
+        if last.is_none() {
+            return;
+        }
+        match self.last.insert(server, number) {
+            Ok(_) => {}
+            Err(_) => unreachable!(),
+        }
     }
 }
 

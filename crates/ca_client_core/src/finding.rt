@@ -2,15 +2,12 @@
 ghost use Rattle.std.specs.Prelude.{◌≡◌, ◌<◌, ◌≤◌, OnErr, OnOk, is_some, length, option_map};
 ghost use Rattle.ca_text.specs.Limits.{priority_limit};
 ghost use Rattle.ca_ids.specs.Table.{held_at};
+ghost use Rattle.ca_ids.specs.Wire.{wire_of};
 ghost use Rattle.ca_arena.specs.Arena.{place_at};
 ghost use Rattle.ca_search.specs.Searcher.{with_one};
 ghost use Rattle.ca_search.specs.Searches.{paused};
-ghost use Rattle.ca_model.specs.Client.{found_on};
-ghost use Rattle.ca_model.specs.Client as client;
-ghost use Rattle.ca_model.specs.Hears.{Finds, found_at, is_searched, searched_by};
-ghost use Rattle.ca_client_core.specs.Asks.{with_message};
-ghost use Rattle.ca_client_core.specs.Finding.{FindsNew, IsFound, IsSought, circuit_in, goes_to};
-ghost use Rattle.ca_client_core.specs.Forms.{phase_of};
+ghost use Rattle.ca_model.specs.Hears.{found_at, is_searched};
+ghost use Rattle.ca_client_core.specs.Finding.{CreatesIn, FindsIn, FindsNewIn, circuit_in, goes_to, searched_in};
 ghost use Rattle.ca_client_core.specs.Hearing.{FindsOr};
 
 use crate::beginning::is_same;
@@ -19,15 +16,35 @@ use crate::circuit::Circuit;
 use crate::client::ClientCore;
 use crate::ends::Address;
 use crate::hearing::put;
+use crate::queue::{queue_on, waiting_on};
 use ca_arena::Handle;
 use ca_ids::{HeldTable, WireId};
 use ca_search::Place;
 use ca_wire::Message;
 use indexmap::IndexMap;
-use std::alloc::AllocError;
+use std::alloc::{AllocError, Global};
 
 /// In place of an address, in a reply: the server is where the reply came from.
 const NO_ADDRESS: u32 = 0xFFFF_FFFF;
+
+/// A channel that was found: on which circuit it is, and how it came there.
+#[derive(Clone, Copy, Debug)]
+pub(crate) struct Found {
+    pub(crate) channel: Handle,
+    pub(crate) circuit: Handle,
+    pub(crate) how: How,
+}
+
+/// How a channel that was found came to its circuit.
+#[derive(Clone, Copy, Debug)]
+pub(crate) enum How {
+    /// It waits there for the circuit to be connected.
+    Waits,
+    /// Its CREATE_CHAN waits there, after this many bytes.
+    Created(usize),
+    /// The circuit is wanted from now on, and had no place among this many.
+    Wanted(usize),
+}
 
 impl ClientCore {
     // A SEARCH is a reply, and came from this address: a channel that is searched for was found, and is put on the circuit to its
@@ -35,93 +52,140 @@ impl ClientCore {
     pub(crate) fn hear_found(&mut self, from: Address, message: &Message) -> Result<(), AllocError>
         ensures { FindsOr self.old from message.now result self.new }
     {
-        let Some((channel, found)) = self.searched_by(message.p2()) else {
-            return Ok(());
-        };
-        let priority = found.priority();
-        let address = found_at(from, message);
-        match circuit_to(&self.circuits, address, priority) {
-            None => self.find_new(address, priority, channel),
-            Some((circuit, connected)) => {
-                if !connected {
-                    self.found_on(circuit, channel, Phase::Connecting);
-                    return Ok(());
-                }
-                let create = found.create_message(self.alloc, channel)?;
-                self.create_on(circuit, channel, &create)
-            }
+        let found = find(
+            self.alloc,
+            &mut self.channels,
+            &mut self.circuits,
+            &mut self.order,
+            from,
+            message,
+        )?;
+        if let Some(found) = found {
+            pause_found(&mut self.searches, found.channel);
         }
-    }
-
-    // The channel of this CID, if it is searched for.
-    fn searched_by(&self, cid: u32) -> Option<(Handle, &Channel)>
-        ensures { option_map (λ e. (e.0, e.1.now)) result ≡ searched_by cid self.now }
-    {
-        match self.channels.by_wire(WireId::new(cid)) {
-            Some((handle, channel)) if channel.is_searched() => Some((handle, channel)),
-            _ => None,
-        }
-    }
-
-    // The channel waits for a new circuit, after the others. If no more circuits can be had, nothing happens; nor without memory.
-    fn find_new(
-        &mut self,
-        address: Address,
-        priority: u16,
-        channel: Handle,
-    ) -> Result<(), AllocError>
-        requires within { priority ≤ priority_limit }
-        requires sought { IsSought channel self.old }
-        ensures { FindsNew self.old address priority channel result self.new }
-    {
-        let Some(vacant) = self.circuits.vacant() else {
-            return Ok(());
-        };
-        self.order.reserve(1)?;
-        let wanted = Circuit {
-            address,
-            priority,
-            is_name: false,
-            connection: None,
-        };
-        match self.circuits.open_at(vacant, wanted) {
-            Ok(()) => {
-                self.order.push_reserved(vacant);
-                self.found_on(vacant, channel, Phase::Connecting);
-                Ok(())
-            }
-            Err(_) => Err(AllocError),
-        }
-    }
-
-    // The channel is created on this circuit, by this message. Without memory nothing happens.
-    fn create_on(
-        &mut self,
-        circuit: Handle,
-        channel: Handle,
-        message: &Message,
-    ) -> Result<(), AllocError>
-        requires { IsFound channel circuit (client.Creating 0) self.old }
-        ensures ok { OnOk result (self.new
-            ≡ with_message
-            circuit
-            message.now
-            (found_on circuit (client.Creating 0) channel self.old)) }
-        ensures err { OnErr result (self.new ≡ self.old) }
-    {
-        self.queue(circuit, message)?;
-        self.found_on(circuit, channel, Phase::Creating(0));
         Ok(())
     }
+}
 
-    // The channel was found, and is now on a circuit.
-    fn found_on(&mut self, circuit: Handle, channel: Handle, phase: Phase)
-        requires { IsFound channel circuit (phase_of phase) self.old }
-        ensures { self.new ≡ found_on circuit (phase_of phase) channel self.old }
-    {
-        put(&mut self.channels, channel, Standing::On(circuit, phase));
-        pause(&mut self.searches, WireId::of(channel).number());
+// A reply to a SEARCH came from this address: a channel that is searched for is put on the circuit to its server, and its searches are
+// still to be paused. Without memory nothing changes.
+pub(crate) fn find(
+    alloc: Global,
+    channels: &mut HeldTable<Channel>,
+    circuits: &mut HeldTable<Circuit>,
+    order: &mut Vec<Handle>,
+    from: Address,
+    message: &Message,
+) -> Result<Option<Found>, AllocError>
+    ensures { FindsIn
+        (record { channels = channels.old; circuits = circuits.old; order = order.old.items })
+        from
+        message.now
+        result
+        (record { channels = channels.new; circuits = circuits.new; order = order.new.items }) }
+{
+    let Some((channel, found)) = searched_by(channels, message.p2()) else {
+        return Ok(None);
+    };
+    let priority = found.priority();
+    let address = found_at(from, message);
+    match circuit_to(circuits, address, priority) {
+        None => find_new(channels, circuits, order, address, priority, channel),
+        Some((circuit, connected)) => {
+            if !connected {
+                put(channels, channel, Standing::On(circuit, Phase::Connecting));
+                let how = How::Waits;
+                return Ok(Some(Found { channel, circuit, how }));
+            }
+            let create = found.create_message(alloc, channel)?;
+            create_on(channels, circuits, circuit, channel, &create)
+        }
     }
+}
+
+// The channel of this CID, if it is searched for.
+fn searched_by(channels: &HeldTable<Channel>, cid: u32) -> Option<(Handle, &Channel)>
+    ensures { option_map (λ e. (e.0, e.1.now)) result ≡ searched_in cid channels.now }
+{
+    match channels.by_wire(WireId::new(cid)) {
+        Some((handle, channel)) if channel.is_searched() => Some((handle, channel)),
+        _ => None,
+    }
+}
+
+// The channel waits for a new circuit, after the others. If no more circuits can be had, nothing happens; nor without memory.
+fn find_new(
+    channels: &mut HeldTable<Channel>,
+    circuits: &mut HeldTable<Circuit>,
+    order: &mut Vec<Handle>,
+    address: Address,
+    priority: u16,
+    channel: Handle,
+) -> Result<Option<Found>, AllocError>
+    requires { priority ≤ priority_limit }
+    ensures { FindsNewIn
+        (record { channels = channels.old; circuits = circuits.old; order = order.old.items })
+        address
+        priority
+        channel
+        result
+        (record { channels = channels.new; circuits = circuits.new; order = order.new.items }) }
+{
+    let Some(vacant) = circuits.vacant() else {
+        return Ok(None);
+    };
+    order.reserve(1)?;
+    let places = circuits.places();
+    let wanted = Circuit {
+        address,
+        priority,
+        is_name: false,
+        connection: None,
+    };
+    match circuits.open_at(vacant, wanted) {
+        Ok(()) => {
+            order.push_reserved(vacant);
+            put(channels, channel, Standing::On(vacant, Phase::Connecting));
+            Ok(Some(Found {
+                channel,
+                circuit: vacant,
+                how: How::Wanted(places),
+            }))
+        }
+        Err(_) => Err(AllocError),
+    }
+}
+
+// The channel is created on this circuit, by this message. Without memory nothing happens.
+fn create_on(
+    channels: &mut HeldTable<Channel>,
+    circuits: &mut HeldTable<Circuit>,
+    circuit: Handle,
+    channel: Handle,
+    message: &Message,
+) -> Result<Option<Found>, AllocError>
+    ensures { CreatesIn
+        channels.old
+        circuits.old
+        circuit
+        channel
+        message.now
+        result
+        channels.new
+        circuits.new }
+{
+    let waiting = waiting_on(circuits, circuit);
+    queue_on(circuits, circuit, message)?;
+    put(channels, channel, Standing::On(circuit, Phase::Creating(0)));
+    let how = How::Created(waiting);
+    Ok(Some(Found { channel, circuit, how }))
+}
+
+// There are no more searches for this channel.
+pub(crate) fn pause_found(searches: &mut IndexMap<u32, Place>, channel: Handle)
+    ensures { searches.new.entries ≡ with_one paused (wire_of channel) searches.old.entries }
+{
+    pause(searches, WireId::of(channel).number());
 }
 
 // There are no more searches for this CID.

@@ -78,7 +78,7 @@ impl ClientCore {
 
 impl Circuit {
     // Only the first n of the bytes still wait.
-    fn cut_back(&mut self, n: usize)
+    pub(crate) fn cut_back(&mut self, n: usize)
         ensures { self.new ≡ cut_in n self.old }
     {
         if let Some(connection) = &mut self.connection {

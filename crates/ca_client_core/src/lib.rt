@@ -2,10 +2,13 @@
 //!
 //! A caller moves the bytes, and hands in the moment. What is reported comes as answers of the calls.
 //!
-//! Begun: `tick` and `datagram` are not there yet, so that nothing is searched for in datagrams, and no silence ends a circuit.
+//! Begun: `datagram` is not there yet, so that no reply to a search in a datagram is heard, and no beacon.
 #![tactic(auto)]
 
+mod addressing;
+mod ahead;
 mod asking;
+mod beacons;
 mod beginning;
 mod channel;
 mod channel_state;
@@ -29,20 +32,28 @@ mod leaving;
 mod letting_go;
 mod live;
 mod live_channels;
+mod marks;
+mod name_searches;
 mod notice;
 mod notices;
 mod opening;
 mod output;
+mod packing;
 mod queue;
 mod reading;
+mod receiving;
+mod silences;
 mod stepping;
 mod subscribing;
+mod ticking;
+mod undoing;
 mod unsubscribing;
 mod updates;
 mod valued;
 mod wanted;
 mod writing;
 
+pub use addressing::Datagram;
 pub use channel_state::ChannelState;
 pub use client::ClientCore;
 pub use closing::{Closing, Why};
@@ -50,4 +61,5 @@ pub use ends::Address;
 pub use notice::Notice;
 pub use notices::Notices;
 pub use stepping::Stepped;
+pub use ticking::{Left, Ticked};
 pub use wanted::WantedCircuit;

@@ -32,7 +32,7 @@ impl ClientCore {
 
 impl Circuit {
     // The bytes that wait to be sent; none if it is not connected.
-    fn out_bytes(&self) -> &[u8]
+    pub(crate) fn out_bytes(&self) -> &[u8]
         ensures { result.now ≡ waiting_in self.now }
     {
         match &self.connection {

@@ -1,8 +1,9 @@
-ghost use Rattle.std.specs.Prelude.{◌≡◌, ◌<◌, [], IsSome, Some, length, option_copied, option_map};
+ghost use Rattle.std.specs.Prelude.{◌≡◌, ◌<◌, ◌≤◌, [], IsSome, Some, length, option_copied, option_map};
 ghost use Rattle.std.specs.Option.{option_copied_mut};
 ghost use Rattle.std.specs.Borrow.{sem};
+ghost use Rattle.ca_text.specs.Limits.{arena_slots};
 ghost use Rattle.ca_arena.specs.Arena.{place_at};
-ghost use Rattle.ca_ids.specs.Table.{by_wire, held_at, is_full, under, with_freed};
+ghost use Rattle.ca_ids.specs.Table.{by_wire, held_at, is_full, taken_back, under, with_freed};
 ghost use Rattle.ca_ids.specs.Holding.{Fills, Gives, IsVacant};
 
 use crate::wire_id::WireId;
@@ -55,6 +56,13 @@ impl<T> HeldTable<T> {
         ensures { result ≡ length self.now }
     {
         self.places
+    }
+
+    /// A law: no more indices were given than wire ids have.
+    pub fn know_places(&self)
+        ensures { length self.now ≤ arena_slots }
+    {
+        let _ = &self.entries;
     }
 
     /// The value that holds an id of this index, with its handle.
@@ -171,5 +179,24 @@ impl<T> HeldTable<T> {
         ensures after { self.new ≡ with_freed handle self.old }
     {
         self.entries.remove(handle).ok()
+    }
+
+    /// Takes the value of this handle out as if it had not been given: it may be given again. The table had `places` indices before,
+    /// and nothing happens to an index that was given first if that is not the last one.
+    ///
+    /// No memory is asked for.
+    pub fn take_back(&mut self, handle: Handle, places: usize) -> Option<T>
+        ensures { self.new ≡ taken_back handle places self.old }
+    {
+        if self.by_handle(handle).is_none() {
+            return None;
+        }
+        if usize::from(handle.index) == places {
+            if places + 1 != self.places {
+                return None;
+            }
+            self.places = places;
+        }
+        Some(self.entries.take_back(handle, places))
     }
 }

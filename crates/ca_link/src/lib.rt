@@ -5,11 +5,13 @@
 mod fused;
 mod keep;
 mod link;
+mod mark;
 mod sink;
 mod source;
 
 pub use fused::Fused;
 pub use keep::Keep;
 pub use link::Link;
+pub use mark::Mark;
 pub use sink::{Sink, Writer};
 pub use source::{Fault, Reader, Source};

@@ -1,9 +1,10 @@
 ghost use Rattle.std.specs.Prelude.{ℕ, List, ◌≡◌, ◌≤◌, IfOk, length, nat_le, take};
 ghost use Rattle.ca_text.specs.Limits.{output_limit, payload_limit};
 ghost use Rattle.ca_link.specs.Calls.{Gives, Nexts, Queues, QueuesMade, QueuesOwn};
-ghost use Rattle.ca_link.specs.Link.{kept, new_link, noted, with_handed};
+ghost use Rattle.ca_link.specs.Link.{kept, mark_of, new_link, noted, restored, with_handed};
 
 use crate::keep::Keep;
+use crate::mark::Mark;
 use ca_text::{CLOSE_SILENCE, ECHO_SILENCE, OUTPUT_LIMIT, Refusal};
 use ca_wire::{Deframer, Message, Payload, Pipe};
 use std::alloc::Global;
@@ -136,6 +137,24 @@ impl Link {
         ensures { self.new ≡ record self.old { output = take n self.old.output } }
     {
         self.output.truncate(n);
+    }
+
+    /// How much waits, and whether an ECHO went out.
+    pub fn mark(&self) -> Mark
+        ensures { result ≡ mark_of self.now }
+    {
+        Mark {
+            waiting: self.output.bytes().len(),
+            echoed: self.echoed,
+        }
+    }
+
+    /// Takes back what was queued since this mark, and the ECHO that went out since.
+    pub fn restore(&mut self, mark: Mark)
+        ensures { self.new ≡ restored mark self.old }
+    {
+        self.output.truncate(mark.waiting);
+        self.echoed = mark.echoed;
     }
 
     /// The first n of the bytes that wait were handed over.

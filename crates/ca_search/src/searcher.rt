@@ -116,8 +116,8 @@ impl Searcher {
     }
 }
 
-/// The searches that are due.
-fn find(alloc: Global, places: &IndexMap<u32, Place>, now: u64) -> Result<Vec<Search>, AllocError>
+/// The searches that are due at a moment, in order. Out of memory only if there is one.
+pub fn find(alloc: Global, places: &IndexMap<u32, Place>, now: u64) -> Result<Vec<Search>, AllocError>
     ensures found { IfOk result (λ v. v.items ≡ wanted_at now places.now.entries) }
     ensures some { OnErr result (wanted_at now places.now.entries ≢ []) }
 {
@@ -134,7 +134,7 @@ fn find(alloc: Global, places: &IndexMap<u32, Place>, now: u64) -> Result<Vec<Se
 }
 
 /// Counts the searches that are due as made now.
-fn pass(places: &mut IndexMap<u32, Place>, now: u64)
+pub fn pass(places: &mut IndexMap<u32, Place>, now: u64)
     ensures { places.new.entries ≡ with_all (passed now) places.old.entries }
 {
     for index in 0..places.len() {
@@ -142,8 +142,8 @@ fn pass(places: &mut IndexMap<u32, Place>, now: u64)
     }
 }
 
-/// Begins again for all that are not paused.
-fn boost(places: &mut IndexMap<u32, Place>, now: u64)
+/// All that are not paused begin again: their first searches are due at once.
+pub fn boost(places: &mut IndexMap<u32, Place>, now: u64)
     ensures { places.new.entries ≡ with_all (boosted now) places.old.entries }
 {
     for index in 0..places.len() {

@@ -1,4 +1,5 @@
-ghost use Rattle.std.specs.Prelude.{◌≡◌, false};
+ghost use Rattle.std.specs.Prelude.{◌≡◌, ◌&&◌, false, not, true};
+ghost use Rattle.std.specs.Str.{bytes_eq};
 
 use ca_wire::Cid;
 use std::marker::Model;
@@ -60,5 +61,19 @@ impl Channel {
         ensures { result ≡ self.now.retired }
     {
         self.retired
+    }
+
+    // Whether it leads to the record of this name, which was not removed.
+    pub(crate) fn leads_to(&self, name: &[u8]) -> bool
+        ensures { result ≡ (bytes_eq self.now.name name.now && not self.now.retired) }
+    {
+        self.name.as_slice() == name && !self.retired
+    }
+
+    // Its record was removed.
+    pub(crate) fn retire(&mut self)
+        ensures { self.new ≡ record self.old { retired = true } }
+    {
+        self.retired = true;
     }
 }

@@ -1,9 +1,10 @@
 ghost use Rattle.std.specs.Prelude.{◌≡◌, ◌<◌, ◌≤◌, ◌↔◌, length, [], IsTrue, IfOk, OnErr, false, is_some, option_map};
 ghost use Rattle.ca_text.specs.Limits.{arena_slots};
 ghost use Rattle.ca_arena.specs.Arena.{place_at};
-ghost use Rattle.ca_ids.specs.Table.{MayGive, by_wire, held_at, is_full, under, with_held};
+ghost use Rattle.ca_ids.specs.Table.{MayGive, by_wire, held_at, is_full, under, with_changed, with_held};
 ghost use Rattle.ca_server_core.specs.Cids.{UsesCid};
 ghost use Rattle.ca_server_core.specs.Clearing.{without_sid};
+ghost use Rattle.ca_server_core.specs.Removing.{without_record};
 
 use crate::channel::Channel;
 use ca_arena::Handle;
@@ -127,5 +128,15 @@ impl Channels {
         };
         self.cids.remove(&channel.cid().number());
         let _ = self.table.free(handle);
+    }
+
+    // The record of the channel under this handle was removed. Its SID and its CID are in use still.
+    pub(crate) fn retire(&mut self, channel: Handle)
+        ensures { self.new ≡ with_changed without_record channel self.old }
+    {
+        let Some(found) = self.table.by_handle_mut(channel) else {
+            return;
+        };
+        found.retire();
     }
 }

@@ -10,6 +10,7 @@ ghost use Rattle.ca_server_core.specs.Finishing.{RepliesAt};
 ghost use Rattle.ca_server_core.specs.Following.{is_open};
 ghost use Rattle.ca_server_core.specs.Posting.{PostsAt};
 ghost use Rattle.ca_server_core.specs.Pumping.{PumpsAt};
+ghost use Rattle.ca_server_core.specs.Removing.{LosesAt, MayLose};
 ghost use Rattle.ca_server_core.specs.Serving.{CircuitSteps};
 ghost use Rattle.ca_server_core.specs.Stepping.{why_is};
 
@@ -161,6 +162,24 @@ impl Circuit {
     {
         match &mut self.state {
             State::Open(end) => match end.pump() {
+                Ok(()) => end.know(),
+                Err(_) => {
+                    let left = end.leave(circuit, records);
+                    self.state = State::Ended(Cause::OutOfMemory, left);
+                }
+            },
+            State::Ended(_, _) => {}
+        }
+    }
+
+    // The record of this name was removed: each channel of its end to it gets a SERVER_DISCONN, loses its subscriptions, and is retired. The
+    // end has ended if there is no memory for a SERVER_DISCONN.
+    pub(crate) fn lose(&mut self, circuit: Handle, name: &[u8], records: &mut ServedRecords)
+        requires { MayLose (records_of records.old) circuit self.old }
+        ensures { LosesAt circuit name.now self.old records.old self.new records.new }
+    {
+        match &mut self.state {
+            State::Open(end) => match end.lose(name) {
                 Ok(()) => end.know(),
                 Err(_) => {
                     let left = end.leave(circuit, records);

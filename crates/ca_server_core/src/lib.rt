@@ -1,8 +1,7 @@
 //! A server of Channel Access: its records, and its ends of circuits. It does no input and no output: bytes that came are
 //! given to it, and those that wait to be sent are asked of it.
 //!
-//! It is begun: `ServerCore` has `new`, `accept`, `give`, `out_bytes`, `sent`, `step`, `pump`, `cut`, `finish`, `post`, `add_record`,
-//! `stamp`, `applied`, `waiting`, `datagram` and `beacon`. It has no call yet for removals. No program uses this crate.
+//! No program uses this crate yet.
 #![tactic(auto)]
 
 mod adding;
@@ -23,11 +22,13 @@ mod events;
 mod finishing;
 mod following;
 mod handle;
+mod losing;
 mod names;
 mod posting;
 mod pumping;
 mod put;
 mod read;
+mod removing;
 mod search;
 mod seek;
 mod server;

@@ -41,7 +41,8 @@ impl ServerCore {
 }
 
 /// The value of the record at this place reaches all subscriptions on it whose mask shares a bit with this one, on all circuits. An end
-/// without memory for an update has ended. No circuit is visited that does not watch the record.
+/// without memory for an update has ended. The circuits in the record's list are visited, and no other. A list may have some that watch the
+/// record no more: these are taken out, and get nothing.
 pub(crate) fn post_to_all(
     circuits: &mut HeldTable<Circuit>,
     records: &mut ServedRecords,

@@ -1,0 +1,179 @@
+//! What the silence of a circuit asks of a client, and its ECHOs.
+ghost use Rattle.std.specs.Prelude.{◌≡◌, ◌≢◌, ◌<◌, [], true, IfOk, OnErr, OnOk, Some, length, slice_get};
+ghost use Rattle.ca_link.specs.Link.{kept};
+ghost use Rattle.ca_model.specs.ClientEnds.{Ticking};
+ghost use Rattle.ca_client_core.specs.Marks.{undone};
+ghost use Rattle.ca_client_core.specs.Moments.{EchoIsDue, EchoesAll, asked_at, asked_in, echo_step, is_close, is_echo, is_echo_due, is_silent, silent_of};
+ghost use Rattle.ca_client_core.specs.Silences.{echo_end, echo_in, echoed};
+
+use crate::circuit::{Circuit, Connection};
+use crate::client::ClientCore;
+use crate::marks::CircuitMark;
+use ca_arena::Handle;
+use ca_link::Keep;
+use ca_text::Command;
+use ca_wire::bare;
+use std::alloc::{AllocError, Global};
+
+impl ClientCore {
+    // How many circuits are wanted or connected.
+    pub(crate) fn circuits_listed(&self) -> usize
+        ensures { result ≡ length self.now.order }
+    {
+        self.order.len()
+    }
+
+    // The circuit at this place of their order.
+    pub(crate) fn listed_at(&self, index: usize) -> Handle
+        requires { index < length self.now.order }
+        ensures { slice_get self.now.order index ≡ Some result }
+    {
+        self.order[index]
+    }
+
+    // What the moment asks of a circuit; nothing, if it is not connected.
+    fn asked(&self, circuit: Handle) -> Keep
+        ensures { result ≡ asked_at self.now circuit }
+    {
+        match self.circuits.by_handle(circuit) {
+            Some(found) => found.asked(self.moment),
+            None => Keep::Idle,
+        }
+    }
+
+    // Whether an ECHO is due on a circuit.
+    fn is_echo_due(&self, circuit: Handle) -> bool
+        ensures { result ≡ is_echo_due self.now circuit }
+    {
+        is_echo(self.asked(circuit))
+    }
+
+    // Whether a circuit was silent too long.
+    pub(crate) fn is_silent(&self, circuit: Handle) -> bool
+        ensures { result ≡ is_silent self.now circuit }
+    {
+        is_close(self.asked(circuit))
+    }
+
+    // The circuits that were silent too long, in order.
+    pub(crate) fn silent(&self) -> Result<Vec<Handle>, AllocError>
+        ensures found { IfOk result (λ v. v.items ≡ silent_of self.now self.now.order) }
+        ensures some { OnErr result (silent_of self.now self.now.order ≢ []) }
+    {
+        let mut silent = Vec::new(self.alloc);
+        for index in 0..self.circuits_listed() {
+            let circuit = self.listed_at(index);
+            if self.is_silent(circuit) {
+                silent.push(circuit)?;
+            }
+        }
+        Ok(silent)
+    }
+
+    // The ECHOs that are due go out, each after a mark. Without memory the first of them may.
+    pub(crate) fn echo_all(&mut self, marks: &mut Vec<CircuitMark>) -> Result<(), AllocError>
+        ensures kept { undone marks.new.items self.new ≡ undone marks.old.items self.old }
+        ensures ok { OnOk result (EchoesAll self.old self.new) }
+        ensures some { OnErr result (EchoIsDue self.old) }
+    {
+        for index in 0..self.circuits_listed() {
+            let circuit = self.listed_at(index);
+            self.echo_on(circuit, marks)?;
+        }
+        Ok(())
+    }
+
+    // The ECHO of a circuit, if it is due.
+    fn echo_on(&mut self, circuit: Handle, marks: &mut Vec<CircuitMark>) -> Result<(), AllocError>
+        ensures kept { undone marks.new.items self.new ≡ undone marks.old.items self.old }
+        ensures ok { OnOk result ((t : Ticking) → t.core ≡ self.old
+            → self.new ≡ (echo_step t circuit).core) }
+        ensures some { OnErr result (is_echo_due self.old circuit ≡ true) }
+    {
+        if !self.is_echo_due(circuit) {
+            return Ok(());
+        }
+        marks.push(self.mark(circuit))?;
+        self.echo(circuit)?;
+        Ok(())
+    }
+
+    // An ECHO waits on a circuit whose silence asks for it, and for no other until bytes come. Without memory nothing changes.
+    fn echo(&mut self, circuit: Handle) -> Result<(), AllocError>
+        ensures ok { OnOk result (self.new ≡ echoed circuit self.old) }
+        ensures err { OnErr result (self.new ≡ self.old) }
+    {
+        let Some(found) = self.circuits.by_handle_mut(circuit) else {
+            return Ok(());
+        };
+        found.echo(self.alloc, self.moment)?;
+        Ok(())
+    }
+}
+
+// Whether an ECHO is asked for.
+fn is_echo(keep: Keep) -> bool
+    ensures { result ≡ is_echo keep }
+{
+    match keep {
+        Keep::Idle => false,
+        Keep::Echo => true,
+        Keep::Close => false,
+    }
+}
+
+// Whether the end is asked for.
+fn is_close(keep: Keep) -> bool
+    ensures { result ≡ is_close keep }
+{
+    match keep {
+        Keep::Idle => false,
+        Keep::Echo => false,
+        Keep::Close => true,
+    }
+}
+
+impl Circuit {
+    // What this moment asks of its end; nothing, if it is not connected.
+    fn asked(&self, moment: u64) -> Keep
+        ensures { result ≡ asked_in moment self.now.connection }
+    {
+        match &self.connection {
+            Some(connection) => connection.asked(moment),
+            None => Keep::Idle,
+        }
+    }
+
+    // An ECHO waits, if it is connected.
+    fn echo(&mut self, alloc: Global, moment: u64) -> Result<(), AllocError>
+        ensures ok { OnOk result (self.new ≡ echo_in moment self.old) }
+        ensures err { OnErr result (self.new ≡ self.old) }
+    {
+        let Some(connection) = &mut self.connection else {
+            return Ok(());
+        };
+        connection.echo(alloc, moment)?;
+        Ok(())
+    }
+}
+
+impl Connection {
+    // What this moment asks of it.
+    fn asked(&self, moment: u64) -> Keep
+        ensures { result ≡ kept moment self.now.link }
+    {
+        self.link.asked(moment)
+    }
+
+    // An ECHO waits.
+    fn echo(&mut self, alloc: Global, moment: u64) -> Result<(), AllocError>
+        ensures ok { OnOk result (self.new ≡ echo_end moment self.old) }
+        ensures err { OnErr result (self.new ≡ self.old) }
+    {
+        if self.link.queue_own(&bare(alloc, Command::Echo)).is_err() {
+            return Err(AllocError);
+        }
+        let _asked = self.link.tick(moment);
+        Ok(())
+    }
+}
