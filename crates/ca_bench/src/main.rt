@@ -1,9 +1,7 @@
 //! Rounds of calls, to be timed from outside: `ca_bench WHAT SIZE ROUNDS`. Without words it does nothing.
 #![tactic(auto)]
 
-mod client;
 mod records;
-mod server;
 
 use ca_dbr::{Meta, Value, read_value, write_value};
 use ca_ids::IdTable;
@@ -63,10 +61,6 @@ fn measured(alloc: Global, what: &str, size: u32, rounds: u32) -> Result<(), Ref
         b"parts" => parts(alloc, size as usize, rounds),
         b"puts" => records::puts(alloc, size, rounds),
         b"posts" => records::posts(alloc, size, rounds),
-        b"client-channels" => client::channels(alloc, size, rounds),
-        b"client-requests" => client::requests(alloc, size, rounds),
-        b"server-circuits" => server::circuits(alloc, size, rounds),
-        b"server-subscriptions" => server::subscriptions(alloc, size, rounds),
         _ => Err(Refusal::BadText),
     }
 }
