@@ -1,7 +1,7 @@
+pub mod AnswerReading
 pub mod Asking
 pub mod Escaping
 pub mod RepeaterReading
 pub mod Repeatings
 pub mod ReplayReading
 pub mod Replayings
-pub mod Starts

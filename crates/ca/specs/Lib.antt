@@ -1,3 +1,5 @@
+pub mod AnswerWords
+pub mod Files
 pub mod Lines
 pub mod Programs
 pub mod RepeaterWords

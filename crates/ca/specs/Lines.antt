@@ -1,14 +1,15 @@
 -- What the program's words ask for.
-use Rattle.std.specs.Prelude.{◌≡◌, List, [], ◌∷◌, Option, None, Some, codes}
+use Rattle.std.specs.Prelude.{◌≡◌, List, ◌∷◌, Option, None, Some, codes}
 use Rattle.clap.specs.Words.{Text}
 use Rattle.ca.specs.declared.line.Line.{Line}
 use Rattle.ca.specs.declared.line.Line.TheVariants.{Answer, Repeater, Replay}
+use Rattle.ca.specs.AnswerWords.{Wants, file_in}
 use Rattle.ca.specs.RepeaterWords.{Asks}
 use Rattle.ca.specs.ReplayWords.{NamesFile}
 
 -- The words ask for this line: the first names it, and the others are as it has them.
 abbrev pub AsksLine : List Text → Line → Type 0
-AsksLine words Answer = words ≡ codes "answer" ∷ []
+AsksLine words (Answer line) = (rest : List Text) × (words ≡ codes "answer" ∷ rest) × Wants rest (file_in line)
 AsksLine words (Repeater line) = (rest : List Text) × (words ≡ codes "repeater" ∷ rest) × Asks rest line
 AsksLine words (Replay line) = (rest : List Text) × (words ≡ codes "replay" ∷ rest) × NamesFile rest line.file.now
 

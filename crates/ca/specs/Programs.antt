@@ -9,7 +9,8 @@ use Rattle.ca.specs.declared.repeater.socket.Socket.{Socket}
 use Rattle.ca.specs.Lines.{IsLine}
 use Rattle.ca.specs.Repeating.{RepeatsFrom}
 use Rattle.ca.specs.Replaying.{ReplaysTo}
-use Rattle.ca.specs.Runs.{RunsTo}
+use Rattle.ca.specs.AnswerWords.{file_in}
+use Rattle.ca.specs.Runs.{Answers, Leaves}
 use Rattle.ca.specs.Status.{not_understood_status}
 
 -- a repeater over a socket of the system, of which nothing is known
@@ -17,17 +18,13 @@ abbrev pub RepeatsAnywhere : RepeaterLine → ℕ → Type 0
 RepeatsAnywhere line status = (bound : Result Socket Fault) × RepeatsFrom (λ _ _ _ _. ⊤) (λ _ _ _ _. ⊤) (λ _ _ _ _. ⊤) (λ _ _. ⊤) bound line status
 
 module _ {S K : Type 0} (gives : S → List ℕ → S → Type 0) (takes : K → List ℕ → K → Type 0) (calls : S → ℕ) (calls' : K → ℕ) (faults : S → ℕ) (faults' : K → ℕ) (s0 s : S) (k0 k : K) (status : ℕ) where
-  -- Nothing was read or written, and this is the status.
-  abbrev pub Leaves : ℕ → Type 0
-  Leaves n = (s ≡ s0) × (k ≡ k0) × (status ≡ n)
-
   -- This line was done, or none: from s0 to s the source was read, and from k0 to k the sink took what is due.
   abbrev pub Does : Option Line → Type 0
-  Does (Some Answer) = RunsTo gives takes calls calls' faults faults' s0 s k0 k status
+  Does (Some (Answer line)) = Answers gives takes calls calls' faults faults' s0 s k0 k (file_in line) status
   Does (Some (Repeater line)) = (s ≡ s0) × ((line.port ≡ 0 → ⊥) → k ≡ k0) × RepeatsAnywhere line status
   Does (Some (Replay line)) = (s ≡ s0) × (((k ≡ k0) × (status ≡ 1)) ⊎ ((script : List ℕ) × ReplaysTo takes faults' script k0 k status))
-  Does None = Leaves not_understood_status
+  Does None = Leaves gives takes calls calls' faults faults' s0 s k0 k status not_understood_status
 
   -- What the words ask for was done; or there was no memory to read them.
   abbrev pub Ends : List Text → Type 0
-  Ends words = ((line : Option Line) × IsLine words line × Does line) ⊎ Leaves 1
+  Ends words = ((line : Option Line) × IsLine words line × Does line) ⊎ Leaves gives takes calls calls' faults faults' s0 s k0 k status 1

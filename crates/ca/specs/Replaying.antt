@@ -1,5 +1,5 @@
 -- What the replay of a script comes to: its events are done in a world, and the world's report goes to a sink.
-use Rattle.std.specs.Prelude.{ℕ, ◌≡◌, ◌<◌, ◌⊎◌, List, Option, None, Some, Result, Ok, Err, IfSome, length, take}
+use Rattle.std.specs.Prelude.{ℕ, ◌≡◌, ◌<◌, ◌⊎◌, List, Option, None, Some, Result, Ok, Err, length, take}
 use Rattle.ca_text.specs.declared.refusal.Refusal.{Refusal}
 use Rattle.ca_text.specs.declared.refusal.Refusal.TheVariants.{BadEvent, BadText, Device, OutOfMemory}
 use Rattle.ca_small_model.specs.Safe.{Safe}
@@ -9,6 +9,7 @@ use Rattle.ca_script.specs.Setting.{setting_of}
 use Rattle.ca_script.specs.declared.script.Script.{Script}
 use Rattle.ca_small_world.specs.Done.{Stopped, done}
 use Rattle.ca_small_world.specs.Reports.{report_text}
+use Rattle.ca.specs.Files.{Gives}
 use Rattle.ca.specs.Status.{status_of}
 
 -- The script reads, its events were done to the end or up to this stop, the world that they leave is safe, and
@@ -52,11 +53,6 @@ module _ {K : Type 0} (takes : K → List ℕ → K → Type 0) (faults : K → 
     pub outcome : Result (Unit {0}) Refusal
     pub replays : Replays outcome
     pub told : status ≡ status_of outcome
-
--- These are the bytes that a file still gave, all of them where they are known.
-abbrev pub Gives : {F E : Type 0} → (F → Option (List ℕ)) → Result F E → List ℕ → Type 0
-Gives remaining (Ok file) bytes = IfSome (remaining file) (λ all. bytes ≡ all)
-Gives remaining (Err _) bytes = ⊥
 
 -- The script of a file was replayed; or none could be read, and the sink took nothing.
 abbrev pub ReplaysFrom : {F E K : Type 0} → (F → Option (List ℕ)) → (K → List ℕ → K → Type 0) → (K → ℕ) → Result F E → K → K → ℕ → Type 0

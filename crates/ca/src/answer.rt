@@ -1,5 +1,8 @@
+mod line;
 mod run;
 mod standing;
 
-pub use run::{answer_run, serve};
+pub use line::AnswerLine;
+pub(crate) use line::read_answer;
+pub use run::{answer_file, answer_run, serve};
 pub use standing::standing_records;

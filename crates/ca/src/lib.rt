@@ -2,6 +2,7 @@
 #![tactic(auto)]
 
 mod answer;
+mod file;
 mod line;
 mod outcome;
 mod program;
@@ -9,7 +10,7 @@ mod repeater;
 mod replay;
 mod words;
 
-pub use answer::{answer_run, serve, standing_records};
+pub use answer::{AnswerLine, answer_file, answer_run, serve, standing_records};
 pub use line::{Line, read_line};
 pub use outcome::{not_understood, report};
 pub use program::run;

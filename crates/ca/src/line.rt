@@ -2,6 +2,7 @@ ghost use Rattle.std.specs.Prelude.{◌≡◌, IfErr, IfOk, map, string_bytes};
 ghost use Rattle.ca_text.specs.declared.refusal.Refusal.TheVariants.{OutOfMemory};
 ghost use Rattle.ca.specs.Lines.{IsLine};
 
+use crate::answer::{AnswerLine, read_answer};
 use crate::repeater::{RepeaterLine, read_repeater};
 use crate::replay::{ReplayLine, read_replay};
 use crate::words::after;
@@ -12,7 +13,7 @@ use std::alloc::Global;
 #[derive(Clone, Copy, Debug, PartialEq, Eq)]
 pub enum Line<'a> {
     /// `answer`: answers one circuit, from standard input to standard output.
-    Answer,
+    Answer(AnswerLine<'a>),
     /// `repeater`: hands datagrams on among the host's clients.
     Repeater(RepeaterLine),
     /// `replay`: does a script's events in a world, and prints the report.
@@ -25,10 +26,11 @@ pub fn read_line<'a>(alloc: Global, words: &'a [String]) -> Result<Option<Line<'
     ensures err { IfErr result (λ e. e ≡ OutOfMemory) }
 {
     if let Some(rest) = after(words, "answer") {
-        if rest.is_empty() {
-            return Ok(Some(Line::Answer));
-        }
-        return Ok(None);
+        return match read_answer(alloc, rest) {
+            Ok(Some(line)) => Ok(Some(Line::Answer(line))),
+            Ok(None) => Ok(None),
+            Err(refusal) => Err(refusal),
+        };
     }
     if let Some(rest) = after(words, "repeater") {
         return match read_repeater(alloc, rest) {

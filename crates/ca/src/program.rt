@@ -1,7 +1,7 @@
 ghost use Rattle.std.specs.Prelude.{◌<◌, ◌^◌, map, string_bytes};
 ghost use Rattle.ca.specs.Programs.{Ends};
 
-use crate::answer::answer_run;
+use crate::answer::{answer_file, answer_run};
 use crate::line::{Line, read_line};
 use crate::outcome::{not_understood, report};
 use crate::repeater::{Socket, repeater_bound};
@@ -30,7 +30,10 @@ pub fn run<R: Net + Files, S: Source, K: Sink, W: Write>(
         source.new sink.old sink.new result (map string_bytes words.now) }
 {
     match read_line(alloc, words) {
-        Ok(Some(Line::Answer)) => answer_run(alloc, None, source, sink, err),
+        Ok(Some(Line::Answer(line))) => match line.records {
+            None => answer_run(alloc, None, source, sink, err),
+            Some(file) => answer_file(alloc, File::open(system, file), source, sink, err),
+        },
         Ok(Some(Line::Repeater(line))) => {
             repeater_bound(alloc, Socket::bind(system, line.port), line, sink, err)
         }

@@ -35,3 +35,4 @@ pub mod Pumped
 pub mod Added
 pub mod Lost
 pub mod Removed
+pub mod Peeked

@@ -19,3 +19,4 @@ pub mod Reaching
 pub mod Following
 pub mod Pumping
 pub mod Removing
+pub mod NextPut

@@ -1,4 +1,4 @@
-ghost use Rattle.std.specs.Prelude.{◌≡◌, ◌≤◌, IfOk, Some, length};
+ghost use Rattle.std.specs.Prelude.{◌≡◌, ◌≤◌, IfOk, Some, length, option_map};
 ghost use Rattle.ca_model.specs.Server.{new_end};
 ghost use Rattle.ca_model.specs.Server as server;
 ghost use Rattle.ca_model.specs.ServerSteps.{output_of};
@@ -8,6 +8,7 @@ ghost use Rattle.ca_server_core.specs.Covering.{watches};
 ghost use Rattle.ca_server_core.specs.Ending.{EndsAt, IsLeft};
 ghost use Rattle.ca_server_core.specs.Finishing.{RepliesAt};
 ghost use Rattle.ca_server_core.specs.Following.{is_open};
+ghost use Rattle.ca_server_core.specs.NextPut.{IsPutAt};
 ghost use Rattle.ca_server_core.specs.Posting.{PostsAt};
 ghost use Rattle.ca_server_core.specs.Pumping.{PumpsAt};
 ghost use Rattle.ca_server_core.specs.Removing.{LosesAt, MayLose};
@@ -243,6 +244,16 @@ impl Circuit {
         match &self.state {
             State::Open(end) => end.subscriptions.watches(name),
             State::Ended(_, _) => false,
+        }
+    }
+
+    // The name of the record to which the next message puts with notification: none if its end is not open.
+    pub(crate) fn next_put(&self) -> Option<&[u8]>
+        ensures { IsPutAt self.now (option_map (λ t. t.now) result) }
+    {
+        match &self.state {
+            State::Open(end) => end.next_put(),
+            State::Ended(_, _) => None,
         }
     }
 }

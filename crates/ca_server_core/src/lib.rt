@@ -24,6 +24,7 @@ mod following;
 mod handle;
 mod losing;
 mod names;
+mod next_put;
 mod posting;
 mod pumping;
 mod put;

@@ -1,4 +1,3 @@
-mod Answerings
 mod Deciding
 mod Extending
 mod Gets
@@ -6,7 +5,6 @@ mod Handling
 mod Images
 mod Seating
 mod Serves
-mod Servings
 mod Sizing
 mod Slots
 mod Stepping

@@ -100,13 +100,6 @@ impl Circuit {
         }
     }
 
-    /// All bytes that waited were sent.
-    pub fn sent(&mut self)
-        ensures { self.new ≡ record self.old { output = [] } }
-    {
-        self.output.clear();
-    }
-
     /// Answers one message. Where there is no memory for it, the circuit is to be closed: what waited waits still, and
     /// a beginning of the replies may stand behind it.
     pub fn handle(&mut self, records: &Records, message: &Message) -> Result<(), AllocError>

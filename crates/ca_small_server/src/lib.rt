@@ -1,7 +1,6 @@
 //! A server's end of a circuit: what it answers to the messages that come.
 #![tactic(auto)]
 
-mod answer;
 mod channels;
 mod circuit;
 mod image;
@@ -9,5 +8,4 @@ mod link;
 mod read;
 mod server;
 
-pub use answer::answer_stream;
 pub use server::ServerCore;

@@ -1,5 +1,9 @@
-use ca::{Line, RepeaterLine, ReplayLine, read_line};
+use ca::{AnswerLine, Line, RepeaterLine, ReplayLine, read_line};
 use std::test::Fail;
+
+const fn answer(records: Option<&'static str>) -> Line<'static> {
+    Line::Answer(AnswerLine { records })
+}
 
 const fn replay(file: &'static str) -> Line<'static> {
     Line::Replay(ReplayLine { file })
@@ -13,8 +17,10 @@ const fn repeater(port: u16, datagrams: Option<u64>) -> Line<'static> {
 #[test]
 fn lines_are_read(rt: HostRuntime) -> Result<(), Fail> {
     let both = repeater(40_000, Some(7));
-    let rows: [(&[&str], Line<'static>); 10] = [
-        (&["answer"], Line::Answer),
+    let rows: [(&[&str], Line<'static>); 12] = [
+        (&["answer"], answer(None)),
+        (&["answer", "--records", "file"], answer(Some("file"))),
+        (&["answer", "--records=a file"], answer(Some("a file"))),
         (&["replay", "script"], replay("script")),
         (
             &["replay", "a folder/a script"],

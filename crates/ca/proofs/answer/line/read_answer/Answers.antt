@@ -1,0 +1,13 @@
+use Rattle.std.proofs.Common.{◌∙◌, codes, string_bytes, sym}
+use Rattle.clap.specs.Words.{found_of}
+use Rattle.clap.proofs.WalkLemmas.{first_value-rows}
+use Rattle.ca.proofs.AnswerReading.{escape-wants, wants-given}
+use Rattle.ca.proofs.Escaping.{texts-escape}
+use Rattle.ca.proofs.answer.line.read_answer.Goals as goal
+
+pub returns-in-Ok-clause-ok : goal.returns-in-Ok-clause-ok
+returns-in-Ok-clause-ok c =
+    wants-given _ _ _ _ _ c.in_ok-command.ensures (sym (texts-escape string_bytes c.args.words.now _ c.escapes.ensures) ∙ c.if-escapes.false) c.in-Ok.ensures.kinds c.in-Ok.ensures.matches (c.get_str.ensures ∙ first_value-rows (found_of c.in-Ok.matches) (codes "records"))
+
+pub returns-then-escapes-clause-ok : goal.returns-then-escapes-clause-ok
+returns-then-escapes-clause-ok c = escape-wants _ (sym (texts-escape string_bytes c.args.words.now _ c.escapes.ensures) ∙ c.if-escapes.true)
