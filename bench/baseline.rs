@@ -11,15 +11,18 @@ const PAYLOAD_LIMIT: usize = 1_048_576;
 struct Record {
     name: &'static [u8],
     count: u32,
-    longs: &'static [i32],
+    longs: Vec<i32>,
+    // What is subscribed to: the subscription's id and how many elements it asked for, 0 for all.
+    watched: Vec<(u32, u32)>,
 }
 
-const RECORDS: [Record; 4] = [
-    Record { name: b"TEMP", count: 1, longs: &[21] },
-    Record { name: b"SETP", count: 1, longs: &[0] },
-    Record { name: b"WAVE", count: 20_000, longs: &[7] },
-    Record { name: b"SLOW", count: 1, longs: &[0] },
-];
+fn record(name: &'static [u8], count: u32, value: i32) -> Record {
+    Record { name, count, longs: vec![value], watched: Vec::new() }
+}
+
+fn records() -> Vec<Record> {
+    vec![record(b"TEMP", 1, 21), record(b"SETP", 1, 0), record(b"WAVE", 20_000, 7), record(b"SLOW", 1, 0)]
+}
 
 struct Message<'a> {
     command: u16,
@@ -90,8 +93,8 @@ fn spell(out: &mut Vec<u8>, command: u16, size: usize, data_type: u16, count: u3
     }
 }
 
-#[derive(Default)]
 struct Circuit {
+    records: Vec<Record>,
     greeted: bool,
     created: u32,
     open: HashMap<u32, (u32, usize)>,
@@ -105,6 +108,10 @@ impl Circuit {
                 self.greeted = true;
                 spell(out, 0, 0, 0, 13, 0, 0);
             }
+            1 => self.subscribe(m, out),
+            4 => {
+                self.write(m, out);
+            }
             12 => {
                 if let Some((cid, _)) = self.open.remove(&m.p1) {
                     self.cids.remove(&cid);
@@ -113,13 +120,17 @@ impl Circuit {
             }
             15 => self.read(m, out),
             18 => self.create(m, out),
+            19 => {
+                let status = self.write(m, out);
+                spell(out, 19, 0, m.data_type, m.count, status, m.p2);
+            }
             _ => {}
         }
     }
 
     fn create(&mut self, m: &Message, out: &mut Vec<u8>) {
         let end = m.payload.iter().position(|&b| b == 0).unwrap_or(m.payload.len());
-        let place = RECORDS.iter().position(|r| r.name == &m.payload[..end]);
+        let place = self.records.iter().position(|r| r.name == &m.payload[..end]);
         match place {
             Some(place) if !self.cids.contains_key(&m.p1) && self.created < 65_536 => {
                 let sid = 65_536 + self.created;
@@ -127,7 +138,7 @@ impl Circuit {
                 self.open.insert(sid, (m.p1, place));
                 self.cids.insert(m.p1, sid);
                 spell(out, 22, 0, 0, 0, m.p1, 3);
-                spell(out, 18, 0, 5, RECORDS[place].count, m.p1, sid);
+                spell(out, 18, 0, 5, self.records[place].count, m.p1, sid);
             }
             _ => spell(out, 26, 0, 0, 0, m.p1, 0),
         }
@@ -137,7 +148,7 @@ impl Circuit {
         let Some(&(_, place)) = self.open.get(&m.p1) else {
             return spell(out, 15, 0, m.data_type, m.count, 410, m.p2);
         };
-        let record = &RECORDS[place];
+        let record = &self.records[place];
         let wanted = if m.count == 0 { record.longs.len() as u32 } else { m.count };
         if m.data_type != 5 {
             return spell(out, 15, 0, m.data_type, m.count, 114, m.p2);
@@ -145,15 +156,53 @@ impl Circuit {
         if wanted > record.count || 4 * wanted as usize > PAYLOAD_LIMIT {
             return spell(out, 15, 0, m.data_type, m.count, 176, m.p2);
         }
-        let bytes = 4 * wanted as usize;
-        let size = (bytes + 7) / 8 * 8;
-        spell(out, 15, size, 5, wanted, 1, m.p2);
-        let whole = out.len() + size;
-        for x in record.longs.iter().take(wanted as usize) {
-            out.extend(x.to_be_bytes());
-        }
-        out.resize(whole, 0);
+        spell_longs(out, 15, wanted, m.p2, &record.longs);
     }
+
+    // Writes a value and sends it to all who watch the record; gives the status for the one who wrote.
+    fn write(&mut self, m: &Message, out: &mut Vec<u8>) -> u32 {
+        let Some(&(_, place)) = self.open.get(&m.p1) else {
+            return 410;
+        };
+        let record = &mut self.records[place];
+        if m.data_type != 5 || m.payload.len() < 4 * m.count as usize {
+            return 114;
+        }
+        if m.count > record.count {
+            return 176;
+        }
+        record.longs.clear();
+        record.longs.extend((0..m.count as usize).map(|i| number32(m.payload, 4 * i) as i32));
+        for &(id, count) in &record.watched {
+            let wanted = if count == 0 { record.longs.len() as u32 } else { count };
+            spell_longs(out, 1, wanted, id, &record.longs);
+        }
+        1
+    }
+
+    fn subscribe(&mut self, m: &Message, out: &mut Vec<u8>) {
+        let Some(&(_, place)) = self.open.get(&m.p1) else {
+            return;
+        };
+        let record = &mut self.records[place];
+        if m.data_type != 5 || m.count > record.count || m.payload.len() < 16 {
+            return;
+        }
+        record.watched.push((m.p2, m.count));
+        let wanted = if m.count == 0 { record.longs.len() as u32 } else { m.count };
+        spell_longs(out, 1, wanted, m.p2, &record.longs);
+    }
+}
+
+// A reply or an update with a value: these elements, then zeros.
+fn spell_longs(out: &mut Vec<u8>, command: u16, wanted: u32, id: u32, longs: &[i32]) {
+    let size = (4 * wanted as usize).div_ceil(8) * 8;
+    spell(out, command, size, 5, wanted, 1, id);
+    let whole = out.len() + size;
+    for x in longs.iter().take(wanted as usize) {
+        out.extend(x.to_be_bytes());
+    }
+    out.resize(whole, 0);
 }
 
 fn main() -> io::Result<()> {
@@ -164,7 +213,8 @@ fn main() -> io::Result<()> {
     let (mut stdin, mut stdout) = (io::stdin().lock(), io::stdout().lock());
     // `held[..]` is what came and was not handled yet: less than a message, once `out` went to the system.
     let (mut held, mut out) = (Vec::new(), Vec::with_capacity(ROOM));
-    let mut circuit = Circuit::default();
+    let mut circuit =
+        Circuit { records: records(), greeted: false, created: 0, open: HashMap::new(), cids: HashMap::new() };
     let mut chunk = vec![0; ROOM];
     loop {
         let n = stdin.read(&mut chunk)?;
