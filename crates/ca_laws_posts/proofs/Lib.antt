@@ -1,0 +1,4 @@
+pub mod Logged
+pub mod LoggedEvents
+pub mod LoggedStep
+pub mod LoggedAll
