@@ -1,0 +1,6 @@
+pub mod Logged
+pub mod LoggedEvents
+pub mod LoggedStep
+pub mod LoggedAll
+pub mod Counting
+pub mod Pumping
