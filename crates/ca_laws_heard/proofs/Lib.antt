@@ -1,0 +1,12 @@
+pub mod Phases
+pub mod Lesser
+pub mod Says
+pub mod Issued
+pub mod Phased
+pub mod Listened
+pub mod Ends
+pub mod Connects
+pub mod Clients
+pub mod Servers
+pub mod Kept
+pub mod Heard
