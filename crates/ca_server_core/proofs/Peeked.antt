@@ -1,5 +1,5 @@
 -- The put with notification that comes next, by its header and the channel of its SID.
-use Rattle.std.proofs.Common.{◌≡◌, ◌+◌, ℕ, ◌≤◌, List, [], take, drop, length, Option, Some, None, refl, sym, ap, ◌∙◌, subst}
+use Rattle.std.proofs.Common.{◌≡◌, ◌+◌, ℕ, ◌≤◌, Bool, true, false, List, [], take, drop, length, Option, Some, None, refl, sym, ap, ◌∙◌, subst}
 use Rattle.std.proofs.lemmas.List.{take-append-drop}
 use Rattle.ca_arena.specs.declared.handle.Handle.{Handle}
 use Rattle.ca_ids.specs.Table.{Table, by_wire, held}
@@ -33,14 +33,22 @@ module _ (t : Table OpenChannel) (sid : ℕ) (few : length t ≤ arena_slots) wh
   listed-wire c there is =
       subst (λ (n : ℕ). by_wire t n ≡ Some c) is (under-wire t c.0 c.1 few (listed-under t there.0 c.0 c.1 there.1))
 
-  pub found-sid : (c : Handle × OpenChannel) (name : List ℕ) → Some c ≡ by_wire t sid → name ≡ c.1.name
-      → ((x : Handle × OpenChannel) × In (held t) x × (wire_of x.0 ≡ sid)) × ((x : Handle × OpenChannel) → In (held t) x → wire_of x.0 ≡ sid → x.1.name ≡ name)
-  found-sid c name found named =
+  pub found-sid : (c : Handle × OpenChannel) (name : List ℕ) → Some c ≡ by_wire t sid → name ≡ c.1.name → c.1.retired ≡ false
+      → ((x : Handle × OpenChannel) × In (held t) x × (wire_of x.0 ≡ sid) × (x.1.retired ≡ false)) × ((x : Handle × OpenChannel) → In (held t) x → wire_of x.0 ≡ sid → x.1.retired ≡ false → x.1.name ≡ name)
+  found-sid c name found named lives =
       let u = wire-under t sid c (sym found) in
-      ((c, under-listed t c.0 c.1 u.0, u.1), λ x there is. ap (λ (y : Handle × OpenChannel). y.1.name) (some_is x c (sym (listed-wire x there is) ∙ sym found)) ∙ sym named)
+      ((c, under-listed t c.0 c.1 u.0, u.1, lives), λ x there is stays. ap (λ (y : Handle × OpenChannel). y.1.name) (some_is x c (sym (listed-wire x there is) ∙ sym found)) ∙ sym named)
 
-  pub no-sid : (let none : Option (Handle × OpenChannel) = None in none ≡ by_wire t sid) → (x : Handle × OpenChannel) → In (held t) x → wire_of x.0 ≡ sid → ⊥
-  no-sid none x there is = none-some x (none ∙ listed-wire x there is)
+  pub no-sid : (let none : Option (Handle × OpenChannel) = None in none ≡ by_wire t sid) → (x : Handle × OpenChannel) → In (held t) x → wire_of x.0 ≡ sid → x.1.retired ≡ false → ⊥
+  no-sid none x there is stays = none-some x (none ∙ listed-wire x there is)
+
+  -- the record of the one channel was removed
+  pub retired-sid : (c : Handle × OpenChannel) → Some c ≡ by_wire t sid → c.1.retired ≡ true → (x : Handle × OpenChannel) → In (held t) x → wire_of x.0 ≡ sid → x.1.retired ≡ false → ⊥
+  retired-sid c found gone x there is stays =
+      true-not-false (sym gone ∙ ap (λ (y : Handle × OpenChannel). y.1.retired) (some_is c x (found ∙ listed-wire x there is)) ∙ stays)
+    where
+      true-not-false : true ≡ false → ⊥
+      true-not-false same = cc
 
 -- ---- by the bytes that came
 
@@ -65,12 +73,12 @@ module _ (e : ServerEnd) (bytes : List ℕ) (are : bytes ≡ e.link.input.bytes)
     λ m rest t.
         let h : head.header ≡ header_of m = whole-header head m rest is t in
         let p : PutsBy e (header_of m) (Some name) = subst (λ (x : Header). PutsBy e x (Some name)) h puts in
-        record { puts = p.0; channel = (p.1.0, (p.1.1, p.1.2)); named = λ c there. p.2 c there.0 there.1 },
+        record { puts = p.0; channel = (p.1.0, (p.1.1, p.1.2, p.1.3)); named = λ c there. p.2 c there.0 there.1 there.2 },
   )
   puts-whole head None is puts = λ m rest c t put there.
       let h : head.header ≡ header_of m = whole-header head m rest is t in
       let p : PutsBy e (header_of m) None = subst (λ (x : Header). PutsBy e x None) h puts in
-      p put c there.0 there.1
+      p put c there.0 there.1 there.2
 
   pub puts-more : IsOne bytes More → PutsFirst e None
   puts-more is = λ m rest c t put there. (let w = first-is More m rest t is in never w.0 w.1)

@@ -1,5 +1,5 @@
 -- Vocabulary: the put with notification that the next message of a circuit is (section "CA_PROTO_WRITE_NOTIFY").
-use Rattle.std.specs.Prelude.{ℕ, ◌≡◌, List, Option, None, Some}
+use Rattle.std.specs.Prelude.{ℕ, ◌≡◌, false, List, Option, None, Some}
 use Rattle.ca_arena.specs.declared.handle.Handle.{Handle}
 use Rattle.ca_ids.specs.Table.{held}
 use Rattle.ca_ids.specs.Wire.{wire_of}
@@ -12,9 +12,9 @@ use Rattle.ca_model.specs.Server.{Ended, Open, OpenChannel, Server, ServerCircui
 use Rattle.ca_model.specs.ServerSteps.{HasEnd}
 use Rattle.ca_model.specs.Speech.{In}
 
--- an open channel that has the SID of the message
+-- an open channel that has the SID of the message, and whose record was not removed
 abbrev pub HasSid : ServerEnd → Fields → Handle × OpenChannel → Type 0
-HasSid e m c = In (held e.channels) c × (wire_of c.0 ≡ m.p1)
+HasSid e m c = In (held e.channels) c × (wire_of c.0 ≡ m.p1) × (c.1.retired ≡ false)
 
 -- The message puts with notification on the channel of its SID, to the record of this name.
 pub record PutsTo (e : ServerEnd) (m : Fields) (name : List ℕ) : Type 0 where
@@ -22,12 +22,15 @@ pub record PutsTo (e : ServerEnd) (m : Fields) (name : List ℕ) : Type 0 where
   pub channel : (c : Handle × OpenChannel) × HasSid e m c
   pub named : (c : Handle × OpenChannel) → HasSid e m c → c.1.name ≡ name
 
--- the open channels of the SID in a header of a put with notification have records of this name, and there is one; or there is none
+-- The same by a header of a put with notification: the open channels of its SID whose record was not removed have records of this name, and
+-- there is one; or there is none.
 abbrev pub PutsBy : ServerEnd → Header → Option (List ℕ) → Type 0
 PutsBy e h (Some name) =
-    (h.command ≡ command_number command.WriteNotify) × ((c : Handle × OpenChannel) × In (held e.channels) c × (wire_of c.0 ≡ h.p1))
-    × ((c : Handle × OpenChannel) → In (held e.channels) c → wire_of c.0 ≡ h.p1 → c.1.name ≡ name)
-PutsBy e h None = h.command ≡ command_number command.WriteNotify → (c : Handle × OpenChannel) → In (held e.channels) c → wire_of c.0 ≡ h.p1 → ⊥
+    (h.command ≡ command_number command.WriteNotify)
+    × ((c : Handle × OpenChannel) × In (held e.channels) c × (wire_of c.0 ≡ h.p1) × (c.1.retired ≡ false))
+    × ((c : Handle × OpenChannel) → In (held e.channels) c → wire_of c.0 ≡ h.p1 → c.1.retired ≡ false → c.1.name ≡ name)
+PutsBy e h None =
+    h.command ≡ command_number command.WriteNotify → (c : Handle × OpenChannel) → In (held e.channels) c → wire_of c.0 ≡ h.p1 → c.1.retired ≡ false → ⊥
 
 -- The first message that came is one that puts to the record of this name; or no such message is the first.
 abbrev pub PutsFirst : ServerEnd → Option (List ℕ) → Type 0

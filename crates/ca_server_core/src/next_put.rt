@@ -9,7 +9,8 @@ use ca_wire::{Header, One, Sid, read_one};
 
 impl ServerCore {
     /// The name of the record to which the next message of a circuit puts a value with notification: none if no such message is next, if
-    /// its SID is not open, or if the circuit's end is not. No other message makes a record busy.
+    /// its SID is not open or the record of that was removed, or if the circuit's end is not open. No other message makes a record busy. The
+    /// record may have been busy before it: then the put waits.
     pub fn next_put(&self, circuit: Handle) -> Option<&[u8]>
         ensures { IsNextPut self.now circuit (option_map (λ t. t.now) result) }
     {
@@ -39,9 +40,12 @@ impl End {
         if header.command != Command::WriteNotify.number() {
             return None;
         }
-        match self.channels.by_sid(Sid::new(header.p1)) {
-            Some((_, channel)) => Some(channel.name()),
-            None => None,
+        let Some((_, channel)) = self.channels.by_sid(Sid::new(header.p1)) else {
+            return None;
+        };
+        if channel.is_retired() {
+            return None;
         }
+        Some(channel.name())
     }
 }
