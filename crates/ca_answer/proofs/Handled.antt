@@ -24,7 +24,8 @@ use Rattle.ca_model.specs.Server.{Ended, Open, OpenChannel, Server, ServerCircui
 use Rattle.ca_model.specs.ServerSteps.{Handles, HasEnd, Records, Sends, Stepped, Steps, StepsAt, StepsOpen, knows, known_channel, output_of, with_end}
 use Rattle.ca_model.specs.ServerSteps as did
 use Rattle.ca_model.specs.Speech.{In}
-use Rattle.ca_server_core.specs.NextPut.{IsNextPut, PutsFirst}
+use Rattle.ca_server_core.specs.NextPut.{IsNextPut}
+use Rattle.ca_server_circuit.specs.NextPut.{PutsFirst}
 use Rattle.ca_server_core.proofs.Moves.{changed-nothing}
 use Rattle.ca_answer.specs.Engines.{HandlesOne}
 use Rattle.ca_answer.specs.Serving.{Over, Past, Served}
