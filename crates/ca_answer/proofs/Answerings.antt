@@ -20,7 +20,7 @@ use Rattle.ca_wire.proofs.Messages.{spells-long}
 use Rattle.ca_model.specs.Answer.{Answered}
 use Rattle.ca_model.specs.Server.{Open, Server, ServerCircuit, ServerEnd, new_end, new_server}
 use Rattle.ca_model.specs.ServerSteps.{Accepts, Gives, HasEnd, with_end}
-use Rattle.ca_server_core.proofs.Tables.{held-own}
+use Rattle.ca_server_circuit.proofs.Tables.{held-own}
 use Rattle.ca_answer.specs.Answering.{BreaksOff, MeetsBad, ReadsAll, SourceFails, Streams, Turned, Written}
 use Rattle.ca_answer.specs.Engines.{EngineState, IsNew}
 use Rattle.ca_answer.specs.Serving.{AreFree, Drains, MetBad, Partly, Rested, Served, Serving}

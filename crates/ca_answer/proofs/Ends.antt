@@ -19,9 +19,9 @@ use Rattle.ca_model.specs.Server.{Ended, Open, Server, ServerCircuit, ServerEnd,
 use Rattle.ca_model.specs.ServerCalls.{Finishes, Replies, after_next, finish_reply, lacking, with_finish}
 use Rattle.ca_model.specs.ServerSteps.{Acts, Handles, HasEnd, Leaves, Pumps, Reaches, Records, Update, counted, reached, stored_now, with_end, write_mask}
 use Rattle.ca_model.specs.Speech.{Stored}
-use Rattle.ca_server_core.proofs.Cleared.{is-same, same-is}
+use Rattle.ca_server_circuit.proofs.Cleared.{is-same, same-is}
 use Rattle.ca_server_core.proofs.Each.{under-each}
-use Rattle.ca_server_core.proofs.Tables.{changed-other, changed-own}
+use Rattle.ca_server_circuit.proofs.Tables.{changed-other, changed-own}
 use Rattle.ca_answer.specs.Engines.{Tries}
 
 -- The circuit is open with this left to be read, or its end has ended out of memory.

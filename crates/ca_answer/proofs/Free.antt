@@ -22,7 +22,7 @@ use Rattle.ca_model.specs.Server.{Server, ServerEnd, OpenChannel}
 use Rattle.ca_model.specs.ServerCalls.{Finishes, Replies, after_next, with_finish}
 use Rattle.ca_model.specs.ServerSteps.{HasEnd, Pumps, Reaches, Records, Update, known_record, knows}
 use Rattle.ca_model.specs.Speech.{In}
-use Rattle.ca_server_core.proofs.Tables.{find-at, none-some}
+use Rattle.ca_server_circuit.proofs.Tables.{find-at, none-some}
 use Rattle.ca_answer.specs.Engines.{Tries}
 use Rattle.ca_answer.specs.Serving.{AreFree}
 use Rattle.ca_answer.proofs.Doing.{Busies}

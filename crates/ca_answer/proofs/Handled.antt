@@ -24,7 +24,8 @@ use Rattle.ca_model.specs.Server.{Ended, Open, OpenChannel, Server, ServerCircui
 use Rattle.ca_model.specs.ServerSteps.{Handles, HasEnd, Records, Sends, Stepped, Steps, StepsAt, StepsOpen, knows, known_channel, output_of, with_end}
 use Rattle.ca_model.specs.ServerSteps as did
 use Rattle.ca_model.specs.Speech.{In}
-use Rattle.ca_server_core.specs.NextPut.{IsNextPut, PutsFirst}
+use Rattle.ca_server_core.specs.NextPut.{IsNextPut}
+use Rattle.ca_server_circuit.specs.NextPut.{PutsFirst}
 use Rattle.ca_server_core.proofs.Moves.{changed-nothing}
 use Rattle.ca_answer.specs.Engines.{HandlesOne}
 use Rattle.ca_answer.specs.Serving.{Over, Past, Served}
@@ -111,13 +112,13 @@ put-matches y now h e l m rest (Applies name value true) put has takes busies ne
     let c = busies.1.0 in
     let b = At-mapped known_channel (held e.channels) c.open_there.0 c.channel c.open_there.1 in
     let wire : wire_of b.0.0 ≡ m.p1 = ap (λ (k : KnownChannel). k.sid) (sym b.2) ∙ c.under in
-    go put next b.0 (c.open_there.0, b.1) wire (ap (λ (k : KnownChannel). k.name) (sym b.2) ∙ busies.1.1)
+    go put next b.0 (c.open_there.0, b.1) wire (ap (λ (k : KnownChannel). k.retired) (sym b.2) ∙ c.there) (ap (λ (k : KnownChannel). k.name) (sym b.2) ∙ busies.1.1)
   where
-    go : (put : Option (List ℕ)) → IsNextPut y h put → (x : Handle × OpenChannel) → In (held e.channels) x → wire_of x.0 ≡ m.p1 → x.1.name ≡ name → Matches (Some name) put
-    go None none x there wire named = none (record e { link = l }) has m rest x takes busies.0 (there, wire)
-    go (Some n) (z, there_z, first) x there wire named =
+    go : (put : Option (List ℕ)) → IsNextPut y h put → (x : Handle × OpenChannel) → In (held e.channels) x → wire_of x.0 ≡ m.p1 → x.1.retired ≡ false → x.1.name ≡ name → Matches (Some name) put
+    go None none x there wire stays named = none (record e { link = l }) has m rest x takes busies.0 (there, wire, stays)
+    go (Some n) (z, there_z, first) x there wire stays named =
         let puts = subst (λ (k : ServerEnd). PutsFirst k (Some n)) (one-end y h z (record e { link = l }) there_z has) first in
-        sym ((puts.1 m rest takes).named x (there, wire)) ∙ named
+        sym ((puts.1 m rest takes).named x (there, wire, stays)) ∙ named
 put-matches y now h e l m rest (Applies name value false) put has takes busies next = tt
 put-matches y now h e l m rest (action.Waits name value) put has takes busies next = tt
 put-matches y now h e l m rest (action.Clears sid) put has takes busies next = tt

@@ -6,7 +6,7 @@ ghost use Rattle.ca_records.specs.Rules.{Rule};
 ghost use Rattle.ca_model.specs.ServerSteps.{Gives};
 ghost use Rattle.ca_server_core.specs.NextPut.{IsNextPut};
 ghost use Rattle.ca_server_core.specs.Serving.{stepped};
-ghost use Rattle.ca_server_core.specs.Stepping.{why_is};
+ghost use Rattle.ca_server_circuit.specs.Stepping.{why_is};
 ghost use Rattle.ca_answer.specs.Engines.{Gathers, IsNew, ServesNext, Tries, refusal_for, unread_size};
 ghost use Rattle.ca_answer.specs.Serving.{Comes, Drains, Flushes};
 

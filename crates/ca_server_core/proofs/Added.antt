@@ -15,7 +15,7 @@ use Rattle.ca_model.specs.ServerCalls.{AddsRecord}
 use Rattle.ca_server_core.specs.Sound.{IsSound}
 use Rattle.ca_server_core.proofs.Finished.{sound-kept}
 use Rattle.ca_server_core.proofs.Servers.{same-parts, server_of}
-use Rattle.ca_server_core.proofs.Stays.{Keeps, Waited}
+use Rattle.ca_server_circuit.proofs.Stays.{Keeps, Waited}
 
 -- a record is found still among one more
 named-in : (before after : List Record) (r : Record) (n : List ℕ) (x : Record) → record_named (before ++ after) n ≡ Some x → (q : Record) × (record_named (before ++ r ∷ after) n ≡ Some q)

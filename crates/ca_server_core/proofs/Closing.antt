@@ -11,15 +11,16 @@ use Rattle.ca_wire.specs.Fields.{Fields}
 use Rattle.ca_model.specs.Due.{Action}
 use Rattle.ca_model.specs.Ends.{Why}
 use Rattle.ca_model.specs.Server.{Ended, Open, OpenChannel, Server, ServerCircuit, ServerEnd}
-use Rattle.ca_server_core.specs.declared.step.Effect.{Effect}
-use Rattle.ca_server_core.specs.Handling.{Does}
-use Rattle.ca_server_core.specs.Sound.{EndIsSound, IsSound}
-use Rattle.ca_server_core.specs.Subscribing.{AreOnChannels, events_of}
+use Rattle.ca_server_circuit.specs.declared.step.Effect.{Effect}
+use Rattle.ca_server_circuit.specs.Handling.{Does}
+use Rattle.ca_server_circuit.specs.Sound.{EndIsSound}
+use Rattle.ca_server_core.specs.Sound.{IsSound}
+use Rattle.ca_server_circuit.specs.Subscribing.{AreOnChannels, events_of}
 use Rattle.ca_server_subscriptions.specs.Subscribed.{HasRoom}
-use Rattle.ca_server_core.proofs.Cleared.{is-same, none-of, same-is}
+use Rattle.ca_server_circuit.proofs.Cleared.{is-same, none-of, same-is}
 use Rattle.ca_server_core.proofs.Onward.{acts-on}
-use Rattle.ca_server_core.proofs.Stays.{IsNew, Keeps, Stays, back-channel, link-kept, new-channel, new-circuit, recorded-keeps, stay-channel, withdrawn-keeps}
-use Rattle.ca_server_core.proofs.Tables.{changed-back, changed-other, changed-own, freed-back, freed-other}
+use Rattle.ca_server_circuit.proofs.Stays.{IsNew, Keeps, Stays, back-channel, link-kept, new-channel, new-circuit, recorded-keeps, stay-channel, withdrawn-keeps}
+use Rattle.ca_server_circuit.proofs.Tables.{changed-back, changed-other, changed-own, freed-back, freed-other}
 
 abbrev Circuits : Type 0
 Circuits = Table ServerCircuit

@@ -15,11 +15,12 @@ use Rattle.ca_model.specs.Ends.{Why}
 use Rattle.ca_model.specs.Server.{Ended, Open, ServerCircuit, ServerEnd, Subscription, new_end}
 use Rattle.ca_model.specs.Speech.{In}
 use Rattle.ca_server_core.specs.Covering.{Covers, watches_under}
-use Rattle.ca_server_core.specs.Ending.{EndsAt, EndsIn}
+use Rattle.ca_server_circuit.specs.Ending.{EndsAt}
+use Rattle.ca_server_core.specs.Ending.{EndsIn}
 use Rattle.ca_server_core.specs.Following.{CoversBut}
 use Rattle.ca_server_core.proofs.Closing.{not-ended}
 use Rattle.ca_server_core.proofs.Servers.{became, stayed}
-use Rattle.ca_server_core.proofs.Tables.{changed-back, freed-back, held-back, one-at-index, place, under-at}
+use Rattle.ca_server_circuit.proofs.Tables.{changed-back, freed-back, held-back, one-at-index, place, under-at}
 
 abbrev Circuits : Type 0
 Circuits = Table ServerCircuit

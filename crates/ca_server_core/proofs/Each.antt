@@ -12,9 +12,9 @@ use Rattle.ca_records.specs.Puts.{Record, WaitingPut, withdrawn}
 use Rattle.ca_text.specs.Place.{At}
 use Rattle.ca_text.proofs.Places.{some_is}
 use Rattle.ca_model.specs.Server.{ServerCircuit}
-use Rattle.ca_server_core.proofs.Cleared.{is-same, same-is}
+use Rattle.ca_server_circuit.proofs.Cleared.{is-same, same-is}
 use Rattle.ca_server_core.proofs.Finished.{one-changes}
-use Rattle.ca_server_core.proofs.Tables.{at-under, handle-is, place, under-at}
+use Rattle.ca_server_circuit.proofs.Tables.{at-under, handle-is, place, under-at}
 
 module _ {T : Type 0} where
   at-each : (f : Handle → T → T) (n : ℕ) (t : Table T) (j : ℕ) (h : Handle) (c : T) → h.index ≡ n + j → At t j (place h c) → At (with_each_from n f t) j (place h (f h c))

@@ -14,13 +14,15 @@ use Rattle.ca_text.specs.Place.{At}
 use Rattle.ca_text.proofs.Places.{some_is}
 use Rattle.ca_model.specs.Ends as why
 use Rattle.ca_model.specs.Server.{Ended, Open, ServerCircuit}
-use Rattle.ca_server_core.specs.Finishing.{RepliesAt, RepliesIn, with_reply}
-use Rattle.ca_server_core.specs.Sound.{EndIsSound, IsSound}
+use Rattle.ca_server_circuit.specs.Finishing.{RepliesAt, with_reply}
+use Rattle.ca_server_core.specs.Finishing.{RepliesIn}
+use Rattle.ca_server_circuit.specs.Sound.{EndIsSound}
+use Rattle.ca_server_core.specs.Sound.{IsSound}
 use Rattle.ca_server_core.proofs.Closing.{end-stays, sound-ended}
 use Rattle.ca_server_core.proofs.Servers.{became, stayed}
 use Rattle.ca_server_core.proofs.Sounds.{sound-changed}
-use Rattle.ca_server_core.proofs.Stays.{Keeps, record-keeps}
-use Rattle.ca_server_core.proofs.Tables.{at-under, handle-is, place, under-at}
+use Rattle.ca_server_circuit.proofs.Stays.{Keeps, record-keeps}
+use Rattle.ca_server_circuit.proofs.Tables.{at-under, handle-is, place, under-at}
 
 -- ---- the records
 

@@ -20,27 +20,30 @@ use Rattle.ca_model.specs.Server.{Ended, Open, Server, ServerCircuit, ServerEnd,
 use Rattle.ca_model.specs.ServerSteps.{Acts, MayEnd, NeedsMemory, Next, Reaches, Stepped, Steps, StepsAt, after_post, closed, is_write, output_of, reached, stored_now, write_mask}
 use Rattle.ca_model.specs.ServerSteps as steps
 use Rattle.ca_model.specs.Speech.{In, Stored}
-use Rattle.ca_server_core.specs.declared.cause.Cause.{Cause}
-use Rattle.ca_server_core.specs.declared.step.Effect.{Effect}
-use Rattle.ca_server_core.specs.declared.step.Effect.TheVariants as effect
-use Rattle.ca_server_core.specs.declared.step.EndStep.TheVariants as step
+use Rattle.ca_server_circuit.specs.declared.cause.Cause.{Cause}
+use Rattle.ca_server_circuit.specs.declared.step.Effect.{Effect}
+use Rattle.ca_server_circuit.specs.declared.step.Effect.TheVariants as effect
+use Rattle.ca_server_circuit.specs.declared.step.EndStep.TheVariants as step
 use Rattle.ca_server_core.specs.declared.stepping.Step.{Step}
 use Rattle.ca_server_core.specs.Covering.{Covers}
-use Rattle.ca_server_core.specs.Ending.{EndsAt, EndsIn}
-use Rattle.ca_server_core.specs.Following.{CoversFor, Follows, IsSettled, Settles, is_open}
-use Rattle.ca_server_core.specs.Handling.{Does, Recorded, Tells, is_wrote}
+use Rattle.ca_server_circuit.specs.Ending.{EndsAt}
+use Rattle.ca_server_core.specs.Ending.{EndsIn}
+use Rattle.ca_server_core.specs.Following.{CoversFor, Follows, IsSettled, Settles}
+use Rattle.ca_server_circuit.specs.Circuits.{is_open}
+use Rattle.ca_server_circuit.specs.Handling.{Does, Recorded, Tells, is_wrote}
 use Rattle.ca_server_core.specs.Reaching.{ReachesAll}
-use Rattle.ca_server_core.specs.Serving.{CircuitSteps, Reports, StepsIn, more_applied, stepped}
+use Rattle.ca_server_circuit.specs.Serving.{CircuitSteps}
+use Rattle.ca_server_core.specs.Serving.{Reports, StepsIn, more_applied, stepped}
 use Rattle.ca_server_core.specs.Sound.{IsSound}
-use Rattle.ca_server_core.specs.Stepping.{EndSteps, after_first, why_is}
+use Rattle.ca_server_circuit.specs.Stepping.{EndSteps, after_first, why_is}
 use Rattle.ca_server_core.proofs.Closing.{none-waits, not-ended, sound-freed}
 use Rattle.ca_server_core.proofs.Covered.{Thins, covers-thinned, thins-both, thins-changed, thins-ended, thins-freed, thins-same}
 use Rattle.ca_server_core.proofs.Each.{under-each}
 use Rattle.ca_server_core.proofs.Reached.{there-is}
 use Rattle.ca_server_core.proofs.Servers.{became, freed-changed, freed-nothing, same-parts, server_of, stayed}
-use Rattle.ca_server_core.proofs.Stays.{at-filtered, link-kept}
+use Rattle.ca_server_circuit.proofs.Stays.{at-filtered, link-kept}
 use Rattle.ca_server_core.proofs.Stepped.{handled-next, not-some, step-at}
-use Rattle.ca_server_core.proofs.Tables.{changed-back, changed-own}
+use Rattle.ca_server_circuit.proofs.Tables.{changed-back, changed-own}
 
 abbrev Circuits : Type 0
 Circuits = Table ServerCircuit

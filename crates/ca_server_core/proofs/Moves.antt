@@ -11,8 +11,9 @@ use Rattle.ca_text.proofs.Places.{some_is}
 use Rattle.ca_model.specs.Ends.{Why}
 use Rattle.ca_model.specs.Server.{Ended, Open, Server, ServerCircuit, ServerEnd}
 use Rattle.ca_model.specs.ServerSteps.{Gives, HasEnd, Sends, output_of}
-use Rattle.ca_server_core.specs.Circuits.{GivesAt, GivesIn, SendsAt, SendsIn}
-use Rattle.ca_server_core.proofs.Tables.{place, under-at}
+use Rattle.ca_server_circuit.specs.Circuits.{GivesAt, SendsAt}
+use Rattle.ca_server_core.specs.Circuits.{GivesIn, SendsIn}
+use Rattle.ca_server_circuit.proofs.Tables.{place, under-at}
 
 set-same : {A : Type 0} (xs : List A) (i : ℕ) (x : A) → At xs i x → slice_set xs i x ≡ xs
 set-same [] i x at = refl

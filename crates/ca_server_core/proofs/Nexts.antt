@@ -19,23 +19,24 @@ use Rattle.ca_model.specs.Server.{Ended, Open, Server, ServerCircuit, ServerEnd,
 use Rattle.ca_model.specs.ServerCalls.{Finishes, IsAwaited, after_next, finish_reply, lacking, with_message}
 use Rattle.ca_model.specs.ServerSteps.{is_concerned, reached, write_mask}
 use Rattle.ca_model.specs.Speech.{Stored}
-use Rattle.ca_server_core.specs.declared.step.Effect.{Effect}
-use Rattle.ca_server_core.specs.declared.step.Effect.TheVariants as effect
+use Rattle.ca_server_circuit.specs.declared.step.Effect.{Effect}
+use Rattle.ca_server_circuit.specs.declared.step.Effect.TheVariants as effect
 use Rattle.ca_server_core.specs.Covering.{Covers}
-use Rattle.ca_server_core.specs.Ending.{WithdrawsAll}
-use Rattle.ca_server_core.specs.Finishing.{RepliesAt, RepliesIn, effect_after, with_reply}
+use Rattle.ca_server_circuit.specs.Ending.{WithdrawsAll}
+use Rattle.ca_server_circuit.specs.Finishing.{RepliesAt, with_reply}
+use Rattle.ca_server_core.specs.Finishing.{RepliesIn, effect_after}
 use Rattle.ca_server_core.specs.Following.{CoversFor, Follows}
-use Rattle.ca_server_core.specs.Handling.{is_wrote}
+use Rattle.ca_server_circuit.specs.Handling.{is_wrote}
 use Rattle.ca_server_core.specs.Reaching.{ReachesAll}
 use Rattle.ca_server_core.specs.Serving.{more_applied}
-use Rattle.ca_server_core.proofs.Cleared.{is-same, same-is}
+use Rattle.ca_server_circuit.proofs.Cleared.{is-same, same-is}
 use Rattle.ca_server_core.proofs.Closing.{not-ended}
 use Rattle.ca_server_core.proofs.Each.{each-ext, each-fuse, withdrawn-both}
 use Rattle.ca_server_core.proofs.Finished.{finished-records, one-changes}
 use Rattle.ca_server_core.proofs.Reached.{there-is}
 use Rattle.ca_server_core.proofs.Servers.{became, made_of, same-parts, server_of, stayed}
 use Rattle.ca_server_core.proofs.Stepped.{each-same, none-gone}
-use Rattle.ca_server_core.proofs.Tables.{changed-back}
+use Rattle.ca_server_circuit.proofs.Tables.{changed-back}
 
 abbrev Circuits : Type 0
 Circuits = Table ServerCircuit

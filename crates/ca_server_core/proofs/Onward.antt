@@ -14,10 +14,10 @@ use Rattle.ca_wire.specs.Fields.{Fields}
 use Rattle.ca_model.specs.Due.{Action, Adds, Applies, Clears, Drops, Greets, Names, Nothing, Opens, Switches, Waits}
 use Rattle.ca_model.specs.Server.{OpenChannel, Server, ServerEnd, Subscription, key_of}
 use Rattle.ca_model.specs.ServerSteps.{Acts, without_channel}
-use Rattle.ca_server_core.specs.Handling.{Fits}
-use Rattle.ca_server_core.specs.Subscribing.{AreOnChannels, IsOnChannel}
-use Rattle.ca_server_core.proofs.Stays.{at-filtered}
-use Rattle.ca_server_core.proofs.Tables.{freed-other, held-other, wire-under}
+use Rattle.ca_server_circuit.specs.Handling.{Fits}
+use Rattle.ca_server_circuit.specs.Subscribing.{AreOnChannels, IsOnChannel}
+use Rattle.ca_server_circuit.proofs.Stays.{at-filtered}
+use Rattle.ca_server_circuit.proofs.Tables.{freed-other, held-other, wire-under}
 
 abbrev On : ServerEnd → Type 0
 On e = AreOnChannels e.channels e.subscriptions

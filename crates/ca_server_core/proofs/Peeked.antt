@@ -1,90 +1,13 @@
--- The put with notification that comes next, by its header and the channel of its SID.
-use Rattle.std.proofs.Common.{◌≡◌, ◌+◌, ℕ, ◌≤◌, List, [], take, drop, length, Option, Some, None, refl, sym, ap, ◌∙◌, subst}
-use Rattle.std.proofs.lemmas.List.{take-append-drop}
+-- The put with notification that comes next, by the circuit.
+use Rattle.std.proofs.Common.{◌≡◌, ℕ, List, Option, Some, None, sym, ◌∙◌, subst}
 use Rattle.ca_arena.specs.declared.handle.Handle.{Handle}
-use Rattle.ca_ids.specs.Table.{Table, by_wire, held}
-use Rattle.ca_ids.specs.Wire.{wire_of}
-use Rattle.ca_link.specs.Link.{LinkState, TakesFirst}
-use Rattle.ca_text.specs.declared.refusal.Refusal.{Refusal}
-use Rattle.ca_text.specs.Limits.{arena_slots}
-use Rattle.ca_text.proofs.Places.{some_is}
-use Rattle.ca_wire.specs.Fields.{Fields}
-use Rattle.ca_wire.specs.Message.{header_of}
-use Rattle.ca_wire.specs.Reading.{IsOne}
-use Rattle.ca_wire.specs.declared.header.Header.{Header}
-use Rattle.ca_wire.specs.declared.reading.Head.{Head}
-use Rattle.ca_wire.specs.declared.reading.One.{One}
-use Rattle.ca_wire.specs.declared.reading.One.TheVariants.{Bad, More, Whole}
-use Rattle.ca_wire.proofs.Messages.{one-again}
-use Rattle.ca_dgram.proofs.Readings.{fields_at, spells-fields_at}
-use Rattle.ca_model.specs.Server.{Open, OpenChannel, Server, ServerCircuit, ServerEnd}
-use Rattle.ca_model.specs.Server as server
-use Rattle.ca_model.specs.ServerSteps.{HasEnd}
-use Rattle.ca_model.specs.Speech.{In}
 use Rattle.ca_ids.specs.Table.{under}
-use Rattle.ca_server_core.specs.NextPut.{IsNextPut, IsPutAt, PutsBy, PutsFirst}
-use Rattle.ca_server_core.proofs.Tables.{listed-under, none-some, under-listed, under-wire, wire-under}
-
--- ---- by SID
-
-module _ (t : Table OpenChannel) (sid : ℕ) (few : length t ≤ arena_slots) where
-  -- whatever is listed under the SID is what the SID finds
-  listed-wire : (c : Handle × OpenChannel) → In (held t) c → wire_of c.0 ≡ sid → by_wire t sid ≡ Some c
-  listed-wire c there is =
-      subst (λ (n : ℕ). by_wire t n ≡ Some c) is (under-wire t c.0 c.1 few (listed-under t there.0 c.0 c.1 there.1))
-
-  pub found-sid : (c : Handle × OpenChannel) (name : List ℕ) → Some c ≡ by_wire t sid → name ≡ c.1.name
-      → ((x : Handle × OpenChannel) × In (held t) x × (wire_of x.0 ≡ sid)) × ((x : Handle × OpenChannel) → In (held t) x → wire_of x.0 ≡ sid → x.1.name ≡ name)
-  found-sid c name found named =
-      let u = wire-under t sid c (sym found) in
-      ((c, under-listed t c.0 c.1 u.0, u.1), λ x there is. ap (λ (y : Handle × OpenChannel). y.1.name) (some_is x c (sym (listed-wire x there is) ∙ sym found)) ∙ sym named)
-
-  pub no-sid : (let none : Option (Handle × OpenChannel) = None in none ≡ by_wire t sid) → (x : Handle × OpenChannel) → In (held t) x → wire_of x.0 ≡ sid → ⊥
-  no-sid none x there is = none-some x (none ∙ listed-wire x there is)
-
--- ---- by the bytes that came
-
-module _ (e : ServerEnd) (bytes : List ℕ) (are : bytes ≡ e.link.input.bytes) where
-  -- what stands first is the message that is taken from there
-  first-is : (one : One) (m : Fields) (rest : List ℕ) → TakesFirst e.link m rest → IsOne bytes one → (head : Head) × (one ≡ Whole head) × (head.header ≡ header_of m)
-  first-is one m rest t is = one-again m t.0 rest one t.1 (subst (λ (b : List ℕ). IsOne b one) (are ∙ t.2) is)
-
-  whole-is : (g h : Head) → let x : One = Whole g in x ≡ Whole h → g ≡ h
-  whole-is g h same = cc
-
-  whole-header : (head : Head) (m : Fields) (rest : List ℕ) → IsOne bytes (Whole head) → TakesFirst e.link m rest → head.header ≡ header_of m
-  whole-header head m rest is t = (let w = first-is (Whole head) m rest t is in ap (λ (h : Head). h.header) (whole-is head w.0 w.1) ∙ w.2)
-
-  pub puts-whole : (head : Head) (put : Option (List ℕ)) → IsOne bytes (Whole head) → PutsBy e head.header put → PutsFirst e put
-  puts-whole head (Some name) is puts = (
-    (
-      fields_at bytes head,
-      drop (head.start + head.header.size) bytes,
-      (take (head.start + head.header.size) bytes, spells-fields_at bytes head is, sym are ∙ sym (take-append-drop (head.start + head.header.size) bytes)),
-    ),
-    λ m rest t.
-        let h : head.header ≡ header_of m = whole-header head m rest is t in
-        let p : PutsBy e (header_of m) (Some name) = subst (λ (x : Header). PutsBy e x (Some name)) h puts in
-        record { puts = p.0; channel = (p.1.0, (p.1.1, p.1.2)); named = λ c there. p.2 c there.0 there.1 },
-  )
-  puts-whole head None is puts = λ m rest c t put there.
-      let h : head.header ≡ header_of m = whole-header head m rest is t in
-      let p : PutsBy e (header_of m) None = subst (λ (x : Header). PutsBy e x None) h puts in
-      p put c there.0 there.1
-
-  pub puts-more : IsOne bytes More → PutsFirst e None
-  puts-more is = λ m rest c t put there. (let w = first-is More m rest t is in never w.0 w.1)
-    where
-      never : (head : Head) → let x : One = More in x ≡ Whole head → ⊥
-      never head same = cc
-
-  pub puts-bad : (r : Refusal) → IsOne bytes (Bad r) → PutsFirst e None
-  puts-bad r is = λ m rest c t put there. (let w = first-is (Bad r) m rest t is in never w.0 w.1)
-    where
-      never : (head : Head) → let x : One = Bad r in x ≡ Whole head → ⊥
-      never head same = cc
-
--- ---- by the circuit
+use Rattle.ca_text.proofs.Places.{some_is}
+use Rattle.ca_model.specs.Server.{Open, Server, ServerCircuit, ServerEnd}
+use Rattle.ca_model.specs.Server as server
+use Rattle.ca_server_core.specs.NextPut.{IsNextPut}
+use Rattle.ca_server_circuit.specs.NextPut.{IsPutAt, PutsFirst}
+use Rattle.ca_server_circuit.proofs.Tables.{none-some}
 
 pub puts-there : (y : Server) (h : Handle) (c : ServerCircuit) (put : Option (List ℕ)) → under y.circuits h ≡ Some c → IsPutAt c put → IsNextPut y h put
 puts-there y h (Open e) (Some name) there puts = (e, there, puts)

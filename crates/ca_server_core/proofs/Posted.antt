@@ -21,7 +21,7 @@ use Rattle.ca_server_core.specs.Sound.{IsSound}
 use Rattle.ca_server_core.proofs.Finished.{sound-kept}
 use Rattle.ca_server_core.proofs.Reached.{there-is}
 use Rattle.ca_server_core.proofs.Servers.{same-parts, server_of}
-use Rattle.ca_server_core.proofs.Stays.{record-keeps}
+use Rattle.ca_server_circuit.proofs.Stays.{record-keeps}
 
 -- the records after the value of one was set
 posted-records : (s u : Store) (name : List ℕ) (e : Elements) (meta : Meta) (place : ℕ) → writes.Posts s name e meta (Ok place) u → records_of u ≡ with_record name (with_value e meta) (records_of s)

@@ -12,14 +12,16 @@ use Rattle.ca_model.specs.Ends.{Why}
 use Rattle.ca_model.specs.Ends as why
 use Rattle.ca_model.specs.Server.{Ended, Open, OpenChannel, Server, ServerCircuit, ServerEnd, Subscription}
 use Rattle.ca_model.specs.ServerSteps.{Leaves, Pumps, Update}
-use Rattle.ca_server_core.specs.Clearing.{ArePuts}
-use Rattle.ca_server_core.specs.Handling.{AreServed}
-use Rattle.ca_server_core.specs.Pumping.{PumpsAt, PumpsIn}
-use Rattle.ca_server_core.specs.Sound.{EndIsSound, IsSound}
-use Rattle.ca_server_core.specs.Subscribing.{AreOnChannels, events_of}
+use Rattle.ca_server_circuit.specs.Clearing.{ArePuts}
+use Rattle.ca_server_circuit.specs.Handling.{AreServed}
+use Rattle.ca_server_circuit.specs.Pumping.{PumpsAt}
+use Rattle.ca_server_core.specs.Pumping.{PumpsIn}
+use Rattle.ca_server_circuit.specs.Sound.{EndIsSound}
+use Rattle.ca_server_core.specs.Sound.{IsSound}
+use Rattle.ca_server_circuit.specs.Subscribing.{AreOnChannels, events_of}
 use Rattle.ca_server_subscriptions.specs.Subscribed.{HasRoom}
 use Rattle.ca_server_core.proofs.Closing.{not-ended, sound-ended}
-use Rattle.ca_server_core.proofs.Pumps.{folds-channels, folds-open}
+use Rattle.ca_server_circuit.proofs.Pumps.{folds-channels, folds-open}
 use Rattle.ca_server_core.proofs.Servers.{became, same-parts, server_of, stayed}
 use Rattle.ca_server_core.proofs.Sounds.{sound-changed}
 use Rattle.ca_server_core.proofs.Thinned.{folds-subscriptions}

@@ -20,20 +20,21 @@ use Rattle.ca_model.specs.Server.{Ended, Open, ServerCircuit, ServerEnd, Subscri
 use Rattle.ca_model.specs.ServerSteps.{is_concerned, reached}
 use Rattle.ca_model.specs.Speech.{In, Stored, share_bit}
 use Rattle.ca_server_core.specs.Covering.{Covers, watches_under}
-use Rattle.ca_server_core.specs.Ending.{KeepsPlaces, WithdrawsAll}
-use Rattle.ca_server_core.specs.Posting.{PostsAt, posted}
+use Rattle.ca_server_circuit.specs.Ending.{KeepsPlaces, WithdrawsAll}
+use Rattle.ca_server_circuit.specs.Posting.{PostsAt, posted}
 use Rattle.ca_server_core.specs.Reaching.{PostsIn, ReachesAll, ReachesFrom, ReachesNext, ReachesOne}
-use Rattle.ca_server_core.specs.Sound.{EndIsSound, IsSound}
-use Rattle.ca_server_core.specs.Subscribing.{events_of}
+use Rattle.ca_server_circuit.specs.Sound.{EndIsSound}
+use Rattle.ca_server_core.specs.Sound.{IsSound}
+use Rattle.ca_server_circuit.specs.Subscribing.{events_of}
 use Rattle.ca_server_subscriptions.specs.Subscribed.{HasRoom, is_on}
-use Rattle.ca_server_core.proofs.Cleared.{is-same, same-is}
+use Rattle.ca_server_circuit.proofs.Cleared.{is-same, same-is}
 use Rattle.ca_server_core.proofs.Closing.{sound-ended}
 use Rattle.ca_server_core.proofs.Covered.{covers-left, covers-thinned, thins-changed, thins-ended}
 use Rattle.ca_server_core.proofs.Each.{each-back, each-ext, each-one-more, under-each, withdrawn-both}
 use Rattle.ca_server_core.proofs.Servers.{became, stayed}
 use Rattle.ca_server_core.proofs.Sounds.{sound-changed}
 use Rattle.ca_server_core.proofs.Stepped.{each-same, none-gone}
-use Rattle.ca_server_core.proofs.Walking.{keeps-both, keeps-same}
+use Rattle.ca_server_circuit.proofs.Walking.{keeps-both, keeps-same}
 
 abbrev Circuits : Type 0
 Circuits = Table ServerCircuit

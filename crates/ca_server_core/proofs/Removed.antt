@@ -21,19 +21,21 @@ use Rattle.ca_model.specs.Ends as why
 use Rattle.ca_model.specs.Server.{Ended, Open, OpenChannel, Server, ServerCircuit, ServerEnd, Subscription, key_of}
 use Rattle.ca_model.specs.ServerCalls.{Removes, channels_of, circuit_without, disconnects, end_without, is_on, retired}
 use Rattle.ca_model.specs.Speech.{In}
-use Rattle.ca_server_core.specs.Clearing.{ArePuts}
+use Rattle.ca_server_circuit.specs.Clearing.{ArePuts}
 use Rattle.ca_server_core.specs.Covering.{Covers, IsServer}
-use Rattle.ca_server_core.specs.Ending.{WithdrawsAll}
-use Rattle.ca_server_core.specs.Removing.{LosesAll, LosesAt, LosesIn, MayAllLose, MayLose, MayLoseIn, leads_to}
-use Rattle.ca_server_core.specs.Sound.{EndIsSound, IsSound}
-use Rattle.ca_server_core.specs.Subscribing.{AreOnChannels, events_of}
+use Rattle.ca_server_circuit.specs.Ending.{WithdrawsAll}
+use Rattle.ca_server_core.specs.Removing.{LosesAll, LosesIn, MayAllLose, MayLoseIn}
+use Rattle.ca_server_circuit.specs.Removing.{LosesAt, MayLose, leads_to}
+use Rattle.ca_server_circuit.specs.Sound.{EndIsSound}
+use Rattle.ca_server_core.specs.Sound.{IsSound}
+use Rattle.ca_server_circuit.specs.Subscribing.{AreOnChannels, events_of}
 use Rattle.ca_server_subscriptions.specs.Subscribed.{HasRoom}
-use Rattle.ca_server_core.proofs.Cleared.{is-same, same-is}
+use Rattle.ca_server_circuit.proofs.Cleared.{is-same, same-is}
 use Rattle.ca_server_core.proofs.Each.{at-index, each-back, each-ext, each-length, each-one-more, index-at, under-each, withdrawn-both}
 use Rattle.ca_server_core.proofs.Servers.{became, same-parts, server_of, stayed}
-use Rattle.ca_server_core.proofs.Stays.{at-filtered, named-still, withdrawn-keeps}
+use Rattle.ca_server_circuit.proofs.Stays.{at-filtered, named-still, withdrawn-keeps}
 use Rattle.ca_server_core.proofs.Stepped.{each-same, none-gone}
-use Rattle.ca_server_core.proofs.Tables.{none-some, one-at-index, place, under-at, under-listed}
+use Rattle.ca_server_circuit.proofs.Tables.{none-some, one-at-index, place, under-at, under-listed}
 
 abbrev Circuits : Type 0
 Circuits = Table ServerCircuit

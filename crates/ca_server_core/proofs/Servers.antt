@@ -14,11 +14,12 @@ use Rattle.ca_model.specs.Ends.{Why}
 use Rattle.ca_model.specs.Ends as why
 use Rattle.ca_model.specs.Server.{Ended, Open, Server, ServerCircuit, ServerEnd}
 use Rattle.ca_model.specs.ServerSteps.{Cuts}
-use Rattle.ca_server_core.specs.Ending.{EndsAt, EndsIn}
+use Rattle.ca_server_circuit.specs.Ending.{EndsAt}
+use Rattle.ca_server_core.specs.Ending.{EndsIn}
 use Rattle.ca_server_core.specs.Sound.{IsSound}
 use Rattle.ca_server_core.proofs.Closing.{not-ended, sound-ended}
 use Rattle.ca_server_core.proofs.Moves.{changed-nothing}
-use Rattle.ca_server_core.proofs.Tables.{changed-own}
+use Rattle.ca_server_circuit.proofs.Tables.{changed-own}
 
 abbrev Circuits : Type 0
 Circuits = Table ServerCircuit

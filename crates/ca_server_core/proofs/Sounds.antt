@@ -5,7 +5,8 @@ use Rattle.ca_link.specs.Link.{LinkState, with_given, with_handed}
 use Rattle.ca_text.specs.declared.refusal.Refusal.{Refusal}
 use Rattle.ca_text.specs.declared.refusal.Refusal.TheVariants as refusal
 use Rattle.ca_model.specs.Ends.{Why}
-use Rattle.ca_server_core.specs.Circuits.{AreLive, GivesAt, GivesIn, OpensIn, SendsAt, SendsIn}
+use Rattle.ca_server_core.specs.Circuits.{AreLive, GivesIn, OpensIn, SendsIn}
+use Rattle.ca_server_circuit.specs.Circuits.{GivesAt, SendsAt}
 use Rattle.ca_ids.specs.Table.{MayGive, Table, same_handle, under, with_changed, with_held}
 use Rattle.ca_queue.specs.Queue.{no_queue}
 use Rattle.ca_records.specs.Puts.{Record, WaitingPut, new_record}
@@ -15,9 +16,10 @@ use Rattle.ca_text.specs.Place.{At}
 use Rattle.ca_text.proofs.Places.{At-mapped, At-within, some_is}
 use Rattle.ca_model.specs.Server.{Ended, Open, OpenChannel, Server, ServerCircuit, ServerEnd, Subscription, new_end}
 use Rattle.ca_model.specs.ServerSteps.{Accepts}
-use Rattle.ca_server_core.specs.Sound.{EndIsSound, IsSound}
-use Rattle.ca_server_core.proofs.Cleared.{is-same, same-is}
-use Rattle.ca_server_core.proofs.Tables.{changed-back, changed-other, changed-own, given-none, held-back, held-other, place, under-at}
+use Rattle.ca_server_circuit.specs.Sound.{EndIsSound}
+use Rattle.ca_server_core.specs.Sound.{IsSound}
+use Rattle.ca_server_circuit.proofs.Cleared.{is-same, same-is}
+use Rattle.ca_server_circuit.proofs.Tables.{changed-back, changed-other, changed-own, given-none, held-back, held-other, place, under-at}
 
 abbrev Circuits : Type 0
 Circuits = Table ServerCircuit

@@ -18,26 +18,28 @@ use Rattle.ca_model.specs.Ends as why
 use Rattle.ca_model.specs.Server.{Ended, Open, Server, ServerCircuit, ServerEnd}
 use Rattle.ca_model.specs.ServerSteps.{Acts, Handles, LacksMemory, NeedsMemory, Next, Reaches, Records, Stepped, Steps, StepsAt, StepsOpen, after_post, closed, counted, is_write, knows, reached, stored_now, with_end, write_mask}
 use Rattle.ca_model.specs.ServerSteps as steps
-use Rattle.ca_server_core.specs.declared.cause.Cause.{Cause}
-use Rattle.ca_server_core.specs.declared.cause.Cause.TheVariants as cause
-use Rattle.ca_server_core.specs.declared.step.EndStep.TheVariants as step
+use Rattle.ca_server_circuit.specs.declared.cause.Cause.{Cause}
+use Rattle.ca_server_circuit.specs.declared.cause.Cause.TheVariants as cause
+use Rattle.ca_server_circuit.specs.declared.step.EndStep.TheVariants as step
 use Rattle.ca_server_core.specs.declared.stepping.Step.{Step}
-use Rattle.ca_server_core.specs.declared.step.Effect.{Effect}
-use Rattle.ca_server_core.specs.Ending.{KeepsPlaces, WithdrawsAll}
-use Rattle.ca_server_core.specs.Handling.{Does, Recorded, Tells, is_wrote, known, replied}
-use Rattle.ca_server_core.specs.Serving.{CircuitSteps, IsReport, Reports, StepsIn, more_applied, stepped}
-use Rattle.ca_server_core.specs.Sound.{EndIsSound, IsSound}
+use Rattle.ca_server_circuit.specs.declared.step.Effect.{Effect}
+use Rattle.ca_server_circuit.specs.Ending.{KeepsPlaces, WithdrawsAll}
+use Rattle.ca_server_circuit.specs.Handling.{Does, Recorded, Tells, is_wrote, known, replied}
+use Rattle.ca_server_circuit.specs.Serving.{CircuitSteps}
+use Rattle.ca_server_core.specs.Serving.{IsReport, Reports, StepsIn, more_applied, stepped}
+use Rattle.ca_server_circuit.specs.Sound.{EndIsSound}
+use Rattle.ca_server_core.specs.Sound.{IsSound}
 use Rattle.ca_dbr.specs.Octets.{AreBytes}
-use Rattle.ca_server_core.specs.Stepping.{BreaksBy, EndSteps, Takes, after_first, why_is}
-use Rattle.ca_server_core.specs.Subscribing.{events_of}
+use Rattle.ca_server_circuit.specs.Stepping.{BreaksBy, EndSteps, Takes, after_first, why_is}
+use Rattle.ca_server_circuit.specs.Subscribing.{events_of}
 use Rattle.ca_server_subscriptions.specs.Subscribed.{HasRoom}
-use Rattle.ca_server_core.proofs.Cleared.{none-of}
+use Rattle.ca_server_circuit.proofs.Cleared.{none-of}
 use Rattle.ca_server_core.proofs.Closing.{none-waits, not-ended, sound-freed, sound-handled}
-use Rattle.ca_server_core.proofs.Could.{could}
+use Rattle.ca_server_circuit.proofs.Could.{could}
 use Rattle.ca_dbr.proofs.LongBytes.{are-back, are-front}
 use Rattle.ca_server_core.proofs.Servers.{became, freed-changed, freed-nothing, made_of, same-parts, server_of, stayed}
-use Rattle.ca_server_core.proofs.Tables.{changed-own}
-use Rattle.ca_server_core.proofs.Walking.{keeps-same}
+use Rattle.ca_server_circuit.proofs.Tables.{changed-own}
+use Rattle.ca_server_circuit.proofs.Walking.{keeps-same}
 
 -- ---- nothing changes
 

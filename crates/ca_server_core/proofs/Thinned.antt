@@ -13,10 +13,13 @@ use Rattle.ca_model.specs.Ends as why
 use Rattle.ca_model.specs.Server.{Ended, Open, ServerCircuit, ServerEnd, Subscription, new_end}
 use Rattle.ca_model.specs.ServerSteps.{Leaves, Update}
 use Rattle.ca_model.specs.Speech.{In}
-use Rattle.ca_server_core.specs.Circuits.{GivesAt, GivesIn, OpensIn, SendsAt, SendsIn}
+use Rattle.ca_server_circuit.specs.Circuits.{GivesAt, SendsAt}
+use Rattle.ca_server_core.specs.Circuits.{GivesIn, OpensIn, SendsIn}
 use Rattle.ca_server_core.specs.Covering.{Covers}
-use Rattle.ca_server_core.specs.Finishing.{RepliesAt, RepliesIn, with_reply}
-use Rattle.ca_server_core.specs.Pumping.{PumpsAt, PumpsIn}
+use Rattle.ca_server_circuit.specs.Finishing.{RepliesAt, with_reply}
+use Rattle.ca_server_core.specs.Finishing.{RepliesIn}
+use Rattle.ca_server_circuit.specs.Pumping.{PumpsAt}
+use Rattle.ca_server_core.specs.Pumping.{PumpsIn}
 use Rattle.ca_server_core.proofs.Covered.{Thins, covers-accepted, thins-changed, thins-ended, thins-same}
 use Rattle.ca_server_core.proofs.Servers.{became, stayed}
 

@@ -1,15 +1,13 @@
 -- Working: which circuits watch which records, beside the circuits of a server.
 use Rattle.std.specs.Prelude.{ℕ, ◌≡◌, Bool, false, List, Option, Some, None}
-use Rattle.std.specs.List.{list_any}
 use Rattle.ca_arena.specs.declared.handle.Handle.{Handle}
 use Rattle.ca_ids.specs.Table.{Table, under}
 use Rattle.ca_records.specs.Puts.{Record}
-use Rattle.ca_server_subscriptions.specs.Subscribed.{is_on}
 use Rattle.ca_server_watchers.specs.Watching.{IsAmong, Watched, watching}
 use Rattle.ca_model.specs.Server.{Open, ServerCircuit, ServerEnd, Subscription}
-use Rattle.ca_model.specs.Server as server
 use Rattle.ca_model.specs.Speech.{In}
 use Rattle.ca_server_core.specs.Sound.{IsSound}
+use Rattle.ca_server_circuit.specs.Circuits.{watches}
 
 -- Each open end is among those that watch the record of each of its subscriptions. Others may be among them too.
 abbrev pub Covers : Watched → Table ServerCircuit → Type 0
@@ -20,12 +18,7 @@ pub record IsServer (rs : List Record) (w : Watched) (t : Table ServerCircuit) :
   pub sound : IsSound rs t
   pub covered : Covers w t
 
--- its end is open, and has a subscription on the record of this name
-abbrev pub watches : List ℕ → ServerCircuit → Bool
-watches name (server.Open e) = list_any (is_on name) e.subscriptions
-watches name (server.Ended w left) = false
-
--- the same for what is under a handle
+-- the circuit under a handle is there, and watches the record of this name
 abbrev pub watches_under : List ℕ → Option ServerCircuit → Bool
 watches_under name (Some c) = watches name c
 watches_under name None = false

@@ -1,5 +1,5 @@
 -- Working: what a server does after a message that one of its ends handled.
-use Rattle.std.specs.Prelude.{ℕ, ◌≡◌, ◌⊎◌, Bool, true, false, Option, Some, None, List, if◌then◌else◌, take}
+use Rattle.std.specs.Prelude.{ℕ, ◌≡◌, ◌⊎◌, Option, Some, None, List, if◌then◌else◌, take}
 use Rattle.ca_arena.specs.declared.handle.Handle.{Handle}
 use Rattle.ca_ids.specs.Table.{Table, under, with_freed}
 use Rattle.ca_records.specs.Puts.{Record}
@@ -11,13 +11,14 @@ use Rattle.ca_model.specs.Server as server
 use Rattle.ca_model.specs.ServerSteps.{write_mask}
 use Rattle.ca_model.specs.ServerSteps as steps
 use Rattle.ca_model.specs.Speech.{In}
-use Rattle.ca_server_core.specs.declared.step.Effect.{Effect}
-use Rattle.ca_server_core.specs.declared.step.Effect.TheVariants as effect
+use Rattle.ca_server_circuit.specs.declared.step.Effect.{Effect}
+use Rattle.ca_server_circuit.specs.declared.step.Effect.TheVariants as effect
 use Rattle.ca_server_core.specs.declared.stepping.Step.{Step}
 use Rattle.ca_server_core.specs.Covering.{Covers}
 use Rattle.ca_server_core.specs.Ending.{EndsIn}
 use Rattle.ca_server_core.specs.Reaching.{ReachesFrom}
 use Rattle.ca_server_core.specs.Serving.{stepped}
+use Rattle.ca_server_circuit.specs.Circuits.{is_open}
 
 -- ---- before
 
@@ -49,11 +50,6 @@ Follows (effect.Wrote place) h t s after u = ReachesFrom place write_mask t s af
 Follows (effect.Began place) h t s after u = Begins h t s after u
 
 -- ---- the answer of the step
-
-abbrev pub is_open : Option ServerCircuit → Bool
-is_open (Some (server.Open e)) = true
-is_open (Some (server.Ended w left)) = false
-is_open None = false
 
 -- how a step is answered that handled a message, by what is under the handle now
 abbrev pub IsSettled : Option ServerCircuit → (waited : ℕ) → Step → Type 0

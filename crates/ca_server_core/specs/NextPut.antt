@@ -1,44 +1,9 @@
 -- Vocabulary: the put with notification that the next message of a circuit is (section "CA_PROTO_WRITE_NOTIFY").
-use Rattle.std.specs.Prelude.{ℕ, ◌≡◌, List, Option, None, Some}
+use Rattle.std.specs.Prelude.{ℕ, List, Option, None, Some}
 use Rattle.ca_arena.specs.declared.handle.Handle.{Handle}
-use Rattle.ca_ids.specs.Table.{held}
-use Rattle.ca_ids.specs.Wire.{wire_of}
-use Rattle.ca_link.specs.Link.{TakesFirst}
-use Rattle.ca_text.specs.Command.{command_number}
-use Rattle.ca_text.specs.declared.command.Command.TheVariants as command
-use Rattle.ca_wire.specs.declared.header.Header.{Header}
-use Rattle.ca_wire.specs.Fields.{Fields}
-use Rattle.ca_model.specs.Server.{Ended, Open, OpenChannel, Server, ServerCircuit, ServerEnd}
+use Rattle.ca_model.specs.Server.{Server, ServerEnd}
 use Rattle.ca_model.specs.ServerSteps.{HasEnd}
-use Rattle.ca_model.specs.Speech.{In}
-
--- an open channel that has the SID of the message
-abbrev pub HasSid : ServerEnd → Fields → Handle × OpenChannel → Type 0
-HasSid e m c = In (held e.channels) c × (wire_of c.0 ≡ m.p1)
-
--- The message puts with notification on the channel of its SID, to the record of this name.
-pub record PutsTo (e : ServerEnd) (m : Fields) (name : List ℕ) : Type 0 where
-  pub puts : m.command ≡ command_number command.WriteNotify
-  pub channel : (c : Handle × OpenChannel) × HasSid e m c
-  pub named : (c : Handle × OpenChannel) → HasSid e m c → c.1.name ≡ name
-
--- the open channels of the SID in a header of a put with notification have records of this name, and there is one; or there is none
-abbrev pub PutsBy : ServerEnd → Header → Option (List ℕ) → Type 0
-PutsBy e h (Some name) =
-    (h.command ≡ command_number command.WriteNotify) × ((c : Handle × OpenChannel) × In (held e.channels) c × (wire_of c.0 ≡ h.p1))
-    × ((c : Handle × OpenChannel) → In (held e.channels) c → wire_of c.0 ≡ h.p1 → c.1.name ≡ name)
-PutsBy e h None = h.command ≡ command_number command.WriteNotify → (c : Handle × OpenChannel) → In (held e.channels) c → wire_of c.0 ≡ h.p1 → ⊥
-
--- The first message that came is one that puts to the record of this name; or no such message is the first.
-abbrev pub PutsFirst : ServerEnd → Option (List ℕ) → Type 0
-PutsFirst e (Some name) = ((m : Fields) × (rest : List ℕ) × TakesFirst e.link m rest) × ((m : Fields) (rest : List ℕ) → TakesFirst e.link m rest → PutsTo e m name)
-PutsFirst e None =
-    (m : Fields) (rest : List ℕ) (c : Handle × OpenChannel) → TakesFirst e.link m rest → m.command ≡ command_number command.WriteNotify → HasSid e m c → ⊥
-
--- the same of a circuit: none if its end is not open
-abbrev pub IsPutAt : ServerCircuit → Option (List ℕ) → Type 0
-IsPutAt (Open e) put = PutsFirst e put
-IsPutAt (Ended w left) put = put ≡ None
+use Rattle.ca_server_circuit.specs.NextPut.{PutsFirst}
 
 -- `next_put`: the record to which the next message of a circuit puts with notification. There is none if its end is not open.
 abbrev pub IsNextPut : Server → Handle → Option (List ℕ) → Type 0

@@ -1,41 +1,12 @@
--- Working: updates leave the queues of an end.
-use Rattle.std.specs.Prelude.{◌≡◌, ◌⊎◌, Bool, true, false, List, Some, None, Ok, Err, Result}
-use Rattle.std.specs.List.{FoldsTo}
-use Rattle.std.specs.declared.alloc.AllocError.{AllocError}
+-- Working: updates leave the queues of an end, in the table of circuits.
+use Rattle.std.specs.Prelude.{◌≡◌, ◌⊎◌, Some, None}
 use Rattle.ca_arena.specs.declared.handle.Handle.{Handle}
 use Rattle.ca_ids.specs.Table.{Table, under, with_changed}
 use Rattle.ca_records.specs.Store.{Store}
-use Rattle.ca_model.specs.Ends as why
-use Rattle.ca_model.specs.Server.{ServerCircuit, ServerEnd}
-use Rattle.ca_model.specs.Server as server
-use Rattle.ca_model.specs.ServerSteps.{Leaves, Rests, Update}
-use Rattle.ca_server_core.specs.Ending.{WithdrawsAll}
-use Rattle.ca_server_core.specs.Subscribing.{events_of}
-use Rattle.ca_server_subscriptions.specs.Subscribed.{HasRoom}
+use Rattle.ca_model.specs.Server.{ServerCircuit}
+use Rattle.ca_server_circuit.specs.Pumping.{PumpsAt}
 
--- One update went into the output; none may; or memory lacks for the next, and the output is as it was.
-abbrev pub PumpsOne : ServerEnd → Result Bool AllocError → ServerEnd → Type 0
-PumpsOne old (Ok true) new = (u : Update) × Leaves old u new
-PumpsOne old (Ok false) new = Rests old × (new ≡ old)
-PumpsOne old (Err e) new =
-    ((u : Update) × (x : ServerEnd) × Leaves old u x) × (new.link.output ≡ old.link.output) × (new.channels ≡ old.channels)
-
--- Updates went into the output until none may; or memory lacks for the next, and the output has those before it.
-abbrev pub PumpsEnd : ServerEnd → Result (Unit {0}) AllocError → ServerEnd → Type 0
-PumpsEnd old (Ok _) new = (us : List Update) × FoldsTo Leaves old us new × Rests new
-PumpsEnd old (Err e) new =
-    (us : List Update) × (after : ServerEnd) × FoldsTo Leaves old us after × (Rests after → ⊥) × (new.link.output ≡ after.link.output)
-    × (new.channels ≡ old.channels)
-
--- The same on a circuit: an end without memory for the next has ended.
-abbrev pub PumpsAt : Handle → ServerCircuit → Store → ServerCircuit → Store → Type 0
-PumpsAt h (server.Open e) s new t =
-    (us : List Update) × (after : ServerEnd) × FoldsTo Leaves e us after
-    × ((Rests after × (new ≡ server.Open after) × HasRoom (events_of after) × (t ≡ s))
-    ⊎ ((Rests after → ⊥) × (new ≡ server.Ended why.OutOfMemory after.link.output) × WithdrawsAll h s t))
-PumpsAt h (server.Ended w left) s new t = (new ≡ server.Ended w left) × (t ≡ s)
-
--- the same on the circuit of a handle
+-- updates leave the queues of the circuit of a handle
 abbrev pub PumpsIn : Table ServerCircuit → Handle → Store → Table ServerCircuit → Store → Type 0
 PumpsIn t h s after u =
     ((c : ServerCircuit) × (new : ServerCircuit) × (under t h ≡ Some c) × PumpsAt h c s new u × (after ≡ with_changed (λ (x : ServerCircuit). new) h t))

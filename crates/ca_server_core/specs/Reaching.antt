@@ -11,8 +11,8 @@ use Rattle.ca_model.specs.Server.{ServerCircuit}
 use Rattle.ca_model.specs.ServerSteps.{is_concerned, reached}
 use Rattle.ca_model.specs.Speech.{Stored}
 use Rattle.ca_server_core.specs.Covering.{watches_under}
-use Rattle.ca_server_core.specs.Ending.{KeepsPlaces}
-use Rattle.ca_server_core.specs.Posting.{PostsAt}
+use Rattle.ca_server_circuit.specs.Ending.{KeepsPlaces}
+use Rattle.ca_server_circuit.specs.Posting.{PostsAt}
 
 -- ---- one circuit
 

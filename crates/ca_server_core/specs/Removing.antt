@@ -1,85 +1,19 @@
--- Working: a record is removed, on one circuit and in the table of circuits.
-use Rattle.std.specs.Prelude.{ℕ, ◌≡◌, ◌≢◌, ◌≤◌, ◌&&◌, ◌||◌, ◌⊎◌, ◌++◌, Bool, true, not, List, [], Option, Some, None, filter, length, map, option_map, option_to_list, take}
-use Rattle.std.specs.Str.{bytes_eq}
+-- Working: a record is removed, in the table of circuits.
+use Rattle.std.specs.Prelude.{ℕ, ◌≡◌, ◌≢◌, ◌≤◌, ◌⊎◌, Bool, true, List, [], Some, None, length}
 use Rattle.ca_arena.specs.declared.handle.Handle.{Handle}
-use Rattle.ca_arena.specs.Arena.{Place, place_at}
+use Rattle.ca_arena.specs.Arena.{place_at}
 use Rattle.ca_ids.specs.Table.{Table, held_at, under, with_changed, with_each}
-use Rattle.ca_ids.specs.Walks.{with_place}
-use Rattle.ca_link.specs.Calls.{IsOpen}
 use Rattle.ca_records.specs.declared.puts.Put.{Put}
 use Rattle.ca_records.specs.Puts.{Record, withdrawn}
 use Rattle.ca_records.specs.Store.{Store, records_of}
-use Rattle.ca_wire.specs.Fields.{Fields}
-use Rattle.ca_wire.specs.Message.{spelled}
-use Rattle.ca_wire.specs.Messages.{disconnect}
-use Rattle.ca_model.specs.Ends as why
-use Rattle.ca_model.specs.Server.{OpenChannel, ServerCircuit, ServerEnd, without_subscriptions}
+use Rattle.ca_model.specs.Server.{ServerCircuit, ServerEnd}
 use Rattle.ca_model.specs.Server as server
-use Rattle.ca_model.specs.ServerCalls.{channels_of, circuit_without, disconnects, end_without, is_on, retired}
-use Rattle.ca_server_core.specs.Clearing.{ArePuts}
-use Rattle.ca_server_core.specs.Ending.{WithdrawsAll}
-use Rattle.ca_server_core.specs.Handling.{replied}
-use Rattle.ca_server_core.specs.Subscribing.{events_of}
+use Rattle.ca_model.specs.ServerCalls.{channels_of, circuit_without}
+use Rattle.ca_server_circuit.specs.Subscribing.{events_of}
 use Rattle.ca_server_subscriptions.specs.Subscribed.{HasRoom}
+use Rattle.ca_server_circuit.specs.Removing.{LosesAt, MayLose}
 
--- ---- one channel
-
--- the channel leads to the record of this name, which was not removed
-abbrev pub leads_to : List ℕ → Handle × OpenChannel → Bool
-leads_to name c = bytes_eq c.1.name name && not c.1.retired
-
--- the channel of an index, if it leads there
-abbrev pub leading_at : List ℕ → ℕ → Table OpenChannel → List (Handle × OpenChannel)
-leading_at name i t = filter (leads_to name) (option_to_list (held_at i (place_at t i)))
-
--- the SERVER_DISCONNs of channels
-abbrev pub notices : List (Handle × OpenChannel) → List Fields
-notices cs = map (λ (c : Handle × OpenChannel). disconnect c.1.cid) cs
-
--- a channel whose record was removed
-abbrev pub without_record : OpenChannel → OpenChannel
-without_record c = record c { retired = true }
-
--- what holds an index, after the removal of a record
-abbrev pub retired_in : List ℕ → Option OpenChannel → Option OpenChannel
-retired_in name o = option_map (λ (c : OpenChannel). record c { retired = c.retired || bytes_eq c.name name }) o
-
-abbrev pub retired_at : List ℕ → Place OpenChannel → Place OpenChannel
-retired_at name p = record p { value = retired_in name p.value }
-
--- ---- one end
-
--- the end whose channel of an index is retired without its subscriptions, if it leads to the record of this name
-abbrev pub without_at : List ℕ → ℕ → ServerEnd → ServerEnd
-without_at name i e =
-    without_subscriptions (is_on (leading_at name i e.channels)) (record e { channels = with_place i (retired_at name) e.channels })
-
--- the same for all channels: `end_without` but for the messages
-abbrev pub without_channels : List ℕ → ServerEnd → ServerEnd
-without_channels name e = without_subscriptions (is_on (channels_of name e)) (record e { channels = with_each (retired name) e.channels })
-
--- Some SERVER_DISCONNs are due, and the first of them wait to be sent.
-abbrev pub TellsSome : List ℕ → ServerEnd → ServerEnd → Type 0
-TellsSome name e new =
-    (k : ℕ) × (channels_of name e ≢ []) × (k ≤ length (channels_of name e)) × (new ≡ replied (take k (disconnects name e)) e)
-
--- ---- one circuit
-
--- what the removal of a record needs of a circuit beside the records that are left
-abbrev pub MayLose : List Record → Handle → ServerCircuit → Type 0
-MayLose rs h (server.Open e) = IsOpen e.link × ArePuts h rs e.channels
-MayLose rs h (server.Ended w left) = Unit {0}
-
--- A circuit loses a record: or its end has ended out of memory, and left a beginning of its SERVER_DISCONNs.
-abbrev pub LosesAt : Handle → (name : List ℕ) → ServerCircuit → Store → ServerCircuit → Store → Type 0
-LosesAt h name (server.Open e) s new t =
-    ((new ≡ server.Open (end_without name e)) × HasRoom (events_of (end_without name e)) × (t ≡ s))
-    ⊎ ((k : ℕ) × (channels_of name e ≢ []) × (k ≤ length (channels_of name e))
-    × (new ≡ server.Ended why.OutOfMemory (e.link.output ++ spelled (take k (disconnects name e)))) × WithdrawsAll h s t)
-LosesAt h name (server.Ended w left) s new t = (new ≡ server.Ended w left) × (t ≡ s)
-
--- ---- all circuits
-
+-- what the removal of a record needs of all circuits
 abbrev pub MayAllLose : List Record → Table ServerCircuit → Type 0
 MayAllLose rs t = (h : Handle) (c : ServerCircuit) → under t h ≡ Some c → MayLose rs h c
 

@@ -1,22 +1,19 @@
--- Working: what a step makes of one circuit, and of the table of circuits.
-use Rattle.std.specs.Prelude.{ℕ, ◌≡◌, ◌≤◌, ◌+◌, ◌⊎◌, Bool, [], Option, Some, None, if◌then◌else◌, length, min}
+-- Working: what a step makes of the table of circuits, and how it is reported.
+use Rattle.std.specs.Prelude.{ℕ, ◌≡◌, ◌+◌, ◌⊎◌, Bool, [], Option, Some, None, if◌then◌else◌, min}
 use Rattle.ca_arena.specs.declared.handle.Handle.{Handle}
 use Rattle.ca_ids.specs.Table.{Table, under, with_changed, with_freed}
 use Rattle.ca_records.specs.Store.{Store}
-use Rattle.ca_text.specs.Limits.{applied_limit, arena_slots}
+use Rattle.ca_text.specs.Limits.{applied_limit}
 use Rattle.ca_model.specs.Ends as why
-use Rattle.ca_model.specs.Server.{ServerCircuit, ServerEnd}
+use Rattle.ca_model.specs.Server.{ServerCircuit}
 use Rattle.ca_model.specs.Server as server
 use Rattle.ca_model.specs.ServerSteps.{Stepped}
 use Rattle.ca_model.specs.ServerSteps as steps
-use Rattle.ca_server_core.specs.declared.step.EndStep.{EndStep}
-use Rattle.ca_server_core.specs.declared.step.EndStep.TheVariants.{Breaks}
+use Rattle.ca_server_circuit.specs.declared.step.EndStep.{EndStep}
 use Rattle.ca_server_core.specs.declared.stepping.Step.{Step}
 use Rattle.ca_server_core.specs.declared.stepping.Step.TheVariants.{Closed, Handled, NeedBytes, OutputFull}
-use Rattle.ca_server_core.specs.Ending.{WithdrawsAll}
-use Rattle.ca_server_core.specs.Stepping.{BreaksBy, EndSteps, why_is}
-use Rattle.ca_server_core.specs.Subscribing.{events_of}
-use Rattle.ca_server_subscriptions.specs.Subscribed.{HasRoom}
+use Rattle.ca_server_circuit.specs.Serving.{CircuitSteps}
+use Rattle.ca_server_circuit.specs.Stepping.{why_is}
 
 -- what a step did, as the statement names it
 abbrev pub stepped : Step → Stepped
@@ -28,14 +25,6 @@ stepped (Closed cause left) = steps.Closed (why_is cause) left
 -- how many writes were applied after a message that applied one, or not
 abbrev pub more_applied : (writes : Bool) → ℕ → ℕ
 more_applied writes n = if writes then min (n + 1) applied_limit else n
-
--- One step of a circuit: its end did this, or has ended if it broke; one that had ended does nothing.
-abbrev pub CircuitSteps : (port : ℕ) → Handle → ServerCircuit → Store → Option EndStep → ServerCircuit → Store → Type 0
-CircuitSteps port h (server.Open e) s (Some (Breaks c)) new t = BreaksBy port s e c × (new ≡ server.Ended (why_is c) e.link.output) × WithdrawsAll h s t
-CircuitSteps port h (server.Open e) s (Some did) new t =
-    (after : ServerEnd) × EndSteps port h e s did after t × HasRoom (events_of after) × (length after.channels ≤ arena_slots) × (new ≡ server.Open after)
-CircuitSteps port h (server.Open e) s None new t = ⊥
-CircuitSteps port h (server.Ended w left) s did new t = (did ≡ None) × (new ≡ server.Ended w left) × (t ≡ s)
 
 -- One step of the circuit of a handle.
 abbrev pub StepsIn : (port : ℕ) → Table ServerCircuit → Handle → Store → Option EndStep → Table ServerCircuit → Store → Type 0

@@ -2,14 +2,13 @@ ghost use Rattle.ca_model.specs.ServerSteps.{Cuts};
 ghost use Rattle.ca_records.specs.Store.{records_of};
 ghost use Rattle.ca_server_core.specs.Ending.{EndsIn};
 ghost use Rattle.ca_server_core.specs.Sound.{IsSound};
-ghost use Rattle.ca_server_core.specs.Stepping.{why_is};
+ghost use Rattle.ca_server_circuit.specs.Stepping.{why_is};
 
-use crate::cause::Cause;
-use crate::circuit::Circuit;
 use crate::server::ServerCore;
 use ca_arena::Handle;
 use ca_ids::HeldTable;
 use ca_records::ServedRecords;
+use ca_server_circuit::{Cause, Circuit};
 
 impl ServerCore {
     /// Cuts a circuit: its end ends, if it is open, and its puts that wait are never applied. A step reports that, with the bytes that

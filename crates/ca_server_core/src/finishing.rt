@@ -1,24 +1,18 @@
-ghost use Rattle.std.specs.Prelude.{◌≡◌, List, OnErr, OnOk, [], ◌∷◌};
+ghost use Rattle.std.specs.Prelude.{◌≡◌, List};
 ghost use Rattle.ca_arena.specs.declared.handle.Handle.{Handle};
-ghost use Rattle.ca_link.specs.Calls.{IsOpen};
-ghost use Rattle.ca_model.specs.ServerCalls.{Finishes, finish_reply};
+ghost use Rattle.ca_model.specs.ServerCalls.{Finishes};
 ghost use Rattle.ca_records.specs.Store.{records_of};
 ghost use Rattle.ca_server_core.specs.Finishing.{RepliesIn, effect_after};
-ghost use Rattle.ca_server_core.specs.Handling.{replied};
 ghost use Rattle.ca_server_core.specs.Sound.{IsSound};
 ghost use Rattle.ca_wire.specs.Fields.{Fields};
 
-use crate::circuit::Circuit;
-use crate::end::{End, send};
 use crate::following::follow;
 use crate::server::ServerCore;
-use crate::step::Effect;
 use crate::stepping::more_applied;
 use ca_ids::HeldTable;
 use ca_records::{Finished, Put, ServedRecords};
-use ca_text::{Command, Refusal, Status};
-use ca_wire::Message;
-use std::alloc::{AllocError, Global};
+use ca_server_circuit::{Circuit, Effect};
+use ca_text::Refusal;
 
 impl ServerCore {
     /// Finishes the busy put of the record of this name. Its reply is sent, unless its channel or its circuit is gone. The next put that
@@ -64,30 +58,4 @@ fn reply_on(circuits: &mut HeldTable<Circuit>, records: &mut ServedRecords, put:
         return;
     };
     found.reply(put, records);
-}
-
-impl End {
-    /// The reply of a put that is finished. Without memory nothing changes.
-    pub(crate) fn finish(&mut self, put: Put) -> Result<(), AllocError>
-        requires { IsOpen self.old.link }
-        ensures ok { OnOk result (self.new ≡ replied (finish_reply put ∷ []) self.old) }
-        ensures err { OnErr result (self.new ≡ self.old) }
-    {
-        let reply = reply_to(self.alloc, put);
-        send(&mut self.link, &reply)?;
-        Ok(())
-    }
-}
-
-/// The reply of a put that is finished.
-fn reply_to(alloc: Global, put: Put) -> Message
-    ensures { result ≡ finish_reply put }
-{
-    let command = Command::WriteNotify.number();
-    let status = Status::NORMAL.number;
-    let payload = Vec::new(alloc);
-    match Message::new(command, put.data_type, put.count, status, put.ioid, payload) {
-        Ok(reply) => reply,
-        Err(_) => unreachable!(),
-    }
 }

@@ -3,14 +3,12 @@ ghost use Rattle.ca_server_core.specs.Covering.{Covers};
 ghost use Rattle.ca_server_core.specs.Following.{Begins, CoversAt, CoversFor, Follows};
 ghost use Rattle.ca_server_core.specs.Sound.{IsSound};
 
-use crate::cause::Cause;
-use crate::circuit::Circuit;
 use crate::cutting::end_on;
 use crate::posting::post_to_all;
-use crate::step::Effect;
 use ca_arena::Handle;
 use ca_ids::HeldTable;
 use ca_records::ServedRecords;
+use ca_server_circuit::{Cause, Circuit, Effect};
 use ca_server_watchers::Watchers;
 
 /// The mask of a write that was applied: VALUE and LOG.

@@ -8,12 +8,12 @@ ghost use Rattle.ca_server_core.specs.Covering.{Covers, watches_under};
 ghost use Rattle.ca_server_core.specs.Reaching.{PostsIn, ReachesFrom, ReachesNext};
 ghost use Rattle.ca_server_core.specs.Sound.{IsSound};
 
-use crate::circuit::Circuit;
 use crate::server::ServerCore;
 use ca_arena::Handle;
 use ca_dbr::{Meta, Value};
 use ca_ids::HeldTable;
 use ca_records::ServedRecords;
+use ca_server_circuit::Circuit;
 use ca_server_watchers::Watchers;
 use ca_text::Refusal;
 

@@ -4,11 +4,11 @@ ghost use Rattle.ca_records.specs.Store.{records_of};
 ghost use Rattle.ca_server_core.specs.Pumping.{PumpsIn};
 ghost use Rattle.ca_server_core.specs.Sound.{IsSound};
 
-use crate::circuit::Circuit;
 use crate::server::ServerCore;
 use ca_arena::Handle;
 use ca_ids::HeldTable;
 use ca_records::ServedRecords;
+use ca_server_circuit::Circuit;
 
 impl ServerCore {
     /// Puts updates that wait on a circuit after what waits to be sent, until none may go: none is left that may be taken, or 262,144 bytes

@@ -4,10 +4,10 @@ ghost use Rattle.ca_model.specs.ServerCalls.{Removes};
 ghost use Rattle.ca_records.specs.Store.{records_of};
 ghost use Rattle.ca_server_core.specs.Removing.{LosesAll, LosesIn, MayAllLose, MayLoseIn};
 
-use crate::circuit::Circuit;
 use crate::server::ServerCore;
 use ca_ids::HeldTable;
 use ca_records::ServedRecords;
+use ca_server_circuit::Circuit;
 use ca_text::Refusal;
 
 impl ServerCore {

@@ -5,11 +5,11 @@ ghost use Rattle.ca_model.specs.ServerCalls.{stamped, waiting};
 ghost use Rattle.ca_model.specs.ServerSteps.{Accepts, Gives, Sends, output_of};
 ghost use Rattle.ca_server_core.specs.Circuits.{AreLive, GivesIn, OpensIn, SendsIn};
 
-use crate::circuit::Circuit;
 use ca_arena::Handle;
 use ca_beacon::BeaconClock;
 use ca_ids::HeldTable;
 use ca_records::{Records, Rule, ServedRecords};
+use ca_server_circuit::Circuit;
 use ca_server_watchers::Watchers;
 use ca_text::Refusal;
 use std::alloc::{AllocError, Global};

@@ -4,7 +4,7 @@ use Rattle.ca_text.specs.declared.refusal.Refusal.{Refusal}
 use Rattle.ca_text.specs.declared.refusal.Refusal.TheVariants.{OutOfMemory}
 use Rattle.ca_server_core.specs.declared.stepping.Step.{Step}
 use Rattle.ca_server_core.specs.Serving.{stepped}
-use Rattle.ca_server_core.specs.Stepping.{why_is}
+use Rattle.ca_server_circuit.specs.Stepping.{why_is}
 use Rattle.ca_answer.specs.Engines.{EngineState, ServesNext}
 use Rattle.ca_answer.specs.Serving.{Comes}
 use Rattle.ca_answer.proofs.Servings.{closes-comes, comes-full, comes-handled, comes-lacking, comes-stopped, rests, same-error}

@@ -1,0 +1,229 @@
+-- Updates leave the queues of an end.
+use Rattle.std.proofs.Common.{◌≡◌, ℕ, zero, suc, take, ◌+◌, ◌-◌, ◌*◌, ◌<◌, ◌≤◌, ◌⊎◌, inl, inr, Bool, true, false, cond, List, [], ◌∷◌, ◌++◌, length, replicate, Option, Some, None, Result, Ok, Err, refl, sym, ap, ◌∙◌, subst, arith}
+use Rattle.std.proofs.lemmas.List.{append-nil, length-append}
+use Rattle.std.specs.List.{FoldsTo}
+use Rattle.std.specs.Result.{IsErr}
+use Rattle.std.specs.declared.alloc.AllocError.{AllocError}
+use Rattle.ca_text.specs.declared.refusal.Refusal.{Refusal}
+use Rattle.ca_text.specs.declared.refusal.Refusal.TheVariants as refusal
+use Rattle.ca_text.specs.Limits.{element_limit, output_limit, payload_limit}
+use Rattle.ca_text.specs.Status.{get_fail, normal}
+use Rattle.ca_text.proofs.Places.{At-within, some_is}
+use Rattle.ca_dbr.specs.declared.data_type.BaseType.{BaseType}
+use Rattle.ca_dbr.specs.declared.data_type.BaseType.TheVariants as base
+use Rattle.ca_dbr.specs.declared.data_type.DataType.{DataType}
+use Rattle.ca_dbr.specs.declared.data_type.Form.{Form}
+use Rattle.ca_dbr.specs.declared.data_type.Form.TheVariants as form
+use Rattle.ca_dbr.specs.Conversion.{Fails}
+use Rattle.ca_dbr.specs.Elements.{Elements}
+use Rattle.ca_dbr.specs.Image.{image}
+use Rattle.ca_dbr.specs.Shown.{shown}
+use Rattle.ca_dbr.specs.Types.{element_size, meta_size, padding_size, size_of_image, type_number}
+use Rattle.ca_link.specs.Calls.{IsOpen}
+use Rattle.ca_link.specs.Link.{LinkState, with_sent}
+use Rattle.ca_queue.specs.declared.entry.SubKey.{SubKey}
+use Rattle.ca_queue.specs.Circuit.{RestBefore}
+use Rattle.ca_wire.specs.declared.requests.Wanted.{Wanted}
+use Rattle.ca_wire.specs.Fields.{Fields}
+use Rattle.ca_wire.specs.Header.{header_spelling}
+use Rattle.ca_wire.specs.Message.{header_of, spelled, spelling}
+use Rattle.ca_wire.proofs.Headers.{length-header_spelling}
+use Rattle.ca_wire.specs.Messages.{update}
+use Rattle.ca_model.specs.Server.{ServerEnd, key_of}
+use Rattle.ca_model.specs.ServerSteps.{Leaves, Rests, Update}
+use Rattle.ca_model.specs.Speech.{Stored}
+use Rattle.ca_model.specs.Updates.{ShowsTo, update_count, update_in}
+use Rattle.ca_server_subscriptions.specs.Pumping.{GivesUpdate}
+use Rattle.ca_server_subscriptions.specs.Subscribed.{Subscribed}
+use Rattle.ca_server_circuit.specs.Pumping.{PumpsEnd, PumpsOne}
+use Rattle.ca_server_circuit.specs.Subscribing.{events_of}
+use Rattle.ca_server_circuit.proofs.Types.{type-of-number}
+
+-- ---- when none may leave
+
+pub rests-full : (e : ServerEnd) → output_limit ≤ length e.link.output → Rests e
+rests-full e full u new l = (let room = l.room in omega (arith, full, room))
+
+pub rests-none : (e : ServerEnd) → RestBefore e.queues (length e.queues) → Rests e
+rests-none e rest u new l = nothing (sym (rest u.queue l.q (At-within e.queues u.queue l.q l.at) l.at) ∙ l.taken_is)
+  where
+    nothing : (let none : Option (SubKey × Stored) = None in none ≡ Some (key_of u.of, u.carries)) → ⊥
+    nothing is = cc
+
+-- ---- one that leaves
+
+pub leaving : (e : ServerEnd) (w : Wanted) (v : Stored) (new : Subscribed) (m : Fields) → length e.link.output < output_limit → GivesUpdate (events_of e) (Some (w, v)) new → ShowsTo w v m
+    → (u : Update) × Leaves e u (record e { link = with_sent (m ∷ []) e.link; subscriptions = new.subscriptions; queues = new.queues })
+leaving e w v new m room g shows = (
+  record { queue = g.0; of = g.2; carries = v; message = m },
+  record {
+    room = room;
+    q = g.1;
+    at = g.3;
+    first = g.4;
+    stands = g.6;
+    taken_is = g.5;
+    shows = subst (λ (x : Wanted). ShowsTo x v m) (sym g.7) shows;
+    leaves = λ i. record e { link = with_sent (m ∷ []) e.link; subscriptions = (g.8 i).subscriptions; queues = (g.8 i).queues };
+  },
+)
+
+-- memory lacks for one
+pub lacks-one : (v e : ServerEnd) (l : LinkState) (new : Subscribed) (w : Wanted) (x : Stored) (r : Result Bool AllocError) → IsErr r → v ≡ e → length v.link.output < output_limit
+    → GivesUpdate (events_of v) (Some (w, x)) new → ((m : Fields) × ShowsTo w x m) → l ≡ v.link
+    → PumpsOne e r (record v { link = l; subscriptions = new.subscriptions; queues = new.queues })
+lacks-one v e l new w x (Ok b) no_it is room g shows same = absurd cc
+lacks-one v e l new w x (Err a) yes_it is room g shows same =
+    let u = leaving v w x new shows.0 room g shows.1 in (
+      subst (λ (z : ServerEnd). (y : Update) × (t : ServerEnd) × Leaves z y t) is (u.0, record v { link = with_sent (shows.0 ∷ []) v.link; subscriptions = new.subscriptions; queues = new.queues }, u.1),
+      ap (λ (k : LinkState). k.output) same ∙ ap (λ (z : ServerEnd). z.link.output) is,
+      ap (λ (z : ServerEnd). z.channels) is,
+    )
+
+-- one goes out
+pub leaves-one : (v e : ServerEnd) (l : LinkState) (new : Subscribed) (w : Wanted) (x : Stored) (m : Fields) → v ≡ e → length v.link.output < output_limit
+    → GivesUpdate (events_of v) (Some (w, x)) new → ShowsTo w x m → l ≡ with_sent (m ∷ []) v.link
+    → PumpsOne e (Ok true) (record v { link = l; subscriptions = new.subscriptions; queues = new.queues })
+leaves-one v e l new w x m is room g shows sent =
+    let u = leaving v w x new m room g shows in
+    subst (λ (k : LinkState). PumpsOne e (Ok true) (record v { link = k; subscriptions = new.subscriptions; queues = new.queues })) (sym sent)
+    (subst (λ (z : ServerEnd). PumpsOne z (Ok true) (record v { link = with_sent (m ∷ []) v.link; subscriptions = new.subscriptions; queues = new.queues })) is u)
+
+-- one more after others
+pub folds-more : (p : ServerEnd) (us : List Update) (q r : ServerEnd) (u : Update) → FoldsTo Leaves p us q → Leaves q u r → FoldsTo Leaves p (us ++ u ∷ []) r
+folds-more p [] q r u is l = (r, subst (λ (x : ServerEnd). Leaves x u r) (sym is) l, refl)
+folds-more p (x ∷ us) q r u f l = (f.0, f.1, folds-more f.0 us q r u f.2 l)
+
+-- the channels and what came stay
+pub leaves-channels : (e new : ServerEnd) (u : Update) → Leaves e u new → new.channels ≡ e.channels
+leaves-channels e new u l = ap (λ (x : ServerEnd). x.channels) l.leaves
+
+pub leaves-open : (e new : ServerEnd) (u : Update) → Leaves e u new → IsOpen e.link → IsOpen new.link
+leaves-open e new u l live = ap (λ (x : ServerEnd). x.link.input.closed) l.leaves ∙ live
+
+pub folds-channels : (p : ServerEnd) (us : List Update) (q : ServerEnd) → FoldsTo Leaves p us q → q.channels ≡ p.channels
+folds-channels p [] q is = ap (λ (x : ServerEnd). x.channels) (sym is)
+folds-channels p (u ∷ us) q f = folds-channels f.0 us q f.2 ∙ leaves-channels p f.0 u f.1
+
+pub folds-open : (p : ServerEnd) (us : List Update) (q : ServerEnd) → FoldsTo Leaves p us q → IsOpen p.link → IsOpen q.link
+folds-open p [] q is live = subst (λ (x : ServerEnd). IsOpen x.link) is live
+folds-open p (u ∷ us) q f live = folds-open f.0 us q f.2 (leaves-open p f.0 u f.1 live)
+
+-- ---- the loop
+
+long-message : (m : Fields) (out : List ℕ) → 16 ≤ length (out ++ spelled (m ∷ [])) - length out
+unfolding spelling
+long-message m out =
+    let all : length (out ++ spelled (m ∷ [])) ≡ length out + length (spelled (m ∷ [])) = length-append out (spelled (m ∷ [])) in
+    let one : spelled (m ∷ []) ≡ header_spelling (header_of m) ++ m.payload = append-nil (header_spelling (header_of m) ++ m.payload) in
+    let parts : length (header_spelling (header_of m) ++ m.payload) ≡ length (header_spelling (header_of m)) + length m.payload = length-append (header_spelling (header_of m)) m.payload in
+    let same = ap length one in
+    let head : 16 ≤ length (header_spelling (header_of m)) = elim (length-header_spelling (header_of m)) [ inl e ↦ omega (arith, e) | inr e ↦ omega (arith, e) ] in
+    omega (arith, all, same, parts, head)
+
+-- the output is longer after one
+leaves-longer : (e new : ServerEnd) (u : Update) → Leaves e u new → length e.link.output + 16 ≤ length new.link.output
+leaves-longer e new u l =
+    let more = long-message u.message e.link.output in
+    let is : length new.link.output ≡ length (e.link.output ++ spelled (u.message ∷ [])) = ap (λ (x : ServerEnd). length x.link.output) l.leaves in
+    omega (arith, more, is)
+
+is-one : (b : Bool) → b ≡ true → (let n : ℕ = cond b 1 0 in n ≡ 1)
+is-one b on = ap (λ (x : Bool). let n : ℕ = cond x 1 0 in n) on
+
+pub pumped-less : (now next : ServerEnd) (was more : Bool) → was ≡ true → PumpsOne now (Ok more) next → output_limit - length next.link.output + cond more 1 0 < output_limit - length now.link.output + cond was 1 0
+pumped-less now next was true on p =
+    let a = leaves-longer now next p.0 p.1 in
+    let room = p.1.room in
+    let one = is-one was on in
+    omega (arith, a, room, one)
+pumped-less now next was false on p =
+    let same : length next.link.output ≡ length now.link.output = ap (λ (x : ServerEnd). length x.link.output) p.1 in
+    let one = is-one was on in
+    omega (arith, same, one)
+
+true-false : {A : Type 0} → true ≡ false → A
+true-false e = absurd cc
+
+pub pumped-more : (old now next : ServerEnd) (more : Bool) → (us : List Update) × FoldsTo Leaves old us now → IsOpen now.link → PumpsOne now (Ok more) next
+    → (record { sent : (us : List Update) × FoldsTo Leaves old us next; rests : more ≡ false → Rests next; live : IsOpen next.link })
+pumped-more old now next true sent live p = record {
+  sent = (sent.0 ++ p.0 ∷ [], folds-more old sent.0 now next p.0 sent.1 p.1);
+  rests = λ e. true-false e;
+  live = leaves-open now next p.0 p.1 live;
+}
+pumped-more old now next false sent live p = record {
+  sent = (sent.0, subst (λ (x : ServerEnd). FoldsTo Leaves old sent.0 x) (sym p.1) sent.1);
+  rests = λ e. subst Rests (sym p.1) p.0;
+  live = subst (λ (x : ServerEnd). IsOpen x.link) (sym p.1) live;
+}
+
+pub pumped-none : (old now next : ServerEnd) (d : AllocError) (r : Result (Unit {0}) AllocError) → IsErr r → (us : List Update) × FoldsTo Leaves old us now → PumpsOne now (Err d) next → PumpsEnd old r next
+pumped-none old now next d (Ok x) no_it sent p = absurd cc
+pumped-none old now next d (Err a) yes_it sent p =
+    (sent.0, now, sent.1, (λ rest. rest p.0.0 p.0.1 p.0.2), p.1, p.2 ∙ folds-channels old sent.0 now sent.1)
+
+-- ---- the message
+
+pub small-image : (t : DataType) (n : ℕ) → n ≤ element_limit → size_of_image t n ≤ payload_limit
+small-image t n few = by t.base t.form
+  where
+    by : (b : BaseType) (f : Form) → meta_size f + padding_size f b + n * element_size b ≤ 16777216
+    by base.String form.Plain = omega (arith, few)
+    by base.String form.Status = omega (arith, few)
+    by base.String form.Time = omega (arith, few)
+    by base.Int form.Plain = omega (arith, few)
+    by base.Int form.Status = omega (arith, few)
+    by base.Int form.Time = omega (arith, few)
+    by base.Float form.Plain = omega (arith, few)
+    by base.Float form.Status = omega (arith, few)
+    by base.Float form.Time = omega (arith, few)
+    by base.Enum form.Plain = omega (arith, few)
+    by base.Enum form.Status = omega (arith, few)
+    by base.Enum form.Time = omega (arith, few)
+    by base.Char form.Plain = omega (arith, few)
+    by base.Char form.Status = omega (arith, few)
+    by base.Char form.Time = omega (arith, few)
+    by base.Long form.Plain = omega (arith, few)
+    by base.Long form.Status = omega (arith, few)
+    by base.Long form.Time = omega (arith, few)
+    by base.Double form.Plain = omega (arith, few)
+    by base.Double form.Status = omega (arith, few)
+    by base.Double form.Time = omega (arith, few)
+
+module _ (w : Wanted) (v : Stored) (t : DataType) (numbered : type_number t ≡ w.data_type) where
+  pub some-update : (m : Fields) × ShowsTo w v m
+  some-update = (update_in w v t (shown v.value (update_count w v) t.base), (t, type-of-number t w.data_type numbered, refl))
+
+  pub shows-update : (f : Elements) (m : Fields) → shown v.value (update_count w v) t.base ≡ Ok f
+      → m ≡ update w.data_type (update_count w v) normal w.id (image t f v.meta) → ShowsTo w v m
+  shows-update f m is made = (t, type-of-number t w.data_type numbered, made ∙ sym (ap (λ (r : Result Elements Refusal). update_in w v t r) is))
+
+  pub fails-update : (why : Refusal) (m : Fields) → shown v.value (update_count w v) t.base ≡ Err why
+      → m ≡ update w.data_type (update_count w v) get_fail w.id (replicate (size_of_image t (update_count w v)) 0) → ShowsTo w v m
+  fails-update why m is made = (t, type-of-number t w.data_type numbered, made ∙ sym (ap (λ (r : Result Elements Refusal). update_in w v t r) is))
+
+-- why none was written
+pub fails-by : (w : Wanted) (v : Stored) (t : DataType) (numbered : type_number t ≡ w.data_type) (why : Refusal) (m : Fields) → w.data_type ≤ 20 → (why ≡ refusal.OutOfMemory → ⊥)
+    → ((20 < w.data_type) × (why ≡ refusal.BadType)) ⊎ ((x : DataType) × (type_number x ≡ w.data_type) × Fails (shown v.value (update_count w v) x.base) why)
+    → m ≡ update w.data_type (update_count w v) get_fail w.id (replicate (size_of_image t (update_count w v)) 0) → ShowsTo w v m
+fails-by w v t numbered why m typed memory (inl over) made = (let lt = over.0 in absurd (omega (arith, lt, typed)))
+fails-by w v t numbered why m typed memory (inr h) made = by h.2
+  where
+    one : h.0 ≡ t
+    one = some_is h.0 t (sym (type-of-number h.0 w.data_type h.1) ∙ type-of-number t w.data_type numbered)
+
+    by : Fails (shown v.value (update_count w v) h.0.base) why → ShowsTo w v m
+    by (inl is) = fails-update w v t numbered why m (subst (λ (x : DataType). shown v.value (update_count w v) x.base ≡ Err why) one is) made
+    by (inr lacks) = absurd (memory lacks.0)
+
+-- zero bytes alone
+pub all-zero : (old : List ℕ) (n k : ℕ) → old ≡ [] → k ≡ 0 → take n old ++ replicate (n - k) 0 ≡ replicate n 0
+all-zero old n k none zero_k = ap (λ (xs : List ℕ). take n xs ++ replicate (n - k) 0) none ∙ ap (λ (xs : List ℕ). xs ++ replicate (n - k) 0) (take-none n) ∙ ap (λ (j : ℕ). let zeros : List ℕ = replicate j 0 in zeros) (less-none n k zero_k)
+  where
+    take-none : (n : ℕ) → (let none : List ℕ = [] in take n none ≡ none)
+    take-none zero = refl
+    take-none (suc n) = refl
+
+    less-none : (n k : ℕ) → k ≡ 0 → n - k ≡ n
+    less-none n k is = omega (arith, is)

@@ -1,0 +1,108 @@
+-- What is due for a message on a channel, by what was found of its SID.
+use Rattle.std.proofs.Common.{◌≡◌, ℕ, inl, inr, List, [], ◌∷◌, Some, Result, Ok, Err, refl, sym, ap, ◌∙◌}
+use Rattle.std.specs.Prelude.{OnErr, OnOk, length, map, take}
+use Rattle.std.proofs.lemmas.List.{take_at}
+use Rattle.ca_text.proofs.Places.{At-one, some_is}
+use Rattle.ca_queue.specs.Keys.{is_among}
+use Rattle.ca_records.specs.Puts.{Record}
+use Rattle.ca_records.specs.Record.{RecordState}
+use Rattle.ca_wire.specs.Message.{spelled}
+use Rattle.ca_model.specs.Faults.{subscription_fault, type_of}
+use Rattle.ca_link.specs.Link.{LinkState, with_sent}
+use Rattle.ca_text.specs.Status.{bad_channel}
+use Rattle.ca_wire.specs.Fields.{Fields}
+use Rattle.ca_wire.specs.Messages.{error_reply, status_reply}
+use Rattle.ca_records.specs.Rules.{rights}
+use Rattle.ca_records.specs.Store.{HasAt, Store}
+use Rattle.ca_model.specs.Due.{Nothing, ReadDue, StrayDue, fault_of_event, key_in}
+use Rattle.ca_model.specs.Server.{ServerEnd, key_of}
+use Rattle.ca_server_circuit.specs.declared.seek.Seat.{Seat}
+use Rattle.ca_server_circuit.specs.Handling.{Reads, Replies, Subscribes, known, replied}
+use Rattle.ca_server_circuit.specs.Seeking.{IsServed, IsStray}
+use Rattle.ca_server_circuit.specs.Showing.{AnswersRead}
+use Rattle.ca_server_circuit.proofs.Known.{serves, stray}
+
+-- what holds of the value if the call went well
+pub ok-then : {T E P Q : Type 0} (r : Result T E) → (P → Q) → OnOk r P → OnOk r Q
+ok-then (Ok x) f p = f p
+ok-then (Err e) f p = tt
+
+-- the same for two facts
+pub ok-both : {T E P Q R : Type 0} (r : Result T E) → (P → Q → R) → OnOk r P → OnOk r Q → OnOk r R
+ok-both (Ok x) f p q = f p q
+ok-both (Err e) f p q = tt
+
+-- what holds anyway holds if the call was refused
+pub in-err : {T E P : Type 0} (r : Result T E) → P → OnErr r P
+in-err (Ok x) p = tt
+in-err (Err e) p = p
+
+-- an end whose link has these messages after the others
+pub relinked : (v e : ServerEnd) (link : LinkState) (ms : List Fields) → v ≡ e → link ≡ with_sent ms v.link → (let new : ServerEnd = record v { link = link } in new) ≡ replied ms e
+relinked v e link ms is sent =
+    ap (λ (l : LinkState). let new : ServerEnd = record v { link = l } in new) sent ∙ ap (λ (x : ServerEnd). replied ms x) is
+
+-- BADCHID is due
+pub stray-due : (port : ℕ) (s : Store) (e : ServerEnd) (m : Fields) (cid : ℕ) (reply : ℕ → Fields) → IsStray e m.p1 cid → StrayDue (known port s e) m reply (reply cid ∷ []) Nothing
+stray-due port s e m cid reply is = (cid, stray port s e m.p1 cid is, refl, refl)
+
+pub stray-read : (port : ℕ) (s : Store) (e new : ServerEnd) (m : Fields) (cid : ℕ) → IsStray e m.p1 cid → new ≡ replied (status_reply m bad_channel ∷ []) e → Replies (Reads (known port s e) m) e new
+stray-read port s e new m cid is done = record {
+  replies = status_reply m bad_channel ∷ [];
+  due = inr (stray-due port s e m cid (λ c. status_reply m bad_channel) is);
+  leaves = done;
+}
+
+pub served-read : (port : ℕ) (s : Store) (e new : ServerEnd) (m reply : Fields) (seat : Seat) (i : IsServed s e m.p1 seat) → AnswersRead i.r.state (rights s.rules e.peer.user e.peer.host i.channel.name) m reply → new ≡ replied (reply ∷ []) e → Replies (Reads (known port s e) m) e new
+served-read port s e new m reply seat i answers done = record {
+  replies = reply ∷ [];
+  due = inl (by answers);
+  leaves = done;
+}
+  where
+    by : AnswersRead i.r.state (rights s.rules e.peer.user e.peer.host i.channel.name) m reply → ReadDue (known port s e) m (reply ∷ []) Nothing
+    by (inl h) = (serves port s e m.p1 seat i, refl, inl (h.0, h.1, ap (λ (x : Fields). x ∷ []) h.2))
+    by (inr h) = (serves port s e m.p1 seat i, refl, inr (h.0, (h.1.0, h.1.1, h.1.2, h.1.3, ap (λ (x : Fields). x ∷ []) h.1.4)))
+
+-- the rights on the record of a channel
+pub right-is : (s : Store) (e v : ServerEnd) (sid : ℕ) (seat : Seat) (i : IsServed s e sid seat) (bits : ℕ) (user host name : List ℕ) (q : Record) (state : RecordState) → v ≡ e → user ≡ v.peer.user → host ≡ v.peer.host → HasAt s seat.place q → state ≡ q.state → name ≡ state.name → bits ≡ rights s.rules user host name → bits ≡ rights s.rules e.peer.user e.peer.host i.channel.name
+right-is s e v sid seat i bits user host name q state is u h at st n b =
+    let one : q ≡ i.r = some_is q i.r (At-one s.slots seat.place (Some q) (Some i.r) at i.at) in
+    let named : name ≡ i.channel.name = n ∙ ap (λ (x : RecordState). x.name) st ∙ ap (λ (x : Record). x.state.name) one ∙ i.named in
+    b
+    ∙ ap (λ (x : List ℕ). rights s.rules x host name) (u ∙ ap (λ (x : ServerEnd). x.peer.user) is)
+    ∙ ap (λ (x : List ℕ). rights s.rules e.peer.user x name) (h ∙ ap (λ (x : ServerEnd). x.peer.host) is)
+    ∙ ap (λ (x : List ℕ). rights s.rules e.peer.user e.peer.host x) named
+
+-- the record at the place of a channel is the one that it is served
+pub state-is : (s : Store) (e : ServerEnd) (sid : ℕ) (seat : Seat) (i : IsServed s e sid seat) (q : Record) (state : RecordState) → HasAt s seat.place q → state ≡ q.state → state ≡ i.r.state
+state-is s e sid seat i q state at st =
+    st ∙ ap (λ (x : Record). x.state) (some_is q i.r (At-one s.slots seat.place (Some q) (Some i.r) at i.at))
+
+-- what was queued first is taken back, and this goes out in its place
+pub undone : (v e : ServerEnd) (ms : List Fields) (n : ℕ) (cut last : LinkState) (reply : Fields) → v ≡ replied ms e → n ≡ length e.link.output → (let l : LinkState = record v.link { output = take n v.link.output } in cut ≡ l) → last ≡ with_sent (reply ∷ []) cut → (let new : ServerEnd = record v { link = last } in new) ≡ replied (reply ∷ []) e
+undone v e ms n cut last reply was all is sent =
+    let back : cut ≡ e.link =
+    is ∙ ap (λ (x : ServerEnd). let l : LinkState = record x.link { output = take n x.link.output } in l) was ∙ ap (λ (o : List ℕ). let l : LinkState = record e.link { output = o } in l) (take_at e.link.output (spelled ms) n (sym all)) in
+    let link : last ≡ with_sent (reply ∷ []) e.link = sent ∙ ap (λ (l : LinkState). with_sent (reply ∷ []) l) back in
+    ap (λ (x : ServerEnd). let new : ServerEnd = record x { link = last } in new) was ∙ ap (λ (l : LinkState). let new : ServerEnd = record e { link = l } in new) link
+
+-- EVENT_ADD
+pub stray-event : (port : ℕ) (s : Store) (e new : ServerEnd) (m : Fields) (cid : ℕ) → IsStray e m.p1 cid → new ≡ replied (error_reply cid bad_channel m ∷ []) e → Replies (Subscribes (known port s e) m) e new
+stray-event port s e new m cid is done = record {
+  replies = error_reply cid bad_channel m ∷ [];
+  due = inr (stray-due port s e m cid (λ c. error_reply c bad_channel m) is);
+  leaves = done;
+}
+
+pub refused-event : (port : ℕ) (s : Store) (e new : ServerEnd) (m : Fields) (seat : Seat) (i : IsServed s e m.p1 seat) (bits status : ℕ) → bits ≡ rights s.rules e.peer.user e.peer.host i.channel.name
+    → subscription_fault i.r.state bits (is_among (key_in m) (map key_of e.subscriptions)) (length (map key_of e.subscriptions)) m (type_of m.data_type) ≡ Some status
+    → new ≡ replied (error_reply seat.cid status m ∷ []) e → Replies (Subscribes (known port s e) m) e new
+refused-event port s e new m seat i bits status right fault done =
+    let same : fault_of_event (known port s e) m (serves port s e m.p1 seat i) ≡ subscription_fault i.r.state bits (is_among (key_in m) (map key_of e.subscriptions)) (length (map key_of e.subscriptions)) m (type_of m.data_type) =
+    ap (λ (n : ℕ). subscription_fault i.r.state n (is_among (key_in m) (map key_of e.subscriptions)) (length (map key_of e.subscriptions)) m (type_of m.data_type)) (sym right) in
+    record {
+      replies = error_reply i.channel.cid status m ∷ [];
+      due = inl (serves port s e m.p1 seat i, inl (status, same ∙ fault, refl, refl));
+      leaves = done ∙ ap (λ (cid : ℕ). replied (error_reply cid status m ∷ []) e) (sym i.cid);
+    }

@@ -1,0 +1,161 @@
+-- What a read of a record comes to.
+use Rattle.std.proofs.Common.{◌≡◌, ℕ, ◌<◌, ◌≤◌, ◌||◌, ◌⊎◌, inl, inr, Bool, true, false, not, nat_lt, [], ◌∷◌, length, Option, Some, None, Result, Ok, Err, refl, sym, ap, ◌∙◌, subst, arith}
+use Rattle.std.proofs.lemmas.Bool.{le-ltb, lt-ltb, ltb-false}
+use Rattle.ca_text.specs.declared.refusal.Refusal.{Refusal}
+use Rattle.ca_text.specs.declared.refusal.Refusal.TheVariants as refusal
+use Rattle.ca_text.proofs.Places.{some_is}
+use Rattle.ca_text.specs.Limits.{payload_limit}
+use Rattle.ca_text.specs.Status.{bad_count, bad_type, get_fail, no_convert, no_read_access}
+use Rattle.ca_dbr.specs.declared.data_type.DataType.{DataType}
+use Rattle.ca_dbr.specs.Conversion.{Fails}
+use Rattle.ca_dbr.specs.Elements.{Elements, IsValue, count_of}
+use Rattle.ca_dbr.specs.Image.{image}
+use Rattle.ca_dbr.specs.Shown.{shown}
+use Rattle.ca_dbr.specs.Types.{size_of_image, type_number}
+use Rattle.ca_dbr.proofs.OneReading.{length-image}
+use Rattle.ca_dbr.proofs.Shows.{shown-is}
+use Rattle.ca_records.specs.Faults.{first_fault, has_misfit, lacks_conversion}
+use Rattle.ca_records.specs.Record.{RecordState}
+use Rattle.ca_records.specs.Rules.{may_read}
+use Rattle.ca_wire.specs.Fields.{Fields}
+use Rattle.ca_wire.specs.Messages.{status_reply, value_reply}
+use Rattle.ca_model.specs.Faults.{read_count, read_fault, read_shown, too_many, type_of}
+use Rattle.ca_server_circuit.specs.declared.read.Asked.{Asked}
+use Rattle.ca_server_circuit.specs.Showing.{AnswersRead, IsInOrder, ShowsRead, status_for}
+use Rattle.ca_server_circuit.proofs.Types.{type-of-none, type-of-number}
+
+-- the faults of a read in order, by their tests
+abbrev faults : (forbidden many lacks misfit : Bool) → Option ℕ
+faults forbidden many lacks misfit = first_fault ((forbidden, no_read_access) ∷ (many, bad_count) ∷ (lacks, no_convert) ∷ (misfit, get_fail) ∷ [])
+
+module _ (r : RecordState) (rights : ℕ) (m : Fields) where
+  pub fault-type : 20 < m.data_type → read_fault r rights m (type_of m.data_type) ≡ Some bad_type
+  fault-type over = ap (λ (o : Option DataType). read_fault r rights m o) (type-of-none m.data_type over)
+
+  abbrev lacks : DataType → Bool
+  lacks t = lacks_conversion (read_shown r m t)
+
+  abbrev misfit : DataType → Bool
+  misfit t = has_misfit (read_shown r m t)
+
+  pub fault-right : (t : DataType) → type_of m.data_type ≡ Some t → may_read rights ≡ false → read_fault r rights m (type_of m.data_type) ≡ Some no_read_access
+  fault-right t typed no_right =
+      ap (λ (o : Option DataType). read_fault r rights m o) typed
+      ∙ ap (λ (b : Bool). faults (not b) (too_many r t (read_count r m)) (lacks t) (misfit t)) no_right
+
+  pub fault-count : (t : DataType) → type_of m.data_type ≡ Some t → may_read rights ≡ true → too_many r t (read_count r m) ≡ true → read_fault r rights m (type_of m.data_type) ≡ Some bad_count
+  fault-count t typed right many =
+      ap (λ (o : Option DataType). read_fault r rights m o) typed
+      ∙ ap (λ (b : Bool). faults (not b) (too_many r t (read_count r m)) (lacks t) (misfit t)) right
+      ∙ ap (λ (b : Bool). faults false b (lacks t) (misfit t)) many
+
+  -- with the right and not too many, what is shown decides
+  fault-shown : (t : DataType) → type_of m.data_type ≡ Some t → may_read rights ≡ true → too_many r t (read_count r m) ≡ false → (x : Result Elements Refusal) → read_shown r m t ≡ x → read_fault r rights m (type_of m.data_type) ≡ faults false false (lacks_conversion x) (has_misfit x)
+  fault-shown t typed right few x is =
+      ap (λ (o : Option DataType). read_fault r rights m o) typed
+      ∙ ap (λ (b : Bool). faults (not b) (too_many r t (read_count r m)) (lacks t) (misfit t)) right
+      ∙ ap (λ (b : Bool). faults false b (lacks t) (misfit t)) few
+      ∙ ap (λ (y : Result Elements Refusal). faults false false (lacks_conversion y) (has_misfit y)) is
+
+  refused-so : (why : Refusal) → faults false false (lacks_conversion (Err why)) (has_misfit (Err why)) ≡ Some (status_for why)
+  refused-so refusal.NoConvert = refl
+  refused-so refusal.OutOfMemory = refl
+  refused-so refusal.Misaligned = refl
+  refused-so refusal.TooLarge = refl
+  refused-so refusal.BadType = refl
+  refused-so refusal.Short = refl
+  refused-so refusal.OutOfRange = refl
+  refused-so refusal.BadText = refl
+  refused-so _ = refl
+
+  -- a read in order is answered by what it is shown
+  pub answers-shown : (a : Asked) (reply : Fields) → IsInOrder r m a → may_read rights ≡ true → ShowsRead r m reply → AnswersRead r rights m reply
+  answers-shown a reply order right shows = by shows.shows
+    where
+      same : order.t ≡ shows.t
+      same = some_is order.t shows.t (sym order.typed ∙ shows.typed)
+
+      few : too_many r shows.t (read_count r m) ≡ false
+      few = subst (λ (t : DataType). too_many r t (read_count r m) ≡ false) same order.few
+
+      by : (((e : Elements) × (read_shown r m shows.t ≡ Ok e) × (reply ≡ value_reply m (count_of e) (image shows.t e r.meta)))
+          ⊎ ((why : Refusal) × (read_shown r m shows.t ≡ Err why) × (reply ≡ status_reply m (status_for why)))) → AnswersRead r rights m reply
+      by (inl h) = inr (fault-shown shows.t shows.typed right few (Ok h.0) h.1, (shows.t, h.0, shows.typed, h.1, h.2))
+      by (inr h) = inl (status_for h.0, fault-shown shows.t shows.typed right few (Err h.0) h.1 ∙ refused-so h.0, h.2)
+
+  -- the first faults but for the elements
+  pub refused-answer : (reply : Fields) (status : ℕ) → read_fault r rights m (type_of m.data_type) ≡ Some status → reply ≡ status_reply m status → AnswersRead r rights m reply
+  refused-answer reply status fault is = inl (status, fault, is)
+
+  -- ---- what is too much
+
+  pub over-count : (t : DataType) (n : ℕ) → r.count < n → too_many r t n ≡ true
+  over-count t n over = ap (λ (b : Bool). b || nat_lt payload_limit (size_of_image t n)) (lt-ltb r.count n over)
+
+  or-true : (b : Bool) → (b || true) ≡ true
+  or-true true = refl
+  or-true false = refl
+
+  over-size : (t : DataType) (n : ℕ) → payload_limit < size_of_image t n → too_many r t n ≡ true
+  over-size t n over = ap (λ (b : Bool). nat_lt r.count n || b) (lt-ltb payload_limit (size_of_image t n) over) ∙ or-true (nat_lt r.count n)
+
+  pub not-many : (t : DataType) (n : ℕ) → n ≤ r.count → size_of_image t n ≤ payload_limit → too_many r t n ≡ false
+  not-many t n few small =
+      ap (λ (b : Bool). b || nat_lt payload_limit (size_of_image t n)) (le-ltb r.count n few) ∙ le-ltb payload_limit (size_of_image t n) small
+
+  pub fault-over : (t : DataType) (n : ℕ) → type_number t ≡ m.data_type → n ≡ read_count r m → may_read rights ≡ true → (r.count < n) ⊎ (payload_limit < size_of_image t n) → read_fault r rights m (type_of m.data_type) ≡ Some bad_count
+  fault-over t n numbered is right over =
+      fault-count t (type-of-number t m.data_type numbered) right (subst (λ (k : ℕ). too_many r t k ≡ true) is (by over))
+    where
+      by : (r.count < n) ⊎ (payload_limit < size_of_image t n) → too_many r t n ≡ true
+      by (inl h) = over-count t n h
+      by (inr h) = over-size t n h
+
+-- what an image has for bytes
+pub image-size : (r : RecordState) (m : Fields) (a : Asked) (t : DataType) (e : Elements) → IsInOrder r m a → type_number t ≡ m.data_type → shown r.value a.count t.base ≡ Ok e → IsValue e → (length (image t e r.meta) ≡ a.size) × (count_of e ≡ a.count)
+image-size r m a t e order numbered is valued =
+    let kind = shown-is r.value a.count t.base e is in
+    let same : order.t ≡ t = some_is order.t t (sym order.typed ∙ type-of-number t m.data_type numbered) in (
+      length-image t e r.meta (sym kind.0) valued ∙ ap (λ (n : ℕ). size_of_image t n) (kind.1 ∙ order.count) ∙ ap (λ (x : DataType). size_of_image x (read_count r m)) (sym same) ∙ sym order.size,
+      kind.1,
+    )
+
+-- a read that is in order is within the limit
+or-false : (a b : Bool) → (a || b) ≡ false → b ≡ false
+or-false true b h = absurd cc
+or-false false b h = h
+
+pub within-limit : (r : RecordState) (m : Fields) (a : Asked) → IsInOrder r m a → a.size ≤ payload_limit
+within-limit r m a order =
+    let few : nat_lt payload_limit (size_of_image order.t (read_count r m)) ≡ false = or-false (nat_lt r.count (read_count r m)) (nat_lt payload_limit (size_of_image order.t (read_count r m))) order.few in
+    let le : size_of_image order.t (read_count r m) ≤ payload_limit = ltb-false payload_limit (size_of_image order.t (read_count r m)) few in
+    let is : a.size ≡ size_of_image order.t (read_count r m) = order.size in
+    omega (arith, le, is)
+
+-- what was written shows the read
+pub shows-value : (r : RecordState) (m reply : Fields) (a : Asked) (t : DataType) (e : Elements) → IsInOrder r m a → type_number t ≡ m.data_type → shown r.value a.count t.base ≡ Ok e → reply ≡ value_reply m (count_of e) (image t e r.meta) → ShowsRead r m reply
+shows-value r m reply a t e order numbered is replies = record {
+  t = t;
+  typed = type-of-number t m.data_type numbered;
+  shows = inl (e, ap (λ (n : ℕ). shown r.value n t.base) (sym order.count) ∙ is, replies);
+}
+
+pub shows-refusal : (r : RecordState) (m reply : Fields) (a : Asked) (t : DataType) (why : Refusal) → IsInOrder r m a → type_number t ≡ m.data_type → shown r.value a.count t.base ≡ Err why → reply ≡ status_reply m (status_for why) → ShowsRead r m reply
+shows-refusal r m reply a t why order numbered is replies = record {
+  t = t;
+  typed = type-of-number t m.data_type numbered;
+  shows = inr (why, ap (λ (n : ℕ). shown r.value n t.base) (sym order.count) ∙ is, replies);
+}
+
+-- why nothing was written
+pub shows-fails : (r : RecordState) (m reply : Fields) (a : Asked) (why : Refusal) → IsInOrder r m a → (why ≡ refusal.OutOfMemory → ⊥) → reply ≡ status_reply m (status_for why)
+    → ((20 < m.data_type) × (why ≡ refusal.BadType)) ⊎ ((t : DataType) × (type_number t ≡ m.data_type) × Fails (shown r.value a.count t.base) why) → ShowsRead r m reply
+shows-fails r m reply a why order memory replies (inl bad) = absurd (none-typed order.t (sym (type-of-none m.data_type bad.0) ∙ order.typed))
+  where
+    none-typed : (t : DataType) → let none : Option DataType = None in none ≡ Some t → ⊥
+    none-typed t e = cc
+shows-fails r m reply a why order memory replies (inr h) = by h.2
+  where
+    by : Fails (shown r.value a.count h.0.base) why → ShowsRead r m reply
+    by (inl is) = shows-refusal r m reply a h.0 why order h.1 is replies
+    by (inr lacks) = absurd (memory lacks.0)

@@ -1,0 +1,69 @@
+use Rattle.std.proofs.Common.{◌≡◌, Bool, List, [], ◌∷◌, length, if◌then◌else◌, Some, ap, ◌∙◌, subst}
+use Rattle.ca_records.specs.declared.puts.Begun.TheVariants as begun
+use Rattle.ca_records.specs.Puts.{Record}
+use Rattle.ca_records.specs.Record.{RecordState}
+use Rattle.ca_records.specs.Store.{Becomes}
+use Rattle.ca_link.specs.Link.{with_sent}
+use Rattle.ca_wire.specs.Fields.{Fields}
+use Rattle.ca_wire.specs.Messages.{status_reply}
+use Rattle.ca_model.specs.Server.{ServerEnd}
+use Rattle.ca_server_circuit.specs.declared.step.Effect.TheVariants as effect
+use Rattle.ca_server_circuit.specs.Handling.{Puts, known, replied}
+use Rattle.ca_server_circuit.specs.Putting.{IsRefused, IsTaken}
+use Rattle.ca_server_circuit.proofs.Replying.{right-is, state-is, undone}
+use Rattle.ca_server_circuit.proofs.Taken.{one-record, put-applied, put-refused, put-waits, put_in, with-store}
+use Rattle.ca_server_circuit.proofs.end.End.put_on.Goals as goal
+
+pub returns-in-Applied-clause-ok : goal.returns-in-Applied-clause-ok
+returns-in-Applied-clause-ok c port =
+    let s = c.args.records.now in
+    let e = c.args.self.now in
+    let m = c.args.message.now in
+    let i = c.requires.served in
+    let bits = c.rights-rights.result in
+    let p = put_in c.args.circuit c.args.seat m in
+    let right = right-is c.args.records.now c.args.self.now _ m.p1 c.args.seat i c.rights-rights.result _ _ _ c.at.result.now _ c.self.view_is c.deref.ensures.value c.deref-2.ensures.value c.at.ensures.at c.state-state.ensures c.name.ensures c.rights-rights.ensures in
+    let slow = c.is_slow-is_slow.ensures ∙ ap (λ (x : RecordState). x.slow) (state-is s e m.p1 c.args.seat i c.at.result.now c.state-state.result.now c.at.ensures.at c.state-state.ensures) in
+    let done = c.in_ok-acknowledge.ensures.ok ∙ ap (λ (b : Bool). let none : List Fields = [] in replied (if b then none else status_reply m 1 ∷ []) e) slow in
+    let w0 = rw c.in-Applied.is at c.in-Ok.ensures.ok in
+    let w = rw c.put_of.ensures at w0 in
+    let one : w.0 ≡ i.r = one-record s c.args.seat.place w.0 i.r w.3.at i.at in
+    let taken = subst (λ (r : Record). IsTaken s r bits (Some p) m (begun.Applied c.in-Applied.field-0) w.1) one w.2 in
+    let becomes = subst (λ (r : Record). Becomes s c.args.seat.place r w.1 c.begin.new.records) one w.3 in
+    put-applied port s c.begin.new.records c.args.circuit e c.acknowledge.new.self m c.args.seat i bits c.in-Applied.field-0 w.1 right c.requires.command taken becomes done
+
+pub returns-in-Waiting-clause-ok : goal.returns-in-Waiting-clause-ok
+returns-in-Waiting-clause-ok c port =
+    let s = c.args.records.now in
+    let e = c.args.self.now in
+    let m = c.args.message.now in
+    let i = c.requires.served in
+    let bits = c.rights-rights.result in
+    let p = put_in c.args.circuit c.args.seat m in
+    let right = right-is c.args.records.now c.args.self.now _ m.p1 c.args.seat i c.rights-rights.result _ _ _ c.at.result.now _ c.self.view_is c.deref.ensures.value c.deref-2.ensures.value c.at.ensures.at c.state-state.ensures c.name.ensures c.rights-rights.ensures in
+    let slow = c.is_slow-is_slow.ensures ∙ ap (λ (x : RecordState). x.slow) (state-is s e m.p1 c.args.seat i c.at.result.now c.state-state.result.now c.at.ensures.at c.state-state.ensures) in
+    let done = c.in_ok-acknowledge.ensures.ok ∙ ap (λ (b : Bool). let none : List Fields = [] in replied (if b then none else status_reply m 1 ∷ []) e) slow in
+    let w0 = rw c.in-Waiting.is at c.in-Ok.ensures.ok in
+    let w = rw c.put_of.ensures at w0 in
+    let one : w.0 ≡ i.r = one-record s c.args.seat.place w.0 i.r w.3.at i.at in
+    let taken = subst (λ (r : Record). IsTaken s r bits (Some p) m begun.Waiting w.1) one w.2 in
+    let becomes = subst (λ (r : Record). Becomes s c.args.seat.place r w.1 c.begin.new.records) one w.3 in
+    put-waits port s c.begin.new.records c.args.circuit e c.acknowledge.new.self m c.args.seat i bits w.1 right c.requires.command taken becomes done
+
+pub returns-in_ok-send-in-Refused-clause-ok : goal.returns-in_ok-send-in-Refused-clause-ok
+returns-in_ok-send-in-Refused-clause-ok c port =
+    let s = c.args.records.now in
+    let e = c.args.self.now in
+    let m = c.args.message.now in
+    let i = c.requires.served in
+    let bits = c.rights-rights.result in
+    let p = put_in c.args.circuit c.args.seat m in
+    let right = right-is c.args.records.now c.args.self.now _ m.p1 c.args.seat i c.rights-rights.result _ _ _ c.at.result.now _ c.self.view_is c.deref.ensures.value c.deref-2.ensures.value c.at.ensures.at c.state-state.ensures c.name.ensures c.rights-rights.ensures in
+    let w = rw c.in-Refused.is at c.in-Ok.ensures.ok in
+    let one : w.0 ≡ i.r = one-record s c.args.seat.place w.0 i.r w.1 i.at in
+    let refused = subst (λ (r : Record). IsRefused r bits (Some p) m c.in-Refused.status.number) one w.2 in
+    let all = ap length (c.out_bytes-waited.ensures ∙ ap (λ (x : ServerEnd). x.link.output) c.self.view_is) in
+    let sent = c.in_ok-send-in-Refused.ensures.ok ∙ ap (λ (x : Fields). with_sent (x ∷ []) c.truncate-in-Refused.new.self) c.status_reply.ensures in
+    let done = undone _ e _ _ c.truncate-in-Refused.new.self c.send-in-Refused.new.link (status_reply m c.in-Refused.status.number) (c.self-2.view_is ∙ c.in_ok-acknowledge.ensures.ok) all c.truncate-in-Refused.ensures sent in
+    with-store (Puts (known port s e) m) s c.begin.new.records c.args.circuit e _ m effect.Quiet w.3
+    (put-refused port s c.args.circuit e _ m c.args.seat i bits c.in-Refused.status.number p right c.requires.command refused done)

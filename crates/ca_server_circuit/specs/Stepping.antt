@@ -1,0 +1,60 @@
+-- Working: what one step of an open end comes to.
+use Rattle.std.specs.Prelude.{ℕ, ◌≡◌, ◌≢◌, ◌<◌, ◌≤◌, ◌⊎◌, List, [], length}
+use Rattle.ca_arena.specs.declared.handle.Handle.{Handle}
+use Rattle.ca_dbr.specs.Octets.{AreBytes}
+use Rattle.ca_link.specs.Link.{TakesFirst, with_rest}
+use Rattle.ca_records.specs.Store.{Store}
+use Rattle.ca_text.specs.declared.refusal.Refusal.{Refusal}
+use Rattle.ca_text.specs.declared.refusal.Refusal.TheVariants as refusal
+use Rattle.ca_text.specs.Limits.{output_limit}
+use Rattle.ca_wire.specs.Fields.{Fields}
+use Rattle.ca_wire.specs.Stream.{BadAt, NoneBegins, NotBad}
+use Rattle.ca_model.specs.Due.{Due}
+use Rattle.ca_model.specs.Ends.{Why}
+use Rattle.ca_model.specs.Ends as why
+use Rattle.ca_model.specs.Server.{ServerEnd}
+use Rattle.ca_server_circuit.specs.declared.cause.Cause.{Cause}
+use Rattle.ca_server_circuit.specs.declared.cause.Cause.TheVariants as cause
+use Rattle.ca_server_circuit.specs.declared.step.EndStep.{EndStep}
+use Rattle.ca_server_circuit.specs.declared.step.EndStep.TheVariants.{Breaks, Handled, NeedBytes, OutputFull}
+use Rattle.ca_server_circuit.specs.Handling.{AllStay, Does, MayLack, known}
+
+-- the cause, as the statement names it
+abbrev pub why_is : Cause → Why
+why_is cause.OutOfMemory = why.OutOfMemory
+why_is cause.Misaligned = why.Misaligned
+why_is cause.TooLarge = why.TooLarge
+why_is cause.Cut = why.Cut
+
+-- the cause for which an end is closed if its link refuses to read
+abbrev pub cause_for : Refusal → Cause
+cause_for refusal.Misaligned = cause.Misaligned
+cause_for refusal.TooLarge = cause.TooLarge
+cause_for _ = cause.OutOfMemory
+
+-- an end that can take its first message, and what is left to be read then
+pub record Takes (e : ServerEnd) : Type 0 where
+  pub room : length e.link.output < output_limit
+  pub m : Fields
+  pub rest : List ℕ
+  pub takes : TakesFirst e.link m rest
+
+-- the end without its first message
+abbrev pub after_first : {e : ServerEnd} → Takes e → ServerEnd
+after_first {e} t = record e { link = with_rest t.rest e.link }
+
+-- Why an end breaks: out of memory for its first message, or at a bad header.
+abbrev pub BreaksBy : (port : ℕ) → Store → ServerEnd → Cause → Type 0
+BreaksBy port s e cause.OutOfMemory = (t : Takes e) × AreBytes e.link.input.bytes × ((t.m.payload ≢ []) ⊎ MayLack (known port s (after_first t)) t.m)
+BreaksBy port s e cause.Misaligned = (length e.link.output < output_limit) × BadAt e.link.input.bytes refusal.Misaligned
+BreaksBy port s e cause.TooLarge = (length e.link.output < output_limit) × BadAt e.link.input.bytes refusal.TooLarge
+BreaksBy port s e cause.Cut = ⊥
+
+-- One step of an open end on this circuit: what it did, and left. An end that breaks is to be closed, with what waited before.
+abbrev pub EndSteps : (port : ℕ) → Handle → ServerEnd → Store → EndStep → ServerEnd → Store → Type 0
+EndSteps port h e s OutputFull new t = (output_limit ≤ length e.link.output) × (new ≡ e) × (t ≡ s)
+EndSteps port h e s NeedBytes new t =
+    (length e.link.output < output_limit) × NoneBegins e.link.input.bytes × NotBad e.link.input.bytes × (new ≡ e) × (t ≡ s)
+EndSteps port h e s (Handled did) new t =
+    (x : Takes e) × Does (Due (known port s (after_first x)) x.m) s h (after_first x) x.m did t new
+EndSteps port h e s (Breaks c) new t = BreaksBy port s e c × (new.link.output ≡ e.link.output) × AllStay e.channels new.channels × (t ≡ s)

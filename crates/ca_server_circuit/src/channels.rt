@@ -1,0 +1,142 @@
+ghost use Rattle.std.specs.Prelude.{◌≡◌, ◌<◌, ◌≤◌, ◌↔◌, length, [], IsTrue, IfOk, OnErr, false, is_some, option_map};
+ghost use Rattle.ca_text.specs.Limits.{arena_slots};
+ghost use Rattle.ca_arena.specs.Arena.{place_at};
+ghost use Rattle.ca_ids.specs.Table.{MayGive, by_wire, held_at, is_full, under, with_changed, with_held};
+ghost use Rattle.ca_server_circuit.specs.Cids.{UsesCid};
+ghost use Rattle.ca_server_circuit.specs.Clearing.{without_sid};
+ghost use Rattle.ca_server_circuit.specs.Removing.{without_record};
+
+use crate::channel::Channel;
+use ca_arena::Handle;
+use ca_ids::{HeldTable, WireId};
+use ca_wire::{Cid, Sid};
+use std::alloc::{AllocError, Global};
+use std::collections::HashSet;
+use std::marker::Model;
+
+/// The open channels of a circuit, by their SIDs, each of which is the wire id of its channel's handle.
+#[derive(Drop)]
+pub(crate) struct Channels {
+    table: HeldTable<Channel>,
+    // The CIDs in use.
+    cids: HashSet<u32>,
+}
+
+impl Model for Channels {
+    ghost use Rattle.ca_ids.specs.Table.{Table};
+    ghost use Rattle.ca_model.specs.Server.{OpenChannel};
+
+    ghost Value = { Table OpenChannel };
+
+    ghost use Rattle.ca_server_circuit.specs.Cids.{IsIndexed};
+
+    ghost view = { λ c. c.table };
+
+    ghost invariant = { λ c. IsIndexed c.table c.cids };
+}
+
+impl Channels {
+    // None. It does not allocate yet.
+    pub(crate) fn new(alloc: Global) -> Channels
+        ensures { result ≡ [] }
+    {
+        Channels {
+            table: HeldTable::new(alloc),
+            cids: HashSet::new(alloc),
+        }
+    }
+
+    // Whether no SID may be given.
+    pub(crate) fn is_full(&self) -> bool
+        ensures { result ≡ is_full self.now }
+    {
+        self.table.is_full()
+    }
+
+    // Whether a channel has this CID.
+    pub(crate) fn has_cid(&self, cid: Cid) -> bool
+        ensures tells { IsTrue result ↔ UsesCid self.now cid }
+        ensures limit { length self.now ≤ arena_slots }
+    {
+        self.cids.contains(&cid.number())
+    }
+
+    // The channel of this SID.
+    pub(crate) fn by_sid(&self, sid: Sid) -> Option<(Handle, &Channel)>
+        ensures found { option_map (λ e. (e.0, e.1.now)) result ≡ by_wire self.now sid }
+        ensures limit { length self.now ≤ arena_slots }
+    {
+        self.table.by_wire(WireId::new(sid.number()))
+    }
+
+    // There are no more than SIDs have indices.
+    pub(crate) fn know(&self)
+        ensures { length self.now ≤ arena_slots }
+    {
+        let _ = &self.table;
+    }
+
+    // How many indices were given so far.
+    pub(crate) fn places(&self) -> usize
+        ensures { result ≡ length self.now }
+    {
+        self.table.places()
+    }
+
+    // Whether a channel is open under this handle.
+    pub(crate) fn has(&self, channel: Handle) -> bool
+        ensures { result ≡ is_some (under self.now channel) }
+    {
+        self.table.by_handle(channel).is_some()
+    }
+
+    // The channel of this index, with its handle.
+    pub(crate) fn at(&self, index: usize) -> Option<(Handle, &Channel)>
+        requires { index < length self.now }
+        ensures { option_map (λ e. (e.0, e.1.now)) result
+            ≡ held_at index (place_at self.now index) }
+    {
+        self.table.at(index)
+    }
+
+    // Opens a channel, and says under which handle. Without memory the channels are as they were.
+    pub(crate) fn open(&mut self, channel: Channel) -> Result<Handle, AllocError>
+        requires room { is_full self.old ≡ false }
+        requires new { UsesCid self.old channel.cid → ⊥ }
+        ensures ok { IfOk result (λ h.
+            MayGive self.old h × (self.new ≡ with_held h channel self.old)) }
+        ensures limit { length self.old ≤ arena_slots }
+        ensures err { OnErr result (self.new ≡ self.old) }
+    {
+        let cid = channel.cid().number();
+        self.cids.insert(cid)?;
+        match self.table.open(channel) {
+            Ok(handle) => Ok(handle),
+            Err(_) => {
+                self.cids.remove(&cid);
+                Err(AllocError)
+            }
+        }
+    }
+
+    // Closes the channel of this SID, if there is one: its SID and its CID are free.
+    pub(crate) fn close(&mut self, sid: Sid)
+        ensures { self.new ≡ without_sid sid self.old }
+    {
+        let Some((handle, channel)) = self.table.by_wire(WireId::new(sid.number())) else {
+            return;
+        };
+        self.cids.remove(&channel.cid().number());
+        let _ = self.table.free(handle);
+    }
+
+    // The record of the channel under this handle was removed. Its SID and its CID are in use still.
+    pub(crate) fn retire(&mut self, channel: Handle)
+        ensures { self.new ≡ with_changed without_record channel self.old }
+    {
+        let Some(found) = self.table.by_handle_mut(channel) else {
+            return;
+        };
+        found.retire();
+    }
+}

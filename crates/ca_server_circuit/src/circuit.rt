@@ -1,0 +1,251 @@
+ghost use Rattle.std.specs.Prelude.{◌≡◌, ◌≤◌, IfOk, Some, length, option_map};
+ghost use Rattle.ca_model.specs.Server.{new_end};
+ghost use Rattle.ca_model.specs.Server as server;
+ghost use Rattle.ca_model.specs.ServerSteps.{output_of};
+ghost use Rattle.ca_records.specs.Store.{IsThere, records_of};
+ghost use Rattle.ca_server_circuit.specs.Circuits.{CircuitIsSound, GivesAt, IsLive, SendsAt, is_open, watches};
+ghost use Rattle.ca_server_circuit.specs.Ending.{EndsAt, IsLeft};
+ghost use Rattle.ca_server_circuit.specs.Finishing.{RepliesAt};
+ghost use Rattle.ca_server_circuit.specs.NextPut.{IsPutAt};
+ghost use Rattle.ca_server_circuit.specs.Posting.{PostsAt};
+ghost use Rattle.ca_server_circuit.specs.Pumping.{PumpsAt};
+ghost use Rattle.ca_server_circuit.specs.Removing.{LosesAt, MayLose};
+ghost use Rattle.ca_server_circuit.specs.Serving.{CircuitSteps};
+ghost use Rattle.ca_server_circuit.specs.Stepping.{why_is};
+
+use crate::cause::Cause;
+use crate::end::End;
+use crate::step::EndStep;
+use ca_arena::Handle;
+use ca_records::{Put, ServedRecords};
+use ca_text::Refusal;
+use ca_wire::Pipe;
+use std::alloc::{AllocError, Global};
+use std::marker::Model;
+
+/// A circuit of a server.
+#[derive(Drop)]
+pub struct Circuit {
+    state: State,
+}
+
+// Its end is open, or ended in another call than a step, and left these bytes. A step reports that once.
+#[derive(Drop)]
+enum State {
+    Open(End),
+    Ended(Cause, Pipe),
+}
+
+impl Model for Circuit {
+    ghost use Rattle.ca_model.specs.Server.{ServerCircuit};
+
+    ghost Value = { ServerCircuit };
+
+    ghost use Rattle.ca_server_circuit.specs.Circuits.{circuit_of};
+
+    ghost view = { λ c. circuit_of c.state };
+}
+
+impl Circuit {
+    /// One that was accepted at this moment. It makes room for the queues of its end.
+    pub fn new(alloc: Global, now: u64) -> Result<Circuit, AllocError>
+        ensures { IfOk result (λ c. c ≡ server.Open (new_end now)) }
+    {
+        let end = End::new(alloc, now)?;
+        Ok(Circuit {
+            state: State::Open(end),
+        })
+    }
+
+    /// Takes bytes that came at this moment. Refused as CircuitClosed if its end is not open, then as OutOfMemory.
+    pub fn give(&mut self, now: u64, bytes: &[u8]) -> Result<(), Refusal>
+        requires { IsLive self.old }
+        ensures { GivesAt now bytes.now self.old result self.new }
+    {
+        match &mut self.state {
+            State::Open(end) => end.link.give(now, bytes),
+            State::Ended(_, _) => Err(Refusal::CircuitClosed),
+        }
+    }
+
+    /// The bytes that wait to be sent: none if its end is not open.
+    pub fn out_bytes(&self) -> &[u8]
+        ensures { result.now ≡ output_of (Some self.now) }
+    {
+        match &self.state {
+            State::Open(end) => end.link.out_bytes(),
+            State::Ended(_, _) => &[],
+        }
+    }
+
+    /// One step of its end, which has ended if it broke. None if it had ended.
+    pub fn step(
+        &mut self,
+        port: u16,
+        circuit: Handle,
+        records: &mut ServedRecords,
+    ) -> Option<EndStep>
+        requires { CircuitIsSound (records_of records.old) circuit self.old }
+        ensures { CircuitSteps port circuit self.old records.old result self.new records.new }
+    {
+        match &mut self.state {
+            State::Open(end) => {
+                let did = end.step(port, circuit, records);
+                end.know();
+                match did {
+                    EndStep::Handled(effect) => Some(EndStep::Handled(effect)),
+                    EndStep::NeedBytes => Some(EndStep::NeedBytes),
+                    EndStep::OutputFull => Some(EndStep::OutputFull),
+                    EndStep::Breaks(cause) => {
+                        let left = end.leave(circuit, records);
+                        self.state = State::Ended(cause, left);
+                        Some(EndStep::Breaks(cause))
+                    }
+                }
+            }
+            State::Ended(_, _) => None,
+        }
+    }
+
+    /// The reply of a put that is finished, if its channel is open. The end has ended if there is no memory for it.
+    pub fn reply(&mut self, put: Put, records: &mut ServedRecords)
+        requires { CircuitIsSound (records_of records.old) put.circuit self.old }
+        ensures { RepliesAt put self.old records.old self.new records.new }
+    {
+        match &mut self.state {
+            State::Open(end) => {
+                if !end.channels.has(put.channel) {
+                    return;
+                }
+                match end.finish(put) {
+                    Ok(()) => {}
+                    Err(_) => {
+                        let left = end.leave(put.circuit, records);
+                        self.state = State::Ended(Cause::OutOfMemory, left);
+                    }
+                }
+            }
+            State::Ended(_, _) => {}
+        }
+    }
+
+    /// A post to the record at this place: the subscriptions of its end that it concerns get an update. The end has ended if there is no
+    /// memory for one.
+    pub fn post(&mut self, circuit: Handle, place: usize, mask: u16, records: &mut ServedRecords)
+        requires there { IsThere records.old place }
+        requires sound { CircuitIsSound (records_of records.old) circuit self.old }
+        ensures { PostsAt circuit place mask self.old records.old self.new records.new }
+    {
+        match &mut self.state {
+            State::Open(end) => match end.post(records.at(place).state(), mask) {
+                Ok(()) => end.know(),
+                Err(_) => {
+                    let left = end.leave(circuit, records);
+                    self.state = State::Ended(Cause::OutOfMemory, left);
+                }
+            },
+            State::Ended(_, _) => {}
+        }
+    }
+
+    /// Updates leave the queues of its end until none may. The end has ended if there is no memory for the next.
+    pub fn pump(&mut self, circuit: Handle, records: &mut ServedRecords)
+        requires { CircuitIsSound (records_of records.old) circuit self.old }
+        ensures { PumpsAt circuit self.old records.old self.new records.new }
+    {
+        match &mut self.state {
+            State::Open(end) => match end.pump() {
+                Ok(()) => end.know(),
+                Err(_) => {
+                    let left = end.leave(circuit, records);
+                    self.state = State::Ended(Cause::OutOfMemory, left);
+                }
+            },
+            State::Ended(_, _) => {}
+        }
+    }
+
+    /// The record of this name was removed: each channel of its end to it gets a SERVER_DISCONN, loses its subscriptions, and is retired. The
+    /// end has ended if there is no memory for a SERVER_DISCONN.
+    pub fn lose(&mut self, circuit: Handle, name: &[u8], records: &mut ServedRecords)
+        requires { MayLose (records_of records.old) circuit self.old }
+        ensures { LosesAt circuit name.now self.old records.old self.new records.new }
+    {
+        match &mut self.state {
+            State::Open(end) => match end.lose(name) {
+                Ok(()) => end.know(),
+                Err(_) => {
+                    let left = end.leave(circuit, records);
+                    self.state = State::Ended(Cause::OutOfMemory, left);
+                }
+            },
+            State::Ended(_, _) => {}
+        }
+    }
+
+    /// Why its end has ended, and what it left. One that is open is cut.
+    pub fn into_left(self) -> (Cause, Pipe)
+        ensures { IsLeft self result.0 result.1 }
+    {
+        match self.state {
+            State::Open(end) => (Cause::Cut, end.link.into_left()),
+            State::Ended(cause, left) => (cause, left),
+        }
+    }
+
+    /// Its end ends for this cause, if it is open: its puts that wait are taken out of the records, and what waits to be sent is left.
+    /// It does not allocate.
+    pub fn end(&mut self, circuit: Handle, cause: Cause, records: &mut ServedRecords)
+        requires { CircuitIsSound (records_of records.old) circuit self.old }
+        ensures { EndsAt circuit self.old records.old (why_is cause) self.new records.new }
+    {
+        match &mut self.state {
+            State::Open(end) => {
+                let left = end.leave(circuit, records);
+                self.state = State::Ended(cause, left);
+            }
+            State::Ended(_, _) => {}
+        }
+    }
+
+    /// The first n of the bytes that wait were handed over.
+    pub fn sent(&mut self, n: usize)
+        requires { n ≤ length (output_of (Some self.old)) }
+        ensures { SendsAt n self.old self.new }
+    {
+        match &mut self.state {
+            State::Open(end) => end.link.sent(n),
+            State::Ended(_, _) => {}
+        }
+    }
+
+    /// Whether its end is open.
+    pub fn is_open(&self) -> bool
+        ensures { result ≡ is_open (Some self.now) }
+    {
+        match &self.state {
+            State::Open(_) => true,
+            State::Ended(_, _) => false,
+        }
+    }
+
+    /// Whether its end is open, and has a subscription on the record of this name.
+    pub fn watches(&self, name: &[u8]) -> bool
+        ensures { result ≡ watches name.now self.now }
+    {
+        match &self.state {
+            State::Open(end) => end.subscriptions.watches(name),
+            State::Ended(_, _) => false,
+        }
+    }
+
+    /// The name of the record to which the next message puts with notification: none if its end is not open.
+    pub fn next_put(&self) -> Option<&[u8]>
+        ensures { IsPutAt self.now (option_map (λ t. t.now) result) }
+    {
+        match &self.state {
+            State::Open(end) => end.next_put(),
+            State::Ended(_, _) => None,
+        }
+    }
+}

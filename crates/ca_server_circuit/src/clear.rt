@@ -1,0 +1,59 @@
+ghost use Rattle.std.specs.Prelude.{◌≡◌, ◌==◌, ◌&&◌, OnOk, OnErr, [], ◌∷◌};
+ghost use Rattle.ca_ids.specs.Table.{same_handle};
+ghost use Rattle.ca_ids.specs.Wire.{wire_of};
+ghost use Rattle.ca_link.specs.Calls.{IsOpen};
+ghost use Rattle.ca_records.specs.Puts.{withdrawn};
+ghost use Rattle.ca_records.specs.Store.{records_of};
+ghost use Rattle.ca_wire.specs.Messages.{cleared_reply};
+ghost use Rattle.ca_model.specs.ServerSteps.{without_channel};
+ghost use Rattle.ca_server_circuit.specs.Clearing.{ArePuts, Withdraws};
+ghost use Rattle.ca_server_circuit.specs.Handling.{AreServed, replied};
+
+use crate::end::{End, send};
+use crate::seek::Sought;
+use ca_arena::Handle;
+use ca_records::ServedRecords;
+use ca_wire::{Message, Sid, cleared_reply};
+use std::alloc::AllocError;
+
+impl End {
+    /// CLEAR_CHANNEL on this circuit: always answered, and the SID alone decides what is cleared. The puts of the channel that wait are
+    /// never applied.
+    pub(crate) fn clear(
+        &mut self,
+        circuit: Handle,
+        records: &mut ServedRecords,
+        message: &Message,
+    ) -> Result<(), AllocError>
+        requires open { IsOpen self.old.link }
+        requires served { AreServed (records_of records.old) self.old.channels }
+        requires puts { ArePuts circuit (records_of records.old) self.old.channels }
+        ensures ok { OnOk result (self.new
+            ≡ replied (cleared_reply message.now ∷ []) (without_channel message.now.p1 self.old)) }
+        ensures records { OnOk result (Withdraws circuit message.now.p1 records.old records.new) }
+        ensures err { OnErr result (records.new ≡ records.old) }
+        ensures output { OnErr result (self.new.link.output ≡ self.old.link.output) }
+        ensures channels { OnErr result (self.new.channels ≡ self.old.channels) }
+    {
+        send(&mut self.link, &cleared_reply(self.alloc, message))?;
+        let sid = message.channel_ids().sid;
+        self.withdraw(circuit, records, sid);
+        self.subscriptions.clear(sid);
+        self.channels.close(sid);
+        Ok(())
+    }
+
+    /// Takes the puts of this SID that wait out of the records.
+    fn withdraw(&self, circuit: Handle, records: &mut ServedRecords, sid: Sid)
+        requires served { AreServed (records_of records.old) self.now.channels }
+        requires puts { ArePuts circuit (records_of records.old) self.now.channels }
+        ensures { Withdraws circuit sid records.old records.new }
+    {
+        match self.seek(records, sid) {
+            Sought::Served(seat) => {
+                records.withdraw(seat.place, circuit, Some(seat.channel));
+            }
+            Sought::Stray(_) => {}
+        }
+    }
+}

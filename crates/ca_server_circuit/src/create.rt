@@ -1,0 +1,91 @@
+ghost use Rattle.std.specs.Prelude.{ℕ, ◌≡◌, OnErr, OnOk, [], ◌∷◌, false};
+ghost use Rattle.ca_ids.specs.Table.{is_full};
+ghost use Rattle.ca_link.specs.Calls.{IsOpen};
+ghost use Rattle.ca_records.specs.Store.{Finds};
+ghost use Rattle.ca_wire.specs.Messages.{failed_reply, text_in};
+ghost use Rattle.ca_server_circuit.specs.Cids.{UsesCid};
+ghost use Rattle.ca_server_circuit.specs.Creating.{Creation, IsCreation};
+ghost use Rattle.ca_server_circuit.specs.Handling.{AllStay, replied};
+
+use crate::channel::Channel;
+use crate::end::{End, send};
+use ca_ids::WireId;
+use ca_records::ServedRecords;
+use ca_wire::{Message, Sid, created_reply, failed_reply, rights_reply};
+use std::alloc::AllocError;
+
+impl End {
+    /// CREATE_CHAN: a channel to the record of this name, unless the CID is in use or no SID may be given.
+    pub(crate) fn create(
+        &mut self,
+        records: &ServedRecords,
+        message: &Message,
+    ) -> Result<(), AllocError>
+        requires { IsOpen self.old.link }
+        ensures ok { OnOk result ((port : ℕ)
+            → Creation port records.now self.old message.now self.new) }
+        ensures output { OnErr result (self.new.link.output ≡ self.old.link.output) }
+        ensures channels { OnErr result (AllStay self.old.channels self.new.channels) }
+    {
+        let Some(place) = records.find(message.text()) else {
+            return self.refuse_channel(message);
+        };
+        if self.channels.has_cid(message.channel_cid()) {
+            return self.refuse_channel(message);
+        }
+        if self.channels.is_full() {
+            return self.refuse_channel(message);
+        }
+        self.open_channel(records, place, message)
+    }
+
+    /// CREATE_CH_FAIL.
+    fn refuse_channel(&mut self, message: &Message) -> Result<(), AllocError>
+        requires { IsOpen self.old.link }
+        ensures ok { OnOk result (self.new ≡ replied (failed_reply message.now ∷ []) self.old) }
+        ensures output { OnErr result (self.new.link.output ≡ self.old.link.output) }
+        ensures channels { OnErr result (self.new.channels ≡ self.old.channels) }
+    {
+        let reply = failed_reply(self.alloc, message);
+        send(&mut self.link, &reply)?;
+        Ok(())
+    }
+
+    /// Opens a channel to the record at this place: ACCESS_RIGHTS goes before the reply, and is taken back if there is no memory for that.
+    fn open_channel(
+        &mut self,
+        records: &ServedRecords,
+        place: usize,
+        message: &Message,
+    ) -> Result<(), AllocError>
+        requires open { IsOpen self.old.link }
+        requires found { Finds records.now (text_in message.now.payload) place }
+        requires room { is_full self.old.channels ≡ false }
+        requires new { UsesCid self.old.channels message.now.p1 → ⊥ }
+        ensures ok { OnOk result (IsCreation records.now self.old message.now self.new) }
+        ensures output { OnErr result (self.new.link.output ≡ self.old.link.output) }
+        ensures channels { OnErr result (AllStay self.old.channels self.new.channels) }
+    {
+        let served = records.at(place);
+        let state = served.state();
+        let rights = records.rights(&self.user, &self.host, state.name());
+        let name = Vec::from_slice(self.alloc, state.name())?;
+        let channel = Channel::new(message.channel_cid(), name, place);
+        let handle = self.channels.open(channel)?;
+        let sid = Sid::new(WireId::of(handle).number());
+        let data_type = state.value().base_type().number();
+        let waited = self.link.out_bytes().len();
+        send(&mut self.link, &rights_reply(self.alloc, message, rights))?;
+        let reply = created_reply(self.alloc, message, data_type, state.count(), sid);
+        match send(&mut self.link, &reply) {
+            Ok(()) => {
+                self.settled = true;
+                Ok(())
+            }
+            Err(error) => {
+                self.link.truncate(waited);
+                Err(error)
+            }
+        }
+    }
+}

@@ -1,0 +1,23 @@
+ghost use Rattle.std.specs.Prelude.{◌≡◌, OnErr, OnOk, [], ◌∷◌};
+ghost use Rattle.ca_text.specs.declared.command.Command.TheVariants.{Echo};
+ghost use Rattle.ca_link.specs.Calls.{IsOpen};
+ghost use Rattle.ca_wire.specs.Messages.{bare};
+ghost use Rattle.ca_server_circuit.specs.Handling.{replied};
+
+use crate::end::{End, send};
+use ca_text::Command;
+use ca_wire::bare;
+use std::alloc::AllocError;
+
+impl End {
+    /// ECHO: sent back.
+    pub(crate) fn echo(&mut self) -> Result<(), AllocError>
+        requires { IsOpen self.old.link }
+        ensures ok { OnOk result (self.new ≡ replied (bare Echo ∷ []) self.old) }
+        ensures output { OnErr result (self.new.link.output ≡ self.old.link.output) }
+        ensures channels { OnErr result (self.new.channels ≡ self.old.channels) }
+    {
+        send(&mut self.link, &bare(self.alloc, Command::Echo))?;
+        Ok(())
+    }
+}

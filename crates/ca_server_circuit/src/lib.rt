@@ -1,0 +1,36 @@
+//! One circuit's end at a server of Channel Access, and all that a message, a post, a removal or the end of a put does to it. It does no
+//! input and no output: bytes that came are given to it, and those that wait to be sent are asked of it.
+//!
+//! The server's core (`ca_server_core`) stands on it: many circuits, and who watches which record. A circuit does not know its handle
+//! nor the records of its server: its calls are given both.
+#![tactic(auto)]
+
+mod bytes;
+mod cause;
+mod channel;
+mod channels;
+mod circuit;
+mod clear;
+mod create;
+mod echo;
+mod end;
+mod ending;
+mod events;
+mod finishing;
+mod handle;
+mod losing;
+mod names;
+mod next_put;
+mod put;
+mod read;
+mod search;
+mod seek;
+mod step;
+mod updates;
+mod version;
+mod write;
+mod write_notify;
+
+pub use cause::Cause;
+pub use circuit::Circuit;
+pub use step::{Effect, EndStep};

@@ -1,0 +1,35 @@
+ghost use Rattle.std.specs.Prelude.{option_map};
+ghost use Rattle.ca_server_circuit.specs.NextPut.{PutsBy, PutsFirst};
+
+use crate::end::End;
+use ca_text::Command;
+use ca_wire::{Header, One, Sid, read_one};
+
+impl End {
+    // The name of the record to which the next message puts with notification.
+    pub(crate) fn next_put(&self) -> Option<&[u8]>
+        ensures { PutsFirst self.now (option_map (λ t. t.now) result) }
+    {
+        match read_one(self.link.in_bytes()) {
+            One::Whole(head) => self.put_of(&head.header),
+            One::More => None,
+            One::Bad(_) => None,
+        }
+    }
+
+    // The name of the record to which a message of this header puts with notification.
+    fn put_of(&self, header: &Header) -> Option<&[u8]>
+        ensures { PutsBy self.now header.now (option_map (λ t. t.now) result) }
+    {
+        if header.command != Command::WriteNotify.number() {
+            return None;
+        }
+        let Some((_, channel)) = self.channels.by_sid(Sid::new(header.p1)) else {
+            return None;
+        };
+        if channel.is_retired() {
+            return None;
+        }
+        Some(channel.name())
+    }
+}

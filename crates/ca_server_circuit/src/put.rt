@@ -1,0 +1,87 @@
+ghost use Rattle.std.specs.Prelude.{◌≡◌, IfOk, OnErr};
+ghost use Rattle.ca_dbr.specs.Reading.{least_size};
+ghost use Rattle.ca_records.specs.Store.{IsThere};
+ghost use Rattle.ca_server_circuit.specs.Putting.{IsGiven, WritesTo};
+
+use ca_dbr::{BaseType, Value, read_value};
+use ca_records::{Begun, Put, Record, ServedRecords};
+use ca_text::{Refusal, Status};
+use ca_wire::Message;
+use std::alloc::{AllocError, Global};
+
+/// What the payload of a put gives.
+#[derive(Drop)]
+pub(crate) enum Given {
+    /// These elements.
+    Elements(Value),
+    /// They are not read: the put is refused by this status.
+    Fault(Status),
+}
+
+/// Begins the write of this message to the record at this place under these rights: a put with notification, or a plain write,
+/// which has none. Without memory nothing changes.
+pub(crate) fn begin(
+    alloc: Global,
+    records: &mut ServedRecords,
+    place: usize,
+    rights: u32,
+    put: Option<Put>,
+    message: &Message,
+) -> Result<Begun, AllocError>
+    requires { IsThere records.old place }
+    ensures ok { IfOk result (λ begun.
+        WritesTo records.old place rights put message.now begun records.new) }
+    ensures err { OnErr result (records.new ≡ records.old) }
+{
+    match read_elements(alloc, records.at(place).state(), rights, message)? {
+        Given::Fault(status) => Ok(Begun::Refused(status)),
+        Given::Elements(value) => {
+            let begun = records.begin_write(place, put, value)?;
+            Ok(begun)
+        }
+    }
+}
+
+/// The elements of a put to this record under these rights, or its first fault before they are read.
+fn read_elements(
+    alloc: Global,
+    of: &Record,
+    rights: u32,
+    message: &Message,
+) -> Result<Given, AllocError>
+    ensures { IfOk result (λ given. IsGiven of.now rights message.now given) }
+{
+    let Some(base) = BaseType::of(message.data_type()) else {
+        return Ok(Given::Fault(Status::BADTYPE));
+    };
+    if rights / 2 % 2 != 1 {
+        return Ok(Given::Fault(Status::NOWTACCESS));
+    }
+    let count = message.count();
+    if count == 0 {
+        return Ok(Given::Fault(Status::BADCOUNT));
+    }
+    if count > of.count() {
+        return Ok(Given::Fault(Status::BADCOUNT));
+    }
+    if message.payload().len() < least_size(base, count) {
+        return Ok(Given::Fault(Status::BADCOUNT));
+    }
+    match read_value(alloc, base.number(), count, message.payload()) {
+        Ok((value, _)) => Ok(Given::Elements(value)),
+        Err(refusal) => match refusal {
+            Refusal::OutOfMemory => Err(AllocError),
+            _ => unreachable!(),
+        },
+    }
+}
+
+/// How many bytes n elements take at least: a single STRING may come in any number.
+fn least_size(base: BaseType, count: u32) -> usize
+    ensures { result ≡ least_size base count }
+{
+    match base {
+        BaseType::String if count == 1 => 0,
+        _ => count as usize * base.element_size(),
+    }
+}

@@ -1,0 +1,148 @@
+ghost use Rattle.std.specs.Prelude.{ℕ, ◌≡◌, IfOk, MatchOption, OnErr, OnOk, [], ◌∷◌};
+ghost use Rattle.ca_text.specs.declared.refusal.Refusal.TheVariants.{OutOfMemory};
+ghost use Rattle.ca_link.specs.Calls.{IsOpen};
+ghost use Rattle.ca_link.specs.Link.{with_sent};
+ghost use Rattle.ca_records.specs.Record.{IsRecord};
+ghost use Rattle.ca_records.specs.Store.{records_of};
+ghost use Rattle.ca_wire.specs.Fields.{Fields};
+ghost use Rattle.ca_model.specs.Faults.{read_count};
+ghost use Rattle.ca_server_circuit.specs.Handling.{AreServed, Reads, Replies, known};
+ghost use Rattle.ca_server_circuit.specs.Showing.{AnswersRead, IsInOrder, IsWanted, ShowsRead, status_for};
+
+use crate::end::{End, send};
+use crate::seek::Sought;
+use ca_dbr::{image_size, write_shown};
+use ca_link::Link;
+use ca_records::{Record, ServedRecords};
+use ca_text::{PAYLOAD_LIMIT, Refusal, Status};
+use ca_wire::{Message, status_reply, value_reply};
+use std::alloc::{AllocError, Global};
+
+/// What a read asks for: how many elements, and the bytes of their image.
+#[derive(Clone, Copy, Debug, PartialEq, Eq)]
+pub(crate) struct Asked {
+    pub(crate) count: u32,
+    pub(crate) size: usize,
+}
+
+impl End {
+    /// READ_NOTIFY: answered from the record of its channel.
+    pub(crate) fn read(
+        &mut self,
+        records: &ServedRecords,
+        message: &Message,
+    ) -> Result<(), AllocError>
+        requires open { IsOpen self.old.link }
+        requires served { AreServed (records_of records.now) self.old.channels }
+        ensures ok { OnOk result ((port : ℕ)
+            → Replies (Reads (known port records.now self.old) message.now) self.old self.new) }
+        ensures output { OnErr result (self.new.link.output ≡ self.old.link.output) }
+        ensures channels { OnErr result (self.new.channels ≡ self.old.channels) }
+    {
+        match self.seek(records, message.wanted().sid) {
+            Sought::Stray(_) => {
+                let reply = status_reply(self.alloc, message, Status::BADCHID);
+                send(&mut self.link, &reply)?;
+                Ok(())
+            }
+            Sought::Served(seat) => {
+                let record = records.at(seat.place).state();
+                let rights = records.rights(&self.user, &self.host, record.name());
+                answer(self.alloc, &mut self.link, record, rights, message)?;
+                Ok(())
+            }
+        }
+    }
+}
+
+/// Answers a read of this record under these rights: by the status of its first fault, or the value.
+fn answer(
+    alloc: Global,
+    link: &mut Link,
+    of: &Record,
+    rights: u32,
+    message: &Message,
+) -> Result<(), AllocError>
+    requires { IsOpen link.old }
+    ensures ok { OnOk result ((reply : Fields) × AnswersRead of.now rights message.now reply
+        × (link.new ≡ with_sent (reply ∷ []) link.old)) }
+    ensures err { OnErr result (link.new ≡ link.old) }
+{
+    match measure(of, rights, message) {
+        Err(status) => {
+            send(link, &status_reply(alloc, message, status))?;
+            Ok(())
+        }
+        Ok(asked) => {
+            let reply = shown(alloc, of, asked, message)?;
+            send(link, &reply)?;
+            Ok(())
+        }
+    }
+}
+
+/// What a read asks for, or the status that refuses it. The elements are not looked at.
+fn measure(of: &Record, rights: u32, message: &Message) -> Result<Asked, Status>
+    ensures { IsWanted of.now rights message.now result }
+{
+    let count = count_of(of, message);
+    let Ok(size) = image_size(message.data_type(), count) else {
+        return Err(Status::BADTYPE);
+    };
+    if rights % 2 != 1 {
+        return Err(Status::NORDACCESS);
+    }
+    if count > of.count() {
+        return Err(Status::BADCOUNT);
+    }
+    if size > PAYLOAD_LIMIT {
+        return Err(Status::BADCOUNT);
+    }
+    Ok(Asked { count, size })
+}
+
+/// How many elements a read asks for: 0 means the present count.
+fn count_of(of: &Record, message: &Message) -> u32
+    ensures count { result ≡ read_count of.now message.now }
+    ensures state { IsRecord of.now }
+{
+    let present = of.value().count() as u32;
+    let count = message.count();
+    if count == 0 { present } else { count }
+}
+
+/// The reply with the elements that a read is shown, or with the status of the first that has no place in its type.
+fn shown(alloc: Global, of: &Record, asked: Asked, message: &Message) -> Result<Message, AllocError>
+    requires { IsInOrder of.now message.now asked }
+    ensures { IfOk result (λ reply. ShowsRead of.now message.now reply) }
+{
+    let mut image = Vec::with_capacity(alloc, asked.size.next_multiple_of(8))?;
+    match write_shown(
+        message.data_type(),
+        asked.count,
+        of.value(),
+        of.meta(),
+        &mut image,
+    ) {
+        Ok(()) => {
+            let reply = value_reply(message, asked.count, image)?;
+            Ok(reply)
+        }
+        Err(refusal) => match status_of(refusal) {
+            None => Err(AllocError),
+            Some(status) => Ok(status_reply(alloc, message, status)),
+        },
+    }
+}
+
+/// The status that says why a value was not shown, or none if there was no memory.
+fn status_of(refusal: Refusal) -> Option<Status>
+    ensures { MatchOption result (refusal ≡ OutOfMemory)
+        (λ s. (refusal ≡ OutOfMemory → ⊥) × (s.number ≡ status_for refusal)) }
+{
+    match refusal {
+        Refusal::OutOfMemory => None,
+        Refusal::NoConvert => Some(Status::NOCONVERT),
+        _ => Some(Status::GETFAIL),
+    }
+}

@@ -1,0 +1,88 @@
+ghost use Rattle.std.specs.Prelude.{◌≡◌};
+ghost use Rattle.ca_link.specs.Calls.{IsOpen};
+ghost use Rattle.ca_records.specs.Store.{records_of};
+ghost use Rattle.ca_server_circuit.specs.Clearing.{ArePuts};
+ghost use Rattle.ca_server_circuit.specs.Handling.{AreServed, is_wrote};
+ghost use Rattle.ca_server_circuit.specs.Stepping.{EndSteps, cause_for};
+
+use crate::bytes::know_bytes;
+use crate::cause::Cause;
+use crate::end::End;
+use ca_arena::Handle;
+use ca_records::ServedRecords;
+use ca_text::Refusal;
+
+/// What a message that was handled leaves its server to do.
+#[derive(Clone, Copy, Debug, PartialEq, Eq)]
+pub enum Effect {
+    /// Nothing.
+    Quiet,
+    /// The write to the record at this place was applied, and is to reach its subscriptions.
+    Wrote(usize),
+    /// A subscription to the record at this place began.
+    Began(usize),
+}
+
+/// What one step of an open end did.
+#[derive(Clone, Copy, Debug, PartialEq, Eq)]
+pub enum EndStep {
+    /// It handled a message.
+    Handled(Effect),
+    /// No complete message is there.
+    NeedBytes,
+    /// So much waits to be sent that no message is handled.
+    OutputFull,
+    /// The end is to be closed.
+    Breaks(Cause),
+}
+
+impl Effect {
+    /// Whether a write was applied.
+    pub fn is_write(self) -> bool
+        ensures { result ≡ is_wrote self }
+    {
+        match self {
+            Effect::Wrote(_) => true,
+            _ => false,
+        }
+    }
+}
+
+impl End {
+    /// Handles the next message of this circuit, unless 262,144 bytes wait to be sent.
+    pub(crate) fn step(
+        &mut self,
+        port: u16,
+        circuit: Handle,
+        records: &mut ServedRecords,
+    ) -> EndStep
+        requires open { IsOpen self.old.link }
+        requires served { AreServed (records_of records.old) self.old.channels }
+        requires puts { ArePuts circuit (records_of records.old) self.old.channels }
+        ensures { EndSteps port circuit self.old records.old result self.new records.new }
+    {
+        if self.link.is_full() {
+            return EndStep::OutputFull;
+        }
+        know_bytes(self.link.in_bytes());
+        match self.link.next_message() {
+            Ok(None) => EndStep::NeedBytes,
+            Ok(Some(message)) => match self.handle(port, circuit, records, &message) {
+                Ok(effect) => EndStep::Handled(effect),
+                Err(_) => EndStep::Breaks(Cause::OutOfMemory),
+            },
+            Err(refusal) => EndStep::Breaks(cause_of(refusal)),
+        }
+    }
+}
+
+/// Why an end is to be closed if its link refuses to read.
+fn cause_of(refusal: Refusal) -> Cause
+    ensures { result ≡ cause_for refusal }
+{
+    match refusal {
+        Refusal::Misaligned => Cause::Misaligned,
+        Refusal::TooLarge => Cause::TooLarge,
+        _ => Cause::OutOfMemory,
+    }
+}

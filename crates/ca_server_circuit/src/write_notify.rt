@@ -1,0 +1,129 @@
+ghost use Rattle.std.specs.Prelude.{ℕ, ◌≡◌, IfOk, OnErr, OnOk, [], ◌∷◌, if◌then◌else◌, take};
+ghost use Rattle.ca_text.specs.Command.{command_number};
+ghost use Rattle.ca_text.specs.declared.command.Command.TheVariants as Command;
+ghost use Rattle.ca_text.specs.Status.{normal};
+ghost use Rattle.ca_link.specs.Calls.{IsOpen};
+ghost use Rattle.ca_link.specs.Link.{with_sent};
+ghost use Rattle.ca_records.specs.Store.{records_of};
+ghost use Rattle.ca_wire.specs.Messages.{status_reply};
+ghost use Rattle.ca_server_circuit.specs.Handling.{AreServed, Does, Puts, known, replied};
+ghost use Rattle.ca_server_circuit.specs.Seeking.{IsServed};
+
+use crate::end::{End, send};
+use crate::put::begin;
+use crate::seek::{Seat, Sought};
+use crate::step::Effect;
+use ca_arena::Handle;
+use ca_records::{Begun, Put, ServedRecords};
+use ca_text::Status;
+use ca_wire::{Message, status_reply};
+use std::alloc::AllocError;
+
+impl End {
+    /// WRITE_NOTIFY on this circuit: refused in its reply, or applied at once, or it waits until the record is free. On a slow
+    /// record its reply comes as it is finished. Says where it was applied.
+    ///
+    /// The reply of a quick one goes first, so that none is applied for whose reply there is no memory. It is taken back if the put is
+    /// refused, or if there is no memory for the put itself.
+    pub(crate) fn write_notify(
+        &mut self,
+        circuit: Handle,
+        records: &mut ServedRecords,
+        message: &Message,
+    ) -> Result<Effect, AllocError>
+        requires open { IsOpen self.old.link }
+        requires served { AreServed (records_of records.old) self.old.channels }
+        requires command { message.now.command ≡ command_number Command.WriteNotify }
+        ensures ok { IfOk result (λ effect. (port : ℕ)
+            → Does (Puts (known port records.old self.old) message.now) records.old circuit self.old
+            message.now effect records.new self.new) }
+        ensures err { OnErr result (records.new ≡ records.old) }
+        ensures output { OnErr result (self.new.link.output ≡ self.old.link.output) }
+        ensures channels { OnErr result (self.new.channels ≡ self.old.channels) }
+    {
+        match self.seek(records, message.wanted().sid) {
+            Sought::Stray(_) => {
+                let reply = status_reply(self.alloc, message, Status::BADCHID);
+                send(&mut self.link, &reply)?;
+                Ok(Effect::Quiet)
+            }
+            Sought::Served(seat) => self.put_on(seat, circuit, records, message),
+        }
+    }
+
+    /// WRITE_NOTIFY to the record of this channel.
+    fn put_on(
+        &mut self,
+        seat: Seat,
+        circuit: Handle,
+        records: &mut ServedRecords,
+        message: &Message,
+    ) -> Result<Effect, AllocError>
+        requires open { IsOpen self.old.link }
+        requires served { IsServed records.old self.old message.now.p1 seat }
+        requires command { message.now.command ≡ command_number Command.WriteNotify }
+        ensures ok { IfOk result (λ effect. (port : ℕ)
+            → Does (Puts (known port records.old self.old) message.now) records.old circuit self.old
+            message.now effect records.new self.new) }
+        ensures err { OnErr result (records.new ≡ records.old) }
+        ensures output { OnErr result (self.new.link.output ≡ self.old.link.output) }
+        ensures channels { OnErr result (self.new.channels ≡ self.old.channels) }
+    {
+        let alloc = self.alloc;
+        let place = seat.place;
+        let state = records.at(place).state();
+        let rights = records.rights(&self.user, &self.host, state.name());
+        let is_slow = state.is_slow();
+        let waited = self.link.out_bytes().len();
+        self.acknowledge(is_slow, message)?;
+        let put = Some(put_of(circuit, seat, message));
+        let Ok(begun) = begin(alloc, records, place, rights, put, message) else {
+            self.link.truncate(waited);
+            return Err(AllocError);
+        };
+        match begun {
+            Begun::Applied(_) => Ok(Effect::Wrote(place)),
+            Begun::Waiting => Ok(Effect::Quiet),
+            Begun::Refused(status) => {
+                self.link.truncate(waited);
+                send(&mut self.link, &status_reply(alloc, message, status))?;
+                Ok(Effect::Quiet)
+            }
+        }
+    }
+
+    /// The reply to a put with notification on a record that is quick.
+    fn acknowledge(&mut self, is_slow: bool, message: &Message) -> Result<(), AllocError>
+        requires { IsOpen self.old.link }
+        ensures ok { OnOk result (self.new
+            ≡ replied (if is_slow then [] else status_reply message.now normal ∷ []) self.old) }
+        ensures output { OnErr result (self.new.link.output ≡ self.old.link.output) }
+        ensures channels { OnErr result (self.new.channels ≡ self.old.channels) }
+    {
+        if is_slow {
+            return Ok(());
+        }
+        let reply = status_reply(self.alloc, message, Status::NORMAL);
+        send(&mut self.link, &reply)?;
+        Ok(())
+    }
+}
+
+/// The put with notification that a message on a channel is.
+fn put_of(circuit: Handle, seat: Seat, message: &Message) -> Put
+    ensures { result ≡ record {
+      circuit = circuit;
+      channel = seat.channel;
+      data_type = message.now.data_type;
+      count = message.now.count;
+      ioid = message.now.p2;
+    } }
+{
+    Put {
+        circuit,
+        channel: seat.channel,
+        data_type: message.data_type(),
+        count: message.count(),
+        ioid: message.p2(),
+    }
+}

@@ -1,8 +1,0 @@
-use Rattle.std.proofs.Common.{subst}
-use Rattle.ca_model.specs.Server.{ServerEnd}
-use Rattle.ca_server_core.specs.Subscribing.{events_of}
-use Rattle.ca_server_subscriptions.specs.Subscribed.{HasRoom}
-use Rattle.ca_server_core.proofs.end.End.know.Goals as goal
-
-pub returns-clause-room : goal.returns-clause-room
-returns-clause-room c = subst (λ (e : ServerEnd). HasRoom (events_of e)) c.self.view_is c.know.ensures.room
