@@ -6,7 +6,7 @@ ghost use Rattle.ca_requests.specs.Layout.{named};
 ghost use Rattle.ca_requests.specs.Requests.{answered_by, asks_on, channel_gone, channel_over, circuit_gone, in_order_of_issue, is_open, was_sent_on};
 
 use crate::asked::{Asked, Stage};
-use crate::drops::{Which, end_all, free_all};
+use crate::drops::{Which, end_each, free_all};
 use crate::line::Line;
 use crate::lines::{hand_out, note, prepare};
 use crate::outcome::{image_outcome, status_outcome};
@@ -193,7 +193,7 @@ impl Requests {
         let alloc = *self.listed.allocator();
         let mut told = hand_out(alloc, &mut self.channels, channel);
         keep_open(&mut told, &self.table, Which::OnChannel(channel));
-        end_all(&mut self.table, channel);
+        end_each(&mut self.table, &told);
         told
     }
 
