@@ -3,7 +3,7 @@ use Rattle.std.proofs.Common.{◌≡◌, ◌∙◌, ℕ, zero, suc, ◌+◌, ◌
 use Rattle.std.proofs.lemmas.Bool.{cases_lt, eq-eqb}
 use Rattle.std.proofs.lemmas.List.{get_or-map, get_or_past, length-map, map-append, take_more}
 use Rattle.std.proofs.lemmas.List.Elements.{filter-append}
-use Rattle.ca_requests.proofs.Orders.{filter-less}
+use Rattle.std.proofs.lemmas.List.Filters.{length-filter_both}
 use Rattle.ca_arena.specs.declared.handle.Handle.{Handle}
 use Rattle.ca_arena.specs.Arena.{Place, blank, place_at}
 use Rattle.ca_ids.specs.Table.{MayGive, Table, held, held_at, held_from, with_held}
@@ -51,7 +51,7 @@ counted-more names i within = by_test (seen_before i names) refl
 
 pub distinct-less : (names : List Address) → length (distinct names) ≤ length names
 distinct-less [] = omega arith
-distinct-less (x ∷ xs) = omega (arith, distinct-less xs, filter-less (other x) (distinct xs))
+distinct-less (x ∷ xs) = omega (arith, distinct-less xs, length-filter_both (λ (b : Address). same_address b x) (other x) (λ b. refl) (distinct xs))
 
 -- ---- one more circuit
 

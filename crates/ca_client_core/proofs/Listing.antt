@@ -1,9 +1,12 @@
 -- The channels that are live on each circuit: what keeps them listed, and that there is room to tell them.
-use Rattle.std.proofs.Common.{◌≡◌, ◌⊎◌, inl, inr, ℕ, zero, suc, ◌+◌, ◌≤◌, Bool, true, false, ◌&&◌, cond, List, [], ◌∷◌, ◌++◌, Option, Some, None, append-nil, arith, filter, filter_map, is_none, length, map, option_map, option_to_list, refl, sym, ap, ◌∙◌, subst, take, unwrap_or}
+use Rattle.std.proofs.Common.{◌≡◌, ◌⊎◌, inl, inr, ℕ, zero, suc, ◌+◌, ◌≤◌, Bool, true, false, ◌&&◌, cond, List, [], ◌∷◌, ◌++◌, Contains, Option, Some, None, append-nil, arith, filter, filter_map, is_none, length, map, option_map, option_to_list, refl, sym, ap, ◌∙◌, subst, take, unwrap_or}
+use Rattle.std.specs.List.{dedup, dedup_from}
+use Rattle.std.specs.List.Sorted.{IsPermutation}
 use Rattle.std.specs.Prelude.{option_and_then}
 use Rattle.std.proofs.lemmas.Bool.{both_ways}
 use Rattle.std.proofs.lemmas.List.{length-append}
 use Rattle.std.proofs.lemmas.List.Elements.{filter_map-append}
+use Rattle.std.proofs.lemmas.List.Sorted.{Contains-permutation}
 use Rattle.ca_text.specs.Place.{At}
 use Rattle.ca_arena.specs.declared.handle.Handle.{Handle}
 use Rattle.ca_arena.specs.Arena.{Place, place_at}
@@ -53,6 +56,37 @@ has-kept test (x ∷ xs) h pass (inr rest) = go (test x) (has-kept test xs h pas
 
 pub keeps-kept : (t : Table Channel) (xs ys : List Handle) → ys ≡ filter (is_live_in t) xs → KeepsLive t xs ys
 keeps-kept t xs ys is h live has = subst (λ (zs : List Handle). Has zs h) (sym is) (has-kept (is_live_in t) xs h live has)
+
+-- of copies in a row one is left
+has-one-of : (xs : List Handle) (k h : Handle) → Has (k ∷ xs) h → Has (dedup_from same_handle k xs) h
+has-one-of [] k h has = has
+has-one-of (x ∷ xs) k h has = go (same_handle x k) refl (has-one-of xs k h) (has-one-of xs x h) has
+  where
+    go : (b : Bool) → same_handle x k ≡ b → (Has (k ∷ xs) h → Has (dedup_from same_handle k xs) h) → (Has (x ∷ xs) h → Has (dedup_from same_handle x xs) h) → Has (k ∷ x ∷ xs) h
+        → Has (cond b (dedup_from same_handle k xs) (k ∷ dedup_from same_handle x xs)) h
+    go true e same other (inl is) = same (inl is)
+    go true e same other (inr (inl is)) = same (inl (sym (same-is x k e) ∙ is))
+    go true e same other (inr (inr rest)) = same (inr rest)
+    go false e same other (inl is) = inl is
+    go false e same other (inr rest) = inr (other rest)
+
+pub has-once : (xs : List Handle) (h : Handle) → Has xs h → Has (dedup same_handle xs) h
+has-once [] h has = has
+has-once (x ∷ xs) h has = has-one-of xs x h has
+
+has-contains : (xs : List Handle) (h : Handle) → Has xs h → Contains xs h
+has-contains [] h has = absurd has
+has-contains (x ∷ xs) h (inl is) = (0, omega arith, is)
+has-contains (x ∷ xs) h (inr rest) = let c = has-contains xs h rest in (suc c.0, omega (arith, c.1), c.2)
+
+contains-has : (xs : List Handle) (h : Handle) → Contains xs h → Has xs h
+contains-has [] h c = absurd (omega (arith, c.1))
+contains-has (x ∷ xs) h (zero, within, is) = inl is
+contains-has (x ∷ xs) h (suc k, within, is) = inr (contains-has xs h (k, omega (arith, within), is))
+
+-- in whatever order
+pub has-moved : (xs ys : List Handle) (h : Handle) → IsPermutation xs ys → Has xs h → Has ys h
+has-moved xs ys h moved has = contains-has ys h (Contains-permutation xs ys h moved (has-contains xs h has))
 
 -- one of them taken out
 abbrev less : Handle → List Handle → List Handle

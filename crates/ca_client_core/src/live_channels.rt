@@ -4,14 +4,17 @@ ghost use Rattle.ca_model.specs.Client.{is_live};
 ghost use Rattle.ca_client_core.specs.Ending.{named_at, named_in};
 ghost use Rattle.ca_client_core.specs.Listed.{Has, KeepsAll, KeepsLive, is_live_in, list_at, lives_in};
 
-use crate::channel::{Channel, Standing};
+use crate::channel::{Channel, Standing, is_same};
 use ca_arena::Handle;
 use ca_ids::HeldTable;
 use std::alloc::{AllocError, Global};
 use std::marker::Model;
 use std::mem;
 
-/// The channels that are live on a circuit, and some that were, in the order in which they came to be live.
+// So many are listed before any is taken out.
+const LEAST_LIMIT: usize = 16;
+
+/// The channels that are live on a circuit, and some that were. At the limit each that is live is listed once.
 #[derive(Debug, Drop)]
 pub(crate) struct LiveChannels {
     listed: Vec<Handle>,
@@ -47,22 +50,25 @@ impl LiveChannels {
             return;
         }
         forget(&mut self.listed, channels);
-        self.limit = self.listed.len().saturating_mul(2).max(16);
+        self.limit = self.listed.len().saturating_mul(2).max(LEAST_LIMIT);
     }
 
     // Hands out all that are listed.
     fn take(&mut self, alloc: Global) -> Vec<Handle>
         ensures { result.items ≡ self.old }
     {
+        self.limit = LEAST_LIMIT;
         mem::replace(&mut self.listed, Vec::new(alloc))
     }
 }
 
-// Takes those out of a list that are not live.
+// Takes those out of a list that are not live, and lists the others once each.
 fn forget(listed: &mut Vec<Handle>, channels: &HeldTable<Channel>)
-    ensures { listed.new.items ≡ filter (is_live_in channels.now) listed.old.items }
+    ensures { KeepsLive channels.now listed.old.items listed.new.items }
 {
     listed.retain(|handle| is_live(channels, *handle));
+    listed.sort_unstable_by_key(|handle| handle.index);
+    listed.dedup_by(|a, b| is_same(*a, *b));
 }
 
 // Whether the channel of this handle is live.
@@ -112,7 +118,7 @@ fn extend(alloc: Global, lists: &mut Vec<LiveChannels>, index: u16) -> Result<()
     for _ in lists.len()..usize::from(index) + 1 {
         lists.push(LiveChannels {
             listed: Vec::new(alloc),
-            limit: 16,
+            limit: LEAST_LIMIT,
         })?;
     }
     Ok(())

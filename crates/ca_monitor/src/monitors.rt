@@ -1,7 +1,7 @@
 ghost use Rattle.std.specs.Prelude.{◌≡◌, ◌≢◌, ◌<◌, ◌++◌, [], IfOk, OnErr, OnOk, filter, length, option_to_list};
 ghost use Rattle.ca_arena.specs.Arena.{place_at};
 ghost use Rattle.ca_ids.specs.Holding.{IsVacant};
-ghost use Rattle.ca_ids.specs.Table.{held_at, is_full, with_freed};
+ghost use Rattle.ca_ids.specs.Table.{held_at, with_freed};
 ghost use Rattle.ca_monitor.specs.Calls.{Adds, Comes, freed_if};
 ghost use Rattle.ca_monitor.specs.Layout.{is_standing_to};
 ghost use Rattle.ca_monitor.specs.Stages.{stage_of};
@@ -40,13 +40,6 @@ impl Monitors {
         Monitors {
             table: HeldTable::new(alloc),
         }
-    }
-
-    /// Whether no subscription can be added.
-    pub fn is_full(&self) -> bool
-        ensures { result ≡ is_full self.now }
-    {
-        self.table.is_full()
     }
 
     /// The handle of the subscription that is added next. None if no id may be given.

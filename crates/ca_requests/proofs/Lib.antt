@@ -1,3 +1,4 @@
+pub mod Drained
 pub mod Lined
 pub mod Orders
 pub mod Tables

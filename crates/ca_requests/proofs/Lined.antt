@@ -1,17 +1,19 @@
 -- The requests of each circuit and of each channel, as the table and the lines change.
-use Rattle.std.proofs.Common.{◌≡◌, ◌≢◌, ℕ, ◌==◌, ◌&&◌, inl, inr, Bool, true, false, List, [], ◌∷◌, ◌++◌, length, map, Option, Some, None, Ok, option_map, if◌then◌else◌, refl, sym, ap, ◌∙◌, subst, filter, arith, length-append}
+use Rattle.std.proofs.Common.{◌≡◌, ◌≢◌, ◌⊎◌, ℕ, zero, suc, ◌==◌, ◌&&◌, inl, inr, Bool, true, false, List, [], ◌∷◌, ◌++◌, length, map, Option, Some, None, Ok, option_map, if◌then◌else◌, refl, sym, ap, ◌∙◌, subst, filter, arith, length-append}
 use Rattle.std.proofs.lemmas.Bool.{cases_eq, cases_lt, eq-eqb, eqb-true, ne_eqb}
 use Rattle.std.proofs.lemmas.List.{append-nil, get_or_append_left, get_or_past, get_or_push}
 use Rattle.std.proofs.lemmas.List.Elements.{filter-append}
 use Rattle.ca_arena.specs.declared.handle.Handle.{Handle}
-use Rattle.ca_arena.specs.Arena.{Place}
+use Rattle.ca_arena.specs.Arena.{Place, place_at, value_for}
+use Rattle.ca_text.specs.Place.{At}
+use Rattle.ca_text.proofs.Places.{At-append, At-last, some_is}
 use Rattle.ca_ids.specs.Table.{MayGive, Table, kept_of, same_handle, under, with_freed, with_held}
 use Rattle.ca_ids.specs.Holding.{Fills}
 use Rattle.ca_requests.specs.Layout.{AreGiven}
-use Rattle.ca_requests.specs.Lines.{AreLines, AreOf, AreRequests, Hands, Line, Notes, Readies, ReadyAll, belongs, channel_of, circuit_of, handed_to, line_at, no_line, told_of}
+use Rattle.ca_requests.specs.Lines.{AreAllListed, AreLines, AreOf, AreRequests, Hands, Line, Notes, Readies, ReadyAll, belongs, channel_of, circuit_of, handed_to, line_at, no_line, told_of}
 use Rattle.ca_requests.specs.Requests.{Open, Request, asks_on, in_order_of_issue, is_open, is_open_in, over_on, was_sent_on}
 use Rattle.ca_requests.proofs.Orders.{filter-narrow, given-filter, given-grows, given-push}
-use Rattle.ca_requests.proofs.Tables.{Dims, Grows, Keeps, Stays, any, by_value, dims-freed, dims-over, first_of, given-new, grows-freed, grows-held, grows-map, keeps-freed, keeps-map, none-freed, none-over, opens, opens-any, second_of, stays-freed, stays-over, true_or_false, under-beside, under-held}
+use Rattle.ca_requests.proofs.Tables.{Dims, Grows, Keeps, Stays, any, by_value, dims-freed, dims-over, first_of, given-new, grows-freed, grows-held, grows-map, keeps-freed, keeps-map, none-freed, none-over, opens, opens-any, place-beside, place-held, second_of, stays-freed, stays-over, true_or_false, under-beside, under-held}
 
 -- ---- handles
 
@@ -25,8 +27,45 @@ one-handle a b same =
 pub same-itself : (a : Handle) → same_handle a a ≡ true
 same-itself a = rw (eq-eqb a.index a.index refl, eq-eqb a.generation a.generation refl) refl
 
-other-index : (a b : Handle) → a.index ≢ b.index → same_handle a b ≡ false
+pub other-index : (a b : Handle) → a.index ≢ b.index → same_handle a b ≡ false
 other-index a b other = ap (λ (x : Bool). x && a.generation == b.generation) (ne_eqb a.index b.index other)
+
+-- what is open once a request is issued is that one, or was open
+held-parted : (t : Table Request) (q : Handle) (r : Request) (h : Handle) → MayGive t q → is_open any (with_held q r t) h ≡ true → (h ≡ q) ⊎ (is_open any t h ≡ true)
+held-parted t q r h may opened =
+    elim (cases_eq h.index q.index) [
+      | inl here ↦
+          let place : Place Request = record { generation = q.generation; value = Some r } in
+          let there : place_at (with_held q r t) h.index ≡ place = ap (place_at (with_held q r t)) here ∙ place-held t q r may in
+          by_test here (q.generation == h.generation) refl (ap (λ (p : Place Request). opens any (value_for h.generation p)) (sym there) ∙ opened)
+      | inr other ↦ inr (ap (λ (p : Place Request). opens any (value_for h.generation p)) (sym (place-beside t q r h.index may other)) ∙ opened)
+    ]
+  where
+    by_test : h.index ≡ q.index → (b : Bool) → (q.generation == h.generation) ≡ b → opens any (if b then Some r else None) ≡ true → (h ≡ q) ⊎ (is_open any t h ≡ true)
+    by_test here true same h' = inl (sym (one-handle q h (rw (eq-eqb q.index h.index (sym here), same) refl)))
+    by_test here false other h' =
+        let bad : false ≡ true = h' in
+        absurd cc
+
+-- what is listed and passes a test stands in the list of those that do, and each there passes it
+pub at-filter : (p : Handle → Bool) (xs : List Handle) (n : ℕ) (q : Handle) → At xs n q → p q ≡ true → (m : ℕ) × At (filter p xs) m q
+at-filter p [] n q at passes = absurd cc
+at-filter p (x ∷ xs) zero q at passes =
+    let same : x ≡ q = some_is x q at in
+    let here : p x ≡ true = ap p same ∙ passes in
+    rw here (0, at)
+at-filter p (x ∷ xs) (suc n) q at passes =
+    let rest = at-filter p xs n q at passes in
+    elim (true_or_false (p x)) [ inl first ↦ rw first (suc rest.0, rest.1) | inr fails ↦ rw fails rest ]
+
+pub filter-at : (p : Handle → Bool) (xs : List Handle) (n : ℕ) (q : Handle) → At (filter p xs) n q → p q ≡ true
+filter-at p [] n q at = absurd cc
+filter-at p (x ∷ xs) n q at = by_test (p x) refl n at (λ m there. filter-at p xs m q there)
+  where
+    by_test : (b : Bool) → p x ≡ b → (m : ℕ) → At (if b then x ∷ filter p xs else filter p xs) m q → ((k : ℕ) → At (filter p xs) k q → p q ≡ true) → p q ≡ true
+    by_test true first zero here rest = ap p (sym (some_is x q here)) ∙ first
+    by_test true first (suc m) there rest = rest m there
+    by_test false fails m there rest = rest m there
 
 -- ---- a line loses some that are over
 
@@ -86,6 +125,14 @@ order-beside t q r (h ∷ xs) which may given =
     let rest : filter (is_open which (with_held q r t)) xs ≡ filter (is_open which t) xs = order-beside t q r xs which may given.1 in
     ap (λ (b : Bool). let ys : List Handle = if b then h ∷ filter (is_open which (with_held q r t)) xs else filter (is_open which (with_held q r t)) xs in ys) same
     ∙ ap (λ (ys : List Handle). let zs : List Handle = if is_open which t h then h ∷ ys else ys in zs) rest
+
+-- what is open once a request is issued is that one, or was open
+issued-all : (t : Table Request) (q : Handle) (r : Request) (listed : List Handle) → MayGive t q → AreAllListed t listed → AreAllListed (with_held q r t) (listed ++ q ∷ [])
+issued-all t q r listed may all = λ h opened.
+    elim (held-parted t q r h may opened) [
+      | inl new ↦ (length listed, subst (λ (k : Handle). At (listed ++ q ∷ []) (length listed) k) (sym new) (At-last listed q))
+      | inr was ↦ (let there = all h was in (there.0, At-append listed (q ∷ []) there.0 h there.1))
+    ]
 
 none-kept : (n : Handle → Bool) (q : Handle) → n q ≡ false → filter n (q ∷ []) ≡ []
 none-kept n q h = rw h refl
@@ -306,6 +353,7 @@ module _ (whose : Request → Handle) where
 pub requests-readied : (t : Table Request) (listed : List Handle) (lines next mine own : List Line) → ReadyAll t lines next → ReadyAll t mine own → AreRequests t listed lines mine → AreRequests t listed next own
 requests-readied t listed lines next mine own ready also old = record {
   given = old.given;
+  all = old.all;
   circuits = record {
     same = λ c. (ready c.index).same (was_sent_on c) ∙ old.circuits.same c;
     given = λ i. (ready i).given (old.circuits.given i);
@@ -321,6 +369,7 @@ requests-readied t listed lines next mine own ready also old = record {
 pub requests-tidied : (t : Table Request) (listed : List Handle) (lines mine : List Line) → AreRequests t listed lines mine → AreRequests t (filter (is_open any t) listed) lines mine
 requests-tidied t listed lines mine old = record {
   given = given-filter t (is_open any t) listed old.given;
+  all = λ q opened. (let was = old.all q opened in at-filter (is_open any t) listed was.0 q was.1 opened);
   circuits = lines-tidied circuit_of t listed lines old.circuits;
   channels = lines-tidied channel_of t listed mine old.channels;
 }
@@ -328,6 +377,7 @@ requests-tidied t listed lines mine old = record {
 pub requests-thin : (t u : Table Request) (listed : List Handle) (lines mine : List Line) → Keeps t u → Grows t u → AreRequests t listed lines mine → AreRequests u listed lines mine
 requests-thin t u listed lines mine keeps grows old = record {
   given = given-grows t u listed grows old.given;
+  all = λ q opened. old.all q (narrow t u keeps any q opened);
   circuits = lines-thin circuit_of t u listed lines keeps grows old.circuits;
   channels = lines-thin channel_of t u listed mine keeps grows old.channels;
 }
@@ -346,6 +396,7 @@ pub requests-issued : (t u : Table Request) (listed after : List Handle) (lines 
 requests-issued t u listed after lines next mine own r q gives begins is notes also old =
     let made : AreRequests (with_held q r t) (listed ++ q ∷ []) next own = record {
       given = given-push (with_held q r t) listed q (given-grows t (with_held q r t) listed (grows-held t q r gives.0) old.given) (given-new t q r gives.0);
+      all = λ h opened. issued-all t q r listed gives.0 old.all h opened;
       circuits = issued-lines circuit_of t q r listed lines next gives.0 begins old.given old.circuits notes;
       channels = issued-lines channel_of t q r listed mine own gives.0 begins old.given old.channels also;
     } in
@@ -358,6 +409,7 @@ requests-handed t u listed lines next mine c is hands old =
     let thin : AreRequests (map f t) listed lines mine = requests-map f t (map f t) listed lines mine (dims-freed (was_sent_on c)) (stays-freed (was_sent_on c)) refl old in
     let made : AreRequests (map f t) listed next mine = record {
       given = thin.given;
+      all = thin.all;
       circuits = lines-handed circuit_of (map f t) listed lines next c (none-freed (was_sent_on c) t) hands thin.circuits;
       channels = thin.channels;
     } in
@@ -369,6 +421,7 @@ requests-over t u listed lines mine own h is hands old =
     let thin : AreRequests (map f t) listed lines mine = requests-map f t (map f t) listed lines mine (dims-over h) (stays-over h) refl old in
     let made : AreRequests (map f t) listed lines own = record {
       given = thin.given;
+      all = thin.all;
       circuits = thin.circuits;
       channels = lines-handed channel_of (map f t) listed mine own h (none-over h t) hands thin.channels;
     } in

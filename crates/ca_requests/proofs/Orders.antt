@@ -1,6 +1,5 @@
 -- Lists of handles, of which those count that are open, as the table changes.
-use Rattle.std.proofs.Common.{◌≡◌, ℕ, ◌≤◌, inl, inr, Bool, true, cond, List, [], ◌∷◌, ◌++◌, length, map, take, drop, Ok, refl, sym, ap, ◌∙◌, subst, arith, filter, length-append}
-use Rattle.std.proofs.lemmas.List.{take-append-drop}
+use Rattle.std.proofs.Common.{◌≡◌, inl, inr, Bool, true, cond, List, [], ◌∷◌, ◌++◌, map, Ok, refl, sym, ap, ◌∙◌, subst, arith, filter}
 use Rattle.std.proofs.lemmas.List.Elements.{filter-append}
 use Rattle.ca_arena.specs.declared.handle.Handle.{Handle}
 use Rattle.ca_ids.specs.Table.{MayGive, Table, under, with_freed, with_held}
@@ -102,18 +101,3 @@ issues-given t u listed after r q given gives is =
 -- those of the open ones that are named
 pub named-open : (which : Request → Bool) (t : Table Request) (listed : List Handle) → open_of which (issued_of t listed) ≡ filter (is_open which t) listed
 named-open which t listed = filter-narrow (is_open which t) (is_open any t) listed (λ q h. opens-any which (under t q) h)
-
--- a part has no more than the whole
-pub part-told : {X : Type 0} (p : X → Bool) (xs : List X) (i : ℕ) → length (filter p (take i xs)) ≤ length (filter p xs)
-part-told p xs i =
-    let parts : length (filter p (take i xs) ++ filter p (drop i xs)) ≡ length (filter p xs) =
-    ap length (sym (filter-append p (take i xs) (drop i xs))) ∙ ap (λ ys. length (filter p ys)) (take-append-drop i xs) in
-    omega (arith, length-append (filter p (take i xs)) (filter p (drop i xs)))
-
-pub filter-less : {X : Type 0} (p : X → Bool) (xs : List X) → length (filter p xs) ≤ length xs
-filter-less p [] = omega arith
-filter-less p (x ∷ xs) =
-    elim (true_or_false (p x)) [
-      | inl passes ↦ rw passes (omega (arith, filter-less p xs))
-      | inr fails ↦ rw fails (omega (arith, filter-less p xs))
-    ]

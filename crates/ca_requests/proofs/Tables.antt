@@ -152,7 +152,7 @@ dims-over channel = dims-value (option_map (over_on channel)) refl keeps
 
 -- ---- a request is issued
 
-place-held : (t : Table Request) (q : Handle) (r : Request) → MayGive t q → place_at (with_held q r t) q.index ≡ record { generation = q.generation; value = Some r }
+pub place-held : (t : Table Request) (q : Handle) (r : Request) → MayGive t q → place_at (with_held q r t) q.index ≡ record { generation = q.generation; value = Some r }
 place-held t q r may =
     let place : Place Request = record { generation = q.generation; value = Some r } in
     elim (cases_eq q.index (length t)) [
@@ -160,7 +160,7 @@ place-held t q r may =
       | inr other ↦ rw (ne_eqb q.index (length t) other) (get_or-set_same t q.index place blank (omega (arith, may.index)))
     ]
 
-place-beside : (t : Table Request) (q : Handle) (r : Request) (i : ℕ) → MayGive t q → i ≢ q.index → place_at (with_held q r t) i ≡ place_at t i
+pub place-beside : (t : Table Request) (q : Handle) (r : Request) (i : ℕ) → MayGive t q → i ≢ q.index → place_at (with_held q r t) i ≡ place_at t i
 place-beside t q r i may other =
     let place : Place Request = record { generation = q.generation; value = Some r } in
     elim (cases_eq q.index (length t)) [
@@ -284,7 +284,7 @@ none-freed named t q =
     by_test true (Some r) =
         elim (true_or_false (named r)) [ inl meant ↦ rw meant refl | inr other ↦ rw (other, other) refl ]
 
-and-false : (b : Bool) → (b && false) ≡ false
+pub and-false : (b : Bool) → (b && false) ≡ false
 and-false true = refl
 and-false false = refl
 

@@ -1,13 +1,13 @@
 -- Working: what the fields of a client's requests stand for, and what is done to each of them. No clause of a caller needs it.
-use Rattle.std.specs.Prelude.{◌≤◌, Bool, true, List, option_map}
+use Rattle.std.specs.Prelude.{◌≤◌, Bool, true, List, [], ◌∷◌}
 use Rattle.std.specs.List.{AllByRecursion}
 use Rattle.ca_arena.specs.declared.handle.Handle.{Handle}
 use Rattle.ca_arena.specs.Arena.{Place, place_at}
-use Rattle.ca_ids.specs.Table.{Table, kept_of}
+use Rattle.ca_ids.specs.Table.{Table, kept_of, with_changed}
 use Rattle.ca_requests.specs.declared.drops.Which.{Which}
 use Rattle.ca_requests.specs.declared.drops.Which.TheVariants as which
 use Rattle.ca_requests.specs.Calls.{Issued}
-use Rattle.ca_requests.specs.Requests.{Request, asks_on, in_order_of_issue, over_on, was_sent_on}
+use Rattle.ca_requests.specs.Requests.{Draining, Request, asks_on, in_order_of_issue, was_sent_on}
 
 -- those of the listed handles that are open, in their order
 abbrev pub issued_of : Table Request → List Handle → Issued
@@ -30,6 +30,11 @@ named (which.OnCircuit circuit) = was_sent_on circuit
 abbrev pub place_freed : Which → Place Request → Place Request
 place_freed w p = record p { value = kept_of (named w) p.value }
 
--- a place whose request, if it is on this channel, is over
-abbrev pub place_over : Handle → Place Request → Place Request
-place_over channel p = record p { value = option_map (over_on channel) p.value }
+-- a request is over, and its IOID drains
+abbrev pub drained : Request → Request
+drained r = record r { stage = Draining }
+
+-- these requests are over, and their IOIDs drain
+abbrev pub each_drained : List Handle → Table Request → Table Request
+each_drained [] t = t
+each_drained (q ∷ qs) t = each_drained qs (with_changed drained q t)

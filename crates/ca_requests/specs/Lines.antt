@@ -2,6 +2,7 @@
 use Rattle.std.specs.Prelude.{ℕ, ◌≡◌, ◌≢◌, ◌<◌, ◌++◌, Bool, true, List, [], ◌∷◌, if◌then◌else◌, length, slice_index_or}
 use Rattle.std.specs.List.{AllByRecursion}
 use Rattle.ca_arena.specs.declared.handle.Handle.{Handle}
+use Rattle.ca_text.specs.Place.{At}
 use Rattle.ca_ids.specs.Table.{Table, same_handle}
 use Rattle.ca_requests.specs.Layout.{AreGiven}
 use Rattle.ca_requests.specs.Requests.{Request, in_order_of_issue, is_open}
@@ -80,8 +81,13 @@ pub record Hands (c : Handle) (old new : List Line) : Type 0 where
   pub handles : (line_at new c.index).handles ≡ handed_to c (line_at old c.index)
   pub others : (i : ℕ) → i ≢ c.index → line_at new i ≡ line_at old i
 
+-- each request that is open is listed
+abbrev pub AreAllListed : Table Request → List Handle → Type 0
+AreAllListed t listed = (q : Handle) → is_open (λ (r : Request). true) t q ≡ true → (n : ℕ) × At listed n q
+
 -- what holds of the fields of a client's requests
 pub record AreRequests (t : Table Request) (listed : List Handle) (lines mine : List Line) : Type 0 where
   pub given : AreGiven t listed
+  pub all : AreAllListed t listed
   pub circuits : AreLines circuit_of t listed lines
   pub channels : AreLines channel_of t listed mine

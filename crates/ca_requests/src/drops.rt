@@ -1,9 +1,8 @@
-//! What ends many requests at once. No memory is asked for: a walk over the table.
+//! What ends many requests at once. No memory is asked for: to free ids it goes over the table.
 ghost use Rattle.std.specs.Prelude.{◌≡◌, ◌<◌, length};
-ghost use Rattle.ca_ids.specs.Table.{with_all_freed};
+ghost use Rattle.ca_ids.specs.Table.{with_all_freed, with_changed};
 ghost use Rattle.ca_ids.specs.Walks.{with_place};
-ghost use Rattle.ca_requests.specs.Layout.{named, place_freed, place_over};
-ghost use Rattle.ca_requests.specs.Requests.{channel_over};
+ghost use Rattle.ca_requests.specs.Layout.{drained, each_drained, named, place_freed};
 
 use crate::asked::Stage;
 use crate::request::Request;
@@ -52,26 +51,18 @@ fn free_at(table: &mut HeldTable<Request>, index: usize, which: Which)
     let _ = table.free(handle);
 }
 
-/// The requests on this channel are over, and their IOIDs drain.
-pub(crate) fn end_all(table: &mut HeldTable<Request>, channel: Handle)
-    ensures { table.new ≡ channel_over channel table.old }
+/// These requests are over, and their IOIDs drain.
+pub(crate) fn end_each(table: &mut HeldTable<Request>, requests: &[Handle])
+    ensures { table.new ≡ each_drained requests.now table.old }
 {
-    let places = table.places();
-    for index in 0..places {
-        end_at(table, index, channel);
+    for index in 0..requests.len() {
+        end_one(table, requests[index]);
     }
 }
 
-fn end_at(table: &mut HeldTable<Request>, index: usize, channel: Handle)
-    requires { index < length table.old }
-    ensures { table.new ≡ with_place index (place_over channel) table.old }
+fn end_one(table: &mut HeldTable<Request>, handle: Handle)
+    ensures { table.new ≡ with_changed drained handle table.old }
 {
-    let Some((handle, request)) = table.at(index) else {
-        return;
-    };
-    if !request.is_on(channel) {
-        return;
-    }
     if let Some(request) = table.by_handle_mut(handle) {
         request.stage = Stage::Draining;
     }

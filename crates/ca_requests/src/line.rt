@@ -10,6 +10,9 @@ use std::alloc::{AllocError, Global};
 use std::marker::Model;
 use std::mem;
 
+// So many are listed before any is taken out.
+const LEAST_LIMIT: usize = 16;
+
 /// The requests of a circuit or of a channel, in order of issue: all that are open, and some that are over.
 #[derive(Debug, Drop)]
 pub(crate) struct Line {
@@ -44,7 +47,7 @@ impl Line {
                 generation: 0,
             },
             listed: Vec::new(alloc),
-            limit: 16,
+            limit: LEAST_LIMIT,
         }
     }
 
@@ -77,6 +80,7 @@ impl Line {
             return Err(AllocError);
         }
         self.owner = owner;
+        self.limit = LEAST_LIMIT;
         Ok(())
     }
 
@@ -89,7 +93,7 @@ impl Line {
             return;
         }
         forget(&mut self.listed, table);
-        self.limit = self.listed.len().saturating_mul(2).max(16);
+        self.limit = self.listed.len().saturating_mul(2).max(LEAST_LIMIT);
     }
 
     /// One more request is the last. There is room for it.
@@ -110,6 +114,7 @@ impl Line {
         if !is_same(self.owner, owner) {
             return Vec::new(alloc);
         }
+        self.limit = LEAST_LIMIT;
         mem::replace(&mut self.listed, Vec::new(alloc))
     }
 }

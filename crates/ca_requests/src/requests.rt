@@ -1,13 +1,12 @@
-ghost use Rattle.std.specs.Prelude.{◌≡◌, ◌≢◌, ◌≤◌, ◌+◌, ◌<◌, ◌++◌, ◌∷◌, [], if◌then◌else◌, true, IfOk, OnErr, length, vec_capacity, vec_len};
+ghost use Rattle.std.specs.Prelude.{◌≡◌, [], true};
 ghost use Rattle.ca_ids.specs.Holding.{IsVacant};
-ghost use Rattle.ca_ids.specs.Table.{is_full, under};
 ghost use Rattle.ca_requests.specs.Calls.{Answers, Issues, failed_in, new_request, open_of, with_table, without, without_if};
 ghost use Rattle.ca_requests.specs.Forms.{asked_of};
 ghost use Rattle.ca_requests.specs.Layout.{named};
 ghost use Rattle.ca_requests.specs.Requests.{answered_by, asks_on, channel_gone, channel_over, circuit_gone, in_order_of_issue, is_open, was_sent_on};
 
 use crate::asked::{Asked, Stage};
-use crate::drops::{Which, end_all, free_all};
+use crate::drops::{Which, end_each, free_all};
 use crate::line::Line;
 use crate::lines::{hand_out, note, prepare};
 use crate::outcome::{image_outcome, status_outcome};
@@ -68,13 +67,6 @@ impl Requests {
         }
     }
 
-    /// Whether no request can be issued.
-    pub fn is_full(&self) -> bool
-        ensures { result ≡ is_full self.now.table }
-    {
-        self.table.is_full()
-    }
-
     /// The handle of the request that is issued next. None if no IOID may be given.
     pub fn vacant(&self) -> Option<Handle>
         ensures { IsVacant self.now.table result }
@@ -131,13 +123,6 @@ impl Requests {
         }
         forget(&mut self.listed, &self.table);
         self.limit = self.listed.len().saturating_mul(2).max(64);
-    }
-
-    /// The request of this handle, while it holds its IOID.
-    pub fn by_handle(&self, handle: Handle) -> Option<Request>
-        ensures { result ≡ under self.now.table handle }
-    {
-        self.table.by_handle(handle).copied()
     }
 
     // The request that a reply of this command and IOID on this circuit is about.
@@ -200,34 +185,6 @@ impl Requests {
         let _ = self.table.free(handle);
     }
 
-    /// The open requests on this channel, in order of issue. It takes memory only if there is one.
-    pub fn on_channel(&self, channel: Handle) -> Result<Vec<Handle>, AllocError>
-        ensures ok { IfOk result (λ told. told.items ≡ open_of (asks_on channel) self.now) }
-        ensures some { OnErr result (open_of (asks_on channel) self.now ≢ []) }
-    {
-        let mut told = Vec::new(*self.listed.allocator());
-        let which = Which::OnChannel(channel);
-        told.reserve(self.count(which))?;
-        self.tell(which, &mut told);
-        Ok(told)
-    }
-
-    // How many open requests are meant.
-    fn count(&self, which: Which) -> usize
-        ensures { result ≡ length (open_of (named which) self.now) }
-    {
-        count_in(&self.table, &self.listed, which)
-    }
-
-    // Puts the open requests that are meant after what is told, in order of issue.
-    fn tell(&self, which: Which, told: &mut Vec<Handle>)
-        requires { vec_len told.old + length (open_of (named which) self.now)
-            ≤ vec_capacity told.old }
-        ensures { told.new.items ≡ told.old.items ++ open_of (named which) self.now }
-    {
-        tell_in(&self.table, &self.listed, which, told);
-    }
-
     /// The requests on this channel are over, and their IOIDs drain: those that were open, in order of issue. It does not allocate.
     pub fn end_channel(&mut self, channel: Handle) -> Vec<Handle>
         ensures told { result.items ≡ open_of (asks_on channel) self.old }
@@ -236,7 +193,7 @@ impl Requests {
         let alloc = *self.listed.allocator();
         let mut told = hand_out(alloc, &mut self.channels, channel);
         keep_open(&mut told, &self.table, Which::OnChannel(channel));
-        end_all(&mut self.table, channel);
+        end_each(&mut self.table, &told);
         told
     }
 
@@ -275,55 +232,6 @@ fn is_meant(table: &HeldTable<Request>, handle: Handle, which: Which) -> bool
         Some(request) => which.names(request) && request.is_open(),
         None => false,
     }
-}
-
-// 1 if the request of this handle is open, and meant, else 0.
-fn one_if_meant(table: &HeldTable<Request>, handle: Handle, which: Which) -> usize
-    ensures { result ≡ (if is_open (named which) table.now handle then 1 else 0) }
-{
-    if is_meant(table, handle, which) {
-        return 1;
-    }
-    0
-}
-
-// How many of these are open, and meant.
-fn count_in(table: &HeldTable<Request>, listed: &[Handle], which: Which) -> usize
-    ensures { result ≡ length (in_order_of_issue (named which) table.now listed.now) }
-{
-    let mut count = 0;
-    for index in 0..listed.len() {
-        count += one_if_meant(table, listed[index], which);
-    }
-    count
-}
-
-// Puts those that are open, and meant, after what is told.
-fn tell_in(table: &HeldTable<Request>, listed: &[Handle], which: Which, told: &mut Vec<Handle>)
-    requires { vec_len told.old + length (in_order_of_issue (named which) table.now listed.now)
-        ≤ vec_capacity told.old }
-    ensures { told.new.items
-        ≡ told.old.items ++ in_order_of_issue (named which) table.now listed.now }
-{
-    for index in 0..listed.len() {
-        tell_one(table, listed[index], which, told);
-    }
-}
-
-// Puts the handle after what is told, if its request is open, and meant.
-fn tell_one(table: &HeldTable<Request>, handle: Handle, which: Which, told: &mut Vec<Handle>)
-    requires { is_open (named which) table.now handle ≡ true
-        → vec_len told.old < vec_capacity told.old }
-    ensures items { told.new.items
-        ≡ told.old.items ++ (if is_open (named which) table.now handle then handle ∷ [] else []) }
-    ensures len { vec_len told.new
-        ≡ vec_len told.old + (if is_open (named which) table.now handle then 1 else 0) }
-    ensures capacity { vec_capacity told.new ≡ vec_capacity told.old }
-{
-    if !is_meant(table, handle, which) {
-        return;
-    }
-    told.push_reserved(handle);
 }
 
 // Takes those that are over out of a list.

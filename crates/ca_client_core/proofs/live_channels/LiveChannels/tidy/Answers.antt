@@ -1,10 +1,7 @@
 use Rattle.std.proofs.Common.{List, subst}
 use Rattle.ca_arena.specs.declared.handle.Handle.{Handle}
 use Rattle.ca_client_core.specs.Listed.{KeepsLive}
-use Rattle.ca_client_core.proofs.Listing.{keeps-kept}
 use Rattle.ca_client_core.proofs.live_channels.LiveChannels.tidy.Goals as goal
 
 pub returns : goal.returns
-returns c =
-    subst (λ (old : List Handle). KeepsLive c.args.channels.now old c.forget.new.listed.items) c.self.view_is
-    (keeps-kept c.args.channels.now c.self.inside.listed.items c.forget.new.listed.items c.forget.ensures)
+returns c = subst (λ (old : List Handle). KeepsLive c.args.channels.now old c.forget.new.listed.items) c.self.view_is c.forget.ensures
