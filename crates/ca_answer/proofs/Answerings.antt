@@ -133,7 +133,7 @@ module _ {K : Type 0} (takes : K → List ℕ → K → Type 0) (rules : List Ru
         parts = ap (λ (w : List ℕ). concat r.writes ++ w) r.sent ∙ append-nil (concat r.writes) ∙ r.parts;
       }
 
-  -- nothing is refused but for want of memory
+  -- nothing is refused but out of memory
   pub given-refused : (k0 k : K) (bytes chunk : List ℕ) (x : EngineState) (e : Refusal) (y : Server) → Rested takes rules states k0 bytes k x → Gives x.core x.circuit chunk (Err e) y → e ≡ OutOfMemory
   given-refused k0 k bytes chunk x OutOfMemory y r g = refl
   given-refused k0 k bytes chunk x CircuitClosed y r g = absurd (g.0 _ (served-has rules states bytes x.circuit x.core r.text r.served))

@@ -135,7 +135,7 @@ module _ {K : Type 0} (takes : K → List ℕ → K → Type 0) (faults : K → 
   abbrev with_core : EngineState → Server → EngineState
   with_core x y = record x { core = y }
 
-  -- a message was handled, and what waits of it was put behind the bytes that wait
+  -- a message was handled, and what waits of it was put after the bytes that wait
   pub serves-gathered : (k : K) (x new : EngineState) (y : Server) → HandlesOne x.core x.circuit y → Gathers (with_core x y) new → ServesOn takes rules states k x k new
   serves-gathered k x new y d g k0 bytes s = go s.stands
     where

@@ -1,4 +1,4 @@
--- What the engine of one circuit reads and writes.
+-- Vocabulary: what the engine of one circuit reads and writes.
 use Rattle.std.specs.Prelude.{ℕ, ◌≡◌, ◌+◌, ◌<◌, ◌++◌, ◌⊎◌, List, [], ◌∷◌, Result, Ok, Err}
 use Rattle.std.specs.List.{concat}
 use Rattle.ca_text.specs.declared.refusal.Refusal.{Refusal}
@@ -12,7 +12,7 @@ use Rattle.ca_records.specs.Rules.{Rule}
 use Rattle.ca_model.specs.Answer.{Answered}
 
 -- The bytes are readings of these messages, then the rest; the messages are answered by a text; and what the sink took since k0, with what
--- waits behind it, is that text.
+-- waits after it, is that text.
 pub record Written {K : Type 0} (takes : K → List ℕ → K → Type 0) (rules : List Rule) (states : List RecordState) (k0 : K) (bytes : List ℕ) (k : K) (rest waits : List ℕ) : Type 0 where
   pub ms : List Fields
   pub begins : Begins bytes ms rest

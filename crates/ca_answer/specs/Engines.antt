@@ -46,7 +46,7 @@ abbrev pub ServesNext : Server → Handle → Stepped → Server → Type 0
 ServesNext old h Handled new = HandlesOne old h new
 ServesNext old h did new = Steps old h did new
 
--- what waits to be sent on the circuit was put behind the bytes that wait
+-- what waits to be sent on the circuit was put after the bytes that wait
 abbrev pub Gathers : EngineState → EngineState → Type 0
 Gathers x new =
     (new.waits ≡ x.waits ++ output_of (under x.core.circuits x.circuit)) × (new.circuit ≡ x.circuit) × Sends x.core x.circuit (length (output_of (under x.core.circuits x.circuit))) new.core

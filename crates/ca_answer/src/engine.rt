@@ -158,7 +158,7 @@ impl Engine {
         }
     }
 
-    // Moves what the circuit has to send behind the bytes that wait.
+    // Moves what the circuit has to send to the end of the bytes that wait.
     fn gather(&mut self) -> Result<(), AllocError>
         ensures ok { OnOk result (Gathers self.old self.new) }
     {

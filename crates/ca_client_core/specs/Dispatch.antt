@@ -20,6 +20,6 @@ abbrev pub HearsOr : Client → Handle → Fields → Result (List notice.Notice
 HearsOr old c m (Ok told) new = (e : Effect) × Hears old c m e × (told ≡ e.notices) × (new ≡ e.core)
 HearsOr old c m (Err _) new = (e : Effect) × Hears old c m e × TakesMemory old m e × (new ≡ old)
 
--- one that takes no memory
+-- one that does not allocate
 abbrev pub HearsAs : Client → Handle → Fields → Option Notice → Client → Type 0
 HearsAs old c m told new = (e : Effect) × Hears old c m e × (noticed told ≡ e.notices) × (new ≡ e.core)

@@ -47,7 +47,7 @@ impl ClientCore {
         Ok(Notices::one(self.alloc, told))
     }
 
-    // One that takes no memory.
+    // One that does not allocate.
     fn hear_quietly(&mut self, circuit: Handle, message: &Message) -> Option<Notice>
         requires search { message.now.command ≢ command_number command.Search }
         requires create { message.now.command ≢ command_number command.CreateChannel }

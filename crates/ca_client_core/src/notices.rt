@@ -11,7 +11,7 @@ use std::marker::Model;
 
 /// What a call reports, in order: first the requests that are complete without an answer, then the channels that were lost, then anything else.
 ///
-/// It takes no memory to make, since its handles were listed before.
+/// To make it does not allocate, since its handles were listed before.
 #[derive(Debug, Drop)]
 pub struct Notices {
     disconnected: Vec<Handle>,

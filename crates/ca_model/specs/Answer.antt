@@ -1,5 +1,5 @@
 -- Vocabulary: what one circuit's engine writes for the messages that it read: for each, its replies, then the replies of finishes, and
--- then the updates of one pump (section "Overall Server Operation"). It is to be the contract of `answer_stream`.
+-- then the updates of one pump (section "Overall Server Operation"). It is the contract of `answer_stream`.
 use Rattle.std.specs.Prelude.{ℕ, ◌≡◌, ◌++◌, Bool, false, List, [], ◌∷◌, None, Ok, length}
 use Rattle.std.specs.List.{FoldsTo}
 use Rattle.ca_arena.specs.declared.handle.Handle.{Handle}

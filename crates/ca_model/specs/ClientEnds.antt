@@ -1,5 +1,5 @@
 -- Vocabulary: what the calls on a client's circuits answer and leave, and those for moments and datagrams (sections "Virtual Circuit" and
--- "CA Search"). Each definition by answer is to be the contract of the call that its comment names: from old, with this answer, it sent these
+-- "CA Search"). Each definition by answer is the contract of the call that its comment names: from old, with this answer, it sent these
 -- messages and left new.
 use Rattle.std.specs.Prelude.{ℕ, ◌≡◌, ◌≢◌, ◌<◌, ◌≤◌, ◌^◌, ◌==◌, ◌&&◌, ◌++◌, ◌⊎◌, Bool, true, false, not, List, [], ◌∷◌, Option, Some, None, Result, Ok, Err, filter, filter_map, flat_map, fold, if◌then◌else◌, is_none, is_some, length, map, nat_le, option_and_then, option_map, option_to_list, unwrap_or}
 use Rattle.std.specs.FinMap as finite

@@ -79,7 +79,7 @@ module _ (whose : Request → Handle) where
       let rest = of-filter t c p xs all.1 in
       elim (true_or_false (p q)) [ inl passes ↦ rw passes (all.0, rest) | inr fails ↦ rw fails rest ]
 
--- the line of this owner with these requests, and room for so many
+-- the line of this owner with these requests, and room for that many
 abbrev pub line : Handle → List Handle → ℕ → Line
 line c xs n = record { owner = c; handles = xs; room = n }
 

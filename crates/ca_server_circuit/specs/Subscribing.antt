@@ -18,7 +18,7 @@ use Rattle.ca_server_subscriptions.specs.Subscribed.{IsAskable, Subscribed}
 abbrev pub events_of : ServerEnd → Subscribed
 events_of e = record { subscriptions = e.subscriptions; queues = e.queues }
 
--- the subscription of an EVENT_ADD may begin: its key is in use or not, beside so many others
+-- the subscription of an EVENT_ADD may begin: its key is in use or not, beside that many others
 abbrev pub MayBegin : (in_use : Bool) → (others : ℕ) → Fields → Type 0
 MayBegin in_use others m = IsAskable (wanted_in m) × (in_use ≡ false) × (others < circuit_queues * queue_subscriptions)
 

@@ -125,7 +125,7 @@ fn key_of(message: &Message) -> SubKey
     }
 }
 
-/// The first fault of an EVENT_ADD on this record under these rights, whose key is in use or not, beside so many other subscriptions.
+/// The first fault of an EVENT_ADD on this record under these rights, whose key is in use or not, beside that many other subscriptions.
 fn event_fault(
     of: &Record,
     rights: u32,

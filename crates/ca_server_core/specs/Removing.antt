@@ -28,7 +28,7 @@ LosesIn t index name s after u =
     × (after ≡ with_changed (λ (x : ServerCircuit). new) h t))
     ⊎ ((held_at index (place_at t index) ≡ None) × (after ≡ t) × (u ≡ s))
 
--- Each circuit has lost the record, but for those that ended, and left so many SERVER_DISCONNs.
+-- Each circuit has lost the record, but for those that ended, and left that many SERVER_DISCONNs.
 pub record IsLost (name : List ℕ) (gone : Handle → Bool) (left : Handle → ℕ) (t : Table ServerCircuit) (s : Store) (after : Table ServerCircuit) (u : Store) : Type 0 where
   pub may : (h : Handle) → gone h ≡ true → (e : ServerEnd) × (under t h ≡ Some (server.Open e)) × (channels_of name e ≢ []) × (left h ≤ length (channels_of name e))
   pub circuits : after ≡ with_each (circuit_without name gone left) t

@@ -1,4 +1,4 @@
-//! A server's end of a circuit: what it answers to the messages that come.
+//! The small world's server, with one end of a circuit: what it answers to the messages that come.
 #![tactic(auto)]
 
 mod channels;
