@@ -1,10 +1,10 @@
 -- What the engine answers, by how a turn ended.
-use Rattle.std.proofs.Common.{◌≡◌, ℕ, ◌+◌, ◌<◌, Bool, true, false, inl, inr, List, [], ◌∷◌, ◌++◌, length, length-append, map, Option, Some, None, refl, sym, ap, ◌∙◌, subst, arith}
-use Rattle.std.specs.Prelude.{Result, Ok, Err}
+use Rattle.std.proofs.Common.{◌≡◌, ℕ, ◌+◌, ◌<◌, inl, inr, List, [], ◌∷◌, ◌++◌, length, length-append, map, None, refl, sym, ap, ◌∙◌, subst, arith}
+use Rattle.std.specs.Prelude.{Ok, Err}
 use Rattle.std.specs.List.{concat}
 use Rattle.std.proofs.lemmas.List.{append-nil}
 use Rattle.ca_arena.specs.declared.handle.Handle.{Handle}
-use Rattle.ca_ids.specs.Table.{MayGive, Table, under, with_changed, with_held}
+use Rattle.ca_ids.specs.Table.{MayGive, Table, under, with_held}
 use Rattle.ca_link.specs.Link.{LinkState, with_given}
 use Rattle.ca_link.specs.Steps.{Moves}
 use Rattle.ca_records.specs.Puts.{Record, new_record}
@@ -12,21 +12,21 @@ use Rattle.ca_records.specs.Record.{RecordState}
 use Rattle.ca_records.specs.Rules.{Rule}
 use Rattle.ca_text.specs.declared.refusal.Refusal.{Refusal}
 use Rattle.ca_text.specs.declared.refusal.Refusal.TheVariants.{OutOfMemory, Misaligned, TooLarge, CircuitClosed, Device}
-use Rattle.ca_text.specs.Limits.{engine_turns, server_port}
+use Rattle.ca_text.specs.Limits.{server_port}
 use Rattle.ca_text.proofs.Places.{At-mapped}
 use Rattle.ca_wire.specs.Stream.{Begins, NoneBegins, NotBad}
 use Rattle.ca_wire.proofs.Headers.{header-long}
 use Rattle.ca_wire.proofs.Messages.{spells-long}
 use Rattle.ca_model.specs.Answer.{Answered}
 use Rattle.ca_model.specs.Server.{Open, Server, ServerCircuit, ServerEnd, new_end, new_server}
-use Rattle.ca_model.specs.ServerSteps.{Accepts, Gives, HasEnd, with_end}
+use Rattle.ca_model.specs.ServerSteps.{Gives, HasEnd, with_end}
 use Rattle.ca_server_circuit.proofs.Tables.{held-own}
 use Rattle.ca_answer.specs.Answering.{BreaksOff, MeetsBad, ReadsAll, SourceFails, Streams, Turned, Written}
 use Rattle.ca_answer.specs.Engines.{EngineState, IsNew}
 use Rattle.ca_answer.specs.Serving.{AreFree, Drains, MetBad, Partly, Rested, Served, Serving}
 use Rattle.ca_answer.proofs.Ends.{changed-twice, one-end}
 use Rattle.ca_answer.proofs.Handled.{begins-behind, same-end, served-has}
-use Rattle.ca_answer.proofs.Servings.{concat-more, moves-more, partly-here, past-written}
+use Rattle.ca_answer.proofs.Servings.{concat-more, moves-more, past-written}
 
 none-begins-empty : NoneBegins []
 none-begins-empty m front back spells e =

@@ -1,12 +1,11 @@
 -- What a message does to busy records, by what is due for it.
-use Rattle.std.proofs.Common.{◌≡◌, ℕ, zero, suc, ◌⊎◌, inl, inr, Bool, true, false, cond, ◌&&◌, ◌||◌, eqb, eqb-true, List, [], ◌∷◌, refl, sym, ap, subst, ◌∙◌}
+use Rattle.std.proofs.Common.{◌≡◌, ℕ, zero, suc, ◌⊎◌, inl, inr, Bool, true, false, cond, ◌&&◌, ◌||◌, eqb, eqb-true, List, [], ◌∷◌, refl, sym, subst}
 use Rattle.std.specs.List.{list_any}
 use Rattle.ca_text.specs.Command.{command_number}
 use Rattle.ca_text.specs.declared.command.Command.{Command}
 use Rattle.ca_text.specs.declared.command.Command.TheVariants as command
 use Rattle.ca_text.specs.Place.{At}
 use Rattle.ca_text.proofs.Places.{some_is}
-use Rattle.ca_dbr.specs.Elements.{Elements}
 use Rattle.ca_model.specs.Due.{Action, Applies, Due, Knows, Names, Nothing, PutDue, Serves, WriteDue, is_known, must_wait, named}
 use Rattle.ca_model.specs.Due as action
 use Rattle.ca_model.specs.Ends.{Peer}

@@ -1,26 +1,24 @@
 -- Which records are busy as a message is handled and the record that it made busy is finished.
-use Rattle.std.proofs.Common.{◌≡◌, ◌≢◌, ℕ, zero, suc, ◌⊎◌, inl, inr, Bool, true, false, cond, not, List, [], ◌∷◌, filter, map, Option, Some, None, refl, sym, ap, ◌∙◌, subst}
-use Rattle.std.specs.Prelude.{Result, Ok, Err, find, is_some, option_map}
+use Rattle.std.proofs.Common.{◌≡◌, ℕ, zero, suc, inl, inr, Bool, true, false, cond, not, List, [], ◌∷◌, filter, map, Option, Some, None, refl, sym, ap, ◌∙◌, subst}
+use Rattle.std.specs.Prelude.{Result, Ok, Err, is_some, option_map}
 use Rattle.std.specs.List.{FoldsTo}
 use Rattle.std.specs.Str.{bytes_eq}
 use Rattle.std.proofs.lemmas.Slice.Eq.{bytes_eq-Decides}
 use Rattle.ca_arena.specs.declared.handle.Handle.{Handle}
-use Rattle.ca_ids.specs.Table.{held}
-use Rattle.ca_ids.specs.Wire.{wire_of}
 use Rattle.ca_records.specs.declared.puts.Put.{Put}
 use Rattle.ca_records.specs.declared.puts.Stamp.{Stamp}
 use Rattle.ca_records.specs.Puts.{Record, WaitingPut, finished, record_named, with_record, with_value, without_puts, withdrawn, written_meta}
 use Rattle.ca_text.specs.declared.refusal.Refusal.{Refusal}
 use Rattle.ca_text.specs.declared.refusal.Refusal.TheVariants as refusal
 use Rattle.ca_text.specs.Place.{At}
-use Rattle.ca_text.proofs.Places.{At-map, At-mapped, some_is}
+use Rattle.ca_text.proofs.Places.{At-mapped, some_is}
 use Rattle.ca_wire.specs.Fields.{Fields}
 use Rattle.ca_model.specs.Answer.{FinishesOne}
 use Rattle.ca_model.specs.Due.{Action, Applies, Knows, Serves}
 use Rattle.ca_model.specs.Due as action
-use Rattle.ca_model.specs.Server.{Server, ServerEnd, OpenChannel}
+use Rattle.ca_model.specs.Server.{Server, ServerEnd}
 use Rattle.ca_model.specs.ServerCalls.{Finishes, Replies, after_next, with_finish}
-use Rattle.ca_model.specs.ServerSteps.{HasEnd, Pumps, Reaches, Records, Update, known_record, knows}
+use Rattle.ca_model.specs.ServerSteps.{Pumps, Reaches, Records, Update, known_record, knows}
 use Rattle.ca_model.specs.Speech.{In}
 use Rattle.ca_server_circuit.proofs.Tables.{find-at, none-some}
 use Rattle.ca_answer.specs.Engines.{Tries}

@@ -1,26 +1,22 @@
 -- A message is handled on a circuit that was served: it is answered by what waits then, or the circuit's end has ended out of memory.
-use Rattle.std.proofs.Common.{◌≡◌, ◌≢◌, ℕ, ◌+◌, ◌<◌, ◌≤◌, ◌⊎◌, inl, inr, Bool, true, false, cond, List, [], ◌∷◌, ◌++◌, append_assoc, drop, length, length-append, map, Option, Some, None, refl, sym, ap, ◌∙◌, subst, arith}
-use Rattle.std.specs.Prelude.{Result, Ok, Err, option_map}
-use Rattle.std.specs.List.{FoldsTo}
+use Rattle.std.proofs.Common.{◌≡◌, ℕ, ◌⊎◌, inl, inr, true, false, List, [], ◌∷◌, ◌++◌, append_assoc, drop, length, Option, Some, None, refl, sym, ap, ◌∙◌, subst, arith}
 use Rattle.std.proofs.lemmas.List.{append-nil}
 use Rattle.ca_arena.specs.declared.handle.Handle.{Handle}
 use Rattle.ca_ids.specs.Table.{Table, held, under, with_changed}
 use Rattle.ca_ids.specs.Wire.{wire_of}
-use Rattle.ca_link.specs.Link.{LinkState, TakesFirst, with_given, with_handed, with_rest, with_sent}
+use Rattle.ca_link.specs.Link.{LinkState, TakesFirst, with_handed, with_rest, with_sent}
 use Rattle.ca_records.specs.Puts.{Record}
 use Rattle.ca_records.specs.Record.{RecordState}
 use Rattle.ca_records.specs.Rules.{Rule}
-use Rattle.ca_text.specs.Place.{At}
-use Rattle.ca_text.proofs.Places.{At-mapped, some_is}
+use Rattle.ca_text.proofs.Places.{At-mapped}
 use Rattle.ca_wire.specs.Fields.{Fields}
 use Rattle.ca_wire.specs.Message.{Spells}
-use Rattle.ca_wire.specs.Stream.{BadAt, Begins, NoneBegins, NotBad}
-use Rattle.ca_wire.proofs.Messages.{spells-long}
+use Rattle.ca_wire.specs.Stream.{Begins, NoneBegins, NotBad}
 use Rattle.ca_model.specs.Answer.{Answers, Serves, Writes}
 use Rattle.ca_model.specs.Due.{Action, Applies, KnownChannel}
 use Rattle.ca_model.specs.Due as action
 use Rattle.ca_model.specs.Ends as why
-use Rattle.ca_model.specs.Server.{Ended, Open, OpenChannel, Server, ServerCircuit, ServerEnd}
+use Rattle.ca_model.specs.Server.{Open, OpenChannel, Server, ServerCircuit, ServerEnd}
 use Rattle.ca_model.specs.ServerSteps.{Handles, HasEnd, Records, Sends, Stepped, Steps, StepsAt, StepsOpen, knows, known_channel, output_of, with_end}
 use Rattle.ca_model.specs.ServerSteps as did
 use Rattle.ca_model.specs.Speech.{In}
@@ -28,9 +24,9 @@ use Rattle.ca_server_core.specs.NextPut.{IsNextPut}
 use Rattle.ca_server_circuit.specs.NextPut.{PutsFirst}
 use Rattle.ca_server_core.proofs.Moves.{changed-nothing}
 use Rattle.ca_answer.specs.Engines.{HandlesOne}
-use Rattle.ca_answer.specs.Serving.{Over, Past, Served}
+use Rattle.ca_answer.specs.Serving.{Over, Served}
 use Rattle.ca_answer.proofs.Doing.{Busies, due-busies}
-use Rattle.ca_answer.proofs.Ends.{changed-twice, end-there, handles-has, not-open, one-end, pumped-stays, reaches-has, records-circuits, tried-stays}
+use Rattle.ca_answer.proofs.Ends.{changed-twice, end-there, handles-has, one-end, pumped-stays, reaches-has, records-circuits, tried-stays}
 use Rattle.ca_answer.proofs.Free.{AreFreeBut, Matches, busied, pumped-free, reached-free, recorded-free, tried-free}
 
 -- ---- bytes and answers in a row

@@ -1,30 +1,29 @@
 -- What holds between two messages, message by message and write by write.
-use Rattle.std.proofs.Common.{◌≡◌, ℕ, ◌+◌, ◌<◌, ◌⊎◌, inl, inr, Bool, true, false, List, [], ◌∷◌, ◌++◌, length, take, drop, Option, Some, None, refl, sym, ap, ◌∙◌, subst, arith, append_assoc, length-append}
+use Rattle.std.proofs.Common.{◌≡◌, ℕ, ◌<◌, ◌⊎◌, inl, inr, true, false, List, [], ◌∷◌, ◌++◌, length, take, drop, Option, Some, refl, sym, ap, ◌∙◌, subst, arith, append_assoc}
 use Rattle.std.specs.Prelude.{Result, Ok, Err, IsErrAnd}
 use Rattle.std.specs.List.{concat}
 use Rattle.std.proofs.lemmas.List.{append-nil, take-append-drop}
 use Rattle.ca_arena.specs.declared.handle.Handle.{Handle}
-use Rattle.ca_ids.specs.Table.{MayGive, under}
-use Rattle.ca_link.specs.Link.{LinkState, with_given, with_handed}
+use Rattle.ca_ids.specs.Table.{under}
+use Rattle.ca_link.specs.Link.{with_handed}
 use Rattle.ca_link.specs.Steps.{Moves}
 use Rattle.ca_records.specs.Record.{RecordState}
 use Rattle.ca_records.specs.Rules.{Rule}
 use Rattle.ca_text.specs.declared.refusal.Refusal.{Refusal}
-use Rattle.ca_text.specs.declared.refusal.Refusal.TheVariants.{OutOfMemory, Misaligned, TooLarge, CircuitClosed, Device}
-use Rattle.ca_text.specs.Limits.{engine_turns, server_port}
-use Rattle.ca_wire.specs.Stream.{BadAt, NoneBegins, NotBad}
-use Rattle.ca_wire.proofs.Messages.{spells-long}
+use Rattle.ca_text.specs.declared.refusal.Refusal.TheVariants.{OutOfMemory, Misaligned, TooLarge, Device}
+use Rattle.ca_text.specs.Limits.{engine_turns}
+use Rattle.ca_wire.specs.Stream.{BadAt}
 use Rattle.ca_model.specs.Answer.{Answered}
 use Rattle.ca_model.specs.Ends.{Why, why_of}
 use Rattle.ca_model.specs.Ends as why
-use Rattle.ca_model.specs.Server.{Ended, Open, Server, ServerCircuit, ServerEnd, new_server}
+use Rattle.ca_model.specs.Server.{Ended, Open, Server, ServerCircuit, ServerEnd}
 use Rattle.ca_model.specs.ServerSteps.{Accepts, Gives, HasEnd, Sends, Stepped, Steps, output_of, with_end}
 use Rattle.ca_model.specs.ServerSteps as did
 use Rattle.ca_answer.specs.Answering.{Written}
 use Rattle.ca_answer.specs.Engines.{EngineState, Gathers, HandlesOne, refusal_for, unread_size}
 use Rattle.ca_answer.specs.Serving.{BreaksAt, Comes, Drains, EndsBad, EndsRested, Flushes, Hands, MetBad, Over, Partly, Past, Rested, Served, Serving, ServesOn}
-use Rattle.ca_answer.proofs.Ends.{changed-twice, end-there, not-open, one-end}
-use Rattle.ca_answer.proofs.Handled.{Told, begins-behind, over-reports, served-handled, served-has, served-rests, served-room, steps-there}
+use Rattle.ca_answer.proofs.Ends.{not-open, one-end}
+use Rattle.ca_answer.proofs.Handled.{Told, over-reports, served-handled, served-has, served-rests, served-room, steps-there}
 use Rattle.ca_text.proofs.Places.{some_is}
 
 -- one more chunk was moved

@@ -1,12 +1,10 @@
 -- A message that is handled makes fewer bytes that were not read.
-use Rattle.std.proofs.Common.{◌≡◌, ℕ, ◌+◌, ◌<◌, ◌≤◌, ◌++◌, inl, inr, List, length, length-append, Option, Some, None, refl, sym, ap, ◌∙◌, subst, arith}
+use Rattle.std.proofs.Common.{◌≡◌, ℕ, ◌<◌, ◌≤◌, ◌++◌, inl, inr, List, length, length-append, Option, Some, None, refl, sym, ap, ◌∙◌, arith}
 use Rattle.ca_arena.specs.declared.handle.Handle.{Handle}
 use Rattle.ca_ids.specs.Table.{under}
 use Rattle.ca_link.specs.Link.{with_handed, with_rest}
-use Rattle.ca_text.proofs.Places.{some_is}
 use Rattle.ca_wire.proofs.Messages.{spells-long}
 use Rattle.ca_model.specs.Ends.{Why}
-use Rattle.ca_model.specs.Ends as why
 use Rattle.ca_model.specs.Server.{Ended, Open, Server, ServerCircuit, ServerEnd}
 use Rattle.ca_model.specs.ServerSteps.{StepsAt, StepsOpen}
 use Rattle.ca_model.specs.ServerSteps as did

@@ -10,9 +10,9 @@ use Rattle.ca_text.specs.Limits.{server_port}
 use Rattle.ca_wire.specs.Fields.{Fields}
 use Rattle.ca_model.specs.Ends.{Why}
 use Rattle.ca_model.specs.Ends as why
-use Rattle.ca_model.specs.Server.{Open, Server, ServerCircuit, ServerEnd, new_server}
+use Rattle.ca_model.specs.Server.{Open, Server, ServerCircuit, new_server}
 use Rattle.ca_model.specs.ServerCalls.{Finishes}
-use Rattle.ca_model.specs.ServerSteps.{Accepts, Closed, Handled, NeedBytes, OutputFull, Pumps, Sends, Stepped, Steps, Update, output_of}
+use Rattle.ca_model.specs.ServerSteps.{Accepts, Handled, Pumps, Sends, Stepped, Steps, Update, output_of}
 use Rattle.ca_server_core.specs.NextPut.{IsNextPut}
 
 -- A server, its circuit, and the bytes that wait to be handed to the sink.
