@@ -46,7 +46,7 @@ no-name : (number : ℕ) → let a : Option ℕ = None in let b : Option ℕ = S
 no-name number e = cc
 
 -- what gives an IOID and means this number has its name
-request-named : (n : Names) (m : Fields) (id number : ℕ) (intent : Intent) → Suits intent m → Gives m (Ioid id) → named (Ioid id) intent ≡ Some number → IsNamedIn n intent → (q : Handle) × At n.requests number (q, intent)
+pub request-named : (n : Names) (m : Fields) (id number : ℕ) (intent : Intent) → Suits intent m → Gives m (Ioid id) → named (Ioid id) intent ≡ Some number → IsNamedIn n intent → (q : Handle) × At n.requests number (q, intent)
 request-named n m id number (On a (history.Request Read k)) suits gives is name = (name.0, subst (λ (z : ℕ). At n.requests z (name.0, On a (history.Request Read k))) (some_is k number is) name.1)
 request-named n m id number (On a (history.Request Put k)) suits gives is name = (name.0, subst (λ (z : ℕ). At n.requests z (name.0, On a (history.Request Put k))) (some_is k number is) name.1)
 request-named n m id number (On a (history.Request Write k)) suits gives is name = elim gives.0 [
@@ -95,7 +95,7 @@ own-so n x on c t quiet asked = record {
 module _ (kept : List ℕ) (n : Names) (x : Client) (on : Handle) (c : Circuit) (t : Told) (s : Sent) (tidy : Tidy n x) (quiet : Quiet n x on c.up) (flows : Flows (Awaits c kept) c) (cids : AreCids n c) (holds : Holds (Awaits c kept) on n x c)
     (at : At c.down (length c.heard) t) (sent : At c.up t.place s) where
   -- its channel was created last before what it is about
-  created-before : (cid : ℕ) (h : Handle) (p : Phase) (k : ℕ) → channel_on x on cid ≡ Some (h, p) → Speaks t.message (Cid cid) → IsAskedAt c.up k (channel_number n h) Create → k ≤ t.place
+  pub created-before : (cid : ℕ) (h : Handle) (p : Phase) (k : ℕ) → channel_on x on cid ≡ Some (h, p) → Speaks t.message (Cid cid) → IsAskedAt c.up k (channel_number n h) Create → k ≤ t.place
   created-before cid h p k found speaks created =
       let ch = channel-on x on cid h p found in
       let means = given-now c (length c.heard) t.place (Cid cid) (let le : length c.heard ≤ length c.heard = omega arith in le) (flows.own (length c.heard) t (Cid cid) at speaks) in
@@ -108,7 +108,7 @@ module _ (kept : List ℕ) (n : Names) (x : Client) (on : Handle) (c : Circuit) 
         | inr (inr lt) ↦ absurd (means.3.4 k created.0 lt created.1 gives)
       ]
 
-  phase-so : (cid : ℕ) (h : Handle) (p : Phase) → channel_on x on cid ≡ Some (h, p) → PhaseIn c.up (channel_number n h) p
+  pub phase-so : (cid : ℕ) (h : Handle) (p : Phase) → channel_on x on cid ≡ Some (h, p) → PhaseIn c.up (channel_number n h) p
   phase-so cid h p found = (let ch = channel-on x on cid h p found in quiet.channels h ch.0 ch.1 p ch.3)
 
   quiet-from : (k number : ℕ) → k ≤ t.place → NoneAfter c.up k number → IsQuiet c t.place number
@@ -163,7 +163,7 @@ module _ (kept : List ℕ) (n : Names) (x : Client) (on : Handle) (c : Circuit) 
       by Clearing other bare found b = absurd (both_ways true bare refl)
 
   -- what it says of a subscription is of that number
-  number-so : (g : Handle) (d : Subscription) (number : ℕ) → under x.subscriptions g ≡ Some d → has_id x.channels on d ≡ true → Speaks t.message (SubId (wire_of g)) → meant_by n.subscriptions g ≡ On (channel_number n d.channel) (Subscribe number) → named (SubId (wire_of g)) s.intent ≡ Some number
+  pub number-so : (g : Handle) (d : Subscription) (number : ℕ) → under x.subscriptions g ≡ Some d → has_id x.channels on d ≡ true → Speaks t.message (SubId (wire_of g)) → meant_by n.subscriptions g ≡ On (channel_number n d.channel) (Subscribe number) → named (SubId (wire_of g)) s.intent ≡ Some number
   number-so g d number there has speaks meant =
       let own = holds.subscriptions.own g d there has in
       let means = read-means (Awaits c kept) c t (SubId (wire_of g)) own.0 own.1 flows at speaks own.2 in
