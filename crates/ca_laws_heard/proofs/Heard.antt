@@ -1,5 +1,5 @@
 -- What a message that a client reads is about, by what was sent on its circuit.
-use Rattle.std.proofs.Common.{◌≡◌, ℕ, ◌+◌, ◌<◌, ◌≤◌, ◌⊎◌, inl, inr, Bool, true, false, ◌&&◌, List, [], length, Option, Some, None, refl, sym, ap, ◌∙◌, subst, arith}
+use Rattle.std.proofs.Common.{◌≡◌, ℕ, ◌<◌, ◌≤◌, inl, inr, true, false, ◌&&◌, List, length, Option, Some, None, refl, sym, ap, ◌∙◌, subst, arith}
 use Rattle.std.specs.Prelude.{option_map, unwrap_or}
 use Rattle.std.proofs.lemmas.Bool.{both_ways, or_left}
 use Rattle.ca_text.specs.Command.{command_number}
@@ -7,19 +7,17 @@ use Rattle.ca_text.specs.declared.command.Command.TheVariants as command
 use Rattle.ca_text.specs.Place.{At}
 use Rattle.ca_text.proofs.Places.{At-one, some_is}
 use Rattle.ca_arena.specs.declared.handle.Handle.{Handle}
-use Rattle.ca_ids.specs.Table.{Table, same_handle, under}
+use Rattle.ca_ids.specs.Table.{under}
 use Rattle.ca_ids.specs.Wire.{wire_of}
 use Rattle.ca_monitor.specs.Subscriptions.{Cancelled, Ended, Stage, Stands, Subscription, confirmed_by, drains_in, is_cancelled_in, stands_in}
-use Rattle.ca_requests.specs.Requests.{Request}
 use Rattle.ca_requests.specs.Meaning.{QuotesHeader}
 use Rattle.ca_wire.specs.declared.header.Header.{Header}
 use Rattle.ca_wire.specs.Fields.{Fields}
-use Rattle.ca_model.specs.Client.{Channel, Clearing, Client, Connecting, Creating, Doomed, Leaving, Live, Phase, channel_on, is_on_in}
-use Rattle.ca_model.specs.Client as standing
+use Rattle.ca_model.specs.Client.{Clearing, Client, Connecting, Creating, Doomed, Leaving, Live, Phase, channel_on, is_on_in}
 use Rattle.ca_model.specs.Hears.{heard_by}
 use Rattle.ca_model.specs.History.{Ask, Cancel, Circuit, Clear, Create, Intent, Kind, On, Put, Read, Sent, Subscribe, Told, Write}
 use Rattle.ca_model.specs.History as history
-use Rattle.ca_model.specs.Speech.{Cid, Gives, Id, Ioid, Is, Speaks, SubId}
+use Rattle.ca_model.specs.Speech.{Cid, Gives, Ioid, Is, Speaks, SubId}
 use Rattle.ca_model_safe.specs.Channels.{Suits, named}
 use Rattle.ca_model_client.specs.Placed.{was_live}
 use Rattle.ca_model_client.proofs.Handles.{same-is}
@@ -35,8 +33,8 @@ use Rattle.ca_laws_circuit.proofs.Refused.{heard-is, sub-named}
 use Rattle.ca_laws_circuit.proofs.Settled.{read-means}
 use Rattle.ca_laws_runs.specs.Circuit.{AreCids, IsLastCancel, IsQuiet}
 use Rattle.ca_laws_runs.proofs.Sending.{channel-named}
-use Rattle.ca_laws_heard.specs.Quiet.{IsAskedAt, IsBeingCancelled, IsBeingCleared, IsBeingCreated, IsNamedIn, IsOfUse, NoCancel, NoneAfter, PhaseIn, Quiet, StageIn, Tidy, UsedAfter}
-use Rattle.ca_laws_heard.proofs.Phases.{clear-unused, same-ask, same-number}
+use Rattle.ca_laws_heard.specs.Quiet.{IsAskedAt, IsBeingCancelled, IsBeingCleared, IsBeingCreated, IsNamedIn, NoCancel, NoneAfter, PhaseIn, Quiet, StageIn, Tidy}
+use Rattle.ca_laws_heard.proofs.Phases.{same-number}
 use Rattle.ca_laws_heard.proofs.Phased.{standing-stage}
 use Rattle.ca_laws_heard.proofs.Says.{asked-at, subscribed-at}
 

@@ -1,5 +1,5 @@
 -- The step of a client's end keeps what is held of all circuits, whatever message it reads.
-use Rattle.std.proofs.Common.{◌≡◌, ℕ, ◌+◌, ◌<◌, ◌⊎◌, inl, inr, Bool, true, false, List, [], length, Option, Some, None, refl, sym, ap, ◌∙◌, subst, arith}
+use Rattle.std.proofs.Common.{◌≡◌, ℕ, ◌+◌, ◌<◌, ◌⊎◌, inl, inr, true, false, List, [], length, Option, Some, None, refl, sym, ap, ◌∙◌, subst, arith}
 use Rattle.std.specs.Prelude.{is_none}
 use Rattle.std.proofs.lemmas.Bool.{both_ways, cases_Bool}
 use Rattle.ca_text.specs.Command.{command_number}
@@ -25,10 +25,10 @@ use Rattle.ca_model.specs.Speech.{Cid, Is, Speaks, SubId}
 use Rattle.ca_model_safe.specs.Channels.{Suits, named}
 use Rattle.ca_model_client.specs.Placed.{Attached, was_live}
 use Rattle.ca_model_client.proofs.Standings.{channel-on}
-use Rattle.ca_model_world.specs.ClientEvents.{HappensClientStep, Outcomes, about_at, channel_number, client_ended, client_stepped, heard_in, lines_of, meant_by}
+use Rattle.ca_model_world.specs.ClientEvents.{Outcomes, about_at, channel_number, client_ended, client_stepped, heard_in, lines_of, meant_by}
 use Rattle.ca_model_world.specs.Events as event
 use Rattle.ca_model_world.specs.Runs.{Happens, HasClientEnd}
-use Rattle.ca_model_world.specs.World.{ClientSide, IsSetting, Joined, Names, Setting, World, log_length, with_circuit}
+use Rattle.ca_model_world.specs.World.{ClientSide, IsSetting, Joined, Names, Setting, World, log_length}
 use Rattle.ca_laws_circuit.specs.Flows.{Awaits}
 use Rattle.ca_laws_circuit.specs.Held.{MeanToSubscribe, OnChannels, is_asked}
 use Rattle.ca_laws_circuit.proofs.Alike.{holds-alike}
@@ -57,7 +57,7 @@ use Rattle.ca_laws_heard.specs.Tells.{NoticesTell, TellsOwn}
 use Rattle.ca_laws_heard.proofs.Tells.{tells-so}
 use Rattle.ca_laws_heard.specs.Quiet.{ClientsQuiet, Quiet, Tidy}
 use Rattle.ca_laws_heard.proofs.Heard.{cleared-so, confirms-so, failed-so, own-so, refuses-so}
-use Rattle.ca_laws_heard.proofs.Lesser.{Less, less-on, quiet-less, tidy-less}
+use Rattle.ca_laws_heard.proofs.Lesser.{less-on, quiet-less, tidy-less}
 
 connected-so : (o : Option Connection) → is_none o ≡ false → (d : Connection) × (o ≡ Some d)
 connected-so (Some d) is = (d, refl)

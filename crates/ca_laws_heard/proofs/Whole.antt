@@ -1,55 +1,32 @@
 -- What is held of all circuits stays so over every event and run, as far as it is known of the messages that servers take.
-use Rattle.std.proofs.Common.{◌≡◌, ℕ, suc, ◌<◌, ◌≤◌, inl, inr, true, List, [], ◌∷◌, length, Option, Some, refl, sym, ap, subst, ◌∙◌, arith}
+use Rattle.std.proofs.Common.{◌≡◌, ℕ, suc, inl, inr, true, List, [], ◌∷◌, Option, Some, refl, sym, subst, ◌∙◌}
 use Rattle.std.specs.List.{FoldsTo}
-use Rattle.std.specs.Prelude.{is_none}
-use Rattle.ca_arena.specs.declared.handle.Handle.{Handle}
-use Rattle.ca_model_client.proofs.Standings.{channel-on}
-use Rattle.ca_laws_circuit.specs.Held.{is_asked}
 use Rattle.ca_text.specs.Place.{At}
-use Rattle.ca_text.proofs.Places.{At-one, At-or, At-within}
-use Rattle.ca_link.specs.Link.{TakesFirst}
-use Rattle.ca_wire.specs.Fields.{Fields}
-use Rattle.ca_model.specs.Client.{Connection, Phase, channel_on, connection_at}
-use Rattle.ca_model.specs.ClientEnds.{after_taking}
-use Rattle.ca_model.specs.ServerSteps.{Stepped}
-use Rattle.ca_model.specs.ServerSteps as stepped
-use Rattle.ca_model.specs.History.{Ask, Intent, Reply, Sent, Told}
-use Rattle.ca_model.specs.History as history
-use Rattle.ca_model.specs.Speech.{Cid, Id, In, Speaks}
-use Rattle.ca_model_safe.specs.Headline.{TakesOwn}
-use Rattle.ca_model_safe.specs.Channels.{Suits}
-use Rattle.ca_model_world.specs.ClientEvents.{TicksOne, channel_number}
+use Rattle.ca_text.proofs.Places.{At-one}
+use Rattle.ca_model.specs.Speech.{In}
+use Rattle.ca_model_world.specs.ClientEvents.{TicksOne}
 use Rattle.ca_model_world.specs.Events.{Event}
 use Rattle.ca_model_world.specs.Events as event
-use Rattle.ca_model_world.specs.Runs.{AreEvents, Happens, HasClientEnd, Runs, StopsAt, clients_below}
-use Rattle.ca_model_world.specs.ServerEvents.{ServerStepped}
-use Rattle.ca_model_world.specs.World.{ClientSide, Creation, IsSetting, Joined, RecordSide, ServerSide, Setting, Standing, World, opening}
-use Rattle.ca_laws_bytes.specs.Runs.{HearsSent}
+use Rattle.ca_model_world.specs.Runs.{AreEvents, Happens, Runs, StopsAt, clients_below}
+use Rattle.ca_model_world.specs.World.{Creation, IsSetting, Joined, RecordSide, ServerSide, Setting, Standing, World, opening}
 use Rattle.ca_laws_bytes.specs.ServerFits.{AllCaused, ServersFit}
 use Rattle.ca_laws_bytes.proofs.Causes.{event-caused, opening-caused, runs-caused}
 use Rattle.ca_laws_bytes.proofs.Runs.{hears-sent}
 use Rattle.ca_laws_bytes.proofs.ServerSpeaking.{event-servers, opening-servers, runs-hear}
 use Rattle.ca_laws_kept.specs.Kept.{kept, sid_at}
-use Rattle.ca_laws_kept.proofs.Laters.{fewer-at, held-then}
+use Rattle.ca_laws_kept.proofs.Laters.{fewer-at}
 use Rattle.ca_laws_kept.proofs.Puts.{PutIn}
 use Rattle.ca_laws_kept.proofs.Thins.{channel-of, kept-there, of-channel, put-facts, records-there, sid-is, there-kept}
-use Rattle.ca_laws_runs.specs.Circuit.{HeldAt, HeldOn, IsKnown}
-use Rattle.ca_laws_runs.proofs.Known.{keeps-known-step}
-use Rattle.ca_laws_runs.proofs.NewCircuits.{keeps-accepted}
 use Rattle.ca_laws_runs.proofs.Ticks.{keeps-ticks}
-use Rattle.ca_laws_writes.specs.Says.{AllAsked}
 use Rattle.ca_laws_writes.specs.Seats.{Sound}
 use Rattle.ca_laws_writes.proofs.Every.{ticks-frame}
 use Rattle.ca_laws_writes.proofs.Frames.{Frame, frame-keeps}
 use Rattle.ca_laws_writes.proofs.Lists.{none_at}
-use Rattle.ca_laws_writes.proofs.Moves.{At-below, same-or}
 use Rattle.ca_laws_steps.specs.Answering.{AllAnswer}
-use Rattle.ca_laws_steps.specs.Held.{AllCircuitsHeld, AllKnown, IsKnownStep}
+use Rattle.ca_laws_steps.specs.Held.{AllCircuitsHeld}
 use Rattle.ca_laws_steps.specs.Worlds.{ServersStand}
-use Rattle.ca_laws_steps.proofs.Circuits.{IsAccept, accept-were, leaves-were}
-use Rattle.ca_laws_steps.proofs.Found.{asked-if, cancel-is, clear-is, create-is, found-intent}
 use Rattle.ca_laws_steps.proofs.Replied.{event-answer, opening-answer, reached-answer}
-use Rattle.ca_laws_steps.proofs.Whole.{event-serves, events-serve, opening-serves, other-held, others-held, own-held, run-serves, takes-next, unhandled-held}
+use Rattle.ca_laws_steps.proofs.Whole.{event-serves, events-serve, opening-serves, run-serves}
 use Rattle.ca_laws_steps.proofs.Holds.{IsTold, event-held}
 use Rattle.ca_laws_heard.specs.About.{AllOwn, IsOwnStep, ReadsAbout}
 use Rattle.ca_laws_heard.specs.Quiet.{ClientsQuiet}
