@@ -1,6 +1,6 @@
 -- The events of clients keep what was sent by all clients.
-use Rattle.std.proofs.Common.{◌≡◌, ℕ, zero, suc, ◌+◌, inl, inr, ◌⊎◌, Bool, true, false, ◌&&◌, cond, eqb, List, [], ◌∷◌, ◌++◌, length, Option, Some, None, refl, sym, ap, ◌∙◌, subst, arith}
-use Rattle.std.specs.Prelude.{Ok, drop, find, is_none, is_some, map, option_and_then, option_map, slice_set, unwrap_or}
+use Rattle.std.proofs.Common.{◌≡◌, ℕ, ◌+◌, inl, inr, Bool, true, false, ◌&&◌, cond, eqb, List, [], ◌∷◌, ◌++◌, length, Option, Some, None, refl, sym, ap, ◌∙◌, subst}
+use Rattle.std.specs.Prelude.{Ok, drop, is_none, is_some, map, option_and_then, option_map, slice_set, unwrap_or}
 use Rattle.std.specs.List.{FoldsTo}
 use Rattle.std.proofs.lemmas.Bool.{and_from, both_ways, eq-eqb}
 use Rattle.std.proofs.lemmas.List.{append-nil}
@@ -10,22 +10,18 @@ use Rattle.ca_text.specs.declared.refusal.Refusal.{Refusal}
 use Rattle.ca_text.proofs.Places.{At-mapped, At-set, At-snoc}
 use Rattle.ca_arena.specs.declared.handle.Handle.{Handle}
 use Rattle.ca_dbr.specs.Elements.{Elements}
-use Rattle.ca_dbr.specs.declared.value.Outcome.{Outcome}
-use Rattle.ca_ids.specs.Table.{under}
 use Rattle.ca_link.specs.Link.{with_handed}
-use Rattle.ca_monitor.specs.ReadRun.{sent_by_read}
 use Rattle.ca_wire.specs.Messages.{bare}
 use Rattle.ca_model.specs.Answers.{Closed, Closing, Left, NeedBytes, Notice, Notices, Sending, Stepped}
 use Rattle.ca_model.specs.Answers as answer
 use Rattle.ca_model.specs.Client.{Client, ClientCircuit, Connection, connection_at, ended, on_connection, out_bytes, sending}
-use Rattle.ca_model.specs.ClientEnds.{ConnectsOn, GivesOn, StepsOn, after_taking, circuits_ticked, flow_sent, given, handed_over, of_circuit, searches_made, ticked}
+use Rattle.ca_model.specs.ClientEnds.{ConnectsOn, GivesOn, StepsOn, after_taking, flow_sent, given, handed_over, of_circuit}
 use Rattle.ca_model.specs.Hears.{Effect}
 use Rattle.ca_model.specs.Ends.{Address}
 use Rattle.ca_model.specs.History.{Intent, Line, Sent, Step}
 use Rattle.ca_model.specs.History as history
 use Rattle.ca_model.specs.Client as client
 use Rattle.ca_model_client.proofs.Standings.{stands-as}
-use Rattle.ca_model_client.proofs.Thinner.{number-or}
 use Rattle.ca_model_world.specs.ClientEvents.{DownTaken, HappensAccept, HappensClear, HappensClientDatagram, HappensClientRestart, HappensClientStep, HappensCutClient, HappensDown, HappensOpen, HappensRead, HappensSubscribe, HappensUnsubscribe, HappensUp, HappensWrite, HappensWriteNotify, Outcomes, TicksOne, WantsFirst, about_at, after_tick, cancelled, client_after, client_closed, client_ended, client_gone, client_stepped, connected_as, heard_in, left_silent, lines_of, new_circuit, refused, sent_on, told_by}
 use Rattle.ca_model_world.specs.World.{ClientSide, Joined, Names, ServerSide, World, addresses, client_begun, log_length, with_circuit, with_client, with_server}
 use Rattle.ca_laws_circuit.specs.Held.{with_request, with_subscription}
@@ -35,9 +31,9 @@ use Rattle.ca_laws_runs.proofs.ClientsKeep.{none-under}
 use Rattle.ca_laws_runs.proofs.ClientsMore.{unconnected-is, wanted-there}
 use Rattle.ca_laws_heard.specs.Quiet.{ClientsQuiet, Quiet, Tidy}
 use Rattle.ca_laws_heard.proofs.Connects.{Connected, connected-so}
-use Rattle.ca_laws_heard.proofs.Ends.{IsEndAfter, IsSameEnd, after-sent, after-then, all-map, all-same, all-set, quiet-called, quiet-moved, quiet-same, same-closed, same-end, sent-mine, sent-other}
+use Rattle.ca_laws_heard.proofs.Ends.{IsEndAfter, IsSameEnd, after-sent, after-then, all-same, all-set, quiet-called, quiet-moved, quiet-same, same-closed, same-end, sent-mine, sent-other}
 use Rattle.ca_laws_heard.proofs.Issued.{moved-opened, moved-put, moved-read, moved-subscribed, moved-written}
-use Rattle.ca_laws_heard.proofs.Lesser.{Less, less-ended, less-itself, less-on, less-same, less-sending, less-then}
+use Rattle.ca_laws_heard.proofs.Lesser.{Less, less-ended, less-itself, less-on, less-same, less-sending}
 use Rattle.ca_laws_heard.proofs.Listened.{moved-all-received, moved-heard, moved-ticked}
 use Rattle.ca_laws_heard.proofs.Phased.{moved-before, moved-cleared, moved-unsubscribed, standing-stage}
 use Rattle.ca_laws_heard.proofs.Says.{Moved, moved-less, moved-less-then, quiet-circuit, quiet-each, said}

@@ -1,31 +1,31 @@
 -- A circuit that is connected: its set-up and the CREATE_CHANs of the channels that waited are sent on it.
-use Rattle.std.proofs.Common.{◌≡◌, ℕ, zero, suc, ◌+◌, ◌<◌, inl, inr, ◌⊎◌, Bool, true, false, cond, List, [], ◌∷◌, ◌++◌, length, Option, Some, None, refl, sym, ap, ◌∙◌, subst, arith}
-use Rattle.std.specs.Prelude.{filter, filter_map, is_none, map, option_and_then, option_map}
+use Rattle.std.proofs.Common.{◌≡◌, ℕ, zero, suc, ◌+◌, inl, inr, ◌⊎◌, Bool, true, false, cond, List, [], ◌∷◌, ◌++◌, length, Option, Some, None, refl, sym, ap, ◌∙◌, subst, arith}
+use Rattle.std.specs.Prelude.{filter, filter_map, is_none, map, option_and_then}
 use Rattle.std.specs.List.{cons_option}
-use Rattle.std.proofs.lemmas.Bool.{both_ways, cases_Bool}
+use Rattle.std.proofs.lemmas.Bool.{both_ways}
 use Rattle.std.proofs.lemmas.List.{append-nil}
 use Rattle.ca_text.specs.Place.{At}
-use Rattle.ca_text.proofs.Places.{At-after, At-append, At-map, At-mapped, At-parts, some_is}
+use Rattle.ca_text.proofs.Places.{At-after, At-map, At-mapped, At-parts, some_is}
 use Rattle.ca_arena.specs.declared.handle.Handle.{Handle}
-use Rattle.ca_ids.specs.Table.{held, same_handle, under, with_all}
-use Rattle.ca_monitor.specs.Subscriptions.{Cancelled, Ended, Stage, Stands, Subscription}
+use Rattle.ca_ids.specs.Table.{held, same_handle, under}
+use Rattle.ca_monitor.specs.Subscriptions.{Cancelled, Ended, Stage, Stands}
 use Rattle.ca_text.specs.declared.command.Command.TheVariants as command
 use Rattle.ca_wire.specs.Messages.{name_request, version_request}
 use Rattle.ca_model.specs.Answers.{Closing, Sending}
-use Rattle.ca_model.specs.Client.{Channel, Client, ClientCircuit, Creating, On, Phase, Standing, connection_at, ended, is_on_in, sending}
+use Rattle.ca_model.specs.Client.{Channel, Client, ClientCircuit, Creating, On, Phase, ended, is_on_in, sending}
 use Rattle.ca_model.specs.ClientEnds.{ConnectsOn, begun, creating, creations, is_connecting, of_circuit, set_up}
 use Rattle.ca_model.specs.Hears.{create_sent}
 use Rattle.ca_model.specs.History.{Ask, Cancel, Create, Intent, Sent, Subscribe}
 use Rattle.ca_model.specs.History as history
 use Rattle.ca_model_client.specs.Placed.{IsPlaced}
-use Rattle.ca_model_client.proofs.Handles.{same-is, same-itself, same-not}
+use Rattle.ca_model_client.proofs.Handles.{same-itself, same-not}
 use Rattle.ca_model_client.proofs.Standings.{at-filter-map, is-on}
 use Rattle.ca_model_client.proofs.Tables.{all-back, under-held}
 use Rattle.ca_model_client.proofs.Thinner.{given-thin, number-or, thin-all}
-use Rattle.ca_model_world.specs.ClientEvents.{channel_number, meant_by}
+use Rattle.ca_model_world.specs.ClientEvents.{channel_number}
 use Rattle.ca_model_world.specs.World.{Names}
 use Rattle.ca_laws_runs.specs.Circuit.{stamped}
-use Rattle.ca_laws_heard.specs.Quiet.{IsAskedAt, IsBeingCreated, IsNamedIn, NoneAfter, PhaseIn, Quiet, StageIn, Tidy}
+use Rattle.ca_laws_heard.specs.Quiet.{IsBeingCreated, IsNamedIn, NoneAfter, PhaseIn, Quiet, StageIn, Tidy}
 use Rattle.ca_laws_heard.proofs.Lesser.{less-ended, less-sending, quiet-less, tidy-less}
 use Rattle.ca_laws_heard.proofs.Phases.{same-ask, same-number}
 use Rattle.ca_laws_heard.proofs.Phased.{stood-handle, stood-phase}

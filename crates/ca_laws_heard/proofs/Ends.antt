@@ -8,13 +8,11 @@ use Rattle.ca_text.proofs.Places.{At-mapped, At-set}
 use Rattle.ca_arena.specs.declared.handle.Handle.{Handle}
 use Rattle.ca_ids.specs.Table.{same_handle}
 use Rattle.ca_model.specs.Answers.{Sending}
-use Rattle.ca_model.specs.Client.{Client}
 use Rattle.ca_model.specs.History.{Circuit, Sent}
 use Rattle.ca_model.specs.Server.{Server}
 use Rattle.ca_model_world.specs.ClientEvents.{Outcomes, client_after, client_closed, sent_on}
 use Rattle.ca_model_world.specs.ServerEvents.{ending, server_after, server_closed}
 use Rattle.ca_model_world.specs.World.{ClientSide, Joined, Names, ServerSide, World}
-use Rattle.ca_model_client.proofs.Thinner.{number-or}
 use Rattle.ca_laws_runs.specs.Circuit.{sent_to, stamped}
 use Rattle.ca_laws_runs.proofs.Handled.{Like}
 use Rattle.ca_laws_heard.specs.Quiet.{ClientsQuiet, Quiet, Tidy}

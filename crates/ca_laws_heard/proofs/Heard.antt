@@ -1,5 +1,5 @@
 -- What a message that a client reads is about, by what was sent on its circuit.
-use Rattle.std.proofs.Common.{◌≡◌, ℕ, ◌+◌, ◌<◌, ◌≤◌, ◌⊎◌, inl, inr, Bool, true, false, ◌&&◌, List, [], length, Option, Some, None, refl, sym, ap, ◌∙◌, subst, arith}
+use Rattle.std.proofs.Common.{◌≡◌, ℕ, ◌<◌, ◌≤◌, inl, inr, true, false, ◌&&◌, List, length, Option, Some, None, refl, sym, ap, ◌∙◌, subst, arith}
 use Rattle.std.specs.Prelude.{option_map, unwrap_or}
 use Rattle.std.proofs.lemmas.Bool.{both_ways, or_left}
 use Rattle.ca_text.specs.Command.{command_number}
@@ -7,19 +7,17 @@ use Rattle.ca_text.specs.declared.command.Command.TheVariants as command
 use Rattle.ca_text.specs.Place.{At}
 use Rattle.ca_text.proofs.Places.{At-one, some_is}
 use Rattle.ca_arena.specs.declared.handle.Handle.{Handle}
-use Rattle.ca_ids.specs.Table.{Table, same_handle, under}
+use Rattle.ca_ids.specs.Table.{under}
 use Rattle.ca_ids.specs.Wire.{wire_of}
 use Rattle.ca_monitor.specs.Subscriptions.{Cancelled, Ended, Stage, Stands, Subscription, confirmed_by, drains_in, is_cancelled_in, stands_in}
-use Rattle.ca_requests.specs.Requests.{Request}
 use Rattle.ca_requests.specs.Meaning.{QuotesHeader}
 use Rattle.ca_wire.specs.declared.header.Header.{Header}
 use Rattle.ca_wire.specs.Fields.{Fields}
-use Rattle.ca_model.specs.Client.{Channel, Clearing, Client, Connecting, Creating, Doomed, Leaving, Live, Phase, channel_on, is_on_in}
-use Rattle.ca_model.specs.Client as standing
+use Rattle.ca_model.specs.Client.{Clearing, Client, Connecting, Creating, Doomed, Leaving, Live, Phase, channel_on, is_on_in}
 use Rattle.ca_model.specs.Hears.{heard_by}
 use Rattle.ca_model.specs.History.{Ask, Cancel, Circuit, Clear, Create, Intent, Kind, On, Put, Read, Sent, Subscribe, Told, Write}
 use Rattle.ca_model.specs.History as history
-use Rattle.ca_model.specs.Speech.{Cid, Gives, Id, Ioid, Is, Speaks, SubId}
+use Rattle.ca_model.specs.Speech.{Cid, Gives, Ioid, Is, Speaks, SubId}
 use Rattle.ca_model_safe.specs.Channels.{Suits, named}
 use Rattle.ca_model_client.specs.Placed.{was_live}
 use Rattle.ca_model_client.proofs.Handles.{same-is}
@@ -35,8 +33,8 @@ use Rattle.ca_laws_circuit.proofs.Refused.{heard-is, sub-named}
 use Rattle.ca_laws_circuit.proofs.Settled.{read-means}
 use Rattle.ca_laws_runs.specs.Circuit.{AreCids, IsLastCancel, IsQuiet}
 use Rattle.ca_laws_runs.proofs.Sending.{channel-named}
-use Rattle.ca_laws_heard.specs.Quiet.{IsAskedAt, IsBeingCancelled, IsBeingCleared, IsBeingCreated, IsNamedIn, IsOfUse, NoCancel, NoneAfter, PhaseIn, Quiet, StageIn, Tidy, UsedAfter}
-use Rattle.ca_laws_heard.proofs.Phases.{clear-unused, same-ask, same-number}
+use Rattle.ca_laws_heard.specs.Quiet.{IsAskedAt, IsBeingCancelled, IsBeingCleared, IsBeingCreated, IsNamedIn, NoCancel, NoneAfter, PhaseIn, Quiet, StageIn, Tidy}
+use Rattle.ca_laws_heard.proofs.Phases.{same-number}
 use Rattle.ca_laws_heard.proofs.Phased.{standing-stage}
 use Rattle.ca_laws_heard.proofs.Says.{asked-at, subscribed-at}
 
@@ -46,7 +44,7 @@ no-name : (number : ℕ) → let a : Option ℕ = None in let b : Option ℕ = S
 no-name number e = cc
 
 -- what gives an IOID and means this number has its name
-request-named : (n : Names) (m : Fields) (id number : ℕ) (intent : Intent) → Suits intent m → Gives m (Ioid id) → named (Ioid id) intent ≡ Some number → IsNamedIn n intent → (q : Handle) × At n.requests number (q, intent)
+pub request-named : (n : Names) (m : Fields) (id number : ℕ) (intent : Intent) → Suits intent m → Gives m (Ioid id) → named (Ioid id) intent ≡ Some number → IsNamedIn n intent → (q : Handle) × At n.requests number (q, intent)
 request-named n m id number (On a (history.Request Read k)) suits gives is name = (name.0, subst (λ (z : ℕ). At n.requests z (name.0, On a (history.Request Read k))) (some_is k number is) name.1)
 request-named n m id number (On a (history.Request Put k)) suits gives is name = (name.0, subst (λ (z : ℕ). At n.requests z (name.0, On a (history.Request Put k))) (some_is k number is) name.1)
 request-named n m id number (On a (history.Request Write k)) suits gives is name = elim gives.0 [
@@ -95,7 +93,7 @@ own-so n x on c t quiet asked = record {
 module _ (kept : List ℕ) (n : Names) (x : Client) (on : Handle) (c : Circuit) (t : Told) (s : Sent) (tidy : Tidy n x) (quiet : Quiet n x on c.up) (flows : Flows (Awaits c kept) c) (cids : AreCids n c) (holds : Holds (Awaits c kept) on n x c)
     (at : At c.down (length c.heard) t) (sent : At c.up t.place s) where
   -- its channel was created last before what it is about
-  created-before : (cid : ℕ) (h : Handle) (p : Phase) (k : ℕ) → channel_on x on cid ≡ Some (h, p) → Speaks t.message (Cid cid) → IsAskedAt c.up k (channel_number n h) Create → k ≤ t.place
+  pub created-before : (cid : ℕ) (h : Handle) (p : Phase) (k : ℕ) → channel_on x on cid ≡ Some (h, p) → Speaks t.message (Cid cid) → IsAskedAt c.up k (channel_number n h) Create → k ≤ t.place
   created-before cid h p k found speaks created =
       let ch = channel-on x on cid h p found in
       let means = given-now c (length c.heard) t.place (Cid cid) (let le : length c.heard ≤ length c.heard = omega arith in le) (flows.own (length c.heard) t (Cid cid) at speaks) in
@@ -108,7 +106,7 @@ module _ (kept : List ℕ) (n : Names) (x : Client) (on : Handle) (c : Circuit) 
         | inr (inr lt) ↦ absurd (means.3.4 k created.0 lt created.1 gives)
       ]
 
-  phase-so : (cid : ℕ) (h : Handle) (p : Phase) → channel_on x on cid ≡ Some (h, p) → PhaseIn c.up (channel_number n h) p
+  pub phase-so : (cid : ℕ) (h : Handle) (p : Phase) → channel_on x on cid ≡ Some (h, p) → PhaseIn c.up (channel_number n h) p
   phase-so cid h p found = (let ch = channel-on x on cid h p found in quiet.channels h ch.0 ch.1 p ch.3)
 
   quiet-from : (k number : ℕ) → k ≤ t.place → NoneAfter c.up k number → IsQuiet c t.place number
@@ -163,7 +161,7 @@ module _ (kept : List ℕ) (n : Names) (x : Client) (on : Handle) (c : Circuit) 
       by Clearing other bare found b = absurd (both_ways true bare refl)
 
   -- what it says of a subscription is of that number
-  number-so : (g : Handle) (d : Subscription) (number : ℕ) → under x.subscriptions g ≡ Some d → has_id x.channels on d ≡ true → Speaks t.message (SubId (wire_of g)) → meant_by n.subscriptions g ≡ On (channel_number n d.channel) (Subscribe number) → named (SubId (wire_of g)) s.intent ≡ Some number
+  pub number-so : (g : Handle) (d : Subscription) (number : ℕ) → under x.subscriptions g ≡ Some d → has_id x.channels on d ≡ true → Speaks t.message (SubId (wire_of g)) → meant_by n.subscriptions g ≡ On (channel_number n d.channel) (Subscribe number) → named (SubId (wire_of g)) s.intent ≡ Some number
   number-so g d number there has speaks meant =
       let own = holds.subscriptions.own g d there has in
       let means = read-means (Awaits c kept) c t (SubId (wire_of g)) own.0 own.1 flows at speaks own.2 in

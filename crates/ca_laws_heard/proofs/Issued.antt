@@ -1,5 +1,5 @@
 -- A client's calls that give a handle: a channel that is opened, a request, a plain write, and a subscription.
-use Rattle.std.proofs.Common.{◌≡◌, ℕ, zero, suc, ◌+◌, ◌<◌, ◌≤◌, inl, inr, Bool, true, false, cond, List, [], ◌∷◌, ◌++◌, length, Option, Some, None, refl, sym, ap, ◌∙◌, subst, arith}
+use Rattle.std.proofs.Common.{◌≡◌, ℕ, zero, suc, ◌+◌, ◌<◌, inl, inr, Bool, true, false, cond, List, [], ◌∷◌, ◌++◌, length, Option, Some, refl, sym, ap, ◌∙◌, subst, arith}
 use Rattle.std.specs.Prelude.{Ok, find, option_map, unwrap_or}
 use Rattle.std.proofs.lemmas.List.{append-nil}
 use Rattle.ca_text.specs.Place.{At}
@@ -7,12 +7,12 @@ use Rattle.ca_text.proofs.Places.{At-append, At-last, At-snoc, At-within}
 use Rattle.ca_arena.specs.declared.handle.Handle.{Handle}
 use Rattle.ca_dbr.specs.Elements.{Elements}
 use Rattle.ca_ids.specs.Table.{MayGive, same_handle, under, with_held}
-use Rattle.ca_monitor.specs.Subscriptions.{Stage, Stands, Subscription}
+use Rattle.ca_monitor.specs.Subscriptions.{Subscription}
 use Rattle.ca_requests.specs.Calls.{new_request}
 use Rattle.ca_requests.specs.Requests.{Asked, Request}
 use Rattle.ca_requests.specs.Requests as request
 use Rattle.ca_model.specs.Answers.{Sending}
-use Rattle.ca_model.specs.Client.{Channel, Client, Live, On, Phase, Searching, Standing, sending}
+use Rattle.ca_model.specs.Client.{Channel, Client, Live, On, Phase, Searching, sending}
 use Rattle.ca_model.specs.ClientCalls.{ClientOpens, ClientPuts, ClientReads, ClientSubscribes, ClientWrites, IsLive, LiveChannel, Opening, Shape, event_add_sent, issued, new_subscription, opened, put_sent, read_sent, write_sent}
 use Rattle.ca_model.specs.History.{Ask, Cancel, Clear, Create, Intent, Kind, Put, Read, Sent, Subscribe, Write}
 use Rattle.ca_model.specs.History as history
@@ -28,7 +28,7 @@ use Rattle.ca_laws_circuit.proofs.Calls.{meant-own}
 use Rattle.ca_laws_runs.specs.Circuit.{AreGiven, stamped}
 use Rattle.ca_laws_runs.proofs.Named.{number-still, place-there}
 use Rattle.ca_laws_runs.proofs.Sending.{new-name, not-given, place-passes}
-use Rattle.ca_laws_heard.specs.Quiet.{HasNumber, IsNamedIn, IsOfUse, IsRequestOn, IsSubscriptionOn, NoCancel, Quiet, StageIn, StandsIn, Tidy}
+use Rattle.ca_laws_heard.specs.Quiet.{HasNumber, IsNamedIn, IsRequestOn, IsSubscriptionOn, NoCancel, Quiet, StageIn, StandsIn, Tidy}
 use Rattle.ca_laws_heard.proofs.Lesser.{less-sending}
 use Rattle.ca_laws_heard.proofs.Says.{Moved, moved-less-then, moved-one, quiet-asked, quiet-subscribed}
 

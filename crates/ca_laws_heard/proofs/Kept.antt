@@ -1,5 +1,5 @@
 -- Every event keeps what was sent by all clients, and so does every run.
-use Rattle.std.proofs.Common.{◌≡◌, ℕ, zero, suc, ◌+◌, inl, inr, List, [], ◌∷◌, Option, Some, None, refl, sym, subst}
+use Rattle.std.proofs.Common.{◌≡◌, ℕ, zero, suc, ◌+◌, inl, inr, List, [], ◌∷◌, Option, Some, refl, sym, subst}
 use Rattle.std.specs.Prelude.{length}
 use Rattle.std.specs.List.{FoldsTo}
 use Rattle.ca_text.specs.Place.{At}

@@ -1,9 +1,8 @@
 -- Changes of a client by which nothing is sent: what was sent on each circuit is as its channels, requests and subscriptions still.
-use Rattle.std.proofs.Common.{◌≡◌, ℕ, inl, inr, ◌⊎◌, Bool, true, false, ◌&&◌, cond, List, [], ◌∷◌, ◌++◌, Option, Some, None, refl, sym, ap, ◌∙◌, subst}
+use Rattle.std.proofs.Common.{◌≡◌, ℕ, inl, inr, Bool, true, false, ◌&&◌, cond, List, [], ◌∷◌, Option, Some, None, refl, sym, ap, ◌∙◌, subst}
 use Rattle.std.specs.Prelude.{◌==◌, fold, length, not, option_map, unwrap_or}
-use Rattle.ca_text.specs.Place.{At}
 use Rattle.ca_arena.specs.declared.handle.Handle.{Handle}
-use Rattle.ca_ids.specs.Table.{Table, under, with_all_freed, with_changed}
+use Rattle.ca_ids.specs.Table.{Table, under, with_all_freed}
 use Rattle.ca_monitor.specs.Subscriptions.{Cancelled, Ended, Stage, Stands, Subscription, drains_in, is_to, stage_over, with_stage}
 use Rattle.ca_monitor.specs.Subscriptions as monitor
 use Rattle.ca_requests.specs.Requests.{Request, asks_on, was_sent_on}
@@ -11,15 +10,14 @@ use Rattle.ca_requests.specs.Requests as request
 use Rattle.ca_model.specs.Answers.{Sending}
 use Rattle.ca_model.specs.Client.{Channel, Client, ClientCircuit, Clearing, Connecting, Connection, Creating, Doomed, Leaving, Live, On, Phase, Searching, Standing, channels_ended, channels_on, ended, is_cleared, let_go, on_connection, searched_again, sending, with_one_sent, with_requests, with_standing, without_channel, without_circuit, without_ids}
 use Rattle.ca_model.specs.Client as phase
-use Rattle.ca_model.specs.ClientCalls.{all_over, unsubscribed_all, unwanted}
+use Rattle.ca_model.specs.ClientCalls.{all_over, unwanted}
 use Rattle.ca_model.specs.Hears.{without_drained}
-use Rattle.ca_model.specs.History.{Intent, Sent}
-use Rattle.ca_model_client.specs.Placed.{WasGiven}
+use Rattle.ca_model.specs.History.{Sent}
 use Rattle.ca_model_client.proofs.Tables.{all-back, all-freed-back, changed-back, freed-back}
-use Rattle.ca_model_client.proofs.Thinner.{IsThinner, given-thin, thin-all, thin-all-freed, thin-changed, thin-freed, thin-itself, thin-then}
+use Rattle.ca_model_client.proofs.Thinner.{IsThinner, given-thin, thin-changed, thin-freed, thin-itself, thin-then}
 use Rattle.ca_model_world.specs.ClientEvents.{channel_number, meant_by}
 use Rattle.ca_model_world.specs.World.{Names}
-use Rattle.ca_laws_heard.specs.Quiet.{IsRequestOn, IsSubscriptionOn, PhaseIn, Quiet, StageIn, StandsIn, Tidy}
+use Rattle.ca_laws_heard.specs.Quiet.{IsRequestOn, IsSubscriptionOn, Quiet, StageIn, StandsIn, Tidy}
 
 -- A channel stands so that what was sent on it is as before; and so a subscription.
 abbrev pub StandsLike : (was now : Standing) → Type 0

@@ -10,3 +10,6 @@ pub mod Clients
 pub mod Servers
 pub mod Kept
 pub mod Heard
+pub mod Tells
+pub mod Steps
+pub mod Whole

@@ -1,13 +1,11 @@
 -- What a message that a client reads, a search reply, a datagram or a moment makes of what was sent.
-use Rattle.std.proofs.Common.{◌≡◌, ℕ, zero, suc, inl, inr, ◌⊎◌, Bool, true, false, ◌&&◌, cond, eqb, List, [], ◌∷◌, ◌++◌, Option, Some, None, refl, sym, ap, ◌∙◌, subst}
-use Rattle.std.specs.Prelude.{filter, fold, is_none, map, option_and_then, option_map, unwrap_or}
-use Rattle.std.proofs.lemmas.Bool.{both_ways}
-use Rattle.std.proofs.lemmas.List.{append-nil}
+use Rattle.std.proofs.Common.{◌≡◌, ℕ, zero, suc, inl, inr, Bool, true, false, ◌&&◌, cond, eqb, List, [], ◌∷◌, ◌++◌, Option, Some, None, refl, sym, ap, ◌∙◌, subst}
+use Rattle.std.specs.Prelude.{filter, fold, option_map, unwrap_or}
 use Rattle.ca_text.specs.declared.command.Command.TheVariants as command
 use Rattle.ca_text.specs.Place.{At}
 use Rattle.ca_text.proofs.Places.{At-mapped, some_is}
 use Rattle.ca_arena.specs.declared.handle.Handle.{Handle}
-use Rattle.ca_ids.specs.Table.{MayGive, held, same_handle, under, with_freed}
+use Rattle.ca_ids.specs.Table.{held, under, with_freed}
 use Rattle.ca_link.specs.declared.keep.Keep.{Keep}
 use Rattle.ca_link.specs.declared.keep.Keep.TheVariants.{Close, Echo, Idle}
 use Rattle.ca_link.specs.Link.{kept}
@@ -20,7 +18,7 @@ use Rattle.ca_wire.specs.Messages.{bare, search_request}
 use Rattle.ca_wire.specs.declared.header.Header.{Header}
 use Rattle.ca_model.specs.Answers.{Notice, Sending}
 use Rattle.ca_model.specs.Ends.{Address}
-use Rattle.ca_model.specs.Client.{Channel, Client, ClientCircuit, Clearing, Connecting, Connection, Creating, Doomed, Leaving, Live, On, Phase, Searching, channel_on, circuit_to, connection_at, found_on, later, new_circuit, on_connection, out_bytes, searched_again, sending, with_requests, with_standing, without_channel}
+use Rattle.ca_model.specs.Client.{Channel, Client, ClientCircuit, Clearing, Connecting, Connection, Creating, Doomed, Leaving, Live, On, Phase, channel_on, circuit_to, connection_at, found_on, later, new_circuit, on_connection, searched_again, sending, with_requests, with_standing, without_channel}
 use Rattle.ca_model.specs.ClientCalls.{clear_sent, event_add_sent, is_over}
 use Rattle.ca_model.specs.ClientEnds.{Receives, ReceivesAll, Ticking, all_searched_on, beacon_heard, circuits_ticked, due, echoes, falls_silent, is_name_connected, of_circuit, searches_made, searches_on, ticks, ticks_as, with_sending}
 use Rattle.ca_model.specs.ClientEnds as ends
@@ -33,14 +31,14 @@ use Rattle.ca_model_client.proofs.Standings.{channel-on, searched-is}
 use Rattle.ca_model_client.proofs.Tables.{changed-own, freed-back, held-under}
 use Rattle.ca_laws_circuit.proofs.Marks.{at-filter}
 use Rattle.std.proofs.lemmas.Bool.{and_parts}
-use Rattle.ca_model_world.specs.ClientEvents.{channel_number, meant_by}
+use Rattle.ca_model_world.specs.ClientEvents.{channel_number}
 use Rattle.ca_model_world.specs.World.{Names}
 use Rattle.ca_laws_runs.specs.Circuit.{stamped}
 use Rattle.ca_laws_heard.specs.Quiet.{Quiet, Tidy}
 use Rattle.ca_laws_heard.proofs.Phases.{created-live}
-use Rattle.ca_laws_heard.proofs.Lesser.{Less, less-again, less-drained, less-ended, less-gone, less-itself, less-on, less-over-requests, less-requests, less-same, less-sending, less-stood, less-subscriptions, less-then, same-requests, same-subscriptions, tidy-less}
+use Rattle.ca_laws_heard.proofs.Lesser.{Less, less-again, less-drained, less-ended, less-gone, less-itself, less-on, less-over-requests, less-requests, less-same, less-sending, less-stood, less-subscriptions, less-then, same-requests, same-subscriptions}
 use Rattle.ca_laws_heard.proofs.Phased.{less-phase, like-connecting, moved-before, moved-created, moved-doomed-clearing, moved-live-leaving, standing-stage}
-use Rattle.ca_laws_heard.proofs.Says.{Moved, moved-less, moved-less-then, moved-then, quiet-circuit, quiet-each, quiet-subscribed, said}
+use Rattle.ca_laws_heard.proofs.Says.{Moved, moved-less, moved-less-then, moved-then, quiet-circuit, quiet-each, quiet-subscribed}
 
 module _ (n : Names) (x : Client) (t : Tidy n x) where
   -- a message made the client this one, and sent nothing, or these

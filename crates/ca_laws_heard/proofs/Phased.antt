@@ -1,27 +1,25 @@
 -- A channel goes from one phase to another, with its CREATE_CHAN or its CLEAR_CHANNEL; and a subscription is cancelled.
-use Rattle.std.proofs.Common.{◌≡◌, ℕ, inl, inr, ◌⊎◌, Bool, true, false, cond, List, [], ◌∷◌, ◌++◌, Option, Some, None, refl, sym, ap, ◌∙◌, subst}
+use Rattle.std.proofs.Common.{◌≡◌, ℕ, inl, inr, true, false, List, [], ◌∷◌, ◌++◌, Option, Some, None, refl, sym, ap, ◌∙◌, subst}
 use Rattle.std.specs.Prelude.{Ok}
 use Rattle.std.proofs.lemmas.Bool.{both_ways}
-use Rattle.ca_text.specs.Place.{At}
 use Rattle.ca_arena.specs.declared.handle.Handle.{Handle}
 use Rattle.ca_ids.specs.Table.{under, with_freed}
 use Rattle.ca_monitor.specs.Subscriptions.{Cancelled, Ended, Stage, Stands, Subscription, is_to, stands_in, with_stage}
 use Rattle.ca_model.specs.Answers.{Notice, Sending}
 use Rattle.ca_model.specs.Client.{Channel, Client, Clearing, Connecting, Creating, Doomed, Leaving, Live, On, Phase, Searching, Standing, sending, standing_at, with_standing, without_channel}
-use Rattle.ca_model.specs.ClientCalls.{ClientClears, ClientUnsubscribes, StandsAs, all_over, cancel_sent, clear_sent, cleared, clearing_sent, event_cancel_sent, unsubscribed, unsubscribed_all, unwanted}
+use Rattle.ca_model.specs.ClientCalls.{ClientClears, all_over, cancel_sent, clear_sent, cleared, clearing_sent, event_cancel_sent, unsubscribed, unsubscribed_all, unwanted}
 use Rattle.ca_model.specs.Hears.{create_sent}
 use Rattle.ca_model.specs.History.{Ask, Cancel, Clear, Create, Intent, Sent, Subscribe}
 use Rattle.ca_model.specs.History as history
-use Rattle.ca_model_client.proofs.Handles.{handle-or}
-use Rattle.ca_model_client.proofs.Standings.{found-standing, never-cleared, stands-as}
+use Rattle.ca_model_client.proofs.Standings.{found-standing, never-cleared}
 use Rattle.ca_model_client.proofs.Tables.{changed-back, freed-back, one-value}
 use Rattle.ca_model_client.proofs.Thinner.{given-thin, thin-changed}
 use Rattle.ca_model_world.specs.ClientEvents.{cancelled, channel_number, meant_by}
 use Rattle.ca_model_world.specs.World.{Names}
 use Rattle.ca_laws_runs.specs.Circuit.{stamped}
-use Rattle.ca_laws_heard.specs.Quiet.{HasNumber, IsBeingCancelled, IsNamedIn, IsRequestOn, IsSubscriptionOn, NoCancel, PhaseIn, Quiet, StageIn, StandsIn, Tidy}
+use Rattle.ca_laws_heard.specs.Quiet.{HasNumber, IsBeingCancelled, IsNamedIn, IsSubscriptionOn, NoCancel, PhaseIn, Quiet, StageIn, StandsIn, Tidy}
 use Rattle.ca_laws_heard.proofs.Phases.{doomed-cleared, live-cleared, phase-created, phase-other, same-ask, same-number, stage-cancelled, stage-other}
-use Rattle.ca_laws_heard.proofs.Lesser.{Less, StandsLike, less-all-over, less-freed-all, less-gone, less-itself, less-sending, less-stood, less-subscriptions, less-then, less-unwanted, quiet-less, same-subscriptions, tidy-less}
+use Rattle.ca_laws_heard.proofs.Lesser.{Less, StandsLike, less-all-over, less-freed-all, less-gone, less-sending, less-stood, less-subscriptions, less-then, less-unwanted, quiet-less, same-subscriptions, tidy-less}
 use Rattle.ca_laws_heard.proofs.Says.{Moved, channels-used, moved-less, moved-less-then, moved-one, named-more, one-handle, one-subscription, subscribed-at}
 
 pub stood-handle : (c on : Handle) (p q : Phase) → On c p ≡ On on q → c ≡ on

@@ -1,11 +1,10 @@
 -- What was sent of a channel and of a subscription on one circuit, as one more message is sent there.
-use Rattle.std.proofs.Common.{◌≡◌, ℕ, ◌<◌, ◌⊎◌, inl, inr, List, [], ◌∷◌, ◌++◌, length, refl, sym, ap, ◌∙◌, subst, arith}
-use Rattle.ca_text.specs.Place.{At}
+use Rattle.std.proofs.Common.{◌≡◌, ℕ, ◌<◌, inl, inr, List, [], ◌∷◌, ◌++◌, length, sym, ap, ◌∙◌, subst, arith}
 use Rattle.ca_text.proofs.Places.{At-append, At-last, At-snoc, At-within}
 use Rattle.ca_arena.specs.declared.handle.Handle.{Handle}
 use Rattle.ca_monitor.specs.Subscriptions.{Cancelled, Ended, Stage, Stands}
 use Rattle.ca_model.specs.Client.{Clearing, Connecting, Creating, Doomed, Leaving, Live, Phase}
-use Rattle.ca_model.specs.History.{Ask, Cancel, Clear, Create, Intent, On, Sent, Subscribe}
+use Rattle.ca_model.specs.History.{Ask, Cancel, Clear, Create, On, Sent, Subscribe}
 use Rattle.ca_laws_heard.specs.Quiet.{IsAskedAt, IsBeingCancelled, IsBeingCleared, IsBeingCreated, IsOfUse, NoCancel, NoneAfter, PhaseIn, StageIn, UsedAfter, UsedBut}
 
 pub same-number : (a b : ℕ) (p q : Ask) → On a p ≡ On b q → a ≡ b

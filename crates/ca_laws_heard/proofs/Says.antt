@@ -1,16 +1,16 @@
 -- What a client's calls send on one circuit: one message more, and then all of a call.
-use Rattle.std.proofs.Common.{◌≡◌, ℕ, zero, suc, inl, inr, ◌⊎◌, Bool, true, false, cond, List, [], ◌∷◌, ◌++◌, length, Option, Some, None, refl, sym, ap, ◌∙◌, subst}
+use Rattle.std.proofs.Common.{◌≡◌, ℕ, zero, suc, inl, inr, Bool, true, false, cond, List, [], ◌∷◌, ◌++◌, Option, Some, None, refl, sym, ap, ◌∙◌, subst}
 use Rattle.std.specs.Prelude.{filter, find, map, option_map, unwrap_or}
 use Rattle.std.proofs.lemmas.Bool.{both_ways}
 use Rattle.std.proofs.lemmas.List.{append-nil, append_assoc, map-append}
 use Rattle.std.proofs.lemmas.List.Elements.{filter-append}
 use Rattle.ca_text.specs.Place.{At}
-use Rattle.ca_text.proofs.Places.{At-append, At-one, At-snoc, some_is}
+use Rattle.ca_text.proofs.Places.{At-one, At-snoc}
 use Rattle.ca_arena.specs.declared.handle.Handle.{Handle}
 use Rattle.ca_ids.specs.Table.{same_handle, under}
-use Rattle.ca_monitor.specs.Subscriptions.{Cancelled, Ended, Stage, Stands, Subscription}
+use Rattle.ca_monitor.specs.Subscriptions.{Stage, Stands, Subscription}
 use Rattle.ca_model.specs.Answers.{Sending}
-use Rattle.ca_model.specs.Client.{Channel, Client, Live, Native, On, Phase, Standing}
+use Rattle.ca_model.specs.Client.{Channel, Client, Live, Native, On, Phase}
 use Rattle.ca_model.specs.History.{Ask, Cancel, Clear, Create, Intent, Kind, Put, Read, Sent, Subscribe, Write}
 use Rattle.ca_model.specs.History as history
 use Rattle.ca_model_client.proofs.Handles.{handle-or, same-is, same-itself}
@@ -18,9 +18,9 @@ use Rattle.ca_model_client.proofs.Tables.{find-at, one-value}
 use Rattle.ca_model_world.specs.ClientEvents.{channel_number, meant_by}
 use Rattle.ca_model_world.specs.World.{Names}
 use Rattle.ca_laws_runs.specs.Circuit.{stamped}
-use Rattle.ca_laws_heard.specs.Quiet.{HasNumber, IsNamedIn, IsOfUse, NoCancel, PhaseIn, Quiet, StageIn, StandsIn, Tidy}
+use Rattle.ca_laws_heard.specs.Quiet.{HasNumber, IsNamedIn, IsOfUse, PhaseIn, Quiet, StageIn, StandsIn, Tidy}
 use Rattle.ca_laws_heard.proofs.Phases.{phase-other, phase-used, same-ask, same-number, stage-added, stage-other}
-use Rattle.ca_laws_heard.proofs.Lesser.{Less, less-then, quiet-less, tidy-less}
+use Rattle.ca_laws_heard.proofs.Lesser.{Less, quiet-less, tidy-less}
 
 -- ---- names
 
