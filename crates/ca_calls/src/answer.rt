@@ -8,6 +8,9 @@ use std::net::Ipv4Addr;
 /// More bytes than these are not written in full.
 const WRITTEN: usize = 1024;
 
+/// More notices than these are not written.
+const NOTICES: u32 = 100_000;
+
 /// An answer as text: words in one line.
 #[derive(Drop)]
 pub struct Answer {
@@ -77,7 +80,7 @@ impl Answer {
         }
         self.number(bytes.len() as u64)?;
         self.word("bytes")?;
-        self.all_bytes(&bytes[..64])
+        self.all_bytes(bytes.get(..64).unwrap_or(bytes))
     }
 
     fn all_bytes(&mut self, bytes: &[u8]) -> Result<(), Refusal> {
@@ -155,7 +158,10 @@ impl Answer {
 
     /// Notices in order, with a comma after each.
     pub fn notices(&mut self, mut notices: Notices) -> Result<(), Refusal> {
-        while let Some(notice) = notices.next() {
+        for _ in 0..NOTICES {
+            let Some(notice) = notices.next() else {
+                break;
+            };
             self.notice(&notice)?;
             self.text.push_str(",")?;
         }

@@ -1,31 +1,24 @@
 //! The calls of a client.
 
 use crate::answer::Answer;
-use crate::words::{Words, address_in};
-use ca_client_core::{Address, ChannelState, ClientCore, Closing, Left, Stepped, Ticked, Why};
+use crate::words::Words;
+use ca_client_core::{ChannelState, ClientCore, Closing, Left, Stepped, Ticked, Why};
 use ca_text::Refusal;
 use std::alloc::Global;
 
+/// A call that steps stops after so many messages.
+const MESSAGES: u32 = 100_000;
+
 /// `USER HOST NOW SERVER.. names SERVER..`.
-pub fn begin(alloc: Global, mut words: Words<'_>) -> Result<ClientCore, Refusal> {
+pub fn begin(alloc: Global, line: &str) -> Result<ClientCore, Refusal> {
+    let (line, names) = line.split_once(" names").unwrap_or((line, ""));
+    let mut words = Words::new(line);
     let user = Vec::from_slice(alloc, words.word()?.as_bytes())?;
     let host = Vec::from_slice(alloc, words.word()?.as_bytes())?;
     let now = words.number()?;
-    let servers = addresses(alloc, &mut words)?;
-    let names = addresses(alloc, &mut words)?;
+    let servers = words.addresses(alloc)?;
+    let names = Words::new(names).addresses(alloc)?;
     ClientCore::new(alloc, user, host, servers, &names, now)
-}
-
-/// The addresses up to the word `names`, or to the end.
-fn addresses(alloc: Global, words: &mut Words<'_>) -> Result<Vec<Address>, Refusal> {
-    let mut all = Vec::new(alloc);
-    while let Some(word) = words.next() {
-        if word == "names" {
-            break;
-        }
-        all.push(address_in(word)?)?;
-    }
-    Ok(all)
 }
 
 /// Makes a call.
@@ -198,7 +191,7 @@ fn hear(
 ) -> Result<(), Refusal> {
     let circuit = words.handle()?;
     core.give(circuit, &words.bytes(alloc)?, false)?;
-    loop {
+    for _ in 0..MESSAGES {
         match core.step(circuit) {
             Stepped::Notices(notices) => answer.notices(notices)?,
             Stepped::NeedBytes => break,

@@ -8,6 +8,9 @@ use ca_text::Refusal;
 use ca_wire::Pipe;
 use std::alloc::Global;
 
+/// A call that steps stops after so many messages.
+const MESSAGES: u32 = 100_000;
+
 /// `PORT NOW`, with these lines of records and rules.
 pub fn begin(alloc: Global, mut words: Words<'_>, lines: &[u8]) -> Result<ServerCore, Refusal> {
     let RecordFile { records, rules } = read_records(alloc, lines)?;
@@ -83,7 +86,7 @@ fn handle(
 ) -> Result<(), Refusal> {
     let circuit = words.handle()?;
     core.give(circuit, &words.bytes(alloc)?)?;
-    loop {
+    for _ in 0..MESSAGES {
         match core.step(circuit) {
             Step::Handled => {}
             Step::NeedBytes => break,

@@ -46,7 +46,7 @@ impl Table {
         match call.as_bytes() {
             b"record" => self.add_record(line),
             b"rule" => self.add_record(line),
-            b"client" => self.begin_client(Words::new(rest)),
+            b"client" => self.begin_client(rest),
             b"server" => self.begin_server(Words::new(rest)),
             b"repeat" => self.repeat(rest, answer),
             _ => self.call(call, rest, answer),
@@ -63,8 +63,8 @@ impl Table {
         Ok(())
     }
 
-    fn begin_client(&mut self, words: Words<'_>) -> Result<(), Refusal> {
-        self.core = Core::Client(client::begin(self.alloc, words)?);
+    fn begin_client(&mut self, rest: &str) -> Result<(), Refusal> {
+        self.core = Core::Client(client::begin(self.alloc, rest)?);
         Ok(())
     }
 

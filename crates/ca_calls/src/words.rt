@@ -19,11 +19,6 @@ impl<'a> Words<'a> {
         }
     }
 
-    /// The next word, if there is one.
-    pub fn next(&mut self) -> Option<&'a str> {
-        self.left.next()
-    }
-
     pub fn word(&mut self) -> Result<&'a str, Refusal> {
         self.left.next().ok_or(Refusal::BadText)
     }
@@ -71,17 +66,26 @@ impl<'a> Words<'a> {
         address_in(self.word()?)
     }
 
+    /// The addresses that all words left are.
+    pub fn addresses(self, alloc: Global) -> Result<Vec<Address>, Refusal> {
+        let mut all = Vec::new(alloc);
+        for word in self.left {
+            all.push(address_in(word)?)?;
+        }
+        Ok(all)
+    }
+
     /// The bytes that all words left are.
-    pub fn bytes(&mut self, alloc: Global) -> Result<Vec<u8>, Refusal> {
+    pub fn bytes(self, alloc: Global) -> Result<Vec<u8>, Refusal> {
         let mut bytes = Vec::new(alloc);
-        while let Some(word) = self.left.next() {
+        for word in self.left {
             bytes.extend_from_slice(&decoded(alloc, word)?)?;
         }
         Ok(bytes)
     }
 
-    /// A value with its metadata, as `TYPE COUNT BYTES`.
-    pub fn value(&mut self, alloc: Global) -> Result<(Value, Meta), Refusal> {
+    /// A value with its metadata, as `TYPE COUNT BYTES`, the last words.
+    pub fn value(mut self, alloc: Global) -> Result<(Value, Meta), Refusal> {
         let data_type = self.short()?;
         let count = self.count()?;
         read_value(alloc, data_type, count, &self.bytes(alloc)?)
@@ -97,7 +101,7 @@ fn decoded(alloc: Global, word: &str) -> Result<Vec<u8>, Refusal> {
 }
 
 /// The address that a word `A.B.C.D:PORT` is.
-pub fn address_in(word: &str) -> Result<Address, Refusal> {
+fn address_in(word: &str) -> Result<Address, Refusal> {
     match word.parse::<SocketAddrV4>() {
         Ok(address) => Ok(Address {
             host: address.ip().to_bits(),
