@@ -72,7 +72,11 @@ fn open(core: &mut ClientCore, mut words: Words<'_>, answer: &mut Answer) -> Res
     let name = words.word()?.as_bytes();
     let priority = words.short()?;
     let now = words.number()?;
-    let name = if name == b"-".as_slice() { b"".as_slice() } else { name };
+    let name = if name == b"-".as_slice() {
+        b"".as_slice()
+    } else {
+        name
+    };
     answer.handle(core.open(name, priority, now)?)
 }
 

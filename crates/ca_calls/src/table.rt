@@ -1,7 +1,6 @@
 use crate::answer::Answer;
-use crate::client;
-use crate::server;
 use crate::words::Words;
+use crate::{client, server};
 use ca_client_core::ClientCore;
 use ca_server_core::ServerCore;
 use ca_text::Refusal;
