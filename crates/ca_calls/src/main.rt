@@ -26,16 +26,27 @@ use std::io;
 fn main(rt: HostRuntime) -> io::Result<()> {
     let mut table = Table::new(rt.alloc());
     let mut answer = Answer::new(rt.alloc());
+    answer_all(&rt, &mut table, &mut answer)
+}
+
+/// Does what the lines of standard input say.
+fn answer_all(rt: &HostRuntime, table: &mut Table, answer: &mut Answer) -> io::Result<()> {
     for line in rt.lines(rt.alloc()) {
-        let line = line?;
-        let line = line.as_str();
-        if line.is_empty() || line.starts_with("#") {
-            println!(rt; "{line}")?;
-        } else {
-            table.answer(line, &mut answer);
-            let text = answer.text();
-            println!(rt; "{line} -> {text}")?;
-        }
+        answer_line(rt, line?.as_str(), table, answer)?;
     }
     Ok(())
+}
+
+fn answer_line(
+    rt: &HostRuntime,
+    line: &str,
+    table: &mut Table,
+    answer: &mut Answer,
+) -> io::Result<()> {
+    if line.is_empty() || line.starts_with("#") {
+        return println!(rt; "{line}");
+    }
+    table.answer(line, answer);
+    let text = answer.text();
+    println!(rt; "{line} -> {text}")
 }
