@@ -13,7 +13,7 @@ use crate::stage::Stage;
 use crate::subscription::Subscription;
 use ca_arena::Handle;
 use ca_ids::{HeldTable, WireId};
-use ca_text::Refusal;
+use ca_text::{Mask, Refusal};
 use std::alloc::{AllocError, Global};
 use std::marker::Model;
 
@@ -58,7 +58,7 @@ impl Monitors {
         channel: Handle,
         data_type: u16,
         count: u32,
-        mask: u16,
+        mask: Mask,
     ) -> Result<(), AllocError>
         ensures { Adds
             self.old
