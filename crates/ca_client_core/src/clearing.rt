@@ -14,7 +14,7 @@ ghost use Rattle.ca_model_client.specs.Placed.{IsBare};
 
 use crate::channel::{Channel, Phase, Standing, is_same};
 use crate::client::ClientCore;
-use crate::hearing::put;
+use crate::hearing::set_standing;
 use crate::letting_go::let_go;
 use crate::notices::Notices;
 use ca_arena::Handle;
@@ -106,7 +106,7 @@ impl ClientCore {
     {
         let told = self.requests.end_channel(channel);
         self.monitors.end_channel(circuit, channel);
-        put(
+        set_standing(
             &mut self.channels,
             channel,
             Standing::On(circuit, Phase::Clearing),

@@ -131,7 +131,7 @@ impl ClientCore {
             → is_live_in self.old.channels channel ≡ true }
         ensures { self.new ≡ with_standing (On circuit (phase_of phase)) channel self.old }
     {
-        put(&mut self.channels, channel, Standing::On(circuit, phase));
+        set_standing(&mut self.channels, channel, Standing::On(circuit, phase));
     }
 
     // The channel is live on this circuit. Without memory nothing changes.
@@ -157,7 +157,7 @@ impl ClientCore {
             circuit,
             channel,
         )?;
-        put(
+        set_standing(
             &mut self.channels,
             channel,
             Standing::On(circuit, Phase::Live(native, rights)),
@@ -197,7 +197,7 @@ impl ClientCore {
 }
 
 // The channel of this handle is there now.
-pub(crate) fn put(channels: &mut HeldTable<Channel>, handle: Handle, standing: Standing)
+pub(crate) fn set_standing(channels: &mut HeldTable<Channel>, handle: Handle, standing: Standing)
     ensures { channels.new
         ≡ with_changed
         (λ here. record here { standing = standing_of standing })
