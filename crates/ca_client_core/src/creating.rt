@@ -69,7 +69,7 @@ impl ClientCore {
     {
         let waiting = self.out_bytes(circuit).len();
         self.subscribe_again(circuit, native.sid, channel)?;
-        match self.make_live(channel, circuit, native, rights) {
+        match self.make_live(circuit, channel, native, rights) {
             Ok(()) => Ok(Notices::one(self.alloc, Some(Notice::Live(channel)))),
             Err(_) => {
                 self.cut_back(circuit, waiting);
@@ -90,7 +90,7 @@ impl ClientCore {
     {
         let cid = Cid::new(WireId::of(channel).number());
         self.queue(circuit, &clear_request(self.alloc, Sid::new(sid), cid))?;
-        self.set_phase(channel, circuit, Phase::Clearing);
+        self.set_phase(circuit, channel, Phase::Clearing);
         Ok(Notices::none(self.alloc))
     }
 

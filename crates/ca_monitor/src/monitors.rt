@@ -103,7 +103,7 @@ impl Monitors {
     /// A subscription that stands is cancelled on this circuit: its id drains until the confirmation.
     ///
     /// Refused as StaleHandle if none stands under the handle.
-    pub fn cancel(&mut self, handle: Handle, circuit: Handle) -> Result<Subscription, Refusal>
+    pub fn cancel(&mut self, circuit: Handle, handle: Handle) -> Result<Subscription, Refusal>
         ensures { Comes (monitor.Cancelled circuit) self.old handle result self.new }
     {
         let Some(found) = self.standing(handle) else {
@@ -116,7 +116,7 @@ impl Monitors {
     /// A subscription that stands is over: its id drains on this circuit until its channel's clear is answered.
     ///
     /// Refused as StaleHandle if none stands under the handle.
-    pub fn end(&mut self, handle: Handle, circuit: Handle) -> Result<Subscription, Refusal>
+    pub fn end(&mut self, circuit: Handle, handle: Handle) -> Result<Subscription, Refusal>
         ensures { Comes (monitor.Ended circuit) self.old handle result self.new }
     {
         let Some(found) = self.standing(handle) else {
@@ -197,7 +197,7 @@ impl Monitors {
     pub fn drained(&mut self, circuit: Handle, channel: Handle)
         ensures { self.new ≡ channel_drained circuit channel self.old }
     {
-        free_all(&mut self.table, Which::DrainingTo(channel, circuit));
+        free_all(&mut self.table, Which::DrainingTo(circuit, channel));
     }
 
     /// The ids that drain on this circuit are free. It does not allocate.
