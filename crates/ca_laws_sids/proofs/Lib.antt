@@ -1,0 +1,3 @@
+mod Tells
+mod Created
+mod Under

@@ -1,0 +1,7 @@
+//! Laws of SIDs over every run: what a server told of the channels that it created on each
+//! circuit, and on which channel it handles what the client sent.
+#![tactic(auto)]
+
+mod laws;
+
+pub use laws::{created_channels_are_open_or_cleared, writes_are_handled_on_their_channel};
