@@ -1,3 +1,5 @@
 mod Tells
 mod Created
 mod Under
+mod Standing
+mod Over

@@ -1,9 +1,10 @@
 -- Working: under which SID a client's messages go on a circuit.
 use Rattle.std.specs.Prelude.{ℕ, ◌≡◌, ◌<◌}
 use Rattle.ca_text.specs.Place.{At}
-use Rattle.ca_model.specs.History.{Ask, Circuit, Clear, Create, On, Reply, Sent, Told}
+use Rattle.ca_model.specs.History.{Ask, Cancel, Circuit, Clear, Create, On, Reply, Sent, Subscribe, Told}
 use Rattle.ca_model.specs.Speech.{Creates, sid_in}
 use Rattle.ca_model_world.specs.World.{Joined, World}
+use Rattle.ca_laws_circuit.specs.Sids.{IsClearedWithin}
 
 -- to read, to write, to subscribe or to cancel
 abbrev pub IsUse : Ask → Type 0
@@ -29,3 +30,22 @@ AreUnder c = (p channel : ℕ) (s : Sent) (ask : Ask) → At c.up p s → s.inte
 -- So it is on each circuit.
 abbrev pub AllUnder : World → Type 0
 AllUnder w = (n : ℕ) (c : Joined) → At w.circuits n c → AreUnder c.lists
+
+-- Before a channel is created again under a new CREATE_CHAN on the circuit, the client cleared the SID under which it was created before.
+abbrev pub AreClearedBetween : Circuit → Type 0
+AreClearedBetween c = (p k channel i sid : ℕ) (r q : Sent) (t : Told) → p < k → At c.up p r → At c.up k q → r.intent ≡ On channel Create
+    → q.intent ≡ On channel Create → At c.down i t → t.place ≡ p → t.cause ≡ Reply → Creates t.message sid → IsClearedWithin c.up sid p k
+
+-- An EVENT_CANCEL has the subscription id of its EVENT_ADD.
+abbrev pub AreSubIds : Circuit → Type 0
+AreSubIds c = (p q a b number : ℕ) (r s : Sent) → At c.up p r → At c.up q s → r.intent ≡ On a (Subscribe number) → s.intent ≡ On b (Cancel number)
+    → r.message.p2 ≡ s.message.p2
+
+-- What is to be known of a client's messages on each circuit, by its lists.
+pub record SaysRight (c : Circuit) : Type 0 where
+  pub under : AreUnder c
+  pub between : AreClearedBetween c
+  pub subs : AreSubIds c
+
+abbrev pub AllSayRight : World → Type 0
+AllSayRight w = (n : ℕ) (c : Joined) → At w.circuits n c → SaysRight c.lists

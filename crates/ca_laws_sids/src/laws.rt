@@ -5,13 +5,16 @@ ghost use Rattle.ca_link.specs.Link.{with_rest};
 ghost use Rattle.ca_model.specs.History.{Sent};
 ghost use Rattle.ca_model.specs.ServerSteps.{knows};
 ghost use Rattle.ca_model.specs.Speech.{Is};
+ghost use Rattle.ca_model_world.specs.Events.{ServerStep};
+ghost use Rattle.ca_model_world.specs.Runs.{Happens};
 ghost use Rattle.ca_model_world.specs.ServerEvents.{StepHandles};
 ghost use Rattle.ca_model_world.specs.World.{Joined, ServerSide, World};
 ghost use Rattle.ca_laws_circuit.specs.Flows.{IsCidOf};
 ghost use Rattle.ca_laws_circuit.specs.Replies.{IsCidAt};
 ghost use Rattle.ca_laws_bytes.specs.Runs.{IsReached};
 ghost use Rattle.ca_laws_sids.specs.Created.{AllCreated};
-ghost use Rattle.ca_laws_sids.specs.Under.{AllUnder};
+ghost use Rattle.ca_laws_steps.specs.Worlds.{IsOwnNext};
+ghost use Rattle.ca_laws_sids.specs.Under.{AllSayRight, AllUnder};
 
 /// In every world to which a run leads, on each circuit: each reply by which a channel was created is
 /// about a CREATE_CHAN that was handled; between two creations under one SID the client cleared that
@@ -31,4 +34,13 @@ pub fn writes_are_handled_on_their_channel()
         → At j.lists.up (length j.lists.handled) s → Is Write s.message → (cid : ℕ)
         → IsCidAt (knows y.core (record f.e { link = with_rest (f.steps.0).rest f.e.link })) s.message.p1 cid
         → IsCidOf j.lists.up (length j.lists.handled) s.intent cid }
+{}
+
+/// So all of `IsOwnNext` is known of the message that a server's end handles next, also that nothing
+/// is kept for what it ends, if its clients also cleared a channel before they created it again, and
+/// cancelled subscriptions by their own ids (`AllSayRight`).
+pub fn a_message_is_handled_as_it_was_meant()
+    ensures { (w new : World) (k : ℕ) (j : Joined) (y : ServerSide) (f : StepHandles w k j y new)
+        → IsReached w → AllSayRight w → Happens w (ServerStep k) new → At w.circuits k j
+        → At w.servers j.server y → j.lists.server_open ≡ true → IsOwnNext w new k j y f }
 {}
