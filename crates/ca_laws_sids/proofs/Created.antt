@@ -1,8 +1,8 @@
 -- The replies by which channels are created, over every event and run.
-use Rattle.std.proofs.Common.{◌≡◌, ℕ, zero, suc, ◌+◌, ◌<◌, ◌≤◌, ◌⊎◌, inl, inr, Bool, true, false, cond, not, eqb, eqb-true, List, [], ◌∷◌, ◌++◌, length, Option, Some, None, refl, sym, ap, subst, ◌∙◌, arith}
+use Rattle.std.proofs.Common.{◌≡◌, ℕ, zero, suc, ◌+◌, ◌<◌, ◌⊎◌, inl, inr, Bool, true, false, cond, not, eqb, eqb-true, List, [], ◌∷◌, ◌++◌, length, Option, Some, None, refl, sym, ap, subst, ◌∙◌, arith}
 use Rattle.std.proofs.lemmas.Bool.{both_ways, cases_Bool}
 use Rattle.std.specs.List.{FoldsTo}
-use Rattle.std.specs.Prelude.{filter, is_some, map, option_map, slice_set, unwrap_or}
+use Rattle.std.specs.Prelude.{is_some, option_map, slice_set, unwrap_or}
 use Rattle.ca_arena.specs.declared.handle.Handle.{Handle}
 use Rattle.ca_dbr.specs.Elements.{base_of}
 use Rattle.ca_dbr.specs.Types.{base_number}
@@ -10,7 +10,7 @@ use Rattle.ca_link.specs.Link.{with_rest}
 use Rattle.ca_text.specs.declared.command.Command.TheVariants as command
 use Rattle.ca_text.specs.Place.{At}
 use Rattle.ca_text.specs.Status.{normal}
-use Rattle.ca_text.proofs.Places.{some_is, At-append, At-map, At-mapped, At-one, At-parts, At-snoc, At-within}
+use Rattle.ca_text.proofs.Places.{some_is, At-map, At-mapped, At-one, At-parts, At-snoc, At-within}
 use Rattle.ca_wire.specs.Fields.{Fields}
 use Rattle.ca_wire.specs.Messages.{bare, cancel_reply, cleared_reply, error_reply, created_reply, failed_reply, not_found_reply, rights_reply, search_reply, status_reply, text_in, version_reply}
 use Rattle.ca_model.specs.Answers.{Closing}
@@ -25,7 +25,7 @@ use Rattle.ca_model_client.proofs.Tables.{given-fresh, length-more}
 use Rattle.ca_model_world.specs.ClientEvents.{HappensAccept, WantsFirst, connected_as, new_circuit}
 use Rattle.ca_model_world.specs.Events.{Event}
 use Rattle.ca_model_world.specs.Events as event
-use Rattle.ca_model_world.specs.Runs.{Happens, HasServerEnd, StopsAt, clients_below}
+use Rattle.ca_model_world.specs.Runs.{Happens, StopsAt, clients_below}
 use Rattle.ca_model_world.specs.ServerEvents.{ServerStepped, StepHandles, about, ending, ends_by, handled_at, numbers_after, server_after, side_of, write_numbers}
 use Rattle.ca_model_world.specs.ServerEvents as server
 use Rattle.ca_model_world.specs.World.{ClientSide, Creation, IsSetting, Joined, ServerSide, Setting, World, opening, with_circuit}
@@ -46,7 +46,7 @@ use Rattle.ca_laws_steps.specs.Worlds.{ServersStand}
 use Rattle.ca_laws_steps.proofs.Handled.{written-parts}
 use Rattle.ca_laws_steps.proofs.Whole.{event-serves, opening-serves, takes-next}
 use Rattle.ca_laws_sids.specs.Created.{AllCreated, CreatedOn}
-use Rattle.ca_laws_sids.proofs.Tells.{Back, IsQuietEvent, KeepsOn, back-frame, event-back, on-ending, step-beside, unhandled-back}
+use Rattle.ca_laws_sids.proofs.Tells.{Back, KeepsOn, back-frame, event-back, on-ending, step-beside, unhandled-back}
 
 -- ---- what is due
 

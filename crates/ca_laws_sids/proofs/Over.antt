@@ -1,7 +1,6 @@
 -- For what a message ends its server keeps nothing then.
-use Rattle.std.proofs.Common.{◌≡◌, ℕ, ◌<◌, inl, inr, Bool, true, false, ◌&&◌, eqb, eq-eqb, not, List, length, refl, sym, ap, subst, ◌∙◌, arith}
+use Rattle.std.proofs.Common.{◌≡◌, ℕ, ◌<◌, inl, inr, Bool, true, false, eqb, eq-eqb, not, List, length, refl, sym, ap, subst, ◌∙◌, arith}
 use Rattle.std.proofs.lemmas.Bool.{and_from, both_ways}
-use Rattle.std.specs.Prelude.{filter}
 use Rattle.ca_link.specs.Link.{with_rest}
 use Rattle.ca_queue.specs.declared.entry.SubKey.{SubKey}
 use Rattle.ca_queue.specs.Keys.{same}
@@ -10,11 +9,9 @@ use Rattle.ca_text.specs.Place.{At}
 use Rattle.ca_text.proofs.Places.{At-one}
 use Rattle.ca_wire.specs.Fields.{Fields}
 use Rattle.ca_model.specs.Due.{Action, Clears, Drops, Due, key_in}
-use Rattle.ca_model.specs.History.{Ask, Cancel, Circuit, Clear, Create, Intent, On, Request, Sent, Subscribe, Told}
-use Rattle.ca_model.specs.History as history
+use Rattle.ca_model.specs.History.{Ask, Cancel, Circuit, Clear, Create, Intent, On, Sent, Subscribe, Told}
 use Rattle.ca_model.specs.ServerSteps.{knows}
 use Rattle.ca_model.specs.Speech.{Creates, In, Is, sid_in}
-use Rattle.ca_model.specs.Speech as speech
 use Rattle.ca_model_safe.specs.Channels.{Asks, Suits}
 use Rattle.ca_model_client.proofs.Thinner.{three-ways}
 use Rattle.ca_model_world.specs.Events as event
@@ -33,13 +30,14 @@ use Rattle.ca_laws_writes.specs.Seats.{Sound, TakesSent}
 use Rattle.ca_laws_writes.proofs.Every.{event-sound}
 use Rattle.ca_laws_writes.proofs.Lists.{In-kept}
 use Rattle.ca_laws_steps.specs.Creations.{CreationsOn}
+use Rattle.ca_laws_steps.specs.Held.{IsKnownStep}
 use Rattle.ca_laws_steps.specs.Worlds.{IsOwnNext, ServersStand}
 use Rattle.ca_laws_steps.proofs.Creations.{reached-creations}
 use Rattle.ca_laws_steps.proofs.Found.{create-is}
 use Rattle.ca_laws_steps.proofs.Handled.{circuit-is, moved, step, written-parts}
 use Rattle.ca_laws_steps.proofs.Whole.{reached-serves, takes-next}
 use Rattle.ca_laws_sids.specs.Created.{CreatedOn}
-use Rattle.ca_laws_sids.specs.Under.{AllSayRight, IsCreatedBefore, IsUse, SaysRight}
+use Rattle.ca_laws_sids.specs.Under.{AllSayRight, IsCreatedBefore, SaysRight}
 use Rattle.ca_laws_sids.proofs.Created.{reached-created}
 use Rattle.ca_laws_sids.proofs.Standing.{StandingOn, reached-standing}
 use Rattle.ca_laws_sids.proofs.Under.{reached-writes, uncleared}
@@ -291,3 +289,7 @@ reached-own w new k j y f reached says happens on at opened =
       writes = λ s there writes cid is. reached-writes w reached (λ n c at_c. (says n c at_c).under) new k j y f on at opened s there writes cid is;
       over = λ s r p there at_r lt ends in_it. over-by h.0 w new h.1 h.2 reached says k j y happens f on at opened s there r p at_r lt s.intent r.intent refl refl ends in_it;
     }
+
+pub reached-known : (w new : World) (k : ℕ) → IsReached w → AllSayRight w → Happens w (event.ServerStep k) new → IsKnownStep w (event.ServerStep k) new
+reached-known w new k reached says happens j y f on at =
+    reached-own w new k j y f reached says happens on at (subst (λ (z : Joined). z.lists.server_open ≡ true) (At-one w.circuits k happens.0.j j happens.0.joins.at on) happens.0.is_open)

@@ -1,5 +1,5 @@
 -- The subscriptions that stand on a circuit are on open channels, over every run.
-use Rattle.std.proofs.Common.{◌≡◌, ℕ, ◌<◌, ◌+◌, inl, inr, Bool, true, false, cond, not, eqb, eqb-true, List, [], ◌∷◌, ◌++◌, length, refl, sym, ap, subst, ◌∙◌, arith}
+use Rattle.std.proofs.Common.{◌≡◌, ℕ, ◌<◌, ◌+◌, inl, inr, Bool, true, false, cond, not, eqb, eqb-true, List, [], ◌∷◌, length, refl, sym, ap, subst, ◌∙◌}
 use Rattle.std.specs.Prelude.{filter, map}
 use Rattle.std.specs.List.{fold}
 use Rattle.ca_arena.specs.declared.handle.Handle.{Handle}
@@ -15,11 +15,11 @@ use Rattle.ca_model.specs.Due as action
 use Rattle.ca_model.specs.History.{Sent, Step}
 use Rattle.ca_model.specs.Server.{OpenChannel, Server, ServerEnd, concerns, key_of}
 use Rattle.ca_model.specs.ServerCalls.{is_on}
-use Rattle.ca_model.specs.ServerSteps.{Acts, known_channel, knows}
+use Rattle.ca_model.specs.ServerSteps.{known_channel, knows}
 use Rattle.ca_model.specs.Speech.{In}
 use Rattle.ca_model_client.proofs.Tables.{find-at, held-under}
-use Rattle.ca_model_world.specs.ServerEvents.{handled_at, numbers_after, with_number}
-use Rattle.ca_model_world.specs.World.{Creation, Joined, ServerSide, Standing, World}
+use Rattle.ca_model_world.specs.ServerEvents.{handled_at, numbers_after, stamped, with_number}
+use Rattle.ca_model_world.specs.World.{Creation, Joined, Standing, World}
 use Rattle.ca_laws_bytes.specs.Runs.{IsReached}
 use Rattle.ca_laws_bytes.proofs.Runs.{runs-take}
 use Rattle.ca_laws_kept.specs.Channels.{ChannelsOn, has_sid}
@@ -94,19 +94,19 @@ standing-handled y e s replies did step c due channels messages h = go did due
           (o.0, (f.0, f.1), sid, subst (λ (p : ℕ). o.0.place < p) (sym at_place) m.3)
     ]
     go (action.Opens ch) due st there = (let x = h st there in (x.0, In-append c.creations _ x.0 x.1, x.2, x.3))
-    go (action.Drops key) due =
-        standing-less c (handled_at place step replies (numbers_after place (action.Drops key) c)) (λ st at. (st, (In-kept (λ (t : Standing). not (same key t.key)) c.standing st at).0, refl, refl)) (λ st x at is there. there) h
-    go (action.Clears sid) due =
+    go (action.Drops key) due st there =
+        standing-less c (handled_at place step replies (numbers_after place (action.Drops key) c)) (λ st at. (st, (In-kept (λ (t : Standing). not (same key t.key)) c.standing st at).0, refl, refl)) (λ st x at is there. there) h st there
+    go (action.Clears sid) due st there =
         standing-less c (handled_at place step replies (numbers_after place (action.Clears sid) c)) (λ st at. (st, (In-kept (λ (t : Standing). not (eqb t.key.sid sid)) c.standing st at).0, refl, refl))
         (λ st x at is there.
         let keeps = (In-kept (λ (t : Standing). not (eqb t.key.sid sid)) c.standing st at).1 in
-        kept-in (λ (z : Creation). not (eqb z.sid sid)) c.creations x there (ap (λ (n : ℕ). not (eqb n sid)) is ∙ keeps)) h
-    go (action.Switches on) due = as-was (action.Switches on) refl refl
-    go (action.Applies name value busies) due = as-was (action.Applies name value busies) refl refl
-    go (action.Waits name value) due = as-was (action.Waits name value) refl refl
-    go (action.Names p) due = as-was (action.Names p) refl refl
-    go action.Greets due = as-was action.Greets refl refl
-    go action.Nothing due = as-was action.Nothing refl refl
+        kept-in (λ (z : Creation). not (eqb z.sid sid)) c.creations x there (ap (λ (n : ℕ). not (eqb n sid)) is ∙ keeps)) h st there
+    go (action.Switches on) due st there = as-was (action.Switches on) refl refl st there
+    go (action.Applies name value busies) due st there = as-was (action.Applies name value busies) refl refl st there
+    go (action.Waits name value) due st there = as-was (action.Waits name value) refl refl st there
+    go (action.Names p) due st there = as-was (action.Names p) refl refl st there
+    go action.Greets due st there = as-was action.Greets refl refl st there
+    go action.Nothing due st there = as-was action.Nothing refl refl st there
 
 -- ---- over events
 
@@ -119,7 +119,7 @@ standing-lasting = record {
   posted = λ n name mask v e c p.
       (channels-lasting.posted n name mask v e c p.0, messages-lasting.posted n name mask v e c p.1, standing-numbered c (map key_of (filter (concerns name mask) e.subscriptions)) p.2);
   removed = λ n name e c p. (channels-lasting.removed n name e c p.0, messages-lasting.removed n name e c p.1, standing-gone _ c p.2);
-  pumped = λ n us e after c folds p. (let q = stamped-parts us c in (channels-lasting.pumped n us e after c folds p.0, messages-lasting.pumped n us e after c folds p.1, standing-same c _ q.2 q.3 p.2));
+  pumped = λ n us e after c folds p. (let q = stamped-parts us c in (channels-lasting.pumped n us e after c folds p.0, messages-lasting.pumped n us e after c folds p.1, standing-same c (stamped us c) q.2 q.3 p.2));
   replied = λ n e c place ms p. (channels-lasting.replied n e c place ms p.0, messages-lasting.replied n e c place ms p.1, standing-same c (told_late place ms c) refl refl p.2);
 }
 

@@ -8,16 +8,14 @@ use Rattle.ca_dbr.specs.Elements.{Elements}
 use Rattle.ca_ids.specs.Table.{under}
 use Rattle.ca_ids.specs.Wire.{wire_of}
 use Rattle.ca_queue.specs.declared.entry.SubKey.{SubKey}
-use Rattle.ca_link.specs.Link.{with_rest}
 use Rattle.ca_records.specs.declared.puts.Put.{Put}
 use Rattle.ca_records.specs.Puts.{WaitingPut}
 use Rattle.ca_records.specs.Record.{RecordState, unset}
 use Rattle.ca_text.specs.declared.command.Command.TheVariants as command
 use Rattle.ca_text.specs.Place.{At}
-use Rattle.ca_text.proofs.Places.{some_is, At-map, At-mapped, At-one, At-parts, At-set, At-snoc, At-append}
+use Rattle.ca_text.proofs.Places.{some_is, At-mapped, At-one, At-parts, At-set, At-append}
 use Rattle.ca_wire.specs.Fields.{Fields}
-use Rattle.ca_model.specs.Answers.{Closing}
-use Rattle.ca_model.specs.Due.{Action, Due}
+use Rattle.ca_model.specs.Due.{Action}
 use Rattle.ca_model.specs.Ends as why
 use Rattle.ca_model.specs.History.{Cause, Circuit, Collected, GaveUp, Removal, Reply, Sent, Step, Told}
 use Rattle.ca_model.specs.Server.{OpenChannel, Server}
@@ -26,18 +24,16 @@ use Rattle.ca_queue.specs.Queue.{Queue, with_front_taken}
 use Rattle.ca_model.specs.ServerSteps.{Stepped, Update, closed}
 use Rattle.ca_model.specs.ServerSteps as stepped
 use Rattle.ca_model.specs.Speech.{In, Is}
-use Rattle.ca_model_world.specs.ClientEvents.{DownTaken, HappensAccept, HappensDown, WantsFirst, connected_as, new_circuit, up_taken}
+use Rattle.ca_model_world.specs.ClientEvents.{DownTaken, HappensDown, up_taken}
 use Rattle.ca_model_world.specs.Events.{Event}
 use Rattle.ca_model_world.specs.Events as event
-use Rattle.ca_model_world.specs.Runs.{CanBe, Happens, Leaves, StopsAt, clients_below}
+use Rattle.ca_model_world.specs.Runs.{CanBe, Happens, Leaves, clients_below}
 use Rattle.ca_model_world.specs.ServerEvents.{HappensFinish, HappensPost, HappensRemove, ServerStepped, StepHandles, about, acted, disconnected_at, ending, ends_by, ends_here, handled_at, noted, numbers_after, server_after, server_closed, side_of, unsaid, write_numbers}
 use Rattle.ca_model_world.specs.ServerEvents as server
 use Rattle.ca_model_world.specs.World.{ClientSide, Joined, PutPlace, RecordSide, ServerSide, World, with_circuit}
-use Rattle.ca_laws_bytes.specs.Runs.{IsReached}
 use Rattle.ca_laws_kept.proofs.Since.{stamped-parts}
-use Rattle.ca_laws_runs.proofs.Handled.{numbers-like, posted-like, writes-like}
+use Rattle.ca_laws_runs.proofs.Handled.{numbers-like, writes-like}
 use Rattle.ca_laws_writes.specs.Moves.{finish_told, post_told, removal_told}
-use Rattle.ca_laws_writes.specs.Seats.{Sound, TakesSent}
 use Rattle.ca_laws_writes.specs.Steps.{AllInStep}
 use Rattle.ca_laws_writes.proofs.Every.{ticks-frame}
 use Rattle.ca_laws_writes.proofs.Frames.{Frame}
@@ -47,7 +43,6 @@ use Rattle.ca_laws_writes.proofs.Lasting.{told_late}
 use Rattle.ca_laws_writes.proofs.Lists.{none_at}
 use Rattle.ca_laws_writes.proofs.Midway.{set-here}
 use Rattle.ca_laws_writes.proofs.Moves.{same-or}
-use Rattle.ca_laws_steps.specs.Worlds.{ServersStand}
 use Rattle.ca_laws_steps.proofs.Handled.{written-parts}
 use Rattle.ca_laws_steps.proofs.Stand.{closes}
 -- ---- from one world to the next

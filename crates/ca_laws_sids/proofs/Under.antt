@@ -1,7 +1,5 @@
 -- A message that goes under its channel's SID is handled on its channel.
-use Rattle.std.proofs.Common.{◌≡◌, ℕ, zero, suc, ◌<◌, ◌⊎◌, inl, inr, true, List, length, Option, Some, refl, sym, ap, subst, ◌∙◌, arith, eqb-true}
-use Rattle.std.specs.Prelude.{find, map}
-use Rattle.ca_arena.specs.declared.handle.Handle.{Handle}
+use Rattle.std.proofs.Common.{◌≡◌, ℕ, zero, suc, ◌<◌, inl, inr, true, length, refl, sym, ap, subst, ◌∙◌, arith, eqb-true}
 use Rattle.ca_ids.specs.Table.{held}
 use Rattle.ca_ids.specs.Wire.{wire_of}
 use Rattle.ca_link.specs.Link.{with_rest}
@@ -12,9 +10,9 @@ use Rattle.ca_wire.specs.Fields.{Fields}
 use Rattle.ca_model.specs.Due.{KnownChannel}
 use Rattle.ca_model.specs.History.{Ask, Cancel, Circuit, Clear, Create, Intent, On, Put, Read, Request, Reply, Sent, Subscribe, Told, Write}
 use Rattle.ca_model.specs.History as history
-use Rattle.ca_model.specs.Server.{OpenChannel, ServerEnd}
+use Rattle.ca_model.specs.Server.{ServerEnd}
 use Rattle.ca_model.specs.ServerSteps.{known_channel, knows}
-use Rattle.ca_model.specs.Speech.{Clears, Creates, In, Is, sid_in}
+use Rattle.ca_model.specs.Speech.{Clears, In, Is, sid_in}
 use Rattle.ca_model_safe.specs.Channels.{Suits}
 use Rattle.ca_model_client.proofs.Tables.{find-at, held-under, under-held}
 use Rattle.ca_model_client.proofs.Thinner.{three-ways}

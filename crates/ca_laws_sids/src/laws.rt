@@ -13,7 +13,7 @@ ghost use Rattle.ca_laws_circuit.specs.Flows.{IsCidOf};
 ghost use Rattle.ca_laws_circuit.specs.Replies.{IsCidAt};
 ghost use Rattle.ca_laws_bytes.specs.Runs.{IsReached};
 ghost use Rattle.ca_laws_sids.specs.Created.{AllCreated};
-ghost use Rattle.ca_laws_steps.specs.Worlds.{IsOwnNext};
+ghost use Rattle.ca_laws_steps.specs.Held.{IsKnownStep};
 ghost use Rattle.ca_laws_sids.specs.Under.{AllSayRight, AllUnder};
 
 /// In every world to which a run leads, on each circuit: each reply by which a channel was created is
@@ -36,11 +36,10 @@ pub fn writes_are_handled_on_their_channel()
         → IsCidOf j.lists.up (length j.lists.handled) s.intent cid }
 {}
 
-/// So all of `IsOwnNext` is known of the message that a server's end handles next, also that nothing
-/// is kept for what it ends, if its clients also cleared a channel before they created it again, and
-/// cancelled subscriptions by their own ids (`AllSayRight`).
+/// So all that `what_is_held_in_runs` asks of a step of a server's end is known (`IsOwnNext`), also
+/// that nothing is kept then for what the message ends, if clients also cleared a channel before they
+/// created it again, and cancelled subscriptions by their own ids (`AllSayRight`).
 pub fn a_message_is_handled_as_it_was_meant()
-    ensures { (w new : World) (k : ℕ) (j : Joined) (y : ServerSide) (f : StepHandles w k j y new)
-        → IsReached w → AllSayRight w → Happens w (ServerStep k) new → At w.circuits k j
-        → At w.servers j.server y → j.lists.server_open ≡ true → IsOwnNext w new k j y f }
+    ensures { (w new : World) (k : ℕ) → IsReached w → AllSayRight w → Happens w (ServerStep k) new
+        → IsKnownStep w (ServerStep k) new }
 {}
