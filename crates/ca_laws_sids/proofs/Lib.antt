@@ -3,3 +3,4 @@ mod Created
 mod Under
 mod Standing
 mod Over
+mod Grows

@@ -108,7 +108,7 @@ write-handled c e y created under asked opened opens creations s at writes cid h
     let b = own.2 in
     let about = created.about own.0 (sid_in s.message) b.t b.told.0 b.told.2 b.told.3 in
     let r_is : about.1.0 ≡ b.r = At-one c.lists.up own.1 about.1.0 b.r (subst (λ (z : ℕ). At c.lists.up z about.1.0) b.told.1 about.1.1) b.asked.0 in
-    let creates : Is command.CreateChannel b.r.message = subst (λ (z : Sent). Is command.CreateChannel z.message) r_is about.1.2 in
+    let creates : Is command.CreateChannel b.r.message = subst (λ (z : Sent). Is command.CreateChannel z.message) {x = about.1.0} {y = b.r} r_is about.1.2 in
     let found : b.r.message.p1 ≡ cid = by x b.r b.asked.0 held_cid in (
       on.0,
       own.1,

@@ -6,5 +6,5 @@ mod laws;
 
 pub use laws::{
     a_message_is_handled_as_it_was_meant, created_channels_are_open_or_cleared,
-    writes_are_handled_on_their_channel,
+    what_clients_say_grows, writes_are_handled_on_their_channel,
 };
