@@ -45,6 +45,7 @@ use Rattle.ca_laws_writes.proofs.Midway.{set-here}
 use Rattle.ca_laws_writes.proofs.Moves.{same-or}
 use Rattle.ca_laws_steps.proofs.Handled.{written-parts}
 use Rattle.ca_laws_steps.proofs.Stand.{closes}
+
 -- ---- from one world to the next
 
 -- The circuit goes on; nothing is handled there, and no channel is created. While its end at the server is open, it was open, and the

@@ -16,7 +16,12 @@ ghost use Rattle.ca_laws_bytes.specs.Runs.{IsReached};
 ghost use Rattle.ca_laws_sids.specs.Created.{AllCreated};
 ghost use Rattle.ca_laws_steps.specs.Held.{IsKnownStep};
 ghost use Rattle.ca_laws_sids.specs.Under.{
-    AllSayRight, AllUnder, AreClearedBetween, AreUnder, IsCreatedBefore, IsUse,
+  AllSayRight,
+  AllUnder,
+  AreClearedBetween,
+  AreUnder,
+  IsCreatedBefore,
+  IsUse,
 };
 
 /// In every world to which a run leads, on each circuit: each reply by which a channel was created is
