@@ -215,6 +215,8 @@ holds-number posts more subs values c key v among grow h = record {
       let b = At-mapped (queue_posted key entry) h.both i x at in
       let before : is_among k b.0.subscriptions ≡ false = ap (λ (l : List SubKey). is_among k l) (sym (posted-subs key entry b.0)) ∙ ap (λ (z : Queue Numbered). is_among k z.subscriptions) (sym b.2) ∙ none in
       ap (λ (z : Queue Numbered). entries_of k z.waiting) b.2 ∙ tidy-one k b.0 before (same key k) refl ∙ h.tidy i b.0 k b.1 before;
+  stood = λ i st at. (let a = At-mapped bump c.standing i st at in subst (λ (n : ℕ). n < length c.lists.handled) (sym (ap (λ (z : Standing). z.place) a.2 ∙ bump-place a.0)) (h.stood i a.0 a.1));
+  early = h.early;
 }
   where
     one : (i : ℕ) × (s : Standing) × At c.standing i s × (same key s.key ≡ true) × (fold (numbering key) c.queues c.standing ≡ map (queue_posted key (s.place, Update s.posts)) c.queues)

@@ -54,7 +54,7 @@ module _ (P : ℕ → List Entry → List RecordSide → ServerEnd → Joined �
         → P n log rs e c → P n (log ++ entry ∷ []) rs (with_post r.name mask v e) (numbered_for r.name mask e c)
     pub removed : (n : ℕ) (log : List Entry) (rs : List RecordSide) (name : List ℕ) (e : ServerEnd) (c : Joined) → P n log rs e c
         → P n (log ++ removal_entries name rs) (filter (λ (r : RecordSide). not (bytes_eq r.name name)) rs) (end_without name e) (told_gone (channels_of name e) c)
-    pub added : (n : ℕ) (log : List Entry) (rs : List RecordSide) (number behind : ℕ) (s : RecordState) (e : ServerEnd) (c : Joined) → ((r : RecordSide) → In rs r → r.number ≡ number → ⊥)
+    pub added : (n : ℕ) (log : List Entry) (rs : List RecordSide) (number behind : ℕ) (s : RecordState) (e : ServerEnd) (c : Joined) → AreOthers rs → ((r : RecordSide) → In rs r → (r.number ≡ number → ⊥) × (r.name ≡ s.name → ⊥))
         → P n log rs e c → P n (log ++ Added number s ∷ []) (take behind rs ++ record_begun number s ∷ drop behind rs) e c
     pub pumped : (n : ℕ) (log : List Entry) (rs : List RecordSide) (updates : List Update) (e after : ServerEnd) (c : Joined) → FoldsTo Leaves e updates after → P n log rs e c → P n log rs after (stamped updates c)
     pub replied : (n : ℕ) (log : List Entry) (rs : List RecordSide) (e : ServerEnd) (c : Joined) (place : ℕ) (ms : List Fields) → P n log rs e c → P n log rs e (told_late place ms c)

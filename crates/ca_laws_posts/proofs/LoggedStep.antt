@@ -181,7 +181,7 @@ pub life-tells : (w : World) (i : ℕ) (y : ServerSide) (h : Writes w) (at : At 
 life-tells w i y h at name c named =
     let own = h.lives i y at in
     let f = found (IsPutOf w.circuits i) own.log y.core.records y.records name c own.life.each named in
-    (f.r, (f.i, f.in_rs), f.named, f.agrees.value)
+    (f.r, (f.i, f.in_rs), f.named, ap (λ (n : List ℕ). number_of n y.records) (sym f.named) ∙ number-of y.records f.i f.r own.life.others f.in_rs, f.agrees.value)
 
 module _ (P : ℕ → List Entry → List RecordSide → ServerEnd → Joined → Type 0) (k : Lasting P) where
   -- the same names

@@ -276,6 +276,10 @@ holds-leaves posts u e mid c l h =
             subst (λ (x : Standing). Counts posts d.lists.down both sub x) s_is (subst (λ (x : Subscription). Counts posts d.lists.down both x st) sub_is own-now)
         go false is = other-now i sub s at_s is k
 
+    one-early : (i : ℕ) (k : Told) → At (message ∷ []) i k → k.place < length c.lists.handled
+    one-early zero k at = subst (λ (n : ℕ). n < length c.lists.handled) (ap (λ (v : Told). v.place) (some_is message k at)) (h.stood l.stands.0 st pair.1)
+    one-early (suc i) k at = absurd (none_at i k at)
+
     whole : Holds posts e.subscriptions (slice_set e.queues u.queue (with_front_taken l.q)) d
     whole = record {
       both = both;
@@ -297,6 +301,11 @@ holds-leaves posts u e mid c l h =
             ap (λ (v : Queue Numbered). entries_of k v.waiting) this.1
             ∙ none-after k z.events_on z.waiting (h.tidy u.queue z k b.1 (ap (λ (v : Queue Numbered). is_among k v.subscriptions) (sym this.1) ∙ none))
         | inr old ↦ h.tidy i x k old.0 none
+      ];
+      stood = h.stood;
+      early = λ j a k at cause. elim (At-parts c.lists.down (message ∷ []) j k at) [
+        | inl old ↦ h.early j a k old cause
+        | inr last ↦ one-early last.0 k last.2
       ];
     }
 
