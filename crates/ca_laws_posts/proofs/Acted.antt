@@ -10,14 +10,16 @@ use Rattle.ca_model_client.proofs.Tables.{freed-other, held-other, held-under, w
 use Rattle.ca_queue.specs.declared.entry.SubKey.{SubKey}
 use Rattle.ca_queue.specs.Keys.{is_among, same}
 use Rattle.ca_queue.specs.Order.{last_of}
-use Rattle.ca_queue.specs.Queue.{Queue}
+use Rattle.ca_queue.specs.Queue.{Queue, switched}
+use Rattle.ca_text.specs.Command.{command_number}
+use Rattle.ca_text.specs.declared.command.Command.TheVariants as command
 use Rattle.ca_text.specs.Place.{At}
 use Rattle.ca_text.proofs.Places.{At-append, At-last, At-map, At-mapped}
 use Rattle.ca_wire.specs.Fields.{Fields}
-use Rattle.ca_model.specs.Due.{Action, Adds, Applies, Clears, Drops, Due, KnownChannel, Opens, Switches, subscription_in}
+use Rattle.ca_model.specs.Due.{Action, Adds, Applies, Clears, Drops, Due, KnownChannel, Opens, Switches, fault_of_event, subscription_in}
 use Rattle.ca_model.specs.Due as action
 use Rattle.ca_model.specs.History.{Cause, Entry, Removal, Reply, Sent, Step, Told, Update}
-use Rattle.ca_model.specs.Server.{OpenChannel, Server, ServerEnd, Subscription, key_of}
+use Rattle.ca_model.specs.Server.{OpenChannel, Server, ServerEnd, Subscription, key_of, with_events}
 use Rattle.ca_model.specs.ServerSteps.{Acts, known_channel, knows, without_channel}
 use Rattle.ca_model.specs.Speech.{In, Stored, share_bit}
 use Rattle.ca_model_safe.specs.Posts.{matching, post_in}
@@ -170,7 +172,7 @@ begun log rs y e new s replies sub step c at due acts logged tells p =
     posts : Subscription → ℕ → List Stored
     posts = posts_by log rs (c.lists.handled ++ step ∷ [])
 
-    adds : _
+    adds : (s.message.command ≡ command_number command.EventAdd) × ((k : action.Serves (knows y e) s.message.p1) × (fault_of_event (knows y e) s.message k ≡ None) × (replies ≡ []) × (Adds sub ≡ Adds (subscription_in s.message k.channel.name)))
     adds = due-adds (knows y e) s.message replies sub due
 
     serves : action.Serves (knows y e) s.message.p1
@@ -206,6 +208,20 @@ begun log rs y e new s replies sub step c at due acts logged tells p =
     unsent : (j a : ℕ) (t : Told) → At c1.lists.down j t → t.cause ≡ Update a → t.place ≡ place → ⊥
     unsent j a t there cause same_place = (let b = replies-back place c.lists.down replies j a t there cause in early b.0 a t b.1 cause same_place)
 
+-- ---- events on or off
+
+switched-on : (log : List Entry) (rs : List RecordSide) (on : Bool) (e : ServerEnd) (c : Joined) → Follows log rs e c → Follows log rs (with_events on e) (record c { queues = map (switched on) c.queues })
+switched-on log rs on e c p = record {
+  placed = both-all (Stands log rs e c) (Stands log rs f d) e.subscriptions c.standing p.placed (λ i sub st a b z. stands-on log log rs rs e f c d sub st st refl (λ q x there. there) (λ q h there. there) (omega arith) (λ k there. there) (same-channels e f refl sub) z);
+  holds = holds-switched (posts_by log rs c.lists.handled) on e.subscriptions e.queues c p.holds;
+}
+  where
+    f : ServerEnd
+    f = with_events on e
+
+    d : Joined
+    d = record c { queues = map (switched on) c.queues }
+
 -- ---- a message is handled
 
 pub follows-handled : (log : List Entry) (rs : List RecordSide) (y : Server) (e new : ServerEnd) (s : Sent) (replies : List Fields) (did : Action) (step : Step) (c : Joined) → At c.lists.up (length c.lists.handled) s → Due (knows y e) s.message replies did → Acts y e did new
@@ -227,12 +243,8 @@ follows-handled log rs y e new s replies (Drops key) step c at due acts logged t
     (λ sub out. same-channels e new (ap (λ (x : ServerEnd). x.channels) acts) sub)
     (λ sub st out z. refl) (grown log rs e c (length c.lists.handled) step replies p)
 follows-handled log rs y e new s replies (Switches on) step c at due acts logged tells p =
-    let c1 : Joined = handled_at (length c.lists.handled) step replies c in
-    let g = grown log rs e c (length c.lists.handled) step replies p in
-    subst (λ (x : ServerEnd). Follows log rs x (handled_at (length c.lists.handled) step replies (numbers_after (length c.lists.handled) (Switches on) c))) (sym acts) (record {
-      placed = both-all (Stands log rs e c1) (Stands log rs _ _) e.subscriptions c.standing g.placed (λ i sub st a b z. stands-on log log rs rs e _ c1 _ sub st st refl (λ q x there. there) (λ q h there. there) (omega arith) (λ k there. there) (same-channels e _ refl sub) z);
-      holds = holds-switched (posts_by log rs c1.lists.handled) on e.subscriptions e.queues c1 g.holds;
-    })
+    subst (λ (x : ServerEnd). Follows log rs x (handled_at (length c.lists.handled) step replies (numbers_after (length c.lists.handled) (Switches on) c))) (sym acts)
+    (switched-on log rs on e (handled_at (length c.lists.handled) step replies c) (grown log rs e c (length c.lists.handled) step replies p))
 follows-handled log rs y e new s replies action.Greets step c at due acts logged tells p =
     same-both log rs e new _ (ap (λ (x : ServerEnd). x.subscriptions) acts) (ap (λ (x : ServerEnd). x.queues) acts) (ap (λ (x : ServerEnd). x.channels) acts) (grown log rs e c (length c.lists.handled) step replies p)
 follows-handled log rs y e new s replies (action.Names x) step c at due acts logged tells p =
