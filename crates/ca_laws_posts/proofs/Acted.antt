@@ -1,6 +1,6 @@
 -- Messages that are handled keep subscriptions beside the posts that they see; and so it is in every run.
-use Rattle.std.proofs.Common.{◌≡◌, ℕ, zero, suc, ◌+◌, ◌<◌, ◌≤◌, inl, inr, Bool, true, false, cond, not, ◌==◌, eqb, eq-eqb, eqb-true, List, [], ◌∷◌, ◌++◌, length, Option, Some, None, refl, sym, ap, subst, ◌∙◌, append-nil, arith}
-use Rattle.std.specs.Prelude.{drop, filter_map, map, option_map, option_to_list, take, unwrap_or}
+use Rattle.std.proofs.Common.{◌≡◌, ℕ, suc, ◌+◌, ◌<◌, Bool, true, false, cond, ◌==◌, eqb, eq-eqb, eqb-true, List, [], ◌∷◌, ◌++◌, length, Option, Some, None, refl, sym, ap, subst, ◌∙◌, arith}
+use Rattle.std.specs.Prelude.{drop, filter_map, map, option_map, option_to_list, unwrap_or}
 use Rattle.std.specs.List.{cons_option}
 use Rattle.std.proofs.lemmas.List.{length-append}
 use Rattle.ca_arena.specs.declared.handle.Handle.{Handle}
@@ -33,8 +33,8 @@ use Rattle.ca_laws_writes.specs.Agrees.{stored, value_by}
 use Rattle.ca_laws_writes.specs.Both.{Both}
 use Rattle.ca_laws_writes.specs.Seats.{Sound, TakesSent}
 use Rattle.ca_laws_writes.proofs.Fresh.{adds-fresh, due-adds}
-use Rattle.ca_laws_writes.proofs.Lists.{both-all, both-at, both-snoc, none_at, take-whole}
-use Rattle.ca_laws_posts.specs.Entries.{Tells, title, titles}
+use Rattle.ca_laws_writes.proofs.Lists.{both-all, both-at, both-snoc, take-whole}
+use Rattle.ca_laws_posts.specs.Entries.{Tells, title}
 use Rattle.ca_laws_posts.specs.Follows.{AllFollow, Follows, Stands, logged_at, posts_by}
 use Rattle.ca_laws_posts.specs.Holds.{Counts, Holds, sent_numbers}
 use Rattle.ca_laws_posts.specs.Holds as number

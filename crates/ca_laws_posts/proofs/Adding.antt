@@ -1,5 +1,5 @@
 -- What is held of an end's queues and of its circuit's numbers, as a subscription begins.
-use Rattle.std.proofs.Common.{◌≡◌, ℕ, zero, suc, ◌+◌, ◌<◌, ◌≤◌, ◌⊎◌, inl, inr, Bool, true, false, cond, ◌||◌, List, [], ◌∷◌, ◌++◌, length, le-ltb, lt-ltb, Option, Some, refl, sym, ap, subst, ◌∙◌, arith}
+use Rattle.std.proofs.Common.{◌≡◌, ℕ, zero, suc, ◌<◌, ◌≤◌, ◌⊎◌, inl, inr, Bool, true, false, cond, ◌||◌, List, [], ◌∷◌, ◌++◌, length, le-ltb, lt-ltb, refl, sym, ap, subst, ◌∙◌, arith}
 use Rattle.std.specs.Prelude.{map, slice_set}
 use Rattle.std.proofs.lemmas.List.{map-append}
 use Rattle.ca_queue.specs.declared.entry.SubKey.{SubKey}
@@ -17,13 +17,11 @@ use Rattle.ca_model.specs.History.{Cause, Told, Update}
 use Rattle.ca_model.specs.Server.{ServerEnd, Subscription, key_of}
 use Rattle.ca_model.specs.ServerSteps.{TakesIn}
 use Rattle.ca_model.specs.Speech.{Stored}
-use Rattle.ca_model.specs.Updates.{ShowsTo}
 use Rattle.ca_model_world.specs.ServerEvents.{number_taken}
 use Rattle.ca_model_world.specs.World.{Joined, Standing}
 use Rattle.ca_laws_updates.specs.InStep.{Numbered, keys_standing, number_in, value_in}
 use Rattle.ca_laws_updates.specs.Rising.{Rising}
 use Rattle.ca_laws_updates.proofs.Rising.{rising-added, rising-begins, rising-other-post}
-use Rattle.ca_laws_writes.specs.Both.{Both}
 use Rattle.ca_laws_writes.proofs.Lists.{both-all, both-snoc, none_at}
 use Rattle.ca_laws_writes.proofs.Midway.{set-here}
 use Rattle.ca_laws_writes.proofs.Moves.{same-or}

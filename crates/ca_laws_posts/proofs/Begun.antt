@@ -1,53 +1,41 @@
 -- A removal, updates that leave, a new circuit, and messages that are handled keep subscriptions beside the posts that they see.
-use Rattle.std.proofs.Common.{◌≡◌, ℕ, zero, suc, ◌+◌, ◌<◌, ◌≤◌, ◌⊎◌, inl, inr, Bool, true, false, cond, not, ◌&&◌, ◌||◌, eqb, eq-eqb, eqb-true, List, [], ◌∷◌, ◌++◌, length, Option, Some, None, refl, sym, ap, subst, ◌∙◌, append-nil, arith}
-use Rattle.std.specs.Prelude.{drop, filter, filter_map, map, option_map, option_to_list, replicate, take, unwrap_or}
+use Rattle.std.proofs.Common.{◌≡◌, ℕ, zero, suc, ◌+◌, ◌⊎◌, inl, inr, Bool, true, false, cond, not, ◌&&◌, ◌||◌, eqb, eq-eqb, List, [], ◌∷◌, ◌++◌, length, Some, None, refl, sym, ap, subst, ◌∙◌, append-nil, arith}
+use Rattle.std.specs.Prelude.{filter, map, replicate}
 use Rattle.std.specs.List.{FoldsTo, cons_option, flat_map, list_any}
 use Rattle.std.specs.Str.{bytes_eq}
-use Rattle.std.proofs.lemmas.Slice.Eq.{bytes_eq-Decides}
 use Rattle.ca_arena.specs.declared.handle.Handle.{Handle}
-use Rattle.ca_ids.specs.Table.{Table, by_wire, held, under, with_each, with_freed, with_held}
+use Rattle.ca_ids.specs.Table.{held, under}
 use Rattle.ca_ids.specs.Wire.{wire_of}
-use Rattle.ca_link.specs.Link.{with_sent}
-use Rattle.ca_model_client.proofs.Tables.{freed-other, held-other, held-under, under-held, wire-under}
+use Rattle.ca_model_client.proofs.Tables.{under-held}
 use Rattle.ca_queue.specs.declared.entry.SubKey.{SubKey}
-use Rattle.ca_queue.specs.Circuit.{without_each}
 use Rattle.ca_queue.specs.Images.{queue_images}
-use Rattle.ca_queue.specs.Keys.{AreApart, is_among, same}
-use Rattle.ca_queue.specs.Order.{last_of}
+use Rattle.ca_queue.specs.Keys.{AreApart, is_among}
 use Rattle.ca_queue.specs.Queue.{Queue, no_queue}
 use Rattle.ca_queue.specs.Waiting.{entries_of}
-use Rattle.ca_records.specs.Puts.{Record, record_named}
 use Rattle.ca_text.specs.Limits.{circuit_queues}
 use Rattle.ca_text.specs.Place.{At}
-use Rattle.ca_text.proofs.Places.{some_is, At-append, At-last, At-map, At-mapped, At-one, At-parts, At-within}
-use Rattle.ca_wire.specs.Fields.{Fields}
-use Rattle.ca_model.specs.Due.{Action, Adds, Applies, Clears, Drops, Due, KnownChannel, Opens, Switches, subscription_in}
-use Rattle.ca_model.specs.Due as action
-use Rattle.ca_model.specs.History.{Cause, Entry, Removal, Removed, Sent, Step, Told, Update, Withdrawn}
-use Rattle.ca_model.specs.Server.{OpenChannel, Server, ServerEnd, Subscription, key_of, new_end}
-use Rattle.ca_model.specs.ServerCalls.{channels_of, disconnects, end_without, is_on, retired}
+use Rattle.ca_text.proofs.Places.{some_is, At-map, At-mapped, At-parts}
+use Rattle.ca_model.specs.History.{Entry, Removal, Removed, Sent, Step, Told, Update, Withdrawn}
+use Rattle.ca_model.specs.Server.{OpenChannel, ServerEnd, Subscription, key_of, new_end}
+use Rattle.ca_model.specs.ServerCalls.{channels_of, end_without, is_on, retired}
 use Rattle.ca_model.specs.ServerSteps.{Acts, Leaves, known_channel, knows, without_channel}
 use Rattle.ca_model.specs.ServerSteps as stepped
-use Rattle.ca_model.specs.Speech.{In, Stored, share_bit}
 use Rattle.ca_model_safe.specs.Posts.{matching, post_in}
-use Rattle.ca_model_world.specs.ServerEvents.{handled_at, number_of, numbers_after, removal_entries, removal_told, stamped}
+use Rattle.ca_model_world.specs.ServerEvents.{number_of, removal_entries, removal_told, stamped}
 use Rattle.ca_model_world.specs.World.{Creation, Joined, PutPlace, RecordSide, Standing}
 use Rattle.ca_laws_kept.proofs.Since.{stamped-parts}
-use Rattle.ca_laws_updates.specs.InStep.{Numbered, keys_standing, number_in, value_in}
-use Rattle.ca_laws_writes.specs.Agrees.{stored, value_by}
+use Rattle.ca_laws_updates.specs.InStep.{Numbered, number_in, value_in}
 use Rattle.ca_laws_writes.specs.Both.{Both}
 use Rattle.ca_laws_writes.proofs.Cores.{each-there}
-use Rattle.ca_laws_writes.proofs.Fresh.{adds-fresh, due-adds}
 use Rattle.ca_laws_writes.proofs.InStepLasts.{pumped-subs}
 use Rattle.ca_laws_writes.proofs.Lasting.{IsNew, told_gone}
-use Rattle.ca_laws_writes.proofs.Lists.{In-kept, both-all, both-at, both-snoc, kept-in, none_at, take-whole}
-use Rattle.ca_laws_posts.specs.Entries.{Tells, title, titles}
+use Rattle.ca_laws_writes.proofs.Lists.{both-all, kept-in, none_at}
+use Rattle.ca_laws_posts.specs.Entries.{title}
 use Rattle.ca_laws_posts.specs.Follows.{Follows, Stands, logged_at, posts_by}
 use Rattle.ca_laws_posts.specs.Holds.{Counts, Holds, sent_numbers}
-use Rattle.ca_laws_posts.proofs.Adding.{holds-added}
 use Rattle.ca_laws_posts.proofs.Changing.{holds-like}
-use Rattle.ca_laws_posts.proofs.Followed.{follows-without, keys-both}
-use Rattle.ca_laws_posts.proofs.Following.{ArePostless, length-more, logged-is, matching-same, number-less, other-bytes, replies-back, replies-sent, same-bytes, same-channels, stands-on, stands-within, titled}
+use Rattle.ca_laws_posts.proofs.Followed.{follows-without}
+use Rattle.ca_laws_posts.proofs.Following.{ArePostless, length-more, matching-same, number-less, other-bytes, same-bytes, same-channels, stands-on, stands-within, titled}
 use Rattle.ca_laws_posts.proofs.Pumping.{holds-pumped, sent-more}
 
 -- ---- a removal

@@ -1,35 +1,30 @@
 -- What is held of an end's queues and of its circuit's numbers, as subscriptions end, begin and rest.
-use Rattle.std.proofs.Common.{◌≡◌, ℕ, zero, suc, ◌+◌, ◌<◌, ◌≤◌, ◌⊎◌, inl, inr, Bool, true, false, cond, not, ◌||◌, List, [], ◌∷◌, ◌++◌, length, le-ltb, lt-ltb, Option, Some, None, refl, sym, ap, subst, ◌∙◌, append-nil, arith}
-use Rattle.std.specs.Prelude.{filter, map, slice_set}
+use Rattle.std.proofs.Common.{◌≡◌, ℕ, zero, suc, ◌<◌, ◌≤◌, Bool, true, false, cond, not, ◌||◌, List, [], ◌∷◌, length, refl, sym, ap, subst, ◌∙◌, arith}
+use Rattle.std.specs.Prelude.{filter, map}
 use Rattle.std.specs.List.{fold}
-use Rattle.std.proofs.lemmas.List.{map-append}
 use Rattle.ca_queue.specs.declared.entry.SubKey.{SubKey}
 use Rattle.ca_queue.specs.Circuit.{queue_without, without_each}
 use Rattle.ca_queue.specs.Images.{queue_images}
 use Rattle.ca_queue.specs.Keys.{AreApart, is_among, same}
-use Rattle.ca_queue.specs.Queue.{Queue, added, cancelled, posted, switched}
+use Rattle.ca_queue.specs.Queue.{Queue, cancelled, switched}
 use Rattle.ca_queue.specs.Waiting.{after_cancel, entries_of}
-use Rattle.ca_queue.proofs.Images.{cancelled_images, posted_images}
-use Rattle.ca_queue.proofs.Keys.{among_push, among_without, apart_push, none_left, other_sym, same_is, same_itself}
-use Rattle.ca_queue.proofs.Subscribers.{entries_cancelled, others_cancelled, others_posted}
-use Rattle.ca_text.specs.Limits.{queue_subscriptions}
+use Rattle.ca_queue.proofs.Images.{cancelled_images}
+use Rattle.ca_queue.proofs.Keys.{among_without, none_left, other_sym, same_is}
+use Rattle.ca_queue.proofs.Subscribers.{entries_cancelled, others_cancelled}
 use Rattle.ca_text.specs.Place.{At}
-use Rattle.ca_text.proofs.Places.{some_is, At-append, At-map, At-mapped, At-one, At-set, At-set-other, At-snoc}
+use Rattle.ca_text.proofs.Places.{some_is, At-mapped}
 use Rattle.ca_model.specs.History.{Cause, Told, Update}
-use Rattle.ca_model.specs.Server.{ServerEnd, Subscription, key_of}
-use Rattle.ca_model.specs.ServerSteps.{TakesIn}
-use Rattle.ca_model.specs.Speech.{In, Stored}
-use Rattle.ca_model_world.specs.ServerEvents.{number_taken, without_standing}
+use Rattle.ca_model.specs.Server.{Subscription, key_of}
+use Rattle.ca_model.specs.Speech.{Stored}
+use Rattle.ca_model_world.specs.ServerEvents.{without_standing}
 use Rattle.ca_model_world.specs.World.{Joined, Standing}
 use Rattle.ca_laws_updates.specs.InStep.{Numbered, keys_standing, number_in, value_in}
 use Rattle.ca_laws_updates.specs.Rising.{Rising}
-use Rattle.ca_laws_updates.proofs.Rising.{rising-added, rising-begins, rising-other-cancelled, rising-other-post}
+use Rattle.ca_laws_updates.proofs.Rising.{rising-other-cancelled}
 use Rattle.ca_laws_writes.specs.Both.{Both}
-use Rattle.ca_laws_writes.proofs.Lists.{In-kept, both-all, both-filter, both-snoc, none_at}
-use Rattle.ca_laws_writes.proofs.Midway.{set-here}
-use Rattle.ca_laws_writes.proofs.Moves.{same-or}
-use Rattle.ca_laws_posts.specs.Holds.{Counts, Holds, Home, post_at, sent_numbers, stamp_of}
-use Rattle.ca_laws_posts.proofs.Counting.{home-map, key-among}
+use Rattle.ca_laws_writes.proofs.Lists.{In-kept, both-all, both-filter, none_at}
+use Rattle.ca_laws_posts.specs.Holds.{Counts, Holds, Home, sent_numbers, stamp_of}
+use Rattle.ca_laws_posts.proofs.Counting.{home-map}
 
 -- ---- the same subscriptions, by the same posts
 

@@ -1,48 +1,38 @@
 -- Posts, removals, updates that leave, and messages that are handled keep subscriptions beside the posts that they see.
-use Rattle.std.proofs.Common.{◌≡◌, ℕ, zero, suc, ◌+◌, ◌<◌, ◌≤◌, ◌⊎◌, inl, inr, Bool, true, false, cond, not, ◌&&◌, ◌||◌, eqb, eq-eqb, eqb-true, List, [], ◌∷◌, ◌++◌, length, Option, Some, None, refl, sym, ap, subst, ◌∙◌, append-nil, arith}
-use Rattle.std.specs.Prelude.{drop, filter, filter_map, map, option_map, option_to_list, replicate, take, unwrap_or}
-use Rattle.std.specs.List.{FoldsTo, cons_option, flat_map, fold, list_any}
+use Rattle.std.proofs.Common.{◌≡◌, ℕ, zero, suc, ◌+◌, ◌≤◌, inl, inr, Bool, true, false, cond, not, ◌&&◌, ◌||◌, List, [], ◌∷◌, ◌++◌, length, Option, Some, None, refl, sym, ap, subst, ◌∙◌, append-nil, arith}
+use Rattle.std.specs.Prelude.{filter, map}
+use Rattle.std.specs.List.{cons_option, fold}
 use Rattle.std.specs.Str.{bytes_eq}
 use Rattle.std.proofs.lemmas.Slice.Eq.{bytes_eq-Decides}
 use Rattle.ca_arena.specs.declared.handle.Handle.{Handle}
-use Rattle.ca_ids.specs.Table.{Table, by_wire, held, under, with_each, with_freed}
+use Rattle.ca_ids.specs.Table.{under}
 use Rattle.ca_ids.specs.Wire.{wire_of}
-use Rattle.ca_link.specs.Link.{with_sent}
-use Rattle.ca_model_client.proofs.Tables.{freed-other, held-other, under-held, wire-under}
 use Rattle.ca_queue.specs.declared.entry.SubKey.{SubKey}
 use Rattle.ca_queue.specs.Circuit.{queue_posted, without_each}
-use Rattle.ca_queue.specs.Images.{queue_images}
 use Rattle.ca_queue.specs.Keys.{AreApart, is_among, same}
-use Rattle.ca_queue.specs.Queue.{Queue, no_queue}
+use Rattle.ca_queue.specs.Queue.{Queue}
 use Rattle.ca_queue.proofs.Keys.{other_sym, same_is, same_itself}
-use Rattle.ca_text.specs.Limits.{circuit_queues}
 use Rattle.ca_text.specs.Place.{At}
-use Rattle.ca_text.proofs.Places.{some_is, At-append, At-map, At-mapped, At-one}
-use Rattle.ca_model.specs.History.{Cause, Entry, Removed, Step, Told, Update, Withdrawn}
-use Rattle.ca_model.specs.Server.{OpenChannel, ServerEnd, Subscription, concerns, key_of, new_end, with_post}
-use Rattle.ca_model.specs.ServerCalls.{channels_of, disconnects, end_without, is_on, retired}
-use Rattle.ca_model.specs.ServerSteps.{Leaves}
-use Rattle.ca_model.specs.ServerSteps as stepped
+use Rattle.ca_text.proofs.Places.{some_is, At-one}
+use Rattle.ca_model.specs.History.{Entry}
+use Rattle.ca_model.specs.Server.{OpenChannel, ServerEnd, Subscription, concerns, key_of, with_post}
 use Rattle.ca_model.specs.Speech.{In, Stored, share_bit}
-use Rattle.ca_model_safe.specs.Posts.{matching, post_in}
-use Rattle.ca_model_world.specs.ServerEvents.{number_of, stamped, with_number}
+use Rattle.ca_model_safe.specs.Posts.{post_in}
+use Rattle.ca_model_world.specs.ServerEvents.{number_of, with_number}
 use Rattle.ca_model_world.specs.World.{Joined, RecordSide, Standing}
-use Rattle.ca_laws_kept.proofs.Since.{stamped-parts}
-use Rattle.ca_laws_updates.specs.InStep.{Numbered, keys_standing, number_in, value_in}
+use Rattle.ca_laws_updates.specs.InStep.{keys_standing}
 use Rattle.ca_laws_updates.proofs.Posted.{keys-stay}
 use Rattle.ca_laws_writes.specs.Agrees.{AreOthers}
 use Rattle.ca_laws_writes.specs.Both.{Both}
-use Rattle.ca_laws_writes.proofs.InStepLasts.{pumped-subs}
-use Rattle.ca_laws_writes.proofs.Lasting.{IsNew, numbered_for}
+use Rattle.ca_laws_writes.proofs.Lasting.{numbered_for}
 use Rattle.ca_laws_writes.proofs.Lists.{In-kept, beside-left, both-all, both-at, both-filter, kept-in, none_at}
 use Rattle.ca_laws_writes.proofs.Lives.{number-of, others-apart}
-use Rattle.ca_laws_posts.specs.Entries.{IsPost, title, titles}
+use Rattle.ca_laws_posts.specs.Entries.{IsPost, titles}
 use Rattle.ca_laws_posts.specs.Follows.{Follows, Stands, logged_at, posts_by}
 use Rattle.ca_laws_posts.specs.Holds.{Counts, Holds, sent_numbers}
 use Rattle.ca_laws_posts.proofs.Changing.{holds-like, holds-without}
-use Rattle.ca_laws_posts.proofs.Counting.{both-right, holds-number, key-among, key-once}
-use Rattle.ca_laws_posts.proofs.Following.{length-more, matching-more, other-bytes, post-other, post-own, same-bytes, same-channels, stands-on, stands-within, titled}
-use Rattle.ca_laws_posts.proofs.Pumping.{holds-pumped}
+use Rattle.ca_laws_posts.proofs.Counting.{both-right, holds-number, key-once}
+use Rattle.ca_laws_posts.proofs.Following.{length-more, matching-more, post-other, post-own, same-bytes, same-channels, stands-on, stands-within, titled}
 
 -- ---- subscriptions end
 

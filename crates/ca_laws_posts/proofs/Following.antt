@@ -1,53 +1,37 @@
 -- Each change of an open end, its circuit and its server's log keeps its subscriptions beside the posts that they see.
-use Rattle.std.proofs.Common.{◌≡◌, ℕ, zero, suc, ◌+◌, ◌<◌, ◌≤◌, ◌⊎◌, inl, inr, Bool, true, false, cond, not, ◌&&◌, ◌||◌, eqb, eq-eqb, ne_eqb, eqb-true, List, [], ◌∷◌, ◌++◌, length, Option, Some, None, refl, sym, ap, subst, ◌∙◌, append-nil, append_assoc, arith}
-use Rattle.std.specs.Prelude.{◌%◌, drop, filter, filter_map, map, option_map, option_to_list, replicate, slice_get, take, unwrap_or}
-use Rattle.std.specs.List.{FoldsTo, cons_option, flat_map, fold, list_any}
+use Rattle.std.proofs.Common.{◌≡◌, ℕ, zero, suc, ◌≤◌, inl, inr, Bool, true, false, cond, not, ◌&&◌, eqb, eq-eqb, ne_eqb, List, [], ◌∷◌, ◌++◌, length, Option, Some, None, refl, sym, ap, subst, ◌∙◌, append-nil, append_assoc, arith}
+use Rattle.std.specs.Prelude.{◌%◌, drop, filter, filter_map, option_map, option_to_list, take, unwrap_or}
+use Rattle.std.specs.List.{cons_option}
 use Rattle.std.specs.Str.{bytes_eq}
 use Rattle.std.proofs.lemmas.List.Elements.{filter_map-append}
 use Rattle.std.proofs.lemmas.Nat.{and_comm}
 use Rattle.std.proofs.lemmas.Slice.Eq.{bytes_eq-Decides}
 use Rattle.ca_arena.specs.declared.handle.Handle.{Handle}
-use Rattle.ca_ids.specs.Table.{Table, held, under, with_each}
+use Rattle.ca_ids.specs.Table.{Table, held, under}
 use Rattle.ca_ids.specs.Wire.{wire_of}
-use Rattle.ca_link.specs.Link.{with_sent}
-use Rattle.ca_model_client.proofs.Tables.{under-held}
-use Rattle.ca_queue.specs.declared.entry.SubKey.{SubKey}
-use Rattle.ca_queue.specs.Circuit.{queue_posted}
-use Rattle.ca_queue.specs.Images.{queue_images}
-use Rattle.ca_queue.specs.Keys.{AreApart, is_among, same}
 use Rattle.ca_queue.specs.Order.{last_of}
-use Rattle.ca_queue.specs.Queue.{Queue, no_queue}
-use Rattle.ca_queue.proofs.Keys.{same_is, same_itself}
+use Rattle.ca_queue.specs.Queue.{Queue}
 use Rattle.ca_records.specs.Record.{RecordState}
-use Rattle.ca_text.specs.Limits.{circuit_queues}
 use Rattle.ca_text.specs.Place.{At}
-use Rattle.ca_text.proofs.Places.{some_is, At-append, At-map, At-mapped, At-one, At-parts, At-within}
+use Rattle.ca_text.proofs.Places.{some_is, At-map, At-mapped, At-parts}
 use Rattle.ca_wire.specs.Fields.{Fields}
-use Rattle.ca_model.specs.History.{Added, Applied, Cause, Entry, Finished, Posted, Removal, Removed, Reply, Sent, Step, Told, Update, Waits, Withdrawn}
-use Rattle.ca_model.specs.Server.{OpenChannel, ServerEnd, Subscription, concerns, key_of, new_end, with_post}
-use Rattle.ca_model.specs.ServerCalls.{channels_of, disconnects, end_without, is_on, retired}
-use Rattle.ca_model.specs.ServerSteps.{Leaves, write_mask}
-use Rattle.ca_model.specs.ServerSteps as stepped
+use Rattle.ca_model.specs.History.{Added, Applied, Entry, Finished, Posted, Removed, Reply, Sent, Step, Told, Update, Waits, Withdrawn}
+use Rattle.ca_model.specs.Server.{OpenChannel, ServerEnd, Subscription}
 use Rattle.ca_model.specs.Speech.{In, Stored, share_bit}
 use Rattle.ca_model_safe.specs.Posts.{matching, post_in}
-use Rattle.ca_model_world.specs.ServerEvents.{about, number_of, removal_entries, removal_told, stamped, with_number}
-use Rattle.ca_model_world.specs.World.{Creation, Joined, PutPlace, RecordSide, Standing, record_begun}
-use Rattle.ca_laws_kept.proofs.Since.{stamped-parts}
-use Rattle.ca_laws_updates.specs.InStep.{Numbered, keys_standing, number_in, value_in}
-use Rattle.ca_laws_writes.specs.Agrees.{AreOthers, Lack}
+use Rattle.ca_model_world.specs.ServerEvents.{about, number_of}
+use Rattle.ca_model_world.specs.World.{Joined, RecordSide, Standing, record_begun}
+use Rattle.ca_laws_writes.specs.Agrees.{AreOthers}
 use Rattle.ca_laws_writes.specs.Both.{Both}
-use Rattle.ca_laws_writes.proofs.Cores.{each-there}
 use Rattle.ca_laws_writes.proofs.Frames.{Goes}
-use Rattle.ca_laws_writes.proofs.InStepLasts.{pumped-subs}
-use Rattle.ca_laws_writes.proofs.Lasting.{IsNew, SameHeld, numbered_for, told_gone, told_late}
-use Rattle.ca_laws_writes.proofs.Lists.{In-kept, both-all, both-at, both-filter, kept-in, none_at, take-front}
-use Rattle.ca_laws_writes.proofs.Lives.{number-of, others-apart}
+use Rattle.ca_laws_writes.proofs.Lasting.{SameHeld, told_late}
+use Rattle.ca_laws_writes.proofs.Lists.{both-all, both-at, none_at, take-front}
+use Rattle.ca_laws_writes.proofs.Lives.{number-of}
 use Rattle.ca_laws_posts.specs.Entries.{AreQuiet, IsPost, IsQuiet, title, titles}
 use Rattle.ca_laws_posts.specs.Follows.{Follows, Stands, logged_at, posts_by}
-use Rattle.ca_laws_posts.specs.Holds.{Counts, Holds, sent_numbers}
-use Rattle.ca_laws_posts.proofs.Changing.{holds-like, holds-without}
-use Rattle.ca_laws_posts.proofs.Counting.{both-right, holds-number}
-use Rattle.ca_laws_posts.proofs.Pumping.{holds-pumped, sent-more}
+use Rattle.ca_laws_posts.specs.Holds.{Holds, sent_numbers}
+use Rattle.ca_laws_posts.proofs.Changing.{holds-like}
+use Rattle.ca_laws_posts.proofs.Pumping.{sent-more}
 
 -- ---- posts, as the log grows
 

@@ -10,3 +10,4 @@ pub mod Following
 pub mod Followed
 pub mod Begun
 pub mod Acted
+pub mod Clause

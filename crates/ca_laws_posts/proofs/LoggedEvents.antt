@@ -1,6 +1,6 @@
 -- What holds of open ends by their servers' logs stays so: bytes, circuits that are made, posts, removals, additions, pumps, cuts and
 -- restarts.
-use Rattle.std.proofs.Common.{◌≡◌, ℕ, ◌+◌, ◌<◌, inl, inr, Bool, true, false, cond, ◌&&◌, eqb, eq-eqb, not, List, [], ◌∷◌, ◌++◌, length, Option, Some, None, refl, sym, ap, subst, ◌∙◌, arith}
+use Rattle.std.proofs.Common.{◌≡◌, ℕ, ◌+◌, ◌<◌, inl, inr, Bool, true, false, cond, ◌&&◌, eq-eqb, not, List, [], ◌∷◌, ◌++◌, length, Option, Some, None, refl, sym, ap, subst, ◌∙◌, arith}
 use Rattle.std.specs.Prelude.{Ok, drop, filter, is_some, map, take}
 use Rattle.std.specs.List.{fold}
 use Rattle.std.specs.Str.{bytes_eq}
@@ -22,7 +22,7 @@ use Rattle.ca_model.specs.History.{Added, Entry}
 use Rattle.ca_model.specs.History as history
 use Rattle.ca_model.specs.Server.{Ended, Open, OpenChannel, Server, ServerCircuit, ServerEnd, Subscription, concerns, key_of, new_end, with_post}
 use Rattle.ca_model.specs.ServerCalls.{channels_of, circuit_without, disconnects, end_without}
-use Rattle.ca_model.specs.ServerSteps.{Accepts, Cuts, Gives, HasEnd, Pumps, Sends, after_post, closed, ended, output_of, reached, with_end}
+use Rattle.ca_model.specs.ServerSteps.{Accepts, Cuts, Gives, HasEnd, Pumps, Sends, after_post, ended, output_of, reached, with_end}
 use Rattle.ca_model.specs.Speech.{In, Stored}
 use Rattle.ca_model_world.specs.ClientEvents.{DownTaken, HappensAccept, HappensDown, HappensUp, WantsFirst, client_after, connected_as, lines_of, new_circuit, told_by, up_taken}
 use Rattle.ca_model_world.specs.ServerEvents.{HappensAdd, HappensCutServer, HappensPost, HappensPump, HappensRemove, HappensServerRestart, disconnected_at, ending, ends_by, ends_untold, keys_concerned, number_of, numbers_posted, posted_entry, removal_entries, removed_at, stamped, with_number}
@@ -37,8 +37,8 @@ use Rattle.ca_laws_writes.proofs.Frames.{goes-self}
 use Rattle.ca_laws_writes.proofs.HappensAdd.{given-free}
 use Rattle.ca_laws_writes.proofs.HappensClient.{left-frame, sent-frame, up-frame}
 use Rattle.ca_laws_writes.proofs.HappensPost.{stamped-same}
-use Rattle.ca_laws_writes.proofs.Lasting.{EndsWere, IsNew, SameHeld, SameSeat, held-self, numbered_for, seat-of, told_gone}
-use Rattle.ca_laws_writes.proofs.LastingEvents.{is-here, not-here, one-end, were-closed, were-end, were-ended, were-self}
+use Rattle.ca_laws_writes.proofs.Lasting.{EndsWere, IsNew, SameHeld, SameSeat, numbered_for, seat-of, told_gone}
+use Rattle.ca_laws_writes.proofs.LastingEvents.{is-here, not-here, one-end, were-end, were-ended, were-self}
 use Rattle.ca_laws_writes.proofs.Lists.{beside-right}
 use Rattle.ca_laws_writes.proofs.Lives.{number-of}
 use Rattle.ca_laws_writes.proofs.Midway.{grown-back, grown-here}

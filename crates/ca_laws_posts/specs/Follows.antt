@@ -1,5 +1,5 @@
 -- Working: each subscription of an open end beside the log of its server's life: the posts that it sees.
-use Rattle.std.specs.Prelude.{ℕ, ◌≡◌, ◌≤◌, false, true, List, Option, Some, length, option_map, slice_get, unwrap_or}
+use Rattle.std.specs.Prelude.{ℕ, ◌≡◌, ◌≤◌, false, true, List, Some, length, option_map, slice_get, unwrap_or}
 use Rattle.ca_arena.specs.declared.handle.Handle.{Handle}
 use Rattle.ca_ids.specs.Table.{under}
 use Rattle.ca_ids.specs.Wire.{wire_of}

@@ -4,4 +4,4 @@
 
 mod laws;
 
-pub use laws::subscriptions_follow_their_posts;
+pub use laws::{subscriptions_follow_their_posts, what_stands_follows_its_record};
