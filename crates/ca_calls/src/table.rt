@@ -57,8 +57,8 @@ impl Table {
     }
 
     fn add_record(&mut self, line: &str) -> Result<(), Refusal> {
-        self.records.push_str(line)?;
-        self.records.push_str("\n")?;
+        let line = format!(in self.alloc; "{line}\n")?;
+        self.records.push_str(line.as_str())?;
         Ok(())
     }
 

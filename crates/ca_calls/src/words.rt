@@ -2,6 +2,7 @@ use ca_arena::Handle;
 use ca_client_core::Address;
 use ca_dbr::{Meta, Value, read_value};
 use ca_text::{Mask, Refusal};
+use hex::FromHexError;
 use std::alloc::Global;
 use std::net::SocketAddrV4;
 use std::str::SplitWhitespace;
@@ -96,6 +97,7 @@ impl<'a> Words<'a> {
 fn decoded(alloc: Global, word: &str) -> Result<Vec<u8>, Refusal> {
     match hex::decode(alloc, word.as_bytes()) {
         Ok(bytes) => Ok(bytes),
+        Err(FromHexError::OutOfMemory) => Err(Refusal::OutOfMemory),
         Err(_) => Err(Refusal::BadText),
     }
 }

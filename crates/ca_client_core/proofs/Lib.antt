@@ -38,3 +38,4 @@ mod Marked
 mod Passing
 mod Prepared
 mod Rounds
+mod Alone

@@ -271,14 +271,14 @@ room-for x c lists listed = few-from is_live c 0 x.channels (list_at lists c.ind
 
 -- ---- the end of a circuit
 
-one-handle : {T : Type 0} (t : Table T) (h g : Handle) (v w : T) → under t h ≡ Some v → under t g ≡ Some w → g.index ≡ h.index → g ≡ h
+pub one-handle : {T : Type 0} (t : Table T) (h g : Handle) (v w : T) → under t h ≡ Some v → under t g ≡ Some w → g.index ≡ h.index → g ≡ h
 one-handle t h g v w found also same =
     let at_h = (value_for-some h.generation (place_at t h.index) v found).0 in
     let at_g = (value_for-some g.generation (place_at t g.index) w also).0 in
     handle-is g h same (sym at_g ∙ ap (λ (i : ℕ). (place_at t i).generation) same ∙ at_h)
 
 -- a channel that was live there shows that the circuit is connected
-connected-there : (x : Client) (h : Handle) (ch : Channel) (c : Handle) (p : Phase) → IsPlaced x → under x.channels h ≡ Some ch → ch.standing ≡ On c p → was_live p ≡ true → (d : ClientCircuit) × (under x.circuits c ≡ Some d)
+pub connected-there : (x : Client) (h : Handle) (ch : Channel) (c : Handle) (p : Phase) → IsPlaced x → under x.channels h ≡ Some ch → ch.standing ≡ On c p → was_live p ≡ true → (d : ClientCircuit) × (under x.circuits c ≡ Some d)
 connected-there x h ch c p placed there stands live = go (under x.circuits c) refl (sym (placed.waiting h ch c p there stands) ∙ waits-no p live)
   where
     go : (o : Option ClientCircuit) → under x.circuits c ≡ o → is_none (option_and_then (λ (d : ClientCircuit). d.connection) o) ≡ false → (d : ClientCircuit) × (under x.circuits c ≡ Some d)

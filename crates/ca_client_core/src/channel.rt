@@ -77,28 +77,14 @@ impl Phase {
     pub(crate) fn is_live(self) -> bool
         ensures { result ≡ client.is_live (phase_of self) }
     {
-        match self {
-            Phase::Connecting => false,
-            Phase::Creating(_) => false,
-            Phase::Live(_, _) => true,
-            Phase::Leaving => false,
-            Phase::Clearing => false,
-            Phase::Doomed => false,
-        }
+        matches!(self, Phase::Live(_, _))
     }
 
     /// Whether its caller cleared it.
     pub(crate) fn is_cleared(self) -> bool
         ensures { result ≡ client.is_cleared (phase_of self) }
     {
-        match self {
-            Phase::Connecting => false,
-            Phase::Creating(_) => false,
-            Phase::Live(_, _) => false,
-            Phase::Leaving => false,
-            Phase::Clearing => true,
-            Phase::Doomed => true,
-        }
+        matches!(self, Phase::Clearing | Phase::Doomed)
     }
 }
 
@@ -152,14 +138,7 @@ impl Channel {
     {
         match self.standing {
             Standing::Searching => false,
-            Standing::On(_, phase) => match phase {
-                Phase::Connecting => false,
-                Phase::Creating(_) => false,
-                Phase::Live(_, _) => false,
-                Phase::Leaving => false,
-                Phase::Clearing => true,
-                Phase::Doomed => true,
-            },
+            Standing::On(_, phase) => phase.is_cleared(),
         }
     }
 

@@ -14,7 +14,7 @@ ghost use Rattle.ca_model_client.specs.Placed.{IsBare};
 
 use crate::channel::{Channel, Phase, Standing, is_same};
 use crate::client::ClientCore;
-use crate::hearing::put;
+use crate::hearing::set_standing;
 use crate::letting_go::let_go;
 use crate::notices::Notices;
 use ca_arena::Handle;
@@ -47,11 +47,11 @@ impl ClientCore {
                     Ok(Notices::none(self.alloc))
                 }
                 Phase::Creating(_) => {
-                    self.doom(channel, circuit);
+                    self.doom(circuit, channel);
                     Ok(Notices::none(self.alloc))
                 }
-                Phase::Live(native, _) => self.clear_live(channel, circuit, native.sid),
-                Phase::Leaving => Ok(self.end_all(channel, circuit)),
+                Phase::Live(native, _) => self.clear_live(circuit, channel, native.sid),
+                Phase::Leaving => Ok(self.end_all(circuit, channel)),
                 Phase::Clearing => Err(Refusal::StaleHandle),
                 Phase::Doomed => Err(Refusal::StaleHandle),
             },
@@ -75,30 +75,30 @@ impl ClientCore {
     }
 
     // A channel that is being created is cleared once that is done.
-    fn doom(&mut self, channel: Handle, circuit: Handle)
+    fn doom(&mut self, circuit: Handle, channel: Handle)
         requires { MayTurn channel circuit client.Doomed self.old }
         ensures { self.new
             ≡ with_standing (On circuit client.Doomed) channel (unsubscribed_all channel self.old) }
     {
         self.free_subscriptions(channel);
-        self.set_phase(channel, circuit, Phase::Doomed);
+        self.set_phase(circuit, channel, Phase::Doomed);
     }
 
     // A live channel is cleared: its CLEAR_CHANNEL goes out. Without memory nothing changes.
-    fn clear_live(&mut self, channel: Handle, circuit: Handle, sid: u32) -> Result<Notices, Refusal>
+    fn clear_live(&mut self, circuit: Handle, channel: Handle, sid: u32) -> Result<Notices, Refusal>
         requires { WasLiveOn channel circuit self.old }
         ensures { ClearsLive self.old channel circuit sid result self.new }
     {
         let cid = Cid::new(WireId::of(channel).number());
         let message = clear_request(self.alloc, Sid::new(sid), cid);
         match self.queue(circuit, &message) {
-            Ok(()) => Ok(self.end_all(channel, circuit)),
+            Ok(()) => Ok(self.end_all(circuit, channel)),
             Err(_) => Err(Refusal::OutOfMemory),
         }
     }
 
     // The requests and subscriptions of a channel that was live are over, and it waits for the answer to its clear.
-    fn end_all(&mut self, channel: Handle, circuit: Handle) -> Notices
+    fn end_all(&mut self, circuit: Handle, channel: Handle) -> Notices
         requires { WasLiveOn channel circuit self.old }
         ensures told { result ≡ disconnections (asks_on channel) self.old }
         ensures over { self.new
@@ -106,7 +106,7 @@ impl ClientCore {
     {
         let told = self.requests.end_channel(channel);
         self.monitors.end_channel(circuit, channel);
-        put(
+        set_standing(
             &mut self.channels,
             channel,
             Standing::On(circuit, Phase::Clearing),

@@ -14,7 +14,7 @@ ghost use Rattle.ca_client_core.specs.Connecting.{BeginsOn, creating_at, creatio
 use crate::channel::{Channel, Phase, Standing, is_same};
 use crate::circuit::{Circuit, Connection};
 use crate::client::ClientCore;
-use crate::hearing::put;
+use crate::hearing::set_standing;
 use ca_arena::Handle;
 use ca_ids::HeldTable;
 use ca_link::Link;
@@ -177,7 +177,7 @@ fn begin_at(channels: &mut HeldTable<Channel>, circuit: Handle, index: usize)
     if !channel.is_connecting_on(circuit) {
         return;
     }
-    put(channels, handle, Standing::On(circuit, Phase::Creating(0)));
+    set_standing(channels, handle, Standing::On(circuit, Phase::Creating(0)));
 }
 
 impl Channel {
@@ -197,13 +197,6 @@ impl Phase {
     fn is_connecting(self) -> bool
         ensures { result ≡ is_connecting (phase_of self) }
     {
-        match self {
-            Phase::Connecting => true,
-            Phase::Creating(_) => false,
-            Phase::Live(_, _) => false,
-            Phase::Leaving => false,
-            Phase::Clearing => false,
-            Phase::Doomed => false,
-        }
+        matches!(self, Phase::Connecting)
     }
 }

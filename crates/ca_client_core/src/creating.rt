@@ -1,6 +1,5 @@
 //! What a client makes of the reply to a CREATE_CHAN.
-ghost use Rattle.std.specs.Prelude.{◌≡◌, IfOk, OnErr, OnOk, length};
-ghost use Rattle.ca_wire.specs.Messages.{event_add_request, mask_payload};
+ghost use Rattle.std.specs.Prelude.{◌≡◌, OnErr, OnOk, length};
 ghost use Rattle.ca_model.specs.Client as client;
 ghost use Rattle.ca_model.specs.Client.{channel_on, out_bytes};
 ghost use Rattle.ca_model.specs.Hears.{created, native_in};
@@ -17,9 +16,8 @@ use crate::notices::Notices;
 use ca_arena::Handle;
 use ca_ids::WireId;
 use ca_monitor::Subscription;
-use ca_text::Command;
-use ca_wire::{Cid, Ioid, Message, Sid, Wanted, clear_request};
-use std::alloc::{AllocError, Global};
+use ca_wire::{Cid, Ioid, Message, Sid, Wanted, clear_request, event_add_request};
+use std::alloc::AllocError;
 
 impl ClientCore {
     // CREATE_CHAN: the channel is live, and is subscribed to again under the same ids; one that its caller cleared meanwhile is
@@ -71,7 +69,7 @@ impl ClientCore {
     {
         let waiting = self.out_bytes(circuit).len();
         self.subscribe_again(circuit, native.sid, channel)?;
-        match self.make_live(channel, circuit, native, rights) {
+        match self.make_live(circuit, channel, native, rights) {
             Ok(()) => Ok(Notices::one(self.alloc, Some(Notice::Live(channel)))),
             Err(_) => {
                 self.cut_back(circuit, waiting);
@@ -92,7 +90,7 @@ impl ClientCore {
     {
         let cid = Cid::new(WireId::of(channel).number());
         self.queue(circuit, &clear_request(self.alloc, Sid::new(sid), cid))?;
-        self.set_phase(channel, circuit, Phase::Clearing);
+        self.set_phase(circuit, channel, Phase::Clearing);
         Ok(Notices::none(self.alloc))
     }
 
@@ -153,7 +151,7 @@ impl ClientCore {
             data_type: found.data_type,
             count: found.count,
         };
-        let message = event_add(self.alloc, wanted, found.mask)?;
+        let message = event_add_request(self.alloc, wanted, found.mask)?;
         self.queue(circuit, &message)?;
         Ok(())
     }
@@ -168,37 +166,4 @@ fn native_in(message: &Message) -> Native
         data_type: message.data_type(),
         count: message.count(),
     }
-}
-
-// An EVENT_ADD whose mask has these bits.
-fn event_add(alloc: Global, wanted: Wanted, bits: u16) -> Result<Message, AllocError>
-    ensures { IfOk result (λ m. m ≡ event_add_request wanted bits) }
-{
-    let Wanted {
-        sid,
-        id,
-        data_type,
-        count,
-    } = wanted;
-    let payload = Vec::from_slice(alloc, &mask_payload(bits))?;
-    let command = Command::EventAdd.number();
-    match Message::new(
-        command,
-        data_type,
-        count,
-        sid.number(),
-        id.number(),
-        payload,
-    ) {
-        Ok(message) => Ok(message),
-        Err(_) => Err(AllocError),
-    }
-}
-
-// The payload of an EVENT_ADD.
-fn mask_payload(bits: u16) -> [u8; 16]
-    ensures { result ≡ mask_payload bits }
-{
-    let mask = bits.to_be_bytes();
-    [0, 0, 0, 0, 0, 0, 0, 0, 0, 0, 0, 0, mask[0], mask[1], 0, 0]
 }

@@ -15,7 +15,7 @@ use crate::channel::{Channel, Phase, Standing};
 use crate::circuit::Circuit;
 use crate::client::ClientCore;
 use crate::ends::Address;
-use crate::hearing::put;
+use crate::hearing::set_standing;
 use crate::queue::{queue_on, waiting_on};
 use ca_arena::Handle;
 use ca_ids::{HeldTable, WireId};
@@ -93,7 +93,7 @@ pub(crate) fn find(
         None => find_new(channels, circuits, order, address, priority, channel),
         Some((circuit, connected)) => {
             if !connected {
-                put(channels, channel, Standing::On(circuit, Phase::Connecting));
+                set_standing(channels, channel, Standing::On(circuit, Phase::Connecting));
                 let how = How::Waits;
                 return Ok(Some(Found {
                     channel,
@@ -149,7 +149,7 @@ fn find_new(
     match circuits.open_at(vacant, wanted) {
         Ok(()) => {
             order.push_reserved(vacant);
-            put(channels, channel, Standing::On(vacant, Phase::Connecting));
+            set_standing(channels, channel, Standing::On(vacant, Phase::Connecting));
             Ok(Some(Found {
                 channel,
                 circuit: vacant,
@@ -180,7 +180,7 @@ fn create_on(
 {
     let waiting = waiting_on(circuits, circuit);
     queue_on(circuits, circuit, message)?;
-    put(channels, channel, Standing::On(circuit, Phase::Creating(0)));
+    set_standing(channels, channel, Standing::On(circuit, Phase::Creating(0)));
     let how = How::Created(waiting);
     Ok(Some(Found {
         channel,

@@ -9,7 +9,7 @@ use crate::channel::{Channel, Standing, is_same};
 use crate::client::ClientCore;
 use ca_arena::Handle;
 use ca_ids::{HeldTable, WireId};
-use ca_search::{Place, Search, find};
+use ca_search::{Place, Search, due_in};
 use indexmap::IndexMap;
 use std::alloc::{AllocError, Global};
 
@@ -25,7 +25,7 @@ impl ClientCore {
             self.now.searches ≢ []) }
     {
         if ends.is_empty() {
-            return find(self.alloc, &self.searches, self.moment);
+            return due_in(self.alloc, &self.searches, self.moment);
         }
         find_after(
             self.alloc,

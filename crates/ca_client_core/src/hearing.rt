@@ -36,9 +36,9 @@ impl ClientCore {
         };
         match phase {
             Phase::Connecting => {}
-            Phase::Creating(_) => self.set_phase(channel, circuit, Phase::Creating(message.p2())),
+            Phase::Creating(_) => self.set_phase(circuit, channel, Phase::Creating(message.p2())),
             Phase::Live(native, _) => {
-                self.set_phase(channel, circuit, Phase::Live(native, message.p2()))
+                self.set_phase(circuit, channel, Phase::Live(native, message.p2()))
             }
             Phase::Leaving => {}
             Phase::Clearing => {}
@@ -125,20 +125,20 @@ impl ClientCore {
     }
 
     // The channel is on this circuit, in this phase.
-    pub(crate) fn set_phase(&mut self, channel: Handle, circuit: Handle, phase: Phase)
+    pub(crate) fn set_phase(&mut self, circuit: Handle, channel: Handle, phase: Phase)
         requires turn { MayTurn channel circuit (phase_of phase) self.old }
         requires alive { client.is_live (phase_of phase) ≡ true
             → is_live_in self.old.channels channel ≡ true }
         ensures { self.new ≡ with_standing (On circuit (phase_of phase)) channel self.old }
     {
-        put(&mut self.channels, channel, Standing::On(circuit, phase));
+        set_standing(&mut self.channels, channel, Standing::On(circuit, phase));
     }
 
     // The channel is live on this circuit. Without memory nothing changes.
     pub(crate) fn make_live(
         &mut self,
-        channel: Handle,
         circuit: Handle,
+        channel: Handle,
         native: Native,
         rights: u32,
     ) -> Result<(), AllocError>
@@ -157,7 +157,7 @@ impl ClientCore {
             circuit,
             channel,
         )?;
-        put(
+        set_standing(
             &mut self.channels,
             channel,
             Standing::On(circuit, Phase::Live(native, rights)),
@@ -197,7 +197,7 @@ impl ClientCore {
 }
 
 // The channel of this handle is there now.
-pub(crate) fn put(channels: &mut HeldTable<Channel>, handle: Handle, standing: Standing)
+pub(crate) fn set_standing(channels: &mut HeldTable<Channel>, handle: Handle, standing: Standing)
     ensures { channels.new
         ≡ with_changed
         (λ here. record here { standing = standing_of standing })

@@ -49,7 +49,7 @@ impl ClientCore {
         let cid = Cid::new(WireId::of(channel).number());
         self.queue(circuit, &clear_request(self.alloc, Sid::new(sid), cid))?;
         let over = self.requests.end_channel(channel);
-        self.set_phase(channel, circuit, Phase::Leaving);
+        self.set_phase(circuit, channel, Phase::Leaving);
         let lost = Notice::Lost(channel);
         Ok(Notices::of(over, Vec::new(self.alloc), Some(lost)))
     }

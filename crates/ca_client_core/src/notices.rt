@@ -1,4 +1,4 @@
-ghost use Rattle.std.specs.Prelude.{◌≡◌, [], None, Some, map};
+ghost use Rattle.std.specs.Prelude.{◌≡◌, [], None, Some};
 ghost use Rattle.ca_client_core.specs.Notices.{TakesNotice, notice_of, told_by};
 ghost use Rattle.ca_client_core.specs.declared.notice.Notice.TheVariants as told;
 ghost use Rattle.ca_model.specs.Answers as notice;
@@ -16,10 +16,10 @@ use std::marker::Model;
 pub struct Notices {
     disconnected: Vec<Handle>,
     // How many of these were taken.
-    completed: usize,
+    disconnected_told: usize,
     lost: Vec<Handle>,
     // How many of these were taken.
-    parted: usize,
+    lost_told: usize,
     last: Option<Notice>,
 }
 
@@ -31,7 +31,7 @@ impl Model for Notices {
     ghost Value = { List notice.Notice };
 
     ghost view = { λ n.
-        told_by (drop n.completed n.disconnected.items) (drop n.parted n.lost.items) n.last };
+        told_by (drop n.disconnected_told n.disconnected.items) (drop n.lost_told n.lost.items) n.last };
 }
 
 impl Notices {
@@ -55,9 +55,9 @@ impl Notices {
     {
         Notices {
             disconnected,
-            completed: 0,
+            disconnected_told: 0,
             lost,
-            parted: 0,
+            lost_told: 0,
             last,
         }
     }
@@ -66,14 +66,14 @@ impl Notices {
     pub fn next(&mut self) -> Option<Notice>
         ensures { TakesNotice self.old result self.new }
     {
-        if self.completed < self.disconnected.len() {
-            let request = self.disconnected[self.completed];
-            self.completed += 1;
+        if self.disconnected_told < self.disconnected.len() {
+            let request = self.disconnected[self.disconnected_told];
+            self.disconnected_told += 1;
             return Some(Notice::Completed(request, Outcome::Disconnected));
         }
-        if self.parted < self.lost.len() {
-            let channel = self.lost[self.parted];
-            self.parted += 1;
+        if self.lost_told < self.lost.len() {
+            let channel = self.lost[self.lost_told];
+            self.lost_told += 1;
             return Some(Notice::Lost(channel));
         }
         self.last.take()

@@ -52,7 +52,7 @@ impl ClientCore {
             channel,
             data_type,
             count,
-            mask: mask.bits(),
+            mask,
             stage: Stage::Stands,
         };
         match self.add(vacant, live.circuit, added, &message) {

@@ -36,7 +36,7 @@ impl ClientCore {
                 Phase::Creating(_) => self.forget(subscription),
                 Phase::Live(native, _) => self.cancel(subscription, found, circuit, native.sid),
                 Phase::Leaving => {
-                    let _ = self.monitors.end(subscription, circuit);
+                    let _ = self.monitors.end(circuit, subscription);
                     Ok(())
                 }
                 Phase::Clearing => self.forget(subscription),
@@ -82,7 +82,7 @@ impl ClientCore {
         {
             return Err(Refusal::OutOfMemory);
         }
-        let _ = self.monitors.cancel(subscription, circuit);
+        let _ = self.monitors.cancel(circuit, subscription);
         Ok(())
     }
 }

@@ -2,7 +2,7 @@
 use Rattle.std.proofs.Common.{◌≡◌, ℕ, ◌+◌, inl, inr, Bool, true, false, ◌&&◌, cond, eqb, List, [], ◌∷◌, ◌++◌, length, Option, Some, None, refl, sym, ap, ◌∙◌, subst}
 use Rattle.std.specs.Prelude.{Ok, drop, is_none, is_some, map, option_and_then, option_map, slice_set, unwrap_or}
 use Rattle.std.specs.List.{FoldsTo}
-use Rattle.std.proofs.lemmas.Bool.{and_from, both_ways, eq-eqb}
+use Rattle.std.proofs.lemmas.Bool.{and_from, both_ways, cases_Bool, eq-eqb}
 use Rattle.std.proofs.lemmas.List.{append-nil}
 use Rattle.ca_text.specs.Place.{At}
 use Rattle.ca_text.specs.declared.command.Command.{Command}
@@ -22,6 +22,7 @@ use Rattle.ca_model.specs.History.{Intent, Line, Sent, Step}
 use Rattle.ca_model.specs.History as history
 use Rattle.ca_model.specs.Client as client
 use Rattle.ca_model_client.proofs.Standings.{stands-as}
+use Rattle.ca_model_client.proofs.Thinner.{number-or}
 use Rattle.ca_model_world.specs.ClientEvents.{DownTaken, HappensAccept, HappensClear, HappensClientDatagram, HappensClientRestart, HappensClientStep, HappensCutClient, HappensDown, HappensOpen, HappensRead, HappensSubscribe, HappensUnsubscribe, HappensUp, HappensWrite, HappensWriteNotify, Outcomes, TicksOne, WantsFirst, about_at, after_tick, cancelled, client_after, client_closed, client_ended, client_gone, client_stepped, connected_as, heard_in, left_silent, lines_of, new_circuit, refused, sent_on, told_by}
 use Rattle.ca_model_world.specs.World.{ClientSide, Joined, Names, ServerSide, World, addresses, client_begun, log_length, with_circuit, with_client, with_server}
 use Rattle.ca_laws_circuit.specs.Held.{with_request, with_subscription}
@@ -29,14 +30,14 @@ use Rattle.ca_laws_runs.specs.Circuit.{sent_to, stamped}
 use Rattle.ca_laws_runs.specs.Clients.{ClientsStand}
 use Rattle.ca_laws_runs.proofs.ClientsKeep.{none-under}
 use Rattle.ca_laws_runs.proofs.ClientsMore.{unconnected-is, wanted-there}
-use Rattle.ca_laws_heard.specs.Quiet.{ClientsQuiet, Quiet, Tidy}
+use Rattle.ca_laws_heard.specs.Quiet.{AreSubIds, ClientsQuiet, Quiet, Tidy}
 use Rattle.ca_laws_heard.proofs.Connects.{Connected, connected-so}
-use Rattle.ca_laws_heard.proofs.Ends.{IsEndAfter, IsSameEnd, after-sent, after-then, all-same, all-set, quiet-called, quiet-moved, quiet-same, same-closed, same-end, sent-mine, sent-other}
+use Rattle.ca_laws_heard.proofs.Ends.{IsEndAfter, IsSameEnd, after-sent, after-then, all-same, all-set, ids-still, quiet-called, quiet-moved, quiet-same, same-closed, same-end, sent-closed, sent-mine, sent-other}
 use Rattle.ca_laws_heard.proofs.Issued.{moved-opened, moved-put, moved-read, moved-subscribed, moved-written}
 use Rattle.ca_laws_heard.proofs.Lesser.{Less, less-ended, less-itself, less-on, less-same, less-sending}
 use Rattle.ca_laws_heard.proofs.Listened.{moved-all-received, moved-heard, moved-ticked}
 use Rattle.ca_laws_heard.proofs.Phased.{moved-before, moved-cleared, moved-unsubscribed, standing-stage}
-use Rattle.ca_laws_heard.proofs.Says.{Moved, moved-less, moved-less-then, quiet-circuit, quiet-each, said}
+use Rattle.ca_laws_heard.proofs.Says.{Moved, moved-less, moved-less-then, quiet-circuit, quiet-each, said, sub-ids}
 
 -- ---- calls
 
@@ -151,14 +152,14 @@ module _ (w new : World) (k : ℕ) (j : Joined) (x : ClientSide) (at : At w.circ
           (moved-less x.names x.core z.core (less-handed j.at_client n x.core) (s.tidy j.client x there)) s
         where
           nothing-sent : (a : Joined) → IsEndAfter j.client x.names [] a a
-          nothing-sent a = record { client = refl; handle = refl; opens = λ o. o; up = λ o. by (eqb a.client j.client && a.lists.client_open) }
+          nothing-sent a = record { client = refl; handle = refl; opens = λ o. o; up = by (eqb a.client j.client && a.lists.client_open) }
             where
               by : (b : Bool) → a.lists.up ≡ a.lists.up ++ cond b [] []
               by true = sym (append-nil a.lists.up)
               by false = sym (append-nil a.lists.up)
       go false =
           quiet-same w (with_server j.server (record y { core = happens.0 }) (with_circuit k (record j { left_up = drop n j.left_up }) w)) refl
-          (all-set k j (record j { left_up = drop n j.left_up }) w.circuits at (record { client = refl; handle = refl; opens = λ o. o; up = λ o. refl })) s
+          (all-set k j (record j { left_up = drop n j.left_up }) w.circuits at (record { client = refl; handle = refl; opens = λ o. o; up = refl })) s
 
   pub quiet-down : (n : ℕ) (y : ServerSide) → HappensDown w k n j x y new → ClientsQuiet new
   quiet-down n y happens =
@@ -177,7 +178,7 @@ module _ (w new : World) (k : ℕ) (j : Joined) (x : ClientSide) (at : At w.circ
         | inr closed_it ↦
             subst (λ (v : World). ClientsQuiet v × (v.clients ≡ w.clients)) (sym closed_it.1) (
               quiet-same w (with_circuit k (record j { left_down = drop n j.left_down }) w) refl
-                  (all-set k j (record j { left_down = drop n j.left_down }) w.circuits at (record { client = refl; handle = refl; opens = λ o. o; up = λ o. refl })) s,
+                  (all-set k j (record j { left_down = drop n j.left_down }) w.circuits at (record { client = refl; handle = refl; opens = λ o. o; up = refl })) s,
               refl,
             )
       ]
@@ -211,7 +212,7 @@ module _ (w new : World) (k : ℕ) (j : Joined) (x : ClientSide) (at : At w.circ
           let e : Effect = record { core = core; sent = sent; notices = told } in
           quiet-called mid j.client x x.names (record { core = core; names = x.names; lines = lines; sent = sent }) there
           (moved-before x.names x.core y core sent (less-on _ j.at_client x.core) (s.tidy j.client x there) (λ u. moved-heard x.names y u j.at_client steps.m e steps.hears))
-          (quiet-same w mid refl (all-set k j (heard_in g j) w.circuits at (record { client = refl; handle = refl; opens = λ o. o; up = λ o. refl })) s)
+          (quiet-same w mid refl (all-set k j (heard_in g j) w.circuits at (record { client = refl; handle = refl; opens = λ o. o; up = refl })) s)
 
 -- ---- a client begins again
 
@@ -238,9 +239,13 @@ quiet-client-restart w new i x at s happens = subst (λ (v : World). ClientsQuie
       elim (At-set w.clients i z j.client y there) [
         | inl here ↦ absurd (shut m.0 j m.2 here.0 open_it)
         | inr old ↦
-            subst (λ (v : Handle × List Sent). Quiet y.names y.core v.0 v.1) (λ i. (sym end.handle i, sym (end.up open_it) i))
+            subst (λ (v : Handle × List Sent). Quiet y.names y.core v.0 v.1) (λ i. (sym end.handle i, sym end.up i))
             (s.quiet k m.0 y m.1 (subst (λ (c : ℕ). At w.clients c y) end.client old.0) (end.opens open_it))
       ];
+  ids = λ k j stands.
+      let m = At-mapped (client_gone i x) w.circuits k j stands in
+      let end : IsSameEnd m.0 j = subst (λ (b : Joined). IsSameEnd m.0 b) (sym m.2) (ends m.0) in
+      subst (λ (l : List Sent). AreSubIds l) (sym end.up) (s.ids k m.0 m.1);
 })
   where
     servers : List Address
@@ -305,19 +310,19 @@ quiet-joined w i x core sent lines n servers at mine empty none stands connected
               let ours : m.0.client ≡ i = sym e.client ∙ here.0 in
               let of_x : At w.clients m.0.client x = subst (λ (c : ℕ). At w.clients c x) (sym ours) at in
               let away : n.at_client ≡ m.0.at_client → ⊥ = λ same. both_ways (is_none (connection_at x.core m.0.at_client)) (stands.connected k m.0 x was of_x (e.opens open_it)) (subst (λ (h : Handle). is_none (connection_at x.core h) ≡ true) same none) in
-              let up : j.lists.up ≡ m.0.lists.up ++ said x.names m.0.at_client sent = e.up open_it ∙ ap (λ (l : List Sent). m.0.lists.up ++ l) (sent-mine i x.names sent m.0 ours (e.opens open_it)) in
+              let up : j.lists.up ≡ m.0.lists.up ++ said x.names m.0.at_client sent = e.up ∙ ap (λ (l : List Sent). m.0.lists.up ++ l) (sent-mine i x.names sent m.0 ours (e.opens open_it)) in
               subst (λ (v : ClientSide). Quiet v.names v.core j.at_client j.lists.up) (sym here.1)
               (subst (λ (v : Handle × List Sent). Quiet x.names core v.0 v.1) (λ i. (sym e.handle i, sym up i)) (connected.others m.0.at_client m.0.lists.up away (s.quiet k m.0 x was of_x (e.opens open_it))))
           | inr old ↦
               let other : m.0.client ≡ i → ⊥ = λ same. old.1 (e.client ∙ same) in
-              let up : j.lists.up ≡ m.0.lists.up = e.up open_it ∙ ap (λ (l : List Sent). m.0.lists.up ++ l) (sent-other i x.names sent m.0 other) ∙ append-nil m.0.lists.up in
+              let up : j.lists.up ≡ m.0.lists.up = e.up ∙ ap (λ (l : List Sent). m.0.lists.up ++ l) (sent-other i x.names sent m.0 other) ∙ append-nil m.0.lists.up in
               subst (λ (v : Handle × List Sent). Quiet y.names y.core v.0 v.1) (λ i. (sym e.handle i, sym up i)) (s.quiet k m.0 y was (subst (λ (c : ℕ). At w.clients c y) e.client old.0) (e.opens open_it))
         ]
         | inr last ↦
             let ours : m.0.client ≡ i = ap (λ (v : Joined). v.client) last.1 ∙ mine in
             let opened : m.0.lists.client_open ≡ true = e.opens open_it in
             let up : j.lists.up ≡ said x.names n.at_client sent =
-            e.up open_it ∙ ap (λ (l : List Sent). l ++ sent_on i x.names sent m.0) (ap (λ (v : Joined). v.lists.up) last.1 ∙ empty) ∙ sent-mine i x.names sent m.0 ours opened
+            e.up ∙ ap (λ (l : List Sent). l ++ sent_on i x.names sent m.0) (ap (λ (v : Joined). v.lists.up) last.1 ∙ empty) ∙ sent-mine i x.names sent m.0 ours opened
             ∙ ap (λ (v : Joined). said x.names v.at_client sent) last.1 in
             elim (At-set w.clients i z j.client y there) [
               | inl here ↦
@@ -326,8 +331,40 @@ quiet-joined w i x core sent lines n servers at mine empty none stands connected
               | inr old ↦ absurd (old.1 (e.client ∙ ours))
             ]
       ];
+  ids = λ k j stood.
+      let m = after-sent i x.names sent (w.circuits ++ n ∷ []) k j stood in
+      let e = m.2 in
+      elim (cases_Bool m.0.lists.client_open) [
+        | inr shut ↦ ids-still i x.names sent m.0 j e (sent-closed i x.names sent m.0 shut) (elim (At-snoc w.circuits n k m.0 m.1) [
+          | inl was ↦ s.ids k m.0 was
+          | inr last ↦ subst (λ (l : List Sent). AreSubIds l) (sym (ap (λ (v : Joined). v.lists.up) last.1 ∙ empty)) nothing
+        ])
+        | inl opened ↦ elim (number-or m.0.client i) [
+          | inr other ↦ ids-still i x.names sent m.0 j e (sent-other i x.names sent m.0 other) (elim (At-snoc w.circuits n k m.0 m.1) [
+            | inl was ↦ s.ids k m.0 was
+            | inr last ↦ subst (λ (l : List Sent). AreSubIds l) (sym (ap (λ (v : Joined). v.lists.up) last.1 ∙ empty)) nothing
+          ])
+          | inl ours ↦ elim (At-snoc w.circuits n k m.0 m.1) [
+            | inl was ↦
+                let of_x : At w.clients m.0.client x = subst (λ (c : ℕ). At w.clients c x) (sym ours) at in
+                let away : n.at_client ≡ m.0.at_client → ⊥ = λ same. both_ways (is_none (connection_at x.core m.0.at_client)) (stands.connected k m.0 x was of_x opened) (subst (λ (h : Handle). is_none (connection_at x.core h) ≡ true) same none) in
+                subst (λ (l : List Sent). AreSubIds l) (sym (e.up ∙ ap (λ (l : List Sent). m.0.lists.up ++ l) (sent-mine i x.names sent m.0 ours opened)))
+                (sub-ids x.names core m.0.at_client (m.0.lists.up ++ said x.names m.0.at_client sent) (connected.others m.0.at_client m.0.lists.up away (s.quiet k m.0 x was of_x opened)))
+            | inr last ↦
+                let up : j.lists.up ≡ said x.names n.at_client sent =
+                e.up ∙ ap (λ (l : List Sent). l ++ sent_on i x.names sent m.0) (ap (λ (v : Joined). v.lists.up) last.1 ∙ empty) ∙ sent-mine i x.names sent m.0 ours opened ∙ ap (λ (v : Joined). said x.names v.at_client sent) last.1 in
+                subst (λ (l : List Sent). AreSubIds l) (sym up) (sub-ids x.names core n.at_client (said x.names n.at_client sent) (now (ap (λ (v : Joined). v.lists.client_open) (sym last.1) ∙ opened)))
+          ]
+        ]
+      ];
 }
   where
+    nothing : AreSubIds []
+    nothing p q a b m r v at there adds cancels = absurd (no-sent p r at)
+      where
+        no-sent : (p : ℕ) (r : Sent) → (let l : List Sent = [] in At l p r) → ⊥
+        no-sent p r at = cc
+
     z : ClientSide
     z = record x { core = core; names = x.names }
 

@@ -29,7 +29,7 @@ use Rattle.ca_laws_heard.specs.Quiet.{IsBeingCreated, IsNamedIn, NoneAfter, Phas
 use Rattle.ca_laws_heard.proofs.Lesser.{less-ended, less-sending, quiet-less, tidy-less}
 use Rattle.ca_laws_heard.proofs.Phases.{same-ask, same-number}
 use Rattle.ca_laws_heard.proofs.Phased.{stood-handle, stood-phase}
-use Rattle.ca_laws_heard.proofs.Says.{said}
+use Rattle.ca_laws_heard.proofs.Says.{no-sub-id, said}
 
 -- ---- lists of CREATE_CHANs
 
@@ -172,6 +172,7 @@ module _ (n : Names) (x : Client) (c : Handle) (d : ClientCircuit) (t : Tidy n x
   quiet-others : (on : Handle) (up : List Sent) → (c ≡ on → ⊥) → Quiet n x on up → Quiet n z on up
   quiet-others on up other q = record {
     named = q.named;
+    ids = q.ids;
     channels = λ h ch at p stands.
         let was = all-back (creating c) x.channels h ch at in
         elim (standing-now was.0 ch was.2 on p stands) [
@@ -187,6 +188,7 @@ module _ (n : Names) (x : Client) (c : Handle) (d : ClientCircuit) (t : Tidy n x
       | inl serves ↦ subst (λ (i : Intent). IsNamedIn n i) (sym serves) tt
       | inr creates ↦ subst (λ (i : Intent). IsNamedIn n i) (sym creates.1) tt
     ];
+    ids = λ p r at. no-sub-id n r (λ a m e. not-such (Subscribe m) (no-add m) p a r at e) (λ a m e. not-such (Cancel m) (no-cancel m) p a r at e);
     channels = λ h ch at p stands.
         let was = all-back (creating c) x.channels h ch at in
         elim (standing-now was.0 ch was.2 c p stands) [

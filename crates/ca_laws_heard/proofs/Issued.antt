@@ -133,6 +133,7 @@ moved-opened n x a h sent y opens t = subst (λ (z : List Sending × Client). Mo
     quiet : (on : Handle) (up : List Sent) → Quiet n x on up → Quiet now z on up
     quiet on up q = record {
       named = λ p s at. named-still n now (λ i e at. at) (λ i e at. at) s.intent (q.named p s at);
+      ids = q.ids;
       channels = λ g ch is. elim (held-back x.channels g h new ch is) [
         | inl own ↦ λ p stands. absurd (nowhere on p (ap (λ (w : Channel). w.standing) (sym own.1) ∙ stands))
         | inr old ↦ subst (λ (k : ℕ). StandsIn on up k ch.standing) (sym (kept g (t.numbered g ch old))) (q.channels g ch old)
@@ -185,6 +186,7 @@ module _ (n : Names) (x : Client) (c : ℕ) (h : Handle) (t : Tidy n x) (given :
     quiet-before : (on : Handle) (up : List Sent) → Quiet n x on up → Quiet now z on up
     quiet-before on up quiet = record {
       named = λ p s at_p. named-still n now (λ i e place. At-append n.requests ((q, intent) ∷ []) i e place) (λ i e place. place) s.intent (quiet.named p s at_p);
+      ids = quiet.ids;
       channels = quiet.channels;
       subscriptions = quiet.subscriptions;
     }
@@ -225,7 +227,7 @@ tidy-wrote n x writes t = record { numbered = t.numbered; given = t.given; once 
 
 quiet-wrote : (n : Names) (x : Client) (writes : ℕ) (on : Handle) (up : List Sent) → Quiet n x on up → Quiet (record n { writes = writes }) x on up
 quiet-wrote n x writes on up q =
-    record { named = λ p s at. named-still n (record n { writes = writes }) (λ i e place. place) (λ i e place. place) s.intent (q.named p s at); channels = q.channels; subscriptions = q.subscriptions }
+    record { named = λ p s at. named-still n (record n { writes = writes }) (λ i e place. place) (λ i e place. place) s.intent (q.named p s at); ids = q.ids; channels = q.channels; subscriptions = q.subscriptions }
 
 pub moved-written : (n : Names) (x : Client) (h : Handle) (e : Elements) (sent : List Sending) (y : Client) → ClientWrites x h e (Ok tt) sent y → Tidy n x → Moved n x n sent (record n { writes = n.writes + 1 }) y
 moved-written n x h e sent y writes t =
@@ -259,7 +261,7 @@ moved-subscribed n x c h a mask q sent y subscribes t given at =
     (moved-one n now now x z s tidy
     (λ up quiet.
     quiet-subscribed now z s.circuit up (stamped now s) tidy (before s.circuit up quiet) h ch.0 l.native l.rights (Subscribe (length n.subscriptions)) ch.1 ch.2 tt
-    (meant ∙ ap (λ (k : ℕ). history.On k (Subscribe (length n.subscriptions))) (sym number)) q d c (length n.subscriptions) (held-own x.subscriptions q d may) refl meant refl)
+    (meant ∙ ap (λ (k : ℕ). history.On k (Subscribe (length n.subscriptions))) (sym number)) q d c (length n.subscriptions) (held-own x.subscriptions q d may) refl meant refl refl)
     (λ on up other quiet. before on up quiet)) (less-sending (s ∷ []) z))
   where
     intent : Intent
@@ -314,6 +316,7 @@ moved-subscribed n x c h a mask q sent y subscribes t given at =
     before : (on : Handle) (up : List Sent) → Quiet n x on up → Quiet now z on up
     before on up quiet = record {
       named = λ p r at_p. named-still n now (λ i e place. place) (λ i e place. At-append n.subscriptions ((q, intent) ∷ []) i e place) r.intent (quiet.named p r at_p);
+      ids = λ p r at_p b m w. (let f = quiet.ids p r at_p b m w in (f.0, f.1, At-append n.subscriptions ((q, intent) ∷ []) m (f.0, f.1) f.2, f.3));
       channels = quiet.channels;
       subscriptions = λ g v b m is says. elim (held-back x.subscriptions g q d v is) [
         | inl own ↦

@@ -63,6 +63,7 @@ quiet-opening setting = record {
       let r = at-numbered 0 (client_begun (addresses setting.servers) 0) setting.clients i x at in
       subst (λ (z : ClientSide). Tidy z.names z.core) (sym r.2) (tidy-new (addresses setting.servers) 0 r.0 r.1);
   quiet = λ k j x at there open_it. absurd cc;
+  ids = λ k j at. absurd cc;
 }
 
 -- ---- runs

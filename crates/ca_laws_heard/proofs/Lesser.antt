@@ -236,6 +236,7 @@ tidy-less n x y less t = record {
 pub quiet-less : (n : Names) (x y : Client) (on : Handle) (up : List Sent) → Less x y → Quiet n x on up → Quiet n y on up
 quiet-less n x y on up less q = record {
   named = q.named;
+  ids = q.ids;
   channels = λ h ch is. (let w = less.channels h ch is in w.2 on up (channel_number n h) (q.channels h w.0 w.1));
   subscriptions = λ g d a number is meant. (let w = less.subscriptions g d is in w.3 on up number (q.subscriptions g w.0 a number w.1 meant));
 }

@@ -86,7 +86,7 @@ module _ (n : Names) (x : Client) (t : Tidy n x) where
               subst (λ (w : Sending). Quiet n z on (l ++ stamped n w ∷ [])) (sym was.2)
               (quiet-subscribed n z on l (stamped n (event_add_sent c m.p2 (was.0).0 (was.0).1)) u quiet h (record found.0 { standing = On c (Live (native_in m) rights) }) (native_in m) rights (Subscribe meant.0)
               (changed-own (λ (w : Channel). record w { standing = On c (Live (native_in m) rights) }) x.channels h found.0 found.1) (ap (λ (w : Handle). On w (Live (native_in m) rights)) on_is) tt
-              (meant.2 ∙ ap (λ (w : Handle). history.On (channel_number n w) (Subscribe meant.0)) channel) (was.0).0 (was.0).1 (channel_number n ((was.0).1).channel) meant.0 row (standing-stage ((was.0).1).stage both.1) meant.2 refl)) up q;
+              (meant.2 ∙ ap (λ (w : Handle). history.On (channel_number n w) (Subscribe meant.0)) channel) (was.0).0 (was.0).1 (channel_number n ((was.0).1).channel) meant.0 row (standing-stage ((was.0).1).stage both.1) meant.2 refl refl)) up q;
         })
 
     moved-heard-created : (m : Fields) (e : Effect) (o : Option (Handle × Phase)) → channel_on x c m.p1 ≡ o → e ≡ created x c m o → Moved n x n e.sent n e.core

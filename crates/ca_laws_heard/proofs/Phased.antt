@@ -2,6 +2,7 @@
 use Rattle.std.proofs.Common.{◌≡◌, ℕ, inl, inr, true, false, List, [], ◌∷◌, ◌++◌, Option, Some, None, refl, sym, ap, ◌∙◌, subst}
 use Rattle.std.specs.Prelude.{Ok}
 use Rattle.std.proofs.lemmas.Bool.{both_ways}
+use Rattle.ca_text.specs.Place.{At}
 use Rattle.ca_arena.specs.declared.handle.Handle.{Handle}
 use Rattle.ca_ids.specs.Table.{under, with_freed}
 use Rattle.ca_monitor.specs.Subscriptions.{Cancelled, Ended, Stage, Stands, Subscription, is_to, stands_in, with_stage}
@@ -20,7 +21,7 @@ use Rattle.ca_laws_runs.specs.Circuit.{stamped}
 use Rattle.ca_laws_heard.specs.Quiet.{HasNumber, IsBeingCancelled, IsNamedIn, IsSubscriptionOn, NoCancel, PhaseIn, Quiet, StageIn, StandsIn, Tidy}
 use Rattle.ca_laws_heard.proofs.Phases.{doomed-cleared, live-cleared, phase-created, phase-other, same-ask, same-number, stage-cancelled, stage-other}
 use Rattle.ca_laws_heard.proofs.Lesser.{Less, StandsLike, less-all-over, less-freed-all, less-gone, less-sending, less-stood, less-subscriptions, less-then, less-unwanted, quiet-less, same-subscriptions, tidy-less}
-use Rattle.ca_laws_heard.proofs.Says.{Moved, channels-used, moved-less, moved-less-then, moved-one, named-more, one-handle, one-subscription, subscribed-at}
+use Rattle.ca_laws_heard.proofs.Says.{Moved, channels-used, ids-more, moved-less, moved-less-then, moved-one, named-more, no-sub-id, one-handle, one-subscription, subscribed-at}
 
 pub stood-handle : (c on : Handle) (p q : Phase) → On c p ≡ On on q → c ≡ on
 stood-handle c on p q e = cc
@@ -69,6 +70,7 @@ module _ (n : Names) (x : Client) (h : Handle) (ch : Channel) (c : Handle) (q : 
   quiet-near : (up : List Sent) → Quiet n x c up → Quiet n z c (up ++ stamped n s ∷ [])
   quiet-near up quiet = record {
     named = named-more n up (stamped n s) quiet.named named;
+    ids = ids-more n up (stamped n s) quiet.ids (no-sub-id n (stamped n s) (λ a m e. no_add m (same-ask (channel_number n h) a ask (Subscribe m) (sym is ∙ e))) (λ a m e. no_cancel m (same-ask (channel_number n h) a ask (Cancel m) (sym is ∙ e))));
     channels = λ g w at p stood. elim (changed-back there-of x.channels g h w at) [
       | inl own ↦
           let one : own.1.0 ≡ ch = one-value x.channels h own.1.0 ch own.1.1 there in
@@ -87,6 +89,7 @@ module _ (n : Names) (x : Client) (h : Handle) (ch : Channel) (c : Handle) (q : 
   quiet-far : (on : Handle) (up : List Sent) → (c ≡ on → ⊥) → Quiet n x on up → Quiet n z on up
   quiet-far on up other quiet = record {
     named = quiet.named;
+    ids = quiet.ids;
     channels = λ g w at p stood. elim (changed-back there-of x.channels g h w at) [
       | inl own ↦ absurd (other (stood-handle c on q p (ap (λ (v : Channel). v.standing) (sym own.1.2) ∙ stood)))
       | inr old ↦ quiet.channels g w old.1 p stood
@@ -229,6 +232,15 @@ module _ (n : Names) (x : Client) (g : Handle) (d : Subscription) (t : Tidy n x)
       near : (up : List Sent) → Quiet n x c up → Quiet n z c (up ++ stamped n s ∷ [])
       near up quiet = record {
         named = named-more n up (stamped n s) quiet.named (subst (λ (i : Intent). IsNamedIn n i) (sym is) (g, subscribed-at n x g (channel_number n d.channel) meant.0 t meant.2));
+        ids = ids-more n up (stamped n s) quiet.ids (λ a m w. elim w [
+          | inl e ↦ absurd (no-add (channel_number n d.channel) a meant.0 m (sym is ∙ e))
+          | inr e ↦ (
+            g,
+            history.On (channel_number n d.channel) (Subscribe meant.0),
+            subst (λ (z : ℕ). At n.subscriptions z (g, history.On (channel_number n d.channel) (Subscribe meant.0))) (cancel-number (channel_number n d.channel) a meant.0 m (sym is ∙ e)) (subscribed-at n x g (channel_number n d.channel) meant.0 t meant.2),
+            refl,
+          )
+        ]);
         channels = channels-used n x c up (stamped n s) t quiet d.channel ch native rights (Cancel meant.0) there stands tt is;
         subscriptions = λ k v a m at says. elim (changed-back staged x.subscriptions k g v at) [
           | inl own ↦
@@ -254,6 +266,7 @@ module _ (n : Names) (x : Client) (g : Handle) (d : Subscription) (t : Tidy n x)
       far : (on : Handle) (up : List Sent) → (c ≡ on → ⊥) → Quiet n x on up → Quiet n z on up
       far on up other quiet = record {
         named = quiet.named;
+        ids = quiet.ids;
         channels = quiet.channels;
         subscriptions = λ k v a m at says. elim (changed-back staged x.subscriptions k g v at) [
           | inl own ↦ subst (λ (w : Subscription). StageIn on up m w.stage) (sym own.1.2) (λ same. absurd (other same))

@@ -8,6 +8,7 @@ use Rattle.ca_text.specs.Place.{At}
 use Rattle.ca_text.proofs.Places.{At-one, At-snoc}
 use Rattle.ca_arena.specs.declared.handle.Handle.{Handle}
 use Rattle.ca_ids.specs.Table.{same_handle, under}
+use Rattle.ca_ids.specs.Wire.{wire_of}
 use Rattle.ca_monitor.specs.Subscriptions.{Stage, Stands, Subscription}
 use Rattle.ca_model.specs.Answers.{Sending}
 use Rattle.ca_model.specs.Client.{Channel, Client, Live, Native, On, Phase}
@@ -18,7 +19,7 @@ use Rattle.ca_model_client.proofs.Tables.{find-at, one-value}
 use Rattle.ca_model_world.specs.ClientEvents.{channel_number, meant_by}
 use Rattle.ca_model_world.specs.World.{Names}
 use Rattle.ca_laws_runs.specs.Circuit.{stamped}
-use Rattle.ca_laws_heard.specs.Quiet.{HasNumber, IsNamedIn, IsOfUse, PhaseIn, Quiet, StageIn, StandsIn, Tidy}
+use Rattle.ca_laws_heard.specs.Quiet.{AreSubIds, HasNumber, HasSubId, IsNamedIn, IsOfUse, PhaseIn, Quiet, StageIn, StandsIn, Tidy}
 use Rattle.ca_laws_heard.proofs.Phases.{phase-other, phase-used, same-ask, same-number, stage-added, stage-other}
 use Rattle.ca_laws_heard.proofs.Lesser.{Less, quiet-less, tidy-less}
 
@@ -71,6 +72,23 @@ named-more n up s were is p r at = elim (At-snoc up s p r at) [
   | inr new ↦ subst (λ (z : Sent). IsNamedIn n z.intent) (sym new.1) is
 ]
 
+pub ids-more : (n : Names) (up : List Sent) (s : Sent) → ((p : ℕ) (r : Sent) → At up p r → HasSubId n r) → HasSubId n s → (p : ℕ) (r : Sent) → At (up ++ s ∷ []) p r → HasSubId n r
+ids-more n up s were is p r at = elim (At-snoc up s p r at) [
+  | inl old ↦ were p r old
+  | inr new ↦ subst (λ (z : Sent). HasSubId n z) (sym new.1) is
+]
+
+-- no message about a subscription
+pub no-sub-id : (n : Names) (s : Sent) → ((a m : ℕ) → s.intent ≡ history.On a (Subscribe m) → ⊥) → ((a m : ℕ) → s.intent ≡ history.On a (Cancel m) → ⊥) → HasSubId n s
+no-sub-id n s adds cancels = λ a m w. absurd (elim w [ inl e ↦ adds a m e | inr e ↦ cancels a m e ])
+
+-- so it is of an EVENT_CANCEL and its EVENT_ADD
+pub sub-ids : (n : Names) (x : Client) (on : Handle) (up : List Sent) → Quiet n x on up → AreSubIds up
+sub-ids n x on up quiet = λ p q a b m r s at there adds cancels.
+    let f = quiet.ids p r at a m (inl adds) in
+    let g = quiet.ids q s there b m (inr cancels) in
+    f.3 ∙ ap (λ (e : Handle × Intent). wire_of e.0) (At-one n.subscriptions m (f.0, f.1) (g.0, g.1) f.2 g.2) ∙ sym g.3
+
 -- ---- one message more
 
 on-self : (h k : Handle) (p q : Phase) → On h p ≡ On k q → p ≡ q
@@ -81,6 +99,7 @@ module _ (n : Names) (y : Client) (on : Handle) (up : List Sent) (s : Sent) (t :
   pub quiet-circuit : s.intent ≡ history.OfCircuit → Quiet n y on (up ++ s ∷ [])
   quiet-circuit is = record {
     named = named-more n up s q.named (subst (λ (i : Intent). IsNamedIn n i) (sym is) tt);
+    ids = ids-more n up s q.ids (no-sub-id n s (λ a m e. none a (Subscribe m) (sym is ∙ e)) (λ a m e. none a (Cancel m) (sym is ∙ e)));
     channels = λ h ch there p stands. phase-other up s (channel_number n h) p (λ ask e. none (channel_number n h) ask (sym is ∙ e)) (q.channels h ch there p stands);
     subscriptions = λ g d a m there meant.
         stage-other on up s m d.stage (λ b e. none b (Subscribe m) (sym is ∙ e)) (λ b e. none b (Cancel m) (sym is ∙ e)) (q.subscriptions g d a m there meant);
@@ -109,15 +128,20 @@ module _ (n : Names) (y : Client) (on : Handle) (up : List Sent) (s : Sent) (t :
     pub quiet-asked : IsNamedIn n s.intent → ((m : ℕ) → ask ≡ Subscribe m → ⊥) → ((m : ℕ) → ask ≡ Cancel m → ⊥) → Quiet n y on (up ++ s ∷ [])
     quiet-asked named no-add no-cancel = record {
       named = named-more n up s q.named named;
+      ids = ids-more n up s q.ids (no-sub-id n s (λ a m e. no-add m (same-ask (channel_number n h) a ask (Subscribe m) (sym is ∙ e))) (λ a m e. no-cancel m (same-ask (channel_number n h) a ask (Cancel m) (sym is ∙ e))));
       channels = channels-used;
       subscriptions = λ g d a m at meant.
           stage-other on up s m d.stage (λ b e. no-add m (same-ask (channel_number n h) b ask (Subscribe m) (sym is ∙ e))) (λ b e. no-cancel m (same-ask (channel_number n h) b ask (Cancel m) (sym is ∙ e))) (q.subscriptions g d a m at meant);
     }
 
     -- for a subscription that stands
-    pub quiet-subscribed : (k : Handle) (v : Subscription) (b m : ℕ) → under y.subscriptions k ≡ Some v → v.stage ≡ Stands → meant_by n.subscriptions k ≡ history.On b (Subscribe m) → s.intent ≡ meant_by n.subscriptions k → Quiet n y on (up ++ s ∷ [])
-    quiet-subscribed k v b m here stage meant_k said = record {
+    pub quiet-subscribed : (k : Handle) (v : Subscription) (b m : ℕ) → under y.subscriptions k ≡ Some v → v.stage ≡ Stands → meant_by n.subscriptions k ≡ history.On b (Subscribe m) → s.intent ≡ meant_by n.subscriptions k → s.message.p2 ≡ wire_of k → Quiet n y on (up ++ s ∷ [])
+    quiet-subscribed k v b m here stage meant_k said wire = record {
       named = named-more n up s q.named (subst (λ (i : Intent). IsNamedIn n i) (sym (said ∙ meant_k)) (k, subscribed-at n y k b m t meant_k));
+      ids = ids-more n up s q.ids (λ a r w. elim w [
+        | inl e ↦ (k, history.On b (Subscribe m), subst (λ (z : ℕ). At n.subscriptions z (k, history.On b (Subscribe m))) (number-of b a m r (sym (said ∙ meant_k) ∙ e)) (subscribed-at n y k b m t meant_k), wire)
+        | inr e ↦ absurd (no-cancel b a m r (sym (said ∙ meant_k) ∙ e))
+      ]);
       channels = channels-used;
       subscriptions = λ g d a r at meant. elim (handle-or g k) [
         | inl same ↦

@@ -24,7 +24,7 @@ use Rattle.ca_laws_runs.proofs.Handled.{numbers-like, posted-like, writes-like}
 use Rattle.ca_laws_heard.proofs.Ends.{IsSameEnd, all-map, all-same, all-set, all-then, quiet-same, quiet-server, same-end, same-ending, same-like, same-then}
 
 plain : (a j : Joined) → j.client ≡ a.client → j.at_client ≡ a.at_client → j.lists.client_open ≡ a.lists.client_open → j.lists.up ≡ a.lists.up → IsSameEnd a j
-plain a j client handle opens up = record { client = client; handle = handle; opens = λ o. sym opens ∙ o; up = λ o. up }
+plain a j client handle opens up = record { client = client; handle = handle; opens = λ o. sym opens ∙ o; up = up }
 
 -- a circuit is noted, or changed where it stands
 quiet-at : (w : World) (k : ℕ) (f : Joined → Joined) → ((a : Joined) → IsSameEnd a (f a)) → ClientsQuiet w → ClientsQuiet (unwrap_or (option_map (λ (c : Joined). with_circuit k (f c) w) (slice_get w.circuits k)) w)

@@ -2,6 +2,7 @@
 use Rattle.std.specs.Prelude.{ℕ, ◌≡◌, ◌<◌, ◌⊎◌, true, List, Some}
 use Rattle.ca_arena.specs.declared.handle.Handle.{Handle}
 use Rattle.ca_ids.specs.Table.{under}
+use Rattle.ca_ids.specs.Wire.{wire_of}
 use Rattle.ca_monitor.specs.Subscriptions.{Cancelled, Ended, Stage, Stands, Subscription}
 use Rattle.ca_requests.specs.Requests.{Request}
 use Rattle.ca_text.specs.Place.{At}
@@ -103,17 +104,30 @@ IsNamedIn n (On a (Subscribe number)) = (g : Handle) × At n.subscriptions numbe
 IsNamedIn n (On a (Cancel number)) = (g : Handle) × At n.subscriptions number (g, On a (Subscribe number))
 IsNamedIn n intent = Unit {0}
 
+-- A message about a subscription has the id of the handle that its number names.
+abbrev pub HasSubId : Names → Sent → Type 0
+HasSubId n s =
+    (a number : ℕ) → (s.intent ≡ On a (Subscribe number)) ⊎ (s.intent ≡ On a (Cancel number))
+    → (g : Handle) × (e : Intent) × At n.subscriptions number (g, e) × (s.message.p2 ≡ wire_of g)
+
+-- An EVENT_CANCEL has the subscription id of its EVENT_ADD.
+abbrev pub AreSubIds : List Sent → Type 0
+AreSubIds up = (p q a b number : ℕ) (r s : Sent) → At up p r → At up q s → r.intent ≡ On a (Subscribe number) → s.intent ≡ On b (Cancel number)
+    → r.message.p2 ≡ s.message.p2
+
 -- ---- a circuit
 
 -- What was sent on the circuit of this handle was named, and is as the client's channels and subscriptions there are.
 pub record Quiet (n : Names) (x : Client) (on : Handle) (up : List Sent) : Type 0 where
   pub named : (p : ℕ) (s : Sent) → At up p s → IsNamedIn n s.intent
+  pub ids : (p : ℕ) (s : Sent) → At up p s → HasSubId n s
   pub channels : (h : Handle) (ch : Channel) → under x.channels h ≡ Some ch → StandsIn on up (channel_number n h) ch.standing
   pub subscriptions : (g : Handle) (d : Subscription) (a number : ℕ) → under x.subscriptions g ≡ Some d → meant_by n.subscriptions g ≡ On a (Subscribe number)
       → StageIn on up number d.stage
 
--- So it is of all clients of a world, and of their circuits whose ends are open.
+-- So it is of all clients of a world, and of their circuits whose ends are open; and ids of subscriptions stay right on all circuits.
 pub record ClientsQuiet (w : World) : Type 0 where
   pub tidy : (i : ℕ) (x : ClientSide) → At w.clients i x → Tidy x.names x.core
   pub quiet : (k : ℕ) (j : Joined) (x : ClientSide) → At w.circuits k j → At w.clients j.client x → j.lists.client_open ≡ true
       → Quiet x.names x.core j.at_client j.lists.up
+  pub ids : (k : ℕ) (j : Joined) → At w.circuits k j → AreSubIds j.lists.up

@@ -12,7 +12,8 @@ ghost use Rattle.ca_laws_heard.specs.Tells.{NoticesTell};
 /// for it. On each circuit whose end at the client is open, a channel that is being created has its
 /// CREATE_CHAN as the last that was sent on it; a live one was only used since; of one that is being
 /// cleared its CLEAR_CHANNEL is the last. No EVENT_CANCEL was sent of a subscription that stands, and
-/// nothing about one that was cancelled since that.
+/// nothing about one that was cancelled since that. On all circuits an EVENT_CANCEL has the
+/// subscription id of its EVENT_ADD.
 ///
 /// So it is before any event, after each event, and in every world to which a run leads, whatever its
 /// setting and events.

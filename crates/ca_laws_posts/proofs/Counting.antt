@@ -1,37 +1,31 @@
 -- What is held of an end's queues and of its circuit's numbers, as a post is numbered and as updates leave.
-use Rattle.std.proofs.Common.{◌≡◌, ℕ, zero, suc, ◌+◌, ◌<◌, ◌≤◌, ◌⊎◌, inl, inr, Bool, true, false, cond, eqb, eq-eqb, eqb-true, ne_eqb, ◌||◌, List, [], ◌∷◌, ◌++◌, length, Option, Some, None, refl, sym, ap, subst, ◌∙◌, append-nil, arith}
-use Rattle.std.specs.Prelude.{filter_map, map, option_and_then, option_map, slice_get, slice_set, unwrap_or}
-use Rattle.std.specs.List.{FoldsTo, cons_option, fold}
+use Rattle.std.proofs.Common.{◌≡◌, ℕ, zero, suc, ◌+◌, ◌<◌, ◌≤◌, Bool, true, false, cond, ◌||◌, List, [], ◌∷◌, ◌++◌, length, Option, refl, sym, ap, subst, ◌∙◌, arith}
+use Rattle.std.specs.Prelude.{map, unwrap_or}
+use Rattle.std.specs.List.{fold}
 use Rattle.std.proofs.lemmas.List.{length-append}
-use Rattle.std.proofs.lemmas.List.Elements.{filter_map-append}
 use Rattle.ca_queue.specs.declared.entry.SubKey.{SubKey}
 use Rattle.ca_queue.specs.Circuit.{queue_posted}
-use Rattle.ca_queue.specs.Images.{image_if, images, queue_images}
+use Rattle.ca_queue.specs.Images.{queue_images}
 use Rattle.ca_queue.specs.Keys.{AreApart, is_among, same}
-use Rattle.ca_queue.specs.Queue.{Queue, posted, switched, with_front_taken}
-use Rattle.ca_queue.specs.Waiting.{after_take, entries_of, front, may_take, taken}
-use Rattle.ca_queue.proofs.Images.{front_taken_images, posted_images, taken_images}
-use Rattle.ca_queue.proofs.Keys.{other_sym, same_is, same_itself}
-use Rattle.ca_queue.proofs.Subscribers.{first_taken, none_taken, others_posted, others_taken}
+use Rattle.ca_queue.specs.Queue.{Queue, posted}
+use Rattle.ca_queue.specs.Waiting.{entries_of}
+use Rattle.ca_queue.proofs.Images.{posted_images}
+use Rattle.ca_queue.proofs.Keys.{same_is, same_itself}
+use Rattle.ca_queue.proofs.Subscribers.{others_posted}
 use Rattle.ca_text.specs.Place.{At}
-use Rattle.ca_text.proofs.Places.{some_is, At-append, At-last, At-map, At-mapped, At-one, At-parts, At-set, At-set-other, At-within}
-use Rattle.ca_model.specs.History.{Cause, Reply, Told, Update}
-use Rattle.ca_model.specs.Server.{ServerEnd, Subscription, key_of}
-use Rattle.ca_model.specs.ServerSteps.{Leaves}
-use Rattle.ca_model.specs.ServerSteps as stepped
-use Rattle.ca_model.specs.Speech.{In, Stored}
-use Rattle.ca_model.specs.Updates.{ShowsTo}
-use Rattle.ca_model_world.specs.ServerEvents.{front_number, stamped, with_number}
+use Rattle.ca_text.proofs.Places.{some_is, At-append, At-last, At-map, At-mapped, At-one}
+use Rattle.ca_model.specs.History.{Cause, Update}
+use Rattle.ca_model.specs.Server.{Subscription}
+use Rattle.ca_model.specs.Speech.{Stored}
+use Rattle.ca_model_world.specs.ServerEvents.{with_number}
 use Rattle.ca_model_world.specs.World.{Joined, Standing}
 use Rattle.ca_laws_updates.specs.InStep.{Numbered, keys_standing, number_in, value_in}
 use Rattle.ca_laws_updates.specs.Rising.{Rising}
 use Rattle.ca_laws_updates.proofs.Posted.{keys-stay}
-use Rattle.ca_laws_updates.proofs.Rising.{ends-greatest, rising-other-post, rising-other-taken, rising-posted, rising-taken}
+use Rattle.ca_laws_updates.proofs.Rising.{ends-greatest, rising-other-post, rising-posted}
 use Rattle.ca_laws_writes.specs.Both.{Both}
-use Rattle.ca_laws_writes.proofs.Lists.{beside-left, none_at}
-use Rattle.ca_laws_writes.proofs.Midway.{set-here}
-use Rattle.ca_laws_posts.specs.Holds.{Counts, Holds, Home, number_for, post_at, sent_numbers, stamp_of}
-use Rattle.ca_laws_posts.specs.Holds as number
+use Rattle.ca_laws_writes.proofs.Lists.{none_at}
+use Rattle.ca_laws_posts.specs.Holds.{Counts, Holds, Home, post_at, sent_numbers, stamp_of}
 
 -- ---- two lists side by side
 
@@ -215,6 +209,8 @@ holds-number posts more subs values c key v among grow h = record {
       let b = At-mapped (queue_posted key entry) h.both i x at in
       let before : is_among k b.0.subscriptions ≡ false = ap (λ (l : List SubKey). is_among k l) (sym (posted-subs key entry b.0)) ∙ ap (λ (z : Queue Numbered). is_among k z.subscriptions) (sym b.2) ∙ none in
       ap (λ (z : Queue Numbered). entries_of k z.waiting) b.2 ∙ tidy-one k b.0 before (same key k) refl ∙ h.tidy i b.0 k b.1 before;
+  stood = λ i st at. (let a = At-mapped bump c.standing i st at in subst (λ (n : ℕ). n < length c.lists.handled) (sym (ap (λ (z : Standing). z.place) a.2 ∙ bump-place a.0)) (h.stood i a.0 a.1));
+  early = h.early;
 }
   where
     one : (i : ℕ) × (s : Standing) × At c.standing i s × (same key s.key ≡ true) × (fold (numbering key) c.queues c.standing ≡ map (queue_posted key (s.place, Update s.posts)) c.queues)

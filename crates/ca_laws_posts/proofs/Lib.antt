@@ -4,3 +4,10 @@ pub mod LoggedStep
 pub mod LoggedAll
 pub mod Counting
 pub mod Pumping
+pub mod Changing
+pub mod Adding
+pub mod Following
+pub mod Followed
+pub mod Begun
+pub mod Acted
+pub mod Clause

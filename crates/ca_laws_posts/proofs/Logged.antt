@@ -1,13 +1,13 @@
 -- What holds of each open end of a server and of its circuit, by the log of the server's life and its records, stays so as an event goes
 -- by, if each change of these keeps it.
-use Rattle.std.proofs.Common.{◌≡◌, ℕ, zero, suc, ◌≤◌, ◌⊎◌, inl, inr, Bool, true, List, [], ◌∷◌, ◌++◌, length, Option, Some, refl, sym, ap, subst, ◌∙◌, append-nil}
+use Rattle.std.proofs.Common.{◌≡◌, ℕ, ◌⊎◌, inl, inr, true, List, [], ◌∷◌, ◌++◌, length, Option, Some, refl, sym, ap, subst, ◌∙◌}
 use Rattle.std.specs.Prelude.{drop, filter, is_some, map, not, slice_set, take}
 use Rattle.std.specs.List.{FoldsTo, flat_map}
 use Rattle.std.specs.Str.{bytes_eq}
 use Rattle.ca_arena.specs.declared.handle.Handle.{Handle}
 use Rattle.ca_model_client.proofs.Tables.{all-freed-back}
 use Rattle.ca_text.specs.Place.{At}
-use Rattle.ca_text.proofs.Places.{some_is, At-mapped, At-one, At-set}
+use Rattle.ca_text.proofs.Places.{At-mapped, At-one, At-set}
 use Rattle.ca_wire.specs.Fields.{Fields}
 use Rattle.ca_records.specs.Record.{RecordState}
 use Rattle.ca_model.specs.Due.{Action, Due}
@@ -22,7 +22,6 @@ use Rattle.ca_laws_writes.specs.Agrees.{AreOthers}
 use Rattle.ca_laws_writes.specs.Seats.{Seated}
 use Rattle.ca_laws_writes.proofs.Frames.{Frame, Goes, goes-self}
 use Rattle.ca_laws_writes.proofs.Lasting.{EndsWere, IsNew, SameHeld, SameSeat, held-self, numbered_for, told_gone, told_late}
-use Rattle.ca_laws_writes.proofs.Lists.{none_at}
 use Rattle.ca_laws_writes.proofs.Midway.{grown-back, grown-here}
 use Rattle.ca_laws_writes.proofs.Seats.{open-still}
 use Rattle.ca_laws_posts.specs.Entries.{AreQuiet, IsPost, IsQuiet, Tells, title, titles}
@@ -54,7 +53,7 @@ module _ (P : ℕ → List Entry → List RecordSide → ServerEnd → Joined �
         → P n log rs e c → P n (log ++ entry ∷ []) rs (with_post r.name mask v e) (numbered_for r.name mask e c)
     pub removed : (n : ℕ) (log : List Entry) (rs : List RecordSide) (name : List ℕ) (e : ServerEnd) (c : Joined) → P n log rs e c
         → P n (log ++ removal_entries name rs) (filter (λ (r : RecordSide). not (bytes_eq r.name name)) rs) (end_without name e) (told_gone (channels_of name e) c)
-    pub added : (n : ℕ) (log : List Entry) (rs : List RecordSide) (number behind : ℕ) (s : RecordState) (e : ServerEnd) (c : Joined) → ((r : RecordSide) → In rs r → r.number ≡ number → ⊥)
+    pub added : (n : ℕ) (log : List Entry) (rs : List RecordSide) (number behind : ℕ) (s : RecordState) (e : ServerEnd) (c : Joined) → AreOthers rs → ((r : RecordSide) → In rs r → (r.number ≡ number → ⊥) × (r.name ≡ s.name → ⊥))
         → P n log rs e c → P n (log ++ Added number s ∷ []) (take behind rs ++ record_begun number s ∷ drop behind rs) e c
     pub pumped : (n : ℕ) (log : List Entry) (rs : List RecordSide) (updates : List Update) (e after : ServerEnd) (c : Joined) → FoldsTo Leaves e updates after → P n log rs e c → P n log rs after (stamped updates c)
     pub replied : (n : ℕ) (log : List Entry) (rs : List RecordSide) (e : ServerEnd) (c : Joined) (place : ℕ) (ms : List Fields) → P n log rs e c → P n log rs e (told_late place ms c)
@@ -156,8 +155,7 @@ module _ (P : ℕ → List Entry → List RecordSide → ServerEnd → Joined �
         | inl own ↦ inl own
         | inr old ↦ inr (others j z old.0 old.1, old.1)
       ])
-      refl life
-      (
+      refl life (
         subst (λ (l : ℕ). At (server_after i side ends core mid).server_logs l (more ++ gone)) life (grown-here mid.server_logs side.life more gone (subst (λ (l : ℕ). At mid.server_logs l more) (sym life) logs.0)),
         λ l z at other. elim (grown-back mid.server_logs side.life gone l z at) [
           | inl own ↦ absurd (other (own ∙ life))

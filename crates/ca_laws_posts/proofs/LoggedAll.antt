@@ -1,13 +1,12 @@
 -- What holds of open ends and their circuits by their servers' logs stays so over every event, and over runs.
 use Rattle.std.proofs.Common.{ℕ, suc, inl, inr, List, [], ◌∷◌, length, Option, Some, refl, sym, ap, subst}
 use Rattle.std.specs.List.{FoldsTo}
-use Rattle.ca_text.specs.Place.{At}
 use Rattle.ca_model.specs.History.{Collected, Entry, GaveUp}
 use Rattle.ca_model.specs.Server.{ServerEnd}
 use Rattle.ca_model_world.specs.Events.{Event}
 use Rattle.ca_model_world.specs.Events as event
 use Rattle.ca_model_world.specs.Runs.{CanBe, Happens, Leaves, Runs, StopsAt, clients_below}
-use Rattle.ca_model_world.specs.World.{IsSetting, Joined, RecordSide, ServerSide, Setting, World, opening}
+use Rattle.ca_model_world.specs.World.{IsSetting, Joined, RecordSide, Setting, World, opening}
 use Rattle.ca_laws_writes.specs.Seats.{AllTakeSent, Sound, TakesSent}
 use Rattle.ca_laws_writes.proofs.Every.{event-sound, opening-sound, ticks-frame}
 use Rattle.ca_laws_writes.proofs.Frames.{frame-self, goes-self}

@@ -1,15 +1,16 @@
 -- What holds of open ends by their servers' logs stays so: bytes, circuits that are made, posts, removals, additions, pumps, cuts and
 -- restarts.
-use Rattle.std.proofs.Common.{◌≡◌, ℕ, ◌+◌, ◌<◌, inl, inr, Bool, true, false, cond, ◌&&◌, eqb, eq-eqb, not, List, [], ◌∷◌, ◌++◌, length, Option, Some, None, refl, sym, ap, subst, ◌∙◌, arith}
+use Rattle.std.proofs.Common.{◌≡◌, ℕ, ◌+◌, ◌<◌, inl, inr, Bool, true, false, cond, ◌&&◌, eq-eqb, not, List, [], ◌∷◌, ◌++◌, length, Option, Some, None, refl, sym, ap, subst, ◌∙◌, arith}
 use Rattle.std.specs.Prelude.{Ok, drop, filter, is_some, map, take}
 use Rattle.std.specs.List.{fold}
 use Rattle.std.specs.Str.{bytes_eq}
 use Rattle.ca_arena.specs.declared.handle.Handle.{Handle}
 use Rattle.ca_dbr.specs.Elements.{Elements}
 use Rattle.ca_ids.specs.Table.{under, with_each}
-use Rattle.ca_model_client.proofs.Tables.{changed-back, held-back, one-value}
+use Rattle.ca_model_client.proofs.Tables.{at-find, changed-back, held-back, one-value}
+use Rattle.std.proofs.lemmas.Slice.Eq.{bytes_eq-Decides}
 use Rattle.ca_link.specs.Link.{with_given, with_handed}
-use Rattle.ca_records.specs.Puts.{with_record, with_value}
+use Rattle.ca_records.specs.Puts.{Record, record_named, with_record, with_value}
 use Rattle.ca_records.specs.Record.{RecordState, unset}
 use Rattle.ca_text.specs.Place.{At}
 use Rattle.ca_text.proofs.Places.{At-append, At-mapped, At-one, At-set, At-snoc}
@@ -21,7 +22,7 @@ use Rattle.ca_model.specs.History.{Added, Entry}
 use Rattle.ca_model.specs.History as history
 use Rattle.ca_model.specs.Server.{Ended, Open, OpenChannel, Server, ServerCircuit, ServerEnd, Subscription, concerns, key_of, new_end, with_post}
 use Rattle.ca_model.specs.ServerCalls.{channels_of, circuit_without, disconnects, end_without}
-use Rattle.ca_model.specs.ServerSteps.{Accepts, Cuts, Gives, HasEnd, Pumps, Sends, after_post, closed, ended, output_of, reached, with_end}
+use Rattle.ca_model.specs.ServerSteps.{Accepts, Cuts, Gives, HasEnd, Pumps, Sends, after_post, ended, output_of, reached, with_end}
 use Rattle.ca_model.specs.Speech.{In, Stored}
 use Rattle.ca_model_world.specs.ClientEvents.{DownTaken, HappensAccept, HappensDown, HappensUp, WantsFirst, client_after, connected_as, lines_of, new_circuit, told_by, up_taken}
 use Rattle.ca_model_world.specs.ServerEvents.{HappensAdd, HappensCutServer, HappensPost, HappensPump, HappensRemove, HappensServerRestart, disconnected_at, ending, ends_by, ends_untold, keys_concerned, number_of, numbers_posted, posted_entry, removal_entries, removed_at, stamped, with_number}
@@ -36,8 +37,8 @@ use Rattle.ca_laws_writes.proofs.Frames.{goes-self}
 use Rattle.ca_laws_writes.proofs.HappensAdd.{given-free}
 use Rattle.ca_laws_writes.proofs.HappensClient.{left-frame, sent-frame, up-frame}
 use Rattle.ca_laws_writes.proofs.HappensPost.{stamped-same}
-use Rattle.ca_laws_writes.proofs.Lasting.{EndsWere, IsNew, SameHeld, SameSeat, held-self, numbered_for, seat-of, told_gone}
-use Rattle.ca_laws_writes.proofs.LastingEvents.{is-here, not-here, one-end, were-closed, were-end, were-ended, were-self}
+use Rattle.ca_laws_writes.proofs.Lasting.{EndsWere, IsNew, SameHeld, SameSeat, numbered_for, seat-of, told_gone}
+use Rattle.ca_laws_writes.proofs.LastingEvents.{is-here, not-here, one-end, were-end, were-ended, were-self}
 use Rattle.ca_laws_writes.proofs.Lists.{beside-right}
 use Rattle.ca_laws_writes.proofs.Lives.{number-of}
 use Rattle.ca_laws_writes.proofs.Midway.{grown-back, grown-here}
@@ -57,6 +58,15 @@ sends-were old new h n (inr (none, zero_of, is)) = were-self old new (ap (λ (x 
 cuts-were : (y : Server) (h : Handle) (core : Server) → Cuts y h core → EndsWere y core
 cuts-were y h core (inl (e, has, is)) = subst (λ (x : Server). EndsWere y x) (sym is) (were-ended y h why.Cut e.link.output)
 cuts-were y h core (inr (none, is)) = were-self y core (ap (λ (x : Server). x.circuits) is)
+
+-- none of these has a name under which none is found
+not-named : (cs : List Record) (i : ℕ) (c : Record) (name : List ℕ) → At cs i c → c.state.name ≡ name → record_named cs name ≡ None → ⊥
+not-named cs i c name at named none =
+    let found_it = at-find (λ (x : Record). bytes_eq x.state.name name) cs i c at ((bytes_eq-Decides c.state.name name).1 named) in
+    none-some found_it.0 (sym none ∙ found_it.1)
+  where
+    none-some : (x : Record) → None ≡ Some x → ⊥
+    none-some x e = cc
 
 -- the record that a core finds under a name is among those of its server, which has its number
 pub named-there : (w : World) (i : ℕ) (y : ServerSide) (h : Writes w) (at : At w.servers i y) (name : List ℕ) (c : _) → Found (IsPutOf w.circuits i) (h.lives i y at).log y.core.records y.records name c
@@ -276,11 +286,13 @@ module _ (P : ℕ → List Entry → List RecordSide → ServerEnd → Joined �
       next : ServerSide
       next = record y { core = core; records = take behind y.records ++ record_begun y.added r ∷ drop behind y.records; added = y.added + 1 }
 
-      fresh : (x : RecordSide) → In y.records x → x.number ≡ y.added → ⊥
-      fresh x there is_number =
+      fresh : (x : RecordSide) → In y.records x → (x.number ≡ y.added → ⊥) × (x.name ≡ r.name → ⊥)
+      fresh x there =
           let b = beside-right (Agrees (IsPutOf w.circuits i) own.log) y.core.records y.records there.0 x own.life.each there.1 in
-          let below : x.number < y.added = own.life.numbers x.number (Added x.number b.2.first) b.2.added refl in
-          omega (arith, below, is_number)
+          let below : x.number < y.added = own.life.numbers x.number (Added x.number b.2.first) b.2.added refl in (
+            λ is_number. omega (arith, below, is_number),
+            λ is_name. not-named y.core.records there.0 b.0 r.name b.1 (b.2.name ∙ is_name) adds.0.1,
+          )
 
       after : AllEnds P (with_entries y.life (Added y.added r ∷ []) (with_server i next w))
       after n c z e lg on there opened has logged = elim (At-set w.servers i next c.server z there) [
@@ -291,7 +303,7 @@ module _ (P : ℕ → List Entry → List RecordSide → ServerEnd → Joined �
             At-one (grown y.life (Added y.added r ∷ []) w.server_logs) y.life lg (own.log ++ Added y.added r ∷ []) (subst (λ (l : ℕ). At (grown y.life (Added y.added r ∷ []) w.server_logs) l lg) life logged) (grown-here w.server_logs y.life own.log (Added y.added r ∷ []) own.at) in
             subst (λ (l : List Entry). P n l z.records e c) (sym one)
             (subst (λ (s : ServerSide). P n (own.log ++ Added y.added r ∷ []) s.records e c) (sym mine.1)
-            (k.added n own.log y.records y.added behind r e c fresh (all n c y e own.log on (subst (λ (l : ℕ). At w.servers l y) (sym mine.0) at) opened had own.at)))
+            (k.added n own.log y.records y.added behind r e c own.life.others fresh (all n c y e own.log on (subst (λ (l : ℕ). At w.servers l y) (sym mine.0) at) opened had own.at)))
         | inr old ↦ all n c z e lg on old.0 opened has (elim (grown-back w.server_logs y.life (Added y.added r ∷ []) z.life lg logged) [
           | inl same ↦ absurd (old.1 (h.apart c.server i z y old.0 at same))
           | inr was ↦ was

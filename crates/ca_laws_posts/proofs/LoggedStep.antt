@@ -22,30 +22,30 @@ use Rattle.ca_model.specs.Server.{Ended, Open, Server, ServerCircuit, ServerEnd}
 use Rattle.ca_model.specs.ServerCalls.{Replies, after_next, finish_reply, lacking, with_finish}
 use Rattle.ca_model.specs.ServerSteps.{Acts, HasEnd, LeftOf, Next, Reaches, Records, Stepped, closed, is_write, known_record, knows, stored_now, with_end, write_mask}
 use Rattle.ca_model.specs.ServerSteps as stepped
-use Rattle.ca_model.specs.History.{Applied, Entry, Sent, Step, Withdrawn}
-use Rattle.ca_model.specs.Speech.{In, Stored}
+use Rattle.ca_model.specs.History.{Applied, Entry, Sent, Step}
+use Rattle.ca_model.specs.Speech.{In}
 use Rattle.ca_model_world.specs.ServerEvents.{Finished, HappensFinish, HappensServerStep, ServerStepped, StepHandles, StepLacks, about, acted, channel_withdrawals, ending, ends_at, ends_by, ends_here, finish_entry, first_of, handled_at, logged, logged_by, next_busy, next_entries, next_numbers, number_of, numbers_after, numbers_posted, places_where, is_of_channel, records_after, replied_at, reported, server_after, side_of, unsaid, with_core, with_number, noted, withdrawals, without_channel, without_puts, write_numbers}
 use Rattle.ca_model_world.specs.ServerEvents as event
-use Rattle.ca_model_world.specs.World.{Joined, PutPlace, RecordSide, ServerSide, World, grown, with_circuit}
+use Rattle.ca_model_world.specs.World.{Joined, PutPlace, RecordSide, ServerSide, World, with_circuit}
 use Rattle.ca_laws_writes.specs.Agrees.{Agrees, AreOthers, WaitsAs}
 use Rattle.ca_laws_writes.specs.Both.{Both}
-use Rattle.ca_laws_writes.specs.Lives.{IsPutOf, Life}
+use Rattle.ca_laws_writes.specs.Lives.{IsPutOf}
 use Rattle.ca_laws_writes.specs.Moves.{Lives, Writes, finish_told}
 use Rattle.ca_laws_writes.specs.Seats.{Seated, TakesSent}
 use Rattle.ca_laws_writes.proofs.Cores.{each-there, records-stay}
 use Rattle.ca_laws_writes.proofs.Doing.{due-applies}
-use Rattle.ca_laws_writes.proofs.Events.{Found, SameEnds, found, next-same, same-self, same-trans}
+use Rattle.ca_laws_writes.proofs.Events.{SameEnds, found, next-same, same-self, same-trans}
 use Rattle.ca_laws_writes.proofs.Frames.{goes-self}
 use Rattle.ca_laws_writes.proofs.Lasting.{EndsWere, SameHeld, SameSeat, held-self, seat-of, told_late}
 use Rattle.ca_laws_writes.proofs.LastingEvents.{one-end, were-closed}
 use Rattle.ca_laws_writes.proofs.LastingStep.{replied-back, told-servers}
-use Rattle.ca_laws_writes.proofs.Lists.{In-append, both-at, none_at}
+use Rattle.ca_laws_writes.proofs.Lists.{both-at, none_at}
 use Rattle.ca_laws_writes.proofs.Lives.{number-of, others-apart}
 use Rattle.ca_laws_writes.proofs.Midway.{grown-back, grown-here, set-here}
 use Rattle.ca_laws_writes.proofs.Moves.{same-or}
 use Rattle.ca_laws_writes.proofs.Seats.{open-still}
 use Rattle.ca_laws_writes.proofs.Waited.{numbers-after-same, write-numbers-same}
-use Rattle.ca_laws_posts.specs.Entries.{AreQuiet, IsPost, IsQuiet, Tells, title, titles}
+use Rattle.ca_laws_posts.specs.Entries.{AreQuiet, IsQuiet, Tells, title, titles}
 use Rattle.ca_laws_posts.proofs.Logged.{AllEnds, Lasting, after-lasts, at-server, titles-kept, withdrawn-quiet}
 use Rattle.ca_laws_posts.proofs.LoggedEvents.{as-before, mapped-one, named-there, other-posted, post-ends-last}
 
@@ -181,7 +181,7 @@ pub life-tells : (w : World) (i : ℕ) (y : ServerSide) (h : Writes w) (at : At 
 life-tells w i y h at name c named =
     let own = h.lives i y at in
     let f = found (IsPutOf w.circuits i) own.log y.core.records y.records name c own.life.each named in
-    (f.r, (f.i, f.in_rs), f.named, f.agrees.value)
+    (f.r, (f.i, f.in_rs), f.named, ap (λ (n : List ℕ). number_of n y.records) (sym f.named) ∙ number-of y.records f.i f.r own.life.others f.in_rs, f.agrees.value)
 
 module _ (P : ℕ → List Entry → List RecordSide → ServerEnd → Joined → Type 0) (k : Lasting P) where
   -- the same names
@@ -214,8 +214,7 @@ module _ (P : ℕ → List Entry → List RecordSide → ServerEnd → Joined �
   finished-lasts : (w new : World) (i : ℕ) (y : ServerSide) (name : List ℕ) → At w.servers i y → Finished w i y name new → Writes w → Seated w → AllEnds P w → AllEnds P new
   finished-lasts w new i y name at f h seated all =
       subst (λ (z : World). AllEnds P z) (sym f.leaves)
-      (after-lasts P w i y f.core own.log k mid side (ends_by i f.core) (own.log ++ more) at own.at h.apart refl
-      (
+      (after-lasts P w i y f.core own.log k mid side (ends_by i f.core) (own.log ++ more) at own.at h.apart refl (
         subst (λ (l : List (List Entry)). At l y.life (own.log ++ more)) (sym (told-logs f.p f.sent told)) (grown-here w.server_logs y.life own.log more own.at),
         λ l z there other. elim (grown-back w.server_logs y.life more l z (subst (λ (ls : List (List Entry)). At ls l z) (told-logs f.p f.sent told) there)) [ inl mine ↦ absurd (other mine) | inr old ↦ old ],
       )
@@ -573,8 +572,7 @@ module _ (P : ℕ → List Entry → List RecordSide → ServerEnd → Joined �
         | inl own ↦ inl own
         | inr old ↦ inr (acted-servers w m j y did l z old.0 old.1, old.1)
       ])
-      refl refl
-      (
+      refl refl (
         grown-here mid.server_logs y.life (log ++ more) gone_entries (grown-here w.server_logs y.life log more (wr.lives i y server).at),
         λ l z there other. elim (grown-back mid.server_logs y.life gone_entries l z there) [
           | inl mine ↦ absurd (other mine)

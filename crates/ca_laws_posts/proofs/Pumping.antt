@@ -1,12 +1,12 @@
 -- What is held of an end's queues and of its circuit's numbers, as updates leave the queues, and as other messages go down.
-use Rattle.std.proofs.Common.{◌≡◌, ℕ, zero, suc, ◌+◌, ◌<◌, ◌⊎◌, inl, inr, Bool, true, false, cond, eqb, eq-eqb, ne_eqb, List, [], ◌∷◌, ◌++◌, length, Option, Some, None, refl, sym, ap, subst, ◌∙◌, append-nil, arith}
-use Rattle.std.specs.Prelude.{drop, filter_map, map, option_and_then, option_map, slice_get, slice_set, unwrap_or}
+use Rattle.std.proofs.Common.{◌≡◌, ℕ, zero, suc, ◌<◌, ◌⊎◌, inl, inr, Bool, true, false, cond, eq-eqb, ne_eqb, List, [], ◌∷◌, ◌++◌, length, Option, Some, None, refl, sym, ap, subst, ◌∙◌, append-nil, arith}
+use Rattle.std.specs.Prelude.{drop, map, option_and_then, option_map, slice_get, slice_set, unwrap_or}
 use Rattle.std.specs.List.{FoldsTo, cons_option}
 use Rattle.std.proofs.lemmas.List.Elements.{filter_map-append}
 use Rattle.ca_queue.specs.declared.entry.SubKey.{SubKey}
 use Rattle.ca_queue.specs.Images.{image_if, images, queue_images}
 use Rattle.ca_queue.specs.Keys.{is_among, same}
-use Rattle.ca_queue.specs.Queue.{Queue, switched, with_front_taken}
+use Rattle.ca_queue.specs.Queue.{Queue, with_front_taken}
 use Rattle.ca_queue.specs.Waiting.{after_take, entries_of, front, may_take, taken}
 use Rattle.ca_queue.proofs.Images.{front_taken_images, taken_images}
 use Rattle.ca_queue.proofs.Keys.{same_itself}
@@ -17,14 +17,13 @@ use Rattle.ca_model.specs.History.{Cause, Reply, Told, Update}
 use Rattle.ca_model.specs.Server.{ServerEnd, Subscription, key_of}
 use Rattle.ca_model.specs.ServerSteps.{Leaves}
 use Rattle.ca_model.specs.ServerSteps as stepped
-use Rattle.ca_model.specs.Speech.{In, Stored}
+use Rattle.ca_model.specs.Speech.{Stored}
 use Rattle.ca_model.specs.Updates.{ShowsTo}
 use Rattle.ca_model_world.specs.ServerEvents.{front_number, stamped}
 use Rattle.ca_model_world.specs.World.{Joined, Standing}
 use Rattle.ca_laws_updates.specs.InStep.{Numbered, number_in, value_in}
 use Rattle.ca_laws_updates.specs.Rising.{Rising}
 use Rattle.ca_laws_updates.proofs.Rising.{rising-other-taken, rising-taken}
-use Rattle.ca_laws_writes.specs.Both.{Both}
 use Rattle.ca_laws_writes.proofs.Lists.{beside-left, both-all, none_at}
 use Rattle.ca_laws_writes.proofs.Midway.{set-here}
 use Rattle.ca_laws_writes.proofs.Moves.{same-or}
@@ -276,6 +275,10 @@ holds-leaves posts u e mid c l h =
             subst (λ (x : Standing). Counts posts d.lists.down both sub x) s_is (subst (λ (x : Subscription). Counts posts d.lists.down both x st) sub_is own-now)
         go false is = other-now i sub s at_s is k
 
+    one-early : (i : ℕ) (k : Told) → At (message ∷ []) i k → k.place < length c.lists.handled
+    one-early zero k at = subst (λ (n : ℕ). n < length c.lists.handled) (ap (λ (v : Told). v.place) (some_is message k at)) (h.stood l.stands.0 st pair.1)
+    one-early (suc i) k at = absurd (none_at i k at)
+
     whole : Holds posts e.subscriptions (slice_set e.queues u.queue (with_front_taken l.q)) d
     whole = record {
       both = both;
@@ -297,6 +300,11 @@ holds-leaves posts u e mid c l h =
             ap (λ (v : Queue Numbered). entries_of k v.waiting) this.1
             ∙ none-after k z.events_on z.waiting (h.tidy u.queue z k b.1 (ap (λ (v : Queue Numbered). is_among k v.subscriptions) (sym this.1) ∙ none))
         | inr old ↦ h.tidy i x k old.0 none
+      ];
+      stood = h.stood;
+      early = λ j a k at cause. elim (At-parts c.lists.down (message ∷ []) j k at) [
+        | inl old ↦ h.early j a k old cause
+        | inr last ↦ one-early last.0 k last.2
       ];
     }
 

@@ -4,6 +4,7 @@ use Rattle.ca_records.specs.Puts.{Record, record_named}
 use Rattle.ca_model.specs.History.{Applied, Entry, Finished, Posted, Waits, Withdrawn}
 use Rattle.ca_model.specs.ServerSteps.{write_mask}
 use Rattle.ca_model.specs.Speech.{In, Stored}
+use Rattle.ca_model_world.specs.ServerEvents.{number_of}
 use Rattle.ca_model_world.specs.World.{RecordSide}
 use Rattle.ca_laws_writes.specs.Agrees.{stored, value_by}
 
@@ -33,4 +34,4 @@ titles rs = map title rs
 -- The log tells the value of each record that a core has.
 abbrev pub Tells : List Entry → List Record → List RecordSide → Type 0
 Tells log cs rs = (name : List ℕ) (c : Record) → record_named cs name ≡ Some c
-    → (r : RecordSide) × In rs r × (r.name ≡ name) × (value_by log r.number ≡ Some (stored c))
+    → (r : RecordSide) × In rs r × (r.name ≡ name) × (number_of name rs ≡ r.number) × (value_by log r.number ≡ Some (stored c))

@@ -1,5 +1,5 @@
 -- Working: what holds of an open end's queues and of its circuit's numbers, by the posts that each subscription sees.
-use Rattle.std.specs.Prelude.{ℕ, ◌≡◌, ◌==◌, true, false, List, [], Option, Some, None, filter_map, if◌then◌else◌, length, map, slice_get, unwrap_or}
+use Rattle.std.specs.Prelude.{ℕ, ◌≡◌, ◌<◌, ◌==◌, true, false, List, [], Option, Some, None, filter_map, if◌then◌else◌, length, map, slice_get, unwrap_or}
 use Rattle.ca_queue.specs.declared.entry.SubKey.{SubKey}
 use Rattle.ca_queue.specs.Images.{queue_images}
 use Rattle.ca_queue.specs.Keys.{AreApart, is_among}
@@ -61,7 +61,7 @@ pub record Counts (posts : Subscription → ℕ → List Stored) (down : List To
 -- ---- an end
 
 -- So it is of each subscription that stands, of which each has its own key and place. Values and numbers wait in step, and each for a
--- subscription that stands.
+-- subscription that stands. The EVENT_ADDs of those that stand, and of updates that were sent, were handled.
 pub record Holds (posts : Subscription → ℕ → List Stored) (subs : List Subscription) (values : List (Queue Stored)) (c : Joined) : Type 0 where
   pub both : List (Queue Numbered)
   pub values_are : values ≡ map (queue_images value_in) both
@@ -71,3 +71,5 @@ pub record Holds (posts : Subscription → ℕ → List Stored) (subs : List Sub
   pub lone : (i j : ℕ) (s t : Standing) → At c.standing i s → At c.standing j t → s.place ≡ t.place → i ≡ j
   pub seats : (i : ℕ) (x : Queue Numbered) (key : SubKey) → At both i x → is_among key x.subscriptions ≡ true → is_among key (keys_standing c) ≡ true
   pub tidy : (i : ℕ) (x : Queue Numbered) (key : SubKey) → At both i x → is_among key x.subscriptions ≡ false → entries_of key x.waiting ≡ []
+  pub stood : (i : ℕ) (st : Standing) → At c.standing i st → st.place < length c.lists.handled
+  pub early : (j a : ℕ) (t : Told) → At c.lists.down j t → t.cause ≡ Update a → t.place < length c.lists.handled

@@ -1,2 +1,4 @@
 pub mod Entries
 pub mod Holds
+pub mod Follows
+pub mod Clause

@@ -10,7 +10,7 @@ use Rattle.ca_monitor.specs.Subscriptions.{Subscription, drains_in, is_to, over_
 -- the subscriptions that are meant
 abbrev pub named : Which → Subscription → Bool
 named (which.ToChannel channel) = is_to channel
-named (which.DrainingTo channel circuit) = λ (s : Subscription). is_to channel s && drains_in circuit s.stage
+named (which.DrainingTo circuit channel) = λ (s : Subscription). is_to channel s && drains_in circuit s.stage
 named (which.DrainingOn circuit) = λ (s : Subscription). drains_in circuit s.stage
 
 -- a place whose id is free if the subscription there is meant

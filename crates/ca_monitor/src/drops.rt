@@ -9,8 +9,8 @@ use crate::subscription::Subscription;
 use ca_arena::Handle;
 use ca_ids::HeldTable;
 
-/// Which subscriptions are meant: those to a channel; of these the ones whose ids drain on a circuit; or all whose ids drain
-/// on a circuit.
+/// Which subscriptions are meant: those to a channel; those whose ids drain on a circuit, and that are to a channel; or all whose ids
+/// drain on a circuit.
 #[derive(Clone, Copy, Debug, PartialEq, Eq)]
 pub(crate) enum Which {
     ToChannel(Handle),
@@ -25,7 +25,7 @@ impl Which {
     {
         match self {
             Which::ToChannel(channel) => subscription.is_to(channel),
-            Which::DrainingTo(channel, circuit) => {
+            Which::DrainingTo(circuit, channel) => {
                 subscription.is_to(channel) && subscription.stage.drains_in(circuit)
             }
             Which::DrainingOn(circuit) => subscription.stage.drains_in(circuit),

@@ -13,7 +13,7 @@ use crate::stage::Stage;
 use crate::subscription::Subscription;
 use ca_arena::Handle;
 use ca_ids::{HeldTable, WireId};
-use ca_text::Refusal;
+use ca_text::{Mask, Refusal};
 use std::alloc::{AllocError, Global};
 use std::marker::Model;
 
@@ -58,7 +58,7 @@ impl Monitors {
         channel: Handle,
         data_type: u16,
         count: u32,
-        mask: u16,
+        mask: Mask,
     ) -> Result<(), AllocError>
         ensures { Adds
             self.old
@@ -103,7 +103,7 @@ impl Monitors {
     /// A subscription that stands is cancelled on this circuit: its id drains until the confirmation.
     ///
     /// Refused as StaleHandle if none stands under the handle.
-    pub fn cancel(&mut self, handle: Handle, circuit: Handle) -> Result<Subscription, Refusal>
+    pub fn cancel(&mut self, circuit: Handle, handle: Handle) -> Result<Subscription, Refusal>
         ensures { Comes (monitor.Cancelled circuit) self.old handle result self.new }
     {
         let Some(found) = self.standing(handle) else {
@@ -116,7 +116,7 @@ impl Monitors {
     /// A subscription that stands is over: its id drains on this circuit until its channel's clear is answered.
     ///
     /// Refused as StaleHandle if none stands under the handle.
-    pub fn end(&mut self, handle: Handle, circuit: Handle) -> Result<Subscription, Refusal>
+    pub fn end(&mut self, circuit: Handle, handle: Handle) -> Result<Subscription, Refusal>
         ensures { Comes (monitor.Ended circuit) self.old handle result self.new }
     {
         let Some(found) = self.standing(handle) else {
@@ -197,7 +197,7 @@ impl Monitors {
     pub fn drained(&mut self, circuit: Handle, channel: Handle)
         ensures { self.new ≡ channel_drained circuit channel self.old }
     {
-        free_all(&mut self.table, Which::DrainingTo(channel, circuit));
+        free_all(&mut self.table, Which::DrainingTo(circuit, channel));
     }
 
     /// The ids that drain on this circuit are free. It does not allocate.

@@ -3,10 +3,11 @@ ghost use Rattle.ca_monitor.specs.Subscriptions.{is_to};
 
 use crate::stage::{Stage, is_same};
 use ca_arena::Handle;
+use ca_text::Mask;
 use std::marker::Model;
 
 /// A subscription: its channel, what was asked for, and how far it is.
-#[derive(Clone, Copy, Debug, PartialEq, Eq)]
+#[derive(Clone, Copy, Debug)]
 pub struct Subscription {
     /// The channel of the client that it is to.
     pub channel: Handle,
@@ -15,7 +16,7 @@ pub struct Subscription {
     /// The count of their elements.
     pub count: u32,
     /// The events that it is about.
-    pub mask: u16,
+    pub mask: Mask,
     /// Whether it stands.
     pub stage: Stage,
 }

@@ -1,17 +1,19 @@
 -- The requests of each circuit and of each channel, as the table and the lines change.
-use Rattle.std.proofs.Common.{◌≡◌, ◌≢◌, ◌⊎◌, ℕ, zero, suc, ◌==◌, ◌&&◌, inl, inr, Bool, true, false, List, [], ◌∷◌, ◌++◌, length, map, Option, Some, None, Ok, option_map, if◌then◌else◌, refl, sym, ap, ◌∙◌, subst, filter, arith, length-append}
+use Rattle.std.proofs.Common.{◌≡◌, ◌≢◌, ◌⊎◌, ◌<◌, slice_index_or, slice_set, ℕ, zero, suc, ◌==◌, ◌&&◌, inl, inr, Bool, true, false, List, [], ◌∷◌, ◌++◌, length, map, Option, Some, None, Ok, option_map, if◌then◌else◌, refl, sym, ap, ◌∙◌, subst, filter, arith, length-append}
 use Rattle.std.proofs.lemmas.Bool.{cases_eq, cases_lt, eq-eqb, eqb-true, ne_eqb}
-use Rattle.std.proofs.lemmas.List.{append-nil, get_or_append_left, get_or_past, get_or_push}
+use Rattle.std.proofs.lemmas.List.{append-nil, get_or-set_other, get_or-set_same, get_or_append_left, get_or_past, get_or_push}
 use Rattle.std.proofs.lemmas.List.Elements.{filter-append}
+use Rattle.std.proofs.lemmas.Option.{get_or_from_slice_get, slice_get-get_or}
 use Rattle.ca_arena.specs.declared.handle.Handle.{Handle}
 use Rattle.ca_arena.specs.Arena.{Place, place_at, value_for}
 use Rattle.ca_text.specs.Place.{At}
 use Rattle.ca_text.proofs.Places.{At-append, At-last, some_is}
 use Rattle.ca_ids.specs.Table.{MayGive, Table, kept_of, same_handle, under, with_freed, with_held}
 use Rattle.ca_ids.specs.Holding.{Fills}
-use Rattle.ca_requests.specs.Layout.{AreGiven}
-use Rattle.ca_requests.specs.Lines.{AreAllListed, AreLines, AreOf, AreRequests, Hands, Line, Notes, Readies, ReadyAll, belongs, channel_of, circuit_of, handed_to, line_at, no_line, told_of}
-use Rattle.ca_requests.specs.Requests.{Open, Request, asks_on, in_order_of_issue, is_open, is_open_in, over_on, was_sent_on}
+use Rattle.ca_requests.specs.Calls.{Issued, MayIssue}
+use Rattle.ca_requests.specs.Layout.{AreGiven, issued_of}
+use Rattle.ca_requests.specs.Lines.{AreAllListed, AreLines, AreOf, AreRequests, Hands, IsAt, Line, MayBeOf, Notes, Readies, ReadyAll, belongs, channel_of, circuit_of, handed_to, line_at, no_line, told_of}
+use Rattle.ca_requests.specs.Requests.{Draining, Open, Request, Stage, asks_on, in_order_of_issue, is_open, is_open_in, over_on, was_sent_on}
 use Rattle.ca_requests.proofs.Orders.{filter-narrow, given-filter, given-grows, given-push}
 use Rattle.ca_requests.proofs.Tables.{Dims, Grows, Keeps, Stays, any, by_value, dims-freed, dims-over, first_of, given-new, grows-freed, grows-held, grows-map, keeps-freed, keeps-map, none-freed, none-over, opens, opens-any, place-beside, place-held, second_of, stays-freed, stays-over, true_or_false, under-beside, under-held}
 
@@ -84,7 +86,7 @@ abbrev pub line : Handle → List Handle → ℕ → Line
 line c xs n = record { owner = c; handles = xs; room = n }
 
 pub readies-same : (t : Table Request) (l : Line) → Readies t l l
-readies-same t l = record { same = λ which. refl; given = λ h. h; owned = λ h. h; also = λ h. h }
+readies-same t l = record { same = λ which. refl; given = λ h. h; owned = λ h. h; also = λ h. h; placed = λ i h. h }
 
 pub readies-filtered : (t : Table Request) (c : Handle) (xs ys : List Handle) (m n : ℕ) → ys ≡ filter (is_open any t) xs → Readies t (line c xs m) (line c ys n)
 readies-filtered t c xs ys m n is = record {
@@ -92,6 +94,7 @@ readies-filtered t c xs ys m n is = record {
   given = λ h. subst (λ (zs : List Handle). AreGiven t zs) (sym is) (given-filter t (is_open any t) xs h);
   owned = λ h. subst (λ (zs : List Handle). AreOf circuit_of t c zs) (sym is) (of-filter circuit_of t c (is_open any t) xs h);
   also = λ h. subst (λ (zs : List Handle). AreOf channel_of t c zs) (sym is) (of-filter channel_of t c (is_open any t) xs h);
+  placed = λ i h. elim h [ inl none ↦ inl (is ∙ ap (filter (is_open any t)) none) | inr at ↦ inr at ];
 }
 
 pub readies-emptied : (t : Table Request) (c d : Handle) (xs ys : List Handle) (m n : ℕ) → ys ≡ filter (is_open any t) xs → ys ≡ [] → Readies t (line c xs m) (line d ys n)
@@ -100,6 +103,7 @@ readies-emptied t c d xs ys m n is none = record {
   given = λ h. subst (λ (zs : List Handle). AreGiven t zs) (sym none) tt;
   owned = λ h. subst (λ (zs : List Handle). AreOf circuit_of t d zs) (sym none) tt;
   also = λ h. subst (λ (zs : List Handle). AreOf channel_of t d zs) (sym none) tt;
+  placed = λ i h. inl none;
 }
 
 pub empty-of : (xs : List Handle) → length xs ≡ 0 → xs ≡ []
@@ -112,7 +116,31 @@ readies-on t a b c first next = record {
   given = λ h. next.given (first.given h);
   owned = λ h. next.owned (first.owned h);
   also = λ h. next.also (first.also h);
+  placed = λ i h. next.placed i (first.placed i h);
 }
+
+-- a line that has more room
+pub readies-alike : (t : Table Request) (a b d : Line) → Readies t a b → d.owner ≡ b.owner → d.handles ≡ b.handles → Readies t a d
+readies-alike t a b d r owner handles = record {
+  same = λ which. ap (in_order_of_issue which t) handles ∙ r.same which;
+  given = λ h. subst (λ (ys : List Handle). AreGiven t ys) (sym handles) (r.given h);
+  owned = λ h. subst (λ (c : Handle). AreOf circuit_of t c d.handles) (sym owner) (subst (λ (ys : List Handle). AreOf circuit_of t b.owner ys) (sym handles) (r.owned h));
+  also = λ h. subst (λ (c : Handle). AreOf channel_of t c d.handles) (sym owner) (subst (λ (ys : List Handle). AreOf channel_of t b.owner ys) (sym handles) (r.also h));
+  placed = λ i h. elim (r.placed i h) [ inl none ↦ inl (handles ∙ none) | inr at ↦ inr (ap (λ (c : Handle). c.index) owner ∙ at) ];
+}
+
+-- one of the lines lost some, or came to another owner
+pub readies-one : (t : Table Request) (old xs : List Line) (k : ℕ) (x y : Line) → ((i : ℕ) → line_at xs i ≡ line_at old i) → k < length xs → x ≡ slice_index_or xs k x → Readies t x y → ReadyAll t old (slice_set xs k y)
+readies-one t old xs k x y same within found ready = λ i. elim (cases_eq i k) [
+  | inl here ↦
+      let new : line_at (slice_set xs k y) i ≡ y = ap (line_at (slice_set xs k y)) here ∙ get_or-set_same xs k y no_line within in
+      let at : At xs k x = slice_get-get_or xs k x within ∙ ap (λ (l : Line). Some l) (sym found) in
+      let was : x ≡ line_at old i = sym (get_or_from_slice_get xs k x no_line at) ∙ same k ∙ ap (line_at old) (sym here) in
+      subst (λ (l : Line). Readies t l (line_at (slice_set xs k y) i)) was (subst (λ (l : Line). Readies t x l) (sym new) ready)
+  | inr other ↦
+      let new : line_at (slice_set xs k y) i ≡ line_at old i = get_or-set_other xs k i y no_line other ∙ same i in
+      subst (λ (l : Line). Readies t (line_at old i) l) (sym new) (readies-same t (line_at old i))
+]
 
 -- what is open and named was
 narrow : (t u : Table Request) → Keeps t u → (which : Request → Bool) (q : Handle) → is_open which u q ≡ true → is_open which t q ≡ true
@@ -134,6 +162,10 @@ issued-all t q r listed may all = λ h opened.
       | inr was ↦ (let there = all h was in (there.0, At-append listed (q ∷ []) there.0 h there.1))
     ]
 
+open-stage : (s : Stage) → is_open_in s ≡ true → s ≡ Open
+open-stage Open h = refl
+open-stage Draining h = absurd cc
+
 none-kept : (n : Handle → Bool) (q : Handle) → n q ≡ false → filter n (q ∷ []) ≡ []
 none-kept n q h = rw h refl
 
@@ -143,6 +175,7 @@ module _ (whose : Request → Handle) where
     same = λ c. old.same c ∙ sym (filtered-same t listed (belongs whose c));
     given = old.given;
     owned = old.owned;
+    placed = old.placed;
   }
 
   -- ---- the table thins
@@ -165,6 +198,7 @@ module _ (whose : Request → Handle) where
         ∙ filter-narrow n p listed (narrow t u keeps (belongs whose c));
     given = λ i. given-grows t u (line_at lines i).handles grows (old.given i);
     owned = λ i. of-thins t u keeps (line_at lines i).owner (line_at lines i).handles (old.owned i);
+    placed = old.placed;
   }
 
   -- ---- a request is issued
@@ -242,6 +276,11 @@ module _ (whose : Request → Handle) where
                   subst (λ (l : Line). AreOf whose u l.owner l.handles) (sym (notes.others i other))
                   (of-beside t q r (line_at lines i).owner (line_at lines i).handles may (old.given i) (old.owned i))
             ];
+        placed = λ i.
+            elim (cases_eq i k) [
+              | inl here ↦ inr (ap (λ (j : ℕ). (line_at next j).owner.index) here ∙ ap (λ (c : Handle). c.index) notes.owner ∙ sym here)
+              | inr other ↦ subst (λ (l : Line). IsAt i l) (sym (notes.others i other)) (old.placed i)
+            ];
       }
 
   -- ---- those of an owner are handed out
@@ -290,6 +329,29 @@ module _ (whose : Request → Handle) where
         | inr not_named ↦ rw not_named (no-open u c which xs all.1 none)
       ]
 
+  -- of an index of which no other owner has an open request
+  pub may-be-of : (t : Table Request) (listed : List Handle) (lines : List Line) (c : Handle) → ((q : Handle) (r : Request) → under t q ≡ Some r → r.stage ≡ Open → (whose r).index ≡ c.index → whose r ≡ c) → AreLines whose t listed lines → MayBeOf t c (line_at lines c.index)
+  may-be-of t listed lines c alone old = λ other. elim (old.placed c.index) [
+    | inl none ↦ ap (filter (is_open any t)) none
+    | inr at ↦ no-open t l.owner any l.handles (old.owned c.index) (λ q. closed other at q (true_or_false (is_open (belongs whose l.owner) t q)))
+  ]
+    where
+      l : Line
+      l = line_at lines c.index
+
+      found : (q : Handle) (o : Option Request) → under t q ≡ o → opens (belongs whose l.owner) o ≡ true → l.owner.index ≡ c.index → l.owner ≡ c
+      found q None there opened at = absurd cc
+      found q (Some r) there opened at =
+          let own : whose r ≡ l.owner = one-handle (whose r) l.owner (first_of (same_handle (whose r) l.owner) (is_open_in r.stage) opened) in
+          sym own ∙ alone q r there (open-stage r.stage (second_of (same_handle (whose r) l.owner) (is_open_in r.stage) opened)) (ap (λ (h : Handle). h.index) own ∙ at)
+
+      closed : same_handle l.owner c ≡ false → l.owner.index ≡ c.index → (q : Handle) → (is_open (belongs whose l.owner) t q ≡ true) ⊎ (is_open (belongs whose l.owner) t q ≡ false) → is_open (belongs whose l.owner) t q ≡ false
+      closed other at q (inr not_open) = not_open
+      closed other at q (inl opened) =
+          let same : same_handle l.owner c ≡ true = ap (λ (h : Handle). same_handle h c) (found q (under t q) refl opened at) ∙ same-itself c in
+          let bad : false ≡ true = sym other ∙ same in
+          absurd cc
+
   lines-handed : (u : Table Request) (listed : List Handle) (lines next : List Line) (c : Handle) → ((q : Handle) → is_open (belongs whose c) u q ≡ false) → Hands c lines next → AreLines whose u listed lines → AreLines whose u listed next
   lines-handed u listed lines next c none hands old =
       let k = c.index in
@@ -320,6 +382,10 @@ module _ (whose : Request → Handle) where
                     (subst (λ (ys : List Handle). AreOf whose u (line_at next k).owner ys) (sym empty) tt)
                 | inr other ↦ subst (λ (m : Line). AreOf whose u m.owner m.handles) (sym (hands.others i other)) (old.owned i)
               ];
+              placed = λ i. elim (cases_eq i k) [
+                | inl here ↦ inl (ap (λ (j : ℕ). (line_at next j).handles) here ∙ empty)
+                | inr other ↦ subst (λ (m : Line). IsAt i m) (sym (hands.others i other)) (old.placed i)
+              ];
             }
         | inr other_circuit ↦
             let same : (line_at next k).handles ≡ l.handles = hands.handles ∙ ap (λ (b : Bool). let ys : List Handle = if b then [] else l.handles in ys) other_circuit in
@@ -345,6 +411,15 @@ module _ (whose : Request → Handle) where
                     (subst (λ (ys : List Handle). AreOf whose u l.owner ys) (sym same) (old.owned k)))
                 | inr other ↦ subst (λ (m : Line). AreOf whose u m.owner m.handles) (sym (hands.others i other)) (old.owned i)
               ];
+              placed = λ i. elim (cases_eq i k) [
+                | inl here ↦
+                    let there : IsAt k (line_at next k) = elim (old.placed k) [
+                      | inl none ↦ inl (same ∙ none)
+                      | inr at ↦ inr (ap (λ (d : Handle). d.index) hands.owner ∙ at)
+                    ] in
+                    subst (λ (j : ℕ). IsAt j (line_at next j)) (sym here) there
+                | inr other ↦ subst (λ (m : Line). IsAt i m) (sym (hands.others i other)) (old.placed i)
+              ];
             }
       ]
 
@@ -358,11 +433,13 @@ requests-readied t listed lines next mine own ready also old = record {
     same = λ c. (ready c.index).same (was_sent_on c) ∙ old.circuits.same c;
     given = λ i. (ready i).given (old.circuits.given i);
     owned = λ i. (ready i).owned (old.circuits.owned i);
+    placed = λ i. (ready i).placed i (old.circuits.placed i);
   };
   channels = record {
     same = λ h. (also h.index).same (asks_on h) ∙ old.channels.same h;
     given = λ i. (also i).given (old.channels.given i);
     owned = λ i. (also i).also (old.channels.owned i);
+    placed = λ i. (also i).placed i (old.channels.placed i);
   };
 }
 
@@ -461,3 +538,13 @@ line-pushed lines i =
             ∙ sym (get_or_past lines i no_line past)
       ]
     ]
+
+-- ---- who may issue
+
+pub circuit-may : (x : Issued) (t : Table Request) (listed : List Handle) (lines mine : List Line) (h c : Handle) → issued_of t listed ≡ x → MayIssue h c x → AreRequests t listed lines mine → MayBeOf t c (line_at lines c.index)
+circuit-may x t listed lines mine h c is may old =
+    may-be-of circuit_of t listed lines c (λ q r there. may.on_circuit q r (ap (λ (y : Issued). under y.table q) (sym is) ∙ there)) old.circuits
+
+pub channel-may : (x : Issued) (t : Table Request) (listed : List Handle) (lines mine : List Line) (h c : Handle) → issued_of t listed ≡ x → MayIssue h c x → AreRequests t listed lines mine → MayBeOf t h (line_at mine h.index)
+channel-may x t listed lines mine h c is may old =
+    may-be-of channel_of t listed mine h (λ q r there. may.on_channel q r (ap (λ (y : Issued). under y.table q) (sym is) ∙ there)) old.channels

@@ -6,7 +6,7 @@ use Rattle.ca_text.specs.Status.{normal}
 use Rattle.ca_dbr.specs.declared.value.Outcome.{Outcome}
 use Rattle.ca_dbr.specs.Reading.{ReadRefused}
 use Rattle.ca_arena.specs.declared.handle.Handle.{Handle}
-use Rattle.ca_ids.specs.Table.{MayGive, Table, with_freed, with_held}
+use Rattle.ca_ids.specs.Table.{MayGive, Table, under, with_freed, with_held}
 use Rattle.ca_wire.specs.Fields.{Fields}
 use Rattle.ca_requests.specs.Meaning.{Means}
 use Rattle.ca_requests.specs.Requests.{Asked, Draining, Open, Request, Stage, answered_by, in_order_of_issue}
@@ -27,6 +27,11 @@ open_of which x = in_order_of_issue which x.table x.order
 -- a request on this channel that is sent on this circuit: it is open
 abbrev pub new_request : (channel circuit : Handle) → Asked → Request
 new_request channel circuit asked = record { channel = channel; circuit = circuit; asked = asked; stage = Open }
+
+-- Of the indices of this channel and this circuit no other channel and no other circuit has an open request.
+pub record MayIssue (channel circuit : Handle) (x : Issued) : Type 0 where
+  pub on_channel : (q : Handle) (r : Request) → under x.table q ≡ Some r → r.stage ≡ Open → r.channel.index ≡ channel.index → r.channel ≡ channel
+  pub on_circuit : (q : Handle) (r : Request) → under x.table q ≡ Some r → r.stage ≡ Open → r.circuit.index ≡ circuit.index → r.circuit ≡ circuit
 
 -- this request is the last that was issued
 abbrev pub issued_last : Handle → Request → Issued → Issued

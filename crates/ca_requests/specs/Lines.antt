@@ -1,5 +1,5 @@
 -- Working: the requests of each circuit, and those of each channel, beside those of all. No clause of a caller needs it.
-use Rattle.std.specs.Prelude.{ℕ, ◌≡◌, ◌≢◌, ◌<◌, ◌++◌, Bool, true, List, [], ◌∷◌, if◌then◌else◌, length, slice_index_or}
+use Rattle.std.specs.Prelude.{ℕ, ◌≡◌, ◌≢◌, ◌⊎◌, ◌<◌, ◌++◌, Bool, false, true, List, [], ◌∷◌, if◌then◌else◌, length, slice_index_or}
 use Rattle.std.specs.List.{AllByRecursion}
 use Rattle.ca_arena.specs.declared.handle.Handle.{Handle}
 use Rattle.ca_text.specs.Place.{At}
@@ -37,12 +37,21 @@ abbrev pub AreOf : (whose : Request → Handle) → Table Request → Handle →
 AreOf whose t c xs =
     AllByRecursion (λ (q : Handle). is_open (λ (r : Request). true) t q ≡ true → is_open (belongs whose c) t q ≡ true) xs
 
+-- The line may come to this owner: it is its own, or none in it is open.
+abbrev pub MayBeOf : Table Request → Handle → Line → Type 0
+MayBeOf t c l = same_handle l.owner c ≡ false → in_order_of_issue (λ (r : Request). true) t l.handles ≡ []
+
+-- The line at this index is its owner's, or has none.
+abbrev pub IsAt : ℕ → Line → Type 0
+IsAt i l = (l.handles ≡ []) ⊎ (l.owner.index ≡ i)
+
 -- A line lost some that are over, or came to another owner.
 pub record Readies (t : Table Request) (old new : Line) : Type 0 where
   pub same : (which : Request → Bool) → in_order_of_issue which t new.handles ≡ in_order_of_issue which t old.handles
   pub given : AreGiven t old.handles → AreGiven t new.handles
   pub owned : AreOf circuit_of t old.owner old.handles → AreOf circuit_of t new.owner new.handles
   pub also : AreOf channel_of t old.owner old.handles → AreOf channel_of t new.owner new.handles
+  pub placed : (i : ℕ) → IsAt i old → IsAt i new
 
 -- each line did
 abbrev pub ReadyAll : Table Request → List Line → List Line → Type 0
@@ -59,6 +68,7 @@ pub record AreLines (whose : Request → Handle) (t : Table Request) (listed : L
   pub same : (c : Handle) → in_order_of_issue (belongs whose c) t (line_at lines c.index).handles ≡ in_order_of_issue (belongs whose c) t listed
   pub given : (i : ℕ) → AreGiven t (line_at lines i).handles
   pub owned : (i : ℕ) → AreOf whose t (line_at lines i).owner (line_at lines i).handles
+  pub placed : (i : ℕ) → IsAt i (line_at lines i)
 
 -- what is handed out of a line as that of this owner
 abbrev pub told_of : Handle → Line → List Handle

@@ -1,6 +1,8 @@
 //! The requests of one circuit or one channel, so that its end needs no look at the others.
 ghost use Rattle.std.specs.Prelude.{◌≡◌, ◌<◌, ◌++◌, ◌∷◌, [], OnOk};
-ghost use Rattle.ca_requests.specs.Lines.{Readies, handed_to, no_line, told_of};
+ghost use Rattle.ca_ids.specs.Table.{Table};
+ghost use Rattle.ca_requests.specs.Requests as request;
+ghost use Rattle.ca_requests.specs.Lines.{MayBeOf, Readies, handed_to, no_line, told_of};
 
 use crate::request::{Request, is_same};
 use crate::requests::forget;
@@ -51,37 +53,34 @@ impl Line {
         }
     }
 
-    /// Makes room for one more request of this owner. There is none while one of another is open.
+    /// Makes room for one more request of this owner.
     pub(crate) fn prepare(
         &mut self,
         table: &HeldTable<Request>,
         owner: Handle,
     ) -> Result<(), AllocError>
+        requires { MayBeOf table.now owner self.old }
         ensures readies { Readies table.now self.old self.new }
         ensures owner { OnOk result (self.new.owner ≡ owner) }
         ensures room { OnOk result (0 < self.new.room) }
     {
-        self.own(table, owner)?;
+        self.own(owner);
         self.tidy(table);
         self.listed.reserve(1)?;
         Ok(())
     }
 
-    // It is this owner's, unless a request of another is open.
-    fn own(&mut self, table: &HeldTable<Request>, owner: Handle) -> Result<(), AllocError>
-        ensures readies { Readies table.now self.old self.new }
-        ensures owner { OnOk result (self.new.owner ≡ owner) }
+    // It is this owner's. What it lists of another is over.
+    fn own(&mut self, owner: Handle)
+        ensures readies { (t : Table request.Request) → MayBeOf t owner self.old → Readies t self.old self.new }
+        ensures owner { self.new.owner ≡ owner }
     {
         if is_same(self.owner, owner) {
-            return Ok(());
+            return;
         }
-        forget(&mut self.listed, table);
-        if self.listed.len() > 0 {
-            return Err(AllocError);
-        }
+        self.listed.clear();
         self.owner = owner;
         self.limit = LEAST_LIMIT;
-        Ok(())
     }
 
     // Takes those that are over out once it is long.

@@ -1,6 +1,6 @@
 //! The requests of each circuit, or of each channel, by its index.
 ghost use Rattle.std.specs.Prelude.{◌≡◌, ◌<◌, ◌++◌, ◌∷◌, [], ℕ, OnOk, length};
-ghost use Rattle.ca_requests.specs.Lines.{Hands, HasRoom, Notes, ReadyAll, line_at, told_of};
+ghost use Rattle.ca_requests.specs.Lines.{Hands, HasRoom, MayBeOf, Notes, ReadyAll, line_at, told_of};
 
 use crate::line::Line;
 use crate::request::Request;
@@ -15,6 +15,7 @@ pub(crate) fn prepare(
     table: &HeldTable<Request>,
     owner: Handle,
 ) -> Result<(), AllocError>
+    requires { MayBeOf table.now owner (line_at lines.old.items owner.index) }
     ensures readies { ReadyAll table.now lines.old.items lines.new.items }
     ensures room { OnOk result (HasRoom owner lines.new.items) }
 {

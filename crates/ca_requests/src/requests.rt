@@ -1,6 +1,6 @@
 ghost use Rattle.std.specs.Prelude.{◌≡◌, [], true};
 ghost use Rattle.ca_ids.specs.Holding.{IsVacant};
-ghost use Rattle.ca_requests.specs.Calls.{Answers, Issues, failed_in, new_request, open_of, with_table, without, without_if};
+ghost use Rattle.ca_requests.specs.Calls.{Answers, Issues, MayIssue, failed_in, new_request, open_of, with_table, without, without_if};
 ghost use Rattle.ca_requests.specs.Forms.{asked_of};
 ghost use Rattle.ca_requests.specs.Layout.{named};
 ghost use Rattle.ca_requests.specs.Requests.{answered_by, asks_on, channel_gone, channel_over, circuit_gone, in_order_of_issue, is_open, was_sent_on};
@@ -75,7 +75,7 @@ impl Requests {
     }
 
     /// Issues a request on this channel, which is sent on this circuit, under the handle that `vacant` tells. It is open from
-    /// now on.
+    /// now on. No other channel and no other circuit of these indices has an open request.
     ///
     /// Refused if there is no memory, or if another handle is the next.
     pub fn issue(
@@ -85,6 +85,7 @@ impl Requests {
         circuit: Handle,
         asked: Asked,
     ) -> Result<(), AllocError>
+        requires { MayIssue channel circuit self.old }
         ensures { Issues
             self.old
             vacant

@@ -10,4 +10,4 @@ mod searcher;
 pub use laws::searches_double;
 pub use place::Place;
 pub use search::Search;
-pub use searcher::{Searcher, boost, find, pass};
+pub use searcher::{Searcher, boost, due_in, pass};

@@ -96,7 +96,7 @@ impl Searcher {
     {
         let now = self.moment.max(now);
         let alloc = *self.places.allocator();
-        let found = find(alloc, &self.places, now)?;
+        let found = due_in(alloc, &self.places, now)?;
         pass(&mut self.places, now);
         self.moment = now;
         Ok(found)
@@ -117,7 +117,7 @@ impl Searcher {
 }
 
 /// The searches that are due at a moment, in order. Out of memory only if there is one.
-pub fn find(
+pub fn due_in(
     alloc: Global,
     places: &IndexMap<u32, Place>,
     now: u64,

@@ -3,8 +3,9 @@ ghost use Rattle.ca_model.specs.Server.{new_end};
 ghost use Rattle.ca_model.specs.Server as server;
 ghost use Rattle.ca_model.specs.ServerSteps.{output_of};
 ghost use Rattle.ca_records.specs.Store.{IsThere, records_of};
-ghost use Rattle.ca_server_circuit.specs.Circuits.{CircuitIsSound, GivesAt, IsLive, SendsAt, is_open, watches};
-ghost use Rattle.ca_server_circuit.specs.Ending.{EndsAt, IsLeft};
+ghost use Rattle.ca_server_circuit.specs.Circuits.{CircuitIsSound, GivesAt, IsLive, SendsAt, circuit_of, is_open, watches};
+ghost use Rattle.ca_server_circuit.specs.Clearing.{ArePuts};
+ghost use Rattle.ca_server_circuit.specs.Ending.{EndsAt, IsLeft, WithdrawsAll};
 ghost use Rattle.ca_server_circuit.specs.Finishing.{RepliesAt};
 ghost use Rattle.ca_server_circuit.specs.NextPut.{IsPutAt};
 ghost use Rattle.ca_server_circuit.specs.Posting.{PostsAt};
@@ -97,8 +98,7 @@ impl Circuit {
                     EndStep::NeedBytes => Some(EndStep::NeedBytes),
                     EndStep::OutputFull => Some(EndStep::OutputFull),
                     EndStep::Breaks(cause) => {
-                        let left = end.leave(circuit, records);
-                        self.state = State::Ended(cause, left);
+                        self.state = ended(end, circuit, cause, records);
                         Some(EndStep::Breaks(cause))
                     }
                 }
@@ -119,10 +119,7 @@ impl Circuit {
                 }
                 match end.finish(put) {
                     Ok(()) => {}
-                    Err(_) => {
-                        let left = end.leave(put.circuit, records);
-                        self.state = State::Ended(Cause::OutOfMemory, left);
-                    }
+                    Err(_) => self.state = ended(end, put.circuit, Cause::OutOfMemory, records),
                 }
             }
             State::Ended(_, _) => {}
@@ -139,10 +136,7 @@ impl Circuit {
         match &mut self.state {
             State::Open(end) => match end.post(records.at(place).state(), mask) {
                 Ok(()) => end.know(),
-                Err(_) => {
-                    let left = end.leave(circuit, records);
-                    self.state = State::Ended(Cause::OutOfMemory, left);
-                }
+                Err(_) => self.state = ended(end, circuit, Cause::OutOfMemory, records),
             },
             State::Ended(_, _) => {}
         }
@@ -156,10 +150,7 @@ impl Circuit {
         match &mut self.state {
             State::Open(end) => match end.pump() {
                 Ok(()) => end.know(),
-                Err(_) => {
-                    let left = end.leave(circuit, records);
-                    self.state = State::Ended(Cause::OutOfMemory, left);
-                }
+                Err(_) => self.state = ended(end, circuit, Cause::OutOfMemory, records),
             },
             State::Ended(_, _) => {}
         }
@@ -174,10 +165,7 @@ impl Circuit {
         match &mut self.state {
             State::Open(end) => match end.lose(name) {
                 Ok(()) => end.know(),
-                Err(_) => {
-                    let left = end.leave(circuit, records);
-                    self.state = State::Ended(Cause::OutOfMemory, left);
-                }
+                Err(_) => self.state = ended(end, circuit, Cause::OutOfMemory, records),
             },
             State::Ended(_, _) => {}
         }
@@ -200,10 +188,7 @@ impl Circuit {
         ensures { EndsAt circuit self.old records.old (why_is cause) self.new records.new }
     {
         match &mut self.state {
-            State::Open(end) => {
-                let left = end.leave(circuit, records);
-                self.state = State::Ended(cause, left);
-            }
+            State::Open(end) => self.state = ended(end, circuit, cause, records),
             State::Ended(_, _) => {}
         }
     }
@@ -248,4 +233,14 @@ impl Circuit {
             State::Ended(_, _) => None,
         }
     }
+}
+
+// The state of a circuit whose end ends for this cause: its puts that wait are taken out of the records, and what waits to be sent is left.
+fn ended(end: &mut End, circuit: Handle, cause: Cause, records: &mut ServedRecords) -> State
+    requires { ArePuts circuit (records_of records.old) end.old.channels }
+    ensures state { circuit_of result ≡ server.Ended (why_is cause) end.old.link.output }
+    ensures records { WithdrawsAll circuit records.old records.new }
+{
+    let left = end.leave(circuit, records);
+    State::Ended(cause, left)
 }

@@ -15,12 +15,12 @@ returns-then-not-connected c =
     let old : Tables = record { channels = c.args.channels.now; circuits = c.args.circuits.now; order = c.args.order.now.items } in
     let here = c.in-Some.found.now in
     let waits : c.in-Some-circuit_to.connected ≡ false = search rules in
-    found-waiting old c.args.from c.args.message.now c.in-Some.channel here c.in-Some-circuit_to.circuit c.put.new.channels
+    found-waiting old c.args.from c.args.message.now c.in-Some.channel here c.in-Some-circuit_to.circuit c.set_standing.new.channels
     (c.in-Some.ensures ∙ ap (λ (n : ℕ). searched_in n c.args.channels.now) c.p2.ensures)
     (ap (λ (b : Bool). Some (c.in-Some-circuit_to.circuit, b)) (sym waits) ∙ c.in-Some-circuit_to.ensures
     ∙ ap (λ (a : Address). circuit_in a c.priority-priority.result c.args.circuits.now) c.found_at-address.ensures
     ∙ ap (λ (n : ℕ). circuit_in (found_at c.args.from c.args.message.now) n c.args.circuits.now) c.priority-priority.ensures.is)
-    c.put.ensures
+    c.set_standing.ensures
 
 pub returns-in_err-create-in-Some-circuit_to : goal.returns-in_err-create-in-Some-circuit_to
 returns-in_err-create-in-Some-circuit_to c =

@@ -19,10 +19,10 @@ invariant_of-self-2 c =
     let i = c.self.inside in
     let n = native_of c.args.native in
     record {
-      client = client-standing i.channels c.put.new.channels i.searches.entries (λ (here : Channel). record here { standing = On c.args.circuit (Live n c.args.rights) }) c.args.channel c.put.ensures c.self.invariant.client;
+      client = client-standing i.channels c.set_standing.new.channels i.searches.entries (λ (here : Channel). record here { standing = On c.args.circuit (Live n c.args.rights) }) c.args.channel c.set_standing.ensures c.self.invariant.client;
       placed =
-          placed-turned i.channels i.requests.table i.monitors i.circuits c.self.invariant.placed c.args.channel c.args.circuit (Live n c.args.rights) c.put.new.channels
-          (subst (λ (y : Client). MayTurn c.args.channel c.args.circuit (Live n c.args.rights) y) (sym c.self.view_is) c.requires) c.put.ensures;
+          placed-turned i.channels i.requests.table i.monitors i.circuits c.self.invariant.placed c.args.channel c.args.circuit (Live n c.args.rights) c.set_standing.new.channels
+          (subst (λ (y : Client). MayTurn c.args.channel c.args.circuit (Live n c.args.rights) y) (sym c.self.view_is) c.requires) c.set_standing.ensures;
       listed =
-          listed-live i.channels c.put.new.channels c.args.channel c.args.circuit n c.args.rights i.lives.items c.note_live.new.lists.items c.note_live.ensures.kept c.in_ok-note_live.ensures.own c.put.ensures c.self.invariant.listed;
+          listed-live i.channels c.set_standing.new.channels c.args.channel c.args.circuit n c.args.rights i.lives.items c.note_live.new.lists.items c.note_live.ensures.kept c.in_ok-note_live.ensures.own c.set_standing.ensures c.self.invariant.listed;
     }

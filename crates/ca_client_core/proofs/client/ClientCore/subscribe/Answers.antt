@@ -44,7 +44,7 @@ returns-in-Ok-add c =
     c.in-Ok.ensures
     ∙ ap (λ (i : ℕ). let w : Wanted = record { sid = i; id = c.new-2.result; data_type = c.args.data_type; count = c.args.count } in event_add_request w c.args.mask) c.new.ensures
     ∙ ap (λ (i : ℕ). let w : Wanted = record { sid = l.native.sid; id = i; data_type = c.args.data_type; count = c.args.count } in event_add_request w c.args.mask) (c.new-2.ensures ∙ c.number.ensures ∙ c.of.ensures) in
-    subscribes-done x c.args.channel a c.args.mask l s (new_subscription c.args.channel a c.bits.result) c.in-Ok.message c.add.new.self c.in_ok-live.ensures.0 c.in_ok-live.ensures.1 (ap (new_subscription c.args.channel a) c.bits.ensures.bits) says c.in-Ok-add.ensures
+    subscribes-done x c.args.channel a c.args.mask l s (new_subscription c.args.channel a c.args.mask) c.in-Ok.message c.add.new.self c.in_ok-live.ensures.0 c.in_ok-live.ensures.1 refl says c.in-Ok-add.ensures
 
 pub returns : goal.returns
 returns c =

@@ -1,16 +1,12 @@
-use Rattle.std.proofs.Common.{◌≡◌, ◌-◌, length, rules, vec_capacity, vec_len}
-use Rattle.ca_requests.proofs.Lined.{empty-of, readies-emptied, readies-filtered}
+use Rattle.std.proofs.Common.{◌-◌, ◌∙◌, sym, vec_capacity, vec_len}
+use Rattle.ca_requests.proofs.Lined.{readies-emptied}
 use Rattle.ca_requests.proofs.line.Line.own.Goals as goal
 
-pub returns-then-len-gt0-clause-readies : goal.returns-then-len-gt0-clause-readies
-returns-then-len-gt0-clause-readies c =
-    let i = c.self.inside in
-    rw (← c.self.view_is)
-    (readies-filtered c.args.table.now i.owner i.listed.items c.forget.new.listed.items (vec_capacity i.listed - vec_len i.listed) (vec_capacity c.forget.new.listed - vec_len c.forget.new.listed) c.forget.ensures)
-
 pub returns-clause-readies : goal.returns-clause-readies
-returns-clause-readies c =
+returns-clause-readies c = λ t may.
     let i = c.self.inside in
-    let none : length c.forget.new.listed.items ≡ 0 = search rules in
+    let n = vec_capacity i.listed - vec_len i.listed in
+    let m = vec_capacity c.clear.new.self - vec_len c.clear.new.self in
+    let none = (rw (← c.self.view_is) at may) (sym c.is_same.ensures ∙ c.if-is_same.false) in
     rw (← c.self.view_is)
-    (readies-emptied c.args.table.now i.owner c.args.owner i.listed.items c.forget.new.listed.items (vec_capacity i.listed - vec_len i.listed) (vec_capacity c.forget.new.listed - vec_len c.forget.new.listed) c.forget.ensures (empty-of c.forget.new.listed.items none))
+    (readies-emptied t i.owner c.args.owner i.listed.items c.clear.new.self.items n m (c.clear.ensures.items ∙ sym none) c.clear.ensures.items)

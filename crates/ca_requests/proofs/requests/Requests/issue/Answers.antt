@@ -6,9 +6,19 @@ use Rattle.ca_ids.specs.Table.{Table}
 use Rattle.ca_requests.specs.Layout.{issued_of}
 use Rattle.ca_requests.specs.Lines.{AreRequests, line_at}
 use Rattle.ca_requests.specs.Requests.{Request}
-use Rattle.ca_requests.proofs.Lined.{readies-same, requests-issued, requests-readied}
+use Rattle.ca_requests.proofs.Lined.{channel-may, circuit-may, readies-same, requests-issued, requests-readied}
 use Rattle.ca_requests.proofs.Orders.{issues}
 use Rattle.ca_requests.proofs.requests.Requests.issue.Goals as goal
+
+pub prepare-requires : goal.prepare-requires
+prepare-requires c =
+    let i = c.self.inside in
+    circuit-may c.args.self.now i.table i.listed.items i.circuits.items i.channels.items c.args.channel c.args.circuit (c.self.view_is ∙ c.tidy.ensures) c.requires c.self.invariant
+
+pub prepare-requires-2 : goal.prepare-requires-2
+prepare-requires-2 c =
+    let i = c.self.inside in
+    channel-may c.args.self.now i.table i.listed.items i.circuits.items i.channels.items c.args.channel c.args.circuit (c.self.view_is ∙ c.tidy.ensures) c.requires c.self.invariant
 
 pub invariant_of-self : goal.invariant_of-self
 invariant_of-self c =

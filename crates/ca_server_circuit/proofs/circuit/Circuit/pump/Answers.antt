@@ -12,10 +12,10 @@ pub returns-in-Err : goal.returns-in-Err
 returns-in-Err c =
     let was : server.Open c.in-Open.end ≡ c.args.self.now = ap (λ (x : State). circuit_of x) (sym c.in-Open.is) ∙ c.self.view_is in
     let p = c.in-Err.ensures in
-    let final : (x : ServerCircuit) → x ≡ server.Ended why.OutOfMemory c.leave-left.result → PumpsAt c.args.circuit c.args.self.now c.args.records.now x c.leave-left.new.records = λ x is.
-    subst (λ (z : ServerCircuit). PumpsAt c.args.circuit z c.args.records.now x c.leave-left.new.records) was
-    (p.0, p.1, p.2, inr (p.3, is ∙ ap (λ (o : List ℕ). server.Ended why.OutOfMemory o) (c.leave-left.ensures.left ∙ p.4), c.leave-left.ensures.records)) in
-    elim c.match-self-2.branch [
-      | in-Open-1 w ↦ final c.match-self-2.self w.self-is
-      | in-Ended-1 w ↦ final c.match-self-2.self w.self-is
+    let final : (x : ServerCircuit) → x ≡ circuit_of c.ended.result → PumpsAt c.args.circuit c.args.self.now c.args.records.now x c.ended.new.records = λ x is.
+    subst (λ (z : ServerCircuit). PumpsAt c.args.circuit z c.args.records.now x c.ended.new.records) was
+    (p.0, p.1, p.2, inr (p.3, is ∙ c.ended.ensures.state ∙ ap (λ (o : List ℕ). server.Ended why.OutOfMemory o) p.4, c.ended.ensures.records)) in
+    elim c.match-self-ended.branch [
+      | in-Open-1 w ↦ final c.match-self-ended.self w.self-is
+      | in-Ended-1 w ↦ final c.match-self-ended.self w.self-is
     ]

@@ -1,7 +1,7 @@
 use Rattle.std.proofs.Common.{sym, arith, refl}
 use Rattle.ca_search.proofs.Entries.{on_err, wanted-due, wanted-some, wanted-end, wanted-later}
-use Rattle.ca_search.proofs.searcher.find.Goals as goal
-use Rattle.ca_search.proofs.searcher.find.Goals.{then-is_due+in_ok-search+in_ok-push, else-is_due}
+use Rattle.ca_search.proofs.searcher.due_in.Goals as goal
+use Rattle.ca_search.proofs.searcher.due_in.Goals.{then-is_due+in_ok-search+in_ok-push, else-is_due}
 
 pub loop-index-init : goal.loop-index-init
 loop-index-init c = rw (c.new-found.ensures.items) refl

@@ -1,0 +1,6 @@
+mod Tells
+mod Created
+mod Under
+mod Standing
+mod Over
+mod Grows
