@@ -1,0 +1,5 @@
+pub mod Settings
+pub mod Seen
+pub mod Does
+pub mod Ends
+pub mod Ups

@@ -1,0 +1,18 @@
+//! A world of clients, servers and their circuits, run event by event over the real cores and their bytes. It keeps the
+//! histories of the circuits, and the logs of all lives, beside the cores.
+//!
+//! It is not complete: not all events are there yet.
+#![tactic(auto)]
+
+mod client;
+mod config;
+mod ends;
+mod history;
+mod joined;
+mod server;
+mod up;
+mod world;
+
+pub use config::{ClientSetting, Config, ServerSetting};
+pub use history::{Ask, Cause, Entry, Intent, Kind, Line, Recorded, Sent, Step, Stored, Told};
+pub use world::World;
