@@ -1,7 +1,7 @@
 ghost use Rattle.std.specs.Prelude.{◌≡◌, []};
 
 use ca_client_core::Address;
-use ca_records::{Records, Rule};
+use ca_records::Records;
 use std::alloc::Global;
 use std::marker::Model;
 
@@ -32,11 +32,21 @@ impl Model for ClientSetting {
     }) };
 }
 
+/// A rule of access: whom and which record it meets, where none stands for all, and what it lets them do.
+#[derive(Debug, Drop)]
+pub struct RuleSetting {
+    pub user: Option<Vec<u8>>,
+    pub host: Option<Vec<u8>>,
+    pub record_name: Option<Vec<u8>>,
+    pub reads: bool,
+    pub writes: bool,
+}
+
 /// A server as it is given: its address, its rules and its records, which have different names.
 #[derive(Drop)]
 pub struct ServerSetting {
     pub(crate) address: Address,
-    pub(crate) rules: Vec<Rule>,
+    pub(crate) rules: Vec<RuleSetting>,
     pub(crate) records: Records,
 }
 
@@ -45,11 +55,12 @@ impl Model for ServerSetting {
 
     ghost Value = { world.ServerSetting };
 
-    ghost use Rattle.ca_world.specs.Settings.{IsServer};
+    ghost use Rattle.std.specs.Prelude.{map};
+    ghost use Rattle.ca_world.specs.Settings.{IsServer, rule_of};
 
-    ghost view = { λ s. record { address = s.address; rules = s.rules.items; records = s.records } };
+    ghost view = { λ s. record { address = s.address; rules = map rule_of s.rules.items; records = s.records } };
 
-    ghost invariant = { λ s. IsServer (record { address = s.address; rules = s.rules.items; records = s.records }) };
+    ghost invariant = { λ s. IsServer (record { address = s.address; rules = map rule_of s.rules.items; records = s.records }) };
 }
 
 /// The clients and the servers of a world. The servers have different addresses.

@@ -9,10 +9,14 @@ mod config;
 mod ends;
 mod history;
 mod joined;
+mod logs;
+mod opening;
+mod opens;
 mod server;
+mod server_datagram;
 mod up;
 mod world;
 
-pub use config::{ClientSetting, Config, ServerSetting};
+pub use config::{ClientSetting, Config, RuleSetting, ServerSetting};
 pub use history::{Ask, Cause, Entry, Intent, Kind, Line, Recorded, Sent, Step, Stored, Told};
 pub use world::World;
