@@ -1,3 +1,5 @@
 pub mod Worlds
 pub mod Ups
 pub mod Calls
+pub mod Openings
+pub mod Indexes

@@ -1,6 +1,7 @@
 -- Bytes reach a server, from what its parts became.
 use Rattle.std.proofs.Common.{◌≡◌, ℕ, ◌≤◌, Bool, true, false, List, [], ◌∷◌, Result, Ok, Err, length, take, drop, sym, ap, subst, ◌∙◌}
 use Rattle.std.specs.Prelude.{if◌then◌else◌, map, slice_set}
+use Rattle.ca_arena.specs.declared.handle.Handle.{Handle}
 use Rattle.ca_text.specs.declared.refusal.Refusal.{Refusal}
 use Rattle.ca_text.specs.declared.refusal.Refusal.TheVariants.{BadEvent, OutOfMemory}
 use Rattle.ca_text.specs.Place.{At}
@@ -139,3 +140,26 @@ module _ (cs : List ClientSide) (ss : List ServerSide) (ks : List Joined) (cl : 
       on
       off
       d
+
+-- ---- what stays
+
+-- both ends know their circuits by the same numbers
+pub handed-keeps : (x x' : ClientSide) (y y' : ServerSide) (h g : Handle) (n : ℕ) (r : Result (Unit {0}) Refusal) → HandsUp x y h g n r x' y' → (x'.circuits.items ≡ x.circuits.items) × (y'.circuits.items ≡ y.circuits.items)
+handed-keeps x x' y y' h g n (Ok u) d = (ap (λ (z : ClientSide). z.circuits.items) d.3, ap (λ (z : ServerSide). z.circuits.items) d.2)
+handed-keeps x x' y y' h g n (Err OutOfMemory) d = (ap (λ (z : ClientSide). z.circuits.items) d.1, ap (λ (z : ServerSide). z.circuits.items) d.2)
+handed-keeps x x' y y' h g n (Err BadEvent) d = (ap (λ (z : ClientSide). z.circuits.items) d.1, ap (λ (z : ServerSide). z.circuits.items) d.2)
+handed-keeps x x' y y' h g n (Err _) d = absurd d
+
+-- a circuit but for its bytes that are left
+abbrev pub Kept : Joined → Joined → Type 0
+Kept j j' = (j'.client ≡ j.client) × (j'.server ≡ j.server) × (j'.at_client ≡ j.at_client) × (j'.at_server ≡ j.at_server) × (j'.lists ≡ j.lists)
+
+kept-same : (j j' : Joined) → j' ≡ j → Kept j j'
+kept-same j j' is = (ap (λ (z : Joined). z.client) is, ap (λ (z : Joined). z.server) is, ap (λ (z : Joined). z.at_client) is, ap (λ (z : Joined). z.at_server) is, ap (λ (z : Joined). z.lists) is)
+
+pub left-keeps : (j j' : Joined) (y y' : ServerSide) (g : Handle) (n : ℕ) (r : Result (Unit {0}) Refusal) → LeavesUp j y g n r j' y' → Kept j j' × (y'.circuits.items ≡ y.circuits.items)
+left-keeps j j' y y' g n (Ok u) d =
+    ((ap (λ (z : Joined). z.client) d.3, ap (λ (z : Joined). z.server) d.3, ap (λ (z : Joined). z.at_client) d.3, ap (λ (z : Joined). z.at_server) d.3, ap (λ (z : Joined). z.lists) d.3), ap (λ (z : ServerSide). z.circuits.items) d.2)
+left-keeps j j' y y' g n (Err OutOfMemory) d = (kept-same j j' d.1, ap (λ (z : ServerSide). z.circuits.items) d.2)
+left-keeps j j' y y' g n (Err BadEvent) d = (kept-same j j' d.1, ap (λ (z : ServerSide). z.circuits.items) d.2)
+left-keeps j j' y y' g n (Err _) d = absurd d

@@ -6,3 +6,4 @@ pub mod Ups
 pub mod Logs
 pub mod Opens
 pub mod Opening
+pub mod Indexed

@@ -14,10 +14,13 @@ pub(crate) struct Names {
 }
 
 /// A client: as it was given, its core, which life of all this is, and what its handles name.
+///
+/// By the index of the handle under which its core knows a circuit, it has that circuit's number.
 #[derive(Drop)]
 pub(crate) struct ClientSide {
     pub(crate) setting: ClientSetting,
     pub(crate) core: ClientCore,
     pub(crate) life: usize,
     pub(crate) names: Names,
+    pub(crate) circuits: Vec<usize>,
 }

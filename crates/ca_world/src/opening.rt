@@ -115,6 +115,7 @@ pub(crate) fn begin_client(
             core,
             life,
             names: no_names(alloc),
+            circuits: Vec::new(alloc),
         }),
         Err(_) => Err(AllocError),
     }
@@ -197,6 +198,7 @@ pub(crate) fn begin_server(
         life,
         records,
         added,
+        circuits: Vec::new(alloc),
     })
 }
 

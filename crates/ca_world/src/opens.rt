@@ -1,3 +1,4 @@
+ghost use Rattle.std.specs.Prelude.{◌≡◌};
 ghost use Rattle.ca_model_world.specs.Events as event;
 ghost use Rattle.ca_world.specs.Does.{Does};
 ghost use Rattle.ca_world.specs.Logs.{lines_in};
@@ -39,13 +40,14 @@ fn open_on(
     name: &[u8],
     priority: u16,
 ) -> Result<(), Refusal>
-    ensures { OpensOn
+    ensures opens { OpensOn
         (record { name = name.now; priority = priority; now = moment })
         (client_of side.old)
         (lines_in logs.old.items)
         result
         (client_of side.new)
         (lines_in logs.new.items) }
+    ensures kept { side.new.circuits.items ≡ side.old.circuits.items }
 {
     let own = Vec::from_slice(alloc, name)?;
     side.names.channels.reserve(1)?;

@@ -18,6 +18,8 @@ pub(crate) struct RecordSide {
 }
 
 /// A server: as it was given, its core, which life of all this is, its records, and how many its life had.
+///
+/// By the index of the handle under which its core knows a circuit, it has that circuit's number.
 #[derive(Drop)]
 pub(crate) struct ServerSide {
     pub(crate) setting: ServerSetting,
@@ -25,4 +27,5 @@ pub(crate) struct ServerSide {
     pub(crate) life: usize,
     pub(crate) records: Vec<RecordSide>,
     pub(crate) added: usize,
+    pub(crate) circuits: Vec<usize>,
 }

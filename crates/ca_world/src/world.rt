@@ -30,4 +30,8 @@ impl Model for World {
     ghost coded = { Prim.hlevel (codes, servers_code) };
 
     ghost view = { seen };
+
+    ghost use Rattle.ca_world.specs.Indexed.{AreIndexed};
+
+    ghost invariant = { λ w. AreIndexed w.clients.items w.servers.items w.circuits.items };
 }

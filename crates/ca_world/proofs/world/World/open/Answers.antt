@@ -9,6 +9,7 @@ use Rattle.ca_world.specs.Does.{Does}
 use Rattle.ca_world.specs.Logs.{lines_in}
 use Rattle.ca_world.specs.Seen.{client_of, entry_of, joined_of, server_of}
 use Rattle.ca_world.proofs.Calls.{opens}
+use Rattle.ca_world.proofs.Indexes.{indexed-client}
 use Rattle.ca_world.proofs.Worlds.{found, set-map, world_of}
 use Rattle.ca_world.proofs.world.World.open.Goals as goal
 
@@ -27,4 +28,14 @@ returns c =
     ap (λ (t : List model.ClientSide). record w { clients = t; client_logs = lines_in c.open_on.new.logs.items }) (sym (set-map client_of cs k x')) in
     subst (λ (z : model.World). Does z (Open k c.args.name.now c.args.priority) c.open_on.result new) c.self.view_is
     (subst (λ (z : model.World). Does w (Open k c.args.name.now c.args.priority) c.open_on.result z) made
-    (opens w k c.args.name.now c.args.priority (client_of x) (client_of x') (lines_in c.open_on.new.logs.items) c.open_on.result (At-map client_of cs k x at) c.open_on.ensures))
+    (opens w k c.args.name.now c.args.priority (client_of x) (client_of x') (lines_in c.open_on.new.logs.items) c.open_on.result (At-map client_of cs k x at) c.open_on.ensures.opens))
+
+pub invariant_of-self : goal.invariant_of-self
+invariant_of-self c =
+    let i = c.self.inside in
+    let cs : List ClientSide = i.clients.items in
+    let k : ℕ = c.args.client in
+    let x : ClientSide = c.index_mut-side.result.now in
+    let within : k < length cs = omega (arith, c.if-client-len.false, c.len.ensures) in
+    let at : At cs k x = found cs k x x within c.index_mut-side.ensures.value in
+    indexed-client cs i.servers.items i.circuits.items c.self.invariant k x c.open_on.new.side at c.open_on.ensures.kept

@@ -1,4 +1,4 @@
-use Rattle.std.proofs.Common.{rules, ◌≡◌, ℕ, ◌<◌, ◌≤◌, length, true, false, List, refl, arith, sym, subst, ap}
+use Rattle.std.proofs.Common.{rules, ◌≡◌, ℕ, ◌<◌, ◌≤◌, length, true, false, List, refl, arith, sym, subst, ap, ◌∙◌}
 use Rattle.std.specs.Prelude.{map, slice_set}
 use Rattle.ca_text.specs.Place.{At}
 use Rattle.ca_text.proofs.Places.{At-within}
@@ -7,13 +7,15 @@ use Rattle.ca_model_world.specs.Events.{Up}
 use Rattle.ca_model_world.specs.Runs.{CanBe}
 use Rattle.ca_model_world.specs.World.{World}
 use Rattle.ca_world.specs.declared.client.ClientSide.{ClientSide}
+use Rattle.ca_world.specs.declared.joined.Circuit.{Circuit}
 use Rattle.ca_world.specs.declared.ends.Ends.{Ends}
 use Rattle.ca_world.specs.declared.joined.Joined.{Joined}
 use Rattle.ca_world.specs.declared.server.ServerSide.{ServerSide}
 use Rattle.ca_world.specs.Does.{Does}
 use Rattle.ca_world.specs.Ends.{AreEnds}
 use Rattle.ca_world.specs.Seen.{entry_of, line_of}
-use Rattle.ca_world.proofs.Ups.{up-by-client, up-by-left, up-none, up-off}
+use Rattle.ca_world.proofs.Indexes.{indexed-circuit, indexed-client, indexed-server}
+use Rattle.ca_world.proofs.Ups.{handed-keeps, left-keeps, up-by-client, up-by-left, up-none, up-off}
 use Rattle.ca_world.proofs.Worlds.{ends-client, ends-here, ends-server, found, is-open, no-ends-here, not-open, world_of}
 use Rattle.ca_world.proofs.world.World.up.Goals as goal
 
@@ -85,3 +87,44 @@ returns c =
     let new : World = world_of cs (slice_set ss e.server c.leave_up.new.server) (slice_set ks k c.leave_up.new.joined) cl sl w.moment in
     subst (λ (z : World). Does z (Up k n) c.leave_up.result new) c.self.view_is
     (up-by-left cs ss ks cl sl w.moment k n e a j c.leave_up.new.joined y c.leave_up.new.server c.leave_up.result at server (is-open e.server_open c.if-not-ends.false) c.if-ends.false c.leave_up.ensures)
+
+pub invariant_of-self : goal.invariant_of-self
+invariant_of-self c =
+    let w = c.self.inside in
+    let cs : List ClientSide = w.clients.items in
+    let ss : List ServerSide = w.servers.items in
+    let ks : List Joined = w.circuits.items in
+    let cl : List (List Line) = map (λ log. map line_of log.items) w.client_logs.items in
+    let sl : List (List Entry) = map (λ log. map entry_of log.items) w.server_logs.items in
+    let e : Ends = c.in-Some.ends in
+    let k : ℕ = c.args.circuit in
+    let n : ℕ = c.args.n in
+    let a = ends-here cs ss ks c.deref.result.now c.len.result c.len-2.result k e (omega (arith, c.len.ensures)) (omega (arith, c.len-2.ensures)) c.deref.ensures.value c.in-Some.ensures in
+    let y : ServerSide = c.index_mut-server.result.now in
+    let server : At ss e.server y = found ss e.server y y (ends-server (length cs) (length ss) ks k e a) c.index_mut-server.ensures.value in
+    let x : ClientSide = c.index_mut-side.result.now in
+    let client : At cs e.client x = found cs e.client x x (ends-client (length cs) (length ss) ks k e a) c.index_mut-side.ensures.value in
+    let kept = handed-keeps x c.hand_up.new.side y c.hand_up.new.server e.at_client e.at_server n c.hand_up.result c.hand_up.ensures in
+    indexed-server (slice_set cs e.client c.hand_up.new.side) ss ks (indexed-client cs ss ks c.self.invariant e.client x c.hand_up.new.side client kept.0) e.server y c.hand_up.new.server server kept.1
+
+pub invariant_of-self-2 : goal.invariant_of-self-2
+invariant_of-self-2 c =
+    let w = c.self.inside in
+    let cs : List ClientSide = w.clients.items in
+    let ss : List ServerSide = w.servers.items in
+    let ks : List Joined = w.circuits.items in
+    let cl : List (List Line) = map (λ log. map line_of log.items) w.client_logs.items in
+    let sl : List (List Entry) = map (λ log. map entry_of log.items) w.server_logs.items in
+    let e : Ends = c.in-Some.ends in
+    let k : ℕ = c.args.circuit in
+    let n : ℕ = c.args.n in
+    let a = ends-here cs ss ks c.deref.result.now c.len.result c.len-2.result k e (omega (arith, c.len.ensures)) (omega (arith, c.len-2.ensures)) c.deref.ensures.value c.in-Some.ensures in
+    let y : ServerSide = c.index_mut-server.result.now in
+    let server : At ss e.server y = found ss e.server y y (ends-server (length cs) (length ss) ks k e a) c.index_mut-server.ensures.value in
+    let j : Joined = c.index_mut.result.now in
+    let within : k < length ks = At-within ks k a.j a.at in
+    let at : At ks k j = found ks k j j within c.index_mut.ensures.value in
+    let kept = left-keeps j c.leave_up.new.joined y c.leave_up.new.server e.at_server n c.leave_up.result c.leave_up.ensures in
+    indexed-circuit cs (slice_set ss e.server c.leave_up.new.server) ks (indexed-server cs ss ks c.self.invariant e.server y c.leave_up.new.server server kept.1) k j c.leave_up.new.joined at kept.0.0 kept.0.1 kept.0.2 kept.0.3
+    (λ on. sym (ap (λ (z : Circuit). z.client_open) kept.0.4) ∙ on)
+    (λ on. sym (ap (λ (z : Circuit). z.server_open) kept.0.4) ∙ on)
