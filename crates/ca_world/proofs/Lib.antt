@@ -3,3 +3,4 @@ pub mod Ups
 pub mod Calls
 pub mod Openings
 pub mod Indexes
+pub mod Sent
