@@ -3,4 +3,5 @@ pub mod Ups
 pub mod Calls
 pub mod Openings
 pub mod Indexes
-pub mod Sent
+pub mod Sendings
+pub mod Finding

@@ -7,3 +7,4 @@ pub mod Logs
 pub mod Opens
 pub mod Opening
 pub mod Indexed
+pub mod Found

@@ -7,6 +7,7 @@
 mod client;
 mod config;
 mod ends;
+mod found;
 mod history;
 mod joined;
 mod logs;

@@ -88,3 +88,12 @@ module _ (i : ℕ) (n : model.Names) (s : Sending) where
       others l y there apart =
           let d = At-mapped joined_of ks l y there in
           kept y (ap (λ (z : model.Joined). sent_on i n (s ∷ []) z) d.2 ∙ sent-elsewhere (joined_of d.0) (λ client is_on same. apart (one-at-client cs ss ks h l k d.0 j d.1 at is_on on (client ∙ sym mine) (sym same ∙ here))) ∙ refl)
+
+  -- no circuit has it
+  pub sent-nowhere : (ks : List Joined) → ((k : ℕ) (j : Joined) → At ks k j → j.client ≡ i → j.lists.client_open ≡ true → j.at_client ≡ s.circuit → ⊥) → map (sent_up i n s) (map joined_of ks) ≡ map joined_of ks
+  sent-nowhere [] none = refl
+  sent-nowhere (j ∷ ks) none =
+      let off : sent_on i n (s ∷ []) (joined_of j) ≡ [] = sent-elsewhere (joined_of j) (λ client is_on same. none 0 j refl client is_on (sym same)) in
+      let first : sent_up i n s (joined_of j) ≡ joined_of j =
+      (λ t. record (joined_of j) { lists = record (joined_of j).lists { up = (ap (λ (u : List history.Sent). (joined_of j).lists.up ++ u) off ∙ append-nil (joined_of j).lists.up) t } }) in
+      λ t. first t ∷ sent-nowhere ks (λ k d at. none (suc k) d at) t
