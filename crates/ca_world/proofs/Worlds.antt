@@ -99,3 +99,6 @@ not-open false e = refl
 pub is-open : (b : Bool) → Rattle.std.specs.Prelude.not b ≡ false → b ≡ true
 is-open true e = refl
 is-open false e = absurd cc
+
+pub both-ways : (b : Bool) → b ≡ true → b ≡ false → ⊥
+both-ways b p q = cc
