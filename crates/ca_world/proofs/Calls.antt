@@ -1,8 +1,7 @@
 -- What calls of a client leave of a world.
-use Rattle.std.proofs.Common.{◌≡◌, ℕ, zero, suc, ◌+◌, ◌<◌, ◌≤◌, ◌⊎◌, inl, inr, Bool, true, false, List, [], ◌∷◌, ◌++◌, Result, Ok, Err, length, refl, sym, ap, subst, ◌∙◌, arith}
-use Rattle.std.specs.Prelude.{if◌then◌else◌, map, slice_set, slice_get, unwrap_or, Vec, vec_capacity, vec_len}
-use Rattle.std.proofs.lemmas.List.{append-nil, length-map, map-append}
-use Rattle.ca_arena.specs.declared.handle.Handle.{Handle}
+use Rattle.std.proofs.Common.{◌≡◌, ℕ, zero, suc, ◌+◌, ◌≤◌, inl, inr, Bool, true, false, List, [], ◌∷◌, ◌++◌, Result, Ok, Err, length, refl, sym, ap, subst, ◌∙◌, arith}
+use Rattle.std.specs.Prelude.{if◌then◌else◌, map, slice_set, unwrap_or, Vec, vec_capacity, vec_len}
+use Rattle.std.proofs.lemmas.List.{append-nil, map-append}
 use Rattle.std.specs.declared.alloc.Global.{Global}
 use Rattle.ca_text.specs.declared.refusal.Refusal.{Refusal}
 use Rattle.ca_text.specs.declared.refusal.Refusal.TheVariants.{ArenaFull, BadPriority, NameLength, OutOfMemory}
@@ -13,7 +12,7 @@ use Rattle.ca_model.specs.Client.{Client}
 use Rattle.ca_model.specs.ClientCalls.{ClientOpens, Opening}
 use Rattle.ca_model.specs.History.{Entry}
 use Rattle.ca_model.specs.History as history
-use Rattle.ca_model_world.specs.ClientEvents.{Outcomes, client_after, sent_on}
+use Rattle.ca_model_world.specs.ClientEvents.{client_after, sent_on}
 use Rattle.ca_model_world.specs.Events.{Open}
 use Rattle.ca_model_world.specs.Runs.{CanBe, IsClient}
 use Rattle.ca_model_world.specs.World.{grown}

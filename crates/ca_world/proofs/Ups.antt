@@ -1,6 +1,6 @@
 -- Bytes reach a server, from what its parts became.
-use Rattle.std.proofs.Common.{◌≡◌, ℕ, ◌≤◌, Bool, true, false, List, [], ◌∷◌, Result, Ok, Err, length, take, drop, sym, ap, subst, ◌∙◌}
-use Rattle.std.specs.Prelude.{if◌then◌else◌, map, slice_set}
+use Rattle.std.proofs.Common.{◌≡◌, ℕ, ◌≤◌, true, false, List, Result, Ok, Err, length, take, drop, sym, ap, subst, ◌∙◌}
+use Rattle.std.specs.Prelude.{map, slice_set}
 use Rattle.ca_arena.specs.declared.handle.Handle.{Handle}
 use Rattle.ca_text.specs.declared.refusal.Refusal.{Refusal}
 use Rattle.ca_text.specs.declared.refusal.Refusal.TheVariants.{BadEvent, OutOfMemory}
@@ -9,7 +9,6 @@ use Rattle.ca_text.proofs.Places.{At-map, At-one}
 use Rattle.ca_model.specs.Client.{out_bytes}
 use Rattle.ca_model.specs.ClientEnds.{handed_over}
 use Rattle.ca_model.specs.History.{Entry, Line}
-use Rattle.ca_model.specs.Server.{Server}
 use Rattle.ca_model.specs.ServerSteps.{Gives}
 use Rattle.ca_model_world.specs.ClientEvents.{up_taken, waiting_up}
 use Rattle.ca_model_world.specs.Events.{Up}

@@ -1,5 +1,5 @@
 -- A world seen through its lists.
-use Rattle.std.proofs.Common.{◌≡◌, ℕ, zero, suc, ◌<◌, Bool, true, false, List, [], ◌∷◌, length, get_or, refl, sym, ap, subst, arith, ◌∙◌}
+use Rattle.std.proofs.Common.{◌≡◌, ℕ, zero, suc, ◌<◌, Bool, true, false, List, [], ◌∷◌, length, get_or, refl, sym, ap, subst, arith}
 use Rattle.std.specs.Prelude.{if◌then◌else◌, map, slice_set}
 use Rattle.std.proofs.lemmas.List.{length-map}
 use Rattle.std.proofs.lemmas.Option.{slice_get-get_or}
@@ -11,7 +11,7 @@ use Rattle.ca_world.specs.declared.client.ClientSide.{ClientSide}
 use Rattle.ca_world.specs.declared.ends.Ends.{Ends}
 use Rattle.ca_world.specs.declared.joined.Joined.{Joined}
 use Rattle.ca_world.specs.declared.server.ServerSide.{ServerSide}
-use Rattle.ca_world.specs.Ends.{AreEnds, NoEnds, ends_of}
+use Rattle.ca_world.specs.Ends.{AreEnds, NoEnds}
 use Rattle.ca_world.specs.Seen.{client_of, joined_of, server_of}
 
 -- ---- lists

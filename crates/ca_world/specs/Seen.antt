@@ -1,5 +1,5 @@
 -- Working: the parts of a world as the statement has them.
-use Rattle.std.specs.Prelude.{ℕ, List, [], Option, map, option_map}
+use Rattle.std.specs.Prelude.{ℕ, [], map, option_map}
 use Rattle.ca_arena.specs.declared.handle.Handle.{Handle}
 use Rattle.ca_dbr.specs.Elements.{elements}
 use Rattle.ca_queue.specs.declared.entry.SubKey.{SubKey}

@@ -1,4 +1,4 @@
-use Rattle.std.proofs.Common.{◌≡◌, ◌<◌, ℕ, List, length, refl, arith}
+use Rattle.std.proofs.Common.{◌<◌, List, length, refl, arith}
 use Rattle.ca_world.specs.declared.joined.Joined.{Joined}
 use Rattle.ca_world.proofs.Worlds.{found}
 use Rattle.ca_world.proofs.ends.ends_at.Goals as goal

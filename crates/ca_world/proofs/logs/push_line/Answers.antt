@@ -1,4 +1,4 @@
-use Rattle.std.proofs.Common.{◌≡◌, ℕ, ◌<◌, length, List, arith, ap, ◌∙◌, ◌++◌, ◌∷◌, [], Vec, Global}
+use Rattle.std.proofs.Common.{◌<◌, length, List, arith, Vec, Global}
 use Rattle.ca_text.specs.Place.{At}
 use Rattle.ca_world.specs.declared.history.Line.{Line}
 use Rattle.ca_world.proofs.Calls.{grown-line}

@@ -1,4 +1,4 @@
-use Rattle.std.proofs.Common.{◌≡◌, ℕ, ◌+◌, ◌<◌, ◌≤◌, length, List, arith, Vec, Global}
+use Rattle.std.proofs.Common.{◌+◌, ◌<◌, ◌≤◌, length, List, arith, Vec, Global}
 use Rattle.std.specs.Prelude.{vec_capacity, vec_len}
 use Rattle.ca_text.specs.Place.{At}
 use Rattle.ca_world.specs.declared.history.Line.{Line}

@@ -1,4 +1,4 @@
-use Rattle.std.proofs.Common.{◌≡◌, ℕ, List, ap, ◌∙◌}
+use Rattle.std.proofs.Common.{◌≡◌, ℕ, ap, ◌∙◌}
 use Rattle.ca_records.specs.Record.{RecordState}
 use Rattle.ca_model.specs.History as history
 use Rattle.ca_world.specs.declared.history.Entry.{Entry}

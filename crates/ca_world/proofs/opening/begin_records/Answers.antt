@@ -1,7 +1,6 @@
-use Rattle.std.proofs.Common.{◌≡◌, ℕ, List, None, map, ap, ◌∙◌}
+use Rattle.std.proofs.Common.{◌≡◌, ℕ, None, map, ◌∙◌}
 use Rattle.ca_records.specs.Record.{RecordState}
 use Rattle.ca_model_world.specs.World.{record_begun}
-use Rattle.ca_model_world.specs.World as model
 use Rattle.ca_world.specs.declared.server.RecordSide.{RecordSide}
 use Rattle.ca_world.specs.Seen.{place_of, record_of}
 use Rattle.ca_world.proofs.Openings.{begun-next}

@@ -7,7 +7,7 @@ use Rattle.ca_model_world.specs.World as model
 use Rattle.ca_world.specs.declared.client.ClientSide.{ClientSide}
 use Rattle.ca_world.specs.Does.{Does}
 use Rattle.ca_world.specs.Logs.{lines_in}
-use Rattle.ca_world.specs.Seen.{client_of, entry_of, joined_of, server_of}
+use Rattle.ca_world.specs.Seen.{client_of, entry_of}
 use Rattle.ca_world.proofs.Calls.{opens}
 use Rattle.ca_world.proofs.Indexes.{indexed-client}
 use Rattle.ca_world.proofs.Worlds.{found, set-map, world_of}

@@ -1,4 +1,4 @@
-use Rattle.std.proofs.Common.{◌≡◌, ℕ, ◌<◌, length, List, map, refl, subst, arith}
+use Rattle.std.proofs.Common.{◌≡◌, ◌<◌, length, List, map, refl, subst, arith}
 use Rattle.ca_text.specs.Place.{At}
 use Rattle.ca_text.proofs.Places.{At-map}
 use Rattle.ca_model_world.specs.Events.{ServerDatagram}

@@ -1,4 +1,4 @@
-use Rattle.std.proofs.Common.{rules, ◌≡◌, ℕ, ◌<◌, ◌≤◌, length, true, false, List, refl, arith, sym, subst, ap, ◌∙◌}
+use Rattle.std.proofs.Common.{◌≡◌, ℕ, ◌<◌, length, List, refl, arith, sym, subst, ap, ◌∙◌}
 use Rattle.std.specs.Prelude.{map, slice_set}
 use Rattle.ca_text.specs.Place.{At}
 use Rattle.ca_text.proofs.Places.{At-within}
@@ -12,7 +12,6 @@ use Rattle.ca_world.specs.declared.ends.Ends.{Ends}
 use Rattle.ca_world.specs.declared.joined.Joined.{Joined}
 use Rattle.ca_world.specs.declared.server.ServerSide.{ServerSide}
 use Rattle.ca_world.specs.Does.{Does}
-use Rattle.ca_world.specs.Ends.{AreEnds}
 use Rattle.ca_world.specs.Seen.{entry_of, line_of}
 use Rattle.ca_world.proofs.Indexes.{indexed-circuit, indexed-client, indexed-server}
 use Rattle.ca_world.proofs.Ups.{handed-keeps, left-keeps, up-by-client, up-by-left, up-none, up-off}
