@@ -5,7 +5,8 @@ use Rattle.ca_link.specs.Link.{LinkState, new_link, with_sent}
 use Rattle.ca_monitor.specs.ReadRun.{ReadRun, no_reads}
 use Rattle.ca_model.specs.Client.{Channel, Client, ClientCircuit, Connection}
 use Rattle.ca_model.specs.ClientEnds.{creating, unconnected}
-use Rattle.ca_client_core.specs.Connecting.{BeginsOn, creations_in, greeting}
+use Rattle.ca_client_core.specs.Connecting.{BeginsOn}
+use Rattle.ca_client_tables.specs.Connecting.{creations_in, greeting}
 use Rattle.ca_client_core.proofs.Connected.{begins-on, client-all}
 use Rattle.ca_client_core.proofs.Joining.{listed-begun, placed-begun}
 use Rattle.ca_client_core.proofs.client.ClientCore.begin.Goals as goal

@@ -5,7 +5,7 @@ use Rattle.ca_arena.specs.declared.handle.Handle.{Handle}
 use Rattle.ca_search.specs.Searches.{Wanted}
 use Rattle.ca_search.proofs.Entries.{on_err}
 use Rattle.ca_model.specs.ClientEnds.{packed, to_server}
-use Rattle.ca_client_core.specs.Ahead.{due_after, is_in}
+use Rattle.ca_client_tables.specs.Ahead.{due_after, is_in}
 use Rattle.ca_client_core.specs.Moments.{SearchesAll}
 use Rattle.ca_client_core.proofs.Prepared.{lacks-due, lacks-echo, lacks-end, packs-some, plans-so}
 use Rattle.ca_client_core.proofs.client.ClientCore.plan.Goals as goal
