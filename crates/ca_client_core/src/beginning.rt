@@ -3,7 +3,7 @@ ghost use Rattle.ca_model.specs.ClientEnds.{ClientBegins};
 
 use crate::client::ClientCore;
 use ca_beacon::BeaconTable;
-use ca_client_tables::{Address, add_names, count_names};
+use ca_client_tables::{Address, count_names, name_circuits};
 use ca_ids::HeldTable;
 use ca_monitor::Monitors;
 use ca_requests::Requests;
@@ -41,11 +41,9 @@ impl ClientCore {
         if count_names(names) > ARENA_SLOTS {
             return Err(Refusal::ArenaFull);
         }
-        let mut circuits = HeldTable::new(alloc);
-        let mut order = Vec::new(alloc);
-        if add_names(&mut circuits, &mut order, names).is_err() {
+        let Ok((circuits, order)) = name_circuits(alloc, names) else {
             return Err(Refusal::OutOfMemory);
-        }
+        };
         Ok(ClientCore {
             alloc,
             user,

@@ -6,9 +6,7 @@ ghost use Rattle.ca_client_core.specs.Connecting.{BeginsOn};
 
 use crate::client::ClientCore;
 use ca_arena::Handle;
-use ca_client_tables::{Circuit, Connection, begin_all, connect, create_all, set_up};
-use ca_link::Link;
-use ca_monitor::ReadRun;
+use ca_client_tables::{Circuit, begin_all, connect, new_connection};
 use std::alloc::AllocError;
 
 impl ClientCore {
@@ -30,13 +28,15 @@ impl ClientCore {
         requires within { priority ≤ priority_limit }
         ensures { BeginsOn self.old circuit (unconnected self.old circuit) result self.new }
     {
-        let mut link = Link::new(self.alloc, self.moment);
-        set_up(self.alloc, &mut link, priority, &self.user, &self.host)?;
-        create_all(self.alloc, &mut link, &self.channels, circuit)?;
-        let connection = Connection {
-            link,
-            run: ReadRun::new(),
-        };
+        let connection = new_connection(
+            self.alloc,
+            self.moment,
+            priority,
+            &self.user,
+            &self.host,
+            &self.channels,
+            circuit,
+        )?;
         connect(&mut self.circuits, circuit, connection);
         begin_all(&mut self.channels, circuit);
         Ok(())

@@ -1,5 +1,5 @@
 -- A search reply on the tables of a client: what it does, and that it can be undone.
-use Rattle.std.proofs.Common.{◌≡◌, ◌∙◌, ℕ, ◌+◌, ◌-◌, true, false, List, [], ◌∷◌, ◌++◌, Option, Some, None, Result, Ok, Err, ap, arith, length, refl, slice_set, subst, sym, take}
+use Rattle.std.proofs.Common.{◌≡◌, ◌∙◌, ℕ, ◌-◌, true, false, List, [], ◌∷◌, ◌++◌, Option, Some, None, Result, Ok, Err, ap, arith, length, refl, slice_set, subst, sym, take}
 use Rattle.std.specs.Prelude.{IsErr, ℕ}
 use Rattle.std.specs.declared.alloc.AllocError.{AllocError}
 use Rattle.std.proofs.lemmas.List.{length_push, set-get_or, take_at}
@@ -26,7 +26,6 @@ use Rattle.ca_client_tables.proofs.Circuits.{changed-found, changed-same, change
 use Rattle.ca_client_tables.proofs.Replies.{finds-connected, finds-full, finds-new, finds-none-new, finds-nothing, finds-out, finds-waiting}
 use Rattle.ca_client_tables.proofs.Queued.{cut-messages}
 use Rattle.std.specs.FinMap as finite
-use Rattle.ca_requests.specs.Calls as requests
 use Rattle.ca_requests.specs.Requests.{Request}
 use Rattle.ca_monitor.specs.Subscriptions.{Subscription}
 

@@ -1,5 +1,5 @@
 -- Searches put into datagrams, one after another.
-use Rattle.std.proofs.Common.{◌≡◌, ◌≢◌, ◌∙◌, ℕ, ◌+◌, ◌-◌, true, false, List, [], ◌∷◌, ◌++◌, append_assoc, ap, refl, sym}
+use Rattle.std.proofs.Common.{◌≡◌, ◌≢◌, ◌∙◌, ℕ, true, false, List, [], ◌∷◌, ◌++◌, append_assoc, ap, refl, sym}
 use Rattle.ca_dgram.specs.Search.{searched}
 use Rattle.ca_search.specs.Searches.{Wanted}
 use Rattle.ca_model.specs.ClientEnds.{packed}

@@ -1,5 +1,5 @@
 -- Messages that wait on one circuit, after the others.
-use Rattle.std.proofs.Common.{◌≡◌, ◌∙◌, ℕ, ◌+◌, List, [], ◌∷◌, ◌++◌, Option, Some, None, append-nil, append_assoc, ap, length, map, option_map, refl, sym, unwrap_or}
+use Rattle.std.proofs.Common.{◌≡◌, ◌∙◌, ℕ, List, [], ◌∷◌, ◌++◌, Option, Some, None, append-nil, append_assoc, ap, length, map, option_map, refl, sym, unwrap_or}
 use Rattle.std.specs.Prelude.{option_and_then}
 use Rattle.std.proofs.lemmas.Grind.{flat_map-append}
 use Rattle.std.proofs.lemmas.List.{take_at}
@@ -9,7 +9,6 @@ use Rattle.ca_link.specs.Link.{LinkState, with_sent}
 use Rattle.ca_wire.specs.Fields.{Fields}
 use Rattle.ca_wire.specs.Message.{spelled, spelling}
 use Rattle.ca_model.specs.Answers.{Aim, Sending}
-use Rattle.ca_model.specs.Answers as aim
 use Rattle.ca_model.specs.Client.{Client, ClientCircuit, Connection, out_bytes, sending}
 use Rattle.ca_client_tables.specs.Ends.{with_messages, cut_back, cut_end}
 use Rattle.ca_client_tables.proofs.Circuits.{changed-same, changed-twice, this-same}

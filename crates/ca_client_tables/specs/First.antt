@@ -7,7 +7,6 @@ use Rattle.ca_wire.specs.Fields.{Fields}
 use Rattle.ca_wire.specs.Stream.{BadAt, NoneBegins, NotBad}
 use Rattle.ca_model.specs.Client.{ClientCircuit, Connection}
 use Rattle.ca_model.specs.Ends as ends
-use Rattle.ca_client_tables.specs.declared.why.Why.{Why}
 use Rattle.ca_client_tables.specs.declared.first.First.{First}
 use Rattle.ca_client_tables.specs.declared.first.First.TheVariants as first
 use Rattle.ca_client_tables.specs.Closings.{why_is}

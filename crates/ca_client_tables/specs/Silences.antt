@@ -1,7 +1,7 @@
 -- Working: what a moment asks of one circuit, and its ECHO. No clause of a caller needs it.
 use Rattle.std.specs.Prelude.{ℕ, [], ◌∷◌, Option, option_map, unwrap_or}
 use Rattle.ca_link.specs.declared.keep.Keep.{Keep}
-use Rattle.ca_link.specs.declared.keep.Keep.TheVariants.{Echo, Idle}
+use Rattle.ca_link.specs.declared.keep.Keep.TheVariants.{Idle}
 use Rattle.ca_link.specs.Link.{kept, noted, with_sent}
 use Rattle.ca_model.specs.Client.{Connection, ClientCircuit}
 use Rattle.ca_text.specs.declared.command.Command.TheVariants as command

@@ -13,9 +13,13 @@ use std::net::Ipv4Addr;
 /// A beacon that was heard: its server, the last number of that before, and whether it is an anomaly.
 #[derive(Clone, Copy, Debug)]
 pub struct Beacon {
+    /// The address of its server.
     pub address: Ipv4Addr,
+    /// The port of its server.
     pub port: u16,
+    /// The number of the last beacon from there before it.
     pub before: Option<u32>,
+    /// Whether it tells that a server came or came back.
     pub anomaly: bool,
 }
 

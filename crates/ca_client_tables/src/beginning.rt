@@ -1,5 +1,5 @@
 //! The circuits of name servers, as a client begins.
-ghost use Rattle.std.specs.Prelude.{◌≡◌, ◌≢◌, ◌<◌, ◌+◌, [], OnErr, OnOk, if◌then◌else◌, length, take};
+ghost use Rattle.std.specs.Prelude.{◌≡◌, ◌≢◌, ◌<◌, ◌+◌, [], IfOk, OnErr, OnOk, if◌then◌else◌, length, take};
 ghost use Rattle.ca_model.specs.ClientEnds.{distinct};
 ghost use Rattle.ca_model.specs.Ends.{same_address};
 ghost use Rattle.ca_client_tables.specs.Names.{Adds, HasNames, is_among, seen_before};
@@ -8,7 +8,7 @@ use crate::circuit::Circuit;
 use crate::ends::Address;
 use ca_arena::Handle;
 use ca_ids::HeldTable;
-use std::alloc::AllocError;
+use std::alloc::{AllocError, Global};
 
 /// How many addresses these are, each once.
 pub fn count_names(names: &[Address]) -> usize
@@ -53,8 +53,22 @@ pub(crate) fn is_same(a: Address, b: Address) -> bool
     a.host == b.host && a.port == b.port
 }
 
-/// Adds a circuit for each of these addresses, once.
-pub fn add_names(
+/// The circuits of the name servers at these addresses, one for each address, and their order. It takes memory only if there is one.
+pub fn name_circuits(
+    alloc: Global,
+    names: &[Address],
+) -> Result<(HeldTable<Circuit>, Vec<Handle>), AllocError>
+    ensures ok { IfOk result (λ made. HasNames names.now made.0 made.1.items) }
+    ensures some { OnErr result (names.now ≢ []) }
+{
+    let mut circuits = HeldTable::new(alloc);
+    let mut order = Vec::new(alloc);
+    add_names(&mut circuits, &mut order, names)?;
+    Ok((circuits, order))
+}
+
+// Adds a circuit for each of these addresses, once.
+fn add_names(
     circuits: &mut HeldTable<Circuit>,
     order: &mut Vec<Handle>,
     names: &[Address],

@@ -18,8 +18,11 @@ use std::marker::Model;
 /// What the reply to a CREATE_CHAN says of a channel: its SID, its native type and its greatest count.
 #[derive(Clone, Copy, Debug, PartialEq, Eq)]
 pub struct Native {
+    /// The id by which messages to its server name it.
     pub sid: u32,
+    /// Its native type.
     pub data_type: u16,
+    /// The greatest count of its elements.
     pub count: u32,
 }
 
@@ -43,7 +46,9 @@ pub enum Phase {
 /// A channel is searched for, or it is on a circuit.
 #[derive(Clone, Copy, Debug, PartialEq, Eq)]
 pub enum Standing {
+    /// It is searched for.
     Searching,
+    /// It is on this circuit, so far.
     On(Handle, Phase),
 }
 
@@ -213,7 +218,7 @@ impl Channel {
     }
 }
 
-/// The channel of this handle is there now.
+/// The channel of this handle is there now; a stale handle changes nothing.
 pub fn set_standing(channels: &mut HeldTable<Channel>, handle: Handle, standing: Standing)
     ensures { channels.new
         ≡ with_changed

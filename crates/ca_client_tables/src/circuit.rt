@@ -10,8 +10,8 @@ use std::marker::Model;
 /// The client's end of a connected circuit: its bytes, and its reads in a row.
 #[derive(Debug, Drop)]
 pub struct Connection {
-    pub link: Link,
-    pub run: ReadRun,
+    pub(crate) link: Link,
+    pub(crate) run: ReadRun,
 }
 
 impl Model for Connection {
@@ -30,9 +30,13 @@ impl Model for Connection {
 /// A circuit to an address, under a priority: it is a name server's, or channels want it. It has an end once it is connected.
 #[derive(Debug, Drop)]
 pub struct Circuit {
+    /// Where its server is.
     pub address: Address,
+    /// Its priority, from 0 to 99.
     pub priority: u16,
+    /// Whether it is that of a name server.
     pub is_name: bool,
+    /// Its end, once it is connected.
     pub connection: Option<Connection>,
 }
 

@@ -1,11 +1,12 @@
 //! A circuit that is wanted is connected: what waits on it then.
-ghost use Rattle.std.specs.Prelude.{◌≡◌, ◌<◌, ◌≤◌, ◌∷◌, [], OnOk, Some, length};
+ghost use Rattle.std.specs.Prelude.{◌≡◌, ◌<◌, ◌≤◌, ◌∷◌, [], IfOk, OnOk, Some, length};
 ghost use Rattle.ca_text.specs.Limits.{priority_limit};
 ghost use Rattle.ca_arena.specs.Arena.{place_at};
 ghost use Rattle.ca_ids.specs.Table.{held_at, with_all, with_changed};
 ghost use Rattle.ca_ids.specs.Walks.{with_place};
 ghost use Rattle.ca_link.specs.Calls.{IsOpen};
-ghost use Rattle.ca_link.specs.Link.{with_sent};
+ghost use Rattle.ca_monitor.specs.ReadRun.{no_reads};
+ghost use Rattle.ca_link.specs.Link.{new_link, with_sent};
 ghost use Rattle.ca_model.specs.Client as client;
 ghost use Rattle.ca_model.specs.ClientEnds.{creating, is_connecting};
 ghost use Rattle.ca_client_tables.specs.Forms.{phase_of};
@@ -16,6 +17,7 @@ use crate::circuit::{Circuit, Connection};
 use ca_arena::Handle;
 use ca_ids::HeldTable;
 use ca_link::Link;
+use ca_monitor::ReadRun;
 use ca_text::{Command, PAYLOAD_LIMIT};
 use ca_wire::{Message, Priority, name_request, version_request};
 use std::alloc::{AllocError, Global};
@@ -31,8 +33,38 @@ fn send(link: &mut Link, message: &Message) -> Result<(), AllocError>
     }
 }
 
-/// VERSION, CLIENT_NAME and HOST_NAME wait on a link. A name that has no room in a message counts as out of memory.
-pub fn set_up(
+/// The end of a circuit that is connected at this moment, under this priority: its set-up waits on it, by this user at this host, and then the
+/// CREATE_CHANs of the channels that wait for this circuit, in order of index.
+///
+/// A name that has no room in a message counts as out of memory.
+pub fn new_connection(
+    alloc: Global,
+    moment: u64,
+    priority: u16,
+    user: &[u8],
+    host: &[u8],
+    channels: &HeldTable<Channel>,
+    circuit: Handle,
+) -> Result<Connection, AllocError>
+    requires { priority ≤ priority_limit }
+    ensures { IfOk result (λ e. e ≡ record {
+      link = with_sent
+          (creations_in circuit channels.now)
+          (with_sent (greeting priority user.now host.now) (new_link moment));
+      run = no_reads;
+    }) }
+{
+    let mut link = Link::new(alloc, moment);
+    set_up(alloc, &mut link, priority, user, host)?;
+    create_all(alloc, &mut link, channels, circuit)?;
+    Ok(Connection {
+        link,
+        run: ReadRun::new(),
+    })
+}
+
+// VERSION, CLIENT_NAME and HOST_NAME wait on a link. A name that has no room in a message counts as out of memory.
+fn set_up(
     alloc: Global,
     link: &mut Link,
     priority: u16,
@@ -57,8 +89,8 @@ pub fn set_up(
     Ok(())
 }
 
-/// The CREATE_CHAN of each channel that waits for this circuit waits on a link, in order of index.
-pub fn create_all(
+// The CREATE_CHAN of each channel that waits for this circuit waits on a link, in order of index.
+fn create_all(
     alloc: Global,
     link: &mut Link,
     channels: &HeldTable<Channel>,

@@ -27,8 +27,11 @@ const NO_ADDRESS: u32 = 0xFFFF_FFFF;
 /// A channel that was found: on which circuit it is, and how it came there.
 #[derive(Clone, Copy, Debug)]
 pub struct Found {
+    /// The channel.
     pub channel: Handle,
+    /// The circuit on which it is now.
     pub circuit: Handle,
+    /// How it came there.
     pub how: How,
 }
 

@@ -10,7 +10,13 @@ use std::alloc::{AllocError, Global};
 
 impl Circuit {
     /// Takes bytes of a read, if it is connected.
-    pub fn give(&mut self, alloc: Global, moment: u64, bytes: &[u8], more: bool) -> Result<(), Refusal>
+    pub fn give(
+        &mut self,
+        alloc: Global,
+        moment: u64,
+        bytes: &[u8],
+        more: bool,
+    ) -> Result<(), Refusal>
         ensures { GivesAt moment bytes.now more self.old result self.new }
     {
         let Some(connection) = &mut self.connection else {

@@ -33,12 +33,12 @@ mod why;
 
 pub use addressing::{Datagram, to_servers};
 pub use beacons::Beacon;
-pub use beginning::{add_names, count_names};
+pub use beginning::{count_names, name_circuits};
 pub use bytes::know_bytes;
 pub use channel::{Channel, Native, Phase, Standing, set_standing};
 pub use circuit::{Circuit, Connection};
 pub use clearing::is_used;
-pub use connecting::{begin_all, connect, create_all, set_up};
+pub use connecting::{begin_all, connect, new_connection};
 pub use ending::{bring_back, end_channels, resume};
 pub use ends::Address;
 pub use finding::{Found, How, find, pause_found};

@@ -1,5 +1,5 @@
 //! The channels that are live on each circuit, so that its end can tell without memory which were lost.
-ghost use Rattle.std.specs.Prelude.{◌≡◌, ◌≢◌, ◌+◌, ◌<◌, ◌≤◌, ◌++◌, ℕ, OnOk, length, vec_capacity, vec_len};
+ghost use Rattle.std.specs.Prelude.{[], ◌≡◌, ◌≢◌, ◌+◌, ◌<◌, ◌≤◌, ◌++◌, ℕ, OnOk, length, vec_capacity, vec_len};
 ghost use Rattle.ca_model.specs.Client.{is_live};
 ghost use Rattle.ca_client_tables.specs.Ending.{named_at, named_in};
 ghost use Rattle.ca_client_tables.specs.Listed.{Has, KeepsAll, KeepsLive, is_live_in, list_at, lives_in};
@@ -7,9 +7,9 @@ ghost use Rattle.ca_client_tables.specs.Listed.{Has, KeepsAll, KeepsLive, is_liv
 use crate::channel::{Channel, Standing, is_same};
 use ca_arena::Handle;
 use ca_ids::HeldTable;
-use std::mem;
 use std::alloc::{AllocError, Global};
 use std::marker::Model;
+use std::mem;
 
 // So many are listed before any is taken out.
 const LEAST_LIMIT: usize = 16;
@@ -55,7 +55,8 @@ impl LiveChannels {
 
     // Hands out all that are listed.
     fn take(&mut self, alloc: Global) -> Vec<Handle>
-        ensures { result.items ≡ self.old }
+        ensures told { result.items ≡ self.old }
+        ensures taken { self.new ≡ [] }
     {
         self.limit = LEAST_LIMIT;
         mem::replace(&mut self.listed, Vec::new(alloc))
@@ -125,12 +126,9 @@ fn extend(alloc: Global, lists: &mut Vec<LiveChannels>, index: u16) -> Result<()
 }
 
 /// Hands out what is listed for this circuit. It does not allocate.
-pub fn take_live(
-    alloc: Global,
-    lists: &mut Vec<LiveChannels>,
-    circuit: Handle,
-) -> Vec<Handle>
+pub fn take_live(alloc: Global, lists: &mut Vec<LiveChannels>, circuit: Handle) -> Vec<Handle>
     ensures told { result.items ≡ list_at lists.old.items circuit.index }
+    ensures taken { list_at lists.new.items circuit.index ≡ [] }
     ensures others { (i : ℕ) → i ≢ circuit.index
         → list_at lists.new.items i ≡ list_at lists.old.items i }
 {

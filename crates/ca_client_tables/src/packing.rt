@@ -7,8 +7,8 @@ ghost use Rattle.ca_client_tables.specs.Packing.{AddsSearch, PutsSearch};
 use ca_dgram::search_into;
 use ca_search::Search;
 use ca_text::Refusal;
-use std::mem;
 use std::alloc::{AllocError, Global};
+use std::mem;
 
 /// The datagrams of these searches, in order: each is in the last one, unless that has no room for it.
 pub fn packed(alloc: Global, searches: &[Search]) -> Result<Vec<Vec<u8>>, AllocError>

@@ -21,8 +21,11 @@ use std::alloc::{AllocError, Global};
 /// What a message of a datagram did, so that it can be undone.
 #[derive(Clone, Copy, Debug)]
 pub enum Received {
+    /// Nothing.
     Nothing,
+    /// A channel was found.
     Found(Found),
+    /// A beacon was heard.
     Beacon(Beacon),
 }
 

@@ -1,7 +1,5 @@
 //! Why an end of a circuit ended.
 
-
-
 /// Why a client's end of a circuit ended.
 #[derive(Clone, Copy, Debug, PartialEq, Eq)]
 pub enum Why {

@@ -1,4 +1,4 @@
-use Rattle.std.proofs.Common.{◌∙◌, arith}
+use Rattle.std.proofs.Common.{◌∙◌}
 use Rattle.ca_client_tables.proofs.Anomalies.{bits-back}
 use Rattle.ca_client_tables.proofs.beacons.beacon_address.Goals as goal
 

@@ -1,4 +1,4 @@
-use Rattle.std.proofs.Common.{◌≡◌, ◌∙◌, ap, subst, sym, ℕ}
+use Rattle.std.proofs.Common.{◌≡◌, ◌∙◌, ap, ℕ}
 use Rattle.std.specs.FinMap as finite
 use Rattle.std.specs.Net.Addr.{ipv4_bits}
 use Rattle.ca_beacon.specs.Table.{anomaly, noted, server}

@@ -1,4 +1,4 @@
-use Rattle.std.proofs.Common.{◌≡◌, ◌∙◌, ◌+◌, ◌≤◌, ℕ, List, ap, arith, length, subst, sym}
+use Rattle.std.proofs.Common.{◌∙◌, ◌+◌, ◌≤◌, ℕ, List, ap, arith, length, subst, sym}
 use Rattle.std.proofs.lemmas.List.{drop_all}
 use Rattle.ca_client_tables.specs.Receiving.{Parts}
 use Rattle.ca_client_tables.specs.declared.receiving.Received.{Received}

@@ -1,4 +1,4 @@
-use Rattle.std.proofs.Common.{◌≡◌, Option, Some, refl, subst, sym}
+use Rattle.std.proofs.Common.{Option, Some, refl, subst, sym}
 use Rattle.ca_model.specs.Client.{Connection}
 use Rattle.ca_client_tables.specs.First.{FirstOf}
 use Rattle.ca_client_tables.proofs.circuit.Circuit.take_first.Goals as goal

@@ -1,4 +1,4 @@
-use Rattle.std.proofs.Common.{◌≡◌, ◌∙◌, None, Ok, ap, subst}
+use Rattle.std.proofs.Common.{◌∙◌, None, Ok, ap, subst}
 use Rattle.ca_link.specs.Calls.{Nexts}
 use Rattle.ca_link.specs.Link.{LinkState}
 use Rattle.ca_wire.specs.Stream.{NoneBegins, NotBad}
