@@ -1,5 +1,5 @@
 -- A circuit is connected: what waits on it then, and its channels.
-use Rattle.std.proofs.Common.{◌≡◌, ◌∙◌, ℕ, zero, suc, ◌+◌, Bool, true, false, inl, inr, List, [], ◌∷◌, ◌++◌, Option, Some, None, Result, Ok, Err, ap, filter, if◌then◌else◌, map, nat_eq, option_map, refl, subst, sym}
+use Rattle.std.proofs.Common.{◌≡◌, ◌∙◌, ℕ, zero, suc, Bool, true, false, inl, inr, List, [], ◌∷◌, ◌++◌, Option, Some, None, Result, Ok, Err, ap, filter, if◌then◌else◌, map, nat_eq, option_map, refl, subst, sym}
 use Rattle.std.specs.Prelude.{IsErr, filter_map, is_none, option_and_then}
 use Rattle.std.specs.declared.alloc.AllocError.{AllocError}
 use Rattle.ca_text.proofs.Places.{some_is}

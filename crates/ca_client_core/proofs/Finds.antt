@@ -1,5 +1,5 @@
 -- A search reply that was heard on a circuit.
-use Rattle.std.proofs.Common.{◌≡◌, ◌∙◌, ◌-◌, true, false, Option, Result, Ok, Err, ap, refl, sym}
+use Rattle.std.proofs.Common.{◌≡◌, ◌∙◌, true, false, Option, Result, Ok, Err, ap, refl, sym}
 use Rattle.std.specs.Prelude.{IsErr}
 use Rattle.std.specs.declared.alloc.AllocError.{AllocError}
 use Rattle.ca_wire.specs.Fields.{Fields}

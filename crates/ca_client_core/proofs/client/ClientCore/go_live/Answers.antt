@@ -1,4 +1,4 @@
-use Rattle.std.proofs.Common.{◌≡◌, ◌≢◌, ◌∙◌, [], ap, inl, inr, length}
+use Rattle.std.proofs.Common.{◌≢◌, ◌∙◌, [], ap, inl, inr, length}
 use Rattle.ca_monitor.specs.Subscriptions.{standing_to}
 use Rattle.ca_model.specs.Client.{Live, On, with_standing}
 use Rattle.ca_client_core.specs.Again.{add_messages, living}

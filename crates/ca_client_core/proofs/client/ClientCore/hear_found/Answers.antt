@@ -1,4 +1,4 @@
-use Rattle.std.proofs.Common.{◌≡◌, List, None, Ok, Option, Some, ap, subst, sym, ℕ}
+use Rattle.std.proofs.Common.{List, None, Ok, Option, Some, ap, subst, sym, ℕ}
 use Rattle.ca_search.specs.Searches as search
 use Rattle.ca_model.specs.Client.{Client}
 use Rattle.ca_client_tables.specs.Finding.{FindsIn, Tables, tables_of, with_tables}

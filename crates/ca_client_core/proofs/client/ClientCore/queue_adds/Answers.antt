@@ -1,4 +1,4 @@
-use Rattle.std.proofs.Common.{◌≡◌, ◌∙◌, ◌+◌, ◌++◌, ◌∷◌, ℕ, List, [], Result, Ok, Err, ap, arith, length, refl, take, take_all}
+use Rattle.std.proofs.Common.{◌∙◌, ◌∷◌, List, [], Result, Ok, Err, ap, arith, length, refl, take, take_all}
 use Rattle.std.specs.Prelude.{OnErr}
 use Rattle.ca_arena.specs.declared.handle.Handle.{Handle}
 use Rattle.ca_monitor.specs.Subscriptions.{Subscription}

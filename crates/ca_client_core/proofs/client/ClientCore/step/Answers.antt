@@ -1,4 +1,4 @@
-use Rattle.std.proofs.Common.{◌≡◌, ◌∙◌, Some, ap, subst, sym}
+use Rattle.std.proofs.Common.{◌≡◌, ◌∙◌, Some, ap}
 use Rattle.ca_ids.specs.Table.{under}
 use Rattle.ca_model.specs.Client.{Client, ClientCircuit, closing, ended}
 use Rattle.ca_client_tables.specs.Closings.{why_is}

@@ -1,5 +1,4 @@
-use Rattle.std.proofs.Common.{◌≡◌, Some, subst, sym}
-use Rattle.ca_ids.specs.Table.{under}
+use Rattle.std.proofs.Common.{subst, sym}
 use Rattle.ca_model.specs.Client.{Client}
 use Rattle.ca_client_core.specs.First.{FirstOn}
 use Rattle.ca_client_core.proofs.Firsts.{first-on, first-stays}
