@@ -23,7 +23,7 @@ impl Model for Datagram {
     ghost view = { λ d. record { to = d.to; bytes = d.bytes.items } };
 }
 
-/// These datagrams to each of these servers, in order.
+/// These datagrams to each of these servers, in order. It takes memory only if there is a datagram.
 pub fn to_servers(
     alloc: Global,
     servers: &[Address],

@@ -33,8 +33,8 @@ fn send(link: &mut Link, message: &Message) -> Result<(), AllocError>
     }
 }
 
-/// The end of a circuit that is connected at this moment, under this priority: its set-up waits on it, by this user at this host, and then the
-/// CREATE_CHANs of the channels that wait for this circuit, in order of index.
+/// The end of a circuit that is connected at this moment, under this priority: its set-up waits on it, by this user at this host, and then
+/// the CREATE_CHANs of the channels that wait for this circuit, in order of index.
 ///
 /// A name that has no room in a message counts as out of memory.
 pub fn new_connection(

@@ -136,7 +136,7 @@ fn search_again_at(
     resume(searches, WireId::of(handle).number(), moment);
 }
 
-/// The channel of this handle is searched for.
+/// The channel of this handle is searched for; a stale handle changes nothing.
 pub fn bring_back(channels: &mut HeldTable<Channel>, handle: Handle)
     ensures { channels.new
         ≡ with_changed (λ here. record here { standing = Searching }) handle channels.old }
@@ -146,7 +146,7 @@ pub fn bring_back(channels: &mut HeldTable<Channel>, handle: Handle)
     }
 }
 
-/// The searches for this CID begin again.
+/// The searches for this CID begin again, as from this moment.
 pub fn resume(searches: &mut IndexMap<u32, Place>, cid: u32, moment: u64)
     ensures { searches.new.entries ≡ with_one (resumed moment) cid searches.old.entries }
 {

@@ -9,7 +9,7 @@ use ca_search::{Place, Search};
 use indexmap::IndexMap;
 use std::alloc::{AllocError, Global};
 
-/// The same, of these channels and searches.
+/// The searches that are due once these circuits have ended, in order. It takes memory only if there is one.
 pub fn find_after(
     alloc: Global,
     channels: &HeldTable<Channel>,

@@ -94,7 +94,7 @@ impl Channel {
     }
 }
 
-/// Lists a channel for this circuit. Without memory the others are listed as they were.
+/// Lists a channel for this circuit. Those that are live and were listed stay listed, also without memory; others may be taken out.
 pub fn note_live(
     alloc: Global,
     lists: &mut Vec<LiveChannels>,
@@ -125,7 +125,7 @@ fn extend(alloc: Global, lists: &mut Vec<LiveChannels>, index: u16) -> Result<()
     Ok(())
 }
 
-/// Hands out what is listed for this circuit. It does not allocate.
+/// Hands out what is listed for this circuit; nothing is listed for it then. It does not allocate.
 pub fn take_live(alloc: Global, lists: &mut Vec<LiveChannels>, circuit: Handle) -> Vec<Handle>
     ensures told { result.items ≡ list_at lists.old.items circuit.index }
     ensures taken { list_at lists.new.items circuit.index ≡ [] }

@@ -20,7 +20,7 @@ impl Circuit {
         }
     }
 
-    /// An ECHO waits, if it is connected.
+    /// An ECHO waits, if it is connected; that the silence asked for it is noted. Without memory nothing changes.
     pub fn echo(&mut self, alloc: Global, moment: u64) -> Result<(), AllocError>
         ensures ok { OnOk result (self.new ≡ echo_in moment self.old) }
         ensures err { OnErr result (self.new ≡ self.old) }
