@@ -12,6 +12,7 @@ pub mod Puts
 pub mod Notices
 pub mod Again
 pub mod Finding
+pub mod ForHistories
 pub mod Connecting
 pub mod Dispatch
 pub mod Turns

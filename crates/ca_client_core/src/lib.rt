@@ -22,6 +22,7 @@ mod ends;
 mod errors;
 mod finding;
 mod first;
+pub mod for_histories;
 mod foreseeing;
 mod hearing;
 mod input;
