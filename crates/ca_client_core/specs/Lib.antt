@@ -7,6 +7,7 @@ pub mod Asks
 pub mod Puts
 pub mod Notices
 pub mod Again
+pub mod ForHistories
 pub mod Connecting
 pub mod Dispatch
 pub mod Turns
