@@ -35,7 +35,7 @@ pub none : (n : ℕ) → sum (replicate n 0) ≡ 0
 none zero = refl
 none (suc n) = none n
 
-pub many : (n : ℕ) → length (replicate n 0) ≡ n
+pub many : (n : ℕ) → length {A = ℕ} (replicate n 0) ≡ n
 many zero = refl
 many (suc n) = ap suc (many n)
 
@@ -47,7 +47,7 @@ states-are (r ∷ rs) = ap (λ (qs : List RecordState). r ∷ qs) (states-are rs
 
 none-wait : (rs : List RecordState) → waiting_in (map new_record rs) ≡ 0
 none-wait [] = refl
-none-wait (r ∷ rs) = waits-cons (new_record r) (map new_record rs) ∙ none-wait rs
+none-wait (r ∷ rs) = omega (arith, waits-cons (new_record r) (map new_record rs), none-wait rs)
 
 pub counted_new : (port now : ℕ) (rules : List Rule) (rs : List RecordState) (server : Server) (total places : ℕ) (credits : List ℕ) → server ≡ new_server port now rules rs → records.AreApart rs → total ≡ 0 → credits ≡ replicate places 0 → places ≡ arena_slots → IsCounted server 0 total credits
 counted_new port now rules rs server total places credits is apart fresh are all =
@@ -73,9 +73,9 @@ counted_nothing old new count total credits k c = record {
 -- ---- a step
 
 shut : (c : Option ServerCircuit) (e : ServerEnd) → is_open c ≡ false → c ≡ Some (Open e) → ⊥
-shut (Some (Open x)) e no is = absurd cc
-shut (Some (Ended w l)) e no is = absurd cc
-shut None e no is = absurd cc
+shut (Some (Open x)) e closed is = absurd cc
+shut (Some (Ended w l)) e closed is = absurd cc
+shut None e closed is = absurd cc
 
 -- how a step that is made changes what is counted
 pub record Stays (old new : Server) : Type 0 where
@@ -84,8 +84,8 @@ pub record Stays (old new : Server) : Type 0 where
   pub apart : AreApart new.records
 
 pub stays : (old new : Server) (h : Handle) (did : Stepped) (count total : ℕ) (credits : List ℕ) → IsCounted old count total credits → (is_open (under old.circuits h) ≡ false) ⊎ (old.applied + waiting old < applied_limit) → Steps old h did new → Stays old new
-stays old new h did count total credits k (inl no) is =
-    let c = steps-closed old h did new (λ e at. shut (under old.circuits h) e no at) is in
+stays old new h did count total credits k (inl closed) is =
+    let c = steps-closed old h did new (λ e at. shut (under old.circuits h) e closed at) is in
     record { applied = omega (arith, c.applied); most = omega (arith, k.most, c.applied, c.waits); apart = c.apart k.apart }
 stays old new h did count total credits k (inr room) is =
     let c = steps old h did new (omega (arith, room)) k.apart is in
@@ -109,7 +109,7 @@ counted_step old new count total more credits i k l s e =
 
 -- ---- a finish
 
-pub record Credits (old new : Server) (credits : List ℕ) (next : Option Handle) : Type 0 where
+pub record Credits (old new : Server) (next : Option Handle) : Type 0 where
   pub none : next ≡ None → new.applied ≡ old.applied
   pub one : (h : Handle) → next ≡ Some h → new.applied ≡ old.applied + 1
   pub most : new.applied + waiting new ≤ old.applied + waiting old
@@ -121,37 +121,43 @@ no-circuit h e = cc
 some-circuit : (h : Handle) → (let n : Option Handle = None in Some h ≡ n) → ⊥
 some-circuit h e = cc
 
-pub credits_of : (old new : Server) (name : List ℕ) (credits : List ℕ) → (r : Record) → record_named old.records name ≡ Some r → CountsNext old name new → Credits old new credits (first_waiting old name)
-credits_of old new name credits r named c = subst (λ (o : Option Record). Credits old new credits (circuit_next o)) (sym named) (go r.waiting refl)
+pub credits_of : (old new : Server) (name : List ℕ) (r : Record) → record_named old.records name ≡ Some r → CountsNext old name new → Credits old new (first_waiting old name)
+credits_of old new name r named c = subst (λ (o : Option Record). Credits old new (circuit_next o)) (sym named) (go r.waiting refl)
   where
-    go : (ws : List WaitingPut) → r.waiting ≡ ws → Credits old new credits (first_circuit r.waiting)
-    go [] is = subst (λ (ws : List WaitingPut). Credits old new credits (first_circuit ws)) (sym is) (record {
+    go : (ws : List WaitingPut) → r.waiting ≡ ws → Credits old new (first_circuit r.waiting)
+    go [] is = subst (λ (ws : List WaitingPut). Credits old new (first_circuit ws)) (sym is) (record {
       none = λ e. c.idle r named is;
       one = λ h e. absurd (no-circuit h e);
       most = c.most;
       apart = c.apart;
     })
-    go (p ∷ ps) is = subst (λ (ws : List WaitingPut). Credits old new credits (first_circuit ws)) (sym is) (record {
+    go (p ∷ ps) is = subst (λ (ws : List WaitingPut). Credits old new (first_circuit ws)) (sym is) (record {
       none = λ e. absurd (some-circuit p.put.circuit e);
       one = λ h e. c.next r p ps named is;
       most = c.most;
       apart = c.apart;
     })
 
-pub counted_finish : (old new : Server) (count total : ℕ) (credits : List ℕ) (next : Option Handle) (h : Handle) → IsCounted old count total credits → Credits old new credits next → next ≡ Some h → h.index < arena_slots → IsCounted new count total (set credits h.index (get_or credits h.index 0 + 1))
-counted_finish old new count total credits next h k c is l =
-    let within : h.index < length credits = subst (λ (n : ℕ). h.index < n) (sym k.wide) l in
-    let t = sum_set credits h.index (get_or credits h.index 0 + 1) within in
+pub counted_finish : (old new : Server) (count total : ℕ) (credits : List ℕ) (next : Option Handle) (h : Handle) (i : ℕ) → IsCounted old count total credits → Credits old new next → next ≡ Some h → i < arena_slots → IsCounted new count total (set credits i (get_or credits i 0 + 1))
+counted_finish old new count total credits next h i k c is l =
+    let within : i < length credits = subst (λ (n : ℕ). i < n) (sym k.wide) l in
+    let t = sum_set credits i (get_or credits i 0 + 1) within in
     let n = c.one h is in
     record {
       ledger = k.ledger;
       split = omega (arith, k.split, t, n);
       most = omega (arith, k.most, c.most);
-      wide = length-set credits h.index (get_or credits h.index 0 + 1) ∙ k.wide;
+      wide = length-set credits i (get_or credits i 0 + 1) ∙ k.wide;
       apart = c.apart k.apart;
     }
 
-pub counted_idle : (old new : Server) (count total : ℕ) (credits : List ℕ) (next : Option Handle) → IsCounted old count total credits → Credits old new credits next → next ≡ None → IsCounted new count total credits
+-- one credit more has room
+pub credit_room : (old : Server) (count total : ℕ) (credits : List ℕ) (i : ℕ) → IsCounted old count total credits → i < arena_slots → get_or credits i 0 ≤ applied_limit
+credit_room old count total credits i k l =
+    let within : i < length credits = subst (λ (n : ℕ). i < n) (sym k.wide) l in
+    omega (arith, credit_within credits i within, k.split, k.most)
+
+pub counted_idle : (old new : Server) (count total : ℕ) (credits : List ℕ) (next : Option Handle) → IsCounted old count total credits → Credits old new next → next ≡ None → IsCounted new count total credits
 counted_idle old new count total credits next k c is = record {
   ledger = k.ledger;
   split = k.split ∙ sym (c.none is);

@@ -1,4 +1,4 @@
-use Rattle.std.proofs.Common.{◌≡◌, ◌+◌, ◌-◌, ◌∙◌, sym, subst, ℕ, get_or}
+use Rattle.std.proofs.Common.{◌≡◌, ◌<◌, ◌+◌, ◌-◌, ◌∙◌, sym, subst, ℕ, get_or}
 use Rattle.std.specs.Prelude.{slice_set}
 use Rattle.ca_laws_counts.proofs.Calls.{cuts}
 use Rattle.ca_server.specs.Locked.{IsCounted}
