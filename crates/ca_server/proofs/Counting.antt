@@ -1,12 +1,12 @@
 -- The count, the credits and the puts that wait, through the calls under the lock.
-use Rattle.std.proofs.Common.{◌≡◌, ◌≤◌, ◌<◌, ℕ, zero, suc, ◌+◌, ◌-◌, Bool, true, false, inl, inr, List, [], ◌∷◌, length, set, get_or, Option, Some, None, refl, sym, ap, ◌∙◌, subst, ◌⊎◌, arith, sum}
+use Rattle.std.proofs.Common.{◌≡◌, ◌≤◌, ◌<◌, ℕ, zero, suc, ◌+◌, ◌-◌, false, inl, inr, List, [], ◌∷◌, length, set, get_or, Option, Some, None, refl, sym, ap, ◌∙◌, subst, ◌⊎◌, arith, sum}
 use Rattle.std.specs.Prelude.{map, replicate}
 use Rattle.std.proofs.Math.ListN.{length-set}
 use Rattle.std.proofs.lemmas.List.Sums.{sum_by-set}
 use Rattle.ca_arena.specs.declared.handle.Handle.{Handle}
 use Rattle.ca_ids.specs.Table.{under}
 use Rattle.ca_model.specs.Server.{Ended, Open, Server, ServerCircuit, ServerEnd, new_server}
-use Rattle.ca_model.specs.ServerCalls.{Finishes, waiting}
+use Rattle.ca_model.specs.ServerCalls.{waiting}
 use Rattle.ca_model.specs.ServerSteps.{Stepped, Steps}
 use Rattle.ca_records.specs.Puts.{Record, WaitingPut, new_record, record_named, waiting_in}
 use Rattle.ca_records.specs.Record.{RecordState}
@@ -15,9 +15,8 @@ use Rattle.ca_records.specs.Rules.{Rule}
 use Rattle.ca_server_circuit.specs.Circuits.{is_open}
 use Rattle.ca_server_core.specs.Asking.{circuit_next, first_circuit, first_waiting}
 use Rattle.ca_text.specs.Limits.{applied_limit, arena_slots}
-use Rattle.ca_laws_counts.specs.Counts.{AreApart, CountsNext, CountsNothing, CountsOne}
+use Rattle.ca_laws_counts.specs.Counts.{AreApart, CountsNext, CountsNothing}
 use Rattle.ca_laws_counts.proofs.Stepping.{steps, steps-closed}
-use Rattle.ca_laws_counts.proofs.Finishing.{finishes}
 use Rattle.ca_laws_counts.proofs.Waits.{waits-cons}
 use Rattle.ca_server.specs.Locked.{IsCounted}
 

@@ -20,11 +20,7 @@ use std::sync::ledger::{Ledger, Share};
 ///
 /// While 2^63 writes are applied or wait, an open circuit is cut, and handles no message. As after each cut, one more step reports what is
 /// left of it and takes its credits over.
-pub fn locked_step<L: Ledger>(
-    state: &mut State<L>,
-    circuit: Handle,
-    share: &mut Share<L>,
-) -> Step
+pub fn locked_step<L: Ledger>(state: &mut State<L>, circuit: Handle, share: &mut Share<L>) -> Step
     requires { 0 < share.old.parts }
     ensures step { LockedStep state.old.core state.old.count state.old.credits.items
         share.old.amount circuit (stepped result) state.new.core state.new.count

@@ -1,4 +1,4 @@
-use Rattle.std.proofs.Common.{◌≡◌, ◌+◌, ◌<◌, ◌≤◌, ◌∙◌, sym, subst, ap, ℕ, get_or, arith}
+use Rattle.std.proofs.Common.{◌+◌, ◌<◌, ◌∙◌, sym, subst, ℕ, arith}
 use Rattle.std.specs.Prelude.{slice_set}
 use Rattle.ca_laws_counts.proofs.Finishing.{finishes}
 use Rattle.ca_server.specs.Locked.{IsCounted}
