@@ -95,8 +95,8 @@ told-end c x placed l = go (under x.circuits c) refl
     freed : Told x (farewell c x) rest
     freed = told-ended x rest (was_sent_on c) losses l (listed-fewer x rest refl l)
         (λ q w.
-            let was = all-freed-back (was_sent_on c) x.requests q w.0 w.1 in
-            ((w.0, was.0, w.2), not-open (was_sent_on c) x.requests q w.0 was.0 was.1))
+        let was = all-freed-back (was_sent_on c) x.requests q w.0 w.1 in
+        ((w.0, was.0, w.2), not-open (was_sent_on c) x.requests q w.0 was.0 was.1))
         none
 
     go : (o : Option ClientCircuit) → under x.circuits c ≡ o → Told x (farewell c x) (unwrap_or (option_map (λ (d : ClientCircuit). let_go c d (channels_ended c rest)) o) x)

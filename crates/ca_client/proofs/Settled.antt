@@ -149,8 +149,7 @@ stands-connected x c sent y placed connects = go (unconnected x c) refl connects
         let there = unconnected-there x c d at in
         let z : Client = begun c x in
         let sends : List Sending = set_up x.peer c d ++ creations c x in
-        let same : Same z (sending sends z) = same-sending sends z in
-        (
+        let same : Same z (sending sends z) = same-sending sends z in (
           subst (λ (w : Client). Same x w) (sym h.1) (record { requests = same.requests; issued = same.issued }),
           subst IsPlaced (sym h.1) ((keeps-sending sends z).placed ((keeps-begun c d x there.0 there.1).placed placed)),
         )

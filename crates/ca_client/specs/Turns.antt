@@ -37,16 +37,16 @@ module _ {S : Type 0} (faults : S → ℕ) where
         (faults s' ≡ faults s)
         × ((v' ≡ v)
         ⊎ ((bytes : List ℕ) × (more : Bool) × (sent : List Sending) × gives s bytes s'
-            × ClientGives v.core c bytes more (Ok tt) sent v'.core × (v' ≡ with_core v'.core v))
+        × ClientGives v.core c bytes more (Ok tt) sent v'.core × (v' ≡ with_core v'.core v))
         ⊎ ((n : ℕ) × (n ≤ length (out_bytes v.core c)) × takes s (take n (out_bytes v.core c)) s'
-            × (v' ≡ with_core (handed_over c n v.core) v)))
+        × (v' ≡ with_core (handed_over c n v.core) v)))
 
     -- The circuit was cut: the socket had a fault, or the core had no memory for the bytes that came.
     abbrev pub Cuts : S → StateView → Closing → S → StateView → Type 0
     Cuts s v k s' v' =
         ((faults s' ≡ faults s + 1)
         ⊎ ((faults s' ≡ faults s) × ((bytes : List ℕ) × (more : Bool) × (sent : List Sending) × gives s bytes s'
-            × ClientGives v.core c bytes more (Err OutOfMemory) sent v.core)))
+        × ClientGives v.core c bytes more (Err OutOfMemory) sent v.core)))
         × HasSteppedUnderLock v (Cut c) (Closed k) v'
 
     -- so many calls, with no cut

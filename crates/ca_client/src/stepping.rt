@@ -105,12 +105,7 @@ fn clear(state: &mut State, channel: Handle) -> Answer
 }
 
 // Hands the completions of an end over.
-fn settle(
-    board: &Board,
-    seat: &mut CoreSeat,
-    tickets: &Vec<Ticket>,
-    closing: Closing,
-) -> Ended
+fn settle(board: &Board, seat: &mut CoreSeat, tickets: &Vec<Ticket>, closing: Closing) -> Ended
     requires board { seat.old.board ≡ board.now }
     requires due { Fillable tickets.now.items seat.old (completions closing.notices) }
     requires first { AreFirst closing.notices (completions closing.notices) (others closing.notices) }

@@ -1,4 +1,4 @@
-use Rattle.std.proofs.Common.{◌≡◌, ◌∙◌, sym, ap, subst, length}
+use Rattle.std.proofs.Common.{◌≡◌, ◌∙◌, sym, ap, subst, length, rules}
 use Rattle.std.specs.Arc.{arc_value}
 use Rattle.ca_board.specs.Views.{CoreView}
 use Rattle.ca_text.specs.Limits.{arena_slots}
