@@ -1,5 +1,5 @@
-//! What is held of all circuits, over every run with no other premise: what servers keep for circuits,
-//! the ids in flight, the clients' tables, and the SIDs under which clients speak.
+//! What is held of all circuits, over every run with no other premise: what servers keep for
+//! circuits, the ids in flight, the clients' tables, and the SIDs under which clients speak.
 #![tactic(auto)]
 
 mod laws;
