@@ -52,7 +52,7 @@ impl Model for Ended {
 
     ghost Value = { answer.Closing };
 
-    ghost use Rattle.ca_client_core.specs.Closings.{why_is};
+    ghost use Rattle.ca_client_tables.specs.Closings.{why_is};
 
     ghost view = { λ k. record { why = why_is k.why; notices = k.told; left = k.left } };
 }
