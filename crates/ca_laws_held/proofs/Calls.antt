@@ -33,9 +33,9 @@ use Rattle.ca_laws_circuit.proofs.Marks.{at-filter}
 use Rattle.ca_laws_runs.specs.Circuit.{AreGiven, AreNumbered, stamped}
 use Rattle.ca_laws_runs.proofs.Named.{place-there}
 use Rattle.ca_laws_runs.proofs.Sending.{new-name}
-use Rattle.ca_laws_heard.specs.Quiet.{Tidy}
-use Rattle.ca_laws_heard.proofs.Says.{one-handle, said, said-more}
-use Rattle.ca_laws_sids.specs.Under.{IsUse}
+use Rattle.ca_laws_held.specs.Quiet.{Tidy}
+use Rattle.ca_laws_held.proofs.Says.{one-handle, said, said-more}
+use Rattle.ca_laws_held.specs.Under.{IsUse}
 use Rattle.ca_laws_held.specs.Sides.{IsLiveAs}
 use Rattle.ca_laws_held.proofs.Live.{NoLive, NotLive, SameLive, channels-sending, channels-unwanted, live-as, live-itself, live-then, none-live, not-on, not-phase, not-searched, other-back, other-there, same-gone, same-held, same-stood, stood-none}
 use Rattle.ca_laws_held.proofs.Ways.{IsCalm, Way}

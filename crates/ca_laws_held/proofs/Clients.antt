@@ -27,8 +27,8 @@ use Rattle.ca_model_world.specs.World.{ClientSide, Joined, Names, ServerSide, Wo
 use Rattle.ca_laws_circuit.specs.Held.{with_request, with_subscription}
 use Rattle.ca_laws_runs.specs.Circuit.{sent_to, stamped}
 use Rattle.ca_laws_runs.specs.Clients.{ClientsStand}
-use Rattle.ca_laws_heard.specs.Quiet.{Tidy}
-use Rattle.ca_laws_heard.proofs.Says.{said}
+use Rattle.ca_laws_held.specs.Quiet.{Tidy}
+use Rattle.ca_laws_held.proofs.Says.{said}
 use Rattle.ca_laws_held.specs.Sides.{AllSided, IsLiveAs, Right, Sides}
 use Rattle.ca_laws_held.proofs.Calls.{calm-all-received, none-said, number-more, serving, way-silent, ways-clear, ways-given, ways-open, ways-put, ways-read, ways-subscribe, ways-unsubscribe, ways-write}
 use Rattle.ca_laws_held.proofs.Ends.{AllAfter, FactsFor, IsEndAfter, after-sent, end-of, sided-by, sided-called, sided-ways}

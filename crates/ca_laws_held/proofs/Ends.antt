@@ -24,8 +24,8 @@ use Rattle.ca_laws_kept.specs.Kept.{kept}
 use Rattle.ca_laws_runs.specs.Circuit.{HeldOn, sent_to}
 use Rattle.ca_laws_runs.proofs.Handled.{Like}
 use Rattle.ca_laws_steps.specs.Held.{AllCircuitsHeld}
-use Rattle.ca_laws_heard.proofs.Ends.{sent-closed, sent-mine, sent-other}
-use Rattle.ca_laws_heard.proofs.Says.{said}
+use Rattle.ca_laws_held.proofs.HeardEnds.{sent-closed, sent-mine, sent-other}
+use Rattle.ca_laws_held.proofs.Says.{said}
 use Rattle.ca_laws_held.specs.Sides.{AllSided, IsLiveAs, Right, Sides}
 use Rattle.ca_laws_held.proofs.Calls.{calm-silent}
 use Rattle.ca_laws_held.proofs.Grows.{Facts}

@@ -10,7 +10,7 @@ use Rattle.ca_model.specs.Speech.{Clears, Creates, sid_in}
 use Rattle.ca_model_world.specs.ClientEvents.{channel_number}
 use Rattle.ca_model_world.specs.World.{Names}
 use Rattle.ca_laws_circuit.specs.Sids.{IsClearedWithin}
-use Rattle.ca_laws_sids.specs.Under.{IsCreatedBefore, IsUse}
+use Rattle.ca_laws_held.specs.Under.{IsCreatedBefore, IsUse}
 use Rattle.ca_laws_held.specs.Sides.{AreInTurn, IsLiveAs, Right, Sides}
 
 -- What is known of a circuit d which c became: a channel is created again only once its last CREATE_CHAN was handled, and its reply was read;

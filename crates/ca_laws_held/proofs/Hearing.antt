@@ -39,10 +39,10 @@ use Rattle.ca_laws_circuit.specs.Sids.{IsClearedWithin}
 use Rattle.ca_laws_circuit.proofs.Marks.{at-filter}
 use Rattle.ca_laws_runs.specs.Circuit.{AreCids, AreNumbered, stamped}
 use Rattle.ca_laws_steps.proofs.Found.{create-is, found-intent}
-use Rattle.ca_laws_heard.specs.Quiet.{IsBeingCleared, IsBeingCreated, Quiet, Tidy}
-use Rattle.ca_laws_heard.proofs.Heard.{created-before}
-use Rattle.ca_laws_heard.proofs.Says.{one-handle, said}
-use Rattle.ca_laws_sids.specs.Under.{IsCreatedBefore, IsUse}
+use Rattle.ca_laws_held.specs.Quiet.{IsBeingCleared, IsBeingCreated, Quiet, Tidy}
+use Rattle.ca_laws_held.proofs.Heard.{created-before}
+use Rattle.ca_laws_held.proofs.Says.{one-handle, said}
+use Rattle.ca_laws_held.specs.Under.{IsCreatedBefore, IsUse}
 use Rattle.ca_laws_held.specs.Sides.{IsLiveAs, Right, Sides}
 use Rattle.ca_laws_held.proofs.Calls.{calm-finds, one-said, said-at, way-cleared, way-silent}
 use Rattle.ca_laws_held.proofs.Live.{NoLive, SameLive, live-itself, made-live, none-live, live-as, channels-sending, not-phase, one-sid, other-back, other-there, same-again, same-gone, same-rights, same-stood, stood-none}

@@ -24,15 +24,15 @@ use Rattle.ca_laws_steps.proofs.Holds.{IsTold}
 use Rattle.ca_laws_steps.proofs.Replied.{reached-answer}
 use Rattle.ca_laws_steps.proofs.Whole.{run-serves}
 use Rattle.ca_laws_writes.proofs.Lists.{At-take, none_at}
-use Rattle.ca_laws_heard.specs.About.{AllOwn, IsOwnStep, ReadsAbout}
-use Rattle.ca_laws_heard.specs.Quiet.{ClientsQuiet}
-use Rattle.ca_laws_heard.specs.Tells.{NoticesTell}
-use Rattle.ca_laws_heard.proofs.Kept.{quiet-runs}
-use Rattle.ca_laws_heard.proofs.Whole.{after-own, after-reads, after-tells, run-own}
-use Rattle.ca_laws_sids.specs.Under.{AllSayRight}
-use Rattle.ca_laws_sids.proofs.Created.{reached-created}
-use Rattle.ca_laws_sids.proofs.Over.{reached-known}
-use Rattle.ca_laws_sids.proofs.Tells.{event-back}
+use Rattle.ca_laws_held.specs.About.{AllOwn, IsOwnStep, ReadsAbout}
+use Rattle.ca_laws_held.specs.Quiet.{ClientsQuiet}
+use Rattle.ca_laws_held.specs.Tells.{NoticesTell}
+use Rattle.ca_laws_held.proofs.Kept.{quiet-runs}
+use Rattle.ca_laws_held.proofs.Whole.{after-own, after-reads, after-tells, run-own}
+use Rattle.ca_laws_held.specs.Under.{AllSayRight}
+use Rattle.ca_laws_held.proofs.Created.{reached-created}
+use Rattle.ca_laws_held.proofs.Over.{reached-known}
+use Rattle.ca_laws_held.proofs.SidTells.{event-back}
 use Rattle.ca_laws_held.specs.Sides.{AllSided}
 use Rattle.ca_laws_held.proofs.Clients.{sided-clear, sided-client-restart, sided-cut-client, sided-datagram, sided-down, sided-lists, sided-open, sided-read, sided-subscribe, sided-unsubscribe, sided-up, sided-write, sided-write-notify}
 use Rattle.ca_laws_held.proofs.Ends.{facts-held, from-itself}

@@ -35,8 +35,8 @@ use Rattle.ca_laws_runs.specs.Clients.{ClientsStand}
 use Rattle.ca_laws_runs.proofs.ClientsMore.{unconnected-is, wanted-there}
 use Rattle.ca_laws_steps.specs.Held.{AllCircuitsHeld}
 use Rattle.ca_laws_writes.proofs.Lists.{none_at}
-use Rattle.ca_laws_heard.proofs.Ends.{sent-closed, sent-mine, sent-other}
-use Rattle.ca_laws_heard.proofs.Says.{said}
+use Rattle.ca_laws_held.proofs.HeardEnds.{sent-closed, sent-mine, sent-other}
+use Rattle.ca_laws_held.proofs.Says.{said}
 use Rattle.ca_laws_held.specs.Sides.{AllSided, IsLiveAs, Right, Sides}
 use Rattle.ca_laws_held.proofs.Calls.{nothing-there, serving, way-elsewhere}
 use Rattle.ca_laws_held.proofs.Ends.{AllAfter, IsEndAfter, right-served, same-right, same-sides, sided-ways, turn-held}

@@ -22,8 +22,8 @@ use Rattle.ca_laws_circuit.specs.Sids.{IsClearedWithin}
 use Rattle.ca_laws_runs.proofs.Handled.{numbers-like, writes-like}
 use Rattle.ca_laws_writes.proofs.Midway.{set-here}
 use Rattle.ca_laws_writes.proofs.Moves.{same-or}
-use Rattle.ca_laws_sids.specs.Under.{IsCreatedBefore}
-use Rattle.ca_laws_sids.proofs.Tells.{Back, KeepsOn, step-beside, unhandled-back}
+use Rattle.ca_laws_held.specs.Under.{IsCreatedBefore}
+use Rattle.ca_laws_held.proofs.SidTells.{Back, KeepsOn, step-beside, unhandled-back}
 use Rattle.ca_laws_held.specs.Sides.{AllSided, Right, Sides}
 use Rattle.ca_laws_held.proofs.Ends.{From}
 

@@ -30,10 +30,10 @@ use Rattle.ca_laws_runs.specs.Circuit.{HeldOn, sent_to}
 use Rattle.ca_laws_runs.specs.Clients.{ClientsStand}
 use Rattle.ca_laws_steps.specs.Held.{AllCircuitsHeld}
 use Rattle.ca_laws_steps.proofs.Holds.{IsTold}
-use Rattle.ca_laws_heard.specs.Quiet.{ClientsQuiet, Quiet, Tidy}
-use Rattle.ca_laws_heard.proofs.Lesser.{less-on, quiet-less, tidy-less}
-use Rattle.ca_laws_heard.proofs.Says.{said}
-use Rattle.ca_laws_sids.specs.Created.{CreatedOn}
+use Rattle.ca_laws_held.specs.Quiet.{ClientsQuiet, Quiet, Tidy}
+use Rattle.ca_laws_held.proofs.Lesser.{less-on, quiet-less, tidy-less}
+use Rattle.ca_laws_held.proofs.Says.{said}
+use Rattle.ca_laws_held.specs.Created.{CreatedOn}
 use Rattle.ca_laws_held.specs.Sides.{AllSided, Right, Sides}
 use Rattle.ca_laws_held.proofs.Calls.{only-sent, way-elsewhere, way-silent}
 use Rattle.ca_laws_held.proofs.Clients.{sided-ended}

@@ -10,7 +10,7 @@ use Rattle.ca_model_client.proofs.Handles.{handle-or}
 use Rattle.ca_model_world.specs.ClientEvents.{channel_number}
 use Rattle.ca_model_world.specs.World.{Names}
 use Rattle.ca_laws_circuit.specs.Sids.{IsClearedWithin}
-use Rattle.ca_laws_sids.specs.Under.{IsCreatedBefore, IsUse}
+use Rattle.ca_laws_held.specs.Under.{IsCreatedBefore, IsUse}
 use Rattle.ca_laws_held.specs.Sides.{IsLiveAs, Right, Sides}
 use Rattle.ca_laws_held.proofs.Grows.{Facts, created-on, right-more, sides-more}
 use Rattle.ca_laws_held.proofs.Live.{SameLive, one-sid}

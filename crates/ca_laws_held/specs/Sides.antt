@@ -10,7 +10,7 @@ use Rattle.ca_model.specs.Speech.{Creates}
 use Rattle.ca_model_world.specs.ClientEvents.{channel_number}
 use Rattle.ca_model_world.specs.World.{ClientSide, Joined, Names, World}
 use Rattle.ca_laws_circuit.specs.Sids.{IsClearedWithin}
-use Rattle.ca_laws_sids.specs.Under.{AreClearedBetween, AreUnder, IsCreatedBefore}
+use Rattle.ca_laws_held.specs.Under.{AreClearedBetween, AreUnder, IsCreatedBefore}
 
 -- The channel of this handle is live on this circuit, under this SID.
 pub record IsLiveAs (t : Table Channel) (on : Handle) (h : Handle) (sid : ℕ) : Type 0 where

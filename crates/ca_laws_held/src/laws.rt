@@ -8,9 +8,9 @@ ghost use Rattle.ca_model_world.specs.Events.{ClientStep, Event, ServerStep};
 ghost use Rattle.ca_model_world.specs.Runs.{AreEvents, Happens, Runs};
 ghost use Rattle.ca_model_world.specs.World.{IsSetting, Joined, Setting, World};
 ghost use Rattle.ca_laws_steps.specs.Held.{AllCircuitsHeld, IsKnownStep};
-ghost use Rattle.ca_laws_heard.specs.About.{ReadsAbout};
-ghost use Rattle.ca_laws_heard.specs.Tells.{NoticesTell};
-ghost use Rattle.ca_laws_sids.specs.Under.{AllSayRight};
+ghost use Rattle.ca_laws_held.specs.About.{ReadsAbout};
+ghost use Rattle.ca_laws_held.specs.Tells.{NoticesTell};
+ghost use Rattle.ca_laws_held.specs.Under.{AllSayRight};
 ghost use Rattle.ca_laws_held.specs.Sides.{AllSided};
 
 /// In every run from a well-formed setting by well-formed events all circuits are held, by what
