@@ -1,0 +1,3 @@
+pub mod Acting
+pub mod Known
+pub mod Handling
