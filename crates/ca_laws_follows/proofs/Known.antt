@@ -250,7 +250,7 @@ each-few : (i : ℕ) (f : Handle → OpenChannel → OpenChannel) (t : Table Ope
 each-few i f [] = refl
 each-few i f (p ∷ t) = ap (λ (n : ℕ). suc n) (each-few (i + 1) f t)
 
-removed-in : (name : List ℕ) (rs : List RecordSide) (x : RecordSide) → In rs x → x.name ≡ name → In (removal_entries name rs) (Removed x.number)
+pub removed-in : (name : List ℕ) (rs : List RecordSide) (x : RecordSide) → In rs x → x.name ≡ name → In (removal_entries name rs) (Removed x.number)
 removed-in name rs x there named = (let k = kept-in (λ (r : RecordSide). bytes_eq r.name name) rs x there (same-bytes x.name name named) in all (filter (λ (r : RecordSide). bytes_eq r.name name) rs) k.0 k.1)
   where
     entries : RecordSide → List Entry

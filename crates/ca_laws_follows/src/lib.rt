@@ -4,4 +4,7 @@
 
 mod laws;
 
-pub use laws::what_was_added_stands_or_is_over;
+pub use laws::{
+    follows_record_in_runs, listed_records_are_there, what_was_added_stands_or_is_over,
+    what_was_sent_shows_its_posts,
+};

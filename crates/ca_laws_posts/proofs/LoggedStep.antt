@@ -86,7 +86,7 @@ replies-stay-held y p gone sent new (inr not) = (stays-self y new (ap (λ (x : S
 late-same : (place : ℕ) (ms : List Fields) (c : Joined) → SameEnds c (told_late place ms c)
 late-same place ms c = record { server = refl; handle = refl; life = refl; up = refl; handled = refl; is_open = refl }
 
-told-logs : (p : PutPlace) (sent : List (Handle × Fields)) (t : World) → (replied_at p sent t).server_logs ≡ t.server_logs
+pub told-logs : (p : PutPlace) (sent : List (Handle × Fields)) (t : World) → (replied_at p sent t).server_logs ≡ t.server_logs
 told-logs p sent t = go (slice_get t.circuits p.circuit)
   where
     go : (o : Option Joined) → (unwrap_or (option_map (λ (j : Joined). with_circuit p.circuit (told_late p.place (map (λ (x : Handle × Fields). x.1) sent) j) t) o) t).server_logs ≡ t.server_logs
@@ -109,14 +109,14 @@ reaches-or (action.Adds x) = inr (λ g y n r. r.1, λ i core c. refl, refl)
 reaches-or (action.Drops x) = inr (λ g y n r. r.1, λ i core c. refl, refl)
 reaches-or (action.Switches x) = inr (λ g y n r. r.1, λ i core c. refl, refl)
 
-with-record-titles : (name : List ℕ) (f : RecordSide → RecordSide) → ((r : RecordSide) → title (f r) ≡ title r) → (rs : List RecordSide) → titles (event.with_record name f rs) ≡ titles rs
+pub with-record-titles : (name : List ℕ) (f : RecordSide → RecordSide) → ((r : RecordSide) → title (f r) ≡ title r) → (rs : List RecordSide) → titles (event.with_record name f rs) ≡ titles rs
 with-record-titles name f same rs = titles-kept (λ (r : RecordSide). cond (bytes_eq r.name name) (f r) r) (λ r. go r (bytes_eq r.name name)) rs
   where
     go : (r : RecordSide) (b : Bool) → title (cond b (f r) r) ≡ title r
     go r true = same r
     go r false = refl
 
-with-core-titles : (Q : Record → RecordSide → Type 0) (f : Record → RecordSide → RecordSide) → ((c : Record) (r : RecordSide) → title (f c r) ≡ title r) → (cs : List Record) (rs : List RecordSide) → Both Q cs rs → titles (with_core f cs rs) ≡ titles rs
+pub with-core-titles : (Q : Record → RecordSide → Type 0) (f : Record → RecordSide → RecordSide) → ((c : Record) (r : RecordSide) → title (f c r) ≡ title r) → (cs : List Record) (rs : List RecordSide) → Both Q cs rs → titles (with_core f cs rs) ≡ titles rs
 with-core-titles Q f same [] [] both = refl
 with-core-titles Q f same [] (r ∷ rs) both = absurd both
 with-core-titles Q f same (c ∷ cs) [] both = absurd both
@@ -130,7 +130,7 @@ one-quiet x is e (zero, at) = subst (λ (z : Entry). IsQuiet z) (some_is x e at)
 one-quiet x is e (suc k, at) = absurd (none_at k e at)
 
 -- what else a message logs is quiet
-logs-quiet : (Q : Record → RecordSide → Type 0) (core : Server) (h : Handle) (p : PutPlace) (did : Action) (rs : List RecordSide) → Both Q core.records rs → is_write did ≡ false
+pub logs-quiet : (Q : Record → RecordSide → Type 0) (core : Server) (h : Handle) (p : PutPlace) (did : Action) (rs : List RecordSide) → Both Q core.records rs → is_write did ≡ false
     → AreQuiet (logged_by core h p did rs) × (titles (records_after core h p did rs) ≡ titles rs)
 logs-quiet Q core h p (Applies name value busies) rs both no_write = absurd cc
 logs-quiet Q core h p (action.Waits name value) rs both no_write = (one-quiet _ tt, with-record-titles name _ (λ r. refl) rs)
@@ -144,7 +144,7 @@ logs-quiet Q core h p (action.Adds x) rs both no_write = (none-quiet, refl)
 logs-quiet Q core h p (action.Drops x) rs both no_write = (none-quiet, refl)
 logs-quiet Q core h p (action.Switches x) rs both no_write = (none-quiet, refl)
 
-write-titles : (core : Server) (h : Handle) (p : PutPlace) (name : List ℕ) (value : Elements) (busies : Bool) (rs : List RecordSide) → titles (records_after core h p (Applies name value busies) rs) ≡ titles rs
+pub write-titles : (core : Server) (h : Handle) (p : PutPlace) (name : List ℕ) (value : Elements) (busies : Bool) (rs : List RecordSide) → titles (records_after core h p (Applies name value busies) rs) ≡ titles rs
 write-titles core h p name value true rs = with-record-titles name _ (λ r. refl) rs
 write-titles core h p name value false rs = refl
 
