@@ -11,7 +11,8 @@ use Rattle.ca_wire.specs.Fields.{Fields}
 use Rattle.ca_model.specs.Answers.{Sending}
 use Rattle.ca_model.specs.Client.{Client, out_bytes, standing_at}
 use Rattle.ca_model.specs.ClientCalls.{ClientSubscribes, IsLive, LiveChannel, Shape, ask_fault, event_add_sent, new_subscription, subscribe_fault}
-use Rattle.ca_client_core.specs.Asks.{AddsOr, Subscribes, cut_back, with_message, with_subscription}
+use Rattle.ca_client_core.specs.Asks.{AddsOr, Subscribes, with_subscription}
+use Rattle.ca_client_tables.specs.Ends.{cut_back, with_message}
 use Rattle.ca_client_core.proofs.Faults.{earlier-fault, last-fault}
 use Rattle.ca_client_core.proofs.Requesting.{ask-memory, asks, cut-queued}
 

@@ -1,5 +1,5 @@
 -- The searches that are due once circuits have ended are those that were foreseen.
-use Rattle.std.proofs.Common.{◌≡◌, ◌∙◌, ℕ, suc, zero, ◌≤◌, inl, inr, ◌&&◌, ◌||◌, Bool, true, false, not, cond, List, [], ◌∷◌, Option, Some, None, ap, arith, filter, fold, length, map, nat_eq, nat_le, option_map, refl, subst, sym, unwrap_or}
+use Rattle.std.proofs.Common.{◌≡◌, ◌∙◌, ℕ, suc, ◌≤◌, ◌&&◌, ◌||◌, Bool, true, false, not, cond, List, [], ◌∷◌, Option, Some, None, ap, arith, filter, fold, length, map, nat_eq, nat_le, option_map, refl, subst, sym, unwrap_or}
 use Rattle.std.specs.Prelude.{filter_map, option_and_then}
 use Rattle.std.specs.List.{AllByRecursion, IsDistinct, cons_option}
 use Rattle.std.specs.Map.{keys_of}
@@ -13,18 +13,19 @@ use Rattle.ca_ids.specs.Table.{Table, by_wire, held, same_handle, under, with_ch
 use Rattle.ca_ids.specs.Wire.{wire_of}
 use Rattle.ca_search.specs.Searcher.{with_one, without}
 use Rattle.ca_search.specs.Searches as search
-use Rattle.ca_model.specs.Client.{Channel, Client, ClientCircuit, Connection, On, Phase, Searching, Standing, channels_on, connection_at, disconnected, ended, is_cleared, is_on_in, phase_on, without_circuit}
+use Rattle.ca_model.specs.Client.{Channel, Client, ClientCircuit, On, Phase, Searching, Standing, channels_on, disconnected, ended, is_cleared, is_on_in, phase_on, without_circuit}
 use Rattle.ca_model.specs.ClientEnds.{Ticking, due, echoes, falls_silent, ticks}
-use Rattle.ca_model_client.proofs.Handles.{handle-or, same-is, same-itself, same-not}
-use Rattle.ca_model_client.proofs.Letting.{ended-back, ends-ended}
+use Rattle.ca_model_client.proofs.Handles.{same-is, same-itself, same-not}
+use Rattle.ca_model_client.proofs.Letting.{ended-back}
 use Rattle.ca_model_client.proofs.Placed.{options-agree, under-other}
-use Rattle.ca_model_client.proofs.Standings.{at-filter-map, on-circuit, on-one}
+use Rattle.ca_model_client.proofs.Standings.{at-filter-map, on-circuit}
 use Rattle.ca_model_client.proofs.Tables.{AreApart, changed-few, changed-own, freed-few, held-apart, under-wire, wire-under}
-use Rattle.ca_client_core.specs.Ahead.{Once, due_after, is_due_after, is_in, sought_by, sought_in}
-use Rattle.ca_client_core.specs.Ending.{Sought, again, gone, is_kept, named_by, sought}
+use Rattle.ca_client_tables.specs.Ahead.{Once, due_after, is_due_after, is_in, sought_by, sought_in}
+use Rattle.ca_client_tables.specs.Ending.{Sought, again, gone, is_kept, named_by, sought}
 use Rattle.ca_client_core.specs.Moments.{all_echoed, all_ended, asks_in, echo_step, end_step, is_close, is_echo_due, is_silent, silent_of}
 use Rattle.ca_client_core.proofs.Aside.{channels-ended-is, ended-is, ended-moment, ended_but, sought_after, under-freed}
 use Rattle.ca_client_core.proofs.Moments.{asks-past, echoed-heard, ticked-so}
+use Rattle.ca_client_tables.proofs.Dues.{due-cons}
 
 abbrev Entries : Type 0
 Entries = List (ℕ × search.Channel)
@@ -69,23 +70,16 @@ at-once k = le-leb k k (omega arith)
 -- ---- the searches, entry by entry
 
 module _ (ends : Handle → Bool) (m : ℕ) where
-  pub due-cons : (t : Table Channel) (e : ℕ × search.Channel) (es : Entries) → due_after ends m t (e ∷ es) ≡ cond (is_due_after ends m t e) (search.wanted e ∷ due_after ends m t es) (due_after ends m t es)
-  due-cons t e es = go (is_due_after ends m t e)
-    where
-      go : (b : Bool) → map search.wanted (cond b (e ∷ filter (is_due_after ends m t) es) (filter (is_due_after ends m t) es)) ≡ cond b (search.wanted e ∷ due_after ends m t es) (due_after ends m t es)
-      go true = refl
-      go false = refl
-
   -- the same tests
   due-same : (t u : Table Channel) (es : Entries) → AllByRecursion (λ (e : ℕ × search.Channel). by_wire u e.0 ≡ by_wire t e.0) es → due_after ends m t es ≡ due_after ends m u es
   due-same t u [] all = refl
   due-same t u (e ∷ es) all =
       let test : is_due_after ends m t e ≡ is_due_after ends m u e =
       ap (λ (o : Option (Handle × Channel)). unwrap_or (option_and_then (λ (h : Handle × Channel). sought_in ends h.1.standing) o) (search.is_due m e.1)) (sym all.0) in
-      due-cons t e es
+      due-cons ends m t e es
       ∙ ap (λ (b : Bool). cond b (search.wanted e ∷ due_after ends m t es) (due_after ends m t es)) test
       ∙ ap (λ (ws : List search.Wanted). cond (is_due_after ends m u e) (search.wanted e ∷ ws) ws) (due-same t u es all.1)
-      ∙ sym (due-cons u e es)
+      ∙ sym (due-cons ends m u e es)
 
   -- entries of other CIDs
   others-same : (t u : Table Channel) (h : Handle) (es : Entries) → ((id : ℕ) → (wire_of h ≡ id → ⊥) → by_wire u id ≡ by_wire t id) → AllByRecursion (λ (k : ℕ). nat_eq (wire_of h) k ≡ false) (keys_of es) → AllByRecursion (λ (e : ℕ × search.Channel). by_wire u e.0 ≡ by_wire t e.0) es
@@ -98,10 +92,10 @@ module _ (ends : Handle → Bool) (m : ℕ) where
   step-other t u e es ns same rest =
       let test : is_due_after ends m t e ≡ is_due_after ends m u e =
       ap (λ (o : Option (Handle × Channel)). unwrap_or (option_and_then (λ (h : Handle × Channel). sought_in ends h.1.standing) o) (search.is_due m e.1)) (sym same) in
-      due-cons t e es
+      due-cons ends m t e es
       ∙ ap (λ (b : Bool). cond b (search.wanted e ∷ due_after ends m t es) (due_after ends m t es)) test
       ∙ ap (λ (ws : List search.Wanted). cond (is_due_after ends m u e) (search.wanted e ∷ ws) ws) rest
-      ∙ sym (due-cons u e ns)
+      ∙ sym (due-cons ends m u e ns)
 
   module _ (c : Handle) (ending : ends c ≡ true) where
     -- a channel that was cleared is gone
@@ -124,7 +118,7 @@ module _ (ends : Handle → Bool) (m : ℕ) where
             let never : sought_by ends t e.0 ≡ Some false =
             ap (option_and_then (λ (k : Handle × Channel). sought_in ends k.1.standing)) there ∙ s.1 ∙ ap (λ (b : Bool). Some (not b)) s.2 in
             let out : is_due_after ends m t e ≡ false = ap (λ (o : Option Bool). unwrap_or o (search.is_due m e.1)) never in
-            due-cons t e es
+            due-cons ends m t e es
             ∙ ap (λ (b : Bool). cond b (search.wanted e ∷ due_after ends m t es) (due_after ends m t es)) out
             ∙ due-same t u es (others-same t u h es same (subst (λ (n : ℕ). AllByRecursion (λ (k : ℕ). nat_eq n k ≡ false) (keys_of es)) (sym cid) (IsDistinct-head nat_eq e.0 (keys_of es) once)))
             ∙ ap (λ (b : Bool). due_after ends m u (cond b es (e ∷ without (wire_of h) es))) (sym is)
@@ -163,12 +157,12 @@ module _ (ends : Handle → Bool) (m : ℕ) where
             let next : is_due_after ends m u n ≡ true =
             ap (λ (o : Option (Handle × Channel)). unwrap_or (option_and_then (λ (k : Handle × Channel). sought_in ends k.1.standing) o) (search.is_due m n.1)) back
             ∙ at-once m in
-            due-cons t e es
+            due-cons ends m t e es
             ∙ ap (λ (b : Bool). cond b (search.wanted e ∷ due_after ends m t es) (due_after ends m t es)) first
             ∙ ap (λ (ws : List search.Wanted). search.wanted e ∷ ws)
             (due-same t u es (others-same t u h es same (subst (λ (k : ℕ). AllByRecursion (λ (l : ℕ). nat_eq k l ≡ false) (keys_of es)) (sym cid) (IsDistinct-head nat_eq e.0 (keys_of es) once))))
             ∙ ap (λ (b : Bool). cond b (search.wanted n ∷ due_after ends m u es) (due_after ends m u es)) (sym next)
-            ∙ sym (due-cons u n es)
+            ∙ sym (due-cons ends m u n es)
             ∙ ap (λ (b : Bool). due_after ends m u (cond b (n ∷ es) (e ∷ with_one (search.resumed m) (wire_of h) es))) (sym is)
         go false is rest =
             step-other t u e es (with_one (search.resumed m) (wire_of h) es) (same e.0 (λ at. both_ways (nat_eq (wire_of h) e.0) is (eq-eqb (wire_of h) e.0 at)))

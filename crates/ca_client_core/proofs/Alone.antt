@@ -6,7 +6,7 @@ use Rattle.ca_monitor.specs.Subscriptions.{Subscription}
 use Rattle.ca_model.specs.Client.{Channel, Client, ClientCircuit}
 use Rattle.ca_model_client.specs.Placed.{ArePlaced, WasLiveIn, was_live}
 use Rattle.ca_client_core.proofs.Listing.{connected-there, on-standing, one-handle}
-use Rattle.ca_client_core.proofs.Placing.{plain}
+use Rattle.ca_client_tables.proofs.Finds.{plain}
 
 pub may-issue : (t : Table Channel) (y : Issued) (s : Table Subscription) (cs : Table ClientCircuit) (h c : Handle) → ArePlaced t y.table s cs → WasLiveIn t h c → MayIssue h c y
 may-issue t y s cs h c placed live = record {

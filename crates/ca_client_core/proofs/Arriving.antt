@@ -1,5 +1,5 @@
 -- What the messages of a datagram, and a search reply on a circuit, keep of a client.
-use Rattle.std.proofs.Common.{◌≡◌, ℕ, Bool, true, false, inl, inr, List, [], ◌∷◌, Option, Some, None, ap, if◌then◌else◌, refl, subst, sym}
+use Rattle.std.proofs.Common.{◌≡◌, ℕ, Bool, true, false, inl, inr, List, [], ◌∷◌, Option, Some, None, if◌then◌else◌, refl, subst, sym}
 use Rattle.std.specs.List.{AllByRecursion}
 use Rattle.std.specs.FinMap as finite
 use Rattle.ca_arena.specs.declared.handle.Handle.{Handle}
@@ -12,11 +12,11 @@ use Rattle.ca_model.specs.Client.{Channel, Client, ClientCircuit, Connecting, Co
 use Rattle.ca_model.specs.ClientEnds.{Receives, ReceivesAll, beacon_heard, beacon_server}
 use Rattle.ca_model.specs.ClientEnds as receives
 use Rattle.ca_model.specs.Ends.{Address}
-use Rattle.ca_model.specs.Hears.{Effect, Finds, FindsAt, PutsOn, becomes, found_at, put_on, searched_by, with_circuit}
+use Rattle.ca_model.specs.Hears.{Effect, Finds, FindsAt, PutsOn, found_at, put_on, searched_by, with_circuit}
 use Rattle.ca_model_client.proofs.Hearing.{keeps-finds, received-keeps}
-use Rattle.ca_client_core.specs.Listed.{AreListed}
-use Rattle.ca_client_core.specs.Sound.{HasCid, IsClient, IsSound}
-use Rattle.ca_client_core.proofs.Ended.{client-again}
+use Rattle.ca_client_tables.specs.Listed.{AreListed}
+use Rattle.ca_client_tables.specs.Sound.{HasCid, IsClient, IsSound}
+use Rattle.ca_client_tables.proofs.Ended.{client-again}
 use Rattle.ca_client_core.proofs.Listing.{listed-not}
 
 -- the parts of a client are sound, beside these lists

@@ -1,16 +1,16 @@
 -- An end that ends, and what is done to the end of another circuit.
-use Rattle.std.proofs.Common.{◌≡◌, ◌∙◌, ℕ, Bool, true, false, cond, List, [], ◌∷◌, Option, Some, None, ap, fold, option_and_then, option_map, refl, slice_set, sym, unwrap_or}
+use Rattle.std.proofs.Common.{◌≡◌, ◌∙◌, Bool, true, false, cond, Option, Some, None, ap, fold, option_and_then, option_map, refl, slice_set, sym, unwrap_or}
 use Rattle.std.proofs.lemmas.List.{set_comm}
 use Rattle.ca_arena.specs.declared.handle.Handle.{Handle}
 use Rattle.ca_arena.specs.Arena.{Place}
 use Rattle.ca_ids.specs.Table.{Table, under, with_changed, with_freed}
-use Rattle.ca_model.specs.Client.{Client, ClientCircuit, Connection, channels_ended, channels_on, connection_at, disconnected, ended, is_cleared, let_go, on_connection, searched_again, without_channel, without_circuit, without_ids}
+use Rattle.ca_model.specs.Client.{Client, ClientCircuit, Connection, channels_ended, channels_on, connection_at, disconnected, ended, is_cleared, let_go, on_connection, searched_again, without_circuit, without_ids}
 use Rattle.ca_model_client.proofs.Placed.{options-agree, under-other}
 use Rattle.ca_model_client.proofs.Tables.{freed-back, freed-other, one-at-index}
-use Rattle.ca_client_core.specs.Ending.{Sought, again, gone, is_kept, sought}
-use Rattle.ca_client_core.proofs.Circuits.{changed-found, found-changed}
-use Rattle.ca_client_core.proofs.Ended.{fold-again, fold-gone, with_sought}
-use Rattle.ca_client_core.proofs.Queued.{unchanged}
+use Rattle.ca_client_tables.specs.Ending.{Sought, again, gone, is_kept, sought}
+use Rattle.ca_client_tables.proofs.Circuits.{changed-found, found-changed}
+use Rattle.ca_client_tables.proofs.Ended.{fold-again, fold-gone, with_sought}
+use Rattle.ca_client_tables.proofs.Queued.{unchanged}
 
 -- ---- two changes of a table, at two handles
 

@@ -9,10 +9,9 @@ use Rattle.ca_wire.specs.Fields.{Fields}
 use Rattle.ca_wire.specs.Messages.{search_request}
 use Rattle.ca_model.specs.Client.{Client}
 use Rattle.ca_model.specs.ClientCalls.{is_over}
-use Rattle.ca_client_core.specs.Again.{with_messages}
-use Rattle.ca_client_core.specs.Asks.{with_message}
+use Rattle.ca_client_tables.specs.Ends.{with_messages, with_message}
 use Rattle.ca_client_core.specs.NameSearches.{searched_all, searched_on}
-use Rattle.ca_client_core.proofs.Queued.{messages-none, messages-twice}
+use Rattle.ca_client_tables.proofs.Queued.{messages-none, messages-twice}
 
 -- They wait, or those for which there was room.
 abbrev pub IsAsked : Handle → List Wanted → Client → Client → Type 0

@@ -1,9 +1,8 @@
 -- A channel is cleared, by where it is.
-use Rattle.std.proofs.Common.{◌≡◌, ◌∙◌, ℕ, suc, Bool, true, false, ◌&&◌, cond, List, [], ◌∷◌, Option, Some, None, Result, Ok, Err, ap, arith, filter, if◌then◌else◌, is_none, length, map, nat_eq, option_map, refl, subst, sym, unwrap_or}
-use Rattle.std.proofs.lemmas.Bool.{both_ways, ne_eqb}
+use Rattle.std.proofs.Common.{◌≡◌, ◌∙◌, ℕ, Bool, true, false, ◌&&◌, cond, List, [], ◌∷◌, Option, Some, None, Result, Ok, Err, ap, filter, if◌then◌else◌, is_none, length, map, nat_eq, option_map, refl, subst, sym, unwrap_or}
+use Rattle.std.proofs.lemmas.Bool.{both_ways}
 use Rattle.ca_text.specs.declared.refusal.Refusal.{Refusal}
 use Rattle.ca_text.specs.declared.refusal.Refusal.TheVariants as refusal
-use Rattle.ca_text.specs.Place.{At}
 use Rattle.ca_dbr.specs.declared.value.Outcome.TheVariants as outcome
 use Rattle.ca_arena.specs.declared.handle.Handle.{Handle}
 use Rattle.ca_ids.specs.Table.{Table, under}
@@ -97,11 +96,6 @@ cleared-live x new h c n rights (Err _) at did = absurd did
 -- no channel that its caller cleared is named
 pub not-cleared : {A : Type 0} (x : Client) (h c : Handle) (p : Phase) → standing_at x h ≡ Some (On c p) → phase.is_cleared p ≡ true → A
 not-cleared x h c p at is = absurd (both_ways (phase.is_cleared p) (never-cleared x h c p at) is)
-
--- what has an element has a length
-pub some-length : {A : Type 0} (xs : List A) (i : ℕ) (y : A) → At xs i y → nat_eq (length xs) 0 ≡ false
-some-length [] i y at = absurd cc
-some-length (x ∷ xs) i y at = ne_eqb (suc (length xs)) 0 (λ e. omega (arith, e))
 
 -- ---- a circuit that nothing wants any more
 

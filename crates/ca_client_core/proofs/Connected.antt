@@ -1,15 +1,12 @@
 -- A circuit is connected: what waits on it then, and its channels.
-use Rattle.std.proofs.Common.{◌≡◌, ◌∙◌, ℕ, zero, suc, ◌+◌, ◌<◌, ◌≤◌, Bool, true, false, inl, inr, List, [], ◌∷◌, ◌++◌, Option, Some, None, Result, Ok, Err, append-nil, ap, filter, if◌then◌else◌, length, map, nat_eq, option_map, option_to_list, refl, subst, sym, take, take_all}
+use Rattle.std.proofs.Common.{◌≡◌, ◌∙◌, ℕ, zero, suc, Bool, true, false, inl, inr, List, [], ◌∷◌, ◌++◌, Option, Some, None, Result, Ok, Err, ap, filter, if◌then◌else◌, map, nat_eq, option_map, refl, subst, sym}
 use Rattle.std.specs.Prelude.{IsErr, filter_map, is_none, option_and_then}
 use Rattle.std.specs.declared.alloc.AllocError.{AllocError}
 use Rattle.ca_text.proofs.Places.{some_is}
-use Rattle.std.proofs.lemmas.List.{map-append}
-use Rattle.std.proofs.lemmas.List.Elements.{filter-append}
 use Rattle.std.proofs.lemmas.List.Sums.{fold-append}
 use Rattle.ca_arena.specs.declared.handle.Handle.{Handle}
 use Rattle.ca_arena.specs.Arena.{Place, place_at, value_for}
-use Rattle.ca_ids.specs.Table.{Table, held, held_at, under, with_all, with_changed}
-use Rattle.ca_ids.proofs.Changes.{held-more}
+use Rattle.ca_ids.specs.Table.{Table, held, under, with_all, with_changed}
 use Rattle.ca_link.specs.Link.{LinkState, new_link, with_sent}
 use Rattle.ca_monitor.specs.ReadRun.{no_reads}
 use Rattle.ca_search.specs.Searches as search
@@ -19,34 +16,14 @@ use Rattle.ca_model.specs.Answers as aim
 use Rattle.ca_model.specs.Client.{Channel, Client, ClientCircuit, Connection, is_on_in, sending, with_one_sent}
 use Rattle.ca_model.specs.ClientEnds.{ConnectsOn, begun, creating, creations, is_connecting, new_connection, set_up, unconnected}
 use Rattle.ca_model.specs.Hears.{create_sent}
-use Rattle.ca_client_core.specs.Again.{with_messages}
-use Rattle.ca_client_core.specs.Connecting.{BeginsOn, creation, creations_at, creations_in, creations_of, greeting}
-use Rattle.ca_client_core.specs.Sound.{HasCid, IsClient}
-use Rattle.ca_client_core.proofs.Circuits.{changed-same, changed-twice}
-use Rattle.ca_client_core.proofs.Openings.{Searched}
-use Rattle.ca_client_core.proofs.Queued.{messages-twice, queue, sending-all, sent-twice}
+use Rattle.ca_client_tables.specs.Ends.{with_messages}
+use Rattle.ca_client_core.specs.Connecting.{BeginsOn}
+use Rattle.ca_client_tables.specs.Connecting.{creation, creations_in, greeting}
+use Rattle.ca_client_tables.specs.Sound.{HasCid, IsClient}
+use Rattle.ca_client_tables.proofs.Circuits.{changed-twice}
+use Rattle.ca_client_tables.proofs.Ended.{Searched}
+use Rattle.ca_client_tables.proofs.Queued.{messages-twice, queue, sending-all, sent-twice}
 use Rattle.ca_requests.proofs.Tables.{true_or_false}
-
--- ---- the CREATE_CHANs, place by place
-
-pub creations-more : (c : Handle) (t : Table Channel) (i : ℕ) → i < length t → creations_of c (held (take i t)) ++ creations_at c (held_at i (place_at t i)) ≡ creations_of c (held (take (i + 1) t))
-creations-more c t i within =
-    let waits = λ (e : Handle × Channel). is_on_in is_connecting c e.1 in
-    let last = option_to_list (held_at i (place_at t i)) in
-    sym (ap (creations_of c) (held-more t i within)
-    ∙ ap (map creation) (filter-append waits (held (take i t)) last)
-    ∙ map-append creation (filter waits (held (take i t))) (filter waits last))
-
-pub one-more-created : (c : Handle) (t : Table Channel) (i : ℕ) (start now next : LinkState) → i < length t → now ≡ with_sent (creations_of c (held (take i t))) start → next ≡ with_sent (creations_at c (held_at i (place_at t i))) now → next ≡ with_sent (creations_of c (held (take (i + 1) t))) start
-one-more-created c t i start now next within so step =
-    step
-    ∙ ap (with_sent (creations_at c (held_at i (place_at t i)))) so
-    ∙ sent-twice (creations_of c (held (take i t))) (creations_at c (held_at i (place_at t i))) start
-    ∙ ap (λ (ms : List Fields). with_sent ms start) (creations-more c t i within)
-
-pub all-created : (c : Handle) (t : Table Channel) (i : ℕ) (start now : LinkState) → length t ≤ i → now ≡ with_sent (creations_of c (held (take i t))) start → now ≡ with_sent (creations_in c t) start
-all-created c t i start now past so =
-    so ∙ ap (λ (u : Table Channel). with_sent (creations_of c (held u)) start) (take_all i t past)
 
 -- what is sent for these channels
 creations-are : (c : Handle) (es : List (Handle × Channel)) → filter_map (λ (e : Handle × Channel). if is_on_in is_connecting c e.1 then Some (create_sent c e.0 e.1) else None) es ≡ map (λ (e : Handle × Channel). create_sent c e.0 e.1) (filter (λ (e : Handle × Channel). is_on_in is_connecting c e.1) es)

@@ -11,8 +11,8 @@ use Rattle.ca_model.specs.Answers.{Sending}
 use Rattle.ca_model.specs.Client.{Client, later}
 use Rattle.ca_model.specs.ClientEnds.{Arrival, ClientReceives, ReceivesAll}
 use Rattle.ca_model.specs.Hears.{Effect}
-use Rattle.ca_client_core.specs.Receiving.{HaveReceived, Parts, all_settled, parts_of, with_parts}
-use Rattle.ca_client_core.specs.declared.receiving.Received.{Received}
+use Rattle.ca_client_tables.specs.Receiving.{HaveReceived, Parts, all_settled, parts_of, with_parts}
+use Rattle.ca_client_tables.specs.declared.receiving.Received.{Received}
 use Rattle.ca_client_core.proofs.Arriving.{IsSoundWith, sound-all}
 
 -- the client at the moment of the datagram

@@ -1,5 +1,5 @@
 -- What is made of a message, by its command.
-use Rattle.std.proofs.Common.{◌≡◌, ◌≢◌, ◌∙◌, ◌⊎◌, ℕ, ◌<◌, ◌^◌, ◌==◌, Bool, true, false, inl, inr, Global, Vec, List, [], ◌∷◌, ◌++◌, Option, Some, None, Result, Ok, Err, ap, arith, length, refl, subst, sym}
+use Rattle.std.proofs.Common.{◌≡◌, ◌≢◌, ◌∙◌, ◌⊎◌, ℕ, ◌<◌, ◌^◌, ◌==◌, true, false, inl, inr, Global, Vec, List, [], ◌∷◌, Option, Some, None, Result, Ok, Err, arith, length, refl, subst, sym}
 use Rattle.std.specs.List.{list_any}
 use Rattle.std.specs.Prelude.{IsErr}
 use Rattle.std.specs.declared.alloc.AllocError.{AllocError}
@@ -10,10 +10,10 @@ use Rattle.ca_text.specs.declared.command.Command.TheVariants as command
 use Rattle.ca_arena.specs.declared.handle.Handle.{Handle}
 use Rattle.ca_dbr.specs.Octets.{AreBytes}
 use Rattle.ca_dbr.specs.declared.value.Outcome.{Outcome}
-use Rattle.ca_ids.specs.Table.{IsFull, MayGive, Table, under}
+use Rattle.ca_ids.specs.Table.{under}
 use Rattle.ca_wire.specs.Fields.{Fields}
-use Rattle.ca_requests.specs.Meaning.{ImageMeans, Means, QuotesHeader}
-use Rattle.ca_requests.specs.Requests.{Asked, Request, Stage, answered_by}
+use Rattle.ca_requests.specs.Meaning.{Means}
+use Rattle.ca_requests.specs.Requests.{Request, Stage, answered_by}
 use Rattle.ca_requests.specs.Requests as request
 use Rattle.ca_model.specs.Answers as notice
 use Rattle.ca_model.specs.Client.{Channel, Client, ClientCircuit, channel_on, circuit_to, new_circuit}

@@ -1,7 +1,7 @@
 -- Each message that is read has an effect.
-use Rattle.std.proofs.Common.{◌≡◌, ◌≢◌, ◌∙◌, ◌⊎◌, ℕ, ◌+◌, ◌<◌, ◌≤◌, ◌^◌, ◌==◌, Bool, true, false, inl, inr, Global, Vec, List, [], ◌∷◌, ◌++◌, Option, Some, None, ap, arith, drop, get_or, length, length-drop, refl, subst, sym, take}
+use Rattle.std.proofs.Common.{◌≡◌, ◌≢◌, ◌∙◌, ◌⊎◌, ℕ, ◌+◌, ◌<◌, ◌≤◌, ◌^◌, inl, inr, List, ◌++◌, ap, arith, drop, length, length-drop, sym, take}
 use Rattle.std.specs.Int.{from_be_bytes, w16, w32}
-use Rattle.std.proofs.lemmas.Bool.{cases_eq, cases_lt, ne_eqb}
+use Rattle.std.proofs.lemmas.Bool.{cases_eq, cases_lt}
 use Rattle.std.proofs.lemmas.List.{length-take-le, take-append-drop}
 use Rattle.ca_dbr.specs.Octets.{AreBytes}
 use Rattle.ca_dbr.proofs.LongBytes.{are-drop, are-take, below-2, below-4, each-byte}

@@ -7,8 +7,8 @@ use Rattle.ca_requests.specs.Requests as request
 use Rattle.ca_monitor.specs.Subscriptions.{Subscription}
 use Rattle.ca_monitor.specs.Subscriptions as monitor
 use Rattle.ca_model.specs.Client.{Client, ClientCircuit, channels_ended, disconnected, ended, let_go, without_circuit, without_ids}
-use Rattle.ca_client_core.specs.Ending.{EndsAll, Sought, sought}
-use Rattle.ca_client_core.proofs.Ended.{all-ended, with_sought}
+use Rattle.ca_client_tables.specs.Ending.{EndsAll, Sought, sought}
+use Rattle.ca_client_tables.proofs.Ended.{all-ended, with_sought}
 
 -- the client with these parts
 abbrev pub left_with : Client → Issued → Table Subscription → Sought → Table ClientCircuit → List Handle → Client

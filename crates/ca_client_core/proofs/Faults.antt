@@ -4,7 +4,7 @@ use Rattle.std.specs.List.{AllByRecursion}
 use Rattle.ca_text.proofs.Places.{some_is}
 use Rattle.ca_text.specs.declared.refusal.Refusal.{Refusal}
 use Rattle.ca_text.specs.declared.refusal.Refusal.TheVariants as refusal
-use Rattle.ca_model.specs.Client.{Client, On, Searching, Standing, standing_at}
+use Rattle.ca_model.specs.Client.{On, Searching, Standing}
 use Rattle.ca_model.specs.Client as phase
 use Rattle.ca_model.specs.ClientCalls.{LiveChannel, fault_at, first_refusal}
 use Rattle.ca_client_core.specs.Calls.{live_in}

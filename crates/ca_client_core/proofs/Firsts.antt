@@ -1,13 +1,14 @@
 -- What came first on a circuit, seen from its client.
-use Rattle.std.proofs.Common.{◌≡◌, ◌∙◌, Option, Some, None, ap, inl, inr, refl, subst, sym}
+use Rattle.std.proofs.Common.{◌≡◌, ◌∙◌, Option, Some, None, ap, inr, refl, sym}
 use Rattle.std.specs.Prelude.{is_none}
 use Rattle.ca_arena.specs.declared.handle.Handle.{Handle}
-use Rattle.ca_ids.specs.Table.{Table, under, with_changed}
+use Rattle.ca_ids.specs.Table.{under, with_changed}
 use Rattle.ca_model.specs.Client.{Client, ClientCircuit, Connection}
-use Rattle.ca_client_core.specs.First.{FirstAt, FirstIn, FirstOf, FirstOn}
-use Rattle.ca_client_core.specs.declared.first.First.{First}
-use Rattle.ca_client_core.specs.declared.first.First.TheVariants as first
-use Rattle.ca_client_core.proofs.Circuits.{this-same, with_this}
+use Rattle.ca_client_tables.specs.First.{FirstAt, FirstOf}
+use Rattle.ca_client_core.specs.First.{FirstOn}
+use Rattle.ca_client_tables.specs.declared.first.First.{First}
+use Rattle.ca_client_tables.specs.declared.first.First.TheVariants as first
+use Rattle.ca_client_tables.proofs.Circuits.{this-same, with_this}
 
 -- it is connected still, or not
 still : (o : Option Connection) (r : First) (n : Option Connection) → FirstOf o r n → is_none n ≡ is_none o

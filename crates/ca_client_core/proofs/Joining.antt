@@ -1,24 +1,20 @@
 -- A channel that was found is put on its circuit, and a circuit that is wanted is connected: what that keeps.
-use Rattle.std.proofs.Common.{◌≡◌, ◌∙◌, inl, inr, Bool, true, false, List, Option, Some, None, ap, if◌then◌else◌, not, refl, subst, sym, unwrap_or}
-use Rattle.std.specs.Prelude.{ℕ, is_none, is_some, option_and_then, option_map}
-use Rattle.ca_text.proofs.Places.{some_is}
+use Rattle.std.proofs.Common.{◌≡◌, ◌∙◌, inl, inr, Bool, true, false, List, Option, Some, None, ap, if◌then◌else◌, refl, subst, sym, unwrap_or}
+use Rattle.std.specs.Prelude.{ℕ, is_none, option_and_then, option_map}
 use Rattle.ca_arena.specs.declared.handle.Handle.{Handle}
-use Rattle.ca_ids.specs.Table.{MayGive, Table, same_handle, under, with_all, with_changed, with_held}
+use Rattle.ca_ids.specs.Table.{Table, same_handle, under, with_all, with_changed}
 use Rattle.ca_requests.specs.Requests.{Request}
 use Rattle.ca_monitor.specs.Subscriptions.{Subscription}
-use Rattle.ca_model.specs.Client.{Channel, Client, ClientCircuit, Connecting, Connection, Creating, On, Phase, circuit_to, connection_at, Standing, is_live, is_on_in, on_connection, phase_on}
+use Rattle.ca_model.specs.Client.{Channel, Client, ClientCircuit, Connection, Creating, On, Standing, is_live, is_on_in, phase_on}
 use Rattle.ca_model.specs.ClientEnds.{begun, creating, is_connecting, new_connection}
-use Rattle.ca_model.specs.Ends.{Address}
-use Rattle.ca_model.specs.Hears.{searched_by, with_circuit}
 use Rattle.ca_model_client.specs.Placed.{ArePlaced, IsPlaced}
-use Rattle.ca_model_client.proofs.Hearing.{circuit-there, found-keeps, keeps-begun, wanted-keeps}
+use Rattle.ca_model_client.proofs.Hearing.{keeps-begun}
 use Rattle.ca_model_client.proofs.Handles.{handle-or}
-use Rattle.ca_model_client.proofs.Placed.{keeps-on, placed-linked, under-other}
+use Rattle.ca_model_client.proofs.Placed.{placed-linked, under-other}
 use Rattle.ca_model_client.proofs.Tables.{all-back, changed-own}
-use Rattle.ca_client_core.specs.Listed.{AreListed}
+use Rattle.ca_client_tables.specs.Listed.{AreListed}
 use Rattle.ca_client_core.proofs.Listing.{listed-thin}
-use Rattle.ca_model_client.proofs.Standings.{searched-is}
-use Rattle.ca_client_core.proofs.Placing.{plain}
+use Rattle.ca_client_tables.proofs.Finds.{plain}
 
 abbrev connection-of : Option ClientCircuit → Option Connection
 connection-of o = option_and_then (λ (d : ClientCircuit). d.connection) o

@@ -1,5 +1,5 @@
 -- What is sent on a circuit after its mark is taken back.
-use Rattle.std.proofs.Common.{◌≡◌, ◌∙◌, ℕ, ◌+◌, ◌<◌, Bool, true, false, cond, List, [], ◌∷◌, ◌++◌, Option, Some, None, ap, fold, get_or, length, option_map, refl, sym, take, unwrap_or}
+use Rattle.std.proofs.Common.{◌≡◌, ◌∙◌, ℕ, ◌+◌, ◌<◌, Bool, true, false, cond, List, [], ◌∷◌, ◌++◌, Option, Some, None, ap, get_or, length, option_map, refl, sym, take}
 use Rattle.std.specs.Prelude.{option_and_then}
 use Rattle.std.proofs.lemmas.List.{take_at, take_more}
 use Rattle.ca_text.specs.declared.command.Command.TheVariants as command
@@ -13,18 +13,19 @@ use Rattle.ca_search.specs.Searches.{Wanted}
 use Rattle.ca_wire.specs.Fields.{Fields}
 use Rattle.ca_wire.specs.Message.{spelled}
 use Rattle.ca_wire.specs.Messages.{bare, search_request}
-use Rattle.ca_model.specs.Client.{Client, ClientCircuit, Connection, connection_at, on_connection}
+use Rattle.ca_model.specs.Client.{Client, ClientCircuit, Connection, on_connection}
 use Rattle.ca_model.specs.ClientCalls.{is_over}
 use Rattle.ca_model.specs.ClientEnds.{Ticking, all_searched_on, echoes, of_circuit, searches_on, with_sending}
 use Rattle.ca_client_core.specs.declared.marks.CircuitMark.{CircuitMark}
-use Rattle.ca_client_core.specs.Again.{with_messages}
-use Rattle.ca_client_core.specs.Asks.{with_message}
-use Rattle.ca_client_core.specs.Marks.{circuit_restored, end_restored, mark_at, mark_by, undone}
-use Rattle.ca_client_core.specs.Moments.{asked_in, asks_in, is_echo, is_echo_due}
-use Rattle.ca_client_core.specs.NameSearches.{searched_all, searched_on}
-use Rattle.ca_client_core.specs.Silences.{echo_end, echo_in, echoed}
-use Rattle.ca_client_core.proofs.Circuits.{changed-same, changed-twice, this-same}
-use Rattle.ca_client_core.proofs.Queued.{queue, unchanged}
+use Rattle.ca_client_tables.specs.Ends.{with_messages, with_message}
+use Rattle.ca_client_core.specs.Marks.{circuit_restored, mark_at, undone}
+use Rattle.ca_client_tables.specs.Marks.{end_restored, mark_by}
+use Rattle.ca_client_core.specs.Moments.{asks_in, is_echo, is_echo_due}
+use Rattle.ca_client_core.specs.NameSearches.{searched_all}
+use Rattle.ca_client_tables.specs.Silences.{echo_end, echo_in}
+use Rattle.ca_client_core.specs.Silences.{echoed}
+use Rattle.ca_client_tables.proofs.Circuits.{changed-same, changed-twice, this-same}
+use Rattle.ca_client_tables.proofs.Queued.{queue, unchanged}
 
 -- ---- marks in a row
 

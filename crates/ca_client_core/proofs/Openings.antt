@@ -1,6 +1,5 @@
 -- A channel is opened: its CID is none that is searched for, and what is searched for is a channel still.
 use Rattle.std.proofs.Common.{◌≡◌, ◌≢◌, ℕ, ◌%◌, inl, inr, Bool, false, List, [], ◌∷◌, ◌++◌, length, nat_eq, Some, None, if◌then◌else◌, refl, sym, ap, ◌∙◌, subst, arith, length-append}
-use Rattle.std.specs.List.{AllByRecursion}
 use Rattle.std.proofs.lemmas.Bool.{cases_eq, cases_lt, eq-eqb, ne_eqb}
 use Rattle.std.proofs.lemmas.List.{get_or-set_other, get_or_append_left, get_or_past, get_or_push, get_or-set_same}
 use Rattle.ca_arena.specs.declared.handle.Handle.{Handle}
@@ -14,7 +13,8 @@ use Rattle.ca_search.specs.Searcher.{holds}
 use Rattle.ca_search.specs.Searches as search
 use Rattle.ca_model.specs.Client.{Channel, Client, Searching, later}
 use Rattle.ca_model.specs.ClientCalls.{Opening, opened}
-use Rattle.ca_client_core.specs.Sound.{HasCid, IsClient}
+use Rattle.ca_client_tables.specs.Sound.{HasCid, IsClient}
+use Rattle.ca_client_tables.proofs.Ended.{Searched}
 
 module _ {T : Type 0} where
   -- what holds an id has an index that may not be given
@@ -53,10 +53,6 @@ module _ {T : Type 0} where
   pub now-held : (t : Table T) (q : Handle) (r : T) → MayGive t q → under (with_held q r t) q ≡ Some r
   now-held t q r may =
       ap (value_for q.generation) (place-held t q r may) ∙ ap (λ (b : Bool). if b then Some r else None) (eq-eqb q.generation q.generation refl)
-
--- none of the CIDs that are searched for
-abbrev pub Searched : Table Channel → List (ℕ × search.Channel) → Type 0
-Searched t es = AllByRecursion (λ (e : ℕ × search.Channel). HasCid t e.0) es
 
 other-cid : (t : Table Channel) (q : Handle) (cid : ℕ) → MayGive t q → HasCid t cid → nat_eq (wire_of q) cid ≡ false
 other-cid t q cid may has =

@@ -1,12 +1,10 @@
 -- Each image has an outcome: its value, why it has none, or the status.
-use Rattle.std.proofs.Common.{◌≡◌, ◌≢◌, ◌∙◌, ◌⊎◌, ℕ, zero, suc, ◌+◌, ◌-◌, ◌<◌, ◌≤◌, ◌^◌, inl, inr, Global, Vec, List, [], ◌∷◌, ◌++◌, ap, append_assoc, arith, drop, length, length-drop, refl, subst, sym, take}
+use Rattle.std.proofs.Common.{◌≡◌, ◌∙◌, ℕ, zero, suc, ◌+◌, ◌-◌, ◌<◌, ◌≤◌, ◌^◌, inl, inr, Global, Vec, List, ◌++◌, ap, append_assoc, arith, drop, length, length-drop, refl, subst, sym, take}
 use Rattle.std.proofs.lemmas.Bool.{cases_eq, cases_lt}
 use Rattle.std.proofs.lemmas.List.{drop-drop, length-take-le, take-append-drop}
 use Rattle.ca_text.specs.Status.{normal}
-use Rattle.ca_text.specs.declared.refusal.Refusal.{Refusal}
 use Rattle.ca_text.specs.declared.refusal.Refusal.TheVariants as refusal
 use Rattle.ca_dbr.specs.Octets.{AreBytes}
-use Rattle.ca_dbr.specs.declared.data_type.BaseType.{BaseType}
 use Rattle.ca_dbr.specs.declared.data_type.DataType.{DataType}
 use Rattle.ca_dbr.specs.declared.data_type.Form.{Form}
 use Rattle.ca_dbr.specs.declared.data_type.Form.TheVariants as form
@@ -17,9 +15,9 @@ use Rattle.ca_dbr.specs.declared.value.Value.{Value}
 use Rattle.ca_dbr.specs.declared.value.Value.TheVariants as value
 use Rattle.ca_dbr.specs.Elements.{Elements, bytes_2, bytes_4, chars, count_of, doubles, elements, enums, floats, ints, longs, strings}
 use Rattle.ca_dbr.specs.Image.{meta_bytes}
-use Rattle.ca_dbr.specs.Reading.{IsLong, IsMeta, ReadRefused, Reads, ReadsElements, carried, least_size}
+use Rattle.ca_dbr.specs.Reading.{IsLong, IsMeta, Reads, ReadsElements, carried, least_size}
 use Rattle.ca_dbr.specs.Types.{meta_size, padding_size, type_at, type_number}
-use Rattle.ca_dbr.proofs.LongBytes.{Unit-of, are-drop, are-take, enum-of, float-of, reading}
+use Rattle.ca_dbr.proofs.LongBytes.{are-drop, are-take, enum-of, float-of, reading}
 use Rattle.ca_dbr.proofs.Readings.{reads_long, reads_parts}
 use Rattle.ca_wire.specs.Fields.{Fields}
 use Rattle.ca_requests.specs.Meaning.{ImageMeans, StatusMeans}

@@ -5,7 +5,7 @@ use Rattle.ca_ids.specs.Table.{Table}
 use Rattle.ca_search.specs.Searcher.{with_all}
 use Rattle.ca_search.specs.Searches as search
 use Rattle.ca_model.specs.Client.{Channel}
-use Rattle.ca_client_core.specs.Sound.{HasCid, IsClient}
+use Rattle.ca_client_tables.specs.Sound.{HasCid, IsClient}
 
 all-with-cid : (channels : Table Channel) (f : search.Channel → search.Channel) (es : List (ℕ × search.Channel)) → AllByRecursion (λ (e : ℕ × search.Channel). HasCid channels e.0) es → AllByRecursion (λ (e : ℕ × search.Channel). HasCid channels e.0) (with_all f es)
 all-with-cid channels f [] all = tt

@@ -1,7 +1,6 @@
 -- What a change of one of a client's tables keeps of where its channels are.
 use Rattle.std.proofs.Common.{◌≡◌, inl, inr, Bool, true, false, List, [], ◌∷◌, Option, Some, None, Result, Ok, Err, refl, sym, ap, ◌∙◌, subst}
 use Rattle.std.specs.Prelude.{ℕ, OnErr, OnOk, is_none, option_and_then, option_map}
-use Rattle.std.specs.FinMap as finite
 use Rattle.std.specs.declared.alloc.AllocError.{AllocError}
 use Rattle.ca_text.specs.declared.refusal.Refusal.{Refusal}
 use Rattle.ca_text.specs.declared.refusal.Refusal.TheVariants as refusal
@@ -31,28 +30,13 @@ use Rattle.ca_model_client.proofs.Hearing.{bare-so, drained-bare, keeps-request}
 use Rattle.ca_model_client.proofs.Placed.{keeps-again, keeps-gone, keeps-then, placed-linked, under-other}
 use Rattle.ca_model_client.proofs.Standings.{channel-on, found-standing, is-on}
 use Rattle.ca_model_client.proofs.Tables.{changed-own, held-back}
-use Rattle.ca_client_core.specs.Ends.{GivesAt, GivesOn}
-use Rattle.ca_client_core.specs.Forms.{phase_of}
+use Rattle.ca_client_tables.specs.Ends.{GivesAt, GivesOn}
+use Rattle.ca_client_tables.specs.Forms.{phase_of}
 use Rattle.ca_client_core.specs.Hearing.{HearsReplyTo, completed, found_as}
-use Rattle.ca_client_core.specs.declared.channel.Phase as code
-use Rattle.ca_client_core.specs.Sound.{IsSound}
+use Rattle.ca_client_tables.specs.declared.channel.Phase as code
+use Rattle.ca_client_tables.specs.Sound.{IsSound}
 use Rattle.ca_client_core.specs.Turns.{MayTurn, TurnsIn, WasLiveAs}
-
--- a client with these tables, and nothing else
-abbrev pub plain : Table Channel → Table Request → Table Subscription → Table ClientCircuit → Client
-plain t q s c = record {
-  peer = record { user = []; host = [] };
-  servers = [];
-  moment = 0;
-  channels = t;
-  requests = q;
-  subscriptions = s;
-  circuits = c;
-  order = [];
-  issued = [];
-  searches = [];
-  beacons = finite.empty;
-}
+use Rattle.ca_client_tables.proofs.Finds.{plain}
 
 abbrev connection-of : Option ClientCircuit → Option Connection
 connection-of o = option_and_then (λ (d : ClientCircuit). d.connection) o

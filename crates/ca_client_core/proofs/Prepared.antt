@@ -1,18 +1,18 @@
 -- A tick in two halves, of which the first can be taken back, is that of the statement.
-use Rattle.std.proofs.Common.{◌≡◌, ◌≢◌, ◌∙◌, ℕ, ◌+◌, ◌≤◌, ◌⊎◌, inl, inr, Bool, true, false, cond, List, [], ◌∷◌, ◌++◌, Result, Ok, Err, ap, fold, length, map, refl, subst, sym}
+use Rattle.std.proofs.Common.{◌≡◌, ◌≢◌, ◌∙◌, ℕ, ◌+◌, ◌≤◌, inl, inr, Bool, true, false, cond, List, [], ◌∷◌, Ok, Err, ap, fold, length, map, refl, subst, sym}
 use Rattle.std.specs.Prelude.{Option, None, Some, filter, flat_map, vec_capacity, vec_len}
 use Rattle.ca_text.specs.Limits.{arena_slots}
 use Rattle.ca_text.specs.declared.refusal.Refusal.TheVariants as refusal
 use Rattle.ca_arena.specs.declared.handle.Handle.{Handle}
 use Rattle.ca_search.specs.Searches.{Wanted}
-use Rattle.ca_model.specs.Answers.{Datagram, Notice, Sending}
+use Rattle.ca_model.specs.Answers.{Sending}
 use Rattle.ca_model.specs.Answers as answer
 use Rattle.ca_model.specs.Client.{Client, ClientCircuit, disconnected, ended, later, without_circuit}
 use Rattle.ca_ids.specs.Table.{under}
-use Rattle.ca_model.specs.ClientEnds.{ClientTicks, Ticking, all_searched_on, circuits_ticked, due, echoes, falls_silent, is_name_connected, packed, searches_made, ticked, ticks, to_server}
+use Rattle.ca_model.specs.ClientEnds.{ClientTicks, Ticking, all_searched_on, circuits_ticked, due, echoes, falls_silent, is_name_connected, packed, searches_made, to_server}
 use Rattle.ca_client_core.specs.declared.ticking.Left.{Left}
 use Rattle.ca_client_core.specs.declared.ticking.Plan.{Plan}
-use Rattle.ca_client_core.specs.Ahead.{Once, due_after, is_in}
+use Rattle.ca_client_tables.specs.Ahead.{Once, due_after, is_in}
 use Rattle.ca_client_core.specs.Moments.{EchoIsDue, EchoesAll, SearchesAll, all_echoed, all_ended, all_searched, echo_step, end_step, is_echo_due, is_silent, silent_of}
 use Rattle.ca_client_core.specs.Ticked.{CarriesOut, IsPlanned, LacksMemory, Plans, Reports, circuits_of, lefts_of, made_of, notices_of}
 use Rattle.ca_client_core.proofs.Ahead.{due-so, echo-sought}

@@ -1,25 +1,23 @@
 -- A read is issued, with its message.
-use Rattle.std.proofs.Common.{◌≡◌, ◌∙◌, ℕ, Bool, true, false, not, List, [], ◌∷◌, Option, Some, None, Result, Ok, Err, ap, is_none, length, option_map, refl, subst, sym, unwrap_or}
-use Rattle.std.specs.Prelude.{nat_lt, option_and_then}
+use Rattle.std.proofs.Common.{◌≡◌, ◌∙◌, ℕ, Bool, true, false, not, List, [], ◌∷◌, Some, None, Result, Ok, Err, ap, is_none, length, refl, subst}
+use Rattle.std.specs.Prelude.{nat_lt}
 use Rattle.std.specs.declared.alloc.AllocError.{AllocError}
-use Rattle.std.proofs.lemmas.List.{take_at}
 use Rattle.ca_text.specs.declared.refusal.Refusal.{Refusal}
 use Rattle.ca_text.specs.declared.refusal.Refusal.TheVariants as refusal
 use Rattle.ca_arena.specs.declared.handle.Handle.{Handle}
 use Rattle.ca_records.specs.Rules.{may_read}
-use Rattle.ca_ids.specs.Table.{MayGive, Table, is_full, under, with_changed}
+use Rattle.ca_ids.specs.Table.{MayGive, is_full}
 use Rattle.ca_ids.proofs.Holding.{may-not-full}
-use Rattle.ca_link.specs.Link.{with_sent}
 use Rattle.ca_wire.specs.Fields.{Fields}
-use Rattle.ca_wire.specs.Message.{spelled}
 use Rattle.ca_requests.specs.Requests.{Asked}
 use Rattle.ca_requests.specs.Requests as request
 use Rattle.ca_model.specs.Answers.{Sending}
-use Rattle.ca_model.specs.Client.{Client, ClientCircuit, Connection, out_bytes, standing_at}
+use Rattle.ca_model.specs.Client.{Client, out_bytes, standing_at}
 use Rattle.ca_model.specs.ClientCalls.{ClientReads, IsLive, LiveChannel, Shape, ask_fault, is_over, read_fault, read_sent}
 use Rattle.ca_model.specs.Faults.{type_of}
-use Rattle.ca_client_core.specs.Asks.{Asks, IssuesOr, cut_back, cut_end, with_message, with_request}
-use Rattle.ca_client_core.proofs.Queued.{cut-messages}
+use Rattle.ca_client_core.specs.Asks.{Asks, IssuesOr, with_request}
+use Rattle.ca_client_tables.specs.Ends.{cut_back, with_message}
+use Rattle.ca_client_tables.proofs.Queued.{cut-messages}
 use Rattle.ca_client_core.proofs.Faults.{Faults, and_then, earlier-fault, fault-memory, last-fault}
 
 -- ---- what was queued is taken back

@@ -1,5 +1,5 @@
 -- Circuits one after another: each round of a loop is one step of a tick.
-use Rattle.std.proofs.Common.{◌≡◌, ◌≢◌, ◌∙◌, ℕ, suc, zero, ◌+◌, ◌<◌, ◌≤◌, Bool, true, false, cond, List, [], ◌∷◌, ◌++◌, Some, ap, arith, drop, fold, get_or, length, refl, subst, sym, take}
+use Rattle.std.proofs.Common.{◌≡◌, ◌≢◌, ◌∙◌, ℕ, suc, zero, ◌+◌, ◌<◌, Bool, true, false, cond, List, [], ◌∷◌, ◌++◌, Some, ap, arith, drop, fold, get_or, length, refl, subst, sym, take}
 use Rattle.std.specs.Prelude.{slice_get}
 use Rattle.std.proofs.lemmas.List.Sums.{fold-append}
 use Rattle.ca_text.proofs.Places.{some_is}
@@ -11,7 +11,7 @@ use Rattle.ca_model.specs.ClientCalls.{is_over}
 use Rattle.ca_wire.specs.Fields.{Fields}
 use Rattle.ca_wire.specs.Messages.{search_request}
 use Rattle.ca_client_core.specs.declared.marks.CircuitMark.{CircuitMark}
-use Rattle.ca_client_core.specs.Again.{with_messages}
+use Rattle.ca_client_tables.specs.Ends.{with_messages}
 use Rattle.ca_client_core.specs.Marks.{circuit_restored, mark_at, undone}
 use Rattle.ca_client_core.specs.Moments.{EchoIsDue, all_echoed, all_searched, echo_step, is_echo_due, is_searched_on, search_step}
 use Rattle.ca_client_core.specs.NameSearches.{searched_all}
@@ -19,7 +19,7 @@ use Rattle.ca_client_core.specs.Silences.{echoed}
 use Rattle.ca_client_core.proofs.Marked.{asked-core, echoes-is, restored-echo, restored-messages, undone-more}
 use Rattle.ca_client_core.proofs.Moments.{echo-order, echo-some}
 use Rattle.ca_client_core.proofs.Prepared.{begins}
-use Rattle.ca_client_core.proofs.Queued.{messages-none}
+use Rattle.ca_client_tables.proofs.Queued.{messages-none}
 
 -- ---- lists
 

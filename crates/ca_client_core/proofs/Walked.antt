@@ -14,12 +14,13 @@ use Rattle.ca_link.specs.Link.{TakesFirst}
 use Rattle.ca_wire.specs.Fields.{Fields}
 use Rattle.ca_model.specs.Answers as answer
 use Rattle.ca_model.specs.Client.{Client, ClientCircuit, Connection, Phase, channels_ended, channels_on, closing, connection_at, disconnected, ended, is_cleared, let_go, on_connection, out_bytes, searched_again, without_channel, without_circuit, without_ids}
-use Rattle.ca_model.specs.ClientEnds.{ClientSteps, EndsFor, MayEnd, StepsOn, Takes, TakesMemory, after_taking}
+use Rattle.ca_model.specs.ClientEnds.{ClientSteps, EndsFor, MayEnd, StepsOn, Takes, TakesMemory}
 use Rattle.ca_model.specs.Ends as why
 use Rattle.ca_model.specs.Hears.{Effect, Hears}
 use Rattle.ca_client_core.specs.Dispatch.{HearsOr}
-use Rattle.ca_client_core.specs.First.{HasPayload, IsBad, MayWant, emptied, without_first}
-use Rattle.ca_client_core.proofs.Circuits.{changed-found, changed-same, changed-twice, found-changed}
+use Rattle.ca_client_tables.specs.First.{HasPayload, IsBad, emptied, without_first}
+use Rattle.ca_client_core.specs.First.{MayWant}
+use Rattle.ca_client_tables.proofs.Circuits.{changed-found, changed-same, changed-twice, found-changed}
 use Rattle.ca_client_core.proofs.Dispatched.{could-hear}
 use Rattle.ca_client_core.proofs.Openings.{held-apart}
 

@@ -1,21 +1,17 @@
 -- Working: parts of what a CREATE_CHAN and a SERVER_DISCONN do. No clause of a caller needs it.
 use Rattle.std.specs.Prelude.{ℕ, ◌++◌, List, [], ◌∷◌, map}
 use Rattle.ca_arena.specs.declared.handle.Handle.{Handle}
-use Rattle.ca_link.specs.Link.{with_sent}
 use Rattle.ca_wire.specs.Fields.{Fields}
 use Rattle.ca_wire.specs.Messages.{event_add_request}
 use Rattle.ca_monitor.specs.Subscriptions.{Subscription, standing_to}
 use Rattle.ca_requests.specs.Requests.{asks_on}
 use Rattle.ca_requests.specs.Requests as request
 use Rattle.ca_model.specs.Answers as notice
-use Rattle.ca_model.specs.Client.{Client, Connection, Native, On, disconnections, on_connection, with_requests, with_standing}
+use Rattle.ca_model.specs.Client.{Client, Native, On, disconnections, with_requests, with_standing}
 use Rattle.ca_model.specs.Client as phase
 use Rattle.ca_model.specs.ClientCalls.{clear_sent, wanted_by}
 use Rattle.ca_model.specs.Hears.{Effect, doing, event_adds}
-
--- the client with these messages waiting on this circuit
-abbrev pub with_messages : Handle → List Fields → Client → Client
-with_messages c ms x = on_connection (λ (e : Connection). record e { link = with_sent ms e.link }) c x
+use Rattle.ca_client_tables.specs.Ends.{with_messages}
 
 -- the EVENT_ADD of a subscription
 abbrev pub add_message : ℕ → Handle × Subscription → Fields

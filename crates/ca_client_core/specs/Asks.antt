@@ -1,26 +1,14 @@
 -- Working: a request is issued after its message was queued. No clause of a caller needs it.
-use Rattle.std.specs.Prelude.{ℕ, ◌≡◌, ◌++◌, [], ◌∷◌, Result, Ok, Err, take}
+use Rattle.std.specs.Prelude.{ℕ, ◌≡◌, ◌++◌, [], ◌∷◌, Result, Ok, Err}
 use Rattle.std.specs.declared.alloc.AllocError.{AllocError}
 use Rattle.ca_arena.specs.declared.handle.Handle.{Handle}
 use Rattle.ca_ids.specs.Table.{MayGive, with_held}
-use Rattle.ca_link.specs.Link.{with_sent}
 use Rattle.ca_wire.specs.Fields.{Fields}
 use Rattle.ca_requests.specs.Calls.{new_request}
 use Rattle.ca_requests.specs.Requests.{Asked}
 use Rattle.ca_monitor.specs.Subscriptions.{Subscription, new_subscription}
-use Rattle.ca_model.specs.Client.{Client, Connection, on_connection}
-
--- the end of which only the first n bytes still wait
-abbrev pub cut_end : ℕ → Connection → Connection
-cut_end n e = record e { link = record e.link { output = take n e.link.output } }
-
--- the client with only the first n bytes waiting on this circuit
-abbrev pub cut_back : Handle → ℕ → Client → Client
-cut_back c n x = on_connection (cut_end n) c x
-
--- the client with this message waiting on this circuit
-abbrev pub with_message : Handle → Fields → Client → Client
-with_message c m x = on_connection (λ (e : Connection). record e { link = with_sent (m ∷ []) e.link }) c x
+use Rattle.ca_model.specs.Client.{Client}
+use Rattle.ca_client_tables.specs.Ends.{cut_back, with_message}
 
 -- the client with a new request of this handle
 abbrev pub with_request : Handle → Handle → Handle → Asked → Client → Client

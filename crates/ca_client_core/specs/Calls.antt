@@ -1,14 +1,13 @@
 -- Working: parts of what the calls of a client's user answer and leave. No clause of a caller needs it.
-use Rattle.std.specs.Prelude.{ℕ, ◌≡◌, Bool, [], ◌∷◌, true, false, not, Option, Some, None, Result, Ok, Err, is_none, nat_lt, option_and_then}
+use Rattle.std.specs.Prelude.{ℕ, ◌≡◌, Bool, [], ◌∷◌, true, false, not, Option, Some, None, Result, Ok, Err, is_none, nat_lt}
 use Rattle.ca_text.specs.declared.refusal.Refusal.{Refusal}
 use Rattle.ca_text.specs.declared.refusal.Refusal.TheVariants as refusal
 use Rattle.ca_arena.specs.declared.handle.Handle.{Handle}
 use Rattle.ca_monitor.specs.Subscriptions.{Cancelled, Subscription, with_stage}
-use Rattle.ca_ids.specs.Table.{Table, under}
-use Rattle.ca_model.specs.Client.{Client, ClientCircuit, On, Standing, sending}
+use Rattle.ca_model.specs.Client.{Client, On, Standing, sending}
 use Rattle.ca_model.specs.Client as phase
 use Rattle.ca_records.specs.Rules.{may_read}
-use Rattle.ca_model.specs.ClientCalls.{LiveChannel, Shape, WantedCircuit, event_cancel_sent, first_refusal, is_over, wanted_as}
+use Rattle.ca_model.specs.ClientCalls.{LiveChannel, Shape, event_cancel_sent, first_refusal, is_over}
 use Rattle.ca_model.specs.Faults.{type_of}
 
 -- A subscription is cancelled on this circuit, under this SID: its EVENT_CANCEL goes out, and its id drains.
@@ -35,7 +34,3 @@ abbrev pub live_in : Option Standing → Result LiveChannel Refusal
 live_in None = Err refusal.StaleHandle
 live_in (Some (On c (phase.Live n rights))) = Ok (record { circuit = c; native = n; rights = rights })
 live_in (Some s) = Err refusal.NotLive
-
--- the circuit of this handle, if it is wanted and not connected
-abbrev pub wanted_at : Table ClientCircuit → Handle → Option WantedCircuit
-wanted_at t c = option_and_then (wanted_as c) (under t c)

@@ -1,5 +1,5 @@
 -- Working: parts of what a message that is read does. No clause of a caller needs it.
-use Rattle.std.specs.Prelude.{◌≡◌, ◌≢◌, ◌⊎◌, List, [], ◌∷◌, Option, Some, None, Result, Ok, Err}
+use Rattle.std.specs.Prelude.{◌≡◌, List, [], ◌∷◌, Option, Some, None, Result, Ok, Err}
 use Rattle.std.specs.declared.alloc.AllocError.{AllocError}
 use Rattle.ca_arena.specs.declared.handle.Handle.{Handle}
 use Rattle.ca_dbr.specs.declared.value.Outcome.{Outcome}
@@ -14,8 +14,9 @@ use Rattle.ca_model.specs.Client.{Client}
 use Rattle.ca_model.specs.Client as client
 use Rattle.ca_model.specs.Ends.{Address}
 use Rattle.ca_model.specs.Hears.{Answers, Effect, Finds, doing}
-use Rattle.ca_client_core.specs.declared.channel.Phase.{Phase}
-use Rattle.ca_client_core.specs.Forms.{phase_of}
+use Rattle.ca_client_tables.specs.declared.channel.Phase.{Phase}
+use Rattle.ca_client_tables.specs.Forms.{phase_of}
+use Rattle.ca_client_tables.specs.Finding.{DoesSome}
 
 -- a channel that was found on a circuit
 abbrev pub found_as : Handle × Phase → Handle × client.Phase
@@ -55,10 +56,6 @@ subscription_over m (Some s) = notice.SubscriptionEnded s (record { number = m.p
 abbrev pub request_over : Fields → Option Handle → List Notice
 request_over m None = []
 request_over m (Some q) = notice.Completed q (outcome.Failed (record { number = m.p2 })) ∷ []
-
--- it sends or reports something, or makes a circuit wanted
-abbrev pub DoesSome : Client → Effect → Type 0
-DoesSome old e = (e.sent ≢ []) ⊎ ((e.notices ≢ []) ⊎ (e.core.order ≢ old.order))
 
 -- A message had this effect; or there was no memory for it, which changed nothing.
 abbrev pub HasEffect : Client → Effect → Result (List Notice) AllocError → Client → Type 0

@@ -5,7 +5,7 @@ use Rattle.ca_arena.specs.declared.handle.Handle.{Handle}
 use Rattle.ca_model.specs.Client.{Client}
 use Rattle.ca_model.specs.ClientCalls.{IsLive, LiveChannel, Shape, ask_fault}
 use Rattle.ca_client_core.specs.declared.live.Live.{Live}
-use Rattle.ca_client_core.specs.Forms.{native_of}
+use Rattle.ca_client_tables.specs.Forms.{native_of}
 
 abbrev pub live_of : Live → LiveChannel
 live_of l = record { circuit = l.circuit; native = native_of l.native; rights = l.rights }

@@ -1,13 +1,12 @@
 -- Working: what a moment does to a client's circuits, each kind of it after the other. No clause of a caller needs it.
-use Rattle.std.specs.Prelude.{ℕ, ◌≢◌, ◌⊎◌, ◌≡◌, ◌≤◌, ◌&&◌, ◌++◌, Bool, true, false, not, List, [], ◌∷◌, Option, Some, None, filter, flat_map, fold, if◌then◌else◌, length, map, option_map, unwrap_or}
+use Rattle.std.specs.Prelude.{ℕ, ◌≢◌, ◌≡◌, ◌&&◌, Bool, true, false, not, List, [], Option, filter, fold, if◌then◌else◌}
 use Rattle.ca_arena.specs.declared.handle.Handle.{Handle}
 use Rattle.ca_link.specs.declared.keep.Keep.{Keep}
-use Rattle.ca_link.specs.declared.keep.Keep.TheVariants.{Close, Echo, Idle}
-use Rattle.ca_link.specs.Link.{kept}
+use Rattle.ca_link.specs.declared.keep.Keep.TheVariants.{Close, Echo}
 use Rattle.ca_search.specs.Searches.{Wanted}
-use Rattle.ca_model.specs.Answers.{Datagram, Left, Notice}
 use Rattle.ca_model.specs.Client.{Client, Connection, connection_at}
-use Rattle.ca_model.specs.ClientEnds.{Ticking, all_searched_on, due, echoes, falls_silent, is_name_connected, packed, to_server}
+use Rattle.ca_model.specs.ClientEnds.{Ticking, all_searched_on, echoes, falls_silent, is_name_connected}
+use Rattle.ca_client_tables.specs.Silences.{asked_in}
 
 -- an ECHO is asked for
 abbrev pub is_echo : Keep → Bool
@@ -18,10 +17,6 @@ is_echo k = false
 abbrev pub is_close : Keep → Bool
 is_close Close = true
 is_close k = false
-
--- what a moment asks of an end that may be there
-abbrev pub asked_in : ℕ → Option Connection → Keep
-asked_in moment o = unwrap_or (option_map (λ (e : Connection). kept moment e.link) o) Idle
 
 -- what the client's moment asks of a circuit
 abbrev pub asked_at : Client → Handle → Keep

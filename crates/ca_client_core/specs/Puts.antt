@@ -1,11 +1,10 @@
 -- Working: the message of a write, and why it is refused. No clause of a caller needs it.
-use Rattle.std.specs.Prelude.{ℕ, ◌≡◌, ◌<◌, ◌≤◌, ◌^◌, ◌∷◌, Bool, false, [], length, not, Option, None, Some, Result, Ok, Err}
-use Rattle.ca_text.specs.Limits.{payload_limit}
+use Rattle.std.specs.Prelude.{ℕ, ◌≡◌, ◌∷◌, Bool, false, [], not, Option, None, Some, Result, Ok, Err}
 use Rattle.ca_text.specs.declared.command.Command.{Command}
 use Rattle.ca_text.specs.declared.refusal.Refusal.{Refusal}
 use Rattle.ca_text.specs.declared.refusal.Refusal.TheVariants as refusal
 use Rattle.ca_arena.specs.declared.handle.Handle.{Handle}
-use Rattle.ca_dbr.specs.Elements.{Elements, bytes_of, count_of}
+use Rattle.ca_dbr.specs.Elements.{Elements, bytes_of}
 use Rattle.ca_records.specs.Rules.{may_write}
 use Rattle.ca_wire.specs.Fields.{Fields}
 use Rattle.ca_wire.specs.Messages.{put_request}
@@ -13,6 +12,7 @@ use Rattle.ca_model.specs.Client.{Client, Native}
 use Rattle.ca_model.specs.ClientCalls.{IsLive, LiveChannel, first_refusal, is_misfit, is_over, put_fault, wanted_by_put}
 use Rattle.ca_client_core.specs.declared.live.Live.{Live}
 use Rattle.ca_client_core.specs.Lives.{live_of}
+use Rattle.ca_client_tables.specs.Puts.{IsSmall}
 
 -- why a write to a live channel is refused
 abbrev pub live_put_fault : Client → (full : Bool) → Handle → Native → (rights : ℕ) → Elements → Option Refusal
@@ -22,10 +22,6 @@ live_put_fault x full c n rights e =
     ∷ (is_over x c, refusal.OutputFull)
     ∷ (full, refusal.ArenaFull)
     ∷ [])
-
--- the elements can be counted in a message, and are no more bytes than it takes
-abbrev pub IsSmall : Elements → Type 0
-IsSmall e = (count_of e < 2 ^ 32) × (length (bytes_of e) ≤ payload_limit)
 
 -- A write to this live channel may go out while an id is free; or it is refused so.
 abbrev pub MayPut : Client → Handle → Elements → Result Live Refusal → Type 0

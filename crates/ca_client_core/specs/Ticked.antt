@@ -1,5 +1,5 @@
 -- Vocabulary: what a moment did, as the vocabulary has it; and, working, the two halves of a tick.
-use Rattle.std.specs.Prelude.{ℕ, ◌≡◌, ◌≢◌, ◌≤◌, ◌+◌, ◌⊎◌, List, [], flat_map, fold, length, map, vec_capacity, vec_len}
+use Rattle.std.specs.Prelude.{◌≡◌, ◌≢◌, ◌≤◌, ◌+◌, ◌⊎◌, List, [], flat_map, fold, length, map, vec_capacity, vec_len}
 use Rattle.ca_search.specs.Searcher.{with_all}
 use Rattle.ca_search.specs.Searches.{passed}
 use Rattle.ca_model.specs.Answers as answer

@@ -1,11 +1,12 @@
 ghost use Rattle.std.specs.Prelude.{◌≡◌};
-ghost use Rattle.ca_client_core.specs.Forms.{standing_of, stated};
+ghost use Rattle.ca_client_tables.specs.Forms.{standing_of};
+ghost use Rattle.ca_client_core.specs.Forms.{stated};
 ghost use Rattle.ca_model.specs.ChannelState.{channel_state, state_in};
 ghost use Rattle.ca_model.specs.Client.{standing_unless_cleared};
 
-use crate::channel::{Phase, Standing};
 use crate::client::ClientCore;
 use ca_arena::Handle;
+use ca_client_tables::{Phase, Standing};
 use ca_text::Refusal;
 
 /// How far a channel is.

@@ -1,24 +1,18 @@
-ghost use Rattle.std.specs.Prelude.{◌≡◌, ◌<◌, [], List, Some, false, is_none, length, nat_eq, not, true};
-ghost use Rattle.ca_arena.specs.Arena.{place_at};
-ghost use Rattle.ca_arena.specs.declared.handle.Handle as handle;
-ghost use Rattle.ca_ids.specs.Table.{held_at};
+ghost use Rattle.std.specs.Prelude.{◌≡◌, ◌<◌, List, Some, is_none, true};
 ghost use Rattle.ca_requests.specs.Requests.{asks_on};
 ghost use Rattle.ca_model.specs.Answers.{Sending};
 ghost use Rattle.ca_model.specs.Client as client;
-ghost use Rattle.ca_model.specs.Client.{On, connection_at, disconnections, is_on_in, with_standing, without_channel};
+ghost use Rattle.ca_model.specs.Client.{On, connection_at, disconnections, with_standing, without_channel};
 ghost use Rattle.ca_model.specs.ClientCalls.{ClientClears, all_over, unsubscribed_all, unwanted};
-ghost use Rattle.ca_client_core.specs.Clearing.{ClearsLive, is_any};
-ghost use Rattle.ca_client_core.specs.Ending.{named_at, named_in};
+ghost use Rattle.ca_client_core.specs.Clearing.{ClearsLive};
 ghost use Rattle.ca_client_core.specs.Turns.{MayTurn, WasLiveOn};
 ghost use Rattle.ca_model_client.specs.Placed.{IsBare};
 
-use crate::channel::{Channel, Phase, Standing, is_same};
 use crate::client::ClientCore;
-use crate::hearing::set_standing;
-use crate::letting_go::let_go;
 use crate::notices::Notices;
 use ca_arena::Handle;
-use ca_ids::{HeldTable, WireId};
+use ca_client_tables::{Phase, Standing, is_used, let_go, set_standing};
+use ca_ids::WireId;
 use ca_text::Refusal;
 use ca_wire::{Cid, Sid, clear_request};
 
@@ -133,43 +127,5 @@ impl ClientCore {
             circuit,
             is_name,
         );
-    }
-}
-
-// Whether a channel is on this circuit.
-fn is_used(channels: &HeldTable<Channel>, circuit: Handle) -> bool
-    ensures { nat_eq (length (named_in is_any circuit channels.now)) 0 ≡ not result }
-{
-    for index in 0..channels.places() {
-        if is_on_at(channels, circuit, index) {
-            return true;
-        }
-    }
-    false
-}
-
-// Whether the channel at this index is on this circuit.
-fn is_on_at(channels: &HeldTable<Channel>, circuit: Handle, index: usize) -> bool
-    requires { index < length channels.now }
-    ensures none { result ≡ false → named_at is_any circuit index channels.now ≡ [] }
-    ensures some { result ≡ true → (h : handle.Handle) × (v : client.Channel)
-        × (held_at index (place_at channels.now index) ≡ Some (h, v))
-        × (is_on_in is_any circuit v ≡ true) }
-{
-    let Some((_, channel)) = channels.at(index) else {
-        return false;
-    };
-    channel.is_on(circuit)
-}
-
-impl Channel {
-    // Whether it is on this circuit.
-    fn is_on(&self, circuit: Handle) -> bool
-        ensures { result ≡ is_on_in is_any circuit self.now }
-    {
-        match self.standing() {
-            Standing::Searching => false,
-            Standing::On(on, _) => is_same(on, circuit),
-        }
     }
 }

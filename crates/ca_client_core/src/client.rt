@@ -1,9 +1,6 @@
-use crate::channel::Channel;
-use crate::circuit::Circuit;
-use crate::ends::Address;
-use crate::live_channels::LiveChannels;
 use ca_arena::Handle;
 use ca_beacon::BeaconTable;
+use ca_client_tables::{Address, Channel, Circuit, LiveChannels};
 use ca_ids::HeldTable;
 use ca_monitor::Monitors;
 use ca_requests::Requests;
@@ -47,7 +44,7 @@ impl Model for ClientCore {
 
     ghost coded = { Prim.hlevel (codes, servers_code) };
 
-    ghost use Rattle.ca_client_core.specs.Sound.{IsSound};
+    ghost use Rattle.ca_client_tables.specs.Sound.{IsSound};
 
     ghost view = { λ c. record {
       peer = record { user = c.user.items; host = c.host.items };

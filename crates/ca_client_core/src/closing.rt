@@ -1,23 +1,7 @@
 use crate::notices::Notices;
+use ca_client_tables::Why;
 use ca_wire::Pipe;
 use std::marker::Model;
-
-/// Why a client's end of a circuit ended.
-#[derive(Clone, Copy, Debug, PartialEq, Eq)]
-pub enum Why {
-    /// There was no memory.
-    OutOfMemory,
-    /// A header whose payload size is no multiple of 8.
-    Misaligned,
-    /// A header whose payload size is over the limit.
-    TooLarge,
-    /// A silence that was too long.
-    Silence,
-    /// The caller closed it.
-    Asked,
-    /// It was cut.
-    Cut,
-}
 
 /// A client's end of a circuit has ended.
 #[derive(Debug, Drop)]
@@ -35,7 +19,7 @@ impl Model for Closing {
 
     ghost Value = { answer.Closing };
 
-    ghost use Rattle.ca_client_core.specs.Closings.{why_is};
+    ghost use Rattle.ca_client_tables.specs.Closings.{why_is};
 
     ghost view = { λ k. record { why = why_is k.why; notices = k.notices; left = k.left } };
 }

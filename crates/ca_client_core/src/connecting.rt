@@ -1,27 +1,13 @@
 //! A circuit that is wanted is connected.
-ghost use Rattle.std.specs.Prelude.{◌≡◌, ◌<◌, ◌≤◌, ◌∷◌, [], OnErr, OnOk, Some, length, option_copied, option_map};
+ghost use Rattle.std.specs.Prelude.{◌≡◌, ◌<◌, ◌≤◌, Some, option_copied, option_map};
 ghost use Rattle.ca_text.specs.Limits.{priority_limit};
-ghost use Rattle.ca_arena.specs.Arena.{place_at};
-ghost use Rattle.ca_ids.specs.Table.{held_at, with_all, with_changed};
-ghost use Rattle.ca_ids.specs.Walks.{with_place};
-ghost use Rattle.ca_link.specs.Calls.{IsOpen};
-ghost use Rattle.ca_link.specs.Link.{with_sent};
-ghost use Rattle.ca_model.specs.Client as client;
-ghost use Rattle.ca_model.specs.ClientEnds.{creating, is_connecting, unconnected};
-ghost use Rattle.ca_client_core.specs.Forms.{phase_of};
-ghost use Rattle.ca_client_core.specs.Connecting.{BeginsOn, creating_at, creations_at, creations_in, greeting};
+ghost use Rattle.ca_model.specs.ClientEnds.{unconnected};
+ghost use Rattle.ca_client_core.specs.Connecting.{BeginsOn};
 
-use crate::channel::{Channel, Phase, Standing, is_same};
-use crate::circuit::{Circuit, Connection};
 use crate::client::ClientCore;
-use crate::hearing::set_standing;
 use ca_arena::Handle;
-use ca_ids::HeldTable;
-use ca_link::Link;
-use ca_monitor::ReadRun;
-use ca_text::{Command, PAYLOAD_LIMIT};
-use ca_wire::{Message, Priority, name_request, version_request};
-use std::alloc::{AllocError, Global};
+use ca_client_tables::{Circuit, begin_all, connect, new_connection};
+use std::alloc::AllocError;
 
 impl ClientCore {
     // The circuit of this handle, if it is wanted and not connected.
@@ -42,161 +28,17 @@ impl ClientCore {
         requires within { priority ≤ priority_limit }
         ensures { BeginsOn self.old circuit (unconnected self.old circuit) result self.new }
     {
-        let mut link = Link::new(self.alloc, self.moment);
-        set_up(self.alloc, &mut link, priority, &self.user, &self.host)?;
-        create_all(self.alloc, &mut link, &self.channels, circuit)?;
-        let connection = Connection {
-            link,
-            run: ReadRun::new(),
-        };
+        let connection = new_connection(
+            self.alloc,
+            self.moment,
+            priority,
+            &self.user,
+            &self.host,
+            &self.channels,
+            circuit,
+        )?;
         connect(&mut self.circuits, circuit, connection);
         begin_all(&mut self.channels, circuit);
         Ok(())
-    }
-}
-
-// Puts a message after what waits on an open link.
-fn send(link: &mut Link, message: &Message) -> Result<(), AllocError>
-    requires { IsOpen link.old }
-    ensures { OnOk result (link.new ≡ with_sent (message.now ∷ []) link.old) }
-{
-    match link.queue_own(message) {
-        Ok(()) => Ok(()),
-        Err(_) => Err(AllocError),
-    }
-}
-
-// VERSION, CLIENT_NAME and HOST_NAME wait on a link. A name that has no room in a message counts as out of memory.
-fn set_up(
-    alloc: Global,
-    link: &mut Link,
-    priority: u16,
-    user: &[u8],
-    host: &[u8],
-) -> Result<(), AllocError>
-    requires open { IsOpen link.old }
-    requires within { priority ≤ priority_limit }
-    ensures { OnOk result (link.new
-        ≡ with_sent (greeting priority user.now host.now) link.old) }
-{
-    if user.len() >= PAYLOAD_LIMIT || host.len() >= PAYLOAD_LIMIT {
-        return Err(AllocError);
-    }
-    let priority = match Priority::read(u64::from(priority)) {
-        Ok(priority) => priority,
-        Err(_) => unreachable!(),
-    };
-    send(link, &version_request(alloc, priority))?;
-    send(link, &name_request(alloc, Command::ClientName, user)?)?;
-    send(link, &name_request(alloc, Command::HostName, host)?)?;
-    Ok(())
-}
-
-// The CREATE_CHAN of each channel that waits for this circuit waits on a link, in order of index.
-fn create_all(
-    alloc: Global,
-    link: &mut Link,
-    channels: &HeldTable<Channel>,
-    circuit: Handle,
-) -> Result<(), AllocError>
-    requires { IsOpen link.old }
-    ensures { OnOk result (link.new ≡ with_sent (creations_in circuit channels.now) link.old) }
-{
-    for index in 0..channels.places() {
-        create_at(alloc, link, channels, circuit, index)?;
-    }
-    Ok(())
-}
-
-// That of the channel at this index, if it waits for this circuit.
-fn create_at(
-    alloc: Global,
-    link: &mut Link,
-    channels: &HeldTable<Channel>,
-    circuit: Handle,
-    index: usize,
-) -> Result<(), AllocError>
-    requires open { IsOpen link.old }
-    requires within { index < length channels.now }
-    ensures { OnOk result (link.new
-        ≡ with_sent
-        (creations_at circuit (held_at index (place_at channels.now index)))
-        link.old) }
-{
-    let Some((handle, channel)) = channels.at(index) else {
-        return Ok(());
-    };
-    if !channel.is_connecting_on(circuit) {
-        return Ok(());
-    }
-    let message = channel.create_message(alloc, handle)?;
-    send(link, &message)?;
-    Ok(())
-}
-
-// A circuit has this end.
-fn connect(circuits: &mut HeldTable<Circuit>, circuit: Handle, connection: Connection)
-    ensures { circuits.new
-        ≡ with_changed
-        (λ d. record d { connection = Some connection })
-        circuit
-        circuits.old }
-{
-    if let Some(found) = circuits.by_handle_mut(circuit) {
-        found.connect(connection);
-    }
-}
-
-impl Circuit {
-    // It has this end.
-    fn connect(&mut self, connection: Connection)
-        ensures { self.new ≡ record self.old { connection = Some connection } }
-    {
-        self.connection = Some(connection);
-    }
-}
-
-// The channels that waited for this circuit are being created.
-fn begin_all(channels: &mut HeldTable<Channel>, circuit: Handle)
-    ensures { channels.new ≡ with_all (creating circuit) channels.old }
-{
-    let places = channels.places();
-    for index in 0..places {
-        begin_at(channels, circuit, index);
-    }
-}
-
-// The channel at this index is, if it waited for this circuit.
-fn begin_at(channels: &mut HeldTable<Channel>, circuit: Handle, index: usize)
-    requires { index < length channels.old }
-    ensures { channels.new ≡ with_place index (creating_at circuit) channels.old }
-{
-    let Some((handle, channel)) = channels.at(index) else {
-        return;
-    };
-    if !channel.is_connecting_on(circuit) {
-        return;
-    }
-    set_standing(channels, handle, Standing::On(circuit, Phase::Creating(0)));
-}
-
-impl Channel {
-    // Whether it waits for this circuit to be connected.
-    fn is_connecting_on(&self, circuit: Handle) -> bool
-        ensures { result ≡ client.is_on_in is_connecting circuit self.now }
-    {
-        match self.standing() {
-            Standing::Searching => false,
-            Standing::On(on, phase) => is_same(on, circuit) && phase.is_connecting(),
-        }
-    }
-}
-
-impl Phase {
-    // Whether the channel waits for its circuit to be connected.
-    fn is_connecting(self) -> bool
-        ensures { result ≡ is_connecting (phase_of self) }
-    {
-        matches!(self, Phase::Connecting)
     }
 }

@@ -3,8 +3,9 @@ ghost use Rattle.ca_model.specs.Answers.{Sending};
 ghost use Rattle.ca_model.specs.ClientEnds.{ClientCloses, ClientCuts};
 
 use crate::client::ClientCore;
-use crate::closing::{Closing, Why};
+use crate::closing::Closing;
 use ca_arena::Handle;
+use ca_client_tables::Why;
 
 impl ClientCore {
     /// A circuit was cut: the client's end of it has ended. It does not allocate.

@@ -13,6 +13,7 @@ use crate::client::ClientCore;
 use crate::notice::Notice;
 use crate::notices::Notices;
 use ca_arena::Handle;
+use ca_client_tables::know_bytes;
 use ca_dbr::Outcome;
 use ca_text::Command;
 use ca_wire::Message;
@@ -145,8 +146,3 @@ fn know_message(message: &Message)
     know_bytes(message.payload());
     let _count = message.count();
 }
-
-// Each element of a slice of bytes is a byte.
-pub(crate) fn know_bytes(bytes: &[u8])
-    ensures { AreBytes bytes.now }
-{}

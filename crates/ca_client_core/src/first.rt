@@ -1,33 +1,9 @@
 //! The first message of a circuit is taken.
-ghost use Rattle.std.specs.Prelude.{◌≡◌};
-ghost use Rattle.ca_client_core.specs.First.{FirstAt, FirstIn, FirstOn, MayWant};
-ghost use Rattle.ca_client_core.specs.Closings.{why_is};
-ghost use Rattle.ca_model.specs.Ends.{why_of};
+ghost use Rattle.ca_client_core.specs.First.{FirstOn, MayWant};
 
-use crate::circuit::{Circuit, Connection};
 use crate::client::ClientCore;
-use crate::closing::Why;
-use crate::dispatching::know_bytes;
 use ca_arena::Handle;
-use ca_link::Link;
-use ca_text::Refusal;
-use ca_wire::{Message, Pipe};
-use std::alloc::Global;
-
-/// What comes first on a circuit.
-#[derive(Debug, Drop)]
-pub(crate) enum First {
-    /// It is not there, or not connected.
-    Gone,
-    /// No complete message.
-    NeedBytes,
-    /// This message.
-    Message(Message),
-    /// A message with a payload, for which there is no memory.
-    OutOfMemory,
-    /// A header that is refused; these bytes waited to be sent.
-    Bad(Why, Pipe),
-}
+use ca_client_tables::First;
 
 impl ClientCore {
     // Takes the first message of a circuit.
@@ -45,45 +21,5 @@ impl ClientCore {
         ensures { MayWant self.now }
     {
         let _vacant = self.circuits.vacant();
-    }
-}
-
-impl Circuit {
-    // Takes the first message, if it is connected.
-    fn take_first(&mut self, alloc: Global) -> First
-        ensures { FirstAt self.old result self.new }
-    {
-        let Some(connection) = &mut self.connection else {
-            return First::Gone;
-        };
-        connection.take_first(alloc)
-    }
-}
-
-impl Connection {
-    // Takes the first message. After a header that is refused nothing is left on the link.
-    fn take_first(&mut self, alloc: Global) -> First
-        ensures { FirstIn self.old result self.new }
-    {
-        know_bytes(self.link.in_bytes());
-        match self.link.next_message() {
-            Ok(Some(message)) => First::Message(message),
-            Ok(None) => First::NeedBytes,
-            Err(Refusal::OutOfMemory) => First::OutOfMemory,
-            Err(refusal) => {
-                let met = std::mem::replace(&mut self.link, Link::new(alloc, 0));
-                First::Bad(bad_header(refusal), met.into_left())
-            }
-        }
-    }
-}
-
-// The end of a circuit on which a header is refused so.
-fn bad_header(refusal: Refusal) -> Why
-    ensures { why_is result ≡ why_of refusal }
-{
-    match refusal {
-        Refusal::Misaligned => Why::Misaligned,
-        _ => Why::TooLarge,
     }
 }

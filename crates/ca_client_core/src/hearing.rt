@@ -1,23 +1,20 @@
 //! What a client makes of the messages that it reads, each by its command.
 ghost use Rattle.std.specs.Prelude.{◌≡◌, OnErr, OnOk, option_map, true};
-ghost use Rattle.ca_ids.specs.Table.{with_changed};
 ghost use Rattle.ca_monitor.specs.Subscriptions.{confirmed_by};
 ghost use Rattle.ca_model.specs.Client as client;
 ghost use Rattle.ca_model.specs.Client.{On, channel_on, searched_again, with_standing, without_channel};
 ghost use Rattle.ca_model.specs.Hears.{becomes, clear_answered, confirmed, failed, rights_told, without_drained};
-ghost use Rattle.ca_client_core.specs.Forms.{native_of, phase_of, standing_of};
+ghost use Rattle.ca_client_tables.specs.Forms.{native_of, phase_of};
 ghost use Rattle.ca_client_core.specs.Hearing.{HearsReply, found_as};
-ghost use Rattle.ca_client_core.specs.Listed.{is_live_in};
+ghost use Rattle.ca_client_tables.specs.Listed.{is_live_in};
 ghost use Rattle.ca_client_core.specs.Turns.{MayTurn};
 ghost use Rattle.ca_model_client.specs.Placed.{IsBare};
 
-use crate::channel::{Channel, Native, Phase, Standing, is_same};
 use crate::client::ClientCore;
-use crate::ending::{bring_back, resume};
-use crate::live_channels::note_live;
 use ca_arena::Handle;
+use ca_client_tables::{Native, Phase, Standing, bring_back, note_live, resume, set_standing};
 use ca_dbr::Outcome;
-use ca_ids::{HeldTable, WireId};
+use ca_ids::WireId;
 use ca_wire::Message;
 use std::alloc::AllocError;
 
@@ -193,36 +190,5 @@ impl ClientCore {
     {
         self.requests.free_channel(channel);
         self.monitors.drained(circuit, channel);
-    }
-}
-
-// The channel of this handle is there now.
-pub(crate) fn set_standing(channels: &mut HeldTable<Channel>, handle: Handle, standing: Standing)
-    ensures { channels.new
-        ≡ with_changed
-        (λ here. record here { standing = standing_of standing })
-        handle
-        channels.old }
-{
-    if let Some(channel) = channels.by_handle_mut(handle) {
-        channel.set_standing(standing);
-    }
-}
-
-impl Channel {
-    // How far it is on this circuit, if it is on it.
-    fn phase_on(&self, circuit: Handle) -> Option<Phase>
-        ensures { option_map phase_of result ≡ client.phase_on circuit self.now.standing }
-    {
-        match self.standing() {
-            Standing::Searching => None,
-            Standing::On(on, phase) => {
-                if is_same(on, circuit) {
-                    Some(phase)
-                } else {
-                    None
-                }
-            }
-        }
     }
 }

@@ -1,10 +1,9 @@
-ghost use Rattle.std.specs.Prelude.{◌≡◌, take};
+ghost use Rattle.std.specs.Prelude.{◌≡◌};
 ghost use Rattle.ca_requests.specs.Forms.{asked_of};
-ghost use Rattle.ca_client_core.specs.Asks.{Asks, IssuesOr, cut_back, cut_end};
-ghost use Rattle.ca_client_core.specs.Ends.{cut_in};
+ghost use Rattle.ca_client_core.specs.Asks.{Asks, IssuesOr};
+ghost use Rattle.ca_client_tables.specs.Ends.{cut_back};
 ghost use Rattle.ca_model_client.specs.Placed.{WasLive};
 
-use crate::circuit::{Circuit, Connection};
 use crate::client::ClientCore;
 use ca_arena::Handle;
 use ca_requests::Asked;
@@ -73,24 +72,5 @@ impl ClientCore {
         if let Some(found) = self.circuits.by_handle_mut(circuit) {
             found.cut_back(n);
         }
-    }
-}
-
-impl Circuit {
-    // Only the first n of the bytes still wait.
-    pub(crate) fn cut_back(&mut self, n: usize)
-        ensures { self.new ≡ cut_in n self.old }
-    {
-        if let Some(connection) = &mut self.connection {
-            connection.cut_back(n);
-        }
-    }
-}
-
-impl Connection {
-    fn cut_back(&mut self, n: usize)
-        ensures { self.new ≡ cut_end n self.old }
-    {
-        self.link.truncate(n);
     }
 }

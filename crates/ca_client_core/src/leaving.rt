@@ -6,11 +6,11 @@ ghost use Rattle.ca_client_core.specs.Hearing.{HasEffect};
 ghost use Rattle.ca_client_core.specs.Again.{leaving};
 ghost use Rattle.ca_client_core.specs.Turns.{MayTurn};
 
-use crate::channel::Phase;
 use crate::client::ClientCore;
 use crate::notice::Notice;
 use crate::notices::Notices;
 use ca_arena::Handle;
+use ca_client_tables::Phase;
 use ca_ids::WireId;
 use ca_wire::{Cid, Message, Sid, clear_request};
 use std::alloc::AllocError;

@@ -1,21 +1,14 @@
 //! The end of a circuit has ended, and what is left of it.
-ghost use Rattle.std.specs.Prelude.{◌≡◌, [], None, filter, if◌then◌else◌, not, option_map, unwrap_or};
-ghost use Rattle.ca_ids.specs.Table.{same_handle, with_changed, with_freed};
+ghost use Rattle.std.specs.Prelude.{◌≡◌, None};
 ghost use Rattle.ca_model.specs.Client.{closing, ended};
-ghost use Rattle.ca_client_core.specs.Closings.{why_is};
-ghost use Rattle.ca_client_core.specs.Ends.{left_at, waiting_in};
+ghost use Rattle.ca_client_tables.specs.Closings.{why_is};
 
-use crate::channel::is_same;
-use crate::circuit::{Circuit, Connection};
 use crate::client::ClientCore;
-use crate::closing::{Closing, Why};
-use crate::ending::end_channels;
-use crate::live_channels::{list_live, take_live};
+use crate::closing::Closing;
 use crate::notices::Notices;
 use ca_arena::Handle;
-use ca_ids::HeldTable;
+use ca_client_tables::{Why, end_channels, let_go, list_live, take_live};
 use ca_wire::Pipe;
-use std::alloc::Global;
 
 impl ClientCore {
     // The end of this circuit has ended for this cause: its notices, and the bytes that waited. It does not allocate.
@@ -48,89 +41,5 @@ impl ClientCore {
             notices: Notices::of(told, lost, None),
             left,
         }
-    }
-}
-
-// Of a circuit that has ended nothing is kept, but a name server's is wanted again.
-pub(crate) fn let_go(
-    alloc: Global,
-    circuits: &mut HeldTable<Circuit>,
-    order: &mut Vec<Handle>,
-    circuit: Handle,
-    is_name: bool,
-) -> Pipe
-    ensures left { result ≡ left_at circuits.old circuit }
-    ensures gone { circuits.new
-        ≡ (if is_name then
-        with_changed (λ d. record d { connection = None }) circuit circuits.old
-        else with_freed circuit circuits.old) }
-    ensures order { order.new.items
-        ≡ (if is_name then order.old.items
-        else filter (λ d. not (same_handle d circuit)) order.old.items) }
-{
-    if is_name {
-        return disconnect(alloc, circuits, circuit);
-    }
-    forget(order, circuit);
-    match circuits.free(circuit) {
-        Some(found) => found.into_left(alloc),
-        None => Pipe::new(alloc),
-    }
-}
-
-// It is not connected any more.
-fn disconnect(alloc: Global, circuits: &mut HeldTable<Circuit>, circuit: Handle) -> Pipe
-    ensures left { result ≡ left_at circuits.old circuit }
-    ensures gone { circuits.new
-        ≡ with_changed (λ d. record d { connection = None }) circuit circuits.old }
-{
-    match circuits.by_handle_mut(circuit) {
-        Some(found) => found.disconnect(alloc),
-        None => Pipe::new(alloc),
-    }
-}
-
-// Takes a circuit out of the order.
-fn forget(order: &mut Vec<Handle>, circuit: Handle)
-    ensures { order.new.items ≡ filter (λ d. not (same_handle d circuit)) order.old.items }
-{
-    order.retain(|other| !is_same(*other, circuit));
-}
-
-impl Circuit {
-    // It is not connected any more: the bytes that waited.
-    fn disconnect(&mut self, alloc: Global) -> Pipe
-        ensures left { result ≡ waiting_in self.old }
-        ensures gone { self.new ≡ record self.old { connection = None } }
-    {
-        left_of(alloc, self.connection.take())
-    }
-
-    // The bytes that waited on it.
-    fn into_left(self, alloc: Global) -> Pipe
-        ensures { result ≡ waiting_in self }
-    {
-        let Circuit { connection, .. } = self;
-        left_of(alloc, connection)
-    }
-}
-
-// The bytes that waited on an end, if there was one.
-fn left_of(alloc: Global, connection: Option<Connection>) -> Pipe
-    ensures { result ≡ unwrap_or (option_map (λ e. e.link.output) connection) [] }
-{
-    match connection {
-        Some(connection) => connection.into_left(),
-        None => Pipe::new(alloc),
-    }
-}
-
-impl Connection {
-    // The bytes that waited on it.
-    fn into_left(self) -> Pipe
-        ensures { result ≡ self.link.output }
-    {
-        let Connection { link, .. } = self;
-        link.into_left()
     }
 }

@@ -3,9 +3,9 @@ ghost use Rattle.ca_model.specs.Client.{standing_at};
 ghost use Rattle.ca_client_core.specs.Calls.{live_in};
 ghost use Rattle.ca_client_core.specs.Lives.{lives};
 
-use crate::channel::{Native, Phase, Standing};
 use crate::client::ClientCore;
 use ca_arena::Handle;
+use ca_client_tables::{Native, Phase, Standing};
 use ca_text::Refusal;
 
 /// A channel that is live: on which circuit, as what, and with which access rights.

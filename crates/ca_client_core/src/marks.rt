@@ -1,9 +1,7 @@
 //! What was sent on circuits is taken back.
 ghost use Rattle.std.specs.Prelude.{◌≡◌};
-ghost use Rattle.ca_link.specs.Link.{mark_of};
-ghost use Rattle.ca_client_core.specs.Marks.{circuit_restored, end_restored, in_restored, mark_at, mark_in, undone};
+ghost use Rattle.ca_client_core.specs.Marks.{circuit_restored, mark_at, undone};
 
-use crate::circuit::{Circuit, Connection};
 use crate::client::ClientCore;
 use ca_arena::Handle;
 use ca_link::Mark;
@@ -48,45 +46,5 @@ impl ClientCore {
         if let Some(found) = self.circuits.by_handle_mut(mark.circuit) {
             found.restore(mark.mark);
         }
-    }
-}
-
-impl Circuit {
-    // How its end is; without one there is nothing to take back.
-    fn mark(&self) -> Mark
-        ensures { result ≡ mark_in self.now }
-    {
-        match &self.connection {
-            Some(connection) => connection.mark(),
-            None => Mark {
-                waiting: 0,
-                echoed: false,
-            },
-        }
-    }
-
-    // Its end is as it was at this mark.
-    fn restore(&mut self, mark: Mark)
-        ensures { self.new ≡ in_restored mark self.old }
-    {
-        if let Some(connection) = &mut self.connection {
-            connection.restore(mark);
-        }
-    }
-}
-
-impl Connection {
-    // How it is.
-    fn mark(&self) -> Mark
-        ensures { result ≡ mark_of self.now.link }
-    {
-        self.link.mark()
-    }
-
-    // It is as it was at this mark.
-    fn restore(&mut self, mark: Mark)
-        ensures { self.new ≡ end_restored mark self.old }
-    {
-        self.link.restore(mark);
     }
 }

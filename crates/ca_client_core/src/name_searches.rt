@@ -3,12 +3,11 @@ ghost use Rattle.std.specs.Prelude.{◌≡◌, ◌≢◌, [], List, IfOk, OnErr,
 ghost use Rattle.ca_wire.specs.Fields.{Fields};
 ghost use Rattle.ca_wire.specs.Messages.{search_request};
 ghost use Rattle.ca_model.specs.ClientEnds.{Ticking, is_name_connected};
-ghost use Rattle.ca_client_core.specs.Again.{with_messages};
+ghost use Rattle.ca_client_tables.specs.Ends.{with_messages};
 ghost use Rattle.ca_client_core.specs.Marks.{undone};
 ghost use Rattle.ca_client_core.specs.Moments.{SearchesAll, is_searched_on, search_step};
-ghost use Rattle.ca_client_core.specs.NameSearches.{is_name_in, searched_all, searched_on};
+ghost use Rattle.ca_client_core.specs.NameSearches.{searched_all, searched_on};
 
-use crate::circuit::Circuit;
 use crate::client::ClientCore;
 use crate::marks::CircuitMark;
 use ca_arena::Handle;
@@ -96,15 +95,6 @@ impl ClientCore {
         let message = search_message(self.alloc, search)?;
         self.queue(circuit, &message)?;
         Ok(())
-    }
-}
-
-impl Circuit {
-    // Whether it is that of a name server, and connected.
-    fn is_name_connected(&self) -> bool
-        ensures { result ≡ is_name_in self.now }
-    {
-        self.is_name && self.connection.is_some()
     }
 }
 

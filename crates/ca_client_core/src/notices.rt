@@ -1,6 +1,5 @@
 ghost use Rattle.std.specs.Prelude.{◌≡◌, [], None, Some};
-ghost use Rattle.ca_client_core.specs.Notices.{TakesNotice, notice_of, told_by};
-ghost use Rattle.ca_client_core.specs.declared.notice.Notice.TheVariants as told;
+ghost use Rattle.ca_client_core.specs.Notices.{TakesNotice, told_by};
 ghost use Rattle.ca_model.specs.Answers as notice;
 
 use crate::notice::Notice;

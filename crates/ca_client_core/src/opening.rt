@@ -1,9 +1,9 @@
 ghost use Rattle.std.specs.Prelude.{[]};
 ghost use Rattle.ca_model.specs.ClientCalls.{ClientOpens};
 
-use crate::channel::Channel;
 use crate::client::ClientCore;
 use ca_arena::Handle;
+use ca_client_tables::Channel;
 use ca_ids::WireId;
 use ca_search::Place;
 use ca_text::{ChannelName, PRIORITY_LIMIT, Refusal};

@@ -1,17 +1,13 @@
-ghost use Rattle.std.specs.Prelude.{◌≡◌, ◌∷◌, [], OnErr, OnOk, length, option_map};
-ghost use Rattle.ca_ids.specs.Table.{with_changed};
+ghost use Rattle.std.specs.Prelude.{◌≡◌, ◌∷◌, [], OnErr, OnOk, option_map};
 ghost use Rattle.ca_link.specs.Link.{with_sent};
 ghost use Rattle.ca_model.specs.Client.{on_connection, standing_at};
 ghost use Rattle.ca_model.specs.ClientCalls.{is_over};
-ghost use Rattle.ca_client_core.specs.Ends.{left_at, queued};
 ghost use Rattle.ca_model_client.specs.Placed.{IsPlaced};
-ghost use Rattle.ca_client_core.specs.Forms.{standing_of};
+ghost use Rattle.ca_client_tables.specs.Forms.{standing_of};
 
-use crate::channel::Standing;
-use crate::circuit::{Circuit, Connection};
 use crate::client::ClientCore;
 use ca_arena::Handle;
-use ca_ids::HeldTable;
+use ca_client_tables::Standing;
 use ca_text::OUTPUT_LIMIT;
 use ca_wire::Message;
 use std::alloc::AllocError;
@@ -54,61 +50,6 @@ impl ClientCore {
             return Ok(());
         };
         found.queue(message)?;
-        Ok(())
-    }
-}
-
-// Puts a message after what waits on a circuit that is connected.
-pub(crate) fn queue_on(
-    circuits: &mut HeldTable<Circuit>,
-    circuit: Handle,
-    message: &Message,
-) -> Result<(), AllocError>
-    ensures ok { OnOk result (circuits.new
-        ≡ with_changed (queued message.now) circuit circuits.old) }
-    ensures err { OnErr result (circuits.new ≡ circuits.old) }
-{
-    let Some(found) = circuits.by_handle_mut(circuit) else {
-        return Ok(());
-    };
-    found.queue(message)?;
-    Ok(())
-}
-
-// How many bytes wait on a circuit; none if it is not connected.
-pub(crate) fn waiting_on(circuits: &HeldTable<Circuit>, circuit: Handle) -> usize
-    ensures { result ≡ length (left_at circuits.now circuit) }
-{
-    match circuits.by_handle(circuit) {
-        Some(found) => found.out_bytes().len(),
-        None => 0,
-    }
-}
-
-impl Circuit {
-    // Puts a message after what waits, if it is connected.
-    fn queue(&mut self, message: &Message) -> Result<(), AllocError>
-        ensures ok { OnOk result (self.new ≡ queued message.now self.old) }
-        ensures err { OnErr result (self.new ≡ self.old) }
-    {
-        let Some(connection) = &mut self.connection else {
-            return Ok(());
-        };
-        connection.queue(message)?;
-        Ok(())
-    }
-}
-
-impl Connection {
-    // Puts a message after what waits.
-    fn queue(&mut self, message: &Message) -> Result<(), AllocError>
-        ensures ok { OnOk result (self.new
-            ≡ record self.old { link = with_sent (message.now ∷ []) self.old.link }) }
-        ensures err { OnErr result (self.new ≡ self.old) }
-    {
-        if self.link.queue_own(message).is_err() {
-            return Err(AllocError);
-        }
         Ok(())
     }
 }

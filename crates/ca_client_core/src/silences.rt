@@ -3,17 +3,14 @@ ghost use Rattle.std.specs.Prelude.{◌≡◌, ◌≢◌, ◌<◌, [], true, IfO
 ghost use Rattle.ca_link.specs.Link.{kept};
 ghost use Rattle.ca_model.specs.ClientEnds.{Ticking};
 ghost use Rattle.ca_client_core.specs.Marks.{undone};
-ghost use Rattle.ca_client_core.specs.Moments.{EchoIsDue, EchoesAll, asked_at, asked_in, echo_step, is_close, is_echo, is_echo_due, is_silent, silent_of};
-ghost use Rattle.ca_client_core.specs.Silences.{echo_end, echo_in, echoed};
+ghost use Rattle.ca_client_core.specs.Moments.{EchoIsDue, EchoesAll, asked_at, echo_step, is_close, is_echo, is_echo_due, is_silent, silent_of};
+ghost use Rattle.ca_client_core.specs.Silences.{echoed};
 
-use crate::circuit::{Circuit, Connection};
 use crate::client::ClientCore;
 use crate::marks::CircuitMark;
 use ca_arena::Handle;
 use ca_link::Keep;
-use ca_text::Command;
-use ca_wire::bare;
-use std::alloc::{AllocError, Global};
+use std::alloc::AllocError;
 
 impl ClientCore {
     // How many circuits are wanted or connected.
@@ -130,50 +127,5 @@ fn is_close(keep: Keep) -> bool
         Keep::Idle => false,
         Keep::Echo => false,
         Keep::Close => true,
-    }
-}
-
-impl Circuit {
-    // What this moment asks of its end; nothing, if it is not connected.
-    fn asked(&self, moment: u64) -> Keep
-        ensures { result ≡ asked_in moment self.now.connection }
-    {
-        match &self.connection {
-            Some(connection) => connection.asked(moment),
-            None => Keep::Idle,
-        }
-    }
-
-    // An ECHO waits, if it is connected.
-    fn echo(&mut self, alloc: Global, moment: u64) -> Result<(), AllocError>
-        ensures ok { OnOk result (self.new ≡ echo_in moment self.old) }
-        ensures err { OnErr result (self.new ≡ self.old) }
-    {
-        let Some(connection) = &mut self.connection else {
-            return Ok(());
-        };
-        connection.echo(alloc, moment)?;
-        Ok(())
-    }
-}
-
-impl Connection {
-    // What this moment asks of it.
-    fn asked(&self, moment: u64) -> Keep
-        ensures { result ≡ kept moment self.now.link }
-    {
-        self.link.asked(moment)
-    }
-
-    // An ECHO waits.
-    fn echo(&mut self, alloc: Global, moment: u64) -> Result<(), AllocError>
-        ensures ok { OnOk result (self.new ≡ echo_end moment self.old) }
-        ensures err { OnErr result (self.new ≡ self.old) }
-    {
-        if self.link.queue_own(&bare(alloc, Command::Echo)).is_err() {
-            return Err(AllocError);
-        }
-        let _asked = self.link.tick(moment);
-        Ok(())
     }
 }

@@ -4,10 +4,10 @@ ghost use Rattle.ca_model.specs.ClientEnds.{ClientConnects, ClientSteps, gone};
 ghost use Rattle.ca_client_core.specs.Stepping.{stepped_as};
 
 use crate::client::ClientCore;
-use crate::closing::{Closing, Why};
-use crate::first::First;
+use crate::closing::Closing;
 use crate::notices::Notices;
 use ca_arena::Handle;
+use ca_client_tables::{First, Why};
 use ca_wire::Pipe;
 use std::alloc::Global;
 

@@ -7,13 +7,12 @@ ghost use Rattle.ca_client_core.specs.Marks.{undone};
 ghost use Rattle.ca_client_core.specs.Moments.{all_ended, end_step};
 ghost use Rattle.ca_client_core.specs.Ticked.{CarriesOut, LacksMemory, Plans, Reports};
 
-use crate::addressing::{Datagram, to_servers};
 use crate::client::ClientCore;
-use crate::closing::{Closing, Why};
+use crate::closing::Closing;
 use crate::marks::CircuitMark;
 use crate::notices::Notices;
-use crate::packing::packed;
 use ca_arena::Handle;
+use ca_client_tables::{Datagram, Why, packed, to_servers};
 use ca_search::pass;
 use ca_text::Refusal;
 use ca_wire::Pipe;

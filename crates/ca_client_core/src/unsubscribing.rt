@@ -6,9 +6,9 @@ ghost use Rattle.ca_model_client.specs.Placed.{WasLive};
 ghost use Rattle.ca_model.specs.Answers.{Sending};
 ghost use Rattle.ca_model.specs.ClientCalls.{ClientUnsubscribes};
 
-use crate::channel::{Phase, Standing};
 use crate::client::ClientCore;
 use ca_arena::Handle;
+use ca_client_tables::{Phase, Standing};
 use ca_ids::WireId;
 use ca_monitor::Subscription;
 use ca_text::Refusal;

@@ -8,9 +8,9 @@ ghost use Rattle.ca_model.specs.Client.{channel_on};
 ghost use Rattle.ca_model.specs.Hears.{Updates, any_failed, doing, heard_by, is_live_on, subscription_failed, write_failed};
 ghost use Rattle.ca_client_core.specs.Hearing.{request_over, subscription_over, updated, write_refused};
 
-use crate::channel::Phase;
 use crate::client::ClientCore;
 use ca_arena::Handle;
+use ca_client_tables::Phase;
 use ca_dbr::Outcome;
 use ca_requests::image_outcome;
 use ca_wire::Message;

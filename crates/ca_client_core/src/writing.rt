@@ -1,26 +1,60 @@
-ghost use Rattle.std.specs.Prelude.{◌≡◌, ◌<◌, ◌^◌, None, false, List, length};
+ghost use Rattle.std.specs.Prelude.{◌≡◌, OnErr, OnOk, ◌<◌, None, false, List};
+ghost use Rattle.ca_dbr.specs.Elements.{elements};
+ghost use Rattle.ca_client_tables.specs.Ends.{with_message};
+ghost use Rattle.ca_client_core.specs.Lives.{live_of};
+ghost use Rattle.ca_client_tables.specs.Puts.{IsSmall};
+ghost use Rattle.ca_client_core.specs.Puts.{put_message, MayPut, live_put_fault};
 ghost use Rattle.ca_text.specs.declared.command.Command.TheVariants.{WriteNotify};
-ghost use Rattle.ca_dbr.specs.Elements.{bytes_of, count_of, elements};
 ghost use Rattle.ca_ids.specs.Wire.{wire_of};
 ghost use Rattle.ca_requests.specs.Requests.{Put};
 ghost use Rattle.ca_model.specs.Answers.{Sending};
 ghost use Rattle.ca_model.specs.ClientCalls.{ClientPuts, ClientWrites, is_misfit};
 ghost use Rattle.ca_client_core.specs.Asks.{Asks};
 ghost use Rattle.ca_model_client.specs.Placed.{WasLive};
-ghost use Rattle.ca_client_core.specs.Forms.{native_of};
-ghost use Rattle.ca_client_core.specs.Lives.{live_of};
-ghost use Rattle.ca_client_core.specs.Puts.{IsSmall, MayPut, live_put_fault, put_message};
+ghost use Rattle.ca_client_tables.specs.Forms.{native_of};
 
-use crate::channel::Native;
 use crate::client::ClientCore;
 use crate::live::Live;
 use ca_arena::Handle;
+use ca_client_tables::{Native, size_of};
 use ca_dbr::Value;
 use ca_ids::WireId;
 use ca_requests::Asked;
 use ca_text::{Command, PAYLOAD_LIMIT, Refusal};
-use ca_wire::Ioid;
+use ca_wire::{Ioid, Sid, Wanted, put_head};
 use std::alloc::AllocError;
+
+impl ClientCore {
+    // Queues a write of this value, which is made in its place. Without memory nothing changes.
+    pub(crate) fn queue_value(
+        &mut self,
+        live: Live,
+        command: Command,
+        id: Ioid,
+        value: &Value,
+    ) -> Result<(), AllocError>
+        requires { IsSmall (elements value.now) }
+        ensures ok { OnOk result (self.new
+            ≡ with_message
+            live.circuit
+            (put_message command (live_of live) (elements value.now) id)
+            self.old) }
+        ensures err { OnErr result (self.new ≡ self.old) }
+    {
+        let wanted = Wanted {
+            sid: Sid::new(live.native.sid),
+            id,
+            data_type: value.base_type().number(),
+            count: value.count() as u32,
+        };
+        let head = put_head(self.alloc, command, wanted);
+        let Some(found) = self.circuits.by_handle_mut(live.circuit) else {
+            return Ok(());
+        };
+        found.queue_value(&head, value)?;
+        Ok(())
+    }
+}
 
 impl ClientCore {
     /// Writes a value to a channel, with no answer if that is done.
@@ -134,13 +168,4 @@ fn is_misfit(native: Native, value: &Value) -> bool
         return true;
     }
     size_of(value) > PAYLOAD_LIMIT
-}
-
-// How many bytes the elements of a value are.
-pub(crate) fn size_of(value: &Value) -> usize
-    requires { count_of (elements value.now) < 2 ^ 32 }
-    ensures { result ≡ length (bytes_of (elements value.now)) }
-{
-    value.know();
-    value.count() * value.base_type().element_size()
 }

@@ -1,6 +1,6 @@
-mod Tells
-mod Created
-mod Under
-mod Standing
-mod Over
-mod Grows
+pub mod Tells
+pub mod Created
+pub mod Under
+pub mod Standing
+pub mod Over
+pub mod Grows

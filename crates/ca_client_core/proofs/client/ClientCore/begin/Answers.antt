@@ -1,11 +1,12 @@
 use Rattle.ca_ids.specs.Table.{under}
 use Rattle.std.specs.Prelude.{is_none, option_and_then}
 use Rattle.std.proofs.Common.{None, if◌then◌else◌, ◌≡◌, ◌∙◌, List, Ok, Some, ap, option_map, refl, subst}
-use Rattle.ca_link.specs.Link.{LinkState, new_link, with_sent}
-use Rattle.ca_monitor.specs.ReadRun.{ReadRun, no_reads}
+use Rattle.ca_link.specs.Link.{new_link, with_sent}
+use Rattle.ca_monitor.specs.ReadRun.{no_reads}
 use Rattle.ca_model.specs.Client.{Channel, Client, ClientCircuit, Connection}
 use Rattle.ca_model.specs.ClientEnds.{creating, unconnected}
-use Rattle.ca_client_core.specs.Connecting.{BeginsOn, creations_in, greeting}
+use Rattle.ca_client_core.specs.Connecting.{BeginsOn}
+use Rattle.ca_client_tables.specs.Connecting.{creations_in, greeting}
 use Rattle.ca_client_core.proofs.Connected.{begins-on, client-all}
 use Rattle.ca_client_core.proofs.Joining.{listed-begun, placed-begun}
 use Rattle.ca_client_core.proofs.client.ClientCore.begin.Goals as goal
@@ -40,20 +41,14 @@ returns c =
       searches = i.searches.entries;
       beacons = i.beacons;
     } in
-    let greets : c.set_up.new.link ≡ with_sent (greeting c.args.priority i.user.items i.host.items) (new_link i.moment) =
-    c.in_ok-set_up.ensures
-    ∙ ap (λ (user : List _). with_sent (greeting c.args.priority user c.deref-2.result.now) c.new-link.result) c.deref.ensures.value
-    ∙ ap (λ (host : List _). with_sent (greeting c.args.priority i.user.items host) c.new-link.result) c.deref-2.ensures.value
-    ∙ ap (with_sent (greeting c.args.priority i.user.items i.host.items)) c.new-link.ensures in
-    let link : c.create_all.new.link ≡ with_sent (creations_in h i.channels) (with_sent (greeting c.args.priority i.user.items i.host.items) (new_link i.moment)) =
-    c.in_ok-create_all.ensures ∙ ap (with_sent (creations_in h i.channels)) greets in
-    let connection : Connection = record { link = c.create_all.new.link; run = c.new.result } in
-    let has : connection ≡ record { link = with_sent (creations_in h i.channels) (with_sent (greeting c.args.priority i.user.items i.host.items) (new_link i.moment)); run = no_reads } =
-    ap (λ (l : LinkState). let e : Connection = record { link = l; run = c.new.result } in e) link
-    ∙ ap (λ (r : ReadRun). let e : Connection = record { link = with_sent (creations_in h i.channels) (with_sent (greeting c.args.priority i.user.items i.host.items) (new_link i.moment)); run = r } in e) c.new.ensures in
+    let made : Connection = record { link = with_sent (creations_in h i.channels) (with_sent (greeting c.args.priority i.user.items i.host.items) (new_link i.moment)); run = no_reads } in
+    let has : c.in_ok-connection.connection ≡ made =
+    c.in_ok-connection.ensures
+    ∙ ap (λ (user : List _). let e : Connection = record { link = with_sent (creations_in h i.channels) (with_sent (greeting c.args.priority user c.deref-2.result.now) (new_link i.moment)); run = no_reads } in e) c.deref.ensures.value
+    ∙ ap (λ (host : List _). let e : Connection = record { link = with_sent (creations_in h i.channels) (with_sent (greeting c.args.priority i.user.items host) (new_link i.moment)); run = no_reads } in e) c.deref-2.ensures.value in
     let left : Client = record x { channels = c.begin_all.new.channels; circuits = c.connect.new.circuits } in
     let of : option_map (λ (d : ClientCircuit). d.priority) (unconnected x h) ≡ Some c.args.priority =
     ap (λ (y : Client). option_map (λ (d : ClientCircuit). d.priority) (unconnected y h)) c.self.view_is ∙ c.requires.wanted in
     let did : BeginsOn x h (unconnected x h) (Ok tt) left =
-    begins-on x h (unconnected x h) c.args.priority connection c.begin_all.new.channels c.connect.new.circuits refl of has c.begin_all.ensures c.connect.ensures in
+    begins-on x h (unconnected x h) c.args.priority c.in_ok-connection.connection c.begin_all.new.channels c.connect.new.circuits refl of has c.begin_all.ensures c.connect.ensures in
     subst (λ (y : Client). BeginsOn y h (unconnected y h) (Ok tt) left) c.self.view_is did

@@ -1,5 +1,4 @@
-use Rattle.std.proofs.Common.{◌∙◌, ap, sym, subst}
-use Rattle.std.proofs.Common.{◌≡◌, Some, refl}
+use Rattle.std.proofs.Common.{◌∙◌, ap, sym, subst, ◌≡◌, Some, refl}
 use Rattle.ca_monitor.specs.Subscriptions.{Cancelled, Subscription, standing_under}
 use Rattle.ca_ids.specs.Table.{Table, under}
 use Rattle.ca_model.specs.Client.{Channel, Client}

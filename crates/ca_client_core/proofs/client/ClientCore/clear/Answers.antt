@@ -3,10 +3,10 @@ use Rattle.std.specs.Prelude.{is_none}
 use Rattle.ca_model.specs.Client.{Client, On, Searching, connection_at, standing_at}
 use Rattle.ca_model.specs.Client as phase
 use Rattle.ca_model.specs.ClientCalls.{unwanted}
-use Rattle.ca_client_core.specs.declared.channel.Standing.{Standing}
-use Rattle.ca_client_core.specs.declared.channel.Standing.TheVariants as standing
-use Rattle.ca_client_core.specs.declared.channel.Phase.{Phase}
-use Rattle.ca_client_core.specs.Forms.{native_of, standing_of}
+use Rattle.ca_client_tables.specs.declared.channel.Standing.{Standing}
+use Rattle.ca_client_tables.specs.declared.channel.Standing.TheVariants as standing
+use Rattle.ca_client_tables.specs.declared.channel.Phase.{Phase}
+use Rattle.ca_client_tables.specs.Forms.{native_of, standing_of}
 use Rattle.ca_client_core.proofs.Cleared.{bare-early, bare-searched, cleared-bare, cleared-live, waits-there}
 use Rattle.ca_client_core.proofs.client.ClientCore.clear.Goals as goal
 

@@ -1,5 +1,5 @@
 use Rattle.std.proofs.Common.{sym, subst}
-use Rattle.ca_client_core.specs.Sound.{IsSound}
+use Rattle.ca_client_tables.specs.Sound.{IsSound}
 use Rattle.ca_client_core.proofs.Placing.{sound-mapped}
 use Rattle.ca_client_core.proofs.client.ClientCore.cut_back.Goals.{in-Some, in_default}
 use Rattle.ca_client_core.proofs.client.ClientCore.cut_back.Goals as goal

@@ -6,8 +6,8 @@ use Rattle.ca_wire.specs.Fields.{Fields}
 use Rattle.ca_model.specs.Answers.{Sending}
 use Rattle.ca_model.specs.Client.{Client}
 use Rattle.ca_model.specs.ClientEnds.{Arrival, ClientReceives}
-use Rattle.ca_client_core.specs.Receiving.{Parts, all_settled, all_settled_in, with_parts}
-use Rattle.ca_client_core.specs.declared.receiving.Received.{Received}
+use Rattle.ca_client_tables.specs.Receiving.{Parts, all_settled, all_settled_in, with_parts}
+use Rattle.ca_client_tables.specs.declared.receiving.Received.{Received}
 use Rattle.ca_client_core.proofs.Datagrams.{at_moment, datagram-received, datagram-refused, datagram-sound, datagram-unread, same-error}
 use Rattle.ca_client_core.proofs.client.ClientCore.datagram.Goals as goal
 

@@ -1,5 +1,5 @@
 use Rattle.std.proofs.Common.{sym}
-use Rattle.ca_client_core.specs.Silences.{echo_end}
+use Rattle.ca_client_tables.specs.Silences.{echo_end}
 use Rattle.ca_client_core.proofs.Placing.{sound-mapped}
 use Rattle.ca_client_core.proofs.client.ClientCore.echo.Goals as goal
 

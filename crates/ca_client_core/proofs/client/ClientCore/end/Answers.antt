@@ -1,11 +1,11 @@
 use Rattle.std.proofs.Common.{◌≡◌, ◌∙◌, ◌≤◌, List, Some, ap, length, refl, subst, sym}
 use Rattle.ca_arena.specs.declared.handle.Handle.{Handle}
 use Rattle.ca_model.specs.Answers.{Closing}
-use Rattle.ca_client_core.specs.Closings.{why_is}
+use Rattle.ca_client_tables.specs.Closings.{why_is}
 use Rattle.ca_model.specs.Client.{Client, closing, ended, is_live}
 use Rattle.ca_model_client.specs.Placed.{IsPlaced}
 use Rattle.ca_model_client.proofs.Letting.{ends-ended}
-use Rattle.ca_client_core.specs.Ending.{Sought, named_in, sought}
+use Rattle.ca_client_tables.specs.Ending.{Sought, named_in, sought}
 use Rattle.ca_client_core.proofs.Listing.{closing-gone, closing-told, ended-listed, room-for}
 use Rattle.ca_client_core.proofs.Endings.{ends-so, left_with}
 use Rattle.ca_client_core.proofs.client.ClientCore.end.Goals as goal

@@ -1,10 +1,9 @@
-use Rattle.std.proofs.Common.{subst, sym, ap}
+use Rattle.std.proofs.Common.{subst, sym, ap, refl}
 use Rattle.ca_requests.specs.Calls.{Issued}
 use Rattle.ca_model.specs.Client.{Client, Channel, On, Clearing}
 use Rattle.ca_client_core.specs.Turns.{WasLiveOn}
-use Rattle.ca_client_core.proofs.Ended.{client-standing}
+use Rattle.ca_client_tables.proofs.Ended.{client-standing}
 use Rattle.ca_client_core.proofs.Placing.{placed-over}
-use Rattle.std.proofs.Common.{refl}
 use Rattle.ca_client_core.proofs.Listing.{listed-not}
 use Rattle.ca_client_core.proofs.client.ClientCore.end_all.Goals as goal
 

@@ -5,7 +5,7 @@ use Rattle.ca_ids.specs.Table.{Table}
 use Rattle.ca_monitor.specs.Subscriptions.{Subscription}
 use Rattle.ca_model_client.specs.Placed.{ArePlaced}
 use Rattle.ca_model_client.proofs.Hearing.{drained-keeps}
-use Rattle.ca_client_core.proofs.Placing.{plain}
+use Rattle.ca_client_tables.proofs.Finds.{plain}
 use Rattle.ca_client_core.proofs.client.ClientCore.end_draining.Goals as goal
 
 pub invariant_of-self : goal.invariant_of-self

@@ -1,7 +1,7 @@
 use Rattle.std.proofs.Common.{subst, sym}
 use Rattle.ca_model_client.specs.Placed.{ArePlaced}
 use Rattle.ca_model_client.proofs.Changes.{unsubscribed-keeps}
-use Rattle.ca_client_core.proofs.Placing.{plain}
+use Rattle.ca_client_tables.proofs.Finds.{plain}
 use Rattle.ca_client_core.proofs.client.ClientCore.free_subscriptions.Goals as goal
 
 pub invariant_of-self : goal.invariant_of-self

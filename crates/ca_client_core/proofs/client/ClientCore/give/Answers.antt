@@ -2,7 +2,8 @@ use Rattle.std.proofs.Common.{List, subst, sym}
 use Rattle.ca_model.specs.Answers.{Sending}
 use Rattle.ca_model.specs.Client.{Client}
 use Rattle.ca_model.specs.ClientEnds.{ClientGives}
-use Rattle.ca_client_core.proofs.Circuits.{gives-found, with_this}
+use Rattle.ca_client_core.proofs.Circuits.{gives-found}
+use Rattle.ca_client_tables.proofs.Circuits.{with_this}
 use Rattle.ca_client_core.proofs.Placing.{sound-given}
 use Rattle.ca_client_core.proofs.client.ClientCore.give.Goals as goal
 

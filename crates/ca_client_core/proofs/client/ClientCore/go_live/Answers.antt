@@ -1,10 +1,11 @@
-use Rattle.std.proofs.Common.{◌≡◌, ◌≢◌, ◌∙◌, [], ap, inl, inr, length}
+use Rattle.std.proofs.Common.{◌≢◌, ◌∙◌, [], ap, inl, inr, length}
 use Rattle.ca_monitor.specs.Subscriptions.{standing_to}
 use Rattle.ca_model.specs.Client.{Live, On, with_standing}
 use Rattle.ca_client_core.specs.Again.{add_messages, living}
-use Rattle.ca_client_core.specs.Asks.{cut_back}
-use Rattle.ca_client_core.specs.Forms.{native_of}
-use Rattle.ca_client_core.proofs.Queued.{cut-messages, lived}
+use Rattle.ca_client_tables.specs.Ends.{cut_back}
+use Rattle.ca_client_tables.specs.Forms.{native_of}
+use Rattle.ca_client_tables.proofs.Queued.{cut-messages}
+use Rattle.ca_client_core.proofs.Queued.{lived}
 use Rattle.ca_client_core.proofs.client.ClientCore.go_live.Goals as goal
 
 pub returns-in-Ok : goal.returns-in-Ok

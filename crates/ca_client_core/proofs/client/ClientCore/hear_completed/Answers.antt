@@ -1,4 +1,4 @@
-use Rattle.std.proofs.Common.{◌≡◌, ◌∙◌, [], refl}
+use Rattle.std.proofs.Common.{◌∙◌, [], refl}
 use Rattle.ca_model.specs.Hears as hears
 use Rattle.ca_model.specs.Hears.{doing}
 use Rattle.ca_client_core.specs.Hearing.{completed}

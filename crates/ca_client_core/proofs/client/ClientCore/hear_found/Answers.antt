@@ -1,9 +1,9 @@
-use Rattle.std.proofs.Common.{◌≡◌, List, None, Ok, Option, Some, ap, subst, sym, ℕ}
+use Rattle.std.proofs.Common.{List, None, Ok, Option, Some, ap, subst, sym, ℕ}
 use Rattle.ca_search.specs.Searches as search
 use Rattle.ca_model.specs.Client.{Client}
-use Rattle.ca_client_core.specs.Finding.{FindsIn, Tables, tables_of, with_tables}
+use Rattle.ca_client_tables.specs.Finding.{FindsIn, Tables, tables_of, with_tables}
 use Rattle.ca_client_core.specs.Hearing.{FindsOr}
-use Rattle.ca_client_core.specs.declared.finding.Found.{Found}
+use Rattle.ca_client_tables.specs.declared.finding.Found.{Found}
 use Rattle.ca_client_core.proofs.Arriving.{IsSoundWith, sound-found}
 use Rattle.ca_client_core.proofs.Finds.{heard-found, heard-out}
 use Rattle.ca_client_core.proofs.client.ClientCore.hear_found.Goals as goal

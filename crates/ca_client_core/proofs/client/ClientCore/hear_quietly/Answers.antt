@@ -1,4 +1,4 @@
-use Rattle.std.proofs.Common.{◌≡◌, ◌≢◌, [], refl, rules}
+use Rattle.std.proofs.Common.{◌≢◌, [], refl, rules}
 use Rattle.ca_text.specs.declared.command.Command.TheVariants as command
 use Rattle.ca_model.specs.Hears as hears
 use Rattle.ca_model.specs.Hears.{becomes, doing}

@@ -1,8 +1,8 @@
 use Rattle.std.proofs.Common.{◌≡◌, Some, ap, refl, ◌∙◌}
 use Rattle.ca_model.specs.Client as phase
 use Rattle.ca_model.specs.Client.{Client, channel_on}
-use Rattle.ca_client_core.specs.declared.channel.Phase.{Phase}
-use Rattle.ca_client_core.specs.Forms.{native_of}
+use Rattle.ca_client_tables.specs.declared.channel.Phase.{Phase}
+use Rattle.ca_client_tables.specs.Forms.{native_of}
 use Rattle.ca_client_core.proofs.Listing.{live-found}
 use Rattle.ca_client_core.proofs.Placing.{found-on-circuit, turns-found}
 use Rattle.ca_client_core.proofs.client.ClientCore.hear_rights.Goals as goal

@@ -1,8 +1,8 @@
 use Rattle.std.proofs.Common.{subst, sym}
 use Rattle.ca_model.specs.Client.{Channel, Client, Live, On}
-use Rattle.ca_client_core.specs.Forms.{native_of}
+use Rattle.ca_client_tables.specs.Forms.{native_of}
 use Rattle.ca_client_core.specs.Turns.{MayTurn}
-use Rattle.ca_client_core.proofs.Ended.{client-standing}
+use Rattle.ca_client_tables.proofs.Ended.{client-standing}
 use Rattle.ca_client_core.proofs.Listing.{listed-live, listed-noted}
 use Rattle.ca_client_core.proofs.Placing.{placed-turned}
 use Rattle.ca_client_core.proofs.client.ClientCore.make_live.Goals as goal

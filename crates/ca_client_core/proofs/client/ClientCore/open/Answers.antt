@@ -1,4 +1,4 @@
-use Rattle.std.proofs.Common.{◌≡◌, ◌++◌, ◌∷◌, ◌∙◌, ℕ, List, [], Some, ap, false, Ok, nat_eq, refl, subst}
+use Rattle.std.proofs.Common.{◌≡◌, ◌++◌, ◌∷◌, ◌∙◌, ℕ, List, [], Some, ap, false, Ok, nat_eq, refl, subst, sym}
 use Rattle.ca_search.specs.Clock.{fresh}
 use Rattle.ca_search.specs.Searcher.{holds}
 use Rattle.ca_search.specs.Searches as search
@@ -9,8 +9,7 @@ use Rattle.ca_ids.specs.Wire.{wire_of}
 use Rattle.ca_model.specs.Client.{Channel, Client, Searching}
 use Rattle.ca_model.specs.ClientCalls.{ClientOpens, Opening, opened}
 use Rattle.ca_client_core.proofs.Openings.{client-opened, opened-is, searched-fresh}
-use Rattle.std.proofs.Common.{◌≡◌, sym}
-use Rattle.ca_client_core.specs.Sound.{IsSound}
+use Rattle.ca_client_tables.specs.Sound.{IsSound}
 use Rattle.ca_client_core.proofs.Placing.{placed-held, refused-same}
 use Rattle.ca_client_core.proofs.Listing.{listed-opened}
 use Rattle.ca_client_core.proofs.client.ClientCore.open.Goals as goal

@@ -1,11 +1,11 @@
-use Rattle.std.proofs.Common.{◌≡◌, ◌∙◌, ℕ, List, [], ap, arith, false, length, map, refl, subst}
+use Rattle.std.proofs.Common.{◌≡◌, ◌∙◌, List, [], ap, arith, false, length, map, refl, subst}
 use Rattle.std.specs.Prelude.{flat_map}
 use Rattle.std.proofs.lemmas.Bool.{both_ways}
 use Rattle.ca_arena.specs.declared.handle.Handle.{Handle}
 use Rattle.ca_search.specs.Searches.{Wanted}
 use Rattle.ca_search.proofs.Entries.{on_err}
 use Rattle.ca_model.specs.ClientEnds.{packed, to_server}
-use Rattle.ca_client_core.specs.Ahead.{due_after, is_in}
+use Rattle.ca_client_tables.specs.Ahead.{due_after, is_in}
 use Rattle.ca_client_core.specs.Moments.{SearchesAll}
 use Rattle.ca_client_core.proofs.Prepared.{lacks-due, lacks-echo, lacks-end, packs-some, plans-so}
 use Rattle.ca_client_core.proofs.client.ClientCore.plan.Goals as goal

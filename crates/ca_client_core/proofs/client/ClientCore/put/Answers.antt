@@ -1,13 +1,12 @@
-use Rattle.std.proofs.Common.{◌≡◌, ◌∙◌, ℕ, ap, length}
+use Rattle.std.proofs.Common.{◌≡◌, ◌∙◌, ℕ, ap, length, subst, sym}
 use Rattle.ca_text.specs.declared.command.Command.TheVariants as command
 use Rattle.ca_dbr.specs.Elements.{elements}
 use Rattle.ca_ids.specs.Wire.{wire_of}
 use Rattle.ca_requests.specs.Requests as request
-use Rattle.ca_client_core.specs.Asks.{with_message}
+use Rattle.ca_client_tables.specs.Ends.{with_message}
 use Rattle.ca_client_core.specs.Lives.{live_of}
 use Rattle.ca_client_core.specs.Puts.{put_message}
 use Rattle.ca_client_core.proofs.Requesting.{asks-or}
-use Rattle.std.proofs.Common.{subst, sym}
 use Rattle.ca_model.specs.Client.{Client}
 use Rattle.ca_model_client.specs.Placed.{WasLive}
 use Rattle.ca_client_core.proofs.client.ClientCore.put.Goals as goal

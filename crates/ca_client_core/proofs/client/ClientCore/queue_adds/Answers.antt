@@ -1,12 +1,13 @@
-use Rattle.std.proofs.Common.{◌≡◌, ◌∙◌, ◌+◌, ◌++◌, ◌∷◌, ℕ, List, [], Result, Ok, Err, ap, arith, length, refl, take, take_all}
+use Rattle.std.proofs.Common.{◌∙◌, ◌∷◌, List, [], Result, Ok, Err, ap, arith, length, refl, take, take_all}
 use Rattle.std.specs.Prelude.{OnErr}
 use Rattle.ca_arena.specs.declared.handle.Handle.{Handle}
 use Rattle.ca_monitor.specs.Subscriptions.{Subscription}
 use Rattle.ca_wire.specs.Fields.{Fields}
 use Rattle.ca_model.specs.Client.{out_bytes}
-use Rattle.ca_client_core.specs.Again.{add_message, add_messages, with_messages}
-use Rattle.ca_client_core.specs.Asks.{cut_back, with_message}
-use Rattle.ca_client_core.proofs.Queued.{adds-more, cut-messages, messages-twice}
+use Rattle.ca_client_core.specs.Again.{add_message, add_messages}
+use Rattle.ca_client_tables.specs.Ends.{with_messages, cut_back, with_message}
+use Rattle.ca_client_core.proofs.Queued.{adds-more}
+use Rattle.ca_client_tables.proofs.Queued.{cut-messages, messages-twice}
 use Rattle.ca_client_core.proofs.client.ClientCore.queue_adds.Goals as goal
 
 on_err : {A E : Type 0} {P : Type 0} (r : Result A E) → P → OnErr r P

@@ -1,5 +1,6 @@
 use Rattle.std.proofs.Common.{◌≡◌, take}
-use Rattle.ca_client_core.specs.Again.{add_messages, with_messages}
+use Rattle.ca_client_core.specs.Again.{add_messages}
+use Rattle.ca_client_tables.specs.Ends.{with_messages}
 use Rattle.ca_client_core.proofs.client.ClientCore.queue_adds.Given as goal
 
 abbrev pub invariant-loop-index : goal.invariant-loop-index

@@ -1,14 +1,11 @@
-use Rattle.std.proofs.Common.{◌≡◌, ◌∙◌, ℕ, ap}
+use Rattle.std.proofs.Common.{◌≡◌, ◌∙◌, ℕ, ap, subst, sym, refl}
 use Rattle.ca_ids.specs.Wire.{wire_of}
 use Rattle.ca_search.specs.Searcher.{with_one}
 use Rattle.ca_search.specs.Searches.{resumed}
-use Rattle.ca_model.specs.Client.{Channel, Searching}
-use Rattle.ca_client_core.proofs.Ended.{client-again}
-use Rattle.std.proofs.Common.{subst, sym}
-use Rattle.ca_model.specs.Client.{Client}
+use Rattle.ca_model.specs.Client.{Channel, Searching, Client}
+use Rattle.ca_client_tables.proofs.Ended.{client-again}
 use Rattle.ca_model_client.specs.Placed.{IsBare}
 use Rattle.ca_client_core.proofs.Placing.{placed-again}
-use Rattle.std.proofs.Common.{refl}
 use Rattle.ca_client_core.proofs.Listing.{listed-not}
 use Rattle.ca_client_core.proofs.client.ClientCore.seek_again.Goals as goal
 

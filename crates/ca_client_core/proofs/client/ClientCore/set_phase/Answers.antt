@@ -1,12 +1,10 @@
-use Rattle.ca_model.specs.Client.{Channel, On}
-use Rattle.ca_client_core.specs.Forms.{phase_of}
-use Rattle.ca_client_core.proofs.Ended.{client-standing}
-use Rattle.std.proofs.Common.{subst, sym}
-use Rattle.ca_model.specs.Client.{Client}
+use Rattle.ca_model.specs.Client.{Channel, On, Client}
+use Rattle.ca_client_tables.specs.Forms.{phase_of}
+use Rattle.ca_client_tables.proofs.Ended.{client-standing}
+use Rattle.std.proofs.Common.{subst, sym, ◌∙◌, ap}
 use Rattle.ca_client_core.specs.Turns.{MayTurn}
 use Rattle.ca_client_core.proofs.Placing.{placed-turned}
-use Rattle.std.proofs.Common.{◌∙◌, ap}
-use Rattle.ca_client_core.specs.Listed.{is_live_in}
+use Rattle.ca_client_tables.specs.Listed.{is_live_in}
 use Rattle.ca_client_core.proofs.Listing.{listed-turned}
 use Rattle.ca_client_core.proofs.client.ClientCore.set_phase.Goals as goal
 

@@ -1,7 +1,7 @@
 use Rattle.std.proofs.Common.{refl, sym}
 use Rattle.ca_search.proofs.Entries.{on_err}
 use Rattle.ca_client_core.specs.Moments.{is_silent, silent_of}
-use Rattle.ca_client_core.proofs.Sifting.{taken-not, taken-one, taken-some}
+use Rattle.ca_client_tables.proofs.Sifting.{taken-not, taken-one, taken-some}
 use Rattle.ca_client_core.proofs.client.ClientCore.silent.Goals.{then-is_silent+in_ok-push, else-is_silent}
 use Rattle.ca_client_core.proofs.client.ClientCore.silent.Goals as goal
 

@@ -1,9 +1,9 @@
-use Rattle.std.proofs.Common.{◌≡◌, ◌∙◌, Some, ap, subst, sym}
+use Rattle.std.proofs.Common.{◌≡◌, ◌∙◌, Some, ap}
 use Rattle.ca_ids.specs.Table.{under}
 use Rattle.ca_model.specs.Client.{Client, ClientCircuit, closing, ended}
-use Rattle.ca_client_core.specs.Closings.{why_is}
-use Rattle.ca_client_core.specs.First.{emptied}
-use Rattle.ca_client_core.proofs.Circuits.{found-changed}
+use Rattle.ca_client_tables.specs.Closings.{why_is}
+use Rattle.ca_client_tables.specs.First.{emptied}
+use Rattle.ca_client_tables.proofs.Circuits.{found-changed}
 use Rattle.ca_client_core.proofs.Walked.{steps-bad, steps-heard, steps-lacks, steps-out, with_end}
 use Rattle.ca_client_core.proofs.client.ClientCore.step.Goals as goal
 

@@ -1,8 +1,9 @@
-use Rattle.std.proofs.Common.{◌≡◌, ◌∙◌, List, ap}
+use Rattle.std.proofs.Common.{◌∙◌, List, ap}
 use Rattle.ca_arena.specs.declared.handle.Handle.{Handle}
 use Rattle.ca_monitor.specs.Subscriptions.{Subscription, standing_to}
 use Rattle.ca_model.specs.Client.{Client}
-use Rattle.ca_client_core.specs.Again.{add_messages, with_messages}
+use Rattle.ca_client_core.specs.Again.{add_messages}
+use Rattle.ca_client_tables.specs.Ends.{with_messages}
 use Rattle.ca_client_core.proofs.client.ClientCore.subscribe_again.Goals as goal
 
 pub returns-in-Ok-clause-ok : goal.returns-in-Ok-clause-ok

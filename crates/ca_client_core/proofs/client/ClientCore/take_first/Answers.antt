@@ -1,9 +1,8 @@
-use Rattle.std.proofs.Common.{◌≡◌, Some, subst, sym}
-use Rattle.ca_ids.specs.Table.{under}
+use Rattle.std.proofs.Common.{subst, sym}
 use Rattle.ca_model.specs.Client.{Client}
 use Rattle.ca_client_core.specs.First.{FirstOn}
 use Rattle.ca_client_core.proofs.Firsts.{first-on, first-stays}
-use Rattle.ca_client_core.proofs.Circuits.{with_this}
+use Rattle.ca_client_tables.proofs.Circuits.{with_this}
 use Rattle.ca_client_core.proofs.Placing.{sound-this}
 use Rattle.ca_client_core.proofs.client.ClientCore.take_first.Goals as goal
 

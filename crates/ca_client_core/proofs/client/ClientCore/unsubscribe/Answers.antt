@@ -5,10 +5,10 @@ use Rattle.ca_model.specs.Answers.{Sending}
 use Rattle.ca_model.specs.Client.{Client, On, standing_at}
 use Rattle.ca_model.specs.Client as phase
 use Rattle.ca_model.specs.ClientCalls.{ClientUnsubscribes}
-use Rattle.ca_client_core.specs.declared.channel.Standing.{Standing}
-use Rattle.ca_client_core.specs.declared.channel.Standing.TheVariants as standing
-use Rattle.ca_client_core.specs.declared.channel.Phase.{Phase}
-use Rattle.ca_client_core.specs.Forms.{native_of, standing_of}
+use Rattle.ca_client_tables.specs.declared.channel.Standing.{Standing}
+use Rattle.ca_client_tables.specs.declared.channel.Standing.TheVariants as standing
+use Rattle.ca_client_tables.specs.declared.channel.Phase.{Phase}
+use Rattle.ca_client_tables.specs.Forms.{native_of, standing_of}
 use Rattle.ca_client_core.proofs.Cancelling.{cancelled-live, cancelled-there, comes-to}
 use Rattle.ca_model_client.proofs.Standings.{stands-as}
 use Rattle.ca_client_core.proofs.Placing.{live-at, sound-staged}

@@ -1,7 +1,0 @@
-use Rattle.std.proofs.Common.{◌≡◌, [], take}
-use Rattle.ca_client_core.specs.Clearing.{is_any}
-use Rattle.ca_client_core.specs.Ending.{named_in}
-use Rattle.ca_client_core.proofs.clearing.is_used.Given as goal
-
-abbrev pub invariant-loop-index : goal.invariant-loop-index
-invariant-loop-index l = named_in is_any l.circuit (take l.index l.channels) ≡ []

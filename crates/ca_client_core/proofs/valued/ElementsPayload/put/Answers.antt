@@ -1,9 +1,0 @@
-use Rattle.std.proofs.Common.{◌∙◌, ap}
-use Rattle.ca_dbr.specs.Elements.{elements}
-use Rattle.ca_dbr.specs.Types.{base_number}
-use Rattle.ca_client_core.proofs.Putting.{makes-bytes}
-use Rattle.ca_client_core.proofs.valued.ElementsPayload.put.Goals as goal
-
-pub returns : goal.returns
-returns c =
-    makes-bytes _ (elements c.args.self.now.value.now) _ c.args.out.now.items c.write_value.new.out.items c.write_value.result (c.number.ensures ∙ ap base_number c.base_type.ensures) c.write_value.ensures.written

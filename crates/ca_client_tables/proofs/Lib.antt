@@ -1,0 +1,16 @@
+pub mod Circuits
+pub mod Wanting
+pub mod Beginnings
+pub mod Ended
+pub mod Queued
+pub mod Replies
+pub mod Connected
+pub mod Listing
+pub mod Finds
+pub mod Arrivals
+pub mod Settling
+pub mod Anomalies
+pub mod Packings
+pub mod Sifting
+pub mod Values
+pub mod Dues

@@ -1,0 +1,118 @@
+-- Working: parts of what a search reply does. No clause of a caller needs it.
+use Rattle.std.specs.Prelude.{ℕ, ◌≡◌, ◌++◌, ◌-◌, ◌==◌, ◌&&◌, Bool, false, List, [], ◌∷◌, Option, None, Some, Result, Ok, Err, find, if◌then◌else◌, is_some, length, option_and_then, option_map, take, ◌≢◌, ◌⊎◌}
+use Rattle.std.specs.declared.alloc.AllocError.{AllocError}
+use Rattle.ca_arena.specs.declared.handle.Handle.{Handle}
+use Rattle.ca_ids.specs.Table.{IsFull, MayGive, Table, by_wire, held, taken_back, with_changed, with_held}
+use Rattle.ca_ids.specs.Wire.{wire_of}
+use Rattle.ca_search.specs.Searcher.{with_one}
+use Rattle.ca_search.specs.Searches.{paused}
+use Rattle.ca_wire.specs.Fields.{Fields}
+use Rattle.ca_model.specs.Client.{Channel, Client, ClientCircuit, Connecting, Creating, On, Searching, Standing, new_circuit}
+use Rattle.ca_model.specs.Ends.{Address, same_address}
+use Rattle.ca_model.specs.Hears.{Effect, Finds, is_searched}
+use Rattle.ca_client_tables.specs.Ends.{cut_in, left_at, queued}
+use Rattle.ca_client_tables.specs.declared.finding.Found.{Found}
+use Rattle.ca_client_tables.specs.declared.finding.How.{How}
+use Rattle.ca_client_tables.specs.declared.finding.How.TheVariants as how
+
+-- it sends or reports something, or makes a circuit wanted
+abbrev pub DoesSome : Client → Effect → Type 0
+DoesSome old e = (e.sent ≢ []) ⊎ ((e.notices ≢ []) ⊎ (e.core.order ≢ old.order))
+
+-- a circuit goes to this address, under this priority
+abbrev pub goes_there : Address → ℕ → Handle × ClientCircuit → Bool
+goes_there a priority e = same_address e.1.address a && e.1.priority == priority
+
+-- its handle, and whether it is connected
+abbrev pub as_found : Handle × ClientCircuit → Handle × Bool
+as_found e = (e.0, is_some e.1.connection)
+
+-- the circuit to this address, under this priority
+abbrev pub circuit_in : Address → ℕ → Table ClientCircuit → Option (Handle × Bool)
+circuit_in a priority t = option_map as_found (find (goes_there a priority) (held t))
+
+-- this one, if it is that circuit
+abbrev pub goes_to : Address → ℕ → Option (Handle × ClientCircuit) → Option (Handle × Bool)
+goes_to a priority o = option_and_then (λ (e : Handle × ClientCircuit). if goes_there a priority e then Some (as_found e) else None) o
+
+-- the channel of this CID, if it is searched for
+abbrev pub searched_in : ℕ → Table Channel → Option (Handle × Channel)
+searched_in cid t =
+    option_and_then (λ (e : Handle × Channel). if is_searched e.1.standing then Some e else None) (by_wire t cid)
+
+-- the tables of a client that a search reply changes, beside its searches
+pub record Tables : Type 0 where
+  pub channels : Table Channel
+  pub circuits : Table ClientCircuit
+  pub order : List Handle
+
+abbrev pub tables_of : Client → Tables
+tables_of x = record { channels = x.channels; circuits = x.circuits; order = x.order }
+
+-- the client with these
+abbrev pub with_tables : Tables → Client → Client
+with_tables t x = record x { channels = t.channels; circuits = t.circuits; order = t.order }
+
+-- the channel is there now
+abbrev pub stood : Standing → Handle → Table Channel → Table Channel
+stood s h t = with_changed (λ (here : Channel). record here { standing = s }) h t
+
+-- the client that searches no more for a channel that was found
+abbrev pub paused_for : Option Found → Client → Client
+paused_for None x = x
+paused_for (Some f) x = record x { searches = with_one paused (wire_of f.channel) x.searches }
+
+-- the circuits and their order as before a channel was found on one
+abbrev pub circuits_undone : How → Handle → Table ClientCircuit → Table ClientCircuit
+circuits_undone how.Waits c t = t
+circuits_undone (how.Created n) c t = with_changed (cut_in n) c t
+circuits_undone (how.Wanted n) c t = taken_back c n t
+
+abbrev pub order_undone : How → List Handle → List Handle
+order_undone how.Waits order = order
+order_undone (how.Created n) order = order
+order_undone (how.Wanted n) order = take (length order - 1) order
+
+-- the tables as before
+abbrev pub found_undone : Found → Tables → Tables
+found_undone f t = record {
+  channels = stood Searching f.channel t.channels;
+  circuits = circuits_undone f.how f.circuit t.circuits;
+  order = order_undone f.how t.order;
+}
+
+abbrev pub undone : Option Found → Tables → Tables
+undone None t = t
+undone (Some f) t = found_undone f t
+
+-- A search reply that came from this address had its effect, but that this channel is searched for still.
+abbrev pub HasFound : Tables → Address → Fields → Option Found → Tables → Type 0
+HasFound old from m found new =
+    (x : Client) → tables_of x ≡ old
+    → (e : Effect) × Finds x from m e × (e.notices ≡ []) × (e.core ≡ paused_for found (with_tables new x))
+
+-- It had, and can be undone; or there was no memory for it, which changed nothing.
+abbrev pub FindsIn : Tables → Address → Fields → Result (Option Found) AllocError → Tables → Type 0
+FindsIn old from m (Ok found) new = HasFound old from m found new × (undone found new ≡ old)
+FindsIn old from m (Err _) new =
+    (new ≡ old) × ((x : Client) → tables_of x ≡ old → (e : Effect) × Finds x from m e × DoesSome x e)
+
+-- A channel waits for a new circuit; or no more can be had; or there was no memory for one.
+abbrev pub FindsNewIn : Tables → Address → ℕ → Handle → Result (Option Found) AllocError → Tables → Type 0
+FindsNewIn old a priority h (Ok (Some f)) new =
+    MayGive old.circuits f.circuit × (f.channel ≡ h) × (f.how ≡ how.Wanted (length old.circuits))
+    × (new ≡ record {
+      channels = stood (On f.circuit Connecting) h old.channels;
+      circuits = with_held f.circuit (new_circuit a priority false) old.circuits;
+      order = old.order ++ f.circuit ∷ [];
+    })
+FindsNewIn old a priority h (Ok None) new = IsFull old.circuits × (new ≡ old)
+FindsNewIn old a priority h (Err _) new = (c : Handle) × MayGive old.circuits c × (new ≡ old)
+
+-- A channel is created on a circuit by this message; or there was no memory for it.
+abbrev pub CreatesIn : Table Channel → Table ClientCircuit → (c h : Handle) → Fields → Result (Option Found) AllocError → Table Channel → Table ClientCircuit → Type 0
+CreatesIn channels circuits c h m (Ok found) channels' circuits' =
+    (found ≡ Some (record { channel = h; circuit = c; how = how.Created (length (left_at circuits c)) }))
+    × (channels' ≡ stood (On c (Creating 0)) h channels)
+    × (circuits' ≡ with_changed (queued m) c circuits)
+CreatesIn channels circuits c h m (Err _) channels' circuits' = (channels' ≡ channels) × (circuits' ≡ circuits)

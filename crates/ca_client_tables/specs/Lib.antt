@@ -1,0 +1,17 @@
+pub mod Forms
+pub mod Sound
+pub mod Ends
+pub mod Names
+pub mod Ending
+pub mod Puts
+pub mod Finding
+pub mod Connecting
+pub mod Closings
+pub mod First
+pub mod Listed
+pub mod Receiving
+pub mod Marks
+pub mod Ahead
+pub mod Silences
+pub mod Packing
+pub mod Wanted

@@ -1,0 +1,156 @@
+//! What becomes of the channels of a circuit that has ended.
+ghost use Rattle.std.specs.Prelude.{◌≡◌, ◌<◌, length};
+ghost use Rattle.ca_client_tables.specs.Ending.{EndsAll, StepsAll, StepsAt, again, back_at, gone, gone_at, is_kept, sought};
+ghost use Rattle.ca_client_tables.specs.Sound.{IsClient};
+ghost use Rattle.ca_ids.specs.Table.{with_changed};
+ghost use Rattle.ca_search.specs.Searcher.{with_one};
+ghost use Rattle.ca_search.specs.Searches.{resumed};
+ghost use Rattle.ca_model.specs.Client.{Searching, is_cleared};
+
+use crate::channel::Channel;
+use ca_arena::Handle;
+use ca_ids::{HeldTable, WireId};
+use ca_search::Place;
+use indexmap::IndexMap;
+
+/// The channels of a circuit that has ended: those that were cleared are gone, the others are searched for again.
+pub fn end_channels(
+    channels: &mut HeldTable<Channel>,
+    searches: &mut IndexMap<u32, Place>,
+    circuit: Handle,
+    moment: u64,
+)
+    requires { IsClient channels.old searches.old.entries }
+    ensures steps { EndsAll
+        circuit
+        moment
+        (sought channels.old searches.old.entries)
+        (sought channels.new searches.new.entries) }
+    ensures client { IsClient channels.new searches.new.entries }
+{
+    let_cleared_go(channels, searches, circuit);
+    search_again(channels, searches, circuit, moment);
+}
+
+// The channels on this circuit that were cleared are gone.
+fn let_cleared_go(
+    channels: &mut HeldTable<Channel>,
+    searches: &mut IndexMap<u32, Place>,
+    circuit: Handle,
+)
+    requires { IsClient channels.old searches.old.entries }
+    ensures steps { StepsAll
+        gone
+        is_cleared
+        (gone_at circuit)
+        circuit
+        (sought channels.old searches.old.entries)
+        (sought channels.new searches.new.entries) }
+    ensures client { IsClient channels.new searches.new.entries }
+{
+    let places = channels.places();
+    for index in 0..places {
+        let_go_at(channels, searches, circuit, index);
+    }
+}
+
+// The channel at this index is gone, if it is one of those.
+fn let_go_at(
+    channels: &mut HeldTable<Channel>,
+    searches: &mut IndexMap<u32, Place>,
+    circuit: Handle,
+    index: usize,
+)
+    requires within { index < length channels.old }
+    requires client { IsClient channels.old searches.old.entries }
+    ensures steps { StepsAt
+        gone
+        is_cleared
+        (gone_at circuit)
+        circuit
+        index
+        (sought channels.old searches.old.entries)
+        (sought channels.new searches.new.entries) }
+    ensures client { IsClient channels.new searches.new.entries }
+{
+    let Some((handle, channel)) = channels.at(index) else {
+        return;
+    };
+    if !channel.is_cleared_on(circuit) {
+        return;
+    }
+    let _ = channels.free(handle);
+    searches.shift_remove(&WireId::of(handle).number());
+}
+
+// The others that were on this circuit are searched for again, as from the beginning.
+fn search_again(
+    channels: &mut HeldTable<Channel>,
+    searches: &mut IndexMap<u32, Place>,
+    circuit: Handle,
+    moment: u64,
+)
+    requires { IsClient channels.old searches.old.entries }
+    ensures steps { StepsAll
+        (again moment)
+        is_kept
+        (back_at circuit)
+        circuit
+        (sought channels.old searches.old.entries)
+        (sought channels.new searches.new.entries) }
+    ensures client { IsClient channels.new searches.new.entries }
+{
+    let places = channels.places();
+    for index in 0..places {
+        search_again_at(channels, searches, circuit, moment, index);
+    }
+}
+
+// The channel at this index is searched for again, if it is one of those.
+fn search_again_at(
+    channels: &mut HeldTable<Channel>,
+    searches: &mut IndexMap<u32, Place>,
+    circuit: Handle,
+    moment: u64,
+    index: usize,
+)
+    requires within { index < length channels.old }
+    requires client { IsClient channels.old searches.old.entries }
+    ensures steps { StepsAt
+        (again moment)
+        is_kept
+        (back_at circuit)
+        circuit
+        index
+        (sought channels.old searches.old.entries)
+        (sought channels.new searches.new.entries) }
+    ensures client { IsClient channels.new searches.new.entries }
+{
+    let Some((handle, channel)) = channels.at(index) else {
+        return;
+    };
+    if !channel.is_kept_on(circuit) {
+        return;
+    }
+    bring_back(channels, handle);
+    resume(searches, WireId::of(handle).number(), moment);
+}
+
+/// The channel of this handle is searched for; a stale handle changes nothing.
+pub fn bring_back(channels: &mut HeldTable<Channel>, handle: Handle)
+    ensures { channels.new
+        ≡ with_changed (λ here. record here { standing = Searching }) handle channels.old }
+{
+    if let Some(channel) = channels.by_handle_mut(handle) {
+        channel.search_again();
+    }
+}
+
+/// The searches for this CID begin again, as from this moment.
+pub fn resume(searches: &mut IndexMap<u32, Place>, cid: u32, moment: u64)
+    ensures { searches.new.entries ≡ with_one (resumed moment) cid searches.old.entries }
+{
+    if let Some(place) = searches.get_mut(&cid) {
+        place.resume(moment);
+    }
+}

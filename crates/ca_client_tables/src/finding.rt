@@ -1,0 +1,247 @@
+//! What the reply to a SEARCH does to the tables of a client.
+ghost use Rattle.std.specs.Prelude.{◌≡◌, ◌<◌, ◌≤◌, is_some, length, option_map};
+ghost use Rattle.ca_text.specs.Limits.{priority_limit};
+ghost use Rattle.ca_ids.specs.Table.{held_at};
+ghost use Rattle.ca_ids.specs.Wire.{wire_of};
+ghost use Rattle.ca_arena.specs.Arena.{place_at};
+ghost use Rattle.ca_search.specs.Searcher.{with_one};
+ghost use Rattle.ca_search.specs.Searches.{paused};
+ghost use Rattle.ca_model.specs.Hears.{found_at, is_searched};
+ghost use Rattle.ca_client_tables.specs.Finding.{CreatesIn, FindsIn, FindsNewIn, circuit_in, goes_to, searched_in};
+
+use crate::beginning::is_same;
+use crate::channel::{Channel, Phase, Standing, set_standing};
+use crate::circuit::Circuit;
+use crate::ends::Address;
+use crate::queue::{queue_on, waiting_on};
+use ca_arena::Handle;
+use ca_ids::{HeldTable, WireId};
+use ca_search::Place;
+use ca_wire::Message;
+use indexmap::IndexMap;
+use std::alloc::{AllocError, Global};
+
+/// In place of an address, in a reply: the server is where the reply came from.
+const NO_ADDRESS: u32 = 0xFFFF_FFFF;
+
+/// A channel that was found: on which circuit it is, and how it came there.
+#[derive(Clone, Copy, Debug)]
+pub struct Found {
+    /// The channel.
+    pub channel: Handle,
+    /// The circuit on which it is now.
+    pub circuit: Handle,
+    /// How it came there.
+    pub how: How,
+}
+
+/// How a channel that was found came to its circuit.
+#[derive(Clone, Copy, Debug)]
+pub enum How {
+    /// It waits there for the circuit to be connected.
+    Waits,
+    /// Its CREATE_CHAN waits there, after this many bytes.
+    Created(usize),
+    /// The circuit is wanted from now on, and had no place among this many.
+    Wanted(usize),
+}
+
+/// A reply to a SEARCH came from this address: a channel that is searched for is put on the circuit to its server, and its searches are
+/// still to be paused. Without memory nothing changes.
+pub fn find(
+    alloc: Global,
+    channels: &mut HeldTable<Channel>,
+    circuits: &mut HeldTable<Circuit>,
+    order: &mut Vec<Handle>,
+    from: Address,
+    message: &Message,
+) -> Result<Option<Found>, AllocError>
+    ensures { FindsIn
+        (record { channels = channels.old; circuits = circuits.old; order = order.old.items })
+        from
+        message.now
+        result
+        (record { channels = channels.new; circuits = circuits.new; order = order.new.items }) }
+{
+    let Some((channel, found)) = searched_by(channels, message.p2()) else {
+        return Ok(None);
+    };
+    let priority = found.priority();
+    let address = found_at(from, message);
+    match circuit_to(circuits, address, priority) {
+        None => find_new(channels, circuits, order, address, priority, channel),
+        Some((circuit, connected)) => {
+            if !connected {
+                set_standing(channels, channel, Standing::On(circuit, Phase::Connecting));
+                let how = How::Waits;
+                return Ok(Some(Found {
+                    channel,
+                    circuit,
+                    how,
+                }));
+            }
+            let create = found.create_message(alloc, channel)?;
+            create_on(channels, circuits, circuit, channel, &create)
+        }
+    }
+}
+
+// The channel of this CID, if it is searched for.
+fn searched_by(channels: &HeldTable<Channel>, cid: u32) -> Option<(Handle, &Channel)>
+    ensures { option_map (λ e. (e.0, e.1.now)) result ≡ searched_in cid channels.now }
+{
+    match channels.by_wire(WireId::new(cid)) {
+        Some((handle, channel)) if channel.is_searched() => Some((handle, channel)),
+        _ => None,
+    }
+}
+
+// The channel waits for a new circuit, after the others. If no more circuits can be had, nothing happens; nor without memory.
+fn find_new(
+    channels: &mut HeldTable<Channel>,
+    circuits: &mut HeldTable<Circuit>,
+    order: &mut Vec<Handle>,
+    address: Address,
+    priority: u16,
+    channel: Handle,
+) -> Result<Option<Found>, AllocError>
+    requires { priority ≤ priority_limit }
+    ensures { FindsNewIn
+        (record { channels = channels.old; circuits = circuits.old; order = order.old.items })
+        address
+        priority
+        channel
+        result
+        (record { channels = channels.new; circuits = circuits.new; order = order.new.items }) }
+{
+    let Some(vacant) = circuits.vacant() else {
+        return Ok(None);
+    };
+    order.reserve(1)?;
+    let places = circuits.places();
+    let wanted = Circuit {
+        address,
+        priority,
+        is_name: false,
+        connection: None,
+    };
+    match circuits.open_at(vacant, wanted) {
+        Ok(()) => {
+            order.push_reserved(vacant);
+            set_standing(channels, channel, Standing::On(vacant, Phase::Connecting));
+            Ok(Some(Found {
+                channel,
+                circuit: vacant,
+                how: How::Wanted(places),
+            }))
+        }
+        Err(_) => Err(AllocError),
+    }
+}
+
+// The channel is created on this circuit, by this message. Without memory nothing happens.
+fn create_on(
+    channels: &mut HeldTable<Channel>,
+    circuits: &mut HeldTable<Circuit>,
+    circuit: Handle,
+    channel: Handle,
+    message: &Message,
+) -> Result<Option<Found>, AllocError>
+    ensures { CreatesIn
+        channels.old
+        circuits.old
+        circuit
+        channel
+        message.now
+        result
+        channels.new
+        circuits.new }
+{
+    let waiting = waiting_on(circuits, circuit);
+    queue_on(circuits, circuit, message)?;
+    set_standing(channels, channel, Standing::On(circuit, Phase::Creating(0)));
+    let how = How::Created(waiting);
+    Ok(Some(Found {
+        channel,
+        circuit,
+        how,
+    }))
+}
+
+/// There are no more searches for this channel.
+pub fn pause_found(searches: &mut IndexMap<u32, Place>, channel: Handle)
+    ensures { searches.new.entries ≡ with_one paused (wire_of channel) searches.old.entries }
+{
+    pause(searches, WireId::of(channel).number());
+}
+
+// There are no more searches for this CID.
+fn pause(searches: &mut IndexMap<u32, Place>, cid: u32)
+    ensures { searches.new.entries ≡ with_one paused cid searches.old.entries }
+{
+    if let Some(place) = searches.get_mut(&cid) {
+        place.pause();
+    }
+}
+
+// Where the server of a search reply is: at the address in it, or where the reply came from.
+fn found_at(from: Address, message: &Message) -> Address
+    ensures { result ≡ found_at from message.now }
+{
+    let host = if message.p1() == NO_ADDRESS {
+        from.host
+    } else {
+        message.p1()
+    };
+    Address {
+        host,
+        port: message.data_type(),
+    }
+}
+
+// The circuit to this address, under this priority, and whether it is connected.
+fn circuit_to(
+    circuits: &HeldTable<Circuit>,
+    address: Address,
+    priority: u16,
+) -> Option<(Handle, bool)>
+    ensures { result ≡ circuit_in address priority circuits.now }
+{
+    for index in 0..circuits.places() {
+        if let Some(found) = circuit_at(circuits, address, priority, index) {
+            return Some(found);
+        }
+    }
+    None
+}
+
+// The circuit at this index, if it is that one.
+fn circuit_at(
+    circuits: &HeldTable<Circuit>,
+    address: Address,
+    priority: u16,
+    index: usize,
+) -> Option<(Handle, bool)>
+    requires { index < length circuits.now }
+    ensures { result ≡ goes_to address priority (held_at index (place_at circuits.now index)) }
+{
+    let Some((handle, circuit)) = circuits.at(index) else {
+        return None;
+    };
+    if is_same(circuit.address, address) && circuit.priority == priority {
+        return Some((handle, circuit.connection.is_some()));
+    }
+    None
+}
+
+impl Channel {
+    // Whether it is searched for.
+    fn is_searched(&self) -> bool
+        ensures { result ≡ is_searched self.now.standing }
+    {
+        match self.standing() {
+            Standing::Searching => true,
+            Standing::On(_, _) => false,
+        }
+    }
+}

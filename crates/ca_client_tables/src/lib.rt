@@ -1,0 +1,53 @@
+//! The tables of a client of Channel Access: its channels, its circuits and its searches, and what becomes of them when a circuit is
+//! connected or has ended, a channel is found, or a datagram came.
+//!
+//! The client's core (`ca_client_core`) stands on it: the calls of a client, with its requests and subscriptions.
+#![tactic(auto)]
+
+mod addressing;
+mod beacons;
+mod beginning;
+mod bytes;
+mod channel;
+mod circuit;
+mod clearing;
+mod connecting;
+mod ending;
+mod ends;
+mod finding;
+mod first;
+mod foreseeing;
+mod input;
+mod letting_go;
+mod live_channels;
+mod marks;
+mod output;
+mod packing;
+mod queue;
+mod receiving;
+mod silences;
+mod undoing;
+mod valued;
+mod wanted;
+mod why;
+
+pub use addressing::{Datagram, to_servers};
+pub use beacons::Beacon;
+pub use beginning::{count_names, name_circuits};
+pub use bytes::know_bytes;
+pub use channel::{Channel, Native, Phase, Standing, set_standing};
+pub use circuit::{Circuit, Connection};
+pub use clearing::is_used;
+pub use connecting::{begin_all, connect, new_connection};
+pub use ending::{bring_back, end_channels, resume};
+pub use ends::Address;
+pub use finding::{Found, How, find, pause_found};
+pub use first::First;
+pub use foreseeing::find_after;
+pub use letting_go::let_go;
+pub use live_channels::{LiveChannels, list_live, note_live, take_live};
+pub use packing::packed;
+pub use receiving::{Received, receive_all, settle};
+pub use valued::size_of;
+pub use wanted::{WantedCircuit, wanted_in};
+pub use why::Why;

@@ -1,0 +1,66 @@
+//! Messages that wait on a circuit.
+ghost use Rattle.std.specs.Prelude.{◌≡◌, ◌∷◌, [], OnErr, OnOk, length};
+ghost use Rattle.ca_ids.specs.Table.{with_changed};
+ghost use Rattle.ca_link.specs.Link.{with_sent};
+ghost use Rattle.ca_client_tables.specs.Ends.{left_at, queued};
+
+use crate::circuit::{Circuit, Connection};
+use ca_arena::Handle;
+use ca_ids::HeldTable;
+use ca_wire::Message;
+use std::alloc::AllocError;
+
+// Puts a message after what waits on a circuit that is connected.
+pub(crate) fn queue_on(
+    circuits: &mut HeldTable<Circuit>,
+    circuit: Handle,
+    message: &Message,
+) -> Result<(), AllocError>
+    ensures ok { OnOk result (circuits.new
+        ≡ with_changed (queued message.now) circuit circuits.old) }
+    ensures err { OnErr result (circuits.new ≡ circuits.old) }
+{
+    let Some(found) = circuits.by_handle_mut(circuit) else {
+        return Ok(());
+    };
+    found.queue(message)?;
+    Ok(())
+}
+
+// How many bytes wait on a circuit; none if it is not connected.
+pub(crate) fn waiting_on(circuits: &HeldTable<Circuit>, circuit: Handle) -> usize
+    ensures { result ≡ length (left_at circuits.now circuit) }
+{
+    match circuits.by_handle(circuit) {
+        Some(found) => found.out_bytes().len(),
+        None => 0,
+    }
+}
+
+impl Circuit {
+    /// Puts a message after what waits, if it is connected. Without memory nothing changes.
+    pub fn queue(&mut self, message: &Message) -> Result<(), AllocError>
+        ensures ok { OnOk result (self.new ≡ queued message.now self.old) }
+        ensures err { OnErr result (self.new ≡ self.old) }
+    {
+        let Some(connection) = &mut self.connection else {
+            return Ok(());
+        };
+        connection.queue(message)?;
+        Ok(())
+    }
+}
+
+impl Connection {
+    // Puts a message after what waits.
+    fn queue(&mut self, message: &Message) -> Result<(), AllocError>
+        ensures ok { OnOk result (self.new
+            ≡ record self.old { link = with_sent (message.now ∷ []) self.old.link }) }
+        ensures err { OnErr result (self.new ≡ self.old) }
+    {
+        if self.link.queue_own(message).is_err() {
+            return Err(AllocError);
+        }
+        Ok(())
+    }
+}

@@ -1,0 +1,12 @@
+pub mod Live
+pub mod Grows
+pub mod Ways
+pub mod Calls
+pub mod Ends
+pub mod Servers
+pub mod Served
+pub mod Hearing
+pub mod Clients
+pub mod Stepping
+pub mod Making
+pub mod Joint

@@ -1,0 +1,25 @@
+-- What every event keeps of a world.
+use Rattle.std.proofs.Common.{◌≡◌, ℕ, List, Result, Ok, Err, sym, subst}
+use Rattle.std.specs.Prelude.{map}
+use Rattle.ca_text.specs.declared.refusal.Refusal.{Refusal}
+use Rattle.ca_text.specs.declared.refusal.Refusal.TheVariants.{BadEvent, OutOfMemory}
+use Rattle.ca_model_world.specs.Events.{Event}
+use Rattle.ca_model_world.specs.World.{World}
+use Rattle.ca_laws_runs.specs.Clients.{ClientsStand}
+use Rattle.ca_laws_runs.proofs.Events.{stands-happens}
+use Rattle.ca_world.specs.declared.world.World.TheInside.{Inside}
+use Rattle.ca_world.specs.Does.{Does}
+use Rattle.ca_world.specs.Indexed.{AreIndexed, Stands, client_numbers, server_numbers}
+use Rattle.ca_world.specs.Seen.{joined_of, seen}
+
+-- clients stand still
+pub stand-by : (w new : World) (e : Event) (r : Result (Unit {0}) Refusal) → Does w e r new → ClientsStand w → ClientsStand new
+stand-by w new e (Ok u) d s = stands-happens w new e s d
+stand-by w new e (Err OutOfMemory) d s = subst (λ (v : World). ClientsStand v) (sym d.1) s
+stand-by w new e (Err BadEvent) d s = subst (λ (v : World). ClientsStand v) (sym d.1) s
+stand-by w new e (Err _) d s = absurd d
+
+-- all of it does, if circuits are found still
+pub all-stand : (w new : Inside) (e : Event) (r : Result (Unit {0}) Refusal) → Does (seen w) e r (seen new) → Stands w
+    → AreIndexed (client_numbers new.clients.items) (server_numbers new.servers.items) (map joined_of new.circuits.items) → Stands new
+all-stand w new e r d s indexed = record { indexed = indexed; clients = stand-by (seen w) (seen new) e r d s.clients }

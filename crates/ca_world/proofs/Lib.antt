@@ -1,0 +1,11 @@
+pub mod Worlds
+pub mod Ups
+pub mod Calls
+pub mod Openings
+pub mod Indexes
+pub mod Sendings
+pub mod Speeches
+pub mod Lasting
+pub mod Rooms
+pub mod Askings
+pub mod Finding

@@ -1,0 +1,12 @@
+pub mod Settings
+pub mod Seen
+pub mod Does
+pub mod Ends
+pub mod Ups
+pub mod Logs
+pub mod Opens
+pub mod Opening
+pub mod Indexed
+pub mod Found
+pub mod Speaking
+pub mod Reads

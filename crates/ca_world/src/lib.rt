@@ -1,0 +1,25 @@
+//! A world of clients, servers and their circuits, run event by event over the real cores and their bytes. It keeps the
+//! histories of the circuits, and the logs of all lives, beside the cores.
+//!
+//! It is not complete: not all events are there yet.
+#![tactic(auto)]
+
+mod client;
+mod config;
+mod ends;
+mod found;
+mod history;
+mod joined;
+mod logs;
+mod opening;
+mod opens;
+mod read;
+mod server;
+mod server_datagram;
+mod up;
+mod way;
+mod world;
+
+pub use config::{ClientSetting, Config, RuleSetting, ServerSetting};
+pub use history::{Ask, Cause, Entry, Intent, Kind, Line, Recorded, Sent, Step, Stored, Told};
+pub use world::World;

@@ -1,0 +1,27 @@
+ghost use Rattle.ca_model_world.specs.Events as event;
+ghost use Rattle.ca_world.specs.Does.{Does};
+
+use crate::world::World;
+use ca_client_core::Address;
+use ca_text::Refusal;
+
+impl World {
+    /// A datagram from this address comes to a server, which answers it and is as it was.
+    pub fn server_datagram(
+        &mut self,
+        server: usize,
+        from: Address,
+        bytes: &[u8],
+    ) -> Result<(), Refusal>
+        ensures { Does self.old (event.ServerDatagram server from bytes.now) result self.new }
+    {
+        let _from = from;
+        if server >= self.servers.len() {
+            return Err(Refusal::BadEvent);
+        }
+        let Ok(_answers) = self.servers[server].core.datagram(bytes) else {
+            return Err(Refusal::OutOfMemory);
+        };
+        Ok(())
+    }
+}
