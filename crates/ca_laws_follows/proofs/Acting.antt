@@ -1,10 +1,10 @@
 -- On which record a message acted does not change as the lists of its circuit and the log of its server grow.
-use Rattle.std.proofs.Common.{◌≡◌, ℕ, zero, suc, ◌<◌, ◌≤◌, inl, inr, List, [], ◌∷◌, ◌++◌, length, refl, sym, ap, subst, ◌∙◌, append-nil, append_assoc, arith}
+use Rattle.std.proofs.Common.{◌≡◌, ℕ, zero, suc, ◌<◌, ◌≤◌, inl, inr, List, [], ◌∷◌, ◌++◌, length, sym, ap, subst, ◌∙◌, append-nil, append_assoc, arith}
 use Rattle.std.specs.Prelude.{take}
 use Rattle.ca_text.specs.Place.{At}
 use Rattle.ca_text.proofs.Places.{At-one, At-or, At-within}
-use Rattle.ca_model.specs.History.{Circuit, Entry, Sent, Step, Told}
-use Rattle.ca_model.specs.Speech.{Clears, Creates, name_in, sid_in}
+use Rattle.ca_model.specs.History.{Circuit, Entry, Sent, Step}
+use Rattle.ca_model.specs.Speech.{name_in, sid_in}
 use Rattle.ca_model_safe.specs.Channels.{Has, IsOpen, before}
 use Rattle.ca_model_safe.specs.Headline.{Acted}
 use Rattle.ca_laws_writes.proofs.Lists.{At-take, none_at, take-front}
@@ -77,23 +77,30 @@ longer-taken n y z longer le = ap (λ (l : List Entry). take n l) longer.1 ∙ t
 -- ---- on which record a message acted
 
 pub acted-back : (c d : Circuit) (y z : List Entry) (k r : ℕ) (s : Sent) (h : Step) → Extends c d → IsLonger y z → At c.up k s → At c.handled k h → h.sent ≤ length c.down → h.logged ≤ length y → Acted d z k r → Acted c y k r
-acted-back c d y z k r s h ext longer at_s at_h sent logged a =
-    (s, h, a.2, a.3, at_s, at_h, (
-      (
-        was.0.0,
-        was.0.1,
-        was.0.2,
-        taken-back h.sent c.down d.down ext.down sent a.2 was.0.0 was.0.3,
-        was.0.4,
-        was.0.5,
-        was.0.6,
-        taken-back k c.up d.up ext.up up_le a.3 was.0.1 was.0.7,
-        taken-back k c.handled d.handled ext.handled handled_le a.3 was.0.2 was.0.8,
-        subst (λ (l : List Entry). Has (take (was.0.2).logged l) r (name_in (was.0.1).message)) (longer-taken h.logged y z longer logged) was.0.9,
-      ),
-      λ i t lt at creates. was.1 i t lt (taken-on h.sent c.down d.down ext.down i t at) creates,
-      λ l q lt within at clears. was.2 l q lt (grows-length (take k c.handled) (take k d.handled) (taken-on k c.handled d.handled ext.handled) l within) (taken-on k c.up d.up ext.up l q at) clears,
-    ))
+acted-back c d y z k r s h ext longer at_s at_h sent logged a = (
+  s,
+  h,
+  a.2,
+  a.3,
+  at_s,
+  at_h,
+  (
+    (
+      was.0.0,
+      was.0.1,
+      was.0.2,
+      taken-back h.sent c.down d.down ext.down sent a.2 was.0.0 was.0.3,
+      was.0.4,
+      was.0.5,
+      was.0.6,
+      taken-back k c.up d.up ext.up up_le a.3 was.0.1 was.0.7,
+      taken-back k c.handled d.handled ext.handled handled_le a.3 was.0.2 was.0.8,
+      subst (λ (l : List Entry). Has (take (was.0.2).logged l) r (name_in (was.0.1).message)) (longer-taken h.logged y z longer logged) was.0.9,
+    ),
+    λ i t lt at creates. was.1 i t lt (taken-on h.sent c.down d.down ext.down i t at) creates,
+    λ l q lt within at clears. was.2 l q lt (grows-length (take k c.handled) (take k d.handled) (taken-on k c.handled d.handled ext.handled) l within) (taken-on k c.up d.up ext.up l q at) clears,
+  ),
+)
   where
     same_s : a.0 ≡ s
     same_s = At-one d.up k a.0 s a.4 (ext.up k s at_s)

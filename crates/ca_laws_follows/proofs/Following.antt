@@ -1,6 +1,6 @@
 -- From what is known of a circuit, the statement's clause of updates: of each EVENT_ADD that was accepted, also one whose subscription or
 -- circuit has ended.
-use Rattle.std.proofs.Common.{◌≡◌, ℕ, zero, suc, ◌<◌, ◌⊎◌, inl, inr, Bool, true, false, List, [], ◌∷◌, ◌++◌, length, refl, sym, ap, subst, ◌∙◌, arith}
+use Rattle.std.proofs.Common.{◌≡◌, ℕ, inl, inr, Bool, true, false, List, ◌++◌, refl, sym, ap, subst, ◌∙◌}
 use Rattle.std.specs.Prelude.{map}
 use Rattle.ca_queue.specs.declared.entry.SubKey.{SubKey}
 use Rattle.ca_queue.specs.Queue.{Queue}
@@ -11,16 +11,15 @@ use Rattle.ca_text.proofs.Places.{At-mapped, At-one, At-parts, At-within}
 use Rattle.ca_wire.specs.Messages.{mask_in}
 use Rattle.ca_model.specs.History.{Cause, Entry, Intent, Line, Sent, Step, Told, Update}
 use Rattle.ca_model.specs.Server.{ServerEnd}
-use Rattle.ca_model.specs.ServerSteps.{HasEnd}
 use Rattle.ca_model.specs.Speech.{In, Is, Stored}
 use Rattle.ca_model.specs.Updates.{Shows}
-use Rattle.ca_model_safe.specs.Channels.{Asks, Lasts, Suits}
+use Rattle.ca_model_safe.specs.Channels.{Lasts, Suits}
 use Rattle.ca_model_safe.specs.Headline.{Accepted, Acted}
 use Rattle.ca_model_safe.specs.Headline as headline
 use Rattle.ca_model_safe.specs.Known.{IsDue}
 use Rattle.ca_model_safe.specs.Posts.{matching}
 use Rattle.ca_model_world.specs.ServerEvents.{number_of}
-use Rattle.ca_model_world.specs.World.{Joined, RecordSide, ServerSide, Standing, World, circuit_of, port_of, rules_of, waiting_in}
+use Rattle.ca_model_world.specs.World.{Joined, RecordSide, World, circuit_of, port_of, rules_of, waiting_in}
 use Rattle.ca_laws_kept.specs.Numbers.{AllNumbers, HaveNumbers}
 use Rattle.ca_laws_writes.specs.Agrees.{AreOthers}
 use Rattle.ca_laws_writes.specs.Moves.{Writes}
@@ -32,7 +31,7 @@ use Rattle.ca_laws_posts.specs.Follows.{Follows}
 use Rattle.ca_laws_posts.proofs.Clause.{clause-of}
 use Rattle.ca_laws_posts.proofs.Logged.{AllEnds}
 use Rattle.ca_laws_follows.specs.Known.{IsStanding, KnownOn}
-use Rattle.ca_laws_follows.specs.Record.{AllFollowRecord, CircuitFollows}
+use Rattle.ca_laws_follows.specs.Record.{AllFollowRecord}
 use Rattle.ca_laws_follows.specs.Sent.{AllSent, SentOn}
 use Rattle.ca_laws_follows.proofs.Keeping.{KnownAt}
 use Rattle.ca_laws_follows.proofs.Standing.{IsOf, number-is, standing-or, sub-of}

@@ -1,11 +1,11 @@
 -- What is known of the EVENT_ADDs of an open end stays so as a message is handled.
-use Rattle.std.proofs.Common.{◌≡◌, ℕ, zero, suc, ◌+◌, ◌<◌, ◌≤◌, ◌⊎◌, inl, inr, Bool, true, false, cond, not, eqb, eq-eqb, eqb-true, List, [], ◌∷◌, ◌++◌, length, Option, Some, None, refl, sym, ap, subst, ◌∙◌, arith}
-use Rattle.std.specs.Prelude.{filter, map, option_map, take, unwrap_or}
+use Rattle.std.proofs.Common.{◌≡◌, ℕ, zero, suc, ◌+◌, ◌<◌, ◌≤◌, ◌⊎◌, inl, inr, Bool, true, false, cond, not, eqb, eqb-true, List, [], ◌∷◌, ◌++◌, length, Option, Some, None, refl, sym, ap, subst, ◌∙◌, arith}
+use Rattle.std.specs.Prelude.{filter, option_map, take, unwrap_or}
 use Rattle.ca_arena.specs.declared.handle.Handle.{Handle}
 use Rattle.ca_dbr.specs.Elements.{Elements}
-use Rattle.ca_ids.specs.Table.{Table, by_wire, held, under, with_freed, with_held}
+use Rattle.ca_ids.specs.Table.{Table, by_wire, held, under, with_freed}
 use Rattle.ca_ids.specs.Wire.{wire_of}
-use Rattle.ca_model_client.proofs.Tables.{freed-back, freed-few, held-back, held-few, held-under, under-wire, wire-under}
+use Rattle.ca_model_client.proofs.Tables.{freed-back, freed-few, held-back, held-few, held-under, under-wire}
 use Rattle.ca_queue.specs.declared.entry.SubKey.{SubKey}
 use Rattle.ca_queue.specs.Keys.{same}
 use Rattle.ca_queue.proofs.Keys.{same_is}
@@ -20,7 +20,7 @@ use Rattle.ca_model.specs.Ends.{Peer}
 use Rattle.ca_model.specs.History.{Circuit, Entry, Reply, Sent, Step, Told}
 use Rattle.ca_model.specs.Server.{OpenChannel, Server, ServerEnd, Subscription, key_of}
 use Rattle.ca_model.specs.ServerSteps.{Acts, known_channel, knows, without_channel}
-use Rattle.ca_model.specs.Speech.{Clears as IsClear, Creates, Ends, In, Is, name_in, sid_in}
+use Rattle.ca_model.specs.Speech.{Creates, Ends, In, Is, name_in, sid_in}
 use Rattle.ca_model_safe.specs.Channels.{Has, IsOpen, before}
 use Rattle.ca_model_safe.specs.Headline.{Acted}
 use Rattle.ca_model_world.specs.ServerEvents.{about, handled_at, numbers_after}
@@ -35,8 +35,8 @@ use Rattle.ca_laws_writes.proofs.Moves.{same-or}
 use Rattle.ca_laws_posts.specs.Entries.{titles}
 use Rattle.ca_laws_follows.specs.Known.{IsOnRecord, IsOrigin, IsOver, IsRefused, IsStanding, IsWithin, KnownOn}
 use Rattle.ca_laws_follows.specs.Listed.{IsListed}
-use Rattle.ca_laws_follows.proofs.Acting.{Extends, IsLonger, grown-back, longer-self, taken-at}
-use Rattle.ca_laws_follows.proofs.Known.{extends-self, grows-le, on-record-on, origin-on, over-on, within-on}
+use Rattle.ca_laws_follows.proofs.Acting.{Extends, grown-back, longer-self, taken-at}
+use Rattle.ca_laws_follows.proofs.Known.{grows-le, on-record-on, origin-on, over-on, within-on}
 
 -- ---- what is due
 
@@ -193,6 +193,7 @@ module _ (log : List Entry) (rs : List RecordSide) (e new : ServerEnd) (s : Sent
     ];
     subs = subs;
   }
+
   -- a reply refused it
   refused-here : (r : Fields) → replies ≡ r ∷ [] → IsRefused d.lists place
   refused-here r is =

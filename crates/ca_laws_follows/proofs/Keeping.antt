@@ -1,20 +1,18 @@
 -- What is known of the EVENT_ADDs of open ends, beside the posts that subscriptions see, stays so over every event.
-use Rattle.std.proofs.Common.{◌≡◌, ℕ, ◌≤◌, List, [], ◌∷◌, ◌++◌, length, Some, None, refl, sym, ap, subst, ◌∙◌, arith}
+use Rattle.std.proofs.Common.{◌≡◌, ℕ, ◌≤◌, List, [], ◌∷◌, ◌++◌, length, sym, ap, subst, arith}
 use Rattle.std.specs.Prelude.{option_map, slice_get, slice_set, unwrap_or}
-use Rattle.ca_arena.specs.declared.handle.Handle.{Handle}
-use Rattle.ca_ids.specs.Table.{Table, under}
 use Rattle.ca_model_client.proofs.Tables.{place, under-at}
 use Rattle.ca_queue.specs.Queue.{Queue, with_front_taken}
 use Rattle.ca_text.specs.Limits.{arena_slots}
 use Rattle.ca_text.specs.Place.{At}
 use Rattle.ca_text.proofs.Places.{At-append}
-use Rattle.ca_model.specs.History.{Cause, Entry, Reply, Sent, Step, Told}
-use Rattle.ca_model.specs.Server.{OpenChannel, ServerEnd, Subscription, new_end}
+use Rattle.ca_model.specs.History.{Cause, Entry, Reply, Step, Told}
+use Rattle.ca_model.specs.Server.{ServerEnd, new_end}
 use Rattle.ca_model.specs.ServerSteps.{Update}
 use Rattle.ca_model_world.specs.Events.{Event}
 use Rattle.ca_model_world.specs.Runs.{Happens}
 use Rattle.ca_model_world.specs.ServerEvents.{front_number, stamped}
-use Rattle.ca_model_world.specs.World.{Joined, RecordSide, ServerSide, Setting, Standing, World}
+use Rattle.ca_model_world.specs.World.{Joined, RecordSide, Setting, Standing, World}
 use Rattle.ca_laws_sids.specs.Created.{AllCreated}
 use Rattle.ca_laws_steps.specs.Creations.{AllCreations}
 use Rattle.ca_laws_writes.specs.Both.{Both}

@@ -1,5 +1,5 @@
 -- What is known of the EVENT_ADDs of an open end stays so as its circuit, its records and the log of its server go on.
-use Rattle.std.proofs.Common.{◌≡◌, ℕ, zero, suc, ◌+◌, ◌<◌, ◌≤◌, ◌⊎◌, inl, inr, Bool, true, false, cond, not, ◌&&◌, ◌||◌, eqb, eq-eqb, eqb-true, List, [], ◌∷◌, ◌++◌, length, Option, Some, refl, sym, ap, subst, ◌∙◌, arith}
+use Rattle.std.proofs.Common.{◌≡◌, ℕ, zero, suc, ◌+◌, ◌<◌, ◌≤◌, ◌⊎◌, inl, inr, Bool, true, false, cond, not, ◌&&◌, ◌||◌, eqb, eq-eqb, eqb-true, List, [], ◌∷◌, ◌++◌, length, Some, refl, sym, ap, subst, ◌∙◌, arith}
 use Rattle.std.specs.Prelude.{drop, filter, map, take}
 use Rattle.std.specs.List.{FoldsTo, flat_map, fold, list_any}
 use Rattle.std.specs.Str.{bytes_eq}
@@ -13,13 +13,13 @@ use Rattle.ca_queue.specs.Keys.{same}
 use Rattle.ca_records.specs.Record.{RecordState}
 use Rattle.ca_text.specs.Limits.{arena_slots}
 use Rattle.ca_text.specs.Place.{At}
-use Rattle.ca_text.proofs.Places.{some_is, At-after, At-append, At-map, At-mapped, At-or, At-within}
+use Rattle.ca_text.proofs.Places.{some_is, At-after, At-append, At-map, At-within}
 use Rattle.ca_wire.specs.Fields.{Fields}
 use Rattle.ca_model.specs.History.{Added, Circuit, Entry, Removed, Reply, Sent, Step, Told, Withdrawn}
 use Rattle.ca_model.specs.Server.{OpenChannel, ServerEnd, Subscription, concerns, key_of, with_post}
 use Rattle.ca_model.specs.ServerCalls.{channels_of, end_without, is_on, retired}
 use Rattle.ca_model.specs.ServerSteps.{Leaves, Update}
-use Rattle.ca_model.specs.Speech.{In, Stored, name_in}
+use Rattle.ca_model.specs.Speech.{In, Stored}
 use Rattle.ca_model_safe.specs.Channels.{Has}
 use Rattle.ca_model_safe.specs.Headline.{Acted}
 use Rattle.ca_model_world.specs.ServerEvents.{about, removal_entries, removal_told, stamped, with_number}
@@ -35,7 +35,7 @@ use Rattle.ca_laws_posts.specs.Entries.{title, titles}
 use Rattle.ca_laws_posts.specs.Follows.{Follows, Stands}
 use Rattle.ca_laws_posts.proofs.Counting.{both-right}
 use Rattle.ca_laws_posts.proofs.Following.{in-more, length-more, other-bytes, same-bytes, titled}
-use Rattle.ca_laws_follows.specs.Known.{IsOnRecord, IsOrigin, IsOver, IsRefused, IsStanding, IsWithin, KnownOn}
+use Rattle.ca_laws_follows.specs.Known.{IsOnRecord, IsOrigin, IsOver, IsStanding, IsWithin, KnownOn}
 use Rattle.ca_laws_follows.proofs.Acting.{Extends, Grows, IsLonger, acted-back, grown-back, grows-length, longer-self, longer-taken}
 
 -- ---- lengths

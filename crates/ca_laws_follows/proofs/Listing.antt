@@ -1,12 +1,11 @@
 -- Each record that the log of a server's life added, and did not remove, is there, over every event.
-use Rattle.std.proofs.Common.{◌≡◌, ℕ, zero, suc, ◌+◌, ◌<◌, ◌⊎◌, inl, inr, Bool, true, false, not, List, [], ◌∷◌, ◌++◌, length, Option, Some, None, refl, sym, ap, subst, ◌∙◌, arith}
+use Rattle.std.proofs.Common.{◌≡◌, ℕ, zero, suc, ◌+◌, ◌<◌, ◌⊎◌, inl, inr, Bool, not, List, [], ◌∷◌, ◌++◌, length, Option, Some, None, refl, sym, ap, subst, ◌∙◌, arith}
 use Rattle.std.specs.Prelude.{drop, filter, map, option_map, slice_get, slice_set, take, unwrap_or}
 use Rattle.std.specs.List.{flat_map}
 use Rattle.std.specs.Str.{bytes_eq}
-use Rattle.std.proofs.lemmas.Slice.Eq.{bytes_eq-Decides}
 use Rattle.ca_arena.specs.declared.handle.Handle.{Handle}
 use Rattle.ca_dbr.specs.Elements.{Elements}
-use Rattle.ca_records.specs.Puts.{Record, WaitingPut}
+use Rattle.ca_records.specs.Puts.{WaitingPut}
 use Rattle.ca_records.specs.Record.{RecordState, unset}
 use Rattle.ca_text.specs.Place.{At}
 use Rattle.ca_text.proofs.Places.{some_is, At-append, At-map, At-mapped, At-one, At-parts, At-set, At-snoc, At-within}
@@ -14,18 +13,18 @@ use Rattle.ca_wire.specs.Fields.{Fields}
 use Rattle.ca_model.specs.Due.{Action, Applies}
 use Rattle.ca_model.specs.Due as action
 use Rattle.ca_model.specs.Ends as why
-use Rattle.ca_model.specs.History.{Added, Applied, Collected, Entry, Finished, GaveUp, Posted, Removed, Withdrawn}
+use Rattle.ca_model.specs.History.{Added, Applied, Collected, Entry, GaveUp, Removed, Withdrawn}
 use Rattle.ca_model.specs.Server.{Server}
 use Rattle.ca_model.specs.ServerSteps.{Stepped, closed, is_write, stored_now}
 use Rattle.ca_model.specs.ServerSteps as stepped
 use Rattle.ca_model.specs.Speech.{In}
-use Rattle.ca_model_world.specs.ClientEvents.{DownTaken, HappensAccept, HappensDown, HappensUp, WantsFirst, up_taken}
+use Rattle.ca_model_world.specs.ClientEvents.{DownTaken, up_taken}
 use Rattle.ca_model_world.specs.Events.{Event}
 use Rattle.ca_model_world.specs.Events as event
 use Rattle.ca_model_world.specs.Runs.{CanBe, Happens, Leaves, clients_below}
 use Rattle.ca_model_world.specs.ServerEvents.{HappensAdd, HappensFinish, HappensPost, HappensRemove, HappensServerRestart, ServerStepped, StepHandles, StepLacks, acted, ends_at, ends_by, ends_here, finish_entry, first_of, handled_at, logged_by, next_busy, next_entries, noted, posted_entry, records_after, removal_entries, replied_at, server_after, side_of, unsaid, withdrawals, without_puts}
 use Rattle.ca_model_world.specs.ServerEvents as server
-use Rattle.ca_model_world.specs.World.{ClientSide, Joined, PutPlace, RecordSide, ServerSide, ServerSetting, Setting, World, grown, log_begun, numbered, opening, record_begun, server_begun, with_circuit, with_entries, with_server}
+use Rattle.ca_model_world.specs.World.{Joined, PutPlace, RecordSide, ServerSide, ServerSetting, Setting, World, grown, log_begun, numbered, opening, record_begun, server_begun, with_circuit, with_entries, with_server}
 use Rattle.ca_laws_writes.specs.Agrees.{Agrees}
 use Rattle.ca_laws_writes.specs.Both.{Both}
 use Rattle.ca_laws_writes.specs.Lives.{IsPutOf}
@@ -33,11 +32,11 @@ use Rattle.ca_laws_writes.specs.Moves.{Writes, finish_told, post_told, removal_t
 use Rattle.ca_laws_writes.proofs.Events.{numbered-at}
 use Rattle.ca_laws_writes.proofs.Every.{ticks-frame}
 use Rattle.ca_laws_writes.proofs.Frames.{Frame}
-use Rattle.ca_laws_writes.proofs.HappensClient.{begun-frame, clear-frame, cut-frame, datagram-frame, handing-frame, hear-frame, left-frame, open-frame, put-frame, read-frame, sent-frame, subscribe-frame, unsubscribe-frame, up-frame, write-frame}
+use Rattle.ca_laws_writes.proofs.HappensClient.{begun-frame, clear-frame, cut-frame, datagram-frame, handing-frame, hear-frame, open-frame, put-frame, read-frame, subscribe-frame, unsubscribe-frame, up-frame, write-frame}
 use Rattle.ca_laws_writes.proofs.LastingStep.{told-servers}
 use Rattle.ca_laws_writes.proofs.Lists.{kept-in, none_at}
 use Rattle.ca_laws_writes.proofs.Midway.{grown-here, set-here}
-use Rattle.ca_laws_posts.specs.Entries.{AreQuiet, IsQuiet, title, titles}
+use Rattle.ca_laws_posts.specs.Entries.{AreQuiet, title, titles}
 use Rattle.ca_laws_posts.proofs.Following.{in-more, other-bytes, titled}
 use Rattle.ca_laws_posts.proofs.Logged.{titles-kept, withdrawn-quiet}
 use Rattle.ca_laws_posts.proofs.LoggedStep.{logs-quiet, told-logs, with-record-titles, write-titles}

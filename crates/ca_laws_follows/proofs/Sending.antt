@@ -1,5 +1,5 @@
 -- The updates that were sent on a circuit stay as they were over every event, but that more leave their queues; and each shows its post.
-use Rattle.std.proofs.Common.{◌≡◌, ℕ, zero, suc, ◌<◌, ◌≤◌, ◌⊎◌, inl, inr, Bool, true, false, cond, ◌&&◌, eqb, not, List, [], ◌∷◌, ◌++◌, length, Option, Some, None, refl, sym, ap, subst, ◌∙◌, append-nil, append_assoc, arith}
+use Rattle.std.proofs.Common.{◌≡◌, ℕ, ◌≤◌, ◌⊎◌, inl, inr, Bool, true, false, cond, ◌&&◌, eqb, not, List, [], ◌∷◌, ◌++◌, length, Option, Some, None, refl, sym, ap, subst, ◌∙◌}
 use Rattle.std.specs.Prelude.{drop, filter, filter_map, map, option_map, slice_get, slice_set, unwrap_or}
 use Rattle.std.specs.List.{fold, list_any}
 use Rattle.ca_arena.specs.declared.handle.Handle.{Handle}
@@ -8,48 +8,41 @@ use Rattle.ca_ids.specs.Table.{under}
 use Rattle.ca_ids.specs.Wire.{wire_of}
 use Rattle.std.specs.Str.{bytes_eq}
 use Rattle.ca_queue.specs.declared.entry.SubKey.{SubKey}
-use Rattle.ca_queue.specs.Queue.{Queue, with_front_taken}
 use Rattle.ca_records.specs.Puts.{WaitingPut}
 use Rattle.ca_records.specs.Record.{RecordState, unset}
 use Rattle.ca_text.specs.Place.{At}
-use Rattle.ca_text.proofs.Places.{At-append, At-map, At-mapped, At-one, At-parts, At-set, At-snoc}
+use Rattle.ca_text.proofs.Places.{At-append, At-mapped, At-parts, At-set, At-snoc}
 use Rattle.ca_wire.specs.Fields.{Fields}
 use Rattle.ca_wire.specs.Messages.{mask_in}
 use Rattle.ca_model.specs.Answers.{Closing}
 use Rattle.ca_model.specs.Due.{Action, Applies}
 use Rattle.ca_model.specs.Due as action
 use Rattle.ca_model.specs.Ends as why
-use Rattle.ca_model.specs.History.{Cause, Circuit, Collected, Entry, GaveUp, Removal, Reply, Sent, Step, Told, Update}
-use Rattle.ca_model.specs.Server.{OpenChannel, Server, ServerEnd}
+use Rattle.ca_model.specs.History.{Cause, Circuit, Collected, Entry, GaveUp, Removal, Reply, Step, Told, Update}
+use Rattle.ca_model.specs.Server.{OpenChannel, Server}
 use Rattle.ca_model.specs.ServerSteps.{Stepped, closed}
 use Rattle.ca_model.specs.ServerSteps as stepped
-use Rattle.ca_model.specs.Speech.{In, Stored, share_bit}
-use Rattle.ca_model_safe.specs.Headline.{Acted}
+use Rattle.ca_model.specs.Speech.{Stored, share_bit}
 use Rattle.ca_model_safe.specs.Posts.{matching, post_in}
-use Rattle.ca_model_world.specs.ClientEvents.{DownTaken, HappensAccept, HappensDown, HappensUp, WantsFirst, connected_as, new_circuit, up_taken}
+use Rattle.ca_model_world.specs.ClientEvents.{DownTaken, HappensAccept, HappensDown, WantsFirst, connected_as, new_circuit, up_taken}
 use Rattle.ca_model_world.specs.Events.{Event}
 use Rattle.ca_model_world.specs.Events as event
 use Rattle.ca_model_world.specs.Runs.{CanBe, Happens, Leaves as LeavesBy, clients_below}
 use Rattle.ca_model_world.specs.ServerEvents.{HappensAdd, HappensFinish, HappensPost, HappensPump, HappensRemove, ServerStepped, StepHandles, about, acted, disconnected_at, ending, ends_by, ends_here, front_number, handled_at, keys_concerned, next_numbers, noted, numbers_after, numbers_posted, removal_told, removed_at, replied_at, server_after, server_closed, side_of, stamped, unsaid, with_number, without_standing, write_numbers}
 use Rattle.ca_model_world.specs.ServerEvents as server
 use Rattle.ca_model_world.specs.World.{ClientSide, Joined, RecordSide, ServerSide, World, with_circuit}
-use Rattle.ca_laws_kept.specs.Later.{stamped_told}
-use Rattle.ca_laws_kept.proofs.Since.{stamped-parts}
-use Rattle.ca_laws_runs.proofs.Handled.{numbers-like, writes-like}
+use Rattle.ca_laws_runs.proofs.Handled.{numbers-like}
 use Rattle.ca_laws_writes.specs.Moves.{finish_told, post_told}
 use Rattle.ca_laws_writes.specs.Moves as moves
 use Rattle.ca_laws_writes.proofs.Every.{ticks-frame}
 use Rattle.ca_laws_writes.proofs.Frames.{Frame, Goes}
-use Rattle.ca_laws_writes.proofs.HappensClient.{begun-frame, clear-frame, cut-frame, datagram-frame, handing-frame, hear-frame, left-frame, open-frame, put-frame, read-frame, sent-frame, subscribe-frame, unsubscribe-frame, up-frame, write-frame}
+use Rattle.ca_laws_writes.proofs.HappensClient.{begun-frame, clear-frame, cut-frame, datagram-frame, handing-frame, hear-frame, open-frame, put-frame, read-frame, sent-frame, subscribe-frame, unsubscribe-frame, up-frame, write-frame}
 use Rattle.ca_laws_writes.proofs.Lasting.{told_late}
 use Rattle.ca_laws_writes.proofs.LastingStep.{replied-back}
 use Rattle.ca_laws_writes.proofs.Lists.{none_at}
-use Rattle.ca_laws_writes.proofs.Midway.{set-here}
-use Rattle.ca_laws_writes.proofs.Moves.{same-or}
 use Rattle.ca_laws_posts.proofs.Following.{matching-more}
-use Rattle.ca_laws_follows.specs.Known.{IsWithin}
 use Rattle.ca_laws_follows.specs.Sent.{IsShown, SentOn}
-use Rattle.ca_laws_follows.proofs.Acting.{Extends, Grows, IsLonger, acted-back, extends-then}
+use Rattle.ca_laws_follows.proofs.Acting.{Extends, IsLonger, acted-back, extends-then}
 use Rattle.ca_laws_follows.proofs.Known.{extends-self, within-on}
 
 -- ---- a circuit from one world to the next

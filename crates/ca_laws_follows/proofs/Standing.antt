@@ -1,5 +1,5 @@
 -- The updates of a subscription that stands show their posts; and so it is as updates leave their queues.
-use Rattle.std.proofs.Common.{◌≡◌, ℕ, zero, suc, ◌<◌, ◌⊎◌, inl, inr, Bool, true, false, List, [], ◌∷◌, ◌++◌, length, Option, refl, sym, ap, subst, ◌∙◌, append-nil, append_assoc, arith}
+use Rattle.std.proofs.Common.{◌≡◌, ℕ, zero, suc, ◌<◌, ◌⊎◌, inl, inr, Bool, true, false, List, [], ◌∷◌, ◌++◌, refl, sym, ap, subst, ◌∙◌, append-nil, append_assoc}
 use Rattle.std.specs.Prelude.{map, option_map, slice_get, slice_set, unwrap_or}
 use Rattle.std.specs.List.{FoldsTo}
 use Rattle.ca_queue.specs.Queue.{Queue, with_front_taken}
@@ -12,12 +12,12 @@ use Rattle.ca_model.specs.Server.{ServerEnd, Subscription}
 use Rattle.ca_model.specs.ServerSteps.{Leaves}
 use Rattle.ca_model.specs.ServerSteps as stepped
 use Rattle.ca_model.specs.Speech.{In, Stored}
-use Rattle.ca_model.specs.Updates.{Shows, ShowsTo}
+use Rattle.ca_model.specs.Updates.{ShowsTo}
 use Rattle.ca_model_safe.specs.Headline as headline
 use Rattle.ca_model_safe.specs.Known.{IsDue}
 use Rattle.ca_model_safe.specs.Posts.{matching}
 use Rattle.ca_model_world.specs.ServerEvents.{front_number, number_of, stamped}
-use Rattle.ca_model_world.specs.World.{Joined, RecordSide, Standing, circuit_of, waiting_in}
+use Rattle.ca_model_world.specs.World.{Joined, RecordSide, Standing, waiting_in}
 use Rattle.ca_laws_kept.specs.Later.{stamped_told}
 use Rattle.ca_laws_kept.specs.Messages.{Messages}
 use Rattle.ca_laws_kept.specs.Numbers.{HaveNumbers}
@@ -36,7 +36,7 @@ use Rattle.ca_laws_posts.proofs.Following.{logged-is, titled}
 use Rattle.ca_laws_follows.specs.Known.{IsOnRecord, IsStanding, KnownOn}
 use Rattle.ca_laws_follows.specs.Sent.{IsShown, SentOn}
 use Rattle.ca_laws_follows.proofs.Acting.{Extends, longer-self}
-use Rattle.ca_laws_follows.proofs.Keeping.{KnownAt, known-lasting, stamped-down}
+use Rattle.ca_laws_follows.proofs.Keeping.{KnownAt, known-lasting}
 use Rattle.ca_laws_follows.proofs.Sending.{shown-on}
 
 -- the record of a name has its number

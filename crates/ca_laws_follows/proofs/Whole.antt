@@ -1,12 +1,10 @@
 -- After every run the updates of each accepted EVENT_ADD follow its record.
-use Rattle.std.proofs.Common.{◌≡◌, ℕ, zero, suc, ◌⊎◌, inl, inr, true, false, List, [], ◌∷◌, ◌++◌, length, Option, Some, None, refl, sym, ap, subst, ◌∙◌, append_assoc, append-nil}
+use Rattle.std.proofs.Common.{◌≡◌, ℕ, ◌⊎◌, inl, inr, true, List, [], ◌∷◌, ◌++◌, length, Option, Some, None, refl, sym, ap, subst, ◌∙◌}
 use Rattle.std.specs.List.{FoldsTo}
-use Rattle.std.specs.Prelude.{map}
 use Rattle.ca_text.specs.Place.{At}
 use Rattle.ca_text.proofs.Places.{At-mapped, At-one, At-set}
-use Rattle.ca_model.specs.History.{Circuit, Collected, Entry, GaveUp}
-use Rattle.ca_model.specs.Server.{ServerEnd}
-use Rattle.ca_model.specs.ServerSteps.{HasEnd, Pumps, Update}
+use Rattle.ca_model.specs.History.{Collected, Entry, GaveUp}
+use Rattle.ca_model.specs.ServerSteps.{Pumps, Update}
 use Rattle.ca_model_world.specs.Events.{Event}
 use Rattle.ca_model_world.specs.Events as event
 use Rattle.ca_model_world.specs.Runs.{CanBe, Happens, Leaves, Runs, StopsAt, clients_below}
@@ -18,15 +16,14 @@ use Rattle.ca_laws_steps.specs.Worlds.{ServersStand}
 use Rattle.ca_laws_steps.proofs.Creations.{reached-creations}
 use Rattle.ca_laws_steps.proofs.Whole.{run-serves, takes-next}
 use Rattle.ca_laws_writes.specs.Says.{AreNumbered}
-use Rattle.ca_laws_writes.specs.Seats.{Sound, TakesSent, WithinLogs}
+use Rattle.ca_laws_writes.specs.Seats.{Sound, TakesSent}
 use Rattle.ca_laws_writes.proofs.Every.{ticks-frame}
-use Rattle.ca_laws_writes.proofs.Frames.{Frame, frame-self}
+use Rattle.ca_laws_writes.proofs.Frames.{Frame}
 use Rattle.ca_laws_writes.proofs.Grown.{accept-grew, add-grew, cut-grew, down-grew, grew-by, post-grew, pump-grew, remove-grew, restart-grew, up-grew}
 use Rattle.ca_laws_writes.proofs.HappensClient.{begun-frame, clear-frame, cut-frame, datagram-frame, handing-frame, hear-frame, open-frame, put-frame, read-frame, subscribe-frame, unsubscribe-frame, write-frame}
 use Rattle.ca_laws_writes.proofs.HappensPost.{stamped-same}
 use Rattle.ca_laws_writes.proofs.InStepLasts.{world-numbered}
 use Rattle.ca_laws_writes.proofs.Lists.{none_at}
-use Rattle.ca_laws_writes.proofs.Midway.{set-here}
 use Rattle.ca_laws_writes.proofs.Replied.{finish-grew, step-grew-by}
 use Rattle.ca_laws_writes.proofs.Says.{Grew, logs-stay}
 use Rattle.ca_laws_posts.proofs.Logged.{AllEnds}
@@ -34,7 +31,6 @@ use Rattle.ca_laws_follows.specs.Known.{AllKnown}
 use Rattle.ca_laws_follows.specs.Listed.{AllListed}
 use Rattle.ca_laws_follows.specs.Record.{AllFollowRecord}
 use Rattle.ca_laws_follows.specs.Sent.{AllSent, SentOn}
-use Rattle.ca_laws_follows.proofs.Acting.{IsLonger}
 use Rattle.ca_laws_follows.proofs.Following.{all-follow}
 use Rattle.ca_laws_follows.proofs.Keeping.{KnownAt, event-known, frame-known}
 use Rattle.ca_laws_follows.proofs.Listing.{event-listed, frame-listed, opening-listed}

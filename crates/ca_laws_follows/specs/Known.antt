@@ -72,5 +72,5 @@ pub record KnownOn (log : List Entry) (rs : List RecordSide) (e : ServerEnd) (c 
 
 -- So it is of each open end of a world.
 abbrev pub AllKnown : World → Type 0
-AllKnown w = (n : ℕ) (c : Joined) (y : ServerSide) (e : ServerEnd) (log : List Entry) → At w.circuits n c → At w.servers c.server y → c.lists.server_open ≡ true
-    → HasEnd y.core c.at_server e → At w.server_logs y.life log → KnownOn log y.records e c
+AllKnown w = (n : ℕ) (c : Joined) (y : ServerSide) (e : ServerEnd) (log : List Entry) → At w.circuits n c → At w.servers c.server y
+    → c.lists.server_open ≡ true → HasEnd y.core c.at_server e → At w.server_logs y.life log → KnownOn log y.records e c

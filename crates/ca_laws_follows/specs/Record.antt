@@ -15,7 +15,8 @@ CircuitFollows w n c log = (x : List Line) → FollowsRecord (IsDue (port_of w) 
 
 -- So it is on each circuit, open or not.
 abbrev pub AllFollowRecord : World → Type 0
-AllFollowRecord w = (n : ℕ) (c : Joined) (log : List Entry) → At w.circuits n c → At w.server_logs c.lists.server log → CircuitFollows w n c log
+AllFollowRecord w = (n : ℕ) (c : Joined) (log : List Entry) → At w.circuits n c → At w.server_logs c.lists.server log
+    → CircuitFollows w n c log
 
 -- And this is the statement's clause, with the logs that each circuit joins.
 abbrev pub FollowRecord : World → Type 0
