@@ -86,7 +86,7 @@ replies-stay-held y p gone sent new (inr not) = (stays-self y new (ap (λ (x : S
 late-same : (place : ℕ) (ms : List Fields) (c : Joined) → SameEnds c (told_late place ms c)
 late-same place ms c = record { server = refl; handle = refl; life = refl; up = refl; handled = refl; is_open = refl }
 
-told-logs : (p : PutPlace) (sent : List (Handle × Fields)) (t : World) → (replied_at p sent t).server_logs ≡ t.server_logs
+pub told-logs : (p : PutPlace) (sent : List (Handle × Fields)) (t : World) → (replied_at p sent t).server_logs ≡ t.server_logs
 told-logs p sent t = go (slice_get t.circuits p.circuit)
   where
     go : (o : Option Joined) → (unwrap_or (option_map (λ (j : Joined). with_circuit p.circuit (told_late p.place (map (λ (x : Handle × Fields). x.1) sent) j) t) o) t).server_logs ≡ t.server_logs
@@ -109,14 +109,14 @@ reaches-or (action.Adds x) = inr (λ g y n r. r.1, λ i core c. refl, refl)
 reaches-or (action.Drops x) = inr (λ g y n r. r.1, λ i core c. refl, refl)
 reaches-or (action.Switches x) = inr (λ g y n r. r.1, λ i core c. refl, refl)
 
-with-record-titles : (name : List ℕ) (f : RecordSide → RecordSide) → ((r : RecordSide) → title (f r) ≡ title r) → (rs : List RecordSide) → titles (event.with_record name f rs) ≡ titles rs
+pub with-record-titles : (name : List ℕ) (f : RecordSide → RecordSide) → ((r : RecordSide) → title (f r) ≡ title r) → (rs : List RecordSide) → titles (event.with_record name f rs) ≡ titles rs
 with-record-titles name f same rs = titles-kept (λ (r : RecordSide). cond (bytes_eq r.name name) (f r) r) (λ r. go r (bytes_eq r.name name)) rs
   where
     go : (r : RecordSide) (b : Bool) → title (cond b (f r) r) ≡ title r
     go r true = same r
     go r false = refl
 
-with-core-titles : (Q : Record → RecordSide → Type 0) (f : Record → RecordSide → RecordSide) → ((c : Record) (r : RecordSide) → title (f c r) ≡ title r) → (cs : List Record) (rs : List RecordSide) → Both Q cs rs → titles (with_core f cs rs) ≡ titles rs
+pub with-core-titles : (Q : Record → RecordSide → Type 0) (f : Record → RecordSide → RecordSide) → ((c : Record) (r : RecordSide) → title (f c r) ≡ title r) → (cs : List Record) (rs : List RecordSide) → Both Q cs rs → titles (with_core f cs rs) ≡ titles rs
 with-core-titles Q f same [] [] both = refl
 with-core-titles Q f same [] (r ∷ rs) both = absurd both
 with-core-titles Q f same (c ∷ cs) [] both = absurd both
@@ -130,7 +130,7 @@ one-quiet x is e (zero, at) = subst (λ (z : Entry). IsQuiet z) (some_is x e at)
 one-quiet x is e (suc k, at) = absurd (none_at k e at)
 
 -- what else a message logs is quiet
-logs-quiet : (Q : Record → RecordSide → Type 0) (core : Server) (h : Handle) (p : PutPlace) (did : Action) (rs : List RecordSide) → Both Q core.records rs → is_write did ≡ false
+pub logs-quiet : (Q : Record → RecordSide → Type 0) (core : Server) (h : Handle) (p : PutPlace) (did : Action) (rs : List RecordSide) → Both Q core.records rs → is_write did ≡ false
     → AreQuiet (logged_by core h p did rs) × (titles (records_after core h p did rs) ≡ titles rs)
 logs-quiet Q core h p (Applies name value busies) rs both no_write = absurd cc
 logs-quiet Q core h p (action.Waits name value) rs both no_write = (one-quiet _ tt, with-record-titles name _ (λ r. refl) rs)
@@ -144,7 +144,7 @@ logs-quiet Q core h p (action.Adds x) rs both no_write = (none-quiet, refl)
 logs-quiet Q core h p (action.Drops x) rs both no_write = (none-quiet, refl)
 logs-quiet Q core h p (action.Switches x) rs both no_write = (none-quiet, refl)
 
-write-titles : (core : Server) (h : Handle) (p : PutPlace) (name : List ℕ) (value : Elements) (busies : Bool) (rs : List RecordSide) → titles (records_after core h p (Applies name value busies) rs) ≡ titles rs
+pub write-titles : (core : Server) (h : Handle) (p : PutPlace) (name : List ℕ) (value : Elements) (busies : Bool) (rs : List RecordSide) → titles (records_after core h p (Applies name value busies) rs) ≡ titles rs
 write-titles core h p name value true rs = with-record-titles name _ (λ r. refl) rs
 write-titles core h p name value false rs = refl
 
@@ -491,14 +491,14 @@ module _ (P : ℕ → List Entry → List RecordSide → ServerEnd → Joined �
   -- The message that is handled next on circuit m, whose end this server has, keeps it.
   abbrev pub HandledHere : (m : ℕ) → Joined → ServerSide → List Entry → Type 0
   HandledHere m j y log = (e taken new : ServerEnd) (s : Sent) (replies : List Fields) (did : Action) (step : Step) → HasEnd y.core j.at_server e → SameHeld e taken
-      → At j.lists.up (length j.lists.handled) s → Due (knows y.core taken) s.message replies did → Acts y.core taken did new → step.logged ≡ length log → P m log y.records e j
+      → At j.lists.up (length j.lists.handled) s → Due (knows y.core taken) s.message replies did → Acts y.core taken did new → step.logged ≡ length log → step.sent ≡ length j.lists.down → P m log y.records e j
       → P m log y.records new (handled_at (length j.lists.handled) step replies (numbers_after (length j.lists.handled) did j))
 
   own-last : (w : World) (n : ℕ) (j : Joined) (y : ServerSide) (at_y : At w.servers j.server y) (wr : Writes w) (e : ServerEnd) (next : Next y.core j.at_server e) (p : PutPlace) (gone : Handle → Bool) (core : Server) (f : ServerEnd) (s : Sent) (step : Step)
-      → HandledHere n j y (wr.lives j.server y at_y).log → At j.lists.up (length j.lists.handled) s → s.message ≡ next.m → step.logged ≡ length (wr.lives j.server y at_y).log
+      → HandledHere n j y (wr.lives j.server y at_y).log → At j.lists.up (length j.lists.handled) s → s.message ≡ next.m → step.logged ≡ length (wr.lives j.server y at_y).log → step.sent ≡ length j.lists.down
       → Reaches next.action gone next.after core → j.lists.server_open ≡ true → HasEnd y.core j.at_server e → P n (wr.lives j.server y at_y).log y.records e j → HasEnd core j.at_server f
       → P n (after_log w j.server y at_y wr j.at_server e next p) (after_records w j.server y at_y wr j.at_server e next p) f (handled_at (length j.lists.handled) step next.replies (write_numbers j.server y.core next.action (numbers_after (length j.lists.handled) next.action j)))
-  own-last w n j y at_y wr e next p gone core f s step law sent is logged_is reaches opened has q after = elim (reaches-or next.action) [
+  own-last w n j y at_y wr e next p gone core f s step law sent is logged_is sent_is reaches opened has q after = elim (reaches-or next.action) [
     | inl writes ↦
         let name : List ℕ = writes.0 in
         let acts : made.acted ≡ taken = subst (λ (a : Action). Acts y.core taken a made.acted) writes.3 made.acts in
@@ -543,7 +543,7 @@ module _ (P : ℕ → List Entry → List RecordSide → ServerEnd → Joined �
       due = subst (λ (m : Fields). Due (knows y.core taken) m next.replies next.action) (sym is) made.due
 
       acted-p : P n log y.records made.acted (handled_at place step next.replies (numbers_after place next.action j))
-      acted-p = law e taken made.acted s next.replies next.action step has (record { channels = refl; subscriptions = refl; queues = refl }) sent due made.acts logged_is q
+      acted-p = law e taken made.acted s next.replies next.action step has (record { channels = refl; subscriptions = refl; queues = refl }) sent due made.acts logged_is sent_is q
 
       handled : P n log y.records d (handled_at place step next.replies (numbers_after place next.action j))
       handled =
@@ -587,7 +587,7 @@ module _ (P : ℕ → List Entry → List RecordSide → ServerEnd → Joined �
             let e_is : e ≡ f.e = one-end y.core j.at_server e f.e (subst (λ (z : Joined). HasEnd y.core z.at_server e) one had) f.has in
             let sent = takes m j y f.e next.m next.rest at server opened_j f.has next.takes in
             subst (λ (z : Joined). P n (log ++ more) side.records x z) (sym own.1)
-            (own-last w n j y server wr f.e next place_of gone f.core x sent.0 step (subst (λ (q : ℕ). HandledHere q j y log) (sym own.0) law) sent.1 sent.2 logged_is f.steps.3 opened_j f.has (subst (λ (z : ServerEnd). P n log y.records z j) e_is (subst (λ (z : Joined). P n log y.records e z) one p))
+            (own-last w n j y server wr f.e next place_of gone f.core x sent.0 step (subst (λ (q : ℕ). HandledHere q j y log) (sym own.0) law) sent.1 sent.2 logged_is refl f.steps.3 opened_j f.has (subst (λ (z : ServerEnd). P n log y.records z j) e_is (subst (λ (z : Joined). P n log y.records e z) one p))
             (subst (λ (z : Joined). HasEnd f.core z.at_server x) one has))
         | inr old ↦
             let one : old.1.0 ≡ c = At-one w.circuits n old.1.0 c old.1.1 on in

@@ -1,0 +1,9 @@
+pub mod Acting
+pub mod Known
+pub mod Handling
+pub mod Listing
+pub mod Keeping
+pub mod Sending
+pub mod Standing
+pub mod Following
+pub mod Whole

@@ -1,0 +1,4 @@
+pub mod Known
+pub mod Listed
+pub mod Sent
+pub mod Record
