@@ -1,13 +1,16 @@
 -- Working: what a setting's parts are by themselves.
-use Rattle.std.specs.Prelude.{◌<◌, ◌≤◌, ◌^◌, ℕ, length, option_map}
+use Rattle.std.specs.Prelude.{◌≡◌, ◌<◌, ◌≤◌, ◌^◌, ◌++◌, ℕ, Bool, true, false, List, [], ◌∷◌, Ok, Err, Result, length, option_map}
+use Rattle.std.specs.declared.alloc.AllocError.{AllocError}
 use Rattle.ca_records.specs.Record.{IsRecord, RecordState}
 use Rattle.ca_records.specs.Records.{AreApart}
 use Rattle.ca_records.specs.Rules as rules
+use Rattle.ca_text.specs.declared.refusal.Refusal.{Refusal}
+use Rattle.ca_text.specs.declared.refusal.Refusal.TheVariants as refusal
 use Rattle.ca_text.specs.Limits.{arena_slots}
 use Rattle.ca_text.specs.Place.{At}
 use Rattle.ca_model.specs.ClientEnds.{distinct}
-use Rattle.ca_model.specs.Ends.{NamesFit}
-use Rattle.ca_model_world.specs.World.{ClientSetting, ServerSetting}
+use Rattle.ca_model.specs.Ends.{Address, NamesFit}
+use Rattle.ca_model_world.specs.World.{ClientSetting, ServerSetting, Setting}
 use Rattle.ca_world.specs.declared.config.RuleSetting.{RuleSetting}
 
 -- names fit into a message, and name servers into a table
@@ -27,3 +30,32 @@ rule_of r = record {
   reads = r.reads;
   writes = r.writes;
 }
+
+-- ---- how settings are made
+
+-- each is a record
+abbrev pub AreRecords : List RecordState → Type 0
+AreRecords records = (j : ℕ) (r : RecordState) → At records j r → IsRecord r
+
+-- the setting of a client is made, or it is none, or there is no memory
+abbrev pub MakesClient : ClientSetting → Result ClientSetting Refusal → Type 0
+MakesClient s (Ok made) = made ≡ s
+MakesClient s (Err refusal.NameLength) = NamesFit s.peer → ⊥
+MakesClient s (Err refusal.ArenaFull) = NamesFit s.peer × (arena_slots < length (distinct s.name_servers))
+MakesClient s (Err refusal.OutOfMemory) = Unit {0}
+MakesClient s (Err _) = ⊥
+
+-- a server has this address
+abbrev pub IsTaken : List ServerSetting → Address → Type 0
+IsTaken servers a = (i : ℕ) × (y : ServerSetting) × At servers i y × (y.address ≡ a)
+
+-- whether one has it
+abbrev pub HasAddress : List ServerSetting → Address → Bool → Type 0
+HasAddress servers a true = IsTaken servers a
+HasAddress servers a false = IsTaken servers a → ⊥
+
+-- a server is added, unless another has its address, or there is no memory
+abbrev pub AddsServer : Setting → ServerSetting → Result Bool AllocError → Setting → Type 0
+AddsServer old s (Ok true) new = (IsTaken old.servers s.address → ⊥) × (new ≡ record old { servers = old.servers ++ s ∷ [] })
+AddsServer old s (Ok false) new = IsTaken old.servers s.address × (new ≡ old)
+AddsServer old s (Err e) new = (IsTaken old.servers s.address → ⊥) × (new ≡ old)
