@@ -2,6 +2,7 @@ pub mod Doing
 pub mod Free
 pub mod Ends
 pub mod Handled
+pub mod Gathered
 pub mod Servings
 pub mod Sizes
 pub mod Answerings

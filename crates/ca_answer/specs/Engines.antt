@@ -1,5 +1,5 @@
 -- Working: the state of an engine, and what its calls leave.
-use Rattle.std.specs.Prelude.{ℕ, ◌≡◌, ◌++◌, List, [], Option, None, Some, Result, Ok, length}
+use Rattle.std.specs.Prelude.{ℕ, ◌≡◌, ◌++◌, if◌then◌else◌, Bool, List, [], Option, None, Some, Result, Ok, length}
 use Rattle.ca_arena.specs.declared.handle.Handle.{Handle}
 use Rattle.ca_ids.specs.Table.{under}
 use Rattle.ca_records.specs.Record.{RecordState}
@@ -24,6 +24,10 @@ pub record EngineState : Type 0 where
 -- an engine of these rules and records on whose circuit no byte came
 abbrev pub IsNew : List Rule → List RecordState → EngineState → Type 0
 IsNew rules states x = Accepts (new_server server_port 0 rules states) (Ok x.circuit) x.core × (x.waits ≡ [])
+
+-- the record of this name, if a message is to put
+abbrev pub put_of : Bool → (name : List ℕ) → Option (List ℕ)
+put_of puts name = if puts then Some name else None
 
 -- the busy put of this record was finished, if there is one
 abbrev pub Tries : Server → Option (List ℕ) → Server → Type 0

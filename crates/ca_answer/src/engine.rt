@@ -1,4 +1,4 @@
-ghost use Rattle.std.specs.Prelude.{◌≡◌, ◌+◌, ◌<◌, ◌≤◌, ◌^◌, List, IfErr, IfOk, OnErr, OnOk, Option, map, option_map, true};
+ghost use Rattle.std.specs.Prelude.{◌≡◌, ◌+◌, ◌<◌, ◌≤◌, ◌^◌, List, IfErr, IfOk, OnErr, OnOk, true};
 ghost use Rattle.ca_text.specs.declared.refusal.Refusal.TheVariants as refusal;
 ghost use Rattle.ca_text.specs.Limits.{engine_turns};
 ghost use Rattle.ca_records.specs.Record.{RecordState};
@@ -7,7 +7,7 @@ ghost use Rattle.ca_model.specs.ServerSteps.{Gives};
 ghost use Rattle.ca_server_core.specs.NextPut.{IsNextPut};
 ghost use Rattle.ca_server_core.specs.Serving.{stepped};
 ghost use Rattle.ca_server_circuit.specs.Stepping.{why_is};
-ghost use Rattle.ca_answer.specs.Engines.{Gathers, IsNew, ServesNext, Tries, refusal_for, unread_size};
+ghost use Rattle.ca_answer.specs.Engines.{Gathers, IsNew, ServesNext, Tries, put_of, refusal_for, unread_size};
 ghost use Rattle.ca_answer.specs.Serving.{Comes, Drains, Flushes};
 
 use ca_arena::Handle;
@@ -15,16 +15,17 @@ use ca_link::Sink;
 use ca_records::{Records, Rule};
 use ca_server_core::{Cause, ServerCore, Step};
 use ca_text::{ENGINE_TURNS, OUTPUT_LIMIT, Refusal, SERVER_PORT};
-use std::alloc::{AllocError, Global};
+use std::alloc::AllocError;
 use std::marker::Model;
 
 /// A server with one circuit, and the bytes that wait to be handed to the sink.
 #[derive(Drop)]
 pub(crate) struct Engine {
-    alloc: Global,
     core: ServerCore,
     circuit: Handle,
     waits: Vec<u8>,
+    // Room for the name of the record that the next message may make busy.
+    name: Vec<u8>,
 }
 
 impl Model for Engine {
@@ -45,10 +46,10 @@ impl Engine {
         let mut core = ServerCore::new(SERVER_PORT, 0, records, rules)?;
         let circuit = core.accept()?;
         Ok(Engine {
-            alloc,
             core,
             circuit,
             waits: Vec::new(alloc),
+            name: Vec::new(alloc),
         })
     }
 
@@ -117,10 +118,10 @@ impl Engine {
         ensures stays { self.new ≡ record self.old { core = self.new.core } }
         ensures err { OnErr result (self.new ≡ self.old) }
     {
-        let put = self.next_put()?;
+        let puts = next_put(&self.core, self.circuit, &mut self.name)?;
         match self.core.step(self.circuit) {
             Step::Handled => {
-                self.finish(put);
+                finish(&mut self.core, puts, &self.name);
                 self.core.pump(self.circuit);
                 Ok(Step::Handled)
             }
@@ -130,40 +131,15 @@ impl Engine {
         }
     }
 
-    // The name of the record that the next message may make busy.
-    fn next_put(&self) -> Result<Option<Vec<u8>>, AllocError>
-        ensures { IfOk result (λ put.
-            IsNextPut self.now.core self.now.circuit (option_map (λ name. name.items) put)) }
-    {
-        match self.core.next_put(self.circuit) {
-            None => Ok(None),
-            Some(name) => {
-                let name = Vec::from_slice(self.alloc, name)?;
-                Ok(Some(name))
-            }
-        }
-    }
-
-    // Finishes the busy put of this record, if there is one.
-    fn finish(&mut self, put: Option<Vec<u8>>)
-        ensures tries { Tries self.old.core (option_map (λ name. name.items) put) self.new.core }
-        ensures stays { self.new ≡ record self.old { core = self.new.core } }
-    {
-        match put {
-            None => {}
-            Some(name) => {
-                // It is refused if the put was, or if the record is quick.
-                let _ended = self.core.finish(&name);
-            }
-        }
-    }
-
     // Moves what the circuit has to send to the end of the bytes that wait.
     fn gather(&mut self) -> Result<(), AllocError>
         ensures ok { OnOk result (Gathers self.old self.new) }
     {
         let bytes = self.core.out_bytes(self.circuit);
         let n = bytes.len();
+        if n == 0 {
+            return Ok(());
+        }
         self.waits.extend_from_slice(bytes)?;
         self.core.sent(self.circuit, n);
         Ok(())
@@ -190,6 +166,30 @@ impl Engine {
         sink.write(&self.waits)?;
         self.waits.clear();
         Ok(())
+    }
+}
+
+// Whether the next message may make a record busy. Then its name is in the room.
+fn next_put(core: &ServerCore, circuit: Handle, room: &mut Vec<u8>) -> Result<bool, AllocError>
+    ensures { IfOk result (λ puts. IsNextPut core.now circuit (put_of puts room.new.items)) }
+{
+    match core.next_put(circuit) {
+        None => Ok(false),
+        Some(name) => {
+            room.clear();
+            room.extend_from_slice(name)?;
+            Ok(true)
+        }
+    }
+}
+
+// Finishes the busy put of the record of this name, if the message was to put.
+fn finish(core: &mut ServerCore, puts: bool, name: &[u8])
+    ensures { Tries core.old (put_of puts name.now) core.new }
+{
+    if puts {
+        // It is refused if the put was, or if the record is quick.
+        let _ended = core.finish(name);
     }
 }
 

@@ -13,7 +13,7 @@ use Rattle.ca_model_world.specs.Events.{Event}
 use Rattle.ca_model_world.specs.Runs.{Happens}
 use Rattle.ca_model_world.specs.ServerEvents.{front_number, stamped}
 use Rattle.ca_model_world.specs.World.{Joined, RecordSide, Setting, Standing, World}
-use Rattle.ca_laws_sids.specs.Created.{AllCreated}
+use Rattle.ca_laws_held.specs.Created.{AllCreated}
 use Rattle.ca_laws_steps.specs.Creations.{AllCreations}
 use Rattle.ca_laws_writes.specs.Both.{Both}
 use Rattle.ca_laws_writes.specs.Seats.{Sound, TakesSent}

@@ -16,7 +16,7 @@ use Rattle.ca_model_world.specs.Runs.{CanBe, Happens, Leaves, Runs, StopsAt, cli
 use Rattle.ca_model_world.specs.ServerEvents.{HappensPump, ending, ends_by, server_after, stamped}
 use Rattle.ca_model_world.specs.World.{IsSetting, Joined, ServerSide, Setting, World, circuit_of, opening, port_of, rules_of, told, with_circuit}
 use Rattle.ca_laws_bytes.specs.Runs.{IsReached}
-use Rattle.ca_laws_sids.proofs.Created.{reached-created}
+use Rattle.ca_laws_held.proofs.Created.{reached-created}
 use Rattle.ca_laws_steps.specs.Worlds.{ServersStand}
 use Rattle.ca_laws_steps.proofs.Creations.{reached-creations}
 use Rattle.ca_laws_steps.proofs.Whole.{run-serves, takes-next}

@@ -1,5 +1,5 @@
 -- A client's calls, datagrams and reads: in which way it speaks on each circuit.
-use Rattle.std.proofs.Common.{◌≡◌, ℕ, zero, suc, ◌+◌, ◌⊎◌, inl, inr, Bool, true, false, cond, List, [], ◌∷◌, ◌++◌, length, Option, Some, None, refl, sym, ap, ◌∙◌, subst}
+use Rattle.std.proofs.Common.{◌≡◌, ℕ, zero, suc, ◌⊎◌, inl, inr, Bool, true, false, cond, List, [], ◌∷◌, ◌++◌, length, Option, Some, None, refl, sym, ap, ◌∙◌, subst}
 use Rattle.std.specs.Prelude.{Ok, filter, map}
 use Rattle.std.proofs.lemmas.Bool.{both_ways, cases_Bool}
 use Rattle.ca_text.specs.Place.{At}
@@ -14,7 +14,7 @@ use Rattle.ca_wire.specs.Messages.{bare}
 use Rattle.ca_model.specs.Answers.{Notice, Sending}
 use Rattle.ca_model.specs.Client.{Channel, Client, ClientCircuit, Clearing, Connecting, Connection, Creating, Doomed, Leaving, Live, Native, On, Phase, Searching, Standing, circuit_to, found_on, sending, standing_at, with_standing, without_channel}
 use Rattle.ca_model.specs.Client as phase
-use Rattle.ca_model.specs.ClientCalls.{ClientClears, ClientOpens, ClientPuts, ClientReads, ClientSubscribes, ClientUnsubscribes, ClientWrites, IsLive, LiveChannel, Opening, Shape, all_over, cancel_sent, clear_sent, cleared, clearing_sent, event_add_sent, event_cancel_sent, new_subscription, put_sent, read_sent, unsubscribed, unsubscribed_all, unwanted, write_sent}
+use Rattle.ca_model.specs.ClientCalls.{ClientClears, ClientOpens, ClientPuts, ClientReads, ClientSubscribes, ClientWrites, IsLive, LiveChannel, Opening, Shape, cancel_sent, clear_sent, cleared, clearing_sent, event_add_sent, event_cancel_sent, new_subscription, put_sent, read_sent, unsubscribed, unsubscribed_all, unwanted, write_sent}
 use Rattle.ca_model.specs.ClientEnds.{GivesOn, Receives, ReceivesAll, beacon_heard, flow_sent, given, of_circuit}
 use Rattle.ca_model.specs.ClientEnds as ends
 use Rattle.ca_model.specs.Ends.{Address}
@@ -23,8 +23,8 @@ use Rattle.ca_model.specs.History.{Ask, Cancel, Clear, Create, Intent, Kind, Put
 use Rattle.ca_model.specs.History as history
 use Rattle.ca_model.specs.Speech.{sid_in}
 use Rattle.ca_model_client.proofs.Handles.{same-is, same-itself}
-use Rattle.ca_model_client.proofs.Standings.{found-standing, never-cleared, searched-is, stands-as}
-use Rattle.ca_model_client.proofs.Tables.{changed-back, one-value}
+use Rattle.ca_model_client.proofs.Standings.{found-standing, never-cleared, searched-is}
+use Rattle.ca_model_client.proofs.Tables.{changed-back}
 use Rattle.ca_model_world.specs.ClientEvents.{cancelled, channel_number, meant_by}
 use Rattle.ca_model_world.specs.World.{Names}
 use Rattle.ca_laws_circuit.specs.Held.{with_request, with_subscription}
@@ -33,12 +33,12 @@ use Rattle.ca_laws_circuit.proofs.Marks.{at-filter}
 use Rattle.ca_laws_runs.specs.Circuit.{AreGiven, AreNumbered, stamped}
 use Rattle.ca_laws_runs.proofs.Named.{place-there}
 use Rattle.ca_laws_runs.proofs.Sending.{new-name}
-use Rattle.ca_laws_heard.specs.Quiet.{HasNumber, Tidy}
-use Rattle.ca_laws_heard.proofs.Says.{one-handle, said, said-more}
-use Rattle.ca_laws_sids.specs.Under.{IsUse}
+use Rattle.ca_laws_held.specs.Quiet.{Tidy}
+use Rattle.ca_laws_held.proofs.Says.{one-handle, said, said-more}
+use Rattle.ca_laws_held.specs.Under.{IsUse}
 use Rattle.ca_laws_held.specs.Sides.{IsLiveAs}
-use Rattle.ca_laws_held.proofs.Live.{NoLive, NotLive, SameLive, channels-sending, channels-unwanted, live-as, live-itself, live-then, none-live, none-still, not-on, not-phase, not-searched, one-sid, other-back, other-there, same-freed, same-gone, same-held, same-stood, stood-none}
-use Rattle.ca_laws_held.proofs.Ways.{IsCalm, IsClearing, IsUsing, Way}
+use Rattle.ca_laws_held.proofs.Live.{NoLive, NotLive, SameLive, channels-sending, channels-unwanted, live-as, live-itself, live-then, none-live, not-on, not-phase, not-searched, other-back, other-there, same-gone, same-held, same-stood, stood-none}
+use Rattle.ca_laws_held.proofs.Ways.{IsCalm, Way}
 
 -- ---- what is said of one message
 
@@ -268,16 +268,16 @@ pub calm-then : (n : Names) (x y z : Client) (ss rs : List Sending) → CalmTo n
 calm-then n x y z ss rs a b = record {
   numbered = b.numbered;
   calm = λ on. (let f = a.calm on in let g = b.calm on in
-  subst (λ (l : List Sent). IsCalm on n x l z) (sym (said-more n on ss rs)) (record {
-    same = live-then on x.channels y.channels z.channels f.same g.same;
-    opens = λ i s at. elim (At-parts (said n on ss) (said n on rs) i s at) [
-      | inl first ↦ f.opens i s first
-      | inr last ↦ elim (g.opens last.0 s last.2) [
-        | inl serves ↦ inl serves
-        | inr opens ↦ inr (opens.0, opens.1, λ h sid is l. opens.2 h sid is ((f.same h sid).0 l))
-      ]
-    ];
-  }));
+      subst (λ (l : List Sent). IsCalm on n x l z) (sym (said-more n on ss rs)) (record {
+        same = live-then on x.channels y.channels z.channels f.same g.same;
+        opens = λ i s at. elim (At-parts (said n on ss) (said n on rs) i s at) [
+          | inl first ↦ f.opens i s first
+          | inr last ↦ elim (g.opens last.0 s last.2) [
+            | inl serves ↦ inl serves
+            | inr opens ↦ inr (opens.0, opens.1, λ h sid is l. opens.2 h sid is ((f.same h sid).0 l))
+          ]
+        ];
+      }));
 }
 
 pub calm-quiet : (n : Names) (x y : Client) → AreNumbered n y → ((on : Handle) → SameLive on x.channels y.channels) → CalmTo n x [] y

@@ -1,46 +1,38 @@
 -- The events of clients keep what clients have of their circuits.
-use Rattle.std.proofs.Common.{◌≡◌, ℕ, zero, suc, ◌+◌, ◌<◌, ◌⊎◌, inl, inr, Bool, true, false, ◌&&◌, cond, eqb, List, [], ◌∷◌, ◌++◌, length, Option, Some, None, refl, sym, ap, ◌∙◌, subst, arith}
-use Rattle.std.specs.Prelude.{Ok, nat_lt, take, drop, filter, find, fold, is_none, is_some, map, option_map, slice_set, unwrap_or}
-use Rattle.std.specs.List.{FoldsTo}
-use Rattle.std.proofs.lemmas.Bool.{and_from, both_ways, cases_Bool, eq-eqb}
+use Rattle.std.proofs.Common.{◌≡◌, ℕ, ◌+◌, inl, inr, Bool, true, false, ◌&&◌, cond, eqb, List, [], ◌∷◌, ◌++◌, length, Option, Some, None, refl, sym, ap, ◌∙◌, subst}
+use Rattle.std.specs.Prelude.{Ok, nat_lt, take, drop, is_some, map, slice_set}
+use Rattle.std.proofs.lemmas.Bool.{and_from, both_ways, eq-eqb}
 use Rattle.std.proofs.lemmas.List.{append-nil}
 use Rattle.ca_text.specs.Place.{At}
 use Rattle.ca_text.specs.declared.refusal.Refusal.{Refusal}
-use Rattle.ca_text.proofs.Places.{At-map, At-mapped, At-one, At-parts, At-set, At-snoc}
+use Rattle.ca_text.proofs.Places.{At-mapped, At-one, At-set}
 use Rattle.ca_arena.specs.declared.handle.Handle.{Handle}
 use Rattle.ca_dbr.specs.Elements.{Elements}
-use Rattle.ca_ids.specs.Table.{held, same_handle, under, with_all}
+use Rattle.ca_ids.specs.Table.{same_handle}
 use Rattle.ca_link.specs.Link.{with_handed}
-use Rattle.ca_wire.specs.Messages.{name_request, version_request}
 use Rattle.ca_text.specs.declared.command.Command.{Command}
-use Rattle.ca_text.specs.declared.command.Command.TheVariants as command
 use Rattle.ca_wire.specs.Messages.{bare}
-use Rattle.ca_model.specs.Answers.{Closed, Closing, Left, NeedBytes, Notice, Notices, Sending, Stepped}
+use Rattle.ca_model.specs.Answers.{Closing, Sending}
 use Rattle.ca_model.specs.Client.{Channel, Client, ClientCircuit, Connection, Live, On, connection_at, ended, is_on_in, on_connection, sending}
 use Rattle.ca_model.specs.Client as client
-use Rattle.ca_model.specs.ClientEnds.{ConnectsOn, GivesOn, StepsOn, after_taking, begun, creating, creations, flow_sent, handed_over, is_connecting, of_circuit, set_up}
+use Rattle.ca_model.specs.ClientEnds.{GivesOn, flow_sent, handed_over, of_circuit}
 use Rattle.ca_model.specs.Ends.{Address}
-use Rattle.ca_model.specs.Hears.{Effect, create_sent}
+use Rattle.ca_model.specs.Hears.{Effect}
 use Rattle.ca_model.specs.History.{Circuit, Create, Intent, Line, Sent, Step}
 use Rattle.ca_model.specs.History as history
-use Rattle.ca_model_client.proofs.Handles.{same-is, same-itself, same-not}
-use Rattle.ca_model_client.proofs.Standings.{at-filter-map, stands-as}
-use Rattle.ca_model_client.proofs.Thinner.{number-or}
-use Rattle.ca_model_world.specs.ClientEvents.{DownTaken, HappensAccept, HappensClear, HappensClientDatagram, HappensClientRestart, HappensCutClient, HappensDown, HappensOpen, HappensRead, HappensSubscribe, HappensUnsubscribe, HappensUp, HappensWrite, HappensWriteNotify, Outcomes, WantsFirst, cancelled, channel_number, client_after, client_closed, client_ended, client_gone, connected_as, lines_of, new_circuit, refused, sent_on, told_by, waiting_down}
+use Rattle.ca_model_client.proofs.Handles.{same-itself}
+use Rattle.ca_model_client.proofs.Standings.{stands-as}
+use Rattle.ca_model_world.specs.ClientEvents.{DownTaken, HappensClear, HappensClientDatagram, HappensClientRestart, HappensCutClient, HappensDown, HappensOpen, HappensRead, HappensSubscribe, HappensUnsubscribe, HappensUp, HappensWrite, HappensWriteNotify, Outcomes, cancelled, channel_number, client_after, client_closed, client_ended, client_gone, lines_of, refused, sent_on, waiting_down}
 use Rattle.ca_model_world.specs.World.{ClientSide, Joined, Names, ServerSide, World, addresses, client_begun, with_circuit, with_client, with_server}
 use Rattle.ca_laws_circuit.specs.Held.{with_request, with_subscription}
-use Rattle.ca_laws_kept.specs.Kept.{kept}
-use Rattle.ca_laws_runs.specs.Circuit.{HeldOn, sent_to, stamped}
+use Rattle.ca_laws_runs.specs.Circuit.{sent_to, stamped}
 use Rattle.ca_laws_runs.specs.Clients.{ClientsStand}
-use Rattle.ca_laws_runs.proofs.ClientsMore.{unconnected-is, wanted-there}
-use Rattle.ca_laws_steps.specs.Held.{AllCircuitsHeld}
-use Rattle.ca_laws_heard.specs.Quiet.{Tidy}
-use Rattle.ca_laws_heard.proofs.Says.{said}
+use Rattle.ca_laws_held.specs.Quiet.{Tidy}
+use Rattle.ca_laws_held.proofs.Says.{said}
 use Rattle.ca_laws_held.specs.Sides.{AllSided, IsLiveAs, Right, Sides}
-use Rattle.ca_laws_held.proofs.Calls.{calm-all-received, calm-silent, none-said, number-more, said-at, serving, way-silent, ways-clear, ways-given, ways-open, ways-put, ways-read, ways-subscribe, ways-unsubscribe, ways-write}
-use Rattle.ca_laws_held.proofs.Ends.{AllAfter, FactsFor, IsEndAfter, after-sent, end-of, same-right, same-sides, sided-by, sided-called, sided-ways, turn-held}
-use Rattle.ca_laws_held.proofs.Grows.{Facts}
-use Rattle.ca_laws_held.proofs.Live.{SameLive, channels-sending, live-as, live-itself, live-then, same-begun, same-ended}
+use Rattle.ca_laws_held.proofs.Calls.{calm-all-received, none-said, number-more, serving, way-silent, ways-clear, ways-given, ways-open, ways-put, ways-read, ways-subscribe, ways-unsubscribe, ways-write}
+use Rattle.ca_laws_held.proofs.Ends.{AllAfter, FactsFor, IsEndAfter, after-sent, end-of, sided-by, sided-called, sided-ways}
+use Rattle.ca_laws_held.proofs.Live.{live-as, same-ended}
 use Rattle.ca_laws_held.proofs.Ways.{Way}
 
 -- ---- lists as they were

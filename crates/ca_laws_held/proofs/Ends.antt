@@ -1,5 +1,5 @@
 -- What an event leaves of what clients have of their circuits, by what it leaves of one client and of circuits.
-use Rattle.std.proofs.Common.{◌≡◌, ℕ, ◌≤◌, ◌<◌, ◌⊎◌, inl, inr, Bool, true, false, ◌&&◌, cond, eqb, List, [], ◌++◌, length, Option, Some, None, refl, sym, ap, ◌∙◌, subst, arith}
+use Rattle.std.proofs.Common.{◌≡◌, ℕ, ◌≤◌, ◌<◌, inl, inr, true, false, List, [], ◌++◌, length, Option, Some, None, refl, sym, ap, ◌∙◌, subst, arith}
 use Rattle.std.specs.Prelude.{map, option_map, slice_set, unwrap_or}
 use Rattle.std.proofs.lemmas.Bool.{both_ways, cases_Bool}
 use Rattle.std.proofs.lemmas.List.{append-nil}
@@ -10,7 +10,7 @@ use Rattle.ca_arena.specs.declared.handle.Handle.{Handle}
 use Rattle.ca_ids.specs.Wire.{wire_of}
 use Rattle.ca_model.specs.Answers.{Sending}
 use Rattle.ca_model.specs.Client.{Client}
-use Rattle.ca_model.specs.History.{Circuit, Create, Intent, On, Reply, Sent, Step, Told}
+use Rattle.ca_model.specs.History.{Circuit, Create, Intent, On, Reply, Sent, Told}
 use Rattle.ca_model.specs.Server.{Server}
 use Rattle.ca_model.specs.Speech.{Cid, Creates, Gives, Is, Speaks}
 use Rattle.ca_model_safe.specs.Channels.{Suits}
@@ -18,14 +18,14 @@ use Rattle.ca_model_client.proofs.Thinner.{number-or, three-ways}
 use Rattle.ca_model_world.specs.ClientEvents.{Outcomes, channel_number, client_after, sent_on}
 use Rattle.ca_model_world.specs.ServerEvents.{ending, server_after, server_closed}
 use Rattle.ca_model_world.specs.World.{ClientSide, Joined, Names, ServerSide, World}
-use Rattle.ca_laws_circuit.specs.Flows.{Concerns, IsGiven}
+use Rattle.ca_laws_circuit.specs.Flows.{Concerns}
 use Rattle.ca_laws_circuit.proofs.Flows.{given-now}
 use Rattle.ca_laws_kept.specs.Kept.{kept}
 use Rattle.ca_laws_runs.specs.Circuit.{HeldOn, sent_to}
 use Rattle.ca_laws_runs.proofs.Handled.{Like}
 use Rattle.ca_laws_steps.specs.Held.{AllCircuitsHeld}
-use Rattle.ca_laws_heard.proofs.Ends.{sent-closed, sent-mine, sent-other}
-use Rattle.ca_laws_heard.proofs.Says.{said}
+use Rattle.ca_laws_held.proofs.HeardEnds.{sent-closed, sent-mine, sent-other}
+use Rattle.ca_laws_held.proofs.Says.{said}
 use Rattle.ca_laws_held.specs.Sides.{AllSided, IsLiveAs, Right, Sides}
 use Rattle.ca_laws_held.proofs.Calls.{calm-silent}
 use Rattle.ca_laws_held.proofs.Grows.{Facts}

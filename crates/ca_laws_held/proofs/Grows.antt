@@ -1,16 +1,16 @@
 -- What a client has of a circuit, and what it said there, as more messages are sent.
-use Rattle.std.proofs.Common.{◌≡◌, ℕ, ◌+◌, ◌<◌, ◌≤◌, ◌⊎◌, inl, inr, List, [], ◌∷◌, ◌++◌, length, refl, sym, ap, ◌∙◌, subst, arith}
+use Rattle.std.proofs.Common.{◌≡◌, ℕ, ◌+◌, ◌<◌, ◌≤◌, ◌⊎◌, inl, inr, List, ◌++◌, length, sym, ap, ◌∙◌, subst, arith}
 use Rattle.std.proofs.lemmas.List.{length-append}
 use Rattle.ca_text.specs.Place.{At}
 use Rattle.ca_text.proofs.Places.{At-after, At-append, At-parts, At-within}
 use Rattle.ca_arena.specs.declared.handle.Handle.{Handle}
 use Rattle.ca_model.specs.Client.{Client}
-use Rattle.ca_model.specs.History.{Ask, Circuit, Create, Intent, On, OfCircuit, Reply, Sent, Told}
+use Rattle.ca_model.specs.History.{Ask, Circuit, Create, On, OfCircuit, Reply, Sent, Told}
 use Rattle.ca_model.specs.Speech.{Clears, Creates, sid_in}
 use Rattle.ca_model_world.specs.ClientEvents.{channel_number}
 use Rattle.ca_model_world.specs.World.{Names}
 use Rattle.ca_laws_circuit.specs.Sids.{IsClearedWithin}
-use Rattle.ca_laws_sids.specs.Under.{AreClearedBetween, AreUnder, IsCreatedBefore, IsUse}
+use Rattle.ca_laws_held.specs.Under.{IsCreatedBefore, IsUse}
 use Rattle.ca_laws_held.specs.Sides.{AreInTurn, IsLiveAs, Right, Sides}
 
 -- What is known of a circuit d which c became: a channel is created again only once its last CREATE_CHAN was handled, and its reply was read;

@@ -1,5 +1,5 @@
 -- A message that a client reads: in which way the client speaks on each circuit then.
-use Rattle.std.proofs.Common.{◌≡◌, ℕ, suc, ◌+◌, ◌<◌, ◌≤◌, ◌⊎◌, inl, inr, Bool, true, false, ◌&&◌, cond, eqb, List, [], ◌∷◌, ◌++◌, length, Option, Some, None, refl, sym, ap, ◌∙◌, subst, arith}
+use Rattle.std.proofs.Common.{◌≡◌, ℕ, ◌+◌, ◌<◌, ◌≤◌, ◌⊎◌, inl, inr, Bool, true, false, ◌&&◌, cond, eqb, List, [], ◌∷◌, length, Option, Some, None, refl, sym, ap, ◌∙◌, subst, arith}
 use Rattle.std.specs.Prelude.{map, option_and_then, option_map, unwrap_or}
 use Rattle.std.proofs.lemmas.Bool.{and_parts, both_ways}
 use Rattle.std.specs.List.{list_any}
@@ -9,7 +9,7 @@ use Rattle.ca_text.specs.declared.command.Command.TheVariants as command
 use Rattle.ca_text.specs.Place.{At}
 use Rattle.ca_text.proofs.Places.{At-mapped, At-one, At-within}
 use Rattle.ca_arena.specs.declared.handle.Handle.{Handle}
-use Rattle.ca_ids.specs.Table.{by_wire, held, same_handle, under, with_changed}
+use Rattle.ca_ids.specs.Table.{by_wire, held, under}
 use Rattle.ca_ids.specs.Wire.{wire_of}
 use Rattle.ca_monitor.specs.Subscriptions.{Subscription, is_to, standing_to, stands_in}
 use Rattle.ca_requests.specs.Requests.{Request}
@@ -19,19 +19,19 @@ use Rattle.ca_requests.specs.Requests.{answered_by}
 use Rattle.ca_wire.specs.Fields.{Fields}
 use Rattle.ca_wire.specs.declared.header.Header.{Header}
 use Rattle.ca_model.specs.Answers.{Notice, Sending}
-use Rattle.ca_model.specs.Client.{Channel, Client, Clearing, Connecting, Creating, Doomed, Leaving, Live, Native, On, Phase, Standing, channel_on, is_live, is_on_in, phase_on, searched_again, sending, with_requests, with_standing, without_channel}
+use Rattle.ca_model.specs.Client.{Channel, Client, Clearing, Connecting, Creating, Doomed, Leaving, Live, Native, On, Phase, channel_on, is_live, phase_on, searched_again, sending, with_standing, without_channel}
 use Rattle.ca_model.specs.ClientCalls.{clear_sent, event_add_sent}
 use Rattle.ca_model.specs.Hears.{Answers, Completes, Effect, Fails, Hears, Updates, any_failed, clear_answered, confirmed, created, doing, event_adds, failed, found_at, heard_by, left, native_in, request_failed, rights_told, searched_by, subscription_failed, understood, without_drained, without_request, without_subscription, write_failed}
 use Rattle.ca_model.specs.Hears as hears
 use Rattle.ca_model.specs.History.{Ask, Circuit, Clear, Create, Reply, Sent, Step, Subscribe, Told}
 use Rattle.ca_model.specs.History as history
-use Rattle.ca_model.specs.Speech.{Cid, Clears, Creates, In, Is, Speaks, sid_in}
+use Rattle.ca_model.specs.Speech.{Cid, Creates, Is, Speaks, sid_in}
 use Rattle.ca_model_safe.specs.Channels.{Suits}
 use Rattle.ca_model_client.proofs.Handles.{handle-or, same-is, same-itself}
 use Rattle.ca_model_client.proofs.Standings.{channel-on}
 use Rattle.ca_model_client.proofs.Tables.{held-under, length-more, under-wire}
 use Rattle.ca_model_client.proofs.Thinner.{three-ways}
-use Rattle.ca_model_world.specs.ClientEvents.{channel_number, meant_by}
+use Rattle.ca_model_world.specs.ClientEvents.{channel_number}
 use Rattle.ca_model_world.specs.World.{Names}
 use Rattle.ca_laws_circuit.specs.Flows.{Awaits, Flows, with_heard}
 use Rattle.ca_laws_circuit.specs.Held.{Holds, is_asked}
@@ -39,14 +39,14 @@ use Rattle.ca_laws_circuit.specs.Sids.{IsClearedWithin}
 use Rattle.ca_laws_circuit.proofs.Marks.{at-filter}
 use Rattle.ca_laws_runs.specs.Circuit.{AreCids, AreNumbered, stamped}
 use Rattle.ca_laws_steps.proofs.Found.{create-is, found-intent}
-use Rattle.ca_laws_heard.specs.Quiet.{IsBeingCleared, IsBeingCreated, PhaseIn, Quiet, Tidy}
-use Rattle.ca_laws_heard.proofs.Heard.{created-before}
-use Rattle.ca_laws_heard.proofs.Says.{one-handle, said}
-use Rattle.ca_laws_sids.specs.Under.{IsCreatedBefore, IsUse}
+use Rattle.ca_laws_held.specs.Quiet.{IsBeingCleared, IsBeingCreated, Quiet, Tidy}
+use Rattle.ca_laws_held.proofs.Heard.{created-before}
+use Rattle.ca_laws_held.proofs.Says.{one-handle, said}
+use Rattle.ca_laws_held.specs.Under.{IsCreatedBefore, IsUse}
 use Rattle.ca_laws_held.specs.Sides.{IsLiveAs, Right, Sides}
-use Rattle.ca_laws_held.proofs.Calls.{CalmTo, calm-finds, one-said, said-at, way-cleared, way-silent}
+use Rattle.ca_laws_held.proofs.Calls.{calm-finds, one-said, said-at, way-cleared, way-silent}
 use Rattle.ca_laws_held.proofs.Live.{NoLive, SameLive, live-itself, made-live, none-live, live-as, channels-sending, not-phase, one-sid, other-back, other-there, same-again, same-gone, same-rights, same-stood, stood-none}
-use Rattle.ca_laws_held.proofs.Ways.{IsCalm, IsClearing, IsUsing, Way}
+use Rattle.ca_laws_held.proofs.Ways.{Way}
 
 -- ---- all messages but the reply to a CREATE_CHAN
 

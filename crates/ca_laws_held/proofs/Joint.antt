@@ -1,15 +1,14 @@
 -- What is held of all circuits, what clients have of them, and what they said there: over every event and every run.
-use Rattle.std.proofs.Common.{◌≡◌, ℕ, suc, ◌≤◌, inl, inr, List, [], ◌∷◌, ◌++◌, length, Option, Some, None, refl, sym, ap, ◌∙◌, subst}
+use Rattle.std.proofs.Common.{◌≡◌, ℕ, suc, ◌≤◌, inl, inr, List, [], ◌∷◌, ◌++◌, length, Option, Some, None, refl, sym, subst}
 use Rattle.std.specs.List.{FoldsTo}
 use Rattle.std.specs.Prelude.{take}
 use Rattle.ca_text.specs.Place.{At}
 use Rattle.ca_text.proofs.Places.{At-one, At-snoc}
 use Rattle.ca_model.specs.Client.{Client}
-use Rattle.ca_model.specs.History.{Circuit, Sent, Told}
+use Rattle.ca_model.specs.History.{Sent, Told}
 use Rattle.ca_model.specs.Speech.{Id, Speaks}
 use Rattle.ca_model_safe.specs.Channels.{Suits}
 use Rattle.ca_model_safe.specs.Headline.{TakesOwn}
-use Rattle.ca_model_world.specs.ClientEvents.{TicksOne}
 use Rattle.ca_model_world.specs.Events.{Event}
 use Rattle.ca_model_world.specs.Events as event
 use Rattle.ca_model_world.specs.Runs.{AreEvents, Happens, IsEvent, Runs, StopsAt, clients_below}
@@ -25,18 +24,18 @@ use Rattle.ca_laws_steps.proofs.Holds.{IsTold}
 use Rattle.ca_laws_steps.proofs.Replied.{reached-answer}
 use Rattle.ca_laws_steps.proofs.Whole.{run-serves}
 use Rattle.ca_laws_writes.proofs.Lists.{At-take, none_at}
-use Rattle.ca_laws_heard.specs.About.{AllOwn, IsOwnStep, ReadsAbout}
-use Rattle.ca_laws_heard.specs.Quiet.{ClientsQuiet}
-use Rattle.ca_laws_heard.specs.Tells.{NoticesTell}
-use Rattle.ca_laws_heard.proofs.Kept.{quiet-runs}
-use Rattle.ca_laws_heard.proofs.Whole.{after-own, after-reads, after-tells, run-own}
-use Rattle.ca_laws_sids.specs.Under.{AllSayRight}
-use Rattle.ca_laws_sids.proofs.Created.{reached-created}
-use Rattle.ca_laws_sids.proofs.Over.{reached-known}
-use Rattle.ca_laws_sids.proofs.Tells.{event-back}
+use Rattle.ca_laws_held.specs.About.{AllOwn, IsOwnStep, ReadsAbout}
+use Rattle.ca_laws_held.specs.Quiet.{ClientsQuiet}
+use Rattle.ca_laws_held.specs.Tells.{NoticesTell}
+use Rattle.ca_laws_held.proofs.Kept.{quiet-runs}
+use Rattle.ca_laws_held.proofs.Whole.{after-own, after-reads, after-tells, run-own}
+use Rattle.ca_laws_held.specs.Under.{AllSayRight}
+use Rattle.ca_laws_held.proofs.Created.{reached-created}
+use Rattle.ca_laws_held.proofs.Over.{reached-known}
+use Rattle.ca_laws_held.proofs.SidTells.{event-back}
 use Rattle.ca_laws_held.specs.Sides.{AllSided}
 use Rattle.ca_laws_held.proofs.Clients.{sided-clear, sided-client-restart, sided-cut-client, sided-datagram, sided-down, sided-lists, sided-open, sided-read, sided-subscribe, sided-unsubscribe, sided-up, sided-write, sided-write-notify}
-use Rattle.ca_laws_held.proofs.Ends.{From, FactsFor, facts-held, from-itself}
+use Rattle.ca_laws_held.proofs.Ends.{facts-held, from-itself}
 use Rattle.ca_laws_held.proofs.Making.{sided-accept, sided-ticks}
 use Rattle.ca_laws_held.proofs.Served.{back-told, sided-server, step-told}
 use Rattle.ca_laws_held.proofs.Servers.{from-add, from-cut-server, from-finish, from-post, from-pump, from-remove, from-server-restart, from-server-step}

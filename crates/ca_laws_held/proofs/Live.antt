@@ -9,7 +9,7 @@ use Rattle.ca_model.specs.Client.{Channel, Client, ClientCircuit, Creating, Live
 use Rattle.ca_model.specs.Client as phase
 use Rattle.ca_model.specs.ClientCalls.{unwanted}
 use Rattle.ca_model.specs.ClientEnds.{creating, is_connecting}
-use Rattle.ca_model_client.proofs.Handles.{handle-or, same-itself}
+use Rattle.ca_model_client.proofs.Handles.{handle-or}
 use Rattle.ca_model_client.proofs.Standings.{fails-anywhere, is-on, on-circuit, on-one}
 use Rattle.ca_model_client.proofs.Tables.{all-back, all-there, changed-back, changed-other, changed-own, freed-back, freed-other, held-back, held-other, one-value}
 use Rattle.ca_laws_held.specs.Sides.{IsLiveAs}
@@ -167,8 +167,8 @@ same-held t on h ch may none g sid = (
 pub same-begun : (t : Table Channel) (on c : Handle) → SameLive on t (with_all (creating c) t)
 same-begun t on c g sid = (
   λ l.
-  let plain : creating c l.ch ≡ l.ch = ap (λ (b : Bool). cond b (record l.ch { standing = On c (Creating 0) }) l.ch) (fails-anywhere is_connecting c on l.ch (Live l.native l.rights) l.stands refl) in
-  record { ch = l.ch; native = l.native; rights = l.rights; there = all-there (creating c) t g l.ch l.there ∙ ap (λ (z : Channel). Some z) plain; stands = l.stands; is = l.is },
+      let plain : creating c l.ch ≡ l.ch = ap (λ (b : Bool). cond b (record l.ch { standing = On c (Creating 0) }) l.ch) (fails-anywhere is_connecting c on l.ch (Live l.native l.rights) l.stands refl) in
+      record { ch = l.ch; native = l.native; rights = l.rights; there = all-there (creating c) t g l.ch l.there ∙ ap (λ (z : Channel). Some z) plain; stands = l.stands; is = l.is },
   λ l. (let was = all-back (creating c) t g l.ch l.there in back l was.0 was.1 (is_on_in is_connecting c was.0) (ap (λ (z : Channel). z.standing) (sym was.2) ∙ l.stands)),
 )
   where

@@ -1,5 +1,5 @@
 -- A circuit that is made, and a moment, keep what clients have of their circuits.
-use Rattle.std.proofs.Common.{◌≡◌, ℕ, zero, suc, ◌+◌, ◌<◌, ◌⊎◌, inl, inr, Bool, true, false, ◌&&◌, cond, eqb, List, [], ◌∷◌, ◌++◌, length, Option, Some, None, refl, sym, ap, ◌∙◌, subst, arith}
+use Rattle.std.proofs.Common.{◌≡◌, ℕ, zero, suc, ◌<◌, ◌⊎◌, inl, inr, Bool, true, false, ◌&&◌, cond, eqb, List, [], ◌∷◌, ◌++◌, length, Option, Some, None, refl, sym, ap, ◌∙◌, subst, arith}
 use Rattle.std.specs.Prelude.{filter, find, fold, is_none, map, option_and_then, option_map, slice_set, unwrap_or}
 use Rattle.std.specs.List.{FoldsTo}
 use Rattle.std.proofs.lemmas.Bool.{and_from, both_ways, cases_Bool, eq-eqb}
@@ -8,7 +8,7 @@ use Rattle.ca_text.specs.declared.command.Command.TheVariants as command
 use Rattle.ca_text.specs.Place.{At}
 use Rattle.ca_text.proofs.Places.{At-append, At-last, At-mapped, At-one, At-parts, At-set, At-snoc, some_is}
 use Rattle.ca_arena.specs.declared.handle.Handle.{Handle}
-use Rattle.ca_ids.specs.Table.{held, same_handle, under, with_all}
+use Rattle.ca_ids.specs.Table.{held, same_handle, under}
 use Rattle.ca_link.specs.declared.keep.Keep.{Keep}
 use Rattle.ca_link.specs.declared.keep.Keep.TheVariants.{Close, Echo, Idle}
 use Rattle.ca_link.specs.Link.{kept}
@@ -16,17 +16,17 @@ use Rattle.ca_search.specs.Searches as search
 use Rattle.ca_wire.specs.Messages.{bare, name_request, search_request, version_request}
 use Rattle.ca_model.specs.Answers.{Closing, Left, Sending}
 use Rattle.ca_model.specs.Answers as answer
-use Rattle.ca_model.specs.Client.{Channel, Client, ClientCircuit, Connection, Live, On, connection_at, ended, is_on_in, later, on_connection, sending}
+use Rattle.ca_model.specs.Client.{Channel, Client, ClientCircuit, Connection, Live, connection_at, ended, is_on_in, later, on_connection, sending}
 use Rattle.ca_model.specs.ClientCalls.{is_over}
-use Rattle.ca_model.specs.ClientEnds.{ConnectsOn, Ticking, all_searched_on, begun, circuits_ticked, creating, creations, due, echoes, falls_silent, is_connecting, is_name_connected, of_circuit, searches_made, searches_on, set_up, ticks, ticks_as, with_sending}
+use Rattle.ca_model.specs.ClientEnds.{ConnectsOn, Ticking, all_searched_on, begun, circuits_ticked, creations, due, is_connecting, is_name_connected, of_circuit, searches_made, searches_on, set_up, ticks, ticks_as, with_sending}
 use Rattle.ca_model.specs.Hears.{create_sent}
 use Rattle.ca_model.specs.History.{Ask, Circuit, Create, Intent, Line, Sent, Step, Told}
 use Rattle.ca_model.specs.History as history
 use Rattle.ca_model_client.specs.Placed.{IsPlaced}
-use Rattle.ca_model_client.proofs.Handles.{not-same, same-is, same-itself}
+use Rattle.ca_model_client.proofs.Handles.{not-same}
 use Rattle.ca_model_client.proofs.Standings.{at-filter-map}
 use Rattle.ca_model_client.proofs.Thinner.{number-or}
-use Rattle.ca_model_world.specs.ClientEvents.{HappensAccept, Outcomes, TicksOne, WantsFirst, after_tick, channel_number, client_after, client_closed, connected_as, left_silent, lines_of, new_circuit, sent_on, told_by}
+use Rattle.ca_model_world.specs.ClientEvents.{HappensAccept, TicksOne, WantsFirst, after_tick, channel_number, client_after, client_closed, connected_as, left_silent, lines_of, new_circuit, sent_on, told_by}
 use Rattle.ca_model_world.specs.World.{ClientSide, Joined, Names, ServerSide, World}
 use Rattle.ca_laws_circuit.proofs.Marks.{at-filter}
 use Rattle.ca_laws_kept.specs.Kept as keeps
@@ -35,13 +35,13 @@ use Rattle.ca_laws_runs.specs.Clients.{ClientsStand}
 use Rattle.ca_laws_runs.proofs.ClientsMore.{unconnected-is, wanted-there}
 use Rattle.ca_laws_steps.specs.Held.{AllCircuitsHeld}
 use Rattle.ca_laws_writes.proofs.Lists.{none_at}
-use Rattle.ca_laws_heard.proofs.Ends.{sent-closed, sent-mine, sent-other}
-use Rattle.ca_laws_heard.proofs.Says.{said}
+use Rattle.ca_laws_held.proofs.HeardEnds.{sent-closed, sent-mine, sent-other}
+use Rattle.ca_laws_held.proofs.Says.{said}
 use Rattle.ca_laws_held.specs.Sides.{AllSided, IsLiveAs, Right, Sides}
-use Rattle.ca_laws_held.proofs.Calls.{none-said, nothing-there, serving, way-elsewhere}
+use Rattle.ca_laws_held.proofs.Calls.{nothing-there, serving, way-elsewhere}
 use Rattle.ca_laws_held.proofs.Ends.{AllAfter, IsEndAfter, right-served, same-right, same-sides, sided-ways, turn-held}
 use Rattle.ca_laws_held.proofs.Live.{SameLive, channels-sending, live-as, live-itself, live-then, same-begun, same-ended}
-use Rattle.ca_laws_held.proofs.Ways.{IsCalm, Way, by-way}
+use Rattle.ca_laws_held.proofs.Ways.{by-way}
 
 -- ---- a circuit is made
 
@@ -408,17 +408,20 @@ ticks-one-sided moment w i new s happens = subst (λ (v : World). AllSided v) (s
     ends l j at_j =
         let q = back l j at_j in
         let a : Joined = q.0 in
-        let e = tick-end i t.closings (sent_to i x.names sent a) in
-        (a, q.1, subst (λ (v : Joined). IsEndAfter i x.names sent a v) (sym q.2) (record {
-          client = e.0;
-          handle = e.1;
-          opens = e.2;
-          shuts = λ o f p m in_it. served a.at_client p m in_it;
-          up = e.3;
-          down = e.4;
-          heard = ap (λ (v : List Step). length v) e.5;
-          handled = ap (λ (v : List Step). length v) e.6;
-        }))
+        let e = tick-end i t.closings (sent_to i x.names sent a) in (
+          a,
+          q.1,
+          subst (λ (v : Joined). IsEndAfter i x.names sent a v) (sym q.2) (record {
+            client = e.0;
+            handle = e.1;
+            opens = e.2;
+            shuts = λ o f p m in_it. served a.at_client p m in_it;
+            up = e.3;
+            down = e.4;
+            heard = ap (λ (v : List Step). length v) e.5;
+            handled = ap (λ (v : List Step). length v) e.6;
+          }),
+        )
 
 pub sided-ticks : (moment : ℕ) (clients : List ℕ) (w new : World) → AllSided w → FoldsTo (TicksOne moment) w clients new → AllSided new
 sided-ticks moment [] w new s folds = subst (λ (v : World). AllSided v) folds s

@@ -7,7 +7,7 @@ use Rattle.ca_arena.specs.declared.handle.Handle.{Handle}
 use Rattle.ca_wire.specs.Fields.{Fields}
 use Rattle.ca_model.specs.Client.{Client}
 use Rattle.ca_model.specs.Due.{Action}
-use Rattle.ca_model.specs.History.{Ask, Circuit, Create, On, Reply, Sent, Step, Told}
+use Rattle.ca_model.specs.History.{Circuit, Reply, Sent, Step, Told}
 use Rattle.ca_model.specs.ServerSteps.{Stepped}
 use Rattle.ca_model.specs.ServerSteps as stepped
 use Rattle.ca_model.specs.Speech.{Creates}
@@ -22,8 +22,8 @@ use Rattle.ca_laws_circuit.specs.Sids.{IsClearedWithin}
 use Rattle.ca_laws_runs.proofs.Handled.{numbers-like, writes-like}
 use Rattle.ca_laws_writes.proofs.Midway.{set-here}
 use Rattle.ca_laws_writes.proofs.Moves.{same-or}
-use Rattle.ca_laws_sids.specs.Under.{IsCreatedBefore}
-use Rattle.ca_laws_sids.proofs.Tells.{Back, KeepsOn, on-ending, step-beside, unhandled-back}
+use Rattle.ca_laws_held.specs.Under.{IsCreatedBefore}
+use Rattle.ca_laws_held.proofs.SidTells.{Back, KeepsOn, step-beside, unhandled-back}
 use Rattle.ca_laws_held.specs.Sides.{AllSided, Right, Sides}
 use Rattle.ca_laws_held.proofs.Ends.{From}
 

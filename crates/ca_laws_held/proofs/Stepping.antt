@@ -1,60 +1,47 @@
 -- A step of a client's end, a circuit that is made, and a moment keep what clients have of their circuits.
-use Rattle.std.proofs.Common.{◌≡◌, ℕ, zero, suc, ◌+◌, ◌<◌, ◌⊎◌, inl, inr, Bool, true, false, ◌&&◌, cond, eqb, List, [], ◌∷◌, ◌++◌, length, Option, Some, None, refl, sym, ap, ◌∙◌, subst, arith}
-use Rattle.std.specs.Prelude.{filter, find, fold, is_none, map, option_and_then, option_map, slice_set, unwrap_or}
-use Rattle.std.specs.List.{FoldsTo}
-use Rattle.std.proofs.lemmas.Bool.{both_ways, cases_Bool}
-use Rattle.std.proofs.lemmas.List.{append-nil}
+use Rattle.std.proofs.Common.{◌≡◌, ℕ, ◌+◌, ◌<◌, ◌⊎◌, inl, inr, true, false, List, [], ◌∷◌, ◌++◌, length, Option, Some, None, refl, sym, ap, ◌∙◌, subst, arith}
+use Rattle.std.specs.Prelude.{is_none, slice_set}
+use Rattle.std.proofs.lemmas.Bool.{both_ways}
 use Rattle.ca_text.specs.declared.command.Command.TheVariants as command
 use Rattle.ca_text.specs.Place.{At}
-use Rattle.ca_text.proofs.Places.{At-append, At-last, At-mapped, At-one, At-parts, At-set, At-snoc, some_is}
+use Rattle.ca_text.proofs.Places.{At-mapped, At-one, At-set}
 use Rattle.ca_arena.specs.declared.handle.Handle.{Handle}
-use Rattle.ca_ids.specs.Table.{held, same_handle, under, with_all}
-use Rattle.ca_link.specs.declared.keep.Keep.{Keep}
-use Rattle.ca_link.specs.declared.keep.Keep.TheVariants.{Close, Echo, Idle}
+use Rattle.ca_ids.specs.Table.{same_handle}
 use Rattle.ca_link.specs.Link.{TakesFirst}
 use Rattle.ca_link.specs.Link as link
-use Rattle.ca_search.specs.Searches as search
 use Rattle.ca_wire.specs.Fields.{Fields}
-use Rattle.ca_wire.specs.Messages.{bare, name_request, search_request, version_request}
-use Rattle.ca_model.specs.Answers.{Closed, Closing, Left, NeedBytes, Notice, Notices, Sending, Stepped}
-use Rattle.ca_model.specs.Answers as answer
-use Rattle.ca_model.specs.Client.{Channel, Client, ClientCircuit, Clearing, Connecting, Connection, Creating, Doomed, Leaving, Live, On, Phase, channel_on, connection_at, ended, is_on_in, later, on_connection, sending, with_standing}
-use Rattle.ca_model.specs.ClientCalls.{clear_sent, event_add_sent, is_over}
+use Rattle.ca_model.specs.Answers.{Closed, NeedBytes, Notice, Notices, Sending, Stepped}
+use Rattle.ca_model.specs.Client.{Client, Clearing, Connecting, Connection, Creating, Doomed, Leaving, Live, On, Phase, channel_on, connection_at, sending, with_standing}
+use Rattle.ca_model.specs.ClientCalls.{clear_sent, event_add_sent}
 use Rattle.ca_monitor.specs.Subscriptions.{Subscription, standing_to}
-use Rattle.ca_model.specs.ClientEnds.{ConnectsOn, StepsOn, Takes, Ticking, after_taking, all_searched_on, begun, circuits_ticked, creating, creations, due, echoes, falls_silent, is_connecting, is_name_connected, of_circuit, searches_made, searches_on, set_up, ticks, ticks_as, with_sending}
-use Rattle.ca_model.specs.Hears.{Effect, Hears, create_sent, created, event_adds, native_in}
-use Rattle.ca_model.specs.History.{Ask, Circuit, Create, Line, Reply, Sent, Step, Told}
-use Rattle.ca_model.specs.History as history
-use Rattle.ca_model.specs.Speech.{Creates, Is}
-use Rattle.ca_model_client.proofs.Handles.{not-same, same-is, same-itself, same-not}
-use Rattle.ca_model_client.proofs.Standings.{at-filter-map, channel-on, is-on}
+use Rattle.ca_model.specs.ClientEnds.{StepsOn, Takes, after_taking}
+use Rattle.ca_model.specs.Hears.{Effect, Hears, created, event_adds, native_in}
+use Rattle.ca_model.specs.History.{Circuit, Line, Reply, Step, Told}
+use Rattle.ca_model.specs.Speech.{Is}
+use Rattle.ca_model_client.proofs.Handles.{same-itself}
+use Rattle.ca_model_client.proofs.Standings.{channel-on}
 use Rattle.ca_model_client.proofs.Tables.{length-more}
-use Rattle.ca_model_client.proofs.Thinner.{number-or, three-ways}
-use Rattle.ca_model_world.specs.ClientEvents.{HappensAccept, HappensClientStep, Outcomes, TicksOne, WantsFirst, about_at, after_tick, client_after, client_closed, client_ended, client_stepped, connected_as, heard_in, left_silent, lines_of, new_circuit, sent_on, told_by}
-use Rattle.ca_model_world.specs.World.{ClientSide, Joined, Names, ServerSide, World, log_length, with_circuit}
-use Rattle.ca_laws_bytes.specs.Runs.{HearsSent}
+use Rattle.ca_model_client.proofs.Thinner.{three-ways}
+use Rattle.ca_model_world.specs.ClientEvents.{HappensClientStep, about_at, client_after, client_ended, client_stepped, heard_in, lines_of}
+use Rattle.ca_model_world.specs.World.{ClientSide, Joined, World, log_length, with_circuit}
 use Rattle.ca_laws_circuit.specs.Flows.{with_heard}
-use Rattle.ca_laws_circuit.proofs.Marks.{at-filter}
 use Rattle.ca_laws_kept.specs.Kept.{kept}
-use Rattle.ca_laws_runs.specs.Circuit.{AreNumbered, HeldOn, sent_to, stamped}
+use Rattle.ca_laws_runs.specs.Circuit.{HeldOn, sent_to}
 use Rattle.ca_laws_runs.specs.Clients.{ClientsStand}
-use Rattle.ca_laws_runs.proofs.ClientsMore.{unconnected-is, wanted-there}
 use Rattle.ca_laws_steps.specs.Held.{AllCircuitsHeld}
 use Rattle.ca_laws_steps.proofs.Holds.{IsTold}
-use Rattle.ca_laws_writes.proofs.Lists.{none_at}
-use Rattle.ca_laws_writes.proofs.Moves.{same-or}
-use Rattle.ca_laws_heard.specs.Quiet.{ClientsQuiet, Quiet, Tidy}
-use Rattle.ca_laws_heard.proofs.Lesser.{less-on, quiet-less, tidy-less}
-use Rattle.ca_laws_heard.proofs.Says.{said}
-use Rattle.ca_laws_sids.specs.Created.{CreatedOn}
-use Rattle.ca_laws_held.specs.Sides.{AllSided, IsLiveAs, Right, Sides}
-use Rattle.ca_laws_held.proofs.Calls.{none-said, only-sent, said-at, serving, way-elsewhere, way-silent}
+use Rattle.ca_laws_held.specs.Quiet.{ClientsQuiet, Quiet, Tidy}
+use Rattle.ca_laws_held.proofs.Lesser.{less-on, quiet-less, tidy-less}
+use Rattle.ca_laws_held.proofs.Says.{said}
+use Rattle.ca_laws_held.specs.Created.{CreatedOn}
+use Rattle.ca_laws_held.specs.Sides.{AllSided, Right, Sides}
+use Rattle.ca_laws_held.proofs.Calls.{only-sent, way-elsewhere, way-silent}
 use Rattle.ca_laws_held.proofs.Clients.{sided-ended}
-use Rattle.ca_laws_held.proofs.Ends.{AllAfter, AllEnds, FactsFor, IsEnd, IsEndAfter, sided-by, sided-ways, turn-held}
+use Rattle.ca_laws_held.proofs.Ends.{AllEnds, FactsFor, IsEnd, sided-by}
 use Rattle.ca_laws_held.proofs.Grows.{Facts}
-use Rattle.ca_laws_held.proofs.Hearing.{heard-created, right-now, spoken}
-use Rattle.ca_laws_held.proofs.Live.{SameLive, channels-sending, live-as, live-itself, live-then, none-live, not-on, same-begun, same-ended, same-stood}
-use Rattle.ca_laws_held.proofs.Ways.{AllServe, Way, by-way}
+use Rattle.ca_laws_held.proofs.Hearing.{heard-created, spoken}
+use Rattle.ca_laws_held.proofs.Live.{SameLive, channels-sending, live-as, live-itself, live-then, none-live, not-on, same-stood}
+use Rattle.ca_laws_held.proofs.Ways.{Way, by-way}
 
 -- ---- a step of a client's end
 
@@ -188,26 +175,34 @@ module _ (w new : World) (k : ℕ) (j : Joined) (x : ClientSide) (at : At w.circ
 
     ends : AllEnds j.client x.names sent w.circuits after.circuits
     ends l v at_v = elim (circuit-or l v at_v) [
-      | inl here ↦ (j, subst (λ (u : ℕ). At w.circuits u j) (sym here.0) at, subst (λ (u : Joined). IsEnd j.client x.names sent j u) (sym here.1) (record {
-        client = refl;
-        handle = refl;
-        opens = λ o. o;
-        shuts = λ o f. absurd (both_ways j.lists.client_open f o);
-        up = refl;
-        down = refl;
-        heard = λ other. absurd (other refl);
-        handled = refl;
-      }))
-      | inr old ↦ (old.1.0, old.1.1, subst (λ (u : Joined). IsEnd j.client x.names sent old.1.0 u) (sym old.1.2) (record {
-        client = refl;
-        handle = refl;
-        opens = λ o. o;
-        shuts = λ o f. absurd (both_ways (old.1.0).lists.client_open f o);
-        up = refl;
-        down = refl;
-        heard = λ other. refl;
-        handled = refl;
-      }))
+      | inl here ↦ (
+        j,
+        subst (λ (u : ℕ). At w.circuits u j) (sym here.0) at,
+        subst (λ (u : Joined). IsEnd j.client x.names sent j u) (sym here.1) (record {
+          client = refl;
+          handle = refl;
+          opens = λ o. o;
+          shuts = λ o f. absurd (both_ways j.lists.client_open f o);
+          up = refl;
+          down = refl;
+          heard = λ other. absurd (other refl);
+          handled = refl;
+        }),
+      )
+      | inr old ↦ (
+        old.1.0,
+        old.1.1,
+        subst (λ (u : Joined). IsEnd j.client x.names sent old.1.0 u) (sym old.1.2) (record {
+          client = refl;
+          handle = refl;
+          opens = λ o. o;
+          shuts = λ o f. absurd (both_ways (old.1.0).lists.client_open f o);
+          up = refl;
+          down = refl;
+          heard = λ other. refl;
+          handled = refl;
+        }),
+      )
     ]
 
     own-step : (l : ℕ) (v a : Joined) → At after.circuits l v → At w.circuits l a → l ≡ k → v ≡ sent_to j.client x.names sent (heard_in g j) → v.lists.client_open ≡ true → v.lists.up ≡ a.lists.up ++ said x.names a.at_client sent → Sides x.names x.core a.at_client a.lists → Right a.lists

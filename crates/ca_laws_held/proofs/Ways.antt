@@ -4,14 +4,13 @@ use Rattle.ca_text.specs.Place.{At}
 use Rattle.ca_text.proofs.Places.{At-after, At-append, At-back, some_is}
 use Rattle.ca_arena.specs.declared.handle.Handle.{Handle}
 use Rattle.ca_model.specs.Client.{Client}
-use Rattle.ca_model.specs.History.{Ask, Circuit, Clear, Create, Intent, On, OfCircuit, Reply, Sent, Told}
-use Rattle.ca_model.specs.Speech.{Clears, Creates, sid_in}
+use Rattle.ca_model.specs.History.{Ask, Circuit, Clear, Create, On, OfCircuit, Sent, Told}
+use Rattle.ca_model.specs.Speech.{Clears, sid_in}
 use Rattle.ca_model_client.proofs.Handles.{handle-or}
 use Rattle.ca_model_world.specs.ClientEvents.{channel_number}
 use Rattle.ca_model_world.specs.World.{Names}
 use Rattle.ca_laws_circuit.specs.Sids.{IsClearedWithin}
-use Rattle.ca_laws_circuit.proofs.Sids.{within-wider}
-use Rattle.ca_laws_sids.specs.Under.{IsCreatedBefore, IsUse}
+use Rattle.ca_laws_held.specs.Under.{IsCreatedBefore, IsUse}
 use Rattle.ca_laws_held.specs.Sides.{IsLiveAs, Right, Sides}
 use Rattle.ca_laws_held.proofs.Grows.{Facts, created-on, right-more, sides-more}
 use Rattle.ca_laws_held.proofs.Live.{SameLive, one-sid}
@@ -74,35 +73,35 @@ module _ (c d : Circuit) (ss : List Sent) (up : d.up ≡ c.up ++ ss) (down : d.d
     calm : IsCalm on n x ss z → Sides now z on d × Right d
     calm w = (
       sides-more c d ss up down heard handled n now x z on sides numbers (λ h sid l. (w.same h sid).1 l) (λ h sid l. inl ((w.same h sid).0 l))
-      (λ h sid l i s ask at is. elim (w.opens i s at) [
-        | inl serves ↦ absurd (not-on (channel_number n h) ask (sym serves ∙ is))
-        | inr opens ↦ absurd (opens.2 h sid (number-is (channel_number n h) opens.0 ask Create (sym is ∙ opens.1)) ((w.same h sid).1 l))
-      ])
-      (λ i t l a s told place at is. (let lt : t.place < length c.up = (facts l s a at is).about i t told in omega (arith, lt, place))),
+          (λ h sid l i s ask at is. elim (w.opens i s at) [
+            | inl serves ↦ absurd (not-on (channel_number n h) ask (sym serves ∙ is))
+            | inr opens ↦ absurd (opens.2 h sid (number-is (channel_number n h) opens.0 ask Create (sym is ∙ opens.1)) ((w.same h sid).1 l))
+          ])
+          (λ i t l a s told place at is. (let lt : t.place < length c.up = (facts l s a at is).about i t told in omega (arith, lt, place))),
       right-more c d ss up down heard handled right
-      (λ i a s ask at is other. elim (w.opens i s at) [
-        | inl serves ↦ absurd (not-on a ask (sym serves ∙ is))
-        | inr opens ↦ absurd (other (ask-is a opens.0 ask Create (sym is ∙ opens.1)))
-      ])
-      (λ i a p m sid r q t at is lt at_r is_r told about reply creates.
-      let f = facts i q a at is in
-      let at_q : At d.up (length c.up + i) q = subst (λ (l : List Sent). At l (length c.up + i) q) (sym up) (At-after c.up ss i q at) in
-      let read : m < length d.heard = f.read p (length c.up + i) a m sid r q t lt at_r at_q is_r is told about reply creates in
-      let old : At c.down m t = subst (λ (l : List Told). At l m t) down told in
-      let before : p < length c.up = subst (λ (v : ℕ). v < length c.up) about (f.about m t old) in
-      let was : At c.up t.place r = subst (λ (v : ℕ). At c.up v r) (sym about) (below p r at_r before) in
-      elim (sides.answered m sid a t r (subst (λ (v : ℕ). m < v) heard read) old reply creates was is_r) [
-        | inl cleared ↦
-            let w2 : IsClearedWithin c.up sid p (length c.up) = subst (λ (v : ℕ). IsClearedWithin c.up sid v (length c.up)) about cleared in
-            (w2.0, w2.1, w2.2, (let e : w2.0 < length c.up = w2.3 in omega (arith, e)), subst (λ (l : List Sent). At l w2.0 w2.1) (sym up) (At-append-of w2.0 w2.1 w2.4), w2.5)
-        | inr live ↦ elim (w.opens i q at) [
-          | inl serves ↦ absurd (not-on a Create (sym serves ∙ is))
-          | inr opens ↦ absurd (opens.2 live.0 sid (live.1 ∙ number-is a opens.0 Create Create (sym is ∙ opens.1)) live.2)
-        ]
-      ])
-      (λ i a p r q at is lt at_r is_r.
-      let at_q : At d.up (length c.up + i) q = subst (λ (l : List Sent). At l (length c.up + i) q) (sym up) (At-after c.up ss i q at) in
-      (facts i q a at is).turn p (length c.up + i) a r q lt at_r at_q is_r is),
+          (λ i a s ask at is other. elim (w.opens i s at) [
+            | inl serves ↦ absurd (not-on a ask (sym serves ∙ is))
+            | inr opens ↦ absurd (other (ask-is a opens.0 ask Create (sym is ∙ opens.1)))
+          ])
+          (λ i a p m sid r q t at is lt at_r is_r told about reply creates.
+          let f = facts i q a at is in
+          let at_q : At d.up (length c.up + i) q = subst (λ (l : List Sent). At l (length c.up + i) q) (sym up) (At-after c.up ss i q at) in
+          let read : m < length d.heard = f.read p (length c.up + i) a m sid r q t lt at_r at_q is_r is told about reply creates in
+          let old : At c.down m t = subst (λ (l : List Told). At l m t) down told in
+          let before : p < length c.up = subst (λ (v : ℕ). v < length c.up) about (f.about m t old) in
+          let was : At c.up t.place r = subst (λ (v : ℕ). At c.up v r) (sym about) (below p r at_r before) in
+          elim (sides.answered m sid a t r (subst (λ (v : ℕ). m < v) heard read) old reply creates was is_r) [
+            | inl cleared ↦
+                let w2 : IsClearedWithin c.up sid p (length c.up) = subst (λ (v : ℕ). IsClearedWithin c.up sid v (length c.up)) about cleared in
+                (w2.0, w2.1, w2.2, (let e : w2.0 < length c.up = w2.3 in omega (arith, e)), subst (λ (l : List Sent). At l w2.0 w2.1) (sym up) (At-append-of w2.0 w2.1 w2.4), w2.5)
+            | inr live ↦ elim (w.opens i q at) [
+              | inl serves ↦ absurd (not-on a Create (sym serves ∙ is))
+              | inr opens ↦ absurd (opens.2 live.0 sid (live.1 ∙ number-is a opens.0 Create Create (sym is ∙ opens.1)) live.2)
+            ]
+          ])
+          (λ i a p r q at is lt at_r is_r.
+          let at_q : At d.up (length c.up + i) q = subst (λ (l : List Sent). At l (length c.up + i) q) (sym up) (At-after c.up ss i q at) in
+          (facts i q a at is).turn p (length c.up + i) a r q lt at_r at_q is_r is),
     )
       where
         At-append-of : (p : ℕ) (s : Sent) → At c.up p s → At (c.up ++ ss) p s
@@ -114,21 +113,21 @@ module _ (c d : Circuit) (ss : List Sent) (up : d.up ≡ c.up ++ ss) (down : d.d
     using : IsUsing on n x ss z → Sides now z on d × Right d
     using w = (
       sides-more c d ss up down heard handled n now x z on sides numbers (λ h sid l. (w.same h sid).1 l) (λ h sid l. inl ((w.same h sid).0 l))
-      (λ h sid l i s ask at is.
-      let u = w.uses i s at in
-      subst (λ (v : Ask). IsUse v) (ask-is (channel_number n w.h) (channel_number n h) u.0 ask (sym u.1 ∙ is)) u.2)
-      (no-creation none),
+          (λ h sid l i s ask at is.
+          let u = w.uses i s at in
+          subst (λ (v : Ask). IsUse v) (ask-is (channel_number n w.h) (channel_number n h) u.0 ask (sym u.1 ∙ is)) u.2)
+          (no-creation none),
       right-more c d ss up down heard handled right
-      (λ i a s ask at is other.
-      let u = w.uses i s at in
-      let b = sides.lives w.h w.sid w.live in
-      let on_a : channel_number n w.h ≡ a = number-is (channel_number n w.h) a u.0 ask (sym u.1 ∙ is) in
-      let more : IsCreatedBefore d (channel_number n w.h) b.0 b.1 w.sid (length c.up + i) =
-      created-on c d ss up down heard handled (channel_number n w.h) b.0 b.1 w.sid i b.3
-      (λ l q asks lt at_q is_q. (let v = w.uses l q at_q in subst (λ (y : Ask). IsUse y) (ask-is (channel_number n w.h) (channel_number n w.h) v.0 asks (sym v.1 ∙ is_q)) v.2)) in
-      (b.0, b.1, subst (λ (v : ℕ × ℕ). IsCreatedBefore d v.0 b.0 b.1 v.1 (length c.up + i)) (λ k. (on_a k, sym u.3 k)) more))
-      (λ i a p m sid r q t at is. absurd (none i q a at is))
-      (λ i a p r q at is. absurd (none i q a at is)),
+          (λ i a s ask at is other.
+          let u = w.uses i s at in
+          let b = sides.lives w.h w.sid w.live in
+          let on_a : channel_number n w.h ≡ a = number-is (channel_number n w.h) a u.0 ask (sym u.1 ∙ is) in
+          let more : IsCreatedBefore d (channel_number n w.h) b.0 b.1 w.sid (length c.up + i) =
+          created-on c d ss up down heard handled (channel_number n w.h) b.0 b.1 w.sid i b.3
+          (λ l q asks lt at_q is_q. (let v = w.uses l q at_q in subst (λ (y : Ask). IsUse y) (ask-is (channel_number n w.h) (channel_number n w.h) v.0 asks (sym v.1 ∙ is_q)) v.2)) in
+          (b.0, b.1, subst (λ (v : ℕ × ℕ). IsCreatedBefore d v.0 b.0 b.1 v.1 (length c.up + i)) (λ k. (on_a k, sym u.3 k)) more))
+          (λ i a p m sid r q t at is. absurd (none i q a at is))
+          (λ i a p r q at is. absurd (none i q a at is)),
     )
       where
         none : (i : ℕ) (s : Sent) (a : ℕ) → At ss i s → s.intent ≡ On a Create → ⊥
@@ -137,34 +136,34 @@ module _ (c d : Circuit) (ss : List Sent) (up : d.up ≡ c.up ++ ss) (down : d.d
     clearing : IsClearing on n x ss z → Sides now z on d × Right d
     clearing w = (
       sides-more c d ss up down heard handled n now x z on sides numbers
-      (λ h sid l. elim (handle-or h w.h) [
-        | inl same ↦ absurd (w.gone sid (subst (λ (v : Handle). IsLiveAs z.channels on v sid) same l))
-        | inr other ↦ (w.others h sid other).1 l
-      ])
-      (λ h sid l. elim (handle-or h w.h) [
-        | inr other ↦ inl ((w.others h sid other).0 l)
-        | inl same ↦
-            let e = one-sid x.channels on on w.h w.sid sid w.live (subst (λ (v : Handle). IsLiveAs x.channels on v sid) same l) in
-            inr (0, w.s, first, subst (λ (v : ℕ). Clears (w.s).message v) e.1 w.clears)
-      ])
-      (λ h sid l i s ask at is. elim (handle-or h w.h) [
-        | inl same ↦ absurd (w.gone sid (subst (λ (v : Handle). IsLiveAs z.channels on v sid) same l))
-        | inr other ↦
-            let m = the-one i s at in
-            absurd (other (w.alone h sid ((w.others h sid other).1 l) (number-is (channel_number n h) (channel_number n w.h) ask Clear (sym is ∙ ap (λ (v : Sent). v.intent) m.1 ∙ w.is))))
-      ])
-      (no-creation none),
+          (λ h sid l. elim (handle-or h w.h) [
+            | inl same ↦ absurd (w.gone sid (subst (λ (v : Handle). IsLiveAs z.channels on v sid) same l))
+            | inr other ↦ (w.others h sid other).1 l
+          ])
+          (λ h sid l. elim (handle-or h w.h) [
+            | inr other ↦ inl ((w.others h sid other).0 l)
+            | inl same ↦
+                let e = one-sid x.channels on on w.h w.sid sid w.live (subst (λ (v : Handle). IsLiveAs x.channels on v sid) same l) in
+                inr (0, w.s, first, subst (λ (v : ℕ). Clears (w.s).message v) e.1 w.clears)
+          ])
+          (λ h sid l i s ask at is. elim (handle-or h w.h) [
+            | inl same ↦ absurd (w.gone sid (subst (λ (v : Handle). IsLiveAs z.channels on v sid) same l))
+            | inr other ↦
+                let m = the-one i s at in
+                absurd (other (w.alone h sid ((w.others h sid other).1 l) (number-is (channel_number n h) (channel_number n w.h) ask Clear (sym is ∙ ap (λ (v : Sent). v.intent) m.1 ∙ w.is))))
+          ])
+          (no-creation none),
       right-more c d ss up down heard handled right
-      (λ i a s ask at is other.
-      let m = the-one i s at in
-      let b = sides.lives w.h w.sid w.live in
-      let on_a : channel_number n w.h ≡ a = number-is (channel_number n w.h) a Clear ask (sym w.is ∙ ap (λ (v : Sent). v.intent) (sym m.1) ∙ is) in
-      let more : IsCreatedBefore d (channel_number n w.h) b.0 b.1 w.sid (length c.up + i) =
-      created-on c d ss up down heard handled (channel_number n w.h) b.0 b.1 w.sid i b.3 (λ l q asks lt at_q is_q. absurd (let e : i ≡ 0 = m.0 in omega (arith, lt, e))) in
-      let sid_is : w.sid ≡ sid_in s.message = sym (w.clears.1) ∙ ap (λ (v : Sent). sid_in v.message) (sym m.1) in
-      (b.0, b.1, subst (λ (v : ℕ × ℕ). IsCreatedBefore d v.0 b.0 b.1 v.1 (length c.up + i)) (λ k. (on_a k, sid_is k)) more))
-      (λ i a p m sid r q t at is. absurd (none i q a at is))
-      (λ i a p r q at is. absurd (none i q a at is)),
+          (λ i a s ask at is other.
+          let m = the-one i s at in
+          let b = sides.lives w.h w.sid w.live in
+          let on_a : channel_number n w.h ≡ a = number-is (channel_number n w.h) a Clear ask (sym w.is ∙ ap (λ (v : Sent). v.intent) (sym m.1) ∙ is) in
+          let more : IsCreatedBefore d (channel_number n w.h) b.0 b.1 w.sid (length c.up + i) =
+          created-on c d ss up down heard handled (channel_number n w.h) b.0 b.1 w.sid i b.3 (λ l q asks lt at_q is_q. absurd (let e : i ≡ 0 = m.0 in omega (arith, lt, e))) in
+          let sid_is : w.sid ≡ sid_in s.message = sym (w.clears.1) ∙ ap (λ (v : Sent). sid_in v.message) (sym m.1) in
+          (b.0, b.1, subst (λ (v : ℕ × ℕ). IsCreatedBefore d v.0 b.0 b.1 v.1 (length c.up + i)) (λ k. (on_a k, sid_is k)) more))
+          (λ i a p m sid r q t at is. absurd (none i q a at is))
+          (λ i a p r q at is. absurd (none i q a at is)),
     )
       where
         first : At ss 0 w.s

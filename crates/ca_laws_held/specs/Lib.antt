@@ -1,1 +1,6 @@
+pub mod Quiet
+pub mod About
+pub mod Tells
+pub mod Created
+pub mod Under
 pub mod Sides

@@ -10,7 +10,7 @@ use Rattle.ca_model.specs.Speech.{Creates}
 use Rattle.ca_model_world.specs.ClientEvents.{channel_number}
 use Rattle.ca_model_world.specs.World.{ClientSide, Joined, Names, World}
 use Rattle.ca_laws_circuit.specs.Sids.{IsClearedWithin}
-use Rattle.ca_laws_sids.specs.Under.{AreClearedBetween, AreUnder, IsCreatedBefore}
+use Rattle.ca_laws_held.specs.Under.{AreClearedBetween, AreUnder, IsCreatedBefore}
 
 -- The channel of this handle is live on this circuit, under this SID.
 pub record IsLiveAs (t : Table Channel) (on : Handle) (h : Handle) (sid : ℕ) : Type 0 where
@@ -21,19 +21,20 @@ pub record IsLiveAs (t : Table Channel) (on : Handle) (h : Handle) (sid : ℕ) :
   pub stands : ch.standing ≡ On on (Live native rights)
   pub is : native.sid ≡ sid
 
--- A live channel was created last by a reply that the client read, under the SID that the client has for it. Each channel that was created
--- by a reply that the client read is live so, or was cleared under that SID since.
+-- A live channel was created last by a reply that the client read, under the SID that the client has for it. Each
+-- channel that was created by a reply that the client read is live so, or was cleared under that SID since.
 pub record Sides (n : Names) (x : Client) (on : Handle) (c : Circuit) : Type 0 where
   pub lives : (h : Handle) (sid : ℕ) → IsLiveAs x.channels on h sid
       → (j k : ℕ) × (j < length c.heard) × IsCreatedBefore c (channel_number n h) j k sid (length c.up)
-  pub answered : (i sid a : ℕ) (t : Told) (r : Sent) → i < length c.heard → At c.down i t → t.cause ≡ Reply → Creates t.message sid
-      → At c.up t.place r → r.intent ≡ history.On a Create
-      → IsClearedWithin c.up sid t.place (length c.up) ⊎ ((h : Handle) × (channel_number n h ≡ a) × IsLiveAs x.channels on h sid)
+  pub answered : (i sid a : ℕ) (t : Told) (r : Sent) → i < length c.heard → At c.down i t → t.cause ≡ Reply
+      → Creates t.message sid → At c.up t.place r → r.intent ≡ history.On a Create
+      → IsClearedWithin c.up sid t.place (length c.up)
+      ⊎ ((h : Handle) × (channel_number n h ≡ a) × IsLiveAs x.channels on h sid)
 
 -- Before a channel is created again on a circuit, its last CREATE_CHAN was handled.
 abbrev pub AreInTurn : Circuit → Type 0
-AreInTurn c = (p k a : ℕ) (r q : Sent) → p < k → At c.up p r → At c.up k q → r.intent ≡ history.On a Create → q.intent ≡ history.On a Create
-    → p < length c.handled
+AreInTurn c = (p k a : ℕ) (r q : Sent) → p < k → At c.up p r → At c.up k q → r.intent ≡ history.On a Create
+    → q.intent ≡ history.On a Create → p < length c.handled
 
 -- What a client said on a circuit, by its lists.
 pub record Right (c : Circuit) : Type 0 where
@@ -43,6 +44,6 @@ pub record Right (c : Circuit) : Type 0 where
 
 -- So it is on all circuits of a world, and of those whose ends at clients are open.
 pub record AllSided (w : World) : Type 0 where
-  pub sides : (k : ℕ) (j : Joined) (x : ClientSide) → At w.circuits k j → At w.clients j.client x → j.lists.client_open ≡ true
-      → Sides x.names x.core j.at_client j.lists
+  pub sides : (k : ℕ) (j : Joined) (x : ClientSide) → At w.circuits k j → At w.clients j.client x
+      → j.lists.client_open ≡ true → Sides x.names x.core j.at_client j.lists
   pub right : (k : ℕ) (j : Joined) → At w.circuits k j → Right j.lists

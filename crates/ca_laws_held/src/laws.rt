@@ -8,22 +8,24 @@ ghost use Rattle.ca_model_world.specs.Events.{ClientStep, Event, ServerStep};
 ghost use Rattle.ca_model_world.specs.Runs.{AreEvents, Happens, Runs};
 ghost use Rattle.ca_model_world.specs.World.{IsSetting, Joined, Setting, World};
 ghost use Rattle.ca_laws_steps.specs.Held.{AllCircuitsHeld, IsKnownStep};
-ghost use Rattle.ca_laws_heard.specs.About.{ReadsAbout};
-ghost use Rattle.ca_laws_heard.specs.Tells.{NoticesTell};
-ghost use Rattle.ca_laws_sids.specs.Under.{AllSayRight};
+ghost use Rattle.ca_laws_held.specs.About.{ReadsAbout};
+ghost use Rattle.ca_laws_held.specs.Tells.{NoticesTell};
+ghost use Rattle.ca_laws_held.specs.Under.{AllSayRight};
 ghost use Rattle.ca_laws_held.specs.Sides.{AllSided};
 
-/// In every run from a well-formed setting by well-formed events all circuits are held, by what their
-/// servers keep: ids in flight mean their own, and clients hold each id that may still come back.
+/// In every run from a well-formed setting by well-formed events all circuits are held, by what
+/// their servers keep: ids in flight mean their own, and clients hold each id that may still come
+/// back.
 pub fn all_circuits_are_held()
     ensures { (s : Setting) (es : List Event) (stopped : Option Event) (w : World) → IsSetting s
         → AreEvents es → Runs s es stopped w → AllCircuitsHeld w }
 {}
 
-/// In every such run clients go by their SIDs: each message on a channel has the SID under which that
-/// was created last; a channel is cleared before it is created again on its circuit; and an
+/// In every such run clients go by their SIDs: each message on a channel has the SID under which
+/// that was created last; a channel is cleared before it is created again on its circuit; and an
 /// EVENT_CANCEL has the subscription id of its EVENT_ADD. A channel that is live at a client was
-/// created by a reply that the client read, and each that was created so is live, or was cleared since.
+/// created by a reply that the client read, and each that was created so is live, or was cleared
+/// since.
 pub fn clients_go_by_their_sids()
     ensures says { (s : Setting) (es : List Event) (stopped : Option Event) (w : World)
         → IsSetting s → AreEvents es → Runs s es stopped w → AllSayRight w }
@@ -31,9 +33,9 @@ pub fn clients_go_by_their_sids()
         → IsSetting s → AreEvents es → Runs s es stopped w → AllSided w }
 {}
 
-/// In every such run each message of a client is what was meant, and a client takes an id in a message
-/// of its server for what that message is about: these are `asked` and `own` of the statement's clause
-/// `AnswersOwn`.
+/// In every such run each message of a client is what was meant, and a client takes an id in a
+/// message of its server for what that message is about: these are `asked` and `own` of the
+/// statement's clause `AnswersOwn`.
 pub fn messages_mean_their_own()
     ensures asked { (s : Setting) (es : List Event) (stopped : Option Event) (w : World)
         → IsSetting s → AreEvents es → Runs s es stopped w → (n k : ℕ) (c : Joined) (q : Sent)
@@ -53,8 +55,9 @@ pub fn what_servers_take_is_handled_as_it_was_meant()
         → IsKnownStep w (ServerStep k) new }
 {}
 
-/// After every such run, what a client's end takes next is about what it finds there, and each notice
-/// that the client makes of it tells what it means, of what was meant by the message that it is about.
+/// After every such run, what a client's end takes next is about what it finds there, and each
+/// notice that the client makes of it tells what it means, of what was meant by the message that it
+/// is about.
 pub fn what_clients_take_is_told_of_its_own()
     ensures about { (s : Setting) (es : List Event) (stopped : Option Event) (w new : World) (k : ℕ)
         → IsSetting s → AreEvents es → Runs s es stopped w → Happens w (ClientStep k) new

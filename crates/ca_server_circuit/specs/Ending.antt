@@ -10,6 +10,7 @@ use Rattle.ca_model.specs.Ends.{Why}
 use Rattle.ca_model.specs.Ends as why
 use Rattle.ca_model.specs.Server.{OpenChannel, ServerCircuit}
 use Rattle.ca_model.specs.Server as server
+use Rattle.ca_server_circuit.specs.Clearing.{ArePuts}
 use Rattle.ca_server_circuit.specs.declared.cause.Cause.{Cause}
 use Rattle.ca_server_circuit.specs.Stepping.{why_is}
 
@@ -41,6 +42,11 @@ pub record Walks (n last : ℕ) (h : Handle) (t : Table OpenChannel) (s u : Stor
   pub left : ArePutsFrom n h (records_of s) t → ArePutsFrom last h (records_of u) t
 
 -- ---- the circuit
+
+-- each put of a circuit that waits is on an open channel of its end
+abbrev pub ArePutsAt : Handle → List Record → ServerCircuit → Type 0
+ArePutsAt h rs (server.Open e) = ArePuts h rs e.channels
+ArePutsAt h rs (server.Ended w left) = Unit {0}
 
 -- the end of a circuit has ended, if it was open
 abbrev pub EndsAt : Handle → ServerCircuit → Store → Why → ServerCircuit → Store → Type 0

@@ -5,7 +5,7 @@ ghost use Rattle.ca_model.specs.ServerSteps.{output_of};
 ghost use Rattle.ca_records.specs.Store.{IsThere, records_of};
 ghost use Rattle.ca_server_circuit.specs.Circuits.{CircuitIsSound, GivesAt, IsLive, SendsAt, circuit_of, is_open, watches};
 ghost use Rattle.ca_server_circuit.specs.Clearing.{ArePuts};
-ghost use Rattle.ca_server_circuit.specs.Ending.{EndsAt, IsLeft, WithdrawsAll};
+ghost use Rattle.ca_server_circuit.specs.Ending.{ArePutsAt, EndsAt, IsLeft, WithdrawsAll};
 ghost use Rattle.ca_server_circuit.specs.Finishing.{RepliesAt};
 ghost use Rattle.ca_server_circuit.specs.NextPut.{IsPutAt};
 ghost use Rattle.ca_server_circuit.specs.Posting.{PostsAt};
@@ -98,7 +98,7 @@ impl Circuit {
                     EndStep::NeedBytes => Some(EndStep::NeedBytes),
                     EndStep::OutputFull => Some(EndStep::OutputFull),
                     EndStep::Breaks(cause) => {
-                        self.state = ended(end, circuit, cause, records);
+                        self.close(circuit, cause, records);
                         Some(EndStep::Breaks(cause))
                     }
                 }
@@ -119,7 +119,7 @@ impl Circuit {
                 }
                 match end.finish(put) {
                     Ok(()) => {}
-                    Err(_) => self.state = ended(end, put.circuit, Cause::OutOfMemory, records),
+                    Err(_) => self.close(put.circuit, Cause::OutOfMemory, records),
                 }
             }
             State::Ended(_, _) => {}
@@ -136,7 +136,7 @@ impl Circuit {
         match &mut self.state {
             State::Open(end) => match end.post(records.at(place).state(), mask) {
                 Ok(()) => end.know(),
-                Err(_) => self.state = ended(end, circuit, Cause::OutOfMemory, records),
+                Err(_) => self.close(circuit, Cause::OutOfMemory, records),
             },
             State::Ended(_, _) => {}
         }
@@ -150,7 +150,7 @@ impl Circuit {
         match &mut self.state {
             State::Open(end) => match end.pump() {
                 Ok(()) => end.know(),
-                Err(_) => self.state = ended(end, circuit, Cause::OutOfMemory, records),
+                Err(_) => self.close(circuit, Cause::OutOfMemory, records),
             },
             State::Ended(_, _) => {}
         }
@@ -165,7 +165,7 @@ impl Circuit {
         match &mut self.state {
             State::Open(end) => match end.lose(name) {
                 Ok(()) => end.know(),
-                Err(_) => self.state = ended(end, circuit, Cause::OutOfMemory, records),
+                Err(_) => self.close(circuit, Cause::OutOfMemory, records),
             },
             State::Ended(_, _) => {}
         }
@@ -185,6 +185,15 @@ impl Circuit {
     /// It does not allocate.
     pub fn end(&mut self, circuit: Handle, cause: Cause, records: &mut ServedRecords)
         requires { CircuitIsSound (records_of records.old) circuit self.old }
+        ensures { EndsAt circuit self.old records.old (why_is cause) self.new records.new }
+    {
+        self.close(circuit, cause, records);
+    }
+
+    // The same in the middle of a call, when no more is known of its end than where its puts are. It has a function of its own so that the calls
+    // do not pay for its locals, in which a whole end has room.
+    fn close(&mut self, circuit: Handle, cause: Cause, records: &mut ServedRecords)
+        requires { ArePutsAt circuit (records_of records.old) self.old }
         ensures { EndsAt circuit self.old records.old (why_is cause) self.new records.new }
     {
         match &mut self.state {

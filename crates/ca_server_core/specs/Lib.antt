@@ -1,3 +1,4 @@
+pub mod Asking
 pub mod Circuits
 pub mod Sound
 pub mod Searching

@@ -10,6 +10,7 @@ mod beacons;
 mod cutting;
 mod datagrams;
 mod finishing;
+mod first_waiting;
 mod following;
 mod next_put;
 mod posting;

@@ -1,11 +1,12 @@
 -- An update that leaves the queues has its subscription.
-use Rattle.std.proofs.Common.{◌≡◌, ℕ, Bool, true, false, cond, List, [], ◌∷◌, Option, Some, None, is_some, refl, sym, ap, ◌∙◌, subst}
-use Rattle.std.specs.Prelude.{slice_set}
+use Rattle.std.proofs.Common.{◌≡◌, ℕ, Bool, true, false, cond, List, [], ◌∷◌, Option, Some, None, is_some, refl, sym, ap, ◌∙◌, subst, arith}
+use Rattle.std.specs.Prelude.{length, slice_set}
 use Rattle.std.specs.Map.{lookup}
 use Rattle.std.proofs.lemmas.Bool.{both_ways, or_left}
 use Rattle.ca_text.proofs.Places.{At-map, some_is}
 use Rattle.ca_queue.specs.declared.entry.SubKey.{SubKey}
-use Rattle.ca_queue.specs.Circuit.{Takes}
+use Rattle.ca_queue.specs.Circuit.{RestBefore, Takes}
+use Rattle.ca_queue.specs.Sound.{IsSound}
 use Rattle.ca_queue.specs.Keys.{is_among, same}
 use Rattle.ca_queue.specs.Queue.{with_front_taken}
 use Rattle.ca_queue.specs.Waiting.{front, has_entry, may_take, taken}
@@ -16,6 +17,32 @@ use Rattle.ca_model.specs.Speech.{Stored}
 use Rattle.ca_server_subscriptions.specs.Pumping.{GivesUpdate}
 use Rattle.ca_server_subscriptions.specs.Subscribed.{ArePlaced, Standings, Subscribed, keys_in, subscriptions_in}
 use Rattle.ca_server_subscriptions.proofs.Placing.{Q, alike-taken, held, looked-up, placed-alike, whole}
+
+-- ---- without a subscription nothing waits
+
+module _ (es : Standings) (qs : List Q) (p : ArePlaced es qs) (none : length es ≡ 0) where
+  nobody : (key : SubKey) → is_among key (keys_in es) ≡ false
+  nobody key = by es none
+    where
+      by : (xs : Standings) → length xs ≡ 0 → is_among key (keys_in xs) ≡ false
+      by [] is = refl
+      by (x ∷ xs) is = absurd (omega (arith, is))
+
+  nothing-waits : (q : Q) (ws : List (SubKey × Stored)) → q.waiting ≡ ws → IsSound q → ((key : SubKey) → is_among key q.subscriptions ≡ true → is_among key (keys_in es) ≡ true) → ws ≡ []
+  nothing-waits q [] is sound known = refl
+  nothing-waits q (w ∷ ws) is sound known =
+      let first : has_entry w.0 (w ∷ ws) ≡ true = or_left (same w.0 w.0) (has_entry w.0 ws) (same_itself w.0) in
+      let here : has_entry w.0 q.waiting ≡ true = ap (λ (x : List (SubKey × Stored)). has_entry w.0 x) is ∙ first in
+      absurd (both_ways (is_among w.0 (keys_in es)) (nobody w.0) (known w.0 (sound.known w.0 here)))
+
+  idle : (on : Bool) → (let ws : List (SubKey × Stored) = [] in let none : Option (SubKey × Stored) = None in taken on ws ≡ none)
+  idle true = refl
+  idle false = refl
+
+  pub none-rests : RestBefore qs (length qs)
+  none-rests i r within at =
+      let empty : r.waiting ≡ [] = nothing-waits r r.waiting refl (p.sound i r at) (λ key. p.known i r key at) in
+      ap (λ (ws : List (SubKey × Stored)). taken r.events_on ws) empty ∙ idle r.events_on
 
 -- ---- what is taken has a subscription
 

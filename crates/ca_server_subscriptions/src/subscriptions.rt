@@ -229,6 +229,10 @@ impl Subscriptions {
         ensures gives { GivesUpdate self.old result self.new }
         ensures askable { IfSome result (λ r. IsAskable r.0) }
     {
+        // Then nothing waits, and no queue need be looked at.
+        if self.standing.is_empty() {
+            return None;
+        }
         let (_, key, update) = self.queues.take()?;
         let Some(standing) = self.standing.get(&key) else {
             unreachable!()

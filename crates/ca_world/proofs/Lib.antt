@@ -8,4 +8,5 @@ pub mod Speeches
 pub mod Lasting
 pub mod Rooms
 pub mod Askings
+pub mod Subscribing
 pub mod Finding

@@ -43,17 +43,16 @@ module _ {K A : Type 0} (i : ℕ) (Named : K → Type 0) (Answers : K → Result
   -- a call is refused, or done
   pub calls-ok : (u : Unit {0}) → CallsOn i Named Answers spoken names lines x w.client_logs w.circuits (Ok u) x' logs ks
       → (h : K) × Named h × Called i x (Answers h) (λ (a : A) (sent : List Sending) (core : Client). client_after i x (spoken h a) (record { core = core; names = names h a; lines = lines h a; sent = sent })) w (spoken_in i x' logs ks w)
-  calls-ok u (h, named, inl d) =
-      (
-        h,
-        named,
-        inl (
-          d.e,
-          d.other,
-          d.refused,
-          (λ t. spoken_in i (d.side t) (d.logged t) (d.stay t) w) ∙ (λ t. record w { clients = set-same w.clients i x at t; client_logs = grown x.life (history.Refused d.e ∷ []) w.client_logs }),
-        ),
-      )
+  calls-ok u (h, named, inl d) = (
+    h,
+    named,
+    inl (
+      d.e,
+      d.other,
+      d.refused,
+      (λ t. spoken_in i (d.side t) (d.logged t) (d.stay t) w) ∙ (λ t. record w { clients = set-same w.clients i x at t; client_logs = grown x.life (history.Refused d.e ∷ []) w.client_logs }),
+    ),
+  )
   calls-ok u (h, named, inr (a, d)) =
       (h, named, inr (a, d.sent, x'.core, d.does, (λ t. spoken_in i (d.side t) (d.logged t) (d.goes t) w)))
 

@@ -151,18 +151,17 @@ handed-keeps x x' y y' h g n (Err BadEvent) d = (ap (λ (z : ClientSide). z.circ
 handed-keeps x x' y y' h g n (Err _) d = absurd d
 
 pub left-keeps : (j j' : Joined) (y y' : ServerSide) (g : Handle) (n : ℕ) (r : Result (Unit {0}) Refusal) → LeavesUp j y g n r j' y' → KeepsEnds (joined_of j) (joined_of j') × (y'.circuits.items ≡ y.circuits.items)
-left-keeps j j' y y' g n (Ok u) d =
-    (
-      record {
-        client = ap (λ (z : Joined). z.client) d.3;
-        server = ap (λ (z : Joined). z.server) d.3;
-        at_client = ap (λ (z : Joined). z.at_client) d.3;
-        at_server = ap (λ (z : Joined). z.at_server) d.3;
-        closes = λ on. sym (ap (λ (z : Joined). z.lists.client_open) d.3) ∙ on;
-        stops = λ on. sym (ap (λ (z : Joined). z.lists.server_open) d.3) ∙ on;
-      },
-      ap (λ (z : ServerSide). z.circuits.items) d.2,
-    )
+left-keeps j j' y y' g n (Ok u) d = (
+  record {
+    client = ap (λ (z : Joined). z.client) d.3;
+    server = ap (λ (z : Joined). z.server) d.3;
+    at_client = ap (λ (z : Joined). z.at_client) d.3;
+    at_server = ap (λ (z : Joined). z.at_server) d.3;
+    closes = λ on. sym (ap (λ (z : Joined). z.lists.client_open) d.3) ∙ on;
+    stops = λ on. sym (ap (λ (z : Joined). z.lists.server_open) d.3) ∙ on;
+  },
+  ap (λ (z : ServerSide). z.circuits.items) d.2,
+)
 left-keeps j j' y y' g n (Err OutOfMemory) d = (ends-stay (joined_of j) (joined_of j') (ap joined_of d.1), ap (λ (z : ServerSide). z.circuits.items) d.2)
 left-keeps j j' y y' g n (Err BadEvent) d = (ends-stay (joined_of j) (joined_of j') (ap joined_of d.1), ap (λ (z : ServerSide). z.circuits.items) d.2)
 left-keeps j j' y y' g n (Err _) d = absurd d

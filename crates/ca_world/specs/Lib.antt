@@ -10,3 +10,4 @@ pub mod Indexed
 pub mod Found
 pub mod Speaking
 pub mod Reads
+pub mod Subscribes

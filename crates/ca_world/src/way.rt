@@ -27,12 +27,7 @@ pub(crate) struct Way {
 }
 
 /// Where messages on this channel go, if it is live.
-pub(crate) fn way_of(
-    client: usize,
-    side: &ClientSide,
-    circuits: &[Joined],
-    channel: Handle,
-) -> Way
+pub(crate) fn way_of(client: usize, side: &ClientSide, circuits: &[Joined], channel: Handle) -> Way
     requires { AreNumbered side.now.circuits.items (map joined_of circuits.now) client }
     ensures { IsWay side.now.core (map joined_of circuits.now) client channel result }
 {

@@ -1,6 +1,10 @@
-use Rattle.std.proofs.Common.{sym}
-use Rattle.ca_server_subscriptions.proofs.Pumps.{gives-one, placed-taken, taken-some}
+use Rattle.std.proofs.Common.{refl, sym}
+use Rattle.ca_server_subscriptions.proofs.Pumps.{gives-one, none-rests, placed-taken, taken-some}
 use Rattle.ca_server_subscriptions.proofs.subscriptions.Subscriptions.take.Goals as goal
+
+pub returns-then-is_empty-clause-gives : goal.returns-then-is_empty-clause-gives
+returns-then-is_empty-clause-gives c =
+    rw (← c.self.view_is) (none-rests c.self.inside.standing.entries c.self.inside.queues c.self.invariant (c.is_empty.ensures.0 c.if-is_empty.true), refl)
 
 pub unreachable-requires : goal.unreachable-requires
 unreachable-requires c =

@@ -1,0 +1,106 @@
+-- The state under the lock, as requests are issued and refused.
+use Rattle.std.proofs.Common.{◌≡◌, ℕ, ◌<◌, List, [], ◌∷◌, ◌++◌, Option, Some, None, Ok, Err, refl, sym, ap, ◌∙◌, subst, inl, inr, ◌⊎◌}
+use Rattle.std.specs.Prelude.{slice_set}
+use Rattle.std.proofs.Math.ListN.{length-set}
+use Rattle.atomic_table.specs.Seated.{TableId}
+use Rattle.ca_text.specs.declared.refusal.Refusal.{Refusal}
+use Rattle.ca_text.specs.declared.refusal.Refusal.TheVariants as refusal
+use Rattle.ca_text.specs.Limits.{arena_slots}
+use Rattle.ca_arena.specs.declared.handle.Handle.{Handle}
+use Rattle.ca_board.specs.declared.ticket.Ticket.{Ticket}
+use Rattle.ca_board.specs.History.{Has}
+use Rattle.ca_board.specs.Views.{CoreView, IsDue, with_arm}
+use Rattle.ca_dbr.specs.Elements.{Elements, elements}
+use Rattle.ca_ids.specs.Table.{MayGive, with_held}
+use Rattle.ca_requests.specs.Calls.{new_request}
+use Rattle.ca_requests.specs.Requests.{Asked}
+use Rattle.ca_requests.specs.Requests as requests
+use Rattle.ca_model.specs.Answers.{Sending}
+use Rattle.ca_model.specs.Client.{Client, sending}
+use Rattle.ca_model.specs.ClientCalls.{ClientPuts, ClientReads, IsLive, LiveChannel, Shape, issued, put_sent, read_sent}
+use Rattle.ca_model_client.specs.Placed.{IsPlaced}
+use Rattle.ca_model_client.proofs.Changes.{placed-issued}
+use Rattle.ca_model_client.proofs.Placed.{keeps-sending}
+use Rattle.ca_client.specs.declared.ask.Request.{Request}
+use Rattle.ca_client.specs.declared.ask.Request.TheVariants as request
+use Rattle.ca_client.specs.Awaited.{AreAwaited, IsListed, IsState, Waits}
+use Rattle.ca_client.specs.Calls.{HasIssued, OnlyRecycled}
+use Rattle.ca_client.proofs.Tickets.{awaited_issue, awaited_recycled, awaited_refused}
+use Rattle.ca_client.proofs.Waiting.{Same, issued-apart, issued-back, issued-listed, listed-same, same-sending}
+
+pub state-recycled : (x : Client) (v w : CoreView) (board : TableId) (ts : List Ticket) → IsState x v board ts → OnlyRecycled v w → IsState x w board ts
+state-recycled x v w board ts s o =
+    record { same = o.0 ∙ s.same; wide = s.wide; placed = s.placed; listed = s.listed; awaited = awaited_recycled v w ts (Waits x) o s.awaited }
+
+-- a cell was armed and freed again
+pub state-refused : (x : Client) (v mid armed w : CoreView) (board : TableId) (ts : List Ticket) (t : Ticket) → IsState x v board ts → OnlyRecycled v mid → armed ≡ with_arm mid t → OnlyRecycled armed w → IsState x w board ts
+state-refused x v mid armed w board ts t s o e r = record {
+  same = r.0 ∙ ap (λ (z : CoreView). z.board) e ∙ o.0 ∙ s.same;
+  wide = s.wide;
+  placed = s.placed;
+  listed = s.listed;
+  awaited = awaited_refused v mid armed w ts (Waits x) t s.awaited o e r;
+}
+
+reads-refused : (x : Client) (h : Handle) (a : Shape) (e : Refusal) (sent : List Sending) (y : Client) → ClientReads x h a (Err e) sent y → y ≡ x
+reads-refused x h a refusal.OutOfMemory sent y f = f.1.1
+reads-refused x h a e sent y f = f.1.1
+
+puts-refused : (x : Client) (h : Handle) (a : Elements) (e : Refusal) (sent : List Sending) (y : Client) → ClientPuts x h a (Err e) sent y → y ≡ x
+puts-refused x h a refusal.OutOfMemory sent y f = f.1.1
+puts-refused x h a e sent y f = f.1.1
+
+pub issued-refused : (x : Client) (asked : Request) (e : Refusal) (y : Client) → HasIssued x asked (Err e) y → y ≡ x
+issued-refused x (request.Read h data_type count) e y f = reads-refused x h (record { data_type = data_type; count = count }) e f.0 y f.1
+issued-refused x (request.Put h value) e y f = puts-refused x h (elements value) e f.0 y f.1
+
+-- A request was issued on a live channel, and its message waits.
+record Issued (x : Client) (q : Handle) (y : Client) : Type 0 where
+  channel : Handle
+  live : LiveChannel
+  asked : Asked
+  is_live : IsLive x channel live
+  may : MayGive x.requests q
+  sent : List Sending
+  new : y ≡ sending sent (issued channel live asked q x)
+
+issued-so : (x : Client) (asked : Request) (q : Handle) (y : Client) → HasIssued x asked (Ok q) y → Issued x q y
+issued-so x (request.Read h data_type count) q y f =
+    let a : Shape = record { data_type = data_type; count = count } in
+    record {
+      channel = h;
+      live = f.1.0;
+      asked = requests.Read data_type count;
+      is_live = f.1.1;
+      may = f.1.3;
+      sent = read_sent h f.1.0 a q ∷ [];
+      new = f.1.4.1;
+    }
+issued-so x (request.Put h value) q y f = record {
+  channel = h;
+  live = f.1.0;
+  asked = requests.Put;
+  is_live = f.1.1;
+  may = f.1.3;
+  sent = put_sent h f.1.0 (elements value) q ∷ [];
+  new = f.1.4.1;
+}
+
+pub state-issued : (x : Client) (v mid armed : CoreView) (board : TableId) (ts : List Ticket) (t : Ticket) (asked : Request) (q : Handle) (y : Client) → IsState x v board ts → OnlyRecycled v mid → armed ≡ with_arm mid t → ¬ (Has mid.arms t) → IsDue armed t → HasIssued x asked (Ok q) y
+    → IsState y armed board (slice_set ts q.index t)
+state-issued x v mid armed board ts t asked q y s o e new due f =
+    let i = issued-so x asked q y f in
+    let r : requests.Request = new_request i.channel i.live.circuit i.asked in
+    let z : Client = issued i.channel i.live i.asked q x in
+    let same : Same z y = subst (Same z) (sym i.new) (same-sending i.sent z) in
+    let table : y.requests ≡ with_held q r x.requests = same.requests in
+    record {
+      same = ap (λ (w : CoreView). w.board) e ∙ o.0 ∙ s.same;
+      wide = length-set ts q.index t ∙ s.wide;
+      placed = subst IsPlaced (sym i.new) ((keeps-sending i.sent z).placed (placed-issued x i.channel i.live i.asked q i.is_live s.placed));
+      listed = issued-listed x y q r i.may refl table same.issued s.listed;
+      awaited = awaited_issue mid armed ts (Waits x) (Waits y) q t (awaited_recycled v mid ts (Waits x) o s.awaited) e new due
+          (subst (λ (n : ℕ). q.index < n) (sym s.wide) i.may.slot)
+          (λ k w at. issued-apart x q k i.may w at)
+          (λ k w. issued-back x y q k r table w);
+    }

@@ -1,0 +1,10 @@
+pub mod Lists
+pub mod Tickets
+pub mod Waiting
+pub mod Heard
+pub mod Ends
+pub mod Settled
+pub mod Filled
+pub mod Issued
+pub mod Fresh
+pub mod Given

@@ -1,0 +1,87 @@
+-- Statement: what the functions that are lent the state under the lock do.
+use Rattle.std.specs.Prelude.{◌≡◌, ◌⊎◌, ℕ, ◌<◌, ◌++◌, List, [], Option, Some, None, Result, Ok, Err, slice_set}
+use Rattle.ca_text.specs.Limits.{board_cells}
+use Rattle.ca_text.specs.declared.refusal.Refusal.{Refusal}
+use Rattle.ca_text.specs.declared.refusal.Refusal.TheVariants.{NoCell}
+use Rattle.ca_arena.specs.declared.handle.Handle.{Handle}
+use Rattle.ca_board.specs.declared.ticket.Ticket.{Ticket}
+use Rattle.ca_board.specs.History.{InUse}
+use Rattle.ca_board.specs.Views.{CallerView, CoreView, HasArmed, HasGivenUp, caller_start}
+use Rattle.ca_dbr.specs.declared.value.Outcome.{Outcome}
+use Rattle.ca_dbr.specs.Elements.{elements}
+use Rattle.ca_client_core.specs.Notices.{noticed}
+use Rattle.ca_model.specs.Answers.{Closing, Notice, Sending}
+use Rattle.ca_model.specs.Answers as core
+use Rattle.ca_model.specs.Client.{Client}
+use Rattle.ca_model.specs.ClientCalls.{ClientClears, ClientPuts, ClientReads}
+use Rattle.ca_model.specs.ClientEnds.{ClientBegins, ClientCloses, ClientConnects, ClientCuts, ClientSetting, ClientSteps}
+use Rattle.ca_client.specs.declared.ask.Ask.{Ask}
+use Rattle.ca_client.specs.declared.ask.Ask.TheVariants as ask
+use Rattle.ca_client.specs.declared.ask.Request.{Request}
+use Rattle.ca_client.specs.declared.ask.Request.TheVariants as request
+use Rattle.ca_client.specs.declared.answer.Answer.{Answer}
+use Rattle.ca_client.specs.declared.answer.Answer.TheVariants as answer
+use Rattle.ca_client.specs.Awaited.{FillsAll, StateView, completions, others}
+
+-- ---- issue
+
+-- Nothing but recycles was done with the seat.
+abbrev pub OnlyRecycled : CoreView → CoreView → Type 0
+OnlyRecycled v w = (w.board ≡ v.board) × (w.arms ≡ v.arms) × (w.fills ≡ v.fills) × (w.refused ≡ v.refused)
+
+-- what the core answers to a request, and leaves
+abbrev pub HasIssued : Client → Request → Result Handle Refusal → Client → Type 0
+HasIssued old (request.Read h data_type count) result new =
+    (sent : List Sending) × ClientReads old h (record { data_type = data_type; count = count }) result sent new
+HasIssued old (request.Put h value) result new = (sent : List Sending) × ClientPuts old h (elements value) result sent new
+
+-- A request was made: a cell was armed after the recycles, the core made its call, and the ticket is at the request's index. Or it was refused:
+-- as NoCell, if every cell is in use; or by the core, which it left as it was, and its ticket was given up.
+abbrev pub HasIssuedUnderLock : StateView → CallerView → Request → Result (Handle × Ticket) Refusal → StateView → CallerView → Type 0
+HasIssuedUnderLock old me asked (Ok r) new me' =
+    (mid : CoreView) × OnlyRecycled old.seat mid × HasArmed mid (Ok r.1) new.seat
+    × HasIssued old.core asked (Ok r.0) new.core
+    × (new.tickets ≡ slice_set old.tickets r.0.index r.1) × (me' ≡ me)
+HasIssuedUnderLock old me asked (Err e) new me' =
+    (new.tickets ≡ old.tickets) × (new.core ≡ old.core)
+    × ((mid : CoreView) × OnlyRecycled old.seat mid
+    × (((e ≡ NoCell) × (new.seat ≡ mid) × (me' ≡ me) × ((k : ℕ) → k < board_cells → InUse mid.arms mid.recycles k))
+    ⊎ ((t : Ticket) × (armed : CoreView) × (given : Option Outcome) × HasArmed mid (Ok t) armed × HasIssued old.core asked (Err e) new.core
+    × HasGivenUp me t given me' × OnlyRecycled armed new.seat)))
+
+-- ---- step
+
+-- the notices that an answer hands back
+abbrev pub told_in : Answer → List Notice
+told_in (answer.Notices told) = told
+told_in answer.NeedBytes = []
+told_in answer.Connected = []
+told_in (answer.Closed k) = k.notices
+told_in (answer.Refused e) = []
+
+-- What the core answered with all its notices, and left: the answer that is handed back is that without the completions.
+abbrev pub HasAnswered : Client → Ask → List Notice → Answer → Client → Type 0
+HasAnswered old (ask.Step c) ns (answer.Notices told) new = (sent : List Sending) × ClientSteps old c (core.Notices ns) sent new
+HasAnswered old (ask.Step c) ns answer.NeedBytes new = (ns ≡ []) × ((sent : List Sending) × ClientSteps old c core.NeedBytes sent new)
+HasAnswered old (ask.Step c) ns (answer.Closed k) new = (sent : List Sending) × ClientSteps old c (core.Closed (record k { notices = ns })) sent new
+HasAnswered old (ask.Cut c) ns (answer.Closed k) new = (sent : List Sending) × ClientCuts old c (record k { notices = ns }) sent new
+HasAnswered old (ask.Close c) ns (answer.Closed k) new = (sent : List Sending) × ClientCloses old c (record k { notices = ns }) sent new
+HasAnswered old (ask.Connect c) ns answer.Connected new = (ns ≡ []) × ((sent : List Sending) × ClientConnects old c None sent new)
+HasAnswered old (ask.Connect c) ns (answer.Closed k) new = (sent : List Sending) × ClientConnects old c (Some (record k { notices = ns })) sent new
+HasAnswered old (ask.Clear h) ns (answer.Notices told) new = (sent : List Sending) × ClientClears old h (Ok ns) sent new
+HasAnswered old (ask.Clear h) ns (answer.Refused e) new = (ns ≡ []) × ((sent : List Sending) × ClientClears old h (Err e) sent new)
+HasAnswered old asked ns _ new = ⊥
+
+-- The core made its call once; each completion filled its own request's ticket, and the other notices are handed back.
+abbrev pub HasSteppedUnderLock : StateView → Ask → Answer → StateView → Type 0
+HasSteppedUnderLock old asked result new =
+    (ns : List Notice) × HasAnswered old.core asked ns result new.core
+    × FillsAll old.tickets old.seat (completions ns) new.seat
+    × (told_in result ≡ others ns) × (new.tickets ≡ old.tickets)
+
+-- ---- new
+
+-- nothing was asked yet, and the caller's seat is of the board
+pub record IsFresh (setting : ClientSetting) (state : StateView) (me : CallerView) : Type 0 where
+  pub core : ClientBegins setting (Ok state.core)
+  pub caller : me ≡ caller_start state.seat.board

@@ -1,0 +1,5 @@
+pub mod Awaited
+pub mod Filling
+pub mod Calls
+pub mod Turns
+pub mod Turning

@@ -1,0 +1,26 @@
+//! A client of Channel Access for many threads.
+#![tactic(auto)]
+
+mod answer;
+mod ask;
+mod caller;
+mod filling;
+mod issuing;
+mod moving;
+mod socket;
+mod state;
+mod stepping;
+mod tape;
+mod turning;
+mod wire;
+
+pub use answer::{Answer, Ended, Told};
+pub use ask::{Ask, Request};
+pub use caller::Caller;
+pub use issuing::issue_under_lock;
+pub use socket::{Moved, Socket};
+pub use state::State;
+pub use stepping::step_under_lock;
+pub use tape::Tape;
+pub use turning::turn_over;
+pub use wire::Wire;

@@ -1,0 +1,119 @@
+ghost use Rattle.std.specs.Prelude.{◌≡◌};
+ghost use Rattle.ca_client.specs.Awaited.{AreFirst, Fillable, FillsAll, completions, others};
+ghost use Rattle.ca_client.specs.Calls.{HasSteppedUnderLock};
+ghost use Rattle.ca_client.specs.declared.ask.Ask.TheVariants as ask;
+ghost use Rattle.ca_client.specs.declared.answer.Answer.TheVariants as answer;
+
+use crate::answer::{Answer, Ended};
+use crate::ask::Ask;
+use crate::filling::fill_all;
+use crate::state::State;
+use ca_arena::Handle;
+use ca_board::{Board, CoreSeat, Ticket};
+use ca_client_core::{Closing, Stepped};
+
+/// Makes one call of the core, hands the outcome of each request that it completes to the request's ticket, and hands back the other
+/// notices.
+pub fn step_under_lock(state: &mut State, asked: Ask) -> Answer
+    ensures { HasSteppedUnderLock state.old asked result state.new }
+{
+    match asked {
+        Ask::Step(circuit) => step(state, circuit),
+        Ask::Cut(circuit) => Answer::Closed(cut(state, circuit)),
+        Ask::Close(circuit) => Answer::Closed(close(state, circuit)),
+        Ask::Connect(circuit) => connect(state, circuit),
+        Ask::Clear(channel) => clear(state, channel),
+    }
+}
+
+fn step(state: &mut State, circuit: Handle) -> Answer
+    ensures { HasSteppedUnderLock state.old (ask.Step circuit) result state.new }
+{
+    let State {
+        core,
+        board,
+        seat,
+        tickets,
+    } = state;
+    let closing = match core.step(circuit) {
+        Stepped::Notices(notices) => {
+            return Answer::Notices(fill_all(board, seat, tickets, notices));
+        }
+        Stepped::NeedBytes => return Answer::NeedBytes,
+        Stepped::Closed(closing) => closing,
+    };
+    Answer::Closed(settle(board, seat, tickets, closing))
+}
+
+// Ends a circuit that was cut.
+pub(crate) fn cut(state: &mut State, circuit: Handle) -> Ended
+    ensures { HasSteppedUnderLock state.old (ask.Cut circuit) (answer.Closed result) state.new }
+{
+    let State {
+        core,
+        board,
+        seat,
+        tickets,
+    } = state;
+    let closing = core.cut(circuit);
+    settle(board, seat, tickets, closing)
+}
+
+fn close(state: &mut State, circuit: Handle) -> Ended
+    ensures { HasSteppedUnderLock state.old (ask.Close circuit) (answer.Closed result) state.new }
+{
+    let State {
+        core,
+        board,
+        seat,
+        tickets,
+    } = state;
+    let closing = core.close(circuit);
+    settle(board, seat, tickets, closing)
+}
+
+fn connect(state: &mut State, circuit: Handle) -> Answer
+    ensures { HasSteppedUnderLock state.old (ask.Connect circuit) result state.new }
+{
+    let State {
+        core,
+        board,
+        seat,
+        tickets,
+    } = state;
+    let closing = match core.connected(circuit) {
+        Some(closing) => closing,
+        None => return Answer::Connected,
+    };
+    Answer::Closed(settle(board, seat, tickets, closing))
+}
+
+fn clear(state: &mut State, channel: Handle) -> Answer
+    ensures { HasSteppedUnderLock state.old (ask.Clear channel) result state.new }
+{
+    let State {
+        core,
+        board,
+        seat,
+        tickets,
+    } = state;
+    let notices = match core.clear(channel) {
+        Ok(notices) => notices,
+        Err(refusal) => return Answer::Refused(refusal),
+    };
+    Answer::Notices(fill_all(board, seat, tickets, notices))
+}
+
+// Hands the completions of an end over.
+fn settle(board: &Board, seat: &mut CoreSeat, tickets: &Vec<Ticket>, closing: Closing) -> Ended
+    requires board { seat.old.board ≡ board.now }
+    requires due { Fillable tickets.now.items seat.old (completions closing.notices) }
+    requires first { AreFirst closing.notices (completions closing.notices) (others closing.notices) }
+    ensures fills { FillsAll tickets.now.items seat.old (completions closing.notices) seat.new }
+    ensures ended { result ≡ record closing { notices = others closing.notices } }
+    ensures board { seat.new.board ≡ board.now }
+{
+    let Closing { why, notices, left } = closing;
+    let told = fill_all(board, seat, tickets, notices);
+    Ended { why, told, left }
+}

@@ -1,0 +1,91 @@
+ghost use Rattle.std.specs.Prelude.{◌≡◌, ◌<◌, ◌≤◌, ◌^◌, ◌⊎◌, List, length, Ok, Err};
+ghost use Rattle.ca_text.specs.declared.refusal.Refusal.TheVariants.{OutOfMemory};
+ghost use Rattle.ca_model.specs.Answers.{Sending};
+ghost use Rattle.ca_model.specs.Client.{out_bytes};
+ghost use Rattle.ca_model.specs.ClientEnds.{ClientGives, handed_over};
+ghost use Rattle.ca_client.specs.Turning.{Tries};
+ghost use Rattle.ca_client.specs.Turns.{Turns, with_core};
+
+use crate::answer::Ended;
+use crate::socket::{Moved, Socket};
+use crate::state::State;
+use crate::stepping::cut;
+use ca_arena::Handle;
+use ca_text::Refusal;
+
+/// How often a socket is called in one turn.
+const CALLS: usize = 16;
+
+// What one call of a socket did.
+#[derive(Drop)]
+enum Turned {
+    // There may be more to move.
+    GoesOn,
+    // Nothing is to be read yet, after what waited was written as far as that could be.
+    Idle,
+    // The circuit was cut.
+    Cut(Ended),
+}
+
+/// Moves bytes between a circuit and its socket, by at most 16 reads and writes. A fault of the socket cuts the circuit, and so do bytes
+/// for which there is no memory.
+pub fn turn_over<S: Socket>(state: &mut State, circuit: Handle, socket: &mut S) -> Option<Ended>
+    requires { S.fault_count socket.old < 2 ^ 63 }
+    ensures { Turns S.fault_count S.gives S.takes circuit 16 socket.old state.old result socket.new state.new }
+{
+    for call in 0..CALLS {
+        match once(state, circuit, socket, call % 2 == 0) {
+            Turned::GoesOn => {}
+            Turned::Idle => return None,
+            Turned::Cut(ended) => return Some(ended),
+        }
+    }
+    None
+}
+
+// One read or one write.
+fn once<S: Socket>(state: &mut State, circuit: Handle, socket: &mut S, writes: bool) -> Turned
+    requires { S.fault_count socket.old < 2 ^ 63 }
+    ensures { Tries S.fault_count S.gives S.takes circuit socket.old state.old result socket.new state.new }
+{
+    if writes {
+        write_once(state, circuit, socket)
+    } else {
+        read_once(state, circuit, socket)
+    }
+}
+
+fn read_once<S: Socket>(state: &mut State, circuit: Handle, socket: &mut S) -> Turned
+    requires { S.fault_count socket.old < 2 ^ 63 }
+    ensures { Tries S.fault_count S.gives S.takes circuit socket.old state.old result socket.new state.new }
+{
+    let mut buffer = [0u8; 4096];
+    let count = match socket.read(&mut buffer[..]) {
+        Moved::Count(count) => count,
+        Moved::Later => return Turned::Idle,
+        Moved::Fault => return Turned::Cut(cut(state, circuit)),
+    };
+    match state.give(circuit, &buffer[..count], count == 4096) {
+        Ok(()) => Turned::GoesOn,
+        Err(Refusal::OutOfMemory) => Turned::Cut(cut(state, circuit)),
+        Err(_) => Turned::Idle,
+    }
+}
+
+fn write_once<S: Socket>(state: &mut State, circuit: Handle, socket: &mut S) -> Turned
+    requires { S.fault_count socket.old < 2 ^ 63 }
+    ensures { Tries S.fault_count S.gives S.takes circuit socket.old state.old result socket.new state.new }
+{
+    let out = state.out_bytes(circuit);
+    if out.is_empty() {
+        return Turned::GoesOn;
+    }
+    match socket.write(out) {
+        Moved::Count(count) => {
+            state.sent(circuit, count);
+            Turned::GoesOn
+        }
+        Moved::Later => Turned::GoesOn,
+        Moved::Fault => Turned::Cut(cut(state, circuit)),
+    }
+}

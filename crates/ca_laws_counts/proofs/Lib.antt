@@ -1,0 +1,5 @@
+pub mod Names
+pub mod Waits
+pub mod Calls
+pub mod Stepping
+pub mod Finishing

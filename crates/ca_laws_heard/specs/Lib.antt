@@ -1,3 +1,0 @@
-pub mod Quiet
-pub mod About
-pub mod Tells

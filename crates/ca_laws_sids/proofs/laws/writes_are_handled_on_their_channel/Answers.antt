@@ -1,5 +1,0 @@
-use Rattle.ca_laws_sids.proofs.Under.{reached-writes}
-use Rattle.ca_laws_sids.proofs.laws.writes_are_handled_on_their_channel.Goals as goal
-
-pub returns : goal.returns
-returns c = reached-writes

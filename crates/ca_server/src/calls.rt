@@ -1,0 +1,161 @@
+ghost use Rattle.std.specs.Prelude.{◌≡◌, ◌≤◌, Bool, Err, IfErr, IfOk, List, Ok, length, map, option_map, ℕ};
+ghost use Rattle.ca_arena.specs.declared.handle.Handle.{Handle};
+ghost use Rattle.ca_dbr.specs.Elements.{elements};
+ghost use Rattle.ca_ids.specs.Table.{under};
+ghost use Rattle.ca_model.specs.ServerCalls.{AddsRecord, AnswersDatagram, Beacons, Posts, Removes, stamped};
+ghost use Rattle.ca_model.specs.ServerSteps.{Accepts, Cuts, Gives, Pumps, Sends, Update, output_of};
+ghost use Rattle.ca_records.specs.Record.{unset};
+ghost use Rattle.ca_server_core.specs.NextPut.{IsNextPut};
+
+use crate::state::State;
+use ca_arena::Handle;
+use ca_dbr::{Meta, Value};
+use ca_text::Refusal;
+use std::sync::ledger::Ledger;
+
+// The server's other calls under the lock. None of them counts a write.
+impl<L: Ledger> State<L> {
+    /// A circuit is accepted, and gets a handle. Refused as ArenaFull if none may be given, then as OutOfMemory. A refusal changes nothing.
+    pub fn accept(&mut self) -> Result<Handle, Refusal>
+        ensures call { Accepts self.old.core result self.new.core }
+        ensures counts { (self.new.count ≡ self.old.count)
+            × (self.new.credits.items ≡ self.old.credits.items) }
+    {
+        self.core.accept()
+    }
+
+    /// Takes bytes that came on a circuit. Refused as CircuitClosed if its end is not open, then as OutOfMemory. A refusal changes nothing.
+    pub fn give(&mut self, circuit: Handle, bytes: &[u8]) -> Result<(), Refusal>
+        ensures call { Gives self.old.core circuit bytes.now result self.new.core }
+        ensures counts { (self.new.count ≡ self.old.count)
+            × (self.new.credits.items ≡ self.old.credits.items) }
+    {
+        self.core.give(circuit, bytes)
+    }
+
+    /// The bytes that wait to be sent on a circuit: none if its end is not open.
+    pub fn out_bytes(&self, circuit: Handle) -> &[u8]
+        ensures { result.now ≡ output_of (under self.now.core.circuits circuit) }
+    {
+        self.core.out_bytes(circuit)
+    }
+
+    /// The first n of the bytes that wait on a circuit were handed over.
+    pub fn sent(&mut self, circuit: Handle, n: usize)
+        requires { n ≤ length (output_of (under self.old.core.circuits circuit)) }
+        ensures call { Sends self.old.core circuit n self.new.core }
+        ensures counts { (self.new.count ≡ self.old.count)
+            × (self.new.credits.items ≡ self.old.credits.items) }
+    {
+        self.core.sent(circuit, n);
+    }
+
+    /// Puts updates that wait on a circuit after what waits to be sent, until none may go. Nothing happens if its end is not open. If
+    /// there is no memory for the next, the end of the circuit has ended, with those before it.
+    pub fn pump(&mut self, circuit: Handle)
+        ensures call { (updates : List Update) × Pumps self.old.core circuit updates self.new.core }
+        ensures counts { (self.new.count ≡ self.old.count)
+            × (self.new.credits.items ≡ self.old.credits.items) }
+    {
+        self.core.pump(circuit);
+    }
+
+    /// Cuts a circuit: its end ends, if it is open, and its puts that wait are never applied. One more step reports that, and takes its
+    /// credits over. It does not allocate.
+    pub fn cut(&mut self, circuit: Handle)
+        ensures call { Cuts self.old.core circuit self.new.core }
+        ensures counts { (self.new.count ≡ self.old.count)
+            × (self.new.credits.items ≡ self.old.credits.items) }
+    {
+        self.core.cut(circuit);
+    }
+
+    /// The name of the record to which the next message of a circuit puts a value with notification, if there is one.
+    pub fn next_put(&self, circuit: Handle) -> Option<&[u8]>
+        ensures { IsNextPut self.now.core circuit (option_map (λ t. t.now) result) }
+    {
+        self.core.next_put(circuit)
+    }
+
+    /// The datagrams that answer a datagram: a reply for each search in it for a record that is served, in their order.
+    ///
+    /// Refused as OutOfMemory, only if there is a message in it.
+    pub fn datagram(&self, bytes: &[u8]) -> Result<Vec<Vec<u8>>, Refusal>
+        ensures ok { IfOk result (λ v.
+            AnswersDatagram self.now.core bytes.now (Ok (map (λ d. d.items) v.items))) }
+        ensures err { IfErr result (λ e. AnswersDatagram self.now.core bytes.now (Err e)) }
+    {
+        self.core.datagram(bytes)
+    }
+
+    /// The beacon that is due at this moment, once: 16 bytes, to be sent in a datagram of their own. None if none is due.
+    ///
+    /// A moment before one that was given counts as that one.
+    pub fn beacon(&mut self, now: u64) -> Option<[u8; 16]>
+        ensures call { Beacons self.old.core now result self.new.core }
+        ensures counts { (self.new.count ≡ self.old.count)
+            × (self.new.credits.items ≡ self.old.credits.items) }
+    {
+        self.core.beacon(now)
+    }
+
+    /// Writes that are applied from now on have this time stamp: seconds since 1990-01-01 00:00:00 UTC, and nanoseconds.
+    pub fn stamp(&mut self, seconds: u32, nanos: u32)
+        ensures call { self.new.core ≡ stamped (record { seconds = seconds; nanos = nanos }) self.old.core }
+        ensures counts { (self.new.count ≡ self.old.count)
+            × (self.new.credits.items ≡ self.old.credits.items) }
+    {
+        self.core.stamp(seconds, nanos);
+    }
+
+    /// The record of this name has this value from now on, with its alarm and its time stamp. It reaches all subscriptions on the record
+    /// whose mask shares a bit with this one, on all circuits. A circuit's end without memory for an update has ended.
+    ///
+    /// Refused as UnknownRecord if no record has the name, as BadType if the value is not of its type, and as BadCount if it has no element
+    /// or more than the greatest count. A refusal changes nothing.
+    pub fn post(&mut self, name: &[u8], value: Value, meta: Meta, mask: u16) -> Result<(), Refusal>
+        ensures call { (gone : Handle → Bool)
+            × Posts self.old.core name.now (record { value = elements value; meta = meta }) mask
+            gone result self.new.core }
+        ensures counts { (self.new.count ≡ self.old.count)
+            × (self.new.credits.items ≡ self.old.credits.items) }
+    {
+        self.core.post(name, value, meta, mask)
+    }
+
+    /// Serves the record of this name no more. Its puts go with it: those that wait are never applied.
+    ///
+    /// Refused as UnknownRecord if no record has the name. A refusal changes nothing.
+    pub fn remove_record(&mut self, name: &[u8]) -> Result<(), Refusal>
+        ensures call { (gone : Handle → Bool) × ((left : Handle → ℕ)
+            × Removes self.old.core name.now gone left result self.new.core) }
+        ensures counts { (self.new.count ≡ self.old.count)
+            × (self.new.credits.items ≡ self.old.credits.items) }
+    {
+        self.core.remove_record(name)
+    }
+
+    /// Serves one more record, neither busy nor waited for, with metadata of zeros.
+    ///
+    /// Refused as NameLength if this is no name, as RecordExists if it is served, as BadCount if the record may not have this value, and then
+    /// as OutOfMemory. A refusal changes nothing.
+    pub fn add_record(
+        &mut self,
+        name: &[u8],
+        count: u32,
+        slow: bool,
+        value: Value,
+    ) -> Result<(), Refusal>
+        ensures call { (behind : ℕ) × AddsRecord self.old.core (record {
+          name = name.now;
+          count = count;
+          slow = slow;
+          value = elements value;
+          meta = unset;
+        }) behind result self.new.core }
+        ensures counts { (self.new.count ≡ self.old.count)
+            × (self.new.credits.items ≡ self.old.credits.items) }
+    {
+        self.core.add_record(name, count, slow, value)
+    }
+}

@@ -1,0 +1,45 @@
+ghost use Rattle.std.specs.Prelude.{◌≡◌};
+ghost use Rattle.ca_ids.specs.Table.{under};
+ghost use Rattle.ca_records.specs.Store.{records_of};
+ghost use Rattle.ca_server_circuit.specs.Circuits.{is_open};
+ghost use Rattle.ca_server_core.specs.Asking.{circuit_next, first_waiting};
+ghost use Rattle.ca_records.specs.Puts.{record_named};
+
+use crate::server::ServerCore;
+use ca_arena::Handle;
+use ca_records::ServedRecords;
+use ca_records::for_histories::waiting_put;
+
+impl ServerCore {
+    /// The circuit of the put that waits longest for the record of this name: none if no put waits for it, or no record has the name. It is
+    /// the put that the next finish of the record applies.
+    pub fn first_waiting(&self, name: &[u8]) -> Option<Handle>
+        ensures { result ≡ first_waiting self.now name.now }
+    {
+        circuit_of_first(&self.records, name)
+    }
+
+    /// Whether the end of a circuit is open.
+    pub fn is_open(&self, circuit: Handle) -> bool
+        ensures { result ≡ is_open (under self.now.circuits circuit) }
+    {
+        match self.circuits.by_handle(circuit) {
+            Some(found) => found.is_open(),
+            None => false,
+        }
+    }
+}
+
+/// The circuit of the put that waits longest for the record of this name.
+fn circuit_of_first(records: &ServedRecords, name: &[u8]) -> Option<Handle>
+    ensures { result ≡ circuit_next (record_named (records_of records.now) name.now) }
+{
+    let Some(place) = records.find(name) else {
+        return None;
+    };
+    let served = records.at(place);
+    if served.waits() == 0 {
+        return None;
+    }
+    Some(waiting_put(served, 0).circuit)
+}

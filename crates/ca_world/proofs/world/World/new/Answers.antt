@@ -1,0 +1,28 @@
+use Rattle.std.proofs.Common.{◌≡◌, List, [], map, ap, sym, subst, ◌∙◌}
+use Rattle.ca_model.specs.Ends.{Address}
+use Rattle.ca_model_world.specs.World.{Joined, Setting, addresses, client_begun, numbered, opening}
+use Rattle.ca_model_world.specs.World as model
+use Rattle.ca_laws_runs.specs.Clients.{ClientsStand}
+use Rattle.ca_laws_runs.proofs.Events.{stands-opening}
+use Rattle.ca_world.specs.Indexed.{AreIndexed, client_numbers, server_numbers}
+use Rattle.ca_world.specs.Seen.{joined_of}
+use Rattle.ca_world.proofs.world.World.new.Goals as goal
+
+pub invariant_of-result : goal.invariant_of-result
+invariant_of-result c =
+    let s : Setting = record { clients = c.config.inside.clients.items; servers = c.config.inside.servers.items } in
+    let none : map joined_of c.new.result.items ≡ [] = ap (map joined_of) c.new.ensures.items in
+    let known : c.deref-2.result.now ≡ addresses s.servers = c.deref-2.ensures.value ∙ c.in_ok-servers_at.ensures ∙ ap addresses c.deref.ensures.value in
+    let is : _ ≡ opening s = λ t. record {
+      clients = (c.in_ok-clients.ensures.0 ∙ ap (λ (a : List Address). numbered 0 (client_begun a 0) s.clients) known) t;
+      servers = c.in_ok-servers.ensures.0 t;
+      circuits = none t;
+      client_logs = c.in_ok-clients.ensures.1 t;
+      server_logs = c.in_ok-servers.ensures.1 t;
+      moment = 0;
+    } in
+    record {
+      indexed = subst (λ (z : List Joined). AreIndexed (client_numbers c.in_ok-clients.clients.items) (server_numbers c.in_ok-servers.servers.items) z) (sym none)
+          (record { clients = λ k j at on. absurd cc; servers = λ k j at on. absurd cc });
+      clients = subst (λ (z : model.World). ClientsStand z) (sym is) (stands-opening s);
+    }
