@@ -35,8 +35,8 @@ gives-same x c bytes more result sent y placed gives = go (connection_at x c) re
     go (Some e) (Err _) h = absurd h
 
 -- a read is refused if its circuit is not connected, and then without memory
-pub refused-so : (x : Client) (c : Handle) (bytes : List ℕ) (more : Bool) (e : Refusal) (sent : List Sending) (y : Client) → ClientGives x c bytes more (Err e) sent y → (e ≡ refusal.CircuitClosed → ⊥) → e ≡ refusal.OutOfMemory
-refused-so x c bytes more e sent y gives other = go (connection_at x c) e gives other
+pub refused_so : (x : Client) (c : Handle) (bytes : List ℕ) (more : Bool) (e : Refusal) (sent : List Sending) (y : Client) → ClientGives x c bytes more (Err e) sent y → (e ≡ refusal.CircuitClosed → ⊥) → e ≡ refusal.OutOfMemory
+refused_so x c bytes more e sent y gives other = go (connection_at x c) e gives other
   where
     go : (o : Option Connection) (r : Refusal) → GivesOn x c bytes more o (Err r) sent y → (r ≡ refusal.CircuitClosed → ⊥) → r ≡ refusal.OutOfMemory
     go None refusal.CircuitClosed h no-other = absurd (no-other refl)

@@ -55,7 +55,7 @@ fn once<S: Socket>(state: &mut State, circuit: Handle, socket: &mut S, writes: b
     }
 }
 
-#[tactic(auto, using(crate::proofs::Given::refused-so))]
+#[tactic(auto, using(crate::proofs::Given::refused_so))]
 fn read_once<S: Socket>(state: &mut State, circuit: Handle, socket: &mut S) -> Turned
     requires { S.fault_count socket.old < 2 ^ 63 }
     ensures { Tries S.fault_count S.gives S.takes circuit socket.old state.old result socket.new state.new }
