@@ -1,5 +1,5 @@
-use Rattle.ca_laws_held.proofs.OnceLess.{less-ended}
+use Rattle.ca_laws_held.proofs.OnceMoved.{moved-connected}
 use Rattle.ca_laws_held.proofs.once_laws.a_call_is_accepted_once.Goals as goal
 
 pub returns : goal.returns
-returns c = less-ended
+returns c = moved-connected
