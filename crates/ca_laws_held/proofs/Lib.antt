@@ -33,3 +33,4 @@ pub mod Making
 pub mod Joint
 pub mod OnceLess
 pub mod OnceMoved
+pub mod OnceCalls

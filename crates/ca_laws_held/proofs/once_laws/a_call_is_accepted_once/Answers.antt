@@ -1,5 +1,6 @@
 use Rattle.ca_laws_held.proofs.OnceMoved.{moved-connected}
+use Rattle.ca_laws_held.proofs.OnceCalls.{calls-clear}
 use Rattle.ca_laws_held.proofs.once_laws.a_call_is_accepted_once.Goals as goal
 
 pub returns : goal.returns
-returns c = moved-connected
+returns c = calls-clear
