@@ -34,3 +34,4 @@ pub mod Joint
 pub mod OnceLess
 pub mod OnceMoved
 pub mod OnceCalls
+pub mod OnceWorld
