@@ -35,3 +35,5 @@ pub mod OnceLess
 pub mod OnceMoved
 pub mod OnceCalls
 pub mod OnceWorld
+pub mod OnceServers
+pub mod OnceClients
