@@ -37,3 +37,4 @@ pub mod OnceCalls
 pub mod OnceWorld
 pub mod OnceServers
 pub mod OnceClients
+pub mod OnceRuns
