@@ -1,23 +1,23 @@
 -- A client's calls: each is new to its log, and the message of a request carries what was called.
-use Rattle.std.proofs.Common.{◌≡◌, ℕ, zero, suc, ◌<◌, ◌+◌, ◌⊎◌, inl, inr, Bool, true, false, List, [], ◌∷◌, ◌++◌, length, Option, Some, None, refl, sym, ap, ◌∙◌, subst, arith}
+use Rattle.std.proofs.Common.{◌≡◌, ℕ, zero, suc, ◌<◌, ◌+◌, ◌⊎◌, inl, inr, true, false, List, [], ◌∷◌, ◌++◌, length, Option, Some, None, refl, sym, ap, ◌∙◌, subst, arith}
 use Rattle.std.specs.Prelude.{Ok, find, is_none, option_map, unwrap_or}
 use Rattle.std.proofs.lemmas.Bool.{both_ways, cases_Bool}
 use Rattle.ca_text.specs.Place.{At}
-use Rattle.ca_text.proofs.Places.{At-append, At-last, At-mapped, At-one, At-within, some_is}
+use Rattle.ca_text.proofs.Places.{At-append, At-mapped, At-one, some_is}
 use Rattle.ca_arena.specs.declared.handle.Handle.{Handle}
 use Rattle.ca_dbr.specs.Elements.{Elements}
-use Rattle.ca_ids.specs.Table.{MayGive, same_handle, under, with_freed, with_held}
+use Rattle.ca_ids.specs.Table.{same_handle, under, with_freed, with_held}
 use Rattle.ca_monitor.specs.Subscriptions.{Cancelled, Ended, Stage, Subscription, is_to, stands_in, with_stage}
 use Rattle.ca_model.specs.Answers.{Aim, Notice, Sending}
 use Rattle.ca_model.specs.Answers as aim
-use Rattle.ca_model.specs.Client.{Channel, Client, Clearing, Connecting, Creating, Doomed, Leaving, Live, On, Phase, Searching, Standing, connection_at, is_cleared, sending, standing_at, with_standing, without_channel}
+use Rattle.ca_model.specs.Client.{Channel, Client, Clearing, Connecting, Creating, Doomed, Leaving, Live, On, Searching, Standing, connection_at, sending, standing_at, with_standing, without_channel}
 use Rattle.ca_model.specs.ClientCalls.{ClientClears, ClientOpens, ClientPuts, ClientReads, ClientSubscribes, ClientUnsubscribes, ClientWrites, IsLive, LiveChannel, Opening, Shape, all_over, cancel_sent, clear_sent, cleared, clearing_sent, event_add_sent, event_cancel_sent, issued, new_subscription, opened, put_sent, read_sent, unsubscribed, unsubscribed_all, unwanted, write_sent}
 use Rattle.ca_model.specs.History.{Called, Cancel, Clear, Create, Intent, Kind, Line, Put, Read, Subscribe, Write}
 use Rattle.ca_model.specs.History as history
 use Rattle.ca_model_safe.specs.Channels.{IsRequest}
 use Rattle.ca_model_client.specs.Placed.{IsPlaced, WasGiven}
 use Rattle.ca_model_client.proofs.Standings.{found-standing, never-cleared, stands-as}
-use Rattle.ca_model_client.proofs.Tables.{changed-back, find-at, freed-back, held-back, length-more, one-value}
+use Rattle.ca_model_client.proofs.Tables.{changed-back, find-at, freed-back, held-back, length-more}
 use Rattle.ca_model_world.specs.ClientEvents.{cancelled, intent_of, line_of, lines_of, meant_by}
 use Rattle.ca_model_world.specs.World.{Names}
 use Rattle.ca_laws_circuit.specs.Held.{with_request, with_subscription}
@@ -25,7 +25,7 @@ use Rattle.ca_laws_circuit.proofs.Calls.{meant-own}
 use Rattle.ca_laws_runs.specs.Circuit.{AreGiven}
 use Rattle.ca_laws_runs.proofs.Sending.{new-name, not-given}
 use Rattle.ca_laws_held.specs.Quiet.{Tidy}
-use Rattle.ca_laws_held.proofs.OnceLess.{Less, is_gone, less-all-over, less-freed, less-freed-all, less-gone, less-itself, less-same, less-sending, less-staged, less-stood, less-then, less-unwanted}
+use Rattle.ca_laws_held.proofs.OnceLess.{Less, is_gone, less-all-over, less-freed, less-freed-all, less-gone, less-same, less-sending, less-staged, less-stood, less-then, less-unwanted}
 use Rattle.ca_laws_held.proofs.OnceMoved.{ArePlain, Moved, is_plain, none-sent, one-plain}
 
 -- ---- what was called
@@ -171,10 +171,13 @@ pub calls-open : (n : Names) (x : Client) (a : Opening) (h : Handle) (sent : Lis
     → (let now : Names = record n { channels = n.channels ++ h ∷ [] } in Calls n x now sent (history.Opened number name ∷ []) now y)
 calls-open n x a h sent y number name opens t = subst (λ (z : List Sending × Client). Calls n x now z.0 (history.Opened number name ∷ []) now z.1) (λ i. (sym opens.2.0 i, sym opens.2.1 i)) (record {
   olds = used-more n now x (opened a h x)
-      (λ i g at gone. (At-append n.channels (h ∷ []) i g at, λ ch is. elim (held-back x.channels g h new ch is) [
-        | inl own ↦ absurd (not-given x.channels h opens.1 (subst (λ (k : Handle). WasGiven x.channels k) own.0 (t.given i g at)))
-        | inr old ↦ gone ch old
-      ])) (λ m u. u) (λ m u. u) (λ m e at over. (at, over)) (λ m u. u);
+      (λ i g at gone. (
+        At-append n.channels (h ∷ []) i g at,
+        λ ch is. elim (held-back x.channels g h new ch is) [
+          | inl own ↦ absurd (not-given x.channels h opens.1 (subst (λ (k : Handle). WasGiven x.channels k) own.0 (t.given i g at)))
+          | inr old ↦ gone ch old
+        ],
+      )) (λ m u. u) (λ m u. u) (λ m e at over. (at, over)) (λ m u. u);
   lines_new = λ p intent e at. absurd (not-opened p intent e at);
   sends = inl (λ i s at r. none i s at);
   asks = λ p intent e at r. absurd (not-opened p intent e at);
@@ -314,10 +317,13 @@ calls-subscribe n x c h a mask q sent y subscribes t given =
 
     before : (i : Intent) → IsUsed n x i → IsUsed now z i
     before = used-more n now x z (λ i g at gone. (at, gone)) (λ m u. u) (λ m u. (let more = length-more n.subscriptions (q, intent) in omega (arith, u, more)))
-        (λ m e at over. (At-append n.subscriptions ((q, intent) ∷ []) m e at, λ v is. elim (held-back x.subscriptions e.0 q d v is) [
-          | inl own ↦ absurd (not-given x.subscriptions q subscribes.3 (subst (λ (k : Handle). WasGiven x.subscriptions k) own.0 (given m e at)))
-          | inr old ↦ over v old
-        ])) (λ m u. u)
+        (λ m e at over. (
+          At-append n.subscriptions ((q, intent) ∷ []) m e at,
+          λ v is. elim (held-back x.subscriptions e.0 q d v is) [
+            | inl own ↦ absurd (not-given x.subscriptions q subscribes.3 (subst (λ (k : Handle). WasGiven x.subscriptions k) own.0 (given m e at)))
+            | inr old ↦ over v old
+          ],
+        )) (λ m u. u)
 
     meant : meant_by now.subscriptions q ≡ intent
     meant = meant-own n.subscriptions q intent (new-name n.subscriptions x.subscriptions q given subscribes.3)

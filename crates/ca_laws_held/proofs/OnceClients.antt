@@ -1,6 +1,6 @@
 -- The events of clients keep what clients called and sent.
 use Rattle.std.proofs.Common.{◌≡◌, ℕ, zero, suc, ◌<◌, ◌+◌, ◌⊎◌, inl, inr, Bool, true, false, ◌&&◌, cond, eqb, List, [], ◌∷◌, ◌++◌, length, Option, Some, None, refl, sym, ap, ◌∙◌, subst, arith}
-use Rattle.std.specs.Prelude.{Ok, drop, is_none, is_some, map, option_map, slice_set, unwrap_or}
+use Rattle.std.specs.Prelude.{drop, is_none, is_some, map, option_map, unwrap_or}
 use Rattle.std.specs.List.{FoldsTo}
 use Rattle.std.proofs.lemmas.Bool.{and_from, both_ways, eq-eqb}
 use Rattle.ca_text.specs.Place.{At}
@@ -11,7 +11,6 @@ use Rattle.ca_dbr.specs.declared.value.Outcome.{Outcome}
 use Rattle.ca_dbr.specs.Elements.{Elements}
 use Rattle.ca_link.specs.Link.{with_handed}
 use Rattle.ca_model.specs.Answers.{Closed, Closing, Left, NeedBytes, Notices, Sending, Stepped}
-use Rattle.ca_model.specs.Answers as answer
 use Rattle.ca_model.specs.Client.{Client, ClientCircuit, Connection, connection_at, ended, on_connection, out_bytes}
 use Rattle.ca_model.specs.ClientEnds.{ConnectsOn, StepsOn, after_taking, handed_over}
 use Rattle.ca_model.specs.Hears.{Effect}
@@ -28,7 +27,7 @@ use Rattle.ca_laws_held.specs.Quiet.{ClientsQuiet, Tidy}
 use Rattle.ca_laws_held.proofs.HeardClients.{quiet-ticks}
 use Rattle.ca_laws_held.proofs.OnceLess.{Less, less-ended, less-itself, less-on, less-same}
 use Rattle.ca_laws_held.proofs.OnceMoved.{Moved, moved-all-received, moved-before, moved-connected, moved-given, moved-heard, moved-less, moved-ticked}
-use Rattle.ca_laws_held.proofs.OnceCalls.{Calls, NoCall, NoRequest, calls-clear, calls-moved, calls-open, calls-put, calls-read, calls-subscribe, calls-unsubscribe, calls-write, no-lines, notices-no-call, plain-no-request}
+use Rattle.ca_laws_held.proofs.OnceCalls.{Calls, NoCall, calls-clear, calls-moved, calls-open, calls-put, calls-read, calls-subscribe, calls-unsubscribe, calls-write, no-lines, notices-no-call, plain-no-request}
 use Rattle.ca_laws_held.proofs.OnceWorld.{IsSameEnd, OnceStand, all-map, all-same, all-set, once-called, once-core, once-lines, once-same, same-closed, same-end}
 
 -- ---- calls

@@ -1,7 +1,7 @@
 -- What a client does by itself: after a message that it reads, a datagram, a moment, a circuit that is connected or ends, it holds nothing
 -- new, and it sends no request.
-use Rattle.std.proofs.Common.{◌≡◌, ℕ, zero, suc, inl, inr, Bool, true, false, ◌&&◌, cond, eqb, List, [], ◌∷◌, ◌++◌, Option, Some, None, refl, sym, ap, ◌∙◌, subst}
-use Rattle.std.specs.Prelude.{Ok, filter, filter_map, fold, map, option_map, option_to_list, unwrap_or}
+use Rattle.std.proofs.Common.{◌≡◌, ℕ, zero, suc, inl, inr, Bool, true, false, cond, eqb, List, [], ◌∷◌, ◌++◌, Option, Some, None, refl, sym, ap, ◌∙◌, subst}
+use Rattle.std.specs.Prelude.{Ok, filter, fold, map, option_map, option_to_list, unwrap_or}
 use Rattle.std.proofs.lemmas.Bool.{both_ways}
 use Rattle.ca_text.specs.declared.command.Command.{Command}
 use Rattle.ca_text.specs.declared.command.Command.TheVariants as command
@@ -32,7 +32,7 @@ use Rattle.ca_model.specs.Hears.{Answers, Completes, Effect, Fails, FindsAt, Hea
 use Rattle.ca_model.specs.Hears as hears
 use Rattle.ca_model_client.proofs.Standings.{at-filter-map, channel-on, searched-is}
 use Rattle.ca_model_client.proofs.Tables.{all-back, one-value}
-use Rattle.ca_laws_held.proofs.OnceLess.{Less, StandsLike, is_gone, less-again, less-drained, less-ended, less-freed, less-gone, less-itself, less-on, less-phase, less-requests, less-same, less-sending, less-stood, less-then, same-subscriptions}
+use Rattle.ca_laws_held.proofs.OnceLess.{Less, StandsLike, is_gone, less-again, less-drained, less-ended, less-freed, less-gone, less-itself, less-on, less-phase, less-requests, less-same, less-sending, less-then, same-subscriptions}
 
 -- it is no request
 abbrev pub is_plain : Aim → Bool

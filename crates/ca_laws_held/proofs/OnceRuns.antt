@@ -4,11 +4,9 @@ use Rattle.std.specs.Prelude.{length, map}
 use Rattle.std.specs.List.{FoldsTo}
 use Rattle.ca_text.specs.Place.{At}
 use Rattle.ca_text.proofs.Places.{At-map, At-mapped, some_is}
-use Rattle.ca_dbr.specs.declared.value.Outcome.{Outcome}
 use Rattle.ca_dbr.specs.Elements.{Elements}
 use Rattle.ca_model.specs.History.{Called, Circuit, Collected, GaveUp, Intent, Line, Sent}
 use Rattle.ca_model_safe.specs.Channels.{IsRequest, OfClients, Stands}
-use Rattle.ca_model_world.specs.ClientEvents.{TicksOne}
 use Rattle.ca_model_world.specs.Events.{Event}
 use Rattle.ca_model_world.specs.Events as event
 use Rattle.ca_model_world.specs.Runs.{Happens, Runs, StopsAt, clients_below}
