@@ -7,3 +7,4 @@ pub mod Sending
 pub mod Standing
 pub mod Following
 pub mod Whole
+pub mod Joining

@@ -116,7 +116,7 @@ standing-or (s ∷ ss) k = elim (same-or s.place k) [
 
 -- ---- updates leave
 
-stamped-is : (us : List stepped.Update) (j : Joined) → (stamped us j).lists ≡ record j.lists { down = j.lists.down ++ stamped_told us j }
+pub stamped-is : (us : List stepped.Update) (j : Joined) → (stamped us j).lists ≡ record j.lists { down = j.lists.down ++ stamped_told us j }
 stamped-is [] j = sym (ap (λ (l : List Told). let c : Circuit = record j.lists { down = l } in c) (append-nil j.lists.down))
 stamped-is (u ∷ us) j =
     let item : ℕ × Cause = unwrap_or (front_number j.queues u.queue) (0, Reply) in

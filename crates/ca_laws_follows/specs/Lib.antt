@@ -2,3 +2,4 @@ pub mod Known
 pub mod Listed
 pub mod Sent
 pub mod Record
+pub mod Joining
