@@ -31,7 +31,7 @@ use Rattle.ca_laws_writes.proofs.InStepLasts.{world-numbered}
 use Rattle.ca_laws_writes.proofs.Lists.{none_at}
 use Rattle.ca_laws_writes.proofs.Replied.{finish-grew, step-grew-by}
 use Rattle.ca_laws_writes.proofs.Says.{Grew, logs-stay}
-use Rattle.ca_laws_posts.proofs.Logged.{AllEnds}
+use Rattle.ca_laws_follows.proofs.Logged.{AllEnds}
 use Rattle.ca_laws_follows.specs.Joining.{HaveLines}
 use Rattle.ca_laws_follows.specs.Known.{AllKnown}
 use Rattle.ca_laws_follows.specs.Listed.{AllListed}

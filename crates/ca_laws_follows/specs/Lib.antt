@@ -1,3 +1,7 @@
+pub mod Entries
+pub mod Holds
+pub mod Follows
+pub mod Clause
 pub mod Known
 pub mod Listed
 pub mod Sent

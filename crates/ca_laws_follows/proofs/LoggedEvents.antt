@@ -43,8 +43,8 @@ use Rattle.ca_laws_writes.proofs.Lists.{beside-right}
 use Rattle.ca_laws_writes.proofs.Lives.{number-of}
 use Rattle.ca_laws_writes.proofs.Midway.{grown-back, grown-here}
 use Rattle.ca_laws_writes.proofs.Seats.{open-still}
-use Rattle.ca_laws_posts.specs.Entries.{IsPost}
-use Rattle.ca_laws_posts.proofs.Logged.{AllEnds, Begins, Lasting, after-lasts, core-lasts, frame-lasts}
+use Rattle.ca_laws_follows.specs.Entries.{IsPost}
+use Rattle.ca_laws_follows.proofs.Logged.{AllEnds, Begins, Lasting, after-lasts, core-lasts, frame-lasts}
 
 gives-were : (old new : Server) (h : Handle) (bytes : List ℕ) → Gives old h bytes (Ok tt) new → EndsWere old new
 gives-were old new h bytes (e, has, is) =

@@ -25,7 +25,7 @@ use Rattle.ca_laws_updates.proofs.Posted.{keys-stay}
 use Rattle.ca_laws_updates.proofs.Rising.{ends-greatest, rising-other-post, rising-posted}
 use Rattle.ca_laws_writes.specs.Both.{Both}
 use Rattle.ca_laws_writes.proofs.Lists.{none_at}
-use Rattle.ca_laws_posts.specs.Holds.{Counts, Holds, Home, post_at, sent_numbers, stamp_of}
+use Rattle.ca_laws_follows.specs.Holds.{Counts, Holds, Home, post_at, sent_numbers, stamp_of}
 
 -- ---- two lists side by side
 

@@ -28,12 +28,12 @@ use Rattle.ca_laws_updates.specs.Rising.{Rises}
 use Rattle.ca_laws_writes.proofs.Lists.{beside-right, both-at, none_at}
 use Rattle.ca_model_safe.specs.Known.{IsDue}
 use Rattle.ca_requests.specs.Meaning as meaning
-use Rattle.ca_laws_posts.specs.Clause.{StandingFollow}
-use Rattle.ca_laws_posts.specs.Follows.{AllFollow, Follows, Stands, posts_by}
-use Rattle.ca_laws_posts.specs.Holds.{Counts, Holds, number_for, sent_numbers, stamp_of}
-use Rattle.ca_laws_posts.specs.Holds as number
-use Rattle.ca_laws_posts.proofs.Counting.{key-once, rising-below}
-use Rattle.ca_laws_posts.proofs.Following.{logged-is}
+use Rattle.ca_laws_follows.specs.Clause.{StandingFollow}
+use Rattle.ca_laws_follows.specs.Follows.{AllFollow, Follows, Stands, posts_by}
+use Rattle.ca_laws_follows.specs.Holds.{Counts, Holds, number_for, sent_numbers, stamp_of}
+use Rattle.ca_laws_follows.specs.Holds as number
+use Rattle.ca_laws_follows.proofs.Counting.{key-once, rising-below}
+use Rattle.ca_laws_follows.proofs.PostFollowing.{logged-is}
 
 -- ---- numbers of one EVENT_ADD
 

@@ -14,8 +14,8 @@ use Rattle.ca_model_safe.specs.Posts.{matching}
 use Rattle.ca_model_world.specs.ServerEvents.{number_of}
 use Rattle.ca_model_world.specs.World.{Joined, RecordSide, ServerSide, Standing, World}
 use Rattle.ca_laws_writes.specs.Both.{Both}
-use Rattle.ca_laws_posts.specs.Entries.{titles}
-use Rattle.ca_laws_posts.specs.Holds.{Holds}
+use Rattle.ca_laws_follows.specs.Entries.{titles}
+use Rattle.ca_laws_follows.specs.Holds.{Holds}
 
 -- how long the log was when the message at this place was handled
 abbrev pub logged_at : List Step → (place : ℕ) → ℕ

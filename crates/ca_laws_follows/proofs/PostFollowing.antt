@@ -27,11 +27,11 @@ use Rattle.ca_laws_writes.proofs.Frames.{Goes}
 use Rattle.ca_laws_writes.proofs.Lasting.{SameHeld, told_late}
 use Rattle.ca_laws_writes.proofs.Lists.{both-all, both-at, none_at, take-front}
 use Rattle.ca_laws_writes.proofs.Lives.{number-of}
-use Rattle.ca_laws_posts.specs.Entries.{AreQuiet, IsPost, IsQuiet, title, titles}
-use Rattle.ca_laws_posts.specs.Follows.{Follows, Stands, logged_at, posts_by}
-use Rattle.ca_laws_posts.specs.Holds.{Holds, sent_numbers}
-use Rattle.ca_laws_posts.proofs.Changing.{holds-like}
-use Rattle.ca_laws_posts.proofs.Pumping.{sent-more}
+use Rattle.ca_laws_follows.specs.Entries.{AreQuiet, IsPost, IsQuiet, title, titles}
+use Rattle.ca_laws_follows.specs.Follows.{Follows, Stands, logged_at, posts_by}
+use Rattle.ca_laws_follows.specs.Holds.{Holds, sent_numbers}
+use Rattle.ca_laws_follows.proofs.Changing.{holds-like}
+use Rattle.ca_laws_follows.proofs.Pumping.{sent-more}
 
 -- ---- posts, as the log grows
 

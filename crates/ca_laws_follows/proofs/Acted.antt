@@ -34,17 +34,17 @@ use Rattle.ca_laws_writes.specs.Both.{Both}
 use Rattle.ca_laws_writes.specs.Seats.{Sound, TakesSent}
 use Rattle.ca_laws_writes.proofs.Fresh.{adds-fresh, due-adds}
 use Rattle.ca_laws_writes.proofs.Lists.{both-all, both-at, both-snoc, take-whole}
-use Rattle.ca_laws_posts.specs.Entries.{Tells, title}
-use Rattle.ca_laws_posts.specs.Follows.{AllFollow, Follows, Stands, logged_at, posts_by}
-use Rattle.ca_laws_posts.specs.Holds.{Counts, Holds, sent_numbers}
-use Rattle.ca_laws_posts.specs.Holds as number
-use Rattle.ca_laws_posts.proofs.Adding.{holds-added}
-use Rattle.ca_laws_posts.proofs.Begun.{follows-begins, follows-pumped, follows-removed}
-use Rattle.ca_laws_posts.proofs.Changing.{holds-like, holds-switched}
-use Rattle.ca_laws_posts.proofs.Followed.{follows-posted, follows-without, keys-both}
-use Rattle.ca_laws_posts.proofs.Following.{follows-added, follows-replied, follows-stays, follows-told, length-more, logged-is, replies-back, replies-sent, same-channels, stands-on}
-use Rattle.ca_laws_posts.proofs.Logged.{Begins, Handled, Lasting}
-use Rattle.ca_laws_posts.proofs.LoggedAll.{event-lasts, opening-lasts, run-lasts}
+use Rattle.ca_laws_follows.specs.Entries.{Tells, title}
+use Rattle.ca_laws_follows.specs.Follows.{AllFollow, Follows, Stands, logged_at, posts_by}
+use Rattle.ca_laws_follows.specs.Holds.{Counts, Holds, sent_numbers}
+use Rattle.ca_laws_follows.specs.Holds as number
+use Rattle.ca_laws_follows.proofs.Adding.{holds-added}
+use Rattle.ca_laws_follows.proofs.Begun.{follows-begins, follows-pumped, follows-removed}
+use Rattle.ca_laws_follows.proofs.Changing.{holds-like, holds-switched}
+use Rattle.ca_laws_follows.proofs.Followed.{follows-posted, follows-without, keys-both}
+use Rattle.ca_laws_follows.proofs.PostFollowing.{follows-added, follows-replied, follows-stays, follows-told, length-more, logged-is, replies-back, replies-sent, same-channels, stands-on}
+use Rattle.ca_laws_follows.proofs.Logged.{Begins, Handled, Lasting}
+use Rattle.ca_laws_follows.proofs.LoggedAll.{event-lasts, opening-lasts, run-lasts}
 
 -- ---- nothing was sent about a place
 

@@ -23,8 +23,8 @@ use Rattle.ca_laws_updates.specs.Rising.{Rising}
 use Rattle.ca_laws_updates.proofs.Rising.{rising-other-cancelled}
 use Rattle.ca_laws_writes.specs.Both.{Both}
 use Rattle.ca_laws_writes.proofs.Lists.{In-kept, both-all, both-filter, none_at}
-use Rattle.ca_laws_posts.specs.Holds.{Counts, Holds, Home, sent_numbers, stamp_of}
-use Rattle.ca_laws_posts.proofs.Counting.{home-map}
+use Rattle.ca_laws_follows.specs.Holds.{Counts, Holds, Home, sent_numbers, stamp_of}
+use Rattle.ca_laws_follows.proofs.Counting.{home-map}
 
 -- ---- the same subscriptions, by the same posts
 

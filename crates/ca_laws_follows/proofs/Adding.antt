@@ -25,8 +25,8 @@ use Rattle.ca_laws_updates.proofs.Rising.{rising-added, rising-begins, rising-ot
 use Rattle.ca_laws_writes.proofs.Lists.{both-all, both-snoc, none_at}
 use Rattle.ca_laws_writes.proofs.Midway.{set-here}
 use Rattle.ca_laws_writes.proofs.Moves.{same-or}
-use Rattle.ca_laws_posts.specs.Holds.{Counts, Holds, Home, sent_numbers, stamp_of}
-use Rattle.ca_laws_posts.proofs.Counting.{key-among}
+use Rattle.ca_laws_follows.specs.Holds.{Counts, Holds, Home, sent_numbers, stamp_of}
+use Rattle.ca_laws_follows.proofs.Counting.{key-among}
 
 -- it is taken by the first queue with room, in both
 taken-values : (key : SubKey) (entry : Numbered) (both : List (Queue Numbered)) (i : ℕ) (z : Queue Numbered) → At both i z

@@ -45,9 +45,9 @@ use Rattle.ca_laws_writes.proofs.Midway.{grown-back, grown-here, set-here}
 use Rattle.ca_laws_writes.proofs.Moves.{same-or}
 use Rattle.ca_laws_writes.proofs.Seats.{open-still}
 use Rattle.ca_laws_writes.proofs.Waited.{numbers-after-same, write-numbers-same}
-use Rattle.ca_laws_posts.specs.Entries.{AreQuiet, IsQuiet, Tells, title, titles}
-use Rattle.ca_laws_posts.proofs.Logged.{AllEnds, Lasting, after-lasts, at-server, titles-kept, withdrawn-quiet}
-use Rattle.ca_laws_posts.proofs.LoggedEvents.{as-before, mapped-one, named-there, other-posted, post-ends-last}
+use Rattle.ca_laws_follows.specs.Entries.{AreQuiet, IsQuiet, Tells, title, titles}
+use Rattle.ca_laws_follows.proofs.Logged.{AllEnds, Lasting, after-lasts, at-server, titles-kept, withdrawn-quiet}
+use Rattle.ca_laws_follows.proofs.LoggedEvents.{as-before, mapped-one, named-there, other-posted, post-ends-last}
 
 same-open : (a b : ServerEnd) → Open a ≡ Open b → a ≡ b
 same-open a b is = cc

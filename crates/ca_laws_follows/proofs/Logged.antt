@@ -24,7 +24,7 @@ use Rattle.ca_laws_writes.proofs.Frames.{Frame, Goes, goes-self}
 use Rattle.ca_laws_writes.proofs.Lasting.{EndsWere, IsNew, SameHeld, SameSeat, held-self, numbered_for, told_gone, told_late}
 use Rattle.ca_laws_writes.proofs.Midway.{grown-back, grown-here}
 use Rattle.ca_laws_writes.proofs.Seats.{open-still}
-use Rattle.ca_laws_posts.specs.Entries.{AreQuiet, IsPost, IsQuiet, Tells, title, titles}
+use Rattle.ca_laws_follows.specs.Entries.{AreQuiet, IsPost, IsQuiet, Tells, title, titles}
 
 -- ---- entries and names
 

@@ -27,12 +27,12 @@ use Rattle.ca_laws_writes.specs.Both.{Both}
 use Rattle.ca_laws_writes.proofs.Lasting.{numbered_for}
 use Rattle.ca_laws_writes.proofs.Lists.{In-kept, beside-left, both-all, both-at, both-filter, kept-in, none_at}
 use Rattle.ca_laws_writes.proofs.Lives.{number-of, others-apart}
-use Rattle.ca_laws_posts.specs.Entries.{IsPost, titles}
-use Rattle.ca_laws_posts.specs.Follows.{Follows, Stands, logged_at, posts_by}
-use Rattle.ca_laws_posts.specs.Holds.{Counts, Holds, sent_numbers}
-use Rattle.ca_laws_posts.proofs.Changing.{holds-like, holds-without}
-use Rattle.ca_laws_posts.proofs.Counting.{both-right, holds-number, key-once}
-use Rattle.ca_laws_posts.proofs.Following.{length-more, matching-more, post-other, post-own, same-bytes, same-channels, stands-on, stands-within, titled}
+use Rattle.ca_laws_follows.specs.Entries.{IsPost, titles}
+use Rattle.ca_laws_follows.specs.Follows.{Follows, Stands, logged_at, posts_by}
+use Rattle.ca_laws_follows.specs.Holds.{Counts, Holds, sent_numbers}
+use Rattle.ca_laws_follows.proofs.Changing.{holds-like, holds-without}
+use Rattle.ca_laws_follows.proofs.Counting.{both-right, holds-number, key-once}
+use Rattle.ca_laws_follows.proofs.PostFollowing.{length-more, matching-more, post-other, post-own, same-bytes, same-channels, stands-on, stands-within, titled}
 
 -- ---- subscriptions end
 

@@ -27,9 +27,9 @@ use Rattle.ca_laws_updates.proofs.Rising.{rising-other-taken, rising-taken}
 use Rattle.ca_laws_writes.proofs.Lists.{beside-left, both-all, none_at}
 use Rattle.ca_laws_writes.proofs.Midway.{set-here}
 use Rattle.ca_laws_writes.proofs.Moves.{same-or}
-use Rattle.ca_laws_posts.specs.Holds.{Counts, Holds, Home, number_for, post_at, sent_numbers, stamp_of}
-use Rattle.ca_laws_posts.specs.Holds as number
-use Rattle.ca_laws_posts.proofs.Counting.{key-once, post-there, rising-below}
+use Rattle.ca_laws_follows.specs.Holds.{Counts, Holds, Home, number_for, post_at, sent_numbers, stamp_of}
+use Rattle.ca_laws_follows.specs.Holds as number
+use Rattle.ca_laws_follows.proofs.Counting.{key-once, post-there, rising-below}
 
 -- ---- numbers that were sent
 

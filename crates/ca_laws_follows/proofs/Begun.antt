@@ -30,13 +30,13 @@ use Rattle.ca_laws_writes.proofs.Cores.{each-there}
 use Rattle.ca_laws_writes.proofs.InStepLasts.{pumped-subs}
 use Rattle.ca_laws_writes.proofs.Lasting.{IsNew, told_gone}
 use Rattle.ca_laws_writes.proofs.Lists.{both-all, kept-in, none_at}
-use Rattle.ca_laws_posts.specs.Entries.{title}
-use Rattle.ca_laws_posts.specs.Follows.{Follows, Stands, logged_at, posts_by}
-use Rattle.ca_laws_posts.specs.Holds.{Counts, Holds, sent_numbers}
-use Rattle.ca_laws_posts.proofs.Changing.{holds-like}
-use Rattle.ca_laws_posts.proofs.Followed.{follows-without}
-use Rattle.ca_laws_posts.proofs.Following.{ArePostless, length-more, matching-same, number-less, other-bytes, same-bytes, same-channels, stands-on, stands-within, titled}
-use Rattle.ca_laws_posts.proofs.Pumping.{holds-pumped, sent-more}
+use Rattle.ca_laws_follows.specs.Entries.{title}
+use Rattle.ca_laws_follows.specs.Follows.{Follows, Stands, logged_at, posts_by}
+use Rattle.ca_laws_follows.specs.Holds.{Counts, Holds, sent_numbers}
+use Rattle.ca_laws_follows.proofs.Changing.{holds-like}
+use Rattle.ca_laws_follows.proofs.Followed.{follows-without}
+use Rattle.ca_laws_follows.proofs.PostFollowing.{ArePostless, length-more, matching-same, number-less, other-bytes, same-bytes, same-channels, stands-on, stands-within, titled}
+use Rattle.ca_laws_follows.proofs.Pumping.{holds-pumped, sent-more}
 
 -- ---- a removal
 

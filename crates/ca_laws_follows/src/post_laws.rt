@@ -3,8 +3,8 @@ ghost use Rattle.ca_model_world.specs.Events.{Event};
 ghost use Rattle.ca_model_world.specs.Runs.{Happens, Runs};
 ghost use Rattle.ca_model_world.specs.World.{IsSetting, Setting, World, opening};
 ghost use Rattle.ca_laws_writes.specs.Seats.{Sound, TakesSent};
-ghost use Rattle.ca_laws_posts.specs.Follows.{AllFollow};
-ghost use Rattle.ca_laws_posts.specs.Clause.{StandingFollow};
+ghost use Rattle.ca_laws_follows.specs.Follows.{AllFollow};
+ghost use Rattle.ca_laws_follows.specs.Clause.{StandingFollow};
 
 /// Each subscription that stands at an open end of a server came by an EVENT_ADD that was handled,
 /// on a channel that is open and of a record that is there. What the server counts for it is how

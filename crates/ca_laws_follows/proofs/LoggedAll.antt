@@ -14,9 +14,9 @@ use Rattle.ca_laws_writes.proofs.Every.{event-sound, opening-sound, ticks-frame}
 use Rattle.ca_laws_writes.proofs.Frames.{frame-self, goes-self}
 use Rattle.ca_laws_writes.proofs.HappensClient.{begun-frame, clear-frame, cut-frame, datagram-frame, handing-frame, hear-frame, open-frame, put-frame, read-frame, subscribe-frame, unsubscribe-frame, write-frame}
 use Rattle.ca_laws_writes.proofs.Lists.{none_at}
-use Rattle.ca_laws_posts.proofs.Logged.{AllEnds, Begins, Handled, Lasting, frame-lasts}
-use Rattle.ca_laws_posts.proofs.LoggedEvents.{accept-lasts, add-lasts, cut-lasts, down-lasts, post-lasts, pump-lasts, remove-lasts, restart-lasts, up-lasts}
-use Rattle.ca_laws_posts.proofs.LoggedStep.{HandledHere, finish-lasts, life-tells, step-lasts}
+use Rattle.ca_laws_follows.proofs.Logged.{AllEnds, Begins, Handled, Lasting, frame-lasts}
+use Rattle.ca_laws_follows.proofs.LoggedEvents.{accept-lasts, add-lasts, cut-lasts, down-lasts, post-lasts, pump-lasts, remove-lasts, restart-lasts, up-lasts}
+use Rattle.ca_laws_follows.proofs.LoggedStep.{HandledHere, finish-lasts, life-tells, step-lasts}
 
 module _ (P : ℕ → List Entry → List RecordSide → ServerEnd → Joined → Type 0) (k : Lasting P) (b : Begins P) where
   -- in this world the message that is handled next on a circuit keeps it
