@@ -31,3 +31,4 @@ pub mod Clients
 pub mod Stepping
 pub mod Making
 pub mod Joint
+pub mod OrderGrows
