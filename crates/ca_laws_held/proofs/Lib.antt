@@ -32,3 +32,4 @@ pub mod Stepping
 pub mod Making
 pub mod Joint
 pub mod OrderGrows
+pub mod OrderKeeps

@@ -1,5 +1,5 @@
 -- Over every event but two steps, an acceptance and a restart of a client: logs and lists get longer, and the steps of all ends stay.
-use Rattle.std.proofs.Common.{◌≡◌, ℕ, zero, suc, ◌+◌, ◌<◌, ◌≤◌, inl, inr, Bool, true, false, cond, ◌&&◌, eqb, List, [], ◌∷◌, ◌++◌, length, Option, Some, None, refl, sym, ap, subst, ◌∙◌, arith}
+use Rattle.std.proofs.Common.{◌≡◌, ℕ, zero, suc, ◌+◌, ◌<◌, ◌≤◌, ◌⊎◌, inl, inr, Bool, true, false, cond, ◌&&◌, eqb, List, [], ◌∷◌, ◌++◌, length, Option, Some, None, refl, sym, ap, subst, ◌∙◌, arith}
 use Rattle.std.specs.Prelude.{drop, filter, map, not, option_map, slice_get, slice_set, unwrap_or}
 use Rattle.std.specs.List.{fold, list_any}
 use Rattle.std.specs.Str.{bytes_eq}
@@ -29,7 +29,7 @@ use Rattle.ca_model_world.specs.ClientEvents.{DownTaken, HappensDown, Outcomes, 
 use Rattle.ca_model_world.specs.Events.{Event}
 use Rattle.ca_model_world.specs.Events as event
 use Rattle.ca_model_world.specs.Runs.{CanBe, Happens, Leaves, TicksAll, clients_below}
-use Rattle.ca_model_world.specs.ServerEvents.{HappensFinish, HappensPost, HappensRemove, ServerStepped, about, acted, ending, ends_at, ends_by, ends_here, keys_concerned, next_numbers, numbers_after, numbers_posted, removed_at, replied_at, reported, server_after, server_closed, side_of, stamped, unsaid, with_number, withdrawals, without_puts, write_numbers}
+use Rattle.ca_model_world.specs.ServerEvents.{HappensFinish, HappensPost, HappensRemove, ServerStepped, StepHandles, about, acted, ending, ends_at, ends_by, ends_here, keys_concerned, next_numbers, numbers_after, numbers_posted, removed_at, replied_at, server_after, server_closed, side_of, stamped, unsaid, with_number, withdrawals, write_numbers}
 use Rattle.ca_model_world.specs.ServerEvents as server
 use Rattle.ca_model_world.specs.World.{ClientSide, Joined, Names, PutPlace, RecordSide, ServerSide, World, grown, log_begun, log_length, with_circuit, with_client, with_entries, with_lines}
 use Rattle.ca_laws_runs.proofs.Handled.{numbers-like, writes-like}
@@ -319,12 +319,12 @@ grown-acted w k j y did on =
     (grown-entries mid (acted k j y did w) y.life (server.logged_by y.core j.at_server (record { circuit = k; place = place }) did y.records) (write_numbers j.server y.core did) refl refl refl refl
     (λ c. on-lists c (write_numbers j.server y.core did c) (writes-like j.server y.core did c).2 (writes-like j.server y.core did c).0))
 
--- a step that handles no message
-pub grown-unhandled : (w new : World) (k : ℕ) (j : Joined) (y : ServerSide) (did : Stepped) → (did ≡ stepped.Handled → ⊥) → At w.circuits k j → ServerStepped w k j y did new → Grown w new
-grown-unhandled w new k j y stepped.Handled none on f = absurd (none refl)
-grown-unhandled w new k j y stepped.NeedBytes none on f = grown-self w new f.3
-grown-unhandled w new k j y stepped.OutputFull none on f = grown-self w new f.3
-grown-unhandled w new k j y (stepped.Closed why.OutOfMemory left) none on f = subst (λ (z : World). Grown w z) (sym f.leaves) (go f.lacks.written)
+-- a step handles a message, or all goes on
+pub step-grown : (w new : World) (k : ℕ) (j : Joined) (y : ServerSide) (did : Stepped) → At w.circuits k j → ServerStepped w k j y did new → StepHandles w k j y new ⊎ Grown w new
+step-grown w new k j y stepped.Handled on f = inl f
+step-grown w new k j y stepped.NeedBytes on f = inr (grown-self w new f.3)
+step-grown w new k j y stepped.OutputFull on f = inr (grown-self w new f.3)
+step-grown w new k j y (stepped.Closed why.OutOfMemory left) on f = inr (subst (λ (z : World). Grown w z) (sym f.leaves) (go f.lacks.written))
   where
     did : Action
     did = f.lacks.next.action
@@ -335,7 +335,7 @@ grown-unhandled w new k j y (stepped.Closed why.OutOfMemory left) none on f = su
         let mid : World = acted k j y did w in
         grown-then w mid (server_after j.server (side_of j.server y mid) (ends_here j left j.server f.core) f.core mid)
         (grown-acted w k j y did on) (grown-server mid j.server (side_of j.server y mid) (ends_here j left j.server f.core) f.core)
-grown-unhandled w new k j y (stepped.Closed cause left) none on f = subst (λ (z : World). Grown w z) (sym f.3) (grown-server w j.server y (ends_here j left j.server y.core) (closed j.at_server y.core))
+step-grown w new k j y (stepped.Closed cause left) on f = inr (subst (λ (z : World). Grown w z) (sym f.3) (grown-server w j.server y (ends_here j left j.server y.core) (closed j.at_server y.core)))
 
 -- ---- events at a server
 
@@ -437,61 +437,90 @@ down-grown w new k n j x y on at (mid, sent, core, taken, gives, is) =
 -- ---- every such event
 
 -- Every event but an acceptance, a step of an end, and a restart of a client.
-abbrev pub IsStill : Event → Type 0
-IsStill (event.Accept i) = ⊥
-IsStill (event.ServerStep k) = ⊥
-IsStill (event.ClientStep k) = ⊥
-IsStill (event.ClientRestart i) = ⊥
-IsStill e = Unit {0}
+abbrev Beside : World → Event → World → Type 0
+Beside w (event.Accept i) new = Happens w (event.Accept i) new
+Beside w (event.ServerStep k) new = Happens w (event.ServerStep k) new
+Beside w (event.ClientStep k) new = Happens w (event.ClientStep k) new
+Beside w (event.ClientRestart i) new = Happens w (event.ClientRestart i) new
+Beside w e new = Grown w new
 
-leaves-grown : (w new : World) (e : Event) → IsStill e → (at : CanBe w e) → Leaves w e at new → Grown w new
-leaves-grown w new (event.Open i name priority) still at (inl (e, ne, does, is)) = subst (λ (z : World). Grown w z) (sym is) (grown-lines w at.x.life _)
-leaves-grown w new (event.Open i name priority) still at (inr (a, sent, core, does, is)) = subst (λ (z : World). Grown w z) (sym is) (grown-left w i at.x _ _ core _ sent at.at)
-leaves-grown w new (event.Clear i c) still at (inl (e, ne, does, is)) = subst (λ (z : World). Grown w z) (sym is) (grown-lines w at.x.life _)
-leaves-grown w new (event.Clear i c) still at (inr (a, sent, core, does, is)) = subst (λ (z : World). Grown w z) (sym is) (grown-left w i at.x _ _ core _ sent at.at)
-leaves-grown w new (event.Read i c data_type count) still at (inl (e, ne, does, is)) = subst (λ (z : World). Grown w z) (sym is) (grown-lines w at.x.life _)
-leaves-grown w new (event.Read i c data_type count) still at (inr (a, sent, core, does, is)) = subst (λ (z : World). Grown w z) (sym is) (grown-left w i at.x _ _ core _ sent at.at)
-leaves-grown w new (event.Write i c v) still at (inl (e, ne, does, is)) = subst (λ (z : World). Grown w z) (sym is) (grown-lines w at.x.life _)
-leaves-grown w new (event.Write i c v) still at (inr (a, sent, core, does, is)) = subst (λ (z : World). Grown w z) (sym is) (grown-left w i at.x _ _ core _ sent at.at)
-leaves-grown w new (event.WriteNotify i c v) still at (inl (e, ne, does, is)) = subst (λ (z : World). Grown w z) (sym is) (grown-lines w at.x.life _)
-leaves-grown w new (event.WriteNotify i c v) still at (inr (a, sent, core, does, is)) = subst (λ (z : World). Grown w z) (sym is) (grown-left w i at.x _ _ core _ sent at.at)
-leaves-grown w new (event.Subscribe i c data_type count mask) still at (inl (e, ne, does, is)) = subst (λ (z : World). Grown w z) (sym is) (grown-lines w at.x.life _)
-leaves-grown w new (event.Subscribe i c data_type count mask) still at (inr (a, sent, core, does, is)) = subst (λ (z : World). Grown w z) (sym is) (grown-left w i at.x _ _ core _ sent at.at)
-leaves-grown w new (event.Unsubscribe i n) still at (inl (e, ne, does, is)) = subst (λ (z : World). Grown w z) (sym is) (grown-lines w at.x.life _)
-leaves-grown w new (event.Unsubscribe i n) still at (inr (a, sent, core, does, is)) = subst (λ (z : World). Grown w z) (sym is) (grown-left w i at.x _ _ core _ sent at.at)
-leaves-grown w new (event.Collect i r) still at (o, hands, is) = subst (λ (z : World). Grown w z) (sym is) (grown-lines w at.x.life _)
-leaves-grown w new (event.GiveUp i r) still at (o, hands, is) = subst (λ (z : World). Grown w z) (sym is) (grown-lines w at.x.life _)
-leaves-grown w new (event.ClientDatagram i from bytes) still at (sent, core, receives, is) = subst (λ (z : World). Grown w z) (sym is) (grown-left w i at.x at.x.names at.x.names core [] sent at.at)
-leaves-grown w new (event.ServerDatagram i from bytes) still at l = grown-self w new l.2
-leaves-grown w new (event.Accept i) still at l = absurd still
-leaves-grown w new (event.Up k n) still at (core, gives, is) =
+leaves-grown : (w new : World) (e : Event) (at : CanBe w e) → Leaves w e at new → Beside w e new
+leaves-grown w new (event.Open i name priority) at (inl (e, ne, does, is)) = subst (λ (z : World). Grown w z) (sym is) (grown-lines w at.x.life _)
+leaves-grown w new (event.Open i name priority) at (inr (a, sent, core, does, is)) = subst (λ (z : World). Grown w z) (sym is) (grown-left w i at.x _ _ core _ sent at.at)
+leaves-grown w new (event.Clear i c) at (inl (e, ne, does, is)) = subst (λ (z : World). Grown w z) (sym is) (grown-lines w at.x.life _)
+leaves-grown w new (event.Clear i c) at (inr (a, sent, core, does, is)) = subst (λ (z : World). Grown w z) (sym is) (grown-left w i at.x _ _ core _ sent at.at)
+leaves-grown w new (event.Read i c data_type count) at (inl (e, ne, does, is)) = subst (λ (z : World). Grown w z) (sym is) (grown-lines w at.x.life _)
+leaves-grown w new (event.Read i c data_type count) at (inr (a, sent, core, does, is)) = subst (λ (z : World). Grown w z) (sym is) (grown-left w i at.x _ _ core _ sent at.at)
+leaves-grown w new (event.Write i c v) at (inl (e, ne, does, is)) = subst (λ (z : World). Grown w z) (sym is) (grown-lines w at.x.life _)
+leaves-grown w new (event.Write i c v) at (inr (a, sent, core, does, is)) = subst (λ (z : World). Grown w z) (sym is) (grown-left w i at.x _ _ core _ sent at.at)
+leaves-grown w new (event.WriteNotify i c v) at (inl (e, ne, does, is)) = subst (λ (z : World). Grown w z) (sym is) (grown-lines w at.x.life _)
+leaves-grown w new (event.WriteNotify i c v) at (inr (a, sent, core, does, is)) = subst (λ (z : World). Grown w z) (sym is) (grown-left w i at.x _ _ core _ sent at.at)
+leaves-grown w new (event.Subscribe i c data_type count mask) at (inl (e, ne, does, is)) = subst (λ (z : World). Grown w z) (sym is) (grown-lines w at.x.life _)
+leaves-grown w new (event.Subscribe i c data_type count mask) at (inr (a, sent, core, does, is)) = subst (λ (z : World). Grown w z) (sym is) (grown-left w i at.x _ _ core _ sent at.at)
+leaves-grown w new (event.Unsubscribe i n) at (inl (e, ne, does, is)) = subst (λ (z : World). Grown w z) (sym is) (grown-lines w at.x.life _)
+leaves-grown w new (event.Unsubscribe i n) at (inr (a, sent, core, does, is)) = subst (λ (z : World). Grown w z) (sym is) (grown-left w i at.x _ _ core _ sent at.at)
+leaves-grown w new (event.Collect i r) at (o, hands, is) = subst (λ (z : World). Grown w z) (sym is) (grown-lines w at.x.life _)
+leaves-grown w new (event.GiveUp i r) at (o, hands, is) = subst (λ (z : World). Grown w z) (sym is) (grown-lines w at.x.life _)
+leaves-grown w new (event.ClientDatagram i from bytes) at (sent, core, receives, is) = subst (λ (z : World). Grown w z) (sym is) (grown-left w i at.x at.x.names at.x.names core [] sent at.at)
+leaves-grown w new (event.ServerDatagram i from bytes) at l = grown-self w new l.2
+leaves-grown w new (event.Accept i) at l = (at, l)
+leaves-grown w new (event.Up k n) at (core, gives, is) =
     (let mid : World = up_taken k n at.0.j at.0.x w in
     grown-then w mid new (up-grown w k n at.0.j at.0.x at.0.joins.at at.0.joins.client)
     (grown-same mid new (ap (λ (z : World). z.clients) is) (ap (λ (z : World). z.client_logs) is) (ap (λ (z : World). z.server_logs) is) (ap (λ (z : World). z.circuits) is)))
-leaves-grown w new (event.Down k n) still at l = down-grown w new k n at.0.j at.0.x at.0.y at.0.joins.at at.0.joins.client l
-leaves-grown w new (event.ServerStep k) still at l = absurd still
-leaves-grown w new (event.ClientStep k) still at l = absurd still
-leaves-grown w new (event.Pump k) still at l =
+leaves-grown w new (event.Down k n) at l = down-grown w new k n at.0.j at.0.x at.0.y at.0.joins.at at.0.joins.client l
+leaves-grown w new (event.ServerStep k) at l = (at, l)
+leaves-grown w new (event.ClientStep k) at l = (at, l)
+leaves-grown w new (event.Pump k) at l =
     let mid : World = with_circuit k (stamped l.updates at.j) w in
     subst (λ (z : World). Grown w z) (sym l.leaves)
     (grown-then w mid (server_after at.j.server at.y (ends_by at.j.server l.core) l.core mid) (grown-set w k at.j (stamped l.updates at.j) at.joins.at (on-stamped l.updates at.j))
     (grown-server mid at.j.server at.y (ends_by at.j.server l.core) l.core))
-leaves-grown w new (event.CutClient k) still at (c, sent, core, cuts, is) = subst (λ (z : World). Grown w z) (sym is) (ended-grown w k at.j at.x c core at.joins.at at.joins.client)
-leaves-grown w new (event.CutServer k) still at l = subst (λ (z : World). Grown w z) (sym l.leaves) (grown-server w at.j.server at.y (ends_by at.j.server l.core) l.core)
-leaves-grown w new (event.ClientRestart i) still at l = absurd still
-leaves-grown w new (event.ServerRestart i) still at l =
+leaves-grown w new (event.CutClient k) at (c, sent, core, cuts, is) = subst (λ (z : World). Grown w z) (sym is) (ended-grown w k at.j at.x c core at.joins.at at.joins.client)
+leaves-grown w new (event.CutServer k) at l = subst (λ (z : World). Grown w z) (sym l.leaves) (grown-server w at.j.server at.y (ends_by at.j.server l.core) l.core)
+leaves-grown w new (event.ClientRestart i) at l = (at, l)
+leaves-grown w new (event.ServerRestart i) at l =
     let next : World = moves.restarted w i at.y in
     subst (λ (z : World). Grown w z) (sym l)
     (grown-by w next refl (longer-self w.client_logs w.client_logs refl) (longer-snoc w.server_logs (log_begun at.y.setting)) (back-map w next (ending (server.ends_untold i at.y.core)) refl (on-ending (server.ends_untold i at.y.core))))
-leaves-grown w new (event.Post i name e mask) still at l = post-grown w new i at.y name e mask l
-leaves-grown w new (event.Finish i name) still at l = finish-grown w new i at.y name l
-leaves-grown w new (event.Remove i name) still at l = remove-grown w new i at.y name l
-leaves-grown w new (event.Add i r) still at (core, behind, inl (adds, is)) =
+leaves-grown w new (event.Post i name e mask) at l = post-grown w new i at.y name e mask l
+leaves-grown w new (event.Finish i name) at l = finish-grown w new i at.y name l
+leaves-grown w new (event.Remove i name) at l = remove-grown w new i at.y name l
+leaves-grown w new (event.Add i r) at (core, behind, inl (adds, is)) =
     subst (λ (z : World). Grown w z) (sym is) (grown-by w (moves.addition_told w i at.y r behind core) refl (longer-self w.client_logs w.client_logs refl) (longer-grown w.server_logs at.y.life _) (back-same w (moves.addition_told w i at.y r behind core) refl))
-leaves-grown w new (event.Add i r) still at (core, behind, inr refused) = grown-self w new refused.3
-leaves-grown w new (event.Tick moment) still at (mid, ticks, is) =
+leaves-grown w new (event.Add i r) at (core, behind, inr refused) = grown-self w new refused.3
+leaves-grown w new (event.Tick moment) at (mid, ticks, is) =
     grown-then w mid new (ticks-grown moment w (clients_below (length w.clients)) mid ticks)
     (grown-same mid new (ap (λ (z : World). z.clients) is) (ap (λ (z : World). z.client_logs) is) (ap (λ (z : World). z.server_logs) is) (ap (λ (z : World). z.circuits) is))
 
-pub event-grown : (w new : World) (e : Event) → IsStill e → Happens w e new → Grown w new
-event-grown w new e still happens = leaves-grown w new e still happens.0 happens.1
+-- what holds after all that goes on, and after the four events beside, holds after every event
+pub each-event : (P : Type 0) (w new : World) → (Grown w new → P) → ((k : ℕ) → Happens w (event.ServerStep k) new → P) → ((k : ℕ) → Happens w (event.ClientStep k) new → P) → ((i : ℕ) → Happens w (event.Accept i) new → P) → ((i : ℕ) → Happens w (event.ClientRestart i) new → P) → (e : Event) → Happens w e new → P
+each-event P w new still serves hears accepts begins e happens = go e (leaves-grown w new e happens.0 happens.1)
+  where
+    go : (e : Event) → Beside w e new → P
+    go (event.Open i name priority) g = still g
+    go (event.Clear i c) g = still g
+    go (event.Read i c data_type count) g = still g
+    go (event.Write i c v) g = still g
+    go (event.WriteNotify i c v) g = still g
+    go (event.Subscribe i c data_type count mask) g = still g
+    go (event.Unsubscribe i n) g = still g
+    go (event.Collect i r) g = still g
+    go (event.GiveUp i r) g = still g
+    go (event.ClientDatagram i from bytes) g = still g
+    go (event.ServerDatagram i from bytes) g = still g
+    go (event.Accept i) g = accepts i g
+    go (event.Up k n) g = still g
+    go (event.Down k n) g = still g
+    go (event.ServerStep k) g = serves k g
+    go (event.ClientStep k) g = hears k g
+    go (event.Pump k) g = still g
+    go (event.CutClient k) g = still g
+    go (event.CutServer k) g = still g
+    go (event.ClientRestart i) g = begins i g
+    go (event.ServerRestart i) g = still g
+    go (event.Post i name v mask) g = still g
+    go (event.Finish i name) g = still g
+    go (event.Remove i name) g = still g
+    go (event.Add i r) g = still g
+    go (event.Tick moment) g = still g
