@@ -13,25 +13,24 @@ use Rattle.ca_queue.specs.Queue.{Queue, with_front_taken}
 use Rattle.ca_records.specs.Puts.{WaitingPut}
 use Rattle.ca_records.specs.Record.{unset}
 use Rattle.ca_text.specs.Place.{At}
-use Rattle.ca_text.proofs.Places.{At-map, At-mapped, At-or, At-set}
+use Rattle.ca_text.proofs.Places.{At-mapped, At-or, At-set}
 use Rattle.ca_wire.specs.Fields.{Fields}
 use Rattle.ca_model.specs.Answers.{Closing, Left, Sending}
-use Rattle.ca_model.specs.Answers as answer
-use Rattle.ca_model.specs.Client.{Client, out_bytes}
+use Rattle.ca_model.specs.Client.{Client}
 use Rattle.ca_model.specs.ClientEnds.{handed_over}
 use Rattle.ca_model.specs.Due.{Action}
 use Rattle.ca_model.specs.Ends as why
-use Rattle.ca_model.specs.History.{Cause, Circuit, Entry, Line, OfCircuit, Reply, Step, Told}
+use Rattle.ca_model.specs.History.{Cause, Circuit, Entry, Line, OfCircuit, Reply, Told}
 use Rattle.ca_model.specs.Server.{OpenChannel, Server}
 use Rattle.ca_model.specs.ServerSteps.{Stepped, Update, closed}
 use Rattle.ca_model.specs.ServerSteps as stepped
-use Rattle.ca_model_world.specs.ClientEvents.{DownTaken, HappensDown, Outcomes, TicksOne, after_tick, client_after, client_closed, client_ended, client_gone, left_silent, lines_of, sent_on, up_taken}
+use Rattle.ca_model_world.specs.ClientEvents.{DownTaken, HappensDown, Outcomes, TicksOne, after_tick, client_after, client_closed, client_ended, left_silent, lines_of, sent_on, up_taken}
 use Rattle.ca_model_world.specs.Events.{Event}
 use Rattle.ca_model_world.specs.Events as event
 use Rattle.ca_model_world.specs.Runs.{CanBe, Happens, Leaves, TicksAll, clients_below}
 use Rattle.ca_model_world.specs.ServerEvents.{HappensFinish, HappensPost, HappensRemove, ServerStepped, StepHandles, about, acted, ending, ends_at, ends_by, ends_here, keys_concerned, next_numbers, numbers_after, numbers_posted, removed_at, replied_at, server_after, server_closed, side_of, stamped, unsaid, with_number, withdrawals, write_numbers}
 use Rattle.ca_model_world.specs.ServerEvents as server
-use Rattle.ca_model_world.specs.World.{ClientSide, Joined, Names, PutPlace, RecordSide, ServerSide, World, grown, log_begun, log_length, with_circuit, with_client, with_entries, with_lines}
+use Rattle.ca_model_world.specs.World.{ClientSide, Joined, Names, PutPlace, RecordSide, ServerSide, World, grown, log_begun, log_length, with_circuit, with_client, with_lines}
 use Rattle.ca_laws_runs.proofs.Handled.{numbers-like, writes-like}
 use Rattle.ca_laws_writes.specs.Moves.{finish_told, post_told}
 use Rattle.ca_laws_writes.specs.Moves as moves
@@ -368,11 +367,14 @@ finish-grown w new i y name (inl f) =
     (grown-entries w told y.life (server.finish_entry f.p ∷ server.next_entries y f.r (server.first_of f.cr.waiting) (server.first_of f.r.waiting)) (next_numbers i y.core name f.cr.waiting) refl refl refl refl (on-next i y.core name f.cr.waiting))
     (grown-by told said rest.0 (longer-self told.client_logs said.client_logs rest.1) (longer-self told.server_logs said.server_logs rest.2)
     (λ n d at.
-    let c = replied-back f.p f.sent told n d at in
-    (c.0, c.1, elim c.2 [
-      | inl is ↦ subst (λ (z : Joined). GoesOn c.0 z) (sym is) (on-self c.0)
-      | inr late ↦ subst (λ (z : Joined). GoesOn c.0 z) (sym late) (on-told c.0 (about f.p.place Reply ms))
-    ]))))
+    let c = replied-back f.p f.sent told n d at in (
+      c.0,
+      c.1,
+      elim c.2 [
+        | inl is ↦ subst (λ (z : Joined). GoesOn c.0 z) (sym is) (on-self c.0)
+        | inr late ↦ subst (λ (z : Joined). GoesOn c.0 z) (sym late) (on-told c.0 (about f.p.place Reply ms))
+      ],
+    ))))
     (grown-server said i side (ends_by i f.core) f.core))
 finish-grown w new i y name (inr refused) = grown-self w new refused.2
 

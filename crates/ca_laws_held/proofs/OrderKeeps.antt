@@ -7,12 +7,11 @@ use Rattle.std.proofs.lemmas.List.{length-append}
 use Rattle.ca_arena.specs.declared.handle.Handle.{Handle}
 use Rattle.ca_text.specs.Place.{At}
 use Rattle.ca_text.proofs.Places.{At-map, At-mapped, At-one, At-or, At-set, At-snoc, At-within}
-use Rattle.ca_wire.specs.Fields.{Fields}
 use Rattle.ca_model.specs.Answers.{Closing, Notice, Sending}
 use Rattle.ca_model.specs.Answers as answer
 use Rattle.ca_model.specs.Client.{Client, Connection, connection_at, out_bytes}
 use Rattle.ca_model.specs.ClientEnds.{StepsOn}
-use Rattle.ca_model.specs.History.{Circuit, Entry, Line, OfCircuit, Reply, Sent, Step, Told}
+use Rattle.ca_model.specs.History.{Circuit, Entry, Line, OfCircuit, Reply, Step, Told}
 use Rattle.ca_model_safe.specs.Channels.{AreSteps, Joins}
 use Rattle.ca_model_world.specs.ClientEvents.{HappensClientRestart, HappensClientStep, about_at, client_closed, client_gone, client_stepped, connected_as, heard_in, lines_of, new_circuit, told_by}
 use Rattle.ca_model_world.specs.Events.{Event}
@@ -29,7 +28,7 @@ use Rattle.ca_laws_writes.specs.Seats.{Seated, TakesSent}
 use Rattle.ca_laws_writes.proofs.Events.{numbered-at}
 use Rattle.ca_laws_writes.proofs.Lists.{length-more, none_at}
 use Rattle.ca_laws_held.specs.OrderSteps.{ClientsInOrder, HaveLives, InOrder, ServerStepsAre, ServersInOrder, StepsAre}
-use Rattle.ca_laws_held.proofs.OrderGrows.{GoesOn, Grown, Longer, each-event, ended-grown, grown-acted, grown-by, grown-here, grown-left, grown-same, grown-self, grown-server, grown-then, longer-self, longer-snoc, on-closed, on-self, step-grown, ticks-grown}
+use Rattle.ca_laws_held.proofs.OrderGrows.{GoesOn, Grown, Longer, each-event, ended-grown, grown-acted, grown-by, grown-here, grown-left, grown-self, grown-server, grown-then, longer-self, longer-snoc, on-closed, on-self, step-grown, ticks-grown}
 
 -- ---- steps
 
