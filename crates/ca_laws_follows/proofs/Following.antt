@@ -27,9 +27,9 @@ use Rattle.ca_laws_writes.specs.Says.{AllAsked}
 use Rattle.ca_laws_writes.specs.Seats.{HasSeat, Seated}
 use Rattle.ca_laws_writes.proofs.Leaving.{flat-in}
 use Rattle.ca_laws_writes.proofs.Lists.{none_at}
-use Rattle.ca_laws_posts.specs.Follows.{Follows}
-use Rattle.ca_laws_posts.proofs.Clause.{clause-of}
-use Rattle.ca_laws_posts.proofs.Logged.{AllEnds}
+use Rattle.ca_laws_follows.specs.Follows.{Follows}
+use Rattle.ca_laws_follows.proofs.Clause.{clause-of}
+use Rattle.ca_laws_follows.proofs.Logged.{AllEnds}
 use Rattle.ca_laws_follows.specs.Known.{IsStanding, KnownOn}
 use Rattle.ca_laws_follows.specs.Record.{AllFollowRecord}
 use Rattle.ca_laws_follows.specs.Sent.{AllSent, SentOn}

@@ -32,7 +32,7 @@ use Rattle.ca_laws_writes.proofs.Doing.{any-of, clears-only, commands, each-at, 
 use Rattle.ca_laws_writes.proofs.Fresh.{due-adds, due-opens}
 use Rattle.ca_laws_writes.proofs.Lists.{At-take, In-append, In-last, beside-right, both-all, both-filter, both-snoc, kept-in, length-more, none_at, take-whole}
 use Rattle.ca_laws_writes.proofs.Moves.{same-or}
-use Rattle.ca_laws_posts.specs.Entries.{titles}
+use Rattle.ca_laws_follows.specs.Entries.{titles}
 use Rattle.ca_laws_follows.specs.Known.{IsOnRecord, IsOrigin, IsOver, IsRefused, IsStanding, IsWithin, KnownOn}
 use Rattle.ca_laws_follows.specs.Listed.{IsListed}
 use Rattle.ca_laws_follows.proofs.Acting.{Extends, grown-back, longer-self, taken-at}

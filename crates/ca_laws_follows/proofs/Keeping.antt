@@ -20,12 +20,12 @@ use Rattle.ca_laws_writes.specs.Seats.{Sound, TakesSent}
 use Rattle.ca_laws_writes.proofs.Frames.{Frame, goes-self}
 use Rattle.ca_laws_writes.proofs.Lasting.{IsNew}
 use Rattle.ca_laws_writes.proofs.Lists.{none_at}
-use Rattle.ca_laws_posts.specs.Follows.{Follows}
-use Rattle.ca_laws_posts.proofs.Acted.{follows-handled, follows-lasting}
-use Rattle.ca_laws_posts.proofs.Begun.{follows-begins}
-use Rattle.ca_laws_posts.proofs.Logged.{AllEnds, Begins, Lasting, frame-lasts}
-use Rattle.ca_laws_posts.proofs.LoggedAll.{HandledIn, event-lasts-if}
-use Rattle.ca_laws_posts.proofs.LoggedStep.{life-tells}
+use Rattle.ca_laws_follows.specs.Follows.{Follows}
+use Rattle.ca_laws_follows.proofs.Acted.{follows-handled, follows-lasting}
+use Rattle.ca_laws_follows.proofs.Begun.{follows-begins}
+use Rattle.ca_laws_follows.proofs.Logged.{AllEnds, Begins, Lasting, frame-lasts}
+use Rattle.ca_laws_follows.proofs.LoggedAll.{HandledIn, event-lasts-if}
+use Rattle.ca_laws_follows.proofs.LoggedStep.{life-tells}
 use Rattle.ca_laws_follows.specs.Known.{IsOnRecord, KnownOn}
 use Rattle.ca_laws_follows.specs.Listed.{AllListed}
 use Rattle.ca_laws_follows.proofs.Acting.{Grows}

@@ -31,10 +31,10 @@ use Rattle.ca_laws_writes.proofs.Frames.{Goes}
 use Rattle.ca_laws_writes.proofs.InStepLasts.{pumped-subs}
 use Rattle.ca_laws_writes.proofs.Lasting.{SameHeld, numbered_for, told_gone, told_late}
 use Rattle.ca_laws_writes.proofs.Lists.{In-kept, beside-right, both-all, both-at, both-filter, kept-in, none_at}
-use Rattle.ca_laws_posts.specs.Entries.{title, titles}
-use Rattle.ca_laws_posts.specs.Follows.{Follows, Stands}
-use Rattle.ca_laws_posts.proofs.Counting.{both-right}
-use Rattle.ca_laws_posts.proofs.Following.{in-more, length-more, other-bytes, same-bytes, titled}
+use Rattle.ca_laws_follows.specs.Entries.{title, titles}
+use Rattle.ca_laws_follows.specs.Follows.{Follows, Stands}
+use Rattle.ca_laws_follows.proofs.Counting.{both-right}
+use Rattle.ca_laws_follows.proofs.PostFollowing.{in-more, length-more, other-bytes, same-bytes, titled}
 use Rattle.ca_laws_follows.specs.Known.{IsOnRecord, IsOrigin, IsOver, IsStanding, IsWithin, KnownOn}
 use Rattle.ca_laws_follows.proofs.Acting.{Extends, Grows, IsLonger, acted-back, grown-back, grows-length, longer-self, longer-taken}
 

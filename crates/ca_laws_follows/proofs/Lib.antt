@@ -1,3 +1,16 @@
+pub mod Logged
+pub mod LoggedEvents
+pub mod LoggedStep
+pub mod LoggedAll
+pub mod Counting
+pub mod Pumping
+pub mod Changing
+pub mod Adding
+pub mod PostFollowing
+pub mod Followed
+pub mod Begun
+pub mod Acted
+pub mod Clause
 pub mod Acting
 pub mod Known
 pub mod Handling
@@ -7,3 +20,4 @@ pub mod Sending
 pub mod Standing
 pub mod Following
 pub mod Whole
+pub mod Joining

@@ -36,10 +36,10 @@ use Rattle.ca_laws_writes.proofs.HappensClient.{begun-frame, clear-frame, cut-fr
 use Rattle.ca_laws_writes.proofs.LastingStep.{told-servers}
 use Rattle.ca_laws_writes.proofs.Lists.{kept-in, none_at}
 use Rattle.ca_laws_writes.proofs.Midway.{grown-here, set-here}
-use Rattle.ca_laws_posts.specs.Entries.{AreQuiet, title, titles}
-use Rattle.ca_laws_posts.proofs.Following.{in-more, other-bytes, titled}
-use Rattle.ca_laws_posts.proofs.Logged.{titles-kept, withdrawn-quiet}
-use Rattle.ca_laws_posts.proofs.LoggedStep.{logs-quiet, told-logs, with-record-titles, write-titles}
+use Rattle.ca_laws_follows.specs.Entries.{AreQuiet, title, titles}
+use Rattle.ca_laws_follows.proofs.PostFollowing.{in-more, other-bytes, titled}
+use Rattle.ca_laws_follows.proofs.Logged.{titles-kept, withdrawn-quiet}
+use Rattle.ca_laws_follows.proofs.LoggedStep.{logs-quiet, told-logs, with-record-titles, write-titles}
 use Rattle.ca_laws_follows.specs.Listed.{AllListed, IsListed}
 use Rattle.ca_laws_follows.proofs.Known.{removed-in}
 

@@ -40,7 +40,7 @@ use Rattle.ca_laws_writes.proofs.HappensClient.{begun-frame, clear-frame, cut-fr
 use Rattle.ca_laws_writes.proofs.Lasting.{told_late}
 use Rattle.ca_laws_writes.proofs.LastingStep.{replied-back}
 use Rattle.ca_laws_writes.proofs.Lists.{none_at}
-use Rattle.ca_laws_posts.proofs.Following.{matching-more}
+use Rattle.ca_laws_follows.proofs.PostFollowing.{matching-more}
 use Rattle.ca_laws_follows.specs.Sent.{IsShown, SentOn}
 use Rattle.ca_laws_follows.proofs.Acting.{Extends, IsLonger, acted-back, extends-then}
 use Rattle.ca_laws_follows.proofs.Known.{extends-self, within-on}

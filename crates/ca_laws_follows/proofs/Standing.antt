@@ -28,11 +28,11 @@ use Rattle.ca_laws_writes.specs.Agrees.{AreOthers}
 use Rattle.ca_laws_writes.proofs.Lists.{beside-right, both-at, none_at}
 use Rattle.ca_laws_writes.proofs.Lives.{number-of}
 use Rattle.ca_laws_writes.proofs.Moves.{same-or}
-use Rattle.ca_laws_posts.specs.Entries.{titles}
-use Rattle.ca_laws_posts.specs.Follows.{Follows, Stands, posts_by}
-use Rattle.ca_laws_posts.specs.Holds.{Counts}
-use Rattle.ca_laws_posts.proofs.Clause.{clause-of}
-use Rattle.ca_laws_posts.proofs.Following.{logged-is, titled}
+use Rattle.ca_laws_follows.specs.Entries.{titles}
+use Rattle.ca_laws_follows.specs.Follows.{Follows, Stands, posts_by}
+use Rattle.ca_laws_follows.specs.Holds.{Counts}
+use Rattle.ca_laws_follows.proofs.Clause.{clause-of}
+use Rattle.ca_laws_follows.proofs.PostFollowing.{logged-is, titled}
 use Rattle.ca_laws_follows.specs.Known.{IsOnRecord, IsStanding, KnownOn}
 use Rattle.ca_laws_follows.specs.Sent.{IsShown, SentOn}
 use Rattle.ca_laws_follows.proofs.Acting.{Extends, longer-self}
@@ -116,7 +116,7 @@ standing-or (s ∷ ss) k = elim (same-or s.place k) [
 
 -- ---- updates leave
 
-stamped-is : (us : List stepped.Update) (j : Joined) → (stamped us j).lists ≡ record j.lists { down = j.lists.down ++ stamped_told us j }
+pub stamped-is : (us : List stepped.Update) (j : Joined) → (stamped us j).lists ≡ record j.lists { down = j.lists.down ++ stamped_told us j }
 stamped-is [] j = sym (ap (λ (l : List Told). let c : Circuit = record j.lists { down = l } in c) (append-nil j.lists.down))
 stamped-is (u ∷ us) j =
     let item : ℕ × Cause = unwrap_or (front_number j.queues u.queue) (0, Reply) in

@@ -1,15 +1,20 @@
 -- After every run the updates of each accepted EVENT_ADD follow its record.
-use Rattle.std.proofs.Common.{◌≡◌, ℕ, ◌⊎◌, inl, inr, true, List, [], ◌∷◌, ◌++◌, length, Option, Some, None, refl, sym, ap, subst, ◌∙◌}
+use Rattle.std.proofs.Common.{◌≡◌, ℕ, ◌⊎◌, inl, inr, true, List, [], ◌∷◌, ◌++◌, length, Option, Some, None, refl, sym, ap, subst, ◌∙◌, ◌<◌, arith}
 use Rattle.std.specs.List.{FoldsTo}
 use Rattle.ca_text.specs.Place.{At}
-use Rattle.ca_text.proofs.Places.{At-mapped, At-one, At-set}
-use Rattle.ca_model.specs.History.{Collected, Entry, GaveUp}
+use Rattle.ca_text.proofs.Places.{At-map, At-mapped, At-one, At-or, At-set}
+use Rattle.ca_model.specs.History.{Circuit, Collected, Entry, GaveUp, Line}
+use Rattle.ca_model.specs.Updates.{Shows}
+use Rattle.ca_model_safe.specs.Channels.{Joins}
+use Rattle.ca_model_safe.specs.Headline.{FollowsRecord}
+use Rattle.ca_model_safe.specs.Known.{IsDue}
+use Rattle.ca_requests.specs.Meaning.{Means}
 use Rattle.ca_model.specs.ServerSteps.{Pumps, Update}
 use Rattle.ca_model_world.specs.Events.{Event}
 use Rattle.ca_model_world.specs.Events as event
 use Rattle.ca_model_world.specs.Runs.{CanBe, Happens, Leaves, Runs, StopsAt, clients_below}
 use Rattle.ca_model_world.specs.ServerEvents.{HappensPump, ending, ends_by, server_after, stamped}
-use Rattle.ca_model_world.specs.World.{IsSetting, Joined, ServerSide, Setting, World, opening, with_circuit}
+use Rattle.ca_model_world.specs.World.{IsSetting, Joined, ServerSide, Setting, World, circuit_of, opening, port_of, rules_of, told, with_circuit}
 use Rattle.ca_laws_bytes.specs.Runs.{IsReached}
 use Rattle.ca_laws_held.proofs.Created.{reached-created}
 use Rattle.ca_laws_steps.specs.Worlds.{ServersStand}
@@ -26,12 +31,14 @@ use Rattle.ca_laws_writes.proofs.InStepLasts.{world-numbered}
 use Rattle.ca_laws_writes.proofs.Lists.{none_at}
 use Rattle.ca_laws_writes.proofs.Replied.{finish-grew, step-grew-by}
 use Rattle.ca_laws_writes.proofs.Says.{Grew, logs-stay}
-use Rattle.ca_laws_posts.proofs.Logged.{AllEnds}
+use Rattle.ca_laws_follows.proofs.Logged.{AllEnds}
+use Rattle.ca_laws_follows.specs.Joining.{HaveLines}
 use Rattle.ca_laws_follows.specs.Known.{AllKnown}
 use Rattle.ca_laws_follows.specs.Listed.{AllListed}
-use Rattle.ca_laws_follows.specs.Record.{AllFollowRecord}
+use Rattle.ca_laws_follows.specs.Record.{AllFollowRecord, FollowRecord}
 use Rattle.ca_laws_follows.specs.Sent.{AllSent, SentOn}
 use Rattle.ca_laws_follows.proofs.Following.{all-follow}
+use Rattle.ca_laws_follows.proofs.Joining.{event-lines, opening-lines, ticks-lines}
 use Rattle.ca_laws_follows.proofs.Keeping.{KnownAt, event-known, frame-known}
 use Rattle.ca_laws_follows.proofs.Listing.{event-listed, frame-listed, opening-listed}
 use Rattle.ca_laws_follows.proofs.Sending.{Back, IsPump, KeepsUpdates, back-frame, event-back, keeps-ending, sent-new, sent-on}
@@ -189,22 +196,25 @@ pub record FollowStand (w : World) : Type 0 where
   pub listed : AllListed w
   pub known : AllEnds KnownAt w
   pub sent : AllSent w
+  pub lines : HaveLines w
 
 opening-stand : (s : Setting) → FollowStand (opening s)
-opening-stand s = record { listed = opening-listed s; known = λ n c y e log at. absurd (none_at n c at); sent = λ n c log at. absurd (none_at n c at) }
+opening-stand s = record { listed = opening-listed s; known = λ n c y e log at. absurd (none_at n c at); sent = λ n c log at. absurd (none_at n c at); lines = opening-lines s }
 
 event-stand : (s : Setting) (w new : World) (e : Event) → IsReached w → ServersStand s w → Happens w e new → FollowStand w → FollowStand new
 event-stand s w new e reached h happens f = record {
   listed = event-listed w new e h.stands.sound.writes happens f.listed;
   known = event-known s w new e (takes-next s w h) f.listed (reached-creations w reached) (reached-created w reached) happens h.stands.sound f.known;
   sent = event-sent s w new e h f.known happens f.sent;
+  lines = event-lines w new e happens f.lines;
 }
 
-frame-stand : (s : Setting) (w new : World) → ServersStand s w → Frame w new → FollowStand w → FollowStand new
-frame-stand s w new h g f = record {
+frame-stand : (s : Setting) (w new : World) → ServersStand s w → Frame w new → HaveLines new → FollowStand w → FollowStand new
+frame-stand s w new h g lines f = record {
   listed = frame-listed w new g f.listed;
   known = frame-known w new g f.known;
   sent = sent-back w new (back-frame w new g) (logs-stay w new g.logs) (logs-there s w h.stands.sound) f.sent;
+  lines = lines;
 }
 
 folds-snoc : (es : List Event) (a b c : World) (e : Event) → FoldsTo Happens a es b → Happens b e c → FoldsTo Happens a (es ++ e ∷ []) c
@@ -221,7 +231,7 @@ events-stand s ok done (e ∷ es) w new before (mid, one, rest) f =
 stops-stand : (s : Setting) (mid : World) (stopped : Option Event) (w : World) → ServersStand s mid → StopsAt mid stopped w → FollowStand mid → FollowStand w
 stops-stand s mid (Some (event.Tick moment)) w h stops f = elim stops [
   | inl same ↦ subst (λ (z : World). FollowStand z) (sym same) f
-  | inr ticked ↦ frame-stand s mid w h (ticks-frame moment mid (clients_below ticked.0) w ticked.3) f
+  | inr ticked ↦ frame-stand s mid w h (ticks-frame moment mid (clients_below ticked.0) w ticked.3) (ticks-lines moment mid (clients_below ticked.0) w ticked.3 f.lines) f
 ]
 stops-stand s mid stopped w h stops f = subst (λ (z : World). FollowStand z) (sym stops) f
 
@@ -237,3 +247,15 @@ run-follow s es stopped w ok runs =
     let f = run-stand s es stopped w ok runs in
     let h = run-serves s es stopped w ok runs in
     all-follow w h.stands.sound.writes h.stands.sound.seated h.stands.asked h.numbers f.known f.sent
+
+-- so the clause, with the logs of the lives that each circuit joins
+pub run-record : (s : Setting) (es : List Event) (stopped : Option Event) (w : World) → IsSetting s → Runs s es stopped w → FollowRecord w
+run-record s es stopped w ok runs n d at =
+    let j = At-mapped circuit_of w.circuits n d at in
+    let y = logs-there s w (run-serves s es stopped w ok runs).stands.sound n j.0 j.1 in
+    elim (At-or w.client_logs j.0.lists.client) [
+      | inl x ↦
+          subst (λ (c : Circuit). (x : List Line) × (y : List Entry) × Joins (told w) n c x y × FollowsRecord (IsDue (port_of w) (rules_of w)) Shows Means n c x y) (sym j.2)
+          (x.0, y.0, (At-map circuit_of w.circuits n j.0 j.1, x.1, y.1), run-follow s es stopped w ok runs n j.0 y.0 j.1 y.1 x.0)
+      | inr past ↦ absurd (let lt : j.0.lists.client < length w.client_logs = (run-stand s es stopped w ok runs).lines.joins n j.0 j.1 in omega (arith, lt, past))
+    ]

@@ -14,7 +14,7 @@ use Rattle.ca_model.specs.Speech.{Ends, In, Is, name_in}
 use Rattle.ca_model_safe.specs.Channels.{Has}
 use Rattle.ca_model_safe.specs.Headline.{Acted}
 use Rattle.ca_model_world.specs.World.{Creation, Joined, RecordSide, ServerSide, Standing, World}
-use Rattle.ca_laws_posts.specs.Entries.{titles}
+use Rattle.ca_laws_follows.specs.Entries.{titles}
 use Rattle.ca_laws_writes.specs.Both.{Both}
 
 -- An open channel was created by a CREATE_CHAN that was handled and has its name. Unless it is retired, the record that had that name

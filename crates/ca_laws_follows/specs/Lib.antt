@@ -1,4 +1,9 @@
+pub mod Entries
+pub mod Holds
+pub mod Follows
+pub mod Clause
 pub mod Known
 pub mod Listed
 pub mod Sent
 pub mod Record
+pub mod Joining

@@ -5,7 +5,7 @@ use Rattle.ca_text.specs.Place.{At}
 use Rattle.ca_model.specs.History.{Added, Entry, Removed}
 use Rattle.ca_model.specs.Speech.{In}
 use Rattle.ca_model_world.specs.World.{RecordSide, ServerSide, World}
-use Rattle.ca_laws_posts.specs.Entries.{titles}
+use Rattle.ca_laws_follows.specs.Entries.{titles}
 
 -- Each record that the log added, and did not remove, is there under its name and number.
 abbrev pub IsListed : List Entry → List RecordSide → Type 0

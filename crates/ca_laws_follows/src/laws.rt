@@ -4,7 +4,7 @@ ghost use Rattle.ca_model_world.specs.Runs.{Runs};
 ghost use Rattle.ca_model_world.specs.World.{IsSetting, Setting, World};
 ghost use Rattle.ca_laws_follows.specs.Known.{AllKnown};
 ghost use Rattle.ca_laws_follows.specs.Listed.{AllListed};
-ghost use Rattle.ca_laws_follows.specs.Record.{AllFollowRecord};
+ghost use Rattle.ca_laws_follows.specs.Record.{AllFollowRecord, FollowRecord};
 ghost use Rattle.ca_laws_follows.specs.Sent.{AllSent};
 
 /// After every run each record that the log of a server's life added, and did not remove, is among
@@ -35,9 +35,12 @@ pub fn what_was_sent_shows_its_posts()
 /// it: those that were sent and then those that are queued carry matching posts by rising numbers,
 /// each that was sent shows its post, and while the subscription lasts the newest is among them. This
 /// holds also of subscriptions that were cancelled, cleared or lost, and of circuits that have ended.
+/// The logs of the two lives that each circuit joins are there, so it is the statement's own clause.
 ///
 /// The setting is well-formed; nothing else is asked for.
 pub fn follows_record_in_runs()
-    ensures { (s : Setting) (es : List Event) (stopped : Option Event) (w : World) → IsSetting s
+    ensures each { (s : Setting) (es : List Event) (stopped : Option Event) (w : World) → IsSetting s
         → Runs s es stopped w → AllFollowRecord w }
+    ensures clause { (s : Setting) (es : List Event) (stopped : Option Event) (w : World)
+        → IsSetting s → Runs s es stopped w → FollowRecord w }
 {}

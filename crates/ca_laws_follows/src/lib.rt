@@ -1,10 +1,13 @@
-//! Laws of subscriptions over every run: the updates of each EVENT_ADD that was accepted follow its
-//! record, also once its subscription or its circuit has ended.
+//! Laws of posts and subscriptions over every run: what a server counts for a subscription, and the
+//! numbers of its updates, by the log of the server's life; and the updates of each EVENT_ADD that was
+//! accepted follow its record, also once its subscription or its circuit has ended.
 #![tactic(auto)]
 
 mod laws;
+mod post_laws;
 
 pub use laws::{
     follows_record_in_runs, listed_records_are_there, what_was_added_stands_or_is_over,
     what_was_sent_shows_its_posts,
 };
+pub use post_laws::{subscriptions_follow_their_posts, what_stands_follows_its_record};

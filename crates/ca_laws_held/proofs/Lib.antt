@@ -38,3 +38,5 @@ pub mod OnceWorld
 pub mod OnceServers
 pub mod OnceClients
 pub mod OnceRuns
+pub mod OrderGrows
+pub mod OrderKeeps

@@ -1,4 +1,0 @@
-pub mod Entries
-pub mod Holds
-pub mod Follows
-pub mod Clause
