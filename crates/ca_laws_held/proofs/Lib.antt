@@ -40,3 +40,5 @@ pub mod OnceClients
 pub mod OnceRuns
 pub mod OrderGrows
 pub mod OrderKeeps
+pub mod OnceSent
+pub mod OnceSentServers
