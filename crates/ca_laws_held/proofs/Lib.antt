@@ -42,3 +42,5 @@ pub mod OrderGrows
 pub mod OrderKeeps
 pub mod OnceSent
 pub mod OnceSentServers
+pub mod OnceSentClients
+pub mod OnceSentRuns

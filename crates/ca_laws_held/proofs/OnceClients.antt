@@ -32,7 +32,7 @@ use Rattle.ca_laws_held.proofs.OnceWorld.{IsSameEnd, OnceStand, all-map, all-sam
 
 -- ---- calls
 
-no-refusal : (e : Refusal) → NoCall (history.Refused e ∷ [])
+pub no-refusal : (e : Refusal) → NoCall (history.Refused e ∷ [])
 no-refusal e zero intent f at = differ (some_is (history.Refused e) (Called intent f) at)
   where
     differ : history.Refused e ≡ Called intent f → ⊥
@@ -147,7 +147,7 @@ gave-up-no-call r o (suc p) intent e at = cc
 
 -- ---- bytes move
 
-less-handed : (c : Handle) (k : ℕ) (x : Client) → Less x (handed_over c k x)
+pub less-handed : (c : Handle) (k : ℕ) (x : Client) → Less x (handed_over c k x)
 less-handed c k x = go (is_some (connection_at x c))
   where
     go : (b : Bool) → Less x (cond b (on_connection (λ (e : Connection). record e { link = with_handed k e.link }) c x) x)
@@ -404,7 +404,7 @@ module _ (i : ℕ) (closings : List Left) where
   tick-ends : (a : Joined) → IsSameEnd a (after_tick i closings a)
   tick-ends a = closes (eqb a.client i && a.lists.client_open) (left_silent closings a) a
 
-ticks-one-once : (moment : ℕ) (w : World) (i : ℕ) (new : World) → ClientsQuiet w → OnceStand w → TicksOne moment w i new → OnceStand new
+pub ticks-one-once : (moment : ℕ) (w : World) (i : ℕ) (new : World) → ClientsQuiet w → OnceStand w → TicksOne moment w i new → OnceStand new
 ticks-one-once moment w i new q s happens =
     let x : ClientSide = happens.0 in
     let does = happens.5 in

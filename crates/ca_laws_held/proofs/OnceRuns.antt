@@ -53,7 +53,7 @@ once-happens w new (event.Tick moment) c q s happens =
 
 -- ---- the first world
 
-numbered-place : {A B : Type 0} (n : ℕ) (f : ℕ → A → B) (xs : List A) (i : ℕ) (y : B) → At (numbered n f xs) i y → (x : A) × At xs i x × (y ≡ f (n + i) x)
+pub numbered-place : {A B : Type 0} (n : ℕ) (f : ℕ → A → B) (xs : List A) (i : ℕ) (y : B) → At (numbered n f xs) i y → (x : A) × At xs i x × (y ≡ f (n + i) x)
 numbered-place n f [] i y at = absurd cc
 numbered-place {A} {B} n f (x ∷ xs) zero y at = (x, refl, sym (some_is (f n x) y at) ∙ ap (λ (m : ℕ). f m x) (let e : n ≡ n + 0 = omega arith in e))
 numbered-place {A} {B} n f (x ∷ xs) (suc i) y at =

@@ -24,7 +24,7 @@ use Rattle.ca_model_world.specs.World.{ClientSide, Joined, Names, ServerSide, Wo
 use Rattle.ca_laws_runs.specs.Circuit.{sent_to, stamped}
 use Rattle.ca_laws_runs.proofs.Handled.{Like}
 use Rattle.ca_laws_held.proofs.OnceCalls.{Calls, NoCall}
-use Rattle.ca_laws_held.proofs.OnceWorld.{LogsAfter, OnceStand, logs-grown, logs-still}
+use Rattle.ca_laws_held.proofs.OnceWorld.{LogsAfter, logs-grown, logs-still}
 
 -- Client i has an open end under this handle, of this life.
 abbrev pub IsOpenAt : World → (i life : ℕ) → Handle → Type 0
@@ -183,18 +183,17 @@ sent-moved w new i x z spoken sent lines at_x clients life logs onward calls rea
         (r.0, o.0, r.2, r.3, o.1, o.2.life ∙ r.5, subst (λ (v : List Sent). At v r.2 r.3) (sym o.2.up) (At-append (r.1).lists.up (sent_on i spoken sent r.1) r.2 r.3 r.6), r.7)
 
 -- a call of client i
-pub sent-called : (w : World) (i : ℕ) (x : ClientSide) (spoken : Names) (o : Outcomes) → At w.clients i x → OnceStand w → Calls x.names x.core spoken o.sent o.lines o.names o.core
+pub sent-called : (w : World) (i : ℕ) (x : ClientSide) (spoken : Names) (o : Outcomes) → At w.clients i x → (log : List Line) × At w.client_logs x.life log → Calls x.names x.core spoken o.sent o.lines o.names o.core
     → ((c : Handle) → is_none (connection_at o.core c) ≡ false → IsOpenAt w i x.life c) → SentStand w → SentStand (client_after i x spoken o w)
-sent-called w i x spoken o at once calls reach s =
+sent-called w i x spoken o at t calls reach s =
     let z : ClientSide = record x { core = o.core; names = o.names } in
-    let t = once.there i x at in
     sent-moved w (client_after i x spoken o w) i x z spoken o.sent o.lines at (λ l y there. At-set w.clients i z l y there) refl (logs-grown w.client_logs x.life o.lines t.0 t.1)
     (λ k a there. (sent_to i spoken o.sent a, At-map (sent_to i spoken o.sent) w.circuits k a there, record { client = refl; handle = refl; life = refl; opens = refl; up = refl })) calls reach s
 
 -- one by which the same circuits are connected
-pub sent-linked : (w : World) (i : ℕ) (x : ClientSide) (spoken : Names) (o : Outcomes) → At w.clients i x → OnceStand w → Calls x.names x.core spoken o.sent o.lines o.names o.core
+pub sent-linked : (w : World) (i : ℕ) (x : ClientSide) (spoken : Names) (o : Outcomes) → At w.clients i x → (log : List Line) × At w.client_logs x.life log → Calls x.names x.core spoken o.sent o.lines o.names o.core
     → ((c : Handle) → is_none (connection_at o.core c) ≡ is_none (connection_at x.core c)) → SentStand w → SentStand (client_after i x spoken o w)
-sent-linked w i x spoken o at once calls links s = sent-called w i x spoken o at once calls (λ c linked. s.reached i x c at (sym (links c) ∙ linked)) s
+sent-linked w i x spoken o at t calls links s = sent-called w i x spoken o at t calls (λ c linked. s.reached i x c at (sym (links c) ∙ linked)) s
 
 nothing-sent : (i : ℕ) (n : Names) (a : Joined) → IsEndOn i n [] a a
 nothing-sent i n a = record { client = refl; handle = refl; life = refl; opens = refl; up = by (eqb a.client i && a.lists.client_open) }
@@ -212,9 +211,8 @@ sent-core w new i x z at clients life logs circuits calls links s =
     (λ k a there. (a, subst (λ (c : List Joined). At c k a) (sym circuits) there, nothing-sent i x.names a)) calls (λ c linked. s.reached i x c at (sym (links c) ∙ linked)) s
 
 -- lines are logged by which nothing is called
-pub sent-lines : (w : World) (i : ℕ) (x : ClientSide) (lines : List Line) → At w.clients i x → OnceStand w → NoCall lines → SentStand w → SentStand (with_lines x.life lines w)
-sent-lines w i x lines at once none s =
-    let t = once.there i x at in
+pub sent-lines : (w : World) (i : ℕ) (x : ClientSide) (lines : List Line) → At w.clients i x → (log : List Line) × At w.client_logs x.life log → NoCall lines → SentStand w → SentStand (with_lines x.life lines w)
+sent-lines w i x lines at t none s =
     sent-moved w (with_lines x.life lines w) i x x x.names [] lines at
     (λ l y there. elim (number-or l i) [
       | inl same ↦ inl (same, At-one w.clients i y x (subst (λ (n : ℕ). At w.clients n y) same there) at)

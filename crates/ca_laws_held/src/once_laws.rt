@@ -3,7 +3,7 @@ ghost use Rattle.ca_model_safe.specs.Channels.{OfClients};
 ghost use Rattle.ca_model_world.specs.Events.{Event};
 ghost use Rattle.ca_model_world.specs.Runs.{Runs};
 ghost use Rattle.ca_model_world.specs.World.{Setting, World, told};
-ghost use Rattle.ca_laws_held.specs.Once.{CallsOnce, StandsOnce};
+ghost use Rattle.ca_laws_held.specs.Once.{CallsOnce, SendsCalled, StandsOnce};
 
 /// In every world to which a run leads, whatever its setting and events, no call of a client is twice
 /// in a log: requests, plain writes and subscriptions have numbers of their own, and what was cleared
@@ -19,4 +19,11 @@ pub fn a_call_is_accepted_once()
 pub fn a_request_is_at_one_place()
     ensures { (s : Setting) (es : List Event) (stopped : Option Event) (w : World)
         → Runs s es stopped w → OfClients (told w) (StandsOnce (told w)) }
+{}
+
+/// In every such world each request and each plain write that a client called was sent: a message that
+/// was meant so stands on a circuit of that life of the client. This is `sent` of the clause.
+pub fn what_was_called_was_sent()
+    ensures { (s : Setting) (es : List Event) (stopped : Option Event) (w : World)
+        → Runs s es stopped w → OfClients (told w) (SendsCalled (told w)) }
 {}
