@@ -62,7 +62,7 @@ sent-opening : (setting : Setting) → SentStand (opening setting)
 sent-opening setting = record {
   reached = λ i x c at linked.
       let r = numbered-place 0 (client_begun (addresses setting.servers) 0) setting.clients i x at in
-      absurd (both_ways (is_none (connection_at x.core c)) linked (subst (λ (v : ClientSide). is_none (connection_at v.core c) ≡ true) (sym r.2) (begun-none (addresses setting.servers) 0 _ r.0 c)));
+      absurd (both_ways (is_none (connection_at x.core c)) linked (subst (λ (v : ClientSide). is_none (connection_at v.core c) ≡ true) (sym r.2) (begun-none (addresses setting.servers) 0 i r.0 c)));
   asked = λ life log p intent e at line is. absurd (let m = At-mapped empty setting.clients life log at in nothing p intent e (subst (λ (v : List Line). At v p (Called intent e)) m.2 line));
 }
   where
