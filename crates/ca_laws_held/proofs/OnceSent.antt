@@ -1,10 +1,10 @@
 -- What a client called as a request was sent: a circuit that is connected in its core is open in the world, and its messages go there.
-use Rattle.std.proofs.Common.{◌≡◌, ℕ, zero, suc, ◌<◌, ◌+◌, ◌⊎◌, inl, inr, Bool, true, false, ◌&&◌, cond, eqb, List, [], ◌∷◌, ◌++◌, length, Option, Some, None, refl, sym, ap, ◌∙◌, subst, arith}
-use Rattle.std.specs.Prelude.{filter, is_none, map, option_and_then, option_map, slice_get, slice_set, unwrap_or}
+use Rattle.std.proofs.Common.{◌≡◌, ℕ, ◌+◌, ◌⊎◌, inl, inr, Bool, true, false, ◌&&◌, cond, eqb, List, [], ◌∷◌, ◌++◌, length, Option, Some, None, refl, sym, ap, ◌∙◌, subst}
+use Rattle.std.specs.Prelude.{is_none, map, option_and_then, option_map, slice_set, unwrap_or}
 use Rattle.std.proofs.lemmas.Bool.{and_from, both_ways, eq-eqb}
 use Rattle.std.proofs.lemmas.List.{append-nil}
 use Rattle.ca_text.specs.Place.{At}
-use Rattle.ca_text.proofs.Places.{At-after, At-append, At-map, At-mapped, At-one, At-parts, At-set, At-set-other, At-within}
+use Rattle.ca_text.proofs.Places.{At-after, At-append, At-map, At-one, At-parts, At-set, At-set-other, At-within}
 use Rattle.ca_arena.specs.declared.handle.Handle.{Handle}
 use Rattle.ca_dbr.specs.Elements.{Elements}
 use Rattle.ca_ids.specs.Table.{same_handle, under}
@@ -18,7 +18,7 @@ use Rattle.ca_model_client.proofs.Handles.{handle-or, same-itself}
 use Rattle.ca_model_client.proofs.Letting.{ends-ended}
 use Rattle.ca_model_client.proofs.Tables.{changed-back, freed-back}
 use Rattle.ca_model_client.proofs.Thinner.{number-or, set-there}
-use Rattle.ca_model_world.specs.ClientEvents.{Outcomes, client_after, intent_of, sent_on}
+use Rattle.ca_model_world.specs.ClientEvents.{Outcomes, client_after, sent_on}
 use Rattle.ca_model_world.specs.ServerEvents.{ending, server_after, server_closed}
 use Rattle.ca_model_world.specs.World.{ClientSide, Joined, Names, ServerSide, World, with_lines}
 use Rattle.ca_laws_runs.specs.Circuit.{sent_to, stamped}
@@ -114,8 +114,7 @@ sent-closing w new clients logs onward s = record {
   reached = λ i x c at linked.
       let there : At w.clients i x = subst (λ (l : List ClientSide). At l i x) clients at in
       let r = s.reached i x c there linked in
-      let o = onward r.0 r.1 r.2 in
-      (
+      let o = onward r.0 r.1 r.2 in (
         r.0,
         o.0,
         o.1,

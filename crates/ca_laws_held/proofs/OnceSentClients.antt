@@ -1,12 +1,12 @@
 -- The events of clients keep that what they called was sent.
-use Rattle.std.proofs.Common.{◌≡◌, ℕ, zero, suc, ◌<◌, ◌+◌, ◌⊎◌, inl, inr, Bool, true, false, ◌&&◌, cond, eqb, List, [], ◌∷◌, ◌++◌, length, Option, Some, None, refl, sym, ap, ◌∙◌, subst, arith}
-use Rattle.std.specs.Prelude.{Ok, drop, filter, find, fold, is_none, map, option_and_then, option_map, slice_set, unwrap_or}
+use Rattle.std.proofs.Common.{◌≡◌, ℕ, ◌+◌, inl, inr, Bool, true, false, ◌&&◌, cond, eqb, List, [], ◌∷◌, ◌++◌, length, Option, Some, None, refl, sym, ap, ◌∙◌, subst}
+use Rattle.std.specs.Prelude.{drop, filter, find, fold, is_none, map, option_and_then, option_map, slice_set, unwrap_or}
 use Rattle.std.specs.List.{FoldsTo}
 use Rattle.std.proofs.lemmas.Bool.{both_ways, eqb-true}
 use Rattle.ca_text.specs.Place.{At}
 use Rattle.ca_text.specs.declared.command.Command.TheVariants as command
 use Rattle.ca_text.specs.declared.refusal.Refusal.{Refusal}
-use Rattle.ca_text.proofs.Places.{At-append, At-last, At-map, At-mapped, At-one, At-set, At-set-other, At-snoc, At-within, some_is}
+use Rattle.ca_text.proofs.Places.{At-append, At-last, At-map, At-mapped, At-one, At-set, At-set-other, At-snoc, At-within}
 use Rattle.ca_arena.specs.declared.handle.Handle.{Handle}
 use Rattle.ca_arena.specs.Arena.{Place}
 use Rattle.ca_dbr.specs.declared.value.Outcome.{Outcome}
@@ -22,7 +22,7 @@ use Rattle.ca_model.specs.Answers.{Closed, Closing, Left, NeedBytes, Notices, Se
 use Rattle.ca_model.specs.Answers as answer
 use Rattle.ca_model.specs.Client.{Client, ClientCircuit, Connection, connection_at, ended, later, on_connection, out_bytes, sending, standing_at}
 use Rattle.ca_model.specs.ClientCalls.{cancel_sent, clearing_sent, event_add_sent, is_over, issued, new_subscription, opened, put_sent, read_sent, write_sent}
-use Rattle.ca_model.specs.ClientEnds.{ConnectsOn, StepsOn, Ticking, after_taking, all_searched_on, begun, circuits_ticked, creations, distinct, due, echoes, falls_silent, handed_over, is_name_connected, name_circuits, of_circuit, searches_made, searches_on, set_up, ticks, ticks_as, with_sending}
+use Rattle.ca_model.specs.ClientEnds.{ConnectsOn, StepsOn, Ticking, after_taking, all_searched_on, begun, circuits_ticked, creations, distinct, due, handed_over, is_name_connected, name_circuits, of_circuit, searches_made, searches_on, set_up, ticks, ticks_as, with_sending}
 use Rattle.ca_model.specs.Hears.{Effect}
 use Rattle.ca_model.specs.Ends.{Address}
 use Rattle.ca_model.specs.History.{Called, Intent, Line, Sent, Step}
@@ -35,20 +35,20 @@ use Rattle.ca_model_client.proofs.Placed.{Keeps, keeps-on, keeps-sending, keeps-
 use Rattle.ca_model_client.proofs.Tables.{find-at, place, under-at}
 use Rattle.ca_model_client.proofs.Thinner.{number-or, set-there}
 use Rattle.std.proofs.lemmas.List.{append-nil}
-use Rattle.ca_model_world.specs.ClientEvents.{DownTaken, HappensAccept, HappensClear, HappensClientDatagram, HappensClientRestart, HappensClientStep, HappensCutClient, HappensDown, HappensHandingOut, HappensOpen, HappensRead, HappensSubscribe, HappensUnsubscribe, HappensUp, HappensWrite, HappensWriteNotify, Outcomes, TicksOne, WantsFirst, about_at, after_tick, cancelled, client_after, client_closed, client_ended, client_gone, client_stepped, connected_as, heard_in, left_silent, lines_of, new_circuit, refused, told_by}
+use Rattle.ca_model_world.specs.ClientEvents.{DownTaken, HappensAccept, HappensClear, HappensClientDatagram, HappensClientRestart, HappensClientStep, HappensCutClient, HappensDown, HappensHandingOut, HappensOpen, HappensRead, HappensSubscribe, HappensUnsubscribe, HappensUp, HappensWrite, HappensWriteNotify, Outcomes, TicksOne, WantsFirst, about_at, after_tick, cancelled, client_after, client_closed, client_ended, client_gone, client_stepped, connected_as, heard_in, lines_of, new_circuit, refused, told_by}
 use Rattle.ca_model_world.specs.World.{ClientSide, Joined, Names, ServerSide, World, addresses, client_begun, log_length, with_circuit, with_client, with_server}
 use Rattle.ca_laws_circuit.specs.Held.{with_request, with_subscription}
 use Rattle.ca_laws_runs.specs.Circuit.{sent_to}
 use Rattle.ca_laws_runs.specs.Clients.{ClientsStand}
 use Rattle.ca_laws_runs.proofs.ClientsMore.{unconnected-is, wanted-there}
-use Rattle.ca_laws_held.specs.Quiet.{ClientsQuiet, Tidy}
+use Rattle.ca_laws_held.specs.Quiet.{ClientsQuiet}
 use Rattle.ca_laws_held.proofs.OnceMoved.{Moved, moved-all-received, moved-before, moved-connected, moved-given, moved-heard, moved-less, moved-ticked}
-use Rattle.ca_laws_held.proofs.OnceLess.{less-ended, less-itself, less-on, less-same}
-use Rattle.ca_laws_held.proofs.OnceCalls.{Calls, NoCall, NoRequest, calls-clear, calls-moved, calls-open, calls-put, calls-read, calls-subscribe, calls-unsubscribe, calls-write, no-lines, notices-no-call}
+use Rattle.ca_laws_held.proofs.OnceLess.{less-ended, less-on, less-same}
+use Rattle.ca_laws_held.proofs.OnceCalls.{NoCall, calls-clear, calls-moved, calls-open, calls-put, calls-read, calls-subscribe, calls-unsubscribe, calls-write, no-lines, notices-no-call}
 use Rattle.ca_laws_held.proofs.OnceClients.{less-handed, no-refusal, ticks-one-once}
 use Rattle.ca_laws_held.proofs.HeardClients.{quiet-ticks}
 use Rattle.ca_laws_held.proofs.OnceWorld.{OnceStand}
-use Rattle.ca_laws_held.proofs.OnceSent.{IsOpenAt, IsSameEnd, SentStand, all-same, all-set, ended-linked, ended-none, same-end, sent-called, sent-closing, sent-core, sent-lines, sent-linked, sent-same}
+use Rattle.ca_laws_held.proofs.OnceSent.{SentStand, all-same, all-set, ended-linked, ended-none, same-end, sent-called, sent-closing, sent-core, sent-lines, sent-linked, sent-same}
 
 -- ---- calls
 
@@ -228,8 +228,7 @@ module _ (w new : World) (k : ℕ) (j : Joined) (x : ClientSide) (at : At w.circ
                 let one : m.0 ≡ j = At-one w.circuits k m.0 j (subst (λ (n : ℕ). At w.circuits n m.0) same m.1) at in
                 let a_is : a ≡ f j = m.2 ∙ ap f one in
                 let b : Joined = f (client_closed c.left j) in
-                let up : b.lists.up ≡ (f j).lists.up = (nothing-up (client_closed c.left j)) ∙ sym (nothing-up j) in
-                (
+                let up : b.lists.up ≡ (f j).lists.up = (nothing-up (client_closed c.left j)) ∙ sym (nothing-up j) in (
                   b,
                   At-map f (slice_set w.circuits k (client_closed c.left j)) l (client_closed c.left j) (subst (λ (n : ℕ). At (slice_set w.circuits k (client_closed c.left j)) n (client_closed c.left j)) (sym same) (set-there w.circuits k (client_closed c.left j) (At-within w.circuits k j at))),
                   ap (λ (v : Joined). v.client) (sym a_is),
@@ -407,11 +406,13 @@ ticks-one x t c m = go (connection_at t.core c)
     by Idle = m
     by Close = λ e linked.
         let r = ended-linked c e t.core linked in
-        let old = m e r.1 in
-        (old.0, λ l f at is. elim (At-snoc t.closings (record { circuit = c; bytes = _ }) l f at) [
-          | inl was ↦ old.1 l f was is
-          | inr last ↦ r.0 (sym is ∙ ap (λ (v : Left). v.circuit) last.1)
-        ])
+        let old = m e r.1 in (
+          old.0,
+          λ l f at is. elim (At-snoc t.closings (record { circuit = c; bytes = _ }) l f at) [
+            | inl was ↦ old.1 l f was is
+            | inr last ↦ r.0 (sym is ∙ ap (λ (v : Left). v.circuit) last.1)
+          ],
+        )
     by Echo =
         let noted : Client = on_connection (λ (e : Connection). record e { link = record e.link { echoed = true } }) c t.core in
         ticked-links x t.closings t.core (sending (of_circuit c (bare command.Echo) ∷ []) noted) (keeps-then t.core noted (sending (of_circuit c (bare command.Echo) ∷ []) noted) (keeps-on _ c t.core) (keeps-sending (of_circuit c (bare command.Echo) ∷ []) noted)).links m
@@ -469,26 +470,25 @@ tick-end i closings a = go (eqb a.client i) a.lists.client_open refl refl (find 
 
 ticks-one-sent : (moment : ℕ) (w : World) (i : ℕ) (new : World) → ClientsQuiet w → OnceStand w → SentStand w → TicksOne moment w i new → SentStand new
 ticks-one-sent moment w i new q once s happens = subst (λ (v : World). SentStand v) (sym happens.6) (
-  sent-closing after (record after { circuits = map (after_tick i closings) after.circuits }) refl refl
-      (λ k a at.
-      let e = tick-end i closings a in
-      (
-        after_tick i closings a,
-        At-map (after_tick i closings) after.circuits k a at,
-        e.0,
-        e.1,
-        e.2,
-        e.3,
-        λ y there linked opened. e.4 (λ mine l f have is.
-            elim (At-set w.clients i (record x { core = happens.4; names = x.names }) a.client y there) [
-              | inl here ↦ (so a.at_client (subst (λ (v : ClientSide). is_none (connection_at v.core a.at_client) ≡ false) here.1 linked)).1 l f have is
-              | inr old ↦ old.1 mine
-            ]) opened,
-      ))
-      (sent-called w i x x.names o happens.1 (once.there i x happens.1)
-      (calls-moved x.names x.core happens.3 happens.4 lines (q.tidy i x happens.1) made (notices-no-call history.OfCircuit x.names (happens.2).notices))
-      (λ c linked. s.reached i x c happens.1 (so c linked).0) s)
-)
+    sent-closing after (record after { circuits = map (after_tick i closings) after.circuits }) refl refl
+    (λ k a at.
+    let e = tick-end i closings a in (
+      after_tick i closings a,
+      At-map (after_tick i closings) after.circuits k a at,
+      e.0,
+      e.1,
+      e.2,
+      e.3,
+      λ y there linked opened. e.4 (λ mine l f have is.
+          elim (At-set w.clients i (record x { core = happens.4; names = x.names }) a.client y there) [
+            | inl here ↦ (so a.at_client (subst (λ (v : ClientSide). is_none (connection_at v.core a.at_client) ≡ false) here.1 linked)).1 l f have is
+            | inr old ↦ old.1 mine
+          ]) opened,
+    ))
+    (sent-called w i x x.names o happens.1 (once.there i x happens.1)
+    (calls-moved x.names x.core happens.3 happens.4 lines (q.tidy i x happens.1) made (notices-no-call history.OfCircuit x.names (happens.2).notices))
+    (λ c linked. s.reached i x c happens.1 (so c linked).0) s)
+    )
   where
     x : ClientSide
     x = happens.0

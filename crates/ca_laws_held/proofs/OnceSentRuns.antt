@@ -1,20 +1,18 @@
 -- After every run, what a client called as a request was sent.
-use Rattle.std.proofs.Common.{◌≡◌, ℕ, inl, inr, true, List, [], ◌∷◌, Option, Some, refl, sym, ap, ◌∙◌, subst}
-use Rattle.std.specs.Prelude.{is_none, length, map}
+use Rattle.std.proofs.Common.{◌≡◌, ℕ, inl, inr, true, List, [], ◌∷◌, Option, Some, refl, sym, subst}
+use Rattle.std.specs.Prelude.{is_none, length}
 use Rattle.std.specs.List.{FoldsTo}
 use Rattle.std.proofs.lemmas.Bool.{both_ways}
 use Rattle.ca_text.specs.Place.{At}
 use Rattle.ca_text.proofs.Places.{At-map, At-mapped}
-use Rattle.ca_arena.specs.declared.handle.Handle.{Handle}
 use Rattle.ca_dbr.specs.Elements.{Elements}
 use Rattle.ca_model.specs.Client.{connection_at}
 use Rattle.ca_model.specs.History.{Called, Collected, GaveUp, Intent, Line}
-use Rattle.ca_model.specs.Speech.{In}
 use Rattle.ca_model_safe.specs.Channels.{OfClients}
 use Rattle.ca_model_world.specs.Events.{Event}
 use Rattle.ca_model_world.specs.Events as event
 use Rattle.ca_model_world.specs.Runs.{Happens, Runs, StopsAt, clients_below}
-use Rattle.ca_model_world.specs.World.{ClientSetting, ClientSide, Joined, Setting, World, addresses, circuit_of, client_begun, opening, told}
+use Rattle.ca_model_world.specs.World.{ClientSetting, ClientSide, Setting, World, addresses, circuit_of, client_begun, opening, told}
 use Rattle.ca_laws_runs.specs.Clients.{ClientsStand}
 use Rattle.ca_laws_runs.proofs.Events.{stands-happens, stands-opening}
 use Rattle.ca_laws_held.specs.Once.{SendsCalled}
