@@ -5,6 +5,8 @@ use Rattle.ca_text.specs.declared.refusal.Refusal.{Refusal}
 use Rattle.ca_text.specs.declared.refusal.Refusal.TheVariants.{BadEvent, OutOfMemory}
 use Rattle.ca_model_world.specs.Events.{Event}
 use Rattle.ca_model_world.specs.World.{World}
+use Rattle.ca_laws_held.specs.Quiet.{ClientsQuiet}
+use Rattle.ca_laws_held.proofs.Kept.{quiet-happens}
 use Rattle.ca_laws_runs.specs.Clients.{ClientsStand}
 use Rattle.ca_laws_runs.proofs.Events.{stands-happens}
 use Rattle.ca_world.specs.declared.world.World.TheInside.{Inside}
@@ -19,7 +21,14 @@ stand-by w new e (Err OutOfMemory) d s = subst (λ (v : World). ClientsStand v) 
 stand-by w new e (Err BadEvent) d s = subst (λ (v : World). ClientsStand v) (sym d.1) s
 stand-by w new e (Err _) d s = absurd d
 
+-- what they sent is as their tables are
+pub quiet-by : (w new : World) (e : Event) (r : Result (Unit {0}) Refusal) → Does w e r new → ClientsStand w → ClientsQuiet w → ClientsQuiet new
+quiet-by w new e (Ok u) d s q = quiet-happens w new e s q d
+quiet-by w new e (Err OutOfMemory) d s q = subst (λ (v : World). ClientsQuiet v) (sym d.1) q
+quiet-by w new e (Err BadEvent) d s q = subst (λ (v : World). ClientsQuiet v) (sym d.1) q
+quiet-by w new e (Err _) d s q = absurd d
+
 -- all of it does, if circuits are found still
 pub all-stand : (w new : Inside) (e : Event) (r : Result (Unit {0}) Refusal) → Does (seen w) e r (seen new) → Stands w
     → AreIndexed (client_numbers new.clients.items) (server_numbers new.servers.items) (map joined_of new.circuits.items) → Stands new
-all-stand w new e r d s indexed = record { indexed = indexed; clients = stand-by (seen w) (seen new) e r d s.clients }
+all-stand w new e r d s indexed = record { indexed = indexed; clients = stand-by (seen w) (seen new) e r d s.clients; quiet = quiet-by (seen w) (seen new) e r d s.clients s.quiet }

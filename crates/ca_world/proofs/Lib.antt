@@ -8,5 +8,8 @@ pub mod Speeches
 pub mod Lasting
 pub mod Rooms
 pub mod Askings
+pub mod Fitting
+pub mod Putting
+pub mod Writing
 pub mod Subscribing
 pub mod Finding

@@ -19,6 +19,7 @@ use Rattle.ca_model_world.specs.World as model
 use Rattle.ca_world.specs.declared.client.ClientSide.{ClientSide}
 use Rattle.ca_world.specs.declared.world.World.TheInside.{Inside}
 use Rattle.ca_model_world.specs.Events.{Event}
+use Rattle.ca_laws_held.specs.Quiet.{Tidy}
 use Rattle.ca_laws_runs.specs.Client.{IsSound}
 use Rattle.ca_world.specs.Does.{Does}
 use Rattle.ca_world.specs.Found.{AreNumbered}
@@ -104,6 +105,10 @@ module _ (w : Inside) (k : ℕ) (x : ClientSide) (at : At w.clients.items k x) (
   -- names name what tables gave
   pub sound-here : IsSound (client_of x).names x.core
   sound-here = s.clients.sound k (client_of x) (At-map client_of w.clients.items k x at)
+
+  -- channels have one number, and what is named is as the client's tables are
+  pub tidy-here : Tidy (client_of x).names x.core
+  tidy-here = s.quiet.tidy k (client_of x) (At-map client_of w.clients.items k x at)
 
   -- it knows its circuits by number
   pub numbered-here : AreNumbered x.circuits.items (map joined_of w.circuits.items) k

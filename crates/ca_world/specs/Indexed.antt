@@ -6,6 +6,7 @@ use Rattle.ca_model_world.specs.World.{Joined}
 use Rattle.ca_world.specs.declared.client.ClientSide.{ClientSide}
 use Rattle.ca_world.specs.declared.server.ServerSide.{ServerSide}
 use Rattle.ca_world.specs.declared.world.World.TheInside.{Inside}
+use Rattle.ca_laws_held.specs.Quiet.{ClientsQuiet}
 use Rattle.ca_laws_runs.specs.Clients.{ClientsStand}
 use Rattle.ca_world.specs.Seen.{joined_of, seen}
 
@@ -27,7 +28,9 @@ client_numbers cs = map (λ (x : ClientSide). x.circuits.items) cs
 abbrev pub server_numbers : List ServerSide → List (List ℕ)
 server_numbers ss = map (λ (y : ServerSide). y.circuits.items) ss
 
--- What holds of a world at each moment: circuits are found by their handles, and its clients stand, as in every run.
+-- What holds of a world at each moment: circuits are found by their handles; its clients stand, and what they sent is as their tables are,
+-- as in every run.
 pub record Stands (w : Inside) : Type 0 where
   pub indexed : AreIndexed (client_numbers w.clients.items) (server_numbers w.servers.items) (map joined_of w.circuits.items)
   pub clients : ClientsStand (seen w)
+  pub quiet : ClientsQuiet (seen w)

@@ -11,3 +11,4 @@ pub mod Found
 pub mod Speaking
 pub mod Reads
 pub mod Subscribes
+pub mod Puts

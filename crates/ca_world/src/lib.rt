@@ -21,6 +21,8 @@ mod subscribe;
 mod up;
 mod way;
 mod world;
+mod write;
+mod write_notify;
 
 pub use config::{ClientSetting, Config, RuleSetting, ServerSetting};
 pub use history::{Ask, Cause, Entry, Intent, Kind, Line, Recorded, Sent, Step, Stored, Told};

@@ -2,6 +2,8 @@ use Rattle.std.proofs.Common.{◌≡◌, List, [], map, ap, sym, subst, ◌∙�
 use Rattle.ca_model.specs.Ends.{Address}
 use Rattle.ca_model_world.specs.World.{Joined, Setting, addresses, client_begun, numbered, opening}
 use Rattle.ca_model_world.specs.World as model
+use Rattle.ca_laws_held.specs.Quiet.{ClientsQuiet}
+use Rattle.ca_laws_held.proofs.Kept.{quiet-opening}
 use Rattle.ca_laws_runs.specs.Clients.{ClientsStand}
 use Rattle.ca_laws_runs.proofs.Events.{stands-opening}
 use Rattle.ca_world.specs.Indexed.{AreIndexed, client_numbers, server_numbers}
@@ -25,4 +27,5 @@ invariant_of-result c =
       indexed = subst (λ (z : List Joined). AreIndexed (client_numbers c.in_ok-clients.clients.items) (server_numbers c.in_ok-servers.servers.items) z) (sym none)
           (record { clients = λ k j at on. absurd cc; servers = λ k j at on. absurd cc });
       clients = subst (λ (z : model.World). ClientsStand z) (sym is) (stands-opening s);
+      quiet = subst (λ (z : model.World). ClientsQuiet z) (sym is) (quiet-opening s);
     }

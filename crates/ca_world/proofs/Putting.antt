@@ -1,0 +1,93 @@
+-- Puts with notification of a client, from what its parts became.
+use Rattle.std.proofs.Common.{◌≡◌, ◌≢◌, ℕ, inl, inr, List, [], ◌∷◌, ◌++◌, length, Result, Ok, Err, Some, refl, sym, ap, subst, ◌∙◌}
+use Rattle.std.specs.Prelude.{map}
+use Rattle.ca_arena.specs.declared.handle.Handle.{Handle}
+use Rattle.ca_ids.specs.Table.{MayGive}
+use Rattle.ca_ids.specs.Wire.{wire_of}
+use Rattle.ca_text.specs.declared.refusal.Refusal.{Refusal}
+use Rattle.ca_text.specs.declared.refusal.Refusal.TheVariants.{BadEvent, OutOfMemory}
+use Rattle.ca_text.specs.Place.{At}
+use Rattle.ca_wire.specs.Messages.{put_request}
+use Rattle.ca_text.specs.declared.command.Command.TheVariants as command
+use Rattle.ca_dbr.specs.Elements.{Elements, base_of, bytes_of, count_of}
+use Rattle.ca_dbr.specs.Types.{base_number}
+use Rattle.ca_model.specs.Answers.{Sending}
+use Rattle.ca_model.specs.Answers as aim
+use Rattle.ca_model.specs.Client.{Client}
+use Rattle.ca_model.specs.ClientCalls.{ClientPuts, LiveChannel, put_sent}
+use Rattle.ca_model.specs.History.{Called, Intent, Line}
+use Rattle.ca_model.specs.History as history
+use Rattle.ca_model_world.specs.ClientEvents.{intent_of, meant_by}
+use Rattle.ca_model_world.specs.Events.{WriteNotify}
+use Rattle.ca_model_world.specs.World.{ClientSide, Joined, Names, grown}
+use Rattle.ca_model_world.specs.World as model
+use Rattle.ca_laws_circuit.proofs.Calls.{meant-own}
+use Rattle.ca_laws_runs.specs.Circuit.{AreGiven}
+use Rattle.ca_laws_runs.proofs.Sending.{new-name}
+use Rattle.ca_world.specs.declared.way.Way.{Way}
+use Rattle.ca_world.specs.Found.{AreNumbered, IsAt}
+use Rattle.ca_world.specs.Indexed.{AreIndexed}
+use Rattle.ca_world.specs.Logs.{Notes}
+use Rattle.ca_world.specs.Puts.{PutsOn, put_meant, put_names}
+use Rattle.ca_world.specs.Speaking.{GoesUp, IsWay, sent_up, stamped}
+use Rattle.ca_world.specs.Does.{Does}
+use Rattle.ca_world.proofs.Sendings.{sent-by}
+use Rattle.ca_world.proofs.Speeches.{call-noted, calls-keep, calls-ok, no-channel, spoken-same, spoken_in}
+
+-- the put to this channel, as the world's parts have it: done
+pub puts-done : (i c : ℕ) (a : Elements) (x x' : ClientSide) (logs logs' : List (List Line)) (ks ks' : List Joined) (h q : Handle) (way : Way) (numbers : List ℕ) (sent : List Sending) (u : Unit {0})
+    → At x.names.channels c h → AreGiven x.names.requests x.core.requests → IsWay x.core ks i h way → AreNumbered numbers ks i → ClientPuts x.core h a (Ok q) sent x'.core
+    → x' ≡ record x { core = x'.core; names = put_names c x q }
+    → logs' ≡ grown x.life (Called (put_meant c x) (Some a) ∷ []) logs
+    → GoesUp way.circuit (record { message = put_request command.WriteNotify (record { sid = way.sid; id = wire_of q; data_type = base_number (base_of a); count = count_of a }) (bytes_of a); intent = put_meant c x }) ks ks'
+    → PutsOn i c a x logs ks (Ok u) x' logs' ks'
+puts-done i c a x x' logs logs' ks ks' h q way numbers sent u named given is_way numbered reads side logged up =
+    let l : LiveChannel = reads.0 in
+    let w = is_way l reads.1 in
+    let names : Names = put_names c x q in
+    let intent : Intent = put_meant c x in
+    let s : Sending = put_sent h l a q in
+    let meant : intent_of names (aim.Put h q) ≡ intent = meant-own x.names.requests q intent (new-name x.names.requests x.core.requests q given reads.3) in
+    let is : record { message = put_request command.WriteNotify (record { sid = way.sid; id = wire_of q; data_type = base_number (base_of a); count = count_of a }) (bytes_of a); intent = intent } ≡ stamped names s =
+    λ t. record { message = put_request command.WriteNotify (record { sid = w.0 t; id = wire_of q; data_type = base_number (base_of a); count = count_of a }) (bytes_of a); intent = sym meant t } in
+    let gone : ks' ≡ map (sent_up i names (s ∷ [])) ks = sent-by i names s numbers way.circuit ks ks' numbered w.2 (subst (λ (z : history.Sent). GoesUp way.circuit z ks ks') is up) in
+    (h, named, inr (q, record { sent = sent; does = reads; side = side; logged = logged; goes = gone ∙ ap (λ (z : List Sending). map (sent_up i names z) ks) (sym reads.4.0) }))
+
+-- a put that is refused leaves all as it was
+pub puts-refused : (old : Client) (h : Handle) (a : Elements) (e : Refusal) (sent : List Sending) (new : Client) → ClientPuts old h a (Err e) sent new → (sent ≡ []) × (new ≡ old)
+puts-refused old h a OutOfMemory sent new o = o.1
+puts-refused old h a _ sent new o = o.1
+
+-- refused
+pub puts-noted : (i c : ℕ) (a : Elements) (x x' : ClientSide) (logs logs' : List (List Line)) (ks : List Joined) (h : Handle) (e : Refusal) (sent : List Sending) (core : Client) (r : Result (Unit {0}) Refusal) → At x.names.channels c h → ClientPuts x.core h a (Err e) sent core
+    → x' ≡ record x { core = core } → Notes x.life e logs r logs' → PutsOn i c a x logs ks r x' logs' ks
+puts-noted i c a x x' logs logs' ks h e sent core r named is side n =
+    let same = puts-refused x.core h a e sent core is in
+    let names : Handle → Handle → Names = λ g q. put_names c x q in
+    call-noted i (At x.names.channels c) (λ g. ClientPuts x.core g a) names names (λ g q. Called (put_meant c x) (Some a) ∷ []) x x' logs logs' ks ks h e r named
+    (subst (λ (z : List Sending × Client). ClientPuts x.core h a (Err e) z.0 z.1) (λ t. (same.0 t, same.1 t)) is)
+    (side ∙ ap (λ (z : Client). record x { core = z }) same.1)
+    refl
+    n
+
+-- the same of a client, logs and circuits that are the same
+pub puts-moved : (i c : ℕ) (a : Elements) (x y x' : ClientSide) (logs more logs' : List (List Line)) (ks ls ks' : List Joined) (r : Result (Unit {0}) Refusal) → y ≡ x → more ≡ logs → ls ≡ ks → PutsOn i c a y more ls r x' logs' ks' → PutsOn i c a x logs ks r x' logs' ks'
+puts-moved i c a x y x' logs more logs' ks ls ks' r side lines circuits =
+    subst (λ (z : ClientSide × (List (List Line) × List Joined)). PutsOn i c a z.0 z.1.0 z.1.1 r x' logs' ks') (λ t. (side t, (lines t, circuits t)))
+
+-- what that makes of the world
+pub puts-does : (w : model.World) (i c : ℕ) (a : Elements) (x x' : ClientSide) (logs : List (List Line)) (ks : List Joined) (r : Result (Unit {0}) Refusal) → At w.clients i x → PutsOn i c a x w.client_logs w.circuits r x' logs ks
+    → Does w (WriteNotify i c a) r (spoken_in i x' logs ks w)
+puts-does w i c a x x' logs ks (Ok u) at d =
+    let names : Handle → Handle → Names = λ h q. put_names c x q in
+    let o = calls-ok i (At x.names.channels c) (λ h. ClientPuts x.core h a) names names (λ h q. Called (put_meant c x) (Some a) ∷ []) w x x' logs ks at u d in
+    (record { x = x; at = at; h = o.0; named = o.1 }, o.2)
+puts-does w i c a x x' logs ks (Err OutOfMemory) at d = (record { x = x; at = at; h = d.0; named = d.1 }, spoken-same i x x' logs ks w at d.2 d.3 d.4)
+puts-does w i c a x x' logs ks (Err BadEvent) at d = (no-channel w i c x at d.0, spoken-same i x x' logs ks w at d.1 d.2 d.3)
+puts-does w i c a x x' logs ks (Err _) at d = absurd d
+
+-- circuits are found still
+pub puts-keep : (i c : ℕ) (a : Elements) (x x' : ClientSide) (logs logs' : List (List Line)) (ks ks' : List Joined) (r : Result (Unit {0}) Refusal) → PutsOn i c a x logs ks r x' logs' ks' → (cs ss : List (List ℕ)) → AreIndexed cs ss ks → AreIndexed cs ss ks'
+puts-keep i c a x x' logs logs' ks ks' r d =
+    let names : Handle → Handle → Names = λ h q. put_names c x q in
+    calls-keep i (At x.names.channels c) (λ h. ClientPuts x.core h a) names names (λ h q. Called (put_meant c x) (Some a) ∷ []) x x' logs logs' ks ks' r d

@@ -1,0 +1,67 @@
+use Rattle.std.proofs.Common.{◌≡◌, ℕ, List, [], ◌∷◌, ◌++◌, Ok, Some, false, length, arith, refl, sym, ap, subst, ◌∙◌}
+use Rattle.std.specs.Prelude.{map}
+use Rattle.ca_wire.specs.Fields.{IsPayload}
+use Rattle.ca_wire.proofs.Padding.{padded-payload}
+use Rattle.ca_wire.specs.Messages.{on_channel, put_request}
+use Rattle.ca_dbr.specs.Elements.{Elements, base_of, bytes_of, count_of, elements}
+use Rattle.ca_dbr.specs.Types.{base_number}
+use Rattle.ca_text.specs.declared.command.Command.TheVariants as command
+use Rattle.ca_world.proofs.Fitting.{put-fits}
+use Rattle.ca_model.specs.History.{Called, Line, On, Request}
+use Rattle.ca_model.specs.History as history
+use Rattle.ca_model_world.specs.World.{Joined, grown}
+use Rattle.ca_model_world.specs.World as model
+use Rattle.ca_world.specs.declared.client.ClientSide.{ClientSide}
+use Rattle.ca_world.specs.declared.way.Way.{Way}
+use Rattle.ca_world.specs.Logs.{lines_in}
+use Rattle.ca_world.specs.Seen.{client_of, joined_of}
+use Rattle.ca_world.specs.Puts.{AreOnce, write_names}
+use Rattle.ca_world.specs.Speaking.{GoesUp}
+use Rattle.ca_world.proofs.Writing.{writes-done, writes-moved, writes-noted}
+use Rattle.ca_world.proofs.write.write_on.Goals as goal
+
+pub with_payload-message-requires : goal.with_payload-message-requires
+with_payload-message-requires c =
+    let a : Elements = elements c.args.value.now in
+    let fits = put-fits c.prepare.new.side.core false c.in_ok-handle.handle a c.in-Ok.ensures.1.0 c.in-Ok.ensures.1.1 c.in-Ok.ensures.1.2 in
+    subst (λ (z : List ℕ). IsPayload z) (sym c.in_ok-payload.ensures) (padded-payload (bytes_of a) fits.1)
+
+pub returns-in-Ok-clause-writes : goal.returns-in-Ok-clause-writes
+returns-in-Ok-clause-writes c =
+    let i : ℕ = c.args.client in
+    let ch : ℕ = c.args.channel in
+    let x : ClientSide = c.args.side.now in
+    let y : ClientSide = c.prepare.new.side in
+    let way : Way = c.in_ok-handle.way in
+    let once : AreOnce (client_of y).names = subst (λ (z : model.ClientSide). AreOnce z.names) (sym c.prepare.ensures.side) c.requires.once in
+    let a : Elements = elements c.args.value.now in
+    let r = c.in_ok-handle.ensures.ready in
+    let logs : List (List Line) = lines_in c.prepare.new.logs.items in
+    let logs' : List (List Line) = lines_in c.push_line.new.logs.items in
+    let ks : List Joined = map joined_of c.prepare.new.circuits.items in
+    let ks' : List Joined = map joined_of c.push_sent.new.circuits.items in
+    let x' : model.ClientSide = record (client_of y) { core = c.write.new.self; names = write_names (client_of y) } in
+    let fits = put-fits y.core false c.in_ok-handle.handle a c.in-Ok.ensures.1.0 c.in-Ok.ensures.1.1 c.in-Ok.ensures.1.2 in
+    let w = r.way c.in-Ok.ensures.1.0 c.in-Ok.ensures.1.1 in
+    let counted : c.count_within-count.result ≡ count_of a = c.count_within-count.ensures (omega (arith, fits.0, w.1)) in
+    let typed : c.number.result ≡ base_number (base_of a) = c.number.ensures ∙ ap base_number c.base_type.ensures in
+    let wanted : c.with_payload-message.result ≡ put_request command.Write (record { sid = way.sid; id = 0; data_type = base_number (base_of a); count = count_of a }) (bytes_of a) =
+    c.with_payload-message.ensures ∙ (λ t. on_channel command.Write (record { sid = c.new.ensures t; id = c.new-in-Ok.ensures t; data_type = typed t; count = counted t }) (c.in_ok-payload.ensures t)) in
+    writes-moved i ch a (client_of x) (client_of y) x' (lines_in c.args.logs.now.items) logs logs' (map joined_of c.args.circuits.now.items) ks ks' (Ok tt)
+    c.prepare.ensures.side c.prepare.ensures.logs c.prepare.ensures.circuits
+    (writes-done i ch a (client_of y) x' logs logs' ks ks' c.in_ok-handle.handle way y.circuits.items c.in-Ok.ensures.0 tt
+    r.named once r.way r.numbered c.in-Ok.ensures.1
+    refl
+    (c.push_line.ensures ∙ (λ t. grown y.life (Called (On ch (Request history.Write y.names.writes)) (Some (c.in_ok-own.ensures t)) ∷ []) logs))
+    (subst (λ (z : history.Sent). GoesUp way.circuit z ks ks') (λ t. record { message = wanted t; intent = On ch (Request history.Write y.names.writes) }) c.push_sent.ensures))
+
+pub returns-in-Err-clause-writes : goal.returns-in-Err-clause-writes
+returns-in-Err-clause-writes c =
+    let x : ClientSide = c.args.side.now in
+    let y : ClientSide = c.prepare.new.side in
+    let a : Elements = elements c.args.value.now in
+    let r = c.in_ok-handle.ensures.ready in
+    writes-moved c.args.client c.args.channel a (client_of x) (client_of y) _ (lines_in c.args.logs.now.items) (lines_in c.prepare.new.logs.items) _ (map joined_of c.args.circuits.now.items) (map joined_of c.prepare.new.circuits.items) _ _
+    c.prepare.ensures.side c.prepare.ensures.logs c.prepare.ensures.circuits
+    (writes-noted c.args.client c.args.channel a (client_of y) _ (lines_in c.prepare.new.logs.items) _ (map joined_of c.prepare.new.circuits.items) c.in_ok-handle.handle c.in-Err.refusal c.in-Err.ensures.0 c.write.new.self c.note.result
+    r.named c.in-Err.ensures.1 refl c.note.ensures)
