@@ -46,3 +46,5 @@ pub mod Clients
 pub mod Stepping
 pub mod Making
 pub mod Joint
+pub mod OrderGrows
+pub mod OrderKeeps

@@ -10,3 +10,4 @@ pub mod Tells
 pub mod Created
 pub mod Under
 pub mod Sides
+pub mod OrderSteps
