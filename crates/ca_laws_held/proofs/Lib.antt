@@ -46,5 +46,12 @@ pub mod Clients
 pub mod Stepping
 pub mod Making
 pub mod Joint
+pub mod OnceLess
+pub mod OnceMoved
+pub mod OnceCalls
+pub mod OnceWorld
+pub mod OnceServers
+pub mod OnceClients
+pub mod OnceRuns
 pub mod OrderGrows
 pub mod OrderKeeps

@@ -10,4 +10,5 @@ pub mod Tells
 pub mod Created
 pub mod Under
 pub mod Sides
+pub mod Once
 pub mod OrderSteps
