@@ -4,3 +4,4 @@ pub mod Draining
 pub mod Calls
 pub mod Turns
 pub mod Turning
+pub mod Desks
