@@ -1,7 +1,6 @@
 -- A setting with one client or one server more is a setting.
-use Rattle.std.proofs.Common.{◌≡◌, ℕ, ◌<◌, ◌^◌, ◌++◌, ◌||◌, zero, suc, eqb, Bool, true, false, inl, inr, List, [], ◌∷◌, length, sym, ap, subst, refl, ◌∙◌}
+use Rattle.std.proofs.Common.{◌≡◌, ℕ, ◌<◌, ◌^◌, ◌++◌, ◌||◌, zero, suc, eqb, Bool, true, false, inl, inr, List, [], ◌∷◌, sym, ap, subst, refl, ◌∙◌}
 use Rattle.std.proofs.lemmas.Bool.{and_from, both_ways, eq-eqb}
-use Rattle.ca_records.specs.Record.{IsRecord, RecordState}
 use Rattle.ca_text.specs.Place.{At}
 use Rattle.ca_text.proofs.Places.{At-snoc, some_is}
 use Rattle.ca_model.specs.Ends.{Address, same_address}

@@ -1,4 +1,4 @@
-use Rattle.std.proofs.Common.{◌≡◌, ◌<◌, ℕ, inl, inr, arith, subst}
+use Rattle.std.proofs.Common.{◌≡◌, ℕ, inl, inr, arith, subst}
 use Rattle.std.proofs.lemmas.Bool.{cases_lt}
 use Rattle.ca_records.specs.Record.{IsRecord, RecordState}
 use Rattle.ca_text.specs.Place.{At}
