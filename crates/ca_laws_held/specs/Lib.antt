@@ -1,3 +1,9 @@
+pub mod Pairs
+pub mod Puts
+pub mod Worlds
+pub mod Held
+pub mod Creations
+pub mod Answering
 pub mod Quiet
 pub mod About
 pub mod Tells

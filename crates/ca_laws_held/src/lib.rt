@@ -1,6 +1,7 @@
 //! What is held of all circuits, over every run: what servers keep for circuits, the ids in flight, the
-//! clients' tables and the SIDs under which clients speak. Below it: what clients sent and read, and
-//! what became of the channels that servers created.
+//! clients' tables and the SIDs under which clients speak. Below it: what clients sent and read, what
+//! became of the channels that servers created, on which channels servers' puts came, that what they
+//! await to send is kept, and that what is held of each circuit stays so as they step.
 #![tactic(auto)]
 
 mod heard_laws;
@@ -8,6 +9,7 @@ mod laws;
 mod once_laws;
 mod order_laws;
 mod sid_laws;
+mod step_laws;
 
 pub use heard_laws::{
     each_notice_tells_of_its_own_message, what_is_held_by_what_servers_take,
@@ -22,4 +24,9 @@ pub use order_laws::{circuits_join_lives, steps_are_in_order, steps_of_servers_a
 pub use sid_laws::{
     a_message_is_handled_as_it_was_meant, created_channels_are_open_or_cleared,
     what_clients_say_grows, writes_are_handled_on_their_channel,
+};
+pub use step_laws::{
+    a_servers_step_keeps_what_is_held, events_keep_what_is_held, open_channels_were_told,
+    puts_came_on_their_channels, replies_answer_their_kind, what_is_awaited_is_kept,
+    what_is_held_in_runs, what_is_held_is_what_was_meant,
 };
