@@ -33,3 +33,5 @@ pub mod Making
 pub mod Joint
 pub mod OrderGrows
 pub mod OrderKeeps
+pub mod CauseGrows
+pub mod CauseKeeps

@@ -5,3 +5,4 @@ pub mod Created
 pub mod Under
 pub mod Sides
 pub mod OrderSteps
+pub mod Causes

@@ -3,11 +3,13 @@
 //! what became of the channels that servers created.
 #![tactic(auto)]
 
+mod cause_laws;
 mod heard_laws;
 mod laws;
 mod order_laws;
 mod sid_laws;
 
+pub use cause_laws::messages_come_after_what_they_are_about;
 pub use heard_laws::{
     each_notice_tells_of_its_own_message, what_is_held_by_what_servers_take,
     what_is_read_is_about_what_it_finds, what_was_sent_is_as_channels_are,
