@@ -1,7 +1,7 @@
 -- Over every event each circuit goes on; but for a message that a server's end handles there, what is sent on it is about messages that were handled before.
 use Rattle.std.proofs.Common.{◌≡◌, ℕ, zero, suc, arith, ◌<◌, ◌≤◌, ◌+◌, ◌⊎◌, inl, inr, Bool, true, false, cond, ◌&&◌, eqb, eqb-true, not, List, [], ◌∷◌, ◌++◌, length, Option, Some, None, refl, sym, ap, subst, ◌∙◌, append-nil, append_assoc}
 use Rattle.std.specs.Prelude.{drop, filter, map, option_and_then, option_map, slice_get, slice_set, take, unwrap_or}
-use Rattle.std.specs.List.{FoldsTo, fold, list_any}
+use Rattle.std.specs.List.{list_any}
 use Rattle.std.specs.Str.{bytes_eq}
 use Rattle.std.proofs.lemmas.List.{length-append}
 use Rattle.ca_arena.specs.declared.handle.Handle.{Handle}
@@ -32,11 +32,10 @@ use Rattle.ca_model_world.specs.Events as event
 use Rattle.ca_model_world.specs.Runs.{CanBe, Happens, Leaves, clients_below}
 use Rattle.ca_model_world.specs.ServerEvents.{HappensFinish, HappensPost, HappensPump, HappensRemove, ServerStepped, about, acted, disconnected_at, ending, ends_by, ends_here, front_number, numbers_after, removal_told, removed_at, server_after, server_closed, side_of, stamped, unsaid, write_numbers}
 use Rattle.ca_model_world.specs.ServerEvents as server
-use Rattle.ca_model_world.specs.World.{ClientSide, Creation, Joined, PutPlace, RecordSide, ServerSide, Setting, Standing, World, with_circuit}
+use Rattle.ca_model_world.specs.World.{ClientSide, Creation, Joined, RecordSide, ServerSide, Setting, Standing, World, with_circuit}
 use Rattle.ca_laws_kept.specs.Channels.{ChannelsOn, has_sid}
-use Rattle.ca_laws_kept.specs.Kept.{kept, records_at}
+use Rattle.ca_laws_kept.specs.Kept.{kept}
 use Rattle.ca_laws_kept.specs.Later.{stamped_told}
-use Rattle.ca_laws_kept.specs.Messages.{Messages}
 use Rattle.ca_laws_kept.specs.Numbers.{HaveNumbers}
 use Rattle.ca_laws_kept.proofs.Numbers.{one-taken}
 use Rattle.ca_laws_kept.proofs.Puts.{PutIn}
@@ -50,7 +49,6 @@ use Rattle.ca_laws_writes.proofs.Every.{ticks-frame}
 use Rattle.ca_laws_writes.proofs.Frames.{Frame}
 use Rattle.ca_laws_writes.proofs.HappensClient.{begun-frame, clear-frame, cut-frame, datagram-frame, handing-frame, hear-frame, left-frame, open-frame, put-frame, read-frame, sent-frame, subscribe-frame, unsubscribe-frame, up-frame, write-frame}
 use Rattle.ca_laws_writes.proofs.Lasting.{told_late}
-use Rattle.ca_laws_writes.proofs.LastingStep.{replied-back}
 use Rattle.ca_laws_writes.proofs.Lists.{At-take, In-kept, none_at}
 use Rattle.ca_laws_steps.specs.Worlds.{ServersStand}
 use Rattle.ca_laws_steps.proofs.Awaited.{keeps-awaited}

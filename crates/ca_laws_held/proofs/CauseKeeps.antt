@@ -1,16 +1,15 @@
 -- Over every event and run each message of a server comes after what it is about was handled.
 use Rattle.std.proofs.Common.{◌≡◌, ℕ, ◌+◌, ◌<◌, ◌≤◌, ◌⊎◌, inl, inr, List, [], ◌∷◌, ◌++◌, length, Option, Some, None, refl, sym, ap, subst, ◌∙◌, arith}
-use Rattle.std.specs.Prelude.{map, option_map, slice_get, slice_set, unwrap_or}
+use Rattle.std.specs.Prelude.{option_map, slice_get, slice_set, unwrap_or}
 use Rattle.std.specs.List.{FoldsTo}
 use Rattle.ca_arena.specs.declared.handle.Handle.{Handle}
 use Rattle.ca_text.specs.Place.{At}
 use Rattle.ca_text.proofs.Places.{At-append, At-last, At-mapped, At-one, At-or, At-parts, At-set, At-snoc}
 use Rattle.ca_wire.specs.Fields.{Fields}
 use Rattle.ca_model.specs.Answers.{Closing}
-use Rattle.ca_model.specs.History.{Circuit, Entry, Line, Reply, Step, Told}
+use Rattle.ca_model.specs.History.{Circuit, Reply, Step, Told}
 use Rattle.ca_model.specs.ServerSteps.{Stepped}
 use Rattle.ca_model.specs.ServerSteps as stepped
-use Rattle.ca_model_safe.specs.Channels.{Joins}
 use Rattle.ca_model_world.specs.ClientEvents.{HappensAccept, WantsFirst, connected_as, new_circuit}
 use Rattle.ca_model_world.specs.Events.{Event}
 use Rattle.ca_model_world.specs.Events as event
@@ -26,7 +25,7 @@ use Rattle.ca_laws_steps.specs.Worlds.{ServersStand}
 use Rattle.ca_laws_steps.proofs.Whole.{event-serves, opening-serves, takes-next}
 use Rattle.ca_laws_held.specs.Causes.{AllComeAfter, ComeAfter, MessagesComeAfter}
 use Rattle.ca_laws_held.specs.OrderSteps.{InOrder, ServersInOrder}
-use Rattle.ca_laws_held.proofs.CauseGrows.{Back, IsQuietEvent, PlacesOn, Removes, acted-back, back-after, back-frame, event-back, unhandled-back}
+use Rattle.ca_laws_held.proofs.CauseGrows.{Back, PlacesOn, Removes, acted-back, back-after, event-back, unhandled-back}
 use Rattle.ca_laws_held.proofs.OrderKeeps.{event-served, run-server-steps}
 
 -- ---- what was handled before
