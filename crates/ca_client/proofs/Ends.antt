@@ -76,7 +76,7 @@ sent-nowhere c x placed none q e =
     let nothing : connection_at x r.0.circuit ≡ None = ap (λ (k : Handle). connection_at x k) at ∙ ap (λ (o : Option ClientCircuit). option_and_then (λ (d : ClientCircuit). d.connection) o) none in
     both_ways (is_connecting on.0) (waits-not on.0 on.2) (waiting ∙ ap (λ (o : Option Connection). is_none o) nothing)
 
-no-losses : (hs : List Handle) → completions (map Lost hs) ≡ []
+pub no-losses : (hs : List Handle) → completions (map Lost hs) ≡ []
 no-losses [] = refl
 no-losses (h ∷ hs) = no-losses hs
 

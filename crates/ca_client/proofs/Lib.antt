@@ -8,3 +8,7 @@ pub mod Filled
 pub mod Issued
 pub mod Fresh
 pub mod Given
+pub mod Frames
+pub mod Drained
+pub mod Ticked
+pub mod Boards

@@ -43,10 +43,10 @@ first-told x ns y t =
       none = subst (λ (rest : List Notice). completions rest ≡ []) (sym is.1) t.first.none;
     }
 
-tells-told : (x : Client) (ns : List Notice) (y : Client) → Told x ns y → Tells (Waits x) (completions ns)
+pub tells-told : (x : Client) (ns : List Notice) (y : Client) → Told x ns y → Tells (Waits x) (completions ns)
 tells-told x ns y t = subst (Tells (Waits x)) (sym (first-is ns t.cs t.rest t.first).0) t.tells
 
-leaves-told : (x : Client) (ns : List Notice) (y : Client) → Told x ns y → (q : Handle) → Waits y q → Leaves (Waits x) (completions ns) q
+pub leaves-told : (x : Client) (ns : List Notice) (y : Client) → Told x ns y → (q : Handle) → Waits y q → Leaves (Waits x) (completions ns) q
 leaves-told x ns y t q w = subst (λ (cs : List Completion). Leaves (Waits x) cs q) (sym (first-is ns t.cs t.rest t.first).0) (t.leaves q w)
 
 pub due-told : (x : Client) (v : CoreView) (board : TableId) (ts : List Ticket) (ns : List Notice) (y : Client) → IsState x v board ts → Told x ns y → Fillable ts v (completions ns)

@@ -57,6 +57,14 @@ tells-ends asked [] a f = tt
 tells-ends asked (q ∷ qs) a f =
     (f q (inl refl), tells-ends (But asked q) qs a.1 (λ k m. (f k (inr m), λ e. a.0 (subst (Among qs) e m))))
 
+pub tells-more : (few more : Handle → Type 0) (cs : List Completion) → ((q : Handle) → few q → more q) → Tells few cs → Tells more cs
+tells-more few more [] f h = tt
+tells-more few more (c ∷ cs) f h = (f c.0 h.0, tells-more (But few c.0) (But more c.0) cs (λ q g. (f q g.0, g.1)) h.1)
+
+pub leaves-more : (few more : Handle → Type 0) (cs : List Completion) → ((q : Handle) → few q → more q) → (q : Handle) → Leaves few cs q → Leaves more cs q
+leaves-more few more [] f q h = f q h
+leaves-more few more (c ∷ cs) f q h = leaves-more (But few c.0) (But more c.0) cs (λ k g. (f k g.0, g.1)) q h
+
 -- From x, these notices tell what became of requests that waited, and y is left.
 pub record Told (x : Client) (ns : List Notice) (y : Client) : Type 0 where
   pub cs : List Completion
@@ -122,14 +130,6 @@ told-from x y z ns s t = record {
   leaves = λ q w. leaves-more (Waits y) (Waits x) t.cs (λ k h. waits-same x y k s h) q (t.leaves q w);
   listed = t.listed;
 }
-  where
-    tells-more : (few more : Handle → Type 0) (cs : List Completion) → ((q : Handle) → few q → more q) → Tells few cs → Tells more cs
-    tells-more few more [] f h = tt
-    tells-more few more (c ∷ cs) f h = (f c.0 h.0, tells-more (But few c.0) (But more c.0) cs (λ q g. (f q g.0, g.1)) h.1)
-
-    leaves-more : (few more : Handle → Type 0) (cs : List Completion) → ((q : Handle) → few q → more q) → (q : Handle) → Leaves few cs q → Leaves more cs q
-    leaves-more few more [] f q h = f q h
-    leaves-more few more (c ∷ cs) f q h = leaves-more (But few c.0) (But more c.0) cs (λ k g. (f k g.0, g.1)) q h
 
 -- the open requests that the test names are complete with Disconnected
 pub told-ended : (x y : Client) (which : Request → Bool) (rest : List Notice) → IsListed x → IsListed y → ((q : Handle) → Waits y q → Waits x q × ¬ (is_open which x.requests q ≡ true)) → completions rest ≡ [] → Told x (disconnections which x ++ rest) y

@@ -1,5 +1,5 @@
 -- Statement: what the functions that are lent the state under the lock do.
-use Rattle.std.specs.Prelude.{◌≡◌, ◌⊎◌, ℕ, ◌<◌, ◌++◌, List, [], Option, Some, None, Result, Ok, Err, slice_set}
+use Rattle.std.specs.Prelude.{◌≡◌, ◌⊎◌, ℕ, ◌<◌, ◌++◌, List, [], Option, Some, None, Result, Ok, Err, map, slice_set}
 use Rattle.ca_text.specs.Limits.{board_cells}
 use Rattle.ca_text.specs.declared.refusal.Refusal.{Refusal}
 use Rattle.ca_text.specs.declared.refusal.Refusal.TheVariants.{NoCell}
@@ -14,7 +14,7 @@ use Rattle.ca_model.specs.Answers.{Closing, Notice, Sending}
 use Rattle.ca_model.specs.Answers as core
 use Rattle.ca_model.specs.Client.{Client}
 use Rattle.ca_model.specs.ClientCalls.{ClientClears, ClientPuts, ClientReads}
-use Rattle.ca_model.specs.ClientEnds.{ClientBegins, ClientCloses, ClientConnects, ClientCuts, ClientSetting, ClientSteps}
+use Rattle.ca_model.specs.ClientEnds.{ClientBegins, ClientCloses, ClientConnects, ClientCuts, ClientSetting, ClientSteps, ClientTicks}
 use Rattle.ca_client.specs.declared.ask.Ask.{Ask}
 use Rattle.ca_client.specs.declared.ask.Ask.TheVariants as ask
 use Rattle.ca_client.specs.declared.ask.Request.{Request}
@@ -57,6 +57,7 @@ told_in (answer.Notices told) = told
 told_in answer.NeedBytes = []
 told_in answer.Connected = []
 told_in (answer.Closed k) = k.notices
+told_in (answer.Ticked t) = t.notices
 told_in (answer.Refused e) = []
 
 -- What the core answered with all its notices, and left: the answer that is handed back is that without the completions.
@@ -70,14 +71,21 @@ HasAnswered old (ask.Connect c) ns answer.Connected new = (ns ≡ []) × ((sent 
 HasAnswered old (ask.Connect c) ns (answer.Closed k) new = (sent : List Sending) × ClientConnects old c (Some (record k { notices = ns })) sent new
 HasAnswered old (ask.Clear h) ns (answer.Notices told) new = (sent : List Sending) × ClientClears old h (Ok ns) sent new
 HasAnswered old (ask.Clear h) ns (answer.Refused e) new = (ns ≡ []) × ((sent : List Sending) × ClientClears old h (Err e) sent new)
+HasAnswered old (ask.Tick now) ns (answer.Ticked t) new = (sent : List Sending) × ClientTicks old now (Ok (record t { notices = ns })) sent new
+HasAnswered old (ask.Tick now) ns (answer.Refused e) new = (ns ≡ []) × ((sent : List Sending) × ClientTicks old now (Err e) sent new)
 HasAnswered old asked ns _ new = ⊥
+
+-- The answer hands these notices back, in order. That of a moment does not: its are of channels that were lost.
+abbrev pub HandsBack : Answer → List Notice → Type 0
+HandsBack (answer.Ticked t) ns = (t.notices ≡ []) × ((hs : List Handle) × (ns ≡ map core.Lost hs))
+HandsBack result ns = told_in result ≡ ns
 
 -- The core made its call once; each completion filled its own request's ticket, and the other notices are handed back.
 abbrev pub HasSteppedUnderLock : StateView → Ask → Answer → StateView → Type 0
 HasSteppedUnderLock old asked result new =
     (ns : List Notice) × HasAnswered old.core asked ns result new.core
     × FillsAll old.tickets old.seat (completions ns) new.seat
-    × (told_in result ≡ others ns) × (new.tickets ≡ old.tickets)
+    × HandsBack result (others ns) × (new.tickets ≡ old.tickets)
 
 -- ---- new
 

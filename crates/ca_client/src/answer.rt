@@ -1,7 +1,7 @@
 ghost use Rattle.std.specs.Prelude.{◌≡◌};
 ghost use Rattle.ca_client_core.specs.Notices.{TakesNotice};
 
-use ca_client_core::{Notice, Notices, Why};
+use ca_client_core::{Notice, Notices, Ticked, Why};
 use ca_text::Refusal;
 use ca_wire::Pipe;
 use std::marker::Model;
@@ -68,6 +68,9 @@ pub enum Answer {
     Connected,
     /// The circuit has ended.
     Closed(Ended),
+    /// What the moment did: the datagrams that are to be sent, and the circuits that have ended, whose notices are taken out: those that
+    /// complete no request tell of channels that were lost.
+    Ticked(Ticked),
     /// It refused, and is as it was.
     Refused(Refusal),
 }

@@ -24,4 +24,6 @@ pub enum Ask {
     Connect(Handle),
     /// To clear this channel.
     Clear(Handle),
+    /// To go by this moment, in milliseconds.
+    Tick(u64),
 }

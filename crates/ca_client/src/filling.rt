@@ -44,7 +44,7 @@ pub(crate) fn fill_all(
 }
 
 // The request that a notice completes, with its outcome; or the notice.
-fn parts(notice: Notice) -> Result<(Handle, Outcome), Notice>
+pub(crate) fn parts(notice: Notice) -> Result<(Handle, Outcome), Notice>
     ensures { Parts notice result }
 {
     match notice {

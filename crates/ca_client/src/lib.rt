@@ -4,6 +4,8 @@
 mod answer;
 mod ask;
 mod caller;
+mod calls;
+mod desk;
 mod filling;
 mod issuing;
 mod moving;
@@ -11,12 +13,14 @@ mod socket;
 mod state;
 mod stepping;
 mod tape;
+mod ticking;
 mod turning;
 mod wire;
 
 pub use answer::{Answer, Ended, Told};
 pub use ask::{Ask, Request};
 pub use caller::Caller;
+pub use desk::Desk;
 pub use issuing::issue_under_lock;
 pub use socket::{Moved, Socket};
 pub use state::State;

@@ -8,6 +8,7 @@ use crate::answer::{Answer, Ended};
 use crate::ask::Ask;
 use crate::filling::fill_all;
 use crate::state::State;
+use crate::ticking::tick;
 use ca_arena::Handle;
 use ca_board::{Board, CoreSeat, Ticket};
 use ca_client_core::{Closing, Stepped};
@@ -23,6 +24,7 @@ pub fn step_under_lock(state: &mut State, asked: Ask) -> Answer
         Ask::Close(circuit) => Answer::Closed(close(state, circuit)),
         Ask::Connect(circuit) => connect(state, circuit),
         Ask::Clear(channel) => clear(state, channel),
+        Ask::Tick(now) => tick(state, now),
     }
 }
 

@@ -25,7 +25,7 @@ use Rattle.ca_model_safe.specs.Channels.{Has, IsOpen, before}
 use Rattle.ca_model_safe.specs.Headline.{Acted}
 use Rattle.ca_model_world.specs.ServerEvents.{about, handled_at, numbers_after}
 use Rattle.ca_model_world.specs.World.{Creation, Joined, RecordSide, Standing}
-use Rattle.ca_laws_steps.specs.Creations.{CreationsOn}
+use Rattle.ca_laws_held.specs.Creations.{CreationsOn}
 use Rattle.ca_laws_held.specs.Created.{CreatedOn}
 use Rattle.ca_laws_writes.specs.Both.{Both}
 use Rattle.ca_laws_writes.proofs.Doing.{any-of, clears-only, commands, each-at, known-or}

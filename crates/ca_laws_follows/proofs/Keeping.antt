@@ -14,7 +14,7 @@ use Rattle.ca_model_world.specs.Runs.{Happens}
 use Rattle.ca_model_world.specs.ServerEvents.{front_number, stamped}
 use Rattle.ca_model_world.specs.World.{Joined, RecordSide, Setting, Standing, World}
 use Rattle.ca_laws_held.specs.Created.{AllCreated}
-use Rattle.ca_laws_steps.specs.Creations.{AllCreations}
+use Rattle.ca_laws_held.specs.Creations.{AllCreations}
 use Rattle.ca_laws_writes.specs.Both.{Both}
 use Rattle.ca_laws_writes.specs.Seats.{Sound, TakesSent}
 use Rattle.ca_laws_writes.proofs.Frames.{Frame, goes-self}

@@ -17,9 +17,9 @@ use Rattle.ca_model_world.specs.ServerEvents.{HappensPump, ending, ends_by, serv
 use Rattle.ca_model_world.specs.World.{IsSetting, Joined, ServerSide, Setting, World, circuit_of, opening, port_of, rules_of, told, with_circuit}
 use Rattle.ca_laws_bytes.specs.Runs.{IsReached}
 use Rattle.ca_laws_held.proofs.Created.{reached-created}
-use Rattle.ca_laws_steps.specs.Worlds.{ServersStand}
-use Rattle.ca_laws_steps.proofs.Creations.{reached-creations}
-use Rattle.ca_laws_steps.proofs.Whole.{run-serves, takes-next}
+use Rattle.ca_laws_held.specs.Worlds.{ServersStand}
+use Rattle.ca_laws_held.proofs.Creations.{reached-creations}
+use Rattle.ca_laws_held.proofs.StepWhole.{run-serves, takes-next}
 use Rattle.ca_laws_writes.specs.Says.{AreNumbered}
 use Rattle.ca_laws_writes.specs.Seats.{Sound, TakesSent}
 use Rattle.ca_laws_writes.proofs.Every.{ticks-frame}

@@ -21,8 +21,8 @@ use Rattle.ca_laws_writes.proofs.Every.{ticks-frame}
 use Rattle.ca_laws_writes.proofs.Frames.{Frame}
 use Rattle.ca_laws_writes.proofs.HappensClient.{sent-frame}
 use Rattle.ca_laws_writes.proofs.Lists.{none_at}
-use Rattle.ca_laws_steps.specs.Worlds.{ServersStand}
-use Rattle.ca_laws_steps.proofs.Whole.{event-serves, opening-serves, takes-next}
+use Rattle.ca_laws_held.specs.Worlds.{ServersStand}
+use Rattle.ca_laws_held.proofs.StepWhole.{event-serves, opening-serves, takes-next}
 use Rattle.ca_laws_held.specs.Causes.{AllComeAfter, ComeAfter, MessagesComeAfter}
 use Rattle.ca_laws_held.specs.OrderSteps.{InOrder, ServersInOrder}
 use Rattle.ca_laws_held.proofs.CauseGrows.{Back, PlacesOn, Removes, acted-back, back-after, event-back, unhandled-back}

@@ -42,9 +42,9 @@ use Rattle.ca_laws_writes.proofs.HappensClient.{sent-frame}
 use Rattle.ca_laws_writes.proofs.Lists.{In-append, In-last, kept-in, none_at}
 use Rattle.ca_laws_writes.proofs.Midway.{set-here}
 use Rattle.ca_laws_writes.proofs.Moves.{same-or}
-use Rattle.ca_laws_steps.specs.Worlds.{ServersStand}
-use Rattle.ca_laws_steps.proofs.Handled.{written-parts}
-use Rattle.ca_laws_steps.proofs.Whole.{event-serves, opening-serves, takes-next}
+use Rattle.ca_laws_held.specs.Worlds.{ServersStand}
+use Rattle.ca_laws_held.proofs.Handled.{written-parts}
+use Rattle.ca_laws_held.proofs.StepWhole.{event-serves, opening-serves, takes-next}
 use Rattle.ca_laws_held.specs.Created.{AllCreated, CreatedOn}
 use Rattle.ca_laws_held.proofs.SidTells.{Back, KeepsOn, back-frame, event-back, on-ending, step-beside, unhandled-back}
 

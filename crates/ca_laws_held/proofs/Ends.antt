@@ -23,7 +23,7 @@ use Rattle.ca_laws_circuit.proofs.Flows.{given-now}
 use Rattle.ca_laws_kept.specs.Kept.{kept}
 use Rattle.ca_laws_runs.specs.Circuit.{HeldOn, sent_to}
 use Rattle.ca_laws_runs.proofs.Handled.{Like}
-use Rattle.ca_laws_steps.specs.Held.{AllCircuitsHeld}
+use Rattle.ca_laws_held.specs.Held.{AllCircuitsHeld}
 use Rattle.ca_laws_held.proofs.HeardEnds.{sent-closed, sent-mine, sent-other}
 use Rattle.ca_laws_held.proofs.Says.{said}
 use Rattle.ca_laws_held.specs.Sides.{AllSided, IsLiveAs, Right, Sides}

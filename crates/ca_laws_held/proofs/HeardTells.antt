@@ -34,7 +34,7 @@ use Rattle.ca_laws_circuit.proofs.Heard.{answered-is}
 use Rattle.ca_laws_circuit.proofs.Refused.{heard-is, sub-named}
 use Rattle.ca_laws_circuit.proofs.Settled.{ioid-gives, read-means}
 use Rattle.ca_laws_runs.specs.Circuit.{AreCids}
-use Rattle.ca_laws_steps.proofs.Found.{found-intent}
+use Rattle.ca_laws_held.proofs.Found.{found-intent}
 use Rattle.ca_laws_held.specs.Quiet.{IsNamedIn, NoCancel, Quiet, StageIn, Tidy}
 use Rattle.ca_laws_held.specs.Tells.{IsOnChannel, TellsOwn}
 use Rattle.ca_laws_held.proofs.Heard.{created-before, number-so, phase-so, request-named}

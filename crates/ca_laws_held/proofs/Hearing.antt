@@ -38,7 +38,7 @@ use Rattle.ca_laws_circuit.specs.Held.{Holds, is_asked}
 use Rattle.ca_laws_circuit.specs.Sids.{IsClearedWithin}
 use Rattle.ca_laws_circuit.proofs.Marks.{at-filter}
 use Rattle.ca_laws_runs.specs.Circuit.{AreCids, AreNumbered, stamped}
-use Rattle.ca_laws_steps.proofs.Found.{create-is, found-intent}
+use Rattle.ca_laws_held.proofs.Found.{create-is, found-intent}
 use Rattle.ca_laws_held.specs.Quiet.{IsBeingCleared, IsBeingCreated, Quiet, Tidy}
 use Rattle.ca_laws_held.proofs.Heard.{created-before}
 use Rattle.ca_laws_held.proofs.Says.{one-handle, said}

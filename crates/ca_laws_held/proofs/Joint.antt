@@ -18,11 +18,11 @@ use Rattle.ca_laws_bytes.proofs.Causes.{runs-caused}
 use Rattle.ca_laws_bytes.proofs.ServerSpeaking.{runs-hear}
 use Rattle.ca_laws_kept.specs.Kept.{kept}
 use Rattle.ca_laws_runs.specs.Circuit.{HeldOn}
-use Rattle.ca_laws_steps.specs.Held.{AllCircuitsHeld, IsKnownStep}
-use Rattle.ca_laws_steps.specs.Worlds.{ServersStand}
-use Rattle.ca_laws_steps.proofs.Holds.{IsTold}
-use Rattle.ca_laws_steps.proofs.Replied.{reached-answer}
-use Rattle.ca_laws_steps.proofs.Whole.{run-serves}
+use Rattle.ca_laws_held.specs.Held.{AllCircuitsHeld, IsKnownStep}
+use Rattle.ca_laws_held.specs.Worlds.{ServersStand}
+use Rattle.ca_laws_held.proofs.Holds.{IsTold}
+use Rattle.ca_laws_held.proofs.Replied.{reached-answer}
+use Rattle.ca_laws_held.proofs.StepWhole.{run-serves}
 use Rattle.ca_laws_writes.proofs.Lists.{At-take, none_at}
 use Rattle.ca_laws_held.specs.About.{AllOwn, IsOwnStep, ReadsAbout}
 use Rattle.ca_laws_held.specs.Quiet.{ClientsQuiet}

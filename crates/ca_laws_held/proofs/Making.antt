@@ -33,7 +33,7 @@ use Rattle.ca_laws_kept.specs.Kept as keeps
 use Rattle.ca_laws_runs.specs.Circuit.{HeldOn, sent_to, stamped}
 use Rattle.ca_laws_runs.specs.Clients.{ClientsStand}
 use Rattle.ca_laws_runs.proofs.ClientsMore.{unconnected-is, wanted-there}
-use Rattle.ca_laws_steps.specs.Held.{AllCircuitsHeld}
+use Rattle.ca_laws_held.specs.Held.{AllCircuitsHeld}
 use Rattle.ca_laws_writes.proofs.Lists.{none_at}
 use Rattle.ca_laws_held.proofs.HeardEnds.{sent-closed, sent-mine, sent-other}
 use Rattle.ca_laws_held.proofs.Says.{said}

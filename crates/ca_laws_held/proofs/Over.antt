@@ -29,13 +29,13 @@ use Rattle.ca_laws_runs.proofs.Handled.{numbers-like, writes-like}
 use Rattle.ca_laws_writes.specs.Seats.{Sound, TakesSent}
 use Rattle.ca_laws_writes.proofs.Every.{event-sound}
 use Rattle.ca_laws_writes.proofs.Lists.{In-kept}
-use Rattle.ca_laws_steps.specs.Creations.{CreationsOn}
-use Rattle.ca_laws_steps.specs.Held.{IsKnownStep}
-use Rattle.ca_laws_steps.specs.Worlds.{IsOwnNext, ServersStand}
-use Rattle.ca_laws_steps.proofs.Creations.{reached-creations}
-use Rattle.ca_laws_steps.proofs.Found.{create-is}
-use Rattle.ca_laws_steps.proofs.Handled.{circuit-is, moved, step, written-parts}
-use Rattle.ca_laws_steps.proofs.Whole.{reached-serves, takes-next}
+use Rattle.ca_laws_held.specs.Creations.{CreationsOn}
+use Rattle.ca_laws_held.specs.Held.{IsKnownStep}
+use Rattle.ca_laws_held.specs.Worlds.{IsOwnNext, ServersStand}
+use Rattle.ca_laws_held.proofs.Creations.{reached-creations}
+use Rattle.ca_laws_held.proofs.Found.{create-is}
+use Rattle.ca_laws_held.proofs.Handled.{circuit-is, moved, step, written-parts}
+use Rattle.ca_laws_held.proofs.StepWhole.{reached-serves, takes-next}
 use Rattle.ca_laws_held.specs.Created.{CreatedOn}
 use Rattle.ca_laws_held.specs.Under.{AllSayRight, IsCreatedBefore, SaysRight}
 use Rattle.ca_laws_held.proofs.Created.{reached-created}

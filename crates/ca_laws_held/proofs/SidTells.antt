@@ -43,8 +43,8 @@ use Rattle.ca_laws_writes.proofs.Lasting.{told_late}
 use Rattle.ca_laws_writes.proofs.Lists.{none_at}
 use Rattle.ca_laws_writes.proofs.Midway.{set-here}
 use Rattle.ca_laws_writes.proofs.Moves.{same-or}
-use Rattle.ca_laws_steps.proofs.Handled.{written-parts}
-use Rattle.ca_laws_steps.proofs.Stand.{closes}
+use Rattle.ca_laws_held.proofs.Handled.{written-parts}
+use Rattle.ca_laws_held.proofs.Stand.{closes}
 
 -- ---- from one world to the next
 

@@ -28,8 +28,8 @@ use Rattle.ca_laws_circuit.specs.Flows.{with_heard}
 use Rattle.ca_laws_kept.specs.Kept.{kept}
 use Rattle.ca_laws_runs.specs.Circuit.{HeldOn, sent_to}
 use Rattle.ca_laws_runs.specs.Clients.{ClientsStand}
-use Rattle.ca_laws_steps.specs.Held.{AllCircuitsHeld}
-use Rattle.ca_laws_steps.proofs.Holds.{IsTold}
+use Rattle.ca_laws_held.specs.Held.{AllCircuitsHeld}
+use Rattle.ca_laws_held.proofs.Holds.{IsTold}
 use Rattle.ca_laws_held.specs.Quiet.{ClientsQuiet, Quiet, Tidy}
 use Rattle.ca_laws_held.proofs.Lesser.{less-on, quiet-less, tidy-less}
 use Rattle.ca_laws_held.proofs.Says.{said}

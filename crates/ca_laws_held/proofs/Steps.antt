@@ -44,13 +44,13 @@ use Rattle.ca_laws_runs.proofs.Ids.{confirmed-did, error-did, reply-did, update-
 use Rattle.ca_laws_runs.proofs.Moves.{on-connection-alike}
 use Rattle.ca_laws_runs.proofs.Steps.{step-far, step-held}
 use Rattle.ca_laws_runs.proofs.Worlds.{after-step}
-use Rattle.ca_laws_steps.specs.Answering.{Answers}
-use Rattle.ca_laws_steps.specs.Held.{AllCircuitsHeld}
-use Rattle.ca_laws_steps.specs.Worlds.{ServersStand}
-use Rattle.ca_laws_steps.proofs.Circuits.{leaves-were}
-use Rattle.ca_laws_steps.proofs.Found.{asked-if, cancel-is, clear-is, create-is, found-intent}
-use Rattle.ca_laws_steps.proofs.Holds.{IsTold}
-use Rattle.ca_laws_steps.proofs.Whole.{takes-next}
+use Rattle.ca_laws_held.specs.Answering.{Answers}
+use Rattle.ca_laws_held.specs.Held.{AllCircuitsHeld}
+use Rattle.ca_laws_held.specs.Worlds.{ServersStand}
+use Rattle.ca_laws_held.proofs.Circuits.{leaves-were}
+use Rattle.ca_laws_held.proofs.Found.{asked-if, cancel-is, clear-is, create-is, found-intent}
+use Rattle.ca_laws_held.proofs.Holds.{IsTold}
+use Rattle.ca_laws_held.proofs.StepWhole.{takes-next}
 use Rattle.ca_laws_writes.proofs.Moves.{At-below}
 use Rattle.ca_laws_held.specs.About.{IsAbout, ReadsAbout}
 use Rattle.ca_laws_held.specs.Tells.{NoticesTell, TellsOwn}

@@ -24,10 +24,10 @@ use Rattle.ca_laws_circuit.specs.Replies.{IsCidAt}
 use Rattle.ca_laws_circuit.specs.Sids.{IsClearedWithin}
 use Rattle.ca_laws_kept.specs.Channels.{ChannelsOn, has_sid}
 use Rattle.ca_laws_writes.specs.Says.{AllAsked}
-use Rattle.ca_laws_steps.specs.Creations.{CreationsOn}
-use Rattle.ca_laws_steps.proofs.Creations.{reached-creations}
-use Rattle.ca_laws_steps.proofs.Found.{clear-is}
-use Rattle.ca_laws_steps.proofs.Whole.{reached-serves}
+use Rattle.ca_laws_held.specs.Creations.{CreationsOn}
+use Rattle.ca_laws_held.proofs.Creations.{reached-creations}
+use Rattle.ca_laws_held.proofs.Found.{clear-is}
+use Rattle.ca_laws_held.proofs.StepWhole.{reached-serves}
 use Rattle.ca_laws_held.specs.Created.{CreatedOn}
 use Rattle.ca_laws_held.specs.Under.{AllUnder, AreUnder, IsCreatedBefore, IsUse}
 use Rattle.ca_laws_held.proofs.Created.{reached-created}

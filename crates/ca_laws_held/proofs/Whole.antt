@@ -22,12 +22,12 @@ use Rattle.ca_laws_writes.specs.Seats.{Sound}
 use Rattle.ca_laws_writes.proofs.Every.{ticks-frame}
 use Rattle.ca_laws_writes.proofs.Frames.{Frame, frame-keeps}
 use Rattle.ca_laws_writes.proofs.Lists.{none_at}
-use Rattle.ca_laws_steps.specs.Answering.{AllAnswer}
-use Rattle.ca_laws_steps.specs.Held.{AllCircuitsHeld}
-use Rattle.ca_laws_steps.specs.Worlds.{ServersStand}
-use Rattle.ca_laws_steps.proofs.Replied.{event-answer, opening-answer, reached-answer}
-use Rattle.ca_laws_steps.proofs.Whole.{event-serves, events-serve, opening-serves, run-serves}
-use Rattle.ca_laws_steps.proofs.Holds.{IsTold, event-held}
+use Rattle.ca_laws_held.specs.Answering.{AllAnswer}
+use Rattle.ca_laws_held.specs.Held.{AllCircuitsHeld}
+use Rattle.ca_laws_held.specs.Worlds.{ServersStand}
+use Rattle.ca_laws_held.proofs.Replied.{event-answer, opening-answer, reached-answer}
+use Rattle.ca_laws_held.proofs.StepWhole.{event-serves, events-serve, opening-serves, run-serves}
+use Rattle.ca_laws_held.proofs.Holds.{IsTold, event-held}
 use Rattle.ca_laws_held.specs.About.{AllOwn, IsOwnStep, ReadsAbout}
 use Rattle.ca_laws_held.specs.Quiet.{ClientsQuiet}
 use Rattle.ca_laws_held.proofs.Kept.{quiet-happens, quiet-opening, quiet-runs}

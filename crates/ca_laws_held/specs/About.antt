@@ -25,7 +25,7 @@ use Rattle.ca_model_world.specs.Runs.{Happens}
 use Rattle.ca_model_world.specs.World.{ClientSide, Joined, Names, World}
 use Rattle.ca_laws_circuit.specs.Held.{OnChannels}
 use Rattle.ca_laws_runs.specs.Circuit.{IsLastCancel, IsQuiet}
-use Rattle.ca_laws_steps.specs.Held.{IsKnownStep}
+use Rattle.ca_laws_held.specs.Held.{IsKnownStep}
 
 -- What the message t that a client reads next says of its message s. A CREATE_CH_FAIL of a channel that was not created is about its
 -- CREATE_CHAN, a CLEAR_CHANNEL about the client's, and nothing was sent since on the channel. A confirmation is about the EVENT_CANCEL of a

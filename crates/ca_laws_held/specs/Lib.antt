@@ -1,8 +1,15 @@
+pub mod Pairs
+pub mod Puts
+pub mod Worlds
+pub mod Held
+pub mod Creations
+pub mod Answering
 pub mod Quiet
 pub mod About
 pub mod Tells
 pub mod Created
 pub mod Under
 pub mod Sides
+pub mod Once
 pub mod OrderSteps
 pub mod Causes

@@ -3,7 +3,7 @@ ghost use Rattle.ca_model_world.specs.Events.{ClientStep, Event};
 ghost use Rattle.ca_model_world.specs.Runs.{AreEvents, Happens, Runs};
 ghost use Rattle.ca_model_world.specs.World.{IsSetting, Setting, World, opening};
 ghost use Rattle.ca_laws_runs.specs.Clients.{ClientsStand};
-ghost use Rattle.ca_laws_steps.specs.Held.{AllCircuitsHeld};
+ghost use Rattle.ca_laws_held.specs.Held.{AllCircuitsHeld};
 ghost use Rattle.ca_laws_held.specs.About.{AllOwn, IsOwnStep, ReadsAbout};
 ghost use Rattle.ca_laws_held.specs.Quiet.{ClientsQuiet};
 ghost use Rattle.ca_laws_held.specs.Tells.{NoticesTell};

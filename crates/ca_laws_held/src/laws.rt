@@ -7,7 +7,7 @@ ghost use Rattle.ca_model_safe.specs.Headline.{TakesOwn};
 ghost use Rattle.ca_model_world.specs.Events.{ClientStep, Event, ServerStep};
 ghost use Rattle.ca_model_world.specs.Runs.{AreEvents, Happens, Runs};
 ghost use Rattle.ca_model_world.specs.World.{IsSetting, Joined, Setting, World};
-ghost use Rattle.ca_laws_steps.specs.Held.{AllCircuitsHeld, IsKnownStep};
+ghost use Rattle.ca_laws_held.specs.Held.{AllCircuitsHeld, IsKnownStep};
 ghost use Rattle.ca_laws_held.specs.About.{ReadsAbout};
 ghost use Rattle.ca_laws_held.specs.Tells.{NoticesTell};
 ghost use Rattle.ca_laws_held.specs.Under.{AllSayRight};

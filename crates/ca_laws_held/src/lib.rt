@@ -1,13 +1,16 @@
 //! What is held of all circuits, over every run: what servers keep for circuits, the ids in flight, the
-//! clients' tables and the SIDs under which clients speak. Below it: what clients sent and read, and
-//! what became of the channels that servers created.
+//! clients' tables and the SIDs under which clients speak. Below it: what clients sent and read, what
+//! became of the channels that servers created, on which channels servers' puts came, that what they
+//! await to send is kept, and that what is held of each circuit stays so as they step.
 #![tactic(auto)]
 
 mod cause_laws;
 mod heard_laws;
 mod laws;
+mod once_laws;
 mod order_laws;
 mod sid_laws;
+mod step_laws;
 
 pub use cause_laws::messages_come_after_what_they_are_about;
 pub use heard_laws::{
@@ -18,8 +21,14 @@ pub use laws::{
     all_circuits_are_held, clients_go_by_their_sids, messages_mean_their_own,
     what_clients_take_is_told_of_its_own, what_servers_take_is_handled_as_it_was_meant,
 };
+pub use once_laws::{a_call_is_accepted_once, a_request_is_at_one_place, what_was_called_was_sent};
 pub use order_laws::{circuits_join_lives, steps_are_in_order, steps_of_servers_are_in_order};
 pub use sid_laws::{
     a_message_is_handled_as_it_was_meant, created_channels_are_open_or_cleared,
     what_clients_say_grows, writes_are_handled_on_their_channel,
+};
+pub use step_laws::{
+    a_servers_step_keeps_what_is_held, events_keep_what_is_held, open_channels_were_told,
+    puts_came_on_their_channels, replies_answer_their_kind, what_is_awaited_is_kept,
+    what_is_held_in_runs, what_is_held_is_what_was_meant,
 };

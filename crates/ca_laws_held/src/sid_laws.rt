@@ -14,7 +14,7 @@ ghost use Rattle.ca_laws_circuit.specs.Sids.{IsClearedWithin};
 ghost use Rattle.ca_laws_circuit.specs.Replies.{IsCidAt};
 ghost use Rattle.ca_laws_bytes.specs.Runs.{IsReached};
 ghost use Rattle.ca_laws_held.specs.Created.{AllCreated};
-ghost use Rattle.ca_laws_steps.specs.Held.{IsKnownStep};
+ghost use Rattle.ca_laws_held.specs.Held.{IsKnownStep};
 ghost use Rattle.ca_laws_held.specs.Under.{
   AllSayRight,
   AllUnder,

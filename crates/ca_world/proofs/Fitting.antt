@@ -1,5 +1,5 @@
 -- The value of a write that was accepted fits into its message.
-use Rattle.std.proofs.Common.{◌≡◌, ◌∙◌, ◌++◌, ℕ, ◌+◌, ◌≤◌, ◌==◌, ◌||◌, Bool, true, false, not, nat_lt, List, [], ◌∷◌, Option, Some, None, Result, Ok, Err, length, ap, arith, refl, replicate, subst, sym}
+use Rattle.std.proofs.Common.{◌≡◌, ◌∙◌, ◌++◌, ℕ, ◌+◌, ◌≤◌, ◌==◌, ◌||◌, Bool, true, false, not, nat_lt, List, [], ◌∷◌, Option, None, Ok, length, ap, arith, refl, replicate, subst, sym}
 use Rattle.std.proofs.lemmas.Bool.{ltb-false}
 use Rattle.ca_text.specs.declared.refusal.Refusal.{Refusal}
 use Rattle.ca_text.specs.declared.refusal.Refusal.TheVariants as refusal
@@ -13,8 +13,7 @@ use Rattle.ca_dbr.specs.Elements.{Elements, base_of, bytes_of, count_of}
 use Rattle.ca_dbr.specs.Image.{Types, Writes, image, meta_bytes}
 use Rattle.ca_dbr.specs.Types.{base_number, form_number, padding_size}
 use Rattle.ca_records.specs.Rules.{may_write}
-use Rattle.ca_model.specs.Client.{Client, Native, On, Standing, standing_at}
-use Rattle.ca_model.specs.Client as phase
+use Rattle.ca_model.specs.Client.{Client}
 use Rattle.ca_model.specs.ClientCalls.{IsLive, LiveChannel, fault_at, first_refusal, is_misfit, is_over, put_fault}
 
 -- ---- the bytes of a value

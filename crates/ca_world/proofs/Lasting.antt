@@ -1,5 +1,5 @@
 -- What every event keeps of a world.
-use Rattle.std.proofs.Common.{◌≡◌, ℕ, List, Result, Ok, Err, sym, subst}
+use Rattle.std.proofs.Common.{Result, Ok, Err, sym, subst}
 use Rattle.std.specs.Prelude.{map}
 use Rattle.ca_text.specs.declared.refusal.Refusal.{Refusal}
 use Rattle.ca_text.specs.declared.refusal.Refusal.TheVariants.{BadEvent, OutOfMemory}

@@ -13,3 +13,4 @@ pub mod Putting
 pub mod Writing
 pub mod Subscribing
 pub mod Finding
+pub mod Settled

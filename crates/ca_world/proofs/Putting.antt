@@ -1,8 +1,7 @@
 -- Puts with notification of a client, from what its parts became.
-use Rattle.std.proofs.Common.{◌≡◌, ◌≢◌, ℕ, inl, inr, List, [], ◌∷◌, ◌++◌, length, Result, Ok, Err, Some, refl, sym, ap, subst, ◌∙◌}
+use Rattle.std.proofs.Common.{◌≡◌, ℕ, inr, List, [], ◌∷◌, Result, Ok, Err, Some, refl, sym, ap, subst, ◌∙◌}
 use Rattle.std.specs.Prelude.{map}
 use Rattle.ca_arena.specs.declared.handle.Handle.{Handle}
-use Rattle.ca_ids.specs.Table.{MayGive}
 use Rattle.ca_ids.specs.Wire.{wire_of}
 use Rattle.ca_text.specs.declared.refusal.Refusal.{Refusal}
 use Rattle.ca_text.specs.declared.refusal.Refusal.TheVariants.{BadEvent, OutOfMemory}
@@ -17,7 +16,7 @@ use Rattle.ca_model.specs.Client.{Client}
 use Rattle.ca_model.specs.ClientCalls.{ClientPuts, LiveChannel, put_sent}
 use Rattle.ca_model.specs.History.{Called, Intent, Line}
 use Rattle.ca_model.specs.History as history
-use Rattle.ca_model_world.specs.ClientEvents.{intent_of, meant_by}
+use Rattle.ca_model_world.specs.ClientEvents.{intent_of}
 use Rattle.ca_model_world.specs.Events.{WriteNotify}
 use Rattle.ca_model_world.specs.World.{ClientSide, Joined, Names, grown}
 use Rattle.ca_model_world.specs.World as model
@@ -25,7 +24,7 @@ use Rattle.ca_laws_circuit.proofs.Calls.{meant-own}
 use Rattle.ca_laws_runs.specs.Circuit.{AreGiven}
 use Rattle.ca_laws_runs.proofs.Sending.{new-name}
 use Rattle.ca_world.specs.declared.way.Way.{Way}
-use Rattle.ca_world.specs.Found.{AreNumbered, IsAt}
+use Rattle.ca_world.specs.Found.{AreNumbered}
 use Rattle.ca_world.specs.Indexed.{AreIndexed}
 use Rattle.ca_world.specs.Logs.{Notes}
 use Rattle.ca_world.specs.Puts.{PutsOn, put_meant, put_names}

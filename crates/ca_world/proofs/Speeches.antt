@@ -1,5 +1,5 @@
 -- What calls of a client on its channels leave of a world.
-use Rattle.std.proofs.Common.{◌≡◌, ℕ, ◌⊎◌, inl, inr, List, [], ◌∷◌, Result, Ok, Err, Some, refl, sym, ap, subst, ◌∙◌}
+use Rattle.std.proofs.Common.{◌≡◌, ℕ, inl, inr, List, [], ◌∷◌, Result, Ok, Err, refl, sym, ap, subst, ◌∙◌}
 use Rattle.std.specs.Prelude.{map, slice_set}
 use Rattle.ca_arena.specs.declared.handle.Handle.{Handle}
 use Rattle.ca_text.specs.declared.refusal.Refusal.{Refusal}
@@ -26,7 +26,7 @@ use Rattle.ca_world.specs.Found.{AreNumbered}
 use Rattle.ca_world.specs.Logs.{Notes}
 use Rattle.ca_world.specs.Indexed.{AreIndexed, Stands, client_numbers, server_numbers}
 use Rattle.ca_world.specs.Seen.{client_of, joined_of, seen}
-use Rattle.ca_world.specs.Speaking.{CallDone, CallRefused, CallsOn, sent_up}
+use Rattle.ca_world.specs.Speaking.{CallsOn, sent_up}
 use Rattle.ca_world.proofs.Indexes.{KeepsEnds, indexed-map, indexed-same, numbered-of, numbers-set}
 use Rattle.ca_world.proofs.Lasting.{all-stand}
 use Rattle.ca_world.proofs.Worlds.{set-map, set-same}

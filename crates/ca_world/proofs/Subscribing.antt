@@ -1,8 +1,7 @@
 -- Subscriptions of a client, from what its parts became.
-use Rattle.std.proofs.Common.{◌≡◌, ◌≢◌, ℕ, inl, inr, List, [], ◌∷◌, ◌++◌, length, Result, Ok, Err, None, refl, sym, ap, subst, ◌∙◌}
+use Rattle.std.proofs.Common.{◌≡◌, ℕ, inr, List, [], ◌∷◌, Result, Ok, Err, None, refl, sym, ap, subst, ◌∙◌}
 use Rattle.std.specs.Prelude.{map}
 use Rattle.ca_arena.specs.declared.handle.Handle.{Handle}
-use Rattle.ca_ids.specs.Table.{MayGive}
 use Rattle.ca_ids.specs.Wire.{wire_of}
 use Rattle.ca_text.specs.declared.refusal.Refusal.{Refusal}
 use Rattle.ca_text.specs.declared.refusal.Refusal.TheVariants.{BadEvent, OutOfMemory}
@@ -14,7 +13,7 @@ use Rattle.ca_model.specs.Client.{Client}
 use Rattle.ca_model.specs.ClientCalls.{ClientSubscribes, LiveChannel, Shape, event_add_sent, new_subscription}
 use Rattle.ca_model.specs.History.{Called, Intent, Line}
 use Rattle.ca_model.specs.History as history
-use Rattle.ca_model_world.specs.ClientEvents.{intent_of, meant_by}
+use Rattle.ca_model_world.specs.ClientEvents.{intent_of}
 use Rattle.ca_model_world.specs.Events.{Subscribe}
 use Rattle.ca_model_world.specs.World.{ClientSide, Joined, Names, grown}
 use Rattle.ca_model_world.specs.World as model
@@ -22,7 +21,7 @@ use Rattle.ca_laws_circuit.proofs.Calls.{meant-own}
 use Rattle.ca_laws_runs.specs.Circuit.{AreGiven}
 use Rattle.ca_laws_runs.proofs.Sending.{new-name}
 use Rattle.ca_world.specs.declared.way.Way.{Way}
-use Rattle.ca_world.specs.Found.{AreNumbered, IsAt}
+use Rattle.ca_world.specs.Found.{AreNumbered}
 use Rattle.ca_world.specs.Indexed.{AreIndexed}
 use Rattle.ca_world.specs.Logs.{Notes}
 use Rattle.ca_world.specs.Subscribes.{next_meant, SubscribesOn, subscribe_names}

@@ -1,4 +1,4 @@
-use Rattle.std.proofs.Common.{◌<◌, ◌≤◌, length, List, Some, arith, subst, sym}
+use Rattle.std.proofs.Common.{◌<◌, length, List, arith, subst, sym}
 use Rattle.ca_text.specs.Place.{At}
 use Rattle.ca_world.specs.declared.joined.Joined.{Joined}
 use Rattle.std.specs.Prelude.{map, slice_set}

@@ -1,0 +1,30 @@
+-- No call changes which board the core's seat is of.
+use Rattle.std.proofs.Common.{◌≡◌, ℕ, zero, suc, List, ap, ◌∙◌, ⊎_elim, Option, Some, None}
+use Rattle.ca_arena.specs.declared.handle.Handle.{Handle}
+use Rattle.ca_model.specs.Answers.{Closing}
+use Rattle.ca_client.specs.declared.ask.Ask.{Ask}
+use Rattle.ca_client.specs.declared.ask.Ask.TheVariants.{Cut}
+use Rattle.ca_client.specs.declared.answer.Answer.{Answer}
+use Rattle.ca_client.specs.declared.answer.Answer.TheVariants.{Closed}
+use Rattle.ca_client.specs.Awaited.{StateView, completions}
+use Rattle.ca_client.specs.Calls.{HasSteppedUnderLock}
+use Rattle.ca_client.specs.Turns.{Chain, Moves, Turns}
+use Rattle.ca_client.proofs.Tickets.{filled_board}
+
+pub stepped_board : (v w : StateView) (asked : Ask) (r : Answer) → HasSteppedUnderLock v asked r w → w.seat.board ≡ v.seat.board
+stepped_board v w asked r f = filled_board v.tickets v.seat w.seat (completions f.0) f.2
+
+module _ {S : Type 0} (faults : S → ℕ) (gives takes : S → List ℕ → S → Type 0) (c : Handle) where
+  moves_board : (s s' : S) (v w : StateView) → Moves faults gives takes c s v s' w → w.seat.board ≡ v.seat.board
+  moves_board s s' v w m = ⊎_elim
+      (λ e. ap (λ (x : StateView). x.seat.board) e)
+      (λ r. ⊎_elim (λ e. ap (λ (x : StateView). x.seat.board) e.5) (λ e. ap (λ (x : StateView). x.seat.board) e.3) r)
+      m.1
+
+  chain_board : (k : ℕ) (s s' : S) (v w : StateView) → Chain faults gives takes c k s v s' w → w.seat.board ≡ v.seat.board
+  chain_board zero s s' v w f = ap (λ (x : StateView). x.seat.board) f.1
+  chain_board (suc k) s s' v w f = moves_board f.0 s' f.1 w f.3 ∙ chain_board k s f.0 v f.1 f.2
+
+  pub turns_board : (n : ℕ) (s s' : S) (v w : StateView) (r : Option Closing) → Turns faults gives takes c n s v r s' w → w.seat.board ≡ v.seat.board
+  turns_board n s s' v w None t = chain_board t.0 s s' v w t.2
+  turns_board n s s' v w (Some k) t = stepped_board t.3 w (Cut c) (Closed k) t.5.1 ∙ chain_board t.0 s t.2 v t.3 t.4

@@ -1,0 +1,19 @@
+-- Statement: of what a client called: three parts of what is said of its log, each by itself.
+use Rattle.std.specs.Prelude.{ℕ, ◌≡◌, List, Option}
+use Rattle.ca_dbr.specs.Elements.{Elements}
+use Rattle.ca_text.specs.Place.{At}
+use Rattle.ca_model.specs.History.{Called, Intent, Line, World}
+use Rattle.ca_model.specs.Speech.{In}
+use Rattle.ca_model_safe.specs.Channels.{IsRequest, Stands}
+
+-- A call is accepted once.
+abbrev pub CallsOnce : World → (life : ℕ) → List Line → Type 0
+CallsOnce w life x = (i l : ℕ) (intent : Intent) (e f : Option Elements) → At x i (Called intent e) → At x l (Called intent f) → i ≡ l
+
+-- A request that was sent is at one place of one circuit.
+abbrev pub StandsOnce : World → (life : ℕ) → List Line → Type 0
+StandsOnce w life x = (intent : Intent) (n k m l : ℕ) → IsRequest intent → Stands w life intent n k → Stands w life intent m l → (n ≡ m) × (k ≡ l)
+
+-- An accepted request was sent.
+abbrev pub SendsCalled : World → (life : ℕ) → List Line → Type 0
+SendsCalled w life x = (intent : Intent) (e : Option Elements) → IsRequest intent → In x (Called intent e) → (n k : ℕ) × Stands w life intent n k

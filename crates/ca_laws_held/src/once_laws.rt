@@ -1,0 +1,29 @@
+ghost use Rattle.std.specs.Prelude.{List, Option};
+ghost use Rattle.ca_model_safe.specs.Channels.{OfClients};
+ghost use Rattle.ca_model_world.specs.Events.{Event};
+ghost use Rattle.ca_model_world.specs.Runs.{Runs};
+ghost use Rattle.ca_model_world.specs.World.{Setting, World, told};
+ghost use Rattle.ca_laws_held.specs.Once.{CallsOnce, SendsCalled, StandsOnce};
+
+/// In every world to which a run leads, whatever its setting and events, no call of a client is twice
+/// in a log: requests, plain writes and subscriptions have numbers of their own, and what was cleared
+/// or cancelled once is not cleared or cancelled again. This is `one_call` of the statement's clause
+/// `CompletesOnce`.
+pub fn a_call_is_accepted_once()
+    ensures { (s : Setting) (es : List Event) (stopped : Option Event) (w : World)
+        → Runs s es stopped w → OfClients (told w) (CallsOnce (told w)) }
+{}
+
+/// In every such world a request or a plain write of a client is at one place of one circuit: no other
+/// message of that life of the client, on any circuit, was meant so. This is `at_one` of the clause.
+pub fn a_request_is_at_one_place()
+    ensures { (s : Setting) (es : List Event) (stopped : Option Event) (w : World)
+        → Runs s es stopped w → OfClients (told w) (StandsOnce (told w)) }
+{}
+
+/// In every such world each request and each plain write that a client called was sent: a message that
+/// was meant so stands on a circuit of that life of the client. This is `sent` of the clause.
+pub fn what_was_called_was_sent()
+    ensures { (s : Setting) (es : List Event) (stopped : Option Event) (w : World)
+        → Runs s es stopped w → OfClients (told w) (SendsCalled (told w)) }
+{}

@@ -1,5 +1,0 @@
-use Rattle.ca_laws_steps.proofs.Holds.{after-run, opening-held, run-held}
-use Rattle.ca_laws_steps.proofs.laws.what_is_held_in_runs.Goals as goal
-
-pub returns : goal.returns
-returns c = record { begins = opening-held; event = after-run; run = run-held }
