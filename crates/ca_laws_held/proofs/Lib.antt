@@ -55,6 +55,8 @@ pub mod OnceClients
 pub mod OnceRuns
 pub mod OrderGrows
 pub mod OrderKeeps
+pub mod CauseGrows
+pub mod CauseKeeps
 pub mod OnceSent
 pub mod OnceSentServers
 pub mod OnceSentClients

@@ -12,3 +12,4 @@ pub mod Under
 pub mod Sides
 pub mod Once
 pub mod OrderSteps
+pub mod Causes
