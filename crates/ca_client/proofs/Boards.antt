@@ -8,17 +8,26 @@ use Rattle.ca_client.specs.declared.answer.Answer.{Answer}
 use Rattle.ca_client.specs.declared.answer.Answer.TheVariants.{Closed}
 use Rattle.ca_client.specs.Awaited.{StateView, completions}
 use Rattle.ca_client.specs.Calls.{HasSteppedUnderLock}
-use Rattle.ca_client.specs.Turns.{Chain, Moves, Turns}
+use Rattle.ca_client.specs.Turns.{Chain, IsRead, IsWritten, Moves, Turns}
 use Rattle.ca_client.proofs.Tickets.{filled_board}
 
 pub stepped_board : (v w : StateView) (asked : Ask) (r : Answer) → HasSteppedUnderLock v asked r w → w.seat.board ≡ v.seat.board
 stepped_board v w asked r f = filled_board v.tickets v.seat w.seat (completions f.0) f.2
 
 module _ {S : Type 0} (faults : S → ℕ) (gives takes : S → List ℕ → S → Type 0) (c : Handle) where
+  read_board : (s s' : S) (v w : StateView) → IsRead faults gives takes c s v s' w → w.seat.board ≡ v.seat.board
+  read_board s s' v w m = ⊎_elim
+      (λ e. ap (λ (x : StateView). x.seat.board) e.1)
+      (λ r. ⊎_elim (λ e. ap (λ (x : StateView). x.seat.board) e.1) (λ e. ap (λ (x : StateView). x.seat.board) e.1) r.4)
+      m
+
+  written_board : (s s' : S) (v w : StateView) → IsWritten faults gives takes c s v s' w → w.seat.board ≡ v.seat.board
+  written_board s s' v w m = ⊎_elim (λ e. ap (λ (x : StateView). x.seat.board) e.1) (λ e. ap (λ (x : StateView). x.seat.board) e.3) m
+
   moves_board : (s s' : S) (v w : StateView) → Moves faults gives takes c s v s' w → w.seat.board ≡ v.seat.board
   moves_board s s' v w m = ⊎_elim
-      (λ e. ap (λ (x : StateView). x.seat.board) e)
-      (λ r. ⊎_elim (λ e. ap (λ (x : StateView). x.seat.board) e.5) (λ e. ap (λ (x : StateView). x.seat.board) e.3) r)
+      (λ e. ap (λ (x : StateView). x.seat.board) e.1)
+      (λ r. ⊎_elim (read_board s s' v w) (written_board s s' v w) r)
       m.1
 
   chain_board : (k : ℕ) (s s' : S) (v w : StateView) → Chain faults gives takes c k s v s' w → w.seat.board ≡ v.seat.board

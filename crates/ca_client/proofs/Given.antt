@@ -34,6 +34,16 @@ gives-same x c bytes more result sent y placed gives = go (connection_at x c) re
     go (Some e) (Err refusal.OutOfMemory) h = unchanged h.1.1
     go (Some e) (Err _) h = absurd h
 
+-- a read is refused if its circuit is not connected, and then without memory
+pub refused_so : (x : Client) (c : Handle) (bytes : List ℕ) (more : Bool) (e : Refusal) (sent : List Sending) (y : Client) → ClientGives x c bytes more (Err e) sent y → (e ≡ refusal.CircuitClosed → ⊥) → e ≡ refusal.OutOfMemory
+refused_so x c bytes more e sent y gives other = go (connection_at x c) e gives other
+  where
+    go : (o : Option Connection) (r : Refusal) → GivesOn x c bytes more o (Err r) sent y → (r ≡ refusal.CircuitClosed → ⊥) → r ≡ refusal.OutOfMemory
+    go None refusal.CircuitClosed h no-other = absurd (no-other refl)
+    go None _ h no-other = absurd h
+    go (Some d) refusal.OutOfMemory h no-other = refl
+    go (Some d) _ h no-other = absurd h
+
 pub state-given : (x : Client) (v : CoreView) (board : TableId) (ts : List Ticket) (c : Handle) (bytes : List ℕ) (more : Bool) (result : Result (Unit {0}) Refusal) (sent : List Sending) (y : Client) → IsState x v board ts → ClientGives x c bytes more result sent y → IsState y v board ts
 state-given x v board ts c bytes more result sent y s gives =
     let r = gives-same x c bytes more result sent y s.placed gives in

@@ -12,3 +12,4 @@ pub mod Frames
 pub mod Drained
 pub mod Ticked
 pub mod Boards
+pub mod Tapes

@@ -1,6 +1,6 @@
 -- Statement: what a socket's calls tell, and what goes between it and the core in one turn.
-use Rattle.std.specs.Prelude.{◌≡◌, ◌⊎◌, ℕ, zero, suc, ◌+◌, ◌<◌, ◌≤◌, Bool, List, length, take, Option, Some, None, Ok, Err}
-use Rattle.ca_text.specs.declared.refusal.Refusal.TheVariants.{OutOfMemory}
+use Rattle.std.specs.Prelude.{◌≡◌, ◌⊎◌, ℕ, zero, suc, ◌+◌, ◌<◌, ◌≤◌, Bool, List, [], length, take, Option, Some, None, Ok, Err}
+use Rattle.ca_text.specs.declared.refusal.Refusal.TheVariants.{CircuitClosed, OutOfMemory}
 use Rattle.ca_arena.specs.declared.handle.Handle.{Handle}
 use Rattle.ca_model.specs.Answers.{Closing, Sending}
 use Rattle.ca_model.specs.Client.{Client, out_bytes}
@@ -17,34 +17,44 @@ abbrev pub with_core : Client → StateView → StateView
 with_core x v = record v { core = x }
 
 module _ {S : Type 0} (faults : S → ℕ) where
-  -- a read: so many bytes came, which are at the front of the buffer; or none yet; or a fault
+  -- a read: so many bytes came, which are at the front of the buffer; or none yet; or a fault, and none
   abbrev pub HasRead : (S → List ℕ → S → Type 0) → S → Moved → List ℕ → S → Type 0
   HasRead gives s (Count n) buffer s' = (n ≤ length buffer) × gives s (take n buffer) s' × (faults s' ≡ faults s)
-  HasRead gives s Later buffer s' = faults s' ≡ faults s
-  HasRead gives s Fault buffer s' = faults s' ≡ faults s + 1
+  HasRead gives s Later buffer s' = gives s [] s' × (faults s' ≡ faults s)
+  HasRead gives s Fault buffer s' = gives s [] s' × (faults s' ≡ faults s + 1)
 
-  -- a write: so many of the bytes that were offered went; or none yet; or a fault
+  -- a write: so many of the bytes that were offered went; or none yet; or a fault, and none
   abbrev pub HasWritten : (S → List ℕ → S → Type 0) → S → List ℕ → Moved → S → Type 0
   HasWritten takes s bytes (Count n) s' = (n ≤ length bytes) × takes s (take n bytes) s' × (faults s' ≡ faults s)
-  HasWritten takes s bytes Later s' = faults s' ≡ faults s
-  HasWritten takes s bytes Fault s' = faults s' ≡ faults s + 1
+  HasWritten takes s bytes Later s' = takes s [] s' × (faults s' ≡ faults s)
+  HasWritten takes s bytes Fault s' = takes s [] s' × (faults s' ≡ faults s + 1)
 
   module _ (gives takes : S → List ℕ → S → Type 0) (c : Handle) where
-    -- one call of the socket, and what the core was told of it: just the bytes that came, unless the circuit was not connected; or
-    -- how many went of those that waited
+    -- The socket was read, and the core was told of just the bytes that came: it took them, or the circuit was not connected.
+    abbrev pub IsRead : S → StateView → S → StateView → Type 0
+    IsRead s v s' v' =
+        (gives s [] s' × (v' ≡ v))
+        ⊎ ((bytes : List ℕ) × (more : Bool) × (sent : List Sending) × gives s bytes s'
+        × ((ClientGives v.core c bytes more (Ok tt) sent v'.core × (v' ≡ with_core v'.core v))
+        ⊎ (ClientGives v.core c bytes more (Err CircuitClosed) sent v.core × (v' ≡ v))))
+
+    -- The socket was offered what waited, and the core was told how much of that went.
+    abbrev pub IsWritten : S → StateView → S → StateView → Type 0
+    IsWritten s v s' v' =
+        (takes s [] s' × (v' ≡ v))
+        ⊎ ((n : ℕ) × (n ≤ length (out_bytes v.core c)) × takes s (take n (out_bytes v.core c)) s'
+        × (v' ≡ with_core (handed_over c n v.core) v))
+
+    -- at most one call of the socket, with no fault
     abbrev pub Moves : S → StateView → S → StateView → Type 0
     Moves s v s' v' =
         (faults s' ≡ faults s)
-        × ((v' ≡ v)
-        ⊎ ((bytes : List ℕ) × (more : Bool) × (sent : List Sending) × gives s bytes s'
-        × ClientGives v.core c bytes more (Ok tt) sent v'.core × (v' ≡ with_core v'.core v))
-        ⊎ ((n : ℕ) × (n ≤ length (out_bytes v.core c)) × takes s (take n (out_bytes v.core c)) s'
-        × (v' ≡ with_core (handed_over c n v.core) v)))
+        × (((s' ≡ s) × (v' ≡ v)) ⊎ (IsRead s v s' v' ⊎ IsWritten s v s' v'))
 
     -- The circuit was cut: the socket had a fault, or the core had no memory for the bytes that came.
     abbrev pub Cuts : S → StateView → Closing → S → StateView → Type 0
     Cuts s v k s' v' =
-        ((faults s' ≡ faults s + 1)
+        (((faults s' ≡ faults s + 1) × (gives s [] s' ⊎ takes s [] s'))
         ⊎ ((faults s' ≡ faults s) × ((bytes : List ℕ) × (more : Bool) × (sent : List Sending) × gives s bytes s'
         × ClientGives v.core c bytes more (Err OutOfMemory) sent v.core)))
         × HasSteppedUnderLock v (Cut c) (Closed k) v'

@@ -25,6 +25,7 @@ impl Socket for Tape {
 
     ghost fault_count = { λ t. t.failed };
 
+    #[tactic(auto, using(crate::proofs::Tapes::nothing_between))]
     fn read(&mut self, buffer: &mut [u8]) -> Moved {
         if self.calls_left == 0 {
             self.failed += 1;

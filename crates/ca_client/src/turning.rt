@@ -1,5 +1,5 @@
-ghost use Rattle.std.specs.Prelude.{◌≡◌, ◌<◌, ◌≤◌, ◌^◌, ◌⊎◌, List, length, Ok, Err};
-ghost use Rattle.ca_text.specs.declared.refusal.Refusal.TheVariants.{OutOfMemory};
+ghost use Rattle.std.specs.Prelude.{◌≡◌, ◌<◌, ◌≤◌, ◌^◌, ◌⊎◌, IsFalse, IsTrue, List, length, Ok, Err};
+ghost use Rattle.ca_text.specs.declared.refusal.Refusal.TheVariants.{CircuitClosed, OutOfMemory};
 ghost use Rattle.ca_model.specs.Answers.{Sending};
 ghost use Rattle.ca_model.specs.Client.{out_bytes};
 ghost use Rattle.ca_model.specs.ClientEnds.{ClientGives, handed_over};
@@ -55,6 +55,7 @@ fn once<S: Socket>(state: &mut State, circuit: Handle, socket: &mut S, writes: b
     }
 }
 
+#[tactic(auto, using(crate::proofs::Given::refused_so))]
 fn read_once<S: Socket>(state: &mut State, circuit: Handle, socket: &mut S) -> Turned
     requires { S.fault_count socket.old < 2 ^ 63 }
     ensures { Tries S.fault_count S.gives S.takes circuit socket.old state.old result socket.new state.new }
@@ -67,9 +68,20 @@ fn read_once<S: Socket>(state: &mut State, circuit: Handle, socket: &mut S) -> T
     };
     match state.give(circuit, &buffer[..count], count == 4096) {
         Ok(()) => Turned::GoesOn,
-        Err(Refusal::OutOfMemory) => Turned::Cut(cut(state, circuit)),
-        Err(_) => Turned::Idle,
+        Err(refusal) => {
+            if is_closed(refusal) {
+                return Turned::Idle;
+            }
+            Turned::Cut(cut(state, circuit))
+        }
     }
+}
+
+fn is_closed(refusal: Refusal) -> bool
+    ensures yes { IsTrue result → refusal ≡ CircuitClosed }
+    ensures no { IsFalse result → refusal ≡ CircuitClosed → ⊥ }
+{
+    refusal == Refusal::CircuitClosed
 }
 
 fn write_once<S: Socket>(state: &mut State, circuit: Handle, socket: &mut S) -> Turned
