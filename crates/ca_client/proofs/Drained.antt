@@ -1,7 +1,6 @@
 -- The ends of circuits, whose completions are handed over one end after another.
-use Rattle.std.proofs.Common.{◌≡◌, ℕ, zero, suc, ◌+◌, ◌<◌, ◌≤◌, List, [], ◌∷◌, ◌++◌, map, length, get_or, set, refl, sym, ap, ◌∙◌, subst, arith, append_assoc, length-append}
+use Rattle.std.proofs.Common.{◌≡◌, ℕ, suc, ◌+◌, ◌<◌, ◌≤◌, List, [], ◌∷◌, ◌++◌, map, length, get_or, set, refl, sym, ap, ◌∙◌, subst, arith, append_assoc, length-append}
 use Rattle.std.specs.Prelude.{slice_set}
-use Rattle.std.specs.List.{flat_map}
 use Rattle.std.proofs.lemmas.List.{length-map}
 use Rattle.std.proofs.lemmas.List.Elements.{filter_map-append}
 use Rattle.ca_board.specs.declared.ticket.Ticket.{Ticket}
@@ -9,7 +8,7 @@ use Rattle.ca_board.specs.Views.{CoreView}
 use Rattle.ca_client_core.specs.Ticked.{lefts_of, notices_of}
 use Rattle.ca_client_core.specs.declared.ticking.Left.{Left}
 use Rattle.ca_model.specs.Answers.{Notice}
-use Rattle.ca_client.specs.Awaited.{Completion, Fillable, Fills, FillsAll, completion, completions}
+use Rattle.ca_client.specs.Awaited.{Completion, Fillable, FillsAll, completion, completions}
 use Rattle.ca_client.proofs.Lists.{append-nil}
 use Rattle.ca_client.specs.Draining.{Draining, emptied}
 

@@ -1,16 +1,14 @@
 -- What the calls that end a circuit or a channel do to the requests that wait.
-use Rattle.std.proofs.Common.{◌≡◌, ℕ, inl, inr, ◌⊎◌, Bool, true, false, not, cond, List, [], ◌∷◌, ◌++◌, map, fold, length, Option, Some, None, Ok, refl, sym, ap, ◌∙◌, subst, ◌==◌}
-use Rattle.std.specs.Prelude.{filter_map, is_none, option_and_then, option_map, unwrap_or}
+use Rattle.std.proofs.Common.{◌≡◌, Bool, true, false, not, cond, List, [], ◌∷◌, ◌++◌, map, fold, length, Option, Some, None, refl, ap, ◌∙◌, subst, ◌==◌}
+use Rattle.std.specs.Prelude.{is_none, option_and_then, option_map, unwrap_or}
 use Rattle.std.proofs.lemmas.Bool.{both_ways}
 use Rattle.ca_arena.specs.declared.handle.Handle.{Handle}
 use Rattle.ca_ids.specs.Table.{same_handle, under}
-use Rattle.ca_requests.specs.Requests.{Request, asks_on, is_open, was_sent_on}
-use Rattle.ca_requests.specs.Requests as request
-use Rattle.ca_model.specs.Answers.{Closing, Lost, Notice, Sending}
-use Rattle.ca_model.specs.Ends.{Why}
+use Rattle.ca_requests.specs.Requests.{asks_on, is_open, was_sent_on}
+use Rattle.ca_model.specs.Answers.{Lost, Notice}
 use Rattle.ca_model.specs.Client.{Channel, Client, ClientCircuit, Clearing, Connecting, Connection, Creating, Doomed, Leaving, Live, On, Phase, Searching, Standing, channels_ended, channels_on, closing, connection_at, disconnections, ended, farewell, is_cleared, is_live, let_go, phase_on, searched_again, sending, standing_at, with_standing, without_channel, without_circuit, without_ids, disconnected}
 use Rattle.ca_model.specs.Client as client
-use Rattle.ca_model.specs.ClientCalls.{all_over, cleared, clearing_sent, unsubscribed_all, unwanted}
+use Rattle.ca_model.specs.ClientCalls.{all_over, cleared, unsubscribed_all, unwanted}
 use Rattle.ca_model.specs.ClientEnds.{is_connecting}
 use Rattle.ca_model_client.specs.Placed.{IsPlaced, was_live}
 use Rattle.ca_model_client.proofs.Handles.{same-is}

@@ -1,5 +1,5 @@
 -- The calls that complete no request leave the requests as they are.
-use Rattle.std.proofs.Common.{◌≡◌, ℕ, inl, inr, List, [], ◌∷◌, ◌++◌, Option, Some, None, Result, Ok, Err, refl, sym, ap, ◌∙◌, subst}
+use Rattle.std.proofs.Common.{◌≡◌, ℕ, inl, inr, List, [], ◌∷◌, Option, Some, None, Result, Ok, Err, refl, sym, subst}
 use Rattle.atomic_table.specs.Seated.{TableId}
 use Rattle.ca_text.specs.declared.refusal.Refusal.{Refusal}
 use Rattle.ca_text.specs.declared.refusal.Refusal.TheVariants as refusal
@@ -15,7 +15,7 @@ use Rattle.ca_model.specs.Client.{Channel, Client, ClientCircuit, Clearing, Conn
 use Rattle.ca_model.specs.ClientCalls.{ClientOpens, ClientSubscribes, ClientUnsubscribes, ClientWrites, Opening, Shape, cancel_sent, event_add_sent, new_subscription, opened, unsubscribed, write_sent}
 use Rattle.ca_model.specs.ClientEnds.{Arrival, ClientReceives, Receives, ReceivesAll, beacon_heard}
 use Rattle.ca_model.specs.ClientEnds as ends
-use Rattle.ca_model.specs.Hears.{Effect, FindsAt, PutsOn, becomes, doing, found_at, put_on, searched_by}
+use Rattle.ca_model.specs.Hears.{Effect, FindsAt, PutsOn, doing, found_at, put_on, searched_by}
 use Rattle.ca_model_client.specs.Placed.{IsPlaced}
 use Rattle.ca_model_client.proofs.Changes.{keeps-unsubscribed, placed-opened, placed-subscribed}
 use Rattle.ca_model_client.proofs.Hearing.{all-received, keeps-moment}

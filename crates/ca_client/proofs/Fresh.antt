@@ -1,5 +1,5 @@
 -- A state in which nothing was asked.
-use Rattle.std.proofs.Common.{◌≡◌, ℕ, List, [], ◌∷◌, Option, Some, None, Ok, refl, sym, ap, ◌∙◌, subst}
+use Rattle.std.proofs.Common.{◌≡◌, List, [], Some, Ok, sym, subst}
 use Rattle.std.specs.Prelude.{length}
 use Rattle.atomic_table.specs.Seated.{TableId}
 use Rattle.ca_text.specs.Limits.{arena_slots}
@@ -7,12 +7,11 @@ use Rattle.ca_arena.specs.declared.handle.Handle.{Handle}
 use Rattle.ca_board.specs.declared.ticket.Ticket.{Ticket}
 use Rattle.ca_board.specs.Views.{CoreView}
 use Rattle.ca_ids.specs.Table.{Table, under}
-use Rattle.ca_requests.specs.Requests.{Request}
 use Rattle.ca_model.specs.Client.{Client}
 use Rattle.ca_model.specs.ClientEnds.{ClientBegins, ClientSetting, new_client}
 use Rattle.ca_model_client.specs.Placed.{IsPlaced}
 use Rattle.ca_model_client.proofs.Tables.{under-at}
-use Rattle.ca_client.specs.Awaited.{Among, AreApart, AreAwaited, IsListed, IsState, Waits}
+use Rattle.ca_client.specs.Awaited.{AreAwaited, IsListed, IsState, Waits}
 
 -- a table with no place names nothing
 nothing : {T : Type 0} (h : Handle) (v : T) → (let t : Table T = [] in under t h ≡ Some v) → ⊥

@@ -1,10 +1,9 @@
 -- What a message that a client reads does to the requests that wait.
-use Rattle.std.proofs.Common.{◌≡◌, ℕ, inl, inr, ◌⊎◌, Bool, true, false, cond, eqb, List, [], ◌∷◌, ◌++◌, Option, Some, None, refl, sym, ap, ◌∙◌, subst}
+use Rattle.std.proofs.Common.{◌≡◌, ℕ, inl, inr, Bool, true, false, cond, eqb, List, [], ◌∷◌, ◌++◌, Option, Some, None, refl, sym, subst}
 use Rattle.ca_arena.specs.declared.handle.Handle.{Handle}
 use Rattle.ca_dbr.specs.declared.value.Outcome.{Outcome}
 use Rattle.ca_dbr.specs.declared.value.Outcome.TheVariants as outcome
 use Rattle.ca_ids.specs.Table.{under}
-use Rattle.ca_ids.specs.Table.{with_freed}
 use Rattle.ca_monitor.specs.Subscriptions.{confirmed_by}
 use Rattle.ca_requests.specs.Requests.{Request, answered_by, asks_on}
 use Rattle.ca_requests.specs.Requests as request
@@ -17,8 +16,8 @@ use Rattle.ca_model.specs.Client.{Channel, Client, ClientCircuit, Clearing, Conn
 use Rattle.ca_model.specs.Hears.{Answers, Completes, Effect, Fails, FindsAt, Hears, PutsOn, Updates, any_failed, becomes, clear_answered, confirmed, created, doing, failed, failing, found_at, heard_by, left, put_on, request_failed, rights_told, searched_by, subscription_failed, with_circuit, without_drained, without_request, without_subscription, write_failed}
 use Rattle.ca_model.specs.Hears as hears
 use Rattle.ca_model_client.proofs.Tables.{all-freed-back}
-use Rattle.ca_client.specs.Awaited.{IsListed, Waits, completions}
-use Rattle.ca_client.proofs.Waiting.{Same, Told, answered-there, freed-waits, listed-fewer, listed-same, over-waits, same-itself, same-sending, told-ended, told-on, told-one, told-quiet, told-same, waits-same}
+use Rattle.ca_client.specs.Awaited.{IsListed, completions}
+use Rattle.ca_client.proofs.Waiting.{Same, Told, answered-there, freed-waits, listed-fewer, over-waits, same-itself, same-sending, told-ended, told-on, told-one, told-quiet, told-same}
 
 -- what a message makes of a client, and what it sends, which waits on its circuit
 told-doing : (x z : Client) (sent : List Sending) (ns : List Notice) (e : Effect) → e ≡ doing sent ns z → Told x ns z → Told x e.notices e.core

@@ -1,11 +1,10 @@
 -- The state under the lock, as requests are issued and refused.
-use Rattle.std.proofs.Common.{◌≡◌, ℕ, ◌<◌, List, [], ◌∷◌, ◌++◌, Option, Some, None, Ok, Err, refl, sym, ap, ◌∙◌, subst, inl, inr, ◌⊎◌}
+use Rattle.std.proofs.Common.{◌≡◌, ℕ, ◌<◌, List, [], ◌∷◌, Ok, Err, refl, sym, ap, ◌∙◌, subst}
 use Rattle.std.specs.Prelude.{slice_set}
 use Rattle.std.proofs.Math.ListN.{length-set}
 use Rattle.atomic_table.specs.Seated.{TableId}
 use Rattle.ca_text.specs.declared.refusal.Refusal.{Refusal}
 use Rattle.ca_text.specs.declared.refusal.Refusal.TheVariants as refusal
-use Rattle.ca_text.specs.Limits.{arena_slots}
 use Rattle.ca_arena.specs.declared.handle.Handle.{Handle}
 use Rattle.ca_board.specs.declared.ticket.Ticket.{Ticket}
 use Rattle.ca_board.specs.History.{Has}
@@ -23,10 +22,10 @@ use Rattle.ca_model_client.proofs.Changes.{placed-issued}
 use Rattle.ca_model_client.proofs.Placed.{keeps-sending}
 use Rattle.ca_client.specs.declared.ask.Request.{Request}
 use Rattle.ca_client.specs.declared.ask.Request.TheVariants as request
-use Rattle.ca_client.specs.Awaited.{AreAwaited, IsListed, IsState, Waits}
+use Rattle.ca_client.specs.Awaited.{IsState, Waits}
 use Rattle.ca_client.specs.Calls.{HasIssued, OnlyRecycled}
 use Rattle.ca_client.proofs.Tickets.{awaited_issue, awaited_recycled, awaited_refused}
-use Rattle.ca_client.proofs.Waiting.{Same, issued-apart, issued-back, issued-listed, listed-same, same-sending}
+use Rattle.ca_client.proofs.Waiting.{Same, issued-apart, issued-back, issued-listed, same-sending}
 
 pub state-recycled : (x : Client) (v w : CoreView) (board : TableId) (ts : List Ticket) → IsState x v board ts → OnlyRecycled v w → IsState x w board ts
 state-recycled x v w board ts s o =

@@ -1,9 +1,8 @@
 -- Lists of handles, each there once; and completions before other notices.
-use Rattle.std.proofs.Common.{◌≡◌, ℕ, inl, inr, ◌⊎◌, Bool, true, false, cond, List, [], ◌∷◌, ◌++◌, map, Option, Some, None, refl, sym, ap, ◌∙◌, subst, filter, ⊎_elim}
+use Rattle.std.proofs.Common.{◌≡◌, inl, inr, ◌⊎◌, Bool, true, false, cond, List, [], ◌∷◌, ◌++◌, map, Option, Some, None, refl, sym, ap, ◌∙◌, filter, ⊎_elim}
 use Rattle.std.specs.List.{cons_option}
-use Rattle.std.specs.Prelude.{filter_map, is_none}
+use Rattle.std.specs.Prelude.{is_none}
 use Rattle.ca_arena.specs.declared.handle.Handle.{Handle}
-use Rattle.ca_dbr.specs.declared.value.Outcome.{Outcome}
 use Rattle.ca_dbr.specs.declared.value.Outcome.TheVariants as outcome
 use Rattle.ca_model.specs.Answers.{Completed, Notice}
 use Rattle.ca_client.specs.Awaited.{Among, AreApart, AreFirst, Completion, completed, completion, completions, others}

@@ -1,5 +1,5 @@
 -- The state under the lock, after completions were handed over.
-use Rattle.std.proofs.Common.{◌≡◌, ℕ, cond, List, [], ◌∷◌, ◌++◌, map, Option, Some, None, Result, Ok, Err, refl, sym, ap, ◌∙◌, subst}
+use Rattle.std.proofs.Common.{◌≡◌, cond, List, [], ◌++◌, map, Option, Some, None, Ok, Err, refl, sym, ap, ◌∙◌, subst}
 use Rattle.std.specs.Prelude.{is_none, option_and_then}
 use Rattle.atomic_table.specs.Seated.{TableId}
 use Rattle.ca_arena.specs.declared.handle.Handle.{Handle}
@@ -12,9 +12,9 @@ use Rattle.ca_model.specs.Answers.{Closing, Notice, Sending}
 use Rattle.ca_model.specs.Answers as core
 use Rattle.ca_model.specs.Ends.{Why}
 use Rattle.ca_model.specs.Ends as why
-use Rattle.ca_model.specs.Client.{Client, ClientCircuit, Connection, closing, connection_at, ended, farewell, sending}
+use Rattle.ca_model.specs.Client.{Client, ClientCircuit, Connection, connection_at, ended, farewell, sending}
 use Rattle.ca_model.specs.ClientCalls.{ClientClears, cleared, clearing_sent}
-use Rattle.ca_model.specs.ClientEnds.{ClientConnects, ClientSteps, ConnectsOn, EndsFor, StepsOn, Takes, after_taking, begun, creations, gone, set_up, unconnected}
+use Rattle.ca_model.specs.ClientEnds.{ClientConnects, ClientSteps, ConnectsOn, EndsFor, StepsOn, after_taking, begun, creations, gone, set_up, unconnected}
 use Rattle.ca_model.specs.Hears.{Effect}
 use Rattle.ca_model_client.specs.Placed.{IsPlaced}
 use Rattle.ca_model_client.proofs.Changes.{keeps-cleared}
@@ -25,7 +25,7 @@ use Rattle.ca_client.specs.Awaited.{AreFirst, Completion, Fillable, FillsAll, Is
 use Rattle.ca_client.proofs.Ends.{told-clear, told-end}
 use Rattle.ca_client.proofs.Heard.{told-heard}
 use Rattle.ca_client.proofs.Lists.{first-is}
-use Rattle.ca_client.proofs.Tickets.{Leaves, Tells, awaited_recycled, fewer_awaited, fillable_awaited, filled_awaited}
+use Rattle.ca_client.proofs.Tickets.{Leaves, Tells, fewer_awaited, fillable_awaited, filled_awaited}
 use Rattle.ca_client.proofs.Waiting.{Same, Told, listed-same, same-sending, told-from, told-on, told-same, waits-same}
 
 -- What a call reported of requests, and the channels are where they may be.

@@ -1,5 +1,5 @@
 -- What a moment does to the requests that wait.
-use Rattle.std.proofs.Common.{◌≡◌, ℕ, Bool, true, false, cond, List, [], ◌∷◌, ◌++◌, fold, filter, map, Option, Some, None, Result, Ok, Err, refl, sym, ap, ◌∙◌, subst}
+use Rattle.std.proofs.Common.{◌≡◌, ℕ, Bool, true, false, cond, List, [], ◌∷◌, ◌++◌, fold, filter, map, Option, Some, None, Ok, Err, refl, sym, ap, ◌∙◌, subst}
 use Rattle.std.specs.Prelude.{is_none, option_map, unwrap_or}
 use Rattle.std.proofs.lemmas.List.Elements.{filter-append, filter_map-append}
 use Rattle.ca_text.specs.declared.refusal.Refusal.{Refusal}
@@ -15,7 +15,7 @@ use Rattle.ca_requests.specs.Requests.{is_open, was_sent_on}
 use Rattle.ca_model.specs.Answers.{Lost, Notice, Sending, Ticked}
 use Rattle.ca_model.specs.Client.{Client, Connection, channels_on, connection_at, ended, farewell, is_live, later, on_connection, sending}
 use Rattle.ca_model.specs.ClientCalls.{is_over}
-use Rattle.ca_model.specs.ClientEnds.{ClientTicks, Ticking, all_searched_on, circuits_ticked, due, echoes, falls_silent, is_name_connected, of_circuit, searches_made, searches_on, ticked, ticks, ticks_as, with_sending}
+use Rattle.ca_model.specs.ClientEnds.{ClientTicks, Ticking, all_searched_on, circuits_ticked, due, is_name_connected, of_circuit, searches_made, searches_on, ticks, ticks_as, with_sending}
 use Rattle.ca_model_client.specs.Placed.{IsPlaced}
 use Rattle.atomic_table.specs.Seated.{TableId}
 use Rattle.ca_board.specs.declared.ticket.Ticket.{Ticket}
@@ -23,13 +23,13 @@ use Rattle.ca_board.specs.Views.{CoreView}
 use Rattle.ca_model_client.proofs.Changes.{keeps-searches}
 use Rattle.ca_model_client.proofs.Hearing.{keeps-moment}
 use Rattle.ca_model_client.proofs.Letting.{ends-ended}
-use Rattle.ca_model_client.proofs.Placed.{Keeps, keeps-itself, keeps-on, keeps-sending, keeps-then}
+use Rattle.ca_model_client.proofs.Placed.{Keeps, keeps-on, keeps-sending}
 use Rattle.ca_client.specs.Awaited.{Completion, Fillable, FillsAll, IsListed, IsState, Waits, completion, completions, others}
 use Rattle.ca_client.proofs.Ends.{no-losses, told-end}
 use Rattle.ca_client.proofs.Lists.{ends, others-all, others-first, told-ends}
 use Rattle.ca_client.proofs.Settled.{leaves-told, tells-told}
 use Rattle.ca_client.proofs.Tickets.{But, Leaves, Tells, fewer_awaited, fillable_awaited, filled_awaited}
-use Rattle.ca_client.proofs.Waiting.{Same, Told, leaves-more, listed-same, same-itself, same-sending, same-then, tells-more, waits-same}
+use Rattle.ca_client.proofs.Waiting.{Same, Told, leaves-more, listed-same, same-sending, tells-more, waits-same}
 
 -- From x, these notices tell what became of requests that waited, in whatever order they are with others, and y is left.
 pub record Ran (x : Client) (ns : List Notice) (y : Client) : Type 0 where

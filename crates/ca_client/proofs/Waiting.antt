@@ -1,17 +1,16 @@
 -- What a client's calls do to the requests that wait: what they report completes some, each once, and the others wait on.
-use Rattle.std.proofs.Common.{◌≡◌, ◌≢◌, ℕ, inl, inr, ◌⊎◌, Bool, true, false, ◌&&◌, cond, List, [], ◌∷◌, ◌++◌, eqb, map, Option, Some, None, refl, sym, ap, ◌∙◌, subst, filter, ⊎_elim}
+use Rattle.std.proofs.Common.{◌≡◌, ℕ, inl, inr, ◌⊎◌, Bool, true, false, ◌&&◌, cond, List, [], ◌∷◌, ◌++◌, eqb, Option, Some, None, refl, sym, ap, ◌∙◌, subst, filter, ⊎_elim}
 use Rattle.std.specs.Prelude.{option_and_then, option_map, unwrap_or}
-use Rattle.std.proofs.lemmas.Bool.{and_from, both_ways}
+use Rattle.std.proofs.lemmas.Bool.{both_ways}
 use Rattle.ca_arena.specs.declared.handle.Handle.{Handle}
 use Rattle.ca_dbr.specs.declared.value.Outcome.{Outcome}
 use Rattle.ca_text.specs.Command.{command_number}
-use Rattle.ca_ids.specs.Table.{MayGive, Table, by_wire, same_handle, under, with_freed, with_held}
-use Rattle.ca_requests.specs.Calls.{new_request}
-use Rattle.ca_requests.specs.Requests.{Asked, Draining, Open, Request, Stage, answered_by, asks_on, channel_over, command_of, is_open, is_open_in, over_on, was_sent_on}
+use Rattle.ca_ids.specs.Table.{MayGive, Table, by_wire, under, with_freed, with_held}
+use Rattle.ca_requests.specs.Requests.{Draining, Open, Request, Stage, answered_by, asks_on, channel_over, command_of, is_open, is_open_in, over_on, was_sent_on}
 use Rattle.ca_model.specs.Answers.{Completed, Notice, Sending}
 use Rattle.ca_model.specs.Client.{Client, disconnections, sending, with_one_sent}
 use Rattle.ca_model_client.proofs.Tables.{all-back, freed-back, given-none, held-back, held-other, held-own, one-value, wire-under}
-use Rattle.ca_client.specs.Awaited.{Among, AreApart, AreFirst, Completion, IsListed, Waits, completed, completions}
+use Rattle.ca_client.specs.Awaited.{Among, AreApart, AreFirst, Completion, IsListed, Waits, completions}
 use Rattle.ca_client.proofs.Lists.{among-filter, among-last, apart-filter, apart-last, ends, told-ends}
 use Rattle.ca_client.proofs.Tickets.{But, Leaves, Tells}
 

@@ -1,9 +1,7 @@
 -- Working: notices that are gone through, one after another.
-use Rattle.std.specs.Prelude.{◌≡◌, List, [], ◌∷◌, ◌++◌, Option, Some, None, Result, Ok, Err}
-use Rattle.ca_arena.specs.declared.handle.Handle.{Handle}
+use Rattle.std.specs.Prelude.{◌≡◌, List, None, Result, Ok, Err}
 use Rattle.ca_board.specs.declared.ticket.Ticket.{Ticket}
 use Rattle.ca_board.specs.Views.{CoreView}
-use Rattle.ca_dbr.specs.declared.value.Outcome.{Outcome}
 use Rattle.ca_client_core.specs.declared.notice.Notice.{Notice as Said}
 use Rattle.ca_client_core.specs.Notices.{notice_of}
 use Rattle.ca_model.specs.Answers.{Notice}

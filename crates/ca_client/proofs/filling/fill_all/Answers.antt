@@ -1,9 +1,8 @@
-use Rattle.std.proofs.Common.{◌≡◌, ◌<◌, ◌++◌, ◌∷◌, [], ap, sym, ◌∙◌, subst, refl, List, length, ℕ}
+use Rattle.std.proofs.Common.{sym, ◌∙◌, subst, List}
 use Rattle.ca_board.specs.declared.ticket.Ticket.{Ticket}
-use Rattle.ca_board.specs.Views.{CoreView, IsDue}
+use Rattle.ca_board.specs.Views.{IsDue}
 use Rattle.ca_client_core.specs.Notices.{notice_of}
-use Rattle.ca_model.specs.Answers.{Notice}
-use Rattle.ca_client.specs.Awaited.{Completion, Fillable, FillsAll, completed, completions, others, ticket_of}
+use Rattle.ca_client.specs.Awaited.{Fillable}
 use Rattle.ca_client.proofs.Filled.{last-fills, last-others, taken}
 use Rattle.ca_client.proofs.Tickets.{ticket_at}
 use Rattle.ca_client.proofs.filling.fill_all.Goals as goal

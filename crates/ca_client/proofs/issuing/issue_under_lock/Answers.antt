@@ -1,4 +1,4 @@
-use Rattle.std.proofs.Common.{sym, ◌∙◌, subst, ap, refl, ℕ, inr, Ok, Err, ◌<◌}
+use Rattle.std.proofs.Common.{sym, subst, refl, ℕ, inr, Err}
 use Rattle.std.specs.Prelude.{slice_set}
 use Rattle.std.specs.Arc.{arc_value}
 use Rattle.ca_board.specs.Views.{CoreView}

@@ -1,8 +1,6 @@
-use Rattle.std.proofs.Common.{◌∙◌, subst, sym}
+use Rattle.std.proofs.Common.{◌∙◌}
 use Rattle.std.specs.Arc.{arc_value}
-use Rattle.ca_model.specs.Client.{Client}
 use Rattle.ca_model.specs.Ends as why
-use Rattle.ca_client.specs.Awaited.{IsState}
 use Rattle.ca_client.proofs.Settled.{due-told, first-told, stands-end, state-told}
 use Rattle.ca_client.proofs.stepping.cut.Goals as goal
 

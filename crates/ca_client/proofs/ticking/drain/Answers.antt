@@ -1,4 +1,4 @@
-use Rattle.std.proofs.Common.{◌≡◌, sym, ◌∙◌, subst, refl, List}
+use Rattle.std.proofs.Common.{sym, subst, List}
 use Rattle.ca_board.specs.declared.ticket.Ticket.{Ticket}
 use Rattle.ca_board.specs.Views.{IsDue}
 use Rattle.ca_client_core.specs.Notices.{notice_of}

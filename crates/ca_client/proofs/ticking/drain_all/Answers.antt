@@ -1,4 +1,4 @@
-use Rattle.std.proofs.Common.{◌≡◌, ◌<◌, ◌≤◌, ◌+◌, length, arith}
+use Rattle.std.proofs.Common.{◌≡◌, ◌<◌, ◌≤◌, length, arith}
 use Rattle.ca_client.proofs.Drained.{draining-due, draining-end, draining-length, draining-next, draining-start}
 use Rattle.ca_client.proofs.ticking.drain_all.Goals as goal
 

@@ -7,7 +7,7 @@ use Rattle.ca_client.specs.declared.answer.Answer.TheVariants as answer
 use Rattle.ca_client.specs.declared.ask.Ask.TheVariants as ask
 use Rattle.ca_client.specs.Awaited.{StateView}
 use Rattle.ca_client.specs.Calls.{HasSteppedUnderLock}
-use Rattle.ca_client.proofs.Ticked.{Ran, due-ran, ran-tick, rests-tick, state-ran}
+use Rattle.ca_client.proofs.Ticked.{Ran, due-ran, ran-tick, state-ran}
 use Rattle.ca_client.proofs.ticking.tick.Goals as goal
 
 pub drain_all-requires-clause-due : goal.drain_all-requires-clause-due

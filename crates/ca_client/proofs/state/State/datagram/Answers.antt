@@ -1,5 +1,4 @@
 use Rattle.std.specs.Arc.{arc_value}
-use Rattle.ca_dbr.specs.Elements.{elements}
 use Rattle.ca_client.proofs.Frames.{state-receives}
 use Rattle.ca_client.proofs.state.State.datagram.Goals as goal
 

@@ -1,5 +1,4 @@
 use Rattle.std.specs.Arc.{arc_value}
-use Rattle.ca_dbr.specs.Elements.{elements}
 use Rattle.ca_client.proofs.Frames.{state-unsubscribes}
 use Rattle.ca_client.proofs.state.State.unsubscribe.Goals as goal
 
