@@ -59,3 +59,5 @@ pub mod OnceSent
 pub mod OnceSentServers
 pub mod OnceSentClients
 pub mod OnceSentRuns
+pub mod OnceTold
+pub mod OnceHeard

@@ -1,0 +1,176 @@
+-- What a message that a client reads makes of its requests and subscriptions, and what the client tells of them.
+use Rattle.std.proofs.Common.{◌≡◌, ℕ, zero, suc, inl, inr, Bool, true, false, cond, eqb, List, [], ◌∷◌, ◌++◌, Option, Some, None, refl, sym, ap, ◌∙◌, subst}
+use Rattle.std.proofs.lemmas.Bool.{both_ways}
+use Rattle.ca_text.specs.Place.{At}
+use Rattle.ca_text.proofs.Places.{some_is}
+use Rattle.ca_arena.specs.declared.handle.Handle.{Handle}
+use Rattle.ca_dbr.specs.declared.value.Outcome.{Outcome}
+use Rattle.ca_dbr.specs.declared.value.Outcome.TheVariants as outcome
+use Rattle.ca_ids.specs.Table.{under}
+use Rattle.ca_monitor.specs.Subscriptions.{Subscription, confirmed_by}
+use Rattle.ca_requests.specs.Requests.{Request, answered_by, asks_on, is_open_in}
+use Rattle.ca_requests.specs.Requests as request
+use Rattle.ca_text.specs.declared.status.Status.{Status}
+use Rattle.ca_wire.specs.Fields.{Fields}
+use Rattle.ca_wire.specs.declared.header.Header.{Header}
+use Rattle.ca_model.specs.Answers.{Notice, Sending}
+use Rattle.ca_model.specs.Answers as notice
+use Rattle.ca_model.specs.Ends.{Address}
+use Rattle.ca_model.specs.Client.{Channel, Client, ClientCircuit, Clearing, Connecting, Connection, Creating, Doomed, Leaving, Live, Phase, channel_on, circuit_to, disconnections, sending, with_requests}
+use Rattle.ca_model.specs.Hears.{Answers, Completes, Effect, Fails, FindsAt, Hears, PutsOn, Updates, any_failed, clear_answered, confirmed, created, doing, failed, found_at, heard_by, left, put_on, request_failed, rights_told, searched_by, subscription_failed, without_drained, write_failed}
+use Rattle.ca_model.specs.Hears as hears
+use Rattle.ca_model_client.proofs.Tables.{freed-back, one-value}
+use Rattle.ca_laws_circuit.proofs.Heard.{answered-is}
+use Rattle.ca_laws_circuit.proofs.Refused.{heard-is}
+use Rattle.ca_laws_held.proofs.OnceLess.{Less}
+use Rattle.ca_laws_held.proofs.OnceMoved.{moved-heard}
+use Rattle.ca_laws_held.proofs.OnceTold.{Asks, IsOpenBy, StandsBy, TellsNone, Told, asks-all-freed, asks-freed, asks-over, asks-same, asks-sending, asks-then, over-back, stands-less, told-disconnected, told-one, told-still, told-then}
+
+pub none-told : TellsNone []
+none-told = (λ i q o at. absurd (first i q o at), λ i g s at. absurd (second i g s at))
+  where
+    first : (i : ℕ) (q : Handle) (o : Outcome) → (let v : List Notice = [] in At v i (notice.Completed q o)) → ⊥
+    first i q o at = cc
+
+    second : (i : ℕ) (g : Handle) (s : Status) → (let v : List Notice = [] in At v i (notice.SubscriptionEnded g s)) → ⊥
+    second i g s at = cc
+
+-- a notice of neither
+other-told : (n : Notice) → ((q : Handle) (o : Outcome) → n ≡ notice.Completed q o → ⊥) → ((g : Handle) (s : Status) → n ≡ notice.SubscriptionEnded g s → ⊥) → TellsNone (n ∷ [])
+other-told n no_request no_end = (λ i q o at. first i q o at, λ i g s at. second i g s at)
+  where
+    first : (i : ℕ) (q : Handle) (o : Outcome) → At (n ∷ []) i (notice.Completed q o) → ⊥
+    first zero q o at = no_request q o (some_is n (notice.Completed q o) at)
+    first (suc i) q o at = cc
+
+    second : (i : ℕ) (g : Handle) (s : Status) → At (n ∷ []) i (notice.SubscriptionEnded g s) → ⊥
+    second zero g s at = no_end g s (some_is n (notice.SubscriptionEnded g s) at)
+    second (suc i) g s at = cc
+
+live-told : (h : Handle) → TellsNone (notice.Live h ∷ [])
+live-told h = other-told (notice.Live h) (λ q o e. a q o e) (λ g s e. b g s e)
+  where
+    a : (q : Handle) (o : Outcome) → notice.Live h ≡ notice.Completed q o → ⊥
+    a q o e = cc
+
+    b : (g : Handle) (s : Status) → notice.Live h ≡ notice.SubscriptionEnded g s → ⊥
+    b g s e = cc
+
+lost-told : (h : Handle) → TellsNone (notice.Lost h ∷ [])
+lost-told h = other-told (notice.Lost h) (λ q o e. a q o e) (λ g s e. b g s e)
+  where
+    a : (q : Handle) (o : Outcome) → notice.Lost h ≡ notice.Completed q o → ⊥
+    a q o e = cc
+
+    b : (g : Handle) (s : Status) → notice.Lost h ≡ notice.SubscriptionEnded g s → ⊥
+    b g s e = cc
+
+update-told : (h : Handle) (v : Outcome) → TellsNone (notice.Update h v ∷ [])
+update-told h v = other-told (notice.Update h v) (λ q o e. a q o e) (λ g s e. b g s e)
+  where
+    a : (q : Handle) (o : Outcome) → notice.Update h v ≡ notice.Completed q o → ⊥
+    a q o e = cc
+
+    b : (g : Handle) (s : Status) → notice.Update h v ≡ notice.SubscriptionEnded g s → ⊥
+    b g s e = cc
+
+refused-told : (h : Handle) (v : Status) → TellsNone (notice.WriteRefused h v ∷ [])
+refused-told h v = other-told (notice.WriteRefused h v) (λ q o e. a q o e) (λ g s e. b g s e)
+  where
+    a : (q : Handle) (o : Outcome) → notice.WriteRefused h v ≡ notice.Completed q o → ⊥
+    a q o e = cc
+
+    b : (g : Handle) (s : Status) → notice.WriteRefused h v ≡ notice.SubscriptionEnded g s → ⊥
+    b g s e = cc
+
+module _ (x : Client) (e : Effect) (less : Less x e.core) where
+  -- it tells of none
+  still : (sent : List Sending) (notices : List Notice) (z : Client) → e ≡ doing sent notices z → Asks x z → TellsNone notices → Told x e.notices e.core
+  still sent notices z is asks none =
+      told-still x e.core e.notices (subst (λ (w : Effect). Asks x w.core) (sym is) (asks-then x z (sending sent z) asks (asks-sending sent z))) less (subst (λ (w : Effect). TellsNone w.notices) (sym is) none)
+
+  nothing : (z : Client) → e ≡ doing [] [] z → Asks x z → Told x e.notices e.core
+  nothing z is asks = still [] [] z is asks none-told
+
+  same : e ≡ doing [] [] x → Told x e.notices e.core
+  same is = nothing x is (asks-same x x refl refl)
+
+  module _ (c : Handle) where
+    told-rights : (m : Fields) (o : Option (Handle × Phase)) → e ≡ rights_told x c m o → Told x e.notices e.core
+    told-rights m None is = same is
+    told-rights m (Some (h, Connecting)) is = same is
+    told-rights m (Some (h, Leaving)) is = same is
+    told-rights m (Some (h, Clearing)) is = same is
+    told-rights m (Some (h, Doomed)) is = same is
+    told-rights m (Some (h, Creating rights)) is = still [] [] _ is (asks-same x _ refl refl) none-told
+    told-rights m (Some (h, Live native rights)) is = still [] [] _ is (asks-same x _ refl refl) none-told
+
+    told-created : (m : Fields) (o : Option (Handle × Phase)) → e ≡ created x c m o → Told x e.notices e.core
+    told-created m None is = same is
+    told-created m (Some (h, Connecting)) is = same is
+    told-created m (Some (h, Live native rights)) is = same is
+    told-created m (Some (h, Leaving)) is = same is
+    told-created m (Some (h, Clearing)) is = same is
+    told-created m (Some (h, Creating rights)) is = still _ (notice.Live h ∷ []) _ is (asks-same x _ refl refl) (live-told h)
+    told-created m (Some (h, Doomed)) is = still _ [] _ is (asks-same x _ refl refl) none-told
+
+    told-failed : (o : Option (Handle × Phase)) → e ≡ failed x o → Told x e.notices e.core
+    told-failed None is = same is
+    told-failed (Some (h, Connecting)) is = same is
+    told-failed (Some (h, Live native rights)) is = same is
+    told-failed (Some (h, Leaving)) is = same is
+    told-failed (Some (h, Clearing)) is = same is
+    told-failed (Some (h, Creating rights)) is = still [] [] _ is (asks-same x _ refl refl) none-told
+    told-failed (Some (h, Doomed)) is = still [] [] _ is (asks-same x _ refl refl) none-told
+
+    drained : (h : Handle) → Asks x (without_drained c h x)
+    drained h = (let a = asks-all-freed (asks_on h) x in record { issued = a.issued; opens = a.opens })
+
+    told-cleared : (o : Option (Handle × Phase)) → e ≡ clear_answered x c o → Told x e.notices e.core
+    told-cleared None is = same is
+    told-cleared (Some (h, Connecting)) is = same is
+    told-cleared (Some (h, Live native rights)) is = same is
+    told-cleared (Some (h, Creating rights)) is = same is
+    told-cleared (Some (h, Doomed)) is = same is
+    told-cleared (Some (h, Clearing)) is = still [] [] _ is (let a = drained h in record { issued = a.issued; opens = a.opens }) none-told
+    told-cleared (Some (h, Leaving)) is = still [] [] _ is (let a = drained h in record { issued = a.issued; opens = a.opens }) none-told
+
+    told-completes : (m : Fields) (q : Handle) (r : Request) → under x.requests q ≡ Some r → (s : request.Stage) → r.stage ≡ s → Completes x m q s e → Told x e.notices e.core
+    told-completes m q r there request.Open stage done =
+        subst (λ (w : Effect). Less x w.core → Told x w.notices w.core) (sym done.2)
+        (λ l. told-one x (hears.without_request q x) q done.0 (asks-freed q x) l (r, there, ap is_open_in stage) (λ o. (freed-back x.requests q q o.0 o.1).0 refl)) less
+    told-completes m q r there request.Draining stage done = nothing (hears.without_request q x) done (asks-freed q x)
+
+    told-reply : (m : Fields) (command : ℕ) (o : Option (Handle × Request)) → answered_by c command m.p2 x.requests ≡ o → Answers x m o e → Told x e.notices e.core
+    told-reply m command None found is = same is
+    told-reply m command (Some (q, r)) found is = told-completes m q r (answered-is c command m.p2 x.requests q r found).0 r.stage refl is
+
+    told-confirmed : (o : Option Handle) → e ≡ confirmed x o → Told x e.notices e.core
+    told-confirmed None is = same is
+    told-confirmed (Some q) is = still [] [] _ is (asks-same x _ refl refl) none-told
+
+    told-update : (m : Fields) (o : Option Handle) → Updates x m o e → Told x e.notices e.core
+    told-update m None is = same is
+    told-update m (Some q) is = still [] (notice.Update q is.0 ∷ []) x is.2 (asks-same x x refl refl) (update-told q is.0)
+
+    told-write : (m : Fields) (o : Option (Handle × Phase)) → e ≡ write_failed x m o → Told x e.notices e.core
+    told-write m None is = same is
+    told-write m (Some (h, Connecting)) is = same is
+    told-write m (Some (h, Creating rights)) is = same is
+    told-write m (Some (h, Live native rights)) is = still [] (notice.WriteRefused h (record { number = m.p2 }) ∷ []) x is (asks-same x x refl refl) (refused-told h (record { number = m.p2 }))
+    told-write m (Some (h, Leaving)) is = same is
+    told-write m (Some (h, Clearing)) is = same is
+    told-write m (Some (h, Doomed)) is = same is
+
+    told-any : (m : Fields) (command id : ℕ) (o : Option (Handle × Request)) → answered_by c command id x.requests ≡ o → e ≡ any_failed x m o → Told x e.notices e.core
+    told-any m command id None found is = same is
+    told-any m command id (Some (q, r)) found is = go r.stage refl is
+      where
+        there : under x.requests q ≡ Some r
+        there = (answered-is c command id x.requests q r found).0
+
+        go : (s : request.Stage) → r.stage ≡ s → e ≡ request_failed x m q s → Told x e.notices e.core
+        go request.Open stage done =
+            subst (λ (w : Effect). Less x w.core → Told x w.notices w.core) (sym done)
+            (λ l. told-one x (hears.without_request q x) q (outcome.Failed (record { number = m.p2 })) (asks-freed q x) l (r, there, ap is_open_in stage) (λ o. (freed-back x.requests q q o.0 o.1).0 refl)) less
+        go request.Draining stage done = same done
