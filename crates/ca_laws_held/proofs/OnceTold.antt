@@ -145,7 +145,7 @@ over-open h s o = go (asks_on h s) refl o
     go true is f = absurd (both_ways false refl f)
     go false is f = (is, f)
 
-over-back : (h : Handle) (x : Client) (q : Handle) (r : Request) → under (request.channel_over h x.requests) q ≡ Some r → is_open_in r.stage ≡ true → (s : Request) × (under x.requests q ≡ Some s) × (asks_on h s ≡ false) × (is_open_in s.stage ≡ true)
+pub over-back : (h : Handle) (x : Client) (q : Handle) (r : Request) → under (request.channel_over h x.requests) q ≡ Some r → is_open_in r.stage ≡ true → (s : Request) × (under x.requests q ≡ Some s) × (asks_on h s ≡ false) × (is_open_in s.stage ≡ true)
 over-back h x q r is o =
     let was = all-back (request.over_on h) x.requests q r is in
     let f = over-open h was.0 (ap (λ (v : Request). is_open_in v.stage) (sym was.2) ∙ o) in
@@ -156,7 +156,7 @@ asks-over h x = asks-requests (request.channel_over h x.requests) x (λ q r is o
 
 -- ---- notices
 
-stands-less : (x y : Client) → Less x y → (g : Handle) → StandsBy y g → StandsBy x g
+pub stands-less : (x y : Client) → Less x y → (g : Handle) → StandsBy y g → StandsBy x g
 stands-less x y less g it = (let e = less.subscriptions g it.0 it.1 in (e.0, e.1, e.2 it.2))
 
 -- no notice of a request or a subscription
