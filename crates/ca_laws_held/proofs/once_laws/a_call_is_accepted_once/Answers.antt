@@ -1,5 +1,4 @@
 use Rattle.ca_laws_held.proofs.OnceRuns.{called-once}
-use Rattle.ca_laws_held.proofs.OnceHeard.{none-told}
 use Rattle.ca_laws_held.proofs.once_laws.a_call_is_accepted_once.Goals as goal
 
 pub returns : goal.returns
