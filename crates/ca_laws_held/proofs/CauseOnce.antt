@@ -265,5 +265,221 @@ removed-begun w n moment c more new = (
   },
 )
 
-pub run-removed-once : ℕ
-run-removed-once = 0
+-- ---- lists that are apart
+
+apart-kept : (p : Handle × OpenChannel → Bool) (xs : List (Handle × OpenChannel)) → AreApart xs → AreApart (filter p xs)
+apart-kept p [] a = tt
+apart-kept p (x ∷ xs) (none, rest) = go (p x) (apart-kept p xs rest)
+  where
+    go : (b : Bool) → AreApart (filter p xs) → AreApart (cond b (x ∷ filter p xs) (filter p xs))
+    go true more = ((λ i f at same. (let k = In-kept p xs f (i, at) in none k.0.0 f k.0.1 same)), more)
+    go false more = more
+
+apart-at : (xs : List (Handle × OpenChannel)) → AreApart xs → (i j : ℕ) (a b : Handle × OpenChannel) → At xs i a → At xs j b → a.0 ≡ b.0 → i ≡ j
+apart-at [] apart i j a b at on same = absurd (none_at i a at)
+apart-at (x ∷ xs) (none, rest) zero zero a b at on same = refl
+apart-at (x ∷ xs) (none, rest) zero (suc j) a b at on same = absurd (none j b on (sym same ∙ ap (λ (z : Handle × OpenChannel). z.0) (sym (some_is x a at))))
+apart-at (x ∷ xs) (none, rest) (suc i) zero a b at on same = absurd (none i a at (same ∙ ap (λ (z : Handle × OpenChannel). z.0) (sym (some_is x b on))))
+apart-at (x ∷ xs) (none, rest) (suc i) (suc j) a b at on same = ap (λ (n : ℕ). suc n) (apart-at xs rest i j a b at on same)
+
+-- ---- a removal
+
+not-both : (b : Bool) → b ≡ true → not b ≡ true → ⊥
+not-both true e f = absurd cc
+not-both false e f = absurd cc
+
+ended-down : (ends : Joined → Option (List ℕ)) (c : Joined) → (ending ends c).lists.down ≡ c.lists.down
+ended-down ends c = go (ends c)
+  where
+    go : (o : Option (List ℕ)) → (unwrap_or (option_map (λ (left : List ℕ). server_closed left c) o) c).lists.down ≡ c.lists.down
+    go None = refl
+    go (Some left) = refl
+
+-- a message that tells of the removal is of a channel, and about its creation
+record ToldOf (name : List ℕ) (e : ServerEnd) (c : Joined) (k : ℕ) (v : Told) : Type 0 where
+  p : Handle × OpenChannel
+  at : At (channels_of name e) k p
+  x : Creation
+  there : In c.creations x
+  sid : x.sid ≡ wire_of p.0
+  place : v.place ≡ x.place
+
+told-as : (name : List ℕ) (gone : Handle → Bool) (left : Handle → ℕ) (e : ServerEnd) (c : Joined) → ChannelsOn e c → (k : ℕ) (v : Told) → At (map (removal_told c.creations) (disconnected_at name gone left c.at_server (Some (Open e)))) k v → ToldOf name e c k v
+told-as name gone left e c channels k v at =
+    let q = At-mapped (removal_told c.creations) (disconnected_at name gone left c.at_server (Some (Open e))) k v at in
+    let x = disconnect-is name gone left e c channels k q.0 q.1 in
+    record { p = q.0; at = x.0; x = x.1; there = x.2; sid = x.3; place = ap (λ (z : Told). z.place) q.2 ∙ x.4 }
+
+-- an end from which a record's channels are removed, or a beginning of them
+gone-once : (name : List ℕ) (gone : Handle → Bool) (left : Handle → ℕ) (e : ServerEnd) (c d : Joined) → ChannelsOn e c → OnceOn e c → d.lists.down ≡ c.lists.down ++ map (removal_told c.creations) (disconnected_at name gone left c.at_server (Some (Open e)))
+    → AreRemovedOnce c.lists → AreRemovedOnce d.lists
+gone-once name gone left e c d channels o down h i j t u a b same rt ru =
+    elim (At-parts c.lists.down more i t (subst (λ (l : List Told). At l i t) down a)) [
+      | inl oldi ↦ elim (At-parts c.lists.down more j u (subst (λ (l : List Told). At l j u) down b)) [
+        | inl oldj ↦ h i j t u oldi oldj same rt ru
+        | inr newj ↦ absurd (fresh i t oldi rt newj.0 u newj.2 same)
+      ]
+      | inr newi ↦ elim (At-parts c.lists.down more j u (subst (λ (l : List Told). At l j u) down b)) [
+        | inl oldj ↦ absurd (fresh j u oldj ru newi.0 t newi.2 (sym same))
+        | inr newj ↦
+            let p = told-of newi.0 t newi.2 in
+            let q = told-of newj.0 u newj.2 in
+            let sids : p.x.sid ≡ q.x.sid = o.one p.x q.x p.there q.there (sym p.place ∙ same ∙ q.place) in
+            let k = told-parts name e newi.0 p.p p.at in
+            let m = told-parts name e newj.0 q.p q.at in
+            let handles : p.p.0 ≡ q.p.0 = one-by-wire e.channels p.p.0 q.p.0 p.p.1 q.p.1 channels.few k.0 m.0 (sym p.sid ∙ sids ∙ q.sid) in
+            let one : newi.0 ≡ newj.0 = apart-at (channels_of name e) (apart-kept _ (held e.channels) (held-apart e.channels)) newi.0 newj.0 p.p q.p p.at q.at handles in
+            newi.1 ∙ ap (λ (n : ℕ). length c.lists.down + n) one ∙ sym newj.1
+      ]
+    ]
+  where
+    more : List Told
+    more = map (removal_told c.creations) (disconnected_at name gone left c.at_server (Some (Open e)))
+
+    told-of : (k : ℕ) (v : Told) → At more k v → ToldOf name e c k v
+    told-of k v at = told-as name gone left e c channels k v at
+
+    fresh : (k : ℕ) (v : Told) → At c.lists.down k v → v.cause ≡ Removal → (m : ℕ) (z : Told) → At more m z → v.place ≡ z.place → ⊥
+    fresh k v old rv m z at is =
+        let p = told-of m z at in
+        let parts = told-parts name e m p.p p.at in
+        not-both p.p.1.retired (o.retired v p.x p.p.0 p.p.1 (k, old) rv p.there (sym (is ∙ p.place)) parts.0 (sym p.sid)) parts.2
+
+remove-once : (s : Setting) (w new : World) (i : ℕ) (y : ServerSide) (name : List ℕ) → ServersStand s w → AllEnds RemovedOn w → At w.servers i y → HappensRemove w i y name new → AllRemovedOnce w → AllRemovedOnce new
+remove-once s w new i y name h ends at (gone, left, core, inr (removes, is)) all = subst (λ (z : World). AllRemovedOnce z) (sym is) all
+remove-once s w new i y name h ends at (gone, left, core, inl (removes, is)) all = subst (λ (z : World). AllRemovedOnce z) (sym is) (λ l d at_d.
+    let x = At-mapped (ending (ends_by i core)) (moves.removal_told w i y name gone left).circuits l d at_d in
+    let c = At-mapped (removed_at i y.core name gone left) w.circuits l x.0 x.1 in
+    let down : d.lists.down ≡ (removed_at i y.core name gone left c.0).lists.down = ap (λ (z : Joined). z.lists.down) x.2 ∙ ended-down (ends_by i core) x.0 ∙ ap (λ (z : Joined). z.lists.down) c.2 in
+    λ m n t u a b. one l c.0 c.1 m n t u (subst (λ (z : List Told). At z m t) down a) (subst (λ (z : List Told). At z n u) down b))
+  where
+    one : (l : ℕ) (c : Joined) → At w.circuits l c → AreRemovedOnce (removed_at i y.core name gone left c).lists
+    one l c on = go (eqb c.server i && c.lists.server_open) refl
+      where
+        gone_of : List (Handle × OpenChannel)
+        gone_of = disconnected_at name gone left c.at_server (under y.core.circuits c.at_server)
+
+        after : Joined
+        after = without_standing (λ (k : SubKey). list_any (λ (x : Handle × OpenChannel). eqb (wire_of x.0) k.sid) gone_of) (record c { lists = record c.lists { down = c.lists.down ++ map (removal_told c.creations) gone_of } })
+
+        here : c.server ≡ i → c.lists.server_open ≡ true → AreRemovedOnce after.lists
+        here mine opened =
+            let seat = h.stands.sound.seated.each l c on opened in
+            let same : seat.y ≡ y = At-one w.servers i seat.y y (subst (λ (k : ℕ). At w.servers k seat.y) mine seat.at) at in
+            let had : HasEnd y.core c.at_server seat.e = subst (λ (z : ServerSide). HasEnd z.core c.at_server seat.e) same seat.has in
+            let p = ends l c seat.y seat.e on seat.at opened seat.has in
+            gone-once name gone left seat.e c after p.0 p.3 (ap (λ (o : Option ServerCircuit). c.lists.down ++ map (removal_told c.creations) (disconnected_at name gone left c.at_server o)) had) (all l c on)
+
+        go : (b : Bool) → eqb c.server i && c.lists.server_open ≡ b → AreRemovedOnce (cond b after c).lists
+        go false other = all l c on
+        go true both = (let b = and-both (eqb c.server i) c.lists.server_open both in here (eqb-true c.server i b.0) b.1)
+
+-- ---- other events
+
+-- each SERVER_DISCONN was there
+abbrev WereThere : (w new : World) → Type 0
+WereThere w new = (l : ℕ) (d : Joined) → At new.circuits l d → (c : Joined) × At w.circuits l c × ((i : ℕ) (t : Told) → At d.lists.down i t → t.cause ≡ Removal → At c.lists.down i t)
+
+were-once : (w new : World) → WereThere w new → AllRemovedOnce w → AllRemovedOnce new
+were-once w new were all l d at i j t u a b same rt ru = (let c = were l d at in all l c.0 c.1 i j t u (c.2 i t a rt) (c.2 j u b ru) same rt ru)
+
+back-were : (R : Type 0) (w new : World) → (R → ⊥) → Back R w new → WereThere w new
+back-were R w new none back l d at =
+    let c = back l d at in
+    (c.0, c.1, λ i t told removal. elim (c.2.told i t told) [ inl old ↦ old | inr more ↦ elim more.2 [ inl r ↦ absurd (none r) | inr other ↦ absurd (other removal) ] ])
+
+frame-were : (w new : World) → Frame w new → WereThere w new
+frame-were w new g l d at = (let c = g.back l d at in (c.0, c.1, λ i t told removal. subst (λ (z : List Told). At z i t) c.2.down told))
+
+did-were : (w new : World) (k : ℕ) (j : Joined) (y : ServerSide) → At w.circuits k j → StepHandles w k j y new → WereThere w new
+did-were w new k j y on f = subst (λ (z : World). WereThere w z) (sym f.leaves) (go (slice_get after.circuits k) refl)
+  where
+    mid : World
+    mid = acted k j y (f.steps.0).action w
+
+    after : World
+    after = server_after j.server (side_of j.server y mid) (ends_by j.server f.core) f.core mid
+
+    step : Step
+    step = record { sent = length j.lists.down; logged = server.logged y w; after = server.logged y after }
+
+    still : WereThere w after
+    still = back-were ⊥ w after (λ r. r) (back-after ⊥ w mid j.server (side_of j.server y mid) (ends_by j.server f.core) f.core (acted-back ⊥ w k j y (f.steps.0).action on))
+
+    go : (o : Option Joined) → slice_get after.circuits k ≡ o → WereThere w (unwrap_or (option_map (λ (c : Joined). with_circuit k (handled_at (length j.lists.handled) step (f.steps.0).replies c) after) o) after)
+    go None is = still
+    go (Some c) is = λ l d at. elim (At-set after.circuits k (handled_at (length j.lists.handled) step (f.steps.0).replies c) l d at) [
+      | inl own ↦
+          let b = still l c (subst (λ (m : ℕ). At after.circuits m c) (sym own.0) is) in (
+            b.0,
+            b.1,
+            λ i t told removal. elim (At-parts c.lists.down (about (length j.lists.handled) Reply (f.steps.0).replies) i t (subst (λ (z : Joined). At z.lists.down i t) own.1 told)) [
+              | inl old ↦ b.2 i t old removal
+              | inr last ↦ absurd (replies-none (length j.lists.handled) (f.steps.0).replies t (last.0, last.2) removal)
+            ],
+          )
+      | inr old ↦ still l d old.0
+    ]
+
+step-once : (w new : World) (k : ℕ) → Happens w (event.ServerStep k) new → AllRemovedOnce w → AllRemovedOnce new
+step-once w new k (at, (did, f)) all = elim (handled-or did) [
+  | inl is ↦ were-once w new (did-were w new k at.j at.y at.joins.at (subst (λ (x : Stepped). ServerStepped w k at.j at.y x new) is f)) all
+  | inr other ↦ were-once w new (back-were ⊥ w new (λ r. r) (unhandled-back ⊥ w new k at.j at.y did at.joins.at other f)) all
+]
+
+-- a circuit is made, on which nothing was told
+accept-once : (w new : World) (i : ℕ) (x : ClientSide) (v : WantsFirst w x) → HappensAccept w i x v new → AllRemovedOnce w → AllRemovedOnce new
+accept-once w new i x v f all = elim f.leaves [
+  | inl full ↦ subst (λ (z : World). AllRemovedOnce z) (sym full.1) all
+  | inr made ↦
+      let c : Joined = connected_as made.1 (new_circuit i x v.v.circuit v.i v.y made.0) in
+      let mid : World = record w { servers = slice_set w.servers v.i (record v.y { core = f.server }); circuits = w.circuits ++ c ∷ [] } in
+      let g : Frame mid new = sent-frame mid new i x.names made.2 (ap (λ (z : World). z.servers) made.6) (ap (λ (z : World). z.server_logs) made.6) (ap (λ (z : World). z.circuits) made.6) in
+      were-once mid new (frame-were mid new g) (λ l d at. elim (At-snoc w.circuits c l d at) [
+        | inl old ↦ all l d old
+        | inr last ↦ (λ m n t u a. absurd (none_at m t (subst (λ (z : List Told). At z m t) (ap (λ (z : Joined). z.lists.down) last.1 ∙ nothing made.1 made.0) a)))
+      ])
+]
+  where
+    nothing : (o : Option Closing) (g : Handle) → (connected_as o (new_circuit i x v.v.circuit v.i v.y g)).lists.down ≡ []
+    nothing None g = refl
+    nothing (Some k) g = refl
+
+removes-or : (e : Event) → (Removes e → ⊥) ⊎ ((i : ℕ) × (name : List ℕ) × (e ≡ event.Remove i name))
+removes-or (event.Remove i name) = inr (i, name, refl)
+removes-or e = inl (λ r. r)
+
+-- ---- every event and run
+
+event-once : (s : Setting) (w new : World) (e : Event) → ServersStand s w → AllEnds RemovedOn w → Happens w e new → AllRemovedOnce w → AllRemovedOnce new
+event-once s w new e h ends happens all =
+    event-or (AllRemovedOnce new) s w new e h happens
+    (λ back. elim (removes-or e) [
+      | inl none ↦ were-once w new (back-were (Removes e) w new none back) all
+      | inr remove ↦ (let r : Happens w (event.Remove remove.0 remove.1) new = subst (λ (x : Event). Happens w x new) remove.2 happens in remove-once s w new remove.0 r.0.y remove.1 h ends r.0.at r.1 all)
+    ])
+    (λ k is steps. step-once w new k steps all) (λ i is accepts. accept-once w new i accepts.0.x accepts.0.v accepts.1 all)
+
+events-once : (s : Setting) (es : List Event) (w new : World) → IsSetting s → FoldsTo Happens w es new → ServersStand s w → AllEnds RemovedOn w → AllRemovedOnce w → AllRemovedOnce new
+events-once s [] w new ok same h ends all = subst (λ (z : World). AllRemovedOnce z) same all
+events-once s (e ∷ es) w new ok (mid, one, rest) h ends all =
+    events-once s es mid new ok rest (event-serves s w mid e ok one h) (event-lasts RemovedOn removed-lasting removed-begun removed-handled s w mid e (takes-next s w h) one h.stands.sound ends)
+    (event-once s w mid e h ends one all)
+
+stops-once : (mid : World) (stopped : Option Event) (w : World) → StopsAt mid stopped w → AllRemovedOnce mid → AllRemovedOnce w
+stops-once mid (Some (event.Tick moment)) w stops all = elim stops [
+  | inl same ↦ subst (λ (z : World). AllRemovedOnce z) (sym same) all
+  | inr ticked ↦ were-once mid w (frame-were mid w (ticks-frame moment mid (clients_below ticked.0) w ticked.3)) all
+]
+stops-once mid stopped w stops all = subst (λ (z : World). AllRemovedOnce z) (sym stops) all
+
+pub run-once : (s : Setting) (es : List Event) (stopped : Option Event) (w : World) → IsSetting s → Runs s es stopped w → AllRemovedOnce w
+run-once s es stopped w ok (mid, folds, stops) =
+    stops-once mid stopped w stops
+    (events-once s es (opening s) mid ok folds (opening-serves s ok) (opening-lasts RemovedOn removed-lasting s) (λ n c at. absurd (none_at n c at)))
+
+pub run-removed-once : (s : Setting) (es : List Event) (stopped : Option Event) (w : World) → IsSetting s → Runs s es stopped w → ChannelsAreRemovedOnce w
+run-removed-once s es stopped w ok runs n d at =
+    let j = At-mapped circuit_of w.circuits n d at in
+    let l = run-server-steps s es stopped w ok runs n d at in
+    (l.0, l.1, l.2, subst (λ (c : Circuit). AreRemovedOnce c) (sym j.2) (run-once s es stopped w ok runs n j.0 j.1))
