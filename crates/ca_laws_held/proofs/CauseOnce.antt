@@ -1,6 +1,6 @@
 -- Over every event and run no two SERVER_DISCONNs are about one channel: it is retired with the first.
 use Rattle.std.proofs.Common.{◌≡◌, ℕ, zero, suc, ◌+◌, ◌<◌, ◌≤◌, ◌⊎◌, inl, inr, Bool, true, false, cond, ◌&&◌, ◌||◌, eqb, eqb-true, not, List, [], ◌∷◌, ◌++◌, length, Option, Some, None, refl, sym, ap, subst, ◌∙◌, arith}
-use Rattle.std.specs.Prelude.{filter, is_some, map, option_map, slice_get, slice_set, take, unwrap_or}
+use Rattle.std.specs.Prelude.{filter, map, option_map, slice_get, slice_set, unwrap_or}
 use Rattle.std.specs.List.{FoldsTo, fold, list_any}
 use Rattle.std.specs.Str.{bytes_eq}
 use Rattle.ca_arena.specs.declared.handle.Handle.{Handle}
@@ -9,16 +9,15 @@ use Rattle.ca_ids.specs.Wire.{wire_of}
 use Rattle.ca_model_client.proofs.Tables.{AreApart, freed-back, given-fresh, held-apart, held-back, held-under, one-by-wire, one-value}
 use Rattle.ca_queue.specs.declared.entry.SubKey.{SubKey}
 use Rattle.ca_text.specs.Place.{At}
-use Rattle.ca_text.proofs.Places.{some_is, At-mapped, At-one, At-parts, At-set, At-snoc, At-within}
+use Rattle.ca_text.proofs.Places.{some_is, At-mapped, At-one, At-parts, At-set, At-snoc}
 use Rattle.ca_wire.specs.Fields.{Fields}
 use Rattle.ca_model.specs.Answers.{Closing}
 use Rattle.ca_model.specs.Due.{Action, Adds, Applies, Clears, Drops, Due, KnownChannel, Opens, Switches}
 use Rattle.ca_model.specs.Due as action
-use Rattle.ca_model.specs.History.{Cause, Circuit, Entry, Line, Removal, Reply, Sent, Step, Told}
+use Rattle.ca_model.specs.History.{Circuit, Removal, Reply, Step, Told}
 use Rattle.ca_model.specs.Server.{Open, OpenChannel, Server, ServerCircuit, ServerEnd, concerns, key_of}
 use Rattle.ca_model.specs.ServerCalls.{channels_of, end_without, retired}
-use Rattle.ca_model.specs.ServerSteps.{Acts, HasEnd, Leaves, Stepped, Update, knows, without_channel}
-use Rattle.ca_model.specs.ServerSteps as stepped
+use Rattle.ca_model.specs.ServerSteps.{Acts, HasEnd, Leaves, Stepped, Update, without_channel}
 use Rattle.ca_model.specs.Speech.{In}
 use Rattle.ca_model_world.specs.ClientEvents.{HappensAccept, WantsFirst, connected_as, new_circuit}
 use Rattle.ca_model_world.specs.Events.{Event}
