@@ -330,7 +330,7 @@ fronts ss qs n h = go (slice_get qs n) refl
     go None is removal = no-removal removal
     go (Some q) is removal = lead q is (front q.waiting) refl removal
 
-stamps-update : (us : List Update) (ss : List Standing) (j : Joined) → HaveNumbers ss j.queues → (t : Told) → In (stamped_told us j) t → t.cause ≡ Removal → ⊥
+pub stamps-update : (us : List Update) (ss : List Standing) (j : Joined) → HaveNumbers ss j.queues → (t : Told) → In (stamped_told us j) t → t.cause ≡ Removal → ⊥
 stamps-update [] ss j numbers t there = absurd (none_at there.0 t there.1)
 stamps-update (u ∷ us) ss j numbers t there = go there.0 there.1 (λ later. stamps-update us ss next (one-taken ss j.queues u.queue numbers) t later)
   where
@@ -348,7 +348,7 @@ stamps-update (u ∷ us) ss j numbers t there = go there.0 there.1 (λ later. st
     go (suc k) at more removal = more (k, at) removal
 
 -- a circuit whose updates went down
-stamped-is : (us : List Update) (j : Joined) → (stamped us j).lists ≡ record j.lists { down = j.lists.down ++ stamped_told us j }
+pub stamped-is : (us : List Update) (j : Joined) → (stamped us j).lists ≡ record j.lists { down = j.lists.down ++ stamped_told us j }
 stamped-is [] j = sym (ap (λ (l : List Told). let c : Circuit = record j.lists { down = l } in c) (append-nil j.lists.down))
 stamped-is (u ∷ us) j =
     let item : ℕ × Cause = unwrap_or (front_number j.queues u.queue) (0, Reply) in

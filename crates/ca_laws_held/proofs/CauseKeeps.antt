@@ -97,7 +97,7 @@ module _ (w new : World) (k : ℕ) (j : Joined) (y : ServerSide) (on : At w.circ
         | inr old ↦ still l d old.0
       ]
 
-handled-or : (did : Stepped) → (did ≡ stepped.Handled) ⊎ (did ≡ stepped.Handled → ⊥)
+pub handled-or : (did : Stepped) → (did ≡ stepped.Handled) ⊎ (did ≡ stepped.Handled → ⊥)
 handled-or stepped.Handled = inl refl
 handled-or stepped.NeedBytes = inr (λ e. cc)
 handled-or stepped.OutputFull = inr (λ e. cc)

@@ -61,3 +61,4 @@ pub mod OnceSent
 pub mod OnceSentServers
 pub mod OnceSentClients
 pub mod OnceSentRuns
+pub mod CauseOnce

@@ -2,7 +2,7 @@ ghost use Rattle.std.specs.Prelude.{List, Option};
 ghost use Rattle.ca_model_world.specs.Events.{Event};
 ghost use Rattle.ca_model_world.specs.Runs.{Runs};
 ghost use Rattle.ca_model_world.specs.World.{IsSetting, Setting, World};
-ghost use Rattle.ca_laws_held.specs.Causes.{MessagesComeAfter};
+ghost use Rattle.ca_laws_held.specs.Causes.{ChannelsAreRemovedOnce, MessagesComeAfter};
 
 /// After every run from a well-formed setting each message of a server, on each circuit, was sent in
 /// the step that handled the message that it is about, or after that step: replies, late replies to
@@ -11,4 +11,12 @@ ghost use Rattle.ca_laws_held.specs.Causes.{MessagesComeAfter};
 pub fn messages_come_after_what_they_are_about()
     ensures { (s : Setting) (es : List Event) (stopped : Option Event) (w : World) → IsSetting s
         → Runs s es stopped w → MessagesComeAfter w }
+{}
+
+/// After every run from a well-formed setting no two SERVER_DISCONNs on a circuit are about one
+/// message of its client, and so no channel has two: this is `removed` of the statement's clause
+/// `AnswersOwn`. It holds also of what an end sent that has ended.
+pub fn channels_are_removed_once()
+    ensures { (s : Setting) (es : List Event) (stopped : Option Event) (w : World) → IsSetting s
+        → Runs s es stopped w → ChannelsAreRemovedOnce w }
 {}

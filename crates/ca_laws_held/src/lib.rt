@@ -12,7 +12,7 @@ mod order_laws;
 mod sid_laws;
 mod step_laws;
 
-pub use cause_laws::messages_come_after_what_they_are_about;
+pub use cause_laws::{channels_are_removed_once, messages_come_after_what_they_are_about};
 pub use heard_laws::{
     each_notice_tells_of_its_own_message, what_is_held_by_what_servers_take,
     what_is_read_is_about_what_it_finds, what_was_sent_is_as_channels_are,
