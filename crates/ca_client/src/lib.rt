@@ -4,7 +4,6 @@
 mod answer;
 mod ask;
 mod caller;
-mod calls;
 mod desk;
 mod filling;
 mod issuing;
