@@ -135,7 +135,7 @@ impl Desk {
         ensures rest { self.new
             ≡ with_state (with_core self.new.state.core self.old.state) self.old }
     {
-        self.state.core.open(name, priority, now)
+        self.state.open(name, priority, now)
     }
 
     /// Writes a value with no answer, as `ClientCore::write`.
@@ -151,7 +151,7 @@ impl Desk {
         ensures rest { self.new
             ≡ with_state (with_core self.new.state.core self.old.state) self.old }
     {
-        self.state.core.write(channel, value)
+        self.state.write(channel, value)
     }
 
     /// Subscribes to a channel, as `ClientCore::subscribe`.
@@ -174,7 +174,7 @@ impl Desk {
         ensures rest { self.new
             ≡ with_state (with_core self.new.state.core self.old.state) self.old }
     {
-        self.state.core.subscribe(channel, data_type, count, mask)
+        self.state.subscribe(channel, data_type, count, mask)
     }
 
     /// Cancels a subscription, as `ClientCore::unsubscribe`.
@@ -189,7 +189,7 @@ impl Desk {
         ensures rest { self.new
             ≡ with_state (with_core self.new.state.core self.old.state) self.old }
     {
-        self.state.core.unsubscribe(subscription)
+        self.state.unsubscribe(subscription)
     }
 
     /// Takes a datagram, as `ClientCore::datagram`.
@@ -204,7 +204,7 @@ impl Desk {
         ensures rest { self.new
             ≡ with_state (with_core self.new.state.core self.old.state) self.old }
     {
-        self.state.core.datagram(now, from, bytes)
+        self.state.datagram(now, from, bytes)
     }
 
     /// The circuits that are wanted and not connected, as `ClientCore::wanted`.
@@ -212,13 +212,13 @@ impl Desk {
         ensures ok { IfOk result (λ found. found.items ≡ client.wanted self.now.state.core) }
         ensures some { OnErr result (client.wanted self.now.state.core ≢ []) }
     {
-        self.state.core.wanted()
+        self.state.wanted()
     }
 
     /// Where a channel is, as `ClientCore::channel_state`.
     pub fn channel_state(&self, channel: Handle) -> Result<ChannelState, Refusal>
         ensures { stated result ≡ channels.channel_state self.now.state.core channel }
     {
-        self.state.core.channel_state(channel)
+        self.state.channel_state(channel)
     }
 }

@@ -4,6 +4,7 @@
 mod answer;
 mod ask;
 mod caller;
+mod calls;
 mod desk;
 mod filling;
 mod issuing;
