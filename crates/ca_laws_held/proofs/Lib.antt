@@ -62,3 +62,6 @@ pub mod OnceSentServers
 pub mod OnceSentClients
 pub mod OnceSentRuns
 pub mod CauseOnce
+pub mod OnceTold
+pub mod OnceHeard
+pub mod OnceOver
