@@ -65,3 +65,4 @@ pub mod CauseOnce
 pub mod OnceTold
 pub mod OnceHeard
 pub mod OnceOver
+pub mod OnceDone
