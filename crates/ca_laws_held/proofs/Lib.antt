@@ -66,3 +66,5 @@ pub mod OnceTold
 pub mod OnceHeard
 pub mod OnceOver
 pub mod OnceDone
+pub mod OnceNoticed
+pub mod OnceStill
