@@ -68,3 +68,5 @@ pub mod OnceOver
 pub mod OnceDone
 pub mod OnceNoticed
 pub mod OnceStill
+pub mod OnceNoticedClients
+pub mod OnceNoticedRuns

@@ -24,6 +24,23 @@ pub record ToldStand (w : World) : Type 0 where
 abbrev pub Still : World → World → Type 0
 Still w new = (new.clients ≡ w.clients) × (new.client_logs ≡ w.client_logs)
 
+-- Each client has a life of its own, whose log is there.
+pub record HaveLogs (w : World) : Type 0 where
+  pub there : (i : ℕ) (x : ClientSide) → At w.clients i x → (log : List Line) × At w.client_logs x.life log
+  pub apart : (i l : ℕ) (x y : ClientSide) → At w.clients i x → At w.clients l y → x.life ≡ y.life → i ≡ l
+
+pub have-logs : (w : World) → OnceStand w → HaveLogs w
+have-logs w s = record { there = s.there; apart = s.apart }
+
+pub still-logs : (w new : World) → Still w new → HaveLogs w → HaveLogs new
+still-logs w new still s = record {
+  there = λ i x at. (let t = s.there i x (was i x at) in (t.0, subst (λ (l : List (List Line)). At l x.life t.0) (sym still.1) t.1));
+  apart = λ i l x y at also e. s.apart i l x y (was i x at) (was l y also) e;
+}
+  where
+    was : (i : ℕ) (x : ClientSide) → At new.clients i x → At w.clients i x
+    was i x at = subst (λ (l : List ClientSide). At l i x) still.0 at
+
 pub told-same : (w new : World) → Still w new → ToldStand w → ToldStand new
 told-same w new still s = record {
   done = λ i x log p intent o at there line is. s.done i x log p intent o (was i x at) (old x.life log there) line is;
@@ -39,7 +56,7 @@ told-same w new still s = record {
 
 module _ (w new : World) (i : ℕ) (x z : ClientSide) (lines : List Line) (at_x : At w.clients i x)
     (clients : (l : ℕ) (y : ClientSide) → At new.clients l y → ((l ≡ i) × (y ≡ z)) ⊎ (At w.clients l y × (l ≡ i → ⊥)))
-    (life : z.life ≡ x.life) (logs : LogsAfter w.client_logs new.client_logs x.life lines) (tells : Tells x.names x.core lines z.names z.core) (known : OnceStand w) (s : ToldStand w) where
+    (life : z.life ≡ x.life) (logs : LogsAfter w.client_logs new.client_logs x.life lines) (tells : Tells x.names x.core lines z.names z.core) (known : HaveLogs w) (s : ToldStand w) where
   pub told-moved : ToldStand new
   told-moved = record {
     done = λ l y log p intent o at there line is. elim (clients l y at) [
@@ -81,20 +98,20 @@ module _ (w new : World) (i : ℕ) (x z : ClientSide) (lines : List Line) (at_x 
   }
 
 -- a call of client i
-pub told-called : (w : World) (i : ℕ) (x : ClientSide) (spoken : Names) (o : Outcomes) → At w.clients i x → Tells x.names x.core o.lines o.names o.core → OnceStand w → ToldStand w → ToldStand (client_after i x spoken o w)
+pub told-called : (w : World) (i : ℕ) (x : ClientSide) (spoken : Names) (o : Outcomes) → At w.clients i x → Tells x.names x.core o.lines o.names o.core → HaveLogs w → ToldStand w → ToldStand (client_after i x spoken o w)
 told-called w i x spoken o at tells known s =
     let z : ClientSide = record x { core = o.core; names = o.names } in
     let t = known.there i x at in
     told-moved w (client_after i x spoken o w) i x z o.lines at (λ l y there. At-set w.clients i z l y there) refl (logs-grown w.client_logs x.life o.lines t.0 t.1) tells known s
 
 -- a client's core alone changes
-pub told-core : (w new : World) (i : ℕ) (x z : ClientSide) → At w.clients i x → new.clients ≡ slice_set w.clients i z → z.life ≡ x.life → new.client_logs ≡ w.client_logs → Tells x.names x.core [] z.names z.core → OnceStand w → ToldStand w → ToldStand new
+pub told-core : (w new : World) (i : ℕ) (x z : ClientSide) → At w.clients i x → new.clients ≡ slice_set w.clients i z → z.life ≡ x.life → new.client_logs ≡ w.client_logs → Tells x.names x.core [] z.names z.core → HaveLogs w → ToldStand w → ToldStand new
 told-core w new i x z at clients life logs tells known s =
     told-moved w new i x z [] at (λ l y there. At-set w.clients i z l y (subst (λ (c : List ClientSide). At c l y) clients there)) life
     (subst (λ (v : List (List Line)). LogsAfter w.client_logs v x.life []) (sym logs) (logs-still w.client_logs x.life)) tells known s
 
 -- lines are logged that tell no outcome
-pub told-lines : (w : World) (i : ℕ) (x : ClientSide) (lines : List Line) → At w.clients i x → NoNotice lines → OnceStand w → ToldStand w → ToldStand (with_lines x.life lines w)
+pub told-lines : (w : World) (i : ℕ) (x : ClientSide) (lines : List Line) → At w.clients i x → NoNotice lines → HaveLogs w → ToldStand w → ToldStand (with_lines x.life lines w)
 told-lines w i x lines at none known s =
     let t = known.there i x at in
     told-moved w (with_lines x.life lines w) i x x lines at
