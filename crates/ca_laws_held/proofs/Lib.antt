@@ -62,3 +62,4 @@ pub mod OnceSentServers
 pub mod OnceSentClients
 pub mod OnceSentRuns
 pub mod CauseOnce
+pub mod LegalServers
