@@ -70,3 +70,4 @@ pub mod OnceNoticed
 pub mod OnceStill
 pub mod OnceNoticedClients
 pub mod OnceNoticedRuns
+pub mod LegalServers

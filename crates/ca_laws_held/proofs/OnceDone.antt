@@ -1,6 +1,6 @@
 -- A client's log tells of each read, put and subscription once: what it told of is over, and what a call or a step tells of was not.
-use Rattle.std.proofs.Common.{◌≡◌, ℕ, zero, suc, ◌+◌, ◌⊎◌, inl, inr, List, [], ◌∷◌, ◌++◌, length, Option, Some, None, refl, sym, ap, ◌∙◌, subst, arith}
-use Rattle.std.specs.Prelude.{find, map, option_map, unwrap_or}
+use Rattle.std.proofs.Common.{◌≡◌, ℕ, zero, suc, ◌⊎◌, inl, inr, List, [], ◌∷◌, Option, Some, None, refl, sym, ap, ◌∙◌, subst}
+use Rattle.std.specs.Prelude.{find, option_map, unwrap_or}
 use Rattle.ca_text.specs.Place.{At}
 use Rattle.ca_text.proofs.Places.{At-append, At-mapped, At-one, At-snoc, some_is}
 use Rattle.ca_text.specs.declared.status.Status.{Status}
@@ -9,7 +9,7 @@ use Rattle.ca_dbr.specs.declared.value.Outcome.{Outcome}
 use Rattle.ca_dbr.specs.Elements.{Elements}
 use Rattle.ca_ids.specs.Table.{MayGive, same_handle, under, with_held}
 use Rattle.ca_monitor.specs.Subscriptions.{Subscription}
-use Rattle.ca_requests.specs.Requests.{Asked, Request}
+use Rattle.ca_requests.specs.Requests.{Asked}
 use Rattle.ca_requests.specs.Calls.{new_request}
 use Rattle.ca_model.specs.Answers.{Notice, Sending}
 use Rattle.ca_model.specs.Answers as notice
@@ -327,10 +327,13 @@ tells-subscribed n x given was g d may sends intent lines none =
     tells-none n x lines (with_subscription g intent n) (sending sends z)
     (done-more n (with_subscription g intent n) x (sending sends z)
     (λ m e at over. (at, λ o. over (asks.opens e.0 o)))
-    (λ m e at over. (At-append n.subscriptions ((g, intent) ∷ []) m e at, λ o.
-    let s = once.stands-less z (sending sends z) (less-sending sends z) e.0 o in
-    elim (held-back x.subscriptions e.0 g d s.0 s.1) [
-      | inl own ↦ not-given x.subscriptions g may (subst (λ (v : Handle). WasGiven x.subscriptions v) own.0 (given m e at))
-      | inr old ↦ over (s.0, old, s.2)
-    ])))
+    (λ m e at over. (
+      At-append n.subscriptions ((g, intent) ∷ []) m e at,
+      λ o.
+          let s = once.stands-less z (sending sends z) (less-sending sends z) e.0 o in
+          elim (held-back x.subscriptions e.0 g d s.0 s.1) [
+            | inl own ↦ not-given x.subscriptions g may (subst (λ (v : Handle). WasGiven x.subscriptions v) own.0 (given m e at))
+            | inr old ↦ over (s.0, old, s.2)
+          ],
+    )))
     (asks.issued was) none

@@ -1,5 +1,5 @@
 -- What a message that a client reads makes of its requests and subscriptions, and what the client tells of them.
-use Rattle.std.proofs.Common.{◌≡◌, ℕ, zero, suc, inl, inr, Bool, true, false, cond, eqb, List, [], ◌∷◌, ◌++◌, Option, Some, None, refl, sym, ap, ◌∙◌, subst}
+use Rattle.std.proofs.Common.{◌≡◌, ℕ, zero, suc, inl, inr, Bool, true, false, cond, eqb, List, [], ◌∷◌, Option, Some, None, refl, sym, ap, ◌∙◌, subst}
 use Rattle.std.proofs.lemmas.Bool.{both_ways}
 use Rattle.ca_text.specs.Place.{At}
 use Rattle.ca_text.proofs.Places.{some_is}
@@ -26,7 +26,7 @@ use Rattle.ca_laws_circuit.proofs.Heard.{answered-is}
 use Rattle.ca_laws_circuit.proofs.Refused.{heard-is}
 use Rattle.ca_laws_held.proofs.OnceLess.{Less, less-itself}
 use Rattle.ca_laws_held.proofs.OnceMoved.{moved-heard}
-use Rattle.ca_laws_held.proofs.OnceTold.{Asks, IsOpenBy, StandsBy, TellsNone, Told, asks-all-freed, asks-freed, asks-over, asks-same, asks-sending, asks-then, over-back, stands-less, told-disconnected, told-one, told-still, told-then}
+use Rattle.ca_laws_held.proofs.OnceTold.{Asks, StandsBy, TellsNone, Told, asks-all-freed, asks-freed, asks-over, asks-same, asks-sending, asks-then, over-back, stands-less, told-disconnected, told-one, told-still, told-then}
 
 pub none-told : TellsNone []
 none-told = (λ i q o at. absurd (first i q o at), λ i g s at. absurd (second i g s at))

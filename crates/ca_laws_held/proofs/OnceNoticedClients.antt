@@ -1,11 +1,11 @@
 -- The events of clients keep that what a client's log tells of is over, and is told of once.
-use Rattle.std.proofs.Common.{◌≡◌, ℕ, zero, suc, ◌<◌, ◌+◌, inl, inr, Bool, true, false, cond, List, [], ◌∷◌, ◌++◌, length, Option, Some, None, refl, sym, ap, ◌∙◌, subst, arith}
+use Rattle.std.proofs.Common.{◌≡◌, ℕ, ◌<◌, ◌+◌, inl, inr, Bool, true, false, cond, List, [], ◌∷◌, ◌++◌, length, Option, Some, None, refl, sym, ap, subst, arith}
 use Rattle.std.specs.Prelude.{drop, is_none, map}
 use Rattle.std.specs.List.{FoldsTo}
 use Rattle.std.proofs.lemmas.Bool.{both_ways}
 use Rattle.ca_text.specs.Place.{At}
 use Rattle.ca_text.specs.declared.refusal.Refusal.{Refusal}
-use Rattle.ca_text.proofs.Places.{At-append, At-set, At-snoc, At-within}
+use Rattle.ca_text.proofs.Places.{At-set, At-snoc, At-within}
 use Rattle.ca_arena.specs.declared.handle.Handle.{Handle}
 use Rattle.ca_dbr.specs.declared.value.Outcome.{Outcome}
 use Rattle.ca_dbr.specs.Elements.{Elements}
@@ -13,25 +13,24 @@ use Rattle.ca_ids.specs.Table.{under}
 use Rattle.ca_requests.specs.Requests.{asks_on}
 use Rattle.ca_requests.specs.Requests as request
 use Rattle.ca_model.specs.Answers.{Closed, Closing, NeedBytes, Notice, Notices, Sending, Stepped, Ticked}
-use Rattle.ca_model.specs.Client.{Client, ClientCircuit, Clearing, Connecting, Connection, Creating, Doomed, Leaving, Live, On, Searching, Standing, connection_at, disconnections, ended, farewell, later, sending, standing_at}
-use Rattle.ca_model.specs.ClientCalls.{cancel_sent, cleared, clearing_sent, event_add_sent, new_subscription, opened, put_sent, read_sent, unsubscribed, write_sent}
-use Rattle.ca_model.specs.ClientEnds.{ConnectsOn, StepsOn, Ticking, after_taking, circuits_ticked, handed_over, searches_made, ticked}
+use Rattle.ca_model.specs.Client.{Client, ClientCircuit, Clearing, Connecting, Connection, Creating, Doomed, Leaving, Live, On, Searching, Standing, connection_at, ended, farewell, later, sending, standing_at}
+use Rattle.ca_model.specs.ClientCalls.{cancel_sent, clearing_sent, event_add_sent, new_subscription, opened, put_sent, read_sent, unsubscribed, write_sent}
+use Rattle.ca_model.specs.ClientEnds.{ConnectsOn, StepsOn, Ticking, after_taking, circuits_ticked, handed_over}
 use Rattle.ca_model.specs.Hears.{Effect}
 use Rattle.ca_model.specs.Ends.{Address}
 use Rattle.ca_model.specs.History.{Called, Intent, Line, Noticed, Step}
 use Rattle.ca_model.specs.History as history
-use Rattle.ca_model_world.specs.ClientEvents.{DownTaken, HappensAccept, HappensClear, HappensClientDatagram, HappensClientRestart, HappensClientStep, HappensCutClient, HappensDown, HappensHandingOut, HappensOpen, HappensRead, HappensSubscribe, HappensUnsubscribe, HappensUp, HappensWrite, HappensWriteNotify, Outcomes, TicksOne, WantsFirst, about_at, after_tick, cancelled, client_after, client_closed, client_ended, client_gone, client_stepped, connected_as, heard_in, lines_of, new_circuit, refused, told_by}
+use Rattle.ca_model_world.specs.ClientEvents.{DownTaken, HappensAccept, HappensClear, HappensClientDatagram, HappensClientRestart, HappensClientStep, HappensCutClient, HappensDown, HappensHandingOut, HappensOpen, HappensRead, HappensSubscribe, HappensUnsubscribe, HappensUp, HappensWrite, HappensWriteNotify, Outcomes, TicksOne, WantsFirst, about_at, after_tick, cancelled, client_after, client_closed, client_ended, client_stepped, connected_as, heard_in, lines_of, new_circuit, refused, told_by}
 use Rattle.ca_model_world.specs.World.{ClientSetting, ClientSide, Joined, Names, ServerSide, World, addresses, client_begun, log_length, with_circuit, with_client, with_server}
 use Rattle.ca_laws_circuit.specs.Held.{with_request, with_subscription}
 use Rattle.ca_laws_runs.specs.Clients.{ClientsStand}
 use Rattle.ca_laws_runs.proofs.ClientsMore.{unconnected-is, wanted-there}
-use Rattle.ca_laws_held.specs.Once.{IsAwaited}
 use Rattle.ca_laws_held.specs.Quiet.{ClientsQuiet, Tidy}
 use Rattle.ca_laws_held.proofs.HeardClients.{quiet-ticks}
 use Rattle.ca_laws_held.proofs.OnceCalls.{less-unsubscribed}
 use Rattle.ca_laws_held.proofs.OnceClients.{less-handed, ticks-one-once}
-use Rattle.ca_laws_held.proofs.OnceDone.{IsDone, NoNotice, Tells, called-no-notice, done-less, done-more, nothing-noticed, one-no-notice, tells-after, tells-issued, tells-none, tells-subscribed, tells-told}
-use Rattle.ca_laws_held.proofs.OnceHeard.{none-told, told-heard}
+use Rattle.ca_laws_held.proofs.OnceDone.{NoNotice, Tells, called-no-notice, done-less, done-more, one-no-notice, tells-after, tells-issued, tells-none, tells-subscribed, tells-told}
+use Rattle.ca_laws_held.proofs.OnceHeard.{told-heard}
 use Rattle.ca_laws_held.proofs.OnceLess.{less-on, less-same, less-sending, less-then}
 use Rattle.ca_laws_held.proofs.OnceNoticed.{HaveLogs, Still, ToldStand, have-logs, still-logs, told-called, told-core, told-lines, told-same}
 use Rattle.ca_laws_held.proofs.OnceOver.{connected-there, told-all-received, told-before, told-cleared, told-connected, told-ended, told-given, told-handed, told-ticked}
@@ -191,7 +190,7 @@ module _ (w new : World) (i : ℕ) (x : ClientSide) (at : At w.clients i x) (sta
         let st : Standing = clears.0 in
         let sends : List Sending = clearing_sent h st in
         let told : Told x.core did.0 did.2 =
-            subst (λ (v : List Notice × Client). Told x.core v.0 v.1) (λ k. (sym clears.2 k, sym clears.3.1 k)) (told-cleared x.core h (stands.sound i x at).placed.attached st clears.1) in
+        subst (λ (v : List Notice × Client). Told x.core v.0 v.1) (λ k. (sym clears.2 k, sym clears.3.1 k)) (told-cleared x.core h (stands.sound i x at).placed.attached st clears.1) in
         let o : Outcomes = record { core = did.2; names = x.names; lines = Called intent None ∷ lines; sent = did.1 } in
         subst (λ (v : World). ToldStand v) (sym did.4)
         (told-called w i x x.names o at

@@ -1,6 +1,6 @@
 -- After every run, what a client's log tells of is over, and it tells of each once.
-use Rattle.std.proofs.Common.{◌≡◌, ℕ, inl, inr, List, [], ◌∷◌, Option, Some, refl, sym, subst}
-use Rattle.std.specs.Prelude.{length, map}
+use Rattle.std.proofs.Common.{ℕ, inl, inr, List, [], ◌∷◌, Option, Some, refl, sym, subst}
+use Rattle.std.specs.Prelude.{length}
 use Rattle.std.specs.List.{FoldsTo}
 use Rattle.ca_text.specs.Place.{At}
 use Rattle.ca_text.proofs.Places.{At-mapped}

@@ -1,10 +1,9 @@
 -- What a client tells of requests and subscriptions as a circuit ends, a channel is cleared, a datagram comes or a moment is handed to it: each
 -- was open and is not any more, and it tells of each once.
-use Rattle.std.proofs.Common.{◌≡◌, ℕ, zero, suc, inl, inr, Bool, true, false, cond, List, [], ◌∷◌, ◌++◌, Option, Some, None, refl, sym, ap, ◌∙◌, subst}
+use Rattle.std.proofs.Common.{◌≡◌, ℕ, Bool, true, false, cond, List, [], ◌∷◌, ◌++◌, Option, Some, None, refl, sym, ap, ◌∙◌, subst}
 use Rattle.std.specs.Prelude.{◌==◌, Ok, filter, fold, is_some, length, map, not, option_and_then, option_map, unwrap_or}
 use Rattle.std.proofs.lemmas.Bool.{both_ways}
 use Rattle.std.proofs.lemmas.List.{append-nil}
-use Rattle.ca_text.specs.Place.{At}
 use Rattle.ca_text.proofs.Places.{At-mapped}
 use Rattle.ca_arena.specs.declared.handle.Handle.{Handle}
 use Rattle.ca_dbr.specs.declared.value.Outcome.{Outcome}
@@ -13,7 +12,6 @@ use Rattle.ca_link.specs.declared.keep.Keep.{Keep}
 use Rattle.ca_link.specs.declared.keep.Keep.TheVariants.{Close, Echo, Idle}
 use Rattle.ca_link.specs.Link.{kept, with_handed}
 use Rattle.ca_requests.specs.Requests.{Request, asks_on, was_sent_on}
-use Rattle.ca_requests.specs.Requests as request
 use Rattle.ca_monitor.specs.Subscriptions as monitor
 use Rattle.ca_search.specs.Searches as search
 use Rattle.ca_text.specs.declared.command.Command.TheVariants as command
@@ -36,7 +34,7 @@ use Rattle.ca_model_client.proofs.Tables.{all-freed-back, one-value}
 use Rattle.ca_model_world.specs.ClientEvents.{told_by}
 use Rattle.ca_laws_held.proofs.OnceCalls.{less-cleared}
 use Rattle.ca_laws_held.proofs.OnceHeard.{none-told, told-finds}
-use Rattle.ca_laws_held.proofs.OnceLess.{Less, less-ended, less-itself, less-on, less-same, less-sending, less-then}
+use Rattle.ca_laws_held.proofs.OnceLess.{Less, less-ended, less-itself, less-on, less-same, less-sending}
 use Rattle.ca_laws_held.proofs.OnceMoved.{moved-connected, moved-given, moved-received}
 use Rattle.ca_laws_held.proofs.OnceTold.{Asks, IsOpenBy, TellsNone, Told, asks-all-freed, asks-over, asks-same, asks-sending, asks-then, over-back, told-disconnected, told-still, told-then}
 

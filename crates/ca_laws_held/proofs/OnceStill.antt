@@ -1,5 +1,5 @@
 -- The events of a server leave the clients and their logs.
-use Rattle.std.proofs.Common.{◌≡◌, ℕ, inl, inr, Bool, List, Option, Some, None, refl, sym, subst}
+use Rattle.std.proofs.Common.{ℕ, inl, inr, Bool, List, Option, Some, None, refl, sym, subst}
 use Rattle.std.specs.Prelude.{option_map, slice_get, unwrap_or}
 use Rattle.ca_arena.specs.declared.handle.Handle.{Handle}
 use Rattle.ca_dbr.specs.Elements.{Elements}

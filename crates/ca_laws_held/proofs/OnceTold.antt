@@ -1,9 +1,9 @@
 -- What a client tells of requests and subscriptions as it reads a message: each was open and is not any more, and it tells of each once.
-use Rattle.std.proofs.Common.{◌≡◌, ℕ, zero, suc, inl, inr, Bool, true, false, ◌&&◌, cond, eqb, List, [], ◌∷◌, ◌++◌, length, ◌+◌, Option, Some, None, refl, sym, ap, ◌∙◌, subst, arith}
-use Rattle.std.specs.Prelude.{filter, map, option_map, unwrap_or}
+use Rattle.std.proofs.Common.{◌≡◌, ℕ, zero, suc, inl, inr, Bool, true, false, ◌&&◌, cond, List, [], ◌∷◌, ◌++◌, length, ◌+◌, Option, Some, None, refl, sym, ap, ◌∙◌, subst, arith}
+use Rattle.std.specs.Prelude.{filter, option_map, unwrap_or}
 use Rattle.std.proofs.lemmas.Bool.{and_parts, both_ways}
 use Rattle.ca_text.specs.Place.{At}
-use Rattle.ca_text.proofs.Places.{At-mapped, At-one, At-parts, some_is}
+use Rattle.ca_text.proofs.Places.{At-mapped, At-parts, some_is}
 use Rattle.ca_arena.specs.declared.handle.Handle.{Handle}
 use Rattle.ca_dbr.specs.declared.value.Outcome.{Outcome}
 use Rattle.ca_dbr.specs.declared.value.Outcome.TheVariants as outcome
@@ -12,17 +12,13 @@ use Rattle.ca_monitor.specs.Subscriptions.{Subscription, stands_in}
 use Rattle.ca_requests.specs.Requests.{Request, answered_by, asks_on, in_order_of_issue, is_open, is_open_in}
 use Rattle.ca_requests.specs.Requests as request
 use Rattle.ca_text.specs.declared.status.Status.{Status}
-use Rattle.ca_wire.specs.Fields.{Fields}
-use Rattle.ca_wire.specs.declared.header.Header.{Header}
 use Rattle.ca_model.specs.Answers.{Notice, Sending}
 use Rattle.ca_model.specs.Answers as notice
-use Rattle.ca_model.specs.Client.{Client, Connection, channel_on, disconnections, on_connection, sending, with_one_sent, with_requests}
-use Rattle.ca_model.specs.Hears.{Answers, Completes, Effect, any_failed, doing, heard_by, request_failed, subscription_failed, without_request, without_subscription}
-use Rattle.ca_model_client.proofs.Tables.{all-back, all-freed-back, freed-back, one-value}
-use Rattle.ca_laws_circuit.proofs.Heard.{answered-is}
+use Rattle.ca_model.specs.Client.{Client, disconnections, sending, with_one_sent, with_requests}
+use Rattle.ca_model.specs.Hears.{without_request}
+use Rattle.ca_model_client.proofs.Tables.{all-back, all-freed-back, freed-back}
 use Rattle.ca_laws_circuit.proofs.Marks.{at-filter}
-use Rattle.ca_laws_circuit.proofs.Refused.{heard-is}
-use Rattle.ca_laws_held.proofs.OnceLess.{Less, less-freed, less-itself, less-requests, less-sending, less-then}
+use Rattle.ca_laws_held.proofs.OnceLess.{Less}
 
 -- the request of this handle is open; the subscription stands
 abbrev pub IsOpenBy : Client → Handle → Type 0
