@@ -62,3 +62,5 @@ pub mod OnceSentServers
 pub mod OnceSentClients
 pub mod OnceSentRuns
 pub mod CauseOnce
+pub mod ToldGrows
+pub mod ToldLines
