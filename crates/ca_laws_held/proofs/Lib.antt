@@ -64,3 +64,8 @@ pub mod OnceSentRuns
 pub mod CauseOnce
 pub mod ToldGrows
 pub mod ToldLines
+pub mod ToldRemoval
+pub mod ToldUpdates
+pub mod ToldQuiet
+pub mod ToldSteps
+pub mod ToldRuns
