@@ -69,3 +69,12 @@ pub mod ToldUpdates
 pub mod ToldQuiet
 pub mod ToldSteps
 pub mod ToldRuns
+pub mod OnceTold
+pub mod OnceHeard
+pub mod OnceOver
+pub mod OnceDone
+pub mod OnceNoticed
+pub mod OnceStill
+pub mod OnceNoticedClients
+pub mod OnceNoticedRuns
+pub mod LegalServers

@@ -300,8 +300,7 @@ grown-map w new f clients lines entries circuits goes =
 
 pub grown-set : (w : World) (k : ℕ) (j d : Joined) → At w.circuits k j → GoesOn j d → Grown w (with_circuit k d w)
 grown-set w k j d on goes =
-    grown-by w (with_circuit k d w) refl (longer-self w.client_logs w.client_logs refl) (longer-self w.server_logs w.server_logs refl)
-    (
+    grown-by w (with_circuit k d w) refl (longer-self w.client_logs w.client_logs refl) (longer-self w.server_logs w.server_logs refl) (
       let e : length (slice_set w.circuits k d) ≡ length w.circuits = set-count w.circuits k d in omega (arith, e),
       λ n c at. elim (At-set w.circuits k d n c at) [
         | inl own ↦ (j, subst (λ (m : ℕ). At w.circuits m j) (sym own.0) on, subst (λ (z : Joined). GoesOn j z) (sym own.1) goes)
@@ -423,8 +422,7 @@ finish-grown w new i y name (inl f) =
     (grown-then w said (server_after i side (ends_by i f.core) f.core said)
     (grown-then w told said
     (grown-entries w told y.life (server.finish_entry f.p ∷ server.next_entries y f.r (server.first_of f.cr.waiting) (server.first_of f.r.waiting)) (next_numbers i y.core name f.cr.waiting) refl refl refl refl (on-next i y.core name f.cr.waiting))
-    (grown-by told said rest.0 (longer-self told.client_logs said.client_logs rest.1) (longer-self told.server_logs said.server_logs rest.2)
-    (
+    (grown-by told said rest.0 (longer-self told.client_logs said.client_logs rest.1) (longer-self told.server_logs said.server_logs rest.2) (
       replied-count f.p f.sent told,
       λ n d at.
           let c = replied-back f.p f.sent told n d at in (

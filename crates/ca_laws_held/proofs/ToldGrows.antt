@@ -1,11 +1,10 @@
 -- Over every event the logs of clients begin as they were, and each circuit is there still, with the lists that it had.
-use Rattle.std.proofs.Common.{◌≡◌, ℕ, ◌<◌, ◌≤◌, ◌⊎◌, inl, inr, Bool, true, false, List, [], ◌∷◌, ◌++◌, length, Option, Some, None, refl, sym, ap, subst, ◌∙◌, append-nil, arith}
+use Rattle.std.proofs.Common.{◌≡◌, ℕ, ◌<◌, ◌≤◌, inl, inr, Bool, true, false, List, [], ◌∷◌, ◌++◌, length, Option, Some, None, refl, sym, ap, subst, ◌∙◌, append-nil, arith}
 use Rattle.std.specs.Prelude.{option_map, slice_get, slice_set, unwrap_or}
 use Rattle.std.proofs.lemmas.Bool.{both_ways}
 use Rattle.ca_text.specs.Place.{At}
-use Rattle.ca_text.proofs.Places.{At-append, At-one, At-or, At-set, At-set-other, At-within}
-use Rattle.ca_wire.specs.Fields.{Fields}
-use Rattle.ca_model.specs.History.{Circuit, Line, Reply, Sent, Step, Told}
+use Rattle.ca_text.proofs.Places.{At-append, At-one, At-or, At-set-other, At-within}
+use Rattle.ca_model.specs.History.{Line, Reply, Sent, Step, Told}
 use Rattle.ca_model_world.specs.ClientEvents.{heard_in}
 use Rattle.ca_model_world.specs.Events.{Event}
 use Rattle.ca_model_world.specs.Events as event
@@ -15,7 +14,7 @@ use Rattle.ca_model_world.specs.World.{ClientSide, Joined, ServerSide, World, wi
 use Rattle.ca_laws_writes.proofs.Midway.{set-here}
 use Rattle.ca_laws_writes.proofs.Moves.{same-or}
 use Rattle.ca_laws_held.proofs.OrderGrows.{GoesOn, Grown, each-event, step-grown}
-use Rattle.ca_laws_held.proofs.OrderKeeps.{IsHearing, IsMade, begun-grown, begun-mid, did-after, did-grown, did-step, hear-grown, hear-mid, hear-step, hearing-or, made-or}
+use Rattle.ca_laws_held.proofs.OrderKeeps.{IsMade, begun-grown, begun-mid, did-after, did-grown, did-step, hear-grown, hear-mid, hear-step, hearing-or, made-or}
 
 -- The circuit is there still: it joins the same life of a client, what was sent and read was so before, and an end that has ended has.
 pub record Onward (c d : Joined) : Type 0 where

@@ -1,22 +1,20 @@
 -- Which lines an event adds to the logs of clients.
-use Rattle.std.proofs.Common.{◌≡◌, ℕ, zero, suc, ◌+◌, ◌<◌, ◌≤◌, ◌⊎◌, inl, inr, Bool, true, false, cond, List, [], ◌∷◌, ◌++◌, length, Option, Some, None, refl, sym, ap, subst, ◌∙◌, arith}
-use Rattle.std.specs.Prelude.{drop, map, option_map, slice_get, slice_set, unwrap_or}
+use Rattle.std.proofs.Common.{◌≡◌, ℕ, zero, suc, ◌+◌, ◌<◌, ◌⊎◌, inl, inr, Bool, true, false, cond, List, [], ◌∷◌, ◌++◌, length, Option, Some, None, refl, sym, ap, subst, ◌∙◌, arith}
+use Rattle.std.specs.Prelude.{drop, option_map, slice_get, unwrap_or}
 use Rattle.ca_arena.specs.declared.handle.Handle.{Handle}
-use Rattle.ca_dbr.specs.declared.value.Outcome.{Outcome}
 use Rattle.ca_text.specs.Place.{At}
-use Rattle.ca_text.proofs.Places.{At-one, At-or, At-parts, At-set, At-snoc, some_is}
-use Rattle.ca_wire.specs.Fields.{Fields}
+use Rattle.ca_text.proofs.Places.{At-or, At-parts, At-set, At-snoc, some_is}
 use Rattle.ca_model.specs.ClientEnds.{handed_over}
 use Rattle.ca_model.specs.Ends as why
-use Rattle.ca_model.specs.History.{Intent, Line, Noticed, Step, Updated}
+use Rattle.ca_model.specs.History.{Line, Noticed, Updated}
 use Rattle.ca_model.specs.ServerSteps.{Stepped}
 use Rattle.ca_model.specs.ServerSteps as stepped
-use Rattle.ca_model_world.specs.ClientEvents.{DownTaken, HappensDown, up_taken}
+use Rattle.ca_model_world.specs.ClientEvents.{DownTaken, up_taken}
 use Rattle.ca_model_world.specs.Events.{Event}
 use Rattle.ca_model_world.specs.Events as event
 use Rattle.ca_model_world.specs.Runs.{CanBe, Happens, Leaves}
-use Rattle.ca_model_world.specs.ServerEvents.{HappensFinish, HappensPost, HappensRemove, ServerStepped, StepHandles, handled_at, replied_at, server_after, unsaid}
-use Rattle.ca_model_world.specs.World.{ClientSide, Joined, PutPlace, ServerSide, World, grown, with_circuit, with_client}
+use Rattle.ca_model_world.specs.ServerEvents.{HappensFinish, ServerStepped, handled_at, unsaid}
+use Rattle.ca_model_world.specs.World.{ClientSide, Joined, ServerSide, World, grown, with_circuit, with_client}
 use Rattle.ca_laws_writes.proofs.Lists.{none_at}
 use Rattle.ca_laws_writes.specs.Moves.{finish_told}
 use Rattle.ca_laws_held.specs.OrderSteps.{HaveLives}

@@ -1,7 +1,6 @@
 -- Of all that clients are told, an update is told by a message that is one.
-use Rattle.std.proofs.Common.{◌≡◌, ◌≢◌, ℕ, zero, suc, ◌+◌, ◌<◌, ◌≤◌, ◌⊎◌, inl, inr, Bool, true, false, cond, eqb, List, [], ◌∷◌, ◌++◌, length, Option, Some, None, refl, sym, ap, subst, ◌∙◌, arith}
-use Rattle.std.specs.Prelude.{Ok, fold, map, option_map, unwrap_or}
-use Rattle.std.specs.List.{FoldsTo}
+use Rattle.std.proofs.Common.{◌≡◌, ◌≢◌, ℕ, zero, suc, inl, inr, Bool, true, false, cond, eqb, List, [], ◌∷◌, ◌++◌, length, Option, Some, None, refl, sym, ap, subst, ◌∙◌}
+use Rattle.std.specs.Prelude.{fold, map, option_map, unwrap_or}
 use Rattle.std.proofs.lemmas.Bool.{both_ways}
 use Rattle.ca_arena.specs.declared.handle.Handle.{Handle}
 use Rattle.ca_dbr.specs.declared.value.Outcome.{Outcome}
@@ -19,23 +18,23 @@ use Rattle.ca_wire.specs.declared.header.Header.{Header}
 use Rattle.ca_wire.specs.Fields.{Fields}
 use Rattle.ca_model.specs.Answers.{Closing, Notice}
 use Rattle.ca_model.specs.Answers as notice
-use Rattle.ca_model.specs.Client.{Client, ClientCircuit, Clearing, Connecting, Connection, Creating, Doomed, Leaving, Live, Phase, channel_on, channels_on, closing, connection_at, disconnections, farewell, is_live}
+use Rattle.ca_model.specs.Client.{Client, ClientCircuit, Clearing, Connecting, Connection, Creating, Doomed, Leaving, Live, Phase, channel_on, channels_on, connection_at, disconnections, farewell, is_live}
 use Rattle.ca_model.specs.ClientEnds.{ConnectsOn, StepsOn, Ticking, circuits_ticked, ticks, ticks_as}
 use Rattle.ca_model.specs.Hears.{Answers, Completes, Effect, Fails, Hears, Updates, any_failed, clear_answered, confirmed, created, failed, found_at, heard_by, left, request_failed, rights_told, searched_by, subscription_failed, write_failed}
 use Rattle.ca_model.specs.Hears as hears
-use Rattle.ca_model.specs.History.{Intent, Line, Noticed, OfCircuit, Updated}
+use Rattle.ca_model.specs.History.{Intent, Line, OfCircuit, Updated}
 use Rattle.ca_model.specs.Speech.{Is}
-use Rattle.ca_model_world.specs.ClientEvents.{TicksOne, line_of, lines_of, meant_by, told_by}
+use Rattle.ca_model_world.specs.ClientEvents.{TicksOne, line_of, lines_of, told_by}
 use Rattle.ca_model_world.specs.Events.{Event}
 use Rattle.ca_model_world.specs.Events as event
 use Rattle.ca_model_world.specs.Runs.{Happens, TicksAll, clients_below}
-use Rattle.ca_model_world.specs.World.{ClientSide, Joined, Names, World}
+use Rattle.ca_model_world.specs.World.{Names, World}
 use Rattle.ca_laws_writes.proofs.Lists.{none_at}
 use Rattle.ca_laws_held.specs.OrderSteps.{HaveLives}
 use Rattle.ca_laws_held.proofs.HeardTells.{silent-finds}
 use Rattle.ca_laws_held.proofs.OrderGrows.{ticks-grown}
 use Rattle.ca_laws_held.proofs.OrderKeeps.{lives-grown}
-use Rattle.ca_laws_held.proofs.ToldLines.{IsMute, IsSilent, LinesFrom, lines-all, lines-same, lines-then, mute-event}
+use Rattle.ca_laws_held.proofs.ToldLines.{IsSilent, LinesFrom, lines-all, lines-same, lines-then, mute-event}
 
 -- it tells an update
 abbrev pub is_update : Notice → Bool
@@ -52,7 +51,6 @@ no-notices p o at = absurd (none_at p o at)
 one-notice : (a : Notice) → is_update a ≡ false → NoUpdate (a ∷ [])
 one-notice a is zero o at = ap is_update (sym (some_is a o at)) ∙ is
 one-notice a is (suc p) o at = absurd cc
-
 
 both-notices : (xs ys : List Notice) → NoUpdate xs → NoUpdate ys → NoUpdate (xs ++ ys)
 both-notices xs ys a b p o at = elim (At-parts xs ys p o at) [ inl first ↦ a p o first | inr more ↦ b more.0 o more.2 ]
@@ -261,7 +259,6 @@ pub ticks-lines : (moment : ℕ) (w : World) (is : List ℕ) (new : World) → H
 ticks-lines moment w [] new lives same = lines-same NotUpdated w new (ap (λ (z : World). z.client_logs) (sym same))
 ticks-lines moment w (i ∷ is) new lives (mid, one, rest) =
     lines-then NotUpdated w mid new (tick-one moment w i mid lives one) (ticks-lines moment mid is new (lives-grown w mid (ticks-grown moment w (i ∷ []) mid (mid, one, refl)) lives) rest)
-
 
 first-not : (line : Line) (lines : List Line) → IsSilent line → ((p : ℕ) (other : Line) → At lines p other → NotUpdated other) → (p : ℕ) (other : Line) → At (line ∷ lines) p other → NotUpdated other
 first-not line lines silent rest zero other at = subst (λ (l : Line). NotUpdated l) (some_is line other at) (silent-not line silent)

@@ -1,5 +1,5 @@
 -- What a server tells for a removal is a SERVER_DISCONN about a CREATE_CHAN, over every event and run.
-use Rattle.std.proofs.Common.{◌≡◌, ℕ, ◌<◌, ◌⊎◌, inl, inr, Bool, true, false, cond, ◌&&◌, eqb, eqb-true, List, [], ◌∷◌, ◌++◌, length, Option, Some, None, refl, sym, ap, subst, ◌∙◌}
+use Rattle.std.proofs.Common.{◌≡◌, ℕ, inl, inr, Bool, true, false, cond, ◌&&◌, eqb, eqb-true, List, [], ◌∷◌, ◌++◌, Option, Some, None, refl, sym, ap, subst, ◌∙◌}
 use Rattle.std.specs.Prelude.{map, slice_set}
 use Rattle.std.specs.List.{FoldsTo, list_any}
 use Rattle.std.proofs.lemmas.Bool.{and_parts}
@@ -11,10 +11,10 @@ use Rattle.ca_text.specs.declared.command.Command.TheVariants as command
 use Rattle.ca_text.specs.Place.{At}
 use Rattle.ca_text.proofs.Places.{At-mapped, At-one, At-parts, At-snoc}
 use Rattle.ca_model.specs.Answers.{Closing}
-use Rattle.ca_model.specs.History.{Circuit, Removal, Sent, Told}
-use Rattle.ca_model.specs.Server.{Open, OpenChannel, ServerCircuit, ServerEnd}
+use Rattle.ca_model.specs.History.{Removal, Sent, Told}
+use Rattle.ca_model.specs.Server.{OpenChannel, ServerCircuit}
 use Rattle.ca_model.specs.ServerSteps.{HasEnd, Stepped}
-use Rattle.ca_model.specs.Speech.{In, Is}
+use Rattle.ca_model.specs.Speech.{Is}
 use Rattle.ca_model_world.specs.ClientEvents.{HappensAccept, WantsFirst, connected_as, new_circuit}
 use Rattle.ca_model_world.specs.Events.{Event}
 use Rattle.ca_model_world.specs.Events as event

@@ -1,6 +1,5 @@
 -- After every run each update that a client's log has was told when a message was read.
-use Rattle.std.proofs.Common.{◌≡◌, ℕ, suc, ◌⊎◌, inl, inr, List, [], ◌∷◌, ◌++◌, length, Option, Some, None, refl, sym, ap, subst, ◌∙◌}
-use Rattle.std.specs.Prelude.{map}
+use Rattle.std.proofs.Common.{◌≡◌, ℕ, suc, ◌⊎◌, inl, inr, List, [], ◌∷◌, ◌++◌, Option, Some, None, refl, sym, ap, subst}
 use Rattle.std.specs.List.{FoldsTo}
 use Rattle.ca_dbr.specs.declared.value.Outcome.{Outcome}
 use Rattle.ca_text.specs.Place.{At}
@@ -24,7 +23,7 @@ use Rattle.ca_laws_held.proofs.Joint.{are-snoc, folds-snoc, run-held, run-tells}
 use Rattle.ca_laws_held.proofs.Kept.{quiet-runs}
 use Rattle.ca_laws_held.proofs.OnceRuns.{once-runs}
 use Rattle.ca_laws_held.proofs.OrderGrows.{ticks-grown}
-use Rattle.ca_laws_held.proofs.OrderKeeps.{IsHearing, run-lives}
+use Rattle.ca_laws_held.proofs.OrderKeeps.{run-lives}
 use Rattle.ca_laws_held.proofs.Replied.{reached-answer}
 use Rattle.ca_laws_held.proofs.ToldGrows.{event-on, on-grown}
 use Rattle.ca_laws_held.proofs.ToldLines.{LinesFrom, lines-all, lines-same}

@@ -1,33 +1,26 @@
 -- An update that a client tells as it reads a message is one of its own, over every event and run.
-use Rattle.std.proofs.Common.{◌≡◌, ◌≢◌, ℕ, zero, suc, ◌+◌, ◌<◌, ◌≤◌, ◌⊎◌, inl, inr, Bool, true, false, cond, ◌&&◌, ◌||◌, List, [], ◌∷◌, ◌++◌, length, Option, Some, None, refl, sym, ap, subst, ◌∙◌, arith}
-use Rattle.std.specs.Prelude.{map, option_map, take, unwrap_or}
-use Rattle.std.specs.List.{FoldsTo}
+use Rattle.std.proofs.Common.{◌≡◌, ℕ, ◌+◌, ◌<◌, ◌≤◌, ◌⊎◌, inl, inr, Bool, true, false, cond, ◌&&◌, ◌||◌, List, [], ◌++◌, length, Option, Some, None, refl, sym, ap, subst, ◌∙◌, arith}
+use Rattle.std.specs.Prelude.{option_map, take, unwrap_or}
 use Rattle.std.proofs.lemmas.Bool.{both_ways}
 use Rattle.ca_arena.specs.declared.handle.Handle.{Handle}
-use Rattle.ca_dbr.specs.Elements.{Elements}
 use Rattle.ca_dbr.specs.declared.value.Outcome.{Outcome}
 use Rattle.ca_ids.specs.Table.{Table, same_handle, under}
 use Rattle.ca_link.specs.Link.{TakesFirst}
 use Rattle.ca_monitor.specs.Subscriptions.{Cancelled, Ended, Stage, Stands, Subscription, drains_in, stands_in}
 use Rattle.ca_requests.specs.Meaning.{Means}
-use Rattle.ca_text.specs.declared.command.Command.TheVariants as command
 use Rattle.ca_text.specs.Place.{At}
-use Rattle.ca_text.proofs.Places.{At-last, At-map, At-mapped, At-one, At-or, At-set, At-within, some_is}
+use Rattle.ca_text.proofs.Places.{At-last, At-mapped, At-one, At-or, At-within}
 use Rattle.ca_wire.specs.Fields.{Fields}
 use Rattle.ca_model.specs.Answers.{Notice, Sending}
 use Rattle.ca_model.specs.Answers as notice
 use Rattle.ca_model.specs.Client.{Channel, Client, Clearing, Connecting, Connection, Creating, Doomed, Leaving, Live, On, Phase, Searching, Standing, connection_at, is_on_in, phase_on}
 use Rattle.ca_model.specs.ClientEnds.{StepsOn, after_taking}
-use Rattle.ca_model.specs.Hears.{Effect, Hears, heard_by}
+use Rattle.ca_model.specs.Hears.{Hears}
 use Rattle.ca_model.specs.History.{Called, Cancel, Cause, Circuit, Clear, Intent, Line, Removal, Reply, Sent, Step, Subscribe, Told, Update, Updated}
 use Rattle.ca_model.specs.History as history
-use Rattle.ca_model.specs.Speech.{In, Is}
 use Rattle.ca_model_safe.specs.Channels.{IsHeld, Suits}
-use Rattle.ca_model_world.specs.ClientEvents.{about_at, client_stepped, heard_in, line_of, lines_of, channel_number, meant_by}
-use Rattle.ca_model_world.specs.Events.{Event}
-use Rattle.ca_model_world.specs.Events as event
-use Rattle.ca_model_world.specs.Runs.{AreEvents, Happens, Runs, StopsAt, clients_below}
-use Rattle.ca_model_world.specs.World.{ClientSide, IsSetting, Joined, Names, Setting, World, log_length, opening}
+use Rattle.ca_model_world.specs.ClientEvents.{about_at, heard_in, line_of, channel_number, meant_by}
+use Rattle.ca_model_world.specs.World.{ClientSide, Joined, World, log_length}
 use Rattle.ca_laws_bytes.specs.Runs.{HearsSent}
 use Rattle.ca_laws_bytes.specs.ServerFits.{AllCaused}
 use Rattle.ca_laws_circuit.specs.Held.{has_id, is_subscribed}
@@ -39,14 +32,12 @@ use Rattle.ca_laws_held.specs.Held.{AllCircuitsHeld}
 use Rattle.ca_laws_held.specs.OrderSteps.{HaveLives}
 use Rattle.ca_laws_held.specs.Quiet.{ClientsQuiet, Tidy}
 use Rattle.ca_laws_held.specs.Tells.{NoticesTell}
-use Rattle.ca_laws_held.specs.ToldLines.{UpdatesAreOwn}
 use Rattle.ca_laws_held.proofs.OnceCalls.{IsClearedBy, IsOverBy}
 use Rattle.ca_laws_held.proofs.OnceLess.{is_gone}
 use Rattle.ca_laws_held.proofs.OnceWorld.{OnceStand}
 use Rattle.ca_laws_held.proofs.OrderGrows.{GoesOn}
 use Rattle.ca_laws_held.proofs.OrderKeeps.{IsHearing, hear-grown, hear-lines, hear-mid, hear-step}
 use Rattle.ca_laws_held.proofs.Says.{subscribed-at}
-use Rattle.ca_laws_held.proofs.ToldGrows.{WorldsOn, event-on, on-grown}
 use Rattle.ca_laws_held.proofs.ToldLines.{lines-grown}
 use Rattle.ca_laws_held.proofs.ToldQuiet.{tells-update}
 use Rattle.ca_laws_held.proofs.ToldRemoval.{AllRemovals}

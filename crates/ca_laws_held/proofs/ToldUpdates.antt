@@ -1,15 +1,11 @@
 -- Each update that a client's log has was told when a message was read, over every event and run.
-use Rattle.std.proofs.Common.{◌≡◌, ◌≢◌, ℕ, zero, suc, ◌+◌, ◌<◌, ◌≤◌, ◌⊎◌, inl, inr, Bool, true, false, cond, eqb, List, [], ◌∷◌, ◌++◌, length, Option, Some, None, refl, sym, ap, subst, ◌∙◌, arith}
-use Rattle.std.specs.Prelude.{map, take}
-use Rattle.std.specs.List.{FoldsTo}
-use Rattle.std.proofs.lemmas.Bool.{both_ways}
-use Rattle.ca_arena.specs.declared.handle.Handle.{Handle}
+use Rattle.std.proofs.Common.{◌≡◌, ℕ, ◌<◌, ◌⊎◌, inl, inr, List, ◌++◌, length, sym, subst, ◌∙◌, arith}
+use Rattle.std.specs.Prelude.{take}
 use Rattle.ca_dbr.specs.declared.value.Outcome.{Outcome}
 use Rattle.ca_requests.specs.Meaning.{Means}
 use Rattle.ca_text.specs.Place.{At}
-use Rattle.ca_text.proofs.Places.{At-map, At-mapped, At-one, At-or, At-within}
-use Rattle.ca_wire.specs.Fields.{Fields}
-use Rattle.ca_model.specs.History.{Cause, Circuit, Intent, Line, Sent, Step, Told, Update, Updated}
+use Rattle.ca_text.proofs.Places.{At-map, At-one, At-within}
+use Rattle.ca_model.specs.History.{Cause, Intent, Line, Sent, Step, Told}
 use Rattle.ca_model_safe.specs.Channels.{IsHeld}
 use Rattle.ca_model_world.specs.World.{Joined, World, circuit_of, told}
 use Rattle.ca_laws_writes.proofs.Lists.{take-front}

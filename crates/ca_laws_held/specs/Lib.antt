@@ -14,3 +14,4 @@ pub mod Once
 pub mod OrderSteps
 pub mod Causes
 pub mod ToldLines
+pub mod LegalParts
