@@ -21,3 +21,7 @@ pub mod Standing
 pub mod Following
 pub mod Whole
 pub mod Joining
+pub mod CausingFrame
+pub mod CausingKeeps
+pub mod CausingStep
+pub mod CausingEvents
