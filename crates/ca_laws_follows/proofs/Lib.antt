@@ -25,3 +25,4 @@ pub mod CausingFrame
 pub mod CausingKeeps
 pub mod CausingStep
 pub mod CausingEvents
+pub mod CausingRuns
