@@ -1,36 +1,24 @@
 -- What each kind of event makes new on circuits has its causes.
-use Rattle.std.proofs.Common.{◌≡◌, ℕ, zero, suc, ◌+◌, ◌<◌, ◌≤◌, ◌⊎◌, inl, inr, Bool, true, false, cond, ◌&&◌, eqb, eqb-true, not, List, [], ◌∷◌, ◌++◌, length, Option, Some, None, refl, sym, ap, subst, ◌∙◌, arith}
-use Rattle.std.specs.Prelude.{Ok, Err, Result, filter, find, map, option_map, slice_get, take, unwrap_or}
-use Rattle.std.specs.List.{flat_map}
+use Rattle.std.proofs.Common.{◌≡◌, ℕ, zero, suc, ◌+◌, ◌<◌, ◌≤◌, inl, inr, Bool, true, false, ◌&&◌, eqb-true, not, List, [], ◌∷◌, ◌++◌, length, Option, Some, refl, sym, ap, subst, ◌∙◌, arith}
+use Rattle.std.specs.Prelude.{filter, map, take}
 use Rattle.std.specs.Str.{bytes_eq}
 use Rattle.std.proofs.lemmas.Slice.Eq.{bytes_eq-Decides}
 use Rattle.ca_arena.specs.declared.handle.Handle.{Handle}
-use Rattle.ca_dbr.specs.Elements.{Elements}
 use Rattle.ca_ids.specs.Table.{held, under}
 use Rattle.ca_ids.specs.Wire.{wire_of}
-use Rattle.ca_link.specs.Link.{with_rest}
-use Rattle.ca_records.specs.Puts.{Record, record_named}
-use Rattle.ca_text.specs.declared.command.Command.TheVariants as command
-use Rattle.ca_text.specs.declared.refusal.Refusal.{Refusal}
 use Rattle.ca_text.specs.Place.{At}
-use Rattle.ca_text.proofs.Places.{some_is, At-after, At-append, At-last, At-map, At-mapped, At-one, At-set, At-within}
-use Rattle.ca_wire.specs.declared.requests.Wanted.{Wanted}
+use Rattle.ca_text.proofs.Places.{some_is, At-after, At-append, At-map, At-mapped, At-one, At-within}
 use Rattle.ca_wire.specs.Fields.{Fields}
-use Rattle.ca_dbr.specs.declared.data_type.DataType.{DataType}
-use Rattle.ca_model.specs.Due.{Action}
 use Rattle.ca_model.specs.History.{Cause, Circuit, Entry, Removal, Removed, Reply, Sent, Step, Told, Update}
-use Rattle.ca_model.specs.Server.{Open, OpenChannel, Server, ServerCircuit, ServerEnd, Subscription}
+use Rattle.ca_model.specs.Server.{Open, OpenChannel, Server, ServerCircuit, ServerEnd}
 use Rattle.ca_model.specs.ServerCalls.{channels_of, finish_reply}
 use Rattle.ca_model.specs.ServerSteps.{HasEnd, Pumps}
-use Rattle.ca_model.specs.Speech.{Creates, In, Is, Stored, name_in}
-use Rattle.ca_model.specs.Updates.{update_in}
+use Rattle.ca_model.specs.Speech.{Creates, In, name_in}
 use Rattle.ca_model_safe.specs.Channels.{Created, Has, IsCleared}
 use Rattle.ca_model_safe.specs.Headline.{HasCause}
-use Rattle.ca_model_world.specs.Events as event
-use Rattle.ca_model_world.specs.Runs.{Happens}
 use Rattle.ca_model_world.specs.ServerEvents.{HappensPump, StepHandles, about, acted, disconnected_at, ends_at, ends_by, handled_at, noted, removal_entries, removal_told, server_after, side_of, stamped, withdrawals}
 use Rattle.ca_model_world.specs.ServerEvents as server
-use Rattle.ca_model_world.specs.World.{Creation, Joined, RecordSide, ServerSide, Setting, Standing, World, circuit_of, log_length, with_circuit}
+use Rattle.ca_model_world.specs.World.{Creation, Joined, RecordSide, ServerSide, Setting, Standing, World, circuit_of}
 use Rattle.ca_laws_kept.specs.Channels.{ChannelsOn, has_sid}
 use Rattle.ca_laws_kept.specs.Later.{IsLater, stamped_told}
 use Rattle.ca_laws_kept.proofs.Thins.{put-facts}
@@ -42,23 +30,18 @@ use Rattle.ca_laws_held.specs.OrderSteps.{ServerStepsAre}
 use Rattle.ca_laws_held.specs.Worlds.{ServersStand}
 use Rattle.ca_laws_held.proofs.CauseGrows as places
 use Rattle.ca_laws_held.proofs.CauseGrows.{disconnect-is}
-use Rattle.ca_laws_held.proofs.StepWhole.{takes-next}
-use Rattle.ca_laws_writes.specs.Lives.{IsPutOf}
 use Rattle.ca_laws_writes.specs.Moves as moves
 use Rattle.ca_laws_writes.specs.Seats.{HasSeat}
-use Rattle.ca_laws_writes.proofs.Events.{find-at, found}
+use Rattle.ca_laws_writes.proofs.Events.{find-at}
 use Rattle.ca_laws_writes.proofs.Lists.{In-kept}
 use Rattle.ca_laws_writes.proofs.Midway.{grown-here}
-use Rattle.ca_laws_writes.proofs.Moves.{same-or}
 use Rattle.ca_model_client.proofs.Tables.{held-under}
 use Rattle.ca_laws_follows.specs.Causing.{AllSources, IsTaken, SourcesOn}
 use Rattle.ca_laws_follows.specs.Entries.{title}
 use Rattle.ca_laws_follows.specs.Known.{IsOrigin, KnownOn}
-use Rattle.ca_laws_follows.specs.Sent.{SentOn}
 use Rattle.ca_laws_follows.proofs.Acting.{IsLonger, grown-back}
-use Rattle.ca_laws_follows.proofs.CausingFrame.{Back, FinishNews, News, Onward, PumpNews, RemoveNews, Says, StepNews, Stood, Takes}
+use Rattle.ca_laws_follows.proofs.CausingFrame.{Back, FinishNews, News, Onward, PumpNews, RemoveNews, Says, Takes}
 use Rattle.ca_laws_follows.proofs.CausingKeeps.{IsCausedBy, Steady, created-forth, sources-on}
-use Rattle.ca_laws_follows.proofs.CausingStep.{made-here, taken-here}
 use Rattle.ca_laws_follows.proofs.Known.{removed-in}
 use Rattle.ca_laws_follows.proofs.PostFollowing.{titled}
 use Rattle.ca_laws_follows.proofs.Whole.{FollowStand, LogsGrow, logs-there}
@@ -225,13 +208,18 @@ module _ (name : List ℕ) (gone : Handle → Bool) (left : Handle → ℕ) (log
     (p : SourcesOn log c) (logs : (more : List Entry) × (lg ≡ (log ++ removal_entries name rs) ++ more)) where
   removed-cause : (F : ℕ → News → Type 0) (l : ℕ) → Onward F l c d → ((m : ℕ) (h : Step) → F l (Takes m h) → ⊥) → (i : ℕ) (q : Handle × OpenChannel) → At (disconnected_at name gone left c.at_server (Some (Open e))) i q
       → (t : Told) → t ≡ removal_told c.creations q → HasCause d.lists lg t Removal
-  removed-cause F l on none i q at t is =
-      (u.0, x.1.sid, m.0, length log + removed.0, m.1.1,
-        subst (λ (k : ℕ). Created d.lists lg u.0 k x.1.sid m.0) (u.3 ∙ sym place) (created-forth c.lists d.lists log lg u.0 u.1.place x.1.sid m.0 on.lists longer (λ k h there. (steady.within k h there).logged) m.1),
-        at-removed,
-        uncleared,
-        subst (λ (k : ℕ). At d.lists.up k m.1.1) (u.3 ∙ sym place) (on.lists.up u.1.place m.1.1 m.1.7),
-        (ap (λ (z : Told). z.message.command) is, ap (λ (z : Told). z.message.p1) is ∙ sym cid))
+  removed-cause F l on none i q at t is = (
+    u.0,
+    x.1.sid,
+    m.0,
+    length log + removed.0,
+    m.1.1,
+    subst (λ (k : ℕ). Created d.lists lg u.0 k x.1.sid m.0) (u.3 ∙ sym place) (created-forth c.lists d.lists log lg u.0 u.1.place x.1.sid m.0 on.lists longer (λ k h there. (steady.within k h there).logged) m.1),
+    at-removed,
+    uncleared,
+    subst (λ (k : ℕ). At d.lists.up k m.1.1) (u.3 ∙ sym place) (on.lists.up u.1.place m.1.1 m.1.7),
+    (ap (λ (z : Told). z.message.command) is, ap (λ (z : Told). z.message.p1) is ∙ sym cid),
+  )
     where
       x : At (channels_of name e) i q × (x : Creation) × In c.creations x × (x.sid ≡ wire_of q.0) × ((removal_told c.creations q).place ≡ x.place)
       x = disconnect-is name gone left e c channels i q at

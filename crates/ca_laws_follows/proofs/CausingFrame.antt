@@ -1,6 +1,6 @@
 -- Over every event each circuit goes on; what is new on it is named: a message of its server, a subscription that stands, a step.
 use Rattle.std.proofs.Common.{◌≡◌, ℕ, ◌≤◌, ◌+◌, ◌⊎◌, inl, inr, Bool, true, false, cond, ◌&&◌, eqb, eqb-true, not, List, [], ◌∷◌, ◌++◌, length, Option, Some, None, refl, sym, ap, subst, ◌∙◌, arith}
-use Rattle.std.specs.Prelude.{drop, filter, map, option_map, slice_get, slice_set, unwrap_or}
+use Rattle.std.specs.Prelude.{drop, filter, map, option_map, slice_get, unwrap_or}
 use Rattle.std.specs.List.{fold, list_any}
 use Rattle.std.specs.Str.{bytes_eq}
 use Rattle.ca_arena.specs.declared.handle.Handle.{Handle}
@@ -31,14 +31,12 @@ use Rattle.ca_model_world.specs.ServerEvents as server
 use Rattle.ca_model_world.specs.World.{ClientSide, Joined, RecordSide, ServerSide, Standing, World, with_circuit}
 use Rattle.ca_laws_kept.specs.Later.{stamped_told}
 use Rattle.ca_laws_kept.proofs.Since.{stamped-parts}
-use Rattle.ca_laws_runs.proofs.Handled.{numbers-like}
 use Rattle.ca_laws_writes.specs.Moves.{finish_told, post_told}
 use Rattle.ca_laws_writes.specs.Moves as moves
 use Rattle.ca_laws_writes.proofs.Every.{ticks-frame}
 use Rattle.ca_laws_writes.proofs.Frames.{Frame}
 use Rattle.ca_laws_writes.proofs.HappensClient.{begun-frame, clear-frame, cut-frame, datagram-frame, handing-frame, hear-frame, open-frame, put-frame, read-frame, sent-frame, subscribe-frame, unsubscribe-frame, up-frame, write-frame}
 use Rattle.ca_laws_writes.proofs.Lasting.{told_late}
-use Rattle.ca_laws_writes.proofs.LastingStep.{replied-back}
 use Rattle.ca_laws_writes.proofs.Lists.{In-kept, In-snoc}
 use Rattle.ca_laws_follows.proofs.Acting.{Extends, extends-then}
 use Rattle.ca_laws_follows.proofs.Known.{extends-self, grows-le}

@@ -1,39 +1,49 @@
 -- What is known of the causes of a server's messages stays so as the lists of its circuit and the log of its life grow.
-use Rattle.std.proofs.Common.{◌≡◌, ℕ, ◌+◌, ◌<◌, ◌≤◌, ◌⊎◌, inl, inr, List, [], ◌∷◌, ◌++◌, length, sym, ap, subst, ◌∙◌, arith}
+use Rattle.std.proofs.Common.{◌≡◌, ℕ, ◌<◌, ◌≤◌, ◌⊎◌, inl, inr, List, length, sym, subst, arith}
 use Rattle.std.specs.Prelude.{take}
 use Rattle.ca_text.specs.Place.{At}
 use Rattle.ca_text.specs.declared.command.Command.TheVariants as command
 use Rattle.ca_text.proofs.Places.{At-append, At-one, At-within}
 use Rattle.ca_model.specs.History.{Circuit, Entry, Removal, Removed, Reply, Sent, Step, Told, Update}
-use Rattle.ca_model.specs.Speech.{Creates, In, Is, name_in, sid_in}
+use Rattle.ca_model.specs.Speech.{Creates, Is, name_in, sid_in}
 use Rattle.ca_model_safe.specs.Channels.{Created, Has, IsCleared, IsOpen, before}
 use Rattle.ca_model_safe.specs.Headline.{Acted, HasCause}
-use Rattle.ca_model_world.specs.World.{Joined, Standing}
+use Rattle.ca_model_world.specs.World.{Joined}
 use Rattle.ca_laws_writes.proofs.Moves.{At-below}
 use Rattle.ca_laws_follows.specs.Causing.{IsTaken, SourcesOn}
 use Rattle.ca_laws_follows.specs.Known.{IsWithin}
-use Rattle.ca_laws_follows.proofs.Acting.{Extends, Grows, IsLonger, grown-back, longer-taken, taken-back, taken-on}
+use Rattle.ca_laws_follows.proofs.Acting.{Extends, IsLonger, grown-back, longer-taken, taken-back, taken-on}
 use Rattle.ca_laws_follows.proofs.CausingFrame.{News, Onward, Says, Stood, Takes}
 
 -- ---- the record on which a message acted
 
 pub acted-forth : (c d : Circuit) (y z : List Entry) (k r : ℕ) (s : Sent) (h : Step) → Extends c d → IsLonger y z → At c.up k s → At c.handled k h → h.sent ≤ length c.down → h.logged ≤ length y → Acted c y k r → Acted d z k r
-acted-forth c d y z k r s h ext longer at_s at_h sent logged (s1, h1, i, l, at_s1, at_h1, is_open) =
-    (s, h, i, l, ext.up k s at_s, ext.handled k h at_h,
-      (
-        (
-          was.0.0, was.0.1, was.0.2,
-          taken-on h.sent c.down d.down ext.down i was.0.0 was.0.3,
-          was.0.4, was.0.5, was.0.6,
-          taken-on k c.up d.up ext.up l was.0.1 was.0.7,
-          taken-on k c.handled d.handled ext.handled l was.0.2 was.0.8,
-          subst (λ (x : List Entry). Has (take (was.0.2).logged x) r (name_in (was.0.1).message)) (sym (longer-taken h.logged y z longer logged)) was.0.9,
-        ),
-        λ m t lt at creates. was.1 m t lt (taken-back h.sent c.down d.down ext.down sent m t at) creates,
-        λ m q lt within at clears.
-            let g = At-below (take k d.handled) m within in
-            was.2 m q lt (At-within (take k c.handled) m g.0 (taken-back k c.handled d.handled ext.handled handled_le m g.0 g.1)) (taken-back k c.up d.up ext.up up_le m q at) clears,
-      ))
+acted-forth c d y z k r s h ext longer at_s at_h sent logged (s1, h1, i, l, at_s1, at_h1, is_open) = (
+  s,
+  h,
+  i,
+  l,
+  ext.up k s at_s,
+  ext.handled k h at_h,
+  (
+    (
+      was.0.0,
+      was.0.1,
+      was.0.2,
+      taken-on h.sent c.down d.down ext.down i was.0.0 was.0.3,
+      was.0.4,
+      was.0.5,
+      was.0.6,
+      taken-on k c.up d.up ext.up l was.0.1 was.0.7,
+      taken-on k c.handled d.handled ext.handled l was.0.2 was.0.8,
+      subst (λ (x : List Entry). Has (take (was.0.2).logged x) r (name_in (was.0.1).message)) (sym (longer-taken h.logged y z longer logged)) was.0.9,
+    ),
+    λ m t lt at creates. was.1 m t lt (taken-back h.sent c.down d.down ext.down sent m t at) creates,
+    λ m q lt within at clears.
+        let g = At-below (take k d.handled) m within in
+        was.2 m q lt (At-within (take k c.handled) m g.0 (taken-back k c.handled d.handled ext.handled handled_le m g.0 g.1)) (taken-back k c.up d.up ext.up up_le m q at) clears,
+  ),
+)
   where
     same_s : s1 ≡ s
     same_s = At-one c.up k s1 s at_s1 at_s
@@ -51,9 +61,18 @@ acted-forth c d y z k r s h ext longer at_s at_h sent logged (s1, h1, i, l, at_s
     handled_le = (let lt : k < length c.handled = At-within c.handled k h at_h in omega (arith, lt))
 
 pub created-forth : (c d : Circuit) (y z : List Entry) (j k sid r : ℕ) → Extends c d → IsLonger y z → ((m : ℕ) (h : Step) → At c.handled m h → h.logged ≤ length y) → Created c y j k sid r → Created d z j k sid r
-created-forth c d y z j k sid r ext longer within (t, s, h, at_t, place, cause, creates, at_s, at_h, has) =
-    (t, s, h, ext.down j t at_t, place, cause, creates, ext.up k s at_s, ext.handled k h at_h,
-      subst (λ (x : List Entry). Has x r (name_in s.message)) (sym (longer-taken h.logged y z longer (within k h at_h))) has)
+created-forth c d y z j k sid r ext longer within (t, s, h, at_t, place, cause, creates, at_s, at_h, has) = (
+  t,
+  s,
+  h,
+  ext.down j t at_t,
+  place,
+  cause,
+  creates,
+  ext.up k s at_s,
+  ext.handled k h at_h,
+  subst (λ (x : List Entry). Has x r (name_in s.message)) (sym (longer-taken h.logged y z longer (within k h at_h))) has,
+)
 
 -- ---- what is known of a circuit's steps
 
@@ -69,12 +88,18 @@ up-back log c d k h q steady ext at_h at_q =
 
 -- a SERVER_DISCONN keeps its cause
 pub removal-forth : (c d : Circuit) (y z : List Entry) (t : Told) → Steady y c → Extends c d → IsLonger y z → ((m : ℕ) (h : Step) → At d.handled m h → At c.handled m h ⊎ (length y ≤ h.logged)) → HasCause c y t Removal → HasCause d z t Removal
-removal-forth c d y z t steady ext longer steps (j, sid, r, e, s, created, removed, uncleared, at_s, disconnects) =
-    (j, sid, r, e, s,
-      created-forth c d y z j t.place sid r ext longer (λ m h at. (steady.within m h at).logged) created,
-      subst (λ (l : List Entry). At l e (Removed r)) (sym longer.1) (At-append y longer.0 e (Removed r) removed),
-      (λ (cleared : IsCleared d t.place sid e). still cleared),
-      ext.up t.place s at_s, disconnects)
+removal-forth c d y z t steady ext longer steps (j, sid, r, e, s, created, removed, uncleared, at_s, disconnects) = (
+  j,
+  sid,
+  r,
+  e,
+  s,
+  created-forth c d y z j t.place sid r ext longer (λ m h at. (steady.within m h at).logged) created,
+  subst (λ (l : List Entry). At l e (Removed r)) (sym longer.1) (At-append y longer.0 e (Removed r) removed),
+  (λ (cleared : IsCleared d t.place sid e). still cleared),
+  ext.up t.place s at_s,
+  disconnects,
+)
   where
     still : IsCleared d t.place sid e → ⊥
     still (l, q, h, lt, at_q, at_h, le, clears) = elim (steps l h at_h) [

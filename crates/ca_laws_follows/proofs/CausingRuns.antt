@@ -1,5 +1,5 @@
 -- Each message of a server has its cause, over every event and run.
-use Rattle.std.proofs.Common.{◌≡◌, ℕ, ◌<◌, ◌≤◌, ◌⊎◌, inl, inr, Bool, true, List, [], ◌∷◌, ◌++◌, length, Option, Some, None, refl, sym, ap, subst, ◌∙◌, arith}
+use Rattle.std.proofs.Common.{◌≡◌, ℕ, ◌≤◌, inl, inr, Bool, true, List, [], ◌∷◌, ◌++◌, length, Option, Some, None, refl, sym, ap, subst, ◌∙◌, arith}
 use Rattle.std.specs.Prelude.{Ok, Err, Result, filter, not, option_map, slice_get, slice_set, unwrap_or}
 use Rattle.std.specs.List.{FoldsTo}
 use Rattle.std.specs.Str.{bytes_eq}
@@ -11,20 +11,19 @@ use Rattle.ca_records.specs.Puts.{Record, record_named}
 use Rattle.ca_text.specs.declared.command.Command.TheVariants as command
 use Rattle.ca_text.specs.declared.refusal.Refusal.{Refusal}
 use Rattle.ca_text.specs.Place.{At}
-use Rattle.ca_text.proofs.Places.{At-last, At-map, At-mapped, At-one, At-set, At-snoc, At-within}
+use Rattle.ca_text.proofs.Places.{At-last, At-mapped, At-one, At-set, At-snoc}
 use Rattle.ca_wire.specs.declared.requests.Wanted.{Wanted}
 use Rattle.ca_wire.specs.Fields.{Fields}
 use Rattle.ca_model.specs.Answers.{Closing}
-use Rattle.ca_model.specs.Due.{Action, Due}
+use Rattle.ca_model.specs.Due.{Due}
 use Rattle.ca_model.specs.History.{Cause, Circuit, Entry, Line, On, Removal, Reply, Sent, Step, Subscribe, Told, Update}
 use Rattle.ca_model.specs.History as history
 use Rattle.ca_model.specs.Server.{Server, ServerEnd}
-use Rattle.ca_model.specs.ServerSteps.{HasEnd, Stepped, knows}
-use Rattle.ca_model.specs.ServerSteps as stepped
+use Rattle.ca_model.specs.ServerSteps.{Stepped, knows}
 use Rattle.ca_model.specs.Speech.{Creates, In, Is, Stored}
 use Rattle.ca_dbr.specs.Shown.{shown}
 use Rattle.ca_model.specs.Updates.{Shows, ShowsTo, update_count, update_in}
-use Rattle.ca_model_safe.specs.Channels.{Has, OfCircuits, Suits}
+use Rattle.ca_model_safe.specs.Channels.{Has, Suits}
 use Rattle.ca_model_safe.specs.Headline.{Accepted, HasCause}
 use Rattle.ca_model_world.specs.ClientEvents.{HappensAccept, WantsFirst, connected_as, new_circuit}
 use Rattle.ca_model_world.specs.Events.{Event}
@@ -32,9 +31,7 @@ use Rattle.ca_model_world.specs.Events as event
 use Rattle.ca_model_world.specs.Runs.{Happens, Runs, StopsAt, clients_below}
 use Rattle.ca_model_world.specs.ServerEvents.{HappensFinish, HappensRemove, ServerStepped, StepHandles, about, acted, ends_by, handled_at, noted, server_after, side_of}
 use Rattle.ca_model_world.specs.ServerEvents as server
-use Rattle.ca_model_world.specs.World.{ClientSide, IsSetting, Joined, RecordSide, ServerSide, Setting, Standing, World, circuit_of, log_length, opening, told, with_circuit}
-use Rattle.ca_laws_bytes.specs.Runs.{IsReached}
-use Rattle.ca_laws_held.specs.Worlds.{ServersStand}
+use Rattle.ca_model_world.specs.World.{ClientSide, IsSetting, Joined, RecordSide, ServerSide, Setting, Standing, World, circuit_of, opening, with_circuit}
 use Rattle.ca_laws_held.proofs.CauseGrows as places
 use Rattle.ca_laws_held.proofs.CauseKeeps.{handled-or, run-after}
 use Rattle.ca_laws_held.proofs.Created.{reached-created}
@@ -55,7 +52,7 @@ use Rattle.ca_laws_follows.specs.Causing.{AllSources, IsTaken, MessagesAreCaused
 use Rattle.ca_laws_follows.specs.Sent.{SentOn}
 use Rattle.ca_laws_follows.proofs.Acting.{IsLonger}
 use Rattle.ca_laws_follows.proofs.CausingEvents.{Nothing-new, Ready, back-sources, finish-causes, pump-causes, remove-causes, steady-of, still-causes}
-use Rattle.ca_laws_follows.proofs.CausingFrame.{Back, IsStill, News, Onward, RemoveNews, Says, StepNews, Stood, Takes, back-frame, back-same, finish-back, pump-back, removed-back, step-back, still-back, unhandled-back}
+use Rattle.ca_laws_follows.proofs.CausingFrame.{IsStill, News, Onward, RemoveNews, StepNews, back-frame, finish-back, pump-back, removed-back, step-back, still-back, unhandled-back}
 use Rattle.ca_laws_follows.proofs.CausingKeeps.{IsCausedBy, Steady, sources-on}
 use Rattle.ca_laws_follows.proofs.CausingStep.{made-here, taken-here}
 use Rattle.ca_laws_follows.proofs.Whole.{LogsGrow, folds-snoc, logs-grow, logs-there, run-stand}
@@ -165,9 +162,11 @@ module _ (s : Setting) (w new : World) (k : ℕ) (j : Joined) (y : ServerSide) (
     there name cr named =
         let life = ready.serves.stands.sound.writes.lives j.server y at_y in
         let g : Found (IsPutOf w.circuits j.server) life.log y.core.records y.records name cr = found (IsPutOf w.circuits j.server) life.log y.core.records y.records name cr life.life.each named in
-        let same : life.log ≡ log = At-one w.server_logs y.life life.log log life.at here in
-        (g.r.number, subst (λ (l : List Entry). Has l g.r.number name) same
-          (g.agrees.first, g.agrees.added, sym (ap (λ (z : _). z.name) g.agrees.state) ∙ g.agrees.name ∙ g.named, g.agrees.there))
+        let same : life.log ≡ log = At-one w.server_logs y.life life.log log life.at here in (
+          g.r.number,
+          subst (λ (l : List Entry). Has l g.r.number name) same
+              (g.agrees.first, g.agrees.added, sym (ap (λ (z : _). z.name) g.agrees.state) ∙ g.agrees.name ∙ g.named, g.agrees.there),
+        )
 
     steady : Steady log j.lists
     steady = steady-of s w ready k j log on logged
@@ -391,6 +390,10 @@ run-causes s es stopped w ok runs n d at =
     let j = At-mapped circuit_of w.circuits n d at in
     let l = run-server-steps s es stopped w ok runs n d at in
     let joins = l.2 in
-    let logged : At w.server_logs j.0.lists.server l.1 = subst (λ (c : Circuit). At w.server_logs c.server l.1) j.2 joins.2 in
-    (l.0, l.1, joins, subst (λ (c : Circuit). (i : ℕ) (t : Told) → At c.down i t → HasCause c l.1 t t.cause) (sym j.2)
-      (λ i t there. cause-of l.1 j.0 (λ k q up. (run-serves s es stopped w ok runs).stands.asked n k j.0 q j.1 up) (run-sources s es stopped w ok runs n j.0 l.1 j.1 logged) i t there))
+    let logged : At w.server_logs j.0.lists.server l.1 = subst (λ (c : Circuit). At w.server_logs c.server l.1) j.2 joins.2 in (
+      l.0,
+      l.1,
+      joins,
+      subst (λ (c : Circuit). (i : ℕ) (t : Told) → At c.down i t → HasCause c l.1 t t.cause × ((h : Step) × At c.handled t.place h × (h.sent ≤ i))) (sym j.2)
+          (λ i t there. (cause-of l.1 j.0 (λ k q up. (run-serves s es stopped w ok runs).stands.asked n k j.0 q j.1 up) (run-sources s es stopped w ok runs n j.0 l.1 j.1 logged) i t there, run-after s es stopped w ok runs n j.0 j.1 i t there)),
+    )

@@ -1,6 +1,6 @@
 -- A message that is handled: the channel that it creates is one of a record that is there, and the subscription that it begins is on one.
-use Rattle.std.proofs.Common.{◌≡◌, ℕ, ◌+◌, ◌<◌, ◌≤◌, ◌⊎◌, inl, inr, List, [], ◌∷◌, ◌++◌, length, Option, Some, None, refl, sym, ap, subst, ◌∙◌, arith}
-use Rattle.std.specs.Prelude.{map, option_map, take}
+use Rattle.std.proofs.Common.{◌≡◌, ℕ, ◌<◌, ◌≤◌, ◌⊎◌, inl, inr, List, [], length, Option, Some, None, refl, sym, ap, subst, ◌∙◌, arith}
+use Rattle.std.specs.Prelude.{option_map, take}
 use Rattle.ca_arena.specs.declared.handle.Handle.{Handle}
 use Rattle.ca_ids.specs.Table.{held, under}
 use Rattle.ca_ids.specs.Wire.{wire_of}
@@ -9,7 +9,7 @@ use Rattle.ca_records.specs.Puts.{Record, record_named}
 use Rattle.ca_text.specs.Command.{command_number}
 use Rattle.ca_text.specs.declared.command.Command.TheVariants as command
 use Rattle.ca_text.specs.Place.{At}
-use Rattle.ca_text.proofs.Places.{At-mapped, At-one, At-within}
+use Rattle.ca_text.proofs.Places.{At-mapped, At-within}
 use Rattle.ca_wire.specs.Fields.{Fields}
 use Rattle.ca_model.specs.Due.{Action, Adds, Due, KnownChannel, KnownRecord, Serves, fault_of_event, subscription_in}
 use Rattle.ca_model.specs.History.{Entry, Reply, Sent, Step, Told}
@@ -17,7 +17,6 @@ use Rattle.ca_model.specs.Server.{OpenChannel, Server, ServerEnd, Subscription}
 use Rattle.ca_model.specs.ServerSteps.{known_channel, known_record, knows}
 use Rattle.ca_model.specs.Speech.{Clears, Creates, In, Is, name_in, sid_in}
 use Rattle.ca_model_safe.specs.Channels.{Created, Has, IsOpen, before}
-use Rattle.ca_model_safe.specs.Headline.{Acted}
 use Rattle.ca_model_world.specs.ServerEvents.{about}
 use Rattle.ca_model_world.specs.World.{Joined, RecordSide}
 use Rattle.ca_laws_held.specs.Created.{CreatedOn}
@@ -26,7 +25,7 @@ use Rattle.ca_laws_held.proofs.Created.{due-creates}
 use Rattle.ca_laws_writes.proofs.Fresh.{due-adds}
 use Rattle.ca_laws_writes.proofs.Lists.{At-take, take-whole}
 use Rattle.ca_laws_follows.specs.Causing.{IsTaken, SourcesOn}
-use Rattle.ca_laws_follows.specs.Known.{IsOrigin, KnownOn}
+use Rattle.ca_laws_follows.specs.Known.{IsOrigin}
 use Rattle.ca_laws_follows.proofs.Acting.{Extends, IsLonger, grown-back, longer-taken, taken-at, taken-back, taken-below}
 use Rattle.ca_laws_follows.proofs.CausingKeeps.{Steady}
 
@@ -71,28 +70,27 @@ module _ (log lg : List Entry) (rs : List RecordSide) (core : Server) (e : Serve
   module _ (creations : CreationsOn c) (created : CreatedOn c) (causes : (i sid : ℕ) (t : Told) → At c.lists.down i t → Creates t.message sid → t.cause ≡ Reply) (steady : Steady log c.lists) (p : SourcesOn log c) where
     -- the channel that is open under a SID is, by the lists
     pub open-here : (sid : ℕ) (o : (ch : OpenChannel) × IsOrigin log rs c sid ch) → (i l r : ℕ) × IsOpen (before d.lists place step) (take step.logged lg) i l sid r
-    open-here sid (ch, o) =
+    open-here sid (ch, o) = (
+      u.0,
+      o.x.place,
+      m.0,
+      (
         (
-          u.0,
-          o.x.place,
-          m.0,
-          (
-            (
-              m.1.0,
-              m.1.1,
-              m.1.2,
-              taken-at step.sent d.lists.down u.0 m.1.0 (let lt : u.0 < length c.lists.down = At-within c.lists.down u.0 u.1 u.2 in omega (arith, lt, sent)) (ext.down u.0 m.1.0 m.1.3),
-              m.1.4 ∙ u.3,
-              m.1.5,
-              (m.1.6.0, m.1.6.1 ∙ o.under_sid),
-              taken-at place d.lists.up o.x.place m.1.1 early (ext.up o.x.place m.1.1 (subst (λ (n : ℕ). At c.lists.up n m.1.1) u.3 m.1.7)),
-              taken-at place d.lists.handled o.x.place m.1.2 early (ext.handled o.x.place m.1.2 (subst (λ (n : ℕ). At c.lists.handled n m.1.2) u.3 m.1.8)),
-              subst (λ (l : List Entry). Has (take (m.1.2).logged l) m.0 (name_in (m.1.1).message)) (sym log-is) m.1.9,
-            ),
-            later,
-            cleared,
-          ),
-        )
+          m.1.0,
+          m.1.1,
+          m.1.2,
+          taken-at step.sent d.lists.down u.0 m.1.0 (let lt : u.0 < length c.lists.down = At-within c.lists.down u.0 u.1 u.2 in omega (arith, lt, sent)) (ext.down u.0 m.1.0 m.1.3),
+          m.1.4 ∙ u.3,
+          m.1.5,
+          (m.1.6.0, m.1.6.1 ∙ o.under_sid),
+          taken-at place d.lists.up o.x.place m.1.1 early (ext.up o.x.place m.1.1 (subst (λ (n : ℕ). At c.lists.up n m.1.1) u.3 m.1.7)),
+          taken-at place d.lists.handled o.x.place m.1.2 early (ext.handled o.x.place m.1.2 (subst (λ (n : ℕ). At c.lists.handled n m.1.2) u.3 m.1.8)),
+          subst (λ (l : List Entry). Has (take (m.1.2).logged l) m.0 (name_in (m.1.1).message)) (sym log-is) m.1.9,
+        ),
+        later,
+        cleared,
+      ),
+    )
       where
         u : (i : ℕ) × (u : Told) × At c.lists.down i u × (u.place ≡ o.x.place) × (u.cause ≡ Reply) × Creates u.message o.x.sid
         u = creations.told o.x o.noted

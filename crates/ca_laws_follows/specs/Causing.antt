@@ -1,5 +1,5 @@
 -- Working: the causes of what servers sent, by the lists of each circuit and the log of its server's life.
-use Rattle.std.specs.Prelude.{ℕ, ◌≡◌, List}
+use Rattle.std.specs.Prelude.{ℕ, ◌≡◌, ◌≤◌, List}
 use Rattle.ca_text.specs.declared.command.Command.TheVariants as command
 use Rattle.ca_text.specs.Place.{At}
 use Rattle.ca_model.specs.History.{Circuit, Entry, Line, Removal, Reply, Sent, Step, Told, Update}
@@ -32,9 +32,10 @@ pub record SourcesOn (log : List Entry) (c : Joined) : Type 0 where
 abbrev pub AllSources : World → Type 0
 AllSources w = (n : ℕ) (c : Joined) (log : List Entry) → At w.circuits n c → At w.server_logs c.lists.server log → SourcesOn log c
 
--- Each message of the server has its cause.
+-- Each message of the server has its cause, and was sent in the step that handled what it is about, or after it.
 abbrev pub AreCaused : ℕ → Circuit → List Line → List Entry → Type 0
-AreCaused n c x y = (j : ℕ) (t : Told) → At c.down j t → HasCause c y t t.cause
+AreCaused n c x y = (j : ℕ) (t : Told) → At c.down j t
+    → HasCause c y t t.cause × ((h : Step) × At c.handled t.place h × (h.sent ≤ j))
 
 -- And in the words of the statement, on all circuits with the logs that each joins.
 abbrev pub MessagesAreCaused : World → Type 0
