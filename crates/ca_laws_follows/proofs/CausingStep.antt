@@ -104,7 +104,7 @@ module _ (log lg : List Entry) (rs : List RecordSide) (core : Server) (e : Serve
         later : (i : ℕ) (t : Told) → u.0 < i → At (take step.sent d.lists.down) i t → Creates t.message sid → ⊥
         later i t lt at creates =
             let at_c : At c.lists.down i t = At-take step.sent c.lists.down i t (taken-back step.sent c.lists.down d.lists.down ext.down (omega (arith, sent)) i t at) in
-            let w = created.apart u.0 i sid u.1 t lt u.2 at_c u.4 (causes i sid t at_c creates) (u.5.0, u.5.1 ∙ o.under_sid) creates in
+            let w = created.apart u.0 i sid sid u.1 t lt u.2 at_c u.4 (causes i sid t at_c creates) (u.5.0, u.5.1 ∙ o.under_sid) creates refl in
             let cleared = w.1 in
             let after : u.1.place < cleared.0 = cleared.2 in
             let until : cleared.0 < t.place = cleared.3 in
