@@ -220,91 +220,145 @@ lines-not about n notices none p line at =
     let m = At-mapped (line_of about n) notices p line at in
     subst (λ (l : Line). NotUpdated l) (sym m.2) (line-not about n m.0 (none p m.0 m.1))
 
-lines-silent : (w new : World) → LinesFrom IsSilent w new → LinesFrom NotUpdated w new
-lines-silent w new f l y i line at there = elim (f l y i line at there) [ inl old ↦ inl old | inr silent ↦ inr (silent-not line silent) ]
+-- ---- goodbyes
+
+-- It tells that something is lost.
+abbrev pub IsGoodbye : Notice → Type 0
+IsGoodbye (notice.Completed q o) = o ≡ outcome.Disconnected
+IsGoodbye (notice.Lost h) = Unit {0}
+IsGoodbye o = ⊥
+
+-- all do
+abbrev pub AreGoodbyes : List Notice → Type 0
+AreGoodbyes notices = (p : ℕ) (o : Notice) → At notices p o → IsGoodbye o
+
+no-goodbyes : AreGoodbyes []
+no-goodbyes p o at = absurd (none_at p o at)
+
+both-goodbyes : (xs ys : List Notice) → AreGoodbyes xs → AreGoodbyes ys → AreGoodbyes (xs ++ ys)
+both-goodbyes xs ys a b p o at = elim (At-parts xs ys p o at) [ inl first ↦ a p o first | inr more ↦ b more.0 o more.2 ]
+
+same-goodbyes : (xs ys : List Notice) → ys ≡ xs → AreGoodbyes xs → AreGoodbyes ys
+same-goodbyes xs ys is a = subst (λ (l : List Notice). AreGoodbyes l) (sym is) a
+
+over-goodbyes : (which : Request → Bool) (x : Client) → AreGoodbyes (disconnections which x)
+over-goodbyes which x p o at =
+    let m = At-mapped (λ (q : Handle). notice.Completed q outcome.Disconnected) (in_order_of_issue which x.requests x.issued) p o at in
+    subst (λ (z : Notice). IsGoodbye z) (sym m.2) refl
+
+lost-goodbyes : (hs : List Handle) → AreGoodbyes (map notice.Lost hs)
+lost-goodbyes hs p o at = (let m = At-mapped notice.Lost hs p o at in subst (λ (z : Notice). IsGoodbye z) (sym m.2) tt)
+
+farewell-goodbyes : (c : Handle) (x : Client) → AreGoodbyes (farewell c x)
+farewell-goodbyes c x = both-goodbyes (disconnections (was_sent_on c) x) (map notice.Lost (channels_on is_live c x)) (over-goodbyes (was_sent_on c) x) (lost-goodbyes (channels_on is_live c x))
+
+pub goodbye-not : (about : Intent) (n : Names) (o : Notice) → IsGoodbye o → NotUpdated (line_of about n o)
+goodbye-not about n (notice.Completed q out) is = line-not about n (notice.Completed q out) refl
+goodbye-not about n (notice.Lost h) is = line-not about n (notice.Lost h) refl
+goodbye-not about n (notice.Live h) is = absurd is
+goodbye-not about n (notice.Update g o) is = absurd is
+goodbye-not about n (notice.SubscriptionEnded g s) is = absurd is
+goodbye-not about n (notice.WriteRefused h s) is = absurd is
+
+-- What is said of lines that tell nothing, and of goodbyes.
+pub record Covers (Q : Line → Type 0) : Type 0 where
+  pub silent : (line : Line) → IsSilent line → Q line
+  pub goodbye : (about : Intent) (n : Names) (o : Notice) → IsGoodbye o → Q (line_of about n o)
+
+pub covers-not : Covers NotUpdated
+covers-not = record { silent = silent-not; goodbye = goodbye-not }
 
 -- ---- events
 
-connect-notices : (x : Client) (c : Handle) (o : Option ClientCircuit) (k : Option Closing) (sent : _) (core : Client) → ConnectsOn x c o k sent core → NoUpdate (told_by k)
-connect-notices x c o None sent core f = no-notices
-connect-notices x c None (Some k) sent core f = same-notices [] k.notices (ap (λ (z : Closing). z.notices) f.0) no-notices
-connect-notices x c (Some d) (Some k) sent core f = same-notices (farewell c x) k.notices (ap (λ (z : Closing). z.notices) f.0) (farewell-notices c x)
+connect-notices : (x : Client) (c : Handle) (o : Option ClientCircuit) (k : Option Closing) (sent : _) (core : Client) → ConnectsOn x c o k sent core → AreGoodbyes (told_by k)
+connect-notices x c o None sent core f = no-goodbyes
+connect-notices x c None (Some k) sent core f = same-goodbyes [] k.notices (ap (λ (z : Closing). z.notices) f.0) no-goodbyes
+connect-notices x c (Some d) (Some k) sent core f = same-goodbyes (farewell c x) k.notices (ap (λ (z : Closing). z.notices) f.0) (farewell-goodbyes c x)
 
-pub closed-notices : (x : Client) (c : Handle) (o : Option Connection) (k : Closing) (sent : _) (core : Client) → StepsOn x c o (notice.Closed k) sent core → NoUpdate k.notices
-closed-notices x c None k sent core f = same-notices [] k.notices (ap (λ (z : Closing). z.notices) f.0) no-notices
-closed-notices x c (Some d) k sent core f = same-notices (farewell c x) k.notices (ap (λ (z : Closing). z.notices) f.1.0) (farewell-notices c x)
+pub closed-notices : (x : Client) (c : Handle) (o : Option Connection) (k : Closing) (sent : _) (core : Client) → StepsOn x c o (notice.Closed k) sent core → AreGoodbyes k.notices
+closed-notices x c None k sent core f = same-goodbyes [] k.notices (ap (λ (z : Closing). z.notices) f.0) no-goodbyes
+closed-notices x c (Some d) k sent core f = same-goodbyes (farewell c x) k.notices (ap (λ (z : Closing). z.notices) f.1.0) (farewell-goodbyes c x)
 
-ticks-notices : (t : Ticking) (c : Handle) → NoUpdate t.notices → NoUpdate (ticks t c).notices
+ticks-notices : (t : Ticking) (c : Handle) → AreGoodbyes t.notices → AreGoodbyes (ticks t c).notices
 ticks-notices t c none = go (connection_at t.core c)
   where
-    by : (k : Keep) → NoUpdate (ticks_as k c t).notices
+    by : (k : Keep) → AreGoodbyes (ticks_as k c t).notices
     by Idle = none
     by Echo = none
-    by Close = both-notices t.notices (farewell c t.core) none (farewell-notices c t.core)
+    by Close = both-goodbyes t.notices (farewell c t.core) none (farewell-goodbyes c t.core)
 
-    go : (o : Option Connection) → NoUpdate (unwrap_or (option_map (λ (e : Connection). ticks_as (kept t.core.moment e.link) c t) o) t).notices
+    go : (o : Option Connection) → AreGoodbyes (unwrap_or (option_map (λ (e : Connection). ticks_as (kept t.core.moment e.link) c t) o) t).notices
     go None = none
     go (Some e) = by (kept t.core.moment e.link)
 
-all-notices : (order : List Handle) (t : Ticking) → NoUpdate t.notices → NoUpdate (fold ticks t order).notices
+all-notices : (order : List Handle) (t : Ticking) → AreGoodbyes t.notices → AreGoodbyes (fold ticks t order).notices
 all-notices [] t none = none
 all-notices (c ∷ order) t none = all-notices order (ticks t c) (ticks-notices t c none)
-
-tick-one : (moment : ℕ) (w : World) (i : ℕ) (new : World) → HaveLives w → TicksOne moment w i new → LinesFrom NotUpdated w new
-tick-one moment w i new lives (x, at, t, sent, core, does, is) =
-    lines-all NotUpdated w new x.life (lines_of OfCircuit x.names t.notices) (lives.present i x at) (ap (λ (z : World). z.client_logs) is)
-    (lines-not OfCircuit x.names t.notices (same-notices (circuits_ticked moment x.core).notices t.notices (ap (λ (z : notice.Ticked). z.notices) does.0) (all-notices x.core.order _ no-notices)))
-
-pub ticks-lines : (moment : ℕ) (w : World) (is : List ℕ) (new : World) → HaveLives w → TicksAll moment w is new → LinesFrom NotUpdated w new
-ticks-lines moment w [] new lives same = lines-same NotUpdated w new (ap (λ (z : World). z.client_logs) (sym same))
-ticks-lines moment w (i ∷ is) new lives (mid, one, rest) =
-    lines-then NotUpdated w mid new (tick-one moment w i mid lives one) (ticks-lines moment mid is new (lives-grown w mid (ticks-grown moment w (i ∷ []) mid (mid, one, refl)) lives) rest)
-
-first-not : (line : Line) (lines : List Line) → IsSilent line → ((p : ℕ) (other : Line) → At lines p other → NotUpdated other) → (p : ℕ) (other : Line) → At (line ∷ lines) p other → NotUpdated other
-first-not line lines silent rest zero other at = subst (λ (l : Line). NotUpdated l) (some_is line other at) (silent-not line silent)
-first-not line lines silent rest (suc p) other at = rest p other at
 
 abbrev pub IsHearing : Event → Type 0
 IsHearing (event.ClientStep k) = Unit {0}
 IsHearing e = ⊥
 
--- every event but a step of a client's end
-pub other-lines : (w new : World) (e : Event) → (IsHearing e → ⊥) → HaveLives w → Happens w e new → LinesFrom NotUpdated w new
-other-lines w new (event.ClientStep k) other lives happens = absurd (other tt)
-other-lines w new (event.Clear i c) other lives (at, inl f) =
-    lines-all NotUpdated w new at.x.life _ (lives.present i at.x at.at) (ap (λ (z : World). z.client_logs) f.3) (first-not _ [] tt (λ p line here. absurd (none_at p line here)))
-other-lines w new (event.Clear i c) other lives (at, inr f) =
-    lines-all NotUpdated w new at.x.life _ (lives.present i at.x at.at) (ap (λ (z : World). z.client_logs) f.4)
-    (first-not _ (lines_of OfCircuit at.x.names f.0) tt (lines-not OfCircuit at.x.names f.0 (same-notices (disconnections (asks_on at.h) at.x.core) f.0 f.3.2 (over-notices (asks_on at.h) at.x.core))))
-other-lines w new (event.CutClient k) other lives (at, f) =
-    lines-all NotUpdated w new at.x.life _ (lives.present at.j.client at.x at.joins.client) (ap (λ (z : World). z.client_logs) f.4)
-    (lines-not OfCircuit at.x.names f.0.notices (same-notices (farewell at.j.at_client at.x.core) f.0.notices (ap (λ (z : Closing). z.notices) f.3.0) (farewell-notices at.j.at_client at.x.core)))
-other-lines w new (event.Accept i) other lives (at, f) = elim f.leaves [
-  | inl full ↦ lines-same NotUpdated w new (ap (λ (z : World). z.client_logs) full.1)
-  | inr made ↦
-      lines-all NotUpdated w new at.x.life _ (lives.present i at.x at.at) (ap (λ (z : World). z.client_logs) made.6)
-      (lines-not OfCircuit at.x.names (told_by made.1) (connect-notices at.x.core at.v.v.circuit _ made.1 made.2 made.3 made.5))
-]
-other-lines w new (event.Tick moment) other lives (at, (mid, ticks, is)) =
-    lines-then NotUpdated w mid new (ticks-lines moment w (clients_below (length w.clients)) mid lives ticks) (lines-same NotUpdated mid new (ap (λ (z : World). z.client_logs) is))
-other-lines w new (event.Open i name priority) other lives happens = lines-silent w new (mute-event w new lives (event.Open i name priority) tt happens)
-other-lines w new (event.Read i c data_type count) other lives happens = lines-silent w new (mute-event w new lives (event.Read i c data_type count) tt happens)
-other-lines w new (event.Write i c v) other lives happens = lines-silent w new (mute-event w new lives (event.Write i c v) tt happens)
-other-lines w new (event.WriteNotify i c v) other lives happens = lines-silent w new (mute-event w new lives (event.WriteNotify i c v) tt happens)
-other-lines w new (event.Subscribe i c data_type count mask) other lives happens = lines-silent w new (mute-event w new lives (event.Subscribe i c data_type count mask) tt happens)
-other-lines w new (event.Unsubscribe i n) other lives happens = lines-silent w new (mute-event w new lives (event.Unsubscribe i n) tt happens)
-other-lines w new (event.Collect i r) other lives happens = lines-silent w new (mute-event w new lives (event.Collect i r) tt happens)
-other-lines w new (event.GiveUp i r) other lives happens = lines-silent w new (mute-event w new lives (event.GiveUp i r) tt happens)
-other-lines w new (event.ClientDatagram i from bytes) other lives happens = lines-silent w new (mute-event w new lives (event.ClientDatagram i from bytes) tt happens)
-other-lines w new (event.ServerDatagram i from bytes) other lives happens = lines-silent w new (mute-event w new lives (event.ServerDatagram i from bytes) tt happens)
-other-lines w new (event.Up k n) other lives happens = lines-silent w new (mute-event w new lives (event.Up k n) tt happens)
-other-lines w new (event.Down k n) other lives happens = lines-silent w new (mute-event w new lives (event.Down k n) tt happens)
-other-lines w new (event.ServerStep k) other lives happens = lines-silent w new (mute-event w new lives (event.ServerStep k) tt happens)
-other-lines w new (event.Pump k) other lives happens = lines-silent w new (mute-event w new lives (event.Pump k) tt happens)
-other-lines w new (event.CutServer k) other lives happens = lines-silent w new (mute-event w new lives (event.CutServer k) tt happens)
-other-lines w new (event.ClientRestart i) other lives happens = lines-silent w new (mute-event w new lives (event.ClientRestart i) tt happens)
-other-lines w new (event.ServerRestart i) other lives happens = lines-silent w new (mute-event w new lives (event.ServerRestart i) tt happens)
-other-lines w new (event.Post i name v mask) other lives happens = lines-silent w new (mute-event w new lives (event.Post i name v mask) tt happens)
-other-lines w new (event.Finish i name) other lives happens = lines-silent w new (mute-event w new lives (event.Finish i name) tt happens)
-other-lines w new (event.Remove i name) other lives happens = lines-silent w new (mute-event w new lives (event.Remove i name) tt happens)
-other-lines w new (event.Add i r) other lives happens = lines-silent w new (mute-event w new lives (event.Add i r) tt happens)
+module _ (Q : Line → Type 0) (c : Covers Q) where
+  lines-silent : (w new : World) → LinesFrom IsSilent w new → LinesFrom Q w new
+  lines-silent w new f l y i line at there = elim (f l y i line at there) [ inl old ↦ inl old | inr silent ↦ inr (c.silent line silent) ]
+
+  pub lines-bye : (about : Intent) (n : Names) (notices : List Notice) → AreGoodbyes notices → (p : ℕ) (line : Line) → At (lines_of about n notices) p line → Q line
+  lines-bye about n notices all p line at =
+      let m = At-mapped (line_of about n) notices p line at in
+      subst Q (sym m.2) (c.goodbye about n m.0 (all p m.0 m.1))
+
+  tick-one : (moment : ℕ) (w : World) (i : ℕ) (new : World) → HaveLives w → TicksOne moment w i new → LinesFrom Q w new
+  tick-one moment w i new lives (x, at, t, sent, core, does, is) =
+      lines-all Q w new x.life (lines_of OfCircuit x.names t.notices) (lives.present i x at) (ap (λ (z : World). z.client_logs) is)
+      (lines-bye OfCircuit x.names t.notices (same-goodbyes (circuits_ticked moment x.core).notices t.notices (ap (λ (z : notice.Ticked). z.notices) does.0) (all-notices x.core.order _ no-goodbyes)))
+
+  pub ticks-lines : (moment : ℕ) (w : World) (is : List ℕ) (new : World) → HaveLives w → TicksAll moment w is new → LinesFrom Q w new
+  ticks-lines moment w [] new lives same = lines-same Q w new (ap (λ (z : World). z.client_logs) (sym same))
+  ticks-lines moment w (i ∷ is) new lives (mid, one, rest) =
+      lines-then Q w mid new (tick-one moment w i mid lives one) (ticks-lines moment mid is new (lives-grown w mid (ticks-grown moment w (i ∷ []) mid (mid, one, refl)) lives) rest)
+
+  first-not : (line : Line) (lines : List Line) → IsSilent line → ((p : ℕ) (other : Line) → At lines p other → Q other) → (p : ℕ) (other : Line) → At (line ∷ lines) p other → Q other
+  first-not line lines silent rest zero other at = subst Q (some_is line other at) (c.silent line silent)
+  first-not line lines silent rest (suc p) other at = rest p other at
+
+  -- every event but a step of a client's end
+  pub other-lines : (w new : World) (e : Event) → (IsHearing e → ⊥) → HaveLives w → Happens w e new → LinesFrom Q w new
+  other-lines w new (event.ClientStep k) other lives happens = absurd (other tt)
+  other-lines w new (event.Clear i c) other lives (at, inl f) =
+      lines-all Q w new at.x.life _ (lives.present i at.x at.at) (ap (λ (z : World). z.client_logs) f.3) (first-not _ [] tt (λ p line here. absurd (none_at p line here)))
+  other-lines w new (event.Clear i c) other lives (at, inr f) =
+      lines-all Q w new at.x.life _ (lives.present i at.x at.at) (ap (λ (z : World). z.client_logs) f.4)
+      (first-not _ (lines_of OfCircuit at.x.names f.0) tt (lines-bye OfCircuit at.x.names f.0 (same-goodbyes (disconnections (asks_on at.h) at.x.core) f.0 f.3.2 (over-goodbyes (asks_on at.h) at.x.core))))
+  other-lines w new (event.CutClient k) other lives (at, f) =
+      lines-all Q w new at.x.life _ (lives.present at.j.client at.x at.joins.client) (ap (λ (z : World). z.client_logs) f.4)
+      (lines-bye OfCircuit at.x.names f.0.notices (same-goodbyes (farewell at.j.at_client at.x.core) f.0.notices (ap (λ (z : Closing). z.notices) f.3.0) (farewell-goodbyes at.j.at_client at.x.core)))
+  other-lines w new (event.Accept i) other lives (at, f) = elim f.leaves [
+    | inl full ↦ lines-same Q w new (ap (λ (z : World). z.client_logs) full.1)
+    | inr made ↦
+        lines-all Q w new at.x.life _ (lives.present i at.x at.at) (ap (λ (z : World). z.client_logs) made.6)
+        (lines-bye OfCircuit at.x.names (told_by made.1) (connect-notices at.x.core at.v.v.circuit _ made.1 made.2 made.3 made.5))
+  ]
+  other-lines w new (event.Tick moment) other lives (at, (mid, ticks, is)) =
+      lines-then Q w mid new (ticks-lines moment w (clients_below (length w.clients)) mid lives ticks) (lines-same Q mid new (ap (λ (z : World). z.client_logs) is))
+  other-lines w new (event.Open i name priority) other lives happens = lines-silent w new (mute-event w new lives (event.Open i name priority) tt happens)
+  other-lines w new (event.Read i c data_type count) other lives happens = lines-silent w new (mute-event w new lives (event.Read i c data_type count) tt happens)
+  other-lines w new (event.Write i c v) other lives happens = lines-silent w new (mute-event w new lives (event.Write i c v) tt happens)
+  other-lines w new (event.WriteNotify i c v) other lives happens = lines-silent w new (mute-event w new lives (event.WriteNotify i c v) tt happens)
+  other-lines w new (event.Subscribe i c data_type count mask) other lives happens = lines-silent w new (mute-event w new lives (event.Subscribe i c data_type count mask) tt happens)
+  other-lines w new (event.Unsubscribe i n) other lives happens = lines-silent w new (mute-event w new lives (event.Unsubscribe i n) tt happens)
+  other-lines w new (event.Collect i r) other lives happens = lines-silent w new (mute-event w new lives (event.Collect i r) tt happens)
+  other-lines w new (event.GiveUp i r) other lives happens = lines-silent w new (mute-event w new lives (event.GiveUp i r) tt happens)
+  other-lines w new (event.ClientDatagram i from bytes) other lives happens = lines-silent w new (mute-event w new lives (event.ClientDatagram i from bytes) tt happens)
+  other-lines w new (event.ServerDatagram i from bytes) other lives happens = lines-silent w new (mute-event w new lives (event.ServerDatagram i from bytes) tt happens)
+  other-lines w new (event.Up k n) other lives happens = lines-silent w new (mute-event w new lives (event.Up k n) tt happens)
+  other-lines w new (event.Down k n) other lives happens = lines-silent w new (mute-event w new lives (event.Down k n) tt happens)
+  other-lines w new (event.ServerStep k) other lives happens = lines-silent w new (mute-event w new lives (event.ServerStep k) tt happens)
+  other-lines w new (event.Pump k) other lives happens = lines-silent w new (mute-event w new lives (event.Pump k) tt happens)
+  other-lines w new (event.CutServer k) other lives happens = lines-silent w new (mute-event w new lives (event.CutServer k) tt happens)
+  other-lines w new (event.ClientRestart i) other lives happens = lines-silent w new (mute-event w new lives (event.ClientRestart i) tt happens)
+  other-lines w new (event.ServerRestart i) other lives happens = lines-silent w new (mute-event w new lives (event.ServerRestart i) tt happens)
+  other-lines w new (event.Post i name v mask) other lives happens = lines-silent w new (mute-event w new lives (event.Post i name v mask) tt happens)
+  other-lines w new (event.Finish i name) other lives happens = lines-silent w new (mute-event w new lives (event.Finish i name) tt happens)
+  other-lines w new (event.Remove i name) other lives happens = lines-silent w new (mute-event w new lives (event.Remove i name) tt happens)
+  other-lines w new (event.Add i r) other lives happens = lines-silent w new (mute-event w new lives (event.Add i r) tt happens)

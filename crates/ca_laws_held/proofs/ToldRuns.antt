@@ -27,7 +27,7 @@ use Rattle.ca_laws_held.proofs.OrderKeeps.{run-lives}
 use Rattle.ca_laws_held.proofs.Replied.{reached-answer}
 use Rattle.ca_laws_held.proofs.ToldGrows.{event-on, on-grown}
 use Rattle.ca_laws_held.proofs.ToldLines.{LinesFrom, lines-all, lines-same}
-use Rattle.ca_laws_held.proofs.ToldQuiet.{IsHearing as IsHearingEvent, NotUpdated, closed-notices, lines-not, other-lines, ticks-lines}
+use Rattle.ca_laws_held.proofs.ToldQuiet.{IsHearing as IsHearingEvent, NotUpdated, closed-notices, covers-not, lines-bye, other-lines, ticks-lines}
 use Rattle.ca_laws_held.proofs.ToldRemoval.{run-removals}
 use Rattle.ca_laws_held.proofs.ToldSteps.{IsAnUpdate, hearing-news}
 use Rattle.ca_laws_held.proofs.ToldUpdates.{AllRead, IsRead, all-read-on, to-reads}
@@ -59,7 +59,7 @@ module _ (s : Setting) (es : List Event) (w new : World) (ok : IsSetting s) (are
       go answer.NeedBytes sent core steps is = no-news w new (lines-same NotUpdated w new (ap (λ (z : World). z.client_logs) is))
       go (answer.Closed c) sent core steps is =
           no-news w new (lines-all NotUpdated w new happens.0.x.life (lines_of OfCircuit happens.0.x.names c.notices) (lives.present happens.0.j.client happens.0.x happens.0.joins.client) (ap (λ (z : World). z.client_logs) is)
-          (lines-not OfCircuit happens.0.x.names c.notices (closed-notices happens.0.x.core happens.0.j.at_client (connection_at happens.0.x.core happens.0.j.at_client) c sent core steps)))
+          (lines-bye NotUpdated covers-not OfCircuit happens.0.x.names c.notices (closed-notices happens.0.x.core happens.0.j.at_client (connection_at happens.0.x.core happens.0.j.at_client) c sent core steps)))
       go (answer.Notices notices) sent core steps is =
           hearing-news w new k happens.0.j happens.0.x happens.0.joins.at happens.0.joins.client happens.0.is_open (record { notices = notices; sent = sent; core = core; steps = steps; is = is })
           (runs-hear s es None w ok are runs) (runs-caused s es None w ok are runs) (reached-answer w (s, es, None, ok, runs)) (run-removals s es None w ok runs) (run-tells s es None w new k ok are runs happens)
@@ -68,7 +68,7 @@ module _ (s : Setting) (es : List Event) (w new : World) (ok : IsSetting s) (are
   event-news : (e : Event) → Happens w e new → News w new
   event-news e happens = elim (hearing-or e) [
     | inl step ↦ step-news step.0 (subst (λ (x : Event). Happens w x new) step.1 happens)
-    | inr other ↦ no-news w new (other-lines w new e other lives happens)
+    | inr other ↦ no-news w new (other-lines NotUpdated covers-not w new e other lives happens)
   ]
 
   pub event-updates : (e : Event) → Happens w e new → AllRead IsAnUpdate Tells w → AllRead IsAnUpdate Tells new
@@ -95,7 +95,7 @@ run-updates s es stopped w ok are (mid, folds, stops) = stop stopped stops
     stop : (stopped : Option Event) → StopsAt mid stopped w → AllRead IsAnUpdate Tells w
     stop (Some (event.Tick moment)) stops = elim stops [
       | inl same ↦ subst (λ (v : World). AllRead IsAnUpdate Tells v) (sym same) all
-      | inr ticked ↦ all-read-on IsAnUpdate Tells mid w (on-grown mid w (ticks-grown moment mid (clients_below ticked.0) w ticked.3)) (no-news mid w (ticks-lines moment mid (clients_below ticked.0) w (run-lives s es None mid (mid, folds, refl)) ticked.3)) all
+      | inr ticked ↦ all-read-on IsAnUpdate Tells mid w (on-grown mid w (ticks-grown moment mid (clients_below ticked.0) w ticked.3)) (no-news mid w (ticks-lines NotUpdated covers-not moment mid (clients_below ticked.0) w (run-lives s es None mid (mid, folds, refl)) ticked.3)) all
     ]
     stop stopped stops = subst (λ (v : World). AllRead IsAnUpdate Tells v) (sym stops) all
 
