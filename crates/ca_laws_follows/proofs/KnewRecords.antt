@@ -1,6 +1,6 @@
 -- What a server's core knows of its records is what the log of its life says.
 use Rattle.std.proofs.Common.{◌≡◌, ℕ, zero, suc, Bool, true, false, cond, List, [], ◌∷◌, length, Option, Some, None, refl, sym, ap, subst, ◌∙◌}
-use Rattle.std.specs.Prelude.{find, is_some, map, option_map}
+use Rattle.std.specs.Prelude.{is_some, map, option_map}
 use Rattle.std.specs.Str.{bytes_eq}
 use Rattle.ca_records.specs.declared.puts.Put.{Put}
 use Rattle.ca_records.specs.Puts.{Record, record_named}
@@ -8,18 +8,16 @@ use Rattle.ca_text.specs.Place.{At}
 use Rattle.ca_text.proofs.Places.{some_is, At-one}
 use Rattle.ca_model.specs.History.{Entry}
 use Rattle.ca_model.specs.ServerSteps.{known_record}
-use Rattle.ca_model_safe.specs.Channels.{Has}
-use Rattle.ca_model_safe.specs.Known.{IsBusy, IsNow, IsRecordOf, waiting}
+use Rattle.ca_model_safe.specs.Known.{IsBusy, IsNow, IsRecordOf}
 use Rattle.ca_model_world.specs.Events.{Event}
 use Rattle.ca_model_world.specs.Runs.{Runs}
-use Rattle.ca_model_world.specs.World.{IsSetting, PutPlace, RecordSide, ServerSide, Setting, World}
+use Rattle.ca_model_world.specs.World.{IsSetting, PutPlace, RecordSide, Setting, World}
 use Rattle.ca_laws_held.proofs.StepWhole.{run-serves}
 use Rattle.ca_laws_writes.specs.Agrees.{Agrees, IsBusyAs, IsBusyBy, pair_of, stored}
 use Rattle.ca_laws_writes.specs.Both.{Both}
 use Rattle.ca_laws_writes.specs.Lives.{IsPutOf}
 use Rattle.ca_laws_writes.proofs.Events.{found}
 use Rattle.ca_laws_writes.proofs.Lists.{beside-right, none_at}
-use Rattle.ca_laws_follows.specs.Entries.{titles}
 use Rattle.ca_laws_follows.specs.Knew.{KnowRecords}
 use Rattle.ca_laws_follows.specs.Listed.{IsListed}
 use Rattle.ca_laws_follows.proofs.PostFollowing.{same-bytes, titled}
