@@ -34,8 +34,12 @@ module _ (s : Setting) (es : List Event) (stopped : Option Event) (w : World) (o
   pub run-errors-quote : ErrorsQuoteTheirOwn w
   run-errors-quote n d at =
       let j = At-mapped circuit_of w.circuits n d at in
-      let l = run-server-steps s es stopped w ok runs n d at in
-      (l.0, l.1, l.2, subst (λ (c : Circuit). ErrorsQuote c) (sym j.2) (λ i t there reply error.
-      let a = reached-answer w reached n i j.0 t j.1 there reply in
-      let r = a.2.refuses error in
-      (a.0, r.0, r.1, a.1, r.2)))
+      let l = run-server-steps s es stopped w ok runs n d at in (
+        l.0,
+        l.1,
+        l.2,
+        subst (λ (c : Circuit). ErrorsQuote c) (sym j.2) (λ i t there reply error.
+            let a = reached-answer w reached n i j.0 t j.1 there reply in
+            let r = a.2.refuses error in
+            (a.0, r.0, r.1, a.1, r.2)),
+      )
