@@ -21,3 +21,5 @@ pub mod Standing
 pub mod Following
 pub mod Whole
 pub mod Joining
+pub mod ActsMade
+pub mod ActsOn
