@@ -23,3 +23,4 @@ pub mod Whole
 pub mod Joining
 pub mod ActsMade
 pub mod ActsOn
+pub mod ActsTitles
