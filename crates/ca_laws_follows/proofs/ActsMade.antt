@@ -1,6 +1,6 @@
 -- Each channel that a server created was created for the record that it had then under the name, and before the next message was handled.
-use Rattle.std.proofs.Common.{◌≡◌, ℕ, suc, ◌+◌, ◌<◌, ◌≤◌, ◌⊎◌, inl, inr, List, [], ◌∷◌, ◌++◌, length, Option, Some, None, refl, sym, ap, subst, ◌∙◌, arith}
-use Rattle.std.specs.Prelude.{map, option_map, slice_set, take, unwrap_or}
+use Rattle.std.proofs.Common.{◌≡◌, ℕ, ◌+◌, ◌<◌, ◌≤◌, ◌⊎◌, inl, inr, List, [], ◌∷◌, ◌++◌, length, Option, Some, None, refl, sym, ap, subst, ◌∙◌, arith}
+use Rattle.std.specs.Prelude.{option_map, slice_set, take, unwrap_or}
 use Rattle.std.specs.List.{FoldsTo}
 use Rattle.ca_link.specs.Link.{with_rest}
 use Rattle.ca_records.specs.Record.{RecordState}
@@ -8,11 +8,10 @@ use Rattle.ca_text.specs.Place.{At}
 use Rattle.ca_text.proofs.Places.{At-append, At-last, At-map, At-mapped, At-one, At-parts, At-snoc, At-within}
 use Rattle.ca_wire.specs.Fields.{Fields}
 use Rattle.ca_model.specs.Answers.{Closing}
-use Rattle.ca_model.specs.Due.{Due, IsCreated, KnownRecord}
+use Rattle.ca_model.specs.Due.{Due, IsCreated}
 use Rattle.ca_model.specs.History.{Circuit, Entry, Reply, Sent, Step, Told}
 use Rattle.ca_model.specs.Server.{ServerEnd}
 use Rattle.ca_model.specs.ServerSteps.{Stepped, knows}
-use Rattle.ca_model.specs.ServerSteps as stepped
 use Rattle.ca_model.specs.Speech.{Creates, name_in}
 use Rattle.ca_model_safe.specs.Channels.{Has}
 use Rattle.ca_model_world.specs.ClientEvents.{HappensAccept, WantsFirst, connected_as, new_circuit}
@@ -20,12 +19,10 @@ use Rattle.ca_model_world.specs.Events.{Event}
 use Rattle.ca_model_world.specs.Events as event
 use Rattle.ca_model_world.specs.Runs.{Happens, Runs, StopsAt, clients_below}
 use Rattle.ca_model_world.specs.ServerEvents.{ServerStepped, StepHandles, about, ending, ends_by, handled_at, numbers_after, server_closed, write_numbers}
-use Rattle.ca_model_world.specs.ServerEvents as server
-use Rattle.ca_model_world.specs.World.{ClientSide, IsSetting, Joined, RecordSide, ServerSide, Setting, World, log_length, opening, with_circuit}
+use Rattle.ca_model_world.specs.World.{ClientSide, IsSetting, Joined, ServerSide, Setting, World, opening, with_circuit}
 use Rattle.ca_laws_runs.proofs.Handled.{numbers-like, writes-like}
 use Rattle.ca_laws_writes.specs.Lives.{IsPutOf}
 use Rattle.ca_laws_writes.specs.Moves.{Lives}
-use Rattle.ca_laws_writes.specs.Seats.{TakesSent}
 use Rattle.ca_laws_writes.proofs.Events.{found}
 use Rattle.ca_laws_writes.proofs.Every.{ticks-frame}
 use Rattle.ca_laws_writes.proofs.Frames.{Frame}

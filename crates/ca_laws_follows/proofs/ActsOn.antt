@@ -1,20 +1,21 @@
 -- On which record each message was handled that was meant on a channel.
-use Rattle.std.proofs.Common.{◌≡◌, ℕ, zero, suc, ◌+◌, ◌<◌, ◌≤◌, ◌⊎◌, inl, inr, List, [], ◌∷◌, ◌++◌, length, Option, Some, None, refl, sym, ap, subst, ◌∙◌, arith}
+use Rattle.std.proofs.Common.{◌≡◌, ℕ, zero, suc, ◌<◌, ◌≤◌, inl, inr, List, [], ◌∷◌, length, Option, refl, sym, ap, subst, ◌∙◌, arith}
 use Rattle.std.specs.Prelude.{take, unwrap_or}
 use Rattle.ca_records.specs.Record.{RecordState}
 use Rattle.ca_text.specs.declared.command.Command.TheVariants as command
 use Rattle.ca_text.specs.Place.{At}
 use Rattle.ca_text.proofs.Places.{At-map, At-mapped, At-one, At-or}
-use Rattle.ca_model.specs.History.{Added, Ask, Circuit, Create, Entry, Line, On, Reply, Sent, Step, Told}
+use Rattle.ca_model.specs.History.{Added, Ask, Circuit, Create, Entry, Line, On, Opened, Reply, Sent, Step, Told}
 use Rattle.ca_model.specs.Speech.{Clears, Creates, In, Is, name_in, sid_in}
 use Rattle.ca_model_client.proofs.Thinner.{three-ways}
-use Rattle.ca_model_safe.specs.Channels.{Created, Has, Joins, OfCircuits, Suits}
+use Rattle.ca_model_safe.specs.Channels.{Created, Has, IsNamed, Joins, Meant, OfCircuits, Suits}
 use Rattle.ca_model_safe.specs.Headline.{Acted}
 use Rattle.ca_model_world.specs.Events.{Event}
 use Rattle.ca_model_world.specs.Runs.{AreEvents, Runs}
 use Rattle.ca_model_world.specs.World.{IsSetting, Joined, Setting, World, circuit_of, told}
 use Rattle.ca_laws_bytes.proofs.Causes.{runs-caused}
 use Rattle.ca_laws_writes.proofs.Lists.{At-take}
+use Rattle.ca_laws_writes.proofs.Moves.{At-below}
 use Rattle.ca_laws_held.specs.Causes.{ComeAfter}
 use Rattle.ca_laws_held.specs.Created.{CreatedOn}
 use Rattle.ca_laws_held.specs.OrderSteps.{InOrder}
@@ -25,9 +26,10 @@ use Rattle.ca_laws_held.proofs.Joint.{run-says}
 use Rattle.ca_laws_held.proofs.OrderKeeps.{run-lives, run-served}
 use Rattle.ca_laws_held.proofs.StepWhole.{run-serves}
 use Rattle.ca_laws_held.proofs.Under.{uncleared}
-use Rattle.ca_laws_follows.specs.Acts.{CreationsAre}
+use Rattle.ca_laws_follows.specs.Acts.{ActsAre, CreationsAre}
 use Rattle.ca_laws_follows.proofs.Acting.{taken-at, taken-below}
 use Rattle.ca_laws_follows.proofs.ActsMade.{AreMade, IsMade, run-made}
+use Rattle.ca_laws_follows.proofs.ActsNamedRuns.{run-names}
 use Rattle.ca_laws_follows.proofs.Whole.{logs-there}
 
 -- what holds of each circuit with the logs of the lives that it joins
@@ -197,3 +199,15 @@ module _ (j : Joined) (log : List Entry) (f : Facts j log) where
             let r = f.order.rise p u.place h g.0 gt at_h g.1 in
             absurd (let le : (g.0).sent ≤ l = g.2 in let rise : h.sent ≤ (g.0).sent = r.0 in omega (arith, le, rise, below))
       ]
+
+-- ---- of every run
+
+pub run-acts : (s : Setting) (es : List Event) (stopped : Option Event) (w : World) → IsSetting s → AreEvents es → Runs s es stopped w → ActsAre w
+run-acts s es stopped w ok are runs =
+    of-circuits s es stopped w ok runs
+    (λ (n : ℕ) (c : Circuit) (x : List Line) (y : List Entry). (k channel : ℕ) (ask : Ask) → k < length c.handled → Meant c k (On channel ask) → (ask ≡ Create → ⊥) → (r : ℕ) × Acted c y k r × IsNamed x y channel r)
+    (λ n j x y at lx ly k channel ask lt meant other.
+    let h = At-below j.lists.handled k lt in
+    let a = handled-record j y (run-facts s es stopped w ok are runs n j y at ly) k channel meant.0 ask h.0 meant.1 meant.2 other h.1 in
+    let o = (run-names s es stopped w runs).said n a.k channel j x a.q at lx a.asked.0 a.asked.1 in
+    (a.r, a.acted, (a.state, subst (λ (l : List ℕ). In x (Opened channel l)) (sym a.named) o, a.added)))

@@ -24,3 +24,6 @@ pub mod Joining
 pub mod ActsMade
 pub mod ActsOn
 pub mod ActsTitles
+pub mod ActsNamed
+pub mod ActsClients
+pub mod ActsNamedRuns
