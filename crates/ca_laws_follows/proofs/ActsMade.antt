@@ -77,7 +77,7 @@ made-on log lg c d longer k all j sid t at reply creates = record {
 }
   where
     m : IsMade log c.lists j t
-    m = all j sid t (k.creates j t at reply creates.0) reply creates
+    m = all j sid t (k.creates j t at reply (inl creates.0)) reply creates
 
 made-none : (log : List Entry) (c : Circuit) → c.down ≡ [] → AreMade log c
 made-none log c none j sid t at reply creates = absurd (none_at j t (subst (λ (l : List Told). At l j t) none at))

@@ -109,7 +109,7 @@ module _ (j : Joined) (log : List Entry) (f : Facts j log) where
     -- none was created later under its SID by a message before p
     no-other : (l : ℕ) (u : Told) → i < l → At j.lists.down l u → Creates u.message sid → u.place < p → ⊥
     no-other l u lt at creates early =
-        let apart = f.created.apart i l sid b.t u lt b.told.0 at b.told.2 (f.replies l u at creates.0) b.told.3 creates in
+        let apart = f.created.apart i l sid sid b.t u lt b.told.0 at b.told.2 (f.replies l u at creates.0) b.told.3 creates refl in
         let w = apart.1 in
         let until : w.0 < u.place = w.3 in
         uncleared j f.created f.says.under f.asked channel i k sid p b (w.0, w.1, subst (λ (m : ℕ). m < w.0) b.told.1 w.2, omega (arith, until, early), w.4, w.5)

@@ -27,3 +27,8 @@ pub mod ActsTitles
 pub mod ActsNamed
 pub mod ActsClients
 pub mod ActsNamedRuns
+pub mod CausingFrame
+pub mod CausingKeeps
+pub mod CausingStep
+pub mod CausingEvents
+pub mod CausingRuns

@@ -8,3 +8,4 @@ pub mod Sent
 pub mod Record
 pub mod Joining
 pub mod Acts
+pub mod Causing
