@@ -78,3 +78,4 @@ pub mod OnceStill
 pub mod OnceNoticedClients
 pub mod OnceNoticedRuns
 pub mod LegalServers
+pub mod Refused
