@@ -1,5 +1,5 @@
 -- Which command each reply answers.
-use Rattle.std.proofs.Common.{◌≡◌, ℕ, zero, suc, inl, inr, Bool, true, false, cond, ◌||◌, eqb, List, [], ◌∷◌, refl, sym, ap, subst, ◌∙◌}
+use Rattle.std.proofs.Common.{◌≡◌, ℕ, zero, suc, inl, inr, Bool, true, false, cond, ◌||◌, eqb, List, [], ◌∷◌, refl, sym, ap, subst, ◌∙◌, arith}
 use Rattle.std.proofs.lemmas.Bool.{both_ways}
 use Rattle.std.specs.Prelude.{is_some}
 use Rattle.ca_text.specs.declared.command.Command.TheVariants as command
@@ -14,15 +14,17 @@ use Rattle.ca_laws_writes.proofs.Doing.{any-of, commands, each-at, known-or}
 use Rattle.ca_laws_writes.proofs.Lists.{none_at}
 use Rattle.ca_laws_held.specs.Answering.{Answers}
 
--- none of the commands that answer one of their own
+-- one of the commands that answer one of their own, or SERVER_DISCONN
 abbrev pub is_own : ℕ → Bool
-is_own a = eqb a 26 || (eqb a 12 || eqb a 1)
+is_own a = eqb a 26 || (eqb a 12 || (eqb a 1 || eqb a 27))
 
 pub answers-other : (m q : Fields) (a : ℕ) → q.command ≡ a → is_own a ≡ false → Answers m q
 answers-other m q a is none = record {
   failed = λ e. absurd (both_ways (is_own a) none (ap is_own (sym is ∙ e)));
   cleared = λ e. absurd (both_ways (is_own a) none (ap is_own (sym is ∙ e)));
   confirms = λ e. absurd (both_ways (is_own a) none (ap is_own (sym is ∙ e)));
+  copies = λ e. absurd (both_ways (is_own a) none (ap is_own (sym is ∙ e)));
+  never = λ e. absurd (both_ways (is_own a) none (ap is_own (sym is ∙ e)));
 }
 
 pub due-answer : (k : Knows) (m : Fields) (replies : List Fields) (did : Action) → Due k m replies did → (r : Fields) → In replies r → Answers m r
@@ -120,10 +122,10 @@ due-answer k m replies did due r there =
     searched false false is = none is
 
     cancelled : m.command ≡ 2 → Answers m (cancel_reply m)
-    cancelled e = record { failed = λ f. absurd (let x : ◌≡◌ {A = ℕ} 1 26 = f in cc); cleared = λ f. absurd (let x : ◌≡◌ {A = ℕ} 1 12 = f in cc); confirms = λ f. e }
+    cancelled e = record { failed = λ f. absurd (let x : ◌≡◌ {A = ℕ} 1 26 = f in cc); cleared = λ f. absurd (let x : ◌≡◌ {A = ℕ} 1 12 = f in cc); confirms = λ f. e; copies = λ f. refl; never = λ f. absurd (let x : ◌≡◌ {A = ℕ} 1 27 = f in cc) }
 
     clearing : m.command ≡ 12 → Answers m (cleared_reply m)
-    clearing e = record { failed = λ f. absurd (let x : ◌≡◌ {A = ℕ} 12 26 = f in cc); cleared = λ f. e; confirms = λ f. absurd (let x : ◌≡◌ {A = ℕ} 12 1 = f in cc) }
+    clearing e = record { failed = λ f. absurd (let x : ◌≡◌ {A = ℕ} 12 26 = f in cc); cleared = λ f. e; confirms = λ f. absurd (let x : ◌≡◌ {A = ℕ} 12 1 = f in cc); copies = λ f. absurd (let x : ◌≡◌ {A = ℕ} 12 1 = f in cc); never = λ f. absurd (let x : ◌≡◌ {A = ℕ} 12 27 = f in cc) }
 
     failing : m.command ≡ 18 → Answers m (failed_reply m)
-    failing e = record { failed = λ f. e; cleared = λ f. absurd (let x : ◌≡◌ {A = ℕ} 26 12 = f in cc); confirms = λ f. absurd (let x : ◌≡◌ {A = ℕ} 26 1 = f in cc) }
+    failing e = record { failed = λ f. e; cleared = λ f. absurd (let x : ◌≡◌ {A = ℕ} 26 12 = f in cc); confirms = λ f. absurd (let x : ◌≡◌ {A = ℕ} 26 1 = f in cc); copies = λ f. absurd (let x : ◌≡◌ {A = ℕ} 26 1 = f in cc); never = λ f. absurd (let x : ◌≡◌ {A = ℕ} 26 27 = f in omega (arith, x)) }

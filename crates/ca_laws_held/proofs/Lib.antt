@@ -62,3 +62,12 @@ pub mod OnceSentServers
 pub mod OnceSentClients
 pub mod OnceSentRuns
 pub mod CauseOnce
+pub mod OnceTold
+pub mod OnceHeard
+pub mod OnceOver
+pub mod OnceDone
+pub mod OnceNoticed
+pub mod OnceStill
+pub mod OnceNoticedClients
+pub mod OnceNoticedRuns
+pub mod LegalServers

@@ -98,7 +98,7 @@ module _ (w new : World) (i : ℕ) (x : ClientSide) (at : At w.clients i x) (sta
         let names : Names = with_subscription did.0 intent x.names in
         let o : Outcomes = record { core = did.2; names = names; lines = Called intent None ∷ []; sent = did.1 } in
         subst (λ (v : World). OnceStand v) (sym did.4)
-        (once-called w i x names o at (calls-subscribe x.names x.core c h (record { data_type = data_type; count = count }) mask did.0 did.1 did.2 did.3 (q.tidy i x at) (stands.sound i x at).named.subscriptions) (inl stands.handles) s)
+        (once-called w i x names o at (calls-subscribe x.names x.core c h (record { data_type = data_type; count = count }) mask did.0 did.1 did.2 did.3 (stands.sound i x at).placed (q.tidy i x at) (stands.sound i x at).named.subscriptions) (inl stands.handles) s)
   ]
 
   pub once-unsubscribe : (m : ℕ) (g : Handle × Intent) → At x.names.subscriptions m g → HappensUnsubscribe w i x g new → OnceStand new

@@ -13,3 +13,4 @@ pub mod Sides
 pub mod Once
 pub mod OrderSteps
 pub mod Causes
+pub mod LegalParts
