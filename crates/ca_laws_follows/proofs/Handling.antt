@@ -287,7 +287,7 @@ module _ (log : List Entry) (rs : List RecordSide) (e new : ServerEnd) (s : Sent
               let within : u.0 < length c.lists.down = At-within c.lists.down u.0 u.1 u.2 in
               absurd (was.1 u.0 u.1 lt (taken-at step.sent d.lists.down u.0 u.1 (omega (arith, within, sent)) (ext.down u.0 u.1 u.2)) u_creates)
           | inr lt ↦
-              let w = created.apart u.0 a.2 (sid_in s.message) u.1 t lt u.2 at_t u.4 was.0.5 u_creates was.0.6 in
+              let w = created.apart u.0 a.2 (sid_in s.message) (sid_in s.message) u.1 t lt u.2 at_t u.4 was.0.5 u_creates was.0.6 refl in
               let cleared = w.1 in
               let after : u.1.place < cleared.0 = cleared.2 in
               let until : cleared.0 < t.place = cleared.3 in

@@ -1,16 +1,18 @@
 -- The replies by which channels are created, over every event and run.
-use Rattle.std.proofs.Common.{◌≡◌, ℕ, zero, suc, ◌+◌, ◌<◌, ◌⊎◌, inl, inr, Bool, true, false, cond, not, eqb, eqb-true, List, [], ◌∷◌, ◌++◌, length, Option, Some, None, refl, sym, ap, subst, ◌∙◌, arith}
+use Rattle.std.proofs.Common.{◌≡◌, ℕ, zero, suc, ◌+◌, ◌<◌, ◌%◌, ◌⊎◌, inl, inr, Bool, true, false, cond, not, eqb, eqb-true, List, [], ◌∷◌, ◌++◌, length, Option, Some, None, refl, sym, ap, subst, ◌∙◌, arith}
 use Rattle.std.proofs.lemmas.Bool.{both_ways, cases_Bool}
 use Rattle.std.specs.List.{FoldsTo}
 use Rattle.std.specs.Prelude.{is_some, option_map, slice_set, unwrap_or}
 use Rattle.ca_arena.specs.declared.handle.Handle.{Handle}
 use Rattle.ca_dbr.specs.Elements.{base_of}
 use Rattle.ca_dbr.specs.Types.{base_number}
+use Rattle.ca_ids.specs.Table.{held}
 use Rattle.ca_link.specs.Link.{with_rest}
 use Rattle.ca_text.specs.declared.command.Command.TheVariants as command
+use Rattle.ca_text.specs.Limits.{arena_slots}
 use Rattle.ca_text.specs.Place.{At}
 use Rattle.ca_text.specs.Status.{normal}
-use Rattle.ca_text.proofs.Places.{some_is, At-map, At-mapped, At-one, At-parts, At-snoc, At-within}
+use Rattle.ca_text.proofs.Places.{some_is, At-append, At-last, At-map, At-mapped, At-one, At-parts, At-snoc, At-within}
 use Rattle.ca_wire.specs.Fields.{Fields}
 use Rattle.ca_wire.specs.Messages.{bare, cancel_reply, cleared_reply, error_reply, created_reply, failed_reply, not_found_reply, rights_reply, search_reply, status_reply, text_in, version_reply}
 use Rattle.ca_model.specs.Answers.{Closing}
@@ -18,10 +20,10 @@ use Rattle.ca_model.specs.Due.{Action, Due, IsCreated, KnownChannel, Knows, is_k
 use Rattle.ca_model.specs.Due as action
 use Rattle.ca_model.specs.History.{Circuit, Reply, Sent, Step, Told}
 use Rattle.ca_model.specs.Server.{ServerEnd}
-use Rattle.ca_model.specs.ServerSteps.{Acts, Stepped, knows}
+use Rattle.ca_model.specs.ServerSteps.{Stepped, known_channel, knows}
 use Rattle.ca_model.specs.ServerSteps as stepped
 use Rattle.ca_model.specs.Speech.{Clears, Creates, In, Is}
-use Rattle.ca_model_client.proofs.Tables.{given-fresh, length-more}
+use Rattle.ca_model_client.proofs.Tables.{length-more, under-held}
 use Rattle.ca_model_world.specs.ClientEvents.{HappensAccept, WantsFirst, connected_as, new_circuit}
 use Rattle.ca_model_world.specs.Events.{Event}
 use Rattle.ca_model_world.specs.Events as event
@@ -43,6 +45,7 @@ use Rattle.ca_laws_writes.proofs.Lists.{In-append, In-last, kept-in, none_at}
 use Rattle.ca_laws_writes.proofs.Midway.{set-here}
 use Rattle.ca_laws_writes.proofs.Moves.{same-or}
 use Rattle.ca_laws_held.specs.Worlds.{ServersStand}
+use Rattle.ca_laws_held.proofs.Answering.{due-answer, due-answer-at}
 use Rattle.ca_laws_held.proofs.Handled.{written-parts}
 use Rattle.ca_laws_held.proofs.StepWhole.{event-serves, opening-serves, takes-next}
 use Rattle.ca_laws_held.specs.Created.{AllCreated, CreatedOn}
@@ -167,24 +170,27 @@ within-on up more sid a b on h = (h.0, h.1, h.2, h.3, on h.0 h.1 h.4, h.5)
 pub keeps-created : (c d : Joined) → KeepsOn c d → CreatedOn c → CreatedOn d
 keeps-created c d k h = record {
   about = λ i sid t at reply creates.
-      let r = h.about i sid t (k.creates i t at reply creates.0) reply creates in
+      let r = h.about i sid t (k.creates i t at reply (inl creates.0)) reply creates in
       (subst (λ (l : List Step). t.place < length l) (sym k.handled) r.0, (r.1.0, k.up t.place r.1.0 r.1.1, r.1.2));
-  once = λ i j sid other t u ati atj a b ca cb same. h.once i j sid other t u (k.creates i t ati a ca.0) (k.creates j u atj b cb.0) a b ca cb same;
-  apart = λ i j sid t u lt ati atj a b ca cb.
-      let r = h.apart i j sid t u lt (k.creates i t ati a ca.0) (k.creates j u atj b cb.0) a b ca cb in
+  once = λ i j sid other t u ati atj a b ca cb same. h.once i j sid other t u (k.creates i t ati a (inl ca.0)) (k.creates j u atj b (inl cb.0)) a b ca cb same;
+  apart = λ i j sid other t u lt ati atj a b ca cb one.
+      let r = h.apart i j sid other t u lt (k.creates i t ati a (inl ca.0)) (k.creates j u atj b (inl cb.0)) a b ca cb one in
       (r.0, within-on c.lists.up d.lists.up sid t.place u.place k.up r.1);
   noted = λ i sid t opened at reply creates.
       let o = k.opened opened in
-      elim (h.noted i sid t o.0 (k.creates i t at reply creates.0) reply creates) [
+      elim (h.noted i sid t o.0 (k.creates i t at reply (inl creates.0)) reply creates) [
         | inl x ↦ inl (x.0, subst (λ (l : List Creation). In l x.0) (sym o.1) x.1, x.2, x.3)
         | inr cleared ↦ inr (within-on c.lists.up d.lists.up sid t.place (length d.lists.handled) k.up (subst (λ (l : List Step). IsClearedWithin c.lists.up sid t.place (length l)) (sym k.handled) cleared))
       ];
+  prompt = λ i sid l t g at reply creates lt on. h.prompt i sid l t g (k.creates i t at reply (inl creates.0)) reply creates lt (subst (λ (s : List Step). At s l g) k.handled on);
+  confirms = λ i t at reply adds. (let r = h.confirms i t (k.creates i t at reply (inr (inl adds))) reply adds in (r.0, subst (λ (s : List Step). At s t.place r.0) (sym k.handled) r.1, r.2));
+  refuses = λ i t at reply error. (let r = h.refuses i t (k.creates i t at reply (inr (inr error))) reply error in (r.0, subst (λ (s : List Step). At s t.place r.0) (sym k.handled) r.1, r.2));
 }
 
 -- ---- a message is handled
 
 module _ (c d : Joined) (k : Knows) (s : Sent) (replies : List Fields) (did : Action) (step : Step) (at_s : At c.lists.up (length c.lists.handled) s) (due : Due k s.message replies did)
-    (fresh : (made : IsCreated k s.message replies did) (x : Creation) → In c.creations x → x.sid ≡ made.sid → ⊥) (open_c : c.lists.server_open ≡ true)
+    (fresh : (made : IsCreated k s.message replies did) (x : Creation) → In c.creations x → x.sid % arena_slots ≡ made.sid % arena_slots → ⊥) (sent_is : step.sent ≡ length c.lists.down) (open_c : c.lists.server_open ≡ true)
     (up : d.lists.up ≡ c.lists.up) (down : d.lists.down ≡ c.lists.down ++ about (length c.lists.handled) Reply replies) (handled : d.lists.handled ≡ c.lists.handled ++ step ∷ [])
     (creations : d.lists.server_open ≡ true → d.creations ≡ (numbers_after (length c.lists.handled) did c).creations) (h : CreatedOn c) where
   abbrev place : ℕ
@@ -231,6 +237,10 @@ module _ (c d : Joined) (k : Knows) (s : Sent) (replies : List Fields) (did : Ac
       go action.Greets due_a = inl there
       go action.Nothing due_a = inl there
 
+  only-one : (q : Fields) (i : ℕ) (r : Fields) → At (q ∷ []) i r → i ≡ 0
+  only-one q zero r at = refl
+  only-one q (suc i) r at = absurd (none_at i r at)
+
   pub created-handled : CreatedOn d
   created-handled = record {
     about = λ i sid t at reply creates. elim (split i sid t at creates) [
@@ -250,9 +260,9 @@ module _ (c d : Joined) (k : Knows) (s : Sent) (replies : List Fields) (did : Ac
         | inr ownj ↦ owni.3 ∙ sym ownj.3
       ]
     ];
-    apart = λ i j sid t u lt ati atj a b ca cb. elim (split j sid u atj cb) [
+    apart = λ i j sid other t u lt ati atj a b ca cb one. elim (split j other u atj cb) [
       | inl oldj ↦ elim (split i sid t ati ca) [
-        | inl oldi ↦ (let r = h.apart i j sid t u lt oldi oldj a b ca cb in (r.0, within-on c.lists.up d.lists.up sid t.place u.place up-on r.1))
+        | inl oldi ↦ (let r = h.apart i j sid other t u lt oldi oldj a b ca cb one in (r.0, within-on c.lists.up d.lists.up sid t.place u.place up-on r.1))
         | inr owni ↦ absurd (let in_it : j < length c.lists.down = At-within c.lists.down j u oldj in let e : i ≡ length c.lists.down + 1 = owni.3 in omega (arith, in_it, e, lt))
       ]
       | inr ownj ↦ elim (split i sid t ati ca) [
@@ -261,7 +271,7 @@ module _ (c d : Joined) (k : Knows) (s : Sent) (replies : List Fields) (did : Ac
             let before : t.place < place = (h.about i sid t oldi a ca).0 in
             let is : u.place ≡ place = ownj.0 in
             elim (h.noted i sid t open_c oldi a ca) [
-              | inl x ↦ absurd (fresh ownj.2 x.0 x.1 (x.2 ∙ ownj.4))
+              | inl x ↦ absurd (fresh ownj.2 x.0 x.1 (ap (λ (n : ℕ). n % arena_slots) x.2 ∙ one ∙ ap (λ (n : ℕ). n % arena_slots) ownj.4))
               | inr cleared ↦ (omega (arith, before, is), subst (λ (p : ℕ). IsClearedWithin d.lists.up sid t.place p) (sym is) (within-on c.lists.up d.lists.up sid t.place place up-on cleared))
             ]
       ]
@@ -282,6 +292,32 @@ module _ (c d : Joined) (k : Knows) (s : Sent) (replies : List Fields) (did : Ac
           let now : d.creations ≡ c.creations ++ z ∷ [] = creations opened ∙ ap (λ (a : Action). (numbers_after place a c).creations) (let e : did ≡ action.Opens opens = own.2.does in e) in
           inl (z, subst (λ (l : List Creation). In l z) (sym now) (In-last c.creations z), sym own.4, sym own.0)
     ];
+    prompt = λ i sid l t g at reply creates lt on. elim (split i sid t at creates) [
+      | inl old ↦ elim (At-snoc c.lists.handled step l g (subst (λ (x : List Step). At x l g) handled on)) [
+        | inl was ↦ h.prompt i sid l t g old reply creates lt was
+        | inr last ↦ (let in_it : i < length c.lists.down = At-within c.lists.down i t old in let is : g.sent ≡ length c.lists.down = ap (λ (x : Step). x.sent) last.1 ∙ sent_is in omega (arith, in_it, is))
+      ]
+      | inr own ↦ absurd (let in_it : l < length d.lists.handled = At-within d.lists.handled l g on in let e : t.place ≡ place = own.0 in omega (arith, in_it, more, e, lt))
+    ];
+    confirms = λ i t at reply adds. elim (At-parts c.lists.down (about place Reply replies) i t (subst (λ (l : List Told). At l i t) down at)) [
+      | inl old ↦ (let r = h.confirms i t old reply adds in (r.0, subst (λ (x : List Step). At x t.place r.0) (sym handled) (At-append c.lists.handled (step ∷ []) t.place r.0 r.1), r.2))
+      | inr new_it ↦
+          let r = At-mapped (λ (m : Fields). let z : Told = record { message = m; place = place; cause = Reply } in z) replies new_it.0 t new_it.2 in
+          let cancels = (due-answer k s.message replies did due r.0 (new_it.0, r.1)).confirms (subst (λ (z : Told). Is command.EventAdd z.message) r.2 adds) in
+          let first : new_it.0 ≡ 0 = only-one (cancel_reply s.message) new_it.0 r.0 (subst (λ (l : List Fields). At l new_it.0 r.0) (due.cancel cancels).0 r.1) in
+          let index : i ≡ length c.lists.down + new_it.0 = new_it.1 in
+          let at_i : length c.lists.down ≡ i = omega (arith, first, index) in
+          (step, subst (λ (l : List Step). At l t.place step) (sym handled) (subst (λ (p : ℕ). At (c.lists.handled ++ step ∷ []) p step) (sym (ap (λ (z : Told). z.place) r.2)) (At-last c.lists.handled step)), sent_is ∙ at_i)
+    ];
+    refuses = λ i t at reply error. elim (At-parts c.lists.down (about place Reply replies) i t (subst (λ (l : List Told). At l i t) down at)) [
+      | inl old ↦ (let r = h.refuses i t old reply error in (r.0, subst (λ (x : List Step). At x t.place r.0) (sym handled) (At-append c.lists.handled (step ∷ []) t.place r.0 r.1), r.2))
+      | inr new_it ↦
+          let r = At-mapped (λ (m : Fields). let z : Told = record { message = m; place = place; cause = Reply } in z) replies new_it.0 t new_it.2 in
+          let first : new_it.0 ≡ 0 = (due-answer-at k s.message replies did due r.0 (new_it.0, r.1)).1 (subst (λ (z : Told). Is command.Error z.message) r.2 error) in
+          let index : i ≡ length c.lists.down + new_it.0 = new_it.1 in
+          let at_i : length c.lists.down ≡ i = omega (arith, first, index) in
+          (step, subst (λ (l : List Step). At l t.place step) (sym handled) (subst (λ (p : ℕ). At (c.lists.handled ++ step ∷ []) p step) (sym (ap (λ (z : Told). z.place) r.2)) (At-last c.lists.handled step)), sent_is ∙ at_i)
+    ];
   }
 
 -- ---- a step of a server's end
@@ -292,7 +328,7 @@ created-own w new k j y f on at opened takes channels h d at_d =
     let next = f.steps.0 in
     let sent = takes k j y f.e next.m next.rest on at opened f.has next.takes in
     created-handled j d (knows y.core taken) sent.0 next.replies did step sent.1 (subst (λ (m : Fields). Due (knows y.core taken) m next.replies did) (sym sent.2) next.handles.due)
-    (fresh sent.0) opened (ap (λ (z : Joined). z.lists.up) d_is ∙ lists.0) (ap (λ (z : Joined). z.lists.down) d_is ∙ ap (λ (l : List Told). l ++ about place Reply next.replies) lists.1) (ap (λ (z : Joined). z.lists.handled) d_is ∙ ap (λ (l : List Step). l ++ step ∷ []) lists.2)
+    (fresh sent.0) refl opened (ap (λ (z : Joined). z.lists.up) d_is ∙ lists.0) (ap (λ (z : Joined). z.lists.down) d_is ∙ ap (λ (l : List Told). l ++ about place Reply next.replies) lists.1) (ap (λ (z : Joined). z.lists.handled) d_is ∙ ap (λ (l : List Step). l ++ step ∷ []) lists.2)
     (λ o. ap (λ (z : Joined). z.creations) d_is ∙ (last_on.opened (ap (λ (z : Joined). z.lists.server_open) (sym d_is) ∙ o)).1 ∙ (written-parts j.server y.core did numbers).0) h
   where
     place : ℕ
@@ -348,12 +384,11 @@ created-own w new k j y f on at opened takes channels h d at_d =
         At-one (slice_set after.circuits k noted) k d noted (subst (λ (v : World). At v.circuits k d) new_is at_d) (set-here after.circuits k last noted there)
 
     -- the SID is that of no channel that is open
-    fresh : (s : Sent) → (made : IsCreated (knows y.core taken) s.message (f.steps.0).replies did) (x : Creation) → In j.creations x → x.sid ≡ made.sid → ⊥
-    fresh s made x there same_sid =
-        let opens : KnownChannel = record { sid = made.sid; cid = s.message.p1; name = text_in s.message.payload; retired = false } in
-        let acts : Acts y.core taken (action.Opens opens) (f.steps.0).handles.acted = subst (λ (a : Action). Acts y.core taken a (f.steps.0).handles.acted) made.does (f.steps.0).handles.acts in
+    fresh : (s : Sent) → (made : IsCreated (knows y.core taken) s.message (f.steps.0).replies did) (x : Creation) → In j.creations x → x.sid % arena_slots ≡ made.sid % arena_slots → ⊥
+    fresh s made x there one =
         let r = channels.stale x there in
-        given-fresh f.e.channels r.0 acts.0 r.1 channels.few acts.1 r.2 (r.3 ∙ same_sid ∙ sym acts.2)
+        let u = under-held f.e.channels r.0 r.1 r.2 in
+        made.sid_free (known_channel (r.0, r.1)) (u.0, At-map known_channel (held f.e.channels) u.0 (r.0, r.1) u.1) (ap (λ (n : ℕ). n % arena_slots) r.3 ∙ one)
 
 step-created : (w new : World) (k : ℕ) → TakesSent w → AllChannels w → Happens w (event.ServerStep k) new → AllCreated w → AllCreated new
 step-created w new k takes channels (at, (did, f)) all = elim (handled-or did) [
@@ -385,8 +420,11 @@ created-new : (c : Joined) → c.lists.down ≡ [] → CreatedOn c
 created-new c none = record {
   about = λ i sid t at. absurd (nothing i t at);
   once = λ i j sid other t u at. absurd (nothing i t at);
-  apart = λ i j sid t u lt at. absurd (nothing i t at);
+  apart = λ i j sid other t u lt at. absurd (nothing i t at);
   noted = λ i sid t opened at. absurd (nothing i t at);
+  prompt = λ i sid l t g at. absurd (nothing i t at);
+  confirms = λ i t at. absurd (nothing i t at);
+  refuses = λ i t at. absurd (nothing i t at);
 }
   where
     nothing : (i : ℕ) (t : Told) → At c.lists.down i t → ⊥

@@ -14,7 +14,7 @@ use Rattle.ca_model.specs.Client.{Channel, Client, Clearing, Connecting, Creatin
 use Rattle.ca_model.specs.ClientCalls.{ClientClears, ClientOpens, ClientPuts, ClientReads, ClientSubscribes, ClientUnsubscribes, ClientWrites, IsLive, LiveChannel, Opening, Shape, all_over, cancel_sent, clear_sent, cleared, clearing_sent, event_add_sent, event_cancel_sent, issued, new_subscription, opened, put_sent, read_sent, unsubscribed, unsubscribed_all, unwanted, write_sent}
 use Rattle.ca_model.specs.History.{Called, Cancel, Clear, Create, Intent, Kind, Line, Put, Read, Subscribe, Write}
 use Rattle.ca_model.specs.History as history
-use Rattle.ca_model_safe.specs.Channels.{IsRequest}
+use Rattle.ca_model_safe.specs.Channels.{IsRequest, IsUse}
 use Rattle.ca_model_client.specs.Placed.{IsPlaced, WasGiven}
 use Rattle.ca_model_client.proofs.Standings.{found-standing, never-cleared, stands-as}
 use Rattle.ca_model_client.proofs.Tables.{changed-back, find-at, freed-back, held-back, length-more}
@@ -94,12 +94,12 @@ abbrev pub NoRequest : Names → List Sending → Type 0
 NoRequest n sent = (i : ℕ) (s : Sending) → At sent i s → IsRequest (intent_of n s.aim) → ⊥
 
 -- What was called stays so. What these lines say was called is new, and alone among them. No request was sent, or one alone, which was not
--- called before; and what was called as a request was sent on a circuit that is connected.
+-- called before; and what was called as a request or a subscription was sent on a circuit that is connected.
 pub record Calls (n : Names) (x : Client) (spoken : Names) (sent : List Sending) (lines : List Line) (now : Names) (y : Client) : Type 0 where
   pub olds : (intent : Intent) → IsUsed n x intent → IsUsed now y intent
   pub lines_new : (p : ℕ) (intent : Intent) (e : Option Elements) → At lines p (Called intent e) → (p ≡ 0) × (IsUsed n x intent → ⊥) × IsUsed now y intent
   pub sends : NoRequest spoken sent ⊎ ((s : Sending) × (sent ≡ s ∷ []) × (IsUsed n x (intent_of spoken s.aim) → ⊥) × IsUsed now y (intent_of spoken s.aim))
-  pub asks : (p : ℕ) (intent : Intent) (e : Option Elements) → At lines p (Called intent e) → IsRequest intent
+  pub asks : (p : ℕ) (intent : Intent) (e : Option Elements) → At lines p (Called intent e) → IsUse intent
       → (s : Sending) × (sent ≡ s ∷ []) × (intent_of spoken s.aim ≡ intent) × (is_none (connection_at x s.circuit) ≡ false)
 
 -- lines by which nothing is called
@@ -274,14 +274,15 @@ calls-write n x c h e sent y placed t at writes =
 -- ---- calls with messages that are no requests
 
 calls-told : (n : Names) (x : Client) (spoken : Names) (sent : List Sending) (now : Names) (y : Client) (intent : Intent) (e : Option Elements) (rest : List Line) → ((i : Intent) → IsUsed n x i → IsUsed now y i) → NoRequest spoken sent
-    → (IsRequest intent → ⊥) → (IsUsed n x intent → ⊥) → IsUsed now y intent → NoCall rest → Calls n x spoken sent (Called intent e ∷ rest) now y
-calls-told n x spoken sent now y intent e rest olds plain other fresh used none = record {
+    → (IsUse intent → (s : Sending) × (sent ≡ s ∷ []) × (intent_of spoken s.aim ≡ intent) × (is_none (connection_at x s.circuit) ≡ false)) → (IsUsed n x intent → ⊥) → IsUsed now y intent → NoCall rest
+    → Calls n x spoken sent (Called intent e ∷ rest) now y
+calls-told n x spoken sent now y intent e rest olds plain said fresh used none = record {
   olds = olds;
   lines_new = λ p i f at.
       let c = only p i f at in
       (c.0, λ u. fresh (subst (λ (z : Intent). IsUsed n x z) (sym c.1) u), subst (λ (z : Intent). IsUsed now y z) c.1 used);
   sends = inl plain;
-  asks = λ p i f at r. (let c = only p i f at in absurd (other (subst (λ (z : Intent). IsRequest z) (sym c.1) r)));
+  asks = λ p i f at r. (let c = only p i f at in let m = said (subst (λ (z : Intent). IsUse z) (sym c.1) r) in (m.0, m.1, m.2 ∙ c.1, m.3));
 }
   where
     intent-is : (a b : Intent) (f : Option Elements) → Called a e ≡ Called b f → a ≡ b
@@ -293,12 +294,12 @@ calls-told n x spoken sent now y intent e rest olds plain other fresh used none 
 
 -- ---- subscribe
 
-pub calls-subscribe : (n : Names) (x : Client) (c : ℕ) (h : Handle) (a : Shape) (mask : ℕ) (q : Handle) (sent : List Sending) (y : Client) → ClientSubscribes x h a mask (Ok q) sent y → Tidy n x → AreGiven n.subscriptions x.subscriptions
+pub calls-subscribe : (n : Names) (x : Client) (c : ℕ) (h : Handle) (a : Shape) (mask : ℕ) (q : Handle) (sent : List Sending) (y : Client) → ClientSubscribes x h a mask (Ok q) sent y → IsPlaced x → Tidy n x → AreGiven n.subscriptions x.subscriptions
     → (let intent : Intent = history.On c (Subscribe (length n.subscriptions)) in let now : Names = with_subscription q intent n in Calls n x now sent (Called intent None ∷ []) now y)
-calls-subscribe n x c h a mask q sent y subscribes t given =
+calls-subscribe n x c h a mask q sent y subscribes placed t given =
     subst (λ (w : List Sending × Client). Calls n x now w.0 (Called intent None ∷ []) now w.1) (λ i. (sym subscribes.4.0 i, sym subscribes.4.1 i))
     (calls-told n x now (s ∷ []) now (sending (s ∷ []) z) intent None [] (λ i u. used-less now z (sending (s ∷ []) z) (less-sending (s ∷ []) z) i (before i u))
-    plain (λ r. r) (λ u. less-than-itself (length n.subscriptions) u) (let more = length-more n.subscriptions (q, intent) in omega (arith, more)) no-lines)
+    plain (λ r. (s, refl, meant, live-connected x h subscribes.0 placed subscribes.1)) (λ u. less-than-itself (length n.subscriptions) u) (let more = length-more n.subscriptions (q, intent) in omega (arith, more)) no-lines)
   where
     intent : Intent
     intent = history.On c (Subscribe (length n.subscriptions))
@@ -335,7 +336,7 @@ calls-subscribe n x c h a mask q sent y subscribes t given =
 -- ---- unsubscribe
 
 module _ (n : Names) (x : Client) (g : Handle) (d : Subscription) where
-  less-unsubscribed : (o : Option Standing) → Less x (unsubscribed g o x)
+  pub less-unsubscribed : (o : Option Standing) → Less x (unsubscribed g o x)
   less-unsubscribed None = less-freed g x
   less-unsubscribed (Some Searching) = less-freed g x
   less-unsubscribed (Some (On c Connecting)) = less-freed g x
@@ -388,7 +389,7 @@ calls-unsubscribe n x s m sent y ends t at =
     (subst (λ (i : Intent). Calls n x n sends (Called i None ∷ []) n (sending sends z)) (sym (ap cancelled a.1))
     (calls-told n x n sends n (sending sends z) (history.On a.0 (Cancel m)) None []
     (used-less n x (sending sends z) (less-then x z (sending sends z) (less-unsubscribed n x s.0 d o) less))
-    (plain-no-request n x t sends (cancel-plain n x s.0 d o)) (λ r. r)
+    (plain-no-request n x t sends (cancel-plain n x s.0 d o)) (λ r. absurd r)
     (λ u.
     let one : u.0 ≡ s = At-one n.subscriptions m u.0 s u.1 at in
     both_ways (stands_in d.stage) (u.2 d (subst (λ (k : Handle × Intent). under x.subscriptions k.0 ≡ Some d) (sym one) stands.0)) stands.1)
@@ -403,7 +404,7 @@ module _ (x : Client) (h : Handle) where
   less-into : (z : Client) (s : Standing) → is_gone s ≡ true → Less x z → Less x (with_standing s h z)
   less-into z s gone less = less-then x z (with_standing s h z) less (less-stood s h z (λ ch is i. absurd (both_ways (is_gone s) i gone)))
 
-  less-cleared : (s : Standing) → Less x (cleared h s x)
+  pub less-cleared : (s : Standing) → Less x (cleared h s x)
   less-cleared Searching = (let z : Client = unsubscribed_all h x in less-then x z (without_channel z h) less-none (less-gone h z))
   less-cleared (On c Connecting) =
       let z : Client = unsubscribed_all h x in
@@ -457,7 +458,7 @@ calls-clear n x c h notices sent y lines clears t at none =
     subst (λ (w : List Sending × Client). Calls n x n w.0 (Called (history.On c Clear) None ∷ lines) n w.1) (λ i. (sym clears.3.0 i, sym clears.3.1 i))
     (calls-told n x n sends n (sending sends z) (history.On c Clear) None lines
     (used-less n x (sending sends z) (less-then x z (sending sends z) (less-cleared x h st) less))
-    (plain-no-request n x t sends (clearing-plain x h st)) (λ r. r)
+    (plain-no-request n x t sends (clearing-plain x h st)) (λ r. absurd r)
     (λ u.
     let one : u.0 ≡ h = At-one n.channels c u.0 h u.1 at in
     both_ways (is_gone st) (held-now x h st clears.1) (ap is_gone (sym found.2) ∙ u.2 found.0 (subst (λ (k : Handle). under x.channels k ≡ Some found.0) (sym one) found.1)))

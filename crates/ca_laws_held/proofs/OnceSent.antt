@@ -1,4 +1,4 @@
--- What a client called as a request was sent: a circuit that is connected in its core is open in the world, and its messages go there.
+-- What a client called as a request or a subscription was sent: a circuit that is connected in its core is open in the world, and its messages go there.
 use Rattle.std.proofs.Common.{◌≡◌, ℕ, ◌+◌, ◌⊎◌, inl, inr, Bool, true, false, ◌&&◌, cond, eqb, List, [], ◌∷◌, ◌++◌, length, Option, Some, None, refl, sym, ap, ◌∙◌, subst}
 use Rattle.std.specs.Prelude.{is_none, map, option_and_then, option_map, slice_set, unwrap_or}
 use Rattle.std.proofs.lemmas.Bool.{and_from, both_ways, eq-eqb}
@@ -13,7 +13,7 @@ use Rattle.ca_model.specs.Client.{Client, ClientCircuit, Connection, channels_en
 use Rattle.ca_model.specs.Client as client
 use Rattle.ca_model.specs.History.{Called, Circuit, Intent, Line, Sent}
 use Rattle.ca_model.specs.Server.{Server}
-use Rattle.ca_model_safe.specs.Channels.{IsRequest}
+use Rattle.ca_model_safe.specs.Channels.{IsUse}
 use Rattle.ca_model_client.proofs.Handles.{handle-or, same-itself}
 use Rattle.ca_model_client.proofs.Letting.{ends-ended}
 use Rattle.ca_model_client.proofs.Tables.{changed-back, freed-back}
@@ -34,10 +34,10 @@ IsOpenAt w i life c = (k : ℕ) × (j : Joined) × At w.circuits k j × (j.clien
 abbrev pub IsSaid : World → (life : ℕ) → Intent → Type 0
 IsSaid w life intent = (k : ℕ) × (j : Joined) × (q : ℕ) × (s : Sent) × At w.circuits k j × (j.lists.client ≡ life) × At j.lists.up q s × (s.intent ≡ intent)
 
--- What is connected in a client's core is open, and each request that a log has was sent.
+-- What is connected in a client's core is open, and each request and subscription that a log has was sent.
 pub record SentStand (w : World) : Type 0 where
   pub reached : (i : ℕ) (x : ClientSide) (c : Handle) → At w.clients i x → is_none (connection_at x.core c) ≡ false → IsOpenAt w i x.life c
-  pub asked : (life : ℕ) (log : List Line) (p : ℕ) (intent : Intent) (e : Option Elements) → At w.client_logs life log → At log p (Called intent e) → IsRequest intent → IsSaid w life intent
+  pub asked : (life : ℕ) (log : List Line) (p : ℕ) (intent : Intent) (e : Option Elements) → At w.client_logs life log → At log p (Called intent e) → IsUse intent → IsSaid w life intent
 
 -- ---- ends of circuits
 

@@ -115,7 +115,7 @@ module _ (w new : World) (i : ℕ) (x : ClientSide) (at : At w.clients i x) (sta
         let o : Outcomes = record { core = did.2; names = names; lines = Called intent None ∷ []; sent = did.1 } in
         let z : Client = record x.core { subscriptions = with_held did.0 d x.core.subscriptions } in
         subst (λ (v : World). SentStand v) (sym did.4)
-        (sent-linked w i x names o at (once.there i x at) (calls-subscribe x.names x.core c h (record { data_type = data_type; count = count }) mask did.0 did.1 did.2 did.3 (q.tidy i x at) (stands.sound i x at).named.subscriptions)
+        (sent-linked w i x names o at (once.there i x at) (calls-subscribe x.names x.core c h (record { data_type = data_type; count = count }) mask did.0 did.1 did.2 did.3 (stands.sound i x at).placed (q.tidy i x at) (stands.sound i x at).named.subscriptions)
         (links-sending x.core z did.2 (event_add_sent did.3.0.circuit did.3.0.native.sid did.0 d ∷ []) did.3.4.1 (λ c. refl)) s)
   ]
 

@@ -1,5 +1,5 @@
--- After every run, what a client called as a request was sent.
-use Rattle.std.proofs.Common.{◌≡◌, ℕ, inl, inr, true, List, [], ◌∷◌, Option, Some, refl, sym, subst}
+-- After every run, what a client called as a request or a subscription was sent.
+use Rattle.std.proofs.Common.{◌≡◌, ℕ, inl, inr, true, List, [], ◌∷◌, Option, Some, None, refl, sym, subst}
 use Rattle.std.specs.Prelude.{is_none, length}
 use Rattle.std.specs.List.{FoldsTo}
 use Rattle.std.proofs.lemmas.Bool.{both_ways}
@@ -8,7 +8,9 @@ use Rattle.ca_text.proofs.Places.{At-map, At-mapped}
 use Rattle.ca_dbr.specs.Elements.{Elements}
 use Rattle.ca_model.specs.Client.{connection_at}
 use Rattle.ca_model.specs.History.{Called, Collected, GaveUp, Intent, Line}
-use Rattle.ca_model_safe.specs.Channels.{OfClients}
+use Rattle.ca_model.specs.History as history
+use Rattle.ca_model_safe.specs.Channels.{IsRequest, IsUse, OfClients, Stands}
+use Rattle.ca_model_safe.specs.Legal.{IsSent}
 use Rattle.ca_model_world.specs.Events.{Event}
 use Rattle.ca_model_world.specs.Events as event
 use Rattle.ca_model_world.specs.Runs.{Happens, Runs, StopsAt, clients_below}
@@ -20,7 +22,7 @@ use Rattle.ca_laws_held.specs.Quiet.{ClientsQuiet}
 use Rattle.ca_laws_held.proofs.Kept.{quiet-happens, quiet-opening}
 use Rattle.ca_laws_held.proofs.OnceClients.{collected-no-call, gave-up-no-call}
 use Rattle.ca_laws_held.proofs.OnceRuns.{numbered-place, once-happens, once-opening}
-use Rattle.ca_laws_held.proofs.OnceSent.{SentStand, all-same, sent-same}
+use Rattle.ca_laws_held.proofs.OnceSent.{IsSaid, SentStand, all-same, sent-same}
 use Rattle.ca_laws_held.proofs.OnceSentClients.{begun-none, sent-accept, sent-clear, sent-client-restart, sent-client-step, sent-cut-client, sent-datagram, sent-down, sent-handing-out, sent-open, sent-read, sent-subscribe, sent-ticks, sent-unsubscribe, sent-up, sent-write, sent-write-notify}
 use Rattle.ca_laws_held.proofs.OnceSentServers.{sent-add, sent-cut-server, sent-finish, sent-post, sent-pump, sent-remove, sent-server-restart, sent-server-step}
 use Rattle.ca_laws_held.proofs.OnceWorld.{OnceStand}
@@ -91,7 +93,22 @@ sent-runs setting es stopped w runs =
 
 -- ---- what the statement says
 
+uses : (intent : Intent) → IsRequest intent → IsUse intent
+uses (history.On channel (history.Request kind number)) r = tt
+uses (history.On channel history.Create) r = r
+uses (history.On channel history.Clear) r = r
+uses (history.On channel (history.Subscribe number)) r = tt
+uses (history.On channel (history.Cancel number)) r = r
+uses history.OfCircuit r = r
+
+said-at : (w : World) (life : ℕ) (intent : Intent) → IsSaid w life intent → (n k : ℕ) × Stands (told w) life intent n k
+said-at w life intent r = (r.0, r.2, (circuit_of r.1, At-map circuit_of w.circuits r.0 r.1 r.4, r.5, (r.3, r.6, r.7)))
+
 pub sends-called : (setting : Setting) (es : List Event) (stopped : Option Event) (w : World) → Runs setting es stopped w → OfClients (told w) (SendsCalled (told w))
 sends-called setting es stopped w runs life x at intent e is called =
-    let r = (sent-runs setting es stopped w runs).asked life x called.0 intent e at called.1 is in
-    (r.0, r.2, (circuit_of r.1, At-map circuit_of w.circuits r.0 r.1 r.4, r.5, (r.3, r.6, r.7)))
+    said-at w life intent ((sent-runs setting es stopped w runs).asked life x called.0 intent e at called.1 (uses intent is))
+
+pub is-sent : (setting : Setting) (es : List Event) (stopped : Option Event) (w : World) → Runs setting es stopped w → OfClients (told w) (IsSent (told w))
+is-sent setting es stopped w runs life x at channel number called =
+    let intent : Intent = history.On channel (history.Subscribe number) in
+    said-at w life intent ((sent-runs setting es stopped w runs).asked life x called.0 intent None at called.1 tt)

@@ -62,14 +62,14 @@ module _ (c : Joined) (created : CreatedOn c) (says : SaysRight c.lists) (asked 
       let told : Creates t.1.message sid = (t.5.0, t.5.1 ∙ is) in
       elim (three-ways t.0 j) [
         | inl first ↦
-            let r = created.apart t.0 j sid t.1 b.t first t.2 b.told.0 t.4 b.told.2 told b.told.3 in
+            let r = created.apart t.0 j sid sid t.1 b.t first t.2 b.told.0 t.4 b.told.2 told b.told.3 refl in
             let early : k < p = b.early in
             absurd (not-within x sid x.place k there is refl (omega (arith, early, lt)) (subst (λ (z : ℕ × ℕ). IsClearedWithin c.lists.up sid z.0 z.1) (λ i. (t.3 i, b.told.1 i)) r.1))
         | inr (inl same_place) ↦
             let one : t.1 ≡ b.t = At-one c.lists.down j t.1 b.t (subst (λ (z : ℕ). At c.lists.down z t.1) same_place t.2) b.told.0 in
             sym t.3 ∙ ap (λ (z : Told). z.place) one ∙ b.told.1
         | inr (inr last) ↦
-            let r = created.apart j t.0 sid b.t t.1 last b.told.0 t.2 b.told.2 t.4 b.told.3 told in
+            let r = created.apart j t.0 sid sid b.t t.1 last b.told.0 t.2 b.told.2 t.4 b.told.3 told refl in
             let w : IsClearedWithin c.lists.up sid k x.place = subst (λ (z : ℕ × ℕ). IsClearedWithin c.lists.up sid z.0 z.1) (λ i. (b.told.1 i, t.3 i)) r.1 in
             let e : w.0 < x.place = w.3 in
             absurd (uncleared c created says.under asked channel j k sid p b (w.0, w.1, w.2, omega (arith, e, before), w.4, w.5))

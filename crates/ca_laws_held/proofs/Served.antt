@@ -104,7 +104,7 @@ sided-server w new from told within s = record {
 -- ---- events
 
 keeps-told : (c d : Joined) → KeepsOn c d → IsToldOn c.lists d.lists
-keeps-told c d k = record { told = k.told; creates = λ i sid t at reply creates. inl (k.creates i t at reply creates.0); handled = (let e : length d.lists.handled ≡ length c.lists.handled = ap (λ (l : List Step). length l) k.handled in omega (arith, e)) }
+keeps-told c d k = record { told = k.told; creates = λ i sid t at reply creates. inl (k.creates i t at reply (inl creates.0)); handled = (let e : length d.lists.handled ≡ length c.lists.handled = ap (λ (l : List Step). length l) k.handled in omega (arith, e)) }
 
 pub back-told : (w new : World) → Back w new → AllTold w new
 back-told w new back l d at = (let c = back l d at in (c.0, c.1, keeps-told c.0 d c.2))

@@ -48,12 +48,16 @@ use Rattle.ca_laws_held.proofs.Stand.{closes}
 
 -- ---- from one world to the next
 
--- The circuit goes on; nothing is handled there, and no channel is created. While its end at the server is open, it was open, and the
+-- a reply that is sent as its message is handled: by which a channel is created, an EVENT_CANCEL confirmed, or a message refused
+abbrev pub IsPrompt : Fields → Type 0
+IsPrompt m = Is command.CreateChannel m ⊎ (Is command.EventAdd m ⊎ Is command.Error m)
+
+-- The circuit goes on; nothing is handled there, no channel is created, no EVENT_CANCEL confirmed and nothing refused. While its end at the server is open, it was open, and the
 -- same channels are noted.
 pub record KeepsOn (c d : Joined) : Type 0 where
   pub up : (p : ℕ) (s : Sent) → At c.lists.up p s → At d.lists.up p s
   pub told : (i : ℕ) (t : Told) → At c.lists.down i t → At d.lists.down i t
-  pub creates : (i : ℕ) (t : Told) → At d.lists.down i t → t.cause ≡ Reply → Is command.CreateChannel t.message → At c.lists.down i t
+  pub creates : (i : ℕ) (t : Told) → At d.lists.down i t → t.cause ≡ Reply → IsPrompt t.message → At c.lists.down i t
   pub handled : d.lists.handled ≡ c.lists.handled
   pub opened : d.lists.server_open ≡ true → (c.lists.server_open ≡ true) × (d.creations ≡ c.creations)
 
@@ -258,17 +262,21 @@ post-back w new i y name e mask (gone, core, inl (posts, is)) =
     subst (λ (z : World). Back w z) (sym is) (back-after w told i y (ends_by i core) core (back-lists w told (server.numbers_posted i y.core name mask) refl (posted-same i y.core name mask)))
 post-back w new i y name e mask (gone, core, inr refused) = back-same w new (ap (λ (z : World). z.circuits) refused.3)
 
--- the reply of a put that is finished creates no channel
-replies-none : (y : Server) (b : Put) (gone : Handle → Bool) (sent : List (Handle × Fields)) (mid : Server) → Replies y b gone sent mid → (r : Fields) → In (map (λ (x : Handle × Fields). x.1) sent) r → Is command.CreateChannel r → ⊥
+-- the reply of a put that is finished is none of these
+replies-none : (y : Server) (b : Put) (gone : Handle → Bool) (sent : List (Handle × Fields)) (mid : Server) → Replies y b gone sent mid → (r : Fields) → In (map (λ (x : Handle × Fields). x.1) sent) r → IsPrompt r → ⊥
 replies-none y b gone sent mid (inl said) r there creates = only there.0 (subst (λ (l : List (Handle × Fields)). At (map (λ (x : Handle × Fields). x.1) l) there.0 r) said.2 there.1)
   where
     only : (i : ℕ) → At (finish_reply b ∷ []) i r → ⊥
-    only zero at_r = (let e : ◌≡◌ {A = ℕ} 19 18 = ap (λ (x : Fields). x.command) (some_is (finish_reply b) r at_r) ∙ creates in absurd (omega (arith, e)))
+    only zero at_r = elim creates [
+      | inl made ↦ (let e : ◌≡◌ {A = ℕ} 19 18 = ap (λ (x : Fields). x.command) (some_is (finish_reply b) r at_r) ∙ made in absurd (omega (arith, e)))
+      | inr (inl adds) ↦ (let e : ◌≡◌ {A = ℕ} 19 1 = ap (λ (x : Fields). x.command) (some_is (finish_reply b) r at_r) ∙ adds in absurd (omega (arith, e)))
+      | inr (inr refuses) ↦ (let e : ◌≡◌ {A = ℕ} 19 11 = ap (λ (x : Fields). x.command) (some_is (finish_reply b) r at_r) ∙ refuses in absurd (omega (arith, e)))
+    ]
     only (suc i) at_r = none_at i r at_r
 replies-none y b gone sent mid (inr silent) r there creates = none_at there.0 r (subst (λ (l : List (Handle × Fields)). At (map (λ (x : Handle × Fields). x.1) l) there.0 r) silent.1 there.1)
 
--- replies that are sent late, of which none creates a channel
-late-keeps : (c : Joined) (place : ℕ) (ms : List Fields) → ((r : Fields) → In ms r → Is command.CreateChannel r → ⊥) → KeepsOn c (told_late place ms c)
+-- replies that are sent late, of which none is one of these
+late-keeps : (c : Joined) (place : ℕ) (ms : List Fields) → ((r : Fields) → In ms r → IsPrompt r → ⊥) → KeepsOn c (told_late place ms c)
 late-keeps c place ms none = record {
   up = λ p s at. at;
   told = λ m t at. At-append c.lists.down (about place Reply ms) m t at;
@@ -276,13 +284,13 @@ late-keeps c place ms none = record {
     | inl old ↦ old
     | inr new_it ↦
         let r = At-mapped (λ (q : Fields). let z : Told = record { message = q; place = place; cause = Reply } in z) ms new_it.0 t new_it.2 in
-        absurd (none r.0 (new_it.0, r.1) (subst (λ (z : Told). Is command.CreateChannel z.message) r.2 creates))
+        absurd (none r.0 (new_it.0, r.1) (subst (λ (z : Told). IsPrompt z.message) r.2 creates))
   ];
   handled = refl;
   opened = λ o. (o, refl);
 }
 
-late-back : (told : World) (p : PutPlace) (sent : List (Handle × Fields)) → ((r : Fields) → In (map (λ (x : Handle × Fields). x.1) sent) r → Is command.CreateChannel r → ⊥) → Back told (server.replied_at p sent told)
+late-back : (told : World) (p : PutPlace) (sent : List (Handle × Fields)) → ((r : Fields) → In (map (λ (x : Handle × Fields). x.1) sent) r → IsPrompt r → ⊥) → Back told (server.replied_at p sent told)
 late-back told p sent none l d on = go (replied-at (slice_get told.circuits p.circuit) refl on)
   where
     ms : List Fields

@@ -64,7 +64,7 @@ module _ (c : Joined) (created : CreatedOn c) (under : AreUnder c.lists) (asked 
       let o : IsCreatedBefore c.lists on.0 own.0 own.1 sid l = subst (λ (z : ℕ). IsCreatedBefore c.lists on.0 own.0 own.1 z l) clears.1 own.2 in
       elim (three-ways j own.0) [
         | inl first ↦
-            let r = created.apart j own.0 sid b.t o.t first b.told.0 o.told.0 b.told.2 o.told.2 b.told.3 o.told.3 in
+            let r = created.apart j own.0 sid sid b.t o.t first b.told.0 o.told.0 b.told.2 o.told.2 b.told.3 o.told.3 refl in
             let w : IsClearedWithin c.lists.up sid k own.1 = subst (λ (z : ℕ × ℕ). IsClearedWithin c.lists.up sid z.0 z.1) (λ i. (b.told.1 i, o.told.1 i)) r.1 in
             let early : own.1 < l = o.early in
             let a : k < w.0 = w.2 in
@@ -77,7 +77,7 @@ module _ (c : Joined) (created : CreatedOn c) (under : AreUnder c.lists) (asked 
             let channel_is : on.0 ≡ channel = one-channel on.0 channel Create Create (sym o.asked.1 ∙ ap (λ (z : Sent). z.intent) (sym r_is) ∙ b.asked.1) in
             b.since l q Clear after before at (on.1 ∙ ap (λ (z : ℕ). On z Clear) channel_is)
         | inr (inr last) ↦
-            let r = created.apart own.0 j sid o.t b.t last o.told.0 b.told.0 o.told.2 b.told.2 o.told.3 b.told.3 in
+            let r = created.apart own.0 j sid sid o.t b.t last o.told.0 b.told.0 o.told.2 b.told.2 o.told.3 b.told.3 refl in
             let w : IsClearedWithin c.lists.up sid own.1 k = subst (λ (z : ℕ × ℕ). IsClearedWithin c.lists.up sid z.0 z.1) (λ i. (o.told.1 i, b.told.1 i)) r.1 in
             let a : own.1 < w.0 = w.2 in
             let e : w.0 < k = w.3 in

@@ -1,0 +1,32 @@
+-- Statement: of what a server sends on a circuit: two parts of what is said of that, each by itself.
+use Rattle.std.specs.Prelude.{ℕ, ◌≡◌, ◌<◌, ◌%◌, List, []}
+use Rattle.ca_text.specs.declared.command.Command.TheVariants as command
+use Rattle.ca_text.specs.Limits.{arena_slots}
+use Rattle.ca_text.specs.Place.{At}
+use Rattle.ca_wire.specs.Fields.{Fields}
+use Rattle.ca_model.specs.History.{Circuit, Entry, Line}
+use Rattle.ca_model.specs.Sends.{Conduct, ReadsBetween}
+use Rattle.ca_model.specs.Speech.{Clears, Creates, Is}
+use Rattle.ca_model_safe.specs.Channels.{OfCircuits}
+use Rattle.ca_model_safe.specs.Legal.{server_conduct}
+use Rattle.ca_model_world.specs.World.{World, told}
+
+-- A SID is given only if no open channel has its index.
+abbrev pub GivesFreeSids : Conduct → Type 0
+GivesFreeSids e = (i k a b : ℕ) (m r : Fields) → i < k → At e.sent i m → At e.sent k r → Creates m a → Creates r b
+    → a % arena_slots ≡ b % arena_slots → (j : ℕ) × (c : Fields) × ReadsBetween e i k j c × Clears c a
+
+-- A confirmation answers the EVENT_CANCEL that was read just before.
+abbrev pub ConfirmsAtOnce : Conduct → Type 0
+ConfirmsAtOnce e = (k : ℕ) (m : Fields) → At e.sent k m → Is command.EventAdd m → m.payload ≡ []
+    → (j : ℕ) × (r : Fields) × At e.came j r × At e.read j k × Is command.EventCancel r × (r.p1 ≡ m.p1)
+    × (r.p2 ≡ m.p2)
+
+-- So it is on each circuit of a world.
+abbrev pub ServersGiveFreeSids : World → Type 0
+ServersGiveFreeSids w =
+    OfCircuits (told w) (λ (n : ℕ) (c : Circuit) (x : List Line) (y : List Entry). GivesFreeSids (server_conduct c))
+
+abbrev pub ServersConfirmAtOnce : World → Type 0
+ServersConfirmAtOnce w =
+    OfCircuits (told w) (λ (n : ℕ) (c : Circuit) (x : List Line) (y : List Entry). ConfirmsAtOnce (server_conduct c))

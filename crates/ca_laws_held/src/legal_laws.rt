@@ -1,0 +1,30 @@
+ghost use Rattle.std.specs.Prelude.{List, Option};
+ghost use Rattle.ca_model_safe.specs.Channels.{OfClients};
+ghost use Rattle.ca_model_safe.specs.Legal.{IsSent};
+ghost use Rattle.ca_model_world.specs.Events.{Event};
+ghost use Rattle.ca_model_world.specs.Runs.{AreEvents, Runs};
+ghost use Rattle.ca_model_world.specs.World.{IsSetting, Setting, World, told};
+ghost use Rattle.ca_laws_held.specs.LegalParts.{ServersConfirmAtOnce, ServersGiveFreeSids};
+
+/// In every world to which a run leads, whatever its setting and events, each accepted subscription
+/// has an EVENT_ADD on a circuit of that life of its client: this is `subscriptions` of `Legal`.
+pub fn accepted_subscriptions_were_sent()
+    ensures { (s : Setting) (es : List Event) (stopped : Option Event) (w : World)
+        → Runs s es stopped w → OfClients (told w) (IsSent (told w)) }
+{}
+
+/// After every run from a well-formed setting by well-formed events, a server gives a SID on a
+/// circuit only if no channel that is open there has its index: of each that had, it read the
+/// CLEAR_CHANNEL between. This is `sids` of the statement's `LegalServer`. It holds also of what an
+/// end sent that has ended.
+pub fn servers_give_free_sids()
+    ensures { (s : Setting) (es : List Event) (stopped : Option Event) (w : World) → IsSetting s
+        → AreEvents es → Runs s es stopped w → ServersGiveFreeSids w }
+{}
+
+/// After every such run each EVENT_ADD without payload of a server answers the EVENT_CANCEL that it
+/// read just before, with its SID and its subscription id. This is `confirmations` of `LegalServer`.
+pub fn servers_confirm_at_once()
+    ensures { (s : Setting) (es : List Event) (stopped : Option Event) (w : World) → IsSetting s
+        → AreEvents es → Runs s es stopped w → ServersConfirmAtOnce w }
+{}
