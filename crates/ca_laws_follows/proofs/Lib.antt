@@ -33,3 +33,4 @@ pub mod CausingStep
 pub mod CausingEvents
 pub mod CausingRuns
 pub mod ActsLive
+pub mod KnewRecords
