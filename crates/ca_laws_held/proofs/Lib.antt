@@ -63,3 +63,4 @@ pub mod OnceSentClients
 pub mod OnceSentRuns
 pub mod CauseOnce
 pub mod LegalServers
+pub mod LegalRemovals
