@@ -21,3 +21,8 @@ pub mod Standing
 pub mod Following
 pub mod Whole
 pub mod Joining
+pub mod CausingFrame
+pub mod CausingKeeps
+pub mod CausingStep
+pub mod CausingEvents
+pub mod CausingRuns

@@ -7,3 +7,4 @@ pub mod Listed
 pub mod Sent
 pub mod Record
 pub mod Joining
+pub mod Causing

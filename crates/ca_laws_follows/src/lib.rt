@@ -3,9 +3,11 @@
 //! accepted follow its record, also once its subscription or its circuit has ended.
 #![tactic(auto)]
 
+mod answer_laws;
 mod laws;
 mod post_laws;
 
+pub use answer_laws::messages_have_their_causes;
 pub use laws::{
     follows_record_in_runs, listed_records_are_there, what_was_added_stands_or_is_over,
     what_was_sent_shows_its_posts,

@@ -297,7 +297,10 @@ ended-down ends c = go (ends c)
 -- a message that tells of the removal is of a channel, and about its creation
 pub record ToldOf (name : List ℕ) (e : ServerEnd) (c : Joined) (k : ℕ) (v : Told) : Type 0 where
   pub p : Handle × OpenChannel
+<<<<<<< HEAD
   pub is : v ≡ removal_told c.creations p
+=======
+>>>>>>> main
   pub at : At (channels_of name e) k p
   pub x : Creation
   pub there : In c.creations x
@@ -377,21 +380,21 @@ remove-once s w new i y name h ends at (gone, left, core, inl (removes, is)) all
 -- ---- other events
 
 -- each SERVER_DISCONN was there
-abbrev WereThere : (w new : World) → Type 0
+abbrev pub WereThere : (w new : World) → Type 0
 WereThere w new = (l : ℕ) (d : Joined) → At new.circuits l d → (c : Joined) × At w.circuits l c × ((i : ℕ) (t : Told) → At d.lists.down i t → t.cause ≡ Removal → At c.lists.down i t)
 
 were-once : (w new : World) → WereThere w new → AllRemovedOnce w → AllRemovedOnce new
 were-once w new were all l d at i j t u a b same rt ru = (let c = were l d at in all l c.0 c.1 i j t u (c.2 i t a rt) (c.2 j u b ru) same rt ru)
 
-back-were : (R : Type 0) (w new : World) → (R → ⊥) → Back R w new → WereThere w new
+pub back-were : (R : Type 0) (w new : World) → (R → ⊥) → Back R w new → WereThere w new
 back-were R w new none back l d at =
     let c = back l d at in
     (c.0, c.1, λ i t told removal. elim (c.2.told i t told) [ inl old ↦ old | inr more ↦ elim more.2 [ inl r ↦ absurd (none r) | inr other ↦ absurd (other.0 removal) ] ])
 
-frame-were : (w new : World) → Frame w new → WereThere w new
+pub frame-were : (w new : World) → Frame w new → WereThere w new
 frame-were w new g l d at = (let c = g.back l d at in (c.0, c.1, λ i t told removal. subst (λ (z : List Told). At z i t) c.2.down told))
 
-did-were : (w new : World) (k : ℕ) (j : Joined) (y : ServerSide) → At w.circuits k j → StepHandles w k j y new → WereThere w new
+pub did-were : (w new : World) (k : ℕ) (j : Joined) (y : ServerSide) → At w.circuits k j → StepHandles w k j y new → WereThere w new
 did-were w new k j y on f = subst (λ (z : World). WereThere w z) (sym f.leaves) (go (slice_get after.circuits k) refl)
   where
     mid : World
@@ -445,7 +448,7 @@ accept-once w new i x v f all = elim f.leaves [
     nothing None g = refl
     nothing (Some k) g = refl
 
-removes-or : (e : Event) → (Removes e → ⊥) ⊎ ((i : ℕ) × (name : List ℕ) × (e ≡ event.Remove i name))
+pub removes-or : (e : Event) → (Removes e → ⊥) ⊎ ((i : ℕ) × (name : List ℕ) × (e ≡ event.Remove i name))
 removes-or (event.Remove i name) = inr (i, name, refl)
 removes-or e = inl (λ r. r)
 

@@ -336,7 +336,7 @@ calls-subscribe n x c h a mask q sent y subscribes placed t given =
 -- ---- unsubscribe
 
 module _ (n : Names) (x : Client) (g : Handle) (d : Subscription) where
-  less-unsubscribed : (o : Option Standing) → Less x (unsubscribed g o x)
+  pub less-unsubscribed : (o : Option Standing) → Less x (unsubscribed g o x)
   less-unsubscribed None = less-freed g x
   less-unsubscribed (Some Searching) = less-freed g x
   less-unsubscribed (Some (On c Connecting)) = less-freed g x
@@ -404,7 +404,7 @@ module _ (x : Client) (h : Handle) where
   less-into : (z : Client) (s : Standing) → is_gone s ≡ true → Less x z → Less x (with_standing s h z)
   less-into z s gone less = less-then x z (with_standing s h z) less (less-stood s h z (λ ch is i. absurd (both_ways (is_gone s) i gone)))
 
-  less-cleared : (s : Standing) → Less x (cleared h s x)
+  pub less-cleared : (s : Standing) → Less x (cleared h s x)
   less-cleared Searching = (let z : Client = unsubscribed_all h x in less-then x z (without_channel z h) less-none (less-gone h z))
   less-cleared (On c Connecting) =
       let z : Client = unsubscribed_all h x in

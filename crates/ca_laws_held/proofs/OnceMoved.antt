@@ -259,7 +259,7 @@ moved-heard x c m e (hears.Other is does) = nothing x [] e does
 
 -- ---- datagrams
 
-moved-received : (x : Client) (from : Address) (m : Fields) (e : Effect) → Receives from x m e → Moved x e.sent e.core
+pub moved-received : (x : Client) (from : Address) (m : Fields) (e : Effect) → Receives from x m e → Moved x e.sent e.core
 moved-received x from m e (ends.Search is finds) = moved-finds x (found_at from m) m.p2 (searched_by m.p2 x) e refl finds
 moved-received x from m e (ends.Beacon is port does) = quietly x (beacon_heard from m x) [] e does (less-same x (beacon_heard from m x) refl refl)
 moved-received x from m e (ends.Other not_search not_beacon does) = nothing x [] e does

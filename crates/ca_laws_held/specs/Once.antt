@@ -1,8 +1,9 @@
--- Statement: of what a client called: three parts of what is said of its log, each by itself.
+-- Statement: of what a client called and what it was told: parts of what is said of its log, each by itself.
 use Rattle.std.specs.Prelude.{ℕ, ◌≡◌, List, Option}
 use Rattle.ca_dbr.specs.Elements.{Elements}
+use Rattle.ca_dbr.specs.declared.value.Outcome.{Outcome}
 use Rattle.ca_text.specs.Place.{At}
-use Rattle.ca_model.specs.History.{Called, Intent, Line, World}
+use Rattle.ca_model.specs.History.{Called, Intent, Line, Noticed, On, Put, Read, Request, Subscribe, World}
 use Rattle.ca_model.specs.Speech.{In}
 use Rattle.ca_model_safe.specs.Channels.{IsRequest, Stands}
 
@@ -17,3 +18,14 @@ StandsOnce w life x = (intent : Intent) (n k m l : ℕ) → IsRequest intent →
 -- An accepted request was sent.
 abbrev pub SendsCalled : World → (life : ℕ) → List Line → Type 0
 SendsCalled w life x = (intent : Intent) (e : Option Elements) → IsRequest intent → In x (Called intent e) → (n k : ℕ) × Stands w life intent n k
+
+-- An intent that a client's core keeps until it is answered: to read, to put with notification, or to subscribe.
+abbrev pub IsAwaited : Intent → Type 0
+IsAwaited (On channel (Request Read number)) = Unit {0}
+IsAwaited (On channel (Request Put number)) = Unit {0}
+IsAwaited (On channel (Subscribe number)) = Unit {0}
+IsAwaited intent = ⊥
+
+-- Of each of these one notice tells at most.
+abbrev pub TellsOnce : World → (life : ℕ) → List Line → Type 0
+TellsOnce w life x = (i l : ℕ) (intent : Intent) (o p : Outcome) → IsAwaited intent → At x i (Noticed intent o) → At x l (Noticed intent p) → i ≡ l

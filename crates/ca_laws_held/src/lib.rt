@@ -12,6 +12,7 @@ mod once_laws;
 mod order_laws;
 mod sid_laws;
 mod step_laws;
+mod told_laws;
 
 pub use cause_laws::{channels_are_removed_once, messages_come_after_what_they_are_about};
 pub use heard_laws::{
@@ -37,3 +38,4 @@ pub use step_laws::{
     puts_came_on_their_channels, replies_answer_their_kind, what_is_awaited_is_kept,
     what_is_held_in_runs, what_is_held_is_what_was_meant,
 };
+pub use told_laws::updates_are_told_of_their_own;

@@ -3,7 +3,7 @@ ghost use Rattle.ca_model_safe.specs.Channels.{OfClients};
 ghost use Rattle.ca_model_world.specs.Events.{Event};
 ghost use Rattle.ca_model_world.specs.Runs.{Runs};
 ghost use Rattle.ca_model_world.specs.World.{Setting, World, told};
-ghost use Rattle.ca_laws_held.specs.Once.{CallsOnce, SendsCalled, StandsOnce};
+ghost use Rattle.ca_laws_held.specs.Once.{CallsOnce, SendsCalled, StandsOnce, TellsOnce};
 
 /// In every world to which a run leads, whatever its setting and events, no call of a client is twice
 /// in a log: requests, plain writes and subscriptions have numbers of their own, and what was cleared
@@ -26,4 +26,12 @@ pub fn a_request_is_at_one_place()
 pub fn what_was_called_was_sent()
     ensures { (s : Setting) (es : List Event) (stopped : Option Event) (w : World)
         → Runs s es stopped w → OfClients (told w) (SendsCalled (told w)) }
+{}
+
+/// In every such world a client tells of each read, each put with notification and each subscription
+/// once at most. This is `once` of the clause, without plain writes: of these the client keeps nothing,
+/// so that one refusal at most is told is its server's to show.
+pub fn what_is_awaited_is_told_once()
+    ensures { (s : Setting) (es : List Event) (stopped : Option Event) (w : World)
+        → Runs s es stopped w → OfClients (told w) (TellsOnce (told w)) }
 {}
