@@ -297,10 +297,7 @@ ended-down ends c = go (ends c)
 -- a message that tells of the removal is of a channel, and about its creation
 pub record ToldOf (name : List ℕ) (e : ServerEnd) (c : Joined) (k : ℕ) (v : Told) : Type 0 where
   pub p : Handle × OpenChannel
-<<<<<<< HEAD
   pub is : v ≡ removal_told c.creations p
-=======
->>>>>>> main
   pub at : At (channels_of name e) k p
   pub x : Creation
   pub there : In c.creations x
