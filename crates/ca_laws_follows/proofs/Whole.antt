@@ -49,7 +49,7 @@ use Rattle.ca_laws_follows.proofs.Standing.{sent-pumped}
 abbrev pub LogsGrow : (w new : World) → Type 0
 LogsGrow w new = (l : ℕ) (y : List Entry) → At w.server_logs l y → (more : List Entry) × At new.server_logs l (y ++ more)
 
-leaves-grew : (s : Setting) (w new : World) (e : Event) → TakesSent w → AreNumbered w → (at : CanBe w e) → Leaves w e at new → Sound s w → (new ≡ w) ⊎ Grew w new
+pub leaves-grew : (s : Setting) (w new : World) (e : Event) → TakesSent w → AreNumbered w → (at : CanBe w e) → Leaves w e at new → Sound s w → (new ≡ w) ⊎ Grew w new
 leaves-grew s w new (event.Open i name priority) t u at l h = inr (grew-by w new new (open-frame w new i at.x name priority l) refl refl)
 leaves-grew s w new (event.Clear i c) t u at l h = inr (grew-by w new new (clear-frame w new i at.x c at.h l) refl refl)
 leaves-grew s w new (event.Read i c data_type count) t u at l h = inr (grew-by w new new (read-frame w new i at.x c at.h data_type count l) refl refl)

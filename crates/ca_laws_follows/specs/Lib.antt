@@ -7,4 +7,5 @@ pub mod Listed
 pub mod Sent
 pub mod Record
 pub mod Joining
+pub mod Acts
 pub mod Causing

@@ -49,7 +49,7 @@ use Rattle.ca_laws_writes.proofs.Lists.{In-append, In-last, kept-in, none_at}
 use Rattle.ca_laws_writes.proofs.Midway.{set-here}
 use Rattle.ca_laws_writes.proofs.Moves.{same-or}
 use Rattle.ca_laws_held.specs.Worlds.{ServersStand}
-use Rattle.ca_laws_held.proofs.Answering.{due-answer}
+use Rattle.ca_laws_held.proofs.Answering.{due-answer, due-answer-at}
 use Rattle.ca_laws_held.proofs.Handled.{written-parts}
 use Rattle.ca_laws_held.proofs.StepWhole.{event-serves, opening-serves, takes-next}
 use Rattle.ca_laws_held.specs.Created.{AllCreated, CreatedOn}
@@ -197,7 +197,8 @@ keeps-created c d k h = record {
   owned = λ i j sid other t u lt ati atj a b ca cb same.
       let r = h.owned i j sid other t u lt (k.creates i t ati a (inl ca.0)) (k.creates j u atj b (inl cb.0)) a b ca cb same in
       (r.0, within-on c.lists.up d.lists.up sid t.place u.place k.up r.1);
-  confirms = λ i t at reply adds. (let r = h.confirms i t (k.creates i t at reply (inr adds)) reply adds in (r.0, subst (λ (s : List Step). At s t.place r.0) (sym k.handled) r.1, r.2));
+  confirms = λ i t at reply adds. (let r = h.confirms i t (k.creates i t at reply (inr (inl adds))) reply adds in (r.0, subst (λ (s : List Step). At s t.place r.0) (sym k.handled) r.1, r.2));
+  refuses = λ i t at reply error. (let r = h.refuses i t (k.creates i t at reply (inr (inr error))) reply error in (r.0, subst (λ (s : List Step). At s t.place r.0) (sym k.handled) r.1, r.2));
 }
 
 -- ---- a message is handled
@@ -344,6 +345,15 @@ module _ (c d : Joined) (k : Knows) (s : Sent) (replies : List Fields) (did : Ac
           let at_i : length c.lists.down ≡ i = omega (arith, first, index) in
           (step, subst (λ (l : List Step). At l t.place step) (sym handled) (subst (λ (p : ℕ). At (c.lists.handled ++ step ∷ []) p step) (sym (ap (λ (z : Told). z.place) r.2)) (At-last c.lists.handled step)), sent_is ∙ at_i)
     ];
+    refuses = λ i t at reply error. elim (At-parts c.lists.down (about place Reply replies) i t (subst (λ (l : List Told). At l i t) down at)) [
+      | inl old ↦ (let r = h.refuses i t old reply error in (r.0, subst (λ (x : List Step). At x t.place r.0) (sym handled) (At-append c.lists.handled (step ∷ []) t.place r.0 r.1), r.2))
+      | inr new_it ↦
+          let r = At-mapped (λ (m : Fields). let z : Told = record { message = m; place = place; cause = Reply } in z) replies new_it.0 t new_it.2 in
+          let first : new_it.0 ≡ 0 = (due-answer-at k s.message replies did due r.0 (new_it.0, r.1)).1 (subst (λ (z : Told). Is command.Error z.message) r.2 error) in
+          let index : i ≡ length c.lists.down + new_it.0 = new_it.1 in
+          let at_i : length c.lists.down ≡ i = omega (arith, first, index) in
+          (step, subst (λ (l : List Step). At l t.place step) (sym handled) (subst (λ (p : ℕ). At (c.lists.handled ++ step ∷ []) p step) (sym (ap (λ (z : Told). z.place) r.2)) (At-last c.lists.handled step)), sent_is ∙ at_i)
+    ];
   }
 
 -- ---- a step of a server's end
@@ -463,6 +473,7 @@ created-new c none = record {
   copies = λ i sid t q at. absurd (nothing i t at);
   owned = λ i j sid other t u lt at. absurd (nothing i t at);
   confirms = λ i t at. absurd (nothing i t at);
+  refuses = λ i t at. absurd (nothing i t at);
 }
   where
     nothing : (i : ℕ) (t : Told) → At c.lists.down i t → ⊥

@@ -79,3 +79,4 @@ pub mod OnceNoticedClients
 pub mod OnceNoticedRuns
 pub mod LegalServers
 pub mod LegalRemovals
+pub mod Refused
