@@ -32,3 +32,4 @@ pub mod CausingKeeps
 pub mod CausingStep
 pub mod CausingEvents
 pub mod CausingRuns
+pub mod KnewRecords

@@ -9,3 +9,4 @@ pub mod Record
 pub mod Joining
 pub mod Acts
 pub mod Causing
+pub mod Knew
