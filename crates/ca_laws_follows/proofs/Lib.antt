@@ -32,4 +32,5 @@ pub mod CausingKeeps
 pub mod CausingStep
 pub mod CausingEvents
 pub mod CausingRuns
+pub mod ActsLive
 pub mod KnewRecords
