@@ -33,3 +33,4 @@ pub mod CausingStep
 pub mod CausingEvents
 pub mod CausingRuns
 pub mod KnewRecords
+pub mod KnewStands
