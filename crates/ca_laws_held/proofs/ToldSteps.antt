@@ -1,9 +1,11 @@
--- An update that a client tells as it reads a message is one of its own, over every event and run.
+-- An update, and a notice of a channel or a subscription, that a client tells as it reads a message is one of its own.
+use Rattle.ca_model_client.proofs.Tables.{find-at}
 use Rattle.std.proofs.Common.{◌≡◌, ℕ, ◌+◌, ◌<◌, ◌≤◌, ◌⊎◌, inl, inr, Bool, true, false, cond, ◌&&◌, ◌||◌, List, [], ◌++◌, length, Option, Some, None, refl, sym, ap, subst, ◌∙◌, arith}
-use Rattle.std.specs.Prelude.{option_map, take, unwrap_or}
+use Rattle.std.specs.Prelude.{option_map, take, unwrap_or, find}
 use Rattle.std.proofs.lemmas.Bool.{both_ways}
 use Rattle.ca_arena.specs.declared.handle.Handle.{Handle}
 use Rattle.ca_dbr.specs.declared.value.Outcome.{Outcome}
+use Rattle.ca_dbr.specs.declared.value.Outcome.TheVariants as outcome
 use Rattle.ca_ids.specs.Table.{Table, same_handle, under}
 use Rattle.ca_link.specs.Link.{TakesFirst}
 use Rattle.ca_monitor.specs.Subscriptions.{Cancelled, Ended, Stage, Stands, Subscription, drains_in, stands_in}
@@ -15,8 +17,8 @@ use Rattle.ca_model.specs.Answers.{Notice, Sending}
 use Rattle.ca_model.specs.Answers as notice
 use Rattle.ca_model.specs.Client.{Channel, Client, Clearing, Connecting, Connection, Creating, Doomed, Leaving, Live, On, Phase, Searching, Standing, connection_at, is_on_in, phase_on}
 use Rattle.ca_model.specs.ClientEnds.{StepsOn, after_taking}
-use Rattle.ca_model.specs.Hears.{Hears}
-use Rattle.ca_model.specs.History.{Called, Cancel, Cause, Circuit, Clear, Intent, Line, Removal, Reply, Sent, Step, Subscribe, Told, Update, Updated}
+use Rattle.ca_model.specs.Hears.{Effect, Hears}
+use Rattle.ca_model.specs.History.{Called, Cancel, Cause, Circuit, Clear, Intent, Line, Removal, Reply, Sent, Step, Subscribe, Told, Update, Updated, Noticed}
 use Rattle.ca_model.specs.History as history
 use Rattle.ca_model_safe.specs.Channels.{IsHeld, Suits}
 use Rattle.ca_model_world.specs.ClientEvents.{about_at, heard_in, line_of, channel_number, meant_by}
@@ -32,6 +34,7 @@ use Rattle.ca_laws_held.specs.Held.{AllCircuitsHeld}
 use Rattle.ca_laws_held.specs.OrderSteps.{HaveLives}
 use Rattle.ca_laws_held.specs.Quiet.{ClientsQuiet, Tidy}
 use Rattle.ca_laws_held.specs.Tells.{NoticesTell}
+use Rattle.ca_laws_held.specs.ToldLines.{IsToLast}
 use Rattle.ca_laws_held.proofs.OnceCalls.{IsClearedBy, IsOverBy}
 use Rattle.ca_laws_held.proofs.OnceLess.{is_gone}
 use Rattle.ca_laws_held.proofs.OnceWorld.{OnceStand}
@@ -39,7 +42,7 @@ use Rattle.ca_laws_held.proofs.OrderGrows.{GoesOn}
 use Rattle.ca_laws_held.proofs.OrderKeeps.{IsHearing, hear-grown, hear-lines, hear-mid, hear-step}
 use Rattle.ca_laws_held.proofs.Says.{subscribed-at}
 use Rattle.ca_laws_held.proofs.ToldLines.{lines-grown}
-use Rattle.ca_laws_held.proofs.ToldQuiet.{tells-update}
+use Rattle.ca_laws_held.proofs.ToldQuiet.{tells-held}
 use Rattle.ca_laws_held.proofs.ToldRemoval.{AllRemovals}
 use Rattle.ca_laws_held.proofs.ToldUpdates.{IsRead}
 use Rattle.ca_laws_writes.proofs.Lists.{take-front, take-whole}
@@ -103,6 +106,32 @@ update-cause : (c : Cause) → (c ≡ Reply → ⊥) → (c ≡ Removal → ⊥)
 update-cause Reply not other = absurd (not refl)
 update-cause Removal not other = absurd (other refl)
 update-cause (Update a) not other = (a, refl)
+
+-- ---- notices of channels and subscriptions
+
+abbrev pub IsReply : Cause → Type 0
+IsReply c = c ≡ Reply
+
+-- The line is a notice of a channel or of a subscription, and does not tell Disconnected.
+abbrev pub TellsLasting : Line → Intent → Outcome → Type 0
+TellsLasting line intent o = (line ≡ Noticed intent o) × IsToLast intent × (o ≡ outcome.Disconnected → ⊥)
+
+pub noticed-intent : (a b : Intent) (c d : Outcome) → Noticed a c ≡ Noticed b d → a ≡ b
+noticed-intent a b c d e = cc
+
+pub noticed-outcome : (a b : Intent) (c d : Outcome) → Noticed a c ≡ Noticed b d → c ≡ d
+noticed-outcome a b c d e = cc
+
+-- a request is none
+no-request : (named : List (Handle × Intent)) (q : Handle) → ((i : ℕ) (e : Handle × Intent) → At named i e → (a : ℕ) × (kind : history.Kind) × (e.1 ≡ history.On a (history.Request kind i))) → IsToLast (meant_by named q) → ⊥
+no-request named q asked lasts = go (find (λ (e : Handle × Intent). same_handle e.0 q) named) refl lasts
+  where
+    go : (o : Option (Handle × Intent)) → find (λ (e : Handle × Intent). same_handle e.0 q) named ≡ o → IsToLast (unwrap_or (option_map (λ (e : Handle × Intent). e.1) o) history.OfCircuit) → ⊥
+    go None is lasts = lasts
+    go (Some e) is lasts =
+        let f = find-at (λ (e : Handle × Intent). same_handle e.0 q) named e is in
+        let r = asked f.0 e f.1 in
+        subst (λ (v : Intent). IsToLast v) r.2 lasts
 
 -- ---- a step
 
@@ -194,7 +223,7 @@ module _ (w new : World) (k : ℕ) (j : Joined) (x : ClientSide) (on : At w.circ
   update-read life log y i p line intent o (notice.Update g out) mine there whole placed place at_p is =
       let n = next in
       let z : Client = after_taking j.at_client n.rest x.core in
-      let u = tells-update z j.at_client n.m (record { core = f.core; sent = f.sent; notices = f.notices }) n.hear p (notice.Update g out) at_p in
+      let u = tells-held z j.at_client n.m (record { core = f.core; sent = f.sent; notices = f.notices }) n.hear p (notice.Update g out) at_p in
       let own = tells j x n.d n.m n.rest n.t n.s (record { core = f.core; sent = f.sent; notices = f.notices }) on at n.linked n.first n.told n.up n.hear p (notice.Update g out) at_p in
       let found = heard-is z j.at_client n.m.p2 g u.3 in
       let tidy : Tidy x.names x.core = quiet.tidy j.client x at in
@@ -229,4 +258,70 @@ module _ (w new : World) (k : ℕ) (j : Joined) (x : ClientSide) (on : At w.circ
         | inr more ↦
             let m = At-mapped (line_of about x.names) f.notices more.1 line more.5 in
             inr (update-read life more.0 y i more.1 line intent o m.0 more.2 more.3 more.4 more.5 more.6 m.1 (sym m.2 ∙ is))
+      ]
+
+  -- ---- channels and subscriptions
+
+  -- the channel of a handle that is held was not cleared
+  created-held : (log : List Line) (h : Handle) (ch : Channel) → At w.client_logs x.life log → under x.core.channels h ≡ Some ch → is_gone ch.standing ≡ false → IsHeld log (history.On (channel_number x.names h) history.Create)
+  created-held log h ch logged there is_held = λ clear.
+      let tidy : Tidy x.names x.core = quiet.tidy j.client x at in
+      let a : ℕ = channel_number x.names h in
+      let u = once.called j.client x log clear.0 (history.On a Clear) None at logged clear.1 in
+      let same : u.0 ≡ h = At-one x.names.channels a u.0 h u.1 (tidy.numbered h ch there) in
+      both_ways (is_gone ch.standing) is_held (u.2 ch (subst (λ (k : Handle). under x.core.channels k ≡ Some ch) (sym same) there))
+
+  -- a message that is no SERVER_DISCONN and no EVENT_ADD is a reply
+  reply-of : (command_is : ℕ) → next.m.command ≡ command_is → (command_is ≡ 27 → ⊥) → (command_is ≡ 1 → ⊥) → next.t.cause ≡ Reply
+  reply-of number is gone adds = elim (caused.each k j on (length j.lists.heard) next.t next.told) [
+    | inl reply ↦ reply
+    | inr (inl lost) ↦ absurd (gone (sym is ∙ ap (λ (m : Fields). m.command) (sym next.is) ∙ lost))
+    | inr (inr update) ↦ absurd (adds (sym is ∙ ap (λ (m : Fields). m.command) (sym next.is) ∙ update.0))
+  ]
+
+  lasting-read : (life : ℕ) (log y : List Line) (i p : ℕ) (line : Line) (intent : Intent) (o : Outcome) (said : Notice) → life ≡ x.life → At w.client_logs life log → y ≡ log ++ hear-lines w new k j x on at f → At (hear-lines w new k j x on at f) p line
+      → i ≡ length log + p → At f.notices p said → line_of about x.names said ≡ Noticed intent o → IsToLast intent → (o ≡ outcome.Disconnected → ⊥) → IsRead IsReply new life y i intent o
+  lasting-read life log y i p line intent o (notice.Update g out) mine there whole placed place at_p is lasts here = absurd cc
+  lasting-read life log y i p line intent o (notice.Lost h) mine there whole placed place at_p is lasts here = absurd (here (sym (noticed-outcome (history.On (channel_number x.names h) history.Create) intent outcome.Disconnected o is)))
+  lasting-read life log y i p line intent o (notice.WriteRefused h s) mine there whole placed place at_p is lasts here =
+      absurd (subst (λ (v : Intent). IsToLast v) (sym (noticed-intent _ intent _ o is)) lasts)
+  lasting-read life log y i p line intent o (notice.Completed q out) mine there whole placed place at_p is lasts here =
+      absurd (no-request x.names.requests q (λ m e named. (quiet.tidy j.client x at).asked m e named) (subst (λ (v : Intent). IsToLast v) (sym (noticed-intent (meant_by x.names.requests q) intent out o is)) lasts))
+  lasting-read life log y i p line intent o (notice.Live h) mine there whole placed place at_p is lasts here =
+      let n = next in
+      let e : Effect = record { core = f.core; sent = f.sent; notices = f.notices } in
+      let z : Client = after_taking j.at_client n.rest x.core in
+      let u = tells-held z j.at_client n.m e n.hear p (notice.Live h) at_p in
+      let own = tells j x n.d n.m n.rest n.t n.s e on at n.linked n.first n.told n.up n.hear p (notice.Live h) at_p in
+      let logged : At w.client_logs x.life log = subst (λ (l : ℕ). At w.client_logs l log) mine there in
+      let a : Intent = history.On (channel_number x.names h) history.Create in
+      let one : a ≡ intent = noticed-intent a intent outcome.Done o is in
+      let result : outcome.Done ≡ o = noticed-outcome a intent outcome.Done o is in
+      read-now IsReply life log y i p line intent o mine there whole placed place u.0 (own.0 ∙ one) (subst (λ (v : Outcome). Means n.m v) result own.1)
+      (subst (λ (v : Intent). IsHeld log v) one (created-held log h u.2.0 logged u.2.1 u.2.2))
+      (reply-of 18 u.1 (λ g. (let c : ◌≡◌ {A = ℕ} 18 27 = g in omega (arith, c))) (λ g. (let c : ◌≡◌ {A = ℕ} 18 1 = g in omega (arith, c))))
+  lasting-read life log y i p line intent o (notice.SubscriptionEnded g status) mine there whole placed place at_p is lasts here =
+      let n = next in
+      let e : Effect = record { core = f.core; sent = f.sent; notices = f.notices } in
+      let z : Client = after_taking j.at_client n.rest x.core in
+      let u = tells-held z j.at_client n.m e n.hear p (notice.SubscriptionEnded g status) at_p in
+      let own = tells j x n.d n.m n.rest n.t n.s e on at n.linked n.first n.told n.up n.hear p (notice.SubscriptionEnded g status) at_p in
+      let found = heard-is z j.at_client u.2.0 g u.2.1 in
+      let channel = channel-held x.core.channels j.at_client found.0 found.3 found.4 in
+      let logged : At w.client_logs x.life log = subst (λ (l : ℕ). At w.client_logs l log) mine there in
+      let a : Intent = meant_by x.names.subscriptions g in
+      let one : a ≡ intent = noticed-intent a intent (outcome.Failed status) o is in
+      let result : outcome.Failed status ≡ o = noticed-outcome a intent (outcome.Failed status) o is in
+      read-now IsReply life log y i p line intent o mine there whole placed place u.0 (sym own.0 ∙ one) (subst (λ (v : Outcome). Means n.m v) result own.1)
+      (subst (λ (v : Intent). IsHeld log v) one (subscription-held w j.client x log once at logged (quiet.tidy j.client x at) g found.0 channel.0 found.1 found.3 channel.1 channel.2))
+      (reply-of 11 u.1 (λ g. (let c : ◌≡◌ {A = ℕ} 11 27 = g in omega (arith, c))) (λ g. (let c : ◌≡◌ {A = ℕ} 11 1 = g in omega (arith, c))))
+
+  pub lasting-news : (life : ℕ) (y : List Line) (i : ℕ) (line : Line) (intent : Intent) (o : Outcome) → At new.client_logs life y → At y i line → TellsLasting line intent o → ((log : List Line) × At w.client_logs life log × At log i line) ⊎ IsRead IsReply new life y i intent o
+  lasting-news life y i line intent o there here is =
+      let lines : List Line = hear-lines w new k j x on at f in
+      elim (lines-grown w.client_logs x.life lines (lives.present j.client x at) life y i line (subst (λ (v : List (List Line)). At v life y) (ap (λ (v : World). v.client_logs) f.is) there) here) [
+        | inl old ↦ inl old
+        | inr more ↦
+            let m = At-mapped (line_of about x.names) f.notices more.1 line more.5 in
+            inr (lasting-read life more.0 y i more.1 line intent o m.0 more.2 more.3 more.4 more.5 more.6 m.1 (sym m.2 ∙ is.0) is.1 is.2)
       ]

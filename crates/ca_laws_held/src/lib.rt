@@ -37,4 +37,6 @@ pub use step_laws::{
     puts_came_on_their_channels, replies_answer_their_kind, what_is_awaited_is_kept,
     what_is_held_in_runs, what_is_held_is_what_was_meant,
 };
-pub use told_laws::updates_are_told_of_their_own;
+pub use told_laws::{
+    channels_and_subscriptions_are_told_of_their_own, updates_are_told_of_their_own,
+};
