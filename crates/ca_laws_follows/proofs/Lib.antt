@@ -34,3 +34,4 @@ pub mod CausingEvents
 pub mod CausingRuns
 pub mod ActsLive
 pub mod KnewRecords
+pub mod KnewStands
