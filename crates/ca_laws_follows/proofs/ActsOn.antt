@@ -107,7 +107,7 @@ module _ (j : Joined) (log : List Entry) (f : Facts j log) where
     sent-is = At-one j.lists.up k made-at.s b.r (subst (λ (m : ℕ). At j.lists.up m made-at.s) b.told.1 made-at.sent) b.asked.0
 
     -- none was created later under its SID by a message before p
-    no-other : (l : ℕ) (u : Told) → i < l → At j.lists.down l u → Creates u.message sid → u.place < p → ⊥
+    pub no-other : (l : ℕ) (u : Told) → i < l → At j.lists.down l u → Creates u.message sid → u.place < p → ⊥
     no-other l u lt at creates early =
         let apart = f.created.apart i l sid sid b.t u lt b.told.0 at b.told.2 (f.replies l u at creates.0) b.told.3 creates refl in
         let w = apart.1 in
@@ -115,7 +115,7 @@ module _ (j : Joined) (log : List Entry) (f : Facts j log) where
         uncleared j f.created f.says.under f.asked channel i k sid p b (w.0, w.1, subst (λ (m : ℕ). m < w.0) b.told.1 w.2, omega (arith, until, early), w.4, w.5)
 
     -- and it was cleared by none
-    no-clear : (l : ℕ) (q : Sent) → k < l → l < p → At j.lists.up l q → Clears q.message sid → ⊥
+    pub no-clear : (l : ℕ) (q : Sent) → k < l → l < p → At j.lists.up l q → Clears q.message sid → ⊥
     no-clear l q after before at clears = uncleared j f.created f.says.under f.asked channel i k sid p b (l, q, after, before, at, clears)
 
   handled-record : (p channel : ℕ) (s : Sent) (ask : Ask) (h : Step) → At j.lists.up p s → s.intent ≡ On channel ask → (ask ≡ Create → ⊥) → At j.lists.handled p h → ActedOn j log p channel

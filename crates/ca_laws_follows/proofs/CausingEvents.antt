@@ -174,7 +174,7 @@ pump-causes s w new k j y f ready all on at opened back l c d log lg at_c at_d l
       let same : b.0 ≡ c = At-one w.circuits l b.0 c b.1 at_c in
       elim (b.2.told i t at_t) [
         | inl old ↦ absurd (let lt : i < length c.lists.down = At-within c.lists.down i t (subst (λ (z : Joined). At z.lists.down i t) same old) in omega (arith, lt, from))
-        | inr more ↦ elim more.2 [ inl none ↦ absurd none | inr not ↦ absurd (not cause) ]
+        | inr more ↦ elim more.2 [ inl none ↦ absurd none | inr other ↦ absurd (other.0 cause) ]
       ];
   stands = λ p none. absurd none;
 }

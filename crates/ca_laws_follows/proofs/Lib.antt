@@ -32,4 +32,6 @@ pub mod CausingKeeps
 pub mod CausingStep
 pub mod CausingEvents
 pub mod CausingRuns
+pub mod ActsLive
 pub mod KnewRecords
+pub mod KnewStands

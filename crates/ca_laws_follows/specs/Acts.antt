@@ -1,9 +1,9 @@
 -- Working: parts of the statement's clause of what servers act on, each of every circuit of a world with the logs of the lives that it joins.
 use Rattle.std.specs.Prelude.{ℕ, ◌≡◌, ◌<◌, List, length}
 use Rattle.ca_text.specs.Place.{At}
-use Rattle.ca_model.specs.History.{Ask, Circuit, Create, Entry, Line, On, Reply, Told}
+use Rattle.ca_model.specs.History.{Ask, Circuit, Create, Entry, Line, On, Opened, Reply, Told}
 use Rattle.ca_model.specs.Speech.{Creates}
-use Rattle.ca_model_safe.specs.Channels.{Created, IsNamed, Meant, OfCircuits}
+use Rattle.ca_model_safe.specs.Channels.{Created, IsLive, IsNamed, IsOpen, Meant, OfCircuits, OfClients}
 use Rattle.ca_model_safe.specs.Headline.{Acted}
 use Rattle.ca_model_world.specs.World.{World, told}
 
@@ -17,3 +17,13 @@ abbrev pub ActsAre : World → Type 0
 ActsAre w = OfCircuits (told w) (λ (n : ℕ) (c : Circuit) (x : List Line) (y : List Entry).
     (k channel : ℕ) (ask : Ask) → k < length c.handled → Meant c k (On channel ask) → (ask ≡ Create → ⊥)
     → (r : ℕ) × Acted c y k r × IsNamed x y channel r)
+
+-- A channel that is live at the client is open at the server under its SID, for a record of its name.
+abbrev pub LiveAreOpen : World → Type 0
+LiveAreOpen w = OfCircuits (told w) (λ (n : ℕ) (c : Circuit) (x : List Line) (y : List Entry).
+    (channel j k sid : ℕ) → IsLive c channel j k sid → (r : ℕ) × IsOpen c y j k sid r × IsNamed x y channel r)
+
+-- A channel is opened once.
+abbrev pub OpenOnce : World → Type 0
+OpenOnce w = OfClients (told w) (λ (life : ℕ) (x : List Line).
+    (i j channel : ℕ) (a b : List ℕ) → At x i (Opened channel a) → At x j (Opened channel b) → i ≡ j)

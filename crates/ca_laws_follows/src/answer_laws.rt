@@ -3,7 +3,7 @@ ghost use Rattle.ca_model_world.specs.Events.{Event};
 ghost use Rattle.ca_model_world.specs.Runs.{Runs};
 ghost use Rattle.ca_model_world.specs.World.{IsSetting, Setting, World};
 ghost use Rattle.ca_laws_follows.specs.Causing.{MessagesAreCaused};
-ghost use Rattle.ca_laws_follows.specs.Knew.{KnowRecords};
+ghost use Rattle.ca_laws_follows.specs.Knew.{AllUnended, KnowRecords};
 
 /// After every run from a well-formed setting each message of a server has its cause: an update an
 /// EVENT_ADD that was accepted, on a record; a SERVER_DISCONN a channel whose record the log removed
@@ -21,4 +21,11 @@ pub fn messages_have_their_causes()
 pub fn servers_know_their_records()
     ensures { (s : Setting) (es : List Event) (stopped : Option Event) (w : World) → IsSetting s
         → Runs s es stopped w → KnowRecords w }
+{}
+
+/// After every run from a well-formed setting, of a subscription that stands at an open end no cancel
+/// was handled since its EVENT_ADD, and no clear of its channel.
+pub fn what_stands_was_not_ended()
+    ensures { (s : Setting) (es : List Event) (stopped : Option Event) (w : World) → IsSetting s
+        → Runs s es stopped w → AllUnended w }
 {}

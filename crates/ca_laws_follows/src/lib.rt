@@ -9,9 +9,12 @@ mod laws;
 mod post_laws;
 
 pub use act_laws::{
-    channels_are_created_for_their_records, messages_act_on_the_record_that_is_named,
+    a_channel_is_opened_once, channels_are_created_for_their_records, live_channels_are_open,
+    messages_act_on_the_record_that_is_named,
 };
-pub use answer_laws::{messages_have_their_causes, servers_know_their_records};
+pub use answer_laws::{
+    messages_have_their_causes, servers_know_their_records, what_stands_was_not_ended,
+};
 pub use laws::{
     follows_record_in_runs, listed_records_are_there, what_was_added_stands_or_is_over,
     what_was_sent_shows_its_posts,

@@ -94,12 +94,12 @@ or-right : (a b : Bool) → b ≡ true → a || b ≡ true
 or-right true b e = refl
 or-right false b e = e
 
-and-both : (a b : Bool) → a && b ≡ true → (a ≡ true) × (b ≡ true)
+pub and-both : (a b : Bool) → a && b ≡ true → (a ≡ true) × (b ≡ true)
 and-both true b e = (refl, e)
 and-both false b e = absurd cc
 
 -- a channel that is told of as its record is removed
-told-parts : (name : List ℕ) (e : ServerEnd) (i : ℕ) (p : Handle × OpenChannel) → At (channels_of name e) i p → (under e.channels p.0 ≡ Some p.1) × (bytes_eq p.1.name name ≡ true) × (not p.1.retired ≡ true)
+pub told-parts : (name : List ℕ) (e : ServerEnd) (i : ℕ) (p : Handle × OpenChannel) → At (channels_of name e) i p → (under e.channels p.0 ≡ Some p.1) × (bytes_eq p.1.name name ≡ true) × (not p.1.retired ≡ true)
 told-parts name e i p at =
     let k = In-kept (λ (z : Handle × OpenChannel). bytes_eq z.1.name name && not z.1.retired) (held e.channels) p (i, at) in
     let b = and-both (bytes_eq p.1.name name) (not p.1.retired) k.1 in
@@ -266,7 +266,7 @@ removed-begun w n moment c more new = (
 
 -- ---- lists that are apart
 
-apart-kept : (p : Handle × OpenChannel → Bool) (xs : List (Handle × OpenChannel)) → AreApart xs → AreApart (filter p xs)
+pub apart-kept : (p : Handle × OpenChannel → Bool) (xs : List (Handle × OpenChannel)) → AreApart xs → AreApart (filter p xs)
 apart-kept p [] a = tt
 apart-kept p (x ∷ xs) (none, rest) = go (p x) (apart-kept p xs rest)
   where
@@ -274,7 +274,7 @@ apart-kept p (x ∷ xs) (none, rest) = go (p x) (apart-kept p xs rest)
     go true more = ((λ i f at same. (let k = In-kept p xs f (i, at) in none k.0.0 f k.0.1 same)), more)
     go false more = more
 
-apart-at : (xs : List (Handle × OpenChannel)) → AreApart xs → (i j : ℕ) (a b : Handle × OpenChannel) → At xs i a → At xs j b → a.0 ≡ b.0 → i ≡ j
+pub apart-at : (xs : List (Handle × OpenChannel)) → AreApart xs → (i j : ℕ) (a b : Handle × OpenChannel) → At xs i a → At xs j b → a.0 ≡ b.0 → i ≡ j
 apart-at [] apart i j a b at on same = absurd (none_at i a at)
 apart-at (x ∷ xs) (none, rest) zero zero a b at on same = refl
 apart-at (x ∷ xs) (none, rest) zero (suc j) a b at on same = absurd (none j b on (sym same ∙ ap (λ (z : Handle × OpenChannel). z.0) (sym (some_is x a at))))
@@ -283,7 +283,7 @@ apart-at (x ∷ xs) (none, rest) (suc i) (suc j) a b at on same = ap (λ (n : �
 
 -- ---- a removal
 
-not-both : (b : Bool) → b ≡ true → not b ≡ true → ⊥
+pub not-both : (b : Bool) → b ≡ true → not b ≡ true → ⊥
 not-both true e f = absurd cc
 not-both false e f = absurd cc
 
@@ -297,6 +297,7 @@ ended-down ends c = go (ends c)
 -- a message that tells of the removal is of a channel, and about its creation
 pub record ToldOf (name : List ℕ) (e : ServerEnd) (c : Joined) (k : ℕ) (v : Told) : Type 0 where
   pub p : Handle × OpenChannel
+  pub is : v ≡ removal_told c.creations p
   pub at : At (channels_of name e) k p
   pub x : Creation
   pub there : In c.creations x
@@ -307,7 +308,7 @@ pub told-as : (name : List ℕ) (gone : Handle → Bool) (left : Handle → ℕ)
 told-as name gone left e c channels k v at =
     let q = At-mapped (removal_told c.creations) (disconnected_at name gone left c.at_server (Some (Open e))) k v at in
     let x = disconnect-is name gone left e c channels k q.0 q.1 in
-    record { p = q.0; at = x.0; x = x.1; there = x.2; sid = x.3; place = ap (λ (z : Told). z.place) q.2 ∙ x.4 }
+    record { p = q.0; is = q.2; at = x.0; x = x.1; there = x.2; sid = x.3; place = ap (λ (z : Told). z.place) q.2 ∙ x.4 }
 
 -- an end from which a record's channels are removed, or a beginning of them
 gone-once : (name : List ℕ) (gone : Handle → Bool) (left : Handle → ℕ) (e : ServerEnd) (c d : Joined) → ChannelsOn e c → OnceOn e c → d.lists.down ≡ c.lists.down ++ map (removal_told c.creations) (disconnected_at name gone left c.at_server (Some (Open e)))
@@ -385,7 +386,7 @@ were-once w new were all l d at i j t u a b same rt ru = (let c = were l d at in
 pub back-were : (R : Type 0) (w new : World) → (R → ⊥) → Back R w new → WereThere w new
 back-were R w new none back l d at =
     let c = back l d at in
-    (c.0, c.1, λ i t told removal. elim (c.2.told i t told) [ inl old ↦ old | inr more ↦ elim more.2 [ inl r ↦ absurd (none r) | inr other ↦ absurd (other removal) ] ])
+    (c.0, c.1, λ i t told removal. elim (c.2.told i t told) [ inl old ↦ old | inr more ↦ elim more.2 [ inl r ↦ absurd (none r) | inr other ↦ absurd (other.0 removal) ] ])
 
 pub frame-were : (w new : World) → Frame w new → WereThere w new
 frame-were w new g l d at = (let c = g.back l d at in (c.0, c.1, λ i t told removal. subst (λ (z : List Told). At z i t) c.2.down told))

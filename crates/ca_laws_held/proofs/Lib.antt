@@ -78,4 +78,5 @@ pub mod OnceStill
 pub mod OnceNoticedClients
 pub mod OnceNoticedRuns
 pub mod LegalServers
+pub mod LegalRemovals
 pub mod Refused

@@ -286,7 +286,7 @@ module _ (w new : World) (k : ℕ) (j : Joined) (x : ClientSide) (on : At w.circ
   lasting-read life log y i p line intent o (notice.WriteRefused h s) mine there whole placed place at_p is lasts here =
       absurd (subst (λ (v : Intent). IsToLast v) (sym (noticed-intent _ intent _ o is)) lasts)
   lasting-read life log y i p line intent o (notice.Completed q out) mine there whole placed place at_p is lasts here =
-      absurd (no-request x.names.requests q (λ m e named. (quiet.tidy j.client x at).asked m e named) (subst (λ (v : Intent). IsToLast v) (sym (noticed-intent (meant_by x.names.requests q) intent out o is)) lasts))
+      absurd (no-request x.names.requests q (λ m e named. (let r = (quiet.tidy j.client x at).asked m e named in (r.0, r.1, r.2))) (subst (λ (v : Intent). IsToLast v) (sym (noticed-intent (meant_by x.names.requests q) intent out o is)) lasts))
   lasting-read life log y i p line intent o (notice.Live h) mine there whole placed place at_p is lasts here =
       let n = next in
       let e : Effect = record { core = f.core; sent = f.sent; notices = f.notices } in
