@@ -1,5 +1,5 @@
 //! What whoever records histories asks of a client. No client needs these calls.
-ghost use Rattle.ca_client_core.specs.ForHistories.{LivesOn};
+ghost use Rattle.ca_client_core.specs.ForHistories.{AsksFor, LivesOn};
 
 use crate::client::ClientCore;
 use ca_arena::Handle;
@@ -23,5 +23,27 @@ pub fn live_on(core: &ClientCore, channel: Handle) -> Option<LiveOn>
             count: live.native.count,
         }),
         Err(_) => None,
+    }
+}
+
+/// What a subscription asks for: on this channel, as this type, with so many elements.
+#[derive(Clone, Copy, Debug, PartialEq, Eq)]
+pub struct Asked {
+    pub channel: Handle,
+    pub data_type: u16,
+    pub count: u32,
+}
+
+/// What this subscription asks for, if it stands.
+pub fn subscribed(core: &ClientCore, subscription: Handle) -> Option<Asked>
+    ensures { AsksFor core.now subscription result }
+{
+    match core.monitors.standing(subscription) {
+        Some(found) => Some(Asked {
+            channel: found.channel,
+            data_type: found.data_type,
+            count: found.count,
+        }),
+        None => None,
     }
 }

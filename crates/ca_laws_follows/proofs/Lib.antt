@@ -21,3 +21,17 @@ pub mod Standing
 pub mod Following
 pub mod Whole
 pub mod Joining
+pub mod ActsMade
+pub mod ActsOn
+pub mod ActsTitles
+pub mod ActsNamed
+pub mod ActsClients
+pub mod ActsNamedRuns
+pub mod CausingFrame
+pub mod CausingKeeps
+pub mod CausingStep
+pub mod CausingEvents
+pub mod CausingRuns
+pub mod ActsLive
+pub mod KnewRecords
+pub mod KnewStands

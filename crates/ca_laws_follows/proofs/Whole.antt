@@ -46,10 +46,10 @@ use Rattle.ca_laws_follows.proofs.Standing.{sent-pumped}
 
 -- ---- logs grow
 
-abbrev LogsGrow : (w new : World) → Type 0
+abbrev pub LogsGrow : (w new : World) → Type 0
 LogsGrow w new = (l : ℕ) (y : List Entry) → At w.server_logs l y → (more : List Entry) × At new.server_logs l (y ++ more)
 
-leaves-grew : (s : Setting) (w new : World) (e : Event) → TakesSent w → AreNumbered w → (at : CanBe w e) → Leaves w e at new → Sound s w → (new ≡ w) ⊎ Grew w new
+pub leaves-grew : (s : Setting) (w new : World) (e : Event) → TakesSent w → AreNumbered w → (at : CanBe w e) → Leaves w e at new → Sound s w → (new ≡ w) ⊎ Grew w new
 leaves-grew s w new (event.Open i name priority) t u at l h = inr (grew-by w new new (open-frame w new i at.x name priority l) refl refl)
 leaves-grew s w new (event.Clear i c) t u at l h = inr (grew-by w new new (clear-frame w new i at.x c at.h l) refl refl)
 leaves-grew s w new (event.Read i c data_type count) t u at l h = inr (grew-by w new new (read-frame w new i at.x c at.h data_type count l) refl refl)
@@ -78,7 +78,7 @@ leaves-grew s w new (event.Add i r) t u at l h = add-grew w new i at.y r l
 leaves-grew s w new (event.Tick moment) t u at (mid, ticks, is) h =
     inr (grew-by w mid new (ticks-frame moment w (clients_below (length w.clients)) mid ticks) (ap (λ (z : World). z.server_logs) is) (ap (λ (z : World). z.circuits) is))
 
-logs-grow : (s : Setting) (w new : World) (e : Event) → TakesSent w → AreNumbered w → Happens w e new → Sound s w → LogsGrow w new
+pub logs-grow : (s : Setting) (w new : World) (e : Event) → TakesSent w → AreNumbered w → Happens w e new → Sound s w → LogsGrow w new
 logs-grow s w new e t u happens h = elim (leaves-grew s w new e t u happens.0 happens.1 h) [
   | inl same ↦ logs-stay w new (ap (λ (z : World). z.server_logs) same)
   | inr grew ↦ grew.logs
@@ -87,7 +87,7 @@ logs-grow s w new e t u happens h = elim (leaves-grew s w new e t u happens.0 ha
 -- ---- what was sent
 
 -- each circuit has the log of its server's life
-abbrev LogsThere : World → Type 0
+abbrev pub LogsThere : World → Type 0
 LogsThere w = (n : ℕ) (c : Joined) → At w.circuits n c → (y : List Entry) × At w.server_logs c.lists.server y
 
 sent-back : (w new : World) → Back w new → LogsGrow w new → LogsThere w → AllSent w → AllSent new
@@ -100,7 +100,7 @@ sent-back w new back logs there all n d lg at logged = elim (back n d at) [
   | inr fresh ↦ sent-new lg d fresh.0 fresh.1
 ]
 
-logs-there : (s : Setting) (w : World) → Sound s w → LogsThere w
+pub logs-there : (s : Setting) (w : World) → Sound s w → LogsThere w
 logs-there s w h n c at = (let x = h.within n c at in (x.0, x.1))
 
 -- updates leave, and then circuits may end
@@ -217,7 +217,7 @@ frame-stand s w new h g lines f = record {
   lines = lines;
 }
 
-folds-snoc : (es : List Event) (a b c : World) (e : Event) → FoldsTo Happens a es b → Happens b e c → FoldsTo Happens a (es ++ e ∷ []) c
+pub folds-snoc : (es : List Event) (a b c : World) (e : Event) → FoldsTo Happens a es b → Happens b e c → FoldsTo Happens a (es ++ e ∷ []) c
 folds-snoc [] a b c e same one = (c, subst (λ (z : World). Happens z e c) (sym same) one, refl)
 folds-snoc (x ∷ es) a b c e (mid, first, rest) one = (mid, first, folds-snoc es mid b c e rest one)
 

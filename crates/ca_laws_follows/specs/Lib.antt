@@ -7,3 +7,6 @@ pub mod Listed
 pub mod Sent
 pub mod Record
 pub mod Joining
+pub mod Acts
+pub mod Causing
+pub mod Knew

@@ -3,9 +3,18 @@
 //! accepted follow its record, also once its subscription or its circuit has ended.
 #![tactic(auto)]
 
+mod act_laws;
+mod answer_laws;
 mod laws;
 mod post_laws;
 
+pub use act_laws::{
+    a_channel_is_opened_once, channels_are_created_for_their_records, live_channels_are_open,
+    messages_act_on_the_record_that_is_named,
+};
+pub use answer_laws::{
+    messages_have_their_causes, servers_know_their_records, what_stands_was_not_ended,
+};
 pub use laws::{
     follows_record_in_runs, listed_records_are_there, what_was_added_stands_or_is_over,
     what_was_sent_shows_its_posts,

@@ -9,14 +9,14 @@ use Rattle.ca_text.proofs.Places.{some_is}
 use Rattle.ca_wire.specs.Fields.{Fields}
 use Rattle.ca_wire.specs.Messages.{bare, cancel_reply, cleared_reply, error_reply, failed_reply, not_found_reply, search_reply, status_reply, text_in, version_reply}
 use Rattle.ca_model.specs.Due.{Action, Due, Knows, is_known}
-use Rattle.ca_model.specs.Speech.{In}
+use Rattle.ca_model.specs.Speech.{In, Is}
 use Rattle.ca_laws_writes.proofs.Doing.{any-of, commands, each-at, known-or}
 use Rattle.ca_laws_writes.proofs.Lists.{none_at}
 use Rattle.ca_laws_held.specs.Answering.{Answers}
 
--- one of the commands that answer one of their own, or SERVER_DISCONN
+-- one of the commands that answer one of their own, ERROR, or SERVER_DISCONN
 abbrev pub is_own : ℕ → Bool
-is_own a = eqb a 26 || (eqb a 12 || (eqb a 1 || eqb a 27))
+is_own a = eqb a 26 || (eqb a 12 || (eqb a 1 || (eqb a 27 || eqb a 11)))
 
 pub answers-other : (m q : Fields) (a : ℕ) → q.command ≡ a → is_own a ≡ false → Answers m q
 answers-other m q a is none = record {
@@ -24,26 +24,38 @@ answers-other m q a is none = record {
   cleared = λ e. absurd (both_ways (is_own a) none (ap is_own (sym is ∙ e)));
   confirms = λ e. absurd (both_ways (is_own a) none (ap is_own (sym is ∙ e)));
   copies = λ e. absurd (both_ways (is_own a) none (ap is_own (sym is ∙ e)));
+  refuses = λ e. absurd (both_ways (is_own a) none (ap is_own (sym is ∙ e)));
   never = λ e. absurd (both_ways (is_own a) none (ap is_own (sym is ∙ e)));
 }
 
-pub due-answer : (k : Knows) (m : Fields) (replies : List Fields) (did : Action) → Due k m replies did → (r : Fields) → In replies r → Answers m r
-due-answer k m replies did due r there =
+answers-error : (m : Fields) (cid status : ℕ) → Answers m (error_reply cid status m)
+answers-error m cid status = record {
+  failed = λ f. absurd (let x : ◌≡◌ {A = ℕ} 11 26 = f in cc);
+  cleared = λ f. absurd (let x : ◌≡◌ {A = ℕ} 11 12 = f in cc);
+  confirms = λ f. absurd (let x : ◌≡◌ {A = ℕ} 11 1 = f in cc);
+  copies = λ f. absurd (let x : ◌≡◌ {A = ℕ} 11 1 = f in cc);
+  refuses = λ f. (cid, status, refl);
+  never = λ f. absurd (let x : ◌≡◌ {A = ℕ} 11 27 = f in cc);
+}
+
+-- each answers its message, and an ERROR is the first
+pub due-answer-at : (k : Knows) (m : Fields) (replies : List Fields) (did : Action) → Due k m replies did → (r : Fields) (there : In replies r) → Answers m r × (Is command.Error r → there.0 ≡ 0)
+due-answer-at k m replies did due r there =
     elim (known-or (is_known m.command)) [
       | inr other ↦ none (due.other other).0
       | inl known ↦ any-of m.command commands known When (each-at When commands (
         (λ e. maybe k.greeted version_reply (due.version e).0 (answers-other m version_reply 0 refl refl)),
         (
           (λ e. elim (due.subscribe e) [
-            | inl served ↦ elim served.1 [ inl refused ↦ one (error_reply served.0.channel.cid refused.0 m) refused.2 (answers-other m _ 11 refl refl) | inr added ↦ none added.1 ]
-            | inr stray ↦ one (error_reply stray.0 _ m) stray.2 (answers-other m _ 11 refl refl)
+            | inl served ↦ elim served.1 [ inl refused ↦ one (error_reply served.0.channel.cid refused.0 m) refused.2 (answers-error m _ _) | inr added ↦ none added.1 ]
+            | inr stray ↦ one (error_reply stray.0 _ m) stray.2 (answers-error m _ _)
           ]),
           (
             (λ e. one (cancel_reply m) (due.cancel e).0 (cancelled e)),
             (
               (λ e. elim (due.write e) [
-                | inl served ↦ elim served.1 [ inl refused ↦ one (error_reply served.0.channel.cid refused.0 m) refused.2 (answers-other m _ 11 refl refl) | inr taken ↦ none taken.2 ]
-                | inr stray ↦ one (error_reply stray.0 _ m) stray.2 (answers-other m _ 11 refl refl)
+                | inl served ↦ elim served.1 [ inl refused ↦ one (error_reply served.0.channel.cid refused.0 m) refused.2 (answers-error m _ _) | inr taken ↦ none taken.2 ]
+                | inr stray ↦ one (error_reply stray.0 _ m) stray.2 (answers-error m _ _)
               ]),
               (
                 (λ e. searched (is_some (k.record_of (text_in m.payload))) (eqb m.data_type 10) (due.search e).0),
@@ -63,7 +75,7 @@ due-answer k m replies did due r there =
                         ]),
                         (
                           (λ e. elim (due.create e) [
-                            | inl made ↦ two _ _ made.are (answers-other m _ 22 refl refl) (answers-other m _ 18 refl refl)
+                            | inl made ↦ two _ _ made.are (answers-other m _ 22 refl refl) (answers-other m _ 18 refl refl) (λ f. absurd (let x : ◌≡◌ {A = ℕ} 18 11 = f in cc))
                             | inr not ↦ one (failed_reply m) not.are (failing e)
                           ]),
                           (
@@ -92,40 +104,43 @@ due-answer k m replies did due r there =
     ]
   where
     When : ℕ → Type 0
-    When n = m.command ≡ n → Answers m r
+    When n = m.command ≡ n → Answers m r × (Is command.Error r → there.0 ≡ 0)
 
-    none : replies ≡ [] → Answers m r
+    none : replies ≡ [] → Answers m r × (Is command.Error r → there.0 ≡ 0)
     none is = absurd (none_at there.0 r (subst (λ (l : List Fields). At l there.0 r) is there.1))
 
-    one : (q : Fields) → replies ≡ q ∷ [] → Answers m q → Answers m r
+    one : (q : Fields) → replies ≡ q ∷ [] → Answers m q → Answers m r × (Is command.Error r → there.0 ≡ 0)
     one q is answers = go there.0 (subst (λ (l : List Fields). At l there.0 r) is there.1)
       where
-        go : (i : ℕ) → At (q ∷ []) i r → Answers m r
-        go zero at = subst (λ (x : Fields). Answers m x) (some_is q r at) answers
+        go : (i : ℕ) → At (q ∷ []) i r → Answers m r × (Is command.Error r → i ≡ 0)
+        go zero at = (subst (λ (x : Fields). Answers m x) (some_is q r at) answers, λ e. refl)
         go (suc i) at = absurd (none_at i r at)
 
-    two : (p q : Fields) → replies ≡ p ∷ q ∷ [] → Answers m p → Answers m q → Answers m r
-    two p q is first second = go there.0 (subst (λ (l : List Fields). At l there.0 r) is there.1)
+    two : (p q : Fields) → replies ≡ p ∷ q ∷ [] → Answers m p → Answers m q → (Is command.Error q → ⊥) → Answers m r × (Is command.Error r → there.0 ≡ 0)
+    two p q is first second other = go there.0 (subst (λ (l : List Fields). At l there.0 r) is there.1)
       where
-        go : (i : ℕ) → At (p ∷ q ∷ []) i r → Answers m r
-        go zero at = subst (λ (x : Fields). Answers m x) (some_is p r at) first
-        go (suc zero) at = subst (λ (x : Fields). Answers m x) (some_is q r at) second
+        go : (i : ℕ) → At (p ∷ q ∷ []) i r → Answers m r × (Is command.Error r → i ≡ 0)
+        go zero at = (subst (λ (x : Fields). Answers m x) (some_is p r at) first, λ e. refl)
+        go (suc zero) at = (subst (λ (x : Fields). Answers m x) (some_is q r at) second, λ e. absurd (other (subst (λ (x : Fields). Is command.Error x) (sym (some_is q r at)) e)))
         go (suc (suc i)) at = absurd (none_at i r at)
 
-    maybe : (b : Bool) (q : Fields) → replies ≡ cond b [] (q ∷ []) → Answers m q → Answers m r
+    maybe : (b : Bool) (q : Fields) → replies ≡ cond b [] (q ∷ []) → Answers m q → Answers m r × (Is command.Error r → there.0 ≡ 0)
     maybe true q is answers = none is
     maybe false q is answers = one q is answers
 
-    searched : (a b : Bool) → replies ≡ cond a (search_reply k.port m ∷ []) (cond b (not_found_reply m ∷ []) []) → Answers m r
+    searched : (a b : Bool) → replies ≡ cond a (search_reply k.port m ∷ []) (cond b (not_found_reply m ∷ []) []) → Answers m r × (Is command.Error r → there.0 ≡ 0)
     searched true b is = one (search_reply k.port m) is (answers-other m _ 6 refl refl)
     searched false true is = one (not_found_reply m) is (answers-other m _ 14 refl refl)
     searched false false is = none is
 
     cancelled : m.command ≡ 2 → Answers m (cancel_reply m)
-    cancelled e = record { failed = λ f. absurd (let x : ◌≡◌ {A = ℕ} 1 26 = f in cc); cleared = λ f. absurd (let x : ◌≡◌ {A = ℕ} 1 12 = f in cc); confirms = λ f. e; copies = λ f. refl; never = λ f. absurd (let x : ◌≡◌ {A = ℕ} 1 27 = f in cc) }
+    cancelled e = record { failed = λ f. absurd (let x : ◌≡◌ {A = ℕ} 1 26 = f in cc); cleared = λ f. absurd (let x : ◌≡◌ {A = ℕ} 1 12 = f in cc); confirms = λ f. e; copies = λ f. refl; refuses = λ f. absurd (let x : ◌≡◌ {A = ℕ} 1 11 = f in cc); never = λ f. absurd (let x : ◌≡◌ {A = ℕ} 1 27 = f in cc) }
 
     clearing : m.command ≡ 12 → Answers m (cleared_reply m)
-    clearing e = record { failed = λ f. absurd (let x : ◌≡◌ {A = ℕ} 12 26 = f in cc); cleared = λ f. e; confirms = λ f. absurd (let x : ◌≡◌ {A = ℕ} 12 1 = f in cc); copies = λ f. absurd (let x : ◌≡◌ {A = ℕ} 12 1 = f in cc); never = λ f. absurd (let x : ◌≡◌ {A = ℕ} 12 27 = f in cc) }
+    clearing e = record { failed = λ f. absurd (let x : ◌≡◌ {A = ℕ} 12 26 = f in cc); cleared = λ f. e; confirms = λ f. absurd (let x : ◌≡◌ {A = ℕ} 12 1 = f in cc); copies = λ f. absurd (let x : ◌≡◌ {A = ℕ} 12 1 = f in cc); refuses = λ f. absurd (let x : ◌≡◌ {A = ℕ} 12 11 = f in cc); never = λ f. absurd (let x : ◌≡◌ {A = ℕ} 12 27 = f in cc) }
 
     failing : m.command ≡ 18 → Answers m (failed_reply m)
-    failing e = record { failed = λ f. e; cleared = λ f. absurd (let x : ◌≡◌ {A = ℕ} 26 12 = f in cc); confirms = λ f. absurd (let x : ◌≡◌ {A = ℕ} 26 1 = f in cc); copies = λ f. absurd (let x : ◌≡◌ {A = ℕ} 26 1 = f in cc); never = λ f. absurd (let x : ◌≡◌ {A = ℕ} 26 27 = f in omega (arith, x)) }
+    failing e = record { failed = λ f. e; cleared = λ f. absurd (let x : ◌≡◌ {A = ℕ} 26 12 = f in cc); confirms = λ f. absurd (let x : ◌≡◌ {A = ℕ} 26 1 = f in cc); copies = λ f. absurd (let x : ◌≡◌ {A = ℕ} 26 1 = f in cc); refuses = λ f. absurd (let x : ◌≡◌ {A = ℕ} 26 11 = f in cc); never = λ f. absurd (let x : ◌≡◌ {A = ℕ} 26 27 = f in omega (arith, x)) }
+
+pub due-answer : (k : Knows) (m : Fields) (replies : List Fields) (did : Action) → Due k m replies did → (r : Fields) → In replies r → Answers m r
+due-answer k m replies did due r there = (due-answer-at k m replies did due r there).0

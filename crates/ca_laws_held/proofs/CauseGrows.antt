@@ -1,11 +1,12 @@
 -- Over every event each circuit goes on; but for a message that a server's end handles there, what is sent on it is about messages that were handled before.
 use Rattle.std.proofs.Common.{◌≡◌, ℕ, zero, suc, arith, ◌<◌, ◌≤◌, ◌+◌, ◌⊎◌, inl, inr, Bool, true, false, cond, ◌&&◌, eqb, eqb-true, not, List, [], ◌∷◌, ◌++◌, length, Option, Some, None, refl, sym, ap, subst, ◌∙◌, append-nil, append_assoc}
-use Rattle.std.specs.Prelude.{drop, filter, map, option_and_then, option_map, slice_get, slice_set, take, unwrap_or}
-use Rattle.std.specs.List.{list_any}
+use Rattle.std.specs.Prelude.{Err, Ok, Result, drop, filter, map, option_and_then, option_map, slice_get, slice_set, take, unwrap_or}
+use Rattle.std.specs.List.{FoldsTo, list_any}
 use Rattle.std.specs.Str.{bytes_eq}
 use Rattle.std.proofs.lemmas.List.{length-append}
 use Rattle.ca_arena.specs.declared.handle.Handle.{Handle}
 use Rattle.ca_dbr.specs.Elements.{Elements}
+use Rattle.ca_dbr.specs.Shown.{shown}
 use Rattle.ca_ids.specs.Table.{held, under}
 use Rattle.ca_ids.specs.Wire.{wire_of}
 use Rattle.ca_model_client.proofs.Tables.{held-under}
@@ -14,18 +15,21 @@ use Rattle.ca_queue.specs.Queue.{Queue, with_front_taken}
 use Rattle.ca_queue.specs.Waiting.{front}
 use Rattle.ca_records.specs.Puts.{WaitingPut}
 use Rattle.ca_records.specs.Record.{RecordState, unset}
+use Rattle.ca_text.specs.declared.command.Command.TheVariants as command
+use Rattle.ca_text.specs.declared.refusal.Refusal.{Refusal}
 use Rattle.ca_text.specs.Place.{At}
 use Rattle.ca_text.proofs.Places.{some_is, At-mapped, At-one, At-parts, At-set}
 use Rattle.ca_wire.specs.Fields.{Fields}
 use Rattle.ca_model.specs.Due.{Action}
 use Rattle.ca_model.specs.Ends as why
 use Rattle.ca_model.specs.History as history
-use Rattle.ca_model.specs.History.{Cause, Circuit, Collected, GaveUp, Removal, Reply, Step, Told}
+use Rattle.ca_model.specs.History.{Cause, Circuit, Collected, GaveUp, Removal, Reply, Sent, Step, Told}
 use Rattle.ca_model.specs.Server.{Open, OpenChannel, Server, ServerCircuit, ServerEnd}
-use Rattle.ca_model.specs.ServerCalls.{channels_of}
+use Rattle.ca_model.specs.ServerCalls.{channels_of, finish_reply}
 use Rattle.ca_model.specs.ServerSteps.{HasEnd, Stepped, Update, closed}
 use Rattle.ca_model.specs.ServerSteps as stepped
-use Rattle.ca_model.specs.Speech.{In}
+use Rattle.ca_model.specs.Speech.{In, Is}
+use Rattle.ca_model.specs.Updates.{ShowsTo, update_count, update_in}
 use Rattle.ca_model_world.specs.ClientEvents.{DownTaken, HappensDown, up_taken}
 use Rattle.ca_model_world.specs.Events.{Event}
 use Rattle.ca_model_world.specs.Events as event
@@ -72,30 +76,37 @@ kept-handled s w h n p c at there =
 
 -- ---- from one world to the next
 
+-- it tells of no removal
+abbrev pub IsNoRemoval : Told → Type 0
+IsNoRemoval t = (t.cause ≡ Removal → ⊥) × (Is command.ServerDisconnect t.message → ⊥)
+
 -- The circuit goes on, and nothing is handled there. What is new of what its server sent comes last, and is about what was handled; only
 -- a removal tells SERVER_DISCONNs.
 pub record PlacesOn (Removes : Type 0) (c d : Joined) : Type 0 where
   pub handled : d.lists.handled ≡ c.lists.handled
+  pub up : (p : ℕ) (s : Sent) → At c.lists.up p s → At d.lists.up p s
   pub longer : length c.lists.down ≤ length d.lists.down
   pub told : (i : ℕ) (t : Told) → At d.lists.down i t
-      → At c.lists.down i t ⊎ ((length c.lists.down ≤ i) × (t.place < length c.lists.handled) × (Removes ⊎ (t.cause ≡ Removal → ⊥)))
+      → At c.lists.down i t ⊎ ((length c.lists.down ≤ i) × (t.place < length c.lists.handled) × (Removes ⊎ IsNoRemoval t))
 
 abbrev pub Back : (Removes : Type 0) (w new : World) → Type 0
 Back Removes w new = (l : ℕ) (d : Joined) → At new.circuits l d → (c : Joined) × At w.circuits l c × PlacesOn Removes c d
 
-on-same : (R : Type 0) (c d : Joined) → d.lists.handled ≡ c.lists.handled → d.lists.down ≡ c.lists.down → PlacesOn R c d
-on-same R c d handled down = record {
+on-same : (R : Type 0) (c d : Joined) → d.lists.handled ≡ c.lists.handled → ((p : ℕ) (s : Sent) → At c.lists.up p s → At d.lists.up p s) → d.lists.down ≡ c.lists.down → PlacesOn R c d
+on-same R c d handled up down = record {
   handled = handled;
+  up = up;
   longer = (let e : length d.lists.down ≡ length c.lists.down = ap (λ (l : List Told). length l) down in omega (arith, e));
   told = λ i t at. inl (subst (λ (l : List Told). At l i t) down at);
 }
 
 pub on-lists : (R : Type 0) (c d : Joined) → d.lists ≡ c.lists → PlacesOn R c d
-on-lists R c d lists = on-same R c d (ap (λ (z : Circuit). z.handled) lists) (ap (λ (z : Circuit). z.down) lists)
+on-lists R c d lists = on-same R c d (ap (λ (z : Circuit). z.handled) lists) (λ p s at. subst (λ (z : Circuit). At z.up p s) (sym lists) at) (ap (λ (z : Circuit). z.down) lists)
 
 pub on-then : (R : Type 0) (a b c : Joined) → PlacesOn R a b → PlacesOn R b c → PlacesOn R a c
 on-then R a b c f g = record {
   handled = g.handled ∙ f.handled;
+  up = λ p s at. g.up p s (f.up p s at);
   longer = (let p : length a.lists.down ≤ length b.lists.down = f.longer in let q : length b.lists.down ≤ length c.lists.down = g.longer in omega (arith, p, q));
   told = λ i t at. elim (g.told i t at) [
     | inl old ↦ f.told i t old
@@ -107,9 +118,10 @@ on-then R a b c f g = record {
 }
 
 -- more was sent
-on-more : (R : Type 0) (c d : Joined) (more : List Told) → d.lists.handled ≡ c.lists.handled → d.lists.down ≡ c.lists.down ++ more → ((t : Told) → In more t → (t.place < length c.lists.handled) × (R ⊎ (t.cause ≡ Removal → ⊥))) → PlacesOn R c d
-on-more R c d more handled down each = record {
+on-more : (R : Type 0) (c d : Joined) (more : List Told) → d.lists.handled ≡ c.lists.handled → d.lists.up ≡ c.lists.up → d.lists.down ≡ c.lists.down ++ more → ((t : Told) → In more t → (t.place < length c.lists.handled) × (R ⊎ IsNoRemoval t)) → PlacesOn R c d
+on-more R c d more handled up down each = record {
   handled = handled;
+  up = λ p s at. subst (λ (l : List Sent). At l p s) (sym up) at;
   longer = (let e : length d.lists.down ≡ length c.lists.down + length more = ap (λ (l : List Told). length l) down ∙ length-append c.lists.down more in omega (arith, e));
   told = λ i t at. elim (At-parts c.lists.down more i t (subst (λ (l : List Told). At l i t) down at)) [
     | inl old ↦ inl old
@@ -121,7 +133,7 @@ back-same : (R : Type 0) (w new : World) → new.circuits ≡ w.circuits → Bac
 back-same R w new is l d at = (d, subst (λ (x : List Joined). At x l d) is at, on-lists R d d refl)
 
 pub back-frame : (R : Type 0) (w new : World) → Frame w new → Back R w new
-back-frame R w new f l d at = (let c = f.back l d at in (c.0, c.1, on-same R c.0 d c.2.handled c.2.down))
+back-frame R w new f l d at = (let c = f.back l d at in (c.0, c.1, on-same R c.0 d c.2.handled c.2.later.up c.2.down))
 
 pub back-then : (R : Type 0) (w mid new : World) → Back R w mid → Back R mid new → Back R w new
 back-then R w mid new f g l d at = (let c = g l d at in let b = f l c.0 c.1 in (b.0, b.1, on-then R b.0 c.0 d b.2 c.2))
@@ -143,7 +155,7 @@ on-ending R ends c = go (ends c)
   where
     go : (o : Option (List ℕ)) → PlacesOn R c (unwrap_or (option_map (λ (left : List ℕ). server_closed left c) o) c)
     go None = on-lists R c c refl
-    go (Some left) = on-same R c (server_closed left c) refl refl
+    go (Some left) = on-same R c (server_closed left c) refl (λ p s at. at) refl
 
 pub back-after : (R : Type 0) (w mid : World) (i : ℕ) (side : ServerSide) (ends : Joined → Option (List ℕ)) (core : Server) → Back R w mid → Back R w (server_after i side ends core mid)
 back-after R w mid i side ends core back =
@@ -223,7 +235,18 @@ finish-back R s w new i y name h at (inl f) =
       | inr old ↦ (d, old.0, inl refl)
     ]
 
-    each : (c : Joined) → At w.circuits f.p.circuit c → (t : Told) → In (about f.p.place Reply ms) t → (t.place < length c.lists.handled) × (R ⊎ (t.cause ≡ Removal → ⊥))
+    -- it is the reply of a put
+    plain : (q : Fields) → In ms q → Is command.ServerDisconnect q → ⊥
+    plain q there tells = elim f.finishes.2 [
+      | inl said ↦ only there.0 (subst (λ (l : List (Handle × Fields)). At (map (λ (x : Handle × Fields). x.1) l) there.0 q) said.2 there.1)
+      | inr silent ↦ none_at there.0 q (subst (λ (l : List (Handle × Fields)). At (map (λ (x : Handle × Fields). x.1) l) there.0 q) silent.1 there.1)
+    ]
+      where
+        only : (k : ℕ) → At (finish_reply f.finishes.0.p ∷ []) k q → ⊥
+        only zero at_q = (let e : ◌≡◌ {A = ℕ} 19 27 = ap (λ (x : Fields). x.command) (some_is (finish_reply f.finishes.0.p) q at_q) ∙ tells in absurd (omega (arith, e)))
+        only (suc k) at_q = none_at k q at_q
+
+    each : (c : Joined) → At w.circuits f.p.circuit c → (t : Told) → In (about f.p.place Reply ms) t → (t.place < length c.lists.handled) × (R ⊎ IsNoRemoval t)
     each c on t there =
         let r = At-mapped (λ (q : Fields). let z : Told = record { message = q; place = f.p.place; cause = Reply } in z) ms there.0 t there.1 in (
           subst (λ (q : ℕ). q < length c.lists.handled) (ap (λ (z : Told). z.place) (sym r.2)) (elim f.finishes.2 [
@@ -232,7 +255,7 @@ finish-back R s w new i y name h at (inl f) =
                 (keeps-awaited s w h.stands.sound h.stands.handles h.puts i y name f.finishes.0.r f.finishes.0.p f.r f.p said.0 at f.finishes.0.named f.finishes.0.busy (f.at.0, f.at.1) f.at.2 f.busy said.1)
             | inr silent ↦ absurd (none_at there.0 r.0 (subst (λ (l : List (Handle × Fields)). At (map (λ (x : Handle × Fields). x.1) l) there.0 r.0) silent.1 r.1))
           ]),
-          inr (λ removal. no-removal (ap (λ (z : Told). z.cause) (sym r.2) ∙ removal)),
+          inr (λ removal. no-removal (ap (λ (z : Told). z.cause) (sym r.2) ∙ removal), λ tells. plain r.0 (there.0, r.1) (ap (λ (z : Told). z.message.command) (sym r.2) ∙ tells)),
         )
 
     late : Back R w (server.replied_at f.p f.sent told)
@@ -246,7 +269,7 @@ finish-back R s w new i y name h at (inl f) =
               b.0,
               b.1,
               subst (λ (z : Joined). PlacesOn R b.0 z) (sym is)
-                  (on-more R b.0 (told_late f.p.place ms c) (about f.p.place Reply ms) (ap (λ (z : Circuit). z.handled) lists) (ap (λ (z : Circuit). z.down ++ about f.p.place Reply ms) lists)
+                  (on-more R b.0 (told_late f.p.place ms c) (about f.p.place Reply ms) (ap (λ (z : Circuit). z.handled) lists) (ap (λ (z : Circuit). z.up) lists) (ap (λ (z : Circuit). z.down ++ about f.p.place Reply ms) lists)
                   (each b.0 (subst (λ (m : ℕ). At w.circuits m b.0) here b.1))),
             )
 finish-back R s w new i y name h at (inr refused) = back-same R w new (ap (λ (z : World). z.circuits) refused.2)
@@ -300,7 +323,7 @@ remove-back s w new i y name h at (gone, left, core, inl (removes, is)) =
         go false other = on-lists (Unit {0}) c c refl
         go true both =
             let b = and-both (eqb c.server i) c.lists.server_open both in
-            on-more (Unit {0}) c after (map (removal_told c.creations) gone_of) refl refl (λ t there. (handled (eqb-true c.server i b.0) b.1 t there, inl tt))
+            on-more (Unit {0}) c after (map (removal_told c.creations) gone_of) refl refl refl (λ t there. (handled (eqb-true c.server i b.0) b.1 t there, inl tt))
 remove-back s w new i y name h at (gone, left, core, inr (removes, is)) = back-same (Unit {0}) w new (ap (λ (z : World). z.circuits) is)
 
 add-back : (R : Type 0) (w new : World) (i : ℕ) (y : ServerSide) (r : RecordState) → server.HappensAdd w i y r new → Back R w new
@@ -347,6 +370,43 @@ stamps-update (u ∷ us) ss j numbers t there = go there.0 there.1 (λ later. st
     go zero at more removal = fronts ss j.queues u.queue numbers (ap (λ (x : Told). x.cause) (some_is _ t at) ∙ removal)
     go (suc k) at more removal = more (k, at) removal
 
+-- they are EVENT_ADDs
+abbrev pub AreAdds : List Update → Type 0
+AreAdds us = (k : ℕ) (u : Update) → At us k u → Is command.EventAdd u.message
+
+leaves-adds : (us : List Update) (e after : ServerEnd) → FoldsTo stepped.Leaves e us after → AreAdds us
+leaves-adds [] e after folds k u at = absurd (none_at k u at)
+leaves-adds (v ∷ us) e after (mid, one, rest) zero u at = subst (λ (z : Update). Is command.EventAdd z.message) (some_is v u at) (by one.shows)
+  where
+    by : ShowsTo v.of.wanted v.carries v.message → Is command.EventAdd v.message
+    by (t, typed, is) = ap (λ (m : Fields). m.command) is ∙ shown-adds (shown v.carries.value (update_count v.of.wanted v.carries) t.base)
+      where
+        shown-adds : (r : Result Elements Refusal) → (update_in v.of.wanted v.carries t r).command ≡ 1
+        shown-adds (Ok e) = refl
+        shown-adds (Err r) = refl
+leaves-adds (v ∷ us) e after (mid, one, rest) (suc k) u at = leaves-adds us mid after rest k u at
+
+pumps-adds : (y : Server) (h : Handle) (us : List Update) (new : Server) → stepped.Pumps y h us new → AreAdds us
+pumps-adds y h us new (inl (e, has, (after, folds, over))) = leaves-adds us e after folds
+pumps-adds y h us new (inr (none, nothing, is)) = λ k u at. absurd (none_at k u (subst (λ (l : List Update). At l k u) nothing at))
+
+pub stamps-adds : (us : List Update) (j : Joined) → AreAdds us → (t : Told) → In (stamped_told us j) t → Is command.ServerDisconnect t.message → ⊥
+stamps-adds [] j adds t there tells = absurd (none_at there.0 t there.1)
+stamps-adds (u ∷ us) j adds t there tells = go there.0 there.1 (λ later. stamps-adds us next (λ k v at. adds (suc k) v at) t later tells)
+  where
+    item : ℕ × Cause
+    item = unwrap_or (front_number j.queues u.queue) (0, Reply)
+
+    next : Joined
+    next = record j {
+      queues = unwrap_or (option_map (λ (q : Queue (ℕ × Cause)). slice_set j.queues u.queue (with_front_taken q)) (slice_get j.queues u.queue)) j.queues;
+      lists = record j.lists { down = j.lists.down ++ record { message = u.message; place = item.0; cause = item.1 } ∷ [] };
+    }
+
+    go : (k : ℕ) → At (stamped_told (u ∷ us) j) k t → (In (stamped_told us next) t → ⊥) → ⊥
+    go zero at more = (let e : ◌≡◌ {A = ℕ} 1 27 = sym (adds 0 u refl) ∙ ap (λ (x : Told). x.message.command) (some_is _ t at) ∙ tells in absurd (omega (arith, e)))
+    go (suc k) at more = more (k, at)
+
 -- a circuit whose updates went down
 pub stamped-is : (us : List Update) (j : Joined) → (stamped us j).lists ≡ record j.lists { down = j.lists.down ++ stamped_told us j }
 stamped-is [] j = sym (ap (λ (l : List Told). let c : Circuit = record j.lists { down = l } in c) (append-nil j.lists.down))
@@ -363,8 +423,8 @@ pump-back R s w new k j y h on at opened f =
     subst (λ (z : World). Back R w z) (sym f.leaves)
     (back-after R w (with_circuit k (stamped f.updates j) w) j.server y (ends_by j.server f.core) f.core
     (back-set R w k j (stamped f.updates j) on
-    (on-more R j (stamped f.updates j) (stamped_told f.updates j) (ap (λ (z : Circuit). z.handled) p) (ap (λ (z : Circuit). z.down) p)
-    (λ t there. (kept-handled s w h k t.place j on (pump-later w new k j y f on at opened h.in_step h.numbers h.messages t there).keeps, inr (stamps-update f.updates j.standing j (h.numbers k j on opened) t there))))))
+    (on-more R j (stamped f.updates j) (stamped_told f.updates j) (ap (λ (z : Circuit). z.handled) p) (ap (λ (z : Circuit). z.up) p) (ap (λ (z : Circuit). z.down) p)
+    (λ t there. (kept-handled s w h k t.place j on (pump-later w new k j y f on at opened h.in_step h.numbers h.messages t there).keeps, inr (stamps-update f.updates j.standing j (h.numbers k j on opened) t there, stamps-adds f.updates j (pumps-adds y.core j.at_server f.updates f.core f.pumps) t there))))))
 
 -- ---- every event
 

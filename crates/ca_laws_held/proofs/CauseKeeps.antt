@@ -161,7 +161,7 @@ event-or P s w new (event.Remove i name) h happens others steps accepts = others
 event-or P s w new (event.Add i r) h happens others steps accepts = others (event-back s w new (event.Add i r) tt h happens)
 event-or P s w new (event.Tick moment) h happens others steps accepts = others (event-back s w new (event.Tick moment) tt h happens)
 
-event-after : (s : Setting) (w new : World) (e : Event) → ServersStand s w → Happens w e new → ServersInOrder w → AllComeAfter w → AllComeAfter new
+pub event-after : (s : Setting) (w new : World) (e : Event) → ServersStand s w → Happens w e new → ServersInOrder w → AllComeAfter w → AllComeAfter new
 event-after s w new e h happens order all =
     event-or (AllComeAfter new) s w new e h happens (λ back. back-after-all (Removes e) w new back order all) (λ k is steps. step-after w new k steps order all)
     (λ i is accepts. accept-after w new i accepts.0.x accepts.0.v accepts.1 order all)

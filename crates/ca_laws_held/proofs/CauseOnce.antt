@@ -94,12 +94,12 @@ or-right : (a b : Bool) → b ≡ true → a || b ≡ true
 or-right true b e = refl
 or-right false b e = e
 
-and-both : (a b : Bool) → a && b ≡ true → (a ≡ true) × (b ≡ true)
+pub and-both : (a b : Bool) → a && b ≡ true → (a ≡ true) × (b ≡ true)
 and-both true b e = (refl, e)
 and-both false b e = absurd cc
 
 -- a channel that is told of as its record is removed
-told-parts : (name : List ℕ) (e : ServerEnd) (i : ℕ) (p : Handle × OpenChannel) → At (channels_of name e) i p → (under e.channels p.0 ≡ Some p.1) × (bytes_eq p.1.name name ≡ true) × (not p.1.retired ≡ true)
+pub told-parts : (name : List ℕ) (e : ServerEnd) (i : ℕ) (p : Handle × OpenChannel) → At (channels_of name e) i p → (under e.channels p.0 ≡ Some p.1) × (bytes_eq p.1.name name ≡ true) × (not p.1.retired ≡ true)
 told-parts name e i p at =
     let k = In-kept (λ (z : Handle × OpenChannel). bytes_eq z.1.name name && not z.1.retired) (held e.channels) p (i, at) in
     let b = and-both (bytes_eq p.1.name name) (not p.1.retired) k.1 in
@@ -266,7 +266,7 @@ removed-begun w n moment c more new = (
 
 -- ---- lists that are apart
 
-apart-kept : (p : Handle × OpenChannel → Bool) (xs : List (Handle × OpenChannel)) → AreApart xs → AreApart (filter p xs)
+pub apart-kept : (p : Handle × OpenChannel → Bool) (xs : List (Handle × OpenChannel)) → AreApart xs → AreApart (filter p xs)
 apart-kept p [] a = tt
 apart-kept p (x ∷ xs) (none, rest) = go (p x) (apart-kept p xs rest)
   where
@@ -274,7 +274,7 @@ apart-kept p (x ∷ xs) (none, rest) = go (p x) (apart-kept p xs rest)
     go true more = ((λ i f at same. (let k = In-kept p xs f (i, at) in none k.0.0 f k.0.1 same)), more)
     go false more = more
 
-apart-at : (xs : List (Handle × OpenChannel)) → AreApart xs → (i j : ℕ) (a b : Handle × OpenChannel) → At xs i a → At xs j b → a.0 ≡ b.0 → i ≡ j
+pub apart-at : (xs : List (Handle × OpenChannel)) → AreApart xs → (i j : ℕ) (a b : Handle × OpenChannel) → At xs i a → At xs j b → a.0 ≡ b.0 → i ≡ j
 apart-at [] apart i j a b at on same = absurd (none_at i a at)
 apart-at (x ∷ xs) (none, rest) zero zero a b at on same = refl
 apart-at (x ∷ xs) (none, rest) zero (suc j) a b at on same = absurd (none j b on (sym same ∙ ap (λ (z : Handle × OpenChannel). z.0) (sym (some_is x a at))))
@@ -283,11 +283,11 @@ apart-at (x ∷ xs) (none, rest) (suc i) (suc j) a b at on same = ap (λ (n : �
 
 -- ---- a removal
 
-not-both : (b : Bool) → b ≡ true → not b ≡ true → ⊥
+pub not-both : (b : Bool) → b ≡ true → not b ≡ true → ⊥
 not-both true e f = absurd cc
 not-both false e f = absurd cc
 
-ended-down : (ends : Joined → Option (List ℕ)) (c : Joined) → (ending ends c).lists.down ≡ c.lists.down
+pub ended-down : (ends : Joined → Option (List ℕ)) (c : Joined) → (ending ends c).lists.down ≡ c.lists.down
 ended-down ends c = go (ends c)
   where
     go : (o : Option (List ℕ)) → (unwrap_or (option_map (λ (left : List ℕ). server_closed left c) o) c).lists.down ≡ c.lists.down
@@ -295,19 +295,20 @@ ended-down ends c = go (ends c)
     go (Some left) = refl
 
 -- a message that tells of the removal is of a channel, and about its creation
-record ToldOf (name : List ℕ) (e : ServerEnd) (c : Joined) (k : ℕ) (v : Told) : Type 0 where
-  p : Handle × OpenChannel
-  at : At (channels_of name e) k p
-  x : Creation
-  there : In c.creations x
-  sid : x.sid ≡ wire_of p.0
-  place : v.place ≡ x.place
+pub record ToldOf (name : List ℕ) (e : ServerEnd) (c : Joined) (k : ℕ) (v : Told) : Type 0 where
+  pub p : Handle × OpenChannel
+  pub is : v ≡ removal_told c.creations p
+  pub at : At (channels_of name e) k p
+  pub x : Creation
+  pub there : In c.creations x
+  pub sid : x.sid ≡ wire_of p.0
+  pub place : v.place ≡ x.place
 
-told-as : (name : List ℕ) (gone : Handle → Bool) (left : Handle → ℕ) (e : ServerEnd) (c : Joined) → ChannelsOn e c → (k : ℕ) (v : Told) → At (map (removal_told c.creations) (disconnected_at name gone left c.at_server (Some (Open e)))) k v → ToldOf name e c k v
+pub told-as : (name : List ℕ) (gone : Handle → Bool) (left : Handle → ℕ) (e : ServerEnd) (c : Joined) → ChannelsOn e c → (k : ℕ) (v : Told) → At (map (removal_told c.creations) (disconnected_at name gone left c.at_server (Some (Open e)))) k v → ToldOf name e c k v
 told-as name gone left e c channels k v at =
     let q = At-mapped (removal_told c.creations) (disconnected_at name gone left c.at_server (Some (Open e))) k v at in
     let x = disconnect-is name gone left e c channels k q.0 q.1 in
-    record { p = q.0; at = x.0; x = x.1; there = x.2; sid = x.3; place = ap (λ (z : Told). z.place) q.2 ∙ x.4 }
+    record { p = q.0; is = q.2; at = x.0; x = x.1; there = x.2; sid = x.3; place = ap (λ (z : Told). z.place) q.2 ∙ x.4 }
 
 -- an end from which a record's channels are removed, or a beginning of them
 gone-once : (name : List ℕ) (gone : Handle → Bool) (left : Handle → ℕ) (e : ServerEnd) (c d : Joined) → ChannelsOn e c → OnceOn e c → d.lists.down ≡ c.lists.down ++ map (removal_told c.creations) (disconnected_at name gone left c.at_server (Some (Open e)))
@@ -376,21 +377,21 @@ remove-once s w new i y name h ends at (gone, left, core, inl (removes, is)) all
 -- ---- other events
 
 -- each SERVER_DISCONN was there
-abbrev WereThere : (w new : World) → Type 0
+abbrev pub WereThere : (w new : World) → Type 0
 WereThere w new = (l : ℕ) (d : Joined) → At new.circuits l d → (c : Joined) × At w.circuits l c × ((i : ℕ) (t : Told) → At d.lists.down i t → t.cause ≡ Removal → At c.lists.down i t)
 
 were-once : (w new : World) → WereThere w new → AllRemovedOnce w → AllRemovedOnce new
 were-once w new were all l d at i j t u a b same rt ru = (let c = were l d at in all l c.0 c.1 i j t u (c.2 i t a rt) (c.2 j u b ru) same rt ru)
 
-back-were : (R : Type 0) (w new : World) → (R → ⊥) → Back R w new → WereThere w new
+pub back-were : (R : Type 0) (w new : World) → (R → ⊥) → Back R w new → WereThere w new
 back-were R w new none back l d at =
     let c = back l d at in
-    (c.0, c.1, λ i t told removal. elim (c.2.told i t told) [ inl old ↦ old | inr more ↦ elim more.2 [ inl r ↦ absurd (none r) | inr other ↦ absurd (other removal) ] ])
+    (c.0, c.1, λ i t told removal. elim (c.2.told i t told) [ inl old ↦ old | inr more ↦ elim more.2 [ inl r ↦ absurd (none r) | inr other ↦ absurd (other.0 removal) ] ])
 
-frame-were : (w new : World) → Frame w new → WereThere w new
+pub frame-were : (w new : World) → Frame w new → WereThere w new
 frame-were w new g l d at = (let c = g.back l d at in (c.0, c.1, λ i t told removal. subst (λ (z : List Told). At z i t) c.2.down told))
 
-did-were : (w new : World) (k : ℕ) (j : Joined) (y : ServerSide) → At w.circuits k j → StepHandles w k j y new → WereThere w new
+pub did-were : (w new : World) (k : ℕ) (j : Joined) (y : ServerSide) → At w.circuits k j → StepHandles w k j y new → WereThere w new
 did-were w new k j y on f = subst (λ (z : World). WereThere w z) (sym f.leaves) (go (slice_get after.circuits k) refl)
   where
     mid : World
@@ -444,7 +445,7 @@ accept-once w new i x v f all = elim f.leaves [
     nothing None g = refl
     nothing (Some k) g = refl
 
-removes-or : (e : Event) → (Removes e → ⊥) ⊎ ((i : ℕ) × (name : List ℕ) × (e ≡ event.Remove i name))
+pub removes-or : (e : Event) → (Removes e → ⊥) ⊎ ((i : ℕ) × (name : List ℕ) × (e ≡ event.Remove i name))
 removes-or (event.Remove i name) = inr (i, name, refl)
 removes-or e = inl (λ r. r)
 

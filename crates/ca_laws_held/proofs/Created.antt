@@ -7,6 +7,7 @@ use Rattle.ca_arena.specs.declared.handle.Handle.{Handle}
 use Rattle.ca_dbr.specs.Elements.{base_of}
 use Rattle.ca_dbr.specs.Types.{base_number}
 use Rattle.ca_ids.specs.Table.{held}
+use Rattle.ca_ids.specs.Wire.{wire_of}
 use Rattle.ca_link.specs.Link.{with_rest}
 use Rattle.ca_text.specs.declared.command.Command.TheVariants as command
 use Rattle.ca_text.specs.Limits.{arena_slots}
@@ -34,21 +35,26 @@ use Rattle.ca_model_world.specs.World.{ClientSide, Creation, IsSetting, Joined, 
 use Rattle.ca_laws_bytes.specs.Runs.{IsReached}
 use Rattle.ca_laws_circuit.specs.Sids.{IsClearedWithin}
 use Rattle.ca_laws_circuit.proofs.Sids.{within-wider}
-use Rattle.ca_laws_kept.specs.Channels.{AllChannels, ChannelsOn}
+use Rattle.ca_laws_kept.specs.Channels.{AllChannels, ChannelsOn, has_sid}
 use Rattle.ca_laws_runs.proofs.Handled.{numbers-like, writes-like}
 use Rattle.ca_laws_writes.specs.Seats.{TakesSent}
 use Rattle.ca_laws_writes.proofs.Doing.{any-of, clears-only, commands, each-at, known-or}
+use Rattle.ca_laws_writes.proofs.Events.{find-at}
 use Rattle.ca_laws_writes.proofs.Every.{ticks-frame}
 use Rattle.ca_laws_writes.proofs.Frames.{Frame}
 use Rattle.ca_laws_writes.proofs.HappensClient.{sent-frame}
+use Rattle.ca_laws_writes.proofs.Lasting.{AllEnds}
+use Rattle.ca_laws_writes.proofs.LastingAll.{event-lasts, opening-lasts}
 use Rattle.ca_laws_writes.proofs.Lists.{In-append, In-last, kept-in, none_at}
 use Rattle.ca_laws_writes.proofs.Midway.{set-here}
 use Rattle.ca_laws_writes.proofs.Moves.{same-or}
 use Rattle.ca_laws_held.specs.Worlds.{ServersStand}
-use Rattle.ca_laws_held.proofs.Answering.{due-answer}
+use Rattle.ca_laws_held.proofs.Answering.{due-answer, due-answer-at}
 use Rattle.ca_laws_held.proofs.Handled.{written-parts}
 use Rattle.ca_laws_held.proofs.StepWhole.{event-serves, opening-serves, takes-next}
 use Rattle.ca_laws_held.specs.Created.{AllCreated, CreatedOn}
+use Rattle.ca_laws_held.specs.Creations.{AllCreations, CreationsOn}
+use Rattle.ca_laws_held.proofs.Creations.{HasCreations, creations-begun, creations-handled, creations-lasting}
 use Rattle.ca_laws_held.proofs.SidTells.{Back, KeepsOn, back-frame, event-back, on-ending, step-beside, unhandled-back}
 
 -- ---- what is due
@@ -61,7 +67,7 @@ differs : (q : Fields) (a : ℕ) → q.command ≡ a → eqb a 18 ≡ false → 
 differs q a is none = record { none = λ creates. both_ways (eqb a 18) none (ap (λ (n : ℕ). eqb n 18) (sym is ∙ creates)) }
 
 pub due-creates : (k : Knows) (m : Fields) (replies : List Fields) (did : Action) → Due k m replies did → (l : ℕ) (r : Fields) → At replies l r → Is command.CreateChannel r
-    → Is command.CreateChannel m × (made : IsCreated k m replies did) × (l ≡ 1) × (r.p2 ≡ made.sid)
+    → Is command.CreateChannel m × (made : IsCreated k m replies did) × (l ≡ 1) × (r.p2 ≡ made.sid) × (r.p1 ≡ m.p1)
 due-creates k m replies did due l r there creates =
     elim (known-or (is_known m.command)) [
       | inr other ↦ none (due.other other).0
@@ -126,7 +132,7 @@ due-creates k m replies did due l r there creates =
     ]
   where
     Made : Type 0
-    Made = Is command.CreateChannel m × (made : IsCreated k m replies did) × (l ≡ 1) × (r.p2 ≡ made.sid)
+    Made = Is command.CreateChannel m × (made : IsCreated k m replies did) × (l ≡ 1) × (r.p2 ≡ made.sid) × (r.p1 ≡ m.p1)
 
     When : ℕ → Type 0
     When n = m.command ≡ n → Made
@@ -160,7 +166,7 @@ due-creates k m replies did due l r there creates =
         let rights : Fields = rights_reply m (rights_at k made.known.state.name) in
         let reply : Fields = created_reply m (base_number (base_of made.known.state.value)) made.known.state.count made.sid in
         let x = second rights reply l (subst (λ (ms : List Fields). At ms l r) made.are there) (differs rights 22 refl refl) in
-        (e, made, x.0, ap (λ (z : Fields). z.p2) x.1)
+        (e, made, x.0, ap (λ (z : Fields). z.p2) x.1, ap (λ (z : Fields). z.p1) x.1)
 
 -- ---- a circuit goes on
 
@@ -183,13 +189,23 @@ keeps-created c d k h = record {
         | inr cleared ↦ inr (within-on c.lists.up d.lists.up sid t.place (length d.lists.handled) k.up (subst (λ (l : List Step). IsClearedWithin c.lists.up sid t.place (length l)) (sym k.handled) cleared))
       ];
   prompt = λ i sid l t g at reply creates lt on. h.prompt i sid l t g (k.creates i t at reply (inl creates.0)) reply creates lt (subst (λ (s : List Step). At s l g) k.handled on);
-  confirms = λ i t at reply adds. (let r = h.confirms i t (k.creates i t at reply (inr adds)) reply adds in (r.0, subst (λ (s : List Step). At s t.place r.0) (sym k.handled) r.1, r.2));
+  copies = λ i sid t q at reply creates there.
+      let old = k.creates i t at reply (inl creates.0) in
+      let r = (h.about i sid t old reply creates).1 in
+      let one : r.0 ≡ q = At-one d.lists.up t.place r.0 q (k.up t.place r.0 r.1) there in
+      h.copies i sid t r.0 old reply creates r.1 ∙ ap (λ (z : Sent). z.message.p1) one;
+  owned = λ i j sid other t u lt ati atj a b ca cb same.
+      let r = h.owned i j sid other t u lt (k.creates i t ati a (inl ca.0)) (k.creates j u atj b (inl cb.0)) a b ca cb same in
+      (r.0, within-on c.lists.up d.lists.up sid t.place u.place k.up r.1);
+  confirms = λ i t at reply adds. (let r = h.confirms i t (k.creates i t at reply (inr (inl adds))) reply adds in (r.0, subst (λ (s : List Step). At s t.place r.0) (sym k.handled) r.1, r.2));
+  refuses = λ i t at reply error. (let r = h.refuses i t (k.creates i t at reply (inr (inr error))) reply error in (r.0, subst (λ (s : List Step). At s t.place r.0) (sym k.handled) r.1, r.2));
 }
 
 -- ---- a message is handled
 
 module _ (c d : Joined) (k : Knows) (s : Sent) (replies : List Fields) (did : Action) (step : Step) (at_s : At c.lists.up (length c.lists.handled) s) (due : Due k s.message replies did)
-    (fresh : (made : IsCreated k s.message replies did) (x : Creation) → In c.creations x → x.sid % arena_slots ≡ made.sid % arena_slots → ⊥) (sent_is : step.sent ≡ length c.lists.down) (open_c : c.lists.server_open ≡ true)
+    (fresh : (made : IsCreated k s.message replies did) (x : Creation) → In c.creations x → x.sid % arena_slots ≡ made.sid % arena_slots → ⊥) (taken : (made : IsCreated k s.message replies did) (x : Creation) → In c.creations x → (q : Sent) → At c.lists.up x.place q → q.message.p1 ≡ s.message.p1 → ⊥)
+    (sent_is : step.sent ≡ length c.lists.down) (open_c : c.lists.server_open ≡ true)
     (up : d.lists.up ≡ c.lists.up) (down : d.lists.down ≡ c.lists.down ++ about (length c.lists.handled) Reply replies) (handled : d.lists.handled ≡ c.lists.handled ++ step ∷ [])
     (creations : d.lists.server_open ≡ true → d.creations ≡ (numbers_after (length c.lists.handled) did c).creations) (h : CreatedOn c) where
   abbrev place : ℕ
@@ -197,7 +213,7 @@ module _ (c d : Joined) (k : Knows) (s : Sent) (replies : List Fields) (did : Ac
 
   -- a reply by which this message created its channel
   abbrev IsOwn : (i sid : ℕ) → Told → Type 0
-  IsOwn i sid t = (t.place ≡ place) × Is command.CreateChannel s.message × (made : IsCreated k s.message replies did) × (i ≡ length c.lists.down + 1) × (sid ≡ made.sid)
+  IsOwn i sid t = (t.place ≡ place) × Is command.CreateChannel s.message × (made : IsCreated k s.message replies did) × (i ≡ length c.lists.down + 1) × (sid ≡ made.sid) × (t.message.p1 ≡ s.message.p1)
 
   split : (i sid : ℕ) (t : Told) → At d.lists.down i t → Creates t.message sid → At c.lists.down i t ⊎ IsOwn i sid t
   split i sid t at creates = elim (At-parts c.lists.down (about place Reply replies) i t (subst (λ (l : List Told). At l i t) down at)) [
@@ -206,7 +222,7 @@ module _ (c d : Joined) (k : Knows) (s : Sent) (replies : List Fields) (did : Ac
         let r = At-mapped (λ (m : Fields). let z : Told = record { message = m; place = place; cause = Reply } in z) replies new_it.0 t new_it.2 in
         let made = due-creates k s.message replies did due new_it.0 r.0 r.1 (subst (λ (z : Told). Is command.CreateChannel z.message) r.2 creates.0) in
         let index : i ≡ length c.lists.down + 1 = new_it.1 ∙ ap (λ (n : ℕ). length c.lists.down + n) made.2 in
-        inr (ap (λ (z : Told). z.place) r.2, made.0, made.1, index, sym creates.1 ∙ ap (λ (z : Told). z.message.p2) r.2 ∙ made.3)
+        inr (ap (λ (z : Told). z.place) r.2, made.0, made.1, index, sym creates.1 ∙ ap (λ (z : Told). z.message.p2) r.2 ∙ made.3, ap (λ (z : Told). z.message.p1) r.2 ∙ made.4)
   ]
 
   more : length d.lists.handled ≡ place + 1
@@ -298,6 +314,27 @@ module _ (c d : Joined) (k : Knows) (s : Sent) (replies : List Fields) (did : Ac
       ]
       | inr own ↦ absurd (let in_it : l < length d.lists.handled = At-within d.lists.handled l g on in let e : t.place ≡ place = own.0 in omega (arith, in_it, more, e, lt))
     ];
+    copies = λ i sid t q at reply creates there. elim (split i sid t at creates) [
+      | inl old ↦ h.copies i sid t q old reply creates (subst (λ (l : List Sent). At l t.place q) up there)
+      | inr own ↦ own.5 ∙ ap (λ (z : Sent). z.message.p1) (At-one c.lists.up place s q at_s (subst (λ (p : ℕ). At c.lists.up p q) own.0 (subst (λ (l : List Sent). At l t.place q) up there)))
+    ];
+    owned = λ i j sid other t u lt ati atj a b ca cb same. elim (split j other u atj cb) [
+      | inl oldj ↦ elim (split i sid t ati ca) [
+        | inl oldi ↦ (let r = h.owned i j sid other t u lt oldi oldj a b ca cb same in (r.0, within-on c.lists.up d.lists.up sid t.place u.place up-on r.1))
+        | inr owni ↦ absurd (let in_it : j < length c.lists.down = At-within c.lists.down j u oldj in let e : i ≡ length c.lists.down + 1 = owni.3 in omega (arith, in_it, e, lt))
+      ]
+      | inr ownj ↦ elim (split i sid t ati ca) [
+        | inr owni ↦ absurd (let e : i ≡ length c.lists.down + 1 = owni.3 in let f : j ≡ length c.lists.down + 1 = ownj.3 in omega (arith, e, f, lt))
+        | inl oldi ↦
+            let asked = h.about i sid t oldi a ca in
+            let before : t.place < place = asked.0 in
+            let is : u.place ≡ place = ownj.0 in
+            elim (h.noted i sid t open_c oldi a ca) [
+              | inl x ↦ absurd (taken ownj.2 x.0 x.1 asked.1.0 (subst (λ (p : ℕ). At c.lists.up p asked.1.0) (sym x.3) asked.1.1) (sym (h.copies i sid t asked.1.0 oldi a ca asked.1.1) ∙ same ∙ ownj.5))
+              | inr cleared ↦ (omega (arith, before, is), subst (λ (p : ℕ). IsClearedWithin d.lists.up sid t.place p) (sym is) (within-on c.lists.up d.lists.up sid t.place place up-on cleared))
+            ]
+      ]
+    ];
     confirms = λ i t at reply adds. elim (At-parts c.lists.down (about place Reply replies) i t (subst (λ (l : List Told). At l i t) down at)) [
       | inl old ↦ (let r = h.confirms i t old reply adds in (r.0, subst (λ (x : List Step). At x t.place r.0) (sym handled) (At-append c.lists.handled (step ∷ []) t.place r.0 r.1), r.2))
       | inr new_it ↦
@@ -308,17 +345,26 @@ module _ (c d : Joined) (k : Knows) (s : Sent) (replies : List Fields) (did : Ac
           let at_i : length c.lists.down ≡ i = omega (arith, first, index) in
           (step, subst (λ (l : List Step). At l t.place step) (sym handled) (subst (λ (p : ℕ). At (c.lists.handled ++ step ∷ []) p step) (sym (ap (λ (z : Told). z.place) r.2)) (At-last c.lists.handled step)), sent_is ∙ at_i)
     ];
+    refuses = λ i t at reply error. elim (At-parts c.lists.down (about place Reply replies) i t (subst (λ (l : List Told). At l i t) down at)) [
+      | inl old ↦ (let r = h.refuses i t old reply error in (r.0, subst (λ (x : List Step). At x t.place r.0) (sym handled) (At-append c.lists.handled (step ∷ []) t.place r.0 r.1), r.2))
+      | inr new_it ↦
+          let r = At-mapped (λ (m : Fields). let z : Told = record { message = m; place = place; cause = Reply } in z) replies new_it.0 t new_it.2 in
+          let first : new_it.0 ≡ 0 = (due-answer-at k s.message replies did due r.0 (new_it.0, r.1)).1 (subst (λ (z : Told). Is command.Error z.message) r.2 error) in
+          let index : i ≡ length c.lists.down + new_it.0 = new_it.1 in
+          let at_i : length c.lists.down ≡ i = omega (arith, first, index) in
+          (step, subst (λ (l : List Step). At l t.place step) (sym handled) (subst (λ (p : ℕ). At (c.lists.handled ++ step ∷ []) p step) (sym (ap (λ (z : Told). z.place) r.2)) (At-last c.lists.handled step)), sent_is ∙ at_i)
+    ];
   }
 
 -- ---- a step of a server's end
 
-created-own : (w new : World) (k : ℕ) (j : Joined) (y : ServerSide) (f : StepHandles w k j y new) → At w.circuits k j → At w.servers j.server y → j.lists.server_open ≡ true → TakesSent w → ChannelsOn f.e j → CreatedOn j → (d : Joined) → At new.circuits k d
+created-own : (w new : World) (k : ℕ) (j : Joined) (y : ServerSide) (f : StepHandles w k j y new) → At w.circuits k j → At w.servers j.server y → j.lists.server_open ≡ true → TakesSent w → ChannelsOn f.e j → CreationsOn j → CreatedOn j → (d : Joined) → At new.circuits k d
     → CreatedOn d
-created-own w new k j y f on at opened takes channels h d at_d =
+created-own w new k j y f on at opened takes channels noted_on h d at_d =
     let next = f.steps.0 in
     let sent = takes k j y f.e next.m next.rest on at opened f.has next.takes in
     created-handled j d (knows y.core taken) sent.0 next.replies did step sent.1 (subst (λ (m : Fields). Due (knows y.core taken) m next.replies did) (sym sent.2) next.handles.due)
-    (fresh sent.0) refl opened (ap (λ (z : Joined). z.lists.up) d_is ∙ lists.0) (ap (λ (z : Joined). z.lists.down) d_is ∙ ap (λ (l : List Told). l ++ about place Reply next.replies) lists.1) (ap (λ (z : Joined). z.lists.handled) d_is ∙ ap (λ (l : List Step). l ++ step ∷ []) lists.2)
+    (fresh sent.0) (taken_by sent.0) refl opened (ap (λ (z : Joined). z.lists.up) d_is ∙ lists.0) (ap (λ (z : Joined). z.lists.down) d_is ∙ ap (λ (l : List Told). l ++ about place Reply next.replies) lists.1) (ap (λ (z : Joined). z.lists.handled) d_is ∙ ap (λ (l : List Step). l ++ step ∷ []) lists.2)
     (λ o. ap (λ (z : Joined). z.creations) d_is ∙ (last_on.opened (ap (λ (z : Joined). z.lists.server_open) (sym d_is) ∙ o)).1 ∙ (written-parts j.server y.core did numbers).0) h
   where
     place : ℕ
@@ -373,6 +419,17 @@ created-own w new k j y f on at opened takes channels h d at_d =
         let new_is : new ≡ with_circuit k noted after = f.leaves ∙ ap (λ (o : Option Joined). unwrap_or (option_map (λ (c : Joined). with_circuit k (handled_at place step (f.steps.0).replies c) after) o) after) there in
         At-one (slice_set after.circuits k noted) k d noted (subst (λ (v : World). At v.circuits k d) new_is at_d) (set-here after.circuits k last noted there)
 
+    -- the CID is that of no channel that is open
+    taken_by : (s : Sent) → (made : IsCreated (knows y.core taken) s.message (f.steps.0).replies did) (x : Creation) → In j.creations x → (q : Sent) → At j.lists.up x.place q → q.message.p1 ≡ s.message.p1 → ⊥
+    taken_by s made x there q at_q same_cid =
+        let r = channels.stale x there in
+        let o = channels.opens r.0 r.1 r.2 in
+        let g = find-at (has_sid (wire_of r.0)) j.creations o.0 o.1 in
+        let one : o.0 ≡ x = noted_on.one o.0 x (g.0, g.1) there (eqb-true o.0.sid (wire_of r.0) g.2 ∙ r.3) in
+        let sends : o.2.0 ≡ q = At-one j.lists.up x.place o.2.0 q (subst (λ (z : Creation). At j.lists.up z.place o.2.0) one o.2.1) at_q in
+        let u = under-held f.e.channels r.0 r.1 r.2 in
+        made.cid_free (known_channel (r.0, r.1), (u.0, At-map known_channel (held f.e.channels) u.0 (r.0, r.1) u.1), sym o.2.2 ∙ ap (λ (z : Sent). z.message.p1) sends ∙ same_cid)
+
     -- the SID is that of no channel that is open
     fresh : (s : Sent) → (made : IsCreated (knows y.core taken) s.message (f.steps.0).replies did) (x : Creation) → In j.creations x → x.sid % arena_slots ≡ made.sid % arena_slots → ⊥
     fresh s made x there one =
@@ -380,8 +437,8 @@ created-own w new k j y f on at opened takes channels h d at_d =
         let u = under-held f.e.channels r.0 r.1 r.2 in
         made.sid_free (known_channel (r.0, r.1)) (u.0, At-map known_channel (held f.e.channels) u.0 (r.0, r.1) u.1) (ap (λ (n : ℕ). n % arena_slots) r.3 ∙ one)
 
-step-created : (w new : World) (k : ℕ) → TakesSent w → AllChannels w → Happens w (event.ServerStep k) new → AllCreated w → AllCreated new
-step-created w new k takes channels (at, (did, f)) all = elim (handled-or did) [
+step-created : (w new : World) (k : ℕ) → TakesSent w → AllChannels w → AllCreations w → Happens w (event.ServerStep k) new → AllCreated w → AllCreated new
+step-created w new k takes channels creations (at, (did, f)) all = elim (handled-or did) [
   | inl is ↦ done (subst (λ (x : Stepped). ServerStepped w k at.j at.y x new) is f)
   | inr not ↦ (λ l d at_d. (let c = unhandled-back w new k at.j at.y did at.joins.at not f l d at_d in keeps-created c.0 d c.2 (all l c.0 c.1)))
 ]
@@ -396,7 +453,7 @@ step-created w new k takes channels (at, (did, f)) all = elim (handled-or did) [
     done h l d at_d = elim (same-or l k) [
       | inr other ↦ (let c = step-beside w new k at.j at.y h l d other at_d in keeps-created c.0 d c.2 (all l c.0 c.1))
       | inl own ↦
-          created-own w new k at.j at.y h at.joins.at at.joins.server at.is_open takes (channels k at.j at.y h.e at.joins.at at.joins.server at.is_open h.has) (all k at.j at.joins.at) d
+          created-own w new k at.j at.y h at.joins.at at.joins.server at.is_open takes (channels k at.j at.y h.e at.joins.at at.joins.server at.is_open h.has) (creations k at.j at.y h.e at.joins.at at.joins.server at.is_open h.has) (all k at.j at.joins.at) d
           (subst (λ (m : ℕ). At new.circuits m d) own at_d)
     ]
 
@@ -413,7 +470,10 @@ created-new c none = record {
   apart = λ i j sid other t u lt at. absurd (nothing i t at);
   noted = λ i sid t opened at. absurd (nothing i t at);
   prompt = λ i sid l t g at. absurd (nothing i t at);
+  copies = λ i sid t q at. absurd (nothing i t at);
+  owned = λ i j sid other t u lt at. absurd (nothing i t at);
   confirms = λ i t at. absurd (nothing i t at);
+  refuses = λ i t at. absurd (nothing i t at);
 }
   where
     nothing : (i : ℕ) (t : Told) → At c.lists.down i t → ⊥
@@ -436,37 +496,39 @@ accept-created w new i x v f all = elim f.leaves [
     nothing None g = refl
     nothing (Some k) g = refl
 
-pub event-created : (s : Setting) (w new : World) (e : Event) → ServersStand s w → Happens w e new → AllCreated w → AllCreated new
-event-created s w new (event.Accept i) h happens all = accept-created w new i happens.0.x happens.0.v happens.1 all
-event-created s w new (event.ServerStep k) h happens all = step-created w new k (takes-next s w h) h.channels happens all
-event-created s w new (event.Open i name priority) h happens all = back-created w new (event-back w new (event.Open i name priority) tt h.in_step happens) all
-event-created s w new (event.Clear i c) h happens all = back-created w new (event-back w new (event.Clear i c) tt h.in_step happens) all
-event-created s w new (event.Read i c data_type count) h happens all = back-created w new (event-back w new (event.Read i c data_type count) tt h.in_step happens) all
-event-created s w new (event.Write i c e) h happens all = back-created w new (event-back w new (event.Write i c e) tt h.in_step happens) all
-event-created s w new (event.WriteNotify i c e) h happens all = back-created w new (event-back w new (event.WriteNotify i c e) tt h.in_step happens) all
-event-created s w new (event.Subscribe i c data_type count mask) h happens all = back-created w new (event-back w new (event.Subscribe i c data_type count mask) tt h.in_step happens) all
-event-created s w new (event.Unsubscribe i n) h happens all = back-created w new (event-back w new (event.Unsubscribe i n) tt h.in_step happens) all
-event-created s w new (event.Collect i r) h happens all = back-created w new (event-back w new (event.Collect i r) tt h.in_step happens) all
-event-created s w new (event.GiveUp i r) h happens all = back-created w new (event-back w new (event.GiveUp i r) tt h.in_step happens) all
-event-created s w new (event.ClientDatagram i from bytes) h happens all = back-created w new (event-back w new (event.ClientDatagram i from bytes) tt h.in_step happens) all
-event-created s w new (event.ServerDatagram i from bytes) h happens all = back-created w new (event-back w new (event.ServerDatagram i from bytes) tt h.in_step happens) all
-event-created s w new (event.Up k n) h happens all = back-created w new (event-back w new (event.Up k n) tt h.in_step happens) all
-event-created s w new (event.Down k n) h happens all = back-created w new (event-back w new (event.Down k n) tt h.in_step happens) all
-event-created s w new (event.ClientStep k) h happens all = back-created w new (event-back w new (event.ClientStep k) tt h.in_step happens) all
-event-created s w new (event.Pump k) h happens all = back-created w new (event-back w new (event.Pump k) tt h.in_step happens) all
-event-created s w new (event.CutClient k) h happens all = back-created w new (event-back w new (event.CutClient k) tt h.in_step happens) all
-event-created s w new (event.CutServer k) h happens all = back-created w new (event-back w new (event.CutServer k) tt h.in_step happens) all
-event-created s w new (event.ClientRestart i) h happens all = back-created w new (event-back w new (event.ClientRestart i) tt h.in_step happens) all
-event-created s w new (event.ServerRestart i) h happens all = back-created w new (event-back w new (event.ServerRestart i) tt h.in_step happens) all
-event-created s w new (event.Post i name e mask) h happens all = back-created w new (event-back w new (event.Post i name e mask) tt h.in_step happens) all
-event-created s w new (event.Finish i name) h happens all = back-created w new (event-back w new (event.Finish i name) tt h.in_step happens) all
-event-created s w new (event.Remove i name) h happens all = back-created w new (event-back w new (event.Remove i name) tt h.in_step happens) all
-event-created s w new (event.Add i r) h happens all = back-created w new (event-back w new (event.Add i r) tt h.in_step happens) all
-event-created s w new (event.Tick moment) h happens all = back-created w new (event-back w new (event.Tick moment) tt h.in_step happens) all
+pub event-created : (s : Setting) (w new : World) (e : Event) → ServersStand s w → AllCreations w → Happens w e new → AllCreated w → AllCreated new
+event-created s w new (event.Accept i) h there happens all = accept-created w new i happens.0.x happens.0.v happens.1 all
+event-created s w new (event.ServerStep k) h there happens all = step-created w new k (takes-next s w h) h.channels there happens all
+event-created s w new (event.Open i name priority) h there happens all = back-created w new (event-back w new (event.Open i name priority) tt h.in_step happens) all
+event-created s w new (event.Clear i c) h there happens all = back-created w new (event-back w new (event.Clear i c) tt h.in_step happens) all
+event-created s w new (event.Read i c data_type count) h there happens all = back-created w new (event-back w new (event.Read i c data_type count) tt h.in_step happens) all
+event-created s w new (event.Write i c e) h there happens all = back-created w new (event-back w new (event.Write i c e) tt h.in_step happens) all
+event-created s w new (event.WriteNotify i c e) h there happens all = back-created w new (event-back w new (event.WriteNotify i c e) tt h.in_step happens) all
+event-created s w new (event.Subscribe i c data_type count mask) h there happens all = back-created w new (event-back w new (event.Subscribe i c data_type count mask) tt h.in_step happens) all
+event-created s w new (event.Unsubscribe i n) h there happens all = back-created w new (event-back w new (event.Unsubscribe i n) tt h.in_step happens) all
+event-created s w new (event.Collect i r) h there happens all = back-created w new (event-back w new (event.Collect i r) tt h.in_step happens) all
+event-created s w new (event.GiveUp i r) h there happens all = back-created w new (event-back w new (event.GiveUp i r) tt h.in_step happens) all
+event-created s w new (event.ClientDatagram i from bytes) h there happens all = back-created w new (event-back w new (event.ClientDatagram i from bytes) tt h.in_step happens) all
+event-created s w new (event.ServerDatagram i from bytes) h there happens all = back-created w new (event-back w new (event.ServerDatagram i from bytes) tt h.in_step happens) all
+event-created s w new (event.Up k n) h there happens all = back-created w new (event-back w new (event.Up k n) tt h.in_step happens) all
+event-created s w new (event.Down k n) h there happens all = back-created w new (event-back w new (event.Down k n) tt h.in_step happens) all
+event-created s w new (event.ClientStep k) h there happens all = back-created w new (event-back w new (event.ClientStep k) tt h.in_step happens) all
+event-created s w new (event.Pump k) h there happens all = back-created w new (event-back w new (event.Pump k) tt h.in_step happens) all
+event-created s w new (event.CutClient k) h there happens all = back-created w new (event-back w new (event.CutClient k) tt h.in_step happens) all
+event-created s w new (event.CutServer k) h there happens all = back-created w new (event-back w new (event.CutServer k) tt h.in_step happens) all
+event-created s w new (event.ClientRestart i) h there happens all = back-created w new (event-back w new (event.ClientRestart i) tt h.in_step happens) all
+event-created s w new (event.ServerRestart i) h there happens all = back-created w new (event-back w new (event.ServerRestart i) tt h.in_step happens) all
+event-created s w new (event.Post i name e mask) h there happens all = back-created w new (event-back w new (event.Post i name e mask) tt h.in_step happens) all
+event-created s w new (event.Finish i name) h there happens all = back-created w new (event-back w new (event.Finish i name) tt h.in_step happens) all
+event-created s w new (event.Remove i name) h there happens all = back-created w new (event-back w new (event.Remove i name) tt h.in_step happens) all
+event-created s w new (event.Add i r) h there happens all = back-created w new (event-back w new (event.Add i r) tt h.in_step happens) all
+event-created s w new (event.Tick moment) h there happens all = back-created w new (event-back w new (event.Tick moment) tt h.in_step happens) all
 
-events-created : (s : Setting) (es : List Event) (w new : World) → IsSetting s → FoldsTo Happens w es new → ServersStand s w → AllCreated w → AllCreated new
-events-created s [] w new ok same h all = subst (λ (z : World). AllCreated z) same all
-events-created s (e ∷ es) w new ok (mid, one, rest) h all = events-created s es mid new ok rest (event-serves s w mid e ok one h) (event-created s w mid e h one all)
+events-created : (s : Setting) (es : List Event) (w new : World) → IsSetting s → FoldsTo Happens w es new → ServersStand s w → AllEnds HasCreations w → AllCreated w → AllCreated new
+events-created s [] w new ok same h ends all = subst (λ (z : World). AllCreated z) same all
+events-created s (e ∷ es) w new ok (mid, one, rest) h ends all =
+    events-created s es mid new ok rest (event-serves s w mid e ok one h) (event-lasts HasCreations creations-lasting creations-begun creations-handled s w mid e (takes-next s w h) one h.stands.sound ends)
+    (event-created s w mid e h (λ n c y f at there opened has. (ends n c y f at there opened has).1) one all)
 
 stops-created : (mid : World) (stopped : Option Event) (w : World) → StopsAt mid stopped w → AllCreated mid → AllCreated w
 stops-created mid (Some (event.Tick moment)) w stops all = elim stops [
@@ -479,4 +541,4 @@ pub opening-created : (s : Setting) → AllCreated (opening s)
 opening-created s n c at = absurd (none_at n c at)
 
 pub reached-created : (w : World) → IsReached w → AllCreated w
-reached-created w (s, es, stopped, ok, runs) = stops-created runs.0 stopped w runs.2 (events-created s es (opening s) runs.0 ok runs.1 (opening-serves s ok) (opening-created s))
+reached-created w (s, es, stopped, ok, runs) = stops-created runs.0 stopped w runs.2 (events-created s es (opening s) runs.0 ok runs.1 (opening-serves s ok) (opening-lasts HasCreations creations-lasting s) (opening-created s))

@@ -198,10 +198,10 @@ module _ (y : Server) (e new : ServerEnd) (s : Sent) (replies : List Fields) (st
 -- ---- over events
 
 -- beside the channels of the end
-abbrev HasCreations : ℕ → ServerEnd → Joined → Type 0
+abbrev pub HasCreations : ℕ → ServerEnd → Joined → Type 0
 HasCreations n e c = ChannelsOn e c × CreationsOn c
 
-creations-lasting : Lasting HasCreations
+pub creations-lasting : Lasting HasCreations
 creations-lasting = record {
   stays = λ n e f c d held goes p. (channels-lasting.stays n e f c d held goes p.0, goes-on c d goes.later.up (λ i t at. subst (λ (l : List Told). At l i t) (sym goes.down) at) goes.handled goes.creations p.1);
   posted = λ n name mask v e c p.
@@ -218,7 +218,7 @@ creations-lasting = record {
   replied = λ n e c place ms p. (channels-lasting.replied n e c place ms p.0, goes-on c _ (λ l s at. at) (λ i t at. At-append c.lists.down _ i t at) refl refl p.1);
 }
 
-creations-begun : (w : World) → Begins HasCreations w
+pub creations-begun : (w : World) → Begins HasCreations w
 creations-begun w n moment c more new = (
   channels-begun w n moment c more new,
   record {
@@ -229,7 +229,7 @@ creations-begun w n moment c more new = (
   },
 )
 
-creations-handled : Handled HasCreations
+pub creations-handled : Handled HasCreations
 creations-handled n y e new s replies did step c at due acts p =
     (channels-handled n y e new s replies did step c at due acts p.0, creations-still y e new s replies step c at p.0 p.1 did due acts)
 

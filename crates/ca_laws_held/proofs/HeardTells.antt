@@ -63,7 +63,7 @@ silent-puts x address h here None e is = elim is [
   | inr full ↦ ap (λ (w : Effect). w.notices) full.1
 ]
 
-silent-finds : (x : Client) (address : Address) (o : Option (Handle × Channel)) (e : Effect) → FindsAt x address o e → e.notices ≡ []
+pub silent-finds : (x : Client) (address : Address) (o : Option (Handle × Channel)) (e : Effect) → FindsAt x address o e → e.notices ≡ []
 silent-finds x address None e is = ap (λ (w : Effect). w.notices) is
 silent-finds x address (Some (h, here)) e is = silent-puts x address h here (circuit_to address here.priority x) e is
 

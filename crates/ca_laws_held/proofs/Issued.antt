@@ -28,7 +28,7 @@ use Rattle.ca_laws_circuit.proofs.Calls.{meant-own}
 use Rattle.ca_laws_runs.specs.Circuit.{AreGiven, stamped}
 use Rattle.ca_laws_runs.proofs.Named.{number-still, place-there}
 use Rattle.ca_laws_runs.proofs.Sending.{new-name, not-given, place-passes}
-use Rattle.ca_laws_held.specs.Quiet.{HasNumber, IsNamedIn, IsRequestOn, IsSubscriptionOn, NoCancel, Quiet, StageIn, StandsIn, Tidy}
+use Rattle.ca_laws_held.specs.Quiet.{HasNumber, IsAnswered, IsNamedIn, IsRequestOn, IsSubscriptionOn, NoCancel, Quiet, StageIn, StandsIn, Tidy}
 use Rattle.ca_laws_held.proofs.Lesser.{less-sending}
 use Rattle.ca_laws_held.proofs.Says.{Moved, moved-less-then, moved-one, quiet-asked, quiet-subscribed}
 
@@ -148,7 +148,7 @@ live-on x h l live = found-standing x h (On l.circuit (Live l.native l.rights)) 
 
 module _ (n : Names) (x : Client) (c : ℕ) (h : Handle) (t : Tidy n x) (given : AreGiven n.requests x.requests) (at : At n.channels c h) where
   -- a request of either kind, before its message
-  module _ (l : LiveChannel) (asked : Asked) (q : Handle) (kind : Kind) (may : MayGive x.requests q) where
+  module _ (l : LiveChannel) (asked : Asked) (q : Handle) (kind : Kind) (answered : IsAnswered kind) (may : MayGive x.requests q) where
     abbrev intent : Intent
     intent = history.On c (history.Request kind (length n.requests))
 
@@ -171,7 +171,7 @@ module _ (n : Names) (x : Client) (c : ℕ) (h : Handle) (t : Tidy n x) (given :
       once = t.once;
       asked = λ i e place. elim (At-snoc n.requests (q, intent) i e place) [
         | inl old ↦ t.asked i e old
-        | inr last ↦ (c, kind, ap (λ (w : Handle × Intent). w.1) last.1 ∙ ap (λ (k : ℕ). history.On c (history.Request kind k)) (sym last.0))
+        | inr last ↦ (c, kind, ap (λ (w : Handle × Intent). w.1) last.1 ∙ ap (λ (k : ℕ). history.On c (history.Request kind k)) (sym last.0), answered)
       ];
       subscribed = t.subscribed;
       requests = λ g r is. elim (held-back x.requests g q (new_request h l.circuit asked) r is) [
@@ -212,13 +212,13 @@ module _ (n : Names) (x : Client) (c : ℕ) (h : Handle) (t : Tidy n x) (given :
   moved-read a q sent y reads =
       let now : Names = with_request q (history.On c (history.Request Read (length n.requests))) n in
       subst (λ (w : List Sending × Client). Moved n x now w.0 now w.1) (λ i. (sym reads.4.0 i, sym reads.4.1 i))
-      (moved-asked reads.0 (request.Read a.data_type a.count) q Read reads.3 (read_sent h reads.0 a q) refl refl (q, At-last n.requests (q, history.On c (history.Request Read (length n.requests)))) reads.1)
+      (moved-asked reads.0 (request.Read a.data_type a.count) q Read tt reads.3 (read_sent h reads.0 a q) refl refl (q, At-last n.requests (q, history.On c (history.Request Read (length n.requests)))) reads.1)
 
   pub moved-put : (e : Elements) (q : Handle) (sent : List Sending) (y : Client) → ClientPuts x h e (Ok q) sent y → (let now : Names = with_request q (history.On c (history.Request Put (length n.requests))) n in Moved n x now sent now y)
   moved-put e q sent y puts =
       let now : Names = with_request q (history.On c (history.Request Put (length n.requests))) n in
       subst (λ (w : List Sending × Client). Moved n x now w.0 now w.1) (λ i. (sym puts.4.0 i, sym puts.4.1 i))
-      (moved-asked puts.0 request.Put q Put puts.3 (put_sent h puts.0 e q) refl refl (q, At-last n.requests (q, history.On c (history.Request Put (length n.requests)))) puts.1)
+      (moved-asked puts.0 request.Put q Put tt puts.3 (put_sent h puts.0 e q) refl refl (q, At-last n.requests (q, history.On c (history.Request Put (length n.requests)))) puts.1)
 
 -- ---- a plain write
 

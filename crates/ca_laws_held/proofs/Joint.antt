@@ -146,11 +146,11 @@ module _ (s : Setting) (es : List Event) (w new : World) (ok : IsSetting s) (are
 
 -- ---- events in a row
 
-folds-snoc : (es : List Event) (w mid new : World) (e : Event) → FoldsTo Happens w es mid → Happens mid e new → FoldsTo Happens w (es ++ e ∷ []) new
+pub folds-snoc : (es : List Event) (w mid new : World) (e : Event) → FoldsTo Happens w es mid → Happens mid e new → FoldsTo Happens w (es ++ e ∷ []) new
 folds-snoc [] w mid new e same happens = (new, subst (λ (v : World). Happens v e new) (sym same) happens, refl)
 folds-snoc (f ∷ es) w mid new e (next, one, rest) happens = (next, one, folds-snoc es next mid new e rest happens)
 
-are-snoc : (es : List Event) (e : Event) → AreEvents es → IsEvent e → AreEvents (es ++ e ∷ [])
+pub are-snoc : (es : List Event) (e : Event) → AreEvents es → IsEvent e → AreEvents (es ++ e ∷ [])
 are-snoc es e are is i f at = elim (At-snoc es e i f at) [
   | inl old ↦ are i f old
   | inr last ↦ subst (λ (v : Event). IsEvent v) (sym last.1) is

@@ -62,6 +62,13 @@ pub mod OnceSentServers
 pub mod OnceSentClients
 pub mod OnceSentRuns
 pub mod CauseOnce
+pub mod ToldGrows
+pub mod ToldLines
+pub mod ToldRemoval
+pub mod ToldUpdates
+pub mod ToldQuiet
+pub mod ToldSteps
+pub mod ToldRuns
 pub mod OnceTold
 pub mod OnceHeard
 pub mod OnceOver
@@ -71,3 +78,5 @@ pub mod OnceStill
 pub mod OnceNoticedClients
 pub mod OnceNoticedRuns
 pub mod LegalServers
+pub mod LegalRemovals
+pub mod Refused

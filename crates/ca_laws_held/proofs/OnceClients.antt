@@ -321,7 +321,7 @@ once-client-restart w new i x at s happens = subst (λ (v : World). OnceStand v)
 -- ---- a circuit is made
 
 -- one circuit more, on which nothing was sent
-once-joined : (w new : World) (i : ℕ) (x : ClientSide) (n : Joined) → At w.clients i x → new.clients ≡ w.clients → new.client_logs ≡ w.client_logs → new.circuits ≡ w.circuits ++ n ∷ [] → n.client ≡ i → n.lists.client ≡ x.life → n.lists.up ≡ [] → OnceStand w → OnceStand new
+pub once-joined : (w new : World) (i : ℕ) (x : ClientSide) (n : Joined) → At w.clients i x → new.clients ≡ w.clients → new.client_logs ≡ w.client_logs → new.circuits ≡ w.circuits ++ n ∷ [] → n.client ≡ i → n.lists.client ≡ x.life → n.lists.up ≡ [] → OnceStand w → OnceStand new
 once-joined w new i x n at clients logs circuits mine life none s = record {
   there = λ l y have. (let t = s.there l y (was l y have) in (t.0, subst (λ (v : List (List Line)). At v y.life t.0) (sym logs) t.1));
   apart = λ l m y v have also e. s.apart l m y v (was l y have) (was m v also) e;

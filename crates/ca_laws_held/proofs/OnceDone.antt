@@ -6,6 +6,7 @@ use Rattle.ca_text.proofs.Places.{At-append, At-mapped, At-one, At-snoc, some_is
 use Rattle.ca_text.specs.declared.status.Status.{Status}
 use Rattle.ca_arena.specs.declared.handle.Handle.{Handle}
 use Rattle.ca_dbr.specs.declared.value.Outcome.{Outcome}
+use Rattle.ca_dbr.specs.declared.value.Outcome.TheVariants as outcome
 use Rattle.ca_dbr.specs.Elements.{Elements}
 use Rattle.ca_ids.specs.Table.{MayGive, same_handle, under, with_held}
 use Rattle.ca_monitor.specs.Subscriptions.{Subscription}
@@ -27,7 +28,7 @@ use Rattle.ca_laws_circuit.specs.Held.{with_request, with_subscription}
 use Rattle.ca_laws_runs.specs.Circuit.{AreGiven}
 use Rattle.ca_laws_runs.proofs.Sending.{not-given}
 use Rattle.ca_laws_held.specs.Once.{IsAwaited}
-use Rattle.ca_laws_held.specs.Quiet.{Tidy}
+use Rattle.ca_laws_held.specs.Quiet.{IsAnswered, Tidy}
 use Rattle.ca_laws_held.proofs.OnceTold.{AreIssued, Asks, IsOnce, IsOpenBy, StandsBy, Told, asks-sending}
 use Rattle.ca_laws_held.proofs.OnceLess.{less-sending}
 use Rattle.ca_laws_held.proofs.OnceTold as once
@@ -61,6 +62,7 @@ pub record Tells (n : Names) (x : Client) (lines : List Line) (now : Names) (y :
   pub news : (p : ℕ) (intent : Intent) (o : Outcome) → At lines p (Noticed intent o) → IsAwaited intent → (IsDone n x intent → ⊥) × IsDone now y intent
   pub once : (p q : ℕ) (intent : Intent) (o r : Outcome) → At lines p (Noticed intent o) → At lines q (Noticed intent r) → IsAwaited intent → p ≡ q
   pub issued : AreIssued y
+  pub failed : (p c m : ℕ) (o : Outcome) → At lines p (Noticed (history.On c (history.Request Write m)) o) → (s : Status) × (o ≡ outcome.Failed s)
 
 -- lines that tell no outcome
 abbrev pub NoNotice : List Line → Type 0
@@ -85,6 +87,7 @@ tells-none n x lines now y olds issued none = record {
   news = λ p intent o at is. absurd (none p intent o at);
   once = λ p q intent o r at also is. absurd (none p intent o at);
   issued = issued;
+  failed = λ p c m o at. absurd (none p (history.On c (history.Request Write m)) o at);
 }
 
 -- what is over by the one stays so by the other, if nothing new is open or stands
@@ -98,8 +101,13 @@ tells-after n x line lines now y none t = record {
   news = λ p intent o at is. news p intent o at is;
   once = λ p q intent o r at also is. both p q intent o r at also is;
   issued = t.issued;
+  failed = λ p c m o at. fails p c m o at;
 }
   where
+    fails : (p c m : ℕ) (o : Outcome) → At (line ∷ lines) p (Noticed (history.On c (history.Request Write m)) o) → (s : Status) × (o ≡ outcome.Failed s)
+    fails zero c m o at = absurd (none (history.On c (history.Request Write m)) o (some_is line (Noticed (history.On c (history.Request Write m)) o) at))
+    fails (suc p) c m o at = t.failed p c m o at
+
     news : (p : ℕ) (intent : Intent) (o : Outcome) → At (line ∷ lines) p (Noticed intent o) → IsAwaited intent → (IsDone n x intent → ⊥) × IsDone now y intent
     news zero intent o at is = absurd (none intent o (some_is line (Noticed intent o) at))
     news (suc p) intent o at is = t.news p intent o at is
@@ -225,6 +233,35 @@ same-subscription a b m p is = cc
 not-both : (a b : ℕ) (k : Kind) (m p : ℕ) → history.On a (history.Request k m) ≡ history.On b (Subscribe p) → ⊥
 not-both a b k m p is = cc
 
+-- a plain write is told of by its refusal alone
+noticed-outcome : (a b : Intent) (o p : Outcome) → Noticed a o ≡ Noticed b p → o ≡ p
+noticed-outcome a b o p is = cc
+
+kind-is : (a b m p : ℕ) (k l : Kind) → history.On a (history.Request k m) ≡ history.On b (history.Request l p) → k ≡ l
+kind-is a b m p k l is = cc
+
+fails-so : (n : Names) (x : Client) → Tidy n x → (about : Intent) (k : Notice) (c m : ℕ) (o : Outcome) → Noticed (history.On c (history.Request Write m)) o ≡ line_of about n k → (s : Status) × (o ≡ outcome.Failed s)
+fails-so n x t about (notice.Live h) c m o is = absurd cc
+fails-so n x t about (notice.Lost h) c m o is = absurd cc
+fails-so n x t about (notice.Update h v) c m o is = absurd cc
+fails-so n x t about (notice.WriteRefused h v) c m o is = (v, noticed-outcome (history.On c (history.Request Write m)) _ o (outcome.Failed v) is)
+fails-so n x t about (notice.SubscriptionEnded g v) c m o is = (v, noticed-outcome (history.On c (history.Request Write m)) (meant_by n.subscriptions g) o (outcome.Failed v) is)
+fails-so n x t about (notice.Completed q p) c m o is = absurd (go (find (λ (w : Handle × Intent). same_handle w.0 q) n.requests) refl)
+  where
+    mine : history.On c (history.Request Write m) ≡ meant_by n.requests q
+    mine = noticed-intent (history.On c (history.Request Write m)) (meant_by n.requests q) o p is
+
+    differ : history.On c (history.Request Write m) ≡ history.OfCircuit → ⊥
+    differ e = cc
+
+    go : (v : Option (Handle × Intent)) → find (λ (w : Handle × Intent). same_handle w.0 q) n.requests ≡ v → ⊥
+    go None found = differ (mine ∙ ap (λ (w : Option (Handle × Intent)). unwrap_or (option_map (λ (z : Handle × Intent). z.1) w) history.OfCircuit) found)
+    go (Some e) found =
+        let f = find-at (λ (w : Handle × Intent). same_handle w.0 q) n.requests e found in
+        let a = t.asked f.0 e f.1 in
+        let same : Write ≡ a.1 = kind-is c a.0 m f.0 Write a.1 (mine ∙ ap (λ (w : Option (Handle × Intent)). unwrap_or (option_map (λ (z : Handle × Intent). z.1) w) history.OfCircuit) found ∙ a.2) in
+        subst (λ (k : Kind). IsAnswered k) (sym same) a.3
+
 -- What a client tells of as it changes, with its names as they are.
 pub tells-told : (n : Names) (x : Client) (about : Intent) (notices : List Notice) (y : Client) → Tidy n x → AreIssued x → Told x notices y → Tells n x (lines_of about n notices) n y
 tells-told n x about notices y t was told = record {
@@ -232,6 +269,7 @@ tells-told n x about notices y t was told = record {
   news = λ p intent o at is. news p intent o at is;
   once = λ p q intent o r at also is. both p q intent o r at also is;
   issued = told.issued was;
+  failed = λ p c m o at. (let k = At-mapped (line_of about n) notices p (Noticed (history.On c (history.Request Write m)) o) at in fails-so n x t about k.0 c m o k.2);
 }
   where
     line-at : (p : ℕ) (intent : Intent) (o : Outcome) → At (lines_of about n notices) p (Noticed intent o) → IsAwaited intent → (k : Notice) × At notices p k × (OfRequest n k intent ⊎ OfSubscription n k intent)

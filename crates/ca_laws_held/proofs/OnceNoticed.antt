@@ -4,7 +4,9 @@ use Rattle.std.specs.Prelude.{slice_set}
 use Rattle.ca_text.specs.Place.{At}
 use Rattle.ca_text.proofs.Places.{At-one, At-parts, At-set}
 use Rattle.ca_dbr.specs.declared.value.Outcome.{Outcome}
-use Rattle.ca_model.specs.History.{Intent, Line, Noticed}
+use Rattle.ca_dbr.specs.declared.value.Outcome.TheVariants.{Failed}
+use Rattle.ca_text.specs.declared.status.Status.{Status}
+use Rattle.ca_model.specs.History.{Intent, Line, Noticed, On, Request, Write}
 use Rattle.ca_model_client.proofs.Thinner.{number-or}
 use Rattle.ca_model_world.specs.ClientEvents.{Outcomes, client_after}
 use Rattle.ca_model_world.specs.World.{ClientSide, Names, World, with_lines}
@@ -19,6 +21,7 @@ pub record ToldStand (w : World) : Type 0 where
       → IsDone x.names x.core intent
   pub once : (life : ℕ) (log : List Line) (p q : ℕ) (intent : Intent) (o r : Outcome) → At w.client_logs life log → At log p (Noticed intent o) → At log q (Noticed intent r) → IsAwaited intent → p ≡ q
   pub issued : (i : ℕ) (x : ClientSide) → At w.clients i x → AreIssued x.core
+  pub failed : (life : ℕ) (log : List Line) (p c m : ℕ) (o : Outcome) → At w.client_logs life log → At log p (Noticed (On c (Request Write m)) o) → (s : Status) × (o ≡ Failed s)
 
 -- Clients and their logs are as they were.
 abbrev pub Still : World → World → Type 0
@@ -46,6 +49,7 @@ told-same w new still s = record {
   done = λ i x log p intent o at there line is. s.done i x log p intent o (was i x at) (old x.life log there) line is;
   once = λ life log p q intent o r at a b is. s.once life log p q intent o r (old life log at) a b is;
   issued = λ i x at. s.issued i x (was i x at);
+  failed = λ life log p c m o at a. s.failed life log p c m o (old life log at) a;
 }
   where
     was : (i : ℕ) (x : ClientSide) → At new.clients i x → At w.clients i x
@@ -90,6 +94,13 @@ module _ (w new : World) (i : ℕ) (x z : ClientSide) (lines : List Line) (at_x 
               | inr later ↦ before.1 ∙ ap (λ (v : ℕ). length old + v) (tells.once before.0 later.0 intent o r before.2 later.2 is) ∙ sym later.1
             ]
           ]
+    ];
+    failed = λ l log p c m o at a. elim (logs.0 l log at) [
+      | inr other ↦ s.failed l log p c m o other.0 a
+      | inl grew ↦ elim (At-parts grew.1.0 lines p (Noticed (On c (Request Write m)) o) (subst (λ (v : List Line). At v p (Noticed (On c (Request Write m)) o)) grew.1.2 a)) [
+        | inl first ↦ s.failed l grew.1.0 p c m o grew.1.1 first
+        | inr later ↦ tells.failed later.0 c m o later.2
+      ]
     ];
     issued = λ l y at. elim (clients l y at) [
       | inl here ↦ subst (λ (v : ClientSide). AreIssued v.core) (sym here.1) tells.issued

@@ -304,6 +304,10 @@ told-client-restart w new i x at known s happens = subst (λ (v : World). ToldSt
     | inl old ↦ s.once l log p q intent o r old a b is
     | inr last ↦ absurd (empty p intent o (subst (λ (v : List Line). At v p (Noticed intent o)) last.1 a))
   ];
+  failed = λ l log p c m o have a. elim (At-snoc w.client_logs [] l log have) [
+    | inl old ↦ s.failed l log p c m o old a
+    | inr last ↦ absurd (empty p (history.On c (history.Request history.Write m)) o (subst (λ (v : List Line). At v p (Noticed (history.On c (history.Request history.Write m)) o)) last.1 a))
+  ];
   issued = λ l y have. elim (At-set w.clients i z l y have) [
     | inl here ↦ subst (λ (v : ClientSide). AreIssued v.core) (sym here.1) (issued-begun servers w.moment (length w.client_logs) x.setting)
     | inr old ↦ s.issued l y old.0

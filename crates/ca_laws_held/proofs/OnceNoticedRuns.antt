@@ -5,7 +5,7 @@ use Rattle.std.specs.List.{FoldsTo}
 use Rattle.ca_text.specs.Place.{At}
 use Rattle.ca_text.proofs.Places.{At-mapped}
 use Rattle.ca_dbr.specs.declared.value.Outcome.{Outcome}
-use Rattle.ca_model.specs.History.{Collected, GaveUp, Intent, Line, Noticed}
+use Rattle.ca_model.specs.History.{Collected, GaveUp, Intent, Line, Noticed, On, Request, Write}
 use Rattle.ca_model_safe.specs.Channels.{OfClients}
 use Rattle.ca_model_world.specs.Events.{Event}
 use Rattle.ca_model_world.specs.Events as event
@@ -13,7 +13,7 @@ use Rattle.ca_model_world.specs.Runs.{Happens, Runs, StopsAt, clients_below}
 use Rattle.ca_model_world.specs.World.{ClientSetting, ClientSide, Setting, World, addresses, client_begun, opening, told}
 use Rattle.ca_laws_runs.specs.Clients.{ClientsStand}
 use Rattle.ca_laws_runs.proofs.Events.{stands-happens, stands-opening}
-use Rattle.ca_laws_held.specs.Once.{TellsOnce}
+use Rattle.ca_laws_held.specs.Once.{TellsOnce, WritesTellFailed}
 use Rattle.ca_laws_held.specs.Quiet.{ClientsQuiet}
 use Rattle.ca_laws_held.proofs.Kept.{quiet-happens, quiet-opening}
 use Rattle.ca_laws_held.proofs.OnceNoticed.{ToldStand, have-logs, told-same}
@@ -58,6 +58,7 @@ told-opening : (setting : Setting) → ToldStand (opening setting)
 told-opening setting = record {
   done = λ i x log p intent o at there line is. absurd (no-line x.life log p intent o there line);
   once = λ life log p q intent o r at a b is. absurd (no-line life log p intent o at a);
+  failed = λ life log p c m o at a. absurd (no-line life log p (On c (Request Write m)) o at a);
   issued = λ i x at.
       let r = numbered-place 0 (client_begun (addresses setting.servers) 0) setting.clients i x at in
       subst (λ (v : ClientSide). AreIssued v.core) (sym r.2) (issued-begun (addresses setting.servers) 0 i r.0);
@@ -95,3 +96,6 @@ told-runs setting es stopped w runs =
 
 pub tells-once : (setting : Setting) (es : List Event) (stopped : Option Event) (w : World) → Runs setting es stopped w → OfClients (told w) (TellsOnce (told w))
 tells-once setting es stopped w runs life x at i l intent o p is first second = (told-runs setting es stopped w runs).once life x i l intent o p at first second is
+
+pub writes-tell-failed : (setting : Setting) (es : List Event) (stopped : Option Event) (w : World) → Runs setting es stopped w → OfClients (told w) (WritesTellFailed (told w))
+writes-tell-failed setting es stopped w runs life x at i channel number o line = (told-runs setting es stopped w runs).failed life x i channel number o at line

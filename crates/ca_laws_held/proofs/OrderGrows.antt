@@ -1,5 +1,5 @@
 -- Over every event but two steps, an acceptance and a restart of a client: logs and lists get longer, and the steps of all ends stay.
-use Rattle.std.proofs.Common.{◌≡◌, ℕ, zero, suc, ◌+◌, ◌<◌, ◌≤◌, ◌⊎◌, inl, inr, Bool, true, false, cond, ◌&&◌, eqb, List, [], ◌∷◌, ◌++◌, length, Option, Some, None, refl, sym, ap, subst, ◌∙◌, arith}
+use Rattle.std.proofs.Common.{◌≡◌, ℕ, append-nil, append_assoc, zero, suc, ◌+◌, ◌<◌, ◌≤◌, ◌⊎◌, inl, inr, Bool, true, false, cond, ◌&&◌, eqb, List, [], ◌∷◌, ◌++◌, length, Option, Some, None, refl, sym, ap, subst, ◌∙◌, arith}
 use Rattle.std.specs.Prelude.{drop, filter, map, not, option_map, slice_get, slice_set, unwrap_or}
 use Rattle.std.specs.List.{fold, list_any}
 use Rattle.std.specs.Str.{bytes_eq}
@@ -13,14 +13,14 @@ use Rattle.ca_queue.specs.Queue.{Queue, with_front_taken}
 use Rattle.ca_records.specs.Puts.{WaitingPut}
 use Rattle.ca_records.specs.Record.{unset}
 use Rattle.ca_text.specs.Place.{At}
-use Rattle.ca_text.proofs.Places.{At-mapped, At-or, At-set}
+use Rattle.ca_text.proofs.Places.{At-append, At-mapped, At-or, At-set, At-set-other}
 use Rattle.ca_wire.specs.Fields.{Fields}
 use Rattle.ca_model.specs.Answers.{Closing, Left, Sending}
 use Rattle.ca_model.specs.Client.{Client}
 use Rattle.ca_model.specs.ClientEnds.{handed_over}
 use Rattle.ca_model.specs.Due.{Action}
 use Rattle.ca_model.specs.Ends as why
-use Rattle.ca_model.specs.History.{Cause, Circuit, Entry, Line, OfCircuit, Reply, Told}
+use Rattle.ca_model.specs.History.{Cause, Circuit, Entry, Line, OfCircuit, Reply, Sent, Told}
 use Rattle.ca_model.specs.Server.{OpenChannel, Server}
 use Rattle.ca_model.specs.ServerSteps.{Stepped, Update, closed}
 use Rattle.ca_model.specs.ServerSteps as stepped
@@ -38,21 +38,31 @@ use Rattle.ca_laws_writes.proofs.Lasting.{told_late}
 use Rattle.ca_laws_writes.proofs.LastingStep.{replied-back}
 use Rattle.ca_laws_writes.proofs.Lists.{length-more}
 use Rattle.ca_laws_writes.proofs.Midway.{set-here}
+use Rattle.ca_laws_writes.proofs.Moves.{same-or}
 
 -- ---- logs
 
--- There are as many logs or more, and none is shorter.
+-- There are as many logs or more, and each begins as it was.
 pub record Longer {A : Type 0} (old new : List (List A)) : Type 0 where
   pub count : length old ≤ length new
   pub each : (l : ℕ) → log_length l old ≤ log_length l new
+  pub begins : (l : ℕ) (x : List A) → At old l x → (more : List A) × At new l (x ++ more)
+
+-- a log that is as it was
+same-log : {A : Type 0} (logs : List (List A)) (l : ℕ) (x : List A) → At logs l x → (more : List A) × At logs l (x ++ more)
+same-log logs l x at = ([], subst (λ (y : List _). At logs l y) (sym (append-nil x)) at)
 
 pub longer-self : {A : Type 0} (old new : List (List A)) → new ≡ old → Longer old new
-longer-self {A} old new is = subst (λ (z : List (List A)). Longer old z) (sym is) (record { count = omega arith; each = λ l. omega arith })
+longer-self {A} old new is = subst (λ (z : List (List A)). Longer old z) (sym is) (record { count = omega arith; each = λ l. omega arith; begins = same-log old })
 
 pub longer-then : {A : Type 0} (a b c : List (List A)) → Longer a b → Longer b c → Longer a c
-longer-then a b c f g = record {
+longer-then {A} a b c f g = record {
   count = (let p : length a ≤ length b = f.count in let q : length b ≤ length c = g.count in omega (arith, p, q));
   each = λ l. (let p : log_length l a ≤ log_length l b = f.each l in let q : log_length l b ≤ log_length l c = g.each l in omega (arith, p, q));
+  begins = λ l x at.
+      let y = f.begins l x at in
+      let z = g.begins l (x ++ y.0) y.1 in
+      (y.0 ++ z.0, subst (λ (log : List A). At c l log) (append_assoc x y.0 z.0) z.1);
 }
 
 set-count : {A : Type 0} (xs : List A) (i : ℕ) (y : A) → length (slice_set xs i y) ≡ length xs
@@ -67,12 +77,23 @@ set-each (x ∷ logs) zero y le (suc l) = omega arith
 set-each (x ∷ logs) (suc i) y le zero = omega arith
 set-each (x ∷ logs) (suc i) y le (suc l) = set-each logs i y le l
 
+grown-begins : {A : Type 0} (logs : List (List A)) (life : ℕ) (more : List A) (l : ℕ) (x : List A) → At logs l x → (rest : List A) × At (grown life more logs) l (x ++ rest)
+grown-begins {A} logs life more l x at = elim (same-or l life) [
+  | inl is ↦
+      let here : At logs life x = subst (λ (n : ℕ). At logs n x) is at in
+      let log : List A = unwrap_or (slice_get logs life) [] ++ more in
+      let set : At (slice_set logs life log) life log = set-here logs life x log here in
+      (more, subst (λ (v : ℕ × List A). At (slice_set logs life log) v.0 (v.1 ++ more)) (λ i. (sym is i, ap (λ (o : Option (List A)). unwrap_or o []) here i)) set)
+  | inr other ↦ (let same = same-log logs l x at in (same.0, At-set-other logs life l (x ++ same.0) (unwrap_or (slice_get logs life) [] ++ more) same.1 other))
+]
+
 pub longer-grown : {A : Type 0} (logs : List (List A)) (life : ℕ) (more : List A) → Longer logs (grown life more logs)
 longer-grown {A} logs life more =
     let old : List A = unwrap_or (slice_get logs life) [] in
     record {
       count = (let e : length (grown life more logs) ≡ length logs = set-count logs life (old ++ more) in omega (arith, e));
       each = set-each logs life (old ++ more) (let e : length (old ++ more) ≡ length old + length more = length-append old more in omega (arith, e));
+      begins = grown-begins logs life more;
     }
 
 -- a log that is there has as many lines more
@@ -91,7 +112,11 @@ snoc-each (x ∷ logs) y zero = omega arith
 snoc-each (x ∷ logs) y (suc l) = snoc-each logs y l
 
 pub longer-snoc : {A : Type 0} (logs : List (List A)) (y : List A) → Longer logs (logs ++ y ∷ [])
-longer-snoc logs y = record { count = (let e : length (logs ++ y ∷ []) ≡ length logs + 1 = length-more logs y in omega (arith, e)); each = snoc-each logs y }
+longer-snoc logs y = record {
+  count = (let e : length (logs ++ y ∷ []) ≡ length logs + 1 = length-more logs y in omega (arith, e));
+  each = snoc-each logs y;
+  begins = λ l x at. same-log (logs ++ y ∷ []) l x (At-append logs (y ∷ []) l x at);
+}
 
 -- ---- circuits
 
@@ -102,6 +127,8 @@ pub record GoesOn (c d : Joined) : Type 0 where
   pub server : d.lists.server ≡ c.lists.server
   pub up : length c.lists.up ≤ length d.lists.up
   pub down : length c.lists.down ≤ length d.lists.down
+  pub said : (p : ℕ) (s : Sent) → At c.lists.up p s → At d.lists.up p s
+  pub tells : (i : ℕ) (t : Told) → At c.lists.down i t → At d.lists.down i t
   pub handled : d.lists.handled ≡ c.lists.handled
   pub heard : d.lists.heard ≡ c.lists.heard
   pub opened : d.lists.client_open ≡ true → c.lists.client_open ≡ true
@@ -113,6 +140,8 @@ on-lists c d number lists = record {
   server = ap (λ (z : Circuit). z.server) lists;
   up = (let e : length d.lists.up ≡ length c.lists.up = ap (λ (z : Circuit). length z.up) lists in omega (arith, e));
   down = (let e : length d.lists.down ≡ length c.lists.down = ap (λ (z : Circuit). length z.down) lists in omega (arith, e));
+  said = λ p s at. subst (λ (z : Circuit). At z.up p s) (sym lists) at;
+  tells = λ i t at. subst (λ (z : Circuit). At z.down i t) (sym lists) at;
   handled = ap (λ (z : Circuit). z.handled) lists;
   heard = ap (λ (z : Circuit). z.heard) lists;
   opened = λ o. ap (λ (z : Circuit). z.client_open) (sym lists) ∙ o;
@@ -128,6 +157,8 @@ on-then a b c f g = record {
   server = g.server ∙ f.server;
   up = (let p : length a.lists.up ≤ length b.lists.up = f.up in let q : length b.lists.up ≤ length c.lists.up = g.up in omega (arith, p, q));
   down = (let p : length a.lists.down ≤ length b.lists.down = f.down in let q : length b.lists.down ≤ length c.lists.down = g.down in omega (arith, p, q));
+  said = λ p s at. g.said p s (f.said p s at);
+  tells = λ i t at. g.tells i t (f.tells i t at);
   handled = g.handled ∙ f.handled;
   heard = g.heard ∙ f.heard;
   opened = λ o. f.opened (g.opened o);
@@ -141,6 +172,8 @@ on-told c more = record {
   server = refl;
   up = omega arith;
   down = (let e : length (c.lists.down ++ more) ≡ length c.lists.down + length more = length-append c.lists.down more in omega (arith, e));
+  said = λ p s at. at;
+  tells = λ i t at. At-append c.lists.down more i t at;
   handled = refl;
   heard = refl;
   opened = λ o. o;
@@ -154,6 +187,8 @@ on-said i n sent c = record {
   server = refl;
   up = (let e : length (c.lists.up ++ sent_on i n sent c) ≡ length c.lists.up + length (sent_on i n sent c) = length-append c.lists.up (sent_on i n sent c) in omega (arith, e));
   down = omega arith;
+  said = λ p s at. At-append c.lists.up (sent_on i n sent c) p s at;
+  tells = λ j t at. at;
   handled = refl;
   heard = refl;
   opened = λ o. o;
@@ -166,6 +201,8 @@ on-closed left c = record {
   server = refl;
   up = omega arith;
   down = omega arith;
+  said = λ p s at. at;
+  tells = λ i t at. at;
   handled = refl;
   heard = refl;
   opened = λ o. absurd (let e : false ≡ true = o in cc);
@@ -176,7 +213,7 @@ on-ending ends c = go (ends c)
   where
     go : (o : Option (List ℕ)) → GoesOn c (unwrap_or (option_map (λ (left : List ℕ). server_closed left c) o) c)
     go None = on-self c
-    go (Some left) = record { number = refl; client = refl; server = refl; up = omega arith; down = omega arith; handled = refl; heard = refl; opened = λ o. o }
+    go (Some left) = record { number = refl; client = refl; server = refl; up = omega arith; down = omega arith; said = λ p s at. at; tells = λ i t at. at; handled = refl; heard = refl; opened = λ o. o }
 
 on-if : (c d : Joined) (b : Bool) → GoesOn c d → GoesOn c (cond b d c)
 on-if c d true goes = goes
@@ -218,27 +255,36 @@ on-stamped (u ∷ us) c =
 
 -- ---- worlds
 
--- From one world to the next: clients stay in their lives, no log gets shorter, and each circuit goes on.
+-- From one world to the next: clients stay in their lives, logs get longer, and each circuit is there still and goes on.
 pub record Grown (w new : World) : Type 0 where
   pub lives : (i : ℕ) (x : ClientSide) → At new.clients i x → (z : ClientSide) × At w.clients i z × (x.life ≡ z.life)
   pub lines : Longer w.client_logs new.client_logs
   pub entries : Longer w.server_logs new.server_logs
+  pub count : length w.circuits ≤ length new.circuits
   pub back : (n : ℕ) (d : Joined) → At new.circuits n d → (c : Joined) × At w.circuits n c × GoesOn c d
 
 abbrev Back : (w new : World) → Type 0
-Back w new = (n : ℕ) (d : Joined) → At new.circuits n d → (c : Joined) × At w.circuits n c × GoesOn c d
+Back w new = (length w.circuits ≤ length new.circuits) × ((n : ℕ) (d : Joined) → At new.circuits n d → (c : Joined) × At w.circuits n c × GoesOn c d)
+
+pub map-count : {A B : Type 0} (f : A → B) (xs : List A) → length (map f xs) ≡ length xs
+map-count f [] = refl
+map-count f (x ∷ xs) = ap (λ (n : ℕ). suc n) (map-count f xs)
 
 pub grown-by : (w new : World) → new.clients ≡ w.clients → Longer w.client_logs new.client_logs → Longer w.server_logs new.server_logs → Back w new → Grown w new
 grown-by w new clients lines entries back =
-    record { lives = λ i x at. (x, subst (λ (l : List ClientSide). At l i x) clients at, refl); lines = lines; entries = entries; back = back }
+    record { lives = λ i x at. (x, subst (λ (l : List ClientSide). At l i x) clients at, refl); lines = lines; entries = entries; count = back.0; back = back.1 }
 
 back-same : (w new : World) → new.circuits ≡ w.circuits → Back w new
-back-same w new circuits n d at = (d, subst (λ (l : List Joined). At l n d) circuits at, on-self d)
+back-same w new circuits =
+    (let e : length new.circuits ≡ length w.circuits = ap (λ (l : List Joined). length l) circuits in omega (arith, e), λ n d at. (d, subst (λ (l : List Joined). At l n d) circuits at, on-self d))
 
 back-map : (w new : World) (f : Joined → Joined) → new.circuits ≡ map f w.circuits → ((c : Joined) → GoesOn c (f c)) → Back w new
-back-map w new f circuits goes n d at =
-    let c = At-mapped f w.circuits n d (subst (λ (l : List Joined). At l n d) circuits at) in
-    (c.0, c.1, subst (λ (z : Joined). GoesOn c.0 z) (sym c.2) (goes c.0))
+back-map w new f circuits goes = (
+  let e : length new.circuits ≡ length w.circuits = ap (λ (l : List Joined). length l) circuits ∙ map-count f w.circuits in omega (arith, e),
+  λ n d at.
+      let c = At-mapped f w.circuits n d (subst (λ (l : List Joined). At l n d) circuits at) in
+      (c.0, c.1, subst (λ (z : Joined). GoesOn c.0 z) (sym c.2) (goes c.0)),
+)
 
 pub grown-same : (w new : World) → new.clients ≡ w.clients → new.client_logs ≡ w.client_logs → new.server_logs ≡ w.server_logs → new.circuits ≡ w.circuits → Grown w new
 grown-same w new clients lines entries circuits =
@@ -254,17 +300,20 @@ grown-map w new f clients lines entries circuits goes =
 
 pub grown-set : (w : World) (k : ℕ) (j d : Joined) → At w.circuits k j → GoesOn j d → Grown w (with_circuit k d w)
 grown-set w k j d on goes =
-    grown-by w (with_circuit k d w) refl (longer-self w.client_logs w.client_logs refl) (longer-self w.server_logs w.server_logs refl)
-    (λ n c at. elim (At-set w.circuits k d n c at) [
-      | inl own ↦ (j, subst (λ (m : ℕ). At w.circuits m j) (sym own.0) on, subst (λ (z : Joined). GoesOn j z) (sym own.1) goes)
-      | inr old ↦ (c, old.0, on-self c)
-    ])
+    grown-by w (with_circuit k d w) refl (longer-self w.client_logs w.client_logs refl) (longer-self w.server_logs w.server_logs refl) (
+      let e : length (slice_set w.circuits k d) ≡ length w.circuits = set-count w.circuits k d in omega (arith, e),
+      λ n c at. elim (At-set w.circuits k d n c at) [
+        | inl own ↦ (j, subst (λ (m : ℕ). At w.circuits m j) (sym own.0) on, subst (λ (z : Joined). GoesOn j z) (sym own.1) goes)
+        | inr old ↦ (c, old.0, on-self c)
+      ],
+    )
 
 pub grown-then : (a b c : World) → Grown a b → Grown b c → Grown a c
 grown-then a b c f g = record {
   lives = λ i x at. (let y = g.lives i x at in let z = f.lives i y.0 y.1 in (z.0, z.1, y.2 ∙ z.2));
   lines = longer-then a.client_logs b.client_logs c.client_logs f.lines g.lines;
   entries = longer-then a.server_logs b.server_logs c.server_logs f.entries g.entries;
+  count = (let p : length a.circuits ≤ length b.circuits = f.count in let q : length b.circuits ≤ length c.circuits = g.count in omega (arith, p, q));
   back = λ n d at. (let y = g.back n d at in let x = f.back n y.0 y.1 in (x.0, x.1, on-then x.0 y.0 d x.2 y.2));
 }
 
@@ -277,7 +326,8 @@ grown-client w i x next at life = record {
   ];
   lines = longer-self w.client_logs w.client_logs refl;
   entries = longer-self w.server_logs w.server_logs refl;
-  back = back-same w (with_client i next w) refl;
+  count = omega arith;
+  back = (back-same w (with_client i next w) refl).1;
 }
 
 grown-lines : (w : World) (life : ℕ) (lines : List Line) → Grown w (with_lines life lines w)
@@ -347,12 +397,19 @@ post-grown w new i y name e mask (gone, core, inl (posts, is)) =
     (grown-server told i y (ends_by i core) core))
 post-grown w new i y name e mask (gone, core, inr refused) = grown-self w new refused.3
 
-replied-rest : (p : PutPlace) (sent : List (Handle × Fields)) (t : World) → ((replied_at p sent t).clients ≡ t.clients) × ((replied_at p sent t).client_logs ≡ t.client_logs) × ((replied_at p sent t).server_logs ≡ t.server_logs)
+pub replied-rest : (p : PutPlace) (sent : List (Handle × Fields)) (t : World) → ((replied_at p sent t).clients ≡ t.clients) × ((replied_at p sent t).client_logs ≡ t.client_logs) × ((replied_at p sent t).server_logs ≡ t.server_logs)
 replied-rest p sent t = go (slice_get t.circuits p.circuit)
   where
     go : (o : Option Joined) → let z : World = unwrap_or (option_map (λ (j : Joined). with_circuit p.circuit (told_late p.place (map (λ (s : Handle × Fields). s.1) sent) j) t) o) t in (z.clients ≡ t.clients) × (z.client_logs ≡ t.client_logs) × (z.server_logs ≡ t.server_logs)
     go None = (refl, refl, refl)
     go (Some j) = (refl, refl, refl)
+
+replied-count : (p : PutPlace) (sent : List (Handle × Fields)) (t : World) → length t.circuits ≤ length (replied_at p sent t).circuits
+replied-count p sent t = go (slice_get t.circuits p.circuit)
+  where
+    go : (o : Option Joined) → length t.circuits ≤ length (unwrap_or (option_map (λ (j : Joined). with_circuit p.circuit (told_late p.place (map (λ (s : Handle × Fields). s.1) sent) j) t) o) t).circuits
+    go None = omega arith
+    go (Some j) = (let d : Joined = told_late p.place (map (λ (s : Handle × Fields). s.1) sent) j in let e : length (slice_set t.circuits p.circuit d) ≡ length t.circuits = set-count t.circuits p.circuit d in omega (arith, e))
 
 finish-grown : (w new : World) (i : ℕ) (y : ServerSide) (name : List ℕ) → HappensFinish w i y name new → Grown w new
 finish-grown w new i y name (inl f) =
@@ -365,16 +422,18 @@ finish-grown w new i y name (inl f) =
     (grown-then w said (server_after i side (ends_by i f.core) f.core said)
     (grown-then w told said
     (grown-entries w told y.life (server.finish_entry f.p ∷ server.next_entries y f.r (server.first_of f.cr.waiting) (server.first_of f.r.waiting)) (next_numbers i y.core name f.cr.waiting) refl refl refl refl (on-next i y.core name f.cr.waiting))
-    (grown-by told said rest.0 (longer-self told.client_logs said.client_logs rest.1) (longer-self told.server_logs said.server_logs rest.2)
-    (λ n d at.
-    let c = replied-back f.p f.sent told n d at in (
-      c.0,
-      c.1,
-      elim c.2 [
-        | inl is ↦ subst (λ (z : Joined). GoesOn c.0 z) (sym is) (on-self c.0)
-        | inr late ↦ subst (λ (z : Joined). GoesOn c.0 z) (sym late) (on-told c.0 (about f.p.place Reply ms))
-      ],
-    ))))
+    (grown-by told said rest.0 (longer-self told.client_logs said.client_logs rest.1) (longer-self told.server_logs said.server_logs rest.2) (
+      replied-count f.p f.sent told,
+      λ n d at.
+          let c = replied-back f.p f.sent told n d at in (
+            c.0,
+            c.1,
+            elim c.2 [
+              | inl is ↦ subst (λ (z : Joined). GoesOn c.0 z) (sym is) (on-self c.0)
+              | inr late ↦ subst (λ (z : Joined). GoesOn c.0 z) (sym late) (on-told c.0 (about f.p.place Reply ms))
+            ],
+          ),
+    )))
     (grown-server said i side (ends_by i f.core) f.core))
 finish-grown w new i y name (inr refused) = grown-self w new refused.2
 

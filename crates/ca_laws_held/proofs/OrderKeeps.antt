@@ -28,7 +28,7 @@ use Rattle.ca_laws_writes.specs.Seats.{Seated, TakesSent}
 use Rattle.ca_laws_writes.proofs.Events.{numbered-at}
 use Rattle.ca_laws_writes.proofs.Lists.{length-more, none_at}
 use Rattle.ca_laws_held.specs.OrderSteps.{ClientsInOrder, HaveLives, InOrder, ServerStepsAre, ServersInOrder, StepsAre}
-use Rattle.ca_laws_held.proofs.OrderGrows.{GoesOn, Grown, Longer, each-event, ended-grown, grown-acted, grown-by, grown-here, grown-left, grown-self, grown-server, grown-then, longer-self, longer-snoc, on-closed, on-self, step-grown, ticks-grown}
+use Rattle.ca_laws_held.proofs.OrderGrows.{GoesOn, Grown, Longer, each-event, ended-grown, grown-acted, grown-by, grown-here, grown-left, grown-self, grown-server, grown-then, longer-self, longer-snoc, map-count, on-closed, on-self, step-grown, ticks-grown}
 
 -- ---- steps
 
@@ -142,13 +142,13 @@ module _ (w new : World) (k : ℕ) (j : Joined) (y : ServerSide) (on : At w.circ
   abbrev did-mid : World
   did-mid = acted k j y (f.steps.0).action w
 
-  abbrev did-after : World
+  abbrev pub did-after : World
   did-after = server_after j.server (side_of j.server y did-mid) (ends_by j.server f.core) f.core did-mid
 
-  abbrev did-step : Step
+  abbrev pub did-step : Step
   did-step = record { sent = length j.lists.down; logged = server.logged y w; after = server.logged y did-after }
 
-  did-grown : Grown w did-after
+  pub did-grown : Grown w did-after
   did-grown = grown-then w did-mid did-after (grown-acted w k j y (f.steps.0).action on) (grown-server did-mid j.server (side_of j.server y did-mid) (ends_by j.server f.core) f.core)
 
   abbrev did-noted : Option Joined → World
@@ -213,28 +213,28 @@ pub record IsHearing (w new : World) (k : ℕ) (j : Joined) (x : ClientSide) : T
   pub steps : StepsOn x.core j.at_client (connection_at x.core j.at_client) (answer.Notices notices) sent core
   pub is : new ≡ client_stepped k j x (answer.Notices notices) sent core w
 
-hearing-or : (w new : World) (k : ℕ) (j : Joined) (x : ClientSide) → At w.circuits k j → At w.clients j.client x → HappensClientStep w k j x new → IsHearing w new k j x ⊎ Grown w new
+pub hearing-or : (w new : World) (k : ℕ) (j : Joined) (x : ClientSide) → At w.circuits k j → At w.clients j.client x → HappensClientStep w k j x new → IsHearing w new k j x ⊎ Grown w new
 hearing-or w new k j x on at (answer.NeedBytes, sent, core, steps, is) = inr (grown-self w new is)
 hearing-or w new k j x on at (answer.Closed c, sent, core, steps, is) = inr (subst (λ (z : World). Grown w z) (sym is) (ended-grown w k j x c core on at))
 hearing-or w new k j x on at (answer.Notices notices, sent, core, steps, is) = inl (record { notices = notices; sent = sent; core = core; steps = steps; is = is })
 
 -- what it reads was sent
-hears-one : (w : World) (k : ℕ) (j : Joined) (x : ClientSide) (o : Option Connection) → connection_at x.core j.at_client ≡ o → (notices : List Notice) (sent : List Sending) (core : Client) → At w.circuits k j → At w.clients j.client x → j.lists.client_open ≡ true → HearsSent w
+pub hears-one : (w : World) (k : ℕ) (j : Joined) (x : ClientSide) (o : Option Connection) → connection_at x.core j.at_client ≡ o → (notices : List Notice) (sent : List Sending) (core : Client) → At w.circuits k j → At w.clients j.client x → j.lists.client_open ≡ true → HearsSent w
     → StepsOn x.core j.at_client o (answer.Notices notices) sent core → length j.lists.heard < length j.lists.down
 hears-one w k j x None is notices sent core on at opened hears steps = absurd steps
 hears-one w k j x (Some d) is notices sent core on at opened hears steps = (let t = hears k j x d steps.m steps.rest on at opened is steps.first in At-within j.lists.down (length j.lists.heard) t.0 t.1)
 
 module _ (w new : World) (k : ℕ) (j : Joined) (x : ClientSide) (on : At w.circuits k j) (at : At w.clients j.client x) (f : IsHearing w new k j x) where
-  abbrev hear-lines : List Line
+  abbrev pub hear-lines : List Line
   hear-lines = lines_of (about_at j.lists (length j.lists.heard)) x.names f.notices
 
-  abbrev hear-step : Step
+  abbrev pub hear-step : Step
   hear-step = record { sent = length j.lists.up; logged = log_length x.life w.client_logs; after = log_length x.life w.client_logs + length hear-lines }
 
-  abbrev hear-mid : World
+  abbrev pub hear-mid : World
   hear-mid = with_circuit k (heard_in hear-step j) w
 
-  hear-grown : Grown hear-mid new
+  pub hear-grown : Grown hear-mid new
   hear-grown = subst (λ (z : World). Grown hear-mid z) (sym f.is) (grown-left hear-mid j.client x x.names x.names f.core hear-lines f.sent at)
 
   hear-lives : HaveLives w → HaveLives new
@@ -282,7 +282,7 @@ pub record IsMade (w new : World) (i : ℕ) (x : ClientSide) : Type 0 where
   pub circuits : mid.circuits ≡ w.circuits ++ c ∷ []
   pub goes : Grown mid new
 
-made-or : (w new : World) (i : ℕ) (happens : Happens w (event.Accept i) new) → IsMade w new i happens.0.x ⊎ Grown w new
+pub made-or : (w new : World) (i : ℕ) (happens : Happens w (event.Accept i) new) → IsMade w new i happens.0.x ⊎ Grown w new
 made-or w new i (can, f) = elim f.leaves [
   | inl full ↦ inr (grown-self w new full.1)
   | inr made ↦
@@ -342,7 +342,7 @@ module _ (w new : World) (i : ℕ) (x : ClientSide) (at : At w.clients i x) (f :
 -- ---- a client begins again
 
 module _ (w new : World) (i : ℕ) (x : ClientSide) (f : HappensClientRestart w i x new) where
-  abbrev begun-mid : World
+  abbrev pub begun-mid : World
   begun-mid = record w { circuits = map (client_gone i x) w.circuits; client_logs = w.client_logs ++ [] ∷ [] }
 
   on-gone : (c : Joined) → GoesOn c (client_gone i x c)
@@ -352,10 +352,10 @@ module _ (w new : World) (i : ℕ) (x : ClientSide) (f : HappensClientRestart w 
       go true = on-closed (out_bytes x.core c.at_client) c
       go false = on-self c
 
-  begun-grown : Grown w begun-mid
+  pub begun-grown : Grown w begun-mid
   begun-grown =
       grown-by w begun-mid refl (longer-snoc w.client_logs []) (longer-self w.server_logs w.server_logs refl)
-      (λ n d at. (let c = At-mapped (client_gone i x) w.circuits n d at in (c.0, c.1, subst (λ (z : Joined). GoesOn c.0 z) (sym c.2) (on-gone c.0))))
+      (let e : length (map (client_gone i x) w.circuits) ≡ length w.circuits = map-count (client_gone i x) w.circuits in omega (arith, e), λ n d at. (let c = At-mapped (client_gone i x) w.circuits n d at in (c.0, c.1, subst (λ (z : Joined). GoesOn c.0 z) (sym c.2) (on-gone c.0))))
 
   -- no end of it is open then
   gone-shut : (c : Joined) (a b : Bool) → a ≡ true → c.lists.client_open ≡ b → (cond (a && b) (client_closed (out_bytes x.core c.at_client) c) c).lists.client_open ≡ true → ⊥

@@ -48,11 +48,11 @@ use Rattle.ca_laws_held.proofs.Stand.{closes}
 
 -- ---- from one world to the next
 
--- a reply that is sent as its message is handled: by which a channel is created, or an EVENT_CANCEL confirmed
+-- a reply that is sent as its message is handled: by which a channel is created, an EVENT_CANCEL confirmed, or a message refused
 abbrev pub IsPrompt : Fields → Type 0
-IsPrompt m = Is command.CreateChannel m ⊎ Is command.EventAdd m
+IsPrompt m = Is command.CreateChannel m ⊎ (Is command.EventAdd m ⊎ Is command.Error m)
 
--- The circuit goes on; nothing is handled there, no channel is created and no EVENT_CANCEL confirmed. While its end at the server is open, it was open, and the
+-- The circuit goes on; nothing is handled there, no channel is created, no EVENT_CANCEL confirmed and nothing refused. While its end at the server is open, it was open, and the
 -- same channels are noted.
 pub record KeepsOn (c d : Joined) : Type 0 where
   pub up : (p : ℕ) (s : Sent) → At c.lists.up p s → At d.lists.up p s
@@ -269,7 +269,8 @@ replies-none y b gone sent mid (inl said) r there creates = only there.0 (subst 
     only : (i : ℕ) → At (finish_reply b ∷ []) i r → ⊥
     only zero at_r = elim creates [
       | inl made ↦ (let e : ◌≡◌ {A = ℕ} 19 18 = ap (λ (x : Fields). x.command) (some_is (finish_reply b) r at_r) ∙ made in absurd (omega (arith, e)))
-      | inr adds ↦ (let e : ◌≡◌ {A = ℕ} 19 1 = ap (λ (x : Fields). x.command) (some_is (finish_reply b) r at_r) ∙ adds in absurd (omega (arith, e)))
+      | inr (inl adds) ↦ (let e : ◌≡◌ {A = ℕ} 19 1 = ap (λ (x : Fields). x.command) (some_is (finish_reply b) r at_r) ∙ adds in absurd (omega (arith, e)))
+      | inr (inr refuses) ↦ (let e : ◌≡◌ {A = ℕ} 19 11 = ap (λ (x : Fields). x.command) (some_is (finish_reply b) r at_r) ∙ refuses in absurd (omega (arith, e)))
     ]
     only (suc i) at_r = none_at i r at_r
 replies-none y b gone sent mid (inr silent) r there creates = none_at there.0 r (subst (λ (l : List (Handle × Fields)). At (map (λ (x : Handle × Fields). x.1) l) there.0 r) silent.1 there.1)

@@ -1,11 +1,11 @@
--- Statement: of what a server sends on a circuit: two parts of what is said of that, each by itself.
+-- Statement: of what a server sends on a circuit: three parts of what is said of that, each by itself.
 use Rattle.std.specs.Prelude.{ℕ, ◌≡◌, ◌<◌, ◌%◌, List, []}
 use Rattle.ca_text.specs.declared.command.Command.TheVariants as command
 use Rattle.ca_text.specs.Limits.{arena_slots}
 use Rattle.ca_text.specs.Place.{At}
 use Rattle.ca_wire.specs.Fields.{Fields}
 use Rattle.ca_model.specs.History.{Circuit, Entry, Line}
-use Rattle.ca_model.specs.Sends.{Conduct, ReadsBetween}
+use Rattle.ca_model.specs.Sends.{Conduct, IsConnected, IsOpenAt, ReadsBetween}
 use Rattle.ca_model.specs.Speech.{Clears, Creates, Is}
 use Rattle.ca_model_safe.specs.Channels.{OfCircuits}
 use Rattle.ca_model_safe.specs.Legal.{server_conduct}
@@ -22,6 +22,11 @@ ConfirmsAtOnce e = (k : ℕ) (m : Fields) → At e.sent k m → Is command.Event
     → (j : ℕ) × (r : Fields) × At e.came j r × At e.read j k × Is command.EventCancel r × (r.p1 ≡ m.p1)
     × (r.p2 ≡ m.p2)
 
+-- A SERVER_DISCONN is for a channel that is open, and the first for it.
+abbrev pub EndsOpenChannels : Conduct → Type 0
+EndsOpenChannels e = (k : ℕ) (m : Fields) → At e.sent k m → Is command.ServerDisconnect m
+    → (i sid : ℕ) × IsOpenAt e k i m.p1 sid × IsConnected e i k m.p1
+
 -- So it is on each circuit of a world.
 abbrev pub ServersGiveFreeSids : World → Type 0
 ServersGiveFreeSids w =
@@ -30,3 +35,7 @@ ServersGiveFreeSids w =
 abbrev pub ServersConfirmAtOnce : World → Type 0
 ServersConfirmAtOnce w =
     OfCircuits (told w) (λ (n : ℕ) (c : Circuit) (x : List Line) (y : List Entry). ConfirmsAtOnce (server_conduct c))
+
+abbrev pub ServersEndOpenChannels : World → Type 0
+ServersEndOpenChannels w =
+    OfCircuits (told w) (λ (n : ℕ) (c : Circuit) (x : List Line) (y : List Entry). EndsOpenChannels (server_conduct c))

@@ -13,4 +13,5 @@ pub mod Sides
 pub mod Once
 pub mod OrderSteps
 pub mod Causes
+pub mod ToldLines
 pub mod LegalParts

@@ -2,8 +2,10 @@
 use Rattle.std.specs.Prelude.{ℕ, ◌≡◌, List, Option}
 use Rattle.ca_dbr.specs.Elements.{Elements}
 use Rattle.ca_dbr.specs.declared.value.Outcome.{Outcome}
+use Rattle.ca_dbr.specs.declared.value.Outcome.TheVariants.{Failed}
+use Rattle.ca_text.specs.declared.status.Status.{Status}
 use Rattle.ca_text.specs.Place.{At}
-use Rattle.ca_model.specs.History.{Called, Intent, Line, Noticed, On, Put, Read, Request, Subscribe, World}
+use Rattle.ca_model.specs.History.{Called, Intent, Line, Noticed, On, Put, Read, Request, Subscribe, World, Write}
 use Rattle.ca_model.specs.Speech.{In}
 use Rattle.ca_model_safe.specs.Channels.{IsRequest, Stands}
 
@@ -29,3 +31,7 @@ IsAwaited intent = ⊥
 -- Of each of these one notice tells at most.
 abbrev pub TellsOnce : World → (life : ℕ) → List Line → Type 0
 TellsOnce w life x = (i l : ℕ) (intent : Intent) (o p : Outcome) → IsAwaited intent → At x i (Noticed intent o) → At x l (Noticed intent p) → i ≡ l
+
+-- A notice of a plain write tells that it failed.
+abbrev pub WritesTellFailed : World → (life : ℕ) → List Line → Type 0
+WritesTellFailed w life x = (i channel number : ℕ) (o : Outcome) → At x i (Noticed (On channel (Request Write number)) o) → (s : Status) × (o ≡ Failed s)

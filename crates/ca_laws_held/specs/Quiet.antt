@@ -85,13 +85,19 @@ IsRequestOn n h intent = (kind : Kind) × (number : ℕ) × HasNumber n h × (in
 abbrev pub IsSubscriptionOn : Names → Handle → Intent → Type 0
 IsSubscriptionOn n h intent = (number : ℕ) × HasNumber n h × (intent ≡ On (channel_number n h) (Subscribe number))
 
+-- a request that the client keeps until it is answered: a read, or a put with notification
+abbrev pub IsAnswered : Kind → Type 0
+IsAnswered Read = Unit {0}
+IsAnswered Put = Unit {0}
+IsAnswered Write = ⊥
+
 -- Each channel has one number, and its table gave its handle. Requests and subscriptions are numbered in order, each on the channel that the
--- core has for it.
+-- core has for it; no plain write is among them.
 pub record Tidy (n : Names) (x : Client) : Type 0 where
   pub numbered : AreNumbered n x
   pub given : (i : ℕ) (h : Handle) → At n.channels i h → WasGiven x.channels h
   pub once : (i : ℕ) (h : Handle) → At n.channels i h → channel_number n h ≡ i
-  pub asked : (i : ℕ) (e : Handle × Intent) → At n.requests i e → (a : ℕ) × (kind : Kind) × (e.1 ≡ On a (history.Request kind i))
+  pub asked : (i : ℕ) (e : Handle × Intent) → At n.requests i e → (a : ℕ) × (kind : Kind) × (e.1 ≡ On a (history.Request kind i)) × IsAnswered kind
   pub subscribed : (i : ℕ) (e : Handle × Intent) → At n.subscriptions i e → (a : ℕ) × (e.1 ≡ On a (Subscribe i))
   pub requests : (q : Handle) (r : Request) → under x.requests q ≡ Some r → IsRequestOn n r.channel (meant_by n.requests q)
   pub subscriptions : (g : Handle) (d : Subscription) → under x.subscriptions g ≡ Some d → IsSubscriptionOn n d.channel (meant_by n.subscriptions g)

@@ -4,7 +4,11 @@ ghost use Rattle.ca_model_safe.specs.Legal.{IsSent};
 ghost use Rattle.ca_model_world.specs.Events.{Event};
 ghost use Rattle.ca_model_world.specs.Runs.{AreEvents, Runs};
 ghost use Rattle.ca_model_world.specs.World.{IsSetting, Setting, World, told};
-ghost use Rattle.ca_laws_held.specs.LegalParts.{ServersConfirmAtOnce, ServersGiveFreeSids};
+ghost use Rattle.ca_laws_held.specs.LegalParts.{
+  ServersConfirmAtOnce,
+  ServersEndOpenChannels,
+  ServersGiveFreeSids,
+};
 
 /// In every world to which a run leads, whatever its setting and events, each accepted subscription
 /// has an EVENT_ADD on a circuit of that life of its client: this is `subscriptions` of `Legal`.
@@ -27,4 +31,12 @@ pub fn servers_give_free_sids()
 pub fn servers_confirm_at_once()
     ensures { (s : Setting) (es : List Event) (stopped : Option Event) (w : World) → IsSetting s
         → AreEvents es → Runs s es stopped w → ServersConfirmAtOnce w }
+{}
+
+/// After every run from a well-formed setting each SERVER_DISCONN of a server is for a channel that
+/// it created on that circuit, of which it has read no CLEAR_CHANNEL since, and the first for it. This
+/// is `disconnects` of `LegalServer`. It holds also of what an end sent that has ended.
+pub fn servers_disconnect_open_channels()
+    ensures { (s : Setting) (es : List Event) (stopped : Option Event) (w : World) → IsSetting s
+        → Runs s es stopped w → ServersEndOpenChannels w }
 {}

@@ -12,6 +12,7 @@ mod once_laws;
 mod order_laws;
 mod sid_laws;
 mod step_laws;
+mod told_laws;
 
 pub use cause_laws::{channels_are_removed_once, messages_come_after_what_they_are_about};
 pub use heard_laws::{
@@ -23,7 +24,8 @@ pub use laws::{
     what_clients_take_is_told_of_its_own, what_servers_take_is_handled_as_it_was_meant,
 };
 pub use legal_laws::{
-    accepted_subscriptions_were_sent, servers_confirm_at_once, servers_give_free_sids,
+    accepted_subscriptions_were_sent, servers_confirm_at_once, servers_disconnect_open_channels,
+    servers_give_free_sids,
 };
 pub use once_laws::{a_call_is_accepted_once, a_request_is_at_one_place, what_was_called_was_sent};
 pub use order_laws::{circuits_join_lives, steps_are_in_order, steps_of_servers_are_in_order};
@@ -35,4 +37,7 @@ pub use step_laws::{
     a_servers_step_keeps_what_is_held, events_keep_what_is_held, open_channels_were_told,
     puts_came_on_their_channels, replies_answer_their_kind, what_is_awaited_is_kept,
     what_is_held_in_runs, what_is_held_is_what_was_meant,
+};
+pub use told_laws::{
+    channels_and_subscriptions_are_told_of_their_own, updates_are_told_of_their_own,
 };

@@ -3,7 +3,7 @@ ghost use Rattle.ca_model_safe.specs.Channels.{OfClients};
 ghost use Rattle.ca_model_world.specs.Events.{Event};
 ghost use Rattle.ca_model_world.specs.Runs.{Runs};
 ghost use Rattle.ca_model_world.specs.World.{Setting, World, told};
-ghost use Rattle.ca_laws_held.specs.Once.{CallsOnce, SendsCalled, StandsOnce, TellsOnce};
+ghost use Rattle.ca_laws_held.specs.Once.{CallsOnce, SendsCalled, StandsOnce, TellsOnce, WritesTellFailed};
 
 /// In every world to which a run leads, whatever its setting and events, no call of a client is twice
 /// in a log: requests, plain writes and subscriptions have numbers of their own, and what was cleared
@@ -34,4 +34,11 @@ pub fn what_was_called_was_sent()
 pub fn what_is_awaited_is_told_once()
     ensures { (s : Setting) (es : List Event) (stopped : Option Event) (w : World)
         → Runs s es stopped w → OfClients (told w) (TellsOnce (told w)) }
+{}
+
+/// In every such world what a client tells of a plain write is that it failed: no request that it
+/// keeps is a plain write, so that only a refusal tells of one.
+pub fn plain_writes_are_told_of_as_failed()
+    ensures { (s : Setting) (es : List Event) (stopped : Option Event) (w : World)
+        → Runs s es stopped w → OfClients (told w) (WritesTellFailed (told w)) }
 {}

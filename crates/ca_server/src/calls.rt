@@ -5,6 +5,7 @@ ghost use Rattle.ca_ids.specs.Table.{under};
 ghost use Rattle.ca_model.specs.ServerCalls.{AddsRecord, AnswersDatagram, Beacons, Posts, Removes, stamped};
 ghost use Rattle.ca_model.specs.ServerSteps.{Accepts, Cuts, Gives, Pumps, Sends, Update, output_of};
 ghost use Rattle.ca_records.specs.Record.{unset};
+ghost use Rattle.ca_server_core.specs.Asking.{busy_value};
 ghost use Rattle.ca_server_core.specs.NextPut.{IsNextPut};
 
 use crate::state::State;
@@ -75,6 +76,13 @@ impl<L: Ledger> State<L> {
         ensures { IsNextPut self.now.core circuit (option_map (λ t. t.now) result) }
     {
         self.core.next_put(circuit)
+    }
+
+    /// The value of the record of this name, if a put makes it busy: what a device is to process.
+    pub fn busy_value(&self, name: &[u8]) -> Option<&Value>
+        ensures { option_map (λ v. elements v.now) result ≡ busy_value self.now.core name.now }
+    {
+        self.core.busy_value(name)
     }
 
     /// The datagrams that answer a datagram: a reply for each search in it for a record that is served, in their order.

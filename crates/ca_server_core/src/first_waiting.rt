@@ -1,12 +1,14 @@
-ghost use Rattle.std.specs.Prelude.{◌≡◌};
+ghost use Rattle.std.specs.Prelude.{◌≡◌, option_map};
+ghost use Rattle.ca_dbr.specs.Elements.{elements};
 ghost use Rattle.ca_ids.specs.Table.{under};
 ghost use Rattle.ca_records.specs.Store.{records_of};
 ghost use Rattle.ca_server_circuit.specs.Circuits.{is_open};
-ghost use Rattle.ca_server_core.specs.Asking.{circuit_next, first_waiting};
+ghost use Rattle.ca_server_core.specs.Asking.{busy_value, circuit_next, first_waiting, value_busy};
 ghost use Rattle.ca_records.specs.Puts.{record_named};
 
 use crate::server::ServerCore;
 use ca_arena::Handle;
+use ca_dbr::Value;
 use ca_records::ServedRecords;
 use ca_records::for_histories::waiting_put;
 
@@ -17,6 +19,13 @@ impl ServerCore {
         ensures { result ≡ first_waiting self.now name.now }
     {
         circuit_of_first(&self.records, name)
+    }
+
+    /// The value of the record of this name, if a put makes it busy: what a device is to process.
+    pub fn busy_value(&self, name: &[u8]) -> Option<&Value>
+        ensures { option_map (λ v. elements v.now) result ≡ busy_value self.now name.now }
+    {
+        value_of_busy(&self.records, name)
     }
 
     /// Whether the end of a circuit is open.
@@ -42,4 +51,19 @@ fn circuit_of_first(records: &ServedRecords, name: &[u8]) -> Option<Handle>
         return None;
     }
     Some(waiting_put(served, 0).circuit)
+}
+
+/// The value of the record of this name, if a put makes it busy.
+fn value_of_busy<'a>(records: &'a ServedRecords, name: &[u8]) -> Option<&'a Value>
+    ensures { option_map (λ v. elements v.now) result
+        ≡ value_busy (record_named (records_of records.now) name.now) }
+{
+    let Some(place) = records.find(name) else {
+        return None;
+    };
+    let served = records.at(place);
+    if !served.is_busy() {
+        return None;
+    }
+    Some(served.state().value())
 }

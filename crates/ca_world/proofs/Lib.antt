@@ -14,3 +14,5 @@ pub mod Writing
 pub mod Subscribing
 pub mod Finding
 pub mod Settled
+pub mod Meanings
+pub mod Cancellings

@@ -4,6 +4,7 @@
 //! It is not complete: not all events are there yet.
 #![tactic(auto)]
 
+mod cancelling;
 mod client;
 mod config;
 mod ends;
@@ -18,6 +19,7 @@ mod read;
 mod server;
 mod server_datagram;
 mod subscribe;
+mod unsubscribe;
 mod up;
 mod way;
 mod world;

@@ -1,0 +1,8 @@
+use Rattle.std.proofs.Common.{◌≡◌, ◌+◌, vec_len}
+use Rattle.ca_serve.proofs.accepting.join_all.Given as goal
+
+abbrev pub invariant-loop-one : goal.invariant-loop-one
+invariant-loop-one g l = l.all.parts + vec_len l.running ≡ l.initial.all.parts + vec_len l.initial.running
+
+abbrev pub decreases-loop-one : goal.decreases-loop-one
+decreases-loop-one g l = goal.left-loop-one g l

@@ -1,0 +1,19 @@
+//! A server of Channel Access in threads: one for each circuit, two that have a device process what was put, and one for datagrams.
+//!
+//! What lies under the lock, and what each call makes of it, is `ca_server`. The device is called with no lock held, so that a record that is
+//! slow keeps no circuit from its answers. No proof speaks of the threads: that they go on is shown by tests.
+#![tactic(auto)]
+
+mod accepting;
+mod circuit;
+mod clock;
+mod datagrams;
+mod locked;
+mod processing;
+mod serving;
+#[cfg(test)]
+mod tests;
+mod work;
+
+pub use processing::Device;
+pub use serving::{Places, serve};
