@@ -6,14 +6,14 @@ use ca::{not_understood, report};
 use ca_link::Sink;
 use std::alloc::Global;
 use std::io::Write;
-use std::net::Net;
+use std::net::{Net, TcpListener, TcpStream};
 use std::rt::Files;
 use std::sync::Wait;
 use std::thread::Threads;
 use std::time::Clock;
 
 /// Runs the program if the words after its name begin with one of these lines', and returns the exit status then.
-pub fn run<R: Threads + Wait + Clock + Net + Files + Copy + Send + 'static, K: Sink, W: Write>(
+pub fn run<R: Threads + Wait + Clock + Net<Stream = TcpStream, Listener = TcpListener> + Files + Copy + Send + 'static, K: Sink, W: Write>(
     rt: R,
     alloc: Global,
     words: &[String],
