@@ -1,8 +1,10 @@
 -- A state in which nothing was asked.
-use Rattle.std.proofs.Common.{◌≡◌, List, [], Some, Ok, sym, subst}
-use Rattle.std.specs.Prelude.{length}
+use Rattle.std.proofs.Common.{◌≡◌, List, [], Some, Ok, Err, sym, subst, inr, ◌∙◌}
+use Rattle.std.specs.Prelude.{IfErr, IsErrAnd, Result, length}
 use Rattle.atomic_table.specs.Seated.{TableId}
 use Rattle.ca_text.specs.Limits.{arena_slots}
+use Rattle.ca_text.specs.declared.refusal.Refusal.{Refusal}
+use Rattle.ca_text.specs.declared.refusal.Refusal.TheVariants.{OutOfMemory}
 use Rattle.ca_arena.specs.declared.handle.Handle.{Handle}
 use Rattle.ca_board.specs.declared.ticket.Ticket.{Ticket}
 use Rattle.ca_board.specs.Views.{CoreView}
@@ -12,6 +14,7 @@ use Rattle.ca_model.specs.ClientEnds.{ClientBegins, ClientSetting, new_client}
 use Rattle.ca_model_client.specs.Placed.{IsPlaced}
 use Rattle.ca_model_client.proofs.Tables.{under-at}
 use Rattle.ca_client.specs.Awaited.{AreAwaited, IsListed, IsState, Waits}
+use Rattle.ca_client.specs.Calls.{HasNotBegun}
 
 -- a table with no place names nothing
 nothing : {T : Type 0} (h : Handle) (v : T) → (let t : Table T = [] in under t h ≡ Some v) → ⊥
@@ -28,3 +31,9 @@ state-new a x v board ts begins placed same wide = record {
   listed = subst IsListed (sym begins.2) (record { wait = λ q m. absurd m; once = tt });
   awaited = subst (λ (z : Client). AreAwaited v ts (Waits z)) (sym begins.2) (record { each = λ q w. absurd (no-waits a q w); once = λ p q w u e. absurd (no-waits a p w) });
 }
+
+-- where the core would begin and memory lacks
+pub lacks : {A : Type 0} (a : ClientSetting) (x : Client) (e : Refusal) (r : Result A Refusal) → ClientBegins a (Ok x) → IsErrAnd r (λ f. f ≡ e) → e ≡ OutOfMemory
+    → IfErr r (HasNotBegun a)
+lacks a x e (Ok s) begins h is = absurd h
+lacks a x e (Err f) begins h is = inr (h ∙ is, (x, begins))

@@ -2,7 +2,7 @@
 use Rattle.std.specs.Prelude.{◌≡◌, ◌⊎◌, ℕ, ◌<◌, List, [], Option, Some, None, Result, Ok, Err, map, slice_set}
 use Rattle.ca_text.specs.Limits.{board_cells}
 use Rattle.ca_text.specs.declared.refusal.Refusal.{Refusal}
-use Rattle.ca_text.specs.declared.refusal.Refusal.TheVariants.{NoCell}
+use Rattle.ca_text.specs.declared.refusal.Refusal.TheVariants.{NoCell, OutOfMemory}
 use Rattle.ca_arena.specs.declared.handle.Handle.{Handle}
 use Rattle.ca_board.specs.declared.ticket.Ticket.{Ticket}
 use Rattle.ca_board.specs.History.{InUse}
@@ -92,3 +92,7 @@ HasSteppedUnderLock old asked result new =
 pub record IsFresh (setting : ClientSetting) (state : StateView) (me : CallerView) : Type 0 where
   pub core : ClientBegins setting (Ok state.core)
   pub caller : me ≡ caller_start state.seat.board
+
+-- Nothing was begun: the core refused; or it would have begun, and memory lacked for the board or the tickets.
+abbrev pub HasNotBegun : ClientSetting → Refusal → Type 0
+HasNotBegun setting e = ClientBegins setting (Err e) ⊎ ((e ≡ OutOfMemory) × ((x : Client) × ClientBegins setting (Ok x)))

@@ -15,8 +15,8 @@ use ca_text::{Mask, Refusal};
 use std::alloc::AllocError;
 
 impl State {
-    /// Opens a channel, as `ClientCore::open`.
-    pub fn open(&mut self, name: &[u8], priority: u16, now: u64) -> Result<Handle, Refusal>
+    // Opens a channel, as `ClientCore::open`.
+    pub(crate) fn open(&mut self, name: &[u8], priority: u16, now: u64) -> Result<Handle, Refusal>
         ensures opens { ClientOpens
             self.old.core
             (record { name = name.now; priority = priority; now = now })
@@ -28,8 +28,8 @@ impl State {
         self.core.open(name, priority, now)
     }
 
-    /// Writes a value with no answer, as `ClientCore::write`.
-    pub fn write(&mut self, channel: Handle, value: &Value) -> Result<(), Refusal>
+    // Writes a value with no answer, as `ClientCore::write`.
+    pub(crate) fn write(&mut self, channel: Handle, value: &Value) -> Result<(), Refusal>
         ensures writes { (sent : List Sending)
             × ClientWrites self.old.core channel (elements value.now) result sent self.new.core }
         ensures rest { self.new ≡ with_core self.new.core self.old }
@@ -37,8 +37,8 @@ impl State {
         self.core.write(channel, value)
     }
 
-    /// Subscribes to a channel, as `ClientCore::subscribe`.
-    pub fn subscribe(
+    // Subscribes to a channel, as `ClientCore::subscribe`.
+    pub(crate) fn subscribe(
         &mut self,
         channel: Handle,
         data_type: u16,
@@ -59,8 +59,8 @@ impl State {
         self.core.subscribe(channel, data_type, count, mask)
     }
 
-    /// Cancels a subscription, as `ClientCore::unsubscribe`.
-    pub fn unsubscribe(&mut self, subscription: Handle) -> Result<(), Refusal>
+    // Cancels a subscription, as `ClientCore::unsubscribe`.
+    pub(crate) fn unsubscribe(&mut self, subscription: Handle) -> Result<(), Refusal>
         ensures unsubscribes { (sent : List Sending)
             × ClientUnsubscribes self.old.core subscription result sent self.new.core }
         ensures rest { self.new ≡ with_core self.new.core self.old }
@@ -68,8 +68,8 @@ impl State {
         self.core.unsubscribe(subscription)
     }
 
-    /// Takes a datagram, as `ClientCore::datagram`.
-    pub fn datagram(&mut self, now: u64, from: Address, bytes: &[u8]) -> Result<(), Refusal>
+    // Takes a datagram, as `ClientCore::datagram`.
+    pub(crate) fn datagram(&mut self, now: u64, from: Address, bytes: &[u8]) -> Result<(), Refusal>
         ensures receives { (sent : List Sending)
             × ClientReceives
             self.old.core
@@ -82,16 +82,16 @@ impl State {
         self.core.datagram(now, from, bytes)
     }
 
-    /// The circuits that are wanted and not connected, as `ClientCore::wanted`.
-    pub fn wanted(&self) -> Result<Vec<WantedCircuit>, AllocError>
+    // The circuits that are wanted and not connected, as `ClientCore::wanted`.
+    pub(crate) fn wanted(&self) -> Result<Vec<WantedCircuit>, AllocError>
         ensures ok { IfOk result (λ found. found.items ≡ wanted self.now.core) }
         ensures some { OnErr result (wanted self.now.core ≢ []) }
     {
         self.core.wanted()
     }
 
-    /// Where a channel is, as `ClientCore::channel_state`.
-    pub fn channel_state(&self, channel: Handle) -> Result<ChannelState, Refusal>
+    // Where a channel is, as `ClientCore::channel_state`.
+    pub(crate) fn channel_state(&self, channel: Handle) -> Result<ChannelState, Refusal>
         ensures { stated result ≡ channel_state self.now.core channel }
     {
         self.core.channel_state(channel)

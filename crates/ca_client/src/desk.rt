@@ -1,4 +1,4 @@
-ghost use Rattle.std.specs.Prelude.{◌≡◌, ◌≢◌, ◌<◌, ◌^◌, [], IfOk, OnErr, List};
+ghost use Rattle.std.specs.Prelude.{◌≡◌, ◌≢◌, ◌<◌, ◌^◌, [], IfErr, IfOk, OnErr, List};
 ghost use Rattle.ca_board.specs.Views.{caller_start};
 ghost use Rattle.ca_dbr.specs.Elements.{elements};
 ghost use Rattle.ca_client_core.specs.Forms.{stated};
@@ -6,7 +6,7 @@ ghost use Rattle.ca_model.specs.Answers.{Sending};
 ghost use Rattle.ca_model.specs.ChannelState as channels;
 ghost use Rattle.ca_model.specs.ClientCalls as client;
 ghost use Rattle.ca_model.specs.ClientEnds.{ClientReceives};
-ghost use Rattle.ca_client.specs.Calls.{HasIssuedUnderLock, HasSteppedUnderLock, IsFresh};
+ghost use Rattle.ca_client.specs.Calls.{HasIssuedUnderLock, HasNotBegun, HasSteppedUnderLock, IsFresh};
 ghost use Rattle.ca_client.specs.Desks.{with_state};
 ghost use Rattle.ca_client.specs.Turns.{Turns, with_core};
 
@@ -59,12 +59,18 @@ impl Desk {
         names: &[Address],
         now: u64,
     ) -> Result<Desk, Refusal>
-        ensures { IfOk result (λ d. IsFresh (record {
+        ensures ok { IfOk result (λ d. IsFresh (record {
           peer = record { user = user.items; host = host.items };
           servers = servers.items;
           names = names.now;
           now = now;
         }) d.state d.own) }
+        ensures err { IfErr result (HasNotBegun (record {
+          peer = record { user = user.items; host = host.items };
+          servers = servers.items;
+          names = names.now;
+          now = now;
+        })) }
     {
         let (state, own) = State::new(alloc, user, host, servers, names, now)?;
         Ok(Desk { state, own })
@@ -78,7 +84,7 @@ impl Desk {
         self.state.caller()
     }
 
-    /// `issue_under_lock`.
+    /// Makes a request, as `issue_under_lock`.
     pub fn issue(&mut self, request: &Request) -> Result<(Handle, Ticket), Refusal>
         ensures { HasIssuedUnderLock
             self.old.state
@@ -91,7 +97,7 @@ impl Desk {
         issue_under_lock(&mut self.state, &mut self.own, request)
     }
 
-    /// `step_under_lock`.
+    /// Makes one call of the core, as `step_under_lock`.
     pub fn step(&mut self, asked: Ask) -> Answer
         ensures steps { HasSteppedUnderLock self.old.state asked result self.new.state }
         ensures own { self.new.own ≡ self.old.own }
@@ -99,7 +105,7 @@ impl Desk {
         step_under_lock(&mut self.state, asked)
     }
 
-    /// `turn_over`.
+    /// Moves bytes between a circuit and its socket, as `turn_over`.
     pub fn turn<S: Socket>(&mut self, circuit: Handle, socket: &mut S) -> Option<Ended>
         requires { S.fault_count socket.old < 2 ^ 63 }
         ensures turns { Turns
@@ -118,7 +124,7 @@ impl Desk {
         turn_over(&mut self.state, circuit, socket)
     }
 
-    /// `State::open`.
+    /// Opens a channel, as `ClientCore::open`.
     pub fn open(&mut self, name: &[u8], priority: u16, now: u64) -> Result<Handle, Refusal>
         ensures opens { client.ClientOpens
             self.old.state.core
@@ -126,12 +132,13 @@ impl Desk {
             result
             []
             self.new.state.core }
-        ensures rest { self.new ≡ with_state (with_core self.new.state.core self.old.state) self.old }
+        ensures rest { self.new
+            ≡ with_state (with_core self.new.state.core self.old.state) self.old }
     {
         self.state.open(name, priority, now)
     }
 
-    /// `State::write`.
+    /// Writes a value with no answer, as `ClientCore::write`.
     pub fn write(&mut self, channel: Handle, value: &Value) -> Result<(), Refusal>
         ensures writes { (sent : List Sending)
             × client.ClientWrites
@@ -141,12 +148,13 @@ impl Desk {
             result
             sent
             self.new.state.core }
-        ensures rest { self.new ≡ with_state (with_core self.new.state.core self.old.state) self.old }
+        ensures rest { self.new
+            ≡ with_state (with_core self.new.state.core self.old.state) self.old }
     {
         self.state.write(channel, value)
     }
 
-    /// `State::subscribe`.
+    /// Subscribes to a channel, as `ClientCore::subscribe`.
     pub fn subscribe(
         &mut self,
         channel: Handle,
@@ -163,12 +171,13 @@ impl Desk {
             result
             sent
             self.new.state.core }
-        ensures rest { self.new ≡ with_state (with_core self.new.state.core self.old.state) self.old }
+        ensures rest { self.new
+            ≡ with_state (with_core self.new.state.core self.old.state) self.old }
     {
         self.state.subscribe(channel, data_type, count, mask)
     }
 
-    /// `State::unsubscribe`.
+    /// Cancels a subscription, as `ClientCore::unsubscribe`.
     pub fn unsubscribe(&mut self, subscription: Handle) -> Result<(), Refusal>
         ensures unsubscribes { (sent : List Sending)
             × client.ClientUnsubscribes
@@ -177,12 +186,13 @@ impl Desk {
             result
             sent
             self.new.state.core }
-        ensures rest { self.new ≡ with_state (with_core self.new.state.core self.old.state) self.old }
+        ensures rest { self.new
+            ≡ with_state (with_core self.new.state.core self.old.state) self.old }
     {
         self.state.unsubscribe(subscription)
     }
 
-    /// `State::datagram`.
+    /// Takes a datagram, as `ClientCore::datagram`.
     pub fn datagram(&mut self, now: u64, from: Address, bytes: &[u8]) -> Result<(), Refusal>
         ensures receives { (sent : List Sending)
             × ClientReceives
@@ -191,12 +201,13 @@ impl Desk {
             result
             sent
             self.new.state.core }
-        ensures rest { self.new ≡ with_state (with_core self.new.state.core self.old.state) self.old }
+        ensures rest { self.new
+            ≡ with_state (with_core self.new.state.core self.old.state) self.old }
     {
         self.state.datagram(now, from, bytes)
     }
 
-    /// `State::wanted`.
+    /// The circuits that are wanted and not connected, as `ClientCore::wanted`.
     pub fn wanted(&self) -> Result<Vec<WantedCircuit>, AllocError>
         ensures ok { IfOk result (λ found. found.items ≡ client.wanted self.now.state.core) }
         ensures some { OnErr result (client.wanted self.now.state.core ≢ []) }
@@ -204,7 +215,7 @@ impl Desk {
         self.state.wanted()
     }
 
-    /// `State::channel_state`.
+    /// Where a channel is, as `ClientCore::channel_state`.
     pub fn channel_state(&self, channel: Handle) -> Result<ChannelState, Refusal>
         ensures { stated result ≡ channels.channel_state self.now.state.core channel }
     {

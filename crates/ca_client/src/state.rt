@@ -1,9 +1,9 @@
-ghost use Rattle.std.specs.Prelude.{◌≡◌, ◌≤◌, [], IfOk, List, length};
+ghost use Rattle.std.specs.Prelude.{◌≡◌, ◌≤◌, [], IfErr, IfOk, List, length};
 ghost use Rattle.ca_board.specs.Views.{caller_start};
 ghost use Rattle.ca_model.specs.Answers.{Sending};
 ghost use Rattle.ca_model.specs.Client as client;
 ghost use Rattle.ca_model.specs.ClientCalls.{ClientOpens};
-ghost use Rattle.ca_client.specs.Calls.{IsFresh};
+ghost use Rattle.ca_client.specs.Calls.{HasNotBegun, IsFresh};
 
 use crate::caller::Caller;
 use ca_arena::Handle;
@@ -51,12 +51,18 @@ impl State {
         names: &[Address],
         now: u64,
     ) -> Result<(State, CallerSeat), Refusal>
-        ensures { IfOk result (λ r. IsFresh (record {
+        ensures ok { IfOk result (λ r. IsFresh (record {
           peer = record { user = user.items; host = host.items };
           servers = servers.items;
           names = names.now;
           now = now;
         }) r.0 r.1) }
+        ensures err { IfErr result (HasNotBegun (record {
+          peer = record { user = user.items; host = host.items };
+          servers = servers.items;
+          names = names.now;
+          now = now;
+        })) }
     {
         let core = ClientCore::new(alloc, user, host, servers, names, now)?;
         let (board, mut seat) = Board::new(alloc)?;

@@ -10,7 +10,7 @@ use crate::state::State;
 use ca_board::{Board, CoreSeat, Ticket};
 use ca_client_core::{Left, Notices, Ticked};
 
-// A moment.
+// The core is told the time: the tickets of the requests that end with circuits are filled, and notices of lost channels are dropped.
 pub(crate) fn tick(state: &mut State, now: u64) -> Answer
     ensures { HasSteppedUnderLock state.old (ask.Tick now) result state.new }
 {

@@ -1,4 +1,4 @@
--- Working: what servers sent, beside the messages that it is about.
+-- Statement: what servers sent, beside the messages that it is about.
 use Rattle.std.specs.Prelude.{ℕ, ◌≡◌, ◌≤◌, List}
 use Rattle.ca_text.specs.declared.command.Command.TheVariants as command
 use Rattle.ca_text.specs.Place.{At}

@@ -1,4 +1,4 @@
--- Working: the steps of an end are in order, by how many messages came to it and went from it, and how long the log of its life is.
+-- Statement: the steps of an end are in order, by how many messages came to it and went from it, and how long the log of its life is.
 use Rattle.std.specs.Prelude.{ℕ, ◌≡◌, ◌<◌, ◌≤◌, true, List, length}
 use Rattle.ca_text.specs.Place.{At}
 use Rattle.ca_model.specs.History.{Circuit, Entry, Line, Step}
