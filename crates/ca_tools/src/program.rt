@@ -13,13 +13,18 @@ use std::thread::Threads;
 use std::time::Clock;
 
 /// Runs the program if the words after its name begin with one of these lines', and returns the exit status then.
-pub fn run<R: Threads + Wait + Clock + Net<Stream = TcpStream, Listener = TcpListener> + Files + Copy + Send + 'static, K: Sink, W: Write>(
-    rt: R,
-    alloc: Global,
-    words: &[String],
-    sink: &mut K,
-    err: &mut W,
-) -> Option<u8>
+pub fn run<
+    R: Threads
+        + Wait
+        + Clock
+        + Net<Stream = TcpStream, Listener = TcpListener>
+        + Files
+        + Copy
+        + Send
+        + 'static,
+    K: Sink,
+    W: Write,
+>(rt: R, alloc: Global, words: &[String], sink: &mut K, err: &mut W) -> Option<u8>
     requires sink_calls { K.call_count sink.old < 2 ^ 63 }
     requires sink_faults { K.fault_count sink.old < 2 ^ 63 }
 {

@@ -29,7 +29,14 @@ impl Device for Prompt {
 
 /// Serves the records of a file, tells where on the sink and a refusal on `err`, and returns the exit status.
 pub fn serve_run<
-    R: Threads + Wait + Clock + Net<Stream = TcpStream, Listener = TcpListener> + Files + Copy + Send + 'static,
+    R: Threads
+        + Wait
+        + Clock
+        + Net<Stream = TcpStream, Listener = TcpListener>
+        + Files
+        + Copy
+        + Send
+        + 'static,
     K: Sink,
     W: Write,
 >(rt: R, alloc: Global, line: ServeLine<'_>, sink: &mut K, err: &mut W) -> u8
@@ -42,12 +49,17 @@ pub fn serve_run<
 
 // Refused as Device if the file cannot be read, a socket or a thread cannot be had or the sink fails, as BadText if the file is not
 // understood, and as OutOfMemory.
-fn served<R: Threads + Wait + Clock + Net<Stream = TcpStream, Listener = TcpListener> + Files + Copy + Send + 'static, K: Sink>(
-    rt: R,
-    alloc: Global,
-    line: ServeLine<'_>,
-    sink: &mut K,
-) -> Result<(), Refusal>
+fn served<
+    R: Threads
+        + Wait
+        + Clock
+        + Net<Stream = TcpStream, Listener = TcpListener>
+        + Files
+        + Copy
+        + Send
+        + 'static,
+    K: Sink,
+>(rt: R, alloc: Global, line: ServeLine<'_>, sink: &mut K) -> Result<(), Refusal>
     requires sink_calls { K.call_count sink.old < 2 ^ 63 }
     requires sink_faults { K.fault_count sink.old < 2 ^ 63 }
 {
@@ -74,7 +86,10 @@ fn bytes_of<R: Files>(rt: &R, alloc: Global, file: &str) -> Result<Vec<u8>, Refu
 }
 
 // The listener first, and then the socket for datagrams, on its port.
-fn bound<R: Net<Stream = TcpStream, Listener = TcpListener>>(rt: &R, line: ServeLine<'_>) -> Result<Places, Refusal> {
+fn bound<R: Net<Stream = TcpStream, Listener = TcpListener>>(
+    rt: &R,
+    line: ServeLine<'_>,
+) -> Result<Places, Refusal> {
     let Ok(listener) = TcpListener::bind(rt, SocketAddr::V4(line.listen)) else {
         return Err(Refusal::Device);
     };
