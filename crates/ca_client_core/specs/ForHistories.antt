@@ -1,11 +1,24 @@
 -- Vocabulary: what whoever records histories asks of a client.
-use Rattle.std.specs.Prelude.{◌≡◌, Option, Some, None}
+use Rattle.std.specs.Prelude.{◌≡◌, Bool, Option, Some, None, option_and_then}
 use Rattle.ca_arena.specs.declared.handle.Handle.{Handle}
-use Rattle.ca_model.specs.Client.{Client}
-use Rattle.ca_model.specs.ClientCalls.{IsLive, LiveChannel}
+use Rattle.ca_model.specs.Client.{Client, Connection, connection_at}
+use Rattle.ca_text.specs.declared.command.Command.{Command}
+use Rattle.ca_monitor.specs.ReadRun.{sent_by_read}
+use Rattle.ca_model.specs.ClientCalls.{IsLive, LiveChannel, StandsAs}
+use Rattle.ca_monitor.specs.Subscriptions.{Subscription, standing_under}
 use Rattle.ca_client_core.specs.declared.for_histories.LiveOn.{LiveOn}
+use Rattle.ca_client_core.specs.declared.for_histories.Asked.{Asked}
 
 -- the channel of this handle is live on this circuit, under this SID, with so many elements at most; or it is not live
 abbrev pub LivesOn : Client → Handle → Option LiveOn → Type 0
 LivesOn x h (Some o) = (l : LiveChannel) × IsLive x h l × (o.circuit ≡ l.circuit) × (o.sid ≡ l.native.sid) × (o.count ≡ l.native.count)
 LivesOn x h None = (l : LiveChannel) → IsLive x h l → ⊥
+
+-- the subscription of this handle stands, and asks for this; or none stands
+abbrev pub AsksFor : Client → Handle → Option Asked → Type 0
+AsksFor x s (Some o) = (d : Subscription) × StandsAs x s d × (o.channel ≡ d.channel) × (o.data_type ≡ d.data_type) × (o.count ≡ d.count)
+AsksFor x s None = standing_under s x.subscriptions ≡ None
+
+-- what a read on the circuit of this handle makes the client send, if it is connected
+abbrev pub flow_at : (more : Bool) → Client → Handle → Option Command
+flow_at more x c = option_and_then (λ (e : Connection). sent_by_read more e.run) (connection_at x c)

@@ -1,8 +1,10 @@
 //! What whoever records histories asks of a client. No client needs these calls.
-ghost use Rattle.ca_client_core.specs.ForHistories.{LivesOn};
+ghost use Rattle.std.specs.Prelude.{◌≡◌};
+ghost use Rattle.ca_client_core.specs.ForHistories.{AsksFor, LivesOn, flow_at};
 
 use crate::client::ClientCore;
 use ca_arena::Handle;
+use ca_text::Command;
 
 /// Where a channel is live: on this circuit, under this SID, with so many elements at most.
 #[derive(Clone, Copy, Debug, PartialEq, Eq)]
@@ -23,5 +25,37 @@ pub fn live_on(core: &ClientCore, channel: Handle) -> Option<LiveOn>
             count: live.native.count,
         }),
         Err(_) => None,
+    }
+}
+
+/// What a subscription asks for: on this channel, as this type, with so many elements.
+#[derive(Clone, Copy, Debug, PartialEq, Eq)]
+pub struct Asked {
+    pub channel: Handle,
+    pub data_type: u16,
+    pub count: u32,
+}
+
+/// What this subscription asks for, if it stands.
+pub fn subscribed(core: &ClientCore, subscription: Handle) -> Option<Asked>
+    ensures { AsksFor core.now subscription result }
+{
+    match core.monitors.standing(subscription) {
+        Some(found) => Some(Asked {
+            channel: found.channel,
+            data_type: found.data_type,
+            count: found.count,
+        }),
+        None => None,
+    }
+}
+
+/// What a read on this circuit makes the client send, which left more waiting or none.
+pub fn flow_of(core: &ClientCore, circuit: Handle, more: bool) -> Option<Command>
+    ensures { result ≡ flow_at more core.now circuit }
+{
+    match core.circuits.by_handle(circuit) {
+        Some(found) => found.sends_by_read(more),
+        None => None,
     }
 }
