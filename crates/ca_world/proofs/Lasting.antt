@@ -12,7 +12,9 @@ use Rattle.ca_laws_runs.proofs.Events.{stands-happens}
 use Rattle.ca_world.specs.declared.world.World.TheInside.{Inside}
 use Rattle.ca_world.specs.Does.{Does}
 use Rattle.ca_world.specs.Indexed.{AreIndexed, Stands, client_numbers, server_numbers}
+use Rattle.ca_world.specs.Named.{AreMeant}
 use Rattle.ca_world.specs.Seen.{joined_of, seen}
+use Rattle.ca_world.proofs.Meanings.{mean-happens}
 
 -- clients stand still
 pub stand-by : (w new : World) (e : Event) (r : Result (Unit {0}) Refusal) → Does w e r new → ClientsStand w → ClientsStand new
@@ -28,7 +30,19 @@ quiet-by w new e (Err OutOfMemory) d s q = subst (λ (v : World). ClientsQuiet v
 quiet-by w new e (Err BadEvent) d s q = subst (λ (v : World). ClientsQuiet v) (sym d.1) q
 quiet-by w new e (Err _) d s q = absurd d
 
+-- each handle means what stands beside it
+pub mean-by : (w new : World) (e : Event) (r : Result (Unit {0}) Refusal) → Does w e r new → ClientsStand w → ClientsQuiet w → AreMeant w.clients → AreMeant new.clients
+mean-by w new e (Ok u) d s q m = mean-happens w new e s q m d
+mean-by w new e (Err OutOfMemory) d s q m = subst (λ (v : World). AreMeant v.clients) (sym d.1) m
+mean-by w new e (Err BadEvent) d s q m = subst (λ (v : World). AreMeant v.clients) (sym d.1) m
+mean-by w new e (Err _) d s q m = absurd d
+
 -- all of it does, if circuits are found still
 pub all-stand : (w new : Inside) (e : Event) (r : Result (Unit {0}) Refusal) → Does (seen w) e r (seen new) → Stands w
     → AreIndexed (client_numbers new.clients.items) (server_numbers new.servers.items) (map joined_of new.circuits.items) → Stands new
-all-stand w new e r d s indexed = record { indexed = indexed; clients = stand-by (seen w) (seen new) e r d s.clients; quiet = quiet-by (seen w) (seen new) e r d s.clients s.quiet }
+all-stand w new e r d s indexed = record {
+  indexed = indexed;
+  clients = stand-by (seen w) (seen new) e r d s.clients;
+  quiet = quiet-by (seen w) (seen new) e r d s.clients s.quiet;
+  named = mean-by (seen w) (seen new) e r d s.clients s.quiet s.named;
+}

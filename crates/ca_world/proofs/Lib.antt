@@ -14,3 +14,6 @@ pub mod Writing
 pub mod Subscribing
 pub mod Finding
 pub mod Settled
+pub mod Meanings
+pub mod Cancellings
+pub mod Downward

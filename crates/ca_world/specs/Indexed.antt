@@ -8,7 +8,8 @@ use Rattle.ca_world.specs.declared.server.ServerSide.{ServerSide}
 use Rattle.ca_world.specs.declared.world.World.TheInside.{Inside}
 use Rattle.ca_laws_held.specs.Quiet.{ClientsQuiet}
 use Rattle.ca_laws_runs.specs.Clients.{ClientsStand}
-use Rattle.ca_world.specs.Seen.{joined_of, seen}
+use Rattle.ca_world.specs.Named.{AreMeant}
+use Rattle.ca_world.specs.Seen.{client_of, joined_of, seen}
 
 -- by the index of this handle, side i has the number k
 pub record HasNumber (numbers : List (List ℕ)) (i : ℕ) (h : Handle) (k : ℕ) : Type 0 where
@@ -28,9 +29,10 @@ client_numbers cs = map (λ (x : ClientSide). x.circuits.items) cs
 abbrev pub server_numbers : List ServerSide → List (List ℕ)
 server_numbers ss = map (λ (y : ServerSide). y.circuits.items) ss
 
--- What holds of a world at each moment: circuits are found by their handles; its clients stand, and what they sent is as their tables are,
--- as in every run.
+-- What holds of a world at each moment: circuits are found by their handles; its clients stand, what they sent is as their tables are,
+-- as in every run, and each handle means what stands beside it.
 pub record Stands (w : Inside) : Type 0 where
   pub indexed : AreIndexed (client_numbers w.clients.items) (server_numbers w.servers.items) (map joined_of w.circuits.items)
   pub clients : ClientsStand (seen w)
   pub quiet : ClientsQuiet (seen w)
+  pub named : AreMeant (map client_of w.clients.items)

@@ -12,3 +12,6 @@ pub mod Speaking
 pub mod Reads
 pub mod Subscribes
 pub mod Puts
+pub mod Named
+pub mod Unsubscribes
+pub mod Downs

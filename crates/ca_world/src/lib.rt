@@ -4,8 +4,10 @@
 //! It is not complete: not all events are there yet.
 #![tactic(auto)]
 
+mod cancelling;
 mod client;
 mod config;
+mod down;
 mod ends;
 mod found;
 mod history;
@@ -18,6 +20,7 @@ mod read;
 mod server;
 mod server_datagram;
 mod subscribe;
+mod unsubscribe;
 mod up;
 mod way;
 mod world;

@@ -56,7 +56,10 @@ fn read_on(
     count: u32,
 ) -> Result<(), Refusal>
     requires given { AreGiven (client_of side.old).names.requests side.old.core.requests }
-    requires numbered { AreNumbered side.old.circuits.items (map joined_of circuits.old.items) client }
+    requires numbered { AreNumbered
+        side.old.circuits.items
+        (map joined_of circuits.old.items)
+        client }
     ensures reads { ReadsOn client channel
         (record { data_type = data_type; count = count })
         (client_of side.old)

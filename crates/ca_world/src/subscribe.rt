@@ -63,7 +63,10 @@ fn subscribe_on(
     mask: Mask,
 ) -> Result<(), Refusal>
     requires given { AreGiven (client_of side.old).names.subscriptions side.old.core.subscriptions }
-    requires numbered { AreNumbered side.old.circuits.items (map joined_of circuits.old.items) client }
+    requires numbered { AreNumbered
+        side.old.circuits.items
+        (map joined_of circuits.old.items)
+        client }
     ensures subscribes { SubscribesOn client channel
         (record { data_type = data_type; count = count })
         mask

@@ -49,7 +49,10 @@ fn write_on(
     value: &Value,
 ) -> Result<(), Refusal>
     requires once { AreOnce (client_of side.old).names }
-    requires numbered { AreNumbered side.old.circuits.items (map joined_of circuits.old.items) client }
+    requires numbered { AreNumbered
+        side.old.circuits.items
+        (map joined_of circuits.old.items)
+        client }
     ensures writes { WritesOn client channel
         (elements value.now)
         (client_of side.old)
@@ -65,6 +68,7 @@ fn write_on(
     let own = value_again(alloc, value)?;
     let payload = put_payload(alloc, value)?;
     let number = side.names.writes;
+    // Each write that was accepted has a line in the log, so that this number is never reached.
     if number == usize::MAX {
         return Err(Refusal::OutOfMemory);
     }

@@ -27,7 +27,11 @@ impl World {
         channel: usize,
         value: &Value,
     ) -> Result<(), Refusal>
-        ensures { Does self.old (event.WriteNotify client channel (elements value.now)) result self.new }
+        ensures { Does
+            self.old
+            (event.WriteNotify client channel (elements value.now))
+            result
+            self.new }
     {
         if client >= self.clients.len() {
             return Err(Refusal::BadEvent);
@@ -54,7 +58,10 @@ fn write_notify_on(
     value: &Value,
 ) -> Result<(), Refusal>
     requires given { AreGiven (client_of side.old).names.requests side.old.core.requests }
-    requires numbered { AreNumbered side.old.circuits.items (map joined_of circuits.old.items) client }
+    requires numbered { AreNumbered
+        side.old.circuits.items
+        (map joined_of circuits.old.items)
+        client }
     ensures puts { PutsOn client channel
         (elements value.now)
         (client_of side.old)

@@ -7,7 +7,9 @@ use Rattle.ca_laws_held.proofs.Kept.{quiet-opening}
 use Rattle.ca_laws_runs.specs.Clients.{ClientsStand}
 use Rattle.ca_laws_runs.proofs.Events.{stands-opening}
 use Rattle.ca_world.specs.Indexed.{AreIndexed, client_numbers, server_numbers}
+use Rattle.ca_world.specs.Named.{AreMeant}
 use Rattle.ca_world.specs.Seen.{joined_of}
+use Rattle.ca_world.proofs.Meanings.{mean-opening}
 use Rattle.ca_world.proofs.world.World.new.Goals as goal
 
 pub invariant_of-result : goal.invariant_of-result
@@ -28,4 +30,5 @@ invariant_of-result c =
           (record { clients = λ k j at on. absurd cc; servers = λ k j at on. absurd cc });
       clients = subst (λ (z : model.World). ClientsStand z) (sym is) (stands-opening s);
       quiet = subst (λ (z : model.World). ClientsQuiet z) (sym is) (quiet-opening s);
+      named = subst (λ (z : model.World). AreMeant z.clients) (sym is) (mean-opening s);
     }

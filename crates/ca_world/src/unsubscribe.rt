@@ -1,0 +1,81 @@
+ghost use Rattle.std.specs.Prelude.{◌≡◌, map};
+ghost use Rattle.ca_model_world.specs.Events as event;
+ghost use Rattle.ca_world.specs.Does.{Does};
+ghost use Rattle.ca_world.specs.Found.{AreNumbered};
+ghost use Rattle.ca_world.specs.Logs.{lines_in};
+ghost use Rattle.ca_world.specs.Named.{MeanTheirs};
+ghost use Rattle.ca_world.specs.Seen.{client_of, joined_of};
+ghost use Rattle.ca_world.specs.Unsubscribes.{UnsubscribesOn};
+
+use crate::cancelling::{prepare_cancel, to_cancel};
+use crate::client::ClientSide;
+use crate::history::{Line, Sent};
+use crate::joined::Joined;
+use crate::logs::{note, push_line};
+use crate::way::push_sent;
+use crate::world::World;
+use ca_text::Refusal;
+use ca_wire::event_cancel_request;
+use std::alloc::Global;
+
+impl World {
+    /// A client ends a subscription. A refusal of the call is a line of its log.
+    pub fn unsubscribe(&mut self, client: usize, subscription: usize) -> Result<(), Refusal>
+        ensures { Does self.old (event.Unsubscribe client subscription) result self.new }
+    {
+        if client >= self.clients.len() {
+            return Err(Refusal::BadEvent);
+        }
+        unsubscribe_on(
+            self.alloc,
+            client,
+            &mut self.clients[client],
+            &mut self.circuits,
+            &mut self.client_logs,
+            subscription,
+        )
+    }
+}
+
+fn unsubscribe_on(
+    alloc: Global,
+    client: usize,
+    side: &mut ClientSide,
+    circuits: &mut Vec<Joined>,
+    logs: &mut Vec<Vec<Line>>,
+    subscription: usize,
+) -> Result<(), Refusal>
+    requires theirs { MeanTheirs (client_of side.old).names.subscriptions }
+    requires numbered { AreNumbered
+        side.old.circuits.items
+        (map joined_of circuits.old.items)
+        client }
+    ensures unsubscribes { UnsubscribesOn client subscription
+        (client_of side.old)
+        (lines_in logs.old.items)
+        (map joined_of circuits.old.items)
+        result
+        (client_of side.new)
+        (lines_in logs.new.items)
+        (map joined_of circuits.new.items) }
+    ensures kept { side.new.circuits.items ≡ side.old.circuits.items }
+{
+    let way = prepare_cancel(client, side, circuits, logs, subscription)?;
+    match side.core.unsubscribe(way.handle) {
+        Ok(()) => {
+            let meant = to_cancel(way.meant);
+            let message = event_cancel_request(alloc, way.wanted);
+            push_sent(
+                circuits,
+                way.circuit,
+                Sent {
+                    message,
+                    intent: meant,
+                },
+            );
+            push_line(logs, side.life, Line::Called(meant, None));
+            Ok(())
+        }
+        Err(refusal) => note(logs, side.life, refusal),
+    }
+}
