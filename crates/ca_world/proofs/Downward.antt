@@ -159,7 +159,7 @@ module _ (cs : List ClientSide) (ss : List ServerSide) (ks : List Joined) (cl : 
     down-handed x' y' j' (Err _) on d = absurd d
 
     -- the circuit with fewer bytes that its server left
-    less : model.Joined
+    abbrev less : model.Joined
     less = record (joined_of j) { left_down = drop n j.left_down }
 
     pub down-left : (x' : ClientSide) (j' : Joined) (r : Result (Unit {0}) Refusal) → j.lists.server_open ≡ false → LeavesDown x j n r x' j'
