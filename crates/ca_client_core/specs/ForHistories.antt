@@ -1,7 +1,9 @@
 -- Vocabulary: what whoever records histories asks of a client.
-use Rattle.std.specs.Prelude.{◌≡◌, Option, Some, None}
+use Rattle.std.specs.Prelude.{◌≡◌, Bool, Option, Some, None, option_and_then}
 use Rattle.ca_arena.specs.declared.handle.Handle.{Handle}
-use Rattle.ca_model.specs.Client.{Client}
+use Rattle.ca_model.specs.Client.{Client, Connection, connection_at}
+use Rattle.ca_text.specs.declared.command.Command.{Command}
+use Rattle.ca_monitor.specs.ReadRun.{sent_by_read}
 use Rattle.ca_model.specs.ClientCalls.{IsLive, LiveChannel, StandsAs}
 use Rattle.ca_monitor.specs.Subscriptions.{Subscription, standing_under}
 use Rattle.ca_client_core.specs.declared.for_histories.LiveOn.{LiveOn}
@@ -16,3 +18,7 @@ LivesOn x h None = (l : LiveChannel) → IsLive x h l → ⊥
 abbrev pub AsksFor : Client → Handle → Option Asked → Type 0
 AsksFor x s (Some o) = (d : Subscription) × StandsAs x s d × (o.channel ≡ d.channel) × (o.data_type ≡ d.data_type) × (o.count ≡ d.count)
 AsksFor x s None = standing_under s x.subscriptions ≡ None
+
+-- what a read on the circuit of this handle makes the client send, if it is connected
+abbrev pub flow_at : (more : Bool) → Client → Handle → Option Command
+flow_at more x c = option_and_then (λ (e : Connection). sent_by_read more e.run) (connection_at x c)

@@ -1,8 +1,10 @@
 //! What whoever records histories asks of a client. No client needs these calls.
-ghost use Rattle.ca_client_core.specs.ForHistories.{AsksFor, LivesOn};
+ghost use Rattle.std.specs.Prelude.{◌≡◌};
+ghost use Rattle.ca_client_core.specs.ForHistories.{AsksFor, LivesOn, flow_at};
 
 use crate::client::ClientCore;
 use ca_arena::Handle;
+use ca_text::Command;
 
 /// Where a channel is live: on this circuit, under this SID, with so many elements at most.
 #[derive(Clone, Copy, Debug, PartialEq, Eq)]
@@ -44,6 +46,16 @@ pub fn subscribed(core: &ClientCore, subscription: Handle) -> Option<Asked>
             data_type: found.data_type,
             count: found.count,
         }),
+        None => None,
+    }
+}
+
+/// What a read on this circuit makes the client send, which left more waiting or none.
+pub fn flow_of(core: &ClientCore, circuit: Handle, more: bool) -> Option<Command>
+    ensures { result ≡ flow_at more core.now circuit }
+{
+    match core.circuits.by_handle(circuit) {
+        Some(found) => found.sends_by_read(more),
         None => None,
     }
 }

@@ -1,10 +1,11 @@
 //! Bytes that came on a circuit.
-ghost use Rattle.std.specs.Prelude.{◌≡◌, ◌≢◌, ◌⊎◌, None, OnErr, OnOk, []};
+ghost use Rattle.std.specs.Prelude.{◌≡◌, ◌≢◌, ◌⊎◌, None, OnErr, OnOk, [], option_and_then};
 ghost use Rattle.ca_monitor.specs.ReadRun.{sent_by_read};
+ghost use Rattle.ca_model.specs.Client as client;
 ghost use Rattle.ca_client_tables.specs.Ends.{GivesAt, read_given};
 
 use crate::circuit::{Circuit, Connection};
-use ca_text::Refusal;
+use ca_text::{Command, Refusal};
 use ca_wire::bare;
 use std::alloc::{AllocError, Global};
 
@@ -29,6 +30,22 @@ impl Circuit {
             return Err(Refusal::OutOfMemory);
         }
         Ok(())
+    }
+}
+
+impl Circuit {
+    /// What a read makes the client send, which left more waiting or none.
+    pub fn sends_by_read(&self, more: bool) -> Option<Command>
+        ensures { result
+            ≡ option_and_then (λ (e : client.Connection). sent_by_read more e.run) self.now.connection }
+    {
+        match &self.connection {
+            Some(connection) => {
+                let mut run = connection.run;
+                run.after_read(more)
+            }
+            None => None,
+        }
     }
 }
 
