@@ -16,3 +16,4 @@ pub mod Finding
 pub mod Settled
 pub mod Meanings
 pub mod Cancellings
+pub mod Downward

@@ -14,3 +14,4 @@ pub mod Subscribes
 pub mod Puts
 pub mod Named
 pub mod Unsubscribes
+pub mod Downs

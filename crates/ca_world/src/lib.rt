@@ -7,6 +7,7 @@
 mod cancelling;
 mod client;
 mod config;
+mod down;
 mod ends;
 mod found;
 mod history;
