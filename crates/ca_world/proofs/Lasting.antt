@@ -1,17 +1,18 @@
 -- What every event keeps of a world.
-use Rattle.std.proofs.Common.{Result, Ok, Err, sym, subst}
+use Rattle.std.proofs.Common.{Result, Ok, Err, [], ◌∷◌, ◌++◌, sym, subst}
 use Rattle.std.specs.Prelude.{map}
 use Rattle.ca_text.specs.declared.refusal.Refusal.{Refusal}
 use Rattle.ca_text.specs.declared.refusal.Refusal.TheVariants.{BadEvent, OutOfMemory}
 use Rattle.ca_model_world.specs.Events.{Event}
-use Rattle.ca_model_world.specs.World.{World}
+use Rattle.ca_model_world.specs.World.{World, opening}
 use Rattle.ca_laws_held.specs.Quiet.{ClientsQuiet}
+use Rattle.ca_laws_held.proofs.Joint.{folds-snoc}
 use Rattle.ca_laws_held.proofs.Kept.{quiet-happens}
 use Rattle.ca_laws_runs.specs.Clients.{ClientsStand}
 use Rattle.ca_laws_runs.proofs.Events.{stands-happens}
 use Rattle.ca_world.specs.declared.world.World.TheInside.{Inside}
 use Rattle.ca_world.specs.Does.{Does}
-use Rattle.ca_world.specs.Indexed.{AreIndexed, Stands, client_numbers, server_numbers}
+use Rattle.ca_world.specs.Indexed.{AreIndexed, IsReached, Stands, client_numbers, server_numbers}
 use Rattle.ca_world.specs.Named.{AreMeant}
 use Rattle.ca_world.specs.Seen.{joined_of, seen}
 use Rattle.ca_world.proofs.Meanings.{mean-happens}
@@ -37,11 +38,19 @@ mean-by w new e (Err OutOfMemory) d s q m = subst (λ (v : World). AreMeant v.cl
 mean-by w new e (Err BadEvent) d s q m = subst (λ (v : World). AreMeant v.clients) (sym d.1) m
 mean-by w new e (Err _) d s q m = absurd d
 
+-- events lead there
+pub reached-by : (w new : World) (e : Event) (r : Result (Unit {0}) Refusal) → Does w e r new → IsReached w → IsReached new
+reached-by w new e (Ok u) d (s, es, ok, folds) = (s, es ++ e ∷ [], ok, folds-snoc es (opening s) w new e folds d)
+reached-by w new e (Err OutOfMemory) d h = subst (λ (v : World). IsReached v) (sym d.1) h
+reached-by w new e (Err BadEvent) d h = subst (λ (v : World). IsReached v) (sym d.1) h
+reached-by w new e (Err _) d h = absurd d
+
 -- all of it does, if circuits are found still
 pub all-stand : (w new : Inside) (e : Event) (r : Result (Unit {0}) Refusal) → Does (seen w) e r (seen new) → Stands w
     → AreIndexed (client_numbers new.clients.items) (server_numbers new.servers.items) (map joined_of new.circuits.items) → Stands new
 all-stand w new e r d s indexed = record {
   indexed = indexed;
+  reached = reached-by (seen w) (seen new) e r d s.reached;
   clients = stand-by (seen w) (seen new) e r d s.clients;
   quiet = quiet-by (seen w) (seen new) e r d s.clients s.quiet;
   named = mean-by (seen w) (seen new) e r d s.clients s.quiet s.named;

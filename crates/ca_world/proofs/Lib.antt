@@ -17,3 +17,8 @@ pub mod Settled
 pub mod Meanings
 pub mod Cancellings
 pub mod Downward
+pub mod Closings
+pub mod Restarting
+pub mod Reported
+pub mod Cuttings
+pub mod Entering

@@ -203,7 +203,7 @@ mean-happens w new (event.Tick moment) c q all h = (let t = h.1 in subst (λ (v 
 
 -- ---- a world before any event
 
-at-numbered : {A B : Type 0} (n : ℕ) (f : ℕ → A → B) (xs : List A) (i : ℕ) (y : B) → At (numbered n f xs) i y → (m : ℕ) × (x : A) × (y ≡ f m x)
+pub at-numbered : {A B : Type 0} (n : ℕ) (f : ℕ → A → B) (xs : List A) (i : ℕ) (y : B) → At (numbered n f xs) i y → (m : ℕ) × (x : A) × (y ≡ f m x)
 at-numbered n f [] i y at = absurd cc
 at-numbered n f (x ∷ xs) zero y at = (n, x, sym (some_is (f n x) y at))
 at-numbered n f (x ∷ xs) (suc i) y at = at-numbered (n + 1) f xs i y at

@@ -15,3 +15,8 @@ pub mod Puts
 pub mod Named
 pub mod Unsubscribes
 pub mod Downs
+pub mod Closing
+pub mod Restarts
+pub mod Reported
+pub mod Withdrawing
+pub mod ServerCuts

@@ -1,6 +1,8 @@
 ghost use Rattle.std.specs.Prelude.{◌≡◌, IfOk, OnOk, map, option_map};
 ghost use Rattle.ca_model_world.specs.World.{IsSetting, addresses, client_begun, no_names, numbered, opening, record_begun, server_begun};
+ghost use Rattle.ca_model.specs.ClientEnds.{new_client};
 ghost use Rattle.ca_model.specs.History.{Added};
+ghost use Rattle.ca_model.specs.Server.{new_server};
 ghost use Rattle.ca_world.specs.Opening.{BeginClients, BeginServers, HasClients, HasServers};
 ghost use Rattle.ca_world.specs.Seen.{client_of, entry_of, names_of, record_of, recorded_of, server_of};
 ghost use Rattle.ca_world.specs.Settings.{rule_of};
@@ -106,23 +108,43 @@ pub(crate) fn begin_client(
 ) -> Result<ClientSide, AllocError>
     ensures { IfOk result (λ x. client_of x ≡ client_begun servers.now moment life setting) }
 {
+    let core = begin_client_core(alloc, &setting, servers, moment)?;
+    Ok(ClientSide {
+        setting,
+        core,
+        life,
+        names: no_names(alloc),
+        circuits: Vec::new(alloc),
+    })
+}
+
+/// The core of a client that begins now.
+pub(crate) fn begin_client_core(
+    alloc: Global,
+    setting: &ClientSetting,
+    servers: &[Address],
+    moment: u64,
+) -> Result<ClientCore, AllocError>
+    ensures { IfOk result (λ core.
+        core
+            ≡ new_client (record {
+              peer = setting.now.peer;
+              servers = servers.now;
+              names = setting.now.name_servers;
+              now = moment;
+            })) }
+{
     let user = Vec::from_slice(alloc, &setting.user)?;
     let host = Vec::from_slice(alloc, &setting.host)?;
     let known = Vec::from_slice(alloc, servers)?;
     match ClientCore::new(alloc, user, host, known, &setting.name_servers, moment) {
-        Ok(core) => Ok(ClientSide {
-            setting,
-            core,
-            life,
-            names: no_names(alloc),
-            circuits: Vec::new(alloc),
-        }),
+        Ok(core) => Ok(core),
         Err(_) => Err(AllocError),
     }
 }
 
 /// No handle names anything yet.
-fn no_names(alloc: Global) -> Names
+pub(crate) fn no_names(alloc: Global) -> Names
     ensures { names_of result ≡ no_names }
 {
     Names {
@@ -188,8 +210,7 @@ pub(crate) fn begin_server(
 ) -> Result<ServerSide, AllocError>
     ensures { IfOk result (λ y. server_of y ≡ server_begun moment life setting) }
 {
-    let rules = copy_rules(alloc, &setting.rules)?;
-    let core = ServerCore::new(setting.address.port, moment, &setting.records, rules)?;
+    let core = begin_server_core(alloc, &setting, moment)?;
     let records = begin_records(alloc, &setting.records)?;
     let added = setting.records.len();
     Ok(ServerSide {
@@ -202,8 +223,23 @@ pub(crate) fn begin_server(
     })
 }
 
+/// The core of a server that begins now.
+pub(crate) fn begin_server_core(
+    alloc: Global,
+    setting: &ServerSetting,
+    moment: u64,
+) -> Result<ServerCore, AllocError>
+    ensures { IfOk result (λ core.
+        core
+            ≡ new_server setting.now.address.port moment setting.now.rules setting.now.records) }
+{
+    let rules = copy_rules(alloc, &setting.rules)?;
+    let core = ServerCore::new(setting.address.port, moment, &setting.records, rules)?;
+    Ok(core)
+}
+
 /// The records that a server begins with, by number.
-fn begin_records(alloc: Global, records: &Records) -> Result<Vec<RecordSide>, AllocError>
+pub(crate) fn begin_records(alloc: Global, records: &Records) -> Result<Vec<RecordSide>, AllocError>
     ensures { IfOk result (λ sides. map record_of sides.items ≡ numbered 0 record_begun records.now) }
 {
     let mut sides = Vec::new(alloc);

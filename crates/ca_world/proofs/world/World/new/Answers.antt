@@ -1,4 +1,4 @@
-use Rattle.std.proofs.Common.{◌≡◌, List, [], map, ap, sym, subst, ◌∙◌}
+use Rattle.std.proofs.Common.{◌≡◌, List, [], map, ap, refl, sym, subst, ◌∙◌}
 use Rattle.ca_model.specs.Ends.{Address}
 use Rattle.ca_model_world.specs.World.{Joined, Setting, addresses, client_begun, numbered, opening}
 use Rattle.ca_model_world.specs.World as model
@@ -6,7 +6,7 @@ use Rattle.ca_laws_held.specs.Quiet.{ClientsQuiet}
 use Rattle.ca_laws_held.proofs.Kept.{quiet-opening}
 use Rattle.ca_laws_runs.specs.Clients.{ClientsStand}
 use Rattle.ca_laws_runs.proofs.Events.{stands-opening}
-use Rattle.ca_world.specs.Indexed.{AreIndexed, client_numbers, server_numbers}
+use Rattle.ca_world.specs.Indexed.{AreIndexed, IsReached, client_numbers, server_numbers}
 use Rattle.ca_world.specs.Named.{AreMeant}
 use Rattle.ca_world.specs.Seen.{joined_of}
 use Rattle.ca_world.proofs.Meanings.{mean-opening}
@@ -28,6 +28,7 @@ invariant_of-result c =
     record {
       indexed = subst (λ (z : List Joined). AreIndexed (client_numbers c.in_ok-clients.clients.items) (server_numbers c.in_ok-servers.servers.items) z) (sym none)
           (record { clients = λ k j at on. absurd cc; servers = λ k j at on. absurd cc });
+      reached = subst (λ (z : model.World). IsReached z) (sym is) (s, [], c.config.invariant, refl);
       clients = subst (λ (z : model.World). ClientsStand z) (sym is) (stands-opening s);
       quiet = subst (λ (z : model.World). ClientsQuiet z) (sym is) (quiet-opening s);
       named = subst (λ (z : model.World). AreMeant z.clients) (sym is) (mean-opening s);

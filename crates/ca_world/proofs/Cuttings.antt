@@ -1,0 +1,353 @@
+-- A server's end of a circuit is cut, from what its parts became.
+use Rattle.std.proofs.Common.{◌≡◌, ℕ, zero, suc, ◌+◌, ◌<◌, ◌≤◌, ◌==◌, ◌&&◌, eqb, inl, inr, Bool, true, false, not, List, [], ◌∷◌, ◌++◌, Option, Some, None, Result, Ok, Err, length, refl, sym, ap, subst, ◌∙◌, arith}
+use Rattle.std.specs.Prelude.{filter, if◌then◌else◌, is_some, map, option_map, slice_get, slice_set, unwrap_or, Vec}
+use Rattle.std.specs.declared.alloc.Global.{Global}
+use Rattle.std.specs.List.{FoldsTo, flat_map}
+use Rattle.std.proofs.lemmas.Bool.{and_from, and_parts, eq-eqb, eqb-true}
+use Rattle.std.proofs.lemmas.List.{map-append}
+use Rattle.ca_arena.specs.declared.handle.Handle.{Handle}
+use Rattle.ca_arena.specs.Arena.{Place}
+use Rattle.ca_ids.specs.Table.{Table, kept_of, under, with_all_freed, with_changed, with_freed}
+use Rattle.ca_model_client.proofs.Placed.{under-other}
+use Rattle.ca_model_client.proofs.Tables.{under-at}
+use Rattle.ca_queue.proofs.Circuits.{filter-twice}
+use Rattle.ca_records.specs.declared.puts.Put.{Put}
+use Rattle.ca_records.specs.Puts.{Record, WaitingPut, withdrawn}
+use Rattle.ca_text.specs.declared.refusal.Refusal.{Refusal}
+use Rattle.ca_text.specs.declared.refusal.Refusal.TheVariants.{OutOfMemory}
+use Rattle.ca_text.specs.Place.{At}
+use Rattle.ca_text.proofs.Places.{At-map, At-one, At-or, At-within, some_is}
+use Rattle.ca_model.specs.Ends as why
+use Rattle.ca_model.specs.History.{Entry, Line}
+use Rattle.ca_model.specs.History as history
+use Rattle.ca_model.specs.Server.{Ended, Open, Server, ServerCircuit, ServerEnd}
+use Rattle.ca_model.specs.ServerSteps.{Cuts, HasEnd, Steps, StepsAt, closed, ended, output_of}
+use Rattle.ca_model.specs.ServerSteps as steps
+use Rattle.ca_model_world.specs.Events.{CutServer, Event}
+use Rattle.ca_model_world.specs.Runs.{CanBe, Happens, HasServerEnd}
+use Rattle.ca_model_world.specs.ServerEvents.{ending, ends_at, ends_by, left_by, reported, server_after, server_closed, withdrawals, without_puts}
+use Rattle.ca_model_world.specs.World.{Setting, grown, opening}
+use Rattle.ca_model_world.specs.World as model
+use Rattle.ca_laws_bytes.proofs.Runs.{events-stand, opening-stands}
+use Rattle.ca_laws_bytes.proofs.ServerEnds.{ended-own}
+use Rattle.ca_laws_bytes.specs.Runs as bytes
+use Rattle.ca_laws_writes.specs.Seats.{HasSeat, Seated}
+use Rattle.ca_world.specs.declared.client.ClientSide.{ClientSide}
+use Rattle.ca_world.specs.declared.ends.Ends.{Ends}
+use Rattle.ca_world.specs.declared.joined.Joined.{Joined}
+use Rattle.ca_world.specs.declared.server.PutPlace.{PutPlace}
+use Rattle.ca_world.specs.declared.server.RecordSide.{RecordSide}
+use Rattle.ca_world.specs.declared.server.ServerSide.{ServerSide}
+use Rattle.ca_world.specs.Does.{Does}
+use Rattle.ca_world.specs.Ends.{AreEnds, NoEnds, ends_of}
+use Rattle.ca_world.specs.Indexed.{IsReached}
+use Rattle.ca_world.specs.Reported.{AllReported, HasReported, IsReportedTable}
+use Rattle.ca_world.specs.Seen.{client_of, entry_of, joined_of, place_of, record_of, server_of}
+use Rattle.ca_world.specs.ServerCuts.{CutsServer, IsServing, cut_core, left_in}
+use Rattle.ca_world.specs.Withdrawing.{all_withdrawn, withdrawn_of}
+use Rattle.ca_world.proofs.Downward.{set-set}
+use Rattle.ca_world.proofs.Indexes.{KeepsEnds, ends-stay}
+use Rattle.ca_world.proofs.Reported.{reported-events, reported-opening}
+use Rattle.ca_world.proofs.Worlds.{joins, none-joined, one-at, same-circuit, set-map, set-same, world_of}
+
+-- ---- a core
+
+-- the end is cut, and a step reports what it left
+pub cut-left : (y mid new : Server) (h : Handle) (e : ServerEnd) (did : steps.Stepped) → HasEnd y h e → Cuts y h mid → Steps mid h did new → (left_in did ≡ output_of (under y.circuits h)) × (new ≡ cut_core h y)
+cut-left y mid new h e did has (inr none) does = absurd (none.0 e has)
+cut-left y mid new h e did has (inl (f, there, is)) does =
+    let out : output_of (under y.circuits h) ≡ f.link.output = ap output_of there in
+    let mid_is : mid ≡ ended h why.Cut (output_of (under y.circuits h)) y = is ∙ (λ t. ended h why.Cut (sym out t) y) in
+    let over : under mid.circuits h ≡ Some (Ended why.Cut (output_of (under y.circuits h))) =
+    subst (λ (z : Server). under z.circuits h ≡ Some (Ended why.Cut (output_of (under y.circuits h)))) (sym mid_is) (ended-own h why.Cut (output_of (under y.circuits h)) y f there) in
+    let did_so : StepsAt mid h (Some (Ended why.Cut (output_of (under y.circuits h)))) did new = subst (λ (o : Option ServerCircuit). StepsAt mid h o did new) over does in
+    (ap left_in did_so.0, did_so.1 ∙ ap (closed h) mid_is)
+
+-- ---- what a core reports
+
+none-under : (t : Table ServerCircuit) (g : Handle) → IsReportedTable t → left_by (under t g) ≡ None
+none-under t g all = go (under t g) refl
+  where
+    go : (o : Option ServerCircuit) → under t g ≡ o → left_by o ≡ None
+    go None is = refl
+    go (Some v) is = all g.index (record { generation = g.generation; value = Some v }) (under-at t g v is)
+
+kept-all : (o : Option ServerCircuit) → left_by o ≡ None → kept_of (λ (c : ServerCircuit). is_some (left_by (Some c))) o ≡ o
+kept-all None none = refl
+kept-all (Some (Open e)) none = refl
+kept-all (Some (Ended w left)) none = absurd cc
+
+-- a table that has reported all keeps all
+freed-none : (t : Table ServerCircuit) → IsReportedTable t → with_all_freed (λ (c : ServerCircuit). is_some (left_by (Some c))) t ≡ t
+freed-none [] all = refl
+freed-none (p ∷ t) all =
+    (λ i. record { generation = p.generation; value = kept-all p.value (all 0 p refl) i } ∷ freed-none t (λ n q at. all (suc n) q at) i)
+
+-- the one end that ended is reported
+freed-one : (t : Table ServerCircuit) (h : Handle) (e : ServerEnd) (w : why.Why) (left : List ℕ) → under t h ≡ Some (Open e) → IsReportedTable t
+    → let over : Table ServerCircuit = with_changed (λ (c : ServerCircuit). Ended w left) h t in
+    under over h ≡ Some (Ended w left) → with_freed h over ≡ with_all_freed (λ (c : ServerCircuit). is_some (left_by (Some c))) over
+freed-one t h e w left has all there =
+    let over : Table ServerCircuit = with_changed (λ (c : ServerCircuit). Ended w left) h t in
+    let frees : ServerCircuit → Bool = λ (c : ServerCircuit). is_some (left_by (Some c)) in
+    let gone : Place ServerCircuit = record { generation = h.generation; value = Some (Ended w left) } in
+    let free : Place ServerCircuit = record { generation = h.generation; value = None } in
+    let is : over ≡ slice_set t h.index gone =
+    (λ i. if is_some (has i) then slice_set t h.index (record { generation = h.generation; value = option_map (λ (c : ServerCircuit). Ended w left) (has i) }) else t) in
+    let here : with_freed h over ≡ slice_set over h.index free = (λ i. if is_some (there i) then slice_set over h.index free else over) in
+    let all_there : with_all_freed frees (slice_set t h.index gone) ≡ slice_set (with_all_freed frees t) h.index free =
+    set-map (λ (p : Place ServerCircuit). record p { value = kept_of frees p.value }) t h.index gone in
+    here ∙ ap (λ (z : Table ServerCircuit). slice_set z h.index free) is ∙ set-set t h.index gone free
+    ∙ sym (ap (with_all_freed frees) is ∙ all_there ∙ ap (λ (z : Table ServerCircuit). slice_set z h.index free) (freed-none t all))
+
+withdrawn-twice : (test : Put → Bool) (rs : List Record) → withdrawn test (withdrawn test rs) ≡ withdrawn test rs
+withdrawn-twice test [] = refl
+withdrawn-twice test (r ∷ rs) =
+    (λ i. record r { waiting = filter-twice (λ (p : WaitingPut). not (test p.put)) r.waiting i } ∷ withdrawn-twice test rs i)
+
+-- what the step leaves is the core that has reported
+cut-reports : (y : Server) (h : Handle) (e : ServerEnd) → HasEnd y h e → HasReported y → cut_core h y ≡ reported (ended h why.Cut (output_of (under y.circuits h)) y)
+cut-reports y h e has all =
+    let left : List ℕ = output_of (under y.circuits h) in
+    let over : Server = ended h why.Cut left y in
+    let tables = freed-one y.circuits h e why.Cut left has all (ended-own h why.Cut left y e has) in
+    let records = withdrawn-twice (λ (p : Put). Rattle.ca_ids.specs.Table.same_handle p.circuit h) y.records in
+    (λ i. record over { circuits = tables i; records = records i })
+
+-- ---- which circuits end
+
+-- of all circuits it is this one
+module _ (ks : List model.Joined) (k i : ℕ) (j : model.Joined) (y : Server) (e : ServerEnd) (at : At ks k j) (mine : j.server ≡ i) (on : j.lists.server_open ≡ true) (has : HasEnd y j.at_server e) (all : HasReported y)
+    (one : (n : ℕ) (c : model.Joined) → At ks n c → c.server ≡ i → c.lists.server_open ≡ true → c.at_server ≡ j.at_server → n ≡ k) where
+  abbrev left : List ℕ
+  left = output_of (under y.circuits j.at_server)
+
+  abbrev over : Server
+  over = ended j.at_server why.Cut left y
+
+  ends-own : ends_by i over j ≡ Some left
+  ends-own =
+      let b : (j.server == i && j.lists.server_open) ≡ true = and_from (j.server == i) j.lists.server_open (eq-eqb j.server i mine) on in
+      (λ t. if b t then left_by (under over.circuits j.at_server) else None) ∙ ap left_by (ended-own j.at_server why.Cut left y e has)
+
+  ends-other : (n : ℕ) (c : model.Joined) → At ks n c → (n ≡ k → ⊥) → ends_by i over c ≡ None
+  ends-other n c there other = go (c.server == i && c.lists.server_open) refl
+    where
+      go : (b : Bool) → (c.server == i && c.lists.server_open) ≡ b → (if b then left_by (under over.circuits c.at_server) else None) ≡ None
+      go false is = refl
+      go true is =
+          let both = and_parts (c.server == i) c.lists.server_open is in
+          let differs : c.at_server ≡ j.at_server → ⊥ = λ same. other (one n c there (eqb-true c.server i both.0) both.1 same) in
+          ap left_by (under-other (λ (z : ServerCircuit). Ended why.Cut left) y.circuits j.at_server c.at_server differs) ∙ none-under y.circuits c.at_server all
+
+  -- its circuit alone has ended
+  pub ends-this : map (ending (ends_by i over)) ks ≡ slice_set ks k (server_closed left j)
+  ends-this =
+      map-one (ending (ends_by i over)) ks k j at (λ n c there other. ap (λ (o : Option (List ℕ)). unwrap_or (option_map (λ (l : List ℕ). server_closed l c) o) c) (ends-other n c there other))
+      ∙ ap (λ (o : Option (List ℕ)). slice_set ks k (unwrap_or (option_map (λ (l : List ℕ). server_closed l j) o) j)) ends-own
+    where
+      map-one : (f : model.Joined → model.Joined) (ks : List model.Joined) (k : ℕ) (j : model.Joined) → At ks k j → ((n : ℕ) (c : model.Joined) → At ks n c → (n ≡ k → ⊥) → f c ≡ c) → map f ks ≡ slice_set ks k (f j)
+      map-one f [] k j at same = absurd cc
+      map-one f (z ∷ ks) zero j at same = (λ t. f (some_is z j at t) ∷ rest ks (λ n c there. same (suc n) c there (λ e. absurd cc)) t)
+        where
+          rest : (ks : List model.Joined) → ((n : ℕ) (c : model.Joined) → At ks n c → f c ≡ c) → map f ks ≡ ks
+          rest [] same = refl
+          rest (c ∷ ks) same = (λ t. same 0 c refl t ∷ rest ks (λ n d there. same (suc n) d there) t)
+      map-one f (z ∷ ks) (suc k) j at same =
+          (λ t. same 0 z refl (λ e. absurd cc) t ∷ map-one f ks k j at (λ n c there other. same (suc n) c there (λ e. other (pred-is n k e))) t)
+        where
+          pred-is : (n k : ℕ) → suc n ≡ suc k → n ≡ k
+          pred-is n k e = omega (arith, e)
+
+  -- as a test of numbers
+  pub ends-number : ends_at (ends_by i over) ks ≡ (λ (n : ℕ). n == k)
+  ends-number = (λ t n. each n t)
+    where
+      each : (n : ℕ) → ends_at (ends_by i over) ks n ≡ (n == k)
+      each n = go (n == k) refl
+        where
+          go : (b : Bool) → (n == k) ≡ b → ends_at (ends_by i over) ks n ≡ b
+          go true is =
+              let here : At ks n j = subst (λ (z : ℕ). At ks z j) (sym (eqb-true n k is)) at in
+              ap (λ (o : Option model.Joined). unwrap_or (option_map (λ (c : model.Joined). is_some (ends_by i over c)) o) false) here ∙ ap is_some ends-own
+          go false is =
+              let other : n ≡ k → ⊥ = λ same. (let yes_it : (n == k) ≡ true = eq-eqb n k same in cc) in
+              elim (At-or ks n) [
+                | inl there ↦
+                    ap (λ (o : Option model.Joined). unwrap_or (option_map (λ (c : model.Joined). is_some (ends_by i over c)) o) false) there.1
+                    ∙ ap is_some (ends-other n there.0 there.1 other)
+                | inr past ↦ ap (λ (o : Option model.Joined). unwrap_or (option_map (λ (c : model.Joined). is_some (ends_by i over c)) o) false) (nothing ks n past)
+              ]
+            where
+              nothing : (ks : List model.Joined) (n : ℕ) → length ks ≤ n → slice_get ks n ≡ None
+              nothing [] n le = refl
+              nothing (z ∷ ks) zero le = absurd (omega (arith, le))
+              nothing (z ∷ ks) (suc n) le = nothing ks n (omega (arith, le))
+
+-- ---- the puts that wait
+
+told-of : (k : ℕ) (ps : List PutPlace) → map (λ (p : model.PutPlace). history.Withdrawn p.circuit p.place) (filter (λ (p : model.PutPlace). p.circuit == k) (map place_of ps)) ≡ withdrawn_of k ps
+told-of k [] = refl
+told-of k (p ∷ ps) = go (p.circuit == k) (told-of k ps)
+  where
+    rest : List model.PutPlace
+    rest = filter (λ (p : model.PutPlace). p.circuit == k) (map place_of ps)
+    go : (b : Bool) → map (λ (p : model.PutPlace). history.Withdrawn p.circuit p.place) rest ≡ withdrawn_of k ps
+        → map (λ (p : model.PutPlace). history.Withdrawn p.circuit p.place) (if b then place_of p ∷ rest else rest) ≡ (if b then history.Withdrawn p.circuit p.place ∷ withdrawn_of k ps else withdrawn_of k ps)
+    go true same = ap (λ (t : List Entry). history.Withdrawn p.circuit p.place ∷ t) same
+    go false same = same
+
+pub told-all : (k : ℕ) (rs : List RecordSide) → withdrawals (λ (n : ℕ). n == k) (map record_of rs) ≡ all_withdrawn k rs
+told-all k [] = refl
+told-all k (r ∷ rs) =
+    map-append (λ (p : model.PutPlace). history.Withdrawn p.circuit p.place) (filter (λ (p : model.PutPlace). p.circuit == k) (map place_of r.waiting.items)) _
+    ∙ (λ t. told-of k r.waiting.items t ++ told-all k rs t)
+
+-- a record without those
+pub filter-places : (test : model.PutPlace → Bool) (ps : List PutPlace) → map place_of (filter (λ (p : PutPlace). test (place_of p)) ps) ≡ filter test (map place_of ps)
+filter-places test [] = refl
+filter-places test (p ∷ ps) = go (test (place_of p)) (filter-places test ps)
+  where
+    go : (b : Bool) → map place_of (filter (λ (p : PutPlace). test (place_of p)) ps) ≡ filter test (map place_of ps) → map place_of (if b then p ∷ filter (λ (p : PutPlace). test (place_of p)) ps else filter (λ (p : PutPlace). test (place_of p)) ps) ≡ (if b then place_of p ∷ filter test (map place_of ps) else filter test (map place_of ps))
+    go true same = ap (λ (t : List model.PutPlace). place_of p ∷ t) same
+    go false same = same
+
+abbrev without : ℕ → model.RecordSide → model.RecordSide
+without k = without_puts (λ (n : ℕ). n == k)
+
+-- the records from this place on without them
+abbrev pub withdrawn_from : ℕ → ℕ → List model.RecordSide → List model.RecordSide
+withdrawn_from zero k rs = map (without k) rs
+withdrawn_from (suc i) k (r ∷ rs) = r ∷ withdrawn_from i k rs
+withdrawn_from (suc i) k [] = []
+
+pub withdrawn-over : (i k : ℕ) (rs : List model.RecordSide) → length rs ≤ i → withdrawn_from i k rs ≡ rs
+withdrawn-over zero k [] le = refl
+withdrawn-over zero k (r ∷ rs) le = absurd (omega (arith, le))
+withdrawn-over (suc i) k [] le = refl
+withdrawn-over (suc i) k (r ∷ rs) le = ap (λ (t : List model.RecordSide). r ∷ t) (withdrawn-over i k rs (omega (arith, le)))
+
+withdrawn-here : (i k : ℕ) (rs : List model.RecordSide) (r : model.RecordSide) → At rs i r → withdrawn_from (i + 1) k (slice_set rs i (without k r)) ≡ withdrawn_from i k rs
+withdrawn-here i k [] r at = absurd cc
+withdrawn-here zero k (q ∷ rs) r at = ap (λ (z : model.RecordSide). without k z ∷ map (without k) rs) (sym (some_is q r at))
+withdrawn-here (suc i) k (q ∷ rs) r at = (let e : suc i + 1 ≡ suc (i + 1) = omega arith in rw e (ap (λ (t : List model.RecordSide). q ∷ t) (withdrawn-here i k rs r at)))
+
+pub withdrawn-next : (i k : ℕ) (rs : List RecordSide) (r got : RecordSide) (w : Vec PutPlace Global) → At rs i r → r ≡ got → w.items ≡ filter (λ (p : PutPlace). not (p.circuit == k)) got.waiting.items
+    → withdrawn_from (i + 1) k (map record_of (slice_set rs i (record got { waiting = w }))) ≡ withdrawn_from i k (map record_of rs)
+withdrawn-next i k rs r got w at is kept =
+    let one : record_of (record got { waiting = w }) ≡ without k (record_of got) =
+    (λ t. record (record_of got) { waiting = (ap (map place_of) kept ∙ filter-places (λ (p : model.PutPlace). not (p.circuit == k)) got.waiting.items) t }) in
+    ap (withdrawn_from (i + 1) k) (set-map record_of rs i (record got { waiting = w }) ∙ ap (slice_set (map record_of rs) i) (one ∙ (λ t. without k (record_of (sym is t)))))
+    ∙ withdrawn-here i k (map record_of rs) (record_of r) (At-map record_of rs i r at)
+
+-- ---- what holds in every run
+
+pub run-stands : (w : model.World) → IsReached w → (s : Setting) × bytes.Stands s w
+run-stands w (s, es, ok, folds) = (s, events-stand s es (opening s) w ok folds (opening-stands s ok))
+
+pub run-reported : (w : model.World) → IsReached w → AllReported w.servers
+run-reported w (s, es, ok, folds) = reported-events es (opening s) w (reported-opening s) folds
+
+-- the end that is open serves
+pub serves-there : (w : model.World) (k : ℕ) (j : model.Joined) (y : model.ServerSide) → IsReached w → At w.circuits k j → At w.servers j.server y → j.lists.server_open ≡ true → IsServing y.core j.at_server
+serves-there w k j y reached at server on =
+    let seat : HasSeat w j = (run-stands w reached).1.sound.seated.each k j at on in
+    let is : seat.y ≡ y = At-one w.servers j.server seat.y y seat.at server in
+    (seat.e, subst (λ (z : model.ServerSide). HasEnd z.core j.at_server seat.e) is seat.has)
+
+-- ---- a world after it
+
+module _ (cs : List ClientSide) (ss : List ServerSide) (ks : List Joined) (cl : List (List Line)) (sl : List (List Entry)) (m : ℕ) where
+  -- no circuit
+  pub cut-none : (k : ℕ) → NoEnds (length cs) (length ss) ks k → CanBe (world_of cs ss ks cl sl m) (CutServer k) → ⊥
+  cut-none k none can = none-joined cs ss ks cl sl m k none can.j can.x can.y can.joins
+
+  -- its end at the server is not open
+  pub cut-ended : (k : ℕ) (j : Joined) → At ks k j → j.lists.server_open ≡ false → CanBe (world_of cs ss ks cl sl m) (CutServer k) → ⊥
+  cut-ended k j at ended can =
+      let is = same-circuit cs ss ks cl sl m k j at can.j can.joins.at in
+      let on : j.lists.server_open ≡ true = sym (ap (λ (z : model.Joined). z.lists.server_open) is) ∙ can.is_open in
+      cc
+
+  module _ (k : ℕ) (j : Joined) (x : ClientSide) (y : ServerSide) (at : At ks k j) (client : At cs j.client x) (server : At ss j.server y) (on : j.lists.server_open ≡ true) (reached : IsReached (world_of cs ss ks cl sl m)) where
+    abbrev there : HasServerEnd (world_of cs ss ks cl sl m) k
+    there = record { j = joined_of j; x = client_of x; y = server_of y; joins = joins cs ss ks cl sl m k j x y at client server; is_open = on }
+
+    pub cut-there : (j' : Joined) (y' : ServerSide) (sl' : List (List Entry)) (r : Result (Unit {0}) Refusal) → CutsServer k y j sl r y' j' sl' → Does (world_of cs ss ks cl sl m) (CutServer k) r (world_of cs (slice_set ss j.server y') (slice_set ks k j') cl sl' m)
+    cut-there j' y' sl' (Ok u) d =
+        let w : model.World = world_of cs ss ks cl sl m in
+        let at_k : At (map joined_of ks) k (joined_of j) = At-map joined_of ks k j at in
+        let at_i : At (map server_of ss) j.server (server_of y) = At-map server_of ss j.server y server in
+        let serving = serves-there w k (joined_of j) (server_of y) reached at_k at_i on in
+        let e : ServerEnd = serving.0 in
+        let has : HasEnd y.core j.at_server e = serving.1 in
+        let all : HasReported y.core = run-reported w reached j.server (server_of y) at_i in
+        let seated : Seated w = (run-stands w reached).1.sound.seated in
+        let one : (n : ℕ) (c : model.Joined) → At (map joined_of ks) n c → c.server ≡ j.server → c.lists.server_open ≡ true → c.at_server ≡ j.at_server → n ≡ k = λ n c there mine opened same. seated.one n k c (joined_of j) there at_k mine opened on same in
+        let left : List ℕ = output_of (under y.core.circuits j.at_server) in
+        let core : Server = ended j.at_server why.Cut left y.core in
+        let ends = ends-this (map joined_of ks) k j.server (joined_of j) y.core e at_k refl on has all one in
+        let number = ends-number (map joined_of ks) k j.server (joined_of j) y.core e at_k refl on has all one in
+        let by_end = cut-reports y.core j.at_server e has all in
+        let out : output_of (under y.core.circuits j.at_server) ≡ e.link.output = ap output_of has in
+        let core_is : core ≡ ended j.at_server why.Cut e.link.output y.core = (λ t. ended j.at_server why.Cut (out t) y.core) in
+        let rs : List model.RecordSide = map record_of y.records.items in
+        let side : server_of y' ≡ record (server_of y) { core = reported core; records = map (without_puts (ends_at (ends_by j.server core) (map joined_of ks))) rs } =
+        d.0 ∙ (λ t. record (server_of y) { core = by_end t; records = map (without_puts (sym number t)) rs }) in
+        let told : all_withdrawn k y.records.items ≡ withdrawals (ends_at (ends_by j.server core) (map joined_of ks)) rs = sym (told-all k y.records.items) ∙ (λ t. withdrawals (sym number t) rs) in (
+          there,
+          record {
+            core = core;
+            cuts = inl (e, has, core_is);
+            leaves = λ t. record {
+              clients = map client_of cs;
+              servers = (set-map server_of ss j.server y' ∙ ap (slice_set (map server_of ss) j.server) side) t;
+              circuits = (set-map joined_of ks k j' ∙ ap (slice_set (map joined_of ks) k) d.2 ∙ sym ends) t;
+              client_logs = cl;
+              server_logs = (d.3 ∙ (λ s. grown y.life (told s) sl)) t;
+              moment = m;
+            };
+          },
+        )
+    cut-there j' y' sl' (Err OutOfMemory) d =
+        (there, (λ t. world_of cs (slice_set ss j.server (d.0 t)) (slice_set ks k (d.1 t)) cl (d.2 t) m) ∙ (λ t. world_of cs (set-same ss j.server y server t) (set-same ks k j at t) cl sl m))
+    cut-there j' y' sl' (Err _) d = absurd d
+
+-- ---- by the ends that were found
+
+module _ (cs : List ClientSide) (ss : List ServerSide) (ks : List Joined) (cl : List (List Line)) (sl : List (List Entry)) (m : ℕ) (k : ℕ) (e : Ends) (a : AreEnds (length cs) (length ss) ks k e) where
+  pub cut-off : e.server_open ≡ false → CanBe (world_of cs ss ks cl sl m) (CutServer k) → ⊥
+  cut-off off = cut-ended cs ss ks cl sl m k a.j a.at (sym (ap (λ (z : Ends). z.server_open) a.is) ∙ off)
+
+  -- what the call asks for
+  pub cut-serves : (j : Joined) (y : ServerSide) → At ks k j → At ss e.server y → e.server_open ≡ true → IsReached (world_of cs ss ks cl sl m) → IsServing y.core j.at_server
+  cut-serves j y at server on reached =
+      let is_j : a.j ≡ j = At-one ks k a.j j a.at at in
+      let is : e ≡ ends_of j = a.is ∙ ap ends_of is_j in
+      serves-there (world_of cs ss ks cl sl m) k (joined_of j) (server_of y) reached (At-map joined_of ks k j at)
+      (At-map server_of ss j.server y (subst (λ (z : Ends). At ss z.server y) is server))
+      (sym (ap (λ (z : Ends). z.server_open) is) ∙ on)
+
+  pub cut-by : (j j' : Joined) (y y' : ServerSide) (sl' : List (List Entry)) (r : Result (Unit {0}) Refusal) → At ks k j → At ss e.server y → e.server_open ≡ true → IsReached (world_of cs ss ks cl sl m) → CutsServer k y j sl r y' j' sl'
+      → Does (world_of cs ss ks cl sl m) (CutServer k) r (world_of cs (slice_set ss e.server y') (slice_set ks k j') cl sl' m)
+  cut-by j j' y y' sl' r at server on reached d =
+      let is_j : a.j ≡ j = At-one ks k a.j j a.at at in
+      let is : e ≡ ends_of j = a.is ∙ ap ends_of is_j in
+      let one = one-at cs a.j.client a.client in
+      let client : At cs j.client one.0 = subst (λ (z : Joined). At cs z.client one.0) is_j one.1 in
+      subst (λ (z : Ends). At ss z.server y → z.server_open ≡ true → Does (world_of cs ss ks cl sl m) (CutServer k) r (world_of cs (slice_set ss z.server y') (slice_set ks k j') cl sl' m))
+      (sym is)
+      (λ server on. cut-there cs ss ks cl sl m k j one.0 y at client server on reached j' y' sl' r d)
+      server
+      on
+
+-- ---- what stays
+
+pub cut-keeps : (k : ℕ) (y y' : ServerSide) (j j' : Joined) (sl sl' : List (List Entry)) (r : Result (Unit {0}) Refusal) → CutsServer k y j sl r y' j' sl' → (y'.circuits.items ≡ y.circuits.items) × KeepsEnds (joined_of j) (joined_of j')
+cut-keeps k y y' j j' sl sl' (Ok u) d = (
+  d.1,
+  subst (λ (z : model.Joined). KeepsEnds (joined_of j) z) (sym d.2)
+      (record { client = refl; server = refl; at_client = refl; at_server = refl; closes = λ on. on; stops = λ on. absurd cc }),
+)
+cut-keeps k y y' j j' sl sl' (Err OutOfMemory) d = (ap (λ (z : ServerSide). z.circuits.items) d.0, ends-stay (joined_of j) (joined_of j') (ap joined_of d.1))
+cut-keeps k y y' j j' sl sl' (Err _) d = absurd d

@@ -1,0 +1,18 @@
+use Rattle.std.proofs.Common.{◌≡◌, length, List, arith, ap, map, ◌∙◌}
+use Rattle.ca_model_world.specs.World.{no_names}
+use Rattle.ca_world.specs.declared.joined.Joined.{Joined}
+use Rattle.ca_world.specs.Closing.{client_left, client_over, with_lefts}
+use Rattle.ca_world.specs.Seen.{joined_of}
+use Rattle.ca_world.proofs.Restarting.{lines-more}
+use Rattle.ca_world.proofs.client_restart.restart_client.Goals as goal
+
+pub returns : goal.returns
+returns c =
+    let ks : List Joined = c.args.circuits.now.items in
+    let life : c.len-life.result ≡ length c.args.logs.now.items = omega (arith, c.len-life.ensures) in
+    let left = λ (j : Joined). client_left c.args.client c.args.side.now.core (joined_of j) in (
+      c.begin_again.ensures.side ∙ (λ t. record { setting = c.args.side.now.setting; core = c.in_ok-core.ensures t; life = life t; names = no_names }),
+      c.begin_again.ensures.circuits,
+      lines-more c.args.logs.now.items _ c.push_reserved.new.self.items c.new.result c.in_ok-reserve.ensures.items c.push_reserved.ensures.items c.new.ensures.items,
+      c.end_clients.ensures ∙ ap (with_lefts (client_over c.args.client) (map joined_of ks)) (c.in_ok-lefts.ensures ∙ ap (map left) c.deref.ensures.value),
+    )
