@@ -1,8 +1,7 @@
 -- A server's end of a circuit is cut, from what its parts became.
-use Rattle.std.proofs.Common.{◌≡◌, ℕ, zero, suc, ◌+◌, ◌<◌, ◌≤◌, ◌==◌, ◌&&◌, eqb, inl, inr, Bool, true, false, not, List, [], ◌∷◌, ◌++◌, Option, Some, None, Result, Ok, Err, length, refl, sym, ap, subst, ◌∙◌, arith}
+use Rattle.std.proofs.Common.{◌≡◌, ℕ, zero, suc, ◌+◌, ◌≤◌, ◌==◌, ◌&&◌, inl, inr, Bool, true, false, not, List, [], ◌∷◌, ◌++◌, Option, Some, None, Result, Ok, Err, length, refl, sym, ap, subst, ◌∙◌, arith}
 use Rattle.std.specs.Prelude.{filter, if◌then◌else◌, is_some, map, option_map, slice_get, slice_set, unwrap_or, Vec}
 use Rattle.std.specs.declared.alloc.Global.{Global}
-use Rattle.std.specs.List.{FoldsTo, flat_map}
 use Rattle.std.proofs.lemmas.Bool.{and_from, and_parts, eq-eqb, eqb-true}
 use Rattle.std.proofs.lemmas.List.{map-append}
 use Rattle.ca_arena.specs.declared.handle.Handle.{Handle}
@@ -16,16 +15,16 @@ use Rattle.ca_records.specs.Puts.{Record, WaitingPut, withdrawn}
 use Rattle.ca_text.specs.declared.refusal.Refusal.{Refusal}
 use Rattle.ca_text.specs.declared.refusal.Refusal.TheVariants.{OutOfMemory}
 use Rattle.ca_text.specs.Place.{At}
-use Rattle.ca_text.proofs.Places.{At-map, At-one, At-or, At-within, some_is}
+use Rattle.ca_text.proofs.Places.{At-map, At-one, At-or, some_is}
 use Rattle.ca_model.specs.Ends as why
 use Rattle.ca_model.specs.History.{Entry, Line}
 use Rattle.ca_model.specs.History as history
 use Rattle.ca_model.specs.Server.{Ended, Open, Server, ServerCircuit, ServerEnd}
 use Rattle.ca_model.specs.ServerSteps.{Cuts, HasEnd, Steps, StepsAt, closed, ended, output_of}
 use Rattle.ca_model.specs.ServerSteps as steps
-use Rattle.ca_model_world.specs.Events.{CutServer, Event}
-use Rattle.ca_model_world.specs.Runs.{CanBe, Happens, HasServerEnd}
-use Rattle.ca_model_world.specs.ServerEvents.{ending, ends_at, ends_by, left_by, reported, server_after, server_closed, withdrawals, without_puts}
+use Rattle.ca_model_world.specs.Events.{CutServer}
+use Rattle.ca_model_world.specs.Runs.{CanBe, HasServerEnd}
+use Rattle.ca_model_world.specs.ServerEvents.{ending, ends_at, ends_by, left_by, reported, server_closed, withdrawals, without_puts}
 use Rattle.ca_model_world.specs.World.{Setting, grown, opening}
 use Rattle.ca_model_world.specs.World as model
 use Rattle.ca_laws_bytes.proofs.Runs.{events-stand, opening-stands}
@@ -42,7 +41,7 @@ use Rattle.ca_world.specs.Does.{Does}
 use Rattle.ca_world.specs.Ends.{AreEnds, NoEnds, ends_of}
 use Rattle.ca_world.specs.Indexed.{IsReached}
 use Rattle.ca_world.specs.Reported.{AllReported, HasReported, IsReportedTable}
-use Rattle.ca_world.specs.Seen.{client_of, entry_of, joined_of, place_of, record_of, server_of}
+use Rattle.ca_world.specs.Seen.{client_of, joined_of, place_of, record_of, server_of}
 use Rattle.ca_world.specs.ServerCuts.{CutsServer, IsServing, cut_core, left_in}
 use Rattle.ca_world.specs.Withdrawing.{all_withdrawn, withdrawn_of}
 use Rattle.ca_world.proofs.Downward.{set-set}
@@ -192,6 +191,7 @@ told-of k (p ∷ ps) = go (p.circuit == k) (told-of k ps)
   where
     rest : List model.PutPlace
     rest = filter (λ (p : model.PutPlace). p.circuit == k) (map place_of ps)
+
     go : (b : Bool) → map (λ (p : model.PutPlace). history.Withdrawn p.circuit p.place) rest ≡ withdrawn_of k ps
         → map (λ (p : model.PutPlace). history.Withdrawn p.circuit p.place) (if b then place_of p ∷ rest else rest) ≡ (if b then history.Withdrawn p.circuit p.place ∷ withdrawn_of k ps else withdrawn_of k ps)
     go true same = ap (λ (t : List Entry). history.Withdrawn p.circuit p.place ∷ t) same

@@ -1,6 +1,6 @@
 -- Bytes reach a client, from what its parts became.
-use Rattle.std.proofs.Common.{◌≡◌, ℕ, zero, suc, ◌≤◌, inl, inr, Bool, true, false, List, [], ◌∷◌, ◌++◌, Option, Some, None, Result, Ok, Err, length, nat_lt, take, drop, refl, sym, ap, subst, ◌∙◌}
-use Rattle.std.specs.Prelude.{map, option_and_then, option_to_list, slice_get, slice_set, unwrap_or}
+use Rattle.std.proofs.Common.{◌≡◌, ℕ, zero, suc, ◌≤◌, inl, inr, Bool, true, false, List, [], ◌∷◌, Option, Some, None, Result, Ok, Err, length, nat_lt, take, drop, refl, sym, ap, subst, ◌∙◌}
+use Rattle.std.specs.Prelude.{map, option_and_then, option_to_list, slice_set}
 use Rattle.std.proofs.lemmas.List.{append-nil}
 use Rattle.ca_arena.specs.declared.handle.Handle.{Handle}
 use Rattle.ca_ids.specs.Table.{under}
@@ -14,10 +14,10 @@ use Rattle.ca_wire.specs.Messages.{bare}
 use Rattle.ca_client_core.specs.ForHistories.{flow_at}
 use Rattle.ca_model.specs.Answers.{Sending}
 use Rattle.ca_model.specs.Client.{Client, Connection, connection_at}
-use Rattle.ca_model.specs.ClientEnds.{ClientGives, GivesOn, flow_sent, of_circuit}
+use Rattle.ca_model.specs.ClientEnds.{ClientGives, GivesOn, of_circuit}
 use Rattle.ca_model.specs.History.{Entry, Line, Sent}
-use Rattle.ca_model.specs.ServerSteps.{Sends, output_of}
-use Rattle.ca_model_world.specs.ClientEvents.{DownTaken, client_after, waiting_down}
+use Rattle.ca_model.specs.ServerSteps.{output_of}
+use Rattle.ca_model_world.specs.ClientEvents.{DownTaken, waiting_down}
 use Rattle.ca_model_world.specs.Events.{Down}
 use Rattle.ca_model_world.specs.Runs.{CanBe, HasClientEnd}
 use Rattle.ca_model_world.specs.World.{Names, grown, with_circuit, with_server}
@@ -27,11 +27,11 @@ use Rattle.ca_world.specs.declared.ends.Ends.{Ends}
 use Rattle.ca_world.specs.declared.joined.Joined.{Joined}
 use Rattle.ca_world.specs.declared.server.ServerSide.{ServerSide}
 use Rattle.ca_world.specs.Does.{Does}
-use Rattle.ca_world.specs.Downs.{GoesDown, HandsDown, LeavesDown, flow_said, with_said}
+use Rattle.ca_world.specs.Downs.{HandsDown, LeavesDown, flow_said, with_said}
 use Rattle.ca_world.specs.Ends.{AreEnds, NoEnds, ends_of}
 use Rattle.ca_world.specs.Found.{AreNumbered, IsAt}
 use Rattle.ca_world.specs.Seen.{client_of, joined_of, server_of}
-use Rattle.ca_world.specs.Speaking.{sent_up, stamped, with_up}
+use Rattle.ca_world.specs.Speaking.{sent_up}
 use Rattle.ca_world.proofs.Cancellings.{none-up}
 use Rattle.ca_world.proofs.Indexes.{KeepsEnds, ends-stay}
 use Rattle.ca_world.proofs.Sendings.{sent-one}

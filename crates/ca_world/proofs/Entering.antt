@@ -5,7 +5,6 @@ use Rattle.std.specs.declared.alloc.Global.{Global}
 use Rattle.std.proofs.lemmas.List.{map-append}
 use Rattle.ca_text.specs.Place.{At}
 use Rattle.ca_text.proofs.Places.{At-map, At-within, some_is}
-use Rattle.ca_model.specs.History as history
 use Rattle.ca_model_world.specs.World.{grown}
 use Rattle.ca_world.specs.declared.history.Entry.{Entry}
 use Rattle.ca_world.specs.Opening.{entries_in}

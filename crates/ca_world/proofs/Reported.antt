@@ -1,14 +1,13 @@
 -- Between events each end of a server that ended was reported: its core keeps none.
-use Rattle.std.proofs.Common.{◌≡◌, ℕ, zero, suc, ◌==◌, inl, inr, Bool, true, false, List, [], ◌∷◌, ◌++◌, length, Option, Some, None, Ok, Err, refl, sym, ap, subst, ◌∙◌}
-use Rattle.std.specs.Prelude.{Result, if◌then◌else◌, is_some, map, option_map, slice_get, slice_set, unwrap_or}
+use Rattle.std.proofs.Common.{◌≡◌, ℕ, ◌==◌, inl, inr, Bool, true, false, List, [], ◌∷◌, ◌++◌, length, Option, Some, None, Ok, Err, refl, sym, subst}
+use Rattle.std.specs.Prelude.{Result, if◌then◌else◌, is_some, option_map, slice_get, slice_set, unwrap_or}
 use Rattle.std.specs.List.{FoldsTo}
 use Rattle.ca_arena.specs.declared.handle.Handle.{Handle}
 use Rattle.ca_arena.specs.Arena.{Place}
-use Rattle.ca_ids.specs.Table.{Table, kept_of, under, with_all_freed, with_changed, with_held}
+use Rattle.ca_ids.specs.Table.{Table, kept_of, under, with_changed, with_held}
 use Rattle.ca_text.specs.Place.{At}
-use Rattle.ca_text.proofs.Places.{At-mapped, At-set, At-snoc, some_is}
+use Rattle.ca_text.proofs.Places.{At-mapped, At-set, At-snoc}
 use Rattle.ca_text.specs.declared.refusal.Refusal.{Refusal}
-use Rattle.ca_text.specs.declared.refusal.Refusal.TheVariants as refusal
 use Rattle.ca_model.specs.Answers.{Sending, Stepped}
 use Rattle.ca_model.specs.Answers as answer
 use Rattle.ca_model.specs.Client.{Client}
@@ -22,8 +21,8 @@ use Rattle.ca_model_world.specs.ClientEvents.{DownTaken, TicksOne, client_steppe
 use Rattle.ca_model_world.specs.Events.{Event}
 use Rattle.ca_model_world.specs.Events as event
 use Rattle.ca_model_world.specs.Runs.{Happens, clients_below}
-use Rattle.ca_model_world.specs.ServerEvents.{HappensFinish, ServerStepped, left_by, reported, server_after, side_of, unsaid}
-use Rattle.ca_model_world.specs.World.{ClientSide, Joined, ServerSide, ServerSetting, Setting, World, numbered, opening, server_begun, with_circuit, with_client}
+use Rattle.ca_model_world.specs.ServerEvents.{HappensFinish, ServerStepped, left_by, reported, unsaid}
+use Rattle.ca_model_world.specs.World.{ClientSide, Joined, ServerSide, Setting, World, opening, server_begun, with_circuit, with_client}
 use Rattle.ca_world.specs.Reported.{AllReported, HasReported, IsReportedTable}
 use Rattle.ca_world.proofs.Meanings.{at-numbered}
 

@@ -1,5 +1,5 @@
 -- Working: bytes reach a client.
-use Rattle.std.specs.Prelude.{ℕ, ◌≡◌, ◌≤◌, ◌++◌, ◌∷◌, Bool, List, [], Option, Some, None, Ok, Err, Result, drop, length, map, nat_lt, take}
+use Rattle.std.specs.Prelude.{ℕ, ◌≡◌, ◌≤◌, ◌++◌, ◌∷◌, Bool, List, [], Option, Some, None, Ok, Err, Result, drop, length, nat_lt, take}
 use Rattle.ca_arena.specs.declared.handle.Handle.{Handle}
 use Rattle.ca_text.specs.declared.command.Command.{Command}
 use Rattle.ca_text.specs.declared.refusal.Refusal.{Refusal}
@@ -15,7 +15,7 @@ use Rattle.ca_model_world.specs.World as model
 use Rattle.ca_world.specs.declared.client.ClientSide.{ClientSide}
 use Rattle.ca_world.specs.declared.joined.Joined.{Joined}
 use Rattle.ca_world.specs.declared.server.ServerSide.{ServerSide}
-use Rattle.ca_world.specs.Seen.{joined_of, sent_of}
+use Rattle.ca_world.specs.Seen.{joined_of}
 
 -- what a client said that sends this command, or none
 abbrev pub flow_said : Option Command → List Sent

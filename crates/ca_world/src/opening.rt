@@ -127,12 +127,12 @@ pub(crate) fn begin_client_core(
 ) -> Result<ClientCore, AllocError>
     ensures { IfOk result (λ core.
         core
-            ≡ new_client (record {
-              peer = setting.now.peer;
-              servers = servers.now;
-              names = setting.now.name_servers;
-              now = moment;
-            })) }
+        ≡ new_client (record {
+          peer = setting.now.peer;
+          servers = servers.now;
+          names = setting.now.name_servers;
+          now = moment;
+        })) }
 {
     let user = Vec::from_slice(alloc, &setting.user)?;
     let host = Vec::from_slice(alloc, &setting.host)?;
@@ -231,7 +231,7 @@ pub(crate) fn begin_server_core(
 ) -> Result<ServerCore, AllocError>
     ensures { IfOk result (λ core.
         core
-            ≡ new_server setting.now.address.port moment setting.now.rules setting.now.records) }
+        ≡ new_server setting.now.address.port moment setting.now.rules setting.now.records) }
 {
     let rules = copy_rules(alloc, &setting.rules)?;
     let core = ServerCore::new(setting.address.port, moment, &setting.records, rules)?;

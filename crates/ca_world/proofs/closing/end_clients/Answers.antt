@@ -20,8 +20,8 @@ loop-left-preserved-then-place-len c =
     record {
       circuits =
           lefts-step p (client_over c.args.client) ks k c.end_client.new.joined c.in-Some.left (into_iter_items c.next.new.self) at c.end_client.ensures
-              ∙ ap (lefts_from p (client_over c.args.client) (map joined_of ks)) (sym steps)
-              ∙ c.loop-left.invariant.circuits;
+          ∙ ap (lefts_from p (client_over c.args.client) (map joined_of ks)) (sym steps)
+          ∙ c.loop-left.invariant.circuits;
     }
 
 pub loop-left-preserved : goal.loop-left-preserved
@@ -32,8 +32,8 @@ loop-left-preserved c =
     record {
       circuits =
           lefts-over p (client_over c.args.client) (map joined_of ks) (into_iter_items c.next.new.self) over
-              ∙ sym (lefts-over p (client_over c.args.client) (map joined_of ks) (into_iter_items c.loop-left.left-iterator) over)
-              ∙ c.loop-left.invariant.circuits;
+          ∙ sym (lefts-over p (client_over c.args.client) (map joined_of ks) (into_iter_items c.loop-left.left-iterator) over)
+          ∙ c.loop-left.invariant.circuits;
     }
 
 pub returns : goal.returns

@@ -16,7 +16,7 @@ use Rattle.ca_world.specs.Indexed.{server_numbers}
 use Rattle.ca_world.specs.Logs.{lines_in}
 use Rattle.ca_world.specs.Opening.{entries_in}
 use Rattle.ca_world.specs.Restarts.{address_of}
-use Rattle.ca_world.specs.Seen.{client_of, joined_of}
+use Rattle.ca_world.specs.Seen.{client_of}
 use Rattle.ca_world.proofs.Lasting.{all-stand}
 use Rattle.ca_world.proofs.Restarting.{client-indexed, client-restarts}
 use Rattle.ca_world.proofs.Worlds.{found, one-at, world_of}

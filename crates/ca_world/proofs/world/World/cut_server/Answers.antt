@@ -12,9 +12,9 @@ use Rattle.ca_world.specs.declared.ends.Ends.{Ends}
 use Rattle.ca_world.specs.declared.joined.Joined.{Joined}
 use Rattle.ca_world.specs.declared.server.ServerSide.{ServerSide}
 use Rattle.ca_world.specs.Does.{Does}
-use Rattle.ca_world.specs.Indexed.{IsReached, client_numbers, server_numbers}
+use Rattle.ca_world.specs.Indexed.{client_numbers, server_numbers}
 use Rattle.ca_world.specs.Opening.{entries_in}
-use Rattle.ca_world.specs.Seen.{entry_of, joined_of, line_of}
+use Rattle.ca_world.specs.Seen.{joined_of, line_of}
 use Rattle.ca_world.proofs.Cuttings.{cut-by, cut-keeps, cut-none, cut-off, cut-serves}
 use Rattle.ca_world.proofs.Indexes.{indexed-circuit, indexed-same, numbers-set}
 use Rattle.ca_world.proofs.Lasting.{all-stand}

@@ -1,4 +1,4 @@
-use Rattle.std.proofs.Common.{◌≡◌, ℕ, ◌<◌, length, List, arith, subst, Vec, Global}
+use Rattle.std.proofs.Common.{ℕ, ◌<◌, length, List, arith, subst, Vec, Global}
 use Rattle.std.specs.Prelude.{slice_set}
 use Rattle.ca_text.specs.Place.{At}
 use Rattle.ca_model_world.specs.Events.{ServerRestart}
