@@ -35,3 +35,4 @@ pub mod CausingRuns
 pub mod ActsLive
 pub mod KnewRecords
 pub mod KnewStands
+pub mod LegalUpdates

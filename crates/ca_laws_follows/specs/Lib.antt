@@ -10,3 +10,4 @@ pub mod Joining
 pub mod Acts
 pub mod Causing
 pub mod Knew
+pub mod LegalEnds

@@ -6,6 +6,7 @@
 mod act_laws;
 mod answer_laws;
 mod laws;
+mod legal_laws;
 mod post_laws;
 
 pub use act_laws::{
@@ -19,4 +20,5 @@ pub use laws::{
     follows_record_in_runs, listed_records_are_there, what_was_added_stands_or_is_over,
     what_was_sent_shows_its_posts,
 };
+pub use legal_laws::{servers_send_what_they_may, servers_update_what_stands};
 pub use post_laws::{subscriptions_follow_their_posts, what_stands_follows_its_record};

@@ -1,0 +1,27 @@
+-- Statement: what the ends of circuits send is what they may send: parts of what is said of that, each by itself.
+use Rattle.std.specs.Prelude.{ℕ, ◌≡◌, ◌≢◌, ◌<◌, List, []}
+use Rattle.ca_text.specs.declared.command.Command.TheVariants as command
+use Rattle.ca_text.specs.Place.{At}
+use Rattle.ca_wire.specs.Fields.{Fields}
+use Rattle.ca_model.specs.History.{Circuit, Entry, Line}
+use Rattle.ca_model.specs.Sends.{Conduct, IsConnected, IsOpenAt, LegalServer, ReadsBetween}
+use Rattle.ca_model.specs.Speech.{Gives, Is, SubId, sid_in}
+use Rattle.ca_model_safe.specs.Channels.{OfCircuits}
+use Rattle.ca_model_safe.specs.Legal.{server_conduct}
+use Rattle.ca_model_world.specs.World.{World, told}
+
+-- An update is for an EVENT_ADD that was read on a channel that is open, and neither was its record removed nor the subscription cancelled.
+abbrev pub UpdatesWhatStands : Conduct → Type 0
+UpdatesWhatStands e = (k : ℕ) (m : Fields) → At e.sent k m → Is command.EventAdd m → m.payload ≢ []
+    → (i j cid : ℕ) × (add : Fields) × IsOpenAt e k i cid (sid_in add) × IsConnected e i k cid
+    × ReadsBetween e i k j add × Gives add (SubId m.p2)
+    × ((l : ℕ) (r : Fields) → j < l → ReadsBetween e i k l r → Is command.EventCancel r → r.p1 ≡ add.p1 → r.p2 ≢ add.p2)
+
+-- So it is on each circuit of a world; and all that a server sends there is what it may send.
+abbrev pub ServersUpdateWhatStands : World → Type 0
+ServersUpdateWhatStands w =
+    OfCircuits (told w) (λ (n : ℕ) (c : Circuit) (x : List Line) (y : List Entry). UpdatesWhatStands (server_conduct c))
+
+abbrev pub ServersAreLegal : World → Type 0
+ServersAreLegal w =
+    OfCircuits (told w) (λ (n : ℕ) (c : Circuit) (x : List Line) (y : List Entry). LegalServer (server_conduct c))
