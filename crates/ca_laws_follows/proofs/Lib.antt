@@ -35,3 +35,6 @@ pub mod CausingRuns
 pub mod ActsLive
 pub mod KnewRecords
 pub mod KnewStands
+pub mod NamesKept
+pub mod NamesEvents
+pub mod GoneRetired

@@ -10,3 +10,5 @@ pub mod Joining
 pub mod Acts
 pub mod Causing
 pub mod Knew
+pub mod Names
+pub mod Gone

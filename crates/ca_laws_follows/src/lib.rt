@@ -5,7 +5,9 @@
 
 mod act_laws;
 mod answer_laws;
+mod gone_laws;
 mod laws;
+mod name_laws;
 mod post_laws;
 
 pub use act_laws::{
@@ -15,8 +17,10 @@ pub use act_laws::{
 pub use answer_laws::{
     messages_have_their_causes, servers_know_their_records, what_stands_was_not_ended,
 };
+pub use gone_laws::retired_channels_lost_their_records;
 pub use laws::{
     follows_record_in_runs, listed_records_are_there, what_was_added_stands_or_is_over,
     what_was_sent_shows_its_posts,
 };
+pub use name_laws::{names_are_kept, records_keep_their_names};
 pub use post_laws::{subscriptions_follow_their_posts, what_stands_follows_its_record};
