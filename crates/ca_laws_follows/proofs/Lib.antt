@@ -38,3 +38,6 @@ pub mod KnewStands
 pub mod NamesKept
 pub mod NamesEvents
 pub mod GoneRetired
+pub mod KnewChannels
+pub mod KnewKeys
+pub mod KnewListsRuns

@@ -12,3 +12,4 @@ pub mod Causing
 pub mod Knew
 pub mod Names
 pub mod Gone
+pub mod KnewLists

@@ -6,6 +6,7 @@
 mod act_laws;
 mod answer_laws;
 mod gone_laws;
+mod knew_laws;
 mod laws;
 mod name_laws;
 mod post_laws;
@@ -18,6 +19,7 @@ pub use answer_laws::{
     messages_have_their_causes, servers_know_their_records, what_stands_was_not_ended,
 };
 pub use gone_laws::retired_channels_lost_their_records;
+pub use knew_laws::{servers_know_their_channels, servers_know_their_keys};
 pub use laws::{
     follows_record_in_runs, listed_records_are_there, what_was_added_stands_or_is_over,
     what_was_sent_shows_its_posts,
