@@ -36,3 +36,9 @@ pub mod ActsLive
 pub mod KnewRecords
 pub mod KnewStands
 pub mod LegalUpdates
+pub mod NamesKept
+pub mod NamesEvents
+pub mod GoneRetired
+pub mod KnewChannels
+pub mod KnewKeys
+pub mod KnewListsRuns

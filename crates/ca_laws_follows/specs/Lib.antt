@@ -11,3 +11,6 @@ pub mod Acts
 pub mod Causing
 pub mod Knew
 pub mod LegalEnds
+pub mod Names
+pub mod Gone
+pub mod KnewLists

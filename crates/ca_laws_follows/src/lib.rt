@@ -5,8 +5,11 @@
 
 mod act_laws;
 mod answer_laws;
+mod gone_laws;
+mod knew_laws;
 mod laws;
 mod legal_laws;
+mod name_laws;
 mod post_laws;
 
 pub use act_laws::{
@@ -16,9 +19,12 @@ pub use act_laws::{
 pub use answer_laws::{
     messages_have_their_causes, servers_know_their_records, what_stands_was_not_ended,
 };
+pub use gone_laws::retired_channels_lost_their_records;
+pub use knew_laws::{servers_know_their_channels, servers_know_their_keys};
 pub use laws::{
     follows_record_in_runs, listed_records_are_there, what_was_added_stands_or_is_over,
     what_was_sent_shows_its_posts,
 };
 pub use legal_laws::{servers_send_what_they_may, servers_update_what_stands};
+pub use name_laws::{names_are_kept, records_keep_their_names};
 pub use post_laws::{subscriptions_follow_their_posts, what_stands_follows_its_record};
