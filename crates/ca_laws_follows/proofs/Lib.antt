@@ -42,3 +42,5 @@ pub mod GoneRetired
 pub mod KnewChannels
 pub mod KnewKeys
 pub mod KnewListsRuns
+pub mod LegalOnward
+pub mod LegalTold

@@ -1,12 +1,12 @@
 -- Statement: what the ends of circuits send is what they may send: parts of what is said of that, each by itself.
-use Rattle.std.specs.Prelude.{ℕ, ◌≡◌, ◌≢◌, ◌<◌, List, []}
+use Rattle.std.specs.Prelude.{ℕ, ◌≡◌, ◌≢◌, ◌<◌, true, List, []}
 use Rattle.ca_text.specs.declared.command.Command.TheVariants as command
 use Rattle.ca_text.specs.Place.{At}
 use Rattle.ca_wire.specs.Fields.{Fields}
-use Rattle.ca_model.specs.History.{Circuit, Entry, Line}
+use Rattle.ca_model.specs.History.{Circuit, Entry, Line, Removal, Removed, Told}
 use Rattle.ca_model.specs.Sends.{Conduct, IsConnected, IsOpenAt, LegalServer, ReadsBetween}
 use Rattle.ca_model.specs.Speech.{Gives, Is, SubId, sid_in}
-use Rattle.ca_model_safe.specs.Channels.{OfCircuits}
+use Rattle.ca_model_safe.specs.Channels.{Created, IsUncleared, OfCircuits}
 use Rattle.ca_model_safe.specs.Legal.{server_conduct}
 use Rattle.ca_model_world.specs.World.{World, told}
 
@@ -25,3 +25,9 @@ ServersUpdateWhatStands w =
 abbrev pub ServersAreLegal : World → Type 0
 ServersAreLegal w =
     OfCircuits (told w) (λ (n : ℕ) (c : Circuit) (x : List Line) (y : List Entry). LegalServer (server_conduct c))
+
+-- A channel that was open when its record was removed has a SERVER_DISCONN, if the server's end is open.
+abbrev pub ServersTellOfRemovals : World → Type 0
+ServersTellOfRemovals w = OfCircuits (told w) (λ (n : ℕ) (c : Circuit) (x : List Line) (y : List Entry).
+    (j k sid r e : ℕ) → Created c y j k sid r → At y e (Removed r) → IsUncleared c k sid e → c.server_open ≡ true
+    → (q : ℕ) × (t : Told) × At c.down q t × (t.place ≡ k) × (t.cause ≡ Removal))

@@ -2,7 +2,11 @@ ghost use Rattle.std.specs.Prelude.{List, Option};
 ghost use Rattle.ca_model_world.specs.Events.{Event};
 ghost use Rattle.ca_model_world.specs.Runs.{AreEvents, Runs};
 ghost use Rattle.ca_model_world.specs.World.{IsSetting, Setting, World};
-ghost use Rattle.ca_laws_follows.specs.LegalEnds.{ServersAreLegal, ServersUpdateWhatStands};
+ghost use Rattle.ca_laws_follows.specs.LegalEnds.{
+  ServersAreLegal,
+  ServersTellOfRemovals,
+  ServersUpdateWhatStands,
+};
 
 /// After every run from a well-formed setting by well-formed events each update of a server is for an
 /// EVENT_ADD that it read on a channel that is open, of which it sent no SERVER_DISCONN, and whose
@@ -18,4 +22,12 @@ pub fn servers_update_what_stands()
 pub fn servers_send_what_they_may()
     ensures { (s : Setting) (es : List Event) (stopped : Option Event) (w : World) → IsSetting s
         → AreEvents es → Runs s es stopped w → ServersAreLegal w }
+{}
+
+/// After every run from a well-formed setting each channel that was open when the log removed its record
+/// has a SERVER_DISCONN, if the server's end of its circuit is open, also if it was cleared since. This
+/// is `told` of the statement's `LegalCircuit`.
+pub fn servers_tell_of_removals()
+    ensures { (s : Setting) (es : List Event) (stopped : Option Event) (w : World) → IsSetting s
+        → Runs s es stopped w → ServersTellOfRemovals w }
 {}

@@ -25,6 +25,8 @@ pub use laws::{
     follows_record_in_runs, listed_records_are_there, what_was_added_stands_or_is_over,
     what_was_sent_shows_its_posts,
 };
-pub use legal_laws::{servers_send_what_they_may, servers_update_what_stands};
+pub use legal_laws::{
+    servers_send_what_they_may, servers_tell_of_removals, servers_update_what_stands,
+};
 pub use name_laws::{names_are_kept, records_keep_their_names};
 pub use post_laws::{subscriptions_follow_their_posts, what_stands_follows_its_record};
