@@ -26,6 +26,7 @@ use Rattle.ca_model_world.specs.ClientEvents.{channel_number}
 use Rattle.ca_model_world.specs.World.{Names}
 use Rattle.ca_laws_runs.specs.Circuit.{stamped}
 use Rattle.ca_laws_held.specs.Quiet.{IsBeingCreated, IsNamedIn, NoneAfter, PhaseIn, Quiet, StageIn, Tidy}
+use Rattle.ca_laws_held.proofs.AddedApart.{IsPlain}
 use Rattle.ca_laws_held.proofs.Lesser.{less-ended, less-sending, quiet-less, tidy-less}
 use Rattle.ca_laws_held.proofs.Phases.{same-ask, same-number}
 use Rattle.ca_laws_held.proofs.Phased.{stood-handle, stood-phase}
@@ -105,9 +106,19 @@ said-none n c on (s ∷ ss) other all = go (same_handle s.circuit on) (subst (λ
 -- ---- the client whose circuit is connected
 
 -- From the one client to the other, but on this circuit, on which these were sent first.
+opening-plain : (s : Sent) → IsOpening s.intent → IsPlain s
+opening-plain s opens a m e = elim opens [ inl serves ↦ serves-not (sym serves ∙ e) | inr creates ↦ creates-not creates.0 (sym creates.1 ∙ e) ]
+  where
+    serves-not : history.OfCircuit ≡ history.On a (Subscribe m) → ⊥
+    serves-not f = cc
+
+    creates-not : (b : ℕ) → history.On b Create ≡ history.On a (Subscribe m) → ⊥
+    creates-not b f = cc
+
 pub record Connected (n : Names) (x : Client) (c : Handle) (sent : List Sending) (y : Client) : Type 0 where
   pub tidy : Tidy n y
   pub others : (on : Handle) (up : List Sent) → (c ≡ on → ⊥) → Quiet n x on up → Quiet n y on (up ++ said n on sent)
+  pub plain : (i : ℕ) (s : Sending) → At sent i s → IsPlain (stamped n s)
 
 module _ (n : Names) (x : Client) (c : Handle) (d : ClientCircuit) (t : Tidy n x) (placed : IsPlaced x) (there : under x.circuits c ≡ Some d) (none : d.connection ≡ None) where
   abbrev sends : List Sending
@@ -227,6 +238,7 @@ module _ (n : Names) (x : Client) (c : Handle) (d : ClientCircuit) (t : Tidy n x
           others = λ on up other q.
               subst (λ (l : List Sent). Quiet n (sending sends z) on l) (sym (ap (λ (l : List Sent). up ++ l) (said-none n c on sends other (λ i s at. (each i s at).0)) ∙ append-nil up))
               (quiet-less n z (sending sends z) on up (less-sending sends z) (quiet-others on up other q));
+          plain = λ i s at. opening-plain (stamped n s) (each i s at).1;
         },
         λ e. subst (λ (l : List Sent). Quiet n (sending sends z) c l) (sym (said-all n c sends (λ i s at. (each i s at).0))) (quiet-less n z (sending sends z) c stamps (less-sending sends z) quiet-begun),
       )
@@ -235,6 +247,7 @@ module _ (n : Names) (x : Client) (c : Handle) (d : ClientCircuit) (t : Tidy n x
         record {
           tidy = tidy-less n x (ended c x) (less-ended c x) t;
           others = λ on up other q. subst (λ (l : List Sent). Quiet n (ended c x) on l) (sym (append-nil up)) (quiet-less n x (ended c x) on up (less-ended c x) q);
+          plain = λ i s at. absurd cc;
         },
         λ e. absurd (not-none e),
       )

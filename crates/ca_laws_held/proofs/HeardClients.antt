@@ -30,13 +30,14 @@ use Rattle.ca_laws_runs.specs.Circuit.{sent_to, stamped}
 use Rattle.ca_laws_runs.specs.Clients.{ClientsStand}
 use Rattle.ca_laws_runs.proofs.ClientsKeep.{none-under}
 use Rattle.ca_laws_runs.proofs.ClientsMore.{unconnected-is, wanted-there}
-use Rattle.ca_laws_held.specs.Quiet.{AreSubIds, ClientsQuiet, Quiet, Tidy}
+use Rattle.ca_laws_held.specs.Quiet.{AreAddedApart, AreSubIds, ClientsQuiet, Quiet, Tidy}
 use Rattle.ca_laws_held.proofs.Connects.{Connected, connected-so}
 use Rattle.ca_laws_held.proofs.HeardEnds.{IsEndAfter, IsSameEnd, after-sent, after-then, all-same, all-set, ids-still, quiet-called, quiet-moved, quiet-same, same-closed, same-end, sent-closed, sent-mine, sent-other}
 use Rattle.ca_laws_held.proofs.Issued.{moved-opened, moved-put, moved-read, moved-subscribed, moved-written}
 use Rattle.ca_laws_held.proofs.Lesser.{Less, less-ended, less-itself, less-on, less-same, less-sending}
 use Rattle.ca_laws_held.proofs.Listened.{moved-all-received, moved-heard, moved-ticked}
 use Rattle.ca_laws_held.proofs.Phased.{moved-before, moved-cleared, moved-unsubscribed, standing-stage}
+use Rattle.ca_laws_held.proofs.AddedApart.{apart-if, apart-said}
 use Rattle.ca_laws_held.proofs.Says.{Moved, moved-less, moved-less-then, quiet-circuit, quiet-each, said, sub-ids}
 
 -- ---- calls
@@ -124,7 +125,10 @@ module _ (w new : World) (i : ℕ) (x : ClientSide) (at : At w.clients i x) (sta
 -- messages that serve the circuit
 moved-serving : (n : Names) (x : Client) (sends : List Sending) → Tidy n x → ((i : ℕ) (s : Sending) → At sends i s → (stamped n s).intent ≡ history.OfCircuit) → Moved n x n sends n (sending sends x)
 moved-serving n x sends t serves =
-    moved-less-then n n n x x (sending sends x) sends (record { tidy = t; quiet = λ on up q. quiet-each n x on sends (λ i s l at same quiet. quiet-circuit n x on l (stamped n s) t quiet (serves i s at)) up q }) (less-sending sends x)
+    moved-less-then n n n x x (sending sends x) sends (record { tidy = t; quiet = λ on up q. quiet-each n x on sends (λ i s l at same quiet. quiet-circuit n x on l (stamped n s) t quiet (serves i s at)) up q; apart = λ on up q were. apart-said n on up sends (λ i s at a m e. serves-not a m (sym (serves i s at) ∙ e)) were }) (less-sending sends x)
+  where
+    serves-not : (a m : ℕ) → history.OfCircuit ≡ history.On a (history.Subscribe m) → ⊥
+    serves-not a m e = cc
 
 moved-given : (n : Names) (x : Client) (c : Handle) (bytes : List ℕ) (more : Bool) (o : Option Connection) (sent : List Sending) (y : Client) → GivesOn x c bytes more o (Ok tt) sent y → Tidy n x → Moved n x n sent n y
 moved-given n x c bytes more (Some e) sent y gives t =
@@ -246,6 +250,10 @@ quiet-client-restart w new i x at s happens = subst (λ (v : World). ClientsQuie
       let m = At-mapped (client_gone i x) w.circuits k j stands in
       let end : IsSameEnd m.0 j = subst (λ (b : Joined). IsSameEnd m.0 b) (sym m.2) (ends m.0) in
       subst (λ (l : List Sent). AreSubIds l) (sym end.up) (s.ids k m.0 m.1);
+  apart = λ k j stands.
+      let m = At-mapped (client_gone i x) w.circuits k j stands in
+      let end : IsSameEnd m.0 j = subst (λ (b : Joined). IsSameEnd m.0 b) (sym m.2) (ends m.0) in
+      subst (λ (l : List Sent). AreAddedApart l) (sym end.up) (s.apart k m.0 m.1);
 })
   where
     servers : List Address
@@ -357,8 +365,21 @@ quiet-joined w i x core sent lines n servers at mine empty none stands connected
           ]
         ]
       ];
+  apart = λ k j stood.
+      let m = after-sent i x.names sent (w.circuits ++ n ∷ []) k j stood in
+      subst (λ (l : List Sent). AreAddedApart l) (sym (m.2).up)
+      (apart-if x.names m.0.at_client m.0.lists.up sent (eqb m.0.client i && m.0.lists.client_open) connected.plain (elim (At-snoc w.circuits n k m.0 m.1) [
+        | inl was ↦ s.apart k m.0 was
+        | inr last ↦ subst (λ (l : List Sent). AreAddedApart l) (sym (ap (λ (v : Joined). v.lists.up) last.1 ∙ empty)) none-apart
+      ]));
 }
   where
+    none-apart : AreAddedApart []
+    none-apart p q a b r v lt there = absurd (no-sent p r there)
+      where
+        no-sent : (p : ℕ) (r : Sent) → (let l : List Sent = [] in At l p r) → ⊥
+        no-sent p r at = cc
+
     nothing : AreSubIds []
     nothing p q a b m r v at there adds cancels = absurd (no-sent p r at)
       where

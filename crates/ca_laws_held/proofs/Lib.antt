@@ -13,6 +13,7 @@ pub mod Replied
 pub mod Found
 pub mod Holds
 pub mod Creations
+pub mod AddedApart
 pub mod Phases
 pub mod Lesser
 pub mod Says
@@ -80,3 +81,4 @@ pub mod OnceNoticedRuns
 pub mod LegalServers
 pub mod LegalRemovals
 pub mod Refused
+pub mod LegalApart

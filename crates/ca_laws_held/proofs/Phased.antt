@@ -19,6 +19,7 @@ use Rattle.ca_model_world.specs.ClientEvents.{cancelled, channel_number, meant_b
 use Rattle.ca_model_world.specs.World.{Names}
 use Rattle.ca_laws_runs.specs.Circuit.{stamped}
 use Rattle.ca_laws_held.specs.Quiet.{HasNumber, IsBeingCancelled, IsNamedIn, IsSubscriptionOn, NoCancel, PhaseIn, Quiet, StageIn, StandsIn, Tidy}
+use Rattle.ca_laws_held.proofs.AddedApart.{apart-one}
 use Rattle.ca_laws_held.proofs.Phases.{doomed-cleared, live-cleared, phase-created, phase-other, same-ask, same-number, stage-cancelled, stage-other}
 use Rattle.ca_laws_held.proofs.Lesser.{Less, StandsLike, less-all-over, less-freed-all, less-gone, less-sending, less-stood, less-subscriptions, less-then, less-unwanted, quiet-less, same-subscriptions, tidy-less}
 use Rattle.ca_laws_held.proofs.Says.{Moved, channels-used, ids-more, moved-less, moved-less-then, moved-one, named-more, no-sub-id, one-handle, one-subscription, subscribed-at}
@@ -102,6 +103,7 @@ module _ (n : Names) (x : Client) (h : Handle) (ch : Channel) (c : Handle) (q : 
       moved-one n n n x z s tidy-moved
       (λ up quiet. subst (λ (k : Handle). Quiet n z k (up ++ stamped n s ∷ [])) (sym on_c) (quiet-near up (subst (λ (k : Handle). Quiet n x k up) on_c quiet)))
       (λ on up other quiet. quiet-far on up (λ e. other (on_c ∙ e)) quiet)
+      (λ up quiet were. apart-one up (stamped n s) (λ a m e. no_add m (same-ask (channel_number n h) a ask (Subscribe m) (sym is ∙ e))) were)
 
 -- its CREATE_CHAN, on a circuit that is connected
 pub moved-created : (n : Names) (x : Client) (h : Handle) (ch : Channel) (c : Handle) → Tidy n x → under x.channels h ≡ Some ch → Moved n x n (create_sent c h ch ∷ []) n (with_standing (On c (Creating 0)) h x)
@@ -143,7 +145,7 @@ less-none h x = less-freed-all (is_to h) x
 pub moved-before : (n : Names) (x y z : Client) (sent : List Sending) → Less x y → Tidy n x → (Tidy n y → Moved n y n sent n z) → Moved n x n sent n z
 moved-before n x y z sent less t moves =
     let m = moves (tidy-less n x y less t) in
-    record { tidy = m.tidy; quiet = λ on up q. m.quiet on up (quiet-less n x y on up less q) }
+    record { tidy = m.tidy; quiet = λ on up q. m.quiet on up (quiet-less n x y on up less q); apart = λ on up q h. m.apart on up (quiet-less n x y on up less q) h }
 
 pub moved-cleared : (n : Names) (x : Client) (h : Handle) (notices : List Notice) (sent : List Sending) (y : Client) → ClientClears x h (Ok notices) sent y → Tidy n x → Moved n x n sent n y
 moved-cleared n x h notices sent y clears t =
@@ -196,8 +198,11 @@ module _ (n : Names) (x : Client) (g : Handle) (d : Subscription) (t : Tidy n x)
   -- its EVENT_CANCEL, on a live channel
   moved-cancelled : (c : Handle) (native : _) (rights : ℕ) (ch : Channel) → under x.channels d.channel ≡ Some ch → ch.standing ≡ On c (Live native rights)
       → Moved n x n (event_cancel_sent c native.sid g d ∷ []) n (record x { subscriptions = with_stage (Cancelled c) g x.subscriptions })
-  moved-cancelled c native rights ch there stands = moved-one n n n x z s tidy near far
+  moved-cancelled c native rights ch there stands = moved-one n n n x z s tidy near far (λ up quiet h. apart-one up (stamped n s) (λ a m e. no-add-of (channel_number n d.channel) a meant.0 m (sym is ∙ e)) h)
     where
+      no-add-of : (a b m k : ℕ) → history.On a (Cancel m) ≡ history.On b (Subscribe k) → ⊥
+      no-add-of a b m k e = cc
+
       s : Sending
       s = event_cancel_sent c native.sid g d
 

@@ -4,10 +4,10 @@ use Rattle.ca_text.specs.declared.command.Command.TheVariants as command
 use Rattle.ca_text.specs.Limits.{arena_slots}
 use Rattle.ca_text.specs.Place.{At}
 use Rattle.ca_wire.specs.Fields.{Fields}
-use Rattle.ca_model.specs.History.{Circuit, Entry, Line}
+use Rattle.ca_model.specs.History.{Circuit, Create, Entry, Line, On, Subscribe}
 use Rattle.ca_model.specs.Sends.{Conduct, IsConnected, IsOpenAt, ReadsBetween}
 use Rattle.ca_model.specs.Speech.{Clears, Creates, Is}
-use Rattle.ca_model_safe.specs.Channels.{OfCircuits}
+use Rattle.ca_model_safe.specs.Channels.{Meant, OfCircuits}
 use Rattle.ca_model_safe.specs.Legal.{server_conduct}
 use Rattle.ca_model_world.specs.World.{World, told}
 
@@ -39,3 +39,9 @@ ServersConfirmAtOnce w =
 abbrev pub ServersEndOpenChannels : World → Type 0
 ServersEndOpenChannels w =
     OfCircuits (told w) (λ (n : ℕ) (c : Circuit) (x : List Line) (y : List Entry). EndsOpenChannels (server_conduct c))
+
+-- Two EVENT_ADDs of one subscription are for different creations of its channel.
+abbrev pub SubscriptionsAreAddedApart : World → Type 0
+SubscriptionsAreAddedApart w = OfCircuits (told w) (λ (n : ℕ) (c : Circuit) (x : List Line) (y : List Entry).
+    (k l channel number : ℕ) → k < l → Meant c k (On channel (Subscribe number)) → Meant c l (On channel (Subscribe number))
+    → (p : ℕ) × (k < p) × (p < l) × Meant c p (On channel Create))

@@ -8,6 +8,7 @@ ghost use Rattle.ca_laws_held.specs.LegalParts.{
   ServersConfirmAtOnce,
   ServersEndOpenChannels,
   ServersGiveFreeSids,
+  SubscriptionsAreAddedApart,
 };
 
 /// In every world to which a run leads, whatever its setting and events, each accepted subscription
@@ -39,4 +40,12 @@ pub fn servers_confirm_at_once()
 pub fn servers_disconnect_open_channels()
     ensures { (s : Setting) (es : List Event) (stopped : Option Event) (w : World) → IsSetting s
         → Runs s es stopped w → ServersEndOpenChannels w }
+{}
+
+/// After every run from a well-formed setting, between two EVENT_ADDs of one subscription on a circuit
+/// its channel was created again there. This is `apart` of the statement's `LegalCircuit`. It holds also
+/// of what an end sent that has ended.
+pub fn subscriptions_are_added_apart()
+    ensures { (s : Setting) (es : List Event) (stopped : Option Event) (w : World) → IsSetting s
+        → Runs s es stopped w → SubscriptionsAreAddedApart w }
 {}

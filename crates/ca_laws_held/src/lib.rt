@@ -25,7 +25,7 @@ pub use laws::{
 };
 pub use legal_laws::{
     accepted_subscriptions_were_sent, servers_confirm_at_once, servers_disconnect_open_channels,
-    servers_give_free_sids,
+    servers_give_free_sids, subscriptions_are_added_apart,
 };
 pub use once_laws::{a_call_is_accepted_once, a_request_is_at_one_place, what_was_called_was_sent};
 pub use order_laws::{circuits_join_lives, steps_are_in_order, steps_of_servers_are_in_order};
