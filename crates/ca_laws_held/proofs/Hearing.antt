@@ -239,6 +239,11 @@ module _ (ps : List ℕ) (n : Names) (x : Client) (on : Handle) (c : Circuit) (t
   pub right-now : Right now
   right-now = record {
     under = λ p a r ask there is other. (let b = right.under p a r ask there is other in (b.0, b.1, created-now a b.0 b.1 (sid_in r.message) p b.2));
+    read = λ p a r ask there is other.
+        let b = right.read p a r ask there is other in
+        let e : length now.heard ≡ length c.heard + 1 = longer in
+        let lt : b.0 < length c.heard = b.2 in
+        (b.0, b.1, omega (arith, lt, e), created-now a b.0 b.1 (sid_in r.message) p b.3);
     between = right.between;
     turn = right.turn;
   }

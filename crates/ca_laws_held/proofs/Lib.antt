@@ -82,3 +82,4 @@ pub mod LegalServers
 pub mod LegalRemovals
 pub mod Refused
 pub mod LegalApart
+pub mod LegalRead

@@ -5,10 +5,10 @@ use Rattle.ca_text.specs.Limits.{arena_slots}
 use Rattle.ca_text.specs.Place.{At}
 use Rattle.ca_wire.specs.Fields.{Fields}
 use Rattle.ca_model.specs.History.{Circuit, Create, Entry, Line, On, Subscribe}
-use Rattle.ca_model.specs.Sends.{Conduct, IsConnected, IsOpenAt, ReadsBetween}
-use Rattle.ca_model.specs.Speech.{Clears, Creates, Is}
+use Rattle.ca_model.specs.Sends.{Conduct, HasChannel, IsConnected, IsOnChannel, IsOpenAt, ReadsBetween}
+use Rattle.ca_model.specs.Speech.{Clears, Creates, Is, sid_in}
 use Rattle.ca_model_safe.specs.Channels.{Meant, OfCircuits}
-use Rattle.ca_model_safe.specs.Legal.{server_conduct}
+use Rattle.ca_model_safe.specs.Legal.{client_conduct, server_conduct}
 use Rattle.ca_model_world.specs.World.{World, told}
 
 -- A SID is given only if no open channel has its index.
@@ -45,3 +45,11 @@ abbrev pub SubscriptionsAreAddedApart : World → Type 0
 SubscriptionsAreAddedApart w = OfCircuits (told w) (λ (n : ℕ) (c : Circuit) (x : List Line) (y : List Entry).
     (k l channel number : ℕ) → k < l → Meant c k (On channel (Subscribe number)) → Meant c l (On channel (Subscribe number))
     → (p : ℕ) × (k < p) × (p < l) × Meant c p (On channel Create))
+
+-- A message on a channel goes out under the SID of one that the client has.
+abbrev pub SendsOnChannels : Conduct → Type 0
+SendsOnChannels e = (k : ℕ) (m : Fields) → At e.sent k m → IsOnChannel m → (i j cid : ℕ) × HasChannel e k i j cid (sid_in m)
+
+abbrev pub ClientsSendOnChannels : World → Type 0
+ClientsSendOnChannels w =
+    OfCircuits (told w) (λ (n : ℕ) (c : Circuit) (x : List Line) (y : List Entry). SendsOnChannels (client_conduct c))

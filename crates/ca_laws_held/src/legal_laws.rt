@@ -5,6 +5,7 @@ ghost use Rattle.ca_model_world.specs.Events.{Event};
 ghost use Rattle.ca_model_world.specs.Runs.{AreEvents, Runs};
 ghost use Rattle.ca_model_world.specs.World.{IsSetting, Setting, World, told};
 ghost use Rattle.ca_laws_held.specs.LegalParts.{
+  ClientsSendOnChannels,
   ServersConfirmAtOnce,
   ServersEndOpenChannels,
   ServersGiveFreeSids,
@@ -48,4 +49,13 @@ pub fn servers_disconnect_open_channels()
 pub fn subscriptions_are_added_apart()
     ensures { (s : Setting) (es : List Event) (stopped : Option Event) (w : World) → IsSetting s
         → Runs s es stopped w → SubscriptionsAreAddedApart w }
+{}
+
+/// After every run from a well-formed setting by well-formed events, each message of a client on a
+/// channel goes out under the SID of one that it has: it asked for the channel, it read the reply that
+/// gave the SID, both before, and has sent no CLEAR_CHANNEL of it since. This is the first part of
+/// `on_channel` of the statement's `LegalClient`. It holds also of what an end sent that has ended.
+pub fn clients_send_on_channels_that_they_have()
+    ensures { (s : Setting) (es : List Event) (stopped : Option Event) (w : World) → IsSetting s
+        → AreEvents es → Runs s es stopped w → ClientsSendOnChannels w }
 {}
