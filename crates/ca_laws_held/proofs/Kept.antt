@@ -65,6 +65,8 @@ quiet-opening setting = record {
   quiet = λ k j x at there open_it. absurd cc;
   ids = λ k j at. absurd cc;
   apart = λ k j at. absurd cc;
+  named = λ k j x at there open_it. absurd cc;
+  cids = λ k j at. absurd cc;
 }
 
 -- ---- runs

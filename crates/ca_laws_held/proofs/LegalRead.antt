@@ -36,6 +36,9 @@ use Rattle.ca_laws_held.proofs.Joint.{are-snoc, folds-snoc, run-sided}
 use Rattle.ca_laws_held.proofs.OrderGrows.{GoesOn, Grown, each-event, grown-self, step-grown, ticks-grown}
 use Rattle.ca_laws_held.proofs.OrderKeeps.{IsHearing, IsMade, begun-grown, begun-mid, did-after, did-grown, did-step, hear-grown, hear-mid, hear-step, hearing-or, made-or, run-heard, run-served, run-server-steps}
 use Rattle.ca_laws_held.proofs.StepWhole.{run-serves}
+use Rattle.ca_laws_held.specs.Quiet.{AreCids}
+use Rattle.ca_laws_held.proofs.Found.{clear-is}
+use Rattle.ca_laws_held.proofs.Kept.{quiet-runs}
 use Rattle.ca_laws_held.proofs.Under.{uncleared}
 
 -- Each message on a channel, but its CREATE_CHAN, goes under the SID of a creation that was read before it was sent, and after that was asked for.
@@ -289,7 +292,7 @@ asks-on s suits on = go s.intent refl suits
       | inr (inr (inr (inr (inr clears)))) ↦ suits Clear clears
     ])
 
-module _ (c : Joined) (created : CreatedOn c) (under : AreUnder c.lists) (asked : (k : ℕ) (s : Sent) → At c.lists.up k s → Suits s.intent s.message) (read : ReadOn c.lists) (after : ReadAfter c.lists) where
+module _ (c : Joined) (created : CreatedOn c) (under : AreUnder c.lists) (asked : (k : ℕ) (s : Sent) → At c.lists.up k s → Suits s.intent s.message) (read : ReadOn c.lists) (after : ReadAfter c.lists) (cids : AreCids c.lists.up) where
   abbrev did : Conduct
   did = client_conduct c.lists
 
@@ -320,6 +323,10 @@ module _ (c : Joined) (created : CreatedOn c) (under : AreUnder c.lists) (asked 
               let v = At-mapped (λ (z : Sent). z.message) c.lists.up l q there in
               uncleared c created under asked means.0 r.0 r.1 sid p b (l, v.0, late, before, v.1, subst (λ (z : Fields). Clears z sid) v.2 clears),
         ),
+        λ clears.
+            let is_clear : means.1 ≡ Clear = clear-is means.1 s.0.message (subst (λ (z : Intent). Suits z s.0.message) means.2 (asked p s.0 s.1)) (subst (λ (z : Fields). Is command.ClearChannel z) s.2 clears) in
+            let meant : s.0.intent ≡ On means.0 Clear = means.2 ∙ ap (λ (z : Ask). On means.0 z) is_clear in
+            ap (λ (z : Fields). z.p2) s.2 ∙ sym (cids r.1 p means.0 b.r s.0 b.asked.0 s.1 b.asked.1 meant) ∙ sym copy,
       )
 
 pub run-channels : (s : Setting) (es : List Event) (stopped : Option Event) (w : World) → IsSetting s → AreEvents es → Runs s es stopped w → ClientsSendOnChannels w
@@ -332,5 +339,5 @@ run-channels s es stopped w ok fine runs n d at =
       l.1,
       l.2,
       subst (λ (v : Circuit). SendsOnChannels (client_conduct v)) (sym j.2)
-          (legal-channels c (reached-created w (s, es, stopped, ok, runs) n c j.1) ((run-sided s es stopped w ok fine runs).right n c j.1).under (λ k q there. (run-serves s es stopped w ok runs).stands.asked n k c q j.1 there) (r.0 n c j.1) (r.1 n c j.1)),
+          (legal-channels c (reached-created w (s, es, stopped, ok, runs) n c j.1) ((run-sided s es stopped w ok fine runs).right n c j.1).under (λ k q there. (run-serves s es stopped w ok runs).stands.asked n k c q j.1 there) (r.0 n c j.1) (r.1 n c j.1) ((quiet-runs s es stopped w runs).cids n c j.1)),
     )

@@ -14,6 +14,7 @@ pub mod Found
 pub mod Holds
 pub mod Creations
 pub mod AddedApart
+pub mod CidsSaid
 pub mod Phases
 pub mod Lesser
 pub mod Says

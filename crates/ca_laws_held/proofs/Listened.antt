@@ -24,7 +24,7 @@ use Rattle.ca_model.specs.ClientEnds.{Receives, ReceivesAll, Ticking, all_search
 use Rattle.ca_model.specs.ClientEnds as ends
 use Rattle.ca_model.specs.Hears.{Answers, Completes, Effect, Fails, Finds, FindsAt, Hears, PutsOn, Updates, any_failed, becomes, clear_answered, confirmed, create_sent, created, doing, event_adds, failed, found_at, heard_by, left, native_in, put_on, request_failed, rights_told, searched_by, subscription_failed, with_circuit, without_drained, without_request, without_subscription, write_failed}
 use Rattle.ca_model.specs.Hears as hears
-use Rattle.ca_model.specs.History.{Create, Intent, Sent, Subscribe}
+use Rattle.ca_model.specs.History.{Clear, Create, Intent, Sent, Subscribe}
 use Rattle.ca_model.specs.History as history
 use Rattle.ca_model_client.proofs.Handles.{same-is}
 use Rattle.ca_model_client.proofs.Standings.{channel-on, searched-is}
@@ -35,7 +35,8 @@ use Rattle.std.proofs.lemmas.Bool.{and_parts}
 use Rattle.ca_model_world.specs.ClientEvents.{channel_number, meant_by}
 use Rattle.ca_model_world.specs.World.{Names}
 use Rattle.ca_laws_runs.specs.Circuit.{stamped}
-use Rattle.ca_laws_held.specs.Quiet.{AreAddedApart, Quiet, Tidy}
+use Rattle.ca_laws_held.specs.Quiet.{AreAddedApart, HasCid, Quiet, Tidy}
+use Rattle.ca_laws_held.proofs.CidsSaid.{cid-none, cids-parts, cids-said}
 use Rattle.ca_laws_held.proofs.AddedApart.{apart-more, apart-said, filter-order, rows-apart}
 use Rattle.ca_laws_held.proofs.Phases.{created-live}
 use Rattle.ca_laws_held.proofs.Lesser.{Less, less-again, less-drained, less-ended, less-gone, less-itself, less-on, less-over-requests, less-requests, less-same, less-sending, less-stood, less-subscriptions, less-then, quiet-less, same-requests, same-subscriptions, tidy-less}
@@ -68,6 +69,20 @@ module _ (n : Names) (x : Client) (t : Tidy n x) where
     moved-rights m e (Some (h, Live native rights)) at is =
         let found = channel-on x c m.p1 h (Live native rights) at in
         quietly (with_standing (On c (Live native m.p2)) h x) [] e is (less-phase c h x found.0 (Live native rights) (Live native m.p2) found.1 found.3 (λ up number p. p))
+
+    adds-cid : (m : Fields) (h : Handle) (i : ℕ) (s : Sending) → At (event_adds c m.p2 h x) i s → HasCid n.channels (stamped n s)
+    adds-cid m h i s place =
+        let b = At-mapped (λ (w : Handle × Subscription). event_add_sent c m.p2 w.0 w.1) (standing_to h x.subscriptions) i s place in
+        let k = at-filter (λ (w : Handle × Subscription). is_to h w.1 && stands_in w.1.stage) (held x.subscriptions) i b.0 b.1 in
+        let meant = t.subscriptions (b.0).0 (b.0).1 (held-under x.subscriptions k.0 b.0 k.1) in
+        let is : (stamped n s).intent ≡ history.On (channel_number n (b.0).1.channel) (Subscribe meant.0) = ap (λ (z : Sending). (stamped n z).intent) b.2 ∙ meant.2 in
+        cid-none n.channels (stamped n s) (λ a. (λ e. no-create (channel_number n (b.0).1.channel) a meant.0 (sym is ∙ e), λ e. no-clear (channel_number n (b.0).1.channel) a meant.0 (sym is ∙ e)))
+      where
+        no-create : (a b k : ℕ) → history.On a (Subscribe k) ≡ history.On b Create → ⊥
+        no-create a b k e = cc
+
+        no-clear : (a b k : ℕ) → history.On a (Subscribe k) ≡ history.On b Clear → ⊥
+        no-clear a b k e = cc
 
     -- those that were sent before were sent before its CREATE_CHAN, and each of these is of another subscription
     adds-apart : (m : Fields) (h : Handle) (rights : ℕ) → channel_on x c m.p1 ≡ Some (h, Creating rights) → (on : Handle) (up : List Sent) → Quiet n x on up → AreAddedApart up → AreAddedApart (up ++ said n on (event_adds c m.p2 h x))
@@ -152,6 +167,7 @@ module _ (n : Names) (x : Client) (t : Tidy n x) where
               (changed-own (λ (w : Channel). record w { standing = On c (Live (native_in m) rights) }) x.channels h found.0 found.1) (ap (λ (w : Handle). On w (Live (native_in m) rights)) on_is) tt
               (meant.2 ∙ ap (λ (w : Handle). history.On (channel_number n w) (Subscribe meant.0)) channel) (was.0).0 (was.0).1 (channel_number n ((was.0).1).channel) meant.0 row (standing-stage ((was.0).1).stage both.1) meant.2 refl refl)) up (quiet-less n x z on up less q);
           apart = λ on up q were. adds-apart m h rights at on up q were;
+          cids = λ on up were. cids-parts n.channels up (said n on (event_adds c m.p2 h x)) were (cids-said n.channels n (λ (z : Sending). same_handle z.circuit on) (event_adds c m.p2 h x) (λ i s place. adds-cid m h i s place));
         }
 
     moved-heard-created : (m : Fields) (e : Effect) (o : Option (Handle × Phase)) → channel_on x c m.p1 ≡ o → e ≡ created x c m o → Moved n x n e.sent n e.core
@@ -311,10 +327,10 @@ moved-all-received n from (m ∷ ms) x t e does =
 moved-circuit : (n : Names) (x : Client) (t : Tidy n x) (s : Sending) → (stamped n s).intent ≡ history.OfCircuit → Moved n x n (s ∷ []) n (sending (s ∷ []) x)
 moved-circuit n x t s is =
     moved-less-then n n n x x (sending (s ∷ []) x) (s ∷ [])
-    (record { tidy = t; quiet = λ on up q. quiet-each n x on (s ∷ []) (λ i r l at same quiet. quiet-circuit n x on l (stamped n r) t quiet (only i r at)) up q; apart = λ on up q were. apart-said n on up (s ∷ []) (λ i r at a m e. serves-not a m (sym (only i r at) ∙ e)) were }) (less-sending (s ∷ []) x)
+    (record { tidy = t; quiet = λ on up q. quiet-each n x on (s ∷ []) (λ i r l at same quiet. quiet-circuit n x on l (stamped n r) t quiet (only i r at)) up q; apart = λ on up q were. apart-said n on up (s ∷ []) (λ i r at a m e. serves-not a (Subscribe m) (sym (only i r at) ∙ e)) were; cids = λ on up were. cids-parts n.channels up (said n on (s ∷ [])) were (cids-said n.channels n (λ (z : Sending). same_handle z.circuit on) (s ∷ []) (λ i r at. cid-none n.channels (stamped n r) (λ a. (λ e. serves-not a Create (sym (only i r at) ∙ e), λ e. serves-not a Clear (sym (only i r at) ∙ e))))) }) (less-sending (s ∷ []) x)
   where
-    serves-not : (a m : ℕ) → history.OfCircuit ≡ history.On a (Subscribe m) → ⊥
-    serves-not a m e = cc
+    serves-not : (a : ℕ) (ask : history.Ask) → history.OfCircuit ≡ history.On a ask → ⊥
+    serves-not a ask e = cc
 
     only : (i : ℕ) (r : Sending) → At (s ∷ []) i r → (stamped n r).intent ≡ history.OfCircuit
     only zero r at = subst (λ (z : Sending). (stamped n z).intent ≡ history.OfCircuit) (some_is s r at) is

@@ -46,9 +46,10 @@ SubscriptionsAreAddedApart w = OfCircuits (told w) (λ (n : ℕ) (c : Circuit) (
     (k l channel number : ℕ) → k < l → Meant c k (On channel (Subscribe number)) → Meant c l (On channel (Subscribe number))
     → (p : ℕ) × (k < p) × (p < l) × Meant c p (On channel Create))
 
--- A message on a channel goes out under the SID of one that the client has.
+-- A message on a channel goes out under the SID of one that the client has; and a CLEAR_CHANNEL has its CID.
 abbrev pub SendsOnChannels : Conduct → Type 0
-SendsOnChannels e = (k : ℕ) (m : Fields) → At e.sent k m → IsOnChannel m → (i j cid : ℕ) × HasChannel e k i j cid (sid_in m)
+SendsOnChannels e = (k : ℕ) (m : Fields) → At e.sent k m → IsOnChannel m
+    → (i j cid : ℕ) × HasChannel e k i j cid (sid_in m) × (Is command.ClearChannel m → m.p2 ≡ cid)
 
 abbrev pub ClientsSendOnChannels : World → Type 0
 ClientsSendOnChannels w =

@@ -53,8 +53,9 @@ pub fn subscriptions_are_added_apart()
 
 /// After every run from a well-formed setting by well-formed events, each message of a client on a
 /// channel goes out under the SID of one that it has: it asked for the channel, it read the reply that
-/// gave the SID, both before, and has sent no CLEAR_CHANNEL of it since. This is the first part of
-/// `on_channel` of the statement's `LegalClient`. It holds also of what an end sent that has ended.
+/// gave the SID, both before, and has sent no CLEAR_CHANNEL of it since. A CLEAR_CHANNEL has its CID.
+/// This is `on_channel` of the statement's `LegalClient`, but for what goes out once a SERVER_DISCONN
+/// was read. It holds also of what an end sent that has ended.
 pub fn clients_send_on_channels_that_they_have()
     ensures { (s : Setting) (es : List Event) (stopped : Option Event) (w : World) → IsSetting s
         → AreEvents es → Runs s es stopped w → ClientsSendOnChannels w }
