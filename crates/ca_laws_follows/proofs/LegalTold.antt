@@ -6,7 +6,7 @@ use Rattle.ca_arena.specs.declared.handle.Handle.{Handle}
 use Rattle.ca_ids.specs.Table.{under}
 use Rattle.ca_ids.specs.Wire.{wire_of}
 use Rattle.ca_text.specs.Place.{At}
-use Rattle.ca_text.proofs.Places.{At-back, At-mapped, At-one}
+use Rattle.ca_text.proofs.Places.{At-back, At-one}
 use Rattle.ca_model.specs.History.{Circuit, Entry, Line, Removal, Removed, Sent, Step, Told}
 use Rattle.ca_model.specs.Server.{OpenChannel}
 use Rattle.ca_model.specs.Speech.{In, name_in}
@@ -15,7 +15,7 @@ use Rattle.ca_model_safe.specs.Channels.{Created, Has, IsCleared, IsUncleared}
 use Rattle.ca_model_world.specs.Events.{Event}
 use Rattle.ca_model_world.specs.Events as event
 use Rattle.ca_model_world.specs.Runs.{Happens, Runs, StopsAt, clients_below}
-use Rattle.ca_model_world.specs.World.{Creation, IsSetting, Joined, RecordSide, Setting, World, circuit_of, opening}
+use Rattle.ca_model_world.specs.World.{Creation, IsSetting, Joined, Setting, World, opening}
 use Rattle.ca_laws_circuit.specs.Sids.{IsClearedWithin}
 use Rattle.ca_laws_kept.specs.Channels.{ChannelsOn}
 use Rattle.ca_laws_writes.specs.Agrees.{Agrees}
@@ -30,9 +30,9 @@ use Rattle.ca_laws_writes.proofs.Says.{logs-stay}
 use Rattle.ca_laws_held.specs.Created.{CreatedOn}
 use Rattle.ca_laws_held.specs.Creations.{CreationsOn}
 use Rattle.ca_laws_held.proofs.StepWhole.{takes-next}
-use Rattle.ca_laws_follows.specs.Entries.{title, titles}
-use Rattle.ca_laws_follows.specs.Gone.{AllGone, GoneOn, IsGone}
-use Rattle.ca_laws_follows.specs.Known.{IsOrigin, KnownOn}
+use Rattle.ca_laws_follows.specs.Entries.{titles}
+use Rattle.ca_laws_follows.specs.Gone.{AllGone, GoneOn}
+use Rattle.ca_laws_follows.specs.Known.{KnownOn}
 use Rattle.ca_laws_follows.specs.LegalEnds.{ServersTellOfRemovals}
 use Rattle.ca_laws_follows.proofs.Acting.{IsLonger, grown-back, longer-taken}
 use Rattle.ca_laws_follows.proofs.ActsOn.{of-circuits}

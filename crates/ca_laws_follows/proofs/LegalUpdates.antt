@@ -1,5 +1,5 @@
 -- Each update that a server sends is for a subscription that stands, on a channel that is open.
-use Rattle.std.proofs.Common.{◌≡◌, ℕ, ◌+◌, ◌<◌, ◌≤◌, ◌⊎◌, inl, inr, Bool, true, false, not, List, [], ◌∷◌, ◌++◌, length, Option, Some, None, refl, sym, ap, subst, ◌∙◌, arith}
+use Rattle.std.proofs.Common.{◌≡◌, ℕ, ◌<◌, ◌≤◌, inl, inr, Bool, true, false, not, List, [], ◌∷◌, ◌++◌, length, Option, Some, None, refl, sym, ap, subst, ◌∙◌, arith}
 use Rattle.std.specs.Prelude.{◌%◌, filter, map, slice_set, take}
 use Rattle.std.specs.List.{FoldsTo}
 use Rattle.std.specs.Str.{bytes_eq}
@@ -14,14 +14,13 @@ use Rattle.ca_text.proofs.Places.{At-map, At-mapped, At-one, At-or, At-snoc, At-
 use Rattle.ca_wire.specs.Fields.{Fields}
 use Rattle.ca_model.specs.Answers.{Closing}
 use Rattle.ca_model.specs.Due.{key_in}
-use Rattle.ca_model.specs.History.{Cause, Circuit, Entry, Line, Removal, Reply, Sent, Step, Told, Update}
-use Rattle.ca_model.specs.Sends.{Conduct, IsConnected, IsOpenAt, LegalServer, ReadsBetween}
-use Rattle.ca_model.specs.Server.{OpenChannel, Server, Subscription}
+use Rattle.ca_model.specs.History.{Cause, Circuit, Entry, Removal, Reply, Sent, Step, Told, Update}
+use Rattle.ca_model.specs.Sends.{Conduct}
+use Rattle.ca_model.specs.Server.{Server, Subscription}
 use Rattle.ca_model.specs.ServerSteps.{Pumps, Stepped}
-use Rattle.ca_model.specs.ServerSteps as stepped
-use Rattle.ca_model.specs.Speech.{Cid, Clears, Creates, Gives, Id, In, Is, SubId, name_in, sid_in}
+use Rattle.ca_model.specs.Speech.{Cid, Clears, Creates, Gives, Id, In, Is, SubId, sid_in}
 use Rattle.ca_model_client.proofs.Thinner.{three-ways}
-use Rattle.ca_model_safe.specs.Channels.{Has, IsOpen, before}
+use Rattle.ca_model_safe.specs.Channels.{IsOpen, before}
 use Rattle.ca_model_safe.specs.Legal.{server_conduct}
 use Rattle.ca_model_world.specs.ClientEvents.{HappensAccept, WantsFirst, connected_as, new_circuit}
 use Rattle.ca_model_world.specs.Events.{Event}
@@ -29,11 +28,9 @@ use Rattle.ca_model_world.specs.Events as event
 use Rattle.ca_model_world.specs.Runs.{AreEvents, Happens, Runs, StopsAt, clients_below}
 use Rattle.ca_model_world.specs.ServerEvents.{HappensFinish, HappensPump, HappensRemove, ServerStepped, StepHandles, about, disconnected_at, ends_by, removal_told, server_after}
 use Rattle.ca_model_world.specs.ServerEvents as server
-use Rattle.ca_model_world.specs.World.{ClientSide, Creation, IsSetting, Joined, RecordSide, ServerSide, Setting, Standing, World, circuit_of, log_length, opening}
-use Rattle.ca_laws_bytes.proofs.Causes.{runs-caused}
+use Rattle.ca_model_world.specs.World.{ClientSide, IsSetting, Joined, RecordSide, ServerSide, Setting, Standing, World, circuit_of, log_length, opening}
 use Rattle.ca_laws_bytes.proofs.Runs.{runs-take}
-use Rattle.ca_laws_circuit.specs.Flows.{Concerns, IsCidOf}
-use Rattle.ca_laws_circuit.specs.Sids.{IsClearedWithin}
+use Rattle.ca_laws_circuit.specs.Flows.{Concerns}
 use Rattle.ca_laws_kept.specs.Later.{IsLater, stamped_told}
 use Rattle.ca_laws_kept.specs.Messages.{Messages}
 use Rattle.ca_laws_kept.proofs.Updates.{stamps-later}
@@ -45,7 +42,7 @@ use Rattle.ca_laws_writes.proofs.HappensClient.{sent-frame}
 use Rattle.ca_laws_writes.proofs.Lasting.{AllEnds}
 use Rattle.ca_laws_writes.proofs.LastingAll.{run-lasts}
 use Rattle.ca_laws_writes.proofs.Lists.{At-take, beside-right, none_at}
-use Rattle.ca_laws_writes.proofs.Moves.{At-below, same-or}
+use Rattle.ca_laws_writes.proofs.Moves.{At-below}
 use Rattle.ca_laws_held.specs.Causes.{ComeAfter}
 use Rattle.ca_laws_held.specs.Created.{CreatedOn}
 use Rattle.ca_laws_held.specs.Creations.{CreationsOn}

@@ -1,5 +1,5 @@
 -- Two EVENT_ADDs of one subscription are for different creations of its channel: of every run.
-use Rattle.std.proofs.Common.{◌≡◌, ℕ, ◌<◌, List, Option, sym, subst}
+use Rattle.std.proofs.Common.{ℕ, ◌<◌, List, Option, sym, subst}
 use Rattle.ca_text.proofs.Places.{At-mapped}
 use Rattle.ca_model.specs.History.{Circuit, Create, On, Subscribe}
 use Rattle.ca_model_safe.specs.Channels.{Meant}

@@ -1,6 +1,6 @@
 -- A message on a channel goes out under a SID of whose creation the client had read then: over every event and run.
 use Rattle.std.proofs.Common.{◌≡◌, ℕ, suc, ◌<◌, ◌≤◌, ◌⊎◌, inl, inr, List, [], ◌∷◌, ◌++◌, length, Option, Some, None, refl, sym, ap, subst, ◌∙◌, arith}
-use Rattle.std.specs.Prelude.{map, option_map, slice_get, unwrap_or}
+use Rattle.std.specs.Prelude.{option_map, slice_get, unwrap_or}
 use Rattle.std.specs.List.{FoldsTo}
 use Rattle.ca_text.specs.declared.command.Command.TheVariants as command
 use Rattle.ca_text.specs.Place.{At}
@@ -9,8 +9,7 @@ use Rattle.ca_wire.specs.Fields.{Fields}
 use Rattle.ca_model.specs.History.{Ask, Cancel, Circuit, Clear, Create, Intent, On, Put, Read, Reply, Request, Sent, Step, Subscribe, Told, Write}
 use Rattle.ca_model.specs.History as history
 use Rattle.ca_model.specs.Sends.{Conduct, HasChannel, IsOnChannel}
-use Rattle.ca_model.specs.Speech.{Cid, Clears, Creates, Gives, Is, sid_in}
-use Rattle.ca_model_client.proofs.Thinner.{three-ways}
+use Rattle.ca_model.specs.Speech.{Clears, Is, sid_in}
 use Rattle.ca_model_safe.specs.Channels.{Suits}
 use Rattle.ca_model_safe.specs.Legal.{client_conduct}
 use Rattle.ca_model_world.specs.ClientEvents.{heard_in}
@@ -19,10 +18,8 @@ use Rattle.ca_model_world.specs.Events as event
 use Rattle.ca_model_world.specs.Runs.{AreEvents, Happens, Runs, StopsAt, clients_below}
 use Rattle.ca_model_world.specs.ServerEvents.{StepHandles, about, handled_at}
 use Rattle.ca_model_world.specs.World.{IsSetting, Joined, ServerSide, Setting, World, circuit_of, log_length, opening, with_circuit}
-use Rattle.ca_laws_circuit.specs.Sids.{IsClearedWithin}
-use Rattle.ca_laws_writes.proofs.Every.{ticks-frame}
-use Rattle.ca_laws_writes.proofs.Lists.{At-take, none_at}
-use Rattle.ca_laws_writes.proofs.Moves.{At-below, same-or}
+use Rattle.ca_laws_writes.proofs.Lists.{none_at}
+use Rattle.ca_laws_writes.proofs.Moves.{At-below}
 use Rattle.ca_text.proofs.Places.{At-append}
 use Rattle.ca_laws_held.specs.Causes.{AllComeAfter, ComeAfter}
 use Rattle.ca_laws_held.specs.Created.{CreatedOn}
@@ -34,7 +31,7 @@ use Rattle.ca_laws_held.proofs.CauseKeeps.{run-after}
 use Rattle.ca_laws_held.proofs.Created.{reached-created}
 use Rattle.ca_laws_held.proofs.Joint.{are-snoc, folds-snoc, run-sided}
 use Rattle.ca_laws_held.proofs.OrderGrows.{GoesOn, Grown, each-event, grown-self, step-grown, ticks-grown}
-use Rattle.ca_laws_held.proofs.OrderKeeps.{IsHearing, IsMade, begun-grown, begun-mid, did-after, did-grown, did-step, hear-grown, hear-mid, hear-step, hearing-or, made-or, run-heard, run-served, run-server-steps}
+use Rattle.ca_laws_held.proofs.OrderKeeps.{IsHearing, IsMade, begun-grown, begun-mid, did-after, did-grown, did-step, hear-grown, hear-step, hearing-or, made-or, run-heard, run-served, run-server-steps}
 use Rattle.ca_laws_held.proofs.StepWhole.{run-serves}
 use Rattle.ca_laws_held.specs.Quiet.{AreCids}
 use Rattle.ca_laws_held.proofs.Found.{clear-is}
