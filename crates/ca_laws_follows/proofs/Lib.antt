@@ -41,3 +41,6 @@ pub mod GoneRetired
 pub mod KnewChannels
 pub mod KnewKeys
 pub mod KnewListsRuns
+pub mod AnsweringFrame
+pub mod AnsweringRuns
+pub mod BadChannel

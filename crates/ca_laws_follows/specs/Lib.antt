@@ -13,3 +13,4 @@ pub mod Knew
 pub mod Names
 pub mod Gone
 pub mod KnewLists
+pub mod Answering
