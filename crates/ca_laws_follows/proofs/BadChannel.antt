@@ -7,6 +7,7 @@ use Rattle.ca_dbr.specs.declared.data_type.DataType.{DataType}
 use Rattle.ca_dbr.specs.declared.value.Outcome.TheVariants.{Failed}
 use Rattle.ca_dbr.specs.Elements.{Elements, base_of}
 use Rattle.ca_dbr.specs.Reading.{least_size}
+use Rattle.ca_queue.specs.Keys.{is_among}
 use Rattle.ca_records.specs.Faults.{first_fault, has_misfit, lacks_conversion, late_put_fault}
 use Rattle.ca_records.specs.Record.{RecordState}
 use Rattle.ca_records.specs.Rules.{may_read, may_write}
@@ -18,8 +19,8 @@ use Rattle.ca_text.specs.Place.{At}
 use Rattle.ca_text.specs.Status.{add_fail, bad_channel, bad_count, bad_type, get_fail, no_convert, no_read_access, no_write_access, normal, put_fail}
 use Rattle.ca_text.proofs.Places.{some_is}
 use Rattle.ca_wire.specs.Fields.{Fields}
-use Rattle.ca_wire.specs.Messages.{cancel_reply, error_reply, mask_in, not_found_reply, search_reply, status_reply, text_in, value_reply, version_reply}
-use Rattle.ca_model.specs.Due.{Action, Due, IsRetired, IsUnknown, Knows, PutRefused, Serves, fault_of_event, fault_of_read, is_known, must_wait, rights_at, search_due}
+use Rattle.ca_wire.specs.Messages.{cancel_reply, error_reply, mask_in, not_found_reply, search_reply, status_reply, text_in, version_reply}
+use Rattle.ca_model.specs.Due.{Action, Due, key_in, IsRetired, IsUnknown, Knows, PutRefused, Serves, fault_of_event, fault_of_read, is_known, must_wait, rights_at, search_due}
 use Rattle.ca_model.specs.Faults.{early_put_fault, read_count, read_fault, read_shown, subscribed_count, subscription_fault, too_many}
 use Rattle.ca_model.specs.Faults as faults
 use Rattle.ca_model.specs.Speech.{In, Is}
@@ -74,6 +75,12 @@ event-other r rights used others m (Some t) n is =
     ∷ (lacks_conversion (converted r.value t.base), no_convert) ∷ (not (nat_lt others (circuit_queues * queue_subscriptions)), add_fail) ∷ []
     ) n
     (differs 368 refl, (differs 168 refl, (differs 176 refl, (differs 400 refl, (differs 168 refl, tt))))) is
+
+read-fault-other : (k : Knows) (m : Fields) (c : Serves k m.p1) (n : ℕ) → fault_of_read k m c ≡ Some n → n ≡ 410 → ⊥
+read-fault-other k m c n is = read-other c.known.state (rights_at k c.channel.name) m (faults.type_of m.data_type) n is
+
+event-fault-other : (k : Knows) (m : Fields) (c : Serves k m.p1) (n : ℕ) → fault_of_event k m c ≡ Some n → n ≡ 410 → ⊥
+event-fault-other k m c n is = event-other c.known.state (rights_at k c.channel.name) (is_among (key_in m) k.keys) (length k.keys) m (faults.type_of m.data_type) n is
 
 -- ---- what a message means
 
@@ -157,7 +164,7 @@ bad-due k m replies did r due there means =
         (
           (λ e. elim (due.subscribe e) [
             | inl served ↦ elim served.1 [
-              | inl refused ↦ absurd (event-other _ _ _ _ m _ refused.0 refused.1 (error-is (error_reply _ refused.0 m) refl (means-of _ refused.2)))
+              | inl refused ↦ absurd (event-fault-other k m served.0 refused.0 refused.1 (error-is (error_reply _ refused.0 m) refl (means-of _ refused.2)))
               | inr added ↦ absurd (none-of r replies added.1 there)
             ]
             | inr stray ↦ (stray.0, stray.1)
@@ -183,8 +190,8 @@ bad-due k m replies did r due there means =
                       (
                         (λ e. elim (due.read e) [
                           | inl served ↦ elim served.2 [
-                            | inl refused ↦ absurd (read-other _ _ m _ refused.0 refused.1 (status-is (status_reply m refused.0) (inl e) (means-of _ refused.2)))
-                            | inr shown ↦ absurd (valued m _ _ e (means-of _ shown.1.4))
+                            | inl refused ↦ absurd (read-fault-other k m served.0 refused.0 refused.1 (status-is (status_reply m refused.0) (inl e) (means-of _ refused.2)))
+                            | inr shown ↦ absurd (valued r (ap (λ (x : Fields). x.command) (sym (one-of _ r replies shown.1.4 there)) ∙ e) (ap (λ (x : Fields). x.p1) (sym (one-of _ r replies shown.1.4 there))) means)
                           ]
                           | inr stray ↦ (stray.0, stray.1)
                         ]),
@@ -250,8 +257,8 @@ bad-due k m replies did r due there means =
     confirms (inr (inr (inl created))) = created.1
     confirms (inr (inr (inr fault))) = (let e : ◌≡◌ {A = ℕ} 1 11 = fault.0 in omega (arith, e))
 
-    valued : (q : Fields) (count : ℕ) (image : List ℕ) → q.command ≡ 15 → Means (value_reply q count image) (Failed bad) → ⊥
-    valued q count image is said = (let e : ◌≡◌ {A = ℕ} 1 410 = status-is (value_reply q count image) (inl is) said in omega (arith, e))
+    valued : (x : Fields) → x.command ≡ 15 → x.p1 ≡ 1 → Means x (Failed bad) → ⊥
+    valued x is one said = (let e : x.p1 ≡ 410 = status-is x (inl is) said in omega (arith, e, one))
 
     makes : (x : Fields) → x.command ≡ 18 → Means x (Failed bad) → ⊥
     makes x is (inl (inl read, image)) = omega (arith, is, read)

@@ -75,6 +75,16 @@ one-has y n r q name keep f g = elim (three-ways f.1.0 g.1.0) [
   | inr (inr gt) ↦ absurd (keep.one_at_once f.1.0 r q f.0 (At-take n y f.1.0 (Added r f.0) f.1.1) (had-it y n g.1.0 f.1.0 q g.0 (f.0).name g.1.1 (g.2 ∙ sym f.2) g.3 gt (taken-below n y f.1.0 (Added r f.0) f.1.1)))
 ]
 
+-- a beginning of a log keeps names
+pub keep-take : (y : List Entry) (n : ℕ) → KeepRecords y → KeepRecords (take n y)
+keep-take y n keep = record {
+  one_record = λ i j r a b first second. keep.one_record i j r a b (At-take n y i (Added r a) first) (At-take n y j (Added r b) second);
+  one_at_once = λ i r q s at has. keep.one_at_once i r q s (At-take n y i (Added r s) at) (subst (λ (l : List Entry). Has l q s.name) (take-twice i n y (let lt : i < n = taken-below n y i (Added r s) at in omega (arith, lt))) has);
+  was_there = λ i r at.
+      let x = keep.was_there i r (At-take n y i (Removed r) at) in
+      (x.0, subst (λ (l : List Entry). Has l r x.0) (sym (take-twice i n y (let lt : i < n = taken-below n y i (Removed r) at in omega (arith, lt)))) x.1);
+}
+
 -- ---- an open end
 
 -- What holds of an open end and its circuit, by the log of its server's life.

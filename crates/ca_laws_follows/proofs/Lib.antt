@@ -44,3 +44,4 @@ pub mod KnewListsRuns
 pub mod AnsweringFrame
 pub mod AnsweringRuns
 pub mod BadChannel
+pub mod ActsRefused

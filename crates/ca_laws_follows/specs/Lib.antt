@@ -14,3 +14,4 @@ pub mod Names
 pub mod Gone
 pub mod KnewLists
 pub mod Answering
+pub mod Refused

@@ -11,6 +11,7 @@ mod knew_laws;
 mod laws;
 mod name_laws;
 mod post_laws;
+mod refused_laws;
 
 pub use act_laws::{
     a_channel_is_opened_once, channels_are_created_for_their_records, live_channels_are_open,
@@ -28,3 +29,4 @@ pub use laws::{
 };
 pub use name_laws::{names_are_kept, records_keep_their_names};
 pub use post_laws::{subscriptions_follow_their_posts, what_stands_follows_its_record};
+pub use refused_laws::{bad_channels_lost_their_records, channels_of_removed_records_are_bad};
