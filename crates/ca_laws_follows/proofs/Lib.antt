@@ -45,3 +45,5 @@ pub mod AnsweringFrame
 pub mod AnsweringRuns
 pub mod BadChannel
 pub mod ActsRefused
+pub mod LiveRead
+pub mod ActsWhole

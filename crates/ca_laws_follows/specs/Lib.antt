@@ -15,3 +15,5 @@ pub mod Gone
 pub mod KnewLists
 pub mod Answering
 pub mod Refused
+pub mod LiveRead
+pub mod Whole

@@ -9,6 +9,7 @@ mod answered_laws;
 mod gone_laws;
 mod knew_laws;
 mod laws;
+mod live_laws;
 mod name_laws;
 mod post_laws;
 mod refused_laws;
@@ -26,6 +27,9 @@ pub use knew_laws::{servers_know_their_channels, servers_know_their_keys};
 pub use laws::{
     follows_record_in_runs, listed_records_are_there, what_was_added_stands_or_is_over,
     what_was_sent_shows_its_posts,
+};
+pub use live_laws::{
+    live_channels_have_their_records, servers_act_on_records, what_lost_its_record_is_cleared,
 };
 pub use name_laws::{names_are_kept, records_keep_their_names};
 pub use post_laws::{subscriptions_follow_their_posts, what_stands_follows_its_record};
