@@ -47,3 +47,4 @@ pub mod BadChannel
 pub mod ActsRefused
 pub mod LiveRead
 pub mod ActsWhole
+pub mod KnewFull

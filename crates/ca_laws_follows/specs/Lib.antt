@@ -17,3 +17,4 @@ pub mod Answering
 pub mod Refused
 pub mod LiveRead
 pub mod Whole
+pub mod KnewFull
