@@ -2,7 +2,6 @@
 use Rattle.std.proofs.Common.{◌≡◌, ℕ, zero, suc, ◌+◌, ◌<◌, ◌≤◌, ◌⊎◌, inl, inr, Bool, true, false, List, [], ◌∷◌, length, Option, Some, refl, sym, ap, subst, ◌∙◌, arith}
 use Rattle.std.specs.Prelude.{take}
 use Rattle.ca_dbr.specs.declared.value.Outcome.TheVariants.{Failed}
-use Rattle.ca_records.specs.Record.{RecordState}
 use Rattle.ca_requests.specs.Meaning.{Means}
 use Rattle.ca_text.specs.declared.command.Command.TheVariants as command
 use Rattle.ca_text.specs.Place.{At}
@@ -11,22 +10,21 @@ use Rattle.ca_text.proofs.Places.{some_is, At-one}
 use Rattle.ca_wire.specs.Fields.{Fields}
 use Rattle.ca_wire.specs.Messages.{error_reply, status_reply}
 use Rattle.ca_model_client.proofs.Thinner.{three-ways}
-use Rattle.ca_model.specs.Due.{Due, IsRetired, IsUnknown, KnownChannel, Knows, Serves, StrayDue}
+use Rattle.ca_model.specs.Due.{IsUnknown, KnownChannel, Serves, StrayDue}
 use Rattle.ca_model.specs.History.{Added, Applied, Circuit, Entry, Finished, Intent, Line, On, Put, Read, Removed, Reply, Request, Sent, Step, Subscribe, Told, Withdrawn, Write}
 use Rattle.ca_model.specs.History as history
 use Rattle.ca_model.specs.Speech.{In, Is, name_in, sid_in}
 use Rattle.ca_model_safe.specs.Channels.{Has, IsOpen, IsReply, IsUse, Suits, before}
 use Rattle.ca_model_safe.specs.Headline.{Acted}
-use Rattle.ca_model_safe.specs.Known.{IsChannel}
 use Rattle.ca_model_world.specs.Events.{Event}
 use Rattle.ca_model_world.specs.Runs.{Runs}
-use Rattle.ca_model_world.specs.World.{IsSetting, Joined, Setting, World, circuit_of}
+use Rattle.ca_model_world.specs.World.{IsSetting, Setting, World}
 use Rattle.ca_laws_bytes.proofs.Runs.{runs-take}
 use Rattle.ca_laws_held.specs.Causes.{ComeAfter}
 use Rattle.ca_laws_held.proofs.CauseKeeps.{run-after}
 use Rattle.ca_laws_held.proofs.StepWhole.{run-serves}
 use Rattle.ca_laws_writes.specs.Lives.{SayWhatIsSo}
-use Rattle.ca_laws_writes.proofs.Lists.{At-take, none_at}
+use Rattle.ca_laws_writes.proofs.Lists.{none_at}
 use Rattle.ca_laws_writes.proofs.Moves.{At-below}
 use Rattle.ca_laws_writes.proofs.SaysRuns.{run-says}
 use Rattle.ca_laws_follows.specs.Answering.{AnsweredAt, IsAnswered, IsLate, past}
@@ -241,6 +239,9 @@ run-refused s es stopped w ok runs =
     (λ (n : ℕ) (c : Circuit) (x : List Line) (y : List Entry). (k j r : ℕ) (m : Fields) (q : Sent) (h : Step) → IsReply c k j m → At c.up k q → IsUse q.intent → Acted c y k r → At c.handled k h → In (take h.logged y) (Removed r) → TellsBad w c k j)
     (λ n j x y at lx ly k i r m q h reply at_q uses acted at_h gone.
     let a = run-all-answered s es stopped w ok runs n j y at ly k h at_h in
-    let same : q ≡ a.0.s = At-one j.lists.up k q a.0.s at_q a.0.at in
-    (m, reply, refused-by n j.lists y (run-keep s es stopped w ok runs j.lists.server y ly) (run-after s es stopped w ok runs n j at) k r h at_h a acted i m gone
-        ((run-serves s es stopped w ok runs).stands.asked n k j a.0.s at a.0.at) (subst (λ (z : Sent). IsUse z.intent) same uses) ((run-says s es stopped w ok runs (runs-take s es ok)).so n j y at ly) reply))
+    let same : q ≡ a.0.s = At-one j.lists.up k q a.0.s at_q a.0.at in (
+      m,
+      reply,
+      refused-by n j.lists y (run-keep s es stopped w ok runs j.lists.server y ly) (run-after s es stopped w ok runs n j at) k r h at_h a acted i m gone
+          ((run-serves s es stopped w ok runs).stands.asked n k j a.0.s at a.0.at) (subst (λ (z : Sent). IsUse z.intent) same uses) ((run-says s es stopped w ok runs (runs-take s es ok)).so n j y at ly) reply,
+    ))

@@ -1,23 +1,18 @@
 -- A channel that is live has its record, or a SERVER_DISCONN for it is unread; and so the whole clause of what servers act on.
-use Rattle.std.proofs.Common.{◌≡◌, ℕ, ◌<◌, ◌≤◌, ◌⊎◌, inl, inr, Bool, true, false, List, length, Option, Some, refl, sym, ap, subst, ◌∙◌, arith}
-use Rattle.std.specs.Prelude.{take}
-use Rattle.ca_requests.specs.Meaning.{Means}
+use Rattle.std.proofs.Common.{◌≡◌, ℕ, ◌≤◌, ◌⊎◌, inl, inr, Bool, true, false, List, length, Option, Some, refl, sym, ap, subst, ◌∙◌, arith}
 use Rattle.ca_text.specs.Place.{At}
-use Rattle.ca_text.proofs.Places.{At-map, At-mapped, At-one, At-within}
+use Rattle.ca_text.proofs.Places.{At-one, At-within}
 use Rattle.ca_arena.specs.declared.handle.Handle.{Handle}
 use Rattle.ca_ids.specs.Table.{under}
 use Rattle.ca_ids.specs.Wire.{wire_of}
 use Rattle.ca_model_client.proofs.Thinner.{three-ways}
-use Rattle.ca_model.specs.History.{Circuit, Create, Entry, Line, On, Opened, Removal, Removed, Reply, Sent, Step, Told}
+use Rattle.ca_model.specs.History.{Circuit, Entry, Line, Removal, Removed, Told}
 use Rattle.ca_model.specs.Server.{OpenChannel, ServerEnd}
-use Rattle.ca_model.specs.Speech.{Creates, In, name_in}
-use Rattle.ca_model.specs.Updates.{Shows}
-use Rattle.ca_model_safe.specs.Channels.{IsLive, IsNamed, IsOpen, IsUnread, Joins, OfCircuits}
-use Rattle.ca_model_safe.specs.Headline.{ActsOnRecord}
-use Rattle.ca_model_safe.specs.Known.{IsDue}
+use Rattle.ca_model.specs.Speech.{In}
+use Rattle.ca_model_safe.specs.Channels.{IsLive, IsNamed, IsOpen, IsUnread, OfCircuits}
 use Rattle.ca_model_world.specs.Events.{Event}
 use Rattle.ca_model_world.specs.Runs.{AreEvents, Runs}
-use Rattle.ca_model_world.specs.World.{Creation, IsSetting, Joined, RecordSide, ServerSide, Setting, World, circuit_of, port_of, rules_of, told}
+use Rattle.ca_model_world.specs.World.{Creation, IsSetting, Joined, RecordSide, Setting, World, circuit_of, told}
 use Rattle.ca_laws_circuit.specs.Sids.{IsClearedWithin}
 use Rattle.ca_laws_held.proofs.StepWhole.{run-serves}
 use Rattle.ca_laws_held.proofs.Under.{uncleared}
@@ -91,12 +86,16 @@ run-live-there s es stopped w ok are runs =
     (λ (n : ℕ) (c : Circuit) (x : List Line) (y : List Entry). (channel j k sid : ℕ) → IsLive c channel j k sid → (r : ℕ) × IsOpen c y j k sid r × IsNamed x y channel r × (c.server_open ≡ true → (In y (Removed r) → ⊥) ⊎ IsUnread c k))
     (λ n j x y at lx ly channel i k sid l.
     let f = run-facts s es stopped w ok are runs n j y at ly in
-    let o = live-named j y f channel i k sid l x (λ q there is. (run-names s es stopped w runs).said n k channel j x q at lx there is) in
-    (o.0, o.1, o.2, λ opened.
-        let seat = (run-serves s es stopped w ok runs).stands.sound.seated.each n j at opened in
-        let logged : At w.server_logs seat.y.life y = subst (λ (v : ℕ). At w.server_logs v y) seat.joins ly in
-        there-or j y f (run-cleared s es stopped w ok are runs n j at) channel i k sid l seat.y.records seat.e
-        (run-end-facts s es stopped w ok runs n j seat.y seat.e y at seat.at opened seat.has logged) o.0 o.1))
+    let o = live-named j y f channel i k sid l x (λ q there is. (run-names s es stopped w runs).said n k channel j x q at lx there is) in (
+      o.0,
+      o.1,
+      o.2,
+      λ opened.
+          let seat = (run-serves s es stopped w ok runs).stands.sound.seated.each n j at opened in
+          let logged : At w.server_logs seat.y.life y = subst (λ (v : ℕ). At w.server_logs v y) seat.joins ly in
+          there-or j y f (run-cleared s es stopped w ok are runs n j at) channel i k sid l seat.y.records seat.e
+          (run-end-facts s es stopped w ok runs n j seat.y seat.e y at seat.at opened seat.has logged) o.0 o.1,
+    ))
 
 -- two facts of each circuit
 both-of : (w : World) (P Q : ℕ → Circuit → List Line → List Entry → Type 0) → OfCircuits (told w) P → OfCircuits (told w) Q → OfCircuits (told w) (λ (n : ℕ) (c : Circuit) (x : List Line) (y : List Entry). P n c x y × Q n c x y)

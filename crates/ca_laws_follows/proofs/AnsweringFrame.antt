@@ -1,20 +1,18 @@
 -- How a message was answered does not change as the lists of its circuit and the log of its server grow.
-use Rattle.std.proofs.Common.{◌≡◌, ℕ, zero, suc, ◌+◌, ◌<◌, ◌≤◌, ◌⊎◌, inl, inr, Bool, List, [], ◌∷◌, ◌++◌, length, Option, Some, None, refl, sym, ap, subst, ◌∙◌, arith}
-use Rattle.std.specs.Prelude.{map, option_map, slice_get, slice_set, take, unwrap_or}
+use Rattle.std.proofs.Common.{◌≡◌, ℕ, zero, suc, ◌+◌, ◌<◌, ◌≤◌, ◌⊎◌, inl, inr, List, [], ◌∷◌, ◌++◌, length, Option, Some, None, refl, sym, ap, subst, ◌∙◌, arith}
+use Rattle.std.specs.Prelude.{option_map, slice_get, slice_set, take, unwrap_or}
 use Rattle.ca_text.specs.Place.{At}
-use Rattle.ca_text.proofs.Places.{some_is, At-append, At-mapped, At-one, At-set, At-within}
+use Rattle.ca_text.proofs.Places.{some_is, At-append, At-mapped, At-set, At-within}
 use Rattle.ca_wire.specs.Fields.{Fields}
-use Rattle.ca_model.specs.Due.{Action, Knows}
-use Rattle.ca_model.specs.History.{Circuit, Entry, Finished, Reply, Sent, Step, Told}
-use Rattle.ca_model.specs.Server.{Server}
-use Rattle.ca_model.specs.Speech.{In}
+use Rattle.ca_model.specs.Due.{Action}
+use Rattle.ca_model.specs.History.{Circuit, Entry, Finished, Reply, Step, Told}
 use Rattle.ca_model_safe.specs.Channels.{IsReply}
 use Rattle.ca_model_world.specs.ServerEvents.{StepHandles, about, acted, ending, ends_by, handled_at, numbers_after, server_after, server_closed, side_of, write_numbers}
 use Rattle.ca_model_world.specs.ServerEvents as server
 use Rattle.ca_model_world.specs.World.{Joined, ServerSide, World, with_circuit}
 use Rattle.ca_laws_runs.proofs.Handled.{numbers-like, writes-like}
 use Rattle.ca_laws_writes.proofs.Lists.{none_at}
-use Rattle.ca_laws_follows.specs.Answering.{AnsweredAt, IsAnswered, IsLate, KnowsLists, past}
+use Rattle.ca_laws_follows.specs.Answering.{AnsweredAt, IsLate, KnowsLists, past}
 use Rattle.ca_laws_follows.proofs.Acting.{Extends, Grows, IsLonger, longer-taken}
 use Rattle.ca_laws_follows.proofs.CausingKeeps.{Steady}
 use Rattle.ca_laws_follows.proofs.Known.{grows-le}

@@ -1,13 +1,12 @@
 -- Each message that a server handled was answered by what it knew, over every event and run.
 use Rattle.std.proofs.Common.{◌≡◌, ℕ, zero, suc, ◌+◌, ◌<◌, ◌≤◌, ◌⊎◌, inl, inr, Bool, true, List, [], ◌∷◌, ◌++◌, length, Option, Some, None, refl, sym, ap, subst, ◌∙◌, arith}
-use Rattle.std.specs.Prelude.{filter, map, not, option_map, slice_get, slice_set, take, unwrap_or}
+use Rattle.std.specs.Prelude.{filter, map, not, slice_get, slice_set, take, unwrap_or}
 use Rattle.std.specs.List.{FoldsTo}
 use Rattle.std.specs.Str.{bytes_eq}
 use Rattle.ca_arena.specs.declared.handle.Handle.{Handle}
 use Rattle.ca_link.specs.Link.{with_rest}
-use Rattle.ca_records.specs.declared.puts.Put.{Put}
 use Rattle.ca_text.specs.Place.{At}
-use Rattle.ca_text.proofs.Places.{At-after, At-append, At-last, At-map, At-mapped, At-one, At-parts, At-snoc, At-within}
+use Rattle.ca_text.proofs.Places.{At-after, At-append, At-map, At-mapped, At-one, At-parts, At-snoc, At-within}
 use Rattle.ca_wire.specs.Fields.{Fields}
 use Rattle.ca_model.specs.Answers.{Closing}
 use Rattle.ca_model.specs.Due.{Due}
@@ -17,14 +16,13 @@ use Rattle.ca_model.specs.ServerCalls.{Replies, finish_reply, with_finish}
 use Rattle.ca_model.specs.ServerSteps.{HasEnd, Pumps, Stepped, knows}
 use Rattle.ca_model.specs.Speech.{In, Is}
 use Rattle.ca_text.specs.declared.command.Command.TheVariants as command
-use Rattle.ca_model_safe.specs.Channels.{IsReply}
 use Rattle.ca_model_world.specs.ClientEvents.{HappensAccept, WantsFirst, connected_as, new_circuit}
 use Rattle.ca_model_world.specs.Events.{Event}
 use Rattle.ca_model_world.specs.Events as event
 use Rattle.ca_model_world.specs.Runs.{Happens, Runs, StopsAt, clients_below}
 use Rattle.ca_model_world.specs.ServerEvents.{HappensFinish, HappensPump, HappensRemove, ServerStepped, StepHandles, about, ends_by, finish_entry, first_of, next_entries, removal_told, replied_at, server_after, withdrawals}
 use Rattle.ca_model_world.specs.ServerEvents as server
-use Rattle.ca_model_world.specs.World.{ClientSide, IsSetting, Joined, PutPlace, RecordSide, ServerSide, Setting, Standing, World, circuit_of, opening, with_circuit}
+use Rattle.ca_model_world.specs.World.{ClientSide, IsSetting, Joined, PutPlace, RecordSide, ServerSide, Setting, Standing, World, circuit_of, opening}
 use Rattle.ca_laws_kept.specs.Later.{IsLater, stamped_told}
 use Rattle.ca_laws_kept.proofs.Thins.{put-facts}
 use Rattle.ca_laws_kept.proofs.Updates.{stamps-later}
@@ -44,13 +42,13 @@ use Rattle.ca_laws_writes.proofs.Lists.{beside-right, none_at, take-front, take-
 use Rattle.ca_laws_writes.proofs.Midway.{grown-here}
 use Rattle.ca_laws_writes.proofs.Moves.{same-or}
 use Rattle.ca_laws_writes.proofs.Says.{logs-stay}
-use Rattle.ca_laws_follows.specs.Answering.{AnsweredAt, AreAnswered, IsAnswered, IsLate, KnowsLists, past}
+use Rattle.ca_laws_follows.specs.Answering.{AnsweredAt, AreAnswered, IsLate, KnowsLists, past}
 use Rattle.ca_laws_follows.specs.KnewLists.{as_known}
 use Rattle.ca_laws_follows.proofs.Acting.{Extends, IsLonger, longer-taken}
 use Rattle.ca_laws_follows.proofs.ActsOn.{of-circuits}
-use Rattle.ca_laws_follows.proofs.AnsweringFrame.{answered-forth, past-is, step-lists, step-of}
+use Rattle.ca_laws_follows.proofs.AnsweringFrame.{answered-forth, step-lists, step-of}
 use Rattle.ca_laws_follows.proofs.CausingEvents.{Nothing-new, Ready, steady-of}
-use Rattle.ca_laws_follows.proofs.CausingFrame.{Back, FinishNews, IsStill, News, Onward, PumpNews, RemoveNews, Says, StepNews, Takes, back-frame, finish-back, pump-back, removed-back, step-back, still-back, unhandled-back}
+use Rattle.ca_laws_follows.proofs.CausingFrame.{Back, FinishNews, IsStill, News, PumpNews, RemoveNews, Says, Takes, back-frame, finish-back, pump-back, removed-back, step-back, still-back, unhandled-back}
 use Rattle.ca_laws_follows.proofs.CausingKeeps.{Steady}
 use Rattle.ca_laws_follows.proofs.CausingRuns.{ready}
 use Rattle.ca_laws_follows.proofs.KnewListsRuns.{run-know-channels, run-know-keys}
@@ -261,15 +259,15 @@ module _ (s : Setting) (w new : World) (k : ℕ) (j : Joined) (y : ServerSide) (
         replies = replies;
         knew =
             subst (λ (v : Circuit × List Entry). KnowsLists v.0 v.1 (knows y.core taken)) (λ i. (sym is-known i, sym is-log i))
-                (know k j y f.e own.0 on at_y opened f.has here);
+            (know k j y f.e own.0 on at_y opened f.has here);
         due = subst (λ (m : Fields). Due (knows y.core taken) m replies (f.steps.0).action) (sym sent.2) ((f.steps.0).handles).due;
         now = λ i m there.
             subst (λ (l : List Told). At l (length j.lists.down + i) (record { message = m; place = place; cause = Reply })) (sym lists.1)
             (At-after j.lists.down (about place Reply replies) i (record { message = m; place = place; cause = Reply }) (At-map (λ (z : Fields). let v : Told = record { message = z; place = place; cause = Reply } in v) replies i m there));
         fits =
             (let le : length j.lists.down + length replies ≤ length (j.lists.down ++ about place Reply replies) = long (λ (z : Fields). let v : Told = record { message = z; place = place; cause = Reply } in v) j.lists.down replies in
-                let is : length d.lists.down ≡ length (j.lists.down ++ about place Reply replies) = ap (λ (l : List Told). length l) lists.1 in
-                omega (arith, le, is));
+            let is : length d.lists.down ≡ length (j.lists.down ++ about place Reply replies) = ap (λ (l : List Told). length l) lists.1 in
+            omega (arith, le, is));
         next = λ l g lt there. elim (handled-was l g there) [
           | inl was ↦ absurd (let below : l < place = At-within j.lists.handled l g was in omega (arith, lt, below))
           | inr now ↦ absurd (let e : l ≡ place = now.0 in omega (arith, lt, e))

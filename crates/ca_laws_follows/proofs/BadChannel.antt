@@ -12,7 +12,6 @@ use Rattle.ca_records.specs.Faults.{first_fault, has_misfit, lacks_conversion, l
 use Rattle.ca_records.specs.Record.{RecordState}
 use Rattle.ca_records.specs.Rules.{may_read, may_write}
 use Rattle.ca_requests.specs.Meaning.{Means}
-use Rattle.ca_text.specs.declared.command.Command.TheVariants as command
 use Rattle.ca_text.specs.declared.status.Status.{Status}
 use Rattle.ca_text.specs.Limits.{circuit_queues, queue_subscriptions, waiting_puts}
 use Rattle.ca_text.specs.Place.{At}
@@ -20,10 +19,10 @@ use Rattle.ca_text.specs.Status.{add_fail, bad_channel, bad_count, bad_type, get
 use Rattle.ca_text.proofs.Places.{some_is}
 use Rattle.ca_wire.specs.Fields.{Fields}
 use Rattle.ca_wire.specs.Messages.{cancel_reply, error_reply, mask_in, not_found_reply, search_reply, status_reply, text_in, version_reply}
-use Rattle.ca_model.specs.Due.{Action, Due, key_in, IsRetired, IsUnknown, Knows, PutRefused, Serves, fault_of_event, fault_of_read, is_known, must_wait, rights_at, search_due}
+use Rattle.ca_model.specs.Due.{Action, Due, key_in, IsRetired, IsUnknown, Knows, PutRefused, Serves, fault_of_event, fault_of_read, is_known, must_wait, rights_at}
 use Rattle.ca_model.specs.Faults.{early_put_fault, read_count, read_fault, read_shown, subscribed_count, subscription_fault, too_many}
 use Rattle.ca_model.specs.Faults as faults
-use Rattle.ca_model.specs.Speech.{In, Is}
+use Rattle.ca_model.specs.Speech.{In}
 use Rattle.ca_laws_writes.proofs.Doing.{any-of, commands, each-at, known-or}
 
 -- ---- the faults of requests are others

@@ -1,51 +1,39 @@
 -- What a server's core knows of its open channels and subscriptions is what the lists say.
-use Rattle.std.proofs.Common.{◌≡◌, ℕ, zero, suc, ◌<◌, ◌≤◌, ◌⊎◌, ◌||◌, inl, inr, Bool, true, false, eqb, List, [], ◌∷◌, ◌++◌, length, Option, Some, None, refl, sym, ap, subst, ◌∙◌, arith}
+use Rattle.std.proofs.Common.{◌≡◌, ℕ, zero, suc, ◌<◌, ◌≤◌, inl, inr, Bool, true, false, List, [], ◌∷◌, length, Some, refl, sym, ap, subst, ◌∙◌, arith}
 use Rattle.std.specs.Prelude.{find, map, take}
 use Rattle.ca_arena.specs.declared.handle.Handle.{Handle}
-use Rattle.ca_dbr.specs.Elements.{Elements}
 use Rattle.ca_ids.specs.Table.{held, under}
 use Rattle.ca_ids.specs.Wire.{wire_of}
 use Rattle.ca_model_client.proofs.Tables.{find-at, held-apart, held-under, one-by-wire, under-held}
 use Rattle.ca_model_client.proofs.Thinner.{three-ways}
-use Rattle.ca_queue.specs.declared.entry.SubKey.{SubKey}
-use Rattle.ca_queue.specs.Keys.{AreApart, is_among, same}
-use Rattle.ca_queue.proofs.Keys.{same_itself}
+use Rattle.ca_queue.specs.Keys.{same}
 use Rattle.ca_records.specs.Record.{RecordState}
-use Rattle.ca_text.specs.declared.command.Command.TheVariants as command
 use Rattle.ca_text.specs.Place.{At}
 use Rattle.ca_text.proofs.Places.{At-map, At-mapped, At-one, At-within}
-use Rattle.ca_wire.specs.Fields.{Fields}
-use Rattle.ca_model.specs.Due.{KnownChannel, key_in}
-use Rattle.ca_model.specs.History.{Added, Circuit, Entry, Intent, On, Removed, Reply, Sent, Step, Subscribe, Told}
-use Rattle.ca_model.specs.Server.{OpenChannel, ServerEnd, Subscription, key_of}
-use Rattle.ca_model.specs.ServerSteps.{HasEnd, known_channel, knows}
-use Rattle.ca_model.specs.Speech.{Clears, Creates, Ends, In, Is, name_in, sid_in}
+use Rattle.ca_model.specs.Due.{KnownChannel}
+use Rattle.ca_model.specs.History.{Added, Circuit, Entry, Removed, Reply, Sent, Step, Told}
+use Rattle.ca_model.specs.Server.{OpenChannel, ServerEnd}
+use Rattle.ca_model.specs.ServerSteps.{known_channel}
+use Rattle.ca_model.specs.Speech.{Clears, Creates, In, name_in}
 use Rattle.std.proofs.lemmas.Bool.{eqb-true}
-use Rattle.ca_model_safe.specs.Channels.{Created, Has, IsOpen, Lasts, Suits, before}
-use Rattle.ca_model_safe.specs.Headline.{Accepted, Acted}
-use Rattle.ca_model_safe.specs.Known.{AreJust, IsChannel, IsKey}
-use Rattle.ca_model_world.specs.Events.{Event}
-use Rattle.ca_model_world.specs.Runs.{Runs}
-use Rattle.ca_model_world.specs.World.{Creation, IsSetting, Joined, RecordSide, ServerSide, Setting, Standing, World}
+use Rattle.ca_model_safe.specs.Channels.{Created, Has, IsOpen, Suits}
+use Rattle.ca_model_safe.specs.Known.{AreJust, IsChannel}
+use Rattle.ca_model_world.specs.World.{Creation, Joined, RecordSide}
 use Rattle.ca_laws_kept.specs.Channels.{ChannelsOn, has_sid}
 use Rattle.ca_laws_held.specs.Created.{CreatedOn}
 use Rattle.ca_laws_held.specs.Creations.{CreationsOn}
 use Rattle.ca_laws_held.proofs.CauseOnce.{apart-at}
-use Rattle.ca_laws_writes.specs.Agrees.{Agrees}
-use Rattle.ca_laws_writes.specs.Both.{Both}
-use Rattle.ca_laws_writes.specs.Lives.{IsPutOf}
-use Rattle.ca_laws_writes.proofs.Lists.{At-take, beside-right, both-at, none_at, take-whole}
-use Rattle.ca_laws_follows.specs.Causing.{IsTaken, SourcesOn}
+use Rattle.ca_laws_writes.proofs.Lists.{At-take}
+use Rattle.ca_laws_follows.specs.Causing.{SourcesOn}
 use Rattle.ca_laws_follows.specs.Entries.{titles}
-use Rattle.ca_laws_follows.specs.Follows.{Follows, Stands}
+use Rattle.ca_laws_follows.specs.Follows.{Follows}
 use Rattle.ca_laws_follows.specs.Gone.{GoneOn, IsGone}
-use Rattle.ca_laws_follows.specs.Knew.{EndsKey, UnendedOn}
+use Rattle.ca_laws_follows.specs.Knew.{UnendedOn}
 use Rattle.ca_laws_follows.specs.KnewLists.{as_known}
-use Rattle.ca_laws_follows.specs.Known.{IsOnRecord, IsOrigin, KnownOn}
+use Rattle.ca_laws_follows.specs.Known.{IsOrigin, KnownOn}
 use Rattle.ca_laws_follows.specs.Names.{KeepRecords}
 use Rattle.ca_laws_follows.proofs.Acting.{taken-at, taken-below}
 use Rattle.ca_laws_follows.proofs.CausingKeeps.{Steady}
-use Rattle.ca_laws_follows.proofs.CausingRuns.{accepted-of}
 
 -- ---- beginnings of a log
 

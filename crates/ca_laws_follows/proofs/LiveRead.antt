@@ -1,11 +1,11 @@
 -- A client that reads a SERVER_DISCONN clears the channel: over every event and run.
-use Rattle.std.proofs.Common.{◌≡◌, ℕ, zero, suc, ◌+◌, ◌<◌, ◌≤◌, ◌⊎◌, inl, inr, Bool, true, false, cond, ◌&&◌, eqb, eq-eqb, List, [], ◌∷◌, ◌++◌, length, Option, Some, None, refl, sym, ap, subst, ◌∙◌, arith}
-use Rattle.std.specs.Prelude.{filter, map, option_and_then, option_map, slice_get, slice_set, unwrap_or}
+use Rattle.std.proofs.Common.{◌≡◌, ℕ, suc, ◌+◌, ◌<◌, ◌≤◌, inl, inr, Bool, true, false, cond, ◌&&◌, eqb, eq-eqb, List, [], ◌∷◌, ◌++◌, length, Option, Some, None, refl, sym, ap, subst, ◌∙◌, arith}
+use Rattle.std.specs.Prelude.{map, option_and_then, option_map, slice_get, slice_set, unwrap_or}
 use Rattle.std.specs.List.{FoldsTo, list_any}
 use Rattle.ca_text.specs.Command.{command_number}
 use Rattle.ca_text.specs.declared.command.Command.{Command}
 use Rattle.ca_arena.specs.declared.handle.Handle.{Handle}
-use Rattle.ca_ids.specs.Table.{by_wire, same_handle, under}
+use Rattle.ca_ids.specs.Table.{same_handle, under}
 use Rattle.ca_ids.specs.Wire.{wire_of}
 use Rattle.ca_model_client.proofs.Handles.{same-itself}
 use Rattle.ca_model_client.proofs.Tables.{under-wire}
@@ -16,16 +16,16 @@ use Rattle.ca_text.proofs.Places.{At-append, At-last, At-mapped, At-one, At-or, 
 use Rattle.ca_wire.specs.Fields.{Fields}
 use Rattle.ca_model.specs.Answers.{Notice, Sending}
 use Rattle.ca_model.specs.Answers as answer
-use Rattle.ca_model.specs.Client.{Channel, Client, Connection, Live, Native, Phase, channel_on, connection_at, phase_on}
+use Rattle.ca_model.specs.Client.{Channel, Client, Connection, Live, Phase, channel_on, connection_at, phase_on}
 use Rattle.ca_model.specs.ClientCalls.{clear_sent}
-use Rattle.ca_model.specs.ClientEnds.{StepsOn, Takes, after_taking}
+use Rattle.ca_model.specs.ClientEnds.{StepsOn, after_taking}
 use Rattle.ca_model.specs.Hears.{Effect, Hears, doing, left}
 use Rattle.ca_model.specs.Hears as hears
 use Rattle.ca_model.specs.History.{Circuit, Create, Intent, On, Removal, Reply, Sent, Step, Told}
 use Rattle.ca_model.specs.History as history
-use Rattle.ca_model.specs.Speech.{Clears, Creates, Is}
+use Rattle.ca_model.specs.Speech.{Is}
 use Rattle.ca_model_safe.specs.Channels.{Suits}
-use Rattle.ca_model_world.specs.ClientEvents.{channel_number, client_stepped, heard_in, intent_of, sent_on}
+use Rattle.ca_model_world.specs.ClientEvents.{channel_number, heard_in, intent_of, sent_on}
 use Rattle.ca_model_world.specs.Events.{Event}
 use Rattle.ca_model_world.specs.Events as event
 use Rattle.ca_model_world.specs.Runs.{AreEvents, Happens, Runs, StopsAt, clients_below}
@@ -34,7 +34,7 @@ use Rattle.ca_model_world.specs.World.{ClientSide, IsSetting, Joined, Names, Ser
 use Rattle.ca_laws_bytes.specs.Runs.{HearsSent}
 use Rattle.ca_laws_bytes.proofs.ServerSpeaking.{runs-hear}
 use Rattle.ca_laws_circuit.specs.Sids.{IsClearedWithin}
-use Rattle.ca_laws_runs.specs.Circuit.{AreCids, HeldAt}
+use Rattle.ca_laws_runs.specs.Circuit.{AreCids}
 use Rattle.ca_laws_runs.specs.Clients.{ClientsStand}
 use Rattle.ca_laws_held.specs.Created.{AllCreated}
 use Rattle.ca_laws_held.specs.Held.{AllCircuitsHeld}
@@ -44,7 +44,7 @@ use Rattle.ca_laws_held.proofs.Created.{reached-created}
 use Rattle.ca_laws_held.proofs.Joint.{are-snoc, folds-snoc, run-held, run-sided}
 use Rattle.ca_laws_held.proofs.LegalRemovals.{AllRemovedRight, RemovedAs, run-right}
 use Rattle.ca_laws_held.proofs.OrderGrows.{GoesOn, Grown, each-event, grown-self, step-grown, ticks-grown}
-use Rattle.ca_laws_held.proofs.OrderKeeps.{IsHearing, IsMade, begun-grown, begun-mid, did-after, did-grown, did-step, hear-grown, hear-mid, hear-step, hearing-or, hears-one, made-or, run-heard}
+use Rattle.ca_laws_held.proofs.OrderKeeps.{IsHearing, IsMade, begun-grown, begun-mid, did-after, did-grown, did-step, hear-grown, hear-step, hearing-or, hears-one, made-or, run-heard}
 use Rattle.ca_laws_held.proofs.StepWhole.{run-serves}
 use Rattle.ca_laws_held.proofs.ToldRemoval.{AllRemovals, run-removals}
 use Rattle.ca_laws_writes.proofs.Lists.{length-more, none_at}

@@ -1,8 +1,7 @@
 -- Working: when a server's end has no SID to give, by the lists.
-use Rattle.std.specs.Prelude.{ℕ, ◌≡◌, ◌≤◌, true, List, count_by}
+use Rattle.std.specs.Prelude.{ℕ, ◌≡◌, ◌≤◌, true, count_by}
 use Rattle.ca_arena.specs.Arena.{Place}
 use Rattle.ca_text.specs.Place.{At}
-use Rattle.ca_model.specs.History.{Circuit}
 use Rattle.ca_model.specs.Server.{OpenChannel, ServerEnd}
 use Rattle.ca_model.specs.ServerSteps.{HasEnd, knows}
 use Rattle.ca_model_safe.specs.Known.{IsFull, creates_at}

@@ -1,5 +1,5 @@
 -- Working: of the statement's clause of what servers act on, when a channel is told to be bad.
-use Rattle.std.specs.Prelude.{ℕ, ◌≡◌, List, take}
+use Rattle.std.specs.Prelude.{ℕ, List, take}
 use Rattle.ca_requests.specs.Meaning.{Means}
 use Rattle.ca_text.specs.Place.{At}
 use Rattle.ca_wire.specs.Fields.{Fields}
