@@ -1,6 +1,6 @@
 -- A channel is retired only once the log removed its record, and its SERVER_DISCONN was sent: over every event and run.
 use Rattle.std.proofs.Common.{◌≡◌, ℕ, ◌+◌, ◌≤◌, ◌⊎◌, inl, inr, Bool, true, false, not, ◌&&◌, ◌||◌, eqb, eqb-true, List, [], ◌∷◌, ◌++◌, length, Option, Some, None, refl, sym, ap, subst, ◌∙◌, arith}
-use Rattle.std.specs.Prelude.{drop, filter, find, map, option_map, take, unwrap_or}
+use Rattle.std.specs.Prelude.{filter, find, map, option_map, take, unwrap_or}
 use Rattle.std.specs.List.{FoldsTo, fold}
 use Rattle.std.specs.Str.{bytes_eq}
 use Rattle.std.proofs.lemmas.Slice.Eq.{bytes_eq-Decides}
@@ -9,24 +9,23 @@ use Rattle.ca_ids.specs.Table.{Table, by_wire, held, under, with_freed}
 use Rattle.ca_ids.specs.Wire.{wire_of}
 use Rattle.ca_model_client.proofs.Tables.{find-at, freed-back, held-back, place, under-at, under-held, under-wire}
 use Rattle.ca_queue.specs.declared.entry.SubKey.{SubKey}
-use Rattle.ca_records.specs.Record.{RecordState}
 use Rattle.ca_text.specs.Limits.{arena_slots}
 use Rattle.ca_text.specs.Place.{At}
 use Rattle.ca_text.proofs.Places.{some_is, At-after, At-append, At-map}
 use Rattle.ca_wire.specs.Fields.{Fields}
 use Rattle.ca_model.specs.Due.{Action, Adds, Applies, Clears, Drops, Opens, Switches}
 use Rattle.ca_model.specs.Due as action
-use Rattle.ca_model.specs.History.{Added, Circuit, Entry, Removal, Removed, Reply, Sent, Step, Told}
+use Rattle.ca_model.specs.History.{Added, Circuit, Entry, Removed, Reply, Sent, Step, Told}
 use Rattle.ca_model.specs.Server.{OpenChannel, Server, ServerEnd, concerns, key_of, new_end, with_post}
 use Rattle.ca_model.specs.ServerCalls.{channels_of, end_without, retired}
 use Rattle.ca_model.specs.ServerSteps.{Acts, Leaves, Update, without_channel}
-use Rattle.ca_model.specs.Speech.{In, Stored}
+use Rattle.ca_model.specs.Speech.{In}
 use Rattle.ca_model_safe.specs.Channels.{Has}
 use Rattle.ca_model_world.specs.Events.{Event}
 use Rattle.ca_model_world.specs.Events as event
 use Rattle.ca_model_world.specs.Runs.{Happens, Runs, StopsAt, clients_below}
 use Rattle.ca_model_world.specs.ServerEvents.{about, handled_at, numbers_after, removal_entries, removal_told, stamped, with_number}
-use Rattle.ca_model_world.specs.World.{Creation, IsSetting, Joined, RecordSide, Setting, World, opening, record_begun}
+use Rattle.ca_model_world.specs.World.{Creation, IsSetting, Joined, RecordSide, Setting, World, opening}
 use Rattle.ca_laws_kept.specs.Channels.{ChannelsOn, has_sid}
 use Rattle.ca_laws_kept.proofs.Channels.{each-back}
 use Rattle.ca_laws_kept.proofs.Since.{stamped-parts}
@@ -37,10 +36,9 @@ use Rattle.ca_laws_held.proofs.Creations.{HasCreations, creations-begun, creatio
 use Rattle.ca_laws_held.proofs.StepWhole.{run-serves, takes-next}
 use Rattle.ca_laws_writes.specs.Seats.{Sound, TakesSent}
 use Rattle.ca_laws_writes.proofs.Every.{ticks-frame}
-use Rattle.ca_laws_writes.proofs.Frames.{Goes, goes-self}
-use Rattle.ca_laws_writes.proofs.Lasting.{IsNew, SameHeld, numbered_for, told_gone, told_late}
+use Rattle.ca_laws_writes.proofs.Frames.{goes-self}
+use Rattle.ca_laws_writes.proofs.Lasting.{numbered_for, told_gone, told_late}
 use Rattle.ca_laws_writes.proofs.Lists.{In-append, kept-in, none_at}
-use Rattle.ca_laws_follows.specs.Entries.{IsPost, titles}
 use Rattle.ca_laws_follows.specs.Gone.{AllGone, GoneOn, IsGone}
 use Rattle.ca_laws_follows.specs.Known.{IsOrigin, KnownOn}
 use Rattle.ca_laws_follows.specs.Listed.{AllListed}
@@ -52,7 +50,7 @@ use Rattle.ca_laws_follows.proofs.Known.{extends-self, longer-le, removed-in}
 use Rattle.ca_laws_follows.proofs.Logged.{AllEnds, Begins, Lasting, frame-lasts}
 use Rattle.ca_laws_follows.proofs.LoggedAll.{HandledIn, event-lasts-if}
 use Rattle.ca_laws_follows.proofs.LoggedStep.{life-tells}
-use Rattle.ca_laws_follows.proofs.PostFollowing.{same-bytes, titled}
+use Rattle.ca_laws_follows.proofs.PostFollowing.{titled}
 use Rattle.ca_laws_follows.proofs.Whole.{folds-snoc, run-stand}
 
 -- ---- one channel goes on

@@ -1,51 +1,39 @@
 -- What a server's core knows of its open channels and subscriptions is what the lists say.
-use Rattle.std.proofs.Common.{◌≡◌, ℕ, zero, suc, ◌<◌, ◌≤◌, ◌⊎◌, ◌||◌, inl, inr, Bool, true, false, eqb, List, [], ◌∷◌, ◌++◌, length, Option, Some, None, refl, sym, ap, subst, ◌∙◌, arith}
+use Rattle.std.proofs.Common.{◌≡◌, ℕ, zero, suc, ◌<◌, ◌≤◌, inl, inr, Bool, true, false, List, [], ◌∷◌, length, Some, refl, sym, ap, subst, ◌∙◌, arith}
 use Rattle.std.specs.Prelude.{find, map, take}
 use Rattle.ca_arena.specs.declared.handle.Handle.{Handle}
-use Rattle.ca_dbr.specs.Elements.{Elements}
 use Rattle.ca_ids.specs.Table.{held, under}
 use Rattle.ca_ids.specs.Wire.{wire_of}
 use Rattle.ca_model_client.proofs.Tables.{find-at, held-apart, held-under, one-by-wire, under-held}
 use Rattle.ca_model_client.proofs.Thinner.{three-ways}
-use Rattle.ca_queue.specs.declared.entry.SubKey.{SubKey}
-use Rattle.ca_queue.specs.Keys.{AreApart, is_among, same}
-use Rattle.ca_queue.proofs.Keys.{same_itself}
+use Rattle.ca_queue.specs.Keys.{same}
 use Rattle.ca_records.specs.Record.{RecordState}
-use Rattle.ca_text.specs.declared.command.Command.TheVariants as command
 use Rattle.ca_text.specs.Place.{At}
 use Rattle.ca_text.proofs.Places.{At-map, At-mapped, At-one, At-within}
-use Rattle.ca_wire.specs.Fields.{Fields}
-use Rattle.ca_model.specs.Due.{KnownChannel, key_in}
-use Rattle.ca_model.specs.History.{Added, Circuit, Entry, Intent, On, Removed, Reply, Sent, Step, Subscribe, Told}
-use Rattle.ca_model.specs.Server.{OpenChannel, ServerEnd, Subscription, key_of}
-use Rattle.ca_model.specs.ServerSteps.{HasEnd, known_channel, knows}
-use Rattle.ca_model.specs.Speech.{Clears, Creates, Ends, In, Is, name_in, sid_in}
+use Rattle.ca_model.specs.Due.{KnownChannel}
+use Rattle.ca_model.specs.History.{Added, Circuit, Entry, Removed, Reply, Sent, Step, Told}
+use Rattle.ca_model.specs.Server.{OpenChannel, ServerEnd}
+use Rattle.ca_model.specs.ServerSteps.{known_channel}
+use Rattle.ca_model.specs.Speech.{Clears, Creates, In, name_in}
 use Rattle.std.proofs.lemmas.Bool.{eqb-true}
-use Rattle.ca_model_safe.specs.Channels.{Created, Has, IsOpen, Lasts, Suits, before}
-use Rattle.ca_model_safe.specs.Headline.{Accepted, Acted}
-use Rattle.ca_model_safe.specs.Known.{AreJust, IsChannel, IsKey}
-use Rattle.ca_model_world.specs.Events.{Event}
-use Rattle.ca_model_world.specs.Runs.{Runs}
-use Rattle.ca_model_world.specs.World.{Creation, IsSetting, Joined, RecordSide, ServerSide, Setting, Standing, World}
+use Rattle.ca_model_safe.specs.Channels.{Created, Has, IsOpen, Suits}
+use Rattle.ca_model_safe.specs.Known.{AreJust, IsChannel}
+use Rattle.ca_model_world.specs.World.{Creation, Joined, RecordSide}
 use Rattle.ca_laws_kept.specs.Channels.{ChannelsOn, has_sid}
 use Rattle.ca_laws_held.specs.Created.{CreatedOn}
 use Rattle.ca_laws_held.specs.Creations.{CreationsOn}
 use Rattle.ca_laws_held.proofs.CauseOnce.{apart-at}
-use Rattle.ca_laws_writes.specs.Agrees.{Agrees}
-use Rattle.ca_laws_writes.specs.Both.{Both}
-use Rattle.ca_laws_writes.specs.Lives.{IsPutOf}
-use Rattle.ca_laws_writes.proofs.Lists.{At-take, beside-right, both-at, none_at, take-whole}
-use Rattle.ca_laws_follows.specs.Causing.{IsTaken, SourcesOn}
+use Rattle.ca_laws_writes.proofs.Lists.{At-take}
+use Rattle.ca_laws_follows.specs.Causing.{SourcesOn}
 use Rattle.ca_laws_follows.specs.Entries.{titles}
-use Rattle.ca_laws_follows.specs.Follows.{Follows, Stands}
+use Rattle.ca_laws_follows.specs.Follows.{Follows}
 use Rattle.ca_laws_follows.specs.Gone.{GoneOn, IsGone}
-use Rattle.ca_laws_follows.specs.Knew.{EndsKey, UnendedOn}
+use Rattle.ca_laws_follows.specs.Knew.{UnendedOn}
 use Rattle.ca_laws_follows.specs.KnewLists.{as_known}
-use Rattle.ca_laws_follows.specs.Known.{IsOnRecord, IsOrigin, KnownOn}
+use Rattle.ca_laws_follows.specs.Known.{IsOrigin, KnownOn}
 use Rattle.ca_laws_follows.specs.Names.{KeepRecords}
 use Rattle.ca_laws_follows.proofs.Acting.{taken-at, taken-below}
 use Rattle.ca_laws_follows.proofs.CausingKeeps.{Steady}
-use Rattle.ca_laws_follows.proofs.CausingRuns.{accepted-of}
 
 -- ---- beginnings of a log
 
@@ -74,6 +62,16 @@ one-has y n r q name keep f g = elim (three-ways f.1.0 g.1.0) [
   | inr (inl same) ↦ same-added r q f.0 g.0 (At-one (take n y) g.1.0 (Added r f.0) (Added q g.0) (subst (λ (k : ℕ). At (take n y) k (Added r f.0)) same f.1.1) g.1.1)
   | inr (inr gt) ↦ absurd (keep.one_at_once f.1.0 r q f.0 (At-take n y f.1.0 (Added r f.0) f.1.1) (had-it y n g.1.0 f.1.0 q g.0 (f.0).name g.1.1 (g.2 ∙ sym f.2) g.3 gt (taken-below n y f.1.0 (Added r f.0) f.1.1)))
 ]
+
+-- a beginning of a log keeps names
+pub keep-take : (y : List Entry) (n : ℕ) → KeepRecords y → KeepRecords (take n y)
+keep-take y n keep = record {
+  one_record = λ i j r a b first second. keep.one_record i j r a b (At-take n y i (Added r a) first) (At-take n y j (Added r b) second);
+  one_at_once = λ i r q s at has. keep.one_at_once i r q s (At-take n y i (Added r s) at) (subst (λ (l : List Entry). Has l q s.name) (take-twice i n y (let lt : i < n = taken-below n y i (Added r s) at in omega (arith, lt))) has);
+  was_there = λ i r at.
+      let x = keep.was_there i r (At-take n y i (Removed r) at) in
+      (x.0, subst (λ (l : List Entry). Has l r x.0) (sym (take-twice i n y (let lt : i < n = taken-below n y i (Removed r) at in omega (arith, lt)))) x.1);
+}
 
 -- ---- an open end
 

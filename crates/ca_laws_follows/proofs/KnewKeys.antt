@@ -1,25 +1,23 @@
 -- What a server's core knows of the keys of its subscriptions is what the lists say.
-use Rattle.std.proofs.Common.{◌≡◌, ℕ, zero, suc, ◌<◌, ◌≤◌, ◌⊎◌, ◌||◌, inl, inr, Bool, true, false, List, [], ◌∷◌, length, Option, Some, refl, sym, ap, subst, ◌∙◌, arith}
+use Rattle.std.proofs.Common.{◌≡◌, ℕ, zero, suc, ◌<◌, ◌⊎◌, ◌||◌, inl, inr, Bool, true, false, List, [], ◌∷◌, length, refl, sym, ap, subst, ◌∙◌, arith}
 use Rattle.std.specs.Prelude.{map, take}
 use Rattle.ca_queue.specs.declared.entry.SubKey.{SubKey}
 use Rattle.ca_queue.specs.Keys.{AreApart, is_among, same}
 use Rattle.ca_queue.proofs.Keys.{same_itself}
-use Rattle.ca_text.specs.declared.command.Command.TheVariants as command
 use Rattle.ca_text.specs.Place.{At}
 use Rattle.ca_text.proofs.Places.{some_is, At-map, At-mapped, At-one, At-within}
 use Rattle.ca_model.specs.Due.{key_in}
-use Rattle.ca_model.specs.History.{Circuit, Entry, On, Removed, Sent, Step, Subscribe, Told}
-use Rattle.ca_model.specs.Server.{ServerEnd, Subscription, key_of}
-use Rattle.ca_model.specs.Speech.{Clears, Creates, Ends, In, Is, name_in, sid_in}
-use Rattle.ca_model_safe.specs.Channels.{Has, Lasts, Suits}
-use Rattle.ca_model_safe.specs.Headline.{Accepted, Acted}
+use Rattle.ca_model.specs.History.{Circuit, Entry, Removed, Sent}
+use Rattle.ca_model.specs.Server.{ServerEnd, key_of}
+use Rattle.ca_model.specs.Speech.{Ends, In}
+use Rattle.ca_model_safe.specs.Channels.{Suits}
+use Rattle.ca_model_safe.specs.Headline.{Acted}
 use Rattle.ca_model_safe.specs.Known.{AreJust, IsKey}
 use Rattle.ca_model_world.specs.World.{Joined, RecordSide, Standing}
 use Rattle.ca_laws_writes.specs.Both.{Both}
 use Rattle.ca_laws_writes.proofs.Lists.{At-take, beside-right, none_at}
 use Rattle.ca_laws_updates.specs.InStep.{keys_standing}
 use Rattle.ca_laws_follows.specs.Causing.{IsTaken}
-use Rattle.ca_laws_follows.specs.Entries.{titles}
 use Rattle.ca_laws_follows.specs.Knew.{EndsKey}
 use Rattle.ca_laws_follows.specs.KnewLists.{as_known}
 use Rattle.ca_laws_follows.specs.Known.{IsOnRecord}

@@ -1,10 +1,9 @@
 -- What servers know of their open channels and subscriptions, after every run.
-use Rattle.std.proofs.Common.{◌≡◌, ℕ, true, List, Option, Some, refl, sym, ap, subst, ◌∙◌, arith}
+use Rattle.std.proofs.Common.{◌≡◌, ℕ, true, List, Option, refl, sym, ap, subst, ◌∙◌, arith}
 use Rattle.ca_dbr.specs.Elements.{Elements}
 use Rattle.ca_dbr.specs.declared.data_type.DataType.{DataType}
 use Rattle.ca_dbr.specs.Shown.{shown}
 use Rattle.std.specs.Prelude.{Ok, Err, Result}
-use Rattle.ca_records.specs.Puts.{Record}
 use Rattle.ca_text.specs.declared.refusal.Refusal.{Refusal}
 use Rattle.ca_text.specs.Place.{At}
 use Rattle.ca_text.proofs.Places.{At-one}
@@ -17,10 +16,8 @@ use Rattle.ca_model.specs.Speech.{Creates, In, Stored}
 use Rattle.ca_model.specs.Updates.{Shows, ShowsTo, update_count, update_in}
 use Rattle.ca_model_world.specs.Events.{Event}
 use Rattle.ca_model_world.specs.Runs.{Runs}
-use Rattle.ca_model_world.specs.World.{IsSetting, Joined, RecordSide, ServerSide, Setting, World}
-use Rattle.ca_laws_held.proofs.Created.{reached-created}
+use Rattle.ca_model_world.specs.World.{IsSetting, Joined, ServerSide, Setting, World}
 use Rattle.ca_laws_writes.specs.Agrees.{Agrees}
-use Rattle.ca_laws_writes.specs.Both.{Both}
 use Rattle.ca_laws_writes.specs.Lives.{IsPutOf}
 use Rattle.ca_laws_writes.proofs.Lists.{beside-right}
 use Rattle.ca_laws_follows.specs.Causing.{SourcesOn}

@@ -44,3 +44,10 @@ pub mod KnewKeys
 pub mod KnewListsRuns
 pub mod LegalOnward
 pub mod LegalTold
+pub mod AnsweringFrame
+pub mod AnsweringRuns
+pub mod BadChannel
+pub mod ActsRefused
+pub mod LiveRead
+pub mod ActsWhole
+pub mod KnewFull

@@ -1,6 +1,6 @@
 -- The logs of all lives of servers keep that records have their names, over every event and every run.
 use Rattle.std.proofs.Common.{◌≡◌, ℕ, zero, suc, ◌+◌, ◌<◌, ◌⊎◌, inl, inr, Bool, List, [], ◌∷◌, ◌++◌, length, Option, Some, None, refl, sym, ap, subst, ◌∙◌, arith}
-use Rattle.std.specs.Prelude.{filter, map, option_map, slice_get, take, unwrap_or}
+use Rattle.std.specs.Prelude.{filter, option_map, slice_get, unwrap_or}
 use Rattle.std.specs.List.{FoldsTo, flat_map}
 use Rattle.ca_arena.specs.declared.handle.Handle.{Handle}
 use Rattle.ca_dbr.specs.Elements.{Elements}
@@ -21,8 +21,7 @@ use Rattle.ca_model.specs.ServerSteps.{Stepped, closed}
 use Rattle.ca_model.specs.ServerSteps as stepped
 use Rattle.ca_model.specs.Speech.{In}
 use Rattle.ca_model_safe.specs.Channels.{Has}
-use Rattle.ca_model_client.proofs.Thinner.{three-ways}
-use Rattle.ca_model_world.specs.ClientEvents.{DownTaken, up_taken}
+use Rattle.ca_model_world.specs.ClientEvents.{DownTaken}
 use Rattle.ca_model_world.specs.Events.{Event}
 use Rattle.ca_model_world.specs.Events as event
 use Rattle.ca_model_world.specs.Runs.{CanBe, Happens, Leaves, Runs, StopsAt, clients_below}
@@ -37,7 +36,7 @@ use Rattle.ca_laws_writes.specs.Seats.{AsGiven}
 use Rattle.ca_laws_writes.proofs.Events.{numbered-at}
 use Rattle.ca_laws_writes.proofs.Every.{ticks-frame}
 use Rattle.ca_laws_writes.proofs.HappensClient.{begun-frame, clear-frame, cut-frame, datagram-frame, handing-frame, hear-frame, open-frame, put-frame, read-frame, subscribe-frame, unsubscribe-frame, up-frame, write-frame}
-use Rattle.ca_laws_writes.proofs.Lists.{At-take, beside-right, none_at}
+use Rattle.ca_laws_writes.proofs.Lists.{At-take, beside-right}
 use Rattle.ca_laws_writes.proofs.Midway.{grown-here}
 use Rattle.ca_laws_follows.specs.Listed.{AllListed}
 use Rattle.ca_laws_follows.specs.Names.{AllKeepRecords, KeepRecords, NamesAreKept}

@@ -1,12 +1,12 @@
 -- A log that grows by one entry keeps that records have their names: what may come next.
-use Rattle.std.proofs.Common.{◌≡◌, ℕ, zero, suc, ◌+◌, ◌<◌, ◌≤◌, ◌⊎◌, inl, inr, Bool, true, false, cond, List, [], ◌∷◌, ◌++◌, length, Some, refl, sym, ap, subst, ◌∙◌, append-nil, append_assoc, arith}
+use Rattle.std.proofs.Common.{◌≡◌, ℕ, zero, suc, ◌<◌, ◌⊎◌, inl, inr, Bool, true, false, cond, List, [], ◌∷◌, ◌++◌, length, refl, sym, ap, subst, ◌∙◌, append-nil, append_assoc, arith}
 use Rattle.std.specs.Prelude.{filter, map, take}
 use Rattle.std.specs.List.{flat_map}
 use Rattle.std.specs.Str.{bytes_eq}
 use Rattle.std.proofs.lemmas.Slice.Eq.{bytes_eq-Decides}
 use Rattle.ca_records.specs.Record.{RecordState}
 use Rattle.ca_text.specs.Place.{At}
-use Rattle.ca_text.proofs.Places.{some_is, At-append, At-mapped, At-parts, At-snoc, At-within}
+use Rattle.ca_text.proofs.Places.{some_is, At-mapped, At-parts, At-snoc, At-within}
 use Rattle.ca_model.specs.History.{Added, Applied, Entry, Finished, Posted, Removed, Waits, Withdrawn}
 use Rattle.ca_model.specs.Speech.{In}
 use Rattle.ca_model_safe.specs.Channels.{Has}

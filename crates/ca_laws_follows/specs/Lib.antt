@@ -14,3 +14,8 @@ pub mod LegalEnds
 pub mod Names
 pub mod Gone
 pub mod KnewLists
+pub mod Answering
+pub mod Refused
+pub mod LiveRead
+pub mod Whole
+pub mod KnewFull
