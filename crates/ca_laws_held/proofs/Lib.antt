@@ -80,3 +80,9 @@ pub mod OnceNoticedRuns
 pub mod LegalServers
 pub mod LegalRemovals
 pub mod Refused
+pub mod OpenLive
+pub mod Going
+pub mod OpenRuns
+pub mod ToldAsked
+pub mod ToldRequests
+pub mod ToldWhole

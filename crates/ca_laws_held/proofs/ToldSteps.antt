@@ -263,7 +263,7 @@ module _ (w new : World) (k : ℕ) (j : Joined) (x : ClientSide) (on : At w.circ
   -- ---- channels and subscriptions
 
   -- the channel of a handle that is held was not cleared
-  created-held : (log : List Line) (h : Handle) (ch : Channel) → At w.client_logs x.life log → under x.core.channels h ≡ Some ch → is_gone ch.standing ≡ false → IsHeld log (history.On (channel_number x.names h) history.Create)
+  pub created-held : (log : List Line) (h : Handle) (ch : Channel) → At w.client_logs x.life log → under x.core.channels h ≡ Some ch → is_gone ch.standing ≡ false → IsHeld log (history.On (channel_number x.names h) history.Create)
   created-held log h ch logged there is_held = λ clear.
       let tidy : Tidy x.names x.core = quiet.tidy j.client x at in
       let a : ℕ = channel_number x.names h in
@@ -272,7 +272,7 @@ module _ (w new : World) (k : ℕ) (j : Joined) (x : ClientSide) (on : At w.circ
       both_ways (is_gone ch.standing) is_held (u.2 ch (subst (λ (k : Handle). under x.core.channels k ≡ Some ch) (sym same) there))
 
   -- a message that is no SERVER_DISCONN and no EVENT_ADD is a reply
-  reply-of : (command_is : ℕ) → next.m.command ≡ command_is → (command_is ≡ 27 → ⊥) → (command_is ≡ 1 → ⊥) → next.t.cause ≡ Reply
+  pub reply-of : (command_is : ℕ) → next.m.command ≡ command_is → (command_is ≡ 27 → ⊥) → (command_is ≡ 1 → ⊥) → next.t.cause ≡ Reply
   reply-of number is gone adds = elim (caused.each k j on (length j.lists.heard) next.t next.told) [
     | inl reply ↦ reply
     | inr (inl lost) ↦ absurd (gone (sym is ∙ ap (λ (m : Fields). m.command) (sym next.is) ∙ lost))

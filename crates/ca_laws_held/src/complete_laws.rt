@@ -1,0 +1,14 @@
+ghost use Rattle.std.specs.Prelude.{List, Option};
+ghost use Rattle.ca_model_world.specs.Events.{Event};
+ghost use Rattle.ca_model_world.specs.Runs.{AreEvents, Runs};
+ghost use Rattle.ca_model_world.specs.World.{IsSetting, Setting, World};
+ghost use Rattle.ca_laws_held.specs.ToldParts.{RequestsAreTold};
+
+/// After every run from a well-formed setting by well-formed events, each notice of a read, a put or a
+/// plain write that does not tell Disconnected was told when a message was read: the reply to that very
+/// request, or the ERROR that quotes it, whose caller had not cleared the channel; and it is what that
+/// message means. This is `told` of the statement's clause `CompletesOnce`, of these notices.
+pub fn requests_are_told_of_their_own()
+    ensures { (s : Setting) (es : List Event) (stopped : Option Event) (w : World) → IsSetting s
+        → AreEvents es → Runs s es stopped w → RequestsAreTold w }
+{}
