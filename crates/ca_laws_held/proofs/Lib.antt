@@ -86,3 +86,4 @@ pub mod OpenRuns
 pub mod ToldAsked
 pub mod ToldRequests
 pub mod ToldWhole
+pub mod ToldTwice

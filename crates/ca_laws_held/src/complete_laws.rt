@@ -2,7 +2,7 @@ ghost use Rattle.std.specs.Prelude.{List, Option};
 ghost use Rattle.ca_model_world.specs.Events.{Event};
 ghost use Rattle.ca_model_world.specs.Runs.{AreEvents, Runs};
 ghost use Rattle.ca_model_world.specs.World.{IsSetting, Setting, World};
-ghost use Rattle.ca_laws_held.specs.ToldParts.{RequestsAreTold};
+ghost use Rattle.ca_laws_held.specs.ToldParts.{RequestsAreTold, UsesAreToldOnce};
 
 /// After every run from a well-formed setting by well-formed events, each notice of a read, a put or a
 /// plain write that does not tell Disconnected was told when a message was read: the reply to that very
@@ -11,4 +11,11 @@ ghost use Rattle.ca_laws_held.specs.ToldParts.{RequestsAreTold};
 pub fn requests_are_told_of_their_own()
     ensures { (s : Setting) (es : List Event) (stopped : Option Event) (w : World) → IsSetting s
         → AreEvents es → Runs s es stopped w → RequestsAreTold w }
+{}
+
+/// After every such run, a client tells of each read, put, plain write and subscription once at most.
+/// This is `once` of the clause, whole.
+pub fn uses_are_told_of_once()
+    ensures { (s : Setting) (es : List Event) (stopped : Option Event) (w : World) → IsSetting s
+        → AreEvents es → Runs s es stopped w → UsesAreToldOnce w }
 {}
