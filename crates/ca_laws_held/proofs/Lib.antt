@@ -87,3 +87,4 @@ pub mod ToldAsked
 pub mod ToldRequests
 pub mod ToldWhole
 pub mod ToldTwice
+pub mod ToldWrites

@@ -1,10 +1,13 @@
 -- Statement: what a client's log tells of requests and plain writes: parts of what is said of it, as the statement says it of this world.
 use Rattle.std.specs.Prelude.{ℕ, ◌≡◌, ◌≢◌, List}
 use Rattle.ca_dbr.specs.declared.value.Outcome.{Outcome}
-use Rattle.ca_dbr.specs.declared.value.Outcome.TheVariants.{Disconnected}
+use Rattle.ca_dbr.specs.declared.value.Outcome.TheVariants.{Disconnected, Done, Failed}
+use Rattle.ca_text.specs.declared.status.Status.{Status}
 use Rattle.ca_text.specs.Place.{At}
-use Rattle.ca_model.specs.History.{Intent, Line, Noticed, Reply}
-use Rattle.ca_model_safe.specs.Channels.{IsRequest, IsUse, OfClients}
+use Rattle.ca_model.specs.History.{Intent, Line, Noticed, On, Put, Reply, Request}
+use Rattle.ca_model.specs.History as history
+use Rattle.ca_model.specs.Speech.{In, Stored}
+use Rattle.ca_model_safe.specs.Channels.{IsApplied, IsRequest, IsUse, OfClients, Stands}
 use Rattle.ca_model_world.specs.World.{World, told}
 use Rattle.ca_laws_held.specs.ToldLines.{IsToldOf}
 
@@ -17,3 +20,13 @@ RequestsAreTold w = OfClients (told w) (λ (life : ℕ) (x : List Line). (i : �
 abbrev pub UsesAreToldOnce : World → Type 0
 UsesAreToldOnce w = OfClients (told w) (λ (life : ℕ) (x : List Line). (i l : ℕ) (intent : Intent) (o p : Outcome) → IsUse intent
     → At x i (Noticed intent o) → At x l (Noticed intent p) → i ≡ l)
+
+-- A put that completed Done was applied.
+abbrev pub DoneIsApplied : history.World → Type 0
+DoneIsApplied w = (life channel number : ℕ) (x : List Line) → At w.clients life x → In x (Noticed (On channel (Request Put number)) Done)
+    → (n k l i r : ℕ) × (v : Stored) × Stands w life (On channel (Request Put number)) n k × IsApplied w n k l i r v
+
+-- A put or a write that was told Failed was not.
+abbrev pub FailedIsNot : history.World → Type 0
+FailedIsNot w = (life n k l i r : ℕ) (intent : Intent) (s : Status) (x : List Line) (v : Stored) → At w.clients life x → In x (Noticed intent (Failed s))
+    → Stands w life intent n k → IsApplied w n k l i r v → ⊥

@@ -1,8 +1,8 @@
 ghost use Rattle.std.specs.Prelude.{List, Option};
 ghost use Rattle.ca_model_world.specs.Events.{Event};
 ghost use Rattle.ca_model_world.specs.Runs.{AreEvents, Runs};
-ghost use Rattle.ca_model_world.specs.World.{IsSetting, Setting, World};
-ghost use Rattle.ca_laws_held.specs.ToldParts.{RequestsAreTold, UsesAreToldOnce};
+ghost use Rattle.ca_model_world.specs.World.{IsSetting, Setting, World, told};
+ghost use Rattle.ca_laws_held.specs.ToldParts.{DoneIsApplied, FailedIsNot, RequestsAreTold, UsesAreToldOnce};
 
 /// After every run from a well-formed setting by well-formed events, each notice of a read, a put or a
 /// plain write that does not tell Disconnected was told when a message was read: the reply to that very
@@ -18,4 +18,14 @@ pub fn requests_are_told_of_their_own()
 pub fn uses_are_told_of_once()
     ensures { (s : Setting) (es : List Event) (stopped : Option Event) (w : World) → IsSetting s
         → AreEvents es → Runs s es stopped w → UsesAreToldOnce w }
+{}
+
+/// After every such run a put whose caller was told Done was applied, and a put or a plain write whose
+/// caller was told of a failure never is. These are `done` and `failed` of the statement's clause
+/// `NotTwice`.
+pub fn callers_are_told_what_became_of_their_writes()
+    ensures done { (s : Setting) (es : List Event) (stopped : Option Event) (w : World)
+        → IsSetting s → AreEvents es → Runs s es stopped w → DoneIsApplied (told w) }
+    ensures failed { (s : Setting) (es : List Event) (stopped : Option Event) (w : World)
+        → IsSetting s → AreEvents es → Runs s es stopped w → FailedIsNot (told w) }
 {}
