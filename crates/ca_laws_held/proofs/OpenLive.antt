@@ -62,8 +62,8 @@ opens-then x y z a b = record {
         v.3 ∙ w.3,
         v.4 ∙ w.4,
         λ l.
-        subst (λ (k : Handle × Handle). IsLiveOn z.channels k.0 k.1) (λ i. (w.4 i, w.3 i))
-        (v.5 (subst (λ (k : Handle × Handle). IsLiveOn y.channels k.0 k.1) (λ i. (sym w.4 i, sym w.3 i)) (w.5 l))),
+            subst (λ (k : Handle × Handle). IsLiveOn z.channels k.0 k.1) (λ i. (w.4 i, w.3 i))
+            (v.5 (subst (λ (k : Handle × Handle). IsLiveOn y.channels k.0 k.1) (λ i. (sym w.4 i, sym w.3 i)) (w.5 l))),
       );
 }
 

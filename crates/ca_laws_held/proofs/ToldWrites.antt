@@ -96,7 +96,7 @@ module _ (s : Setting) (w : World) (h : Sound s w) (says : Says w) (asked : AllA
   -- A put that is told Done is applied.
   pub told-done : (life channel number : ℕ) (x : List Line) → At w.client_logs life x → In x (Noticed (On channel (Request Put number)) Done)
       → (n k l i r : ℕ) × (v : Stored) × Stands (told w) life (On channel (Request Put number)) n k × IsAppliedIn (told w) n k l i r v
-  told-done life channel number x at line = 
+  told-done life channel number x at line =
       let by = tells life x at line.0 (On channel (Request Put number)) Done line.1 tt (λ e. (let f : Done ≡ Disconnected = e in cc)) in
       let t = told-by life x line.0 (On channel (Request Put number)) Done by.0 by.1 in
       let asks : Is command.WriteNotify t.q.message = subst (λ (z : Intent). Suits z t.q.message) t.meant (asked t.n t.k t.c t.q t.on t.sent) in
@@ -105,7 +105,7 @@ module _ (s : Setting) (w : World) (h : Sound s w) (says : Says w) (asked : AllA
 
   -- A write that is told Failed is not applied.
   pub told-failed : (life n k l i r : ℕ) (intent : Intent) (status : Status) (x : List Line) (v : Stored) → At w.client_logs life x → In x (Noticed intent (Failed status)) → Stands (told w) life intent n k → IsAppliedIn (told w) n k l i r v → ⊥
-  told-failed life n k l i r intent status x v at line stands applied = 
+  told-failed life n k l i r intent status x v at line stands applied =
       let own = own-message w h.writes.logs n k l i r v applied in
       let c = At-mapped circuit_of w.circuits n stands.0 stands.1 in
       let same : c.0 ≡ own.c = At-one w.circuits n c.0 own.c c.1 own.on in
