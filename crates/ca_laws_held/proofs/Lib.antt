@@ -88,3 +88,5 @@ pub mod ToldRequests
 pub mod ToldWhole
 pub mod ToldTwice
 pub mod ToldWrites
+pub mod Farewell
+pub mod Parting
