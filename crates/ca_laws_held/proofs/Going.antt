@@ -30,6 +30,7 @@ use Rattle.ca_laws_circuit.specs.Held.{with_request, with_subscription}
 use Rattle.ca_laws_runs.specs.Clients.{ClientsStand}
 use Rattle.ca_laws_runs.proofs.ClientsKeep.{none-under}
 use Rattle.ca_laws_runs.proofs.ClientsMore.{unconnected-is, wanted-there}
+use Rattle.ca_laws_held.specs.Quiet.{IsAnswered}
 use Rattle.ca_laws_held.proofs.OnceStill.{still-add, still-cut-server, still-finish, still-post, still-pump, still-remove, still-server-restart, still-server-step}
 use Rattle.ca_laws_held.proofs.OpenLive.{AreOpenLive, IsLiveOn, Opens, opens-all-received, opens-cleared, opens-connected, opens-ended, opens-given, opens-handed, opens-heard, opens-itself, opens-live, opens-opened, opens-same, opens-sending, opens-then, opens-ticked, opens-unsubscribed}
 
@@ -45,6 +46,7 @@ pub record IsIssued (n : Names) (x : Client) (now : Names) (y : Client) : Type 0
   pub live : IsLive x h l
   pub may : MayGive x.requests q
   pub names : now.requests ≡ n.requests ++ (q, intent) ∷ []
+  pub meant : (a : ℕ) × (kind : history.Kind) × IsAnswered kind × (intent ≡ history.On a (history.Request kind (length n.requests)))
   pub channels : y.channels ≡ x.channels
   pub requests : y.requests ≡ with_held q (new_request h l.circuit asked) x.requests
 
@@ -106,7 +108,7 @@ module _ (w new : World) (i : ℕ) (x : ClientSide) (at : At w.clients i x) wher
         let intent : Intent = history.On c (history.Request history.Read (length x.names.requests)) in
         go-called w new i x (with_request did.0 intent x.names) did.2 at (ap (λ (z : World). z.clients) did.4)
         (subst (λ (v : Client). Goes x.names x.core (with_request did.0 intent x.names) v) (sym reads.4.1)
-        (inr (record { h = h; q = did.0; l = reads.0; asked = request.Read data_type count; intent = intent; live = reads.1; may = reads.3; names = refl; channels = refl; requests = refl })))
+        (inr (record { h = h; q = did.0; l = reads.0; asked = request.Read data_type count; intent = intent; meant = (c, history.Read, tt, refl); live = reads.1; may = reads.3; names = refl; channels = refl; requests = refl })))
   ]
 
   go-put : (c : ℕ) (h : Handle) (e : Elements) → HappensWriteNotify w i x c h e new → ClientsGo w new
@@ -117,7 +119,7 @@ module _ (w new : World) (i : ℕ) (x : ClientSide) (at : At w.clients i x) wher
         let intent : Intent = history.On c (history.Request history.Put (length x.names.requests)) in
         go-called w new i x (with_request did.0 intent x.names) did.2 at (ap (λ (z : World). z.clients) did.4)
         (subst (λ (v : Client). Goes x.names x.core (with_request did.0 intent x.names) v) (sym puts.4.1)
-        (inr (record { h = h; q = did.0; l = puts.0; asked = request.Put; intent = intent; live = puts.1; may = puts.3; names = refl; channels = refl; requests = refl })))
+        (inr (record { h = h; q = did.0; l = puts.0; asked = request.Put; intent = intent; meant = (c, history.Put, tt, refl); live = puts.1; may = puts.3; names = refl; channels = refl; requests = refl })))
   ]
 
   go-write : (c : ℕ) (h : Handle) (e : Elements) → HappensWrite w i x c h e new → ClientsGo w new

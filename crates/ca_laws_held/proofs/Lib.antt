@@ -90,3 +90,4 @@ pub mod ToldTwice
 pub mod ToldWrites
 pub mod Farewell
 pub mod Parting
+pub mod Spent
