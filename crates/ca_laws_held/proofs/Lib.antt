@@ -91,3 +91,4 @@ pub mod ToldWrites
 pub mod Farewell
 pub mod Parting
 pub mod Spent
+pub mod Lost

@@ -184,7 +184,7 @@ module _ (w new : World) (k : ℕ) (j : Joined) (x : ClientSide) (on : At w.circ
       (b.0, b.1, subst (λ (z : Joined). GoesOn z b.0) (At-one mid.circuits k c.0 _ c.1 (set-here w.circuits k j (heard_in (hear-step w new k j x on at f) j) on)) c.2)
 
   -- a line of the log
-  log-is : (life : ℕ) (log : List Line) → life ≡ x.life → At w.client_logs life log → log_length x.life w.client_logs ≡ length log
+  pub log-is : (life : ℕ) (log : List Line) → life ≡ x.life → At w.client_logs life log → log_length x.life w.client_logs ≡ length log
   log-is life log is there = ap (λ (n : ℕ). log_length n w.client_logs) (sym is) ∙ ap (λ (o : Option (List Line)). length (unwrap_or o [])) there
 
   -- It was told when the message was read, if it is the first, and tells what was meant by what the message is about.

@@ -1,3 +1,4 @@
+use Rattle.ca_laws_held.proofs.Lost.{lost-heard, lost-parts}
 use Rattle.ca_laws_held.proofs.Spent.{reads-event, spent-on}
 use Rattle.ca_laws_held.proofs.Parting.{event-parts, tick-parts}
 use Rattle.ca_laws_held.proofs.Farewell.{ticked-parts}
