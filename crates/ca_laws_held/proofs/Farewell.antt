@@ -1,6 +1,6 @@
 -- What a client tells as its end of a circuit ends, or as it is handed a moment: of open requests that were sent there, and of channels that were live there.
-use Rattle.std.proofs.Common.{◌≡◌, ℕ, inl, inr, ◌⊎◌, Bool, true, false, cond, List, [], ◌∷◌, ◌++◌, Option, Some, None, refl, sym, ap, ◌∙◌, subst}
-use Rattle.std.specs.Prelude.{fold, is_none, map, not, option_and_then, option_map, unwrap_or}
+use Rattle.std.proofs.Common.{◌≡◌, ℕ, inl, inr, ◌⊎◌, Bool, true, false, cond, List, [], ◌∷◌, Option, Some, None, refl, sym, ap, ◌∙◌, subst}
+use Rattle.std.specs.Prelude.{fold, is_none, map, not, option_map, unwrap_or}
 use Rattle.std.proofs.lemmas.Bool.{both_ways}
 use Rattle.ca_arena.specs.declared.handle.Handle.{Handle}
 use Rattle.ca_dbr.specs.declared.value.Outcome.TheVariants as outcome
@@ -16,7 +16,7 @@ use Rattle.ca_wire.specs.Messages.{bare}
 use Rattle.ca_model.specs.Answers.{Left, Notice}
 use Rattle.ca_model.specs.Answers as notice
 use Rattle.ca_model.specs.Client.{Channel, Client, ClientCircuit, Clearing, Connecting, Connection, Creating, Doomed, Leaving, Live, Native, On, Phase, Searching, Standing, channels_ended, channels_on, connection_at, disconnections, ended, farewell, is_cleared, is_live, is_on_in, later, let_go, on_connection, out_bytes, phase_on, searched_again, sending, without_channel, without_ids}
-use Rattle.ca_model.specs.ClientEnds.{Ticking, circuits_ticked, falls_silent, of_circuit, ticks, ticks_as}
+use Rattle.ca_model.specs.ClientEnds.{Ticking, circuits_ticked, of_circuit, ticks, ticks_as}
 use Rattle.ca_model_client.proofs.Handles.{same-is}
 use Rattle.ca_model_client.proofs.Placed.{keeps-on, keeps-sending}
 use Rattle.ca_model_client.proofs.Standings.{on-circuit}

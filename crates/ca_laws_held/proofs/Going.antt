@@ -1,6 +1,6 @@
 -- What each event makes of the clients of a world: requests that were issued and open stay so, with their channels live, or are over; one is new by a read or a put.
 use Rattle.std.proofs.Common.{◌≡◌, ℕ, ◌+◌, ◌⊎◌, inl, inr, Bool, true, false, cond, List, [], ◌∷◌, ◌++◌, length, Option, Some, None, refl, sym, ap, ◌∙◌, subst}
-use Rattle.std.specs.Prelude.{Ok, drop, is_none, map, slice_set}
+use Rattle.std.specs.Prelude.{drop, is_none, map, slice_set}
 use Rattle.std.specs.List.{FoldsTo}
 use Rattle.std.proofs.lemmas.Bool.{both_ways}
 use Rattle.ca_text.specs.Place.{At}
@@ -11,8 +11,8 @@ use Rattle.ca_ids.specs.Table.{MayGive, Table, under, with_held}
 use Rattle.ca_requests.specs.Calls.{new_request}
 use Rattle.ca_requests.specs.Requests.{Asked, Request, is_open_in}
 use Rattle.ca_requests.specs.Requests as request
-use Rattle.ca_model.specs.Answers.{Closed, Closing, NeedBytes, Notice, Notices, Sending, Stepped}
-use Rattle.ca_model.specs.Client.{Channel, Client, ClientCircuit, Connection, Live, On, Standing, connection_at, ended, later, sending, standing_at}
+use Rattle.ca_model.specs.Answers.{Closed, NeedBytes, Notices, Sending, Stepped}
+use Rattle.ca_model.specs.Client.{Channel, Client, ClientCircuit, Connection, Live, On, Standing, connection_at, later, sending, standing_at}
 use Rattle.ca_model.specs.ClientCalls.{IsLive, LiveChannel, cancel_sent, event_add_sent, new_subscription, unsubscribed, write_sent}
 use Rattle.ca_model.specs.ClientEnds.{ConnectsOn, StepsOn, after_taking, handed_over}
 use Rattle.ca_model.specs.Ends.{Address}
@@ -21,7 +21,7 @@ use Rattle.ca_model.specs.History.{Intent}
 use Rattle.ca_model.specs.History as history
 use Rattle.ca_model_client.proofs.Standings.{found-standing}
 use Rattle.ca_model_client.proofs.Tables.{held-back}
-use Rattle.ca_model_world.specs.ClientEvents.{DownTaken, HappensAccept, HappensClear, HappensClientDatagram, HappensClientRestart, HappensClientStep, HappensCutClient, HappensDown, HappensOpen, HappensRead, HappensSubscribe, HappensUnsubscribe, HappensUp, HappensWrite, HappensWriteNotify, Outcomes, TicksOne, WantsFirst, client_after, client_stepped}
+use Rattle.ca_model_world.specs.ClientEvents.{DownTaken, HappensAccept, HappensClear, HappensClientDatagram, HappensClientRestart, HappensClientStep, HappensCutClient, HappensDown, HappensOpen, HappensRead, HappensSubscribe, HappensUnsubscribe, HappensUp, HappensWrite, HappensWriteNotify, TicksOne, WantsFirst, client_stepped}
 use Rattle.ca_model_world.specs.Events.{Event}
 use Rattle.ca_model_world.specs.Events as event
 use Rattle.ca_model_world.specs.Runs.{Happens}

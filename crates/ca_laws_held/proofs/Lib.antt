@@ -92,3 +92,5 @@ pub mod Farewell
 pub mod Parting
 pub mod Spent
 pub mod Lost
+pub mod ToldNotices
+pub mod LostRuns

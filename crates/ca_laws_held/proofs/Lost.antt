@@ -1,5 +1,5 @@
 -- What is told to be lost is lost: its circuit has ended at the client, its channel was cleared before, or the SERVER_DISCONN for its channel was read.
-use Rattle.std.proofs.Common.{◌≡◌, ℕ, ◌+◌, ◌<◌, ◌≤◌, ◌⊎◌, inl, inr, false, true, List, [], ◌∷◌, ◌++◌, length, Option, Some, None, refl, sym, ap, ◌∙◌, subst, arith}
+use Rattle.std.proofs.Common.{◌≡◌, ℕ, ◌+◌, ◌<◌, ◌≤◌, ◌⊎◌, inl, inr, false, true, List, ◌++◌, length, Some, None, refl, sym, ap, ◌∙◌, subst, arith}
 use Rattle.std.specs.Prelude.{take}
 use Rattle.ca_text.specs.Place.{At}
 use Rattle.ca_text.specs.declared.command.Command.TheVariants as command
@@ -9,11 +9,11 @@ use Rattle.ca_dbr.specs.declared.value.Outcome.{Outcome}
 use Rattle.ca_dbr.specs.declared.value.Outcome.TheVariants as outcome
 use Rattle.ca_ids.specs.Table.{same_handle, under}
 use Rattle.ca_requests.specs.Meaning.{Means}
-use Rattle.ca_requests.specs.Requests.{Request, asks_on, is_open_in, was_sent_on}
+use Rattle.ca_requests.specs.Requests.{Request, asks_on, was_sent_on}
 use Rattle.ca_wire.specs.Fields.{Fields}
 use Rattle.ca_model.specs.Answers.{Notice}
 use Rattle.ca_model.specs.Answers as notice
-use Rattle.ca_model.specs.Client.{Client, Live}
+use Rattle.ca_model.specs.Client.{Live}
 use Rattle.ca_model.specs.ClientEnds.{after_taking}
 use Rattle.ca_model.specs.Hears.{Effect}
 use Rattle.ca_model.specs.History.{Ask, Called, Clear, Create, Intent, Kind, Line, Noticed, OfCircuit, On, Removal, Sent, Step, Told}
@@ -23,8 +23,8 @@ use Rattle.ca_model_safe.specs.Channels.{IsLost, Suits}
 use Rattle.ca_model_client.proofs.Handles.{same-is, same-itself}
 use Rattle.ca_model_client.proofs.Standings.{channel-on}
 use Rattle.ca_model_client.proofs.Thinner.{three-ways}
-use Rattle.ca_model_world.specs.ClientEvents.{about_at, channel_number, heard_in, line_of, meant_by}
-use Rattle.ca_model_world.specs.World.{ClientSide, Joined, Names, World, circuit_of, log_length, told}
+use Rattle.ca_model_world.specs.ClientEvents.{about_at, channel_number, line_of, meant_by}
+use Rattle.ca_model_world.specs.World.{ClientSide, Joined, World, circuit_of, log_length, told}
 use Rattle.ca_laws_bytes.specs.Runs.{HearsSent}
 use Rattle.ca_laws_bytes.specs.ServerFits.{AllCaused}
 use Rattle.ca_laws_kept.specs.Kept.{kept}
@@ -42,8 +42,8 @@ use Rattle.ca_laws_held.proofs.OrderKeeps.{IsHearing, hear-lines, hear-step}
 use Rattle.ca_laws_held.proofs.Parting.{IsAway, IsCut, Parted, PartsFrom}
 use Rattle.ca_laws_held.proofs.Spent.{AllSpent, Known, open-circuit, request-sent}
 use Rattle.ca_laws_held.proofs.ToldAsked.{IsLeft, IsOpenIn, tells-asked}
-use Rattle.ca_laws_held.proofs.ToldGrows.{Onward, WorldsOn}
-use Rattle.ca_laws_held.proofs.ToldLines.{IsSilent, lines-grown}
+use Rattle.ca_laws_held.proofs.ToldGrows.{WorldsOn}
+use Rattle.ca_laws_held.proofs.ToldLines.{lines-grown}
 use Rattle.ca_laws_held.proofs.ToldRemoval.{AllRemovals}
 use Rattle.ca_laws_held.proofs.ToldSteps.{after, log-is, next, noticed-intent, noticed-outcome}
 

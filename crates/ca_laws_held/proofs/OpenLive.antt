@@ -3,13 +3,12 @@ use Rattle.std.proofs.Common.{◌≡◌, ℕ, inl, inr, Bool, true, false, cond,
 use Rattle.std.specs.Prelude.{◌==◌, Ok, filter, fold, is_some, length, not, option_map, unwrap_or}
 use Rattle.std.proofs.lemmas.Bool.{both_ways}
 use Rattle.ca_arena.specs.declared.handle.Handle.{Handle}
-use Rattle.ca_ids.specs.Table.{MayGive, Table, same_handle, under, with_all_freed, with_changed, with_freed, with_held}
+use Rattle.ca_ids.specs.Table.{Table, same_handle, under, with_all_freed}
 use Rattle.ca_link.specs.declared.keep.Keep.{Keep}
 use Rattle.ca_link.specs.declared.keep.Keep.TheVariants.{Close, Echo, Idle}
 use Rattle.ca_link.specs.Link.{kept, with_handed}
 use Rattle.ca_monitor.specs.Subscriptions.{confirmed_by}
 use Rattle.ca_monitor.specs.Subscriptions as monitor
-use Rattle.ca_requests.specs.Calls.{new_request}
 use Rattle.ca_requests.specs.Requests.{Asked, Request, answered_by, asks_on, is_open_in, was_sent_on}
 use Rattle.ca_requests.specs.Requests as request
 use Rattle.ca_search.specs.Searches as search
@@ -20,7 +19,7 @@ use Rattle.ca_wire.specs.Messages.{bare, search_request}
 use Rattle.ca_model.specs.Answers.{Closing, Notice, Sending}
 use Rattle.ca_model.specs.Client.{Channel, Client, ClientCircuit, Clearing, Connecting, Connection, Creating, Doomed, Leaving, Live, On, Phase, Searching, Standing, channel_on, channels_ended, channels_on, circuit_to, connection_at, disconnected, ended, found_on, is_cleared, is_live, later, let_go, on_connection, searched_again, sending, standing_at, with_one_sent, with_requests, with_standing, without_channel, without_circuit, without_ids}
 use Rattle.ca_model.specs.Client as phase
-use Rattle.ca_model.specs.ClientCalls.{ClientClears, ClientOpens, ClientSubscribes, ClientUnsubscribes, ClientWrites, Opening, Shape, all_over, cleared, clearing_sent, cancel_sent, event_add_sent, is_over, new_subscription, opened, unsubscribed, unsubscribed_all, unwanted, write_sent}
+use Rattle.ca_model.specs.ClientCalls.{ClientOpens, Opening, cleared, clearing_sent, is_over, opened, unsubscribed, unsubscribed_all, unwanted}
 use Rattle.ca_model.specs.ClientEnds.{ConnectsOn, GivesOn, Receives, ReceivesAll, Ticking, all_searched_on, beacon_heard, begun, circuits_ticked, creations, due, echoes, falls_silent, flow_sent, given, handed_over, is_name_connected, of_circuit, searches_made, searches_on, set_up, ticks, ticks_as, with_sending}
 use Rattle.ca_model.specs.ClientEnds as ends
 use Rattle.ca_model.specs.Ends.{Address}
@@ -30,7 +29,7 @@ use Rattle.ca_model_client.proofs.Handles.{handle-or, same-itself}
 use Rattle.ca_model_client.proofs.Standings.{channel-on, found-standing, searched-is}
 use Rattle.ca_model_client.proofs.Tables.{all-back, all-freed-back, freed-back}
 use Rattle.ca_laws_held.specs.Sides.{IsLiveAs}
-use Rattle.ca_laws_held.proofs.Live.{NoLive, NotLive, SameLive, channels-sending, none-live, not-phase, not-searched, other-there, same-begun, same-ended, same-gone, same-held, same-rights}
+use Rattle.ca_laws_held.proofs.Live.{NotLive, SameLive, none-live, not-phase, not-searched, other-there, same-begun, same-ended, same-gone, same-held, same-rights}
 
 -- The channel of this handle is live on this circuit.
 abbrev pub IsLiveOn : Table Channel → (on h : Handle) → Type 0

@@ -1,7 +1,6 @@
 -- In every run each open request is on a channel that is live on the circuit on which it was sent.
-use Rattle.std.proofs.Common.{◌≡◌, ℕ, ◌+◌, inl, inr, List, [], ◌∷◌, Option, Some, refl, sym, subst}
+use Rattle.std.proofs.Common.{inl, inr, List, [], ◌∷◌, Option, Some, sym, subst}
 use Rattle.std.specs.List.{FoldsTo}
-use Rattle.ca_text.specs.Place.{At}
 use Rattle.ca_model_world.specs.Events.{Event}
 use Rattle.ca_model_world.specs.Events as event
 use Rattle.ca_model_world.specs.Runs.{Happens, Runs, StopsAt, clients_below}

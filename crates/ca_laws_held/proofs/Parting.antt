@@ -1,5 +1,5 @@
 -- What an event adds to the logs of clients, but for a message that is read: nothing that is told, or that something is lost as an end of a circuit ended or a channel was cleared.
-use Rattle.std.proofs.Common.{◌≡◌, ℕ, zero, suc, ◌+◌, ◌<◌, ◌≤◌, ◌⊎◌, inl, inr, Bool, true, false, ◌&&◌, cond, eqb, List, [], ◌∷◌, ◌++◌, length, Option, Some, None, refl, sym, ap, ◌∙◌, subst, arith}
+use Rattle.std.proofs.Common.{◌≡◌, ℕ, zero, suc, ◌+◌, ◌<◌, ◌⊎◌, inl, inr, Bool, true, false, ◌&&◌, cond, eqb, List, [], ◌∷◌, ◌++◌, length, Option, Some, None, refl, sym, ap, ◌∙◌, subst, arith}
 use Rattle.std.specs.Prelude.{find, is_none, map, option_and_then, option_map, slice_set, take, unwrap_or}
 use Rattle.std.proofs.lemmas.Bool.{and_from, both_ways, eq-eqb}
 use Rattle.ca_text.specs.Place.{At}
@@ -12,12 +12,12 @@ use Rattle.ca_model.specs.Answers.{Closed, Closing, Left, NeedBytes, Notice, Not
 use Rattle.ca_model.specs.Answers as notice
 use Rattle.ca_model.specs.Client.{Client, ClientCircuit, Connection, Live, connection_at, disconnections, farewell}
 use Rattle.ca_model.specs.ClientEnds.{ConnectsOn, StepsOn, circuits_ticked}
-use Rattle.ca_model.specs.History.{Called, Clear, Intent, Line, OfCircuit, On}
+use Rattle.ca_model.specs.History.{Called, Clear, Line, OfCircuit, On}
 use Rattle.ca_model.specs.Speech.{In}
 use Rattle.ca_model_client.specs.Placed.{IsPlaced}
 use Rattle.ca_model_client.proofs.Handles.{same-is, same-itself}
 use Rattle.ca_model_client.proofs.Tables.{at-find}
-use Rattle.ca_model_world.specs.ClientEvents.{HappensAccept, HappensClear, HappensCutClient, TicksOne, WantsFirst, after_tick, channel_number, client_closed, client_ended, connected_as, left_silent, line_of, lines_of, new_circuit, told_by}
+use Rattle.ca_model_world.specs.ClientEvents.{HappensAccept, HappensClear, HappensCutClient, TicksOne, WantsFirst, after_tick, channel_number, client_closed, client_ended, line_of, lines_of, told_by}
 use Rattle.ca_model_world.specs.Events.{Event}
 use Rattle.ca_model_world.specs.Events as event
 use Rattle.ca_model_world.specs.Runs.{Happens}
@@ -25,10 +25,9 @@ use Rattle.ca_model_world.specs.World.{ClientSide, Joined, World, grown}
 use Rattle.ca_laws_runs.specs.Circuit.{sent_to}
 use Rattle.ca_laws_runs.specs.Clients.{ClientsStand}
 use Rattle.ca_laws_runs.proofs.ClientsMore.{unconnected-is, wanted-there}
-use Rattle.ca_laws_writes.proofs.Lists.{none_at, take-front}
+use Rattle.ca_laws_writes.proofs.Lists.{none_at}
 use Rattle.ca_laws_writes.proofs.Midway.{set-here}
 use Rattle.ca_laws_held.specs.OrderSteps.{HaveLives}
-use Rattle.ca_laws_held.specs.Sides.{IsLiveAs}
 use Rattle.ca_laws_held.proofs.Farewell.{FromFarewell, PartsIn, farewell-from, ticked-parts}
 use Rattle.ca_laws_held.proofs.Going.{AllOpenLive}
 use Rattle.ca_laws_held.proofs.OnceSent.{SentStand}

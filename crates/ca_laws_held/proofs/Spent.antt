@@ -1,8 +1,6 @@
 -- No request is open that was sent before the last CREATE_CHAN of its channel on its circuit, over every event and run.
-use Rattle.std.proofs.Common.{◌≡◌, ℕ, zero, suc, ◌+◌, ◌<◌, ◌≤◌, ◌⊎◌, inl, inr, false, true, List, [], ◌∷◌, ◌++◌, length, Option, Some, None, refl, sym, ap, ◌∙◌, subst, arith}
-use Rattle.std.specs.Prelude.{is_none, option_and_then, option_map, slice_get, unwrap_or}
-use Rattle.std.specs.List.{FoldsTo}
-use Rattle.std.proofs.lemmas.Bool.{both_ways}
+use Rattle.std.proofs.Common.{◌≡◌, ℕ, ◌+◌, ◌<◌, ◌≤◌, ◌⊎◌, inl, inr, false, true, List, [], ◌∷◌, ◌++◌, length, Option, Some, None, refl, sym, ap, ◌∙◌, subst, arith}
+use Rattle.std.specs.Prelude.{is_none, option_map, slice_get, unwrap_or}
 use Rattle.ca_text.specs.Place.{At}
 use Rattle.ca_text.proofs.Places.{At-one, At-or, At-set, At-snoc, At-within, some_is}
 use Rattle.ca_arena.specs.declared.handle.Handle.{Handle}
@@ -10,17 +8,15 @@ use Rattle.ca_ids.specs.Table.{Table, same_handle, under}
 use Rattle.ca_ids.specs.Wire.{wire_of}
 use Rattle.ca_requests.specs.Calls.{new_request}
 use Rattle.ca_requests.specs.Requests.{Request, is_open_in, was_sent_on}
-use Rattle.ca_model.specs.Client.{ClientCircuit, Live, connection_at}
+use Rattle.ca_model.specs.Client.{Live, connection_at}
 use Rattle.ca_model.specs.History.{Ask, Create, Intent, Kind, Line, On, Sent, Step, Told}
 use Rattle.ca_model.specs.History as history
-use Rattle.ca_model.specs.Speech.{Gives, Ioid}
+use Rattle.ca_model.specs.Speech.{Ioid}
 use Rattle.ca_model_safe.specs.Channels.{IsRequest, named}
 use Rattle.ca_model_client.proofs.Handles.{same-itself}
 use Rattle.ca_model_client.proofs.Tables.{held-back}
-use Rattle.ca_model_client.proofs.Thinner.{three-ways}
 use Rattle.ca_model_world.specs.ClientEvents.{channel_number, heard_in, meant_by}
 use Rattle.ca_model_world.specs.Events.{Event}
-use Rattle.ca_model_world.specs.Events as event
 use Rattle.ca_model_world.specs.Runs.{Happens}
 use Rattle.ca_model_world.specs.ServerEvents.{StepHandles, handled_at}
 use Rattle.ca_model_world.specs.World.{ClientSide, Joined, Names, ServerSide, World, with_circuit}
@@ -30,7 +26,7 @@ use Rattle.ca_laws_kept.specs.Kept.{kept}
 use Rattle.ca_laws_runs.specs.Circuit.{HeldOn}
 use Rattle.ca_laws_runs.specs.Clients.{ClientsStand}
 use Rattle.ca_laws_runs.proofs.ClientsKeep.{none-under}
-use Rattle.ca_laws_runs.proofs.Sending.{new-name, not-given}
+use Rattle.ca_laws_runs.proofs.Sending.{new-name}
 use Rattle.ca_laws_writes.proofs.Lists.{length-more}
 use Rattle.ca_laws_held.specs.Held.{AllCircuitsHeld}
 use Rattle.ca_laws_held.specs.OrderSteps.{HaveLives}
@@ -44,8 +40,8 @@ use Rattle.ca_laws_held.proofs.OnceCalls.{IsUsed}
 use Rattle.ca_laws_held.proofs.OnceSent.{SentStand}
 use Rattle.ca_laws_held.proofs.OnceTold.{IsOpenBy}
 use Rattle.ca_laws_held.proofs.OnceWorld.{OnceStand}
-use Rattle.ca_laws_held.proofs.OrderGrows.{GoesOn, Grown, each-event, step-grown}
-use Rattle.ca_laws_held.proofs.OrderKeeps.{IsHearing, IsMade, begun-grown, begun-mid, did-after, did-grown, did-step, hear-grown, hear-mid, hear-step, hearing-or, hears-one, made-or}
+use Rattle.ca_laws_held.proofs.OrderGrows.{Grown, each-event, step-grown}
+use Rattle.ca_laws_held.proofs.OrderKeeps.{IsHearing, IsMade, begun-grown, begun-mid, did-after, did-grown, did-step, hear-grown, hear-step, hearing-or, hears-one, made-or}
 use Rattle.ca_laws_held.proofs.Says.{asked-at}
 use Rattle.ca_laws_held.proofs.ToldGrows.{WorldsOn}
 

@@ -1,5 +1,5 @@
 -- A notice of a request or a plain write that a client tells as it reads a message, and that does not tell Disconnected, is one of its own.
-use Rattle.std.proofs.Common.{◌≡◌, ℕ, ◌+◌, ◌⊎◌, inl, inr, true, List, ◌++◌, length, Option, Some, None, refl, sym, ap, subst, ◌∙◌, arith}
+use Rattle.std.proofs.Common.{◌≡◌, ℕ, ◌+◌, ◌⊎◌, inl, inr, true, List, ◌++◌, length, Option, Some, refl, sym, ap, subst, ◌∙◌, arith}
 use Rattle.std.specs.Prelude.{option_and_then, option_map, slice_get, unwrap_or}
 use Rattle.ca_arena.specs.declared.handle.Handle.{Handle}
 use Rattle.ca_dbr.specs.declared.value.Outcome.{Outcome}
@@ -39,7 +39,7 @@ use Rattle.ca_laws_held.proofs.Going.{AllOpenLive}
 use Rattle.ca_laws_held.proofs.OnceLess.{is_gone}
 use Rattle.ca_laws_held.proofs.OnceWorld.{OnceStand}
 use Rattle.ca_laws_held.proofs.OrderKeeps.{IsHearing, hear-lines}
-use Rattle.ca_laws_held.proofs.ToldAsked.{TellsAsked, tells-asked}
+use Rattle.ca_laws_held.proofs.ToldAsked.{tells-asked}
 use Rattle.ca_laws_held.proofs.ToldLines.{lines-grown}
 use Rattle.ca_laws_held.proofs.ToldQuiet.{tells-held}
 use Rattle.ca_laws_held.proofs.ToldRemoval.{AllRemovals}

@@ -1,5 +1,5 @@
 -- Statement: what a client's log tells of requests and plain writes: parts of what is said of it, as the statement says it of this world.
-use Rattle.std.specs.Prelude.{ℕ, ◌≡◌, ◌≢◌, List}
+use Rattle.std.specs.Prelude.{ℕ, ◌≡◌, ◌≢◌, ◌⊎◌, List}
 use Rattle.ca_dbr.specs.declared.value.Outcome.{Outcome}
 use Rattle.ca_dbr.specs.declared.value.Outcome.TheVariants.{Disconnected, Done, Failed}
 use Rattle.ca_text.specs.declared.status.Status.{Status}
@@ -7,7 +7,7 @@ use Rattle.ca_text.specs.Place.{At}
 use Rattle.ca_model.specs.History.{Intent, Line, Noticed, On, Put, Reply, Request}
 use Rattle.ca_model.specs.History as history
 use Rattle.ca_model.specs.Speech.{In, Stored}
-use Rattle.ca_model_safe.specs.Channels.{IsApplied, IsRequest, IsUse, OfClients, Stands}
+use Rattle.ca_model_safe.specs.Channels.{IsApplied, IsLost, IsRequest, IsUse, OfClients, Stands}
 use Rattle.ca_model_world.specs.World.{World, told}
 use Rattle.ca_laws_held.specs.ToldLines.{IsToldOf}
 
@@ -30,3 +30,8 @@ DoneIsApplied w = (life channel number : ℕ) (x : List Line) → At w.clients l
 abbrev pub FailedIsNot : history.World → Type 0
 FailedIsNot w = (life n k l i r : ℕ) (intent : Intent) (s : Status) (x : List Line) (v : Stored) → At w.clients life x → In x (Noticed intent (Failed s))
     → Stands w life intent n k → IsApplied w n k l i r v → ⊥
+
+-- Each notice tells what the reply to its own message means, or Disconnected if that is lost.
+abbrev pub NoticesAreTold : World → Type 0
+NoticesAreTold w = OfClients (told w) (λ (life : ℕ) (x : List Line). (i : ℕ) (intent : Intent) (o : Outcome) → At x i (Noticed intent o)
+    → ((by : IsToldOf w life x i intent o) × (by.t.cause ≡ Reply)) ⊎ ((o ≡ Disconnected) × IsLost (told w) life x i intent))

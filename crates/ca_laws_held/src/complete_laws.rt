@@ -2,7 +2,7 @@ ghost use Rattle.std.specs.Prelude.{List, Option};
 ghost use Rattle.ca_model_world.specs.Events.{Event};
 ghost use Rattle.ca_model_world.specs.Runs.{AreEvents, Runs};
 ghost use Rattle.ca_model_world.specs.World.{IsSetting, Setting, World, told};
-ghost use Rattle.ca_laws_held.specs.ToldParts.{DoneIsApplied, FailedIsNot, RequestsAreTold, UsesAreToldOnce};
+ghost use Rattle.ca_laws_held.specs.ToldParts.{DoneIsApplied, FailedIsNot, NoticesAreTold, RequestsAreTold, UsesAreToldOnce};
 
 /// After every run from a well-formed setting by well-formed events, each notice of a read, a put or a
 /// plain write that does not tell Disconnected was told when a message was read: the reply to that very
@@ -28,4 +28,13 @@ pub fn callers_are_told_what_became_of_their_writes()
         → IsSetting s → AreEvents es → Runs s es stopped w → DoneIsApplied (told w) }
     ensures failed { (s : Setting) (es : List Event) (stopped : Option Event) (w : World)
         → IsSetting s → AreEvents es → Runs s es stopped w → FailedIsNot (told w) }
+{}
+
+/// After every such run each notice in a client's log tells what the reply to its own message means,
+/// in the step that read that reply, while its caller had not ended it; or it tells Disconnected, and
+/// then the client's end of the circuit has ended, or the channel was cleared by its caller before, or
+/// a SERVER_DISCONN for it was read in that step. This is `told` of the clause, whole.
+pub fn notices_are_told_of_their_own()
+    ensures { (s : Setting) (es : List Event) (stopped : Option Event) (w : World) → IsSetting s
+        → AreEvents es → Runs s es stopped w → NoticesAreTold w }
 {}

@@ -1,7 +1,3 @@
-use Rattle.ca_laws_held.proofs.Lost.{lost-heard, lost-parts}
-use Rattle.ca_laws_held.proofs.Spent.{reads-event, spent-on}
-use Rattle.ca_laws_held.proofs.Parting.{event-parts, tick-parts}
-use Rattle.ca_laws_held.proofs.Farewell.{ticked-parts}
 use Rattle.ca_laws_held.proofs.ToldTwice.{run-told-once}
 use Rattle.ca_laws_held.proofs.complete_laws.uses_are_told_of_once.Goals as goal
 
