@@ -94,3 +94,4 @@ pub mod Spent
 pub mod Lost
 pub mod ToldNotices
 pub mod LostRuns
+pub mod ToldCreated

@@ -1,12 +1,12 @@
 -- Statement: what a client's log tells of requests and plain writes: parts of what is said of it, as the statement says it of this world.
-use Rattle.std.specs.Prelude.{ℕ, ◌≡◌, ◌≢◌, ◌⊎◌, List}
+use Rattle.std.specs.Prelude.{ℕ, ◌≡◌, ◌≢◌, ◌<◌, ◌⊎◌, List}
 use Rattle.ca_dbr.specs.declared.value.Outcome.{Outcome}
 use Rattle.ca_dbr.specs.declared.value.Outcome.TheVariants.{Disconnected, Done, Failed}
 use Rattle.ca_text.specs.declared.status.Status.{Status}
 use Rattle.ca_text.specs.Place.{At}
-use Rattle.ca_model.specs.History.{Intent, Line, Noticed, On, Put, Reply, Request}
+use Rattle.ca_model.specs.History.{Circuit, Clear, Create, Intent, Line, Noticed, On, Put, Reply, Request, Sent, Step, Told}
 use Rattle.ca_model.specs.History as history
-use Rattle.ca_model.specs.Speech.{In, Stored}
+use Rattle.ca_model.specs.Speech.{Creates, In, Stored}
 use Rattle.ca_model_safe.specs.Channels.{IsApplied, IsLost, IsRequest, IsUse, OfClients, Stands}
 use Rattle.ca_model_world.specs.World.{World, told}
 use Rattle.ca_laws_held.specs.ToldLines.{IsToldOf}
@@ -35,3 +35,18 @@ FailedIsNot w = (life n k l i r : ℕ) (intent : Intent) (s : Status) (x : List 
 abbrev pub NoticesAreTold : World → Type 0
 NoticesAreTold w = OfClients (told w) (λ (life : ℕ) (x : List Line). (i : ℕ) (intent : Intent) (o : Outcome) → At x i (Noticed intent o)
     → ((by : IsToldOf w life x i intent o) × (by.t.cause ≡ Reply)) ⊎ ((o ≡ Disconnected) × IsLost (told w) life x i intent))
+
+-- A reply by which a channel was created was told first of all in the step that read it; or the channel was cleared after it was created.
+abbrev pub IsToldLive : history.World → Circuit → (channel : ℕ) → Told → Step → Type 0
+IsToldLive w c channel t h =
+    ((x : List Line) × At w.clients c.client x × At x h.logged (Noticed (On channel Create) Done) × (h.logged < h.after))
+    ⊎ ((q : ℕ) × (r : Sent) × (t.place < q) × At c.up q r × (r.intent ≡ On channel Clear))
+
+-- So it is of each of them that the client of this circuit read.
+abbrev pub AreToldLive : history.World → Circuit → Type 0
+AreToldLive w c = (i channel sid : ℕ) (t : Told) (h : Step) (s : Sent) → At c.down i t → At c.heard i h → t.cause ≡ Reply → Creates t.message sid
+    → At c.up t.place s → s.intent ≡ On channel Create → IsToldLive w c channel t h
+
+-- So it is on each circuit.
+abbrev pub CreationsAreTold : history.World → Type 0
+CreationsAreTold w = (n : ℕ) (c : Circuit) → At w.circuits n c → AreToldLive w c

@@ -2,7 +2,7 @@ ghost use Rattle.std.specs.Prelude.{List, Option};
 ghost use Rattle.ca_model_world.specs.Events.{Event};
 ghost use Rattle.ca_model_world.specs.Runs.{AreEvents, Runs};
 ghost use Rattle.ca_model_world.specs.World.{IsSetting, Setting, World, told};
-ghost use Rattle.ca_laws_held.specs.ToldParts.{DoneIsApplied, FailedIsNot, NoticesAreTold, RequestsAreTold, UsesAreToldOnce};
+ghost use Rattle.ca_laws_held.specs.ToldParts.{CreationsAreTold, DoneIsApplied, FailedIsNot, NoticesAreTold, RequestsAreTold, UsesAreToldOnce};
 
 /// After every run from a well-formed setting by well-formed events, each notice of a read, a put or a
 /// plain write that does not tell Disconnected was told when a message was read: the reply to that very
@@ -37,4 +37,13 @@ pub fn callers_are_told_what_became_of_their_writes()
 pub fn notices_are_told_of_their_own()
     ensures { (s : Setting) (es : List Event) (stopped : Option Event) (w : World) → IsSetting s
         → AreEvents es → Runs s es stopped w → NoticesAreTold w }
+{}
+
+/// After every such run each reply that creates a channel and that its client read was told first of
+/// all in the step that read it, Done; or the client cleared the channel after that creation, since its
+/// caller had given it up. So a channel that was ever live was told so: the beginning of `lost` of the
+/// clause.
+pub fn creations_are_told()
+    ensures { (s : Setting) (es : List Event) (stopped : Option Event) (w : World) → IsSetting s
+        → AreEvents es → Runs s es stopped w → CreationsAreTold (told w) }
 {}
