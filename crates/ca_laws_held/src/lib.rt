@@ -5,6 +5,7 @@
 #![tactic(auto)]
 
 mod cause_laws;
+mod complete_laws;
 mod heard_laws;
 mod laws;
 mod legal_laws;
@@ -15,6 +16,10 @@ mod step_laws;
 mod told_laws;
 
 pub use cause_laws::{channels_are_removed_once, messages_come_after_what_they_are_about};
+pub use complete_laws::{
+    callers_are_told_what_became_of_their_writes, creations_are_told, notices_are_told_of_their_own,
+    requests_are_told_of_their_own, uses_are_told_of_once,
+};
 pub use heard_laws::{
     each_notice_tells_of_its_own_message, what_is_held_by_what_servers_take,
     what_is_read_is_about_what_it_finds, what_was_sent_is_as_channels_are,
