@@ -1,23 +1,38 @@
 -- A message on a channel goes out under a SID of whose creation the client had read then: over every event and run.
-use Rattle.std.proofs.Common.{◌≡◌, ℕ, suc, ◌<◌, ◌≤◌, ◌⊎◌, inl, inr, List, [], ◌∷◌, ◌++◌, length, Option, Some, None, refl, sym, ap, subst, ◌∙◌, arith}
-use Rattle.std.specs.Prelude.{option_map, slice_get, unwrap_or}
-use Rattle.std.specs.List.{FoldsTo}
+use Rattle.std.proofs.Common.{◌≡◌, ℕ, suc, ◌+◌, ◌<◌, ◌≤◌, ◌⊎◌, inl, inr, Bool, true, false, ◌&&◌, cond, eqb, List, [], ◌∷◌, ◌++◌, length, Option, Some, None, refl, sym, ap, subst, ◌∙◌, arith}
+use Rattle.std.specs.Prelude.{map, option_map, slice_get, slice_set, unwrap_or}
+use Rattle.std.specs.List.{FoldsTo, list_any}
+use Rattle.std.proofs.lemmas.List.{length-append}
+use Rattle.ca_arena.specs.declared.handle.Handle.{Handle}
+use Rattle.ca_ids.specs.Table.{same_handle}
+use Rattle.ca_text.specs.Command.{command_number}
+use Rattle.ca_text.specs.declared.command.Command.{Command}
 use Rattle.ca_text.specs.declared.command.Command.TheVariants as command
 use Rattle.ca_text.specs.Place.{At}
 use Rattle.ca_text.proofs.Places.{At-map, At-mapped, At-one, At-or, At-set, At-snoc, At-within}
 use Rattle.ca_wire.specs.Fields.{Fields}
 use Rattle.ca_model.specs.History.{Ask, Cancel, Circuit, Clear, Create, Intent, On, Put, Read, Reply, Request, Sent, Step, Subscribe, Told, Write}
+use Rattle.ca_model.specs.Answers.{Sending}
+use Rattle.ca_model.specs.Answers as answer
+use Rattle.ca_model.specs.Client.{Client, Connection, Phase, channel_on, connection_at}
+use Rattle.ca_model.specs.Client as phase
+use Rattle.ca_model.specs.ClientCalls.{clear_sent}
+use Rattle.ca_model.specs.ClientEnds.{StepsOn, after_taking}
+use Rattle.ca_model.specs.Hears.{Effect, Hears, left}
+use Rattle.ca_model.specs.Hears as hears
 use Rattle.ca_model.specs.History as history
 use Rattle.ca_model.specs.Sends.{Conduct, HasChannel, IsOnChannel}
 use Rattle.ca_model.specs.Speech.{Clears, Is, sid_in}
 use Rattle.ca_model_safe.specs.Channels.{Suits}
 use Rattle.ca_model_safe.specs.Legal.{client_conduct}
-use Rattle.ca_model_world.specs.ClientEvents.{heard_in}
+use Rattle.ca_model_world.specs.ClientEvents.{heard_in, intent_of, sent_on}
 use Rattle.ca_model_world.specs.Events.{Event}
 use Rattle.ca_model_world.specs.Events as event
 use Rattle.ca_model_world.specs.Runs.{AreEvents, Happens, Runs, StopsAt, clients_below}
 use Rattle.ca_model_world.specs.ServerEvents.{StepHandles, about, handled_at}
-use Rattle.ca_model_world.specs.World.{IsSetting, Joined, ServerSide, Setting, World, circuit_of, log_length, opening, with_circuit}
+use Rattle.ca_model_world.specs.World.{ClientSide, IsSetting, Joined, Names, ServerSide, Setting, World, circuit_of, log_length, opening, with_circuit}
+use Rattle.ca_laws_bytes.specs.Runs.{HearsSent}
+use Rattle.ca_laws_bytes.proofs.ServerSpeaking.{runs-hear}
 use Rattle.ca_laws_writes.proofs.Lists.{none_at}
 use Rattle.ca_laws_writes.proofs.Moves.{At-below}
 use Rattle.ca_text.proofs.Places.{At-append}
@@ -55,14 +70,15 @@ AllReadAfter w = (n : ℕ) (c : Joined) → At w.circuits n c → ReadAfter c.li
 
 -- ---- from one world to the next
 
--- What is read now is read after all that was sent, and nothing is handled then.
-record HearsOn (c d : Joined) : Type 0 where
-  up : (p : ℕ) (s : Sent) → At c.lists.up p s → At d.lists.up p s
-  down : (i : ℕ) (t : Told) → At c.lists.down i t → At d.lists.down i t
-  kept : (i : ℕ) (h : Step) → At c.lists.heard i h → At d.lists.heard i h
-  heard : (i : ℕ) (h : Step) → At d.lists.heard i h → At c.lists.heard i h ⊎ ((h.sent ≡ length c.lists.up) × (d.lists.handled ≡ c.lists.handled))
+-- What is read now is read after all that was sent, and nothing is handled then. If it is a SERVER_DISCONN, one message is sent at most.
+pub record HearsOn (c d : Joined) : Type 0 where
+  pub up : (p : ℕ) (s : Sent) → At c.lists.up p s → At d.lists.up p s
+  pub down : (i : ℕ) (t : Told) → At c.lists.down i t → At d.lists.down i t
+  pub kept : (i : ℕ) (h : Step) → At c.lists.heard i h → At d.lists.heard i h
+  pub heard : (i : ℕ) (h : Step) → At d.lists.heard i h → At c.lists.heard i h ⊎ ((h.sent ≡ length c.lists.up) × (d.lists.handled ≡ c.lists.handled)
+      × ((t : Told) → At c.lists.down i t → Is command.ServerDisconnect t.message → length d.lists.up ≤ length c.lists.up + 1))
 
-abbrev AllHear : (w new : World) → Type 0
+abbrev pub AllHear : (w new : World) → Type 0
 AllHear w new = (n : ℕ) (d : Joined) → At new.circuits n d → ((c : Joined) × At w.circuits n c × HearsOn c d) ⊎ (d.lists.heard ≡ [])
 
 goes-hears : (c d : Joined) → GoesOn c d → HearsOn c d
@@ -106,9 +122,107 @@ handles-hears w new k j y on f = subst (λ (z : World). AllHear w z) (sym f.leav
       | inr old ↦ first n d old.0
     ]
 
+-- ---- what a SERVER_DISCONN makes a client send
+
+-- a SERVER_DISCONN has this effect
+left-of : (y : Client) (on : Handle) (m : Fields) (e : Effect) → m.command ≡ 27 → Hears y on m e → e ≡ left y on (channel_on y on m.p1)
+left-of y on m e is h = go h
+  where
+    apart : (a : ℕ) → m.command ≡ a → (a ≡ 27 → ⊥) → ⊥
+    apart a other differ = differ (sym other ∙ is)
+
+    go : Hears y on m e → e ≡ left y on (channel_on y on m.p1)
+    go (hears.ServerDisconnect k does) = does
+    go (hears.Search k d there finds) = absurd (apart 6 k (λ e. absurd (omega (arith, e))))
+    go (hears.AccessRights k does) = absurd (apart 22 k (λ e. absurd (omega (arith, e))))
+    go (hears.CreateChannel k does) = absurd (apart 18 k (λ e. absurd (omega (arith, e))))
+    go (hears.CreateChannelFail k does) = absurd (apart 26 k (λ e. absurd (omega (arith, e))))
+    go (hears.ClearChannel k does) = absurd (apart 12 k (λ e. absurd (omega (arith, e))))
+    go (hears.Reply (inl k) does) = absurd (apart 15 k (λ e. absurd (omega (arith, e))))
+    go (hears.Reply (inr k) does) = absurd (apart 19 k (λ e. absurd (omega (arith, e))))
+    go (hears.Confirmation k empty does) = absurd (apart 1 k (λ e. absurd (omega (arith, e))))
+    go (hears.Update k some does) = absurd (apart 1 k (λ e. absurd (omega (arith, e))))
+    go (hears.Error k does) = absurd (apart 11 k (λ e. absurd (omega (arith, e))))
+    go (hears.Other k does) = absurd (known m.command is k)
+      where
+        known : (n : ℕ) → n ≡ 27 → list_any (λ (c : Command). eqb n (command_number c)) hears.understood ≡ false → ⊥
+        known n at none = (let f : list_any (λ (c : Command). eqb 27 (command_number c)) hears.understood ≡ false = subst (λ (z : ℕ). list_any (λ (c : Command). eqb z (command_number c)) hears.understood ≡ false) at none in cc)
+
+-- no message, or one
+abbrev AtMostOne : List Sending → Type 0
+AtMostOne sent = (sent ≡ []) ⊎ ((z : Sending) × (sent ≡ z ∷ []))
+
+left-short : (y : Client) (on : Handle) (o : Option (Handle × Phase)) → AtMostOne (left y on o).sent
+left-short y on None = inl refl
+left-short y on (Some (h, phase.Connecting)) = inl refl
+left-short y on (Some (h, phase.Creating rights)) = inl refl
+left-short y on (Some (h, phase.Live native rights)) = inr (clear_sent on native.sid h, refl)
+left-short y on (Some (h, phase.Leaving)) = inl refl
+left-short y on (Some (h, phase.Clearing)) = inl refl
+left-short y on (Some (h, phase.Doomed)) = inl refl
+
+on-short : (i : ℕ) (n : Names) (sent : List Sending) (a : Joined) → AtMostOne sent → length (sent_on i n sent a) ≤ 1
+on-short i n sent a (inl none) = subst (λ (l : List Sending). length (sent_on i n l a) ≤ 1) (sym none) (by (eqb a.client i && a.lists.client_open))
+  where
+    at : Sending → Sent
+    at s = record { message = s.message; intent = intent_of n s.aim }
+
+    by : (b : Bool) → length (cond b (map at []) []) ≤ 1
+    by true = omega arith
+    by false = omega arith
+on-short i n sent a (inr (z, one)) = subst (λ (l : List Sending). length (sent_on i n l a) ≤ 1) (sym one) (by (eqb a.client i && a.lists.client_open) (same_handle z.circuit a.at_client))
+  where
+    at : Sending → Sent
+    at s = record { message = s.message; intent = intent_of n s.aim }
+
+    by : (b c : Bool) → length (cond b (map at (cond c (z ∷ []) [])) []) ≤ 1
+    by true true = omega arith
+    by true false = omega arith
+    by false c = omega arith
+
+module _ (w new : World) (k : ℕ) (f : Happens w (event.ClientStep k) new) (hearing : IsHearing w new k f.0.j f.0.x) (told : HearsSent w) where
+  abbrev j : Joined
+  j = f.0.j
+
+  abbrev x : ClientSide
+  x = f.0.x
+
+  abbrev step : Step
+  step = hear-step w new k j x f.0.joins.at f.0.joins.client hearing
+
+  -- what was sent goes up
+  sent-up : (d : Joined) → At new.circuits k d → d.lists.up ≡ j.lists.up ++ sent_on j.client x.names hearing.sent (heard_in step j)
+  sent-up d there =
+      let more : Joined → Joined = λ (c : Joined). record c { lists = record c.lists { up = c.lists.up ++ sent_on j.client x.names hearing.sent c } } in
+      let z = At-mapped more (slice_set w.circuits k (heard_in step j)) k d (subst (λ (v : World). At v.circuits k d) hearing.is there) in
+      elim (At-set w.circuits k (heard_in step j) k z.0 z.1) [
+        | inl own ↦ ap (λ (c : Joined). c.lists.up) (z.2 ∙ ap more own.1)
+        | inr old ↦ absurd (old.1 refl)
+      ]
+
+  sent-short : (t : Told) → At j.lists.down (length j.lists.heard) t → Is command.ServerDisconnect t.message → AtMostOne hearing.sent
+  sent-short t at ends = go (connection_at x.core j.at_client) refl hearing.steps
+    where
+      go : (o : Option Connection) → connection_at x.core j.at_client ≡ o → StepsOn x.core j.at_client o (answer.Notices hearing.notices) hearing.sent hearing.core → AtMostOne hearing.sent
+      go None is steps = absurd steps
+      go (Some d) is takes =
+          let m = told k j x d takes.m takes.rest f.0.joins.at f.0.joins.client f.0.is_open is takes.first in
+          let one : m.0 ≡ t = At-one j.lists.down (length j.lists.heard) m.0 t m.1 at in
+          let lost : takes.m.command ≡ 27 = ap (λ (z : Fields). z.command) (sym m.2 ∙ ap (λ (z : Told). z.message) one) ∙ ends in
+          let y : Client = after_taking j.at_client takes.rest x.core in
+          let does = left-of y j.at_client takes.m (record { core = hearing.core; sent = hearing.sent; notices = hearing.notices }) lost takes.hears in
+          subst (λ (e : Effect). AtMostOne e.sent) (sym does) (left-short y j.at_client (channel_on y j.at_client takes.m.p1))
+
+  up-short : (d : Joined) → At new.circuits k d → (t : Told) → At j.lists.down (length j.lists.heard) t → Is command.ServerDisconnect t.message → length d.lists.up ≤ length j.lists.up + 1
+  up-short d there t at ends =
+      let more : List Sent = sent_on j.client x.names hearing.sent (heard_in step j) in
+      let len : length d.lists.up ≡ length j.lists.up + length more = ap (λ (l : List Sent). length l) (sent-up d there) ∙ length-append j.lists.up more in
+      let short : length more ≤ 1 = on-short j.client x.names hearing.sent (heard_in step j) (sent-short t at ends) in
+      omega (arith, len, short)
+
 -- a message is read
-reads-hears : (w new : World) (k : ℕ) (f : Happens w (event.ClientStep k) new) → IsHearing w new k f.0.j f.0.x → AllHear w new
-reads-hears w new k f hears n d at =
+reads-hears : (w new : World) (k : ℕ) (f : Happens w (event.ClientStep k) new) → IsHearing w new k f.0.j f.0.x → HearsSent w → AllHear w new
+reads-hears w new k f hears told n d at =
     let step : Step = hear-step w new k f.0.j f.0.x f.0.joins.at f.0.joins.client hears in
     let b = (hear-grown w new k f.0.j f.0.x f.0.joins.at f.0.joins.client hears).back n d at in
     elim (At-set w.circuits k (heard_in step f.0.j) n b.0 b.1) [
@@ -124,7 +238,7 @@ reads-hears w new k f hears n d at =
               kept = λ i h there. subst (λ (l : List Step). At l i h) (sym g.heard) (At-append j.lists.heard (step ∷ []) i h there);
               heard = λ i h there. elim (At-snoc j.lists.heard step i h (subst (λ (l : List Step). At l i h) g.heard there)) [
                 | inl old ↦ inl old
-                | inr last ↦ inr (ap (λ (z : Step). z.sent) last.1, g.handled)
+                | inr last ↦ inr (ap (λ (z : Step). z.sent) last.1, g.handled, λ t on ends. up-short w new k f hears told d (subst (λ (m : ℕ). At new.circuits m d) here.0 at) t (subst (λ (m : ℕ). At j.lists.down m t) last.0 on) ends)
               ];
             },
           )
@@ -140,14 +254,14 @@ made-hears w new i f made n d at =
       | inr last ↦ inr (b.2.heard ∙ ap (λ (z : Joined). z.lists.heard) last.1 ∙ made.heard)
     ]
 
-event-hears : (w new : World) (e : Event) → Happens w e new → AllHear w new
-event-hears w new e happens = each-event (AllHear w new) w new (grown-hears w new)
+pub event-hears : (w new : World) (e : Event) → HearsSent w → Happens w e new → AllHear w new
+event-hears w new e told happens = each-event (AllHear w new) w new (grown-hears w new)
     (λ k f. elim (step-grown w new k f.0.j f.0.y f.1.0 f.0.joins.at f.1.1) [
       | inl handles ↦ handles-hears w new k f.0.j f.0.y f.0.joins.at handles
       | inr g ↦ grown-hears w new g
     ])
     (λ k f. elim (hearing-or w new k f.0.j f.0.x f.0.joins.at f.0.joins.client f.1) [
-      | inl hears ↦ reads-hears w new k f hears
+      | inl hears ↦ reads-hears w new k f hears told
       | inr g ↦ grown-hears w new g
     ])
     (λ i f. elim (made-or w new i f) [
@@ -243,9 +357,9 @@ events-read s ok done (e ∷ es) w new fine more before (mid, one, rest) all =
     let runs_next : Runs s (done ++ e ∷ []) None mid = (mid, next, refl) in
     let fine_next : AreEvents (done ++ e ∷ []) = are-snoc done e fine (more 0 e refl) in
     events-read s ok (done ++ e ∷ []) es mid new fine_next (λ i f at. more (suc i) f at) next rest
-    (pair mid (all-read w mid (event-hears w mid e one) (run-heard s done None w ok fine runs) (run-served s done None w ok runs) (run-sided s (done ++ e ∷ []) None mid ok fine_next runs_next) (run-after s (done ++ e ∷ []) None mid ok runs_next) all))
+    (pair mid (all-read w mid (event-hears w mid e (runs-hear s done None w ok fine runs) one) (run-heard s done None w ok fine runs) (run-served s done None w ok runs) (run-sided s (done ++ e ∷ []) None mid ok fine_next runs_next) (run-after s (done ++ e ∷ []) None mid ok runs_next) all))
 
-stops-hears : (mid : World) (stopped : Option Event) (w : World) → StopsAt mid stopped w → AllHear mid w
+pub stops-hears : (mid : World) (stopped : Option Event) (w : World) → StopsAt mid stopped w → AllHear mid w
 stops-hears mid (Some (event.Tick moment)) w stops = elim stops [
   | inl same ↦ grown-hears mid w (grown-self mid w same)
   | inr ticked ↦ grown-hears mid w (ticks-grown moment mid (clients_below ticked.0) w ticked.3)
