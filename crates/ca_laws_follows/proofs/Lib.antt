@@ -51,3 +51,4 @@ pub mod ActsRefused
 pub mod LiveRead
 pub mod ActsWhole
 pub mod KnewFull
+pub mod LegalCut

@@ -3,6 +3,7 @@ ghost use Rattle.ca_model_world.specs.Events.{Event};
 ghost use Rattle.ca_model_world.specs.Runs.{AreEvents, Runs};
 ghost use Rattle.ca_model_world.specs.World.{IsSetting, Setting, World};
 ghost use Rattle.ca_laws_follows.specs.LegalEnds.{
+  ClientsGoByChannels,
   ServersAreLegal,
   ServersTellOfRemovals,
   ServersUpdateWhatStands,
@@ -30,4 +31,14 @@ pub fn servers_send_what_they_may()
 pub fn servers_tell_of_removals()
     ensures { (s : Setting) (es : List Event) (stopped : Option Event) (w : World) → IsSetting s
         → Runs s es stopped w → ServersTellOfRemovals w }
+{}
+
+/// After every run from a well-formed setting by well-formed events, each message of a client on a
+/// channel goes out under the SID of one that it has: it asked for the channel, it read the reply that
+/// gave the SID, and has sent no CLEAR_CHANNEL of it since. A CLEAR_CHANNEL has its CID; and once a
+/// SERVER_DISCONN for the channel was read nothing else goes out on it. This is `on_channel` of the
+/// statement's `LegalClient`. It holds also of what an end sent that has ended.
+pub fn clients_go_by_their_channels()
+    ensures { (s : Setting) (es : List Event) (stopped : Option Event) (w : World) → IsSetting s
+        → AreEvents es → Runs s es stopped w → ClientsGoByChannels w }
 {}

@@ -32,7 +32,8 @@ pub use laws::{
     what_was_sent_shows_its_posts,
 };
 pub use legal_laws::{
-    servers_send_what_they_may, servers_tell_of_removals, servers_update_what_stands,
+    clients_go_by_their_channels, servers_send_what_they_may, servers_tell_of_removals,
+    servers_update_what_stands,
 };
 pub use live_laws::{
     live_channels_have_their_records, servers_act_on_records, what_lost_its_record_is_cleared,

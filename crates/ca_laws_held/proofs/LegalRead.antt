@@ -11,7 +11,7 @@ use Rattle.ca_text.specs.declared.command.Command.TheVariants as command
 use Rattle.ca_text.specs.Place.{At}
 use Rattle.ca_text.proofs.Places.{At-map, At-mapped, At-one, At-or, At-set, At-snoc, At-within}
 use Rattle.ca_wire.specs.Fields.{Fields}
-use Rattle.ca_model.specs.History.{Ask, Cancel, Circuit, Clear, Create, Intent, On, Put, Read, Reply, Request, Sent, Step, Subscribe, Told, Write}
+use Rattle.ca_model.specs.History.{Ask, Cancel, Circuit, Clear, Create, Intent, On, Put, Read, Removal, Reply, Request, Sent, Step, Subscribe, Told, Write}
 use Rattle.ca_model.specs.Answers.{Sending}
 use Rattle.ca_model.specs.Answers as answer
 use Rattle.ca_model.specs.Client.{Client, Connection, Phase, channel_on, connection_at}
@@ -21,8 +21,9 @@ use Rattle.ca_model.specs.ClientEnds.{StepsOn, after_taking}
 use Rattle.ca_model.specs.Hears.{Effect, Hears, left}
 use Rattle.ca_model.specs.Hears as hears
 use Rattle.ca_model.specs.History as history
-use Rattle.ca_model.specs.Sends.{Conduct, HasChannel, IsOnChannel}
-use Rattle.ca_model.specs.Speech.{Clears, Is, sid_in}
+use Rattle.ca_model.specs.Sends.{Conduct, HasChannel, IsDisconnect, IsOnChannel, ReadsBetween}
+use Rattle.ca_model.specs.Speech.{Clears, Creates, Is, sid_in}
+use Rattle.ca_model_client.proofs.Thinner.{three-ways}
 use Rattle.ca_model_safe.specs.Channels.{Suits}
 use Rattle.ca_model_safe.specs.Legal.{client_conduct}
 use Rattle.ca_model_world.specs.ClientEvents.{heard_in, intent_of, sent_on}
@@ -34,7 +35,7 @@ use Rattle.ca_model_world.specs.World.{ClientSide, IsSetting, Joined, Names, Ser
 use Rattle.ca_laws_bytes.specs.Runs.{HearsSent}
 use Rattle.ca_laws_bytes.proofs.ServerSpeaking.{runs-hear}
 use Rattle.ca_laws_writes.proofs.Lists.{none_at}
-use Rattle.ca_laws_writes.proofs.Moves.{At-below}
+use Rattle.ca_laws_writes.proofs.Moves.{At-below, same-or}
 use Rattle.ca_text.proofs.Places.{At-append}
 use Rattle.ca_laws_held.specs.Causes.{AllComeAfter, ComeAfter}
 use Rattle.ca_laws_held.specs.Created.{CreatedOn}
@@ -44,6 +45,7 @@ use Rattle.ca_laws_held.specs.Sides.{AllSided, AreRead}
 use Rattle.ca_laws_held.specs.Under.{AreUnder, IsCreatedBefore}
 use Rattle.ca_laws_held.proofs.CauseKeeps.{run-after}
 use Rattle.ca_laws_held.proofs.Created.{reached-created}
+use Rattle.ca_laws_held.proofs.LegalRemovals.{RemovedRight}
 use Rattle.ca_laws_held.proofs.Joint.{are-snoc, folds-snoc, run-sided}
 use Rattle.ca_laws_held.proofs.OrderGrows.{GoesOn, Grown, each-event, grown-self, step-grown, ticks-grown}
 use Rattle.ca_laws_held.proofs.OrderKeeps.{IsHearing, IsMade, begun-grown, begun-mid, did-after, did-grown, did-step, hear-grown, hear-step, hearing-or, made-or, run-heard, run-served, run-server-steps}
@@ -54,19 +56,25 @@ use Rattle.ca_laws_held.proofs.Kept.{quiet-runs}
 use Rattle.ca_laws_held.proofs.Under.{uncleared}
 
 -- Each message on a channel, but its CREATE_CHAN, goes under the SID of a creation that was read before it was sent, and after that was asked for.
-abbrev ReadOn : Circuit → Type 0
+abbrev pub ReadOn : Circuit → Type 0
 ReadOn c = (p a : ℕ) (s : Sent) (ask : Ask) → At c.up p s → s.intent ≡ On a ask → (ask ≡ Create → ⊥)
     → (j k : ℕ) × (g : Step) × At c.heard j g × (g.sent ≤ p) × IsCreatedBefore c a j k (sid_in s.message) p
 
-abbrev AllReadOn : World → Type 0
+abbrev pub AllReadOn : World → Type 0
 AllReadOn w = (n : ℕ) (c : Joined) → At w.circuits n c → ReadOn c.lists
 
 -- What was read is about what had been sent then.
-abbrev ReadAfter : Circuit → Type 0
+abbrev pub ReadAfter : Circuit → Type 0
 ReadAfter c = (j : ℕ) (g : Step) (t : Told) → At c.heard j g → At c.down j t → t.place < g.sent
 
-abbrev AllReadAfter : World → Type 0
+abbrev pub AllReadAfter : World → Type 0
 AllReadAfter w = (n : ℕ) (c : Joined) → At w.circuits n c → ReadAfter c.lists
+
+-- When a SERVER_DISCONN was read, the CLEAR_CHANNEL of the channel that was created there was sent before, or as the first message then.
+abbrev pub CutOn : Circuit → Type 0
+CutOn c = (l : ℕ) (g : Step) (t : Told) → At c.heard l g → At c.down l t → t.cause ≡ Removal
+    → (i sid : ℕ) × (u : Told) × At c.down i u × (u.cause ≡ Reply) × Creates u.message sid × (u.place ≡ t.place)
+    × ((m : ℕ) × (s : Sent) × (u.place < m) × (m ≤ g.sent) × At c.up m s × Clears s.message sid)
 
 -- ---- from one world to the next
 
@@ -76,7 +84,7 @@ pub record HearsOn (c d : Joined) : Type 0 where
   pub down : (i : ℕ) (t : Told) → At c.lists.down i t → At d.lists.down i t
   pub kept : (i : ℕ) (h : Step) → At c.lists.heard i h → At d.lists.heard i h
   pub heard : (i : ℕ) (h : Step) → At d.lists.heard i h → At c.lists.heard i h ⊎ ((h.sent ≡ length c.lists.up) × (d.lists.handled ≡ c.lists.handled)
-      × ((t : Told) → At c.lists.down i t → Is command.ServerDisconnect t.message → length d.lists.up ≤ length c.lists.up + 1))
+      × ((t : Told) → At d.lists.down i t → Is command.ServerDisconnect t.message → length d.lists.up ≤ length c.lists.up + 1))
 
 abbrev pub AllHear : (w new : World) → Type 0
 AllHear w new = (n : ℕ) (d : Joined) → At new.circuits n d → ((c : Joined) × At w.circuits n c × HearsOn c d) ⊎ (d.lists.heard ≡ [])
@@ -200,24 +208,24 @@ module _ (w new : World) (k : ℕ) (f : Happens w (event.ClientStep k) new) (hea
         | inr old ↦ absurd (old.1 refl)
       ]
 
-  sent-short : (t : Told) → At j.lists.down (length j.lists.heard) t → Is command.ServerDisconnect t.message → AtMostOne hearing.sent
-  sent-short t at ends = go (connection_at x.core j.at_client) refl hearing.steps
+  sent-short : (d : Joined) → ((i : ℕ) (t : Told) → At j.lists.down i t → At d.lists.down i t) → (t : Told) → At d.lists.down (length j.lists.heard) t → Is command.ServerDisconnect t.message → AtMostOne hearing.sent
+  sent-short e tells t at ends = go (connection_at x.core j.at_client) refl hearing.steps
     where
       go : (o : Option Connection) → connection_at x.core j.at_client ≡ o → StepsOn x.core j.at_client o (answer.Notices hearing.notices) hearing.sent hearing.core → AtMostOne hearing.sent
       go None is steps = absurd steps
       go (Some d) is takes =
           let m = told k j x d takes.m takes.rest f.0.joins.at f.0.joins.client f.0.is_open is takes.first in
-          let one : m.0 ≡ t = At-one j.lists.down (length j.lists.heard) m.0 t m.1 at in
+          let one : m.0 ≡ t = At-one e.lists.down (length j.lists.heard) m.0 t (tells (length j.lists.heard) m.0 m.1) at in
           let lost : takes.m.command ≡ 27 = ap (λ (z : Fields). z.command) (sym m.2 ∙ ap (λ (z : Told). z.message) one) ∙ ends in
           let y : Client = after_taking j.at_client takes.rest x.core in
           let does = left-of y j.at_client takes.m (record { core = hearing.core; sent = hearing.sent; notices = hearing.notices }) lost takes.hears in
-          subst (λ (e : Effect). AtMostOne e.sent) (sym does) (left-short y j.at_client (channel_on y j.at_client takes.m.p1))
+          subst (λ (z : Effect). AtMostOne z.sent) (sym does) (left-short y j.at_client (channel_on y j.at_client takes.m.p1))
 
-  up-short : (d : Joined) → At new.circuits k d → (t : Told) → At j.lists.down (length j.lists.heard) t → Is command.ServerDisconnect t.message → length d.lists.up ≤ length j.lists.up + 1
-  up-short d there t at ends =
+  up-short : (d : Joined) → At new.circuits k d → ((i : ℕ) (t : Told) → At j.lists.down i t → At d.lists.down i t) → (t : Told) → At d.lists.down (length j.lists.heard) t → Is command.ServerDisconnect t.message → length d.lists.up ≤ length j.lists.up + 1
+  up-short d there tells t at ends =
       let more : List Sent = sent_on j.client x.names hearing.sent (heard_in step j) in
       let len : length d.lists.up ≡ length j.lists.up + length more = ap (λ (l : List Sent). length l) (sent-up d there) ∙ length-append j.lists.up more in
-      let short : length more ≤ 1 = on-short j.client x.names hearing.sent (heard_in step j) (sent-short t at ends) in
+      let short : length more ≤ 1 = on-short j.client x.names hearing.sent (heard_in step j) (sent-short d tells t at ends) in
       omega (arith, len, short)
 
 -- a message is read
@@ -238,7 +246,7 @@ reads-hears w new k f hears told n d at =
               kept = λ i h there. subst (λ (l : List Step). At l i h) (sym g.heard) (At-append j.lists.heard (step ∷ []) i h there);
               heard = λ i h there. elim (At-snoc j.lists.heard step i h (subst (λ (l : List Step). At l i h) g.heard there)) [
                 | inl old ↦ inl old
-                | inr last ↦ inr (ap (λ (z : Step). z.sent) last.1, g.handled, λ t on ends. up-short w new k f hears told d (subst (λ (m : ℕ). At new.circuits m d) here.0 at) t (subst (λ (m : ℕ). At j.lists.down m t) last.0 on) ends)
+                | inr last ↦ inr (ap (λ (z : Step). z.sent) last.1, g.handled, λ t on ends. up-short w new k f hears told d (subst (λ (m : ℕ). At new.circuits m d) here.0 at) g.tells t (subst (λ (m : ℕ). At d.lists.down m t) last.0 on) ends)
               ];
             },
           )
@@ -366,7 +374,7 @@ stops-hears mid (Some (event.Tick moment)) w stops = elim stops [
 ]
 stops-hears mid stopped w stops = grown-hears mid w (grown-self mid w stops)
 
-run-read : (s : Setting) (es : List Event) (stopped : Option Event) (w : World) → IsSetting s → AreEvents es → Runs s es stopped w → AllReadOn w × AllReadAfter w
+pub run-read : (s : Setting) (es : List Event) (stopped : Option Event) (w : World) → IsSetting s → AreEvents es → Runs s es stopped w → AllReadOn w × AllReadAfter w
 run-read s es stopped w ok fine (mid, folds, stops) =
     pair w
     (all-read mid w (stops-hears mid stopped w stops) (run-heard s es None mid ok fine (mid, folds, refl)) (run-served s es None mid ok (mid, folds, refl)) (run-sided s es stopped w ok fine (mid, folds, stops)) (run-after s es stopped w ok (mid, folds, stops))
@@ -438,6 +446,94 @@ module _ (c : Joined) (created : CreatedOn c) (under : AreUnder c.lists) (asked 
             let is_clear : means.1 ≡ Clear = clear-is means.1 s.0.message (subst (λ (z : Intent). Suits z s.0.message) means.2 (asked p s.0 s.1)) (subst (λ (z : Fields). Is command.ClearChannel z) s.2 clears) in
             let meant : s.0.intent ≡ On means.0 Clear = means.2 ∙ ap (λ (z : Ask). On means.0 z) is_clear in
             ap (λ (z : Fields). z.p2) s.2 ∙ sym (cids r.1 p means.0 b.r s.0 b.asked.0 s.1 b.asked.1 meant) ∙ sym copy,
+      )
+
+module _ (c : Joined) (created : CreatedOn c) (under : AreUnder c.lists) (asked : (k : ℕ) (s : Sent) → At c.lists.up k s → Suits s.intent s.message) (read : ReadOn c.lists) (after : ReadAfter c.lists) (cids : AreCids c.lists.up)
+    (log late : ℕ) (order : InOrder c.lists.handled (length c.lists.up) (length c.lists.down) log) (steps : InOrder c.lists.heard (length c.lists.down) (length c.lists.up) late) (come : ComeAfter c.lists) (right : RemovedRight c) (cut : CutOn c.lists) where
+  abbrev done : Conduct
+  done = client_conduct c.lists
+
+  -- no SERVER_DISCONN for a channel was read before another message than its CLEAR_CHANNEL went out on it
+  uncut : (a j k p sid : ℕ) (s : Sent) → At c.lists.up p s → (b : IsCreatedBefore c.lists a j k sid p) → (Is command.ClearChannel s.message → ⊥) → (l : ℕ) (q : Fields) → j < l → ReadsBetween done k p l q → IsDisconnect b.t.message.p1 q → ⊥
+  uncut a j k p sid s at_s b other l q lt reads ends =
+      let v = At-mapped (λ (z : Told). z.message) c.lists.down l q reads.1 in
+      let h = At-mapped (λ (z : Step). z.sent) c.lists.heard l reads.0 reads.2 in
+      let until : reads.0 ≤ p = reads.4 in
+      let is : reads.0 ≡ h.0.sent = h.2 in
+      let r = right l v.0 v.1 (subst (λ (z : Fields). Is command.ServerDisconnect z) v.2 ends.0) in
+      let same : r.u.message.p1 ≡ b.t.message.p1 = r.cid ∙ ap (λ (z : Fields). z.p1) (sym v.2) ∙ ends.1 in
+      elim (three-ways r.i j) [
+        | inl first ↦
+            let w = (created.owned r.i j r.sid sid r.u b.t first r.at b.told.0 r.reply b.told.2 r.creates b.told.3 same).1 in
+            let f = come j b.t b.told.0 in
+            let le : f.0.sent ≤ j = f.2 in
+            elim (At-or c.lists.handled w.0) [
+              | inl g ↦
+                  let rise : g.0.sent ≤ f.0.sent = (order.rise w.0 b.t.place g.0 f.0 w.3 g.1 f.1).0 in
+                  r.uncleared w.0 w.1 g.0 w.2 g.1 (omega (arith, rise, le, lt)) w.4 w.5
+              | inr past ↦ (let within : b.t.place < length c.lists.handled = At-within c.lists.handled b.t.place f.0 f.1 in let below : w.0 < b.t.place = w.3 in omega (arith, within, below, past))
+            ]
+        | inr (inl one) ↦
+            let u_is : r.u ≡ b.t = At-one c.lists.down j r.u b.t (subst (λ (z : ℕ). At c.lists.down z r.u) one r.at) b.told.0 in
+            let z = cut l h.0 v.0 h.1 v.1 r.removal in
+            let place : z.2.place ≡ b.t.place = z.6 ∙ sym r.place ∙ ap (λ (x : Told). x.place) u_is in
+            let index : z.0 ≡ j = created.once z.0 j z.1 sid z.2 b.t z.3 b.told.0 z.4 b.told.2 z.5 b.told.3 place in
+            let t_is : z.2 ≡ b.t = At-one c.lists.down j z.2 b.t (subst (λ (x : ℕ). At c.lists.down x z.2) index z.3) b.told.0 in
+            let sids : z.1 ≡ sid = sym z.5.1 ∙ ap (λ (x : Told). x.message.p2) t_is ∙ b.told.3.1 in
+            let clears : Clears z.7.1.message sid = subst (λ (x : ℕ). Clears z.7.1.message x) sids z.7.5 in
+            let from : k < z.7.0 = (let x : z.2.place < z.7.0 = z.7.2 in let e : z.2.place ≡ k = place ∙ b.told.1 in omega (arith, x, e)) in
+            let upto : z.7.0 ≤ h.0.sent = z.7.3 in
+            elim (three-ways z.7.0 p) [
+              | inl before ↦ uncleared c created under asked a j k sid p b (z.7.0, z.7.1, from, before, z.7.4, clears)
+              | inr (inl here) ↦ other (subst (λ (x : Sent). Is command.ClearChannel x.message) (At-one c.lists.up p z.7.1 s (subst (λ (x : ℕ). At c.lists.up x z.7.1) here z.7.4) at_s) clears.0)
+              | inr (inr past) ↦ omega (arith, past, upto, is, until)
+            ]
+        | inr (inr last) ↦
+            let w = (created.owned j r.i sid r.sid b.t r.u last b.told.0 r.at b.told.2 r.reply b.told.3 r.creates (sym same)).1 in
+            let in_it : l < length c.lists.heard = At-within c.lists.heard l h.0 h.1 in
+            let early : r.i < l = r.early in
+            let g = At-below c.lists.heard r.i (omega (arith, in_it, early)) in
+            let asked_by : r.u.place < g.0.sent = after r.i g.0 r.u g.1 r.at in
+            let rise : g.0.sent ≤ h.0.sent = (steps.rise r.i l g.0 h.0 r.early g.1 h.1).0 in
+            let below : w.0 < r.u.place = w.3 in
+            uncleared c created under asked a j k sid p b (w.0, w.1, subst (λ (z : ℕ). z < w.0) b.told.1 w.2, omega (arith, below, asked_by, rise, is, until), w.4, w.5)
+      ]
+
+  pub legal-on-channel : (p : ℕ) (m : Fields) → At done.sent p m → IsOnChannel m → (i j cid : ℕ) × HasChannel done p i j cid (sid_in m)
+      × ((Is command.ClearChannel m × (m.p2 ≡ cid)) ⊎ ((Is command.ClearChannel m → ⊥) × ((l : ℕ) (r : Fields) → j < l → ReadsBetween done i p l r → IsDisconnect cid r → ⊥)))
+  legal-on-channel p m at on =
+      let s = At-mapped (λ (z : Sent). z.message) c.lists.up p m at in
+      let means = asks-on s.0 (asked p s.0 s.1) (subst (λ (z : Fields). IsOnChannel z) s.2 on) in
+      let r = read p means.0 s.0 means.1 s.1 means.2 means.3 in
+      let b = r.5 in
+      let sid : ℕ = sid_in s.0.message in
+      let about = created.about r.0 sid b.t b.told.0 b.told.2 b.told.3 in
+      let same : about.1.0 ≡ b.r = At-one c.lists.up r.1 about.1.0 b.r (subst (λ (z : ℕ). At c.lists.up z about.1.0) b.told.1 about.1.1) b.asked.0 in
+      let creates : Is command.CreateChannel b.r.message = subst (λ (z : Sent). Is command.CreateChannel z.message) same about.1.2 in
+      let copy : b.t.message.p1 ≡ b.r.message.p1 = created.copies r.0 sid b.t b.r b.told.0 b.told.2 b.told.3 (subst (λ (z : ℕ). At c.lists.up z b.r) (sym b.told.1) b.asked.0) in
+      let first : b.t.place < r.2.sent = after r.0 r.2 b.t r.3 b.told.0 in (
+        r.1,
+        r.0,
+        b.t.message.p1,
+        subst (λ (z : ℕ). HasChannel done p r.1 r.0 b.t.message.p1 z) (ap (λ (z : Fields). sid_in z) (sym s.2)) (
+          b.r.message,
+          b.t.message,
+          At-map (λ (z : Sent). z.message) c.lists.up r.1 b.r b.asked.0,
+          (creates, sym copy),
+          (r.2.sent, At-map (λ (z : Told). z.message) c.lists.down r.0 b.t b.told.0, At-map (λ (z : Step). z.sent) c.lists.heard r.0 r.2 r.3, subst (λ (z : ℕ). z < r.2.sent) b.told.1 first, r.4),
+          b.told.3,
+          refl,
+          λ l q late before there clears same_cid.
+              let v = At-mapped (λ (z : Sent). z.message) c.lists.up l q there in
+              uncleared c created under asked means.0 r.0 r.1 sid p b (l, v.0, late, before, v.1, subst (λ (z : Fields). Clears z sid) v.2 clears),
+        ),
+        elim (same-or m.command 12) [
+          | inl clears ↦
+              let is_clear : means.1 ≡ Clear = clear-is means.1 s.0.message (subst (λ (z : Intent). Suits z s.0.message) means.2 (asked p s.0 s.1)) (subst (λ (z : Fields). Is command.ClearChannel z) s.2 clears) in
+              let meant : s.0.intent ≡ On means.0 Clear = means.2 ∙ ap (λ (z : Ask). On means.0 z) is_clear in
+              inl (clears, ap (λ (z : Fields). z.p2) s.2 ∙ sym (cids r.1 p means.0 b.r s.0 b.asked.0 s.1 b.asked.1 meant) ∙ sym copy)
+          | inr other ↦ inr (other, λ l q late reads ends. uncut means.0 r.0 r.1 p sid s.0 s.1 b (λ clears. other (subst (λ (z : Fields). Is command.ClearChannel z) (sym s.2) clears)) l q late reads ends)
+        ],
       )
 
 pub run-channels : (s : Setting) (es : List Event) (stopped : Option Event) (w : World) → IsSetting s → AreEvents es → Runs s es stopped w → ClientsSendOnChannels w
