@@ -59,7 +59,7 @@ module _ (j : Joined) (log : List Entry) (f : Facts j log) (channel i k sid : â„
       by b m q (Subscribe number) same at is = tt
       by b m q (Cancel number) same at is = tt
 
-  all : IsCreatedBefore j.lists channel i k sid (length j.lists.up)
+  pub all : IsCreatedBefore j.lists channel i k sid (length j.lists.up)
   all =
       let g = gap k (length j.lists.up) (At-within j.lists.up k l.1.0 l.1.1) in
       let e : k + suc g.0 â‰¡ length j.lists.up = g.1 in

@@ -10,3 +10,12 @@ pub mod Joining
 pub mod Acts
 pub mod Causing
 pub mod Knew
+pub mod LegalEnds
+pub mod Names
+pub mod Gone
+pub mod KnewLists
+pub mod Answering
+pub mod Refused
+pub mod LiveRead
+pub mod Whole
+pub mod KnewFull

@@ -5,8 +5,16 @@
 
 mod act_laws;
 mod answer_laws;
+mod answered_laws;
+mod full_laws;
+mod gone_laws;
+mod knew_laws;
 mod laws;
+mod legal_laws;
+mod live_laws;
+mod name_laws;
 mod post_laws;
+mod refused_laws;
 
 pub use act_laws::{
     a_channel_is_opened_once, channels_are_created_for_their_records, live_channels_are_open,
@@ -15,8 +23,21 @@ pub use act_laws::{
 pub use answer_laws::{
     messages_have_their_causes, servers_know_their_records, what_stands_was_not_ended,
 };
+pub use answered_laws::messages_are_answered;
+pub use full_laws::servers_know_when_they_are_full;
+pub use gone_laws::retired_channels_lost_their_records;
+pub use knew_laws::{servers_know_their_channels, servers_know_their_keys};
 pub use laws::{
     follows_record_in_runs, listed_records_are_there, what_was_added_stands_or_is_over,
     what_was_sent_shows_its_posts,
 };
+pub use legal_laws::{
+    clients_go_by_their_channels, servers_send_what_they_may, servers_tell_of_removals,
+    servers_update_what_stands,
+};
+pub use live_laws::{
+    live_channels_have_their_records, servers_act_on_records, what_lost_its_record_is_cleared,
+};
+pub use name_laws::{names_are_kept, records_keep_their_names};
 pub use post_laws::{subscriptions_follow_their_posts, what_stands_follows_its_record};
+pub use refused_laws::{bad_channels_lost_their_records, channels_of_removed_records_are_bad};

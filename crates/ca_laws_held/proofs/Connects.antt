@@ -15,17 +15,19 @@ use Rattle.ca_model.specs.Answers.{Closing, Sending}
 use Rattle.ca_model.specs.Client.{Channel, Client, ClientCircuit, Creating, On, Phase, ended, is_on_in, sending}
 use Rattle.ca_model.specs.ClientEnds.{ConnectsOn, begun, creating, creations, is_connecting, of_circuit, set_up}
 use Rattle.ca_model.specs.Hears.{create_sent}
-use Rattle.ca_model.specs.History.{Ask, Cancel, Create, Intent, Sent, Subscribe}
+use Rattle.ca_model.specs.History.{Ask, Cancel, Clear, Create, Intent, Sent, Subscribe}
 use Rattle.ca_model.specs.History as history
 use Rattle.ca_model_client.specs.Placed.{IsPlaced}
 use Rattle.ca_model_client.proofs.Handles.{same-itself, same-not}
 use Rattle.ca_model_client.proofs.Standings.{at-filter-map, is-on}
-use Rattle.ca_model_client.proofs.Tables.{all-back, under-held}
+use Rattle.ca_model_client.proofs.Tables.{all-back, held-under, under-held}
 use Rattle.ca_model_client.proofs.Thinner.{given-thin, number-or, thin-all}
 use Rattle.ca_model_world.specs.ClientEvents.{channel_number}
 use Rattle.ca_model_world.specs.World.{Names}
 use Rattle.ca_laws_runs.specs.Circuit.{stamped}
-use Rattle.ca_laws_held.specs.Quiet.{IsBeingCreated, IsNamedIn, NoneAfter, PhaseIn, Quiet, StageIn, Tidy}
+use Rattle.ca_laws_held.specs.Quiet.{HasCid, IsBeingCreated, IsNamedIn, NoneAfter, PhaseIn, Quiet, StageIn, Tidy}
+use Rattle.ca_laws_held.proofs.AddedApart.{IsPlain}
+use Rattle.ca_laws_held.proofs.CidsSaid.{cid-none}
 use Rattle.ca_laws_held.proofs.Lesser.{less-ended, less-sending, quiet-less, tidy-less}
 use Rattle.ca_laws_held.proofs.Phases.{same-ask, same-number}
 use Rattle.ca_laws_held.proofs.Phased.{stood-handle, stood-phase}
@@ -105,9 +107,20 @@ said-none n c on (s ∷ ss) other all = go (same_handle s.circuit on) (subst (λ
 -- ---- the client whose circuit is connected
 
 -- From the one client to the other, but on this circuit, on which these were sent first.
+opening-plain : (s : Sent) → IsOpening s.intent → IsPlain s
+opening-plain s opens a m e = elim opens [ inl serves ↦ serves-not (sym serves ∙ e) | inr creates ↦ creates-not creates.0 (sym creates.1 ∙ e) ]
+  where
+    serves-not : history.OfCircuit ≡ history.On a (Subscribe m) → ⊥
+    serves-not f = cc
+
+    creates-not : (b : ℕ) → history.On b Create ≡ history.On a (Subscribe m) → ⊥
+    creates-not b f = cc
+
 pub record Connected (n : Names) (x : Client) (c : Handle) (sent : List Sending) (y : Client) : Type 0 where
   pub tidy : Tidy n y
   pub others : (on : Handle) (up : List Sent) → (c ≡ on → ⊥) → Quiet n x on up → Quiet n y on (up ++ said n on sent)
+  pub plain : (i : ℕ) (s : Sending) → At sent i s → IsPlain (stamped n s)
+  pub cids : (i : ℕ) (s : Sending) → At sent i s → HasCid n.channels (stamped n s)
 
 module _ (n : Names) (x : Client) (c : Handle) (d : ClientCircuit) (t : Tidy n x) (placed : IsPlaced x) (there : under x.circuits c ≡ Some d) (none : d.connection ≡ None) where
   abbrev sends : List Sending
@@ -133,6 +146,29 @@ module _ (n : Names) (x : Client) (c : Handle) (d : ClientCircuit) (t : Tidy n x
       go : (e : Handle × Channel) (b : Bool) → cond b (Some (create_sent c e.0 e.1)) None ≡ Some s → (s.circuit ≡ c) × IsOpening (stamped n s).intent
       go e true is = (let r = some_is (create_sent c e.0 e.1) s is in (ap (λ (w : Sending). w.circuit) (sym r), inr (channel_number n e.0, ap (λ (w : Sending). (stamped n w).intent) (sym r))))
       go e false is = absurd cc
+
+  -- with the CID of its channel
+  each-cid : (i : ℕ) (s : Sending) → At sends i s → HasCid n.channels (stamped n s)
+  each-cid i s at = elim (At-parts (set_up x.peer c d) (creations c x) i s at) [
+    | inl first ↦
+        let m = At-mapped (of_circuit c) (version_request d.priority ∷ name_request command.ClientName x.peer.user ∷ name_request command.HostName x.peer.host ∷ []) i s first in
+        cid-none n.channels (stamped n s) (λ a. (λ e. serves-not a Create (sym (ap (λ (w : Sending). (stamped n w).intent) m.2) ∙ e), λ e. serves-not a Clear (sym (ap (λ (w : Sending). (stamped n w).intent) m.2) ∙ e)))
+    | inr later ↦
+        let m = at-filter-map made (held x.channels) later.0 s later.2 in
+        go m.1 (is_on_in is_connecting c m.1.1) m.3 (t.numbered m.1.0 m.1.1 (held-under x.channels m.0 m.1 m.2))
+  ]
+    where
+      serves-not : (a : ℕ) (ask : Ask) → history.OfCircuit ≡ history.On a ask → ⊥
+      serves-not a ask e = cc
+
+      not-clear : (a b : ℕ) → history.On a Create ≡ history.On b Clear → ⊥
+      not-clear a b e = cc
+
+      go : (e : Handle × Channel) (b : Bool) → cond b (Some (create_sent c e.0 e.1)) None ≡ Some s → At n.channels (channel_number n e.0) e.0 → HasCid n.channels (stamped n s)
+      go e true is numbered =
+          subst (λ (w : Sending). HasCid n.channels (stamped n w)) (some_is (create_sent c e.0 e.1) s is)
+          (λ a. (λ same. (e.0, subst (λ (k : ℕ). At n.channels k e.0) (same-number (channel_number n e.0) a Create Create same) numbered, refl), λ same. absurd (not-clear (channel_number n e.0) a same)))
+      go e false is numbered = absurd cc
 
   abbrev stamps : List Sent
   stamps = map (stamped n) sends
@@ -227,6 +263,8 @@ module _ (n : Names) (x : Client) (c : Handle) (d : ClientCircuit) (t : Tidy n x
           others = λ on up other q.
               subst (λ (l : List Sent). Quiet n (sending sends z) on l) (sym (ap (λ (l : List Sent). up ++ l) (said-none n c on sends other (λ i s at. (each i s at).0)) ∙ append-nil up))
               (quiet-less n z (sending sends z) on up (less-sending sends z) (quiet-others on up other q));
+          plain = λ i s at. opening-plain (stamped n s) (each i s at).1;
+          cids = each-cid;
         },
         λ e. subst (λ (l : List Sent). Quiet n (sending sends z) c l) (sym (said-all n c sends (λ i s at. (each i s at).0))) (quiet-less n z (sending sends z) c stamps (less-sending sends z) quiet-begun),
       )
@@ -235,6 +273,8 @@ module _ (n : Names) (x : Client) (c : Handle) (d : ClientCircuit) (t : Tidy n x
         record {
           tidy = tidy-less n x (ended c x) (less-ended c x) t;
           others = λ on up other q. subst (λ (l : List Sent). Quiet n (ended c x) on l) (sym (append-nil up)) (quiet-less n x (ended c x) on up (less-ended c x) q);
+          plain = λ i s at. absurd cc;
+          cids = λ i s at. absurd cc;
         },
         λ e. absurd (not-none e),
       )

@@ -37,19 +37,23 @@ use Rattle.ca_laws_held.proofs.Ways.{AllServe, Way, by-way, serving-right}
 none-at : (s : Sent) (i : ℕ) → At [] i s → ⊥
 none-at s i at = cc
 
--- what was read plays no part
-pub right-again : (c d : Circuit) → Right (record d { heard = c.heard }) → Right d
-right-again c d h = record {
+-- what was read since plays no part
+pub right-again : (c d : Circuit) → length c.heard ≤ length d.heard → Right (record d { heard = c.heard }) → Right d
+right-again c d more h = record {
+  read = λ p a s ask at is other.
+      let b = h.read p a s ask at is other in
+      let lt : b.0 < length c.heard = b.2 in
+      (b.0, b.1, omega (arith, lt, more), record { t = (b.3).t; r = (b.3).r; told = (b.3).told; asked = (b.3).asked; early = (b.3).early; since = (b.3).since });
   under = λ p a s ask at is other. (let b = h.under p a s ask at is other in (b.0, b.1, record { t = (b.2).t; r = (b.2).r; told = (b.2).told; asked = (b.2).asked; early = (b.2).early; since = (b.2).since }));
   between = h.between;
   turn = h.turn;
 }
 
-pub right-served : (c d : Circuit) (ss : List Sent) → d.up ≡ c.up ++ ss → d.down ≡ c.down → length d.handled ≡ length c.handled → AllServe ss → Right c → Right d
-right-served c d ss up down handled serve h = right-again c d (serving-right c (record d { heard = c.heard }) ss up down refl handled serve h)
+pub right-served : (c d : Circuit) (ss : List Sent) → d.up ≡ c.up ++ ss → d.down ≡ c.down → length c.heard ≤ length d.heard → length d.handled ≡ length c.handled → AllServe ss → Right c → Right d
+right-served c d ss up down more handled serve h = right-again c d more (serving-right c (record d { heard = c.heard }) ss up down refl handled serve h)
 
-pub same-right : (c d : Circuit) → d.up ≡ c.up → d.down ≡ c.down → length d.handled ≡ length c.handled → Right c → Right d
-same-right c d up down handled h = right-served c d [] (up ∙ sym (append-nil c.up)) down handled (λ i s at. absurd (none-at s i at)) h
+pub same-right : (c d : Circuit) → d.up ≡ c.up → d.down ≡ c.down → length c.heard ≤ length d.heard → length d.handled ≡ length c.handled → Right c → Right d
+same-right c d up down more handled h = right-served c d [] (up ∙ sym (append-nil c.up)) down more handled (λ i s at. absurd (none-at s i at)) h
 
 module _ (c d : Circuit) (up : d.up ≡ c.up) (down : d.down ≡ c.down) (heard : length d.heard ≡ length c.heard) (handled : length d.handled ≡ length c.handled) where
   no-more : d.up ≡ c.up ++ []
@@ -146,10 +150,11 @@ pub record IsEnd (i : ℕ) (n : Names) (sent : List Sending) (a j : Joined) : Ty
   pub up : j.lists.up ≡ a.lists.up ++ sent_on i n sent a
   pub down : j.lists.down ≡ a.lists.down
   pub heard : (a.client ≡ i → ⊥) → length j.lists.heard ≡ length a.lists.heard
+  pub more : length a.lists.heard ≤ length j.lists.heard
   pub handled : length j.lists.handled ≡ length a.lists.handled
 
 pub end-of : (i : ℕ) (n : Names) (sent : List Sending) (a j : Joined) → IsEndAfter i n sent a j → IsEnd i n sent a j
-end-of i n sent a j e = record { client = e.client; handle = e.handle; opens = e.opens; shuts = e.shuts; up = e.up; down = e.down; heard = λ other. e.heard; handled = e.handled }
+end-of i n sent a j e = record { client = e.client; handle = e.handle; opens = e.opens; shuts = e.shuts; up = e.up; down = e.down; heard = λ other. e.heard; more = (let is : length j.lists.heard ≡ length a.lists.heard = e.heard in omega (arith, is)); handled = e.handled }
 
 abbrev pub AllEnds : (i : ℕ) (n : Names) (sent : List Sending) → (was now : List Joined) → Type 0
 AllEnds i n sent was now = (k : ℕ) (j : Joined) → At now k j → (a : Joined) × At was k a × IsEnd i n sent a j
@@ -178,13 +183,13 @@ module _ (w new : World) (i : ℕ) (x z : ClientSide) (spoken : Names) (sent : L
     right = λ k j stands.
         let p = ends k j stands in
         elim (number-or p.0.client i) [
-          | inr other ↦ same-right p.0.lists j.lists (up-same p.0 j p.2 (sent-other i spoken sent p.0 other)) p.2.down p.2.handled (s.right k p.0 p.1)
+          | inr other ↦ same-right p.0.lists j.lists (up-same p.0 j p.2 (sent-other i spoken sent p.0 other)) p.2.down p.2.more p.2.handled (s.right k p.0 p.1)
           | inl mine ↦ elim (cases_Bool p.0.lists.client_open) [
-            | inr shut ↦ same-right p.0.lists j.lists (up-same p.0 j p.2 (sent-closed i spoken sent p.0 shut)) p.2.down p.2.handled (s.right k p.0 p.1)
+            | inr shut ↦ same-right p.0.lists j.lists (up-same p.0 j p.2 (sent-closed i spoken sent p.0 shut)) p.2.down p.2.more p.2.handled (s.right k p.0 p.1)
             | inl opened ↦ elim (cases_Bool j.lists.client_open) [
               | inl still ↦ (stepped k j p.0 stands p.1 p.2 mine still).1
               | inr ended ↦
-                  right-served p.0.lists j.lists (said spoken p.0.at_client sent) (p.2.up ∙ ap (λ (l : List Sent). p.0.lists.up ++ l) (sent-mine i spoken sent p.0 mine opened)) p.2.down p.2.handled
+                  right-served p.0.lists j.lists (said spoken p.0.at_client sent) (p.2.up ∙ ap (λ (l : List Sent). p.0.lists.up ++ l) (sent-mine i spoken sent p.0 mine opened)) p.2.down p.2.more p.2.handled
                   (p.2.shuts opened ended) (s.right k p.0 p.1)
             ]
           ]

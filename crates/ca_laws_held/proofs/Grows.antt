@@ -76,7 +76,7 @@ module _ (c d : Circuit) (ss : List Sent) (up : d.up ≡ c.up ++ ss) (down : d.d
     since = λ p q ask after before at is. h.since p q ask after before (below p q at (omega (arith, before, le))) is;
   }
 
-  pub right-more : Right c → ((i a : ℕ) (s : Sent) (ask : Ask) → At ss i s → s.intent ≡ On a ask → (ask ≡ Create → ⊥) → (j k : ℕ) × IsCreatedBefore d a j k (sid_in s.message) (length c.up + i))
+  pub right-more : Right c → ((i a : ℕ) (s : Sent) (ask : Ask) → At ss i s → s.intent ≡ On a ask → (ask ≡ Create → ⊥) → (j k : ℕ) × (j < length d.heard) × IsCreatedBefore d a j k (sid_in s.message) (length c.up + i))
       → ((i a p m sid : ℕ) (r q : Sent) (t : Told) → At ss i q → q.intent ≡ On a Create → p < length c.up + i → At d.up p r → r.intent ≡ On a Create → At d.down m t → t.place ≡ p → t.cause ≡ Reply → Creates t.message sid → IsClearedWithin d.up sid p (length c.up + i))
       → ((i a p : ℕ) (r q : Sent) → At ss i q → q.intent ≡ On a Create → p < length c.up + i → At d.up p r → r.intent ≡ On a Create → p < length d.handled) → Right d
   right-more h under between turn = record {
@@ -86,7 +86,15 @@ module _ (c d : Circuit) (ss : List Sent) (up : d.up ≡ c.up ++ ss) (down : d.d
           (b.0, b.1, created-still a b.0 b.1 (sid_in s.message) p (let lt : p < length c.up = At-within c.up p s old in omega (arith, lt)) b.2)
       | inr new ↦
           let b = under new.0 a s ask new.2 is other in
-          (b.0, b.1, subst (λ (z : ℕ). IsCreatedBefore d a b.0 b.1 (sid_in s.message) z) (sym new.1) b.2)
+          (b.0, b.1, subst (λ (z : ℕ). IsCreatedBefore d a b.0 b.1 (sid_in s.message) z) (sym new.1) b.3)
+    ];
+    read = λ p a s ask at is other. elim (new-up p s at) [
+      | inl old ↦
+          let b = h.read p a s ask old is other in
+          (b.0, b.1, subst (λ (m : ℕ). b.0 < m) (sym heard) b.2, created-still a b.0 b.1 (sid_in s.message) p (let lt : p < length c.up = At-within c.up p s old in omega (arith, lt)) b.3)
+      | inr new ↦
+          let b = under new.0 a s ask new.2 is other in
+          (b.0, b.1, b.2, subst (λ (z : ℕ). IsCreatedBefore d a b.0 b.1 (sid_in s.message) z) (sym new.1) b.3)
     ];
     between = λ p k a i sid r q t lt at_r at_q is_r is_q told about reply creates. elim (new-up k q at_q) [
       | inl old ↦

@@ -12,6 +12,7 @@ use Rattle.ca_arena.specs.declared.handle.Handle.{Handle}
 use Rattle.ca_dbr.specs.Elements.{Elements}
 use Rattle.ca_link.specs.Link.{with_handed}
 use Rattle.ca_wire.specs.Messages.{bare}
+use Rattle.ca_ids.specs.Table.{same_handle}
 use Rattle.ca_model.specs.Answers.{Closed, Closing, Left, NeedBytes, Notice, Notices, Sending, Stepped}
 use Rattle.ca_model.specs.Answers as answer
 use Rattle.ca_model.specs.Client.{Client, ClientCircuit, Connection, connection_at, ended, on_connection, out_bytes, sending}
@@ -30,13 +31,15 @@ use Rattle.ca_laws_runs.specs.Circuit.{sent_to, stamped}
 use Rattle.ca_laws_runs.specs.Clients.{ClientsStand}
 use Rattle.ca_laws_runs.proofs.ClientsKeep.{none-under}
 use Rattle.ca_laws_runs.proofs.ClientsMore.{unconnected-is, wanted-there}
-use Rattle.ca_laws_held.specs.Quiet.{AreSubIds, ClientsQuiet, Quiet, Tidy}
+use Rattle.ca_laws_held.specs.Quiet.{AreAddedApart, AreCids, HaveCids, AreSubIds, ClientsQuiet, Quiet, Tidy}
 use Rattle.ca_laws_held.proofs.Connects.{Connected, connected-so}
-use Rattle.ca_laws_held.proofs.HeardEnds.{IsEndAfter, IsSameEnd, after-sent, after-then, all-same, all-set, ids-still, quiet-called, quiet-moved, quiet-same, same-closed, same-end, sent-closed, sent-mine, sent-other}
+use Rattle.ca_laws_held.proofs.HeardEnds.{cids-still, IsEndAfter, IsSameEnd, after-sent, after-then, all-same, all-set, ids-still, quiet-called, quiet-moved, quiet-same, same-closed, same-end, sent-closed, sent-mine, sent-other}
 use Rattle.ca_laws_held.proofs.Issued.{moved-opened, moved-put, moved-read, moved-subscribed, moved-written}
 use Rattle.ca_laws_held.proofs.Lesser.{Less, less-ended, less-itself, less-on, less-same, less-sending}
 use Rattle.ca_laws_held.proofs.Listened.{moved-all-received, moved-heard, moved-ticked}
 use Rattle.ca_laws_held.proofs.Phased.{moved-before, moved-cleared, moved-unsubscribed, standing-stage}
+use Rattle.ca_laws_held.proofs.AddedApart.{apart-if, apart-said}
+use Rattle.ca_laws_held.proofs.CidsSaid.{cid-none, cids-are, cids-parts, cids-said}
 use Rattle.ca_laws_held.proofs.Says.{Moved, moved-less, moved-less-then, quiet-circuit, quiet-each, said, sub-ids}
 
 -- ---- calls
@@ -124,7 +127,10 @@ module _ (w new : World) (i : ℕ) (x : ClientSide) (at : At w.clients i x) (sta
 -- messages that serve the circuit
 moved-serving : (n : Names) (x : Client) (sends : List Sending) → Tidy n x → ((i : ℕ) (s : Sending) → At sends i s → (stamped n s).intent ≡ history.OfCircuit) → Moved n x n sends n (sending sends x)
 moved-serving n x sends t serves =
-    moved-less-then n n n x x (sending sends x) sends (record { tidy = t; quiet = λ on up q. quiet-each n x on sends (λ i s l at same quiet. quiet-circuit n x on l (stamped n s) t quiet (serves i s at)) up q }) (less-sending sends x)
+    moved-less-then n n n x x (sending sends x) sends (record { tidy = t; quiet = λ on up q. quiet-each n x on sends (λ i s l at same quiet. quiet-circuit n x on l (stamped n s) t quiet (serves i s at)) up q; apart = λ on up q were. apart-said n on up sends (λ i s at a m e. serves-not a (history.Subscribe m) (sym (serves i s at) ∙ e)) were; cids = λ on up were. cids-parts n.channels up (said n on sends) were (cids-said n.channels n (λ (z : Sending). same_handle z.circuit on) sends (λ i s at. cid-none n.channels (stamped n s) (λ a. (λ e. serves-not a history.Create (sym (serves i s at) ∙ e), λ e. serves-not a history.Clear (sym (serves i s at) ∙ e))))) }) (less-sending sends x)
+  where
+    serves-not : (a : ℕ) (ask : history.Ask) → history.OfCircuit ≡ history.On a ask → ⊥
+    serves-not a ask e = cc
 
 moved-given : (n : Names) (x : Client) (c : Handle) (bytes : List ℕ) (more : Bool) (o : Option Connection) (sent : List Sending) (y : Client) → GivesOn x c bytes more o (Ok tt) sent y → Tidy n x → Moved n x n sent n y
 moved-given n x c bytes more (Some e) sent y gives t =
@@ -246,6 +252,21 @@ quiet-client-restart w new i x at s happens = subst (λ (v : World). ClientsQuie
       let m = At-mapped (client_gone i x) w.circuits k j stands in
       let end : IsSameEnd m.0 j = subst (λ (b : Joined). IsSameEnd m.0 b) (sym m.2) (ends m.0) in
       subst (λ (l : List Sent). AreSubIds l) (sym end.up) (s.ids k m.0 m.1);
+  apart = λ k j stands.
+      let m = At-mapped (client_gone i x) w.circuits k j stands in
+      let end : IsSameEnd m.0 j = subst (λ (b : Joined). IsSameEnd m.0 b) (sym m.2) (ends m.0) in
+      subst (λ (l : List Sent). AreAddedApart l) (sym end.up) (s.apart k m.0 m.1);
+  named = λ k j y stands there open_it.
+      let m = At-mapped (client_gone i x) w.circuits k j stands in
+      let end : IsSameEnd m.0 j = subst (λ (b : Joined). IsSameEnd m.0 b) (sym m.2) (ends m.0) in
+      elim (At-set w.clients i z j.client y there) [
+        | inl here ↦ absurd (shut m.0 j m.2 here.0 open_it)
+        | inr old ↦ subst (λ (l : List Sent). HaveCids y.names.channels l) (sym end.up) (s.named k m.0 y m.1 (subst (λ (c : ℕ). At w.clients c y) end.client old.0) (end.opens open_it))
+      ];
+  cids = λ k j stands.
+      let m = At-mapped (client_gone i x) w.circuits k j stands in
+      let end : IsSameEnd m.0 j = subst (λ (b : Joined). IsSameEnd m.0 b) (sym m.2) (ends m.0) in
+      subst (λ (l : List Sent). AreCids l) (sym end.up) (s.cids k m.0 m.1);
 })
   where
     servers : List Address
@@ -357,8 +378,64 @@ quiet-joined w i x core sent lines n servers at mine empty none stands connected
           ]
         ]
       ];
+  apart = λ k j stood.
+      let m = after-sent i x.names sent (w.circuits ++ n ∷ []) k j stood in
+      subst (λ (l : List Sent). AreAddedApart l) (sym (m.2).up)
+      (apart-if x.names m.0.at_client m.0.lists.up sent (eqb m.0.client i && m.0.lists.client_open) connected.plain (elim (At-snoc w.circuits n k m.0 m.1) [
+        | inl was ↦ s.apart k m.0 was
+        | inr last ↦ subst (λ (l : List Sent). AreAddedApart l) (sym (ap (λ (v : Joined). v.lists.up) last.1 ∙ empty)) none-apart
+      ]));
+  named = λ k j y stood there open_it.
+      let m = after-sent i x.names sent (w.circuits ++ n ∷ []) k j stood in
+      elim (At-set w.clients i z j.client y there) [
+        | inl here ↦
+            subst (λ (v : ClientSide). HaveCids v.names.channels j.lists.up) (sym here.1)
+            (mine-named k j m.0 m.1 m.2 (sym (m.2).client ∙ here.0) ((m.2).opens open_it))
+        | inr old ↦ elim (At-snoc w.circuits n k m.0 m.1) [
+          | inl was ↦
+              let other : m.0.client ≡ i → ⊥ = λ same. old.1 ((m.2).client ∙ same) in
+              let up : j.lists.up ≡ m.0.lists.up = (m.2).up ∙ ap (λ (l : List Sent). m.0.lists.up ++ l) (sent-other i x.names sent m.0 other) ∙ append-nil m.0.lists.up in
+              subst (λ (l : List Sent). HaveCids y.names.channels l) (sym up) (s.named k m.0 y was (subst (λ (c : ℕ). At w.clients c y) (m.2).client old.0) ((m.2).opens open_it))
+          | inr last ↦ absurd (old.1 ((m.2).client ∙ ap (λ (v : Joined). v.client) last.1 ∙ mine))
+        ]
+      ];
+  cids = λ k j stood.
+      let m = after-sent i x.names sent (w.circuits ++ n ∷ []) k j stood in
+      elim (cases_Bool m.0.lists.client_open) [
+        | inr shut ↦ cids-still i x.names sent m.0 j m.2 (sent-closed i x.names sent m.0 shut) (was-cids k m.0 m.1)
+        | inl opened ↦ elim (number-or m.0.client i) [
+          | inr other ↦ cids-still i x.names sent m.0 j m.2 (sent-other i x.names sent m.0 other) (was-cids k m.0 m.1)
+          | inl ours ↦ cids-are x.names.channels j.lists.up (mine-named k j m.0 m.1 m.2 ours opened)
+        ]
+      ];
 }
   where
+    empty-cids : HaveCids x.names.channels []
+    empty-cids p r at = absurd cc
+
+    was-cids : (k : ℕ) (a : Joined) → At (w.circuits ++ n ∷ []) k a → AreCids a.lists.up
+    was-cids k a at_a = elim (At-snoc w.circuits n k a at_a) [
+      | inl was ↦ s.cids k a was
+      | inr last ↦ subst (λ (l : List Sent). AreCids l) (sym (ap (λ (v : Joined). v.lists.up) last.1 ∙ empty)) (cids-are x.names.channels [] empty-cids)
+    ]
+
+    mine-named : (k : ℕ) (j a : Joined) → At (w.circuits ++ n ∷ []) k a → IsEndAfter i x.names sent a j → a.client ≡ i → a.lists.client_open ≡ true → HaveCids x.names.channels j.lists.up
+    mine-named k j a at_a end ours opened =
+        subst (λ (l : List Sent). HaveCids x.names.channels l) (sym (end.up ∙ ap (λ (l : List Sent). a.lists.up ++ l) (sent-mine i x.names sent a ours opened)))
+        (cids-parts x.names.channels a.lists.up (said x.names a.at_client sent) before (cids-said x.names.channels x.names (λ (v : Sending). same_handle v.circuit a.at_client) sent connected.cids))
+      where
+        before : HaveCids x.names.channels a.lists.up
+        before = elim (At-snoc w.circuits n k a at_a) [
+          | inl was ↦ s.named k a x was (subst (λ (c : ℕ). At w.clients c x) (sym ours) at) opened
+          | inr last ↦ subst (λ (l : List Sent). HaveCids x.names.channels l) (sym (ap (λ (v : Joined). v.lists.up) last.1 ∙ empty)) empty-cids
+        ]
+
+    none-apart : AreAddedApart []
+    none-apart p q a b r v lt there = absurd (no-sent p r there)
+      where
+        no-sent : (p : ℕ) (r : Sent) → (let l : List Sent = [] in At l p r) → ⊥
+        no-sent p r at = cc
+
     nothing : AreSubIds []
     nothing p q a b m r v at there adds cancels = absurd (no-sent p r at)
       where

@@ -16,7 +16,8 @@ use Rattle.ca_model_world.specs.World.{ClientSide, Joined, Names, ServerSide, Wo
 use Rattle.ca_laws_runs.specs.Circuit.{sent_to, stamped}
 use Rattle.ca_model_client.proofs.Thinner.{number-or}
 use Rattle.ca_laws_runs.proofs.Handled.{Like}
-use Rattle.ca_laws_held.specs.Quiet.{AreSubIds, ClientsQuiet, Quiet, Tidy}
+use Rattle.ca_laws_held.specs.Quiet.{AreAddedApart, AreCids, HaveCids, AreSubIds, ClientsQuiet, Quiet, Tidy}
+use Rattle.ca_laws_held.proofs.CidsSaid.{cids-are}
 use Rattle.ca_laws_held.proofs.Says.{Moved, said, sub-ids}
 
 -- It is an end of the same client under the same handle; if it is open it was, and these were sent there since.
@@ -90,6 +91,12 @@ quiet-same w new same all s = record {
       let client : At w.clients p.0.client x = subst (λ (z : ℕ). At w.clients z x) p.2.client (subst (λ (l : List ClientSide). At l j.client x) same there) in
       subst (λ (z : Handle × List Sent). Quiet x.names x.core z.0 z.1) (λ i. (sym p.2.handle i, sym p.2.up i)) (s.quiet k p.0 x p.1 client (p.2.opens open_it));
   ids = λ k j at. (let p = all k j at in subst (λ (l : List Sent). AreSubIds l) (sym p.2.up) (s.ids k p.0 p.1));
+  apart = λ k j at. (let p = all k j at in subst (λ (l : List Sent). AreAddedApart l) (sym p.2.up) (s.apart k p.0 p.1));
+  named = λ k j x at there open_it.
+      let p = all k j at in
+      let client : At w.clients p.0.client x = subst (λ (z : ℕ). At w.clients z x) p.2.client (subst (λ (l : List ClientSide). At l j.client x) same there) in
+      subst (λ (l : List Sent). HaveCids x.names.channels l) (sym p.2.up) (s.named k p.0 x p.1 client (p.2.opens open_it));
+  cids = λ k j at. (let p = all k j at in subst (λ (l : List Sent). AreCids l) (sym p.2.up) (s.cids k p.0 p.1));
 }
 
 pub sent-mine : (i : ℕ) (n : Names) (sent : List Sending) (a : Joined) → a.client ≡ i → a.lists.client_open ≡ true → sent_on i n sent a ≡ said n a.at_client sent
@@ -118,6 +125,15 @@ sent-closed i n sent a shut = go (eqb a.client i) a.lists.client_open shut
 pub ids-still : (i : ℕ) (n : Names) (sent : List Sending) (a j : Joined) → IsEndAfter i n sent a j → sent_on i n sent a ≡ [] → AreSubIds a.lists.up → AreSubIds j.lists.up
 ids-still i n sent a j end none ids =
     subst (λ (l : List Sent). AreSubIds l) (sym (end.up ∙ ap (λ (l : List Sent). a.lists.up ++ l) none ∙ append-nil a.lists.up)) ids
+
+-- and so do EVENT_ADDs
+apart-still : (i : ℕ) (n : Names) (sent : List Sending) (a j : Joined) → IsEndAfter i n sent a j → sent_on i n sent a ≡ [] → AreAddedApart a.lists.up → AreAddedApart j.lists.up
+apart-still i n sent a j end none were =
+    subst (λ (l : List Sent). AreAddedApart l) (sym (end.up ∙ ap (λ (l : List Sent). a.lists.up ++ l) none ∙ append-nil a.lists.up)) were
+
+pub cids-still : (i : ℕ) (n : Names) (sent : List Sending) (a j : Joined) → IsEndAfter i n sent a j → sent_on i n sent a ≡ [] → AreCids a.lists.up → AreCids j.lists.up
+cids-still i n sent a j end none were =
+    subst (λ (l : List Sent). AreCids l) (sym (end.up ∙ ap (λ (l : List Sent). a.lists.up ++ l) none ∙ append-nil a.lists.up)) were
 
 -- one client changes, and sent these
 pub quiet-moved : (w new : World) (i : ℕ) (x z : ClientSide) (spoken : Names) (sent : List Sending) → At w.clients i x → new.clients ≡ slice_set w.clients i z → ((k : ℕ) (j : Joined) → At new.circuits k j → (a : Joined) × At w.circuits k a × IsEndAfter i spoken sent a j)
@@ -155,7 +171,43 @@ quiet-moved w new i x z spoken sent at same ends moved s = record {
               subst (λ (l : List Sent). AreSubIds l) (sym up) (sub-ids z.names z.core p.0.at_client (p.0.lists.up ++ said spoken p.0.at_client sent) (moved.quiet p.0.at_client p.0.lists.up was))
         ]
       ];
+  apart = λ k j stands.
+      let p = ends k j stands in
+      elim (cases_Bool p.0.lists.client_open) [
+        | inr shut ↦ apart-still i spoken sent p.0 j p.2 (sent-closed i spoken sent p.0 shut) (s.apart k p.0 p.1)
+        | inl opened ↦ elim (number-or p.0.client i) [
+          | inr other ↦ apart-still i spoken sent p.0 j p.2 (sent-other i spoken sent p.0 other) (s.apart k p.0 p.1)
+          | inl mine ↦
+              let was : Quiet x.names x.core p.0.at_client p.0.lists.up = s.quiet k p.0 x p.1 (subst (λ (c : ℕ). At w.clients c x) (sym mine) at) opened in
+              let up : j.lists.up ≡ p.0.lists.up ++ said spoken p.0.at_client sent = p.2.up ∙ ap (λ (l : List Sent). p.0.lists.up ++ l) (sent-mine i spoken sent p.0 mine opened) in
+              subst (λ (l : List Sent). AreAddedApart l) (sym up) (moved.apart p.0.at_client p.0.lists.up was (s.apart k p.0 p.1))
+        ]
+      ];
+  named = λ k j y stands there open_it.
+      let p = ends k j stands in
+      let opened : p.0.lists.client_open ≡ true = p.2.opens open_it in
+      elim (At-set w.clients i z j.client y (subst (λ (c : List ClientSide). At c j.client y) same there)) [
+        | inl here ↦ subst (λ (v : ClientSide). HaveCids v.names.channels j.lists.up) (sym here.1) (mine-named k j p.0 p.1 p.2 (sym p.2.client ∙ here.0) opened)
+        | inr old ↦
+            let other : p.0.client ≡ i → ⊥ = λ e. old.1 (p.2.client ∙ e) in
+            let up : j.lists.up ≡ p.0.lists.up = p.2.up ∙ ap (λ (l : List Sent). p.0.lists.up ++ l) (sent-other i spoken sent p.0 other) ∙ append-nil p.0.lists.up in
+            subst (λ (l : List Sent). HaveCids y.names.channels l) (sym up) (s.named k p.0 y p.1 (subst (λ (c : ℕ). At w.clients c y) p.2.client old.0) opened)
+      ];
+  cids = λ k j stands.
+      let p = ends k j stands in
+      elim (cases_Bool p.0.lists.client_open) [
+        | inr shut ↦ cids-still i spoken sent p.0 j p.2 (sent-closed i spoken sent p.0 shut) (s.cids k p.0 p.1)
+        | inl opened ↦ elim (number-or p.0.client i) [
+          | inr other ↦ cids-still i spoken sent p.0 j p.2 (sent-other i spoken sent p.0 other) (s.cids k p.0 p.1)
+          | inl mine ↦ cids-are z.names.channels j.lists.up (mine-named k j p.0 p.1 p.2 mine opened)
+        ]
+      ];
 }
+  where
+    mine-named : (k : ℕ) (j a : Joined) → At w.circuits k a → IsEndAfter i spoken sent a j → a.client ≡ i → a.lists.client_open ≡ true → HaveCids z.names.channels j.lists.up
+    mine-named k j a at_a end mine opened =
+        subst (λ (l : List Sent). HaveCids z.names.channels l) (sym (end.up ∙ ap (λ (l : List Sent). a.lists.up ++ l) (sent-mine i spoken sent a mine opened)))
+        (moved.cids a.at_client a.lists.up (s.named k a x at_a (subst (λ (c : ℕ). At w.clients c x) (sym mine) at) opened))
 
 pub after-sent : (i : ℕ) (n : Names) (sent : List Sending) (was : List Joined) (k : ℕ) (j : Joined) → At (map (sent_to i n sent) was) k j → (a : Joined) × At was k a × IsEndAfter i n sent a j
 after-sent i n sent was k j at =

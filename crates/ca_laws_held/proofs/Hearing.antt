@@ -50,10 +50,10 @@ use Rattle.ca_laws_held.proofs.Ways.{Way}
 
 -- ---- all messages but the reply to a CREATE_CHAN
 
-unlike : (m : Fields) (a : ℕ) → eqb a 18 ≡ false → m.command ≡ a → m.command ≡ 18 → ⊥
+pub unlike : (m : Fields) (a : ℕ) → eqb a 18 ≡ false → m.command ≡ a → m.command ≡ 18 → ⊥
 unlike m a none is creates = both_ways (eqb a 18) none (ap (λ (v : ℕ). eqb v 18) (sym is ∙ creates))
 
-others : (m : Fields) → list_any (λ (k : Command). eqb m.command (command_number k)) understood ≡ false → m.command ≡ 18 → ⊥
+pub others : (m : Fields) → list_any (λ (k : Command). eqb m.command (command_number k)) understood ≡ false → m.command ≡ 18 → ⊥
 others m none creates = both_ways (list_any (λ (k : Command). eqb m.command (command_number k)) understood) none (ap (λ (v : ℕ). list_any (λ (k : Command). eqb v (command_number k)) understood) creates)
 
 module _ (n : Names) (x : Client) (numbered : AreNumbered n x) (on : Handle) where
@@ -239,6 +239,11 @@ module _ (ps : List ℕ) (n : Names) (x : Client) (on : Handle) (c : Circuit) (t
   pub right-now : Right now
   right-now = record {
     under = λ p a r ask there is other. (let b = right.under p a r ask there is other in (b.0, b.1, created-now a b.0 b.1 (sid_in r.message) p b.2));
+    read = λ p a r ask there is other.
+        let b = right.read p a r ask there is other in
+        let e : length now.heard ≡ length c.heard + 1 = longer in
+        let lt : b.0 < length c.heard = b.2 in
+        (b.0, b.1, omega (arith, lt, e), created-now a b.0 b.1 (sid_in r.message) p b.3);
     between = right.between;
     turn = right.turn;
   }

@@ -28,8 +28,10 @@ use Rattle.ca_laws_circuit.proofs.Calls.{meant-own}
 use Rattle.ca_laws_runs.specs.Circuit.{AreGiven, stamped}
 use Rattle.ca_laws_runs.proofs.Named.{number-still, place-there}
 use Rattle.ca_laws_runs.proofs.Sending.{new-name, not-given, place-passes}
-use Rattle.ca_laws_held.specs.Quiet.{HasNumber, IsAnswered, IsNamedIn, IsRequestOn, IsSubscriptionOn, NoCancel, Quiet, StageIn, StandsIn, Tidy}
+use Rattle.ca_laws_held.specs.Quiet.{AreAddedApart, HaveCids, HasNumber, IsAnswered, IsNamedIn, IsRequestOn, IsSubscriptionOn, NoCancel, Quiet, StageIn, StandsIn, Tidy}
 use Rattle.ca_laws_held.proofs.Lesser.{less-sending}
+use Rattle.ca_laws_held.proofs.AddedApart.{apart-first, apart-one}
+use Rattle.ca_laws_held.proofs.CidsSaid.{cid-none, cids-more}
 use Rattle.ca_laws_held.proofs.Says.{Moved, moved-less-then, moved-one, quiet-asked, quiet-subscribed}
 
 -- ---- names that grow
@@ -87,7 +89,12 @@ number-own channels q =
 -- ---- open
 
 pub moved-opened : (n : Names) (x : Client) (a : Opening) (h : Handle) (sent : List Sending) (y : Client) → ClientOpens x a (Ok h) sent y → Tidy n x → (let now : Names = record n { channels = n.channels ++ h ∷ [] } in Moved n x now sent now y)
-moved-opened n x a h sent y opens t = subst (λ (z : List Sending × Client). Moved n x now z.0 now z.1) (λ i. (sym opens.2.0 i, sym opens.2.1 i)) (record { tidy = tidy; quiet = λ on up q. subst (λ (l : List Sent). Quiet now z on l) (sym (append-nil up)) (quiet on up q) })
+moved-opened n x a h sent y opens t = subst (λ (z : List Sending × Client). Moved n x now z.0 now z.1) (λ i. (sym opens.2.0 i, sym opens.2.1 i)) (record {
+  tidy = tidy;
+  quiet = λ on up q. subst (λ (l : List Sent). Quiet now z on l) (sym (append-nil up)) (quiet on up q);
+  apart = λ on up q were. subst (λ (l : List Sent). AreAddedApart l) (sym (append-nil up)) were;
+  cids = λ on up were. subst (λ (l : List Sent). HaveCids (n.channels ++ h ∷ []) l) (sym (append-nil up)) (cids-more n.channels (h ∷ []) up were);
+})
   where
     now : Names
     now = record n { channels = n.channels ++ h ∷ [] }
@@ -200,8 +207,18 @@ module _ (n : Names) (x : Client) (c : ℕ) (h : Handle) (t : Tidy n x) (given :
         (λ up quiet.
         quiet-asked now z s.circuit up (stamped now s) tidy-asked (quiet-before s.circuit up quiet) h ch.0 l.native l.rights (history.Request kind (length n.requests)) ch.1 (ch.2 ∙ ap (λ (k : Handle). On k (Live l.native l.rights)) (sym on)) tt
         (is ∙ ap (λ (k : ℕ). history.On k (history.Request kind (length n.requests))) (sym number)) (subst (λ (i : Intent). IsNamedIn now i) (sym is) named) (λ m e. no-add m e) (λ m e. no-cancel m e))
-        (λ on up other quiet. quiet-before on up quiet)) (less-sending (s ∷ []) z)
+        (λ on up other quiet. quiet-before on up quiet)
+        (λ up quiet were. apart-one up (stamped now s) (λ a m e. plain a m (sym is ∙ e)) were) refl (cid-none n.channels (stamped now s) (λ a. (λ e. no-create a (sym is ∙ e), λ e. no-clear a (sym is ∙ e))))) (less-sending (s ∷ []) z)
       where
+        plain : (a m : ℕ) → intent ≡ history.On a (Subscribe m) → ⊥
+        plain a m e = cc
+
+        no-create : (a : ℕ) → intent ≡ history.On a Create → ⊥
+        no-create a e = cc
+
+        no-clear : (a : ℕ) → intent ≡ history.On a Clear → ⊥
+        no-clear a e = cc
+
         no-add : (m : ℕ) → history.Request kind (length n.requests) ≡ Subscribe m → ⊥
         no-add m e = cc
 
@@ -240,8 +257,18 @@ moved-written n x h e sent y writes t =
     (λ up quiet.
     quiet-wrote n x (n.writes + 1) s.circuit (up ++ stamped n s ∷ [])
     (quiet-asked n x s.circuit up (stamped n s) t quiet h ch.0 (writes.0).native (writes.0).rights (history.Request Write n.writes) ch.1 ch.2 tt refl tt (λ m e. no-add m e) (λ m e. no-cancel m e)))
-    (λ on up other quiet. quiet-wrote n x (n.writes + 1) on up quiet)) (less-sending (s ∷ []) x))
+    (λ on up other quiet. quiet-wrote n x (n.writes + 1) on up quiet)
+    (λ up quiet were. apart-one up (stamped n s) (λ a m e. plain (channel_number n h) a m e) were) refl (cid-none n.channels (stamped n s) (λ a. (λ e. no-create (channel_number n h) a e, λ e. no-clear (channel_number n h) a e)))) (less-sending (s ∷ []) x))
   where
+    plain : (b a m : ℕ) → history.On b (history.Request Write n.writes) ≡ history.On a (Subscribe m) → ⊥
+    plain b a m e = cc
+
+    no-create : (b a : ℕ) → history.On b (history.Request Write n.writes) ≡ history.On a Create → ⊥
+    no-create b a e = cc
+
+    no-clear : (b a : ℕ) → history.On b (history.Request Write n.writes) ≡ history.On a Clear → ⊥
+    no-clear b a e = cc
+
     no-add : (m : ℕ) → history.Request Write n.writes ≡ Subscribe m → ⊥
     no-add m e = cc
 
@@ -262,8 +289,19 @@ moved-subscribed n x c h a mask q sent y subscribes t given at =
     (λ up quiet.
     quiet-subscribed now z s.circuit up (stamped now s) tidy (before s.circuit up quiet) h ch.0 l.native l.rights (Subscribe (length n.subscriptions)) ch.1 ch.2 tt
     (meant ∙ ap (λ (k : ℕ). history.On k (Subscribe (length n.subscriptions))) (sym number)) q d c (length n.subscriptions) (held-own x.subscriptions q d may) refl meant refl refl)
-    (λ on up other quiet. before on up quiet)) (less-sending (s ∷ []) z))
+    (λ on up other quiet. before on up quiet)
+    (λ up quiet were. apart-first up (stamped now s) (λ k b m r at_r is_r e.
+    let named : IsNamedIn n (history.On b (Subscribe m)) = subst (λ (i : Intent). IsNamedIn n i) is_r (quiet.named k r at_r) in
+    let within : m < length n.subscriptions = At-within n.subscriptions m (named.0, history.On b (Subscribe m)) named.1 in
+    let same : length n.subscriptions ≡ m = number-of c b (length n.subscriptions) m (sym meant ∙ e) in
+    omega (arith, within, same)) were) refl (cid-none n.channels (stamped now s) (λ a. (λ e. no-create c a (length n.subscriptions) (sym meant ∙ e), λ e. no-clear c a (length n.subscriptions) (sym meant ∙ e))))) (less-sending (s ∷ []) z))
   where
+    no-create : (b a m : ℕ) → history.On b (Subscribe m) ≡ history.On a Create → ⊥
+    no-create b a m e = cc
+
+    no-clear : (b a m : ℕ) → history.On b (Subscribe m) ≡ history.On a Clear → ⊥
+    no-clear b a m e = cc
+
     intent : Intent
     intent = history.On c (Subscribe (length n.subscriptions))
 

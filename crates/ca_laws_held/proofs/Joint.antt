@@ -203,7 +203,7 @@ run-reads s es stopped w new k ok are runs happens = after-reads s es stopped w 
 pub run-tells : (s : Setting) (es : List Event) (stopped : Option Event) (w new : World) (k : ℕ) → IsSetting s → AreEvents es → Runs s es stopped w → Happens w (event.ClientStep k) new → NoticesTell w k
 run-tells s es stopped w new k ok are runs happens = after-tells s es stopped w new k ok are runs happens (run-held s es stopped w ok are runs)
 
-own-flows : (s : Setting) (es : List Event) (stopped : Option Event) (w : World) → IsSetting s → AreEvents es → Runs s es stopped w → (l : ℕ) (c : Joined) → At w.circuits l c → (n : Names) × (x : Client) × HeldOn (kept w l) n x c
+pub own-flows : (s : Setting) (es : List Event) (stopped : Option Event) (w : World) → IsSetting s → AreEvents es → Runs s es stopped w → (l : ℕ) (c : Joined) → At w.circuits l c → (n : Names) × (x : Client) × HeldOn (kept w l) n x c
 own-flows s es stopped w ok are runs l c at =
     let o = run-held s es stopped w ok are runs l c at in
     let one : o.0 ≡ c = At-one w.circuits l o.0 c o.2 at in

@@ -64,6 +64,9 @@ quiet-opening setting = record {
       subst (λ (z : ClientSide). Tidy z.names z.core) (sym r.2) (tidy-new (addresses setting.servers) 0 r.0 r.1);
   quiet = λ k j x at there open_it. absurd cc;
   ids = λ k j at. absurd cc;
+  apart = λ k j at. absurd cc;
+  named = λ k j x at there open_it. absurd cc;
+  cids = λ k j at. absurd cc;
 }
 
 -- ---- runs

@@ -1,11 +1,11 @@
 -- What a message that a client reads, a search reply, a datagram or a moment makes of what was sent.
-use Rattle.std.proofs.Common.{◌≡◌, ℕ, zero, suc, inl, inr, Bool, true, false, ◌&&◌, cond, eqb, List, [], ◌∷◌, ◌++◌, Option, Some, None, refl, sym, ap, ◌∙◌, subst}
+use Rattle.std.proofs.Common.{◌≡◌, ℕ, zero, suc, ◌<◌, inl, inr, Bool, true, false, ◌&&◌, cond, eqb, List, [], ◌∷◌, ◌++◌, Option, Some, None, refl, sym, ap, ◌∙◌, subst}
 use Rattle.std.specs.Prelude.{filter, fold, option_map, unwrap_or}
 use Rattle.ca_text.specs.declared.command.Command.TheVariants as command
 use Rattle.ca_text.specs.Place.{At}
-use Rattle.ca_text.proofs.Places.{At-mapped, some_is}
+use Rattle.ca_text.proofs.Places.{At-mapped, At-one, some_is}
 use Rattle.ca_arena.specs.declared.handle.Handle.{Handle}
-use Rattle.ca_ids.specs.Table.{held, under, with_freed}
+use Rattle.ca_ids.specs.Table.{held, same_handle, under, with_freed}
 use Rattle.ca_link.specs.declared.keep.Keep.{Keep}
 use Rattle.ca_link.specs.declared.keep.Keep.TheVariants.{Close, Echo, Idle}
 use Rattle.ca_link.specs.Link.{kept}
@@ -24,21 +24,24 @@ use Rattle.ca_model.specs.ClientEnds.{Receives, ReceivesAll, Ticking, all_search
 use Rattle.ca_model.specs.ClientEnds as ends
 use Rattle.ca_model.specs.Hears.{Answers, Completes, Effect, Fails, Finds, FindsAt, Hears, PutsOn, Updates, any_failed, becomes, clear_answered, confirmed, create_sent, created, doing, event_adds, failed, found_at, heard_by, left, native_in, put_on, request_failed, rights_told, searched_by, subscription_failed, with_circuit, without_drained, without_request, without_subscription, write_failed}
 use Rattle.ca_model.specs.Hears as hears
-use Rattle.ca_model.specs.History.{Intent, Sent, Subscribe}
+use Rattle.ca_model.specs.History.{Clear, Create, Intent, Sent, Subscribe}
 use Rattle.ca_model.specs.History as history
 use Rattle.ca_model_client.proofs.Handles.{same-is}
 use Rattle.ca_model_client.proofs.Standings.{channel-on, searched-is}
-use Rattle.ca_model_client.proofs.Tables.{changed-own, freed-back, held-under}
+use Rattle.ca_model_client.proofs.Tables.{changed-own, freed-back, held-apart, held-under}
+use Rattle.ca_model_client.proofs.Thinner.{three-ways}
 use Rattle.ca_laws_circuit.proofs.Marks.{at-filter}
 use Rattle.std.proofs.lemmas.Bool.{and_parts}
-use Rattle.ca_model_world.specs.ClientEvents.{channel_number}
+use Rattle.ca_model_world.specs.ClientEvents.{channel_number, meant_by}
 use Rattle.ca_model_world.specs.World.{Names}
 use Rattle.ca_laws_runs.specs.Circuit.{stamped}
-use Rattle.ca_laws_held.specs.Quiet.{Quiet, Tidy}
+use Rattle.ca_laws_held.specs.Quiet.{AreAddedApart, HasCid, Quiet, Tidy}
+use Rattle.ca_laws_held.proofs.CidsSaid.{cid-none, cids-parts, cids-said}
+use Rattle.ca_laws_held.proofs.AddedApart.{apart-more, apart-said, filter-order, rows-apart}
 use Rattle.ca_laws_held.proofs.Phases.{created-live}
-use Rattle.ca_laws_held.proofs.Lesser.{Less, less-again, less-drained, less-ended, less-gone, less-itself, less-on, less-over-requests, less-requests, less-same, less-sending, less-stood, less-subscriptions, less-then, same-requests, same-subscriptions}
+use Rattle.ca_laws_held.proofs.Lesser.{Less, less-again, less-drained, less-ended, less-gone, less-itself, less-on, less-over-requests, less-requests, less-same, less-sending, less-stood, less-subscriptions, less-then, quiet-less, same-requests, same-subscriptions, tidy-less}
 use Rattle.ca_laws_held.proofs.Phased.{less-phase, like-connecting, moved-before, moved-created, moved-doomed-clearing, moved-live-leaving, standing-stage}
-use Rattle.ca_laws_held.proofs.Says.{Moved, moved-less, moved-less-then, moved-then, quiet-circuit, quiet-each, quiet-subscribed}
+use Rattle.ca_laws_held.proofs.Says.{Moved, moved-less, moved-less-then, moved-then, one-subscription, quiet-circuit, quiet-each, quiet-subscribed, said}
 
 module _ (n : Names) (x : Client) (t : Tidy n x) where
   -- a message made the client this one, and sent nothing, or these
@@ -67,13 +70,89 @@ module _ (n : Names) (x : Client) (t : Tidy n x) where
         let found = channel-on x c m.p1 h (Live native rights) at in
         quietly (with_standing (On c (Live native m.p2)) h x) [] e is (less-phase c h x found.0 (Live native rights) (Live native m.p2) found.1 found.3 (λ up number p. p))
 
+    adds-cid : (m : Fields) (h : Handle) (i : ℕ) (s : Sending) → At (event_adds c m.p2 h x) i s → HasCid n.channels (stamped n s)
+    adds-cid m h i s place =
+        let b = At-mapped (λ (w : Handle × Subscription). event_add_sent c m.p2 w.0 w.1) (standing_to h x.subscriptions) i s place in
+        let k = at-filter (λ (w : Handle × Subscription). is_to h w.1 && stands_in w.1.stage) (held x.subscriptions) i b.0 b.1 in
+        let meant = t.subscriptions (b.0).0 (b.0).1 (held-under x.subscriptions k.0 b.0 k.1) in
+        let is : (stamped n s).intent ≡ history.On (channel_number n (b.0).1.channel) (Subscribe meant.0) = ap (λ (z : Sending). (stamped n z).intent) b.2 ∙ meant.2 in
+        cid-none n.channels (stamped n s) (λ a. (λ e. no-create (channel_number n (b.0).1.channel) a meant.0 (sym is ∙ e), λ e. no-clear (channel_number n (b.0).1.channel) a meant.0 (sym is ∙ e)))
+      where
+        no-create : (a b k : ℕ) → history.On a (Subscribe k) ≡ history.On b Create → ⊥
+        no-create a b k e = cc
+
+        no-clear : (a b k : ℕ) → history.On a (Subscribe k) ≡ history.On b Clear → ⊥
+        no-clear a b k e = cc
+
+    -- those that were sent before were sent before its CREATE_CHAN, and each of these is of another subscription
+    adds-apart : (m : Fields) (h : Handle) (rights : ℕ) → channel_on x c m.p1 ≡ Some (h, Creating rights) → (on : Handle) (up : List Sent) → Quiet n x on up → AreAddedApart up → AreAddedApart (up ++ said n on (event_adds c m.p2 h x))
+    adds-apart m h rights at on up q were = apart-more up (said n on (event_adds c m.p2 h x)) olds news were
+      where
+        row-of : (w : Handle × Subscription) (k : ℕ) → At (held x.subscriptions) k w → (number : ℕ) × (meant_by n.subscriptions w.0 ≡ history.On (channel_number n w.1.channel) (Subscribe number))
+        row-of w k there = (let meant = t.subscriptions w.0 w.1 (held-under x.subscriptions k w there) in (meant.0, meant.2))
+
+        -- each is an EVENT_ADD of a subscription that stands on the channel
+        add-of : (i : ℕ) (s : Sent) → At (said n on (event_adds c m.p2 h x)) i s → (w : Handle × Subscription) × (c ≡ on) × (w.1.channel ≡ h) × ((k : ℕ) × At (held x.subscriptions) k w) × (s.intent ≡ meant_by n.subscriptions w.0)
+        add-of i s place =
+            let a = At-mapped (stamped n) (filter (λ (z : Sending). same_handle z.circuit on) (event_adds c m.p2 h x)) i s place in
+            let f = at-filter (λ (z : Sending). same_handle z.circuit on) (event_adds c m.p2 h x) i a.0 a.1 in
+            let b = At-mapped (λ (w : Handle × Subscription). event_add_sent c m.p2 w.0 w.1) (standing_to h x.subscriptions) f.0 a.0 f.1 in
+            let k = at-filter (λ (w : Handle × Subscription). is_to h w.1 && stands_in w.1.stage) (held x.subscriptions) f.0 b.0 b.1 in
+            let both = and_parts (is_to h (b.0).1) (stands_in ((b.0).1).stage) k.2 in (
+              b.0,
+              ap (λ (z : Sending). z.circuit) (sym b.2) ∙ same-is (a.0).circuit on f.2,
+              same-is ((b.0).1).channel h both.0,
+              (k.0, k.1),
+              ap (λ (z : Sent). z.intent) a.2 ∙ ap (λ (z : Sending). (stamped n z).intent) b.2,
+            )
+
+        same-channel : (a b k l : ℕ) → history.On a (Subscribe k) ≡ history.On b (Subscribe l) → a ≡ b
+        same-channel a b k l e = cc
+
+        same-sub : (a b k l : ℕ) → history.On a (Subscribe k) ≡ history.On b (Subscribe l) → k ≡ l
+        same-sub a b k l e = cc
+
+        no-create : (a b k : ℕ) → history.On a (Subscribe k) ≡ history.On b Create → ⊥
+        no-create a b k e = cc
+
+        olds : (k i a l : ℕ) (r s : Sent) → At up k r → At (said n on (event_adds c m.p2 h x)) i s → r.intent ≡ history.On a (Subscribe l) → s.intent ≡ history.On a (Subscribe l) → (p : ℕ) × (v : Sent) × (k < p) × At up p v × (v.intent ≡ history.On a Create)
+        olds k i a l r s at_r at_s is_r is_s =
+            let w = add-of i s at_s in
+            let row = row-of w.0 w.3.0 w.3.1 in
+            let number : channel_number n h ≡ a = ap (λ (z : Handle). channel_number n z) (sym w.2) ∙ same-channel (channel_number n (w.0).1.channel) a row.0 l (sym row.1 ∙ sym w.4 ∙ is_s) in
+            let found = channel-on x c m.p1 h (Creating rights) at in
+            let phase = q.channels h found.0 found.1 (Creating rights) (found.3 ∙ ap (λ (z : Handle). On z (Creating rights)) w.1) in
+            let created = phase.1 in
+            elim (three-ways k phase.0) [
+              | inl less ↦ (phase.0, created.0, less, created.1, created.2 ∙ ap (λ (z : ℕ). history.On z Create) number)
+              | inr (inl same) ↦ absurd (let one : r ≡ created.0 = At-one up phase.0 r created.0 (subst (λ (z : ℕ). At up z r) same at_r) created.1 in no-create a (channel_number n h) l (sym is_r ∙ ap (λ (z : Sent). z.intent) one ∙ created.2))
+              | inr (inr more) ↦ absurd (phase.2 k r (Subscribe l) more at_r (is_r ∙ ap (λ (z : ℕ). history.On z (Subscribe l)) (sym number)))
+            ]
+
+        news : (i j a l : ℕ) (r s : Sent) → i < j → At (said n on (event_adds c m.p2 h x)) i r → At (said n on (event_adds c m.p2 h x)) j s → r.intent ≡ history.On a (Subscribe l) → s.intent ≡ history.On a (Subscribe l) → ⊥
+        news i j a l r s lt at_r at_s is_r is_s =
+            let adds : List Sending = event_adds c m.p2 h x in
+            let mine : Sending → Bool = λ (z : Sending). same_handle z.circuit on in
+            let a1 = At-mapped (stamped n) (filter mine adds) i r at_r in
+            let a2 = At-mapped (stamped n) (filter mine adds) j s at_s in
+            let f = filter-order mine adds i j a1.0 a2.0 lt a1.1 a2.1 in
+            let b1 = At-mapped (λ (w : Handle × Subscription). event_add_sent c m.p2 w.0 w.1) (standing_to h x.subscriptions) f.0 a1.0 f.3 in
+            let b2 = At-mapped (λ (w : Handle × Subscription). event_add_sent c m.p2 w.0 w.1) (standing_to h x.subscriptions) f.1 a2.0 f.4 in
+            let g = filter-order (λ (w : Handle × Subscription). is_to h w.1 && stands_in w.1.stage) (held x.subscriptions) f.0 f.1 b1.0 b2.0 f.2 b1.1 b2.1 in
+            let row1 = row-of b1.0 g.0 g.3 in
+            let row2 = row-of b2.0 g.1 g.4 in
+            let meant1 : meant_by n.subscriptions (b1.0).0 ≡ history.On a (Subscribe l) = sym (ap (λ (z : Sent). z.intent) a1.2 ∙ ap (λ (z : Sending). (stamped n z).intent) b1.2) ∙ is_r in
+            let meant2 : meant_by n.subscriptions (b2.0).0 ≡ history.On a (Subscribe l) = sym (ap (λ (z : Sent). z.intent) a2.2 ∙ ap (λ (z : Sending). (stamped n z).intent) b2.2) ∙ is_s in
+            rows-apart (held x.subscriptions) (held-apart x.subscriptions) g.0 g.1 b1.0 b2.0 g.2 g.3 g.4 (one-subscription n x (b1.0).0 (b2.0).0 a a l t meant1 meant2)
+
     -- the EVENT_ADDs of a channel that is live now
     moved-adds : (m : Fields) (h : Handle) (rights : ℕ) → channel_on x c m.p1 ≡ Some (h, Creating rights) → (let z : Client = with_standing (On c (Live (native_in m) rights)) h x in Moved n x n (event_adds c m.p2 h x) n z)
     moved-adds m h rights at =
         let found = channel-on x c m.p1 h (Creating rights) at in
         let z : Client = with_standing (On c (Live (native_in m) rights)) h x in
         let less : Less x z = less-phase c h x found.0 (Creating rights) (Live (native_in m) rights) found.1 found.3 (λ up number p. created-live up number p) in
-        moved-before n x z z (event_adds c m.p2 h x) less t (λ u. record {
+        let u : Tidy n z = tidy-less n x z less t in
+        record {
           tidy = u;
           quiet = λ on up q. quiet-each n z on (event_adds c m.p2 h x) (λ i s l place same quiet.
               let was = At-mapped (λ (w : Handle × Subscription). event_add_sent c m.p2 w.0 w.1) (standing_to h x.subscriptions) i s place in
@@ -86,8 +165,10 @@ module _ (n : Names) (x : Client) (t : Tidy n x) where
               subst (λ (w : Sending). Quiet n z on (l ++ stamped n w ∷ [])) (sym was.2)
               (quiet-subscribed n z on l (stamped n (event_add_sent c m.p2 (was.0).0 (was.0).1)) u quiet h (record found.0 { standing = On c (Live (native_in m) rights) }) (native_in m) rights (Subscribe meant.0)
               (changed-own (λ (w : Channel). record w { standing = On c (Live (native_in m) rights) }) x.channels h found.0 found.1) (ap (λ (w : Handle). On w (Live (native_in m) rights)) on_is) tt
-              (meant.2 ∙ ap (λ (w : Handle). history.On (channel_number n w) (Subscribe meant.0)) channel) (was.0).0 (was.0).1 (channel_number n ((was.0).1).channel) meant.0 row (standing-stage ((was.0).1).stage both.1) meant.2 refl refl)) up q;
-        })
+              (meant.2 ∙ ap (λ (w : Handle). history.On (channel_number n w) (Subscribe meant.0)) channel) (was.0).0 (was.0).1 (channel_number n ((was.0).1).channel) meant.0 row (standing-stage ((was.0).1).stage both.1) meant.2 refl refl)) up (quiet-less n x z on up less q);
+          apart = λ on up q were. adds-apart m h rights at on up q were;
+          cids = λ on up were. cids-parts n.channels up (said n on (event_adds c m.p2 h x)) were (cids-said n.channels n (λ (z : Sending). same_handle z.circuit on) (event_adds c m.p2 h x) (λ i s place. adds-cid m h i s place));
+        }
 
     moved-heard-created : (m : Fields) (e : Effect) (o : Option (Handle × Phase)) → channel_on x c m.p1 ≡ o → e ≡ created x c m o → Moved n x n e.sent n e.core
     moved-heard-created m e None at is = nothing [] e is
@@ -246,8 +327,11 @@ moved-all-received n from (m ∷ ms) x t e does =
 moved-circuit : (n : Names) (x : Client) (t : Tidy n x) (s : Sending) → (stamped n s).intent ≡ history.OfCircuit → Moved n x n (s ∷ []) n (sending (s ∷ []) x)
 moved-circuit n x t s is =
     moved-less-then n n n x x (sending (s ∷ []) x) (s ∷ [])
-    (record { tidy = t; quiet = λ on up q. quiet-each n x on (s ∷ []) (λ i r l at same quiet. quiet-circuit n x on l (stamped n r) t quiet (only i r at)) up q }) (less-sending (s ∷ []) x)
+    (record { tidy = t; quiet = λ on up q. quiet-each n x on (s ∷ []) (λ i r l at same quiet. quiet-circuit n x on l (stamped n r) t quiet (only i r at)) up q; apart = λ on up q were. apart-said n on up (s ∷ []) (λ i r at a m e. serves-not a (Subscribe m) (sym (only i r at) ∙ e)) were; cids = λ on up were. cids-parts n.channels up (said n on (s ∷ [])) were (cids-said n.channels n (λ (z : Sending). same_handle z.circuit on) (s ∷ []) (λ i r at. cid-none n.channels (stamped n r) (λ a. (λ e. serves-not a Create (sym (only i r at) ∙ e), λ e. serves-not a Clear (sym (only i r at) ∙ e))))) }) (less-sending (s ∷ []) x)
   where
+    serves-not : (a : ℕ) (ask : history.Ask) → history.OfCircuit ≡ history.On a ask → ⊥
+    serves-not a ask e = cc
+
     only : (i : ℕ) (r : Sending) → At (s ∷ []) i r → (stamped n r).intent ≡ history.OfCircuit
     only zero r at = subst (λ (z : Sending). (stamped n z).intent ≡ history.OfCircuit) (some_is s r at) is
     only (suc i) r at = absurd cc

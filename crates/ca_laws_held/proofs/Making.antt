@@ -1,5 +1,5 @@
 -- A circuit that is made, and a moment, keep what clients have of their circuits.
-use Rattle.std.proofs.Common.{◌≡◌, ℕ, zero, suc, ◌<◌, ◌⊎◌, inl, inr, Bool, true, false, ◌&&◌, cond, eqb, List, [], ◌∷◌, ◌++◌, length, Option, Some, None, refl, sym, ap, ◌∙◌, subst, arith}
+use Rattle.std.proofs.Common.{◌≤◌, ◌≡◌, ℕ, zero, suc, ◌<◌, ◌⊎◌, inl, inr, Bool, true, false, ◌&&◌, cond, eqb, List, [], ◌∷◌, ◌++◌, length, Option, Some, None, refl, sym, ap, ◌∙◌, subst, arith}
 use Rattle.std.specs.Prelude.{filter, find, fold, is_none, map, option_and_then, option_map, slice_set, unwrap_or}
 use Rattle.std.specs.List.{FoldsTo}
 use Rattle.std.proofs.lemmas.Bool.{and_from, both_ways, cases_Bool, eq-eqb}
@@ -163,6 +163,12 @@ module _ (w : World) (i : ℕ) (x : ClientSide) (core : Client) (sent : List Sen
           | inl serves ↦ absurd (not-asked a ask (sym serves ∙ ap (λ (v : Sent). v.intent) (sym f.3) ∙ means))
           | inr creates ↦ absurd (other (same-ask a creates.0 ask Create (sym means ∙ ap (λ (v : Sent). v.intent) f.3 ∙ creates.1)))
         ];
+    read = λ p a s ask at_s means other.
+        let f = sent-at i x.names sent n p s (subst (λ (l : List Sent). At l p s) (new-up j is) at_s) in
+        elim (made.opens f.0 f.1 f.2) [
+          | inl serves ↦ absurd (not-asked a ask (sym serves ∙ ap (λ (v : Sent). v.intent) (sym f.3) ∙ means))
+          | inr creates ↦ absurd (other (same-ask a creates.0 ask Create (sym means ∙ ap (λ (v : Sent). v.intent) f.3 ∙ creates.1)))
+        ];
     between = λ p q a l sid r s t lt at_r at_s is_r is_s told. absurd (none_at l t (subst (λ (v : List Told). At v l t) (ap (λ (v : Joined). v.lists.down) is ∙ down) told));
     turn = turn;
   }
@@ -211,13 +217,16 @@ module _ (w : World) (i : ℕ) (x : ClientSide) (core : Client) (sent : List Sen
             subst (λ (v : Handle). Sides x.names core v j.lists) (sym (ap (λ (v : Joined). v.at_client) was.2)) r.0
       ]
 
+      still-heard : (a j : Joined) → length j.lists.heard ≡ length a.lists.heard → length a.lists.heard ≤ length j.lists.heard
+      still-heard a j same = omega (arith, same)
+
       old-right : (l : ℕ) (j a : Joined) → At w.circuits l a → j ≡ sent_to i x.names sent a → Right j.lists
       old-right l j a at_a is = elim (number-or a.client i) [
-        | inr other ↦ same-right a.lists j.lists (ap (λ (v : Joined). v.lists.up) is ∙ ap (λ (v : List Sent). a.lists.up ++ v) (sent-other i x.names sent a other) ∙ append-nil a.lists.up) (ap (λ (v : Joined). v.lists.down) is) (ap (λ (v : Joined). length v.lists.handled) is) (s.right l a at_a)
+        | inr other ↦ same-right a.lists j.lists (ap (λ (v : Joined). v.lists.up) is ∙ ap (λ (v : List Sent). a.lists.up ++ v) (sent-other i x.names sent a other) ∙ append-nil a.lists.up) (ap (λ (v : Joined). v.lists.down) is) (still-heard a j (ap (λ (v : Joined). length v.lists.heard) is)) (ap (λ (v : Joined). length v.lists.handled) is) (s.right l a at_a)
         | inl mine_too ↦ elim (cases_Bool a.lists.client_open) [
-          | inr shut ↦ same-right a.lists j.lists (ap (λ (v : Joined). v.lists.up) is ∙ ap (λ (v : List Sent). a.lists.up ++ v) (sent-closed i x.names sent a shut) ∙ append-nil a.lists.up) (ap (λ (v : Joined). v.lists.down) is) (ap (λ (v : Joined). length v.lists.handled) is) (s.right l a at_a)
+          | inr shut ↦ same-right a.lists j.lists (ap (λ (v : Joined). v.lists.up) is ∙ ap (λ (v : List Sent). a.lists.up ++ v) (sent-closed i x.names sent a shut) ∙ append-nil a.lists.up) (ap (λ (v : Joined). v.lists.down) is) (still-heard a j (ap (λ (v : Joined). length v.lists.heard) is)) (ap (λ (v : Joined). length v.lists.handled) is) (s.right l a at_a)
           | inl opened ↦
-              right-served a.lists j.lists (said x.names a.at_client sent) (ap (λ (v : Joined). v.lists.up) is ∙ ap (λ (v : List Sent). a.lists.up ++ v) (sent-mine i x.names sent a mine_too opened)) (ap (λ (v : Joined). v.lists.down) is) (ap (λ (v : Joined). length v.lists.handled) is)
+              right-served a.lists j.lists (said x.names a.at_client sent) (ap (λ (v : Joined). v.lists.up) is ∙ ap (λ (v : List Sent). a.lists.up ++ v) (sent-mine i x.names sent a mine_too opened)) (ap (λ (v : Joined). v.lists.down) is) (still-heard a j (ap (λ (v : Joined). length v.lists.heard) is)) (ap (λ (v : Joined). length v.lists.handled) is)
               (λ p m in_it. absurd (nothing-there x.names n.at_client a.at_client sent (away l a at_a mine_too opened) made.on_it p m in_it)) (s.right l a at_a)
         ]
       ]

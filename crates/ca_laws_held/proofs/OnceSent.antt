@@ -135,7 +135,7 @@ sent-same w new clients logs all s = sent-closing w new clients logs (λ k a at.
     (o.0, o.1, o.2.client, o.2.handle, o.2.life, o.2.up, λ x there linked opened. o.2.opens ∙ opened)) s
 
 -- what was sent to an open end of the client under that handle is there
-there-sent : (i : ℕ) (n : Names) (s : Sending) (a : Joined) → a.client ≡ i → a.lists.client_open ≡ true → s.circuit ≡ a.at_client → At (sent_on i n (s ∷ []) a) 0 (stamped n s)
+pub there-sent : (i : ℕ) (n : Names) (s : Sending) (a : Joined) → a.client ≡ i → a.lists.client_open ≡ true → s.circuit ≡ a.at_client → At (sent_on i n (s ∷ []) a) 0 (stamped n s)
 there-sent i n s a mine opened on = go (eqb a.client i && a.lists.client_open) (and_from (eqb a.client i) a.lists.client_open (eq-eqb a.client i mine) opened) (same_handle s.circuit a.at_client) (subst (λ (h : Handle). same_handle s.circuit h ≡ true) on (same-itself s.circuit))
   where
     go : (b : Bool) → b ≡ true → (c : Bool) → c ≡ true → At (cond b (map (stamped n) (cond c (s ∷ []) [])) []) 0 (stamped n s)

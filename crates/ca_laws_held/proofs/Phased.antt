@@ -18,7 +18,9 @@ use Rattle.ca_model_client.proofs.Thinner.{given-thin, thin-changed}
 use Rattle.ca_model_world.specs.ClientEvents.{cancelled, channel_number, meant_by}
 use Rattle.ca_model_world.specs.World.{Names}
 use Rattle.ca_laws_runs.specs.Circuit.{stamped}
-use Rattle.ca_laws_held.specs.Quiet.{HasNumber, IsBeingCancelled, IsNamedIn, IsSubscriptionOn, NoCancel, PhaseIn, Quiet, StageIn, StandsIn, Tidy}
+use Rattle.ca_laws_held.specs.Quiet.{HasCid, HasNumber, IsBeingCancelled, IsNamedIn, IsSubscriptionOn, NoCancel, PhaseIn, Quiet, StageIn, StandsIn, Tidy}
+use Rattle.ca_laws_held.proofs.AddedApart.{apart-one}
+use Rattle.ca_laws_held.proofs.CidsSaid.{cid-none}
 use Rattle.ca_laws_held.proofs.Phases.{doomed-cleared, live-cleared, phase-created, phase-other, same-ask, same-number, stage-cancelled, stage-other}
 use Rattle.ca_laws_held.proofs.Lesser.{Less, StandsLike, less-all-over, less-freed-all, less-gone, less-sending, less-stood, less-subscriptions, less-then, less-unwanted, quiet-less, same-subscriptions, tidy-less}
 use Rattle.ca_laws_held.proofs.Says.{Moved, channels-used, ids-more, moved-less, moved-less-then, moved-one, named-more, no-sub-id, one-handle, one-subscription, subscribed-at}
@@ -46,7 +48,7 @@ less-phase c h x ch p q there stands goes =
 
 module _ (n : Names) (x : Client) (h : Handle) (ch : Channel) (c : Handle) (q : Phase) (s : Sending) (ask : Ask) (t : Tidy n x) (there : under x.channels h ≡ Some ch) (on_c : s.circuit ≡ c) (is : (stamped n s).intent ≡ history.On (channel_number n h) ask)
     (named : IsNamedIn n (stamped n s).intent) (no_add : (m : ℕ) → ask ≡ Subscribe m → ⊥) (no_cancel : (m : ℕ) → ask ≡ Cancel m → ⊥)
-    (goes : (up : List Sent) → StandsIn c up (channel_number n h) ch.standing → PhaseIn (up ++ stamped n s ∷ []) (channel_number n h) q) where
+    (goes : (up : List Sent) → StandsIn c up (channel_number n h) ch.standing → PhaseIn (up ++ stamped n s ∷ []) (channel_number n h) q) (own_cid : HasCid n.channels (stamped n s)) where
   abbrev z : Client
   z = with_standing (On c q) h x
 
@@ -102,12 +104,17 @@ module _ (n : Names) (x : Client) (h : Handle) (ch : Channel) (c : Handle) (q : 
       moved-one n n n x z s tidy-moved
       (λ up quiet. subst (λ (k : Handle). Quiet n z k (up ++ stamped n s ∷ [])) (sym on_c) (quiet-near up (subst (λ (k : Handle). Quiet n x k up) on_c quiet)))
       (λ on up other quiet. quiet-far on up (λ e. other (on_c ∙ e)) quiet)
+      (λ up quiet were. apart-one up (stamped n s) (λ a m e. no_add m (same-ask (channel_number n h) a ask (Subscribe m) (sym is ∙ e))) were) refl own_cid
 
 -- its CREATE_CHAN, on a circuit that is connected
 pub moved-created : (n : Names) (x : Client) (h : Handle) (ch : Channel) (c : Handle) → Tidy n x → under x.channels h ≡ Some ch → Moved n x n (create_sent c h ch ∷ []) n (with_standing (On c (Creating 0)) h x)
 moved-created n x h ch c t there =
     moved-phase n x h ch c (Creating 0) (create_sent c h ch) Create t there refl refl tt (λ m e. no-add m e) (λ m e. no-cancel m e) (λ up was. phase-created up (stamped n (create_sent c h ch)) (channel_number n h) refl)
+    (λ a. (λ e. (h, subst (λ (k : ℕ). At n.channels k h) (same-number (channel_number n h) a Create Create e) (t.numbered h ch there), refl), λ e. absurd (not-clear (channel_number n h) a e)))
   where
+    not-clear : (a b : ℕ) → history.On a Create ≡ history.On b Clear → ⊥
+    not-clear a b e = cc
+
     no-add : (m : ℕ) → Create ≡ Subscribe m → ⊥
     no-add m e = cc
 
@@ -118,7 +125,11 @@ moved-created n x h ch c t there =
 moved-clear : (n : Names) (x : Client) (h : Handle) (ch : Channel) (c : Handle) (sid : ℕ) (q : Phase) → Tidy n x → under x.channels h ≡ Some ch
     → ((up : List Sent) → StandsIn c up (channel_number n h) ch.standing → PhaseIn (up ++ stamped n (clear_sent c sid h) ∷ []) (channel_number n h) q) → Moved n x n (clear_sent c sid h ∷ []) n (with_standing (On c q) h x)
 moved-clear n x h ch c sid q t there goes = moved-phase n x h ch c q (clear_sent c sid h) Clear t there refl refl tt (λ m e. no-add m e) (λ m e. no-cancel m e) goes
+    (λ a. (λ e. absurd (not-create (channel_number n h) a e), λ e. (h, subst (λ (k : ℕ). At n.channels k h) (same-number (channel_number n h) a Clear Clear e) (t.numbered h ch there), refl)))
   where
+    not-create : (a b : ℕ) → history.On a Clear ≡ history.On b Create → ⊥
+    not-create a b e = cc
+
     no-add : (m : ℕ) → Clear ≡ Subscribe m → ⊥
     no-add m e = cc
 
@@ -143,7 +154,7 @@ less-none h x = less-freed-all (is_to h) x
 pub moved-before : (n : Names) (x y z : Client) (sent : List Sending) → Less x y → Tidy n x → (Tidy n y → Moved n y n sent n z) → Moved n x n sent n z
 moved-before n x y z sent less t moves =
     let m = moves (tidy-less n x y less t) in
-    record { tidy = m.tidy; quiet = λ on up q. m.quiet on up (quiet-less n x y on up less q) }
+    record { tidy = m.tidy; quiet = λ on up q. m.quiet on up (quiet-less n x y on up less q); apart = λ on up q h. m.apart on up (quiet-less n x y on up less q) h; cids = m.cids }
 
 pub moved-cleared : (n : Names) (x : Client) (h : Handle) (notices : List Notice) (sent : List Sending) (y : Client) → ClientClears x h (Ok notices) sent y → Tidy n x → Moved n x n sent n y
 moved-cleared n x h notices sent y clears t =
@@ -196,8 +207,18 @@ module _ (n : Names) (x : Client) (g : Handle) (d : Subscription) (t : Tidy n x)
   -- its EVENT_CANCEL, on a live channel
   moved-cancelled : (c : Handle) (native : _) (rights : ℕ) (ch : Channel) → under x.channels d.channel ≡ Some ch → ch.standing ≡ On c (Live native rights)
       → Moved n x n (event_cancel_sent c native.sid g d ∷ []) n (record x { subscriptions = with_stage (Cancelled c) g x.subscriptions })
-  moved-cancelled c native rights ch there stands = moved-one n n n x z s tidy near far
+  moved-cancelled c native rights ch there stands = moved-one n n n x z s tidy near far (λ up quiet h. apart-one up (stamped n s) (λ a m e. no-add-of (channel_number n d.channel) a meant.0 m (sym is ∙ e)) h) refl
+      (cid-none n.channels (stamped n s) (λ a. (λ e. no-create-of (channel_number n d.channel) a meant.0 (sym is ∙ e), λ e. no-clear-of (channel_number n d.channel) a meant.0 (sym is ∙ e))))
     where
+      no-create-of : (a b m : ℕ) → history.On a (Cancel m) ≡ history.On b Create → ⊥
+      no-create-of a b m e = cc
+
+      no-clear-of : (a b m : ℕ) → history.On a (Cancel m) ≡ history.On b Clear → ⊥
+      no-clear-of a b m e = cc
+
+      no-add-of : (a b m k : ℕ) → history.On a (Cancel m) ≡ history.On b (Subscribe k) → ⊥
+      no-add-of a b m k e = cc
+
       s : Sending
       s = event_cancel_sent c native.sid g d
 

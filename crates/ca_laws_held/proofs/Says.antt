@@ -19,8 +19,9 @@ use Rattle.ca_model_client.proofs.Tables.{find-at, one-value}
 use Rattle.ca_model_world.specs.ClientEvents.{channel_number, meant_by}
 use Rattle.ca_model_world.specs.World.{Names}
 use Rattle.ca_laws_runs.specs.Circuit.{stamped}
-use Rattle.ca_laws_held.specs.Quiet.{AreSubIds, HasNumber, HasSubId, IsNamedIn, IsOfUse, PhaseIn, Quiet, StageIn, StandsIn, Tidy}
+use Rattle.ca_laws_held.specs.Quiet.{AreAddedApart, AreSubIds, HasCid, HaveCids, HasNumber, HasSubId, IsNamedIn, IsOfUse, PhaseIn, Quiet, StageIn, StandsIn, Tidy}
 use Rattle.ca_laws_held.proofs.Phases.{phase-other, phase-used, same-ask, same-number, stage-added, stage-other}
+use Rattle.ca_laws_held.proofs.CidsSaid.{cids-one, cids-parts}
 use Rattle.ca_laws_held.proofs.Lesser.{Less, quiet-less, tidy-less}
 
 -- ---- names
@@ -171,10 +172,17 @@ said-more n on ss rs = ap (λ (l : List Sending). map (stamped n) l) (filter-app
 pub record Moved (n : Names) (x : Client) (spoken : Names) (sent : List Sending) (now : Names) (y : Client) : Type 0 where
   pub tidy : Tidy now y
   pub quiet : (on : Handle) (up : List Sent) → Quiet n x on up → Quiet now y on (up ++ said spoken on sent)
+  pub apart : (on : Handle) (up : List Sent) → Quiet n x on up → AreAddedApart up → AreAddedApart (up ++ said spoken on sent)
+  pub cids : (on : Handle) (up : List Sent) → HaveCids n.channels up → HaveCids now.channels (up ++ said spoken on sent)
 
 pub moved-less : (n : Names) (x y : Client) → Less x y → Tidy n x → Moved n x n [] n y
 moved-less n x y less t =
-    record { tidy = tidy-less n x y less t; quiet = λ on up q. subst (λ (l : List Sent). Quiet n y on l) (sym (append-nil up)) (quiet-less n x y on up less q) }
+    record {
+      tidy = tidy-less n x y less t;
+      quiet = λ on up q. subst (λ (l : List Sent). Quiet n y on l) (sym (append-nil up)) (quiet-less n x y on up less q);
+      apart = λ on up q h. subst (λ (l : List Sent). AreAddedApart l) (sym (append-nil up)) h;
+      cids = λ on up h. subst (λ (l : List Sent). HaveCids n.channels l) (sym (append-nil up)) h;
+    }
 
 pub moved-then : (n : Names) (x y z : Client) (ss rs : List Sending) → Moved n x n ss n y → Moved n y n rs n z → Moved n x n (ss ++ rs) n z
 moved-then n x y z ss rs a b = record {
@@ -182,17 +190,32 @@ moved-then n x y z ss rs a b = record {
   quiet = λ on up q.
       subst (λ (l : List Sent). Quiet n z on l) (append_assoc up (said n on ss) (said n on rs) ∙ ap (λ (l : List Sent). up ++ l) (sym (said-more n on ss rs)))
       (b.quiet on (up ++ said n on ss) (a.quiet on up q));
+  apart = λ on up q h.
+      subst (λ (l : List Sent). AreAddedApart l) (append_assoc up (said n on ss) (said n on rs) ∙ ap (λ (l : List Sent). up ++ l) (sym (said-more n on ss rs)))
+      (b.apart on (up ++ said n on ss) (a.quiet on up q) (a.apart on up q h));
+  cids = λ on up h.
+      subst (λ (l : List Sent). HaveCids n.channels l) (append_assoc up (said n on ss) (said n on rs) ∙ ap (λ (l : List Sent). up ++ l) (sym (said-more n on ss rs)))
+      (b.cids on (up ++ said n on ss) (a.cids on up h));
 }
 
 -- and then something by which nothing is sent
 pub moved-less-then : (n spoken now : Names) (x y z : Client) (ss : List Sending) → Moved n x spoken ss now y → Less y z → Moved n x spoken ss now z
-moved-less-then n spoken now x y z ss a less = record { tidy = tidy-less now y z less a.tidy; quiet = λ on up q. quiet-less now y z on (up ++ said spoken on ss) less (a.quiet on up q) }
+moved-less-then n spoken now x y z ss a less = record { tidy = tidy-less now y z less a.tidy; quiet = λ on up q. quiet-less now y z on (up ++ said spoken on ss) less (a.quiet on up q); apart = a.apart; cids = a.cids }
 
 -- one message: on its own circuit, and on the others
 pub moved-one : (n spoken now : Names) (x y : Client) (s : Sending) → Tidy now y → ((up : List Sent) → Quiet n x s.circuit up → Quiet now y s.circuit (up ++ stamped spoken s ∷ []))
-    → ((on : Handle) (up : List Sent) → (s.circuit ≡ on → ⊥) → Quiet n x on up → Quiet now y on up) → Moved n x spoken (s ∷ []) now y
-moved-one n spoken now x y s t near far = record { tidy = t; quiet = λ on up q. go on up q (same_handle s.circuit on) refl }
+    → ((on : Handle) (up : List Sent) → (s.circuit ≡ on → ⊥) → Quiet n x on up → Quiet now y on up) → ((up : List Sent) → Quiet n x s.circuit up → AreAddedApart up → AreAddedApart (up ++ stamped spoken s ∷ []))
+    → now.channels ≡ n.channels → HasCid n.channels (stamped spoken s) → Moved n x spoken (s ∷ []) now y
+moved-one n spoken now x y s t near far added same_it own = record { tidy = t; quiet = λ on up q. go on up q (same_handle s.circuit on) refl; apart = λ on up q h. by on up q h (same_handle s.circuit on) refl; cids = λ on up h. subst (λ (l : List Handle). HaveCids l (up ++ said spoken on (s ∷ []))) (sym same_it) (cids-parts n.channels up (said spoken on (s ∷ [])) h (one on (same_handle s.circuit on))) }
   where
+    one : (on : Handle) (b : Bool) → HaveCids n.channels (map (stamped spoken) (cond b (s ∷ []) []))
+    one on true = cids-one n.channels (stamped spoken s) own
+    one on false = λ p r at. absurd cc
+
+    by : (on : Handle) (up : List Sent) → Quiet n x on up → AreAddedApart up → (b : Bool) → same_handle s.circuit on ≡ b → AreAddedApart (up ++ map (stamped spoken) (cond b (s ∷ []) []))
+    by on up q h true is = added up (subst (λ (k : Handle). Quiet n x k up) (sym (same-is s.circuit on is)) q) h
+    by on up q h false is = subst (λ (l : List Sent). AreAddedApart l) (sym (append-nil up)) h
+
     go : (on : Handle) (up : List Sent) → Quiet n x on up → (b : Bool) → same_handle s.circuit on ≡ b → Quiet now y on (up ++ map (stamped spoken) (cond b (s ∷ []) []))
     go on up q true is =
         let e : s.circuit ≡ on = same-is s.circuit on is in

@@ -58,6 +58,7 @@ module _ (c d : Circuit) (up : d.up ≡ c.up) (heard : d.heard ≡ c.heard) (tol
   told-right : Right c → Right d
   told-right h = record {
     under = λ p a s ask at is other. (let b = h.under p a s ask (still-up p s at) is other in (b.0, b.1, created-told a b.0 b.1 _ p b.2));
+    read = λ p a s ask at is other. (let b = h.read p a s ask (still-up p s at) is other in (b.0, b.1, subst (λ (v : List Step). b.0 < length v) (sym heard) b.2, created-told a b.0 b.1 _ p b.3));
     between = λ p k a i sid r q t lt at_r at_q is_r is_q at about reply creates. elim (told.creates i sid t at reply creates) [
       | inl old ↦ cleared-told sid p k (h.between p k a i sid r q t lt (still-up p r at_r) (still-up k q at_q) is_r is_q old about reply creates)
       | inr new ↦ absurd (let before : p < length c.handled = h.turn p k a r q lt (still-up p r at_r) (still-up k q at_q) is_r is_q in let e : t.place ≡ length c.handled = new.0 in omega (arith, before, e, about))

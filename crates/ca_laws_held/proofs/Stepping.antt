@@ -1,5 +1,5 @@
 -- A step of a client's end, a circuit that is made, and a moment keep what clients have of their circuits.
-use Rattle.std.proofs.Common.{◌≡◌, ℕ, ◌+◌, ◌<◌, ◌⊎◌, inl, inr, true, false, List, [], ◌∷◌, ◌++◌, length, Option, Some, None, refl, sym, ap, ◌∙◌, subst, arith}
+use Rattle.std.proofs.Common.{◌≡◌, ℕ, ◌+◌, ◌<◌, ◌≤◌, ◌⊎◌, inl, inr, true, false, List, [], ◌∷◌, ◌++◌, length, Option, Some, None, refl, sym, ap, ◌∙◌, subst, arith}
 use Rattle.std.specs.Prelude.{is_none, slice_set}
 use Rattle.std.proofs.lemmas.Bool.{both_ways}
 use Rattle.ca_text.specs.declared.command.Command.TheVariants as command
@@ -186,6 +186,7 @@ module _ (w new : World) (k : ℕ) (j : Joined) (x : ClientSide) (at : At w.circ
           up = refl;
           down = refl;
           heard = λ other. absurd (other refl);
+          more = (let e : length (j.lists.heard ++ g ∷ []) ≡ length j.lists.heard + 1 = length-more j.lists.heard g in let le : length j.lists.heard ≤ length (j.lists.heard ++ g ∷ []) = omega (arith, e) in le);
           handled = refl;
         }),
       )
@@ -200,6 +201,7 @@ module _ (w new : World) (k : ℕ) (j : Joined) (x : ClientSide) (at : At w.circ
           up = refl;
           down = refl;
           heard = λ other. refl;
+          more = (let le : length (old.1.0).lists.heard ≤ length (old.1.0).lists.heard = omega arith in le);
           handled = refl;
         }),
       )
@@ -217,12 +219,13 @@ module _ (w new : World) (k : ℕ) (j : Joined) (x : ClientSide) (at : At w.circ
         near up h r f =
             let c : Circuit = with_heard g j.lists in
             let read = read-so d steps.m steps.rest e g linked steps.first steps.hears h r in
+            let further : (m : ℕ) → m < length j.lists.heard → m < length c.heard = λ m lt. (let more : length (j.lists.heard ++ g ∷ []) ≡ length j.lists.heard + 1 = length-more j.lists.heard g in omega (arith, lt, more)) in
             let down : v.lists.down ≡ c.down = ap (λ (u : Joined). u.lists.down) v_is in
             let heard : length v.lists.heard ≡ length c.heard = ap (λ (u : Joined). length u.lists.heard) v_is in
             let handled : length v.lists.handled ≡ length c.handled = ap (λ (u : Joined). length u.lists.handled) v_is in
             by-way c v.lists (said x.names on sent) up down heard handled x.names x.names read.0 core on
             (λ i m a2 in_it creates. record { turn = f.turn; read = f.read; about = f.about }) (λ h2 sid l2. refl) read.1
-            (record { under = λ p a2 q ask at_q is_q other. (let b = r.under p a2 q ask at_q is_q other in (b.0, b.1, record { t = (b.2).t; r = (b.2).r; told = (b.2).told; asked = (b.2).asked; early = (b.2).early; since = (b.2).since })); between = r.between; turn = r.turn })
+            (record { under = λ p a2 q ask at_q is_q other. (let b = r.under p a2 q ask at_q is_q other in (b.0, b.1, record { t = (b.2).t; r = (b.2).r; told = (b.2).told; asked = (b.2).asked; early = (b.2).early; since = (b.2).since })); read = λ p a2 q ask at_q is_q other. (let b = r.read p a2 q ask at_q is_q other in (b.0, b.1, further b.0 b.2, record { t = (b.3).t; r = (b.3).r; told = (b.3).told; asked = (b.3).asked; early = (b.3).early; since = (b.3).since })); between = r.between; turn = r.turn })
             read.2
 
     far-step : (l : ℕ) (v a : Joined) → At after.circuits l v → At w.circuits l a → (l ≡ k → ⊥) → v ≡ sent_to j.client x.names sent a → a.client ≡ j.client → v.lists.client_open ≡ true → a.lists.client_open ≡ true → v.lists.up ≡ a.lists.up ++ said x.names a.at_client sent

@@ -184,7 +184,7 @@ module _ (w new : World) (k : ℕ) (j : Joined) (x : ClientSide) (on : At w.circ
       (b.0, b.1, subst (λ (z : Joined). GoesOn z b.0) (At-one mid.circuits k c.0 _ c.1 (set-here w.circuits k j (heard_in (hear-step w new k j x on at f) j) on)) c.2)
 
   -- a line of the log
-  log-is : (life : ℕ) (log : List Line) → life ≡ x.life → At w.client_logs life log → log_length x.life w.client_logs ≡ length log
+  pub log-is : (life : ℕ) (log : List Line) → life ≡ x.life → At w.client_logs life log → log_length x.life w.client_logs ≡ length log
   log-is life log is there = ap (λ (n : ℕ). log_length n w.client_logs) (sym is) ∙ ap (λ (o : Option (List Line)). length (unwrap_or o [])) there
 
   -- It was told when the message was read, if it is the first, and tells what was meant by what the message is about.
@@ -263,7 +263,7 @@ module _ (w new : World) (k : ℕ) (j : Joined) (x : ClientSide) (on : At w.circ
   -- ---- channels and subscriptions
 
   -- the channel of a handle that is held was not cleared
-  created-held : (log : List Line) (h : Handle) (ch : Channel) → At w.client_logs x.life log → under x.core.channels h ≡ Some ch → is_gone ch.standing ≡ false → IsHeld log (history.On (channel_number x.names h) history.Create)
+  pub created-held : (log : List Line) (h : Handle) (ch : Channel) → At w.client_logs x.life log → under x.core.channels h ≡ Some ch → is_gone ch.standing ≡ false → IsHeld log (history.On (channel_number x.names h) history.Create)
   created-held log h ch logged there is_held = λ clear.
       let tidy : Tidy x.names x.core = quiet.tidy j.client x at in
       let a : ℕ = channel_number x.names h in
@@ -272,7 +272,7 @@ module _ (w new : World) (k : ℕ) (j : Joined) (x : ClientSide) (on : At w.circ
       both_ways (is_gone ch.standing) is_held (u.2 ch (subst (λ (k : Handle). under x.core.channels k ≡ Some ch) (sym same) there))
 
   -- a message that is no SERVER_DISCONN and no EVENT_ADD is a reply
-  reply-of : (command_is : ℕ) → next.m.command ≡ command_is → (command_is ≡ 27 → ⊥) → (command_is ≡ 1 → ⊥) → next.t.cause ≡ Reply
+  pub reply-of : (command_is : ℕ) → next.m.command ≡ command_is → (command_is ≡ 27 → ⊥) → (command_is ≡ 1 → ⊥) → next.t.cause ≡ Reply
   reply-of number is gone adds = elim (caused.each k j on (length j.lists.heard) next.t next.told) [
     | inl reply ↦ reply
     | inr (inl lost) ↦ absurd (gone (sym is ∙ ap (λ (m : Fields). m.command) (sym next.is) ∙ lost))

@@ -125,7 +125,7 @@ module _ (c d : Circuit) (ss : List Sent) (up : d.up ≡ c.up ++ ss) (down : d.d
           let more : IsCreatedBefore d (channel_number n w.h) b.0 b.1 w.sid (length c.up + i) =
           created-on c d ss up down heard handled (channel_number n w.h) b.0 b.1 w.sid i b.3
           (λ l q asks lt at_q is_q. (let v = w.uses l q at_q in subst (λ (y : Ask). IsUse y) (ask-is (channel_number n w.h) (channel_number n w.h) v.0 asks (sym v.1 ∙ is_q)) v.2)) in
-          (b.0, b.1, subst (λ (v : ℕ × ℕ). IsCreatedBefore d v.0 b.0 b.1 v.1 (length c.up + i)) (λ k. (on_a k, sym u.3 k)) more))
+          (b.0, b.1, subst (λ (v : ℕ). b.0 < v) (sym heard) b.2, subst (λ (v : ℕ × ℕ). IsCreatedBefore d v.0 b.0 b.1 v.1 (length c.up + i)) (λ k. (on_a k, sym u.3 k)) more))
           (λ i a p m sid r q t at is. absurd (none i q a at is))
           (λ i a p r q at is. absurd (none i q a at is)),
     )
@@ -161,7 +161,7 @@ module _ (c d : Circuit) (ss : List Sent) (up : d.up ≡ c.up ++ ss) (down : d.d
           let more : IsCreatedBefore d (channel_number n w.h) b.0 b.1 w.sid (length c.up + i) =
           created-on c d ss up down heard handled (channel_number n w.h) b.0 b.1 w.sid i b.3 (λ l q asks lt at_q is_q. absurd (let e : i ≡ 0 = m.0 in omega (arith, lt, e))) in
           let sid_is : w.sid ≡ sid_in s.message = sym (w.clears.1) ∙ ap (λ (v : Sent). sid_in v.message) (sym m.1) in
-          (b.0, b.1, subst (λ (v : ℕ × ℕ). IsCreatedBefore d v.0 b.0 b.1 v.1 (length c.up + i)) (λ k. (on_a k, sid_is k)) more))
+          (b.0, b.1, subst (λ (v : ℕ). b.0 < v) (sym heard) b.2, subst (λ (v : ℕ × ℕ). IsCreatedBefore d v.0 b.0 b.1 v.1 (length c.up + i)) (λ k. (on_a k, sid_is k)) more))
           (λ i a p m sid r q t at is. absurd (none i q a at is))
           (λ i a p r q at is. absurd (none i q a at is)),
     )

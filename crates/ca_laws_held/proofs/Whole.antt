@@ -103,7 +103,7 @@ frame-kept s w new sound sound_new f l p there =
       | inr (inr (x, in_it, is)) ↦ inr (inr (x, subst (λ (xs : List Creation). In xs x) b.2.creations in_it, is))
     ])
 
-ticks-held : (s : Setting) (moment : ℕ) (clients : List ℕ) (w new : World) → Sound s w → FoldsTo (TicksOne moment) w clients new → AllCircuitsHeld w → AllCircuitsHeld new
+pub ticks-held : (s : Setting) (moment : ℕ) (clients : List ℕ) (w new : World) → Sound s w → FoldsTo (TicksOne moment) w clients new → AllCircuitsHeld w → AllCircuitsHeld new
 ticks-held s moment clients w new sound ticks all l d at =
     let f : Frame w new = ticks-frame moment w clients new ticks in
     let b = f.back l d at in

@@ -4,11 +4,11 @@ use Rattle.ca_text.specs.declared.command.Command.TheVariants as command
 use Rattle.ca_text.specs.Limits.{arena_slots}
 use Rattle.ca_text.specs.Place.{At}
 use Rattle.ca_wire.specs.Fields.{Fields}
-use Rattle.ca_model.specs.History.{Circuit, Entry, Line}
-use Rattle.ca_model.specs.Sends.{Conduct, IsConnected, IsOpenAt, ReadsBetween}
-use Rattle.ca_model.specs.Speech.{Clears, Creates, Is}
-use Rattle.ca_model_safe.specs.Channels.{OfCircuits}
-use Rattle.ca_model_safe.specs.Legal.{server_conduct}
+use Rattle.ca_model.specs.History.{Circuit, Create, Entry, Line, On, Subscribe}
+use Rattle.ca_model.specs.Sends.{Conduct, HasChannel, IsConnected, IsOnChannel, IsOpenAt, ReadsBetween}
+use Rattle.ca_model.specs.Speech.{Clears, Creates, Is, sid_in}
+use Rattle.ca_model_safe.specs.Channels.{Meant, OfCircuits}
+use Rattle.ca_model_safe.specs.Legal.{client_conduct, server_conduct}
 use Rattle.ca_model_world.specs.World.{World, told}
 
 -- A SID is given only if no open channel has its index.
@@ -39,3 +39,18 @@ ServersConfirmAtOnce w =
 abbrev pub ServersEndOpenChannels : World → Type 0
 ServersEndOpenChannels w =
     OfCircuits (told w) (λ (n : ℕ) (c : Circuit) (x : List Line) (y : List Entry). EndsOpenChannels (server_conduct c))
+
+-- Two EVENT_ADDs of one subscription are for different creations of its channel.
+abbrev pub SubscriptionsAreAddedApart : World → Type 0
+SubscriptionsAreAddedApart w = OfCircuits (told w) (λ (n : ℕ) (c : Circuit) (x : List Line) (y : List Entry).
+    (k l channel number : ℕ) → k < l → Meant c k (On channel (Subscribe number)) → Meant c l (On channel (Subscribe number))
+    → (p : ℕ) × (k < p) × (p < l) × Meant c p (On channel Create))
+
+-- A message on a channel goes out under the SID of one that the client has; and a CLEAR_CHANNEL has its CID.
+abbrev pub SendsOnChannels : Conduct → Type 0
+SendsOnChannels e = (k : ℕ) (m : Fields) → At e.sent k m → IsOnChannel m
+    → (i j cid : ℕ) × HasChannel e k i j cid (sid_in m) × (Is command.ClearChannel m → m.p2 ≡ cid)
+
+abbrev pub ClientsSendOnChannels : World → Type 0
+ClientsSendOnChannels w =
+    OfCircuits (told w) (λ (n : ℕ) (c : Circuit) (x : List Line) (y : List Entry). SendsOnChannels (client_conduct c))

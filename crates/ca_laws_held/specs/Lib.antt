@@ -15,3 +15,4 @@ pub mod OrderSteps
 pub mod Causes
 pub mod ToldLines
 pub mod LegalParts
+pub mod ToldParts

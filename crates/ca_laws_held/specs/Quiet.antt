@@ -121,6 +121,24 @@ abbrev pub AreSubIds : List Sent → Type 0
 AreSubIds up = (p q a b number : ℕ) (r s : Sent) → At up p r → At up q s → r.intent ≡ On a (Subscribe number) → s.intent ≡ On b (Cancel number)
     → r.message.p2 ≡ s.message.p2
 
+-- A CREATE_CHAN and a CLEAR_CHANNEL have the CID of the handle that their channel's number names.
+abbrev pub HasCid : List Handle → Sent → Type 0
+HasCid channels s =
+    (a : ℕ) → (s.intent ≡ On a Create → (h : Handle) × At channels a h × (s.message.p1 ≡ wire_of h))
+    × (s.intent ≡ On a Clear → (h : Handle) × At channels a h × (s.message.p2 ≡ wire_of h))
+
+abbrev pub HaveCids : List Handle → List Sent → Type 0
+HaveCids channels up = (p : ℕ) (s : Sent) → At up p s → HasCid channels s
+
+-- A CLEAR_CHANNEL has the CID of its channel's CREATE_CHANs.
+abbrev pub AreCids : List Sent → Type 0
+AreCids up = (p q a : ℕ) (r s : Sent) → At up p r → At up q s → r.intent ≡ On a Create → s.intent ≡ On a Clear → r.message.p1 ≡ s.message.p2
+
+-- Between two EVENT_ADDs of one subscription its channel was created again.
+abbrev pub AreAddedApart : List Sent → Type 0
+AreAddedApart up = (k l a number : ℕ) (r s : Sent) → k < l → At up k r → At up l s → r.intent ≡ On a (Subscribe number) → s.intent ≡ On a (Subscribe number)
+    → (p : ℕ) × (q : Sent) × (k < p) × (p < l) × At up p q × (q.intent ≡ On a Create)
+
 -- ---- a circuit
 
 -- What was sent on the circuit of this handle was named, and is as the client's channels and subscriptions there are.
@@ -131,9 +149,14 @@ pub record Quiet (n : Names) (x : Client) (on : Handle) (up : List Sent) : Type 
   pub subscriptions : (g : Handle) (d : Subscription) (a number : ℕ) → under x.subscriptions g ≡ Some d → meant_by n.subscriptions g ≡ On a (Subscribe number)
       → StageIn on up number d.stage
 
--- So it is of all clients of a world, and of their circuits whose ends are open; and ids of subscriptions stay right on all circuits.
+-- So it is of all clients of a world, and of their circuits whose ends are open. On all circuits ids of subscriptions and of channels stay
+-- right, and EVENT_ADDs of one subscription apart.
 pub record ClientsQuiet (w : World) : Type 0 where
   pub tidy : (i : ℕ) (x : ClientSide) → At w.clients i x → Tidy x.names x.core
   pub quiet : (k : ℕ) (j : Joined) (x : ClientSide) → At w.circuits k j → At w.clients j.client x → j.lists.client_open ≡ true
       → Quiet x.names x.core j.at_client j.lists.up
   pub ids : (k : ℕ) (j : Joined) → At w.circuits k j → AreSubIds j.lists.up
+  pub apart : (k : ℕ) (j : Joined) → At w.circuits k j → AreAddedApart j.lists.up
+  pub named : (k : ℕ) (j : Joined) (x : ClientSide) → At w.circuits k j → At w.clients j.client x → j.lists.client_open ≡ true
+      → HaveCids x.names.channels j.lists.up
+  pub cids : (k : ℕ) (j : Joined) → At w.circuits k j → AreCids j.lists.up

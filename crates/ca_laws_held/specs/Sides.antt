@@ -6,7 +6,7 @@ use Rattle.ca_text.specs.Place.{At}
 use Rattle.ca_model.specs.Client.{Channel, Client, Live, Native, On}
 use Rattle.ca_model.specs.History.{Circuit, Create, Reply, Sent, Told}
 use Rattle.ca_model.specs.History as history
-use Rattle.ca_model.specs.Speech.{Creates}
+use Rattle.ca_model.specs.Speech.{Creates, sid_in}
 use Rattle.ca_model_world.specs.ClientEvents.{channel_number}
 use Rattle.ca_model_world.specs.World.{ClientSide, Joined, Names, World}
 use Rattle.ca_laws_circuit.specs.Sids.{IsClearedWithin}
@@ -36,9 +36,15 @@ abbrev pub AreInTurn : Circuit → Type 0
 AreInTurn c = (p k a : ℕ) (r q : Sent) → p < k → At c.up p r → At c.up k q → r.intent ≡ history.On a Create
     → q.intent ≡ history.On a Create → p < length c.handled
 
+-- So it goes under the SID of a channel of whose creation the client read.
+abbrev pub AreRead : Circuit → Type 0
+AreRead c = (p channel : ℕ) (s : Sent) (ask : history.Ask) → At c.up p s → s.intent ≡ history.On channel ask → (ask ≡ Create → ⊥)
+    → (j k : ℕ) × (j < length c.heard) × IsCreatedBefore c channel j k (sid_in s.message) p
+
 -- What a client said on a circuit, by its lists.
 pub record Right (c : Circuit) : Type 0 where
   pub under : AreUnder c
+  pub read : AreRead c
   pub between : AreClearedBetween c
   pub turn : AreInTurn c
 

@@ -5,9 +5,11 @@ ghost use Rattle.ca_model_world.specs.Events.{Event};
 ghost use Rattle.ca_model_world.specs.Runs.{AreEvents, Runs};
 ghost use Rattle.ca_model_world.specs.World.{IsSetting, Setting, World, told};
 ghost use Rattle.ca_laws_held.specs.LegalParts.{
+  ClientsSendOnChannels,
   ServersConfirmAtOnce,
   ServersEndOpenChannels,
   ServersGiveFreeSids,
+  SubscriptionsAreAddedApart,
 };
 
 /// In every world to which a run leads, whatever its setting and events, each accepted subscription
@@ -39,4 +41,22 @@ pub fn servers_confirm_at_once()
 pub fn servers_disconnect_open_channels()
     ensures { (s : Setting) (es : List Event) (stopped : Option Event) (w : World) → IsSetting s
         → Runs s es stopped w → ServersEndOpenChannels w }
+{}
+
+/// After every run from a well-formed setting, between two EVENT_ADDs of one subscription on a circuit
+/// its channel was created again there. This is `apart` of the statement's `LegalCircuit`. It holds also
+/// of what an end sent that has ended.
+pub fn subscriptions_are_added_apart()
+    ensures { (s : Setting) (es : List Event) (stopped : Option Event) (w : World) → IsSetting s
+        → Runs s es stopped w → SubscriptionsAreAddedApart w }
+{}
+
+/// After every run from a well-formed setting by well-formed events, each message of a client on a
+/// channel goes out under the SID of one that it has: it asked for the channel, it read the reply that
+/// gave the SID, both before, and has sent no CLEAR_CHANNEL of it since. A CLEAR_CHANNEL has its CID.
+/// This is `on_channel` of the statement's `LegalClient`, but for what goes out once a SERVER_DISCONN
+/// was read. It holds also of what an end sent that has ended.
+pub fn clients_send_on_channels_that_they_have()
+    ensures { (s : Setting) (es : List Event) (stopped : Option Event) (w : World) → IsSetting s
+        → AreEvents es → Runs s es stopped w → ClientsSendOnChannels w }
 {}

@@ -5,6 +5,7 @@
 #![tactic(auto)]
 
 mod cause_laws;
+mod complete_laws;
 mod heard_laws;
 mod laws;
 mod legal_laws;
@@ -15,6 +16,10 @@ mod step_laws;
 mod told_laws;
 
 pub use cause_laws::{channels_are_removed_once, messages_come_after_what_they_are_about};
+pub use complete_laws::{
+    callers_are_told_what_became_of_their_writes, creations_are_told,
+    notices_are_told_of_their_own, requests_are_told_of_their_own, uses_are_told_of_once,
+};
 pub use heard_laws::{
     each_notice_tells_of_its_own_message, what_is_held_by_what_servers_take,
     what_is_read_is_about_what_it_finds, what_was_sent_is_as_channels_are,
@@ -24,8 +29,9 @@ pub use laws::{
     what_clients_take_is_told_of_its_own, what_servers_take_is_handled_as_it_was_meant,
 };
 pub use legal_laws::{
-    accepted_subscriptions_were_sent, servers_confirm_at_once, servers_disconnect_open_channels,
-    servers_give_free_sids,
+    accepted_subscriptions_were_sent, clients_send_on_channels_that_they_have,
+    servers_confirm_at_once, servers_disconnect_open_channels, servers_give_free_sids,
+    subscriptions_are_added_apart,
 };
 pub use once_laws::{a_call_is_accepted_once, a_request_is_at_one_place, what_was_called_was_sent};
 pub use order_laws::{circuits_join_lives, steps_are_in_order, steps_of_servers_are_in_order};

@@ -1,0 +1,47 @@
+-- Working: how each message that a server handled was answered, by the lists of its circuit and the log of the server's life.
+use Rattle.std.specs.Prelude.{ℕ, ◌≡◌, ◌<◌, ◌≤◌, ◌+◌, ◌⊎◌, List, length, take}
+use Rattle.ca_text.specs.declared.command.Command.TheVariants as command
+use Rattle.ca_text.specs.Place.{At}
+use Rattle.ca_text.specs.Status.{normal}
+use Rattle.ca_wire.specs.Fields.{Fields}
+use Rattle.ca_model.specs.Due.{Action, Due, Knows}
+use Rattle.ca_model.specs.History.{Circuit, Entry, Finished, Line, Sent, Step}
+use Rattle.ca_model.specs.Speech.{In, Is}
+use Rattle.ca_model_safe.specs.Channels.{IsReply, OfCircuits, before}
+use Rattle.ca_model_safe.specs.Known.{AreJust, IsChannel, IsKey, IsRecordOf}
+use Rattle.ca_model_world.specs.World.{World, told}
+
+-- What a server knows of its records, of the open channels of a circuit and of its subscriptions there is what these lists and this log say.
+pub record KnowsLists (c : Circuit) (y : List Entry) (k : Knows) : Type 0 where
+  pub records : (name : List ℕ) → IsRecordOf y name (k.record_of name)
+  pub channels : AreJust k.channels (IsChannel c y)
+  pub keys : AreJust k.keys (IsKey c y)
+
+-- The circuit as its server knew it when it took the message at place k, in this step, whoever its client is.
+abbrev pub past : Circuit → ℕ → Step → Circuit
+past c k h = record (before c k h) { client = 0 }
+
+-- The message at place k got, in its step, the replies that were due by what its server knew then, each once and in order.
+pub record IsAnswered (c : Circuit) (y : List Entry) (k : ℕ) (h : Step) : Type 0 where
+  pub s : Sent
+  pub at : At c.up k s
+  pub known : Knows
+  pub did : Action
+  pub replies : List Fields
+  pub knew : KnowsLists (past c k h) (take h.logged y) known
+  pub due : Due known s.message replies did
+  pub now : (i : ℕ) (m : Fields) → At replies i m → IsReply c k (h.sent + i) m
+  pub fits : h.sent + length replies ≤ length c.down
+  pub next : (l : ℕ) (g : Step) → k < l → At c.handled l g → h.sent + length replies ≤ g.sent
+
+-- A reply that came later, to a put, tells that it was done; and that put was finished.
+abbrev pub IsLate : (n : ℕ) → Circuit → List Entry → (k : ℕ) → Fields → Type 0
+IsLate n c y k m = Is command.WriteNotify m × (m.p1 ≡ normal) × In y (Finished n k) × ((s : Sent) × At c.up k s × Is command.WriteNotify s.message)
+
+-- And every other reply about it is late.
+abbrev pub AnsweredAt : (n : ℕ) → Circuit → List Entry → (k : ℕ) → Step → Type 0
+AnsweredAt n c y k h = (a : IsAnswered c y k h) × ((j : ℕ) (m : Fields) → IsReply c k j m → (j < h.sent + length a.replies) ⊎ IsLate n c y k m)
+
+-- So it is of each message that was handled on any circuit, whether its ends are open or not.
+abbrev pub AreAnswered : World → Type 0
+AreAnswered w = OfCircuits (told w) (λ (n : ℕ) (c : Circuit) (x : List Line) (y : List Entry). (k : ℕ) (h : Step) → At c.handled k h → AnsweredAt n c y k h)

@@ -1,0 +1,23 @@
+ghost use Rattle.std.specs.Prelude.{List, Option};
+ghost use Rattle.ca_model_world.specs.Events.{Event};
+ghost use Rattle.ca_model_world.specs.Runs.{Runs};
+ghost use Rattle.ca_model_world.specs.World.{IsSetting, Setting, World};
+ghost use Rattle.ca_laws_follows.specs.KnewLists.{KnowChannels, KnowKeys};
+
+/// After every run from a well-formed setting, the open channels that a server's core knows on an
+/// open end are just those that are open by the lists of the circuit, each once, with its SID, its CID
+/// and its name; and it is retired exactly if the log removed its record. This is `channels` of what a
+/// server knew.
+pub fn servers_know_their_channels()
+    ensures { (s : Setting) (es : List Event) (stopped : Option Event) (w : World) → IsSetting s
+        → Runs s es stopped w → KnowChannels w }
+{}
+
+/// After every such run, the keys that a server's core knows on an open end are just those of the
+/// subscriptions that last, by the lists of the circuit and the log: each of an EVENT_ADD that was
+/// accepted, whose record is there, and that was neither cancelled nor cleared. This is `keys` of
+/// what a server knew.
+pub fn servers_know_their_keys()
+    ensures { (s : Setting) (es : List Event) (stopped : Option Event) (w : World) → IsSetting s
+        → Runs s es stopped w → KnowKeys w }
+{}
