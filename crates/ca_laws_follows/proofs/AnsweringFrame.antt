@@ -2,7 +2,7 @@
 use Rattle.std.proofs.Common.{◌≡◌, ℕ, zero, suc, ◌+◌, ◌<◌, ◌≤◌, ◌⊎◌, inl, inr, List, [], ◌∷◌, ◌++◌, length, Option, Some, None, refl, sym, ap, subst, ◌∙◌, arith}
 use Rattle.std.specs.Prelude.{option_map, slice_get, slice_set, take, unwrap_or}
 use Rattle.ca_text.specs.Place.{At}
-use Rattle.ca_text.proofs.Places.{some_is, At-append, At-mapped, At-set, At-within}
+use Rattle.ca_text.proofs.Places.{some_is, At-append, At-back, At-mapped, At-set, At-within}
 use Rattle.ca_wire.specs.Fields.{Fields}
 use Rattle.ca_model.specs.Due.{Action}
 use Rattle.ca_model.specs.History.{Circuit, Entry, Finished, Reply, Step, Told}
@@ -12,10 +12,10 @@ use Rattle.ca_model_world.specs.ServerEvents as server
 use Rattle.ca_model_world.specs.World.{Joined, ServerSide, World, with_circuit}
 use Rattle.ca_laws_runs.proofs.Handled.{numbers-like, writes-like}
 use Rattle.ca_laws_writes.proofs.Lists.{none_at}
-use Rattle.ca_laws_follows.specs.Answering.{AnsweredAt, IsLate, KnowsLists, past}
+use Rattle.ca_laws_follows.specs.Answering.{AnsweredAt, IsLate, KnowsLists, LogsSo, past}
 use Rattle.ca_laws_follows.proofs.Acting.{Extends, Grows, IsLonger, longer-taken}
 use Rattle.ca_laws_follows.proofs.CausingKeeps.{Steady}
-use Rattle.ca_laws_follows.proofs.Known.{grows-le}
+use Rattle.ca_laws_follows.proofs.Known.{grows-le, longer-le}
 
 -- ---- beginnings
 
@@ -57,6 +57,12 @@ module _ (n : ℕ) (c d : Circuit) (y z : List Entry) (k : ℕ) (h : Step) (ext 
         | inl old ↦ a.next l g lt old
         | inr late ↦ (let le : h.sent + length a.replies ≤ length c.down = a.fits in omega (arith, le, late))
       ];
+      logs = a.logs;
+      logs_are = subst (λ (l : List Entry). LogsSo n k l a.did a.logs) (sym (longer-taken h.logged y z longer (steady.within k h at_h).logged)) a.logs_are;
+      logged = λ i e at. subst (λ (l : List Entry). At l (h.logged + i) e) (sym longer.1) (At-append y longer.0 (h.logged + i) e (a.logged i e at));
+      within = a.within;
+      besides = λ i e from until at. a.besides i e from until (At-back y longer.0 i e (subst (λ (l : List Entry). At l i e) longer.1 at) (let le : h.after ≤ length y = a.ends in omega (arith, until, le)));
+      ends = (let le : h.after ≤ length y = a.ends in let more : length y ≤ length z = longer-le y z longer in omega (arith, le, more));
     },
     λ j m reply. elim (replies j m reply) [
       | inl old ↦ elim (rest j m old) [

@@ -1,28 +1,29 @@
 -- Each message that a server handled was answered by what it knew, over every event and run.
 use Rattle.std.proofs.Common.{◌≡◌, ℕ, zero, suc, ◌+◌, ◌<◌, ◌≤◌, ◌⊎◌, inl, inr, Bool, true, List, [], ◌∷◌, ◌++◌, length, Option, Some, None, refl, sym, ap, subst, ◌∙◌, arith}
-use Rattle.std.specs.Prelude.{filter, map, not, slice_get, slice_set, take, unwrap_or}
-use Rattle.std.specs.List.{FoldsTo}
+use Rattle.std.specs.Prelude.{option_map, filter, map, not, slice_get, slice_set, take, unwrap_or}
+use Rattle.std.specs.List.{FoldsTo, flat_map}
 use Rattle.std.specs.Str.{bytes_eq}
 use Rattle.ca_arena.specs.declared.handle.Handle.{Handle}
 use Rattle.ca_link.specs.Link.{with_rest}
 use Rattle.ca_text.specs.Place.{At}
-use Rattle.ca_text.proofs.Places.{At-after, At-append, At-map, At-mapped, At-one, At-parts, At-snoc, At-within}
+use Rattle.ca_text.proofs.Places.{At-after, At-append, At-map, At-mapped, At-one, At-parts, At-set, At-snoc, At-within}
 use Rattle.ca_wire.specs.Fields.{Fields}
 use Rattle.ca_model.specs.Answers.{Closing}
-use Rattle.ca_model.specs.Due.{Due}
-use Rattle.ca_model.specs.History.{Cause, Circuit, Entry, Finished, Line, Removal, Reply, Sent, Step, Told}
+use Rattle.ca_model.specs.Due.{Action, Applies, Due, KnownRecord}
+use Rattle.ca_model.specs.Due as action
+use Rattle.ca_model.specs.History.{Cause, Circuit, Entry, Finished, Line, Removal, Reply, Sent, Step, Told, Withdrawn}
 use Rattle.ca_model.specs.Server.{Server, ServerEnd}
 use Rattle.ca_model.specs.ServerCalls.{Replies, finish_reply, with_finish}
-use Rattle.ca_model.specs.ServerSteps.{HasEnd, Pumps, Stepped, knows}
+use Rattle.ca_model.specs.ServerSteps.{HasEnd, Pumps, Stepped, known_record, knows, stored_now}
 use Rattle.ca_model.specs.Speech.{In, Is}
 use Rattle.ca_text.specs.declared.command.Command.TheVariants as command
 use Rattle.ca_model_world.specs.ClientEvents.{HappensAccept, WantsFirst, connected_as, new_circuit}
 use Rattle.ca_model_world.specs.Events.{Event}
 use Rattle.ca_model_world.specs.Events as event
 use Rattle.ca_model_world.specs.Runs.{Happens, Runs, StopsAt, clients_below}
-use Rattle.ca_model_world.specs.ServerEvents.{HappensFinish, HappensPump, HappensRemove, ServerStepped, StepHandles, about, ends_by, finish_entry, first_of, next_entries, removal_told, replied_at, server_after, withdrawals}
+use Rattle.ca_model_world.specs.ServerEvents.{HappensFinish, HappensPump, HappensRemove, ServerStepped, StepHandles, about, acted, ends_by, logged_by, side_of, finish_entry, first_of, handled_at, next_entries, removal_told, replied_at, server_after, withdrawals}
 use Rattle.ca_model_world.specs.ServerEvents as server
-use Rattle.ca_model_world.specs.World.{ClientSide, IsSetting, Joined, PutPlace, RecordSide, ServerSide, Setting, Standing, World, circuit_of, opening}
+use Rattle.ca_model_world.specs.World.{ClientSide, IsSetting, Joined, PutPlace, RecordSide, ServerSide, Setting, Standing, World, circuit_of, opening, with_circuit}
 use Rattle.ca_laws_kept.specs.Later.{IsLater, stamped_told}
 use Rattle.ca_laws_kept.proofs.Thins.{put-facts}
 use Rattle.ca_laws_kept.proofs.Updates.{stamps-later}
@@ -33,16 +34,20 @@ use Rattle.ca_laws_writes.specs.Lives.{CameOn, IsPutOf}
 use Rattle.ca_laws_writes.specs.Moves.{Lives}
 use Rattle.ca_laws_writes.specs.Moves as moves
 use Rattle.ca_laws_writes.specs.Once.{HadWaited}
-use Rattle.ca_records.specs.Puts.{Record}
+use Rattle.ca_records.specs.Puts.{Record, record_named}
+use Rattle.ca_laws_writes.proofs.Doing.{due-applies, due-waits}
+use Rattle.ca_laws_writes.proofs.Events.{Found, found}
 use Rattle.ca_laws_writes.proofs.Every.{ticks-frame}
 use Rattle.ca_laws_writes.proofs.Frames.{Frame}
 use Rattle.ca_laws_writes.proofs.HappensClient.{sent-frame}
 use Rattle.ca_laws_writes.proofs.InStepLasts.{world-numbered}
 use Rattle.ca_laws_writes.proofs.Lists.{beside-right, none_at, take-front, take-whole}
+use Rattle.ca_laws_writes.proofs.Lives.{number-of}
 use Rattle.ca_laws_writes.proofs.Midway.{grown-here}
 use Rattle.ca_laws_writes.proofs.Moves.{same-or}
 use Rattle.ca_laws_writes.proofs.Says.{logs-stay}
-use Rattle.ca_laws_follows.specs.Answering.{AnsweredAt, AreAnswered, IsLate, KnowsLists, past}
+use Rattle.ca_laws_follows.specs.Answering.{AnsweredAt, AreAnswered, IsLate, KnowsLists, LogsSo, past}
+use Rattle.ca_model_safe.specs.Channels.{Has}
 use Rattle.ca_laws_follows.specs.KnewLists.{as_known}
 use Rattle.ca_laws_follows.proofs.Acting.{Extends, IsLonger, longer-taken}
 use Rattle.ca_laws_follows.proofs.ActsOn.{of-circuits}
@@ -192,6 +197,33 @@ long f (x ∷ xs) ys = (let le : length xs + length ys ≤ length (xs ++ map f y
 known-is : (d j : Circuit) (h : Step) → d.server ≡ j.server → take (length j.handled) d.up ≡ take (length j.handled) j.up → take h.sent d.down ≡ j.down → take (length j.handled) d.handled ≡ j.handled → past d (length j.handled) h ≡ as_known j
 known-is d j h server up down handled = λ i. record (as_known j) { server = server i; up = up i; down = down i; handled = handled i }
 
+two-long : {A : Type 0} (xs ys : List A) → length (xs ++ ys) ≡ length xs + length ys
+two-long [] ys = omega arith
+two-long (x ∷ xs) ys = (let e : length (xs ++ ys) ≡ length xs + length ys = two-long xs ys in omega (arith, e))
+
+longer-three : {A : Type 0} (xs ys zs : List A) → length xs + length ys ≤ length ((xs ++ ys) ++ zs)
+longer-three xs ys zs =
+    (let a : length (xs ++ ys) ≡ length xs + length ys = two-long xs ys in
+    let b : length ((xs ++ ys) ++ zs) ≡ length (xs ++ ys) + length zs = two-long (xs ++ ys) zs in
+    omega (arith, a, b))
+
+withdrawn-is : (ps : List PutPlace) (i : ℕ) (e : Entry) → At (map (λ (p : PutPlace). Withdrawn p.circuit p.place) ps) i e → (m l : ℕ) × (e ≡ Withdrawn m l)
+withdrawn-is ps i e at = (let p = At-mapped (λ (p : PutPlace). Withdrawn p.circuit p.place) ps i e at in (p.0.circuit, p.0.place, p.2))
+
+known-from : (o : Option Record) (k : KnownRecord) → option_map known_record o ≡ Some k → (cr : Record) × (o ≡ Some cr)
+known-from None k is = absurd cc
+known-from (Some cr) k is = (cr, refl)
+
+side-life : (w : World) (k : ℕ) (j : Joined) (y : ServerSide) (did : Action) → At w.servers j.server y → (side_of j.server y (acted k j y did w)).life ≡ y.life
+side-life w k j y did at = go (slice_get (acted k j y did w).servers j.server) refl
+  where
+    next : ServerSide
+    next = record y { records = server.records_after y.core j.at_server (record { circuit = k; place = length j.lists.handled }) did y.records }
+
+    go : (o : Option ServerSide) → slice_get (acted k j y did w).servers j.server ≡ o → (unwrap_or o y).life ≡ y.life
+    go None is = refl
+    go (Some z) is = elim (At-set w.servers j.server next j.server z is) [ inl own ↦ ap (λ (x : ServerSide). x.life) own.1 | inr old ↦ absurd (old.1 refl) ]
+
 module _ (s : Setting) (w new : World) (k : ℕ) (j : Joined) (y : ServerSide) (on : At w.circuits k j) (at_y : At w.servers j.server y) (opened : j.lists.server_open ≡ true) (f : StepHandles w k j y new) (ready : Ready s w) (grow : LogsGrow w new) (know : AllKnow w) (all : AllAnswered w) where
   abbrev place : ℕ
   place = length j.lists.handled
@@ -249,6 +281,73 @@ module _ (s : Setting) (w new : World) (k : ℕ) (j : Joined) (y : ServerSide) (
     reply-at : (q : ℕ) (t : Told) → At (about place Reply replies) q t → (r : Fields) × At replies q r × (t ≡ record { message = r; place = place; cause = Reply })
     reply-at q t there = At-mapped (λ (z : Fields). let v : Told = record { message = z; place = place; cause = Reply } in v) replies q t there
 
+    -- what the step logged
+    abbrev put_at : PutPlace
+    put_at = record { circuit = k; place = place }
+
+    abbrev more : List Entry
+    more = logged_by y.core j.at_server put_at (f.steps.0).action y.records
+
+    abbrev midway : World
+    midway = acted k j y (f.steps.0).action w
+
+    abbrev side : ServerSide
+    side = side_of j.server y midway
+
+    abbrev ended_log : List Entry
+    ended_log = withdrawals (server.ends_at (ends_by j.server f.core) midway.circuits) side.records
+
+    abbrev ended : World
+    ended = server_after j.server side (ends_by j.server f.core) f.core midway
+
+    mid-log : At midway.server_logs y.life (own.0 ++ more)
+    mid-log = grown-here w.server_logs y.life own.0 more here
+
+    after-log : At ended.server_logs y.life ((own.0 ++ more) ++ ended_log)
+    after-log = (let life : side.life ≡ y.life = side-life w k j y (f.steps.0).action at_y in
+        subst (λ (l : ℕ). At ended.server_logs l ((own.0 ++ more) ++ ended_log)) life (grown-here midway.server_logs side.life (own.0 ++ more) ended_log (subst (λ (l : ℕ). At midway.server_logs l (own.0 ++ more)) (sym life) mid-log)))
+
+    noted-log : (o : Option Joined) → (unwrap_or (option_map (λ (c : Joined). with_circuit k (handled_at place step replies c) ended) o) ended).server_logs ≡ ended.server_logs
+    noted-log None = refl
+    noted-log (Some c) = refl
+
+    lg-is : lg ≡ (own.0 ++ more) ++ ended_log
+    lg-is =
+        At-one ended.server_logs y.life lg ((own.0 ++ more) ++ ended_log)
+        (subst (λ (v : ℕ × List (List Entry)). At v.1 v.0 lg) (λ i. ((lists.3 ∙ joins) i, (ap (λ (z : World). z.server_logs) f.leaves ∙ noted-log (slice_get ended.circuits k)) i)) logged) after-log
+
+    after-is : step.after ≡ length ((own.0 ++ more) ++ ended_log)
+    after-is = ap (λ (o : Option (List Entry)). length (unwrap_or o [])) after-log
+
+    late : (i : ℕ) (e : Entry) → step.logged + length more ≤ i → At ((own.0 ++ more) ++ ended_log) i e → (m l : ℕ) × (e ≡ Withdrawn m l)
+    late i e from there = elim (At-parts (own.0 ++ more) ended_log i e there) [
+      | inl old_it ↦ absurd (let lt : i < length (own.0 ++ more) = At-within (own.0 ++ more) i e old_it in let is : length (own.0 ++ more) ≡ length own.0 + length more = two-long own.0 more in omega (arith, lt, is, from, length-is))
+      | inr new_it ↦ withdrawn-is (flat_map (λ (r : RecordSide). filter (λ (q : PutPlace). server.ends_at (ends_by j.server f.core) midway.circuits q.circuit) r.waiting) side.records) new_it.0 e new_it.2
+    ]
+
+    -- a record of this name is there
+    named : (name : List ℕ) (known : KnownRecord) → option_map known_record (record_named y.core.records name) ≡ Some known → Has own.0 (server.number_of name y.records) name
+    named name known is =
+        let cr = known-from (record_named y.core.records name) known is in
+        let life = ready.serves.stands.sound.writes.lives j.server y at_y in
+        let g : Found (IsPutOf w.circuits j.server) life.log y.core.records y.records name cr.0 = found (IsPutOf w.circuits j.server) life.log y.core.records y.records name cr.0 life.life.each cr.1 in
+        let same : life.log ≡ own.0 = At-one w.server_logs y.life life.log own.0 life.at here in
+        let number : server.number_of name y.records ≡ g.r.number = ap (λ (n : List ℕ). server.number_of n y.records) (sym g.named) ∙ number-of y.records g.i g.r life.life.others g.in_rs in
+        subst (λ (v : List Entry × ℕ). Has v.0 v.1 name) (λ i. (same i, sym number i))
+        (g.agrees.first, g.agrees.added, sym (ap (λ (z : _). z.name) g.agrees.state) ∙ g.agrees.name ∙ g.named, g.agrees.there)
+
+    logs-so : (did : Action) → Due (knows y.core taken) (f.steps.0).m replies did → LogsSo k place own.0 did (logged_by y.core j.at_server put_at did y.records)
+    logs-so (Applies name value busies) due = (let to = (due-applies (knows y.core taken) (f.steps.0).m replies name value busies due).0 in (server.number_of name y.records, stored_now y.core value, named name to.known to.named, refl, (y.core.stamp, refl), refl))
+    logs-so (action.Waits name value) due = (let to = (due-waits (knows y.core taken) (f.steps.0).m replies name value due).0 in (server.number_of name y.records, stored_now y.core value, named name to.known to.named, refl, (y.core.stamp, refl), refl))
+    logs-so (action.Clears sid) due = λ i e there. withdrawn-is (flat_map (λ (ps : List PutPlace). ps) (server.with_core (λ (c : Record) (r : RecordSide). server.places_where (server.is_of_channel j.at_server sid) c.waiting r.waiting) y.core.records y.records)) i e there
+    logs-so action.Nothing due = refl
+    logs-so action.Greets due = refl
+    logs-so (action.Names x) due = refl
+    logs-so (action.Opens x) due = refl
+    logs-so (action.Adds x) due = refl
+    logs-so (action.Drops x) due = refl
+    logs-so (action.Switches x) due = refl
+
     fresh : AnsweredAt k d.lists lg place step
     fresh = (
       record {
@@ -272,6 +371,14 @@ module _ (s : Setting) (w new : World) (k : ℕ) (j : Joined) (y : ServerSide) (
           | inl was ↦ absurd (let below : l < place = At-within j.lists.handled l g was in omega (arith, lt, below))
           | inr now ↦ absurd (let e : l ≡ place = now.0 in omega (arith, lt, e))
         ];
+        logs = more;
+        logs_are = subst (λ (l : List Entry). LogsSo k place l (f.steps.0).action more) (sym is-log) (logs-so (f.steps.0).action ((f.steps.0).handles).due);
+        logged = λ i e there.
+            let n_is : step.logged + i ≡ length own.0 + i = ap (λ (z : ℕ). z + i) length-is in
+            subst (λ (v : ℕ × List Entry). At v.1 v.0 e) (λ q. (sym n_is q, sym lg-is q)) (At-append (own.0 ++ more) ended_log (length own.0 + i) e (At-after own.0 more i e there));
+        within = (let w : length own.0 + length more ≤ length ((own.0 ++ more) ++ ended_log) = longer-three own.0 more ended_log in let e : step.after ≡ length ((own.0 ++ more) ++ ended_log) = after-is in omega (arith, w, e, length-is));
+        besides = λ i e from until there. late i e from (subst (λ (l : List Entry). At l i e) lg-is there);
+        ends = (let e : step.after ≡ length ((own.0 ++ more) ++ ended_log) = after-is in let g : length lg ≡ length ((own.0 ++ more) ++ ended_log) = ap (λ (l : List Entry). length l) lg-is in omega (arith, e, g));
       },
       λ i m reply. elim (down-was i (record { message = m; place = place; cause = Reply }) reply) [
         | inl was ↦ absurd (let lt : place < place = steady.below i (record { message = m; place = place; cause = Reply }) was in omega (arith, lt))
@@ -487,4 +594,4 @@ run-answered s es stopped w ok runs =
   where
     as-told : (n : ℕ) (j : Joined) (y : List Entry) (k : ℕ) (h : Step) → AnsweredAt n j.lists y k h → AnsweredAt n (circuit_of j) y k h
     as-told n j y k h (a, rest) =
-        (record { s = a.s; at = a.at; known = a.known; did = a.did; replies = a.replies; knew = a.knew; due = a.due; now = a.now; fits = a.fits; next = a.next }, rest)
+        (record { s = a.s; at = a.at; known = a.known; did = a.did; replies = a.replies; knew = a.knew; due = a.due; now = a.now; fits = a.fits; next = a.next; logs = a.logs; logs_are = a.logs_are; logged = a.logged; within = a.within; besides = a.besides; ends = a.ends }, rest)
