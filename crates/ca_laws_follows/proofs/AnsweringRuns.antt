@@ -1,6 +1,6 @@
 -- Each message that a server handled was answered by what it knew, over every event and run.
-use Rattle.std.proofs.Common.{◌≡◌, ℕ, zero, suc, ◌+◌, ◌<◌, ◌≤◌, ◌⊎◌, inl, inr, Bool, true, List, [], ◌∷◌, ◌++◌, length, Option, Some, None, refl, sym, ap, subst, ◌∙◌, arith}
-use Rattle.std.specs.Prelude.{option_map, filter, map, not, slice_get, slice_set, take, unwrap_or}
+use Rattle.std.proofs.Common.{◌≡◌, ℕ, zero, suc, ◌+◌, ◌<◌, ◌≤◌, ◌⊎◌, inl, inr, Bool, true, false, List, [], ◌∷◌, ◌++◌, length, Option, Some, None, refl, sym, ap, subst, ◌∙◌, arith}
+use Rattle.std.specs.Prelude.{is_some, option_map, filter, map, not, slice_get, slice_set, take, unwrap_or}
 use Rattle.std.specs.List.{FoldsTo, flat_map}
 use Rattle.std.specs.Str.{bytes_eq}
 use Rattle.ca_arena.specs.declared.handle.Handle.{Handle}
@@ -13,9 +13,14 @@ use Rattle.ca_model.specs.Due.{Action, Applies, Due, KnownRecord}
 use Rattle.ca_model.specs.Due as action
 use Rattle.ca_model.specs.History.{Cause, Circuit, Entry, Finished, Line, Removal, Reply, Sent, Step, Told, Withdrawn}
 use Rattle.ca_model.specs.Server.{Server, ServerEnd}
-use Rattle.ca_model.specs.ServerCalls.{Replies, finish_reply, with_finish}
+use Rattle.ca_model.specs.ServerCalls.{IsAwaited, Replies, finish_reply, with_finish}
 use Rattle.ca_model.specs.ServerSteps.{HasEnd, Pumps, Stepped, known_record, knows, stored_now}
-use Rattle.ca_model.specs.Speech.{In, Is}
+use Rattle.ca_model.specs.Speech.{In, Is, sid_in}
+use Rattle.ca_text.specs.Status.{normal}
+use Rattle.ca_records.specs.declared.puts.Put.{Put}
+use Rattle.ca_ids.specs.Table.{under}
+use Rattle.ca_laws_held.specs.Pairs.{BusyPair}
+use Rattle.ca_model.specs.Server.{Open, OpenChannel}
 use Rattle.ca_text.specs.declared.command.Command.TheVariants as command
 use Rattle.ca_model_world.specs.ClientEvents.{HappensAccept, WantsFirst, connected_as, new_circuit}
 use Rattle.ca_model_world.specs.Events.{Event}
@@ -29,7 +34,7 @@ use Rattle.ca_laws_kept.proofs.Thins.{put-facts}
 use Rattle.ca_laws_kept.proofs.Updates.{stamps-later}
 use Rattle.ca_laws_held.proofs.CauseKeeps.{handled-or}
 use Rattle.ca_laws_held.proofs.StepWhole.{takes-next}
-use Rattle.ca_laws_writes.specs.Agrees.{Agrees, IsBusyBy, IsBusyWith}
+use Rattle.ca_laws_writes.specs.Agrees.{Agrees, IsBusyAs, IsBusyBy, IsBusyWith}
 use Rattle.ca_laws_writes.specs.Lives.{CameOn, IsPutOf}
 use Rattle.ca_laws_writes.specs.Moves.{Lives}
 use Rattle.ca_laws_writes.specs.Moves as moves
@@ -42,14 +47,14 @@ use Rattle.ca_laws_writes.proofs.Frames.{Frame}
 use Rattle.ca_laws_writes.proofs.HappensClient.{sent-frame}
 use Rattle.ca_laws_writes.proofs.InStepLasts.{world-numbered}
 use Rattle.ca_laws_writes.proofs.Lists.{beside-right, none_at, take-front, take-whole}
-use Rattle.ca_laws_writes.proofs.Lives.{number-of}
+use Rattle.ca_laws_writes.proofs.Lives.{number-of, others-apart}
 use Rattle.ca_laws_writes.proofs.Midway.{grown-here}
 use Rattle.ca_laws_writes.proofs.Moves.{same-or}
 use Rattle.ca_laws_writes.proofs.Says.{logs-stay}
 use Rattle.ca_laws_follows.specs.Answering.{AnsweredAt, AreAnswered, IsLate, KnowsLists, LogsSo, past}
-use Rattle.ca_model_safe.specs.Channels.{Has}
+use Rattle.ca_model_safe.specs.Channels.{Has, IsCleared, IsUncleared}
 use Rattle.ca_laws_follows.specs.KnewLists.{as_known}
-use Rattle.ca_laws_follows.proofs.Acting.{Extends, IsLonger, longer-taken}
+use Rattle.ca_laws_follows.proofs.Acting.{Extends, Grows, IsLonger, grown-back, longer-taken}
 use Rattle.ca_laws_follows.proofs.ActsOn.{of-circuits}
 use Rattle.ca_laws_follows.proofs.AnsweringFrame.{answered-forth, step-lists, step-of}
 use Rattle.ca_laws_follows.proofs.CausingEvents.{Nothing-new, Ready, steady-of}
@@ -82,12 +87,17 @@ pub record CameSome (circuits : List Joined) (life : ℕ) (p : PutPlace) : Type 
   pub on : At circuits p.circuit c
   pub joins : c.lists.server ≡ life
 
+-- a clear that was handled by then was handled before
+was-cleared : (log : List Entry) (c d : Joined) → ((l : ℕ) (g : Step) → At d.lists.handled l g → At c.lists.handled l g) → Grows c.lists.up d.lists.up → Steady log c.lists → (k sid b : ℕ) → IsCleared d.lists k sid b → IsCleared c.lists k sid b
+was-cleared log c d handled up steady k sid b (l, q, g, after, at_q, at_g, le, clears) =
+    (l, q, g, after, grown-back c.lists.up d.lists.up up l q (let below : l < length c.lists.handled = At-within c.lists.handled l g (handled l g at_g) in let most : length c.lists.handled ≤ length c.lists.up = steady.few in omega (arith, below, most)) at_q, handled l g at_g, le, clears)
+
 -- ---- what is new on a circuit is a late reply
 
--- No step is new, and each new reply about what was handled is late.
+-- No step is new, and no reply.
 pub record IsLaterBy (F : ℕ → News → Type 0) (l : ℕ) (lg : List Entry) (c : Circuit) : Type 0 where
   pub takes : (m : ℕ) (h : Step) → F l (Takes m h) → ⊥
-  pub late : (k : ℕ) (m : Fields) → F l (Says (record { message = m; place = k; cause = Reply })) → IsLate l c lg k m
+  pub late : (k : ℕ) (m : Fields) → F l (Says (record { message = m; place = k; cause = Reply })) → ⊥
 
 back-answered : (F : ℕ → News → Type 0) (s : Setting) (w new : World) → Ready s w → LogsGrow w new → Back F w new
     → ((l : ℕ) (c d : Joined) (log lg : List Entry) → At w.circuits l c → At new.circuits l d → At w.server_logs c.lists.server log → At new.server_logs c.lists.server lg → IsLonger log lg → IsLaterBy F l lg c.lists) → AllAnswered w → AllAnswered new
@@ -101,11 +111,11 @@ back-answered F s w new ready grow back by all n d lg at logged k h at_h =
     let old : At c.0.lists.handled k h = elim (c.2.handled k h at_h) [ inl was ↦ was | inr new_it ↦ absurd (b.takes k h new_it) ] in
     answered-forth n c.0.lists d.lists log.0 lg k h c.2.lists c.2.life (more.0, is) (steady-of s w ready n c.0 log.0 c.1 log.1) old
     (λ l g there. elim (c.2.handled l g there) [ inl was ↦ inl was | inr new_it ↦ absurd (b.takes l g new_it) ])
-    (λ i m reply. elim (c.2.told i _ reply) [ inl was ↦ inl was | inr told ↦ inr (b.late k m told.1) ])
+    (λ i m reply. elim (c.2.told i _ reply) [ inl was ↦ inl was | inr told ↦ absurd (b.late k m told.1) ])
     (all n c.0 log.0 c.1 log.1 k h old)
 
 still-by : (l : ℕ) (lg : List Entry) (c : Circuit) → IsLaterBy Nothing-new l lg c
-still-by l lg c = record { takes = λ m h none. none; late = λ k m none. absurd none }
+still-by l lg c = record { takes = λ m h none. none; late = λ k m none. none }
 
 -- ---- causes differ
 
@@ -115,7 +125,7 @@ reply-removal e = cc
 -- ---- updates leave
 
 pump-by : (s : Setting) (w new : World) (k : ℕ) (j : Joined) (y : ServerSide) (f : HappensPump w k j y new) → Ready s w → At w.circuits k j → At w.servers j.server y → j.lists.server_open ≡ true → (l : ℕ) (lg : List Entry) (c : Circuit) → IsLaterBy (PumpNews k (stamped_told f.updates j)) l lg c
-pump-by s w new k j y f ready on at opened l lg c = record { takes = λ m h none. none; late = λ p m told. absurd ((later _ told.1).other refl) }
+pump-by s w new k j y f ready on at opened l lg c = record { takes = λ m h none. none; late = λ p m told. (later _ told.1).other refl }
   where
     ks : List ℕ
     ks = map (λ (z : Standing). z.place) j.standing
@@ -136,31 +146,97 @@ remove-by w i core name gone left l lg c = record {
   takes = λ m h none. none;
   late = λ k m told.
       let x = At-mapped (removal_told (told.0).creations) _ told.4.0 _ told.4.1 in
-      absurd (reply-removal (ap (λ (z : Told). z.cause) x.2));
+      reply-removal (ap (λ (z : Told). z.cause) x.2);
 }
 
 -- ---- a finish
 
-finish-by : (s : Setting) (w : World) (i : ℕ) (y : ServerSide) (name : List ℕ) (new : World) (f : server.Finished w i y name new) → Ready s w → At w.servers i y → (l : ℕ) (c : Joined) (lg : List Entry) → At w.circuits l c → At new.server_logs c.lists.server lg
-    → c.lists.server ≡ y.life → IsLaterBy (FinishNews f.p.circuit f.p.place (map (λ (x : Handle × Fields). x.1) f.sent)) l lg c.lists
-finish-by s w i y name new f ready at l c lg on logged joins = record {
-  takes = λ m h none. none;
-  late = λ k m told.
-      let x = At-mapped (λ (q : Fields). let z : Told = record { message = q; place = f.p.place; cause = Reply } in z) ms told.1.0 _ told.1.1 in
-      let z = At-mapped (λ (v : Handle × Fields). v.1) f.sent told.1.0 x.0 x.1 in
-      let message : m ≡ z.0.1 = ap (λ (t : Told). t.message) x.2 ∙ z.2 in
-      let place : k ≡ f.p.place = ap (λ (t : Told). t.place) x.2 in
-      let is = replied f.finishes.2 told.1.0 z.0 z.1 in (
-        ap (λ (q : Fields). q.command) (message ∙ is),
-        ap (λ (q : Fields). q.p1) (message ∙ is),
-        subst (λ (v : ℕ × ℕ). In lg (Finished v.0 v.1)) (λ i. (sym told.0 i, sym place i)) finished,
-        asked k told.0 place,
-      );
-}
+finish-by : (s : Setting) (w : World) (i : ℕ) (y : ServerSide) (name : List ℕ) (new : World) (f : server.Finished w i y name new) → Ready s w → At w.servers i y → (l : ℕ) (c : Joined) (log lg : List Entry) → At w.circuits l c → At w.server_logs y.life log → At new.server_logs c.lists.server lg
+    → c.lists.server ≡ y.life → (k : ℕ) (m : Fields) → FinishNews f.p.circuit f.p.place (map (λ (x : Handle × Fields). x.1) f.sent) l (Says (record { message = m; place = k; cause = Reply }))
+    → Is command.WriteNotify m × (m.p1 ≡ normal) × ((q : Sent) × At c.lists.up k q × Is command.WriteNotify q.message × ((e : ℕ) × At lg e (Finished l k) × ((b : ℕ) → IsUncleared c.lists k (sid_in q.message) b)))
+finish-by s w i y name new f ready at l c log lg on at_log logged joins k m told =
+    let x = At-mapped (λ (q : Fields). let z : Told = record { message = q; place = f.p.place; cause = Reply } in z) ms told.1.0 _ told.1.1 in
+    let z = At-mapped (λ (v : Handle × Fields). v.1) f.sent told.1.0 x.0 x.1 in
+    let message : m ≡ z.0.1 = ap (λ (t : Told). t.message) x.2 ∙ z.2 in
+    let place : k ≡ f.p.place = ap (λ (t : Told). t.place) x.2 in
+    let is = replied f.finishes.2 told.1.0 z.0 z.1 in
+    let facts = put-facts s w i y f.p ready.serves.stands.sound at (f.r, (f.at.0, f.at.1), inl f.busy) in
+    let one : facts.c ≡ c = At-one w.circuits l facts.c c (subst (λ (n : ℕ). At w.circuits n facts.c) (sym told.0) facts.on) on in
+    let sent : At c.lists.up f.p.place facts.s = subst (λ (v : Joined). At v.lists.up f.p.place facts.s) one facts.sent in (
+      ap (λ (q : Fields). q.command) (message ∙ is),
+      ap (λ (q : Fields). q.p1) (message ∙ is),
+      (
+        facts.s,
+        subst (λ (n : ℕ). At c.lists.up n facts.s) (sym place) sent,
+        facts.asks,
+        (finished.0, subst (λ (v : ℕ × ℕ). At lg finished.0 (Finished v.0 v.1)) (λ i. (sym told.0 i, sym place i)) finished.1, λ b. subst (λ (n : ℕ). IsUncleared c.lists n (sid_in facts.s.message) b) (sym place) (uncleared facts.s told.0 sent (awaited f.finishes.2 told.1.0 z.0 z.1) b)),
+      ),
+    )
   where
     ms : List Fields
     ms = map (λ (x : Handle × Fields). x.1) f.sent
 
+    -- the put's channel is open
+    awaited : Replies (with_finish name f.finishes.0.r y.core) f.finishes.0.p f.finishes.0.gone f.sent f.finishes.1 → (q : ℕ) (v : Handle × Fields) → At f.sent q v → (e : ServerEnd) × IsAwaited (with_finish name f.finishes.0.r y.core) f.finishes.0.p e
+    awaited (inl (e, is_awaited, sent, is)) q v there = (e, is_awaited)
+    awaited (inr (none, sent, is)) q v there = absurd (none_at q v (subst (λ (l : List (Handle × Fields)). At l q v) sent there))
+
+    -- so no clear of it was handled since
+    uncleared : (q : Sent) → l ≡ f.p.circuit → At c.lists.up f.p.place q → ((e : ServerEnd) × IsAwaited (with_finish name f.finishes.0.r y.core) f.finishes.0.p e) → (b : ℕ) → IsUncleared c.lists f.p.place (sid_in q.message) b
+    uncleared q here at_q (e, is_awaited) b (t, r, g, after, at_r, at_g, le, clears) = go c.lists.server_open refl
+      where
+        own : Lives w i y
+        own = ready.serves.stands.sound.writes.lives i y at
+
+        g0 : Found (IsPutOf w.circuits i) own.log y.core.records y.records name f.finishes.0.r
+        g0 = found (IsPutOf w.circuits i) own.log y.core.records y.records name f.finishes.0.r own.life.each f.finishes.0.named
+
+        one-side : g0.r ≡ f.r
+        one-side =
+            (let place : g0.i ≡ f.at.0 = elim (others-apart y.records g0.i f.at.0 g0.r f.r own.life.others g0.in_rs f.at.1) [ inl same ↦ same | inr other ↦ absurd (other.0 (f.at.2 ∙ sym g0.named)) ] in
+            At-one y.records f.at.0 g0.r f.r (subst (λ (n : ℕ). At y.records n g0.r) place g0.in_rs) f.at.1)
+
+        of : IsPutOf w.circuits i f.p f.finishes.0.p
+        of =
+            subst (λ (v : Option PutPlace × Option Put). IsBusyAs (IsPutOf w.circuits i) v.0 v.1) (λ n. ((ap (λ (z : RecordSide). z.busy) one-side ∙ f.busy) n, f.finishes.0.busy n)) g0.agrees.busy_as
+
+        one-c : of.c ≡ c
+        one-c = At-one w.circuits l of.c c (subst (λ (n : ℕ). At w.circuits n of.c) (sym here) of.on) on
+
+        server-is : c.server ≡ i
+        server-is = ap (λ (z : Joined). z.server) (sym one-c) ∙ of.of
+
+        at_c : At w.servers c.server y
+        at_c = subst (λ (n : ℕ). At w.servers n y) (sym server-is) at
+
+        has : HasEnd y.core c.at_server e
+        has = subst (λ (h : Handle). HasEnd y.core h e) (of.handle ∙ ap (λ (z : Joined). z.at_server) one-c) is_awaited.0
+
+        q-is : of.s ≡ q
+        q-is = At-one c.lists.up f.p.place of.s q (subst (λ (z : Joined). At z.lists.up f.p.place of.s) one-c of.sent) at_q
+
+        pair : BusyPair y.core.records y.records f.p f.finishes.0.p
+        pair = record {
+          c = f.finishes.0.r;
+          r = f.r;
+          in_cs = (g0.i, g0.in_cs);
+          in_rs = (f.at.0, f.at.1);
+          name = g0.agrees.name ∙ ap (λ (z : RecordSide). z.name) one-side;
+          core = f.finishes.0.busy;
+          side = f.busy;
+        }
+
+        some-of : (o : Option OpenChannel) → is_some o ≡ true → (ch : OpenChannel) × (o ≡ Some ch)
+        some-of None is = absurd cc
+        some-of (Some ch) is = (ch, refl)
+
+        go : (o : Bool) → c.lists.server_open ≡ o → ⊥
+        go false is = ready.serves.stands.handles.gone l c y (Open e) on at_c joins is has
+        go true is =
+            let ch = some-of (under e.channels f.finishes.0.p.channel) is_awaited.1 in
+            let came = ((ready.serves.puts l c y e on at_c is has).busy f.p f.finishes.0.p pair (sym here)).before ch.0 ch.1 in
+            let early : came.0.place < f.p.place = came.3 in
+            (ready.creations l c y e on at_c is has).uncleared came.0 t r came.1 (omega (arith, early, after)) (At-within c.lists.handled t g at_g) at_r (clears.0, clears.1 ∙ ap (λ (z : Sent). sid_in z.message) (sym q-is) ∙ sym of.sid ∙ sym came.2)
     replied : Replies (with_finish name f.finishes.0.r y.core) f.finishes.0.p f.finishes.0.gone f.sent f.finishes.1 → (q : ℕ) (v : Handle × Fields) → At f.sent q v → v.1 ≡ finish_reply f.finishes.0.p
     replied (inl (e, awaited, sent, is)) zero v there = ap (λ (o : Option (Handle × Fields)). (unwrap_or o v).1) (sym there ∙ ap (λ (l : List (Handle × Fields)). slice_get l 0) sent)
     replied (inl (e, awaited, sent, is)) (suc q) v there = absurd (none_at q v (subst (λ (l : List (Handle × Fields)). At l (suc q) v) sent there))
@@ -402,7 +478,7 @@ module _ (s : Setting) (w new : World) (k : ℕ) (j : Joined) (y : ServerSide) (
           answered-forth k j.lists d.lists own.0 lg p h ext lists.3 longer steady was
           (λ l g at_g. elim (handled-was l g at_g) [
             | inl old_it ↦ inl old_it
-            | inr now ↦ inr (let e : g.sent ≡ length j.lists.down = ap (λ (z : Step). z.sent) now.1 in omega (arith, e))
+            | inr now ↦ inr ((let e : g.sent ≡ length j.lists.down = ap (λ (z : Step). z.sent) now.1 in omega (arith, e)), (let e : g.logged ≡ step.logged = ap (λ (z : Step). z.logged) now.1 in omega (arith, e, length-is)))
           ])
           (λ i m reply. elim (down-was i (record { message = m; place = p; cause = Reply }) reply) [
             | inl old_it ↦ inl old_it
@@ -518,7 +594,25 @@ event-answered s w new e ready know happens all = go e happens
         (λ l g at_g. elim (c.2.handled l g at_g) [ inl x ↦ inl x | inr x ↦ absurd x ])
         (λ q m reply. elim (c.2.told q _ reply) [
           | inl x ↦ inl x
-          | inr x ↦ inr ((finish-by s w i y name new f ready at n c.0 lg c.1 (subst (λ (l : ℕ). At new.server_logs l lg) c.2.life logged) (put-life n c.0 c.1 x.1.0)).late k m x.1)
+          | inr x ↦
+              let own = ready.serves.stands.sound.writes.lives i y at in
+              let fb = finish-by s w i y name new f ready at n c.0 own.log lg c.1 own.at (subst (λ (l : ℕ). At new.server_logs l lg) c.2.life logged) (put-life n c.0 c.1 x.1.0) k m x.1 in
+              let steady = steady-of s w ready n c.0 lo.0 c.1 lo.1 in
+              inr (
+                fb.0,
+                fb.1,
+                (fb.2.3.0, fb.2.3.1),
+                (
+                  fb.2.0,
+                  c.2.lists.up k fb.2.0 fb.2.1,
+                  fb.2.2,
+                  (
+                    fb.2.3.0,
+                    fb.2.3.1,
+                    λ cleared. fb.2.3.2 fb.2.3.0 (was-cleared lo.0 c.0 d (λ l g there. elim (c.2.handled l g there) [ inl z ↦ z | inr z ↦ absurd z ]) c.2.lists.up steady k (sid_in fb.2.0.message) fb.2.3.0 cleared),
+                  ),
+                ),
+              )
         ])
         (all n c.0 lo.0 c.1 lo.1 k h was)
       where

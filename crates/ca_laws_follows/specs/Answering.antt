@@ -6,8 +6,8 @@ use Rattle.ca_text.specs.Status.{normal}
 use Rattle.ca_wire.specs.Fields.{Fields}
 use Rattle.ca_model.specs.Due.{Action, Clears, Due, Knows}
 use Rattle.ca_model.specs.History.{Circuit, Entry, Finished, Line, Sent, Step, Withdrawn}
-use Rattle.ca_model.specs.Speech.{In, Is}
-use Rattle.ca_model_safe.specs.Channels.{IsReply, OfCircuits, before}
+use Rattle.ca_model.specs.Speech.{In, Is, sid_in}
+use Rattle.ca_model_safe.specs.Channels.{IsReply, IsUncleared, OfCircuits, before}
 use Rattle.ca_model_safe.specs.Known.{AreJust, IsChannel, IsKey, IsLogged, IsRecordOf}
 use Rattle.ca_model_world.specs.World.{World, told}
 
@@ -46,9 +46,11 @@ pub record IsAnswered (n : ℕ) (c : Circuit) (y : List Entry) (k : ℕ) (h : St
   pub besides : (i : ℕ) (e : Entry) → h.logged + length logs ≤ i → i < h.after → At y i e → (m l : ℕ) × (e ≡ Withdrawn m l)
   pub ends : h.after ≤ length y
 
--- A reply that came later, to a put, tells that it was done; and that put was finished.
+-- A reply that came later, to a put, tells that it was done; and that put was finished, before its channel was cleared.
 abbrev pub IsLate : (n : ℕ) → Circuit → List Entry → (k : ℕ) → Fields → Type 0
-IsLate n c y k m = Is command.WriteNotify m × (m.p1 ≡ normal) × In y (Finished n k) × ((s : Sent) × At c.up k s × Is command.WriteNotify s.message)
+IsLate n c y k m =
+    Is command.WriteNotify m × (m.p1 ≡ normal) × In y (Finished n k)
+    × ((s : Sent) × At c.up k s × Is command.WriteNotify s.message × ((e : ℕ) × At y e (Finished n k) × IsUncleared c k (sid_in s.message) e))
 
 -- And every other reply about it is late.
 abbrev pub AnsweredAt : (n : ℕ) → Circuit → List Entry → (k : ℕ) → Step → Type 0
