@@ -33,7 +33,7 @@ use Rattle.ca_laws_kept.specs.Later.{IsLater, stamped_told}
 use Rattle.ca_laws_kept.proofs.Thins.{put-facts}
 use Rattle.ca_laws_kept.proofs.Updates.{stamps-later}
 use Rattle.ca_laws_held.proofs.CauseKeeps.{handled-or}
-use Rattle.ca_laws_held.proofs.StepWhole.{takes-next}
+use Rattle.ca_laws_held.proofs.StepWhole.{run-serves, takes-next}
 use Rattle.ca_laws_writes.specs.Agrees.{Agrees, IsBusyAs, IsBusyBy, IsBusyWith}
 use Rattle.ca_laws_writes.specs.Lives.{CameOn, IsPutOf}
 use Rattle.ca_laws_writes.specs.Moves.{Lives}
@@ -51,8 +51,8 @@ use Rattle.ca_laws_writes.proofs.Lives.{number-of, others-apart}
 use Rattle.ca_laws_writes.proofs.Midway.{grown-here}
 use Rattle.ca_laws_writes.proofs.Moves.{same-or}
 use Rattle.ca_laws_writes.proofs.Says.{logs-stay}
-use Rattle.ca_laws_follows.specs.Answering.{AnsweredAt, AreAnswered, IsLate, KnowsLists, LogsSo, past}
-use Rattle.ca_model_safe.specs.Channels.{Has, IsCleared, IsUncleared}
+use Rattle.ca_laws_follows.specs.Answering.{AnsweredAt, AnsweredSo, AreAnswered, KnowsLists, LogsSo, past}
+use Rattle.ca_model_safe.specs.Channels.{Has, IsBusyUntil, IsCleared, IsUncleared}
 use Rattle.ca_laws_follows.specs.KnewLists.{as_known}
 use Rattle.ca_laws_follows.proofs.Acting.{Extends, Grows, IsLonger, grown-back, longer-taken}
 use Rattle.ca_laws_follows.proofs.ActsOn.{of-circuits}
@@ -237,6 +237,7 @@ finish-by s w i y name new f ready at l c log lg on at_log logged joins k m told
             let came = ((ready.serves.puts l c y e on at_c is has).busy f.p f.finishes.0.p pair (sym here)).before ch.0 ch.1 in
             let early : came.0.place < f.p.place = came.3 in
             (ready.creations l c y e on at_c is has).uncleared came.0 t r came.1 (omega (arith, early, after)) (At-within c.lists.handled t g at_g) at_r (clears.0, clears.1 ∙ ap (λ (z : Sent). sid_in z.message) (sym q-is) ∙ sym of.sid ∙ sym came.2)
+
     replied : Replies (with_finish name f.finishes.0.r y.core) f.finishes.0.p f.finishes.0.gone f.sent f.finishes.1 → (q : ℕ) (v : Handle × Fields) → At f.sent q v → v.1 ≡ finish_reply f.finishes.0.p
     replied (inl (e, awaited, sent, is)) zero v there = ap (λ (o : Option (Handle × Fields)). (unwrap_or o v).1) (sym there ∙ ap (λ (l : List (Handle × Fields)). slice_get l 0) sent)
     replied (inl (e, awaited, sent, is)) (suc q) v there = absurd (none_at q v (subst (λ (l : List (Handle × Fields)). At l (suc q) v) sent there))
@@ -683,9 +684,34 @@ run-all-answered s es stopped w ok (mid, folds, stops) =
 -- in the words of the statement
 pub run-answered : (s : Setting) (es : List Event) (stopped : Option Event) (w : World) → IsSetting s → Runs s es stopped w → AreAnswered w
 run-answered s es stopped w ok runs =
-    of-circuits s es stopped w ok runs (λ (n : ℕ) (c : Circuit) (x : List Line) (y : List Entry). (k : ℕ) (h : Step) → At c.handled k h → AnsweredAt n c y k h)
-    (λ n j x y at lx ly k h there. as-told n j y k h (run-all-answered s es stopped w ok runs n j y at ly k h there))
+    of-circuits s es stopped w ok runs (λ (n : ℕ) (c : Circuit) (x : List Line) (y : List Entry). (k : ℕ) (h : Step) → At c.handled k h → AnsweredSo n c y k h)
+    (λ n j x y at lx ly k h there. as-told n j y (λ m l e is. (((run-serves s es stopped w ok runs).stands.sound.writes.logs j.lists.server y ly).finished m l e is).0) k h (run-all-answered s es stopped w ok runs n j y at ly k h there))
   where
-    as-told : (n : ℕ) (j : Joined) (y : List Entry) (k : ℕ) (h : Step) → AnsweredAt n j.lists y k h → AnsweredAt n (circuit_of j) y k h
-    as-told n j y k h (a, rest) =
-        (record { s = a.s; at = a.at; known = a.known; did = a.did; replies = a.replies; knew = a.knew; due = a.due; now = a.now; fits = a.fits; next = a.next; logs = a.logs; logs_are = a.logs_are; logged = a.logged; within = a.within; besides = a.besides; ends = a.ends }, rest)
+    as-told : (n : ℕ) (j : Joined) (y : List Entry) → ((m l e : ℕ) → At y e (Finished m l) → IsBusyUntil y m l e) → (k : ℕ) (h : Step) → AnsweredAt n j.lists y k h → AnsweredSo n (circuit_of j) y k h
+    as-told n j y busy k h (a, rest) = (
+      record {
+        s = a.s;
+        at = a.at;
+        known = a.known;
+        did = a.did;
+        replies = a.replies;
+        knew = a.knew;
+        due = a.due;
+        now = a.now;
+        fits = a.fits;
+        next = a.next;
+        logs = a.logs;
+        logs_are = a.logs_are;
+        logged = a.logged;
+        within = a.within;
+        besides = a.besides;
+        ends = a.ends;
+      },
+      λ i m reply. elim (rest i m reply) [
+        | inl early ↦ inl early
+        | inr late ↦
+            let q = late.3.3 in
+            let one : late.3.0 ≡ a.s = At-one j.lists.up k late.3.0 a.s late.3.1 a.at in
+            inr (late.0, late.1, subst (λ (z : Sent). Is command.WriteNotify z.message) one late.3.2, (q.0, q.1, busy n k q.0 q.1, subst (λ (z : Sent). IsUncleared j.lists k (sid_in z.message) q.0) one q.2))
+      ],
+    )

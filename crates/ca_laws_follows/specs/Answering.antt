@@ -7,7 +7,7 @@ use Rattle.ca_wire.specs.Fields.{Fields}
 use Rattle.ca_model.specs.Due.{Action, Clears, Due, Knows}
 use Rattle.ca_model.specs.History.{Circuit, Entry, Finished, Line, Sent, Step, Withdrawn}
 use Rattle.ca_model.specs.Speech.{In, Is, sid_in}
-use Rattle.ca_model_safe.specs.Channels.{IsReply, IsUncleared, OfCircuits, before}
+use Rattle.ca_model_safe.specs.Channels.{IsFinished, IsReply, IsUncleared, OfCircuits, before}
 use Rattle.ca_model_safe.specs.Known.{AreJust, IsChannel, IsKey, IsLogged, IsRecordOf}
 use Rattle.ca_model_world.specs.World.{World, told}
 
@@ -56,6 +56,13 @@ IsLate n c y k m =
 abbrev pub AnsweredAt : (n : ℕ) → Circuit → List Entry → (k : ℕ) → Step → Type 0
 AnsweredAt n c y k h = (a : IsAnswered n c y k h) × ((j : ℕ) (m : Fields) → IsReply c k j m → (j < h.sent + length a.replies) ⊎ IsLate n c y k m)
 
--- So it is of each message that was handled on any circuit, whether its ends are open or not.
+-- So it is, in the words of the statement: a late reply is to a put that was finished.
+abbrev pub AnsweredSo : (n : ℕ) → Circuit → List Entry → (k : ℕ) → Step → Type 0
+AnsweredSo n c y k h =
+    (a : IsAnswered n c y k h)
+    × ((j : ℕ) (m : Fields) → IsReply c k j m
+    → (j < h.sent + length a.replies) ⊎ (Is command.WriteNotify m × (m.p1 ≡ normal) × Is command.WriteNotify a.s.message × IsFinished n c y k a.s))
+
+-- And of each message that was handled on any circuit, whether its ends are open or not.
 abbrev pub AreAnswered : World → Type 0
-AreAnswered w = OfCircuits (told w) (λ (n : ℕ) (c : Circuit) (x : List Line) (y : List Entry). (k : ℕ) (h : Step) → At c.handled k h → AnsweredAt n c y k h)
+AreAnswered w = OfCircuits (told w) (λ (n : ℕ) (c : Circuit) (x : List Line) (y : List Entry). (k : ℕ) (h : Step) → At c.handled k h → AnsweredSo n c y k h)
