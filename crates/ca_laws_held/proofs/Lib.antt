@@ -95,3 +95,4 @@ pub mod Lost
 pub mod ToldNotices
 pub mod LostRuns
 pub mod ToldCreated
+pub mod LostLive

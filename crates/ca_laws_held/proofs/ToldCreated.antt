@@ -1,5 +1,5 @@
 -- Each reply by which a channel was created is told as it is read, or the channel is cleared, over every event and run.
-use Rattle.std.proofs.Common.{◌≡◌, ℕ, suc, ◌+◌, ◌<◌, ◌≤◌, ◌⊎◌, inl, inr, Bool, true, false, List, [], ◌∷◌, ◌++◌, length, Option, Some, None, refl, sym, ap, ◌∙◌, subst, arith}
+use Rattle.std.proofs.Common.{◌≡◌, ℕ, suc, ◌+◌, ◌<◌, ◌≤◌, ◌⊎◌, inl, inr, true, false, List, [], ◌∷◌, ◌++◌, length, Option, Some, None, refl, sym, ap, ◌∙◌, subst, arith}
 use Rattle.std.specs.Prelude.{option_and_then, option_map, slice_get, slice_set, unwrap_or}
 use Rattle.std.specs.List.{FoldsTo}
 use Rattle.std.proofs.lemmas.Bool.{both_ways}
@@ -20,7 +20,7 @@ use Rattle.ca_model.specs.ClientCalls.{clear_sent}
 use Rattle.ca_model.specs.ClientEnds.{after_taking}
 use Rattle.ca_model.specs.Hears.{Effect, Hears, created}
 use Rattle.ca_model.specs.Hears as hears
-use Rattle.ca_model.specs.History.{Ask, Circuit, Clear, Create, Intent, Line, Noticed, On, Reply, Sent, Step, Told}
+use Rattle.ca_model.specs.History.{Ask, Circuit, Clear, Create, Line, Noticed, On, Reply, Sent, Step, Told}
 use Rattle.ca_model.specs.Speech.{Cid, Creates, Is, Speaks}
 use Rattle.ca_model_client.proofs.Standings.{channel-on}
 use Rattle.ca_model_client.proofs.Tables.{under-wire}
@@ -30,8 +30,6 @@ use Rattle.ca_model_world.specs.Events as event
 use Rattle.ca_model_world.specs.Runs.{AreEvents, Happens, Runs, StopsAt, clients_below}
 use Rattle.ca_model_world.specs.ServerEvents.{StepHandles, handled_at}
 use Rattle.ca_model_world.specs.World.{ClientSide, IsSetting, Joined, ServerSide, Setting, World, circuit_of, log_length, opening, told, with_circuit}
-use Rattle.ca_laws_bytes.specs.Runs.{HearsSent}
-use Rattle.ca_laws_bytes.specs.ServerFits.{AllCaused}
 use Rattle.ca_laws_bytes.proofs.Causes.{runs-caused}
 use Rattle.ca_laws_bytes.proofs.ServerSpeaking.{runs-hear}
 use Rattle.ca_laws_circuit.specs.Flows.{Awaits, IsPending}
@@ -41,12 +39,10 @@ use Rattle.ca_laws_runs.specs.Circuit.{HeldOn, sent_to, stamped}
 use Rattle.ca_laws_writes.proofs.Lists.{none_at}
 use Rattle.ca_laws_writes.proofs.Midway.{set-here}
 use Rattle.ca_model_client.proofs.Thinner.{three-ways}
-use Rattle.ca_laws_held.specs.Answering.{AllAnswer}
 use Rattle.ca_laws_held.specs.Causes.{AllComeAfter}
 use Rattle.ca_laws_held.specs.Created.{AllCreated}
 use Rattle.ca_laws_held.specs.Held.{AllCircuitsHeld}
 use Rattle.ca_laws_held.specs.Quiet.{IsBeingCleared}
-use Rattle.ca_laws_held.specs.Tells.{NoticesTell}
 use Rattle.ca_laws_held.specs.ToldParts.{AreToldLive, CreationsAreTold, IsToldLive}
 use Rattle.ca_laws_held.specs.Under.{IsUse}
 use Rattle.ca_laws_held.proofs.CauseKeeps.{run-after}
@@ -62,9 +58,9 @@ use Rattle.ca_laws_held.proofs.OrderKeeps.{IsHearing, IsMade, begun-grown, begun
 use Rattle.ca_laws_held.proofs.Phases.{same-number}
 use Rattle.ca_laws_held.proofs.Replied.{reached-answer}
 use Rattle.ca_laws_held.proofs.Spent.{Known}
-use Rattle.ca_laws_held.proofs.ToldGrows.{Onward, WorldsOn, event-on, on-grown, onward-goes}
-use Rattle.ca_laws_held.proofs.ToldRemoval.{AllRemovals, run-removals}
-use Rattle.ca_laws_held.proofs.ToldSteps.{after, log-is, next}
+use Rattle.ca_laws_held.proofs.ToldGrows.{Onward, WorldsOn, event-on, on-grown}
+use Rattle.ca_laws_held.proofs.ToldRemoval.{run-removals}
+use Rattle.ca_laws_held.proofs.ToldSteps.{after, next}
 
 -- ---- what was told stays so
 
@@ -96,10 +92,10 @@ carry w new c d on o within about i a sid t h s at_t at_h reply creates at_s mea
     ]
 
 -- Each circuit was there and the same was read on it, or nothing was read on it, or what was read is told.
-abbrev ReadsSo : (w new : World) → Type 0
+abbrev pub ReadsSo : (w new : World) → Type 0
 ReadsSo w new = (n : ℕ) (d : Joined) → At new.circuits n d → ((c : Joined) × At w.circuits n c × (d.lists.heard ≡ c.lists.heard)) ⊎ ((d.lists.heard ≡ []) ⊎ AreToldLive (told new) d.lists)
 
-so-grown : (w new : World) → Grown w new → ReadsSo w new
+pub so-grown : (w new : World) → Grown w new → ReadsSo w new
 so-grown w new g n d at = (let c = g.back n d at in inl (c.0, c.1, c.2.heard))
 
 so-handled : (w new : World) (k : ℕ) (j : Joined) (y : ServerSide) → At w.circuits k j → StepHandles w k j y new → ReadsSo w new
@@ -136,7 +132,7 @@ so-made w new i x at f n d there =
       | inr last ↦ inr (inl (c.2.heard ∙ ap (λ (z : Joined). z.lists.heard) last.1 ∙ f.heard))
     ]
 
-told-on : (w new : World) → AllCircuitsHeld w → WorldsOn w new → ReadsSo w new → AllToldLive w → AllToldLive new
+pub told-on : (w new : World) → AllCircuitsHeld w → WorldsOn w new → ReadsSo w new → AllToldLive w → AllToldLive new
 told-on w new held on so all n d at = elim (so n d at) [
   | inr (inr own) ↦ own
   | inr (inl none) ↦ λ i a sid t h s at_t at_h reply creates at_s meant. absurd (none_at i h (subst (λ (l : List Step). At l i h) none at_h))
@@ -184,7 +180,7 @@ creates-so x c m e (hears.Other is does) z = absurd (others m is z)
 clear-create : (a b : ℕ) → On a Clear ≡ On b Create → ⊥
 clear-create a b e = cc
 
-create-used : (ask : Ask) → ask ≡ Create → IsUse ask → ⊥
+pub create-used : (ask : Ask) → ask ≡ Create → IsUse ask → ⊥
 create-used ask is uses = subst (λ (z : Ask). IsUse z) is uses
 
 module _ (w new : World) (k : ℕ) (j : Joined) (x : ClientSide) (on : At w.circuits k j) (at : At w.clients j.client x) (opened : j.lists.client_open ≡ true) (f : IsHearing w new k j x)

@@ -2,7 +2,7 @@ ghost use Rattle.std.specs.Prelude.{List, Option};
 ghost use Rattle.ca_model_world.specs.Events.{Event};
 ghost use Rattle.ca_model_world.specs.Runs.{AreEvents, Runs};
 ghost use Rattle.ca_model_world.specs.World.{IsSetting, Setting, World, told};
-ghost use Rattle.ca_laws_held.specs.ToldParts.{CreationsAreTold, DoneIsApplied, FailedIsNot, NoticesAreTold, RequestsAreTold, UsesAreToldOnce};
+ghost use Rattle.ca_laws_held.specs.ToldParts.{CreationsAreTold, DoneIsApplied, FailedIsNot, LostWereLive, NoticesAreTold, RequestsAreTold, UsesAreToldOnce};
 
 /// After every run from a well-formed setting by well-formed events, each notice of a read, a put or a
 /// plain write that does not tell Disconnected was told when a message was read: the reply to that very
@@ -46,4 +46,14 @@ pub fn notices_are_told_of_their_own()
 pub fn creations_are_told()
     ensures { (s : Setting) (es : List Event) (stopped : Option Event) (w : World) → IsSetting s
         → AreEvents es → Runs s es stopped w → CreationsAreTold (told w) }
+{}
+
+/// After every such run a channel that its caller is told to be lost was told to be live before, as
+/// the reply was read by which it was created on its circuit; and the client's end of that circuit has
+/// ended, or the SERVER_DISCONN for that creation was read in the step that told the loss. This is
+/// `lost` of the clause, but that no other loss was told between, and that its caller had not cleared
+/// the channel.
+pub fn lost_channels_were_live()
+    ensures { (s : Setting) (es : List Event) (stopped : Option Event) (w : World) → IsSetting s
+        → AreEvents es → Runs s es stopped w → LostWereLive w }
 {}
