@@ -1,13 +1,15 @@
 -- A channel that is told to be lost was told to be live before on its circuit, over every event and run.
 use Rattle.std.proofs.Common.{◌≡◌, ℕ, suc, ◌+◌, ◌<◌, ◌≤◌, ◌⊎◌, inl, inr, false, true, List, [], ◌∷◌, ◌++◌, length, Option, Some, None, refl, sym, ap, ◌∙◌, subst, arith}
 use Rattle.std.specs.List.{FoldsTo}
+use Rattle.std.specs.Prelude.{take}
 use Rattle.std.proofs.lemmas.Bool.{both_ways}
 use Rattle.ca_text.specs.Place.{At}
 use Rattle.ca_text.specs.declared.command.Command.TheVariants as command
-use Rattle.ca_text.proofs.Places.{At-append, At-last, At-map, At-mapped, At-one, At-or, At-within}
+use Rattle.ca_text.proofs.Places.{At-append, At-last, At-map, At-mapped, At-one, At-or, At-parts, At-within}
 use Rattle.ca_arena.specs.declared.handle.Handle.{Handle}
 use Rattle.ca_dbr.specs.declared.value.Outcome.{Outcome}
 use Rattle.ca_dbr.specs.declared.value.Outcome.TheVariants as outcome
+use Rattle.ca_ids.specs.Table.{under}
 use Rattle.ca_requests.specs.Meaning.{Means}
 use Rattle.ca_wire.specs.Fields.{Fields}
 use Rattle.ca_model.specs.Answers.{Notice, Sending}
@@ -15,9 +17,8 @@ use Rattle.ca_model.specs.Answers as answer
 use Rattle.ca_model.specs.Client.{Client, Live, connection_at}
 use Rattle.ca_model.specs.ClientEnds.{StepsOn, after_taking}
 use Rattle.ca_model.specs.Hears.{Effect}
-use Rattle.ca_model.specs.History.{Ask, Clear, Create, Intent, Kind, Line, Noticed, OfCircuit, On, Removal, Reply, Sent, Step, Told}
-use Rattle.ca_model.specs.History as history
-use Rattle.ca_model.specs.Speech.{Cid, Is, Speaks}
+use Rattle.ca_model.specs.History.{Ask, Called, Clear, Create, Intent, Line, Noticed, OfCircuit, On, Removal, Reply, Sent, Step, Told}
+use Rattle.ca_model.specs.Speech.{Cid, In, Speaks}
 use Rattle.ca_model_client.proofs.Thinner.{three-ways}
 use Rattle.ca_model_world.specs.ClientEvents.{TicksOne, about_at, channel_number, client_stepped, line_of, meant_by}
 use Rattle.ca_model_world.specs.Events.{Event}
@@ -32,7 +33,7 @@ use Rattle.ca_laws_bytes.proofs.ServerSpeaking.{runs-hear}
 use Rattle.ca_laws_kept.specs.Kept.{kept}
 use Rattle.ca_laws_runs.specs.Circuit.{HeldOn}
 use Rattle.ca_laws_writes.specs.Seats.{Sound}
-use Rattle.ca_laws_writes.proofs.Lists.{none_at}
+use Rattle.ca_laws_writes.proofs.Lists.{At-take, none_at, take-front}
 use Rattle.ca_laws_held.specs.Answering.{AllAnswer}
 use Rattle.ca_laws_held.specs.Sides.{IsLiveAs}
 use Rattle.ca_laws_held.specs.Tells.{NoticesTell}
@@ -45,9 +46,10 @@ use Rattle.ca_laws_held.proofs.Joint.{are-snoc, folds-snoc, run-tells}
 use Rattle.ca_laws_held.proofs.LegalRemovals.{AllRemovedRight, run-right}
 use Rattle.ca_laws_held.proofs.Lost.{left-about}
 use Rattle.ca_laws_held.proofs.LostRuns.{after-lost, known-runs, known-ticks, opening-lost, plain-or, ticks-snoc}
-use Rattle.ca_laws_held.proofs.OrderGrows.{GoesOn, ticks-grown}
+use Rattle.ca_laws_held.proofs.OnceLess.{is_gone}
+use Rattle.ca_laws_held.proofs.OrderGrows.{ticks-grown}
 use Rattle.ca_laws_held.proofs.OrderKeeps.{IsHearing, hear-lines, hear-step}
-use Rattle.ca_laws_held.proofs.Parting.{IsAway, IsCut, Parted, PartsFrom, closed-parts, event-parts, parts-silent, tick-parts}
+use Rattle.ca_laws_held.proofs.Parting.{IsAway, IsCut, Parted, PartsFrom, closed-parts, event-parts, not-call, parts-silent, tick-parts}
 use Rattle.ca_laws_held.proofs.Replied.{reached-answer}
 use Rattle.ca_laws_held.proofs.Spent.{AllSpent, Known}
 use Rattle.ca_laws_held.proofs.ToldAsked.{tells-asked}
@@ -122,11 +124,12 @@ record IsLostLive (w : World) (life : ℕ) (x : List Line) (i a : ℕ) : Type 0 
   own : At c.lists.up t.place s × (s.intent ≡ On a Create)
   means : Means t.message outcome.Done
   line : At x h.logged (Noticed (On a Create) outcome.Done) × (h.logged < i)
+  held : In (take i x) (Called (On a Clear) None) → ⊥
   why : (c.lists.client_open ≡ false) ⊎ ((q : ℕ) × (u : Told) × (g : Step) × At c.lists.down q u × At c.lists.heard q g × (u.cause ≡ Removal) × (u.place ≡ t.place) × (g.logged ≤ i) × (i < g.after))
 
 -- it stays so
-live-on : (w new : World) → WorldsOn w new → (life : ℕ) (x more : List Line) (i a : ℕ) → IsLostLive w life x i a → IsLostLive new life (x ++ more) i a
-live-on w new on life x more i a l =
+live-on : (w new : World) → WorldsOn w new → (life : ℕ) (x more : List Line) (i a : ℕ) → i < length x → IsLostLive w life x i a → IsLostLive new life (x ++ more) i a
+live-on w new on life x more i a within l =
     let c = on.circuits l.n l.c l.on.0 in
     record {
       n = l.n;
@@ -140,6 +143,7 @@ live-on w new on life x more i a l =
       own = (c.2.up l.t.place l.s l.own.0, l.own.1);
       means = l.means;
       line = (At-append x more l.h.logged (Noticed (On a Create) outcome.Done) l.line.0, l.line.1);
+      held = subst (λ (v : List Line). In v (Called (On a Clear) None) → ⊥) (sym (take-front i x more (omega (arith, within)))) l.held;
       why = elim l.why [
         | inl shut ↦ inl (c.2.shut shut)
         | inr left ↦ inr (left.0, left.1, left.2, c.2.down left.0 left.1 left.3, c.2.heard left.0 left.2 left.4, left.5, left.6, left.7, left.8)
@@ -149,10 +153,26 @@ live-on w new on life x more i a l =
 abbrev AllLostLive : World → Type 0
 AllLostLive w = (life : ℕ) (x : List Line) (i a : ℕ) → At w.client_logs life x → At x i (Noticed (On a Create) outcome.Disconnected) → IsLostLive w life x i a
 
+-- The caller had not cleared a channel that is live.
+not-cleared : (w : World) → Known w → (i : ℕ) (x : ClientSide) (log : List Line) (h on : Handle) (sid : ℕ) → At w.clients i x → At w.client_logs x.life log → IsLiveAs x.core.channels on h sid → In log (Called (On (channel_number x.names h) Clear) None) → ⊥
+not-cleared w known i x log h on sid at logged live clear =
+    let a : ℕ = channel_number x.names h in
+    let u = known.once.called i x log clear.0 (On a Clear) None at logged clear.1 in
+    let same : u.0 ≡ h = At-one x.names.channels a u.0 h u.1 ((known.quiet.tidy i x at).numbered h live.ch live.there) in
+    let gone : is_gone live.ch.standing ≡ true = u.2 live.ch (subst (λ (k : Handle). under x.core.channels k ≡ Some live.ch) (sym same) live.there) in
+    both_ways (is_gone live.ch.standing) (ap is_gone live.stands) gone
+
+-- nor does what is told now
+held-by : (log more : List Line) (i a : ℕ) → (In log (Called (On a Clear) None) → ⊥) → ((q : ℕ) → At more q (Called (On a Clear) None) → ⊥) → In (take i (log ++ more)) (Called (On a Clear) None) → ⊥
+held-by log more i a before fresh c = elim (At-parts log more c.0 (Called (On a Clear) None) (At-take i (log ++ more) c.0 (Called (On a Clear) None) c.1)) [
+  | inl old ↦ before (c.0, old)
+  | inr late ↦ fresh late.0 late.2
+]
+
 -- a circuit goes on, on which a channel was told to be live
-lost-from : (new : World) (n : ℕ) (c d : Joined) (log more : List Line) (i life a : ℕ) → At new.circuits n d → Onward c d → c.lists.client ≡ life → length log ≤ i → (l : WasTold c log a)
+lost-from : (new : World) (n : ℕ) (c d : Joined) (log more : List Line) (i life a : ℕ) → At new.circuits n d → Onward c d → c.lists.client ≡ life → length log ≤ i → (In (take i (log ++ more)) (Called (On a Clear) None) → ⊥) → (l : WasTold c log a)
     → ((d.lists.client_open ≡ false) ⊎ ((q : ℕ) × (u : Told) × (g : Step) × At d.lists.down q u × At d.lists.heard q g × (u.cause ≡ Removal) × (u.place ≡ l.t.place) × (g.logged ≤ i) × (i < g.after))) → IsLostLive new life (log ++ more) i a
-lost-from new n c d log more i life a at_d goes mine late l why =
+lost-from new n c d log more i life a at_d goes mine late held l why =
     let early : l.h.logged < length log = At-within log l.h.logged (Noticed (On a Create) outcome.Done) l.line in
     record {
       n = n;
@@ -166,11 +186,9 @@ lost-from new n c d log more i life a at_d goes mine late l why =
       own = (goes.up l.t.place l.s l.own.0, l.own.1);
       means = l.means;
       line = (At-append log more l.h.logged (Noticed (On a Create) outcome.Done) l.line, omega (arith, early, late));
+      held = held;
       why = why;
     }
-
-request-create : (a b m : ℕ) (k : Kind) → On a (history.Request k m) ≡ On b Create → ⊥
-request-create a b m k e = cc
 
 create-number : (a b : ℕ) → On a Create ≡ On b Create → a ≡ b
 create-number a b e = cc
@@ -180,7 +198,7 @@ module _ (w new : World) (known : Known w) (told : AllToldLive w) (on : WorldsOn
   was-live all life y i a at old =
       let more = on.logs life old.0 old.1 in
       let whole : old.0 ++ more.0 ≡ y = At-one new.client_logs life (old.0 ++ more.0) y more.1 at in
-      subst (λ (l : List Line). IsLostLive new life l i a) whole (live-on w new on life old.0 more.0 i a (all life old.0 i a old.1 old.2))
+      subst (λ (l : List Line). IsLostLive new life l i a) whole (live-on w new on life old.0 more.0 i a (At-within old.0 i (Noticed (On a Create) outcome.Disconnected) old.2) (all life old.0 i a old.1 old.2))
 
   parted-live : (life : ℕ) (y : List Line) (i a : ℕ) → Parted w new life y i (Noticed (On a Create) outcome.Disconnected) → IsLostLive new life y i a
   parted-live life y i a p = by p.way
@@ -212,7 +230,9 @@ module _ (w new : World) (known : Known w) (told : AllToldLive w) (on : WorldsOn
               let l : WasTold cut.c p.log a = subst (λ (z : ℕ). WasTold cut.c p.log z) number (was-told w known told cut.n cut.c p.x p.log f.0 f.2.0 cut.on.0 at_x cut.on.2 logged f.2.1) in
               let place : i ≡ length p.log + p.place = p.late.0 in
               subst (λ (z : List Line). IsLostLive new life z i a) (sym p.whole)
-              (lost-from new cut.n cut.c o.0 p.log p.lines i life a o.1 o.2 (known.lives.same cut.n cut.c p.x cut.on.0 at_x cut.on.2 ∙ sym p.mine) (omega (arith, place)) l (inl (shut o.0 o.1)))
+              (lost-from new cut.n cut.c o.0 p.log p.lines i life a o.1 o.2 (known.lives.same cut.n cut.c p.x cut.on.0 at_x cut.on.2 ∙ sym p.mine) (omega (arith, place))
+              (held-by p.log p.lines i a (subst (λ (z : ℕ). In p.log (Called (On z Clear) None) → ⊥) number (not-cleared w known p.number p.x p.log f.0 cut.c.at_client f.2.0 p.at logged f.2.1)) (λ q at_q. (let away = p.calls q (On a Clear) None at_q in no-create away.q away.is)))
+              l (inl (shut o.0 o.1)))
 
   live-parts : PartsFrom w new → AllLostLive w → AllLostLive new
   live-parts parts all life y i a at there = elim (parts life y i (Noticed (On a Create) outcome.Disconnected) at there) [
@@ -267,7 +287,10 @@ module _ (w new : World) (k : ℕ) (j : Joined) (x : ClientSide) (on : At w.circ
         shut = λ e. absurd (both_ways j.lists.client_open e opened);
       } in
       subst (λ (v : ℕ × List Line). IsLostLive new life v.1 i v.0) (λ z. (number z, sym whole z))
-      (lost-from new k j now.0 log (hear-lines w new k j x on at f) i life (channel_number x.names h) now.1 goes (known.lives.same k j x on at opened ∙ sym is_mine) (omega (arith, place)) was (inr (
+      (lost-from new k j now.0 log (hear-lines w new k j x on at f) i life (channel_number x.names h) now.1 goes (known.lives.same k j x on at opened ∙ sym is_mine) (omega (arith, place))
+      (held-by log (hear-lines w new k j x on at f) i (channel_number x.names h) (not-cleared w known j.client x log h j.at_client l.2.0 at at_log l.2.1)
+      (λ q at_q. (let v = At-mapped (line_of (about_at j.lists (length j.lists.heard)) x.names) f.notices q (Called (On (channel_number x.names h) Clear) None) at_q in not-call (about_at j.lists (length j.lists.heard)) x.names v.0 (On (channel_number x.names h) Clear) None v.2)))
+      was (inr (
         length j.lists.heard,
         n.t,
         step,
@@ -343,7 +366,7 @@ module _ (s : Setting) (es : List Event) (w new : World) (ok : IsSetting s) (are
       ticked : (moment : ℕ) (mid : World) → AllLostLive mid → AllLostLive (record mid { moment = moment })
       ticked moment mid old life x i a at there =
           let r = old life x i a at there in
-          record { n = r.n; c = r.c; on = r.on; j = r.j; t = r.t; h = r.h; s = r.s; read = r.read; own = r.own; means = r.means; line = r.line; why = r.why }
+          record { n = r.n; c = r.c; on = r.on; j = r.j; t = r.t; h = r.h; s = r.s; read = r.read; own = r.own; means = r.means; line = r.line; held = r.held; why = r.why }
 
 after-live : (s : Setting) (es rest : List Event) (w new : World) → IsSetting s → AreEvents es → AreEvents rest → FoldsTo Happens (opening s) es w → FoldsTo Happens w rest new → AllLostLive w → AllLostLive new
 after-live s es [] w new ok are more folds same all = subst (λ (v : World). AllLostLive v) same all
@@ -391,6 +414,6 @@ run-lost-were-live s es stopped w ok are runs life x at i a there =
         held = other.held;
         means = l.means;
       };
-      live = (l.line.0, l.line.1);
+      live = (l.line.0, l.line.1, l.held);
       why = l.why;
     }

@@ -50,9 +50,8 @@ pub fn creations_are_told()
 
 /// After every such run a channel that its caller is told to be lost was told to be live before, as
 /// the reply was read by which it was created on its circuit; and the client's end of that circuit has
-/// ended, or the SERVER_DISCONN for that creation was read in the step that told the loss. This is
-/// `lost` of the clause, but that no other loss was told between, and that its caller had not cleared
-/// the channel.
+/// ended, or the SERVER_DISCONN for that creation was read in the step that told the loss. Its caller
+/// had not cleared it. This is `lost` of the clause, but that no other loss was told between.
 pub fn lost_channels_were_live()
     ensures { (s : Setting) (es : List Event) (stopped : Option Event) (w : World) → IsSetting s
         → AreEvents es → Runs s es stopped w → LostWereLive w }
