@@ -96,3 +96,4 @@ pub mod ToldNotices
 pub mod LostRuns
 pub mod ToldCreated
 pub mod LostLive
+pub mod LostLast

@@ -190,7 +190,7 @@ lost-from new n c d log more i life a at_d goes mine late held l why =
       why = why;
     }
 
-create-number : (a b : ℕ) → On a Create ≡ On b Create → a ≡ b
+pub create-number : (a b : ℕ) → On a Create ≡ On b Create → a ≡ b
 create-number a b e = cc
 
 module _ (w new : World) (known : Known w) (told : AllToldLive w) (on : WorldsOn w new) where

@@ -95,11 +95,18 @@ carry w new c d on o within about i a sid t h s at_t at_h reply creates at_s mea
 abbrev pub ReadsSo : (w new : World) → Type 0
 ReadsSo w new = (n : ℕ) (d : Joined) → At new.circuits n d → ((c : Joined) × At w.circuits n c × (d.lists.heard ≡ c.lists.heard)) ⊎ ((d.lists.heard ≡ []) ⊎ AreToldLive (told new) d.lists)
 
-pub so-grown : (w new : World) → Grown w new → ReadsSo w new
-so-grown w new g n d at = (let c = g.back n d at in inl (c.0, c.1, c.2.heard))
+-- Nothing was read on it.
+abbrev pub ReadsNone : (w new : World) → Type 0
+ReadsNone w new = (n : ℕ) (d : Joined) → At new.circuits n d → ((c : Joined) × At w.circuits n c × (d.lists.heard ≡ c.lists.heard)) ⊎ (d.lists.heard ≡ [])
 
-so-handled : (w new : World) (k : ℕ) (j : Joined) (y : ServerSide) → At w.circuits k j → StepHandles w k j y new → ReadsSo w new
-so-handled w new k j y on f = subst (λ (z : World). ReadsSo w z) (sym f.leaves) (go (slice_get after_did.circuits k) refl)
+reads-so : (w new : World) → ReadsNone w new → ReadsSo w new
+reads-so w new none n d at = elim (none n d at) [ inl old ↦ inl old | inr fresh ↦ inr (inl fresh) ]
+
+pub none-grown : (w new : World) → Grown w new → ReadsNone w new
+none-grown w new g n d at = (let c = g.back n d at in inl (c.0, c.1, c.2.heard))
+
+pub none-handled : (w new : World) (k : ℕ) (j : Joined) (y : ServerSide) → At w.circuits k j → StepHandles w k j y new → ReadsNone w new
+none-handled w new k j y on f = subst (λ (z : World). ReadsNone w z) (sym f.leaves) (go (slice_get after_did.circuits k) refl)
   where
     after_did : World
     after_did = did-after w new k j y on f
@@ -107,14 +114,17 @@ so-handled w new k j y on f = subst (λ (z : World). ReadsSo w z) (sym f.leaves)
     step : Step
     step = did-step w new k j y on f
 
-    go : (o : Option Joined) → slice_get after_did.circuits k ≡ o → ReadsSo w (unwrap_or (option_map (λ (c : Joined). with_circuit k (handled_at (length j.lists.handled) step (f.steps.0).replies c) after_did) o) after_did)
-    go None is = so-grown w after_did (did-grown w new k j y on f)
+    go : (o : Option Joined) → slice_get after_did.circuits k ≡ o → ReadsNone w (unwrap_or (option_map (λ (c : Joined). with_circuit k (handled_at (length j.lists.handled) step (f.steps.0).replies c) after_did) o) after_did)
+    go None is = none-grown w after_did (did-grown w new k j y on f)
     go (Some c) is = λ n d at. elim (At-set after_did.circuits k (handled_at (length j.lists.handled) step (f.steps.0).replies c) n d at) [
       | inr old ↦ (let b = (did-grown w new k j y on f).back n d old.0 in inl (b.0, b.1, b.2.heard))
       | inl own ↦
           let b = (did-grown w new k j y on f).back k c is in
           inl (b.0, subst (λ (m : ℕ). At w.circuits m b.0) (sym own.0) b.1, ap (λ (z : Joined). z.lists.heard) own.1 ∙ b.2.heard)
     ]
+
+pub so-grown : (w new : World) → Grown w new → ReadsSo w new
+so-grown w new g = reads-so w new (none-grown w new g)
 
 so-hearing : (w new : World) (k : ℕ) (j : Joined) (x : ClientSide) (on : At w.circuits k j) (at : At w.clients j.client x) (f : IsHearing w new k j x) → ((d : Joined) → At new.circuits k d → AreToldLive (told new) d.lists) → ReadsSo w new
 so-hearing w new k j x on at f own n d there =
@@ -124,12 +134,12 @@ so-hearing w new k j x on at f own n d there =
       | inl here ↦ inr (inr (own d (subst (λ (m : ℕ). At new.circuits m d) here.0 there)))
     ]
 
-so-made : (w new : World) (i : ℕ) (x : ClientSide) (at : At w.clients i x) (f : IsMade w new i x) → ReadsSo w new
-so-made w new i x at f n d there =
+pub none-made : (w new : World) (i : ℕ) (x : ClientSide) (at : At w.clients i x) (f : IsMade w new i x) → ReadsNone w new
+none-made w new i x at f n d there =
     let c = (f.goes).back n d there in
     elim (At-snoc w.circuits f.c n c.0 (subst (λ (l : List Joined). At l n c.0) f.circuits c.1)) [
       | inl old ↦ inl (c.0, old, c.2.heard)
-      | inr last ↦ inr (inl (c.2.heard ∙ ap (λ (z : Joined). z.lists.heard) last.1 ∙ f.heard))
+      | inr last ↦ inr (c.2.heard ∙ ap (λ (z : Joined). z.lists.heard) last.1 ∙ f.heard)
     ]
 
 pub told-on : (w new : World) → AllCircuitsHeld w → WorldsOn w new → ReadsSo w new → AllToldLive w → AllToldLive new
@@ -333,7 +343,7 @@ module _ (s : Setting) (es : List Event) (w new : World) (ok : IsSetting s) (are
   event-so : (e : Event) → Happens w e new → AllToldLive w → ReadsSo w new
   event-so e happens all = each-event (ReadsSo w new) w new (so-grown w new)
       (λ k f. elim (step-grown w new k f.0.j f.0.y f.1.0 f.0.joins.at f.1.1) [
-        | inl handles ↦ so-handled w new k f.0.j f.0.y f.0.joins.at handles
+        | inl handles ↦ reads-so w new (none-handled w new k f.0.j f.0.y f.0.joins.at handles)
         | inr g ↦ so-grown w new g
       ])
       (λ k f. elim (hearing-or w new k f.0.j f.0.x f.0.joins.at f.0.joins.client f.1) [
@@ -341,7 +351,7 @@ module _ (s : Setting) (es : List Event) (w new : World) (ok : IsSetting s) (are
         | inr g ↦ so-grown w new g
       ])
       (λ i f. elim (made-or w new i f) [
-        | inl made ↦ so-made w new i f.0.x f.0.at made
+        | inl made ↦ reads-so w new (none-made w new i f.0.x f.0.at made)
         | inr g ↦ so-grown w new g
       ])
       (λ i f. subst (λ (z : World). ReadsSo w z) (sym f.1) (so-grown w (begun-mid w new i f.0.x f.1) (begun-grown w new i f.0.x f.1))) e happens
