@@ -17,6 +17,8 @@ use Rattle.ca_model.specs.Answers as answer
 use Rattle.ca_model.specs.Client.{Client, Live, connection_at}
 use Rattle.ca_model.specs.ClientEnds.{StepsOn, after_taking}
 use Rattle.ca_model.specs.Hears.{Effect}
+use Rattle.ca_model.specs.History.{Circuit}
+use Rattle.ca_model_world.specs.World.{told}
 use Rattle.ca_model.specs.History.{Ask, Called, Clear, Create, Intent, Line, Noticed, OfCircuit, On, Removal, Reply, Sent, Step, Told}
 use Rattle.ca_model.specs.Speech.{Cid, In, Speaks}
 use Rattle.ca_model_client.proofs.Thinner.{three-ways}
@@ -38,7 +40,7 @@ use Rattle.ca_laws_held.specs.Answering.{AllAnswer}
 use Rattle.ca_laws_held.specs.Sides.{IsLiveAs}
 use Rattle.ca_laws_held.specs.Tells.{NoticesTell}
 use Rattle.ca_laws_held.specs.ToldLines.{IsToLast}
-use Rattle.ca_laws_held.specs.ToldParts.{LostWereLive, WasLive}
+use Rattle.ca_laws_held.specs.ToldParts.{NoneIsLostSince}
 use Rattle.ca_laws_held.specs.Under.{IsUse}
 use Rattle.ca_laws_held.proofs.Farewell.{FromFarewell}
 use Rattle.ca_laws_held.proofs.Heard.{created-before}
@@ -305,3 +307,99 @@ module _ (w new : World) (k : ℕ) (j : Joined) (x : ClientSide) (on : At w.circ
               let placed : At d.lists.up (length j.lists.up + 0) said = subst (λ (v : Joined). At v.lists.up (length j.lists.up + 0) said) d_is (At-after j.lists.up (sent_on j.client x.names f.sent mid) 0 said first) in
               let early : t.place < length j.lists.up = subst (λ (v : Joined). t.place < length v.lists.up) c_is sent in
               unc (length j.lists.up + 0, said, omega (arith, early), At-within d.lists.up (length j.lists.up + 0) said placed, placed, (refl, sym one.1.1))
+
+-- ---- moments, events and runs
+
+last-ticks : (s : Setting) (moment : ℕ) (base : World) → Sound s base → Known base → (done is : List ℕ) (w new : World) → FoldsTo (TicksOne moment) base done w → FoldsTo (TicksOne moment) w is new → AllLast w → AllLast new
+last-ticks s moment base sound known done [] w new ticked same all = subst (λ (v : World). AllLast v) same all
+last-ticks s moment base sound known done (i ∷ is) w new ticked (mid, one, rest) all =
+    let k : Known w = known-ticks s moment done base w sound ticked known in
+    let g = ticks-grown moment w (i ∷ []) mid (mid, one, refl) in
+    last-ticks s moment base sound known (done ++ i ∷ []) is mid new (ticks-snoc moment done base w mid i ticked one) rest
+    (last-parts w mid k (on-grown w mid g) all (tick-parts moment w i mid k.lives k.sent one) (none-grown w mid g))
+
+module _ (s : Setting) (es : List Event) (w new : World) (ok : IsSetting s) (are : AreEvents es) (runs : Runs s es None w) (all : AllLast w) where
+  known : Known w
+  known = known-runs s es None w ok are runs
+
+  spent : AllSpent w
+  spent = from runs
+    where
+      from : Runs s es None w → AllSpent w
+      from (mid, folds, same) = (after-lost s [] es (opening s) w ok (λ i e at. absurd (none_at i e at)) are refl (subst (λ (v : World). FoldsTo Happens (opening s) es v) (sym same) folds) (opening-lost s)).spent
+
+  step-hearing : (k : ℕ) (f : Happens w (event.ClientStep k) new) → IsHearing w new k f.0.j f.0.x → AllLast new
+  step-hearing k f hearing =
+      last-hearing w new k f.0.j f.0.x f.0.joins.at f.0.joins.client f.0.is_open hearing
+      (runs-hear s es None w ok are runs) (runs-caused s es None w ok are runs) (reached-answer w (s, es, None, ok, runs)) (run-removals s es None w ok runs) (run-tells s es None w new k ok are runs f)
+      known spent (run-right s es None w ok runs) (event-on w new (event.ClientStep k) f) all
+
+  reads-or : (e : Event) → Happens w e new → ReadsNone w new ⊎ AllLast new
+  reads-or e happens = each-event (ReadsNone w new ⊎ AllLast new) w new (λ g. inl (none-grown w new g))
+      (λ k f. elim (step-grown w new k f.0.j f.0.y f.1.0 f.0.joins.at f.1.1) [
+        | inl handles ↦ inl (none-handled w new k f.0.j f.0.y f.0.joins.at handles)
+        | inr g ↦ inl (none-grown w new g)
+      ])
+      (λ k f. elim (hearing-or w new k f.0.j f.0.x f.0.joins.at f.0.joins.client f.1) [
+        | inl hearing ↦ inr (step-hearing k f hearing)
+        | inr g ↦ inl (none-grown w new g)
+      ])
+      (λ i f. elim (made-or w new i f) [
+        | inl made ↦ inl (none-made w new i f.0.x f.0.at made)
+        | inr g ↦ inl (none-grown w new g)
+      ])
+      (λ i f. inl (subst (λ (z : World). ReadsNone w z) (sym f.1) (none-grown w (begun-mid w new i f.0.x f.1) (begun-grown w new i f.0.x f.1)))) e happens
+
+  parts-last : (e : Event) → Happens w e new → PartsFrom w new → AllLast new
+  parts-last e happens parts = elim (reads-or e happens) [
+    | inl reads ↦ last-parts w new known (event-on w new e happens) all parts reads
+    | inr done ↦ done
+  ]
+
+  step-last : (k : ℕ) → Happens w (event.ClientStep k) new → AllLast new
+  step-last k happens = go happens.1.0 happens.1.1 happens.1.2 happens.1.3 happens.1.4
+    where
+      go : (did : answer.Stepped) (sent : List Sending) (core : Client) → StepsOn happens.0.x.core happens.0.j.at_client (connection_at happens.0.x.core happens.0.j.at_client) did sent core → new ≡ client_stepped k happens.0.j happens.0.x did sent core w → AllLast new
+      go answer.NeedBytes sent core steps is = parts-last (event.ClientStep k) happens (parts-silent w new (lines-same IsSilent w new (ap (λ (z : World). z.client_logs) is)))
+      go (answer.Closed c) sent core steps is =
+          parts-last (event.ClientStep k) happens (subst (λ (v : World). PartsFrom w v) (sym is)
+          (closed-parts w k happens.0.j happens.0.x c sent core happens.0.joins.at happens.0.joins.client happens.0.is_open known.lives known.stands steps))
+      go (answer.Notices notices) sent core steps is = step-hearing k happens (record { notices = notices; sent = sent; core = core; steps = steps; is = is })
+
+  event-last : (e : Event) → Happens w e new → AllLast new
+  event-last e happens = elim (plain-or e) [
+    | inl plain ↦ parts-last e happens (event-parts w new e plain known.lives known.stands known.live (λ i x c h at named. (known.quiet.tidy i x at).once c h named) happens)
+    | inr (inl step) ↦ step-last step.0 (subst (λ (x : Event). Happens w x new) step.1 happens)
+    | inr (inr tick) ↦
+        let t : Happens w (event.Tick tick.0) new = subst (λ (x : Event). Happens w x new) tick.1 happens in
+        subst (λ (v : World). AllLast v) (sym t.1.2) (ticked tick.0 t.1.0 (last-ticks s tick.0 w (runs-stand s es None w ok runs).sound known [] _ w t.1.0 refl t.1.1 all))
+  ]
+    where
+      ticked : (moment : ℕ) (mid : World) → AllLast mid → AllLast (record mid { moment = moment })
+      ticked moment mid old = old
+
+after-last : (s : Setting) (es rest : List Event) (w new : World) → IsSetting s → AreEvents es → AreEvents rest → FoldsTo Happens (opening s) es w → FoldsTo Happens w rest new → AllLast w → AllLast new
+after-last s es [] w new ok are more folds same all = subst (λ (v : World). AllLast v) same all
+after-last s es (e ∷ rest) w new ok are more folds (mid, one, others) all =
+    after-last s (es ++ e ∷ []) rest mid new ok (are-snoc es e are (more 0 e refl)) (λ i f at. more (suc i) f at) (folds-snoc es (opening s) w mid e folds one) others
+    (event-last s es w mid ok are (w, folds, refl) all e one)
+
+run-last : (s : Setting) (es : List Event) (stopped : Option Event) (w : World) → IsSetting s → AreEvents es → Runs s es stopped w → AllLast w
+run-last s es stopped w ok are (mid, folds, stops) = stop stopped stops
+  where
+    all : AllLast mid
+    all = after-last s [] es (opening s) mid ok (λ i e at. absurd (none_at i e at)) are refl folds (λ n c log i a sid m t h s at. absurd (none_at n c at))
+
+    stop : (stopped : Option Event) → StopsAt mid stopped w → AllLast w
+    stop (Some (event.Tick moment)) stops = elim stops [
+      | inl same ↦ subst (λ (v : World). AllLast v) (sym same) all
+      | inr ticked ↦ last-ticks s moment mid (runs-stand s es None mid ok (mid, folds, refl)).sound (known-runs s es None mid ok are (mid, folds, refl)) [] (clients_below ticked.0) mid w refl ticked.3 all
+    ]
+    stop stopped stops = subst (λ (v : World). AllLast v) (sym stops) all
+
+-- in the words of the statement
+pub run-none-lost : (s : Setting) (es : List Event) (stopped : Option Event) (w : World) → IsSetting s → AreEvents es → Runs s es stopped w → NoneIsLostSince (told w)
+run-none-lost s es stopped w ok are runs n c x i a sid m t h r at logged opened at_t at_h reply creates at_r meant unc lt line =
+    let j = At-mapped circuit_of w.circuits n c at in
+    run-last s es stopped w ok are runs n j.0 x i a sid m t h r j.1 (subst (λ (v : Circuit). At w.client_logs v.client x) j.2 logged) (ap (λ (v : Circuit). v.client_open) (sym j.2) ∙ opened) (subst (λ (v : Circuit). At v.down i t) j.2 at_t) (subst (λ (v : Circuit). At v.heard i h) j.2 at_h)
+    reply creates (subst (λ (v : Circuit). At v.up t.place r) j.2 at_r) meant (λ cleared. unc (subst (λ (v : Circuit). IsClearedWithin v.up sid t.place (length v.up)) (sym j.2) cleared)) lt line

@@ -1,5 +1,5 @@
 -- Statement: what a client's log tells of requests and plain writes: parts of what is said of it, as the statement says it of this world.
-use Rattle.std.specs.Prelude.{ℕ, ◌≡◌, ◌≢◌, ◌<◌, ◌≤◌, ◌⊎◌, List, false, take}
+use Rattle.std.specs.Prelude.{ℕ, ◌≡◌, ◌≢◌, ◌<◌, ◌≤◌, ◌⊎◌, List, false, length, take, true}
 use Rattle.ca_dbr.specs.declared.value.Outcome.{Outcome}
 use Rattle.ca_dbr.specs.declared.value.Outcome.TheVariants.{Disconnected, Done, Failed}
 use Rattle.ca_text.specs.declared.status.Status.{Status}
@@ -9,6 +9,7 @@ use Rattle.ca_model.specs.History as history
 use Rattle.ca_model.specs.Speech.{Creates, In, Stored}
 use Rattle.ca_model_safe.specs.Channels.{IsApplied, IsHeld, IsLost, IsRequest, IsUse, OfClients, Stands}
 use Rattle.ca_model_world.specs.World.{World, told}
+use Rattle.ca_laws_circuit.specs.Sids.{IsClearedWithin}
 use Rattle.ca_laws_held.specs.ToldLines.{IsToldOf}
 
 -- Each notice of a read, a put or a plain write that does not tell Disconnected tells what the reply to its own message means.
@@ -63,3 +64,10 @@ pub record WasLive (w : World) (life : ℕ) (x : List Line) (i channel : ℕ) : 
 -- So it is of each line that tells a channel to be lost.
 abbrev pub LostWereLive : World → Type 0
 LostWereLive w = OfClients (told w) (λ (life : ℕ) (x : List Line). (i channel : ℕ) → At x i (Noticed (On channel Create) Disconnected) → WasLive w life x i channel)
+
+-- While the client's end of a circuit is open, and no CLEAR_CHANNEL was sent under the SID under which a reply that was read created a channel there, no loss of that
+-- channel was told since the step that read the reply.
+abbrev pub NoneIsLostSince : history.World → Type 0
+NoneIsLostSince w = (n : ℕ) (c : Circuit) (x : List Line) (i channel sid m : ℕ) (t : Told) (h : Step) (s : Sent) → At w.circuits n c → At w.clients c.client x
+    → c.client_open ≡ true → At c.down i t → At c.heard i h → t.cause ≡ Reply → Creates t.message sid → At c.up t.place s → s.intent ≡ On channel Create
+    → (IsClearedWithin c.up sid t.place (length c.up) → ⊥) → h.logged < m → At x m (Noticed (On channel Create) Disconnected) → ⊥

@@ -17,7 +17,7 @@ mod told_laws;
 
 pub use cause_laws::{channels_are_removed_once, messages_come_after_what_they_are_about};
 pub use complete_laws::{
-    callers_are_told_what_became_of_their_writes, creations_are_told, lost_channels_were_live,
+    callers_are_told_what_became_of_their_writes, creations_are_told, live_channels_were_not_lost, lost_channels_were_live,
     notices_are_told_of_their_own,
     requests_are_told_of_their_own, uses_are_told_of_once,
 };

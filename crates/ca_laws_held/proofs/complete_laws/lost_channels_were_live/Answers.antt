@@ -1,4 +1,3 @@
-use Rattle.ca_laws_held.proofs.LostLast as last
 use Rattle.ca_laws_held.proofs.LostLive.{run-lost-were-live}
 use Rattle.ca_laws_held.proofs.complete_laws.lost_channels_were_live.Goals as goal
 
