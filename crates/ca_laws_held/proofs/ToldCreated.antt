@@ -153,7 +153,7 @@ told-on w new held on so all n d at = elim (so n d at) [
       let o = on.circuits n old.0 old.1 in
       let goes : Onward old.0 d = subst (λ (v : Joined). Onward old.0 v) (At-one new.circuits n o.0 d o.1 at) o.2 in
       λ i a sid t h s at_t at_h reply creates at_s meant.
-          carry w new old.0 d on goes mine.flows.within mine.flows.about i a sid t h s at_t (subst (λ (l : List Step). At l i h) old.2 at_h) reply creates at_s meant (all n old.0 old.1)
+      carry w new old.0 d on goes mine.flows.within mine.flows.about i a sid t h s at_t (subst (λ (l : List Step). At l i h) old.2 at_h) reply creates at_s meant (all n old.0 old.1)
 ]
 
 -- ---- the reply that is read
