@@ -98,7 +98,7 @@ clash false e f = cc
 -- ---- one message that was handled on a record
 
 module _ (n : ℕ) (c : Circuit) (y : List Entry) (keep : KeepRecords y) (after : ComeAfter c) (k r : ℕ) (h : Step) (at_h : At c.handled k h) (answered : AnsweredAt n c y k h) (acted : Acted c y k r) where
-  abbrev a : IsAnswered c y k h
+  abbrev a : IsAnswered n c y k h
   a = answered.0
 
   abbrev log : List Entry

@@ -2,20 +2,22 @@
 use Rattle.std.proofs.Common.{◌≡◌, ℕ, zero, suc, ◌+◌, ◌<◌, ◌≤◌, ◌⊎◌, inl, inr, List, [], ◌∷◌, ◌++◌, length, Option, Some, None, refl, sym, ap, subst, ◌∙◌, arith}
 use Rattle.std.specs.Prelude.{option_map, slice_get, slice_set, take, unwrap_or}
 use Rattle.ca_text.specs.Place.{At}
-use Rattle.ca_text.proofs.Places.{some_is, At-append, At-mapped, At-set, At-within}
+use Rattle.ca_text.proofs.Places.{some_is, At-append, At-back, At-mapped, At-set, At-within}
 use Rattle.ca_wire.specs.Fields.{Fields}
 use Rattle.ca_model.specs.Due.{Action}
 use Rattle.ca_model.specs.History.{Circuit, Entry, Finished, Reply, Step, Told}
 use Rattle.ca_model_safe.specs.Channels.{IsReply}
+use Rattle.ca_model_safe.specs.Channels.{IsUncleared}
+use Rattle.ca_model.specs.Speech.{sid_in}
 use Rattle.ca_model_world.specs.ServerEvents.{StepHandles, about, acted, ending, ends_by, handled_at, numbers_after, server_after, server_closed, side_of, write_numbers}
 use Rattle.ca_model_world.specs.ServerEvents as server
 use Rattle.ca_model_world.specs.World.{Joined, ServerSide, World, with_circuit}
 use Rattle.ca_laws_runs.proofs.Handled.{numbers-like, writes-like}
 use Rattle.ca_laws_writes.proofs.Lists.{none_at}
-use Rattle.ca_laws_follows.specs.Answering.{AnsweredAt, IsLate, KnowsLists, past}
-use Rattle.ca_laws_follows.proofs.Acting.{Extends, Grows, IsLonger, longer-taken}
+use Rattle.ca_laws_follows.specs.Answering.{AnsweredAt, IsLate, KnowsLists, LogsSo, past}
+use Rattle.ca_laws_follows.proofs.Acting.{Extends, Grows, IsLonger, grown-back, longer-taken}
 use Rattle.ca_laws_follows.proofs.CausingKeeps.{Steady}
-use Rattle.ca_laws_follows.proofs.Known.{grows-le}
+use Rattle.ca_laws_follows.proofs.Known.{grows-le, longer-le}
 
 -- ---- beginnings
 
@@ -41,7 +43,15 @@ module _ (n : ℕ) (c d : Circuit) (y z : List Entry) (k : ℕ) (h : Step) (ext 
       past-is d c k h life (grows-take k c.up d.up ext.up few) (grows-take h.sent c.down d.down ext.down (steady.within k h at_h).sent)
       (grows-take k c.handled d.handled ext.handled (let lt : k < length c.handled = At-within c.handled k h at_h in omega (arith, lt)))
 
-  pub answered-forth : ((l : ℕ) (g : Step) → At d.handled l g → At c.handled l g ⊎ (length c.down ≤ g.sent)) → ((j : ℕ) (m : Fields) → IsReply d k j m → IsReply c k j m ⊎ IsLate n c z k m) → AnsweredAt n c y k h → AnsweredAt n d z k h
+  -- no clear was handled by then, still
+  still : ((l : ℕ) (g : Step) → At d.handled l g → At c.handled l g ⊎ ((length c.down ≤ g.sent) × (length y ≤ g.logged))) → (sid e : ℕ) → e < length y → IsUncleared c k sid e → IsUncleared d k sid e
+  still steps sid e lt uncleared (l, q, g, after, at_q, at_g, le, clears) = elim (steps l g at_g) [
+    | inl old ↦
+        uncleared (l, q, g, after, grown-back c.up d.up ext.up l q (let below : l < length c.handled = At-within c.handled l g old in let most : length c.handled ≤ length c.up = steady.few in omega (arith, below, most)) at_q, old, le, clears)
+    | inr late ↦ (let from : length y ≤ g.logged = late.1 in omega (arith, lt, le, from))
+  ]
+
+  pub answered-forth : ((l : ℕ) (g : Step) → At d.handled l g → At c.handled l g ⊎ ((length c.down ≤ g.sent) × (length y ≤ g.logged))) → ((j : ℕ) (m : Fields) → IsReply d k j m → IsReply c k j m ⊎ IsLate n d z k m) → AnsweredAt n c y k h → AnsweredAt n d z k h
   answered-forth steps replies (a, rest) = (
     record {
       s = a.s;
@@ -55,15 +65,33 @@ module _ (n : ℕ) (c d : Circuit) (y z : List Entry) (k : ℕ) (h : Step) (ext 
       fits = (let le : h.sent + length a.replies ≤ length c.down = a.fits in let more : length c.down ≤ length d.down = grows-le c.down d.down ext.down in omega (arith, le, more));
       next = λ l g lt at. elim (steps l g at) [
         | inl old ↦ a.next l g lt old
-        | inr late ↦ (let le : h.sent + length a.replies ≤ length c.down = a.fits in omega (arith, le, late))
+        | inr late ↦ (let le : h.sent + length a.replies ≤ length c.down = a.fits in let from : length c.down ≤ g.sent = late.0 in omega (arith, le, from))
       ];
+      logs = a.logs;
+      logs_are = subst (λ (l : List Entry). LogsSo n k l a.did a.logs) (sym (longer-taken h.logged y z longer (steady.within k h at_h).logged)) a.logs_are;
+      logged = λ i e at. subst (λ (l : List Entry). At l (h.logged + i) e) (sym longer.1) (At-append y longer.0 (h.logged + i) e (a.logged i e at));
+      within = a.within;
+      besides = λ i e from until at. a.besides i e from until (At-back y longer.0 i e (subst (λ (l : List Entry). At l i e) longer.1 at) (let le : h.after ≤ length y = a.ends in omega (arith, until, le)));
+      ends = (let le : h.after ≤ length y = a.ends in let more : length y ≤ length z = longer-le y z longer in omega (arith, le, more));
     },
     λ j m reply. elim (replies j m reply) [
       | inl old ↦ elim (rest j m old) [
         | inl early ↦ inl early
-        | inr late ↦ inr (late.0, late.1, (late.2.0, subst (λ (l : List Entry). At l late.2.0 (Finished n k)) (sym longer.1) (At-append y longer.0 late.2.0 (Finished n k) late.2.1)), (late.3.0, ext.up k late.3.0 late.3.1, late.3.2))
+        | inr late ↦
+            let q = late.3.3 in
+            inr (
+              late.0,
+              late.1,
+              (late.2.0, subst (λ (l : List Entry). At l late.2.0 (Finished n k)) (sym longer.1) (At-append y longer.0 late.2.0 (Finished n k) late.2.1)),
+              (
+                late.3.0,
+                ext.up k late.3.0 late.3.1,
+                late.3.2,
+                (q.0, subst (λ (l : List Entry). At l q.0 (Finished n k)) (sym longer.1) (At-append y longer.0 q.0 (Finished n k) q.1), still steps (sid_in late.3.0.message) q.0 (At-within y q.0 (Finished n k) q.1) q.2),
+              ),
+            )
       ]
-      | inr late ↦ inr (late.0, late.1, late.2, (late.3.0, ext.up k late.3.0 late.3.1, late.3.2))
+      | inr late ↦ inr late
     ],
   )
 

@@ -1,50 +1,60 @@
 -- Each message that a server handled was answered by what it knew, over every event and run.
-use Rattle.std.proofs.Common.{◌≡◌, ℕ, zero, suc, ◌+◌, ◌<◌, ◌≤◌, ◌⊎◌, inl, inr, Bool, true, List, [], ◌∷◌, ◌++◌, length, Option, Some, None, refl, sym, ap, subst, ◌∙◌, arith}
-use Rattle.std.specs.Prelude.{filter, map, not, slice_get, slice_set, take, unwrap_or}
-use Rattle.std.specs.List.{FoldsTo}
+use Rattle.std.proofs.Common.{◌≡◌, ℕ, zero, suc, ◌+◌, ◌<◌, ◌≤◌, ◌⊎◌, inl, inr, Bool, true, false, List, [], ◌∷◌, ◌++◌, length, Option, Some, None, refl, sym, ap, subst, ◌∙◌, arith}
+use Rattle.std.specs.Prelude.{is_some, option_map, filter, map, not, slice_get, slice_set, take, unwrap_or}
+use Rattle.std.specs.List.{FoldsTo, flat_map}
 use Rattle.std.specs.Str.{bytes_eq}
 use Rattle.ca_arena.specs.declared.handle.Handle.{Handle}
 use Rattle.ca_link.specs.Link.{with_rest}
 use Rattle.ca_text.specs.Place.{At}
-use Rattle.ca_text.proofs.Places.{At-after, At-append, At-map, At-mapped, At-one, At-parts, At-snoc, At-within}
+use Rattle.ca_text.proofs.Places.{At-after, At-append, At-map, At-mapped, At-one, At-parts, At-set, At-snoc, At-within}
 use Rattle.ca_wire.specs.Fields.{Fields}
 use Rattle.ca_model.specs.Answers.{Closing}
-use Rattle.ca_model.specs.Due.{Due}
-use Rattle.ca_model.specs.History.{Cause, Circuit, Entry, Finished, Line, Removal, Reply, Sent, Step, Told}
+use Rattle.ca_model.specs.Due.{Action, Applies, Due, KnownRecord}
+use Rattle.ca_model.specs.Due as action
+use Rattle.ca_model.specs.History.{Cause, Circuit, Entry, Finished, Line, Removal, Reply, Sent, Step, Told, Withdrawn}
 use Rattle.ca_model.specs.Server.{Server, ServerEnd}
-use Rattle.ca_model.specs.ServerCalls.{Replies, finish_reply, with_finish}
-use Rattle.ca_model.specs.ServerSteps.{HasEnd, Pumps, Stepped, knows}
-use Rattle.ca_model.specs.Speech.{In, Is}
+use Rattle.ca_model.specs.ServerCalls.{IsAwaited, Replies, finish_reply, with_finish}
+use Rattle.ca_model.specs.ServerSteps.{HasEnd, Pumps, Stepped, known_record, knows, stored_now}
+use Rattle.ca_model.specs.Speech.{In, Is, sid_in}
+use Rattle.ca_text.specs.Status.{normal}
+use Rattle.ca_records.specs.declared.puts.Put.{Put}
+use Rattle.ca_ids.specs.Table.{under}
+use Rattle.ca_laws_held.specs.Pairs.{BusyPair}
+use Rattle.ca_model.specs.Server.{Open, OpenChannel}
 use Rattle.ca_text.specs.declared.command.Command.TheVariants as command
 use Rattle.ca_model_world.specs.ClientEvents.{HappensAccept, WantsFirst, connected_as, new_circuit}
 use Rattle.ca_model_world.specs.Events.{Event}
 use Rattle.ca_model_world.specs.Events as event
 use Rattle.ca_model_world.specs.Runs.{Happens, Runs, StopsAt, clients_below}
-use Rattle.ca_model_world.specs.ServerEvents.{HappensFinish, HappensPump, HappensRemove, ServerStepped, StepHandles, about, ends_by, finish_entry, first_of, next_entries, removal_told, replied_at, server_after, withdrawals}
+use Rattle.ca_model_world.specs.ServerEvents.{HappensFinish, HappensPump, HappensRemove, ServerStepped, StepHandles, about, acted, ends_by, logged_by, side_of, finish_entry, first_of, handled_at, next_entries, removal_told, replied_at, server_after, withdrawals}
 use Rattle.ca_model_world.specs.ServerEvents as server
-use Rattle.ca_model_world.specs.World.{ClientSide, IsSetting, Joined, PutPlace, RecordSide, ServerSide, Setting, Standing, World, circuit_of, opening}
+use Rattle.ca_model_world.specs.World.{ClientSide, IsSetting, Joined, PutPlace, RecordSide, ServerSide, Setting, Standing, World, circuit_of, opening, with_circuit}
 use Rattle.ca_laws_kept.specs.Later.{IsLater, stamped_told}
 use Rattle.ca_laws_kept.proofs.Thins.{put-facts}
 use Rattle.ca_laws_kept.proofs.Updates.{stamps-later}
 use Rattle.ca_laws_held.proofs.CauseKeeps.{handled-or}
-use Rattle.ca_laws_held.proofs.StepWhole.{takes-next}
-use Rattle.ca_laws_writes.specs.Agrees.{Agrees, IsBusyBy, IsBusyWith}
+use Rattle.ca_laws_held.proofs.StepWhole.{run-serves, takes-next}
+use Rattle.ca_laws_writes.specs.Agrees.{Agrees, IsBusyAs, IsBusyBy, IsBusyWith}
 use Rattle.ca_laws_writes.specs.Lives.{CameOn, IsPutOf}
 use Rattle.ca_laws_writes.specs.Moves.{Lives}
 use Rattle.ca_laws_writes.specs.Moves as moves
 use Rattle.ca_laws_writes.specs.Once.{HadWaited}
-use Rattle.ca_records.specs.Puts.{Record}
+use Rattle.ca_records.specs.Puts.{Record, record_named}
+use Rattle.ca_laws_writes.proofs.Doing.{due-applies, due-waits}
+use Rattle.ca_laws_writes.proofs.Events.{Found, found}
 use Rattle.ca_laws_writes.proofs.Every.{ticks-frame}
 use Rattle.ca_laws_writes.proofs.Frames.{Frame}
 use Rattle.ca_laws_writes.proofs.HappensClient.{sent-frame}
 use Rattle.ca_laws_writes.proofs.InStepLasts.{world-numbered}
 use Rattle.ca_laws_writes.proofs.Lists.{beside-right, none_at, take-front, take-whole}
+use Rattle.ca_laws_writes.proofs.Lives.{number-of, others-apart}
 use Rattle.ca_laws_writes.proofs.Midway.{grown-here}
 use Rattle.ca_laws_writes.proofs.Moves.{same-or}
 use Rattle.ca_laws_writes.proofs.Says.{logs-stay}
-use Rattle.ca_laws_follows.specs.Answering.{AnsweredAt, AreAnswered, IsLate, KnowsLists, past}
+use Rattle.ca_laws_follows.specs.Answering.{AnsweredAt, AnsweredSo, AreAnswered, KnowsLists, LogsSo, past}
+use Rattle.ca_model_safe.specs.Channels.{Has, IsBusyUntil, IsCleared, IsUncleared}
 use Rattle.ca_laws_follows.specs.KnewLists.{as_known}
-use Rattle.ca_laws_follows.proofs.Acting.{Extends, IsLonger, longer-taken}
+use Rattle.ca_laws_follows.proofs.Acting.{Extends, Grows, IsLonger, grown-back, longer-taken}
 use Rattle.ca_laws_follows.proofs.ActsOn.{of-circuits}
 use Rattle.ca_laws_follows.proofs.AnsweringFrame.{answered-forth, step-lists, step-of}
 use Rattle.ca_laws_follows.proofs.CausingEvents.{Nothing-new, Ready, steady-of}
@@ -77,12 +87,17 @@ pub record CameSome (circuits : List Joined) (life : ℕ) (p : PutPlace) : Type 
   pub on : At circuits p.circuit c
   pub joins : c.lists.server ≡ life
 
+-- a clear that was handled by then was handled before
+was-cleared : (log : List Entry) (c d : Joined) → ((l : ℕ) (g : Step) → At d.lists.handled l g → At c.lists.handled l g) → Grows c.lists.up d.lists.up → Steady log c.lists → (k sid b : ℕ) → IsCleared d.lists k sid b → IsCleared c.lists k sid b
+was-cleared log c d handled up steady k sid b (l, q, g, after, at_q, at_g, le, clears) =
+    (l, q, g, after, grown-back c.lists.up d.lists.up up l q (let below : l < length c.lists.handled = At-within c.lists.handled l g (handled l g at_g) in let most : length c.lists.handled ≤ length c.lists.up = steady.few in omega (arith, below, most)) at_q, handled l g at_g, le, clears)
+
 -- ---- what is new on a circuit is a late reply
 
--- No step is new, and each new reply about what was handled is late.
+-- No step is new, and no reply.
 pub record IsLaterBy (F : ℕ → News → Type 0) (l : ℕ) (lg : List Entry) (c : Circuit) : Type 0 where
   pub takes : (m : ℕ) (h : Step) → F l (Takes m h) → ⊥
-  pub late : (k : ℕ) (m : Fields) → F l (Says (record { message = m; place = k; cause = Reply })) → IsLate l c lg k m
+  pub late : (k : ℕ) (m : Fields) → F l (Says (record { message = m; place = k; cause = Reply })) → ⊥
 
 back-answered : (F : ℕ → News → Type 0) (s : Setting) (w new : World) → Ready s w → LogsGrow w new → Back F w new
     → ((l : ℕ) (c d : Joined) (log lg : List Entry) → At w.circuits l c → At new.circuits l d → At w.server_logs c.lists.server log → At new.server_logs c.lists.server lg → IsLonger log lg → IsLaterBy F l lg c.lists) → AllAnswered w → AllAnswered new
@@ -96,11 +111,11 @@ back-answered F s w new ready grow back by all n d lg at logged k h at_h =
     let old : At c.0.lists.handled k h = elim (c.2.handled k h at_h) [ inl was ↦ was | inr new_it ↦ absurd (b.takes k h new_it) ] in
     answered-forth n c.0.lists d.lists log.0 lg k h c.2.lists c.2.life (more.0, is) (steady-of s w ready n c.0 log.0 c.1 log.1) old
     (λ l g there. elim (c.2.handled l g there) [ inl was ↦ inl was | inr new_it ↦ absurd (b.takes l g new_it) ])
-    (λ i m reply. elim (c.2.told i _ reply) [ inl was ↦ inl was | inr told ↦ inr (b.late k m told.1) ])
+    (λ i m reply. elim (c.2.told i _ reply) [ inl was ↦ inl was | inr told ↦ absurd (b.late k m told.1) ])
     (all n c.0 log.0 c.1 log.1 k h old)
 
 still-by : (l : ℕ) (lg : List Entry) (c : Circuit) → IsLaterBy Nothing-new l lg c
-still-by l lg c = record { takes = λ m h none. none; late = λ k m none. absurd none }
+still-by l lg c = record { takes = λ m h none. none; late = λ k m none. none }
 
 -- ---- causes differ
 
@@ -110,7 +125,7 @@ reply-removal e = cc
 -- ---- updates leave
 
 pump-by : (s : Setting) (w new : World) (k : ℕ) (j : Joined) (y : ServerSide) (f : HappensPump w k j y new) → Ready s w → At w.circuits k j → At w.servers j.server y → j.lists.server_open ≡ true → (l : ℕ) (lg : List Entry) (c : Circuit) → IsLaterBy (PumpNews k (stamped_told f.updates j)) l lg c
-pump-by s w new k j y f ready on at opened l lg c = record { takes = λ m h none. none; late = λ p m told. absurd ((later _ told.1).other refl) }
+pump-by s w new k j y f ready on at opened l lg c = record { takes = λ m h none. none; late = λ p m told. (later _ told.1).other refl }
   where
     ks : List ℕ
     ks = map (λ (z : Standing). z.place) j.standing
@@ -131,30 +146,97 @@ remove-by w i core name gone left l lg c = record {
   takes = λ m h none. none;
   late = λ k m told.
       let x = At-mapped (removal_told (told.0).creations) _ told.4.0 _ told.4.1 in
-      absurd (reply-removal (ap (λ (z : Told). z.cause) x.2));
+      reply-removal (ap (λ (z : Told). z.cause) x.2);
 }
 
 -- ---- a finish
 
-finish-by : (s : Setting) (w : World) (i : ℕ) (y : ServerSide) (name : List ℕ) (new : World) (f : server.Finished w i y name new) → Ready s w → At w.servers i y → (l : ℕ) (c : Joined) (lg : List Entry) → At w.circuits l c → At new.server_logs c.lists.server lg
-    → c.lists.server ≡ y.life → IsLaterBy (FinishNews f.p.circuit f.p.place (map (λ (x : Handle × Fields). x.1) f.sent)) l lg c.lists
-finish-by s w i y name new f ready at l c lg on logged joins = record {
-  takes = λ m h none. none;
-  late = λ k m told.
-      let x = At-mapped (λ (q : Fields). let z : Told = record { message = q; place = f.p.place; cause = Reply } in z) ms told.1.0 _ told.1.1 in
-      let z = At-mapped (λ (v : Handle × Fields). v.1) f.sent told.1.0 x.0 x.1 in
-      let message : m ≡ z.0.1 = ap (λ (t : Told). t.message) x.2 ∙ z.2 in
-      let place : k ≡ f.p.place = ap (λ (t : Told). t.place) x.2 in
-      let is = replied f.finishes.2 told.1.0 z.0 z.1 in (
-        ap (λ (q : Fields). q.command) (message ∙ is),
-        ap (λ (q : Fields). q.p1) (message ∙ is),
-        subst (λ (v : ℕ × ℕ). In lg (Finished v.0 v.1)) (λ i. (sym told.0 i, sym place i)) finished,
-        asked k told.0 place,
-      );
-}
+finish-by : (s : Setting) (w : World) (i : ℕ) (y : ServerSide) (name : List ℕ) (new : World) (f : server.Finished w i y name new) → Ready s w → At w.servers i y → (l : ℕ) (c : Joined) (log lg : List Entry) → At w.circuits l c → At w.server_logs y.life log → At new.server_logs c.lists.server lg
+    → c.lists.server ≡ y.life → (k : ℕ) (m : Fields) → FinishNews f.p.circuit f.p.place (map (λ (x : Handle × Fields). x.1) f.sent) l (Says (record { message = m; place = k; cause = Reply }))
+    → Is command.WriteNotify m × (m.p1 ≡ normal) × ((q : Sent) × At c.lists.up k q × Is command.WriteNotify q.message × ((e : ℕ) × At lg e (Finished l k) × ((b : ℕ) → IsUncleared c.lists k (sid_in q.message) b)))
+finish-by s w i y name new f ready at l c log lg on at_log logged joins k m told =
+    let x = At-mapped (λ (q : Fields). let z : Told = record { message = q; place = f.p.place; cause = Reply } in z) ms told.1.0 _ told.1.1 in
+    let z = At-mapped (λ (v : Handle × Fields). v.1) f.sent told.1.0 x.0 x.1 in
+    let message : m ≡ z.0.1 = ap (λ (t : Told). t.message) x.2 ∙ z.2 in
+    let place : k ≡ f.p.place = ap (λ (t : Told). t.place) x.2 in
+    let is = replied f.finishes.2 told.1.0 z.0 z.1 in
+    let facts = put-facts s w i y f.p ready.serves.stands.sound at (f.r, (f.at.0, f.at.1), inl f.busy) in
+    let one : facts.c ≡ c = At-one w.circuits l facts.c c (subst (λ (n : ℕ). At w.circuits n facts.c) (sym told.0) facts.on) on in
+    let sent : At c.lists.up f.p.place facts.s = subst (λ (v : Joined). At v.lists.up f.p.place facts.s) one facts.sent in (
+      ap (λ (q : Fields). q.command) (message ∙ is),
+      ap (λ (q : Fields). q.p1) (message ∙ is),
+      (
+        facts.s,
+        subst (λ (n : ℕ). At c.lists.up n facts.s) (sym place) sent,
+        facts.asks,
+        (finished.0, subst (λ (v : ℕ × ℕ). At lg finished.0 (Finished v.0 v.1)) (λ i. (sym told.0 i, sym place i)) finished.1, λ b. subst (λ (n : ℕ). IsUncleared c.lists n (sid_in facts.s.message) b) (sym place) (uncleared facts.s told.0 sent (awaited f.finishes.2 told.1.0 z.0 z.1) b)),
+      ),
+    )
   where
     ms : List Fields
     ms = map (λ (x : Handle × Fields). x.1) f.sent
+
+    -- the put's channel is open
+    awaited : Replies (with_finish name f.finishes.0.r y.core) f.finishes.0.p f.finishes.0.gone f.sent f.finishes.1 → (q : ℕ) (v : Handle × Fields) → At f.sent q v → (e : ServerEnd) × IsAwaited (with_finish name f.finishes.0.r y.core) f.finishes.0.p e
+    awaited (inl (e, is_awaited, sent, is)) q v there = (e, is_awaited)
+    awaited (inr (none, sent, is)) q v there = absurd (none_at q v (subst (λ (l : List (Handle × Fields)). At l q v) sent there))
+
+    -- so no clear of it was handled since
+    uncleared : (q : Sent) → l ≡ f.p.circuit → At c.lists.up f.p.place q → ((e : ServerEnd) × IsAwaited (with_finish name f.finishes.0.r y.core) f.finishes.0.p e) → (b : ℕ) → IsUncleared c.lists f.p.place (sid_in q.message) b
+    uncleared q here at_q (e, is_awaited) b (t, r, g, after, at_r, at_g, le, clears) = go c.lists.server_open refl
+      where
+        own : Lives w i y
+        own = ready.serves.stands.sound.writes.lives i y at
+
+        g0 : Found (IsPutOf w.circuits i) own.log y.core.records y.records name f.finishes.0.r
+        g0 = found (IsPutOf w.circuits i) own.log y.core.records y.records name f.finishes.0.r own.life.each f.finishes.0.named
+
+        one-side : g0.r ≡ f.r
+        one-side =
+            (let place : g0.i ≡ f.at.0 = elim (others-apart y.records g0.i f.at.0 g0.r f.r own.life.others g0.in_rs f.at.1) [ inl same ↦ same | inr other ↦ absurd (other.0 (f.at.2 ∙ sym g0.named)) ] in
+            At-one y.records f.at.0 g0.r f.r (subst (λ (n : ℕ). At y.records n g0.r) place g0.in_rs) f.at.1)
+
+        of : IsPutOf w.circuits i f.p f.finishes.0.p
+        of =
+            subst (λ (v : Option PutPlace × Option Put). IsBusyAs (IsPutOf w.circuits i) v.0 v.1) (λ n. ((ap (λ (z : RecordSide). z.busy) one-side ∙ f.busy) n, f.finishes.0.busy n)) g0.agrees.busy_as
+
+        one-c : of.c ≡ c
+        one-c = At-one w.circuits l of.c c (subst (λ (n : ℕ). At w.circuits n of.c) (sym here) of.on) on
+
+        server-is : c.server ≡ i
+        server-is = ap (λ (z : Joined). z.server) (sym one-c) ∙ of.of
+
+        at_c : At w.servers c.server y
+        at_c = subst (λ (n : ℕ). At w.servers n y) (sym server-is) at
+
+        has : HasEnd y.core c.at_server e
+        has = subst (λ (h : Handle). HasEnd y.core h e) (of.handle ∙ ap (λ (z : Joined). z.at_server) one-c) is_awaited.0
+
+        q-is : of.s ≡ q
+        q-is = At-one c.lists.up f.p.place of.s q (subst (λ (z : Joined). At z.lists.up f.p.place of.s) one-c of.sent) at_q
+
+        pair : BusyPair y.core.records y.records f.p f.finishes.0.p
+        pair = record {
+          c = f.finishes.0.r;
+          r = f.r;
+          in_cs = (g0.i, g0.in_cs);
+          in_rs = (f.at.0, f.at.1);
+          name = g0.agrees.name ∙ ap (λ (z : RecordSide). z.name) one-side;
+          core = f.finishes.0.busy;
+          side = f.busy;
+        }
+
+        some-of : (o : Option OpenChannel) → is_some o ≡ true → (ch : OpenChannel) × (o ≡ Some ch)
+        some-of None is = absurd cc
+        some-of (Some ch) is = (ch, refl)
+
+        go : (o : Bool) → c.lists.server_open ≡ o → ⊥
+        go false is = ready.serves.stands.handles.gone l c y (Open e) on at_c joins is has
+        go true is =
+            let ch = some-of (under e.channels f.finishes.0.p.channel) is_awaited.1 in
+            let came = ((ready.serves.puts l c y e on at_c is has).busy f.p f.finishes.0.p pair (sym here)).before ch.0 ch.1 in
+            let early : came.0.place < f.p.place = came.3 in
+            (ready.creations l c y e on at_c is has).uncleared came.0 t r came.1 (omega (arith, early, after)) (At-within c.lists.handled t g at_g) at_r (clears.0, clears.1 ∙ ap (λ (z : Sent). sid_in z.message) (sym q-is) ∙ sym of.sid ∙ sym came.2)
 
     replied : Replies (with_finish name f.finishes.0.r y.core) f.finishes.0.p f.finishes.0.gone f.sent f.finishes.1 → (q : ℕ) (v : Handle × Fields) → At f.sent q v → v.1 ≡ finish_reply f.finishes.0.p
     replied (inl (e, awaited, sent, is)) zero v there = ap (λ (o : Option (Handle × Fields)). (unwrap_or o v).1) (sym there ∙ ap (λ (l : List (Handle × Fields)). slice_get l 0) sent)
@@ -191,6 +273,33 @@ long f (x ∷ xs) ys = (let le : length xs + length ys ≤ length (xs ++ map f y
 
 known-is : (d j : Circuit) (h : Step) → d.server ≡ j.server → take (length j.handled) d.up ≡ take (length j.handled) j.up → take h.sent d.down ≡ j.down → take (length j.handled) d.handled ≡ j.handled → past d (length j.handled) h ≡ as_known j
 known-is d j h server up down handled = λ i. record (as_known j) { server = server i; up = up i; down = down i; handled = handled i }
+
+two-long : {A : Type 0} (xs ys : List A) → length (xs ++ ys) ≡ length xs + length ys
+two-long [] ys = omega arith
+two-long (x ∷ xs) ys = (let e : length (xs ++ ys) ≡ length xs + length ys = two-long xs ys in omega (arith, e))
+
+longer-three : {A : Type 0} (xs ys zs : List A) → length xs + length ys ≤ length ((xs ++ ys) ++ zs)
+longer-three xs ys zs =
+    (let a : length (xs ++ ys) ≡ length xs + length ys = two-long xs ys in
+    let b : length ((xs ++ ys) ++ zs) ≡ length (xs ++ ys) + length zs = two-long (xs ++ ys) zs in
+    omega (arith, a, b))
+
+withdrawn-is : (ps : List PutPlace) (i : ℕ) (e : Entry) → At (map (λ (p : PutPlace). Withdrawn p.circuit p.place) ps) i e → (m l : ℕ) × (e ≡ Withdrawn m l)
+withdrawn-is ps i e at = (let p = At-mapped (λ (p : PutPlace). Withdrawn p.circuit p.place) ps i e at in (p.0.circuit, p.0.place, p.2))
+
+known-from : (o : Option Record) (k : KnownRecord) → option_map known_record o ≡ Some k → (cr : Record) × (o ≡ Some cr)
+known-from None k is = absurd cc
+known-from (Some cr) k is = (cr, refl)
+
+side-life : (w : World) (k : ℕ) (j : Joined) (y : ServerSide) (did : Action) → At w.servers j.server y → (side_of j.server y (acted k j y did w)).life ≡ y.life
+side-life w k j y did at = go (slice_get (acted k j y did w).servers j.server) refl
+  where
+    next : ServerSide
+    next = record y { records = server.records_after y.core j.at_server (record { circuit = k; place = length j.lists.handled }) did y.records }
+
+    go : (o : Option ServerSide) → slice_get (acted k j y did w).servers j.server ≡ o → (unwrap_or o y).life ≡ y.life
+    go None is = refl
+    go (Some z) is = elim (At-set w.servers j.server next j.server z is) [ inl own ↦ ap (λ (x : ServerSide). x.life) own.1 | inr old ↦ absurd (old.1 refl) ]
 
 module _ (s : Setting) (w new : World) (k : ℕ) (j : Joined) (y : ServerSide) (on : At w.circuits k j) (at_y : At w.servers j.server y) (opened : j.lists.server_open ≡ true) (f : StepHandles w k j y new) (ready : Ready s w) (grow : LogsGrow w new) (know : AllKnow w) (all : AllAnswered w) where
   abbrev place : ℕ
@@ -249,6 +358,73 @@ module _ (s : Setting) (w new : World) (k : ℕ) (j : Joined) (y : ServerSide) (
     reply-at : (q : ℕ) (t : Told) → At (about place Reply replies) q t → (r : Fields) × At replies q r × (t ≡ record { message = r; place = place; cause = Reply })
     reply-at q t there = At-mapped (λ (z : Fields). let v : Told = record { message = z; place = place; cause = Reply } in v) replies q t there
 
+    -- what the step logged
+    abbrev put_at : PutPlace
+    put_at = record { circuit = k; place = place }
+
+    abbrev more : List Entry
+    more = logged_by y.core j.at_server put_at (f.steps.0).action y.records
+
+    abbrev midway : World
+    midway = acted k j y (f.steps.0).action w
+
+    abbrev side : ServerSide
+    side = side_of j.server y midway
+
+    abbrev ended_log : List Entry
+    ended_log = withdrawals (server.ends_at (ends_by j.server f.core) midway.circuits) side.records
+
+    abbrev ended : World
+    ended = server_after j.server side (ends_by j.server f.core) f.core midway
+
+    mid-log : At midway.server_logs y.life (own.0 ++ more)
+    mid-log = grown-here w.server_logs y.life own.0 more here
+
+    after-log : At ended.server_logs y.life ((own.0 ++ more) ++ ended_log)
+    after-log = (let life : side.life ≡ y.life = side-life w k j y (f.steps.0).action at_y in
+        subst (λ (l : ℕ). At ended.server_logs l ((own.0 ++ more) ++ ended_log)) life (grown-here midway.server_logs side.life (own.0 ++ more) ended_log (subst (λ (l : ℕ). At midway.server_logs l (own.0 ++ more)) (sym life) mid-log)))
+
+    noted-log : (o : Option Joined) → (unwrap_or (option_map (λ (c : Joined). with_circuit k (handled_at place step replies c) ended) o) ended).server_logs ≡ ended.server_logs
+    noted-log None = refl
+    noted-log (Some c) = refl
+
+    lg-is : lg ≡ (own.0 ++ more) ++ ended_log
+    lg-is =
+        At-one ended.server_logs y.life lg ((own.0 ++ more) ++ ended_log)
+        (subst (λ (v : ℕ × List (List Entry)). At v.1 v.0 lg) (λ i. ((lists.3 ∙ joins) i, (ap (λ (z : World). z.server_logs) f.leaves ∙ noted-log (slice_get ended.circuits k)) i)) logged) after-log
+
+    after-is : step.after ≡ length ((own.0 ++ more) ++ ended_log)
+    after-is = ap (λ (o : Option (List Entry)). length (unwrap_or o [])) after-log
+
+    late : (i : ℕ) (e : Entry) → step.logged + length more ≤ i → At ((own.0 ++ more) ++ ended_log) i e → (m l : ℕ) × (e ≡ Withdrawn m l)
+    late i e from there = elim (At-parts (own.0 ++ more) ended_log i e there) [
+      | inl old_it ↦ absurd (let lt : i < length (own.0 ++ more) = At-within (own.0 ++ more) i e old_it in let is : length (own.0 ++ more) ≡ length own.0 + length more = two-long own.0 more in omega (arith, lt, is, from, length-is))
+      | inr new_it ↦ withdrawn-is (flat_map (λ (r : RecordSide). filter (λ (q : PutPlace). server.ends_at (ends_by j.server f.core) midway.circuits q.circuit) r.waiting) side.records) new_it.0 e new_it.2
+    ]
+
+    -- a record of this name is there
+    named : (name : List ℕ) (known : KnownRecord) → option_map known_record (record_named y.core.records name) ≡ Some known → Has own.0 (server.number_of name y.records) name
+    named name known is =
+        let cr = known-from (record_named y.core.records name) known is in
+        let life = ready.serves.stands.sound.writes.lives j.server y at_y in
+        let g : Found (IsPutOf w.circuits j.server) life.log y.core.records y.records name cr.0 = found (IsPutOf w.circuits j.server) life.log y.core.records y.records name cr.0 life.life.each cr.1 in
+        let same : life.log ≡ own.0 = At-one w.server_logs y.life life.log own.0 life.at here in
+        let number : server.number_of name y.records ≡ g.r.number = ap (λ (n : List ℕ). server.number_of n y.records) (sym g.named) ∙ number-of y.records g.i g.r life.life.others g.in_rs in
+        subst (λ (v : List Entry × ℕ). Has v.0 v.1 name) (λ i. (same i, sym number i))
+        (g.agrees.first, g.agrees.added, sym (ap (λ (z : _). z.name) g.agrees.state) ∙ g.agrees.name ∙ g.named, g.agrees.there)
+
+    logs-so : (did : Action) → Due (knows y.core taken) (f.steps.0).m replies did → LogsSo k place own.0 did (logged_by y.core j.at_server put_at did y.records)
+    logs-so (Applies name value busies) due = (let to = (due-applies (knows y.core taken) (f.steps.0).m replies name value busies due).0 in (server.number_of name y.records, stored_now y.core value, named name to.known to.named, refl, (y.core.stamp, refl), refl))
+    logs-so (action.Waits name value) due = (let to = (due-waits (knows y.core taken) (f.steps.0).m replies name value due).0 in (server.number_of name y.records, stored_now y.core value, named name to.known to.named, refl, (y.core.stamp, refl), refl))
+    logs-so (action.Clears sid) due = λ i e there. withdrawn-is (flat_map (λ (ps : List PutPlace). ps) (server.with_core (λ (c : Record) (r : RecordSide). server.places_where (server.is_of_channel j.at_server sid) c.waiting r.waiting) y.core.records y.records)) i e there
+    logs-so action.Nothing due = refl
+    logs-so action.Greets due = refl
+    logs-so (action.Names x) due = refl
+    logs-so (action.Opens x) due = refl
+    logs-so (action.Adds x) due = refl
+    logs-so (action.Drops x) due = refl
+    logs-so (action.Switches x) due = refl
+
     fresh : AnsweredAt k d.lists lg place step
     fresh = (
       record {
@@ -272,6 +448,14 @@ module _ (s : Setting) (w new : World) (k : ℕ) (j : Joined) (y : ServerSide) (
           | inl was ↦ absurd (let below : l < place = At-within j.lists.handled l g was in omega (arith, lt, below))
           | inr now ↦ absurd (let e : l ≡ place = now.0 in omega (arith, lt, e))
         ];
+        logs = more;
+        logs_are = subst (λ (l : List Entry). LogsSo k place l (f.steps.0).action more) (sym is-log) (logs-so (f.steps.0).action ((f.steps.0).handles).due);
+        logged = λ i e there.
+            let n_is : step.logged + i ≡ length own.0 + i = ap (λ (z : ℕ). z + i) length-is in
+            subst (λ (v : ℕ × List Entry). At v.1 v.0 e) (λ q. (sym n_is q, sym lg-is q)) (At-append (own.0 ++ more) ended_log (length own.0 + i) e (At-after own.0 more i e there));
+        within = (let w : length own.0 + length more ≤ length ((own.0 ++ more) ++ ended_log) = longer-three own.0 more ended_log in let e : step.after ≡ length ((own.0 ++ more) ++ ended_log) = after-is in omega (arith, w, e, length-is));
+        besides = λ i e from until there. late i e from (subst (λ (l : List Entry). At l i e) lg-is there);
+        ends = (let e : step.after ≡ length ((own.0 ++ more) ++ ended_log) = after-is in let g : length lg ≡ length ((own.0 ++ more) ++ ended_log) = ap (λ (l : List Entry). length l) lg-is in omega (arith, e, g));
       },
       λ i m reply. elim (down-was i (record { message = m; place = place; cause = Reply }) reply) [
         | inl was ↦ absurd (let lt : place < place = steady.below i (record { message = m; place = place; cause = Reply }) was in omega (arith, lt))
@@ -295,7 +479,7 @@ module _ (s : Setting) (w new : World) (k : ℕ) (j : Joined) (y : ServerSide) (
           answered-forth k j.lists d.lists own.0 lg p h ext lists.3 longer steady was
           (λ l g at_g. elim (handled-was l g at_g) [
             | inl old_it ↦ inl old_it
-            | inr now ↦ inr (let e : g.sent ≡ length j.lists.down = ap (λ (z : Step). z.sent) now.1 in omega (arith, e))
+            | inr now ↦ inr ((let e : g.sent ≡ length j.lists.down = ap (λ (z : Step). z.sent) now.1 in omega (arith, e)), (let e : g.logged ≡ step.logged = ap (λ (z : Step). z.logged) now.1 in omega (arith, e, length-is)))
           ])
           (λ i m reply. elim (down-was i (record { message = m; place = p; cause = Reply }) reply) [
             | inl old_it ↦ inl old_it
@@ -411,7 +595,25 @@ event-answered s w new e ready know happens all = go e happens
         (λ l g at_g. elim (c.2.handled l g at_g) [ inl x ↦ inl x | inr x ↦ absurd x ])
         (λ q m reply. elim (c.2.told q _ reply) [
           | inl x ↦ inl x
-          | inr x ↦ inr ((finish-by s w i y name new f ready at n c.0 lg c.1 (subst (λ (l : ℕ). At new.server_logs l lg) c.2.life logged) (put-life n c.0 c.1 x.1.0)).late k m x.1)
+          | inr x ↦
+              let own = ready.serves.stands.sound.writes.lives i y at in
+              let fb = finish-by s w i y name new f ready at n c.0 own.log lg c.1 own.at (subst (λ (l : ℕ). At new.server_logs l lg) c.2.life logged) (put-life n c.0 c.1 x.1.0) k m x.1 in
+              let steady = steady-of s w ready n c.0 lo.0 c.1 lo.1 in
+              inr (
+                fb.0,
+                fb.1,
+                (fb.2.3.0, fb.2.3.1),
+                (
+                  fb.2.0,
+                  c.2.lists.up k fb.2.0 fb.2.1,
+                  fb.2.2,
+                  (
+                    fb.2.3.0,
+                    fb.2.3.1,
+                    λ cleared. fb.2.3.2 fb.2.3.0 (was-cleared lo.0 c.0 d (λ l g there. elim (c.2.handled l g there) [ inl z ↦ z | inr z ↦ absurd z ]) c.2.lists.up steady k (sid_in fb.2.0.message) fb.2.3.0 cleared),
+                  ),
+                ),
+              )
         ])
         (all n c.0 lo.0 c.1 lo.1 k h was)
       where
@@ -482,9 +684,34 @@ run-all-answered s es stopped w ok (mid, folds, stops) =
 -- in the words of the statement
 pub run-answered : (s : Setting) (es : List Event) (stopped : Option Event) (w : World) → IsSetting s → Runs s es stopped w → AreAnswered w
 run-answered s es stopped w ok runs =
-    of-circuits s es stopped w ok runs (λ (n : ℕ) (c : Circuit) (x : List Line) (y : List Entry). (k : ℕ) (h : Step) → At c.handled k h → AnsweredAt n c y k h)
-    (λ n j x y at lx ly k h there. as-told n j y k h (run-all-answered s es stopped w ok runs n j y at ly k h there))
+    of-circuits s es stopped w ok runs (λ (n : ℕ) (c : Circuit) (x : List Line) (y : List Entry). (k : ℕ) (h : Step) → At c.handled k h → AnsweredSo n c y k h)
+    (λ n j x y at lx ly k h there. as-told n j y (λ m l e is. (((run-serves s es stopped w ok runs).stands.sound.writes.logs j.lists.server y ly).finished m l e is).0) k h (run-all-answered s es stopped w ok runs n j y at ly k h there))
   where
-    as-told : (n : ℕ) (j : Joined) (y : List Entry) (k : ℕ) (h : Step) → AnsweredAt n j.lists y k h → AnsweredAt n (circuit_of j) y k h
-    as-told n j y k h (a, rest) =
-        (record { s = a.s; at = a.at; known = a.known; did = a.did; replies = a.replies; knew = a.knew; due = a.due; now = a.now; fits = a.fits; next = a.next }, rest)
+    as-told : (n : ℕ) (j : Joined) (y : List Entry) → ((m l e : ℕ) → At y e (Finished m l) → IsBusyUntil y m l e) → (k : ℕ) (h : Step) → AnsweredAt n j.lists y k h → AnsweredSo n (circuit_of j) y k h
+    as-told n j y busy k h (a, rest) = (
+      record {
+        s = a.s;
+        at = a.at;
+        known = a.known;
+        did = a.did;
+        replies = a.replies;
+        knew = a.knew;
+        due = a.due;
+        now = a.now;
+        fits = a.fits;
+        next = a.next;
+        logs = a.logs;
+        logs_are = a.logs_are;
+        logged = a.logged;
+        within = a.within;
+        besides = a.besides;
+        ends = a.ends;
+      },
+      λ i m reply. elim (rest i m reply) [
+        | inl early ↦ inl early
+        | inr late ↦
+            let q = late.3.3 in
+            let one : late.3.0 ≡ a.s = At-one j.lists.up k late.3.0 a.s late.3.1 a.at in
+            inr (late.0, late.1, subst (λ (z : Sent). Is command.WriteNotify z.message) one late.3.2, (q.0, q.1, busy n k q.0 q.1, subst (λ (z : Sent). IsUncleared j.lists k (sid_in z.message) q.0) one q.2))
+      ],
+    )

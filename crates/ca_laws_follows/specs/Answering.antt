@@ -4,11 +4,11 @@ use Rattle.ca_text.specs.declared.command.Command.TheVariants as command
 use Rattle.ca_text.specs.Place.{At}
 use Rattle.ca_text.specs.Status.{normal}
 use Rattle.ca_wire.specs.Fields.{Fields}
-use Rattle.ca_model.specs.Due.{Action, Due, Knows}
-use Rattle.ca_model.specs.History.{Circuit, Entry, Finished, Line, Sent, Step}
-use Rattle.ca_model.specs.Speech.{In, Is}
-use Rattle.ca_model_safe.specs.Channels.{IsReply, OfCircuits, before}
-use Rattle.ca_model_safe.specs.Known.{AreJust, IsChannel, IsKey, IsRecordOf}
+use Rattle.ca_model.specs.Due.{Action, Clears, Due, Knows}
+use Rattle.ca_model.specs.History.{Circuit, Entry, Finished, Line, Sent, Step, Withdrawn}
+use Rattle.ca_model.specs.Speech.{In, Is, sid_in}
+use Rattle.ca_model_safe.specs.Channels.{IsFinished, IsReply, IsUncleared, OfCircuits, before}
+use Rattle.ca_model_safe.specs.Known.{AreJust, IsChannel, IsKey, IsLogged, IsRecordOf}
 use Rattle.ca_model_world.specs.World.{World, told}
 
 -- What a server knows of its records, of the open channels of a circuit and of its subscriptions there is what these lists and this log say.
@@ -21,8 +21,14 @@ pub record KnowsLists (c : Circuit) (y : List Entry) (k : Knows) : Type 0 where
 abbrev pub past : Circuit → ℕ → Step → Circuit
 past c k h = record (before c k h) { client = 0 }
 
--- The message at place k got, in its step, the replies that were due by what its server knew then, each once and in order.
-pub record IsAnswered (c : Circuit) (y : List Entry) (k : ℕ) (h : Step) : Type 0 where
+-- What the step of the message at place k logs for what that does: its write; or, as a channel is cleared, withdrawals.
+abbrev pub LogsSo : (n k : ℕ) → List Entry → Action → List Entry → Type 0
+LogsSo n k y (Clears sid) logs = (i : ℕ) (e : Entry) → At logs i e → (m l : ℕ) × (e ≡ Withdrawn m l)
+LogsSo n k y did logs = IsLogged n k y did logs
+
+-- The message at place k got, in its step, the replies that were due by what its server knew then, each once and in order. Its step logged
+-- what was due, and besides only withdrawals.
+pub record IsAnswered (n : ℕ) (c : Circuit) (y : List Entry) (k : ℕ) (h : Step) : Type 0 where
   pub s : Sent
   pub at : At c.up k s
   pub known : Knows
@@ -33,15 +39,30 @@ pub record IsAnswered (c : Circuit) (y : List Entry) (k : ℕ) (h : Step) : Type
   pub now : (i : ℕ) (m : Fields) → At replies i m → IsReply c k (h.sent + i) m
   pub fits : h.sent + length replies ≤ length c.down
   pub next : (l : ℕ) (g : Step) → k < l → At c.handled l g → h.sent + length replies ≤ g.sent
+  pub logs : List Entry
+  pub logs_are : LogsSo n k (take h.logged y) did logs
+  pub logged : (i : ℕ) (e : Entry) → At logs i e → At y (h.logged + i) e
+  pub within : h.logged + length logs ≤ h.after
+  pub besides : (i : ℕ) (e : Entry) → h.logged + length logs ≤ i → i < h.after → At y i e → (m l : ℕ) × (e ≡ Withdrawn m l)
+  pub ends : h.after ≤ length y
 
--- A reply that came later, to a put, tells that it was done; and that put was finished.
+-- A reply that came later, to a put, tells that it was done; and that put was finished, before its channel was cleared.
 abbrev pub IsLate : (n : ℕ) → Circuit → List Entry → (k : ℕ) → Fields → Type 0
-IsLate n c y k m = Is command.WriteNotify m × (m.p1 ≡ normal) × In y (Finished n k) × ((s : Sent) × At c.up k s × Is command.WriteNotify s.message)
+IsLate n c y k m =
+    Is command.WriteNotify m × (m.p1 ≡ normal) × In y (Finished n k)
+    × ((s : Sent) × At c.up k s × Is command.WriteNotify s.message × ((e : ℕ) × At y e (Finished n k) × IsUncleared c k (sid_in s.message) e))
 
 -- And every other reply about it is late.
 abbrev pub AnsweredAt : (n : ℕ) → Circuit → List Entry → (k : ℕ) → Step → Type 0
-AnsweredAt n c y k h = (a : IsAnswered c y k h) × ((j : ℕ) (m : Fields) → IsReply c k j m → (j < h.sent + length a.replies) ⊎ IsLate n c y k m)
+AnsweredAt n c y k h = (a : IsAnswered n c y k h) × ((j : ℕ) (m : Fields) → IsReply c k j m → (j < h.sent + length a.replies) ⊎ IsLate n c y k m)
 
--- So it is of each message that was handled on any circuit, whether its ends are open or not.
+-- So it is, in the words of the statement: a late reply is to a put that was finished.
+abbrev pub AnsweredSo : (n : ℕ) → Circuit → List Entry → (k : ℕ) → Step → Type 0
+AnsweredSo n c y k h =
+    (a : IsAnswered n c y k h)
+    × ((j : ℕ) (m : Fields) → IsReply c k j m
+    → (j < h.sent + length a.replies) ⊎ (Is command.WriteNotify m × (m.p1 ≡ normal) × Is command.WriteNotify a.s.message × IsFinished n c y k a.s))
+
+-- And of each message that was handled on any circuit, whether its ends are open or not.
 abbrev pub AreAnswered : World → Type 0
-AreAnswered w = OfCircuits (told w) (λ (n : ℕ) (c : Circuit) (x : List Line) (y : List Entry). (k : ℕ) (h : Step) → At c.handled k h → AnsweredAt n c y k h)
+AreAnswered w = OfCircuits (told w) (λ (n : ℕ) (c : Circuit) (x : List Line) (y : List Entry). (k : ℕ) (h : Step) → At c.handled k h → AnsweredSo n c y k h)

@@ -7,8 +7,10 @@ ghost use Rattle.ca_laws_follows.specs.Answering.{AreAnswered};
 /// After every run from a well-formed setting each message that a server handled, on any circuit, got
 /// in its step the replies that were due, each once and in order, before any later message was
 /// handled. They were due by what the server knew then: of its records, of the open channels and of
-/// the subscriptions that is what the lists and the log said. Any other reply about it came once its
-/// put was finished. This is the most of `answered` of the statement's clause `AnswersOwn`.
+/// the subscriptions that is what the lists and the log said. Its step logged the write that was due,
+/// if there was one, and besides only withdrawals. Any other reply about it is to a put, tells that it
+/// was done, and came once it was finished, before its channel was cleared. This is the most of
+/// `answered` of the statement's clause `AnswersOwn`.
 pub fn messages_are_answered()
     ensures { (s : Setting) (es : List Event) (stopped : Option Event) (w : World) → IsSetting s
         → Runs s es stopped w → AreAnswered w }

@@ -75,7 +75,7 @@ known-ticks s moment clients w new sound ticks k = record {
   lives = lives-grown w new (ticks-grown moment w clients new ticks) k.lives;
 }
 
-ticks-snoc : (moment : ℕ) (done : List ℕ) (w mid new : World) (i : ℕ) → FoldsTo (TicksOne moment) w done mid → TicksOne moment mid i new → FoldsTo (TicksOne moment) w (done ++ i ∷ []) new
+pub ticks-snoc : (moment : ℕ) (done : List ℕ) (w mid new : World) (i : ℕ) → FoldsTo (TicksOne moment) w done mid → TicksOne moment mid i new → FoldsTo (TicksOne moment) w (done ++ i ∷ []) new
 ticks-snoc moment [] w mid new i same one = (new, subst (λ (v : World). TicksOne moment v i new) (sym same) one, refl)
 ticks-snoc moment (k ∷ done) w mid new i (next, first, rest) one = (next, first, ticks-snoc moment done next mid new i rest one)
 
@@ -88,7 +88,7 @@ lost-ticks s moment base sound known done (i ∷ is) w new ticked (mid, one, res
 
 -- ---- events and runs
 
-plain-or : (e : Event) → IsPlain e ⊎ (((k : ℕ) × (e ≡ event.ClientStep k)) ⊎ ((moment : ℕ) × (e ≡ event.Tick moment)))
+pub plain-or : (e : Event) → IsPlain e ⊎ (((k : ℕ) × (e ≡ event.ClientStep k)) ⊎ ((moment : ℕ) × (e ≡ event.Tick moment)))
 plain-or (event.ClientStep k) = inr (inl (k, refl))
 plain-or (event.Tick moment) = inr (inr (moment, refl))
 plain-or (event.Open i name priority) = inl tt
@@ -172,14 +172,14 @@ module _ (s : Setting) (es : List Event) (w new : World) (ok : IsSetting s) (are
       runs-folds : Runs s es None w → FoldsTo Happens (opening s) es w
       runs-folds (mid, folds, same) = subst (λ (v : World). FoldsTo Happens (opening s) es v) (sym same) folds
 
-after-lost : (s : Setting) (es rest : List Event) (w new : World) → IsSetting s → AreEvents es → AreEvents rest → FoldsTo Happens (opening s) es w → FoldsTo Happens w rest new → LostStand w → LostStand new
+pub after-lost : (s : Setting) (es rest : List Event) (w new : World) → IsSetting s → AreEvents es → AreEvents rest → FoldsTo Happens (opening s) es w → FoldsTo Happens w rest new → LostStand w → LostStand new
 after-lost s es [] w new ok are more folds same all = subst (λ (v : World). LostStand v) same all
 after-lost s es (e ∷ rest) w new ok are more folds (mid, one, others) all =
     let longer : AreEvents (es ++ e ∷ []) = are-snoc es e are (more 0 e refl) in
     after-lost s (es ++ e ∷ []) rest mid new ok longer (λ i f at. more (suc i) f at) (folds-snoc es (opening s) w mid e folds one) others
     (event-stand s es w mid ok are (w, folds, refl) e longer one all)
 
-opening-lost : (s : Setting) → LostStand (opening s)
+pub opening-lost : (s : Setting) → LostStand (opening s)
 opening-lost s = record {
   spent = λ n c x p k a m kind r t q at at_x mine lt at_r at_s is_r is_s meant open_it. none_at n c at;
   lost = λ life x i intent at there.

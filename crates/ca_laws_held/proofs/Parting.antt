@@ -5,6 +5,7 @@ use Rattle.std.proofs.lemmas.Bool.{and_from, both_ways, eq-eqb}
 use Rattle.ca_text.specs.Place.{At}
 use Rattle.ca_text.proofs.Places.{At-after, At-map, At-mapped, some_is}
 use Rattle.ca_arena.specs.declared.handle.Handle.{Handle}
+use Rattle.ca_dbr.specs.Elements.{Elements}
 use Rattle.ca_dbr.specs.declared.value.Outcome.TheVariants as outcome
 use Rattle.ca_ids.specs.Table.{same_handle, under}
 use Rattle.ca_requests.specs.Requests.{asks_on}
@@ -12,7 +13,7 @@ use Rattle.ca_model.specs.Answers.{Closed, Closing, Left, NeedBytes, Notice, Not
 use Rattle.ca_model.specs.Answers as notice
 use Rattle.ca_model.specs.Client.{Client, ClientCircuit, Connection, Live, connection_at, disconnections, farewell}
 use Rattle.ca_model.specs.ClientEnds.{ConnectsOn, StepsOn, circuits_ticked}
-use Rattle.ca_model.specs.History.{Called, Clear, Line, OfCircuit, On}
+use Rattle.ca_model.specs.History.{Called, Clear, Intent, Line, OfCircuit, On}
 use Rattle.ca_model.specs.Speech.{In}
 use Rattle.ca_model_client.specs.Placed.{IsPlaced}
 use Rattle.ca_model_client.proofs.Handles.{same-is, same-itself}
@@ -21,7 +22,7 @@ use Rattle.ca_model_world.specs.ClientEvents.{HappensAccept, HappensClear, Happe
 use Rattle.ca_model_world.specs.Events.{Event}
 use Rattle.ca_model_world.specs.Events as event
 use Rattle.ca_model_world.specs.Runs.{Happens}
-use Rattle.ca_model_world.specs.World.{ClientSide, Joined, World, grown}
+use Rattle.ca_model_world.specs.World.{ClientSide, Joined, Names, World, grown}
 use Rattle.ca_laws_runs.specs.Circuit.{sent_to}
 use Rattle.ca_laws_runs.specs.Clients.{ClientsStand}
 use Rattle.ca_laws_runs.proofs.ClientsMore.{unconnected-is, wanted-there}
@@ -67,6 +68,7 @@ pub record Parted (w new : World) (l : ℕ) (y : List Line) (i : ℕ) (line : Li
   pub said : Notice
   pub tells : line ≡ line_of OfCircuit x.names said
   pub way : IsCut w new number x said ⊎ IsAway x said y i
+  pub calls : (q : ℕ) (intent : Intent) (e : Option Elements) → At lines q (Called intent e) → IsAway x said y i
 
 -- So it is of each line that is new and tells something.
 abbrev pub PartsFrom : (w new : World) → Type 0
@@ -75,12 +77,21 @@ PartsFrom w new = (l : ℕ) (y : List Line) (i : ℕ) (line : Line) → At new.c
 pub parts-silent : (w new : World) → LinesFrom IsSilent w new → PartsFrom w new
 parts-silent w new from l y i line at there = elim (from l y i line at there) [ inl old ↦ inl old | inr silent ↦ inr (inl silent) ]
 
+-- a notice is no call
+pub not-call : (about : Intent) (n : Names) (said : Notice) (intent : Intent) (e : Option Elements) → Called intent e ≡ line_of about n said → ⊥
+not-call about n (notice.Completed q out) intent e is = cc
+not-call about n (notice.Lost h) intent e is = cc
+not-call about n (notice.Live h) intent e is = cc
+not-call about n (notice.Update g out) intent e is = cc
+not-call about n (notice.SubscriptionEnded g s) intent e is = cc
+not-call about n (notice.WriteRefused h s) intent e is = cc
+
 parts-all : (w new : World) (number : ℕ) (x : ClientSide) (notices : List Notice) → At w.clients number x → HaveLives w → new.client_logs ≡ grown x.life (lines_of OfCircuit x.names notices) w.client_logs → ((p : ℕ) (said : Notice) → At notices p said → IsCut w new number x said) → PartsFrom w new
 parts-all w new number x notices at lives is cut l y i line at_y there = elim (lines-grown w.client_logs x.life (lines_of OfCircuit x.names notices) (lives.present number x at) l y i line (subst (λ (v : List (List Line)). At v l y) is at_y) there) [
   | inl old ↦ inl old
   | inr more ↦
       let m = At-mapped (line_of OfCircuit x.names) notices more.1 line more.5 in
-      inr (inr (record { number = number; x = x; at = at; mine = more.2; log = more.0; there = more.3; lines = lines_of OfCircuit x.names notices; whole = more.4; place = more.1; late = (more.6, more.5); said = m.0; tells = m.2; way = inl (cut more.1 m.0 m.1) }))
+      inr (inr (record { number = number; x = x; at = at; mine = more.2; log = more.0; there = more.3; lines = lines_of OfCircuit x.names notices; whole = more.4; place = more.1; late = (more.6, more.5); said = m.0; tells = m.2; way = inl (cut more.1 m.0 m.1); calls = λ q intent e at_q. (let v = At-mapped (line_of OfCircuit x.names) notices q (Called intent e) at_q in absurd (not-call OfCircuit x.names v.0 intent e v.2)) }))
 ]
 
 -- an end has ended
@@ -135,6 +146,13 @@ clear-parts w new i x c h at number lives happens = elim happens [
         let g = gone-open (asks_on h) x.core m q.0 (subst (λ (v : List Notice). At v m q.0) are q.1) in
         let first : At y (length log + 0) call = subst (λ (v : List Line). At v (length log + 0) call) (sym whole) (At-after log lines 0 call refl) in
         let early : length log + 0 < p = omega (arith, place) in
+        let away : IsAway x q.0 y p = record {
+          h = h;
+          q = g.0;
+          is = g.1;
+          was_open = g.2;
+          cleared = (length log + 0, subst (λ (v : ℕ). At (take p y) (length log + 0) (Called (On v Clear) None)) (sym number) (at-taken y p (length log + 0) call early first));
+        } in
         inr (record {
           number = i;
           x = x;
@@ -148,13 +166,8 @@ clear-parts w new i x c h at number lives happens = elim happens [
           late = (place, placed);
           said = q.0;
           tells = q.2;
-          way = inr (record {
-            h = h;
-            q = g.0;
-            is = g.1;
-            was_open = g.2;
-            cleared = (length log + 0, subst (λ (v : ℕ). At (take p y) (length log + 0) (Called (On v Clear) None)) (sym number) (at-taken y p (length log + 0) call early first));
-          });
+          way = inr away;
+          calls = λ k intent e at_k. away;
         })
       where
         at-taken : (xs : List Line) (n k : ℕ) (a : Line) → k < n → At xs k a → At (take n xs) k a

@@ -1,5 +1,5 @@
 -- Each reply by which a channel was created is told as it is read, or the channel is cleared, over every event and run.
-use Rattle.std.proofs.Common.{◌≡◌, ℕ, suc, ◌+◌, ◌<◌, ◌≤◌, ◌⊎◌, inl, inr, Bool, true, false, List, [], ◌∷◌, ◌++◌, length, Option, Some, None, refl, sym, ap, ◌∙◌, subst, arith}
+use Rattle.std.proofs.Common.{◌≡◌, ℕ, suc, ◌+◌, ◌<◌, ◌≤◌, ◌⊎◌, inl, inr, true, false, List, [], ◌∷◌, ◌++◌, length, Option, Some, None, refl, sym, ap, ◌∙◌, subst, arith}
 use Rattle.std.specs.Prelude.{option_and_then, option_map, slice_get, slice_set, unwrap_or}
 use Rattle.std.specs.List.{FoldsTo}
 use Rattle.std.proofs.lemmas.Bool.{both_ways}
@@ -20,7 +20,7 @@ use Rattle.ca_model.specs.ClientCalls.{clear_sent}
 use Rattle.ca_model.specs.ClientEnds.{after_taking}
 use Rattle.ca_model.specs.Hears.{Effect, Hears, created}
 use Rattle.ca_model.specs.Hears as hears
-use Rattle.ca_model.specs.History.{Ask, Circuit, Clear, Create, Intent, Line, Noticed, On, Reply, Sent, Step, Told}
+use Rattle.ca_model.specs.History.{Ask, Circuit, Clear, Create, Line, Noticed, On, Reply, Sent, Step, Told}
 use Rattle.ca_model.specs.Speech.{Cid, Creates, Is, Speaks}
 use Rattle.ca_model_client.proofs.Standings.{channel-on}
 use Rattle.ca_model_client.proofs.Tables.{under-wire}
@@ -30,8 +30,6 @@ use Rattle.ca_model_world.specs.Events as event
 use Rattle.ca_model_world.specs.Runs.{AreEvents, Happens, Runs, StopsAt, clients_below}
 use Rattle.ca_model_world.specs.ServerEvents.{StepHandles, handled_at}
 use Rattle.ca_model_world.specs.World.{ClientSide, IsSetting, Joined, ServerSide, Setting, World, circuit_of, log_length, opening, told, with_circuit}
-use Rattle.ca_laws_bytes.specs.Runs.{HearsSent}
-use Rattle.ca_laws_bytes.specs.ServerFits.{AllCaused}
 use Rattle.ca_laws_bytes.proofs.Causes.{runs-caused}
 use Rattle.ca_laws_bytes.proofs.ServerSpeaking.{runs-hear}
 use Rattle.ca_laws_circuit.specs.Flows.{Awaits, IsPending}
@@ -41,12 +39,10 @@ use Rattle.ca_laws_runs.specs.Circuit.{HeldOn, sent_to, stamped}
 use Rattle.ca_laws_writes.proofs.Lists.{none_at}
 use Rattle.ca_laws_writes.proofs.Midway.{set-here}
 use Rattle.ca_model_client.proofs.Thinner.{three-ways}
-use Rattle.ca_laws_held.specs.Answering.{AllAnswer}
 use Rattle.ca_laws_held.specs.Causes.{AllComeAfter}
 use Rattle.ca_laws_held.specs.Created.{AllCreated}
 use Rattle.ca_laws_held.specs.Held.{AllCircuitsHeld}
 use Rattle.ca_laws_held.specs.Quiet.{IsBeingCleared}
-use Rattle.ca_laws_held.specs.Tells.{NoticesTell}
 use Rattle.ca_laws_held.specs.ToldParts.{AreToldLive, CreationsAreTold, IsToldLive}
 use Rattle.ca_laws_held.specs.Under.{IsUse}
 use Rattle.ca_laws_held.proofs.CauseKeeps.{run-after}
@@ -62,9 +58,9 @@ use Rattle.ca_laws_held.proofs.OrderKeeps.{IsHearing, IsMade, begun-grown, begun
 use Rattle.ca_laws_held.proofs.Phases.{same-number}
 use Rattle.ca_laws_held.proofs.Replied.{reached-answer}
 use Rattle.ca_laws_held.proofs.Spent.{Known}
-use Rattle.ca_laws_held.proofs.ToldGrows.{Onward, WorldsOn, event-on, on-grown, onward-goes}
-use Rattle.ca_laws_held.proofs.ToldRemoval.{AllRemovals, run-removals}
-use Rattle.ca_laws_held.proofs.ToldSteps.{after, log-is, next}
+use Rattle.ca_laws_held.proofs.ToldGrows.{Onward, WorldsOn, event-on, on-grown}
+use Rattle.ca_laws_held.proofs.ToldRemoval.{run-removals}
+use Rattle.ca_laws_held.proofs.ToldSteps.{after, next}
 
 -- ---- what was told stays so
 
@@ -96,14 +92,21 @@ carry w new c d on o within about i a sid t h s at_t at_h reply creates at_s mea
     ]
 
 -- Each circuit was there and the same was read on it, or nothing was read on it, or what was read is told.
-abbrev ReadsSo : (w new : World) → Type 0
+abbrev pub ReadsSo : (w new : World) → Type 0
 ReadsSo w new = (n : ℕ) (d : Joined) → At new.circuits n d → ((c : Joined) × At w.circuits n c × (d.lists.heard ≡ c.lists.heard)) ⊎ ((d.lists.heard ≡ []) ⊎ AreToldLive (told new) d.lists)
 
-so-grown : (w new : World) → Grown w new → ReadsSo w new
-so-grown w new g n d at = (let c = g.back n d at in inl (c.0, c.1, c.2.heard))
+-- Nothing was read on it.
+abbrev pub ReadsNone : (w new : World) → Type 0
+ReadsNone w new = (n : ℕ) (d : Joined) → At new.circuits n d → ((c : Joined) × At w.circuits n c × (d.lists.heard ≡ c.lists.heard)) ⊎ (d.lists.heard ≡ [])
 
-so-handled : (w new : World) (k : ℕ) (j : Joined) (y : ServerSide) → At w.circuits k j → StepHandles w k j y new → ReadsSo w new
-so-handled w new k j y on f = subst (λ (z : World). ReadsSo w z) (sym f.leaves) (go (slice_get after_did.circuits k) refl)
+reads-so : (w new : World) → ReadsNone w new → ReadsSo w new
+reads-so w new none n d at = elim (none n d at) [ inl old ↦ inl old | inr fresh ↦ inr (inl fresh) ]
+
+pub none-grown : (w new : World) → Grown w new → ReadsNone w new
+none-grown w new g n d at = (let c = g.back n d at in inl (c.0, c.1, c.2.heard))
+
+pub none-handled : (w new : World) (k : ℕ) (j : Joined) (y : ServerSide) → At w.circuits k j → StepHandles w k j y new → ReadsNone w new
+none-handled w new k j y on f = subst (λ (z : World). ReadsNone w z) (sym f.leaves) (go (slice_get after_did.circuits k) refl)
   where
     after_did : World
     after_did = did-after w new k j y on f
@@ -111,14 +114,17 @@ so-handled w new k j y on f = subst (λ (z : World). ReadsSo w z) (sym f.leaves)
     step : Step
     step = did-step w new k j y on f
 
-    go : (o : Option Joined) → slice_get after_did.circuits k ≡ o → ReadsSo w (unwrap_or (option_map (λ (c : Joined). with_circuit k (handled_at (length j.lists.handled) step (f.steps.0).replies c) after_did) o) after_did)
-    go None is = so-grown w after_did (did-grown w new k j y on f)
+    go : (o : Option Joined) → slice_get after_did.circuits k ≡ o → ReadsNone w (unwrap_or (option_map (λ (c : Joined). with_circuit k (handled_at (length j.lists.handled) step (f.steps.0).replies c) after_did) o) after_did)
+    go None is = none-grown w after_did (did-grown w new k j y on f)
     go (Some c) is = λ n d at. elim (At-set after_did.circuits k (handled_at (length j.lists.handled) step (f.steps.0).replies c) n d at) [
       | inr old ↦ (let b = (did-grown w new k j y on f).back n d old.0 in inl (b.0, b.1, b.2.heard))
       | inl own ↦
           let b = (did-grown w new k j y on f).back k c is in
           inl (b.0, subst (λ (m : ℕ). At w.circuits m b.0) (sym own.0) b.1, ap (λ (z : Joined). z.lists.heard) own.1 ∙ b.2.heard)
     ]
+
+pub so-grown : (w new : World) → Grown w new → ReadsSo w new
+so-grown w new g = reads-so w new (none-grown w new g)
 
 so-hearing : (w new : World) (k : ℕ) (j : Joined) (x : ClientSide) (on : At w.circuits k j) (at : At w.clients j.client x) (f : IsHearing w new k j x) → ((d : Joined) → At new.circuits k d → AreToldLive (told new) d.lists) → ReadsSo w new
 so-hearing w new k j x on at f own n d there =
@@ -128,15 +134,15 @@ so-hearing w new k j x on at f own n d there =
       | inl here ↦ inr (inr (own d (subst (λ (m : ℕ). At new.circuits m d) here.0 there)))
     ]
 
-so-made : (w new : World) (i : ℕ) (x : ClientSide) (at : At w.clients i x) (f : IsMade w new i x) → ReadsSo w new
-so-made w new i x at f n d there =
+pub none-made : (w new : World) (i : ℕ) (x : ClientSide) (at : At w.clients i x) (f : IsMade w new i x) → ReadsNone w new
+none-made w new i x at f n d there =
     let c = (f.goes).back n d there in
     elim (At-snoc w.circuits f.c n c.0 (subst (λ (l : List Joined). At l n c.0) f.circuits c.1)) [
       | inl old ↦ inl (c.0, old, c.2.heard)
-      | inr last ↦ inr (inl (c.2.heard ∙ ap (λ (z : Joined). z.lists.heard) last.1 ∙ f.heard))
+      | inr last ↦ inr (c.2.heard ∙ ap (λ (z : Joined). z.lists.heard) last.1 ∙ f.heard)
     ]
 
-told-on : (w new : World) → AllCircuitsHeld w → WorldsOn w new → ReadsSo w new → AllToldLive w → AllToldLive new
+pub told-on : (w new : World) → AllCircuitsHeld w → WorldsOn w new → ReadsSo w new → AllToldLive w → AllToldLive new
 told-on w new held on so all n d at = elim (so n d at) [
   | inr (inr own) ↦ own
   | inr (inl none) ↦ λ i a sid t h s at_t at_h reply creates at_s meant. absurd (none_at i h (subst (λ (l : List Step). At l i h) none at_h))
@@ -147,7 +153,7 @@ told-on w new held on so all n d at = elim (so n d at) [
       let o = on.circuits n old.0 old.1 in
       let goes : Onward old.0 d = subst (λ (v : Joined). Onward old.0 v) (At-one new.circuits n o.0 d o.1 at) o.2 in
       λ i a sid t h s at_t at_h reply creates at_s meant.
-          carry w new old.0 d on goes mine.flows.within mine.flows.about i a sid t h s at_t (subst (λ (l : List Step). At l i h) old.2 at_h) reply creates at_s meant (all n old.0 old.1)
+      carry w new old.0 d on goes mine.flows.within mine.flows.about i a sid t h s at_t (subst (λ (l : List Step). At l i h) old.2 at_h) reply creates at_s meant (all n old.0 old.1)
 ]
 
 -- ---- the reply that is read
@@ -184,7 +190,7 @@ creates-so x c m e (hears.Other is does) z = absurd (others m is z)
 clear-create : (a b : ℕ) → On a Clear ≡ On b Create → ⊥
 clear-create a b e = cc
 
-create-used : (ask : Ask) → ask ≡ Create → IsUse ask → ⊥
+pub create-used : (ask : Ask) → ask ≡ Create → IsUse ask → ⊥
 create-used ask is uses = subst (λ (z : Ask). IsUse z) is uses
 
 module _ (w new : World) (k : ℕ) (j : Joined) (x : ClientSide) (on : At w.circuits k j) (at : At w.clients j.client x) (opened : j.lists.client_open ≡ true) (f : IsHearing w new k j x)
@@ -337,7 +343,7 @@ module _ (s : Setting) (es : List Event) (w new : World) (ok : IsSetting s) (are
   event-so : (e : Event) → Happens w e new → AllToldLive w → ReadsSo w new
   event-so e happens all = each-event (ReadsSo w new) w new (so-grown w new)
       (λ k f. elim (step-grown w new k f.0.j f.0.y f.1.0 f.0.joins.at f.1.1) [
-        | inl handles ↦ so-handled w new k f.0.j f.0.y f.0.joins.at handles
+        | inl handles ↦ reads-so w new (none-handled w new k f.0.j f.0.y f.0.joins.at handles)
         | inr g ↦ so-grown w new g
       ])
       (λ k f. elim (hearing-or w new k f.0.j f.0.x f.0.joins.at f.0.joins.client f.1) [
@@ -345,7 +351,7 @@ module _ (s : Setting) (es : List Event) (w new : World) (ok : IsSetting s) (are
         | inr g ↦ so-grown w new g
       ])
       (λ i f. elim (made-or w new i f) [
-        | inl made ↦ so-made w new i f.0.x f.0.at made
+        | inl made ↦ reads-so w new (none-made w new i f.0.x f.0.at made)
         | inr g ↦ so-grown w new g
       ])
       (λ i f. subst (λ (z : World). ReadsSo w z) (sym f.1) (so-grown w (begun-mid w new i f.0.x f.1) (begun-grown w new i f.0.x f.1))) e happens

@@ -123,7 +123,7 @@ pub noticed-outcome : (a b : Intent) (c d : Outcome) → Noticed a c ≡ Noticed
 noticed-outcome a b c d e = cc
 
 -- a request is none
-no-request : (named : List (Handle × Intent)) (q : Handle) → ((i : ℕ) (e : Handle × Intent) → At named i e → (a : ℕ) × (kind : history.Kind) × (e.1 ≡ history.On a (history.Request kind i))) → IsToLast (meant_by named q) → ⊥
+pub no-request : (named : List (Handle × Intent)) (q : Handle) → ((i : ℕ) (e : Handle × Intent) → At named i e → (a : ℕ) × (kind : history.Kind) × (e.1 ≡ history.On a (history.Request kind i))) → IsToLast (meant_by named q) → ⊥
 no-request named q asked lasts = go (find (λ (e : Handle × Intent). same_handle e.0 q) named) refl lasts
   where
     go : (o : Option (Handle × Intent)) → find (λ (e : Handle × Intent). same_handle e.0 q) named ≡ o → IsToLast (unwrap_or (option_map (λ (e : Handle × Intent). e.1) o) history.OfCircuit) → ⊥

@@ -1,22 +1,21 @@
 -- After every run each notice of a request that does not tell Disconnected was told when a reply about it was read; and a plain write is told of once.
-use Rattle.std.proofs.Common.{◌≡◌, ℕ, ◌⊎◌, inl, inr, List, ◌∷◌, Option, Some, None, refl, sym, ap, subst, ◌∙◌, arith}
+use Rattle.std.proofs.Common.{◌≡◌, ℕ, List, Option, None, refl, sym, subst, ◌∙◌}
 use Rattle.ca_dbr.specs.declared.value.Outcome.{Outcome}
 use Rattle.ca_dbr.specs.declared.value.Outcome.TheVariants as outcome
 use Rattle.ca_text.specs.Place.{At}
-use Rattle.ca_text.proofs.Places.{At-map, At-one}
+use Rattle.ca_text.proofs.Places.{At-map}
 use Rattle.ca_model.specs.Answers.{Notice}
 use Rattle.ca_model.specs.Answers as answer
-use Rattle.ca_model.specs.History.{Intent, Line, Noticed, On, Create, Reply, Sent, Step, Told}
-use Rattle.ca_model.specs.History as history
-use Rattle.ca_model_safe.specs.Channels.{IsRequest, IsUse, OfClients, Suits}
+use Rattle.ca_model.specs.History.{Intent, Line, Noticed, On, Create, Sent}
+use Rattle.ca_model_safe.specs.Channels.{IsRequest}
 use Rattle.ca_model_world.specs.ClientEvents.{channel_number, line_of, meant_by}
 use Rattle.ca_model_world.specs.Events.{Event}
 use Rattle.ca_model_world.specs.Runs.{AreEvents, Runs}
-use Rattle.ca_model_world.specs.World.{IsSetting, Joined, Names, Setting, World, told}
+use Rattle.ca_model_world.specs.World.{IsSetting, Names, Setting, World}
 use Rattle.ca_laws_bytes.proofs.Causes.{runs-caused}
 use Rattle.ca_laws_bytes.proofs.Runs.{runs-stand}
 use Rattle.ca_laws_bytes.proofs.ServerSpeaking.{runs-hear}
-use Rattle.ca_laws_held.specs.ToldParts.{RequestsAreTold, UsesAreToldOnce}
+use Rattle.ca_laws_held.specs.ToldParts.{RequestsAreTold}
 use Rattle.ca_laws_held.proofs.Joint.{run-held, run-tells}
 use Rattle.ca_laws_held.proofs.Kept.{quiet-runs}
 use Rattle.ca_laws_held.proofs.OnceRuns.{once-runs}
@@ -24,7 +23,7 @@ use Rattle.ca_laws_held.proofs.OpenRuns.{open-runs}
 use Rattle.ca_laws_held.proofs.OrderKeeps.{run-lives}
 use Rattle.ca_laws_held.proofs.Replied.{reached-answer}
 use Rattle.ca_laws_held.proofs.ToldLines.{IsSilent}
-use Rattle.ca_laws_held.proofs.ToldQuiet.{IsGoodbye, covers-not}
+use Rattle.ca_laws_held.proofs.ToldQuiet.{IsGoodbye}
 use Rattle.ca_laws_held.proofs.ToldRemoval.{run-removals}
 use Rattle.ca_laws_held.proofs.ToldRequests.{TellsRequest, request-news}
 use Rattle.ca_laws_held.proofs.ToldRuns.{HearsNews, run-updates}

@@ -2,7 +2,7 @@ ghost use Rattle.std.specs.Prelude.{List, Option};
 ghost use Rattle.ca_model_world.specs.Events.{Event};
 ghost use Rattle.ca_model_world.specs.Runs.{AreEvents, Runs};
 ghost use Rattle.ca_model_world.specs.World.{IsSetting, Setting, World, told};
-ghost use Rattle.ca_laws_held.specs.ToldParts.{CreationsAreTold, DoneIsApplied, FailedIsNot, NoticesAreTold, RequestsAreTold, UsesAreToldOnce};
+ghost use Rattle.ca_laws_held.specs.ToldParts.{CreationsAreTold, DoneIsApplied, FailedIsNot, LostWereLive, NoneIsLostSince, NoticesAreTold, RequestsAreTold, UsesAreToldOnce};
 
 /// After every run from a well-formed setting by well-formed events, each notice of a read, a put or a
 /// plain write that does not tell Disconnected was told when a message was read: the reply to that very
@@ -46,4 +46,21 @@ pub fn notices_are_told_of_their_own()
 pub fn creations_are_told()
     ensures { (s : Setting) (es : List Event) (stopped : Option Event) (w : World) → IsSetting s
         → AreEvents es → Runs s es stopped w → CreationsAreTold (told w) }
+{}
+
+/// After every such run a channel that its caller is told to be lost was told to be live before, as
+/// the reply was read by which it was created on its circuit; and the client's end of that circuit has
+/// ended, or the SERVER_DISCONN for that creation was read in the step that told the loss. Its caller
+/// had not cleared it. This is `lost` of the clause, but that no other loss was told between.
+pub fn lost_channels_were_live()
+    ensures { (s : Setting) (es : List Event) (stopped : Option Event) (w : World) → IsSetting s
+        → AreEvents es → Runs s es stopped w → LostWereLive w }
+{}
+
+/// After every such run, while the client's end of a circuit is open and the SID of a channel was not
+/// cleared there since a reply that was read created it, no loss of that channel was told since. By it
+/// no loss was told between the two lines of the law before, but in the event that told the second.
+pub fn live_channels_were_not_lost()
+    ensures { (s : Setting) (es : List Event) (stopped : Option Event) (w : World) → IsSetting s
+        → AreEvents es → Runs s es stopped w → NoneIsLostSince (told w) }
 {}
