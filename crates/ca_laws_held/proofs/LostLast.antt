@@ -1,16 +1,12 @@
 -- A channel that is told lost was not told lost since it was told live, over every event and run.
 use Rattle.std.proofs.Common.{◌≡◌, ℕ, suc, ◌+◌, ◌<◌, ◌≤◌, ◌⊎◌, inl, inr, false, true, List, [], ◌∷◌, ◌++◌, length, Option, Some, None, refl, sym, ap, ◌∙◌, subst, arith}
 use Rattle.std.specs.List.{FoldsTo}
-use Rattle.std.specs.Prelude.{take}
 use Rattle.std.proofs.lemmas.Bool.{both_ways}
 use Rattle.ca_text.specs.Place.{At}
 use Rattle.ca_text.specs.declared.command.Command.TheVariants as command
-use Rattle.ca_text.proofs.Places.{At-append, At-last, At-map, At-mapped, At-one, At-or, At-parts, At-within}
+use Rattle.ca_text.proofs.Places.{At-map, At-mapped, At-one, At-or, At-within}
 use Rattle.ca_arena.specs.declared.handle.Handle.{Handle}
-use Rattle.ca_dbr.specs.declared.value.Outcome.{Outcome}
 use Rattle.ca_dbr.specs.declared.value.Outcome.TheVariants as outcome
-use Rattle.ca_ids.specs.Table.{under}
-use Rattle.ca_requests.specs.Meaning.{Means}
 use Rattle.ca_wire.specs.Fields.{Fields}
 use Rattle.ca_model.specs.Answers.{Notice, Sending}
 use Rattle.ca_model.specs.Answers as answer
@@ -19,14 +15,12 @@ use Rattle.ca_model.specs.ClientEnds.{StepsOn, after_taking}
 use Rattle.ca_model.specs.Hears.{Effect}
 use Rattle.ca_model.specs.History.{Circuit}
 use Rattle.ca_model_world.specs.World.{told}
-use Rattle.ca_model.specs.History.{Ask, Called, Clear, Create, Intent, Line, Noticed, OfCircuit, On, Removal, Reply, Sent, Step, Told}
-use Rattle.ca_model.specs.Speech.{Cid, In, Speaks}
-use Rattle.ca_model_client.proofs.Thinner.{three-ways}
+use Rattle.ca_model.specs.History.{Create, Intent, Line, Noticed, OfCircuit, On, Removal, Reply, Sent, Step, Told}
 use Rattle.ca_model_world.specs.ClientEvents.{TicksOne, about_at, channel_number, client_stepped, line_of, meant_by}
 use Rattle.ca_model_world.specs.Events.{Event}
 use Rattle.ca_model_world.specs.Events as event
 use Rattle.ca_model_world.specs.Runs.{AreEvents, Happens, Runs, StopsAt, clients_below}
-use Rattle.ca_model_world.specs.World.{ClientSetting, ClientSide, IsSetting, Joined, Setting, World, circuit_of, log_length, opening}
+use Rattle.ca_model_world.specs.World.{ClientSide, IsSetting, Joined, Setting, World, circuit_of, log_length, opening}
 use Rattle.ca_laws_bytes.specs.Runs.{HearsSent}
 use Rattle.ca_laws_bytes.specs.ServerFits.{AllCaused}
 use Rattle.ca_laws_bytes.proofs.Causes.{runs-caused}
@@ -35,33 +29,28 @@ use Rattle.ca_laws_bytes.proofs.ServerSpeaking.{runs-hear}
 use Rattle.ca_laws_kept.specs.Kept.{kept}
 use Rattle.ca_laws_runs.specs.Circuit.{HeldOn}
 use Rattle.ca_laws_writes.specs.Seats.{Sound}
-use Rattle.ca_laws_writes.proofs.Lists.{At-take, none_at, take-front}
+use Rattle.ca_laws_writes.proofs.Lists.{none_at}
 use Rattle.ca_laws_held.specs.Answering.{AllAnswer}
 use Rattle.ca_laws_held.specs.Sides.{IsLiveAs}
 use Rattle.ca_laws_held.specs.Tells.{NoticesTell}
 use Rattle.ca_laws_held.specs.ToldLines.{IsToLast}
 use Rattle.ca_laws_held.specs.ToldParts.{NoneIsLostSince}
-use Rattle.ca_laws_held.specs.Under.{IsUse}
 use Rattle.ca_laws_held.proofs.Farewell.{FromFarewell}
-use Rattle.ca_laws_held.proofs.Heard.{created-before}
 use Rattle.ca_laws_held.proofs.Joint.{are-snoc, folds-snoc, run-tells}
 use Rattle.ca_laws_held.proofs.LegalRemovals.{AllRemovedRight, run-right}
 use Rattle.ca_laws_held.proofs.Lost.{left-about}
 use Rattle.ca_laws_held.proofs.LostRuns.{after-lost, known-runs, known-ticks, opening-lost, plain-or, ticks-snoc}
-use Rattle.ca_laws_held.proofs.OnceLess.{is_gone}
 use Rattle.ca_laws_held.proofs.OrderGrows.{ticks-grown}
 use Rattle.ca_laws_held.proofs.OrderKeeps.{IsHearing, hear-lines, hear-step}
-use Rattle.ca_laws_held.proofs.Parting.{IsAway, IsCut, Parted, PartsFrom, closed-parts, event-parts, not-call, parts-silent, tick-parts}
+use Rattle.ca_laws_held.proofs.Parting.{IsAway, IsCut, Parted, PartsFrom, closed-parts, event-parts, parts-silent, tick-parts}
 use Rattle.ca_laws_held.proofs.Replied.{reached-answer}
 use Rattle.ca_laws_held.proofs.Spent.{AllSpent, Known}
 use Rattle.ca_laws_held.proofs.ToldAsked.{tells-asked}
-use Rattle.ca_laws_held.proofs.ToldCreated.{AllToldLive, create-used, run-told-live, so-grown, told-on}
-use Rattle.ca_laws_held.proofs.ToldGrows.{Onward, WorldsOn, event-on, on-grown, onward-goes}
+use Rattle.ca_laws_held.proofs.ToldGrows.{Onward, WorldsOn, event-on, on-grown}
 use Rattle.ca_laws_held.proofs.ToldLines.{lines-grown, lines-same}
 use Rattle.ca_laws_held.proofs.ToldLines.{IsSilent}
 use Rattle.ca_laws_held.proofs.ToldRemoval.{AllRemovals, run-removals}
-use Rattle.ca_laws_held.proofs.ToldRuns.{run-lasting}
-use Rattle.ca_laws_held.proofs.ToldSteps.{after, log-is, next, no-request, noticed-intent, noticed-outcome}
+use Rattle.ca_laws_held.proofs.ToldSteps.{next, no-request, noticed-intent, noticed-outcome}
 use Rattle.std.proofs.Common.{Bool, eqb}
 use Rattle.std.specs.Prelude.{slice_set, unwrap_or}
 use Rattle.ca_model_client.proofs.Standings.{channel-on}
@@ -83,10 +72,9 @@ use Rattle.ca_laws_writes.proofs.Midway.{set-here}
 use Rattle.ca_laws_held.proofs.Live.{one-sid}
 use Rattle.ca_laws_held.proofs.LostLive.{create-number}
 use Rattle.ca_laws_held.proofs.OnceSent.{there-sent}
-use Rattle.ca_laws_held.proofs.OrderGrows.{Grown, each-event, step-grown}
+use Rattle.ca_laws_held.proofs.OrderGrows.{each-event, step-grown}
 use Rattle.ca_laws_held.proofs.OrderKeeps.{begun-grown, begun-mid, hear-grown, hearing-or, made-or}
 use Rattle.ca_laws_held.proofs.Says.{one-handle}
-use Rattle.ca_laws_held.proofs.ToldAsked.{IsLeft}
 use Rattle.ca_laws_held.proofs.ToldCreated.{ReadsNone, none-grown, none-handled, none-made}
 
 -- ---- a channel that was created and not cleared since was not told lost

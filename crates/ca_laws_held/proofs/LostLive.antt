@@ -4,10 +4,8 @@ use Rattle.std.specs.List.{FoldsTo}
 use Rattle.std.specs.Prelude.{take}
 use Rattle.std.proofs.lemmas.Bool.{both_ways}
 use Rattle.ca_text.specs.Place.{At}
-use Rattle.ca_text.specs.declared.command.Command.TheVariants as command
 use Rattle.ca_text.proofs.Places.{At-append, At-last, At-map, At-mapped, At-one, At-or, At-parts, At-within}
 use Rattle.ca_arena.specs.declared.handle.Handle.{Handle}
-use Rattle.ca_dbr.specs.declared.value.Outcome.{Outcome}
 use Rattle.ca_dbr.specs.declared.value.Outcome.TheVariants as outcome
 use Rattle.ca_ids.specs.Table.{under}
 use Rattle.ca_requests.specs.Meaning.{Means}
@@ -16,7 +14,6 @@ use Rattle.ca_model.specs.Answers.{Notice, Sending}
 use Rattle.ca_model.specs.Answers as answer
 use Rattle.ca_model.specs.Client.{Client, Live, connection_at}
 use Rattle.ca_model.specs.ClientEnds.{StepsOn, after_taking}
-use Rattle.ca_model.specs.Hears.{Effect}
 use Rattle.ca_model.specs.History.{Ask, Called, Clear, Create, Intent, Line, Noticed, OfCircuit, On, Removal, Reply, Sent, Step, Told}
 use Rattle.ca_model.specs.Speech.{Cid, In, Speaks}
 use Rattle.ca_model_client.proofs.Thinner.{three-ways}
@@ -38,7 +35,7 @@ use Rattle.ca_laws_held.specs.Answering.{AllAnswer}
 use Rattle.ca_laws_held.specs.Sides.{IsLiveAs}
 use Rattle.ca_laws_held.specs.Tells.{NoticesTell}
 use Rattle.ca_laws_held.specs.ToldLines.{IsToLast}
-use Rattle.ca_laws_held.specs.ToldParts.{LostWereLive, WasLive}
+use Rattle.ca_laws_held.specs.ToldParts.{LostWereLive}
 use Rattle.ca_laws_held.specs.Under.{IsUse}
 use Rattle.ca_laws_held.proofs.Farewell.{FromFarewell}
 use Rattle.ca_laws_held.proofs.Heard.{created-before}
@@ -54,7 +51,7 @@ use Rattle.ca_laws_held.proofs.Replied.{reached-answer}
 use Rattle.ca_laws_held.proofs.Spent.{AllSpent, Known}
 use Rattle.ca_laws_held.proofs.ToldAsked.{tells-asked}
 use Rattle.ca_laws_held.proofs.ToldCreated.{AllToldLive, create-used, run-told-live, so-grown, told-on}
-use Rattle.ca_laws_held.proofs.ToldGrows.{Onward, WorldsOn, event-on, on-grown, onward-goes}
+use Rattle.ca_laws_held.proofs.ToldGrows.{Onward, WorldsOn, event-on, on-grown}
 use Rattle.ca_laws_held.proofs.ToldLines.{lines-grown, lines-same}
 use Rattle.ca_laws_held.proofs.ToldLines.{IsSilent}
 use Rattle.ca_laws_held.proofs.ToldRemoval.{AllRemovals, run-removals}

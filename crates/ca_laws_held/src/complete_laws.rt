@@ -58,8 +58,8 @@ pub fn lost_channels_were_live()
 {}
 
 /// After every such run, while the client's end of a circuit is open and the SID of a channel was not
-/// cleared there since a reply that was read created it, no loss of that channel was told since. By it
-/// no loss was told between the two lines of the law before, but in the event that told the second.
+/// cleared there since a reply that was read created it, no loss of that channel was told since. This
+/// is the core of what `lost` of the clause says of the lines between.
 pub fn live_channels_were_not_lost()
     ensures { (s : Setting) (es : List Event) (stopped : Option Event) (w : World) → IsSetting s
         → AreEvents es → Runs s es stopped w → NoneIsLostSince (told w) }
