@@ -10,14 +10,22 @@ use std::process::ExitCode;
 fn main(rt: HostRuntime) -> ExitCode {
     let mut err = rt.stderr();
     let status = match words(&rt) {
-        Ok(Some(words)) => ca::run(
-            &rt,
-            rt.alloc(),
-            words.as_slice(),
-            &mut Reader::new(rt.stdin()),
-            &mut Writer::new(rt.stdout()),
-            &mut err,
-        ),
+        Ok(Some(words)) => {
+            let mut sink = Writer::new(rt.stdout());
+            // The lines that take threads are `ca_tools`', the others `ca`'s.
+            if ca_tools::takes(words.as_slice()) {
+                ca_tools::run(rt, rt.alloc(), words.as_slice(), &mut sink, &mut err)
+            } else {
+                ca::run(
+                    &rt,
+                    rt.alloc(),
+                    words.as_slice(),
+                    &mut Reader::new(rt.stdin()),
+                    &mut sink,
+                    &mut err,
+                )
+            }
+        }
         Ok(None) => ca::not_understood(&mut err),
         Err(refusal) => ca::report(Err(refusal), &mut err),
     };

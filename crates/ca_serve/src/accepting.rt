@@ -1,27 +1,43 @@
 ghost use Rattle.std.specs.Prelude.{◌≡◌, ◌+◌, ◌-◌, ◌^◌, vec_len};
 
-use crate::circuit::{Circuit, Gathered, Line};
-use crate::locked::Shared;
+use crate::circuit::{Circuit, Gathered};
+use crate::line::{Line, ROOM};
+use crate::locked::{Bell, Shared};
 use crate::processing::Device;
 use crate::work::started_or_ended;
 use ca_arena::Handle;
 use ca_text::Refusal;
-use mio::net::TcpStream;
-use mio::{Events, Interest, Poll, Token};
+use mio::net::{TcpListener, TcpStream};
+use mio::{Events, Interest, Poll, Token, Waker};
 use std::alloc::Global;
-use std::net::{Net, TcpListener};
+use std::net::Net;
 use std::sync::atomic::{AtomicBool, Ordering};
 use std::sync::ledger::{Ledger, Share};
 use std::sync::{Arc, Wait};
-use std::thread;
 use std::thread::{JoinHandle, Threads};
 use std::time::{Clock, Duration};
+use std::{io, thread};
 
 // Circuits at a time, at most.
 const MOST_CIRCUITS: usize = 65_536;
 
-// Bytes of a circuit that are read at once.
-const READ: usize = 65_536;
+/// What a socket's readiness is told under, and a wake.
+pub(crate) const SOCKET: Token = Token(0);
+
+const WAKER: Token = Token(1);
+
+// After a connection that could not be taken nothing is taken for so many milliseconds.
+const PAUSE: u64 = 10;
+
+/// Where connections come in.
+#[derive(Drop)]
+pub(crate) struct Door {
+    pub(crate) listener: TcpListener,
+    pub(crate) poll: Poll,
+    pub(crate) events: Events<Global>,
+    /// A descriptor that is given up to take a connection for which there is none, and to close it.
+    pub(crate) spare: Option<Poll>,
+}
 
 /// A circuit's thread that was started, and whether it is done.
 #[derive(Drop)]
@@ -47,7 +63,7 @@ pub(crate) fn accept_all<
     rt: R,
     alloc: Global,
     shared: &Arc<Shared<L, D>>,
-    listener: &TcpListener,
+    door: &mut Door,
     circuits: Option<u64>,
     running: &mut Vec<Running<L>>,
     all: &mut Share<L>,
@@ -55,31 +71,43 @@ pub(crate) fn accept_all<
     requires { all.old.parts + vec_len running.old ≡ 2 ^ 64 - 1 }
     ensures { all.new.parts + vec_len running.new ≡ 2 ^ 64 - 1 }
 {
+    let mut reaped = 0u64;
     for _ in rt.forever() {
-        if is_done(&rt, shared, circuits) {
+        let (closed, is_ending) = closed_by_now(&rt, shared);
+        if is_ending || circuits.is_some_and(|circuits| closed >= circuits) {
             break;
         }
-        reap(&rt, running, all);
-        match listener.accept() {
+        if closed != reaped {
+            reap(&rt, running, all);
+            reaped = closed;
+        }
+        match door.listener.accept() {
             Ok((stream, _)) => accept_one(rt, alloc, shared, stream, running, all),
-            Err(_) => thread::sleep(&rt, Duration::from_millis(5)),
+            Err(error) => door.wait(&rt, &error),
         }
     }
 }
 
-fn is_done<L: Ledger, D: Device, R: Wait>(
-    rt: &R,
-    shared: &Shared<L, D>,
-    circuits: Option<u64>,
-) -> bool {
+impl Door {
+    // Waits until a connection may be there, or the thread is woken. If none could be taken though one was there, it is closed.
+    fn wait<R: Net + Clock>(&mut self, rt: &R, error: &io::Error) {
+        if error.kind() == io::ErrorKind::WouldBlock {
+            if self.poll.poll(&mut self.events, None).is_ok() {
+                return;
+            }
+        } else {
+            self.spare = None;
+            let _closed = self.listener.accept();
+            self.spare = Poll::new(rt).ok();
+        }
+        thread::sleep(rt, Duration::from_millis(PAUSE));
+    }
+}
+
+// How many circuits were closed, and whether the server is to end.
+fn closed_by_now<L: Ledger, D: Device, R: Wait>(rt: &R, shared: &Shared<L, D>) -> (u64, bool) {
     let guard = shared.locked.lock(rt);
-    if guard.ending {
-        return true;
-    }
-    match circuits {
-        None => false,
-        Some(circuits) => guard.closed >= circuits,
-    }
+    (guard.closed, guard.ending)
 }
 
 // A connection for which there is no room is closed: its stream is dropped.
@@ -91,7 +119,7 @@ fn accept_one<
     rt: R,
     alloc: Global,
     shared: &Arc<Shared<L, D>>,
-    stream: std::net::TcpStream,
+    stream: TcpStream,
     running: &mut Vec<Running<L>>,
     all: &mut Share<L>,
 )
@@ -101,10 +129,10 @@ fn accept_one<
     if running.len() >= MOST_CIRCUITS || running.reserve(1).is_err() {
         return;
     }
-    let Ok(accepted) = prepared(&rt, alloc, shared, stream) else {
+    let Ok((accepted, waker)) = prepared(&rt, alloc, shared, stream) else {
         return;
     };
-    let Ok(circuit) = shared.locked.lock(&rt).state.accept() else {
+    let Some(circuit) = entered(&rt, shared, waker, &accepted.done) else {
         return;
     };
     let share = all.split_off(1, 0);
@@ -117,22 +145,45 @@ fn accept_one<
     }
 }
 
+// The circuit of a connection, whose thread is woken by this waker. Without memory for that the thread is to close it at once.
+fn entered<L: Ledger, D: Device, R: Wait>(
+    rt: &R,
+    shared: &Shared<L, D>,
+    waker: Waker,
+    is_to_end: &AtomicBool,
+) -> Option<Handle> {
+    let mut guard = shared.locked.lock(rt);
+    let locked = &mut *guard;
+    let Ok(circuit) = locked.state.accept() else {
+        return None;
+    };
+    let bell = Bell {
+        circuit,
+        waker,
+        is_idle: false,
+    };
+    if locked.bells.insert(circuit.index, bell).is_err() {
+        is_to_end.store(true, Ordering::SeqCst);
+    }
+    Some(circuit)
+}
+
 fn prepared<L: Ledger, D: Device, R: Net>(
     rt: &R,
     alloc: Global,
     shared: &Arc<Shared<L, D>>,
-    stream: std::net::TcpStream,
-) -> Result<Accepted<L, D>, Refusal> {
-    if stream.set_nonblocking(true).is_err() || stream.set_nodelay(true).is_err() {
+    stream: TcpStream,
+) -> Result<(Accepted<L, D>, Waker), Refusal> {
+    if stream.set_nodelay(true).is_err() {
         return Err(Refusal::Device);
     }
-    let Ok(poll) = Poll::new(rt) else {
-        return Err(Refusal::Device);
-    };
-    let mut stream = TcpStream::from_std(stream);
-    let Ok(()) = poll
-        .registry()
-        .register(&mut stream, Token(0), Interest::READABLE)
+    let mut stream = stream;
+    let (poll, waker) = new_poll(rt)?;
+    let Ok(()) = poll.registry().register(
+        &mut stream,
+        SOCKET,
+        Interest::READABLE | Interest::WRITABLE,
+    )
     else {
         return Err(Refusal::Device);
     };
@@ -141,14 +192,28 @@ fn prepared<L: Ledger, D: Device, R: Net>(
         stream,
         poll,
         events: Events::with_capacity(alloc, 4)?,
-        buffer: vec![in alloc; 0; READ]?,
+        input: vec![in alloc; 0; ROOM]?,
+        output: Vec::with_capacity(alloc, ROOM)?,
+        written: 0,
         done: Arc::try_clone(&done)?,
     };
-    Ok(Accepted {
+    let accepted = Accepted {
         shared: Arc::try_clone(shared)?,
         line,
         done,
-    })
+    };
+    Ok((accepted, waker))
+}
+
+/// What a thread waits at, and what wakes it.
+pub(crate) fn new_poll<R: Net>(rt: &R) -> Result<(Poll, Waker), Refusal> {
+    let Ok(poll) = Poll::new(rt) else {
+        return Err(Refusal::Device);
+    };
+    match Waker::new(poll.registry(), WAKER) {
+        Ok(waker) => Ok((poll, waker)),
+        Err(_) => Err(Refusal::Device),
+    }
 }
 
 // A circuit for which no thread can be had is closed at once.

@@ -1,44 +1,33 @@
 ghost use Rattle.std.specs.Prelude.{◌≡◌, ◌<◌, ◌≤◌, length};
 
 use crate::clock::stamp_now;
-use crate::locked::{Locked, Shared};
+use crate::line::{Line, Moved, Written};
+use crate::locked::{Locked, Shared, ring};
 use crate::processing::Device;
 use crate::work::Work;
 use ca_arena::Handle;
 use ca_server_core::Step;
 use ca_wire::Pipe;
-use mio::net::TcpStream;
-use mio::{Events, Poll};
-use std::alloc::Global;
-use std::io::{Read, Write};
-use std::sync::atomic::{AtomicBool, Ordering};
+use std::sync::atomic::Ordering;
 use std::sync::ledger::{Ledger, Share};
 use std::sync::{Arc, Wait};
+use std::thread;
 use std::time::{Clock, Duration};
-use std::{io, thread};
 
 // Messages that are handled while the lock is held.
 const STEPS: u32 = 64;
 
-// A circuit with nothing to do waits so many milliseconds for bytes; its updates wait no longer.
-const IDLE: u64 = 10;
+// A thread that finds no memory tries again after so many milliseconds.
+const PAUSE: u64 = 10;
+
+// What a closed circuit left is offered to its client so often, at most.
+const TRIES: u32 = 300;
 
 /// What a circuit's thread hands back.
 #[derive(Drop)]
 pub(crate) struct Gathered<L: Ledger> {
     pub(crate) share: Share<L>,
     ghost one_part: { share.parts ≡ 1 },
-}
-
-/// What a circuit's thread works on.
-#[derive(Drop)]
-pub(crate) struct Line {
-    pub(crate) stream: TcpStream,
-    pub(crate) poll: Poll,
-    pub(crate) events: Events<Global>,
-    pub(crate) buffer: Vec<u8>,
-    /// The thread is at its end. If it is set before the start, the circuit is to be closed at once.
-    pub(crate) done: Arc<AtomicBool>,
 }
 
 /// A circuit's thread.
@@ -51,20 +40,13 @@ pub(crate) struct Circuit<L: Ledger, D: Device> {
     ghost one_part: { share.parts ≡ 1 },
 }
 
-// What a read did.
-#[derive(Clone, Copy)]
-enum Moved {
-    Count(usize),
-    Later,
-    Ended,
-}
-
 // What a turn left.
+#[derive(Drop)]
 enum Turn {
-    // Messages wait.
+    // Messages wait, or bytes to be sent.
     Busy,
-    // Its output is full.
-    Full,
+    // A message waits, for which there was no memory.
+    NoMemory,
     // It waits for bytes.
     Idle,
     Closed(Pipe),
@@ -105,19 +87,14 @@ impl<L: Ledger, D: Device> Work<Gathered<L>> for Circuit<L, D> {
         for _ in rt.forever() {
             match turned(rt, &shared, circuit, moved, &mut line, &mut share) {
                 Turn::Closed(left) => {
-                    send_left(rt, &mut line.stream, left.bytes());
+                    write_left(rt, &mut line, &left);
                     break;
                 }
-                Turn::Busy => moved = Moved::Later,
-                Turn::Full => {
-                    thread::sleep(rt, Duration::from_millis(IDLE));
-                    moved = Moved::Later;
-                }
-                Turn::Idle => moved = next_read(moved, &mut line),
+                turn => moved = go_on(rt, &turn, &mut line),
             }
         }
-        note_closed(rt, &shared);
         line.done.store(true, Ordering::SeqCst);
+        note_closed(rt, &shared);
         handed_back(share)
     }
 }
@@ -128,12 +105,15 @@ fn handed_back<L: Ledger>(share: Share<L>) -> Gathered<L>
     Gathered { share }
 }
 
+// The thread that accepts circuits takes this one over, or ends.
 fn note_closed<L: Ledger, D: Device, R: Wait>(rt: &R, shared: &Shared<L, D>) {
     let mut guard = shared.locked.lock(rt);
     guard.closed = guard.closed.saturating_add(1);
+    drop(guard);
+    ring(&shared.accepting);
 }
 
-// Takes in what was read, handles messages and writes what waits, all under the lock.
+// A turn under the lock: takes in what was read, handles messages, and takes bytes out that are to be sent.
 fn turned<L: Ledger, D: Device, R: Wait + Clock>(
     rt: &R,
     shared: &Shared<L, D>,
@@ -148,53 +128,43 @@ fn turned<L: Ledger, D: Device, R: Wait + Clock>(
     let (seconds, nanos) = stamp_now(rt);
     let mut guard = shared.locked.lock(rt);
     let locked = &mut *guard;
-    take_in(locked, circuit, moved, line.buffer.as_slice());
+    let applied = locked.state.applied();
+    take_in(locked, circuit, moved, line.input.as_slice());
     locked.state.stamp(seconds, nanos);
     let turn = steps(locked, circuit, share);
-    send(locked, circuit, &mut line.stream);
+    let turn = take_out(locked, circuit, turn, line);
+    let is_stirred = locked.state.applied() != applied;
+    if is_stirred {
+        locked.stir();
+    }
     let is_given = !locked.busy.is_empty();
     drop(guard);
     if is_given {
         shared.given.notify_all();
     }
+    if is_stirred {
+        shared.stirred.notify_all();
+    }
     turn
 }
 
-// Waits for bytes, unless the last read may have left some, and reads.
-fn next_read(moved: Moved, line: &mut Line) -> Moved {
-    if !is_filled(moved, line.buffer.len()) {
-        // A wait that fails counts as one that is over.
-        let _over = line
-            .poll
-            .poll(&mut line.events, Some(Duration::from_millis(IDLE)));
-    }
-    read_some(&mut line.stream, line.buffer.as_mut_slice())
-}
-
-fn is_filled(moved: Moved, room: usize) -> bool {
-    match moved {
-        Moved::Count(count) => count == room,
-        Moved::Later => false,
-        Moved::Ended => true,
-    }
-}
-
-fn read_some(stream: &mut TcpStream, buffer: &mut [u8]) -> Moved {
-    match stream.read(buffer) {
-        Ok(0) => Moved::Ended,
-        Ok(count) => Moved::Count(count),
-        Err(error) => {
-            if is_later(&error) {
-                Moved::Later
-            } else {
-                Moved::Ended
-            }
+// After a turn, with no lock held: writes, and reads if nothing else is to be done.
+fn go_on<R: Clock>(rt: &R, turn: &Turn, line: &mut Line) -> Moved {
+    match line.write() {
+        Written::Failed => Moved::Ended,
+        Written::Some => {
+            line.wait(rt);
+            Moved::Later
         }
+        Written::All => match turn {
+            Turn::Idle => line.read(rt),
+            Turn::NoMemory => {
+                thread::sleep(rt, Duration::from_millis(PAUSE));
+                Moved::Later
+            }
+            _ => Moved::Later,
+        },
     }
-}
-
-fn is_later(error: &io::Error) -> bool {
-    error.kind() == io::ErrorKind::WouldBlock || error.kind() == io::ErrorKind::Interrupted
 }
 
 // Gives the server what was read. A circuit at its end is cut, and so is one whose bytes there is no memory for.
@@ -229,49 +199,50 @@ fn steps<L: Ledger>(locked: &mut Locked<L>, circuit: Handle, share: &mut Share<L
                 locked.state.pump(circuit);
                 return Turn::Idle;
             }
-            Some(Step::OutputFull) => return Turn::Full,
+            Some(Step::OutputFull) => return Turn::Busy,
             Some(Step::Closed(_, left)) => return Turn::Closed(left),
-            None => return Turn::Full,
+            None => return Turn::NoMemory,
         }
     }
     locked.state.pump(circuit);
     Turn::Busy
 }
 
-// Writes what waits, as far as the stream takes it.
-fn send<L: Ledger>(locked: &mut Locked<L>, circuit: Handle, stream: &mut TcpStream) {
-    let bytes = locked.state.out_bytes(circuit);
-    if bytes.is_empty() {
-        return;
+// Hands bytes that wait over to the line. A circuit is idle if nothing more waits then; one that is closed has no bell any more.
+fn take_out<L: Ledger>(
+    locked: &mut Locked<L>,
+    circuit: Handle,
+    turn: Turn,
+    line: &mut Line,
+) -> Turn {
+    if let Turn::Closed(left) = turn {
+        locked.bells.swap_remove(&circuit.index);
+        return Turn::Closed(left);
     }
-    match stream.write(bytes) {
-        Ok(count) => locked.state.sent(circuit, count),
-        Err(error) => {
-            if !is_later(&error) {
-                locked.state.cut(circuit);
-            }
-        }
+    let waiting = locked.state.out_bytes(circuit);
+    let all = waiting.len();
+    let count = line.take_out(waiting);
+    locked.state.sent(circuit, count);
+    let is_idle = matches!(turn, Turn::Idle) && count == all && locked.state.is_open(circuit);
+    locked.rest(circuit, is_idle);
+    match turn {
+        Turn::Idle if !is_idle => Turn::Busy,
+        turn => turn,
     }
 }
 
-// Writes what a closed circuit left. One that takes nothing is waited for so many times.
-fn send_left<R: Clock>(rt: &R, stream: &mut TcpStream, left: &[u8]) {
-    let mut rest = left;
-    for _ in 0..100u32 {
-        if rest.is_empty() {
-            return;
-        }
-        match stream.write(rest) {
-            Ok(count) => {
-                let (_, after) = rest.split_at(count);
-                rest = after;
-            }
-            Err(error) => {
-                if !is_later(&error) {
-                    return;
-                }
-                thread::sleep(rt, Duration::from_millis(IDLE));
-            }
+// Writes what a closed circuit left. A client that takes nothing is waited for so many times.
+fn write_left<R: Clock>(rt: &R, line: &mut Line, left: &Pipe) {
+    let mut rest = left.bytes();
+    for _ in 0..TRIES {
+        let count = line.take_out(rest);
+        let (_, after) = rest.split_at(count);
+        rest = after;
+        match line.write() {
+            Written::Failed => return,
+            Written::All if rest.is_empty() => return,
+            Written::All => {}
+            Written::Some => thread::sleep(rt, Duration::from_millis(PAUSE)),
         }
     }
 }

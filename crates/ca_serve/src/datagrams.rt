@@ -2,53 +2,116 @@ use crate::clock::moment_now;
 use crate::locked::Shared;
 use crate::processing::Device;
 use crate::work::Work;
-use std::net::{SocketAddr, UdpSocket};
+use mio::net::UdpSocket;
+use mio::{Events, Poll};
+use std::alloc::Global;
+use std::net::SocketAddr;
 use std::sync::ledger::Ledger;
 use std::sync::{Arc, Wait};
-use std::thread;
 use std::time::{Clock, Duration};
+use std::{io, thread};
+
+// Datagrams that are answered between two looks at the clock.
+const DATAGRAMS: u32 = 64;
+
+// After the first beacon the next is due in so many milliseconds, and then each time in twice as many, up to a limit.
+const FIRST: u64 = 20;
+
+const LAST: u64 = 15_000;
+
+// A wait that the system refuses is this many milliseconds long.
+const PAUSE: u64 = 10;
 
 /// The thread that answers searches, and sends beacons.
 #[derive(Drop)]
 pub(crate) struct Datagrams<L: Ledger, D: Device> {
     pub(crate) shared: Arc<Shared<L, D>>,
-    /// A socket whose calls do not wait.
+    pub(crate) desk: Desk,
+}
+
+/// A socket for datagrams, and what is done with it.
+#[derive(Drop)]
+pub(crate) struct Desk {
     pub(crate) socket: UdpSocket,
-    pub(crate) beacons: SocketAddr,
+    pub(crate) poll: Poll,
+    pub(crate) events: Events<Global>,
     pub(crate) buffer: Vec<u8>,
+    pub(crate) beacons: SocketAddr,
 }
 
 impl<L: Ledger, D: Device> Work<()> for Datagrams<L, D> {
     fn run<R: Wait + Clock>(self, rt: &R) {
-        let Datagrams {
-            shared,
-            socket,
-            beacons,
-            mut buffer,
-        } = self;
+        let Datagrams { shared, mut desk } = self;
+        let mut due = 0u64;
+        let mut pause = FIRST;
         for _ in rt.forever() {
-            match socket.recv_from(buffer.as_mut_slice()) {
-                Ok((count, from)) => {
-                    if count <= buffer.len() {
-                        answer(rt, &shared, &socket, &buffer.as_slice()[..count], from);
-                    }
-                }
-                Err(_) => thread::sleep(rt, Duration::from_millis(5)),
-            }
             let now = moment_now(rt);
-            let mut guard = shared.locked.lock(rt);
-            let due = guard.state.beacon(now);
-            let ending = guard.ending;
-            drop(guard);
-            if let Some(beacon) = due {
-                // One that cannot be sent is left out.
-                let _lost = socket.send_to(&beacon, beacons);
+            if now >= due {
+                if beacon(rt, &shared, &desk, now) {
+                    due = now.saturating_add(pause);
+                    pause = pause.saturating_mul(2).min(LAST);
+                } else {
+                    due = now.saturating_add(FIRST);
+                }
             }
-            if ending {
+            if shared.locked.lock(rt).ending {
                 break;
+            }
+            if !answer_some(rt, &shared, &mut desk) {
+                desk.wait(rt, due.saturating_sub(now));
             }
         }
     }
+}
+
+impl Desk {
+    // Waits for a datagram, for so many milliseconds at most, or until the thread is woken.
+    fn wait<R: Clock>(&mut self, rt: &R, milliseconds: u64) {
+        let most = Duration::from_millis(milliseconds);
+        if self.poll.poll(&mut self.events, Some(most)).is_err() {
+            thread::sleep(rt, Duration::from_millis(PAUSE));
+        }
+    }
+}
+
+// Sends the beacon, if one is due, and tells whether one was. One that cannot be sent is left out.
+fn beacon<L: Ledger, D: Device, R: Wait>(
+    rt: &R,
+    shared: &Shared<L, D>,
+    desk: &Desk,
+    now: u64,
+) -> bool {
+    let Some(beacon) = shared.locked.lock(rt).state.beacon(now) else {
+        return false;
+    };
+    let _lost = desk.socket.send_to(&beacon, desk.beacons);
+    true
+}
+
+// Answers some datagrams, and tells whether more may be there.
+fn answer_some<L: Ledger, D: Device, R: Wait>(
+    rt: &R,
+    shared: &Shared<L, D>,
+    desk: &mut Desk,
+) -> bool {
+    for _ in 0..DATAGRAMS {
+        match desk.socket.recv_from(desk.buffer.as_mut_slice()) {
+            Ok((count, from)) => {
+                if count <= desk.buffer.len() {
+                    answer(
+                        rt,
+                        shared,
+                        &desk.socket,
+                        &desk.buffer.as_slice()[..count],
+                        from,
+                    );
+                }
+            }
+            // Of another fault there is nothing to be done: it was of a datagram that was sent.
+            Err(error) => return error.kind() != io::ErrorKind::WouldBlock,
+        }
+    }
+    true
 }
 
 // Answers the searches of a datagram. What cannot be sent is left out: a client searches again.

@@ -1,4 +1,5 @@
-//! A server of Channel Access in threads: one for each circuit, two that have a device process what was put, and one for datagrams.
+//! A server of Channel Access in threads: one for each circuit, one that looks after circuits with nothing to do,
+//! two that have a device process what was put, and one for datagrams.
 //!
 //! What lies under the lock, and what each call makes of it, is `ca_server`. The device is called with no lock held, so that a record that is
 //! slow keeps no circuit from its answers. No proof speaks of the threads: that they go on is shown by tests.
@@ -8,11 +9,13 @@ mod accepting;
 mod circuit;
 mod clock;
 mod datagrams;
+mod line;
 mod locked;
 mod processing;
 mod serving;
 #[cfg(test)]
 mod tests;
+mod updating;
 mod work;
 
 pub use processing::Device;

@@ -79,4 +79,7 @@ fn finish<L: Ledger, D: Device, R: Wait + Clock>(rt: &R, shared: &Shared<L, D>, 
     locked.state.stamp(seconds, nanos);
     // Its record may have been removed meanwhile.
     let _refused = locked_finish(&mut locked.state, name);
+    locked.stir();
+    drop(guard);
+    shared.stirred.notify_all();
 }

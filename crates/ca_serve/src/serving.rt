@@ -1,17 +1,21 @@
 ghost use Rattle.std.specs.Prelude.{◌≡◌, ◌-◌, ◌^◌};
 
-use crate::accepting::{accept_all, join_all};
+use crate::accepting::{Door, SOCKET, accept_all, join_all, new_poll};
 use crate::clock::moment_now;
-use crate::datagrams::Datagrams;
+use crate::datagrams::{Datagrams, Desk};
 use crate::locked::Shared;
 use crate::processing::{Device, Processor};
+use crate::updating::Updater;
 use crate::work::started;
 use ca_records::{Records, Rule};
 use ca_server::State;
 use ca_text::Refusal;
+use mio::net::{TcpListener, UdpSocket};
+use mio::{Events, Interest, Poll, Waker};
 use std::alloc::Global;
 use std::marker::Brand;
-use std::net::{Net, SocketAddr, TcpListener, UdpSocket};
+use std::net;
+use std::net::{Net, SocketAddr};
 use std::sync::ledger::{Blank, Ledger};
 use std::sync::{Arc, Wait};
 use std::thread::{JoinHandle, Threads};
@@ -23,8 +27,8 @@ const DATAGRAM: usize = 65_536;
 /// Where a server is reached, and where its beacons go.
 #[derive(Drop)]
 pub struct Places {
-    pub listener: TcpListener,
-    pub datagrams: UdpSocket,
+    pub listener: net::TcpListener,
+    pub datagrams: net::UdpSocket,
     pub beacons: SocketAddr,
 }
 
@@ -74,23 +78,16 @@ fn serve_as<
     requires parts { blank.parts ≡ L.parts }
     requires all { blank.parts ≡ 2 ^ 64 - 1 }
 {
-    let Places {
-        listener,
-        datagrams,
-        beacons,
-    } = places;
-    let port = port_of(&listener, &datagrams)?;
+    let port = port_of(&places)?;
     let (book, mut all) = blank.open::<L>();
     let state = State::new(book, port, moment_now(&rt), records, rules)?;
-    let shared = Arc::new(alloc, Shared::new(alloc, state, device))?;
-    let mut helpers = Vec::with_capacity(alloc, 3)?;
-    let answering = Datagrams {
-        shared: Arc::try_clone(&shared)?,
-        socket: datagrams,
-        beacons,
-        buffer: vec![in alloc; 0; DATAGRAM]?,
-    };
-    let helped = start_helpers(rt, &shared, answering, &mut helpers);
+    let (mut door, desk, accepting, answering) = opened(&rt, alloc, places)?;
+    let shared = Arc::new(
+        alloc,
+        Shared::new(alloc, state, accepting, answering, device),
+    )?;
+    let mut helpers = Vec::with_capacity(alloc, 4)?;
+    let helped = start_helpers(rt, &shared, desk, &mut helpers);
     if helped.is_err() {
         shared.end(&rt);
     }
@@ -99,7 +96,7 @@ fn serve_as<
         rt,
         alloc,
         &shared,
-        &listener,
+        &mut door,
         circuits,
         &mut running,
         &mut all,
@@ -112,17 +109,62 @@ fn serve_as<
 }
 
 // The port of the listener. No call of either socket waits from here on.
-fn port_of(listener: &TcpListener, datagrams: &UdpSocket) -> Result<u16, Refusal> {
-    let Ok(address) = listener.local_addr() else {
+fn port_of(places: &Places) -> Result<u16, Refusal> {
+    let Ok(address) = places.listener.local_addr() else {
         return Err(Refusal::Device);
     };
-    if listener.set_nonblocking(true).is_err() || datagrams.set_nonblocking(true).is_err() {
+    if places.listener.set_nonblocking(true).is_err()
+        || places.datagrams.set_nonblocking(true).is_err()
+    {
         return Err(Refusal::Device);
     }
     Ok(address.port())
 }
 
-// Starts the thread for datagrams and two processing threads.
+// Where connections and datagrams come in, and what wakes the threads that wait for them.
+fn opened<R: Net>(
+    rt: &R,
+    alloc: Global,
+    places: Places,
+) -> Result<(Door, Desk, Waker, Waker), Refusal> {
+    let Places {
+        listener,
+        datagrams,
+        beacons,
+    } = places;
+    let (poll, accepting) = new_poll(rt)?;
+    let mut listener = TcpListener::from_std(listener);
+    let Ok(()) = poll
+        .registry()
+        .register(&mut listener, SOCKET, Interest::READABLE)
+    else {
+        return Err(Refusal::Device);
+    };
+    let door = Door {
+        listener,
+        poll,
+        events: Events::with_capacity(alloc, 4)?,
+        spare: Poll::new(rt).ok(),
+    };
+    let (poll, answering) = new_poll(rt)?;
+    let mut socket = UdpSocket::from_std(datagrams);
+    let Ok(()) = poll
+        .registry()
+        .register(&mut socket, SOCKET, Interest::READABLE)
+    else {
+        return Err(Refusal::Device);
+    };
+    let desk = Desk {
+        socket,
+        poll,
+        events: Events::with_capacity(alloc, 4)?,
+        buffer: vec![in alloc; 0; DATAGRAM]?,
+        beacons,
+    };
+    Ok((door, desk, accepting, answering))
+}
+
+// Starts the thread for datagrams, the one for updates and two processing threads.
 fn start_helpers<
     L: Ledger + Send + Sync + 'static,
     D: Device + Send + Sync + 'static,
@@ -130,11 +172,12 @@ fn start_helpers<
 >(
     rt: R,
     shared: &Arc<Shared<L, D>>,
-    answering: Datagrams<L, D>,
+    desk: Desk,
     helpers: &mut Vec<JoinHandle<()>>,
 ) -> Result<(), Refusal> {
-    helpers.reserve(3)?;
-    helpers.push_reserved(start_datagrams(rt, answering)?);
+    helpers.reserve(4)?;
+    helpers.push_reserved(start_datagrams(rt, Arc::try_clone(shared)?, desk)?);
+    helpers.push_reserved(start_updater(rt, Arc::try_clone(shared)?)?);
     helpers.push_reserved(start_processor(rt, Arc::try_clone(shared)?)?);
     helpers.push_reserved(start_processor(rt, Arc::try_clone(shared)?)?);
     Ok(())
@@ -152,8 +195,16 @@ fn start_datagrams<
     L: Ledger + Send + Sync + 'static,
     D: Device + Send + Sync + 'static,
     R: Threads + Wait + Clock + Copy + Send + 'static,
->(rt: R, work: Datagrams<L, D>) -> Result<JoinHandle<()>, Refusal> {
-    started(rt, work)
+>(rt: R, shared: Arc<Shared<L, D>>, desk: Desk) -> Result<JoinHandle<()>, Refusal> {
+    started(rt, Datagrams { shared, desk })
+}
+
+fn start_updater<
+    L: Ledger + Send + Sync + 'static,
+    D: Device + Send + Sync + 'static,
+    R: Threads + Wait + Clock + Copy + Send + 'static,
+>(rt: R, shared: Arc<Shared<L, D>>) -> Result<JoinHandle<()>, Refusal> {
+    started(rt, Updater { shared })
 }
 
 fn join_helpers<R: Threads>(rt: &R, helpers: &mut Vec<JoinHandle<()>>) {

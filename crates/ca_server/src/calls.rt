@@ -5,6 +5,7 @@ ghost use Rattle.ca_ids.specs.Table.{under};
 ghost use Rattle.ca_model.specs.ServerCalls.{AddsRecord, AnswersDatagram, Beacons, Posts, Removes, stamped};
 ghost use Rattle.ca_model.specs.ServerSteps.{Accepts, Cuts, Gives, Pumps, Sends, Update, output_of};
 ghost use Rattle.ca_records.specs.Record.{unset};
+ghost use Rattle.ca_server_circuit.specs.Circuits.{is_open};
 ghost use Rattle.ca_server_core.specs.Asking.{busy_value};
 ghost use Rattle.ca_server_core.specs.NextPut.{IsNextPut};
 
@@ -39,6 +40,13 @@ impl<L: Ledger> State<L> {
         ensures { result.now ≡ output_of (under self.now.core.circuits circuit) }
     {
         self.core.out_bytes(circuit)
+    }
+
+    /// Whether the end of a circuit is open.
+    pub fn is_open(&self, circuit: Handle) -> bool
+        ensures { result ≡ is_open (under self.now.core.circuits circuit) }
+    {
+        self.core.is_open(circuit)
     }
 
     /// The first n of the bytes that wait on a circuit were handed over.
