@@ -1,0 +1,360 @@
+ghost use Rattle.ca_board.specs.Views.{HasCollected, HasGivenUp};
+
+use crate::addresses::to_system;
+use crate::engine::{Engine, moment};
+use crate::links::Tries;
+use crate::listener::{Change, Ear, Ears, Listener};
+use crate::shared::{Locked, Shared};
+use ca_arena::Handle;
+use ca_board::Ticket;
+use ca_client::{Answer, Ask, Caller, Desk, Request};
+use ca_client_core::{Address, ChannelState};
+use ca_dbr::{Outcome, Value};
+use ca_dgram::register;
+use ca_text::{Mask, Refusal};
+use mio::net::UdpSocket;
+use mio::{Events, Interest, Poll, Token, Waker};
+use std::alloc::{AllocError, Global};
+use std::net::{Ipv4Addr, Net, SocketAddr};
+use std::sync::{Arc, Wait};
+use std::time::{Clock, Instant};
+
+const WAKER: Token = Token(0);
+
+const DATAGRAMS: Token = Token(1);
+
+/// A client that threads share.
+#[derive(Drop)]
+pub struct Context {
+    shared: Arc<Shared>,
+    began: Instant,
+}
+
+/// What a client begins with.
+#[derive(Drop)]
+pub struct Setting {
+    /// The user whose client it is.
+    pub user: Vec<u8>,
+    /// The host on which it is.
+    pub host: Vec<u8>,
+    /// Where searches go in datagrams.
+    pub servers: Vec<Address>,
+    /// Where they go on circuits.
+    pub names: Vec<Address>,
+    /// The repeater, if there is one.
+    pub repeater: Option<Address>,
+}
+
+impl Context {
+    /// A client, and the work of its thread of input and output, which `start` starts.
+    ///
+    /// Refused as `ClientCore::new`, as Device if the system refuses a socket, and as OutOfMemory.
+    pub fn new<R: Net + Clock + Copy + Drop>(
+        rt: R,
+        alloc: Global,
+        setting: Setting,
+    ) -> Result<(Context, Engine<R>), Refusal> {
+        let Setting {
+            user,
+            host,
+            servers,
+            names,
+            repeater,
+        } = setting;
+        let parts = Parts::new(&rt, alloc, repeater)?;
+        let desk = Desk::new(alloc, user, host, servers, &names, 0)?;
+        joined(rt, alloc, desk, parts)
+    }
+
+    /// A caller, for one thread.
+    pub fn caller<R: Wait>(&self, rt: &R) -> Result<Caller, AllocError> {
+        self.shared.locked.lock(rt).desk.caller()
+    }
+
+    /// The outcome of a ticket, if it is there. It waits for nobody.
+    pub fn collect(&self, caller: &mut Caller, ticket: Ticket) -> Option<Outcome>
+        ensures { HasCollected caller.old ticket result caller.new }
+    {
+        caller.collect(ticket)
+    }
+
+    /// Ends a ticket: its outcome, if that was there already. It waits for nobody.
+    pub fn give_up(&self, caller: &mut Caller, ticket: Ticket) -> Option<Outcome>
+        ensures { HasGivenUp caller.old ticket result caller.new }
+    {
+        caller.give_up(ticket)
+    }
+
+    /// Opens a channel of this name, which is searched for from now on. Refused as `ClientCore::open`.
+    pub fn open<R: Wait + Clock>(
+        &self,
+        rt: &R,
+        name: &[u8],
+        priority: u16,
+    ) -> Result<Handle, Refusal> {
+        let now = moment(rt, &self.began);
+        let opened = self.shared.locked.lock(rt).desk.open(name, priority, now);
+        self.wake();
+        opened
+    }
+
+    /// Asks for the value of a channel. Refused as NoCell if too many requests are in flight, and then as `ClientCore::read`.
+    pub fn get<R: Wait>(
+        &self,
+        rt: &R,
+        channel: Handle,
+        data_type: u16,
+        count: u32,
+    ) -> Result<Ticket, Refusal> {
+        self.issue(rt, &Request::Read(channel, data_type, count))
+    }
+
+    /// Writes a value, with an outcome. Refused as NoCell if too many requests are in flight, and then as
+    /// `ClientCore::write_notify`.
+    pub fn put_notify<R: Wait>(
+        &self,
+        rt: &R,
+        channel: Handle,
+        value: Value,
+    ) -> Result<Ticket, Refusal> {
+        self.issue(rt, &Request::Put(channel, value))
+    }
+
+    fn issue<R: Wait>(&self, rt: &R, request: &Request) -> Result<Ticket, Refusal> {
+        let issued = self.shared.locked.lock(rt).desk.issue(request);
+        self.wake();
+        let (_, ticket) = issued?;
+        Ok(ticket)
+    }
+
+    /// Writes a value, with no outcome. Refused as `ClientCore::write`.
+    pub fn put<R: Wait>(&self, rt: &R, channel: Handle, value: &Value) -> Result<(), Refusal> {
+        let written = self.shared.locked.lock(rt).desk.write(channel, value);
+        self.wake();
+        written
+    }
+
+    /// Subscribes to a channel: the listener hears its updates. A refusal, as `ClientCore::subscribe`, hands the listener back.
+    pub fn monitor<R: Wait>(
+        &self,
+        rt: &R,
+        channel: Handle,
+        data_type: u16,
+        count: u32,
+        mask: Mask,
+        listener: Box<dyn Listener + Send>,
+    ) -> Result<Handle, (Box<dyn Listener + Send>, Refusal)> {
+        let added = self
+            .shared
+            .locked
+            .lock(rt)
+            .monitor(channel, data_type, count, mask, listener);
+        self.wake();
+        added
+    }
+
+    /// Cancels a subscription. Refused as `ClientCore::unsubscribe`.
+    pub fn unsubscribe<R: Wait>(&self, rt: &R, subscription: Handle) -> Result<(), Refusal> {
+        let ended = self.shared.locked.lock(rt).unsubscribe(subscription);
+        self.wake();
+        ended
+    }
+
+    /// Clears a channel: its requests are complete with Disconnected. Refused as `ClientCore::clear`.
+    pub fn clear<R: Wait>(&self, rt: &R, channel: Handle) -> Result<(), Refusal> {
+        let answer = self.shared.locked.lock(rt).desk.step(Ask::Clear(channel));
+        self.wake();
+        match answer {
+            Answer::Refused(refusal) => Err(refusal),
+            _ => Ok(()),
+        }
+    }
+
+    /// Where a channel is. Refused as StaleHandle if the handle is stale.
+    pub fn channel_state<R: Wait>(&self, rt: &R, channel: Handle) -> Result<ChannelState, Refusal> {
+        self.shared.locked.lock(rt).desk.channel_state(channel)
+    }
+
+    /// Waits for the outcome of a ticket, for at most so many turns of the thread of input and output.
+    ///
+    /// A turn takes 10 ms if nothing comes, and less if bytes come or a thread calls: so it is no measure of time on a busy client.
+    pub fn wait<R: Wait>(
+        &self,
+        rt: &R,
+        caller: &mut Caller,
+        ticket: Ticket,
+        turns: u64,
+    ) -> Option<Outcome> {
+        for _ in 0..turns {
+            let seen = self.shared.turns(rt);
+            if let Some(outcome) = caller.collect(ticket) {
+                return Some(outcome);
+            }
+            if self.shared.park(rt, seen) {
+                break;
+            }
+        }
+        caller.collect(ticket)
+    }
+
+    /// Waits until a channel is live, for at most so many turns of the thread of input and output, and says whether it is.
+    pub fn wait_live<R: Wait>(&self, rt: &R, channel: Handle, turns: u64) -> bool {
+        for _ in 0..turns {
+            let seen = self.shared.turns(rt);
+            if self.is_live(rt, channel) {
+                return true;
+            }
+            if self.shared.park(rt, seen) {
+                break;
+            }
+        }
+        self.is_live(rt, channel)
+    }
+
+    fn is_live<R: Wait>(&self, rt: &R, channel: Handle) -> bool {
+        match self.channel_state(rt, channel) {
+            Ok(ChannelState::Live(_, _, _)) => true,
+            _ => false,
+        }
+    }
+
+    /// Has the thread of input and output close all circuits, and end.
+    pub fn end<R: Wait>(&self, rt: &R) {
+        self.shared.locked.lock(rt).ending = true;
+        self.wake();
+    }
+
+    fn wake(&self) {
+        self.shared.wake();
+    }
+}
+
+impl Locked {
+    fn monitor(
+        &mut self,
+        channel: Handle,
+        data_type: u16,
+        count: u32,
+        mask: Mask,
+        listener: Box<dyn Listener + Send>,
+    ) -> Result<Handle, (Box<dyn Listener + Send>, Refusal)> {
+        if self.changes.reserve(1).is_err() {
+            return Err((listener, Refusal::OutOfMemory));
+        }
+        match self.desk.subscribe(channel, data_type, count, mask) {
+            Ok(subscription) => {
+                self.changes.push_reserved(Change::Hears(Ear {
+                    subscription,
+                    listener,
+                }));
+                Ok(subscription)
+            }
+            Err(refusal) => Err((listener, refusal)),
+        }
+    }
+
+    fn unsubscribe(&mut self, subscription: Handle) -> Result<(), Refusal> {
+        self.changes.reserve(1)?;
+        self.desk.unsubscribe(subscription)?;
+        self.changes.push_reserved(Change::Ends(subscription));
+        Ok(())
+    }
+}
+
+// What an engine is made of, beside the client's state.
+#[derive(Drop)]
+struct Parts {
+    poll: Poll,
+    waker: Waker,
+    datagrams: UdpSocket,
+    events: Events<Global>,
+    ears: Ears,
+    began: Instant,
+}
+
+impl Parts {
+    // A register goes to the repeater, if there is one.
+    fn new<R: Net + Clock>(
+        rt: &R,
+        alloc: Global,
+        repeater: Option<Address>,
+    ) -> Result<Parts, Refusal> {
+        let Ok(began) = Instant::now(rt) else {
+            return Err(Refusal::Device);
+        };
+        let events = Events::with_capacity(alloc, 256)?;
+        let ears = Ears::new(alloc)?;
+        let (poll, waker, datagrams) = sockets(rt)?;
+        if let Some(address) = repeater {
+            let _ = datagrams.send_to(&register(Ipv4Addr::LOCALHOST), to_system(address));
+        }
+        Ok(Parts {
+            poll,
+            waker,
+            datagrams,
+            events,
+            ears,
+            began,
+        })
+    }
+}
+
+fn joined<R: Net + Clock + Copy + Drop>(
+    rt: R,
+    alloc: Global,
+    desk: Desk,
+    parts: Parts,
+) -> Result<(Context, Engine<R>), Refusal> {
+    let Parts {
+        poll,
+        waker,
+        datagrams,
+        events,
+        ears,
+        began,
+    } = parts;
+    let locked = Locked {
+        desk,
+        changes: Vec::new(alloc),
+        ending: false,
+    };
+    let shared = Arc::new(alloc, Shared::new(locked, waker))?;
+    let engine = Engine {
+        net: rt,
+        shared: Arc::try_clone(&shared)?,
+        poll,
+        events,
+        datagrams,
+        links: Vec::new(alloc),
+        tries: Tries::new(alloc),
+        ears,
+        told: Vec::new(alloc),
+        began,
+    };
+    Ok((Context { shared, began }, engine))
+}
+
+// What the thread of input and output polls, with a socket for datagrams.
+fn sockets<R: Net>(rt: &R) -> Result<(Poll, Waker, UdpSocket), Refusal> {
+    let Ok(poll) = Poll::new(rt) else {
+        return Err(Refusal::Device);
+    };
+    let Ok(waker) = Waker::new(poll.registry(), WAKER) else {
+        return Err(Refusal::Device);
+    };
+    let any = SocketAddr::from((Ipv4Addr::UNSPECIFIED, 0));
+    let Ok(mut datagrams) = UdpSocket::bind(rt, any) else {
+        return Err(Refusal::Device);
+    };
+    // Searches go to broadcast addresses too.
+    let Ok(()) = datagrams.set_broadcast(true) else {
+        return Err(Refusal::Device);
+    };
+    let Ok(()) = poll
+        .registry()
+        .register(&mut datagrams, DATAGRAMS, Interest::READABLE)
+    else {
+        return Err(Refusal::Device);
+    };
+    Ok((poll, waker, datagrams))
+}

@@ -1,0 +1,185 @@
+use crate::addresses::{from_system, to_system};
+use crate::links::{Link, Tries, close_all, connect, forget, serve};
+use crate::listener::Ears;
+use crate::shared::{Locked, Shared};
+use ca_client::{Answer, Ask, Desk, Told};
+use ca_client_core::{Notice, Ticked};
+use ca_dbr::Outcome;
+use ca_text::Refusal;
+use mio::net::UdpSocket;
+use mio::{Events, Poll};
+use std::alloc::Global;
+use std::net::Net;
+use std::sync::{Arc, Wait};
+use std::thread;
+use std::thread::{JoinHandle, Threads};
+use std::time::{Clock, Duration, Instant};
+
+// A turn waits at most so many milliseconds.
+const TURN: u64 = 10;
+
+// At most so many datagrams are read in a turn.
+const DATAGRAMS: usize = 64;
+
+/// Work for a thread of its own.
+pub trait Work: Drop {
+    fn run<R: Wait + Clock>(self, rt: &R);
+}
+
+/// Starts a thread for the work: for a client's engine, its thread of input and output. Refused as Device if the system has none.
+///
+/// The call stands where the runtime's type is known, as in `main`: a thread that connects circuits cannot be started by a function
+/// that has the runtime's type as a parameter.
+pub fn start<R: Threads + Wait + Clock + Copy + Send + 'static, W: Work + Send + 'static>(
+    rt: R,
+    work: W,
+) -> Result<JoinHandle<()>, Refusal> {
+    match thread::spawn(&rt, move || work.run(&rt)) {
+        Ok(handle) => Ok(handle),
+        Err(_) => Err(Refusal::Device),
+    }
+}
+
+/// What the thread of input and output alone uses: its work is that thread.
+#[derive(Drop)]
+pub struct Engine<N: Net + Drop> {
+    // Where it connects circuits.
+    pub(crate) net: N,
+    pub(crate) shared: Arc<Shared>,
+    pub(crate) poll: Poll,
+    pub(crate) events: Events<Global>,
+    pub(crate) datagrams: UdpSocket,
+    pub(crate) links: Vec<Link>,
+    pub(crate) tries: Tries,
+    pub(crate) ears: Ears,
+    pub(crate) told: Vec<Told>,
+    pub(crate) began: Instant,
+}
+
+impl<N: Net + Drop> Work for Engine<N> {
+    // The thread of input and output.
+    fn run<R: Wait + Clock>(self, rt: &R) {
+        let Engine {
+            net,
+            shared,
+            mut poll,
+            mut events,
+            datagrams,
+            mut links,
+            mut tries,
+            mut ears,
+            mut told,
+            began,
+        } = self;
+        let mut busy = false;
+        for _ in rt.forever() {
+            let wait = if busy { 0 } else { TURN };
+            let _ = poll.poll(&mut events, Some(Duration::from_millis(wait)));
+            let now = moment(rt, &began);
+            let mut guard = shared.locked.lock(rt);
+            let locked = &mut *guard;
+            busy = turn(
+                &net, locked, &poll, &datagrams, &mut links, &mut tries, &mut ears, &mut told, now,
+            );
+            if !busy {
+                shared.doze();
+            }
+            let ending = locked.ending;
+            if ending {
+                close_all(&mut locked.desk, &mut links);
+            }
+            drop(guard);
+            tell_all(&mut ears, &mut told);
+            shared.pass(rt, ending);
+            if ending {
+                break;
+            }
+        }
+    }
+}
+
+// Milliseconds since the start.
+pub(crate) fn moment<R: Clock>(rt: &R, start: &Instant) -> u64 {
+    match start.elapsed(rt) {
+        Ok(passed) => u64::try_from(passed.as_millis()).unwrap_or(u64::MAX),
+        Err(_) => 0,
+    }
+}
+
+// One turn, under the lock. It says whether there may be more to do at once.
+fn turn<N: Net>(
+    net: &N,
+    locked: &mut Locked,
+    poll: &Poll,
+    datagrams: &UdpSocket,
+    links: &mut Vec<Link>,
+    tries: &mut Tries,
+    ears: &mut Ears,
+    told: &mut Vec<Told>,
+    now: u64,
+) -> bool {
+    ears.follow(&mut locked.changes);
+    hear(&mut locked.desk, datagrams, now);
+    tick(&mut locked.desk, datagrams, links, now);
+    connect(net, &mut locked.desk, poll, links, tries, now);
+    serve(&mut locked.desk, links, told)
+}
+
+// Search replies and beacons.
+fn hear(desk: &mut Desk, datagrams: &UdpSocket, now: u64) {
+    let mut buffer = [0u8; 4096];
+    for _ in 0..DATAGRAMS {
+        let Ok((size, from)) = datagrams.recv_from(&mut buffer[..]) else {
+            return;
+        };
+        if let Some(address) = from_system(from) {
+            let _ = desk.datagram(now, address, &buffer[..size.min(4096)]);
+        }
+    }
+}
+
+// A moment: its searches are sent, and circuits that were silent too long are let go.
+fn tick(desk: &mut Desk, datagrams: &UdpSocket, links: &mut Vec<Link>, now: u64) {
+    let Answer::Ticked(ticked) = desk.step(Ask::Tick(now)) else {
+        return;
+    };
+    let Ticked {
+        datagrams: searches,
+        closings,
+    } = ticked;
+    for index in 0..searches.len() {
+        let _ = datagrams.send_to(
+            searches[index].bytes.as_slice(),
+            to_system(searches[index].to),
+        );
+    }
+    for index in 0..closings.len() {
+        forget(links, closings[index].circuit);
+    }
+}
+
+// Tells the listeners, in order.
+fn tell_all(ears: &mut Ears, told: &mut Vec<Told>) {
+    for index in 0..told.len() {
+        tell_each(ears, &mut told[index]);
+    }
+    told.clear();
+}
+
+fn tell_each(ears: &mut Ears, notices: &mut Told) {
+    while let Some(notice) = notices.next() {
+        tell(ears, &notice);
+    }
+}
+
+// Channels that are live or lost are seen by `wait_live` and `channel_state`.
+fn tell(ears: &mut Ears, notice: &Notice) {
+    match notice {
+        Notice::Update(subscription, outcome) => ears.tell(*subscription, outcome),
+        Notice::SubscriptionEnded(subscription, status) => {
+            ears.tell(*subscription, &Outcome::Failed(*status));
+            ears.forget(*subscription);
+        }
+        _ => {}
+    }
+}

@@ -1,0 +1,249 @@
+use crate::addresses::to_system;
+use ca_arena::Handle;
+use ca_client::{Answer, Ask, Desk, Moved, Socket, Told, Wire};
+use ca_client_core::WantedCircuit;
+use mio::net::TcpStream;
+use mio::{Interest, Poll, Token};
+use std::alloc::{AllocError, Global};
+use std::net::Net;
+
+// At most so many messages of a circuit are read in a turn.
+const STEPS: usize = 256;
+
+// A socket with so many faults is let go: `turn_over` asks for fewer.
+const MOST_FAULTS: u64 = 1 << 63;
+
+// A circuit that could not be connected is tried again after so many milliseconds.
+const REST: u64 = 1_000;
+
+// The events of circuits. Which circuit has one is not asked: each is turned over in each turn.
+const CIRCUITS: Token = Token(2);
+
+// A circuit that is connected, and its socket.
+#[derive(Drop)]
+pub(crate) struct Link {
+    pub(crate) circuit: Handle,
+    wire: Watched<Wire>,
+}
+
+// A circuit's socket, and what its last calls showed.
+#[derive(Drop)]
+struct Watched<S: Socket + Drop> {
+    inner: S,
+    // The last read left nothing.
+    drained: bool,
+    // The last write left something, and the system may have room for it.
+    behind: bool,
+}
+
+impl<S: Socket + Drop> Socket for Watched<S> {
+    ghost gives = { λ a bytes b. S.gives a.inner bytes b.inner };
+
+    ghost takes = { λ a bytes b. S.takes a.inner bytes b.inner };
+
+    ghost fault_count = { λ w. S.fault_count w.inner };
+
+    fn read(&mut self, buffer: &mut [u8]) -> Moved {
+        let moved = self.inner.read(buffer);
+        self.drained = match moved {
+            Moved::Count(_) => false,
+            _ => true,
+        };
+        moved
+    }
+
+    fn write(&mut self, bytes: &[u8]) -> Moved {
+        let moved = self.inner.write(bytes);
+        self.behind = match moved {
+            Moved::Count(count) => count < bytes.len(),
+            _ => false,
+        };
+        moved
+    }
+
+    fn faults(&self) -> u64 {
+        self.inner.faults()
+    }
+}
+
+// When each circuit was last tried, at the index of its handle: that of a name server is wanted again under the same handle.
+#[derive(Drop)]
+pub(crate) struct Tries {
+    last: Vec<Option<(Handle, u64)>>,
+}
+
+impl Tries {
+    pub(crate) fn new(alloc: Global) -> Tries {
+        Tries {
+            last: Vec::new(alloc),
+        }
+    }
+
+    // Whether the circuit may be tried now.
+    fn is_due(&self, circuit: Handle, now: u64) -> bool {
+        match self.last.get(usize::from(circuit.index)) {
+            Some(Some((tried, moment))) => {
+                *tried != circuit || now.saturating_sub(*moment) >= REST
+            }
+            _ => true,
+        }
+    }
+
+    fn note(&mut self, circuit: Handle, now: u64) -> Result<(), AllocError> {
+        let place = usize::from(circuit.index);
+        for _ in self.last.len()..place + 1 {
+            self.last.push(None)?;
+        }
+        if let Some(last) = self.last.get_mut(place) {
+            *last = Some((circuit, now));
+        }
+        Ok(())
+    }
+}
+
+// Connects the circuits that are wanted. One that cannot be is cut.
+pub(crate) fn connect<R: Net>(
+    rt: &R,
+    desk: &mut Desk,
+    poll: &Poll,
+    links: &mut Vec<Link>,
+    tries: &mut Tries,
+    now: u64,
+) {
+    let Ok(wanted) = desk.wanted() else {
+        return;
+    };
+    for index in 0..wanted.len() {
+        let circuit = wanted[index].circuit;
+        if !tries.is_due(circuit, now) {
+            continue;
+        }
+        if links.reserve(1).is_err() || tries.note(circuit, now).is_err() {
+            return;
+        }
+        match reach(rt, poll, wanted[index]) {
+            Some(link) => {
+                if let Answer::Connected = desk.step(Ask::Connect(circuit)) {
+                    links.push_reserved(link);
+                }
+            }
+            None => {
+                desk.step(Ask::Cut(circuit));
+            }
+        }
+    }
+}
+
+fn reach<R: Net>(rt: &R, poll: &Poll, wanted: WantedCircuit) -> Option<Link> {
+    let Ok(mut stream) = TcpStream::connect(rt, to_system(wanted.address)) else {
+        return None;
+    };
+    // Requests are small, and each is to go at once.
+    let Ok(()) = stream.set_nodelay(true) else {
+        return None;
+    };
+    let both = Interest::READABLE | Interest::WRITABLE;
+    let Ok(()) = poll.registry().register(&mut stream, CIRCUITS, both) else {
+        return None;
+    };
+    Some(Link {
+        circuit: wanted.circuit,
+        wire: Watched {
+            inner: Wire::new(stream),
+            drained: true,
+            behind: false,
+        },
+    })
+}
+
+// Moves the bytes of all circuits, and reads their messages. It says whether there may be more to do at once.
+pub(crate) fn serve(desk: &mut Desk, links: &mut Vec<Link>, told: &mut Vec<Told>) -> bool {
+    let mut busy = false;
+    for turn in 0..links.len() {
+        // From the last to the first, so that one that ends can be taken out.
+        let index = links.len().saturating_sub(turn + 1);
+        match serve_at(desk, links, index, told) {
+            Served::Idle => {}
+            Served::Busy => busy = true,
+            Served::Over => forget_at(links, index),
+        }
+    }
+    busy
+}
+
+// What became of a circuit in a turn.
+#[derive(Drop)]
+enum Served {
+    Idle,
+    Busy,
+    Over,
+}
+
+fn serve_at(desk: &mut Desk, links: &mut Vec<Link>, index: usize, told: &mut Vec<Told>) -> Served {
+    match links.get_mut(index) {
+        Some(link) => serve_one(desk, link, told),
+        None => Served::Idle,
+    }
+}
+
+fn serve_one(desk: &mut Desk, link: &mut Link, told: &mut Vec<Told>) -> Served {
+    // Nothing is read without room for what it tells.
+    if told.reserve(1).is_err() {
+        return Served::Idle;
+    }
+    if link.wire.faults() >= MOST_FAULTS {
+        if let Answer::Closed(ended) = desk.step(Ask::Cut(link.circuit)) {
+            told.push_reserved(ended.told);
+        }
+        return Served::Over;
+    }
+    if let Some(ended) = desk.turn(link.circuit, &mut link.wire) {
+        told.push_reserved(ended.told);
+        return Served::Over;
+    }
+    let mut served = if link.wire.drained && !link.wire.behind {
+        Served::Idle
+    } else {
+        Served::Busy
+    };
+    for _ in 0..STEPS {
+        if told.reserve(1).is_err() {
+            return served;
+        }
+        match desk.step(Ask::Step(link.circuit)) {
+            Answer::Notices(notices) => {
+                told.push_reserved(notices);
+                served = Served::Busy;
+            }
+            Answer::Closed(ended) => {
+                told.push_reserved(ended.told);
+                return Served::Over;
+            }
+            _ => return served,
+        }
+    }
+    served
+}
+
+fn forget_at(links: &mut Vec<Link>, index: usize) {
+    if index < links.len() {
+        links.swap_remove(index);
+    }
+}
+
+// The circuit has ended.
+pub(crate) fn forget(links: &mut Vec<Link>, circuit: Handle) {
+    for index in 0..links.len() {
+        if index < links.len() && links[index].circuit == circuit {
+            forget_at(links, index);
+        }
+    }
+}
+
+// Ends all circuits.
+pub(crate) fn close_all(desk: &mut Desk, links: &mut Vec<Link>) {
+    for index in 0..links.len() {
+        desk.step(Ask::Close(links[index].circuit));
+    }
+    links.clear();
+}

@@ -1,0 +1,83 @@
+use ca_arena::Handle;
+use ca_dbr::Outcome;
+use ca_text::ARENA_SLOTS;
+use std::alloc::{AllocError, Global};
+
+/// Hears the updates of a subscription, on the thread of input and output, with no lock held.
+pub trait Listener: Drop {
+    /// An update; or Failed, if the server refused the subscription, which is over then.
+    fn heard(&mut self, outcome: &Outcome);
+}
+
+// A listener, and the subscription that it hears.
+#[derive(Drop)]
+pub(crate) struct Ear {
+    pub(crate) subscription: Handle,
+    pub(crate) listener: Box<dyn Listener + Send>,
+}
+
+// What became of listeners since the thread of input and output last looked.
+#[derive(Drop)]
+pub(crate) enum Change {
+    // This one hears its subscription.
+    Hears(Ear),
+    // This subscription was cancelled.
+    Ends(Handle),
+}
+
+// The listeners, each at the index of its subscription. There is a place for each subscription that a client can have.
+#[derive(Drop)]
+pub(crate) struct Ears {
+    places: Vec<Option<Ear>>,
+}
+
+impl Ears {
+    pub(crate) fn new(alloc: Global) -> Result<Ears, AllocError> {
+        let mut places = Vec::new(alloc);
+        places.reserve(ARENA_SLOTS)?;
+        for _ in 0..ARENA_SLOTS {
+            places.push(None)?;
+        }
+        Ok(Ears { places })
+    }
+
+    // Takes in what has changed, in the order of the calls that changed it.
+    pub(crate) fn follow(&mut self, changes: &mut Vec<Change>) {
+        changes.reverse();
+        for _ in 0..changes.len() {
+            match changes.pop() {
+                Some(Change::Hears(ear)) => self.adopt(ear),
+                Some(Change::Ends(subscription)) => self.forget(subscription),
+                None => {}
+            }
+        }
+    }
+
+    // Takes a listener in. It takes the place of one whose subscription has ended.
+    fn adopt(&mut self, ear: Ear) {
+        if let Some(place) = self.places.get_mut(usize::from(ear.subscription.index)) {
+            *place = Some(ear);
+        }
+    }
+
+    // Drops the listener of a subscription that has ended.
+    pub(crate) fn forget(&mut self, subscription: Handle) {
+        let Some(place) = self.places.get_mut(usize::from(subscription.index)) else {
+            return;
+        };
+        if let Some(ear) = place {
+            if ear.subscription == subscription {
+                *place = None;
+            }
+        }
+    }
+
+    // Has the listener of a subscription hear an outcome. A subscription that was cancelled has none.
+    pub(crate) fn tell(&mut self, subscription: Handle, outcome: &Outcome) {
+        if let Some(Some(ear)) = self.places.get_mut(usize::from(subscription.index)) {
+            if ear.subscription == subscription {
+                ear.listener.heard(outcome);
+            }
+        }
+    }
+}
