@@ -90,7 +90,7 @@ module _ (test : Phase → Bool) (c : Handle) where
   named-apart [] apart h p q lt a b = none_at p h a
   named-apart (e ∷ es) apart h p q lt a b = named-one e es apart h (λ i j less at_i at_j. named-apart es apart.1 h i j less at_i at_j) (named e) refl p q lt a b
 
-lost-one : (g h : Handle) → notice.Lost g ≡ notice.Lost h → g ≡ h
+pub lost-one : (g h : Handle) → notice.Lost g ≡ notice.Lost h → g ≡ h
 lost-one g h e = cc
 
 pub lost-gone : (h q : Handle) → notice.Lost h ≡ notice.Completed q outcome.Disconnected → ⊥
