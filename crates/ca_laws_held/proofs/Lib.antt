@@ -101,3 +101,4 @@ pub mod LostRuns
 pub mod ToldCreated
 pub mod LostLast
 pub mod LostLive
+pub mod Completing

@@ -116,8 +116,8 @@ was-told w known told created last n c x log h sid on at opened logged live =
                   none = λ q lt line.
                       last n c log b.0 a sid q m.t step.0 m.r on (subst (λ (v : ℕ). At w.client_logs v log) (sym life) logged) opened m.told.0 step.1 m.told.2 m.told.3 up m.asked.1
                       (λ cleared.
-                          uncleared c (created n c on) (known.sided.right n c on).under (λ k s at_s. held-asked w known.held n k c s on at_s) a b.0 b.1 sid (length c.lists.up) m
-                          (subst (λ (v : ℕ). IsClearedWithin c.lists.up sid v (length c.lists.up)) m.told.1 cleared))
+                      uncleared c (created n c on) (known.sided.right n c on).under (λ k s at_s. held-asked w known.held n k c s on at_s) a b.0 b.1 sid (length c.lists.up) m
+                      (subst (λ (v : ℕ). IsClearedWithin c.lists.up sid v (length c.lists.up)) m.told.1 cleared))
                       lt line;
                 }
           ]
@@ -334,9 +334,9 @@ module _ (w new : World) (k : ℕ) (j : Joined) (x : ClientSide) (on : At w.circ
         omega (arith, logged, place, some),
       ))
       (λ m q m_is lt at_q.
-          let v = At-mapped (line_of (about_at j.lists (length j.lists.heard)) x.names) f.notices q (Noticed (On (channel_number x.names h) Create) outcome.Disconnected) at_q in
-          let late_q : p ≤ q = lost-last w new k j x on at opened f hears caused answers removals tells known spent right goes_on last (channel_number x.names h) q v.0 v.1 (sym v.2) p (answer.Lost h) at_p in
-          omega (arith, m_is, place, lt, late_q)))
+      let v = At-mapped (line_of (about_at j.lists (length j.lists.heard)) x.names) f.notices q (Noticed (On (channel_number x.names h) Create) outcome.Disconnected) at_q in
+      let late_q : p ≤ q = lost-last w new k j x on at opened f hears caused answers removals tells known spent right goes_on last (channel_number x.names h) q v.0 v.1 (sym v.2) p (answer.Lost h) at_p in
+      omega (arith, m_is, place, lt, late_q)))
 
   live-heard : AllLostLive w → AllLostLive new
   live-heard all life y i a at_y there =
@@ -457,5 +457,6 @@ run-lost-were-live s es stopped w ok are runs life x at i a there =
         means = l.means;
       };
       live = (l.line.0, l.line.1, l.held);
+      since = l.since;
       why = l.why;
     }
