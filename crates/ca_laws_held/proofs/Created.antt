@@ -459,7 +459,7 @@ step-created w new k takes channels creations (at, (did, f)) all = elim (handled
 
 -- ---- every event
 
-back-created : (w new : World) → Back w new → AllCreated w → AllCreated new
+pub back-created : (w new : World) → Back w new → AllCreated w → AllCreated new
 back-created w new back all l d at = (let c = back l d at in keeps-created c.0 d c.2 (all l c.0 c.1))
 
 -- a circuit on which nothing was told

@@ -99,5 +99,6 @@ pub mod Lost
 pub mod ToldNotices
 pub mod LostRuns
 pub mod ToldCreated
-pub mod LostLive
 pub mod LostLast
+pub mod LostLive
+pub mod Completing

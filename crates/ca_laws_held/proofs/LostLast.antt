@@ -4,9 +4,10 @@ use Rattle.std.specs.List.{FoldsTo}
 use Rattle.std.proofs.lemmas.Bool.{both_ways}
 use Rattle.ca_text.specs.Place.{At}
 use Rattle.ca_text.specs.declared.command.Command.TheVariants as command
-use Rattle.ca_text.proofs.Places.{At-map, At-mapped, At-one, At-or, At-within}
+use Rattle.ca_text.proofs.Places.{At-map, At-mapped, At-one, At-or, At-parts, At-within}
 use Rattle.ca_arena.specs.declared.handle.Handle.{Handle}
 use Rattle.ca_dbr.specs.declared.value.Outcome.TheVariants as outcome
+use Rattle.ca_requests.specs.Requests.{asks_on}
 use Rattle.ca_wire.specs.Fields.{Fields}
 use Rattle.ca_model.specs.Answers.{Notice, Sending}
 use Rattle.ca_model.specs.Answers as answer
@@ -45,7 +46,7 @@ use Rattle.ca_laws_held.proofs.OrderKeeps.{IsHearing, hear-lines, hear-step}
 use Rattle.ca_laws_held.proofs.Parting.{IsAway, IsCut, Parted, PartsFrom, closed-parts, event-parts, parts-silent, tick-parts}
 use Rattle.ca_laws_held.proofs.Replied.{reached-answer}
 use Rattle.ca_laws_held.proofs.Spent.{AllSpent, Known}
-use Rattle.ca_laws_held.proofs.ToldAsked.{tells-asked}
+use Rattle.ca_laws_held.proofs.ToldAsked.{gone-open, tells-asked}
 use Rattle.ca_laws_held.proofs.ToldGrows.{Onward, WorldsOn, event-on, on-grown}
 use Rattle.ca_laws_held.proofs.ToldLines.{lines-grown, lines-same}
 use Rattle.ca_laws_held.proofs.ToldLines.{IsSilent}
@@ -59,7 +60,7 @@ use Rattle.ca_text.proofs.Places.{At-after, At-set, At-snoc}
 use Rattle.ca_text.specs.Command.{command_number}
 use Rattle.ca_text.specs.declared.command.Command.{Command}
 use Rattle.ca_ids.specs.Table.{same_handle}
-use Rattle.ca_model.specs.Client.{Phase, channel_on}
+use Rattle.ca_model.specs.Client.{Phase, channel_on, disconnections}
 use Rattle.ca_model.specs.ClientCalls.{clear_sent}
 use Rattle.ca_model.specs.Hears.{Hears, left, understood}
 use Rattle.ca_model.specs.Hears as heard
@@ -70,7 +71,6 @@ use Rattle.ca_laws_circuit.specs.Sids.{IsClearedWithin}
 use Rattle.ca_laws_runs.specs.Circuit.{sent_to, stamped}
 use Rattle.ca_laws_writes.proofs.Midway.{set-here}
 use Rattle.ca_laws_held.proofs.Live.{one-sid}
-use Rattle.ca_laws_held.proofs.LostLive.{create-number}
 use Rattle.ca_laws_held.proofs.OnceSent.{there-sent}
 use Rattle.ca_laws_held.proofs.OrderGrows.{each-event, step-grown}
 use Rattle.ca_laws_held.proofs.OrderKeeps.{begun-grown, begun-mid, hear-grown, hearing-or, made-or}
@@ -80,9 +80,12 @@ use Rattle.ca_laws_held.proofs.ToldCreated.{ReadsNone, none-grown, none-handled,
 -- ---- a channel that was created and not cleared since was not told lost
 
 -- On an open circuit, since the reply was told that created a channel under a SID that was not cleared since, no loss of that channel was told.
-abbrev AllLast : World → Type 0
+abbrev pub AllLast : World → Type 0
 AllLast w = (n : ℕ) (c : Joined) (log : List Line) (i a sid m : ℕ) (t : Told) (h : Step) (s : Sent) → At w.circuits n c → At w.client_logs c.lists.client log → c.lists.client_open ≡ true → At c.lists.down i t → At c.lists.heard i h → t.cause ≡ Reply → Creates t.message sid
     → At c.lists.up t.place s → s.intent ≡ On a Create → (IsClearedWithin c.lists.up sid t.place (length c.lists.up) → ⊥) → h.logged < m → At log m (Noticed (On a Create) outcome.Disconnected) → ⊥
+
+pub create-number : (a b : ℕ) → On a Create ≡ On b Create → a ≡ b
+create-number a b e = cc
 
 open-back : (b : Bool) → (b ≡ false → ⊥) → b ≡ true
 open-back true never = refl
@@ -203,7 +206,7 @@ module _ (w new : World) (k : ℕ) (j : Joined) (x : ClientSide) (on : At w.circ
 
   -- A loss was told: the SERVER_DISCONN of the channel was read, and the channel is cleared.
   abbrev LostNow : ℕ → Type 0
-  LostNow a = (h : Handle) × (other : ℕ) × (channel_number x.names h ≡ a) × IsLiveAs x.core.channels j.at_client h other × (f.sent ≡ clear_sent j.at_client other h ∷ []) × ((u : Told) → At j.lists.down (length j.lists.heard) u → u.cause ≡ Removal)
+  LostNow a = (h : Handle) × (other : ℕ) × (channel_number x.names h ≡ a) × IsLiveAs x.core.channels j.at_client h other × (f.sent ≡ clear_sent j.at_client other h ∷ []) × ((u : Told) → At j.lists.down (length j.lists.heard) u → u.cause ≡ Removal) × (z : Client) × (f.notices ≡ disconnections (asks_on h) z ++ answer.Lost h ∷ [])
 
   lost-now : (a p : ℕ) (said : Notice) → At f.notices p said → line_of (about_at j.lists (length j.lists.heard)) x.names said ≡ Noticed (On a Create) outcome.Disconnected → LostNow a
   lost-now a p (answer.Update g out) at_p is = absurd cc
@@ -227,7 +230,29 @@ module _ (w new : World) (k : ℕ) (j : Joined) (x : ClientSide) (on : At w.circ
         record { ch = ch.0; native = u.1.0; rights = u.1.1; there = ch.1; stands = ch.3; is = refl },
         ap (λ (v : Effect). v.sent) does,
         λ v there. ap (λ (q : Told). q.cause) (At-one j.lists.down (length j.lists.heard) v n.t there n.told) ∙ l.0,
+        z,
+        ap (λ (v : Effect). v.notices) does,
       )
+
+  -- It was told last.
+  pub lost-last : (a p : ℕ) (said : Notice) → At f.notices p said → line_of (about_at j.lists (length j.lists.heard)) x.names said ≡ Noticed (On a Create) outcome.Disconnected → (q : ℕ) (v : Notice) → At f.notices q v → q ≤ p
+  lost-last a p said at_p is q v at_q =
+      let l = lost-now a p said at_p is in
+      let gone : List Notice = disconnections (asks_on l.0) l.6 in
+      elim (At-parts gone (answer.Lost l.0 ∷ []) p said (subst (λ (ns : List Notice). At ns p said) l.7 at_p)) [
+        | inl first ↦ absurd (let g = gone-open (asks_on l.0) l.6 p said first in no-create g.0 (ap (λ (z : Notice). line_of (about_at j.lists (length j.lists.heard)) x.names z) (sym g.1) ∙ is))
+        | inr more ↦
+            let placed : p ≡ length gone + more.0 = more.1 in
+            elim (At-parts gone (answer.Lost l.0 ∷ []) q v (subst (λ (ns : List Notice). At ns q v) l.7 at_q)) [
+              | inl early ↦ (let lt : q < length gone = At-within gone q v early in omega (arith, lt, placed))
+              | inr late ↦ (let lt : late.0 < 1 = At-within (answer.Lost l.0 ∷ []) late.0 v late.2 in let q_is : q ≡ length gone + late.0 = late.1 in omega (arith, lt, placed, q_is))
+            ]
+      ]
+    where
+      no-create : (g : Handle) → line_of (about_at j.lists (length j.lists.heard)) x.names (answer.Completed g outcome.Disconnected) ≡ Noticed (On a Create) outcome.Disconnected → ⊥
+      no-create g same =
+          let meant : meant_by x.names.requests g ≡ On a Create = noticed-intent (meant_by x.names.requests g) (On a Create) outcome.Disconnected outcome.Disconnected same in
+          no-request x.names.requests g (λ m e named. (let r = (known.quiet.tidy j.client x at).asked m e named in (r.0, r.1, r.2))) (subst (λ (z : Intent). IsToLast z) (sym meant) tt)
 
   -- a line is new, and tells this; or it was there
   new-or : (life : ℕ) (log : List Line) (a m : ℕ) → At new.client_logs life log → At log m (Noticed (On a Create) outcome.Disconnected) → ((y : List Line) × At w.client_logs life y × At y m (Noticed (On a Create) outcome.Disconnected)) ⊎ ((life ≡ x.life) × LostNow a)
@@ -298,7 +323,7 @@ module _ (w new : World) (k : ℕ) (j : Joined) (x : ClientSide) (on : At w.circ
 
 -- ---- moments, events and runs
 
-last-ticks : (s : Setting) (moment : ℕ) (base : World) → Sound s base → Known base → (done is : List ℕ) (w new : World) → FoldsTo (TicksOne moment) base done w → FoldsTo (TicksOne moment) w is new → AllLast w → AllLast new
+pub last-ticks : (s : Setting) (moment : ℕ) (base : World) → Sound s base → Known base → (done is : List ℕ) (w new : World) → FoldsTo (TicksOne moment) base done w → FoldsTo (TicksOne moment) w is new → AllLast w → AllLast new
 last-ticks s moment base sound known done [] w new ticked same all = subst (λ (v : World). AllLast v) same all
 last-ticks s moment base sound known done (i ∷ is) w new ticked (mid, one, rest) all =
     let k : Known w = known-ticks s moment done base w sound ticked known in
@@ -372,7 +397,7 @@ after-last s es (e ∷ rest) w new ok are more folds (mid, one, others) all =
     after-last s (es ++ e ∷ []) rest mid new ok (are-snoc es e are (more 0 e refl)) (λ i f at. more (suc i) f at) (folds-snoc es (opening s) w mid e folds one) others
     (event-last s es w mid ok are (w, folds, refl) all e one)
 
-run-last : (s : Setting) (es : List Event) (stopped : Option Event) (w : World) → IsSetting s → AreEvents es → Runs s es stopped w → AllLast w
+pub run-last : (s : Setting) (es : List Event) (stopped : Option Event) (w : World) → IsSetting s → AreEvents es → Runs s es stopped w → AllLast w
 run-last s es stopped w ok are (mid, folds, stops) = stop stopped stops
   where
     all : AllLast mid

@@ -4,7 +4,7 @@ use Rattle.std.specs.List.{FoldsTo}
 use Rattle.std.specs.Prelude.{take}
 use Rattle.std.proofs.lemmas.Bool.{both_ways}
 use Rattle.ca_text.specs.Place.{At}
-use Rattle.ca_text.proofs.Places.{At-append, At-last, At-map, At-mapped, At-one, At-or, At-parts, At-within}
+use Rattle.ca_text.proofs.Places.{At-append, At-back, At-last, At-map, At-mapped, At-one, At-or, At-parts, At-within}
 use Rattle.ca_arena.specs.declared.handle.Handle.{Handle}
 use Rattle.ca_dbr.specs.declared.value.Outcome.TheVariants as outcome
 use Rattle.ca_ids.specs.Table.{under}
@@ -31,23 +31,31 @@ use Rattle.ca_laws_kept.specs.Kept.{kept}
 use Rattle.ca_laws_runs.specs.Circuit.{HeldOn}
 use Rattle.ca_laws_writes.specs.Seats.{Sound}
 use Rattle.ca_laws_writes.proofs.Lists.{At-take, none_at, take-front}
+use Rattle.ca_laws_circuit.specs.Sids.{IsClearedWithin}
+use Rattle.ca_laws_writes.proofs.Every.{ticks-frame}
 use Rattle.ca_laws_held.specs.Answering.{AllAnswer}
+use Rattle.ca_laws_held.specs.Created.{AllCreated}
 use Rattle.ca_laws_held.specs.Sides.{IsLiveAs}
 use Rattle.ca_laws_held.specs.Tells.{NoticesTell}
 use Rattle.ca_laws_held.specs.ToldLines.{IsToLast}
 use Rattle.ca_laws_held.specs.ToldParts.{LostWereLive}
 use Rattle.ca_laws_held.specs.Under.{IsUse}
+use Rattle.ca_laws_held.proofs.Created.{back-created, reached-created}
 use Rattle.ca_laws_held.proofs.Farewell.{FromFarewell}
 use Rattle.ca_laws_held.proofs.Heard.{created-before}
+use Rattle.ca_laws_held.proofs.Holds.{held-asked}
 use Rattle.ca_laws_held.proofs.Joint.{are-snoc, folds-snoc, run-tells}
 use Rattle.ca_laws_held.proofs.LegalRemovals.{AllRemovedRight, run-right}
 use Rattle.ca_laws_held.proofs.Lost.{left-about}
+use Rattle.ca_laws_held.proofs.LostLast.{AllLast, create-number, last-ticks, lost-last, run-last}
 use Rattle.ca_laws_held.proofs.LostRuns.{after-lost, known-runs, known-ticks, opening-lost, plain-or, ticks-snoc}
 use Rattle.ca_laws_held.proofs.OnceLess.{is_gone}
 use Rattle.ca_laws_held.proofs.OrderGrows.{ticks-grown}
 use Rattle.ca_laws_held.proofs.OrderKeeps.{IsHearing, hear-lines, hear-step}
 use Rattle.ca_laws_held.proofs.Parting.{IsAway, IsCut, Parted, PartsFrom, closed-parts, event-parts, not-call, parts-silent, tick-parts}
 use Rattle.ca_laws_held.proofs.Replied.{reached-answer}
+use Rattle.ca_laws_held.proofs.Says.{one-handle}
+use Rattle.ca_laws_held.proofs.SidTells.{back-frame}
 use Rattle.ca_laws_held.proofs.Spent.{AllSpent, Known}
 use Rattle.ca_laws_held.proofs.ToldAsked.{tells-asked}
 use Rattle.ca_laws_held.proofs.ToldCreated.{AllToldLive, create-used, run-told-live, so-grown, told-on}
@@ -56,11 +64,12 @@ use Rattle.ca_laws_held.proofs.ToldLines.{lines-grown, lines-same}
 use Rattle.ca_laws_held.proofs.ToldLines.{IsSilent}
 use Rattle.ca_laws_held.proofs.ToldRemoval.{AllRemovals, run-removals}
 use Rattle.ca_laws_held.proofs.ToldRuns.{run-lasting}
+use Rattle.ca_laws_held.proofs.Under.{uncleared}
 use Rattle.ca_laws_held.proofs.ToldSteps.{after, log-is, next, no-request, noticed-intent, noticed-outcome}
 
 -- ---- a channel that is live was told so
 
--- The reply that created the channel on this circuit was read, and told in this log; since then the channel was only used.
+-- The reply that created the channel on this circuit was read, and told in this log; since then the channel was only used, and not told lost.
 record WasTold (c : Joined) (log : List Line) (a : ℕ) : Type 0 where
   j : ℕ
   t : Told
@@ -72,13 +81,14 @@ record WasTold (c : Joined) (log : List Line) (a : ℕ) : Type 0 where
   means : Means t.message outcome.Done
   line : At log h.logged (Noticed (On a Create) outcome.Done)
   since : (q : ℕ) (r : Sent) (ask : Ask) → t.place < q → At c.lists.up q r → r.intent ≡ On a ask → IsUse ask
+  none : (m : ℕ) → h.logged < m → At log m (Noticed (On a Create) outcome.Disconnected) → ⊥
 
 clear-used : (ask : Ask) → ask ≡ Clear → IsUse ask → ⊥
 clear-used ask is uses = subst (λ (z : Ask). IsUse z) is uses
 
-was-told : (w : World) → Known w → AllToldLive w → (n : ℕ) (c : Joined) (x : ClientSide) (log : List Line) (h : Handle) (sid : ℕ) → At w.circuits n c → At w.clients c.client x → c.lists.client_open ≡ true → At w.client_logs x.life log → IsLiveAs x.core.channels c.at_client h sid
+was-told : (w : World) → Known w → AllToldLive w → AllCreated w → AllLast w → (n : ℕ) (c : Joined) (x : ClientSide) (log : List Line) (h : Handle) (sid : ℕ) → At w.circuits n c → At w.clients c.client x → c.lists.client_open ≡ true → At w.client_logs x.life log → IsLiveAs x.core.channels c.at_client h sid
     → WasTold c log (channel_number x.names h)
-was-told w known told n c x log h sid on at opened logged live =
+was-told w known told created last n c x log h sid on at opened logged live =
     let a : ℕ = channel_number x.names h in
     let b = (known.sided.sides n c x on at opened).lives h sid live in
     let m = b.3 in
@@ -103,6 +113,12 @@ was-told w known told n c x log h sid on at opened logged live =
                   means = inr (inr (inl (m.told.3.0, tt)));
                   line = subst (λ (v : List Line). At v step.0.logged (Noticed (On a Create) outcome.Done)) one said.2;
                   since = λ q r ask lt there is. m.since q r ask (subst (λ (v : ℕ). v < q) m.told.1 lt) (At-within c.lists.up q r there) there is;
+                  none = λ q lt line.
+                      last n c log b.0 a sid q m.t step.0 m.r on (subst (λ (v : ℕ). At w.client_logs v log) (sym life) logged) opened m.told.0 step.1 m.told.2 m.told.3 up m.asked.1
+                      (λ cleared.
+                      uncleared c (created n c on) (known.sided.right n c on).under (λ k s at_s. held-asked w known.held n k c s on at_s) a b.0 b.1 sid (length c.lists.up) m
+                      (subst (λ (v : ℕ). IsClearedWithin c.lists.up sid v (length c.lists.up)) m.told.1 cleared))
+                      lt line;
                 }
           ]
     ]
@@ -121,6 +137,7 @@ record IsLostLive (w : World) (life : ℕ) (x : List Line) (i a : ℕ) : Type 0 
   own : At c.lists.up t.place s × (s.intent ≡ On a Create)
   means : Means t.message outcome.Done
   line : At x h.logged (Noticed (On a Create) outcome.Done) × (h.logged < i)
+  since : (m : ℕ) → h.logged < m → m < i → At x m (Noticed (On a Create) outcome.Disconnected) → ⊥
   held : In (take i x) (Called (On a Clear) None) → ⊥
   why : (c.lists.client_open ≡ false) ⊎ ((q : ℕ) × (u : Told) × (g : Step) × At c.lists.down q u × At c.lists.heard q g × (u.cause ≡ Removal) × (u.place ≡ t.place) × (g.logged ≤ i) × (i < g.after))
 
@@ -140,6 +157,7 @@ live-on w new on life x more i a within l =
       own = (c.2.up l.t.place l.s l.own.0, l.own.1);
       means = l.means;
       line = (At-append x more l.h.logged (Noticed (On a Create) outcome.Done) l.line.0, l.line.1);
+      since = λ m lt lm line. l.since m lt lm (At-back x more m (Noticed (On a Create) outcome.Disconnected) line (omega (arith, within, lm)));
       held = subst (λ (v : List Line). In v (Called (On a Clear) None) → ⊥) (sym (take-front i x more (omega (arith, within)))) l.held;
       why = elim l.why [
         | inl shut ↦ inl (c.2.shut shut)
@@ -168,8 +186,9 @@ held-by log more i a before fresh c = elim (At-parts log more c.0 (Called (On a 
 
 -- a circuit goes on, on which a channel was told to be live
 lost-from : (new : World) (n : ℕ) (c d : Joined) (log more : List Line) (i life a : ℕ) → At new.circuits n d → Onward c d → c.lists.client ≡ life → length log ≤ i → (In (take i (log ++ more)) (Called (On a Clear) None) → ⊥) → (l : WasTold c log a)
-    → ((d.lists.client_open ≡ false) ⊎ ((q : ℕ) × (u : Told) × (g : Step) × At d.lists.down q u × At d.lists.heard q g × (u.cause ≡ Removal) × (u.place ≡ l.t.place) × (g.logged ≤ i) × (i < g.after))) → IsLostLive new life (log ++ more) i a
-lost-from new n c d log more i life a at_d goes mine late held l why =
+    → ((d.lists.client_open ≡ false) ⊎ ((q : ℕ) × (u : Told) × (g : Step) × At d.lists.down q u × At d.lists.heard q g × (u.cause ≡ Removal) × (u.place ≡ l.t.place) × (g.logged ≤ i) × (i < g.after)))
+    → ((m q : ℕ) → m ≡ length log + q → m < i → At more q (Noticed (On a Create) outcome.Disconnected) → ⊥) → IsLostLive new life (log ++ more) i a
+lost-from new n c d log more i life a at_d goes mine late held l why fresh =
     let early : l.h.logged < length log = At-within log l.h.logged (Noticed (On a Create) outcome.Done) l.line in
     record {
       n = n;
@@ -183,14 +202,12 @@ lost-from new n c d log more i life a at_d goes mine late held l why =
       own = (goes.up l.t.place l.s l.own.0, l.own.1);
       means = l.means;
       line = (At-append log more l.h.logged (Noticed (On a Create) outcome.Done) l.line, omega (arith, early, late));
+      since = λ m lt lm line. elim (At-parts log more m (Noticed (On a Create) outcome.Disconnected) line) [ inl old ↦ l.none m lt old | inr new_one ↦ fresh m new_one.0 new_one.1 lm new_one.2 ];
       held = held;
       why = why;
     }
 
-pub create-number : (a b : ℕ) → On a Create ≡ On b Create → a ≡ b
-create-number a b e = cc
-
-module _ (w new : World) (known : Known w) (told : AllToldLive w) (on : WorldsOn w new) where
+module _ (w new : World) (known : Known w) (told : AllToldLive w) (created : AllCreated w) (last : AllLast w) (on : WorldsOn w new) where
   was-live : AllLostLive w → (life : ℕ) (y : List Line) (i a : ℕ) → At new.client_logs life y → ((x : List Line) × At w.client_logs life x × At x i (Noticed (On a Create) outcome.Disconnected)) → IsLostLive new life y i a
   was-live all life y i a at old =
       let more = on.logs life old.0 old.1 in
@@ -203,10 +220,27 @@ module _ (w new : World) (known : Known w) (told : AllToldLive w) (on : WorldsOn
       says : (said : Notice) → p.said ≡ said → line_of OfCircuit p.x.names said ≡ Noticed (On a Create) outcome.Disconnected
       says said is = ap (λ (v : Notice). line_of OfCircuit p.x.names v) (sym is) ∙ sym p.tells
 
-      no-create : (q : Handle) → p.said ≡ answer.Completed q outcome.Disconnected → ⊥
-      no-create q is =
-          let meant : meant_by p.x.names.requests q ≡ On a Create = noticed-intent (meant_by p.x.names.requests q) (On a Create) outcome.Disconnected outcome.Disconnected (says (answer.Completed q outcome.Disconnected) is) in
+      no-line : (q : Handle) → line_of OfCircuit p.x.names (answer.Completed q outcome.Disconnected) ≡ Noticed (On a Create) outcome.Disconnected → ⊥
+      no-line q is =
+          let meant : meant_by p.x.names.requests q ≡ On a Create = noticed-intent (meant_by p.x.names.requests q) (On a Create) outcome.Disconnected outcome.Disconnected is in
           no-request p.x.names.requests q (λ m e named. (let r = (known.quiet.tidy p.number p.x p.at).asked m e named in (r.0, r.1, r.2))) (subst (λ (v : Intent). IsToLast v) (sym meant) tt)
+
+      no-create : (q : Handle) → p.said ≡ answer.Completed q outcome.Disconnected → ⊥
+      no-create q is = no-line q (says (answer.Completed q outcome.Disconnected) is)
+
+      -- what was told before in the same event is another's
+      another : (f h : Handle) (sid : ℕ) → p.said ≡ answer.Lost f → IsLiveAs p.x.core.channels h f sid → channel_number p.x.names f ≡ a → (q : ℕ) → q < p.place → At p.lines q (Noticed (On a Create) outcome.Disconnected) → ⊥
+      another f h sid is live number q lt at_q =
+          let o = p.once f is q (Noticed (On a Create) outcome.Disconnected) lt at_q in
+          let line : (said : Notice) → o.0 ≡ said → line_of OfCircuit p.x.names said ≡ Noticed (On a Create) outcome.Disconnected = λ said same. ap (λ (v : Notice). line_of OfCircuit p.x.names v) (sym same) ∙ sym o.1 in
+          elim o.2.from [
+            | inl g ↦ no-line g.0 (line (answer.Completed g.0 outcome.Disconnected) g.1)
+            | inr g ↦
+                let tidy = known.quiet.tidy p.number p.x p.at in
+                let its : channel_number p.x.names g.0 ≡ a = create-number (channel_number p.x.names g.0) a (noticed-intent (On (channel_number p.x.names g.0) Create) (On a Create) outcome.Disconnected outcome.Disconnected (line (answer.Lost g.0) g.1)) in
+                let one : g.0 ≡ f = one-handle p.x.names g.0 f (tidy.numbered g.0 (g.2.1).ch (g.2.1).there) (tidy.numbered f live.ch live.there) (its ∙ sym number) in
+                o.3 (g.1 ∙ ap (λ (k : Handle). answer.Lost k) one)
+          ]
 
       by : IsCut w new p.number p.x p.said ⊎ IsAway p.x p.said y i → IsLostLive new life y i a
       by (inr away) = absurd (no-create away.q away.is)
@@ -224,12 +258,13 @@ module _ (w new : World) (known : Known w) (told : AllToldLive w) (on : WorldsOn
               let number : channel_number p.x.names f.0 ≡ a = create-number (channel_number p.x.names f.0) a (noticed-intent (On (channel_number p.x.names f.0) Create) (On a Create) outcome.Disconnected outcome.Disconnected (says (answer.Lost f.0) f.1)) in
               let o = on.circuits cut.n cut.c cut.on.0 in
               let logged : At w.client_logs p.x.life p.log = subst (λ (l : ℕ). At w.client_logs l p.log) p.mine p.there in
-              let l : WasTold cut.c p.log a = subst (λ (z : ℕ). WasTold cut.c p.log z) number (was-told w known told cut.n cut.c p.x p.log f.0 f.2.0 cut.on.0 at_x cut.on.2 logged f.2.1) in
+              let l : WasTold cut.c p.log a = subst (λ (z : ℕ). WasTold cut.c p.log z) number (was-told w known told created last cut.n cut.c p.x p.log f.0 f.2.0 cut.on.0 at_x cut.on.2 logged f.2.1) in
               let place : i ≡ length p.log + p.place = p.late.0 in
               subst (λ (z : List Line). IsLostLive new life z i a) (sym p.whole)
               (lost-from new cut.n cut.c o.0 p.log p.lines i life a o.1 o.2 (known.lives.same cut.n cut.c p.x cut.on.0 at_x cut.on.2 ∙ sym p.mine) (omega (arith, place))
               (held-by p.log p.lines i a (subst (λ (z : ℕ). In p.log (Called (On z Clear) None) → ⊥) number (not-cleared w known p.number p.x p.log f.0 cut.c.at_client f.2.0 p.at logged f.2.1)) (λ q at_q. (let away = p.calls q (On a Clear) None at_q in no-create away.q away.is)))
-              l (inl (shut o.0 o.1)))
+              l (inl (shut o.0 o.1))
+              (λ m q m_is lt at_q. another f.0 cut.c.at_client f.2.0 f.1 f.2.1 number q (omega (arith, place, m_is, lt)) at_q))
 
   live-parts : PartsFrom w new → AllLostLive w → AllLostLive new
   live-parts parts all life y i a at there = elim (parts life y i (Noticed (On a Create) outcome.Disconnected) at there) [
@@ -241,7 +276,7 @@ module _ (w new : World) (known : Known w) (told : AllToldLive w) (on : WorldsOn
 -- ---- a message is read
 
 module _ (w new : World) (k : ℕ) (j : Joined) (x : ClientSide) (on : At w.circuits k j) (at : At w.clients j.client x) (opened : j.lists.client_open ≡ true) (f : IsHearing w new k j x)
-    (hears : HearsSent w) (caused : AllCaused w) (answers : AllAnswer w) (removals : AllRemovals w) (tells : NoticesTell w k) (known : Known w) (spent : AllSpent w) (right : AllRemovedRight w) (told : AllToldLive w) where
+    (hears : HearsSent w) (caused : AllCaused w) (answers : AllAnswer w) (removals : AllRemovals w) (tells : NoticesTell w k) (known : Known w) (spent : AllSpent w) (right : AllRemovedRight w) (told : AllToldLive w) (created : AllCreated w) (last : AllLast w) (goes_on : WorldsOn w new) where
   mine : HeldOn (kept w k) x.names x.core j
   mine =
       let held = known.held k j on in
@@ -264,7 +299,7 @@ module _ (w new : World) (k : ℕ) (j : Joined) (x : ClientSide) (on : At w.circ
       let l = left-about w new k j x on at opened f hears caused answers removals tells known spent right h u in
       let number : channel_number x.names h ≡ a = create-number (channel_number x.names h) a (noticed-intent (On (channel_number x.names h) Create) (On a Create) outcome.Disconnected outcome.Disconnected is) in
       let at_log : At w.client_logs x.life log = subst (λ (v : ℕ). At w.client_logs v log) is_mine there in
-      let was : WasTold j log (channel_number x.names h) = was-told w known told k j x log h l.2.0 on at opened at_log l.2.1 in
+      let was : WasTold j log (channel_number x.names h) = was-told w known told created last k j x log h l.2.0 on at opened at_log l.2.1 in
       let speaks : Speaks n.t.message (Cid n.m.p1) = inl (inl (inr (inr (inr (ap (λ (v : Fields). v.command) n.is ∙ u.0))), ap (λ (v : Fields). v.p1) n.is)) in
       let late : was.t.place ≤ n.t.place = created-before (kept w k) x.names x.core j.at_client j.lists n.t n.s (known.quiet.tidy j.client x at) (known.quiet.quiet k j x on at opened) mine.flows (mine.cids opened) (mine.holds opened) n.told n.up n.m.p1 h (Live u.1.0 u.1.1) was.t.place u.1.2 speaks (was.s, was.own.0, was.own.1) in
       let same : n.t.place ≡ was.t.place = elim (three-ways was.t.place n.t.place) [
@@ -297,13 +332,17 @@ module _ (w new : World) (k : ℕ) (j : Joined) (x : ClientSide) (on : At w.circ
         same,
         omega (arith, logged, place),
         omega (arith, logged, place, some),
-      )))
+      ))
+      (λ m q m_is lt at_q.
+      let v = At-mapped (line_of (about_at j.lists (length j.lists.heard)) x.names) f.notices q (Noticed (On (channel_number x.names h) Create) outcome.Disconnected) at_q in
+      let late_q : p ≤ q = lost-last w new k j x on at opened f hears caused answers removals tells known spent right goes_on last (channel_number x.names h) q v.0 v.1 (sym v.2) p (answer.Lost h) at_p in
+      omega (arith, m_is, place, lt, late_q)))
 
-  live-heard : WorldsOn w new → AllLostLive w → AllLostLive new
-  live-heard goes all life y i a at_y there =
+  live-heard : AllLostLive w → AllLostLive new
+  live-heard all life y i a at_y there =
       let lines : List Line = hear-lines w new k j x on at f in
       elim (lines-grown w.client_logs x.life lines (known.lives.present j.client x at) life y i (Noticed (On a Create) outcome.Disconnected) (subst (λ (v : List (List Line)). At v life y) (ap (λ (v : World). v.client_logs) f.is) at_y) there) [
-        | inl old ↦ was-live w new known told goes all life y i a at_y old
+        | inl old ↦ was-live w new known told created last goes_on all life y i a at_y old
         | inr more ↦
             let m = At-mapped (line_of (about_at j.lists (length j.lists.heard)) x.names) f.notices more.1 (Noticed (On a Create) outcome.Disconnected) more.5 in
             heard-live life more.0 y i more.1 (Noticed (On a Create) outcome.Disconnected) a m.0 more.2 more.3 more.4 more.5 more.6 m.1 (sym m.2)
@@ -311,14 +350,14 @@ module _ (w new : World) (k : ℕ) (j : Joined) (x : ClientSide) (on : At w.circ
 
 -- ---- moments, events and runs
 
-live-ticks : (s : Setting) (moment : ℕ) (base : World) → Sound s base → Known base → (done is : List ℕ) (w new : World) → FoldsTo (TicksOne moment) base done w → FoldsTo (TicksOne moment) w is new → AllToldLive w → AllLostLive w → AllLostLive new
-live-ticks s moment base sound known done [] w new ticked same told all = subst (λ (v : World). AllLostLive v) same all
-live-ticks s moment base sound known done (i ∷ is) w new ticked (mid, one, rest) told all =
+live-ticks : (s : Setting) (moment : ℕ) (base : World) → Sound s base → Known base → AllCreated base → AllLast base → (done is : List ℕ) (w new : World) → FoldsTo (TicksOne moment) base done w → FoldsTo (TicksOne moment) w is new → AllToldLive w → AllLostLive w → AllLostLive new
+live-ticks s moment base sound known created last done [] w new ticked same told all = subst (λ (v : World). AllLostLive v) same all
+live-ticks s moment base sound known created last done (i ∷ is) w new ticked (mid, one, rest) told all =
     let k : Known w = known-ticks s moment done base w sound ticked known in
     let g = ticks-grown moment w (i ∷ []) mid (mid, one, refl) in
     let on : WorldsOn w mid = on-grown w mid g in
-    live-ticks s moment base sound known (done ++ i ∷ []) is mid new (ticks-snoc moment done base w mid i ticked one) rest (told-on w mid k.held on (so-grown w mid g) told)
-    (live-parts w mid k told on (tick-parts moment w i mid k.lives k.sent one) all)
+    live-ticks s moment base sound known created last (done ++ i ∷ []) is mid new (ticks-snoc moment done base w mid i ticked one) rest (told-on w mid k.held on (so-grown w mid g) told)
+    (live-parts w mid k told (back-created base w (back-frame base w (ticks-frame moment base done w ticked)) created) (last-ticks s moment base sound known [] done base w refl ticked last) on (tick-parts moment w i mid k.lives k.sent one) all)
 
 module _ (s : Setting) (es : List Event) (w new : World) (ok : IsSetting s) (are : AreEvents es) (runs : Runs s es None w) where
   known : Known w
@@ -326,6 +365,12 @@ module _ (s : Setting) (es : List Event) (w new : World) (ok : IsSetting s) (are
 
   told : AllToldLive w
   told = run-told-live s es None w ok are runs
+
+  created : AllCreated w
+  created = reached-created w (s, es, None, ok, runs)
+
+  last : AllLast w
+  last = run-last s es None w ok are runs
 
   spent : AllSpent w
   spent = from runs
@@ -340,30 +385,30 @@ module _ (s : Setting) (es : List Event) (w new : World) (ok : IsSetting s) (are
       on = event-on w new (event.ClientStep k) happens
 
       go : (did : answer.Stepped) (sent : List Sending) (core : Client) → StepsOn happens.0.x.core happens.0.j.at_client (connection_at happens.0.x.core happens.0.j.at_client) did sent core → new ≡ client_stepped k happens.0.j happens.0.x did sent core w → AllLostLive new
-      go answer.NeedBytes sent core steps is = live-parts w new known told on (parts-silent w new (lines-same IsSilent w new (ap (λ (z : World). z.client_logs) is))) all
+      go answer.NeedBytes sent core steps is = live-parts w new known told created last on (parts-silent w new (lines-same IsSilent w new (ap (λ (z : World). z.client_logs) is))) all
       go (answer.Closed c) sent core steps is =
-          live-parts w new known told on (subst (λ (v : World). PartsFrom w v) (sym is)
+          live-parts w new known told created last on (subst (λ (v : World). PartsFrom w v) (sym is)
           (closed-parts w k happens.0.j happens.0.x c sent core happens.0.joins.at happens.0.joins.client happens.0.is_open known.lives known.stands steps)) all
       go (answer.Notices notices) sent core steps is =
           live-heard w new k happens.0.j happens.0.x happens.0.joins.at happens.0.joins.client happens.0.is_open (record { notices = notices; sent = sent; core = core; steps = steps; is = is })
           (runs-hear s es None w ok are runs) (runs-caused s es None w ok are runs) (reached-answer w (s, es, None, ok, runs)) (run-removals s es None w ok runs) (run-tells s es None w new k ok are runs happens)
-          known spent (run-right s es None w ok runs) told on all
+          known spent (run-right s es None w ok runs) told created last on all
 
   event-live : (e : Event) → Happens w e new → AllLostLive w → AllLostLive new
   event-live e happens all = elim (plain-or e) [
     | inl plain ↦
-        live-parts w new known told (event-on w new e happens)
+        live-parts w new known told created last (event-on w new e happens)
         (event-parts w new e plain known.lives known.stands known.live (λ i x c h at named. (known.quiet.tidy i x at).once c h named) happens) all
     | inr (inl step) ↦ step-live step.0 (subst (λ (x : Event). Happens w x new) step.1 happens) all
     | inr (inr tick) ↦
         let t : Happens w (event.Tick tick.0) new = subst (λ (x : Event). Happens w x new) tick.1 happens in
-        subst (λ (v : World). AllLostLive v) (sym t.1.2) (ticked tick.0 t.1.0 (live-ticks s tick.0 w (runs-stand s es None w ok runs).sound known [] _ w t.1.0 refl t.1.1 told all))
+        subst (λ (v : World). AllLostLive v) (sym t.1.2) (ticked tick.0 t.1.0 (live-ticks s tick.0 w (runs-stand s es None w ok runs).sound known created last [] _ w t.1.0 refl t.1.1 told all))
   ]
     where
       ticked : (moment : ℕ) (mid : World) → AllLostLive mid → AllLostLive (record mid { moment = moment })
       ticked moment mid old life x i a at there =
           let r = old life x i a at there in
-          record { n = r.n; c = r.c; on = r.on; j = r.j; t = r.t; h = r.h; s = r.s; read = r.read; own = r.own; means = r.means; line = r.line; held = r.held; why = r.why }
+          record { n = r.n; c = r.c; on = r.on; j = r.j; t = r.t; h = r.h; s = r.s; read = r.read; own = r.own; means = r.means; line = r.line; since = r.since; held = r.held; why = r.why }
 
 after-live : (s : Setting) (es rest : List Event) (w new : World) → IsSetting s → AreEvents es → AreEvents rest → FoldsTo Happens (opening s) es w → FoldsTo Happens w rest new → AllLostLive w → AllLostLive new
 after-live s es [] w new ok are more folds same all = subst (λ (v : World). AllLostLive v) same all
@@ -387,7 +432,7 @@ run-lost-live s es stopped w ok are (mid, folds, stops) = stop stopped stops
     stop (Some (event.Tick moment)) stops = elim stops [
       | inl same ↦ subst (λ (v : World). AllLostLive v) (sym same) all
       | inr ticked ↦
-          live-ticks s moment mid (runs-stand s es None mid ok (mid, folds, refl)).sound (known-runs s es None mid ok are (mid, folds, refl)) [] (clients_below ticked.0) mid w refl ticked.3 (run-told-live s es None mid ok are (mid, folds, refl)) all
+          live-ticks s moment mid (runs-stand s es None mid ok (mid, folds, refl)).sound (known-runs s es None mid ok are (mid, folds, refl)) (reached-created mid (s, es, None, ok, (mid, folds, refl))) (run-last s es None mid ok are (mid, folds, refl)) [] (clients_below ticked.0) mid w refl ticked.3 (run-told-live s es None mid ok are (mid, folds, refl)) all
     ]
     stop stopped stops = subst (λ (v : World). AllLostLive v) (sym stops) all
 
@@ -412,5 +457,6 @@ run-lost-were-live s es stopped w ok are runs life x at i a there =
         means = l.means;
       };
       live = (l.line.0, l.line.1, l.held);
+      since = l.since;
       why = l.why;
     }

@@ -29,7 +29,7 @@ use Rattle.ca_laws_runs.proofs.ClientsMore.{unconnected-is, wanted-there}
 use Rattle.ca_laws_writes.proofs.Lists.{none_at}
 use Rattle.ca_laws_writes.proofs.Midway.{set-here}
 use Rattle.ca_laws_held.specs.OrderSteps.{HaveLives}
-use Rattle.ca_laws_held.proofs.Farewell.{FromFarewell, PartsIn, farewell-from, ticked-parts}
+use Rattle.ca_laws_held.proofs.Farewell.{AreLostApart, FromFarewell, PartsIn, farewell-apart, farewell-from, lost-gone, ticked-apart, ticked-parts}
 use Rattle.ca_laws_held.proofs.Going.{AllOpenLive}
 use Rattle.ca_laws_held.proofs.OnceSent.{SentStand}
 use Rattle.ca_laws_held.proofs.OpenLive.{IsLiveOn}
@@ -69,6 +69,7 @@ pub record Parted (w new : World) (l : ℕ) (y : List Line) (i : ℕ) (line : Li
   pub tells : line ≡ line_of OfCircuit x.names said
   pub way : IsCut w new number x said ⊎ IsAway x said y i
   pub calls : (q : ℕ) (intent : Intent) (e : Option Elements) → At lines q (Called intent e) → IsAway x said y i
+  pub once : (h : Handle) → said ≡ notice.Lost h → (q : ℕ) (a : Line) → q < place → At lines q a → (other : Notice) × (a ≡ line_of OfCircuit x.names other) × IsCut w new number x other × (other ≡ notice.Lost h → ⊥)
 
 -- So it is of each line that is new and tells something.
 abbrev pub PartsFrom : (w new : World) → Type 0
@@ -86,12 +87,30 @@ not-call about n (notice.Update g out) intent e is = cc
 not-call about n (notice.SubscriptionEnded g s) intent e is = cc
 not-call about n (notice.WriteRefused h s) intent e is = cc
 
-parts-all : (w new : World) (number : ℕ) (x : ClientSide) (notices : List Notice) → At w.clients number x → HaveLives w → new.client_logs ≡ grown x.life (lines_of OfCircuit x.names notices) w.client_logs → ((p : ℕ) (said : Notice) → At notices p said → IsCut w new number x said) → PartsFrom w new
-parts-all w new number x notices at lives is cut l y i line at_y there = elim (lines-grown w.client_logs x.life (lines_of OfCircuit x.names notices) (lives.present number x at) l y i line (subst (λ (v : List (List Line)). At v l y) is at_y) there) [
+parts-all : (w new : World) (number : ℕ) (x : ClientSide) (notices : List Notice) → At w.clients number x → HaveLives w → new.client_logs ≡ grown x.life (lines_of OfCircuit x.names notices) w.client_logs → ((p : ℕ) (said : Notice) → At notices p said → IsCut w new number x said) → AreLostApart notices → PartsFrom w new
+parts-all w new number x notices at lives is cut apart l y i line at_y there = elim (lines-grown w.client_logs x.life (lines_of OfCircuit x.names notices) (lives.present number x at) l y i line (subst (λ (v : List (List Line)). At v l y) is at_y) there) [
   | inl old ↦ inl old
   | inr more ↦
       let m = At-mapped (line_of OfCircuit x.names) notices more.1 line more.5 in
-      inr (inr (record { number = number; x = x; at = at; mine = more.2; log = more.0; there = more.3; lines = lines_of OfCircuit x.names notices; whole = more.4; place = more.1; late = (more.6, more.5); said = m.0; tells = m.2; way = inl (cut more.1 m.0 m.1); calls = λ q intent e at_q. (let v = At-mapped (line_of OfCircuit x.names) notices q (Called intent e) at_q in absurd (not-call OfCircuit x.names v.0 intent e v.2)) }))
+      inr (inr (record {
+        number = number;
+        x = x;
+        at = at;
+        mine = more.2;
+        log = more.0;
+        there = more.3;
+        lines = lines_of OfCircuit x.names notices;
+        whole = more.4;
+        place = more.1;
+        late = (more.6, more.5);
+        said = m.0;
+        tells = m.2;
+        way = inl (cut more.1 m.0 m.1);
+        calls = λ q intent e at_q. (let v = At-mapped (line_of OfCircuit x.names) notices q (Called intent e) at_q in absurd (not-call OfCircuit x.names v.0 intent e v.2));
+        once = λ h lost q a lt at_q.
+            let v = At-mapped (line_of OfCircuit x.names) notices q a at_q in
+            (v.0, v.2, cut q v.0 v.1, λ same. apart q more.1 h lt (subst (λ (z : Notice). At notices q z) same v.1) (subst (λ (z : Notice). At notices more.1 z) lost m.1));
+      }))
 ]
 
 -- an end has ended
@@ -105,6 +124,7 @@ ended-parts w k j x c core on at opened lives tells =
       now = (At-map (sent_to j.client x.names []) (slice_set w.circuits k (client_closed c.left j)) k (client_closed c.left j) (set-here w.circuits k j (client_closed c.left j) on), refl);
       from = farewell-from j.at_client x.core p said (subst (λ (v : List Notice). At v p said) tells there);
     })
+    (subst (λ (v : List Notice). AreLostApart v) (sym tells) (farewell-apart j.at_client x.core))
 
 cut-parts : (w new : World) (k : ℕ) (j : Joined) (x : ClientSide) → At w.circuits k j → At w.clients j.client x → j.lists.client_open ≡ true → HaveLives w → HappensCutClient w k j x new → PartsFrom w new
 cut-parts w new k j x on at opened lives happens = subst (λ (v : World). PartsFrom w v) (sym happens.4) (ended-parts w k j x happens.0 happens.2 on at opened lives (ap (λ (v : Closing). v.notices) happens.3.0))
@@ -168,6 +188,7 @@ clear-parts w new i x c h at number lives happens = elim happens [
           tells = q.2;
           way = inr away;
           calls = λ k intent e at_k. away;
+          once = λ lost same k a lt at_k. absurd (lost-gone lost g.0 (sym same ∙ g.1));
         })
       where
         at-taken : (xs : List Line) (n k : ℕ) (a : Line) → k < n → At xs k a → At (take n xs) k a
@@ -184,6 +205,7 @@ accept-parts w new i x v at lives stands live f = elim f.leaves [
       let there = wanted-there x.core v.place v.v v.at in
       parts-all w new i x (told_by made.1) at lives (ap (λ (z : World). z.client_logs) made.6)
       (λ p said in_it. absurd (none there.0 there.1 there.2 made.1 made.2 made.3 (subst (λ (o : Option ClientCircuit). ConnectsOn x.core v.v.circuit o made.1 made.2 made.3) (unconnected-is x.core v.v.circuit there.0 there.1 there.2) made.5) p said in_it))
+      (λ p q g lt in_it at_q. none there.0 there.1 there.2 made.1 made.2 made.3 (subst (λ (o : Option ClientCircuit). ConnectsOn x.core v.v.circuit o made.1 made.2 made.3) (unconnected-is x.core v.v.circuit there.0 there.1 there.2) made.5) p (notice.Lost g) in_it)
 ]
   where
     placed : IsPlaced x.core
@@ -206,6 +228,7 @@ accept-parts w new i x v at lives stands live f = elim f.leaves [
 pub tick-parts : (moment : ℕ) (w : World) (i : ℕ) (new : World) → HaveLives w → SentStand w → TicksOne moment w i new → PartsFrom w new
 tick-parts moment w i new lives sent (x, at, t, sends, core, does, is) =
     parts-all w new i x t.notices at lives (ap (λ (z : World). z.client_logs) is) (λ p said in_it. cut said (ticked-parts moment x.core p said (subst (λ (v : List Notice). At v p said) (ap (λ (v : notice.Ticked). v.notices) does.0) in_it)))
+    (subst (λ (v : List Notice). AreLostApart v) (sym (ap (λ (v : notice.Ticked). v.notices) does.0)) (ticked-apart moment x.core))
   where
     cut : (said : Notice) → PartsIn x.core (circuits_ticked moment x.core).closings said → IsCut w new i x said
     cut said parts =

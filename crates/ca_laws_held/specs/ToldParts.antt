@@ -1,14 +1,18 @@
 -- Statement: what a client's log tells of requests and plain writes: parts of what is said of it, as the statement says it of this world.
-use Rattle.std.specs.Prelude.{ℕ, ◌≡◌, ◌≢◌, ◌<◌, ◌≤◌, ◌⊎◌, List, false, length, take, true}
+use Rattle.std.specs.Prelude.{ℕ, ◌≡◌, ◌≢◌, ◌<◌, ◌⊎◌, List, length, true}
 use Rattle.ca_dbr.specs.declared.value.Outcome.{Outcome}
 use Rattle.ca_dbr.specs.declared.value.Outcome.TheVariants.{Disconnected, Done, Failed}
 use Rattle.ca_text.specs.declared.status.Status.{Status}
+use Rattle.ca_requests.specs.Meaning.{Means}
 use Rattle.ca_text.specs.Place.{At}
-use Rattle.ca_model.specs.History.{Circuit, Clear, Create, Intent, Line, Noticed, On, Put, Removal, Reply, Request, Sent, Step, Told}
+use Rattle.ca_model.specs.History.{Circuit, Clear, Create, Intent, Line, Noticed, On, Put, Reply, Request, Sent, Step, Told}
 use Rattle.ca_model.specs.History as history
 use Rattle.ca_model.specs.Speech.{Creates, In, Stored}
-use Rattle.ca_model_safe.specs.Channels.{IsApplied, IsHeld, IsLost, IsRequest, IsUse, OfClients, Stands}
-use Rattle.ca_model_world.specs.World.{World, told}
+use Rattle.ca_model.specs.Updates.{Shows}
+use Rattle.ca_model_safe.specs.Channels.{IsApplied, IsLost, IsRequest, IsUse, OfClients, Stands}
+use Rattle.ca_model_safe.specs.Headline.{LosesLive}
+use Rattle.ca_model_safe.specs.Known.{IsDue}
+use Rattle.ca_model_world.specs.World.{World, port_of, rules_of, told}
 use Rattle.ca_laws_circuit.specs.Sids.{IsClearedWithin}
 use Rattle.ca_laws_held.specs.ToldLines.{IsToldOf}
 
@@ -52,18 +56,10 @@ AreToldLive w c = (i channel sid : ℕ) (t : Told) (h : Step) (s : Sent) → At 
 abbrev pub CreationsAreTold : history.World → Type 0
 CreationsAreTold w = (n : ℕ) (c : Circuit) → At w.circuits n c → AreToldLive w c
 
--- The channel that line i tells to be lost, and that its caller had not cleared, was told to be live before, when the reply was read by which it was created on its circuit; and that circuit's end at the
--- client has ended, or in the step that told line i the SERVER_DISCONN for that creation was read.
-pub record WasLive (w : World) (life : ℕ) (x : List Line) (i channel : ℕ) : Type 0 where
-  pub l : ℕ
-  pub by : IsToldOf w life x l (On channel Create) Done
-  pub live : At x l (Noticed (On channel Create) Done) × (l < i) × IsHeld (take i x) (On channel Create)
-  pub why : (by.c.client_open ≡ false) ⊎ ((j : ℕ) × (t : Told) × (h : Step) × At by.c.down j t × At by.c.heard j h
-      × (t.cause ≡ Removal) × (t.place ≡ by.t.place) × (h.logged ≤ i) × (i < h.after))
-
--- So it is of each line that tells a channel to be lost.
+-- Each line that tells a channel to be lost tells so of one that was told to be live before, and was not lost or cleared since.
 abbrev pub LostWereLive : World → Type 0
-LostWereLive w = OfClients (told w) (λ (life : ℕ) (x : List Line). (i channel : ℕ) → At x i (Noticed (On channel Create) Disconnected) → WasLive w life x i channel)
+LostWereLive w = OfClients (told w) (λ (life : ℕ) (x : List Line). (i channel : ℕ) → At x i (Noticed (On channel Create) Disconnected)
+    → LosesLive (IsDue (port_of w) (rules_of w)) Shows Means (told w) life x i channel)
 
 -- While the client's end of a circuit is open, and no CLEAR_CHANNEL was sent under the SID under which a reply that was read created a channel there, no loss of that
 -- channel was told since the step that read the reply.

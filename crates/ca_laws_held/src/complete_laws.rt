@@ -2,6 +2,7 @@ ghost use Rattle.std.specs.Prelude.{List, Option};
 ghost use Rattle.ca_model_world.specs.Events.{Event};
 ghost use Rattle.ca_model_world.specs.Runs.{AreEvents, Runs};
 ghost use Rattle.ca_model_world.specs.World.{IsSetting, Setting, World, told};
+ghost use Rattle.ca_laws_writes.specs.Says.{CompleteOnce};
 ghost use Rattle.ca_laws_held.specs.ToldParts.{CreationsAreTold, DoneIsApplied, FailedIsNot, LostWereLive, NoneIsLostSince, NoticesAreTold, RequestsAreTold, UsesAreToldOnce};
 
 /// After every run from a well-formed setting by well-formed events, each notice of a read, a put or a
@@ -49,9 +50,9 @@ pub fn creations_are_told()
 {}
 
 /// After every such run a channel that its caller is told to be lost was told to be live before, as
-/// the reply was read by which it was created on its circuit; and the client's end of that circuit has
-/// ended, or the SERVER_DISCONN for that creation was read in the step that told the loss. Its caller
-/// had not cleared it. This is `lost` of the clause, but that no other loss was told between.
+/// the reply was read by which it was created on its circuit, and no loss of it was told since; and the
+/// client's end of that circuit has ended, or the SERVER_DISCONN for that creation was read in the step
+/// that told the loss. Its caller had not cleared it. This is `lost` of the clause, whole.
 pub fn lost_channels_were_live()
     ensures { (s : Setting) (es : List Event) (stopped : Option Event) (w : World) → IsSetting s
         → AreEvents es → Runs s es stopped w → LostWereLive w }
@@ -63,4 +64,11 @@ pub fn lost_channels_were_live()
 pub fn live_channels_were_not_lost()
     ensures { (s : Setting) (es : List Event) (stopped : Option Event) (w : World) → IsSetting s
         → AreEvents es → Runs s es stopped w → NoneIsLostSince (told w) }
+{}
+
+/// After every such run the log of each life of a client says of its calls and channels what the
+/// statement's clause `CompletesOnce` says: the clause, whole.
+pub fn calls_complete_once()
+    ensures { (s : Setting) (es : List Event) (stopped : Option Event) (w : World) → IsSetting s
+        → AreEvents es → Runs s es stopped w → CompleteOnce w }
 {}

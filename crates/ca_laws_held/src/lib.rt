@@ -17,9 +17,9 @@ mod told_laws;
 
 pub use cause_laws::{channels_are_removed_once, messages_come_after_what_they_are_about};
 pub use complete_laws::{
-    callers_are_told_what_became_of_their_writes, creations_are_told, live_channels_were_not_lost,
-    lost_channels_were_live, notices_are_told_of_their_own, requests_are_told_of_their_own,
-    uses_are_told_of_once,
+    callers_are_told_what_became_of_their_writes, calls_complete_once, creations_are_told,
+    live_channels_were_not_lost, lost_channels_were_live, notices_are_told_of_their_own,
+    requests_are_told_of_their_own, uses_are_told_of_once,
 };
 pub use heard_laws::{
     each_notice_tells_of_its_own_message, what_is_held_by_what_servers_take,
