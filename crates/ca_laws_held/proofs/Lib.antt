@@ -102,3 +102,4 @@ pub mod ToldCreated
 pub mod LostLast
 pub mod LostLive
 pub mod Completing
+pub mod Using
