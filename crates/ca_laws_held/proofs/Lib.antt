@@ -103,3 +103,4 @@ pub mod LostLast
 pub mod LostLive
 pub mod Completing
 pub mod Using
+pub mod Again
