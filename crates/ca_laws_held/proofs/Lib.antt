@@ -104,3 +104,4 @@ pub mod LostLive
 pub mod Completing
 pub mod Using
 pub mod Again
+pub mod Seeing
