@@ -105,3 +105,4 @@ pub mod Completing
 pub mod Using
 pub mod Again
 pub mod Seeing
+pub mod SeeingRuns

@@ -71,13 +71,13 @@ AllSeen w = (n : ℕ) (c : Joined) (i a number b : ℕ) (t : Told) (h : Step) (s
     → IsSeen w c a number t h s
 
 -- The update at place i was told before.
-abbrev pub IsBefore : Joined → List Line → (i a number : ℕ) → Told → Type 0
-IsBefore c x i a number t = (g : Step) × (p : Outcome) × At c.lists.heard i g × At x g.logged (Updated (On a (Subscribe number)) p) × (g.logged < g.after) × Means t.message p
+abbrev pub IsBefore : Joined → List Line → (i : ℕ) → Intent → Told → Type 0
+IsBefore c x i intent t = (g : Step) × (p : Outcome) × At c.lists.heard i g × At x g.logged (Updated intent p) × (g.logged < g.after) × Means t.message p
 
 -- As an update was told, all earlier ones of that EVENT_ADD had been.
 abbrev pub AllOrdered : World → Type 0
-AllOrdered w = (n : ℕ) (c : Joined) (i l a number b : ℕ) (t u : Told) (h : Step) (s : Sent) (x : List Line) (o : Outcome) → At w.circuits n c → At c.lists.heard i h → At c.lists.down i u → At w.client_logs c.lists.client x → At x h.logged (Updated (On a (Subscribe number)) o) → h.logged < h.after
-    → At c.lists.up u.place s → s.intent ≡ On a (Subscribe number) → l < i → At c.lists.down l t → t.place ≡ u.place → t.cause ≡ Update b → IsBefore c x l a number t
+AllOrdered w = (n : ℕ) (c : Joined) (i l b : ℕ) (intent : Intent) (t u : Told) (h : Step) (s : Sent) (x : List Line) (o : Outcome) → At w.circuits n c → At c.lists.heard i h → At c.lists.down i u → At w.client_logs c.lists.client x → At x h.logged (Updated intent o) → h.logged < h.after
+    → At c.lists.up u.place s → s.intent ≡ intent → l < i → At c.lists.down l t → t.place ≡ u.place → t.cause ≡ Update b → IsBefore c x l intent t
 
 -- steps of clients are within their logs
 abbrev pub AllWithin : World → Type 0
@@ -97,18 +97,18 @@ module _ (w new : World) (known : Known w) (goes : WorldsOn w new) (uses : Clien
         | inr (inr v) ↦ (let up = o.goes.up v.0 v.1 v.4 in inr (inr (v.0, v.1, v.2, At-within d.lists.up v.0 v.1 up, up, v.5)))
       ]
 
-  pub ordered-old : AllWithin w → AllOrdered w → (n : ℕ) (c d : Joined) (i l a number b : ℕ) (t u : Told) (h : Step) (s : Sent) (x : List Line) (q : Outcome) → At w.circuits n c → At new.circuits n d → At c.lists.heard i h → At d.lists.down i u → At new.client_logs d.lists.client x
-      → At x h.logged (Updated (On a (Subscribe number)) q) → h.logged < h.after → At d.lists.up u.place s → s.intent ≡ On a (Subscribe number) → l < i → At d.lists.down l t → t.place ≡ u.place → t.cause ≡ Update b → IsBefore d x l a number t
-  ordered-old within all n c d i l a number b t u h s x q on at_d at_h at_u at_x line lt at_s meant less at_t place cause =
+  pub ordered-old : AllWithin w → AllOrdered w → (n : ℕ) (c d : Joined) (i l b : ℕ) (intent : Intent) (t u : Told) (h : Step) (s : Sent) (x : List Line) (q : Outcome) → At w.circuits n c → At new.circuits n d → At c.lists.heard i h → At d.lists.down i u → At new.client_logs d.lists.client x
+      → At x h.logged (Updated intent q) → h.logged < h.after → At d.lists.up u.place s → s.intent ≡ intent → l < i → At d.lists.down l t → t.place ≡ u.place → t.cause ≡ Update b → IsBefore d x l intent t
+  ordered-old within all n c d i l b intent t u h s x q on at_d at_h at_u at_x line lt at_s meant less at_t place cause =
       let o = was-there w new known goes uses n c d i h on at_d at_h in
       let log = known.once.lives n c on in
       let more = goes.logs c.lists.client log.0 log.1 in
       let whole : log.0 ++ more.0 ≡ x = At-one new.client_logs c.lists.client (log.0 ++ more.0) x more.1 (subst (λ (v : ℕ). At new.client_logs v x) o.goes.client at_x) in
       let inside : h.after ≤ length log.0 = ((within n c log.0 on log.1).within i h at_h).2 in
       let u_c = o.told i u (omega arith) at_u in
-      let old_line : At log.0 h.logged (Updated (On a (Subscribe number)) q) = At-back log.0 more.0 h.logged (Updated (On a (Subscribe number)) q) (subst (λ (v : List Line). At v h.logged (Updated (On a (Subscribe number)) q)) (sym whole) line) (omega (arith, lt, inside)) in
-      let r = all n c i l a number b t u h s log.0 q on at_h u_c.0 log.1 old_line lt (o.said u.place s u_c.1 at_s) meant less (o.told l t (omega (arith, less)) at_t).0 place cause in
-      (r.0, r.1, o.goes.heard l r.0 r.2, subst (λ (v : List Line). At v (r.0).logged (Updated (On a (Subscribe number)) r.1)) whole (At-append log.0 more.0 (r.0).logged (Updated (On a (Subscribe number)) r.1) r.3), r.4, r.5)
+      let old_line : At log.0 h.logged (Updated intent q) = At-back log.0 more.0 h.logged (Updated intent q) (subst (λ (v : List Line). At v h.logged (Updated intent q)) (sym whole) line) (omega (arith, lt, inside)) in
+      let r = all n c i l b intent t u h s log.0 q on at_h u_c.0 log.1 old_line lt (o.said u.place s u_c.1 at_s) meant less (o.told l t (omega (arith, less)) at_t).0 place cause in
+      (r.0, r.1, o.goes.heard l r.0 r.2, subst (λ (v : List Line). At v (r.0).logged (Updated intent r.1)) whole (At-append log.0 more.0 (r.0).logged (Updated intent r.1) r.3), r.4, r.5)
 
 -- ---- an EVENT_ADD with a payload
 
@@ -338,13 +338,27 @@ module _ (w new : World) (k : ℕ) (j : Joined) (x : ClientSide) (on : At w.circ
 
   -- ---- as it is told
 
-  told-update : (about : Intent) (a number : ℕ) (o : Outcome) (v : Notice) → Updated (On a (Subscribe number)) o ≡ line_of about x.names v → (g : Handle) × (out : Outcome) × (v ≡ notice.Update g out)
-  told-update about a number o (notice.Update g out) e = (g, out, refl)
-  told-update about a number o (notice.Live h) e = absurd cc
-  told-update about a number o (notice.Lost h) e = absurd cc
-  told-update about a number o (notice.Completed q out) e = absurd cc
-  told-update about a number o (notice.SubscriptionEnded g st) e = absurd cc
-  told-update about a number o (notice.WriteRefused h st) e = absurd cc
+  told-update : (about intent : Intent) (o : Outcome) (v : Notice) → Updated intent o ≡ line_of about x.names v → (g : Handle) × (out : Outcome) × (v ≡ notice.Update g out)
+  told-update about intent o (notice.Update g out) e = (g, out, refl)
+  told-update about intent o (notice.Live h) e = absurd cc
+  told-update about intent o (notice.Lost h) e = absurd cc
+  told-update about intent o (notice.Completed q out) e = absurd cc
+  told-update about intent o (notice.SubscriptionEnded g st) e = absurd cc
+  told-update about intent o (notice.WriteRefused h st) e = absurd cc
+
+  -- an update that is told now was read now
+  told-now : (intent : Intent) (o : Outcome) (y : List Line) → At new.client_logs now.lists.client y → At y step.logged (Updated intent o) → (g : Handle) × (out : Outcome) × (q : ℕ) × At f.notices q (notice.Update g out)
+  told-now intent o y at_y line =
+      let y_is : log ++ lines ≡ y = At-one new.client_logs now.lists.client (log ++ lines) y new_log at_y in
+      let told : Line = Updated intent o in
+      let at_line : At (log ++ lines) (length log) told = subst (λ (z : ℕ × List Line). At z.1 z.0 told) (λ i. (logged i, sym y_is i)) line in
+      elim (At-parts log lines (length log) told at_line) [
+        | inl old ↦ absurd (let within : length log < length log = At-within log (length log) told old in omega (arith, within))
+        | inr fresh ↦
+            let mapped = At-mapped (line_of (about_at j.lists (length j.lists.heard)) x.names) f.notices fresh.0 told fresh.2 in
+            let says = told-update (about_at j.lists (length j.lists.heard)) intent o mapped.0 mapped.2 in
+            (says.0, says.1, fresh.0, subst (λ (n : Notice). At f.notices fresh.0 n) says.2 mapped.1)
+      ]
 
   used-clear : (ask : Ask) → ask ≡ Clear → IsUse ask → ⊥
   used-clear ask e uses_it = subst (λ (v : Ask). IsUse v) e uses_it
@@ -397,38 +411,31 @@ module _ (w new : World) (k : ℕ) (j : Joined) (x : ClientSide) (on : At w.circ
               ]
         ]
 
-  pub ordered-now : AllAgain w → AllSeen w → (a number b l : ℕ) (v : Told) (y : List Line) (o : Outcome) → At new.client_logs now.lists.client y → At y step.logged (Updated (On a (Subscribe number)) o) → s.intent ≡ On a (Subscribe number) → l < length j.lists.heard → At j.lists.down l v → v.place ≡ t.place → v.cause ≡ Update b
-      → IsBefore now y l a number v
+  ordered-now : AllAgain w → AllSeen w → (a number b l : ℕ) (v : Told) (y : List Line) (o : Outcome) → At new.client_logs now.lists.client y → At y step.logged (Updated (On a (Subscribe number)) o) → s.intent ≡ On a (Subscribe number) → l < length j.lists.heard → At j.lists.down l v → v.place ≡ t.place → v.cause ≡ Update b
+      → IsBefore now y l (On a (Subscribe number)) v
   ordered-now again seen a number b l v y o at_y line meant lt at_v place cause =
       let y_is : log ++ lines ≡ y = At-one new.client_logs now.lists.client (log ++ lines) y new_log at_y in
-      let told : Line = Updated (On a (Subscribe number)) o in
-      let at_line : At (log ++ lines) (length log) told = subst (λ (z : ℕ × List Line). At z.1 z.0 told) (λ i. (logged i, sym y_is i)) line in
-      elim (At-parts log lines (length log) told at_line) [
-        | inl old ↦ absurd (let within : length log < length log = At-within log (length log) told old in omega (arith, within))
-        | inr fresh ↦
-            let mapped = At-mapped (line_of (about_at j.lists (length j.lists.heard)) x.names) f.notices fresh.0 told fresh.2 in
-            let says = told-update (about_at j.lists (length j.lists.heard)) a number o mapped.0 mapped.2 in
-            let at_update : At f.notices fresh.0 (notice.Update says.0 says.1) = subst (λ (n : Notice). At f.notices fresh.0 n) says.2 mapped.1 in
-            let u = tells-held z j.at_client m (record { core = f.core; sent = f.sent; notices = f.notices }) does fresh.0 (notice.Update says.0 says.1) at_update in
-            let meant_g : meant_by x.names.subscriptions says.0 ≡ On a (Subscribe number) = (own fresh.0 (notice.Update says.0 says.1) at_update).0 ∙ meant in
-            let named_g = subscribed-at x.names x.core says.0 a number tidy meant_g in
-            let found = heard-is z j.at_client m.p2 says.0 u.3 in
-            let h_l = heard-at l lt in
-            elim (seen k j l a number b v h_l.0 s on at_v h_l.1 cause (subst (λ (p : ℕ). At j.lists.up p s) (sym place) up) meant) [
-              | inl r ↦
-                  let log_is : r.0 ≡ log = At-one w.client_logs x.life r.0 log (subst (λ (n : ℕ). At w.client_logs n r.0) (known.lives.same k j x on at opened) r.2) log_there in
-                  let here : At log (h_l.0).logged (Updated (On a (Subscribe number)) r.1) = subst (λ (n : List Line). At n (h_l.0).logged (Updated (On a (Subscribe number)) r.1)) log_is r.3 in
-                  (h_l.0, r.1, onward.heard l h_l.0 h_l.1, subst (λ (n : List Line). At n (h_l.0).logged (Updated (On a (Subscribe number)) r.1)) y_is (At-append log lines (h_l.0).logged (Updated (On a (Subscribe number)) r.1) here), r.4, r.5)
-              | inr (inl over) ↦ absurd (still-at again a number meant u.1 says.0 named_g found.0 found.1 found.3 over)
-              | inr (inr cleared) ↦
-                  let lives = heard-live z j.at_client m.p2 says.0 u.3 in
-                  let live = live-as x.core j.at_client (lives.0).channel lives.2 in
-                  let m_g = tidy.subscriptions says.0 lives.0 lives.1 in
-                  let number_is : channel_number x.names (lives.0).channel ≡ a = same-number (channel_number x.names (lives.0).channel) a (Subscribe m_g.0) (Subscribe number) (sym m_g.2 ∙ meant_g) in
-                  let stands : stands_in (lives.0).stage ≡ true = subst (λ (n : Subscription). stands_in n.stage ≡ true) (one-row found.0 lives.0 says.0 found.1 lives.1) found.3 in
-                  absurd (not-cleared again a number meant u.1 says.0 named_g lives.0 lives.1 stands live.0 live.1 number_is
-                  (cleared.0, cleared.1, subst (λ (n : ℕ). n < cleared.0) place cleared.2, cleared.3, cleared.4, cleared.5))
-            ]
+      let says = told-now (On a (Subscribe number)) o y at_y line in
+      let at_update : At f.notices says.2 (notice.Update says.0 says.1) = says.3 in
+      let u = tells-held z j.at_client m (record { core = f.core; sent = f.sent; notices = f.notices }) does says.2 (notice.Update says.0 says.1) at_update in
+      let meant_g : meant_by x.names.subscriptions says.0 ≡ On a (Subscribe number) = (own says.2 (notice.Update says.0 says.1) at_update).0 ∙ meant in
+      let named_g = subscribed-at x.names x.core says.0 a number tidy meant_g in
+      let found = heard-is z j.at_client m.p2 says.0 u.3 in
+      let h_l = heard-at l lt in
+      elim (seen k j l a number b v h_l.0 s on at_v h_l.1 cause (subst (λ (p : ℕ). At j.lists.up p s) (sym place) up) meant) [
+        | inl r ↦
+            let log_is : r.0 ≡ log = At-one w.client_logs x.life r.0 log (subst (λ (n : ℕ). At w.client_logs n r.0) (known.lives.same k j x on at opened) r.2) log_there in
+            let here : At log (h_l.0).logged (Updated (On a (Subscribe number)) r.1) = subst (λ (n : List Line). At n (h_l.0).logged (Updated (On a (Subscribe number)) r.1)) log_is r.3 in
+            (h_l.0, r.1, onward.heard l h_l.0 h_l.1, subst (λ (n : List Line). At n (h_l.0).logged (Updated (On a (Subscribe number)) r.1)) y_is (At-append log lines (h_l.0).logged (Updated (On a (Subscribe number)) r.1) here), r.4, r.5)
+        | inr (inl over) ↦ absurd (still-at again a number meant u.1 says.0 named_g found.0 found.1 found.3 over)
+        | inr (inr cleared) ↦
+            let lives = heard-live z j.at_client m.p2 says.0 u.3 in
+            let live = live-as x.core j.at_client (lives.0).channel lives.2 in
+            let m_g = tidy.subscriptions says.0 lives.0 lives.1 in
+            let number_is : channel_number x.names (lives.0).channel ≡ a = same-number (channel_number x.names (lives.0).channel) a (Subscribe m_g.0) (Subscribe number) (sym m_g.2 ∙ meant_g) in
+            let stands : stands_in (lives.0).stage ≡ true = subst (λ (n : Subscription). stands_in n.stage ≡ true) (one-row found.0 lives.0 says.0 found.1 lives.1) found.3 in
+            absurd (not-cleared again a number meant u.1 says.0 named_g lives.0 lives.1 stands live.0 live.1 number_is
+            (cleared.0, cleared.1, subst (λ (n : ℕ). n < cleared.0) place cleared.2, cleared.3, cleared.4, cleared.5))
       ]
     where
       heard-at : (l : ℕ) → l < length j.lists.heard → (h : Step) × At j.lists.heard l h
@@ -436,3 +443,14 @@ module _ (w new : World) (k : ℕ) (j : Joined) (x : ClientSide) (on : At w.circ
 
       one-row : (d e : Subscription) (g : Handle) → under x.core.subscriptions g ≡ Some d → under x.core.subscriptions g ≡ Some e → d ≡ e
       one-row d e g a b = (let same : ◌≡◌ {A = Option Subscription} (Some d) (Some e) = sym a ∙ b in cc)
+
+  pub ordered-any : AllAgain w → AllSeen w → (b l : ℕ) (intent : Intent) (v : Told) (y : List Line) (o : Outcome) → At new.client_logs now.lists.client y → At y step.logged (Updated intent o) → s.intent ≡ intent → l < length j.lists.heard → At j.lists.down l v → v.place ≡ t.place → v.cause ≡ Update b
+      → IsBefore now y l intent v
+  ordered-any again seen b l intent v y o at_y line meant lt at_v place cause =
+      let says = told-now intent o y at_y line in
+      let u = tells-held z j.at_client m (record { core = f.core; sent = f.sent; notices = f.notices }) does says.2 (notice.Update says.0 says.1) says.3 in
+      let found = heard-is z j.at_client m.p2 says.0 u.3 in
+      let m_g = tidy.subscriptions says.0 found.0 found.1 in
+      let form : intent ≡ On (channel_number x.names (found.0).channel) (Subscribe m_g.0) = sym meant ∙ sym (own says.2 (notice.Update says.0 says.1) says.3).0 ∙ m_g.2 in
+      subst (λ (q : Intent). At y step.logged (Updated q o) → s.intent ≡ q → IsBefore now y l q v) (sym form)
+      (λ here asks. ordered-now again seen (channel_number x.names (found.0).channel) m_g.0 b l v y o at_y here asks lt at_v place cause) line meant
