@@ -1,5 +1,5 @@
 -- As a channel is created again on a circuit, its subscriptions that stand are added again after that CREATE_CHAN; those that are not are over, or the channel was cleared.
-use Rattle.std.proofs.Common.{◌≡◌, ℕ, suc, ◌+◌, ◌<◌, ◌≤◌, ◌⊎◌, inl, inr, Bool, true, false, ◌&&◌, cond, eqb, List, [], ◌∷◌, ◌++◌, length, Option, Some, None, refl, sym, ap, ◌∙◌, subst, arith}
+use Rattle.std.proofs.Common.{◌≡◌, ℕ, ◌+◌, ◌<◌, ◌≤◌, ◌⊎◌, inl, inr, Bool, true, false, ◌&&◌, cond, eqb, List, [], length, Option, Some, None, refl, sym, ap, ◌∙◌, subst, arith}
 use Rattle.std.specs.Prelude.{filter, map, slice_set}
 use Rattle.std.proofs.lemmas.Bool.{and_from, both_ways, eq-eqb}
 use Rattle.ca_text.specs.declared.command.Command.TheVariants as command
@@ -10,12 +10,11 @@ use Rattle.ca_ids.specs.Table.{held, same_handle, under}
 use Rattle.ca_monitor.specs.Subscriptions.{Subscription, is_to, standing_to, stands_in}
 use Rattle.ca_wire.specs.Fields.{Fields}
 use Rattle.ca_model.specs.Answers.{Notice, Sending}
-use Rattle.ca_model.specs.Client as client
-use Rattle.ca_model.specs.Client.{Channel, Client, Clearing, Connecting, Creating, Doomed, Leaving, Live, Phase, channel_on}
+use Rattle.ca_model.specs.Client.{Client, Clearing, Connecting, Creating, Doomed, Leaving, Live, Phase, channel_on}
 use Rattle.ca_model.specs.ClientCalls.{event_add_sent}
 use Rattle.ca_model.specs.ClientEnds.{after_taking}
 use Rattle.ca_model.specs.Hears.{Effect, Hears, created, event_adds}
-use Rattle.ca_model.specs.History.{Clear, Create, Intent, Line, On, Reply, Sent, Step, Subscribe, Told}
+use Rattle.ca_model.specs.History.{Clear, Create, Intent, On, Reply, Sent, Step, Subscribe, Told}
 use Rattle.ca_model.specs.Speech.{Cid, Creates, Is, Speaks}
 use Rattle.ca_model_client.proofs.Handles.{same-itself}
 use Rattle.ca_model_client.proofs.Standings.{channel-on}

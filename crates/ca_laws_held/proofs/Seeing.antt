@@ -1,5 +1,5 @@
 -- An update that a client reads is told; or its subscription is over, or its channel was cleared after it was added. So a subscriber sees its updates in order, with none left out.
-use Rattle.std.proofs.Common.{◌≡◌, ◌≢◌, ℕ, suc, ◌+◌, ◌<◌, ◌≤◌, ◌⊎◌, inl, inr, Bool, true, false, cond, eqb, List, [], ◌∷◌, ◌++◌, length, Option, Some, None, refl, sym, ap, ◌∙◌, subst, arith}
+use Rattle.std.proofs.Common.{◌≡◌, ℕ, ◌+◌, ◌<◌, ◌≤◌, ◌⊎◌, inl, inr, Bool, true, false, cond, eqb, List, [], ◌∷◌, ◌++◌, length, Option, Some, None, refl, sym, ap, ◌∙◌, subst, arith}
 use Rattle.std.specs.Prelude.{option_and_then, option_map, unwrap_or}
 use Rattle.std.specs.List.{list_any}
 use Rattle.std.proofs.lemmas.Bool.{both_ways}
@@ -7,12 +7,12 @@ use Rattle.ca_text.specs.Command.{command_number}
 use Rattle.ca_text.specs.declared.command.Command.{Command}
 use Rattle.ca_text.specs.declared.command.Command.TheVariants as command
 use Rattle.ca_text.specs.Place.{At}
-use Rattle.ca_text.proofs.Places.{At-after, At-append, At-back, At-last, At-mapped, At-one, At-or, At-parts, At-snoc, At-within, some_is}
+use Rattle.ca_text.proofs.Places.{At-after, At-append, At-back, At-mapped, At-one, At-or, At-parts, At-within, some_is}
 use Rattle.ca_arena.specs.declared.handle.Handle.{Handle}
 use Rattle.ca_dbr.specs.declared.value.Outcome.{Outcome}
 use Rattle.ca_ids.specs.Table.{by_wire, under}
 use Rattle.ca_ids.specs.Wire.{wire_of}
-use Rattle.ca_monitor.specs.Subscriptions.{Subscription, standing_by, stands_in}
+use Rattle.ca_monitor.specs.Subscriptions.{Subscription, stands_in}
 use Rattle.ca_requests.specs.Meaning.{Means}
 use Rattle.ca_wire.specs.Fields.{Fields}
 use Rattle.ca_model.specs.Answers.{Notice}
@@ -23,13 +23,13 @@ use Rattle.ca_model.specs.Hears.{Effect, Hears, Updates, heard_by, is_live_on, u
 use Rattle.ca_model.specs.Hears as hears
 use Rattle.ca_model.specs.History.{Ask, Cancel, Cause, Clear, Create, Intent, Line, On, Reply, Request, Sent, Step, Subscribe, Told, Update, Updated}
 use Rattle.ca_model.specs.History as history
-use Rattle.ca_model.specs.Speech.{Cid, Creates, Is, Speaks, SubId, sid_in}
+use Rattle.ca_model.specs.Speech.{Cid, Is, Speaks, SubId, sid_in}
 use Rattle.ca_model_safe.specs.Channels.{AreSteps, Suits, named}
 use Rattle.ca_model_client.proofs.Standings.{is-on}
 use Rattle.ca_model_client.proofs.Tables.{under-wire, wire-under}
 use Rattle.ca_model_client.proofs.Thinner.{three-ways}
 use Rattle.ca_model_world.specs.ClientEvents.{about_at, channel_number, heard_in, line_of, lines_of, meant_by}
-use Rattle.ca_model_world.specs.World.{ClientSide, Joined, Names, World, log_length}
+use Rattle.ca_model_world.specs.World.{ClientSide, Joined, World, log_length}
 use Rattle.ca_laws_bytes.specs.ServerFits.{AllCaused}
 use Rattle.ca_laws_circuit.specs.Flows.{MeansOwn}
 use Rattle.ca_laws_circuit.specs.Sids.{IsClearedWithin}
@@ -42,7 +42,7 @@ use Rattle.ca_laws_held.specs.Quiet.{IsNamedIn, Tidy}
 use Rattle.ca_laws_held.specs.Sides.{IsLiveAs}
 use Rattle.ca_laws_held.specs.Tells.{TellsOwn}
 use Rattle.ca_laws_held.specs.Under.{IsCreatedBefore, IsUse}
-use Rattle.ca_laws_held.proofs.Again.{AllAgain, Was, over-there, was-there}
+use Rattle.ca_laws_held.proofs.Again.{AllAgain, over-there, was-there}
 use Rattle.ca_laws_held.proofs.Farewell.{live-standing}
 use Rattle.ca_laws_held.proofs.OnceCalls.{IsOverBy}
 use Rattle.ca_laws_held.proofs.OnceWorld.{logs-grown}
@@ -55,7 +55,7 @@ use Rattle.ca_laws_held.proofs.ToldCreated.{create-used}
 use Rattle.ca_laws_held.proofs.ToldGrows.{Onward, WorldsOn}
 use Rattle.ca_laws_held.proofs.ToldQuiet.{tells-held}
 use Rattle.ca_laws_held.proofs.Under.{uncleared}
-use Rattle.ca_laws_held.proofs.Using.{AllNamedOnce, ClientsUse, IsOverAt, named-meant, over-on}
+use Rattle.ca_laws_held.proofs.Using.{AllNamedOnce, ClientsUse, IsOverAt, named-meant}
 
 -- ---- what is said of a circuit
 

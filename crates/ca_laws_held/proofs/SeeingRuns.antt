@@ -1,20 +1,17 @@
 -- After every run a subscriber saw the updates of each EVENT_ADD in order, with none left out.
-use Rattle.std.proofs.Common.{◌≡◌, ℕ, suc, ◌+◌, ◌<◌, ◌≤◌, ◌⊎◌, inl, inr, true, List, [], ◌∷◌, ◌++◌, length, Option, Some, None, refl, sym, ap, ◌∙◌, subst, arith}
+use Rattle.std.proofs.Common.{◌≡◌, ℕ, suc, ◌<◌, ◌≤◌, ◌⊎◌, inl, inr, true, List, [], ◌∷◌, ◌++◌, length, Option, Some, None, refl, sym, ap, ◌∙◌, subst, arith}
 use Rattle.std.specs.List.{FoldsTo}
 use Rattle.ca_text.specs.Place.{At}
 use Rattle.ca_text.proofs.Places.{At-map, At-mapped, At-one, At-or, At-set, At-snoc, At-within}
-use Rattle.ca_arena.specs.declared.handle.Handle.{Handle}
-use Rattle.ca_dbr.specs.declared.value.Outcome.{Outcome}
 use Rattle.ca_model.specs.Answers.{Notice}
-use Rattle.ca_model.specs.Hears.{Effect}
-use Rattle.ca_model.specs.History.{Circuit, Create, Intent, Line, On, Reply, Sent, Step, Subscribe, Told, Update, Updated}
+use Rattle.ca_model.specs.History.{Circuit, Line, Sent, Step, Told, Updated}
 use Rattle.ca_model.specs.Speech.{Creates}
 use Rattle.ca_model_safe.specs.Channels.{AreSteps}
 use Rattle.ca_model_world.specs.ClientEvents.{heard_in}
 use Rattle.ca_model_world.specs.Events.{Event}
 use Rattle.ca_model_world.specs.Events as event
 use Rattle.ca_model_world.specs.Runs.{AreEvents, Happens, Runs, StopsAt, clients_below}
-use Rattle.ca_model_world.specs.World.{ClientSide, IsSetting, Joined, Setting, World, addresses, circuit_of, client_begun, opening, told}
+use Rattle.ca_model_world.specs.World.{ClientSide, IsSetting, Joined, Setting, World, addresses, circuit_of, client_begun, opening}
 use Rattle.ca_laws_bytes.specs.Runs.{HearsSent}
 use Rattle.ca_laws_bytes.specs.ServerFits.{AllCaused}
 use Rattle.ca_laws_bytes.proofs.Causes.{runs-caused}
@@ -32,7 +29,7 @@ use Rattle.ca_laws_held.proofs.OnceRuns.{numbered-place}
 use Rattle.ca_laws_held.proofs.OrderGrows.{GoesOn, each-event, step-grown, ticks-grown}
 use Rattle.ca_laws_held.proofs.OrderKeeps.{IsHearing, begun-grown, begun-mid, hear-grown, hear-step, hearing-or, made-or, run-steps}
 use Rattle.ca_laws_held.proofs.Replied.{reached-answer}
-use Rattle.ca_laws_held.proofs.Seeing.{AllOrdered, AllSeen, AllWithin, IsBefore, IsSeen, ordered-any, ordered-old, seen-now, seen-old}
+use Rattle.ca_laws_held.proofs.Seeing.{AllOrdered, AllSeen, AllWithin, IsSeen, ordered-any, ordered-old, seen-now, seen-old}
 use Rattle.ca_laws_held.proofs.Spent.{Known}
 use Rattle.ca_laws_held.proofs.ToldCreated.{AllToldLive, ReadsNone, none-grown, none-handled, none-made, run-told-live}
 use Rattle.ca_laws_held.proofs.ToldGrows.{WorldsOn, event-on, on-grown}
