@@ -37,7 +37,7 @@ FromFarewell x c said =
     ⊎ ((h : Handle) × (said ≡ notice.Lost h) × IsLiveOn x.channels c h)
 
 -- a channel that is live on a circuit
-live-standing : (c : Handle) (ch : Channel) → is_on_in is_live c ch ≡ true → (native : Native) × (rights : ℕ) × (ch.standing ≡ On c (Live native rights))
+pub live-standing : (c : Handle) (ch : Channel) → is_on_in is_live c ch ≡ true → (native : Native) × (rights : ℕ) × (ch.standing ≡ On c (Live native rights))
 live-standing c ch is = go ch.standing is
   where
     phases : (d : Handle) (p : Phase) → same_handle d c ≡ true → is_live p ≡ true → (native : Native) × (rights : ℕ) × (On d p ≡ On c (Live native rights))

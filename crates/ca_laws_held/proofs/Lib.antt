@@ -102,3 +102,7 @@ pub mod ToldCreated
 pub mod LostLast
 pub mod LostLive
 pub mod Completing
+pub mod Using
+pub mod Again
+pub mod Seeing
+pub mod SeeingRuns

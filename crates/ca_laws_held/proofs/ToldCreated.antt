@@ -174,7 +174,7 @@ on-channel x on h cid ch few there wire here = by (phase_on on ch.standing) refl
     )
 
 -- what it does
-creates-so : (x : Client) (c : Handle) (m : Fields) (e : Effect) → Hears x c m e → Is command.CreateChannel m → e ≡ created x c m (channel_on x c m.p1)
+pub creates-so : (x : Client) (c : Handle) (m : Fields) (e : Effect) → Hears x c m e → Is command.CreateChannel m → e ≡ created x c m (channel_on x c m.p1)
 creates-so x c m e (hears.CreateChannel is does) z = does
 creates-so x c m e (hears.Search is d there finds) z = absurd (unlike m 6 refl is z)
 creates-so x c m e (hears.AccessRights is does) z = absurd (unlike m 22 refl is z)

@@ -7,7 +7,7 @@ use Rattle.ca_text.specs.Place.{At}
 use Rattle.ca_model.specs.History.{Create, Intent, Line, Noticed, On, Reply, Subscribe, Update, Updated}
 use Rattle.ca_model.specs.Updates.{Shows}
 use Rattle.ca_model_safe.specs.Channels.{OfClients}
-use Rattle.ca_model_safe.specs.Headline.{Reads}
+use Rattle.ca_model_safe.specs.Headline.{Reads, Sees}
 use Rattle.ca_model_safe.specs.Known.{IsDue}
 use Rattle.ca_model_world.specs.World.{World, port_of, rules_of, told}
 
@@ -30,3 +30,7 @@ IsToLast intent = ⊥
 abbrev pub LastingAreTold : World → Type 0
 LastingAreTold w = OfClients (told w) (λ (life : ℕ) (x : List Line). (i : ℕ) (intent : Intent) (o : Outcome) → At x i (Noticed intent o)
     → IsToLast intent → o ≢ Disconnected → (by : IsToldOf w life x i intent o) × (by.t.cause ≡ Reply))
+
+-- Each subscriber saw updates of its own, of each EVENT_ADD in order and with none left out.
+abbrev pub SubscribersSee : World → Type 0
+SubscribersSee w = OfClients (told w) (Sees (IsDue (port_of w) (rules_of w)) Shows Means (told w))

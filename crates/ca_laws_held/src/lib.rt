@@ -46,5 +46,6 @@ pub use step_laws::{
     what_is_held_in_runs, what_is_held_is_what_was_meant,
 };
 pub use told_laws::{
-    channels_and_subscriptions_are_told_of_their_own, updates_are_told_of_their_own,
+    channels_and_subscriptions_are_told_of_their_own, subscribers_see_their_updates,
+    updates_are_told_of_their_own,
 };

@@ -2,7 +2,7 @@ ghost use Rattle.std.specs.Prelude.{List, Option};
 ghost use Rattle.ca_model_world.specs.Events.{Event};
 ghost use Rattle.ca_model_world.specs.Runs.{AreEvents, Runs};
 ghost use Rattle.ca_model_world.specs.World.{IsSetting, Setting, World};
-ghost use Rattle.ca_laws_held.specs.ToldLines.{LastingAreTold, UpdatesAreOwn};
+ghost use Rattle.ca_laws_held.specs.ToldLines.{LastingAreTold, SubscribersSee, UpdatesAreOwn};
 
 /// After every run from a well-formed setting by well-formed events, each update that a client's log
 /// has was told when a message was read: an update of an EVENT_ADD that was meant as that
@@ -20,4 +20,12 @@ pub fn updates_are_told_of_their_own()
 pub fn channels_and_subscriptions_are_told_of_their_own()
     ensures { (s : Setting) (es : List Event) (stopped : Option Event) (w : World) → IsSetting s
         → AreEvents es → Runs s es stopped w → LastingAreTold w }
+{}
+
+/// After every such run a subscriber saw the updates of each EVENT_ADD in order and with none left
+/// out: before an update was told, each that was sent earlier on the circuit for the same EVENT_ADD
+/// was. With `own` this is the statement's clause `Sees`, whole.
+pub fn subscribers_see_their_updates()
+    ensures { (s : Setting) (es : List Event) (stopped : Option Event) (w : World) → IsSetting s
+        → AreEvents es → Runs s es stopped w → SubscribersSee w }
 {}
