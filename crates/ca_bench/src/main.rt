@@ -1,6 +1,8 @@
 //! Rounds of calls, to be timed from outside: `ca_bench WHAT SIZE ROUNDS`. Without words it does nothing.
 #![tactic(auto)]
 
+mod input;
+mod queues;
 mod records;
 
 use ca_dbr::{Meta, Value, read_value, write_value};
@@ -59,8 +61,15 @@ fn measured(alloc: Global, what: &str, size: u32, rounds: u32) -> Result<(), Ref
         b"read-strings" => reads(alloc, STRING, &strings(alloc, size)?, size, rounds),
         b"copy" => copies(alloc, size as usize, rounds),
         b"parts" => parts(alloc, size as usize, rounds),
+        b"deframed" => deframed(alloc, size as usize, rounds),
+        b"straightened" => straightened(alloc, size as usize, rounds),
         b"puts" => records::puts(alloc, size, rounds),
         b"posts" => records::posts(alloc, size, rounds),
+        b"queue-turns" => queues::queue_turns(alloc, size, rounds),
+        b"list-turns" => queues::list_turns(alloc, size, rounds),
+        b"ring-turns" => queues::ring_turns(alloc, size, rounds),
+        b"replacing-posts" => queues::replacing_posts(alloc, size, rounds),
+        b"list-replacing-posts" => queues::list_replacing_posts(alloc, size, rounds),
         _ => Err(Refusal::BadText),
     }
 }
@@ -144,6 +153,20 @@ fn parts(alloc: Global, part: usize, rounds: u32) -> Result<(), Refusal> {
         from.sent(all);
     }
     Ok(())
+}
+
+/// The same messages as bytes, in parts of n bytes, by a deframer alone.
+fn deframed(alloc: Global, part: usize, rounds: u32) -> Result<(), Refusal> {
+    let mut from = Link::new(alloc, 0);
+    from.queue_own(&large_message(alloc)?)?;
+    input::deframed(alloc, from.out_bytes(), part, rounds)
+}
+
+/// The same by a ring of bytes.
+fn straightened(alloc: Global, part: usize, rounds: u32) -> Result<(), Refusal> {
+    let mut from = Link::new(alloc, 0);
+    from.queue_own(&large_message(alloc)?)?;
+    input::straightened(alloc, from.out_bytes(), part, rounds)
 }
 
 /// Gives the bytes to the link in parts of n, and takes each message as soon as it is complete.

@@ -9,6 +9,8 @@ mod beacon;
 #[cfg(test)]
 mod dgram;
 #[cfg(test)]
+mod drawn;
+#[cfg(test)]
 mod ids;
 #[cfg(test)]
 mod link;

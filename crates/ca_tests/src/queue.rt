@@ -1,9 +1,9 @@
-ghost use Rattle.std.specs.Prelude.{◌≡◌, ◌∷◌, Some, None, [], IsTrue, IfOk};
+ghost use Rattle.std.specs.Prelude.{◌≡◌, ◌∷◌, Some, None, [], IsTrue, OnOk};
 ghost use Rattle.ca_queue.specs.Keys.{is_among};
 ghost use Rattle.ca_queue.specs.Queue.{added, no_queue};
 
 use ca_dbr::{Meta, Value};
-use ca_queue::{Entry, ListQueue, Queues, SubKey};
+use ca_queue::{Entry, EventQueue, ListQueue, Queues, SubKey};
 use ca_text::Refusal;
 use std::alloc::{AllocError, Global};
 use std::ops::Range;
@@ -75,25 +75,25 @@ fn number_of(given: &Option<(SubKey, Entry)>) -> Option<i32> {
     }
 }
 
-/// A queue with two subscriptions, in which nothing waits.
-fn queue_of_two(alloc: Global) -> Result<ListQueue<Entry>, Fail>
-    ensures { IfOk result (λ queue. queue.0 ≡ added OTHER (added KEY no_queue)) }
+/// Adds two subscriptions to a new queue.
+fn add_two<Q: Queues<Entry>>(queue: &mut Q) -> Result<(), Fail>
+    requires { Q.contents queue.old ≡ no_queue }
+    ensures { OnOk result (Q.contents queue.new ≡ added OTHER (added KEY no_queue)) }
 {
-    let mut queue = ListQueue::new(alloc);
     queue.add(KEY)?;
     queue.add(OTHER)?;
-    Ok(queue)
+    Ok(())
 }
 
 /// Posts updates of these numbers.
-fn post_all(
+fn post_all<Q: Queues<Entry>>(
     alloc: Global,
-    queue: &mut ListQueue<Entry>,
+    queue: &mut Q,
     key: SubKey,
     numbers: Range<i32>,
 ) -> Result<(), Fail>
-    requires { IsTrue (is_among key queue.old.0.subscriptions) }
-    ensures { queue.new.0.subscriptions ≡ queue.old.0.subscriptions }
+    requires { IsTrue (is_among key (Q.contents queue.old).subscriptions) }
+    ensures { (Q.contents queue.new).subscriptions ≡ (Q.contents queue.old).subscriptions }
 {
     for number in numbers {
         let entry = update(alloc, number)?;
@@ -103,8 +103,8 @@ fn post_all(
 }
 
 /// Takes give these subscriptions and numbers, and then nothing.
-fn check_takes(rt: &impl Abort, queue: &mut ListQueue<Entry>, expected: &[(SubKey, i32)])
-    ensures { queue.new.0.subscriptions ≡ queue.old.0.subscriptions }
+fn check_takes<Q: Queues<Entry>>(rt: &impl Abort, queue: &mut Q, expected: &[(SubKey, i32)])
+    ensures { (Q.contents queue.new).subscriptions ≡ (Q.contents queue.old).subscriptions }
 {
     for (key, number) in expected {
         let given = queue.take();
@@ -114,9 +114,114 @@ fn check_takes(rt: &impl Abort, queue: &mut ListQueue<Entry>, expected: &[(SubKe
     assert!(rt; queue.take().is_none());
 }
 
+/// A first value and 200 posts, none taken: the first value, posts 1 to 106, and post 200.
+fn check_few_places<Q: Queues<Entry>>(
+    rt: &impl Abort,
+    alloc: Global,
+    queue: &mut Q,
+) -> Result<(), Fail>
+    requires { Q.contents queue.old ≡ no_queue }
+{
+    add_two(queue)?;
+    post_all(alloc, queue, KEY, 0..201)?;
+    let mut expected = Vec::new(alloc);
+    for number in 0..107 {
+        expected.push((KEY, number))?;
+    }
+    expected.push((KEY, 200))?;
+    check_takes(rt, queue, &expected);
+    Ok(())
+}
+
+/// Where places are few, a subscription with no entry gets a place, and the next post replaces its own entry.
+fn check_others_kept<Q: Queues<Entry>>(
+    rt: &impl Abort,
+    alloc: Global,
+    queue: &mut Q,
+) -> Result<(), Fail>
+    requires { Q.contents queue.old ≡ no_queue }
+{
+    add_two(queue)?;
+    post_all(alloc, queue, OTHER, 0..1)?;
+    post_all(alloc, queue, KEY, 0..200)?;
+    post_all(alloc, queue, OTHER, 1..3)?;
+    let mut expected = Vec::new(alloc);
+    expected.push((OTHER, 2))?;
+    for number in 0..106 {
+        expected.push((KEY, number))?;
+    }
+    expected.push((KEY, 199))?;
+    check_takes(rt, queue, &expected);
+    Ok(())
+}
+
+/// With events off posts 1 to 3 leave post 3 alone, and of three entries that wait two are taken.
+fn check_pause<Q: Queues<Entry>>(rt: &impl Abort, alloc: Global, queue: &mut Q) -> Result<(), Fail>
+    requires { Q.contents queue.old ≡ no_queue }
+{
+    add_two(queue)?;
+    queue.set_events(false);
+    post_all(alloc, queue, KEY, 1..4)?;
+    check_takes(rt, queue, &[]);
+    queue.set_events(true);
+    check_takes(rt, queue, &[(KEY, 3)]);
+    post_all(alloc, queue, KEY, 0..3)?;
+    queue.set_events(false);
+    check_takes(rt, queue, &[(KEY, 0), (KEY, 1)]);
+    queue.set_events(true);
+    check_takes(rt, queue, &[(KEY, 2)]);
+    Ok(())
+}
+
+/// With events off the front is taken while some subscription has two entries.
+fn check_pause_of_two<Q: Queues<Entry>>(
+    rt: &impl Abort,
+    alloc: Global,
+    queue: &mut Q,
+) -> Result<(), Fail>
+    requires { Q.contents queue.old ≡ no_queue }
+{
+    add_two(queue)?;
+    post_all(alloc, queue, KEY, 1..2)?;
+    post_all(alloc, queue, OTHER, 2..4)?;
+    queue.set_events(false);
+    check_takes(rt, queue, &[(KEY, 1), (OTHER, 2)]);
+    queue.set_events(true);
+    check_takes(rt, queue, &[(OTHER, 3)]);
+    Ok(())
+}
+
+/// A cancel keeps the order of the others.
+fn check_cancel<Q: Queues<Entry>>(rt: &impl Abort, alloc: Global, queue: &mut Q) -> Result<(), Fail>
+    requires { Q.contents queue.old ≡ no_queue }
+{
+    add_two(queue)?;
+    post_all(alloc, queue, KEY, 0..1)?;
+    post_all(alloc, queue, OTHER, 10..11)?;
+    post_all(alloc, queue, KEY, 1..3)?;
+    post_all(alloc, queue, OTHER, 11..13)?;
+    queue.cancel(KEY);
+    check_takes(rt, queue, &[(OTHER, 10), (OTHER, 11), (OTHER, 12)]);
+    Ok(())
+}
+
+/// A growth that is refused changes nothing.
+fn check_refused<Q: Queues<Entry>>(rt: &impl Abort, queue: &mut Q) -> Result<(), Fail>
+    requires { Q.contents queue.old ≡ no_queue }
+{
+    if let Err(refusal) = queue.add(KEY) {
+        assert!(rt; refusal == Refusal::OutOfMemory);
+        queue.add(KEY)?;
+    }
+    queue.add(OTHER)?;
+    check_takes(rt, queue, &[]);
+    Ok(())
+}
+
 #[test]
 fn posts_come_out_in_order(rt: HostRuntime) -> Result<(), Fail> {
-    let mut queue = queue_of_two(rt.alloc())?;
+    let mut queue = ListQueue::new(rt.alloc());
+    add_two(&mut queue)?;
     let first = update(rt.alloc(), 1)?;
     let second = update(rt.alloc(), 2)?;
     let given = post_two(&mut queue, KEY, first, second);
@@ -128,7 +233,8 @@ fn posts_come_out_in_order(rt: HostRuntime) -> Result<(), Fail> {
 
 #[test]
 fn last_of_two_comes_out_after_a_pause(rt: HostRuntime) -> Result<(), Fail> {
-    let mut queue = queue_of_two(rt.alloc())?;
+    let mut queue = ListQueue::new(rt.alloc());
+    add_two(&mut queue)?;
     let first = update(rt.alloc(), 1)?;
     let second = update(rt.alloc(), 2)?;
     let given = post_two_while_off(&mut queue, KEY, first, second);
@@ -138,74 +244,44 @@ fn last_of_two_comes_out_after_a_pause(rt: HostRuntime) -> Result<(), Fail> {
     Ok(())
 }
 
-// A first value and 200 posts, none taken: the first value, posts 1 to 106, and post 200.
 #[test]
 fn posts_replace_the_last_where_places_are_few(rt: HostRuntime) -> Result<(), Fail> {
-    let mut queue = queue_of_two(rt.alloc())?;
-    post_all(rt.alloc(), &mut queue, KEY, 0..201)?;
-    let mut expected = Vec::new(rt.alloc());
-    for number in 0..107 {
-        expected.push((KEY, number))?;
-    }
-    expected.push((KEY, 200))?;
-    check_takes(&rt, &mut queue, &expected);
-    Ok(())
+    let mut list: ListQueue<Entry> = ListQueue::new(rt.alloc());
+    check_few_places(&rt, rt.alloc(), &mut list)?;
+    let mut ring: EventQueue<Entry> = EventQueue::new(rt.alloc());
+    check_few_places(&rt, rt.alloc(), &mut ring)
 }
 
 #[test]
 fn another_subscription_keeps_its_entries(rt: HostRuntime) -> Result<(), Fail> {
-    let mut queue = queue_of_two(rt.alloc())?;
-    post_all(rt.alloc(), &mut queue, OTHER, 0..1)?;
-    post_all(rt.alloc(), &mut queue, KEY, 0..200)?;
-    post_all(rt.alloc(), &mut queue, OTHER, 1..3)?;
-    let mut expected = Vec::new(rt.alloc());
-    expected.push((OTHER, 2))?;
-    for number in 0..106 {
-        expected.push((KEY, number))?;
-    }
-    expected.push((KEY, 199))?;
-    check_takes(&rt, &mut queue, &expected);
-    Ok(())
+    let mut list: ListQueue<Entry> = ListQueue::new(rt.alloc());
+    check_others_kept(&rt, rt.alloc(), &mut list)?;
+    let mut ring: EventQueue<Entry> = EventQueue::new(rt.alloc());
+    check_others_kept(&rt, rt.alloc(), &mut ring)
 }
 
 #[test]
 fn pause_keeps_the_newest_alone(rt: HostRuntime) -> Result<(), Fail> {
-    let mut queue = queue_of_two(rt.alloc())?;
-    queue.set_events(false);
-    post_all(rt.alloc(), &mut queue, KEY, 1..4)?;
-    check_takes(&rt, &mut queue, &[]);
-    queue.set_events(true);
-    check_takes(&rt, &mut queue, &[(KEY, 3)]);
-    post_all(rt.alloc(), &mut queue, KEY, 0..3)?;
-    queue.set_events(false);
-    check_takes(&rt, &mut queue, &[(KEY, 0), (KEY, 1)]);
-    queue.set_events(true);
-    check_takes(&rt, &mut queue, &[(KEY, 2)]);
-    Ok(())
+    let mut list: ListQueue<Entry> = ListQueue::new(rt.alloc());
+    check_pause(&rt, rt.alloc(), &mut list)?;
+    let mut ring: EventQueue<Entry> = EventQueue::new(rt.alloc());
+    check_pause(&rt, rt.alloc(), &mut ring)
 }
 
 #[test]
 fn pause_gives_the_front_while_one_has_two(rt: HostRuntime) -> Result<(), Fail> {
-    let mut queue = queue_of_two(rt.alloc())?;
-    post_all(rt.alloc(), &mut queue, KEY, 1..2)?;
-    post_all(rt.alloc(), &mut queue, OTHER, 2..4)?;
-    queue.set_events(false);
-    check_takes(&rt, &mut queue, &[(KEY, 1), (OTHER, 2)]);
-    queue.set_events(true);
-    check_takes(&rt, &mut queue, &[(OTHER, 3)]);
-    Ok(())
+    let mut list: ListQueue<Entry> = ListQueue::new(rt.alloc());
+    check_pause_of_two(&rt, rt.alloc(), &mut list)?;
+    let mut ring: EventQueue<Entry> = EventQueue::new(rt.alloc());
+    check_pause_of_two(&rt, rt.alloc(), &mut ring)
 }
 
 #[test]
 fn cancel_keeps_the_order_of_the_others(rt: HostRuntime) -> Result<(), Fail> {
-    let mut queue = queue_of_two(rt.alloc())?;
-    post_all(rt.alloc(), &mut queue, KEY, 0..1)?;
-    post_all(rt.alloc(), &mut queue, OTHER, 10..11)?;
-    post_all(rt.alloc(), &mut queue, KEY, 1..3)?;
-    post_all(rt.alloc(), &mut queue, OTHER, 11..13)?;
-    queue.cancel(KEY);
-    check_takes(&rt, &mut queue, &[(OTHER, 10), (OTHER, 11), (OTHER, 12)]);
-    Ok(())
+    let mut list: ListQueue<Entry> = ListQueue::new(rt.alloc());
+    check_cancel(&rt, rt.alloc(), &mut list)?;
+    let mut ring: EventQueue<Entry> = EventQueue::new(rt.alloc());
+    check_cancel(&rt, rt.alloc(), &mut ring)
 }
 
 #[test]
@@ -226,12 +302,8 @@ fn cancel_makes_room_for_a_37th(rt: HostRuntime) -> Result<(), Fail> {
 // Run it too with the Nth growth refused, for each N: `rt try --test --fail-alloc N`.
 #[test]
 fn refused_growth_changes_nothing(rt: HostRuntime) -> Result<(), Fail> {
-    let mut queue: ListQueue<Entry> = ListQueue::new(rt.alloc());
-    if let Err(refusal) = queue.add(KEY) {
-        assert!(rt; refusal == Refusal::OutOfMemory);
-        queue.add(KEY)?;
-    }
-    queue.add(OTHER)?;
-    check_takes(&rt, &mut queue, &[]);
-    Ok(())
+    let mut list: ListQueue<Entry> = ListQueue::new(rt.alloc());
+    check_refused(&rt, &mut list)?;
+    let mut ring: EventQueue<Entry> = EventQueue::new(rt.alloc());
+    check_refused(&rt, &mut ring)
 }
