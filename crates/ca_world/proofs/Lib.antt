@@ -22,3 +22,4 @@ pub mod Restarting
 pub mod Reported
 pub mod Cuttings
 pub mod Entering
+pub mod Farewells
