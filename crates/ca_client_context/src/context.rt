@@ -2,7 +2,8 @@ ghost use Rattle.ca_board.specs.Views.{HasCollected, HasGivenUp};
 
 use crate::addresses::to_system;
 use crate::engine::{Engine, moment};
-use crate::listener::{Ear, Ears, Listener};
+use crate::links::Tries;
+use crate::listener::{Change, Ear, Ears, Listener};
 use crate::shared::{Locked, Shared};
 use ca_arena::Handle;
 use ca_board::Ticket;
@@ -60,34 +61,9 @@ impl Context {
             names,
             repeater,
         } = setting;
+        let parts = Parts::new(&rt, alloc, repeater)?;
         let desk = Desk::new(alloc, user, host, servers, &names, 0)?;
-        let (poll, waker, datagrams) = sockets(&rt)?;
-        if let Some(address) = repeater {
-            let _ = datagrams.send_to(&register(Ipv4Addr::LOCALHOST), to_system(address));
-        }
-        let Ok(began) = Instant::now(&rt) else {
-            return Err(Refusal::Device);
-        };
-        let events = Events::with_capacity(alloc, 256)?;
-        let locked = Locked {
-            desk,
-            ears: Vec::new(alloc),
-            cancelled: Vec::new(alloc),
-            ending: false,
-        };
-        let shared = Arc::new(alloc, Shared::new(locked, waker))?;
-        let engine = Engine {
-            net: rt,
-            shared: Arc::try_clone(&shared)?,
-            poll,
-            events,
-            datagrams,
-            links: Vec::new(alloc),
-            ears: Ears::new(alloc)?,
-            told: Vec::new(alloc),
-            began,
-        };
-        Ok((Context { shared, began }, engine))
+        joined(rt, alloc, desk, parts)
     }
 
     /// A caller, for one thread.
@@ -200,6 +176,8 @@ impl Context {
     }
 
     /// Waits for the outcome of a ticket, for at most so many turns of the thread of input and output.
+    ///
+    /// A turn takes 10 ms if nothing comes, and less if bytes come or a thread calls: so it is no measure of time on a busy client.
     pub fn wait<R: Wait>(
         &self,
         rt: &R,
@@ -247,7 +225,7 @@ impl Context {
     }
 
     fn wake(&self) {
-        let _ = self.shared.waker.wake();
+        self.shared.wake();
     }
 }
 
@@ -260,15 +238,15 @@ impl Locked {
         mask: Mask,
         listener: Box<dyn Listener + Send>,
     ) -> Result<Handle, (Box<dyn Listener + Send>, Refusal)> {
-        if self.ears.reserve(1).is_err() {
+        if self.changes.reserve(1).is_err() {
             return Err((listener, Refusal::OutOfMemory));
         }
         match self.desk.subscribe(channel, data_type, count, mask) {
             Ok(subscription) => {
-                self.ears.push_reserved(Ear {
+                self.changes.push_reserved(Change::Hears(Ear {
                     subscription,
                     listener,
-                });
+                }));
                 Ok(subscription)
             }
             Err(refusal) => Err((listener, refusal)),
@@ -276,11 +254,84 @@ impl Locked {
     }
 
     fn unsubscribe(&mut self, subscription: Handle) -> Result<(), Refusal> {
-        self.cancelled.reserve(1)?;
+        self.changes.reserve(1)?;
         self.desk.unsubscribe(subscription)?;
-        self.cancelled.push_reserved(subscription);
+        self.changes.push_reserved(Change::Ends(subscription));
         Ok(())
     }
+}
+
+// What an engine is made of, beside the client's state.
+#[derive(Drop)]
+struct Parts {
+    poll: Poll,
+    waker: Waker,
+    datagrams: UdpSocket,
+    events: Events<Global>,
+    ears: Ears,
+    began: Instant,
+}
+
+impl Parts {
+    // A register goes to the repeater, if there is one.
+    fn new<R: Net + Clock>(
+        rt: &R,
+        alloc: Global,
+        repeater: Option<Address>,
+    ) -> Result<Parts, Refusal> {
+        let Ok(began) = Instant::now(rt) else {
+            return Err(Refusal::Device);
+        };
+        let events = Events::with_capacity(alloc, 256)?;
+        let ears = Ears::new(alloc)?;
+        let (poll, waker, datagrams) = sockets(rt)?;
+        if let Some(address) = repeater {
+            let _ = datagrams.send_to(&register(Ipv4Addr::LOCALHOST), to_system(address));
+        }
+        Ok(Parts {
+            poll,
+            waker,
+            datagrams,
+            events,
+            ears,
+            began,
+        })
+    }
+}
+
+fn joined<R: Net + Clock + Copy + Drop>(
+    rt: R,
+    alloc: Global,
+    desk: Desk,
+    parts: Parts,
+) -> Result<(Context, Engine<R>), Refusal> {
+    let Parts {
+        poll,
+        waker,
+        datagrams,
+        events,
+        ears,
+        began,
+    } = parts;
+    let locked = Locked {
+        desk,
+        changes: Vec::new(alloc),
+        ending: false,
+    };
+    let shared = Arc::new(alloc, Shared::new(locked, waker))?;
+    let engine = Engine {
+        net: rt,
+        shared: Arc::try_clone(&shared)?,
+        poll,
+        events,
+        datagrams,
+        links: Vec::new(alloc),
+        tries: Tries::new(alloc),
+        ears,
+        told: Vec::new(alloc),
+        began,
+    };
+    Ok((Context { shared, began }, engine))
 }
 
 // What the thread of input and output polls, with a socket for datagrams.
@@ -293,6 +344,10 @@ fn sockets<R: Net>(rt: &R) -> Result<(Poll, Waker, UdpSocket), Refusal> {
     };
     let any = SocketAddr::from((Ipv4Addr::UNSPECIFIED, 0));
     let Ok(mut datagrams) = UdpSocket::bind(rt, any) else {
+        return Err(Refusal::Device);
+    };
+    // Searches go to broadcast addresses too.
+    let Ok(()) = datagrams.set_broadcast(true) else {
         return Err(Refusal::Device);
     };
     let Ok(()) = poll

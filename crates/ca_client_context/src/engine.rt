@@ -1,5 +1,5 @@
 use crate::addresses::{from_system, to_system};
-use crate::links::{Link, close_all, connect, forget, serve};
+use crate::links::{Link, Tries, close_all, connect, forget, serve};
 use crate::listener::Ears;
 use crate::shared::{Locked, Shared};
 use ca_client::{Answer, Ask, Desk, Told};
@@ -50,6 +50,7 @@ pub struct Engine<N: Net + Drop> {
     pub(crate) events: Events<Global>,
     pub(crate) datagrams: UdpSocket,
     pub(crate) links: Vec<Link>,
+    pub(crate) tries: Tries,
     pub(crate) ears: Ears,
     pub(crate) told: Vec<Told>,
     pub(crate) began: Instant,
@@ -65,6 +66,7 @@ impl<N: Net + Drop> Work for Engine<N> {
             mut events,
             datagrams,
             mut links,
+            mut tries,
             mut ears,
             mut told,
             began,
@@ -76,16 +78,12 @@ impl<N: Net + Drop> Work for Engine<N> {
             let now = moment(rt, &began);
             let mut guard = shared.locked.lock(rt);
             let locked = &mut *guard;
-            adopt(locked, &mut ears);
             busy = turn(
-                &net,
-                &mut locked.desk,
-                &poll,
-                &datagrams,
-                &mut links,
-                &mut told,
-                now,
+                &net, locked, &poll, &datagrams, &mut links, &mut tries, &mut ears, &mut told, now,
             );
+            if !busy {
+                shared.doze();
+            }
             let ending = locked.ending;
             if ending {
                 close_all(&mut locked.desk, &mut links);
@@ -108,20 +106,23 @@ pub(crate) fn moment<R: Clock>(rt: &R, start: &Instant) -> u64 {
     }
 }
 
-// One turn, under the lock. It says whether a message was read.
+// One turn, under the lock. It says whether there may be more to do at once.
 fn turn<N: Net>(
     net: &N,
-    desk: &mut Desk,
+    locked: &mut Locked,
     poll: &Poll,
     datagrams: &UdpSocket,
     links: &mut Vec<Link>,
+    tries: &mut Tries,
+    ears: &mut Ears,
     told: &mut Vec<Told>,
     now: u64,
 ) -> bool {
-    hear(desk, datagrams, now);
-    tick(desk, datagrams, links, now);
-    connect(net, desk, poll, links);
-    serve(desk, links, told)
+    ears.follow(&mut locked.changes);
+    hear(&mut locked.desk, datagrams, now);
+    tick(&mut locked.desk, datagrams, links, now);
+    connect(net, &mut locked.desk, poll, links, tries, now);
+    serve(&mut locked.desk, links, told)
 }
 
 // Search replies and beacons.
@@ -154,20 +155,6 @@ fn tick(desk: &mut Desk, datagrams: &UdpSocket, links: &mut Vec<Link>, now: u64)
     }
     for index in 0..closings.len() {
         forget(links, closings[index].circuit);
-    }
-}
-
-// Takes over the listeners that came, and drops those of subscriptions that were cancelled.
-fn adopt(locked: &mut Locked, ears: &mut Ears) {
-    for _ in 0..locked.ears.len() {
-        if let Some(ear) = locked.ears.pop() {
-            ears.adopt(ear);
-        }
-    }
-    for _ in 0..locked.cancelled.len() {
-        if let Some(subscription) = locked.cancelled.pop() {
-            ears.forget(subscription);
-        }
     }
 }
 

@@ -36,8 +36,6 @@ mod engine;
 mod links;
 mod listener;
 mod shared;
-#[cfg(test)]
-mod tests;
 
 pub use context::{Context, Setting};
 pub use engine::{Engine, Work, start};

@@ -1,9 +1,10 @@
 use crate::addresses::to_system;
 use ca_arena::Handle;
-use ca_client::{Answer, Ask, Desk, Socket, Told, Wire};
+use ca_client::{Answer, Ask, Desk, Moved, Socket, Told, Wire};
 use ca_client_core::WantedCircuit;
 use mio::net::TcpStream;
 use mio::{Interest, Poll, Token};
+use std::alloc::{AllocError, Global};
 use std::net::Net;
 
 // At most so many messages of a circuit are read in a turn.
@@ -12,6 +13,9 @@ const STEPS: usize = 256;
 // A socket with so many faults is let go: `turn_over` asks for fewer.
 const MOST_FAULTS: u64 = 1 << 63;
 
+// A circuit that could not be connected is tried again after so many milliseconds.
+const REST: u64 = 1_000;
+
 // The events of circuits. Which circuit has one is not asked: each is turned over in each turn.
 const CIRCUITS: Token = Token(2);
 
@@ -19,17 +23,102 @@ const CIRCUITS: Token = Token(2);
 #[derive(Drop)]
 pub(crate) struct Link {
     pub(crate) circuit: Handle,
-    wire: Wire,
+    wire: Watched<Wire>,
+}
+
+// A circuit's socket, and what its last calls showed.
+#[derive(Drop)]
+struct Watched<S: Socket + Drop> {
+    inner: S,
+    // The last read left nothing.
+    drained: bool,
+    // The last write left something, and the system may have room for it.
+    behind: bool,
+}
+
+impl<S: Socket + Drop> Socket for Watched<S> {
+    ghost gives = { λ a bytes b. S.gives a.inner bytes b.inner };
+
+    ghost takes = { λ a bytes b. S.takes a.inner bytes b.inner };
+
+    ghost fault_count = { λ w. S.fault_count w.inner };
+
+    fn read(&mut self, buffer: &mut [u8]) -> Moved {
+        let moved = self.inner.read(buffer);
+        self.drained = match moved {
+            Moved::Count(_) => false,
+            _ => true,
+        };
+        moved
+    }
+
+    fn write(&mut self, bytes: &[u8]) -> Moved {
+        let moved = self.inner.write(bytes);
+        self.behind = match moved {
+            Moved::Count(count) => count < bytes.len(),
+            _ => false,
+        };
+        moved
+    }
+
+    fn faults(&self) -> u64 {
+        self.inner.faults()
+    }
+}
+
+// When each circuit was last tried, at the index of its handle: that of a name server is wanted again under the same handle.
+#[derive(Drop)]
+pub(crate) struct Tries {
+    last: Vec<Option<(Handle, u64)>>,
+}
+
+impl Tries {
+    pub(crate) fn new(alloc: Global) -> Tries {
+        Tries {
+            last: Vec::new(alloc),
+        }
+    }
+
+    // Whether the circuit may be tried now.
+    fn is_due(&self, circuit: Handle, now: u64) -> bool {
+        match self.last.get(usize::from(circuit.index)) {
+            Some(Some((tried, moment))) => {
+                *tried != circuit || now.saturating_sub(*moment) >= REST
+            }
+            _ => true,
+        }
+    }
+
+    fn note(&mut self, circuit: Handle, now: u64) -> Result<(), AllocError> {
+        let place = usize::from(circuit.index);
+        for _ in self.last.len()..place + 1 {
+            self.last.push(None)?;
+        }
+        if let Some(last) = self.last.get_mut(place) {
+            *last = Some((circuit, now));
+        }
+        Ok(())
+    }
 }
 
 // Connects the circuits that are wanted. One that cannot be is cut.
-pub(crate) fn connect<R: Net>(rt: &R, desk: &mut Desk, poll: &Poll, links: &mut Vec<Link>) {
+pub(crate) fn connect<R: Net>(
+    rt: &R,
+    desk: &mut Desk,
+    poll: &Poll,
+    links: &mut Vec<Link>,
+    tries: &mut Tries,
+    now: u64,
+) {
     let Ok(wanted) = desk.wanted() else {
         return;
     };
     for index in 0..wanted.len() {
         let circuit = wanted[index].circuit;
-        if links.reserve(1).is_err() {
+        if !tries.is_due(circuit, now) {
+            continue;
+        }
+        if links.reserve(1).is_err() || tries.note(circuit, now).is_err() {
             return;
         }
         match reach(rt, poll, wanted[index]) {
@@ -49,17 +138,25 @@ fn reach<R: Net>(rt: &R, poll: &Poll, wanted: WantedCircuit) -> Option<Link> {
     let Ok(mut stream) = TcpStream::connect(rt, to_system(wanted.address)) else {
         return None;
     };
+    // Requests are small, and each is to go at once.
+    let Ok(()) = stream.set_nodelay(true) else {
+        return None;
+    };
     let both = Interest::READABLE | Interest::WRITABLE;
     let Ok(()) = poll.registry().register(&mut stream, CIRCUITS, both) else {
         return None;
     };
     Some(Link {
         circuit: wanted.circuit,
-        wire: Wire::new(stream),
+        wire: Watched {
+            inner: Wire::new(stream),
+            drained: true,
+            behind: false,
+        },
     })
 }
 
-// Moves the bytes of all circuits, and reads their messages. It says whether one was read.
+// Moves the bytes of all circuits, and reads their messages. It says whether there may be more to do at once.
 pub(crate) fn serve(desk: &mut Desk, links: &mut Vec<Link>, told: &mut Vec<Told>) -> bool {
     let mut busy = false;
     for turn in 0..links.len() {
@@ -104,7 +201,11 @@ fn serve_one(desk: &mut Desk, link: &mut Link, told: &mut Vec<Told>) -> Served {
         told.push_reserved(ended.told);
         return Served::Over;
     }
-    let mut served = Served::Idle;
+    let mut served = if link.wire.drained && !link.wire.behind {
+        Served::Idle
+    } else {
+        Served::Busy
+    };
     for _ in 0..STEPS {
         if told.reserve(1).is_err() {
             return served;

@@ -16,6 +16,15 @@ pub(crate) struct Ear {
     pub(crate) listener: Box<dyn Listener + Send>,
 }
 
+// What became of listeners since the thread of input and output last looked.
+#[derive(Drop)]
+pub(crate) enum Change {
+    // This one hears its subscription.
+    Hears(Ear),
+    // This subscription was cancelled.
+    Ends(Handle),
+}
+
 // The listeners, each at the index of its subscription. There is a place for each subscription that a client can have.
 #[derive(Drop)]
 pub(crate) struct Ears {
@@ -32,8 +41,20 @@ impl Ears {
         Ok(Ears { places })
     }
 
+    // Takes in what has changed, in the order of the calls that changed it.
+    pub(crate) fn follow(&mut self, changes: &mut Vec<Change>) {
+        changes.reverse();
+        for _ in 0..changes.len() {
+            match changes.pop() {
+                Some(Change::Hears(ear)) => self.adopt(ear),
+                Some(Change::Ends(subscription)) => self.forget(subscription),
+                None => {}
+            }
+        }
+    }
+
     // Takes a listener in. It takes the place of one whose subscription has ended.
-    pub(crate) fn adopt(&mut self, ear: Ear) {
+    fn adopt(&mut self, ear: Ear) {
         if let Some(place) = self.places.get_mut(usize::from(ear.subscription.index)) {
             *place = Some(ear);
         }

@@ -1,17 +1,15 @@
-use crate::listener::Ear;
-use ca_arena::Handle;
+use crate::listener::Change;
 use ca_client::Desk;
 use mio::Waker;
+use std::sync::atomic::{AtomicU64, Ordering};
 use std::sync::{Condvar, Mutex, Wait};
 
 // What lies under the lock.
 #[derive(Drop)]
 pub(crate) struct Locked {
     pub(crate) desk: Desk,
-    // The listeners that the thread of input and output has not taken over yet.
-    pub(crate) ears: Vec<Ear>,
-    // The subscriptions that were cancelled, whose listeners it has not dropped yet.
-    pub(crate) cancelled: Vec<Handle>,
+    // What became of listeners, in the order of the calls. The thread of input and output has not followed yet.
+    pub(crate) changes: Vec<Change>,
     pub(crate) ending: bool,
 }
 
@@ -20,6 +18,8 @@ pub(crate) struct Locked {
 pub(crate) struct Gate {
     pub(crate) turns: u64,
     pub(crate) ended: bool,
+    // Somebody began to wait since the last turn was over.
+    pub(crate) awaited: bool,
 }
 
 // What threads share.
@@ -29,6 +29,8 @@ pub(crate) struct Shared {
     pub(crate) gate: Mutex<Gate>,
     pub(crate) moved: Condvar,
     pub(crate) waker: Waker,
+    // 1 if the thread of input and output may be waiting, and was not woken since.
+    asleep: AtomicU64,
 }
 
 impl Shared {
@@ -38,9 +40,23 @@ impl Shared {
             gate: Mutex::new(Gate {
                 turns: 0,
                 ended: false,
+                awaited: false,
             }),
             moved: Condvar::new(),
             waker,
+            asleep: AtomicU64::new(0),
+        }
+    }
+
+    // The thread of input and output is about to wait. It says so while it has the lock, so that whoever has it next wakes it.
+    pub(crate) fn doze(&self) {
+        self.asleep.store(1, Ordering::SeqCst);
+    }
+
+    // Ends its wait, once for all that was changed under the lock meanwhile.
+    pub(crate) fn wake(&self) {
+        if self.asleep.swap(0, Ordering::SeqCst) == 1 {
+            let _ = self.waker.wake();
         }
     }
 
@@ -49,8 +65,12 @@ impl Shared {
         let mut gate = self.gate.lock(rt);
         gate.turns = gate.turns.wrapping_add(1);
         gate.ended = ended;
+        let awaited = gate.awaited;
+        gate.awaited = false;
         drop(gate);
-        self.moved.notify_all();
+        if awaited {
+            self.moved.notify_all();
+        }
     }
 
     // How many turns are over.
@@ -60,9 +80,11 @@ impl Shared {
 
     // Waits until another turn is over, and says whether the thread of input and output has ended.
     pub(crate) fn park<R: Wait>(&self, rt: &R, seen: u64) -> bool {
+        let mut gate = self.gate.lock(rt);
+        gate.awaited = true;
         let gate = self
             .moved
-            .wait_while(rt, self.gate.lock(rt), |g| g.turns == seen && !g.ended);
+            .wait_while(rt, gate, |g| g.turns == seen && !g.ended);
         gate.ended
     }
 }
