@@ -1,0 +1,243 @@
+use crate::ear::new_ear;
+use crate::printing::{print_done, print_value};
+use crate::tool_line::{Task, ToolLine, read_tool, verb_of};
+use ca::{not_understood, report};
+use ca_arena::Handle;
+use ca_client_context::{Context, Engine, Setting};
+use ca_client_core::{Address, ChannelState};
+use ca_dbr::{Outcome, Value};
+use ca_link::Sink;
+use ca_text::{ChannelName, Mask, Refusal};
+use rtrb::Consumer;
+use std::alloc::Global;
+use std::io::Write;
+use std::net::{Net, SocketAddrV4};
+use std::sync::Wait;
+use std::thread;
+use std::time::{Clock, Duration};
+
+// A turn is no longer than so many milliseconds.
+const TURN: u64 = 10;
+
+/// What the program's words come to, if they are a tool's.
+#[derive(Drop)]
+pub enum Begun<'a, N: Net + Drop> {
+    /// They are not.
+    Other,
+    /// The program has ended with this exit status.
+    Ended(u8),
+    /// A tool, and its thread of input and output, which is to be started.
+    Tool(Tool<'a>, Engine<N>),
+}
+
+/// A tool that has its sockets.
+#[derive(Drop)]
+pub struct Tool<'a> {
+    line: ToolLine<'a>,
+    context: Context,
+}
+
+/// Begins a tool if the words after the program's name are one's: the words are judged first, then the name, and then sockets are made.
+pub fn begin<'a, R: Net + Clock + Copy + Drop, W: Write>(
+    rt: R,
+    alloc: Global,
+    words: &'a [String],
+    err: &mut W,
+) -> Begun<'a, R> {
+    let Some((first, rest)) = words.split_first() else {
+        return Begun::Other;
+    };
+    let Some(verb) = verb_of(first.as_str()) else {
+        return Begun::Other;
+    };
+    match read_tool(alloc, verb, rest) {
+        Ok(Some(line)) => match opened(rt, alloc, line) {
+            Ok((tool, engine)) => Begun::Tool(tool, engine),
+            Err(refusal) => Begun::Ended(report(Err(refusal), err)),
+        },
+        Ok(None) => Begun::Ended(not_understood(err)),
+        Err(refusal) => Begun::Ended(report(Err(refusal), err)),
+    }
+}
+
+fn opened<'a, R: Net + Clock + Copy + Drop>(
+    rt: R,
+    alloc: Global,
+    line: ToolLine<'a>,
+) -> Result<(Tool<'a>, Engine<R>), Refusal> {
+    ChannelName::read(line.name.as_bytes())?;
+    let setting = Setting {
+        user: Vec::from_slice(alloc, b"ca")?,
+        host: Vec::from_slice(alloc, b"localhost")?,
+        servers: vec![in alloc; address_of(line.server)]?,
+        names: Vec::new(alloc),
+        repeater: None,
+    };
+    let (context, engine) = Context::new(rt, alloc, setting)?;
+    Ok((Tool { line, context }, engine))
+}
+
+fn address_of(server: SocketAddrV4) -> Address {
+    Address {
+        host: server.ip().to_bits(),
+        port: server.port(),
+    }
+}
+
+impl<'a> Tool<'a> {
+    /// Does what the words say while the thread of input and output runs, has that thread end, and returns the exit status.
+    pub fn run<R: Wait + Clock, K: Sink, W: Write>(
+        self,
+        rt: &R,
+        alloc: Global,
+        sink: &mut K,
+        err: &mut W,
+    ) -> u8 {
+        let Tool { line, context } = self;
+        let outcome = done(rt, alloc, &context, line, sink);
+        context.end(rt);
+        report(outcome, err)
+    }
+}
+
+// Refused as Disconnected if the turns are used up.
+fn done<R: Wait + Clock, K: Sink>(
+    rt: &R,
+    alloc: Global,
+    context: &Context,
+    line: ToolLine<'_>,
+    sink: &mut K,
+) -> Result<(), Refusal> {
+    let channel = context.open(rt, line.name.as_bytes(), 0)?;
+    let turns = wait_live(rt, context, channel, line.turns);
+    let ChannelState::Live(data_type, count, _) = context.channel_state(rt, channel)? else {
+        return Err(Refusal::Disconnected);
+    };
+    match line.task {
+        Task::Get => {
+            let mut caller = context.caller(rt)?;
+            let ticket = context.get(rt, channel, data_type, count)?;
+            let value = value_in(context.wait(rt, &mut caller, ticket, turns))?;
+            print_value(alloc, line.name, &value, sink)
+        }
+        Task::Put(text) => {
+            let mut caller = context.caller(rt)?;
+            let ticket = context.put_notify(rt, channel, text_value(alloc, text)?)?;
+            is_done(context.wait(rt, &mut caller, ticket, turns))?;
+            print_done(alloc, line.name, sink)
+        }
+        Task::Monitor(updates) => {
+            let asked = Asked {
+                channel,
+                data_type,
+                count,
+                turns,
+                updates,
+            };
+            monitor(rt, alloc, context, line.name, asked, sink)
+        }
+    }
+}
+
+// Waits until a channel is live, for at most so many turns, and tells how many are left.
+fn wait_live<R: Wait>(rt: &R, context: &Context, channel: Handle, turns: u64) -> u64 {
+    for used in 0..turns {
+        if context.wait_live(rt, channel, 1) {
+            return turns.saturating_sub(used);
+        }
+    }
+    0
+}
+
+// What a monitor asks for.
+#[derive(Clone, Copy)]
+struct Asked {
+    channel: Handle,
+    data_type: u16,
+    count: u32,
+    turns: u64,
+    updates: u64,
+}
+
+// Prints updates as they come. A turn in which none comes is waited for.
+fn monitor<R: Wait + Clock, K: Sink>(
+    rt: &R,
+    alloc: Global,
+    context: &Context,
+    name: &str,
+    asked: Asked,
+    sink: &mut K,
+) -> Result<(), Refusal> {
+    let (ear, mut heard) = new_ear(alloc)?;
+    let Some(mask) = Mask::new(1) else {
+        return Err(Refusal::Disconnected);
+    };
+    if let Err((_, refusal)) = context.monitor(
+        rt,
+        asked.channel,
+        asked.data_type,
+        asked.count,
+        mask,
+        ear,
+    ) {
+        return Err(refusal);
+    }
+    let mut turns = asked.turns;
+    for _ in 0..asked.updates {
+        let outcome = next_update(rt, &mut heard, &mut turns)?;
+        print_value(alloc, name, &value_in(Some(outcome))?, sink)?;
+    }
+    Ok(())
+}
+
+// The next update, with the turns that are left after it. Refused as Disconnected if there are none.
+fn next_update<R: Clock>(
+    rt: &R,
+    heard: &mut Consumer<Outcome>,
+    turns: &mut u64,
+) -> Result<Outcome, Refusal> {
+    let most = *turns;
+    for _ in 0..most {
+        if let Ok(outcome) = heard.pop() {
+            return Ok(outcome);
+        }
+        *turns = turns.saturating_sub(1);
+        thread::sleep(rt, Duration::from_millis(TURN));
+    }
+    match heard.pop() {
+        Ok(outcome) => Ok(outcome),
+        Err(_) => Err(Refusal::Disconnected),
+    }
+}
+
+// The text as a STRING: of zeros after its bytes, of which there are 40 at most.
+fn text_value(alloc: Global, text: &str) -> Result<Value, Refusal> {
+    let mut bytes = [0u8; 40];
+    for (place, byte) in bytes.iter_mut().zip(text.as_bytes()) {
+        *place = *byte;
+    }
+    Ok(Value::Strings(vec![in alloc; bytes]?))
+}
+
+// The value that an outcome has.
+fn value_in(outcome: Option<Outcome>) -> Result<Value, Refusal> {
+    match outcome {
+        Some(Outcome::Value(value, _)) => Ok(value),
+        Some(Outcome::Failed(status)) => Err(Refusal::ServerRefused(status)),
+        Some(Outcome::Unreadable(refusal)) => Err(refusal),
+        Some(Outcome::Done) => Err(Refusal::Disconnected),
+        Some(Outcome::Disconnected) => Err(Refusal::Disconnected),
+        None => Err(Refusal::Disconnected),
+    }
+}
+
+// Whether an outcome says that a put is done.
+fn is_done(outcome: Option<Outcome>) -> Result<(), Refusal> {
+    match outcome {
+        Some(Outcome::Done) => Ok(()),
+        other => match value_in(other) {
+            Ok(_) => Err(Refusal::Disconnected),
+            Err(refusal) => Err(refusal),
+        },
+    }
+}
