@@ -101,3 +101,5 @@ pub mod LostRuns
 pub mod ToldCreated
 pub mod LostLive
 pub mod LostLast
+pub mod Stood
+pub mod StoodGoing

@@ -4,6 +4,7 @@ ghost use Rattle.ca_model_safe.specs.Legal.{IsSent};
 ghost use Rattle.ca_model_world.specs.Events.{Event};
 ghost use Rattle.ca_model_world.specs.Runs.{AreEvents, Runs};
 ghost use Rattle.ca_model_world.specs.World.{IsSetting, Setting, World, told};
+ghost use Rattle.ca_laws_held.specs.Anew.{SubscriptionsAreAddedAnew};
 ghost use Rattle.ca_laws_held.specs.LegalParts.{
   ClientsSendOnChannels,
   ServersConfirmAtOnce,
@@ -59,4 +60,12 @@ pub fn subscriptions_are_added_apart()
 pub fn clients_send_on_channels_that_they_have()
     ensures { (s : Setting) (es : List Event) (stopped : Option Event) (w : World) → IsSetting s
         → AreEvents es → Runs s es stopped w → ClientsSendOnChannels w }
+{}
+
+/// After every run from a well-formed setting by well-formed events, a subscription that stands in its
+/// client's table has its EVENT_ADD on each open circuit on which its channel is live, after that
+/// channel's last CREATE_CHAN there.
+pub fn live_subscriptions_were_added()
+    ensures { (s : Setting) (es : List Event) (stopped : Option Event) (w : World) → IsSetting s
+        → AreEvents es → Runs s es stopped w → SubscriptionsAreAddedAnew w }
 {}
