@@ -103,3 +103,4 @@ pub mod LostLive
 pub mod LostLast
 pub mod Stood
 pub mod StoodGoing
+pub mod AddedSince

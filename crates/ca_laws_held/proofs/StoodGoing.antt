@@ -7,29 +7,33 @@ use Rattle.ca_text.specs.Place.{At}
 use Rattle.ca_text.proofs.Places.{At-after, At-map, At-one, At-set, At-snoc}
 use Rattle.ca_arena.specs.declared.handle.Handle.{Handle}
 use Rattle.ca_dbr.specs.Elements.{Elements}
-use Rattle.ca_ids.specs.Table.{same_handle}
+use Rattle.ca_ids.specs.Table.{same_handle, under}
 use Rattle.ca_model.specs.Answers.{Closed, NeedBytes, Notices, Sending, Stepped}
+use Rattle.ca_model.specs.Answers as answer
 use Rattle.ca_model.specs.Client.{Client, ClientCircuit, Connection, Standing, connection_at, later, sending, standing_at}
 use Rattle.ca_model.specs.ClientCalls.{cancel_sent, put_sent, read_sent, unsubscribed, write_sent}
 use Rattle.ca_model.specs.ClientEnds.{ConnectsOn, StepsOn, after_taking, handed_over}
 use Rattle.ca_model.specs.Ends.{Address}
 use Rattle.ca_model.specs.Hears.{Effect}
-use Rattle.ca_model.specs.History.{Intent, Sent, Step}
+use Rattle.ca_model.specs.History.{Intent, Line, Sent, Step}
 use Rattle.ca_model.specs.History as history
 use Rattle.ca_model_client.proofs.Handles.{same-itself}
 use Rattle.ca_laws_circuit.proofs.Marks.{filter-at}
-use Rattle.ca_model_world.specs.ClientEvents.{DownTaken, HappensAccept, HappensClear, HappensClientDatagram, HappensClientRestart, HappensClientStep, HappensCutClient, HappensDown, HappensOpen, HappensRead, HappensSubscribe, HappensUnsubscribe, HappensUp, HappensWrite, HappensWriteNotify, TicksOne, WantsFirst, client_stepped, heard_in, meant_by, sent_on}
+use Rattle.ca_model_world.specs.ClientEvents.{DownTaken, HappensAccept, HappensClear, HappensClientDatagram, HappensClientRestart, HappensClientStep, HappensCutClient, HappensDown, HappensOpen, HappensRead, HappensSubscribe, HappensUnsubscribe, HappensUp, HappensWrite, HappensWriteNotify, TicksOne, WantsFirst, about_at, channel_number, client_stepped, heard_in, intent_of, lines_of, meant_by}
 use Rattle.ca_model_world.specs.Events.{Event}
 use Rattle.ca_model_world.specs.Events as event
 use Rattle.ca_model_world.specs.Runs.{Happens}
 use Rattle.ca_model_world.specs.ServerEvents.{StepHandles, handled_at}
-use Rattle.ca_model_world.specs.World.{ClientSetting, ClientSide, Joined, Names, ServerSide, World, addresses, client_begun, with_circuit, with_client, with_server}
+use Rattle.ca_model_world.specs.World.{ClientSetting, ClientSide, Joined, Names, ServerSide, World, addresses, client_begun, log_length, with_circuit, with_client, with_server}
 use Rattle.ca_laws_circuit.specs.Held.{with_request, with_subscription}
 use Rattle.ca_laws_runs.specs.Circuit.{stamped}
 use Rattle.ca_laws_runs.specs.Clients.{ClientsStand}
+use Rattle.ca_laws_runs.proofs.ClientsKeep.{none-under}
 use Rattle.ca_laws_runs.proofs.ClientsMore.{unconnected-is, wanted-there}
+use Rattle.ca_laws_held.specs.Quiet.{ClientsQuiet, Tidy}
 use Rattle.ca_laws_held.proofs.Going.{IsFresh}
-use Rattle.ca_laws_held.proofs.HeardEnds.{IsEndAfter, IsSameEnd, after-sent, after-then, all-same, all-set, same-end, same-then, sent-mine}
+use Rattle.ca_laws_held.proofs.HeardEnds.{IsEndAfter, after-sent, sent-mine}
+use Rattle.ca_laws_held.proofs.Issued.{meant-still}
 use Rattle.ca_laws_held.proofs.OnceStill.{still-add, still-cut-server, still-finish, still-post, still-pump, still-remove, still-server-restart, still-server-step}
 use Rattle.ca_laws_held.proofs.OrderGrows.{Grown, each-event, step-grown}
 use Rattle.ca_laws_held.proofs.OrderKeeps.{IsHearing, IsMade, begun-grown, begun-mid, did-after, did-grown, did-step, hear-grown, hear-mid, hear-step, hearing-or, made-or}
@@ -164,9 +168,30 @@ stay-restart w new i x happens l y there = elim (At-set w.clients i z l y (subst
 
 -- ---- a moment
 
-tick-stay : (moment : ℕ) (w : World) (i : ℕ) (new : World) → TicksOne moment w i new → ClientsStay w new
-tick-stay moment w i new (x, at, t, sent, core, does, is) =
-    stay-set w new i x (record x { core = core }) at (ap (λ (v : World). v.clients) is) refl (subst (λ (v : Client). Stays x.core v) (sym does.2) (stays-ticked moment x.core))
+-- no client begins
+abbrev pub ClientsStill : (w new : World) → Type 0
+ClientsStill w new = (i : ℕ) (y : ClientSide) → At new.clients i y → (x : ClientSide) × At w.clients i x × (y.names.subscriptions ≡ x.names.subscriptions) × Stays x.core y.core
+
+tick-still : (moment : ℕ) (w : World) (i : ℕ) (new : World) → TicksOne moment w i new → ClientsStill w new
+tick-still moment w i new (x, at, t, sent, core, does, is) l y there = elim (At-set w.clients i (record x { core = core }) l y (subst (λ (c : List ClientSide). At c l y) (ap (λ (v : World). v.clients) is) there)) [
+  | inl here ↦ (
+    x,
+    subst (λ (n : ℕ). At w.clients n x) (sym here.0) at,
+    ap (λ (v : ClientSide). v.names.subscriptions) here.1,
+    subst (λ (v : Client). Stays x.core v) (sym (ap (λ (v : ClientSide). v.core) here.1 ∙ does.2)) (stays-ticked moment x.core),
+  )
+  | inr old ↦ (y, old.0, refl, stays-itself y.core)
+]
+
+pub ticks-still : (moment : ℕ) (is : List ℕ) (w new : World) → FoldsTo (TicksOne moment) w is new → ClientsStill w new
+ticks-still moment [] w new folds i y at = (y, subst (λ (v : World). At v.clients i y) (sym folds) at, refl, stays-itself y.core)
+ticks-still moment (k ∷ is) w new folds i y at =
+    let b = ticks-still moment is folds.0 new folds.2 i y at in
+    let a = tick-still moment w k folds.0 folds.1 i b.0 b.1 in
+    (a.0, a.1, b.2 ∙ a.2, stays-then (a.0).core (b.0).core y.core a.3 b.3)
+
+pub stay-still : (w new : World) → ClientsStill w new → ClientsStay w new
+stay-still w new all i y at = inl (all i y at)
 
 -- ---- circuits
 
@@ -248,3 +273,160 @@ ends-event w new e happens = each-event (EndsBack w new) w new (ends-grown w new
       | inr g ↦ ends-grown w new g
     ])
     (λ i f. subst (λ (z : World). EndsBack w z) (sym f.1) (ends-grown w (begun-mid w new i f.0.x f.1) (begun-grown w new i f.0.x f.1))) e happens
+
+-- ---- what stands so was there, or its EVENT_ADD is new
+
+-- Its EVENT_ADD was sent on this circuit since the first of the two worlds.
+abbrev pub IsNewAdd : World → (n : ℕ) → Joined → Intent → Type 0
+IsNewAdd w n d meant = (c : Joined) × (l : ℕ) × (r : Sent) × At w.circuits n c × (length c.lists.up ≤ l) × At d.lists.up l r × (r.intent ≡ meant)
+
+-- It stood so in the first, under the same name.
+abbrev pub IsStoodThen : World → (n : ℕ) → Names → (g h : Handle) → Type 0
+IsStoodThen w n names g h = (c : Joined) × (x : ClientSide) × At w.circuits n c × At w.clients c.client x × (c.lists.client_open ≡ true) × IsStood x.core c.at_client g h
+    × (meant_by names.subscriptions g ≡ meant_by x.names.subscriptions g)
+
+abbrev pub AddsBack : (w new : World) → Type 0
+AddsBack w new = (n : ℕ) (d : Joined) (y : ClientSide) (g h : Handle) → At new.circuits n d → At new.clients d.client y → d.lists.client_open ≡ true → IsStood y.core d.at_client g h
+    → IsStoodThen w n y.names g h ⊎ (IsNewAdd w n d (meant_by y.names.subscriptions g) ⊎ (d.lists.heard ≡ []))
+
+pub adds-still : (w new : World) → ClientsStay w new → EndsBack w new → AddsBack w new
+adds-still w new stays ends n d y g h at at_y opened it = elim (ends n d at) [
+  | inr empty ↦ inr (inr empty)
+  | inl c ↦ elim (stays d.client y at_y) [
+    | inr fresh ↦ absurd (none-under g it.d (subst (λ (v : ClientSide). under v.core.subscriptions g ≡ Some it.d) fresh.3 it.there))
+    | inl x ↦ inl (
+      c.0,
+      x.0,
+      c.1,
+      subst (λ (m : ℕ). At w.clients m x.0) c.2.client x.1,
+      c.2.opened opened,
+      x.3.back c.0.at_client g h (subst (λ (o : Handle). IsStood y.core o g h) c.2.handle it),
+      ap (λ (l : List (Handle × Intent)). meant_by l g) x.2,
+    )
+  ]
+]
+
+-- one client changes, and sent these
+adds-moved : (w new : World) (i : ℕ) (x z : ClientSide) (sent : List Sending) → At w.clients i x → new.clients ≡ slice_set w.clients i z → ((k : ℕ) (j : Joined) → At new.circuits k j → (a : Joined) × At w.circuits k a × IsEndAfter i z.names sent a j)
+    → Adds x.core sent z.core → ((on g h : Handle) → IsStood x.core on g h → meant_by z.names.subscriptions g ≡ meant_by x.names.subscriptions g) → AddsBack w new
+adds-moved w new i x z sent at_x same ends adds names n d y g h at at_y opened it =
+    let e = ends n d at in
+    let was_open : e.0.lists.client_open ≡ true = e.2.opens opened in
+    elim (At-set w.clients i z d.client y (subst (λ (c : List ClientSide). At c d.client y) same at_y)) [
+      | inr old ↦ inl (
+        e.0,
+        y,
+        e.1,
+        subst (λ (m : ℕ). At w.clients m y) e.2.client old.0,
+        was_open,
+        subst (λ (o : Handle). IsStood y.core o g h) e.2.handle it,
+        refl,
+      )
+      | inl here ↦
+          let mine : e.0.client ≡ i = sym e.2.client ∙ here.0 in
+          let own : IsStood z.core e.0.at_client g h = subst (λ (v : ClientSide × Handle). IsStood v.0.core v.1 g h) (λ k. (here.1 k, e.2.handle k)) it in
+          elim (adds.back e.0.at_client g h own) [
+            | inl was ↦ inl (
+              e.0,
+              x,
+              e.1,
+              subst (λ (m : ℕ). At w.clients m x) (sym mine) at_x,
+              was_open,
+              was,
+              ap (λ (v : ClientSide). meant_by v.names.subscriptions g) here.1 ∙ names e.0.at_client g h was,
+            )
+            | inr added ↦
+                let s : Sending = added.1 in
+                let passes : same_handle s.circuit e.0.at_client ≡ true = subst (λ (o : Handle). same_handle s.circuit o ≡ true) added.3 (same-itself s.circuit) in
+                let f = filter-at (λ (v : Sending). same_handle v.circuit e.0.at_client) sent added.0 s added.2 passes in
+                let told : At (said z.names e.0.at_client sent) f.0 (stamped z.names s) = At-map (stamped z.names) (filter (λ (v : Sending). same_handle v.circuit e.0.at_client) sent) f.0 s f.1 in
+                let up : d.lists.up ≡ e.0.lists.up ++ said z.names e.0.at_client sent = e.2.up ∙ ap (λ (l : List Sent). e.0.lists.up ++ l) (sent-mine i z.names sent e.0 mine was_open) in
+                inr (inl (
+                  e.0,
+                  length e.0.lists.up + f.0,
+                  stamped z.names s,
+                  e.1,
+                  omega arith,
+                  subst (λ (l : List Sent). At l (length e.0.lists.up + f.0) (stamped z.names s)) (sym up) (At-after e.0.lists.up (said z.names e.0.at_client sent) f.0 (stamped z.names s) told),
+                  ap (λ (v : answer.Aim). intent_of z.names v) added.4 ∙ ap (λ (v : ClientSide). meant_by v.names.subscriptions g) (sym here.1),
+                ))
+          ]
+    ]
+
+-- a subscription is made
+adds-subscribe : (w new : World) (i : ℕ) (x : ClientSide) → At w.clients i x → Tidy x.names x.core → (c : ℕ) (h : Handle) (data_type count mask : ℕ) → HappensSubscribe w i x c h data_type count mask new → EndsBack w new → AddsBack w new
+adds-subscribe w new i x at tidy c h data_type count mask happens ends = elim happens [
+  | inl refusal ↦ adds-still w new (stay-same w new (ap (λ (z : World). z.clients) refusal.3)) ends
+  | inr did ↦
+      let e : Handle × Intent = (did.0, history.On c (history.Subscribe (length x.names.subscriptions))) in
+      let names : Names = with_subscription did.0 (history.On c (history.Subscribe (length x.names.subscriptions))) x.names in
+      adds-moved w new i x (record x { core = did.2; names = names }) did.1 at (ap (λ (z : World). z.clients) did.4)
+      (λ k j stands. after-sent i names did.1 w.circuits k j (subst (λ (v : World). At v.circuits k j) did.4 stands))
+      (adds-subscribed x.core h (record { data_type = data_type; count = count }) mask did.0 did.1 did.2 did.3)
+      (λ on g k it.
+      let t = tidy.subscriptions g it.d it.there in
+      meant-still x.names.subscriptions e g (channel_number x.names (it.d).channel) (history.Subscribe t.0) t.2 ∙ sym t.2)
+]
+
+-- a message is read
+adds-hearing : (w new : World) (k : ℕ) (j : Joined) (x : ClientSide) → At w.circuits k j → At w.clients j.client x → j.lists.client_open ≡ true → ClientsStand w → HappensClientStep w k j x new → EndsBack w new → AddsBack w new
+adds-hearing w new k j x at there open_it stands happens ends = go (connection_at x.core j.at_client) refl happens.0 happens.1 happens.2 happens.3 happens.4
+  where
+    go : (o : Option Connection) → connection_at x.core j.at_client ≡ o → (did : Stepped) (sent : List Sending) (core : Client) → StepsOn x.core j.at_client o did sent core → new ≡ client_stepped k j x did sent core w → AddsBack w new
+    go None is did sent core steps new_is = absurd (both_ways (is_none (connection_at x.core j.at_client)) (stands.connected k j x at there open_it) (ap is_none is))
+    go (Some d) is NeedBytes sent core steps new_is = adds-still w new (stay-same w new (ap (λ (z : World). z.clients) new_is)) ends
+    go (Some d) is (Closed c) sent core steps new_is =
+        adds-still w new (stay-called w new j.client x x.names core there (ap (λ (z : World). z.clients) new_is) refl (subst (λ (v : Client). Stays x.core v) (sym steps.1.2) (stays-ended j.at_client x.core))) ends
+    go (Some d) is (Notices told) sent core steps new_is =
+        let lines : List Line = lines_of (about_at j.lists (length j.lists.heard)) x.names told in
+        let logged : ℕ = log_length x.life w.client_logs in
+        let step : Step = record { sent = length j.lists.up; logged = logged; after = logged + length lines } in
+        let mid : World = with_circuit k (heard_in step j) w in
+        let y : Client = after_taking j.at_client steps.rest x.core in
+        adds-moved w new j.client x (record x { core = core; names = x.names }) sent there (ap (λ (z : World). z.clients) new_is)
+        (λ n b stood.
+        let m = after-sent j.client x.names sent mid.circuits n b (subst (λ (v : World). At v.circuits n b) new_is stood) in
+        elim (At-set w.circuits k (heard_in step j) n m.0 m.1) [
+          | inr old ↦ (m.0, old.0, m.2)
+          | inl own ↦
+              let own_end : IsEndAfter j.client x.names sent (heard_in step j) b = subst (λ (v : Joined). IsEndAfter j.client x.names sent v b) own.1 m.2 in
+              (j, subst (λ (l : ℕ). At w.circuits l j) (sym own.0) at, record { client = own_end.client; handle = own_end.handle; opens = own_end.opens; up = own_end.up })
+        ])
+        (adds-then x.core y core sent (stays-same x.core y refl refl) (adds-heard y j.at_client steps.m (record { core = core; sent = sent; notices = told }) steps.hears)) (λ on g h it. refl)
+
+-- ---- every event
+
+pub event-adds : (w new : World) (e : Event) → ClientsStand w → ClientsQuiet w → Happens w e new → AddsBack w new
+event-adds w new e c q happens = go e happens (ends-event w new e happens)
+  where
+    still : ClientsStay w new → EndsBack w new → AddsBack w new
+    still stays ends = adds-still w new stays ends
+
+    go : (e : Event) → Happens w e new → EndsBack w new → AddsBack w new
+    go (event.Open i name priority) happens ends = still (stay-open w new i happens.0.x happens.0.at name priority happens.1) ends
+    go (event.Clear i k) happens ends = still (stay-clear w new i happens.0.x happens.0.at k happens.0.h happens.1) ends
+    go (event.Read i k data_type count) happens ends = still (stay-read w new i happens.0.x happens.0.at k happens.0.h data_type count happens.1) ends
+    go (event.Write i k e) happens ends = still (stay-write w new i happens.0.x happens.0.at k happens.0.h e happens.1) ends
+    go (event.WriteNotify i k e) happens ends = still (stay-put w new i happens.0.x happens.0.at k happens.0.h e happens.1) ends
+    go (event.Subscribe i k data_type count mask) happens ends = adds-subscribe w new i happens.0.x happens.0.at (q.tidy i happens.0.x happens.0.at) k happens.0.h data_type count mask happens.1 ends
+    go (event.Unsubscribe i n) happens ends = still (stay-unsubscribe w new i happens.0.x happens.0.at happens.0.s happens.1) ends
+    go (event.Collect i r) happens ends = still (stay-same w new (ap (λ (z : World). z.clients) happens.1.2)) ends
+    go (event.GiveUp i r) happens ends = still (stay-same w new (ap (λ (z : World). z.clients) happens.1.2)) ends
+    go (event.ClientDatagram i from bytes) happens ends = still (stay-datagram w new i happens.0.x happens.0.at from bytes happens.1) ends
+    go (event.ServerDatagram i from bytes) happens ends = still (stay-same w new (ap (λ (z : World). z.clients) happens.1.2)) ends
+    go (event.Accept i) happens ends = still (stay-accept w new i happens.0.x happens.0.v happens.0.at happens.1) ends
+    go (event.Up k n) happens ends = (let h = happens.0.0 in still (stay-up w new k h.j h.x h.joins.client n h.y happens.1) ends)
+    go (event.Down k n) happens ends = (let h = happens.0.0 in still (stay-down w new k h.j h.x h.joins.client n h.y happens.1) ends)
+    go (event.ServerStep k) happens ends = (let h = happens.0 in still (stay-same w new (still-server-step w new k h.j h.y happens.1).0) ends)
+    go (event.ClientStep k) happens ends = (let h = happens.0 in adds-hearing w new k h.j h.x h.joins.at h.joins.client h.is_open c happens.1 ends)
+    go (event.Pump k) happens ends = (let h = happens.0 in still (stay-same w new (still-pump w new k h.j h.y happens.1).0) ends)
+    go (event.CutClient k) happens ends = (let h = happens.0 in still (stay-cut-client w new k h.j h.x h.joins.client happens.1) ends)
+    go (event.CutServer k) happens ends = (let h = happens.0 in still (stay-same w new (still-cut-server w new k h.j h.y happens.1).0) ends)
+    go (event.ClientRestart i) happens ends = still (stay-restart w new i happens.0.x happens.1) ends
+    go (event.ServerRestart i) happens ends = still (stay-same w new (still-server-restart w new i happens.0.y happens.1).0) ends
+    go (event.Post i name e mask) happens ends = still (stay-same w new (still-post w new i happens.0.y name e mask happens.1).0) ends
+    go (event.Finish i name) happens ends = still (stay-same w new (still-finish w new i happens.0.y name happens.1).0) ends
+    go (event.Remove i name) happens ends = still (stay-same w new (still-remove w new i happens.0.y name happens.1).0) ends
+    go (event.Add i r) happens ends = still (stay-same w new (still-add w new i happens.0.y r happens.1).0) ends
+    go (event.Tick moment) happens ends =
+        still (stay-still w new (λ i y at. ticks-still moment _ w happens.1.0 happens.1.1 i y (subst (λ (v : World). At v.clients i y) happens.1.2 at))) ends
