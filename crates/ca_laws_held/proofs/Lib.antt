@@ -104,3 +104,4 @@ pub mod LostLast
 pub mod Stood
 pub mod StoodGoing
 pub mod AddedSince
+pub mod CancelsSaid

@@ -5,7 +5,7 @@ use Rattle.ca_text.specs.Limits.{arena_slots}
 use Rattle.ca_text.specs.Place.{At}
 use Rattle.ca_wire.specs.Fields.{Fields}
 use Rattle.ca_model.specs.History.{Circuit, Create, Entry, Line, On, Subscribe}
-use Rattle.ca_model.specs.Sends.{Conduct, HasChannel, IsConnected, IsOnChannel, IsOpenAt, ReadsBetween}
+use Rattle.ca_model.specs.Sends.{Conduct, HasChannel, IsConnected, IsOnChannel, IsOpenAt, IsUncancelled, ReadsBetween}
 use Rattle.ca_model.specs.Speech.{Clears, Creates, Is, sid_in}
 use Rattle.ca_model_safe.specs.Channels.{Meant, OfCircuits}
 use Rattle.ca_model_safe.specs.Legal.{client_conduct, server_conduct}
@@ -54,3 +54,13 @@ SendsOnChannels e = (k : ℕ) (m : Fields) → At e.sent k m → IsOnChannel m
 abbrev pub ClientsSendOnChannels : World → Type 0
 ClientsSendOnChannels w =
     OfCircuits (told w) (λ (n : ℕ) (c : Circuit) (x : List Line) (y : List Entry). SendsOnChannels (client_conduct c))
+
+-- An EVENT_CANCEL is for an EVENT_ADD on that channel that was not cancelled.
+abbrev pub CancelsWhatWasAdded : Conduct → Type 0
+CancelsWhatWasAdded e = (k : ℕ) (m : Fields) → At e.sent k m → Is command.EventCancel m
+    → (l : ℕ) × (add : Fields) × At e.sent l add × Is command.EventAdd add × (l < k) × (add.p1 ≡ m.p1)
+    × (add.p2 ≡ m.p2) × IsUncancelled e l k add
+
+abbrev pub ClientsCancelWhatWasAdded : World → Type 0
+ClientsCancelWhatWasAdded w =
+    OfCircuits (told w) (λ (n : ℕ) (c : Circuit) (x : List Line) (y : List Entry). CancelsWhatWasAdded (client_conduct c))

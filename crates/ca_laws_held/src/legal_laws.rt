@@ -6,6 +6,7 @@ ghost use Rattle.ca_model_world.specs.Runs.{AreEvents, Runs};
 ghost use Rattle.ca_model_world.specs.World.{IsSetting, Setting, World, told};
 ghost use Rattle.ca_laws_held.specs.Anew.{SubscriptionsAreAddedAnew};
 ghost use Rattle.ca_laws_held.specs.LegalParts.{
+  ClientsCancelWhatWasAdded,
   ClientsSendOnChannels,
   ServersConfirmAtOnce,
   ServersEndOpenChannels,
@@ -68,4 +69,13 @@ pub fn clients_send_on_channels_that_they_have()
 pub fn live_subscriptions_were_added()
     ensures { (s : Setting) (es : List Event) (stopped : Option Event) (w : World) → IsSetting s
         → AreEvents es → Runs s es stopped w → SubscriptionsAreAddedAnew w }
+{}
+
+/// After every run from a well-formed setting by well-formed events each EVENT_CANCEL of a client is for
+/// an EVENT_ADD that it sent before, with its SID and its subscription id, and of which it sent no
+/// EVENT_CANCEL between. This is `cancels` of the statement's `LegalClient`. It holds also of what an
+/// end sent that has ended.
+pub fn clients_cancel_what_was_added()
+    ensures { (s : Setting) (es : List Event) (stopped : Option Event) (w : World) → IsSetting s
+        → AreEvents es → Runs s es stopped w → ClientsCancelWhatWasAdded w }
 {}
