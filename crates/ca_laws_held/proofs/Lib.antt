@@ -105,3 +105,4 @@ pub mod Stood
 pub mod StoodGoing
 pub mod AddedSince
 pub mod CancelsSaid
+pub mod LegalCancels
