@@ -4,9 +4,8 @@ use Rattle.std.specs.List.{FoldsTo}
 use Rattle.ca_text.specs.Place.{At}
 use Rattle.ca_text.proofs.Places.{At-one, At-or, At-within}
 use Rattle.ca_arena.specs.declared.handle.Handle.{Handle}
-use Rattle.ca_monitor.specs.Subscriptions.{Subscription}
-use Rattle.ca_model.specs.History.{Ask, Create, Intent, On, Sent, Step, Subscribe, Told}
-use Rattle.ca_model_world.specs.ClientEvents.{TicksOne, channel_number, meant_by}
+use Rattle.ca_model.specs.History.{Ask, Create, On, Sent, Step, Subscribe, Told}
+use Rattle.ca_model_world.specs.ClientEvents.{channel_number, meant_by}
 use Rattle.ca_model_world.specs.Events.{Event}
 use Rattle.ca_model_world.specs.Events as event
 use Rattle.ca_model_world.specs.Runs.{AreEvents, Happens, Runs, StopsAt, clients_below}
@@ -14,7 +13,6 @@ use Rattle.ca_model_world.specs.World.{ClientSide, IsSetting, Joined, Setting, W
 use Rattle.ca_laws_bytes.proofs.ServerSpeaking.{runs-hear}
 use Rattle.ca_laws_writes.proofs.Lists.{none_at}
 use Rattle.ca_laws_held.specs.Anew.{IsAddedSince, SubscriptionsAreAddedAnew}
-use Rattle.ca_laws_held.specs.Sides.{IsLiveAs}
 use Rattle.ca_laws_held.specs.Under.{IsUse}
 use Rattle.ca_laws_held.proofs.Joint.{are-snoc, folds-snoc}
 use Rattle.ca_laws_held.proofs.LostRuns.{known-runs}

@@ -1,11 +1,10 @@
 -- An EVENT_CANCEL is sent of a subscription that stands on a live channel, and of nothing else: what each event sends.
 use Rattle.std.proofs.Common.{◌≡◌, ℕ, zero, suc, ◌+◌, ◌⊎◌, inl, inr, Bool, true, false, ◌&&◌, cond, eqb, List, [], ◌∷◌, ◌++◌, length, Option, Some, None, refl, sym, ap, ◌∙◌, subst, arith}
-use Rattle.std.specs.Prelude.{Ok, drop, filter_map, is_none, map, option_map, slice_set, unwrap_or}
+use Rattle.std.specs.Prelude.{Ok, drop, is_none, map, option_map, slice_set, unwrap_or}
 use Rattle.std.specs.List.{FoldsTo}
 use Rattle.std.proofs.lemmas.Bool.{both_ways}
 use Rattle.ca_text.specs.Place.{At}
 use Rattle.ca_text.proofs.Places.{At-mapped, At-parts, At-set, At-snoc, some_is}
-use Rattle.ca_text.specs.declared.command.Command.{Command}
 use Rattle.ca_text.specs.declared.command.Command.TheVariants as command
 use Rattle.ca_wire.specs.Messages.{name_request, version_request}
 use Rattle.ca_arena.specs.declared.handle.Handle.{Handle}
@@ -31,7 +30,7 @@ use Rattle.ca_model.specs.History.{Cancel, Intent, Line, Sent, Step}
 use Rattle.ca_model.specs.History as history
 use Rattle.ca_model_client.proofs.Handles.{same-is}
 use Rattle.ca_model_client.proofs.Standings.{at-filter-map, found-standing, stands-as}
-use Rattle.ca_model_world.specs.ClientEvents.{DownTaken, HappensAccept, HappensClear, HappensClientDatagram, HappensClientRestart, HappensClientStep, HappensCutClient, HappensDown, HappensOpen, HappensRead, HappensSubscribe, HappensUnsubscribe, HappensUp, HappensWrite, HappensWriteNotify, TicksOne, WantsFirst, about_at, after_tick, cancelled, client_closed, client_ended, client_gone, client_stepped, connected_as, heard_in, intent_of, left_silent, lines_of, meant_by, new_circuit, sent_on}
+use Rattle.ca_model_world.specs.ClientEvents.{DownTaken, HappensAccept, HappensClear, HappensClientDatagram, HappensClientRestart, HappensClientStep, HappensDown, HappensOpen, HappensRead, HappensSubscribe, HappensUnsubscribe, HappensUp, HappensWrite, HappensWriteNotify, TicksOne, WantsFirst, about_at, after_tick, cancelled, client_closed, client_ended, client_gone, client_stepped, connected_as, heard_in, intent_of, left_silent, lines_of, meant_by, new_circuit, sent_on}
 use Rattle.ca_model_world.specs.Events.{Event}
 use Rattle.ca_model_world.specs.Events as event
 use Rattle.ca_model_world.specs.Runs.{Happens}

@@ -1,5 +1,5 @@
 -- An EVENT_CANCEL is for an EVENT_ADD on its channel that was not cancelled, of every run.
-use Rattle.std.proofs.Common.{◌≡◌, ℕ, suc, ◌<◌, ◌≤◌, inl, inr, Bool, true, false, ◌&&◌, ◌||◌, List, [], ◌∷◌, ◌++◌, length, Option, Some, None, refl, sym, ap, ◌∙◌, subst, arith}
+use Rattle.std.proofs.Common.{◌≡◌, ℕ, suc, ◌<◌, inl, inr, true, false, ◌&&◌, List, [], ◌∷◌, ◌++◌, length, Option, Some, None, refl, sym, ap, ◌∙◌, subst, arith}
 use Rattle.std.specs.Prelude.{option_map, unwrap_or}
 use Rattle.std.specs.List.{FoldsTo}
 use Rattle.std.proofs.lemmas.Bool.{and_from, or_right}
@@ -9,22 +9,21 @@ use Rattle.ca_text.proofs.Places.{At-map, At-mapped, At-one, At-or, At-within, s
 use Rattle.ca_arena.specs.declared.handle.Handle.{Handle}
 use Rattle.ca_ids.specs.Table.{under}
 use Rattle.ca_ids.specs.Wire.{wire_of}
-use Rattle.ca_monitor.specs.Subscriptions.{Stage, Stands, Subscription, drains_in, stands_in}
+use Rattle.ca_monitor.specs.Subscriptions.{Stage, Subscription, drains_in, stands_in}
 use Rattle.ca_wire.specs.Fields.{Fields}
 use Rattle.ca_model.specs.Client.{Channel, Live, is_on_in}
 use Rattle.ca_model.specs.History.{Ask, Cancel, Circuit, Create, Intent, Kind, Line, On, Sent, Step, Subscribe, Told}
 use Rattle.ca_model.specs.History as history
-use Rattle.ca_model.specs.Sends.{IsUncancelled}
-use Rattle.ca_model.specs.Speech.{Creates, Gives, Is, SubId, sid_in}
+use Rattle.ca_model.specs.Speech.{Gives, Is, SubId, sid_in}
 use Rattle.ca_model_client.proofs.Standings.{is-on}
 use Rattle.ca_model_client.proofs.Thinner.{three-ways}
 use Rattle.ca_model_safe.specs.Channels.{Suits, named}
 use Rattle.ca_model_safe.specs.Legal.{client_conduct}
-use Rattle.ca_model_world.specs.ClientEvents.{TicksOne, cancelled, channel_number, meant_by}
+use Rattle.ca_model_world.specs.ClientEvents.{cancelled, meant_by}
 use Rattle.ca_model_world.specs.Events.{Event}
 use Rattle.ca_model_world.specs.Events as event
 use Rattle.ca_model_world.specs.Runs.{AreEvents, Happens, Runs, StopsAt, clients_below}
-use Rattle.ca_model_world.specs.World.{ClientSide, IsSetting, Joined, Names, Setting, World, circuit_of, opening}
+use Rattle.ca_model_world.specs.World.{ClientSide, IsSetting, Joined, Setting, World, circuit_of, opening}
 use Rattle.ca_laws_circuit.specs.Held.{has_id, is_subscribed}
 use Rattle.ca_laws_circuit.proofs.Refused.{sub-named}
 use Rattle.ca_laws_kept.specs.Kept.{kept}

@@ -1,11 +1,11 @@
 -- A subscription that stands on a live channel: what each change of a client leaves of that. None is new but with its EVENT_ADD.
 use Rattle.std.proofs.Common.{◌≡◌, ℕ, ◌⊎◌, inl, inr, Bool, true, false, ◌&&◌, cond, eqb, List, [], ◌∷◌, ◌++◌, Option, Some, None, refl, sym, ap, ◌∙◌, subst}
-use Rattle.std.specs.Prelude.{◌==◌, Ok, filter, fold, is_some, length, map, not, option_map, unwrap_or}
+use Rattle.std.specs.Prelude.{◌==◌, Ok, filter, fold, is_some, length, not, option_map, unwrap_or}
 use Rattle.std.proofs.lemmas.Bool.{and_from, both_ways}
 use Rattle.ca_text.specs.Place.{At}
-use Rattle.ca_text.proofs.Places.{At-append, At-after, At-map}
+use Rattle.ca_text.proofs.Places.{At-map}
 use Rattle.ca_arena.specs.declared.handle.Handle.{Handle}
-use Rattle.ca_ids.specs.Table.{MayGive, Table, held, same_handle, under, with_all_freed, with_changed, with_held}
+use Rattle.ca_ids.specs.Table.{Table, held, same_handle, under, with_all_freed, with_held}
 use Rattle.ca_link.specs.declared.keep.Keep.{Keep}
 use Rattle.ca_link.specs.declared.keep.Keep.TheVariants.{Close, Echo, Idle}
 use Rattle.ca_link.specs.Link.{kept, with_handed}
@@ -33,7 +33,7 @@ use Rattle.ca_model_client.proofs.Standings.{channel-on, found-standing}
 use Rattle.ca_model_client.proofs.Tables.{all-back, all-freed-back, changed-back, freed-back, held-back, under-held}
 use Rattle.ca_laws_circuit.proofs.Marks.{filter-at}
 use Rattle.ca_laws_held.specs.Sides.{IsLiveAs}
-use Rattle.ca_laws_held.proofs.Live.{NotLive, SameLive, live-itself, made-live, not-phase, not-searched, one-sid, other-back, same-begun, same-held, same-rights, stood-none}
+use Rattle.ca_laws_held.proofs.Live.{NotLive, SameLive, made-live, not-phase, not-searched, one-sid, other-back, same-begun, same-held, same-rights, stood-none}
 use Rattle.ca_laws_held.proofs.OpenLive.{IsLiveOn}
 
 -- The subscription of this handle stands, and its channel is live on this circuit.

@@ -1,17 +1,17 @@
 -- What each event leaves of the subscriptions that stand on live channels: none is new, but one with an EVENT_ADD that was sent by this event.
-use Rattle.std.proofs.Common.{◌≡◌, ℕ, ◌+◌, ◌<◌, ◌≤◌, ◌⊎◌, inl, inr, Bool, true, false, cond, List, [], ◌∷◌, ◌++◌, length, Option, Some, None, refl, sym, ap, ◌∙◌, subst, arith}
+use Rattle.std.proofs.Common.{◌≡◌, ℕ, ◌+◌, ◌≤◌, ◌⊎◌, inl, inr, Bool, true, false, cond, List, [], ◌∷◌, ◌++◌, length, Option, Some, None, refl, sym, ap, ◌∙◌, subst, arith}
 use Rattle.std.specs.Prelude.{drop, filter, is_none, map, option_map, slice_get, slice_set, unwrap_or}
 use Rattle.std.specs.List.{FoldsTo}
 use Rattle.std.proofs.lemmas.Bool.{both_ways}
 use Rattle.ca_text.specs.Place.{At}
-use Rattle.ca_text.proofs.Places.{At-after, At-map, At-one, At-set, At-snoc}
+use Rattle.ca_text.proofs.Places.{At-after, At-map, At-set, At-snoc}
 use Rattle.ca_arena.specs.declared.handle.Handle.{Handle}
 use Rattle.ca_dbr.specs.Elements.{Elements}
 use Rattle.ca_ids.specs.Table.{same_handle, under}
 use Rattle.ca_model.specs.Answers.{Closed, NeedBytes, Notices, Sending, Stepped}
 use Rattle.ca_model.specs.Answers as answer
 use Rattle.ca_model.specs.Client.{Client, ClientCircuit, Connection, Standing, connection_at, later, sending, standing_at}
-use Rattle.ca_model.specs.ClientCalls.{cancel_sent, put_sent, read_sent, unsubscribed, write_sent}
+use Rattle.ca_model.specs.ClientCalls.{cancel_sent, unsubscribed, write_sent}
 use Rattle.ca_model.specs.ClientEnds.{ConnectsOn, StepsOn, after_taking, handed_over}
 use Rattle.ca_model.specs.Ends.{Address}
 use Rattle.ca_model.specs.Hears.{Effect}
@@ -24,7 +24,7 @@ use Rattle.ca_model_world.specs.Events.{Event}
 use Rattle.ca_model_world.specs.Events as event
 use Rattle.ca_model_world.specs.Runs.{Happens}
 use Rattle.ca_model_world.specs.ServerEvents.{StepHandles, handled_at}
-use Rattle.ca_model_world.specs.World.{ClientSetting, ClientSide, Joined, Names, ServerSide, World, addresses, client_begun, log_length, with_circuit, with_client, with_server}
+use Rattle.ca_model_world.specs.World.{ClientSide, Joined, Names, ServerSide, World, addresses, client_begun, log_length, with_circuit, with_client, with_server}
 use Rattle.ca_laws_circuit.specs.Held.{with_request, with_subscription}
 use Rattle.ca_laws_runs.specs.Circuit.{stamped}
 use Rattle.ca_laws_runs.specs.Clients.{ClientsStand}
@@ -36,9 +36,9 @@ use Rattle.ca_laws_held.proofs.HeardEnds.{IsEndAfter, after-sent, sent-mine}
 use Rattle.ca_laws_held.proofs.Issued.{meant-still}
 use Rattle.ca_laws_held.proofs.OnceStill.{still-add, still-cut-server, still-finish, still-post, still-pump, still-remove, still-server-restart, still-server-step}
 use Rattle.ca_laws_held.proofs.OrderGrows.{Grown, each-event, step-grown}
-use Rattle.ca_laws_held.proofs.OrderKeeps.{IsHearing, IsMade, begun-grown, begun-mid, did-after, did-grown, did-step, hear-grown, hear-mid, hear-step, hearing-or, made-or}
+use Rattle.ca_laws_held.proofs.OrderKeeps.{IsHearing, IsMade, begun-grown, begun-mid, did-after, did-grown, did-step, hear-grown, hear-step, hearing-or, made-or}
 use Rattle.ca_laws_held.proofs.Says.{said}
-use Rattle.ca_laws_held.proofs.Stood.{Adds, IsAdded, IsStood, Stays, adds-before, adds-heard, adds-subscribed, adds-then, stays-all-received, stays-cleared, stays-connected, stays-ended, stays-given, stays-handed, stays-itself, stays-opened, stays-same, stays-sending, stays-then, stays-ticked, stays-unsubscribed}
+use Rattle.ca_laws_held.proofs.Stood.{Adds, IsStood, Stays, adds-heard, adds-subscribed, adds-then, stays-all-received, stays-cleared, stays-connected, stays-ended, stays-given, stays-handed, stays-itself, stays-opened, stays-same, stays-sending, stays-then, stays-ticked, stays-unsubscribed}
 
 -- ---- one client
 
