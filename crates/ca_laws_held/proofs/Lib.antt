@@ -106,3 +106,4 @@ pub mod StoodGoing
 pub mod AddedSince
 pub mod CancelsSaid
 pub mod LegalCancels
+pub mod HeldLogs

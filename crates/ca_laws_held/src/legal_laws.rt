@@ -4,7 +4,7 @@ ghost use Rattle.ca_model_safe.specs.Legal.{IsSent};
 ghost use Rattle.ca_model_world.specs.Events.{Event};
 ghost use Rattle.ca_model_world.specs.Runs.{AreEvents, Runs};
 ghost use Rattle.ca_model_world.specs.World.{IsSetting, Setting, World, told};
-ghost use Rattle.ca_laws_held.specs.Anew.{SubscriptionsAreAddedAnew};
+ghost use Rattle.ca_laws_held.specs.Anew.{LiveSubscriptionsAreHeld, SubscriptionsAreAddedAnew};
 ghost use Rattle.ca_laws_held.specs.LegalParts.{
   ClientsCancelWhatWasAdded,
   ClientsSendOnChannels,
@@ -78,4 +78,12 @@ pub fn live_subscriptions_were_added()
 pub fn clients_cancel_what_was_added()
     ensures { (s : Setting) (es : List Event) (stopped : Option Event) (w : World) → IsSetting s
         → AreEvents es → Runs s es stopped w → ClientsCancelWhatWasAdded w }
+{}
+
+/// After every run a subscription that stands in its client's table, on a channel that is live, is held by
+/// the log of that client's life: its caller neither cancelled it nor cleared its channel, and no notice
+/// told of its end.
+pub fn live_subscriptions_are_held_by_logs()
+    ensures { (s : Setting) (es : List Event) (stopped : Option Event) (w : World)
+        → Runs s es stopped w → LiveSubscriptionsAreHeld w }
 {}
