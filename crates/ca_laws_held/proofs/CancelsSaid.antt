@@ -540,16 +540,16 @@ says-accept w new c x v at q happens = elim happens.leaves [
       let plain : AllPlain did.2 = plain-connects x.core on there.0 did.1 did.2 did.3 (subst (λ (o : Option ClientCircuit). ConnectsOn x.core on o did.1 did.2 did.3) (unconnected-is x.core on there.0 there.1 there.2) did.5) in
       let other : AllOther x.names did.2 = other-aim x.names x.core (q.tidy c x at) did.2 plain in
       λ n d k s at_d at_s.
-          let b = after-goes c x.names did.2 mid new (ap (λ (z : World). z.circuits) did.6) n d at_d in
-          elim (At-parts b.0.lists.up (sent_on c x.names did.2 b.0) k s (subst (λ (l : List Sent). At l k s) b.2 at_s)) [
-            | inr late ↦
-                let z = (on-circuit-sent c x.names did.2 b.0 late.0 s late.2).2 in
-                inl (λ a m is. other z.0 z.1 z.2 a m (ap (λ (y : Sent). y.intent) (sym z.4) ∙ is))
-            | inl old ↦ elim (At-snoc w.circuits made n b.0 b.1) [
-              | inl was ↦ inr (inl (b.0, was, old))
-              | inr last ↦ absurd (none_at k s (subst (λ (l : List Sent). At l k s) (ap (λ (y : Joined). y.lists.up) last.1 ∙ empty did.1 (new_circuit c x v.v.circuit v.i v.y did.0)) old))
-            ]
-          ]
+      let b = after-goes c x.names did.2 mid new (ap (λ (z : World). z.circuits) did.6) n d at_d in
+      elim (At-parts b.0.lists.up (sent_on c x.names did.2 b.0) k s (subst (λ (l : List Sent). At l k s) b.2 at_s)) [
+        | inr late ↦
+            let z = (on-circuit-sent c x.names did.2 b.0 late.0 s late.2).2 in
+            inl (λ a m is. other z.0 z.1 z.2 a m (ap (λ (y : Sent). y.intent) (sym z.4) ∙ is))
+        | inl old ↦ elim (At-snoc w.circuits made n b.0 b.1) [
+          | inl was ↦ inr (inl (b.0, was, old))
+          | inr last ↦ absurd (none_at k s (subst (λ (l : List Sent). At l k s) (ap (λ (y : Joined). y.lists.up) last.1 ∙ empty did.1 (new_circuit c x v.v.circuit v.i v.y did.0)) old))
+        ]
+      ]
 ]
   where
     empty : (k : Option Closing) (n : Joined) → (connected_as k n).lists.up ≡ n.lists.up

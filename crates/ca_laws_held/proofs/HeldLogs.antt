@@ -26,7 +26,6 @@ use Rattle.ca_laws_held.proofs.OnceRuns.{once-runs}
 use Rattle.ca_laws_held.proofs.OnceWorld.{OnceStand}
 use Rattle.ca_laws_held.proofs.Says.{subscribed-at}
 
-
 module _ (w : World) (quiet : ClientsQuiet w) (once : OnceStand w) (told : ToldStand w) (i sid : ℕ) (x : ClientSide) (log : List Line) (g on : Handle) (d : Subscription) (at : At w.clients i x) (at_log : At w.client_logs x.life log) (there : under x.core.subscriptions g ≡ Some d)
     (stands : stands_in d.stage ≡ true) (live : IsLiveAs x.core.channels on d.channel sid) where
   abbrev tidy : Tidy x.names x.core
