@@ -107,3 +107,4 @@ pub mod AddedSince
 pub mod CancelsSaid
 pub mod LegalCancels
 pub mod HeldLogs
+pub mod AddsSaid

@@ -6,6 +6,7 @@ ghost use Rattle.ca_model_world.specs.Runs.{AreEvents, Runs};
 ghost use Rattle.ca_model_world.specs.World.{IsSetting, Setting, World, told};
 ghost use Rattle.ca_laws_held.specs.Anew.{LiveSubscriptionsAreHeld, SubscriptionsAreAddedAnew};
 ghost use Rattle.ca_laws_held.specs.LegalParts.{
+  AddsWereHeld,
   ClientsCancelWhatWasAdded,
   ClientsSendOnChannels,
   ServersConfirmAtOnce,
@@ -86,4 +87,12 @@ pub fn clients_cancel_what_was_added()
 pub fn live_subscriptions_are_held_by_logs()
     ensures { (s : Setting) (es : List Event) (stopped : Option Event) (w : World)
         → Runs s es stopped w → LiveSubscriptionsAreHeld w }
+{}
+
+/// After every run from a well-formed setting by well-formed events, what a client subscribed to was held
+/// by its log as it read each message that it had read before that EVENT_ADD: its caller had ended neither
+/// it nor its channel, and no notice had told of its end. It holds also of what an end sent that has ended.
+pub fn subscriptions_were_held_as_they_were_added()
+    ensures { (s : Setting) (es : List Event) (stopped : Option Event) (w : World) → IsSetting s
+        → AreEvents es → Runs s es stopped w → AddsWereHeld w }
 {}
