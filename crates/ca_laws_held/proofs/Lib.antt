@@ -108,3 +108,4 @@ pub mod CancelsSaid
 pub mod LegalCancels
 pub mod HeldLogs
 pub mod AddsSaid
+pub mod HeldAdds
