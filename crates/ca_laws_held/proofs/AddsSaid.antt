@@ -9,8 +9,7 @@ use Rattle.ca_text.specs.declared.command.Command.TheVariants as command
 use Rattle.ca_wire.specs.Messages.{name_request, version_request}
 use Rattle.ca_arena.specs.declared.handle.Handle.{Handle}
 use Rattle.ca_dbr.specs.Elements.{Elements}
-use Rattle.ca_ids.specs.Table.{Table, held, same_handle, under, with_held}
-use Rattle.ca_ids.specs.Wire.{wire_of}
+use Rattle.ca_ids.specs.Table.{Table, held, under, with_held}
 use Rattle.ca_requests.specs.Requests.{Request, answered_by}
 use Rattle.ca_requests.specs.Requests as request
 use Rattle.ca_monitor.specs.Subscriptions.{Subscription, confirmed_by, is_to, standing_to, stands_in}
@@ -29,7 +28,7 @@ use Rattle.ca_model.specs.Hears as hears
 use Rattle.ca_model.specs.History.{Intent, Line, Sent, Step}
 use Rattle.ca_model.specs.History as history
 use Rattle.ca_model_client.proofs.Handles.{same-is}
-use Rattle.ca_model_client.proofs.Standings.{at-filter-map, channel-on, found-standing, stands-as}
+use Rattle.ca_model_client.proofs.Standings.{at-filter-map, channel-on, found-standing}
 use Rattle.ca_model_client.proofs.Tables.{held-own, held-under}
 use Rattle.ca_laws_circuit.proofs.Marks.{at-filter}
 use Rattle.ca_laws_held.proofs.Live.{channels-sending, made-live}

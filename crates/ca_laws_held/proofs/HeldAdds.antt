@@ -7,7 +7,7 @@ use Rattle.ca_text.specs.Place.{At}
 use Rattle.ca_text.proofs.Places.{At-mapped, At-one, At-or, At-set, At-snoc, At-within}
 use Rattle.ca_dbr.specs.declared.value.Outcome.{Outcome}
 use Rattle.ca_arena.specs.declared.handle.Handle.{Handle}
-use Rattle.ca_model.specs.History.{Called, Cancel, Circuit, Clear, Intent, Line, Noticed, On, Sent, Step, Subscribe}
+use Rattle.ca_model.specs.History.{Called, Cancel, Circuit, Clear, Line, Noticed, On, Sent, Step, Subscribe}
 use Rattle.ca_model.specs.Speech.{In}
 use Rattle.ca_model_safe.specs.Channels.{IsHeld, Meant}
 use Rattle.ca_model_world.specs.ClientEvents.{heard_in}

@@ -7,7 +7,6 @@ use Rattle.ca_arena.specs.declared.handle.Handle.{Handle}
 use Rattle.ca_dbr.specs.declared.value.Outcome.{Outcome}
 use Rattle.ca_ids.specs.Table.{under}
 use Rattle.ca_monitor.specs.Subscriptions.{Subscription, stands_in}
-use Rattle.ca_model.specs.Client.{Channel, Standing}
 use Rattle.ca_model.specs.History.{Called, Cancel, Clear, Intent, Line, Noticed, On, Subscribe}
 use Rattle.ca_model.specs.Speech.{In}
 use Rattle.ca_model_safe.specs.Channels.{IsHeld}
