@@ -1,6 +1,9 @@
 // The program `ca`: its words and the system's streams, handed to the libraries `ca_tools` and `ca`.
 #![tactic(auto)]
 
+mod ear;
+
+use crate::ear::new_ear;
 use ca_client_context::start;
 use ca_link::{Reader, Writer};
 use ca_text::Refusal;
@@ -20,12 +23,15 @@ fn main(rt: HostRuntime) -> ExitCode {
     let status = match ca_tools::begin(rt, rt.alloc(), words.as_slice(), &mut err) {
         Begun::Ended(status) => status,
         // A thread that connects circuits is started here, since the runtime's type has to be known.
-        Begun::Tool(tool, engine, ear) => match start(rt, engine) {
-            Ok(thread) => {
-                let status = tool.run(&rt, rt.alloc(), ear, &mut sink, &mut err);
-                thread.join(&rt);
-                status
-            }
+        Begun::Tool(tool, engine) => match new_ear(rt.alloc()) {
+            Ok((ear, heard)) => match start(rt, engine) {
+                Ok(thread) => {
+                    let status = tool.run(&rt, rt.alloc(), ear, heard, &mut sink, &mut err);
+                    thread.join(&rt);
+                    status
+                }
+                Err(refusal) => ca::report(Err(refusal), &mut err),
+            },
             Err(refusal) => ca::report(Err(refusal), &mut err),
         },
         Begun::Other => {

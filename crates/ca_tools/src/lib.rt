@@ -3,7 +3,6 @@
 //! No proof speaks of what they do: it is `ca_serve`'s and `ca_client_context`'s, and what the system's sockets carry.
 #![tactic(auto)]
 
-mod ear;
 mod line;
 mod printing;
 mod program;
@@ -12,7 +11,6 @@ mod tool;
 mod tool_line;
 mod turns;
 
-pub use ear::Ear;
 pub use line::{ServeLine, read_serve};
 pub use program::{run, takes};
 pub use serving::serve_run;

@@ -1,4 +1,3 @@
-use crate::ear::{Ear, new_ear};
 use crate::printing::{print_done, print_value};
 use crate::tool_line::{Task, ToolLine, read_tool, verb_of};
 use crate::turns::{TURN, Turns};
@@ -29,8 +28,8 @@ pub enum Begun<'a, N: Net + Drop> {
     Other,
     /// The program has ended with this exit status.
     Ended(u8),
-    /// A tool, its thread of input and output, which is to be started, and the listener that it is run with.
-    Tool(Tool<'a>, Engine<N>, Box<Ear>),
+    /// A tool, and its thread of input and output, which is to be started.
+    Tool(Tool<'a>, Engine<N>),
 }
 
 /// A tool that has its sockets.
@@ -38,7 +37,6 @@ pub enum Begun<'a, N: Net + Drop> {
 pub struct Tool<'a> {
     line: ToolLine<'a>,
     context: Context,
-    heard: Consumer<Outcome>,
 }
 
 /// Begins a tool if the words after the program's name are one's: the words are judged first, then the name, and then sockets are made.
@@ -56,7 +54,7 @@ pub fn begin<'a, R: Net + Clock + Copy + Drop, W: Write>(
     };
     match read_tool(alloc, verb, rest) {
         Ok(Some(line)) => match opened(rt, alloc, line) {
-            Ok((tool, engine, ear)) => Begun::Tool(tool, engine, ear),
+            Ok((tool, engine)) => Begun::Tool(tool, engine),
             Err(refusal) => Begun::Ended(report(Err(refusal), err)),
         },
         Ok(None) => Begun::Ended(not_understood(err)),
@@ -68,7 +66,7 @@ fn opened<'a, R: Net + Clock + Copy + Drop>(
     rt: R,
     alloc: Global,
     line: ToolLine<'a>,
-) -> Result<(Tool<'a>, Engine<R>, Box<Ear>), Refusal> {
+) -> Result<(Tool<'a>, Engine<R>), Refusal> {
     ChannelName::read(line.name.as_bytes())?;
     let setting = Setting {
         user: Vec::from_slice(alloc, b"ca")?,
@@ -77,14 +75,8 @@ fn opened<'a, R: Net + Clock + Copy + Drop>(
         names: Vec::new(alloc),
         repeater: None,
     };
-    let (ear, heard) = new_ear(alloc)?;
     let (context, engine) = Context::new(rt, alloc, setting)?;
-    let tool = Tool {
-        line,
-        context,
-        heard,
-    };
-    Ok((tool, engine, ear))
+    Ok((Tool { line, context }, engine))
 }
 
 fn address_of(server: SocketAddrV4) -> Address {
@@ -95,21 +87,18 @@ fn address_of(server: SocketAddrV4) -> Address {
 }
 
 impl<'a> Tool<'a> {
-    /// Does what the words say while the thread of input and output runs, has that thread end, and returns the exit status. The listener is the one that
-    /// `begin` returned: the caller makes a value of any listener of it, so that no function here does.
+    /// Does what the words say while the thread of input and output runs, has that thread end, and returns the exit status. What the listener hears
+    /// comes out of `heard`; the caller makes both, so that no function here makes a value of any listener.
     pub fn run<R: Wait + Clock, K: Sink, W: Write>(
         self,
         rt: &R,
         alloc: Global,
         ear: Box<dyn Listener + Send>,
+        heard: Consumer<Outcome>,
         sink: &mut K,
         err: &mut W,
     ) -> u8 {
-        let Tool {
-            line,
-            context,
-            heard,
-        } = self;
+        let Tool { line, context } = self;
         let outcome = done(rt, alloc, &context, line, ear, heard, sink);
         context.end(rt);
         report(outcome, err)
