@@ -27,7 +27,7 @@
 //! ```
 //!
 //! Contracts say of it only that a caller's `collect` and `give_up` do what the board's do. What lies under its lock is `ca_client`'s, with its
-//! contracts. That a wait wakes, and that threads run, is shown by tests.
+//! contracts. No contract says that a wait wakes, or that threads run.
 #![tactic(auto)]
 
 mod addresses;
