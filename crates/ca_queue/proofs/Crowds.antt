@@ -44,9 +44,12 @@ module _ {E : Type 0} where
   has_some k q many =
       let two : 1 < count_of k q = ltb-true 1 (count_of k q) many in has_count k q ∙ lt-ltb 0 (count_of k q) (omega arith)
 
-  pub crowded_counts : (keys : List SubKey) (q : List (SubKey × E)) → ((k : SubKey) → has_entry k q ≡ true → is_among k keys ≡ true) → list_any (λ s. ltb 1 s.waiting) (counts keys q) ≡ is_crowded q
-  crowded_counts keys q known =
-      by_subscriptions keys q
-      ∙ both (list_any (crowds q) keys) (is_crowded q)
+  -- by the subscriptions that were added
+  pub crowded_keys : (keys : List SubKey) (q : List (SubKey × E)) → ((k : SubKey) → has_entry k q ≡ true → is_among k keys ≡ true) → list_any (λ k. ltb 1 (count_of k q)) keys ≡ is_crowded q
+  crowded_keys keys q known =
+      both (list_any (crowds q) keys) (is_crowded q)
       (λ some. let found = found_among (crowds q) keys some in any_of (crowds q) found.0 q (has_some found.0 q found.1) found.1)
       (λ some. let found = found_of (crowds q) q some in any_among (crowds q) found.0 keys (known found.0 found.1.1) found.1.0)
+
+  pub crowded_counts : (keys : List SubKey) (q : List (SubKey × E)) → ((k : SubKey) → has_entry k q ≡ true → is_among k keys ≡ true) → list_any (λ s. ltb 1 s.waiting) (counts keys q) ≡ is_crowded q
+  crowded_counts keys q known = by_subscriptions keys q ∙ crowded_keys keys q known

@@ -107,7 +107,7 @@ module _ {E : Type 0} where
             ap (λ (b : Bool). b || has_entry key q) other ∙ has_count key q ∙ ap (ltb 0) (sym e)
       ]
 
-  has_behind : (key : SubKey) (q : List (SubKey × E)) (i : ℕ) → has_entry key (drop i q) ≡ true → has_entry key q ≡ true
+  pub has_behind : (key : SubKey) (q : List (SubKey × E)) (i : ℕ) → has_entry key (drop i q) ≡ true → has_entry key q ≡ true
   has_behind key q zero h = h
   has_behind key [] (suc i) h = h
   has_behind key (w ∷ q) (suc i) h = or_right (same key w.0) (has_entry key q) (has_behind key q i h)

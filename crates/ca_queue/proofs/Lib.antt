@@ -8,5 +8,6 @@ pub mod Keys
 mod Laid
 pub mod Order
 pub mod Subscribers
+mod Rounds
 pub mod Runs
 pub mod Soundness

@@ -7,3 +7,4 @@ pub mod Order
 pub mod Runs
 pub mod Images
 pub mod Circuit
+pub mod Ring

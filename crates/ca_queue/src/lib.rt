@@ -6,13 +6,17 @@
 
 mod circuit_queues;
 mod entry;
+mod event_queue;
+mod lasts;
 mod laws;
 mod list_queue;
 mod places;
 mod queues;
+mod ring;
 
 pub use circuit_queues::CircuitQueues;
 pub use entry::{Entry, SubKey};
+pub use event_queue::EventQueue;
 pub use laws::{
     cancel_takes_out_its_own, every_run_is_sound, newest_is_kept, post_ends_its_own,
     post_finds_a_place, take_gives_the_first_of_its_own,

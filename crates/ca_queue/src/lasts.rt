@@ -1,0 +1,184 @@
+ghost use Rattle.std.specs.Prelude.{◌≡◌, ◌<◌, ◌≤◌, ◌+◌, ◌++◌, ◌∷◌, [], true, false, Some, OnOk, OnErr, length, map, filter, not, count_by, is_some, slice_set, vec_capacity};
+ghost use Rattle.ca_text.specs.Limits.{queue_subscriptions};
+ghost use Rattle.indexmap.specs.IndexSet.{index_set_len, spare, IsEmpty};
+ghost use Rattle.ca_queue.specs.Keys.{AreApart, same, is_among};
+ghost use Rattle.ca_queue.specs.Ring.{IsAt, keys_of_lasts, last_at, unplaced};
+
+use crate::entry::{SubKey, is_same};
+use ca_text::QUEUE_SUBSCRIPTIONS;
+use indexmap::IndexSet;
+use std::alloc::{AllocError, Global};
+use std::marker::Model;
+
+/// The subscriptions of a queue in the order of their adds, each with the place of its last entry in the ring, and an index by key.
+/// Contracts see the subscriptions, and whether room for all that come was made.
+#[derive(Drop)]
+pub(crate) struct Lasts {
+    index: IndexSet<SubKey>,
+    lasts: Vec<Last>,
+}
+
+/// A subscription, and the place of its last entry in the ring, if it has one.
+#[derive(Clone, Copy)]
+pub(crate) struct Last {
+    pub(crate) key: SubKey,
+    pub(crate) place: Option<usize>,
+}
+
+impl Model for Lasts {
+    ghost use Rattle.std.specs.Prelude.{List, Bool};
+    ghost use Rattle.std.specs.Vec.{vec_capacity};
+    ghost use Rattle.indexmap.specs.IndexSet.{index_set_len, spare};
+    ghost use Rattle.ca_queue.specs.declared.lasts.Last.{Last};
+    ghost use Rattle.ca_queue.specs.Ring.{has_room_for_all, IsIndexed};
+
+    ghost Value = { List Last × Bool };
+
+    ghost view = { λ s. (
+      s.lasts.items,
+      has_room_for_all (vec_capacity s.lasts) (index_set_len s.index) (spare s.index),
+    ) };
+
+    ghost invariant = { λ s.
+        IsIndexed s.lasts.items s.index.keys (vec_capacity s.lasts) (index_set_len s.index)
+        (spare s.index) };
+}
+
+impl Lasts {
+    /// No subscription. It does not allocate yet.
+    pub(crate) fn new(alloc: Global) -> Lasts
+        ensures none { result.0 ≡ [] }
+        ensures room { result.1 ≡ false }
+    {
+        Lasts {
+            index: IndexSet::new(alloc),
+            lasts: Vec::new(alloc),
+        }
+    }
+
+    /// How many there are.
+    pub(crate) fn len(&self) -> usize
+        ensures { result ≡ length self.now.0 }
+    {
+        self.lasts.len()
+    }
+
+    /// Makes room for all that come, unless it was made.
+    pub(crate) fn reserve(&mut self) -> Result<(), AllocError>
+        requires { length self.old.0 < queue_subscriptions }
+        ensures lasts { self.new.0 ≡ self.old.0 }
+        ensures ok { OnOk result (self.new.1 ≡ true) }
+        ensures err { OnErr result ((self.old.0 ≡ []) × (self.old.1 ≡ false)) }
+    {
+        let more = QUEUE_SUBSCRIPTIONS - self.lasts.len();
+        self.lasts.reserve(more)?;
+        self.index.reserve(more)?;
+        Ok(())
+    }
+
+    /// Adds a subscription, which has no entry yet.
+    pub(crate) fn push(&mut self, key: SubKey)
+        requires few { length self.old.0 < queue_subscriptions }
+        requires room { self.old.1 ≡ true }
+        requires new { is_among key (keys_of_lasts self.old.0) ≡ false }
+        ensures { self.new ≡ (self.old.0 ++ unplaced key ∷ [], true) }
+    {
+        self.lasts.push_reserved(Last { key, place: None });
+        match self.index.insert_full(key) {
+            Ok(_) => {}
+            Err(_) => unreachable!(),
+        }
+    }
+
+    /// The number of a subscription in the order of adds.
+    pub(crate) fn find(&self, key: SubKey) -> usize
+        requires { is_among key (keys_of_lasts self.now.0) ≡ true }
+        ensures { IsAt key (keys_of_lasts self.now.0) result }
+    {
+        match self.index.get_index_of(&key) {
+            None => unreachable!(),
+            Some(number) => number,
+        }
+    }
+
+    /// The place of the last entry of the subscription that has this number.
+    pub(crate) fn last(&self, number: usize) -> Option<usize>
+        requires { number < length self.now.0 }
+        ensures { result ≡ last_at self.now.0 number }
+    {
+        self.lasts[number].place
+    }
+
+    /// Writes the place of the last entry of this subscription, which has this number.
+    pub(crate) fn set(&mut self, number: usize, key: SubKey, place: Option<usize>)
+        requires { IsAt key (keys_of_lasts self.old.0) number }
+        ensures { self.new ≡ (
+          slice_set self.old.0 number (record { key = key; place = place }),
+          self.old.1,
+        ) }
+    {
+        self.lasts[number] = Last { key, place };
+    }
+
+    /// Takes this subscription out. Of the others none has a place any more.
+    pub(crate) fn forget(&mut self, key: SubKey)
+        ensures lasts { self.new.0 ≡ map (λ l. unplaced l.key)
+            (filter (λ l. not (same key l.key)) self.old.0) }
+        ensures room { self.old.1 ≡ true → self.new.1 ≡ true }
+    {
+        take_out(&mut self.lasts, key);
+        self.index.clear();
+        index_all(&mut self.index, &self.lasts);
+    }
+
+    /// How many have an entry.
+    pub(crate) fn occupied(&self) -> usize
+        ensures { result ≡ count_by (λ l. is_some l.place) self.now.0 }
+    {
+        self.lasts.iter().filter(|l| l.place.is_some()).count()
+    }
+}
+
+// Takes this subscription out, and forgets the places of the others.
+fn take_out(lasts: &mut Vec<Last>, key: SubKey)
+    ensures items { lasts.new.items ≡ map (λ l. unplaced l.key)
+        (filter (λ l. not (same key l.key)) lasts.old.items) }
+    ensures capacity { vec_capacity lasts.new ≡ vec_capacity lasts.old }
+{
+    retain_others(lasts, key);
+    forget_places(lasts);
+}
+
+// Takes this subscription out.
+fn retain_others(lasts: &mut Vec<Last>, key: SubKey)
+    ensures items { lasts.new.items ≡ filter (λ l. not (same key l.key)) lasts.old.items }
+    ensures capacity { vec_capacity lasts.new ≡ vec_capacity lasts.old }
+{
+    lasts.retain(|l| !is_same(key, l.key));
+}
+
+// Forgets all places.
+fn forget_places(lasts: &mut [Last])
+    ensures { lasts.new ≡ map (λ l. unplaced l.key) lasts.old }
+{
+    for l in lasts.iter_mut() {
+        l.place = None;
+    }
+}
+
+// Puts the keys of these subscriptions into the index, which is empty and has room.
+fn index_all(index: &mut IndexSet<SubKey>, lasts: &[Last])
+    requires empty { IsEmpty index.old }
+    requires apart { AreApart (keys_of_lasts lasts.now) }
+    requires room { length lasts.now ≤ spare index.old }
+    ensures keys { index.new.keys ≡ keys_of_lasts lasts.now }
+    ensures len { index_set_len index.new ≡ length lasts.now }
+    ensures room { spare index.old ≤ index_set_len index.new + spare index.new }
+{
+    for l in lasts {
+        match index.insert_full(l.key) {
+            Ok(_) => {}
+            Err(_) => unreachable!(),
+        }
+    }
+}

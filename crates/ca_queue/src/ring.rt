@@ -1,0 +1,83 @@
+ghost use Rattle.std.specs.Prelude.{◌≡◌, ◌<◌, None, OnOk, OnErr, length, slice_get};
+ghost use Rattle.std.specs.Option.{option_map};
+ghost use Rattle.ca_queue.specs.Ring.{HasPlace, made, waits, with_back, with_entry_at, without_front};
+
+use crate::entry::SubKey;
+use ca_text::QUEUE_PLACES;
+use circular_buffer::HeapCircularBuffer;
+use std::alloc::{AllocError, Global};
+
+/// Makes the ring, unless it was made.
+pub(crate) fn make<E: Drop>(
+    ring: &mut Option<HeapCircularBuffer<(SubKey, E)>>,
+    alloc: Global,
+) -> Result<(), AllocError>
+    ensures ok { OnOk result (ring.new ≡ made ring.old) }
+    ensures err { OnErr result ((ring.new ≡ ring.old) × (ring.old ≡ None)) }
+{
+    match ring {
+        Some(_) => Ok(()),
+        None => {
+            *ring = Some(HeapCircularBuffer::with_capacity(alloc, QUEUE_PLACES)?);
+            Ok(())
+        }
+    }
+}
+
+/// How many entries wait in a ring, where one was made.
+pub(crate) fn waiting<E>(ring: &Option<HeapCircularBuffer<(SubKey, E)>>) -> usize
+    ensures { result ≡ length (waits ring.now) }
+{
+    match ring {
+        None => 0,
+        Some(ring) => ring.len(),
+    }
+}
+
+/// Puts this entry in the place of the one that has this number from the front.
+pub(crate) fn replace<E: Drop>(
+    ring: &mut Option<HeapCircularBuffer<(SubKey, E)>>,
+    index: usize,
+    key: SubKey,
+    entry: E,
+)
+    requires { index < length (waits ring.old) }
+    ensures { ring.new ≡ option_map (with_entry_at index (key, entry)) ring.old }
+{
+    match ring {
+        None => unreachable!(),
+        Some(ring) => match ring.get_mut(index) {
+            None => unreachable!(),
+            Some(place) => *place = (key, entry),
+        },
+    }
+}
+
+/// Puts an entry to the back.
+pub(crate) fn put<E: Drop>(
+    ring: &mut Option<HeapCircularBuffer<(SubKey, E)>>,
+    key: SubKey,
+    entry: E,
+)
+    requires { HasPlace ring.old }
+    ensures { ring.new ≡ option_map (with_back (key, entry)) ring.old }
+{
+    match ring {
+        None => unreachable!(),
+        Some(ring) => match ring.try_push_back((key, entry)) {
+            Ok(()) => {}
+            Err(_) => unreachable!(),
+        },
+    }
+}
+
+/// Takes the entry at the front out.
+pub(crate) fn pop<E>(ring: &mut Option<HeapCircularBuffer<(SubKey, E)>>) -> Option<(SubKey, E)>
+    ensures gives { result ≡ slice_get (waits ring.old) 0 }
+    ensures leaves { ring.new ≡ option_map without_front ring.old }
+{
+    match ring {
+        None => None,
+        Some(ring) => ring.pop_front(),
+    }
+}
