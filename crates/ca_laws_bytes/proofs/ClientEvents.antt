@@ -5,7 +5,6 @@ use Rattle.std.proofs.lemmas.Bool.{and_from, both_ways, cases_Bool, eq-eqb, eqb-
 use Rattle.std.proofs.lemmas.List.{append-nil, length-append}
 use Rattle.ca_arena.specs.declared.handle.Handle.{Handle}
 use Rattle.ca_dbr.specs.Elements.{Elements}
-use Rattle.ca_dbr.specs.declared.value.Outcome.{Outcome}
 use Rattle.ca_ids.specs.Table.{same_handle}
 use Rattle.ca_link.specs.Link.{TakesFirst, with_rest}
 use Rattle.ca_text.specs.Place.{At}
@@ -117,7 +116,7 @@ module _ (w new : World) (i : ℕ) (x : ClientSide) (at : At w.clients i x) (s :
 
 -- ---- what is handed out
 
-pub handing-streams : (w new : World) (x : ClientSide) (number : ℕ) (meant : Intent) (line : Option Outcome → Line) → HappensHandingOut w x number meant line new → AllStream w → AllStream new
+pub handing-streams : (w new : World) (x : ClientSide) (number : ℕ) (meant : Intent) (line : Option ℕ → Line) → HappensHandingOut w x number meant line new → AllStream w → AllStream new
 handing-streams w new x number meant line happens all =
     same-streams w new (ap (λ (v : World). v.clients) happens.2) (ap (λ (v : World). v.servers) happens.2) (ap (λ (v : World). v.circuits) happens.2) all
 

@@ -7,7 +7,6 @@ use Rattle.ca_text.specs.Place.{At}
 use Rattle.ca_text.specs.declared.refusal.Refusal.{Refusal}
 use Rattle.ca_text.proofs.Places.{At-mapped, At-set, At-snoc, At-within}
 use Rattle.ca_arena.specs.declared.handle.Handle.{Handle}
-use Rattle.ca_dbr.specs.declared.value.Outcome.{Outcome}
 use Rattle.ca_dbr.specs.Elements.{Elements}
 use Rattle.ca_ids.specs.Table.{under}
 use Rattle.ca_model.specs.Answers.{Closed, Closing, Left, NeedBytes, Notices, Sending, Stepped}
@@ -117,7 +116,7 @@ module _ (w new : World) (i : ℕ) (x : ClientSide) (at : At w.clients i x) (q :
         called x.names o x.core (q.tidy i x at) refl refl (titled-clear x.core h did.0 did.1 did.2 did.3) (none-called (history.On c history.Clear) None lines (notices-no-opened history.OfCircuit x.names did.0)) did.4
   ]
 
-  pub names-handing-out : (number : ℕ) (meant : Intent) (line : Option Outcome → Line) → ((o : Option Outcome) (c : ℕ) (name : List ℕ) → line o ≡ Opened c name → ⊥) → HappensHandingOut w x number meant line new → NamesStand new
+  pub names-handing-out : (number : ℕ) (meant : Intent) (line : Option ℕ → Line) → ((o : Option ℕ) (c : ℕ) (name : List ℕ) → line o ≡ Opened c name → ⊥) → HappensHandingOut w x number meant line new → NamesStand new
   names-handing-out number meant line other happens =
       subst (λ (v : World). NamesStand v) (sym happens.2) (names-lines w i x (line happens.0 ∷ []) at (q.tidy i x at) (one-no-opened (line happens.0) [] (other happens.0) no-opened) once s)
 

@@ -7,7 +7,6 @@ use Rattle.ca_text.specs.Place.{At}
 use Rattle.ca_text.specs.declared.refusal.Refusal.{Refusal}
 use Rattle.ca_text.proofs.Places.{At-append, At-last, At-mapped, At-one, At-set, At-snoc, At-within, some_is}
 use Rattle.ca_arena.specs.declared.handle.Handle.{Handle}
-use Rattle.ca_dbr.specs.declared.value.Outcome.{Outcome}
 use Rattle.ca_dbr.specs.Elements.{Elements}
 use Rattle.ca_link.specs.Link.{with_handed}
 use Rattle.ca_model.specs.Answers.{Closed, Closing, Left, NeedBytes, Notices, Sending, Stepped}
@@ -120,7 +119,7 @@ module _ (w new : World) (i : ℕ) (x : ClientSide) (at : At w.clients i x) (sta
         (once-called w i x x.names o at (calls-clear x.names x.core c h did.0 did.1 did.2 lines did.3 (q.tidy i x at) named (notices-no-call history.OfCircuit x.names did.0)) (inl stands.handles) s)
   ]
 
-  pub once-handing-out : (number : ℕ) (meant : Intent) (line : Option Outcome → Line) → ((o : Option Outcome) → NoCall (line o ∷ [])) → HappensHandingOut w x number meant line new → OnceStand new
+  pub once-handing-out : (number : ℕ) (meant : Intent) (line : Option ℕ → Line) → ((o : Option ℕ) → NoCall (line o ∷ [])) → HappensHandingOut w x number meant line new → OnceStand new
   once-handing-out number meant line none happens = subst (λ (v : World). OnceStand v) (sym happens.2) (once-lines w i x (line happens.0 ∷ []) at (none happens.0) s)
 
   pub once-datagram : (from : Address) (bytes : List ℕ) → HappensClientDatagram w i x from bytes new → OnceStand new
@@ -131,14 +130,14 @@ module _ (w new : World) (i : ℕ) (x : ClientSide) (at : At w.clients i x) (sta
       (once-own w i x (record { core = happens.1; names = x.names; lines = []; sent = happens.0 }) at refl (q.tidy i x at)
       (moved-before x.core now happens.1 happens.0 (less-same x.core now refl refl) (moved-all-received from happens.2.0 now e happens.2.2)) no-lines s)
 
-pub collected-no-call : (r : ℕ) (o : Option Outcome) → NoCall (history.Collected r o ∷ [])
+pub collected-no-call : (r : ℕ) (o : Option ℕ) → NoCall (history.Collected r o ∷ [])
 collected-no-call r o zero intent e at = differ (some_is (history.Collected r o) (Called intent e) at)
   where
     differ : history.Collected r o ≡ Called intent e → ⊥
     differ is = cc
 collected-no-call r o (suc p) intent e at = cc
 
-pub gave-up-no-call : (r : ℕ) (o : Option Outcome) → NoCall (history.GaveUp r o ∷ [])
+pub gave-up-no-call : (r : ℕ) (o : Option ℕ) → NoCall (history.GaveUp r o ∷ [])
 gave-up-no-call r o zero intent e at = differ (some_is (history.GaveUp r o) (Called intent e) at)
   where
     differ : history.GaveUp r o ≡ Called intent e → ⊥

@@ -51,13 +51,13 @@ no-opened-notice number name = one-no-notice (history.Opened number name) (λ in
     differ : (intent : Intent) (o : Outcome) → history.Opened number name ≡ Noticed intent o → ⊥
     differ intent o is = cc
 
-pub collected-no-notice : (r : ℕ) (o : Option Outcome) → NoNotice (history.Collected r o ∷ [])
+pub collected-no-notice : (r : ℕ) (o : Option ℕ) → NoNotice (history.Collected r o ∷ [])
 collected-no-notice r o = one-no-notice (history.Collected r o) (λ intent p is. differ intent p is)
   where
     differ : (intent : Intent) (p : Outcome) → history.Collected r o ≡ Noticed intent p → ⊥
     differ intent p is = cc
 
-pub gave-up-no-notice : (r : ℕ) (o : Option Outcome) → NoNotice (history.GaveUp r o ∷ [])
+pub gave-up-no-notice : (r : ℕ) (o : Option ℕ) → NoNotice (history.GaveUp r o ∷ [])
 gave-up-no-notice r o = one-no-notice (history.GaveUp r o) (λ intent p is. differ intent p is)
   where
     differ : (intent : Intent) (p : Outcome) → history.GaveUp r o ≡ Noticed intent p → ⊥
@@ -197,7 +197,7 @@ module _ (w new : World) (i : ℕ) (x : ClientSide) (at : At w.clients i x) (sta
         (tells-after x.names x.core (Called intent None) lines x.names did.2 (called-differs intent None) (tells-told x.names x.core history.OfCircuit did.0 did.2 (q.tidy i x at) (s.issued i x at) told)) known s)
   ]
 
-  pub told-handing-out : (number : ℕ) (meant : Intent) (line : Option Outcome → Line) → ((o : Option Outcome) → NoNotice (line o ∷ [])) → HappensHandingOut w x number meant line new → ToldStand new
+  pub told-handing-out : (number : ℕ) (meant : Intent) (line : Option ℕ → Line) → ((o : Option ℕ) → NoNotice (line o ∷ [])) → HappensHandingOut w x number meant line new → ToldStand new
   told-handing-out number meant line none happens = subst (λ (v : World). ToldStand v) (sym happens.2) (told-lines w i x (line happens.0 ∷ []) at (none happens.0) known s)
 
   pub told-datagram : (from : Address) (bytes : List ℕ) → HappensClientDatagram w i x from bytes new → ToldStand new

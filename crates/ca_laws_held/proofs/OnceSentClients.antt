@@ -9,7 +9,6 @@ use Rattle.ca_text.specs.declared.refusal.Refusal.{Refusal}
 use Rattle.ca_text.proofs.Places.{At-append, At-last, At-map, At-mapped, At-one, At-set, At-set-other, At-snoc, At-within}
 use Rattle.ca_arena.specs.declared.handle.Handle.{Handle}
 use Rattle.ca_arena.specs.Arena.{Place}
-use Rattle.ca_dbr.specs.declared.value.Outcome.{Outcome}
 use Rattle.ca_dbr.specs.Elements.{Elements}
 use Rattle.ca_ids.specs.Table.{same_handle, under, with_held}
 use Rattle.ca_link.specs.declared.keep.Keep.{Keep}
@@ -140,7 +139,7 @@ module _ (w new : World) (i : ℕ) (x : ClientSide) (at : At w.clients i x) (sta
         (sent-linked w i x x.names o at (once.there i x at) (calls-clear x.names x.core c h did.0 did.1 did.2 lines did.3 (q.tidy i x at) named (notices-no-call history.OfCircuit x.names did.0)) keeps.links s)
   ]
 
-  pub sent-handing-out : (number : ℕ) (meant : Intent) (line : Option Outcome → Line) → ((o : Option Outcome) → NoCall (line o ∷ [])) → HappensHandingOut w x number meant line new → SentStand new
+  pub sent-handing-out : (number : ℕ) (meant : Intent) (line : Option ℕ → Line) → ((o : Option ℕ) → NoCall (line o ∷ [])) → HappensHandingOut w x number meant line new → SentStand new
   sent-handing-out number meant line none happens = subst (λ (v : World). SentStand v) (sym happens.2) (sent-lines w i x (line happens.0 ∷ []) at (once.there i x at) (none happens.0) s)
 
   pub sent-datagram : (from : Address) (bytes : List ℕ) → HappensClientDatagram w i x from bytes new → SentStand new

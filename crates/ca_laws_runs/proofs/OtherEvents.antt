@@ -5,7 +5,6 @@ use Rattle.ca_text.specs.Place.{At}
 use Rattle.ca_text.proofs.Places.{At-append, At-map}
 use Rattle.ca_arena.specs.declared.handle.Handle.{Handle}
 use Rattle.ca_dbr.specs.Elements.{Elements}
-use Rattle.ca_dbr.specs.declared.value.Outcome.{Outcome}
 use Rattle.ca_ids.specs.Table.{MayGive, same_handle, with_held}
 use Rattle.ca_records.specs.Record.{RecordState, unset}
 use Rattle.ca_model.specs.Answers.{Sending}
@@ -71,7 +70,7 @@ keeps-open kept w new i k x name priority at s happens held = elim happens [
 
 -- ---- what became of a request is handed out
 
-pub keeps-handing-out : (kept : List ℕ) (w new : World) (k : ℕ) (x : ClientSide) (number : ℕ) (meant : Intent) (line : Option Outcome → Line) → HappensHandingOut w x number meant line new → HeldAt kept w k → HeldAt kept new k
+pub keeps-handing-out : (kept : List ℕ) (w new : World) (k : ℕ) (x : ClientSide) (number : ℕ) (meant : Intent) (line : Option ℕ → Line) → HappensHandingOut w x number meant line new → HeldAt kept w k → HeldAt kept new k
 keeps-handing-out kept w new k x number meant line happens held = subst (λ (v : World). HeldAt kept v k) (sym happens.2) (held.0, held.1, held.2, held.3, held.4)
 
 -- ---- at a server

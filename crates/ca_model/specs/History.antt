@@ -68,14 +68,14 @@ pub data Entry : Type 0 where
   Finished Withdrawn : ℕ → ℕ → Entry
 
 -- The log of a client's life: a channel was opened under a name; another call was accepted, with a value if it writes; a notice told
--- the outcome of an intent, or an update of a subscription; a call was refused; a request was collected or given up, with its outcome
--- if there was one.
+-- the outcome of an intent, or an update of a subscription; a call was refused; a request was collected or given up, with the place of
+-- the line that tells its outcome, if there is one.
 pub data Line : Type 0 where
   Opened : ℕ → List ℕ → Line
   Called : Intent → Option Elements → Line
   Noticed Updated : Intent → Outcome → Line
   Refused : Refusal → Line
-  Collected GaveUp : ℕ → Option Outcome → Line
+  Collected GaveUp : ℕ → Option ℕ → Line
 
 -- A world: its circuits, and the logs of all lives of its clients and its servers. A restart begins a new life.
 pub record World : Type 0 where

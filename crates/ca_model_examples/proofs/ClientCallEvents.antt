@@ -108,27 +108,27 @@ none-noticed n channel place l at i o is =
 
 pub collects : Collects
 collects = (
-  (record { x = _; at = refl; q = _; named = refl }, (Some outcome.Done, ((1, refl), refl), refl)),
+  (record { x = _; at = refl; q = _; named = refl }, (Some 1, ((_, refl), refl), refl)),
   (
     record { x = _; at = refl; q = _; named = refl },
-    (None, (λ o h. none-noticed _ _ h.0.0 _ h.0.1 _ o refl), refl),
+    (None, (λ place h. none-noticed _ _ place _ h.0.1 _ h.0.0 refl), refl),
   ),
-  (record { x = _; at = refl; q = _; named = refl }, (None, (λ o h. let never_handed = h.1 in cc), refl)),
+  (record { x = _; at = refl; q = _; named = refl }, (None, (λ place h. let never_handed = h.1 in cc), refl)),
   (
     record { x = _; at = refl; q = _; named = refl },
-    (None, (λ o h. let only = one-at read_done h.0.0 _ h.0.1 in let e = only.1 in cc), refl),
+    (None, (λ place h. let only = one-at read_done place _ h.0.1 in let e = only.1 in cc), refl),
   ),
-  (record { x = _; at = refl; q = _; named = refl }, (Some outcome.Done, ((2, refl), refl), refl)),
+  (record { x = _; at = refl; q = _; named = refl }, (Some 2, ((_, refl), refl), refl)),
   (λ c. never (λ z. z.names.requests) (anna_side alive.core names) c.x 1 c.q c.at refl c.named),
 )
 
 pub gives-up : GivesUp
 gives-up = (
-  (record { x = _; at = refl; q = _; named = refl }, (Some outcome.Done, ((1, refl), refl), refl)),
+  (record { x = _; at = refl; q = _; named = refl }, (Some 1, ((_, refl), refl), refl)),
   (
     record { x = _; at = refl; q = _; named = refl },
-    (None, (λ o h. none-noticed _ _ h.0.0 _ h.0.1 _ o refl), refl),
+    (None, (λ place h. none-noticed _ _ place _ h.0.1 _ h.0.0 refl), refl),
   ),
-  (record { x = _; at = refl; q = _; named = refl }, (None, (λ o h. let never_handed = h.1 in cc), refl)),
+  (record { x = _; at = refl; q = _; named = refl }, (None, (λ place h. let never_handed = h.1 in cc), refl)),
   (λ c. never (λ z. z.names.requests) (anna_side alive.core names) c.x 1 c.q c.at refl c.named),
 )

@@ -211,17 +211,17 @@ HandsOut lines e line = Happens (logged lines) e (logged (lines ++ line ∷ []))
 -- It is handed out once; nothing is handed out before it is there, and nothing of another request.
 abbrev pub Collects : Type 0
 Collects =
-    HandsOut (opened_line ∷ read_done ∷ []) (event.Collect 0 1) (history.Collected 1 (Some outcome.Done))
+    HandsOut (opened_line ∷ read_done ∷ []) (event.Collect 0 1) (history.Collected 1 (Some 1))
     × HandsOut (opened_line ∷ []) (event.Collect 0 1) (history.Collected 1 None)
-    × HandsOut (read_done ∷ history.Collected 1 (Some outcome.Done) ∷ []) (event.Collect 0 1) (history.Collected 1 None)
+    × HandsOut (read_done ∷ history.Collected 1 (Some 0) ∷ []) (event.Collect 0 1) (history.Collected 1 None)
     × HandsOut (read_done ∷ []) (event.Collect 0 0) (history.Collected 0 None)
-    × HandsOut (history.Collected 1 None ∷ history.GaveUp 0 None ∷ read_done ∷ []) (event.Collect 0 1) (history.Collected 1 (Some outcome.Done))
+    × HandsOut (history.Collected 1 None ∷ history.GaveUp 0 None ∷ read_done ∷ []) (event.Collect 0 1) (history.Collected 1 (Some 2))
     × CanNot live (event.Collect 0 1)
 
 -- To give up hands out the same and ends it, also before it is there.
 abbrev pub GivesUp : Type 0
 GivesUp =
-    HandsOut (opened_line ∷ read_done ∷ []) (event.GiveUp 0 1) (history.GaveUp 1 (Some outcome.Done))
+    HandsOut (opened_line ∷ read_done ∷ []) (event.GiveUp 0 1) (history.GaveUp 1 (Some 1))
     × HandsOut (opened_line ∷ []) (event.GiveUp 0 1) (history.GaveUp 1 None)
     × HandsOut (history.GaveUp 1 None ∷ read_done ∷ []) (event.Collect 0 1) (history.Collected 1 None)
     × CanNot live (event.GiveUp 0 1)

@@ -164,23 +164,23 @@ HappensClear w i x c h new =
 
 -- the line hands out what became of this request, or gives it up
 abbrev pub hands_out : (number : ℕ) → Line → Bool
-hands_out number (history.Collected n (Some o)) = n == number
-hands_out number (history.GaveUp n o) = n == number
+hands_out number (history.Collected n (Some place)) = n == number
+hands_out number (history.GaveUp n place) = n == number
 hands_out number line = false
 
--- the request completed with this outcome, and that was neither handed out nor given up
-abbrev pub IsThere : List Line → (number : ℕ) → (meant : Intent) → Outcome → Type 0
-IsThere log number meant o = ((place : ℕ) × At log place (history.Noticed meant o)) × (list_any (hands_out number) log ≡ false)
+-- the line at this place tells that the request completed, and its outcome was neither handed out nor given up
+abbrev pub IsThere : List Line → (number : ℕ) → (meant : Intent) → (place : ℕ) → Type 0
+IsThere log number meant place = ((o : Outcome) × At log place (history.Noticed meant o)) × (list_any (hands_out number) log ≡ false)
 
--- the outcome that may be handed out, if there is one
-abbrev pub HandsOut : List Line → (number : ℕ) → (meant : Intent) → Option Outcome → Type 0
-HandsOut log number meant (Some o) = IsThere log number meant o
-HandsOut log number meant None = (o : Outcome) → IsThere log number meant o → ⊥
+-- the line whose outcome may be handed out, if there is one
+abbrev pub HandsOut : List Line → (number : ℕ) → (meant : Intent) → Option ℕ → Type 0
+HandsOut log number meant (Some place) = IsThere log number meant place
+HandsOut log number meant None = (place : ℕ) → IsThere log number meant place → ⊥
 
 -- What became of a request is collected, or it is given up: the log has that, as this line.
-abbrev pub HappensHandingOut : World → ClientSide → (number : ℕ) → (meant : Intent) → (Option Outcome → Line) → World → Type 0
+abbrev pub HappensHandingOut : World → ClientSide → (number : ℕ) → (meant : Intent) → (Option ℕ → Line) → World → Type 0
 HappensHandingOut w x number meant line new =
-    (o : Option Outcome) × HandsOut (unwrap_or (slice_get w.client_logs x.life) []) number meant o × (new ≡ with_lines x.life (line o ∷ []) w)
+    (place : Option ℕ) × HandsOut (unwrap_or (slice_get w.client_logs x.life) []) number meant place × (new ≡ with_lines x.life (line place ∷ []) w)
 
 -- ---- circuits are made
 

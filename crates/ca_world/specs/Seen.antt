@@ -80,8 +80,8 @@ line_of (line.Called meant value) = history.Called (intent_of meant) (option_map
 line_of (line.Noticed meant outcome) = history.Noticed (intent_of meant) outcome
 line_of (line.Updated meant outcome) = history.Updated (intent_of meant) outcome
 line_of (line.Refused refusal) = history.Refused refusal
-line_of (line.Collected request outcome) = history.Collected request outcome
-line_of (line.GaveUp request outcome) = history.GaveUp request outcome
+line_of (line.Collected request place) = history.Collected request place
+line_of (line.GaveUp request place) = history.GaveUp request place
 
 abbrev pub entry_of : Entry → history.Entry
 entry_of (entry.Added number r) = history.Added number (recorded_of r)

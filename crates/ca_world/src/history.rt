@@ -95,10 +95,10 @@ pub enum Line {
     Updated(Intent, Outcome),
     /// A call was refused.
     Refused(Refusal),
-    /// The request of this number was collected, with what became of it.
-    Collected(usize, Option<Outcome>),
-    /// The request of this number was given up, with what became of it.
-    GaveUp(usize, Option<Outcome>),
+    /// The request of this number was collected, with the place of the line that tells what became of it.
+    Collected(usize, Option<usize>),
+    /// The request of this number was given up, with that place.
+    GaveUp(usize, Option<usize>),
 }
 
 /// An entry of the log of a server's life. Records have numbers.
