@@ -106,3 +106,11 @@ pub mod Using
 pub mod Again
 pub mod Seeing
 pub mod SeeingRuns
+pub mod Stood
+pub mod StoodGoing
+pub mod AddedSince
+pub mod CancelsSaid
+pub mod LegalCancels
+pub mod HeldLogs
+pub mod AddsSaid
+pub mod HeldAdds

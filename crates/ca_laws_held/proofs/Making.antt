@@ -255,7 +255,7 @@ sided-accept w new c x v at stands all s happens = elim happens.leaves [
 -- ---- a moment
 
 -- What a tick sent so far serves circuits; and on a circuit that did not fall silent the same channels are live.
-record IsTicked (n : Names) (x : Client) (t : Ticking) : Type 0 where
+pub record IsTicked (n : Names) (x : Client) (t : Ticking) : Type 0 where
   pub serves : (i : ℕ) (s : Sending) → At t.sent i s → (stamped n s).intent ≡ history.OfCircuit
   pub same : (on : Handle) → ((l : ℕ) (e : Left) → At t.closings l e → same_handle e.circuit on ≡ false) → SameLive on x.channels t.core.channels
 
@@ -299,7 +299,7 @@ ticked-all n x [] t h = h
 ticked-all n x (c ∷ order) t h = ticked-all n x order (ticks t c) (ticked-one n x t c h)
 
 -- searches are sent, and nothing is closed by them
-record IsSearched (n : Names) (x : Client) (first t : Ticking) : Type 0 where
+pub record IsSearched (n : Names) (x : Client) (first t : Ticking) : Type 0 where
   pub ticked : IsTicked n x t
   pub closings : t.closings ≡ first.closings
 
@@ -318,7 +318,7 @@ searched-all : (n : Names) (x : Client) (f : Ticking) (ws : List search.Wanted) 
 searched-all n x f ws [] t h = h
 searched-all n x f ws (c ∷ cs) t h = searched-all n x f ws cs (all_searched_on ws t c) (searched-each n x f c ws t h)
 
-ticked-client : (n : Names) (moment : ℕ) (x : Client) → IsSearched n x (circuits_ticked moment x) (searches_made (circuits_ticked moment x))
+pub ticked-client : (n : Names) (moment : ℕ) (x : Client) → IsSearched n x (circuits_ticked moment x) (searches_made (circuits_ticked moment x))
 ticked-client n moment x =
     let y : Client = record x { moment = later moment x } in
     let first : Ticking = record { core = y; sent = []; notices = []; closings = [] } in

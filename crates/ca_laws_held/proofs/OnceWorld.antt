@@ -132,7 +132,7 @@ once-same w new same logs all s = record {
 -- ---- what is sent on one circuit
 
 -- each comes from one that was sent, on an open end of that client under that handle
-on-circuit-sent : (i : ℕ) (n : Names) (sent : List Sending) (a : Joined) (q : ℕ) (r : Sent) → At (sent_on i n sent a) q r
+pub on-circuit-sent : (i : ℕ) (n : Names) (sent : List Sending) (a : Joined) (q : ℕ) (r : Sent) → At (sent_on i n sent a) q r
     → (a.client ≡ i) × (a.lists.client_open ≡ true) × ((m : ℕ) × (s : Sending) × At sent m s × (same_handle s.circuit a.at_client ≡ true) × (r ≡ stamped n s))
 on-circuit-sent i n sent a q r at = go (eqb a.client i && a.lists.client_open) refl at
   where
@@ -146,7 +146,7 @@ on-circuit-sent i n sent a q r at = go (eqb a.client i && a.lists.client_open) r
     go false is at = absurd cc
 
 -- one that is sent alone is first
-alone-first : (i : ℕ) (n : Names) (s : Sending) (a : Joined) (q : ℕ) (r : Sent) → At (sent_on i n (s ∷ []) a) q r → q ≡ 0
+pub alone-first : (i : ℕ) (n : Names) (s : Sending) (a : Joined) (q : ℕ) (r : Sent) → At (sent_on i n (s ∷ []) a) q r → q ≡ 0
 alone-first i n s a q r at = go (eqb a.client i && a.lists.client_open) (same_handle s.circuit a.at_client) q at
   where
     go : (b c : Bool) (q : ℕ) → At (cond b (map (stamped n) (cond c (s ∷ []) [])) []) q r → q ≡ 0

@@ -123,6 +123,7 @@ longer-snoc logs y = record {
 -- The circuit goes on: its lists get longer, and no end makes a step.
 pub record GoesOn (c d : Joined) : Type 0 where
   pub number : d.client ≡ c.client
+  pub handle : d.at_client ≡ c.at_client
   pub client : d.lists.client ≡ c.lists.client
   pub server : d.lists.server ≡ c.lists.server
   pub up : length c.lists.up ≤ length d.lists.up
@@ -133,9 +134,10 @@ pub record GoesOn (c d : Joined) : Type 0 where
   pub heard : d.lists.heard ≡ c.lists.heard
   pub opened : d.lists.client_open ≡ true → c.lists.client_open ≡ true
 
-pub on-lists : (c d : Joined) → d.client ≡ c.client → d.lists ≡ c.lists → GoesOn c d
-on-lists c d number lists = record {
+pub on-lists : (c d : Joined) → d.client ≡ c.client → d.at_client ≡ c.at_client → d.lists ≡ c.lists → GoesOn c d
+on-lists c d number handle lists = record {
   number = number;
+  handle = handle;
   client = ap (λ (z : Circuit). z.client) lists;
   server = ap (λ (z : Circuit). z.server) lists;
   up = (let e : length d.lists.up ≡ length c.lists.up = ap (λ (z : Circuit). length z.up) lists in omega (arith, e));
@@ -148,11 +150,12 @@ on-lists c d number lists = record {
 }
 
 pub on-self : (c : Joined) → GoesOn c c
-on-self c = on-lists c c refl refl
+on-self c = on-lists c c refl refl refl
 
 pub on-then : (a b c : Joined) → GoesOn a b → GoesOn b c → GoesOn a c
 on-then a b c f g = record {
   number = g.number ∙ f.number;
+  handle = g.handle ∙ f.handle;
   client = g.client ∙ f.client;
   server = g.server ∙ f.server;
   up = (let p : length a.lists.up ≤ length b.lists.up = f.up in let q : length b.lists.up ≤ length c.lists.up = g.up in omega (arith, p, q));
@@ -168,6 +171,7 @@ on-then a b c f g = record {
 on-told : (c : Joined) (more : List Told) → GoesOn c (record c { lists = record c.lists { down = c.lists.down ++ more } })
 on-told c more = record {
   number = refl;
+  handle = refl;
   client = refl;
   server = refl;
   up = omega arith;
@@ -183,6 +187,7 @@ on-told c more = record {
 pub on-said : (i : ℕ) (n : Names) (sent : List Sending) (c : Joined) → GoesOn c (record c { lists = record c.lists { up = c.lists.up ++ sent_on i n sent c } })
 on-said i n sent c = record {
   number = refl;
+  handle = refl;
   client = refl;
   server = refl;
   up = (let e : length (c.lists.up ++ sent_on i n sent c) ≡ length c.lists.up + length (sent_on i n sent c) = length-append c.lists.up (sent_on i n sent c) in omega (arith, e));
@@ -197,6 +202,7 @@ on-said i n sent c = record {
 pub on-closed : (left : List ℕ) (c : Joined) → GoesOn c (client_closed left c)
 on-closed left c = record {
   number = refl;
+  handle = refl;
   client = refl;
   server = refl;
   up = omega arith;
@@ -213,7 +219,7 @@ on-ending ends c = go (ends c)
   where
     go : (o : Option (List ℕ)) → GoesOn c (unwrap_or (option_map (λ (left : List ℕ). server_closed left c) o) c)
     go None = on-self c
-    go (Some left) = record { number = refl; client = refl; server = refl; up = omega arith; down = omega arith; said = λ p s at. at; tells = λ i t at. at; handled = refl; heard = refl; opened = λ o. o }
+    go (Some left) = record { number = refl; handle = refl; client = refl; server = refl; up = omega arith; down = omega arith; said = λ p s at. at; tells = λ i t at. at; handled = refl; heard = refl; opened = λ o. o }
 
 on-if : (c d : Joined) (b : Bool) → GoesOn c d → GoesOn c (cond b d c)
 on-if c d true goes = goes
@@ -221,7 +227,7 @@ on-if c d false goes = on-self c
 
 on-numbered : (c : Joined) (keys : List SubKey) → GoesOn c (fold with_number c keys)
 on-numbered c [] = on-self c
-on-numbered c (k ∷ keys) = on-then c (with_number c k) (fold with_number c (k ∷ keys)) (on-lists c (with_number c k) refl refl) (on-numbered (with_number c k) keys)
+on-numbered c (k ∷ keys) = on-then c (with_number c k) (fold with_number c (k ∷ keys)) (on-lists c (with_number c k) refl refl refl) (on-numbered (with_number c k) keys)
 
 on-posted : (i : ℕ) (core : Server) (name : List ℕ) (mask : ℕ) (c : Joined) → GoesOn c (numbers_posted i core name mask c)
 on-posted i core name mask c =
@@ -232,7 +238,7 @@ on-next i core name [] c = on-self c
 on-next i core name (x ∷ ws) c = on-posted i core name 3 c
 
 on-removed : (i : ℕ) (core : Server) (name : List ℕ) (gone : Handle → Bool) (left : Handle → ℕ) (c : Joined) → GoesOn c (removed_at i core name gone left c)
-on-removed i core name gone left c = on-if c over (eqb c.server i && c.lists.server_open) (on-then c mid over (on-told c (map (server.removal_told c.creations) told)) (on-lists mid over refl refl))
+on-removed i core name gone left c = on-if c over (eqb c.server i && c.lists.server_open) (on-then c mid over (on-told c (map (server.removal_told c.creations) told)) (on-lists mid over refl refl refl))
   where
     told : List (Handle × OpenChannel)
     told = server.disconnected_at name gone left c.at_server (under core.circuits c.at_server)
@@ -251,7 +257,7 @@ on-stamped (u ∷ us) c =
     let m : Told = record { message = u.message; place = item.0; cause = item.1 } in
     let mid : Joined = record c { lists = record c.lists { down = c.lists.down ++ m ∷ [] } } in
     let d : Joined = record c { queues = queues; lists = record c.lists { down = c.lists.down ++ m ∷ [] } } in
-    on-then c d (stamped us d) (on-then c mid d (on-told c (m ∷ [])) (on-lists mid d refl refl)) (on-stamped us d)
+    on-then c d (stamped us d) (on-then c mid d (on-told c (m ∷ [])) (on-lists mid d refl refl refl)) (on-stamped us d)
 
 -- ---- worlds
 
@@ -364,9 +370,9 @@ grown-acted w k j y did on =
     let place : ℕ = length j.lists.handled in
     let numbers : Joined = numbers_after place did j in
     let mid : World = with_circuit k numbers w in
-    grown-then w mid (acted k j y did w) (grown-set w k j numbers on (on-lists j numbers (numbers-like place did j).2 (numbers-like place did j).0))
+    grown-then w mid (acted k j y did w) (grown-set w k j numbers on (on-lists j numbers (numbers-like place did j).2 (numbers-like place did j).1 (numbers-like place did j).0))
     (grown-entries mid (acted k j y did w) y.life (server.logged_by y.core j.at_server (record { circuit = k; place = place }) did y.records) (write_numbers j.server y.core did) refl refl refl refl
-    (λ c. on-lists c (write_numbers j.server y.core did c) (writes-like j.server y.core did c).2 (writes-like j.server y.core did c).0))
+    (λ c. on-lists c (write_numbers j.server y.core did c) (writes-like j.server y.core did c).2 (writes-like j.server y.core did c).1 (writes-like j.server y.core did c).0))
 
 -- a step handles a message, or all goes on
 pub step-grown : (w new : World) (k : ℕ) (j : Joined) (y : ServerSide) (did : Stepped) → At w.circuits k j → ServerStepped w k j y did new → StepHandles w k j y new ⊎ Grown w new
@@ -480,7 +486,7 @@ up-grown w k n j x on at = go j.lists.client_open
   where
     go : (b : Bool) → Grown w (cond b (with_client j.client (record x { core = handed_over j.at_client n x.core }) w) (with_circuit k (record j { left_up = drop n j.left_up }) w))
     go true = grown-client w j.client x (record x { core = handed_over j.at_client n x.core }) at refl
-    go false = grown-set w k j (record j { left_up = drop n j.left_up }) on (on-lists j (record j { left_up = drop n j.left_up }) refl refl)
+    go false = grown-set w k j (record j { left_up = drop n j.left_up }) on (on-lists j (record j { left_up = drop n j.left_up }) refl refl refl)
 
 down-grown : (w new : World) (k n : ℕ) (j : Joined) (x : ClientSide) (y : ServerSide) → At w.circuits k j → At w.clients j.client x → HappensDown w k n j x y new → Grown w new
 down-grown w new k n j x y on at (mid, sent, core, taken, gives, is) =
@@ -489,7 +495,7 @@ down-grown w new k n j x y on at (mid, sent, core, taken, gives, is) =
   where
     go : DownTaken w k n j y mid → Grown w mid
     go (inl (opened, (by, sends, same))) = grown-same w mid (ap (λ (z : World). z.clients) same) (ap (λ (z : World). z.client_logs) same) (ap (λ (z : World). z.server_logs) same) (ap (λ (z : World). z.circuits) same)
-    go (inr (shut, same)) = subst (λ (z : World). Grown w z) (sym same) (grown-set w k j (record j { left_down = drop n j.left_down }) on (on-lists j (record j { left_down = drop n j.left_down }) refl refl))
+    go (inr (shut, same)) = subst (λ (z : World). Grown w z) (sym same) (grown-set w k j (record j { left_down = drop n j.left_down }) on (on-lists j (record j { left_down = drop n j.left_down }) refl refl refl))
 
     clients : DownTaken w k n j y mid → At mid.clients j.client x
     clients (inl (opened, (by, sends, same))) = subst (λ (z : World). At z.clients j.client x) (sym same) at

@@ -205,7 +205,7 @@ late-spent w known n c x p k a m early kind r s q on at mine at_r at_s is_r is_s
     create-used Create refl (created.since k s Create (omega (arith, first, place, le)) k_in at_s (is_s ∙ ap (λ (z : ℕ). On z Create) (sym a_is)))
 
 -- what is read was sent about what was sent before
-read-early : (w : World) → Known w → (n : ℕ) (c d : Joined) → At w.circuits n c → ReadOn c d → ((i : ℕ) (t : Told) → At c.lists.down i t → At d.lists.down i t) → (i : ℕ) (t : Told) → i < length d.lists.heard → At d.lists.down i t → t.place < length c.lists.up
+pub read-early : (w : World) → Known w → (n : ℕ) (c d : Joined) → At w.circuits n c → ReadOn c d → ((i : ℕ) (t : Told) → At c.lists.down i t → At d.lists.down i t) → (i : ℕ) (t : Told) → i < length d.lists.heard → At d.lists.down i t → t.place < length c.lists.up
 read-early w known n c d on read down i t lt at =
     let h = known.held n c on in
     let joined : h.0 ≡ c = At-one w.circuits n h.0 c h.2 on in

@@ -1,13 +1,14 @@
 -- Statement: of what a server sends on a circuit: three parts of what is said of that, each by itself.
-use Rattle.std.specs.Prelude.{ℕ, ◌≡◌, ◌<◌, ◌%◌, List, []}
+use Rattle.std.specs.Prelude.{ℕ, ◌≡◌, ◌<◌, ◌≤◌, ◌%◌, List, [], take}
 use Rattle.ca_text.specs.declared.command.Command.TheVariants as command
 use Rattle.ca_text.specs.Limits.{arena_slots}
 use Rattle.ca_text.specs.Place.{At}
+use Rattle.ca_dbr.specs.declared.value.Outcome.{Outcome}
 use Rattle.ca_wire.specs.Fields.{Fields}
-use Rattle.ca_model.specs.History.{Circuit, Create, Entry, Line, On, Subscribe}
-use Rattle.ca_model.specs.Sends.{Conduct, HasChannel, IsConnected, IsOnChannel, IsOpenAt, ReadsBetween}
-use Rattle.ca_model.specs.Speech.{Clears, Creates, Is, sid_in}
-use Rattle.ca_model_safe.specs.Channels.{Meant, OfCircuits}
+use Rattle.ca_model.specs.History.{Circuit, Create, Entry, Line, Noticed, On, Step, Subscribe}
+use Rattle.ca_model.specs.Sends.{Conduct, HasChannel, IsConnected, IsOnChannel, IsOpenAt, IsUncancelled, ReadsBetween}
+use Rattle.ca_model.specs.Speech.{Clears, Creates, In, Is, sid_in}
+use Rattle.ca_model_safe.specs.Channels.{IsHeld, Meant, OfCircuits}
 use Rattle.ca_model_safe.specs.Legal.{client_conduct, server_conduct}
 use Rattle.ca_model_world.specs.World.{World, told}
 
@@ -54,3 +55,20 @@ SendsOnChannels e = (k : ℕ) (m : Fields) → At e.sent k m → IsOnChannel m
 abbrev pub ClientsSendOnChannels : World → Type 0
 ClientsSendOnChannels w =
     OfCircuits (told w) (λ (n : ℕ) (c : Circuit) (x : List Line) (y : List Entry). SendsOnChannels (client_conduct c))
+
+-- An EVENT_CANCEL is for an EVENT_ADD on that channel that was not cancelled.
+abbrev pub CancelsWhatWasAdded : Conduct → Type 0
+CancelsWhatWasAdded e = (k : ℕ) (m : Fields) → At e.sent k m → Is command.EventCancel m
+    → (l : ℕ) × (add : Fields) × At e.sent l add × Is command.EventAdd add × (l < k) × (add.p1 ≡ m.p1)
+    × (add.p2 ≡ m.p2) × IsUncancelled e l k add
+
+abbrev pub ClientsCancelWhatWasAdded : World → Type 0
+ClientsCancelWhatWasAdded w =
+    OfCircuits (told w) (λ (n : ℕ) (c : Circuit) (x : List Line) (y : List Entry). CancelsWhatWasAdded (client_conduct c))
+
+-- What was subscribed to was held as the client read what it had read by then: its caller had ended neither it nor its channel, and no
+-- notice had told of its end.
+abbrev pub AddsWereHeld : World → Type 0
+AddsWereHeld w = OfCircuits (told w) (λ (n : ℕ) (c : Circuit) (x : List Line) (y : List Entry).
+    (l a m j : ℕ) (h : Step) → Meant c l (On a (Subscribe m)) → At c.heard j h → h.sent ≤ l
+    → IsHeld (take h.logged x) (On a (Subscribe m)) × ((o : Outcome) → In (take h.logged x) (Noticed (On a (Subscribe m)) o) → ⊥))

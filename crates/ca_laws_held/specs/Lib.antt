@@ -16,3 +16,4 @@ pub mod Causes
 pub mod ToldLines
 pub mod LegalParts
 pub mod ToldParts
+pub mod Anew

@@ -4,7 +4,10 @@ ghost use Rattle.ca_model_safe.specs.Legal.{IsSent};
 ghost use Rattle.ca_model_world.specs.Events.{Event};
 ghost use Rattle.ca_model_world.specs.Runs.{AreEvents, Runs};
 ghost use Rattle.ca_model_world.specs.World.{IsSetting, Setting, World, told};
+ghost use Rattle.ca_laws_held.specs.Anew.{LiveSubscriptionsAreHeld, SubscriptionsAreAddedAnew};
 ghost use Rattle.ca_laws_held.specs.LegalParts.{
+  AddsWereHeld,
+  ClientsCancelWhatWasAdded,
   ClientsSendOnChannels,
   ServersConfirmAtOnce,
   ServersEndOpenChannels,
@@ -59,4 +62,37 @@ pub fn subscriptions_are_added_apart()
 pub fn clients_send_on_channels_that_they_have()
     ensures { (s : Setting) (es : List Event) (stopped : Option Event) (w : World) → IsSetting s
         → AreEvents es → Runs s es stopped w → ClientsSendOnChannels w }
+{}
+
+/// After every run from a well-formed setting by well-formed events, a subscription that stands in its
+/// client's table has its EVENT_ADD on each open circuit on which its channel is live, after that
+/// channel's last CREATE_CHAN there.
+pub fn live_subscriptions_were_added()
+    ensures { (s : Setting) (es : List Event) (stopped : Option Event) (w : World) → IsSetting s
+        → AreEvents es → Runs s es stopped w → SubscriptionsAreAddedAnew w }
+{}
+
+/// After every run from a well-formed setting by well-formed events each EVENT_CANCEL of a client is for
+/// an EVENT_ADD that it sent before, with its SID and its subscription id, and of which it sent no
+/// EVENT_CANCEL between. This is `cancels` of the statement's `LegalClient`. It holds also of what an
+/// end sent that has ended.
+pub fn clients_cancel_what_was_added()
+    ensures { (s : Setting) (es : List Event) (stopped : Option Event) (w : World) → IsSetting s
+        → AreEvents es → Runs s es stopped w → ClientsCancelWhatWasAdded w }
+{}
+
+/// After every run a subscription that stands in its client's table, on a channel that is live, is held by
+/// the log of that client's life: its caller neither cancelled it nor cleared its channel, and no notice
+/// told of its end.
+pub fn live_subscriptions_are_held_by_logs()
+    ensures { (s : Setting) (es : List Event) (stopped : Option Event) (w : World)
+        → Runs s es stopped w → LiveSubscriptionsAreHeld w }
+{}
+
+/// After every run from a well-formed setting by well-formed events, what a client subscribed to was held
+/// by its log as it read each message that it had read before that EVENT_ADD: its caller had ended neither
+/// it nor its channel, and no notice had told of its end. It holds also of what an end sent that has ended.
+pub fn subscriptions_were_held_as_they_were_added()
+    ensures { (s : Setting) (es : List Event) (stopped : Option Event) (w : World) → IsSetting s
+        → AreEvents es → Runs s es stopped w → AddsWereHeld w }
 {}
