@@ -18,19 +18,18 @@ use Rattle.ca_model.specs.Client as client
 use Rattle.ca_model.specs.ClientCalls.{event_add_sent}
 use Rattle.ca_model.specs.ClientEnds.{after_taking}
 use Rattle.ca_model.specs.Hears.{Effect, Hears, created, event_adds, native_in}
-use Rattle.ca_model.specs.History.{Ask, Circuit, Clear, Create, Intent, Line, On, Reply, Sent, Step, Subscribe, Told}
+use Rattle.ca_model.specs.History.{Circuit, Clear, Create, Line, On, Reply, Sent, Step, Subscribe, Told}
 use Rattle.ca_model.specs.Speech.{Cid, Creates, Is, Speaks, sid_in}
 use Rattle.ca_model_client.proofs.Handles.{same-itself}
 use Rattle.ca_model_client.proofs.Standings.{channel-on}
 use Rattle.ca_model_client.proofs.Tables.{one-value, under-held}
 use Rattle.ca_model_client.proofs.Thinner.{three-ways}
-use Rattle.ca_model_safe.specs.Channels.{Meant}
-use Rattle.ca_model_safe.specs.Legal.{BecomesLive, IsStanding}
+use Rattle.ca_model_safe.specs.Legal.{IsStanding}
 use Rattle.ca_model_world.specs.ClientEvents.{channel_number, heard_in, meant_by, sent_on}
 use Rattle.ca_model_world.specs.Events.{Event}
 use Rattle.ca_model_world.specs.Events as event
 use Rattle.ca_model_world.specs.Runs.{AreEvents, Happens, Runs, StopsAt, clients_below}
-use Rattle.ca_model_world.specs.World.{ClientSide, IsSetting, Joined, Names, Setting, World, addresses, circuit_of, client_begun, log_length, opening}
+use Rattle.ca_model_world.specs.World.{ClientSide, IsSetting, Joined, Setting, World, addresses, circuit_of, client_begun, log_length, opening}
 use Rattle.ca_laws_bytes.proofs.Causes.{runs-caused}
 use Rattle.ca_laws_bytes.proofs.ServerSpeaking.{runs-hear}
 use Rattle.ca_laws_circuit.specs.Flows.{Awaits, IsPending}
@@ -68,7 +67,7 @@ use Rattle.ca_laws_held.proofs.Spent.{Known}
 use Rattle.ca_laws_held.proofs.ToldCreated.{ReadsNone, create-used, creates-so, none-grown, none-handled, none-made, on-channel}
 use Rattle.ca_laws_held.proofs.ToldGrows.{WorldsOn, event-on, on-grown}
 use Rattle.ca_laws_held.proofs.ToldRemoval.{run-removals}
-use Rattle.ca_laws_held.proofs.ToldSteps.{after, next}
+use Rattle.ca_laws_held.proofs.ToldSteps.{next}
 use Rattle.ca_laws_held.proofs.Using.{AllNamedOnce, ClientsUse, named-meant, named-once-on, ticks-use, use-event, use-stay}
 
 -- ---- what is said of a circuit

@@ -4,15 +4,15 @@ use Rattle.std.specs.Prelude.{drop, is_none, map, slice_set}
 use Rattle.std.specs.List.{FoldsTo}
 use Rattle.std.proofs.lemmas.Bool.{both_ways}
 use Rattle.ca_text.specs.Place.{At}
-use Rattle.ca_text.proofs.Places.{At-after, At-append, At-map, At-one, At-set, At-snoc, At-within}
+use Rattle.ca_text.proofs.Places.{At-after, At-append, At-map, At-one, At-set, At-snoc}
 use Rattle.ca_arena.specs.declared.handle.Handle.{Handle}
 use Rattle.ca_dbr.specs.declared.value.Outcome.{Outcome}
 use Rattle.ca_dbr.specs.declared.value.Outcome.TheVariants as outcome
 use Rattle.ca_dbr.specs.Elements.{Elements}
 use Rattle.ca_model.specs.Answers.{Closed, NeedBytes, Notice, Notices, Sending, Stepped}
 use Rattle.ca_model.specs.Answers as notice
-use Rattle.ca_model.specs.Client.{Client, ClientCircuit, Connection, Standing, connection_at, later, sending, standing_at}
-use Rattle.ca_model.specs.ClientCalls.{cancel_sent, cleared, clearing_sent, unsubscribed, write_sent}
+use Rattle.ca_model.specs.Client.{Client, ClientCircuit, Connection, Standing, connection_at, later, standing_at}
+use Rattle.ca_model.specs.ClientCalls.{cancel_sent, write_sent}
 use Rattle.ca_model.specs.ClientEnds.{ConnectsOn, StepsOn, after_taking, handed_over}
 use Rattle.ca_model.specs.Ends.{Address}
 use Rattle.ca_model.specs.Hears.{Effect}
@@ -20,7 +20,7 @@ use Rattle.ca_model.specs.History.{Called, Cancel, Clear, Intent, Line, Noticed,
 use Rattle.ca_model.specs.History as history
 use Rattle.ca_model.specs.Speech.{In}
 use Rattle.ca_model_client.proofs.Handles.{handle-or}
-use Rattle.ca_model_world.specs.ClientEvents.{DownTaken, HappensAccept, HappensClear, HappensClientDatagram, HappensClientRestart, HappensClientStep, HappensCutClient, HappensDown, HappensOpen, HappensRead, HappensSubscribe, HappensUnsubscribe, HappensUp, HappensWrite, HappensWriteNotify, TicksOne, WantsFirst, about_at, cancelled, channel_number, client_stepped, line_of, lines_of, meant_by}
+use Rattle.ca_model_world.specs.ClientEvents.{DownTaken, HappensAccept, HappensClear, HappensClientDatagram, HappensClientRestart, HappensClientStep, HappensCutClient, HappensDown, HappensOpen, HappensRead, HappensSubscribe, HappensUnsubscribe, HappensUp, HappensWrite, HappensWriteNotify, TicksOne, WantsFirst, about_at, cancelled, channel_number, client_stepped, line_of, lines_of}
 use Rattle.ca_model_world.specs.Events.{Event}
 use Rattle.ca_model_world.specs.Events as event
 use Rattle.ca_model_world.specs.Runs.{Happens}
@@ -147,7 +147,7 @@ module _ (w new : World) (i : ℕ) (x : ClientSide) (at : At w.clients i x) wher
                 let number : m ≡ n = once m n (g, On a (Subscribe m)) s at_g named same in
                 let meant : On a (Subscribe m) ≡ s.1 = ap (λ (e : Handle × Intent). e.1) (At-one x.names.subscriptions n (g, On a (Subscribe m)) s (subst (λ (v : ℕ). At x.names.subscriptions v (g, On a (Subscribe m))) number at_g) named) in
                 inr (inr (inl
-                  (fresh-line w new x.life (Called (cancelled s.1) None ∷ []) old log 0 (Called (On a (Cancel m)) None) logged (ap (λ (z : World). z.client_logs) did.4) (ap (λ (v : Intent). Some (Called (cancelled v) None)) (sym meant)) there)))
+                (fresh-line w new x.life (Called (cancelled s.1) None ∷ []) old log 0 (Called (On a (Cancel m)) None) logged (ap (λ (z : World). z.client_logs) did.4) (ap (λ (v : Intent). Some (Called (cancelled v) None)) (sym meant)) there)))
           ])
     ]
 

@@ -1,14 +1,10 @@
 -- A channel became live before each EVENT_ADD on it that came after its CREATE_CHAN: so none goes out that was ended then, over every event and run.
 use Rattle.std.proofs.Common.{◌≡◌, ℕ, ◌<◌, ◌≤◌, inl, inr, List, length, Option, refl, sym, ap, subst, arith}
-use Rattle.std.specs.Prelude.{take}
 use Rattle.ca_text.specs.Place.{At}
 use Rattle.ca_text.proofs.Places.{At-mapped, At-one}
-use Rattle.ca_dbr.specs.declared.value.Outcome.{Outcome}
-use Rattle.ca_model.specs.History.{Ask, Circuit, Create, Line, Noticed, On, Reply, Sent, Step, Subscribe, Told}
-use Rattle.ca_model.specs.Speech.{Creates, In}
+use Rattle.ca_model.specs.History.{Ask, Circuit, Create, Line, On, Reply, Sent, Step, Subscribe, Told}
+use Rattle.ca_model.specs.Speech.{Creates}
 use Rattle.ca_model_client.proofs.Thinner.{three-ways}
-use Rattle.ca_model_safe.specs.Channels.{IsHeld, Meant}
-use Rattle.ca_model_safe.specs.Legal.{BecomesLive}
 use Rattle.ca_model_world.specs.Events.{Event}
 use Rattle.ca_model_world.specs.Runs.{AreEvents, Runs}
 use Rattle.ca_model_world.specs.World.{IsSetting, Joined, Setting, World, circuit_of}
@@ -16,7 +12,6 @@ use Rattle.ca_laws_held.specs.Causes.{ComeAfter}
 use Rattle.ca_laws_held.specs.Created.{CreatedOn}
 use Rattle.ca_laws_held.specs.LegalAnew.{AddsNoneEnded, EndedSubscriptionsAreNotAdded}
 use Rattle.ca_laws_held.specs.OrderSteps.{InOrder}
-use Rattle.ca_laws_held.specs.Under.{IsUse}
 use Rattle.ca_laws_held.proofs.CauseKeeps.{run-after}
 use Rattle.ca_laws_held.proofs.Created.{reached-created}
 use Rattle.ca_laws_held.proofs.HeldAdds.{run-all-held}
