@@ -84,8 +84,11 @@ AllAnew w = (n : ℕ) (c : Joined) (y : List Line) (i a sid number : ℕ) (t : T
     → IsStanding (take h.logged y) (On a (Subscribe number)) → IsAnew c.lists a number t.place h.sent
 
 -- what was read before
-anew-old : (w new : World) → Known w → WorldsOn w new → ClientsUse w new → ClientsInOrder w → AllAnew w → (n : ℕ) (c d : Joined) (y : List Line) (i a sid number : ℕ) (t : Told) (h : Step) (s : Sent) → At w.circuits n c → At new.circuits n d → At new.client_logs d.lists.client y → At d.lists.down i t
-    → At c.lists.heard i h → t.cause ≡ Reply → Creates t.message sid → At d.lists.up t.place s → s.intent ≡ On a Create → IsStanding (take h.logged y) (On a (Subscribe number)) → IsAnew d.lists a number t.place h.sent
+anew-old : (w new : World) → Known w → WorldsOn w new → ClientsUse w new → ClientsInOrder w → AllAnew w
+    → (n : ℕ) (c d : Joined) (y : List Line) (i a sid number : ℕ) (t : Told) (h : Step) (s : Sent) → At w.circuits n c → At new.circuits n d
+    → At new.client_logs d.lists.client y → At d.lists.down i t
+    → At c.lists.heard i h → t.cause ≡ Reply → Creates t.message sid → At d.lists.up t.place s → s.intent ≡ On a Create
+    → IsStanding (take h.logged y) (On a (Subscribe number)) → IsAnew d.lists a number t.place h.sent
 anew-old w new known goes uses order all n c d y i a sid number t h s on at_d at_y at_t at_h reply creates at_s meant standing =
     let o = was-there w new known goes uses n c d i h on at_d at_h in
     let t_c = o.told i t (omega arith) at_t in
@@ -104,10 +107,13 @@ anew-old w new known goes uses order all n c d y i a sid number t h s on at_d at
 
 -- ---- the reply that is read
 
-module _ (w new : World) (k : ℕ) (j : Joined) (x : ClientSide) (on : At w.circuits k j) (at : At w.clients j.client x) (opened : j.lists.client_open ≡ true) (f : IsHearing w new k j x)
-    (known : Known w) (goes : WorldsOn w new) (creations : AllCreated w) (come : AllComeAfter w) (stand : AllStandOrEnd w) (adds : AllAddsNamed w) (names : AllNamedOnce w) (sided_new : AllSided new) (created_new : AllCreated new) (come_new : AllComeAfter new)
+module _ (w new : World) (k : ℕ) (j : Joined) (x : ClientSide) (on : At w.circuits k j) (at : At w.clients j.client x)
+    (opened : j.lists.client_open ≡ true) (f : IsHearing w new k j x)
+    (known : Known w) (goes : WorldsOn w new) (creations : AllCreated w) (come : AllComeAfter w) (stand : AllStandOrEnd w) (adds : AllAddsNamed w)
+    (names : AllNamedOnce w) (sided_new : AllSided new) (created_new : AllCreated new) (come_new : AllComeAfter new)
     (m : Fields) (rest : List ℕ) (t : Told) (s : Sent) (there : At j.lists.down (length j.lists.heard) t) (up : At j.lists.up t.place s) (is : t.message ≡ m)
-    (does : Hears (after_taking j.at_client rest x.core) j.at_client m (record { core = f.core; sent = f.sent; notices = f.notices })) (now : Joined) (at_now : At new.circuits k now) (goes_on : GoesOn (heard_in (hear-step w new k j x on at f) j) now) where
+    (does : Hears (after_taking j.at_client rest x.core) j.at_client m (record { core = f.core; sent = f.sent; notices = f.notices }))
+    (now : Joined) (at_now : At new.circuits k now) (goes_on : GoesOn (heard_in (hear-step w new k j x on at f) j) now) where
   mine : HeldOn (kept w k) x.names x.core j
   mine =
       let holds = known.held k j on in
@@ -160,7 +166,8 @@ module _ (w new : World) (k : ℕ) (j : Joined) (x : ClientSide) (on : At w.circ
           | inr (inr late) ↦ create-used Create refl (b.since t.place s Create (omega (arith, late, place)) lt up meant)
         ]
 
-    module _ (h : Handle) (rights : ℕ) (at_p : channel_on x.core j.at_client m.p1 ≡ Some (h, Creating rights)) (number_is : channel_number x.names h ≡ a) (effect : did ≡ created read j.at_client m (Some (h, Creating rights))) where
+    module _ (h : Handle) (rights : ℕ) (at_p : channel_on x.core j.at_client m.p1 ≡ Some (h, Creating rights))
+        (number_is : channel_number x.names h ≡ a) (effect : did ≡ created read j.at_client m (Some (h, Creating rights))) where
       ch : (ch : Channel) × (under x.core.channels h ≡ Some ch) × (wire_of h ≡ m.p1) × (ch.standing ≡ client.On j.at_client (Creating rights))
       ch = channel-on x.core j.at_client m.p1 h (Creating rights) at_p
 
@@ -195,7 +202,8 @@ module _ (w new : World) (k : ℕ) (j : Joined) (x : ClientSide) (on : At w.circ
           ]
 
       -- each that stands on it is added
-      added : (g : Handle) (d : Subscription) → under x.core.subscriptions g ≡ Some d → stands_in d.stage ≡ true → d.channel ≡ h → meant_by x.names.subscriptions g ≡ On a (Subscribe number) → IsAnew now.lists a number t.place step.sent
+      added : (g : Handle) (d : Subscription) → under x.core.subscriptions g ≡ Some d → stands_in d.stage ≡ true → d.channel ≡ h
+          → meant_by x.names.subscriptions g ≡ On a (Subscribe number) → IsAnew now.lists a number t.place step.sent
       added g d held_there stands channel intent_is =
           let sent : f.sent ≡ event_adds j.at_client m.p2 h read = ap (λ (v : Effect). v.sent) effect in
           let row = under-held x.core.subscriptions g d held_there in
@@ -246,7 +254,8 @@ module _ (w new : World) (k : ℕ) (j : Joined) (x : ClientSide) (on : At w.circ
         let b = (known.sided.sides k j x on at opened).lives busy.0 native.sid (record { ch = f_ch.0; native = native; rights = rights; there = f_ch.1; stands = f_ch.3; is = refl }) in
         unread b.0 b.1 native.sid (length j.lists.up) (subst (λ (v : ℕ). IsCreatedBefore j.lists v b.0 b.1 native.sid (length j.lists.up)) number_of b.3) b.2 (At-within j.lists.up t.place s up)
 
-    pub anew-now : (y : List Line) → At new.client_logs now.lists.client y → IsStanding (take step.logged y) (On a (Subscribe number)) → IsAnew now.lists a number t.place step.sent
+    pub anew-now : (y : List Line) → At new.client_logs now.lists.client y → IsStanding (take step.logged y) (On a (Subscribe number))
+        → IsAnew now.lists a number t.place step.sent
     anew-now y at_y standing = by found.0 found.1 found.2
       where
         life : now.lists.client ≡ x.life
@@ -312,7 +321,8 @@ pub record AnewStand (w : World) : Type 0 where
   pub adds : AllAddsNamed w
   pub anew : AllAnew w
 
-module _ (w new : World) (known : Known w) (now : Known new) (goes : WorldsOn w new) (uses : ClientsUse w new) (order : ClientsInOrder w) (lasts : ClientsLast w new) (adding : AddingBack w new) (z : AnewStand w) where
+module _ (w new : World) (known : Known w) (now : Known new) (goes : WorldsOn w new) (uses : ClientsUse w new) (order : ClientsInOrder w)
+    (lasts : ClientsLast w new) (adding : AddingBack w new) (z : AnewStand w) where
   anew-with : AllAnew new → AnewStand new
   anew-with anew = record {
     names = named-once-on w new known.stands uses z.names;
@@ -328,7 +338,8 @@ module _ (w new : World) (known : Known w) (now : Known new) (goes : WorldsOn w 
     | inr none ↦ absurd (none_at i h (subst (λ (l : List Step). At l i h) none at_h))
   ])
 
-module _ (s : Setting) (es : List Event) (w new : World) (ok : IsSetting s) (are : AreEvents es) (folds : FoldsTo Happens (opening s) es w) (e : Event) (more : AreEvents (es ++ e ∷ [])) (happens : Happens w e new) (z : AnewStand w) where
+module _ (s : Setting) (es : List Event) (w new : World) (ok : IsSetting s) (are : AreEvents es) (folds : FoldsTo Happens (opening s) es w)
+    (e : Event) (more : AreEvents (es ++ e ∷ [])) (happens : Happens w e new) (z : AnewStand w) where
   runs : Runs s es None w
   runs = (w, folds, refl)
 
@@ -367,7 +378,8 @@ module _ (s : Setting) (es : List Event) (w new : World) (ok : IsSetting s) (are
     step-now = hear-step w new k j f.0.x f.0.joins.at f.0.joins.client hearing
 
     -- The step was there; or it is made now.
-    heard-or : (n : ℕ) (d : Joined) (i : ℕ) (h : Step) → At new.circuits n d → At d.lists.heard i h → ((c : Joined) × At w.circuits n c × At c.lists.heard i h) ⊎ (At new.circuits k d × (i ≡ length j.lists.heard) × (h ≡ step-now) × GoesOn (heard_in step-now j) d)
+    heard-or : (n : ℕ) (d : Joined) (i : ℕ) (h : Step) → At new.circuits n d → At d.lists.heard i h
+        → ((c : Joined) × At w.circuits n c × At c.lists.heard i h) ⊎ (At new.circuits k d × (i ≡ length j.lists.heard) × (h ≡ step-now) × GoesOn (heard_in step-now j) d)
     heard-or n d i h at_d at_h =
         let back = (hear-grown w new k j f.0.x f.0.joins.at f.0.joins.client hearing).back n d at_d in
         elim (At-set w.circuits k (heard_in step-now j) n back.0 back.1) [
@@ -409,7 +421,8 @@ module _ (s : Setting) (es : List Event) (w new : World) (ok : IsSetting s) (are
       ])
       (λ i f. quiet (subst (λ (v : World). ReadsNone w v) (sym f.1) (none-grown w (begun-mid w new i f.0.x f.1) (begun-grown w new i f.0.x f.1)))) e happens
 
-after-anew : (s : Setting) (es rest : List Event) (w new : World) → IsSetting s → AreEvents es → AreEvents rest → FoldsTo Happens (opening s) es w → FoldsTo Happens w rest new → AnewStand w → AnewStand new
+after-anew : (s : Setting) (es rest : List Event) (w new : World) → IsSetting s → AreEvents es → AreEvents rest → FoldsTo Happens (opening s) es w
+    → FoldsTo Happens w rest new → AnewStand w → AnewStand new
 after-anew s es [] w new ok are more folds same z = subst (λ (v : World). AnewStand v) same z
 after-anew s es (e ∷ rest) w new ok are more folds (mid, one, others) z =
     let longer : AreEvents (es ++ e ∷ []) = are-snoc es e are (more 0 e refl) in
@@ -428,7 +441,8 @@ opening-anew s = record {
   anew = λ n c y i a sid number t h q at. absurd (none_at n c at);
 }
 
-pub run-anew-stand : (s : Setting) (es : List Event) (stopped : Option Event) (w : World) → IsSetting s → AreEvents es → Runs s es stopped w → AnewStand w
+pub run-anew-stand : (s : Setting) (es : List Event) (stopped : Option Event) (w : World) → IsSetting s → AreEvents es → Runs s es stopped w
+    → AnewStand w
 run-anew-stand s es stopped w ok are (mid, folds, stops) = stop stopped (known-runs s es stopped w ok are (mid, folds, stops)) stops
   where
     all : AnewStand mid
@@ -448,7 +462,8 @@ run-anew-stand s es stopped w ok are (mid, folds, stops) = stop stopped (known-r
 
 -- ---- what the statement says
 
-pub run-adds-anew : (s : Setting) (es : List Event) (stopped : Option Event) (w : World) → IsSetting s → AreEvents es → Runs s es stopped w → LiveChannelsAreSubscribedTo w
+pub run-adds-anew : (s : Setting) (es : List Event) (stopped : Option Event) (w : World) → IsSetting s → AreEvents es → Runs s es stopped w
+    → LiveChannelsAreSubscribedTo w
 run-adds-anew s es stopped w ok fine runs n d at =
     let j = At-mapped circuit_of w.circuits n d at in
     let l = run-server-steps s es stopped w ok runs n d at in

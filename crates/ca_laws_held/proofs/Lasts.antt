@@ -96,7 +96,8 @@ row-so x y g h it channels row = record {
   uncleared = it.uncleared;
 }
 
-channel-so : (x y : Client) (g h : Handle) (it : IsKept x g h) → y.subscriptions ≡ x.subscriptions → (ch : Channel) → under y.channels h ≡ Some ch → is_gone ch.standing ≡ false → IsKept y g h
+channel-so : (x y : Client) (g h : Handle) (it : IsKept x g h) → y.subscriptions ≡ x.subscriptions → (ch : Channel) → under y.channels h ≡ Some ch
+    → is_gone ch.standing ≡ false → IsKept y g h
 channel-so x y g h it subscriptions ch on uncleared = record {
   d = it.d;
   there = subst (λ (t : Table Subscription). under t g ≡ Some it.d) (sym subscriptions) it.there;
@@ -107,10 +108,13 @@ channel-so x y g h it subscriptions ch on uncleared = record {
   uncleared = uncleared;
 }
 
-lasts-rows : (x y : Client) → y.channels ≡ x.channels → ((g : Handle) (d : Subscription) → under x.subscriptions g ≡ Some d → stands_in d.stage ≡ true → under y.subscriptions g ≡ Some d) → Lasts x y
+lasts-rows : (x y : Client) → y.channels ≡ x.channels
+    → ((g : Handle) (d : Subscription) → under x.subscriptions g ≡ Some d → stands_in d.stage ≡ true → under y.subscriptions g ≡ Some d) → Lasts x y
 lasts-rows x y channels rows = record { forth = λ g h it. row-so x y g h it channels (rows g it.d it.there it.stands) }
 
-lasts-channels : (x y : Client) → y.subscriptions ≡ x.subscriptions → ((h : Handle) (ch : Channel) → under x.channels h ≡ Some ch → is_gone ch.standing ≡ false → (e : Channel) × (under y.channels h ≡ Some e) × (is_gone e.standing ≡ false)) → Lasts x y
+lasts-channels : (x y : Client) → y.subscriptions ≡ x.subscriptions
+    → ((h : Handle) (ch : Channel) → under x.channels h ≡ Some ch → is_gone ch.standing ≡ false → (e : Channel) × (under y.channels h ≡ Some e) × (is_gone e.standing ≡ false))
+    → Lasts x y
 lasts-channels x y subscriptions channels = record { forth = λ g h it. (let e = channels h it.ch it.on it.uncleared in channel-so x y g h it subscriptions e.0 e.1 e.2) }
 
 pub lasts-same : (x y : Client) → y.subscriptions ≡ x.subscriptions → y.channels ≡ x.channels → Lasts x y
@@ -134,7 +138,8 @@ and-none : (a b : Bool) → b ≡ false → (a && b) ≡ false
 and-none true b e = e
 and-none false b e = refl
 
-lasts-all-freed : (frees : Subscription → Bool) (x : Client) → ((d : Subscription) → stands_in d.stage ≡ true → frees d ≡ false) → Lasts x (record x { subscriptions = with_all_freed frees x.subscriptions })
+lasts-all-freed : (frees : Subscription → Bool) (x : Client) → ((d : Subscription) → stands_in d.stage ≡ true → frees d ≡ false)
+    → Lasts x (record x { subscriptions = with_all_freed frees x.subscriptions })
 lasts-all-freed frees x none = lasts-rows x (record x { subscriptions = with_all_freed frees x.subscriptions }) refl (λ g d is it. all-freed-there frees x.subscriptions g d is (none d it))
 
 lasts-drained : (c h : Handle) (x : Client) → Lasts x (without_drained c h x)
@@ -143,7 +148,8 @@ lasts-drained c h x =
     lasts-then x y (without_drained c h x) (lasts-all-freed (λ (s : Subscription). is_to h s && drains_in c s.stage) x (λ d it. and-none (is_to h d) (drains_in c d.stage) (drains-none c d.stage it))) (lasts-same y (without_drained c h x) refl refl)
 
 -- one that does not stand
-lasts-freed : (g : Handle) (x : Client) → ((d : Subscription) → under x.subscriptions g ≡ Some d → stands_in d.stage ≡ false) → Lasts x (without_subscription g x)
+lasts-freed : (g : Handle) (x : Client) → ((d : Subscription) → under x.subscriptions g ≡ Some d → stands_in d.stage ≡ false)
+    → Lasts x (without_subscription g x)
 lasts-freed g x none = lasts-rows x (without_subscription g x) refl (λ k d is it. elim (handle-or k g) [
   | inl same ↦ absurd (both_ways (stands_in d.stage) (none d (subst (λ (v : Handle). under x.subscriptions v ≡ Some d) same is)) it)
   | inr other ↦ freed-other x.subscriptions k g d is other
@@ -183,7 +189,8 @@ module _ (h : Handle) (x : Client) where
     ])
 
 -- in a phase that its caller's clear left it in
-gone-phase : (x : Client) (c h : Handle) (p : Phase) (ch : Channel) → under x.channels h ≡ Some ch → ch.standing ≡ On c p → is_cleared p ≡ true → IsClearedBy x h
+gone-phase : (x : Client) (c h : Handle) (p : Phase) (ch : Channel) → under x.channels h ≡ Some ch → ch.standing ≡ On c p → is_cleared p ≡ true
+    → IsClearedBy x h
 gone-phase x c h p ch there stands is w at = ap (λ (z : Channel). is_gone z.standing) (one-value x.channels h w ch at there) ∙ ap is_gone stands ∙ is
 
 -- ---- an end has ended
@@ -367,7 +374,9 @@ module _ (x : Client) (e : Effect) where
       | inl whole ↦ by whole.0 (eqb whole.0.command 4) (eqb whole.0.command 1) whole.2
     ]
       where
-        by : (h : Header) (a b : Bool) → e ≡ cond a (write_failed x m (channel_on x c m.p1)) (cond b (subscription_failed x m (heard_by x c h.p2)) (any_failed x m (answered_by c h.command h.p2 x.requests))) → LastsIn x e.notices e.core
+        by : (h : Header) (a b : Bool)
+            → e ≡ cond a (write_failed x m (channel_on x c m.p1)) (cond b (subscription_failed x m (heard_by x c h.p2)) (any_failed x m (answered_by c h.command h.p2 x.requests)))
+            → LastsIn x e.notices e.core
         by h true b is = lasts-write (channel_on x c m.p1) is
         by h false true is = lasts-refused (heard_by x c h.p2) is
         by h false false is = lasts-any (answered_by c h.command h.p2 x.requests) is
@@ -386,7 +395,8 @@ module _ (x : Client) (e : Effect) where
 unmoved : (x : Client) (e : Effect) → e ≡ becomes x → Lasts x e.core
 unmoved x e is = subst (λ (v : Effect). Lasts x v.core) (sym is) (lasts-itself x)
 
-lasts-puts : (x : Client) (e : Effect) (address : Address) (h : Handle) (here : Channel) → (o : Option (Handle × ClientCircuit)) → PutsOn x address h here o e → Lasts x e.core
+lasts-puts : (x : Client) (e : Effect) (address : Address) (h : Handle) (here : Channel) → (o : Option (Handle × ClientCircuit))
+    → PutsOn x address h here o e → Lasts x e.core
 lasts-puts x e address h here (Some (d, v)) is = lasts-put-on x e d v.connection h here is
 lasts-puts x e address h here None is = elim is [
   | inr full ↦ unmoved x e full.1
@@ -503,7 +513,8 @@ module _ (h : Handle) where
   lasts-cleared s x = off-then h x (cleared h s x) (sending (clearing_sent h s) (cleared h s x)) (off-cleared s x) (off-lasts h (cleared h s x) (sending (clearing_sent h s) (cleared h s x)) (lasts-sending (clearing_sent h s) (cleared h s x)))
 
 -- a subscription is made: it stands, and the others last
-pub lasts-subscribed : (x : Client) (h : Handle) (a : Shape) (mask : ℕ) (q : Handle) (sent : List Sending) (y : Client) → ClientSubscribes x h a mask (Ok q) sent y → Lasts x y × IsKept y q h
+pub lasts-subscribed : (x : Client) (h : Handle) (a : Shape) (mask : ℕ) (q : Handle) (sent : List Sending) (y : Client)
+    → ClientSubscribes x h a mask (Ok q) sent y → Lasts x y × IsKept y q h
 lasts-subscribed x h a mask q sent y subscribes =
     let out : Lasts z (sending (s ∷ []) z) = lasts-sending (s ∷ []) z in
     subst (λ (v : Client). Lasts x v × IsKept v q h) (sym subscribes.4.1) (lasts-then x z (sending (s ∷ []) z) old out, out.forth q h made)
@@ -537,13 +548,15 @@ lasts-begun c x = lasts-channels x (begun c x) refl (λ h ch is was. (creating c
     go ch true was = refl
     go ch false was = was
 
-pub lasts-connected : (x : Client) (c : Handle) (d : ClientCircuit) (k : Option Closing) (sent : List Sending) (y : Client) → ConnectsOn x c (Some d) k sent y → Lasts x y
+pub lasts-connected : (x : Client) (c : Handle) (d : ClientCircuit) (k : Option Closing) (sent : List Sending) (y : Client)
+    → ConnectsOn x c (Some d) k sent y → Lasts x y
 lasts-connected x c d None sent y does =
     let z : Client = begun c x in
     subst (λ (v : Client). Lasts x v) (sym does.1) (lasts-then x z (sending (set_up x.peer c d ++ creations c x) z) (lasts-begun c x) (lasts-sending (set_up x.peer c d ++ creations c x) z))
 lasts-connected x c d (Some k) sent y does = subst (λ (v : Client). Lasts x v) (sym does.2) (lasts-ended c x)
 
-pub lasts-given : (x : Client) (c : Handle) (bytes : List ℕ) (more : Bool) (o : Option Connection) (sent : List Sending) (y : Client) → GivesOn x c bytes more o (Ok tt) sent y → Lasts x y
+pub lasts-given : (x : Client) (c : Handle) (bytes : List ℕ) (more : Bool) (o : Option Connection) (sent : List Sending) (y : Client)
+    → GivesOn x c bytes more o (Ok tt) sent y → Lasts x y
 lasts-given x c bytes more (Some e) sent y gives =
     let z : Client = given c bytes more x in
     subst (λ (v : Client). Lasts x v) (sym gives.1) (lasts-then x z (sending (flow_sent c more e) z) (lasts-same x z refl refl) (lasts-sending (flow_sent c more e) z))

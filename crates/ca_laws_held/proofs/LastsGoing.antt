@@ -60,7 +60,8 @@ ClientsLast w new = (i : ℕ) (y : ClientSide) → At new.clients i y → ((x : 
 last-same : (w new : World) → new.clients ≡ w.clients → ClientsLast w new
 last-same w new is i y at = inl (y, subst (λ (l : List ClientSide). At l i y) is at, refl, inl refl, λ g h a m log named there it. inl it)
 
-last-set : (w new : World) (i : ℕ) (x z : ClientSide) → At w.clients i x → new.clients ≡ slice_set w.clients i z → z.life ≡ x.life → NamesMore x z → StandOn new x z → ClientsLast w new
+last-set : (w new : World) (i : ℕ) (x z : ClientSide) → At w.clients i x → new.clients ≡ slice_set w.clients i z → z.life ≡ x.life → NamesMore x z
+    → StandOn new x z → ClientsLast w new
 last-set w new i x z at is life names stand l y there = elim (At-set w.clients i z l y (subst (λ (c : List ClientSide). At c l y) is there)) [
   | inl here ↦
       let now = subst (λ (v : ClientSide). (v.life ≡ x.life) × NamesMore x v × StandOn new x v) (sym here.1) (life, names, stand) in
@@ -69,11 +70,14 @@ last-set w new i x z at is life names stand l y there = elim (At-set w.clients i
 ]
 
 -- by its core and its names then
-last-called : (w new : World) (i : ℕ) (x : ClientSide) (names : Names) (core : Client) → At w.clients i x → new.clients ≡ slice_set w.clients i (record x { core = core; names = names }) → names.subscriptions ≡ x.names.subscriptions → Lasts x.core core → ClientsLast w new
+last-called : (w new : World) (i : ℕ) (x : ClientSide) (names : Names) (core : Client) → At w.clients i x
+    → new.clients ≡ slice_set w.clients i (record x { core = core; names = names }) → names.subscriptions ≡ x.names.subscriptions → Lasts x.core core
+    → ClientsLast w new
 last-called w new i x names core at is same lasts = last-set w new i x (record x { core = core; names = names }) at is refl (inl same) (λ g h a m log named there it. inl (lasts.forth g h it))
 
 -- a line that is logged now
-fresh-line : (w new : World) (life : ℕ) (lines old log : List Line) (p : ℕ) (line : Line) → At w.client_logs life old → new.client_logs ≡ grown life lines w.client_logs → At lines p line → At new.client_logs life log → In log line
+fresh-line : (w new : World) (life : ℕ) (lines old log : List Line) (p : ℕ) (line : Line) → At w.client_logs life old
+    → new.client_logs ≡ grown life lines w.client_logs → At lines p line → At new.client_logs life log → In log line
 fresh-line w new life lines old log p line there is at logged = elim ((logs-grown w.client_logs life lines old there).0 life log (subst (λ (v : List (List Line)). At v life log) is logged)) [
   | inl own ↦ (length own.1.0 + p, subst (λ (v : List Line). At v (length own.1.0 + p) line) (sym own.1.2) (At-after own.1.0 lines p line at))
   | inr other ↦ absurd (other.1 refl)
@@ -133,7 +137,8 @@ module _ (w new : World) (i : ℕ) (x : ClientSide) (at : At w.clients i x) wher
       last-called w new i x x.names happens.1 at (ap (λ (z : World). z.clients) happens.3) refl (lasts-then x.core now happens.1 (lasts-same x.core now refl refl) (lasts-all-received from happens.2.0 now e happens.2.2))
 
   -- its caller ends one, or a channel
-  module _ (old : List Line) (logged : At w.client_logs x.life old) (tidy : Tidy x.names x.core) (once : (k l : ℕ) (e f : Handle × Intent) → At x.names.subscriptions k e → At x.names.subscriptions l f → e.0 ≡ f.0 → k ≡ l) where
+  module _ (old : List Line) (logged : At w.client_logs x.life old) (tidy : Tidy x.names x.core)
+      (once : (k l : ℕ) (e f : Handle × Intent) → At x.names.subscriptions k e → At x.names.subscriptions l f → e.0 ≡ f.0 → k ≡ l) where
     last-unsubscribe : (n : ℕ) (s : Handle × Intent) → At x.names.subscriptions n s → HappensUnsubscribe w i x s new → ClientsLast w new
     last-unsubscribe n s named happens = elim happens [
       | inl refusal ↦ last-same w new (ap (λ (z : World). z.clients) refusal.3)
@@ -170,7 +175,8 @@ module _ (w new : World) (k : ℕ) (j : Joined) (x : ClientSide) (there : At w.c
   last-up : (n : ℕ) (y : ServerSide) → HappensUp w k n j x y new → ClientsLast w new
   last-up n y happens = subst (λ (v : World). ClientsLast w v) (sym happens.2) (go j.lists.client_open)
     where
-      go : (b : Bool) → ClientsLast w (with_server j.server (record y { core = happens.0 }) (cond b (with_client j.client (record x { core = handed_over j.at_client n x.core }) w) (with_circuit k (record j { left_up = drop n j.left_up }) w)))
+      go : (b : Bool)
+          → ClientsLast w (with_server j.server (record y { core = happens.0 }) (cond b (with_client j.client (record x { core = handed_over j.at_client n x.core }) w) (with_circuit k (record j { left_up = drop n j.left_up }) w)))
       go true = last-called w (with_server j.server (record y { core = happens.0 }) (with_client j.client (record x { core = handed_over j.at_client n x.core }) w)) j.client x x.names (handed_over j.at_client n x.core) there refl refl (lasts-handed j.at_client n x.core)
       go false = last-same w (with_server j.server (record y { core = happens.0 }) (with_circuit k (record j { left_up = drop n j.left_up }) w)) refl
 
@@ -191,11 +197,13 @@ module _ (w new : World) (k : ℕ) (j : Joined) (x : ClientSide) (there : At w.c
       last-called w new j.client x x.names happens.2 there (ap (λ (z : World). z.clients) happens.4) refl (subst (λ (v : Client). Lasts x.core v) (sym happens.3.2) (lasts-ended j.at_client x.core))
 
   -- a message is read
-  module _ (old : List Line) (logged : At w.client_logs x.life old) (tidy : Tidy x.names x.core) (once : (k l : ℕ) (e f : Handle × Intent) → At x.names.subscriptions k e → At x.names.subscriptions l f → e.0 ≡ f.0 → k ≡ l) where
+  module _ (old : List Line) (logged : At w.client_logs x.life old) (tidy : Tidy x.names x.core)
+      (once : (k l : ℕ) (e f : Handle × Intent) → At x.names.subscriptions k e → At x.names.subscriptions l f → e.0 ≡ f.0 → k ≡ l) where
     last-hearing : At w.circuits k j → j.lists.client_open ≡ true → ClientsStand w → HappensClientStep w k j x new → ClientsLast w new
     last-hearing at open_it stands happens = go (connection_at x.core j.at_client) refl happens.0 happens.1 happens.2 happens.3 happens.4
       where
-        go : (o : Option Connection) → connection_at x.core j.at_client ≡ o → (did : Stepped) (sent : List Sending) (core : Client) → StepsOn x.core j.at_client o did sent core → new ≡ client_stepped k j x did sent core w → ClientsLast w new
+        go : (o : Option Connection) → connection_at x.core j.at_client ≡ o → (did : Stepped) (sent : List Sending) (core : Client)
+            → StepsOn x.core j.at_client o did sent core → new ≡ client_stepped k j x did sent core w → ClientsLast w new
         go None is did sent core steps new_is = absurd (both_ways (is_none (connection_at x.core j.at_client)) (stands.connected k j x at there open_it) (ap is_none is))
         go (Some d) is NeedBytes sent core steps new_is = last-same w new (ap (λ (z : World). z.clients) new_is)
         go (Some d) is (Closed c) sent core steps new_is =
@@ -346,7 +354,8 @@ stand-on w new once goes lasts all i a m y g log at logged named = elim (lasts i
 abbrev pub AllAddsNamed : World → Type 0
 AllAddsNamed w = (n i l a m : ℕ) (c : Joined) (x : ClientSide) (s : Sent) → At w.circuits n c → At w.clients i x → c.lists.client ≡ x.life → At c.lists.up l s → s.intent ≡ On a (Subscribe m) → (g : Handle) × At x.names.subscriptions m (g, On a (Subscribe m))
 
-pub adds-named-on : (w new : World) → Known w → OnceStand new → ClientsQuiet new → AddingBack w new → WorldsOn w new → ClientsUse w new → AllAddsNamed w → AllAddsNamed new
+pub adds-named-on : (w new : World) → Known w → OnceStand new → ClientsQuiet new → AddingBack w new → WorldsOn w new → ClientsUse w new
+    → AllAddsNamed w → AllAddsNamed new
 adds-named-on w new known once quiet adding goes uses all n i l a m d y s at at_y mine at_s is = elim (adding n d l s at at_s) [
   | inl other ↦ absurd (other a m is)
   | inr (inr z) ↦

@@ -20,8 +20,10 @@ use Rattle.ca_laws_held.proofs.OrderKeeps.{run-heard, run-server-steps}
 use Rattle.ca_laws_held.proofs.ToldCreated.{create-used}
 
 -- The reply that created a channel was read before anything else than a CREATE_CHAN went out on it after its CREATE_CHAN.
-pub read-first : (c : Joined) (sent log : ℕ) → CreatedOn c → ComeAfter c.lists → InOrder c.lists.heard (length c.lists.down) sent log → ReadOn c.lists → (a j l sid : ℕ) (t : Told) (h : Step) (r s : Sent) (ask : Ask)
-    → At c.lists.up t.place r → r.intent ≡ On a Create → At c.lists.down j t → t.cause ≡ Reply → Creates t.message sid → At c.lists.heard j h → t.place < l → At c.lists.up l s → s.intent ≡ On a ask → (ask ≡ Create → ⊥) → h.sent ≤ l
+pub read-first : (c : Joined) (sent log : ℕ) → CreatedOn c → ComeAfter c.lists → InOrder c.lists.heard (length c.lists.down) sent log → ReadOn c.lists
+    → (a j l sid : ℕ) (t : Told) (h : Step) (r s : Sent) (ask : Ask)
+    → At c.lists.up t.place r → r.intent ≡ On a Create → At c.lists.down j t → t.cause ≡ Reply → Creates t.message sid → At c.lists.heard j h
+    → t.place < l → At c.lists.up l s → s.intent ≡ On a ask → (ask ≡ Create → ⊥) → h.sent ≤ l
 read-first c sent log created come order read a j l sid t h r s ask at_r is_r at_t reply creates at_h lt at_s is_s other =
     let x = read l a s ask at_s is_s other in
     let g : Step = x.2 in
@@ -43,7 +45,8 @@ read-first c sent log created come order read a j l sid t h r s ask at_r is_r at
       | inr (inr late) ↦ absurd (create-used Create refl (b.since t.place r Create (omega (arith, late, place)) lt at_r is_r))
     ]
 
-pub run-none-ended : (s : Setting) (es : List Event) (stopped : Option Event) (w : World) → IsSetting s → AreEvents es → Runs s es stopped w → EndedSubscriptionsAreNotAdded w
+pub run-none-ended : (s : Setting) (es : List Event) (stopped : Option Event) (w : World) → IsSetting s → AreEvents es → Runs s es stopped w
+    → EndedSubscriptionsAreNotAdded w
 run-none-ended s es stopped w ok fine runs n d at =
     let j = At-mapped circuit_of w.circuits n d at in
     let l = run-server-steps s es stopped w ok runs n d at in
