@@ -52,3 +52,4 @@ pub mod LiveRead
 pub mod ActsWhole
 pub mod KnewFull
 pub mod LegalCut
+pub mod LegalMost

@@ -114,3 +114,7 @@ pub mod LegalCancels
 pub mod HeldLogs
 pub mod AddsSaid
 pub mod HeldAdds
+pub mod Lasts
+pub mod LastsGoing
+pub mod LegalEnded
+pub mod AddsAnew

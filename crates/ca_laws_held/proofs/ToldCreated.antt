@@ -159,7 +159,7 @@ told-on w new held on so all n d at = elim (so n d at) [
 -- ---- the reply that is read
 
 -- what is asked on the circuit is found by its CID
-on-channel : (x : Client) (on h : Handle) (cid : ℕ) (ch : Channel) → length x.channels ≤ arena_slots → under x.channels h ≡ Some ch → wire_of h ≡ cid → is_on_in is_asked on ch ≡ true → (p : Phase) × (channel_on x on cid ≡ Some (h, p)) × (is_asked p ≡ true)
+pub on-channel : (x : Client) (on h : Handle) (cid : ℕ) (ch : Channel) → length x.channels ≤ arena_slots → under x.channels h ≡ Some ch → wire_of h ≡ cid → is_on_in is_asked on ch ≡ true → (p : Phase) × (channel_on x on cid ≡ Some (h, p)) × (is_asked p ≡ true)
 on-channel x on h cid ch few there wire here = by (phase_on on ch.standing) refl here
   where
     found : by_wire x.channels cid ≡ Some (h, ch)

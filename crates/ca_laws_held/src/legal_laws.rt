@@ -5,6 +5,10 @@ ghost use Rattle.ca_model_world.specs.Events.{Event};
 ghost use Rattle.ca_model_world.specs.Runs.{AreEvents, Runs};
 ghost use Rattle.ca_model_world.specs.World.{IsSetting, Setting, World, told};
 ghost use Rattle.ca_laws_held.specs.Anew.{LiveSubscriptionsAreHeld, SubscriptionsAreAddedAnew};
+ghost use Rattle.ca_laws_held.specs.LegalAnew.{
+  EndedSubscriptionsAreNotAdded,
+  LiveChannelsAreSubscribedTo,
+};
 ghost use Rattle.ca_laws_held.specs.LegalParts.{
   AddsWereHeld,
   ClientsCancelWhatWasAdded,
@@ -95,4 +99,21 @@ pub fn live_subscriptions_are_held_by_logs()
 pub fn subscriptions_were_held_as_they_were_added()
     ensures { (s : Setting) (es : List Event) (stopped : Option Event) (w : World) → IsSetting s
         → AreEvents es → Runs s es stopped w → AddsWereHeld w }
+{}
+
+/// After every run from a well-formed setting by well-formed events, each time that a channel becomes
+/// live at its client, each of its subscriptions that stands then by the client's log has an EVENT_ADD
+/// from there on, and before the channel is created again. This is `anew` of the statement's
+/// `LegalCircuit`. It holds also of what an end sent that has ended.
+pub fn live_channels_are_subscribed_to()
+    ensures { (s : Setting) (es : List Event) (stopped : Option Event) (w : World) → IsSetting s
+        → AreEvents es → Runs s es stopped w → LiveChannelsAreSubscribedTo w }
+{}
+
+/// After every such run no subscription has an EVENT_ADD after a CREATE_CHAN of its channel that its
+/// caller, or a refusal, had ended by the client's log as that channel became live. This is `ended` of
+/// `LegalCircuit`. It holds also of what an end sent that has ended.
+pub fn ended_subscriptions_are_not_added()
+    ensures { (s : Setting) (es : List Event) (stopped : Option Event) (w : World) → IsSetting s
+        → AreEvents es → Runs s es stopped w → EndedSubscriptionsAreNotAdded w }
 {}

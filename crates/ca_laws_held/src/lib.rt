@@ -30,9 +30,12 @@ pub use laws::{
     what_clients_take_is_told_of_its_own, what_servers_take_is_handled_as_it_was_meant,
 };
 pub use legal_laws::{
-    accepted_subscriptions_were_sent, clients_send_on_channels_that_they_have,
-    servers_confirm_at_once, servers_disconnect_open_channels, servers_give_free_sids,
-    subscriptions_are_added_apart,
+    accepted_subscriptions_were_sent, clients_cancel_what_was_added,
+    clients_send_on_channels_that_they_have, ended_subscriptions_are_not_added,
+    live_channels_are_subscribed_to, live_subscriptions_are_held_by_logs,
+    live_subscriptions_were_added, servers_confirm_at_once, servers_disconnect_open_channels,
+    servers_give_free_sids, subscriptions_are_added_apart,
+    subscriptions_were_held_as_they_were_added,
 };
 pub use once_laws::{a_call_is_accepted_once, a_request_is_at_one_place, what_was_called_was_sent};
 pub use order_laws::{circuits_join_lives, steps_are_in_order, steps_of_servers_are_in_order};
