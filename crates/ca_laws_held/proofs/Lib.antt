@@ -114,3 +114,5 @@ pub mod LegalCancels
 pub mod HeldLogs
 pub mod AddsSaid
 pub mod HeldAdds
+pub mod LegalIdsRests
+pub mod LegalIdsCalls

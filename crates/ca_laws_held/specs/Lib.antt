@@ -17,3 +17,4 @@ pub mod ToldLines
 pub mod LegalParts
 pub mod ToldParts
 pub mod Anew
+pub mod LegalIds
