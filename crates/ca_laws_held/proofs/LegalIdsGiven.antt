@@ -20,7 +20,7 @@ use Rattle.ca_model.specs.Client.{Channel, Client, is_on_in}
 use Rattle.ca_model.specs.Sends.{SameIndex}
 use Rattle.ca_model.specs.Speech.{Cid, Gives, Id, Ioid, Is, SubId}
 use Rattle.ca_model_client.proofs.Standings.{at-filter-map}
-use Rattle.ca_model_client.proofs.Tables.{AreApart, given-none, one-at-index, one-value, place, under-at}
+use Rattle.ca_model_client.proofs.Tables.{given-none, one-at-index, one-value, place, under-at}
 use Rattle.ca_laws_circuit.specs.Held.{AreFew, IsHeld, has_id, is_asked}
 use Rattle.ca_laws_held.proofs.LegalIdsRests.{FreesCid, FreesIoid, FreesSub, Rests, RestsBut}
 
@@ -92,7 +92,7 @@ gives-both ss rs a b i s id at gives = elim (At-parts ss rs i s at) [
   | inr later ↦ b later.0 s id later.2 gives
 ]
 
-only-one : (s r : Sending) (i : ℕ) → At (s ∷ []) i r → (i ≡ 0) × (r ≡ s)
+pub only-one : (s r : Sending) (i : ℕ) → At (s ∷ []) i r → (i ≡ 0) × (r ≡ s)
 only-one s r zero at = (refl, sym (some_is s r at))
 only-one s r (suc i) at = absurd (no-element i r at)
 
@@ -209,14 +209,7 @@ idle-new-subscription on x g few may (SubId n) m held same = new-holder x.subscr
 idle-new-subscription on x g few may (Cid n) m held same = absurd same
 idle-new-subscription on x g few may (Ioid n) m held same = absurd same
 
--- ---- rows that are apart
-
-pub apart-at : {T : Type 0} (es : List (Handle × T)) → AreApart es → (i j : ℕ) (e f : Handle × T) → i < j → At es i e → At es j f → e.0 ≡ f.0 → ⊥
-apart-at [] apart i j e f lt at_e at_f same = no-element i e at_e
-apart-at (a ∷ es) apart zero zero e f lt at_e at_f same = omega (arith, lt)
-apart-at {T} (a ∷ es) apart zero (suc j) e f lt at_e at_f same = apart.0 j f at_f (sym same ∙ ap (λ (z : Handle × T). z.0) (sym (some_is a e at_e)))
-apart-at (a ∷ es) apart (suc i) zero e f lt at_e at_f same = omega (arith, lt)
-apart-at (a ∷ es) apart (suc i) (suc j) e f lt at_e at_f same = apart-at es apart.1 i j e f (omega (arith, lt)) at_e at_f same
+-- ---- places of a list that was filtered
 
 pub filter-map-order : {A B : Type 0} (f : A → Option B) (xs : List A) (i j : ℕ) (y z : B) → i < j → At (filter_map f xs) i y → At (filter_map f xs) j z
     → (k l : ℕ) × (a b : A) × (k < l) × At xs k a × At xs l b × (f a ≡ Some y) × (f b ≡ Some z)

@@ -482,7 +482,7 @@ rests-puts on x e address h here there stands None is = elim is [
       rests-then on x y e.core (rests-same on x y refl refl refl) (rests-put-on on y e new.0 None h here there stands new.2)
 ]
 
-rests-finds : (on : Handle) (x : Client) (e : Effect) (address : Address) (cid : ℕ) (o : Option (Handle × Channel)) → searched_by cid x ≡ o → FindsAt x address o e → Rests on x e.core
+pub rests-finds : (on : Handle) (x : Client) (e : Effect) (address : Address) (cid : ℕ) (o : Option (Handle × Channel)) → searched_by cid x ≡ o → FindsAt x address o e → Rests on x e.core
 rests-finds on x e address cid None at is = quiet-so on x e [] [] x is (rests-itself on x)
 rests-finds on x e address cid (Some (h, here)) at is = (let f = searched-is cid x h here at in rests-puts on x e address h here f.0 f.1 (circuit_to address here.priority x) is)
 
@@ -501,7 +501,7 @@ rests-heard on x c m e attached (hears.Other is does) = nothing on x e c m [] do
 
 -- ---- datagrams
 
-rests-received : (on : Handle) (x : Client) (from : Address) (m : Fields) (e : Effect) → Receives from x m e → Rests on x e.core
+pub rests-received : (on : Handle) (x : Client) (from : Address) (m : Fields) (e : Effect) → Receives from x m e → Rests on x e.core
 rests-received on x from m e (ends.Search is finds) = rests-finds on x e (found_at from m) m.p2 (searched_by m.p2 x) refl finds
 rests-received on x from m e (ends.Beacon is port does) = quiet-so on x e [] [] (beacon_heard from m x) does (rests-same on x (beacon_heard from m x) refl refl refl)
 rests-received on x from m e (ends.Other not_search not_beacon does) = quiet-so on x e [] [] x does (rests-itself on x)

@@ -116,3 +116,5 @@ pub mod AddsSaid
 pub mod HeldAdds
 pub mod LegalIdsRests
 pub mod LegalIdsCalls
+pub mod LegalIdsGiven
+pub mod LegalIdsSent
