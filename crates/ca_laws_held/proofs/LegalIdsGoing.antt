@@ -2,7 +2,8 @@
 use Rattle.std.proofs.Common.{◌≡◌, ℕ, zero, suc, ◌+◌, ◌<◌, ◌≤◌, ◌⊎◌, inl, inr, Bool, true, false, ◌&&◌, cond, eqb, List, [], ◌∷◌, ◌++◌, length, Option, Some, None, refl, sym, ap, ◌∙◌, subst, arith}
 use Rattle.std.specs.Prelude.{drop, filter, find, is_none, map, option_and_then, option_map, slice_set, unwrap_or}
 use Rattle.std.specs.List.{FoldsTo}
-use Rattle.std.proofs.lemmas.Bool.{and_parts, both_ways, eqb-true}
+use Rattle.std.proofs.lemmas.Bool.{and_parts, both_ways, eq-eqb, eqb-true}
+use Rattle.std.proofs.lemmas.List.{append-nil}
 use Rattle.ca_text.specs.Place.{At}
 use Rattle.ca_text.proofs.Places.{At-append, At-last, At-map, At-mapped, At-one, At-parts, At-set, At-snoc, At-within}
 use Rattle.ca_arena.specs.declared.handle.Handle.{Handle}
@@ -26,10 +27,12 @@ use Rattle.ca_model.specs.Speech.{Gives, Id}
 use Rattle.ca_model_client.proofs.Handles.{same-is, same-itself}
 use Rattle.ca_model_client.proofs.Standings.{found-standing, is-on, stands-as}
 use Rattle.ca_model_client.proofs.Tables.{at-find}
+use Rattle.ca_model_client.specs.Placed.{Attached}
+use Rattle.ca_laws_circuit.proofs.Marks.{at-filter}
 use Rattle.ca_model_world.specs.ClientEvents.{DownTaken, HappensAccept, HappensClear, HappensClientDatagram, HappensClientRestart, HappensClientStep, HappensCutClient, HappensDown, HappensOpen, HappensRead, HappensSubscribe, HappensUnsubscribe, HappensUp, HappensWrite, HappensWriteNotify, TicksOne, WantsFirst, about_at, after_tick, client_closed, client_ended, client_gone, client_stepped, connected_as, heard_in, left_silent, lines_of, new_circuit, sent_on}
 use Rattle.ca_model_world.specs.Events.{Event}
 use Rattle.ca_model_world.specs.Events as event
-use Rattle.ca_model_world.specs.Runs.{Happens}
+use Rattle.ca_model_world.specs.Runs.{Happens, clients_below}
 use Rattle.ca_model_world.specs.World.{ClientSide, Joined, Names, ServerSide, World, log_length, with_circuit, with_client, with_server}
 use Rattle.ca_laws_bytes.specs.Runs.{HearsSent}
 use Rattle.ca_laws_circuit.specs.Held.{has_id, is_subscribed, with_request, with_subscription}
@@ -481,3 +484,170 @@ ids-hearing w new k j x at there opened stands hears happens tells = go (connect
                   | inl own ↦ ap (λ (v : Joined). v.lists.heard) m.2 ∙ ap (λ (v : Joined). v.lists.heard) own.1
                   | inr old ↦ absurd (old.1 same)
                 ]
+
+-- ---- a circuit is made
+
+ids-accept : (Freed : (c d : Joined) → ClientSide → Fields → Id → Type 0) (w new : World) (c : ℕ) (x : ClientSide) (v : WantsFirst w x) → At w.clients c x → ClientsStand w → HappensAccept w c x v new → AllStep Freed w new
+ids-accept Freed w new c x v at stands happens = elim happens.leaves [
+  | inl refusal ↦ ids-refused Freed w new c x at (ap (λ (z : World). z.clients) refusal.1) (ap (λ (z : World). z.circuits) refusal.1)
+  | inr did ↦ λ n d at_d.
+      let on : Handle = v.v.circuit in
+      let there = wanted-there x.core v.place v.v v.at in
+      let fresh : Joined = new_circuit c x v.v.circuit v.i v.y did.0 in
+      let made : Joined = connected_as did.1 fresh in
+      let core : Client = did.3 in
+      let z : ClientSide = record x { core = core; names = x.names } in
+      let connects : ConnectsOn x.core on (Some there.0) did.1 did.2 core = subst (λ (o : Option ClientCircuit). ConnectsOn x.core on o did.1 did.2 core) (unconnected-is x.core on there.0 there.1 there.2) did.5 in
+      let b = after-sent c x.names did.2 (w.circuits ++ made ∷ []) n d (subst (λ (z : World). At z.circuits n d) did.6 at_d) in
+      let few = (stands.sound c x at).named.few in
+      let gives : (h : Handle) → Given h x.core core did.2 = λ h. given-connected h x.core on there.0 did.1 did.2 core few connects in
+      let clients : new.clients ≡ slice_set w.clients c z = ap (λ (z : World). z.clients) did.6 in
+      elim (At-snoc w.circuits made n b.0 b.1) [
+        | inl old ↦ (
+          b.0,
+          inl old,
+          ids-moved Freed w new c x z x.names did.2 at clients b.0 d b.2 (λ mine was_open. gives b.0.at_client)
+              (λ mine now_open m id held_it. inl (rests-held b.0.at_client x.core core m id
+              (rests-connected b.0.at_client x.core on there.0 did.1 did.2 core
+              (λ same. absurd (both_ways (is_none (connection_at x.core b.0.at_client)) (stands.connected n b.0 x old (subst (λ (k : ℕ). At w.clients k x) (sym mine) at) (b.2.opens now_open))
+              (subst (λ (h : Handle). is_none (connection_at x.core h) ≡ true) same (ap (λ (o : Option ClientCircuit). is_none (option_and_then (λ (d : ClientCircuit). d.connection) o)) there.1 ∙ ap is_none there.2)))) connects) held_it)),
+        )
+        | inr last ↦ (
+          b.0,
+          inr (ap (λ (y : Joined). y.lists.up) last.1 ∙ empty did.1 fresh),
+          ids-moved Freed w new c x z x.names did.2 at clients b.0 d b.2 (λ mine was_open. gives b.0.at_client)
+              (λ mine now_open m id held_it. inl (rests-held b.0.at_client x.core core m id
+              (rests-connected b.0.at_client x.core on there.0 did.1 did.2 core
+              (λ same. shut did.1 fresh (ap (λ (y : Joined). y.lists.client_open) (sym last.1) ∙ b.2.opens now_open)) connects) held_it)),
+        )
+      ]
+]
+  where
+    empty : (k : Option Closing) (n : Joined) → (connected_as k n).lists.up ≡ n.lists.up
+    empty None n = refl
+    empty (Some e) n = refl
+
+    shut : (k : Option Closing) (n : Joined) → (connected_as k n).lists.client_open ≡ true → k ≡ None
+    shut None n opened = refl
+    shut (Some e) n opened = absurd (both_ways false refl opened)
+
+-- ---- a client begins again
+
+ids-restart : (Freed : (c d : Joined) → ClientSide → Fields → Id → Type 0) (w new : World) (i : ℕ) (x : ClientSide) → At w.clients i x → HappensClientRestart w i x new → AllStep Freed w new
+ids-restart Freed w new i x at happens n d at_d =
+    let m = At-mapped (client_gone i x) w.circuits n d (subst (λ (v : World). At v.circuits n d) happens at_d) in
+    let g = gone m.0 (eqb m.0.client i) m.0.lists.client_open in
+    let end : IsEndAfter i x.names [] m.0 d =
+    end-quiet i x.names m.0 d (ap (λ (v : Joined). v.client) m.2 ∙ g.0) (ap (λ (v : Joined). v.at_client) m.2 ∙ g.1) (λ o. g.2 (ap (λ (v : Joined). v.lists.client_open) (sym m.2) ∙ o)) (ap (λ (v : Joined). v.lists.up) m.2 ∙ g.3) in (
+      m.0,
+      inl m.1,
+      ids-moved Freed w new i x _ x.names [] at (ap (λ (v : World). v.clients) happens) m.0 d end (λ mine was_open. given-nothing m.0.at_client x.core _ [] none-given)
+          (λ mine now_open f id held_it. absurd (closed m.0 (eqb m.0.client i) m.0.lists.client_open (eq-eqb m.0.client i mine) refl (ap (λ (v : Joined). v.lists.client_open) (sym m.2) ∙ now_open))),
+    )
+  where
+    left : Joined → List ℕ
+    left a = out_bytes x.core a.at_client
+
+    gone : (a : Joined) (b c : Bool) → (let d : Joined = cond (b && c) (client_closed (left a) a) a in (d.client ≡ a.client) × (d.at_client ≡ a.at_client) × (d.lists.client_open ≡ true → a.lists.client_open ≡ true) × (d.lists.up ≡ a.lists.up))
+    gone a true true = (refl, refl, λ o. absurd (both_ways false refl o), refl)
+    gone a true false = (refl, refl, λ o. o, refl)
+    gone a false c = (refl, refl, λ o. o, refl)
+
+    closed : (a : Joined) (b c : Bool) → b ≡ true → a.lists.client_open ≡ c → (cond (b && c) (client_closed (left a) a) a).lists.client_open ≡ true → ⊥
+    closed a true true mine opened o = both_ways false refl o
+    closed a true false mine opened o = both_ways a.lists.client_open opened o
+    closed a false c mine opened o = both_ways false refl mine
+
+-- ---- a moment
+
+pub ids-tick : (Freed : (c d : Joined) → ClientSide → Fields → Id → Type 0) (moment : ℕ) (w : World) (i : ℕ) (new : World) → TicksOne moment w i new → AllStep Freed w new
+ids-tick Freed moment w i new (x, at, t, sent, core, does, is) n d at_d =
+    let a = At-mapped (after_tick i t.closings) (map (sent_to i x.names sent) w.circuits) n d (subst (λ (v : World). At v.circuits n d) is at_d) in
+    let b = after-sent i x.names sent w.circuits n a.0 a.1 in
+    let g = ticked a.0 (eqb a.0.client i && a.0.lists.client_open) (left_silent t.closings a.0) in
+    let e : IsEndAfter i x.names sent b.0 a.0 = b.2 in
+    let end : IsEndAfter i x.names sent b.0 d = record {
+      client = ap (λ (v : Joined). v.client) a.2 ∙ g.0 ∙ e.client;
+      handle = ap (λ (v : Joined). v.at_client) a.2 ∙ g.1 ∙ e.handle;
+      opens = λ o. e.opens (g.2 (ap (λ (v : Joined). v.lists.client_open) (sym a.2) ∙ o));
+      up = ap (λ (v : Joined). v.lists.up) a.2 ∙ g.3 ∙ e.up;
+    } in (
+      b.0,
+      inl b.1,
+      ids-moved Freed w new i x (record x { core = core; names = x.names }) x.names sent at (ap (λ (v : World). v.clients) is) b.0 d end
+          (λ mine was_open. given-nothing b.0.at_client x.core core sent (gives-of sent (searches_made (circuits_ticked moment x.core)).sent does.1 (none-ticked moment x.core)))
+          (λ mine now_open m id held_it. inl (rests-held b.0.at_client x.core core m id
+          (subst (λ (v : Client). Rests b.0.at_client x.core v) (sym does.2) (rests-ticked b.0.at_client moment x.core
+          (λ l f there same. stays a.0 (e.client ∙ mine) (g.2 (ap (λ (v : Joined). v.lists.client_open) (sym a.2) ∙ now_open)) l f
+          (subst (λ (v : answer.Ticked). At v.closings l f) (sym does.0) there) (same ∙ sym e.handle) (ap (λ (v : Joined). v.lists.client_open) (sym a.2) ∙ now_open)))) held_it)),
+    )
+  where
+    ticked : (a : Joined) (b : Bool) (o : Option (List ℕ)) → (let d : Joined = cond b (unwrap_or (option_map (λ (left : List ℕ). client_closed left a) o) a) a in
+        (d.client ≡ a.client) × (d.at_client ≡ a.at_client) × (d.lists.client_open ≡ true → a.lists.client_open ≡ true) × (d.lists.up ≡ a.lists.up))
+    ticked a true (Some left) = (refl, refl, λ o. absurd (both_ways false refl o), refl)
+    ticked a true None = (refl, refl, λ o. o, refl)
+    ticked a false o = (refl, refl, λ o. o, refl)
+
+    -- an end that is open still was not closed
+    stays : (a : Joined) → a.client ≡ i → a.lists.client_open ≡ true → (l : ℕ) (f : Left) → At t.closings l f → f.circuit ≡ a.at_client → (after_tick i t.closings a).lists.client_open ≡ true → ⊥
+    stays a mine opened l f there same now_open =
+        let found = at-find (λ (z : Left). same_handle z.circuit a.at_client) t.closings l f there (subst (λ (h : Handle). same_handle h a.at_client ≡ true) (sym same) (same-itself a.at_client)) in
+        go found.0 (eqb a.client i) (eq-eqb a.client i mine) a.lists.client_open opened (find (λ (z : Left). same_handle z.circuit a.at_client) t.closings) found.1 now_open
+      where
+        none-some : (f : Left) → (let o : Option Left = None in o ≡ Some f) → ⊥
+        none-some f e = cc
+
+        go : (f : Left) (b : Bool) → b ≡ true → (c : Bool) → c ≡ true → (o : Option Left) → o ≡ Some f → (cond (b && c) (unwrap_or (option_map (λ (left : List ℕ). client_closed left a) (option_map (λ (z : Left). z.bytes) o)) a) a).lists.client_open ≡ true → ⊥
+        go f true p true q (Some g) r s = both_ways false refl s
+        go f true p true q None r s = none-some f r
+        go f true p false q o r s = both_ways false refl q
+        go f false p c q o r s = both_ways false refl p
+
+-- ---- every event
+
+ids-from : (Freed : (c d : Joined) → ClientSide → Fields → Id → Type 0) (w new : World) → From w new → AllStep Freed w new
+ids-from Freed w new f = ids-still Freed w new f.clients (λ n d at. (let b = f.circuits n d at in (b.0, b.1, b.2.client, b.2.handle, b.2.opens, b.2.up)))
+
+-- A moment was handed to clients, one after another.
+abbrev pub IsTicked : (w new : World) → Type 0
+IsTicked w new = (moment : ℕ) × (is : List ℕ) × (mid : World) × FoldsTo (TicksOne moment) w is mid × (new ≡ record mid { moment = moment })
+
+pub event-ids : (w new : World) (e : Event) → ClientsStand w → HearsSent w → Happens w e new → ((n : ℕ) (c : Joined) → At w.circuits n c → (d : Joined) × At new.circuits n d × ((i : ℕ) (t : Told) → At c.lists.down i t → At d.lists.down i t)) → AllStep IsFreedNow w new ⊎ IsTicked w new
+event-ids w new e s hears happens tells = go e happens
+  where
+    few : (i : ℕ) (x : ClientSide) → At w.clients i x → circuit_held.AreFew x.core
+    few i x at = (s.sound i x at).named.few
+
+    attached : (i : ℕ) (x : ClientSide) → At w.clients i x → Attached x.core
+    attached i x at = (s.sound i x at).placed.attached
+
+    nothing : (n : ℕ) (x : ClientSide) → new.clients ≡ w.clients → new.circuits ≡ w.circuits → AllStep IsFreedNow w new
+    nothing n x clients circuits = ids-still IsFreedNow w new clients (λ m d at_d. (d, subst (λ (l : List Joined). At l m d) circuits at_d, refl, refl, (λ o. o), refl))
+
+    go : (e : Event) → Happens w e new → AllStep IsFreedNow w new ⊎ IsTicked w new
+    go (event.Open i name priority) h = inl (ids-open IsFreedNow w new i h.0.x h.0.at (few i h.0.x h.0.at) (attached i h.0.x h.0.at) name priority h.1)
+    go (event.Clear i k) h = inl (ids-clear IsFreedNow w new i h.0.x h.0.at (few i h.0.x h.0.at) (attached i h.0.x h.0.at) k h.0.h h.1)
+    go (event.Read i k data_type count) h = inl (ids-read IsFreedNow w new i h.0.x h.0.at (few i h.0.x h.0.at) (attached i h.0.x h.0.at) k h.0.h data_type count h.1)
+    go (event.Write i k e) h = inl (ids-write IsFreedNow w new i h.0.x h.0.at (few i h.0.x h.0.at) (attached i h.0.x h.0.at) k h.0.h e h.1)
+    go (event.WriteNotify i k e) h = inl (ids-put IsFreedNow w new i h.0.x h.0.at (few i h.0.x h.0.at) (attached i h.0.x h.0.at) k h.0.h e h.1)
+    go (event.Subscribe i k data_type count mask) h = inl (ids-subscribe IsFreedNow w new i h.0.x h.0.at (few i h.0.x h.0.at) (attached i h.0.x h.0.at) k h.0.h data_type count mask h.1)
+    go (event.Unsubscribe i n) h = inl (ids-unsubscribe IsFreedNow w new i h.0.x h.0.at (few i h.0.x h.0.at) (attached i h.0.x h.0.at) h.0.s h.1)
+    go (event.Collect i r) h = inl (nothing i h.0.x (ap (λ (z : World). z.clients) h.1.2) (ap (λ (z : World). z.circuits) h.1.2))
+    go (event.GiveUp i r) h = inl (nothing i h.0.x (ap (λ (z : World). z.clients) h.1.2) (ap (λ (z : World). z.circuits) h.1.2))
+    go (event.ClientDatagram i from bytes) h = inl (ids-datagram IsFreedNow w new i h.0.x h.0.at (few i h.0.x h.0.at) (attached i h.0.x h.0.at) from bytes h.1)
+    go (event.ServerDatagram i from bytes) h = inl (ids-still IsFreedNow w new (ap (λ (z : World). z.clients) h.1.2) (λ m d at_d. (d, subst (λ (l : List Joined). At l m d) (ap (λ (z : World). z.circuits) h.1.2) at_d, refl, refl, (λ o. o), refl)))
+    go (event.Accept i) h = inl (ids-accept IsFreedNow w new i h.0.x h.0.v h.0.at s h.1)
+    go (event.Up k n) h = inl ((let c = h.0.0 in ids-up IsFreedNow w new k c.j c.x c.joins.at c.joins.client n c.y h.1))
+    go (event.Down k n) h = inl ((let c = h.0.0 in ids-down IsFreedNow w new k c.j c.x c.joins.at c.joins.client n c.y h.1))
+    go (event.ServerStep k) h = inl ((let c = h.0 in ids-from IsFreedNow w new (from-server-step w w new k c.j c.y c.joins.at (from-itself w) h.1)))
+    go (event.ClientStep k) h = inl ((let c = h.0 in ids-hearing w new k c.j c.x c.joins.at c.joins.client c.is_open s hears h.1 tells))
+    go (event.Pump k) h = inl ((let c = h.0 in ids-from IsFreedNow w new (from-pump w w new k c.j c.y c.joins.at (from-itself w) h.1)))
+    go (event.CutClient k) h = inl ((let c = h.0 in ids-cut IsFreedNow w new k c.j c.x c.joins.at c.joins.client s c.is_open h.1))
+    go (event.CutServer k) h = inl ((let c = h.0 in ids-from IsFreedNow w new (from-cut-server w w new k c.j c.y c.joins.at (from-itself w) h.1)))
+    go (event.ClientRestart i) h = inl (ids-restart IsFreedNow w new i h.0.x h.0.at h.1)
+    go (event.ServerRestart i) h = inl (ids-from IsFreedNow w new (from-server-restart w w new i h.0.y (from-itself w) h.1))
+    go (event.Post i name e mask) h = inl (ids-from IsFreedNow w new (from-post w w new i h.0.y (from-itself w) name e mask h.1))
+    go (event.Finish i name) h = inl (ids-from IsFreedNow w new (from-finish w w new i h.0.y (from-itself w) name h.1))
+    go (event.Remove i name) h = inl (ids-from IsFreedNow w new (from-remove w w new i h.0.y (from-itself w) name h.1))
+    go (event.Add i r) h = inl (ids-from IsFreedNow w new (from-add w w new i h.0.y (from-itself w) r h.1))
+    go (event.Tick moment) h = inr (moment, clients_below (length w.clients), h.1.0, h.1.1, h.1.2)

@@ -118,3 +118,4 @@ pub mod LegalIdsRests
 pub mod LegalIdsCalls
 pub mod LegalIdsGiven
 pub mod LegalIdsSent
+pub mod LegalIdsGoing
