@@ -119,3 +119,5 @@ pub mod LegalIdsCalls
 pub mod LegalIdsGiven
 pub mod LegalIdsSent
 pub mod LegalIdsGoing
+pub mod LegalIdsFreed
+pub mod LegalIds
