@@ -18,3 +18,4 @@ pub mod LegalParts
 pub mod ToldParts
 pub mod Anew
 pub mod LegalAnew
+pub mod LegalIds

@@ -7,6 +7,7 @@
 mod cause_laws;
 mod complete_laws;
 mod heard_laws;
+mod id_laws;
 mod laws;
 mod legal_laws;
 mod once_laws;
@@ -25,6 +26,7 @@ pub use heard_laws::{
     each_notice_tells_of_its_own_message, what_is_held_by_what_servers_take,
     what_is_read_is_about_what_it_finds, what_was_sent_is_as_channels_are,
 };
+pub use id_laws::clients_give_free_ids;
 pub use laws::{
     all_circuits_are_held, clients_go_by_their_sids, messages_mean_their_own,
     what_clients_take_is_told_of_its_own, what_servers_take_is_handled_as_it_was_meant,
