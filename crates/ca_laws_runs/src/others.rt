@@ -1,7 +1,6 @@
 ghost use Rattle.std.specs.Prelude.{◌<◌, List, Option, length, ℕ};
 ghost use Rattle.ca_text.specs.Place.{At};
 ghost use Rattle.ca_dbr.specs.Elements.{Elements};
-ghost use Rattle.ca_dbr.specs.declared.value.Outcome.{Outcome};
 ghost use Rattle.ca_records.specs.Record.{RecordState};
 ghost use Rattle.ca_model.specs.Ends.{Address};
 ghost use Rattle.ca_model.specs.History.{Intent, Line};
@@ -19,7 +18,7 @@ pub fn quiet_events_keep_each_circuit()
         (priority : ℕ) → At w.clients i x → ClientsStand w → HappensOpen w i x name priority new
         → HeldAt kept w k → HeldAt kept new k }
     ensures handed_out { (kept : List ℕ) (w new : World) (k : ℕ) (x : ClientSide) (number : ℕ)
-        (meant : Intent) (line : Option Outcome → Line)
+        (meant : Intent) (line : Option ℕ → Line)
         → HappensHandingOut w x number meant line new → HeldAt kept w k → HeldAt kept new k }
     ensures post { (kept : List ℕ) (w new : World) (i k : ℕ) (y : ServerSide) (name : List ℕ)
         (e : Elements) (mask : ℕ) → HappensPost w i y name e mask new → HeldAt kept w k
