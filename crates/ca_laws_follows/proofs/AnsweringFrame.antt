@@ -21,7 +21,7 @@ use Rattle.ca_laws_follows.proofs.Known.{grows-le, longer-le}
 
 -- ---- beginnings
 
-grows-take : {A : Type 0} (n : ℕ) (xs ys : List A) → Grows xs ys → n ≤ length xs → take n ys ≡ take n xs
+pub grows-take : {A : Type 0} (n : ℕ) (xs ys : List A) → Grows xs ys → n ≤ length xs → take n ys ≡ take n xs
 grows-take zero xs ys grows le = refl
 grows-take (suc n) [] ys grows le = absurd (omega (arith, le))
 grows-take (suc n) (x ∷ xs) [] grows le = absurd (none_at 0 x (grows 0 x refl))

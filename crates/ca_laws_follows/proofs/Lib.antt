@@ -52,3 +52,8 @@ pub mod LiveRead
 pub mod ActsWhole
 pub mod KnewFull
 pub mod LegalCut
+pub mod FaceCalls
+pub mod FaceEvents
+pub mod FaceDue
+pub mod FaceLists
+pub mod FaceRuns
