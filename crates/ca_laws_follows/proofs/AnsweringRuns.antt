@@ -61,6 +61,9 @@ use Rattle.ca_laws_follows.proofs.CausingEvents.{Nothing-new, Ready, steady-of}
 use Rattle.ca_laws_follows.proofs.CausingFrame.{Back, FinishNews, IsStill, News, PumpNews, RemoveNews, Says, Takes, back-frame, finish-back, pump-back, removed-back, step-back, still-back, unhandled-back}
 use Rattle.ca_laws_follows.proofs.CausingKeeps.{Steady}
 use Rattle.ca_laws_follows.proofs.CausingRuns.{ready}
+use Rattle.ca_laws_follows.specs.KnewFaces.{IsFace, face_of}
+use Rattle.ca_laws_follows.proofs.FaceRuns.{run-know-faces}
+use Rattle.ca_laws_follows.proofs.KnewFull.{run-know-full}
 use Rattle.ca_laws_follows.proofs.KnewListsRuns.{run-know-channels, run-know-keys}
 use Rattle.ca_laws_follows.proofs.KnewRecords.{run-records}
 use Rattle.ca_laws_follows.proofs.LoggedStep.{told-logs}
@@ -77,9 +80,17 @@ AllKnow w = (n : ℕ) (c : Joined) (y : ServerSide) (e : ServerEnd) (log : List 
 run-know : (s : Setting) (es : List Event) (stopped : Option Event) (w : World) → IsSetting s → Runs s es stopped w → AllKnow w
 run-know s es stopped w ok runs n c y e log at there opened has logged = record {
   records = λ name. run-records s es stopped w ok runs c.server y e log name there logged;
+  greeted = face.greeted;
+  user = face.user;
+  host = face.host;
+  settled = face.settled;
   channels = run-know-channels s es stopped w ok runs n c y e log at there opened has logged;
+  full = run-know-full s es stopped w ok runs n c y e at there opened has;
   keys = run-know-keys s es stopped w ok runs n c y e log at there opened has logged;
 }
+  where
+    face : IsFace (as_known c.lists) (face_of e)
+    face = run-know-faces s es stopped w ok runs n c y e at there opened has
 
 -- a write came on this circuit, which joins this life of a server
 pub record CameSome (circuits : List Joined) (life : ℕ) (p : PutPlace) : Type 0 where
