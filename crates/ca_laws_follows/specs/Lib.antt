@@ -20,3 +20,4 @@ pub mod LiveRead
 pub mod Whole
 pub mod KnewFull
 pub mod KnewFaces
+pub mod Given
