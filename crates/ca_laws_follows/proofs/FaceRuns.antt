@@ -30,6 +30,7 @@ use Rattle.ca_laws_kept.specs.Later.{IsLater, stamped_told}
 use Rattle.ca_laws_kept.proofs.Updates.{stamps-later}
 use Rattle.ca_laws_held.proofs.CauseKeeps.{handled-or}
 use Rattle.ca_laws_held.proofs.StepWhole.{run-serves, takes-next}
+use Rattle.ca_laws_writes.specs.Moves.{Writes}
 use Rattle.ca_laws_writes.specs.Moves as moves
 use Rattle.ca_laws_writes.proofs.Events.{numbered-at}
 use Rattle.ca_laws_writes.proofs.Every.{ticks-frame}
@@ -42,6 +43,7 @@ use Rattle.ca_laws_writes.proofs.LastingAll.{OnStep, event-by}
 use Rattle.ca_laws_writes.proofs.Lists.{none_at, take-front, take-whole}
 use Rattle.ca_laws_writes.proofs.Moves.{same-or}
 use Rattle.ca_laws_writes.proofs.Waited.{numbers-after-same}
+use Rattle.ca_laws_follows.specs.Given.{OfOneServer}
 use Rattle.ca_laws_follows.specs.KnewFaces.{Face, IsFace, KeepSettings, KnowFaces, face_of}
 use Rattle.ca_laws_follows.specs.KnewLists.{as_known}
 use Rattle.ca_laws_follows.proofs.AnsweringFrame.{step-lists, step-of}
@@ -140,6 +142,25 @@ module _ (s : Setting) (w new : World) (ready : Ready s w) (know : KnowFaces w) 
       let b = back n d at in
       on-faces F n b.0 d (face_of f) b.1 b.2 (quiet n) (seats-from s w new e ready happens n d z f at there opened has) ((faced d.server z there).0.ends d.at_server f has)
 
+-- Each circuit was there, of the same server and of the same life of it; or it joins the present life of a server.
+abbrev pub Origins : World → World → Type 0
+Origins w new = (n : ℕ) (d : Joined) → At new.circuits n d → ((c : Joined) × At w.circuits n c × (d.server ≡ c.server) × (d.lists.server ≡ c.lists.server))
+    ⊎ ((i : ℕ) × (y : ServerSide) × At w.servers i y × (d.server ≡ i) × (d.lists.server ≡ y.life))
+
+-- What an event leaves of servers: their settings, what they know of their peers, their lives, and which circuits join these.
+pub record Leaving (w new : World) : Type 0 where
+  pub settings : KeepSettings new
+  pub faces : KnowFaces new
+  pub lives : (i : ℕ) (z : ServerSide) → At new.servers i z → Lived w i z.life
+  pub origins : Origins w new
+
+back-origins : (F : ℕ → News → Type 0) (w new : World) → Back F w new → Origins w new
+back-origins F w new back n d at = (let c = back n d at in inl (c.0, c.1, c.2.server, c.2.life))
+
+same-leaving : (w new : World) → new ≡ w → KeepSettings w → KnowFaces w → Leaving w new
+same-leaving w new is keep know =
+    subst (λ (z : World). Leaving w z) (sym is) (record { settings = keep; faces = know; lives = λ i z at. inl (z, at, refl); origins = λ n d at. inl (d, at, refl, refl) })
+
 -- ---- what is sent creates no channel
 
 nothing-quiet : (l : ℕ) → IsQuietBy Nothing-new l
@@ -192,8 +213,13 @@ finish-quiet w i y name new f l = record {
 -- ---- a message is handled
 
 step-faces : (s : Setting) (w new : World) (k : ℕ) (j : Joined) (y : ServerSide) → At w.circuits k j → At w.servers j.server y → j.lists.server_open ≡ true → (f : StepHandles w k j y new) → Happens w (event.ServerStep k) new → Ready s w → KeepSettings w → KnowFaces w
-    → KeepSettings new × KnowFaces new
-step-faces s w new k j y on at_y opened_j f happens ready keep know = ((λ i z at. ((faced i z at).0.port, (faced i z at).0.rules)), knows_new)
+    → Leaving w new
+step-faces s w new k j y on at_y opened_j f happens ready keep know = record {
+  settings = λ i z at. ((faced i z at).0.port, (faced i z at).0.rules);
+  faces = knows_new;
+  lives = λ i z at. (faced i z at).1;
+  origins = back-origins _ w new (step-back w new k j y on f);
+}
   where
     own : ServerEnd
     own = (f.steps.0).handles.acted
@@ -268,29 +294,8 @@ step-faces s w new k j y on at_y opened_j f happens ready keep know = ((λ i z a
 abbrev Accepted : World → ℕ → Handle → Face → Type 0
 Accepted w i h f = Was w i h f ⊎ ((f ≡ blank) × (y : ServerSide) × At w.servers i y × MayGive y.core.circuits h)
 
-accept-faces : (s : Setting) (w new : World) (i : ℕ) (x : ClientSide) (v : WantsFirst w x) → Happens w (event.Accept i) new → HappensAccept w i x v new → Ready s w → KeepSettings w → KnowFaces w → KeepSettings new × KnowFaces new
-accept-faces s w new i x v happens f ready keep know = ((λ i z at. ((faced i z at).0.port, (faced i z at).0.rules)), elim f.leaves [
-  | inl full ↦ subst (λ (z : World). KnowFaces z) (sym full.1) know
-  | inr made ↦
-      let c : Joined = connected_as made.1 (new_circuit i x v.v.circuit v.i v.y made.0) in
-      let mid : World = record w { servers = slice_set w.servers v.i (record v.y { core = f.server }); circuits = w.circuits ++ c ∷ [] } in
-      let g : Frame mid new = sent-frame mid new i x.names made.2 (ap (λ (z : World). z.servers) made.6) (ap (λ (z : World). z.server_logs) made.6) (ap (λ (z : World). z.circuits) made.6) in
-      λ n d z e at there opened has.
-      let b = back-frame Nothing-new mid new g n d at in
-      let seat = seats-from s w new (event.Accept i) ready happens n d z e at there opened has in
-      let q = (faced d.server z there).0.ends d.at_server e has in
-      elim (At-snoc w.circuits c n b.0 b.1) [
-        | inl old ↦ on-faces s w new ready know Nothing-new n b.0 d (face_of e) old b.2 (nothing-quiet n) seat (was n d b.0 old (face_of e) seat q)
-        | inr last ↦
-            let c' = g.back n d at in
-            let is_c : c'.0 ≡ c = At-one mid.circuits n c'.0 b.0 c'.1 b.1 ∙ last.1 in
-            let server : d.server ≡ v.i = c'.2.later.server ∙ ap (λ (z : Joined). z.server) is_c ∙ at_server made.1 made.0 in
-            let handle : d.at_server ≡ made.0 = c'.2.later.handle ∙ ap (λ (z : Joined). z.at_server) is_c ∙ by_handle made.1 made.0 in
-            let accepts : Accepts v.y.core (Ok made.0) f.server = subst (λ (a : Result Handle Refusal). Accepts v.y.core a f.server) made.4 f.accepts in
-            subst (λ (p : Face). IsFace (as_known d.lists) p) (sym (first d (face_of e) made.0 server handle accepts.0 q))
-            (blank-face d.lists (c'.2.handled ∙ ap (λ (z : Joined). z.lists.handled) is_c ∙ empty made.1 made.0) (c'.2.down ∙ ap (λ (z : Joined). z.lists.down) is_c ∙ silent made.1 made.0))
-      ]
-])
+accept-faces : (s : Setting) (w new : World) (i : ℕ) (x : ClientSide) (v : WantsFirst w x) → Happens w (event.Accept i) new → HappensAccept w i x v new → Ready s w → KeepSettings w → KnowFaces w → Leaving w new
+accept-faces s w new i x v happens f ready keep know = record { settings = λ i z at. ((faced i z at).0.port, (faced i z at).0.rules); faces = knows; lives = λ i z at. (faced i z at).1; origins = origins }
   where
     faced : AreFaced (Accepted w) (Lived w) new
     faced =
@@ -329,40 +334,89 @@ accept-faces s w new i x v happens f ready keep know = ((λ i z at. ((faced i z 
         let same : y ≡ v.y = At-one w.servers v.i y v.y (subst (λ (m : ℕ). At w.servers m y) server there) v.there.0 in
         absurd (given-free v.y.core.circuits h (Open e) may (subst (λ (r : ServerSide × Handle). HasEnd r.0.core r.1 e) (λ q. (same q, handle q)) has))
 
+    of_life : (o : Option Closing) (g : Handle) → (connected_as o (new_circuit i x v.v.circuit v.i v.y g)).lists.server ≡ v.y.life
+    of_life None g = refl
+    of_life (Some k) g = refl
+
+    origins : Origins w new
+    origins = elim f.leaves [
+      | inl full ↦ subst (λ (z : World). Origins w z) (sym full.1) (λ n d at. inl (d, at, refl, refl))
+      | inr made ↦
+          let c : Joined = connected_as made.1 (new_circuit i x v.v.circuit v.i v.y made.0) in
+          let mid : World = record w { servers = slice_set w.servers v.i (record v.y { core = f.server }); circuits = w.circuits ++ c ∷ [] } in
+          let g : Frame mid new = sent-frame mid new i x.names made.2 (ap (λ (z : World). z.servers) made.6) (ap (λ (z : World). z.server_logs) made.6) (ap (λ (z : World). z.circuits) made.6) in
+          λ n d at.
+          let b = g.back n d at in
+          elim (At-snoc w.circuits c n b.0 b.1) [
+            | inl old ↦ inl (b.0, old, b.2.later.server, b.2.later.life)
+            | inr last ↦
+                inr (v.i, v.y, v.there.0, b.2.later.server ∙ ap (λ (z : Joined). z.server) last.1 ∙ at_server made.1 made.0, b.2.later.life ∙ ap (λ (z : Joined). z.lists.server) last.1 ∙ of_life made.1 made.0)
+          ]
+    ]
+
+    knows : KnowFaces new
+    knows = elim f.leaves [
+      | inl full ↦ subst (λ (z : World). KnowFaces z) (sym full.1) know
+      | inr made ↦
+          let c : Joined = connected_as made.1 (new_circuit i x v.v.circuit v.i v.y made.0) in
+          let mid : World = record w { servers = slice_set w.servers v.i (record v.y { core = f.server }); circuits = w.circuits ++ c ∷ [] } in
+          let g : Frame mid new = sent-frame mid new i x.names made.2 (ap (λ (z : World). z.servers) made.6) (ap (λ (z : World). z.server_logs) made.6) (ap (λ (z : World). z.circuits) made.6) in
+          λ n d z e at there opened has.
+          let b = back-frame Nothing-new mid new g n d at in
+          let seat = seats-from s w new (event.Accept i) ready happens n d z e at there opened has in
+          let q = (faced d.server z there).0.ends d.at_server e has in
+          elim (At-snoc w.circuits c n b.0 b.1) [
+            | inl old ↦ on-faces s w new ready know Nothing-new n b.0 d (face_of e) old b.2 (nothing-quiet n) seat (was n d b.0 old (face_of e) seat q)
+            | inr last ↦
+                let c' = g.back n d at in
+                let is_c : c'.0 ≡ c = At-one mid.circuits n c'.0 b.0 c'.1 b.1 ∙ last.1 in
+                let server : d.server ≡ v.i = c'.2.later.server ∙ ap (λ (z : Joined). z.server) is_c ∙ at_server made.1 made.0 in
+                let handle : d.at_server ≡ made.0 = c'.2.later.handle ∙ ap (λ (z : Joined). z.at_server) is_c ∙ by_handle made.1 made.0 in
+                let accepts : Accepts v.y.core (Ok made.0) f.server = subst (λ (a : Result Handle Refusal). Accepts v.y.core a f.server) made.4 f.accepts in
+                subst (λ (p : Face). IsFace (as_known d.lists) p) (sym (first d (face_of e) made.0 server handle accepts.0 q))
+                (blank-face d.lists (c'.2.handled ∙ ap (λ (z : Joined). z.lists.handled) is_c ∙ empty made.1 made.0) (c'.2.down ∙ ap (λ (z : Joined). z.lists.down) is_c ∙ silent made.1 made.0))
+          ]
+    ]
+
 -- ---- every event
 
-event-faces : (s : Setting) (w new : World) (e : Event) → Ready s w → Happens w e new → KeepSettings w × KnowFaces w → KeepSettings new × KnowFaces new
-event-faces s w new e ready happens (keep, know) = go e happens
+pub event-leaving : (s : Setting) (w new : World) (e : Event) → Ready s w → Happens w e new → KeepSettings w → KnowFaces w → Leaving w new
+event-leaving s w new e ready happens keep know = go e happens
   where
     -- an event at which no message is handled, and no circuit made
-    other : (e : Event) → Happens w e new → AreFaced (Was w) (Lived w) new → (F : ℕ → News → Type 0) → Back F w new → ((l : ℕ) → IsQuietBy F l) → KeepSettings new × KnowFaces new
-    other e happens faced F back quiet = ((λ i z at. ((faced i z at).0.port, (faced i z at).0.rules)), back-faces s w new ready know e happens F back quiet faced)
+    other : (e : Event) → Happens w e new → AreFaced (Was w) (Lived w) new → (F : ℕ → News → Type 0) → Back F w new → ((l : ℕ) → IsQuietBy F l) → Leaving w new
+    other e happens faced F back quiet = record {
+      settings = λ i z at. ((faced i z at).0.port, (faced i z at).0.rules);
+      faces = back-faces s w new ready know e happens F back quiet faced;
+      lives = λ i z at. (faced i z at).1;
+      origins = back-origins F w new back;
+    }
 
-    still : (e : Event) → IsStill e → Calm (Was w) (Lived w) w e → Happens w e new → KeepSettings new × KnowFaces new
+    still : (e : Event) → IsStill e → Calm (Was w) (Lived w) w e → Happens w e new → Leaving w new
     still e quiet calm happens = other e happens (event-faced (Was w) (Lived w) w (are-faced w keep) new e calm happens) Nothing-new (still-back Nothing-new w new e quiet happens) nothing-quiet
 
-    stepped-by : (k : ℕ) (h : Happens w (event.ServerStep k) new) → KeepSettings new × KnowFaces new
+    stepped-by : (k : ℕ) (h : Happens w (event.ServerStep k) new) → Leaving w new
     stepped-by k (at, (did, f)) = elim (handled-or did) [
       | inl is ↦ step-faces s w new k at.j at.y at.joins.at at.joins.server at.is_open (subst (λ (x : Stepped). ServerStepped w k at.j at.y x new) is f) (at, (did, f)) ready keep know
       | inr none ↦
           other (event.ServerStep k) (at, (did, f)) (unhandled-faced (Was w) (Lived w) w (are-faced w keep) new k at.j at.y at.joins.server did none f) Nothing-new (unhandled-back Nothing-new w new k at.j at.y did at.joins.at none f) nothing-quiet
     ]
 
-    same : new ≡ w → KeepSettings new × KnowFaces new
-    same is = subst (λ (z : World). KeepSettings z × KnowFaces z) (sym is) (keep, know)
+    same : new ≡ w → Leaving w new
+    same is = same-leaving w new is keep know
 
-    finished : (i : ℕ) (name : List ℕ) (y : ServerSide) → Happens w (event.Finish i name) new → HappensFinish w i y name new → KeepSettings new × KnowFaces new
+    finished : (i : ℕ) (name : List ℕ) (y : ServerSide) → Happens w (event.Finish i name) new → HappensFinish w i y name new → Leaving w new
     finished i name y h (inl f) =
         other (event.Finish i name) h (event-faced (Was w) (Lived w) w (are-faced w keep) new (event.Finish i name) tt h) (FinishNews f.p.circuit f.p.place (map (λ (x : Handle × Fields). x.1) f.sent)) (finish-back w new i y name f) (finish-quiet w i y name new f)
     finished i name y h (inr refused) = same refused.2
 
-    removed : (i : ℕ) (name : List ℕ) (y : ServerSide) → Happens w (event.Remove i name) new → HappensRemove w i y name new → KeepSettings new × KnowFaces new
+    removed : (i : ℕ) (name : List ℕ) (y : ServerSide) → Happens w (event.Remove i name) new → HappensRemove w i y name new → Leaving w new
     removed i name y h (gone, left, core, inl (removes, is)) =
         other (event.Remove i name) h (event-faced (Was w) (Lived w) w (are-faced w keep) new (event.Remove i name) tt h) (RemoveNews w i y.core name gone left)
         (subst (λ (z : World). Back (RemoveNews w i y.core name gone left) w z) (sym is) (removed-back w i y name gone left core)) (remove-quiet w i y.core name gone left)
     removed i name y h (gone, left, core, inr (removes, is)) = same is
 
-    go : (e : Event) → Happens w e new → KeepSettings new × KnowFaces new
+    go : (e : Event) → Happens w e new → Leaving w new
     go (event.Accept i) h = accept-faces s w new i h.0.x h.0.v h h.1 ready keep know
     go (event.ServerStep k) h = stepped-by k h
     go (event.Pump k) h =
@@ -396,34 +450,84 @@ event-faces s w new e ready happens (keep, know) = go e happens
 opening-settings : (s : Setting) → KeepSettings (opening s)
 opening-settings s i y at = (let g = numbered-at (server_begun 0) s.servers 0 i y at in subst (λ (z : ServerSide). (z.core.port ≡ z.setting.address.port) × (z.core.rules ≡ z.setting.rules)) (sym g.2) (refl, refl))
 
-events-faces : (s : Setting) (ok : IsSetting s) (done es : List Event) (w new : World) → FoldsTo Happens (opening s) done w → FoldsTo Happens w es new → KeepSettings w × KnowFaces w → KeepSettings new × KnowFaces new
-events-faces s ok done [] w new before same h = subst (λ (z : World). KeepSettings z × KnowFaces z) same h
-events-faces s ok done (e ∷ es) w new before (mid, one, rest) h =
-    events-faces s ok (done ++ e ∷ []) es mid new (folds-snoc done (opening s) w mid e before one) rest (event-faces s w mid e (ready s done None w ok (w, before, refl)) one h)
+opening-one : (s : Setting) → OfOneServer (opening s)
+opening-one s = record { present = λ n i c y at. absurd (none_at n c at); joined = λ n m c d at. absurd (none_at n c at) }
 
-stops-faces : (s : Setting) (mid : World) (stopped : Option Event) (w : World) → Ready s mid → StopsAt mid stopped w → KeepSettings mid × KnowFaces mid → KeepSettings w × KnowFaces w
-stops-faces s mid (Some (event.Tick moment)) w ready stops (keep, know) = elim stops [
-  | inl same ↦ subst (λ (z : World). KeepSettings z × KnowFaces z) (sym same) (keep, know)
+-- a circuit that was there is of one of the lives that were
+one-on : (s : Setting) (w new : World) → Ready s w → Leaving w new → OfOneServer w → OfOneServer new
+one-on s w new ready leaving one = record {
+  present = λ n i d z at there life. elim (leaving.origins n d at) [
+    | inl old ↦ elim (leaving.lives i z there) [
+      | inl was ↦ old.2 ∙ one.present n i old.0 was.0 old.1 was.1 (sym old.3 ∙ life ∙ was.2)
+      | inr fresh ↦ absurd (late old.0 n old.1 (sym old.3 ∙ life ∙ fresh))
+    ]
+    | inr new_it ↦ elim (leaving.lives i z there) [
+      | inl was ↦ new_it.3 ∙ writes.apart new_it.0 i new_it.1 was.0 new_it.2 was.1 (sym new_it.4 ∙ life ∙ was.2)
+      | inr fresh ↦ absurd (early new_it.0 new_it.1 new_it.2 (sym new_it.4 ∙ life ∙ fresh))
+    ]
+  ];
+  joined = λ n m c d at there life. elim (leaving.origins n c at) [
+    | inl old ↦ elim (leaving.origins m d there) [
+      | inl was ↦ old.2 ∙ one.joined n m old.0 was.0 old.1 was.1 (sym old.3 ∙ life ∙ was.3) ∙ sym was.2
+      | inr new_it ↦ old.2 ∙ one.present n new_it.0 old.0 new_it.1 old.1 new_it.2 (sym old.3 ∙ life ∙ new_it.4) ∙ sym new_it.3
+    ]
+    | inr new_it ↦ elim (leaving.origins m d there) [
+      | inl was ↦ new_it.3 ∙ sym (one.present m new_it.0 was.0 new_it.1 was.1 new_it.2 (sym was.3 ∙ sym life ∙ new_it.4)) ∙ sym was.2
+      | inr other ↦ new_it.3 ∙ writes.apart new_it.0 other.0 new_it.1 other.1 new_it.2 other.2 (sym new_it.4 ∙ life ∙ other.4) ∙ sym other.3
+    ]
+  ];
+}
+  where
+    writes : Writes w
+    writes = ready.serves.stands.sound.writes
+
+    late : (c : Joined) (n : ℕ) → At w.circuits n c → c.lists.server ≡ length w.server_logs → ⊥
+    late c n at is = (let log = logs-there s w ready.serves.stands.sound n c at in let lt : c.lists.server < length w.server_logs = At-within w.server_logs c.lists.server log.0 log.1 in omega (arith, lt, is))
+
+    early : (i : ℕ) (y : ServerSide) → At w.servers i y → y.life ≡ length w.server_logs → ⊥
+    early i y at is = (let own = writes.lives i y at in let lt : y.life < length w.server_logs = At-within w.server_logs y.life own.log own.at in omega (arith, lt, is))
+
+-- all of this
+pub record FacesStand (w : World) : Type 0 where
+  pub settings : KeepSettings w
+  pub faces : KnowFaces w
+  pub one : OfOneServer w
+
+events-faces : (s : Setting) (ok : IsSetting s) (done es : List Event) (w new : World) → FoldsTo Happens (opening s) done w → FoldsTo Happens w es new → FacesStand w → FacesStand new
+events-faces s ok done [] w new before same h = subst (λ (z : World). FacesStand z) same h
+events-faces s ok done (e ∷ es) w new before (mid, one, rest) h =
+    let at_w : Ready s w = ready s done None w ok (w, before, refl) in
+    let l : Leaving w mid = event-leaving s w mid e at_w one h.settings h.faces in
+    events-faces s ok (done ++ e ∷ []) es mid new (folds-snoc done (opening s) w mid e before one) rest (record { settings = l.settings; faces = l.faces; one = one-on s w mid at_w l h.one })
+
+stops-faces : (s : Setting) (mid : World) (stopped : Option Event) (w : World) → Ready s mid → StopsAt mid stopped w → FacesStand mid → FacesStand w
+stops-faces s mid (Some (event.Tick moment)) w r stops h = elim stops [
+  | inl same ↦ subst (λ (z : World). FacesStand z) (sym same) h
   | inr ticked ↦
-      let g : Frame mid w = ticks-frame moment mid (clients_below ticked.0) w ticked.3 in (
-        λ i y at. keep i y (subst (λ (l : List ServerSide). At l i y) g.servers at),
-        λ n d y e at there opened has.
+      let g : Frame mid w = ticks-frame moment mid (clients_below ticked.0) w ticked.3 in
+      let l : Leaving mid w = record {
+        settings = λ i y at. h.settings i y (subst (λ (l : List ServerSide). At l i y) g.servers at);
+        faces = λ n d y e at there opened has.
             let c = g.back n d at in
             let b = back-frame Nothing-new mid w g n d at in
             let same : b.0 ≡ c.0 = At-one mid.circuits n b.0 c.0 b.1 c.1 in
-            let log = logs-there s mid ready.serves.stands.sound n c.0 c.1 in
-            quiet-on Nothing-new n log.0 c.0 d (face_of e) (steady-of s mid ready n c.0 log.0 c.1 log.1) (subst (λ (z : Joined). Onward Nothing-new n z d) same b.2) (nothing-quiet n)
-            (know n c.0 y e c.1 (subst (λ (m : ℕ). At mid.servers m y) c.2.later.server (subst (λ (l : List ServerSide). At l d.server y) g.servers there)) (sym c.2.is_open ∙ opened) (subst (λ (h : Handle). HasEnd y.core h e) c.2.later.handle has)),
-      )
+            let log = logs-there s mid r.serves.stands.sound n c.0 c.1 in
+            quiet-on Nothing-new n log.0 c.0 d (face_of e) (steady-of s mid r n c.0 log.0 c.1 log.1) (subst (λ (z : Joined). Onward Nothing-new n z d) same b.2) (nothing-quiet n)
+            (h.faces n c.0 y e c.1 (subst (λ (m : ℕ). At mid.servers m y) c.2.later.server (subst (λ (l : List ServerSide). At l d.server y) g.servers there)) (sym c.2.is_open ∙ opened) (subst (λ (x : Handle). HasEnd y.core x e) c.2.later.handle has));
+        lives = λ i z at. inl (z, subst (λ (l : List ServerSide). At l i z) g.servers at, refl);
+        origins = back-origins Nothing-new mid w (back-frame Nothing-new mid w g);
+      } in
+      record { settings = l.settings; faces = l.faces; one = one-on s mid w r l h.one }
 ]
-stops-faces s mid stopped w ready stops h = subst (λ (z : World). KeepSettings z × KnowFaces z) (sym stops) h
+stops-faces s mid stopped w r stops h = subst (λ (z : World). FacesStand z) (sym stops) h
 
-run-faces : (s : Setting) (es : List Event) (stopped : Option Event) (w : World) → IsSetting s → Runs s es stopped w → KeepSettings w × KnowFaces w
+pub run-faces : (s : Setting) (es : List Event) (stopped : Option Event) (w : World) → IsSetting s → Runs s es stopped w → FacesStand w
 run-faces s es stopped w ok (mid, folds, stops) =
-    stops-faces s mid stopped w (ready s es None mid ok (mid, folds, refl)) stops (events-faces s ok [] es (opening s) mid refl folds (opening-settings s, (λ n c y e at. absurd (none_at n c at))))
+    stops-faces s mid stopped w (ready s es None mid ok (mid, folds, refl)) stops
+    (events-faces s ok [] es (opening s) mid refl folds (record { settings = opening-settings s; faces = λ n c y e at. absurd (none_at n c at); one = opening-one s }))
 
 pub run-know-faces : (s : Setting) (es : List Event) (stopped : Option Event) (w : World) → IsSetting s → Runs s es stopped w → KnowFaces w
-run-know-faces s es stopped w ok runs = (run-faces s es stopped w ok runs).1
+run-know-faces s es stopped w ok runs = (run-faces s es stopped w ok runs).faces
 
 pub run-settings : (s : Setting) (es : List Event) (stopped : Option Event) (w : World) → IsSetting s → Runs s es stopped w → KeepSettings w
-run-settings s es stopped w ok runs = (run-faces s es stopped w ok runs).0
+run-settings s es stopped w ok runs = (run-faces s es stopped w ok runs).settings
