@@ -57,3 +57,4 @@ pub mod FaceEvents
 pub mod FaceDue
 pub mod FaceLists
 pub mod FaceRuns
+pub mod ServersStay

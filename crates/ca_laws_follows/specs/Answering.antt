@@ -11,7 +11,8 @@ use Rattle.ca_model.specs.History.{Circuit, Entry, Finished, Line, Sent, Step, W
 use Rattle.ca_model.specs.Speech.{In, Is, sid_in}
 use Rattle.ca_model_safe.specs.Channels.{IsFinished, IsReply, IsUncleared, OfCircuits, before}
 use Rattle.ca_model_safe.specs.Known.{AreJust, IsChannel, IsFull, IsKey, IsLogged, IsRecordOf, NamesItself, has_created}
-use Rattle.ca_model_world.specs.World.{World, told}
+use Rattle.ca_model_world.specs.World.{Setting, World, told}
+use Rattle.ca_laws_follows.specs.Given.{IsGiven}
 
 -- What a server knows of its records, of its peer on a circuit, of the open channels there and of its subscriptions is what these lists and
 -- this log say: all of what a server knew, but for its port and its rules.
@@ -63,6 +64,10 @@ IsLate n c y k m =
 -- And every other reply about it is late.
 abbrev pub AnsweredAt : (n : ℕ) → Circuit → List Entry → (k : ℕ) → Step → Type 0
 AnsweredAt n c y k h = (a : IsAnswered n c y k h) × ((j : ℕ) (m : Fields) → IsReply c k j m → (j < h.sent + length a.replies) ⊎ IsLate n c y k m)
+
+-- So it is, and the server went by what server i was given.
+abbrev pub AnsweredBy : Setting → (i n : ℕ) → Circuit → List Entry → (k : ℕ) → Step → Type 0
+AnsweredBy s i n c y k h = (a : AnsweredAt n c y k h) × IsGiven s i a.0.known
 
 -- So it is, in the words of the statement: a late reply is to a put that was finished.
 abbrev pub AnsweredSo : (n : ℕ) → Circuit → List Entry → (k : ℕ) → Step → Type 0
