@@ -9,7 +9,7 @@ use Rattle.ca_text.specs.Place.{At}
 use Rattle.ca_text.proofs.Places.{At-after, At-append, At-map, At-mapped, At-one, At-parts, At-set, At-snoc, At-within}
 use Rattle.ca_wire.specs.Fields.{Fields}
 use Rattle.ca_model.specs.Answers.{Closing}
-use Rattle.ca_model.specs.Due.{Action, Applies, Due, KnownRecord}
+use Rattle.ca_model.specs.Due.{Action, Applies, Due, KnownRecord, Knows}
 use Rattle.ca_model.specs.Due as action
 use Rattle.ca_model.specs.History.{Cause, Circuit, Entry, Finished, Line, Removal, Reply, Sent, Step, Told, Withdrawn}
 use Rattle.ca_model.specs.Server.{Server, ServerEnd}
@@ -704,36 +704,42 @@ run-all-answered s es stopped w ok (mid, folds, stops) =
     stops-answered s mid stopped w (ready s es None mid ok (mid, folds, refl)) stops (events-answered s ok [] es (opening s) mid refl folds (λ n c log at. absurd (none_at n c at)))
 
 -- in the words of the statement
+pub as-told : (n : ℕ) (j : Joined) (y : List Entry) → ((m l e : ℕ) → At y e (Finished m l) → IsBusyUntil y m l e) → (k : ℕ) (h : Step) → AnsweredAt n j.lists y k h → AnsweredSo n (circuit_of j) y k h
+as-told n j y busy k h (a, rest) = (
+  record {
+    s = a.s;
+    at = a.at;
+    known = a.known;
+    did = a.did;
+    replies = a.replies;
+    knew = a.knew;
+    due = a.due;
+    now = a.now;
+    fits = a.fits;
+    next = a.next;
+    logs = a.logs;
+    logs_are = a.logs_are;
+    logged = a.logged;
+    within = a.within;
+    besides = a.besides;
+    ends = a.ends;
+  },
+  λ i m reply. elim (rest i m reply) [
+    | inl early ↦ inl early
+    | inr late ↦
+        let q = late.3.3 in
+        let one : late.3.0 ≡ a.s = At-one j.lists.up k late.3.0 a.s late.3.1 a.at in
+        inr (late.0, late.1, subst (λ (z : Sent). Is command.WriteNotify z.message) one late.3.2, (q.0, q.1, busy n k q.0 q.1, subst (λ (z : Sent). IsUncleared j.lists k (sid_in z.message) q.0) one q.2))
+  ],
+)
+
+-- with the same message, knowledge, action, replies and entries
+pub told-as : (G : Sent → Knows → Action → List Fields → List Entry → Type 0) (n : ℕ) (j : Joined) (y : List Entry) (busy : (m l e : ℕ) → At y e (Finished m l) → IsBusyUntil y m l e) (k : ℕ) (h : Step) (a : AnsweredAt n j.lists y k h) → G a.0.s a.0.known a.0.did a.0.replies a.0.logs
+    → let b : AnsweredSo n (circuit_of j) y k h = as-told n j y busy k h a in G b.0.s b.0.known b.0.did b.0.replies b.0.logs
+unfolding as-told
+told-as G n j y busy k h (a, rest) g = g
+
 pub run-answered : (s : Setting) (es : List Event) (stopped : Option Event) (w : World) → IsSetting s → Runs s es stopped w → AreAnswered w
 run-answered s es stopped w ok runs =
     of-circuits s es stopped w ok runs (λ (n : ℕ) (c : Circuit) (x : List Line) (y : List Entry). (k : ℕ) (h : Step) → At c.handled k h → AnsweredSo n c y k h)
     (λ n j x y at lx ly k h there. as-told n j y (λ m l e is. (((run-serves s es stopped w ok runs).stands.sound.writes.logs j.lists.server y ly).finished m l e is).0) k h (run-all-answered s es stopped w ok runs n j y at ly k h there).0)
-  where
-    as-told : (n : ℕ) (j : Joined) (y : List Entry) → ((m l e : ℕ) → At y e (Finished m l) → IsBusyUntil y m l e) → (k : ℕ) (h : Step) → AnsweredAt n j.lists y k h → AnsweredSo n (circuit_of j) y k h
-    as-told n j y busy k h (a, rest) = (
-      record {
-        s = a.s;
-        at = a.at;
-        known = a.known;
-        did = a.did;
-        replies = a.replies;
-        knew = a.knew;
-        due = a.due;
-        now = a.now;
-        fits = a.fits;
-        next = a.next;
-        logs = a.logs;
-        logs_are = a.logs_are;
-        logged = a.logged;
-        within = a.within;
-        besides = a.besides;
-        ends = a.ends;
-      },
-      λ i m reply. elim (rest i m reply) [
-        | inl early ↦ inl early
-        | inr late ↦
-            let q = late.3.3 in
-            let one : late.3.0 ≡ a.s = At-one j.lists.up k late.3.0 a.s late.3.1 a.at in
-            inr (late.0, late.1, subst (λ (z : Sent). Is command.WriteNotify z.message) one late.3.2, (q.0, q.1, busy n k q.0 q.1, subst (λ (z : Sent). IsUncleared j.lists k (sid_in z.message) q.0) one q.2))
-      ],
-    )

@@ -58,3 +58,4 @@ pub mod FaceDue
 pub mod FaceLists
 pub mod FaceRuns
 pub mod ServersStay
+pub mod DueRuns

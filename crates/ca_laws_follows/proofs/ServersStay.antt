@@ -4,22 +4,22 @@ use Rattle.std.specs.Prelude.{filter, map, not, option_map, slice_get, slice_set
 use Rattle.std.specs.List.{FoldsTo}
 use Rattle.std.specs.Str.{bytes_eq}
 use Rattle.ca_arena.specs.declared.handle.Handle.{Handle}
-use Rattle.ca_text.specs.Place.{At}
-use Rattle.ca_text.proofs.Places.{At-or}
+use Rattle.ca_dbr.specs.Elements.{Elements}
+use Rattle.ca_records.specs.Record.{RecordState, unset}
 use Rattle.ca_model.specs.Due.{Action}
 use Rattle.ca_model.specs.Ends as why
 use Rattle.ca_model.specs.History.{Collected, GaveUp, Step}
 use Rattle.ca_model.specs.Server.{Server}
 use Rattle.ca_model.specs.ServerSteps.{Stepped, closed}
 use Rattle.ca_model.specs.ServerSteps as stepped
-use Rattle.ca_model_world.specs.ClientEvents.{DownTaken}
+use Rattle.ca_model_world.specs.ClientEvents.{DownTaken, up_taken}
 use Rattle.ca_model_world.specs.Events.{Event}
 use Rattle.ca_model_world.specs.Events as event
 use Rattle.ca_model_world.specs.Runs.{CanBe, Happens, Leaves, Runs, StopsAt, clients_below}
-use Rattle.ca_model_world.specs.ServerEvents.{HappensAdd, HappensFinish, HappensPost, HappensRemove, ServerStepped, acted, ends_by, ends_here, handled_at, logged, server_after, side_of, unsaid}
+use Rattle.ca_model_world.specs.ServerEvents.{HappensAdd, HappensFinish, HappensPost, HappensRemove, ServerStepped, acted, ends_by, ends_here, handled_at, logged, server_after, side_of, stamped, unsaid}
 use Rattle.ca_model_world.specs.ServerEvents as server
 use Rattle.ca_model_world.specs.World.{Joined, RecordSide, ServerSetting, ServerSide, Setting, World, numbered, opening, server_begun, with_circuit}
-use Rattle.ca_laws_writes.specs.Moves.{finish_told}
+use Rattle.ca_laws_writes.specs.Moves.{finish_told, post_told, removal_told}
 use Rattle.ca_laws_writes.proofs.Every.{ticks-frame}
 use Rattle.ca_laws_writes.proofs.Frames.{Frame}
 use Rattle.ca_laws_writes.proofs.HappensClient.{begun-frame, clear-frame, cut-frame, datagram-frame, handing-frame, hear-frame, open-frame, put-frame, read-frame, subscribe-frame, unsubscribe-frame, up-frame, write-frame}
@@ -73,8 +73,8 @@ stepped-many w new k j y (stepped.Closed why.OutOfMemory left) f = subst (λ (z 
     go (Some gone) = after-many w (acted k j y f.lacks.next.action w) j.server (side_of j.server y (acted k j y f.lacks.next.action w)) (ends_here j left j.server f.core) f.core (acted-many w k j y f.lacks.next.action)
 stepped-many w new k j y (stepped.Closed cause left) f = subst (λ (z : World). AsMany w z) (sym f.3) (after-many w w j.server y (ends_here j left j.server y.core) (closed j.at_server y.core) refl)
 
-post-many : (w new : World) (i : ℕ) (y : ServerSide) (name : List ℕ) (e : _) (mask : ℕ) → HappensPost w i y name e mask new → AsMany w new
-post-many w new i y name e mask (gone, core, inl (posts, is)) = subst (λ (z : World). AsMany w z) (sym is) (after-many w _ i y (ends_by i core) core refl)
+post-many : (w new : World) (i : ℕ) (y : ServerSide) (name : List ℕ) (e : Elements) (mask : ℕ) → HappensPost w i y name e mask new → AsMany w new
+post-many w new i y name e mask (gone, core, inl (posts, is)) = subst (λ (z : World). AsMany w z) (sym is) (after-many w (post_told w i y name (record { value = e; meta = unset }) mask) i y (ends_by i core) core refl)
 post-many w new i y name e mask (gone, core, inr refused) = same-many w new (ap (λ (z : World). z.servers) refused.3)
 
 finish-many : (w new : World) (i : ℕ) (y : ServerSide) (name : List ℕ) → HappensFinish w i y name new → AsMany w new
@@ -88,10 +88,10 @@ finish-many w new i y name (inr refused) = same-many w new (ap (λ (z : World). 
 remove-many : (w new : World) (i : ℕ) (y : ServerSide) (name : List ℕ) → HappensRemove w i y name new → AsMany w new
 remove-many w new i y name (gone, left, core, inl (removes, is)) =
     let side : ServerSide = record y { records = filter (λ (r : RecordSide). not (bytes_eq r.name name)) y.records } in
-    subst (λ (z : World). AsMany w z) (sym is) (after-many w _ i side (ends_by i core) core (set-count w.servers i side))
+    subst (λ (z : World). AsMany w z) (sym is) (after-many w (removal_told w i y name gone left) i side (ends_by i core) core (set-count w.servers i side))
 remove-many w new i y name (gone, left, core, inr (removes, is)) = same-many w new (ap (λ (z : World). z.servers) is)
 
-add-many : (w new : World) (i : ℕ) (y : ServerSide) (r : _) → HappensAdd w i y r new → AsMany w new
+add-many : (w new : World) (i : ℕ) (y : ServerSide) (r : RecordState) → HappensAdd w i y r new → AsMany w new
 add-many w new i y r (core, behind, inl (adds, is)) = set-many w new i _ (ap (λ (z : World). z.servers) is)
 add-many w new i y r (core, behind, inr refused) = same-many w new (ap (λ (z : World). z.servers) refused.3)
 
@@ -115,7 +115,7 @@ leaves-many w new (event.Accept i) at l = elim l.leaves [
   | inr made ↦ set-many w new at.v.i (record at.v.y { core = l.server }) (ap (λ (z : World). z.servers) made.6)
 ]
 leaves-many w new (event.Up k n) at l =
-    set-many _ new at.0.j.server (record at.0.y { core = l.0 }) (ap (λ (z : World). z.servers) l.2) ∙ frame-many w _ (up-frame w k n at.0.j at.0.x at.0.joins.at)
+    set-many (up_taken k n at.0.j at.0.x w) new at.0.j.server (record at.0.y { core = l.0 }) (ap (λ (z : World). z.servers) l.2) ∙ frame-many w (up_taken k n at.0.j at.0.x w) (up-frame w k n at.0.j at.0.x at.0.joins.at)
 leaves-many w new (event.Down k n) at (mid, sent, core, taken, gives, is) = same-many mid new (ap (λ (z : World). z.servers) is) ∙ go taken
   where
     go : DownTaken w k n at.0.j at.0.y mid → AsMany w mid
@@ -123,7 +123,7 @@ leaves-many w new (event.Down k n) at (mid, sent, core, taken, gives, is) = same
     go (inr (shut, leaves)) = same-many w mid (ap (λ (z : World). z.servers) leaves)
 leaves-many w new (event.ServerStep k) at l = stepped-many w new k at.j at.y l.0 l.1
 leaves-many w new (event.ClientStep k) at l = frame-many w new (hear-frame w new k at.j at.x at.joins.at l)
-leaves-many w new (event.Pump k) at l = subst (λ (z : World). AsMany w z) (sym l.leaves) (after-many w _ at.j.server at.y (ends_by at.j.server l.core) l.core refl)
+leaves-many w new (event.Pump k) at l = subst (λ (z : World). AsMany w z) (sym l.leaves) (after-many w (with_circuit k (stamped l.updates at.j) w) at.j.server at.y (ends_by at.j.server l.core) l.core refl)
 leaves-many w new (event.CutClient k) at l = frame-many w new (cut-frame w new k at.j at.x at.joins.at l)
 leaves-many w new (event.CutServer k) at l = subst (λ (z : World). AsMany w z) (sym l.leaves) (after-many w w at.j.server at.y (ends_by at.j.server l.core) l.core refl)
 leaves-many w new (event.ClientRestart i) at l = frame-many w new (begun-frame w new i at.x l)

@@ -21,3 +21,4 @@ pub mod Whole
 pub mod KnewFull
 pub mod KnewFaces
 pub mod Given
+pub mod AnswerDue
