@@ -11,17 +11,18 @@ use Rattle.ca_model_safe.specs.Channels.{IsUncleared}
 use Rattle.ca_model.specs.Speech.{sid_in}
 use Rattle.ca_model_world.specs.ServerEvents.{StepHandles, about, acted, ending, ends_by, handled_at, numbers_after, server_after, server_closed, side_of, write_numbers}
 use Rattle.ca_model_world.specs.ServerEvents as server
-use Rattle.ca_model_world.specs.World.{Joined, ServerSide, World, with_circuit}
+use Rattle.ca_model_world.specs.World.{Joined, ServerSide, Setting, World, with_circuit}
 use Rattle.ca_laws_runs.proofs.Handled.{numbers-like, writes-like}
 use Rattle.ca_laws_writes.proofs.Lists.{none_at}
-use Rattle.ca_laws_follows.specs.Answering.{AnsweredAt, IsLate, KnowsLists, LogsSo, past}
+use Rattle.ca_laws_follows.specs.Answering.{AnsweredAt, AnsweredBy, IsLate, KnowsLists, LogsSo, past}
+use Rattle.ca_laws_follows.specs.Given.{IsGiven}
 use Rattle.ca_laws_follows.proofs.Acting.{Extends, Grows, IsLonger, grown-back, longer-taken}
 use Rattle.ca_laws_follows.proofs.CausingKeeps.{Steady}
 use Rattle.ca_laws_follows.proofs.Known.{grows-le, longer-le}
 
 -- ---- beginnings
 
-grows-take : {A : Type 0} (n : ℕ) (xs ys : List A) → Grows xs ys → n ≤ length xs → take n ys ≡ take n xs
+pub grows-take : {A : Type 0} (n : ℕ) (xs ys : List A) → Grows xs ys → n ≤ length xs → take n ys ≡ take n xs
 grows-take zero xs ys grows le = refl
 grows-take (suc n) [] ys grows le = absurd (omega (arith, le))
 grows-take (suc n) (x ∷ xs) [] grows le = absurd (none_at 0 x (grows 0 x refl))
@@ -94,6 +95,12 @@ module _ (n : ℕ) (c d : Circuit) (y z : List Entry) (k : ℕ) (h : Step) (ext 
       | inr late ↦ inr late
     ],
   )
+
+  -- and the server went by what it was given
+  pub answered-on : (s : Setting) (i j : ℕ) → j ≡ i → ((l : ℕ) (g : Step) → At d.handled l g → At c.handled l g ⊎ ((length c.down ≤ g.sent) × (length y ≤ g.logged))) → ((j : ℕ) (m : Fields) → IsReply d k j m → IsReply c k j m ⊎ IsLate n d z k m) → AnsweredBy s i n c y k h
+      → AnsweredBy s j n d z k h
+  unfolding answered-forth
+  answered-on s i j same steps replies ((a, rest), given) = (answered-forth steps replies (a, rest), subst (λ (m : ℕ). IsGiven s m a.known) (sym same) given)
 
 -- ---- the circuit on which a message is handled
 

@@ -9,7 +9,7 @@ use Rattle.ca_text.specs.Place.{At}
 use Rattle.ca_text.proofs.Places.{At-after, At-append, At-map, At-mapped, At-one, At-parts, At-set, At-snoc, At-within}
 use Rattle.ca_wire.specs.Fields.{Fields}
 use Rattle.ca_model.specs.Answers.{Closing}
-use Rattle.ca_model.specs.Due.{Action, Applies, Due, KnownRecord}
+use Rattle.ca_model.specs.Due.{Action, Applies, Due, KnownRecord, Knows}
 use Rattle.ca_model.specs.Due as action
 use Rattle.ca_model.specs.History.{Cause, Circuit, Entry, Finished, Line, Removal, Reply, Sent, Step, Told, Withdrawn}
 use Rattle.ca_model.specs.Server.{Server, ServerEnd}
@@ -51,23 +51,27 @@ use Rattle.ca_laws_writes.proofs.Lives.{number-of, others-apart}
 use Rattle.ca_laws_writes.proofs.Midway.{grown-here}
 use Rattle.ca_laws_writes.proofs.Moves.{same-or}
 use Rattle.ca_laws_writes.proofs.Says.{logs-stay}
-use Rattle.ca_laws_follows.specs.Answering.{AnsweredAt, AnsweredSo, AreAnswered, KnowsLists, LogsSo, past}
+use Rattle.ca_laws_follows.specs.Answering.{AnsweredAt, AnsweredBy, AnsweredSo, AreAnswered, KnowsLists, LogsSo, past}
 use Rattle.ca_model_safe.specs.Channels.{Has, IsBusyUntil, IsCleared, IsUncleared}
 use Rattle.ca_laws_follows.specs.KnewLists.{as_known}
 use Rattle.ca_laws_follows.proofs.Acting.{Extends, Grows, IsLonger, grown-back, longer-taken}
 use Rattle.ca_laws_follows.proofs.ActsOn.{of-circuits}
-use Rattle.ca_laws_follows.proofs.AnsweringFrame.{answered-forth, step-lists, step-of}
+use Rattle.ca_laws_follows.proofs.AnsweringFrame.{answered-on, step-lists, step-of}
 use Rattle.ca_laws_follows.proofs.CausingEvents.{Nothing-new, Ready, steady-of}
 use Rattle.ca_laws_follows.proofs.CausingFrame.{Back, FinishNews, IsStill, News, PumpNews, RemoveNews, Says, Takes, back-frame, finish-back, pump-back, removed-back, step-back, still-back, unhandled-back}
 use Rattle.ca_laws_follows.proofs.CausingKeeps.{Steady}
 use Rattle.ca_laws_follows.proofs.CausingRuns.{ready}
+use Rattle.ca_laws_follows.specs.Given.{IsGiven}
+use Rattle.ca_laws_follows.specs.KnewFaces.{IsFace, KeepSettings, face_of}
+use Rattle.ca_laws_follows.proofs.FaceRuns.{run-know-faces, run-settings}
+use Rattle.ca_laws_follows.proofs.KnewFull.{run-know-full}
 use Rattle.ca_laws_follows.proofs.KnewListsRuns.{run-know-channels, run-know-keys}
 use Rattle.ca_laws_follows.proofs.KnewRecords.{run-records}
 use Rattle.ca_laws_follows.proofs.LoggedStep.{told-logs}
 use Rattle.ca_laws_follows.proofs.Whole.{LogsGrow, folds-snoc, logs-grow, logs-there}
 
-abbrev pub AllAnswered : World → Type 0
-AllAnswered w = (n : ℕ) (c : Joined) (y : List Entry) → At w.circuits n c → At w.server_logs c.lists.server y → (k : ℕ) (h : Step) → At c.lists.handled k h → AnsweredAt n c.lists y k h
+abbrev pub AllAnswered : Setting → World → Type 0
+AllAnswered s w = (n : ℕ) (c : Joined) (y : List Entry) → At w.circuits n c → At w.server_logs c.lists.server y → (k : ℕ) (h : Step) → At c.lists.handled k h → AnsweredBy s c.server n c.lists y k h
 
 -- what the servers of a world know
 abbrev AllKnow : World → Type 0
@@ -77,9 +81,17 @@ AllKnow w = (n : ℕ) (c : Joined) (y : ServerSide) (e : ServerEnd) (log : List 
 run-know : (s : Setting) (es : List Event) (stopped : Option Event) (w : World) → IsSetting s → Runs s es stopped w → AllKnow w
 run-know s es stopped w ok runs n c y e log at there opened has logged = record {
   records = λ name. run-records s es stopped w ok runs c.server y e log name there logged;
+  greeted = face.greeted;
+  user = face.user;
+  host = face.host;
+  settled = face.settled;
   channels = run-know-channels s es stopped w ok runs n c y e log at there opened has logged;
+  full = run-know-full s es stopped w ok runs n c y e at there opened has;
   keys = run-know-keys s es stopped w ok runs n c y e log at there opened has logged;
 }
+  where
+    face : IsFace (as_known c.lists) (face_of e)
+    face = run-know-faces s es stopped w ok runs n c y e at there opened has
 
 -- a write came on this circuit, which joins this life of a server
 pub record CameSome (circuits : List Joined) (life : ℕ) (p : PutPlace) : Type 0 where
@@ -100,7 +112,7 @@ pub record IsLaterBy (F : ℕ → News → Type 0) (l : ℕ) (lg : List Entry) (
   pub late : (k : ℕ) (m : Fields) → F l (Says (record { message = m; place = k; cause = Reply })) → ⊥
 
 back-answered : (F : ℕ → News → Type 0) (s : Setting) (w new : World) → Ready s w → LogsGrow w new → Back F w new
-    → ((l : ℕ) (c d : Joined) (log lg : List Entry) → At w.circuits l c → At new.circuits l d → At w.server_logs c.lists.server log → At new.server_logs c.lists.server lg → IsLonger log lg → IsLaterBy F l lg c.lists) → AllAnswered w → AllAnswered new
+    → ((l : ℕ) (c d : Joined) (log lg : List Entry) → At w.circuits l c → At new.circuits l d → At w.server_logs c.lists.server log → At new.server_logs c.lists.server lg → IsLonger log lg → IsLaterBy F l lg c.lists) → AllAnswered s w → AllAnswered s new
 back-answered F s w new ready grow back by all n d lg at logged k h at_h =
     let c = back n d at in
     let log = logs-there s w ready.serves.stands.sound n c.0 c.1 in
@@ -109,7 +121,7 @@ back-answered F s w new ready grow back by all n d lg at logged k h at_h =
     let is : lg ≡ log.0 ++ more.0 = At-one new.server_logs c.0.lists.server lg (log.0 ++ more.0) here more.1 in
     let b = by n c.0 d log.0 lg c.1 at log.1 here (more.0, is) in
     let old : At c.0.lists.handled k h = elim (c.2.handled k h at_h) [ inl was ↦ was | inr new_it ↦ absurd (b.takes k h new_it) ] in
-    answered-forth n c.0.lists d.lists log.0 lg k h c.2.lists c.2.life (more.0, is) (steady-of s w ready n c.0 log.0 c.1 log.1) old
+    answered-on n c.0.lists d.lists log.0 lg k h c.2.lists c.2.life (more.0, is) (steady-of s w ready n c.0 log.0 c.1 log.1) old s c.0.server d.server c.2.server
     (λ l g there. elim (c.2.handled l g there) [ inl was ↦ inl was | inr new_it ↦ absurd (b.takes l g new_it) ])
     (λ i m reply. elim (c.2.told i _ reply) [ inl was ↦ inl was | inr told ↦ absurd (b.late k m told.1) ])
     (all n c.0 log.0 c.1 log.1 k h old)
@@ -301,7 +313,7 @@ side-life w k j y did at = go (slice_get (acted k j y did w).servers j.server) r
     go None is = refl
     go (Some z) is = elim (At-set w.servers j.server next j.server z is) [ inl own ↦ ap (λ (x : ServerSide). x.life) own.1 | inr old ↦ absurd (old.1 refl) ]
 
-module _ (s : Setting) (w new : World) (k : ℕ) (j : Joined) (y : ServerSide) (on : At w.circuits k j) (at_y : At w.servers j.server y) (opened : j.lists.server_open ≡ true) (f : StepHandles w k j y new) (ready : Ready s w) (grow : LogsGrow w new) (know : AllKnow w) (all : AllAnswered w) where
+module _ (s : Setting) (w new : World) (k : ℕ) (j : Joined) (y : ServerSide) (on : At w.circuits k j) (at_y : At w.servers j.server y) (opened : j.lists.server_open ≡ true) (f : StepHandles w k j y new) (ready : Ready s w) (grow : LogsGrow w new) (know : AllKnow w) (keep : KeepSettings w) (all : AllAnswered s w) where
   abbrev place : ℕ
   place = length j.lists.handled
 
@@ -317,6 +329,15 @@ module _ (s : Setting) (w new : World) (k : ℕ) (j : Joined) (y : ServerSide) (
   module _ (d : Joined) (lg : List Entry) (at : At new.circuits k d) (logged : At new.server_logs d.lists.server lg) where
     lists : (d.lists.up ≡ j.lists.up) × (d.lists.down ≡ j.lists.down ++ about place Reply replies) × (d.lists.handled ≡ j.lists.handled ++ step ∷ []) × (d.lists.server ≡ j.lists.server)
     lists = step-lists w new k j y f d at
+
+    -- the same server has it
+    of_server : d.server ≡ j.server
+    of_server =
+        let b = step-back w new k j y on f k d at in
+        b.2.server ∙ ap (λ (z : Joined). z.server) (At-one w.circuits k b.0 j b.1 on)
+
+    given : IsGiven s d.server (knows y.core taken)
+    given = (y.setting, subst (λ (i : ℕ). At s.servers i y.setting) (sym of_server) (ready.serves.stands.sound.given j.server y at_y), (keep j.server y at_y).0, (keep j.server y at_y).1)
 
     own : (log : List Entry) × At w.server_logs j.lists.server log
     own = logs-there s w ready.serves.stands.sound k j on
@@ -472,11 +493,12 @@ module _ (s : Setting) (w new : World) (k : ℕ) (j : Joined) (y : ServerSide) (
             (ap (λ (l : List Told). take step.sent l) lists.1 ∙ take-front (length j.lists.down) j.lists.down (about place Reply replies) (omega arith) ∙ take-whole j.lists.down)
             (ap (λ (l : List Step). take place l) lists.2 ∙ take-front place j.lists.handled (step ∷ []) (omega arith) ∙ take-whole j.lists.handled)
 
-    pub own-answered : (p : ℕ) (h : Step) → At d.lists.handled p h → AnsweredAt k d.lists lg p h
+    pub own-answered : (p : ℕ) (h : Step) → At d.lists.handled p h → AnsweredBy s d.server k d.lists lg p h
+    unfolding fresh
     own-answered p h there = elim (handled-was p h there) [
-      | inr now ↦ subst (λ (v : ℕ × Step). AnsweredAt k d.lists lg v.0 v.1) (λ i. (sym now.0 i, sym now.1 i)) fresh
+      | inr now ↦ subst (λ (v : ℕ × Step). AnsweredBy s d.server k d.lists lg v.0 v.1) (λ i. (sym now.0 i, sym now.1 i)) (fresh, given)
       | inl was ↦
-          answered-forth k j.lists d.lists own.0 lg p h ext lists.3 longer steady was
+          answered-on k j.lists d.lists own.0 lg p h ext lists.3 longer steady was s j.server d.server of_server
           (λ l g at_g. elim (handled-was l g at_g) [
             | inl old_it ↦ inl old_it
             | inr now ↦ inr ((let e : g.sent ≡ length j.lists.down = ap (λ (z : Step). z.sent) now.1 in omega (arith, e)), (let e : g.logged ≡ step.logged = ap (λ (z : Step). z.logged) now.1 in omega (arith, e, length-is)))
@@ -488,17 +510,17 @@ module _ (s : Setting) (w new : World) (k : ℕ) (j : Joined) (y : ServerSide) (
           (all k j own.0 on own.1 p h was)
     ]
 
-  pub step-answered : AllAnswered new
+  pub step-answered : AllAnswered s new
   step-answered n d lg at logged p h there = elim (same-or n k) [
     | inl is ↦
-        subst (λ (m : ℕ). AnsweredAt m d.lists lg p h) (sym is) (own-answered d lg (subst (λ (m : ℕ). At new.circuits m d) is at) logged p h there)
+        subst (λ (m : ℕ). AnsweredBy s d.server m d.lists lg p h) (sym is) (own-answered d lg (subst (λ (m : ℕ). At new.circuits m d) is at) logged p h there)
     | inr other ↦
         let c = step-back w new k j y on f n d at in
         let lo = logs-there s w ready.serves.stands.sound n c.0 c.1 in
         let more = grow c.0.lists.server lo.0 lo.1 in
         let is : lg ≡ lo.0 ++ more.0 = At-one new.server_logs c.0.lists.server lg (lo.0 ++ more.0) (subst (λ (l : ℕ). At new.server_logs l lg) c.2.life logged) more.1 in
         let was : At c.0.lists.handled p h = elim (c.2.handled p h there) [ inl x ↦ x | inr x ↦ absurd (other x.0) ] in
-        answered-forth n c.0.lists d.lists lo.0 lg p h c.2.lists c.2.life (more.0, is) (steady-of s w ready n c.0 lo.0 c.1 lo.1) was
+        answered-on n c.0.lists d.lists lo.0 lg p h c.2.lists c.2.life (more.0, is) (steady-of s w ready n c.0 lo.0 c.1 lo.1) was s c.0.server d.server c.2.server
         (λ l g at_g. elim (c.2.handled l g at_g) [ inl x ↦ inl x | inr x ↦ absurd (other x.0) ])
         (λ i m reply. elim (c.2.told i _ reply) [ inl x ↦ inl x | inr x ↦ absurd (other x.1.0) ])
         (all n c.0 lo.0 c.1 lo.1 p h was)
@@ -506,9 +528,9 @@ module _ (s : Setting) (w new : World) (k : ℕ) (j : Joined) (y : ServerSide) (
 
 -- ---- a circuit is made
 
-accept-answered : (s : Setting) (w new : World) (i : ℕ) (x : ClientSide) (v : WantsFirst w x) → Ready s w → LogsGrow w new → HappensAccept w i x v new → AllAnswered w → AllAnswered new
+accept-answered : (s : Setting) (w new : World) (i : ℕ) (x : ClientSide) (v : WantsFirst w x) → Ready s w → LogsGrow w new → HappensAccept w i x v new → AllAnswered s w → AllAnswered s new
 accept-answered s w new i x v ready grow f all = elim f.leaves [
-  | inl full ↦ subst (λ (z : World). AllAnswered z) (sym full.1) all
+  | inl full ↦ subst (λ (z : World). AllAnswered s z) (sym full.1) all
   | inr made ↦
       let c : Joined = connected_as made.1 (new_circuit i x v.v.circuit v.i v.y made.0) in
       let mid : World = record w { servers = slice_set w.servers v.i (record v.y { core = f.server }); circuits = w.circuits ++ c ∷ [] } in
@@ -521,7 +543,7 @@ accept-answered s w new i x v ready grow f all = elim f.leaves [
             let lo = logs-there s w ready.serves.stands.sound n b.0 old_it in
             let more = grow b.0.lists.server lo.0 lo.1 in
             let is : lg ≡ lo.0 ++ more.0 = At-one new.server_logs b.0.lists.server lg (lo.0 ++ more.0) (subst (λ (l : ℕ). At new.server_logs l lg) b.2.life logged) more.1 in
-            answered-forth n b.0.lists d.lists lo.0 lg p h b.2.lists b.2.life (more.0, is) (steady-of s w ready n b.0 lo.0 old_it lo.1) was
+            answered-on n b.0.lists d.lists lo.0 lg p h b.2.lists b.2.life (more.0, is) (steady-of s w ready n b.0 lo.0 old_it lo.1) was s b.0.server d.server b.2.server
             (λ l z at_z. elim (b.2.handled l z at_z) [ inl q ↦ inl q | inr q ↦ absurd q ])
             (λ q m reply. elim (b.2.told q _ reply) [ inl z ↦ inl z | inr z ↦ absurd z.1 ])
             (all n b.0 lo.0 old_it lo.1 p h was)
@@ -553,37 +575,37 @@ busy-came s w i y name new f ready at = go (own.life.once.own b.i f.p.circuit f.
     go (inr waited) = (let came = own.life.once.came waited.0 f.p.circuit f.p.place f.r.number waited.1 waited.3 in record { c = came.c; on = came.on; joins = came.joins })
 
 remove-answered : (s : Setting) (w : World) (i : ℕ) (y : ServerSide) (name : List ℕ) (gone : Handle → Bool) (left : Handle → ℕ) (core : Server) → Ready s w
-    → (let new : World = server_after i (record y { records = filter (λ (r : RecordSide). not (bytes_eq r.name name)) y.records }) (ends_by i core) core (moves.removal_told w i y name gone left) in LogsGrow w new → AllAnswered w → AllAnswered new)
+    → (let new : World = server_after i (record y { records = filter (λ (r : RecordSide). not (bytes_eq r.name name)) y.records }) (ends_by i core) core (moves.removal_told w i y name gone left) in LogsGrow w new → AllAnswered s w → AllAnswered s new)
 remove-answered s w i y name gone left core ready logs all =
     let new : World = server_after i (record y { records = filter (λ (r : RecordSide). not (bytes_eq r.name name)) y.records }) (ends_by i core) core (moves.removal_told w i y name gone left) in
     back-answered (RemoveNews w i y.core name gone left) s w new ready logs (removed-back w i y name gone left core)
     (λ l c d log lg at_c at_d logged there longer. remove-by w i y.core name gone left l lg c.lists) all
 
-event-answered : (s : Setting) (w new : World) (e : Event) → Ready s w → AllKnow w → Happens w e new → AllAnswered w → AllAnswered new
-event-answered s w new e ready know happens all = go e happens
+event-answered : (s : Setting) (w new : World) (e : Event) → Ready s w → AllKnow w → KeepSettings w → Happens w e new → AllAnswered s w → AllAnswered s new
+event-answered s w new e ready know keep happens all = go e happens
   where
     grow : (e : Event) → Happens w e new → LogsGrow w new
     grow e happens = logs-grow s w new e (takes-next s w ready.serves) (world-numbered w ready.serves.in_step) happens ready.serves.stands.sound
 
-    still : (e : Event) → IsStill e → Happens w e new → AllAnswered new
+    still : (e : Event) → IsStill e → Happens w e new → AllAnswered s new
     still e quiet happens =
         back-answered Nothing-new s w new ready (grow e happens) (still-back Nothing-new w new e quiet happens)
         (λ l c d log lg at_c at_d logged there longer. still-by l lg c.lists) all
 
-    same : new ≡ w → AllAnswered new
-    same is = subst (λ (z : World). AllAnswered z) (sym is) all
+    same : new ≡ w → AllAnswered s new
+    same is = subst (λ (z : World). AllAnswered s z) (sym is) all
 
-    stepped-by : (k : ℕ) (h : Happens w (event.ServerStep k) new) → AllAnswered new
+    stepped-by : (k : ℕ) (h : Happens w (event.ServerStep k) new) → AllAnswered s new
     stepped-by k (at, (did, f)) = elim (handled-or did) [
       | inl is ↦
           let g : StepHandles w k at.j at.y new = subst (λ (x : Stepped). ServerStepped w k at.j at.y x new) is f in
-          step-answered s w new k at.j at.y at.joins.at at.joins.server at.is_open g ready (grow (event.ServerStep k) (at, (did, f))) know all
+          step-answered s w new k at.j at.y at.joins.at at.joins.server at.is_open g ready (grow (event.ServerStep k) (at, (did, f))) know keep all
       | inr other ↦
           back-answered Nothing-new s w new ready (grow (event.ServerStep k) (at, (did, f))) (unhandled-back Nothing-new w new k at.j at.y did at.joins.at other f)
           (λ l c d log lg at_c at_d logged there longer. still-by l lg c.lists) all
     ]
 
-    finished : (i : ℕ) (name : List ℕ) (y : ServerSide) → At w.servers i y → LogsGrow w new → HappensFinish w i y name new → AllAnswered new
+    finished : (i : ℕ) (name : List ℕ) (y : ServerSide) → At w.servers i y → LogsGrow w new → HappensFinish w i y name new → AllAnswered s new
     finished i name y at logs (inl f) = λ n d lg at_d logged k h at_h.
         let back = finish-back w new i y name f in
         let c = back n d at_d in
@@ -591,7 +613,7 @@ event-answered s w new e ready know happens all = go e happens
         let more = logs c.0.lists.server lo.0 lo.1 in
         let is : lg ≡ lo.0 ++ more.0 = At-one new.server_logs c.0.lists.server lg (lo.0 ++ more.0) (subst (λ (l : ℕ). At new.server_logs l lg) c.2.life logged) more.1 in
         let was : At c.0.lists.handled k h = elim (c.2.handled k h at_h) [ inl x ↦ x | inr x ↦ absurd x ] in
-        answered-forth n c.0.lists d.lists lo.0 lg k h c.2.lists c.2.life (more.0, is) (steady-of s w ready n c.0 lo.0 c.1 lo.1) was
+        answered-on n c.0.lists d.lists lo.0 lg k h c.2.lists c.2.life (more.0, is) (steady-of s w ready n c.0 lo.0 c.1 lo.1) was s c.0.server d.server c.2.server
         (λ l g at_g. elim (c.2.handled l g at_g) [ inl x ↦ inl x | inr x ↦ absurd x ])
         (λ q m reply. elim (c.2.told q _ reply) [
           | inl x ↦ inl x
@@ -624,12 +646,12 @@ event-answered s w new e ready know happens all = go e happens
             ap (λ (z : Joined). z.lists.server) (sym one) ∙ came.joins
     finished i name y at logs (inr refused) = same refused.2
 
-    removed : (i : ℕ) (name : List ℕ) (y : ServerSide) → LogsGrow w new → HappensRemove w i y name new → AllAnswered new
+    removed : (i : ℕ) (name : List ℕ) (y : ServerSide) → LogsGrow w new → HappensRemove w i y name new → AllAnswered s new
     removed i name y logs (gone, left, core, inl (removes, is)) =
-        subst (λ (z : World). AllAnswered z) (sym is) (remove-answered s w i y name gone left core ready (subst (λ (z : World). LogsGrow w z) is logs) all)
+        subst (λ (z : World). AllAnswered s z) (sym is) (remove-answered s w i y name gone left core ready (subst (λ (z : World). LogsGrow w z) is logs) all)
     removed i name y logs (gone, left, core, inr (removes, is)) = same is
 
-    go : (e : Event) → Happens w e new → AllAnswered new
+    go : (e : Event) → Happens w e new → AllAnswered s new
     go (event.Accept i) h = accept-answered s w new i h.0.x h.0.v ready (grow (event.Accept i) h) h.1 all
     go (event.ServerStep k) h = stepped-by k h
     go (event.Pump k) h =
@@ -661,57 +683,63 @@ event-answered s w new e ready know happens all = go e happens
 
 -- ---- every run
 
-events-answered : (s : Setting) (ok : IsSetting s) (done es : List Event) (w new : World) → FoldsTo Happens (opening s) done w → FoldsTo Happens w es new → AllAnswered w → AllAnswered new
-events-answered s ok done [] w new before same all = subst (λ (z : World). AllAnswered z) same all
+events-answered : (s : Setting) (ok : IsSetting s) (done es : List Event) (w new : World) → FoldsTo Happens (opening s) done w → FoldsTo Happens w es new → AllAnswered s w → AllAnswered s new
+events-answered s ok done [] w new before same all = subst (λ (z : World). AllAnswered s z) same all
 events-answered s ok done (e ∷ es) w new before (mid, one, rest) all =
     let runs : Runs s done None w = (w, before, refl) in
     events-answered s ok (done ++ e ∷ []) es mid new (folds-snoc done (opening s) w mid e before one) rest
-    (event-answered s w mid e (ready s done None w ok runs) (run-know s done None w ok runs) one all)
+    (event-answered s w mid e (ready s done None w ok runs) (run-know s done None w ok runs) (run-settings s done None w ok runs) one all)
 
-stops-answered : (s : Setting) (mid : World) (stopped : Option Event) (w : World) → Ready s mid → StopsAt mid stopped w → AllAnswered mid → AllAnswered w
+stops-answered : (s : Setting) (mid : World) (stopped : Option Event) (w : World) → Ready s mid → StopsAt mid stopped w → AllAnswered s mid → AllAnswered s w
 stops-answered s mid (Some (event.Tick moment)) w h stops all = elim stops [
-  | inl same ↦ subst (λ (z : World). AllAnswered z) (sym same) all
+  | inl same ↦ subst (λ (z : World). AllAnswered s z) (sym same) all
   | inr ticked ↦
       let g : Frame mid w = ticks-frame moment mid (clients_below ticked.0) w ticked.3 in
       back-answered Nothing-new s mid w h (logs-stay mid w g.logs) (back-frame Nothing-new mid w g) (λ l c d log lg at_c at_d logged there longer. still-by l lg c.lists) all
 ]
-stops-answered s mid stopped w h stops all = subst (λ (z : World). AllAnswered z) (sym stops) all
+stops-answered s mid stopped w h stops all = subst (λ (z : World). AllAnswered s z) (sym stops) all
 
-pub run-all-answered : (s : Setting) (es : List Event) (stopped : Option Event) (w : World) → IsSetting s → Runs s es stopped w → AllAnswered w
+pub run-all-answered : (s : Setting) (es : List Event) (stopped : Option Event) (w : World) → IsSetting s → Runs s es stopped w → AllAnswered s w
 run-all-answered s es stopped w ok (mid, folds, stops) =
     stops-answered s mid stopped w (ready s es None mid ok (mid, folds, refl)) stops (events-answered s ok [] es (opening s) mid refl folds (λ n c log at. absurd (none_at n c at)))
 
 -- in the words of the statement
+pub as-told : (n : ℕ) (j : Joined) (y : List Entry) → ((m l e : ℕ) → At y e (Finished m l) → IsBusyUntil y m l e) → (k : ℕ) (h : Step) → AnsweredAt n j.lists y k h → AnsweredSo n (circuit_of j) y k h
+as-told n j y busy k h (a, rest) = (
+  record {
+    s = a.s;
+    at = a.at;
+    known = a.known;
+    did = a.did;
+    replies = a.replies;
+    knew = a.knew;
+    due = a.due;
+    now = a.now;
+    fits = a.fits;
+    next = a.next;
+    logs = a.logs;
+    logs_are = a.logs_are;
+    logged = a.logged;
+    within = a.within;
+    besides = a.besides;
+    ends = a.ends;
+  },
+  λ i m reply. elim (rest i m reply) [
+    | inl early ↦ inl early
+    | inr late ↦
+        let q = late.3.3 in
+        let one : late.3.0 ≡ a.s = At-one j.lists.up k late.3.0 a.s late.3.1 a.at in
+        inr (late.0, late.1, subst (λ (z : Sent). Is command.WriteNotify z.message) one late.3.2, (q.0, q.1, busy n k q.0 q.1, subst (λ (z : Sent). IsUncleared j.lists k (sid_in z.message) q.0) one q.2))
+  ],
+)
+
+-- with the same message, knowledge, action, replies and entries
+pub told-as : (G : Sent → Knows → Action → List Fields → List Entry → Type 0) (n : ℕ) (j : Joined) (y : List Entry) (busy : (m l e : ℕ) → At y e (Finished m l) → IsBusyUntil y m l e) (k : ℕ) (h : Step) (a : AnsweredAt n j.lists y k h) → G a.0.s a.0.known a.0.did a.0.replies a.0.logs
+    → let b : AnsweredSo n (circuit_of j) y k h = as-told n j y busy k h a in G b.0.s b.0.known b.0.did b.0.replies b.0.logs
+unfolding as-told
+told-as G n j y busy k h (a, rest) g = g
+
 pub run-answered : (s : Setting) (es : List Event) (stopped : Option Event) (w : World) → IsSetting s → Runs s es stopped w → AreAnswered w
 run-answered s es stopped w ok runs =
     of-circuits s es stopped w ok runs (λ (n : ℕ) (c : Circuit) (x : List Line) (y : List Entry). (k : ℕ) (h : Step) → At c.handled k h → AnsweredSo n c y k h)
-    (λ n j x y at lx ly k h there. as-told n j y (λ m l e is. (((run-serves s es stopped w ok runs).stands.sound.writes.logs j.lists.server y ly).finished m l e is).0) k h (run-all-answered s es stopped w ok runs n j y at ly k h there))
-  where
-    as-told : (n : ℕ) (j : Joined) (y : List Entry) → ((m l e : ℕ) → At y e (Finished m l) → IsBusyUntil y m l e) → (k : ℕ) (h : Step) → AnsweredAt n j.lists y k h → AnsweredSo n (circuit_of j) y k h
-    as-told n j y busy k h (a, rest) = (
-      record {
-        s = a.s;
-        at = a.at;
-        known = a.known;
-        did = a.did;
-        replies = a.replies;
-        knew = a.knew;
-        due = a.due;
-        now = a.now;
-        fits = a.fits;
-        next = a.next;
-        logs = a.logs;
-        logs_are = a.logs_are;
-        logged = a.logged;
-        within = a.within;
-        besides = a.besides;
-        ends = a.ends;
-      },
-      λ i m reply. elim (rest i m reply) [
-        | inl early ↦ inl early
-        | inr late ↦
-            let q = late.3.3 in
-            let one : late.3.0 ≡ a.s = At-one j.lists.up k late.3.0 a.s late.3.1 a.at in
-            inr (late.0, late.1, subst (λ (z : Sent). Is command.WriteNotify z.message) one late.3.2, (q.0, q.1, busy n k q.0 q.1, subst (λ (z : Sent). IsUncleared j.lists k (sid_in z.message) q.0) one q.2))
-      ],
-    )
+    (λ n j x y at lx ly k h there. as-told n j y (λ m l e is. (((run-serves s es stopped w ok runs).stands.sound.writes.logs j.lists.server y ly).finished m l e is).0) k h (run-all-answered s es stopped w ok runs n j y at ly k h there).0)

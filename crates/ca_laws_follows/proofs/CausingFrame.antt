@@ -36,6 +36,7 @@ use Rattle.ca_laws_writes.specs.Moves as moves
 use Rattle.ca_laws_writes.proofs.Every.{ticks-frame}
 use Rattle.ca_laws_writes.proofs.Frames.{Frame}
 use Rattle.ca_laws_writes.proofs.HappensClient.{begun-frame, clear-frame, cut-frame, datagram-frame, handing-frame, hear-frame, open-frame, put-frame, read-frame, sent-frame, subscribe-frame, unsubscribe-frame, up-frame, write-frame}
+use Rattle.ca_laws_writes.proofs.HappensPost.{stamped-same}
 use Rattle.ca_laws_writes.proofs.Lasting.{told_late}
 use Rattle.ca_laws_writes.proofs.Lists.{In-kept, In-snoc}
 use Rattle.ca_laws_follows.proofs.Acting.{Extends, extends-then}
@@ -52,6 +53,7 @@ pub data News : Type 0 where
 
 -- the circuit of this number goes on, and what is new is of these
 pub record Onward (F : ℕ → News → Type 0) (l : ℕ) (c d : Joined) : Type 0 where
+  pub server : d.server ≡ c.server
   pub life : d.lists.server ≡ c.lists.server
   pub lists : Extends c.lists d.lists
   pub told : (i : ℕ) (t : Told) → At d.lists.down i t → At c.lists.down i t ⊎ ((length c.lists.down ≤ i) × F l (Says t))
@@ -61,8 +63,9 @@ pub record Onward (F : ℕ → News → Type 0) (l : ℕ) (c d : Joined) : Type 
 abbrev pub Back : (F : ℕ → News → Type 0) (w new : World) → Type 0
 Back F w new = (l : ℕ) (d : Joined) → At new.circuits l d → (c : Joined) × At w.circuits l c × Onward F l c d
 
-pub on-still : (F : ℕ → News → Type 0) (l : ℕ) (c d : Joined) → d.lists ≡ c.lists → ((st : Standing) → In d.standing st → (su : Standing) × In c.standing su × (su.place ≡ st.place)) → Onward F l c d
-on-still F l c d lists standing = record {
+pub on-still : (F : ℕ → News → Type 0) (l : ℕ) (c d : Joined) → d.server ≡ c.server → d.lists ≡ c.lists → ((st : Standing) → In d.standing st → (su : Standing) × In c.standing su × (su.place ≡ st.place)) → Onward F l c d
+on-still F l c d server lists standing = record {
+  server = server;
   life = ap (λ (z : Circuit). z.server) lists;
   lists = subst (λ (z : Circuit). Extends c.lists z) (sym lists) (extends-self c.lists);
   told = λ i t at. inl (subst (λ (z : Circuit). At z.down i t) lists at);
@@ -71,10 +74,11 @@ on-still F l c d lists standing = record {
 }
 
 pub on-self : (F : ℕ → News → Type 0) (l : ℕ) (c : Joined) → Onward F l c c
-on-self F l c = on-still F l c c refl (λ st at. (st, at, refl))
+on-self F l c = on-still F l c c refl refl (λ st at. (st, at, refl))
 
 pub on-then : (F : ℕ → News → Type 0) (l : ℕ) (a b c : Joined) → Onward F l a b → Onward F l b c → Onward F l a c
 on-then F l a b c f g = record {
+  server = g.server ∙ f.server;
   life = g.life ∙ f.life;
   lists = extends-then a.lists b.lists c.lists f.lists g.lists;
   told = λ i t at. elim (g.told i t at) [
@@ -92,9 +96,10 @@ on-then F l a b c f g = record {
 }
 
 -- more was told
-on-more : (F : ℕ → News → Type 0) (l : ℕ) (c d : Joined) (more : List Told) → d.lists ≡ record c.lists { down = c.lists.down ++ more } → ((t : Told) → In more t → F l (Says t))
+on-more : (F : ℕ → News → Type 0) (l : ℕ) (c d : Joined) (more : List Told) → d.server ≡ c.server → d.lists ≡ record c.lists { down = c.lists.down ++ more } → ((t : Told) → In more t → F l (Says t))
     → ((st : Standing) → In d.standing st → (su : Standing) × In c.standing su × (su.place ≡ st.place)) → Onward F l c d
-on-more F l c d more lists new standing = record {
+on-more F l c d more server lists new standing = record {
+  server = server;
   life = ap (λ (z : Circuit). z.server) lists;
   lists = subst (λ (z : Circuit). Extends c.lists z) (sym lists) (record { up = λ i x at. at; down = λ i x at. At-append c.lists.down more i x at; handled = λ i x at. at });
   told = λ i t at. elim (At-parts c.lists.down more i t (subst (λ (z : Circuit). At z.down i t) lists at)) [
@@ -114,6 +119,7 @@ back-frame F w new f l d at =
       c.0,
       c.1,
       record {
+        server = c.2.later.server;
         life = c.2.later.life;
         lists = record { up = c.2.later.up; down = λ i t told. subst (λ (x : List Told). At x i t) (sym c.2.down) told; handled = c.2.later.handled };
         told = λ i t told. inl (subst (λ (x : List Told). At x i t) c.2.down told);
@@ -143,6 +149,7 @@ on-ending F ends l c = go (ends c)
     go : (o : Option (List ℕ)) → Onward F l c (unwrap_or (option_map (λ (left : List ℕ). server_closed left c) o) c)
     go None = on-self F l c
     go (Some left) = record {
+      server = refl;
       life = refl;
       lists = record { up = λ i x at. at; down = λ i x at. at; handled = λ i x at. at };
       told = λ i t at. inl at;
@@ -173,6 +180,10 @@ numbered-lists : (c : Joined) (keys : List SubKey) → (fold with_number c keys)
 numbered-lists c [] = refl
 numbered-lists c (k ∷ keys) = numbered-lists (with_number c k) keys
 
+numbered-server : (c : Joined) (keys : List SubKey) → (fold with_number c keys).server ≡ c.server
+numbered-server c [] = refl
+numbered-server c (k ∷ keys) = numbered-server (with_number c k) keys
+
 numbered-standing : (c : Joined) (keys : List SubKey) (st : Standing) → In (fold with_number c keys).standing st → (su : Standing) × In c.standing su × (su.place ≡ st.place)
 numbered-standing c [] st at = (st, at, refl)
 numbered-standing c (k ∷ keys) st at =
@@ -187,7 +198,7 @@ on-posted F i core name mask l c = go (eqb c.server i && c.lists.server_open)
     keys = keys_concerned name mask (under core.circuits c.at_server)
 
     go : (b : Bool) → Onward F l c (cond b (fold with_number c keys) c)
-    go true = on-still F l c (fold with_number c keys) (numbered-lists c keys) (numbered-standing c keys)
+    go true = on-still F l c (fold with_number c keys) (numbered-server c keys) (numbered-lists c keys) (numbered-standing c keys)
     go false = on-self F l c
 
 on-written : (F : ℕ → News → Type 0) (i : ℕ) (core : Server) (did : Action) (l : ℕ) (c : Joined) → Onward F l c (write_numbers i core did c)
@@ -213,6 +224,7 @@ kept-standing test ss st at = (st, (In-kept test ss st at).0, refl)
 
 on-numbers : (F : ℕ → News → Type 0) (l place : ℕ) (did : Action) (c : Joined) → ((sub : Subscription) → did ≡ Adds sub → F l (Stood place)) → Onward F l c (numbers_after place did c)
 on-numbers F l place (Adds sub) c new = record {
+  server = refl;
   life = refl;
   lists = extends-self c.lists;
   told = λ i t at. inl at;
@@ -222,10 +234,10 @@ on-numbers F l place (Adds sub) c new = record {
     | inr own ↦ inr (subst (λ (p : ℕ). F l (Stood p)) (ap (λ (z : Standing). z.place) (sym own)) (new sub refl))
   ];
 }
-on-numbers F l place (action.Opens ch) c new = on-still F l c _ refl (λ st at. (st, at, refl))
-on-numbers F l place (action.Drops key) c new = on-still F l c _ refl (kept-standing (λ (s : Standing). not (same key s.key)) c.standing)
-on-numbers F l place (action.Clears sid) c new = on-still F l c _ refl (kept-standing (λ (s : Standing). not (eqb s.key.sid sid)) c.standing)
-on-numbers F l place (action.Switches on) c new = on-still F l c _ refl (λ st at. (st, at, refl))
+on-numbers F l place (action.Opens ch) c new = on-still F l c _ refl refl (λ st at. (st, at, refl))
+on-numbers F l place (action.Drops key) c new = on-still F l c _ refl refl (kept-standing (λ (s : Standing). not (same key s.key)) c.standing)
+on-numbers F l place (action.Clears sid) c new = on-still F l c _ refl refl (kept-standing (λ (s : Standing). not (eqb s.key.sid sid)) c.standing)
+on-numbers F l place (action.Switches on) c new = on-still F l c _ refl refl (λ st at. (st, at, refl))
 on-numbers F l place action.Nothing c new = on-self F l c
 on-numbers F l place action.Greets c new = on-self F l c
 on-numbers F l place (action.Names x) c new = on-self F l c
@@ -234,6 +246,7 @@ on-numbers F l place (action.Waits name value) c new = on-self F l c
 
 on-handled : (F : ℕ → News → Type 0) (l place : ℕ) (step : Step) (replies : List Fields) (c : Joined) → ((t : Told) → In (about place Reply replies) t → F l (Says t)) → ((m : ℕ) → F l (Takes m step)) → Onward F l c (handled_at place step replies c)
 on-handled F l place step replies c told took = record {
+  server = refl;
   life = refl;
   lists = record { up = λ i x at. at; down = λ i x at. At-append c.lists.down (about place Reply replies) i x at; handled = λ i x at. At-append c.lists.handled (step ∷ []) i x at };
   told = λ i t at. elim (At-parts c.lists.down (about place Reply replies) i t at) [
@@ -325,7 +338,7 @@ down-back F w new k n j x y on (mid, sent, core, taken, gives, is) =
     go (inl (opened, (by, sends, same_it))) = back-same F w mid (ap (λ (z : World). z.circuits) same_it)
     go (inr (shut, same_it)) =
         let d : Joined = record j { left_down = drop n j.left_down } in
-        subst (λ (z : World). Back F w z) (sym same_it) (back-set F w k j d on (on-still F k j d refl (λ st at. (st, at, refl))))
+        subst (λ (z : World). Back F w z) (sym same_it) (back-set F w k j d on (on-still F k j d refl refl (λ st at. (st, at, refl))))
 
 post-back : (F : ℕ → News → Type 0) (w new : World) (i : ℕ) (y : ServerSide) (name : List ℕ) (e : Elements) (mask : ℕ) → HappensPost w i y name e mask new → Back F w new
 post-back F w new i y name e mask (gone, core, inl (posts, is)) =
@@ -365,7 +378,7 @@ finish-back w new i y name f =
 
     go : (l : ℕ) (d : Joined) → ((c : Joined) × At told.circuits l c × ((d ≡ c) ⊎ ((l ≡ f.p.circuit) × (d ≡ told_late f.p.place ms c)))) → (c : Joined) × At told.circuits l c × Onward F l c d
     go l d (c, at, inl is) = (c, at, subst (λ (z : Joined). Onward F l c z) (sym is) (on-self F l c))
-    go l d (c, at, inr (here, is)) = (c, at, subst (λ (z : Joined). Onward F l c z) (sym is) (on-more F l c (told_late f.p.place ms c) (about f.p.place Reply ms) refl (λ t there. (here, there)) (λ st there. (st, there, refl))))
+    go l d (c, at, inr (here, is)) = (c, at, subst (λ (z : Joined). Onward F l c z) (sym is) (on-more F l c (told_late f.p.place ms c) (about f.p.place Reply ms) refl refl (λ t there. (here, there)) (λ st there. (st, there, refl))))
 
 -- the SERVER_DISCONNs of a record that is removed
 abbrev pub RemoveNews : (w : World) (i : ℕ) (core : Server) (name : List ℕ) (gone : Handle → Bool) (left : Handle → ℕ) → ℕ → News → Type 0
@@ -405,7 +418,7 @@ removed-back w i y name gone left core =
         go false other = on-self F l c
         go true both =
             let b = and-both (eqb c.server i) c.lists.server_open both in
-            on-more F l c after (map (removal_told c.creations) gone_of) refl (λ t there. (c, on, eqb-true c.server i b.0, b.1, there)) (kept-standing (λ (s : Standing). not (over s.key)) c.standing)
+            on-more F l c after (map (removal_told c.creations) gone_of) refl refl (λ t there. (c, on, eqb-true c.server i b.0, b.1, there)) (kept-standing (λ (s : Standing). not (over s.key)) c.standing)
 
 -- the updates that leave the queues of a circuit
 abbrev pub PumpNews : (k : ℕ) (told : List Told) → ℕ → News → Type 0
@@ -417,7 +430,7 @@ pub pump-back : (w new : World) (k : ℕ) (j : Joined) (y : ServerSide) → At w
 pump-back w new k j y on f =
     subst (λ (z : World). Back F w z) (sym f.leaves)
     (back-after F w (with_circuit k d w) j.server y (ends_by j.server f.core) f.core
-    (back-set F w k j d on (on-more F k j d (stamped_told f.updates j) (stamped-is f.updates j) (λ t there. (refl, there)) (λ st at. (st, subst (λ (l : List Standing). In l st) (stamped-parts f.updates j).2 at, refl)))))
+    (back-set F w k j d on (on-more F k j d (stamped_told f.updates j) (stamped-same f.updates j).server (stamped-is f.updates j) (λ t there. (refl, there)) (λ st at. (st, subst (λ (l : List Standing). In l st) (stamped-parts f.updates j).2 at, refl)))))
   where
     d : Joined
     d = stamped f.updates j

@@ -39,7 +39,7 @@ update-is : (x : Wanted) (v : Stored) (t : DataType) (r : Result Elements Refusa
 update-is x v t (Ok e) = refl
 update-is x v t (Err r) = refl
 
-shows-to : (x : Wanted) (v : Stored) (m : Fields) → ShowsTo x v m → m.command ≡ 1
+pub shows-to : (x : Wanted) (v : Stored) (m : Fields) → ShowsTo x v m → m.command ≡ 1
 shows-to x v m (t, typed, is) = ap (λ (z : Fields). z.command) is ∙ update-is x v t (shown v.value (update_count x v) t.base)
 
 shows-command : (add : Fields) (v : Stored) (m : Fields) → Shows add v m → m.command ≡ 1

@@ -32,6 +32,7 @@ AnyNews w l (Takes m h) = (c : Joined) (log : List Entry) → At w.circuits l c 
 
 pub on-as : (F G : ℕ → News → Type 0) (l : ℕ) (c d : Joined) → ((x : News) → F l x → G l x) → Onward F l c d → Onward G l c d
 on-as F G l c d gives on = record {
+  server = on.server;
   life = on.life;
   lists = on.lists;
   told = λ i t at. elim (on.told i t at) [ inl old ↦ inl old | inr more ↦ inr (more.0, gives (Says t) more.1) ];

@@ -53,3 +53,10 @@ pub mod ActsWhole
 pub mod KnewFull
 pub mod LegalCut
 pub mod LegalMost
+pub mod FaceCalls
+pub mod FaceEvents
+pub mod FaceDue
+pub mod FaceLists
+pub mod FaceRuns
+pub mod ServersStay
+pub mod DueRuns

@@ -1,5 +1,7 @@
 -- Working: how each message that a server handled was answered, by the lists of its circuit and the log of the server's life.
-use Rattle.std.specs.Prelude.{ℕ, ◌≡◌, ◌<◌, ◌≤◌, ◌+◌, ◌⊎◌, List, length, take}
+use Rattle.std.specs.Prelude.{ℕ, ◌≡◌, ◌<◌, ◌≤◌, ◌+◌, ◌==◌, ◌⊎◌, true, List, length, take}
+use Rattle.std.specs.List.{list_any}
+use Rattle.ca_text.specs.Command.{command_number}
 use Rattle.ca_text.specs.declared.command.Command.TheVariants as command
 use Rattle.ca_text.specs.Place.{At}
 use Rattle.ca_text.specs.Status.{normal}
@@ -8,13 +10,20 @@ use Rattle.ca_model.specs.Due.{Action, Clears, Due, Knows}
 use Rattle.ca_model.specs.History.{Circuit, Entry, Finished, Line, Sent, Step, Withdrawn}
 use Rattle.ca_model.specs.Speech.{In, Is, sid_in}
 use Rattle.ca_model_safe.specs.Channels.{IsFinished, IsReply, IsUncleared, OfCircuits, before}
-use Rattle.ca_model_safe.specs.Known.{AreJust, IsChannel, IsKey, IsLogged, IsRecordOf}
-use Rattle.ca_model_world.specs.World.{World, told}
+use Rattle.ca_model_safe.specs.Known.{AreJust, IsChannel, IsFull, IsKey, IsLogged, IsRecordOf, NamesItself, has_created}
+use Rattle.ca_model_world.specs.World.{Setting, World, told}
+use Rattle.ca_laws_follows.specs.Given.{IsGiven}
 
--- What a server knows of its records, of the open channels of a circuit and of its subscriptions there is what these lists and this log say.
+-- What a server knows of its records, of its peer on a circuit, of the open channels there and of its subscriptions is what these lists and
+-- this log say: all of what a server knew, but for its port and its rules.
 pub record KnowsLists (c : Circuit) (y : List Entry) (k : Knows) : Type 0 where
   pub records : (name : List ℕ) → IsRecordOf y name (k.record_of name)
+  pub greeted : k.greeted ≡ list_any (λ (s : Sent). s.message.command == command_number command.Version) c.up
+  pub user : NamesItself c command.ClientName k.peer.user
+  pub host : NamesItself c command.HostName k.peer.host
+  pub settled : k.settled ≡ has_created c.down
   pub channels : AreJust k.channels (IsChannel c y)
+  pub full : k.full ≡ true → IsFull c k
   pub keys : AreJust k.keys (IsKey c y)
 
 -- The circuit as its server knew it when it took the message at place k, in this step, whoever its client is.
@@ -55,6 +64,10 @@ IsLate n c y k m =
 -- And every other reply about it is late.
 abbrev pub AnsweredAt : (n : ℕ) → Circuit → List Entry → (k : ℕ) → Step → Type 0
 AnsweredAt n c y k h = (a : IsAnswered n c y k h) × ((j : ℕ) (m : Fields) → IsReply c k j m → (j < h.sent + length a.replies) ⊎ IsLate n c y k m)
+
+-- So it is, and the server went by what server i was given.
+abbrev pub AnsweredBy : Setting → (i n : ℕ) → Circuit → List Entry → (k : ℕ) → Step → Type 0
+AnsweredBy s i n c y k h = (a : AnsweredAt n c y k h) × IsGiven s i a.0.known
 
 -- So it is, in the words of the statement: a late reply is to a put that was finished.
 abbrev pub AnsweredSo : (n : ℕ) → Circuit → List Entry → (k : ℕ) → Step → Type 0

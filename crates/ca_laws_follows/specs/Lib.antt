@@ -20,3 +20,6 @@ pub mod LiveRead
 pub mod Whole
 pub mod KnewFull
 pub mod LegalMost
+pub mod KnewFaces
+pub mod Given
+pub mod AnswerDue

@@ -2,6 +2,7 @@ ghost use Rattle.std.specs.Prelude.{List, Option};
 ghost use Rattle.ca_model_world.specs.Events.{Event};
 ghost use Rattle.ca_model_world.specs.Runs.{Runs};
 ghost use Rattle.ca_model_world.specs.World.{IsSetting, Setting, World};
+ghost use Rattle.ca_laws_follows.specs.AnswerDue.{AreAnsweredKnowing};
 ghost use Rattle.ca_laws_follows.specs.Answering.{AreAnswered};
 
 /// After every run from a well-formed setting each message that a server handled, on any circuit, got
@@ -14,4 +15,13 @@ ghost use Rattle.ca_laws_follows.specs.Answering.{AreAnswered};
 pub fn messages_are_answered()
     ensures { (s : Setting) (es : List Event) (stopped : Option Event) (w : World) → IsSetting s
         → Runs s es stopped w → AreAnswered w }
+{}
+
+/// And what the server knew then, by which it answered, is what the statement says that it knew (`Knew`):
+/// its port and its rules are those that the server of that life was given; and its records, its peer,
+/// its open channels, whether it was full, and its subscriptions are as the lists of the circuit and
+/// the log of its life say, as far as they went before that step.
+pub fn messages_are_answered_by_what_was_known()
+    ensures { (s : Setting) (es : List Event) (stopped : Option Event) (w : World) → IsSetting s
+        → Runs s es stopped w → AreAnsweredKnowing w }
 {}

@@ -26,9 +26,13 @@ pub use answer_laws::{
 };
 pub use answered_laws::messages_are_answered;
 pub use circuit_laws::circuits_are_legal_but_for_ids;
+pub use answered_laws::{messages_are_answered, messages_are_answered_by_what_was_known};
 pub use full_laws::servers_know_when_they_are_full;
 pub use gone_laws::retired_channels_lost_their_records;
-pub use knew_laws::{servers_know_their_channels, servers_know_their_keys};
+pub use knew_laws::{
+    servers_keep_their_settings, servers_know_their_channels, servers_know_their_keys,
+    servers_know_their_peers,
+};
 pub use laws::{
     follows_record_in_runs, listed_records_are_there, what_was_added_stands_or_is_over,
     what_was_sent_shows_its_posts,
