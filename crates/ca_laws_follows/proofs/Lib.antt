@@ -52,3 +52,8 @@ pub mod LiveRead
 pub mod ActsWhole
 pub mod KnewFull
 pub mod LegalCut
+pub mod LatelyLogs
+pub mod LatelyKeeps
+pub mod LatelyOpen
+pub mod LatelyRuns
+pub mod LatelyDue

@@ -19,3 +19,4 @@ pub mod Refused
 pub mod LiveRead
 pub mod Whole
 pub mod KnewFull
+pub mod Lately

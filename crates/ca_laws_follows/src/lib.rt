@@ -9,6 +9,7 @@ mod answered_laws;
 mod full_laws;
 mod gone_laws;
 mod knew_laws;
+mod late_laws;
 mod laws;
 mod legal_laws;
 mod live_laws;
@@ -27,6 +28,7 @@ pub use answered_laws::messages_are_answered;
 pub use full_laws::servers_know_when_they_are_full;
 pub use gone_laws::retired_channels_lost_their_records;
 pub use knew_laws::{servers_know_their_channels, servers_know_their_keys};
+pub use late_laws::late_replies_are_those_due;
 pub use laws::{
     follows_record_in_runs, listed_records_are_there, what_was_added_stands_or_is_over,
     what_was_sent_shows_its_posts,
