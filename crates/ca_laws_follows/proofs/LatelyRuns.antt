@@ -43,7 +43,7 @@ use Rattle.ca_laws_writes.specs.Agrees.{Agrees, IsBusyAs, IsBusyBy, IsBusyWith}
 use Rattle.ca_laws_writes.specs.Lives.{AreSlow, CameOn, IsPutOf, LostOn}
 use Rattle.ca_laws_writes.specs.Moves.{Lives, finish_told}
 use Rattle.ca_laws_writes.specs.Moves as moves
-use Rattle.ca_laws_writes.specs.Once.{Once, write_in}
+use Rattle.ca_laws_writes.specs.Once.{HadWaited, Once, write_in}
 use Rattle.ca_laws_writes.proofs.Cores.{EndsBy, next-ends, replies-stay, stay-self, stay-then}
 use Rattle.ca_laws_writes.proofs.Doing.{due-applies, due-waits}
 use Rattle.ca_laws_writes.proofs.Events.{Found, found}
@@ -492,7 +492,7 @@ module _ (Answers : Fields → Fields → Type 0) where
           on-one : (c : Joined) → At w.circuits f.p.circuit c → c.lists.server ≡ y.life → put.c.lists.server ≡ y.life
           on-one c on joins = ap (λ (z : Joined). z.lists.server) (At-one w.circuits f.p.circuit put.c c put.on on) ∙ joins
 
-          go : _ → put.c.lists.server ≡ y.life
+          go : CameOn w.circuits y.life f.p by.i by.v.value ⊎ HadWaited own-life.log f.p by.i f.r.number by.v.value → put.c.lists.server ≡ y.life
           go (inl came) = on-one came.c came.on came.joins
           go (inr waited) = (let came = own-life.life.once.came waited.0 f.p.circuit f.p.place f.r.number waited.1 waited.3 in on-one came.c came.on came.joins)
 
@@ -665,10 +665,10 @@ module _ (Answers : Fields → Fields → Type 0) where
             ]
               where
                 less : (x z : ℕ) → x ≤ z → (x ≡ z → ⊥) → x < z
-                less zero zero le no = absurd (no refl)
-                less zero (suc z) le no = omega arith
-                less (suc x) zero le no = absurd (omega (arith, le))
-                less (suc x) (suc z) le no = (let lt : x < z = less x z (omega (arith, le)) (λ e1. no (ap suc e1)) in omega (arith, lt))
+                less zero zero le differ = absurd (differ refl)
+                less zero (suc z) le differ = omega arith
+                less (suc x) zero le differ = absurd (omega (arith, le))
+                less (suc x) (suc z) le differ = (let lt : x < z = less x z (omega (arith, le)) (λ e1. differ (ap suc e1)) in omega (arith, lt))
 
             ends-same : d.lists.server_open ≡ true → (d.server ≡ put.c.server) × (d.at_server ≡ put.c.at_server)
             ends-same opened =
