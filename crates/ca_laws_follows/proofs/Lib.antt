@@ -57,3 +57,5 @@ pub mod LatelyKeeps
 pub mod LatelyOpen
 pub mod LatelyRuns
 pub mod LatelyDue
+pub mod LatelyPairs
+pub mod LatelyHeads
