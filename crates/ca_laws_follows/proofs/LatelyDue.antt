@@ -1,5 +1,5 @@
 -- After every run the late reply to a message is the one that was due, in the words of the statement.
-use Rattle.std.proofs.Common.{◌≡◌, ℕ, ◌<◌, ◌⊎◌, inl, inr, List, length, Option, Some, refl, sym, ap, subst, ◌∙◌}
+use Rattle.std.proofs.Common.{◌≡◌, ℕ, inl, inr, List, Option, Some, sym, ap, subst, ◌∙◌}
 use Rattle.std.specs.List.{FoldsTo}
 use Rattle.ca_text.specs.Place.{At}
 use Rattle.ca_text.specs.Status.{normal}
@@ -9,7 +9,7 @@ use Rattle.ca_wire.specs.Messages.{status_reply}
 use Rattle.ca_model.specs.Due.{late_reply}
 use Rattle.ca_model.specs.History.{Circuit, Entry, Finished, Line, Step}
 use Rattle.ca_model.specs.Speech.{In}
-use Rattle.ca_model_safe.specs.Channels.{IsFinished, IsReply}
+use Rattle.ca_model_safe.specs.Channels.{IsReply}
 use Rattle.ca_model_world.specs.Events.{Event}
 use Rattle.ca_model_world.specs.Runs.{Happens, Runs}
 use Rattle.ca_model_world.specs.World.{IsSetting, Joined, Setting, World, circuit_of, opening}
@@ -21,7 +21,7 @@ use Rattle.ca_laws_follows.specs.Lately.{AreAnsweredLately, IsLately}
 use Rattle.ca_laws_follows.proofs.ActsOn.{of-circuits}
 use Rattle.ca_laws_follows.proofs.AnsweringRuns.{run-answered}
 use Rattle.ca_laws_follows.proofs.LatelyKeeps.{IsKnownLate, delayed-did, finished-delayed, late-is}
-use Rattle.ca_laws_follows.proofs.LatelyRuns.{AllLate, AnswersAt, run-late}
+use Rattle.ca_laws_follows.proofs.LatelyRuns.{AnswersAt, run-late}
 
 -- the reply that tells a put done
 abbrev pub IsDone : Fields → Fields → Type 0

@@ -13,18 +13,16 @@ use Rattle.ca_records.specs.Puts as puts
 use Rattle.ca_records.specs.Record.{RecordState, unset}
 use Rattle.ca_text.specs.Place.{At}
 use Rattle.ca_text.specs.Status.{normal}
-use Rattle.ca_text.proofs.Places.{some_is, At-map, At-mapped, At-one, At-set, At-within}
+use Rattle.ca_text.proofs.Places.{At-map, At-one, At-set, At-within}
 use Rattle.ca_wire.specs.Fields.{Fields}
-use Rattle.ca_wire.specs.Messages.{status_reply}
 use Rattle.ca_model.specs.Due.{Action, Applies}
 use Rattle.ca_model.specs.Due as action
 use Rattle.ca_model.specs.Ends as why
-use Rattle.ca_model.specs.History.{Collected, Entry, GaveUp, Sent}
+use Rattle.ca_model.specs.History.{Collected, GaveUp, Sent}
 use Rattle.ca_model.specs.Server.{Server, ServerEnd}
-use Rattle.ca_model.specs.ServerCalls.{finish_reply, with_finish}
+use Rattle.ca_model.specs.ServerCalls.{with_finish}
 use Rattle.ca_model.specs.ServerSteps.{Cuts, IsPut, LeftOf, Next, Pumps, Records, Stepped, Update, closed}
 use Rattle.ca_model.specs.ServerSteps as stepped
-use Rattle.ca_model.specs.Speech.{In}
 use Rattle.ca_model_world.specs.ClientEvents.{HappensAccept, HappensDown, WantsFirst}
 use Rattle.ca_model_world.specs.Events.{Event}
 use Rattle.ca_model_world.specs.Events as event
@@ -32,10 +30,10 @@ use Rattle.ca_model_world.specs.Runs.{CanBe, Happens, Leaves, clients_below}
 use Rattle.ca_model_world.specs.ServerEvents.{HappensAdd, HappensFinish, HappensPost, HappensRemove, ServerStepped, acted, ends_at, ends_by, ends_here, next_busy, noted, records_after, replied_at, reported, server_after, side_of, unsaid, without_puts}
 use Rattle.ca_model_world.specs.ServerEvents as server
 use Rattle.ca_model_world.specs.World.{ClientSide, IsSetting, Joined, PutPlace, RecordSide, ServerSide, Setting, World, opening, record_begun, server_begun, with_circuit}
-use Rattle.ca_laws_kept.proofs.Puts.{In-mapped, puts-begun}
+use Rattle.ca_laws_kept.proofs.Puts.{In-mapped}
 use Rattle.ca_laws_kept.proofs.Thins.{put-facts}
-use Rattle.ca_laws_held.specs.Pairs.{BusyPair, SideWaits}
-use Rattle.ca_laws_held.proofs.Follow.{PutsFollow, puts-follow}
+use Rattle.ca_laws_held.specs.Pairs.{SideWaits}
+use Rattle.ca_laws_held.proofs.Follow.{puts-follow}
 use Rattle.ca_laws_held.proofs.Pairs.{none-some}
 use Rattle.ca_laws_held.proofs.StepWhole.{takes-next}
 use Rattle.ca_laws_held.proofs.ToldGrows.{event-on}
@@ -132,7 +130,7 @@ module _ (s : Setting) (w new : World) (e : Event) (ready_w : Ready s w) (ready_
 
   -- Circuits of server i end, of which both sides know.
   module _ (i : ℕ) (y z : ServerSide) (at_y : At w.servers i y) (at_z : At new.servers i z) (cs : List Record) (rs : List RecordSide) (gone : Handle → Bool) (ends : ℕ → Bool) (mid : Lines (IsHeadPut w i) y.core.records cs y.records rs)
-    (core_is : z.core.records ≡ withdrawn (λ (p : Put). gone p.circuit) cs) (side_is : z.records ≡ map (without_puts ends) rs) where
+      (core_is : z.core.records ≡ withdrawn (λ (p : Put). gone p.circuit) cs) (side_is : z.records ≡ map (without_puts ends) rs) where
     own : Lives w i y
     own = ready_w.serves.stands.sound.writes.lives i y at_y
 

@@ -1,5 +1,5 @@
 -- What is known of the late reply to a put stays so as the lists of its circuit and the log of its server grow.
-use Rattle.std.proofs.Common.{◌≡◌, ℕ, zero, suc, ◌+◌, ◌<◌, ◌≤◌, ◌⊎◌, inl, inr, Bool, true, false, List, [], ◌∷◌, ◌++◌, length, Option, Some, None, refl, sym, ap, subst, ◌∙◌, arith}
+use Rattle.std.proofs.Common.{◌≡◌, ℕ, zero, suc, ◌+◌, ◌<◌, ◌≤◌, ◌⊎◌, inl, inr, Bool, true, false, List, [], ◌∷◌, ◌++◌, length, Some, refl, sym, subst, arith}
 use Rattle.ca_text.specs.Place.{At}
 use Rattle.ca_text.specs.Status.{normal}
 use Rattle.ca_text.proofs.Places.{some_is, At-append, At-back, At-one, At-or, At-within}
@@ -11,7 +11,7 @@ use Rattle.ca_model.specs.Due as action
 use Rattle.ca_model.specs.History.{Applied, Circuit, Entry, Finished, Sent, Step, Waits, Withdrawn}
 use Rattle.ca_model.specs.Speech.{In, Stored, sid_in}
 use Rattle.ca_model_safe.specs.Channels.{IsCleared, IsReply, IsTaken, IsUncleared}
-use Rattle.ca_model_world.specs.World.{Joined, PutPlace}
+use Rattle.ca_model_world.specs.World.{Joined}
 use Rattle.ca_laws_writes.specs.Lives.{CameOn, LostOn}
 use Rattle.ca_laws_writes.specs.Once.{Once}
 use Rattle.ca_laws_writes.proofs.Lists.{none_at}

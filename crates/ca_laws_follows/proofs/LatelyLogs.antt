@@ -17,7 +17,6 @@ use Rattle.ca_model.specs.History as history
 use Rattle.ca_model.specs.Server.{Server}
 use Rattle.ca_model.specs.ServerSteps.{Stepped, closed}
 use Rattle.ca_model.specs.ServerSteps as stepped
-use Rattle.ca_model.specs.Speech.{In}
 use Rattle.ca_model_world.specs.ClientEvents.{DownTaken}
 use Rattle.ca_model_world.specs.Events.{Event}
 use Rattle.ca_model_world.specs.Events as event

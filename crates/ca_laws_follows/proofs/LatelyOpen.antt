@@ -1,6 +1,6 @@
 -- A put that waits is on a channel that is open; and one that makes its record busy is, or its channel was cleared since. So over every event
 -- and every run.
-use Rattle.std.proofs.Common.{◌≡◌, ℕ, ◌+◌, ◌<◌, ◌≤◌, ◌⊎◌, inl, inr, Bool, true, false, List, [], ◌∷◌, ◌++◌, length, Option, Some, None, refl, sym, ap, subst, ◌∙◌, arith}
+use Rattle.std.proofs.Common.{◌≡◌, ℕ, ◌+◌, ◌<◌, ◌≤◌, ◌⊎◌, inl, inr, true, false, List, [], ◌∷◌, ◌++◌, length, Option, Some, None, refl, sym, ap, subst, ◌∙◌, arith}
 use Rattle.std.specs.Prelude.{filter, map, option_map, unwrap_or}
 use Rattle.std.specs.List.{FoldsTo, fold}
 use Rattle.std.proofs.lemmas.List.{length-append}
@@ -16,29 +16,27 @@ use Rattle.ca_text.proofs.Places.{At-one, At-within}
 use Rattle.ca_model.specs.Due.{Action, Adds, Applies, Clears, Drops, Due, Opens, Switches}
 use Rattle.ca_model.specs.Due as action
 use Rattle.ca_model.specs.History.{Circuit, Sent, Step}
-use Rattle.ca_model.specs.Server.{OpenChannel, Server, ServerEnd, concerns, key_of, with_post}
+use Rattle.ca_model.specs.Server.{OpenChannel, ServerEnd, concerns, key_of, with_post}
 use Rattle.ca_model.specs.ServerCalls.{channels_of, end_without, retired}
 use Rattle.ca_model.specs.ServerSteps.{Acts, HasEnd, Leaves, Update, knows, without_channel}
 use Rattle.ca_model.specs.Speech.{In, sid_in}
 use Rattle.ca_model.specs.Speech as speech
 use Rattle.ca_model_world.specs.Events.{Event}
-use Rattle.ca_model_world.specs.Runs.{Happens, Runs, StopsAt, clients_below}
+use Rattle.ca_model_world.specs.Runs.{Happens}
 use Rattle.ca_model_world.specs.Events as event
 use Rattle.ca_model_world.specs.ServerEvents.{handled_at, numbers_after, stamped, with_number}
 use Rattle.ca_model_world.specs.World.{IsSetting, Joined, PutPlace, ServerSide, Setting, World, opening}
 use Rattle.ca_laws_kept.proofs.Thins.{put-facts}
 use Rattle.ca_laws_held.specs.Pairs.{BusyPair, CoreWaits, SideWaits}
 use Rattle.ca_laws_held.proofs.Comes.{Comes, NextPut, StepPut, core-beside}
-use Rattle.ca_laws_held.proofs.Follow.{PutsFollow, puts-follow}
+use Rattle.ca_laws_held.proofs.Follow.{puts-follow}
 use Rattle.ca_laws_held.proofs.Pairs.{Follows}
 use Rattle.ca_laws_held.proofs.StepWhole.{takes-next}
 use Rattle.ca_laws_writes.specs.Lives.{IsPutOf}
 use Rattle.ca_laws_writes.specs.Moves.{Lives}
-use Rattle.ca_laws_writes.specs.Seats.{Sound}
 use Rattle.ca_laws_writes.proofs.Cores.{each-there}
 use Rattle.ca_laws_writes.proofs.Doing.{clears-only}
-use Rattle.ca_laws_writes.proofs.Every.{ticks-frame}
-use Rattle.ca_laws_writes.proofs.Frames.{Frame, goes-self}
+use Rattle.ca_laws_writes.proofs.Frames.{goes-self}
 use Rattle.ca_laws_writes.proofs.HappensPost.{stamped-same}
 use Rattle.ca_laws_writes.proofs.Lasting.{AllEnds, Begins, Handled, Lasting, numbered_for, told_gone, told_late}
 use Rattle.ca_laws_writes.proofs.LastingAll.{OnStep, event-by}

@@ -1,16 +1,12 @@
 -- The late reply to each put is the one that was due, over every event and run.
-use Rattle.std.proofs.Common.{◌≡◌, ℕ, zero, suc, ◌+◌, ◌<◌, ◌≤◌, ◌⊎◌, inl, inr, Bool, true, false, cond, ◌&&◌, List, [], ◌∷◌, ◌++◌, length, Option, Some, None, refl, sym, ap, subst, ◌∙◌, append-nil, arith}
+use Rattle.std.proofs.Common.{◌≡◌, ℕ, zero, suc, ◌+◌, ◌<◌, ◌≤◌, ◌⊎◌, inl, inr, Bool, true, false, cond, List, [], ◌∷◌, ◌++◌, length, Option, Some, None, refl, sym, ap, subst, ◌∙◌, append-nil, arith}
 use Rattle.std.proofs.lemmas.Bool.{and_parts}
-use Rattle.std.specs.Prelude.{filter, is_some, map, not, option_map, slice_get, slice_set, unwrap_or}
+use Rattle.std.specs.Prelude.{filter, is_some, map, option_map, slice_get, slice_set, unwrap_or}
 use Rattle.std.specs.List.{FoldsTo, flat_map}
-use Rattle.std.specs.Str.{bytes_eq}
 use Rattle.ca_arena.specs.declared.handle.Handle.{Handle}
-use Rattle.ca_ids.specs.Table.{under}
-use Rattle.ca_ids.specs.Wire.{wire_of}
 use Rattle.ca_link.specs.Link.{with_rest}
 use Rattle.ca_model_client.proofs.Tables.{all-freed-back, one-value}
 use Rattle.ca_records.specs.declared.puts.Put.{Put}
-use Rattle.ca_records.specs.Puts.{Record, record_named, withdrawn}
 use Rattle.ca_text.specs.declared.command.Command.TheVariants as command
 use Rattle.ca_text.specs.Place.{At}
 use Rattle.ca_text.specs.Status.{normal}
@@ -21,28 +17,27 @@ use Rattle.ca_model.specs.Answers.{Closing}
 use Rattle.ca_model.specs.Due.{Action, Applies, Due, KnownRecord, Knows, PutDue, late_reply, must_wait}
 use Rattle.ca_model.specs.Due as action
 use Rattle.ca_model.specs.Ends.{Why}
-use Rattle.ca_model.specs.History.{Applied, Cause, Circuit, Entry, Finished, Line, Removal, Reply, Sent, Step, Told, Waits, Withdrawn}
+use Rattle.ca_model.specs.History.{Applied, Cause, Entry, Finished, Removal, Reply, Sent, Step, Told, Waits, Withdrawn}
 use Rattle.ca_model.specs.Server.{Ended, Open, OpenChannel, Server, ServerCircuit, ServerEnd}
-use Rattle.ca_model.specs.ServerCalls.{IsAwaited, Replies, after_next, finish_reply, with_finish}
-use Rattle.ca_model.specs.ServerSteps.{HasEnd, Pumps, Stepped, known_record, knows, stored_now}
+use Rattle.ca_model.specs.ServerCalls.{Replies, after_next, finish_reply, with_finish}
+use Rattle.ca_model.specs.ServerSteps.{HasEnd, Pumps, Stepped, knows}
 use Rattle.ca_model.specs.Speech.{In, Is, Stored, sid_in}
-use Rattle.ca_model_safe.specs.Channels.{IsFinished, IsReply, IsUncleared}
+use Rattle.ca_model_safe.specs.Channels.{IsReply, IsUncleared}
 use Rattle.ca_model_world.specs.ClientEvents.{HappensAccept, WantsFirst, connected_as, new_circuit}
 use Rattle.ca_model_world.specs.Events.{Event}
 use Rattle.ca_model_world.specs.Events as event
 use Rattle.ca_model_world.specs.Runs.{Happens, Runs, StopsAt, clients_below}
 use Rattle.ca_model_world.specs.ServerEvents.{HappensFinish, HappensPump, HappensRemove, ServerStepped, StepHandles, about, acted, ending, ends_at, ends_by, finish_entry, first_of, handled_at, left_by, logged_by, next_entries, next_numbers, removal_told, replied_at, reported, server_after, side_of, withdrawals}
 use Rattle.ca_model_world.specs.ServerEvents as server
-use Rattle.ca_model_world.specs.World.{ClientSide, IsSetting, Joined, PutPlace, RecordSide, ServerSide, Setting, Standing, World, circuit_of, opening, with_circuit}
+use Rattle.ca_model_world.specs.World.{ClientSide, IsSetting, Joined, PutPlace, RecordSide, ServerSide, Setting, Standing, World, opening, with_circuit}
 use Rattle.ca_laws_kept.specs.Later.{IsLater, stamped_told}
 use Rattle.ca_laws_kept.proofs.Updates.{stamps-later}
 use Rattle.ca_laws_held.specs.Pairs.{BusyPair}
 use Rattle.ca_laws_held.proofs.CauseKeeps.{handled-or}
-use Rattle.ca_laws_held.proofs.StepWhole.{run-serves, takes-next}
+use Rattle.ca_laws_held.proofs.StepWhole.{takes-next}
 use Rattle.ca_laws_writes.specs.Agrees.{Agrees, IsBusyAs, IsBusyBy, IsBusyWith}
 use Rattle.ca_laws_writes.specs.Lives.{AreSlow, CameOn, IsPutOf, LostOn}
 use Rattle.ca_laws_writes.specs.Moves.{Lives, finish_told}
-use Rattle.ca_laws_writes.specs.Moves as moves
 use Rattle.ca_laws_writes.specs.Once.{HadWaited, Once, write_in}
 use Rattle.ca_laws_writes.proofs.Cores.{EndsBy, next-ends, replies-stay, stay-self, stay-then}
 use Rattle.ca_laws_writes.proofs.Doing.{due-applies, due-waits}
@@ -57,21 +52,16 @@ use Rattle.ca_laws_writes.proofs.Lists.{beside-right, none_at}
 use Rattle.ca_laws_writes.proofs.Lives.{others-apart}
 use Rattle.ca_laws_writes.proofs.Midway.{grown-here}
 use Rattle.ca_laws_writes.proofs.Moves.{At-below, same-or}
-use Rattle.ca_laws_writes.proofs.Says.{logs-stay}
 use Rattle.ca_laws_writes.proofs.Step.{known-one}
-use Rattle.ca_laws_follows.specs.Answering.{AnsweredSo, IsAnswered}
-use Rattle.ca_laws_follows.specs.Lately.{AreAnsweredLately, IsLately}
-use Rattle.ca_laws_follows.proofs.Acting.{Extends, Grows, IsLonger, grown-back}
-use Rattle.ca_laws_follows.proofs.ActsOn.{of-circuits}
+use Rattle.ca_laws_follows.proofs.Acting.{Extends, IsLonger, grown-back}
 use Rattle.ca_laws_follows.proofs.AnsweringFrame.{step-lists, step-of}
-use Rattle.ca_laws_follows.proofs.AnsweringRuns.{run-answered}
 use Rattle.ca_laws_follows.proofs.CausingEvents.{Nothing-new, Ready, steady-of}
-use Rattle.ca_laws_follows.proofs.CausingFrame.{Back, FinishNews, IsStill, News, PumpNews, RemoveNews, Says, Takes, back-frame, finish-back, pump-back, removed-back, step-back, still-back, unhandled-back}
+use Rattle.ca_laws_follows.proofs.CausingFrame.{Back, IsStill, News, PumpNews, RemoveNews, Says, Takes, back-frame, finish-back, pump-back, removed-back, step-back, still-back, unhandled-back}
 use Rattle.ca_laws_follows.proofs.CausingKeeps.{Steady}
 use Rattle.ca_laws_follows.proofs.CausingRuns.{ready}
-use Rattle.ca_laws_follows.proofs.LatelyKeeps.{IsDelayed, IsKnownLate, IsLateDid, delayed-did, delayed-old, finished-delayed, late-forth, late-is}
+use Rattle.ca_laws_follows.proofs.LatelyKeeps.{IsDelayed, IsKnownLate, IsLateDid, delayed-old, late-forth}
 use Rattle.ca_laws_follows.proofs.LatelyLogs.{FinishesOr, IsNoFinish, IsThis, event-told, finish-told}
-use Rattle.ca_laws_follows.proofs.LatelyOpen.{AllHeld, HasChannel, IsClearedFrom, event-since, open-was, run-held}
+use Rattle.ca_laws_follows.proofs.LatelyOpen.{AllHeld, event-since, open-was, run-held}
 use Rattle.ca_laws_follows.proofs.LoggedStep.{told-logs}
 use Rattle.ca_laws_follows.proofs.Whole.{LogsGrow, folds-snoc, logs-grow, logs-there}
 
