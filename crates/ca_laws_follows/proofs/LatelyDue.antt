@@ -17,7 +17,7 @@ use Rattle.ca_laws_held.proofs.StepWhole.{run-serves}
 use Rattle.ca_laws_writes.specs.Lives.{CameOn, LostOn}
 use Rattle.ca_laws_writes.specs.Once.{Once}
 use Rattle.ca_laws_follows.specs.Answering.{AnsweredSo, IsAnswered}
-use Rattle.ca_laws_follows.specs.Lately.{AreAnsweredLately, IsLately}
+use Rattle.ca_laws_follows.specs.Lately.{AnsweredLately, AreAnsweredLately}
 use Rattle.ca_laws_follows.proofs.ActsOn.{of-circuits}
 use Rattle.ca_laws_follows.proofs.AnsweringRuns.{run-answered}
 use Rattle.ca_laws_follows.proofs.LatelyKeeps.{IsKnownLate, delayed-did, finished-delayed, late-is}
@@ -29,12 +29,14 @@ IsDone request reply = reply ≡ status_reply request normal
 
 -- of one circuit
 module _ (n : ℕ) (j : Joined) (y : List Entry) (cs : List Joined) (on : At cs n j) (once : Once (CameOn cs j.lists.server) (LostOn cs) y) where
-  late-due : (k : ℕ) (h : Step) (a : IsAnswered n (circuit_of j) y k h) → At j.lists.handled k h → In y (Finished n k) → late_reply a.s.message a.did ≡ Some (status_reply a.s.message normal)
+  late-due : (k : ℕ) (h : Step) (a : IsAnswered n (circuit_of j) y k h) → At j.lists.handled k h → In y (Finished n k)
+      → late_reply a.s.message a.did ≡ Some (status_reply a.s.message normal)
   late-due k h a there done =
       late-is a.s.message a.did
       (delayed-did cs j.lists.server y once n k j on h there _ a.did a.logs a.logs_are a.logged a.besides (finished-delayed cs j.lists.server y once n k j on h there done))
 
-  pub as-late : (k : ℕ) (h : Step) → At j.lists.handled k h → ((a : IsAnswered n (circuit_of j) y k h) → IsKnownLate IsDone n j.lists y k a.s) → AnsweredSo n (circuit_of j) y k h → (a : IsAnswered n (circuit_of j) y k h) × IsLately n (circuit_of j) y k h a
+  pub as-late : (k : ℕ) (h : Step) → At j.lists.handled k h → ((a : IsAnswered n (circuit_of j) y k h) → IsKnownLate IsDone n j.lists y k a.s)
+      → AnsweredSo n (circuit_of j) y k h → AnsweredLately n (circuit_of j) y k h
   as-late k h there late_of (a, rest) =
       let l = late_of a in (
         a,
@@ -56,10 +58,11 @@ module _ (n : ℕ) (j : Joined) (y : List Entry) (cs : List Joined) (on : At cs 
         },
       )
 
-pub lately : (s : Setting) (es : List Event) (stopped : Option Event) (w : World) → IsSetting s → Runs s es stopped w → ((done : List Event) (v : World) → FoldsTo Happens (opening s) done v → AnswersAt IsDone v) → AreAnsweredLately w
+pub lately : (s : Setting) (es : List Event) (stopped : Option Event) (w : World) → IsSetting s → Runs s es stopped w
+    → ((done : List Event) (v : World) → FoldsTo Happens (opening s) done v → AnswersAt IsDone v) → AreAnsweredLately w
 lately s es stopped w ok runs says =
     of-circuits s es stopped w ok runs
-    (λ (n : ℕ) (c : Circuit) (x : List Line) (y : List Entry). (k : ℕ) (h : Step) → At c.handled k h → (a : IsAnswered n c y k h) × IsLately n c y k h a)
+    (λ (n : ℕ) (c : Circuit) (x : List Line) (y : List Entry). (k : ℕ) (h : Step) → At c.handled k h → AnsweredLately n c y k h)
     (λ n j x y at lx ly k h there.
     let r = run-answered s es stopped w ok runs n (circuit_of j) (At-map circuit_of w.circuits n j at) in
     let same : r.1 ≡ y = At-one w.server_logs j.lists.server r.1 y r.2.2 ly in

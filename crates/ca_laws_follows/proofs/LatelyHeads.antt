@@ -92,13 +92,15 @@ module _ (w : World) where
   servers-same : (new : World) → new.servers ≡ w.servers → AllLines new
   servers-same new is i z at = inl (z, subst (λ (l : List ServerSide). At l i z) is at, lines-self (IsHeadPut i) z.core.records z.records)
 
-  servers-set : (new : World) (k : ℕ) (y next : ServerSide) → At w.servers k y → new.servers ≡ slice_set w.servers k next → LinesFrom k y next → AllLines new
+  servers-set : (new : World) (k : ℕ) (y next : ServerSide) → At w.servers k y → new.servers ≡ slice_set w.servers k next → LinesFrom k y next
+      → AllLines new
   servers-set new k y next at is from i z there = elim (At-set w.servers k next i z (subst (λ (l : List ServerSide). At l i z) is there)) [
     | inl own ↦ inl (y, subst (λ (m : ℕ). At w.servers m y) (sym own.0) at, subst (λ (x : ℕ × ServerSide). LinesFrom x.0 y x.1) (λ t. (sym own.0 t, sym own.1 t)) from)
     | inr old ↦ inl (z, old.0, lines-self (IsHeadPut i) z.core.records z.records)
   ]
 
-  servers-core : (new : World) (k : ℕ) (y : ServerSide) (core : Server) → At w.servers k y → new.servers ≡ slice_set w.servers k (record y { core = core }) → core.records ≡ y.core.records → AllLines new
+  servers-core : (new : World) (k : ℕ) (y : ServerSide) (core : Server) → At w.servers k y
+      → new.servers ≡ slice_set w.servers k (record y { core = core }) → core.records ≡ y.core.records → AllLines new
   servers-core new k y core at is same = servers-set new k y (record y { core = core }) at is (lines-are (IsHeadPut k) y.core.records core.records y.records same)
 
   framed : (new : World) → Frame w new → AllLines new
@@ -106,7 +108,8 @@ module _ (w : World) where
 
 module _ (s : Setting) (w new : World) (e : Event) (ready_w : Ready s w) (ready_new : Ready s new) (happens : Happens w e new) where
   -- an open circuit is of the same server, under the same handle
-  same-ends : (n : ℕ) (c d : Joined) → At w.circuits n c → At new.circuits n d → d.lists.server_open ≡ true → (d.server ≡ c.server) × (d.at_server ≡ c.at_server)
+  same-ends : (n : ℕ) (c d : Joined) → At w.circuits n c → At new.circuits n d → d.lists.server_open ≡ true
+      → (d.server ≡ c.server) × (d.at_server ≡ c.at_server)
   same-ends n c d on at opened =
       let seat = ready_new.serves.stands.sound.seated.each n d at opened in
       elim (event-since s w new e ready_w happens n d seat.y seat.e at seat.at opened seat.has) [
@@ -138,7 +141,8 @@ module _ (s : Setting) (w new : World) (e : Event) (ready_w : Ready s w) (ready_
     own-new = ready_new.serves.stands.sound.writes.lives i z at_z
 
     -- the open circuit on which a put waits
-    where-waits : (q : PutPlace) (b : Put) → IsWaitingAt cs rs q b → (c : Joined) × At w.circuits q.circuit c × (c.server ≡ i) × (c.lists.server_open ≡ true) × (b.circuit ≡ c.at_server)
+    where-waits : (q : PutPlace) (b : Put) → IsWaitingAt cs rs q b
+        → (c : Joined) × At w.circuits q.circuit c × (c.server ≡ i) × (c.lists.server_open ≡ true) × (b.circuit ≡ c.at_server)
     where-waits q b p = elim (mid.waits q b p) [
       | inl old ↦
           let g = both-at (Agrees (IsPutOf w.circuits i) own.log) y.core.records y.records old.k old.c old.r own.life.each old.in_cs old.in_rs in
@@ -210,7 +214,8 @@ module _ (s : Setting) (w new : World) (e : Event) (ready_w : Ready s w) (ready_
         (subst (λ (v : List Record × List RecordSide). Lines (IsHeadPut w i) cs v.0 rs v.1) (λ t. (sym core_is t, sym side_is t)) (lines-gone (IsHeadPut w i) (λ (p : Put). gone p.circuit) ends cs rs agree))
 
   -- an event at server k after which circuits end
-  ended : (mid : World) (k : ℕ) (y side : ServerSide) (ends : Joined → Option (List ℕ)) (core : Server) → new.servers ≡ (server_after k side ends core mid).servers → At w.servers k y
+  ended : (mid : World) (k : ℕ) (y side : ServerSide) (ends : Joined → Option (List ℕ)) (core : Server)
+      → new.servers ≡ (server_after k side ends core mid).servers → At w.servers k y
       → ((i : ℕ) (z : ServerSide) → At mid.servers i z → (i ≡ k → ⊥) → At w.servers i z) → (cs : List Record) (gone : Handle → Bool) → Lines (IsHeadPut w k) y.core.records cs y.records side.records
       → core.records ≡ withdrawn (λ (p : Put). gone p.circuit) cs → AllLines w new
   ended mid k y side ends core servers at others cs gone lines is i z there = elim (At-set mid.servers k _ i z (subst (λ (l : List ServerSide). At l i z) servers there)) [
@@ -239,7 +244,8 @@ module _ (s : Setting) (w new : World) (e : Event) (ready_w : Ready s w) (ready_
     long-waiting k c r in_cs in_rs = sym (both-long (WaitsAs (IsPutOf w.circuits i) life.log r.number) r.waiting c.waiting (both-at (Agrees (IsPutOf w.circuits i) life.log) y.core.records y.records k c r life.life.each in_cs in_rs).each)
 
     -- a value is stored in a record
-    stored-lines : (name : List ℕ) (f : Record → Record) → ((c : Record) → (f c).busy ≡ c.busy) → ((c : Record) → (f c).waiting ≡ c.waiting) → Lines (IsHeadPut w i) y.core.records (with_record name f y.core.records) y.records y.records
+    stored-lines : (name : List ℕ) (f : Record → Record) → ((c : Record) → (f c).busy ≡ c.busy) → ((c : Record) → (f c).waiting ≡ c.waiting)
+        → Lines (IsHeadPut w i) y.core.records (with_record name f y.core.records) y.records y.records
     stored-lines name f busy waiting =
         lines-cores (IsHeadPut w i) (λ (c : Record). cond (bytes_eq c.state.name name) (f c) c) y.core.records y.records (λ c. one c (bytes_eq c.state.name name)) (λ c. two c (bytes_eq c.state.name name))
       where
@@ -303,16 +309,19 @@ module _ (s : Setting) (w new : World) (e : Event) (ready_w : Ready s w) (ready_
         }
 
     -- a core withdraws the puts of a circuit, or none
-    cut-of : (h : Handle) (core : Server) → Cuts y.core h core → (gone : Handle → Bool) × (core.records ≡ withdrawn (λ (p : Put). gone p.circuit) y.core.records)
+    cut-of : (h : Handle) (core : Server) → Cuts y.core h core
+        → (gone : Handle → Bool) × (core.records ≡ withdrawn (λ (p : Put). gone p.circuit) y.core.records)
     cut-of h core (inl (end, has, is)) = (λ (g : Handle). same_handle g h, ap (λ (x : Server). x.records) is)
     cut-of h core (inr (none, is)) = (λ (g : Handle). false, ap (λ (x : Server). x.records) is ∙ sym (withdrawn-none (λ (p : Put). false) y.core.records (λ b. refl)))
 
-    pump-of : (h : Handle) (us : List Update) (core : Server) → Pumps y.core h us core → (gone : Handle → Bool) × (core.records ≡ withdrawn (λ (p : Put). gone p.circuit) y.core.records)
+    pump-of : (h : Handle) (us : List Update) (core : Server) → Pumps y.core h us core
+        → (gone : Handle → Bool) × (core.records ≡ withdrawn (λ (p : Put). gone p.circuit) y.core.records)
     pump-of h us core (inl (end, has, (after, folds, inl (rests, is)))) = (λ (g : Handle). false, ap (λ (x : Server). x.records) is ∙ sym (withdrawn-none (λ (p : Put). false) y.core.records (λ b. refl)))
     pump-of h us core (inl (end, has, (after, folds, inr (more, is)))) = (λ (g : Handle). same_handle g h, ap (λ (x : Server). x.records) is)
     pump-of h us core (inr (none, nothing, is)) = (λ (g : Handle). false, ap (λ (x : Server). x.records) is ∙ sym (withdrawn-none (λ (p : Put). false) y.core.records (λ b. refl)))
 
-    quiet-lines : (mid : World) (ends : Joined → Option (List ℕ)) (core : Server) → new.servers ≡ (server_after i y ends core mid).servers → mid.servers ≡ w.servers → (gone : Handle → Bool) × (core.records ≡ withdrawn (λ (p : Put). gone p.circuit) y.core.records) → AllLines w new
+    quiet-lines : (mid : World) (ends : Joined → Option (List ℕ)) (core : Server) → new.servers ≡ (server_after i y ends core mid).servers
+        → mid.servers ≡ w.servers → (gone : Handle → Bool) × (core.records ≡ withdrawn (λ (p : Put). gone p.circuit) y.core.records) → AllLines w new
     quiet-lines mid ends core servers same (gone, is) =
         ended mid i y y ends core servers at (λ l z there other. subst (λ (ss : List ServerSide). At ss l z) same there) y.core.records gone (lines-self (IsHeadPut w i) y.core.records y.records) is
 
@@ -322,14 +331,16 @@ module _ (s : Setting) (w new : World) (e : Event) (ready_w : Ready s w) (ready_
     abbrev place_of : PutPlace
     place_of = record { circuit = k; place = length j.lists.handled }
 
-    acted-side : (did : Action) → side_of j.server y (acted k j y did w) ≡ record y { records = records_after y.core j.at_server place_of did y.records }
+    acted-side : (did : Action)
+        → side_of j.server y (acted k j y did w) ≡ record y { records = records_after y.core j.at_server place_of did y.records }
     acted-side did = ap (λ (o : Option ServerSide). unwrap_or o y) (set-here w.servers j.server y (record y { records = records_after y.core j.at_server place_of did y.records }) at)
 
     acted-others : (did : Action) (i : ℕ) (z : ServerSide) → At (acted k j y did w).servers i z → (i ≡ j.server → ⊥) → At w.servers i z
     acted-others did i z there other = elim (At-set w.servers j.server _ i z there) [ inl own ↦ absurd (other own.0) | inr old ↦ old.0 ]
 
     -- the put that a message is
-    head-put : (end : ServerEnd) (m : Fields) (q : Sent) (b : Put) → At j.lists.up (length j.lists.handled) q → q.message ≡ m → IsPut j.at_server end m b → IsHeadPut w j.server place_of b
+    head-put : (end : ServerEnd) (m : Fields) (q : Sent) (b : Put) → At j.lists.up (length j.lists.handled) q → q.message ≡ m
+        → IsPut j.at_server end m b → IsHeadPut w j.server place_of b
     head-put end m q b sent same (c, found, is) = record {
       j = j;
       on = on;
@@ -342,7 +353,8 @@ module _ (s : Setting) (w new : World) (e : Event) (ready_w : Ready s w) (ready_
       count = ap (λ (v : Put). v.count) is ∙ ap (λ (v : Fields). v.count) (sym same);
     }
 
-    acted-lines : (end : ServerEnd) (m : Fields) (q : Sent) → At j.lists.up (length j.lists.handled) q → q.message ≡ m → (did : Action) (core : Server) → Records y.core j.at_server end m did core
+    acted-lines : (end : ServerEnd) (m : Fields) (q : Sent) → At j.lists.up (length j.lists.handled) q → q.message ≡ m
+        → (did : Action) (core : Server) → Records y.core j.at_server end m did core
         → Lines (IsHeadPut w j.server) y.core.records core.records y.records (records_after y.core j.at_server place_of did y.records)
     acted-lines end m q sent same (Applies name value true) core (b, put, is) =
         subst (λ (x : Server). Lines (IsHeadPut w j.server) y.core.records x.records y.records (server.with_record name (λ (r : RecordSide). record r { busy = Some place_of }) y.records)) (sym is)
@@ -363,7 +375,8 @@ module _ (s : Setting) (w new : World) (e : Event) (ready_w : Ready s w) (ready_
     acted-lines end m q sent same (action.Switches x) core is = lines-are (IsHeadPut w j.server) y.core.records core.records y.records (ap (λ (v : Server). v.records) is)
 
     -- the puts after the next message
-    next-lines : (end : ServerEnd) → stepped.HasEnd y.core j.at_server end → (next : Next y.core j.at_server end) → Lines (IsHeadPut w j.server) y.core.records next.after.records y.records (side_of j.server y (acted k j y next.action w)).records
+    next-lines : (end : ServerEnd) → stepped.HasEnd y.core j.at_server end → (next : Next y.core j.at_server end)
+        → Lines (IsHeadPut w j.server) y.core.records next.after.records y.records (side_of j.server y (acted k j y next.action w)).records
     next-lines end has next =
         let made = next.handles in
         let sent = takes-next s w ready_w.serves k j y end next.m next.rest on at opened has next.takes in
@@ -373,7 +386,8 @@ module _ (s : Setting) (w new : World) (e : Event) (ready_w : Ready s w) (ready_
     noted-servers : (replies : List Fields) (before mid : World) → (noted k j y replies before mid).servers ≡ mid.servers
     noted-servers replies before mid = go (slice_get mid.circuits k)
       where
-        go : (o : Option Joined) → (unwrap_or (option_map (λ (c : Joined). with_circuit k (server.handled_at (length j.lists.handled) (record { sent = length j.lists.down; logged = server.logged y before; after = server.logged y mid }) replies c) mid) o) mid).servers ≡ mid.servers
+        go : (o : Option Joined)
+            → (unwrap_or (option_map (λ (c : Joined). with_circuit k (server.handled_at (length j.lists.handled) (record { sent = length j.lists.down; logged = server.logged y before; after = server.logged y mid }) replies c) mid) o) mid).servers ≡ mid.servers
         go None = refl
         go (Some c) = refl
 
@@ -391,7 +405,9 @@ module _ (s : Setting) (w new : World) (e : Event) (ready_w : Ready s w) (ready_
         records : f.core.records ≡ withdrawn (λ (p : Put). same_handle p.circuit j.at_server) f.lacks.mid.records
         records = ap (λ (x : Server). x.records) f.lacks.leaves
 
-        go : (o : Option (Handle → Bool)) → LeftOf f.lacks.next o f.lacks.mid → new.servers ≡ (server_after j.server (side_of j.server y (unsaid k j y f.lacks.next.action o w)) (ends_here j left j.server f.core) f.core (unsaid k j y f.lacks.next.action o w)).servers → AllLines w new
+        go : (o : Option (Handle → Bool)) → LeftOf f.lacks.next o f.lacks.mid
+            → new.servers ≡ (server_after j.server (side_of j.server y (unsaid k j y f.lacks.next.action o w)) (ends_here j left j.server f.core) f.core (unsaid k j y f.lacks.next.action o w)).servers
+            → AllLines w new
         go None same servers =
             quiet-lines j.server y at w (ends_here j left j.server f.core) f.core
             (servers ∙ ap (λ (x : ServerSide). (server_after j.server x (ends_here j left j.server f.core) f.core w).servers) (ap (λ (o : Option ServerSide). unwrap_or o y) at)) refl
@@ -460,19 +476,22 @@ HasHead cs q b = (c : Joined) (s : Sent) → At cs q.circuit c → At c.lists.up
 abbrev pub AllHeads : World → Type 0
 AllHeads w = (i : ℕ) (y : ServerSide) (q : PutPlace) (b : Put) → At w.servers i y → IsBusyAt y.core.records y.records q b ⊎ IsWaitingAt y.core.records y.records q b → HasHead w.circuits q b
 
-module _ (s : Setting) (w new : World) (e : Event) (ready_w : Ready s w) (ready_new : Ready s new) (happens : Happens w e new) (all : AllHeads w) where
+module _ (s : Setting) (w new : World) (e : Event) (ready_w : Ready s w) (ready_new : Ready s new) (happens : Happens w e new) (all : AllHeads w)
+    where
   -- what was sent stays
   up-stays : (n p : ℕ) (c d : Joined) (x : Sent) → At w.circuits n c → At new.circuits n d → At c.lists.up p x → At d.lists.up p x
   up-stays n p c d x on at there =
       let o = (event-on w new e happens).circuits n c on in
       subst (λ (v : Joined). At v.lists.up p x) (At-one new.circuits n o.0 d o.1 at) (o.2.up p x there)
 
-  kept-head : (q : PutPlace) (b : Put) (c : Joined) (x : Sent) → At w.circuits q.circuit c → At c.lists.up q.place x → (b.data_type ≡ x.message.data_type) × (b.count ≡ x.message.count) → HasHead new.circuits q b
+  kept-head : (q : PutPlace) (b : Put) (c : Joined) (x : Sent) → At w.circuits q.circuit c → At c.lists.up q.place x
+      → (b.data_type ≡ x.message.data_type) × (b.count ≡ x.message.count) → HasHead new.circuits q b
   kept-head q b c x on sent is d v at there =
       let one : x ≡ v = At-one d.lists.up q.place x v (up-stays q.circuit q.place c d x on at sent) there in
       (is.0 ∙ ap (λ (z : Sent). z.message.data_type) one, is.1 ∙ ap (λ (z : Sent). z.message.count) one)
 
-  was-head : (i : ℕ) (y : ServerSide) (q : PutPlace) (b : Put) → At w.servers i y → IsBusyAt y.core.records y.records q b ⊎ IsWaitingAt y.core.records y.records q b → HasHead new.circuits q b
+  was-head : (i : ℕ) (y : ServerSide) (q : PutPlace) (b : Put) → At w.servers i y
+      → IsBusyAt y.core.records y.records q b ⊎ IsWaitingAt y.core.records y.records q b → HasHead new.circuits q b
   was-head i y q b at p = (let u = put-of p in kept-head q b u.c u.s u.on u.sent (all i y q b at p u.c u.s u.on u.sent))
     where
       own : Lives w i y
@@ -492,7 +511,8 @@ module _ (s : Setting) (w new : World) (e : Event) (ready_w : Ready s w) (ready_
     | inl lines ↦ go lines.0 lines.1 lines.2 p
   ]
     where
-      go : (y : ServerSide) → At w.servers i y → LinesFrom w i y z → IsBusyAt z.core.records z.records q b ⊎ IsWaitingAt z.core.records z.records q b → HasHead new.circuits q b
+      go : (y : ServerSide) → At w.servers i y → LinesFrom w i y z → IsBusyAt z.core.records z.records q b ⊎ IsWaitingAt z.core.records z.records q b
+          → HasHead new.circuits q b
       go y at_y lines (inl x) = elim (lines.busy q b x) [
         | inl old ↦ was-head i y q b at_y (inl old)
         | inr (inl old) ↦ was-head i y q b at_y (inr old)
@@ -503,7 +523,8 @@ module _ (s : Setting) (w new : World) (e : Event) (ready_w : Ready s w) (ready_
         | inr own ↦ kept-head q b own.j own.s own.on own.sent (own.data_type, own.count)
       ]
 
-events-heads : (s : Setting) (ok : IsSetting s) (done es : List Event) (w new : World) → FoldsTo Happens (opening s) done w → FoldsTo Happens w es new → AllHeads w → AllHeads new
+events-heads : (s : Setting) (ok : IsSetting s) (done es : List Event) (w new : World) → FoldsTo Happens (opening s) done w → FoldsTo Happens w es new
+    → AllHeads w → AllHeads new
 events-heads s ok done [] w new before same all = subst (λ (z : World). AllHeads z) same all
 events-heads s ok done (e ∷ es) w new before (mid, one, rest) all =
     let until : FoldsTo Happens (opening s) (done ++ e ∷ []) mid = folds-snoc done (opening s) w mid e before one in

@@ -71,7 +71,8 @@ withdrawn-waits : (n k a b r : ℕ) (v : Stored) → Waits a b r v ≡ Withdrawn
 withdrawn-waits n k a b r v e = cc
 
 -- a message whose step logs that it waits
-waits-did : (n k a b r : ℕ) (v : Stored) (y : List Entry) (did : Action) (logs : List Entry) → LogsSo n k y did logs → In logs (Waits a b r v) → IsLateDid did
+waits-did : (n k a b r : ℕ) (v : Stored) (y : List Entry) (did : Action) (logs : List Entry) → LogsSo n k y did logs → In logs (Waits a b r v)
+    → IsLateDid did
 waits-did n k a b r v y (action.Waits name value) logs so there = tt
 waits-did n k a b r v y (Applies name value busies) logs so there = absurd (applied-waits n k so.0 a b r so.1 v busies (one-in (Applied n k so.0 so.1 busies) (Waits a b r v) logs so.5 there))
 waits-did n k a b r v y (action.Clears sid) logs so there = (let x = so there.0 (Waits a b r v) there.1 in absurd (withdrawn-waits x.0 x.1 a b r v x.2))
@@ -84,7 +85,8 @@ waits-did n k a b r v y (action.Drops x) logs so there = absurd (none-in (Waits 
 waits-did n k a b r v y (action.Switches x) logs so there = absurd (none-in (Waits a b r v) logs so there)
 
 -- a message whose step logs that it makes its record busy
-applied-did : (n k a b r : ℕ) (v : Stored) (y : List Entry) (did : Action) (logs : List Entry) → LogsSo n k y did logs → In logs (Applied a b r v true) → IsLateDid did
+applied-did : (n k a b r : ℕ) (v : Stored) (y : List Entry) (did : Action) (logs : List Entry) → LogsSo n k y did logs
+    → In logs (Applied a b r v true) → IsLateDid did
 applied-did n k a b r v y (Applies name value busies) logs so there =
     subst (λ (x : Bool). IsLateDid (Applies name value x)) (sym (same-busies n k so.0 a b r so.1 v busies true (one-in (Applied n k so.0 so.1 busies) (Applied a b r v true) logs so.5 there))) tt
 applied-did n k a b r v y (action.Waits name value) logs so there = absurd (waits-applied n k so.0 a b r so.1 v true (one-in (Waits n k so.0 so.1) (Applied a b r v true) logs so.5 there))
@@ -103,7 +105,8 @@ beyond (suc a) zero le = absurd (omega (arith, le))
 beyond (suc a) (suc i) le = (let r = beyond a i (omega (arith, le)) in let e : i ≡ a + r.0 = r.1 in (r.0, omega (arith, e)))
 
 -- Of the message at place k of circuit n, which was handled, the log tells first in its step.
-module _ (cs : List Joined) (life : ℕ) (z : List Entry) (once : Once (CameOn cs life) (LostOn cs) z) (n k : ℕ) (d : Joined) (on : At cs n d) (h : Step) (at_h : At d.lists.handled k h) where
+module _ (cs : List Joined) (life : ℕ) (z : List Entry) (once : Once (CameOn cs life) (LostOn cs) z) (n k : ℕ) (d : Joined) (on : At cs n d)
+    (h : Step) (at_h : At d.lists.handled k h) where
   came-in : (i : ℕ) (value : Elements) → CameOn cs life (record { circuit = n; place = k }) i value → (h.logged ≤ i) × (i < h.after)
   came-in i value came = elim (subst (λ (x : Joined). IsTaken x.lists k i) (At-one cs n came.c d came.on on) came.taken) [
     | inl now ↦ subst (λ (x : Step). (x.logged ≤ i) × (i < x.after)) (At-one d.lists.handled k now.0 h now.1 at_h) (now.2, now.3)
@@ -115,7 +118,9 @@ module _ (cs : List Joined) (life : ℕ) (z : List Entry) (once : Once (CameOn c
   finished-delayed done = (let busy = (once.finished n k done.0 done.1).0 in inr (busy.1, busy.2, (busy.0, busy.3)))
 
   -- so what a message does is what the log tells of its put
-  module _ (base : List Entry) (did : Action) (logs : List Entry) (so : LogsSo n k base did logs) (logged : (i : ℕ) (e : Entry) → At logs i e → At z (h.logged + i) e) (besides : (i : ℕ) (e : Entry) → h.logged + length logs ≤ i → i < h.after → At z i e → (m l : ℕ) × (e ≡ Withdrawn m l)) where
+  module _ (base : List Entry) (did : Action) (logs : List Entry) (so : LogsSo n k base did logs)
+      (logged : (i : ℕ) (e : Entry) → At logs i e → At z (h.logged + i) e)
+      (besides : (i : ℕ) (e : Entry) → h.logged + length logs ≤ i → i < h.after → At z i e → (m l : ℕ) × (e ≡ Withdrawn m l)) where
     in-step : (i : ℕ) (e : Entry) → At z i e → h.logged ≤ i → i < h.after → In logs e ⊎ ((m l : ℕ) × (e ≡ Withdrawn m l))
     in-step i e at from until =
         let t = beyond h.logged i from in
@@ -146,7 +151,8 @@ module _ (cs : List Joined) (life : ℕ) (z : List Entry) (once : Once (CameOn c
 
 -- ---- a put that was handled before was delayed before
 
-module _ (cs : List Joined) (life : ℕ) (y more : List Entry) (once : Once (CameOn cs life) (LostOn cs) (y ++ more)) (n k : ℕ) (d : Joined) (on : At cs n d) (h : Step) (at_h : At d.lists.handled k h) (within : h.after ≤ length y) where
+module _ (cs : List Joined) (life : ℕ) (y more : List Entry) (once : Once (CameOn cs life) (LostOn cs) (y ++ more)) (n k : ℕ) (d : Joined)
+    (on : At cs n d) (h : Step) (at_h : At d.lists.handled k h) (within : h.after ≤ length y) where
   was-in : (i r : ℕ) (v : Stored) → At (y ++ more) i (Waits n k r v) → In y (Waits n k r v)
   was-in i r v at = (let c = came-in cs life (y ++ more) once n k d on h at_h i v.value (once.came i n k r v at) in let lt : i < h.after = c.1 in (i, At-back y more i (Waits n k r v) at (omega (arith, lt, within))))
 
@@ -175,7 +181,8 @@ module _ (Answers : Fields → Fields → Type 0) where
   still-cleared : (c d : Circuit) → Extends c d → (k sid e : ℕ) → IsCleared c k sid e → IsCleared d k sid e
   still-cleared c d ext k sid e (l, s, h, lt, at_s, at_h, le, clears) = (l, s, h, lt, ext.up l s at_s, ext.handled l h at_h, le, clears)
 
-  pub late-forth : (n : ℕ) (c d : Circuit) (y z : List Entry) (k : ℕ) (s : Sent) → Extends c d → IsLonger y z → (IsDelayed z n k → IsDelayed y n k) → ((j : ℕ) (m : Fields) → IsReply d k j m → IsReply c k j m)
+  pub late-forth : (n : ℕ) (c d : Circuit) (y z : List Entry) (k : ℕ) (s : Sent) → Extends c d → IsLonger y z → (IsDelayed z n k → IsDelayed y n k)
+      → ((j : ℕ) (m : Fields) → IsReply d k j m → IsReply c k j m)
       → ((e : ℕ) → At z e (Finished n k) → At y e (Finished n k)) → (d.server_open ≡ true → c.server_open ≡ true) → IsKnownLate n c y k s → IsKnownLate n d z k s
   late-forth n c d y z k s ext longer delayed replies finished opened l = record {
     place = l.place;

@@ -52,13 +52,15 @@ told-then F a b c f g l z i n k at there = elim (g l z i n k at there) [
 ]
 
 -- a log has entries more
-more-told : (F : ℕ → ℕ → Type 0) (w new : World) (life : ℕ) (more : List Entry) → new.server_logs ≡ grown life more w.server_logs → TellsOnly F more → FinishesOr F w new
+more-told : (F : ℕ → ℕ → Type 0) (w new : World) (life : ℕ) (more : List Entry) → new.server_logs ≡ grown life more w.server_logs → TellsOnly F more
+    → FinishesOr F w new
 more-told F w new life more logs tells l z i n k at there = elim (At-set w.server_logs life (unwrap_or (slice_get w.server_logs life) [] ++ more) l z (subst (λ (x : List (List Entry)). At x l z) logs at)) [
   | inl own ↦ go (slice_get w.server_logs life) refl own.0 own.1
   | inr old ↦ inl (z, old.0, there)
 ]
   where
-    go : (o : Option (List Entry)) → slice_get w.server_logs life ≡ o → l ≡ life → z ≡ unwrap_or o [] ++ more → ((y : List Entry) × At w.server_logs l y × At y i (Finished n k)) ⊎ F n k
+    go : (o : Option (List Entry)) → slice_get w.server_logs life ≡ o → l ≡ life → z ≡ unwrap_or o [] ++ more
+        → ((y : List Entry) × At w.server_logs l y × At y i (Finished n k)) ⊎ F n k
     go None is here same = inr (tells i n k (subst (λ (x : List Entry). At x i (Finished n k)) same there))
     go (Some y) is here same = elim (At-parts y more i (Finished n k) (subst (λ (x : List Entry). At x i (Finished n k)) same there)) [
       | inl old ↦ inl (y, subst (λ (m : ℕ). At w.server_logs m y) (sym here) is, old)
@@ -94,18 +96,21 @@ removed-not : (r n k : ℕ) → history.Removed r ≡ Finished n k → ⊥
 removed-not r n k e = cc
 
 -- circuits of a server end
-ends-told : (F : ℕ → ℕ → Type 0) (w : World) (i : ℕ) (y : ServerSide) (ends : Joined → Option (List ℕ)) (core : Server) → FinishesOr F w (server_after i y ends core w)
+ends-told : (F : ℕ → ℕ → Type 0) (w : World) (i : ℕ) (y : ServerSide) (ends : Joined → Option (List ℕ)) (core : Server)
+    → FinishesOr F w (server_after i y ends core w)
 ends-told F w i y ends core =
     more-told F w (server_after i y ends core w) y.life (withdrawals (ends_at ends w.circuits) y.records) refl
     (withdrawn-tells F (flat_map (λ (r : RecordSide). filter (λ (p : PutPlace). ends_at ends w.circuits p.circuit) r.waiting) y.records))
 
 -- an event at a server tells this, and then circuits end
-after-told : (F : ℕ → ℕ → Type 0) (w mid : World) (i life : ℕ) (side : ServerSide) (ends : Joined → Option (List ℕ)) (core : Server) (more : List Entry) → mid.server_logs ≡ grown life more w.server_logs → TellsOnly F more → FinishesOr F w (server_after i side ends core mid)
+after-told : (F : ℕ → ℕ → Type 0) (w mid : World) (i life : ℕ) (side : ServerSide) (ends : Joined → Option (List ℕ)) (core : Server) (more : List Entry)
+    → mid.server_logs ≡ grown life more w.server_logs → TellsOnly F more → FinishesOr F w (server_after i side ends core mid)
 after-told F w mid i life side ends core more logs tells = told-then F w mid (server_after i side ends core mid) (more-told F w mid life more logs tells) (ends-told F mid i side ends core)
 
 -- ---- a step of a server's end
 
-acted-tells : (F : ℕ → ℕ → Type 0) (core : Server) (g : Handle) (p : PutPlace) (did : Action) (rs : List RecordSide) → TellsOnly F (logged_by core g p did rs)
+acted-tells : (F : ℕ → ℕ → Type 0) (core : Server) (g : Handle) (p : PutPlace) (did : Action) (rs : List RecordSide)
+    → TellsOnly F (logged_by core g p did rs)
 acted-tells F core g p (Applies name value busies) rs = one-tells F _ (λ n k is. absurd (applied-not p.circuit p.place _ n k _ busies is))
 acted-tells F core g p (action.Waits name value) rs = one-tells F _ (λ n k is. absurd (waits-not p.circuit p.place _ n k _ is))
 acted-tells F core g p (action.Clears sid) rs = withdrawn-tells F _
@@ -117,19 +122,23 @@ acted-tells F core g p (action.Adds x) rs = none-tells F
 acted-tells F core g p (action.Drops x) rs = none-tells F
 acted-tells F core g p (action.Switches x) rs = none-tells F
 
-acted-told : (F : ℕ → ℕ → Type 0) (w : World) (k : ℕ) (j : Joined) (y : ServerSide) (did : Action) (ends : Joined → Option (List ℕ)) (core : Server) → FinishesOr F w (server_after j.server (side_of j.server y (acted k j y did w)) ends core (acted k j y did w))
+acted-told : (F : ℕ → ℕ → Type 0) (w : World) (k : ℕ) (j : Joined) (y : ServerSide) (did : Action) (ends : Joined → Option (List ℕ)) (core : Server)
+    → FinishesOr F w (server_after j.server (side_of j.server y (acted k j y did w)) ends core (acted k j y did w))
 acted-told F w k j y did ends core =
     after-told F w (acted k j y did w) j.server y.life (side_of j.server y (acted k j y did w)) ends core (logged_by y.core j.at_server (record { circuit = k; place = length j.lists.handled }) did y.records) refl
     (acted-tells F y.core j.at_server (record { circuit = k; place = length j.lists.handled }) did y.records)
 
-noted-told : (F : ℕ → ℕ → Type 0) (w after : World) (k : ℕ) (j : Joined) (y : ServerSide) (replies : List _) → FinishesOr F w after → FinishesOr F w (noted k j y replies w after)
+noted-told : (F : ℕ → ℕ → Type 0) (w after : World) (k : ℕ) (j : Joined) (y : ServerSide) (replies : List _) → FinishesOr F w after
+    → FinishesOr F w (noted k j y replies w after)
 noted-told F w after k j y replies told = go (slice_get after.circuits k)
   where
-    go : (o : Option Joined) → FinishesOr F w (unwrap_or (option_map (λ (c : Joined). with_circuit k (handled_at (length j.lists.handled) (record { sent = length j.lists.down; logged = server.logged y w; after = server.logged y after }) replies c) after) o) after)
+    go : (o : Option Joined)
+        → FinishesOr F w (unwrap_or (option_map (λ (c : Joined). with_circuit k (handled_at (length j.lists.handled) (record { sent = length j.lists.down; logged = server.logged y w; after = server.logged y after }) replies c) after) o) after)
     go None = told
     go (Some c) = told
 
-step-told : (F : ℕ → ℕ → Type 0) (w new : World) (k : ℕ) (j : Joined) (y : ServerSide) (did : Stepped) → ServerStepped w k j y did new → FinishesOr F w new
+step-told : (F : ℕ → ℕ → Type 0) (w new : World) (k : ℕ) (j : Joined) (y : ServerSide) (did : Stepped) → ServerStepped w k j y did new
+    → FinishesOr F w new
 step-told F w new k j y stepped.Handled f =
     subst (λ (z : World). FinishesOr F w z) (sym f.leaves) (noted-told F w _ k j y (f.steps.0).replies (acted-told F w k j y (f.steps.0).action (ends_by j.server f.core) f.core))
 step-told F w new k j y stepped.NeedBytes f = same-or-told F w new (ap (λ (z : World). z.server_logs) f.3)
@@ -139,7 +148,8 @@ step-told F w new k j y (stepped.Closed why.OutOfMemory left) f = subst (λ (z :
     did : Action
     did = f.lacks.next.action
 
-    go : (o : Option (Handle → Bool)) → FinishesOr F w (server_after j.server (side_of j.server y (unsaid k j y did o w)) (ends_here j left j.server f.core) f.core (unsaid k j y did o w))
+    go : (o : Option (Handle → Bool))
+        → FinishesOr F w (server_after j.server (side_of j.server y (unsaid k j y did o w)) (ends_here j left j.server f.core) f.core (unsaid k j y did o w))
     go None = ends-told F w j.server (side_of j.server y w) (ends_here j left j.server f.core) f.core
     go (Some gone) = acted-told F w k j y did (ends_here j left j.server f.core) f.core
 step-told F w new k j y (stepped.Closed cause left) f =
@@ -147,7 +157,8 @@ step-told F w new k j y (stepped.Closed cause left) f =
 
 -- ---- other events at a server
 
-post-told : (F : ℕ → ℕ → Type 0) (w new : World) (i : ℕ) (y : ServerSide) (name : List ℕ) (e : Elements) (mask : ℕ) → HappensPost w i y name e mask new → FinishesOr F w new
+post-told : (F : ℕ → ℕ → Type 0) (w new : World) (i : ℕ) (y : ServerSide) (name : List ℕ) (e : Elements) (mask : ℕ)
+    → HappensPost w i y name e mask new → FinishesOr F w new
 post-told F w new i y name e mask (gone, core, inl (posts, is)) =
     subst (λ (z : World). FinishesOr F w z) (sym is)
     (after-told F w (post_told w i y name (record { value = e; meta = unset }) mask) i y.life y (ends_by i core) core (posted_entry y name (record { value = e; meta = unset }) mask) refl
@@ -159,7 +170,8 @@ removal-tells F name rs i n k at =
     let x = flat-in (λ (r : RecordSide). history.Removed r.number ∷ map (λ (p : PutPlace). Withdrawn p.circuit p.place) r.waiting) (filter (λ (r : RecordSide). bytes_eq r.name name) rs) (Finished n k) (i, at) in
     go x.0 x.2.0 x.2.1
   where
-    go : (r : RecordSide) (i : ℕ) → At (history.Removed r.number ∷ map (λ (p : PutPlace). Withdrawn p.circuit p.place) r.waiting) i (Finished n k) → F n k
+    go : (r : RecordSide) (i : ℕ) → At (history.Removed r.number ∷ map (λ (p : PutPlace). Withdrawn p.circuit p.place) r.waiting) i (Finished n k)
+        → F n k
     go r zero at = absurd (removed-not r.number n k (some_is (history.Removed r.number) (Finished n k) at))
     go r (suc i) at = withdrawn-tells F r.waiting i n k at
 

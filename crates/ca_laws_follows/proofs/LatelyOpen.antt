@@ -77,7 +77,8 @@ module _ (w : World) where
   abbrev pub Held : ℕ → ServerEnd → Joined → Type 0
   Held n f d = (length w.circuits ≤ n) ⊎ HeldOn n f d
 
-  held-then : (n : ℕ) (f g : ServerEnd) (c d : Joined) → d.server ≡ c.server → d.at_server ≡ c.at_server → length c.lists.handled ≤ length d.lists.handled → Grows c.lists.up d.lists.up
+  held-then : (n : ℕ) (f g : ServerEnd) (c d : Joined) → d.server ≡ c.server → d.at_server ≡ c.at_server
+      → length c.lists.handled ≤ length d.lists.handled → Grows c.lists.up d.lists.up
       → ((h : Handle) → HasChannel f h → HasChannel g h ⊎ IsClearedFrom d (length c.lists.handled) (wire_of h)) → Held n f c → Held n g d
   held-then n f g c d server handle more up channels (inl late) = inl late
   held-then n f g c d server handle more up channels (inr h) = inr (record {
@@ -102,7 +103,8 @@ module _ (w : World) where
   })
 
   -- the same messages were handled
-  held-like : (n : ℕ) (f g : ServerEnd) (c d : Joined) → d.server ≡ c.server → d.at_server ≡ c.at_server → d.lists.handled ≡ c.lists.handled → Grows c.lists.up d.lists.up
+  held-like : (n : ℕ) (f g : ServerEnd) (c d : Joined) → d.server ≡ c.server → d.at_server ≡ c.at_server → d.lists.handled ≡ c.lists.handled
+      → Grows c.lists.up d.lists.up
       → ((h : Handle) → HasChannel f h → HasChannel g h) → Held n f c → Held n g d
   held-like n f g c d server handle handled up channels p =
       held-then n f g c d server handle (let e : length d.lists.handled ≡ length c.lists.handled = ap (λ (l : List Step). length l) handled in omega (arith, e)) up (λ h there. inl (channels h there)) p
@@ -152,7 +154,8 @@ module _ (w : World) where
       grows : (did : Action) → Grows c.lists.up (after did).lists.up
       grows did i x at = subst (λ (l : List Sent). At l i x) (sym (numbers-after-same (length c.lists.handled) did c).up) at
 
-      made : (did : Action) → ((h : Handle) → HasChannel e h → HasChannel new h ⊎ IsClearedFrom (after did) (length c.lists.handled) (wire_of h)) → Held n new (after did)
+      made : (did : Action) → ((h : Handle) → HasChannel e h → HasChannel new h ⊎ IsClearedFrom (after did) (length c.lists.handled) (wire_of h))
+          → Held n new (after did)
       made did channels =
           (let l : length (after did).lists.handled ≡ length c.lists.handled + 1 = long did in
           let same = numbers-after-same (length c.lists.handled) did c in
@@ -166,7 +169,8 @@ module _ (w : World) where
           made (Opens k) (λ h there. inl (there.0, subst (λ (x : ServerEnd). under x.channels h ≡ Some there.0) (sym is) (held-other e.channels h g (record { cid = k.cid; name = k.name; retired = false }) there.0 may there.1)))
       go (Clears sid) due is = made (Clears sid) (λ h there. subst (λ (x : ServerEnd). HasChannel x h ⊎ IsClearedFrom (after (Clears sid)) (length c.lists.handled) (wire_of h)) (sym is) (cleared h there (by_wire e.channels sid) refl))
         where
-          cleared : (h : Handle) → HasChannel e h → (o : Option (Handle × OpenChannel)) → by_wire e.channels sid ≡ o → HasChannel (without_channel sid e) h ⊎ IsClearedFrom (after (Clears sid)) (length c.lists.handled) (wire_of h)
+          cleared : (h : Handle) → HasChannel e h → (o : Option (Handle × OpenChannel)) → by_wire e.channels sid ≡ o
+              → HasChannel (without_channel sid e) h ⊎ IsClearedFrom (after (Clears sid)) (length c.lists.handled) (wire_of h)
           cleared h there None none = inl (there.0, subst (λ (o : Option (Handle × OpenChannel)). under (unwrap_or (option_map (λ (z : Handle × OpenChannel). with_freed z.0 e.channels) o) e.channels) h ≡ Some there.0) (sym none) there.1)
           cleared h there (Some z) found = elim (handle-or h z.0) [
             | inr other ↦
@@ -213,7 +217,8 @@ event-since s w new e ready happens =
     event-by (Held w) (held-lasting w) s w new e (held-begins w) (held-on-step w e) (takes-next s w ready.serves) happens ready.serves.stands.sound (held-start w)
 
 -- an end that is open was open
-pub open-was : (s : Setting) (w new : World) (e : Event) → Ready s w → Ready s new → Happens w e new → (n : ℕ) (c d : Joined) → At w.circuits n c → At new.circuits n d → d.lists.server_open ≡ true → c.lists.server_open ≡ true
+pub open-was : (s : Setting) (w new : World) (e : Event) → Ready s w → Ready s new → Happens w e new → (n : ℕ) (c d : Joined) → At w.circuits n c
+    → At new.circuits n d → d.lists.server_open ≡ true → c.lists.server_open ≡ true
 open-was s w new e ready next happens n c d on at opened =
     let seat = next.serves.stands.sound.seated.each n d at opened in
     elim (event-since s w new e ready happens n d seat.y seat.e at seat.at opened seat.has) [
@@ -225,7 +230,8 @@ open-was s w new e ready next happens n c d on at opened =
 
 -- Circuit n of this server, and its end.
 pub record PutsHeld (y : ServerSide) (n : ℕ) (e : ServerEnd) (c : Joined) : Type 0 where
-  pub busy : (q : PutPlace) (b : Put) → BusyPair y.core.records y.records q b → q.circuit ≡ n → HasChannel e b.channel ⊎ IsClearedFrom c q.place (wire_of b.channel)
+  pub busy : (q : PutPlace) (b : Put) → BusyPair y.core.records y.records q b → q.circuit ≡ n
+      → HasChannel e b.channel ⊎ IsClearedFrom c q.place (wire_of b.channel)
   pub waits : (b : Put) → CoreWaits y.core.records b → b.circuit ≡ c.at_server → HasChannel e b.channel
 
 abbrev pub AllHeld : World → Type 0
@@ -233,7 +239,8 @@ AllHeld w = (n : ℕ) (c : Joined) (y : ServerSide) (e : ServerEnd) → At w.cir
 
 module _ (s : Setting) (w new : World) (ready_w : Ready s w) (ready_new : Ready s new) (all : AllHeld w) where
   -- where a put that waits then came
-  side-came : (i : ℕ) (y z : ServerSide) → At w.servers i y → Follows (Comes w i) y.core.records z.core.records y.records z.records → (q : PutPlace) → SideWaits z.records q
+  side-came : (i : ℕ) (y z : ServerSide) → At w.servers i y → Follows (Comes w i) y.core.records z.core.records y.records z.records → (q : PutPlace)
+      → SideWaits z.records q
       → (c : Joined) × At w.circuits q.circuit c × (c.lists.server_open ≡ true → q.place ≤ length c.lists.handled)
   side-came i y z at fo q waits = elim (fo.side q waits) [
     | inl old ↦ was i y at old
@@ -243,24 +250,29 @@ module _ (s : Setting) (w new : World) (ready_w : Ready s w) (ready_new : Ready 
     ]
   ]
     where
-      was : (i : ℕ) (y : ServerSide) → At w.servers i y → SideWaits y.records q → (c : Joined) × At w.circuits q.circuit c × (c.lists.server_open ≡ true → q.place ≤ length c.lists.handled)
+      was : (i : ℕ) (y : ServerSide) → At w.servers i y → SideWaits y.records q
+          → (c : Joined) × At w.circuits q.circuit c × (c.lists.server_open ≡ true → q.place ≤ length c.lists.handled)
       was i y at old =
           let f = put-facts s w i y q ready_w.serves.stands.sound at (old.0, old.1, inr old.2) in
           (f.c, f.on, λ opened. (let lt : q.place < length f.c.lists.handled = f.handled opened in omega (arith, lt)))
 
-  busy-came : (i : ℕ) (y z : ServerSide) → At w.servers i y → Follows (Comes w i) y.core.records z.core.records y.records z.records → (q : PutPlace) (b : Put) → BusyPair z.core.records z.records q b → q.circuit < length w.circuits
+  busy-came : (i : ℕ) (y z : ServerSide) → At w.servers i y → Follows (Comes w i) y.core.records z.core.records y.records z.records
+      → (q : PutPlace) (b : Put) → BusyPair z.core.records z.records q b → q.circuit < length w.circuits
   busy-came i y z at fo q b p = elim (fo.busy q b p) [
     | inl old ↦ (let f = put-facts s w i y q ready_w.serves.stands.sound at (old.r, old.in_rs, inl old.side) in At-within w.circuits q.circuit f.c f.on)
     | inr (inl step) ↦ At-within w.circuits q.circuit step.j step.on
     | inr (inr next) ↦ At-within w.circuits q.circuit next.is_put.c next.is_put.on
   ]
 
-  module _ (n : ℕ) (d : Joined) (z : ServerSide) (f : ServerEnd) (on_d : At new.circuits n d) (at_z : At new.servers d.server z) (opened_d : d.lists.server_open ≡ true) (has_f : HasEnd z.core d.at_server f) (y : ServerSide) (at_y : At w.servers d.server y) (fo : Follows (Comes w d.server) y.core.records z.core.records y.records z.records) where
+  module _ (n : ℕ) (d : Joined) (z : ServerSide) (f : ServerEnd) (on_d : At new.circuits n d) (at_z : At new.servers d.server z)
+      (opened_d : d.lists.server_open ≡ true) (has_f : HasEnd z.core d.at_server f) (y : ServerSide) (at_y : At w.servers d.server y)
+      (fo : Follows (Comes w d.server) y.core.records z.core.records y.records z.records) where
     own : Lives new d.server z
     own = ready_new.serves.stands.sound.writes.lives d.server z at_z
 
     -- beside a put that waits on this circuit stands its place
-    beside : (b : Put) → CoreWaits z.core.records b → b.circuit ≡ d.at_server → (q : PutPlace) × SideWaits z.records q × IsPutOf new.circuits d.server q b × (q.circuit ≡ n)
+    beside : (b : Put) → CoreWaits z.core.records b → b.circuit ≡ d.at_server
+        → (q : PutPlace) × SideWaits z.records q × IsPutOf new.circuits d.server q b × (q.circuit ≡ n)
     beside b p handle =
         let r = core-beside (IsPutOf new.circuits d.server) own.log z.core.records z.records own.life.each b p in
         let put : IsPutOf new.circuits d.server r.0 b = r.2 in
@@ -297,13 +309,15 @@ module _ (s : Setting) (w new : World) (ready_w : Ready s w) (ready_new : Ready 
           was.waits b (subst (λ (x : ServerSide). CoreWaits x.core.records b) side p.core) handle
 
       -- a channel that was open is open, or was cleared after this place
-      since-open : (q : PutPlace) (b : Put) → q.place ≤ length h.c.lists.handled → HasChannel h.e b.channel → HasChannel f b.channel ⊎ IsClearedFrom d q.place (wire_of b.channel)
+      since-open : (q : PutPlace) (b : Put) → q.place ≤ length h.c.lists.handled → HasChannel h.e b.channel
+          → HasChannel f b.channel ⊎ IsClearedFrom d q.place (wire_of b.channel)
       since-open q b le there = elim (h.channels b.channel there) [
         | inl now ↦ inl now
         | inr x ↦ (let from : length h.c.lists.handled ≤ x.0 = x.2 in inr (x.0, x.1, omega (arith, le, from), x.3, x.4, x.5))
       ]
 
-      before-of : (i : ℕ) (x : ServerSide) → At w.servers i x → (q : PutPlace) → q.circuit ≡ n → ((r : _) → In x.records r → (r.busy ≡ Some q) ⊎ In r.waiting q → q.place ≤ length h.c.lists.handled)
+      before-of : (i : ℕ) (x : ServerSide) → At w.servers i x → (q : PutPlace) → q.circuit ≡ n
+          → ((r : _) → In x.records r → (r.busy ≡ Some q) ⊎ In r.waiting q → q.place ≤ length h.c.lists.handled)
       before-of i x at q is r in_rs put =
           let p = put-facts s w i x q ready_w.serves.stands.sound at (r, in_rs, put) in
           let same : p.c ≡ h.c = At-one w.circuits n p.c h.c (subst (λ (m : ℕ). At w.circuits m p.c) is p.on) h.on in
@@ -369,7 +383,8 @@ event-held s w new e ready_w ready_new happens all n d z f on at opened has =
       ]
     ]
 
-events-held : (s : Setting) (ok : IsSetting s) (done es : List Event) (w new : World) → FoldsTo Happens (opening s) done w → FoldsTo Happens w es new → AllHeld w → AllHeld new
+events-held : (s : Setting) (ok : IsSetting s) (done es : List Event) (w new : World) → FoldsTo Happens (opening s) done w → FoldsTo Happens w es new
+    → AllHeld w → AllHeld new
 events-held s ok done [] w new before same all = subst (λ (z : World). AllHeld z) same all
 events-held s ok done (e ∷ es) w new before (mid, one, rest) all =
     let until : FoldsTo Happens (opening s) (done ++ e ∷ []) mid = folds-snoc done (opening s) w mid e before one in

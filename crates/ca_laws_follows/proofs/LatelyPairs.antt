@@ -47,7 +47,8 @@ AreNamed cs rs = (k : ℕ) (c : Record) (r : RecordSide) → At cs k c → At rs
 
 -- ---- two lists
 
-pub kept-beside : {A B : Type 0} (s : A → Bool) (t : B → Bool) (xs : List A) (ys : List B) → ((i : ℕ) (x : A) (y : B) → At xs i x → At ys i y → s x ≡ t y)
+pub kept-beside : {A B : Type 0} (s : A → Bool) (t : B → Bool) (xs : List A) (ys : List B)
+    → ((i : ℕ) (x : A) (y : B) → At xs i x → At ys i y → s x ≡ t y)
     → (k : ℕ) (x : A) (y : B) → At (filter s xs) k x → At (filter t ys) k y → (i : ℕ) × At xs i x × At ys i y
 kept-beside s t [] ys same k x y at there = absurd (none_at k x at)
 kept-beside s t (a ∷ xs) [] same k x y at there = absurd (none_at k y there)
@@ -65,7 +66,9 @@ kept-beside {A} {B} s t (a ∷ xs) (b ∷ ys) same k x y at there =
     go false k q p rest = later (rest k p q)
 
 -- what is left of the waiting puts of a channel, on both sides
-left-beside : (test : Put → Bool) (ws : List WaitingPut) (ps : List PutPlace) (k : ℕ) (x : WaitingPut) (q : PutPlace) → At (filter (λ (p : WaitingPut). not (test p.put)) ws) k x → At (places_where (λ (p : Put). not (test p)) ws ps) k q → (i : ℕ) × At ws i x × At ps i q
+left-beside : (test : Put → Bool) (ws : List WaitingPut) (ps : List PutPlace) (k : ℕ) (x : WaitingPut) (q : PutPlace)
+    → At (filter (λ (p : WaitingPut). not (test p.put)) ws) k x → At (places_where (λ (p : Put). not (test p)) ws ps) k q
+    → (i : ℕ) × At ws i x × At ps i q
 left-beside test [] ps k x q at there = absurd (none_at k x at)
 left-beside test (w ∷ ws) [] k x q at there = absurd (none_at k q there)
 left-beside test (w ∷ ws) (p ∷ ps) k x q at there = go (not (test w.put)) k at there (λ l a b. left-beside test ws ps l x q a b)
@@ -73,7 +76,8 @@ left-beside test (w ∷ ws) (p ∷ ps) k x q at there = go (not (test w.put)) k 
     later : ((i : ℕ) × At ws i x × At ps i q) → (i : ℕ) × At (w ∷ ws) i x × At (p ∷ ps) i q
     later (i, a, b) = (suc i, a, b)
 
-    go : (u : Bool) (k : ℕ) → At (cond u (w ∷ filter (λ (z : WaitingPut). not (test z.put)) ws) (filter (λ (z : WaitingPut). not (test z.put)) ws)) k x
+    go : (u : Bool) (k : ℕ)
+        → At (cond u (w ∷ filter (λ (z : WaitingPut). not (test z.put)) ws) (filter (λ (z : WaitingPut). not (test z.put)) ws)) k x
         → At (cond u (p ∷ places_where (λ (z : Put). not (test z)) ws ps) (places_where (λ (z : Put). not (test z)) ws ps)) k q
         → ((l : ℕ) → At (filter (λ (z : WaitingPut). not (test z.put)) ws) l x → At (places_where (λ (z : Put). not (test z)) ws ps) l q → (i : ℕ) × At ws i x × At ps i q) → (i : ℕ) × At (w ∷ ws) i x × At (p ∷ ps) i q
     go true zero a b rest = (0, a, b)
@@ -81,7 +85,8 @@ left-beside test (w ∷ ws) (p ∷ ps) k x q at there = go (not (test w.put)) k 
     go false k a b rest = later (rest k a b)
 
 -- one more in both, at one place
-put-beside : {A B : Type 0} (n : ℕ) (xs : List A) (ys : List B) (a : A) (b : B) → length xs ≡ length ys → (k : ℕ) (x : A) (y : B) → At (take n xs ++ a ∷ drop n xs) k x → At (take n ys ++ b ∷ drop n ys) k y
+put-beside : {A B : Type 0} (n : ℕ) (xs : List A) (ys : List B) (a : A) (b : B) → length xs ≡ length ys → (k : ℕ) (x : A) (y : B)
+    → At (take n xs ++ a ∷ drop n xs) k x → At (take n ys ++ b ∷ drop n ys) k y
     → ((i : ℕ) × At xs i x × At ys i y) ⊎ ((a ≡ x) × (b ≡ y))
 put-beside zero xs ys a b same zero x y p q = inr (some_is a x p, some_is b y q)
 put-beside zero xs ys a b same (suc k) x y p q = inl (k, p, q)
@@ -95,7 +100,8 @@ put-beside (suc n) (c ∷ xs) (d ∷ ys) a b same (suc k) x y p q = elim (put-be
   | inr r ↦ inr r
 ]
 
-last-beside : {A B : Type 0} (xs : List A) (ys : List B) (a : A) (b : B) → length xs ≡ length ys → (k : ℕ) (x : A) (y : B) → At (xs ++ a ∷ []) k x → At (ys ++ b ∷ []) k y → ((At xs k x) × At ys k y) ⊎ ((a ≡ x) × (b ≡ y))
+last-beside : {A B : Type 0} (xs : List A) (ys : List B) (a : A) (b : B) → length xs ≡ length ys → (k : ℕ) (x : A) (y : B) → At (xs ++ a ∷ []) k x
+    → At (ys ++ b ∷ []) k y → ((At xs k x) × At ys k y) ⊎ ((a ≡ x) × (b ≡ y))
 last-beside [] [] a b same zero x y p q = inr (some_is a x p, some_is b y q)
 last-beside [] [] a b same (suc k) x y p q = absurd (none_at k x p)
 last-beside [] (d ∷ ys) a b same k x y p q = absurd (omega (arith, same))
@@ -125,7 +131,8 @@ module _ (Own : PutPlace → Put → Type 0) where
   }
 
   -- cores whose puts are as they were
-  pub lines-cores : (g : Record → Record) (cs : List Record) (rs : List RecordSide) → ((c : Record) → (g c).busy ≡ c.busy) → ((c : Record) → (g c).waiting ≡ c.waiting) → Lines cs (map g cs) rs rs
+  pub lines-cores : (g : Record → Record) (cs : List Record) (rs : List RecordSide) → ((c : Record) → (g c).busy ≡ c.busy)
+      → ((c : Record) → (g c).waiting ≡ c.waiting) → Lines cs (map g cs) rs rs
   lines-cores g cs rs busy waiting = record {
     busy = λ q b p. (let c = At-mapped g cs p.k p.c p.in_cs in inl (record { k = p.k; c = c.0; r = p.r; in_cs = c.1; in_rs = p.in_rs; core = sym (busy c.0) ∙ ap (λ (z : Record). z.busy) (sym c.2) ∙ p.core; side = p.side }));
     waits = λ q b p. (let c = At-mapped g cs p.k p.c p.in_cs in inl (record { k = p.k; c = c.0; r = p.r; in_cs = c.1; in_rs = p.in_rs; j = p.j; x = p.x; core = subst (λ (l : List WaitingPut). At l p.j p.x) (ap (λ (z : Record). z.waiting) c.2 ∙ waiting c.0) p.core; side = p.side; is = p.is }));
@@ -163,16 +170,19 @@ module _ (Own : PutPlace → Put → Type 0) where
       turn : RecordSide → RecordSide
       turn r = cond (bytes_eq r.name name) (g r) r
 
-      go-busy : (t : Bool) (k : ℕ) (c : Record) (r : RecordSide) (q : PutPlace) (b : Put) → At cs k c → At rs k r → (cond t (f c) c).busy ≡ Some b → (cond t (g r) r).busy ≡ Some q → IsBusyAt cs rs q b ⊎ (IsWaitingAt cs rs q b ⊎ Own q b)
+      go-busy : (t : Bool) (k : ℕ) (c : Record) (r : RecordSide) (q : PutPlace) (b : Put) → At cs k c → At rs k r → (cond t (f c) c).busy ≡ Some b
+          → (cond t (g r) r).busy ≡ Some q → IsBusyAt cs rs q b ⊎ (IsWaitingAt cs rs q b ⊎ Own q b)
       go-busy true k c r q b in_cs in_rs e d = busy k c r q b in_cs in_rs e d
       go-busy false k c r q b in_cs in_rs e d = inl (record { k = k; c = c; r = r; in_cs = in_cs; in_rs = in_rs; core = e; side = d })
 
-      go-waits : (t : Bool) (k : ℕ) (c : Record) (r : RecordSide) (j : ℕ) (x : WaitingPut) (q : PutPlace) → At cs k c → At rs k r → At (cond t (f c) c).waiting j x → At (cond t (g r) r).waiting j q → IsWaitingAt cs rs q x.put ⊎ Own q x.put
+      go-waits : (t : Bool) (k : ℕ) (c : Record) (r : RecordSide) (j : ℕ) (x : WaitingPut) (q : PutPlace) → At cs k c → At rs k r
+          → At (cond t (f c) c).waiting j x → At (cond t (g r) r).waiting j q → IsWaitingAt cs rs q x.put ⊎ Own q x.put
       go-waits true k c r j x q in_cs in_rs e d = waits k c r j x q in_cs in_rs e d
       go-waits false k c r j x q in_cs in_rs e d = inl (record { k = k; c = c; r = r; in_cs = in_cs; in_rs = in_rs; j = j; x = x; core = e; side = d; is = refl })
 
   -- the waiting puts of a channel go
-  pub lines-cleared : (h : Handle) (sid : ℕ) (cs : List Record) (rs : List RecordSide) → Lines cs (withdrawn (event.is_of_channel h sid) cs) rs (with_core (event.without_channel h sid) cs rs)
+  pub lines-cleared : (h : Handle) (sid : ℕ) (cs : List Record) (rs : List RecordSide)
+      → Lines cs (withdrawn (event.is_of_channel h sid) cs) rs (with_core (event.without_channel h sid) cs rs)
   lines-cleared h sid cs rs = record {
     busy = λ q b p.
         let c = At-mapped (puts.without_puts (event.is_of_channel h sid)) cs p.k p.c p.in_cs in
@@ -188,18 +198,21 @@ module _ (Own : PutPlace → Put → Type 0) where
   }
 
   -- the record of a name goes
-  pub lines-removed : (name : List ℕ) (cs : List Record) (rs : List RecordSide) → AreNamed cs rs → Lines cs (removed name cs) rs (filter (λ (r : RecordSide). not (bytes_eq r.name name)) rs)
+  pub lines-removed : (name : List ℕ) (cs : List Record) (rs : List RecordSide) → AreNamed cs rs
+      → Lines cs (removed name cs) rs (filter (λ (r : RecordSide). not (bytes_eq r.name name)) rs)
   lines-removed name cs rs named = record {
     busy = λ q b p. (let i = at p.k p.c p.r p.in_cs p.in_rs in inl (record { k = i.0; c = p.c; r = p.r; in_cs = i.1; in_rs = i.2; core = p.core; side = p.side }));
     waits = λ q b p. (let i = at p.k p.c p.r p.in_cs p.in_rs in inl (record { k = i.0; c = p.c; r = p.r; in_cs = i.1; in_rs = i.2; j = p.j; x = p.x; core = p.core; side = p.side; is = p.is }));
   }
     where
-      at : (k : ℕ) (c : Record) (r : RecordSide) → At (removed name cs) k c → At (filter (λ (r : RecordSide). not (bytes_eq r.name name)) rs) k r → (i : ℕ) × At cs i c × At rs i r
+      at : (k : ℕ) (c : Record) (r : RecordSide) → At (removed name cs) k c → At (filter (λ (r : RecordSide). not (bytes_eq r.name name)) rs) k r
+          → (i : ℕ) × At cs i c × At rs i r
       at k c r in_cs in_rs =
           kept-beside (λ (c : Record). not (bytes_eq c.state.name name)) (λ (r : RecordSide). not (bytes_eq r.name name)) cs rs (λ i x y a b. ap (λ (n : List ℕ). not (bytes_eq n name)) (named i x y a b)) k c r in_cs in_rs
 
   -- a record is added
-  pub lines-added : (number behind : ℕ) (s : RecordState) (cs : List Record) (rs : List RecordSide) → length cs ≡ length rs → Lines cs (take behind cs ++ new_record s ∷ drop behind cs) rs (take behind rs ++ record_begun number s ∷ drop behind rs)
+  pub lines-added : (number behind : ℕ) (s : RecordState) (cs : List Record) (rs : List RecordSide) → length cs ≡ length rs
+      → Lines cs (take behind cs ++ new_record s ∷ drop behind cs) rs (take behind rs ++ record_begun number s ∷ drop behind rs)
   lines-added number behind s cs rs long = record {
     busy = λ q b p. elim (put-beside behind cs rs (new_record s) (record_begun number s) long p.k p.c p.r p.in_cs p.in_rs) [
       | inl i ↦ inl (record { k = i.0; c = p.c; r = p.r; in_cs = i.1; in_rs = i.2; core = p.core; side = p.side })
@@ -212,7 +225,8 @@ module _ (Own : PutPlace → Put → Type 0) where
   }
 
   -- circuits end: two tests agree on what waits side by side
-  pub lines-gone : (test : Put → Bool) (gone : ℕ → Bool) (cs : List Record) (rs : List RecordSide) → ((q : PutPlace) (b : Put) → IsWaitingAt cs rs q b → test b ≡ gone q.circuit) → Lines cs (withdrawn test cs) rs (map (without_puts gone) rs)
+  pub lines-gone : (test : Put → Bool) (gone : ℕ → Bool) (cs : List Record) (rs : List RecordSide)
+      → ((q : PutPlace) (b : Put) → IsWaitingAt cs rs q b → test b ≡ gone q.circuit) → Lines cs (withdrawn test cs) rs (map (without_puts gone) rs)
   lines-gone test gone cs rs agree = record {
     busy = λ q b p.
         let c = At-mapped (puts.without_puts test) cs p.k p.c p.in_cs in
@@ -228,13 +242,15 @@ module _ (Own : PutPlace → Put → Type 0) where
   }
 
   -- a busy put is finished, and the next that waits is applied
-  pub lines-finished : (name : List ℕ) (stamp : Stamp) (cs : List Record) (rs : List RecordSide) → AreNamed cs rs → Lines cs (with_record name (λ (q : Record). finished stamp q q.waiting) cs) rs (event.with_record name next_busy rs)
+  pub lines-finished : (name : List ℕ) (stamp : Stamp) (cs : List Record) (rs : List RecordSide) → AreNamed cs rs
+      → Lines cs (with_record name (λ (q : Record). finished stamp q q.waiting) cs) rs (event.with_record name next_busy rs)
   lines-finished name stamp cs rs named =
       lines-with name (λ (q : Record). finished stamp q q.waiting) next_busy cs rs named
       (λ k c r q b in_cs in_rs core side. inr (inl (first k c r q b in_cs in_rs c.waiting refl r.waiting refl core side)))
       (λ k c r j x q in_cs in_rs core side. inl (rest k c r j x q in_cs in_rs c.waiting refl r.waiting refl core side))
     where
-      first : (k : ℕ) (c : Record) (r : RecordSide) (q : PutPlace) (b : Put) → At cs k c → At rs k r → (ws : List WaitingPut) → c.waiting ≡ ws → (ps : List PutPlace) → r.waiting ≡ ps → (finished stamp c ws).busy ≡ Some b → first_of ps ≡ Some q → IsWaitingAt cs rs q b
+      first : (k : ℕ) (c : Record) (r : RecordSide) (q : PutPlace) (b : Put) → At cs k c → At rs k r → (ws : List WaitingPut) → c.waiting ≡ ws
+          → (ps : List PutPlace) → r.waiting ≡ ps → (finished stamp c ws).busy ≡ Some b → first_of ps ≡ Some q → IsWaitingAt cs rs q b
       first k c r q b in_cs in_rs [] w_is ps p_is core side = absurd (none-some b core)
       first k c r q b in_cs in_rs (x ∷ ws) w_is [] p_is core side = absurd (none-some q side)
       first k c r q b in_cs in_rs (x ∷ ws) w_is (p ∷ ps) p_is core side = record {
@@ -250,7 +266,9 @@ module _ (Own : PutPlace → Put → Type 0) where
         is = some_is x.put b core;
       }
 
-      rest : (k : ℕ) (c : Record) (r : RecordSide) (j : ℕ) (x : WaitingPut) (q : PutPlace) → At cs k c → At rs k r → (ws : List WaitingPut) → c.waiting ≡ ws → (ps : List PutPlace) → r.waiting ≡ ps → At (finished stamp c ws).waiting j x → At (drop 1 ps) j q → IsWaitingAt cs rs q x.put
+      rest : (k : ℕ) (c : Record) (r : RecordSide) (j : ℕ) (x : WaitingPut) (q : PutPlace) → At cs k c → At rs k r → (ws : List WaitingPut)
+          → c.waiting ≡ ws → (ps : List PutPlace) → r.waiting ≡ ps → At (finished stamp c ws).waiting j x → At (drop 1 ps) j q
+          → IsWaitingAt cs rs q x.put
       rest k c r j x q in_cs in_rs [] w_is ps p_is core side = absurd (none_at j x core)
       rest k c r j x q in_cs in_rs (z ∷ ws) w_is [] p_is core side = absurd (none_at j q side)
       rest k c r j x q in_cs in_rs (z ∷ ws) w_is (p ∷ ps) p_is core side = record {
@@ -267,14 +285,16 @@ module _ (Own : PutPlace → Put → Type 0) where
       }
 
   -- a put makes a record busy, or waits after the others
-  pub lines-busied : (name : List ℕ) (f : Record → Record) (own : PutPlace) (b : Put) (cs : List Record) (rs : List RecordSide) → AreNamed cs rs → ((c : Record) → (f c).busy ≡ Some b) → ((c : Record) → (f c).waiting ≡ c.waiting) → Own own b
+  pub lines-busied : (name : List ℕ) (f : Record → Record) (own : PutPlace) (b : Put) (cs : List Record) (rs : List RecordSide) → AreNamed cs rs
+      → ((c : Record) → (f c).busy ≡ Some b) → ((c : Record) → (f c).waiting ≡ c.waiting) → Own own b
       → Lines cs (with_record name f cs) rs (event.with_record name (λ (r : RecordSide). record r { busy = Some own }) rs)
   lines-busied name f own b cs rs named busy waiting is =
       lines-with name f (λ (r : RecordSide). record r { busy = Some own }) cs rs named
       (λ k c r q d in_cs in_rs core side. inr (inr (subst (λ (z : PutPlace × Put). Own z.0 z.1) (λ i. (some_is own q side i, some_is b d (sym (busy c) ∙ core) i)) is)))
       (λ k c r j x q in_cs in_rs core side. inl (record { k = k; c = c; r = r; in_cs = in_cs; in_rs = in_rs; j = j; x = x; core = subst (λ (l : List WaitingPut). At l j x) (waiting c) core; side = side; is = refl }))
 
-  pub lines-waiting : (name : List ℕ) (x : WaitingPut) (own : PutPlace) (cs : List Record) (rs : List RecordSide) → AreNamed cs rs → ((k : ℕ) (c : Record) (r : RecordSide) → At cs k c → At rs k r → length c.waiting ≡ length r.waiting) → Own own x.put
+  pub lines-waiting : (name : List ℕ) (x : WaitingPut) (own : PutPlace) (cs : List Record) (rs : List RecordSide) → AreNamed cs rs
+      → ((k : ℕ) (c : Record) (r : RecordSide) → At cs k c → At rs k r → length c.waiting ≡ length r.waiting) → Own own x.put
       → Lines cs (with_record name (puts.with_waiting x) cs) rs (event.with_record name (λ (r : RecordSide). record r { waiting = r.waiting ++ own ∷ [] }) rs)
   lines-waiting name x own cs rs named long is =
       lines-with name (puts.with_waiting x) (λ (r : RecordSide). record r { waiting = r.waiting ++ own ∷ [] }) cs rs named

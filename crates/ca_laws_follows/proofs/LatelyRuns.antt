@@ -67,7 +67,8 @@ use Rattle.ca_laws_follows.proofs.Whole.{LogsGrow, folds-snoc, logs-grow, logs-t
 
 -- ---- a put whose reply comes late has none in its step
 
-late-none : (k : Knows) (m : Fields) (replies : List Fields) (did : Action) → AreSlow k → Due k m replies did → Is command.WriteNotify m → IsLateDid did → replies ≡ []
+late-none : (k : Knows) (m : Fields) (replies : List Fields) (did : Action) → AreSlow k → Due k m replies did → Is command.WriteNotify m
+    → IsLateDid did → replies ≡ []
 late-none k m replies did slow due is late = elim (due.put is) [
   | inl served ↦ put served
   | inr stray ↦ absurd (subst (λ (x : Action). IsLateDid x) stray.3 late)
@@ -107,13 +108,15 @@ gone-waits ps a b q u (i, at) = (let p = At-mapped (λ (p : PutPlace). Withdrawn
     other : (n k : ℕ) → Waits a b q u ≡ Withdrawn n k → ⊥
     other n k e = cc
 
-gone-applied : (ps : List PutPlace) (a b q : ℕ) (u : Stored) (x : Bool) → In (map (λ (p : PutPlace). Withdrawn p.circuit p.place) ps) (Applied a b q u x) → ⊥
+gone-applied : (ps : List PutPlace) (a b q : ℕ) (u : Stored) (x : Bool)
+    → In (map (λ (p : PutPlace). Withdrawn p.circuit p.place) ps) (Applied a b q u x) → ⊥
 gone-applied ps a b q u x (i, at) = (let p = At-mapped (λ (p : PutPlace). Withdrawn p.circuit p.place) ps i (Applied a b q u x) at in other p.0.circuit p.0.place p.2)
   where
     other : (n k : ℕ) → Applied a b q u x ≡ Withdrawn n k → ⊥
     other n k e = cc
 
-logged-waits : (core : Server) (g : Handle) (p : PutPlace) (did : Action) (rs : List RecordSide) (a b q : ℕ) (u : Stored) → In (logged_by core g p did rs) (Waits a b q u) → IsLateDid did
+logged-waits : (core : Server) (g : Handle) (p : PutPlace) (did : Action) (rs : List RecordSide) (a b q : ℕ) (u : Stored)
+    → In (logged_by core g p did rs) (Waits a b q u) → IsLateDid did
 logged-waits core g p (action.Waits name value) rs a b q u there = tt
 logged-waits core g p (Applies name value busies) rs a b q u there = absurd (waits-is p.circuit p.place _ a b q _ u busies (one-in _ (Waits a b q u) there))
 logged-waits core g p (action.Clears sid) rs a b q u there = absurd (gone-waits _ a b q u there)
@@ -125,7 +128,8 @@ logged-waits core g p (action.Adds x) rs a b q u there = absurd (none_at there.0
 logged-waits core g p (action.Drops x) rs a b q u there = absurd (none_at there.0 (Waits a b q u) there.1)
 logged-waits core g p (action.Switches x) rs a b q u there = absurd (none_at there.0 (Waits a b q u) there.1)
 
-logged-applied : (core : Server) (g : Handle) (p : PutPlace) (did : Action) (rs : List RecordSide) (a b q : ℕ) (u : Stored) → In (logged_by core g p did rs) (Applied a b q u true) → IsLateDid did
+logged-applied : (core : Server) (g : Handle) (p : PutPlace) (did : Action) (rs : List RecordSide) (a b q : ℕ) (u : Stored)
+    → In (logged_by core g p did rs) (Applied a b q u true) → IsLateDid did
 logged-applied core g p (Applies name value busies) rs a b q u there =
     subst (λ (x : Bool). IsLateDid (Applies name value x)) (sym (busies-is p.circuit p.place _ a b q _ u busies true (one-in _ (Applied a b q u true) there))) tt
 logged-applied core g p (action.Waits name value) rs a b q u there = absurd (applied-is p.circuit p.place _ a b q _ u true (one-in _ (Applied a b q u true) there))
@@ -153,12 +157,14 @@ module _ (Answers : Fields → Fields → Type 0) where
   abbrev pub AnswersAt : World → Type 0
   AnswersAt w = (i : ℕ) (y : ServerSide) (q : PutPlace) (b : Put) → At w.servers i y → BusyPair y.core.records y.records q b → (p : IsPutOf w.circuits i q b) → Answers p.s.message (finish_reply b)
 
-  module _ (s : Setting) (w new : World) (e : Event) (ready_w : Ready s w) (ready_new : Ready s new) (happens : Happens w e new) (grow : LogsGrow w new) (all : AllLate w) where
+  module _ (s : Setting) (w new : World) (e : Event) (ready_w : Ready s w) (ready_new : Ready s new) (happens : Happens w e new)
+      (grow : LogsGrow w new) (all : AllLate w) where
     abbrev NoneTold : World → Type 0
     NoneTold v = FinishesOr (λ (n k : ℕ). ⊥) w v
 
     -- a circuit goes on, and nothing new is about the message at place k
-    forth : (n : ℕ) (c d : Joined) (lg : List Entry) → At w.circuits n c → At new.circuits n d → At new.server_logs d.lists.server lg → d.lists.server ≡ c.lists.server → Extends c.lists d.lists → (k : ℕ) (h : Step) (q : Sent) → At c.lists.handled k h → At d.lists.up k q
+    forth : (n : ℕ) (c d : Joined) (lg : List Entry) → At w.circuits n c → At new.circuits n d → At new.server_logs d.lists.server lg
+        → d.lists.server ≡ c.lists.server → Extends c.lists d.lists → (k : ℕ) (h : Step) (q : Sent) → At c.lists.handled k h → At d.lists.up k q
         → ((j : ℕ) (m : Fields) → IsReply d.lists k j m → IsReply c.lists k j m) → ((i : ℕ) → At lg i (Finished n k) → (y : List Entry) × At w.server_logs d.lists.server y × At y i (Finished n k)) → IsKnownLate Answers n d.lists lg k q
     forth n c d lg on at logged life ext k h q at_h at_q replies finished =
         let log = logs-there s w ready_w.serves.stands.sound n c on in
@@ -180,10 +186,12 @@ module _ (Answers : Fields → Fields → Type 0) where
         (λ opened. open-was s w new e ready_w ready_new happens n c d on at opened)
         (all n c log.0 on log.1 k h q at_h (grown-back c.lists.up d.lists.up ext.up k q (omega (arith, lt, few)) at_q))
 
-    old-finish : (v : World) → NoneTold v → (l : ℕ) (lg : List Entry) → At v.server_logs l lg → (n k i : ℕ) → At lg i (Finished n k) → (y : List Entry) × At w.server_logs l y × At y i (Finished n k)
+    old-finish : (v : World) → NoneTold v → (l : ℕ) (lg : List Entry) → At v.server_logs l lg → (n k i : ℕ) → At lg i (Finished n k)
+        → (y : List Entry) × At w.server_logs l y × At y i (Finished n k)
     old-finish v told l lg logged n k i there = elim (told l lg i n k logged there) [ inl was ↦ was | inr none ↦ absurd none ]
 
-    back-late : (F : ℕ → News → Type 0) → Back F w new → NoneTold new → ((l m : ℕ) (h : Step) → F l (Takes m h) → ⊥) → ((l k : ℕ) (m : Fields) → F l (Says (record { message = m; place = k; cause = Reply })) → ⊥) → AllLate new
+    back-late : (F : ℕ → News → Type 0) → Back F w new → NoneTold new → ((l m : ℕ) (h : Step) → F l (Takes m h) → ⊥)
+        → ((l k : ℕ) (m : Fields) → F l (Says (record { message = m; place = k; cause = Reply })) → ⊥) → AllLate new
     back-late F back told takes late n d lg at logged k h q at_h at_q =
         let c = back n d at in
         let was : At c.0.lists.handled k h = elim (c.2.handled k h at_h) [ inl x ↦ x | inr x ↦ absurd (takes n k h x) ] in
@@ -194,7 +202,8 @@ module _ (Answers : Fields → Fields → Type 0) where
     still-late back told = back-late Nothing-new back told (λ l m h x. x) (λ l k m x. x)
 
     -- updates leave
-    pump-late : (k : ℕ) (j : Joined) (y : ServerSide) (f : HappensPump w k j y new) → At w.circuits k j → At w.servers j.server y → j.lists.server_open ≡ true → NoneTold new → AllLate new
+    pump-late : (k : ℕ) (j : Joined) (y : ServerSide) (f : HappensPump w k j y new) → At w.circuits k j → At w.servers j.server y
+        → j.lists.server_open ≡ true → NoneTold new → AllLate new
     pump-late k j y f on at opened told = back-late (PumpNews k (stamped_told f.updates j)) (pump-back w new k j y on f) told (λ l m h x. x) (λ l p m x. (later _ x.1).other refl)
       where
         ks : List ℕ
@@ -210,7 +219,8 @@ module _ (Answers : Fields → Fields → Type 0) where
             go (inr (none, nothing, is)) = absurd (none_at there.0 t (subst (λ (us : List _). At (stamped_told us j) there.0 t) nothing there.1))
 
     -- a record is removed
-    remove-late : (i : ℕ) (y : ServerSide) (name : List ℕ) (gone : Handle → Bool) (left : Handle → ℕ) → Back (RemoveNews w i y.core name gone left) w new → NoneTold new → AllLate new
+    remove-late : (i : ℕ) (y : ServerSide) (name : List ℕ) (gone : Handle → Bool) (left : Handle → ℕ)
+        → Back (RemoveNews w i y.core name gone left) w new → NoneTold new → AllLate new
     remove-late i y name gone left back told =
         back-late (RemoveNews w i y.core name gone left) back told (λ l m h x. x)
         (λ l k m x. (let z = At-mapped (removal_told (x.0).creations) _ x.4.0 _ x.4.1 in reply-removal (ap (λ (v : Told). v.cause) z.2)))
@@ -241,7 +251,8 @@ module _ (Answers : Fields → Fields → Type 0) where
 
     -- ---- a message is handled
 
-    module _ (k : ℕ) (j : Joined) (y : ServerSide) (on : At w.circuits k j) (at_y : At w.servers j.server y) (opened : j.lists.server_open ≡ true) (f : StepHandles w k j y new) (told : NoneTold new) where
+    module _ (k : ℕ) (j : Joined) (y : ServerSide) (on : At w.circuits k j) (at_y : At w.servers j.server y) (opened : j.lists.server_open ≡ true)
+        (f : StepHandles w k j y new) (told : NoneTold new) where
       abbrev place : ℕ
       place = length j.lists.handled
 
@@ -310,7 +321,8 @@ module _ (Answers : Fields → Fields → Type 0) where
           go None is = refl
           go (Some z) is = elim (At-set w.servers j.server next j.server z is) [ inl mine ↦ ap (λ (x : ServerSide). x.life) mine.1 | inr old ↦ absurd (old.1 refl) ]
 
-      noted-log : (o : Option Joined) → (unwrap_or (option_map (λ (c : Joined). with_circuit k (handled_at place step replies c) ended) o) ended).server_logs ≡ ended.server_logs
+      noted-log : (o : Option Joined)
+          → (unwrap_or (option_map (λ (c : Joined). with_circuit k (handled_at place step replies c) ended) o) ended).server_logs ≡ ended.server_logs
       noted-log None = refl
       noted-log (Some c) = refl
 
@@ -390,10 +402,12 @@ module _ (Answers : Fields → Fields → Type 0) where
                 handled = λ i x there. subst (λ (l : List Step). At l i x) (sym lists.2) (At-append j.lists.handled (step ∷ []) i x there);
               }
 
-              down-was : (i : ℕ) (t : Told) → At d.lists.down i t → At j.lists.down i t ⊎ ((z : ℕ) × (i ≡ length j.lists.down + z) × At (about place Reply replies) z t)
+              down-was : (i : ℕ) (t : Told) → At d.lists.down i t
+                  → At j.lists.down i t ⊎ ((z : ℕ) × (i ≡ length j.lists.down + z) × At (about place Reply replies) z t)
               down-was i t there = At-parts j.lists.down (about place Reply replies) i t (subst (λ (z : List Told). At z i t) lists.1 there)
 
-              reply-at : (z : ℕ) (t : Told) → At (about place Reply replies) z t → (r : Fields) × At replies z r × (t ≡ record { message = r; place = place; cause = Reply })
+              reply-at : (z : ℕ) (t : Told) → At (about place Reply replies) z t
+                  → (r : Fields) × At replies z r × (t ≡ record { message = r; place = place; cause = Reply })
               reply-at z t there = At-mapped (λ (v : Fields). let x : Told = record { message = v; place = place; cause = Reply } in x) replies z t there
 
               life_log : At new.server_logs y.life lg
@@ -425,7 +439,8 @@ module _ (Answers : Fields → Fields → Type 0) where
 
     -- ---- a put is finished
 
-    module _ (i : ℕ) (y : ServerSide) (name : List ℕ) (at_y : At w.servers i y) (f : server.Finished w i y name new) (held : AllHeld w) (says : AnswersAt w) where
+    module _ (i : ℕ) (y : ServerSide) (name : List ℕ) (at_y : At w.servers i y) (f : server.Finished w i y name new) (held : AllHeld w)
+        (says : AnswersAt w) where
       abbrev ms : List Fields
       ms = map (λ (x : Handle × Fields). x.1) f.sent
 
@@ -487,7 +502,8 @@ module _ (Answers : Fields → Fields → Type 0) where
           go (inr waited) = (let came = own-life.life.once.came waited.0 f.p.circuit f.p.place f.r.number waited.1 waited.3 in on-one came.c came.on came.joins)
 
       -- every message that is sent is that reply
-      sent-is : Replies (with_finish name f.finishes.0.r y.core) b f.finishes.0.gone f.sent f.finishes.1 → (z : ℕ) (v : Handle × Fields) → At f.sent z v → (z ≡ 0) × (v.1 ≡ finish_reply b)
+      sent-is : Replies (with_finish name f.finishes.0.r y.core) b f.finishes.0.gone f.sent f.finishes.1 → (z : ℕ) (v : Handle × Fields)
+          → At f.sent z v → (z ≡ 0) × (v.1 ≡ finish_reply b)
       sent-is (inl (e, awaited, sent, is)) zero v there = (refl, ap (λ (o : Option (Handle × Fields)). (unwrap_or o v).1) (sym there ∙ ap (λ (l : List (Handle × Fields)). slice_get l 0) sent))
       sent-is (inl (e, awaited, sent, is)) (suc z) v there = absurd (none_at z v (subst (λ (l : List (Handle × Fields)). At l (suc z) v) sent there))
       sent-is (inr (none, sent, is)) z v there = absurd (none_at z v (subst (λ (l : List (Handle × Fields)). At l z v) sent there))
@@ -506,7 +522,8 @@ module _ (Answers : Fields → Fields → Type 0) where
               let z = At-mapped (next_numbers i y.core name f.cr.waiting) w.circuits f.p.circuit c there in
               ap (λ (v : Joined). v.lists.down) z.2 ∙ next-down i y.core name f.cr.waiting z.0 ∙ ap (λ (v : Joined). v.lists.down) (At-one w.circuits f.p.circuit z.0 put.c z.1 put.on)
 
-          go : (o : Option Joined) → slice_get told_world.circuits f.p.circuit ≡ o → (c : Joined) → At (unwrap_or (option_map (λ (v : Joined). with_circuit f.p.circuit (told_late f.p.place ms v) told_world) o) told_world).circuits f.p.circuit c
+          go : (o : Option Joined) → slice_get told_world.circuits f.p.circuit ≡ o → (c : Joined)
+              → At (unwrap_or (option_map (λ (v : Joined). with_circuit f.p.circuit (told_late f.p.place ms v) told_world) o) told_world).circuits f.p.circuit c
               → c.lists.down ≡ put.c.lists.down ++ about f.p.place Reply ms
           go None is c there = absurd (none-some c (sym is ∙ there))
           go (Some v) is c there = elim (At-set told_world.circuits f.p.circuit (told_late f.p.place ms v) f.p.circuit c there) [
@@ -515,7 +532,8 @@ module _ (Answers : Fields → Fields → Type 0) where
           ]
 
       -- an end that is open still did not end for lack of memory
-      not-gone : (d : Joined) → At new.circuits f.p.circuit d → d.lists.server_open ≡ true → put.c.at_server ≡ d.at_server → put.c.server ≡ d.server → (e0 : ServerEnd) → HasEnd y.core put.c.at_server e0 → f.finishes.0.gone put.c.at_server ≡ true → ⊥
+      not-gone : (d : Joined) → At new.circuits f.p.circuit d → d.lists.server_open ≡ true → put.c.at_server ≡ d.at_server → put.c.server ≡ d.server
+          → (e0 : ServerEnd) → HasEnd y.core put.c.at_server e0 → f.finishes.0.gone put.c.at_server ≡ true → ⊥
       not-gone d at opened handle of e0 has gone =
           let seat = ready_new.serves.stands.sound.seated.each f.p.circuit d at opened in
           let there : At new_world.servers i seat.y = subst (λ (v : ℕ × World). At v.1.servers v.0 seat.y) (λ n. ((sym of ∙ put.of) n, f.leaves n)) seat.at in
@@ -543,7 +561,9 @@ module _ (Answers : Fields → Fields → Type 0) where
               subst (λ (x : Server). EndsBy y.core x r.gone) (sym f.finishes.3)
               (stay-then y.core finish (after_next name r.r.waiting r.gone made) r.gone (stay-self y.core finish refl) (stay-then finish made (after_next name r.r.waiting r.gone made) r.gone stays.0 (next-ends name r.r.waiting r.gone made)))
 
-      module _ (d : Joined) (lg : List Entry) (on_d : At new.circuits f.p.circuit d) (logged : At new.server_logs d.lists.server lg) (h : Step) (q : Sent) (at_h : At put.c.lists.handled f.p.place h) (at_q : At d.lists.up f.p.place q) (life : d.lists.server ≡ put.c.lists.server) (ext : Extends put.c.lists d.lists) where
+      module _ (d : Joined) (lg : List Entry) (on_d : At new.circuits f.p.circuit d) (logged : At new.server_logs d.lists.server lg) (h : Step)
+          (q : Sent) (at_h : At put.c.lists.handled f.p.place h) (at_q : At d.lists.up f.p.place q) (life : d.lists.server ≡ put.c.lists.server)
+          (ext : Extends put.c.lists d.lists) where
         old_log : At w.server_logs put.c.lists.server own-life.log
         old_log = subst (λ (l : ℕ). At w.server_logs l own-life.log) (sym put-life) own-life.at
 
@@ -603,7 +623,8 @@ module _ (Answers : Fields → Fields → Type 0) where
               absurd (by.unfinished (z, At-back own-life.log longer.0 z (Finished f.p.circuit f.p.place) (subst (λ (l : List Entry). At l z (Finished f.p.circuit f.p.place)) longer.1 there) lt))
         ]
 
-        reply-there : (z : ℕ) → At lg z (Finished f.p.circuit f.p.place) → IsUncleared d.lists f.p.place (sid_in q.message) z → d.lists.server_open ≡ true
+        reply-there : (z : ℕ) → At lg z (Finished f.p.circuit f.p.place) → IsUncleared d.lists f.p.place (sid_in q.message) z
+            → d.lists.server_open ≡ true
             → Replies (with_finish name f.finishes.0.r y.core) b f.finishes.0.gone f.sent f.finishes.1 → (m : Fields) × IsReply d.lists f.p.place (length put.c.lists.down) m
         reply-there z there uncleared opened (inl (e0, awaited, sent, is)) = (
           finish_reply b,

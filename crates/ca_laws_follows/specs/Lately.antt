@@ -16,6 +16,11 @@ pub record IsLately (n : ℕ) (c : Circuit) (y : List Entry) (k : ℕ) (h : Step
       → (j < h.sent + length a.replies) ⊎ ((j ≡ place) × (late_reply a.s.message a.did ≡ Some m) × IsFinished n c y k a.s)
   pub comes : (m : Fields) → late_reply a.s.message a.did ≡ Some m → IsFinished n c y k a.s → c.server_open ≡ true → IsReply c k place m
 
--- So each message that was handled was answered, on any circuit, whether its ends are open or not.
+-- So each message that was handled was answered, and then late.
+abbrev pub AnsweredLately : (n : ℕ) → Circuit → List Entry → (k : ℕ) → Step → Type 0
+AnsweredLately n c y k h = (a : IsAnswered n c y k h) × IsLately n c y k h a
+
+-- And so was each message on any circuit, whether its ends are open or not.
 abbrev pub AreAnsweredLately : World → Type 0
-AreAnsweredLately w = OfCircuits (told w) (λ (n : ℕ) (c : Circuit) (x : List Line) (y : List Entry). (k : ℕ) (h : Step) → At c.handled k h → (a : IsAnswered n c y k h) × IsLately n c y k h a)
+AreAnsweredLately w =
+    OfCircuits (told w) (λ (n : ℕ) (c : Circuit) (x : List Line) (y : List Entry). (k : ℕ) (h : Step) → At c.handled k h → AnsweredLately n c y k h)
