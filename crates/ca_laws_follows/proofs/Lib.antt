@@ -60,3 +60,10 @@ pub mod FaceLists
 pub mod FaceRuns
 pub mod ServersStay
 pub mod DueRuns
+pub mod LatelyLogs
+pub mod LatelyKeeps
+pub mod LatelyOpen
+pub mod LatelyRuns
+pub mod LatelyDue
+pub mod LatelyPairs
+pub mod LatelyHeads

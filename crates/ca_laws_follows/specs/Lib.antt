@@ -23,3 +23,4 @@ pub mod LegalMost
 pub mod KnewFaces
 pub mod Given
 pub mod AnswerDue
+pub mod Lately

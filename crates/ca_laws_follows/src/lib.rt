@@ -10,6 +10,7 @@ mod circuit_laws;
 mod full_laws;
 mod gone_laws;
 mod knew_laws;
+mod late_laws;
 mod laws;
 mod legal_laws;
 mod live_laws;
@@ -33,6 +34,8 @@ pub use knew_laws::{
     servers_keep_their_settings, servers_know_their_channels, servers_know_their_keys,
     servers_know_their_peers,
 };
+pub use knew_laws::{servers_know_their_channels, servers_know_their_keys};
+pub use late_laws::late_replies_are_those_due;
 pub use laws::{
     follows_record_in_runs, listed_records_are_there, what_was_added_stands_or_is_over,
     what_was_sent_shows_its_posts,
