@@ -52,3 +52,8 @@ pub mod LiveRead
 pub mod ActsWhole
 pub mod KnewFull
 pub mod LegalCut
+pub mod WritesSaid
+pub mod WritesCarried
+pub mod WritesTitled
+pub mod OwnWrites
+pub mod Promised

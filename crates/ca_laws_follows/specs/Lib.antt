@@ -19,3 +19,6 @@ pub mod Refused
 pub mod LiveRead
 pub mod Whole
 pub mod KnewFull
+pub mod Carried
+pub mod OwnWrites
+pub mod Promised
