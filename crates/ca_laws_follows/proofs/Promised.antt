@@ -9,7 +9,7 @@ use Rattle.ca_model.specs.Updates.{Shows}
 use Rattle.ca_model_safe.specs.Channels.{OfCircuits, Suits}
 use Rattle.ca_model_safe.specs.Headline.{Answered, TakesOwn}
 use Rattle.ca_model_safe.specs.Known.{IsDue}
-use Rattle.ca_model_safe.specs.Worlds.{IsLegalWorld, IsSafeWorld}
+use Rattle.ca_model_safe.specs.Worlds.{IsLegalWorld, IsSafeWorld, Promise}
 use Rattle.ca_model_world.specs.Events.{Event}
 use Rattle.ca_model_world.specs.Runs.{AreEvents, Runs}
 use Rattle.ca_model_world.specs.World.{IsSetting, Setting, World, port_of, rules_of, told}
@@ -21,7 +21,7 @@ use Rattle.ca_laws_held.proofs.LegalCancels.{run-cancels}
 use Rattle.ca_laws_held.proofs.OnceSentRuns.{is-sent}
 use Rattle.ca_laws_held.proofs.OrderKeeps.{run-steps}
 use Rattle.ca_laws_held.proofs.SeeingRuns.{run-sees}
-use Rattle.ca_laws_follows.specs.Promised.{AllAreAnswered, AnswerOwn, ClientsGiveFreeIds, EndedAreNotAdded, MessagesMeanOwn, StandingAreAdded}
+use Rattle.ca_laws_follows.specs.Promised.{AllAreAnswered, AnswerOwn, ClientsGiveFreeIds, EndedAreNotAdded, MessagesMeanOwn, OfRuns, StandingAreAdded}
 use Rattle.ca_laws_follows.proofs.ActsOn.{of-circuits}
 use Rattle.ca_laws_follows.proofs.ActsWhole.{run-act-on-records}
 use Rattle.ca_laws_follows.proofs.CausingRuns.{run-causes}
@@ -95,3 +95,8 @@ run-legal-world s es stopped w ok are runs ids anew ended = record {
 -- What is promised of the world, from what is still to be shown: that each handled message is answered, and three parts of what is legal.
 pub run-promised : (s : Setting) (es : List Event) (stopped : Option Event) (w : World) → IsSetting s → AreEvents es → Runs s es stopped w → AllAreAnswered w → ClientsGiveFreeIds w → StandingAreAdded w → EndedAreNotAdded w → IsSafeWorld w × IsLegalWorld w
 run-promised s es stopped w ok are runs answered ids anew ended = (run-safe s es stopped w ok are runs answered, run-legal-world s es stopped w ok are runs ids anew ended)
+
+-- So what is promised of every run, from these four of every run.
+pub promised : OfRuns AllAreAnswered → OfRuns ClientsGiveFreeIds → OfRuns StandingAreAdded → OfRuns EndedAreNotAdded → Promise
+promised answered ids anew ended s es stopped w ok are runs =
+    run-promised s es stopped w ok are runs (answered s es stopped w ok are runs) (ids s es stopped w ok are runs) (anew s es stopped w ok are runs) (ended s es stopped w ok are runs)

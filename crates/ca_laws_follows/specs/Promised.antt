@@ -1,6 +1,6 @@
 -- Working: what a run has to be shown to have besides, so that its world is safe and legal; and the clause of what is answered, but for
 -- the answers.
-use Rattle.std.specs.Prelude.{ℕ, ◌≡◌, ◌<◌, ◌≤◌, List, take}
+use Rattle.std.specs.Prelude.{ℕ, ◌≡◌, ◌<◌, ◌≤◌, List, Option, take}
 use Rattle.ca_text.specs.Place.{At}
 use Rattle.ca_dbr.specs.declared.value.Outcome.{Outcome}
 use Rattle.ca_requests.specs.Meaning.{Means}
@@ -13,7 +13,9 @@ use Rattle.ca_model_safe.specs.Channels.{AreSteps, IsHeld, Meant, OfCircuits, Su
 use Rattle.ca_model_safe.specs.Headline.{Answered, AnswersOwn, HasCause, TakesOwn}
 use Rattle.ca_model_safe.specs.Known.{IsDue}
 use Rattle.ca_model_safe.specs.Legal.{BecomesLive, IsStanding, client_conduct}
-use Rattle.ca_model_world.specs.World.{World, port_of, rules_of, told}
+use Rattle.ca_model_world.specs.Events.{Event}
+use Rattle.ca_model_world.specs.Runs.{AreEvents, Runs}
+use Rattle.ca_model_world.specs.World.{IsSetting, Setting, World, port_of, rules_of, told}
 
 -- Of a circuit: each message of the client is what was meant, and each of the server has its cause, handled before; no creation has two
 -- SERVER_DISCONNs; an id is taken for what the cause is about; and steps are in order.
@@ -55,3 +57,7 @@ EndedAreNotAdded w = OfCircuits (told w) (λ (n : ℕ) (c : Circuit) (x : List L
     (channel k l number : ℕ) (h : Step) → BecomesLive c channel k h → k < l → Meant c l (On channel (Subscribe number))
     → IsHeld (take h.logged x) (On channel (Subscribe number))
     × ((o : Outcome) → In (take h.logged x) (Noticed (On channel (Subscribe number)) o) → ⊥))
+
+-- So it is after every run from a well-formed setting by well-formed events.
+abbrev pub OfRuns : (World → Type 0) → Type 0
+OfRuns P = (setting : Setting) (es : List Event) (stopped : Option Event) (w : World) → IsSetting setting → AreEvents es → Runs setting es stopped w → P w
