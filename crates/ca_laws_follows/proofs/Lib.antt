@@ -67,3 +67,8 @@ pub mod LatelyRuns
 pub mod LatelyDue
 pub mod LatelyPairs
 pub mod LatelyHeads
+pub mod WritesSaid
+pub mod WritesCarried
+pub mod WritesTitled
+pub mod OwnWrites
+pub mod Promised

@@ -24,3 +24,6 @@ pub mod KnewFaces
 pub mod Given
 pub mod AnswerDue
 pub mod Lately
+pub mod Carried
+pub mod OwnWrites
+pub mod Promised

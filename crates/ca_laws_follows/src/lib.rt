@@ -16,7 +16,9 @@ mod legal_laws;
 mod live_laws;
 mod name_laws;
 mod post_laws;
+mod promise_laws;
 mod refused_laws;
+mod write_laws;
 
 pub use act_laws::{
     a_channel_is_opened_once, channels_are_created_for_their_records, live_channels_are_open,
@@ -49,4 +51,9 @@ pub use live_laws::{
 };
 pub use name_laws::{names_are_kept, records_keep_their_names};
 pub use post_laws::{subscriptions_follow_their_posts, what_stands_follows_its_record};
+pub use promise_laws::{messages_are_their_own, what_is_promised_follows};
 pub use refused_laws::{bad_channels_lost_their_records, channels_of_removed_records_are_bad};
+pub use write_laws::{
+    what_is_applied_is_what_callers_gave, writes_are_not_made_twice,
+    writes_are_of_the_record_that_is_named, writes_carry_what_callers_gave,
+};

@@ -1,0 +1,63 @@
+-- Working: what a run has to be shown to have besides, so that its world is safe and legal; and the clause of what is answered, but for
+-- the answers.
+use Rattle.std.specs.Prelude.{ℕ, ◌≡◌, ◌<◌, ◌≤◌, List, Option, take}
+use Rattle.ca_text.specs.Place.{At}
+use Rattle.ca_dbr.specs.declared.value.Outcome.{Outcome}
+use Rattle.ca_requests.specs.Meaning.{Means}
+use Rattle.ca_wire.specs.Fields.{Fields}
+use Rattle.ca_model.specs.History.{Circuit, Create, Entry, Line, Noticed, On, Removal, Sent, Step, Subscribe, Told}
+use Rattle.ca_model.specs.Sends.{Conduct, IsFree, SameIndex}
+use Rattle.ca_model.specs.Speech.{Gives, Id, In, Speaks}
+use Rattle.ca_model.specs.Updates.{Shows}
+use Rattle.ca_model_safe.specs.Channels.{AreSteps, IsHeld, Meant, OfCircuits, Suits}
+use Rattle.ca_model_safe.specs.Headline.{Answered, AnswersOwn, HasCause, TakesOwn}
+use Rattle.ca_model_safe.specs.Known.{IsDue}
+use Rattle.ca_model_safe.specs.Legal.{BecomesLive, IsStanding, client_conduct}
+use Rattle.ca_model_world.specs.Events.{Event}
+use Rattle.ca_model_world.specs.Runs.{AreEvents, Runs}
+use Rattle.ca_model_world.specs.World.{IsSetting, Setting, World, port_of, rules_of, told}
+
+-- Of a circuit: each message of the client is what was meant, and each of the server has its cause, handled before; no creation has two
+-- SERVER_DISCONNs; an id is taken for what the cause is about; and steps are in order.
+pub record MeansOwn (c : Circuit) (x : List Line) (y : List Entry) : Type 0 where
+  pub asked : (k : ℕ) (s : Sent) → At c.up k s → Suits s.intent s.message
+  pub caused : (j : ℕ) (t : Told) → At c.down j t → HasCause c y t t.cause × ((h : Step) × At c.handled t.place h × (h.sent ≤ j))
+  pub removed : (i j : ℕ) (t u : Told) → At c.down i t → At c.down j u → t.place ≡ u.place → t.cause ≡ Removal → u.cause ≡ Removal → i ≡ j
+  pub own : (j : ℕ) (t : Told) (id : Id) → At c.down j t → Speaks t.message id → TakesOwn c j t.place id
+  pub in_order : AreSteps c.handled c.up c.down y × AreSteps c.heard c.down c.up x
+
+abbrev pub MessagesMeanOwn : World → Type 0
+MessagesMeanOwn w = OfCircuits (told w) (λ (n : ℕ) (c : Circuit) (x : List Line) (y : List Entry). MeansOwn c x y)
+
+-- Each message that was handled is answered.
+abbrev pub AllAreAnswered : World → Type 0
+AllAreAnswered w = OfCircuits (told w) (λ (n : ℕ) (c : Circuit) (x : List Line) (y : List Entry).
+    (k : ℕ) (h : Step) → At c.handled k h → Answered (IsDue (port_of w) (rules_of w)) Shows Means n c y k h)
+
+-- With it the whole clause.
+abbrev pub AnswerOwn : World → Type 0
+AnswerOwn w = OfCircuits (told w) (AnswersOwn (IsDue (port_of w) (rules_of w)) Shows Means)
+
+-- An id is given only if each id of its index that the client gave before is free again.
+abbrev pub GivesFreeIds : Conduct → Type 0
+GivesFreeIds e = (l k : ℕ) (r m : Fields) (a b : Id) → l < k → At e.sent l r → At e.sent k m → Gives r a → Gives m b → SameIndex a b → IsFree e l k
+
+abbrev pub ClientsGiveFreeIds : World → Type 0
+ClientsGiveFreeIds w = OfCircuits (told w) (λ (n : ℕ) (c : Circuit) (x : List Line) (y : List Entry). GivesFreeIds (client_conduct c))
+
+-- Each time that a channel becomes live there is an EVENT_ADD of each subscription that stands; and none of one that had ended.
+abbrev pub StandingAreAdded : World → Type 0
+StandingAreAdded w = OfCircuits (told w) (λ (n : ℕ) (c : Circuit) (x : List Line) (y : List Entry).
+    (channel k number : ℕ) (h : Step) → BecomesLive c channel k h → IsStanding (take h.logged x) (On channel (Subscribe number))
+    → (l : ℕ) × (h.sent ≤ l) × Meant c l (On channel (Subscribe number))
+    × ((p : ℕ) → k < p → p < l → Meant c p (On channel Create) → ⊥))
+
+abbrev pub EndedAreNotAdded : World → Type 0
+EndedAreNotAdded w = OfCircuits (told w) (λ (n : ℕ) (c : Circuit) (x : List Line) (y : List Entry).
+    (channel k l number : ℕ) (h : Step) → BecomesLive c channel k h → k < l → Meant c l (On channel (Subscribe number))
+    → IsHeld (take h.logged x) (On channel (Subscribe number))
+    × ((o : Outcome) → In (take h.logged x) (Noticed (On channel (Subscribe number)) o) → ⊥))
+
+-- So it is after every run from a well-formed setting by well-formed events.
+abbrev pub OfRuns : (World → Type 0) → Type 0
+OfRuns P = (setting : Setting) (es : List Event) (stopped : Option Event) (w : World) → IsSetting setting → AreEvents es → Runs setting es stopped w → P w
