@@ -35,28 +35,30 @@ module _ (n : ℕ) (j : Joined) (y : List Entry) (cs : List Joined) (on : At cs 
       late-is a.s.message a.did
       (delayed-did cs j.lists.server y once n k j on h there _ a.did a.logs a.logs_are a.logged a.besides (finished-delayed cs j.lists.server y once n k j on h there done))
 
+  -- beside the replies in its step, one late reply
+  pub is-lately : (k : ℕ) (h : Step) → At j.lists.handled k h → (a : IsAnswered n (circuit_of j) y k h) → IsKnownLate IsDone n j.lists y k a.s
+      → ((i : ℕ) (m : Fields) → IsReply (circuit_of j) k i m → (i < h.sent + length a.replies) ⊎ (Is command.WriteNotify m × (m.p1 ≡ normal) × Is command.WriteNotify a.s.message × IsFinished n (circuit_of j) y k a.s))
+      → IsLately n (circuit_of j) y k h a
+  is-lately k h there a l rest = record {
+    place = l.place;
+    only = λ i m reply. elim (rest i m reply) [
+      | inl early ↦ inl early
+      | inr late ↦
+          let done : In y (Finished n k) = (late.3.0, late.3.1) in
+          let one = l.one i m reply done in
+          inr (one.0, late-due k h a there done ∙ ap (λ (x : Fields). Some x) (sym one.1), late.3)
+    ];
+    comes = λ m due fin opened.
+        let done : In y (Finished n k) = (fin.0, fin.1) in
+        let r = l.comes fin.0 fin.1 fin.3 opened in
+        let one = l.one l.place r.0 r.1 done in
+        let is : r.0 ≡ m = one.1 ∙ some_is (status_reply a.s.message normal) m (sym (late-due k h a there done) ∙ due) in
+        subst (λ (x : Fields). IsReply (circuit_of j) k l.place x) is r.1;
+  }
+
   pub as-late : (k : ℕ) (h : Step) → At j.lists.handled k h → ((a : IsAnswered n (circuit_of j) y k h) → IsKnownLate IsDone n j.lists y k a.s)
       → AnsweredSo n (circuit_of j) y k h → AnsweredLately n (circuit_of j) y k h
-  as-late k h there late_of (a, rest) =
-      let l = late_of a in (
-        a,
-        record {
-          place = l.place;
-          only = λ i m reply. elim (rest i m reply) [
-            | inl early ↦ inl early
-            | inr late ↦
-                let done : In y (Finished n k) = (late.3.0, late.3.1) in
-                let one = l.one i m reply done in
-                inr (one.0, late-due k h a there done ∙ ap (λ (x : Fields). Some x) (sym one.1), late.3)
-          ];
-          comes = λ m due fin opened.
-              let done : In y (Finished n k) = (fin.0, fin.1) in
-              let r = l.comes fin.0 fin.1 fin.3 opened in
-              let one = l.one l.place r.0 r.1 done in
-              let is : r.0 ≡ m = one.1 ∙ some_is (status_reply a.s.message normal) m (sym (late-due k h a there done) ∙ due) in
-              subst (λ (x : Fields). IsReply (circuit_of j) k l.place x) is r.1;
-        },
-      )
+  as-late k h there late_of (a, rest) = (a, is-lately k h there a (late_of a) rest)
 
 pub lately : (s : Setting) (es : List Event) (stopped : Option Event) (w : World) → IsSetting s → Runs s es stopped w
     → ((done : List Event) (v : World) → FoldsTo Happens (opening s) done v → AnswersAt IsDone v) → AreAnsweredLately w

@@ -27,16 +27,14 @@ pub use act_laws::{
 pub use answer_laws::{
     messages_have_their_causes, servers_know_their_records, what_stands_was_not_ended,
 };
-pub use answered_laws::messages_are_answered;
-pub use circuit_laws::circuits_are_legal_but_for_ids;
 pub use answered_laws::{messages_are_answered, messages_are_answered_by_what_was_known};
+pub use circuit_laws::circuits_are_legal_but_for_ids;
 pub use full_laws::servers_know_when_they_are_full;
 pub use gone_laws::retired_channels_lost_their_records;
 pub use knew_laws::{
     servers_keep_their_settings, servers_know_their_channels, servers_know_their_keys,
     servers_know_their_peers,
 };
-pub use knew_laws::{servers_know_their_channels, servers_know_their_keys};
 pub use late_laws::late_replies_are_those_due;
 pub use laws::{
     follows_record_in_runs, listed_records_are_there, what_was_added_stands_or_is_over,
