@@ -477,51 +477,51 @@ abbrev pub AllHeads : World → Type 0
 AllHeads w = (i : ℕ) (y : ServerSide) (q : PutPlace) (b : Put) → At w.servers i y → IsBusyAt y.core.records y.records q b ⊎ IsWaitingAt y.core.records y.records q b → HasHead w.circuits q b
 
 module _ (s : Setting) (w new : World) (e : Event) (ready_w : Ready s w) (ready_new : Ready s new) (happens : Happens w e new) (all : AllHeads w)
-    where
-  -- what was sent stays
-  up-stays : (n p : ℕ) (c d : Joined) (x : Sent) → At w.circuits n c → At new.circuits n d → At c.lists.up p x → At d.lists.up p x
-  up-stays n p c d x on at there =
-      let o = (event-on w new e happens).circuits n c on in
-      subst (λ (v : Joined). At v.lists.up p x) (At-one new.circuits n o.0 d o.1 at) (o.2.up p x there)
+  where
+    -- what was sent stays
+    up-stays : (n p : ℕ) (c d : Joined) (x : Sent) → At w.circuits n c → At new.circuits n d → At c.lists.up p x → At d.lists.up p x
+    up-stays n p c d x on at there =
+        let o = (event-on w new e happens).circuits n c on in
+        subst (λ (v : Joined). At v.lists.up p x) (At-one new.circuits n o.0 d o.1 at) (o.2.up p x there)
 
-  kept-head : (q : PutPlace) (b : Put) (c : Joined) (x : Sent) → At w.circuits q.circuit c → At c.lists.up q.place x
-      → (b.data_type ≡ x.message.data_type) × (b.count ≡ x.message.count) → HasHead new.circuits q b
-  kept-head q b c x on sent is d v at there =
-      let one : x ≡ v = At-one d.lists.up q.place x v (up-stays q.circuit q.place c d x on at sent) there in
-      (is.0 ∙ ap (λ (z : Sent). z.message.data_type) one, is.1 ∙ ap (λ (z : Sent). z.message.count) one)
+    kept-head : (q : PutPlace) (b : Put) (c : Joined) (x : Sent) → At w.circuits q.circuit c → At c.lists.up q.place x
+        → (b.data_type ≡ x.message.data_type) × (b.count ≡ x.message.count) → HasHead new.circuits q b
+    kept-head q b c x on sent is d v at there =
+        let one : x ≡ v = At-one d.lists.up q.place x v (up-stays q.circuit q.place c d x on at sent) there in
+        (is.0 ∙ ap (λ (z : Sent). z.message.data_type) one, is.1 ∙ ap (λ (z : Sent). z.message.count) one)
 
-  was-head : (i : ℕ) (y : ServerSide) (q : PutPlace) (b : Put) → At w.servers i y
-      → IsBusyAt y.core.records y.records q b ⊎ IsWaitingAt y.core.records y.records q b → HasHead new.circuits q b
-  was-head i y q b at p = (let u = put-of p in kept-head q b u.c u.s u.on u.sent (all i y q b at p u.c u.s u.on u.sent))
-    where
-      own : Lives w i y
-      own = ready_w.serves.stands.sound.writes.lives i y at
+    was-head : (i : ℕ) (y : ServerSide) (q : PutPlace) (b : Put) → At w.servers i y
+        → IsBusyAt y.core.records y.records q b ⊎ IsWaitingAt y.core.records y.records q b → HasHead new.circuits q b
+    was-head i y q b at p = (let u = put-of p in kept-head q b u.c u.s u.on u.sent (all i y q b at p u.c u.s u.on u.sent))
+      where
+        own : Lives w i y
+        own = ready_w.serves.stands.sound.writes.lives i y at
 
-      put-of : IsBusyAt y.core.records y.records q b ⊎ IsWaitingAt y.core.records y.records q b → IsPutOf w.circuits i q b
-      put-of (inl p) =
-          let g = both-at (Agrees (IsPutOf w.circuits i) own.log) y.core.records y.records p.k p.c p.r own.life.each p.in_cs p.in_rs in
-          subst (λ (v : Option PutPlace × Option Put). IsBusyAs (IsPutOf w.circuits i) v.0 v.1) (λ n. (p.side n, p.core n)) g.busy_as
-      put-of (inr p) =
-          let g = both-at (Agrees (IsPutOf w.circuits i) own.log) y.core.records y.records p.k p.c p.r own.life.each p.in_cs p.in_rs in
-          subst (λ (v : Put). IsPutOf w.circuits i q v) p.is (both-at (WaitsAs (IsPutOf w.circuits i) own.log p.r.number) p.r.waiting p.c.waiting p.j q p.x g.each p.side p.core).1
+        put-of : IsBusyAt y.core.records y.records q b ⊎ IsWaitingAt y.core.records y.records q b → IsPutOf w.circuits i q b
+        put-of (inl p) =
+            let g = both-at (Agrees (IsPutOf w.circuits i) own.log) y.core.records y.records p.k p.c p.r own.life.each p.in_cs p.in_rs in
+            subst (λ (v : Option PutPlace × Option Put). IsBusyAs (IsPutOf w.circuits i) v.0 v.1) (λ n. (p.side n, p.core n)) g.busy_as
+        put-of (inr p) =
+            let g = both-at (Agrees (IsPutOf w.circuits i) own.log) y.core.records y.records p.k p.c p.r own.life.each p.in_cs p.in_rs in
+            subst (λ (v : Put). IsPutOf w.circuits i q v) p.is (both-at (WaitsAs (IsPutOf w.circuits i) own.log p.r.number) p.r.waiting p.c.waiting p.j q p.x g.each p.side p.core).1
 
-  event-heads : AllHeads new
-  event-heads i z q b at p = elim (leaves-lines s w new e ready_w ready_new happens e happens.0 happens.1 i z at) [
-    | inr none ↦ absurd (elim p [ inl x ↦ none.busy q b x | inr x ↦ none.waits q b x ])
-    | inl lines ↦ go lines.0 lines.1 lines.2 p
-  ]
-    where
-      go : (y : ServerSide) → At w.servers i y → LinesFrom w i y z → IsBusyAt z.core.records z.records q b ⊎ IsWaitingAt z.core.records z.records q b
-          → HasHead new.circuits q b
-      go y at_y lines (inl x) = elim (lines.busy q b x) [
-        | inl old ↦ was-head i y q b at_y (inl old)
-        | inr (inl old) ↦ was-head i y q b at_y (inr old)
-        | inr (inr own) ↦ kept-head q b own.j own.s own.on own.sent (own.data_type, own.count)
-      ]
-      go y at_y lines (inr x) = elim (lines.waits q b x) [
-        | inl old ↦ was-head i y q b at_y (inr old)
-        | inr own ↦ kept-head q b own.j own.s own.on own.sent (own.data_type, own.count)
-      ]
+    event-heads : AllHeads new
+    event-heads i z q b at p = elim (leaves-lines s w new e ready_w ready_new happens e happens.0 happens.1 i z at) [
+      | inr none ↦ absurd (elim p [ inl x ↦ none.busy q b x | inr x ↦ none.waits q b x ])
+      | inl lines ↦ go lines.0 lines.1 lines.2 p
+    ]
+      where
+        go : (y : ServerSide) → At w.servers i y → LinesFrom w i y z → IsBusyAt z.core.records z.records q b ⊎ IsWaitingAt z.core.records z.records q b
+            → HasHead new.circuits q b
+        go y at_y lines (inl x) = elim (lines.busy q b x) [
+          | inl old ↦ was-head i y q b at_y (inl old)
+          | inr (inl old) ↦ was-head i y q b at_y (inr old)
+          | inr (inr own) ↦ kept-head q b own.j own.s own.on own.sent (own.data_type, own.count)
+        ]
+        go y at_y lines (inr x) = elim (lines.waits q b x) [
+          | inl old ↦ was-head i y q b at_y (inr old)
+          | inr own ↦ kept-head q b own.j own.s own.on own.sent (own.data_type, own.count)
+        ]
 
 events-heads : (s : Setting) (ok : IsSetting s) (done es : List Event) (w new : World) → FoldsTo Happens (opening s) done w → FoldsTo Happens w es new
     → AllHeads w → AllHeads new

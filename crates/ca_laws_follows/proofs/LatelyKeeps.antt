@@ -110,7 +110,8 @@ module _ (cs : List Joined) (life : ℕ) (z : List Entry) (once : Once (CameOn c
   came-in : (i : ℕ) (value : Elements) → CameOn cs life (record { circuit = n; place = k }) i value → (h.logged ≤ i) × (i < h.after)
   came-in i value came = elim (subst (λ (x : Joined). IsTaken x.lists k i) (At-one cs n came.c d came.on on) came.taken) [
     | inl now ↦ subst (λ (x : Step). (x.logged ≤ i) × (i < x.after)) (At-one d.lists.handled k now.0 h now.1 at_h) (now.2, now.3)
-    | inr last ↦ (let is : k ≡ length d.lists.handled = last.0 in let lt : k < length d.lists.handled = At-within d.lists.handled k h at_h in absurd (omega (arith, is, lt)))
+    | inr last ↦ (let is : k ≡ length d.lists.handled = last.0 in
+        let lt : k < length d.lists.handled = At-within d.lists.handled k h at_h in absurd (omega (arith, is, lt)))
   ]
 
   -- a put that is finished made its record busy
@@ -154,7 +155,8 @@ module _ (cs : List Joined) (life : ℕ) (z : List Entry) (once : Once (CameOn c
 module _ (cs : List Joined) (life : ℕ) (y more : List Entry) (once : Once (CameOn cs life) (LostOn cs) (y ++ more)) (n k : ℕ) (d : Joined)
     (on : At cs n d) (h : Step) (at_h : At d.lists.handled k h) (within : h.after ≤ length y) where
   was-in : (i r : ℕ) (v : Stored) → At (y ++ more) i (Waits n k r v) → In y (Waits n k r v)
-  was-in i r v at = (let c = came-in cs life (y ++ more) once n k d on h at_h i v.value (once.came i n k r v at) in let lt : i < h.after = c.1 in (i, At-back y more i (Waits n k r v) at (omega (arith, lt, within))))
+  was-in i r v at = (let c = came-in cs life (y ++ more) once n k d on h at_h i v.value (once.came i n k r v at) in
+      let lt : i < h.after = c.1 in (i, At-back y more i (Waits n k r v) at (omega (arith, lt, within))))
 
   pub delayed-old : IsDelayed (y ++ more) n k → IsDelayed y n k
   delayed-old (inl (r, v, there)) = inl (r, v, was-in there.0 r v there.1)

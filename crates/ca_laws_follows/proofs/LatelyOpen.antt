@@ -96,7 +96,8 @@ module _ (w : World) where
     channels = λ q there. elim (h.channels q there) [
       | inl was ↦ elim (channels q was) [
         | inl now ↦ inl now
-        | inr z ↦ (let le : length h.c.lists.handled ≤ length c.lists.handled = h.more in let from : length c.lists.handled ≤ z.0 = z.2 in inr (z.0, z.1, omega (arith, le, from), z.3, z.4, z.5))
+        | inr z ↦ (let le : length h.c.lists.handled ≤ length c.lists.handled = h.more in
+            let from : length c.lists.handled ≤ z.0 = z.2 in inr (z.0, z.1, omega (arith, le, from), z.3, z.4, z.5))
       ]
       | inr z ↦ (let lt : z.0 < length c.lists.handled = z.3 in inr (z.0, z.1, z.2, omega (arith, lt, more), up z.0 z.1 z.4, z.5))
     ];
@@ -285,7 +286,8 @@ module _ (s : Setting) (w new : World) (ready_w : Ready s w) (ready_new : Ready 
       waits = λ b p handle.
           let r = beside b p handle in
           let c = side-came d.server y z at_y fo r.0 r.1 in
-          absurd (let lt : r.0.circuit < length w.circuits = At-within w.circuits r.0.circuit c.0 c.1 in let is : r.0.circuit ≡ n = r.3 in omega (arith, lt, is, late));
+          absurd (let lt : r.0.circuit < length w.circuits = At-within w.circuits r.0.circuit c.0 c.1 in
+          let is : r.0.circuit ≡ n = r.3 in omega (arith, lt, is, late));
     }
 
     module _ (h : HeldOn w n f d) where
@@ -330,7 +332,8 @@ module _ (s : Setting) (w new : World) (ready_w : Ready s w) (ready_new : Ready 
         busy = λ q b p is. elim (fo.busy q b p) [
           | inl old ↦ elim (was.busy q b old is) [
             | inl there ↦ since-open q b (before-of d.server y at_y q is old.r old.in_rs (inl old.side)) there
-            | inr x ↦ (let lt : x.0 < length h.c.lists.handled = x.3 in let more : length h.c.lists.handled ≤ length d.lists.handled = h.more in inr (x.0, x.1, x.2, omega (arith, lt, more), h.up x.0 x.1 x.4, x.5))
+            | inr x ↦ (let lt : x.0 < length h.c.lists.handled = x.3 in
+                let more : length h.c.lists.handled ≤ length d.lists.handled = h.more in inr (x.0, x.1, x.2, omega (arith, lt, more), h.up x.0 x.1 x.4, x.5))
           ]
           | inr (inl step) ↦
               let same : step.j ≡ h.c = At-one w.circuits n step.j h.c (subst (λ (m : ℕ). At w.circuits m step.j) is step.on) h.on in

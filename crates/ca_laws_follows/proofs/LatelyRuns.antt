@@ -386,7 +386,9 @@ module _ (Answers : Fields → Fields → Type 0) where
                 forth k j d lg on here logged lists.3 ext m h q old at_q
                 (λ i z reply. elim (down-was i _ reply) [
                   | inl x ↦ x
-                  | inr x ↦ (let r = reply-at x.0 _ x.2 in let e1 : m ≡ place = ap (λ (t : Told). t.place) r.2 in let lt : m < place = At-within j.lists.handled m h old in absurd (omega (arith, e1, lt)))
+                  | inr x ↦ (let r = reply-at x.0 _ x.2 in
+                      let e1 : m ≡ place = ap (λ (t : Told). t.place) r.2 in
+                      let lt : m < place = At-within j.lists.handled m h old in absurd (omega (arith, e1, lt)))
                 ])
                 (old-finish new told d.lists.server lg logged k m)
             | inr now ↦ subst (λ (x : ℕ). IsKnownLate Answers k d.lists lg x q) (sym now.0) fresh
