@@ -231,14 +231,14 @@ run-retired s es stopped w ok runs =
     of-circuits s es stopped w ok runs
     (λ (n : ℕ) (c : Circuit) (x : List Line) (y : List Entry). (k j r : ℕ) (h : Step) → TellsBad w c k j → Acted c y k r → At c.handled k h → In (take h.logged y) (Removed r))
     (λ n j x y at lx ly k i r h bad acted at_h.
-    retired-by n j.lists y (run-keep s es stopped w ok runs j.lists.server y ly) (run-after s es stopped w ok runs n j at) k r h at_h (run-all-answered s es stopped w ok runs n j y at ly k h at_h) acted i bad.0 bad.1 bad.2)
+    retired-by n j.lists y (run-keep s es stopped w ok runs j.lists.server y ly) (run-after s es stopped w ok runs n j at) k r h at_h (run-all-answered s es stopped w ok runs n j y at ly k h at_h).0 acted i bad.0 bad.1 bad.2)
 
 pub run-refused : (s : Setting) (es : List Event) (stopped : Option Event) (w : World) → IsSetting s → Runs s es stopped w → AreRefused w
 run-refused s es stopped w ok runs =
     of-circuits s es stopped w ok runs
     (λ (n : ℕ) (c : Circuit) (x : List Line) (y : List Entry). (k j r : ℕ) (m : Fields) (q : Sent) (h : Step) → IsReply c k j m → At c.up k q → IsUse q.intent → Acted c y k r → At c.handled k h → In (take h.logged y) (Removed r) → TellsBad w c k j)
     (λ n j x y at lx ly k i r m q h reply at_q uses acted at_h gone.
-    let a = run-all-answered s es stopped w ok runs n j y at ly k h at_h in
+    let a = (run-all-answered s es stopped w ok runs n j y at ly k h at_h).0 in
     let same : q ≡ a.0.s = At-one j.lists.up k q a.0.s at_q a.0.at in (
       m,
       reply,

@@ -1,6 +1,7 @@
 -- After every run the late reply to a message is the one that was due, in the words of the statement.
-use Rattle.std.proofs.Common.{◌≡◌, ℕ, inl, inr, List, Option, Some, sym, ap, subst, ◌∙◌}
+use Rattle.std.proofs.Common.{◌≡◌, ℕ, ◌<◌, ◌+◌, ◌⊎◌, inl, inr, List, length, Option, Some, sym, ap, subst, ◌∙◌}
 use Rattle.std.specs.List.{FoldsTo}
+use Rattle.ca_text.specs.declared.command.Command.TheVariants as command
 use Rattle.ca_text.specs.Place.{At}
 use Rattle.ca_text.specs.Status.{normal}
 use Rattle.ca_text.proofs.Places.{some_is, At-map, At-one}
@@ -8,8 +9,8 @@ use Rattle.ca_wire.specs.Fields.{Fields}
 use Rattle.ca_wire.specs.Messages.{status_reply}
 use Rattle.ca_model.specs.Due.{late_reply}
 use Rattle.ca_model.specs.History.{Circuit, Entry, Finished, Line, Step}
-use Rattle.ca_model.specs.Speech.{In}
-use Rattle.ca_model_safe.specs.Channels.{IsReply}
+use Rattle.ca_model.specs.Speech.{In, Is}
+use Rattle.ca_model_safe.specs.Channels.{IsFinished, IsReply}
 use Rattle.ca_model_world.specs.Events.{Event}
 use Rattle.ca_model_world.specs.Runs.{Happens, Runs}
 use Rattle.ca_model_world.specs.World.{IsSetting, Joined, Setting, World, circuit_of, opening}
@@ -17,7 +18,7 @@ use Rattle.ca_laws_held.proofs.StepWhole.{run-serves}
 use Rattle.ca_laws_writes.specs.Lives.{CameOn, LostOn}
 use Rattle.ca_laws_writes.specs.Once.{Once}
 use Rattle.ca_laws_follows.specs.Answering.{AnsweredSo, IsAnswered}
-use Rattle.ca_laws_follows.specs.Lately.{AnsweredLately, AreAnsweredLately}
+use Rattle.ca_laws_follows.specs.Lately.{AnsweredLately, AreAnsweredLately, IsLately}
 use Rattle.ca_laws_follows.proofs.ActsOn.{of-circuits}
 use Rattle.ca_laws_follows.proofs.AnsweringRuns.{run-answered}
 use Rattle.ca_laws_follows.proofs.LatelyKeeps.{IsKnownLate, delayed-did, finished-delayed, late-is}

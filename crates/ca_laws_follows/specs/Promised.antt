@@ -1,5 +1,4 @@
--- Working: what a run has to be shown to have besides, so that its world is safe and legal; and the clause of what is answered, but for
--- the answers.
+-- Working: the clause of what is answered, of a world: its parts, and the whole.
 use Rattle.std.specs.Prelude.{ℕ, ◌≡◌, ◌<◌, ◌≤◌, List, Option, take}
 use Rattle.ca_text.specs.Place.{At}
 use Rattle.ca_dbr.specs.declared.value.Outcome.{Outcome}
@@ -34,30 +33,6 @@ abbrev pub AllAreAnswered : World → Type 0
 AllAreAnswered w = OfCircuits (told w) (λ (n : ℕ) (c : Circuit) (x : List Line) (y : List Entry).
     (k : ℕ) (h : Step) → At c.handled k h → Answered (IsDue (port_of w) (rules_of w)) Shows Means n c y k h)
 
--- With it the whole clause.
-abbrev pub AnswerOwn : World → Type 0
-AnswerOwn w = OfCircuits (told w) (AnswersOwn (IsDue (port_of w) (rules_of w)) Shows Means)
-
--- An id is given only if each id of its index that the client gave before is free again.
-abbrev pub GivesFreeIds : Conduct → Type 0
-GivesFreeIds e = (l k : ℕ) (r m : Fields) (a b : Id) → l < k → At e.sent l r → At e.sent k m → Gives r a → Gives m b → SameIndex a b → IsFree e l k
-
-abbrev pub ClientsGiveFreeIds : World → Type 0
-ClientsGiveFreeIds w = OfCircuits (told w) (λ (n : ℕ) (c : Circuit) (x : List Line) (y : List Entry). GivesFreeIds (client_conduct c))
-
--- Each time that a channel becomes live there is an EVENT_ADD of each subscription that stands; and none of one that had ended.
-abbrev pub StandingAreAdded : World → Type 0
-StandingAreAdded w = OfCircuits (told w) (λ (n : ℕ) (c : Circuit) (x : List Line) (y : List Entry).
-    (channel k number : ℕ) (h : Step) → BecomesLive c channel k h → IsStanding (take h.logged x) (On channel (Subscribe number))
-    → (l : ℕ) × (h.sent ≤ l) × Meant c l (On channel (Subscribe number))
-    × ((p : ℕ) → k < p → p < l → Meant c p (On channel Create) → ⊥))
-
-abbrev pub EndedAreNotAdded : World → Type 0
-EndedAreNotAdded w = OfCircuits (told w) (λ (n : ℕ) (c : Circuit) (x : List Line) (y : List Entry).
-    (channel k l number : ℕ) (h : Step) → BecomesLive c channel k h → k < l → Meant c l (On channel (Subscribe number))
-    → IsHeld (take h.logged x) (On channel (Subscribe number))
-    × ((o : Outcome) → In (take h.logged x) (Noticed (On channel (Subscribe number)) o) → ⊥))
-
--- So it is after every run from a well-formed setting by well-formed events.
-abbrev pub OfRuns : (World → Type 0) → Type 0
-OfRuns P = (setting : Setting) (es : List Event) (stopped : Option Event) (w : World) → IsSetting setting → AreEvents es → Runs setting es stopped w → P w
+-- With that it is the whole clause.
+abbrev pub AnswersAreOwn : World → Type 0
+AnswersAreOwn w = OfCircuits (told w) (AnswersOwn (IsDue (port_of w) (rules_of w)) Shows Means)
