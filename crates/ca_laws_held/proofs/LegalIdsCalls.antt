@@ -29,6 +29,7 @@ use Rattle.ca_laws_circuit.specs.Held.{HoldAlike, has_id, is_asked, is_subscribe
 use Rattle.ca_laws_circuit.proofs.Ends.{ended-elsewhere}
 use Rattle.ca_laws_circuit.proofs.Heard.{has-too}
 use Rattle.ca_laws_circuit.proofs.Others.{cleared-away, cleared-early, cleared-elsewhere, cleared-left}
+use Rattle.ca_laws_held.proofs.OpenLive.{requests-ended, requests-unwanted}
 use Rattle.ca_laws_held.proofs.LegalIdsRests.{Asks, Rests, asks-over, asks-same, rests-alike, rests-itself, rests-same, rests-sending, rests-then, same-phase, stands-there, stood-row}
 
 -- ---- something new
@@ -157,18 +158,6 @@ rests-cancelled on x g d there stands =
 
 -- ---- a channel is cleared
 
-requests-unwanted : (c : Handle) (x : Client) → (unwanted c x).requests ≡ x.requests
-requests-unwanted c x = go (length (channels_on (λ (p : Phase). true) c x) == 0) (under x.circuits c)
-  where
-    gone : (d : ClientCircuit) (b : Bool) → (cond b (disconnected c x) (without_circuit c x)).requests ≡ x.requests
-    gone d true = refl
-    gone d false = refl
-
-    go : (b : Bool) (o : Option ClientCircuit) → (cond b (unwrap_or (option_map (λ (d : ClientCircuit). let_go c d x) o) x) x).requests ≡ x.requests
-    go true (Some d) = gone d d.is_name
-    go true None = refl
-    go false o = refl
-
 -- on the circuit on which it is live
 module _ (on : Handle) (x : Client) (h : Handle) (ch : Channel) (native : Native) (rights : ℕ) (there : under x.channels h ≡ Some ch) (stands : ch.standing ≡ On on (Live native rights)) where
   abbrev after : Table Channel
@@ -197,7 +186,7 @@ rests-cleared-so : (on : Handle) (x : Client) (h : Handle) (s : Standing) → At
 rests-cleared-so on x h Searching attached at = rests-alike on x (cleared h Searching x) (cleared-away on x h Searching attached at (inl refl)) (asks-same on x.requests x.requests refl)
 rests-cleared-so on x h (On c Connecting) attached at =
     rests-alike on x (cleared h (On c Connecting) x) (cleared-away on x h (On c Connecting) attached at (inr (c, refl)))
-    (asks-same on x.requests (cleared h (On c Connecting) x).requests (requests-unwanted c (without_channel (unsubscribed_all h x) h)))
+    (asks-same on x.requests (cleared h (On c Connecting) x).requests (requests-unwanted c (without_channel (unsubscribed_all h x) h)).0)
 rests-cleared-so on x h (On c (Creating rights)) attached at = rests-alike on x (cleared h (On c (Creating rights)) x) (cleared-early on x h c rights attached at) (asks-same on x.requests x.requests refl)
 rests-cleared-so on x h (On c Leaving) attached at = rests-alike on x (cleared h (On c Leaving) x) (cleared-left on x h c at) (asks-over on h x.requests)
 rests-cleared-so on x h (On c Clearing) attached at = absurd (both_ways true (never-cleared x h c Clearing at) refl)
@@ -214,23 +203,6 @@ rests-cleared on x h s attached at =
     rests-then on x (cleared h s x) (sending (clearing_sent h s) (cleared h s x)) (rests-cleared-so on x h s attached at) (rests-sending on (clearing_sent h s) (cleared h s x))
 
 -- ---- an end has ended on another circuit
-
-requests-fold : (f : Client → Handle → Client) → ((y : Client) (h : Handle) → (f y h).requests ≡ y.requests) → (hs : List Handle) (x : Client) → (fold f x hs).requests ≡ x.requests
-requests-fold f each [] x = refl
-requests-fold f each (h ∷ hs) x = requests-fold f each hs (f x h) ∙ each x h
-
-requests-let-go : (c : Handle) (d : ClientCircuit) (x : Client) → (let_go c d x).requests ≡ x.requests
-requests-let-go c d x = go d.is_name
-  where
-    go : (b : Bool) → (cond b (disconnected c x) (without_circuit c x)).requests ≡ x.requests
-    go true = refl
-    go false = refl
-
-requests-ended : (c : Handle) (d : ClientCircuit) (x : Client) → (let_go c d (channels_ended c x)).requests ≡ x.requests
-requests-ended c d x =
-    let mid : Client = fold without_channel x (channels_on is_cleared c x) in
-    requests-let-go c d (channels_ended c x) ∙ requests-fold searched_again (λ y h. refl) (channels_on (λ (p : Phase). not (is_cleared p)) c x) mid
-    ∙ requests-fold without_channel (λ y h. refl) (channels_on is_cleared c x) x
 
 asks-ended : (on c : Handle) (x : Client) → (c ≡ on → ⊥) → Asks on x.requests (ended c x).requests
 asks-ended on c x other = go (under x.circuits c)

@@ -29,7 +29,7 @@ use Rattle.ca_laws_held.specs.Created.{AllCreated, CreatedOn}
 use Rattle.ca_laws_held.specs.Quiet.{IsNamedIn, StageIn, Tidy}
 use Rattle.ca_laws_held.specs.Under.{IsCreatedBefore}
 use Rattle.ca_laws_held.proofs.Heard.{request-named}
-use Rattle.ca_laws_held.proofs.LegalCancels.{AllCancels}
+use Rattle.ca_laws_held.proofs.LegalCancels.{AllCancels, add-parts, cancel-is}
 use Rattle.ca_laws_held.proofs.LegalIdsGiven.{GoneBy}
 use Rattle.ca_laws_held.proofs.LegalIdsGoing.{IsFreedNow}
 use Rattle.ca_laws_held.proofs.LegalIdsRests.{FreesIoid, FreesSub}
@@ -52,9 +52,6 @@ module _ (c d : Joined) (on : Onward c d) where
     | inr past ↦ absurd (omega (arith, past, lt))
     | inl v ↦ subst (λ (y : Sent). At c.lists.up p y) (At-one d.lists.up p v.0 s (on.up p v.0 v.1) at) v.1
   ]
-
-  message : Sent → Fields
-  message s = s.message
 
   sent-forth : (p : ℕ) (m : Fields) → At (client_conduct c.lists).sent p m → At (client_conduct d.lists).sent p m
   sent-forth p m at =
@@ -120,20 +117,6 @@ module _ (c d : Joined) (on : Onward c d) where
 
 abbrev intent-in : Handle × Intent → Intent
 intent-in e = e.1
-
--- an EVENT_CANCEL is meant to cancel
-cancel-is : (i : Intent) (m : Fields) → Suits i m → Is command.EventCancel m → (a number : ℕ) × (i ≡ On a (Cancel number))
-cancel-is (On a (Cancel number)) m suits is = (a, number, refl)
-cancel-is (On a Create) m suits is = absurd (let e : ◌≡◌ {A = ℕ} 18 2 = sym suits ∙ is in omega (arith, e))
-cancel-is (On a history.Clear) m suits is = absurd (let e : ◌≡◌ {A = ℕ} 12 2 = sym suits ∙ is in omega (arith, e))
-cancel-is (On a (Subscribe number)) m suits is = absurd (let e : ◌≡◌ {A = ℕ} 1 2 = sym suits ∙ is in omega (arith, e))
-cancel-is (On a (history.Request history.Read number)) m suits is = absurd (let e : ◌≡◌ {A = ℕ} 15 2 = sym suits ∙ is in omega (arith, e))
-cancel-is (On a (history.Request history.Put number)) m suits is = absurd (let e : ◌≡◌ {A = ℕ} 19 2 = sym suits ∙ is in omega (arith, e))
-cancel-is (On a (history.Request history.Write number)) m suits is = absurd (let e : ◌≡◌ {A = ℕ} 4 2 = sym suits ∙ is in omega (arith, e))
-cancel-is history.OfCircuit m suits is = absurd (suits (Cancel 0) is)
-
-add-parts : (a b m l : ℕ) → On a (Subscribe m) ≡ On b (Subscribe l) → (a ≡ b) × (m ≡ l)
-add-parts a b m l e = (cc, cc)
 
 module _ (w : World) (known : Known w) (cancels : AllCancels w) (created : AllCreated w) (n : ℕ) (c : Joined) (x : ClientSide) (at_c : At w.circuits n c) (at_x : At w.clients c.client x) (opened : c.lists.client_open ≡ true)
     (read : ReadOn c.lists) (after : ReadAfter c.lists) (free : FreeOn c.lists) where

@@ -55,9 +55,6 @@ none-one : (s : Sending) (n : ℕ) → s.message.command ≡ n → (n ≡ 18 →
 none-one s n is no18 no15 no19 no1 i r id at gives =
     gives-no-id s.message n is no18 no15 no19 no1 id (subst (λ (v : Sending). Gives v.message id) (only-one s r i at).1 gives)
 
-none-mapped : {A : Type 0} (f : A → Sending) (xs : List A) → ((x : A) (id : Id) → Gives (f x).message id → ⊥) → GivesNone (map f xs)
-none-mapped f xs each i s id at gives = (let m = At-mapped f xs i s at in each m.0 id (subst (λ (v : Sending). Gives v.message id) m.2 gives))
-
 pub none-clear : (c : Handle) (sid : ℕ) (h : Handle) → GivesNone (clear_sent c sid h ∷ [])
 none-clear c sid h = none-one (clear_sent c sid h) 12 refl (λ e. absurd (omega (arith, e))) (λ e. absurd (omega (arith, e))) (λ e. absurd (omega (arith, e))) (λ e. absurd (omega (arith, e)))
 
