@@ -1,11 +1,11 @@
 -- A client gives an id on a circuit only if it is free: in every run.
-use Rattle.std.proofs.Common.{◌≡◌, ℕ, suc, ◌<◌, ◌≤◌, ◌⊎◌, inl, inr, true, List, [], ◌∷◌, ◌++◌, length, Option, Some, None, refl, sym, ap, ◌∙◌, subst, arith}
+use Rattle.std.proofs.Common.{◌≡◌, ℕ, suc, ◌<◌, ◌≤◌, ◌⊎◌, inl, inr, true, List, [], ◌∷◌, ◌++◌, length, Option, Some, None, refl, sym, subst, arith}
 use Rattle.std.specs.List.{FoldsTo}
 use Rattle.ca_text.specs.Place.{At}
 use Rattle.ca_text.proofs.Places.{At-mapped, At-one, At-or, At-within}
 use Rattle.ca_wire.specs.Fields.{Fields}
-use Rattle.ca_model.specs.History.{Circuit, Sent, Told}
-use Rattle.ca_model.specs.Sends.{IsFree, SameIndex}
+use Rattle.ca_model.specs.History.{Circuit, Sent}
+use Rattle.ca_model.specs.Sends.{IsFree}
 use Rattle.ca_model.specs.Speech.{Gives, Id}
 use Rattle.ca_model_safe.specs.Legal.{client_conduct}
 use Rattle.ca_model_world.specs.ClientEvents.{TicksOne}
@@ -21,7 +21,7 @@ use Rattle.ca_laws_held.proofs.Joint.{are-snoc, folds-snoc}
 use Rattle.ca_laws_held.proofs.LegalCancels.{run-all-cancels}
 use Rattle.ca_laws_held.proofs.LegalIdsFreed.{FreeOn, back, free-forth, freed-now}
 use Rattle.ca_laws_held.proofs.LegalIdsGiven.{HeldBy}
-use Rattle.ca_laws_held.proofs.LegalIdsGoing.{AllStep, IsFreedNever, IsFreedNow, IsTicked, event-ids, ids-tick}
+use Rattle.ca_laws_held.proofs.LegalIdsGoing.{AllStep, IsFreedNever, IsFreedNow, event-ids, ids-tick}
 use Rattle.ca_laws_held.proofs.LegalRead.{run-read}
 use Rattle.ca_laws_held.proofs.LostRuns.{known-runs}
 use Rattle.ca_laws_held.proofs.OrderGrows.{ticks-grown}
@@ -44,7 +44,7 @@ Both w = AllFree w × AllHeldOr w
 
 module _ (Freed : (c d : Joined) → ClientSide → Fields → Id → Type 0) (w new : World) (on : WorldsOn w new) (steps : AllStep Freed w new)
     (frees : (n : ℕ) (c d : Joined) (x : ClientSide) → At w.circuits n c → Onward c d → At w.clients c.client x → c.lists.client_open ≡ true → (l : ℕ) (s : Sent) (id : Id) → At c.lists.up l s → Gives s.message id → Freed c d x s.message id
-        → IsFree (client_conduct d.lists) l (length c.lists.up)) (both : Both w) where
+    → IsFree (client_conduct d.lists) l (length c.lists.up)) (both : Both w) where
   onward : (n : ℕ) (c d : Joined) → At w.circuits n c → At new.circuits n d → Onward c d
   onward n c d at_c at_d = (let o = on.circuits n c at_c in subst (λ (v : Joined). Onward c v) (At-one new.circuits n o.0 d o.1 at_d) o.2)
 

@@ -1,12 +1,12 @@
 -- What a caller, a new circuit, an end and a moment leave of the ids that a client holds on one circuit: they are held on.
-use Rattle.std.proofs.Common.{◌≡◌, ℕ, ◌⊎◌, inl, inr, Bool, true, false, ◌&&◌, ◌||◌, cond, List, [], ◌∷◌, ◌++◌, length, Option, Some, None, refl, sym, ap, ◌∙◌, subst}
-use Rattle.std.specs.Prelude.{◌==◌, Ok, filter, find, fold, is_some, not, option_and_then, option_map, unwrap_or}
-use Rattle.std.proofs.lemmas.Bool.{both_ways, cases_Bool, or_cases, or_left}
+use Rattle.std.proofs.Common.{◌≡◌, ℕ, inl, inr, Bool, true, false, ◌&&◌, ◌||◌, cond, List, [], ◌∷◌, ◌++◌, length, Option, Some, None, refl, sym, ap, ◌∙◌, subst}
+use Rattle.std.specs.Prelude.{Ok, filter, fold, is_some, option_and_then, option_map, unwrap_or}
+use Rattle.std.proofs.lemmas.Bool.{both_ways, cases_Bool, or_left}
 use Rattle.ca_text.specs.Place.{At}
 use Rattle.ca_text.proofs.Places.{At-append, At-last}
 use Rattle.ca_text.specs.declared.command.Command.TheVariants as command
 use Rattle.ca_arena.specs.declared.handle.Handle.{Handle}
-use Rattle.ca_ids.specs.Table.{MayGive, Table, same_handle, under, with_all_freed, with_changed, with_freed, with_held}
+use Rattle.ca_ids.specs.Table.{MayGive, Table, same_handle, under, with_changed, with_freed, with_held}
 use Rattle.ca_link.specs.declared.keep.Keep.{Keep}
 use Rattle.ca_link.specs.declared.keep.Keep.TheVariants.{Close, Echo, Idle}
 use Rattle.ca_link.specs.Link.{kept, with_handed}
@@ -14,18 +14,17 @@ use Rattle.ca_monitor.specs.Subscriptions.{Stage, Stands, Subscription, drains_i
 use Rattle.ca_monitor.specs.Subscriptions as monitor
 use Rattle.ca_requests.specs.Calls.{new_request}
 use Rattle.ca_requests.specs.Requests.{Asked, Request, was_sent_on}
-use Rattle.ca_requests.specs.Requests as request
 use Rattle.ca_search.specs.Searches as search
 use Rattle.ca_wire.specs.Messages.{bare, search_request}
 use Rattle.ca_model.specs.Answers.{Closing, Left, Sending}
-use Rattle.ca_model.specs.Client.{Channel, Client, ClientCircuit, Clearing, Connecting, Connection, Creating, Doomed, Leaving, Live, Native, On, Phase, Searching, Standing, channels_ended, channels_on, connection_at, disconnected, ended, is_cleared, is_on_in, later, let_go, on_connection, out_bytes, phase_on, searched_again, sending, standing_at, standing_unless_cleared, with_standing, without_channel, without_circuit, without_ids}
-use Rattle.ca_model.specs.ClientCalls.{ClientOpens, LiveChannel, Opening, all_over, cancel_sent, cleared, clearing_sent, is_over, issued, opened, unsubscribed, unsubscribed_all, unwanted}
+use Rattle.ca_model.specs.Client.{Channel, Client, ClientCircuit, Clearing, Connecting, Connection, Creating, Doomed, Leaving, Live, Native, On, Phase, Searching, Standing, channels_ended, connection_at, ended, is_cleared, is_on_in, later, let_go, on_connection, out_bytes, phase_on, sending, standing_at, standing_unless_cleared, without_channel, without_ids}
+use Rattle.ca_model.specs.ClientCalls.{LiveChannel, Opening, cancel_sent, cleared, clearing_sent, is_over, issued, opened, unsubscribed, unsubscribed_all}
 use Rattle.ca_model.specs.ClientEnds.{ConnectsOn, GivesOn, Ticking, all_searched_on, begun, circuits_ticked, creating, creations, due, flow_sent, given, handed_over, is_connecting, is_name_connected, of_circuit, searches_made, searches_on, set_up, ticks, ticks_as, with_sending}
 use Rattle.ca_model_client.specs.Placed.{Attached}
 use Rattle.ca_model_client.proofs.Handles.{handle-or, not-same, same-is, same-itself, same-not}
-use Rattle.ca_model_client.proofs.Standings.{fails-anywhere, fails-elsewhere, fails-searched, found-standing, is-on, never-cleared}
+use Rattle.ca_model_client.proofs.Standings.{fails-searched, found-standing, is-on, never-cleared}
 use Rattle.ca_model_client.proofs.Tables.{all-freed-there, all-there, changed-other, changed-own, freed-other, held-other, one-value}
-use Rattle.ca_laws_circuit.specs.Held.{HoldAlike, has_id, is_asked, is_subscribed}
+use Rattle.ca_laws_circuit.specs.Held.{has_id, is_asked, is_subscribed}
 use Rattle.ca_laws_circuit.proofs.Ends.{ended-elsewhere}
 use Rattle.ca_laws_circuit.proofs.Heard.{has-too}
 use Rattle.ca_laws_circuit.proofs.Others.{cleared-away, cleared-early, cleared-elsewhere, cleared-left}

@@ -1,38 +1,35 @@
 -- What was read frees an id, in the words of the statement: of each message that gave it.
-use Rattle.std.proofs.Common.{◌≡◌, ℕ, suc, ◌<◌, ◌≤◌, ◌⊎◌, inl, inr, true, List, [], ◌++◌, length, Option, Some, None, refl, sym, ap, ◌∙◌, subst, arith}
-use Rattle.ca_text.specs.Command.{command_number}
+use Rattle.std.proofs.Common.{◌≡◌, ℕ, ◌<◌, ◌≤◌, ◌⊎◌, inl, inr, true, length, Some, refl, sym, ap, ◌∙◌, subst, arith}
 use Rattle.ca_text.specs.declared.command.Command.TheVariants as command
 use Rattle.ca_text.specs.Place.{At}
 use Rattle.ca_text.proofs.Places.{At-map, At-mapped, At-one, At-or, At-within, some_is}
 use Rattle.ca_arena.specs.declared.handle.Handle.{Handle}
 use Rattle.ca_ids.specs.Table.{under}
 use Rattle.ca_ids.specs.Wire.{wire_of}
-use Rattle.ca_monitor.specs.Subscriptions.{Stage, Stands, Subscription, stands_in}
+use Rattle.ca_monitor.specs.Subscriptions.{Stage, Subscription, stands_in}
 use Rattle.ca_requests.specs.Meaning.{QuotesHeader}
 use Rattle.ca_requests.specs.Requests.{Request, was_sent_on}
 use Rattle.ca_wire.specs.declared.header.Header.{Header}
 use Rattle.ca_wire.specs.Fields.{Fields}
 use Rattle.ca_model.specs.History.{Ask, Cancel, Circuit, Create, Intent, On, Sent, Step, Subscribe, Told}
 use Rattle.ca_model.specs.History as history
-use Rattle.ca_model.specs.Sends.{Conduct, Frees, HasChannel, IsFree, IsUncancelled, Quotes, SameIndex}
+use Rattle.ca_model.specs.Sends.{Frees, HasChannel, IsFree, IsUncancelled, Quotes, SameIndex}
 use Rattle.ca_model.specs.Speech.{Cid, Clears, Gives, Id, Ioid, Is, SubId, sid_in}
 use Rattle.ca_model_client.proofs.Thinner.{three-ways}
 use Rattle.ca_model_safe.specs.Channels.{Suits, named}
 use Rattle.ca_model_safe.specs.Legal.{client_conduct}
 use Rattle.ca_model_world.specs.ClientEvents.{channel_number, meant_by}
 use Rattle.ca_model_world.specs.World.{ClientSide, Joined, World}
-use Rattle.ca_laws_circuit.specs.Held.{IsMeant, has_id}
+use Rattle.ca_laws_circuit.specs.Held.{IsMeant}
 use Rattle.ca_laws_circuit.proofs.Refused.{sub-named}
 use Rattle.ca_laws_kept.specs.Kept.{kept}
 use Rattle.ca_laws_runs.specs.Circuit.{HeldOn}
 use Rattle.ca_laws_held.specs.Created.{AllCreated, CreatedOn}
 use Rattle.ca_laws_held.specs.Quiet.{IsNamedIn, StageIn, Tidy}
-use Rattle.ca_laws_held.specs.Under.{IsCreatedBefore}
 use Rattle.ca_laws_held.proofs.Heard.{request-named}
 use Rattle.ca_laws_held.proofs.LegalCancels.{AllCancels, add-parts, cancel-is}
 use Rattle.ca_laws_held.proofs.LegalIdsGiven.{GoneBy}
 use Rattle.ca_laws_held.proofs.LegalIdsGoing.{IsFreedNow}
-use Rattle.ca_laws_held.proofs.LegalIdsRests.{FreesIoid, FreesSub}
 use Rattle.ca_laws_held.proofs.LegalRead.{ReadAfter, ReadOn}
 use Rattle.ca_laws_held.proofs.Phased.{standing-stage}
 use Rattle.ca_laws_held.proofs.Says.{asked-at, subscribed-at}
@@ -89,10 +86,13 @@ module _ (c d : Joined) (on : Onward c d) where
   frees-forth l b request m l_le b_le frees = elim frees [
     | inl cid ↦ inl cid
     | inr (inl ioid) ↦ inr (inl ioid)
-    | inr (inr (inl sub)) ↦ inr (inr (inl (sub.0, elim sub.1 [
-      | inl confirms ↦ inl confirms
-      | inr refuses ↦ inr (refuses.0, λ i s late before at cancels one. refuses.1 i s late before (sent-back i s (omega (arith, before, b_le)) at) cancels one)
-    ])))
+    | inr (inr (inl sub)) ↦ inr (inr (inl (
+      sub.0,
+      elim sub.1 [
+        | inl confirms ↦ inl confirms
+        | inr refuses ↦ inr (refuses.0, λ i s late before at cancels one. refuses.1 i s late before (sent-back i s (omega (arith, before, b_le)) at) cancels one)
+      ],
+    )))
     | inr (inr (inr clear)) ↦ inr (inr (inr (clear.0, clear.1, clear.2, channel-forth l clear.0 clear.1 clear.2 (sid_in request) l_le clear.3, clear.4, clear.5)))
   ]
 
@@ -151,16 +151,16 @@ module _ (w : World) (known : Known w) (cancels : AllCancels w) (created : AllCr
         r.1,
         r.0,
         (
-            b.r.message,
-            b.t.message,
-            At-map (λ (z : Sent). z.message) c.lists.up r.1 b.r b.asked.0,
-            (creates, wire),
-            (r.2.sent, At-map (λ (z : Told). z.message) c.lists.down r.0 b.t b.told.0, At-map (λ (z : Step). z.sent) c.lists.heard r.0 r.2 r.3, subst (λ (z : ℕ). z < r.2.sent) b.told.1 first, r.4),
-            b.told.3,
-            copy ∙ wire,
-            λ p q late before there clears same_cid.
-                let v = At-mapped (λ (z : Sent). z.message) c.lists.up p q there in
-                uncleared c of (known.sided.right n c at_c).under asked a r.0 r.1 sid l b (p, v.0, late, before, v.1, subst (λ (z : Fields). Clears z sid) v.2 clears),
+          b.r.message,
+          b.t.message,
+          At-map (λ (z : Sent). z.message) c.lists.up r.1 b.r b.asked.0,
+          (creates, wire),
+          (r.2.sent, At-map (λ (z : Told). z.message) c.lists.down r.0 b.t b.told.0, At-map (λ (z : Step). z.sent) c.lists.heard r.0 r.2 r.3, subst (λ (z : ℕ). z < r.2.sent) b.told.1 first, r.4),
+          b.told.3,
+          copy ∙ wire,
+          λ p q late before there clears same_cid.
+              let v = At-mapped (λ (z : Sent). z.message) c.lists.up p q there in
+              uncleared c of (known.sided.right n c at_c).under asked a r.0 r.1 sid l b (p, v.0, late, before, v.1, subst (λ (z : Fields). Clears z sid) v.2 clears),
         ),
       )
 
@@ -238,10 +238,13 @@ module _ (w : World) (known : Known w) (cancels : AllCancels w) (created : AllCr
 
       pub frees-it : (id : Id) → Gives s.message id → GoneBy c.at_client x.core m s.message id → IsFree (client_conduct c.lists) l (length c.lists.up) ⊎ Frees (client_conduct c.lists) l b s.message m
       frees-it (Cid k) gives gone =
-          inr (inl (gives.0, elim gone.5 [
-            | inl fails ↦ inl (fails.0, fails.1 ∙ gone.3 ∙ sym gives.1)
-            | inr clears ↦ inr (clears.0, clears.1 ∙ gone.3 ∙ sym gives.1)
-          ]))
+          inr (inl (
+            gives.0,
+            elim gone.5 [
+              | inl fails ↦ inl (fails.0, fails.1 ∙ gone.3 ∙ sym gives.1)
+              | inr clears ↦ inr (clears.0, clears.1 ∙ gone.3 ∙ sym gives.1)
+            ],
+          ))
       frees-it (Ioid k) gives gone = elim gone.6 [
         | inl replies ↦ inr (inr (inl (gives.0, inl (replies.0 ∙ sym gone.5, replies.1 ∙ gone.3 ∙ sym gives.1))))
         | inr (inl errs) ↦ inr (inr (inl (gives.0, inr (quoted errs.1.0 errs.1.1 errs.0 (errs.1.2 ∙ sym gone.5) (errs.1.3 ∙ gone.3 ∙ sym gives.1)))))

@@ -1,15 +1,13 @@
 -- The ids that a client gives on one circuit: what it sends gives ids that it holds then, of indices that it held not.
-use Rattle.std.proofs.Common.{◌≡◌, ℕ, zero, suc, ◌+◌, ◌%◌, ◌<◌, ◌≤◌, ◌⊎◌, inl, inr, Bool, true, false, ◌&&◌, cond, List, [], ◌∷◌, ◌++◌, length, Option, Some, None, refl, sym, ap, ◌∙◌, subst, arith}
+use Rattle.std.proofs.Common.{◌≡◌, ℕ, zero, suc, ◌+◌, ◌%◌, ◌<◌, ◌≤◌, ◌⊎◌, inl, inr, true, List, [], ◌∷◌, ◌++◌, length, Option, Some, None, refl, sym, ap, ◌∙◌, subst, arith}
 use Rattle.std.specs.List.{cons_option}
-use Rattle.std.specs.Prelude.{Ok, filter, filter_map, map, option_map, unwrap_or}
-use Rattle.std.proofs.lemmas.Bool.{and_parts, both_ways}
+use Rattle.std.specs.Prelude.{filter_map}
 use Rattle.ca_text.specs.Command.{command_number}
 use Rattle.ca_text.specs.Limits.{arena_slots}
 use Rattle.ca_text.specs.Place.{At}
-use Rattle.ca_text.proofs.Places.{At-mapped, At-parts, At-within, some_is}
-use Rattle.ca_text.specs.declared.command.Command.TheVariants as command
+use Rattle.ca_text.proofs.Places.{At-parts, At-within, some_is}
 use Rattle.ca_arena.specs.declared.handle.Handle.{Handle}
-use Rattle.ca_ids.specs.Table.{MayGive, Table, held, same_handle, under, with_held}
+use Rattle.ca_ids.specs.Table.{MayGive, Table, held, under}
 use Rattle.ca_ids.specs.Wire.{wire_of}
 use Rattle.ca_ids.proofs.Wires.{wire_of-index}
 use Rattle.ca_monitor.specs.Subscriptions.{Subscription}
@@ -18,7 +16,7 @@ use Rattle.ca_wire.specs.Fields.{Fields}
 use Rattle.ca_model.specs.Answers.{Sending}
 use Rattle.ca_model.specs.Client.{Channel, Client, is_on_in}
 use Rattle.ca_model.specs.Sends.{SameIndex}
-use Rattle.ca_model.specs.Speech.{Cid, Gives, Id, Ioid, Is, SubId}
+use Rattle.ca_model.specs.Speech.{Cid, Gives, Id, Ioid, SubId}
 use Rattle.ca_model_client.proofs.Standings.{at-filter-map}
 use Rattle.ca_model_client.proofs.Tables.{given-none, one-at-index, one-value, place, under-at}
 use Rattle.ca_laws_circuit.specs.Held.{AreFew, IsHeld, has_id, is_asked}

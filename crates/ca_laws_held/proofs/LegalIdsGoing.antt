@@ -1,23 +1,22 @@
 -- What each event leaves of the ids that clients hold on circuits, and what it gives there.
-use Rattle.std.proofs.Common.{◌≡◌, ℕ, zero, suc, ◌+◌, ◌<◌, ◌≤◌, ◌⊎◌, inl, inr, Bool, true, false, ◌&&◌, cond, eqb, List, [], ◌∷◌, ◌++◌, length, Option, Some, None, refl, sym, ap, ◌∙◌, subst, arith}
+use Rattle.std.proofs.Common.{◌≡◌, ℕ, ◌+◌, ◌<◌, ◌≤◌, ◌⊎◌, inl, inr, Bool, true, false, ◌&&◌, cond, eqb, List, [], ◌∷◌, ◌++◌, length, Option, Some, None, refl, sym, ap, ◌∙◌, subst, arith}
 use Rattle.std.specs.Prelude.{drop, filter, find, is_none, map, option_and_then, option_map, slice_set, unwrap_or}
 use Rattle.std.specs.List.{FoldsTo}
-use Rattle.std.proofs.lemmas.Bool.{and_parts, both_ways, eq-eqb, eqb-true}
+use Rattle.std.proofs.lemmas.Bool.{both_ways, eq-eqb}
 use Rattle.std.proofs.lemmas.List.{append-nil}
 use Rattle.ca_text.specs.Place.{At}
-use Rattle.ca_text.proofs.Places.{At-append, At-last, At-map, At-mapped, At-one, At-parts, At-set, At-snoc, At-within}
+use Rattle.ca_text.proofs.Places.{At-append, At-last, At-mapped, At-one, At-parts, At-set, At-snoc, At-within}
 use Rattle.ca_arena.specs.declared.handle.Handle.{Handle}
 use Rattle.ca_dbr.specs.Elements.{Elements}
 use Rattle.ca_ids.specs.Table.{same_handle, under, with_held}
-use Rattle.ca_ids.specs.Wire.{wire_of}
-use Rattle.ca_monitor.specs.Subscriptions.{Subscription, drains_in, stands_in}
+use Rattle.ca_monitor.specs.Subscriptions.{Subscription}
 use Rattle.ca_requests.specs.Requests as request
 use Rattle.ca_wire.specs.Fields.{Fields}
 use Rattle.ca_model.specs.Answers.{Closed, Closing, Left, NeedBytes, Notices, Sending, Stepped}
 use Rattle.ca_model.specs.Answers as answer
 use Rattle.ca_model.specs.Client.{Channel, Client, ClientCircuit, Connection, Live, On, connection_at, ended, is_on_in, later, out_bytes, sending, standing_at}
-use Rattle.ca_model.specs.ClientCalls.{LiveChannel, Opening, Shape, cancel_sent, cleared, clearing_sent, event_add_sent, issued, new_subscription, opened, put_sent, read_sent, write_sent}
-use Rattle.ca_model.specs.ClientEnds.{ConnectsOn, StepsOn, Ticking, after_taking, circuits_ticked, handed_over, searches_made}
+use Rattle.ca_model.specs.ClientCalls.{LiveChannel, Opening, cancel_sent, clearing_sent, event_add_sent, issued, new_subscription, opened, put_sent, read_sent, write_sent}
+use Rattle.ca_model.specs.ClientEnds.{ConnectsOn, StepsOn, after_taking, circuits_ticked, handed_over, searches_made}
 use Rattle.ca_model.specs.Ends.{Address}
 use Rattle.ca_model.specs.Hears.{Effect}
 use Rattle.ca_model.specs.History.{Intent, Line, Sent, Step, Told}
@@ -43,11 +42,10 @@ use Rattle.ca_laws_runs.proofs.ClientsMore.{unconnected-is, wanted-there}
 use Rattle.ca_laws_held.proofs.AddedApart.{filter-order}
 use Rattle.ca_laws_held.proofs.Ends.{From, from-itself}
 use Rattle.ca_laws_held.proofs.HeardEnds.{IsEndAfter, after-sent, sent-other}
-use Rattle.ca_laws_held.proofs.LegalIdsCalls.{Away, rests-cancelled, rests-cleared, rests-connected, rests-ended, rests-given, rests-handed, rests-issued, rests-opened, rests-subscribed, rests-ticked}
-use Rattle.ca_laws_held.proofs.LegalIdsGiven.{Given, GivesNone, GoneBy, HeldBy, IsIdle, but-held, given-nothing, gives-of, none-given, rests-held}
-use Rattle.ca_laws_held.proofs.LegalIdsRests.{Rests, RestsBut, rests-all-received, rests-heard, rests-itself, rests-same, rests-sending, rests-then}
+use Rattle.ca_laws_held.proofs.LegalIdsCalls.{rests-cancelled, rests-cleared, rests-connected, rests-ended, rests-given, rests-handed, rests-issued, rests-opened, rests-subscribed, rests-ticked}
+use Rattle.ca_laws_held.proofs.LegalIdsGiven.{Given, GoneBy, HeldBy, IsIdle, but-held, given-nothing, gives-of, none-given, rests-held}
+use Rattle.ca_laws_held.proofs.LegalIdsRests.{Rests, RestsBut, rests-all-received, rests-heard, rests-same, rests-sending, rests-then}
 use Rattle.ca_laws_held.proofs.LegalIdsSent.{given-all-received, given-connected, given-heard, given-issued, given-subscribed, none-cancelled, none-cleared, none-given-on, none-ticked, none-written}
-use Rattle.ca_laws_held.proofs.OnceStill.{still-add, still-cut-server, still-finish, still-post, still-pump, still-remove, still-server-restart, still-server-step}
 use Rattle.ca_laws_held.proofs.OnceWorld.{on-circuit-sent}
 use Rattle.ca_laws_held.proofs.Servers.{from-add, from-cut-server, from-finish, from-post, from-pump, from-remove, from-server-restart, from-server-step}
 
@@ -171,11 +169,11 @@ ids-still Freed w new clients back n d at =
         idle = λ p s id past there gives. absurd (none p s past there);
         once = λ p q s r a v past lt at_s at_r gives_s gives_r same. none p s past at_s;
         held = λ y at_y opened. (
-            y,
-            subst (λ (k : ℕ). At w.clients k y) b.2 (subst (λ (l : List ClientSide). At l d.client y) clients at_y),
-            b.4 opened,
-            λ m id held_it. inl (subst (λ (h : Handle). HeldBy h y.core m id) (sym b.3) held_it),
-            λ p s id past there gives. absurd (none p s past there),
+          y,
+          subst (λ (k : ℕ). At w.clients k y) b.2 (subst (λ (l : List ClientSide). At l d.client y) clients at_y),
+          b.4 opened,
+          λ m id held_it. inl (subst (λ (h : Handle). HeldBy h y.core m id) (sym b.3) held_it),
+          λ p s id past there gives. absurd (none p s past there),
         );
       },
     )

@@ -1,31 +1,23 @@
 -- What each change of a client leaves of the ids that it holds on one circuit: they are held on, or what was read frees them.
-use Rattle.std.proofs.Common.{◌≡◌, ℕ, ◌⊎◌, inl, inr, Bool, true, false, ◌&&◌, ◌||◌, cond, eqb, List, [], ◌∷◌, ◌++◌, length, Option, Some, None, refl, sym, ap, ◌∙◌, subst}
-use Rattle.std.specs.Prelude.{◌==◌, Ok, filter, find, fold, is_some, not, option_map, unwrap_or}
-use Rattle.std.proofs.lemmas.Bool.{and_from, and_parts, both_ways, cases_Bool, eqb-true, or_cases, or_left, or_right}
+use Rattle.std.proofs.Common.{◌≡◌, ℕ, ◌⊎◌, inl, inr, Bool, true, false, ◌&&◌, ◌||◌, cond, eqb, List, [], ◌∷◌, Option, Some, None, refl, sym, ap, ◌∙◌, subst}
+use Rattle.std.specs.Prelude.{option_map, unwrap_or}
+use Rattle.std.proofs.lemmas.Bool.{and_parts, both_ways, cases_Bool, eqb-true, or_cases}
 use Rattle.ca_text.specs.Command.{command_number}
-use Rattle.ca_text.specs.Place.{At}
-use Rattle.ca_text.proofs.Places.{At-append, At-last}
 use Rattle.ca_arena.specs.declared.handle.Handle.{Handle}
-use Rattle.ca_ids.specs.Table.{Table, same_handle, under, with_all, with_all_freed, with_changed, with_freed, with_held}
+use Rattle.ca_ids.specs.Table.{Table, same_handle, under, with_changed, with_freed}
 use Rattle.ca_ids.specs.Wire.{wire_of}
-use Rattle.ca_link.specs.declared.keep.Keep.{Keep}
-use Rattle.ca_link.specs.declared.keep.Keep.TheVariants.{Close, Echo, Idle}
-use Rattle.ca_link.specs.Link.{kept, with_handed}
 use Rattle.ca_monitor.specs.Subscriptions.{Stage, Stands, Subscription, confirmed_by, drains_in, is_cancelled_in, is_to, stage_over, stands_in, with_stage}
 use Rattle.ca_monitor.specs.Subscriptions as monitor
-use Rattle.ca_requests.specs.Calls.{new_request}
 use Rattle.ca_requests.specs.Meaning.{QuotesHeader}
 use Rattle.ca_requests.specs.Requests.{Asked, Request, answered_by, asks_on, command_of, was_sent_on}
 use Rattle.ca_requests.specs.Requests as request
-use Rattle.ca_search.specs.Searches as search
 use Rattle.ca_text.specs.declared.command.Command.TheVariants as command
 use Rattle.ca_wire.specs.declared.header.Header.{Header}
 use Rattle.ca_wire.specs.Fields.{Fields}
-use Rattle.ca_wire.specs.Messages.{bare, search_request}
-use Rattle.ca_model.specs.Answers.{Closing, Left, Notice, Sending}
+use Rattle.ca_wire.specs.Messages.{bare}
+use Rattle.ca_model.specs.Answers.{Notice, Sending}
 use Rattle.ca_model.specs.Client.{Channel, Client, ClientCircuit, Clearing, Connecting, Connection, Creating, Doomed, Leaving, Live, Native, On, Phase, Searching, Standing, channel_on, channels_ended, channels_on, circuit_to, connection_at, disconnected, ended, found_on, is_cleared, is_live, is_on_in, later, let_go, on_connection, out_bytes, phase_on, searched_again, sending, standing_at, with_one_sent, with_requests, with_standing, without_channel, without_circuit, without_ids}
 use Rattle.ca_model.specs.Client as phase
-use Rattle.ca_model.specs.ClientCalls.{ClientOpens, ClientSubscribes, ClientUnsubscribes, Opening, all_over, cancel_sent, cleared, clearing_sent, is_over, opened, unsubscribed, unsubscribed_all, unwanted}
 use Rattle.ca_model.specs.ClientEnds.{ConnectsOn, GivesOn, Receives, ReceivesAll, Ticking, all_searched_on, beacon_heard, begun, circuits_ticked, creating, creations, due, flow_sent, given, handed_over, is_connecting, is_name_connected, of_circuit, searches_made, searches_on, set_up, ticks, ticks_as, with_sending}
 use Rattle.ca_model.specs.ClientEnds as ends
 use Rattle.ca_model.specs.Ends.{Address}
@@ -33,14 +25,13 @@ use Rattle.ca_model.specs.Hears.{Answers, Completes, Effect, Fails, FindsAt, Hea
 use Rattle.ca_model.specs.Hears as hears
 use Rattle.ca_model.specs.Speech.{Is}
 use Rattle.ca_model_client.specs.Placed.{Attached, was_live}
-use Rattle.ca_model_client.proofs.Handles.{handle-or, not-same, same-is, same-itself, same-not}
-use Rattle.ca_model_client.proofs.Standings.{channel-on, fails-anywhere, fails-elsewhere, fails-searched, found-standing, is-on, never-cleared, on-one, searched-is, stands-as}
-use Rattle.ca_model_client.proofs.Tables.{all-back, all-freed-back, all-freed-there, all-there, changed-other, changed-own, freed-back, freed-other, held-other, one-value}
+use Rattle.ca_model_client.proofs.Handles.{handle-or, not-same, same-is}
+use Rattle.ca_model_client.proofs.Standings.{channel-on, fails-anywhere, fails-elsewhere, fails-searched, on-one, searched-is}
+use Rattle.ca_model_client.proofs.Tables.{all-freed-there, all-there, changed-other, changed-own, freed-other, one-value}
 use Rattle.ca_laws_circuit.specs.Held.{HoldAlike, has_id, is_asked, is_subscribed}
 use Rattle.ca_laws_circuit.proofs.Ended.{confirmed-is}
-use Rattle.ca_laws_circuit.proofs.Ends.{ended-elsewhere}
 use Rattle.ca_laws_circuit.proofs.Heard.{answered-is, has-too}
-use Rattle.ca_laws_circuit.proofs.Others.{cleared-away, cleared-early, cleared-elsewhere, cleared-left, passes-alike}
+use Rattle.ca_laws_circuit.proofs.Others.{passes-alike}
 use Rattle.ca_laws_circuit.proofs.Refused.{heard-is}
 
 -- What the one client holds on the circuit of this handle, the other holds too; requests ask the same.

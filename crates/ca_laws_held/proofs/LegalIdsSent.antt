@@ -1,24 +1,22 @@
 -- What each call, and each message that is read, makes a client send: the ids that these give on one circuit.
-use Rattle.std.proofs.Common.{◌≡◌, ℕ, zero, suc, ◌+◌, ◌%◌, ◌<◌, ◌≤◌, ◌⊎◌, inl, inr, Bool, true, false, ◌&&◌, cond, eqb, List, [], ◌∷◌, ◌++◌, length, Option, Some, None, refl, sym, ap, ◌∙◌, subst, arith}
-use Rattle.std.specs.Prelude.{◌==◌, Ok, filter, filter_map, fold, map, option_map, option_to_list, unwrap_or}
-use Rattle.std.specs.List.{list_any}
-use Rattle.std.proofs.lemmas.Bool.{and_from, and_parts, both_ways, eq-eqb, or_right}
+use Rattle.std.proofs.Common.{◌≡◌, ℕ, ◌%◌, ◌≤◌, ◌⊎◌, inl, inr, Bool, true, false, ◌&&◌, cond, eqb, List, [], ◌∷◌, ◌++◌, length, Option, Some, None, refl, sym, ap, ◌∙◌, subst, arith}
+use Rattle.std.specs.Prelude.{Ok, filter, fold, map, option_map, option_to_list, unwrap_or}
+use Rattle.std.proofs.lemmas.Bool.{and_from, and_parts, both_ways, or_right}
 use Rattle.ca_text.specs.Command.{command_number}
 use Rattle.ca_text.specs.Limits.{arena_slots}
 use Rattle.ca_text.specs.Place.{At}
-use Rattle.ca_text.proofs.Places.{At-mapped, At-parts, At-within, some_is}
+use Rattle.ca_text.proofs.Places.{At-mapped, some_is}
 use Rattle.ca_text.specs.declared.command.Command.{Command}
 use Rattle.ca_text.specs.declared.command.Command.TheVariants as command
 use Rattle.ca_arena.specs.declared.handle.Handle.{Handle}
 use Rattle.ca_dbr.specs.Elements.{Elements}
-use Rattle.ca_ids.specs.Table.{MayGive, Table, held, same_handle, under, with_changed, with_held}
+use Rattle.ca_ids.specs.Table.{MayGive, held, same_handle, under, with_held}
 use Rattle.ca_ids.specs.Wire.{wire_of}
 use Rattle.ca_link.specs.declared.keep.Keep.{Keep}
 use Rattle.ca_link.specs.declared.keep.Keep.TheVariants.{Close, Echo, Idle}
 use Rattle.ca_link.specs.Link.{kept}
 use Rattle.ca_monitor.specs.ReadRun.{after_read, asked_between, sent_by_read}
-use Rattle.ca_monitor.specs.Subscriptions.{Stage, Stands, Subscription, confirmed_by, drains_in, is_to, standing_to, stands_in}
-use Rattle.ca_monitor.specs.Subscriptions as monitor
+use Rattle.ca_monitor.specs.Subscriptions.{Subscription, confirmed_by, drains_in, is_to, standing_to, stands_in}
 use Rattle.ca_requests.specs.Calls.{new_request}
 use Rattle.ca_requests.specs.Requests.{Asked, Request, answered_by, command_of, was_sent_on}
 use Rattle.ca_requests.specs.Requests as request
@@ -29,14 +27,14 @@ use Rattle.ca_wire.specs.Messages.{bare, name_request, search_request, version_r
 use Rattle.ca_model.specs.Answers.{Closing, Notice, Sending}
 use Rattle.ca_model.specs.Client.{Channel, Client, ClientCircuit, Clearing, Connecting, Connection, Creating, Doomed, Leaving, Live, On, Phase, Searching, Standing, channel_on, circuit_to, connection_at, found_on, is_on_in, later, on_connection, phase_on, sending, with_standing}
 use Rattle.ca_model.specs.Client as phase
-use Rattle.ca_model.specs.ClientCalls.{LiveChannel, Shape, cancel_sent, clear_sent, clearing_sent, event_add_sent, event_cancel_sent, is_over, issued, new_subscription, put_sent, read_sent, write_sent}
+use Rattle.ca_model.specs.ClientCalls.{LiveChannel, cancel_sent, clear_sent, clearing_sent, event_add_sent, event_cancel_sent, is_over, issued, write_sent}
 use Rattle.ca_model.specs.ClientEnds.{ConnectsOn, GivesOn, Receives, ReceivesAll, Ticking, all_searched_on, begun, circuits_ticked, creating, creations, due, flow_sent, is_connecting, is_name_connected, of_circuit, searches_made, searches_on, set_up, ticks, ticks_as, with_sending}
 use Rattle.ca_model.specs.ClientEnds as ends
 use Rattle.ca_model.specs.Ends.{Address}
 use Rattle.ca_model.specs.Hears.{Answers, Completes, Effect, Fails, FindsAt, Hears, PutsOn, Updates, any_failed, becomes, clear_answered, confirmed, create_sent, created, doing, event_adds, failed, failing, found_at, heard_by, left, put_on, request_failed, rights_told, searched_by, subscription_failed, with_circuit, write_failed}
 use Rattle.ca_model.specs.Hears as hears
 use Rattle.ca_model.specs.Sends.{SameIndex}
-use Rattle.ca_model.specs.Speech.{Cid, Gives, Id, Ioid, Is, SubId}
+use Rattle.ca_model.specs.Speech.{Cid, Gives, Id, Ioid, SubId}
 use Rattle.ca_model_client.proofs.Handles.{same-is, same-itself}
 use Rattle.ca_model_client.proofs.Hearing.{received-keeps}
 use Rattle.ca_model_client.proofs.Thinner.{Thins}
@@ -45,7 +43,7 @@ use Rattle.ca_model_client.proofs.Tables.{all-there, changed-own, held-apart, he
 use Rattle.ca_laws_circuit.specs.Held.{AreFew, has_id, is_asked, is_subscribed}
 use Rattle.ca_laws_circuit.proofs.Marks.{at-filter}
 use Rattle.ca_laws_held.proofs.AddedApart.{filter-order, rows-apart}
-use Rattle.ca_laws_held.proofs.LegalIdsRests.{Rests, rests-all-received, rests-itself, rests-received, rests-same, rests-sending}
+use Rattle.ca_laws_held.proofs.LegalIdsRests.{rests-all-received, rests-itself, rests-received, rests-sending}
 use Rattle.ca_laws_held.proofs.LegalIdsCalls.{rests-begun, standing-has}
 use Rattle.ca_laws_held.proofs.LegalIdsGiven.{Given, GivesNone, HeldBy, IsIdle, filter-map-order, given-nothing, given-one, given-then, gives-both, gives-cid, gives-ioid, gives-no-id, gives-of, gives-sub, idle-channel, idle-new-request, idle-new-subscription, idle-subscription, none-given, only-one, rests-held, same-holder}
 
