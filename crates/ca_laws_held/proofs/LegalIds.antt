@@ -59,7 +59,8 @@ module _ (Freed : (c d : Joined) → ClientSide → Fields → Id → Type 0) (w
     | inl v ↦ absurd (let lt : length d.lists.up < length d.lists.up = At-within d.lists.up (length d.lists.up) v.0 (up (length d.lists.up) v.0 v.1) in omega (arith, lt))
   ]
 
-  old-at : (c d : Joined) → ((p : ℕ) (s : Sent) → At c.lists.up p s → At d.lists.up p s) → (p : ℕ) (s : Sent) → At d.lists.up p s → At c.lists.up p s ⊎ (length c.lists.up ≤ p)
+  old-at : (c d : Joined) → ((p : ℕ) (s : Sent) → At c.lists.up p s → At d.lists.up p s) → (p : ℕ) (s : Sent) → At d.lists.up p s
+      → At c.lists.up p s ⊎ (length c.lists.up ≤ p)
   old-at c d up p s at = elim (At-or c.lists.up p) [
     | inr past ↦ inr past
     | inl v ↦ inl (subst (λ (y : Sent). At c.lists.up p y) (At-one d.lists.up p v.0 s (up p v.0 v.1) at) v.1)
@@ -122,7 +123,8 @@ ticks-both moment (i ∷ is) w new (mid, one, rest) both =
 
 -- ---- every run
 
-after-ids : (s : Setting) (es rest : List Event) (w new : World) → IsSetting s → AreEvents es → AreEvents rest → FoldsTo Happens (opening s) es w → FoldsTo Happens w rest new → Both w → Both new
+after-ids : (s : Setting) (es rest : List Event) (w new : World) → IsSetting s → AreEvents es → AreEvents rest → FoldsTo Happens (opening s) es w
+    → FoldsTo Happens w rest new → Both w → Both new
 after-ids s es [] w new ok are more folds same both = subst (λ (v : World). Both v) same both
 after-ids s es (e ∷ rest) w new ok are more folds (mid, one, others) both =
     let longer : AreEvents (es ++ e ∷ []) = are-snoc es e are (more 0 e refl) in
@@ -163,7 +165,8 @@ gives-free c free l k r m a b lt at_r at_m gives_r gives_m same =
     let t = At-mapped (λ (z : Sent). z.message) c.up k m at_m in
     free l k s.0 t.0 a b lt s.1 t.1 (subst (λ (z : Fields). Gives z a) s.2 gives_r) (subst (λ (z : Fields). Gives z b) t.2 gives_m) same
 
-pub run-ids : (s : Setting) (es : List Event) (stopped : Option Event) (w : World) → IsSetting s → AreEvents es → Runs s es stopped w → ClientsGiveFreeIds w
+pub run-ids : (s : Setting) (es : List Event) (stopped : Option Event) (w : World) → IsSetting s → AreEvents es → Runs s es stopped w
+    → ClientsGiveFreeIds w
 run-ids s es stopped w ok fine runs n d at =
     let j = At-mapped circuit_of w.circuits n d at in
     let l = run-server-steps s es stopped w ok runs n d at in

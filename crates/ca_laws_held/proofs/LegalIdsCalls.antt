@@ -42,7 +42,8 @@ rests-opened on x a h may =
       subscriptions = λ g d is pass. (d, is, has-too on x.channels (with_held h new x.channels) d (λ w is_w pass_w. (w, held-other x.channels d.channel h new w may is_w, pass_w)) pass);
     }
 
-pub rests-issued : (on : Handle) (x : Client) (h : Handle) (l : LiveChannel) (asked : Asked) (q : Handle) → MayGive x.requests q → Rests on x (issued h l asked q x)
+pub rests-issued : (on : Handle) (x : Client) (h : Handle) (l : LiveChannel) (asked : Asked) (q : Handle) → MayGive x.requests q
+    → Rests on x (issued h l asked q x)
 rests-issued on x h l asked q may = record {
   channels = λ k v is pass. (v, is, pass);
   requests = λ k r is pass. (r, held-other x.requests k q (new_request h l.circuit asked) r may is, pass, refl);
@@ -59,10 +60,13 @@ rests-subscribed on x g d may = record {
 -- ---- a subscription is cancelled
 
 -- one that stands has its id where its channel is subscribed to
-pub standing-has : (t : Table Channel) (on : Handle) (d : Subscription) → stands_in d.stage ≡ true → has_id t on d ≡ true → unwrap_or (option_map (is_on_in is_subscribed on) (under t d.channel)) false ≡ true
+pub standing-has : (t : Table Channel) (on : Handle) (d : Subscription) → stands_in d.stage ≡ true → has_id t on d ≡ true
+    → unwrap_or (option_map (is_on_in is_subscribed on) (under t d.channel)) false ≡ true
 standing-has t on d stands has = go d.stage stands has
   where
-    go : (s : Stage) → stands_in s ≡ true → (drains_in on s || (stands_in s && unwrap_or (option_map (is_on_in is_subscribed on) (under t d.channel)) false)) ≡ true → unwrap_or (option_map (is_on_in is_subscribed on) (under t d.channel)) false ≡ true
+    go : (s : Stage) → stands_in s ≡ true
+        → (drains_in on s || (stands_in s && unwrap_or (option_map (is_on_in is_subscribed on) (under t d.channel)) false)) ≡ true
+        → unwrap_or (option_map (is_on_in is_subscribed on) (under t d.channel)) false ≡ true
     go Stands f h = h
     go (monitor.Cancelled o) f h = absurd (both_ways false refl f)
     go (monitor.Ended o) f h = absurd (both_ways false refl f)
@@ -101,7 +105,8 @@ module _ (on : Handle) (x : Client) (g : Handle) (d : Subscription) (there : und
   }
 
   -- where its channel stands
-  on-channel : (c : Handle) (p : Phase) → standing_at x d.channel ≡ Some (On c p) → has_id x.channels on d ≡ true → (c ≡ on) × (is_subscribed p ≡ true)
+  on-channel : (c : Handle) (p : Phase) → standing_at x d.channel ≡ Some (On c p) → has_id x.channels on d ≡ true
+      → (c ≡ on) × (is_subscribed p ≡ true)
   on-channel c p at has =
       let f = found-standing x d.channel (On c p) at in
       let pass : is_on_in is_subscribed on f.0 ≡ true = sym (ap (λ (o : Option Channel). unwrap_or (option_map (is_on_in is_subscribed on) o) false) f.1) ∙ standing-has x.channels on d stands has in
@@ -135,7 +140,8 @@ module _ (on : Handle) (x : Client) (g : Handle) (d : Subscription) (there : und
               phases p (sym (is-on is_subscribed on ch p (subst (λ (o : Handle). ch.standing ≡ On o p) same is)) ∙ f) gone
           pick false kept_it k = absurd cc
 
-      go : (o : Option Channel) → option_and_then (λ (here : Channel). standing_unless_cleared here.standing) o ≡ None → unwrap_or (option_map (is_on_in is_subscribed on) o) false ≡ true → ⊥
+      go : (o : Option Channel) → option_and_then (λ (here : Channel). standing_unless_cleared here.standing) o ≡ None
+          → unwrap_or (option_map (is_on_in is_subscribed on) o) false ≡ true → ⊥
       go None e f = both_ways false refl f
       go (Some ch) e f = by ch f ch.standing refl e
 
@@ -150,7 +156,8 @@ module _ (on : Handle) (x : Client) (g : Handle) (d : Subscription) (there : und
   rests-unsubscribed (Some (On c (Live native rights))) at =
       rests-staged (monitor.Cancelled c) (λ has. subst (λ (k : Handle). same_handle c k ≡ true) (on-channel c (Live native rights) at has).0 (same-itself c))
 
-pub rests-cancelled : (on : Handle) (x : Client) (g : Handle) (d : Subscription) → under x.subscriptions g ≡ Some d → stands_in d.stage ≡ true → Rests on x (sending (cancel_sent g d (standing_at x d.channel)) (unsubscribed g (standing_at x d.channel) x))
+pub rests-cancelled : (on : Handle) (x : Client) (g : Handle) (d : Subscription) → under x.subscriptions g ≡ Some d → stands_in d.stage ≡ true
+    → Rests on x (sending (cancel_sent g d (standing_at x d.channel)) (unsubscribed g (standing_at x d.channel) x))
 rests-cancelled on x g d there stands =
     let o : Option Standing = standing_at x d.channel in
     rests-then on x (unsubscribed g o x) (sending (cancel_sent g d o) (unsubscribed g o x)) (rests-unsubscribed on x g d there stands o refl) (rests-sending on (cancel_sent g d o) (unsubscribed g o x))
@@ -162,7 +169,8 @@ module _ (on : Handle) (x : Client) (h : Handle) (ch : Channel) (native : Native
   abbrev after : Table Channel
   after = with_changed (λ (here : Channel). record here { standing = On on Clearing }) h x.channels
 
-  over-has : (d : Subscription) → has_id x.channels on d ≡ true → (s : Stage) → d.stage ≡ s → (drains_in on (stage_over on s) || (stands_in (stage_over on s) && unwrap_or (option_map (is_on_in is_subscribed on) (under after d.channel)) false)) ≡ true
+  over-has : (d : Subscription) → has_id x.channels on d ≡ true → (s : Stage) → d.stage ≡ s
+      → (drains_in on (stage_over on s) || (stands_in (stage_over on s) && unwrap_or (option_map (is_on_in is_subscribed on) (under after d.channel)) false)) ≡ true
   over-has d has Stands is = or_left (same_handle on on) (false && unwrap_or (option_map (is_on_in is_subscribed on) (under after d.channel)) false) (same-itself on)
   over-has d has (monitor.Cancelled o) is = subst (λ (s : Stage). (drains_in on s || (stands_in s && unwrap_or (option_map (is_on_in is_subscribed on) (under x.channels d.channel)) false)) ≡ true) is has
   over-has d has (monitor.Ended o) is = subst (λ (s : Stage). (drains_in on s || (stands_in s && unwrap_or (option_map (is_on_in is_subscribed on) (under x.channels d.channel)) false)) ≡ true) is has
@@ -197,7 +205,8 @@ rests-cleared-so on x h (On c (Live native rights)) attached at = elim (cases_Bo
       subst (λ (k : Handle). Rests k x (cleared h (On c (Live native rights)) x)) (same-is c on same) (clears-here c x h f.0 native rights f.1 f.2)
 ]
 
-pub rests-cleared : (on : Handle) (x : Client) (h : Handle) (s : Standing) → Attached x → standing_at x h ≡ Some s → Rests on x (sending (clearing_sent h s) (cleared h s x))
+pub rests-cleared : (on : Handle) (x : Client) (h : Handle) (s : Standing) → Attached x → standing_at x h ≡ Some s
+    → Rests on x (sending (clearing_sent h s) (cleared h s x))
 rests-cleared on x h s attached at =
     rests-then on x (cleared h s x) (sending (clearing_sent h s) (cleared h s x)) (rests-cleared-so on x h s attached at) (rests-sending on (clearing_sent h s) (cleared h s x))
 
@@ -206,7 +215,8 @@ rests-cleared on x h s attached at =
 asks-ended : (on c : Handle) (x : Client) → (c ≡ on → ⊥) → Asks on x.requests (ended c x).requests
 asks-ended on c x other = go (under x.circuits c)
   where
-    go : (o : Option ClientCircuit) → Asks on x.requests (unwrap_or (option_map (λ (d : ClientCircuit). let_go c d (channels_ended c (without_ids c x))) o) x).requests
+    go : (o : Option ClientCircuit)
+        → Asks on x.requests (unwrap_or (option_map (λ (d : ClientCircuit). let_go c d (channels_ended c (without_ids c x))) o) x).requests
     go None = asks-same on x.requests x.requests refl
     go (Some d) = λ q r is pass. (
       r,
@@ -221,7 +231,8 @@ rests-ended on c x other = rests-alike on x (ended c x) (ended-elsewhere c on x 
 
 -- ---- a circuit is connected, and bytes move
 
-begun-row : (test : Phase → Bool) (on c : Handle) (v : Channel) → test Connecting ≡ false → is_on_in test on v ≡ true → is_on_in test on (creating c v) ≡ true
+begun-row : (test : Phase → Bool) (on c : Handle) (v : Channel) → test Connecting ≡ false → is_on_in test on v ≡ true
+    → is_on_in test on (creating c v) ≡ true
 begun-row test on c v none pass = go (is_on_in is_connecting c v) refl
   where
     phases : (p : Phase) → is_connecting p ≡ true → test p ≡ true → ⊥
@@ -232,11 +243,13 @@ begun-row test on c v none pass = go (is_on_in is_connecting c v) refl
     phases Clearing f g = both_ways false refl f
     phases Doomed f g = both_ways false refl f
 
-    both : (s : Standing) → unwrap_or (option_map is_connecting (phase_on c s)) false ≡ true → unwrap_or (option_map test (phase_on on s)) false ≡ true → ⊥
+    both : (s : Standing) → unwrap_or (option_map is_connecting (phase_on c s)) false ≡ true
+        → unwrap_or (option_map test (phase_on on s)) false ≡ true → ⊥
     both Searching f g = both_ways false refl f
     both (On o p) f g = by (same_handle o c) (same_handle o on) f g
       where
-        by : (a b : Bool) → unwrap_or (option_map is_connecting (cond a (Some p) None)) false ≡ true → unwrap_or (option_map test (cond b (Some p) None)) false ≡ true → ⊥
+        by : (a b : Bool) → unwrap_or (option_map is_connecting (cond a (Some p) None)) false ≡ true
+            → unwrap_or (option_map test (cond b (Some p) None)) false ≡ true → ⊥
         by true true k l = phases p k l
         by true false k l = both_ways false refl l
         by false b k l = both_ways false refl k
@@ -252,7 +265,8 @@ rests-begun on c x = record {
   subscriptions = λ g d is pass. (d, is, has-too on x.channels (begun c x).channels d (λ w is_w pass_w. (creating c w, all-there (creating c) x.channels d.channel w is_w, begun-row is_subscribed on c w refl pass_w)) pass);
 }
 
-pub rests-connected : (on : Handle) (x : Client) (c : Handle) (d : ClientCircuit) (k : Option Closing) (sent : List Sending) (y : Client) → (c ≡ on → k ≡ None) → ConnectsOn x c (Some d) k sent y → Rests on x y
+pub rests-connected : (on : Handle) (x : Client) (c : Handle) (d : ClientCircuit) (k : Option Closing) (sent : List Sending) (y : Client)
+    → (c ≡ on → k ≡ None) → ConnectsOn x c (Some d) k sent y → Rests on x y
 rests-connected on x c d None sent y alone does =
     let z : Client = begun c x in
     subst (λ (v : Client). Rests on x v) (sym does.1) (rests-then on x z (sending (set_up x.peer c d ++ creations c x) z) (rests-begun on c x) (rests-sending on (set_up x.peer c d ++ creations c x) z))
@@ -261,7 +275,8 @@ rests-connected on x c d (Some k) sent y alone does = subst (λ (v : Client). Re
     none-some : (k : Closing) → (let o : Option Closing = None in Some k ≡ o) → ⊥
     none-some k e = cc
 
-pub rests-given : (on : Handle) (x : Client) (c : Handle) (bytes : List ℕ) (more : Bool) (o : Option Connection) (sent : List Sending) (y : Client) → GivesOn x c bytes more o (Ok tt) sent y → Rests on x y
+pub rests-given : (on : Handle) (x : Client) (c : Handle) (bytes : List ℕ) (more : Bool) (o : Option Connection) (sent : List Sending) (y : Client)
+    → GivesOn x c bytes more o (Ok tt) sent y → Rests on x y
 rests-given on x c bytes more (Some e) sent y gives =
     let z : Client = given c bytes more x in
     subst (λ (v : Client). Rests on x v) (sym gives.1) (rests-then on x z (sending (flow_sent c more e) z) (rests-same on x z refl refl refl) (rests-sending on (flow_sent c more e) z))

@@ -70,7 +70,8 @@ module _ (c d : Joined) (on : Onward c d) where
       let h = At-mapped (λ (z : Step). z.sent) c.lists.heard p b at in
       subst (λ (v : ℕ). At (client_conduct d.lists).read p v) (sym h.2) (At-map (λ (z : Step). z.sent) d.lists.heard p h.0 (on.heard p h.0 h.1))
 
-  channel-forth : (k i j cid sid : ℕ) → k ≤ length c.lists.up → HasChannel (client_conduct c.lists) k i j cid sid → HasChannel (client_conduct d.lists) k i j cid sid
+  channel-forth : (k i j cid sid : ℕ) → k ≤ length c.lists.up → HasChannel (client_conduct c.lists) k i j cid sid
+      → HasChannel (client_conduct d.lists) k i j cid sid
   channel-forth k i j cid sid le h = (
     h.0,
     h.1,
@@ -82,7 +83,8 @@ module _ (c d : Joined) (on : Onward c d) where
     λ l r late before at clears. h.7 l r late before (sent-back l r (omega (arith, before, le)) at) clears,
   )
 
-  frees-forth : (l b : ℕ) (request m : Fields) → l ≤ length c.lists.up → b ≤ length c.lists.up → Frees (client_conduct c.lists) l b request m → Frees (client_conduct d.lists) l b request m
+  frees-forth : (l b : ℕ) (request m : Fields) → l ≤ length c.lists.up → b ≤ length c.lists.up → Frees (client_conduct c.lists) l b request m
+      → Frees (client_conduct d.lists) l b request m
   frees-forth l b request m l_le b_le frees = elim frees [
     | inl cid ↦ inl cid
     | inr (inl ioid) ↦ inr (inl ioid)
@@ -134,7 +136,8 @@ module _ (w : World) (known : Known w) (cancels : AllCancels w) (created : AllCr
   asked = held-so.flows.asked
 
   -- a message on a channel goes under the SID of one that the client has, whose CID is that of its handle
-  has-channel : (l a : ℕ) (ask : Ask) (s : Sent) (h : Handle) → At c.lists.up l s → s.intent ≡ On a ask → (ask ≡ Create → ⊥) → At x.names.channels a h → (i j : ℕ) × HasChannel (client_conduct c.lists) l i j (wire_of h) (sid_in s.message)
+  has-channel : (l a : ℕ) (ask : Ask) (s : Sent) (h : Handle) → At c.lists.up l s → s.intent ≡ On a ask → (ask ≡ Create → ⊥) → At x.names.channels a h
+      → (i j : ℕ) × HasChannel (client_conduct c.lists) l i j (wire_of h) (sid_in s.message)
   has-channel l a ask s h at is other named_h =
       let r = read l a s ask at is other in
       let b = r.5 in
@@ -165,7 +168,8 @@ module _ (w : World) (known : Known w) (cancels : AllCancels w) (created : AllCr
       )
 
   -- a message that gave an id which is held is free, or is the last that gave it
-  last-or : (l : ℕ) (s : Sent) (id : Id) (meant : Intent) → At c.lists.up l s → Gives s.message id → SameIndex id id → (own : IsMeant c.lists meant id) → IsFree (client_conduct c.lists) l (length c.lists.up) ⊎ (l ≡ own.0)
+  last-or : (l : ℕ) (s : Sent) (id : Id) (meant : Intent) → At c.lists.up l s → Gives s.message id → SameIndex id id
+      → (own : IsMeant c.lists meant id) → IsFree (client_conduct c.lists) l (length c.lists.up) ⊎ (l ≡ own.0)
   last-or l s id meant at gives same own = elim (three-ways l own.0) [
     | inl less ↦
         let lt : own.0 < length c.lists.up = At-within c.lists.up own.0 own.2.0 own.2.1 in
@@ -176,7 +180,8 @@ module _ (w : World) (known : Known w) (cancels : AllCancels w) (created : AllCr
 
   module _ (l : ℕ) (s : Sent) (at : At c.lists.up l s) where
     -- the request that holds the IOID is on the channel of the message
-    on-request : (q : Handle) (r : Request) → under x.core.requests q ≡ Some r → was_sent_on c.at_client r ≡ true → (own : IsMeant c.lists (meant_by x.names.requests q) (Ioid (wire_of q))) → l ≡ own.0
+    on-request : (q : Handle) (r : Request) → under x.core.requests q ≡ Some r → was_sent_on c.at_client r ≡ true
+        → (own : IsMeant c.lists (meant_by x.names.requests q) (Ioid (wire_of q))) → l ≡ own.0
         → (kind : history.Kind) × (m : ℕ) × (s.intent ≡ On (channel_number x.names r.channel) (history.Request kind m)) × At x.names.channels (channel_number x.names r.channel) r.channel
     on-request q r there here own place =
         let g : Sent = own.2.0 in
@@ -191,7 +196,8 @@ module _ (w : World) (known : Known w) (cancels : AllCancels w) (created : AllCr
         (m.0, m.1, ap (λ (z : Sent). z.intent) (sym same) ∙ sym (ap intent-in one), m.2)
 
     -- and the subscription that holds its id
-    on-subscription : (g : Handle) (d : Subscription) → under x.core.subscriptions g ≡ Some d → (own : IsMeant c.lists (meant_by x.names.subscriptions g) (SubId (wire_of g))) → l ≡ own.0
+    on-subscription : (g : Handle) (d : Subscription) → under x.core.subscriptions g ≡ Some d
+        → (own : IsMeant c.lists (meant_by x.names.subscriptions g) (SubId (wire_of g))) → l ≡ own.0
         → (m : ℕ) × (s.intent ≡ On (channel_number x.names d.channel) (Subscribe m)) × (meant_by x.names.subscriptions g ≡ On (channel_number x.names d.channel) (Subscribe m)) × At x.names.channels (channel_number x.names d.channel) d.channel
     on-subscription g d there own place =
         let r : Sent = own.2.0 in
@@ -212,7 +218,8 @@ module _ (w : World) (known : Known w) (cancels : AllCancels w) (created : AllCr
         (m.0, ap (λ (z : Sent). z.intent) (sym same) ∙ giver, m.2, m.1)
 
     -- no EVENT_CANCEL of it was sent
-    uncancelled : (g : Handle) (d : Subscription) → under x.core.subscriptions g ≡ Some d → stands_in d.stage ≡ true → (own : IsMeant c.lists (meant_by x.names.subscriptions g) (SubId (wire_of g))) → l ≡ own.0 → Gives s.message (SubId (wire_of g))
+    uncancelled : (g : Handle) (d : Subscription) → under x.core.subscriptions g ≡ Some d → stands_in d.stage ≡ true
+        → (own : IsMeant c.lists (meant_by x.names.subscriptions g) (SubId (wire_of g))) → l ≡ own.0 → Gives s.message (SubId (wire_of g))
         → (b : ℕ) → IsUncancelled (client_conduct c.lists) l b s.message
     uncancelled g d there stands own place gives b i m late before at_m stops same_sid same_id =
         let v = At-mapped (λ (z : Sent). z.message) c.lists.up i m at_m in
@@ -236,7 +243,8 @@ module _ (w : World) (known : Known w) (cancels : AllCancels w) (created : AllCr
       quoted : (h : Header) → QuotesHeader m h → Is command.Error m → h.command ≡ s.message.command → h.p2 ≡ s.message.p2 → Quotes s.message m
       quoted h quotes errs same id = (errs, (h, quotes.head, quotes.text, quotes.spells, quotes.parts, same, id))
 
-      pub frees-it : (id : Id) → Gives s.message id → GoneBy c.at_client x.core m s.message id → IsFree (client_conduct c.lists) l (length c.lists.up) ⊎ Frees (client_conduct c.lists) l b s.message m
+      pub frees-it : (id : Id) → Gives s.message id → GoneBy c.at_client x.core m s.message id
+          → IsFree (client_conduct c.lists) l (length c.lists.up) ⊎ Frees (client_conduct c.lists) l b s.message m
       frees-it (Cid k) gives gone =
           inr (inl (
             gives.0,
@@ -298,7 +306,8 @@ module _ (w : World) (known : Known w) (cancels : AllCancels w) (created : AllCr
           no-create k e = cc
 
   -- so it is free in the words of the statement, as soon as that was read
-  pub freed-now : (d : Joined) → Onward c d → (l : ℕ) (s : Sent) (id : Id) → At c.lists.up l s → Gives s.message id → IsFreedNow c d x s.message id → IsFree (client_conduct d.lists) l (length c.lists.up)
+  pub freed-now : (d : Joined) → Onward c d → (l : ℕ) (s : Sent) (id : Id) → At c.lists.up l s → Gives s.message id → IsFreedNow c d x s.message id
+      → IsFree (client_conduct d.lists) l (length c.lists.up)
   freed-now d on l s id at gives now =
       let t : Told = now.0 in
       let g : Step = now.1 in

@@ -79,7 +79,8 @@ none-cancelled g d (Some (On c (Live native rights))) =
 pub none-written : (h : Handle) (l : LiveChannel) (v : Elements) → GivesNone (write_sent h l v ∷ [])
 none-written h l v = none-one (write_sent h l v) 4 refl (λ e. absurd (omega (arith, e))) (λ e. absurd (omega (arith, e))) (λ e. absurd (omega (arith, e))) (λ e. absurd (omega (arith, e)))
 
-none-flow : (c : Handle) (o : Option Command) (a b : Bool) → o ≡ asked_between a b → GivesNone (map (λ (k : Command). of_circuit c (bare k)) (option_to_list o))
+none-flow : (c : Handle) (o : Option Command) (a b : Bool) → o ≡ asked_between a b
+    → GivesNone (map (λ (k : Command). of_circuit c (bare k)) (option_to_list o))
 none-flow c o a b is = subst (λ (v : Option Command). GivesNone (map (λ (k : Command). of_circuit c (bare k)) (option_to_list v))) (sym is) (go a b)
   where
     go : (a b : Bool) → GivesNone (map (λ (k : Command). of_circuit c (bare k)) (option_to_list (asked_between a b)))
@@ -88,7 +89,8 @@ none-flow c o a b is = subst (λ (v : Option Command). GivesNone (map (λ (k : C
     go false false = none-given
     go true true = none-given
 
-pub none-given-on : (x : Client) (c : Handle) (bytes : List ℕ) (more : Bool) (o : Option Connection) (sent : List Sending) (y : Client) → GivesOn x c bytes more o (Ok tt) sent y → GivesNone sent
+pub none-given-on : (x : Client) (c : Handle) (bytes : List ℕ) (more : Bool) (o : Option Connection) (sent : List Sending) (y : Client)
+    → GivesOn x c bytes more o (Ok tt) sent y → GivesNone sent
 none-given-on x c bytes more (Some e) sent y gives = gives-of sent (flow_sent c more e) gives.0 (none-flow c (sent_by_read more e.run) e.run.events_off (after_read more e.run).events_off refl)
 none-given-on x c bytes more None sent y gives = absurd gives
 
@@ -141,7 +143,8 @@ none-ticked moment x =
 
 -- ---- a request, a subscription
 
-pub given-issued : (on : Handle) (x : Client) (h : Handle) (l : LiveChannel) (asked : Asked) (q : Handle) (s : Sending) → AreFew x → MayGive x.requests q → s.circuit ≡ l.circuit → s.message.command ≡ command_number (command_of asked) → s.message.p2 ≡ wire_of q
+pub given-issued : (on : Handle) (x : Client) (h : Handle) (l : LiveChannel) (asked : Asked) (q : Handle) (s : Sending) → AreFew x
+    → MayGive x.requests q → s.circuit ≡ l.circuit → s.message.command ≡ command_number (command_of asked) → s.message.p2 ≡ wire_of q
     → Given on x (sending (s ∷ []) (issued h l asked q x)) (s ∷ [])
 given-issued on x h l asked q s few may circuit asks wire =
     let z : Client = issued h l asked q x in
@@ -158,7 +161,8 @@ given-issued on x h l asked q s few may circuit asks wire =
     by (request.Read data_type count) is = inl is
     by request.Put is = inr is
 
-pub given-subscribed : (on : Handle) (x : Client) (g : Handle) (d : Subscription) (s : Sending) → AreFew x → MayGive x.subscriptions g → (s.circuit ≡ on → has_id x.channels on d ≡ true) → s.message.command ≡ 1 → s.message.p2 ≡ wire_of g
+pub given-subscribed : (on : Handle) (x : Client) (g : Handle) (d : Subscription) (s : Sending) → AreFew x → MayGive x.subscriptions g
+    → (s.circuit ≡ on → has_id x.channels on d ≡ true) → s.message.command ≡ 1 → s.message.p2 ≡ wire_of g
     → (let z : Client = record x { subscriptions = with_held g d x.subscriptions } in Given on x (sending (s ∷ []) z) (s ∷ []))
 given-subscribed on x g d s few may has asks wire =
     let z : Client = record x { subscriptions = with_held g d x.subscriptions } in
@@ -172,13 +176,15 @@ given-subscribed on x g d s few may has asks wire =
 -- ---- a channel was found
 
 module _ (on : Handle) (x : Client) (e : Effect) (few : AreFew x) where
-  so : (sent : List Sending) (notices : List Notice) (z : Client) → e ≡ doing sent notices z → Given on x (sending sent z) sent → Given on x e.core e.sent
+  so : (sent : List Sending) (notices : List Notice) (z : Client) → e ≡ doing sent notices z → Given on x (sending sent z) sent
+      → Given on x e.core e.sent
   so sent notices z is g = subst (λ (v : Effect). Given on x v.core v.sent) (sym is) g
 
   none-so : (v : Effect) → e ≡ v → v.sent ≡ [] → Given on x e.core e.sent
   none-so v is empty = given-nothing on x e.core e.sent (gives-of e.sent [] (ap (λ (u : Effect). u.sent) is ∙ empty) none-given)
 
-  given-put-on : (d : Handle) (k : Option Connection) (h : Handle) (here : Channel) → under x.channels h ≡ Some here → here.standing ≡ Searching → e ≡ put_on d k h here x → Given on x e.core e.sent
+  given-put-on : (d : Handle) (k : Option Connection) (h : Handle) (here : Channel) → under x.channels h ≡ Some here → here.standing ≡ Searching
+      → e ≡ put_on d k h here x → Given on x e.core e.sent
   given-put-on d None h here there stands is = none-so (put_on d None h here x) is refl
   given-put-on d (Some k) h here there stands is =
       let s : Sending = create_sent d h here in
@@ -192,14 +198,16 @@ module _ (on : Handle) (x : Client) (e : Effect) (few : AreFew x) where
         subst (λ (v : Id). IsIdle on x v) (sym id_is) (idle-channel on x h here few there (λ pass. both_ways (is_on_in is_asked on here) (fails-searched is_asked on here stands) pass)),
       )))
 
-given-puts : (on : Handle) (x : Client) (e : Effect) → AreFew x → (address : Address) (h : Handle) (here : Channel) → under x.channels h ≡ Some here → here.standing ≡ Searching → (o : Option (Handle × ClientCircuit)) → PutsOn x address h here o e → Given on x e.core e.sent
+given-puts : (on : Handle) (x : Client) (e : Effect) → AreFew x → (address : Address) (h : Handle) (here : Channel) → under x.channels h ≡ Some here
+    → here.standing ≡ Searching → (o : Option (Handle × ClientCircuit)) → PutsOn x address h here o e → Given on x e.core e.sent
 given-puts on x e few address h here there stands (Some (d, v)) is = given-put-on on x e few d v.connection h here there stands is
 given-puts on x e few address h here there stands None is = elim is [
   | inr full ↦ none-so on x e few (becomes x) full.1 refl
   | inl new ↦ none-so on x e few (put_on new.0 None h here (with_circuit new.0 (phase.new_circuit address here.priority false) x)) new.2 refl
 ]
 
-given-finds : (on : Handle) (x : Client) (e : Effect) → AreFew x → (address : Address) (cid : ℕ) (o : Option (Handle × Channel)) → searched_by cid x ≡ o → FindsAt x address o e → Given on x e.core e.sent
+given-finds : (on : Handle) (x : Client) (e : Effect) → AreFew x → (address : Address) (cid : ℕ) (o : Option (Handle × Channel))
+    → searched_by cid x ≡ o → FindsAt x address o e → Given on x e.core e.sent
 given-finds on x e few address cid None at is = none-so on x e few (becomes x) is refl
 given-finds on x e few address cid (Some (h, here)) at is = (let f = searched-is cid x h here at in given-puts on x e few address h here f.0 f.1 (circuit_to address here.priority x) is)
 
@@ -215,7 +223,8 @@ module _ (on : Handle) (x : Client) (e : Effect) (few : AreFew x) (c : Handle) (
   abbrev lives : Channel → Channel
   lives k = record k { standing = On c (Live (hears.native_in m) rights) }
 
-  add-row : (i : ℕ) (s : Sending) → At adds i s → (e : Handle × Subscription) × At (standing_to h x.subscriptions) i e × (s ≡ event_add_sent c m.p2 e.0 e.1) × (under x.subscriptions e.0 ≡ Some e.1) × (e.1.channel ≡ h) × (stands_in e.1.stage ≡ true)
+  add-row : (i : ℕ) (s : Sending) → At adds i s
+      → (e : Handle × Subscription) × At (standing_to h x.subscriptions) i e × (s ≡ event_add_sent c m.p2 e.0 e.1) × (under x.subscriptions e.0 ≡ Some e.1) × (e.1.channel ≡ h) × (stands_in e.1.stage ≡ true)
   add-row i s at =
       let b = At-mapped (λ (e : Handle × Subscription). event_add_sent c m.p2 e.0 e.1) (standing_to h x.subscriptions) i s at in
       let f = at-filter (λ (v : Handle × Subscription). is_to h v.1 && stands_in v.1.stage) (held x.subscriptions) i b.0 b.1 in
@@ -264,7 +273,8 @@ module _ (on : Handle) (x : Client) (e : Effect) (few : AreFew x) (c : Handle) (
 -- ---- a message that is read
 
 module _ (on : Handle) (x : Client) (e : Effect) (few : AreFew x) where
-  clear-so : (c : Handle) (sid : ℕ) (h : Handle) (notices : List Notice) (z : Client) → e ≡ doing (clear_sent c sid h ∷ []) notices z → Given on x e.core e.sent
+  clear-so : (c : Handle) (sid : ℕ) (h : Handle) (notices : List Notice) (z : Client) → e ≡ doing (clear_sent c sid h ∷ []) notices z
+      → Given on x e.core e.sent
   clear-so c sid h notices z is = given-nothing on x e.core e.sent (gives-of e.sent (clear_sent c sid h ∷ []) (ap (λ (v : Effect). v.sent) is) (none-clear c sid h))
 
   module _ (c : Handle) (m : Fields) where
@@ -352,7 +362,8 @@ module _ (on : Handle) (x : Client) (e : Effect) (few : AreFew x) where
     any-none None = refl
     any-none (Some (q, r)) = request-none q r.stage
 
-    failing-none : (h : Header) (a b : Bool) → (cond a (write_failed x m (channel_on x c m.p1)) (cond b (subscription_failed x m (heard_by x c h.p2)) (any_failed x m (answered_by c h.command h.p2 x.requests)))).sent ≡ []
+    failing-none : (h : Header) (a b : Bool)
+        → (cond a (write_failed x m (channel_on x c m.p1)) (cond b (subscription_failed x m (heard_by x c h.p2)) (any_failed x m (answered_by c h.command h.p2 x.requests)))).sent ≡ []
     failing-none h true b = write-none (channel_on x c m.p1)
     failing-none h false true = refused-none (heard_by x c h.p2)
     failing-none h false false = any-none (answered_by c h.command h.p2 x.requests)
@@ -393,7 +404,8 @@ few-thins x y thins few = record {
     few-as : (a b : ℕ) → b ≡ a → a ≤ arena_slots → b ≤ arena_slots
     few-as a b same le = omega (arith, same, le)
 
-pub given-all-received : (on : Handle) (from : Address) (ms : List Fields) (x : Client) (e : Effect) → AreFew x → ReceivesAll from x ms e → Given on x e.core e.sent
+pub given-all-received : (on : Handle) (from : Address) (ms : List Fields) (x : Client) (e : Effect) → AreFew x → ReceivesAll from x ms e
+    → Given on x e.core e.sent
 given-all-received on from [] x e few does = none-so on x e few (becomes x) does refl
 given-all-received on from (m ∷ ms) x e few does =
     subst (λ (w : Effect). Given on x w.core w.sent) (sym does.4)
@@ -403,10 +415,12 @@ given-all-received on from (m ∷ ms) x e few does =
 -- ---- a circuit is connected: the CREATE_CHANs of the channels that wait for it
 
 module _ (on : Handle) (x : Client) (few : AreFew x) (c : Handle) where
-  begins-row : (s : Sending) (e : Handle × Channel) → cond (is_on_in is_connecting c e.1) (Some (create_sent c e.0 e.1)) None ≡ Some s → (is_on_in is_connecting c e.1 ≡ true) × (s ≡ create_sent c e.0 e.1)
+  begins-row : (s : Sending) (e : Handle × Channel) → cond (is_on_in is_connecting c e.1) (Some (create_sent c e.0 e.1)) None ≡ Some s
+      → (is_on_in is_connecting c e.1 ≡ true) × (s ≡ create_sent c e.0 e.1)
   begins-row s e is = go (is_on_in is_connecting c e.1) refl is
     where
-      go : (b : Bool) → is_on_in is_connecting c e.1 ≡ b → cond b (Some (create_sent c e.0 e.1)) None ≡ Some s → (is_on_in is_connecting c e.1 ≡ true) × (s ≡ create_sent c e.0 e.1)
+      go : (b : Bool) → is_on_in is_connecting c e.1 ≡ b → cond b (Some (create_sent c e.0 e.1)) None ≡ Some s
+          → (is_on_in is_connecting c e.1 ≡ true) × (s ≡ create_sent c e.0 e.1)
       go true waits p = (waits, sym (some_is (create_sent c e.0 e.1) s p))
       go false waits p = absurd (none-some s p)
         where
@@ -425,11 +439,13 @@ module _ (on : Handle) (x : Client) (few : AreFew x) (c : Handle) where
       phases Clearing f g = both_ways false refl f
       phases Doomed f g = both_ways false refl f
 
-      go : (s : Standing) → unwrap_or (option_map is_connecting (phase_on on s)) false ≡ true → unwrap_or (option_map is_asked (phase_on on s)) false ≡ true → ⊥
+      go : (s : Standing) → unwrap_or (option_map is_connecting (phase_on on s)) false ≡ true
+          → unwrap_or (option_map is_asked (phase_on on s)) false ≡ true → ⊥
       go Searching f g = both_ways false refl f
       go (On o p) f g = by (same_handle o on) f g
         where
-          by : (b : Bool) → unwrap_or (option_map is_connecting (cond b (Some p) None)) false ≡ true → unwrap_or (option_map is_asked (cond b (Some p) None)) false ≡ true → ⊥
+          by : (b : Bool) → unwrap_or (option_map is_connecting (cond b (Some p) None)) false ≡ true
+              → unwrap_or (option_map is_asked (cond b (Some p) None)) false ≡ true → ⊥
           by true k l = phases p k l
           by false k l = both_ways false refl k
 
@@ -469,7 +485,8 @@ module _ (on : Handle) (x : Client) (few : AreFew x) (c : Handle) where
       cid-index : (a b : Id) (n k : ℕ) → a ≡ Cid n → b ≡ Cid k → SameIndex a b → n % arena_slots ≡ k % arena_slots
       cid-index a b n k is also index = subst (λ (v : Id × Id). SameIndex v.0 v.1) (λ i. (is i, also i)) index
 
-pub given-connected : (on : Handle) (x : Client) (c : Handle) (d : ClientCircuit) (k : Option Closing) (sent : List Sending) (y : Client) → AreFew x → ConnectsOn x c (Some d) k sent y → Given on x y sent
+pub given-connected : (on : Handle) (x : Client) (c : Handle) (d : ClientCircuit) (k : Option Closing) (sent : List Sending) (y : Client) → AreFew x
+    → ConnectsOn x c (Some d) k sent y → Given on x y sent
 given-connected on x c d None sent y few does =
     let z : Client = begun c x in
     let all : List Sending = set_up x.peer c d ++ creations c x in
