@@ -71,5 +71,4 @@ pub mod WritesSaid
 pub mod WritesCarried
 pub mod WritesTitled
 pub mod OwnWrites
-pub mod AnsweredWhole
 pub mod Promised

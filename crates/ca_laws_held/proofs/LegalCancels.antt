@@ -66,7 +66,7 @@ AllCancels w = (n : ℕ) (c : Joined) (k a m : ℕ) (s : Sent) → At w.circuits
 cancel-parts : (a b m l : ℕ) → On a (Cancel m) ≡ On b (Cancel l) → (a ≡ b) × (m ≡ l)
 cancel-parts a b m l e = (cc, cc)
 
-add-parts : (a b m l : ℕ) → On a (Subscribe m) ≡ On b (Subscribe l) → (a ≡ b) × (m ≡ l)
+pub add-parts : (a b m l : ℕ) → On a (Subscribe m) ≡ On b (Subscribe l) → (a ≡ b) × (m ≡ l)
 add-parts a b m l e = (cc, cc)
 
 add-create : (a b m : ℕ) → On a (Subscribe m) ≡ On b Create → ⊥
@@ -246,7 +246,7 @@ run-all-cancels s es stopped w ok are (mid, folds, stops) = stop stopped stops
 -- ---- what the statement says
 
 -- an EVENT_CANCEL is meant to cancel
-cancel-is : (i : Intent) (m : Fields) → Suits i m → Is command.EventCancel m → (a number : ℕ) × (i ≡ On a (Cancel number))
+pub cancel-is : (i : Intent) (m : Fields) → Suits i m → Is command.EventCancel m → (a number : ℕ) × (i ≡ On a (Cancel number))
 cancel-is (On a (Cancel number)) m suits is = (a, number, refl)
 cancel-is (On a Create) m suits is = absurd (let e : ◌≡◌ {A = ℕ} 18 2 = sym suits ∙ is in omega (arith, e))
 cancel-is (On a history.Clear) m suits is = absurd (let e : ◌≡◌ {A = ℕ} 12 2 = sym suits ∙ is in omega (arith, e))

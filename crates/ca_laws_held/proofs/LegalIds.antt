@@ -1,11 +1,11 @@
 -- A client gives an id on a circuit only if it is free: in every run.
-use Rattle.std.proofs.Common.{◌≡◌, ℕ, suc, ◌<◌, ◌≤◌, ◌⊎◌, inl, inr, true, List, [], ◌∷◌, ◌++◌, length, Option, Some, None, refl, sym, ap, ◌∙◌, subst, arith}
+use Rattle.std.proofs.Common.{◌≡◌, ℕ, suc, ◌<◌, ◌≤◌, ◌⊎◌, inl, inr, true, List, [], ◌∷◌, ◌++◌, length, Option, Some, None, refl, sym, subst, arith}
 use Rattle.std.specs.List.{FoldsTo}
 use Rattle.ca_text.specs.Place.{At}
 use Rattle.ca_text.proofs.Places.{At-mapped, At-one, At-or, At-within}
 use Rattle.ca_wire.specs.Fields.{Fields}
-use Rattle.ca_model.specs.History.{Circuit, Sent, Told}
-use Rattle.ca_model.specs.Sends.{IsFree, SameIndex}
+use Rattle.ca_model.specs.History.{Circuit, Sent}
+use Rattle.ca_model.specs.Sends.{IsFree}
 use Rattle.ca_model.specs.Speech.{Gives, Id}
 use Rattle.ca_model_safe.specs.Legal.{client_conduct}
 use Rattle.ca_model_world.specs.ClientEvents.{TicksOne}
@@ -21,7 +21,7 @@ use Rattle.ca_laws_held.proofs.Joint.{are-snoc, folds-snoc}
 use Rattle.ca_laws_held.proofs.LegalCancels.{run-all-cancels}
 use Rattle.ca_laws_held.proofs.LegalIdsFreed.{FreeOn, back, free-forth, freed-now}
 use Rattle.ca_laws_held.proofs.LegalIdsGiven.{HeldBy}
-use Rattle.ca_laws_held.proofs.LegalIdsGoing.{AllStep, IsFreedNever, IsFreedNow, IsTicked, event-ids, ids-tick}
+use Rattle.ca_laws_held.proofs.LegalIdsGoing.{AllStep, IsFreedNever, IsFreedNow, event-ids, ids-tick}
 use Rattle.ca_laws_held.proofs.LegalRead.{run-read}
 use Rattle.ca_laws_held.proofs.LostRuns.{known-runs}
 use Rattle.ca_laws_held.proofs.OrderGrows.{ticks-grown}
@@ -44,7 +44,7 @@ Both w = AllFree w × AllHeldOr w
 
 module _ (Freed : (c d : Joined) → ClientSide → Fields → Id → Type 0) (w new : World) (on : WorldsOn w new) (steps : AllStep Freed w new)
     (frees : (n : ℕ) (c d : Joined) (x : ClientSide) → At w.circuits n c → Onward c d → At w.clients c.client x → c.lists.client_open ≡ true → (l : ℕ) (s : Sent) (id : Id) → At c.lists.up l s → Gives s.message id → Freed c d x s.message id
-        → IsFree (client_conduct d.lists) l (length c.lists.up)) (both : Both w) where
+    → IsFree (client_conduct d.lists) l (length c.lists.up)) (both : Both w) where
   onward : (n : ℕ) (c d : Joined) → At w.circuits n c → At new.circuits n d → Onward c d
   onward n c d at_c at_d = (let o = on.circuits n c at_c in subst (λ (v : Joined). Onward c v) (At-one new.circuits n o.0 d o.1 at_d) o.2)
 
@@ -59,7 +59,8 @@ module _ (Freed : (c d : Joined) → ClientSide → Fields → Id → Type 0) (w
     | inl v ↦ absurd (let lt : length d.lists.up < length d.lists.up = At-within d.lists.up (length d.lists.up) v.0 (up (length d.lists.up) v.0 v.1) in omega (arith, lt))
   ]
 
-  old-at : (c d : Joined) → ((p : ℕ) (s : Sent) → At c.lists.up p s → At d.lists.up p s) → (p : ℕ) (s : Sent) → At d.lists.up p s → At c.lists.up p s ⊎ (length c.lists.up ≤ p)
+  old-at : (c d : Joined) → ((p : ℕ) (s : Sent) → At c.lists.up p s → At d.lists.up p s) → (p : ℕ) (s : Sent) → At d.lists.up p s
+      → At c.lists.up p s ⊎ (length c.lists.up ≤ p)
   old-at c d up p s at = elim (At-or c.lists.up p) [
     | inr past ↦ inr past
     | inl v ↦ inl (subst (λ (y : Sent). At c.lists.up p y) (At-one d.lists.up p v.0 s (up p v.0 v.1) at) v.1)
@@ -122,7 +123,8 @@ ticks-both moment (i ∷ is) w new (mid, one, rest) both =
 
 -- ---- every run
 
-after-ids : (s : Setting) (es rest : List Event) (w new : World) → IsSetting s → AreEvents es → AreEvents rest → FoldsTo Happens (opening s) es w → FoldsTo Happens w rest new → Both w → Both new
+after-ids : (s : Setting) (es rest : List Event) (w new : World) → IsSetting s → AreEvents es → AreEvents rest → FoldsTo Happens (opening s) es w
+    → FoldsTo Happens w rest new → Both w → Both new
 after-ids s es [] w new ok are more folds same both = subst (λ (v : World). Both v) same both
 after-ids s es (e ∷ rest) w new ok are more folds (mid, one, others) both =
     let longer : AreEvents (es ++ e ∷ []) = are-snoc es e are (more 0 e refl) in
@@ -163,7 +165,8 @@ gives-free c free l k r m a b lt at_r at_m gives_r gives_m same =
     let t = At-mapped (λ (z : Sent). z.message) c.up k m at_m in
     free l k s.0 t.0 a b lt s.1 t.1 (subst (λ (z : Fields). Gives z a) s.2 gives_r) (subst (λ (z : Fields). Gives z b) t.2 gives_m) same
 
-pub run-ids : (s : Setting) (es : List Event) (stopped : Option Event) (w : World) → IsSetting s → AreEvents es → Runs s es stopped w → ClientsGiveFreeIds w
+pub run-ids : (s : Setting) (es : List Event) (stopped : Option Event) (w : World) → IsSetting s → AreEvents es → Runs s es stopped w
+    → ClientsGiveFreeIds w
 run-ids s es stopped w ok fine runs n d at =
     let j = At-mapped circuit_of w.circuits n d at in
     let l = run-server-steps s es stopped w ok runs n d at in

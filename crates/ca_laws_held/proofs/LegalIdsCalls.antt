@@ -1,12 +1,12 @@
 -- What a caller, a new circuit, an end and a moment leave of the ids that a client holds on one circuit: they are held on.
-use Rattle.std.proofs.Common.{◌≡◌, ℕ, ◌⊎◌, inl, inr, Bool, true, false, ◌&&◌, ◌||◌, cond, List, [], ◌∷◌, ◌++◌, length, Option, Some, None, refl, sym, ap, ◌∙◌, subst}
-use Rattle.std.specs.Prelude.{◌==◌, Ok, filter, find, fold, is_some, not, option_and_then, option_map, unwrap_or}
-use Rattle.std.proofs.lemmas.Bool.{both_ways, cases_Bool, or_cases, or_left}
+use Rattle.std.proofs.Common.{◌≡◌, ℕ, inl, inr, Bool, true, false, ◌&&◌, ◌||◌, cond, List, [], ◌∷◌, ◌++◌, length, Option, Some, None, refl, sym, ap, ◌∙◌, subst}
+use Rattle.std.specs.Prelude.{Ok, filter, fold, is_some, option_and_then, option_map, unwrap_or}
+use Rattle.std.proofs.lemmas.Bool.{both_ways, cases_Bool, or_left}
 use Rattle.ca_text.specs.Place.{At}
 use Rattle.ca_text.proofs.Places.{At-append, At-last}
 use Rattle.ca_text.specs.declared.command.Command.TheVariants as command
 use Rattle.ca_arena.specs.declared.handle.Handle.{Handle}
-use Rattle.ca_ids.specs.Table.{MayGive, Table, same_handle, under, with_all_freed, with_changed, with_freed, with_held}
+use Rattle.ca_ids.specs.Table.{MayGive, Table, same_handle, under, with_changed, with_freed, with_held}
 use Rattle.ca_link.specs.declared.keep.Keep.{Keep}
 use Rattle.ca_link.specs.declared.keep.Keep.TheVariants.{Close, Echo, Idle}
 use Rattle.ca_link.specs.Link.{kept, with_handed}
@@ -14,21 +14,21 @@ use Rattle.ca_monitor.specs.Subscriptions.{Stage, Stands, Subscription, drains_i
 use Rattle.ca_monitor.specs.Subscriptions as monitor
 use Rattle.ca_requests.specs.Calls.{new_request}
 use Rattle.ca_requests.specs.Requests.{Asked, Request, was_sent_on}
-use Rattle.ca_requests.specs.Requests as request
 use Rattle.ca_search.specs.Searches as search
 use Rattle.ca_wire.specs.Messages.{bare, search_request}
 use Rattle.ca_model.specs.Answers.{Closing, Left, Sending}
-use Rattle.ca_model.specs.Client.{Channel, Client, ClientCircuit, Clearing, Connecting, Connection, Creating, Doomed, Leaving, Live, Native, On, Phase, Searching, Standing, channels_ended, channels_on, connection_at, disconnected, ended, is_cleared, is_on_in, later, let_go, on_connection, out_bytes, phase_on, searched_again, sending, standing_at, standing_unless_cleared, with_standing, without_channel, without_circuit, without_ids}
-use Rattle.ca_model.specs.ClientCalls.{ClientOpens, LiveChannel, Opening, all_over, cancel_sent, cleared, clearing_sent, is_over, issued, opened, unsubscribed, unsubscribed_all, unwanted}
+use Rattle.ca_model.specs.Client.{Channel, Client, ClientCircuit, Clearing, Connecting, Connection, Creating, Doomed, Leaving, Live, Native, On, Phase, Searching, Standing, channels_ended, connection_at, ended, is_cleared, is_on_in, later, let_go, on_connection, out_bytes, phase_on, sending, standing_at, standing_unless_cleared, without_channel, without_ids}
+use Rattle.ca_model.specs.ClientCalls.{LiveChannel, Opening, cancel_sent, cleared, clearing_sent, is_over, issued, opened, unsubscribed, unsubscribed_all}
 use Rattle.ca_model.specs.ClientEnds.{ConnectsOn, GivesOn, Ticking, all_searched_on, begun, circuits_ticked, creating, creations, due, flow_sent, given, handed_over, is_connecting, is_name_connected, of_circuit, searches_made, searches_on, set_up, ticks, ticks_as, with_sending}
 use Rattle.ca_model_client.specs.Placed.{Attached}
 use Rattle.ca_model_client.proofs.Handles.{handle-or, not-same, same-is, same-itself, same-not}
-use Rattle.ca_model_client.proofs.Standings.{fails-anywhere, fails-elsewhere, fails-searched, found-standing, is-on, never-cleared}
+use Rattle.ca_model_client.proofs.Standings.{fails-searched, found-standing, is-on, never-cleared}
 use Rattle.ca_model_client.proofs.Tables.{all-freed-there, all-there, changed-other, changed-own, freed-other, held-other, one-value}
-use Rattle.ca_laws_circuit.specs.Held.{HoldAlike, has_id, is_asked, is_subscribed}
+use Rattle.ca_laws_circuit.specs.Held.{has_id, is_asked, is_subscribed}
 use Rattle.ca_laws_circuit.proofs.Ends.{ended-elsewhere}
 use Rattle.ca_laws_circuit.proofs.Heard.{has-too}
 use Rattle.ca_laws_circuit.proofs.Others.{cleared-away, cleared-early, cleared-elsewhere, cleared-left}
+use Rattle.ca_laws_held.proofs.OpenLive.{requests-ended, requests-unwanted}
 use Rattle.ca_laws_held.proofs.LegalIdsRests.{Asks, Rests, asks-over, asks-same, rests-alike, rests-itself, rests-same, rests-sending, rests-then, same-phase, stands-there, stood-row}
 
 -- ---- something new
@@ -42,7 +42,8 @@ rests-opened on x a h may =
       subscriptions = λ g d is pass. (d, is, has-too on x.channels (with_held h new x.channels) d (λ w is_w pass_w. (w, held-other x.channels d.channel h new w may is_w, pass_w)) pass);
     }
 
-pub rests-issued : (on : Handle) (x : Client) (h : Handle) (l : LiveChannel) (asked : Asked) (q : Handle) → MayGive x.requests q → Rests on x (issued h l asked q x)
+pub rests-issued : (on : Handle) (x : Client) (h : Handle) (l : LiveChannel) (asked : Asked) (q : Handle) → MayGive x.requests q
+    → Rests on x (issued h l asked q x)
 rests-issued on x h l asked q may = record {
   channels = λ k v is pass. (v, is, pass);
   requests = λ k r is pass. (r, held-other x.requests k q (new_request h l.circuit asked) r may is, pass, refl);
@@ -59,10 +60,13 @@ rests-subscribed on x g d may = record {
 -- ---- a subscription is cancelled
 
 -- one that stands has its id where its channel is subscribed to
-pub standing-has : (t : Table Channel) (on : Handle) (d : Subscription) → stands_in d.stage ≡ true → has_id t on d ≡ true → unwrap_or (option_map (is_on_in is_subscribed on) (under t d.channel)) false ≡ true
+pub standing-has : (t : Table Channel) (on : Handle) (d : Subscription) → stands_in d.stage ≡ true → has_id t on d ≡ true
+    → unwrap_or (option_map (is_on_in is_subscribed on) (under t d.channel)) false ≡ true
 standing-has t on d stands has = go d.stage stands has
   where
-    go : (s : Stage) → stands_in s ≡ true → (drains_in on s || (stands_in s && unwrap_or (option_map (is_on_in is_subscribed on) (under t d.channel)) false)) ≡ true → unwrap_or (option_map (is_on_in is_subscribed on) (under t d.channel)) false ≡ true
+    go : (s : Stage) → stands_in s ≡ true
+        → (drains_in on s || (stands_in s && unwrap_or (option_map (is_on_in is_subscribed on) (under t d.channel)) false)) ≡ true
+        → unwrap_or (option_map (is_on_in is_subscribed on) (under t d.channel)) false ≡ true
     go Stands f h = h
     go (monitor.Cancelled o) f h = absurd (both_ways false refl f)
     go (monitor.Ended o) f h = absurd (both_ways false refl f)
@@ -101,7 +105,8 @@ module _ (on : Handle) (x : Client) (g : Handle) (d : Subscription) (there : und
   }
 
   -- where its channel stands
-  on-channel : (c : Handle) (p : Phase) → standing_at x d.channel ≡ Some (On c p) → has_id x.channels on d ≡ true → (c ≡ on) × (is_subscribed p ≡ true)
+  on-channel : (c : Handle) (p : Phase) → standing_at x d.channel ≡ Some (On c p) → has_id x.channels on d ≡ true
+      → (c ≡ on) × (is_subscribed p ≡ true)
   on-channel c p at has =
       let f = found-standing x d.channel (On c p) at in
       let pass : is_on_in is_subscribed on f.0 ≡ true = sym (ap (λ (o : Option Channel). unwrap_or (option_map (is_on_in is_subscribed on) o) false) f.1) ∙ standing-has x.channels on d stands has in
@@ -135,7 +140,8 @@ module _ (on : Handle) (x : Client) (g : Handle) (d : Subscription) (there : und
               phases p (sym (is-on is_subscribed on ch p (subst (λ (o : Handle). ch.standing ≡ On o p) same is)) ∙ f) gone
           pick false kept_it k = absurd cc
 
-      go : (o : Option Channel) → option_and_then (λ (here : Channel). standing_unless_cleared here.standing) o ≡ None → unwrap_or (option_map (is_on_in is_subscribed on) o) false ≡ true → ⊥
+      go : (o : Option Channel) → option_and_then (λ (here : Channel). standing_unless_cleared here.standing) o ≡ None
+          → unwrap_or (option_map (is_on_in is_subscribed on) o) false ≡ true → ⊥
       go None e f = both_ways false refl f
       go (Some ch) e f = by ch f ch.standing refl e
 
@@ -150,31 +156,21 @@ module _ (on : Handle) (x : Client) (g : Handle) (d : Subscription) (there : und
   rests-unsubscribed (Some (On c (Live native rights))) at =
       rests-staged (monitor.Cancelled c) (λ has. subst (λ (k : Handle). same_handle c k ≡ true) (on-channel c (Live native rights) at has).0 (same-itself c))
 
-pub rests-cancelled : (on : Handle) (x : Client) (g : Handle) (d : Subscription) → under x.subscriptions g ≡ Some d → stands_in d.stage ≡ true → Rests on x (sending (cancel_sent g d (standing_at x d.channel)) (unsubscribed g (standing_at x d.channel) x))
+pub rests-cancelled : (on : Handle) (x : Client) (g : Handle) (d : Subscription) → under x.subscriptions g ≡ Some d → stands_in d.stage ≡ true
+    → Rests on x (sending (cancel_sent g d (standing_at x d.channel)) (unsubscribed g (standing_at x d.channel) x))
 rests-cancelled on x g d there stands =
     let o : Option Standing = standing_at x d.channel in
     rests-then on x (unsubscribed g o x) (sending (cancel_sent g d o) (unsubscribed g o x)) (rests-unsubscribed on x g d there stands o refl) (rests-sending on (cancel_sent g d o) (unsubscribed g o x))
 
 -- ---- a channel is cleared
 
-requests-unwanted : (c : Handle) (x : Client) → (unwanted c x).requests ≡ x.requests
-requests-unwanted c x = go (length (channels_on (λ (p : Phase). true) c x) == 0) (under x.circuits c)
-  where
-    gone : (d : ClientCircuit) (b : Bool) → (cond b (disconnected c x) (without_circuit c x)).requests ≡ x.requests
-    gone d true = refl
-    gone d false = refl
-
-    go : (b : Bool) (o : Option ClientCircuit) → (cond b (unwrap_or (option_map (λ (d : ClientCircuit). let_go c d x) o) x) x).requests ≡ x.requests
-    go true (Some d) = gone d d.is_name
-    go true None = refl
-    go false o = refl
-
 -- on the circuit on which it is live
 module _ (on : Handle) (x : Client) (h : Handle) (ch : Channel) (native : Native) (rights : ℕ) (there : under x.channels h ≡ Some ch) (stands : ch.standing ≡ On on (Live native rights)) where
   abbrev after : Table Channel
   after = with_changed (λ (here : Channel). record here { standing = On on Clearing }) h x.channels
 
-  over-has : (d : Subscription) → has_id x.channels on d ≡ true → (s : Stage) → d.stage ≡ s → (drains_in on (stage_over on s) || (stands_in (stage_over on s) && unwrap_or (option_map (is_on_in is_subscribed on) (under after d.channel)) false)) ≡ true
+  over-has : (d : Subscription) → has_id x.channels on d ≡ true → (s : Stage) → d.stage ≡ s
+      → (drains_in on (stage_over on s) || (stands_in (stage_over on s) && unwrap_or (option_map (is_on_in is_subscribed on) (under after d.channel)) false)) ≡ true
   over-has d has Stands is = or_left (same_handle on on) (false && unwrap_or (option_map (is_on_in is_subscribed on) (under after d.channel)) false) (same-itself on)
   over-has d has (monitor.Cancelled o) is = subst (λ (s : Stage). (drains_in on s || (stands_in s && unwrap_or (option_map (is_on_in is_subscribed on) (under x.channels d.channel)) false)) ≡ true) is has
   over-has d has (monitor.Ended o) is = subst (λ (s : Stage). (drains_in on s || (stands_in s && unwrap_or (option_map (is_on_in is_subscribed on) (under x.channels d.channel)) false)) ≡ true) is has
@@ -197,7 +193,7 @@ rests-cleared-so : (on : Handle) (x : Client) (h : Handle) (s : Standing) → At
 rests-cleared-so on x h Searching attached at = rests-alike on x (cleared h Searching x) (cleared-away on x h Searching attached at (inl refl)) (asks-same on x.requests x.requests refl)
 rests-cleared-so on x h (On c Connecting) attached at =
     rests-alike on x (cleared h (On c Connecting) x) (cleared-away on x h (On c Connecting) attached at (inr (c, refl)))
-    (asks-same on x.requests (cleared h (On c Connecting) x).requests (requests-unwanted c (without_channel (unsubscribed_all h x) h)))
+    (asks-same on x.requests (cleared h (On c Connecting) x).requests (requests-unwanted c (without_channel (unsubscribed_all h x) h)).0)
 rests-cleared-so on x h (On c (Creating rights)) attached at = rests-alike on x (cleared h (On c (Creating rights)) x) (cleared-early on x h c rights attached at) (asks-same on x.requests x.requests refl)
 rests-cleared-so on x h (On c Leaving) attached at = rests-alike on x (cleared h (On c Leaving) x) (cleared-left on x h c at) (asks-over on h x.requests)
 rests-cleared-so on x h (On c Clearing) attached at = absurd (both_ways true (never-cleared x h c Clearing at) refl)
@@ -209,33 +205,18 @@ rests-cleared-so on x h (On c (Live native rights)) attached at = elim (cases_Bo
       subst (λ (k : Handle). Rests k x (cleared h (On c (Live native rights)) x)) (same-is c on same) (clears-here c x h f.0 native rights f.1 f.2)
 ]
 
-pub rests-cleared : (on : Handle) (x : Client) (h : Handle) (s : Standing) → Attached x → standing_at x h ≡ Some s → Rests on x (sending (clearing_sent h s) (cleared h s x))
+pub rests-cleared : (on : Handle) (x : Client) (h : Handle) (s : Standing) → Attached x → standing_at x h ≡ Some s
+    → Rests on x (sending (clearing_sent h s) (cleared h s x))
 rests-cleared on x h s attached at =
     rests-then on x (cleared h s x) (sending (clearing_sent h s) (cleared h s x)) (rests-cleared-so on x h s attached at) (rests-sending on (clearing_sent h s) (cleared h s x))
 
 -- ---- an end has ended on another circuit
 
-requests-fold : (f : Client → Handle → Client) → ((y : Client) (h : Handle) → (f y h).requests ≡ y.requests) → (hs : List Handle) (x : Client) → (fold f x hs).requests ≡ x.requests
-requests-fold f each [] x = refl
-requests-fold f each (h ∷ hs) x = requests-fold f each hs (f x h) ∙ each x h
-
-requests-let-go : (c : Handle) (d : ClientCircuit) (x : Client) → (let_go c d x).requests ≡ x.requests
-requests-let-go c d x = go d.is_name
-  where
-    go : (b : Bool) → (cond b (disconnected c x) (without_circuit c x)).requests ≡ x.requests
-    go true = refl
-    go false = refl
-
-requests-ended : (c : Handle) (d : ClientCircuit) (x : Client) → (let_go c d (channels_ended c x)).requests ≡ x.requests
-requests-ended c d x =
-    let mid : Client = fold without_channel x (channels_on is_cleared c x) in
-    requests-let-go c d (channels_ended c x) ∙ requests-fold searched_again (λ y h. refl) (channels_on (λ (p : Phase). not (is_cleared p)) c x) mid
-    ∙ requests-fold without_channel (λ y h. refl) (channels_on is_cleared c x) x
-
 asks-ended : (on c : Handle) (x : Client) → (c ≡ on → ⊥) → Asks on x.requests (ended c x).requests
 asks-ended on c x other = go (under x.circuits c)
   where
-    go : (o : Option ClientCircuit) → Asks on x.requests (unwrap_or (option_map (λ (d : ClientCircuit). let_go c d (channels_ended c (without_ids c x))) o) x).requests
+    go : (o : Option ClientCircuit)
+        → Asks on x.requests (unwrap_or (option_map (λ (d : ClientCircuit). let_go c d (channels_ended c (without_ids c x))) o) x).requests
     go None = asks-same on x.requests x.requests refl
     go (Some d) = λ q r is pass. (
       r,
@@ -250,7 +231,8 @@ rests-ended on c x other = rests-alike on x (ended c x) (ended-elsewhere c on x 
 
 -- ---- a circuit is connected, and bytes move
 
-begun-row : (test : Phase → Bool) (on c : Handle) (v : Channel) → test Connecting ≡ false → is_on_in test on v ≡ true → is_on_in test on (creating c v) ≡ true
+begun-row : (test : Phase → Bool) (on c : Handle) (v : Channel) → test Connecting ≡ false → is_on_in test on v ≡ true
+    → is_on_in test on (creating c v) ≡ true
 begun-row test on c v none pass = go (is_on_in is_connecting c v) refl
   where
     phases : (p : Phase) → is_connecting p ≡ true → test p ≡ true → ⊥
@@ -261,11 +243,13 @@ begun-row test on c v none pass = go (is_on_in is_connecting c v) refl
     phases Clearing f g = both_ways false refl f
     phases Doomed f g = both_ways false refl f
 
-    both : (s : Standing) → unwrap_or (option_map is_connecting (phase_on c s)) false ≡ true → unwrap_or (option_map test (phase_on on s)) false ≡ true → ⊥
+    both : (s : Standing) → unwrap_or (option_map is_connecting (phase_on c s)) false ≡ true
+        → unwrap_or (option_map test (phase_on on s)) false ≡ true → ⊥
     both Searching f g = both_ways false refl f
     both (On o p) f g = by (same_handle o c) (same_handle o on) f g
       where
-        by : (a b : Bool) → unwrap_or (option_map is_connecting (cond a (Some p) None)) false ≡ true → unwrap_or (option_map test (cond b (Some p) None)) false ≡ true → ⊥
+        by : (a b : Bool) → unwrap_or (option_map is_connecting (cond a (Some p) None)) false ≡ true
+            → unwrap_or (option_map test (cond b (Some p) None)) false ≡ true → ⊥
         by true true k l = phases p k l
         by true false k l = both_ways false refl l
         by false b k l = both_ways false refl k
@@ -281,7 +265,8 @@ rests-begun on c x = record {
   subscriptions = λ g d is pass. (d, is, has-too on x.channels (begun c x).channels d (λ w is_w pass_w. (creating c w, all-there (creating c) x.channels d.channel w is_w, begun-row is_subscribed on c w refl pass_w)) pass);
 }
 
-pub rests-connected : (on : Handle) (x : Client) (c : Handle) (d : ClientCircuit) (k : Option Closing) (sent : List Sending) (y : Client) → (c ≡ on → k ≡ None) → ConnectsOn x c (Some d) k sent y → Rests on x y
+pub rests-connected : (on : Handle) (x : Client) (c : Handle) (d : ClientCircuit) (k : Option Closing) (sent : List Sending) (y : Client)
+    → (c ≡ on → k ≡ None) → ConnectsOn x c (Some d) k sent y → Rests on x y
 rests-connected on x c d None sent y alone does =
     let z : Client = begun c x in
     subst (λ (v : Client). Rests on x v) (sym does.1) (rests-then on x z (sending (set_up x.peer c d ++ creations c x) z) (rests-begun on c x) (rests-sending on (set_up x.peer c d ++ creations c x) z))
@@ -290,7 +275,8 @@ rests-connected on x c d (Some k) sent y alone does = subst (λ (v : Client). Re
     none-some : (k : Closing) → (let o : Option Closing = None in Some k ≡ o) → ⊥
     none-some k e = cc
 
-pub rests-given : (on : Handle) (x : Client) (c : Handle) (bytes : List ℕ) (more : Bool) (o : Option Connection) (sent : List Sending) (y : Client) → GivesOn x c bytes more o (Ok tt) sent y → Rests on x y
+pub rests-given : (on : Handle) (x : Client) (c : Handle) (bytes : List ℕ) (more : Bool) (o : Option Connection) (sent : List Sending) (y : Client)
+    → GivesOn x c bytes more o (Ok tt) sent y → Rests on x y
 rests-given on x c bytes more (Some e) sent y gives =
     let z : Client = given c bytes more x in
     subst (λ (v : Client). Rests on x v) (sym gives.1) (rests-then on x z (sending (flow_sent c more e) z) (rests-same on x z refl refl refl) (rests-sending on (flow_sent c more e) z))

@@ -1,38 +1,35 @@
 -- What was read frees an id, in the words of the statement: of each message that gave it.
-use Rattle.std.proofs.Common.{◌≡◌, ℕ, suc, ◌<◌, ◌≤◌, ◌⊎◌, inl, inr, true, List, [], ◌++◌, length, Option, Some, None, refl, sym, ap, ◌∙◌, subst, arith}
-use Rattle.ca_text.specs.Command.{command_number}
+use Rattle.std.proofs.Common.{◌≡◌, ℕ, ◌<◌, ◌≤◌, ◌⊎◌, inl, inr, true, length, Some, refl, sym, ap, ◌∙◌, subst, arith}
 use Rattle.ca_text.specs.declared.command.Command.TheVariants as command
 use Rattle.ca_text.specs.Place.{At}
 use Rattle.ca_text.proofs.Places.{At-map, At-mapped, At-one, At-or, At-within, some_is}
 use Rattle.ca_arena.specs.declared.handle.Handle.{Handle}
 use Rattle.ca_ids.specs.Table.{under}
 use Rattle.ca_ids.specs.Wire.{wire_of}
-use Rattle.ca_monitor.specs.Subscriptions.{Stage, Stands, Subscription, stands_in}
+use Rattle.ca_monitor.specs.Subscriptions.{Stage, Subscription, stands_in}
 use Rattle.ca_requests.specs.Meaning.{QuotesHeader}
 use Rattle.ca_requests.specs.Requests.{Request, was_sent_on}
 use Rattle.ca_wire.specs.declared.header.Header.{Header}
 use Rattle.ca_wire.specs.Fields.{Fields}
 use Rattle.ca_model.specs.History.{Ask, Cancel, Circuit, Create, Intent, On, Sent, Step, Subscribe, Told}
 use Rattle.ca_model.specs.History as history
-use Rattle.ca_model.specs.Sends.{Conduct, Frees, HasChannel, IsFree, IsUncancelled, Quotes, SameIndex}
+use Rattle.ca_model.specs.Sends.{Frees, HasChannel, IsFree, IsUncancelled, Quotes, SameIndex}
 use Rattle.ca_model.specs.Speech.{Cid, Clears, Gives, Id, Ioid, Is, SubId, sid_in}
 use Rattle.ca_model_client.proofs.Thinner.{three-ways}
 use Rattle.ca_model_safe.specs.Channels.{Suits, named}
 use Rattle.ca_model_safe.specs.Legal.{client_conduct}
 use Rattle.ca_model_world.specs.ClientEvents.{channel_number, meant_by}
 use Rattle.ca_model_world.specs.World.{ClientSide, Joined, World}
-use Rattle.ca_laws_circuit.specs.Held.{IsMeant, has_id}
+use Rattle.ca_laws_circuit.specs.Held.{IsMeant}
 use Rattle.ca_laws_circuit.proofs.Refused.{sub-named}
 use Rattle.ca_laws_kept.specs.Kept.{kept}
 use Rattle.ca_laws_runs.specs.Circuit.{HeldOn}
 use Rattle.ca_laws_held.specs.Created.{AllCreated, CreatedOn}
 use Rattle.ca_laws_held.specs.Quiet.{IsNamedIn, StageIn, Tidy}
-use Rattle.ca_laws_held.specs.Under.{IsCreatedBefore}
 use Rattle.ca_laws_held.proofs.Heard.{request-named}
-use Rattle.ca_laws_held.proofs.LegalCancels.{AllCancels}
+use Rattle.ca_laws_held.proofs.LegalCancels.{AllCancels, add-parts, cancel-is}
 use Rattle.ca_laws_held.proofs.LegalIdsGiven.{GoneBy}
 use Rattle.ca_laws_held.proofs.LegalIdsGoing.{IsFreedNow}
-use Rattle.ca_laws_held.proofs.LegalIdsRests.{FreesIoid, FreesSub}
 use Rattle.ca_laws_held.proofs.LegalRead.{ReadAfter, ReadOn}
 use Rattle.ca_laws_held.proofs.Phased.{standing-stage}
 use Rattle.ca_laws_held.proofs.Says.{asked-at, subscribed-at}
@@ -52,9 +49,6 @@ module _ (c d : Joined) (on : Onward c d) where
     | inr past ↦ absurd (omega (arith, past, lt))
     | inl v ↦ subst (λ (y : Sent). At c.lists.up p y) (At-one d.lists.up p v.0 s (on.up p v.0 v.1) at) v.1
   ]
-
-  message : Sent → Fields
-  message s = s.message
 
   sent-forth : (p : ℕ) (m : Fields) → At (client_conduct c.lists).sent p m → At (client_conduct d.lists).sent p m
   sent-forth p m at =
@@ -76,7 +70,8 @@ module _ (c d : Joined) (on : Onward c d) where
       let h = At-mapped (λ (z : Step). z.sent) c.lists.heard p b at in
       subst (λ (v : ℕ). At (client_conduct d.lists).read p v) (sym h.2) (At-map (λ (z : Step). z.sent) d.lists.heard p h.0 (on.heard p h.0 h.1))
 
-  channel-forth : (k i j cid sid : ℕ) → k ≤ length c.lists.up → HasChannel (client_conduct c.lists) k i j cid sid → HasChannel (client_conduct d.lists) k i j cid sid
+  channel-forth : (k i j cid sid : ℕ) → k ≤ length c.lists.up → HasChannel (client_conduct c.lists) k i j cid sid
+      → HasChannel (client_conduct d.lists) k i j cid sid
   channel-forth k i j cid sid le h = (
     h.0,
     h.1,
@@ -88,14 +83,18 @@ module _ (c d : Joined) (on : Onward c d) where
     λ l r late before at clears. h.7 l r late before (sent-back l r (omega (arith, before, le)) at) clears,
   )
 
-  frees-forth : (l b : ℕ) (request m : Fields) → l ≤ length c.lists.up → b ≤ length c.lists.up → Frees (client_conduct c.lists) l b request m → Frees (client_conduct d.lists) l b request m
+  frees-forth : (l b : ℕ) (request m : Fields) → l ≤ length c.lists.up → b ≤ length c.lists.up → Frees (client_conduct c.lists) l b request m
+      → Frees (client_conduct d.lists) l b request m
   frees-forth l b request m l_le b_le frees = elim frees [
     | inl cid ↦ inl cid
     | inr (inl ioid) ↦ inr (inl ioid)
-    | inr (inr (inl sub)) ↦ inr (inr (inl (sub.0, elim sub.1 [
-      | inl confirms ↦ inl confirms
-      | inr refuses ↦ inr (refuses.0, λ i s late before at cancels one. refuses.1 i s late before (sent-back i s (omega (arith, before, b_le)) at) cancels one)
-    ])))
+    | inr (inr (inl sub)) ↦ inr (inr (inl (
+      sub.0,
+      elim sub.1 [
+        | inl confirms ↦ inl confirms
+        | inr refuses ↦ inr (refuses.0, λ i s late before at cancels one. refuses.1 i s late before (sent-back i s (omega (arith, before, b_le)) at) cancels one)
+      ],
+    )))
     | inr (inr (inr clear)) ↦ inr (inr (inr (clear.0, clear.1, clear.2, channel-forth l clear.0 clear.1 clear.2 (sid_in request) l_le clear.3, clear.4, clear.5)))
   ]
 
@@ -121,20 +120,6 @@ module _ (c d : Joined) (on : Onward c d) where
 abbrev intent-in : Handle × Intent → Intent
 intent-in e = e.1
 
--- an EVENT_CANCEL is meant to cancel
-cancel-is : (i : Intent) (m : Fields) → Suits i m → Is command.EventCancel m → (a number : ℕ) × (i ≡ On a (Cancel number))
-cancel-is (On a (Cancel number)) m suits is = (a, number, refl)
-cancel-is (On a Create) m suits is = absurd (let e : ◌≡◌ {A = ℕ} 18 2 = sym suits ∙ is in omega (arith, e))
-cancel-is (On a history.Clear) m suits is = absurd (let e : ◌≡◌ {A = ℕ} 12 2 = sym suits ∙ is in omega (arith, e))
-cancel-is (On a (Subscribe number)) m suits is = absurd (let e : ◌≡◌ {A = ℕ} 1 2 = sym suits ∙ is in omega (arith, e))
-cancel-is (On a (history.Request history.Read number)) m suits is = absurd (let e : ◌≡◌ {A = ℕ} 15 2 = sym suits ∙ is in omega (arith, e))
-cancel-is (On a (history.Request history.Put number)) m suits is = absurd (let e : ◌≡◌ {A = ℕ} 19 2 = sym suits ∙ is in omega (arith, e))
-cancel-is (On a (history.Request history.Write number)) m suits is = absurd (let e : ◌≡◌ {A = ℕ} 4 2 = sym suits ∙ is in omega (arith, e))
-cancel-is history.OfCircuit m suits is = absurd (suits (Cancel 0) is)
-
-add-parts : (a b m l : ℕ) → On a (Subscribe m) ≡ On b (Subscribe l) → (a ≡ b) × (m ≡ l)
-add-parts a b m l e = (cc, cc)
-
 module _ (w : World) (known : Known w) (cancels : AllCancels w) (created : AllCreated w) (n : ℕ) (c : Joined) (x : ClientSide) (at_c : At w.circuits n c) (at_x : At w.clients c.client x) (opened : c.lists.client_open ≡ true)
     (read : ReadOn c.lists) (after : ReadAfter c.lists) (free : FreeOn c.lists) where
   held-so : HeldOn (kept w n) x.names x.core c
@@ -151,7 +136,8 @@ module _ (w : World) (known : Known w) (cancels : AllCancels w) (created : AllCr
   asked = held-so.flows.asked
 
   -- a message on a channel goes under the SID of one that the client has, whose CID is that of its handle
-  has-channel : (l a : ℕ) (ask : Ask) (s : Sent) (h : Handle) → At c.lists.up l s → s.intent ≡ On a ask → (ask ≡ Create → ⊥) → At x.names.channels a h → (i j : ℕ) × HasChannel (client_conduct c.lists) l i j (wire_of h) (sid_in s.message)
+  has-channel : (l a : ℕ) (ask : Ask) (s : Sent) (h : Handle) → At c.lists.up l s → s.intent ≡ On a ask → (ask ≡ Create → ⊥) → At x.names.channels a h
+      → (i j : ℕ) × HasChannel (client_conduct c.lists) l i j (wire_of h) (sid_in s.message)
   has-channel l a ask s h at is other named_h =
       let r = read l a s ask at is other in
       let b = r.5 in
@@ -168,21 +154,22 @@ module _ (w : World) (known : Known w) (cancels : AllCancels w) (created : AllCr
         r.1,
         r.0,
         (
-            b.r.message,
-            b.t.message,
-            At-map (λ (z : Sent). z.message) c.lists.up r.1 b.r b.asked.0,
-            (creates, wire),
-            (r.2.sent, At-map (λ (z : Told). z.message) c.lists.down r.0 b.t b.told.0, At-map (λ (z : Step). z.sent) c.lists.heard r.0 r.2 r.3, subst (λ (z : ℕ). z < r.2.sent) b.told.1 first, r.4),
-            b.told.3,
-            copy ∙ wire,
-            λ p q late before there clears same_cid.
-                let v = At-mapped (λ (z : Sent). z.message) c.lists.up p q there in
-                uncleared c of (known.sided.right n c at_c).under asked a r.0 r.1 sid l b (p, v.0, late, before, v.1, subst (λ (z : Fields). Clears z sid) v.2 clears),
+          b.r.message,
+          b.t.message,
+          At-map (λ (z : Sent). z.message) c.lists.up r.1 b.r b.asked.0,
+          (creates, wire),
+          (r.2.sent, At-map (λ (z : Told). z.message) c.lists.down r.0 b.t b.told.0, At-map (λ (z : Step). z.sent) c.lists.heard r.0 r.2 r.3, subst (λ (z : ℕ). z < r.2.sent) b.told.1 first, r.4),
+          b.told.3,
+          copy ∙ wire,
+          λ p q late before there clears same_cid.
+              let v = At-mapped (λ (z : Sent). z.message) c.lists.up p q there in
+              uncleared c of (known.sided.right n c at_c).under asked a r.0 r.1 sid l b (p, v.0, late, before, v.1, subst (λ (z : Fields). Clears z sid) v.2 clears),
         ),
       )
 
   -- a message that gave an id which is held is free, or is the last that gave it
-  last-or : (l : ℕ) (s : Sent) (id : Id) (meant : Intent) → At c.lists.up l s → Gives s.message id → SameIndex id id → (own : IsMeant c.lists meant id) → IsFree (client_conduct c.lists) l (length c.lists.up) ⊎ (l ≡ own.0)
+  last-or : (l : ℕ) (s : Sent) (id : Id) (meant : Intent) → At c.lists.up l s → Gives s.message id → SameIndex id id
+      → (own : IsMeant c.lists meant id) → IsFree (client_conduct c.lists) l (length c.lists.up) ⊎ (l ≡ own.0)
   last-or l s id meant at gives same own = elim (three-ways l own.0) [
     | inl less ↦
         let lt : own.0 < length c.lists.up = At-within c.lists.up own.0 own.2.0 own.2.1 in
@@ -193,7 +180,8 @@ module _ (w : World) (known : Known w) (cancels : AllCancels w) (created : AllCr
 
   module _ (l : ℕ) (s : Sent) (at : At c.lists.up l s) where
     -- the request that holds the IOID is on the channel of the message
-    on-request : (q : Handle) (r : Request) → under x.core.requests q ≡ Some r → was_sent_on c.at_client r ≡ true → (own : IsMeant c.lists (meant_by x.names.requests q) (Ioid (wire_of q))) → l ≡ own.0
+    on-request : (q : Handle) (r : Request) → under x.core.requests q ≡ Some r → was_sent_on c.at_client r ≡ true
+        → (own : IsMeant c.lists (meant_by x.names.requests q) (Ioid (wire_of q))) → l ≡ own.0
         → (kind : history.Kind) × (m : ℕ) × (s.intent ≡ On (channel_number x.names r.channel) (history.Request kind m)) × At x.names.channels (channel_number x.names r.channel) r.channel
     on-request q r there here own place =
         let g : Sent = own.2.0 in
@@ -208,7 +196,8 @@ module _ (w : World) (known : Known w) (cancels : AllCancels w) (created : AllCr
         (m.0, m.1, ap (λ (z : Sent). z.intent) (sym same) ∙ sym (ap intent-in one), m.2)
 
     -- and the subscription that holds its id
-    on-subscription : (g : Handle) (d : Subscription) → under x.core.subscriptions g ≡ Some d → (own : IsMeant c.lists (meant_by x.names.subscriptions g) (SubId (wire_of g))) → l ≡ own.0
+    on-subscription : (g : Handle) (d : Subscription) → under x.core.subscriptions g ≡ Some d
+        → (own : IsMeant c.lists (meant_by x.names.subscriptions g) (SubId (wire_of g))) → l ≡ own.0
         → (m : ℕ) × (s.intent ≡ On (channel_number x.names d.channel) (Subscribe m)) × (meant_by x.names.subscriptions g ≡ On (channel_number x.names d.channel) (Subscribe m)) × At x.names.channels (channel_number x.names d.channel) d.channel
     on-subscription g d there own place =
         let r : Sent = own.2.0 in
@@ -229,7 +218,8 @@ module _ (w : World) (known : Known w) (cancels : AllCancels w) (created : AllCr
         (m.0, ap (λ (z : Sent). z.intent) (sym same) ∙ giver, m.2, m.1)
 
     -- no EVENT_CANCEL of it was sent
-    uncancelled : (g : Handle) (d : Subscription) → under x.core.subscriptions g ≡ Some d → stands_in d.stage ≡ true → (own : IsMeant c.lists (meant_by x.names.subscriptions g) (SubId (wire_of g))) → l ≡ own.0 → Gives s.message (SubId (wire_of g))
+    uncancelled : (g : Handle) (d : Subscription) → under x.core.subscriptions g ≡ Some d → stands_in d.stage ≡ true
+        → (own : IsMeant c.lists (meant_by x.names.subscriptions g) (SubId (wire_of g))) → l ≡ own.0 → Gives s.message (SubId (wire_of g))
         → (b : ℕ) → IsUncancelled (client_conduct c.lists) l b s.message
     uncancelled g d there stands own place gives b i m late before at_m stops same_sid same_id =
         let v = At-mapped (λ (z : Sent). z.message) c.lists.up i m at_m in
@@ -253,12 +243,16 @@ module _ (w : World) (known : Known w) (cancels : AllCancels w) (created : AllCr
       quoted : (h : Header) → QuotesHeader m h → Is command.Error m → h.command ≡ s.message.command → h.p2 ≡ s.message.p2 → Quotes s.message m
       quoted h quotes errs same id = (errs, (h, quotes.head, quotes.text, quotes.spells, quotes.parts, same, id))
 
-      pub frees-it : (id : Id) → Gives s.message id → GoneBy c.at_client x.core m s.message id → IsFree (client_conduct c.lists) l (length c.lists.up) ⊎ Frees (client_conduct c.lists) l b s.message m
+      pub frees-it : (id : Id) → Gives s.message id → GoneBy c.at_client x.core m s.message id
+          → IsFree (client_conduct c.lists) l (length c.lists.up) ⊎ Frees (client_conduct c.lists) l b s.message m
       frees-it (Cid k) gives gone =
-          inr (inl (gives.0, elim gone.5 [
-            | inl fails ↦ inl (fails.0, fails.1 ∙ gone.3 ∙ sym gives.1)
-            | inr clears ↦ inr (clears.0, clears.1 ∙ gone.3 ∙ sym gives.1)
-          ]))
+          inr (inl (
+            gives.0,
+            elim gone.5 [
+              | inl fails ↦ inl (fails.0, fails.1 ∙ gone.3 ∙ sym gives.1)
+              | inr clears ↦ inr (clears.0, clears.1 ∙ gone.3 ∙ sym gives.1)
+            ],
+          ))
       frees-it (Ioid k) gives gone = elim gone.6 [
         | inl replies ↦ inr (inr (inl (gives.0, inl (replies.0 ∙ sym gone.5, replies.1 ∙ gone.3 ∙ sym gives.1))))
         | inr (inl errs) ↦ inr (inr (inl (gives.0, inr (quoted errs.1.0 errs.1.1 errs.0 (errs.1.2 ∙ sym gone.5) (errs.1.3 ∙ gone.3 ∙ sym gives.1)))))
@@ -312,7 +306,8 @@ module _ (w : World) (known : Known w) (cancels : AllCancels w) (created : AllCr
           no-create k e = cc
 
   -- so it is free in the words of the statement, as soon as that was read
-  pub freed-now : (d : Joined) → Onward c d → (l : ℕ) (s : Sent) (id : Id) → At c.lists.up l s → Gives s.message id → IsFreedNow c d x s.message id → IsFree (client_conduct d.lists) l (length c.lists.up)
+  pub freed-now : (d : Joined) → Onward c d → (l : ℕ) (s : Sent) (id : Id) → At c.lists.up l s → Gives s.message id → IsFreedNow c d x s.message id
+      → IsFree (client_conduct d.lists) l (length c.lists.up)
   freed-now d on l s id at gives now =
       let t : Told = now.0 in
       let g : Step = now.1 in

@@ -1,15 +1,13 @@
 -- The ids that a client gives on one circuit: what it sends gives ids that it holds then, of indices that it held not.
-use Rattle.std.proofs.Common.{◌≡◌, ℕ, zero, suc, ◌+◌, ◌%◌, ◌<◌, ◌≤◌, ◌⊎◌, inl, inr, Bool, true, false, ◌&&◌, cond, List, [], ◌∷◌, ◌++◌, length, Option, Some, None, refl, sym, ap, ◌∙◌, subst, arith}
+use Rattle.std.proofs.Common.{◌≡◌, ℕ, zero, suc, ◌+◌, ◌%◌, ◌<◌, ◌≤◌, ◌⊎◌, inl, inr, true, List, [], ◌∷◌, ◌++◌, length, Option, Some, None, refl, sym, ap, ◌∙◌, subst, arith}
 use Rattle.std.specs.List.{cons_option}
-use Rattle.std.specs.Prelude.{Ok, filter, filter_map, map, option_map, unwrap_or}
-use Rattle.std.proofs.lemmas.Bool.{and_parts, both_ways}
+use Rattle.std.specs.Prelude.{filter_map}
 use Rattle.ca_text.specs.Command.{command_number}
 use Rattle.ca_text.specs.Limits.{arena_slots}
 use Rattle.ca_text.specs.Place.{At}
-use Rattle.ca_text.proofs.Places.{At-mapped, At-parts, At-within, some_is}
-use Rattle.ca_text.specs.declared.command.Command.TheVariants as command
+use Rattle.ca_text.proofs.Places.{At-parts, At-within, some_is}
 use Rattle.ca_arena.specs.declared.handle.Handle.{Handle}
-use Rattle.ca_ids.specs.Table.{MayGive, Table, held, same_handle, under, with_held}
+use Rattle.ca_ids.specs.Table.{MayGive, Table, held, under}
 use Rattle.ca_ids.specs.Wire.{wire_of}
 use Rattle.ca_ids.proofs.Wires.{wire_of-index}
 use Rattle.ca_monitor.specs.Subscriptions.{Subscription}
@@ -18,7 +16,7 @@ use Rattle.ca_wire.specs.Fields.{Fields}
 use Rattle.ca_model.specs.Answers.{Sending}
 use Rattle.ca_model.specs.Client.{Channel, Client, is_on_in}
 use Rattle.ca_model.specs.Sends.{SameIndex}
-use Rattle.ca_model.specs.Speech.{Cid, Gives, Id, Ioid, Is, SubId}
+use Rattle.ca_model.specs.Speech.{Cid, Gives, Id, Ioid, SubId}
 use Rattle.ca_model_client.proofs.Standings.{at-filter-map}
 use Rattle.ca_model_client.proofs.Tables.{given-none, one-at-index, one-value, place, under-at}
 use Rattle.ca_laws_circuit.specs.Held.{AreFew, IsHeld, has_id, is_asked}
@@ -46,7 +44,8 @@ rests-held on x y m (Cid n) r held = (let w = r.channels held.0 held.1 held.2 he
 rests-held on x y m (Ioid n) r held = (let w = r.requests held.0 held.1 held.2 held.4 in (held.0, w.0, w.1, held.3, w.2, held.5 ∙ ap (λ (a : Asked). command_number (command_of a)) (sym w.3)))
 rests-held on x y m (SubId n) r held = (let w = r.subscriptions held.0 held.1 held.2 held.4 in (held.0, w.0, w.1, held.3, w.2))
 
-pub but-held : (on c : Handle) (x y : Client) (read m : Fields) (id : Id) → RestsBut on c read x y → HeldBy on x m id → HeldBy on y m id ⊎ ((c ≡ on) × GoneBy on x read m id)
+pub but-held : (on c : Handle) (x y : Client) (read m : Fields) (id : Id) → RestsBut on c read x y → HeldBy on x m id
+    → HeldBy on y m id ⊎ ((c ≡ on) × GoneBy on x read m id)
 but-held on c x y read m (Cid n) r held = elim (r.channels held.0 held.1 held.2 held.4) [
   | inl w ↦ inl (held.0, w.0, w.1, held.3, w.2)
   | inr gone ↦ inr (gone.0, (held.0, held.1, held.2, held.3, held.4, gone.1))
@@ -64,7 +63,8 @@ but-held on c x y read m (SubId n) r held = elim (r.subscriptions held.0 held.1 
 pub record Given (on : Handle) (x y : Client) (sent : List Sending) : Type 0 where
   pub held : (i : ℕ) (s : Sending) (id : Id) → At sent i s → s.circuit ≡ on → Gives s.message id → HeldBy on y s.message id
   pub idle : (i : ℕ) (s : Sending) (id : Id) → At sent i s → s.circuit ≡ on → Gives s.message id → IsIdle on x id
-  pub once : (i j : ℕ) (s r : Sending) (a b : Id) → i < j → At sent i s → At sent j r → s.circuit ≡ on → r.circuit ≡ on → Gives s.message a → Gives r.message b → SameIndex a b → ⊥
+  pub once : (i j : ℕ) (s r : Sending) (a b : Id) → i < j → At sent i s → At sent j r → s.circuit ≡ on → r.circuit ≡ on → Gives s.message a
+      → Gives r.message b → SameIndex a b → ⊥
 
 -- no id is given
 abbrev pub GivesNone : List Sending → Type 0
@@ -97,7 +97,8 @@ only-one s r zero at = (refl, sym (some_is s r at))
 only-one s r (suc i) at = absurd (no-element i r at)
 
 -- one message
-pub given-one : (on : Handle) (x y : Client) (s : Sending) → (s.circuit ≡ on → (id : Id) → Gives s.message id → HeldBy on y s.message id × IsIdle on x id) → Given on x y (s ∷ [])
+pub given-one : (on : Handle) (x y : Client) (s : Sending)
+    → (s.circuit ≡ on → (id : Id) → Gives s.message id → HeldBy on y s.message id × IsIdle on x id) → Given on x y (s ∷ [])
 given-one on x y s each = record {
   held = λ i r id at here gives. (let one = (only-one s r i at).1 in subst (λ (v : Sending). HeldBy on y v.message id) (sym one) (each (ap (λ (v : Sending). v.circuit) (sym one) ∙ here) id (subst (λ (v : Sending). Gives v.message id) one gives)).0);
   idle = λ i r id at here gives. (let one = (only-one s r i at).1 in (each (ap (λ (v : Sending). v.circuit) (sym one) ∙ here) id (subst (λ (v : Sending). Gives v.message id) one gives)).1);
@@ -105,7 +106,8 @@ given-one on x y s each = record {
 }
 
 -- one after another
-pub given-then : (on : Handle) (x y z : Client) (ss rs : List Sending) → Rests on x y → Rests on y z → Given on x y ss → Given on y z rs → Given on x z (ss ++ rs)
+pub given-then : (on : Handle) (x y z : Client) (ss rs : List Sending) → Rests on x y → Rests on y z → Given on x y ss → Given on y z rs
+    → Given on x z (ss ++ rs)
 given-then on x y z ss rs first_rests then_rests a b = record {
   held = λ i s id at here gives. elim (At-parts ss rs i s at) [
     | inl first ↦ rests-held on y z s.message id then_rests (a.held i s id first here gives)
@@ -170,13 +172,15 @@ module _ {T : Type 0} (t : Table T) (few : length t ≤ arena_slots) where
   slot-of : (g : Handle) (v : T) → under t g ≡ Some v → g.index < arena_slots
   slot-of g v is = (let in_it : g.index < length t = At-within t g.index (place g v) (under-at t g v is) in omega (arith, in_it, few))
 
-  same-slot : (g h : Handle) (v : T) (n : ℕ) → under t g ≡ Some v → h.index < arena_slots → wire_of g ≡ n → n % arena_slots ≡ wire_of h % arena_slots → g.index ≡ h.index
+  same-slot : (g h : Handle) (v : T) (n : ℕ) → under t g ≡ Some v → h.index < arena_slots → wire_of g ≡ n → n % arena_slots ≡ wire_of h % arena_slots
+      → g.index ≡ h.index
   same-slot g h v n is slot wire same =
       let a : wire_of g % 65536 ≡ g.index = wire_of-index g (let lt : g.index < arena_slots = slot-of g v is in omega (arith, lt)) in
       let b : wire_of h % 65536 ≡ h.index = wire_of-index h (omega (arith, slot)) in
       sym a ∙ ap (λ (k : ℕ). k % 65536) wire ∙ same ∙ b
 
-  pub same-holder : (g h : Handle) (v w : T) (n : ℕ) → under t g ≡ Some v → under t h ≡ Some w → wire_of g ≡ n → n % arena_slots ≡ wire_of h % arena_slots → (g ≡ h) × (v ≡ w)
+  pub same-holder : (g h : Handle) (v w : T) (n : ℕ) → under t g ≡ Some v → under t h ≡ Some w → wire_of g ≡ n
+      → n % arena_slots ≡ wire_of h % arena_slots → (g ≡ h) × (v ≡ w)
   same-holder g h v w n is there wire same =
       let one : g ≡ h = one-at-index t g h v w is there (same-slot g h v n is (slot-of h w there) wire same) in
       (one, one-value t h v w (subst (λ (k : Handle). under t k ≡ Some v) one is) there)
@@ -185,14 +189,16 @@ module _ {T : Type 0} (t : Table T) (few : length t ≤ arena_slots) where
   new-holder g h v n is may wire same = given-none t g h v may is (same-slot g h v n is may.slot wire same)
 
 -- what has no id here leaves its index idle
-pub idle-channel : (on : Handle) (x : Client) (h : Handle) (v : Channel) → AreFew x → under x.channels h ≡ Some v → (is_on_in is_asked on v ≡ true → ⊥) → IsIdle on x (Cid (wire_of h))
+pub idle-channel : (on : Handle) (x : Client) (h : Handle) (v : Channel) → AreFew x → under x.channels h ≡ Some v
+    → (is_on_in is_asked on v ≡ true → ⊥) → IsIdle on x (Cid (wire_of h))
 idle-channel on x h v few there away (Cid n) m held same =
     let one = same-holder x.channels few.channels held.0 h held.1 v n held.2 there held.3 same in
     away (subst (λ (c : Channel). is_on_in is_asked on c ≡ true) one.1 held.4)
 idle-channel on x h v few there away (Ioid n) m held same = absurd same
 idle-channel on x h v few there away (SubId n) m held same = absurd same
 
-pub idle-subscription : (on : Handle) (x : Client) (g : Handle) (d : Subscription) → AreFew x → under x.subscriptions g ≡ Some d → (has_id x.channels on d ≡ true → ⊥) → IsIdle on x (SubId (wire_of g))
+pub idle-subscription : (on : Handle) (x : Client) (g : Handle) (d : Subscription) → AreFew x → under x.subscriptions g ≡ Some d
+    → (has_id x.channels on d ≡ true → ⊥) → IsIdle on x (SubId (wire_of g))
 idle-subscription on x g d few there away (SubId n) m held same =
     let one = same-holder x.subscriptions few.subscriptions held.0 g held.1 d n held.2 there held.3 same in
     away (subst (λ (z : Subscription). has_id x.channels on z ≡ true) one.1 held.4)
@@ -211,7 +217,8 @@ idle-new-subscription on x g few may (Ioid n) m held same = absurd same
 
 -- ---- places of a list that was filtered
 
-pub filter-map-order : {A B : Type 0} (f : A → Option B) (xs : List A) (i j : ℕ) (y z : B) → i < j → At (filter_map f xs) i y → At (filter_map f xs) j z
+pub filter-map-order : {A B : Type 0} (f : A → Option B) (xs : List A) (i j : ℕ) (y z : B) → i < j → At (filter_map f xs) i y
+    → At (filter_map f xs) j z
     → (k l : ℕ) × (a b : A) × (k < l) × At xs k a × At xs l b × (f a ≡ Some y) × (f b ≡ Some z)
 filter-map-order f [] i j y z lt at_y at_z = absurd (no-element i y at_y)
 filter-map-order {A} {B} f (x ∷ xs) i j y z lt at_y at_z = go (f x) refl i j lt at_y at_z (λ a b less u v. filter-map-order f xs a b y z less u v)

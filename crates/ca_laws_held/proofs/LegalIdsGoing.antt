@@ -1,23 +1,22 @@
 -- What each event leaves of the ids that clients hold on circuits, and what it gives there.
-use Rattle.std.proofs.Common.{◌≡◌, ℕ, zero, suc, ◌+◌, ◌<◌, ◌≤◌, ◌⊎◌, inl, inr, Bool, true, false, ◌&&◌, cond, eqb, List, [], ◌∷◌, ◌++◌, length, Option, Some, None, refl, sym, ap, ◌∙◌, subst, arith}
+use Rattle.std.proofs.Common.{◌≡◌, ℕ, ◌+◌, ◌<◌, ◌≤◌, ◌⊎◌, inl, inr, Bool, true, false, ◌&&◌, cond, eqb, List, [], ◌∷◌, ◌++◌, length, Option, Some, None, refl, sym, ap, ◌∙◌, subst, arith}
 use Rattle.std.specs.Prelude.{drop, filter, find, is_none, map, option_and_then, option_map, slice_set, unwrap_or}
 use Rattle.std.specs.List.{FoldsTo}
-use Rattle.std.proofs.lemmas.Bool.{and_parts, both_ways, eq-eqb, eqb-true}
+use Rattle.std.proofs.lemmas.Bool.{both_ways, eq-eqb}
 use Rattle.std.proofs.lemmas.List.{append-nil}
 use Rattle.ca_text.specs.Place.{At}
-use Rattle.ca_text.proofs.Places.{At-append, At-last, At-map, At-mapped, At-one, At-parts, At-set, At-snoc, At-within}
+use Rattle.ca_text.proofs.Places.{At-append, At-last, At-mapped, At-one, At-parts, At-set, At-snoc, At-within}
 use Rattle.ca_arena.specs.declared.handle.Handle.{Handle}
 use Rattle.ca_dbr.specs.Elements.{Elements}
 use Rattle.ca_ids.specs.Table.{same_handle, under, with_held}
-use Rattle.ca_ids.specs.Wire.{wire_of}
-use Rattle.ca_monitor.specs.Subscriptions.{Subscription, drains_in, stands_in}
+use Rattle.ca_monitor.specs.Subscriptions.{Subscription}
 use Rattle.ca_requests.specs.Requests as request
 use Rattle.ca_wire.specs.Fields.{Fields}
 use Rattle.ca_model.specs.Answers.{Closed, Closing, Left, NeedBytes, Notices, Sending, Stepped}
 use Rattle.ca_model.specs.Answers as answer
 use Rattle.ca_model.specs.Client.{Channel, Client, ClientCircuit, Connection, Live, On, connection_at, ended, is_on_in, later, out_bytes, sending, standing_at}
-use Rattle.ca_model.specs.ClientCalls.{LiveChannel, Opening, Shape, cancel_sent, cleared, clearing_sent, event_add_sent, issued, new_subscription, opened, put_sent, read_sent, write_sent}
-use Rattle.ca_model.specs.ClientEnds.{ConnectsOn, StepsOn, Ticking, after_taking, circuits_ticked, handed_over, searches_made}
+use Rattle.ca_model.specs.ClientCalls.{LiveChannel, Opening, cancel_sent, clearing_sent, event_add_sent, issued, new_subscription, opened, put_sent, read_sent, write_sent}
+use Rattle.ca_model.specs.ClientEnds.{ConnectsOn, StepsOn, after_taking, circuits_ticked, handed_over, searches_made}
 use Rattle.ca_model.specs.Ends.{Address}
 use Rattle.ca_model.specs.Hears.{Effect}
 use Rattle.ca_model.specs.History.{Intent, Line, Sent, Step, Told}
@@ -43,11 +42,10 @@ use Rattle.ca_laws_runs.proofs.ClientsMore.{unconnected-is, wanted-there}
 use Rattle.ca_laws_held.proofs.AddedApart.{filter-order}
 use Rattle.ca_laws_held.proofs.Ends.{From, from-itself}
 use Rattle.ca_laws_held.proofs.HeardEnds.{IsEndAfter, after-sent, sent-other}
-use Rattle.ca_laws_held.proofs.LegalIdsCalls.{Away, rests-cancelled, rests-cleared, rests-connected, rests-ended, rests-given, rests-handed, rests-issued, rests-opened, rests-subscribed, rests-ticked}
-use Rattle.ca_laws_held.proofs.LegalIdsGiven.{Given, GivesNone, GoneBy, HeldBy, IsIdle, but-held, given-nothing, gives-of, none-given, rests-held}
-use Rattle.ca_laws_held.proofs.LegalIdsRests.{Rests, RestsBut, rests-all-received, rests-heard, rests-itself, rests-same, rests-sending, rests-then}
+use Rattle.ca_laws_held.proofs.LegalIdsCalls.{rests-cancelled, rests-cleared, rests-connected, rests-ended, rests-given, rests-handed, rests-issued, rests-opened, rests-subscribed, rests-ticked}
+use Rattle.ca_laws_held.proofs.LegalIdsGiven.{Given, GoneBy, HeldBy, IsIdle, but-held, given-nothing, gives-of, none-given, rests-held}
+use Rattle.ca_laws_held.proofs.LegalIdsRests.{Rests, RestsBut, rests-all-received, rests-heard, rests-same, rests-sending, rests-then}
 use Rattle.ca_laws_held.proofs.LegalIdsSent.{given-all-received, given-connected, given-heard, given-issued, given-subscribed, none-cancelled, none-cleared, none-given-on, none-ticked, none-written}
-use Rattle.ca_laws_held.proofs.OnceStill.{still-add, still-cut-server, still-finish, still-post, still-pump, still-remove, still-server-restart, still-server-step}
 use Rattle.ca_laws_held.proofs.OnceWorld.{on-circuit-sent}
 use Rattle.ca_laws_held.proofs.Servers.{from-add, from-cut-server, from-finish, from-post, from-pump, from-remove, from-server-restart, from-server-step}
 
@@ -64,7 +62,8 @@ pub record IdsStep (Freed : (c d : Joined) → ClientSide → Fields → Id → 
   pub up : (p : ℕ) (s : Sent) → At c.lists.up p s → At d.lists.up p s
   pub idle : (p : ℕ) (s : Sent) (id : Id) → length c.lists.up ≤ p → At d.lists.up p s → Gives s.message id
       → (x : ClientSide) × At w.clients c.client x × (c.lists.client_open ≡ true) × IsIdle c.at_client x.core id
-  pub once : (p q : ℕ) (s r : Sent) (a b : Id) → length c.lists.up ≤ p → p < q → At d.lists.up p s → At d.lists.up q r → Gives s.message a → Gives r.message b → SameIndex a b → ⊥
+  pub once : (p q : ℕ) (s r : Sent) (a b : Id) → length c.lists.up ≤ p → p < q → At d.lists.up p s → At d.lists.up q r → Gives s.message a
+      → Gives r.message b → SameIndex a b → ⊥
   pub held : (y : ClientSide) → At new.clients d.client y → d.lists.client_open ≡ true
       → (x : ClientSide) × At w.clients c.client x × (c.lists.client_open ≡ true)
       × ((m : Fields) (id : Id) → HeldBy c.at_client x.core m id → HeldBy d.at_client y.core m id ⊎ Freed c d x m id)
@@ -77,11 +76,13 @@ AllStep Freed w new = (n : ℕ) (d : Joined) → At new.circuits n d → (c : Jo
 -- ---- what was sent on a circuit
 
 -- the order of what was sent is that of the call
-on-order : (i : ℕ) (n : Names) (sent : List Sending) (a : Joined) (p q : ℕ) (s r : Sent) → p < q → At (sent_on i n sent a) p s → At (sent_on i n sent a) q r
+on-order : (i : ℕ) (n : Names) (sent : List Sending) (a : Joined) (p q : ℕ) (s r : Sent) → p < q → At (sent_on i n sent a) p s
+    → At (sent_on i n sent a) q r
     → (k l : ℕ) × (u v : Sending) × (k < l) × At sent k u × At sent l v × (u.circuit ≡ a.at_client) × (v.circuit ≡ a.at_client) × (s ≡ stamped n u) × (r ≡ stamped n v)
 on-order i n sent a p q s r lt at_s at_r = go (eqb a.client i && a.lists.client_open) at_s at_r
   where
-    go : (b : Bool) → At (cond b (map (stamped n) (filter (λ (z : Sending). same_handle z.circuit a.at_client) sent)) []) p s → At (cond b (map (stamped n) (filter (λ (z : Sending). same_handle z.circuit a.at_client) sent)) []) q r
+    go : (b : Bool) → At (cond b (map (stamped n) (filter (λ (z : Sending). same_handle z.circuit a.at_client) sent)) []) p s
+        → At (cond b (map (stamped n) (filter (λ (z : Sending). same_handle z.circuit a.at_client) sent)) []) q r
         → (k l : ℕ) × (u v : Sending) × (k < l) × At sent k u × At sent l v × (u.circuit ≡ a.at_client) × (v.circuit ≡ a.at_client) × (s ≡ stamped n u) × (r ≡ stamped n v)
     go true f g =
         let u = At-mapped (stamped n) (filter (λ (z : Sending). same_handle z.circuit a.at_client) sent) p s f in
@@ -171,11 +172,11 @@ ids-still Freed w new clients back n d at =
         idle = λ p s id past there gives. absurd (none p s past there);
         once = λ p q s r a v past lt at_s at_r gives_s gives_r same. none p s past at_s;
         held = λ y at_y opened. (
-            y,
-            subst (λ (k : ℕ). At w.clients k y) b.2 (subst (λ (l : List ClientSide). At l d.client y) clients at_y),
-            b.4 opened,
-            λ m id held_it. inl (subst (λ (h : Handle). HeldBy h y.core m id) (sym b.3) held_it),
-            λ p s id past there gives. absurd (none p s past there),
+          y,
+          subst (λ (k : ℕ). At w.clients k y) b.2 (subst (λ (l : List ClientSide). At l d.client y) clients at_y),
+          b.4 opened,
+          λ m id held_it. inl (subst (λ (h : Handle). HeldBy h y.core m id) (sym b.3) held_it),
+          λ p s id past there gives. absurd (none p s past there),
         );
       },
     )
@@ -191,13 +192,16 @@ sent-none i n a = go (eqb a.client i && a.lists.client_open)
     go true = refl
     go false = refl
 
-end-quiet : (i : ℕ) (n : Names) (a d : Joined) → d.client ≡ a.client → d.at_client ≡ a.at_client → (d.lists.client_open ≡ true → a.lists.client_open ≡ true) → d.lists.up ≡ a.lists.up → IsEndAfter i n [] a d
+end-quiet : (i : ℕ) (n : Names) (a d : Joined) → d.client ≡ a.client → d.at_client ≡ a.at_client
+    → (d.lists.client_open ≡ true → a.lists.client_open ≡ true) → d.lists.up ≡ a.lists.up → IsEndAfter i n [] a d
 end-quiet i n a d client handle opens up =
     record { client = client; handle = handle; opens = opens; up = up ∙ sym (ap (λ (l : List Sent). a.lists.up ++ l) (sent-none i n a) ∙ append-nil a.lists.up) }
 
 -- a call of client i
 module _ (Freed : (c d : Joined) → ClientSide → Fields → Id → Type 0) (w new : World) (i : ℕ) (x : ClientSide) (at : At w.clients i x) where
-  ids-ends : (z : ClientSide) (names : Names) (sent : List Sending) → new.clients ≡ slice_set w.clients i z → AllEnds i names sent w.circuits new.circuits → ((on : Handle) → Given on x.core z.core sent) → ((on : Handle) → Rests on x.core z.core) → AllStep Freed w new
+  ids-ends : (z : ClientSide) (names : Names) (sent : List Sending) → new.clients ≡ slice_set w.clients i z
+      → AllEnds i names sent w.circuits new.circuits → ((on : Handle) → Given on x.core z.core sent) → ((on : Handle) → Rests on x.core z.core)
+      → AllStep Freed w new
   ids-ends z names sent clients ends gives rests n d at_d =
       let b = ends n d at_d in (
         b.0,
@@ -277,7 +281,8 @@ module _ (Freed : (c d : Joined) → ClientSide → Fields → Id → Type 0) (w
           (λ on. subst (λ (v : Client). Rests on x.core v) (sym did.3.4.1) (rests-then on x.core z (sending (s ∷ []) z) (rests-subscribed on x.core did.0 d did.3.3) (rests-sending on (s ∷ []) z)))
     ]
       where
-        live-has : (h : Handle) (l : LiveChannel) → standing_at x.core h ≡ Some (On l.circuit (Live l.native l.rights)) → (on : Handle) → l.circuit ≡ on → unwrap_or (option_map (is_on_in is_subscribed on) (under x.core.channels h)) false ≡ true
+        live-has : (h : Handle) (l : LiveChannel) → standing_at x.core h ≡ Some (On l.circuit (Live l.native l.rights)) → (on : Handle)
+            → l.circuit ≡ on → unwrap_or (option_map (is_on_in is_subscribed on) (under x.core.channels h)) false ≡ true
         live-has h l live on same =
             let f = found-standing x.core h (On l.circuit (Live l.native l.rights)) live in
             ap (λ (o : Option Channel). unwrap_or (option_map (is_on_in is_subscribed on) o) false) f.1
@@ -371,7 +376,8 @@ module _ (Freed : (c d : Joined) → ClientSide → Fields → Id → Type 0) (w
       ]
 
   -- the end of this circuit has ended: of others nothing is lost
-  ids-ended : ClientsStand w → j.lists.client_open ≡ true → (c : Closing) (core : Client) → core ≡ ended j.at_client x.core → new ≡ client_ended k j x c core w → AllStep Freed w new
+  ids-ended : ClientsStand w → j.lists.client_open ≡ true → (c : Closing) (core : Client) → core ≡ ended j.at_client x.core
+      → new ≡ client_ended k j x c core w → AllStep Freed w new
   ids-ended stands opened c core core_is is n d at_d =
       let z : ClientSide = record x { core = core; names = x.names } in
       let clients : new.clients ≡ slice_set w.clients j.client z = ap (λ (v : World). v.clients) is in
@@ -400,11 +406,13 @@ module _ (Freed : (c d : Joined) → ClientSide → Fields → Id → Type 0) (w
 
 -- ---- a message is read
 
-ids-hearing : (w new : World) (k : ℕ) (j : Joined) (x : ClientSide) → At w.circuits k j → At w.clients j.client x → j.lists.client_open ≡ true → ClientsStand w → HearsSent w → HappensClientStep w k j x new
+ids-hearing : (w new : World) (k : ℕ) (j : Joined) (x : ClientSide) → At w.circuits k j → At w.clients j.client x → j.lists.client_open ≡ true
+    → ClientsStand w → HearsSent w → HappensClientStep w k j x new
     → ((n : ℕ) (c : Joined) → At w.circuits n c → (d : Joined) × At new.circuits n d × ((i : ℕ) (t : Told) → At c.lists.down i t → At d.lists.down i t)) → AllStep IsFreedNow w new
 ids-hearing w new k j x at there opened stands hears happens tells = go (connection_at x.core j.at_client) refl happens.0 happens.1 happens.2 happens.3 happens.4
   where
-    go : (o : Option Connection) → connection_at x.core j.at_client ≡ o → (did : Stepped) (sent : List Sending) (core : Client) → StepsOn x.core j.at_client o did sent core → new ≡ client_stepped k j x did sent core w → AllStep IsFreedNow w new
+    go : (o : Option Connection) → connection_at x.core j.at_client ≡ o → (did : Stepped) (sent : List Sending) (core : Client)
+        → StepsOn x.core j.at_client o did sent core → new ≡ client_stepped k j x did sent core w → AllStep IsFreedNow w new
     go None is did sent core steps new_is = absurd (both_ways (is_none (connection_at x.core j.at_client)) (stands.connected k j x at there opened) (ap is_none is))
     go (Some d) is NeedBytes sent core steps new_is = ids-refused IsFreedNow w new j.client x there (ap (λ (z : World). z.clients) new_is) (ap (λ (z : World). z.circuits) new_is)
     go (Some d) is (Closed c) sent core steps new_is = ids-ended IsFreedNow w new k j x at there stands opened c core steps.1.2 new_is
@@ -462,7 +470,8 @@ ids-hearing w new k j x at there opened stands hears happens tells = go (connect
         rests : (on : Handle) → RestsBut on j.at_client steps.m x.core core
         rests on = (let r = rests-heard on y j.at_client steps.m e attached steps.hears in record { channels = r.channels; requests = r.requests; subscriptions = r.subscriptions })
 
-        freed : (n : ℕ) (b : Joined) → n ≡ k → At new.circuits n b → (f : Fields) (id : Id) → GoneBy j.at_client x.core steps.m f id → IsFreedNow j b x f id
+        freed : (n : ℕ) (b : Joined) → n ≡ k → At new.circuits n b → (f : Fields) (id : Id) → GoneBy j.at_client x.core steps.m f id
+            → IsFreedNow j b x f id
         freed n b same at_b f id gone =
             let t = hears k j x d steps.m steps.rest at there opened is steps.first in
             let c = tells k j at in
@@ -487,7 +496,8 @@ ids-hearing w new k j x at there opened stands hears happens tells = go (connect
 
 -- ---- a circuit is made
 
-ids-accept : (Freed : (c d : Joined) → ClientSide → Fields → Id → Type 0) (w new : World) (c : ℕ) (x : ClientSide) (v : WantsFirst w x) → At w.clients c x → ClientsStand w → HappensAccept w c x v new → AllStep Freed w new
+ids-accept : (Freed : (c d : Joined) → ClientSide → Fields → Id → Type 0) (w new : World) (c : ℕ) (x : ClientSide) (v : WantsFirst w x)
+    → At w.clients c x → ClientsStand w → HappensAccept w c x v new → AllStep Freed w new
 ids-accept Freed w new c x v at stands happens = elim happens.leaves [
   | inl refusal ↦ ids-refused Freed w new c x at (ap (λ (z : World). z.clients) refusal.1) (ap (λ (z : World). z.circuits) refusal.1)
   | inr did ↦ λ n d at_d.
@@ -533,7 +543,8 @@ ids-accept Freed w new c x v at stands happens = elim happens.leaves [
 
 -- ---- a client begins again
 
-ids-restart : (Freed : (c d : Joined) → ClientSide → Fields → Id → Type 0) (w new : World) (i : ℕ) (x : ClientSide) → At w.clients i x → HappensClientRestart w i x new → AllStep Freed w new
+ids-restart : (Freed : (c d : Joined) → ClientSide → Fields → Id → Type 0) (w new : World) (i : ℕ) (x : ClientSide) → At w.clients i x
+    → HappensClientRestart w i x new → AllStep Freed w new
 ids-restart Freed w new i x at happens n d at_d =
     let m = At-mapped (client_gone i x) w.circuits n d (subst (λ (v : World). At v.circuits n d) happens at_d) in
     let g = gone m.0 (eqb m.0.client i) m.0.lists.client_open in
@@ -553,14 +564,16 @@ ids-restart Freed w new i x at happens n d at_d =
     gone a true false = (refl, refl, λ o. o, refl)
     gone a false c = (refl, refl, λ o. o, refl)
 
-    closed : (a : Joined) (b c : Bool) → b ≡ true → a.lists.client_open ≡ c → (cond (b && c) (client_closed (left a) a) a).lists.client_open ≡ true → ⊥
+    closed : (a : Joined) (b c : Bool) → b ≡ true → a.lists.client_open ≡ c → (cond (b && c) (client_closed (left a) a) a).lists.client_open ≡ true
+        → ⊥
     closed a true true mine opened o = both_ways false refl o
     closed a true false mine opened o = both_ways a.lists.client_open opened o
     closed a false c mine opened o = both_ways false refl mine
 
 -- ---- a moment
 
-pub ids-tick : (Freed : (c d : Joined) → ClientSide → Fields → Id → Type 0) (moment : ℕ) (w : World) (i : ℕ) (new : World) → TicksOne moment w i new → AllStep Freed w new
+pub ids-tick : (Freed : (c d : Joined) → ClientSide → Fields → Id → Type 0) (moment : ℕ) (w : World) (i : ℕ) (new : World) → TicksOne moment w i new
+    → AllStep Freed w new
 ids-tick Freed moment w i new (x, at, t, sent, core, does, is) n d at_d =
     let a = At-mapped (after_tick i t.closings) (map (sent_to i x.names sent) w.circuits) n d (subst (λ (v : World). At v.circuits n d) is at_d) in
     let b = after-sent i x.names sent w.circuits n a.0 a.1 in
@@ -589,7 +602,8 @@ ids-tick Freed moment w i new (x, at, t, sent, core, does, is) n d at_d =
     ticked a false o = (refl, refl, λ o. o, refl)
 
     -- an end that is open still was not closed
-    stays : (a : Joined) → a.client ≡ i → a.lists.client_open ≡ true → (l : ℕ) (f : Left) → At t.closings l f → f.circuit ≡ a.at_client → (after_tick i t.closings a).lists.client_open ≡ true → ⊥
+    stays : (a : Joined) → a.client ≡ i → a.lists.client_open ≡ true → (l : ℕ) (f : Left) → At t.closings l f → f.circuit ≡ a.at_client
+        → (after_tick i t.closings a).lists.client_open ≡ true → ⊥
     stays a mine opened l f there same now_open =
         let found = at-find (λ (z : Left). same_handle z.circuit a.at_client) t.closings l f there (subst (λ (h : Handle). same_handle h a.at_client ≡ true) (sym same) (same-itself a.at_client)) in
         go found.0 (eqb a.client i) (eq-eqb a.client i mine) a.lists.client_open opened (find (λ (z : Left). same_handle z.circuit a.at_client) t.closings) found.1 now_open
@@ -597,7 +611,9 @@ ids-tick Freed moment w i new (x, at, t, sent, core, does, is) n d at_d =
         none-some : (f : Left) → (let o : Option Left = None in o ≡ Some f) → ⊥
         none-some f e = cc
 
-        go : (f : Left) (b : Bool) → b ≡ true → (c : Bool) → c ≡ true → (o : Option Left) → o ≡ Some f → (cond (b && c) (unwrap_or (option_map (λ (left : List ℕ). client_closed left a) (option_map (λ (z : Left). z.bytes) o)) a) a).lists.client_open ≡ true → ⊥
+        go : (f : Left) (b : Bool) → b ≡ true → (c : Bool) → c ≡ true → (o : Option Left) → o ≡ Some f
+            → (cond (b && c) (unwrap_or (option_map (λ (left : List ℕ). client_closed left a) (option_map (λ (z : Left). z.bytes) o)) a) a).lists.client_open ≡ true
+            → ⊥
         go f true p true q (Some g) r s = both_ways false refl s
         go f true p true q None r s = none-some f r
         go f true p false q o r s = both_ways false refl q
@@ -612,7 +628,9 @@ ids-from Freed w new f = ids-still Freed w new f.clients (λ n d at. (let b = f.
 abbrev pub IsTicked : (w new : World) → Type 0
 IsTicked w new = (moment : ℕ) × (is : List ℕ) × (mid : World) × FoldsTo (TicksOne moment) w is mid × (new ≡ record mid { moment = moment })
 
-pub event-ids : (w new : World) (e : Event) → ClientsStand w → HearsSent w → Happens w e new → ((n : ℕ) (c : Joined) → At w.circuits n c → (d : Joined) × At new.circuits n d × ((i : ℕ) (t : Told) → At c.lists.down i t → At d.lists.down i t)) → AllStep IsFreedNow w new ⊎ IsTicked w new
+pub event-ids : (w new : World) (e : Event) → ClientsStand w → HearsSent w → Happens w e new
+    → ((n : ℕ) (c : Joined) → At w.circuits n c → (d : Joined) × At new.circuits n d × ((i : ℕ) (t : Told) → At c.lists.down i t → At d.lists.down i t))
+    → AllStep IsFreedNow w new ⊎ IsTicked w new
 event-ids w new e s hears happens tells = go e happens
   where
     few : (i : ℕ) (x : ClientSide) → At w.clients i x → circuit_held.AreFew x.core

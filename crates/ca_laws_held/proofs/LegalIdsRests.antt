@@ -1,31 +1,23 @@
 -- What each change of a client leaves of the ids that it holds on one circuit: they are held on, or what was read frees them.
-use Rattle.std.proofs.Common.{◌≡◌, ℕ, ◌⊎◌, inl, inr, Bool, true, false, ◌&&◌, ◌||◌, cond, eqb, List, [], ◌∷◌, ◌++◌, length, Option, Some, None, refl, sym, ap, ◌∙◌, subst}
-use Rattle.std.specs.Prelude.{◌==◌, Ok, filter, find, fold, is_some, not, option_map, unwrap_or}
-use Rattle.std.proofs.lemmas.Bool.{and_from, and_parts, both_ways, cases_Bool, eqb-true, or_cases, or_left, or_right}
+use Rattle.std.proofs.Common.{◌≡◌, ℕ, ◌⊎◌, inl, inr, Bool, true, false, ◌&&◌, ◌||◌, cond, eqb, List, [], ◌∷◌, Option, Some, None, refl, sym, ap, ◌∙◌, subst}
+use Rattle.std.specs.Prelude.{option_map, unwrap_or}
+use Rattle.std.proofs.lemmas.Bool.{and_parts, both_ways, cases_Bool, eqb-true, or_cases}
 use Rattle.ca_text.specs.Command.{command_number}
-use Rattle.ca_text.specs.Place.{At}
-use Rattle.ca_text.proofs.Places.{At-append, At-last}
 use Rattle.ca_arena.specs.declared.handle.Handle.{Handle}
-use Rattle.ca_ids.specs.Table.{Table, same_handle, under, with_all, with_all_freed, with_changed, with_freed, with_held}
+use Rattle.ca_ids.specs.Table.{Table, same_handle, under, with_changed, with_freed}
 use Rattle.ca_ids.specs.Wire.{wire_of}
-use Rattle.ca_link.specs.declared.keep.Keep.{Keep}
-use Rattle.ca_link.specs.declared.keep.Keep.TheVariants.{Close, Echo, Idle}
-use Rattle.ca_link.specs.Link.{kept, with_handed}
 use Rattle.ca_monitor.specs.Subscriptions.{Stage, Stands, Subscription, confirmed_by, drains_in, is_cancelled_in, is_to, stage_over, stands_in, with_stage}
 use Rattle.ca_monitor.specs.Subscriptions as monitor
-use Rattle.ca_requests.specs.Calls.{new_request}
 use Rattle.ca_requests.specs.Meaning.{QuotesHeader}
 use Rattle.ca_requests.specs.Requests.{Asked, Request, answered_by, asks_on, command_of, was_sent_on}
 use Rattle.ca_requests.specs.Requests as request
-use Rattle.ca_search.specs.Searches as search
 use Rattle.ca_text.specs.declared.command.Command.TheVariants as command
 use Rattle.ca_wire.specs.declared.header.Header.{Header}
 use Rattle.ca_wire.specs.Fields.{Fields}
-use Rattle.ca_wire.specs.Messages.{bare, search_request}
-use Rattle.ca_model.specs.Answers.{Closing, Left, Notice, Sending}
+use Rattle.ca_wire.specs.Messages.{bare}
+use Rattle.ca_model.specs.Answers.{Notice, Sending}
 use Rattle.ca_model.specs.Client.{Channel, Client, ClientCircuit, Clearing, Connecting, Connection, Creating, Doomed, Leaving, Live, Native, On, Phase, Searching, Standing, channel_on, channels_ended, channels_on, circuit_to, connection_at, disconnected, ended, found_on, is_cleared, is_live, is_on_in, later, let_go, on_connection, out_bytes, phase_on, searched_again, sending, standing_at, with_one_sent, with_requests, with_standing, without_channel, without_circuit, without_ids}
 use Rattle.ca_model.specs.Client as phase
-use Rattle.ca_model.specs.ClientCalls.{ClientOpens, ClientSubscribes, ClientUnsubscribes, Opening, all_over, cancel_sent, cleared, clearing_sent, is_over, opened, unsubscribed, unsubscribed_all, unwanted}
 use Rattle.ca_model.specs.ClientEnds.{ConnectsOn, GivesOn, Receives, ReceivesAll, Ticking, all_searched_on, beacon_heard, begun, circuits_ticked, creating, creations, due, flow_sent, given, handed_over, is_connecting, is_name_connected, of_circuit, searches_made, searches_on, set_up, ticks, ticks_as, with_sending}
 use Rattle.ca_model.specs.ClientEnds as ends
 use Rattle.ca_model.specs.Ends.{Address}
@@ -33,21 +25,23 @@ use Rattle.ca_model.specs.Hears.{Answers, Completes, Effect, Fails, FindsAt, Hea
 use Rattle.ca_model.specs.Hears as hears
 use Rattle.ca_model.specs.Speech.{Is}
 use Rattle.ca_model_client.specs.Placed.{Attached, was_live}
-use Rattle.ca_model_client.proofs.Handles.{handle-or, not-same, same-is, same-itself, same-not}
-use Rattle.ca_model_client.proofs.Standings.{channel-on, fails-anywhere, fails-elsewhere, fails-searched, found-standing, is-on, never-cleared, on-one, searched-is, stands-as}
-use Rattle.ca_model_client.proofs.Tables.{all-back, all-freed-back, all-freed-there, all-there, changed-other, changed-own, freed-back, freed-other, held-other, one-value}
+use Rattle.ca_model_client.proofs.Handles.{handle-or, not-same, same-is}
+use Rattle.ca_model_client.proofs.Standings.{channel-on, fails-anywhere, fails-elsewhere, fails-searched, on-one, searched-is}
+use Rattle.ca_model_client.proofs.Tables.{all-freed-there, all-there, changed-other, changed-own, freed-other, one-value}
 use Rattle.ca_laws_circuit.specs.Held.{HoldAlike, has_id, is_asked, is_subscribed}
 use Rattle.ca_laws_circuit.proofs.Ended.{confirmed-is}
-use Rattle.ca_laws_circuit.proofs.Ends.{ended-elsewhere}
 use Rattle.ca_laws_circuit.proofs.Heard.{answered-is, has-too}
-use Rattle.ca_laws_circuit.proofs.Others.{cleared-away, cleared-early, cleared-elsewhere, cleared-left, passes-alike}
+use Rattle.ca_laws_circuit.proofs.Others.{passes-alike}
 use Rattle.ca_laws_circuit.proofs.Refused.{heard-is}
 
 -- What the one client holds on the circuit of this handle, the other holds too; requests ask the same.
 pub record Rests (on : Handle) (x y : Client) : Type 0 where
-  pub channels : (h : Handle) (v : Channel) → under x.channels h ≡ Some v → is_on_in is_asked on v ≡ true → (w : Channel) × (under y.channels h ≡ Some w) × (is_on_in is_asked on w ≡ true)
-  pub requests : (q : Handle) (r : Request) → under x.requests q ≡ Some r → was_sent_on on r ≡ true → (u : Request) × (under y.requests q ≡ Some u) × (was_sent_on on u ≡ true) × (u.asked ≡ r.asked)
-  pub subscriptions : (g : Handle) (d : Subscription) → under x.subscriptions g ≡ Some d → has_id x.channels on d ≡ true → (e : Subscription) × (under y.subscriptions g ≡ Some e) × (has_id y.channels on e ≡ true)
+  pub channels : (h : Handle) (v : Channel) → under x.channels h ≡ Some v → is_on_in is_asked on v ≡ true
+      → (w : Channel) × (under y.channels h ≡ Some w) × (is_on_in is_asked on w ≡ true)
+  pub requests : (q : Handle) (r : Request) → under x.requests q ≡ Some r → was_sent_on on r ≡ true
+      → (u : Request) × (under y.requests q ≡ Some u) × (was_sent_on on u ≡ true) × (u.asked ≡ r.asked)
+  pub subscriptions : (g : Handle) (d : Subscription) → under x.subscriptions g ≡ Some d → has_id x.channels on d ≡ true
+      → (e : Subscription) × (under y.subscriptions g ≡ Some e) × (has_id y.channels on e ≡ true)
 
 -- The message that was read on circuit c frees the CID of this handle, the IOID of this request, the id of this subscription.
 abbrev pub FreesCid : Fields → Handle → Type 0
@@ -238,7 +232,8 @@ module _ (on : Handle) (x : Client) (e : Effect) (c : Handle) (m : Fields) where
 
   -- a channel that was on this circuit is on it no more
   module _ (h : Handle) (p : Phase) (ch : Channel) (there : under x.channels h ≡ Some ch) (stands : ch.standing ≡ On c p) (frees : FreesCid m h) where
-    gone-row : (u : Table Channel) → ((k : Handle) (w : Channel) → under x.channels k ≡ Some w → (k ≡ h → ⊥) → under u k ≡ Some w) → (k : Handle) (v : Channel) → under x.channels k ≡ Some v → is_on_in is_asked on v ≡ true
+    gone-row : (u : Table Channel) → ((k : Handle) (w : Channel) → under x.channels k ≡ Some w → (k ≡ h → ⊥) → under u k ≡ Some w)
+        → (k : Handle) (v : Channel) → under x.channels k ≡ Some v → is_on_in is_asked on v ≡ true
         → ((w : Channel) × (under u k ≡ Some w) × (is_on_in is_asked on w ≡ true)) ⊎ ((c ≡ on) × FreesCid m k)
     gone-row u keeps k v is pass = elim (handle-or k h) [
       | inr other ↦ inl (v, keeps k v is other, pass)
@@ -247,7 +242,8 @@ module _ (on : Handle) (x : Client) (e : Effect) (c : Handle) (m : Fields) where
           inr (stands-there is_asked on c ch p stands (subst (λ (z : Channel). is_on_in is_asked on z ≡ true) one pass), subst (λ (g : Handle). FreesCid m g) (sym same) frees)
     ]
 
-    other-row : (u : Table Channel) → ((k : Handle) (w : Channel) → under x.channels k ≡ Some w → (k ≡ h → ⊥) → under u k ≡ Some w) → (d : Subscription) → (d.channel ≡ h → is_on_in is_subscribed on ch ≡ true → ⊥) → has_id x.channels on d ≡ true → has_id u on d ≡ true
+    other-row : (u : Table Channel) → ((k : Handle) (w : Channel) → under x.channels k ≡ Some w → (k ≡ h → ⊥) → under u k ≡ Some w)
+        → (d : Subscription) → (d.channel ≡ h → is_on_in is_subscribed on ch ≡ true → ⊥) → has_id x.channels on d ≡ true → has_id u on d ≡ true
     other-row u keeps d away pass = has-too on x.channels u d (λ w is_w pass_w. elim (handle-or d.channel h) [
       | inr other ↦ (w, keeps d.channel w is_w other, pass_w)
       | inl same ↦
@@ -255,7 +251,9 @@ module _ (on : Handle) (x : Client) (e : Effect) (c : Handle) (m : Fields) where
           absurd (away same (subst (λ (z : Channel). is_on_in is_subscribed on z ≡ true) one pass_w))
     ]) pass
 
-    gone-bare : is_subscribed p ≡ false → (u : Table Channel) → ((k : Handle) (w : Channel) → under x.channels k ≡ Some w → (k ≡ h → ⊥) → under u k ≡ Some w) → (z : Client) → z.channels ≡ u → z.requests ≡ x.requests → z.subscriptions ≡ x.subscriptions → RestsBut on c m x z
+    gone-bare : is_subscribed p ≡ false → (u : Table Channel)
+        → ((k : Handle) (w : Channel) → under x.channels k ≡ Some w → (k ≡ h → ⊥) → under u k ≡ Some w) → (z : Client) → z.channels ≡ u
+        → z.requests ≡ x.requests → z.subscriptions ≡ x.subscriptions → RestsBut on c m x z
     gone-bare bare u keeps z channels requests subscriptions =
         let none : is_on_in is_subscribed on ch ≡ false = fails-anywhere is_subscribed on c ch p stands bare in
         record {
@@ -285,7 +283,8 @@ module _ (on : Handle) (x : Client) (e : Effect) (c : Handle) (m : Fields) where
       (gone-bare h Doomed f.0 f.1 f.3 (inl (fails, sym f.2)) refl (with_freed h x.channels) (λ k w there other. freed-other x.channels k h w there other) (without_channel x h) refl refl refl)
 
   -- what was live on a circuit stands there
-  was-there : (h : Handle) (p : Phase) (ch : Channel) → under x.channels h ≡ Some ch → ch.standing ≡ On c p → (g o : Handle) (v : Channel) → under x.channels g ≡ Some v → g ≡ h → is_on_in was_live o v ≡ true → c ≡ o
+  was-there : (h : Handle) (p : Phase) (ch : Channel) → under x.channels h ≡ Some ch → ch.standing ≡ On c p → (g o : Handle) (v : Channel)
+      → under x.channels g ≡ Some v → g ≡ h → is_on_in was_live o v ≡ true → c ≡ o
   was-there h p ch there stands g o v is same pass =
       let one : v ≡ ch = one-value x.channels h v ch (subst (λ (k : Handle). under x.channels k ≡ Some v) same is) there in
       stands-there was_live o c ch p stands (subst (λ (z : Channel). is_on_in was_live o z ≡ true) one pass)
@@ -303,7 +302,8 @@ module _ (on : Handle) (x : Client) (e : Effect) (c : Handle) (m : Fields) where
           inr (here ∙ same-is r.circuit on pass, inr (inr (clears, cid ∙ ap (λ (k : Handle). wire_of k) (sym to))))
     ]
 
-    drained-subscriptions : (u : Table Channel) → ((k : Handle) (w : Channel) → under x.channels k ≡ Some w → (k ≡ h → ⊥) → under u k ≡ Some w) → (g : Handle) (d : Subscription) → under x.subscriptions g ≡ Some d → has_id x.channels on d ≡ true
+    drained-subscriptions : (u : Table Channel) → ((k : Handle) (w : Channel) → under x.channels k ≡ Some w → (k ≡ h → ⊥) → under u k ≡ Some w)
+        → (g : Handle) (d : Subscription) → under x.subscriptions g ≡ Some d → has_id x.channels on d ≡ true
         → ((v : Subscription) × (under (monitor.channel_drained c h x.subscriptions) g ≡ Some v) × (has_id u on v ≡ true)) ⊎ ((c ≡ on) × FreesSub m g d)
     drained-subscriptions u keeps g d is pass = elim (cases_Bool (is_to h d)) [
       | inr other ↦
@@ -325,7 +325,8 @@ module _ (on : Handle) (x : Client) (e : Effect) (c : Handle) (m : Fields) where
           inr (here, inr (inr (clears, cid ∙ ap (λ (k : Handle). wire_of k) (sym same))))
     ]
 
-    gone-cleared : (u : Table Channel) → ((k : Handle) (w : Channel) → under x.channels k ≡ Some w → (k ≡ h → ⊥) → under u k ≡ Some w) → (z : Client) → z.channels ≡ u → z.requests ≡ request.channel_gone h x.requests
+    gone-cleared : (u : Table Channel) → ((k : Handle) (w : Channel) → under x.channels k ≡ Some w → (k ≡ h → ⊥) → under u k ≡ Some w) → (z : Client)
+        → z.channels ≡ u → z.requests ≡ request.channel_gone h x.requests
         → z.subscriptions ≡ monitor.channel_drained c h x.subscriptions → RestsBut on c m x z
     gone-cleared u keeps z channels requests subscriptions = record {
       channels = λ k v is pass. subst (λ (t : Table Channel). ((w : Channel) × (under t k ≡ Some w) × (is_on_in is_asked on w ≡ true)) ⊎ ((c ≡ on) × FreesCid m k)) (sym channels) (gone-row h p ch there stands (inr (clears, cid)) u keeps k v is pass);
@@ -333,7 +334,8 @@ module _ (on : Handle) (x : Client) (e : Effect) (c : Handle) (m : Fields) where
       subscriptions = λ g d is pass. subst (λ (t : Table Subscription × Table Channel). ((v : Subscription) × (under t.0 g ≡ Some v) × (has_id t.1 on v ≡ true)) ⊎ ((c ≡ on) × FreesSub m g d)) (λ i. (sym subscriptions i, sym channels i)) (drained-subscriptions u keeps g d is pass);
     }
 
-  rests-answered : Attached x → Is command.ClearChannel m → (o : Option (Handle × Phase)) → channel_on x c m.p2 ≡ o → e ≡ clear_answered x c o → RestsBut on c m x e.core
+  rests-answered : Attached x → Is command.ClearChannel m → (o : Option (Handle × Phase)) → channel_on x c m.p2 ≡ o → e ≡ clear_answered x c o
+      → RestsBut on c m x e.core
   rests-answered attached clears None at is = nothing [] is
   rests-answered attached clears (Some (h, Connecting)) at is = nothing [] is
   rests-answered attached clears (Some (h, Live native rights)) at is = nothing [] is
@@ -350,7 +352,8 @@ module _ (on : Handle) (x : Client) (e : Effect) (c : Handle) (m : Fields) where
       (gone-cleared attached h Leaving f.0 f.1 f.3 clears (sym f.2) (with_standing Searching h x).channels (λ k w there other. changed-other (λ (v : Channel). record v { standing = Searching }) x.channels k h w there other) z refl refl refl)
 
   -- one request, one subscription is over
-  over-request : (q : Handle) (r : Request) → under x.requests q ≡ Some r → was_sent_on c r ≡ true → FreesIoid m q r → RestsBut on c m x (without_request q x)
+  over-request : (q : Handle) (r : Request) → under x.requests q ≡ Some r → was_sent_on c r ≡ true → FreesIoid m q r
+      → RestsBut on c m x (without_request q x)
   over-request q r there sent frees = record {
     channels = λ k v is pass. inl (v, is, pass);
     requests = λ k u is pass. elim (handle-or k q) [
@@ -362,7 +365,8 @@ module _ (on : Handle) (x : Client) (e : Effect) (c : Handle) (m : Fields) where
     subscriptions = λ g d is pass. inl (d, is, pass);
   }
 
-  over-subscription : (g : Handle) (d : Subscription) → under x.subscriptions g ≡ Some d → (has_id x.channels on d ≡ true → c ≡ on) → FreesSub m g d → RestsBut on c m x (without_subscription g x)
+  over-subscription : (g : Handle) (d : Subscription) → under x.subscriptions g ≡ Some d → (has_id x.channels on d ≡ true → c ≡ on) → FreesSub m g d
+      → RestsBut on c m x (without_subscription g x)
   over-subscription g d there here frees = record {
     channels = λ k v is pass. inl (v, is, pass);
     requests = λ k u is pass. inl (u, is, pass, refl);
@@ -374,7 +378,8 @@ module _ (on : Handle) (x : Client) (e : Effect) (c : Handle) (m : Fields) where
     ];
   }
 
-  rests-completes : (q : Handle) (r : Request) → under x.requests q ≡ Some r → was_sent_on c r ≡ true → FreesIoid m q r → (s : request.Stage) → Completes x m q s e → RestsBut on c m x e.core
+  rests-completes : (q : Handle) (r : Request) → under x.requests q ≡ Some r → was_sent_on c r ≡ true → FreesIoid m q r → (s : request.Stage)
+      → Completes x m q s e → RestsBut on c m x e.core
   rests-completes q r there sent frees request.Open done = frees-so _ (without_request q x) done.2 (over-request q r there sent frees)
   rests-completes q r there sent frees request.Draining done = frees-so [] (without_request q x) done (over-request q r there sent frees)
 
@@ -382,7 +387,8 @@ module _ (on : Handle) (x : Client) (e : Effect) (c : Handle) (m : Fields) where
   rests-reply None at is = nothing [] is
   rests-reply (Some (q, r)) at is = (let f = answered-is c m.command m.p2 x.requests q r at in rests-completes q r f.0 f.2 (inl (sym f.3, sym f.1)) r.stage is)
 
-  rests-confirmed : Is command.EventAdd m → m.payload ≡ [] → (o : Option Handle) → confirmed_by c m.p2 x.subscriptions ≡ o → e ≡ confirmed x o → RestsBut on c m x e.core
+  rests-confirmed : Is command.EventAdd m → m.payload ≡ [] → (o : Option Handle) → confirmed_by c m.p2 x.subscriptions ≡ o → e ≡ confirmed x o
+      → RestsBut on c m x e.core
   rests-confirmed adds empty None at is = nothing [] is
   rests-confirmed adds empty (Some g) at is =
       let f = confirmed-is c m.p2 x.subscriptions g at in
@@ -391,7 +397,9 @@ module _ (on : Handle) (x : Client) (e : Effect) (c : Handle) (m : Fields) where
       here : (d : Subscription) → is_cancelled_in c d.stage ≡ true → has_id x.channels on d ≡ true → c ≡ on
       here d cancelled pass = go d.stage cancelled pass
         where
-          go : (s : Stage) → is_cancelled_in c s ≡ true → (drains_in on s || (stands_in s && unwrap_or (option_map (is_on_in is_subscribed on) (under x.channels d.channel)) false)) ≡ true → c ≡ on
+          go : (s : Stage) → is_cancelled_in c s ≡ true
+              → (drains_in on s || (stands_in s && unwrap_or (option_map (is_on_in is_subscribed on) (under x.channels d.channel)) false)) ≡ true
+              → c ≡ on
           go Stands f h = absurd (both_ways false refl f)
           go (monitor.Ended o) f h = absurd (both_ways false refl f)
           go (monitor.Cancelled o) f h = elim (or_cases (same_handle o on) false h) [
@@ -416,26 +424,31 @@ module _ (on : Handle) (x : Client) (e : Effect) (c : Handle) (m : Fields) where
   one-circuit : (d : Subscription) → stands_in d.stage ≡ true → has_id x.channels c d ≡ true → has_id x.channels on d ≡ true → c ≡ on
   one-circuit d stands a b = go (under x.channels d.channel) refl (subscribed c a) (subscribed on b)
     where
-      subscribed : (k : Handle) → has_id x.channels k d ≡ true → unwrap_or (option_map (is_on_in is_subscribed k) (under x.channels d.channel)) false ≡ true
+      subscribed : (k : Handle) → has_id x.channels k d ≡ true
+          → unwrap_or (option_map (is_on_in is_subscribed k) (under x.channels d.channel)) false ≡ true
       subscribed k has = by d.stage stands has
         where
-          by : (s : Stage) → stands_in s ≡ true → (drains_in k s || (stands_in s && unwrap_or (option_map (is_on_in is_subscribed k) (under x.channels d.channel)) false)) ≡ true
+          by : (s : Stage) → stands_in s ≡ true
+              → (drains_in k s || (stands_in s && unwrap_or (option_map (is_on_in is_subscribed k) (under x.channels d.channel)) false)) ≡ true
               → unwrap_or (option_map (is_on_in is_subscribed k) (under x.channels d.channel)) false ≡ true
           by Stands f h = h
           by (monitor.Cancelled o) f h = absurd (both_ways false refl f)
           by (monitor.Ended o) f h = absurd (both_ways false refl f)
 
-      go : (o : Option Channel) → under x.channels d.channel ≡ o → unwrap_or (option_map (is_on_in is_subscribed c) o) false ≡ true → unwrap_or (option_map (is_on_in is_subscribed on) o) false ≡ true → c ≡ on
+      go : (o : Option Channel) → under x.channels d.channel ≡ o → unwrap_or (option_map (is_on_in is_subscribed c) o) false ≡ true
+          → unwrap_or (option_map (is_on_in is_subscribed on) o) false ≡ true → c ≡ on
       go (Some ch) is f g = on-one is_subscribed is_subscribed c on ch f g
       go None is f g = absurd (both_ways false refl f)
 
-  rests-refused : Is command.Error m → (h : Header) → QuotesHeader m h → h.command ≡ command_number command.EventAdd → (o : Option Handle) → heard_by x c h.p2 ≡ o → e ≡ subscription_failed x m o → RestsBut on c m x e.core
+  rests-refused : Is command.Error m → (h : Header) → QuotesHeader m h → h.command ≡ command_number command.EventAdd → (o : Option Handle)
+      → heard_by x c h.p2 ≡ o → e ≡ subscription_failed x m o → RestsBut on c m x e.core
   rests-refused errs h quotes adds None at is = nothing [] is
   rests-refused errs h quotes adds (Some g) at is =
       let f = heard-is x c h.p2 g at in
       frees-so _ (without_subscription g x) is (over-subscription g f.0 f.1 (λ pass. one-circuit f.0 f.3 f.4 pass) (inr (inl (errs, (h, quotes, adds, sym f.2), f.3))))
 
-  rests-any : Is command.Error m → (h : Header) → QuotesHeader m h → (o : Option (Handle × Request)) → answered_by c h.command h.p2 x.requests ≡ o → e ≡ any_failed x m o → RestsBut on c m x e.core
+  rests-any : Is command.Error m → (h : Header) → QuotesHeader m h → (o : Option (Handle × Request)) → answered_by c h.command h.p2 x.requests ≡ o
+      → e ≡ any_failed x m o → RestsBut on c m x e.core
   rests-any errs h quotes None at is = nothing [] is
   rests-any errs h quotes (Some (q, r)) at is = go r.stage is
     where
@@ -463,17 +476,20 @@ module _ (on : Handle) (x : Client) (e : Effect) where
   quiet-so : (sent : List Sending) (notices : List Notice) (z : Client) → e ≡ doing sent notices z → Rests on x z → Rests on x e.core
   quiet-so sent notices z is r = subst (λ (v : Effect). Rests on x v.core) (sym is) (rests-then on x z (sending sent z) r (rests-sending on sent z))
 
-  found-so : (d : Handle) (p : Phase) (h : Handle) (here : Channel) → under x.channels h ≡ Some here → here.standing ≡ Searching → Rests on x (found_on d p h x)
+  found-so : (d : Handle) (p : Phase) (h : Handle) (here : Channel) → under x.channels h ≡ Some here → here.standing ≡ Searching
+      → Rests on x (found_on d p h x)
   found-so d p h here there stands =
       let y : Client = with_standing (On d p) h x in
       rests-then on x y (found_on d p h x) (rests-stood on x h (On d p) here there (not-searched is_asked on here (On d p) stands) (not-searched is_subscribed on here (On d p) stands))
       (rests-same on y (found_on d p h x) refl refl refl)
 
-  rests-put-on : (d : Handle) (k : Option Connection) (h : Handle) (here : Channel) → under x.channels h ≡ Some here → here.standing ≡ Searching → e ≡ put_on d k h here x → Rests on x e.core
+  rests-put-on : (d : Handle) (k : Option Connection) (h : Handle) (here : Channel) → under x.channels h ≡ Some here → here.standing ≡ Searching
+      → e ≡ put_on d k h here x → Rests on x e.core
   rests-put-on d None h here there stands is = quiet-so [] [] (found_on d Connecting h x) is (found-so d Connecting h here there stands)
   rests-put-on d (Some k) h here there stands is = quiet-so _ [] (found_on d (Creating 0) h x) is (found-so d (Creating 0) h here there stands)
 
-rests-puts : (on : Handle) (x : Client) (e : Effect) (address : Address) (h : Handle) (here : Channel) → under x.channels h ≡ Some here → here.standing ≡ Searching → (o : Option (Handle × ClientCircuit)) → PutsOn x address h here o e → Rests on x e.core
+rests-puts : (on : Handle) (x : Client) (e : Effect) (address : Address) (h : Handle) (here : Channel) → under x.channels h ≡ Some here
+    → here.standing ≡ Searching → (o : Option (Handle × ClientCircuit)) → PutsOn x address h here o e → Rests on x e.core
 rests-puts on x e address h here there stands (Some (d, v)) is = rests-put-on on x e d v.connection h here there stands is
 rests-puts on x e address h here there stands None is = elim is [
   | inr full ↦ quiet-so on x e [] [] x full.1 (rests-itself on x)
@@ -482,7 +498,8 @@ rests-puts on x e address h here there stands None is = elim is [
       rests-then on x y e.core (rests-same on x y refl refl refl) (rests-put-on on y e new.0 None h here there stands new.2)
 ]
 
-pub rests-finds : (on : Handle) (x : Client) (e : Effect) (address : Address) (cid : ℕ) (o : Option (Handle × Channel)) → searched_by cid x ≡ o → FindsAt x address o e → Rests on x e.core
+pub rests-finds : (on : Handle) (x : Client) (e : Effect) (address : Address) (cid : ℕ) (o : Option (Handle × Channel)) → searched_by cid x ≡ o
+    → FindsAt x address o e → Rests on x e.core
 rests-finds on x e address cid None at is = quiet-so on x e [] [] x is (rests-itself on x)
 rests-finds on x e address cid (Some (h, here)) at is = (let f = searched-is cid x h here at in rests-puts on x e address h here f.0 f.1 (circuit_to address here.priority x) is)
 

@@ -1,24 +1,22 @@
 -- What each call, and each message that is read, makes a client send: the ids that these give on one circuit.
-use Rattle.std.proofs.Common.{◌≡◌, ℕ, zero, suc, ◌+◌, ◌%◌, ◌<◌, ◌≤◌, ◌⊎◌, inl, inr, Bool, true, false, ◌&&◌, cond, eqb, List, [], ◌∷◌, ◌++◌, length, Option, Some, None, refl, sym, ap, ◌∙◌, subst, arith}
-use Rattle.std.specs.Prelude.{◌==◌, Ok, filter, filter_map, fold, map, option_map, option_to_list, unwrap_or}
-use Rattle.std.specs.List.{list_any}
-use Rattle.std.proofs.lemmas.Bool.{and_from, and_parts, both_ways, eq-eqb, or_right}
+use Rattle.std.proofs.Common.{◌≡◌, ℕ, ◌%◌, ◌≤◌, ◌⊎◌, inl, inr, Bool, true, false, ◌&&◌, cond, eqb, List, [], ◌∷◌, ◌++◌, length, Option, Some, None, refl, sym, ap, ◌∙◌, subst, arith}
+use Rattle.std.specs.Prelude.{Ok, filter, fold, map, option_map, option_to_list, unwrap_or}
+use Rattle.std.proofs.lemmas.Bool.{and_from, and_parts, both_ways, or_right}
 use Rattle.ca_text.specs.Command.{command_number}
 use Rattle.ca_text.specs.Limits.{arena_slots}
 use Rattle.ca_text.specs.Place.{At}
-use Rattle.ca_text.proofs.Places.{At-mapped, At-parts, At-within, some_is}
+use Rattle.ca_text.proofs.Places.{At-mapped, some_is}
 use Rattle.ca_text.specs.declared.command.Command.{Command}
 use Rattle.ca_text.specs.declared.command.Command.TheVariants as command
 use Rattle.ca_arena.specs.declared.handle.Handle.{Handle}
 use Rattle.ca_dbr.specs.Elements.{Elements}
-use Rattle.ca_ids.specs.Table.{MayGive, Table, held, same_handle, under, with_changed, with_held}
+use Rattle.ca_ids.specs.Table.{MayGive, held, same_handle, under, with_held}
 use Rattle.ca_ids.specs.Wire.{wire_of}
 use Rattle.ca_link.specs.declared.keep.Keep.{Keep}
 use Rattle.ca_link.specs.declared.keep.Keep.TheVariants.{Close, Echo, Idle}
 use Rattle.ca_link.specs.Link.{kept}
 use Rattle.ca_monitor.specs.ReadRun.{after_read, asked_between, sent_by_read}
-use Rattle.ca_monitor.specs.Subscriptions.{Stage, Stands, Subscription, confirmed_by, drains_in, is_to, standing_to, stands_in}
-use Rattle.ca_monitor.specs.Subscriptions as monitor
+use Rattle.ca_monitor.specs.Subscriptions.{Subscription, confirmed_by, drains_in, is_to, standing_to, stands_in}
 use Rattle.ca_requests.specs.Calls.{new_request}
 use Rattle.ca_requests.specs.Requests.{Asked, Request, answered_by, command_of, was_sent_on}
 use Rattle.ca_requests.specs.Requests as request
@@ -29,14 +27,14 @@ use Rattle.ca_wire.specs.Messages.{bare, name_request, search_request, version_r
 use Rattle.ca_model.specs.Answers.{Closing, Notice, Sending}
 use Rattle.ca_model.specs.Client.{Channel, Client, ClientCircuit, Clearing, Connecting, Connection, Creating, Doomed, Leaving, Live, On, Phase, Searching, Standing, channel_on, circuit_to, connection_at, found_on, is_on_in, later, on_connection, phase_on, sending, with_standing}
 use Rattle.ca_model.specs.Client as phase
-use Rattle.ca_model.specs.ClientCalls.{LiveChannel, Shape, cancel_sent, clear_sent, clearing_sent, event_add_sent, event_cancel_sent, is_over, issued, new_subscription, put_sent, read_sent, write_sent}
+use Rattle.ca_model.specs.ClientCalls.{LiveChannel, cancel_sent, clear_sent, clearing_sent, event_add_sent, event_cancel_sent, is_over, issued, write_sent}
 use Rattle.ca_model.specs.ClientEnds.{ConnectsOn, GivesOn, Receives, ReceivesAll, Ticking, all_searched_on, begun, circuits_ticked, creating, creations, due, flow_sent, is_connecting, is_name_connected, of_circuit, searches_made, searches_on, set_up, ticks, ticks_as, with_sending}
 use Rattle.ca_model.specs.ClientEnds as ends
 use Rattle.ca_model.specs.Ends.{Address}
 use Rattle.ca_model.specs.Hears.{Answers, Completes, Effect, Fails, FindsAt, Hears, PutsOn, Updates, any_failed, becomes, clear_answered, confirmed, create_sent, created, doing, event_adds, failed, failing, found_at, heard_by, left, put_on, request_failed, rights_told, searched_by, subscription_failed, with_circuit, write_failed}
 use Rattle.ca_model.specs.Hears as hears
 use Rattle.ca_model.specs.Sends.{SameIndex}
-use Rattle.ca_model.specs.Speech.{Cid, Gives, Id, Ioid, Is, SubId}
+use Rattle.ca_model.specs.Speech.{Cid, Gives, Id, Ioid, SubId}
 use Rattle.ca_model_client.proofs.Handles.{same-is, same-itself}
 use Rattle.ca_model_client.proofs.Hearing.{received-keeps}
 use Rattle.ca_model_client.proofs.Thinner.{Thins}
@@ -45,7 +43,7 @@ use Rattle.ca_model_client.proofs.Tables.{all-there, changed-own, held-apart, he
 use Rattle.ca_laws_circuit.specs.Held.{AreFew, has_id, is_asked, is_subscribed}
 use Rattle.ca_laws_circuit.proofs.Marks.{at-filter}
 use Rattle.ca_laws_held.proofs.AddedApart.{filter-order, rows-apart}
-use Rattle.ca_laws_held.proofs.LegalIdsRests.{Rests, rests-all-received, rests-itself, rests-received, rests-same, rests-sending}
+use Rattle.ca_laws_held.proofs.LegalIdsRests.{rests-all-received, rests-itself, rests-received, rests-sending}
 use Rattle.ca_laws_held.proofs.LegalIdsCalls.{rests-begun, standing-has}
 use Rattle.ca_laws_held.proofs.LegalIdsGiven.{Given, GivesNone, HeldBy, IsIdle, filter-map-order, given-nothing, given-one, given-then, gives-both, gives-cid, gives-ioid, gives-no-id, gives-of, gives-sub, idle-channel, idle-new-request, idle-new-subscription, idle-subscription, none-given, only-one, rests-held, same-holder}
 
@@ -54,9 +52,6 @@ use Rattle.ca_laws_held.proofs.LegalIdsGiven.{Given, GivesNone, HeldBy, IsIdle, 
 none-one : (s : Sending) (n : ℕ) → s.message.command ≡ n → (n ≡ 18 → ⊥) → (n ≡ 15 → ⊥) → (n ≡ 19 → ⊥) → (n ≡ 1 → ⊥) → GivesNone (s ∷ [])
 none-one s n is no18 no15 no19 no1 i r id at gives =
     gives-no-id s.message n is no18 no15 no19 no1 id (subst (λ (v : Sending). Gives v.message id) (only-one s r i at).1 gives)
-
-none-mapped : {A : Type 0} (f : A → Sending) (xs : List A) → ((x : A) (id : Id) → Gives (f x).message id → ⊥) → GivesNone (map f xs)
-none-mapped f xs each i s id at gives = (let m = At-mapped f xs i s at in each m.0 id (subst (λ (v : Sending). Gives v.message id) m.2 gives))
 
 pub none-clear : (c : Handle) (sid : ℕ) (h : Handle) → GivesNone (clear_sent c sid h ∷ [])
 none-clear c sid h = none-one (clear_sent c sid h) 12 refl (λ e. absurd (omega (arith, e))) (λ e. absurd (omega (arith, e))) (λ e. absurd (omega (arith, e))) (λ e. absurd (omega (arith, e)))
@@ -84,7 +79,8 @@ none-cancelled g d (Some (On c (Live native rights))) =
 pub none-written : (h : Handle) (l : LiveChannel) (v : Elements) → GivesNone (write_sent h l v ∷ [])
 none-written h l v = none-one (write_sent h l v) 4 refl (λ e. absurd (omega (arith, e))) (λ e. absurd (omega (arith, e))) (λ e. absurd (omega (arith, e))) (λ e. absurd (omega (arith, e)))
 
-none-flow : (c : Handle) (o : Option Command) (a b : Bool) → o ≡ asked_between a b → GivesNone (map (λ (k : Command). of_circuit c (bare k)) (option_to_list o))
+none-flow : (c : Handle) (o : Option Command) (a b : Bool) → o ≡ asked_between a b
+    → GivesNone (map (λ (k : Command). of_circuit c (bare k)) (option_to_list o))
 none-flow c o a b is = subst (λ (v : Option Command). GivesNone (map (λ (k : Command). of_circuit c (bare k)) (option_to_list v))) (sym is) (go a b)
   where
     go : (a b : Bool) → GivesNone (map (λ (k : Command). of_circuit c (bare k)) (option_to_list (asked_between a b)))
@@ -93,7 +89,8 @@ none-flow c o a b is = subst (λ (v : Option Command). GivesNone (map (λ (k : C
     go false false = none-given
     go true true = none-given
 
-pub none-given-on : (x : Client) (c : Handle) (bytes : List ℕ) (more : Bool) (o : Option Connection) (sent : List Sending) (y : Client) → GivesOn x c bytes more o (Ok tt) sent y → GivesNone sent
+pub none-given-on : (x : Client) (c : Handle) (bytes : List ℕ) (more : Bool) (o : Option Connection) (sent : List Sending) (y : Client)
+    → GivesOn x c bytes more o (Ok tt) sent y → GivesNone sent
 none-given-on x c bytes more (Some e) sent y gives = gives-of sent (flow_sent c more e) gives.0 (none-flow c (sent_by_read more e.run) e.run.events_off (after_read more e.run).events_off refl)
 none-given-on x c bytes more None sent y gives = absurd gives
 
@@ -146,7 +143,8 @@ none-ticked moment x =
 
 -- ---- a request, a subscription
 
-pub given-issued : (on : Handle) (x : Client) (h : Handle) (l : LiveChannel) (asked : Asked) (q : Handle) (s : Sending) → AreFew x → MayGive x.requests q → s.circuit ≡ l.circuit → s.message.command ≡ command_number (command_of asked) → s.message.p2 ≡ wire_of q
+pub given-issued : (on : Handle) (x : Client) (h : Handle) (l : LiveChannel) (asked : Asked) (q : Handle) (s : Sending) → AreFew x
+    → MayGive x.requests q → s.circuit ≡ l.circuit → s.message.command ≡ command_number (command_of asked) → s.message.p2 ≡ wire_of q
     → Given on x (sending (s ∷ []) (issued h l asked q x)) (s ∷ [])
 given-issued on x h l asked q s few may circuit asks wire =
     let z : Client = issued h l asked q x in
@@ -163,7 +161,8 @@ given-issued on x h l asked q s few may circuit asks wire =
     by (request.Read data_type count) is = inl is
     by request.Put is = inr is
 
-pub given-subscribed : (on : Handle) (x : Client) (g : Handle) (d : Subscription) (s : Sending) → AreFew x → MayGive x.subscriptions g → (s.circuit ≡ on → has_id x.channels on d ≡ true) → s.message.command ≡ 1 → s.message.p2 ≡ wire_of g
+pub given-subscribed : (on : Handle) (x : Client) (g : Handle) (d : Subscription) (s : Sending) → AreFew x → MayGive x.subscriptions g
+    → (s.circuit ≡ on → has_id x.channels on d ≡ true) → s.message.command ≡ 1 → s.message.p2 ≡ wire_of g
     → (let z : Client = record x { subscriptions = with_held g d x.subscriptions } in Given on x (sending (s ∷ []) z) (s ∷ []))
 given-subscribed on x g d s few may has asks wire =
     let z : Client = record x { subscriptions = with_held g d x.subscriptions } in
@@ -177,13 +176,15 @@ given-subscribed on x g d s few may has asks wire =
 -- ---- a channel was found
 
 module _ (on : Handle) (x : Client) (e : Effect) (few : AreFew x) where
-  so : (sent : List Sending) (notices : List Notice) (z : Client) → e ≡ doing sent notices z → Given on x (sending sent z) sent → Given on x e.core e.sent
+  so : (sent : List Sending) (notices : List Notice) (z : Client) → e ≡ doing sent notices z → Given on x (sending sent z) sent
+      → Given on x e.core e.sent
   so sent notices z is g = subst (λ (v : Effect). Given on x v.core v.sent) (sym is) g
 
   none-so : (v : Effect) → e ≡ v → v.sent ≡ [] → Given on x e.core e.sent
   none-so v is empty = given-nothing on x e.core e.sent (gives-of e.sent [] (ap (λ (u : Effect). u.sent) is ∙ empty) none-given)
 
-  given-put-on : (d : Handle) (k : Option Connection) (h : Handle) (here : Channel) → under x.channels h ≡ Some here → here.standing ≡ Searching → e ≡ put_on d k h here x → Given on x e.core e.sent
+  given-put-on : (d : Handle) (k : Option Connection) (h : Handle) (here : Channel) → under x.channels h ≡ Some here → here.standing ≡ Searching
+      → e ≡ put_on d k h here x → Given on x e.core e.sent
   given-put-on d None h here there stands is = none-so (put_on d None h here x) is refl
   given-put-on d (Some k) h here there stands is =
       let s : Sending = create_sent d h here in
@@ -197,14 +198,16 @@ module _ (on : Handle) (x : Client) (e : Effect) (few : AreFew x) where
         subst (λ (v : Id). IsIdle on x v) (sym id_is) (idle-channel on x h here few there (λ pass. both_ways (is_on_in is_asked on here) (fails-searched is_asked on here stands) pass)),
       )))
 
-given-puts : (on : Handle) (x : Client) (e : Effect) → AreFew x → (address : Address) (h : Handle) (here : Channel) → under x.channels h ≡ Some here → here.standing ≡ Searching → (o : Option (Handle × ClientCircuit)) → PutsOn x address h here o e → Given on x e.core e.sent
+given-puts : (on : Handle) (x : Client) (e : Effect) → AreFew x → (address : Address) (h : Handle) (here : Channel) → under x.channels h ≡ Some here
+    → here.standing ≡ Searching → (o : Option (Handle × ClientCircuit)) → PutsOn x address h here o e → Given on x e.core e.sent
 given-puts on x e few address h here there stands (Some (d, v)) is = given-put-on on x e few d v.connection h here there stands is
 given-puts on x e few address h here there stands None is = elim is [
   | inr full ↦ none-so on x e few (becomes x) full.1 refl
   | inl new ↦ none-so on x e few (put_on new.0 None h here (with_circuit new.0 (phase.new_circuit address here.priority false) x)) new.2 refl
 ]
 
-given-finds : (on : Handle) (x : Client) (e : Effect) → AreFew x → (address : Address) (cid : ℕ) (o : Option (Handle × Channel)) → searched_by cid x ≡ o → FindsAt x address o e → Given on x e.core e.sent
+given-finds : (on : Handle) (x : Client) (e : Effect) → AreFew x → (address : Address) (cid : ℕ) (o : Option (Handle × Channel))
+    → searched_by cid x ≡ o → FindsAt x address o e → Given on x e.core e.sent
 given-finds on x e few address cid None at is = none-so on x e few (becomes x) is refl
 given-finds on x e few address cid (Some (h, here)) at is = (let f = searched-is cid x h here at in given-puts on x e few address h here f.0 f.1 (circuit_to address here.priority x) is)
 
@@ -220,7 +223,8 @@ module _ (on : Handle) (x : Client) (e : Effect) (few : AreFew x) (c : Handle) (
   abbrev lives : Channel → Channel
   lives k = record k { standing = On c (Live (hears.native_in m) rights) }
 
-  add-row : (i : ℕ) (s : Sending) → At adds i s → (e : Handle × Subscription) × At (standing_to h x.subscriptions) i e × (s ≡ event_add_sent c m.p2 e.0 e.1) × (under x.subscriptions e.0 ≡ Some e.1) × (e.1.channel ≡ h) × (stands_in e.1.stage ≡ true)
+  add-row : (i : ℕ) (s : Sending) → At adds i s
+      → (e : Handle × Subscription) × At (standing_to h x.subscriptions) i e × (s ≡ event_add_sent c m.p2 e.0 e.1) × (under x.subscriptions e.0 ≡ Some e.1) × (e.1.channel ≡ h) × (stands_in e.1.stage ≡ true)
   add-row i s at =
       let b = At-mapped (λ (e : Handle × Subscription). event_add_sent c m.p2 e.0 e.1) (standing_to h x.subscriptions) i s at in
       let f = at-filter (λ (v : Handle × Subscription). is_to h v.1 && stands_in v.1.stage) (held x.subscriptions) i b.0 b.1 in
@@ -269,7 +273,8 @@ module _ (on : Handle) (x : Client) (e : Effect) (few : AreFew x) (c : Handle) (
 -- ---- a message that is read
 
 module _ (on : Handle) (x : Client) (e : Effect) (few : AreFew x) where
-  clear-so : (c : Handle) (sid : ℕ) (h : Handle) (notices : List Notice) (z : Client) → e ≡ doing (clear_sent c sid h ∷ []) notices z → Given on x e.core e.sent
+  clear-so : (c : Handle) (sid : ℕ) (h : Handle) (notices : List Notice) (z : Client) → e ≡ doing (clear_sent c sid h ∷ []) notices z
+      → Given on x e.core e.sent
   clear-so c sid h notices z is = given-nothing on x e.core e.sent (gives-of e.sent (clear_sent c sid h ∷ []) (ap (λ (v : Effect). v.sent) is) (none-clear c sid h))
 
   module _ (c : Handle) (m : Fields) where
@@ -357,7 +362,8 @@ module _ (on : Handle) (x : Client) (e : Effect) (few : AreFew x) where
     any-none None = refl
     any-none (Some (q, r)) = request-none q r.stage
 
-    failing-none : (h : Header) (a b : Bool) → (cond a (write_failed x m (channel_on x c m.p1)) (cond b (subscription_failed x m (heard_by x c h.p2)) (any_failed x m (answered_by c h.command h.p2 x.requests)))).sent ≡ []
+    failing-none : (h : Header) (a b : Bool)
+        → (cond a (write_failed x m (channel_on x c m.p1)) (cond b (subscription_failed x m (heard_by x c h.p2)) (any_failed x m (answered_by c h.command h.p2 x.requests)))).sent ≡ []
     failing-none h true b = write-none (channel_on x c m.p1)
     failing-none h false true = refused-none (heard_by x c h.p2)
     failing-none h false false = any-none (answered_by c h.command h.p2 x.requests)
@@ -398,7 +404,8 @@ few-thins x y thins few = record {
     few-as : (a b : ℕ) → b ≡ a → a ≤ arena_slots → b ≤ arena_slots
     few-as a b same le = omega (arith, same, le)
 
-pub given-all-received : (on : Handle) (from : Address) (ms : List Fields) (x : Client) (e : Effect) → AreFew x → ReceivesAll from x ms e → Given on x e.core e.sent
+pub given-all-received : (on : Handle) (from : Address) (ms : List Fields) (x : Client) (e : Effect) → AreFew x → ReceivesAll from x ms e
+    → Given on x e.core e.sent
 given-all-received on from [] x e few does = none-so on x e few (becomes x) does refl
 given-all-received on from (m ∷ ms) x e few does =
     subst (λ (w : Effect). Given on x w.core w.sent) (sym does.4)
@@ -408,10 +415,12 @@ given-all-received on from (m ∷ ms) x e few does =
 -- ---- a circuit is connected: the CREATE_CHANs of the channels that wait for it
 
 module _ (on : Handle) (x : Client) (few : AreFew x) (c : Handle) where
-  begins-row : (s : Sending) (e : Handle × Channel) → cond (is_on_in is_connecting c e.1) (Some (create_sent c e.0 e.1)) None ≡ Some s → (is_on_in is_connecting c e.1 ≡ true) × (s ≡ create_sent c e.0 e.1)
+  begins-row : (s : Sending) (e : Handle × Channel) → cond (is_on_in is_connecting c e.1) (Some (create_sent c e.0 e.1)) None ≡ Some s
+      → (is_on_in is_connecting c e.1 ≡ true) × (s ≡ create_sent c e.0 e.1)
   begins-row s e is = go (is_on_in is_connecting c e.1) refl is
     where
-      go : (b : Bool) → is_on_in is_connecting c e.1 ≡ b → cond b (Some (create_sent c e.0 e.1)) None ≡ Some s → (is_on_in is_connecting c e.1 ≡ true) × (s ≡ create_sent c e.0 e.1)
+      go : (b : Bool) → is_on_in is_connecting c e.1 ≡ b → cond b (Some (create_sent c e.0 e.1)) None ≡ Some s
+          → (is_on_in is_connecting c e.1 ≡ true) × (s ≡ create_sent c e.0 e.1)
       go true waits p = (waits, sym (some_is (create_sent c e.0 e.1) s p))
       go false waits p = absurd (none-some s p)
         where
@@ -430,11 +439,13 @@ module _ (on : Handle) (x : Client) (few : AreFew x) (c : Handle) where
       phases Clearing f g = both_ways false refl f
       phases Doomed f g = both_ways false refl f
 
-      go : (s : Standing) → unwrap_or (option_map is_connecting (phase_on on s)) false ≡ true → unwrap_or (option_map is_asked (phase_on on s)) false ≡ true → ⊥
+      go : (s : Standing) → unwrap_or (option_map is_connecting (phase_on on s)) false ≡ true
+          → unwrap_or (option_map is_asked (phase_on on s)) false ≡ true → ⊥
       go Searching f g = both_ways false refl f
       go (On o p) f g = by (same_handle o on) f g
         where
-          by : (b : Bool) → unwrap_or (option_map is_connecting (cond b (Some p) None)) false ≡ true → unwrap_or (option_map is_asked (cond b (Some p) None)) false ≡ true → ⊥
+          by : (b : Bool) → unwrap_or (option_map is_connecting (cond b (Some p) None)) false ≡ true
+              → unwrap_or (option_map is_asked (cond b (Some p) None)) false ≡ true → ⊥
           by true k l = phases p k l
           by false k l = both_ways false refl k
 
@@ -474,7 +485,8 @@ module _ (on : Handle) (x : Client) (few : AreFew x) (c : Handle) where
       cid-index : (a b : Id) (n k : ℕ) → a ≡ Cid n → b ≡ Cid k → SameIndex a b → n % arena_slots ≡ k % arena_slots
       cid-index a b n k is also index = subst (λ (v : Id × Id). SameIndex v.0 v.1) (λ i. (is i, also i)) index
 
-pub given-connected : (on : Handle) (x : Client) (c : Handle) (d : ClientCircuit) (k : Option Closing) (sent : List Sending) (y : Client) → AreFew x → ConnectsOn x c (Some d) k sent y → Given on x y sent
+pub given-connected : (on : Handle) (x : Client) (c : Handle) (d : ClientCircuit) (k : Option Closing) (sent : List Sending) (y : Client) → AreFew x
+    → ConnectsOn x c (Some d) k sent y → Given on x y sent
 given-connected on x c d None sent y few does =
     let z : Client = begun c x in
     let all : List Sending = set_up x.peer c d ++ creations c x in

@@ -171,7 +171,7 @@ requests-let-go c d x = go d.is_name
     go true = refl
     go false = refl
 
-requests-ended : (c : Handle) (d : ClientCircuit) (x : Client) → (let_go c d (channels_ended c x)).requests ≡ x.requests
+pub requests-ended : (c : Handle) (d : ClientCircuit) (x : Client) → (let_go c d (channels_ended c x)).requests ≡ x.requests
 requests-ended c d x =
     let mid : Client = fold without_channel x (channels_on is_cleared c x) in
     requests-let-go c d (channels_ended c x) ∙ requests-fold searched_again (λ y h. refl) (channels_on (λ (p : Phase). not (is_cleared p)) c x) mid
@@ -396,7 +396,7 @@ opens-unsubscribed g (Some (On c Doomed)) x = opens-same x (unsubscribed g (Some
 opens-unsubscribed g (Some (On c Leaving)) x = opens-same x (unsubscribed g (Some (On c Leaving)) x) refl refl
 opens-unsubscribed g (Some (On c (Live native rights))) x = opens-same x (unsubscribed g (Some (On c (Live native rights))) x) refl refl
 
-requests-unwanted : (c : Handle) (x : Client) → ((unwanted c x).requests ≡ x.requests) × ((unwanted c x).channels ≡ x.channels)
+pub requests-unwanted : (c : Handle) (x : Client) → ((unwanted c x).requests ≡ x.requests) × ((unwanted c x).channels ≡ x.channels)
 requests-unwanted c x = go (length (channels_on (λ (p : Phase). true) c x) == 0) (under x.circuits c)
   where
     gone : (d : ClientCircuit) (b : Bool) → ((cond b (disconnected c x) (without_circuit c x)).requests ≡ x.requests) × ((cond b (disconnected c x) (without_circuit c x)).channels ≡ x.channels)
