@@ -89,5 +89,5 @@ run-knowing s es stopped w ok runs =
         let busy : (m l e : ℕ) → At y e (Finished m l) → IsBusyUntil y m l e = λ m l e is. ((sound.writes.logs j.lists.server y ly).finished m l e is).0 in (
           as-told n j y busy k h (a, rest),
           told-as (λ (q : Sent) (known : Knows) (did : Action) (replies : List Fields) (logs : List Entry). Knew (port_of w j.lists.server) (rules_of w j.lists.server) (before (circuit_of j) k h) (take h.logged y) known) n j y busy k h (a, rest)
-          (knew-as (port_of w j.lists.server) (rules_of w j.lists.server) j k h (take h.logged y) a.known (port ∙ sym (port-is s w one many sound.given n j g at of)) (rules ∙ sym (rules-are s w one many sound.given n j g at of)) a.knew),
+              (knew-as (port_of w j.lists.server) (rules_of w j.lists.server) j k h (take h.logged y) a.known (port ∙ sym (port-is s w one many sound.given n j g at of)) (rules ∙ sym (rules-are s w one many sound.given n j g at of)) a.knew),
         )

@@ -144,9 +144,11 @@ says-one w new i x spoken o r e at once is sent lines valued carries n d k s at_
           let now = g.1 x.life t.0 t.1 in
           let has : In now.0 (Called (intent_of spoken r.aim) (Some e)) = elim (g.0 x.life now.0 now.1) [
             | inr other ↦ absurd (other.1 refl)
-            | inl grew ↦
-                (length grew.1.0 + 0, subst (λ (l : List Line). At l (length grew.1.0 + 0) (Called (intent_of spoken r.aim) (Some e))) (sym grew.1.2)
-                (At-after grew.1.0 o.lines 0 (Called (intent_of spoken r.aim) (Some e)) (subst (λ (l : List Line). At l 0 (Called (intent_of spoken r.aim) (Some e))) (sym lines) refl)))
+            | inl grew ↦ (
+              length grew.1.0 + 0,
+              subst (λ (l : List Line). At l (length grew.1.0 + 0) (Called (intent_of spoken r.aim) (Some e))) (sym grew.1.2)
+                  (At-after grew.1.0 o.lines 0 (Called (intent_of spoken r.aim) (Some e)) (subst (λ (l : List Line). At l 0 (Called (intent_of spoken r.aim) (Some e))) (sym lines) refl)),
+            )
           ] in
           inr (
             now.0,

@@ -49,9 +49,7 @@ pub use live_laws::{
 };
 pub use name_laws::{names_are_kept, records_keep_their_names};
 pub use post_laws::{subscriptions_follow_their_posts, what_stands_follows_its_record};
-pub use promise_laws::{
-    messages_are_their_own, runs_are_safe_if_answered, what_is_sent_is_legal,
-};
+pub use promise_laws::{messages_are_their_own, runs_are_safe_if_answered, what_is_sent_is_legal};
 pub use refused_laws::{bad_channels_lost_their_records, channels_of_removed_records_are_bad};
 pub use write_laws::{
     what_is_applied_is_what_callers_gave, writes_are_not_made_twice,
