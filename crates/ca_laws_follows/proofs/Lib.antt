@@ -59,3 +59,4 @@ pub mod FaceLists
 pub mod FaceRuns
 pub mod ServersStay
 pub mod DueRuns
+pub mod Awaiting

@@ -22,3 +22,4 @@ pub mod KnewFull
 pub mod KnewFaces
 pub mod Given
 pub mod AnswerDue
+pub mod Awaiting
