@@ -60,3 +60,4 @@ pub mod FaceRuns
 pub mod ServersStay
 pub mod DueRuns
 pub mod Awaiting
+pub mod ClearedPuts
