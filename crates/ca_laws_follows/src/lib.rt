@@ -24,7 +24,7 @@ pub use act_laws::{
 pub use answer_laws::{
     messages_have_their_causes, servers_know_their_records, what_stands_was_not_ended,
 };
-pub use answered_laws::{messages_are_answered, messages_are_answered_by_what_was_known};
+pub use answered_laws::{messages_are_answered, messages_are_answered_as_is_due};
 pub use await_laws::puts_wait_for_records;
 pub use full_laws::servers_know_when_they_are_full;
 pub use gone_laws::retired_channels_lost_their_records;
