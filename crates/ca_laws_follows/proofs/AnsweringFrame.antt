@@ -8,6 +8,7 @@ use Rattle.ca_model.specs.Due.{Action}
 use Rattle.ca_model.specs.History.{Circuit, Entry, Finished, Reply, Step, Told}
 use Rattle.ca_model_safe.specs.Channels.{IsReply}
 use Rattle.ca_model_safe.specs.Channels.{IsUncleared}
+use Rattle.ca_model_safe.specs.Known.{AreJust, IsWithdrawal}
 use Rattle.ca_model.specs.Speech.{sid_in}
 use Rattle.ca_model_world.specs.ServerEvents.{StepHandles, about, acted, ending, ends_by, handled_at, numbers_after, server_after, server_closed, side_of, write_numbers}
 use Rattle.ca_model_world.specs.ServerEvents as server
@@ -70,6 +71,7 @@ module _ (n : ℕ) (c d : Circuit) (y z : List Entry) (k : ℕ) (h : Step) (ext 
       ];
       logs = a.logs;
       logs_are = subst (λ (l : List Entry). LogsSo n k l a.did a.logs) (sym (longer-taken h.logged y z longer (steady.within k h at_h).logged)) a.logs_are;
+      clears = λ sid is. subst (λ (v : Circuit × List Entry). AreJust a.logs (IsWithdrawal n v.0 v.1 sid)) (λ i. (sym same-past i, sym (longer-taken h.logged y z longer (steady.within k h at_h).logged) i)) (a.clears sid is);
       logged = λ i e at. subst (λ (l : List Entry). At l (h.logged + i) e) (sym longer.1) (At-append y longer.0 (h.logged + i) e (a.logged i e at));
       within = a.within;
       besides = λ i e from until at. a.besides i e from until (At-back y longer.0 i e (subst (λ (l : List Entry). At l i e) longer.1 at) (let le : h.after ≤ length y = a.ends in omega (arith, until, le)));

@@ -11,11 +11,11 @@ use Rattle.ca_wire.specs.Fields.{Fields}
 use Rattle.ca_model.specs.Answers.{Closing}
 use Rattle.ca_model.specs.Due.{Action, Applies, Due, KnownRecord, Knows}
 use Rattle.ca_model.specs.Due as action
-use Rattle.ca_model.specs.History.{Cause, Circuit, Entry, Finished, Line, Removal, Reply, Sent, Step, Told, Withdrawn}
+use Rattle.ca_model.specs.History.{Cause, Circuit, Entry, Finished, Line, Removal, Reply, Sent, Step, Told, Waits, Withdrawn}
 use Rattle.ca_model.specs.Server.{Server, ServerEnd}
 use Rattle.ca_model.specs.ServerCalls.{IsAwaited, Replies, finish_reply, with_finish}
 use Rattle.ca_model.specs.ServerSteps.{HasEnd, Pumps, Stepped, known_record, knows, stored_now}
-use Rattle.ca_model.specs.Speech.{In, Is, sid_in}
+use Rattle.ca_model.specs.Speech.{In, Is, Stored, sid_in}
 use Rattle.ca_text.specs.Status.{normal}
 use Rattle.ca_records.specs.declared.puts.Put.{Put}
 use Rattle.ca_ids.specs.Table.{under}
@@ -61,7 +61,12 @@ use Rattle.ca_laws_follows.proofs.CausingEvents.{Nothing-new, Ready, steady-of}
 use Rattle.ca_laws_follows.proofs.CausingFrame.{Back, FinishNews, IsStill, News, PumpNews, RemoveNews, Says, Takes, back-frame, finish-back, pump-back, removed-back, step-back, still-back, unhandled-back}
 use Rattle.ca_laws_follows.proofs.CausingKeeps.{Steady}
 use Rattle.ca_laws_follows.proofs.CausingRuns.{ready}
+use Rattle.ca_laws_follows.specs.Awaiting.{AllAwaiting}
 use Rattle.ca_laws_follows.specs.Given.{IsGiven}
+use Rattle.ca_laws_follows.proofs.Awaiting.{run-awaiting}
+use Rattle.ca_laws_follows.proofs.ClearedPuts.{cleared-just}
+use Rattle.ca_model_safe.specs.Known.{AreJust, IsWithdrawal}
+use Rattle.ca_laws_writes.specs.Both.{Both}
 use Rattle.ca_laws_follows.specs.KnewFaces.{IsFace, KeepSettings, face_of}
 use Rattle.ca_laws_follows.proofs.FaceRuns.{run-know-faces, run-settings}
 use Rattle.ca_laws_follows.proofs.KnewFull.{run-know-full}
@@ -313,7 +318,7 @@ side-life w k j y did at = go (slice_get (acted k j y did w).servers j.server) r
     go None is = refl
     go (Some z) is = elim (At-set w.servers j.server next j.server z is) [ inl own ↦ ap (λ (x : ServerSide). x.life) own.1 | inr old ↦ absurd (old.1 refl) ]
 
-module _ (s : Setting) (w new : World) (k : ℕ) (j : Joined) (y : ServerSide) (on : At w.circuits k j) (at_y : At w.servers j.server y) (opened : j.lists.server_open ≡ true) (f : StepHandles w k j y new) (ready : Ready s w) (grow : LogsGrow w new) (know : AllKnow w) (keep : KeepSettings w) (all : AllAnswered s w) where
+module _ (s : Setting) (w new : World) (k : ℕ) (j : Joined) (y : ServerSide) (on : At w.circuits k j) (at_y : At w.servers j.server y) (opened : j.lists.server_open ≡ true) (f : StepHandles w k j y new) (ready : Ready s w) (grow : LogsGrow w new) (know : AllKnow w) (keep : KeepSettings w) (await : AllAwaiting w) (all : AllAnswered s w) where
   abbrev place : ℕ
   place = length j.lists.handled
 
@@ -446,6 +451,28 @@ module _ (s : Setting) (w new : World) (k : ℕ) (j : Joined) (y : ServerSide) (
     logs-so (action.Drops x) due = refl
     logs-so (action.Switches x) due = refl
 
+    -- the puts that wait on a channel of this SID are withdrawn
+    cleared : (sid : ℕ) → AreJust (server.channel_withdrawals j.at_server sid y.core.records y.records) (IsWithdrawal k (as_known j.lists) own.0 sid)
+    cleared sid =
+        let writes = ready.serves.stands.sound.writes in
+        let life = writes.lives j.server y at_y in
+        let same : life.log ≡ own.0 = At-one w.server_logs y.life life.log own.0 life.at here in
+        cleared-just w.circuits j.server k j own.0 y.core.records y.records (record {
+          on = on;
+          each = subst (λ (l : List Entry). Both (Agrees (IsPutOf w.circuits j.server) l) y.core.records y.records) same life.life.each;
+          others = life.life.others;
+          once = λ p r q v u first second.
+              let index : first.0 ≡ second.0 = (writes.logs j.lists.server own.0 own.1).waits first.0 second.0 p.circuit p.place r q v u first.1 second.1 in
+              same-waits p.circuit p.place r q v u (At-one own.0 second.0 (Waits p.circuit p.place r v) (Waits p.circuit p.place q u) (subst (λ (m : ℕ). At own.0 m (Waits p.circuit p.place r v)) index first.1) second.1);
+          open_still = life.still_open;
+          awaits = await j.server y own.0 at_y here;
+          one = λ m c at_c of opened_c handle. ready.serves.stands.sound.seated.one m k c j at_c on of opened_c opened handle;
+          handled = λ l r v told. writes.handled j.lists.server own.0 (Waits k l r v) (record { circuit = k; place = l }) own.1 told refl j on opened;
+        }) sid
+      where
+        same-waits : (n l r q : ℕ) (v u : Stored) → Waits n l r v ≡ Waits n l q u → r ≡ q
+        same-waits n l r q v u e = cc
+
     fresh : AnsweredAt k d.lists lg place step
     fresh = (
       record {
@@ -471,6 +498,9 @@ module _ (s : Setting) (w new : World) (k : ℕ) (j : Joined) (y : ServerSide) (
         ];
         logs = more;
         logs_are = subst (λ (l : List Entry). LogsSo k place l (f.steps.0).action more) (sym is-log) (logs-so (f.steps.0).action ((f.steps.0).handles).due);
+        clears = λ sid is.
+            subst (λ (v : Circuit × List Entry). AreJust more (IsWithdrawal k v.0 v.1 sid)) (λ i. (sym is-known i, sym is-log i))
+            (subst (λ (a : Action). AreJust (logged_by y.core j.at_server put_at a y.records) (IsWithdrawal k (as_known j.lists) own.0 sid)) (sym is) (cleared sid));
         logged = λ i e there.
             let n_is : step.logged + i ≡ length own.0 + i = ap (λ (z : ℕ). z + i) length-is in
             subst (λ (v : ℕ × List Entry). At v.1 v.0 e) (λ q. (sym n_is q, sym lg-is q)) (At-append (own.0 ++ more) ended_log (length own.0 + i) e (At-after own.0 more i e there));
@@ -581,8 +611,8 @@ remove-answered s w i y name gone left core ready logs all =
     back-answered (RemoveNews w i y.core name gone left) s w new ready logs (removed-back w i y name gone left core)
     (λ l c d log lg at_c at_d logged there longer. remove-by w i y.core name gone left l lg c.lists) all
 
-event-answered : (s : Setting) (w new : World) (e : Event) → Ready s w → AllKnow w → KeepSettings w → Happens w e new → AllAnswered s w → AllAnswered s new
-event-answered s w new e ready know keep happens all = go e happens
+event-answered : (s : Setting) (w new : World) (e : Event) → Ready s w → AllKnow w → KeepSettings w → AllAwaiting w → Happens w e new → AllAnswered s w → AllAnswered s new
+event-answered s w new e ready know keep await happens all = go e happens
   where
     grow : (e : Event) → Happens w e new → LogsGrow w new
     grow e happens = logs-grow s w new e (takes-next s w ready.serves) (world-numbered w ready.serves.in_step) happens ready.serves.stands.sound
@@ -599,7 +629,7 @@ event-answered s w new e ready know keep happens all = go e happens
     stepped-by k (at, (did, f)) = elim (handled-or did) [
       | inl is ↦
           let g : StepHandles w k at.j at.y new = subst (λ (x : Stepped). ServerStepped w k at.j at.y x new) is f in
-          step-answered s w new k at.j at.y at.joins.at at.joins.server at.is_open g ready (grow (event.ServerStep k) (at, (did, f))) know keep all
+          step-answered s w new k at.j at.y at.joins.at at.joins.server at.is_open g ready (grow (event.ServerStep k) (at, (did, f))) know keep await all
       | inr other ↦
           back-answered Nothing-new s w new ready (grow (event.ServerStep k) (at, (did, f))) (unhandled-back Nothing-new w new k at.j at.y did at.joins.at other f)
           (λ l c d log lg at_c at_d logged there longer. still-by l lg c.lists) all
@@ -688,7 +718,7 @@ events-answered s ok done [] w new before same all = subst (λ (z : World). AllA
 events-answered s ok done (e ∷ es) w new before (mid, one, rest) all =
     let runs : Runs s done None w = (w, before, refl) in
     events-answered s ok (done ++ e ∷ []) es mid new (folds-snoc done (opening s) w mid e before one) rest
-    (event-answered s w mid e (ready s done None w ok runs) (run-know s done None w ok runs) (run-settings s done None w ok runs) one all)
+    (event-answered s w mid e (ready s done None w ok runs) (run-know s done None w ok runs) (run-settings s done None w ok runs) (run-awaiting s done None w ok runs) one all)
 
 stops-answered : (s : Setting) (mid : World) (stopped : Option Event) (w : World) → Ready s mid → StopsAt mid stopped w → AllAnswered s mid → AllAnswered s w
 stops-answered s mid (Some (event.Tick moment)) w h stops all = elim stops [
@@ -719,6 +749,7 @@ as-told n j y busy k h (a, rest) = (
     next = a.next;
     logs = a.logs;
     logs_are = a.logs_are;
+    clears = a.clears;
     logged = a.logged;
     within = a.within;
     besides = a.besides;

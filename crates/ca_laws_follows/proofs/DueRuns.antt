@@ -1,22 +1,23 @@
--- What a server knew when it handled a message is what the statement says that it knew: by the lists, and by what it was given.
+-- What was due for each message that was handled, by what its server knew then, is what the statement says.
 use Rattle.std.proofs.Common.{◌≡◌, ℕ, zero, suc, ◌<◌, ◌≤◌, inl, inr, Bool, true, false, cond, eqb, eqb-true, eq-eqb, List, [], ◌∷◌, length, Option, Some, None, refl, sym, ap, subst, ◌∙◌, arith}
 use Rattle.std.specs.Prelude.{find, option_and_then, option_map, slice_get, take, unwrap_or}
 use Rattle.ca_records.specs.Rules.{Rule}
 use Rattle.ca_text.specs.Place.{At}
 use Rattle.ca_text.proofs.Places.{some_is, At-one, At-or, At-within}
 use Rattle.ca_wire.specs.Fields.{Fields}
-use Rattle.ca_model.specs.Due.{Action, Knows}
+use Rattle.ca_model.specs.Due.{Action, Clears, Knows, late_reply}
+use Rattle.ca_model.specs.Due as action
 use Rattle.ca_model.specs.History.{Circuit, Entry, Finished, Line, Sent, Step}
 use Rattle.ca_model_safe.specs.Channels.{IsBusyUntil, before}
-use Rattle.ca_model_safe.specs.Known.{Knew}
+use Rattle.ca_model_safe.specs.Known.{AreJust, IsDue, IsLogged, IsWithdrawal, Knew, Logs}
 use Rattle.ca_model_world.specs.Events.{Event}
 use Rattle.ca_model_world.specs.Runs.{Runs}
 use Rattle.ca_model_world.specs.World.{IsSetting, Joined, ServerSetting, ServerSide, Setting, World, circuit_of, port_of, rules_of, setting_of}
 use Rattle.ca_laws_held.proofs.StepWhole.{run-serves}
 use Rattle.ca_laws_writes.specs.Seats.{AsGiven}
 use Rattle.ca_laws_writes.proofs.Lists.{none_at}
-use Rattle.ca_laws_follows.specs.AnswerDue.{AnsweredKnowing, AreAnsweredKnowing}
-use Rattle.ca_laws_follows.specs.Answering.{AnsweredBy, KnowsLists, past}
+use Rattle.ca_laws_follows.specs.AnswerDue.{AnsweredDue, AreAnsweredDue}
+use Rattle.ca_laws_follows.specs.Answering.{AnsweredBy, KnowsLists, LogsSo, past}
 use Rattle.ca_laws_follows.specs.Given.{OfOneServer}
 use Rattle.ca_laws_follows.proofs.ActsOn.{of-circuits}
 use Rattle.ca_laws_follows.proofs.AnsweringRuns.{as-told, run-all-answered, told-as}
@@ -76,18 +77,46 @@ knew-as port rules j k h y known on by knows = record {
   keys = record { each = knows.keys.each; all = knows.keys.all; once = knows.keys.once };
 }
 
-pub run-knowing : (s : Setting) (es : List Event) (stopped : Option Event) (w : World) → IsSetting s → Runs s es stopped w → AreAnsweredKnowing w
-run-knowing s es stopped w ok runs =
-    of-circuits s es stopped w ok runs (λ (n : ℕ) (c : Circuit) (x : List Line) (y : List Entry). (k : ℕ) (h : Step) → At c.handled k h → AnsweredKnowing (port_of w) (rules_of w) n c y k h)
-    (λ n j x y at lx ly k h there. knowing n j y at ly k h (run-all-answered s es stopped w ok runs n j y at ly k h there))
+take-count : {A : Type 0} (xs : List A) (k : ℕ) → k ≤ length xs → length (take k xs) ≡ k
+take-count xs zero le = refl
+take-count [] (suc k) le = absurd (omega (arith, le))
+take-count (x ∷ xs) (suc k) le = ap (λ (n : ℕ). suc n) (take-count xs k (omega (arith, le)))
+
+logs-as : (n k : ℕ) (j : Joined) (h : Step) (y : List Entry) (did : Action) (logs : List Entry) → k < length j.lists.handled → LogsSo n k y did logs → ((sid : ℕ) → did ≡ Clears sid → AreJust logs (IsWithdrawal n (past j.lists k h) y sid)) → Logs n (before (circuit_of j) k h) y did logs
+logs-as n k j h y did logs lt so clears = go did so clears
   where
-    knowing : (n : ℕ) (j : Joined) (y : List Entry) → At w.circuits n j → At w.server_logs j.lists.server y → (k : ℕ) (h : Step) → AnsweredBy s j.server n j.lists y k h → AnsweredKnowing (port_of w) (rules_of w) n (circuit_of j) y k h
-    knowing n j y at ly k h ((a, rest), (g, of, port, rules)) =
+    count : length (take k j.lists.handled) ≡ k
+    count = take-count j.lists.handled k (omega (arith, lt))
+
+    its-write : (did : Action) → IsLogged n k y did logs → IsLogged n (length (take k j.lists.handled)) y did logs
+    its-write did logged = subst (λ (m : ℕ). IsLogged n m y did logs) (sym count) logged
+
+    go : (did : Action) → LogsSo n k y did logs → ((sid : ℕ) → did ≡ Clears sid → AreJust logs (IsWithdrawal n (past j.lists k h) y sid)) → Logs n (before (circuit_of j) k h) y did logs
+    go (Clears sid) so clears = (let just = clears sid refl in record { each = just.each; all = just.all; once = just.once })
+    go (action.Applies name value busies) so clears = its-write (action.Applies name value busies) so
+    go (action.Waits name value) so clears = its-write (action.Waits name value) so
+    go action.Nothing so clears = so
+    go action.Greets so clears = so
+    go (action.Names p) so clears = so
+    go (action.Opens c) so clears = so
+    go (action.Adds x) so clears = so
+    go (action.Drops key) so clears = so
+    go (action.Switches on) so clears = so
+
+pub run-due : (s : Setting) (es : List Event) (stopped : Option Event) (w : World) → IsSetting s → Runs s es stopped w → AreAnsweredDue w
+run-due s es stopped w ok runs =
+    of-circuits s es stopped w ok runs (λ (n : ℕ) (c : Circuit) (x : List Line) (y : List Entry). (k : ℕ) (h : Step) → At c.handled k h → AnsweredDue (port_of w) (rules_of w) n c y k h)
+    (λ n j x y at lx ly k h there. due n j y at ly k h there (run-all-answered s es stopped w ok runs n j y at ly k h there))
+  where
+    due : (n : ℕ) (j : Joined) (y : List Entry) → At w.circuits n j → At w.server_logs j.lists.server y → (k : ℕ) (h : Step) → At j.lists.handled k h → AnsweredBy s j.server n j.lists y k h → AnsweredDue (port_of w) (rules_of w) n (circuit_of j) y k h
+    due n j y at ly k h there ((a, rest), (g, of, port, rules)) =
         let one = (run-faces s es stopped w ok runs).one in
         let many = run-many s es stopped w runs in
         let sound = (run-serves s es stopped w ok runs).stands.sound in
-        let busy : (m l e : ℕ) → At y e (Finished m l) → IsBusyUntil y m l e = λ m l e is. ((sound.writes.logs j.lists.server y ly).finished m l e is).0 in (
+        let busy : (m l e : ℕ) → At y e (Finished m l) → IsBusyUntil y m l e = λ m l e is. ((sound.writes.logs j.lists.server y ly).finished m l e is).0 in
+        let knew = knew-as (port_of w j.lists.server) (rules_of w j.lists.server) j k h (take h.logged y) a.known (port ∙ sym (port-is s w one many sound.given n j g at of)) (rules ∙ sym (rules-are s w one many sound.given n j g at of)) a.knew in
+        let logs = logs-as n k j h (take h.logged y) a.did a.logs (At-within j.lists.handled k h there) a.logs_are a.clears in (
           as-told n j y busy k h (a, rest),
-          told-as (λ (q : Sent) (known : Knows) (did : Action) (replies : List Fields) (logs : List Entry). Knew (port_of w j.lists.server) (rules_of w j.lists.server) (before (circuit_of j) k h) (take h.logged y) known) n j y busy k h (a, rest)
-              (knew-as (port_of w j.lists.server) (rules_of w j.lists.server) j k h (take h.logged y) a.known (port ∙ sym (port-is s w one many sound.given n j g at of)) (rules ∙ sym (rules-are s w one many sound.given n j g at of)) a.knew),
+          told-as (λ (q : Sent) (known : Knows) (did : Action) (replies : List Fields) (logs : List Entry). IsDue (port_of w) (rules_of w) n (before (circuit_of j) k h) (take h.logged y) q.message replies (late_reply q.message did) logs) n j y busy k h (a, rest)
+              (a.known, a.did, knew, a.due, refl, logs),
         )

@@ -71,4 +71,7 @@ pub mod WritesSaid
 pub mod WritesCarried
 pub mod WritesTitled
 pub mod OwnWrites
+pub mod Awaiting
+pub mod ClearedPuts
+pub mod AnsweredWhole
 pub mod Promised

@@ -23,6 +23,7 @@ use Rattle.ca_laws_held.proofs.SeeingRuns.{run-sees}
 use Rattle.ca_laws_follows.specs.Promised.{AllAreAnswered, AnswersAreOwn, MessagesMeanOwn}
 use Rattle.ca_laws_follows.proofs.ActsOn.{of-circuits}
 use Rattle.ca_laws_follows.proofs.ActsWhole.{run-act-on-records}
+use Rattle.ca_laws_follows.proofs.AnsweredWhole.{run-are-answered}
 use Rattle.ca_laws_follows.proofs.CausingRuns.{run-causes}
 use Rattle.ca_laws_follows.proofs.LegalMost.{circuit-both, legal-with, run-legal-most}
 use Rattle.ca_laws_follows.proofs.OwnWrites.{run-not-twice}
@@ -51,13 +52,13 @@ answer-own w means answered n c at =
 
 -- ---- the whole
 
-pub run-answers-own : (s : Setting) (es : List Event) (stopped : Option Event) (w : World) → IsSetting s → AreEvents es → Runs s es stopped w → AllAreAnswered w → AnswersAreOwn w
-run-answers-own s es stopped w ok are runs answered = answer-own w (run-mean-own s es stopped w ok are runs) answered
+pub run-answers-own : (s : Setting) (es : List Event) (stopped : Option Event) (w : World) → IsSetting s → AreEvents es → Runs s es stopped w → AnswersAreOwn w
+run-answers-own s es stopped w ok are runs = answer-own w (run-mean-own s es stopped w ok are runs) (run-are-answered s es stopped w ok runs)
 
-pub run-safe : (s : Setting) (es : List Event) (stopped : Option Event) (w : World) → IsSetting s → AreEvents es → Runs s es stopped w → AllAreAnswered w → IsSafeWorld w
-run-safe s es stopped w ok are runs answered = record {
+run-safe : (s : Setting) (es : List Event) (stopped : Option Event) (w : World) → IsSetting s → AreEvents es → Runs s es stopped w → IsSafeWorld w
+run-safe s es stopped w ok are runs = record {
   acts = run-act-on-records s es stopped w ok are runs;
-  own = (run-answers-own s es stopped w ok are runs answered, run-complete s es stopped w ok are runs);
+  own = (run-answers-own s es stopped w ok are runs, run-complete s es stopped w ok are runs);
   applied = run-not-twice s es stopped w ok are runs;
   sees = (run-record s es stopped w ok runs, run-sees s es stopped w ok are runs);
 }
@@ -69,3 +70,7 @@ run-legal-world s es stopped w ok are runs = record {
       (a.0, a.1, a.2, legal-with n c a.0 a.1 a.3.0 a.3.1);
   subscriptions = is-sent s es stopped w runs;
 }
+
+-- What is promised of every run.
+pub promised : Promise
+promised s es stopped w ok are runs = (run-safe s es stopped w ok are runs, run-legal-world s es stopped w ok are runs)

@@ -10,7 +10,7 @@ use Rattle.ca_model.specs.Due.{Action, Clears, Due, Knows}
 use Rattle.ca_model.specs.History.{Circuit, Entry, Finished, Line, Sent, Step, Withdrawn}
 use Rattle.ca_model.specs.Speech.{In, Is, sid_in}
 use Rattle.ca_model_safe.specs.Channels.{IsFinished, IsReply, IsUncleared, OfCircuits, before}
-use Rattle.ca_model_safe.specs.Known.{AreJust, IsChannel, IsFull, IsKey, IsLogged, IsRecordOf, NamesItself, has_created}
+use Rattle.ca_model_safe.specs.Known.{AreJust, IsChannel, IsFull, IsKey, IsLogged, IsRecordOf, IsWithdrawal, NamesItself, has_created}
 use Rattle.ca_model_world.specs.World.{Setting, World, told}
 use Rattle.ca_laws_follows.specs.Given.{IsGiven}
 
@@ -30,7 +30,7 @@ pub record KnowsLists (c : Circuit) (y : List Entry) (k : Knows) : Type 0 where
 abbrev pub past : Circuit → ℕ → Step → Circuit
 past c k h = record (before c k h) { client = 0 }
 
--- What the step of the message at place k logs for what that does: its write; or, as a channel is cleared, withdrawals.
+-- What the step of the message at place k logs for what that does: its write; or, as a channel is cleared, withdrawals (`clears` says which).
 abbrev pub LogsSo : (n k : ℕ) → List Entry → Action → List Entry → Type 0
 LogsSo n k y (Clears sid) logs = (i : ℕ) (e : Entry) → At logs i e → (m l : ℕ) × (e ≡ Withdrawn m l)
 LogsSo n k y did logs = IsLogged n k y did logs
@@ -50,6 +50,7 @@ pub record IsAnswered (n : ℕ) (c : Circuit) (y : List Entry) (k : ℕ) (h : St
   pub next : (l : ℕ) (g : Step) → k < l → At c.handled l g → h.sent + length replies ≤ g.sent
   pub logs : List Entry
   pub logs_are : LogsSo n k (take h.logged y) did logs
+  pub clears : (sid : ℕ) → did ≡ Clears sid → AreJust logs (IsWithdrawal n (past c k h) (take h.logged y) sid)
   pub logged : (i : ℕ) (e : Entry) → At logs i e → At y (h.logged + i) e
   pub within : h.logged + length logs ≤ h.after
   pub besides : (i : ℕ) (e : Entry) → h.logged + length logs ≤ i → i < h.after → At y i e → (m l : ℕ) × (e ≡ Withdrawn m l)

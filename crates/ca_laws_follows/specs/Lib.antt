@@ -27,3 +27,4 @@ pub mod Lately
 pub mod Carried
 pub mod OwnWrites
 pub mod Promised
+pub mod Awaiting

@@ -6,6 +6,7 @@
 mod act_laws;
 mod answer_laws;
 mod answered_laws;
+mod await_laws;
 mod circuit_laws;
 mod full_laws;
 mod gone_laws;
@@ -27,7 +28,8 @@ pub use act_laws::{
 pub use answer_laws::{
     messages_have_their_causes, servers_know_their_records, what_stands_was_not_ended,
 };
-pub use answered_laws::{messages_are_answered, messages_are_answered_by_what_was_known};
+pub use answered_laws::{messages_are_answered, messages_are_answered_as_is_due};
+pub use await_laws::puts_wait_for_records;
 pub use circuit_laws::circuits_are_legal_but_for_ids;
 pub use full_laws::servers_know_when_they_are_full;
 pub use gone_laws::retired_channels_lost_their_records;
@@ -49,7 +51,9 @@ pub use live_laws::{
 };
 pub use name_laws::{names_are_kept, records_keep_their_names};
 pub use post_laws::{subscriptions_follow_their_posts, what_stands_follows_its_record};
-pub use promise_laws::{messages_are_their_own, runs_are_safe_if_answered, what_is_sent_is_legal};
+pub use promise_laws::{
+    each_answer_is_its_own_requests, each_message_is_answered, runs_are_safe, what_is_sent_is_legal,
+};
 pub use refused_laws::{bad_channels_lost_their_records, channels_of_removed_records_are_bad};
 pub use write_laws::{
     what_is_applied_is_what_callers_gave, writes_are_not_made_twice,
