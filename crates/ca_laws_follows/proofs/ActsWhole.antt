@@ -97,8 +97,8 @@ run-live-there s es stopped w ok are runs =
           (run-end-facts s es stopped w ok runs n j seat.y seat.e y at seat.at opened seat.has logged) o.0 o.1,
     ))
 
--- two facts of each circuit
-both-of : (w : World) (P Q : ℕ → Circuit → List Line → List Entry → Type 0) → OfCircuits (told w) P → OfCircuits (told w) Q → OfCircuits (told w) (λ (n : ℕ) (c : Circuit) (x : List Line) (y : List Entry). P n c x y × Q n c x y)
+-- two facts of each circuit, with the logs that it joins
+pub both-of : (w : World) (P Q : ℕ → Circuit → List Line → List Entry → Type 0) → OfCircuits (told w) P → OfCircuits (told w) Q → OfCircuits (told w) (λ (n : ℕ) (c : Circuit) (x : List Line) (y : List Entry). P n c x y × Q n c x y)
 both-of w P Q f g n c at =
     let a = f n c at in
     let b = g n c at in

@@ -13,7 +13,7 @@ use Rattle.ca_model_safe.specs.Headline.{Answered}
 use Rattle.ca_model_safe.specs.Known.{IsDue}
 use Rattle.ca_model_world.specs.Events.{Event}
 use Rattle.ca_model_world.specs.Runs.{Runs}
-use Rattle.ca_model_world.specs.World.{IsSetting, Joined, Setting, World, circuit_of, port_of, rules_of}
+use Rattle.ca_model_world.specs.World.{IsSetting, Setting, World, circuit_of, port_of, rules_of}
 use Rattle.ca_laws_held.proofs.StepWhole.{run-serves}
 use Rattle.ca_laws_writes.specs.Lives.{CameOn, LostOn}
 use Rattle.ca_laws_writes.specs.Once.{Once}

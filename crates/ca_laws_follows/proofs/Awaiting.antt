@@ -44,9 +44,9 @@ use Rattle.ca_laws_writes.proofs.Lists.{In-kept, beside-right, kept-in, none_at}
 use Rattle.ca_laws_writes.proofs.Lives.{number-of}
 use Rattle.ca_laws_held.proofs.StepWhole.{run-serves}
 use Rattle.ca_laws_writes.proofs.Midway.{grown-here, set-here}
-use Rattle.ca_laws_follows.specs.Entries.{AreQuiet, title, titles}
-use Rattle.ca_laws_follows.proofs.PostFollowing.{in-more, other-bytes, titled}
-use Rattle.ca_laws_follows.proofs.Logged.{titles-kept, withdrawn-quiet}
+use Rattle.ca_laws_follows.specs.Entries.{title, titles}
+use Rattle.ca_laws_follows.proofs.PostFollowing.{in-more, titled}
+use Rattle.ca_laws_follows.proofs.Logged.{titles-kept}
 use Rattle.ca_laws_follows.proofs.LoggedStep.{logs-quiet, told-logs, with-record-titles, write-titles}
 use Rattle.ca_laws_follows.specs.Awaiting.{AllAwaiting, IsAwaiting}
 use Rattle.ca_laws_follows.proofs.Whole.{folds-snoc}

@@ -1,6 +1,5 @@
 -- A CLEAR_CHANNEL withdraws just the puts that wait on its channel, each once.
-use Rattle.std.proofs.Common.{◌≡◌, ℕ, zero, suc, ◌+◌, ◌<◌, ◌≤◌, ◌⊎◌, inl, inr, Bool, true, false, cond, ◌&&◌, eqb, eqb-true, eq-eqb, List, [], ◌∷◌, ◌++◌, length, Option, Some, refl, sym, ap, subst, ◌∙◌, arith}
-use Rattle.std.specs.Prelude.{map, take}
+use Rattle.std.proofs.Common.{◌≡◌, ℕ, zero, suc, ◌+◌, ◌<◌, inl, inr, Bool, true, false, cond, ◌&&◌, eqb, eqb-true, eq-eqb, List, [], ◌∷◌, ◌++◌, length, Some, refl, sym, ap, subst, ◌∙◌, arith}
 use Rattle.std.specs.List.{flat_map}
 use Rattle.std.proofs.lemmas.Bool.{both_ways}
 use Rattle.ca_arena.specs.declared.handle.Handle.{Handle}
@@ -10,13 +9,13 @@ use Rattle.ca_records.specs.declared.puts.Put.{Put}
 use Rattle.ca_records.specs.Puts.{Record, WaitingPut}
 use Rattle.ca_text.specs.Place.{At}
 use Rattle.ca_text.proofs.Places.{some_is, At-after, At-append, At-map, At-mapped, At-one, At-parts}
-use Rattle.ca_model.specs.History.{Circuit, Entry, Sent, Waits, Withdrawn}
+use Rattle.ca_model.specs.History.{Entry, Sent, Waits, Withdrawn}
 use Rattle.ca_model.specs.Speech.{In, Stored, sid_in}
 use Rattle.ca_model_client.proofs.Handles.{same-is, same-itself}
 use Rattle.ca_model_safe.specs.Known.{AreJust, IsWithdrawal, waiting}
 use Rattle.ca_model_world.specs.ServerEvents.{channel_withdrawals, is_of_channel, places_where, with_core}
 use Rattle.ca_model_world.specs.World.{Joined, PutPlace, RecordSide}
-use Rattle.ca_laws_writes.specs.Agrees.{Agrees, AreApart, AreOthers, StillWaits, WaitsAs, pair_of}
+use Rattle.ca_laws_writes.specs.Agrees.{Agrees, AreApart, AreOthers, WaitsAs, pair_of}
 use Rattle.ca_laws_writes.specs.Both.{Both}
 use Rattle.ca_laws_writes.specs.Lives.{AreOpen, IsPutOf}
 use Rattle.ca_laws_writes.proofs.Lists.{At-take, beside-left, beside-right, both-at, none_at}
@@ -24,7 +23,6 @@ use Rattle.ca_laws_writes.proofs.Lives.{others-apart}
 use Rattle.ca_laws_writes.proofs.Waited.{places-back}
 use Rattle.ca_laws_held.proofs.Pairs.{places-at}
 use Rattle.ca_laws_follows.specs.Awaiting.{IsAwaiting}
-use Rattle.ca_laws_follows.specs.Entries.{titles}
 use Rattle.ca_laws_follows.specs.KnewLists.{as_known}
 use Rattle.ca_laws_follows.proofs.Acting.{taken-at}
 use Rattle.ca_laws_follows.proofs.PostFollowing.{titled}

@@ -1,5 +1,5 @@
 -- Each call of a server's core leaves its port and its rules, and at open ends what it knows of the peer.
-use Rattle.std.proofs.Common.{◌≡◌, ℕ, ◌++◌, inl, inr, Bool, true, false, cond, List, [], ◌∷◌, Option, Some, None, refl, sym, ap, ◌∙◌, subst}
+use Rattle.std.proofs.Common.{◌≡◌, ℕ, ◌++◌, inl, inr, Bool, true, false, cond, List, [], ◌∷◌, Some, refl, sym, ap, ◌∙◌, subst}
 use Rattle.std.specs.List.{FoldsTo}
 use Rattle.std.specs.Prelude.{Ok, is_some, take}
 use Rattle.ca_arena.specs.declared.handle.Handle.{Handle}
@@ -9,7 +9,6 @@ use Rattle.ca_link.specs.Link.{with_rest, with_sent}
 use Rattle.ca_records.specs.declared.puts.Put.{Put}
 use Rattle.ca_records.specs.Puts.{WaitingPut}
 use Rattle.ca_records.specs.Record.{RecordState}
-use Rattle.ca_records.specs.Rules.{Rule}
 use Rattle.ca_wire.specs.Fields.{Fields}
 use Rattle.ca_wire.specs.Message.{spelled}
 use Rattle.ca_model.specs.Due.{Action, Applies}

@@ -1,7 +1,7 @@
 -- Over every event each server keeps its port and its rules, and at open ends what it knows of the peer; but for a circuit that is made,
 -- and the end at which a message is handled.
-use Rattle.std.proofs.Common.{◌≡◌, ℕ, inl, inr, ◌⊎◌, Bool, List, [], Option, Some, None, refl, sym, ap, subst, ◌∙◌}
-use Rattle.std.specs.Prelude.{Ok, Result, filter, length, map, not, option_map, slice_get, unwrap_or}
+use Rattle.std.proofs.Common.{◌≡◌, ℕ, inl, inr, ◌⊎◌, Bool, List, Option, Some, None, refl, sym, ap, subst, ◌∙◌}
+use Rattle.std.specs.Prelude.{Ok, Result, filter, length, not, option_map, slice_get, unwrap_or}
 use Rattle.std.specs.Str.{bytes_eq}
 use Rattle.ca_arena.specs.declared.handle.Handle.{Handle}
 use Rattle.ca_dbr.specs.Elements.{Elements}
@@ -10,7 +10,6 @@ use Rattle.ca_records.specs.Record.{RecordState, unset}
 use Rattle.ca_text.specs.declared.refusal.Refusal.{Refusal}
 use Rattle.ca_text.specs.Place.{At}
 use Rattle.ca_text.proofs.Places.{At-set}
-use Rattle.ca_wire.specs.Fields.{Fields}
 use Rattle.ca_model.specs.Due.{Action}
 use Rattle.ca_model.specs.Ends as why
 use Rattle.ca_model.specs.History.{Collected, GaveUp, Step}
@@ -27,7 +26,7 @@ use Rattle.ca_model_world.specs.World.{ClientSide, Joined, PutPlace, RecordSide,
 use Rattle.ca_laws_writes.specs.Moves.{finish_told, post_told}
 use Rattle.ca_laws_writes.specs.Moves as moves
 use Rattle.ca_laws_writes.proofs.Every.{ticks-frame}
-use Rattle.ca_laws_writes.proofs.Frames.{Frame, frame-after}
+use Rattle.ca_laws_writes.proofs.Frames.{Frame}
 use Rattle.ca_laws_writes.proofs.HappensClient.{begun-frame, clear-frame, cut-frame, datagram-frame, handing-frame, hear-frame, open-frame, put-frame, read-frame, subscribe-frame, unsubscribe-frame, up-frame, write-frame}
 use Rattle.ca_laws_writes.proofs.LastingStep.{told-servers}
 use Rattle.ca_laws_follows.specs.KnewFaces.{Face, IsFaced, face_of}

@@ -2,7 +2,7 @@
 use Rattle.std.proofs.Common.{◌≡◌, ℕ, zero, suc, ◌+◌, ◌<◌, ◌≤◌, ◌⊎◌, inl, inr, Bool, true, false, cond, ◌||◌, eqb, eqb-true, eq-eqb, ne_eqb, List, [], ◌∷◌, ◌++◌, length, refl, sym, ap, subst, ◌∙◌, arith}
 use Rattle.std.proofs.lemmas.Bool.{both_ways}
 use Rattle.std.specs.List.{list_any}
-use Rattle.std.specs.Prelude.{map, take}
+use Rattle.std.specs.Prelude.{take}
 use Rattle.ca_text.specs.Command.{command_number}
 use Rattle.ca_text.specs.declared.command.Command.{Command}
 use Rattle.ca_text.specs.declared.command.Command.TheVariants as command
@@ -16,13 +16,13 @@ use Rattle.ca_model.specs.Ends.{Peer}
 use Rattle.ca_model.specs.History.{Circuit, Reply, Sent, Step, Told}
 use Rattle.ca_model.specs.Server.{Server, ServerEnd}
 use Rattle.ca_model.specs.ServerSteps.{Acts}
-use Rattle.ca_model.specs.Speech.{In, Is}
+use Rattle.ca_model.specs.Speech.{Is}
 use Rattle.ca_model_safe.specs.Known.{IsEarly, NamesItself, has_created}
 use Rattle.ca_model_world.specs.ServerEvents.{about}
 use Rattle.ca_laws_writes.proofs.Lists.{At-take, length-more, none_at, take-front, take-whole}
 use Rattle.ca_laws_follows.specs.KnewFaces.{Face, IsFace, face_of}
 use Rattle.ca_laws_follows.specs.KnewLists.{as_known}
-use Rattle.ca_laws_follows.proofs.Acting.{Grows, taken-at, taken-below}
+use Rattle.ca_laws_follows.proofs.Acting.{Grows, taken-at}
 use Rattle.ca_laws_follows.proofs.AnsweringFrame.{grows-take}
 use Rattle.ca_laws_follows.proofs.FaceCalls.{blank}
 use Rattle.ca_laws_follows.proofs.FaceDue.{apart, CreateNone, CreateOne, Facing, Greeting, Hosting, IsPlain, Naming, Opening, Resting}

@@ -9,15 +9,14 @@ use Rattle.ca_queue.specs.declared.entry.SubKey.{SubKey}
 use Rattle.ca_text.specs.declared.command.Command.TheVariants as command
 use Rattle.ca_text.specs.declared.refusal.Refusal.{Refusal}
 use Rattle.ca_text.specs.Place.{At}
-use Rattle.ca_text.proofs.Places.{some_is, At-mapped, At-one, At-parts, At-snoc, At-within}
+use Rattle.ca_text.proofs.Places.{some_is, At-mapped, At-one, At-snoc, At-within}
 use Rattle.ca_wire.specs.Fields.{Fields}
 use Rattle.ca_model.specs.Answers.{Closing}
 use Rattle.ca_model.specs.Due.{Due}
-use Rattle.ca_model.specs.History.{Circuit, Entry, Removal, Reply, Sent, Step, Told}
+use Rattle.ca_model.specs.History.{Circuit, Entry, Reply, Sent, Step, Told}
 use Rattle.ca_model.specs.Server.{Open, Server, ServerEnd, concerns, key_of}
 use Rattle.ca_model.specs.ServerCalls.{channels_of, finish_reply}
 use Rattle.ca_model.specs.ServerSteps.{Accepts, HasEnd, Leaves, Pumps, Stepped, Update, knows}
-use Rattle.ca_model.specs.ServerSteps as stepped
 use Rattle.ca_model.specs.Speech.{In, Is}
 use Rattle.ca_model_world.specs.ClientEvents.{HappensAccept, WantsFirst, connected_as, new_circuit}
 use Rattle.ca_model_world.specs.Events.{Event}
@@ -26,12 +25,10 @@ use Rattle.ca_model_world.specs.Runs.{Happens, Runs, StopsAt, clients_below}
 use Rattle.ca_model_world.specs.ServerEvents.{HappensFinish, HappensPump, HappensRemove, ServerStepped, StepHandles, about, ends_by, handled_at, numbers_after, removal_told, server_after, stamped, with_number}
 use Rattle.ca_model_world.specs.ServerEvents as server
 use Rattle.ca_model_world.specs.World.{ClientSide, IsSetting, Joined, ServerSide, Setting, World, opening, server_begun}
-use Rattle.ca_laws_kept.specs.Later.{IsLater, stamped_told}
-use Rattle.ca_laws_kept.proofs.Updates.{stamps-later}
+use Rattle.ca_laws_kept.specs.Later.{stamped_told}
 use Rattle.ca_laws_held.proofs.CauseKeeps.{handled-or}
-use Rattle.ca_laws_held.proofs.StepWhole.{run-serves, takes-next}
+use Rattle.ca_laws_held.proofs.StepWhole.{takes-next}
 use Rattle.ca_laws_writes.specs.Moves.{Writes}
-use Rattle.ca_laws_writes.specs.Moves as moves
 use Rattle.ca_laws_writes.proofs.Events.{numbered-at}
 use Rattle.ca_laws_writes.proofs.Every.{ticks-frame}
 use Rattle.ca_laws_writes.proofs.Frames.{Frame}
@@ -40,7 +37,7 @@ use Rattle.ca_laws_writes.proofs.HappensClient.{sent-frame}
 use Rattle.ca_laws_writes.proofs.HappensPost.{stamped-same}
 use Rattle.ca_laws_writes.proofs.Lasting.{Handled, Lasting, told_gone, told_late}
 use Rattle.ca_laws_writes.proofs.LastingAll.{OnStep, event-by}
-use Rattle.ca_laws_writes.proofs.Lists.{none_at, take-front, take-whole}
+use Rattle.ca_laws_writes.proofs.Lists.{none_at}
 use Rattle.ca_laws_writes.proofs.Moves.{same-or}
 use Rattle.ca_laws_writes.proofs.Waited.{numbers-after-same}
 use Rattle.ca_laws_follows.specs.Given.{OfOneServer}
@@ -48,13 +45,13 @@ use Rattle.ca_laws_follows.specs.KnewFaces.{Face, IsFace, KeepSettings, KnowFace
 use Rattle.ca_laws_follows.specs.KnewLists.{as_known}
 use Rattle.ca_laws_follows.proofs.AnsweringFrame.{step-lists, step-of}
 use Rattle.ca_laws_follows.proofs.CausingEvents.{Nothing-new, Ready, steady-of}
-use Rattle.ca_laws_follows.proofs.CausingFrame.{Back, FinishNews, IsStill, News, Onward, PumpNews, RemoveNews, Says, StepNews, Takes, back-frame, finish-back, pump-back, removed-back, step-back, still-back, unhandled-back}
+use Rattle.ca_laws_follows.proofs.CausingFrame.{Back, FinishNews, IsStill, News, Onward, PumpNews, RemoveNews, Says, Takes, back-frame, finish-back, pump-back, removed-back, step-back, still-back, unhandled-back}
 use Rattle.ca_laws_follows.proofs.CausingKeeps.{Steady}
 use Rattle.ca_laws_follows.proofs.CausingRuns.{ready}
 use Rattle.ca_laws_follows.proofs.FaceCalls.{blank}
 use Rattle.ca_laws_follows.proofs.FaceDue.{apart, facing}
 use Rattle.ca_laws_follows.proofs.FaceEvents.{AreFaced, Calm, Stepped-faces, event-faced, handled-faced, unhandled-faced}
-use Rattle.ca_laws_follows.proofs.FaceLists.{acts-face, after_face, blank-face, face-goes, face-handled, grown-same, known_next}
+use Rattle.ca_laws_follows.proofs.FaceLists.{acts-face, blank-face, face-goes, face-handled, grown-same, known_next}
 use Rattle.ca_laws_follows.proofs.KnewListsRuns.{shows-to}
 use Rattle.ca_laws_follows.proofs.Whole.{folds-snoc, logs-there}
 

@@ -1,14 +1,14 @@
 -- Once a client read a SERVER_DISCONN only the CLEAR_CHANNEL of its channel goes out on that: over every event and run.
-use Rattle.std.proofs.Common.{◌≡◌, ℕ, suc, ◌+◌, ◌<◌, ◌≤◌, ◌⊎◌, inl, inr, List, [], ◌∷◌, ◌++◌, length, Option, Some, None, refl, sym, ap, subst, ◌∙◌, arith}
+use Rattle.std.proofs.Common.{◌≡◌, ℕ, suc, ◌+◌, ◌<◌, ◌≤◌, inl, inr, List, [], ◌∷◌, ◌++◌, length, Option, None, refl, sym, subst, arith}
 use Rattle.std.specs.List.{FoldsTo}
 use Rattle.ca_text.specs.declared.command.Command.TheVariants as command
 use Rattle.ca_text.specs.Place.{At}
 use Rattle.ca_text.proofs.Places.{At-mapped, At-one, At-or, At-within}
-use Rattle.ca_model.specs.History.{Circuit, Entry, Line, Removal, Step, Told}
+use Rattle.ca_model.specs.History.{Circuit, Removal, Step, Told}
 use Rattle.ca_model.specs.Speech.{Is}
 use Rattle.ca_model_safe.specs.Legal.{client_conduct}
 use Rattle.ca_model_world.specs.Events.{Event}
-use Rattle.ca_model_world.specs.Runs.{AreEvents, Happens, Runs, StopsAt}
+use Rattle.ca_model_world.specs.Runs.{AreEvents, Happens, Runs}
 use Rattle.ca_model_world.specs.World.{IsSetting, Joined, Setting, World, circuit_of, log_length, opening}
 use Rattle.ca_laws_bytes.proofs.ServerSpeaking.{runs-hear}
 use Rattle.ca_laws_writes.proofs.Lists.{none_at}

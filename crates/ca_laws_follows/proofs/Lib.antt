@@ -52,7 +52,6 @@ pub mod LiveRead
 pub mod ActsWhole
 pub mod KnewFull
 pub mod LegalCut
-pub mod LegalMost
 pub mod FaceCalls
 pub mod FaceEvents
 pub mod FaceDue

@@ -1,14 +1,13 @@
 -- What is applied is what the caller gave, to the record that the caller's channel names; and so the whole clause of writes.
-use Rattle.std.proofs.Common.{◌≡◌, ℕ, ◌⊎◌, List, Ok, Option, Some, refl, sym, ap, subst, ◌∙◌}
-use Rattle.std.specs.Prelude.{take}
+use Rattle.std.proofs.Common.{◌≡◌, ℕ, List, Ok, Option, Some, refl, sym, ap, subst, ◌∙◌}
 use Rattle.ca_text.specs.Place.{At}
 use Rattle.ca_text.proofs.Places.{At-map, At-one}
 use Rattle.ca_dbr.specs.Conversion.{converted}
 use Rattle.ca_dbr.specs.Elements.{Elements, base_of}
 use Rattle.ca_records.specs.Record.{RecordState}
-use Rattle.ca_model.specs.History.{Added, Applied, Ask, Called, Create, Entry, Intent, Line, On, Opened, Sent}
+use Rattle.ca_model.specs.History.{Added, Applied, Ask, Called, Create, Entry, Intent, On, Opened, Sent}
 use Rattle.ca_model.specs.Speech.{In, Stored}
-use Rattle.ca_model_safe.specs.Channels.{IsApplied, IsOwnWrite, Suits}
+use Rattle.ca_model_safe.specs.Channels.{IsApplied, IsOwnWrite}
 use Rattle.ca_model_world.specs.Events.{Event}
 use Rattle.ca_model_world.specs.Runs.{AreEvents, Runs}
 use Rattle.ca_model_world.specs.World.{IsSetting, Joined, Setting, World, circuit_of, told}

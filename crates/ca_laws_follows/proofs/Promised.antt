@@ -1,31 +1,33 @@
 -- From what was shown of every run: its world is safe, and legal.
-use Rattle.std.proofs.Common.{◌≡◌, ℕ, ◌<◌, ◌≤◌, List, Option, sym, subst}
+use Rattle.std.proofs.Common.{ℕ, List, Option}
 use Rattle.ca_text.specs.Place.{At}
-use Rattle.ca_text.proofs.Places.{At-one}
-use Rattle.ca_requests.specs.Meaning.{Means}
-use Rattle.ca_model.specs.History.{Circuit, Entry, Line, Sent, Step, Told}
+use Rattle.ca_model.specs.History.{Circuit, Entry, Line, Sent, Told}
 use Rattle.ca_model.specs.Speech.{Id, Speaks}
-use Rattle.ca_model.specs.Updates.{Shows}
 use Rattle.ca_model_safe.specs.Channels.{OfCircuits, Suits}
-use Rattle.ca_model_safe.specs.Headline.{Answered, TakesOwn}
-use Rattle.ca_model_safe.specs.Known.{IsDue}
+use Rattle.ca_model_safe.specs.Headline.{TakesOwn}
 use Rattle.ca_model_safe.specs.Worlds.{IsLegalWorld, IsSafeWorld, Promise}
 use Rattle.ca_model_world.specs.Events.{Event}
 use Rattle.ca_model_world.specs.Runs.{AreEvents, Runs}
-use Rattle.ca_model_world.specs.World.{IsSetting, Setting, World, port_of, rules_of, told}
+use Rattle.ca_model_world.specs.World.{IsSetting, Setting, World, told}
+use Rattle.ca_laws_held.proofs.AddsAnew.{run-adds-anew}
 use Rattle.ca_laws_held.proofs.CauseOnce.{run-removed-once}
 use Rattle.ca_laws_held.proofs.Completing.{run-complete}
 use Rattle.ca_laws_held.proofs.Joint.{run-asked, run-takes}
+use Rattle.ca_laws_held.proofs.LegalApart.{run-apart}
+use Rattle.ca_laws_held.proofs.LegalCancels.{run-cancels}
+use Rattle.ca_laws_held.proofs.LegalEnded.{run-none-ended}
 use Rattle.ca_laws_held.proofs.LegalIds.{run-ids}
 use Rattle.ca_laws_held.proofs.OnceSentRuns.{is-sent}
 use Rattle.ca_laws_held.proofs.OrderKeeps.{run-steps}
 use Rattle.ca_laws_held.proofs.SeeingRuns.{run-sees}
 use Rattle.ca_laws_follows.specs.Promised.{AllAreAnswered, AnswersAreOwn, MessagesMeanOwn}
 use Rattle.ca_laws_follows.proofs.ActsOn.{of-circuits}
-use Rattle.ca_laws_follows.proofs.ActsWhole.{run-act-on-records}
+use Rattle.ca_laws_follows.proofs.ActsWhole.{both-of, run-act-on-records}
 use Rattle.ca_laws_follows.proofs.AnsweredWhole.{run-are-answered}
 use Rattle.ca_laws_follows.proofs.CausingRuns.{run-causes}
-use Rattle.ca_laws_follows.proofs.LegalMost.{circuit-both, legal-with, run-legal-most}
+use Rattle.ca_laws_follows.proofs.LegalCut.{run-channels}
+use Rattle.ca_laws_follows.proofs.LegalTold.{run-told}
+use Rattle.ca_laws_follows.proofs.LegalUpdates.{run-legal}
 use Rattle.ca_laws_follows.proofs.OwnWrites.{run-not-twice}
 use Rattle.ca_laws_follows.proofs.Whole.{run-record}
 
@@ -40,13 +42,13 @@ run-mean-own s es stopped w ok are runs n c at =
     of-circuits s es stopped w ok runs (λ (m : ℕ) (d : Circuit) (x : List Line) (y : List Entry). (i : ℕ) (t : Told) (id : Id) → At d.down i t → Speaks t.message id → TakesOwn d i t.place id)
     (λ m j x y on lx ly i t id there speaks. run-takes s es stopped w ok are runs m i j t id on there speaks) in
     let a =
-    circuit-both w _ _ (circuit-both w _ _ asked (run-causes s es stopped w ok runs))
-    (circuit-both w _ _ (run-removed-once s es stopped w ok runs) (circuit-both w _ _ takes (run-steps s es stopped w ok are runs))) n c at in
+    both-of w _ _ (both-of w _ _ asked (run-causes s es stopped w ok runs))
+    (both-of w _ _ (run-removed-once s es stopped w ok runs) (both-of w _ _ takes (run-steps s es stopped w ok are runs))) n c at in
     (a.0, a.1, a.2, record { asked = a.3.0.0; caused = a.3.0.1; removed = a.3.1.0; own = a.3.1.1.0; in_order = a.3.1.1.1 })
 
 pub answer-own : (w : World) → MessagesMeanOwn w → AllAreAnswered w → AnswersAreOwn w
 answer-own w means answered n c at =
-    let a = circuit-both w _ _ means answered n c at in
+    let a = both-of w _ _ means answered n c at in
     let m = a.3.0 in
     (a.0, a.1, a.2, record { asked = m.asked; caused = m.caused; removed = m.removed; own = m.own; answered = a.3.1; in_order = m.in_order })
 
@@ -66,8 +68,21 @@ run-safe s es stopped w ok are runs = record {
 pub run-legal-world : (s : Setting) (es : List Event) (stopped : Option Event) (w : World) → IsSetting s → AreEvents es → Runs s es stopped w → IsLegalWorld w
 run-legal-world s es stopped w ok are runs = record {
   circuits = λ n c at.
-      let a = circuit-both w _ _ (run-legal-most s es stopped w ok are runs) (run-ids s es stopped w ok are runs) n c at in
-      (a.0, a.1, a.2, legal-with n c a.0 a.1 a.3.0 a.3.1);
+      let a =
+      both-of w _ _ (both-of w _ _ (both-of w _ _ (run-channels s es stopped w ok are runs) (run-cancels s es stopped w ok are runs)) (both-of w _ _ (run-ids s es stopped w ok are runs) (run-legal s es stopped w ok are runs)))
+      (both-of w _ _ (both-of w _ _ (run-told s es stopped w ok runs) (run-apart s es stopped w ok runs)) (both-of w _ _ (run-adds-anew s es stopped w ok are runs) (run-none-ended s es stopped w ok are runs))) n c at in (
+        a.0,
+        a.1,
+        a.2,
+        record {
+          client = record { on_channel = a.3.0.0.0; cancels = a.3.0.0.1; ids = a.3.0.1.0 };
+          server = a.3.0.1.1;
+          told = a.3.1.0.0;
+          apart = a.3.1.0.1;
+          anew = a.3.1.1.0;
+          ended = a.3.1.1.1;
+        },
+      );
   subscriptions = is-sent s es stopped w runs;
 }
 

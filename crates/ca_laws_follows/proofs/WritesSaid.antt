@@ -1,15 +1,14 @@
 -- Each put and each plain write that a client sends is that of the call that sends it, with the value that was given: what each event sends.
-use Rattle.std.proofs.Common.{◌≡◌, ℕ, zero, suc, ◌+◌, ◌⊎◌, inl, inr, Bool, true, false, ◌&&◌, cond, eqb, List, [], ◌∷◌, ◌++◌, length, Option, Some, None, refl, sym, ap, ◌∙◌, subst, arith}
-use Rattle.std.specs.Prelude.{Ok, drop, is_none, map, option_map, slice_set, unwrap_or}
+use Rattle.std.proofs.Common.{◌≡◌, ℕ, zero, suc, ◌+◌, ◌⊎◌, inl, inr, Bool, true, false, ◌&&◌, cond, eqb, List, [], ◌∷◌, ◌++◌, length, Option, Some, None, refl, sym, ap, ◌∙◌, subst}
+use Rattle.std.specs.Prelude.{drop, is_none, map, option_map, slice_set, unwrap_or}
 use Rattle.std.specs.List.{FoldsTo}
 use Rattle.std.proofs.lemmas.Bool.{both_ways}
 use Rattle.ca_text.specs.Place.{At}
-use Rattle.ca_text.proofs.Places.{At-after, At-append, At-mapped, At-one, At-parts, At-set, At-snoc, some_is}
+use Rattle.ca_text.proofs.Places.{At-after, At-mapped, At-parts, At-set, At-snoc, some_is}
 use Rattle.ca_arena.specs.declared.handle.Handle.{Handle}
 use Rattle.ca_dbr.specs.Elements.{Elements, IsValue}
 use Rattle.ca_monitor.specs.Subscriptions.{Subscription}
 use Rattle.ca_model.specs.Answers.{Closed, Closing, NeedBytes, Notices, Sending, Stepped}
-use Rattle.ca_model.specs.Answers as aim
 use Rattle.ca_model.specs.Client.{Clearing, Client, ClientCircuit, Connecting, Connection, Creating, Doomed, Leaving, Live, On, Searching, Standing, connection_at, later, out_bytes, standing_at}
 use Rattle.ca_model.specs.ClientCalls.{cancel_sent, clear_sent, clearing_sent, event_cancel_sent, put_sent, write_sent}
 use Rattle.ca_model.specs.ClientEnds.{ConnectsOn, StepsOn, after_taking, handed_over}
@@ -33,7 +32,7 @@ use Rattle.ca_laws_writes.proofs.Midway.{set-here}
 use Rattle.ca_laws_held.specs.Quiet.{ClientsQuiet}
 use Rattle.ca_laws_held.proofs.Ends.{From, from-itself}
 use Rattle.ca_laws_held.proofs.Making.{ticked-client}
-use Rattle.ca_laws_held.proofs.OnceCalls.{Calls, NoRequest, calls-put, calls-read, calls-write, plain-no-request}
+use Rattle.ca_laws_held.proofs.OnceCalls.{NoRequest, calls-put, calls-read, calls-write, plain-no-request}
 use Rattle.ca_laws_held.proofs.OnceMoved.{ArePlain, moved-all-received, moved-connected, moved-given, moved-heard, none-sent, one-plain}
 use Rattle.ca_laws_held.proofs.OnceWorld.{OnceStand, logs-grown, on-circuit-sent}
 use Rattle.ca_laws_held.proofs.Servers.{from-add, from-cut-server, from-finish, from-post, from-pump, from-remove, from-server-restart, from-server-step}

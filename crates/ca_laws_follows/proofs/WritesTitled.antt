@@ -1,13 +1,12 @@
 -- The record of each write of which a server's log tells has the name of the caller's channel: what each event logs.
-use Rattle.std.proofs.Common.{◌≡◌, ℕ, zero, suc, ◌+◌, ◌<◌, ◌⊎◌, inl, inr, Bool, true, false, cond, List, [], ◌∷◌, ◌++◌, length, Option, Some, None, refl, sym, ap, subst, ◌∙◌, arith}
-use Rattle.std.specs.Prelude.{Ok, filter, map, option_map, slice_get, take, unwrap_or}
+use Rattle.std.proofs.Common.{◌≡◌, ℕ, zero, suc, ◌<◌, ◌⊎◌, inl, inr, Bool, true, false, cond, List, [], ◌∷◌, ◌++◌, length, Option, Some, None, refl, sym, ap, subst, ◌∙◌, arith}
+use Rattle.std.specs.Prelude.{filter, map, option_map, slice_get, unwrap_or}
 use Rattle.std.specs.List.{FoldsTo, flat_map}
 use Rattle.std.specs.Str.{bytes_eq}
 use Rattle.ca_arena.specs.declared.handle.Handle.{Handle}
 use Rattle.ca_dbr.specs.Elements.{Elements}
 use Rattle.ca_records.specs.Puts.{Record, WaitingPut, record_named}
 use Rattle.ca_records.specs.Record.{RecordState, unset}
-use Rattle.ca_text.specs.declared.command.Command.TheVariants as command
 use Rattle.ca_text.specs.Place.{At}
 use Rattle.ca_text.proofs.Places.{At-append, At-mapped, At-one, At-parts, At-set, At-snoc, some_is}
 use Rattle.ca_wire.specs.Fields.{Fields}
@@ -19,7 +18,7 @@ use Rattle.ca_model.specs.History as history
 use Rattle.ca_model.specs.Server.{Server, ServerEnd}
 use Rattle.ca_model.specs.ServerSteps.{HasEnd, Next, Stepped, closed, known_record, knows, stored_now}
 use Rattle.ca_model.specs.ServerSteps as stepped
-use Rattle.ca_model.specs.Speech.{Creates, In, Is, Stored, name_in, sid_in}
+use Rattle.ca_model.specs.Speech.{Creates, In, name_in, sid_in}
 use Rattle.ca_model_client.proofs.Thinner.{three-ways}
 use Rattle.ca_model_safe.specs.Channels.{Suits}
 use Rattle.ca_model_safe.specs.Known.{IsChannel}

@@ -1,6 +1,6 @@
 -- Working: what the puts and plain writes of clients carry is what their callers gave, and the record that each was applied to has the name of the
 -- caller's channel.
-use Rattle.std.specs.Prelude.{ℕ, ◌≡◌, List, Option, Some}
+use Rattle.std.specs.Prelude.{ℕ, ◌≡◌, List, Some}
 use Rattle.ca_dbr.specs.Elements.{Elements, IsValue, base_of, bytes_of, count_of}
 use Rattle.ca_dbr.specs.Types.{base_number}
 use Rattle.ca_records.specs.Record.{RecordState}

@@ -19,7 +19,6 @@ pub mod Refused
 pub mod LiveRead
 pub mod Whole
 pub mod KnewFull
-pub mod LegalMost
 pub mod KnewFaces
 pub mod Given
 pub mod AnswerDue

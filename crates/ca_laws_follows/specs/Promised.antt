@@ -1,20 +1,14 @@
 -- Working: the clause of what is answered, of a world: its parts, and the whole.
-use Rattle.std.specs.Prelude.{ℕ, ◌≡◌, ◌<◌, ◌≤◌, List, Option, take}
+use Rattle.std.specs.Prelude.{ℕ, ◌≡◌, ◌≤◌, List}
 use Rattle.ca_text.specs.Place.{At}
-use Rattle.ca_dbr.specs.declared.value.Outcome.{Outcome}
 use Rattle.ca_requests.specs.Meaning.{Means}
-use Rattle.ca_wire.specs.Fields.{Fields}
-use Rattle.ca_model.specs.History.{Circuit, Create, Entry, Line, Noticed, On, Removal, Sent, Step, Subscribe, Told}
-use Rattle.ca_model.specs.Sends.{Conduct, IsFree, SameIndex}
-use Rattle.ca_model.specs.Speech.{Gives, Id, In, Speaks}
+use Rattle.ca_model.specs.History.{Circuit, Entry, Line, Removal, Sent, Step, Told}
+use Rattle.ca_model.specs.Speech.{Id, Speaks}
 use Rattle.ca_model.specs.Updates.{Shows}
-use Rattle.ca_model_safe.specs.Channels.{AreSteps, IsHeld, Meant, OfCircuits, Suits}
+use Rattle.ca_model_safe.specs.Channels.{AreSteps, OfCircuits, Suits}
 use Rattle.ca_model_safe.specs.Headline.{Answered, AnswersOwn, HasCause, TakesOwn}
 use Rattle.ca_model_safe.specs.Known.{IsDue}
-use Rattle.ca_model_safe.specs.Legal.{BecomesLive, IsStanding, client_conduct}
-use Rattle.ca_model_world.specs.Events.{Event}
-use Rattle.ca_model_world.specs.Runs.{AreEvents, Runs}
-use Rattle.ca_model_world.specs.World.{IsSetting, Setting, World, port_of, rules_of, told}
+use Rattle.ca_model_world.specs.World.{World, port_of, rules_of, told}
 
 -- Of a circuit: each message of the client is what was meant, and each of the server has its cause, handled before; no creation has two
 -- SERVER_DISCONNs; an id is taken for what the cause is about; and steps are in order.

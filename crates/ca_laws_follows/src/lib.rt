@@ -7,7 +7,6 @@ mod act_laws;
 mod answer_laws;
 mod answered_laws;
 mod await_laws;
-mod circuit_laws;
 mod full_laws;
 mod gone_laws;
 mod knew_laws;
@@ -30,7 +29,6 @@ pub use answer_laws::{
 };
 pub use answered_laws::{messages_are_answered, messages_are_answered_as_is_due};
 pub use await_laws::puts_wait_for_records;
-pub use circuit_laws::circuits_are_legal_but_for_ids;
 pub use full_laws::servers_know_when_they_are_full;
 pub use gone_laws::retired_channels_lost_their_records;
 pub use knew_laws::{
