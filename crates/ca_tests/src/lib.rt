@@ -1,4 +1,4 @@
-//! The tests of the libraries of messages and of tables, a module for each, in a crate of their own: a crate with tests is
+//! The tests of the libraries of tables and parts, a module for each, in a crate of their own: a crate with tests is
 //! proved a second time, with them, and this one has nothing else to prove.
 #![tactic(auto)]
 
@@ -12,8 +12,6 @@ mod dgram;
 mod ids;
 #[cfg(test)]
 mod link;
-#[cfg(test)]
-mod messages;
 #[cfg(test)]
 mod queue;
 #[cfg(test)]
