@@ -5,8 +5,6 @@
 #[cfg(test)]
 mod dbr;
 #[cfg(test)]
-mod records;
-#[cfg(test)]
 mod script;
 #[cfg(test)]
 mod served_records;
