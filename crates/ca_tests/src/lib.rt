@@ -14,3 +14,5 @@ mod link;
 mod queue;
 #[cfg(test)]
 mod repeat;
+#[cfg(test)]
+mod search;

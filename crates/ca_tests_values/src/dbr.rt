@@ -1,4 +1,7 @@
-use ca_dbr::{BaseType, DataType, Form, Meta, Value, convert, image_size, read_value, write_value};
+use ca_dbr::{
+    BaseType, DataType, Form, Meta, Value, convert, image_size, read_value, write_value,
+    write_zero_image,
+};
 use ca_text::Refusal;
 use std::alloc::Global;
 use std::process::Abort;
@@ -113,7 +116,7 @@ fn greatest_counts_have_images(rt: HostRuntime) -> Result<(), Fail> {
     Ok(())
 }
 
-/// Why a conversion of these texts to a type is refused.
+/// Why a conversion of these texts to a type is refused, if it is.
 fn fault(alloc: Global, texts: &[&[u8]; 3], number: u16) -> Result<Option<Refusal>, Fail> {
     let mut elements = Vec::new(alloc);
     for front in texts {
@@ -122,33 +125,40 @@ fn fault(alloc: Global, texts: &[&[u8]; 3], number: u16) -> Result<Option<Refusa
     Ok(convert(alloc, &Value::Strings(elements), number).err())
 }
 
+// No core asks for such an image: an update has as many zeros of its own.
+#[test]
+fn a_zero_image_has_its_padding(rt: HostRuntime) -> Result<(), Fail> {
+    let mut zeros = Vec::from_slice(rt.alloc(), b"x")?;
+    assert!(rt; write_zero_image(11, 2, &mut zeros) == Ok(()));
+    assert!(rt; zeros.as_slice() == [b'x', 0, 0, 0, 0, 0, 0, 0].as_slice());
+    Ok(())
+}
+
 // No status tells a text that is no number from a number that does not fit.
 #[test]
 fn first_fault_decides(rt: HostRuntime) -> Result<(), Fail> {
-    let rows: [([&[u8]; 3], u16, Refusal); 13] = [
-        ([b"4x2", b"1", b"1"], 5, Refusal::BadText),
-        ([b"", b"1", b"1"], 5, Refusal::BadText),
-        ([b"   ", b"1", b"1"], 5, Refusal::BadText),
-        ([b"-", b"1", b"1"], 5, Refusal::BadText),
-        ([b"+1", b"1", b"1"], 5, Refusal::BadText),
-        ([b"1 2", b"1", b"1"], 5, Refusal::BadText),
-        ([b"\t1", b"1", b"1"], 5, Refusal::BadText),
-        ([b"2147483648", b"1", b"1"], 5, Refusal::OutOfRange),
+    let rows: [([&[u8]; 3], u16, Option<Refusal>); 14] = [
+        ([b"1", b"-2", b"007"], 5, None),
+        ([b"4x2", b"1", b"1"], 5, Some(Refusal::BadText)),
+        ([b"", b"1", b"1"], 5, Some(Refusal::BadText)),
+        ([b"   ", b"1", b"1"], 5, Some(Refusal::BadText)),
+        ([b"-", b"1", b"1"], 5, Some(Refusal::BadText)),
+        ([b"+1", b"1", b"1"], 5, Some(Refusal::BadText)),
+        ([b"1 2", b"1", b"1"], 5, Some(Refusal::BadText)),
+        ([b"\t1", b"1", b"1"], 5, Some(Refusal::BadText)),
+        ([b"2147483648", b"1", b"1"], 5, Some(Refusal::OutOfRange)),
         (
             [b"-9999999999999999999999999999999999999999", b"1", b"1"],
             5,
-            Refusal::OutOfRange,
+            Some(Refusal::OutOfRange),
         ),
-        ([b"1", b"70000", b"x"], 1, Refusal::OutOfRange),
-        ([b"1", b"x", b"70000"], 1, Refusal::BadText),
-        ([b"1", b"x", b"70000"], 7, Refusal::BadType),
-        ([b"1", b"x", b"70000"], 6, Refusal::NoConvert),
+        ([b"1", b"70000", b"x"], 1, Some(Refusal::OutOfRange)),
+        ([b"1", b"x", b"70000"], 1, Some(Refusal::BadText)),
+        ([b"1", b"x", b"70000"], 7, Some(Refusal::BadType)),
+        ([b"1", b"x", b"70000"], 6, Some(Refusal::NoConvert)),
     ];
     for (i, (texts, number, refusal)) in rows.iter().enumerate() {
-        assert!(rt;
-            fault(rt.alloc(), texts, *number)? == Some(*refusal),
-            "at {i}"
-        );
+        assert!(rt; fault(rt.alloc(), texts, *number)? == *refusal, "at {i}");
     }
     Ok(())
 }
