@@ -448,5 +448,18 @@ def limits():
     return table.lines
 
 
+def beacon_limit():
+    """The limit of a client's beacons: it knows the numbers of 1,024 servers, and a beacon of any other is always an anomaly."""
+    table = Table(Client(b"anna", b"hall", 0, HOSTS[:1], []), "client anna hall 0 127.0.0.1:5064 names")
+    table.call("open", Name(b"TEMP"), 0, 0)
+    for ports in range(0, 1024, 64):
+        table.call("datagram", 0, HOSTS[0], b"".join(spelled(BEACON, 13, port, 0) for port in range(ports, ports + 64)))
+    table.call("tick", 0)
+    for port, number in ((5064, 0), (5064, 1), (1023, 1)):
+        table.call("datagram", 0, HOSTS[0], spelled(BEACON, 13, port, number))
+        table.call("tick", 0)
+    return table.lines
+
+
 def drawn(seed, n):
     return (ClientDraw if seed % 2 == 0 else ServerDraw)(seed, n).table.lines

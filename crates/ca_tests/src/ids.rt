@@ -51,24 +51,6 @@ fn id_comes_back_after_it_drained(rt: HostRuntime) -> Result<(), Fail> {
 }
 
 #[test]
-fn highest_of_those_that_drained_goes_first(rt: HostRuntime) -> Result<(), Fail> {
-    let mut table = IdTable::new(rt.alloc());
-    for value in 0..3u8 {
-        table.open(value)?;
-    }
-    for index in 0..3 {
-        table.retire(handle(index, 1))?;
-    }
-    for index in 0..3 {
-        table.drained(WireId::of(handle(index, 1)))?;
-    }
-    for number in [0x0002_0002, 0x0002_0001, 0x0002_0000] {
-        assert!(rt; table.open(0)?.1.number() == number);
-    }
-    Ok(())
-}
-
-#[test]
 fn same_id_comes_round_under_another_handle(rt: HostRuntime) -> Result<(), Fail> {
     let mut table = IdTable::new(rt.alloc());
     for round in 0..65_536u32 {
@@ -81,18 +63,5 @@ fn same_id_comes_round_under_another_handle(rt: HostRuntime) -> Result<(), Fail>
     assert!(rt; last == handle(0, 65_537));
     assert!(rt; table.by_handle(handle(0, 1)).copied() == None);
     assert!(rt; table.by_handle(last).copied() == Some(7));
-    Ok(())
-}
-
-#[test]
-fn full_table_hands_the_value_back(rt: HostRuntime) -> Result<(), Fail> {
-    let mut table = IdTable::new(rt.alloc());
-    for value in 0..=u16::MAX {
-        table.open(value)?;
-    }
-    table.retire(handle(9, 1))?;
-    assert!(rt; table.open(1) == Err((1, Refusal::ArenaFull)));
-    table.drained(WireId::of(handle(9, 1)))?;
-    assert!(rt; table.open(1)?.0 == handle(9, 2));
     Ok(())
 }

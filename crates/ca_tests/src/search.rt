@@ -19,35 +19,7 @@ fn are<R: Abort>(rt: &R, searches: &[Search], cids: &[u32]) {
     }
 }
 
-#[test]
-fn searches_come_ever_later(rt: HostRuntime) -> Result<(), Fail> {
-    let mut searcher = Searcher::new(rt.alloc());
-    add(&rt, &mut searcher, 7, 1_000)?;
-    for moment in [1_000u64, 1_032, 1_096, 1_224] {
-        assert!(rt; moment == 1_000 || searcher.due(moment - 1)?.is_empty());
-        are(&rt, &searcher.due(moment)?, &[7]);
-    }
-    Ok(())
-}
-
-#[test]
-fn waits_end_at_five_minutes(rt: HostRuntime) -> Result<(), Fail> {
-    let mut searcher = Searcher::new(rt.alloc());
-    add(&rt, &mut searcher, 7, 0)?;
-    are(&rt, &searcher.due(0)?, &[7]);
-    let waits = [
-        32u64, 64, 128, 256, 512, 1_024, 2_048, 4_096, 8_192, 16_384, 32_768, 65_536, 131_072,
-        262_144, 300_000, 300_000,
-    ];
-    let mut now = 0u64;
-    for wait in waits {
-        now = now.saturating_add(wait);
-        assert!(rt; searcher.due(now.saturating_sub(1))?.is_empty());
-        are(&rt, &searcher.due(now)?, &[7]);
-    }
-    Ok(())
-}
-
+// No core has a Searcher: a client's keeps the places itself.
 #[test]
 fn found_channels_keep_their_places(rt: HostRuntime) -> Result<(), Fail> {
     let mut searcher = Searcher::new(rt.alloc());

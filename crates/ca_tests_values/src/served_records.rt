@@ -1,10 +1,9 @@
 use ca_arena::Handle;
-use ca_dbr::{Meta, Value};
-use ca_records::{Begun, Finished, Put, ServedRecords};
+use ca_dbr::Value;
+use ca_records::{Begun, Put, ServedRecords};
 use ca_script::{RecordFile, read_records};
-use ca_text::{Refusal, Status};
+use ca_text::Refusal;
 use std::alloc::Global;
-use std::process::Abort;
 use std::test::Fail;
 
 /// TEMP, and SLOW, on which puts take time, each of one LONG; and rules.
@@ -28,21 +27,18 @@ fn int(alloc: Global, number: i16) -> Result<Value, Refusal> {
     Ok(Value::Ints(vec![in alloc; number; 1]?))
 }
 
-/// A put of a LONG that came on this circuit.
-fn put_of(circuit: u16, ioid: u32) -> Put {
+/// A put of a LONG.
+fn put_of(ioid: u32) -> Put {
+    let first = Handle {
+        index: 0,
+        generation: 1,
+    };
     Put {
-        circuit: circuit_of(circuit),
-        channel: circuit_of(0),
+        circuit: first,
+        channel: first,
         data_type: 5,
         count: 1,
         ioid,
-    }
-}
-
-fn circuit_of(index: u16) -> Handle {
-    Handle {
-        index,
-        generation: 1,
     }
 }
 
@@ -64,13 +60,6 @@ fn write(
     Ok(served.begin_write(place, put, value)?)
 }
 
-/// Takes the waiting puts of a circuit out of the record of this name.
-fn withdraw(served: &mut ServedRecords, name: &[u8], circuit: u16) {
-    if let Some(place) = served.find(name) {
-        served.withdraw(place, circuit_of(circuit), None);
-    }
-}
-
 /// Whether the record of this name has this value, is busy or not, and has that many puts that wait.
 fn has(served: &ServedRecords, name: &[u8], value: &Value, is_busy: bool, waits: usize) -> bool {
     match served.find(name) {
@@ -82,171 +71,6 @@ fn has(served: &ServedRecords, name: &[u8], value: &Value, is_busy: bool, waits:
                 && record.waits() == waits
         }
     }
-}
-
-/// The finish of SLOW ended this put, and applied that one.
-fn check_finish<R: Abort>(
-    rt: &R,
-    finished: Result<Finished, Refusal>,
-    ended: Put,
-    applied: Option<Put>,
-) {
-    assert!(rt; matches!(finished, Ok(f) if f.ended == ended && f.applied == applied));
-}
-
-#[test]
-fn sixteen_puts_wait(rt: HostRuntime) -> Result<(), Fail> {
-    let mut served = served_of_file(rt.alloc())?;
-    let first = long(rt.alloc(), 100)?;
-    let begun = write(
-        &mut served,
-        b"SLOW",
-        Some(put_of(0, 0)),
-        long(rt.alloc(), 100)?,
-    )?;
-    assert!(rt; begun == Begun::Applied(true));
-    for i in 1..18 {
-        let begun = write(
-            &mut served,
-            b"SLOW",
-            Some(put_of(0, i)),
-            long(rt.alloc(), 7)?,
-        )?;
-        let expected = if i < 17 {
-            Begun::Waiting
-        } else {
-            Begun::Refused(Status::PUTFAIL)
-        };
-        assert!(rt; begun == expected, "at {i}");
-    }
-    assert!(rt; has(&served, b"SLOW", &first, true, 16));
-    withdraw(&mut served, b"SLOW", 0);
-    assert!(rt; served.waiting() == 0);
-    check_finish(&rt, served.finish(b"SLOW"), put_of(0, 0), None);
-    assert!(rt; has(&served, b"SLOW", &first, false, 0));
-    assert!(rt; served.finish(b"SLOW") == Err(Refusal::NotBusy));
-    assert!(rt; served.finish(b"NONE") == Err(Refusal::UnknownRecord));
-    Ok(())
-}
-
-#[test]
-fn puts_that_wait_are_applied_in_order(rt: HostRuntime) -> Result<(), Fail> {
-    let mut served = served_of_file(rt.alloc())?;
-    // The circuits, and the values.
-    for (circuit, number) in [(0, 1), (1, 2), (0, 3), (1, 4), (0, 5)] {
-        let value = long(rt.alloc(), number)?;
-        write(&mut served, b"SLOW", Some(put_of(circuit, 9)), value)?;
-    }
-    withdraw(&mut served, b"SLOW", 1);
-    assert!(rt; has(&served, b"SLOW", &long(rt.alloc(), 1)?, true, 2));
-    served.stamp(7, 8);
-    check_finish(
-        &rt,
-        served.finish(b"SLOW"),
-        put_of(0, 9),
-        Some(put_of(0, 9)),
-    );
-    assert!(rt; has(&served, b"SLOW", &long(rt.alloc(), 3)?, true, 1));
-    // A plain write is applied at once, and leaves the put busy.
-    let begun = write(&mut served, b"SLOW", None, long(rt.alloc(), 6)?)?;
-    assert!(rt; begun == Begun::Applied(false));
-    assert!(rt; has(&served, b"SLOW", &long(rt.alloc(), 6)?, true, 1));
-    check_finish(
-        &rt,
-        served.finish(b"SLOW"),
-        put_of(0, 9),
-        Some(put_of(0, 9)),
-    );
-    assert!(rt; has(&served, b"SLOW", &long(rt.alloc(), 5)?, true, 0));
-    Ok(())
-}
-
-#[test]
-fn records_come_and_go(rt: HostRuntime) -> Result<(), Fail> {
-    let mut served = served_of_file(rt.alloc())?;
-    let posted = served.post(
-        b"TEMP",
-        Value::Chars(vec![in rt.alloc(); 1; 1]?),
-        Meta::ZERO,
-    );
-    assert!(rt; posted == Err(Refusal::BadType));
-    let posted = served.post(
-        b"TEMP",
-        Value::Longs(vec![in rt.alloc(); 1; 2]?),
-        Meta::ZERO,
-    );
-    assert!(rt; posted == Err(Refusal::BadCount));
-    assert!(rt; served.post(b"TEMP", long(rt.alloc(), 22)?, Meta::ZERO) == Ok(0));
-    assert!(rt; has(&served, b"TEMP", &long(rt.alloc(), 22)?, false, 0));
-    let added = served.add(b"SLOW", 1, false, long(rt.alloc(), 1)?);
-    assert!(rt; added == Err(Refusal::RecordExists));
-    write(
-        &mut served,
-        b"SLOW",
-        Some(put_of(0, 0)),
-        long(rt.alloc(), 1)?,
-    )?;
-    write(
-        &mut served,
-        b"SLOW",
-        Some(put_of(0, 1)),
-        long(rt.alloc(), 2)?,
-    )?;
-    assert!(rt; served.remove(b"SLOW") == Ok(1));
-    assert!(rt; served.remove(b"SLOW") == Err(Refusal::UnknownRecord));
-    assert!(rt; served.waiting() == 0);
-    // Another record of that name, at the place that became free, has none of those puts.
-    assert!(rt; served.add(b"SLOW", 1, false, long(rt.alloc(), 5)?) == Ok(1));
-    assert!(rt; has(&served, b"SLOW", &long(rt.alloc(), 5)?, false, 0));
-    assert!(rt; served.finish(b"SLOW") == Err(Refusal::NotBusy));
-    Ok(())
-}
-
-#[test]
-fn first_rule_that_meets_decides(rt: HostRuntime) -> Result<(), Fail> {
-    let served = served_of_file(rt.alloc())?;
-    let rows: [(&[u8], &[u8], &[u8], u32); 8] = [
-        (b"eve", b"hall", b"TEMP", 1),
-        (b"eve", b"lab", b"TEMP", 1),
-        (b"anna", b"hall", b"TEMP", 3),
-        (b"anna", b"lab", b"TEMP", 2),
-        (b"", b"lab", b"TEMP", 2),
-        (b"eve", b"lab", b"SLOW", 3),
-        (b"bob", b"hall", b"SLOW", 0),
-        (b"bob", b"hall", b"NONE", 0),
-    ];
-    for (i, (user, host, name, bits)) in rows.iter().enumerate() {
-        assert!(rt; served.rights(user, host, name) == *bits, "at {i}");
-    }
-    Ok(())
-}
-
-#[test]
-fn record_files_are_judged(rt: HostRuntime) -> Result<(), Fail> {
-    let rows = [
-        b"record A LONG 1 quick".as_slice(),
-        b"record A LONG 1 quick 1 2",
-        b"record A LONG 0 quick 1",
-        b"record A LONG 1 quick 1\nrecord A LONG 1 quick 1\n",
-        b"record A LONG 1 quick 1 \n",
-        b"record A LONG 1 busy 1\n",
-        b"\n",
-        b"client anna hall\n",
-        b"rule eve * TEMP\n",
-        b"rule eve * TEMP x\n",
-        b"rule eve * TEMP rw rw\n",
-        b"rule eve  TEMP rw\n",
-    ];
-    for (i, text) in rows.iter().enumerate() {
-        let read = read_records(rt.alloc(), text);
-        assert!(rt; matches!(read, Err(Refusal::BadText)), "at {i}");
-    }
-    let file = read_records(rt.alloc(), b"rule * * * -\nrecord A LONG 1 quick 1")?;
-    assert!(rt; file.records.len() == 1);
-    assert!(rt; file.rules.len() == 1);
-    let empty = read_records(rt.alloc(), b"")?;
-    assert!(rt; empty.records.len() == 0);
-    Ok(())
 }
 
 /// A growth of the test's own is made again if it is refused: each refusal that counts is one of the records'.
@@ -285,7 +109,7 @@ fn busy_served(alloc: Global) -> Result<ServedRecords, Refusal> {
     if let Err(_) = served.add(b"SLOW", 1, true, own_long(alloc, 0)?) {
         served.add(b"SLOW", 1, true, own_long(alloc, 0)?)?;
     }
-    let busy = Some(put_of(0, 0));
+    let busy = Some(put_of(0));
     write(&mut served, b"SLOW", busy, own_long(alloc, 1)?)?;
     Ok(served)
 }
@@ -295,7 +119,7 @@ fn busy_served(alloc: Global) -> Result<ServedRecords, Refusal> {
 fn refused_growth_leaves_records(rt: HostRuntime) -> Result<(), Fail> {
     let mut served = busy_served(rt.alloc())?;
     let one = own_long(rt.alloc(), 1)?;
-    let waits = Some(put_of(0, 1));
+    let waits = Some(put_of(1));
     if let Err(refusal) = write(&mut served, b"SLOW", waits, own_int(rt.alloc(), 2)?) {
         assert!(rt; refusal == Refusal::OutOfMemory);
         assert!(rt; has(&served, b"SLOW", &one, true, 0));
@@ -317,12 +141,8 @@ fn refused_growth_leaves_records(rt: HostRuntime) -> Result<(), Fail> {
 }
 
 #[test]
-fn with_memory_no_call_is_refused_for_it(rt: HostRuntime) -> Result<(), Fail> {
+fn a_place_that_became_free_is_taken_first(rt: HostRuntime) -> Result<(), Fail> {
     let mut served = served_of_file(rt.alloc())?;
-    for (ioid, begun) in [(0, Begun::Applied(true)), (1, Begun::Waiting)] {
-        let put = Some(put_of(0, ioid));
-        assert!(rt; write(&mut served, b"SLOW", put, int(rt.alloc(), 3)?)? == begun);
-    }
     assert!(rt; served.remove(b"TEMP") == Ok(0));
     for (name, place) in [(b"A".as_slice(), 0), (b"B", 2)] {
         let added = served.add(name, 1, false, long(rt.alloc(), 5)?);

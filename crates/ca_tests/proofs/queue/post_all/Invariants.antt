@@ -1,8 +1,0 @@
-use Rattle.std.proofs.Common.{◌≡◌}
-use Rattle.ca_tests.proofs.queue.post_all.Given as goal
-
-abbrev pub invariant-loop-number : goal.invariant-loop-number
-invariant-loop-number l =
-    (l.queue.0.subscriptions ≡ l.fn.queue.0.subscriptions)
-    × (goal.iterator-loop-number).can_next l.number-iterator
-    × (goal.iterator-loop-number).is_finite l.number-iterator
