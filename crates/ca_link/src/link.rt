@@ -73,6 +73,13 @@ impl Link {
         self.input.next_message()
     }
 
+    /// A message that was handled gives its memory to the next one.
+    pub fn recycle(&mut self, message: Message)
+        ensures { self.new ≡ self.old }
+    {
+        self.input.recycle(message);
+    }
+
     /// The bytes that wait to be sent.
     pub fn out_bytes(&self) -> &[u8]
         ensures { result.now ≡ self.now.output }

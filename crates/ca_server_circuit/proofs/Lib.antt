@@ -19,3 +19,4 @@ pub mod Could
 pub mod Pumps
 pub mod Lost
 pub mod Peeked
+pub mod Imaging

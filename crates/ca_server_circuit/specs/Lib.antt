@@ -16,3 +16,4 @@ pub mod Posting
 pub mod Pumping
 pub mod Removing
 pub mod NextPut
+pub mod Imaging

@@ -25,6 +25,7 @@ mod put;
 mod read;
 mod search;
 mod seek;
+mod shown;
 mod step;
 mod updates;
 mod version;

@@ -11,11 +11,12 @@ ghost use Rattle.ca_server_circuit.specs.Showing.{AnswersRead, IsInOrder, IsWant
 
 use crate::end::{End, send};
 use crate::seek::Sought;
-use ca_dbr::{image_size, write_shown};
+use crate::shown::Shown;
+use ca_dbr::image_size;
 use ca_link::Link;
 use ca_records::{Record, ServedRecords};
 use ca_text::{PAYLOAD_LIMIT, Refusal, Status};
-use ca_wire::{Message, status_reply, value_reply};
+use ca_wire::{Message, status_reply, value_head};
 use std::alloc::{AllocError, Global};
 
 /// What a read asks for: how many elements, and the bytes of their image.
@@ -74,8 +75,7 @@ fn answer(
             Ok(())
         }
         Ok(asked) => {
-            let reply = shown(alloc, of, asked, message)?;
-            send(link, &reply)?;
+            show(alloc, link, of, asked, message)?;
             Ok(())
         }
     }
@@ -111,32 +111,43 @@ fn count_of(of: &Record, message: &Message) -> u32
     if count == 0 { present } else { count }
 }
 
-/// The reply with the elements that a read is shown, or with the status of the first that has no place in its type.
-fn shown(alloc: Global, of: &Record, asked: Asked, message: &Message) -> Result<Message, AllocError>
-    requires { IsInOrder of.now message.now asked }
-    ensures { IfOk result (λ reply. ShowsRead of.now message.now reply) }
+/// Answers a read by the elements that it is shown, whose image is made in its place, or by the status of the first that has no place in its type.
+fn show(
+    alloc: Global,
+    link: &mut Link,
+    of: &Record,
+    asked: Asked,
+    message: &Message,
+) -> Result<(), AllocError>
+    requires open { IsOpen link.old }
+    requires order { IsInOrder of.now message.now asked }
+    ensures ok { OnOk result ((reply : Fields) × ShowsRead of.now message.now reply
+        × (link.new ≡ with_sent (reply ∷ []) link.old)) }
+    ensures err { OnErr result (link.new ≡ link.old) }
 {
-    let mut image = Vec::with_capacity(alloc, asked.size.next_multiple_of(8))?;
-    match write_shown(
-        message.data_type(),
-        asked.count,
-        of.value(),
-        of.meta(),
-        &mut image,
-    ) {
-        Ok(()) => {
-            let reply = value_reply(message, asked.count, image)?;
-            Ok(reply)
-        }
+    let value = of.value();
+    value.know();
+    let image = Shown {
+        data_type: message.data_type(),
+        count: asked.count,
+        value,
+        meta: of.meta(),
+    };
+    let head = value_head(alloc, message, asked.count);
+    match link.queue_made(&head, asked.size, &image) {
+        Ok(()) => Ok(()),
         Err(refusal) => match status_of(refusal) {
             None => Err(AllocError),
-            Some(status) => Ok(status_reply(alloc, message, status)),
+            Some(status) => {
+                send(link, &status_reply(alloc, message, status))?;
+                Ok(())
+            }
         },
     }
 }
 
 /// The status that says why a value was not shown, or none if there was no memory.
-fn status_of(refusal: Refusal) -> Option<Status>
+pub(crate) fn status_of(refusal: Refusal) -> Option<Status>
     ensures { MatchOption result (refusal ≡ OutOfMemory)
         (λ s. (refusal ≡ OutOfMemory → ⊥) × (s.number ≡ status_for refusal)) }
 {

@@ -1,20 +1,25 @@
-ghost use Rattle.std.specs.Prelude.{◌≡◌, ◌≤◌, ◌==◌, IfOk, OnErr, OnOk, if◌then◌else◌, true};
+ghost use Rattle.std.specs.Prelude.{◌≡◌, ◌≤◌, ◌==◌, OnErr, OnOk, [], ◌∷◌, if◌then◌else◌, replicate, true};
 ghost use Rattle.std.specs.List.{list_any};
-ghost use Rattle.ca_text.specs.Limits.{element_limit};
+ghost use Rattle.ca_text.specs.Limits.{element_limit, payload_limit};
 ghost use Rattle.ca_dbr.specs.Elements.{count_of};
 ghost use Rattle.ca_link.specs.Calls.{IsOpen};
+ghost use Rattle.ca_link.specs.Link.{with_sent};
 ghost use Rattle.ca_wire.specs.Fields.{Fields};
+ghost use Rattle.ca_wire.specs.Messages.{update};
 ghost use Rattle.ca_model.specs.Server.{concerns, with_post};
 ghost use Rattle.ca_model.specs.Updates.{ShowsTo};
 ghost use Rattle.ca_server_circuit.specs.Pumping.{PumpsEnd, PumpsOne};
 ghost use Rattle.ca_server_subscriptions.specs.Subscribed.{IsAskable};
 
 use crate::end::{End, send};
-use ca_dbr::{image_size, write_shown};
+use crate::read::status_of;
+use crate::shown::Shown;
+use ca_dbr::image_size;
+use ca_link::Link;
 use ca_records::Record;
 use ca_server_subscriptions::Update;
 use ca_text::Status;
-use ca_wire::{Answered, Ioid, Message, Wanted, update};
+use ca_wire::{Answered, Ioid, Wanted, update, update_head};
 use std::alloc::{AllocError, Global};
 
 impl End {
@@ -57,17 +62,19 @@ impl End {
         let Some((wanted, update)) = self.subscriptions.take() else {
             return Ok(false);
         };
-        let message = shown_update(self.alloc, wanted, &update)?;
-        send(&mut self.link, &message)?;
+        show(self.alloc, &mut self.link, wanted, &update)?;
         Ok(true)
     }
 }
 
-/// The message that shows an update to whoever asked so: GETFAIL and zero bytes if its elements have no place in that type.
-fn shown_update(alloc: Global, wanted: Wanted, shown: &Update) -> Result<Message, AllocError>
-    requires { IsAskable wanted }
-    ensures ok { IfOk result (λ m. ShowsTo wanted shown.now m) }
+/// Shows an update to whoever asked so, with an image that is made in its place: GETFAIL and zero bytes if its elements have no place in that type.
+fn show(alloc: Global, link: &mut Link, wanted: Wanted, shown: &Update) -> Result<(), AllocError>
+    requires open { IsOpen link.old }
+    requires askable { IsAskable wanted }
+    ensures ok { OnOk result ((m : Fields) × ShowsTo wanted shown.now m
+        × (link.new ≡ with_sent (m ∷ []) link.old)) }
     ensures some { OnErr result ((m : Fields) × ShowsTo wanted shown.now m) }
+    ensures err { OnErr result (link.new ≡ link.old) }
 {
     let Wanted {
         sid: _,
@@ -79,18 +86,50 @@ fn shown_update(alloc: Global, wanted: Wanted, shown: &Update) -> Result<Message
     let Ok(size) = image_size(data_type, count) else {
         unreachable!()
     };
-    let mut image = Vec::with_capacity(alloc, size.next_multiple_of(8))?;
-    match write_shown(data_type, count, shown.value(), shown.meta(), &mut image) {
-        Ok(()) => {
-            let message = update(answered(id, Status::NORMAL, data_type, count), image)?;
-            Ok(message)
-        }
-        Err(_) => {
-            image.resize(size, 0)?;
-            let message = update(answered(id, Status::GETFAIL, data_type, count), image)?;
-            Ok(message)
-        }
+    let value = shown.value();
+    value.know();
+    let image = Shown {
+        data_type,
+        count,
+        value,
+        meta: shown.meta(),
+    };
+    let head = update_head(alloc, answered(id, Status::NORMAL, data_type, count));
+    match link.queue_made(&head, size, &image) {
+        Ok(()) => Ok(()),
+        Err(refusal) => match status_of(refusal) {
+            None => Err(AllocError),
+            // Whatever it is, an update tells it by GETFAIL.
+            Some(_) => {
+                let about = answered(id, Status::GETFAIL, data_type, count);
+                match send_zeros(alloc, link, about, size) {
+                    Ok(()) => Ok(()),
+                    Err(_) => Err(AllocError),
+                }
+            }
+        },
     }
+}
+
+/// Puts an update with n zero bytes after what waits on an open link. Without memory the link is as it was.
+fn send_zeros(
+    alloc: Global,
+    link: &mut Link,
+    about: Answered,
+    size: usize,
+) -> Result<(), AllocError>
+    requires open { IsOpen link.old }
+    requires within { size ≤ payload_limit }
+    ensures ok { OnOk result (link.new
+        ≡ with_sent
+        (update about.data_type about.count about.status.number about.id (replicate size 0) ∷ [])
+        link.old) }
+    ensures err { OnErr result (link.new ≡ link.old) }
+{
+    let zeros = vec![in alloc; 0u8; size]?;
+    let message = update(about, zeros)?;
+    send(link, &message)?;
+    Ok(())
 }
 
 /// What an update is about, how it went, and how many elements it has.

@@ -52,11 +52,6 @@ impl Buffer {
         &self.bytes[self.start..]
     }
 
-    /// What gives it memory.
-    pub(crate) fn allocator(&self) -> Global {
-        *self.bytes.allocator()
-    }
-
     /// Puts these bytes after the others. A refusal changes nothing, and no bytes take no memory.
     pub fn push(&mut self, bytes: &[u8]) -> Result<(), AllocError>
         ensures ok { OnOk result (self.new ≡ self.old ++ bytes.now) }

@@ -7,12 +7,15 @@ use crate::reading::{One, read_one};
 use ca_text::Refusal;
 use std::alloc::{AllocError, Global};
 use std::marker::Model;
+use std::mem;
 
 /// Reads the messages of a stream of bytes that comes in any pieces.
 #[derive(Debug, Drop)]
 pub struct Deframer {
     buffer: Buffer,
     closed: bool,
+    // Room for the payload of the next message.
+    room: Vec<u8>,
 }
 
 impl Model for Deframer {
@@ -31,6 +34,7 @@ impl Deframer {
         Deframer {
             buffer: Buffer::new(alloc),
             closed: false,
+            room: Vec::new(alloc),
         }
     }
 
@@ -72,7 +76,7 @@ impl Deframer {
         match read_one(bytes) {
             One::Whole(head) => {
                 let end = head.start + head.header.size as usize;
-                let payload = copied(self.buffer.allocator(), &bytes[head.start..end])?;
+                let payload = copied(&mut self.room, &bytes[head.start..end])?;
                 self.buffer.drop_front(end);
                 Ok(Some(Message::of_header(head.header, payload)))
             }
@@ -83,15 +87,29 @@ impl Deframer {
             }
         }
     }
+
+    /// A message that was handled gives its memory to the next one.
+    pub fn recycle(&mut self, message: Message)
+        ensures { self.new ≡ self.old }
+    {
+        let payload = message.into_payload();
+        if !payload.is_empty() {
+            self.room = payload;
+        }
+    }
 }
 
-/// The bytes in a Vec of their own. No bytes take no memory.
-fn copied(alloc: Global, bytes: &[u8]) -> Result<Vec<u8>, AllocError>
+/// The bytes in this room, of which nothing is left then. No bytes take no memory, and leave the room.
+fn copied(room: &mut Vec<u8>, bytes: &[u8]) -> Result<Vec<u8>, AllocError>
     ensures ok { IfOk result (λ v. v.items ≡ bytes.now) }
     ensures err { OnErr result (bytes.now ≢ []) }
 {
+    let none = Vec::new(*room.allocator());
     if bytes.is_empty() {
-        return Ok(Vec::new(alloc));
+        return Ok(none);
     }
-    Vec::from_slice(alloc, bytes)
+    let mut payload = mem::replace(room, none);
+    payload.clear();
+    payload.extend_from_slice(bytes)?;
+    Ok(payload)
 }

@@ -228,6 +228,14 @@ impl Message {
         &self.payload
     }
 
+    /// The payload alone.
+    pub(crate) fn into_payload(self) -> Vec<u8>
+        ensures { result.items ≡ self.payload }
+    {
+        let Message { payload, .. } = self;
+        payload
+    }
+
     /// Its header.
     pub fn header(&self) -> Header
         ensures header { result ≡ header_of self.now }

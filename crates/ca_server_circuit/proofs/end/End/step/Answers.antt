@@ -26,8 +26,8 @@ returns-in-Ok-None c =
       refl,
     )
 
-pub handle-requires-clause-served : goal.handle-requires-clause-served
-handle-requires-clause-served c =
+pub take-requires-clause-served : goal.take-requires-clause-served
+take-requires-clause-served c =
     subst (λ (t : Table OpenChannel). AreServed (records_of c.args.records.now) t) (sym (ap (λ (x : ServerEnd). x.channels) c.self.view_is)) c.requires.served
 
 pub returns-in-Ok : goal.returns-in-Ok
@@ -41,10 +41,10 @@ returns-in-Ok c =
     let takes = subst (λ (x : ServerEnd). TakesFirst x.link m t.0) c.self.view_is t.1 in
     let first = taken-first _ e c.next_message.new.self t.0 c.self.view_is t.2 in
     let x : Takes e = record { room = room; m = m; rest = t.0; takes = takes } in
-    (x, subst (λ (w : ServerEnd). Does (Due (known c.args.port s w) m) s c.args.circuit w m c.in-Ok.effect c.handle.new.records c.handle.new.self) first c.in-Ok.ensures.ok)
+    (x, subst (λ (w : ServerEnd). Does (Due (known c.args.port s w) m) s c.args.circuit w m c.in-Ok.effect c.take.new.records c.take.new.self) first c.in-Ok.ensures.ok)
 
-pub returns-in-Ok-Some : goal.returns-in-Ok-Some
-returns-in-Ok-Some c =
+pub returns-in-Err-take : goal.returns-in-Err-take
+returns-in-Err-take c =
     let s = c.args.records.now in
     let e = c.args.self.now in
     let m = c.in-Ok-Some.message in
@@ -54,13 +54,13 @@ returns-in-Ok-Some c =
     let takes = subst (λ (x : ServerEnd). TakesFirst x.link m t.0) c.self.view_is t.1 in
     let first = taken-first _ e c.next_message.new.self t.0 c.self.view_is t.2 in
     let x : Takes e = record { room = room; m = m; rest = t.0; takes = takes } in
-    let stay = subst (λ (u : Table OpenChannel). AllStay u c.handle.new.self.channels) (ap (λ (w : ServerEnd). w.channels) c.self.view_is) c.in-Err-handle.ensures.channels in
-    let output = c.in-Err-handle.ensures.output ∙ ap (λ (l : LinkState). l.output) t.2 ∙ ap (λ (w : ServerEnd). w.link.output) c.self.view_is in
+    let stay = subst (λ (u : Table OpenChannel). AllStay u c.take.new.self.channels) (ap (λ (w : ServerEnd). w.channels) c.self.view_is) c.in-Err-take.ensures.channels in
+    let output = c.in-Err-take.ensures.output ∙ ap (λ (l : LinkState). l.output) t.2 ∙ ap (λ (w : ServerEnd). w.link.output) c.self.view_is in
     let are = subst (λ (w : ServerEnd). AreBytes w.link.input.bytes) c.self.view_is (subst AreBytes c.in_bytes.ensures c.know_bytes.ensures) in
-    ((x, are, inr (subst (λ (w : ServerEnd). MayLack (known c.args.port s w) m) first c.in-Err-handle.ensures.memory)), output, stay, c.in-Err-handle.ensures.err)
+    ((x, are, inr (subst (λ (w : ServerEnd). MayLack (known c.args.port s w) m) first c.in-Err-take.ensures.memory)), output, stay, c.in-Err-take.ensures.err)
 
-pub returns : goal.returns
-returns c =
+pub returns-in-Err : goal.returns-in-Err
+returns-in-Err c =
     let s = c.args.records.now in
     let e = c.args.self.now in
     let r = c.in-Err.refusal in

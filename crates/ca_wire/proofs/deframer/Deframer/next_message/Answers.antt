@@ -1,6 +1,6 @@
 use Rattle.std.proofs.Common.{◌≡◌, ◌≢◌, ◌+◌, ℕ, List, [], take, drop, refl, ap, ◌∙◌, sym, subst}
 use Rattle.ca_wire.specs.Stream.{Held, NoneBegins, NotBad}
-use Rattle.ca_wire.specs.Reading.{IsWhole}
+use Rattle.ca_wire.specs.Reading.{IsWhole, Nexts}
 use Rattle.ca_wire.proofs.Taking.{held-part, takes-whole, whole-payload, nexts-refused}
 use Rattle.ca_wire.proofs.deframer.Deframer.next_message.Goals as goal
 
@@ -11,7 +11,8 @@ returns-in_err-payload-in-Whole c =
     let held : c.bytes-bytes.result.now ≡ old.bytes = c.bytes-bytes.ensures ∙ ap (λ (h : Held). h.bytes) c.self.view_is in
     let whole : IsWhole old.bytes head = subst (λ (t : List ℕ). IsWhole t head) held c.in-Whole.ensures in
     let some : take head.header.size (drop head.start old.bytes) ≢ [] = λ e. c.in_err-payload-in-Whole.ensures.err (held-part _ _ head.start head.header.size held ∙ e) in
-    nexts-refused old _ c.from_residual.ensures.1 (sym (ap (λ (h : Held). h.closed) c.self.view_is) ∙ c.if-self.false) (whole-payload old.bytes head whole some)
+    subst (λ (h : Held). Nexts old c.from_residual.result h) (sym c.self.view_is)
+    (nexts-refused old _ c.from_residual.ensures.1 (sym (ap (λ (h : Held). h.closed) c.self.view_is) ∙ c.if-self.false) (whole-payload old.bytes head whole some))
 
 pub returns-in_ok-payload-in-Whole : goal.returns-in_ok-payload-in-Whole
 returns-in_ok-payload-in-Whole c =
