@@ -1,0 +1,14 @@
+pub mod Filtered
+pub mod Rests
+pub mod Given
+pub mod Calling
+pub mod Giving
+mod Growing
+mod Sound
+mod Backs
+mod Turns
+mod Asking
+mod Finding
+mod Reading
+mod Connecting
+mod ClientCalls
