@@ -1,5 +1,5 @@
 -- What callers' calls on channels leave of what is known of a client and one circuit.
-use Rattle.std.proofs.Common.{◌≡◌, ◌≢◌, ℕ, zero, suc, ◌+◌, ◌<◌, ◌≤◌, ◌⊎◌, inl, inr, Bool, true, false, cond, List, [], ◌∷◌, ◌++◌, length, Option, Some, None, refl, sym, ap, ◌∙◌, subst, arith}
+use Rattle.std.proofs.Common.{◌≡◌, ℕ, ◌≤◌, ◌⊎◌, inl, inr, Bool, true, false, cond, [], ◌∷◌, length, Option, Some, None, refl, sym, ap, ◌∙◌, subst, arith}
 use Rattle.std.specs.Prelude.{is_none, option_map, unwrap_or}
 use Rattle.std.proofs.lemmas.Bool.{both_ways}
 use Rattle.ca_text.specs.Command.{command_number}
@@ -15,15 +15,13 @@ use Rattle.ca_requests.specs.Requests.{Asked, Request, command_of}
 use Rattle.ca_requests.specs.Requests as request
 use Rattle.ca_wire.specs.Fields.{Fields}
 use Rattle.ca_model.specs.Answers.{Sending}
-use Rattle.ca_model.specs.Client.{Channel, Clearing, Client, without_channel, with_standing, Connecting, Creating, Doomed, Leaving, Live, Native, On, Phase, Searching, Standing, connection_at, is_on_in, sending, standing_at}
-use Rattle.ca_model.specs.ClientCalls.{IsLive, LiveChannel, all_over, Opening, Shape, StandsAs, cancel_sent, clear_sent, cleared, clearing_sent, event_add_sent, event_cancel_sent, issued, new_subscription, opened, unsubscribed, unsubscribed_all}
-use Rattle.ca_model.specs.ClientEnds.{is_connecting}
-use Rattle.ca_model.specs.Sends.{Conduct, HasChannel, IsFree, IsOnChannel}
-use Rattle.ca_model.specs.Speech.{Cid, Gives, Id, Ioid, Is, SubId, sid_in}
+use Rattle.ca_model.specs.Client.{Channel, Clearing, Client, without_channel, Connecting, Creating, Doomed, Leaving, Live, Native, On, Phase, Searching, Standing, connection_at, is_on_in, sending, standing_at}
+use Rattle.ca_model.specs.ClientCalls.{IsLive, LiveChannel, Opening, Shape, StandsAs, cancel_sent, clear_sent, cleared, clearing_sent, event_add_sent, event_cancel_sent, issued, new_subscription, opened, unsubscribed, unsubscribed_all}
+use Rattle.ca_model.specs.Sends.{Conduct, HasChannel, IsFree}
+use Rattle.ca_model.specs.Speech.{Gives, Id, Is}
 use Rattle.ca_model_client.specs.Placed.{IsPlaced}
 use Rattle.ca_model_client.proofs.Changes.{keeps-cleared, keeps-unsubscribed, on-handle, on-phase, placed-issued, placed-opened, placed-subscribed}
-use Rattle.ca_model_client.proofs.Handles.{handle-or}
-use Rattle.ca_model_client.proofs.Placed.{Keeps, Links, keeps-sending}
+use Rattle.ca_model_client.proofs.Placed.{Keeps, keeps-sending}
 use Rattle.ca_model_client.proofs.Standings.{found-standing, is-on, never-cleared, stands-as}
 use Rattle.ca_model_client.proofs.Tables.{all-back, all-freed-back, changed-back, freed-back, given-fresh, held-back, held-few, held-other, one-by-wire, one-value}
 use Rattle.ca_model_client.proofs.Thinner.{Thins}
@@ -32,12 +30,12 @@ use Rattle.ca_laws_calls.specs.ClientRows.{sent_on}
 use Rattle.ca_laws_calls.specs.Conduct.{with_all_sent}
 use Rattle.ca_laws_calls.proofs.Backs.{AsksAs, Backs, BacksOn, SubscribesAs, Was, asks-as-same, asks-back, back-freed, back-same, back-stood, back-then, backs-same, subscribes-as-same, subscribes-on, unwanted-same}
 use Rattle.ca_laws_calls.proofs.Calling.{rests-cleared-so, rests-issued, rests-opened, rests-subscribed, rests-unsubscribed}
-use Rattle.ca_laws_calls.proofs.Given.{Given, given-nothing, none-given, only-one}
-use Rattle.ca_laws_calls.proofs.Giving.{given-issued, given-subscribed, none-cancelled, none-cleared, none-written}
+use Rattle.ca_laws_calls.proofs.Given.{given-nothing, only-one}
+use Rattle.ca_laws_calls.proofs.Giving.{given-issued, given-subscribed, none-cancelled, none-cleared}
 use Rattle.ca_laws_calls.proofs.Growing.{Added, HasNow}
 use Rattle.ca_laws_calls.proofs.Rests.{Rests, rests-itself}
-use Rattle.ca_laws_calls.proofs.Sound.{Base, GoesOn, HeldAs, IsConnectedAt, Sound, Stands, Turn, is_kept, turned}
-use Rattle.ca_laws_calls.proofs.Turns.{adds-was, keeps-rests, live-linked, none-plain, sent-nothing, sound-silent, stands-was, turn-plain, turn-sending}
+use Rattle.ca_laws_calls.proofs.Sound.{GoesOn, HeldAs, IsConnectedAt, Sound, Turn, is_kept, turned}
+use Rattle.ca_laws_calls.proofs.Turns.{adds-was, keeps-rests, live-linked, sent-nothing, sound-silent, stands-was, turn-sending}
 
 -- as many indices as before
 pub few-thins : (x y : Client) → Thins x y → AreFew x → AreFew y
@@ -433,8 +431,8 @@ module _ (on : Handle) (x : Client) (e : Conduct) (sound : Sound on x e) (h : Ha
       let f = found-standing x h (On c (Creating rights)) at in
       record {
         channels = back-stood on x.channels (On c Doomed) h (λ p is.
-        subst (λ (k : Phase). Was on x.channels h k) (on-phase c on Doomed p is)
-        (f.0, Creating rights, f.1, f.2 ∙ ap (λ (k : Handle). On k (Creating rights)) (on-handle c on Doomed p is), inr (rights, refl)));
+            subst (λ (k : Phase). Was on x.channels h k) (on-phase c on Doomed p is)
+            (f.0, Creating rights, f.1, f.2 ∙ ap (λ (k : Handle). On k (Creating rights)) (on-handle c on Doomed p is), inr (rights, refl)));
         requests = asks-as-same x.requests x.requests refl;
         subscriptions = subs-gone;
       }

@@ -1,16 +1,14 @@
 -- From one client to another nothing more is known of its channels, requests and subscriptions: each was there before.
-use Rattle.std.proofs.Common.{◌≡◌, ◌≢◌, ℕ, ◌⊎◌, inl, inr, Bool, true, false, cond, List, [], ◌∷◌, Option, Some, None, refl, sym, ap, ◌∙◌, subst}
-use Rattle.std.specs.Prelude.{◌==◌, fold, length, is_none, is_some, not, option_and_then, option_map, unwrap_or}
+use Rattle.std.proofs.Common.{◌≡◌, ℕ, ◌⊎◌, inl, inr, Bool, true, false, cond, List, [], ◌∷◌, Option, Some, None, refl, sym, ap, ◌∙◌, subst}
+use Rattle.std.specs.Prelude.{◌==◌, fold, length, is_none, not, option_and_then, option_map, unwrap_or}
 use Rattle.ca_arena.specs.declared.handle.Handle.{Handle}
 use Rattle.ca_ids.specs.Table.{Table, under, with_changed, with_freed}
 use Rattle.ca_monitor.specs.Subscriptions.{Subscription, drains_in, stands_in}
-use Rattle.ca_monitor.specs.Subscriptions as monitor
 use Rattle.ca_requests.specs.Requests.{Request, was_sent_on}
-use Rattle.ca_requests.specs.Requests as request
 use Rattle.ca_model.specs.Answers.{Sending}
-use Rattle.ca_model.specs.Client.{Channel, Clearing, Client, ClientCircuit, Connecting, Connection, Creating, Doomed, Leaving, Live, Native, On, Phase, Searching, Standing, channels_ended, channels_on, connection_at, disconnected, ended, is_cleared, let_go, searched_again, sending, with_one_sent, without_channel, without_circuit, without_ids}
+use Rattle.ca_model.specs.Client.{Channel, Clearing, Client, ClientCircuit, Connecting, Creating, Doomed, Leaving, Live, On, Phase, Searching, Standing, channels_ended, channels_on, connection_at, disconnected, ended, is_cleared, let_go, searched_again, sending, with_one_sent, without_channel, without_circuit, without_ids}
 use Rattle.ca_model.specs.ClientCalls.{unwanted}
-use Rattle.ca_model_client.proofs.Tables.{all-freed-back, changed-back, changed-own, freed-back, one-value}
+use Rattle.ca_model_client.proofs.Tables.{all-freed-back, changed-back, freed-back, one-value}
 use Rattle.ca_laws_calls.proofs.Filtered.{requests-ended}
 
 -- The channel of this handle stood on the circuit so that as much was known of it.

@@ -1,10 +1,9 @@
 -- What each call of a client's core leaves of what is known of it and one circuit, whatever its peers send; and so what it sends is legal.
-use Rattle.std.proofs.Common.{◌≡◌, ℕ, ◌≤◌, ◌⊎◌, inl, inr, Bool, true, false, ◌&&◌, ◌<◌, cond, List, [], ◌∷◌, ◌++◌, length, Option, Some, None, refl, sym, ap, ◌∙◌, subst, arith}
+use Rattle.std.proofs.Common.{◌≡◌, ℕ, ◌⊎◌, inl, inr, Bool, true, false, ◌<◌, cond, List, [], ◌∷◌, ◌++◌, length, Option, Some, None, refl, sym, ap, ◌∙◌, subst, arith}
 use Rattle.std.specs.Prelude.{Err, Ok, Result, filter, fold, is_none, is_some, map, option_and_then, option_map, option_to_list, unwrap_or}
 use Rattle.std.specs.List.{FoldsTo}
-use Rattle.std.proofs.lemmas.Bool.{both_ways, cases_Bool}
+use Rattle.std.proofs.lemmas.Bool.{cases_Bool}
 use Rattle.std.proofs.lemmas.List.{append_assoc}
-use Rattle.ca_text.specs.Command.{command_number}
 use Rattle.ca_text.specs.declared.command.Command.{Command}
 use Rattle.ca_text.specs.declared.command.Command.TheVariants as command
 use Rattle.ca_text.specs.declared.refusal.Refusal.{Refusal}
@@ -23,15 +22,14 @@ use Rattle.ca_wire.specs.Fields.{Fields}
 use Rattle.ca_wire.specs.Messages.{bare, search_request}
 use Rattle.ca_model.specs.Answers.{Closed, Closing, NeedBytes, Notice, Notices, Sending, Stepped}
 use Rattle.ca_model.specs.Answers as answers
-use Rattle.ca_model.specs.Client.{Channel, Clearing, Client, ClientCircuit, Connecting, Connection, Creating, Doomed, Leaving, Live, Native, On, Phase, is_live, connection_at, ended, later, on_connection, sending, with_one_sent}
-use Rattle.ca_model.specs.ClientCalls.{ClientClears, ClientOpens, ClientPuts, ClientReads, ClientSubscribes, ClientUnsubscribes, ClientWrites, IsUnchanged, Opening, Shape, cancel_sent, clearing_sent, is_over, opened, put_sent, read_sent, write_sent}
+use Rattle.ca_model.specs.Client.{Channel, Clearing, Client, ClientCircuit, Connecting, Connection, Creating, Doomed, Leaving, Live, On, Phase, is_live, connection_at, ended, later, on_connection, sending}
+use Rattle.ca_model.specs.ClientCalls.{ClientClears, ClientOpens, ClientPuts, ClientReads, ClientSubscribes, ClientUnsubscribes, ClientWrites, IsUnchanged, Opening, Shape, is_over, opened, put_sent, read_sent, write_sent}
 use Rattle.ca_model.specs.ClientEnds.{ClientBegins, ClientConnects, ClientSetting, ConnectsOn, GivesOn, Receives, ReceivesAll, StepsOn, Takes, Ticking, after_taking, all_searched_on, beacon_heard, begun, circuits_ticked, due, flow_sent, given, handed_over, is_name_connected, new_client, of_circuit, searches_made, searches_on, ticks, ticks_as, unconnected, with_sending}
 use Rattle.ca_model.specs.ClientEnds as ends
 use Rattle.ca_model.specs.Ends.{Address}
-use Rattle.ca_model.specs.Hears.{Effect, Hears, becomes, found_at, searched_by}
-use Rattle.ca_model.specs.Hears as hears
-use Rattle.ca_model.specs.Sends.{Conduct, IsDisconnect, LegalClient}
-use Rattle.ca_model.specs.Speech.{Cid, Creates, Id, Ioid, Is, SubId}
+use Rattle.ca_model.specs.Hears.{Effect, Hears, found_at}
+use Rattle.ca_model.specs.Sends.{Conduct, IsDisconnect}
+use Rattle.ca_model.specs.Speech.{Cid, Id, Ioid, SubId}
 use Rattle.ca_model_client.proofs.Handles.{not-same, same-is}
 use Rattle.ca_model_client.proofs.Changes.{on-handle}
 use Rattle.ca_model_client.proofs.Hearing.{keeps-begun}
@@ -44,7 +42,7 @@ use Rattle.ca_laws_calls.specs.ClientRows.{Alone, Call, ClientsSendLegally, Does
 use Rattle.ca_laws_calls.specs.ClientRows as call
 use Rattle.ca_laws_calls.specs.Conduct.{nothing_done, with_all_sent, with_read}
 use Rattle.ca_laws_calls.proofs.Asking.{few-thins, sound-cleared, sound-issued, sound-opened, sound-subscribed, sound-unsubscribed, sound-written}
-use Rattle.ca_laws_calls.proofs.Backs.{Backs, BacksOn, asks-as-same, sent-tables, subscribes-as-same, subscribes-on, was-same}
+use Rattle.ca_laws_calls.proofs.Backs.{BacksOn, asks-as-same, sent-tables, subscribes-as-same, subscribes-on, was-same}
 use Rattle.ca_laws_calls.proofs.Calling.{rests-begun}
 use Rattle.ca_laws_calls.proofs.Connecting.{all-begun, begun-at, begun-row, elsewhere, no-legal, no-told, sound-begun, sound-ended}
 use Rattle.ca_laws_calls.proofs.Finding.{sound-finds}
@@ -52,8 +50,8 @@ use Rattle.ca_laws_calls.proofs.Given.{only-one}
 use Rattle.ca_laws_calls.proofs.Giving.{none-written}
 use Rattle.ca_laws_calls.proofs.Growing.{Asked, Grows, channel-forth, free-forth, grows-read, has-created, has-read, on-channel-forth, read-there, told-read, went-forth}
 use Rattle.ca_laws_calls.proofs.Reading.{Heard, sound-heard}
-use Rattle.ca_laws_calls.proofs.Sound.{Base, HeldAs, IsConnectedAt, Sound, Stands}
-use Rattle.ca_laws_calls.proofs.Turns.{ArePlain, keeps-rests, none-plain, sent-nothing, sound-off, sound-plain, sound-silent, sound-waits, talks}
+use Rattle.ca_laws_calls.proofs.Sound.{Base, HeldAs, Sound, Stands}
+use Rattle.ca_laws_calls.proofs.Turns.{ArePlain, keeps-rests, none-plain, sent-nothing, sound-plain, sound-silent, sound-waits, talks}
 
 -- what is known after these messages were sent
 abbrev Then : Handle → Client → List Sending → Conduct → Type 0

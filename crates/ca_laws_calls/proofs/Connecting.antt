@@ -1,44 +1,38 @@
 -- What it leaves of what is known of a client and one circuit that a circuit is connected, and that an end ends.
-use Rattle.std.proofs.Common.{◌≡◌, ℕ, zero, suc, ◌+◌, ◌≤◌, ◌⊎◌, inl, inr, Bool, true, false, cond, List, [], ◌∷◌, ◌++◌, length, Option, Some, None, refl, sym, ap, ◌∙◌, subst, arith}
-use Rattle.std.specs.Prelude.{filter, filter_map, is_none, map, option_and_then, option_map}
+use Rattle.std.proofs.Common.{◌≡◌, ℕ, zero, suc, ◌+◌, ◌⊎◌, inl, inr, Bool, true, false, cond, List, [], ◌∷◌, ◌++◌, length, Option, Some, None, refl, sym, ap, ◌∙◌, subst, arith}
+use Rattle.std.specs.Prelude.{filter, filter_map, is_none, map, option_and_then}
 use Rattle.std.specs.List.{cons_option}
 use Rattle.std.proofs.lemmas.Bool.{both_ways}
-use Rattle.ca_text.specs.Command.{command_number}
 use Rattle.ca_text.specs.declared.command.Command.TheVariants as command
 use Rattle.ca_text.specs.Place.{At}
 use Rattle.ca_text.proofs.Places.{At-after, At-parts, some_is}
 use Rattle.ca_arena.specs.declared.handle.Handle.{Handle}
-use Rattle.ca_ids.specs.Table.{Table, held, same_handle, under, with_changed}
-use Rattle.ca_ids.specs.Wire.{wire_of}
+use Rattle.ca_ids.specs.Table.{held, same_handle, under}
 use Rattle.ca_wire.specs.Fields.{Fields}
 use Rattle.ca_wire.specs.Messages.{name_request, version_request}
 use Rattle.ca_model.specs.Answers.{Closing, Sending}
-use Rattle.ca_model.specs.Client.{Channel, Client, ClientCircuit, Connecting, Connection, Creating, Live, Native, On, Phase, connection_at, ended, is_on_in, sending}
-use Rattle.ca_model.specs.ClientEnds.{ConnectsOn, begun, creating, creations, is_connecting, new_connection, of_circuit, set_up, unconnected}
-use Rattle.ca_model.specs.Ends.{Why}
+use Rattle.ca_model.specs.Client.{Channel, Client, ClientCircuit, Connection, Creating, Live, Native, On, Phase, connection_at, ended, is_on_in, sending}
+use Rattle.ca_model.specs.ClientEnds.{ConnectsOn, begun, creating, creations, is_connecting, of_circuit, set_up}
 use Rattle.ca_model.specs.Hears.{create_sent}
-use Rattle.ca_model.specs.Sends.{Conduct, IsOnChannel, LegalClient}
-use Rattle.ca_model.specs.Speech.{Gives, Id, Is}
+use Rattle.ca_model.specs.Sends.{Conduct, LegalClient}
 use Rattle.ca_model_client.specs.Placed.{IsPlaced}
-use Rattle.ca_model_client.proofs.Changes.{on-handle, on-phase}
+use Rattle.ca_model_client.proofs.Changes.{on-phase}
 use Rattle.ca_model_client.proofs.Handles.{handle-or, same-not}
 use Rattle.ca_model_client.proofs.Hearing.{keeps-begun}
-use Rattle.ca_model_client.proofs.Letting.{KeepsBut, ends-ended}
-use Rattle.ca_model_client.proofs.Placed.{keeps-sending, placed-linked}
+use Rattle.ca_model_client.proofs.Letting.{ends-ended}
+use Rattle.ca_model_client.proofs.Placed.{keeps-sending}
 use Rattle.ca_model_client.proofs.Standings.{at-filter-map, is-on}
-use Rattle.ca_model_client.proofs.Tables.{all-back, changed-own, under-held}
-use Rattle.ca_laws_circuit.proofs.Marks.{at-filter}
+use Rattle.ca_model_client.proofs.Tables.{all-back, under-held}
 use Rattle.ca_laws_circuit.specs.Held.{AreFew}
 use Rattle.ca_laws_calls.specs.ClientRows.{sent_on}
 use Rattle.ca_laws_calls.specs.Conduct.{nothing_done, with_all_sent}
 use Rattle.ca_laws_calls.proofs.Asking.{few-thins}
-use Rattle.ca_laws_calls.proofs.Backs.{Backs, BacksOn, Was, asks-as-same, backs-ended, ended-off, subscribes-as-same, subscribes-on, was-same}
-use Rattle.ca_laws_calls.proofs.Calling.{rests-begun, rests-ended}
-use Rattle.ca_laws_calls.proofs.Given.{Given, given-nothing}
+use Rattle.ca_laws_calls.proofs.Backs.{backs-ended, ended-off, subscribes-on}
+use Rattle.ca_laws_calls.proofs.Calling.{rests-ended}
 use Rattle.ca_laws_calls.proofs.Giving.{given-connected}
 use Rattle.ca_laws_calls.proofs.Growing.{IsTold}
-use Rattle.ca_laws_calls.proofs.Sound.{Base, IsConnectedAt, IsEnding, Sound, Stands, Turn, is_kept, turned}
-use Rattle.ca_laws_calls.proofs.Turns.{keeps-rests, live-linked, on-talks, sent-nothing, sound-off, sound-silent, talks, turn-sending}
+use Rattle.ca_laws_calls.proofs.Sound.{Base, Sound, Turn, turned}
+use Rattle.ca_laws_calls.proofs.Turns.{keeps-rests, live-linked, sound-off, sound-silent, talks, turn-sending}
 
 -- ---- an end ends
 

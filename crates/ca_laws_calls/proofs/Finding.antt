@@ -1,25 +1,18 @@
 -- What search replies and datagrams leave of what is known of a client and one circuit, whoever sent them.
-use Rattle.std.proofs.Common.{◌≡◌, ℕ, ◌≤◌, ◌⊎◌, inl, inr, Bool, true, false, List, [], ◌∷◌, ◌++◌, length, Option, Some, None, refl, sym, ap, ◌∙◌, subst, arith}
-use Rattle.std.specs.Prelude.{filter, is_none, map, option_and_then}
-use Rattle.std.proofs.lemmas.Bool.{both_ways}
-use Rattle.ca_text.specs.declared.command.Command.TheVariants as command
+use Rattle.std.proofs.Common.{◌≡◌, ℕ, ◌⊎◌, inl, inr, false, List, [], ◌∷◌, Option, Some, None, refl, sym, ap, ◌∙◌, subst, arith}
+use Rattle.std.specs.Prelude.{is_none, option_and_then}
 use Rattle.ca_text.specs.Place.{At}
 use Rattle.ca_arena.specs.declared.handle.Handle.{Handle}
-use Rattle.ca_ids.specs.Table.{Table, same_handle, under, with_changed}
+use Rattle.ca_ids.specs.Table.{Table, under, with_changed}
 use Rattle.ca_ids.specs.Wire.{wire_of}
-use Rattle.ca_wire.specs.Fields.{Fields}
 use Rattle.ca_model.specs.Answers.{Sending}
-use Rattle.ca_model.specs.Client.{Channel, Client, ClientCircuit, Connecting, Connection, Creating, Live, Native, On, Phase, Searching, Standing, circuit_to, connection_at, found_on, new_circuit, sending}
-use Rattle.ca_model.specs.ClientEnds.{Receives, ReceivesAll, beacon_heard}
-use Rattle.ca_model.specs.ClientEnds as ends
+use Rattle.ca_model.specs.Client.{Channel, Client, ClientCircuit, Connecting, Connection, Creating, Live, Native, On, Phase, circuit_to, connection_at, found_on, new_circuit, sending}
 use Rattle.ca_model.specs.Ends.{Address}
-use Rattle.ca_model.specs.Hears.{Effect, FindsAt, PutsOn, becomes, create_sent, doing, found_at, put_on, searched_by, with_circuit}
+use Rattle.ca_model.specs.Hears.{Effect, FindsAt, PutsOn, becomes, create_sent, put_on, searched_by, with_circuit}
 use Rattle.ca_model.specs.Sends.{Conduct}
-use Rattle.ca_model.specs.Speech.{Gives, Is}
 use Rattle.ca_model_client.proofs.Changes.{on-handle, on-phase}
 use Rattle.ca_model_client.proofs.Hearing.{circuit-there, keeps-finds}
 use Rattle.ca_model_client.proofs.Placed.{Keeps}
-use Rattle.ca_model_client.proofs.Standings.{searched-is}
 use Rattle.ca_model_client.proofs.Tables.{changed-back}
 use Rattle.ca_laws_calls.specs.ClientRows.{sent_on}
 use Rattle.ca_laws_calls.specs.Conduct.{with_all_sent}
@@ -28,8 +21,8 @@ use Rattle.ca_laws_calls.proofs.Backs.{Backs, BacksOn, Was, asks-as-same, back-s
 use Rattle.ca_laws_calls.proofs.Given.{Given, only-one}
 use Rattle.ca_laws_calls.proofs.Giving.{given-finds}
 use Rattle.ca_laws_calls.proofs.Rests.{Rests, rests-finds}
-use Rattle.ca_laws_calls.proofs.Sound.{GoesOn, IsConnectedAt, IsEnding, Sound, Stands, Turn, is_kept, turned}
-use Rattle.ca_laws_calls.proofs.Turns.{ArePlain, keeps-rests, none-plain, sound-plain, turn-plain}
+use Rattle.ca_laws_calls.proofs.Sound.{Sound, Turn, turned}
+use Rattle.ca_laws_calls.proofs.Turns.{ArePlain, keeps-rests, none-plain, turn-plain}
 
 module _ (on : Handle) (x : Client) (e : Conduct) (sound : Sound on x e) (address : Address) (cid : ℕ) (f : Effect) (finds : FindsAt x address (searched_by cid x) f) where
   abbrev Then : Type 0

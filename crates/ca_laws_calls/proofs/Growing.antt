@@ -1,12 +1,12 @@
 -- What one end did on a circuit, as more is read and sent: what was said of earlier messages stays so.
-use Rattle.std.proofs.Common.{◌≡◌, ◌≢◌, ℕ, ◌+◌, ◌<◌, ◌≤◌, ◌⊎◌, inl, inr, List, [], ◌∷◌, ◌++◌, length, Option, Some, None, refl, sym, ap, ◌∙◌, subst, arith}
+use Rattle.std.proofs.Common.{◌≡◌, ◌≢◌, ℕ, ◌+◌, ◌<◌, ◌≤◌, ◌⊎◌, inl, inr, List, [], ◌∷◌, length, Some, refl, ◌∙◌, subst, arith}
 use Rattle.std.proofs.lemmas.List.{length-append}
 use Rattle.ca_text.specs.declared.command.Command.TheVariants as command
 use Rattle.ca_text.specs.Place.{At}
-use Rattle.ca_text.proofs.Places.{At-after, At-append, At-last, At-one, At-or, At-parts, At-snoc, At-within}
+use Rattle.ca_text.proofs.Places.{At-after, At-append, At-last, At-parts, At-snoc, At-within}
 use Rattle.ca_wire.specs.Fields.{Fields}
-use Rattle.ca_model.specs.Sends.{Conduct, Frees, HasChannel, IsDisconnect, IsFree, IsOnChannel, IsUncancelled, LegalClient, ReadsBetween, SameIndex}
-use Rattle.ca_model.specs.Speech.{Cid, Clears, Creates, Gives, Id, Is, sid_in}
+use Rattle.ca_model.specs.Sends.{Conduct, Frees, HasChannel, IsDisconnect, IsFree, IsUncancelled, ReadsBetween}
+use Rattle.ca_model.specs.Speech.{Cid, Creates, Gives, Is, sid_in}
 use Rattle.ca_model_client.proofs.Tables.{length-more}
 use Rattle.ca_laws_calls.specs.Conduct.{with_all_sent, with_read}
 

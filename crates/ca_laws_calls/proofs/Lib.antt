@@ -3,7 +3,7 @@ pub mod Rests
 pub mod Given
 pub mod Calling
 pub mod Giving
-mod Growing
+pub mod Growing
 mod Sound
 mod Backs
 mod Turns

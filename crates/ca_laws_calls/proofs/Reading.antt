@@ -1,30 +1,28 @@
 -- What a message that a client reads leaves of what is known of it and one circuit, whoever sent it.
-use Rattle.std.proofs.Common.{◌≡◌, ◌≢◌, ℕ, ◌+◌, ◌<◌, ◌≤◌, ◌⊎◌, inl, inr, Bool, true, false, cond, eqb, ◌&&◌, List, [], ◌∷◌, ◌++◌, length, Option, Some, None, refl, sym, ap, ◌∙◌, subst, arith}
-use Rattle.std.specs.Prelude.{filter, is_none, map, option_and_then, option_map}
+use Rattle.std.proofs.Common.{◌≡◌, ℕ, ◌≤◌, ◌⊎◌, inl, inr, Bool, true, false, cond, eqb, ◌&&◌, List, [], ◌∷◌, length, Option, Some, None, refl, sym, ap, ◌∙◌, subst, arith}
+use Rattle.std.specs.Prelude.{option_and_then, option_map}
 use Rattle.std.specs.List.{list_any}
-use Rattle.std.proofs.lemmas.Bool.{and_from, and_parts, both_ways}
+use Rattle.std.proofs.lemmas.Bool.{and_from, both_ways}
 use Rattle.ca_text.specs.Command.{command_number}
 use Rattle.ca_text.specs.declared.command.Command.{Command}
 use Rattle.ca_text.specs.declared.command.Command.TheVariants as command
 use Rattle.ca_text.specs.Place.{At}
 use Rattle.ca_text.proofs.Places.{At-map, At-within}
 use Rattle.ca_arena.specs.declared.handle.Handle.{Handle}
-use Rattle.ca_ids.specs.Table.{Table, by_wire, held, same_handle, under, with_changed, with_freed}
+use Rattle.ca_ids.specs.Table.{Table, held, same_handle, under, with_changed, with_freed}
 use Rattle.ca_ids.specs.Wire.{wire_of}
 use Rattle.ca_monitor.specs.Subscriptions.{Subscription, confirmed_by, drains_in, is_to, standing_to, stands_in}
-use Rattle.ca_monitor.specs.Subscriptions as monitor
 use Rattle.ca_requests.specs.Requests.{Request, answered_by, asks_on}
 use Rattle.ca_requests.specs.Requests as request
 use Rattle.ca_wire.specs.declared.header.Header.{Header}
 use Rattle.ca_wire.specs.Fields.{Fields}
-use Rattle.ca_model.specs.Answers.{Notice, Sending}
-use Rattle.ca_model.specs.Client.{Channel, Clearing, Client, ClientCircuit, Connecting, Connection, Creating, Doomed, Leaving, Live, Native, On, Phase, Searching, Standing, channel_on, connection_at, found_on, is_live, phase_on, searched_again, sending, with_requests, with_standing, without_channel}
+use Rattle.ca_model.specs.Answers.{Sending}
+use Rattle.ca_model.specs.Client.{Channel, Clearing, Client, Connecting, Creating, Doomed, Leaving, Live, Native, On, Phase, Standing, channel_on, is_live, phase_on, searched_again, sending, with_requests, with_standing, without_channel}
 use Rattle.ca_model.specs.ClientCalls.{clear_sent, event_add_sent}
 use Rattle.ca_model.specs.Hears.{Answers, Completes, Effect, Fails, Hears, Updates, any_failed, becomes, clear_answered, confirmed, created, doing, event_adds, failed, heard_by, left, native_in, request_failed, rights_told, subscription_failed, understood, without_drained, without_request, without_subscription, write_failed}
 use Rattle.ca_model.specs.Hears as hears
 use Rattle.ca_model.specs.Sends.{Conduct, HasChannel, IsDisconnect, IsFree}
 use Rattle.ca_model.specs.Speech.{Creates, Gives, Id, Is}
-use Rattle.ca_model_client.specs.Placed.{IsPlaced}
 use Rattle.ca_model_client.proofs.Changes.{on-handle, on-phase}
 use Rattle.ca_model_client.proofs.Handles.{same-itself}
 use Rattle.ca_model_client.proofs.Hearing.{keeps-heard}
@@ -37,12 +35,12 @@ use Rattle.ca_laws_calls.specs.ClientRows.{sent_on}
 use Rattle.ca_laws_calls.specs.Conduct.{with_all_sent}
 use Rattle.ca_laws_calls.proofs.Asking.{few-thins}
 use Rattle.ca_laws_calls.proofs.Finding.{sound-finds}
-use Rattle.ca_laws_calls.proofs.Backs.{AsksAs, Backs, BacksOn, SubscribesAs, Was, asks-as-same, asks-back, asks-back-freed, back-freed, back-same, back-searched, back-stood, back-then, backs-same, sent-tables, subscribes-as-same, subscribes-on}
+use Rattle.ca_laws_calls.proofs.Backs.{AsksAs, Backs, BacksOn, SubscribesAs, Was, asks-as-same, asks-back, asks-back-freed, back-freed, back-same, back-searched, back-stood, backs-same, sent-tables, subscribes-as-same, subscribes-on}
 use Rattle.ca_laws_calls.proofs.Given.{Given, only-one}
 use Rattle.ca_laws_calls.proofs.Giving.{add-row, given-heard, none-clear}
-use Rattle.ca_laws_calls.proofs.Growing.{Added, HasNow}
+use Rattle.ca_laws_calls.proofs.Growing.{HasNow}
 use Rattle.ca_laws_calls.proofs.Rests.{RestsBut, but-then, rests-heard, rests-same}
-use Rattle.ca_laws_calls.proofs.Sound.{Base, GoesOn, HeldAs, IsConnectedAt, IsEnding, Sound, Stands, Turn, is_kept, turned}
+use Rattle.ca_laws_calls.proofs.Sound.{Base, GoesOn, HeldAs, IsConnectedAt, Sound, Stands, Turn, is_kept, turned}
 use Rattle.ca_laws_calls.proofs.Turns.{ArePlain, Known, keeps-but, live-linked, none-plain, turn-plain, turn-sending}
 
 -- the channel of a CID that is on a circuit is found there

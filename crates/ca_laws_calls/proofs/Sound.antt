@@ -1,6 +1,6 @@
 -- What a client's core holds of one circuit, by what it sent and read there alone, and how that stays so.
-use Rattle.std.proofs.Common.{◌≡◌, ◌≢◌, ℕ, ◌+◌, ◌<◌, ◌≤◌, ◌⊎◌, inl, inr, Bool, true, false, List, [], ◌∷◌, ◌++◌, length, Option, Some, None, refl, sym, ap, ◌∙◌, subst, arith}
-use Rattle.std.specs.Prelude.{filter, is_none, map}
+use Rattle.std.proofs.Common.{◌≡◌, ◌≢◌, ℕ, ◌+◌, ◌<◌, ◌⊎◌, inl, inr, Bool, true, false, List, [], length, Some, refl, sym, ap, ◌∙◌, subst, arith}
+use Rattle.std.specs.Prelude.{filter, is_none}
 use Rattle.std.proofs.lemmas.Bool.{both_ways}
 use Rattle.ca_text.specs.Command.{command_number}
 use Rattle.ca_text.specs.declared.command.Command.TheVariants as command
@@ -13,17 +13,17 @@ use Rattle.ca_monitor.specs.Subscriptions.{Subscription, stands_in}
 use Rattle.ca_requests.specs.Requests.{Request, command_of, was_sent_on}
 use Rattle.ca_wire.specs.Fields.{Fields}
 use Rattle.ca_model.specs.Answers.{Sending}
-use Rattle.ca_model.specs.Client.{Channel, Clearing, Client, Connecting, Creating, Doomed, Leaving, Live, Native, On, Phase, connection_at, is_on_in}
-use Rattle.ca_model.specs.Sends.{Conduct, HasChannel, IsDisconnect, IsFree, IsOnChannel, IsUncancelled, LegalClient, ReadsBetween, SameIndex}
+use Rattle.ca_model.specs.Client.{Channel, Clearing, Client, Connecting, Creating, Doomed, Leaving, Live, Native, On, Phase, connection_at}
+use Rattle.ca_model.specs.Sends.{Conduct, HasChannel, IsFree, IsOnChannel, IsUncancelled, LegalClient}
 use Rattle.ca_model.specs.Speech.{Cid, Gives, Id, Ioid, Is, SubId, sid_in}
 use Rattle.ca_model_client.specs.Placed.{IsPlaced}
 use Rattle.ca_model_client.proofs.Handles.{same-is, same-itself}
-use Rattle.ca_laws_circuit.specs.Held.{AreFew, has_id, is_asked}
+use Rattle.ca_laws_circuit.specs.Held.{AreFew, has_id}
 use Rattle.ca_laws_circuit.proofs.Marks.{at-filter, filter-at}
 use Rattle.ca_laws_calls.specs.ClientRows.{sent_on}
 use Rattle.ca_laws_calls.specs.Conduct.{with_all_sent}
 use Rattle.ca_laws_calls.proofs.Filtered.{filter-order}
-use Rattle.ca_laws_calls.proofs.Given.{Given, HeldBy, IsIdle}
+use Rattle.ca_laws_calls.proofs.Given.{Given, HeldBy}
 use Rattle.ca_laws_calls.proofs.Growing.{Added, Asked, Grows, HasNow, IsTold, NoneCleared, StaysConnected, Went, added-now, added-sent, asked-now, asked-sent, channel-later, connected-later, free-forth, grows-sent, has-sent, longer, on-channel-forth, told-sent, uncancelled-forth, uncancelled-sent, went-forth}
 
 -- What is known of a channel with this CID that stands in this phase on the circuit.

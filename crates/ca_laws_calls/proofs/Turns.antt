@@ -1,35 +1,31 @@
 -- How what is known of a client and one circuit stays known, where nothing on a channel is sent, and how a turn is put together.
-use Rattle.std.proofs.Common.{◌≡◌, ◌≢◌, ℕ, ◌+◌, ◌<◌, ◌≤◌, ◌⊎◌, inl, inr, Bool, true, false, ◌||◌, eqb, List, [], ◌∷◌, ◌++◌, length, Option, Some, None, refl, sym, ap, ◌∙◌, subst, arith}
+use Rattle.std.proofs.Common.{◌≡◌, ℕ, ◌<◌, ◌≤◌, ◌⊎◌, inl, inr, Bool, true, false, ◌||◌, eqb, List, [], length, Some, refl, sym, ap, ◌∙◌, subst, arith}
 use Rattle.std.specs.Prelude.{is_none}
 use Rattle.std.proofs.lemmas.Bool.{both_ways}
 use Rattle.std.proofs.lemmas.List.{append-nil}
 use Rattle.ca_text.specs.Command.{command_number}
-use Rattle.ca_text.specs.declared.command.Command.TheVariants as command
 use Rattle.ca_text.specs.Place.{At}
 use Rattle.ca_arena.specs.declared.handle.Handle.{Handle}
 use Rattle.ca_ids.specs.Table.{Table, under}
 use Rattle.ca_ids.specs.Wire.{wire_of}
 use Rattle.ca_monitor.specs.Subscriptions.{Subscription, stands_in}
 use Rattle.ca_requests.specs.Requests.{Asked, Request, command_of}
-use Rattle.ca_requests.specs.Meaning.{QuotesHeader}
-use Rattle.ca_wire.specs.declared.header.Header.{Header}
 use Rattle.ca_wire.specs.Fields.{Fields}
 use Rattle.ca_model.specs.Answers.{Sending}
 use Rattle.ca_model.specs.Client.{Channel, Clearing, Client, Connecting, Creating, Doomed, Leaving, Live, Native, On, Phase, connection_at, sending}
 use Rattle.ca_model.specs.ClientEnds.{is_connecting}
-use Rattle.ca_model.specs.Sends.{Conduct, HasChannel, IsFree, IsOnChannel, IsUncancelled, Quotes}
-use Rattle.ca_model.specs.Speech.{Cid, Gives, Id, Ioid, Is, SubId, sid_in}
+use Rattle.ca_model.specs.Sends.{Conduct, IsFree, IsOnChannel}
+use Rattle.ca_model.specs.Speech.{Cid, Gives, Id, Ioid, SubId}
 use Rattle.ca_model_client.specs.Placed.{IsPlaced}
 use Rattle.ca_model_client.proofs.Placed.{Links, placed-linked}
-use Rattle.ca_model_client.proofs.Tables.{one-value}
 use Rattle.ca_laws_circuit.specs.Held.{AreFew}
 use Rattle.ca_laws_calls.specs.ClientRows.{sent_on}
 use Rattle.ca_laws_calls.specs.Conduct.{with_all_sent}
-use Rattle.ca_laws_calls.proofs.Backs.{AsksAs, Backs, SubscribesAs, SubscribesOn, Was, backs-same, sent-tables, subscribes-on}
-use Rattle.ca_laws_calls.proofs.Given.{Given, given-nothing, none-given}
-use Rattle.ca_laws_calls.proofs.Growing.{Added, HasNow, Went}
+use Rattle.ca_laws_calls.proofs.Backs.{AsksAs, Backs, SubscribesOn, Was, backs-same, sent-tables, subscribes-on}
+use Rattle.ca_laws_calls.proofs.Given.{given-nothing, none-given}
+use Rattle.ca_laws_calls.proofs.Growing.{Added, Went}
 use Rattle.ca_laws_calls.proofs.Rests.{Rests, RestsBut, rests-same}
-use Rattle.ca_laws_calls.proofs.Sound.{Base, GoesOn, HeldAs, IsConnectedAt, IsEnding, Sound, Stands, Turn, is_kept, turned}
+use Rattle.ca_laws_calls.proofs.Sound.{Base, GoesOn, HeldAs, IsConnectedAt, IsEnding, Sound, Stands, Turn, turned}
 
 -- ---- messages that give no id and are on no channel
 
@@ -102,10 +98,24 @@ module _ (on : Handle) (x y : Client) (e : Conduct) where
     | inl w ↦ inl (held.0, w.0, w.1, held.3, w.2)
     | inr gone ↦
         let r = read gone.0 in
-        inr (r.0, length e.sent, s, m, at, r.1, r.2, lt, omega arith, inl (gives.0, elim gone.1 [
-          | inl fails ↦ inl (fails.0, fails.1 ∙ held.3 ∙ sym gives.1)
-          | inr clears ↦ inr (clears.0, clears.1 ∙ held.3 ∙ sym gives.1)
-        ]))
+        inr (
+          r.0,
+          length e.sent,
+          s,
+          m,
+          at,
+          r.1,
+          r.2,
+          lt,
+          omega arith,
+          inl (
+            gives.0,
+            elim gone.1 [
+              | inl fails ↦ inl (fails.0, fails.1 ∙ held.3 ∙ sym gives.1)
+              | inr clears ↦ inr (clears.0, clears.1 ∙ held.3 ∙ sym gives.1)
+            ],
+          ),
+        )
   ]
   keeps-but c m rests asks subs read l s (Ioid n) at lt gives held = elim (rests.requests held.0 held.1 held.2 held.4) [
     | inl w ↦
@@ -121,15 +131,26 @@ module _ (on : Handle) (x y : Client) (e : Conduct) where
         )
     | inr gone ↦
         let r = read gone.0 in
-        inr (r.0, length e.sent, s, m, at, r.1, r.2, lt, omega arith, elim gone.1 [
-          | inl replies ↦ inr (inl (gives.0, inl (replies.0 ∙ sym held.5, replies.1 ∙ held.3 ∙ sym gives.1)))
-          | inr (inl errs) ↦
-              inr (inl (
-                gives.0,
-                inr (errs.0, (errs.1.0, errs.1.1.head, errs.1.1.text, errs.1.1.spells, errs.1.1.parts, errs.1.2 ∙ sym held.5, errs.1.3 ∙ held.3 ∙ sym gives.1)),
-              ))
-          | inr (inr clears) ↦ inr (inr (inr (held.6.0, held.6.1, wire_of held.1.channel, held.6.2, clears.0, clears.1)))
-        ])
+        inr (
+          r.0,
+          length e.sent,
+          s,
+          m,
+          at,
+          r.1,
+          r.2,
+          lt,
+          omega arith,
+          elim gone.1 [
+            | inl replies ↦ inr (inl (gives.0, inl (replies.0 ∙ sym held.5, replies.1 ∙ held.3 ∙ sym gives.1)))
+            | inr (inl errs) ↦
+                inr (inl (
+                  gives.0,
+                  inr (errs.0, (errs.1.0, errs.1.1.head, errs.1.1.text, errs.1.1.spells, errs.1.1.parts, errs.1.2 ∙ sym held.5, errs.1.3 ∙ held.3 ∙ sym gives.1)),
+                ))
+            | inr (inr clears) ↦ inr (inr (inr (held.6.0, held.6.1, wire_of held.1.channel, held.6.2, clears.0, clears.1)))
+          ],
+        )
   ]
   keeps-but c m rests asks subs read l s (SubId n) at lt gives held = elim (rests.subscriptions held.0 held.1 held.2 held.4) [
     | inl w ↦
@@ -145,18 +166,29 @@ module _ (on : Handle) (x y : Client) (e : Conduct) where
         )
     | inr gone ↦
         let r = read gone.0 in
-        inr (r.0, length e.sent, s, m, at, r.1, r.2, lt, omega arith, elim gone.1 [
-          | inl confirms ↦ inr (inr (inl (gives.0, inl (confirms.0, confirms.1, confirms.2 ∙ held.3 ∙ sym gives.1))))
-          | inr (inl errs) ↦
-              inr (inr (inl (
-                gives.0,
-                inr (
-                  (errs.0, (errs.1.0, errs.1.1.head, errs.1.1.text, errs.1.1.spells, errs.1.1.parts, errs.1.2 ∙ sym gives.0, errs.1.3 ∙ held.3 ∙ sym gives.1)),
-                  held.6 errs.2,
-                ),
-              )))
-          | inr (inr clears) ↦ inr (inr (inr (held.5.0, held.5.1, wire_of held.1.channel, held.5.2, clears.0, clears.1)))
-        ])
+        inr (
+          r.0,
+          length e.sent,
+          s,
+          m,
+          at,
+          r.1,
+          r.2,
+          lt,
+          omega arith,
+          elim gone.1 [
+            | inl confirms ↦ inr (inr (inl (gives.0, inl (confirms.0, confirms.1, confirms.2 ∙ held.3 ∙ sym gives.1))))
+            | inr (inl errs) ↦
+                inr (inr (inl (
+                  gives.0,
+                  inr (
+                    (errs.0, (errs.1.0, errs.1.1.head, errs.1.1.text, errs.1.1.spells, errs.1.1.parts, errs.1.2 ∙ sym gives.0, errs.1.3 ∙ held.3 ∙ sym gives.1)),
+                    held.6 errs.2,
+                  ),
+                )))
+            | inr (inr clears) ↦ inr (inr (inr (held.5.0, held.5.1, wire_of held.1.channel, held.5.2, clears.0, clears.1)))
+          ],
+        )
   ]
 
 -- ---- what is known of a channel that was there

@@ -1,0 +1,6 @@
+mod Spoken
+mod EndKnown
+mod Dealing
+mod Carried
+mod Handling
+mod Sending
