@@ -4,3 +4,4 @@ mod Dealing
 mod Carried
 mod Handling
 mod Sending
+mod ServerCalls
