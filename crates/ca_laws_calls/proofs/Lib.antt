@@ -12,3 +12,4 @@ mod Finding
 mod Reading
 mod Connecting
 mod ClientCalls
+mod Stepping

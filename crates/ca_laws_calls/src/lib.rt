@@ -5,4 +5,4 @@
 
 mod clients;
 
-pub use clients::what_a_client_sends_is_legal;
+pub use clients::{a_clients_steps_are_those_of_rows, what_a_client_sends_is_legal};

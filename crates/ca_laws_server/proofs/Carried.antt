@@ -1,8 +1,5 @@
 -- What each call of a server leaves of the channels and subscriptions of a circuit's end.
-use Rattle.std.proofs.Common.{◌≡◌, ℕ, ◌⊎◌, inl, inr, Bool, true, false, cond, List, [], ◌∷◌, Option, Some, None, refl, sym, ap, ◌∙◌, subst}
-use Rattle.std.specs.Prelude.{Ok, Err, Result, drop}
-use Rattle.ca_text.specs.declared.refusal.Refusal.{Refusal}
-use Rattle.ca_text.specs.declared.refusal.Refusal.TheVariants as refusal
+use Rattle.std.proofs.Common.{◌≡◌, ℕ, inl, inr, Bool, true, false, cond, List, [], ◌∷◌, Some, refl, sym, ap, ◌∙◌, subst}
 use Rattle.ca_arena.specs.declared.handle.Handle.{Handle}
 use Rattle.ca_ids.specs.Table.{Table, under, with_each}
 use Rattle.ca_records.specs.Puts.{WaitingPut}
@@ -13,7 +10,7 @@ use Rattle.ca_model.specs.Ends.{Why}
 use Rattle.ca_model.specs.Ends as why
 use Rattle.ca_model.specs.Server.{Ended, Open, Server, ServerCircuit, ServerEnd, with_post}
 use Rattle.ca_model.specs.ServerCalls.{after_next, lacking}
-use Rattle.ca_model.specs.ServerSteps.{HasEnd, MayEnd, Reaches, Records, after_post, closed, counted, ended, reached, stored_now, with_end, write_mask}
+use Rattle.ca_model.specs.ServerSteps.{HasEnd, Reaches, Records, after_post, closed, counted, ended, reached, stored_now, with_end, write_mask}
 use Rattle.ca_model.specs.Speech.{Stored}
 use Rattle.ca_model_client.proofs.Tables.{changed-back, freed-back}
 use Rattle.ca_laws_bytes.proofs.ServerEnds.{open-one}

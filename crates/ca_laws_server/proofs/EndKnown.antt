@@ -1,21 +1,20 @@
 -- What a server's end knows of a circuit, by what it read and sent there alone, and what each message and removal leaves of that.
-use Rattle.std.proofs.Common.{◌≡◌, ◌≢◌, ℕ, zero, suc, ◌+◌, ◌<◌, ◌≤◌, ◌%◌, ◌⊎◌, inl, inr, Bool, true, false, ◌&&◌, ◌||◌, cond, eqb, List, [], ◌∷◌, ◌++◌, length, Option, Some, None, refl, sym, ap, ◌∙◌, subst, arith}
+use Rattle.std.proofs.Common.{◌≡◌, ◌≢◌, ℕ, zero, suc, ◌+◌, ◌<◌, ◌≤◌, ◌⊎◌, inl, inr, false, List, [], ◌∷◌, ◌++◌, length, Option, Some, None, refl, sym, ap, ◌∙◌, subst, arith}
 use Rattle.std.specs.Prelude.{◌==◌, filter, map, nat_eq, not, option_map, unwrap_or}
-use Rattle.std.proofs.lemmas.Bool.{and_from, both_ways, cases_Bool, eq-eqb, eqb-true}
+use Rattle.std.proofs.lemmas.Bool.{and_from, both_ways, eq-eqb}
 use Rattle.ca_text.specs.declared.command.Command.TheVariants as command
 use Rattle.ca_text.specs.Limits.{arena_slots}
 use Rattle.ca_text.specs.Place.{At}
 use Rattle.ca_text.proofs.Places.{At-after, At-append, At-mapped, At-parts, At-snoc, At-within, some_is}
 use Rattle.ca_arena.specs.declared.handle.Handle.{Handle}
-use Rattle.ca_ids.specs.Table.{MayGive, Table, by_wire, held, under, with_each, with_freed, with_held}
+use Rattle.ca_ids.specs.Table.{MayGive, Table, by_wire, held, under, with_freed, with_held}
 use Rattle.ca_ids.specs.Wire.{wire_of}
 use Rattle.ca_queue.specs.declared.entry.SubKey.{SubKey}
 use Rattle.ca_queue.specs.Keys.{same}
-use Rattle.ca_wire.specs.declared.requests.Wanted.{Wanted}
 use Rattle.ca_wire.specs.Fields.{Fields}
 use Rattle.ca_model.specs.Due.{KnownChannel, subscription_in}
 use Rattle.ca_model.specs.Sends.{Conduct, IsDisconnect, ReadsBetween}
-use Rattle.ca_model.specs.Server.{OpenChannel, ServerEnd, Subscription, key_of}
+use Rattle.ca_model.specs.Server.{OpenChannel, Subscription, key_of}
 use Rattle.ca_model.specs.ServerSteps.{known_channel}
 use Rattle.ca_model.specs.Speech.{Clears, Creates, In, Is}
 use Rattle.ca_model_client.proofs.Tables.{freed-back, freed-few, freed-other, held-back, held-few, held-other, held-own, held-under, one-by-wire, under-wire, wire-under}
@@ -23,7 +22,7 @@ use Rattle.ca_model_client.proofs.Thinner.{number-or}
 use Rattle.ca_laws_circuit.proofs.Marks.{at-filter}
 use Rattle.ca_laws_calls.specs.Conduct.{with_all_sent, with_read}
 use Rattle.ca_laws_calls.proofs.Growing.{Grows, IsTold, grows-sent, longer}
-use Rattle.ca_laws_server.proofs.Spoken.{NoCancel, NoClear, NoDisconnect, WasCleared, cancel-read, cancel-sent, clear-read, clear-sent, disconnect-sent, read-now, since-read, since-sent, was-read, was-sent}
+use Rattle.ca_laws_server.proofs.Spoken.{NoCancel, NoClear, NoDisconnect, WasCleared, cancel-read, cancel-sent, clear-read, clear-sent, disconnect-sent, read-now, since-read, was-read, was-sent}
 
 -- A channel that is open was created by the message at place i, under its SID and CID, and not cleared since; nor was its record removed,
 -- unless it is retired.
@@ -293,8 +292,7 @@ end-created t subs e first last h o told known may not_create not_lost makes cid
     ]
   ];
   subscriptions = λ s there.
-      let k = known.subscriptions s there in
-      (
+      let k = known.subscriptions s there in (
         k.0,
         k.1,
         held-other t k.0 h o k.1 may k.2,

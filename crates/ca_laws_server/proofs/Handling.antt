@@ -1,18 +1,13 @@
 -- What a message that a server handles leaves of what is known of it and one circuit, whoever sent it.
-use Rattle.std.proofs.Common.{◌≡◌, ◌≢◌, ℕ, zero, suc, ◌+◌, ◌<◌, ◌≤◌, ◌%◌, ◌⊎◌, inl, inr, Bool, true, false, ◌&&◌, ◌||◌, cond, List, [], ◌∷◌, ◌++◌, length, Option, Some, None, refl, sym, ap, ◌∙◌, subst, arith}
-use Rattle.std.specs.Prelude.{Ok, Err, Result, filter, map, not, option_map, take, unwrap_or}
-use Rattle.std.specs.List.{FoldsTo, list_any}
-use Rattle.std.proofs.lemmas.Bool.{both_ways, cases_Bool}
-use Rattle.std.proofs.lemmas.List.{append-nil}
-use Rattle.ca_text.specs.declared.command.Command.TheVariants as command
-use Rattle.ca_text.specs.declared.refusal.Refusal.{Refusal}
-use Rattle.ca_text.specs.declared.refusal.Refusal.TheVariants as refusal
+use Rattle.std.proofs.Common.{◌≡◌, ℕ, zero, suc, ◌+◌, ◌<◌, ◌≤◌, ◌%◌, inl, inr, Bool, true, false, List, [], ◌∷◌, length, Some, refl, sym, ap, ◌∙◌, subst, arith}
+use Rattle.std.specs.Prelude.{filter, not}
+use Rattle.std.proofs.lemmas.Bool.{both_ways}
 use Rattle.ca_text.specs.Limits.{arena_slots}
 use Rattle.ca_text.specs.Place.{At}
-use Rattle.ca_text.proofs.Places.{At-map, At-mapped, At-parts, At-within, some_is}
+use Rattle.ca_text.proofs.Places.{At-map, At-parts, At-within, some_is}
 use Rattle.ca_arena.specs.declared.handle.Handle.{Handle}
-use Rattle.ca_dbr.specs.Elements.{Elements, IsValue, base_of}
-use Rattle.ca_ids.specs.Table.{MayGive, Table, by_wire, held, same_handle, under, with_changed, with_held}
+use Rattle.ca_dbr.specs.Elements.{base_of}
+use Rattle.ca_ids.specs.Table.{MayGive, Table, held, under, with_held}
 use Rattle.ca_ids.specs.Wire.{wire_of}
 use Rattle.ca_ids.proofs.Wires.{wire_of-index}
 use Rattle.ca_wire.specs.Fields.{Fields}
@@ -21,21 +16,19 @@ use Rattle.ca_dbr.specs.Types.{base_number}
 use Rattle.ca_queue.specs.Keys.{same}
 use Rattle.ca_model.specs.Due.{Action, IsCreated, KnownChannel, Knows, Serves, key_in, rights_at, subscription_in}
 use Rattle.ca_model.specs.Due as action
-use Rattle.ca_model.specs.Sends.{Conduct, IsConnected, IsDisconnect, IsOpenAt, LegalServer, ReadsBetween}
-use Rattle.ca_model.specs.Server.{Open, OpenChannel, Server, ServerCircuit, ServerEnd, Subscription, key_of, new_end, new_server}
-use Rattle.ca_model.specs.ServerSteps.{Acts, Handles, HasEnd, Leaves, Next, Pumps, Reaches, Steps, Update, known_channel, knows, with_end}
-use Rattle.ca_model.specs.Speech.{Creates, Gives, In, Is, SubId, sid_in}
-use Rattle.ca_model.specs.Updates.{ShowsTo}
-use Rattle.ca_model_client.proofs.Tables.{given-none, held-under, under-at, under-held}
+use Rattle.ca_model.specs.Sends.{Conduct, LegalServer}
+use Rattle.ca_model.specs.Server.{OpenChannel, Server, ServerEnd, Subscription, key_of}
+use Rattle.ca_model.specs.ServerSteps.{Acts, HasEnd, known_channel, knows}
+use Rattle.ca_model.specs.Speech.{Creates}
+use Rattle.ca_model_client.proofs.Tables.{given-none, under-at, under-held}
 use Rattle.ca_laws_bytes.specs.ServerFits.{ServerFits}
-use Rattle.ca_laws_bytes.proofs.ServerCalls.{IsUpdating, pumps-update}
-use Rattle.ca_laws_calls.specs.Conduct.{nothing_done, with_all_sent, with_read}
+use Rattle.ca_laws_calls.specs.Conduct.{with_all_sent, with_read}
 use Rattle.ca_laws_calls.proofs.Growing.{IsTold, read-there, told-read, told-sent}
 use Rattle.ca_laws_server.proofs.Carried.{Carries}
 use Rattle.ca_laws_server.proofs.Dealing.{AreMute, Deals, IsCalm, deal, marks, one-mute}
 use Rattle.ca_laws_server.proofs.Dealing as dealing
 use Rattle.ca_laws_server.proofs.EndKnown.{EndKnown, end-created, end-sent, heard-add, heard-cancel, heard-clear, heard-quiet}
-use Rattle.ca_laws_server.proofs.Spoken.{NoCancel, NoClear, NoDisconnect, WasCleared, connected-now, legal-read, legal-sent, open-now, still-reads, was-sent}
+use Rattle.ca_laws_server.proofs.Spoken.{legal-read, legal-sent, still-reads}
 
 -- What is known of a server and one circuit.
 pub record Known (c : Handle) (y : Server) (k : Conduct) : Type 0 where

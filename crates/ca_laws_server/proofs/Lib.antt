@@ -5,3 +5,4 @@ mod Carried
 mod Handling
 mod Sending
 mod ServerCalls
+mod Stepping

@@ -1,9 +1,9 @@
 -- What a pump and a removal leave of what is known of a server and one circuit: the updates and SERVER_DISCONNs that go out are legal.
-use Rattle.std.proofs.Common.{◌≡◌, ◌≢◌, ℕ, zero, suc, ◌+◌, ◌<◌, ◌≤◌, ◌%◌, ◌⊎◌, inl, inr, Bool, true, false, ◌&&◌, ◌||◌, cond, List, [], ◌∷◌, ◌++◌, length, Option, Some, None, refl, sym, ap, ◌∙◌, subst, arith}
-use Rattle.std.specs.Prelude.{◌==◌, Ok, Err, Result, filter, map, not, take}
-use Rattle.std.specs.List.{FoldsTo, list_any}
+use Rattle.std.proofs.Common.{◌≡◌, ◌≢◌, ℕ, zero, suc, ◌+◌, ◌<◌, ◌≤◌, inl, inr, Bool, true, false, ◌&&◌, ◌||◌, List, [], ◌∷◌, ◌++◌, length, Some, refl, sym, ap, ◌∙◌, subst, arith}
+use Rattle.std.specs.Prelude.{◌==◌, Ok, Err, Result, not}
+use Rattle.std.specs.List.{FoldsTo}
 use Rattle.std.specs.Str.{bytes_eq}
-use Rattle.std.proofs.lemmas.Bool.{and_from, and_parts, both_ways, cases_Bool, eq-eqb, or_cases, or_left, or_right}
+use Rattle.std.proofs.lemmas.Bool.{and_from, and_parts, both_ways, cases_Bool, eq-eqb, or_left, or_right}
 use Rattle.ca_text.specs.declared.command.Command.TheVariants as command
 use Rattle.ca_text.specs.declared.refusal.Refusal.{Refusal}
 use Rattle.ca_text.specs.Limits.{arena_slots}
@@ -14,7 +14,6 @@ use Rattle.ca_dbr.specs.Elements.{Elements}
 use Rattle.ca_dbr.specs.Shown.{shown}
 use Rattle.ca_ids.specs.Table.{Table, held, under, with_each, with_each_from}
 use Rattle.ca_ids.specs.Wire.{wire_of}
-use Rattle.ca_queue.specs.declared.entry.SubKey.{SubKey}
 use Rattle.ca_wire.specs.declared.requests.Wanted.{Wanted}
 use Rattle.ca_wire.specs.Fields.{Fields}
 use Rattle.ca_wire.specs.Messages.{disconnect}
@@ -22,7 +21,7 @@ use Rattle.ca_model.specs.Sends.{Conduct, IsConnected, IsDisconnect, IsOpenAt, L
 use Rattle.ca_model.specs.Server.{OpenChannel, ServerEnd, Subscription, key_of}
 use Rattle.ca_model.specs.ServerCalls.{channels_of, disconnects, end_without, is_on, retired}
 use Rattle.ca_model.specs.ServerSteps.{Leaves, Update}
-use Rattle.ca_model.specs.Speech.{Clears, Creates, Gives, In, Is, SubId, sid_in, Stored}
+use Rattle.ca_model.specs.Speech.{Creates, Gives, In, Is, SubId, sid_in, Stored}
 use Rattle.ca_model.specs.Updates.{ShowsTo, update_count, update_in}
 use Rattle.ca_model_client.proofs.Tables.{held-apart, held-under, under-held}
 use Rattle.ca_laws_bytes.proofs.ServerFits.{each-changed}
@@ -31,8 +30,8 @@ use Rattle.ca_laws_writes.proofs.Cores.{each-there}
 use Rattle.ca_laws_calls.specs.Conduct.{with_all_sent}
 use Rattle.ca_laws_calls.proofs.Filtered.{filter-order, rows-apart}
 use Rattle.ca_laws_calls.proofs.Growing.{Grows, IsTold, grows-sent, longer}
-use Rattle.ca_laws_server.proofs.EndKnown.{ChannelKnown, EndKnown, SubKnown, end-sent}
-use Rattle.ca_laws_server.proofs.Spoken.{NoCancel, NoClear, NoDisconnect, cancel-sent, clear-sent, connected-now, disconnect-sent, legal-sent, open-now, since-sent, still-reads, was-sent}
+use Rattle.ca_laws_server.proofs.EndKnown.{EndKnown, end-sent}
+use Rattle.ca_laws_server.proofs.Spoken.{NoClear, NoDisconnect, cancel-sent, clear-sent, connected-now, disconnect-sent, legal-sent, open-now, since-sent, still-reads, was-sent}
 
 -- ---- updates
 

@@ -1,6 +1,6 @@
 -- What each call of a server's core leaves of what is known of it and one circuit, whatever its peers send; and so what it sends is legal.
-use Rattle.std.proofs.Common.{◌≡◌, ℕ, zero, suc, ◌<◌, ◌≤◌, ◌⊎◌, inl, inr, Bool, true, false, cond, List, [], ◌∷◌, ◌++◌, length, Option, Some, None, refl, sym, ap, ◌∙◌, subst, arith}
-use Rattle.std.specs.Prelude.{Ok, Err, Result, drop, filter, map, take}
+use Rattle.std.proofs.Common.{◌≡◌, ℕ, zero, suc, ◌≤◌, ◌⊎◌, inl, inr, Bool, true, false, cond, List, [], ◌∷◌, ◌++◌, Option, Some, None, refl, sym, ap, ◌∙◌, subst, arith}
+use Rattle.std.specs.Prelude.{Ok, Err, Result, filter, map, take}
 use Rattle.std.specs.List.{FoldsTo}
 use Rattle.std.specs.Str.{bytes_eq}
 use Rattle.std.proofs.lemmas.Bool.{both_ways, cases_Bool}
@@ -13,8 +13,8 @@ use Rattle.ca_text.specs.Place.{At}
 use Rattle.ca_text.proofs.Places.{At-mapped, some_is}
 use Rattle.ca_arena.specs.declared.handle.Handle.{Handle}
 use Rattle.ca_arena.specs.Arena.{Place}
-use Rattle.ca_dbr.specs.Elements.{Elements, IsValue, count_of}
-use Rattle.ca_ids.specs.Table.{Table, same_handle, under, with_changed, with_each, with_held}
+use Rattle.ca_dbr.specs.Elements.{IsValue, count_of}
+use Rattle.ca_ids.specs.Table.{Table, same_handle, under}
 use Rattle.ca_records.specs.Puts.{Record, with_record, with_value}
 use Rattle.ca_records.specs.Record.{RecordState}
 use Rattle.ca_link.specs.Link.{with_rest, with_sent}
@@ -30,8 +30,8 @@ use Rattle.ca_model.specs.ServerSteps as stepped
 use Rattle.ca_model.specs.ServerCalls as calls
 use Rattle.ca_model.specs.Speech.{In, Is, Stored}
 use Rattle.ca_model_client.proofs.Handles.{handle-or, same-is, same-itself, same-not}
-use Rattle.ca_model_client.proofs.Tables.{at-find, changed-back, find-at, freed-back, given-none, held-back, place, under-at}
-use Rattle.ca_laws_bytes.specs.ServerFits.{AllAt, EndFits, RecordFits, ServerFits, ValueFits}
+use Rattle.ca_model_client.proofs.Tables.{changed-back, find-at, freed-back, given-none, held-back, place, under-at}
+use Rattle.ca_laws_bytes.specs.ServerFits.{AllAt, EndFits, ServerFits, ValueFits}
 use Rattle.ca_laws_bytes.proofs.ServerCalls.{IsUpdating, accepts-fits, adds-fits, begins-fits, closed-fits, cuts-fits, finishes-fits, fits-same, gives-fits, left-fits, next-fits, pumps-fits, pumps-update, reaches-fits, removes-fits, sends-fits}
 use Rattle.ca_laws_bytes.proofs.ServerEnds.{open-one}
 use Rattle.ca_laws_bytes.proofs.ServerFits.{changed-fits, each-changed, post-fits, value-fits, withdrawn-fits}
@@ -41,7 +41,7 @@ use Rattle.ca_laws_calls.proofs.Growing.{IsTold, told-read, told-sent}
 use Rattle.ca_laws_server.specs.ServerRows.{Alone, Call, Did, Does, IsCall, IsSetting, Leads, Rows, ServerSetting, ServersSendLegally, StepDoes, before, nothing, of_ok, on_circuit, only_sent, removal_sent}
 use Rattle.ca_laws_server.specs.ServerRows as call
 use Rattle.ca_laws_server.proofs.Carried.{Carries, carries-closed, carries-end, carries-ended, carries-itself, carries-next, carries-post, carries-reaches, carries-same, carries-then, records-circuits}
-use Rattle.ca_laws_server.proofs.Dealing.{AreMute, deal, marks, none-mute}
+use Rattle.ca_laws_server.proofs.Dealing.{AreMute, deal, marks}
 use Rattle.ca_laws_server.proofs.EndKnown.{EndKnown}
 use Rattle.ca_laws_server.proofs.Handling.{Known, known-carried, known-mute, so-dealt}
 use Rattle.ca_laws_server.proofs.Sending.{leaves-all, removal-known, removal-legal, shows-id, updates-known, updates-legal}

@@ -1,5 +1,5 @@
 -- What a server did on a circuit, as it reads and sends more: what it may send stays so.
-use Rattle.std.proofs.Common.{◌≡◌, ◌≢◌, ℕ, ◌+◌, ◌<◌, ◌≤◌, ◌%◌, ◌⊎◌, inl, inr, List, [], ◌∷◌, ◌++◌, length, Some, None, refl, sym, ap, ◌∙◌, subst, arith}
+use Rattle.std.proofs.Common.{◌≡◌, ◌≢◌, ℕ, ◌+◌, ◌<◌, ◌≤◌, ◌%◌, ◌⊎◌, inl, inr, List, [], length, Some, sym, ap, ◌∙◌, subst, arith}
 use Rattle.ca_text.specs.declared.command.Command.TheVariants as command
 use Rattle.ca_text.specs.Limits.{arena_slots}
 use Rattle.ca_text.specs.Place.{At}
@@ -7,8 +7,8 @@ use Rattle.ca_text.proofs.Places.{At-append, At-parts, At-snoc, At-within}
 use Rattle.ca_wire.specs.Fields.{Fields}
 use Rattle.ca_model.specs.Sends.{Conduct, IsConnected, IsDisconnect, IsOpenAt, LegalServer, ReadsBetween}
 use Rattle.ca_model.specs.Speech.{Clears, Creates, Gives, Is, SubId, sid_in}
-use Rattle.ca_laws_calls.specs.Conduct.{nothing_done, with_all_sent, with_read}
-use Rattle.ca_laws_calls.proofs.Growing.{Grows, IsTold, grows-read, grows-sent, longer, read-there, reads-back, reads-forth, told-read, told-sent}
+use Rattle.ca_laws_calls.specs.Conduct.{with_all_sent, with_read}
+use Rattle.ca_laws_calls.proofs.Growing.{Grows, IsTold, grows-read, grows-sent, longer, read-there, reads-back, reads-forth}
 
 -- No CLEAR_CHANNEL of this SID was read since message i was sent.
 abbrev pub NoClear : Conduct → (i sid : ℕ) → Type 0

@@ -1,5 +1,5 @@
 -- Statement: one server's core alone: rows of its calls, with any answers and whatever its peers send, and what it did on each circuit.
-use Rattle.std.specs.Prelude.{ℕ, ◌≡◌, ◌<◌, ◌^◌, Bool, false, List, [], ◌∷◌, Option, Some, None, Result, Ok, Err, filter, if◌then◌else◌, map, take}
+use Rattle.std.specs.Prelude.{ℕ, ◌≡◌, ◌<◌, ◌^◌, Bool, false, List, [], Option, Some, None, Result, Ok, Err, filter, if◌then◌else◌, map, take}
 use Rattle.std.specs.List.{FoldsTo}
 use Rattle.ca_text.specs.declared.refusal.Refusal.{Refusal}
 use Rattle.ca_text.specs.Place.{At}

@@ -4,4 +4,4 @@
 
 mod servers;
 
-pub use servers::what_a_server_sends_is_legal;
+pub use servers::{a_servers_steps_are_those_of_rows, what_a_server_sends_is_legal};
