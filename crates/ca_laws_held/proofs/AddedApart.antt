@@ -7,7 +7,6 @@ use Rattle.ca_arena.specs.declared.handle.Handle.{Handle}
 use Rattle.ca_ids.specs.Table.{same_handle}
 use Rattle.ca_model.specs.Answers.{Sending}
 use Rattle.ca_model.specs.History.{Create, On, Sent, Subscribe}
-use Rattle.ca_model_client.proofs.Tables.{AreApart}
 use Rattle.ca_model_world.specs.World.{Names}
 use Rattle.ca_laws_runs.specs.Circuit.{stamped}
 use Rattle.ca_laws_held.specs.Quiet.{AreAddedApart}

@@ -1,6 +1,6 @@
 -- An open request is on a channel that is live on its circuit: what each change of a client leaves of that.
 use Rattle.std.proofs.Common.{◌≡◌, ℕ, inl, inr, Bool, true, false, cond, eqb, List, [], ◌∷◌, ◌++◌, Option, Some, None, refl, sym, ap, ◌∙◌, subst}
-use Rattle.std.specs.Prelude.{◌==◌, Ok, filter, fold, is_some, length, not, option_map, unwrap_or}
+use Rattle.std.specs.Prelude.{Ok, filter, fold, is_some, option_map, unwrap_or}
 use Rattle.std.proofs.lemmas.Bool.{both_ways}
 use Rattle.ca_arena.specs.declared.handle.Handle.{Handle}
 use Rattle.ca_ids.specs.Table.{Table, same_handle, under, with_all_freed}
