@@ -7,7 +7,6 @@ use Rattle.ca_arena.specs.declared.handle.Handle.{Handle}
 use Rattle.ca_ids.specs.Table.{same_handle}
 use Rattle.ca_model.specs.Answers.{Sending}
 use Rattle.ca_model.specs.History.{Create, On, Sent, Subscribe}
-use Rattle.ca_model_client.proofs.Tables.{AreApart}
 use Rattle.ca_model_world.specs.World.{Names}
 use Rattle.ca_laws_runs.specs.Circuit.{stamped}
 use Rattle.ca_laws_held.specs.Quiet.{AreAddedApart}
@@ -79,33 +78,3 @@ pub apart-if : (n : Names) (on : Handle) (up : List Sent) (sent : List Sending) 
     → AreAddedApart (up ++ cond b (map (stamped n) (filter (λ (s : Sending). same_handle s.circuit on) sent)) [])
 apart-if n on up sent true plain h = apart-said n on up sent plain h
 apart-if n on up sent false plain h = apart-plain up [] (λ i s at. absurd cc) h
-
--- ---- places of a list that was filtered
-
-pub filter-order : {A : Type 0} (p : A → Bool) (xs : List A) (i j : ℕ) (x y : A) → i < j → At (filter p xs) i x → At (filter p xs) j y → (k l : ℕ) × (k < l) × At xs k x × At xs l y
-filter-order p [] i j x y lt at_x at_y = absurd cc
-filter-order {A} p (z ∷ xs) i j x y lt at_x at_y = go (p z) i j lt at_x at_y (λ a b less u v. filter-order p xs a b x y less u v) (λ b v. kept xs b v)
-  where
-    kept : (xs : List A) (j : ℕ) → At (filter p xs) j y → (l : ℕ) × At xs l y
-    kept [] j at = absurd cc
-    kept (w ∷ xs) j at = by (p w) j at (λ k there. kept xs k there)
-      where
-        by : (b : Bool) (j : ℕ) → At (cond b (w ∷ filter p xs) (filter p xs)) j y → ((k : ℕ) → At (filter p xs) k y → (l : ℕ) × At xs l y) → (l : ℕ) × At (w ∷ xs) l y
-        by true zero at rest = (0, at)
-        by true (suc j) at rest = (let r = rest j at in (suc r.0, r.1))
-        by false j at rest = (let r = rest j at in (suc r.0, r.1))
-
-    go : (b : Bool) (i j : ℕ) → i < j → At (cond b (z ∷ filter p xs) (filter p xs)) i x → At (cond b (z ∷ filter p xs) (filter p xs)) j y
-        → ((a b : ℕ) → a < b → At (filter p xs) a x → At (filter p xs) b y → (k l : ℕ) × (k < l) × At xs k x × At xs l y) → ((b : ℕ) → At (filter p xs) b y → (l : ℕ) × At xs l y)
-        → (k l : ℕ) × (k < l) × At (z ∷ xs) k x × At (z ∷ xs) l y
-    go true i zero lt at_x at_y rest one = absurd (omega (arith, lt))
-    go true zero (suc j) lt at_x at_y rest one = (let r = one j at_y in (0, suc r.0, omega arith, at_x, r.1))
-    go true (suc i) (suc j) lt at_x at_y rest one = (let r = rest i j (omega (arith, lt)) at_x at_y in let less : r.0 < r.1 = r.2 in (suc r.0, suc r.1, omega (arith, less), r.3, r.4))
-    go false i j lt at_x at_y rest one = (let r = rest i j lt at_x at_y in let less : r.0 < r.1 = r.2 in (suc r.0, suc r.1, omega (arith, less), r.3, r.4))
-
--- two rows of a table have two handles
-pub rows-apart : {T : Type 0} (xs : List (Handle × T)) → AreApart xs → (i j : ℕ) (a b : Handle × T) → i < j → At xs i a → At xs j b → a.0 ≡ b.0 → ⊥
-rows-apart [] apart i j a b lt at on same = absurd cc
-rows-apart (x ∷ xs) (none, rest) i zero a b lt at on same = omega (arith, lt)
-rows-apart {T} (x ∷ xs) (none, rest) zero (suc j) a b lt at on same = none j b on (sym same ∙ ap (λ (z : Handle × T). z.0) (sym (some_is x a at)))
-rows-apart (x ∷ xs) (none, rest) (suc i) (suc j) a b lt at on same = rows-apart xs rest i j a b (omega (arith, lt)) at on same

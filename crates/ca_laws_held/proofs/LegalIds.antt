@@ -20,7 +20,7 @@ use Rattle.ca_laws_held.proofs.Created.{reached-created}
 use Rattle.ca_laws_held.proofs.Joint.{are-snoc, folds-snoc}
 use Rattle.ca_laws_held.proofs.LegalCancels.{run-all-cancels}
 use Rattle.ca_laws_held.proofs.LegalIdsFreed.{FreeOn, back, free-forth, freed-now}
-use Rattle.ca_laws_held.proofs.LegalIdsGiven.{HeldBy}
+use Rattle.ca_laws_calls.proofs.Given.{HeldBy}
 use Rattle.ca_laws_held.proofs.LegalIdsGoing.{AllStep, IsFreedNever, IsFreedNow, event-ids, ids-tick}
 use Rattle.ca_laws_held.proofs.LegalRead.{run-read}
 use Rattle.ca_laws_held.proofs.LostRuns.{known-runs}

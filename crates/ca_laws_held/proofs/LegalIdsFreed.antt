@@ -28,7 +28,7 @@ use Rattle.ca_laws_held.specs.Created.{AllCreated, CreatedOn}
 use Rattle.ca_laws_held.specs.Quiet.{IsNamedIn, StageIn, Tidy}
 use Rattle.ca_laws_held.proofs.Heard.{request-named}
 use Rattle.ca_laws_held.proofs.LegalCancels.{AllCancels, add-parts, cancel-is}
-use Rattle.ca_laws_held.proofs.LegalIdsGiven.{GoneBy}
+use Rattle.ca_laws_calls.proofs.Given.{GoneBy}
 use Rattle.ca_laws_held.proofs.LegalIdsGoing.{IsFreedNow}
 use Rattle.ca_laws_held.proofs.LegalRead.{ReadAfter, ReadOn}
 use Rattle.ca_laws_held.proofs.Phased.{standing-stage}

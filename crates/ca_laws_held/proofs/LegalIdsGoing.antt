@@ -39,13 +39,13 @@ use Rattle.ca_laws_circuit.specs.Held as circuit_held
 use Rattle.ca_laws_runs.specs.Circuit.{sent_to, stamped}
 use Rattle.ca_laws_runs.specs.Clients.{ClientsStand}
 use Rattle.ca_laws_runs.proofs.ClientsMore.{unconnected-is, wanted-there}
-use Rattle.ca_laws_held.proofs.AddedApart.{filter-order}
+use Rattle.ca_laws_calls.proofs.Filtered.{filter-order}
 use Rattle.ca_laws_held.proofs.Ends.{From, from-itself}
 use Rattle.ca_laws_held.proofs.HeardEnds.{IsEndAfter, after-sent, sent-other}
-use Rattle.ca_laws_held.proofs.LegalIdsCalls.{rests-cancelled, rests-cleared, rests-connected, rests-ended, rests-given, rests-handed, rests-issued, rests-opened, rests-subscribed, rests-ticked}
-use Rattle.ca_laws_held.proofs.LegalIdsGiven.{Given, GoneBy, HeldBy, IsIdle, but-held, given-nothing, gives-of, none-given, rests-held}
-use Rattle.ca_laws_held.proofs.LegalIdsRests.{Rests, RestsBut, rests-all-received, rests-heard, rests-same, rests-sending, rests-then}
-use Rattle.ca_laws_held.proofs.LegalIdsSent.{given-all-received, given-connected, given-heard, given-issued, given-subscribed, none-cancelled, none-cleared, none-given-on, none-ticked, none-written}
+use Rattle.ca_laws_calls.proofs.Calling.{rests-cancelled, rests-cleared, rests-connected, rests-ended, rests-given, rests-handed, rests-issued, rests-opened, rests-subscribed, rests-ticked}
+use Rattle.ca_laws_calls.proofs.Given.{Given, GoneBy, HeldBy, IsIdle, but-held, given-nothing, gives-of, none-given, rests-held}
+use Rattle.ca_laws_calls.proofs.Rests.{Rests, RestsBut, rests-all-received, rests-heard, rests-same, rests-sending, rests-then}
+use Rattle.ca_laws_calls.proofs.Giving.{given-all-received, given-connected, given-heard, given-issued, given-subscribed, none-cancelled, none-cleared, none-given-on, none-ticked, none-written}
 use Rattle.ca_laws_held.proofs.OnceWorld.{on-circuit-sent}
 use Rattle.ca_laws_held.proofs.Servers.{from-add, from-cut-server, from-finish, from-post, from-pump, from-remove, from-server-restart, from-server-step}
 

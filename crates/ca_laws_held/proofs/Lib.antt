@@ -118,10 +118,6 @@ pub mod Lasts
 pub mod LastsGoing
 pub mod LegalEnded
 pub mod AddsAnew
-pub mod LegalIdsRests
-pub mod LegalIdsCalls
-pub mod LegalIdsGiven
-pub mod LegalIdsSent
 pub mod LegalIdsGoing
 pub mod LegalIdsFreed
 pub mod LegalIds

@@ -37,7 +37,8 @@ use Rattle.ca_model_world.specs.World.{Names}
 use Rattle.ca_laws_runs.specs.Circuit.{stamped}
 use Rattle.ca_laws_held.specs.Quiet.{AreAddedApart, HasCid, Quiet, Tidy}
 use Rattle.ca_laws_held.proofs.CidsSaid.{cid-none, cids-parts, cids-said}
-use Rattle.ca_laws_held.proofs.AddedApart.{apart-more, apart-said, filter-order, rows-apart}
+use Rattle.ca_laws_calls.proofs.Filtered.{filter-order, rows-apart}
+use Rattle.ca_laws_held.proofs.AddedApart.{apart-more, apart-said}
 use Rattle.ca_laws_held.proofs.Phases.{created-live}
 use Rattle.ca_laws_held.proofs.Lesser.{Less, less-again, less-drained, less-ended, less-gone, less-itself, less-on, less-over-requests, less-requests, less-same, less-sending, less-stood, less-subscriptions, less-then, quiet-less, same-requests, same-subscriptions, tidy-less}
 use Rattle.ca_laws_held.proofs.Phased.{less-phase, like-connecting, moved-before, moved-created, moved-doomed-clearing, moved-live-leaving, standing-stage}

@@ -1,6 +1,6 @@
 -- An open request is on a channel that is live on its circuit: what each change of a client leaves of that.
 use Rattle.std.proofs.Common.{◌≡◌, ℕ, inl, inr, Bool, true, false, cond, eqb, List, [], ◌∷◌, ◌++◌, Option, Some, None, refl, sym, ap, ◌∙◌, subst}
-use Rattle.std.specs.Prelude.{◌==◌, Ok, filter, fold, is_some, length, not, option_map, unwrap_or}
+use Rattle.std.specs.Prelude.{Ok, filter, fold, is_some, option_map, unwrap_or}
 use Rattle.std.proofs.lemmas.Bool.{both_ways}
 use Rattle.ca_arena.specs.declared.handle.Handle.{Handle}
 use Rattle.ca_ids.specs.Table.{Table, same_handle, under, with_all_freed}
@@ -28,6 +28,7 @@ use Rattle.ca_model.specs.Hears as hears
 use Rattle.ca_model_client.proofs.Handles.{handle-or, same-itself}
 use Rattle.ca_model_client.proofs.Standings.{channel-on, found-standing, searched-is}
 use Rattle.ca_model_client.proofs.Tables.{all-back, all-freed-back, freed-back}
+use Rattle.ca_laws_calls.proofs.Filtered.{requests-ended, requests-unwanted}
 use Rattle.ca_laws_held.specs.Sides.{IsLiveAs}
 use Rattle.ca_laws_held.proofs.Live.{NotLive, SameLive, none-live, not-phase, not-searched, other-there, same-begun, same-ended, same-gone, same-held, same-rights}
 
@@ -159,23 +160,6 @@ opens-spent s h x z requests channels = record {
 }
 
 -- ---- an end has ended
-
-requests-fold : (f : Client → Handle → Client) → ((y : Client) (h : Handle) → (f y h).requests ≡ y.requests) → (hs : List Handle) (x : Client) → (fold f x hs).requests ≡ x.requests
-requests-fold f each [] x = refl
-requests-fold f each (h ∷ hs) x = requests-fold f each hs (f x h) ∙ each x h
-
-requests-let-go : (c : Handle) (d : ClientCircuit) (x : Client) → (let_go c d x).requests ≡ x.requests
-requests-let-go c d x = go d.is_name
-  where
-    go : (b : Bool) → (cond b (disconnected c x) (without_circuit c x)).requests ≡ x.requests
-    go true = refl
-    go false = refl
-
-pub requests-ended : (c : Handle) (d : ClientCircuit) (x : Client) → (let_go c d (channels_ended c x)).requests ≡ x.requests
-requests-ended c d x =
-    let mid : Client = fold without_channel x (channels_on is_cleared c x) in
-    requests-let-go c d (channels_ended c x) ∙ requests-fold searched_again (λ y h. refl) (channels_on (λ (p : Phase). not (is_cleared p)) c x) mid
-    ∙ requests-fold without_channel (λ y h. refl) (channels_on is_cleared c x) x
 
 pub opens-ended : (c : Handle) (x : Client) → Opens x (ended c x)
 opens-ended c x = record {
@@ -395,18 +379,6 @@ opens-unsubscribed g (Some (On c Clearing)) x = opens-same x (unsubscribed g (So
 opens-unsubscribed g (Some (On c Doomed)) x = opens-same x (unsubscribed g (Some (On c Doomed)) x) refl refl
 opens-unsubscribed g (Some (On c Leaving)) x = opens-same x (unsubscribed g (Some (On c Leaving)) x) refl refl
 opens-unsubscribed g (Some (On c (Live native rights))) x = opens-same x (unsubscribed g (Some (On c (Live native rights))) x) refl refl
-
-pub requests-unwanted : (c : Handle) (x : Client) → ((unwanted c x).requests ≡ x.requests) × ((unwanted c x).channels ≡ x.channels)
-requests-unwanted c x = go (length (channels_on (λ (p : Phase). true) c x) == 0) (under x.circuits c)
-  where
-    gone : (d : ClientCircuit) (b : Bool) → ((cond b (disconnected c x) (without_circuit c x)).requests ≡ x.requests) × ((cond b (disconnected c x) (without_circuit c x)).channels ≡ x.channels)
-    gone d true = (refl, refl)
-    gone d false = (refl, refl)
-
-    go : (b : Bool) (o : Option ClientCircuit) → ((cond b (unwrap_or (option_map (λ (d : ClientCircuit). let_go c d x) o) x) x).requests ≡ x.requests) × ((cond b (unwrap_or (option_map (λ (d : ClientCircuit). let_go c d x) o) x) x).channels ≡ x.channels)
-    go true (Some d) = gone d d.is_name
-    go true None = (refl, refl)
-    go false o = (refl, refl)
 
 opens-cleared-so : (h : Handle) (s : Standing) (x : Client) → standing_at x h ≡ Some s → Opens x (cleared h s x)
 opens-cleared-so h Searching x at =

@@ -28,8 +28,8 @@ use Rattle.ca_laws_circuit.specs.Held.{has_id, is_asked, is_subscribed}
 use Rattle.ca_laws_circuit.proofs.Ends.{ended-elsewhere}
 use Rattle.ca_laws_circuit.proofs.Heard.{has-too}
 use Rattle.ca_laws_circuit.proofs.Others.{cleared-away, cleared-early, cleared-elsewhere, cleared-left}
-use Rattle.ca_laws_held.proofs.OpenLive.{requests-ended, requests-unwanted}
-use Rattle.ca_laws_held.proofs.LegalIdsRests.{Asks, Rests, asks-over, asks-same, rests-alike, rests-itself, rests-same, rests-sending, rests-then, same-phase, stands-there, stood-row}
+use Rattle.ca_laws_calls.proofs.Filtered.{requests-ended, requests-unwanted}
+use Rattle.ca_laws_calls.proofs.Rests.{Asks, Rests, asks-over, asks-same, rests-alike, rests-itself, rests-same, rests-sending, rests-then, same-phase, stands-there, stood-row}
 
 -- ---- something new
 
@@ -145,7 +145,7 @@ module _ (on : Handle) (x : Client) (g : Handle) (d : Subscription) (there : und
       go None e f = both_ways false refl f
       go (Some ch) e f = by ch f ch.standing refl e
 
-  rests-unsubscribed : (o : Option Standing) → standing_at x d.channel ≡ o → Rests on x (unsubscribed g o x)
+  pub rests-unsubscribed : (o : Option Standing) → standing_at x d.channel ≡ o → Rests on x (unsubscribed g o x)
   rests-unsubscribed None at = rests-dropped (not-named at)
   rests-unsubscribed (Some Searching) at = rests-dropped (not-searched at)
   rests-unsubscribed (Some (On c Connecting)) at = rests-dropped (λ has. both_ways false refl (on-channel c Connecting at has).1)
@@ -189,7 +189,7 @@ module _ (on : Handle) (x : Client) (h : Handle) (ch : Channel) (native : Native
     subscriptions = λ g d is has. (monitor.over_on on h d, all-there (monitor.over_on on h) x.subscriptions g d is, over-kept d has);
   }
 
-rests-cleared-so : (on : Handle) (x : Client) (h : Handle) (s : Standing) → Attached x → standing_at x h ≡ Some s → Rests on x (cleared h s x)
+pub rests-cleared-so : (on : Handle) (x : Client) (h : Handle) (s : Standing) → Attached x → standing_at x h ≡ Some s → Rests on x (cleared h s x)
 rests-cleared-so on x h Searching attached at = rests-alike on x (cleared h Searching x) (cleared-away on x h Searching attached at (inl refl)) (asks-same on x.requests x.requests refl)
 rests-cleared-so on x h (On c Connecting) attached at =
     rests-alike on x (cleared h (On c Connecting) x) (cleared-away on x h (On c Connecting) attached at (inr (c, refl)))

@@ -42,10 +42,10 @@ use Rattle.ca_model_client.proofs.Standings.{at-filter-map, channel-on, fails-an
 use Rattle.ca_model_client.proofs.Tables.{all-there, changed-own, held-apart, held-own, held-under}
 use Rattle.ca_laws_circuit.specs.Held.{AreFew, has_id, is_asked, is_subscribed}
 use Rattle.ca_laws_circuit.proofs.Marks.{at-filter}
-use Rattle.ca_laws_held.proofs.AddedApart.{filter-order, rows-apart}
-use Rattle.ca_laws_held.proofs.LegalIdsRests.{rests-all-received, rests-itself, rests-received, rests-sending}
-use Rattle.ca_laws_held.proofs.LegalIdsCalls.{rests-begun, standing-has}
-use Rattle.ca_laws_held.proofs.LegalIdsGiven.{Given, GivesNone, HeldBy, IsIdle, filter-map-order, given-nothing, given-one, given-then, gives-both, gives-cid, gives-ioid, gives-no-id, gives-of, gives-sub, idle-channel, idle-new-request, idle-new-subscription, idle-subscription, none-given, only-one, rests-held, same-holder}
+use Rattle.ca_laws_calls.proofs.Filtered.{filter-order, rows-apart}
+use Rattle.ca_laws_calls.proofs.Rests.{rests-all-received, rests-itself, rests-received, rests-sending}
+use Rattle.ca_laws_calls.proofs.Calling.{rests-begun, standing-has}
+use Rattle.ca_laws_calls.proofs.Given.{Given, GivesNone, HeldBy, IsIdle, filter-map-order, given-nothing, given-one, given-then, gives-both, gives-cid, gives-ioid, gives-no-id, gives-of, gives-sub, idle-channel, idle-new-request, idle-new-subscription, idle-subscription, none-given, only-one, rests-held, same-holder}
 
 -- ---- what gives no id
 
@@ -206,7 +206,7 @@ given-puts on x e few address h here there stands None is = elim is [
   | inl new ↦ none-so on x e few (put_on new.0 None h here (with_circuit new.0 (phase.new_circuit address here.priority false) x)) new.2 refl
 ]
 
-given-finds : (on : Handle) (x : Client) (e : Effect) → AreFew x → (address : Address) (cid : ℕ) (o : Option (Handle × Channel))
+pub given-finds : (on : Handle) (x : Client) (e : Effect) → AreFew x → (address : Address) (cid : ℕ) (o : Option (Handle × Channel))
     → searched_by cid x ≡ o → FindsAt x address o e → Given on x e.core e.sent
 given-finds on x e few address cid None at is = none-so on x e few (becomes x) is refl
 given-finds on x e few address cid (Some (h, here)) at is = (let f = searched-is cid x h here at in given-puts on x e few address h here f.0 f.1 (circuit_to address here.priority x) is)
@@ -223,7 +223,7 @@ module _ (on : Handle) (x : Client) (e : Effect) (few : AreFew x) (c : Handle) (
   abbrev lives : Channel → Channel
   lives k = record k { standing = On c (Live (hears.native_in m) rights) }
 
-  add-row : (i : ℕ) (s : Sending) → At adds i s
+  pub add-row : (i : ℕ) (s : Sending) → At adds i s
       → (e : Handle × Subscription) × At (standing_to h x.subscriptions) i e × (s ≡ event_add_sent c m.p2 e.0 e.1) × (under x.subscriptions e.0 ≡ Some e.1) × (e.1.channel ≡ h) × (stands_in e.1.stage ≡ true)
   add-row i s at =
       let b = At-mapped (λ (e : Handle × Subscription). event_add_sent c m.p2 e.0 e.1) (standing_to h x.subscriptions) i s at in
@@ -389,7 +389,7 @@ given-heard on x c m e few (hears.Other is does) = none-so on x e few (becomes x
 
 -- ---- datagrams
 
-given-received : (on : Handle) (x : Client) (from : Address) (m : Fields) (e : Effect) → AreFew x → Receives from x m e → Given on x e.core e.sent
+pub given-received : (on : Handle) (x : Client) (from : Address) (m : Fields) (e : Effect) → AreFew x → Receives from x m e → Given on x e.core e.sent
 given-received on x from m e few (ends.Search is finds) = given-finds on x e few (found_at from m) m.p2 (searched_by m.p2 x) refl finds
 given-received on x from m e few (ends.Beacon is port does) = given-nothing on x e.core e.sent (gives-of e.sent [] (ap (λ (v : Effect). v.sent) does) none-given)
 given-received on x from m e few (ends.Other not_search not_beacon does) = none-so on x e few (becomes x) does refl

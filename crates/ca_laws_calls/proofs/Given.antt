@@ -20,7 +20,7 @@ use Rattle.ca_model.specs.Speech.{Cid, Gives, Id, Ioid, SubId}
 use Rattle.ca_model_client.proofs.Standings.{at-filter-map}
 use Rattle.ca_model_client.proofs.Tables.{given-none, one-at-index, one-value, place, under-at}
 use Rattle.ca_laws_circuit.specs.Held.{AreFew, IsHeld, has_id, is_asked}
-use Rattle.ca_laws_held.proofs.LegalIdsRests.{FreesCid, FreesIoid, FreesSub, Rests, RestsBut}
+use Rattle.ca_laws_calls.proofs.Rests.{FreesCid, FreesIoid, FreesSub, Rests, RestsBut}
 
 -- An id, which this message gave, is held on the circuit of this handle; a request asks by the command of the message.
 abbrev pub HeldBy : (on : Handle) → Client → Fields → Id → Type 0

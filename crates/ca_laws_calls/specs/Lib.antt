@@ -1,0 +1,2 @@
+pub mod Conduct
+pub mod ClientRows
