@@ -9,3 +9,7 @@ pub mod Cancellings
 pub mod Downward
 pub mod Reported
 pub mod Cuttings
+pub mod Collecting
+pub mod Farewells
+pub mod Clearings
+pub mod ClientCuttings

@@ -4,10 +4,14 @@
 //! It is not complete: not all events are there yet.
 #![tactic(auto)]
 
+mod clear;
 mod client_restart;
+mod collect;
 mod config;
+mod cut_client;
 mod cut_server;
 mod down;
+mod give_up;
 mod opens;
 mod read;
 mod server_datagram;

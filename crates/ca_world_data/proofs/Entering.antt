@@ -1,14 +1,17 @@
--- The logs of servers grow.
+-- The logs of servers grow, and those of clients by lines.
 use Rattle.std.proofs.Common.{◌≡◌, ℕ, zero, suc, ◌+◌, ◌≤◌, List, [], ◌∷◌, ◌++◌, length, sym, ap, subst, ◌∙◌, arith}
 use Rattle.std.specs.Prelude.{map, slice_set, unwrap_or, Vec, vec_capacity, vec_len}
 use Rattle.std.specs.declared.alloc.Global.{Global}
 use Rattle.std.proofs.lemmas.List.{map-append}
 use Rattle.ca_text.specs.Place.{At}
 use Rattle.ca_text.proofs.Places.{At-map, At-within, some_is}
+use Rattle.ca_model.specs.History as history
 use Rattle.ca_model_world.specs.World.{grown}
 use Rattle.ca_world_data.specs.declared.history.Entry.{Entry}
+use Rattle.ca_world_data.specs.declared.history.Line.{Line}
+use Rattle.ca_world_data.specs.Logs.{lines_in}
 use Rattle.ca_world_data.specs.Opening.{entries_in}
-use Rattle.ca_world_data.specs.Seen.{entry_of}
+use Rattle.ca_world_data.specs.Seen.{entry_of, line_of}
 use Rattle.ca_world_data.specs.ServerCuts.{HasRoomFor}
 use Rattle.ca_world_data.proofs.Worlds.{set-map, set-same}
 
@@ -34,3 +37,10 @@ grown-entries logs life log new more at is =
     let there : At (entries_in logs) life (map entry_of log.items) = At-map (λ (l : Vec Entry Global). map entry_of l.items) logs life log at in
     set-map (λ (l : Vec Entry Global). map entry_of l.items) logs life new ∙ ap (λ (t : List Entry). slice_set (entries_in logs) life (map entry_of t)) is
     ∙ ap (slice_set (entries_in logs) life) (map-append entry_of log.items more) ∙ sym (ap (λ o. slice_set (entries_in logs) life (unwrap_or o [] ++ map entry_of more)) there)
+
+-- the log of a client's life grows by lines that are told
+pub grown-lines : (logs : List (Vec Line Global)) (life : ℕ) (log new : Vec Line Global) (more : List history.Line) → At logs life log → map line_of new.items ≡ map line_of log.items ++ more → lines_in (slice_set logs life new) ≡ grown life more (lines_in logs)
+grown-lines logs life log new more at is =
+    let there : At (lines_in logs) life (map line_of log.items) = At-map (λ (l : Vec Line Global). map line_of l.items) logs life log at in
+    set-map (λ (l : Vec Line Global). map line_of l.items) logs life new ∙ ap (slice_set (lines_in logs) life) is
+    ∙ sym (ap (λ o. slice_set (lines_in logs) life (unwrap_or o [] ++ more)) there)

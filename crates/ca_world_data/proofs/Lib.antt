@@ -13,3 +13,4 @@ pub mod Closings
 pub mod Restarting
 pub mod Withdrawals
 pub mod Entering
+pub mod Handed

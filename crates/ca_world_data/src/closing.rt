@@ -1,5 +1,6 @@
 //! Ends that end with bytes left.
 ghost use Rattle.std.specs.Prelude.{◌≡◌, map};
+ghost use Rattle.ca_model_world.specs.ClientEvents.{client_closed};
 ghost use Rattle.ca_model_world.specs.ServerEvents.{server_closed};
 ghost use Rattle.ca_world_data.specs.Closing.{client_over, server_over, with_lefts};
 ghost use Rattle.ca_world_data.specs.Seen.{joined_of};
@@ -13,9 +14,16 @@ fn end_client(client: usize, joined: &mut Joined, left: Pipe)
     ensures { joined_of joined.new ≡ client_over client left (joined_of joined.old) }
 {
     if joined.client == client && joined.lists.client_open {
-        joined.lists.client_open = false;
-        joined.left_up = left;
+        close_client(joined, left);
     }
+}
+
+/// The end of a circuit at its client has ended, and left these bytes.
+pub fn close_client(joined: &mut Joined, left: Pipe)
+    ensures { joined_of joined.new ≡ client_closed left (joined_of joined.old) }
+{
+    joined.lists.client_open = false;
+    joined.left_up = left;
 }
 
 /// Ends a circuit's open end at this server. It leaves these bytes.

@@ -3,18 +3,22 @@
 #![tactic(auto)]
 
 pub mod cancelling;
+pub mod clearing;
 pub mod client;
 pub mod closing;
 pub mod ends;
 pub mod entries;
 pub mod found;
+pub mod handing;
 pub mod history;
 pub mod joined;
 pub mod lefts;
 pub mod logs;
+pub mod naming;
 pub mod opening;
 pub mod payloads;
 pub mod server;
 pub mod settings;
+pub mod telling;
 pub mod way;
 pub mod withdrawing;
