@@ -1,7 +1,7 @@
 -- A client's end of a circuit is cut, from what its parts became.
 use Rattle.std.proofs.Common.{◌≡◌, ℕ, ◌≤◌, ◌+◌, true, false, List, [], Result, Ok, Err, length, refl, sym, ap, subst, ◌∙◌, arith}
-use Rattle.std.specs.Prelude.{map, slice_set, vec_len}
-use Rattle.ca_arena.specs.declared.handle.Handle.{Handle}
+use Rattle.std.specs.Prelude.{map, slice_set}
+use Rattle.std.proofs.lemmas.List.{length-map}
 use Rattle.ca_text.specs.declared.refusal.Refusal.{Refusal}
 use Rattle.ca_text.specs.declared.refusal.Refusal.TheVariants.{OutOfMemory}
 use Rattle.ca_text.specs.Place.{At}
@@ -20,7 +20,7 @@ use Rattle.ca_world_data.specs.declared.server.ServerSide.{ServerSide}
 use Rattle.ca_world_data.specs.ClientCuts.{CutsClient}
 use Rattle.ca_world_data.specs.Does.{Does}
 use Rattle.ca_world_data.specs.Ends.{AreEnds, NoEnds, ends_of}
-use Rattle.ca_world_data.specs.Seen.{client_of, joined_of, server_of}
+use Rattle.ca_world_data.specs.Seen.{client_of, joined_of, named_of, server_of}
 use Rattle.ca_world_data.proofs.Calls.{after-quiet}
 use Rattle.ca_world_data.proofs.Indexes.{KeepsEnds, ends-stay}
 use Rattle.ca_world_data.proofs.Worlds.{joins, none-joined, one-at, same-circuit, set-map, set-same, world_of}
@@ -87,9 +87,11 @@ module _ (cs : List ClientSide) (ss : List ServerSide) (ks : List Joined) (cl : 
 
   -- how many lines it takes at most
   pub apart-few : (j : Joined) (x : ClientSide) → At cs e.client x → IsReached (world_of cs ss ks cl sl m) → ClientsQuiet (world_of cs ss ks cl sl m)
-      → length (farewell j.at_client x.core) ≤ length (client_of x).names.requests + length (client_of x).names.channels
+      → length (farewell j.at_client x.core) ≤ length x.names.requests.items + length x.names.channels.items
   apart-few j x client reached quiet =
-      end-tells (world_of cs ss ks cl sl m) e.client (client_of x) j.at_client reached quiet (At-map client_of cs e.client x client)
+      let few = end-tells (world_of cs ss ks cl sl m) e.client (client_of x) j.at_client reached quiet (At-map client_of cs e.client x client) in
+      let named = length-map x.names.requests.items named_of in
+      omega (arith, few, named)
 
   pub apart-by : (j j' : Joined) (x x' : ClientSide) (cl' : List (List Line)) (r : Result (Unit {0}) Refusal) → At ks k j → At cs e.client x → e.client_open ≡ true → CutsClient (client_of x) (joined_of j) cl r (client_of x') (joined_of j') cl'
       → Does (world_of cs ss ks cl sl m) (CutClient k) r (world_of (slice_set cs e.client x') ss (slice_set ks k j') cl' sl m)

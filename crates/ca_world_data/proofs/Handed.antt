@@ -1,13 +1,13 @@
 -- What became of a request, as a client's log tells it.
 use Rattle.std.proofs.Common.{◌≡◌, ℕ, zero, suc, ◌≤◌, Bool, true, false, ◌||◌, List, [], ◌∷◌, Option, Some, None, length, refl, sym, ap, subst, ◌∙◌, arith}
-use Rattle.std.specs.Prelude.{map, slice_get, unwrap_or, Vec}
+use Rattle.std.specs.Prelude.{map, unwrap_or, Vec}
 use Rattle.std.specs.List.{list_any}
 use Rattle.std.specs.declared.alloc.Global.{Global}
 use Rattle.ca_dbr.specs.declared.value.Outcome.{Outcome}
 use Rattle.ca_text.specs.Place.{At}
-use Rattle.ca_text.proofs.Places.{At-map, At-mapped, At-within, some_is}
+use Rattle.ca_text.proofs.Places.{At-map, At-mapped}
 use Rattle.ca_model.specs.History as history
-use Rattle.ca_model_world.specs.ClientEvents.{HandsOut, IsThere, hands_out}
+use Rattle.ca_model_world.specs.ClientEvents.{HandsOut, hands_out}
 use Rattle.ca_world_data.specs.declared.history.Ask.{Ask}
 use Rattle.ca_world_data.specs.declared.history.Ask.TheVariants as ask
 use Rattle.ca_world_data.specs.declared.history.Intent.{Intent}
@@ -22,7 +22,7 @@ use Rattle.ca_world_data.specs.Seen.{ask_of, intent_of, kind_of, line_of}
 
 -- ---- what was meant is told by what the statement has of it
 
-kind_back : history.Kind → Kind
+abbrev kind_back : history.Kind → Kind
 kind_back history.Read = kind.Read
 kind_back history.Put = kind.Put
 kind_back history.Write = kind.Write
@@ -32,7 +32,7 @@ kind-back kind.Read = refl
 kind-back kind.Put = refl
 kind-back kind.Write = refl
 
-ask_back : history.Ask → Ask
+abbrev ask_back : history.Ask → Ask
 ask_back history.Create = ask.Create
 ask_back history.Clear = ask.Clear
 ask_back (history.Request k n) = ask.Request (kind_back k) n
@@ -46,7 +46,7 @@ ask-back (ask.Request k n) = ap (λ (z : Kind). ask.Request z n) (kind-back k)
 ask-back (ask.Subscribe n) = refl
 ask-back (ask.Cancel n) = refl
 
-back : history.Intent → Intent
+abbrev back : history.Intent → Intent
 back (history.On c a) = intent.On c (ask_back a)
 back history.OfCircuit = intent.OfCircuit
 
@@ -59,11 +59,11 @@ intents-same a b e = sym (intent-back a) ∙ ap back e ∙ intent-back b
 
 -- ---- lines
 
-meant_in : history.Line → history.Intent → history.Intent
+abbrev meant_in : history.Line → history.Intent → history.Intent
 meant_in (history.Noticed meant o) other = meant
 meant_in l other = other
 
-outcome_in : history.Line → Outcome → Outcome
+abbrev outcome_in : history.Line → Outcome → Outcome
 outcome_in (history.Noticed meant o) other = o
 outcome_in l other = other
 
@@ -95,7 +95,8 @@ over log n meant gone place there =
 pub open_still : (log : List Line) (n : ℕ) (meant : Intent) (place : Option ℕ) → list_any (λ (l : Line). hands_out n (line_of l)) log ≡ false → ToldAt log meant place → HandsOut (map line_of log) n (intent_of meant) place
 open_still log n meant (Some place) free told =
     ((told.0, At-map line_of log place (line.Noticed meant told.0) told.1), any-map (hands_out n) line_of log ∙ free)
-open_still log n meant None free none place there =
+open_still log n meant None free none =
+    λ place there.
     let d = At-mapped line_of log place (history.Noticed (intent_of meant) there.0.0) there.0.1 in
     let is : d.0 ≡ line.Noticed meant there.0.0 = line-tells d.0 meant there.0.0 (sym d.2) in
     none place there.0.0 (subst (λ (l : Line). At log place l) is d.1)

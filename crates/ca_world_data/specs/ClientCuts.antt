@@ -1,5 +1,5 @@
 -- Working: a client's end of a circuit is cut.
-use Rattle.std.specs.Prelude.{ℕ, ◌≡◌, List, Ok, Err, Result}
+use Rattle.std.specs.Prelude.{◌≡◌, List, Ok, Err, Result}
 use Rattle.ca_text.specs.declared.refusal.Refusal.{Refusal}
 use Rattle.ca_text.specs.declared.refusal.Refusal.TheVariants.{OutOfMemory}
 use Rattle.ca_model.specs.Answers.{Closing, Sending}

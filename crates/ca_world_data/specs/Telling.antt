@@ -1,5 +1,5 @@
 -- Working: what a client's core reports, as lines of its log.
-use Rattle.std.specs.Prelude.{ℕ, ◌∷◌, List, [], length}
+use Rattle.std.specs.Prelude.{ℕ, ◌∷◌, List}
 use Rattle.ca_model.specs.Answers.{Notice}
 use Rattle.ca_model.specs.History.{Intent, Line, OfCircuit, On}
 use Rattle.ca_model.specs.History as history

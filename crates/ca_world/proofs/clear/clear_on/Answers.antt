@@ -1,5 +1,6 @@
 use Rattle.std.proofs.Common.{◌≡◌, ◌≤◌, ◌+◌, ℕ, List, [], Ok, length, arith, refl, sym, ap, subst, ◌∙◌}
 use Rattle.std.specs.Prelude.{map}
+use Rattle.std.proofs.lemmas.List.{length-map}
 use Rattle.ca_arena.specs.declared.handle.Handle.{Handle}
 use Rattle.ca_ids.specs.Wire.{wire_of}
 use Rattle.ca_wire.specs.Messages.{clear_request}
@@ -10,7 +11,7 @@ use Rattle.ca_model_world.specs.World as model
 use Rattle.ca_world_data.specs.declared.client.ClientSide.{ClientSide}
 use Rattle.ca_world_data.specs.declared.way.Way.{Way}
 use Rattle.ca_world_data.specs.Logs.{lines_in}
-use Rattle.ca_world_data.specs.Seen.{client_of, joined_of}
+use Rattle.ca_world_data.specs.Seen.{client_of, joined_of, named_of}
 use Rattle.ca_world_data.specs.Speaking.{GoesUp}
 use Rattle.ca_world.proofs.Clearings.{clears-done, clears-moved, clears-noted, room-fewer}
 use Rattle.ca_world.proofs.clear.clear_on.Goals as goal
@@ -21,7 +22,8 @@ tell_call-requires c =
     let r = c.in_ok-handle.ensures.ready in
     let few = c.requires.few c.in_ok-handle.handle in
     let is = ap length c.in-Ok.ensures.1.2 in
-    let le : length c.in-Ok.notices + 1 ≤ length x.names.requests.items + 1 = ? in
+    let named = length-map x.names.requests.items named_of in
+    let le : length c.in-Ok.notices + 1 ≤ length x.names.requests.items + 1 = omega (arith, few, is, named) in
     room-fewer (length x.names.requests.items + 1) (length c.in-Ok.notices + 1) x.life c.prepare_clear.new.logs.items le r.lines
 
 pub returns-in-Ok-clause-clears : goal.returns-in-Ok-clause-clears
@@ -37,7 +39,7 @@ returns-in-Ok-clause-clears c =
     let ks : List Joined = map joined_of c.prepare_clear.new.circuits.items in
     let ks' : List Joined = map joined_of c.push_sent.new.circuits.items in
     let x' : model.ClientSide = record (client_of x) { core = c.clear.new.self } in
-    let said : c.clear_request-message.result ≡ clear_request way.sid (wire_of h) = ? in
+    let said : c.clear_request-message.result ≡ clear_request way.sid (wire_of h) = c.clear_request-message.ensures ∙ (λ t. clear_request (c.new.ensures t) ((c.new-cid.ensures ∙ c.number.ensures ∙ c.of.ensures) t)) in
     clears-moved i ch (client_of x) x' (lines_in c.args.logs.now.items) logs logs' (map joined_of c.args.circuits.now.items) ks ks' (Ok tt)
     c.prepare_clear.ensures.logs c.prepare_clear.ensures.circuits
     (clears-done i ch (client_of x) x' logs logs' ks ks' h way x.circuits.items c.in-Ok.notices c.in-Ok.ensures.0 tt
