@@ -59,9 +59,9 @@ no-more {A} {B} Has (x ∷ xs) ys each one =
     rest own i z at =
         let there = each (suc i) z at in
         let other : there.0 ≡ own.0 → ⊥ = λ same.
-            let y_is : there.1 ≡ own.1 = At-one ys own.0 there.1 own.1 (subst (λ (n : ℕ). At ys n there.1) same there.2) own.2 in
-            let e : 0 ≡ suc i = one 0 (suc i) x z own.1 refl at own.3 (subst (λ (y : B). Has z y) y_is there.3) in
-            omega (arith, e) in
+        let y_is : there.1 ≡ own.1 = At-one ys own.0 there.1 own.1 (subst (λ (n : ℕ). At ys n there.1) same there.2) own.2 in
+        let e : 0 ≡ suc i = one 0 (suc i) x z own.1 refl at own.3 (subst (λ (y : B). Has z y) y_is there.3) in
+        omega (arith, e) in
         let r = less-other own.0 there.0 ys there.1 there.2 other in
         (r.0, there.1, r.1, there.3)
 
