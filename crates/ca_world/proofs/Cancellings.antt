@@ -7,11 +7,11 @@ use Rattle.ca_monitor.specs.Subscriptions.{Subscription}
 use Rattle.ca_text.specs.declared.refusal.Refusal.{Refusal}
 use Rattle.ca_text.specs.declared.refusal.Refusal.TheVariants.{BadEvent, OutOfMemory}
 use Rattle.ca_text.specs.Place.{At}
-use Rattle.ca_text.proofs.Places.{At-map, At-mapped, At-one, some_is}
+use Rattle.ca_text.proofs.Places.{At-map, At-mapped, At-one}
 use Rattle.ca_wire.specs.Messages.{event_cancel_request}
 use Rattle.ca_model.specs.Answers.{Sending}
 use Rattle.ca_model.specs.Client.{Clearing, Client, Connecting, Creating, Doomed, Leaving, Live, On, Searching, Standing, standing_at}
-use Rattle.ca_model.specs.ClientCalls.{ClientUnsubscribes, IsLive, LiveChannel, StandsAs, cancel_sent, event_cancel_sent}
+use Rattle.ca_model.specs.ClientCalls.{ClientUnsubscribes, StandsAs, cancel_sent, event_cancel_sent}
 use Rattle.ca_model.specs.History.{Called, Intent, Line}
 use Rattle.ca_model.specs.History as history
 use Rattle.ca_model_world.specs.ClientEvents.{cancelled, meant_by}

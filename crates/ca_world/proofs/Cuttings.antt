@@ -1,9 +1,7 @@
 -- A server's end of a circuit is cut, from what its parts became.
-use Rattle.std.proofs.Common.{◌≡◌, ℕ, zero, suc, ◌+◌, ◌≤◌, ◌==◌, ◌&&◌, inl, inr, Bool, true, false, not, List, [], ◌∷◌, ◌++◌, Option, Some, None, Result, Ok, Err, length, refl, sym, ap, subst, ◌∙◌, arith}
-use Rattle.std.specs.Prelude.{filter, if◌then◌else◌, is_some, map, option_map, slice_get, slice_set, unwrap_or, Vec}
-use Rattle.std.specs.declared.alloc.Global.{Global}
+use Rattle.std.proofs.Common.{◌≡◌, ℕ, zero, suc, ◌≤◌, ◌==◌, ◌&&◌, inl, inr, Bool, true, false, not, List, [], ◌∷◌, Option, Some, None, Result, Ok, Err, length, refl, sym, ap, subst, ◌∙◌, arith}
+use Rattle.std.specs.Prelude.{if◌then◌else◌, is_some, map, option_map, slice_get, slice_set, unwrap_or}
 use Rattle.std.proofs.lemmas.Bool.{and_from, and_parts, eq-eqb, eqb-true}
-use Rattle.std.proofs.lemmas.List.{map-append}
 use Rattle.ca_arena.specs.declared.handle.Handle.{Handle}
 use Rattle.ca_arena.specs.Arena.{Place}
 use Rattle.ca_ids.specs.Table.{Table, kept_of, under, with_all_freed, with_changed, with_freed}
@@ -18,7 +16,6 @@ use Rattle.ca_text.specs.Place.{At}
 use Rattle.ca_text.proofs.Places.{At-map, At-one, At-or, some_is}
 use Rattle.ca_model.specs.Ends as why
 use Rattle.ca_model.specs.History.{Entry, Line}
-use Rattle.ca_model.specs.History as history
 use Rattle.ca_model.specs.Server.{Ended, Open, Server, ServerCircuit, ServerEnd}
 use Rattle.ca_model.specs.ServerSteps.{Cuts, HasEnd, Steps, StepsAt, closed, ended, output_of}
 use Rattle.ca_model.specs.ServerSteps as steps
@@ -34,16 +31,14 @@ use Rattle.ca_laws_writes.specs.Seats.{HasSeat, Seated}
 use Rattle.ca_world_data.specs.declared.client.ClientSide.{ClientSide}
 use Rattle.ca_world_data.specs.declared.ends.Ends.{Ends}
 use Rattle.ca_world_data.specs.declared.joined.Joined.{Joined}
-use Rattle.ca_world_data.specs.declared.server.PutPlace.{PutPlace}
-use Rattle.ca_world_data.specs.declared.server.RecordSide.{RecordSide}
 use Rattle.ca_world_data.specs.declared.server.ServerSide.{ServerSide}
 use Rattle.ca_world_data.specs.Does.{Does}
 use Rattle.ca_world_data.specs.Ends.{AreEnds, NoEnds, ends_of}
 use Rattle.ca_world.specs.Whole.{IsReached}
 use Rattle.ca_world.specs.Reported.{AllReported, HasReported, IsReportedTable}
-use Rattle.ca_world_data.specs.Seen.{client_of, joined_of, place_of, record_of, server_of}
+use Rattle.ca_world_data.specs.Seen.{client_of, joined_of, record_of, server_of}
 use Rattle.ca_world_data.specs.ServerCuts.{CutsServer, IsServing, cut_core, left_in}
-use Rattle.ca_world_data.specs.Withdrawing.{all_withdrawn, withdrawn_of}
+use Rattle.ca_world_data.specs.Withdrawing.{all_withdrawn}
 use Rattle.ca_world.proofs.Downward.{set-set}
 use Rattle.ca_world_data.proofs.Indexes.{KeepsEnds, ends-stay}
 use Rattle.ca_world.proofs.Reported.{reported-events, reported-opening}

@@ -1,11 +1,11 @@
 -- How many notices the end of a client's circuit tells: no more than the client's requests and channels have names. So room for the lines
 -- of a log can be made first, with no count in the core.
-use Rattle.std.proofs.Common.{◌≡◌, ℕ, zero, suc, ◌+◌, ◌<◌, ◌≤◌, ◌++◌, inl, inr, Bool, true, false, List, [], ◌∷◌, Option, Some, None, filter, length, refl, sym, ap, subst, ◌∙◌, arith}
+use Rattle.std.proofs.Common.{◌≡◌, ℕ, zero, suc, ◌+◌, ◌<◌, ◌≤◌, Bool, true, false, List, [], ◌∷◌, Option, Some, None, filter, length, refl, sym, ap, subst, ◌∙◌, arith}
 use Rattle.std.specs.Prelude.{filter_map, find, if◌then◌else◌, map, option_map, unwrap_or}
 use Rattle.std.proofs.lemmas.List.{length-append, length-map}
 use Rattle.ca_arena.specs.declared.handle.Handle.{Handle}
-use Rattle.ca_ids.specs.Table.{Table, held, same_handle, under}
-use Rattle.ca_requests.specs.Requests.{Request, asks_on, in_order_of_issue, is_open, was_sent_on}
+use Rattle.ca_ids.specs.Table.{held, same_handle}
+use Rattle.ca_requests.specs.Requests.{asks_on, in_order_of_issue, is_open, was_sent_on}
 use Rattle.ca_text.specs.Place.{At}
 use Rattle.ca_text.proofs.Places.{At-one, At-within, some_is}
 use Rattle.ca_model.specs.Answers.{Notice}
@@ -17,12 +17,9 @@ use Rattle.ca_model_client.proofs.Handles.{same-is}
 use Rattle.ca_model_client.proofs.Tables.{AreApart, find-at, held-apart, held-under}
 use Rattle.ca_model_world.specs.ClientEvents.{channel_number, meant_by}
 use Rattle.ca_model_world.specs.World.{ClientSide, Names, World}
-use Rattle.ca_laws_circuit.proofs.Marks.{at-filter}
 use Rattle.ca_laws_held.specs.Quiet.{ClientsQuiet, IsRequestOn, Tidy}
-use Rattle.ca_laws_held.proofs.OnceTold.{AreIssued, IsOnce}
-use Rattle.ca_laws_held.proofs.OnceNoticed.{ToldStand}
+use Rattle.ca_laws_held.proofs.OnceTold.{AreIssued}
 use Rattle.ca_laws_held.proofs.OnceNoticedRuns.{told-runs}
-use Rattle.ca_laws_held.proofs.Kept.{quiet-happens}
 use Rattle.ca_world.specs.Whole.{IsReached}
 
 -- ---- lists
