@@ -7,11 +7,11 @@ use Rattle.ca_monitor.specs.Subscriptions.{Subscription}
 use Rattle.ca_text.specs.declared.refusal.Refusal.{Refusal}
 use Rattle.ca_text.specs.declared.refusal.Refusal.TheVariants.{BadEvent, OutOfMemory}
 use Rattle.ca_text.specs.Place.{At}
-use Rattle.ca_text.proofs.Places.{At-map, At-mapped, At-one, some_is}
+use Rattle.ca_text.proofs.Places.{At-map, At-mapped, At-one}
 use Rattle.ca_wire.specs.Messages.{event_cancel_request}
 use Rattle.ca_model.specs.Answers.{Sending}
 use Rattle.ca_model.specs.Client.{Clearing, Client, Connecting, Creating, Doomed, Leaving, Live, On, Searching, Standing, standing_at}
-use Rattle.ca_model.specs.ClientCalls.{ClientUnsubscribes, IsLive, LiveChannel, StandsAs, cancel_sent, event_cancel_sent}
+use Rattle.ca_model.specs.ClientCalls.{ClientUnsubscribes, StandsAs, cancel_sent, event_cancel_sent}
 use Rattle.ca_model.specs.History.{Called, Intent, Line}
 use Rattle.ca_model.specs.History as history
 use Rattle.ca_model_world.specs.ClientEvents.{cancelled, meant_by}
@@ -19,38 +19,17 @@ use Rattle.ca_model_world.specs.Events.{Unsubscribe}
 use Rattle.ca_model_world.specs.Runs.{HadSubscription}
 use Rattle.ca_model_world.specs.World.{ClientSide, Joined, Names, grown}
 use Rattle.ca_model_world.specs.World as model
-use Rattle.ca_world.specs.declared.cancelling.Cancelling.{Cancelling}
-use Rattle.ca_world.specs.declared.client.ClientSide as real
-use Rattle.ca_world.specs.Does.{Does}
-use Rattle.ca_world.specs.Found.{AreNumbered}
-use Rattle.ca_world.specs.Indexed.{AreIndexed}
-use Rattle.ca_world.specs.Logs.{Notes}
-use Rattle.ca_world.specs.Seen.{client_of, intent_of as real_intent, named_of}
-use Rattle.ca_world.specs.Speaking.{GoesUp, sent_up, stamped}
-use Rattle.ca_world.specs.Unsubscribes.{GoesAs, IsCancelWay, IsUnready, UnsubscribesOn}
-use Rattle.ca_world.proofs.Sendings.{sent-by}
+use Rattle.ca_world_data.specs.declared.cancelling.Cancelling.{Cancelling}
+use Rattle.ca_world_data.specs.declared.client.ClientSide as real
+use Rattle.ca_world_data.specs.Does.{Does}
+use Rattle.ca_world_data.specs.Found.{AreNumbered}
+use Rattle.ca_world_data.specs.Indexed.{AreIndexed}
+use Rattle.ca_world_data.specs.Logs.{Notes}
+use Rattle.ca_world_data.specs.Seen.{client_of, intent_of as real_intent, named_of}
+use Rattle.ca_world_data.specs.Speaking.{GoesUp, sent_up, stamped}
+use Rattle.ca_world_data.specs.Unsubscribes.{GoesAs, IsCancelWay, IsUnready, UnsubscribesOn}
+use Rattle.ca_world_data.proofs.Sendings.{sent-by}
 use Rattle.ca_world.proofs.Speeches.{call-noted, calls-keep, calls-ok, spoken-same, spoken_in}
-
--- ---- its way
-
--- no EVENT_CANCEL goes on a channel that is not live
-pub no-way : (x : Client) (h s : Handle) (d : Subscription) (ks : List Joined) (i : ℕ) (w : Cancelling) → ((l : LiveChannel) → IsLive x h l → ⊥) → w.circuit ≡ None → GoesAs s d ks i w (standing_at x h)
-no-way x h s d ks i w dead none = go (standing_at x h) refl
-  where
-    go : (o : Option Standing) → standing_at x h ≡ o → GoesAs s d ks i w o
-    go None is = none
-    go (Some Searching) is = none
-    go (Some (On c Connecting)) is = none
-    go (Some (On c (Creating r))) is = none
-    go (Some (On c (Live n r))) is = absurd (dead (record { circuit = c; native = n; rights = r }) is)
-    go (Some (On c Leaving)) is = none
-    go (Some (On c Clearing)) is = none
-    go (Some (On c Doomed)) is = none
-
-pub dead-way : (x : Client) (h : Handle) (ks : List Joined) (i : ℕ) (w : Cancelling) (d : Subscription) → StandsAs x w.handle d → ((l : LiveChannel) → IsLive x d.channel l → ⊥) → w.circuit ≡ None → IsCancelWay x ks i w
-dead-way x h ks i w d stands dead none e also =
-    let is : d ≡ e = some_is d e (sym stands ∙ also) in
-    no-way x e.channel w.handle e ks i w (subst (λ (z : Subscription). (l : LiveChannel) → IsLive x z.channel l → ⊥) is dead) none
 
 -- ---- the message
 

@@ -1,9 +1,7 @@
 -- A server's end of a circuit is cut, from what its parts became.
-use Rattle.std.proofs.Common.{◌≡◌, ℕ, zero, suc, ◌+◌, ◌≤◌, ◌==◌, ◌&&◌, inl, inr, Bool, true, false, not, List, [], ◌∷◌, ◌++◌, Option, Some, None, Result, Ok, Err, length, refl, sym, ap, subst, ◌∙◌, arith}
-use Rattle.std.specs.Prelude.{filter, if◌then◌else◌, is_some, map, option_map, slice_get, slice_set, unwrap_or, Vec}
-use Rattle.std.specs.declared.alloc.Global.{Global}
+use Rattle.std.proofs.Common.{◌≡◌, ℕ, zero, suc, ◌≤◌, ◌==◌, ◌&&◌, inl, inr, Bool, true, false, not, List, [], ◌∷◌, Option, Some, None, Result, Ok, Err, length, refl, sym, ap, subst, ◌∙◌, arith}
+use Rattle.std.specs.Prelude.{if◌then◌else◌, is_some, map, option_map, slice_get, slice_set, unwrap_or}
 use Rattle.std.proofs.lemmas.Bool.{and_from, and_parts, eq-eqb, eqb-true}
-use Rattle.std.proofs.lemmas.List.{map-append}
 use Rattle.ca_arena.specs.declared.handle.Handle.{Handle}
 use Rattle.ca_arena.specs.Arena.{Place}
 use Rattle.ca_ids.specs.Table.{Table, kept_of, under, with_all_freed, with_changed, with_freed}
@@ -18,7 +16,6 @@ use Rattle.ca_text.specs.Place.{At}
 use Rattle.ca_text.proofs.Places.{At-map, At-one, At-or, some_is}
 use Rattle.ca_model.specs.Ends as why
 use Rattle.ca_model.specs.History.{Entry, Line}
-use Rattle.ca_model.specs.History as history
 use Rattle.ca_model.specs.Server.{Ended, Open, Server, ServerCircuit, ServerEnd}
 use Rattle.ca_model.specs.ServerSteps.{Cuts, HasEnd, Steps, StepsAt, closed, ended, output_of}
 use Rattle.ca_model.specs.ServerSteps as steps
@@ -31,23 +28,22 @@ use Rattle.ca_laws_bytes.proofs.Runs.{events-stand, opening-stands}
 use Rattle.ca_laws_bytes.proofs.ServerEnds.{ended-own}
 use Rattle.ca_laws_bytes.specs.Runs as bytes
 use Rattle.ca_laws_writes.specs.Seats.{HasSeat, Seated}
-use Rattle.ca_world.specs.declared.client.ClientSide.{ClientSide}
-use Rattle.ca_world.specs.declared.ends.Ends.{Ends}
-use Rattle.ca_world.specs.declared.joined.Joined.{Joined}
-use Rattle.ca_world.specs.declared.server.PutPlace.{PutPlace}
-use Rattle.ca_world.specs.declared.server.RecordSide.{RecordSide}
-use Rattle.ca_world.specs.declared.server.ServerSide.{ServerSide}
-use Rattle.ca_world.specs.Does.{Does}
-use Rattle.ca_world.specs.Ends.{AreEnds, NoEnds, ends_of}
-use Rattle.ca_world.specs.Indexed.{IsReached}
+use Rattle.ca_world_data.specs.declared.client.ClientSide.{ClientSide}
+use Rattle.ca_world_data.specs.declared.ends.Ends.{Ends}
+use Rattle.ca_world_data.specs.declared.joined.Joined.{Joined}
+use Rattle.ca_world_data.specs.declared.server.ServerSide.{ServerSide}
+use Rattle.ca_world_data.specs.Does.{Does}
+use Rattle.ca_world_data.specs.Ends.{AreEnds, NoEnds, ends_of}
+use Rattle.ca_world.specs.Whole.{IsReached}
 use Rattle.ca_world.specs.Reported.{AllReported, HasReported, IsReportedTable}
-use Rattle.ca_world.specs.Seen.{client_of, joined_of, place_of, record_of, server_of}
-use Rattle.ca_world.specs.ServerCuts.{CutsServer, IsServing, cut_core, left_in}
-use Rattle.ca_world.specs.Withdrawing.{all_withdrawn, withdrawn_of}
+use Rattle.ca_world_data.specs.Seen.{client_of, joined_of, record_of, server_of}
+use Rattle.ca_world_data.specs.ServerCuts.{CutsServer, IsServing, cut_core, left_in}
+use Rattle.ca_world_data.specs.Withdrawing.{all_withdrawn}
 use Rattle.ca_world.proofs.Downward.{set-set}
-use Rattle.ca_world.proofs.Indexes.{KeepsEnds, ends-stay}
+use Rattle.ca_world_data.proofs.Indexes.{KeepsEnds, ends-stay}
 use Rattle.ca_world.proofs.Reported.{reported-events, reported-opening}
-use Rattle.ca_world.proofs.Worlds.{joins, none-joined, one-at, same-circuit, set-map, set-same, world_of}
+use Rattle.ca_world_data.proofs.Withdrawals.{told-all}
+use Rattle.ca_world_data.proofs.Worlds.{joins, none-joined, one-at, same-circuit, set-map, set-same, world_of}
 
 -- ---- a core
 
@@ -182,63 +178,6 @@ module _ (ks : List model.Joined) (k i : ℕ) (j : model.Joined) (y : Server) (e
               nothing [] n le = refl
               nothing (z ∷ ks) zero le = absurd (omega (arith, le))
               nothing (z ∷ ks) (suc n) le = nothing ks n (omega (arith, le))
-
--- ---- the puts that wait
-
-told-of : (k : ℕ) (ps : List PutPlace) → map (λ (p : model.PutPlace). history.Withdrawn p.circuit p.place) (filter (λ (p : model.PutPlace). p.circuit == k) (map place_of ps)) ≡ withdrawn_of k ps
-told-of k [] = refl
-told-of k (p ∷ ps) = go (p.circuit == k) (told-of k ps)
-  where
-    rest : List model.PutPlace
-    rest = filter (λ (p : model.PutPlace). p.circuit == k) (map place_of ps)
-
-    go : (b : Bool) → map (λ (p : model.PutPlace). history.Withdrawn p.circuit p.place) rest ≡ withdrawn_of k ps
-        → map (λ (p : model.PutPlace). history.Withdrawn p.circuit p.place) (if b then place_of p ∷ rest else rest) ≡ (if b then history.Withdrawn p.circuit p.place ∷ withdrawn_of k ps else withdrawn_of k ps)
-    go true same = ap (λ (t : List Entry). history.Withdrawn p.circuit p.place ∷ t) same
-    go false same = same
-
-pub told-all : (k : ℕ) (rs : List RecordSide) → withdrawals (λ (n : ℕ). n == k) (map record_of rs) ≡ all_withdrawn k rs
-told-all k [] = refl
-told-all k (r ∷ rs) =
-    map-append (λ (p : model.PutPlace). history.Withdrawn p.circuit p.place) (filter (λ (p : model.PutPlace). p.circuit == k) (map place_of r.waiting.items)) _
-    ∙ (λ t. told-of k r.waiting.items t ++ told-all k rs t)
-
--- a record without those
-pub filter-places : (test : model.PutPlace → Bool) (ps : List PutPlace) → map place_of (filter (λ (p : PutPlace). test (place_of p)) ps) ≡ filter test (map place_of ps)
-filter-places test [] = refl
-filter-places test (p ∷ ps) = go (test (place_of p)) (filter-places test ps)
-  where
-    go : (b : Bool) → map place_of (filter (λ (p : PutPlace). test (place_of p)) ps) ≡ filter test (map place_of ps) → map place_of (if b then p ∷ filter (λ (p : PutPlace). test (place_of p)) ps else filter (λ (p : PutPlace). test (place_of p)) ps) ≡ (if b then place_of p ∷ filter test (map place_of ps) else filter test (map place_of ps))
-    go true same = ap (λ (t : List model.PutPlace). place_of p ∷ t) same
-    go false same = same
-
-abbrev without : ℕ → model.RecordSide → model.RecordSide
-without k = without_puts (λ (n : ℕ). n == k)
-
--- the records from this place on without them
-abbrev pub withdrawn_from : ℕ → ℕ → List model.RecordSide → List model.RecordSide
-withdrawn_from zero k rs = map (without k) rs
-withdrawn_from (suc i) k (r ∷ rs) = r ∷ withdrawn_from i k rs
-withdrawn_from (suc i) k [] = []
-
-pub withdrawn-over : (i k : ℕ) (rs : List model.RecordSide) → length rs ≤ i → withdrawn_from i k rs ≡ rs
-withdrawn-over zero k [] le = refl
-withdrawn-over zero k (r ∷ rs) le = absurd (omega (arith, le))
-withdrawn-over (suc i) k [] le = refl
-withdrawn-over (suc i) k (r ∷ rs) le = ap (λ (t : List model.RecordSide). r ∷ t) (withdrawn-over i k rs (omega (arith, le)))
-
-withdrawn-here : (i k : ℕ) (rs : List model.RecordSide) (r : model.RecordSide) → At rs i r → withdrawn_from (i + 1) k (slice_set rs i (without k r)) ≡ withdrawn_from i k rs
-withdrawn-here i k [] r at = absurd cc
-withdrawn-here zero k (q ∷ rs) r at = ap (λ (z : model.RecordSide). without k z ∷ map (without k) rs) (sym (some_is q r at))
-withdrawn-here (suc i) k (q ∷ rs) r at = (let e : suc i + 1 ≡ suc (i + 1) = omega arith in rw e (ap (λ (t : List model.RecordSide). q ∷ t) (withdrawn-here i k rs r at)))
-
-pub withdrawn-next : (i k : ℕ) (rs : List RecordSide) (r got : RecordSide) (w : Vec PutPlace Global) → At rs i r → r ≡ got → w.items ≡ filter (λ (p : PutPlace). not (p.circuit == k)) got.waiting.items
-    → withdrawn_from (i + 1) k (map record_of (slice_set rs i (record got { waiting = w }))) ≡ withdrawn_from i k (map record_of rs)
-withdrawn-next i k rs r got w at is kept =
-    let one : record_of (record got { waiting = w }) ≡ without k (record_of got) =
-    (λ t. record (record_of got) { waiting = (ap (map place_of) kept ∙ filter-places (λ (p : model.PutPlace). not (p.circuit == k)) got.waiting.items) t }) in
-    ap (withdrawn_from (i + 1) k) (set-map record_of rs i (record got { waiting = w }) ∙ ap (slice_set (map record_of rs) i) (one ∙ (λ t. without k (record_of (sym is t)))))
-    ∙ withdrawn-here i k (map record_of rs) (record_of r) (At-map record_of rs i r at)
 
 -- ---- what holds in every run
 

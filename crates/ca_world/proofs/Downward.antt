@@ -22,20 +22,20 @@ use Rattle.ca_model_world.specs.Events.{Down}
 use Rattle.ca_model_world.specs.Runs.{CanBe, HasClientEnd}
 use Rattle.ca_model_world.specs.World.{Names, grown, with_circuit, with_server}
 use Rattle.ca_model_world.specs.World as model
-use Rattle.ca_world.specs.declared.client.ClientSide.{ClientSide}
-use Rattle.ca_world.specs.declared.ends.Ends.{Ends}
-use Rattle.ca_world.specs.declared.joined.Joined.{Joined}
-use Rattle.ca_world.specs.declared.server.ServerSide.{ServerSide}
-use Rattle.ca_world.specs.Does.{Does}
-use Rattle.ca_world.specs.Downs.{HandsDown, LeavesDown, flow_said, with_said}
-use Rattle.ca_world.specs.Ends.{AreEnds, NoEnds, ends_of}
-use Rattle.ca_world.specs.Found.{AreNumbered, IsAt}
-use Rattle.ca_world.specs.Seen.{client_of, joined_of, server_of}
-use Rattle.ca_world.specs.Speaking.{sent_up}
+use Rattle.ca_world_data.specs.declared.client.ClientSide.{ClientSide}
+use Rattle.ca_world_data.specs.declared.ends.Ends.{Ends}
+use Rattle.ca_world_data.specs.declared.joined.Joined.{Joined}
+use Rattle.ca_world_data.specs.declared.server.ServerSide.{ServerSide}
+use Rattle.ca_world_data.specs.Does.{Does}
+use Rattle.ca_world_data.specs.Downs.{HandsDown, LeavesDown, flow_said, with_said}
+use Rattle.ca_world_data.specs.Ends.{AreEnds, NoEnds, ends_of}
+use Rattle.ca_world_data.specs.Found.{AreNumbered, IsAt}
+use Rattle.ca_world_data.specs.Seen.{client_of, joined_of, server_of}
+use Rattle.ca_world_data.specs.Speaking.{sent_up}
 use Rattle.ca_world.proofs.Cancellings.{none-up}
-use Rattle.ca_world.proofs.Indexes.{KeepsEnds, ends-stay}
-use Rattle.ca_world.proofs.Sendings.{sent-one}
-use Rattle.ca_world.proofs.Worlds.{if-false, if-true, joins, none-joined, one-at, same-circuit, set-map, set-same, world_of}
+use Rattle.ca_world_data.proofs.Indexes.{KeepsEnds, ends-stay}
+use Rattle.ca_world_data.proofs.Sendings.{sent-one}
+use Rattle.ca_world_data.proofs.Worlds.{if-false, if-true, joins, none-joined, one-at, same-circuit, set-map, set-same, world_of}
 
 -- ---- lists
 

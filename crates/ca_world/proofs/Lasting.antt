@@ -11,10 +11,11 @@ use Rattle.ca_laws_held.proofs.Kept.{quiet-happens}
 use Rattle.ca_laws_runs.specs.Clients.{ClientsStand}
 use Rattle.ca_laws_runs.proofs.Events.{stands-happens}
 use Rattle.ca_world.specs.declared.world.World.TheInside.{Inside}
-use Rattle.ca_world.specs.Does.{Does}
-use Rattle.ca_world.specs.Indexed.{AreIndexed, IsReached, Stands, client_numbers, server_numbers}
-use Rattle.ca_world.specs.Named.{AreMeant}
-use Rattle.ca_world.specs.Seen.{joined_of, seen}
+use Rattle.ca_world_data.specs.Does.{Does}
+use Rattle.ca_world_data.specs.Indexed.{AreIndexed, client_numbers, server_numbers}
+use Rattle.ca_world.specs.Whole.{IsReached, Stands, seen}
+use Rattle.ca_world_data.specs.Named.{AreMeant}
+use Rattle.ca_world_data.specs.Seen.{joined_of}
 use Rattle.ca_world.proofs.Meanings.{mean-happens}
 
 -- clients stand still

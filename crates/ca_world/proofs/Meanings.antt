@@ -29,7 +29,7 @@ use Rattle.ca_laws_held.proofs.Issued.{meant-still}
 use Rattle.ca_laws_held.specs.Quiet.{ClientsQuiet}
 use Rattle.ca_laws_runs.specs.Clients.{ClientsStand}
 use Rattle.ca_laws_runs.proofs.Sending.{new-name}
-use Rattle.ca_world.specs.Named.{AreMeant, IsMeant, MeanTheirs}
+use Rattle.ca_world_data.specs.Named.{AreMeant, IsMeant, MeanTheirs}
 
 -- ---- names
 

@@ -23,14 +23,14 @@ use Rattle.ca_model_world.specs.World as model
 use Rattle.ca_laws_circuit.proofs.Calls.{meant-own}
 use Rattle.ca_laws_runs.specs.Circuit.{AreGiven}
 use Rattle.ca_laws_runs.proofs.Sending.{new-name}
-use Rattle.ca_world.specs.declared.way.Way.{Way}
-use Rattle.ca_world.specs.Found.{AreNumbered}
-use Rattle.ca_world.specs.Indexed.{AreIndexed}
-use Rattle.ca_world.specs.Logs.{Notes}
-use Rattle.ca_world.specs.Puts.{PutsOn, put_meant, put_names}
-use Rattle.ca_world.specs.Speaking.{GoesUp, IsWay, sent_up, stamped}
-use Rattle.ca_world.specs.Does.{Does}
-use Rattle.ca_world.proofs.Sendings.{sent-by}
+use Rattle.ca_world_data.specs.declared.way.Way.{Way}
+use Rattle.ca_world_data.specs.Found.{AreNumbered}
+use Rattle.ca_world_data.specs.Indexed.{AreIndexed}
+use Rattle.ca_world_data.specs.Logs.{Notes}
+use Rattle.ca_world_data.specs.Puts.{PutsOn, put_meant, put_names}
+use Rattle.ca_world_data.specs.Speaking.{GoesUp, IsWay, sent_up, stamped}
+use Rattle.ca_world_data.specs.Does.{Does}
+use Rattle.ca_world_data.proofs.Sendings.{sent-by}
 use Rattle.ca_world.proofs.Speeches.{call-noted, calls-keep, calls-ok, no-channel, spoken-same, spoken_in}
 
 -- the put to this channel, as the world's parts have it: done

@@ -16,20 +16,21 @@ use Rattle.ca_model_world.specs.ClientEvents.{Called, client_after}
 use Rattle.ca_model_world.specs.Runs.{HadChannel}
 use Rattle.ca_model_world.specs.World.{grown}
 use Rattle.ca_model_world.specs.World as model
-use Rattle.ca_world.specs.declared.client.ClientSide.{ClientSide}
+use Rattle.ca_world_data.specs.declared.client.ClientSide.{ClientSide}
 use Rattle.ca_world.specs.declared.world.World.TheInside.{Inside}
 use Rattle.ca_model_world.specs.Events.{Event}
 use Rattle.ca_laws_held.specs.Quiet.{Tidy}
 use Rattle.ca_laws_runs.specs.Client.{IsSound}
-use Rattle.ca_world.specs.Does.{Does}
-use Rattle.ca_world.specs.Found.{AreNumbered}
-use Rattle.ca_world.specs.Logs.{Notes}
-use Rattle.ca_world.specs.Indexed.{AreIndexed, Stands, client_numbers, server_numbers}
-use Rattle.ca_world.specs.Seen.{client_of, joined_of, seen}
-use Rattle.ca_world.specs.Speaking.{CallsOn, sent_up}
-use Rattle.ca_world.proofs.Indexes.{KeepsEnds, indexed-map, indexed-same, numbered-of, numbers-set}
+use Rattle.ca_world_data.specs.Does.{Does}
+use Rattle.ca_world_data.specs.Found.{AreNumbered}
+use Rattle.ca_world_data.specs.Logs.{Notes}
+use Rattle.ca_world_data.specs.Indexed.{AreIndexed, client_numbers, server_numbers}
+use Rattle.ca_world.specs.Whole.{Stands, seen}
+use Rattle.ca_world_data.specs.Seen.{client_of, joined_of}
+use Rattle.ca_world_data.specs.Speaking.{CallsOn, sent_up}
+use Rattle.ca_world_data.proofs.Indexes.{KeepsEnds, indexed-map, indexed-same, numbered-of, numbers-set}
 use Rattle.ca_world.proofs.Lasting.{all-stand}
-use Rattle.ca_world.proofs.Worlds.{set-map, set-same}
+use Rattle.ca_world_data.proofs.Worlds.{set-map, set-same}
 
 -- the world with another client, other logs and other circuits
 abbrev pub spoken_in : (i : ℕ) → model.ClientSide → List (List Line) → List model.Joined → model.World → model.World

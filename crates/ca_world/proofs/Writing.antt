@@ -17,14 +17,14 @@ use Rattle.ca_model.specs.History as history
 use Rattle.ca_model_world.specs.Events.{Write}
 use Rattle.ca_model_world.specs.World.{ClientSide, Joined, Names, grown}
 use Rattle.ca_model_world.specs.World as model
-use Rattle.ca_world.specs.declared.way.Way.{Way}
-use Rattle.ca_world.specs.Found.{AreNumbered}
-use Rattle.ca_world.specs.Indexed.{AreIndexed}
-use Rattle.ca_world.specs.Logs.{Notes}
-use Rattle.ca_world.specs.Puts.{AreOnce, WritesOn, write_meant, write_names}
-use Rattle.ca_world.specs.Speaking.{GoesUp, IsWay, sent_up, stamped}
-use Rattle.ca_world.specs.Does.{Does}
-use Rattle.ca_world.proofs.Sendings.{sent-by}
+use Rattle.ca_world_data.specs.declared.way.Way.{Way}
+use Rattle.ca_world_data.specs.Found.{AreNumbered}
+use Rattle.ca_world_data.specs.Indexed.{AreIndexed}
+use Rattle.ca_world_data.specs.Logs.{Notes}
+use Rattle.ca_world_data.specs.Puts.{AreOnce, WritesOn, write_meant, write_names}
+use Rattle.ca_world_data.specs.Speaking.{GoesUp, IsWay, sent_up, stamped}
+use Rattle.ca_world_data.specs.Does.{Does}
+use Rattle.ca_world_data.proofs.Sendings.{sent-by}
 use Rattle.ca_world.proofs.Speeches.{call-noted, calls-keep, calls-ok, no-channel, spoken-same, spoken_in}
 
 -- the write to this channel, as the world's parts have it: done

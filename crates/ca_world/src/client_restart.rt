@@ -1,21 +1,20 @@
-ghost use Rattle.std.specs.Prelude.{◌≡◌, [], IfOk, map};
+ghost use Rattle.std.specs.Prelude.{◌≡◌, []};
 ghost use Rattle.ca_model_world.specs.Events as event;
 ghost use Rattle.ca_model_world.specs.World.{no_names};
-ghost use Rattle.ca_world.specs.Does.{Does};
-ghost use Rattle.ca_world.specs.Restarts.{RestartsClient, address_of};
-ghost use Rattle.ca_world.specs.Seen.{client_of};
+ghost use Rattle.ca_world_data.specs.Does.{Does};
+ghost use Rattle.ca_world_data.specs.Restarts.{RestartsClient};
+ghost use Rattle.ca_world_data.specs.Seen.{client_of};
 
-use crate::client::ClientSide;
-use crate::closing::end_clients;
-use crate::history::Line;
-use crate::joined::Joined;
-use crate::lefts::client_lefts;
-use crate::opening::{begin_client_core, no_names};
-use crate::server::ServerSide;
 use crate::world::World;
 use ca_client_core::{Address, ClientCore};
 use ca_text::Refusal;
-use std::alloc::{AllocError, Global};
+use ca_world_data::client::ClientSide;
+use ca_world_data::closing::end_clients;
+use ca_world_data::history::Line;
+use ca_world_data::joined::Joined;
+use ca_world_data::lefts::client_lefts;
+use ca_world_data::opening::{begin_client_core, no_names, server_addresses};
+use std::alloc::Global;
 
 impl World {
     /// A client begins a new life, with nothing but what it was given. Its open ends end untold.
@@ -38,17 +37,6 @@ impl World {
             &mut self.client_logs,
         )
     }
-}
-
-// The addresses of all servers, in order.
-fn server_addresses(alloc: Global, servers: &[ServerSide]) -> Result<Vec<Address>, AllocError>
-    ensures { IfOk result (λ all. all.items ≡ map address_of servers.now) }
-{
-    let mut all = Vec::new(alloc);
-    for server in servers {
-        all.push(server.setting.address)?;
-    }
-    Ok(all)
 }
 
 // A client begins a new life, which knows servers at these addresses.

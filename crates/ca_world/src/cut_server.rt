@@ -3,22 +3,22 @@ ghost use Rattle.ca_ids.specs.Table.{under};
 ghost use Rattle.ca_model.specs.ServerSteps.{output_of};
 ghost use Rattle.ca_model_world.specs.Events as event;
 ghost use Rattle.ca_server_core.specs.Serving.{stepped};
-ghost use Rattle.ca_world.specs.Does.{Does};
-ghost use Rattle.ca_world.specs.Opening.{entries_in};
-ghost use Rattle.ca_world.specs.ServerCuts.{CutsServer, IsServing, cut_core, left_in};
+ghost use Rattle.ca_world_data.specs.Does.{Does};
+ghost use Rattle.ca_world_data.specs.Opening.{entries_in};
+ghost use Rattle.ca_world_data.specs.ServerCuts.{CutsServer, IsServing, cut_core, left_in};
 
-use crate::closing::close_server;
-use crate::ends::ends_at;
-use crate::entries::{push_entries, reserve_entries};
-use crate::history::Entry;
-use crate::joined::Joined;
-use crate::server::ServerSide;
-use crate::withdrawing::{withdraw, withdrawals};
 use crate::world::World;
 use ca_arena::Handle;
 use ca_server_core::{ServerCore, Step};
 use ca_text::Refusal;
 use ca_wire::Pipe;
+use ca_world_data::closing::close_server;
+use ca_world_data::ends::ends_at;
+use ca_world_data::entries::{push_entries, reserve_entries};
+use ca_world_data::history::Entry;
+use ca_world_data::joined::Joined;
+use ca_world_data::server::ServerSide;
+use ca_world_data::withdrawing::{withdraw, withdrawals};
 use std::alloc::Global;
 
 impl World {

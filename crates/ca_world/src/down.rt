@@ -1,19 +1,19 @@
 ghost use Rattle.std.specs.Prelude.{◌≡◌, ◌++◌, ◌+◌, ◌≤◌, map, vec_capacity, vec_len};
 ghost use Rattle.ca_model_world.specs.Events as event;
-ghost use Rattle.ca_world.specs.Does.{Does};
-ghost use Rattle.ca_world.specs.Downs.{HandsDown, LeavesDown, TakesDown, flow_said};
-ghost use Rattle.ca_world.specs.Seen.{sent_of};
+ghost use Rattle.ca_world_data.specs.Does.{Does};
+ghost use Rattle.ca_world_data.specs.Downs.{HandsDown, LeavesDown, TakesDown, flow_said};
+ghost use Rattle.ca_world_data.specs.Seen.{sent_of};
 
-use crate::client::ClientSide;
-use crate::ends::ends_at;
-use crate::history::{Intent, Sent};
-use crate::joined::Joined;
-use crate::server::ServerSide;
 use crate::world::World;
 use ca_arena::Handle;
 use ca_client_core::for_histories::flow_of;
 use ca_text::{Command, Refusal};
 use ca_wire::bare;
+use ca_world_data::client::ClientSide;
+use ca_world_data::ends::ends_at;
+use ca_world_data::history::{Intent, Sent};
+use ca_world_data::joined::Joined;
+use ca_world_data::server::ServerSide;
 use std::alloc::Global;
 
 impl World {

@@ -4,36 +4,28 @@
 //! It is not complete: not all events are there yet.
 #![tactic(auto)]
 
-mod cancelling;
-mod client;
+mod clear;
 mod client_restart;
-mod closing;
+mod collect;
 mod config;
+mod cut_client;
 mod cut_server;
 mod down;
-mod ends;
-mod entries;
-mod found;
-mod history;
-mod joined;
-mod lefts;
-mod logs;
-mod opening;
+mod give_up;
 mod opens;
-mod payloads;
 mod read;
-mod server;
 mod server_datagram;
 mod server_restart;
 mod subscribe;
 mod unsubscribe;
 mod up;
-mod way;
-mod withdrawing;
 mod world;
 mod write;
 mod write_notify;
 
-pub use config::{ClientSetting, Config, RuleSetting, ServerSetting};
-pub use history::{Ask, Cause, Entry, Intent, Kind, Line, Recorded, Sent, Step, Stored, Told};
+pub use ca_world_data::history::{
+    Ask, Cause, Entry, Intent, Kind, Line, Recorded, Sent, Step, Stored, Told,
+};
+pub use ca_world_data::settings::{ClientSetting, RuleSetting, ServerSetting};
+pub use config::Config;
 pub use world::World;

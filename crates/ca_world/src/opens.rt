@@ -1,15 +1,15 @@
 ghost use Rattle.std.specs.Prelude.{◌≡◌};
 ghost use Rattle.ca_model_world.specs.Events as event;
-ghost use Rattle.ca_world.specs.Does.{Does};
-ghost use Rattle.ca_world.specs.Logs.{lines_in};
-ghost use Rattle.ca_world.specs.Opens.{OpensOn};
-ghost use Rattle.ca_world.specs.Seen.{client_of};
+ghost use Rattle.ca_world_data.specs.Does.{Does};
+ghost use Rattle.ca_world_data.specs.Logs.{lines_in};
+ghost use Rattle.ca_world_data.specs.Opens.{OpensOn};
+ghost use Rattle.ca_world_data.specs.Seen.{client_of};
 
-use crate::client::ClientSide;
-use crate::history::Line;
-use crate::logs::{note, push_line, reserve_lines};
 use crate::world::World;
 use ca_text::Refusal;
+use ca_world_data::client::ClientSide;
+use ca_world_data::history::Line;
+use ca_world_data::logs::{note, push_line, reserve_lines};
 use std::alloc::Global;
 
 impl World {

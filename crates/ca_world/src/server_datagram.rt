@@ -1,5 +1,5 @@
 ghost use Rattle.ca_model_world.specs.Events as event;
-ghost use Rattle.ca_world.specs.Does.{Does};
+ghost use Rattle.ca_world_data.specs.Does.{Does};
 
 use crate::world::World;
 use ca_client_core::Address;

@@ -1,20 +1,16 @@
-ghost use Rattle.std.specs.Prelude.{◌≡◌, [], IfOk, length, map};
 ghost use Rattle.ca_model_world.specs.Events as event;
-ghost use Rattle.ca_world.specs.Does.{Does};
-ghost use Rattle.ca_world.specs.Restarts.{BeginsServer, RestartsServer};
-ghost use Rattle.ca_world.specs.Seen.{entry_of, record_of, server_of};
+ghost use Rattle.ca_world_data.specs.Does.{Does};
+ghost use Rattle.ca_world_data.specs.Restarts.{RestartsServer};
 
-use crate::closing::end_servers;
-use crate::config::ServerSetting;
-use crate::history::Entry;
-use crate::joined::Joined;
-use crate::lefts::server_lefts;
-use crate::opening::{begin_log, begin_records, begin_server_core};
-use crate::server::{RecordSide, ServerSide};
 use crate::world::World;
-use ca_server_core::ServerCore;
 use ca_text::Refusal;
-use std::alloc::{AllocError, Global};
+use ca_world_data::closing::end_servers;
+use ca_world_data::history::Entry;
+use ca_world_data::joined::Joined;
+use ca_world_data::lefts::server_lefts;
+use ca_world_data::opening::{begin_again, begin_parts};
+use ca_world_data::server::ServerSide;
+use std::alloc::Global;
 
 impl World {
     /// A server begins a new life, with its records as they were given. Its open ends end untold.
@@ -63,43 +59,4 @@ fn restart_server(
     logs.push_reserved(log);
     end_servers(alloc, server, circuits, lefts);
     Ok(())
-}
-
-// The core, the records and the log with which a server begins now.
-fn begin_parts(
-    alloc: Global,
-    setting: &ServerSetting,
-    moment: u64,
-) -> Result<(ServerCore, Vec<RecordSide>, Vec<Entry>), AllocError>
-    ensures { IfOk result (λ b. BeginsServer moment setting.now b.0 (map record_of b.1.items) (map entry_of b.2.items)) }
-{
-    let core = begin_server_core(alloc, setting, moment)?;
-    let records = begin_records(alloc, &setting.records)?;
-    let log = begin_log(alloc, &setting.records)?;
-    Ok((core, records, log))
-}
-
-// The server goes on with this core and these records, in this life.
-fn begin_again(
-    alloc: Global,
-    side: &mut ServerSide,
-    core: ServerCore,
-    records: Vec<RecordSide>,
-    life: usize,
-)
-    ensures side { server_of side.new
-        ≡ record {
-          setting = side.old.setting;
-          core = core;
-          life = life;
-          records = map record_of records.items;
-          added = length side.old.setting.records;
-        } }
-    ensures circuits { side.new.circuits.items ≡ [] }
-{
-    side.core = core;
-    side.life = life;
-    side.added = side.setting.records.len();
-    side.records = records;
-    side.circuits = Vec::new(alloc);
 }

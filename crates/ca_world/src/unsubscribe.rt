@@ -1,21 +1,21 @@
 ghost use Rattle.std.specs.Prelude.{◌≡◌, map};
 ghost use Rattle.ca_model_world.specs.Events as event;
-ghost use Rattle.ca_world.specs.Does.{Does};
-ghost use Rattle.ca_world.specs.Found.{AreNumbered};
-ghost use Rattle.ca_world.specs.Logs.{lines_in};
-ghost use Rattle.ca_world.specs.Named.{MeanTheirs};
-ghost use Rattle.ca_world.specs.Seen.{client_of, joined_of};
-ghost use Rattle.ca_world.specs.Unsubscribes.{UnsubscribesOn};
+ghost use Rattle.ca_world_data.specs.Does.{Does};
+ghost use Rattle.ca_world_data.specs.Found.{AreNumbered};
+ghost use Rattle.ca_world_data.specs.Logs.{lines_in};
+ghost use Rattle.ca_world_data.specs.Named.{MeanTheirs};
+ghost use Rattle.ca_world_data.specs.Seen.{client_of, joined_of};
+ghost use Rattle.ca_world_data.specs.Unsubscribes.{UnsubscribesOn};
 
-use crate::cancelling::{prepare_cancel, to_cancel};
-use crate::client::ClientSide;
-use crate::history::{Line, Sent};
-use crate::joined::Joined;
-use crate::logs::{note, push_line};
-use crate::way::push_sent;
 use crate::world::World;
 use ca_text::Refusal;
 use ca_wire::event_cancel_request;
+use ca_world_data::cancelling::{prepare_cancel, to_cancel};
+use ca_world_data::client::ClientSide;
+use ca_world_data::history::{Line, Sent};
+use ca_world_data::joined::Joined;
+use ca_world_data::logs::{note, push_line};
+use ca_world_data::way::push_sent;
 use std::alloc::Global;
 
 impl World {

@@ -1,14 +1,14 @@
 ghost use Rattle.ca_model_world.specs.Events as event;
-ghost use Rattle.ca_world.specs.Does.{Does};
-ghost use Rattle.ca_world.specs.Ups.{HandsUp, LeavesUp};
+ghost use Rattle.ca_world_data.specs.Does.{Does};
+ghost use Rattle.ca_world_data.specs.Ups.{HandsUp, LeavesUp};
 
-use crate::client::ClientSide;
-use crate::ends::ends_at;
-use crate::joined::Joined;
-use crate::server::ServerSide;
 use crate::world::World;
 use ca_arena::Handle;
 use ca_text::Refusal;
+use ca_world_data::client::ClientSide;
+use ca_world_data::ends::ends_at;
+use ca_world_data::joined::Joined;
+use ca_world_data::server::ServerSide;
 
 impl World {
     /// The first n bytes that wait at a client, or that its end left, reach the server of a circuit.

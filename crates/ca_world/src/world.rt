@@ -1,8 +1,13 @@
-use crate::client::ClientSide;
-use crate::history::{Entry, Line};
-use crate::joined::Joined;
-use crate::server::ServerSide;
-use std::alloc::Global;
+ghost use Rattle.std.specs.Prelude.{◌≡◌, IfOk};
+ghost use Rattle.ca_model_world.specs.World.{IsSetting, opening};
+
+use crate::config::Config;
+use ca_world_data::client::ClientSide;
+use ca_world_data::history::{Entry, Line};
+use ca_world_data::joined::Joined;
+use ca_world_data::opening::{addresses_of, begin_clients, begin_servers};
+use ca_world_data::server::ServerSide;
+use std::alloc::{AllocError, Global};
 use std::marker::Model;
 
 /// A world: its clients, its servers and its circuits, in the order in which they were accepted; the logs of all lives of clients
@@ -20,7 +25,7 @@ pub struct World {
 
 impl Model for World {
     ghost use Rattle.ca_model_world.specs.World.{World as Seen};
-    ghost use Rattle.ca_world.specs.Seen.{seen};
+    ghost use Rattle.ca_world.specs.Whole.{seen};
 
     ghost Value = { Seen };
 
@@ -31,7 +36,29 @@ impl Model for World {
 
     ghost view = { seen };
 
-    ghost use Rattle.ca_world.specs.Indexed.{Stands};
+    ghost use Rattle.ca_world.specs.Whole.{Stands};
 
     ghost invariant = { Stands };
+}
+
+impl World {
+    /// The world before any event.
+    pub fn new(config: Config) -> Result<World, AllocError>
+        ensures opening { IfOk result (λ w. w ≡ opening config) }
+        ensures setting { IsSetting config }
+    {
+        let alloc = config.alloc;
+        let servers_at = addresses_of(alloc, &config.servers)?;
+        let (clients, client_logs) = begin_clients(alloc, config.clients, &servers_at)?;
+        let (servers, server_logs) = begin_servers(alloc, config.servers)?;
+        Ok(World {
+            alloc,
+            clients,
+            servers,
+            circuits: Vec::new(alloc),
+            client_logs,
+            server_logs,
+            moment: 0,
+        })
+    }
 }

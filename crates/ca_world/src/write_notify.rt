@@ -2,21 +2,21 @@ ghost use Rattle.std.specs.Prelude.{◌≡◌, map};
 ghost use Rattle.ca_dbr.specs.Elements.{elements};
 ghost use Rattle.ca_model_world.specs.Events as event;
 ghost use Rattle.ca_laws_runs.specs.Circuit.{AreGiven};
-ghost use Rattle.ca_world.specs.Does.{Does};
-ghost use Rattle.ca_world.specs.Found.{AreNumbered};
-ghost use Rattle.ca_world.specs.Logs.{lines_in};
-ghost use Rattle.ca_world.specs.Puts.{PutsOn};
-ghost use Rattle.ca_world.specs.Seen.{client_of, joined_of};
+ghost use Rattle.ca_world_data.specs.Does.{Does};
+ghost use Rattle.ca_world_data.specs.Found.{AreNumbered};
+ghost use Rattle.ca_world_data.specs.Logs.{lines_in};
+ghost use Rattle.ca_world_data.specs.Puts.{PutsOn};
+ghost use Rattle.ca_world_data.specs.Seen.{client_of, joined_of};
 
-use crate::client::ClientSide;
-use crate::history::{Ask, Intent, Kind, Line, Sent};
-use crate::joined::Joined;
-use crate::logs::{note, push_line};
-use crate::payloads::{count_within, put_payload, value_again, with_payload};
-use crate::way::{prepare, push_sent, wanted_on};
 use crate::world::World;
 use ca_dbr::Value;
 use ca_text::{Command, Refusal};
+use ca_world_data::client::ClientSide;
+use ca_world_data::history::{Ask, Intent, Kind, Line, Sent};
+use ca_world_data::joined::Joined;
+use ca_world_data::logs::{note, push_line};
+use ca_world_data::payloads::{count_within, put_payload, value_again, with_payload};
+use ca_world_data::way::{prepare, push_sent, wanted_on};
 use std::alloc::Global;
 
 impl World {

@@ -1,9 +1,9 @@
 use Rattle.std.proofs.Common.{◌≡◌, length, List, arith, ap, map, ◌∙◌}
 use Rattle.ca_model_world.specs.World.{no_names}
-use Rattle.ca_world.specs.declared.joined.Joined.{Joined}
-use Rattle.ca_world.specs.Closing.{client_left, client_over, with_lefts}
-use Rattle.ca_world.specs.Seen.{joined_of}
-use Rattle.ca_world.proofs.Restarting.{lines-more}
+use Rattle.ca_world_data.specs.declared.joined.Joined.{Joined}
+use Rattle.ca_world_data.specs.Closing.{client_left, client_over, with_lefts}
+use Rattle.ca_world_data.specs.Seen.{joined_of}
+use Rattle.ca_world_data.proofs.Restarting.{lines-more}
 use Rattle.ca_world.proofs.client_restart.restart_client.Goals as goal
 
 pub returns : goal.returns

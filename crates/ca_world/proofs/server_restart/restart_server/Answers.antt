@@ -1,9 +1,9 @@
 use Rattle.std.proofs.Common.{◌≡◌, length, List, arith, ap, map, ◌∙◌}
 use Rattle.ca_model_world.specs.World.{log_begun}
-use Rattle.ca_world.specs.declared.joined.Joined.{Joined}
-use Rattle.ca_world.specs.Closing.{server_left, server_over, with_lefts}
-use Rattle.ca_world.specs.Seen.{joined_of}
-use Rattle.ca_world.proofs.Restarting.{entries-more}
+use Rattle.ca_world_data.specs.declared.joined.Joined.{Joined}
+use Rattle.ca_world_data.specs.Closing.{server_left, server_over, with_lefts}
+use Rattle.ca_world_data.specs.Seen.{joined_of}
+use Rattle.ca_world_data.proofs.Restarting.{entries-more}
 use Rattle.ca_world.proofs.server_restart.restart_server.Goals as goal
 
 pub returns : goal.returns

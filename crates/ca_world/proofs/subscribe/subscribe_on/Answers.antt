@@ -11,12 +11,12 @@ use Rattle.ca_model.specs.History as history
 use Rattle.ca_model_world.specs.World.{Joined, grown}
 use Rattle.ca_model_world.specs.World as model
 use Rattle.ca_laws_runs.specs.Circuit.{AreGiven}
-use Rattle.ca_world.specs.declared.client.ClientSide.{ClientSide}
-use Rattle.ca_world.specs.declared.way.Way.{Way}
-use Rattle.ca_world.specs.Logs.{lines_in}
-use Rattle.ca_world.specs.Seen.{client_of, joined_of, named_of}
-use Rattle.ca_world.specs.Subscribes.{subscribe_names}
-use Rattle.ca_world.specs.Speaking.{GoesUp}
+use Rattle.ca_world_data.specs.declared.client.ClientSide.{ClientSide}
+use Rattle.ca_world_data.specs.declared.way.Way.{Way}
+use Rattle.ca_world_data.specs.Logs.{lines_in}
+use Rattle.ca_world_data.specs.Seen.{client_of, joined_of, named_of}
+use Rattle.ca_world_data.specs.Subscribes.{subscribe_names}
+use Rattle.ca_world_data.specs.Speaking.{GoesUp}
 use Rattle.ca_world.proofs.Subscribing.{subscribes-done, subscribes-moved, subscribes-noted}
 use Rattle.ca_world.proofs.subscribe.subscribe_on.Goals as goal
 

@@ -8,12 +8,12 @@ use Rattle.ca_model.specs.History as history
 use Rattle.ca_model_world.specs.World.{Joined, grown}
 use Rattle.ca_model_world.specs.World as model
 use Rattle.ca_server_core.proofs.Posted.{same-error}
-use Rattle.ca_world.specs.declared.cancelling.Cancelling.{Cancelling}
-use Rattle.ca_world.specs.declared.client.ClientSide.{ClientSide}
-use Rattle.ca_world.specs.Logs.{lines_in}
-use Rattle.ca_world.specs.Seen.{client_of, intent_of, joined_of, named_of}
-use Rattle.ca_world.specs.Speaking.{GoesUp}
-use Rattle.ca_world.specs.Unsubscribes.{UnsubscribesOn}
+use Rattle.ca_world_data.specs.declared.cancelling.Cancelling.{Cancelling}
+use Rattle.ca_world_data.specs.declared.client.ClientSide.{ClientSide}
+use Rattle.ca_world_data.specs.Logs.{lines_in}
+use Rattle.ca_world_data.specs.Seen.{client_of, intent_of, joined_of, named_of}
+use Rattle.ca_world_data.specs.Speaking.{GoesUp}
+use Rattle.ca_world_data.specs.Unsubscribes.{UnsubscribesOn}
 use Rattle.ca_world.proofs.Cancellings.{unsubscribes-done, unsubscribes-moved, unsubscribes-noted, unsubscribes-unready}
 use Rattle.ca_world.proofs.unsubscribe.unsubscribe_on.Goals as goal
 

@@ -6,17 +6,17 @@ use Rattle.ca_wire.specs.Messages.{on_channel, put_request}
 use Rattle.ca_dbr.specs.Elements.{Elements, base_of, bytes_of, count_of, elements}
 use Rattle.ca_dbr.specs.Types.{base_number}
 use Rattle.ca_text.specs.declared.command.Command.TheVariants as command
-use Rattle.ca_world.proofs.Fitting.{put-fits}
+use Rattle.ca_world_data.proofs.Fitting.{put-fits}
 use Rattle.ca_model.specs.History.{Called, Line, On, Request}
 use Rattle.ca_model.specs.History as history
 use Rattle.ca_model_world.specs.World.{Joined, grown}
 use Rattle.ca_model_world.specs.World as model
-use Rattle.ca_world.specs.declared.client.ClientSide.{ClientSide}
-use Rattle.ca_world.specs.declared.way.Way.{Way}
-use Rattle.ca_world.specs.Logs.{lines_in}
-use Rattle.ca_world.specs.Seen.{client_of, joined_of}
-use Rattle.ca_world.specs.Puts.{AreOnce, write_names}
-use Rattle.ca_world.specs.Speaking.{GoesUp}
+use Rattle.ca_world_data.specs.declared.client.ClientSide.{ClientSide}
+use Rattle.ca_world_data.specs.declared.way.Way.{Way}
+use Rattle.ca_world_data.specs.Logs.{lines_in}
+use Rattle.ca_world_data.specs.Seen.{client_of, joined_of}
+use Rattle.ca_world_data.specs.Puts.{AreOnce, write_names}
+use Rattle.ca_world_data.specs.Speaking.{GoesUp}
 use Rattle.ca_world.proofs.Writing.{writes-done, writes-moved, writes-noted}
 use Rattle.ca_world.proofs.write.write_on.Goals as goal
 

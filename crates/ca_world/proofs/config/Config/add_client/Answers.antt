@@ -1,6 +1,6 @@
 use Rattle.std.proofs.Common.{List, subst, sym}
 use Rattle.ca_model_world.specs.World.{ClientSetting, IsSetting}
-use Rattle.ca_world.proofs.Settled.{client-more}
+use Rattle.ca_world_data.proofs.Settled.{client-more}
 use Rattle.ca_world.proofs.config.Config.add_client.Goals as goal
 
 pub invariant_of-self-2 : goal.invariant_of-self-2

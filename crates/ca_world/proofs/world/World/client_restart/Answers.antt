@@ -6,20 +6,20 @@ use Rattle.ca_model.specs.Ends.{Address}
 use Rattle.ca_model_world.specs.Events.{ClientRestart}
 use Rattle.ca_model_world.specs.Runs.{CanBe}
 use Rattle.ca_model_world.specs.World.{World}
-use Rattle.ca_world.specs.declared.client.ClientSide.{ClientSide}
-use Rattle.ca_world.specs.declared.history.Entry.{Entry}
-use Rattle.ca_world.specs.declared.history.Line.{Line}
-use Rattle.ca_world.specs.declared.joined.Joined.{Joined}
-use Rattle.ca_world.specs.declared.server.ServerSide.{ServerSide}
-use Rattle.ca_world.specs.Does.{Does}
-use Rattle.ca_world.specs.Indexed.{server_numbers}
-use Rattle.ca_world.specs.Logs.{lines_in}
-use Rattle.ca_world.specs.Opening.{entries_in}
-use Rattle.ca_world.specs.Restarts.{address_of}
-use Rattle.ca_world.specs.Seen.{client_of}
+use Rattle.ca_world_data.specs.declared.client.ClientSide.{ClientSide}
+use Rattle.ca_world_data.specs.declared.history.Entry.{Entry}
+use Rattle.ca_world_data.specs.declared.history.Line.{Line}
+use Rattle.ca_world_data.specs.declared.joined.Joined.{Joined}
+use Rattle.ca_world_data.specs.declared.server.ServerSide.{ServerSide}
+use Rattle.ca_world_data.specs.Does.{Does}
+use Rattle.ca_world_data.specs.Indexed.{server_numbers}
+use Rattle.ca_world_data.specs.Logs.{lines_in}
+use Rattle.ca_world_data.specs.Opening.{entries_in}
+use Rattle.ca_world_data.specs.Restarts.{address_of}
+use Rattle.ca_world_data.specs.Seen.{client_of}
 use Rattle.ca_world.proofs.Lasting.{all-stand}
-use Rattle.ca_world.proofs.Restarting.{client-indexed, client-restarts}
-use Rattle.ca_world.proofs.Worlds.{found, one-at, world_of}
+use Rattle.ca_world_data.proofs.Restarting.{client-indexed, client-restarts}
+use Rattle.ca_world_data.proofs.Worlds.{found, one-at, world_of}
 use Rattle.ca_world.proofs.world.World.client_restart.Goals as goal
 
 pub returns-in_default : goal.returns-in_default

@@ -7,18 +7,18 @@ use Rattle.ca_model_world.specs.Events.{CutServer}
 use Rattle.ca_model_world.specs.Runs.{CanBe}
 use Rattle.ca_model_world.specs.World.{World}
 use Rattle.ca_model.specs.History as history
-use Rattle.ca_world.specs.declared.client.ClientSide.{ClientSide}
-use Rattle.ca_world.specs.declared.ends.Ends.{Ends}
-use Rattle.ca_world.specs.declared.joined.Joined.{Joined}
-use Rattle.ca_world.specs.declared.server.ServerSide.{ServerSide}
-use Rattle.ca_world.specs.Does.{Does}
-use Rattle.ca_world.specs.Indexed.{client_numbers, server_numbers}
-use Rattle.ca_world.specs.Opening.{entries_in}
-use Rattle.ca_world.specs.Seen.{joined_of, line_of}
+use Rattle.ca_world_data.specs.declared.client.ClientSide.{ClientSide}
+use Rattle.ca_world_data.specs.declared.ends.Ends.{Ends}
+use Rattle.ca_world_data.specs.declared.joined.Joined.{Joined}
+use Rattle.ca_world_data.specs.declared.server.ServerSide.{ServerSide}
+use Rattle.ca_world_data.specs.Does.{Does}
+use Rattle.ca_world_data.specs.Indexed.{client_numbers, server_numbers}
+use Rattle.ca_world_data.specs.Opening.{entries_in}
+use Rattle.ca_world_data.specs.Seen.{joined_of, line_of}
 use Rattle.ca_world.proofs.Cuttings.{cut-by, cut-keeps, cut-none, cut-off, cut-serves}
-use Rattle.ca_world.proofs.Indexes.{indexed-circuit, indexed-same, numbers-set}
+use Rattle.ca_world_data.proofs.Indexes.{indexed-circuit, indexed-same, numbers-set}
 use Rattle.ca_world.proofs.Lasting.{all-stand}
-use Rattle.ca_world.proofs.Worlds.{ends-here, ends-server, found, is-open, no-ends-here, not-open, set-map, world_of}
+use Rattle.ca_world_data.proofs.Worlds.{ends-here, ends-server, found, is-open, no-ends-here, not-open, set-map, world_of}
 use Rattle.ca_world.proofs.world.World.cut_server.Goals as goal
 
 pub returns-in_default : goal.returns-in_default

@@ -6,9 +6,10 @@ use Rattle.ca_laws_held.specs.Quiet.{ClientsQuiet}
 use Rattle.ca_laws_held.proofs.Kept.{quiet-opening}
 use Rattle.ca_laws_runs.specs.Clients.{ClientsStand}
 use Rattle.ca_laws_runs.proofs.Events.{stands-opening}
-use Rattle.ca_world.specs.Indexed.{AreIndexed, IsReached, client_numbers, server_numbers}
-use Rattle.ca_world.specs.Named.{AreMeant}
-use Rattle.ca_world.specs.Seen.{joined_of}
+use Rattle.ca_world_data.specs.Indexed.{AreIndexed, client_numbers, server_numbers}
+use Rattle.ca_world.specs.Whole.{IsReached}
+use Rattle.ca_world_data.specs.Named.{AreMeant}
+use Rattle.ca_world_data.specs.Seen.{joined_of}
 use Rattle.ca_world.proofs.Meanings.{mean-opening}
 use Rattle.ca_world.proofs.world.World.new.Goals as goal
 

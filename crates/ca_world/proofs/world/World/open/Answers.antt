@@ -4,15 +4,16 @@ use Rattle.ca_text.specs.Place.{At}
 use Rattle.ca_text.proofs.Places.{At-map}
 use Rattle.ca_model_world.specs.Events.{Open}
 use Rattle.ca_model_world.specs.World as model
-use Rattle.ca_world.specs.declared.client.ClientSide.{ClientSide}
-use Rattle.ca_world.specs.Does.{Does}
-use Rattle.ca_world.specs.Indexed.{client_numbers, server_numbers}
-use Rattle.ca_world.specs.Logs.{lines_in}
-use Rattle.ca_world.specs.Seen.{client_of, joined_of, seen}
-use Rattle.ca_world.proofs.Calls.{opens}
-use Rattle.ca_world.proofs.Indexes.{indexed-same, numbers-set}
+use Rattle.ca_world_data.specs.declared.client.ClientSide.{ClientSide}
+use Rattle.ca_world_data.specs.Does.{Does}
+use Rattle.ca_world_data.specs.Indexed.{client_numbers, server_numbers}
+use Rattle.ca_world_data.specs.Logs.{lines_in}
+use Rattle.ca_world_data.specs.Seen.{client_of, joined_of}
+use Rattle.ca_world.specs.Whole.{seen}
+use Rattle.ca_world_data.proofs.Calls.{opens}
+use Rattle.ca_world_data.proofs.Indexes.{indexed-same, numbers-set}
 use Rattle.ca_world.proofs.Lasting.{all-stand}
-use Rattle.ca_world.proofs.Worlds.{found, set-map}
+use Rattle.ca_world_data.proofs.Worlds.{found, set-map}
 use Rattle.ca_world.proofs.world.World.open.Goals as goal
 
 pub returns : goal.returns

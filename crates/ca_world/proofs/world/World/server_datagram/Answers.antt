@@ -4,9 +4,9 @@ use Rattle.ca_text.proofs.Places.{At-map}
 use Rattle.ca_model_world.specs.Events.{ServerDatagram}
 use Rattle.ca_model_world.specs.Runs.{Happens, IsServer}
 use Rattle.ca_model_world.specs.World.{World}
-use Rattle.ca_world.specs.declared.server.ServerSide.{ServerSide}
-use Rattle.ca_world.specs.Seen.{server_of}
-use Rattle.ca_world.proofs.Worlds.{found}
+use Rattle.ca_world_data.specs.declared.server.ServerSide.{ServerSide}
+use Rattle.ca_world_data.specs.Seen.{server_of}
+use Rattle.ca_world_data.proofs.Worlds.{found}
 use Rattle.ca_world.proofs.world.World.server_datagram.Goals as goal
 
 pub returns-in_default : goal.returns-in_default

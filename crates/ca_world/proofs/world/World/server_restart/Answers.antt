@@ -3,18 +3,18 @@ use Rattle.std.specs.Prelude.{slice_set}
 use Rattle.ca_text.specs.Place.{At}
 use Rattle.ca_model_world.specs.Events.{ServerRestart}
 use Rattle.ca_model_world.specs.World.{World}
-use Rattle.ca_world.specs.declared.client.ClientSide.{ClientSide}
-use Rattle.ca_world.specs.declared.history.Entry.{Entry}
-use Rattle.ca_world.specs.declared.history.Line.{Line}
-use Rattle.ca_world.specs.declared.joined.Joined.{Joined}
-use Rattle.ca_world.specs.declared.server.ServerSide.{ServerSide}
-use Rattle.ca_world.specs.Does.{Does}
-use Rattle.ca_world.specs.Indexed.{client_numbers}
-use Rattle.ca_world.specs.Logs.{lines_in}
-use Rattle.ca_world.specs.Opening.{entries_in}
+use Rattle.ca_world_data.specs.declared.client.ClientSide.{ClientSide}
+use Rattle.ca_world_data.specs.declared.history.Entry.{Entry}
+use Rattle.ca_world_data.specs.declared.history.Line.{Line}
+use Rattle.ca_world_data.specs.declared.joined.Joined.{Joined}
+use Rattle.ca_world_data.specs.declared.server.ServerSide.{ServerSide}
+use Rattle.ca_world_data.specs.Does.{Does}
+use Rattle.ca_world_data.specs.Indexed.{client_numbers}
+use Rattle.ca_world_data.specs.Logs.{lines_in}
+use Rattle.ca_world_data.specs.Opening.{entries_in}
 use Rattle.ca_world.proofs.Lasting.{all-stand}
-use Rattle.ca_world.proofs.Restarting.{server-indexed, server-restarts}
-use Rattle.ca_world.proofs.Worlds.{found, world_of}
+use Rattle.ca_world_data.proofs.Restarting.{server-indexed, server-restarts}
+use Rattle.ca_world_data.proofs.Worlds.{found, world_of}
 use Rattle.ca_world.proofs.world.World.server_restart.Goals as goal
 
 pub returns : goal.returns

@@ -5,13 +5,14 @@ use Rattle.ca_text.proofs.Places.{At-map}
 use Rattle.ca_model.specs.ClientCalls.{Shape}
 use Rattle.ca_model_world.specs.Events.{Subscribe}
 use Rattle.ca_model_world.specs.World as model
-use Rattle.ca_world.specs.declared.client.ClientSide.{ClientSide}
-use Rattle.ca_world.specs.Does.{Does}
-use Rattle.ca_world.specs.Logs.{lines_in}
-use Rattle.ca_world.specs.Seen.{client_of, joined_of, seen}
+use Rattle.ca_world_data.specs.declared.client.ClientSide.{ClientSide}
+use Rattle.ca_world_data.specs.Does.{Does}
+use Rattle.ca_world_data.specs.Logs.{lines_in}
+use Rattle.ca_world_data.specs.Seen.{client_of, joined_of}
+use Rattle.ca_world.specs.Whole.{seen}
 use Rattle.ca_world.proofs.Subscribing.{subscribes-does, subscribes-keep}
 use Rattle.ca_world.proofs.Speeches.{numbered-here, sound-here, speaks, speaks-stand}
-use Rattle.ca_world.proofs.Worlds.{found}
+use Rattle.ca_world_data.proofs.Worlds.{found}
 use Rattle.ca_world.proofs.world.World.subscribe.Goals as goal
 
 pub subscribe_on-requires-clause-given : goal.subscribe_on-requires-clause-given

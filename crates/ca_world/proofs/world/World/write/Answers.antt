@@ -5,13 +5,14 @@ use Rattle.ca_text.proofs.Places.{At-map}
 use Rattle.ca_dbr.specs.Elements.{Elements, elements}
 use Rattle.ca_model_world.specs.Events.{Write}
 use Rattle.ca_model_world.specs.World as model
-use Rattle.ca_world.specs.declared.client.ClientSide.{ClientSide}
-use Rattle.ca_world.specs.Does.{Does}
-use Rattle.ca_world.specs.Logs.{lines_in}
-use Rattle.ca_world.specs.Seen.{client_of, joined_of, seen}
+use Rattle.ca_world_data.specs.declared.client.ClientSide.{ClientSide}
+use Rattle.ca_world_data.specs.Does.{Does}
+use Rattle.ca_world_data.specs.Logs.{lines_in}
+use Rattle.ca_world_data.specs.Seen.{client_of, joined_of}
+use Rattle.ca_world.specs.Whole.{seen}
 use Rattle.ca_world.proofs.Writing.{writes-does, writes-keep}
 use Rattle.ca_world.proofs.Speeches.{numbered-here, tidy-here, speaks, speaks-stand}
-use Rattle.ca_world.proofs.Worlds.{found}
+use Rattle.ca_world_data.proofs.Worlds.{found}
 use Rattle.ca_world.proofs.world.World.write.Goals as goal
 
 pub write_on-requires-clause-once : goal.write_on-requires-clause-once

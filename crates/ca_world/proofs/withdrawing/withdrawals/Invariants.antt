@@ -1,8 +1,0 @@
-use Rattle.std.proofs.Common.{◌≡◌, ◌++◌, drop, map}
-use Rattle.ca_world.specs.Seen.{entry_of}
-use Rattle.ca_world.specs.Withdrawing.{all_withdrawn}
-use Rattle.ca_world.proofs.withdrawing.withdrawals.Given as goal
-
--- the records that are left make up the rest
-abbrev pub invariant-loop-record : goal.invariant-loop-record
-invariant-loop-record l = record { all : map entry_of l.all.items ++ all_withdrawn l.circuit (drop l.record-index l.records) ≡ all_withdrawn l.circuit l.records }

@@ -1,0 +1,16 @@
+pub mod Worlds
+pub mod Ups
+pub mod Calls
+pub mod Openings
+pub mod Indexes
+pub mod Sendings
+pub mod Rooms
+pub mod Fitting
+pub mod Finding
+pub mod Settled
+pub mod Ways
+pub mod Closings
+pub mod Restarting
+pub mod Withdrawals
+pub mod Entering
+pub mod Handed

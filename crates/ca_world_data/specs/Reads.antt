@@ -1,0 +1,25 @@
+-- Working: a read of a client.
+use Rattle.std.specs.Prelude.{ℕ, ◌∷◌, List, [], None, Result, length}
+use Rattle.ca_arena.specs.declared.handle.Handle.{Handle}
+use Rattle.ca_text.specs.declared.refusal.Refusal.{Refusal}
+use Rattle.ca_text.specs.Place.{At}
+use Rattle.ca_model.specs.ClientCalls.{ClientReads, Shape}
+use Rattle.ca_model.specs.History.{Called, Line, On, Request}
+use Rattle.ca_model.specs.History as history
+use Rattle.ca_model_world.specs.ClientEvents.{with_request}
+use Rattle.ca_model_world.specs.World.{ClientSide, Joined, Names}
+use Rattle.ca_world_data.specs.Speaking.{CallsOn}
+
+-- the names with a read more on this channel
+abbrev pub read_names : (c : ℕ) → ClientSide → Handle → Names
+read_names c x q = with_request q c history.Read x.names
+
+abbrev pub ReadsOn : (i c : ℕ) → Shape → ClientSide → List (List Line) → List Joined → Result (Unit {0}) Refusal → ClientSide → List (List Line) → List Joined → Type 0
+ReadsOn i c a x logs ks result x' logs' ks' =
+    CallsOn i
+    (At x.names.channels c)
+    (λ (h : Handle). ClientReads x.core h a)
+    (λ (h q : Handle). read_names c x q)
+    (λ (h q : Handle). read_names c x q)
+    (λ (h q : Handle). Called (On c (Request history.Read (length x.names.requests))) None ∷ [])
+    x logs ks result x' logs' ks'

@@ -1,0 +1,41 @@
+ghost use Rattle.std.specs.Prelude.{MatchOption};
+ghost use Rattle.ca_world_data.specs.Ends.{AreEnds, NoEnds};
+
+use crate::joined::Joined;
+use ca_arena::Handle;
+
+/// What a circuit joins, and which of its ends are open.
+#[derive(Clone, Copy)]
+pub struct Ends {
+    pub client: usize,
+    pub server: usize,
+    pub at_client: Handle,
+    pub at_server: Handle,
+    pub client_open: bool,
+    pub server_open: bool,
+}
+
+/// The ends of the circuit at this place, among so many clients and servers.
+pub fn ends_at(clients: usize, servers: usize, circuits: &[Joined], circuit: usize) -> Option<Ends>
+    ensures { MatchOption result (NoEnds clients servers circuits.now circuit)
+        (AreEnds clients servers circuits.now circuit) }
+{
+    if circuit >= circuits.len() {
+        return None;
+    }
+    let joined = &circuits[circuit];
+    if joined.client >= clients {
+        return None;
+    }
+    if joined.server >= servers {
+        return None;
+    }
+    Some(Ends {
+        client: joined.client,
+        server: joined.server,
+        at_client: joined.at_client,
+        at_server: joined.at_server,
+        client_open: joined.lists.client_open,
+        server_open: joined.lists.server_open,
+    })
+}

@@ -1,0 +1,45 @@
+//! The logs of all lives of servers, by life. A life without a log has none that grows.
+ghost use Rattle.std.specs.Prelude.{◌≡◌, ◌++◌, ◌+◌, ◌≤◌, OnOk, length, map, vec_capacity, vec_len};
+ghost use Rattle.ca_model_world.specs.World.{grown};
+ghost use Rattle.ca_world_data.specs.Opening.{entries_in};
+ghost use Rattle.ca_world_data.specs.Seen.{entry_of};
+ghost use Rattle.ca_world_data.specs.ServerCuts.{HasRoomFor};
+
+use crate::history::Entry;
+use std::alloc::AllocError;
+
+/// Makes room for so many more entries in the log of a life.
+pub fn reserve_entries(
+    logs: &mut Vec<Vec<Entry>>,
+    life: usize,
+    entries: usize,
+) -> Result<(), AllocError>
+    ensures same { entries_in logs.new.items ≡ entries_in logs.old.items }
+    ensures room { OnOk result (HasRoomFor entries life logs.new.items) }
+{
+    if life < logs.len() {
+        logs[life].reserve(entries)?;
+    }
+    Ok(())
+}
+
+/// Puts entries behind those of a life's log, in which there is room.
+pub fn push_entries(logs: &mut Vec<Vec<Entry>>, life: usize, entries: Vec<Entry>)
+    requires { HasRoomFor (length entries.items) life logs.old.items }
+    ensures { entries_in logs.new.items
+        ≡ grown life (map entry_of entries.items) (entries_in logs.old.items) }
+{
+    if life < logs.len() {
+        push_all(&mut logs[life], entries);
+    }
+}
+
+// Puts entries behind others. There is room for them.
+fn push_all(log: &mut Vec<Entry>, entries: Vec<Entry>)
+    requires { vec_len log.old + length entries.items ≤ vec_capacity log.old }
+    ensures { log.new.items ≡ log.old.items ++ entries.items }
+{
+    for entry in entries {
+        log.push_reserved(entry);
+    }
+}

@@ -1,0 +1,76 @@
+//! What a client's core reports goes into the log of its life, in which there is room.
+ghost use Rattle.std.specs.Prelude.{◌≡◌, ◌++◌, ◌+◌, ◌≤◌, length, map, vec_capacity, vec_len};
+ghost use Rattle.ca_model_world.specs.ClientEvents as world;
+ghost use Rattle.ca_model_world.specs.World.{grown};
+ghost use Rattle.ca_world_data.specs.Logs.{HasRoom, lines_in};
+ghost use Rattle.ca_world_data.specs.Seen.{intent_of, line_of, names_of};
+ghost use Rattle.ca_world_data.specs.Telling.{call_lines};
+
+use crate::client::Names;
+use crate::history::{Intent, Line};
+use crate::naming::line_for;
+use ca_client_core::Notices;
+
+/// Puts these notices into the log, where the message that the client read was about one that was meant so.
+pub fn tell_all(
+    logs: &mut Vec<Vec<Line>>,
+    life: usize,
+    about: Intent,
+    names: &Names,
+    notices: Notices,
+)
+    requires { HasRoom (length notices) life logs.old.items }
+    ensures { lines_in logs.new.items
+        ≡ grown
+        life
+        (world.lines_of (intent_of about) (names_of names.now) notices)
+        (lines_in logs.old.items) }
+{
+    if life < logs.len() {
+        tell_in(&mut logs[life], about, names, notices);
+    }
+}
+
+/// Puts the line of a call into the log, and then what the call told.
+pub fn tell_call(
+    logs: &mut Vec<Vec<Line>>,
+    life: usize,
+    line: Line,
+    names: &Names,
+    notices: Notices,
+)
+    requires { HasRoom (length notices + 1) life logs.old.items }
+    ensures { lines_in logs.new.items
+        ≡ grown
+        life
+        (call_lines (line_of line) (names_of names.now) notices)
+        (lines_in logs.old.items) }
+{
+    if life < logs.len() {
+        call_in(&mut logs[life], line, names, notices);
+    }
+}
+
+// The same in the log itself.
+fn call_in(log: &mut Vec<Line>, line: Line, names: &Names, notices: Notices)
+    requires { vec_len log.old + (length notices + 1) ≤ vec_capacity log.old }
+    ensures { map line_of log.new.items
+        ≡ map line_of log.old.items
+        ++ call_lines (line_of line) (names_of names.now) notices }
+{
+    log.push_reserved(line);
+    tell_in(log, Intent::OfCircuit, names, notices);
+}
+
+// Puts these notices into the log. There is room for them.
+fn tell_in(log: &mut Vec<Line>, about: Intent, names: &Names, notices: Notices)
+    requires { vec_len log.old + length notices ≤ vec_capacity log.old }
+    ensures { map line_of log.new.items
+        ≡ map line_of log.old.items
+        ++ world.lines_of (intent_of about) (names_of names.now) notices }
+{
+    let mut notices = notices;
+    while let Some(notice) = notices.next() {
+        log.push_reserved(line_for(names, about, notice));
+    }
+}

@@ -1,0 +1,154 @@
+//! Where a client's messages on a channel go, with room for what a call leaves in the histories.
+ghost use Rattle.std.specs.Prelude.{◌≡◌, ◌+◌, ◌≤◌, MatchResult, OnOk, map, vec_capacity, vec_len};
+ghost use Rattle.ca_ids.specs.Wire.{wire_of};
+ghost use Rattle.ca_world_data.specs.Found.{AreNumbered};
+ghost use Rattle.ca_world_data.specs.Logs.{HasRoom, lines_in};
+ghost use Rattle.ca_world_data.specs.Seen.{client_of, joined_of, sent_of};
+ghost use Rattle.ca_world_data.specs.Speaking.{GoesUp, HasRoomUp, IsReady, IsUnready, IsWay, with_up};
+
+use crate::client::ClientSide;
+use crate::found::circuit_of;
+use crate::history::{Line, Sent};
+use crate::joined::Joined;
+use crate::logs::reserve_lines;
+use ca_arena::Handle;
+use ca_client_core::for_histories::live_on;
+use ca_ids::WireId;
+use ca_text::Refusal;
+use ca_wire::{Ioid, Sid, Wanted};
+use std::alloc::AllocError;
+
+/// Where messages on a channel go: on which circuit of the world, under which SID, and with how many elements at most.
+#[derive(Clone, Copy)]
+pub struct Way {
+    pub circuit: Option<usize>,
+    pub sid: u32,
+    pub count: u32,
+}
+
+/// Where messages on this channel go, if it is live.
+pub fn way_of(client: usize, side: &ClientSide, circuits: &[Joined], channel: Handle) -> Way
+    requires { AreNumbered side.now.circuits.items (map joined_of circuits.now) client }
+    ensures { IsWay side.now.core (map joined_of circuits.now) client channel result }
+{
+    match live_on(&side.core, channel) {
+        Some(live) => Way {
+            circuit: circuit_of(&side.circuits, circuits, client, live.circuit),
+            sid: live.sid,
+            count: live.count,
+        },
+        None => Way {
+            circuit: None,
+            sid: 0,
+            count: 0,
+        },
+    }
+}
+
+/// What a request on a channel names, under the id of this handle.
+pub fn wanted_on(sid: u32, id: Handle, data_type: u16, count: u32) -> Wanted
+    ensures { result
+        ≡ record { sid = sid; id = wire_of id; data_type = data_type; count = count } }
+{
+    Wanted {
+        sid: Sid::new(sid),
+        id: Ioid::new(WireId::of(id).number()),
+        data_type,
+        count,
+    }
+}
+
+/// Makes room for so many more messages of the client on a circuit, if there is one.
+pub fn reserve_sent(
+    circuits: &mut Vec<Joined>,
+    circuit: Option<usize>,
+    messages: usize,
+) -> Result<(), AllocError>
+    ensures same { map joined_of circuits.new.items ≡ map joined_of circuits.old.items }
+    ensures room { OnOk result (HasRoomUp messages circuit circuits.new.items) }
+{
+    let Some(number) = circuit else {
+        return Ok(());
+    };
+    if number < circuits.len() {
+        reserve_up(&mut circuits[number], messages)?;
+    }
+    Ok(())
+}
+
+// Makes room for so many more messages of the client.
+fn reserve_up(joined: &mut Joined, messages: usize) -> Result<(), AllocError>
+    ensures same { joined_of joined.new ≡ joined_of joined.old }
+    ensures room { OnOk result (vec_len joined.new.lists.up + messages
+        ≤ vec_capacity joined.new.lists.up) }
+{
+    joined.lists.up.reserve(messages)
+}
+
+/// Puts a message behind those of the client on a circuit, if there is one. There is room for it.
+pub fn push_sent(circuits: &mut Vec<Joined>, circuit: Option<usize>, sent: Sent)
+    requires { HasRoomUp 1 circuit circuits.old.items }
+    ensures { GoesUp
+        circuit
+        (sent_of sent)
+        (map joined_of circuits.old.items)
+        (map joined_of circuits.new.items) }
+{
+    let Some(number) = circuit else {
+        return;
+    };
+    if number < circuits.len() {
+        push_up(&mut circuits[number], sent);
+    }
+}
+
+// Puts a message behind those of the client. There is room for it.
+fn push_up(joined: &mut Joined, sent: Sent)
+    requires { vec_len joined.old.lists.up + 1 ≤ vec_capacity joined.old.lists.up }
+    ensures { joined_of joined.new ≡ with_up (sent_of sent) (joined_of joined.old) }
+{
+    joined.lists.up.push_reserved(sent);
+}
+
+/// The handle of a channel, and the way of messages on it, with room for what a call leaves.
+///
+/// Refused as BadEvent if no channel has this number, then as OutOfMemory.
+pub fn prepare(
+    client: usize,
+    side: &mut ClientSide,
+    circuits: &mut Vec<Joined>,
+    logs: &mut Vec<Vec<Line>>,
+    channel: usize,
+) -> Result<(Handle, Way), Refusal>
+    requires { AreNumbered side.old.circuits.items (map joined_of circuits.old.items) client }
+    ensures side { client_of side.new ≡ client_of side.old }
+    ensures numbers { side.new.circuits.items ≡ side.old.circuits.items }
+    ensures circuits { map joined_of circuits.new.items ≡ map joined_of circuits.old.items }
+    ensures logs { lines_in logs.new.items ≡ lines_in logs.old.items }
+    ensures ready { MatchResult result
+        (IsReady client channel side.new circuits.new.items logs.new.items)
+        (IsUnready channel (client_of side.old)) }
+{
+    if channel >= side.names.channels.len() {
+        return Err(Refusal::BadEvent);
+    }
+    let handle = side.names.channels[channel];
+    let way = way_of(client, side, circuits, handle);
+    reserve_names(side)?;
+    reserve_lines(logs, side.life, 1)?;
+    reserve_sent(circuits, way.circuit, 1)?;
+    Ok((handle, way))
+}
+
+// Makes room for one more request, and for one more subscription.
+fn reserve_names(side: &mut ClientSide) -> Result<(), AllocError>
+    ensures side { client_of side.new ≡ client_of side.old }
+    ensures numbers { side.new.circuits.items ≡ side.old.circuits.items }
+    ensures requests { OnOk result (vec_len side.new.names.requests + 1
+        ≤ vec_capacity side.new.names.requests) }
+    ensures subscriptions { OnOk result (vec_len side.new.names.subscriptions + 1
+        ≤ vec_capacity side.new.names.subscriptions) }
+{
+    side.names.requests.reserve(1)?;
+    side.names.subscriptions.reserve(1)
+}
