@@ -91,34 +91,34 @@ unchanged on x y e sent sound same =
 
 -- ---- calls that are refused
 
-opens-not : (x y : Client) (a : Opening) (sent : List Sending) (r : Refusal) → ClientOpens x a (Err r) sent y → IsUnchanged x sent y
+pub opens-not : (x y : Client) (a : Opening) (sent : List Sending) (r : Refusal) → ClientOpens x a (Err r) sent y → IsUnchanged x sent y
 opens-not x y a sent refusal.NameLength does = does.1
 opens-not x y a sent refusal.BadPriority does = does.2
 opens-not x y a sent refusal.ArenaFull does = does.2
 opens-not x y a sent refusal.OutOfMemory does = does.2
 opens-not x y a sent _ does = absurd does
 
-reads-not : (x y : Client) (h : Handle) (a : Shape) (sent : List Sending) (r : Refusal) → ClientReads x h a (Err r) sent y → IsUnchanged x sent y
+pub reads-not : (x y : Client) (h : Handle) (a : Shape) (sent : List Sending) (r : Refusal) → ClientReads x h a (Err r) sent y → IsUnchanged x sent y
 reads-not x y h a sent refusal.OutOfMemory does = does.1
 reads-not x y h a sent _ does = does.1
 
-writes-not : (x y : Client) (h : Handle) (v : Elements) (sent : List Sending) (r : Refusal) → ClientWrites x h v (Err r) sent y → IsUnchanged x sent y
+pub writes-not : (x y : Client) (h : Handle) (v : Elements) (sent : List Sending) (r : Refusal) → ClientWrites x h v (Err r) sent y → IsUnchanged x sent y
 writes-not x y h v sent refusal.OutOfMemory does = does.1
 writes-not x y h v sent _ does = does.1
 
-puts-not : (x y : Client) (h : Handle) (v : Elements) (sent : List Sending) (r : Refusal) → ClientPuts x h v (Err r) sent y → IsUnchanged x sent y
+pub puts-not : (x y : Client) (h : Handle) (v : Elements) (sent : List Sending) (r : Refusal) → ClientPuts x h v (Err r) sent y → IsUnchanged x sent y
 puts-not x y h v sent refusal.OutOfMemory does = does.1
 puts-not x y h v sent _ does = does.1
 
-subscribes-not : (x y : Client) (h : Handle) (a : Shape) (mask : ℕ) (sent : List Sending) (r : Refusal) → ClientSubscribes x h a mask (Err r) sent y → IsUnchanged x sent y
+pub subscribes-not : (x y : Client) (h : Handle) (a : Shape) (mask : ℕ) (sent : List Sending) (r : Refusal) → ClientSubscribes x h a mask (Err r) sent y → IsUnchanged x sent y
 subscribes-not x y h a mask sent refusal.OutOfMemory does = does.1
 subscribes-not x y h a mask sent _ does = does.1
 
-unsubscribes-not : (x y : Client) (g : Handle) (sent : List Sending) (r : Refusal) → ClientUnsubscribes x g (Err r) sent y → IsUnchanged x sent y
+pub unsubscribes-not : (x y : Client) (g : Handle) (sent : List Sending) (r : Refusal) → ClientUnsubscribes x g (Err r) sent y → IsUnchanged x sent y
 unsubscribes-not x y g sent refusal.OutOfMemory does = does.5
 unsubscribes-not x y g sent _ does = does.1
 
-clears-not : (x y : Client) (h : Handle) (sent : List Sending) (r : Refusal) → ClientClears x h (Err r) sent y → IsUnchanged x sent y
+pub clears-not : (x y : Client) (h : Handle) (sent : List Sending) (r : Refusal) → ClientClears x h (Err r) sent y → IsUnchanged x sent y
 clears-not x y h sent refusal.StaleHandle does = does.1
 clears-not x y h sent refusal.OutOfMemory does = does.2
 clears-not x y h sent _ does = absurd does

@@ -13,3 +13,4 @@ mod Reading
 mod Connecting
 mod ClientCalls
 mod Stepping
+mod Saying

@@ -1,2 +1,3 @@
 pub mod Conduct
 pub mod ClientRows
+pub mod ClientSends

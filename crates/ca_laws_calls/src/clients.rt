@@ -5,6 +5,7 @@ ghost use Rattle.ca_model.specs.Answers.{Sending, Stepped};
 ghost use Rattle.ca_model.specs.Client.{Client};
 ghost use Rattle.ca_model.specs.ClientEnds.{ClientSteps};
 ghost use Rattle.ca_laws_calls.specs.ClientRows.{ClientsSendLegally, Reads};
+ghost use Rattle.ca_laws_calls.specs.ClientSends.{AddsAreSent, RequestsAreSentOnce};
 
 /// Over any row of calls of one client's core, with whatever its peers send: what it sends on each
 /// circuit is legal, said by ids alone. Messages on a channel go out under the SID that the reply to its
@@ -24,4 +25,12 @@ pub fn a_clients_steps_are_those_of_rows()
     ensures only { (old : Client) (c : Handle) (read : Option Fields) (answer : Stepped)
         (sent : List Sending) (new : Client) → Reads old c read answer sent new
         → ClientSteps old c answer sent new }
+{}
+
+/// A read, a put with notification and a plain write go out in their own call, once, and in no other. An
+/// EVENT_ADD goes out in its own call, or as its channel comes to be live, also on another circuit: then for
+/// each subscription that stands on that channel, and for no other, under its own id and the new SID.
+pub fn which_call_sends_what()
+    ensures requests { RequestsAreSentOnce }
+    ensures subscriptions { AddsAreSent }
 {}

@@ -5,4 +5,6 @@
 
 mod clients;
 
-pub use clients::{a_clients_steps_are_those_of_rows, what_a_client_sends_is_legal};
+pub use clients::{
+    a_clients_steps_are_those_of_rows, what_a_client_sends_is_legal, which_call_sends_what,
+};
