@@ -37,13 +37,15 @@ pub record Did : Type 0 where
   pub read : Option Fields
   pub sent : List Fields
 
+-- it did nothing there
 abbrev pub nothing : Did
 nothing = record { read = None; sent = [] }
 
+-- it read nothing, and sent these messages
 abbrev pub only_sent : List Fields → Did
 only_sent sent = record { read = None; sent = sent }
 
--- what was done on this circuit, of what was done on another or on it
+-- What was done on circuit c, if this was done on circuit h.
 abbrev pub on_circuit : (c h : Handle) → Did → Did
 on_circuit c h d = if same_handle h c then d else nothing
 
