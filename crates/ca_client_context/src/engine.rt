@@ -28,8 +28,7 @@ pub trait Work: Drop {
 
 /// Starts a thread for the work: for a client's engine, its thread of input and output. Refused as Device if the system has none.
 ///
-/// The call stands where the runtime's type is known, as in `main`: a thread that connects circuits cannot be started by a function
-/// that has the runtime's type as a parameter.
+/// A function that is generic in the runtime names its streams for this call: `R: Net<Stream = TcpStream, Listener = TcpListener>`, those of std.
 pub fn start<R: Threads + Wait + Clock + Copy + Send + 'static, W: Work + Send + 'static>(
     rt: R,
     work: W,

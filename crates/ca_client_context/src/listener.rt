@@ -9,6 +9,14 @@ pub trait Listener: Drop {
     fn heard(&mut self, outcome: &Outcome);
 }
 
+/// The listener of a client that subscribes to nothing.
+#[derive(Clone, Copy, Drop)]
+pub struct Nobody;
+
+impl Listener for Nobody {
+    fn heard(&mut self, _outcome: &Outcome) {}
+}
+
 // A listener, and the subscription that it hears.
 #[derive(Drop)]
 pub(crate) struct Ear<L: Listener> {

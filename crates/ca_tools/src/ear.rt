@@ -7,9 +7,9 @@ use std::alloc::{AllocError, Global};
 // Updates that wait to be printed, at most.
 const UPDATES: usize = 1_024;
 
-/// Hears the updates of a monitor, and hands them over to the thread that prints them. One for which there is no room or no memory is left out.
+// Hears the updates of a monitor, and hands them over to the thread that prints them. One for which there is no room or no memory is left out.
 #[derive(Drop)]
-pub struct Ear {
+pub(crate) struct Ear {
     alloc: Global,
     heard: Producer<Outcome>,
 }

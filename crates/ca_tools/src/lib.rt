@@ -12,9 +12,8 @@ mod tool;
 mod tool_line;
 mod turns;
 
-pub use ear::Ear;
 pub use line::{ServeLine, read_serve};
 pub use program::{run, takes};
 pub use serving::serve_run;
-pub use tool::{Tool, begin, is_tool};
+pub use tool::tool_run;
 pub use tool_line::{Task, ToolLine, Verb, read_tool, verb_of};

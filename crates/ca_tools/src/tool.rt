@@ -1,12 +1,12 @@
 use crate::ear::{Ear, new_ear};
 use crate::printing::{print_done, print_value};
-use crate::tool_line::{Task, ToolLine, Verb, read_tool, verb_of};
+use crate::tool_line::{Task, ToolLine};
 use crate::turns::{TURN, Turns};
-use ca::{not_understood, report};
+use ca::report;
 use ca_arena::Handle;
 use ca_board::Ticket;
 use ca_client::Caller;
-use ca_client_context::{Context, Engine, Setting};
+use ca_client_context::{Context, Engine, Setting, start};
 use ca_client_core::{Address, ChannelState};
 use ca_dbr::{Outcome, Value};
 use ca_link::Sink;
@@ -14,69 +14,73 @@ use ca_text::{ChannelName, Mask, Refusal};
 use rtrb::Consumer;
 use std::alloc::Global;
 use std::io::Write;
-use std::net::{Net, SocketAddrV4};
+use std::net::{Net, SocketAddrV4, TcpListener, TcpStream};
 use std::sync::Wait;
 use std::thread;
+use std::thread::Threads;
 use std::time::{Clock, Duration};
 
 // The mask of posts of values.
 const VALUES: u16 = 1;
 
-/// A tool that has its sockets: `get`, `put` or `monitor`.
-#[derive(Drop)]
-pub struct Tool<'a> {
-    line: ToolLine<'a>,
-    context: Context<Ear>,
+/// Reads, puts or monitors a channel: tells on the sink what came, and a refusal on `err`, and returns the exit status.
+pub fn tool_run<
+    R: Threads
+        + Wait
+        + Clock
+        + Net<Stream = TcpStream, Listener = TcpListener>
+        + Copy
+        + Drop
+        + Send
+        + 'static,
+    K: Sink,
+    W: Write,
+>(rt: R, alloc: Global, line: ToolLine<'_>, sink: &mut K, err: &mut W) -> u8 {
+    let outcome = used(rt, alloc, line, sink);
+    report(outcome, err)
 }
 
-/// Whether the words after the program's name are for `begin`: the first is the name of a tool.
-pub fn is_tool(words: &[String]) -> bool {
-    named(words).is_some()
-}
-
-// The tool that the first of the words names.
-fn named(words: &[String]) -> Option<Verb> {
-    verb_of(words.first()?.as_str())
-}
-
-/// Begins a tool by the words after the program's name: with it comes its thread of input and output, which is to be started. The words are
-/// judged first, then the name, and then sockets are made. Where it cannot begin, it says so on `err`, and returns the exit status.
-pub fn begin<'a, R: Net + Clock + Copy + Drop, W: Write>(
-    rt: R,
-    alloc: Global,
-    words: &'a [String],
-    err: &mut W,
-) -> Result<(Tool<'a>, Engine<R, Ear>), u8> {
-    match understood(alloc, words) {
-        Ok(Some(line)) => match opened(rt, alloc, line) {
-            Ok(begun) => Ok(begun),
-            Err(refusal) => Err(report(Err(refusal), err)),
-        },
-        Ok(None) => Err(not_understood(err)),
-        Err(refusal) => Err(report(Err(refusal), err)),
-    }
-}
-
-// The line that the words are, if they are understood.
-fn understood<'a>(alloc: Global, words: &'a [String]) -> Result<Option<ToolLine<'a>>, Refusal> {
-    let Some(verb) = named(words) else {
-        return Ok(None);
-    };
-    match words.split_first() {
-        Some((_, rest)) => read_tool(alloc, verb, rest),
-        None => Ok(None),
-    }
-}
-
-fn opened<'a, R: Net + Clock + Copy + Drop>(
-    rt: R,
-    alloc: Global,
-    line: ToolLine<'a>,
-) -> Result<(Tool<'a>, Engine<R, Ear>), Refusal> {
+// The name is judged first, then sockets are made. The thread of input and output is joined.
+fn used<
+    R: Threads
+        + Wait
+        + Clock
+        + Net<Stream = TcpStream, Listener = TcpListener>
+        + Copy
+        + Drop
+        + Send
+        + 'static,
+    K: Sink,
+>(rt: R, alloc: Global, line: ToolLine<'_>, sink: &mut K) -> Result<(), Refusal> {
     ChannelName::read(line.name.as_bytes())?;
     let setting = setting_of(alloc, line.server)?;
     let (context, engine) = Context::new(rt, alloc, setting)?;
-    Ok((Tool { line, context }, engine))
+    run_beside(rt, alloc, &context, engine, line, sink)
+}
+
+fn run_beside<
+    R: Threads
+        + Wait
+        + Clock
+        + Net<Stream = TcpStream, Listener = TcpListener>
+        + Copy
+        + Drop
+        + Send
+        + 'static,
+    K: Sink,
+>(
+    rt: R,
+    alloc: Global,
+    context: &Context<Ear>,
+    engine: Engine<R, Ear>,
+    line: ToolLine<'_>,
+    sink: &mut K,
+) -> Result<(), Refusal> {
+    let thread = start(rt, engine)?;
+    let outcome = done(&rt, alloc, context, line, sink);
+    context.end(&rt);
+    thread.join(&rt);
+    outcome
 }
 
 // A client that searches at one place.
@@ -94,22 +98,6 @@ fn address_of(server: SocketAddrV4) -> Address {
     Address {
         host: server.ip().to_bits(),
         port: server.port(),
-    }
-}
-
-impl<'a> Tool<'a> {
-    /// Does what the words say while the thread of input and output runs, has that thread end, and returns the exit status.
-    pub fn run<R: Wait + Clock, K: Sink, W: Write>(
-        self,
-        rt: &R,
-        alloc: Global,
-        sink: &mut K,
-        err: &mut W,
-    ) -> u8 {
-        let Tool { line, context } = self;
-        let outcome = done(rt, alloc, &context, line, sink);
-        context.end(rt);
-        report(outcome, err)
     }
 }
 
