@@ -187,14 +187,14 @@ impl<L: Listener> Context<L> {
     ) -> Option<Outcome> {
         for _ in 0..turns {
             let seen = self.shared.turns(rt);
-            if let Some(outcome) = caller.collect(ticket) {
+            if let Some(outcome) = self.collect(caller, ticket) {
                 return Some(outcome);
             }
             if self.shared.park(rt, seen) {
                 break;
             }
         }
-        caller.collect(ticket)
+        self.collect(caller, ticket)
     }
 
     /// Waits until a channel is live, for at most so many turns of the thread of input and output, and says whether it is.

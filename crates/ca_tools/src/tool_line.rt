@@ -1,3 +1,6 @@
+ghost use Rattle.std.specs.Prelude.{◌≡◌, MatchOption, codes};
+ghost use Rattle.ca_tools.specs.Tools.{name_of};
+
 use ca_script::decimal;
 use ca_text::Refusal;
 use clap::error::ErrorKind;
@@ -41,13 +44,22 @@ pub enum Verb {
 }
 
 /// The tool of this name, if it is one's.
-pub fn verb_of(word: &str) -> Option<Verb> {
-    match word {
-        "get" => Some(Verb::Get),
-        "put" => Some(Verb::Put),
-        "monitor" => Some(Verb::Monitor),
-        _ => None,
+pub fn verb_of(word: &str) -> Option<Verb>
+    ensures { MatchOption result ((word.now ≡ codes "get" → ⊥)
+        × (word.now ≡ codes "put" → ⊥)
+        × (word.now ≡ codes "monitor" → ⊥))
+        (λ verb. word.now ≡ name_of verb) }
+{
+    if word == "get" {
+        return Some(Verb::Get);
     }
+    if word == "put" {
+        return Some(Verb::Put);
+    }
+    if word == "monitor" {
+        return Some(Verb::Monitor);
+    }
+    None
 }
 
 /// Reads the words after the name of a tool: none if they are not understood.
