@@ -268,15 +268,7 @@ fn supply<
     if writeln!(out, "{port}").is_err() {
         return Err(Refusal::Device);
     }
-    serve(
-        rt,
-        alloc,
-        places,
-        &records,
-        Vec::new(alloc),
-        Prompt,
-        None,
-    )?;
+    serve(rt, alloc, places, &records, Vec::new(alloc), Prompt, None)?;
     Ok(())
 }
 

@@ -176,7 +176,11 @@ fn talk<R: Wait + Clock, W: Write>(
     say(out, "read", &context.wait(rt, &mut caller, ticket, TURNS))?;
     let value = Value::Longs(vec![in alloc; 42]?);
     let ticket = context.put_notify(rt, channel, value)?;
-    say(out, "written", &context.wait(rt, &mut caller, ticket, TURNS))?;
+    say(
+        out,
+        "written",
+        &context.wait(rt, &mut caller, ticket, TURNS),
+    )?;
     let ticket = context.get(rt, channel, 5, 1)?;
     say(out, "read", &context.wait(rt, &mut caller, ticket, TURNS))
 }

@@ -187,7 +187,10 @@ fn threads_share_a_client_over_loopback(rt: HostRuntime) -> Result<(), Fail> {
         for thread in threads {
             thread.join(&rt);
         }
-        assert_eq!(rt; refusal_of(&rt, &context, NOTHING), Some(Refusal::StaleHandle));
+        assert_eq!(rt;
+            refusal_of(&rt, &context, NOTHING),
+            Some(Refusal::StaleHandle)
+        );
     }
     context.end(&rt);
     engine.join(&rt);
@@ -264,7 +267,10 @@ fn ask_all<R: Wait>(
         let ticket = context.get(rt, wave, 5, count)?;
         tickets.push(ticket)?;
     }
-    match (refusal_of(rt, context, wave), refusal_of(rt, context, NOTHING)) {
+    match (
+        refusal_of(rt, context, wave),
+        refusal_of(rt, context, NOTHING),
+    ) {
         (Some(Refusal::NoCell), Some(Refusal::NoCell)) => Ok(tickets),
         _ => Err(Refusal::BadEvent),
     }
