@@ -1,3 +1,5 @@
+ghost use Rattle.std.specs.Prelude.{◌≤◌};
+
 use ca_answer::answer_stream;
 use ca_arena::Handle;
 use ca_board::Ticket;
@@ -111,7 +113,7 @@ fn longs_in(outcome: &Option<Outcome>) -> Option<usize> {
 
 fn is_long(outcome: &Option<Outcome>, wanted: i32) -> bool {
     match outcome {
-        Some(Outcome::Value(Value::Longs(longs), _)) => longs.as_slice() == &[wanted],
+        Some(Outcome::Value(Value::Longs(longs), _)) => longs.as_slice() == [wanted].as_slice(),
         _ => false,
     }
 }
