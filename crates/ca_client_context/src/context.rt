@@ -23,10 +23,10 @@ const WAKER: Token = Token(0);
 
 const DATAGRAMS: Token = Token(1);
 
-/// A client that threads share.
+/// A client that threads share, whose subscriptions are heard by an `L` each.
 #[derive(Drop)]
-pub struct Context {
-    shared: Arc<Shared>,
+pub struct Context<L: Listener> {
+    shared: Arc<Shared<L>>,
     began: Instant,
 }
 
@@ -45,7 +45,7 @@ pub struct Setting {
     pub repeater: Option<Address>,
 }
 
-impl Context {
+impl<L: Listener> Context<L> {
     /// A client, and the work of its thread of input and output, which `start` starts.
     ///
     /// Refused as `ClientCore::new`, as Device if the system refuses a socket, and as OutOfMemory.
@@ -53,7 +53,7 @@ impl Context {
         rt: R,
         alloc: Global,
         setting: Setting,
-    ) -> Result<(Context, Engine<R>), Refusal> {
+    ) -> Result<(Context<L>, Engine<R, L>), Refusal> {
         let Setting {
             user,
             host,
@@ -142,8 +142,8 @@ impl Context {
         data_type: u16,
         count: u32,
         mask: Mask,
-        listener: Box<dyn Listener + Send>,
-    ) -> Result<Handle, (Box<dyn Listener + Send>, Refusal)> {
+        listener: L,
+    ) -> Result<Handle, (L, Refusal)> {
         let added = self
             .shared
             .locked
@@ -187,14 +187,14 @@ impl Context {
     ) -> Option<Outcome> {
         for _ in 0..turns {
             let seen = self.shared.turns(rt);
-            if let Some(outcome) = caller.collect(ticket) {
+            if let Some(outcome) = self.collect(caller, ticket) {
                 return Some(outcome);
             }
             if self.shared.park(rt, seen) {
                 break;
             }
         }
-        caller.collect(ticket)
+        self.collect(caller, ticket)
     }
 
     /// Waits until a channel is live, for at most so many turns of the thread of input and output, and says whether it is.
@@ -229,15 +229,15 @@ impl Context {
     }
 }
 
-impl Locked {
+impl<L: Listener> Locked<L> {
     fn monitor(
         &mut self,
         channel: Handle,
         data_type: u16,
         count: u32,
         mask: Mask,
-        listener: Box<dyn Listener + Send>,
-    ) -> Result<Handle, (Box<dyn Listener + Send>, Refusal)> {
+        listener: L,
+    ) -> Result<Handle, (L, Refusal)> {
         if self.changes.reserve(1).is_err() {
             return Err((listener, Refusal::OutOfMemory));
         }
@@ -263,22 +263,22 @@ impl Locked {
 
 // What an engine is made of, beside the client's state.
 #[derive(Drop)]
-struct Parts {
+struct Parts<L: Listener> {
     poll: Poll,
     waker: Waker,
     datagrams: UdpSocket,
     events: Events<Global>,
-    ears: Ears,
+    ears: Ears<L>,
     began: Instant,
 }
 
-impl Parts {
+impl<L: Listener> Parts<L> {
     // A register goes to the repeater, if there is one.
     fn new<R: Net + Clock>(
         rt: &R,
         alloc: Global,
         repeater: Option<Address>,
-    ) -> Result<Parts, Refusal> {
+    ) -> Result<Parts<L>, Refusal> {
         let Ok(began) = Instant::now(rt) else {
             return Err(Refusal::Device);
         };
@@ -299,12 +299,12 @@ impl Parts {
     }
 }
 
-fn joined<R: Net + Clock + Copy + Drop>(
+fn joined<R: Net + Clock + Copy + Drop, L: Listener>(
     rt: R,
     alloc: Global,
     desk: Desk,
-    parts: Parts,
-) -> Result<(Context, Engine<R>), Refusal> {
+    parts: Parts<L>,
+) -> Result<(Context<L>, Engine<R, L>), Refusal> {
     let Parts {
         poll,
         waker,

@@ -1,6 +1,6 @@
 use crate::addresses::{from_system, to_system};
 use crate::links::{Link, Tries, close_all, connect, forget, serve};
-use crate::listener::Ears;
+use crate::listener::{Ears, Listener};
 use crate::shared::{Locked, Shared};
 use ca_client::{Answer, Ask, Desk, Told};
 use ca_client_core::{Notice, Ticked};
@@ -28,8 +28,7 @@ pub trait Work: Drop {
 
 /// Starts a thread for the work: for a client's engine, its thread of input and output. Refused as Device if the system has none.
 ///
-/// The call stands where the runtime's type is known, as in `main`: a thread that connects circuits cannot be started by a function
-/// that has the runtime's type as a parameter.
+/// A function that is generic in the runtime names its streams for this call: `R: Net<Stream = TcpStream, Listener = TcpListener>`, those of std.
 pub fn start<R: Threads + Wait + Clock + Copy + Send + 'static, W: Work + Send + 'static>(
     rt: R,
     work: W,
@@ -42,21 +41,21 @@ pub fn start<R: Threads + Wait + Clock + Copy + Send + 'static, W: Work + Send +
 
 /// What the thread of input and output alone uses: its work is that thread.
 #[derive(Drop)]
-pub struct Engine<N: Net + Drop> {
+pub struct Engine<N: Net + Drop, L: Listener> {
     // Where it connects circuits.
     pub(crate) net: N,
-    pub(crate) shared: Arc<Shared>,
+    pub(crate) shared: Arc<Shared<L>>,
     pub(crate) poll: Poll,
     pub(crate) events: Events<Global>,
     pub(crate) datagrams: UdpSocket,
     pub(crate) links: Vec<Link>,
     pub(crate) tries: Tries,
-    pub(crate) ears: Ears,
+    pub(crate) ears: Ears<L>,
     pub(crate) told: Vec<Told>,
     pub(crate) began: Instant,
 }
 
-impl<N: Net + Drop> Work for Engine<N> {
+impl<N: Net + Drop, L: Listener> Work for Engine<N, L> {
     // The thread of input and output.
     fn run<R: Wait + Clock>(self, rt: &R) {
         let Engine {
@@ -107,14 +106,14 @@ pub(crate) fn moment<R: Clock>(rt: &R, start: &Instant) -> u64 {
 }
 
 // One turn, under the lock. It says whether there may be more to do at once.
-fn turn<N: Net>(
+fn turn<N: Net, L: Listener>(
     net: &N,
-    locked: &mut Locked,
+    locked: &mut Locked<L>,
     poll: &Poll,
     datagrams: &UdpSocket,
     links: &mut Vec<Link>,
     tries: &mut Tries,
-    ears: &mut Ears,
+    ears: &mut Ears<L>,
     told: &mut Vec<Told>,
     now: u64,
 ) -> bool {
@@ -159,21 +158,21 @@ fn tick(desk: &mut Desk, datagrams: &UdpSocket, links: &mut Vec<Link>, now: u64)
 }
 
 // Tells the listeners, in order.
-fn tell_all(ears: &mut Ears, told: &mut Vec<Told>) {
+fn tell_all<L: Listener>(ears: &mut Ears<L>, told: &mut Vec<Told>) {
     for index in 0..told.len() {
         tell_each(ears, &mut told[index]);
     }
     told.clear();
 }
 
-fn tell_each(ears: &mut Ears, notices: &mut Told) {
+fn tell_each<L: Listener>(ears: &mut Ears<L>, notices: &mut Told) {
     while let Some(notice) = notices.next() {
         tell(ears, &notice);
     }
 }
 
 // Channels that are live or lost are seen by `wait_live` and `channel_state`.
-fn tell(ears: &mut Ears, notice: &Notice) {
+fn tell<L: Listener>(ears: &mut Ears<L>, notice: &Notice) {
     match notice {
         Notice::Update(subscription, outcome) => ears.tell(*subscription, outcome),
         Notice::SubscriptionEnded(subscription, status) => {

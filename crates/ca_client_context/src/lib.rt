@@ -11,7 +11,7 @@
 //!         names: Vec::new(alloc),
 //!         repeater: None,
 //!     };
-//!     let (context, engine) = Context::new(rt, alloc, setting)?;
+//!     let (context, engine) = Context::<Nobody>::new(rt, alloc, setting)?;
 //!     let thread = start(rt, engine)?;
 //!     let mut caller = context.caller(&rt)?;
 //!     let channel = context.open(&rt, b"TEMP", 0)?;
@@ -39,4 +39,4 @@ mod shared;
 
 pub use context::{Context, Setting};
 pub use engine::{Engine, Work, start};
-pub use listener::Listener;
+pub use listener::{Listener, Nobody};

@@ -9,30 +9,38 @@ pub trait Listener: Drop {
     fn heard(&mut self, outcome: &Outcome);
 }
 
+/// The listener of a client that subscribes to nothing.
+#[derive(Clone, Copy, Drop)]
+pub struct Nobody;
+
+impl Listener for Nobody {
+    fn heard(&mut self, _outcome: &Outcome) {}
+}
+
 // A listener, and the subscription that it hears.
 #[derive(Drop)]
-pub(crate) struct Ear {
+pub(crate) struct Ear<L: Listener> {
     pub(crate) subscription: Handle,
-    pub(crate) listener: Box<dyn Listener + Send>,
+    pub(crate) listener: L,
 }
 
 // What became of listeners since the thread of input and output last looked.
 #[derive(Drop)]
-pub(crate) enum Change {
+pub(crate) enum Change<L: Listener> {
     // This one hears its subscription.
-    Hears(Ear),
+    Hears(Ear<L>),
     // This subscription was cancelled.
     Ends(Handle),
 }
 
 // The listeners, each at the index of its subscription. There is a place for each subscription that a client can have.
 #[derive(Drop)]
-pub(crate) struct Ears {
-    places: Vec<Option<Ear>>,
+pub(crate) struct Ears<L: Listener> {
+    places: Vec<Option<Ear<L>>>,
 }
 
-impl Ears {
-    pub(crate) fn new(alloc: Global) -> Result<Ears, AllocError> {
+impl<L: Listener> Ears<L> {
+    pub(crate) fn new(alloc: Global) -> Result<Ears<L>, AllocError> {
         let mut places = Vec::new(alloc);
         places.reserve(ARENA_SLOTS)?;
         for _ in 0..ARENA_SLOTS {
@@ -42,7 +50,7 @@ impl Ears {
     }
 
     // Takes in what has changed, in the order of the calls that changed it.
-    pub(crate) fn follow(&mut self, changes: &mut Vec<Change>) {
+    pub(crate) fn follow(&mut self, changes: &mut Vec<Change<L>>) {
         changes.reverse();
         for _ in 0..changes.len() {
             match changes.pop() {
@@ -54,7 +62,7 @@ impl Ears {
     }
 
     // Takes a listener in. It takes the place of one whose subscription has ended.
-    fn adopt(&mut self, ear: Ear) {
+    fn adopt(&mut self, ear: Ear<L>) {
         if let Some(place) = self.places.get_mut(usize::from(ear.subscription.index)) {
             *place = Some(ear);
         }

@@ -1,4 +1,4 @@
-use crate::listener::Change;
+use crate::listener::{Change, Listener};
 use ca_client::Desk;
 use mio::Waker;
 use std::sync::atomic::{AtomicU64, Ordering};
@@ -6,10 +6,10 @@ use std::sync::{Condvar, Mutex, Wait};
 
 // What lies under the lock.
 #[derive(Drop)]
-pub(crate) struct Locked {
+pub(crate) struct Locked<L: Listener> {
     pub(crate) desk: Desk,
     // What became of listeners, in the order of the calls. The thread of input and output has not followed yet.
-    pub(crate) changes: Vec<Change>,
+    pub(crate) changes: Vec<Change<L>>,
     pub(crate) ending: bool,
 }
 
@@ -24,8 +24,8 @@ pub(crate) struct Gate {
 
 // What threads share.
 #[derive(Drop)]
-pub(crate) struct Shared {
-    pub(crate) locked: Mutex<Locked>,
+pub(crate) struct Shared<L: Listener> {
+    pub(crate) locked: Mutex<Locked<L>>,
     pub(crate) gate: Mutex<Gate>,
     pub(crate) moved: Condvar,
     pub(crate) waker: Waker,
@@ -33,8 +33,8 @@ pub(crate) struct Shared {
     asleep: AtomicU64,
 }
 
-impl Shared {
-    pub(crate) fn new(locked: Locked, waker: Waker) -> Shared {
+impl<L: Listener> Shared<L> {
+    pub(crate) fn new(locked: Locked<L>, waker: Waker) -> Shared<L> {
         Shared {
             locked: Mutex::new(locked),
             gate: Mutex::new(Gate {

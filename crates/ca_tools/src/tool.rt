@@ -1,0 +1,298 @@
+use crate::ear::{Ear, new_ear};
+use crate::printing::{print_done, print_value};
+use crate::tool_line::{Task, ToolLine};
+use crate::turns::{TURN, Turns};
+use ca::report;
+use ca_arena::Handle;
+use ca_board::Ticket;
+use ca_client::Caller;
+use ca_client_context::{Context, Engine, Setting, start};
+use ca_client_core::{Address, ChannelState};
+use ca_dbr::{Outcome, Value};
+use ca_link::Sink;
+use ca_text::{ChannelName, Mask, Refusal};
+use rtrb::Consumer;
+use std::alloc::Global;
+use std::io::Write;
+use std::net::{Net, SocketAddrV4, TcpListener, TcpStream};
+use std::sync::Wait;
+use std::thread;
+use std::thread::Threads;
+use std::time::{Clock, Duration};
+
+// The mask of posts of values.
+const VALUES: u16 = 1;
+
+/// Reads, puts or monitors a channel: tells on the sink what came, and a refusal on `err`, and returns the exit status.
+pub fn tool_run<
+    R: Threads
+        + Wait
+        + Clock
+        + Net<Stream = TcpStream, Listener = TcpListener>
+        + Copy
+        + Drop
+        + Send
+        + 'static,
+    K: Sink,
+    W: Write,
+>(rt: R, alloc: Global, line: ToolLine<'_>, sink: &mut K, err: &mut W) -> u8 {
+    let outcome = used(rt, alloc, line, sink);
+    report(outcome, err)
+}
+
+// The name is judged first, then sockets are made. The thread of input and output is joined.
+fn used<
+    R: Threads
+        + Wait
+        + Clock
+        + Net<Stream = TcpStream, Listener = TcpListener>
+        + Copy
+        + Drop
+        + Send
+        + 'static,
+    K: Sink,
+>(rt: R, alloc: Global, line: ToolLine<'_>, sink: &mut K) -> Result<(), Refusal> {
+    ChannelName::read(line.name.as_bytes())?;
+    let setting = setting_of(alloc, line.server)?;
+    let (context, engine) = Context::new(rt, alloc, setting)?;
+    run_beside(rt, alloc, &context, engine, line, sink)
+}
+
+fn run_beside<
+    R: Threads
+        + Wait
+        + Clock
+        + Net<Stream = TcpStream, Listener = TcpListener>
+        + Copy
+        + Drop
+        + Send
+        + 'static,
+    K: Sink,
+>(
+    rt: R,
+    alloc: Global,
+    context: &Context<Ear>,
+    engine: Engine<R, Ear>,
+    line: ToolLine<'_>,
+    sink: &mut K,
+) -> Result<(), Refusal> {
+    let thread = start(rt, engine)?;
+    let outcome = done(&rt, alloc, context, line, sink);
+    context.end(&rt);
+    thread.join(&rt);
+    outcome
+}
+
+// A client that searches at one place.
+fn setting_of(alloc: Global, server: SocketAddrV4) -> Result<Setting, Refusal> {
+    Ok(Setting {
+        user: Vec::from_slice(alloc, b"ca")?,
+        host: Vec::from_slice(alloc, b"localhost")?,
+        servers: vec![in alloc; address_of(server)]?,
+        names: Vec::new(alloc),
+        repeater: None,
+    })
+}
+
+fn address_of(server: SocketAddrV4) -> Address {
+    Address {
+        host: server.ip().to_bits(),
+        port: server.port(),
+    }
+}
+
+// Refused as Disconnected if the turns are used up.
+fn done<R: Wait + Clock, K: Sink>(
+    rt: &R,
+    alloc: Global,
+    context: &Context<Ear>,
+    line: ToolLine<'_>,
+    sink: &mut K,
+) -> Result<(), Refusal> {
+    let turns = Turns::new(rt, line.turns)?;
+    let channel = context.open(rt, line.name.as_bytes(), 0)?;
+    let shape = live_at(rt, context, channel, &turns)?;
+    match line.task {
+        Task::Get => get(rt, alloc, context, channel, shape, line.name, &turns, sink),
+        Task::Put(text) => put(rt, alloc, context, channel, text, line.name, &turns, sink),
+        Task::Monitor(updates) => monitor(
+            rt, alloc, context, channel, shape, updates, line.name, &turns, sink,
+        ),
+    }
+}
+
+// Waits until a channel is live, and tells its type and its greatest count.
+fn live_at<R: Wait + Clock>(
+    rt: &R,
+    context: &Context<Ear>,
+    channel: Handle,
+    turns: &Turns,
+) -> Result<(u16, u32), Refusal> {
+    for _ in 0..u64::MAX {
+        if !turns.are_left(rt) || context.wait_live(rt, channel, 1) {
+            break;
+        }
+    }
+    match context.channel_state(rt, channel)? {
+        ChannelState::Live(data_type, count, _) => Ok((data_type, count)),
+        _ => Err(Refusal::Disconnected),
+    }
+}
+
+fn get<R: Wait + Clock, K: Sink>(
+    rt: &R,
+    alloc: Global,
+    context: &Context<Ear>,
+    channel: Handle,
+    shape: (u16, u32),
+    name: &str,
+    turns: &Turns,
+    sink: &mut K,
+) -> Result<(), Refusal> {
+    let (data_type, count) = shape;
+    let ticket = context.get(rt, channel, data_type, count)?;
+    let value = value_in(outcome_of(rt, context, ticket, turns)?)?;
+    print_value(alloc, name, &value, sink)
+}
+
+fn put<R: Wait + Clock, K: Sink>(
+    rt: &R,
+    alloc: Global,
+    context: &Context<Ear>,
+    channel: Handle,
+    text: &str,
+    name: &str,
+    turns: &Turns,
+    sink: &mut K,
+) -> Result<(), Refusal> {
+    let value = text_value(alloc, text)?;
+    let ticket = context.put_notify(rt, channel, value)?;
+    is_done(outcome_of(rt, context, ticket, turns)?)?;
+    print_done(alloc, name, sink)
+}
+
+// Waits for the outcome of a ticket: none if the turns are used up.
+fn outcome_of<R: Wait + Clock>(
+    rt: &R,
+    context: &Context<Ear>,
+    ticket: Ticket,
+    turns: &Turns,
+) -> Result<Option<Outcome>, Refusal> {
+    let mut caller = context.caller(rt)?;
+    Ok(awaited(rt, context, &mut caller, ticket, turns))
+}
+
+fn awaited<R: Wait + Clock>(
+    rt: &R,
+    context: &Context<Ear>,
+    caller: &mut Caller,
+    ticket: Ticket,
+    turns: &Turns,
+) -> Option<Outcome> {
+    for _ in 0..u64::MAX {
+        if !turns.are_left(rt) {
+            break;
+        }
+        if let Some(outcome) = context.wait(rt, caller, ticket, 1) {
+            return Some(outcome);
+        }
+    }
+    None
+}
+
+fn monitor<R: Wait + Clock, K: Sink>(
+    rt: &R,
+    alloc: Global,
+    context: &Context<Ear>,
+    channel: Handle,
+    shape: (u16, u32),
+    updates: u64,
+    name: &str,
+    turns: &Turns,
+    sink: &mut K,
+) -> Result<(), Refusal> {
+    let (ear, mut heard) = new_ear(alloc)?;
+    subscribe(rt, context, channel, shape, ear)?;
+    print_updates(rt, alloc, &mut heard, updates, name, turns, sink)
+}
+
+// Has the listener hear changes of the value.
+fn subscribe<R: Wait>(
+    rt: &R,
+    context: &Context<Ear>,
+    channel: Handle,
+    shape: (u16, u32),
+    ear: Ear,
+) -> Result<(), Refusal> {
+    let (data_type, count) = shape;
+    // It is none only without an event.
+    let Some(mask) = Mask::new(VALUES) else {
+        return Err(Refusal::BadEvent);
+    };
+    match context.monitor(rt, channel, data_type, count, mask, ear) {
+        Ok(_) => Ok(()),
+        Err((_, refusal)) => Err(refusal),
+    }
+}
+
+fn print_updates<R: Clock, K: Sink>(
+    rt: &R,
+    alloc: Global,
+    heard: &mut Consumer<Outcome>,
+    updates: u64,
+    name: &str,
+    turns: &Turns,
+    sink: &mut K,
+) -> Result<(), Refusal> {
+    for _ in 0..updates {
+        let value = value_in(next_update(rt, heard, turns))?;
+        print_value(alloc, name, &value, sink)?;
+    }
+    Ok(())
+}
+
+// Waits for an update: none if the turns are used up.
+fn next_update<R: Clock>(rt: &R, heard: &mut Consumer<Outcome>, turns: &Turns) -> Option<Outcome> {
+    for _ in 0..u64::MAX {
+        if let Ok(outcome) = heard.pop() {
+            return Some(outcome);
+        }
+        if !turns.are_left(rt) {
+            break;
+        }
+        thread::sleep(rt, Duration::from_millis(TURN));
+    }
+    None
+}
+
+// The text as a STRING: of zeros after its bytes, of which there are 40 at most.
+fn text_value(alloc: Global, text: &str) -> Result<Value, Refusal> {
+    let mut bytes = [0u8; 40];
+    for (place, byte) in bytes.iter_mut().zip(text.as_bytes()) {
+        *place = *byte;
+    }
+    Ok(Value::Strings(vec![in alloc; bytes]?))
+}
+
+// The value that an outcome has.
+fn value_in(outcome: Option<Outcome>) -> Result<Value, Refusal> {
+    match outcome {
+        Some(Outcome::Value(value, _)) => Ok(value),
+        Some(Outcome::Failed(status)) => Err(Refusal::ServerRefused(status)),
+        Some(Outcome::Unreadable(refusal)) => Err(refusal),
+        Some(Outcome::Done) => Err(Refusal::Disconnected),
+        Some(Outcome::Disconnected) => Err(Refusal::Disconnected),
+        None => Err(Refusal::Disconnected),
+    }
+}
+
+// Whether an outcome says that a put is done.
+fn is_done(outcome: Option<Outcome>) -> Result<(), Refusal> {
+    match outcome {
+        Some(Outcome::Done) => Ok(()),
+        other => match value_in(other) {
+            Ok(_) => Err(Refusal::Disconnected),
+            Err(refusal) => Err(refusal),
+        },
+    }
+}

@@ -1,0 +1,127 @@
+ghost use Rattle.std.specs.Prelude.{◌≡◌, MatchOption, codes};
+ghost use Rattle.ca_tools.specs.Tools.{name_of};
+
+use ca_script::decimal;
+use ca_text::Refusal;
+use clap::error::ErrorKind;
+use clap::{Arg, ArgMatches, Command};
+use std::alloc::{AllocError, Global};
+use std::net::SocketAddrV4;
+
+// Turns of a tool, if the words name no number.
+const TURNS: u64 = 1_000;
+
+// Bytes of a value that is put, at most: those of a STRING.
+const VALUE: usize = 40;
+
+/// What a tool does with its channel.
+#[derive(Clone, Copy, Debug, PartialEq, Eq)]
+pub enum Task<'a> {
+    /// Reads its value.
+    Get,
+    /// Puts this text.
+    Put(&'a str),
+    /// Prints so many updates.
+    Monitor(u64),
+}
+
+/// `get NAME`, `put NAME --value=V` or `monitor NAME --count N`, each with `--server A:P` and, if it is to be another number of turns than 1,000,
+/// `--turns N`.
+#[derive(Clone, Copy, Debug, PartialEq, Eq)]
+pub struct ToolLine<'a> {
+    pub task: Task<'a>,
+    pub name: &'a str,
+    pub server: SocketAddrV4,
+    pub turns: u64,
+}
+
+/// Which of the tools the first word names, with the option that is its own.
+#[derive(Clone, Copy, Debug, PartialEq, Eq)]
+pub enum Verb {
+    Get,
+    Put,
+    Monitor,
+}
+
+/// The tool of this name, if it is one's.
+pub fn verb_of(word: &str) -> Option<Verb>
+    ensures { MatchOption result ((word.now ≡ codes "get" → ⊥)
+        × (word.now ≡ codes "put" → ⊥)
+        × (word.now ≡ codes "monitor" → ⊥))
+        (λ verb. word.now ≡ name_of verb) }
+{
+    if word == "get" {
+        return Some(Verb::Get);
+    }
+    if word == "put" {
+        return Some(Verb::Put);
+    }
+    if word == "monitor" {
+        return Some(Verb::Monitor);
+    }
+    None
+}
+
+/// Reads the words after the name of a tool: none if they are not understood.
+pub fn read_tool<'a>(
+    alloc: Global,
+    verb: Verb,
+    words: &'a [String],
+) -> Result<Option<ToolLine<'a>>, Refusal> {
+    // At this word clap would end the options.
+    if words.iter().any(|word| word.as_str() == "--") {
+        return Ok(None);
+    }
+    let command = grammar(alloc, verb)?;
+    match command.try_get_matches_from(words) {
+        Ok(matches) => Ok(meant(verb, &matches)),
+        Err(error) => match error.kind() {
+            ErrorKind::OutOfMemory => Err(Refusal::OutOfMemory),
+            _ => Ok(None),
+        },
+    }
+}
+
+fn grammar<'a>(alloc: Global, verb: Verb) -> Result<Command<'a>, AllocError> {
+    let command = Command::new(alloc, "tool")
+        .no_binary_name(true)
+        .disable_help_flag(true)
+        .arg(Arg::new(alloc, "name"))?
+        .arg(Arg::new(alloc, "server").long("server"))?
+        .arg(Arg::new(alloc, "turns").long("turns"))?;
+    match verb {
+        Verb::Get => Ok(command),
+        Verb::Put => command.arg(Arg::new(alloc, "value").long("value")),
+        Verb::Monitor => command.arg(Arg::new(alloc, "count").long("count")),
+    }
+}
+
+/// What the words mean: nothing if one is missing, is no address, no number, or too long.
+fn meant<'a>(verb: Verb, matches: &ArgMatches<'a>) -> Option<ToolLine<'a>> {
+    let name = matches.get_str("name")?;
+    let Ok(server) = matches.get_str("server")?.parse::<SocketAddrV4>() else {
+        return None;
+    };
+    let turns = match matches.get_str("turns") {
+        None => TURNS,
+        Some(text) => decimal(text.as_bytes())?,
+    };
+    let task = match verb {
+        Verb::Get => Task::Get,
+        Verb::Put => Task::Put(value_of(matches.get_str("value")?)?),
+        Verb::Monitor => Task::Monitor(decimal(matches.get_str("count")?.as_bytes())?),
+    };
+    Some(ToolLine {
+        task,
+        name,
+        server,
+        turns,
+    })
+}
+
+fn value_of(text: &str) -> Option<&str> {
+    if text.len() > VALUE {
+        return None;
+    }
+    Some(text)
+}

@@ -1,0 +1,30 @@
+use ca_text::Refusal;
+use std::time::{Clock, Instant};
+
+/// Milliseconds of a turn.
+pub(crate) const TURN: u64 = 10;
+
+/// A tool's turns, which go by from when they were made.
+#[derive(Clone, Copy)]
+pub(crate) struct Turns {
+    began: Instant,
+    most: u64,
+}
+
+impl Turns {
+    /// Refused as Device if the system's clock cannot be read.
+    pub(crate) fn new<R: Clock>(rt: &R, most: u64) -> Result<Turns, Refusal> {
+        match Instant::now(rt) {
+            Ok(began) => Ok(Turns { began, most }),
+            Err(_) => Err(Refusal::Device),
+        }
+    }
+
+    /// Whether some are left.
+    pub(crate) fn are_left<R: Clock>(&self, rt: &R) -> bool {
+        match self.began.elapsed(rt) {
+            Ok(passed) => passed.as_millis() / u128::from(TURN) < u128::from(self.most),
+            Err(_) => false,
+        }
+    }
+}
