@@ -2,4 +2,5 @@ pub mod Places
 pub mod Runs
 mod Slots
 pub mod Stale
+mod Stored
 mod Vacant

@@ -1,5 +1,10 @@
 pub mod Arena
+pub mod BlockLending
+pub mod Filled
 pub mod Sound
+pub mod Stored
+pub mod StoredLayout
+pub mod StoredLending
 pub mod Traces
 pub mod Layout
 pub mod Lending

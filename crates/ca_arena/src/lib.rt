@@ -5,6 +5,8 @@
 #![tactic(auto)]
 
 mod arena;
+mod block;
+mod blocks;
 mod handle;
 mod laws;
 
