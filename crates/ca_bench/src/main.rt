@@ -1,6 +1,8 @@
 //! Rounds of calls, to be timed from outside: `ca_bench WHAT SIZE ROUNDS`. Without words it does nothing.
 #![tactic(auto)]
 
+mod arenas;
+mod queues;
 mod records;
 
 use ca_dbr::{Meta, Value, read_value, write_value};
@@ -61,6 +63,13 @@ fn measured(alloc: Global, what: &str, size: u32, rounds: u32) -> Result<(), Ref
         b"parts" => parts(alloc, size as usize, rounds),
         b"puts" => records::puts(alloc, size, rounds),
         b"posts" => records::posts(alloc, size, rounds),
+        b"arena" => arenas::arenas(alloc, size, rounds),
+        b"slab" => arenas::slabs(alloc, size, rounds),
+        b"queue-turns" => queues::queue_turns(alloc, size, rounds),
+        b"list-turns" => queues::list_turns(alloc, size, rounds),
+        b"ring-turns" => queues::ring_turns(alloc, size, rounds),
+        b"replacing-posts" => queues::replacing_posts(alloc, size, rounds),
+        b"list-replacing-posts" => queues::list_replacing_posts(alloc, size, rounds),
         _ => Err(Refusal::BadText),
     }
 }
