@@ -11,7 +11,7 @@ ghost use Rattle.ca_server_subscriptions.specs.Subscribed.{AreKnown, AtPlace, Ha
 use crate::standing::Standing;
 use crate::update::Update;
 use ca_dbr::{Meta, Value};
-use ca_queue::{CircuitQueues, ListQueue, SubKey};
+use ca_queue::{CircuitQueues, EventQueue, SubKey};
 use ca_text::Refusal;
 use ca_wire::{Sid, Wanted};
 use indexmap::IndexMap;
@@ -22,7 +22,7 @@ use std::marker::Model;
 #[derive(Drop)]
 pub struct Subscriptions {
     standing: IndexMap<SubKey, Standing>,
-    queues: CircuitQueues<Update, ListQueue<Update>>,
+    queues: CircuitQueues<Update, EventQueue<Update>>,
 }
 
 impl Model for Subscriptions {
