@@ -4,10 +4,14 @@ use Rattle.ca_arena.specs.declared.handle.Handle.{Handle}
 use Rattle.ca_model.specs.Client.{Client, Connection, connection_at}
 use Rattle.ca_text.specs.declared.command.Command.{Command}
 use Rattle.ca_monitor.specs.ReadRun.{sent_by_read}
+use Rattle.ca_model.specs.Answers as answer
 use Rattle.ca_model.specs.ClientCalls.{IsLive, LiveChannel, StandsAs}
 use Rattle.ca_monitor.specs.Subscriptions.{Subscription, standing_under}
 use Rattle.ca_client_core.specs.declared.for_histories.LiveOn.{LiveOn}
+use Rattle.ca_client_core.specs.declared.for_histories.Aim.{Aim}
+use Rattle.ca_client_core.specs.declared.for_histories.Aim.TheVariants as aim
 use Rattle.ca_client_core.specs.declared.for_histories.Asked.{Asked}
+use Rattle.ca_client_core.specs.declared.for_histories.Sending.{Sending}
 
 -- the channel of this handle is live on this circuit, under this SID, with so many elements at most; or it is not live
 abbrev pub LivesOn : Client → Handle → Option LiveOn → Type 0
@@ -22,3 +26,14 @@ AsksFor x s None = standing_under s x.subscriptions ≡ None
 -- what a read on the circuit of this handle makes the client send, if it is connected
 abbrev pub flow_at : (more : Bool) → Client → Handle → Option Command
 flow_at more x c = option_and_then (λ (e : Connection). sent_by_read more e.run) (connection_at x c)
+
+-- what a message is for, as the statement has it
+abbrev pub aim_of : Aim → answer.Aim
+aim_of aim.OfCircuit = answer.OfCircuit
+aim_of (aim.Create h) = answer.Create h
+aim_of (aim.Clear h) = answer.Clear h
+aim_of (aim.Subscribe h s) = answer.Subscribe h s
+
+-- a message that is about to be sent, as the statement has it
+abbrev pub sending_of : Sending → answer.Sending
+sending_of s = record { circuit = s.circuit; message = s.message; aim = aim_of s.aim }

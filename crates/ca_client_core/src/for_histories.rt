@@ -5,6 +5,28 @@ ghost use Rattle.ca_client_core.specs.ForHistories.{AsksFor, LivesOn, flow_at};
 use crate::client::ClientCore;
 use ca_arena::Handle;
 use ca_text::Command;
+use ca_wire::Message;
+
+/// What a message that a client sends is for.
+#[derive(Clone, Copy, Debug, PartialEq, Eq)]
+pub enum Aim {
+    /// The circuit as a whole.
+    OfCircuit,
+    /// To create this channel.
+    Create(Handle),
+    /// To clear this channel.
+    Clear(Handle),
+    /// To make this channel's subscription, of the second handle.
+    Subscribe(Handle, Handle),
+}
+
+/// A message that a client is about to send without being called for it, on which circuit, and what it is for.
+#[derive(Debug, Drop)]
+pub struct Sending {
+    pub circuit: Handle,
+    pub message: Message,
+    pub aim: Aim,
+}
 
 /// Where a channel is live: on this circuit, under this SID, with so many elements at most.
 #[derive(Clone, Copy, Debug, PartialEq, Eq)]
