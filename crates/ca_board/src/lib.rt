@@ -8,8 +8,6 @@ mod board;
 pub mod laws;
 mod seats;
 mod steps;
-#[cfg(test)]
-mod tests;
 mod ticket;
 mod word;
 

@@ -13,8 +13,6 @@ mod line;
 mod locked;
 mod processing;
 mod serving;
-#[cfg(test)]
-mod tests;
 mod updating;
 mod work;
 

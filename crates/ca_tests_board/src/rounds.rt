@@ -2,11 +2,12 @@
 ghost use Rattle.std.specs.Prelude.{◌≡◌, ◌≤◌, IfOk};
 ghost use Rattle.ca_board.specs.Outstanding.{AreDue};
 
-use crate::{Board, CallerSeat, CoreSeat, Filled, Ticket};
+use crate::tell;
+use ca_board::{Board, CallerSeat, CoreSeat, Filled, Ticket};
 use ca_dbr::{Meta, Outcome, Value};
 use ca_text::{BOARD_CELLS, Refusal};
 use std::alloc::{AllocError, Global};
-use std::test::*;
+use std::io::Write;
 use std::thread;
 use std::thread::Threads;
 
@@ -147,23 +148,57 @@ fn recycle_all(board: &Board, core: &mut CoreSeat) -> usize
     freed
 }
 
-// Four callers with 256 tickets each, all outstanding, then no cell; each collects its own; and the same once more.
-#[test]
-fn board_round_twice(rt: HostRuntime) -> Result<(), Fail> {
-    let (board, mut core) = Board::new(rt.alloc())?;
-    for _round in 0..2u32 {
-        let tickets = arm_all(rt.alloc(), &board, &mut core)?;
-        match board.arm(&mut core) {
-            Err(refusal) => assert_eq!(rt; refusal, Refusal::NoCell),
-            Ok(_) => panic!(rt; "a cell too many"),
-        }
-        assert_eq!(rt;
-            fill_all(rt.alloc(), &board, &mut core, tickets.as_slice())?,
-            BOARD_CELLS
-        );
-        let own = four(&rt, &board, &mut core, tickets.as_slice());
-        assert_eq!(rt; own, ((EACH, EACH), (EACH, EACH)));
-        assert_eq!(rt; recycle_all(&board, &mut core), BOARD_CELLS);
+/// Four callers with 256 tickets each, all outstanding, then no cell; each collects its own; and the same once more.
+pub(crate) fn board_round<W: Write>(
+    rt: &(impl Threads + Sync),
+    alloc: Global,
+    out: &mut W,
+) -> Result<(), Refusal> {
+    let (board, mut core) = Board::new(alloc)?;
+    go_round(rt, alloc, &board, &mut core, out)?;
+    go_round(rt, alloc, &board, &mut core, out)
+}
+
+// One round.
+fn go_round<W: Write>(
+    rt: &(impl Threads + Sync),
+    alloc: Global,
+    board: &Board,
+    core: &mut CoreSeat,
+    out: &mut W,
+) -> Result<(), Refusal>
+    requires { core.old.board ≡ board.now }
+    ensures { core.new.board ≡ board.now }
+{
+    let tickets = arm_all(alloc, board, core)?;
+    one_more(board, core, out)?;
+    let stored = fill_all(alloc, board, core, tickets.as_slice())?;
+    tell(out, "fills that were stored", stored)?;
+    let own = four(rt, board, core, tickets.as_slice());
+    tell_own(out, own)?;
+    let freed = recycle_all(board, core);
+    tell(out, "cells that are free again", freed)
+}
+
+// What becomes of one ticket more.
+fn one_more<W: Write>(board: &Board, core: &mut CoreSeat, out: &mut W) -> Result<(), Refusal>
+    requires { core.old.board ≡ board.now }
+{
+    let said = match board.arm(core) {
+        Ok(_) => writeln!(out, "one ticket more: armed"),
+        Err(refusal) => writeln!(out, "one ticket more: refused {refusal}"),
+    };
+    match said {
+        Ok(()) => Ok(()),
+        Err(_) => Err(Refusal::Device),
     }
-    Ok(())
+}
+
+// How many outcomes were its own, for each caller.
+fn tell_own<W: Write>(out: &mut W, own: ((usize, usize), (usize, usize))) -> Result<(), Refusal> {
+    let ((one, other), (third, last)) = own;
+    match writeln!(out, "own outcomes: {one} {other} {third} {last}") {
+        Ok(()) => Ok(()),
+        Err(_) => Err(Refusal::Device),
+    }
 }

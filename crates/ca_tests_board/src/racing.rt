@@ -2,9 +2,10 @@
 ghost use Rattle.std.specs.Prelude.{◌≡◌};
 ghost use Rattle.ca_board.specs.Views.{IsDue};
 
-use crate::{Board, CallerSeat, CoreSeat, Filled, Ticket};
+use ca_board::{Board, CallerSeat, CoreSeat, Filled, Ticket};
 use ca_dbr::Outcome;
-use std::test::*;
+use ca_text::Refusal;
+use std::alloc::Global;
 use std::thread;
 use std::thread::Threads;
 
@@ -41,15 +42,24 @@ fn race(
     )
 }
 
-// Whichever comes first: an outcome that was stored is found, and no other.
-#[test]
-fn give_up_beside_fill(rt: HostRuntime) -> Result<(), Fail> {
+/// Whichever comes first: an outcome that was stored is found, and no other. In how many of 64 rounds that was so.
+pub(crate) fn give_up_beside_fill(
+    rt: &(impl Threads + Sync),
+    alloc: Global,
+) -> Result<usize, Refusal> {
+    let mut agreed = 0;
     for _round in 0..64u32 {
-        let (board, mut core) = Board::new(rt.alloc())?;
-        let caller = board.caller(&mut core);
-        let ticket = board.arm(&mut core)?;
-        let (stored, found) = race(&rt, &board, core, caller, ticket);
-        assert_eq!(rt; stored, found);
+        if is_agreed(rt, alloc)? {
+            agreed += 1;
+        }
     }
-    Ok(())
+    Ok(agreed)
+}
+
+fn is_agreed(rt: &(impl Threads + Sync), alloc: Global) -> Result<bool, Refusal> {
+    let (board, mut core) = Board::new(alloc)?;
+    let caller = board.caller(&mut core);
+    let ticket = board.arm(&mut core)?;
+    let (stored, found) = race(rt, &board, core, caller, ticket);
+    Ok(stored == found)
 }

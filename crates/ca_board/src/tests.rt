@@ -1,3 +1,0 @@
-mod racing;
-mod rounds;
-mod tickets;
