@@ -19,6 +19,7 @@ pub struct Answer {
 }
 
 impl Answer {
+    /// No answer yet.
     pub fn new(alloc: Global) -> Answer {
         Answer {
             alloc,
@@ -26,14 +27,17 @@ impl Answer {
         }
     }
 
+    /// The answer so far.
     pub fn text(&self) -> &str {
         self.text.as_str()
     }
 
+    /// Begins anew.
     pub fn clear(&mut self) {
         self.text.clear();
     }
 
+    /// Adds a word, after a space if it is not the first.
     pub fn word(&mut self, word: &str) -> Result<(), Refusal> {
         if !self.text.is_empty() {
             self.text.push_str(" ")?;
@@ -42,14 +46,17 @@ impl Answer {
         Ok(())
     }
 
+    /// Adds a number, in decimal.
     pub fn number(&mut self, number: u64) -> Result<(), Refusal> {
         self.word(format!(in self.alloc; "{number}")?.as_str())
     }
 
+    /// Adds that the call was refused, and by what.
     pub fn refusal(&mut self, refusal: Refusal) -> Result<(), Refusal> {
         self.word(format!(in self.alloc; "refused {refusal}")?.as_str())
     }
 
+    /// Adds a status, by its number.
     pub fn status(&mut self, status: Status) -> Result<(), Refusal> {
         self.number(u64::from(status.number))
     }

@@ -23,6 +23,7 @@ pub struct Table {
 }
 
 impl Table {
+    /// A table with no core yet.
     pub fn new(alloc: Global) -> Table {
         Table {
             alloc,

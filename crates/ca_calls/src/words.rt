@@ -14,16 +14,19 @@ pub struct Words<'a> {
 }
 
 impl<'a> Words<'a> {
+    /// All words of a line.
     pub fn new(line: &'a str) -> Words<'a> {
         Words {
             left: line.split_whitespace(),
         }
     }
 
+    /// The next word.
     pub fn word(&mut self) -> Result<&'a str, Refusal> {
         self.left.next().ok_or(Refusal::BadText)
     }
 
+    /// A number of 64 bits.
     pub fn number(&mut self) -> Result<u64, Refusal> {
         match self.word()?.parse::<u64>() {
             Ok(number) => Ok(number),
@@ -58,6 +61,7 @@ impl<'a> Words<'a> {
         }
     }
 
+    /// A mask, of which at least one bit has a meaning.
     pub fn mask(&mut self) -> Result<Mask, Refusal> {
         Mask::new(self.short()?).ok_or(Refusal::BadText)
     }

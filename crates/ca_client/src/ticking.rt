@@ -38,8 +38,15 @@ pub(crate) fn tick(state: &mut State, now: u64) -> Answer
 // Fills the ticket of each completion, in order, and leaves no notice.
 fn drain_all(board: &Board, seat: &mut CoreSeat, tickets: &Vec<Ticket>, closings: &mut Vec<Left>)
     requires board { seat.old.board ≡ board.now }
-    requires due { Fillable tickets.now.items seat.old (completions (notices_of closings.old.items)) }
-    ensures fills { FillsAll tickets.now.items seat.old (completions (notices_of closings.old.items)) seat.new }
+    requires due { Fillable
+        tickets.now.items
+        seat.old
+        (completions (notices_of closings.old.items)) }
+    ensures fills { FillsAll
+        tickets.now.items
+        seat.old
+        (completions (notices_of closings.old.items))
+        seat.new }
     ensures none { notices_of closings.new.items ≡ [] }
     ensures lefts { lefts_of closings.new.items ≡ lefts_of closings.old.items }
     ensures board { seat.new.board ≡ board.now }

@@ -31,7 +31,17 @@ enum Turned {
 /// for which there is no memory.
 pub fn turn_over<S: Socket>(state: &mut State, circuit: Handle, socket: &mut S) -> Option<Ended>
     requires { S.fault_count socket.old < 2 ^ 63 }
-    ensures { Turns S.fault_count S.gives S.takes circuit 16 socket.old state.old result socket.new state.new }
+    ensures { Turns
+        S.fault_count
+        S.gives
+        S.takes
+        circuit
+        16
+        socket.old
+        state.old
+        result
+        socket.new
+        state.new }
 {
     for call in 0..CALLS {
         match once(state, circuit, socket, call % 2 == 0) {
@@ -46,7 +56,16 @@ pub fn turn_over<S: Socket>(state: &mut State, circuit: Handle, socket: &mut S) 
 // One read or one write.
 fn once<S: Socket>(state: &mut State, circuit: Handle, socket: &mut S, writes: bool) -> Turned
     requires { S.fault_count socket.old < 2 ^ 63 }
-    ensures { Tries S.fault_count S.gives S.takes circuit socket.old state.old result socket.new state.new }
+    ensures { Tries
+        S.fault_count
+        S.gives
+        S.takes
+        circuit
+        socket.old
+        state.old
+        result
+        socket.new
+        state.new }
 {
     if writes {
         write_once(state, circuit, socket)
@@ -58,7 +77,16 @@ fn once<S: Socket>(state: &mut State, circuit: Handle, socket: &mut S, writes: b
 #[tactic(auto, using(crate::proofs::Given::refused_so))]
 fn read_once<S: Socket>(state: &mut State, circuit: Handle, socket: &mut S) -> Turned
     requires { S.fault_count socket.old < 2 ^ 63 }
-    ensures { Tries S.fault_count S.gives S.takes circuit socket.old state.old result socket.new state.new }
+    ensures { Tries
+        S.fault_count
+        S.gives
+        S.takes
+        circuit
+        socket.old
+        state.old
+        result
+        socket.new
+        state.new }
 {
     let mut buffer = [0u8; 4096];
     let count = match socket.read(&mut buffer[..]) {
@@ -86,7 +114,16 @@ fn is_closed(refusal: Refusal) -> bool
 
 fn write_once<S: Socket>(state: &mut State, circuit: Handle, socket: &mut S) -> Turned
     requires { S.fault_count socket.old < 2 ^ 63 }
-    ensures { Tries S.fault_count S.gives S.takes circuit socket.old state.old result socket.new state.new }
+    ensures { Tries
+        S.fault_count
+        S.gives
+        S.takes
+        circuit
+        socket.old
+        state.old
+        result
+        socket.new
+        state.new }
 {
     let out = state.out_bytes(circuit);
     if out.is_empty() {

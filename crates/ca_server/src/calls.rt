@@ -117,7 +117,8 @@ impl<L: Ledger> State<L> {
 
     /// Writes that are applied from now on have this time stamp: seconds since 1990-01-01 00:00:00 UTC, and nanoseconds.
     pub fn stamp(&mut self, seconds: u32, nanos: u32)
-        ensures call { self.new.core ≡ stamped (record { seconds = seconds; nanos = nanos }) self.old.core }
+        ensures call { self.new.core
+            ≡ stamped (record { seconds = seconds; nanos = nanos }) self.old.core }
         ensures counts { (self.new.count ≡ self.old.count)
             × (self.new.credits.items ≡ self.old.credits.items) }
     {

@@ -2,30 +2,71 @@ use ca_client_context::Listener;
 use ca_dbr::Outcome;
 use ca_text::Refusal;
 use rtrb::{Consumer, Producer, RingBuffer};
-use std::alloc::{AllocError, Global};
+use std::alloc::Global;
+use std::sync::Arc;
+use std::sync::atomic::{AtomicBool, Ordering};
 
 // Updates that wait to be printed, at most.
 const UPDATES: usize = 1_024;
 
-// Hears the updates of a monitor, and hands them over to the thread that prints them. One for which there is no room or no memory is left out.
+// Hears the updates of a monitor, and hands them over to the thread that prints them. One for which there is no room or no memory is left out, which
+// that thread is told.
 #[derive(Drop)]
 pub(crate) struct Ear {
     alloc: Global,
-    heard: Producer<Outcome>,
+    updates: Producer<Outcome>,
+    missed: Arc<AtomicBool>,
+}
+
+// Where what an ear hears comes out.
+#[derive(Drop)]
+pub(crate) struct Heard {
+    updates: Consumer<Outcome>,
+    missed: Arc<AtomicBool>,
 }
 
 impl Listener for Ear {
     fn heard(&mut self, outcome: &Outcome) {
-        if let Ok(outcome) = copy(self.alloc, outcome) {
-            let _full = self.heard.push(outcome);
+        if !self.is_handed_over(outcome) {
+            self.missed.store(true, Ordering::SeqCst);
         }
     }
 }
 
+impl Ear {
+    fn is_handed_over(&mut self, outcome: &Outcome) -> bool {
+        match copy(self.alloc, outcome) {
+            Ok(outcome) => self.updates.push(outcome).is_ok(),
+            Err(_) => false,
+        }
+    }
+}
+
+impl Heard {
+    // The next update, if one waits.
+    pub(crate) fn next(&mut self) -> Option<Outcome> {
+        self.updates.pop().ok()
+    }
+
+    // Whether one was left out.
+    pub(crate) fn has_missed(&self) -> bool {
+        self.missed.load(Ordering::SeqCst)
+    }
+}
+
 // A listener, and where what it hears comes out.
-pub(crate) fn new_ear(alloc: Global) -> Result<(Ear, Consumer<Outcome>), AllocError> {
+pub(crate) fn new_ear(alloc: Global) -> Result<(Ear, Heard), Refusal> {
+    let missed = Arc::new(alloc, AtomicBool::new(false))?;
+    let told = Arc::try_clone(&missed)?;
     let (heard, updates) = RingBuffer::new(alloc, UPDATES)?;
-    Ok((Ear { alloc, heard }, updates))
+    Ok((
+        Ear {
+            alloc,
+            updates: heard,
+            missed: told,
+        },
+        Heard { updates, missed },
+    ))
 }
 
 fn copy(alloc: Global, outcome: &Outcome) -> Result<Outcome, Refusal> {

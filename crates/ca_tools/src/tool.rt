@@ -1,4 +1,4 @@
-use crate::ear::{Ear, new_ear};
+use crate::ear::{Ear, Heard, new_ear};
 use crate::printing::{print_done, print_value};
 use crate::tool_line::{Task, ToolLine};
 use crate::turns::{TURN, Turns};
@@ -11,7 +11,6 @@ use ca_client_core::{Address, ChannelState};
 use ca_dbr::{Outcome, Value};
 use ca_link::Sink;
 use ca_text::{ChannelName, Mask, Refusal};
-use rtrb::Consumer;
 use std::alloc::Global;
 use std::io::Write;
 use std::net::{Net, SocketAddrV4, TcpListener, TcpStream};
@@ -200,6 +199,7 @@ fn awaited<R: Wait + Clock>(
     None
 }
 
+// Prints so many updates. If one was left out, the channel is subscribed to anew once all others were printed: that brings the newest value.
 fn monitor<R: Wait + Clock, K: Sink>(
     rt: &R,
     alloc: Global,
@@ -211,9 +211,17 @@ fn monitor<R: Wait + Clock, K: Sink>(
     turns: &Turns,
     sink: &mut K,
 ) -> Result<(), Refusal> {
-    let (ear, mut heard) = new_ear(alloc)?;
-    subscribe(rt, context, channel, shape, ear)?;
-    print_updates(rt, alloc, &mut heard, updates, name, turns, sink)
+    let mut left = updates;
+    for _ in 0..u64::MAX {
+        let (ear, mut heard) = new_ear(alloc)?;
+        let subscription = subscribe(rt, context, channel, shape, ear)?;
+        left = print_updates(rt, alloc, &mut heard, left, name, turns, sink)?;
+        if left == 0 {
+            break;
+        }
+        context.unsubscribe(rt, subscription)?;
+    }
+    Ok(())
 }
 
 // Has the listener hear changes of the value.
@@ -223,46 +231,56 @@ fn subscribe<R: Wait>(
     channel: Handle,
     shape: (u16, u32),
     ear: Ear,
-) -> Result<(), Refusal> {
+) -> Result<Handle, Refusal> {
     let (data_type, count) = shape;
     // It is none only without an event.
     let Some(mask) = Mask::new(VALUES) else {
         return Err(Refusal::BadEvent);
     };
     match context.monitor(rt, channel, data_type, count, mask, ear) {
-        Ok(_) => Ok(()),
+        Ok(subscription) => Ok(subscription),
         Err((_, refusal)) => Err(refusal),
     }
 }
 
+// Prints so many updates, or as many as there are if one was left out: how many are left to print.
 fn print_updates<R: Clock, K: Sink>(
     rt: &R,
     alloc: Global,
-    heard: &mut Consumer<Outcome>,
+    heard: &mut Heard,
     updates: u64,
     name: &str,
     turns: &Turns,
     sink: &mut K,
-) -> Result<(), Refusal> {
-    for _ in 0..updates {
-        let value = value_in(next_update(rt, heard, turns))?;
-        print_value(alloc, name, &value, sink)?;
+) -> Result<u64, Refusal> {
+    for printed in 0..updates {
+        let Some(update) = next_update(rt, heard, turns)? else {
+            return Ok(updates - printed);
+        };
+        print_value(alloc, name, &value_in(Some(update))?, sink)?;
     }
-    Ok(())
+    Ok(0)
 }
 
-// Waits for an update: none if the turns are used up.
-fn next_update<R: Clock>(rt: &R, heard: &mut Consumer<Outcome>, turns: &Turns) -> Option<Outcome> {
+// Waits for an update: none if one was left out and no other waits. Refused as Disconnected if the turns are used up.
+fn next_update<R: Clock>(
+    rt: &R,
+    heard: &mut Heard,
+    turns: &Turns,
+) -> Result<Option<Outcome>, Refusal> {
     for _ in 0..u64::MAX {
-        if let Ok(outcome) = heard.pop() {
-            return Some(outcome);
+        if let Some(outcome) = heard.next() {
+            return Ok(Some(outcome));
+        }
+        if heard.has_missed() {
+            return Ok(None);
         }
         if !turns.are_left(rt) {
             break;
         }
         thread::sleep(rt, Duration::from_millis(TURN));
     }
-    None
+    Err(Refusal::Disconnected)
 }
 
 // The text as a STRING: of zeros after its bytes, of which there are 40 at most.
