@@ -1,6 +1,5 @@
 -- What a client sends once a circuit is connected, message by message.
 use Rattle.std.proofs.Common.{◌≡◌, ◌∙◌, ℕ, ◌+◌, ◌<◌, ◌≤◌, List, [], ◌∷◌, ◌++◌, append_assoc, ap, length, map, option_to_list, sym, take, take_all}
-use Rattle.std.specs.Prelude.{Option}
 use Rattle.std.proofs.lemmas.List.{map-append}
 use Rattle.std.proofs.lemmas.List.Elements.{filter_map-append}
 use Rattle.ca_arena.specs.declared.handle.Handle.{Handle}
