@@ -16,6 +16,7 @@ mod dispatching;
 mod errors;
 mod finding;
 mod first;
+pub mod for_accepts;
 pub mod for_histories;
 mod foreseeing;
 mod hearing;

@@ -124,7 +124,7 @@ impl Channel {
     }
 
     /// The CREATE_CHAN of this channel, which has this handle.
-    pub(crate) fn create_message(&self, alloc: Global, own: Handle) -> Result<Message, AllocError>
+    pub fn create_message(&self, alloc: Global, own: Handle) -> Result<Message, AllocError>
         ensures { IfOk result (λ m. m ≡ create_request (wire_of own) self.now.name) }
     {
         create_request(alloc, Cid::new(WireId::of(own).number()), &self.name)

@@ -178,8 +178,8 @@ fn begin_at(channels: &mut HeldTable<Channel>, circuit: Handle, index: usize)
 }
 
 impl Channel {
-    // Whether it waits for this circuit to be connected.
-    fn is_connecting_on(&self, circuit: Handle) -> bool
+    /// Whether it waits for this circuit to be connected.
+    pub fn is_connecting_on(&self, circuit: Handle) -> bool
         ensures { result ≡ client.is_on_in is_connecting circuit self.now }
     {
         match self.standing() {

@@ -4,6 +4,7 @@
 //! It is not complete: not all events are there yet.
 #![tactic(auto)]
 
+mod accept;
 mod clear;
 mod client_restart;
 mod collect;

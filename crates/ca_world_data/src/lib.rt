@@ -2,6 +2,7 @@
 //! events are made: logs and histories with room made first, lookups by handle, ends that end, puts that are withdrawn.
 #![tactic(auto)]
 
+pub mod accepting;
 pub mod cancelling;
 pub mod clearing;
 pub mod client;

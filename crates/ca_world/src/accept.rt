@@ -1,0 +1,32 @@
+ghost use Rattle.ca_model_world.specs.Events as event;
+ghost use Rattle.ca_world_data.specs.Does.{Does};
+
+use crate::world::World;
+use ca_text::Refusal;
+use ca_world_data::accepting::{accept_on, first_served};
+
+impl World {
+    /// The first circuit that a client wants, of those whose address has a server, is made: the server accepts it, and the client sends
+    /// what comes first on it. A server without room refuses it, and tells nothing.
+    pub fn accept(&mut self, client: usize) -> Result<(), Refusal>
+        ensures { Does self.old (event.Accept client) result self.new }
+    {
+        if client >= self.clients.len() {
+            return Err(Refusal::BadEvent);
+        }
+        let side = &mut self.clients[client];
+        let Some((wanted, server)) = first_served(&side.core, &self.servers) else {
+            return Err(Refusal::BadEvent);
+        };
+        accept_on(
+            self.alloc,
+            client,
+            side,
+            server,
+            &mut self.servers[server],
+            &mut self.circuits,
+            &mut self.client_logs,
+            wanted.circuit,
+        )
+    }
+}
