@@ -14,3 +14,6 @@ pub mod Restarting
 pub mod Withdrawals
 pub mod Entering
 pub mod Handed
+pub mod Readings
+pub mod Updates
+pub mod Tellings

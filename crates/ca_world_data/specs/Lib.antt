@@ -23,3 +23,4 @@ pub mod Telling
 pub mod Handing
 pub mod Clears
 pub mod ClientCuts
+pub mod Updates

@@ -20,5 +20,6 @@ pub mod payloads;
 pub mod server;
 pub mod settings;
 pub mod telling;
+pub mod updates;
 pub mod way;
 pub mod withdrawing;
