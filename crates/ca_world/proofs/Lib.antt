@@ -14,3 +14,7 @@ pub mod Farewells
 pub mod Clearings
 pub mod ClientCuttings
 pub mod Pumping
+pub mod Stamping
+pub mod Endings
+pub mod Staying
+pub mod Pumpings

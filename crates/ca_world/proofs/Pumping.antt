@@ -24,7 +24,7 @@ use Rattle.ca_world_data.specs.ServerCuts.{IsServing, cut_core, left_in}
 use Rattle.ca_world_data.specs.Updates.{AreGood, AreSpelled, TellsOne, TellsSome}
 use Rattle.ca_world.specs.ServerPumps.{Pumped, PumpsUntil, TellsBehind, UpdatesFit, over_core, shown_by}
 use Rattle.ca_world.proofs.Downward.{set-set}
-use Rattle.ca_world_data.proofs.Updates.{spelled-both}
+use Rattle.ca_world_data.proofs.UpdatesTold.{spelled-both}
 
 -- ---- an end that is over
 

@@ -15,5 +15,5 @@ pub mod Withdrawals
 pub mod Entering
 pub mod Handed
 pub mod Readings
-pub mod Updates
+pub mod UpdatesTold
 pub mod Tellings

@@ -15,7 +15,7 @@ use Rattle.ca_world_data.specs.declared.history.Told.{Told}
 use Rattle.ca_world_data.specs.declared.joined.Joined.{Joined}
 use Rattle.ca_world_data.specs.Seen.{cause_of, joined_of, lists_of, queue_of, told_of}
 use Rattle.ca_world_data.specs.Updates.{TellsOne}
-use Rattle.ca_world_data.proofs.Updates.{takes-images}
+use Rattle.ca_world_data.proofs.UpdatesTold.{takes-images}
 
 -- a number as the statement has it
 abbrev number_of : ℕ × Cause → ℕ × history.Cause

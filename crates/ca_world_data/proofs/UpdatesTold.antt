@@ -24,7 +24,7 @@ module _ {E F : Type 0} (f : E → F) where
   none-image : (o : Option (SubKey × E)) → o ≡ None → image_if f o ≡ None
   none-image o is = ap (image_if f) is
 
-  rest-images : (qs : List (Queue E)) (n : ℕ) → RestBefore qs n → RestBefore (map (queue_images f) qs) n
+  pub rest-images : (qs : List (Queue E)) (n : ℕ) → RestBefore qs n → RestBefore (map (queue_images f) qs) n
   rest-images qs n rest i r lt at =
       let q = At-mapped (queue_images f) qs i r at in
       ap (λ (z : Queue F). taken z.events_on z.waiting) q.2 ∙ taken_images f q.0.events_on q.0.waiting ∙ none-image (taken q.0.events_on q.0.waiting) (rest i q.0 lt q.1)
