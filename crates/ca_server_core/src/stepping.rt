@@ -102,7 +102,7 @@ fn first_of(bytes: Pipe, n: usize) -> Pipe
 }
 
 /// Whether the end of a circuit is open.
-fn is_open(circuits: &HeldTable<Circuit>, circuit: Handle) -> bool
+pub(crate) fn is_open(circuits: &HeldTable<Circuit>, circuit: Handle) -> bool
     ensures { result ≡ is_open (under circuits.now circuit) }
 {
     match circuits.by_handle(circuit) {

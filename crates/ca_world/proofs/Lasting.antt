@@ -4,7 +4,11 @@ use Rattle.std.specs.Prelude.{map}
 use Rattle.ca_text.specs.declared.refusal.Refusal.{Refusal}
 use Rattle.ca_text.specs.declared.refusal.Refusal.TheVariants.{BadEvent, OutOfMemory}
 use Rattle.ca_model_world.specs.Events.{Event}
+use Rattle.ca_model_world.specs.Runs.{IsEvent}
 use Rattle.ca_model_world.specs.World.{World, opening}
+use Rattle.ca_laws_bytes.specs.ServerFits.{ServersFit}
+use Rattle.ca_laws_bytes.proofs.Runs.{events-stand, opening-stands}
+use Rattle.ca_laws_bytes.proofs.ServerSpeaking.{event-servers}
 use Rattle.ca_laws_held.specs.Quiet.{ClientsQuiet}
 use Rattle.ca_laws_held.proofs.Joint.{folds-snoc}
 use Rattle.ca_laws_held.proofs.Kept.{quiet-happens}
@@ -46,13 +50,21 @@ reached-by w new e (Err OutOfMemory) d h = subst (λ (v : World). IsReached v) (
 reached-by w new e (Err BadEvent) d h = subst (λ (v : World). IsReached v) (sym d.1) h
 reached-by w new e (Err _) d h = absurd d
 
+-- what servers send are messages
+pub fit-by : (w new : World) (e : Event) (r : Result (Unit {0}) Refusal) → Does w e r new → IsEvent e → IsReached w → ServersFit w → ServersFit new
+fit-by w new e (Ok u) d fine (s, es, ok, folds) f = event-servers s w new e ok fine (events-stand s es (opening s) w ok folds (opening-stands s ok)) d f
+fit-by w new e (Err OutOfMemory) d fine h f = subst (λ (v : World). ServersFit v) (sym d.1) f
+fit-by w new e (Err BadEvent) d fine h f = subst (λ (v : World). ServersFit v) (sym d.1) f
+fit-by w new e (Err _) d fine h f = absurd d
+
 -- all of it does, if circuits are found still
-pub all-stand : (w new : Inside) (e : Event) (r : Result (Unit {0}) Refusal) → Does (seen w) e r (seen new) → Stands w
+pub all-stand : (w new : Inside) (e : Event) {fine : IsEvent e} (r : Result (Unit {0}) Refusal) → Does (seen w) e r (seen new) → Stands w
     → AreIndexed (client_numbers new.clients.items) (server_numbers new.servers.items) (map joined_of new.circuits.items) → Stands new
-all-stand w new e r d s indexed = record {
+all-stand w new e {fine} r d s indexed = record {
   indexed = indexed;
   reached = reached-by (seen w) (seen new) e r d s.reached;
   clients = stand-by (seen w) (seen new) e r d s.clients;
   quiet = quiet-by (seen w) (seen new) e r d s.clients s.quiet;
   named = mean-by (seen w) (seen new) e r d s.clients s.quiet s.named;
+  fit = fit-by (seen w) (seen new) e r d fine s.reached s.fit;
 }

@@ -14,3 +14,8 @@ pub mod Farewells
 pub mod Clearings
 pub mod ClientCuttings
 pub mod Accepting
+pub mod Pumping
+pub mod Stamping
+pub mod Endings
+pub mod Staying
+pub mod Pumpings

@@ -77,7 +77,7 @@ fn cut_at(
 }
 
 // Cuts the open end under this handle, which a step reports at once: what it leaves.
-fn cut_end(alloc: Global, core: &mut ServerCore, circuit: Handle) -> Pipe
+pub(crate) fn cut_end(alloc: Global, core: &mut ServerCore, circuit: Handle) -> Pipe
     requires { IsServing core.old circuit }
     ensures left { result ≡ output_of (under core.old.circuits circuit) }
     ensures core { core.new ≡ cut_core circuit core.old }
@@ -88,7 +88,7 @@ fn cut_end(alloc: Global, core: &mut ServerCore, circuit: Handle) -> Pipe
 }
 
 // What an end left that a step reports.
-fn left_by(alloc: Global, did: Step) -> Pipe
+pub(crate) fn left_by(alloc: Global, did: Step) -> Pipe
     ensures { result ≡ left_in (stepped did) }
 {
     match did {

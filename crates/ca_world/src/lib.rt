@@ -14,6 +14,7 @@ mod cut_server;
 mod down;
 mod give_up;
 mod opens;
+mod pump;
 mod read;
 mod server_datagram;
 mod server_restart;

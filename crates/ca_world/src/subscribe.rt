@@ -34,6 +34,7 @@ impl World {
             result
             self.new }
     {
+        let _ = mask.bits();
         if client >= self.clients.len() {
             return Err(Refusal::BadEvent);
         }

@@ -24,6 +24,7 @@ impl World {
     pub fn write(&mut self, client: usize, channel: usize, value: &Value) -> Result<(), Refusal>
         ensures { Does self.old (event.Write client channel (elements value.now)) result self.new }
     {
+        value.know();
         if client >= self.clients.len() {
             return Err(Refusal::BadEvent);
         }

@@ -33,6 +33,7 @@ impl World {
             result
             self.new }
     {
+        value.know();
         if client >= self.clients.len() {
             return Err(Refusal::BadEvent);
         }

@@ -16,3 +16,6 @@ pub mod Entering
 pub mod Handed
 pub mod Accepted
 pub mod Going
+pub mod Readings
+pub mod UpdatesTold
+pub mod Tellings

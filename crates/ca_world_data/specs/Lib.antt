@@ -25,3 +25,4 @@ pub mod Clears
 pub mod ClientCuts
 pub mod Accepting
 pub mod Sends
+pub mod Updates

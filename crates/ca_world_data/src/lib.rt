@@ -22,5 +22,6 @@ pub mod sending;
 pub mod server;
 pub mod settings;
 pub mod telling;
+pub mod updates;
 pub mod way;
 pub mod withdrawing;

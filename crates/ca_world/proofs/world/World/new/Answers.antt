@@ -2,6 +2,8 @@ use Rattle.std.proofs.Common.{◌≡◌, List, [], map, ap, refl, sym, subst, �
 use Rattle.ca_model.specs.Ends.{Address}
 use Rattle.ca_model_world.specs.World.{Joined, Setting, addresses, client_begun, numbered, opening}
 use Rattle.ca_model_world.specs.World as model
+use Rattle.ca_laws_bytes.specs.ServerFits.{ServersFit}
+use Rattle.ca_laws_bytes.proofs.ServerSpeaking.{opening-servers}
 use Rattle.ca_laws_held.specs.Quiet.{ClientsQuiet}
 use Rattle.ca_laws_held.proofs.Kept.{quiet-opening}
 use Rattle.ca_laws_runs.specs.Clients.{ClientsStand}
@@ -33,4 +35,5 @@ invariant_of-result c =
       clients = subst (λ (z : model.World). ClientsStand z) (sym is) (stands-opening s);
       quiet = subst (λ (z : model.World). ClientsQuiet z) (sym is) (quiet-opening s);
       named = subst (λ (z : model.World). AreMeant z.clients) (sym is) (mean-opening s);
+      fit = subst (λ (z : model.World). ServersFit z) (sym is) (opening-servers s c.config.invariant);
     }

@@ -3,7 +3,9 @@ use Rattle.std.specs.Prelude.{map, slice_set}
 use Rattle.ca_text.specs.Place.{At}
 use Rattle.ca_text.proofs.Places.{At-map}
 use Rattle.ca_model.specs.ClientCalls.{Shape}
+use Rattle.ca_text.specs.Mask.{HasEvent}
 use Rattle.ca_model_world.specs.Events.{Subscribe}
+use Rattle.ca_model_world.specs.Runs.{IsEvent}
 use Rattle.ca_model_world.specs.World as model
 use Rattle.ca_world_data.specs.declared.client.ClientSide.{ClientSide}
 use Rattle.ca_world_data.specs.Does.{Does}
@@ -61,6 +63,7 @@ invariant_of-self c =
     let ks = map joined_of c.subscribe_on.new.circuits.items in
     let within : k < length cs = omega (arith, c.if-client-len.false, c.len.ensures) in
     let at : At cs k x = found cs k x x within c.index_mut.ensures.value in
+    let fine : IsEvent (Subscribe k c.args.channel a.data_type a.count c.args.mask) = (subst HasEvent c.bits.ensures.bits c.bits.ensures.event, subst (λ (n : ℕ). n < 65536) c.bits.ensures.bits (omega arith)) in
     let d = subscribes-does (seen w) k c.args.channel a c.args.mask (client_of x) (client_of x') logs ks c.subscribe_on.result (At-map client_of cs k x at) c.subscribe_on.ensures.subscribes in
-    speaks-stand w k x at c.self.invariant (Subscribe k c.args.channel a.data_type a.count c.args.mask) c.subscribe_on.result x' logs ks d _ refl c.subscribe_on.ensures.kept refl refl
+    speaks-stand w k x at c.self.invariant (Subscribe k c.args.channel a.data_type a.count c.args.mask) c.subscribe_on.result x' logs ks d {fine = fine} _ refl c.subscribe_on.ensures.kept refl refl
     (subscribes-keep k c.args.channel a c.args.mask (client_of x) (client_of x') (lines_in w.client_logs.items) logs (map joined_of w.circuits.items) ks c.subscribe_on.result c.subscribe_on.ensures.subscribes)
