@@ -13,6 +13,7 @@ mod finishing;
 mod first_waiting;
 mod following;
 pub mod foretelling;
+pub mod for_histories;
 mod next_put;
 mod posting;
 mod pumping;

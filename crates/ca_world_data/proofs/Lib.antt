@@ -13,6 +13,9 @@ pub mod Closings
 pub mod Restarting
 pub mod Withdrawals
 pub mod Entering
+pub mod Gone
+pub mod Serving
+pub mod Reported
 pub mod Handed
 pub mod Accepted
 pub mod Going

@@ -19,6 +19,7 @@ pub mod Closing
 pub mod Restarts
 pub mod Withdrawing
 pub mod ServerCuts
+pub mod Reporting
 pub mod Telling
 pub mod Handing
 pub mod Clears

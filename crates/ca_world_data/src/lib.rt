@@ -19,6 +19,7 @@ pub mod naming;
 pub mod opening;
 pub mod payloads;
 pub mod sending;
+pub mod reporting;
 pub mod server;
 pub mod settings;
 pub mod telling;
