@@ -17,6 +17,7 @@ mod errors;
 mod finding;
 mod first;
 pub mod for_histories;
+pub mod foretelling;
 mod foreseeing;
 mod hearing;
 mod input;

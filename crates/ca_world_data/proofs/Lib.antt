@@ -14,3 +14,4 @@ pub mod Restarting
 pub mod Withdrawals
 pub mod Entering
 pub mod Handed
+pub mod Silences

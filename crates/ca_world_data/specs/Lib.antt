@@ -23,3 +23,5 @@ pub mod Telling
 pub mod Handing
 pub mod Clears
 pub mod ClientCuts
+pub mod Silencing
+pub mod Ticks

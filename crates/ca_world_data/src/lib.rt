@@ -19,6 +19,7 @@ pub mod opening;
 pub mod payloads;
 pub mod server;
 pub mod settings;
+pub mod silencing;
 pub mod telling;
 pub mod way;
 pub mod withdrawing;
