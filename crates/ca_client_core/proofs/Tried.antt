@@ -1,6 +1,6 @@
 -- What a moment makes a client send is what it sent as it was tried out.
-use Rattle.std.proofs.Common.{◌≡◌, ◌≢◌, ◌∙◌, ℕ, ◌+◌, ◌≤◌, ◌<◌, Bool, true, false, cond, List, [], ◌∷◌, ◌++◌, Some, Err, ap, drop, fold, get_or, length, map, refl, subst, sym, take}
-use Rattle.std.specs.Prelude.{filter, slice_get}
+use Rattle.std.proofs.Common.{◌≡◌, ◌≢◌, ◌∙◌, ℕ, ◌+◌, ◌≤◌, Bool, true, false, cond, List, [], ◌∷◌, ◌++◌, Some, Err, ap, fold, length, map, refl, subst, sym, take}
+use Rattle.std.specs.Prelude.{IfOk, OnErr, Ok, Result, slice_get}
 use Rattle.std.proofs.lemmas.List.{map-append}
 use Rattle.ca_text.specs.Limits.{arena_slots}
 use Rattle.ca_text.specs.declared.refusal.Refusal.TheVariants as refusal
@@ -12,13 +12,13 @@ use Rattle.ca_wire.specs.Messages.{bare, search_request}
 use Rattle.ca_model.specs.Answers as answer
 use Rattle.ca_model.specs.Client.{Client, later}
 use Rattle.ca_model.specs.ClientCalls.{is_over}
-use Rattle.ca_model.specs.ClientEnds.{ClientTicks, Ticking, all_searched_on, circuits_ticked, due, echoes, is_name_connected, of_circuit, searches_made, searches_on, with_sending}
+use Rattle.ca_model.specs.ClientEnds.{ClientTicks, Ticking, all_searched_on, circuits_ticked, due, echoes, of_circuit, searches_on, with_sending}
 use Rattle.ca_client_tables.specs.Ahead.{Once, due_after, is_in}
 use Rattle.ca_client_tables.specs.Ends.{with_messages, with_message}
 use Rattle.ca_client_tables.proofs.Queued.{messages-none, messages-twice}
 use Rattle.ca_client_core.specs.declared.for_histories.Sending.{Sending}
 use Rattle.ca_client_core.specs.declared.foretelling.Foretold.{Foretold}
-use Rattle.ca_client_core.specs.Foretold.{Foretells, IsFar, IsTried, Notes, Tries}
+use Rattle.ca_client_core.specs.Foretold.{AreSome, Foretells, IsFar, IsTried, Notes, Tries}
 use Rattle.ca_client_core.specs.ForHistories.{sending_of}
 use Rattle.ca_client_core.specs.Moments.{EchoesAll, all_echoed, all_ended, all_searched, echo_step, is_echo_due, is_searched_on, is_silent, search_step, silent_of}
 use Rattle.ca_client_core.specs.Ticked.{LacksMemory, circuits_of}
@@ -46,7 +46,7 @@ pub notes-same : (f g : Ticking → Ticking) (x y : Client) (ss zs : List Sendin
 notes-same f g x y ss zs same does t far = subst (λ (u : Ticking). IsFar u y zs) (same t) (does t far)
 
 -- a tick that is as far as this
-far_at : Client → List Sending → Ticking
+abbrev far_at : Client → List Sending → Ticking
 far_at x ss = record { core = x; sent = map sending_of ss; notices = []; closings = [] }
 
 -- ---- ECHOs
@@ -166,3 +166,18 @@ foretold-back x w y new m before was begun back is =
     is
     ∙ ap (λ (v : Client). let u : Client = record v { moment = before } in u) (back ∙ begun)
     ∙ ap (λ (n : ℕ). let u : Client = record x { moment = n } in u) was
+
+-- ---- an answer, and what that says
+
+pub ok-says : {A E : Type 0} (P Q : A → Type 0) (r : Result A E) → ((a : A) → P a → Q a) → IfOk r P → IfOk r Q
+ok-says P Q (Ok a) says is = says a is
+ok-says P Q (Err e) says is = is
+
+pub err-says : {A E : Type 0} (P Q : Type 0) (r : Result A E) → (P → Q) → OnErr r P → OnErr r Q
+err-says P Q (Ok a) says is = is
+err-says P Q (Err e) says is = says is
+
+-- some, or none
+pub are-some : (hs : List Handle) (b : Bool) → AreSome hs b → (b ≡ true → hs ≢ []) × (b ≡ false → hs ≡ [])
+are-some hs true is = (λ e. is, λ e. absurd (let bad : true ≡ false = e in cc))
+are-some hs false is = (λ e. absurd (let bad : false ≡ true = e in cc), λ e. is)

@@ -1,5 +1,6 @@
 -- Vocabulary: what a moment will make a client send; and, working, how that is found.
-use Rattle.std.specs.Prelude.{ℕ, ◌≡◌, ◌≢◌, true, false, List, [], map}
+use Rattle.std.specs.Prelude.{ℕ, ◌≡◌, ◌≢◌, Bool, true, false, List, [], map}
+use Rattle.ca_arena.specs.declared.handle.Handle.{Handle}
 use Rattle.ca_model.specs.Client.{Client}
 use Rattle.ca_model.specs.ClientEnds.{Ticking, circuits_ticked, due, searches_made}
 use Rattle.ca_client_core.specs.declared.for_histories.Sending.{Sending}
@@ -21,6 +22,11 @@ IsFar t x ss = (t.core ≡ x) × (t.sent ≡ map sending_of ss)
 -- A step of a tick was done, and what it sent was noted.
 abbrev pub Notes : (Ticking → Ticking) → Client → List Sending → Client → List Sending → Type 0
 Notes step x ss y zs = (t : Ticking) → IsFar t x ss → IsFar (step t) y zs
+
+-- there are some of these, or none
+abbrev pub AreSome : List Handle → Bool → Type 0
+AreSome hs true = hs ≢ []
+AreSome hs false = hs ≡ []
 
 -- All that the client's moment makes it send was noted, and whether an end is to end.
 pub record IsTried (t : Ticking) (f : Foretold) : Type 0 where

@@ -1,12 +1,10 @@
 //! What a moment will make a client send, for whoever records histories. No client needs these calls.
-ghost use Rattle.std.specs.Prelude.{◌≡◌, ◌≢◌, ◌++◌, ◌∷◌, [], true, Err, IfOk, List, OnErr, OnOk, map};
-ghost use Rattle.ca_text.specs.declared.command.Command.TheVariants as command;
+ghost use Rattle.std.specs.Prelude.{◌≡◌, ◌≢◌, [], true, Err, IfOk, List, OnErr, OnOk};
 ghost use Rattle.ca_text.specs.declared.refusal.Refusal.TheVariants.{OutOfMemory};
 ghost use Rattle.ca_wire.specs.Fields.{Fields};
-ghost use Rattle.ca_wire.specs.Messages.{bare};
 ghost use Rattle.ca_model.specs.ClientEnds.{ClientTicks, Ticking, all_searched_on, of_circuit, searches_on};
 ghost use Rattle.ca_client_core.specs.ForHistories.{sending_of};
-ghost use Rattle.ca_client_core.specs.Foretold.{Foretells, Notes, Tries};
+ghost use Rattle.ca_client_core.specs.Foretold.{AreSome, Foretells, Notes, Tries};
 ghost use Rattle.ca_client_core.specs.Marks.{undone};
 ghost use Rattle.ca_client_core.specs.Moments.{EchoIsDue, EchoesAll, all_echoed, all_searched, echo_step, is_echo_due, search_step};
 ghost use Rattle.ca_client_core.specs.Ticked.{LacksMemory};
@@ -23,7 +21,7 @@ use ca_wire::{Message, bare};
 use std::alloc::AllocError;
 
 /// What a moment will make a client send, in order, and whether ends will end by it.
-#[derive(Debug, Drop)]
+#[derive(Drop)]
 pub struct Foretold {
     pub sent: Vec<Sending>,
     pub ends: bool,
@@ -61,7 +59,7 @@ impl ClientCore {
         self.note_searches(&searches, marks, &mut sent)?;
         Ok(Foretold {
             sent,
-            ends: !ends.is_empty(),
+            ends: are_some(&ends),
         })
     }
 
@@ -206,6 +204,16 @@ impl ClientCore {
         sent.push(of_circuit(circuit, message))?;
         Ok(())
     }
+}
+
+// Whether there are any.
+fn are_some(ends: &[Handle]) -> bool
+    ensures { AreSome ends.now result }
+{
+    if ends.is_empty() {
+        return false;
+    }
+    true
 }
 
 // A message of the circuit as a whole.

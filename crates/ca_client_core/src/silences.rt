@@ -81,7 +81,11 @@ impl ClientCore {
     }
 
     // The ECHO of a circuit, if it is due.
-    pub(crate) fn echo_on(&mut self, circuit: Handle, marks: &mut Vec<CircuitMark>) -> Result<(), AllocError>
+    pub(crate) fn echo_on(
+        &mut self,
+        circuit: Handle,
+        marks: &mut Vec<CircuitMark>,
+    ) -> Result<(), AllocError>
         ensures kept { undone marks.new.items self.new ≡ undone marks.old.items self.old }
         ensures ok { OnOk result ((t : Ticking) → t.core ≡ self.old
             → self.new ≡ (echo_step t circuit).core) }

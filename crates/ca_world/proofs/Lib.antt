@@ -13,3 +13,5 @@ pub mod Collecting
 pub mod Farewells
 pub mod Clearings
 pub mod ClientCuttings
+pub mod Partings
+pub mod Moments

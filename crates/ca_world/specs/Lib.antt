@@ -1,2 +1,4 @@
 pub mod Whole
 pub mod Reported
+pub mod Halted
+pub mod Ticking

@@ -138,3 +138,16 @@ pub lines-twice : (about : history.Intent) (n : Names) (life : ℕ) (first rest 
 lines-twice about n life first rest logs =
     grown-twice life (lines_of about n first) (lines_of about n rest) logs
     ∙ ap (λ (z : List history.Line). grown life z logs) (sym (map-append (line_of about n) first rest))
+
+-- ---- room
+
+-- room for more is room for fewer
+pub room-fewer : (m n life : ℕ) (logs : List (Vec Line Global)) → n ≤ m → HasRoom m life logs → HasRoom n life logs
+room-fewer m n life logs le room log at = (let r = room log at in omega (arith, le, r))
+
+-- room for what two tell is room for what the first tells, and then for what the other does
+pub room-first : (first rest : List Notice) (life : ℕ) (logs : List (Vec Line Global)) → HasRoom (length (first ++ rest)) life logs → HasRoom (length first) life logs
+room-first first rest life logs = room-fewer (length (first ++ rest)) (length first) life logs (let e = length-append first rest in omega (arith, e))
+
+pub room-both : (first rest : List Notice) (life : ℕ) (logs : List (Vec Line Global)) → HasRoom (length (first ++ rest)) life logs → HasRoom (length first + length rest) life logs
+room-both first rest life logs = room-fewer (length (first ++ rest)) (length first + length rest) life logs (let e = length-append first rest in omega (arith, e))

@@ -21,5 +21,6 @@ pub mod server;
 pub mod settings;
 pub mod silencing;
 pub mod telling;
+pub mod ticking;
 pub mod way;
 pub mod withdrawing;
