@@ -31,3 +31,4 @@ mod Prepared
 mod Rounds
 mod Alone
 mod Awaited
+mod Tried

@@ -326,7 +326,7 @@ calm-still t c d calm = go (is_silent t.core c)
       | inr other ↦ asks-past is_close c d t.core other ∙ calm
     ]
 
-silent-alone : (Q : Handle → Bool) (cs : List Handle) (t : Ticking) → ((d : Handle) → Q d ≡ false → is_silent t.core d ≡ false) → all_ended (filter Q cs) t ≡ all_ended cs t
+pub silent-alone : (Q : Handle → Bool) (cs : List Handle) (t : Ticking) → ((d : Handle) → Q d ≡ false → is_silent t.core d ≡ false) → all_ended (filter Q cs) t ≡ all_ended cs t
 silent-alone Q [] t calm = refl
 silent-alone Q (c ∷ cs) t calm = go (Q c) refl (silent-alone Q cs (end_step t c) (λ d out. calm-still t c d (calm d out)))
   where
@@ -531,7 +531,7 @@ calm-echoed (c ∷ cs) t =
 
 -- ---- what takes memory
 
-ended-sent : (cs : List Handle) (t : Ticking) → (all_ended cs t).sent ≡ t.sent
+pub ended-sent : (cs : List Handle) (t : Ticking) → (all_ended cs t).sent ≡ t.sent
 ended-sent [] t = refl
 ended-sent (c ∷ cs) t = ended-sent cs (end_step t c) ∙ go (is_silent t.core c)
   where

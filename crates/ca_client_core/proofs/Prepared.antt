@@ -63,10 +63,10 @@ servers-stay t =
 -- ---- the first half
 
 -- the client after its ECHOs is that of a tick after them
-echoed-as : (x y : Client) (t : Ticking) → EchoesAll x y → t.core ≡ x → y ≡ (all_echoed t.core.order t).core
+pub echoed-as : (x y : Client) (t : Ticking) → EchoesAll x y → t.core ≡ x → y ≡ (all_echoed t.core.order t).core
 echoed-as x y t echoes is = echoes t is ∙ ap (λ (z : Client). (all_echoed z.order t).core) (sym is)
 
-same-silent : (x y : Client) (t : Ticking) → EchoesAll x y → t.core ≡ x → silent_of y y.order ≡ silent_of t.core t.core.order
+pub same-silent : (x y : Client) (t : Ticking) → EchoesAll x y → t.core ≡ x → silent_of y y.order ≡ silent_of t.core t.core.order
 same-silent x y t echoes is =
     let one : Ticking = all_echoed t.core.order t in
     ap (λ (z : Client). silent_of z z.order) (echoed-as x y t echoes is)
@@ -74,7 +74,7 @@ same-silent x y t echoes is =
     ∙ silent-echoed t.core.order t.core.order t
 
 -- the searches that were foreseen are those that are due
-foreseen : (x y : Client) (t : Ticking) (ends : List Handle) → length x.channels ≤ arena_slots → Once x.searches → EchoesAll x y → t.core ≡ x → ends ≡ silent_of y y.order → due_after (is_in ends) y.moment y.channels y.searches ≡ due (circuits_of t).core
+pub foreseen : (x y : Client) (t : Ticking) (ends : List Handle) → length x.channels ≤ arena_slots → Once x.searches → EchoesAll x y → t.core ≡ x → ends ≡ silent_of y y.order → due_after (is_in ends) y.moment y.channels y.searches ≡ due (circuits_of t).core
 foreseen x y t ends few once echoes is silent =
     let one : Ticking = all_echoed t.core.order t in
     let same = echo-sought t.core.order t in

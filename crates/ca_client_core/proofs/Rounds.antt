@@ -126,7 +126,7 @@ order-searched c (w ∷ ws) t = order-searched c ws (searches_on c t w) ∙ go (
     go true = refl
     go false = refl
 
-search-order : (ws : List Wanted) (cs : List Handle) (t : Ticking) → (all_searched ws cs t).core.order ≡ t.core.order
+pub search-order : (ws : List Wanted) (cs : List Handle) (t : Ticking) → (all_searched ws cs t).core.order ≡ t.core.order
 search-order ws [] t = refl
 search-order ws (c ∷ cs) t = search-order ws cs (search_step ws t c) ∙ go (is_searched_on t.core c)
   where

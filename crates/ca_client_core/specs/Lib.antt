@@ -20,3 +20,4 @@ pub mod Silences
 pub mod NameSearches
 pub mod Ticked
 pub mod ForAccepts
+pub mod Foretold

@@ -19,6 +19,7 @@ mod first;
 pub mod for_accepts;
 pub mod for_histories;
 mod foreseeing;
+pub mod foretelling;
 mod hearing;
 mod input;
 mod issuing;

@@ -57,7 +57,7 @@ impl ClientCore {
     }
 
     // Whether searches go out on a circuit.
-    fn is_searched_on(&self, circuit: Handle) -> bool
+    pub(crate) fn is_searched_on(&self, circuit: Handle) -> bool
         ensures { result ≡ is_searched_on self.now circuit }
     {
         self.is_name_connected(circuit) && !self.is_silent(circuit)
@@ -99,7 +99,7 @@ impl ClientCore {
 }
 
 // The SEARCH of a search.
-fn search_message(alloc: Global, search: &Search) -> Result<Message, AllocError>
+pub(crate) fn search_message(alloc: Global, search: &Search) -> Result<Message, AllocError>
     ensures { IfOk result (λ m. m ≡ search_request search.now.cid search.now.name) }
 {
     let name = search.name();

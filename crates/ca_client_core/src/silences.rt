@@ -39,7 +39,7 @@ impl ClientCore {
     }
 
     // Whether an ECHO is due on a circuit.
-    fn is_echo_due(&self, circuit: Handle) -> bool
+    pub(crate) fn is_echo_due(&self, circuit: Handle) -> bool
         ensures { result ≡ is_echo_due self.now circuit }
     {
         is_echo(self.asked(circuit))
@@ -81,7 +81,11 @@ impl ClientCore {
     }
 
     // The ECHO of a circuit, if it is due.
-    fn echo_on(&mut self, circuit: Handle, marks: &mut Vec<CircuitMark>) -> Result<(), AllocError>
+    pub(crate) fn echo_on(
+        &mut self,
+        circuit: Handle,
+        marks: &mut Vec<CircuitMark>,
+    ) -> Result<(), AllocError>
         ensures kept { undone marks.new.items self.new ≡ undone marks.old.items self.old }
         ensures ok { OnOk result ((t : Ticking) → t.core ≡ self.old
             → self.new ≡ (echo_step t circuit).core) }

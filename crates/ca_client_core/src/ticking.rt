@@ -171,7 +171,7 @@ impl ClientCore {
         to_servers(self.alloc, &self.servers, packed)
     }
 
-    fn set_moment(&mut self, moment: u64)
+    pub(crate) fn set_moment(&mut self, moment: u64)
         ensures { self.new ≡ record self.old { moment = moment } }
     {
         self.moment = moment;

@@ -65,7 +65,7 @@ no-more {A} {B} Has (x ∷ xs) ys each one =
 -- ---- requests
 
 -- what is meant by a handle is named
-meant-there : (names : List (Handle × Intent)) (q : Handle) (a : ℕ) (ask : history.Ask) → meant_by names q ≡ On a ask → (k : ℕ) × (e : Handle × Intent) × At names k e × (e.0 ≡ q)
+pub meant-there : (names : List (Handle × Intent)) (q : Handle) (a : ℕ) (ask : history.Ask) → meant_by names q ≡ On a ask → (k : ℕ) × (e : Handle × Intent) × At names k e × (e.0 ≡ q)
 meant-there names q a ask is = go (find (λ (x : Handle × Intent). same_handle x.0 q) names) refl is
   where
     go : (o : Option (Handle × Intent)) → find (λ (x : Handle × Intent). same_handle x.0 q) names ≡ o → unwrap_or (option_map (λ (x : Handle × Intent). x.1) o) OfCircuit ≡ On a ask → (k : ℕ) × (e : Handle × Intent) × At names k e × (e.0 ≡ q)

@@ -19,3 +19,5 @@ pub mod Stamping
 pub mod Endings
 pub mod Staying
 pub mod Pumpings
+pub mod Partings
+pub mod Moments

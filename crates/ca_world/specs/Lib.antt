@@ -1,3 +1,5 @@
 pub mod Whole
 pub mod Reported
 pub mod ServerPumps
+pub mod Halted
+pub mod Ticking

@@ -18,7 +18,9 @@ mod pump;
 mod read;
 mod server_datagram;
 mod server_restart;
+mod stopped;
 mod subscribe;
+mod tick;
 mod unsubscribe;
 mod up;
 mod world;
@@ -30,4 +32,6 @@ pub use ca_world_data::history::{
 };
 pub use ca_world_data::settings::{ClientSetting, RuleSetting, ServerSetting};
 pub use config::Config;
+pub use stopped::Stopped;
+pub use tick::AfterTick;
 pub use world::World;

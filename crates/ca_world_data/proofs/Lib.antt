@@ -22,3 +22,5 @@ pub mod Going
 pub mod Readings
 pub mod UpdatesTold
 pub mod Tellings
+pub mod Silences
+pub mod Momentary

@@ -27,3 +27,5 @@ pub mod ClientCuts
 pub mod Accepting
 pub mod Sends
 pub mod Updates
+pub mod Silencing
+pub mod Ticks

@@ -1,5 +1,5 @@
 //! What a client's core reports goes into the log of its life, in which there is room.
-ghost use Rattle.std.specs.Prelude.{◌≡◌, ◌++◌, ◌+◌, ◌≤◌, length, map, vec_capacity, vec_len};
+ghost use Rattle.std.specs.Prelude.{◌≡◌, ◌++◌, ◌+◌, ◌≤◌, ℕ, length, map, vec_capacity, vec_len};
 ghost use Rattle.ca_model_world.specs.ClientEvents as world;
 ghost use Rattle.ca_model_world.specs.World.{grown};
 ghost use Rattle.ca_world_data.specs.Logs.{HasRoom, lines_in};
@@ -20,11 +20,13 @@ pub fn tell_all(
     notices: Notices,
 )
     requires { HasRoom (length notices) life logs.old.items }
-    ensures { lines_in logs.new.items
+    ensures told { lines_in logs.new.items
         ≡ grown
         life
         (world.lines_of (intent_of about) (names_of names.now) notices)
         (lines_in logs.old.items) }
+    ensures room { (n : ℕ) → HasRoom (length notices + n) life logs.old.items
+        → HasRoom n life logs.new.items }
 {
     if life < logs.len() {
         tell_in(&mut logs[life], about, names, notices);
@@ -65,9 +67,11 @@ fn call_in(log: &mut Vec<Line>, line: Line, names: &Names, notices: Notices)
 // Puts these notices into the log. There is room for them.
 fn tell_in(log: &mut Vec<Line>, about: Intent, names: &Names, notices: Notices)
     requires { vec_len log.old + length notices ≤ vec_capacity log.old }
-    ensures { map line_of log.new.items
+    ensures told { map line_of log.new.items
         ≡ map line_of log.old.items
         ++ world.lines_of (intent_of about) (names_of names.now) notices }
+    ensures len { vec_len log.new ≡ vec_len log.old + length notices }
+    ensures capacity { vec_capacity log.new ≡ vec_capacity log.old }
 {
     let mut notices = notices;
     while let Some(notice) = notices.next() {

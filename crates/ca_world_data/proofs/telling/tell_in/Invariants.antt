@@ -10,6 +10,8 @@ invariant-loop-notice l =
     record {
       lines : map line_of l.log.items ++ lines_of (intent_of l.about) (names_of l.names) l.notices ≡ map line_of l.initial.log.items ++ lines_of (intent_of l.about) (names_of l.names) l.fn.notices;
       room : vec_len l.log + length l.notices ≤ vec_capacity l.log;
+      len : vec_len l.log + length l.notices ≡ vec_len l.initial.log + length l.fn.notices;
+      capacity : vec_capacity l.log ≡ vec_capacity l.initial.log;
     }
 
 abbrev pub decreases-loop-notice : goal.decreases-loop-notice

@@ -1,0 +1,92 @@
+ghost use Rattle.std.specs.Prelude.{◌≡◌, List, ℕ, map};
+ghost use Rattle.ca_world.specs.Ticking.{AllNumbered, AllTellFew, Ticks, TicksSome};
+ghost use Rattle.ca_world_data.specs.Found.{AreNumbered};
+ghost use Rattle.ca_world_data.specs.Indexed.{AreIndexed, client_numbers};
+ghost use Rattle.ca_world_data.specs.Logs.{lines_in};
+ghost use Rattle.ca_world_data.specs.Seen.{client_of, joined_of};
+ghost use Rattle.ca_world_data.specs.Ticks.{TellsFew, TicksClient};
+
+use crate::stopped::Stopped;
+use crate::world::World;
+use ca_world_data::client::ClientSide;
+use ca_world_data::history::Line;
+use ca_world_data::joined::Joined;
+use ca_world_data::ticking::tick_client;
+use std::alloc::AllocError;
+
+/// What became of a world to which a moment was handed.
+#[derive(Drop)]
+pub enum AfterTick {
+    /// All clients had it.
+    Done(World),
+    /// The moment goes back. Nothing changed.
+    Back(World),
+    /// A client had no memory for it, after those before it had it.
+    Stopped(Stopped),
+}
+
+impl World {
+    /// A moment is handed to all clients, in order. What each sends goes up its circuits, and its ends that were silent too long end.
+    pub fn tick(self, moment: u64) -> AfterTick
+        ensures { Ticks self moment result }
+    {
+        if moment < self.moment {
+            return AfterTick::Back(self);
+        }
+        let World {
+            alloc,
+            mut clients,
+            servers,
+            mut circuits,
+            mut client_logs,
+            server_logs,
+            moment: before,
+        } = self;
+        match tick_all(moment, &mut clients, &mut circuits, &mut client_logs) {
+            Ok(()) => AfterTick::Done(World {
+                alloc,
+                clients,
+                servers,
+                circuits,
+                client_logs,
+                server_logs,
+                moment,
+            }),
+            Err(_) => AfterTick::Stopped(Stopped {
+                clients,
+                servers,
+                circuits,
+                client_logs,
+                server_logs,
+                moment: before,
+            }),
+        }
+    }
+}
+
+// The moment is handed to these clients, in order, as far as there is memory.
+fn tick_all(
+    moment: u64,
+    clients: &mut Vec<ClientSide>,
+    circuits: &mut Vec<Joined>,
+    logs: &mut Vec<Vec<Line>>,
+) -> Result<(), AllocError>
+    requires numbered { AllNumbered clients.old.items (map joined_of circuits.old.items) }
+    requires few { AllTellFew moment (map client_of clients.old.items) }
+    ensures ticks { TicksSome moment
+        (map client_of clients.old.items)
+        (lines_in logs.old.items)
+        (map joined_of circuits.old.items)
+        result
+        (map client_of clients.new.items)
+        (lines_in logs.new.items)
+        (map joined_of circuits.new.items) }
+    ensures numbers { client_numbers clients.new.items ≡ client_numbers clients.old.items }
+    ensures indexed { (cs ss : List (List ℕ)) → AreIndexed cs ss (map joined_of circuits.old.items)
+        → AreIndexed cs ss (map joined_of circuits.new.items) }
+{
+    for client in 0..clients.len() {
+        tick_client(moment, client, &mut clients[client], circuits, logs)?;
+    }
+    Ok(())
+}
