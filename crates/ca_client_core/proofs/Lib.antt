@@ -30,3 +30,4 @@ mod Passing
 mod Prepared
 mod Rounds
 mod Alone
+mod Foretold

@@ -19,3 +19,4 @@ pub mod Marks
 pub mod Silences
 pub mod NameSearches
 pub mod Ticked
+pub mod Foretelling

@@ -18,6 +18,7 @@ mod finding;
 mod first;
 pub mod for_histories;
 mod foreseeing;
+mod foretelling;
 mod hearing;
 mod input;
 mod issuing;

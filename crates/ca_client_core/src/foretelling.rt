@@ -1,0 +1,209 @@
+//! What the next message of a circuit will make a client send, told before it is read.
+ghost use Rattle.std.specs.Prelude.{◌≡◌, ◌∷◌, [], IfOk, map};
+ghost use Rattle.ca_model.specs.Client.{channel_on};
+ghost use Rattle.ca_model.specs.ClientCalls.{clear_sent, event_add_sent};
+ghost use Rattle.ca_model.specs.Hears.{created, event_adds, left};
+ghost use Rattle.ca_client_core.specs.ForHistories.{SendsNext, sending_of};
+ghost use Rattle.ca_client_core.specs.Foretelling.{adds_sent, foretold, found_sent};
+
+use crate::client::ClientCore;
+use crate::for_histories::{Aim, Sending};
+use ca_arena::Handle;
+use ca_client_tables::{Address, Creation, Phase, creation_by};
+use ca_ids::WireId;
+use ca_monitor::Subscription;
+use ca_text::Command;
+use ca_wire::{Cid, Ioid, Message, Sid, Wanted, clear_request, event_add_request};
+use std::alloc::{AllocError, Global};
+
+impl ClientCore {
+    // What the next message of a circuit makes the client send.
+    pub(crate) fn sent_by_next(&self, circuit: Handle) -> Result<Vec<Sending>, AllocError>
+        ensures { IfOk result (λ sent. SendsNext self.now circuit sent.items) }
+    {
+        let Some(found) = self.circuits.by_handle(circuit) else {
+            return Ok(Vec::new(self.alloc));
+        };
+        let Some(head) = found.first_head(self.alloc) else {
+            return Ok(Vec::new(self.alloc));
+        };
+        self.sent_by(circuit, found.address, &head)
+    }
+
+    // What this message makes the client send, on a circuit to this address. Its payload plays no part.
+    fn sent_by(
+        &self,
+        circuit: Handle,
+        from: Address,
+        head: &Message,
+    ) -> Result<Vec<Sending>, AllocError>
+        ensures { IfOk result (λ sent. map sending_of sent.items
+            ≡ foretold self.now circuit from head.now) }
+    {
+        let command = head.command();
+        if command == Command::Search.number() {
+            return self.sent_by_found(from, head);
+        }
+        if command == Command::CreateChannel.number() {
+            return self.sent_by_created(circuit, head);
+        }
+        if command == Command::ServerDisconnect.number() {
+            return self.sent_by_left(circuit, head);
+        }
+        Ok(Vec::new(self.alloc))
+    }
+
+    // SEARCH: a channel that was found is created, if the circuit to its server is connected.
+    fn sent_by_found(&self, from: Address, reply: &Message) -> Result<Vec<Sending>, AllocError>
+        ensures { IfOk result (λ sent. map sending_of sent.items
+            ≡ found_sent self.now from reply.now) }
+    {
+        let found = creation_by(self.alloc, &self.channels, &self.circuits, from, reply)?;
+        let Some(creation) = found else {
+            return Ok(Vec::new(self.alloc));
+        };
+        let Creation {
+            circuit,
+            channel,
+            message,
+        } = creation;
+        let aim = Aim::Create(channel);
+        one(
+            self.alloc,
+            Sending {
+                circuit,
+                message,
+                aim,
+            },
+        )
+    }
+
+    // CREATE_CHAN: a channel that is live is subscribed to again; one that its caller cleared meanwhile is cleared now.
+    fn sent_by_created(&self, circuit: Handle, reply: &Message) -> Result<Vec<Sending>, AllocError>
+        ensures { IfOk result (λ sent. map sending_of sent.items
+            ≡ (created
+            self.now
+            circuit
+            reply.now
+            (channel_on self.now circuit reply.now.p1)).sent) }
+    {
+        let Some((channel, phase)) = self.channel_on(circuit, reply.p1()) else {
+            return Ok(Vec::new(self.alloc));
+        };
+        match phase {
+            Phase::Connecting => Ok(Vec::new(self.alloc)),
+            Phase::Creating(_) => self.adds_of(circuit, reply.p2(), channel),
+            Phase::Live(_, _) => Ok(Vec::new(self.alloc)),
+            Phase::Leaving => Ok(Vec::new(self.alloc)),
+            Phase::Clearing => Ok(Vec::new(self.alloc)),
+            Phase::Doomed => clear_of(self.alloc, circuit, reply.p2(), channel),
+        }
+    }
+
+    // SERVER_DISCONN: a live channel is cleared.
+    fn sent_by_left(&self, circuit: Handle, message: &Message) -> Result<Vec<Sending>, AllocError>
+        ensures { IfOk result (λ sent. map sending_of sent.items
+            ≡ (left self.now circuit (channel_on self.now circuit message.now.p1)).sent) }
+    {
+        let Some((channel, phase)) = self.channel_on(circuit, message.p1()) else {
+            return Ok(Vec::new(self.alloc));
+        };
+        match phase {
+            Phase::Connecting => Ok(Vec::new(self.alloc)),
+            Phase::Creating(_) => Ok(Vec::new(self.alloc)),
+            Phase::Live(native, _) => clear_of(self.alloc, circuit, native.sid, channel),
+            Phase::Leaving => Ok(Vec::new(self.alloc)),
+            Phase::Clearing => Ok(Vec::new(self.alloc)),
+            Phase::Doomed => Ok(Vec::new(self.alloc)),
+        }
+    }
+
+    // The EVENT_ADDs of a channel's subscriptions, in order of index.
+    fn adds_of(
+        &self,
+        circuit: Handle,
+        sid: u32,
+        channel: Handle,
+    ) -> Result<Vec<Sending>, AllocError>
+        ensures { IfOk result (λ sent. map sending_of sent.items
+            ≡ event_adds circuit sid channel self.now) }
+    {
+        let standing = self.monitors.standing_to(self.alloc, channel)?;
+        adds_to(self.alloc, circuit, sid, &standing)
+    }
+}
+
+// The EVENT_ADDs of these subscriptions.
+fn adds_to(
+    alloc: Global,
+    circuit: Handle,
+    sid: u32,
+    standing: &[(Handle, Subscription)],
+) -> Result<Vec<Sending>, AllocError>
+    ensures { IfOk result (λ sent. map sending_of sent.items
+        ≡ adds_sent circuit sid standing.now) }
+{
+    let mut adds = Vec::new(alloc);
+    for index in 0..standing.len() {
+        adds.push(add_of(alloc, circuit, sid, standing[index])?)?;
+    }
+    Ok(adds)
+}
+
+// The EVENT_ADD of a subscription.
+fn add_of(
+    alloc: Global,
+    circuit: Handle,
+    sid: u32,
+    standing: (Handle, Subscription),
+) -> Result<Sending, AllocError>
+    ensures { IfOk result (λ s. sending_of s
+        ≡ event_add_sent circuit sid standing.0 standing.1) }
+{
+    let (subscription, found) = standing;
+    let wanted = Wanted {
+        sid: Sid::new(sid),
+        id: Ioid::new(WireId::of(subscription).number()),
+        data_type: found.data_type,
+        count: found.count,
+    };
+    let message = event_add_request(alloc, wanted, found.mask)?;
+    let aim = Aim::Subscribe(found.channel, subscription);
+    Ok(Sending {
+        circuit,
+        message,
+        aim,
+    })
+}
+
+// The CLEAR_CHANNEL of a channel, alone.
+fn clear_of(
+    alloc: Global,
+    circuit: Handle,
+    sid: u32,
+    channel: Handle,
+) -> Result<Vec<Sending>, AllocError>
+    ensures { IfOk result (λ sent. map sending_of sent.items
+        ≡ clear_sent circuit sid channel ∷ []) }
+{
+    let cid = Cid::new(WireId::of(channel).number());
+    let message = clear_request(alloc, Sid::new(sid), cid);
+    let aim = Aim::Clear(channel);
+    one(
+        alloc,
+        Sending {
+            circuit,
+            message,
+            aim,
+        },
+    )
+}
+
+// One message alone.
+fn one(alloc: Global, sending: Sending) -> Result<Vec<Sending>, AllocError>
+    ensures { IfOk result (λ sent. sent.items ≡ sending ∷ []) }
+{
+    let mut sent = Vec::new(alloc);
+    sent.push(sending)?;
+    Ok(sent)
+}
