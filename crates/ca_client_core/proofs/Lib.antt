@@ -32,3 +32,4 @@ mod Rounds
 mod Alone
 mod Awaited
 mod Tried
+mod Foretold

@@ -17,7 +17,7 @@ use Rattle.ca_client_tables.specs.Ahead.{Once, due_after, is_in}
 use Rattle.ca_client_tables.specs.Ends.{with_messages, with_message}
 use Rattle.ca_client_tables.proofs.Queued.{messages-none, messages-twice}
 use Rattle.ca_client_core.specs.declared.for_histories.Sending.{Sending}
-use Rattle.ca_client_core.specs.declared.foretelling.Foretold.{Foretold}
+use Rattle.ca_client_core.specs.declared.for_moments.Foretold.{Foretold}
 use Rattle.ca_client_core.specs.Foretold.{AreSome, Foretells, IsFar, IsTried, Notes, Tries}
 use Rattle.ca_client_core.specs.ForHistories.{sending_of}
 use Rattle.ca_client_core.specs.Moments.{EchoesAll, all_echoed, all_ended, all_searched, echo_step, is_echo_due, is_searched_on, is_silent, search_step, silent_of}

@@ -1,11 +1,12 @@
 -- Vocabulary: what whoever records histories asks of a client.
-use Rattle.std.specs.Prelude.{◌≡◌, Bool, Option, Some, None, option_and_then}
+use Rattle.std.specs.Prelude.{◌≡◌, Bool, List, Option, Some, None, map, option_and_then}
 use Rattle.ca_arena.specs.declared.handle.Handle.{Handle}
 use Rattle.ca_model.specs.Client.{Client, Connection, connection_at}
 use Rattle.ca_text.specs.declared.command.Command.{Command}
 use Rattle.ca_monitor.specs.ReadRun.{sent_by_read}
 use Rattle.ca_model.specs.Answers as answer
 use Rattle.ca_model.specs.ClientCalls.{IsLive, LiveChannel, StandsAs}
+use Rattle.ca_model.specs.ClientEnds.{ClientSteps}
 use Rattle.ca_monitor.specs.Subscriptions.{Subscription, standing_under}
 use Rattle.ca_client_core.specs.declared.for_histories.LiveOn.{LiveOn}
 use Rattle.ca_client_core.specs.declared.for_histories.Aim.{Aim}
@@ -37,3 +38,8 @@ aim_of (aim.Subscribe h s) = answer.Subscribe h s
 -- a message that is about to be sent, as the statement has it
 abbrev pub sending_of : Sending → answer.Sending
 sending_of s = record { circuit = s.circuit; message = s.message; aim = aim_of s.aim }
+
+-- Whenever a step on this circuit reads a message, it sends these.
+abbrev pub SendsNext : Client → Handle → List Sending → Type 0
+SendsNext x c foretold =
+    (told : List answer.Notice) (sent : List answer.Sending) (new : Client) → ClientSteps x c (answer.Notices told) sent new → sent ≡ map sending_of foretold

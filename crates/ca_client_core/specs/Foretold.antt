@@ -4,7 +4,7 @@ use Rattle.ca_arena.specs.declared.handle.Handle.{Handle}
 use Rattle.ca_model.specs.Client.{Client}
 use Rattle.ca_model.specs.ClientEnds.{Ticking, circuits_ticked, due, searches_made}
 use Rattle.ca_client_core.specs.declared.for_histories.Sending.{Sending}
-use Rattle.ca_client_core.specs.declared.foretelling.Foretold.{Foretold}
+use Rattle.ca_client_core.specs.declared.for_moments.Foretold.{Foretold}
 use Rattle.ca_client_core.specs.ForHistories.{sending_of}
 use Rattle.ca_client_core.specs.Moments.{all_echoed, all_searched, silent_of}
 use Rattle.ca_client_core.specs.Ticked.{circuits_of}

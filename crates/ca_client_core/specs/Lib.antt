@@ -21,3 +21,4 @@ pub mod NameSearches
 pub mod Ticked
 pub mod ForAccepts
 pub mod Foretold
+pub mod Foretelling

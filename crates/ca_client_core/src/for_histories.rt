@@ -1,11 +1,12 @@
 //! What whoever records histories asks of a client. No client needs these calls.
-ghost use Rattle.std.specs.Prelude.{◌≡◌};
-ghost use Rattle.ca_client_core.specs.ForHistories.{AsksFor, LivesOn, flow_at};
+ghost use Rattle.std.specs.Prelude.{◌≡◌, IfOk};
+ghost use Rattle.ca_client_core.specs.ForHistories.{AsksFor, LivesOn, SendsNext, flow_at};
 
 use crate::client::ClientCore;
 use ca_arena::Handle;
 use ca_text::Command;
 use ca_wire::Message;
+use std::alloc::AllocError;
 
 /// What a message that a client sends is for.
 #[derive(Clone, Copy, Debug, PartialEq, Eq)]
@@ -80,4 +81,11 @@ pub fn flow_of(core: &ClientCore, circuit: Handle, more: bool) -> Option<Command
         Some(found) => found.sends_by_read(more),
         None => None,
     }
+}
+
+/// What the next message of a circuit will make the client send, as it is now, if a step reads one.
+pub fn sent_by_step(core: &ClientCore, circuit: Handle) -> Result<Vec<Sending>, AllocError>
+    ensures { IfOk result (λ sent. SendsNext core.now circuit sent.items) }
+{
+    core.sent_by_next(circuit)
 }

@@ -1,228 +1,209 @@
-//! What a moment will make a client send, for whoever records histories. No client needs these calls.
-ghost use Rattle.std.specs.Prelude.{◌≡◌, ◌≢◌, [], true, Err, IfOk, List, OnErr, OnOk};
-ghost use Rattle.ca_text.specs.declared.refusal.Refusal.TheVariants.{OutOfMemory};
-ghost use Rattle.ca_wire.specs.Fields.{Fields};
-ghost use Rattle.ca_model.specs.ClientEnds.{ClientTicks, Ticking, all_searched_on, of_circuit, searches_on};
-ghost use Rattle.ca_client_core.specs.ForHistories.{sending_of};
-ghost use Rattle.ca_client_core.specs.Foretold.{AreSome, Foretells, Notes, Tries};
-ghost use Rattle.ca_client_core.specs.Marks.{undone};
-ghost use Rattle.ca_client_core.specs.Moments.{EchoIsDue, EchoesAll, all_echoed, all_searched, echo_step, is_echo_due, search_step};
-ghost use Rattle.ca_client_core.specs.Ticked.{LacksMemory};
-ghost use Rattle.ca_client_tables.specs.Ends.{with_messages};
+//! What the next message of a circuit will make a client send, told before it is read.
+ghost use Rattle.std.specs.Prelude.{◌≡◌, ◌∷◌, [], IfOk, map};
+ghost use Rattle.ca_model.specs.Client.{channel_on};
+ghost use Rattle.ca_model.specs.ClientCalls.{clear_sent, event_add_sent};
+ghost use Rattle.ca_model.specs.Hears.{created, event_adds, left};
+ghost use Rattle.ca_client_core.specs.ForHistories.{SendsNext, sending_of};
+ghost use Rattle.ca_client_core.specs.Foretelling.{adds_sent, foretold, found_sent};
 
 use crate::client::ClientCore;
 use crate::for_histories::{Aim, Sending};
-use crate::marks::CircuitMark;
-use crate::name_searches::search_message;
 use ca_arena::Handle;
-use ca_search::Search;
+use ca_client_tables::{Address, Creation, Phase, creation_by};
+use ca_ids::WireId;
+use ca_monitor::Subscription;
 use ca_text::Command;
-use ca_wire::{Message, bare};
-use std::alloc::AllocError;
-
-/// What a moment will make a client send, in order, and whether ends will end by it.
-#[derive(Drop)]
-pub struct Foretold {
-    pub sent: Vec<Sending>,
-    pub ends: bool,
-}
-
-/// What this moment will make a client send. Nothing changes.
-///
-/// Refused only where the tick itself may be.
-pub fn foretell(core: &mut ClientCore, now: u64) -> Result<Foretold, AllocError>
-    ensures same { core.new ≡ core.old }
-    ensures ok { IfOk result (Foretells core.old now) }
-    ensures some { OnErr result (ClientTicks core.old now (Err OutOfMemory) [] core.old) }
-{
-    let before = core.moment;
-    core.set_moment(before.max(now));
-    let mut marks = Vec::new(core.alloc);
-    let told = core.try_out(&mut marks);
-    core.take_back(&marks);
-    core.set_moment(before);
-    told
-}
+use ca_wire::{Cid, Ioid, Message, Sid, Wanted, clear_request, event_add_request};
+use std::alloc::{AllocError, Global};
 
 impl ClientCore {
-    // What the moment makes it send; that was sent, after marks.
-    fn try_out(&mut self, marks: &mut Vec<CircuitMark>) -> Result<Foretold, AllocError>
-        ensures kept { undone marks.new.items self.new ≡ undone marks.old.items self.old }
-        ensures ok { IfOk result (Tries self.old) }
-        ensures some { OnErr result (LacksMemory self.old) }
+    // What the next message of a circuit makes the client send.
+    pub(crate) fn sent_by_next(&self, circuit: Handle) -> Result<Vec<Sending>, AllocError>
+        ensures { IfOk result (λ sent. SendsNext self.now circuit sent.items) }
     {
-        self.know_searches();
-        let mut sent = Vec::new(self.alloc);
-        self.note_echoes(marks, &mut sent)?;
-        let ends = self.silent()?;
-        let searches = self.due_after(&ends)?;
-        self.note_searches(&searches, marks, &mut sent)?;
-        Ok(Foretold {
-            sent,
-            ends: are_some(&ends),
-        })
+        let Some(found) = self.circuits.by_handle(circuit) else {
+            return Ok(Vec::new(self.alloc));
+        };
+        let Some(head) = found.first_head(self.alloc) else {
+            return Ok(Vec::new(self.alloc));
+        };
+        self.sent_by(circuit, found.address, &head)
     }
 
-    // The ECHOs that are due go out, and are noted.
-    fn note_echoes(
-        &mut self,
-        marks: &mut Vec<CircuitMark>,
-        sent: &mut Vec<Sending>,
-    ) -> Result<(), AllocError>
-        ensures kept { undone marks.new.items self.new ≡ undone marks.old.items self.old }
-        ensures ok { OnOk result (Notes
-            (all_echoed self.old.order)
-            self.old
-            sent.old.items
-            self.new
-            sent.new.items) }
-        ensures echoes { OnOk result (EchoesAll self.old self.new) }
-        ensures some { OnErr result (EchoIsDue self.old) }
-    {
-        for index in 0..self.circuits_listed() {
-            let circuit = self.listed_at(index);
-            self.note_echo(circuit, marks, sent)?;
-        }
-        Ok(())
-    }
-
-    // The ECHO of a circuit goes out and is noted, if it is due.
-    fn note_echo(
-        &mut self,
+    // What this message makes the client send, on a circuit to this address. Its payload plays no part.
+    fn sent_by(
+        &self,
         circuit: Handle,
-        marks: &mut Vec<CircuitMark>,
-        sent: &mut Vec<Sending>,
-    ) -> Result<(), AllocError>
-        ensures kept { undone marks.new.items self.new ≡ undone marks.old.items self.old }
-        ensures ok { OnOk result (Notes
-            (λ t. echo_step t circuit)
-            self.old
-            sent.old.items
-            self.new
-            sent.new.items) }
-        ensures echoes { OnOk result ((t : Ticking) → t.core ≡ self.old
-            → self.new ≡ (echo_step t circuit).core) }
-        ensures some { OnErr result (is_echo_due self.old circuit ≡ true) }
+        from: Address,
+        head: &Message,
+    ) -> Result<Vec<Sending>, AllocError>
+        ensures { IfOk result (λ sent. map sending_of sent.items
+            ≡ foretold self.now circuit from head.now) }
     {
-        if !self.is_echo_due(circuit) {
-            return Ok(());
+        let command = head.command();
+        if command == Command::Search.number() {
+            return self.sent_by_found(from, head);
         }
-        sent.push(of_circuit(circuit, bare(self.alloc, Command::Echo)))?;
-        self.echo_on(circuit, marks)
+        if command == Command::CreateChannel.number() {
+            return self.sent_by_created(circuit, head);
+        }
+        if command == Command::ServerDisconnect.number() {
+            return self.sent_by_left(circuit, head);
+        }
+        Ok(Vec::new(self.alloc))
     }
 
-    // These searches go out on the circuits of name servers, and are noted.
-    fn note_searches(
-        &mut self,
-        searches: &[Search],
-        marks: &mut Vec<CircuitMark>,
-        sent: &mut Vec<Sending>,
-    ) -> Result<(), AllocError>
-        ensures kept { undone marks.new.items self.new ≡ undone marks.old.items self.old }
-        ensures ok { OnOk result (Notes
-            (all_searched searches.now self.old.order)
-            self.old
-            sent.old.items
-            self.new
-            sent.new.items) }
-        ensures some { OnErr result (searches.now ≢ []) }
+    // SEARCH: a channel that was found is created, if the circuit to its server is connected.
+    fn sent_by_found(&self, from: Address, reply: &Message) -> Result<Vec<Sending>, AllocError>
+        ensures { IfOk result (λ sent. map sending_of sent.items
+            ≡ found_sent self.now from reply.now) }
     {
-        if searches.is_empty() {
-            return Ok(());
-        }
-        for index in 0..self.circuits_listed() {
-            let circuit = self.listed_at(index);
-            self.note_searched(circuit, searches, marks, sent)?;
-        }
-        Ok(())
+        let found = creation_by(self.alloc, &self.channels, &self.circuits, from, reply)?;
+        let Some(creation) = found else {
+            return Ok(Vec::new(self.alloc));
+        };
+        let Creation {
+            circuit,
+            channel,
+            message,
+        } = creation;
+        let aim = Aim::Create(channel);
+        one(
+            self.alloc,
+            Sending {
+                circuit,
+                message,
+                aim,
+            },
+        )
     }
 
-    // The same on one circuit, if it is one for them.
-    fn note_searched(
-        &mut self,
+    // CREATE_CHAN: a channel that is live is subscribed to again; one that its caller cleared meanwhile is cleared now.
+    fn sent_by_created(&self, circuit: Handle, reply: &Message) -> Result<Vec<Sending>, AllocError>
+        ensures { IfOk result (λ sent. map sending_of sent.items
+            ≡ (created
+            self.now
+            circuit
+            reply.now
+            (channel_on self.now circuit reply.now.p1)).sent) }
+    {
+        let Some((channel, phase)) = self.channel_on(circuit, reply.p1()) else {
+            return Ok(Vec::new(self.alloc));
+        };
+        match phase {
+            Phase::Connecting => Ok(Vec::new(self.alloc)),
+            Phase::Creating(_) => self.adds_of(circuit, reply.p2(), channel),
+            Phase::Live(_, _) => Ok(Vec::new(self.alloc)),
+            Phase::Leaving => Ok(Vec::new(self.alloc)),
+            Phase::Clearing => Ok(Vec::new(self.alloc)),
+            Phase::Doomed => clear_of(self.alloc, circuit, reply.p2(), channel),
+        }
+    }
+
+    // SERVER_DISCONN: a live channel is cleared.
+    fn sent_by_left(&self, circuit: Handle, message: &Message) -> Result<Vec<Sending>, AllocError>
+        ensures { IfOk result (λ sent. map sending_of sent.items
+            ≡ (left self.now circuit (channel_on self.now circuit message.now.p1)).sent) }
+    {
+        let Some((channel, phase)) = self.channel_on(circuit, message.p1()) else {
+            return Ok(Vec::new(self.alloc));
+        };
+        match phase {
+            Phase::Connecting => Ok(Vec::new(self.alloc)),
+            Phase::Creating(_) => Ok(Vec::new(self.alloc)),
+            Phase::Live(native, _) => clear_of(self.alloc, circuit, native.sid, channel),
+            Phase::Leaving => Ok(Vec::new(self.alloc)),
+            Phase::Clearing => Ok(Vec::new(self.alloc)),
+            Phase::Doomed => Ok(Vec::new(self.alloc)),
+        }
+    }
+
+    // The EVENT_ADDs of a channel's subscriptions, in order of index.
+    fn adds_of(
+        &self,
         circuit: Handle,
-        searches: &[Search],
-        marks: &mut Vec<CircuitMark>,
-        sent: &mut Vec<Sending>,
-    ) -> Result<(), AllocError>
-        ensures kept { undone marks.new.items self.new ≡ undone marks.old.items self.old }
-        ensures ok { OnOk result (Notes
-            (λ t. search_step searches.now t circuit)
-            self.old
-            sent.old.items
-            self.new
-            sent.new.items) }
+        sid: u32,
+        channel: Handle,
+    ) -> Result<Vec<Sending>, AllocError>
+        ensures { IfOk result (λ sent. map sending_of sent.items
+            ≡ event_adds circuit sid channel self.now) }
     {
-        if !self.is_searched_on(circuit) {
-            return Ok(());
-        }
-        marks.push(self.mark(circuit))?;
-        self.note_all_on(circuit, searches, sent)
-    }
-
-    // These searches go out on a circuit, and are noted.
-    fn note_all_on(
-        &mut self,
-        circuit: Handle,
-        searches: &[Search],
-        sent: &mut Vec<Sending>,
-    ) -> Result<(), AllocError>
-        ensures ok { OnOk result (Notes
-            (λ t. all_searched_on searches.now t circuit)
-            self.old
-            sent.old.items
-            self.new
-            sent.new.items) }
-        ensures kept { (ms : List Fields) × (self.new ≡ with_messages circuit ms self.old) }
-    {
-        for index in 0..searches.len() {
-            self.note_search(circuit, &searches[index], sent)?;
-        }
-        Ok(())
-    }
-
-    // A search goes out on a circuit and is noted, unless too much waits there.
-    fn note_search(
-        &mut self,
-        circuit: Handle,
-        search: &Search,
-        sent: &mut Vec<Sending>,
-    ) -> Result<(), AllocError>
-        ensures ok { OnOk result (Notes
-            (λ t. searches_on circuit t search.now)
-            self.old
-            sent.old.items
-            self.new
-            sent.new.items) }
-        ensures kept { (ms : List Fields) × (self.new ≡ with_messages circuit ms self.old) }
-    {
-        if self.is_over(circuit) {
-            return Ok(());
-        }
-        let message = search_message(self.alloc, search)?;
-        self.queue(circuit, &message)?;
-        sent.push(of_circuit(circuit, message))?;
-        Ok(())
+        let standing = self.monitors.standing_to(self.alloc, channel)?;
+        adds_to(self.alloc, circuit, sid, &standing)
     }
 }
 
-// Whether there are any.
-fn are_some(ends: &[Handle]) -> bool
-    ensures { AreSome ends.now result }
+// The EVENT_ADDs of these subscriptions.
+fn adds_to(
+    alloc: Global,
+    circuit: Handle,
+    sid: u32,
+    standing: &[(Handle, Subscription)],
+) -> Result<Vec<Sending>, AllocError>
+    ensures { IfOk result (λ sent. map sending_of sent.items
+        ≡ adds_sent circuit sid standing.now) }
 {
-    if ends.is_empty() {
-        return false;
+    let mut adds = Vec::new(alloc);
+    for index in 0..standing.len() {
+        adds.push(add_of(alloc, circuit, sid, standing[index])?)?;
     }
-    true
+    Ok(adds)
 }
 
-// A message of the circuit as a whole.
-fn of_circuit(circuit: Handle, message: Message) -> Sending
-    ensures { sending_of result ≡ of_circuit circuit message }
+// The EVENT_ADD of a subscription.
+fn add_of(
+    alloc: Global,
+    circuit: Handle,
+    sid: u32,
+    standing: (Handle, Subscription),
+) -> Result<Sending, AllocError>
+    ensures { IfOk result (λ s. sending_of s
+        ≡ event_add_sent circuit sid standing.0 standing.1) }
 {
-    Sending {
+    let (subscription, found) = standing;
+    let wanted = Wanted {
+        sid: Sid::new(sid),
+        id: Ioid::new(WireId::of(subscription).number()),
+        data_type: found.data_type,
+        count: found.count,
+    };
+    let message = event_add_request(alloc, wanted, found.mask)?;
+    let aim = Aim::Subscribe(found.channel, subscription);
+    Ok(Sending {
         circuit,
         message,
-        aim: Aim::OfCircuit,
-    }
+        aim,
+    })
+}
+
+// The CLEAR_CHANNEL of a channel, alone.
+fn clear_of(
+    alloc: Global,
+    circuit: Handle,
+    sid: u32,
+    channel: Handle,
+) -> Result<Vec<Sending>, AllocError>
+    ensures { IfOk result (λ sent. map sending_of sent.items
+        ≡ clear_sent circuit sid channel ∷ []) }
+{
+    let cid = Cid::new(WireId::of(channel).number());
+    let message = clear_request(alloc, Sid::new(sid), cid);
+    let aim = Aim::Clear(channel);
+    one(
+        alloc,
+        Sending {
+            circuit,
+            message,
+            aim,
+        },
+    )
+}
+
+// One message alone.
+fn one(alloc: Global, sending: Sending) -> Result<Vec<Sending>, AllocError>
+    ensures { IfOk result (λ sent. sent.items ≡ sending ∷ []) }
+{
+    let mut sent = Vec::new(alloc);
+    sent.push(sending)?;
+    Ok(sent)
 }

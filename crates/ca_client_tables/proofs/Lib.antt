@@ -14,3 +14,4 @@ pub mod Packings
 pub mod Sifting
 pub mod Values
 pub mod Dues
+pub mod Foretold

@@ -15,3 +15,4 @@ pub mod Ahead
 pub mod Silences
 pub mod Packing
 pub mod Wanted
+pub mod Foretelling

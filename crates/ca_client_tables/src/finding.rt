@@ -87,7 +87,7 @@ pub fn find(
 }
 
 // The channel of this CID, if it is searched for.
-fn searched_by(channels: &HeldTable<Channel>, cid: u32) -> Option<(Handle, &Channel)>
+pub(crate) fn searched_by(channels: &HeldTable<Channel>, cid: u32) -> Option<(Handle, &Channel)>
     ensures { option_map (λ e. (e.0, e.1.now)) result ≡ searched_in cid channels.now }
 {
     match channels.by_wire(WireId::new(cid)) {
@@ -185,7 +185,7 @@ fn pause(searches: &mut IndexMap<u32, Place>, cid: u32)
 }
 
 // Where the server of a search reply is: at the address in it, or where the reply came from.
-fn found_at(from: Address, message: &Message) -> Address
+pub(crate) fn found_at(from: Address, message: &Message) -> Address
     ensures { result ≡ found_at from message.now }
 {
     let host = if message.p1() == NO_ADDRESS {
@@ -200,7 +200,7 @@ fn found_at(from: Address, message: &Message) -> Address
 }
 
 // The circuit to this address, under this priority, and whether it is connected.
-fn circuit_to(
+pub(crate) fn circuit_to(
     circuits: &HeldTable<Circuit>,
     address: Address,
     priority: u16,

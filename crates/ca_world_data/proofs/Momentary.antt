@@ -6,7 +6,7 @@ use Rattle.ca_arena.specs.declared.handle.Handle.{Handle}
 use Rattle.ca_text.specs.declared.refusal.Refusal.{Refusal}
 use Rattle.ca_text.specs.declared.refusal.Refusal.TheVariants.{OutOfMemory}
 use Rattle.ca_client_core.specs.declared.for_histories.Sending.{Sending as Said}
-use Rattle.ca_client_core.specs.declared.foretelling.Foretold.{Foretold}
+use Rattle.ca_client_core.specs.declared.for_moments.Foretold.{Foretold}
 use Rattle.ca_client_core.specs.ForHistories.{sending_of}
 use Rattle.ca_client_core.specs.Foretold.{Foretells}
 use Rattle.ca_model.specs.Answers.{Sending, Ticked}

@@ -20,7 +20,7 @@ use crate::sending::{push_sendings, reserve_sendings};
 use crate::silencing::end_silents;
 use ca_client_core::Left;
 use ca_client_core::for_histories::Sending;
-use ca_client_core::foretelling::{Foretold, foretell};
+use ca_client_core::for_moments::{Foretold, foretell};
 use std::alloc::AllocError;
 
 /// The moment is handed to a client: what it sends goes up its circuits, and its ends that were silent too long have ended.

@@ -5,7 +5,7 @@ use Rattle.ca_model.specs.ClientEnds.{ClientTicks}
 use Rattle.ca_client_core.specs.Foretold.{Foretells, Tries}
 use Rattle.ca_client_core.specs.Ticked.{LacksMemory}
 use Rattle.ca_client_core.proofs.Tried.{err-says, foretold-lacks, foretold-so, ok-says}
-use Rattle.ca_client_core.proofs.foretelling.foretell.Goals as goal
+use Rattle.ca_client_core.proofs.for_moments.foretell.Goals as goal
 
 pub returns-clause-ok : goal.returns-clause-ok
 returns-clause-ok c =

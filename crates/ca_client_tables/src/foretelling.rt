@@ -1,0 +1,103 @@
+//! What comes first on a circuit, and what a reply to a SEARCH makes a client send, told before it is taken.
+ghost use Rattle.std.specs.Prelude.{◌≡◌, [], IfOk};
+ghost use Rattle.ca_client_tables.specs.Foretelling.{HeadsFirst, HeadsIn, creation_by};
+
+use crate::channel::Channel;
+use crate::circuit::{Circuit, Connection};
+use crate::ends::Address;
+use crate::finding::{circuit_to, found_at, searched_by};
+use ca_arena::Handle;
+use ca_ids::HeldTable;
+use ca_wire::{Header, Message, One, read_one};
+use std::alloc::{AllocError, Global};
+
+/// The CREATE_CHAN of a channel, and the circuit on which it goes.
+#[derive(Debug, Drop)]
+pub struct Creation {
+    /// The circuit.
+    pub circuit: Handle,
+    /// The channel.
+    pub channel: Handle,
+    /// Its CREATE_CHAN.
+    pub message: Message,
+}
+
+/// The CREATE_CHAN that a reply to a SEARCH, which came from this address, makes a client send: that of the channel that was found, if the
+/// circuit to its server is connected.
+pub fn creation_by(
+    alloc: Global,
+    channels: &HeldTable<Channel>,
+    circuits: &HeldTable<Circuit>,
+    from: Address,
+    reply: &Message,
+) -> Result<Option<Creation>, AllocError>
+    ensures { IfOk result (λ o. o ≡ creation_by channels.now circuits.now from reply.now) }
+{
+    let Some((channel, found)) = searched_by(channels, reply.p2()) else {
+        return Ok(None);
+    };
+    let address = found_at(from, reply);
+    let Some((circuit, connected)) = circuit_to(circuits, address, found.priority()) else {
+        return Ok(None);
+    };
+    if !connected {
+        return Ok(None);
+    }
+    let message = found.create_message(alloc, channel)?;
+    Ok(Some(Creation {
+        circuit,
+        channel,
+        message,
+    }))
+}
+
+impl Circuit {
+    /// The first message that came, without its payload, if a whole one did.
+    pub fn first_head(&self, alloc: Global) -> Option<Message>
+        ensures { HeadsFirst self.now.connection result }
+    {
+        match &self.connection {
+            Some(connection) => connection.first_head(alloc),
+            None => None,
+        }
+    }
+}
+
+impl Connection {
+    // The first message that came, without its payload, if a whole one did.
+    fn first_head(&self, alloc: Global) -> Option<Message>
+        ensures { HeadsIn self.now result }
+    {
+        match read_one(self.link.in_bytes()) {
+            One::Whole(head) => Some(with_header(alloc, head.header)),
+            One::More => None,
+            One::Bad(_) => None,
+        }
+    }
+}
+
+// The message with this header, and no payload.
+fn with_header(alloc: Global, header: Header) -> Message
+    ensures { result
+        ≡ record {
+          command = header.command;
+          data_type = header.data_type;
+          count = header.count;
+          p1 = header.p1;
+          p2 = header.p2;
+          payload = [];
+        } }
+{
+    let none = Vec::new(alloc);
+    match Message::new(
+        header.command,
+        header.data_type,
+        header.count,
+        header.p1,
+        header.p2,
+        none,
+    ) {
+        Ok(message) => message,
+        Err(_) => unreachable!(),
+    }
+}
