@@ -2,6 +2,7 @@
 ghost use Rattle.std.specs.Prelude.{◌≡◌};
 ghost use Rattle.ca_board.specs.Views.{IsDue};
 
+use crate::tickets::count;
 use ca_board::{Board, CallerSeat, CoreSeat, Filled, Ticket};
 use ca_dbr::Outcome;
 use ca_text::Refusal;
@@ -48,10 +49,8 @@ pub(crate) fn give_up_beside_fill(
     alloc: Global,
 ) -> Result<usize, Refusal> {
     let mut agreed = 0;
-    for _round in 0..64u32 {
-        if is_agreed(rt, alloc)? {
-            agreed += 1;
-        }
+    for round in 0..64usize {
+        agreed += count(is_agreed(rt, alloc)?);
     }
     Ok(agreed)
 }

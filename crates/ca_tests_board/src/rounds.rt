@@ -171,7 +171,10 @@ fn go_round<W: Write>(
     ensures { core.new.board ≡ board.now }
 {
     let tickets = arm_all(alloc, board, core)?;
-    one_more(board, core, out)?;
+    match board.arm(core) {
+        Ok(_) => return Err(Refusal::Device),
+        Err(refusal) => tell_refusal(out, refusal)?,
+    }
     let stored = fill_all(alloc, board, core, tickets.as_slice())?;
     tell(out, "fills that were stored", stored)?;
     let own = four(rt, board, core, tickets.as_slice());
@@ -180,15 +183,9 @@ fn go_round<W: Write>(
     tell(out, "cells that are free again", freed)
 }
 
-// What becomes of one ticket more.
-fn one_more<W: Write>(board: &Board, core: &mut CoreSeat, out: &mut W) -> Result<(), Refusal>
-    requires { core.old.board ≡ board.now }
-{
-    let said = match board.arm(core) {
-        Ok(_) => writeln!(out, "one ticket more: armed"),
-        Err(refusal) => writeln!(out, "one ticket more: refused {refusal}"),
-    };
-    match said {
+// Tells why there is no ticket more.
+fn tell_refusal<W: Write>(out: &mut W, refusal: Refusal) -> Result<(), Refusal> {
+    match writeln!(out, "one ticket more: refused {refusal}") {
         Ok(()) => Ok(()),
         Err(_) => Err(Refusal::Device),
     }

@@ -1,7 +1,7 @@
 //! One ticket after another, on one thread.
-ghost use Rattle.std.specs.Prelude.{◌≡◌};
+ghost use Rattle.std.specs.Prelude.{◌≡◌, ◌≤◌};
 
-use ca_board::{Board, CallerSeat, CoreSeat, Filled};
+use ca_board::{Board, CallerSeat, CoreSeat, Filled, Ticket};
 use ca_dbr::Outcome;
 use ca_text::Refusal;
 use std::alloc::Global;
@@ -14,11 +14,11 @@ pub(crate) fn outcome_is_given_once(alloc: Global) -> Result<bool, Refusal> {
     let early = board.collect(&mut caller, ticket).is_some();
     let unused = board.recycle(&mut core, ticket.cell);
     let stored = board.fill(&mut core, ticket, Outcome::Done) == Filled::Stored;
-    let first = board.collect(&mut caller, ticket) == Some(Outcome::Done);
-    let again = board.collect(&mut caller, ticket).is_some();
-    let late = board.give_up(&mut caller, ticket).is_some();
-    let freed = board.recycle(&mut core, ticket.cell);
-    let twice = board.recycle(&mut core, ticket.cell);
+    let first = collects(&board, &mut caller, ticket) == Some(Outcome::Done);
+    let again = collects(&board, &mut caller, ticket).is_some();
+    let late = gives_up(&board, &mut caller, ticket).is_some();
+    let freed = frees(&board, &mut core, ticket.cell);
+    let twice = frees(&board, &mut core, ticket.cell);
     Ok(!early && !unused && stored && first && !again && !late && freed && !twice)
 }
 
@@ -28,14 +28,14 @@ pub(crate) fn old_ticket_is_stale(alloc: Global) -> Result<bool, Refusal> {
     let mut caller = board.caller(&mut core);
     let old = board.arm(&mut core)?;
     board.fill(&mut core, old, Outcome::Done);
-    let found = board.give_up(&mut caller, old) == Some(Outcome::Done);
-    let freed = board.recycle(&mut core, old.cell);
+    let found = gives_up(&board, &mut caller, old) == Some(Outcome::Done);
+    let freed = frees(&board, &mut core, old.cell);
     let new = board.arm(&mut core)?;
     let anew = new.cell == old.cell && new.generation == 1;
     board.fill(&mut core, new, Outcome::Disconnected);
-    let stale = board.collect(&mut caller, old).is_none();
-    let gone = board.give_up(&mut caller, old).is_none();
-    let fresh = board.collect(&mut caller, new) == Some(Outcome::Disconnected);
+    let stale = collects(&board, &mut caller, old).is_none();
+    let gone = gives_up(&board, &mut caller, old).is_none();
+    let fresh = collects(&board, &mut caller, new) == Some(Outcome::Disconnected);
     Ok(found && freed && anew && stale && gone && fresh)
 }
 
@@ -45,9 +45,7 @@ pub(crate) fn each_generation(alloc: Global) -> Result<usize, Refusal> {
     let mut caller = board.caller(&mut core);
     let mut given = 0;
     for generation in 0..70_000u32 {
-        if is_given(&board, &mut core, &mut caller, generation)? {
-            given += 1;
-        }
+        given += count(is_given(&board, &mut core, &mut caller, generation)?);
     }
     Ok(given)
 }
@@ -65,9 +63,9 @@ fn is_given(
 {
     let ticket = board.arm(core)?;
     let stored = board.fill(core, ticket, Outcome::Done) == Filled::Stored;
-    let first = board.collect(caller, ticket) == Some(Outcome::Done);
-    let again = board.collect(caller, ticket).is_some();
-    let freed = board.recycle(core, ticket.cell);
+    let first = collects(board, caller, ticket) == Some(Outcome::Done);
+    let again = collects(board, caller, ticket).is_some();
+    let freed = frees(board, core, ticket.cell);
     Ok(ticket.generation == generation && stored && first && !again && freed)
 }
 
@@ -76,15 +74,43 @@ pub(crate) fn fill_after_give_up(alloc: Global) -> Result<bool, Refusal> {
     let (board, mut core) = Board::new(alloc)?;
     let mut caller = board.caller(&mut core);
     let early = board.arm(&mut core)?;
-    let gone = board.give_up(&mut caller, early).is_none();
+    let gone = gives_up(&board, &mut caller, early).is_none();
     let outcome = Outcome::Unreadable(Refusal::Short);
     let back = board.fill(&mut core, early, outcome)
         == Filled::GivenUp(Outcome::Unreadable(Refusal::Short));
     let freed = board.recycle(&mut core, early.cell);
     let late = board.arm(&mut core)?;
-    let gone_again = board.give_up(&mut caller, late).is_none();
+    let gone_again = gives_up(&board, &mut caller, late).is_none();
     let freed_again = board.recycle(&mut core, late.cell);
     let back_again = board.fill(&mut core, late, Outcome::Done) == Filled::GivenUp(Outcome::Done);
-    let none = board.collect(&mut caller, late).is_none();
+    let none = collects(&board, &mut caller, late).is_none();
     Ok(gone && back && freed && gone_again && freed_again && back_again && none)
+}
+
+// 1 for what holds.
+pub(crate) fn count(holds: bool) -> usize
+    ensures { result ≤ 1 }
+{
+    if holds { 1 } else { 0 }
+}
+
+fn collects(board: &Board, caller: &mut CallerSeat, ticket: Ticket) -> Option<Outcome>
+    requires { caller.old.board ≡ board.now }
+    ensures { caller.new.board ≡ board.now }
+{
+    board.collect(caller, ticket)
+}
+
+fn gives_up(board: &Board, caller: &mut CallerSeat, ticket: Ticket) -> Option<Outcome>
+    requires { caller.old.board ≡ board.now }
+    ensures { caller.new.board ≡ board.now }
+{
+    board.give_up(caller, ticket)
+}
+
+fn frees(board: &Board, core: &mut CoreSeat, cell: usize) -> bool
+    requires { core.old.board ≡ board.now }
+    ensures { core.new.board ≡ board.now }
+{
+    board.recycle(core, cell)
 }
