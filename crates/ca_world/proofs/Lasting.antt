@@ -58,9 +58,9 @@ fit-by w new e (Err BadEvent) d fine h f = subst (λ (v : World). ServersFit v) 
 fit-by w new e (Err _) d fine h f = absurd d
 
 -- all of it does, if circuits are found still
-pub all-stand : (w new : Inside) (e : Event) {fine : IsEvent e} (r : Result (Unit {0}) Refusal) → Does (seen w) e r (seen new) → Stands w
+pub all-stand : (w new : Inside) (e : Event) → IsEvent e → (r : Result (Unit {0}) Refusal) → Does (seen w) e r (seen new) → Stands w
     → AreIndexed (client_numbers new.clients.items) (server_numbers new.servers.items) (map joined_of new.circuits.items) → Stands new
-all-stand w new e {fine} r d s indexed = record {
+all-stand w new e fine r d s indexed = record {
   indexed = indexed;
   reached = reached-by (seen w) (seen new) e r d s.reached;
   clients = stand-by (seen w) (seen new) e r d s.clients;

@@ -1,15 +1,11 @@
 -- Updates that left the queues of an end, and what was told of them.
-use Rattle.std.proofs.Common.{◌≡◌, ℕ, zero, suc, ◌+◌, ◌<◌, ◌≤◌, ◌==◌, inl, inr, Bool, true, false, List, [], ◌∷◌, ◌++◌, Option, Some, None, length, drop, take, refl, sym, ap, subst, ◌∙◌, append_assoc, arith}
+use Rattle.std.proofs.Common.{◌≡◌, ℕ, ◌+◌, ◌≤◌, inl, inr, true, false, List, [], ◌∷◌, ◌++◌, Option, Some, None, length, drop, take, refl, sym, ap, subst, ◌∙◌, append_assoc, arith}
 use Rattle.std.specs.List.{FoldsTo}
-use Rattle.std.specs.Prelude.{if◌then◌else◌, is_some, map, option_and_then, option_map, slice_get, slice_set, unwrap_or}
+use Rattle.std.specs.Prelude.{if◌then◌else◌, is_some, option_map, slice_set}
 use Rattle.std.proofs.lemmas.List.{append-nil, drop_at, length-append, take_at}
 use Rattle.ca_arena.specs.declared.handle.Handle.{Handle}
 use Rattle.ca_arena.specs.Arena.{Place}
 use Rattle.ca_ids.specs.Table.{Table, under, with_changed, with_freed}
-use Rattle.ca_queue.proofs.Circuits.{filter-twice}
-use Rattle.ca_records.specs.Puts.{Record}
-use Rattle.ca_text.specs.Place.{At}
-use Rattle.ca_text.proofs.Places.{some_is}
 use Rattle.ca_wire.specs.Fields.{Fields}
 use Rattle.ca_wire.specs.Message.{spelled, spelling}
 use Rattle.ca_wire.proofs.Messages.{spelling-long}
@@ -22,7 +18,7 @@ use Rattle.ca_laws_bytes.proofs.ServerEnds.{end-own, ended-own, leaves-all}
 use Rattle.ca_server_circuit.specs.Circuits.{is_open}
 use Rattle.ca_world_data.specs.ServerCuts.{IsServing, cut_core, left_in}
 use Rattle.ca_world_data.specs.Updates.{AreGood, AreSpelled, TellsOne, TellsSome}
-use Rattle.ca_world.specs.ServerPumps.{Pumped, PumpsUntil, TellsBehind, UpdatesFit, over_core, shown_by}
+use Rattle.ca_world.specs.ServerPumps.{PumpsUntil, TellsBehind, shown_by}
 use Rattle.ca_world.proofs.Downward.{set-set}
 use Rattle.ca_world_data.proofs.UpdatesTold.{spelled-both}
 

@@ -1,5 +1,5 @@
 -- A server's end of a circuit is pumped, from what its parts became.
-use Rattle.std.proofs.Common.{◌≡◌, ℕ, zero, suc, ◌≤◌, ◌==◌, inl, inr, Bool, true, false, not, List, [], ◌∷◌, Option, Some, None, Result, Ok, Err, length, refl, sym, ap, subst, ◌∙◌, arith}
+use Rattle.std.proofs.Common.{◌≡◌, ℕ, zero, suc, ◌==◌, inl, inr, true, false, List, [], ◌∷◌, Some, None, Result, Ok, Err, length, refl, sym, ap, subst, ◌∙◌}
 use Rattle.std.specs.Prelude.{map, slice_set}
 use Rattle.std.specs.List.{FoldsTo}
 use Rattle.ca_arena.specs.declared.handle.Handle.{Handle}
@@ -10,18 +10,18 @@ use Rattle.ca_text.proofs.Places.{At-map, At-one, At-set}
 use Rattle.ca_wire.specs.Fields.{Fields}
 use Rattle.ca_model.specs.Ends as why
 use Rattle.ca_model.specs.History.{Entry, Line}
-use Rattle.ca_model.specs.Server.{Open, Server, ServerCircuit, ServerEnd}
-use Rattle.ca_model.specs.ServerSteps.{HasEnd, Leaves, Update, closed, ended, with_end}
+use Rattle.ca_model.specs.Server.{Server, ServerEnd}
+use Rattle.ca_model.specs.ServerSteps.{HasEnd, Update, ended, with_end}
 use Rattle.ca_model_world.specs.Events.{Pump}
 use Rattle.ca_model_world.specs.Runs.{CanBe, Happens, HasServerEnd}
-use Rattle.ca_model_world.specs.ServerEvents.{ending, ends_at, ends_by, reported, server_after, server_closed, stamped, withdrawals, without_puts}
+use Rattle.ca_model_world.specs.ServerEvents.{ending, ends_at, ends_by, reported, server_closed, stamped, withdrawals, without_puts}
 use Rattle.ca_model_world.specs.World.{grown, with_circuit}
 use Rattle.ca_model_world.specs.World as model
 use Rattle.ca_laws_bytes.proofs.Runs.{reached-in-step}
 use Rattle.ca_laws_bytes.proofs.ServerEvents.{stamped-tells}
 use Rattle.ca_laws_bytes.proofs.ServerCalls.{pumps-fits}
 use Rattle.ca_laws_bytes.specs.ServerFits.{ServersFit}
-use Rattle.ca_laws_updates.specs.InStep.{EndInStep, InStep}
+use Rattle.ca_laws_updates.specs.InStep.{InStep}
 use Rattle.ca_laws_writes.specs.Seats.{Seated}
 use Rattle.ca_laws_writes.specs.Steps.{AllInStep}
 use Rattle.ca_world_data.specs.declared.client.ClientSide.{ClientSide}
@@ -31,7 +31,6 @@ use Rattle.ca_world_data.specs.declared.server.ServerSide.{ServerSide}
 use Rattle.ca_world_data.specs.Does.{Does}
 use Rattle.ca_world_data.specs.Ends.{AreEnds, NoEnds, ends_of}
 use Rattle.ca_world_data.specs.Seen.{client_of, joined_of, record_of, server_of}
-use Rattle.ca_world_data.specs.ServerCuts.{IsServing}
 use Rattle.ca_world_data.specs.Updates.{TellsOne}
 use Rattle.ca_world_data.specs.Withdrawing.{all_withdrawn}
 use Rattle.ca_world.specs.ServerPumps.{Pumped, PumpsServer, PumpsUntil, UpdatesFit, over_core, shown_by}
@@ -40,7 +39,7 @@ use Rattle.ca_world.specs.Whole.{IsReached}
 use Rattle.ca_world_data.proofs.Indexes.{KeepsEnds, ends-stay}
 use Rattle.ca_world_data.proofs.Withdrawals.{told-all}
 use Rattle.ca_world_data.proofs.Worlds.{joins, none-joined, one-at, same-circuit, set-map, set-same, world_of}
-use Rattle.ca_world.proofs.Cuttings.{run-reported, run-stands, serves-there}
+use Rattle.ca_world.proofs.Cuttings.{run-reported, run-stands}
 use Rattle.ca_world.proofs.Downward.{set-set}
 use Rattle.ca_world.proofs.Endings.{ends-number, ends-this, over-reports}
 use Rattle.ca_world.proofs.Reported.{reported-changed}

@@ -123,11 +123,11 @@ module _ (w : Inside) (k : ℕ) (x : ClientSide) (at : At w.clients.items k x) (
     speaks = subst (λ (z : model.World). Does (seen w) e r z) (spoken-real w k x' logs ks) d
 
     -- all that holds of a world
-    pub speaks-stand : {fine : IsEvent e} → (new : Inside) → seen new ≡ record (seen w) { clients = map client_of (slice_set w.clients.items k x'); client_logs = logs; circuits = ks } → x'.circuits.items ≡ x.circuits.items → new.clients.items ≡ slice_set w.clients.items k x' → new.servers.items ≡ w.servers.items
+    pub speaks-stand : IsEvent e → (new : Inside) → seen new ≡ record (seen w) { clients = map client_of (slice_set w.clients.items k x'); client_logs = logs; circuits = ks } → x'.circuits.items ≡ x.circuits.items → new.clients.items ≡ slice_set w.clients.items k x' → new.servers.items ≡ w.servers.items
         → ((cs ss : List (List ℕ)) → AreIndexed cs ss (map joined_of w.circuits.items) → AreIndexed cs ss ks) → Stands new
-    speaks-stand {fine} new is same clients servers keep =
+    speaks-stand fine new is same clients servers keep =
         let numbers : client_numbers new.clients.items ≡ client_numbers w.clients.items = ap client_numbers clients ∙ numbers-set (λ (z : ClientSide). z.circuits.items) w.clients.items k x x' at same in
-        all-stand w new e {fine = fine} r (subst (λ (z : model.World). Does (seen w) e r z) (sym is) speaks) s
+        all-stand w new e fine r (subst (λ (z : model.World). Does (seen w) e r z) (sym is) speaks) s
         (indexed-same (client_numbers w.clients.items) (client_numbers new.clients.items) (server_numbers w.servers.items) (server_numbers new.servers.items) ks (map joined_of new.circuits.items)
         numbers (ap server_numbers servers) (ap (λ (z : model.World). z.circuits) is)
         (keep (client_numbers w.clients.items) (server_numbers w.servers.items) s.indexed))

@@ -1,7 +1,7 @@
 -- The numbers that a circuit's queues give are those that the statement stamps onto updates.
-use Rattle.std.proofs.Common.{◌≡◌, ℕ, zero, suc, ◌<◌, ◌≤◌, ◌⊎◌, inl, inr, Bool, true, false, List, [], ◌∷◌, ◌++◌, Option, Some, None, refl, sym, ap, subst, ◌∙◌, arith}
+use Rattle.std.proofs.Common.{◌≡◌, ℕ, zero, suc, ◌<◌, ◌⊎◌, inl, inr, Bool, true, false, List, [], ◌∷◌, ◌++◌, Option, Some, None, refl, sym, ap, subst, ◌∙◌, arith}
 use Rattle.std.specs.List.{FoldsTo}
-use Rattle.std.specs.Prelude.{if◌then◌else◌, map, option_and_then, option_map, slice_get, slice_set, unwrap_or}
+use Rattle.std.specs.Prelude.{if◌then◌else◌, option_and_then, option_map, slice_get, slice_set, unwrap_or}
 use Rattle.ca_queue.specs.declared.entry.SubKey.{SubKey}
 use Rattle.ca_queue.specs.Circuit.{RestBefore, Takes}
 use Rattle.ca_queue.specs.Images.{image_if, images, queue_images}
@@ -10,7 +10,6 @@ use Rattle.ca_queue.specs.Waiting.{front, may_take, taken}
 use Rattle.ca_queue.proofs.Images.{taken_images}
 use Rattle.ca_text.specs.Place.{At}
 use Rattle.ca_text.proofs.Places.{At-map, At-mapped, At-one, some_is}
-use Rattle.ca_wire.specs.Fields.{Fields}
 use Rattle.ca_model.specs.History.{Cause, Reply}
 use Rattle.ca_model.specs.Server.{ServerEnd, key_of}
 use Rattle.ca_model.specs.ServerSteps.{Leaves, Update}

@@ -60,7 +60,7 @@ invariant_of-self c =
     let within : k < length cs = omega (arith, c.if-client-len.false, c.len.ensures) in
     let at : At cs k x = found cs k x x within c.index_mut.ensures.value in
     let d = clears-does (seen w) k c.args.channel (client_of x) (client_of x') logs ks c.clear_on.result (At-map client_of cs k x at) c.clear_on.ensures.clears in
-    speaks-stand w k x at c.self.invariant (Clear k c.args.channel) c.clear_on.result x' logs ks d _ refl c.clear_on.ensures.kept refl refl
+    speaks-stand w k x at c.self.invariant (Clear k c.args.channel) c.clear_on.result x' logs ks d tt _ refl c.clear_on.ensures.kept refl refl
     (clears-keep k c.args.channel (client_of x) (client_of x') (lines_in w.client_logs.items) logs (map joined_of w.circuits.items) ks c.clear_on.result c.clear_on.ensures.clears)
 
 pub clear_on-requires-clause-few : goal.clear_on-requires-clause-few

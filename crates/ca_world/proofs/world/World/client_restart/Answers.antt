@@ -67,4 +67,4 @@ invariant_of-self c =
     let ks' : List Joined = c.restart_client.new.circuits.items in
     let d = client-restarts cs ss ks cl sl w.moment i x x' servers cl' ks' c.restart_client.result at known c.restart_client.ensures in
     let indexed = client-indexed cs (server_numbers ss) ks ks' cl cl' servers w.moment i x x' c.restart_client.result at c.restart_client.ensures c.self.invariant.indexed in
-    all-stand w _ (ClientRestart i) c.restart_client.result d c.self.invariant indexed
+    all-stand w _ (ClientRestart i) tt c.restart_client.result d c.self.invariant indexed

@@ -34,6 +34,6 @@ invariant_of-self c =
     let within : k < length cs = omega (arith, c.if-client-len.false, c.len.ensures) in
     let at : At cs k x = found cs k x x within c.index.ensures in
     let logs = lines_in c.collect_from.new.logs.items in
-    all-stand w _ (Collect k c.args.request) c.collect_from.result
+    all-stand w _ (Collect k c.args.request) tt c.collect_from.result
     (collects (seen w) k c.args.request (client_of x) logs c.collect_from.result (At-map client_of cs k x at) c.collect_from.ensures)
     c.self.invariant c.self.invariant.indexed

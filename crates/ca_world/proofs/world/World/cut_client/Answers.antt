@@ -116,4 +116,4 @@ invariant_of-self c =
     refl
     (set-map joined_of ks k j')
     moved in
-    all-stand w _ (CutClient k) c.cut_at.result d c.self.invariant indexed
+    all-stand w _ (CutClient k) tt c.cut_at.result d c.self.invariant indexed

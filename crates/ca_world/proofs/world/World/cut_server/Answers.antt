@@ -118,4 +118,4 @@ invariant_of-self c =
     (numbers-set (λ (z : ServerSide). z.circuits.items) ss e.server y y' server kept.0)
     (set-map joined_of ks k j')
     moved in
-    all-stand w _ (CutServer k) c.cut_at.result d c.self.invariant indexed
+    all-stand w _ (CutServer k) tt c.cut_at.result d c.self.invariant indexed

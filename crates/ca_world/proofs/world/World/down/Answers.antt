@@ -122,7 +122,7 @@ invariant_of-self c =
     (numbers-set (λ (z : ClientSide). z.circuits.items) cs e.client x x' client kept.0)
     (numbers-set (λ (z : ServerSide). z.circuits.items) ss e.server y y' server kept.1)
     (set-map joined_of ks k j') moved in
-    all-stand w _ (Down k n) c.hand_down.result d c.self.invariant indexed
+    all-stand w _ (Down k n) tt c.hand_down.result d c.self.invariant indexed
 
 pub invariant_of-self-2 : goal.invariant_of-self-2
 invariant_of-self-2 c =
@@ -152,4 +152,4 @@ invariant_of-self-2 c =
     (numbers-set (λ (z : ClientSide). z.circuits.items) cs e.client x x' client kept.0)
     refl
     (set-map joined_of ks k j') moved in
-    all-stand w _ (Down k n) c.leave_down.result d c.self.invariant indexed
+    all-stand w _ (Down k n) tt c.leave_down.result d c.self.invariant indexed

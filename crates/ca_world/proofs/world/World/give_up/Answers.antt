@@ -34,6 +34,6 @@ invariant_of-self c =
     let within : k < length cs = omega (arith, c.if-client-len.false, c.len.ensures) in
     let at : At cs k x = found cs k x x within c.index.ensures in
     let logs = lines_in c.give_up_from.new.logs.items in
-    all-stand w _ (GiveUp k c.args.request) c.give_up_from.result
+    all-stand w _ (GiveUp k c.args.request) tt c.give_up_from.result
     (gives-up (seen w) k c.args.request (client_of x) logs c.give_up_from.result (At-map client_of cs k x at) c.give_up_from.ensures)
     c.self.invariant c.self.invariant.indexed

@@ -46,7 +46,7 @@ invariant_of-self c =
     let new : model.World = record w { clients = map client_of (slice_set cs k x'); client_logs = lines_in c.open_on.new.logs.items } in
     let made : record w { clients = slice_set w.clients k (client_of x'); client_logs = lines_in c.open_on.new.logs.items } ≡ new =
     ap (λ (t : List model.ClientSide). record w { clients = t; client_logs = lines_in c.open_on.new.logs.items }) (sym (set-map client_of cs k x')) in
-    all-stand i _ (Open k c.args.name.now c.args.priority) c.open_on.result
+    all-stand i _ (Open k c.args.name.now c.args.priority) tt c.open_on.result
     (subst (λ (z : model.World). Does w (Open k c.args.name.now c.args.priority) c.open_on.result z) made
     (opens w k c.args.name.now c.args.priority (client_of x) (client_of x') (lines_in c.open_on.new.logs.items) c.open_on.result (At-map client_of cs k x at) c.open_on.ensures.opens))
     c.self.invariant

@@ -62,5 +62,5 @@ invariant_of-self c =
     let within : k < length cs = omega (arith, c.if-client-len.false, c.len.ensures) in
     let at : At cs k x = found cs k x x within c.index_mut.ensures.value in
     let d = reads-does (seen w) k c.args.channel a (client_of x) (client_of x') logs ks c.read_on.result (At-map client_of cs k x at) c.read_on.ensures.reads in
-    speaks-stand w k x at c.self.invariant (Read k c.args.channel a.data_type a.count) c.read_on.result x' logs ks d _ refl c.read_on.ensures.kept refl refl
+    speaks-stand w k x at c.self.invariant (Read k c.args.channel a.data_type a.count) c.read_on.result x' logs ks d tt _ refl c.read_on.ensures.kept refl refl
     (reads-keep k c.args.channel a (client_of x) (client_of x') (lines_in w.client_logs.items) logs (map joined_of w.circuits.items) ks c.read_on.result c.read_on.ensures.reads)

@@ -52,4 +52,4 @@ invariant_of-self c =
     let ks' : List Joined = c.restart_server.new.circuits.items in
     let d = server-restarts cs ss ks cl sl w.moment i y y' sl' ks' c.restart_server.result at c.restart_server.ensures in
     let indexed = server-indexed (client_numbers cs) ss ks ks' sl sl' w.moment i y y' c.restart_server.result at c.restart_server.ensures c.self.invariant.indexed in
-    all-stand w _ (ServerRestart i) c.restart_server.result d c.self.invariant indexed
+    all-stand w _ (ServerRestart i) tt c.restart_server.result d c.self.invariant indexed

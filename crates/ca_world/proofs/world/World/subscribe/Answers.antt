@@ -65,5 +65,5 @@ invariant_of-self c =
     let at : At cs k x = found cs k x x within c.index_mut.ensures.value in
     let fine : IsEvent (Subscribe k c.args.channel a.data_type a.count c.args.mask) = (subst HasEvent c.bits.ensures.bits c.bits.ensures.event, subst (λ (n : ℕ). n < 65536) c.bits.ensures.bits (omega arith)) in
     let d = subscribes-does (seen w) k c.args.channel a c.args.mask (client_of x) (client_of x') logs ks c.subscribe_on.result (At-map client_of cs k x at) c.subscribe_on.ensures.subscribes in
-    speaks-stand w k x at c.self.invariant (Subscribe k c.args.channel a.data_type a.count c.args.mask) c.subscribe_on.result x' logs ks d {fine = fine} _ refl c.subscribe_on.ensures.kept refl refl
+    speaks-stand w k x at c.self.invariant (Subscribe k c.args.channel a.data_type a.count c.args.mask) c.subscribe_on.result x' logs ks d fine _ refl c.subscribe_on.ensures.kept refl refl
     (subscribes-keep k c.args.channel a c.args.mask (client_of x) (client_of x') (lines_in w.client_logs.items) logs (map joined_of w.circuits.items) ks c.subscribe_on.result c.subscribe_on.ensures.subscribes)

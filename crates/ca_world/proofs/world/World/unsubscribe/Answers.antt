@@ -61,5 +61,5 @@ invariant_of-self c =
     let within : k < length cs = omega (arith, c.if-client-len.false, c.len.ensures) in
     let at : At cs k x = found cs k x x within c.index_mut.ensures.value in
     let d = unsubscribes-does (seen w) k n (client_of x) (client_of x') logs ks c.unsubscribe_on.result (At-map client_of cs k x at) c.unsubscribe_on.ensures.unsubscribes in
-    speaks-stand w k x at c.self.invariant (Unsubscribe k n) c.unsubscribe_on.result x' logs ks d _ refl c.unsubscribe_on.ensures.kept refl refl
+    speaks-stand w k x at c.self.invariant (Unsubscribe k n) c.unsubscribe_on.result x' logs ks d tt _ refl c.unsubscribe_on.ensures.kept refl refl
     (unsubscribes-keep k n (client_of x) (client_of x') (lines_in w.client_logs.items) logs (map joined_of w.circuits.items) ks c.unsubscribe_on.result c.unsubscribe_on.ensures.unsubscribes)

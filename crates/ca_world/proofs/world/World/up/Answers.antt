@@ -110,7 +110,7 @@ invariant_of-self c =
     (numbers-set (λ (z : ServerSide). z.circuits.items) ss e.server y c.hand_up.new.server server kept.1)
     refl
     c.self.invariant.indexed in
-    all-stand w _ (Up k n) c.hand_up.result
+    all-stand w _ (Up k n) tt c.hand_up.result
     (up-by-client cs ss ks cl sl w.moment k n e a x c.hand_up.new.side y c.hand_up.new.server c.hand_up.result client server (is-open e.server_open c.if-not-ends.false) c.if-ends.true c.hand_up.ensures)
     c.self.invariant indexed
 
@@ -138,6 +138,6 @@ invariant_of-self-2 c =
     (numbers-set (λ (z : ServerSide). z.circuits.items) ss e.server y c.leave_up.new.server server kept.1)
     (set-map joined_of ks k c.leave_up.new.joined)
     moved in
-    all-stand w _ (Up k n) c.leave_up.result
+    all-stand w _ (Up k n) tt c.leave_up.result
     (up-by-left cs ss ks cl sl w.moment k n e a j c.leave_up.new.joined y c.leave_up.new.server c.leave_up.result at server (is-open e.server_open c.if-not-ends.false) c.if-ends.false c.leave_up.ensures)
     c.self.invariant indexed
