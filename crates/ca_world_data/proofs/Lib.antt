@@ -15,3 +15,4 @@ pub mod Withdrawals
 pub mod Entering
 pub mod Handed
 pub mod Accepted
+pub mod Acceptances

@@ -110,7 +110,7 @@ pub record StaysAs (x : ClientSide) (y : ServerSide) (ks : List Joined) (logs : 
   pub client : client_of x' ≡ client_of x
   pub server : server_of y' ≡ server_of y
   pub circuits : ks' ≡ ks
-  pub logs : lines_in logs' ≡ lines_in logs
+  pub lines : lines_in logs' ≡ lines_in logs
   pub at_client : Extends x.circuits.items x'.circuits.items
   pub at_server : Extends y.circuits.items y'.circuits.items
 

@@ -68,7 +68,8 @@ fn server_at(servers: &[ServerSide], address: Address) -> usize
     ensures { result ≡ server_at servers.now address }
 {
     for place in 0..servers.len() {
-        if is_same(servers[place].setting.address, address) {
+        let setting = &servers[place].setting;
+        if is_same(setting.address, address) {
             return place;
         }
     }
