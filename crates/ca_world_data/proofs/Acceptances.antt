@@ -1,6 +1,6 @@
 -- A circuit is accepted, step by step.
-use Rattle.std.proofs.Common.{◌≡◌, ℕ, zero, suc, ◌+◌, ◌<◌, ◌≤◌, inl, inr, List, [], ◌∷◌, ◌++◌, Option, Some, None, Result, Ok, Err, length, refl, sym, ap, subst, ◌∙◌, arith}
-use Rattle.std.specs.Prelude.{map, slice_set, Vec, vec_capacity, vec_len}
+use Rattle.std.proofs.Common.{◌≡◌, ℕ, zero, suc, ◌≤◌, inl, inr, List, [], ◌∷◌, ◌++◌, Option, Some, None, Result, Ok, Err, length, refl, sym, ap, subst, ◌∙◌, arith}
+use Rattle.std.specs.Prelude.{map, slice_set, Vec}
 use Rattle.std.specs.declared.alloc.Global.{Global}
 use Rattle.std.proofs.lemmas.List.{append-nil}
 use Rattle.ca_arena.specs.declared.handle.Handle.{Handle}
@@ -23,8 +23,7 @@ use Rattle.ca_world_data.specs.declared.client.ClientSide.{ClientSide}
 use Rattle.ca_world_data.specs.declared.history.Line.{Line}
 use Rattle.ca_world_data.specs.declared.joined.Joined.{Joined}
 use Rattle.ca_world_data.specs.declared.server.ServerSide.{ServerSide}
-use Rattle.ca_world_data.specs.Accepting.{AcceptsDone, AcceptsOn, ConnectsSide, Extends, GainsNumber, MayRefuse, RefusedAs, StaysAs, begun_circuit}
-use Rattle.ca_world_data.specs.Downs.{with_said}
+use Rattle.ca_world_data.specs.Accepting.{AcceptsOn, ConnectsSide, Extends, GainsNumber, MayRefuse, RefusedAs, StaysAs, begun_circuit}
 use Rattle.ca_world_data.specs.Logs.{HasRoom, lines_in}
 use Rattle.ca_world_data.specs.Seen.{client_of, joined_of, server_of}
 use Rattle.ca_world_data.specs.Speaking.{stamped}

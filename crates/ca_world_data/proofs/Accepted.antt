@@ -1,10 +1,10 @@
 -- The first circuit that a client wants whose address has a server.
-use Rattle.std.proofs.Common.{◌≡◌, ℕ, zero, suc, ◌+◌, ◌<◌, ◌≤◌, Bool, true, false, List, [], ◌∷◌, ◌++◌, Option, Some, None, drop, eqb, length, nat_lt, refl, sym, ap, subst, ◌∙◌, arith}
+use Rattle.std.proofs.Common.{◌≡◌, ℕ, zero, suc, ◌+◌, ◌<◌, ◌≤◌, Bool, true, false, List, [], ◌∷◌, Option, Some, None, drop, eqb, length, nat_lt, refl, sym, ap, subst, ◌∙◌, arith}
 use Rattle.std.specs.List.{cons_option}
-use Rattle.std.specs.Prelude.{◌&&◌, filter_map, if◌then◌else◌, map, option_and_then, slice_get}
+use Rattle.std.specs.Prelude.{filter_map, if◌then◌else◌, option_and_then, slice_get}
 use Rattle.std.proofs.lemmas.Bool.{and_from, and_parts, eq-eqb, eqb-true, ltb-false, ltb-true}
 use Rattle.ca_text.specs.Place.{At}
-use Rattle.ca_text.proofs.Places.{At-within, some_is}
+use Rattle.ca_text.proofs.Places.{some_is}
 use Rattle.ca_model.specs.ClientCalls.{WantedCircuit}
 use Rattle.ca_model.specs.Ends.{Address, same_address}
 use Rattle.ca_model_world.specs.ClientEvents.{place_of}

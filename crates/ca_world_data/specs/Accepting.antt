@@ -8,7 +8,7 @@ use Rattle.ca_text.specs.declared.refusal.Refusal.TheVariants as refusal
 use Rattle.ca_text.specs.Limits.{arena_slots, circuit_queues}
 use Rattle.ca_text.specs.Place.{At}
 use Rattle.ca_model.specs.Answers.{Closing, Sending}
-use Rattle.ca_model.specs.Client.{Client, farewell}
+use Rattle.ca_model.specs.Client.{farewell}
 use Rattle.ca_model.specs.ClientCalls.{WantedCircuit}
 use Rattle.ca_model.specs.ClientEnds.{ClientConnects}
 use Rattle.ca_model.specs.Ends.{Address, same_address}

@@ -1,4 +1,4 @@
-use Rattle.std.proofs.Common.{◌≡◌, ℕ, ◌+◌, ◌<◌, List, Option, ap, arith, drop, length, sym, ◌∙◌}
+use Rattle.std.proofs.Common.{ℕ, ◌+◌, ◌<◌, List, Option, ap, arith, drop, length, sym, ◌∙◌}
 use Rattle.std.specs.Prelude.{filter_map}
 use Rattle.ca_arena.specs.declared.handle.Handle.{Handle}
 use Rattle.ca_client_core.specs.ForAccepts.{wanted_circuit}
