@@ -252,7 +252,7 @@ module _ (cs : List ClientSide) (ss : List ServerSide) (ks : List Joined) (cl : 
             clients = (set-map client_of cs i x' ∙ ap (slice_set (map client_of cs) i) d.client ∙ set-same (map client_of cs) i (client_of x) (At-map client_of cs i x at)) t;
             servers = (set-map server_of ss s y' ∙ ap (slice_set (map server_of ss) s) d.server ∙ set-same (map server_of ss) s (server_of f.y) (At-map server_of ss s f.y f.there)) t;
             circuits = map joined_of (d.circuits t);
-            client_logs = d.logs t;
+            client_logs = d.lines t;
             server_logs = sl;
             moment = m;
           }

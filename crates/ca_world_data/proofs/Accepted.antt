@@ -1,10 +1,10 @@
 -- The first circuit that a client wants whose address has a server.
-use Rattle.std.proofs.Common.{◌≡◌, ℕ, zero, suc, ◌+◌, ◌<◌, ◌≤◌, Bool, true, false, List, [], ◌∷◌, ◌++◌, Option, Some, None, drop, eqb, length, nat_lt, refl, sym, ap, subst, ◌∙◌, arith}
+use Rattle.std.proofs.Common.{◌≡◌, ℕ, zero, suc, ◌+◌, ◌<◌, ◌≤◌, Bool, true, false, List, [], ◌∷◌, Option, Some, None, drop, eqb, length, nat_lt, refl, sym, ap, subst, ◌∙◌, arith}
 use Rattle.std.specs.List.{cons_option}
-use Rattle.std.specs.Prelude.{◌&&◌, filter_map, if◌then◌else◌, map, option_and_then, slice_get}
-use Rattle.std.proofs.lemmas.Bool.{and_from, and_parts, eq-eqb, eqb-true}
+use Rattle.std.specs.Prelude.{filter_map, if◌then◌else◌, option_and_then, slice_get}
+use Rattle.std.proofs.lemmas.Bool.{and_from, and_parts, eq-eqb, eqb-true, ltb-false, ltb-true}
 use Rattle.ca_text.specs.Place.{At}
-use Rattle.ca_text.proofs.Places.{At-within, some_is}
+use Rattle.ca_text.proofs.Places.{some_is}
 use Rattle.ca_model.specs.ClientCalls.{WantedCircuit}
 use Rattle.ca_model.specs.Ends.{Address, same_address}
 use Rattle.ca_model_world.specs.ClientEvents.{place_of}
@@ -29,47 +29,53 @@ same-address-is a b is =
 
 place-there : {A : Type 0} (test : A → Bool) (xs : List A) → place_of test xs < length xs → (x : A) × At xs (place_of test xs) x × (test x ≡ true)
 place-there test [] lt = absurd (omega (arith, lt))
-place-there {A} test (x ∷ xs) lt = go (test x) refl lt
+place-there {A} test (x ∷ xs) lt = go (test x) refl (λ l. place-there test xs l) lt
   where
-    go : (b : Bool) → test x ≡ b → (if b then 0 else place_of test xs + 1) < length (x ∷ xs) → (y : A) × At (x ∷ xs) (if b then 0 else place_of test xs + 1) y × (test y ≡ true)
-    go true is lt = (x, refl, is)
-    go false is lt =
-        let r = place-there test xs (omega (arith, lt)) in
+    go : (b : Bool) → test x ≡ b → (place_of test xs < length xs → (y : A) × At xs (place_of test xs) y × (test y ≡ true))
+        → (if b then 0 else place_of test xs + 1) < length (x ∷ xs) → (y : A) × At (x ∷ xs) (if b then 0 else place_of test xs + 1) y × (test y ≡ true)
+    go true is rest lt = (x, refl, is)
+    go false is rest lt =
+        let r = rest (omega (arith, lt)) in
         let e : place_of test xs + 1 ≡ suc (place_of test xs) = omega arith in
         (r.0, subst (λ (n : ℕ). At (x ∷ xs) n r.0) (sym e) r.1, r.2)
 
 place-none : {A : Type 0} (test : A → Bool) (xs : List A) → length xs ≤ place_of test xs → (k : ℕ) (x : A) → At xs k x → test x ≡ true → ⊥
 place-none test [] le k x at yes_it = absurd cc
-place-none {A} test (z ∷ xs) le k x at yes_it = go (test z) refl le k at
+place-none {A} test (z ∷ xs) le k x at yes_it = go (test z) refl (λ l n there. place-none test xs l n x there yes_it) le k at
   where
-    go : (b : Bool) → test z ≡ b → length (z ∷ xs) ≤ (if b then 0 else place_of test xs + 1) → (k : ℕ) → At (z ∷ xs) k x → ⊥
-    go true is le k at = omega (arith, le)
-    go false is le zero at = both-ways (test z) (ap test (some_is z x at) ∙ yes_it) is
-    go false is le (suc k) at = place-none test xs (omega (arith, le)) k x at yes_it
+    go : (b : Bool) → test z ≡ b → (length xs ≤ place_of test xs → (n : ℕ) → At xs n x → ⊥) → length (z ∷ xs) ≤ (if b then 0 else place_of test xs + 1) → (k : ℕ) → At (z ∷ xs) k x → ⊥
+    go true is rest le k at = omega (arith, le)
+    go false is rest le zero at = both-ways (test z) (ap test (some_is z x at) ∙ yes_it) is
+    go false is rest le (suc k) at = rest (omega (arith, le)) k at
 
 -- ---- one circuit
+
+abbrev as_served : Bool → WantedCircuit → ℕ → Option (WantedCircuit × ℕ)
+as_served b u n = if b then Some (u, n) else None
 
 module _ (ys : List ServerSide) where
   -- it is itself, with a server at its address
   served-own : (u v : WantedCircuit) (s : ℕ) → served ys u ≡ Some (v, s) → (v ≡ u) × ((y : ServerSide) × At ys s y × (y.setting.address ≡ v.address))
   served-own u v s is = go (nat_lt (server_at ys u.address) (length ys)) refl is
     where
-      go : (b : Bool) → nat_lt (server_at ys u.address) (length ys) ≡ b → (if b then Some (u, server_at ys u.address) else None) ≡ Some (v, s) → (v ≡ u) × ((y : ServerSide) × At ys s y × (y.setting.address ≡ v.address))
+      go : (b : Bool) → nat_lt (server_at ys u.address) (length ys) ≡ b → as_served b u (server_at ys u.address) ≡ Some (v, s) → (v ≡ u) × ((y : ServerSide) × At ys s y × (y.setting.address ≡ v.address))
       go false lt is = absurd cc
       go true lt is =
-          let pair : (u, server_at ys u.address) ≡ (v, s) = some_is (u, server_at ys u.address) (v, s) is in
+          let a : WantedCircuit × ℕ = (u, server_at ys u.address) in
+          let b : WantedCircuit × ℕ = (v, s) in
+          let pair : a ≡ b = some_is a b is in
           let v_is : u ≡ v = ap (λ (p : WantedCircuit × ℕ). p.0) pair in
           let s_is : server_at ys u.address ≡ s = ap (λ (p : WantedCircuit × ℕ). p.1) pair in
-          let r = place-there (λ (y : ServerSide). same_address y.setting.address u.address) ys (omega (arith, lt)) in
+          let r = place-there (λ (y : ServerSide). same_address y.setting.address u.address) ys (ltb-true (server_at ys u.address) (length ys) lt) in
           (sym v_is, (r.0, subst (λ (n : ℕ). At ys n r.0) s_is r.1, same-address-is r.0.setting.address u.address r.2 ∙ ap (λ (z : WantedCircuit). z.address) v_is))
 
   -- no server is at its address
   served-not : (u : WantedCircuit) → served ys u ≡ None → (k : ℕ) (y : ServerSide) → At ys k y → y.setting.address ≡ u.address → ⊥
   served-not u is k y at same = go (nat_lt (server_at ys u.address) (length ys)) refl is
     where
-      go : (b : Bool) → nat_lt (server_at ys u.address) (length ys) ≡ b → (if b then Some (u, server_at ys u.address) else None) ≡ None → ⊥
+      go : (b : Bool) → nat_lt (server_at ys u.address) (length ys) ≡ b → as_served b u (server_at ys u.address) ≡ None → ⊥
       go true lt is = cc
-      go false lt is = place-none (λ (z : ServerSide). same_address z.setting.address u.address) ys (omega (arith, lt)) k y at (same-address-itself y.setting.address u.address same)
+      go false lt is = place-none (λ (z : ServerSide). same_address z.setting.address u.address) ys (ltb-false (server_at ys u.address) (length ys) lt) k y at (same-address-itself y.setting.address u.address same)
 
 -- ---- many circuits
 
@@ -84,10 +90,14 @@ pub record IsFirstServed (ys : List ServerSide) (vs : List WantedCircuit) (v : W
 
 pub served-first : (ys : List ServerSide) (vs : List WantedCircuit) (v : WantedCircuit) (s : ℕ) → first_served ys vs ≡ Some (v, s) → IsFirstServed ys vs v s
 served-first ys [] v s is = absurd cc
-served-first ys (u ∷ vs) v s is = go (served ys u) refl is
+served-first ys (u ∷ vs) v s is = go (served ys u) refl (λ e. served-first ys vs v s e) is
   where
-    go : (o : Option (WantedCircuit × ℕ)) → served ys u ≡ o → first_there o (first_served ys vs) ≡ Some (v, s) → IsFirstServed ys (u ∷ vs) v s
-    go (Some p) one is =
+    earlier : served ys u ≡ None → (r : IsFirstServed ys vs v s) (l : ℕ) (w : WantedCircuit) (k : ℕ) (z : ServerSide) → l < suc r.place → At (u ∷ vs) l w → At ys k z → z.setting.address ≡ w.address → ⊥
+    earlier one r zero w k z lt at there same = served-not ys u one k z there (same ∙ ap (λ (q : WantedCircuit). q.address) (sym (some_is u w at)))
+    earlier one r (suc l) w k z lt at there same = r.first l w k z (omega (arith, lt)) at there same
+
+    go : (o : Option (WantedCircuit × ℕ)) → served ys u ≡ o → (first_served ys vs ≡ Some (v, s) → IsFirstServed ys vs v s) → first_there o (first_served ys vs) ≡ Some (v, s) → IsFirstServed ys (u ∷ vs) v s
+    go (Some p) one rest is =
         let own = served-own ys u v s (one ∙ is) in
         record {
           place = 0;
@@ -97,22 +107,18 @@ served-first ys (u ∷ vs) v s is = go (served ys u) refl is
           address = own.1.2;
           first = λ l w k z lt. absurd (omega (arith, lt));
         }
-    go None one is =
-        let r : IsFirstServed ys vs v s = served-first ys vs v s is in
-        record { place = suc r.place; at = r.at; y = r.y; there = r.there; address = r.address; first = earlier r }
-      where
-        earlier : (r : IsFirstServed ys vs v s) (l : ℕ) (w : WantedCircuit) (k : ℕ) (z : ServerSide) → l < suc r.place → At (u ∷ vs) l w → At ys k z → z.setting.address ≡ w.address → ⊥
-        earlier r zero w k z lt at there same = served-not ys u one k z there (same ∙ ap (λ (q : WantedCircuit). q.address) (sym (some_is u w at)))
-        earlier r (suc l) w k z lt at there same = r.first l w k z (omega (arith, lt)) at there same
+    go None one rest is =
+        let r : IsFirstServed ys vs v s = rest is in
+        record { place = suc r.place; at = r.at; y = r.y; there = r.there; address = r.address; first = earlier one r }
 
 pub served-none : (ys : List ServerSide) (vs : List WantedCircuit) → first_served ys vs ≡ None → (l : ℕ) (u : WantedCircuit) (y : ServerSide) (k : ℕ) → At ys k y → At vs l u → y.setting.address ≡ u.address → ⊥
 served-none ys [] none l u y k there at same = absurd cc
-served-none ys (v ∷ vs) none l u y k there at same = go (served ys v) refl none l at
+served-none ys (v ∷ vs) none l u y k there at same = go (served ys v) refl (λ e n also. served-none ys vs e n u y k there also same) none l at
   where
-    go : (o : Option (WantedCircuit × ℕ)) → served ys v ≡ o → first_there o (first_served ys vs) ≡ None → (l : ℕ) → At (v ∷ vs) l u → ⊥
-    go (Some p) one none l at = cc
-    go None one none zero at = served-not ys v one k y there (same ∙ ap (λ (q : WantedCircuit). q.address) (sym (some_is v u at)))
-    go None one none (suc l) at = served-none ys vs none l u y k there at same
+    go : (o : Option (WantedCircuit × ℕ)) → served ys v ≡ o → (first_served ys vs ≡ None → (n : ℕ) → At vs n u → ⊥) → first_there o (first_served ys vs) ≡ None → (l : ℕ) → At (v ∷ vs) l u → ⊥
+    go (Some p) one rest none l at = cc
+    go None one rest none zero at = served-not ys v one k y there (same ∙ ap (λ (q : WantedCircuit). q.address) (sym (some_is v u at)))
+    go None one rest none (suc l) at = rest none l at
 
 -- ---- place by place
 

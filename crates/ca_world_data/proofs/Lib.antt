@@ -24,3 +24,4 @@ pub mod UpdatesTold
 pub mod Tellings
 pub mod Silences
 pub mod Momentary
+pub mod Acceptances

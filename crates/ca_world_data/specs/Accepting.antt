@@ -8,7 +8,7 @@ use Rattle.ca_text.specs.declared.refusal.Refusal.TheVariants as refusal
 use Rattle.ca_text.specs.Limits.{arena_slots, circuit_queues}
 use Rattle.ca_text.specs.Place.{At}
 use Rattle.ca_model.specs.Answers.{Closing, Sending}
-use Rattle.ca_model.specs.Client.{Client, farewell}
+use Rattle.ca_model.specs.Client.{farewell}
 use Rattle.ca_model.specs.ClientCalls.{WantedCircuit}
 use Rattle.ca_model.specs.ClientEnds.{ClientConnects}
 use Rattle.ca_model.specs.Ends.{Address, same_address}
@@ -110,7 +110,7 @@ pub record StaysAs (x : ClientSide) (y : ServerSide) (ks : List Joined) (logs : 
   pub client : client_of x' ≡ client_of x
   pub server : server_of y' ≡ server_of y
   pub circuits : ks' ≡ ks
-  pub logs : lines_in logs' ≡ lines_in logs
+  pub lines : lines_in logs' ≡ lines_in logs
   pub at_client : Extends x.circuits.items x'.circuits.items
   pub at_server : Extends y.circuits.items y'.circuits.items
 

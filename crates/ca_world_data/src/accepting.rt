@@ -8,11 +8,29 @@ ghost use Rattle.ca_model.specs.Client.{farewell};
 ghost use Rattle.ca_model.specs.ClientCalls.{wanted};
 ghost use Rattle.ca_model.specs.Ends.{same_address};
 ghost use Rattle.ca_model_world.specs.ClientEvents as world;
-ghost use Rattle.ca_world_data.specs.Accepting.{AcceptsOn, ConnectsSide, Extends,
-    HasRoomToAccept, MayRefuse, RefusedAs, StaysAs, begun_circuit, first_served, served, server_at};
+ghost use Rattle.ca_world_data.specs.Accepting.{
+  AcceptsOn,
+  ConnectsSide,
+  Extends,
+  HasRoomToAccept,
+  MayRefuse,
+  RefusedAs,
+  StaysAs,
+  begun_circuit,
+  first_served,
+  served,
+  server_at,
+};
 ghost use Rattle.ca_world_data.specs.Logs.{HasRoom, lines_in};
-ghost use Rattle.ca_world_data.specs.Seen.{client_of, intent_of, joined_of, names_of, queue_of,
-    sent_of, server_of};
+ghost use Rattle.ca_world_data.specs.Seen.{
+  client_of,
+  intent_of,
+  joined_of,
+  names_of,
+  queue_of,
+  sent_of,
+  server_of,
+};
 ghost use Rattle.ca_world_data.specs.Speaking.{stamped};
 
 use crate::client::{ClientSide, Names};
@@ -68,7 +86,8 @@ fn server_at(servers: &[ServerSide], address: Address) -> usize
     ensures { result ≡ server_at servers.now address }
 {
     for place in 0..servers.len() {
-        if is_same(servers[place].setting.address, address) {
+        let setting = &servers[place].setting;
+        if is_same(setting.address, address) {
             return place;
         }
     }
@@ -150,11 +169,7 @@ fn first_messages(
 }
 
 // These messages as their circuit has them.
-fn stamp_all(
-    alloc: Global,
-    names: &Names,
-    sendings: Vec<Sending>,
-) -> Result<Vec<Sent>, AllocError>
+fn stamp_all(alloc: Global, names: &Names, sendings: Vec<Sending>) -> Result<Vec<Sent>, AllocError>
     ensures { IfOk result (λ up. map sent_of up.items
         ≡ map (stamped (names_of names.now)) (map sending_of sendings.items)) }
 {

@@ -3,8 +3,8 @@ use Rattle.ca_world_data.specs.Accepting.{Extends}
 use Rattle.ca_world_data.proofs.accepting.widen.Given as goal
 
 -- those that were there are there still
-abbrev pub invariant-loop : goal.invariant-loop
-invariant-loop l = record { kept : Extends l.initial.numbers.items l.numbers.items }
+abbrev pub invariant-loop-numbers : goal.invariant-loop-numbers
+invariant-loop-numbers l = record { kept : Extends l.initial.numbers.items l.numbers.items }
 
-abbrev pub decreases-loop : goal.decreases-loop
-decreases-loop l = l.places - length l.numbers.items
+abbrev pub decreases-loop-numbers : goal.decreases-loop-numbers
+decreases-loop-numbers l = l.places - length l.numbers.items
