@@ -230,7 +230,7 @@ impl Circuit {
         ensures { result.now ≡ bytes_on self.now }
     {
         match &self.state {
-            State::Open(end) => end.link.out_bytes(),
+            State::Open(_) => self.out_bytes(),
             State::Ended(_, left) => left.bytes(),
         }
     }
