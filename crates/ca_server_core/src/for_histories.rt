@@ -4,7 +4,7 @@ ghost use Rattle.ca_ids.specs.Table.{same_handle, under};
 ghost use Rattle.ca_records.specs.Puts.{withdrawn};
 ghost use Rattle.ca_records.specs.Store.{records_of};
 ghost use Rattle.ca_server_circuit.specs.Circuits.{is_open};
-ghost use Rattle.ca_server_core.specs.ForHistories.{EndsAt, IsOverAt, is_over};
+ghost use Rattle.ca_server_core.specs.ForHistories.{ConcernsUnder, EndsAt, IsOverAt, bytes_under, is_over};
 ghost use Rattle.ca_server_core.specs.Sound.{IsSound};
 
 use crate::server::ServerCore;
@@ -65,4 +65,31 @@ fn know_withdrawn(circuits: &HeldTable<Circuit>, records: &ServedRecords, circui
 {
     let _ = circuits;
     let _ = records;
+}
+
+/// The place of the queue that has the subscription at this place of a circuit, if a post to the record of this name, with this mask,
+/// concerns it. None if its end is not open.
+pub fn concerned_at(
+    core: &ServerCore,
+    circuit: Handle,
+    place: usize,
+    name: &[u8],
+    mask: u16,
+) -> Option<usize>
+    ensures { ConcernsUnder name.now mask place (under core.now.circuits circuit) result }
+{
+    match core.circuits.by_handle(circuit) {
+        Some(found) => found.concerned_at(place, name, mask),
+        None => None,
+    }
+}
+
+/// The bytes that wait on a circuit, or that its end left which has ended in a call that did not report it.
+pub fn bytes_of(core: &ServerCore, circuit: Handle) -> &[u8]
+    ensures { result.now ≡ bytes_under (under core.now.circuits circuit) }
+{
+    match core.circuits.by_handle(circuit) {
+        Some(found) => found.bytes(),
+        None => &[],
+    }
 }
