@@ -27,7 +27,7 @@ abbrev tellable : Names → List Notice
 tellable n = map (λ (e : Handle × Intent). notice.Completed e.0 outcome.Disconnected) n.requests ++ map notice.Lost n.channels
 
 module _ (moment : ℕ) (n : Names) (x : Client) (tidy : Tidy n x) (issued : AreIssued x) where
-  notices : List Notice
+  abbrev notices : List Notice
   notices = (circuits_ticked moment x).notices
 
   -- each is told of what has a name

@@ -1,5 +1,5 @@
 -- A moment is handed to a client, from what its parts became.
-use Rattle.std.proofs.Common.{◌≡◌, ◌≢◌, ℕ, ◌+◌, ◌≤◌, inl, inr, ◌⊎◌, Bool, true, false, List, [], ◌∷◌, Ok, Err, fold, length, refl, sym, ap, subst, ◌∙◌, arith}
+use Rattle.std.proofs.Common.{◌≡◌, ◌≢◌, ℕ, ◌≤◌, inl, inr, ◌⊎◌, true, false, List, [], ◌∷◌, Ok, Err, fold, length, refl, sym, ap, subst, ◌∙◌}
 use Rattle.std.specs.Prelude.{filter, map}
 use Rattle.std.specs.declared.alloc.AllocError.{AllocError}
 use Rattle.ca_arena.specs.declared.handle.Handle.{Handle}

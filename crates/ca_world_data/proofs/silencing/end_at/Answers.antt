@@ -1,10 +1,6 @@
-use Rattle.std.proofs.Common.{ℕ, ◌<◌, length, List, refl, arith, absurd}
+use Rattle.std.proofs.Common.{◌<◌, length, List, arith}
 use Rattle.ca_text.specs.Place.{At}
-use Rattle.ca_text.proofs.Places.{At-within}
-use Rattle.std.specs.Prelude.{map}
-use Rattle.std.proofs.lemmas.List.{length-map}
 use Rattle.ca_world_data.specs.declared.joined.Joined.{Joined}
-use Rattle.ca_world_data.specs.Seen.{joined_of}
 use Rattle.ca_world_data.proofs.Silences.{ends-at}
 use Rattle.ca_world_data.proofs.Worlds.{found}
 use Rattle.ca_world_data.proofs.silencing.end_at.Goals as goal

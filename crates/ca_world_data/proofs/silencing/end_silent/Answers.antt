@@ -1,4 +1,3 @@
-use Rattle.std.proofs.Common.{◌≡◌, List, sym, ap, subst, ◌∙◌}
 use Rattle.std.specs.Prelude.{map}
 use Rattle.ca_client_core.specs.Ticked.{left_of}
 use Rattle.ca_world_data.specs.Seen.{joined_of}

@@ -1,9 +1,8 @@
-use Rattle.std.proofs.Common.{◌≡◌, ℕ, [], ◌∷◌, ◌++◌, List, length, map, sym, ap, subst, ◌∙◌, arith}
+use Rattle.std.proofs.Common.{◌≡◌, ℕ, [], ◌∷◌, List, length, map, sym, ap, subst, ◌∙◌}
 use Rattle.std.specs.Vec.Iter.{into_iter_items}
 use Rattle.std.proofs.lemmas.List.{nil_from_length}
 use Rattle.ca_client_core.specs.declared.ticking.Left.{Left}
 use Rattle.ca_client_core.specs.Ticked.{left_of, lefts_of, notices_of}
-use Rattle.ca_model.specs.Answers.{Notice}
 use Rattle.ca_model.specs.History.{OfCircuit}
 use Rattle.ca_model_world.specs.ClientEvents.{after_tick, lines_of}
 use Rattle.ca_model_world.specs.World.{Joined, Names, grown}
