@@ -16,3 +16,4 @@ pub mod Entering
 pub mod Handed
 pub mod Silences
 pub mod Momentary
+pub mod Going

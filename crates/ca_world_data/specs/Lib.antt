@@ -25,3 +25,4 @@ pub mod Clears
 pub mod ClientCuts
 pub mod Silencing
 pub mod Ticks
+pub mod Sends

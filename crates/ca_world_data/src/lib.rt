@@ -17,6 +17,7 @@ pub mod logs;
 pub mod naming;
 pub mod opening;
 pub mod payloads;
+pub mod sending;
 pub mod server;
 pub mod settings;
 pub mod silencing;
