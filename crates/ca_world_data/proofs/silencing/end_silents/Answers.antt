@@ -13,8 +13,8 @@ use Rattle.ca_world_data.specs.Silencing.{silenced}
 use Rattle.ca_world_data.proofs.Silences.{grown-nil, lines-twice, numbered-map, room-both, room-first, silenced-keeps, silent-next, silent-none}
 use Rattle.ca_world_data.proofs.silencing.end_silents.Goals as goal
 
-pub end_silent-requires-room : goal.end_silent-requires-room
-end_silent-requires-room c =
+pub end_silent-requires-clause-room : goal.end_silent-requires-clause-room
+end_silent-requires-clause-room c =
     let steps : into_iter_items c.loop-left.left-iterator ≡ c.in-Some.left ∷ into_iter_items c.next.new.self = c.in-Some.ensures.steps.0 in
     room-first c.in-Some.left.notices (notices_of (into_iter_items c.next.new.self)) c.args.side.now.life c.loop-left.logs.items
     (subst (λ (z : List Left). HasRoom (length (notices_of z)) c.args.side.now.life c.loop-left.logs.items) steps c.loop-left.invariant.room)
