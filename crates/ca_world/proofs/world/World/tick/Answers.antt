@@ -24,3 +24,28 @@ tick_all-requires-clause-numbered c =
 
 pub tick_all-requires-clause-few : goal.tick_all-requires-clause-few
 tick_all-requires-clause-few c = all-tell-few c.args.moment (seen c.self.inside) c.self.invariant.reached c.self.invariant.quiet
+
+pub returns-then-moment-self : goal.returns-then-moment-self
+returns-then-moment-self c =
+    let w = c.self.inside in
+    (λ le. omega (arith, c.if-moment-self.true, le, ap (λ (v : World). v.moment) c.self.view_is), refl)
+
+pub returns-in-Ok : goal.returns-in-Ok
+returns-in-Ok c =
+    let w = c.self.inside in
+    let le : w.moment ≤ c.args.moment = omega (arith, c.if-moment-self.false) in
+    let cs : List ClientSide = c.tick_all.new.clients.items in
+    let ks : List Joined = map joined_of c.tick_all.new.circuits.items in
+    let cl : List (List Line) = lines_in c.tick_all.new.logs.items in
+    subst (λ (v : World). Happens v (Tick c.args.moment) (world_with (map client_of cs) (map server_of w.servers.items) ks cl (entries_in w.server_logs.items) c.args.moment)) c.self.view_is
+    (ticks-whole c.args.moment (seen w) (map client_of cs) cl ks tt le c.in-Ok.ensures.ticks)
+
+pub returns-in-Err : goal.returns-in-Err
+returns-in-Err c =
+    let w = c.self.inside in
+    let le : w.moment ≤ c.args.moment = omega (arith, c.if-moment-self.false) in
+    let cs : List ClientSide = c.tick_all.new.clients.items in
+    let ks : List Joined = map joined_of c.tick_all.new.circuits.items in
+    let cl : List (List Line) = lines_in c.tick_all.new.logs.items in
+    subst (λ (v : World). TicksBefore c.args.moment v (world_with (map client_of cs) (map server_of w.servers.items) ks cl (entries_in w.server_logs.items) w.moment)) c.self.view_is
+    (ticks-part c.args.moment (seen w) (map client_of cs) cl ks _ le c.in-Err.ensures.ticks)
