@@ -171,7 +171,7 @@ all-tell-few moment w reached quiet i x at = moment-tells w i x moment reached q
 
 pub ticks-whole : (moment : ℕ) (w : World) (cs' : List model.ClientSide) (cl' : List (List Line)) (ks' : List Joined) (u : Unit {0}) → w.moment ≤ moment → TicksSome moment w.clients w.client_logs w.circuits (Ok u) cs' cl' ks'
     → Happens w (Tick moment) (world_with cs' w.servers ks' cl' w.server_logs moment)
-ticks-whole moment w cs' cl' ks' u le ticks = (le, world_with cs' w.servers ks' cl' w.server_logs w.moment, ticks w.servers w.server_logs w.moment, refl)
+ticks-whole moment w cs' cl' ks' u le ticks = (le, (world_with cs' w.servers ks' cl' w.server_logs w.moment, ticks w.servers w.server_logs w.moment, refl))
 
 pub ticks-part : (moment : ℕ) (w : World) (cs' : List model.ClientSide) (cl' : List (List Line)) (ks' : List Joined) (e : AllocError) → w.moment ≤ moment → TicksSome moment w.clients w.client_logs w.circuits (Err e) cs' cl' ks'
     → TicksBefore moment w (world_with cs' w.servers ks' cl' w.server_logs w.moment)
