@@ -1,26 +1,23 @@
 -- A moment is handed to one client after another.
-use Rattle.std.proofs.Common.{◌≡◌, ℕ, zero, suc, ◌+◌, ◌<◌, ◌≤◌, inl, inr, Bool, true, false, List, [], ◌∷◌, ◌++◌, Some, Ok, Err, Result, length, refl, sym, ap, subst, ◌∙◌, arith}
-use Rattle.std.specs.Prelude.{◌&&◌, ◌==◌, Option, None, cond, map, option_map, slice_set, unwrap_or}
+use Rattle.std.proofs.Common.{◌≡◌, ℕ, zero, suc, ◌+◌, ◌≤◌, inl, inr, Bool, true, false, List, [], ◌∷◌, ◌++◌, Some, Ok, Err, length, refl, sym, ap, subst, ◌∙◌, arith}
+use Rattle.std.specs.Prelude.{◌&&◌, ◌==◌, IsErr, Option, None, Result, cond, map, option_map, slice_set, unwrap_or}
 use Rattle.std.specs.List.{FoldsTo, range_with_len}
 use Rattle.std.specs.declared.alloc.AllocError.{AllocError}
 use Rattle.std.proofs.lemmas.List.{length-map}
-use Rattle.ca_text.specs.declared.refusal.Refusal.TheVariants.{OutOfMemory}
 use Rattle.ca_text.specs.Place.{At}
-use Rattle.ca_text.proofs.Places.{At-map, At-mapped, At-one, At-set, At-within}
+use Rattle.ca_text.proofs.Places.{At-map, At-set}
 use Rattle.ca_model.specs.Answers.{Left, Sending}
-use Rattle.ca_model.specs.Client.{Client}
-use Rattle.ca_model.specs.ClientEnds.{ClientTicks}
 use Rattle.ca_model.specs.History.{Entry, Line}
 use Rattle.ca_model_world.specs.ClientEvents.{TicksOne, after_tick, client_closed, left_silent}
-use Rattle.ca_model_world.specs.Events.{Event, Tick}
-use Rattle.ca_model_world.specs.Runs.{CanBe, Happens, Runs, TicksAll, TicksBefore, clients_below}
+use Rattle.ca_model_world.specs.Events.{Tick}
+use Rattle.ca_model_world.specs.Runs.{Happens, TicksAll, TicksBefore, clients_below}
 use Rattle.ca_model_world.specs.World as model
 use Rattle.ca_model_world.specs.World.{Joined, World}
 use Rattle.ca_laws_held.specs.Quiet.{ClientsQuiet}
 use Rattle.ca_world_data.specs.declared.client.ClientSide.{ClientSide}
 use Rattle.ca_world_data.specs.Found.{AreNumbered}
 use Rattle.ca_world_data.specs.Indexed.{AreIndexed, client_numbers}
-use Rattle.ca_world_data.specs.Seen.{client_of, joined_of}
+use Rattle.ca_world_data.specs.Seen.{client_of}
 use Rattle.ca_world_data.specs.Speaking.{sent_up}
 use Rattle.ca_world_data.specs.Ticks.{TellsFew, TicksClient}
 use Rattle.ca_world_data.proofs.Indexes.{KeepsEnds, ends-stay, indexed-map, indexed-same, numbered-of, numbers-set}
@@ -44,7 +41,10 @@ range-next from (suc n) =
     ap (λ (l : List ℕ). from ∷ l) (range-next (from + 1) n ∙ ap (λ (k : ℕ). range_with_len (from + 1) n ++ k ∷ []) e)
 
 below-next : (n : ℕ) → clients_below (n + 1) ≡ clients_below n ++ n ∷ []
-below-next n = (let e : n + 1 ≡ suc n = omega arith in ap clients_below e ∙ range-next 0 n)
+below-next n =
+    let e : n + 1 ≡ suc n = omega arith in
+    let z : 0 + n ≡ n = omega arith in
+    ap clients_below e ∙ range-next 0 n ∙ ap (λ (k : ℕ). range_with_len 0 n ++ k ∷ []) z
 
 -- ---- circuits
 
@@ -148,9 +148,10 @@ far-all moment n cs now cl cl' ks ks' u far is =
     subst (λ (k : ℕ). TicksTo moment k (map client_of cs) cl ks (map client_of now) cl' ks') (is ∙ sym (length-map cs client_of)) far.ticks
 
 -- the next one had no memory for it
-pub far-stopped : (moment n : ℕ) (cs now : List ClientSide) (cl cl1 cl2 : List (List Line)) (ks ks1 ks2 : List Joined) (x x' : ClientSide) (e f : AllocError) → IsAsFar moment n cs now cl cl1 ks ks1 → At now n x
-    → TicksClient n moment (client_of x) cl1 ks1 (Err e) (client_of x') cl2 ks2 → TicksSome moment (map client_of cs) cl ks (Err f) (map client_of (slice_set now n x')) cl2 ks2
-far-stopped moment n cs now cl cl1 cl2 ks ks1 ks2 x x' e f far at (lacks, side, logged, stay) = (
+pub far-stopped : (moment n : ℕ) (cs now : List ClientSide) (cl cl1 cl2 : List (List Line)) (ks ks1 ks2 : List Joined) (x x' : ClientSide) (e : AllocError) (r : Result (Unit {0}) AllocError) → IsErr r → IsAsFar moment n cs now cl cl1 ks ks1 → At now n x
+    → TicksClient n moment (client_of x) cl1 ks1 (Err e) (client_of x') cl2 ks2 → TicksSome moment (map client_of cs) cl ks r (map client_of (slice_set now n x')) cl2 ks2
+far-stopped moment n cs now cl cl1 cl2 ks ks1 ks2 x x' e (Ok u) bad far at stops = absurd (let no : false ≡ true = bad in cc)
+far-stopped moment n cs now cl cl1 cl2 ks ks1 ks2 x x' e (Err f) refused far at (lacks, side, logged, stay) = (
   n,
   client_of x,
   At-map client_of cs n x (far.rest n x (omega arith) at),
@@ -170,7 +171,7 @@ all-tell-few moment w reached quiet i x at = moment-tells w i x moment reached q
 
 pub ticks-whole : (moment : ℕ) (w : World) (cs' : List model.ClientSide) (cl' : List (List Line)) (ks' : List Joined) (u : Unit {0}) → w.moment ≤ moment → TicksSome moment w.clients w.client_logs w.circuits (Ok u) cs' cl' ks'
     → Happens w (Tick moment) (world_with cs' w.servers ks' cl' w.server_logs moment)
-ticks-whole moment w cs' cl' ks' u le ticks = (le, world_with cs' w.servers ks' cl' w.server_logs w.moment, ticks w.servers w.server_logs w.moment, refl)
+ticks-whole moment w cs' cl' ks' u le ticks = (le, (world_with cs' w.servers ks' cl' w.server_logs w.moment, ticks w.servers w.server_logs w.moment, refl))
 
 pub ticks-part : (moment : ℕ) (w : World) (cs' : List model.ClientSide) (cl' : List (List Line)) (ks' : List Joined) (e : AllocError) → w.moment ≤ moment → TicksSome moment w.clients w.client_logs w.circuits (Err e) cs' cl' ks'
     → TicksBefore moment w (world_with cs' w.servers ks' cl' w.server_logs w.moment)

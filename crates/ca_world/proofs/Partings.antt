@@ -1,5 +1,5 @@
 -- How many notices a moment makes a client tell, over all its ends that fall silent: no more than its requests and channels have names.
-use Rattle.std.proofs.Common.{◌≡◌, ℕ, ◌+◌, ◌<◌, ◌≤◌, inl, inr, ◌⊎◌, List, [], ◌++◌, length, refl, sym, ap, subst, ◌∙◌, arith}
+use Rattle.std.proofs.Common.{◌≡◌, ℕ, ◌+◌, ◌≤◌, inl, inr, List, ◌++◌, length, sym, ap, subst, ◌∙◌, arith}
 use Rattle.std.specs.Prelude.{map}
 use Rattle.std.proofs.lemmas.List.{length-append, length-map}
 use Rattle.ca_arena.specs.declared.handle.Handle.{Handle}
@@ -27,7 +27,7 @@ abbrev tellable : Names → List Notice
 tellable n = map (λ (e : Handle × Intent). notice.Completed e.0 outcome.Disconnected) n.requests ++ map notice.Lost n.channels
 
 module _ (moment : ℕ) (n : Names) (x : Client) (tidy : Tidy n x) (issued : AreIssued x) where
-  notices : List Notice
+  abbrev notices : List Notice
   notices = (circuits_ticked moment x).notices
 
   -- each is told of what has a name

@@ -1,10 +1,8 @@
 ghost use Rattle.std.specs.Prelude.{◌≡◌, List, ℕ, map};
 ghost use Rattle.ca_world.specs.Ticking.{AllNumbered, AllTellFew, Ticks, TicksSome};
-ghost use Rattle.ca_world_data.specs.Found.{AreNumbered};
 ghost use Rattle.ca_world_data.specs.Indexed.{AreIndexed, client_numbers};
 ghost use Rattle.ca_world_data.specs.Logs.{lines_in};
 ghost use Rattle.ca_world_data.specs.Seen.{client_of, joined_of};
-ghost use Rattle.ca_world_data.specs.Ticks.{TellsFew, TicksClient};
 
 use crate::stopped::Stopped;
 use crate::world::World;

@@ -25,3 +25,6 @@ pub mod Tellings
 pub mod Silences
 pub mod Momentary
 pub mod Acceptances
+pub mod Silences
+pub mod Momentary
+pub mod Going

@@ -1,6 +1,6 @@
 -- A moment is handed to a client, from what its parts became.
-use Rattle.std.proofs.Common.{◌≡◌, ◌≢◌, ℕ, ◌+◌, ◌≤◌, inl, inr, ◌⊎◌, Bool, true, false, List, [], ◌∷◌, Ok, Err, fold, length, refl, sym, ap, subst, ◌∙◌, arith}
-use Rattle.std.specs.Prelude.{filter, map}
+use Rattle.std.proofs.Common.{◌≡◌, ◌≢◌, ℕ, ◌≤◌, inl, inr, ◌⊎◌, true, false, List, [], ◌∷◌, Ok, Err, fold, length, refl, sym, ap, subst, ◌∙◌}
+use Rattle.std.specs.Prelude.{IsErr, Result, filter, map}
 use Rattle.std.specs.declared.alloc.AllocError.{AllocError}
 use Rattle.ca_arena.specs.declared.handle.Handle.{Handle}
 use Rattle.ca_text.specs.declared.refusal.Refusal.{Refusal}
@@ -83,6 +83,11 @@ tick-done i moment x logs logs' ks mid ks' a f sent core told does up ends logge
     let same : map sending_of f.sent.items ≡ sent = told.sent ∙ sym does.1 in
     (a, sent, does, refl, logged, ends ∙ ap (map (after_tick i a.closings)) (up ∙ ap (λ (s : List Sending). map (sent_up i x.names s) ks) same))
 
-pub tick-refused : (i moment : ℕ) (x x' : ClientSide) (logs logs' : List (List Line)) (ks ks' : List Joined) (e : AllocError) → ClientTicks x.core moment (Err OutOfMemory) [] x.core → x' ≡ x → logs' ≡ logs → ks' ≡ ks
-    → TicksClient i moment x logs ks (Err e) x' logs' ks'
-tick-refused i moment x x' logs logs' ks ks' e lacks side lines stay = (lacks, side, lines, stay)
+pub tick-refused : (i moment : ℕ) (x x' : ClientSide) (logs logs' : List (List Line)) (ks ks' : List Joined) (r : Result (Unit {0}) AllocError) → IsErr r → ClientTicks x.core moment (Err OutOfMemory) [] x.core → x' ≡ x → logs' ≡ logs → ks' ≡ ks
+    → TicksClient i moment x logs ks r x' logs' ks'
+tick-refused i moment x x' logs logs' ks ks' (Ok u) bad lacks side lines stay = absurd (let no : false ≡ true = bad in cc)
+tick-refused i moment x x' logs logs' ks ks' (Err e) refused lacks side lines stay = (lacks, side, lines, stay)
+
+-- the client that was asked is as it was
+pub side-same : (x : ClientSide) (core : Client) → core ≡ x.core → ◌≡◌ {A = ClientSide} (record x { core = core }) x
+side-same x core same = λ t. record x { core = same t }

@@ -1,13 +1,15 @@
 -- Ends at a client that fell silent, one after another.
 use Rattle.std.proofs.Common.{◌≡◌, ℕ, zero, suc, ◌+◌, ◌≤◌, Bool, true, false, List, [], ◌∷◌, ◌++◌, Option, Some, None, eqb, length, refl, sym, ap, subst, ◌∙◌, arith}
-use Rattle.std.specs.Prelude.{◌&&◌, MatchOption, cond, find, map, option_map, slice_get, slice_set, unwrap_or, Vec}
+use Rattle.std.specs.Prelude.{◌&&◌, MatchOption, cond, find, map, option_map, slice_set, unwrap_or, Vec}
 use Rattle.std.proofs.lemmas.Bool.{eq-eqb, eqb-true}
 use Rattle.std.proofs.lemmas.List.{append-nil, append_assoc, length-append, map-append}
 use Rattle.std.specs.declared.alloc.Global.{Global}
 use Rattle.ca_arena.specs.declared.handle.Handle.{Handle}
 use Rattle.ca_ids.specs.Table.{same_handle}
 use Rattle.ca_text.specs.Place.{At}
-use Rattle.ca_text.proofs.Places.{At-map, At-mapped, At-one, some_is}
+use Rattle.ca_text.proofs.Places.{At-map, At-mapped, At-one}
+use Rattle.ca_client_core.specs.declared.ticking.Left.{Left as Silent}
+use Rattle.ca_client_core.specs.Ticked.{left_of, lefts_of, notices_of}
 use Rattle.ca_model.specs.Answers.{Left, Notice}
 use Rattle.ca_model.specs.History as history
 use Rattle.ca_model_world.specs.ClientEvents.{after_tick, client_closed, line_of, lines_of}
@@ -18,7 +20,6 @@ use Rattle.ca_world_data.specs.Found.{AreNumbered, IsAt, IsNowhere}
 use Rattle.ca_world_data.specs.Logs.{HasRoom}
 use Rattle.ca_world_data.specs.Seen.{joined_of}
 use Rattle.ca_world_data.specs.Silencing.{EndsAt, silenced}
-use Rattle.ca_world_data.specs.Speaking.{GoesBy}
 use Rattle.ca_world_data.proofs.Indexes.{KeepsEnds, one-at-client}
 use Rattle.ca_world_data.proofs.Sendings.{map-one, same-is, same-itself}
 use Rattle.ca_world_data.proofs.Worlds.{set-map}
@@ -138,6 +139,11 @@ pub lines-twice : (about : history.Intent) (n : Names) (life : ℕ) (first rest 
 lines-twice about n life first rest logs =
     grown-twice life (lines_of about n first) (lines_of about n rest) logs
     ∙ ap (λ (z : List history.Line). grown life z logs) (sym (map-append (line_of about n) first rest))
+
+-- what left nothing told nothing
+pub nothing-told : (ls : List Silent) → lefts_of ls ≡ [] → notices_of ls ≡ []
+nothing-told [] none = refl
+nothing-told (l ∷ ls) none = absurd (let bad : left_of l ∷ lefts_of ls ≡ [] = none in cc)
 
 -- ---- room
 

@@ -29,3 +29,6 @@ pub mod Sends
 pub mod Updates
 pub mod Silencing
 pub mod Ticks
+pub mod Silencing
+pub mod Ticks
+pub mod Sends

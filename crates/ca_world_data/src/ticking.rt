@@ -80,11 +80,7 @@ fn reserve_sent(
 }
 
 // Makes room for what ends of the client tell, if any ends.
-fn reserve_told(
-    side: &ClientSide,
-    logs: &mut Vec<Vec<Line>>,
-    ends: bool,
-) -> Result<(), AllocError>
+fn reserve_told(side: &ClientSide, logs: &mut Vec<Vec<Line>>, ends: bool) -> Result<(), AllocError>
     ensures same { lines_in logs.new.items ≡ lines_in logs.old.items }
     ensures room { OnOk result (ends ≡ true
         → HasRoom

@@ -1,9 +1,8 @@
-use Rattle.std.proofs.Common.{◌≡◌, ℕ, [], ◌∷◌, ◌++◌, List, length, map, sym, ap, subst, ◌∙◌, arith}
+use Rattle.std.proofs.Common.{◌≡◌, ℕ, [], ◌∷◌, List, length, map, sym, ap, subst, ◌∙◌}
 use Rattle.std.specs.Vec.Iter.{into_iter_items}
 use Rattle.std.proofs.lemmas.List.{nil_from_length}
 use Rattle.ca_client_core.specs.declared.ticking.Left.{Left}
 use Rattle.ca_client_core.specs.Ticked.{left_of, lefts_of, notices_of}
-use Rattle.ca_model.specs.Answers.{Notice}
 use Rattle.ca_model.specs.History.{OfCircuit}
 use Rattle.ca_model_world.specs.ClientEvents.{after_tick, lines_of}
 use Rattle.ca_model_world.specs.World.{Joined, Names, grown}
@@ -14,8 +13,8 @@ use Rattle.ca_world_data.specs.Silencing.{silenced}
 use Rattle.ca_world_data.proofs.Silences.{grown-nil, lines-twice, numbered-map, room-both, room-first, silenced-keeps, silent-next, silent-none}
 use Rattle.ca_world_data.proofs.silencing.end_silents.Goals as goal
 
-pub end_silent-requires-room : goal.end_silent-requires-room
-end_silent-requires-room c =
+pub end_silent-requires-clause-room : goal.end_silent-requires-clause-room
+end_silent-requires-clause-room c =
     let steps : into_iter_items c.loop-left.left-iterator ≡ c.in-Some.left ∷ into_iter_items c.next.new.self = c.in-Some.ensures.steps.0 in
     room-first c.in-Some.left.notices (notices_of (into_iter_items c.next.new.self)) c.args.side.now.life c.loop-left.logs.items
     (subst (λ (z : List Left). HasRoom (length (notices_of z)) c.args.side.now.life c.loop-left.logs.items) steps c.loop-left.invariant.room)
