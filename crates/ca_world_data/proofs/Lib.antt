@@ -17,3 +17,4 @@ pub mod Handed
 pub mod Readings
 pub mod UpdatesTold
 pub mod Tellings
+pub mod RepliesRead

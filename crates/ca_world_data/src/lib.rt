@@ -18,6 +18,7 @@ pub mod naming;
 pub mod opening;
 pub mod payloads;
 pub mod server;
+pub mod replies;
 pub mod settings;
 pub mod telling;
 pub mod updates;
