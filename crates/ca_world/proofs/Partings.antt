@@ -35,8 +35,7 @@ module _ (moment : ℕ) (n : Names) (x : Client) (tidy : Tidy n x) (issued : Are
   told-named c said (inl f) =
       let on : IsRequestOn n f.2.0.channel (meant_by n.requests f.0) = tidy.requests f.0 f.2.0 f.2.1 in
       let there = meant-there n.requests f.0 _ _ on.3 in
-      let named : List Notice = map (λ (e : Handle × Intent). notice.Completed e.0 outcome.Disconnected) n.requests in
-      (
+      let named : List Notice = map (λ (e : Handle × Intent). notice.Completed e.0 outcome.Disconnected) n.requests in (
         there.0,
         notice.Completed there.1.0 outcome.Disconnected,
         At-append named (map notice.Lost n.channels) there.0 (notice.Completed there.1.0 outcome.Disconnected)
@@ -45,8 +44,7 @@ module _ (moment : ℕ) (n : Names) (x : Client) (tidy : Tidy n x) (issued : Are
       )
   told-named c said (inr f) =
       let here : At n.channels (channel_number n f.0) f.0 = tidy.numbered f.0 f.2.1.ch f.2.1.there in
-      let named : List Notice = map (λ (e : Handle × Intent). notice.Completed e.0 outcome.Disconnected) n.requests in
-      (
+      let named : List Notice = map (λ (e : Handle × Intent). notice.Completed e.0 outcome.Disconnected) n.requests in (
         length named + channel_number n f.0,
         notice.Lost f.0,
         At-after named (map notice.Lost n.channels) (channel_number n f.0) (notice.Lost f.0) (At-map notice.Lost n.channels (channel_number n f.0) f.0 here),

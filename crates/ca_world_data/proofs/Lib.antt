@@ -28,3 +28,4 @@ pub mod Acceptances
 pub mod Silences
 pub mod Momentary
 pub mod Going
+pub mod RepliesRead

@@ -246,8 +246,8 @@ module _ (numbers : List ℕ) (n i : ℕ) (core : Server) (ks : List Joined) (se
         ∙ map-but before after ks k j d.1 (λ m c at other. other-same c (λ c_mine c_on c_its. other (one-at-server numbers ks i served m k c j at d.1 c_mine mine c_on on (c_its ∙ sym its))))
     closes-so None ks'' (none, is) =
         is ∙ map-agree before after ks (λ m c at. other-same c (λ mine on its.
-            let same : before c ≡ c = own-before c its in
-            none m c (subst (λ (z : Joined). At (map before ks) m z) same (At-map before ks m c at)) mine on its))
+        let same : before c ≡ c = own-before c its in
+        none m c (subst (λ (z : Joined). At (map before ks) m z) same (At-map before ks m c at)) mine on its))
 
     frees-so : with_freed h (freed_to n core.circuits) ≡ freed_to (suc n) core.circuits
     frees-so =
@@ -277,9 +277,9 @@ module _ (numbers : List ℕ) (n i : ℕ) (core : Server) (ks : List Joined) (se
             core_is = same ∙ (λ t. record core { circuits = sym (freed-skip n core.circuits (kept-all p.value own)) t });
             circuits =
                 stay ∙ map-agree before after ks (λ m c at. sym (ending-same (ends_below (suc n) i core) (ends_below n i core) c (below-same n i core c (λ at_n. ends-or i core c (ends_by i core c) refl (λ l ends.
-                    let no_it : left_by (under core.circuits c.at_server) ≡ None = nowhere c.at_server at_n in
-                    let yes_it : left_by (under core.circuits c.at_server) ≡ Some l = (ends-open i core c l ends).2 in
-                    absurd cc)))));
+                let no_it : left_by (under core.circuits c.at_server) ≡ None = nowhere c.at_server at_n in
+                let yes_it : left_by (under core.circuits c.at_server) ≡ Some l = (ends-open i core c l ends).2 in
+                absurd cc)))));
           }
 
 pub suc-is : (n : ℕ) → suc n ≡ n + 1

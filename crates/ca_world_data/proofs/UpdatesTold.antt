@@ -50,7 +50,7 @@ pub spelled-rest : (front back : List Fields) (bytes : List ℕ) (n : ℕ) → b
 spelled-rest front back bytes n are size =
     ap (drop n) (are ∙ spelled-both front back) ∙ drop_at (spelled front) (spelled back) n (sym size)
 
-good-rest : (front back : List Fields) → AreGood (front ++ back) → AreGood back
+pub good-rest : (front back : List Fields) → AreGood (front ++ back) → AreGood back
 good-rest [] back good = good
 good-rest (m ∷ front) back good = good-rest front back (λ i n at. good (suc i) n at)
 

@@ -32,3 +32,4 @@ pub mod Ticks
 pub mod Silencing
 pub mod Ticks
 pub mod Sends
+pub mod Replies

@@ -70,14 +70,7 @@ pub fn report_ends(
         (map joined_of circuits.new.items)
         (entries_in logs.new.items) }
 {
-    tell_gone(
-        server,
-        &side.core,
-        circuits,
-        &side.records,
-        logs,
-        side.life,
-    );
+    tell_gone(server, &side.core, circuits, &side.records, logs, side.life);
     withdraw_gone(server, &side.core, circuits, &mut side.records);
     close_gone(alloc, server, &mut side.core, &side.circuits, circuits);
 }
@@ -161,12 +154,7 @@ fn tell_of(
 }
 
 // Withdraws the puts that wait on circuits that ended.
-fn withdraw_gone(
-    server: usize,
-    core: &ServerCore,
-    circuits: &[Joined],
-    records: &mut [RecordSide],
-)
+fn withdraw_gone(server: usize, core: &ServerCore, circuits: &[Joined], records: &mut [RecordSide])
     ensures { map record_of records.new
         ≡ map
         (world.without_puts (gone_at server core.now (map joined_of circuits.now)))
@@ -178,12 +166,7 @@ fn withdraw_gone(
 }
 
 // Takes the puts on circuits that ended out.
-fn withdraw_from(
-    server: usize,
-    core: &ServerCore,
-    circuits: &[Joined],
-    waiting: &mut Vec<PutPlace>,
-)
+fn withdraw_from(server: usize, core: &ServerCore, circuits: &[Joined], waiting: &mut Vec<PutPlace>)
     ensures { waiting.new.items
         ≡ filter
         (λ p. not (gone_at server core.now (map joined_of circuits.now) p.circuit))
