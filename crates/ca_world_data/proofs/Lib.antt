@@ -15,3 +15,5 @@ pub mod Withdrawals
 pub mod Entering
 pub mod Handed
 pub mod Going
+pub mod Steppings
+pub mod Tellings

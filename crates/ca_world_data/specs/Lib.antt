@@ -24,3 +24,4 @@ pub mod Handing
 pub mod Clears
 pub mod ClientCuts
 pub mod Sends
+pub mod ClientSteps

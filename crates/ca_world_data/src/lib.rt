@@ -20,6 +20,7 @@ pub mod payloads;
 pub mod sending;
 pub mod server;
 pub mod settings;
+pub mod stepping;
 pub mod telling;
 pub mod way;
 pub mod withdrawing;
