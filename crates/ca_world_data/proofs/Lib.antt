@@ -21,7 +21,7 @@ pub mod Accepted
 pub mod Going
 pub mod Readings
 pub mod UpdatesTold
-pub mod Tellings
+pub mod UpdateTellings
 pub mod Silences
 pub mod Momentary
 pub mod Acceptances
@@ -29,3 +29,5 @@ pub mod Silences
 pub mod Momentary
 pub mod Going
 pub mod RepliesRead
+pub mod Steppings
+pub mod Tellings

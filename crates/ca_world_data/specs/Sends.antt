@@ -1,5 +1,5 @@
 -- Working: what a client sends without being called for it, and room for that on its circuits.
-use Rattle.std.specs.Prelude.{ℕ, ◌≡◌, ◌<◌, ◌+◌, Bool, true, false, List, Option, Some, None, filter, length}
+use Rattle.std.specs.Prelude.{ℕ, ◌≡◌, ◌<◌, ◌+◌, Bool, true, false, List, Option, Some, filter, length}
 use Rattle.ca_arena.specs.declared.handle.Handle.{Handle}
 use Rattle.ca_ids.specs.Table.{same_handle}
 use Rattle.ca_text.specs.Place.{At}

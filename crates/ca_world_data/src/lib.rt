@@ -24,6 +24,7 @@ pub mod sending;
 pub mod server;
 pub mod settings;
 pub mod silencing;
+pub mod stepping;
 pub mod telling;
 pub mod ticking;
 pub mod updates;

@@ -2,7 +2,7 @@ use Rattle.std.proofs.Common.{◌≡◌, ◌++◌, [], ◌∷◌, ap, sym, ◌�
 use Rattle.ca_wire.specs.Message.{spelling}
 use Rattle.ca_wire.specs.Fields.{Fields}
 use Rattle.std.proofs.Common.{length}
-use Rattle.ca_world_data.proofs.Tellings.{same-joined, tells-one}
+use Rattle.ca_world_data.proofs.UpdateTellings.{same-joined, tells-one}
 use Rattle.ca_world_data.proofs.updates.tell_update.Goals as goal
 
 pub returns-in_default : goal.returns-in_default
