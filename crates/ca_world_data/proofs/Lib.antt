@@ -25,9 +25,6 @@ pub mod UpdateTellings
 pub mod Silences
 pub mod Momentary
 pub mod Acceptances
-pub mod Silences
-pub mod Momentary
-pub mod Going
 pub mod RepliesRead
 pub mod Steppings
 pub mod Tellings

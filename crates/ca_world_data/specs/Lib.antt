@@ -29,8 +29,5 @@ pub mod Sends
 pub mod Updates
 pub mod Silencing
 pub mod Ticks
-pub mod Silencing
-pub mod Ticks
-pub mod Sends
 pub mod Replies
 pub mod ClientSteps
