@@ -67,7 +67,7 @@ on-it n x new c k sent connects = go k (unconnected x c) connects
     go : (k : Option Closing) (o : Option ClientCircuit) → ConnectsOn x c o k sent new → AllOn c sent
     go None None does = absurd does
     go (Some k) None does = none sent does.1.0
-    go None (Some d) does i s at = sent-here c n x d i s (subst (λ (l : List Sending). At l i s) does.0 at)
+    go None (Some d) does = λ i s at. sent-here c n x d i s (subst (λ (l : List Sending). At l i s) does.0 at)
     go (Some k) (Some d) does = none sent does.1
 
 -- another circuit is as it was
