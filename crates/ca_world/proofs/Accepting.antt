@@ -1,24 +1,24 @@
 -- A circuit is accepted, from what its parts became.
-use Rattle.std.proofs.Common.{◌≡◌, ℕ, zero, suc, ◌+◌, ◌<◌, ◌≤◌, ◌==◌, ◌&&◌, inl, inr, Bool, true, false, eqb, List, [], ◌∷◌, ◌++◌, Option, Some, None, Result, Ok, Err, filter, length, nat_lt, refl, sym, ap, subst, ◌∙◌, arith}
-use Rattle.std.specs.Prelude.{if◌then◌else◌, is_none, map, option_and_then, option_map, slice_set, Vec}
+use Rattle.std.proofs.Common.{◌≡◌, ℕ, zero, suc, ◌+◌, ◌<◌, ◌≤◌, ◌&&◌, inl, inr, Bool, true, false, eqb, List, [], ◌∷◌, ◌++◌, Option, Some, None, Result, Ok, Err, filter, length, refl, sym, ap, subst, ◌∙◌, arith}
+use Rattle.std.specs.Prelude.{if◌then◌else◌, is_none, map, option_and_then, slice_set, Vec}
 use Rattle.std.specs.declared.alloc.Global.{Global}
 use Rattle.std.proofs.lemmas.Bool.{and_from, eq-eqb, eqb-true}
 use Rattle.std.proofs.lemmas.List.{append-nil, length-map, map-append}
 use Rattle.ca_arena.specs.declared.handle.Handle.{Handle}
 use Rattle.ca_ids.specs.Table.{MayGive, same_handle, under}
 use Rattle.ca_text.specs.declared.refusal.Refusal.{Refusal}
-use Rattle.ca_text.specs.declared.refusal.Refusal.TheVariants.{ArenaFull, BadEvent, OutOfMemory}
+use Rattle.ca_text.specs.declared.refusal.Refusal.TheVariants.{ArenaFull, OutOfMemory}
 use Rattle.ca_text.specs.Place.{At}
-use Rattle.ca_text.proofs.Places.{At-map, At-mapped, At-one, At-set, At-set-other, At-snoc, At-within, some_is}
+use Rattle.ca_text.proofs.Places.{At-map, At-mapped, At-one, At-set-other, At-snoc, some_is}
 use Rattle.ca_model.specs.Answers.{Closing, Sending}
-use Rattle.ca_model.specs.Client.{Client, ClientCircuit, Connection, connection_at, farewell}
+use Rattle.ca_model.specs.Client.{Client, ClientCircuit, connection_at, farewell}
 use Rattle.ca_model.specs.ClientCalls.{WantedCircuit, wanted}
-use Rattle.ca_model.specs.ClientEnds.{ClientConnects, ConnectsOn, creations, set_up, unconnected}
+use Rattle.ca_model.specs.ClientEnds.{ClientConnects, ConnectsOn, unconnected}
 use Rattle.ca_model.specs.History.{Entry, Line, OfCircuit, Sent}
-use Rattle.ca_model.specs.Server.{Open, Server, ServerCircuit, ServerEnd}
-use Rattle.ca_model.specs.ServerSteps.{Accepts, HasEnd}
+use Rattle.ca_model.specs.Server.{Open}
+use Rattle.ca_model.specs.ServerSteps.{HasEnd}
 use Rattle.ca_model_client.proofs.Tables.{given-none, one-at-index}
-use Rattle.ca_model_world.specs.ClientEvents.{HappensAccept, Outcomes, WantsFirst, client_after, client_closed, connected_as, lines_of, new_circuit, sent_on, told_by}
+use Rattle.ca_model_world.specs.ClientEvents.{HappensAccept, WantsFirst, client_closed, connected_as, lines_of, new_circuit, sent_on, told_by}
 use Rattle.ca_model_world.specs.Events.{Accept}
 use Rattle.ca_model_world.specs.Runs.{CanAccept, CanBe}
 use Rattle.ca_model_world.specs.World.{Names, grown, with_server}
@@ -26,21 +26,21 @@ use Rattle.ca_model_world.specs.World as model
 use Rattle.ca_laws_held.specs.Quiet.{ClientsQuiet}
 use Rattle.ca_laws_runs.specs.Clients.{ClientsStand}
 use Rattle.ca_laws_runs.proofs.Accepts.{sent-here}
-use Rattle.ca_laws_runs.proofs.ClientsMore.{unconnected-is, wanted-there}
+use Rattle.ca_laws_runs.proofs.ClientsMore.{wanted-there}
 use Rattle.ca_laws_runs.proofs.Steps.{all-here, none-here}
 use Rattle.ca_laws_writes.specs.Seats.{HasSeat}
 use Rattle.ca_world_data.specs.declared.client.ClientSide.{ClientSide}
 use Rattle.ca_world_data.specs.declared.history.Line as real
 use Rattle.ca_world_data.specs.declared.joined.Joined.{Joined}
 use Rattle.ca_world_data.specs.declared.server.ServerSide.{ServerSide}
-use Rattle.ca_world_data.specs.Accepting.{AcceptsDone, AcceptsOn, ConnectsSide, Extends, GainsNumber, StaysAs, first_served}
+use Rattle.ca_world_data.specs.Accepting.{AcceptsDone, AcceptsOn, Extends, GainsNumber, StaysAs, first_served}
 use Rattle.ca_world_data.specs.Does.{Does}
 use Rattle.ca_world_data.specs.Downs.{with_said}
 use Rattle.ca_world_data.specs.Indexed.{AreIndexed, HasNumber, client_numbers, server_numbers}
 use Rattle.ca_world_data.specs.Logs.{lines_in}
 use Rattle.ca_world_data.specs.Seen.{client_of, joined_of, named_of, server_of}
 use Rattle.ca_world_data.specs.Speaking.{sent_up, stamped}
-use Rattle.ca_world_data.proofs.Accepted.{IsFirstServed, served-first, served-none}
+use Rattle.ca_world_data.proofs.Accepted.{IsFirstServed, served-none}
 use Rattle.ca_world_data.proofs.Sendings.{same-is, same-itself}
 use Rattle.ca_world_data.proofs.Worlds.{both-ways, set-map, set-same, world_of}
 use Rattle.ca_world.specs.Whole.{IsReached}
@@ -67,7 +67,7 @@ on-it n x new c k sent connects = go k (unconnected x c) connects
     go : (k : Option Closing) (o : Option ClientCircuit) → ConnectsOn x c o k sent new → AllOn c sent
     go None None does = absurd does
     go (Some k) None does = none sent does.1.0
-    go None (Some d) does i s at = sent-here c n x d i s (subst (λ (l : List Sending). At l i s) does.0 at)
+    go None (Some d) does = λ i s at. sent-here c n x d i s (subst (λ (l : List Sending). At l i s) does.0 at)
     go (Some k) (Some d) does = none sent does.1
 
 -- another circuit is as it was

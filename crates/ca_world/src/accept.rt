@@ -14,19 +14,20 @@ impl World {
         if client >= self.clients.len() {
             return Err(Refusal::BadEvent);
         }
-        let side = &mut self.clients[client];
-        let Some((wanted, server)) = first_served(&side.core, &self.servers) else {
+        let first = first_served(&self.clients[client].core, &self.servers);
+        let Some(found) = first else {
             return Err(Refusal::BadEvent);
         };
+        let server = found.1;
         accept_on(
             self.alloc,
             client,
-            side,
+            &mut self.clients[client],
             server,
             &mut self.servers[server],
             &mut self.circuits,
             &mut self.client_logs,
-            wanted.circuit,
+            found.0.circuit,
         )
     }
 }
