@@ -22,4 +22,4 @@ returns c =
     subst
     (λ (z : Closing). (d : model.Joined) → At (map joined_of ks) k d → (lines_in c.tell_all.new.logs.items ≡ grown c.args.side.now.life (lines_of OfCircuit (names_of c.args.side.now.names) z.notices) (lines_in c.args.logs.now.items)) × (map joined_of (slice_set ks k c.close_client.new.joined) ≡ slice_set (map joined_of ks) k (client_closed z.left d)))
     c.closing.view_is
-    (λ d there. (c.tell_all.ensures, closed-one ks k j c.close_client.new.joined c.closing.inside.left at c.close_client.ensures d there))
+    (λ d there. (c.tell_all.ensures.told, closed-one ks k j c.close_client.new.joined c.closing.inside.left at c.close_client.ensures d there))
