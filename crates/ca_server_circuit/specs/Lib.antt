@@ -17,3 +17,4 @@ pub mod Pumping
 pub mod Removing
 pub mod NextPut
 pub mod Imaging
+pub mod Concerned

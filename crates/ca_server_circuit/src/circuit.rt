@@ -5,6 +5,7 @@ ghost use Rattle.ca_model.specs.ServerSteps.{output_of};
 ghost use Rattle.ca_records.specs.Store.{IsThere, records_of};
 ghost use Rattle.ca_server_circuit.specs.Circuits.{CircuitIsSound, GivesAt, IsLive, SendsAt, circuit_of, is_open, watches};
 ghost use Rattle.ca_server_circuit.specs.Clearing.{ArePuts};
+ghost use Rattle.ca_server_circuit.specs.Concerned.{ConcernsOn, bytes_on};
 ghost use Rattle.ca_server_circuit.specs.Ending.{ArePutsAt, EndsAt, IsLeft, WithdrawsAll};
 ghost use Rattle.ca_server_circuit.specs.Finishing.{RepliesAt};
 ghost use Rattle.ca_server_circuit.specs.NextPut.{IsPutAt};
@@ -210,6 +211,27 @@ impl Circuit {
         match &mut self.state {
             State::Open(end) => end.link.sent(n),
             State::Ended(_, _) => {}
+        }
+    }
+
+    /// The place of the queue that has the subscription at this place of its end, if a post to the record of this name, with this mask,
+    /// concerns it. Only whoever records histories needs it.
+    pub fn concerned_at(&self, place: usize, name: &[u8], mask: u16) -> Option<usize>
+        ensures { ConcernsOn name.now mask place self.now result }
+    {
+        match &self.state {
+            State::Open(end) => end.subscriptions.concerned_at(place, name, mask),
+            State::Ended(_, _) => None,
+        }
+    }
+
+    /// The bytes that wait to be sent, or that its end left which has ended. Only whoever records histories needs it.
+    pub fn bytes(&self) -> &[u8]
+        ensures { result.now ≡ bytes_on self.now }
+    {
+        match &self.state {
+            State::Open(_) => self.out_bytes(),
+            State::Ended(_, left) => left.bytes(),
         }
     }
 

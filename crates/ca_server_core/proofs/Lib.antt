@@ -16,3 +16,4 @@ pub mod Pumped
 pub mod Added
 pub mod Removed
 pub mod Peeked
+pub mod Histories

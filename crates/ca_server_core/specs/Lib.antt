@@ -11,3 +11,4 @@ pub mod Following
 pub mod Pumping
 pub mod Removing
 pub mod NextPut
+pub mod ForHistories

@@ -12,6 +12,7 @@ mod datagrams;
 mod finishing;
 mod first_waiting;
 mod following;
+pub mod for_histories;
 mod next_put;
 mod posting;
 mod pumping;

@@ -15,9 +15,10 @@ use Rattle.ca_queue.specs.Sound.{IsSound}
 use Rattle.ca_queue.proofs.Circuits.{length-set, one-set, set-here}
 use Rattle.ca_queue.proofs.Keys.{among_push, among_without, apart_push, apart_without, none_left, same_is, same_itself}
 use Rattle.ca_queue.proofs.Soundness.{sound_added, sound_cancelled, sound_posted, sound_switched, sound_taken}
-use Rattle.ca_model.specs.Server.{Subscription, key_of}
+use Rattle.ca_model.specs.Server.{Subscription, concerns, key_of}
 use Rattle.ca_model.specs.Speech.{Stored}
 use Rattle.ca_server_subscriptions.proofs.Sieves.{each-none, without-none, without-one}
+use Rattle.ca_server_subscriptions.specs.Concerned.{ConcernsAt}
 use Rattle.ca_server_subscriptions.specs.Subscribed.{ArePlaced, AtPlace, HasRoom, Joins, PassesAt, Standings, Subscribed, has_key, keys_in, subscriptions_in, total, with_update, without_one, without_those}
 
 -- what holds anyway holds if the call was refused
@@ -563,6 +564,12 @@ module _ (es : Standings) (qs : List Q) (p : ArePlaced es qs) where
   pub passes-at : (test : Subscription → Bool) (old : Subscribed) (place : ℕ) (e : Entry) → whole ≡ old → At es place e → test e.1.0 ≡ true → PassesAt test place old
   passes-at test old place e is at hit =
       (e.1.0, subst (λ (s : Subscribed). At s.subscriptions place e.1.0) is (At-map (λ (x : Entry). x.1.0) es place e at), hit)
+
+  -- the one at a place, which a post concerns, and its queue
+  pub concerned-at : (name : List ℕ) (mask : ℕ) (old : Subscribed) (place : ℕ) (e : Entry) → whole ≡ old → At es place e → concerns name mask e.1.0 ≡ true → ConcernsAt name mask place old.subscriptions old.queues (Some e.1.1)
+  concerned-at name mask old place e is at hit =
+      subst (λ (s : Subscribed). ConcernsAt name mask place s.subscriptions s.queues (Some e.1.1)) is
+      (e.1.0, At-map (λ (x : Entry). x.1.0) es place e at, hit, subst (λ (k : SubKey). HasAt qs e.1.1 k) (p.keyed place e at) (p.placed place e at), p.one)
 
   -- the SID of the one at a place, by its key
   pub sid-at : (place : ℕ) (e : Entry) → At es place e → e.0.sid ≡ e.1.0.wanted.sid

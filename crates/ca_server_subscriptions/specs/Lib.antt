@@ -1,2 +1,3 @@
 pub mod Subscribed
 pub mod Pumping
+pub mod Concerned

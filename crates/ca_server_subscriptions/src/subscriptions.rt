@@ -5,6 +5,7 @@ ghost use Rattle.ca_dbr.specs.Elements.{count_of, elements};
 ghost use Rattle.ca_queue.specs.Keys.{same};
 ghost use Rattle.ca_queue.specs.Queue.{switched};
 ghost use Rattle.ca_model.specs.Server.{concerns};
+ghost use Rattle.ca_server_subscriptions.specs.Concerned.{ConcernsAt};
 ghost use Rattle.ca_server_subscriptions.specs.Pumping.{GivesUpdate};
 ghost use Rattle.ca_server_subscriptions.specs.Subscribed.{AreKnown, AtPlace, HasRoom, IsAskable, Joins, PassesAt, after_post, has_key, is_of_sid, is_on, none_yet, with_update, without_one, without_those};
 
@@ -199,6 +200,20 @@ impl Subscriptions {
         let update = Update::of(alloc, value, *meta)?;
         self.queues.post(queue, key, update);
         Ok(())
+    }
+
+    /// The place of the queue that has the one at this place, if a post to the record of this name, with this mask, concerns it. Only
+    /// whoever records histories needs it.
+    pub fn concerned_at(&self, place: usize, name: &[u8], mask: u16) -> Option<usize>
+        ensures { ConcernsAt name.now mask place self.now.subscriptions self.now.queues result }
+    {
+        let Some((_, standing)) = self.standing.get_index(place) else {
+            return None;
+        };
+        if !standing.is_concerned(name, mask) {
+            return None;
+        }
+        Some(standing.queue())
     }
 
     /// Whether one of them is on the record of this name.

@@ -13,4 +13,9 @@ pub mod Closings
 pub mod Restarting
 pub mod Withdrawals
 pub mod Entering
+pub mod Gone
+pub mod Serving
+pub mod Reported
+pub mod Numbers
+pub mod Counting
 pub mod Handed

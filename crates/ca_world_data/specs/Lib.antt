@@ -19,6 +19,9 @@ pub mod Closing
 pub mod Restarts
 pub mod Withdrawing
 pub mod ServerCuts
+pub mod Reporting
+pub mod Numbering
+pub mod Posting
 pub mod Telling
 pub mod Handing
 pub mod Clears

@@ -1,0 +1,39 @@
+-- Vocabulary: what whoever records histories asks of a server.
+use Rattle.std.specs.Prelude.{ℕ, ◌≡◌, Bool, true, false, List, [], Option, Some, None}
+use Rattle.ca_arena.specs.declared.handle.Handle.{Handle}
+use Rattle.ca_ids.specs.Table.{Table, under}
+use Rattle.ca_queue.specs.Circuit.{AreInOne, HasAt}
+use Rattle.ca_text.specs.Place.{At}
+use Rattle.ca_model.specs.Server.{Ended, Open, Server, ServerCircuit, Subscription, concerns, key_of}
+use Rattle.ca_model.specs.ServerSteps.{without_puts_of}
+
+-- the end of a circuit has ended in a call that did not report it
+abbrev pub is_over : Option ServerCircuit → Bool
+is_over (Some (Open e)) = false
+is_over (Some (Ended w left)) = true
+is_over None = false
+
+-- the circuit of this index whose end is over, or none
+abbrev pub IsOverAt : Table ServerCircuit → (index : ℕ) → Option Handle → Type 0
+IsOverAt t n (Some h) = (h.index ≡ n) × (is_over (under t h) ≡ true)
+IsOverAt t n None = (h : Handle) → h.index ≡ n → is_over (under t h) ≡ false
+
+-- the same of a server, for which no put of that circuit waits
+abbrev pub EndsAt : Server → (index : ℕ) → Option Handle → Type 0
+EndsAt y n (Some h) = IsOverAt y.circuits n (Some h) × (without_puts_of h y ≡ y)
+EndsAt y n None = IsOverAt y.circuits n None
+
+-- A post to the record of this name, with this mask, concerns the subscription at this place of an open end, which the queue at that place
+-- has and no other; or it concerns none there.
+abbrev pub ConcernsUnder : (name : List ℕ) → (mask : ℕ) → (place : ℕ) → Option ServerCircuit → Option ℕ → Type 0
+ConcernsUnder name mask place (Some (Open e)) (Some queue) =
+    (s : Subscription) × At e.subscriptions place s × (concerns name mask s ≡ true) × HasAt e.queues queue (key_of s) × AreInOne e.queues
+ConcernsUnder name mask place (Some (Open e)) None = (s : Subscription) → At e.subscriptions place s → concerns name mask s ≡ false
+ConcernsUnder name mask place (Some (Ended w left)) queue = queue ≡ None
+ConcernsUnder name mask place None queue = queue ≡ None
+
+-- the bytes that wait at the end under a handle, or that it left if it has ended
+abbrev pub bytes_under : Option ServerCircuit → List ℕ
+bytes_under (Some (Open e)) = e.link.output
+bytes_under (Some (Ended w left)) = left
+bytes_under None = []

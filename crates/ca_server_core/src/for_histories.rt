@@ -1,0 +1,95 @@
+//! What whoever records histories asks of a server. No server needs these calls.
+ghost use Rattle.std.specs.Prelude.{◌≡◌, ◌<◌, false, length};
+ghost use Rattle.ca_ids.specs.Table.{same_handle, under};
+ghost use Rattle.ca_records.specs.Puts.{withdrawn};
+ghost use Rattle.ca_records.specs.Store.{records_of};
+ghost use Rattle.ca_server_circuit.specs.Circuits.{is_open};
+ghost use Rattle.ca_server_core.specs.ForHistories.{ConcernsUnder, EndsAt, IsOverAt, bytes_under, is_over};
+ghost use Rattle.ca_server_core.specs.Sound.{IsSound};
+
+use crate::server::ServerCore;
+use ca_arena::Handle;
+use ca_ids::HeldTable;
+use ca_records::ServedRecords;
+use ca_server_circuit::Circuit;
+
+/// How many indices the handles of circuits had so far.
+pub fn places(core: &ServerCore) -> usize
+    ensures { result ≡ length core.now.circuits }
+{
+    core.circuits.places()
+}
+
+/// Whether the end of a circuit has ended in a call that did not report it.
+pub fn has_ended(core: &ServerCore, circuit: Handle) -> bool
+    ensures { result ≡ is_over (under core.now.circuits circuit) }
+{
+    match core.circuits.by_handle(circuit) {
+        Some(found) => !found.is_open(),
+        None => false,
+    }
+}
+
+/// The circuit of this index, if its end has ended in a call that did not report it. No put of it waits.
+pub fn ended_at(core: &ServerCore, index: usize) -> Option<Handle>
+    requires { index < length core.now.circuits }
+    ensures { EndsAt core.now index result }
+{
+    let Some(circuit) = over_at(&core.circuits, index) else {
+        return None;
+    };
+    know_withdrawn(&core.circuits, &core.records, circuit);
+    Some(circuit)
+}
+
+// The circuit of this index, if its end has ended.
+fn over_at(circuits: &HeldTable<Circuit>, index: usize) -> Option<Handle>
+    requires { index < length circuits.now }
+    ensures { IsOverAt circuits.now index result }
+{
+    let Some((circuit, found)) = circuits.at(index) else {
+        return None;
+    };
+    if found.is_open() {
+        return None;
+    }
+    Some(circuit)
+}
+
+// A law: no put waits of a circuit whose end is not open. It does nothing.
+fn know_withdrawn(circuits: &HeldTable<Circuit>, records: &ServedRecords, circuit: Handle)
+    requires { IsSound (records_of records.now) circuits.now }
+    ensures { is_open (under circuits.now circuit) ≡ false
+        → withdrawn (λ p. same_handle p.circuit circuit) (records_of records.now)
+        ≡ records_of records.now }
+{
+    let _ = circuits;
+    let _ = records;
+}
+
+/// The place of the queue that has the subscription at this place of a circuit, if a post to the record of this name, with this mask,
+/// concerns it. None if its end is not open.
+pub fn concerned_at(
+    core: &ServerCore,
+    circuit: Handle,
+    place: usize,
+    name: &[u8],
+    mask: u16,
+) -> Option<usize>
+    ensures { ConcernsUnder name.now mask place (under core.now.circuits circuit) result }
+{
+    match core.circuits.by_handle(circuit) {
+        Some(found) => found.concerned_at(place, name, mask),
+        None => None,
+    }
+}
+
+/// The bytes that wait on a circuit, or that its end left which has ended in a call that did not report it.
+pub fn bytes_of(core: &ServerCore, circuit: Handle) -> &[u8]
+    ensures { result.now ≡ bytes_under (under core.now.circuits circuit) }
+{
+    match core.circuits.by_handle(circuit) {
+        Some(found) => found.bytes(),
+        None => &[],
+    }
+}

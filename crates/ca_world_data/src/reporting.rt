@@ -1,0 +1,273 @@
+//! Ends of circuits at a server that ended in a call of its core, which did not report them: they are reported at once.
+ghost use Rattle.std.specs.Prelude.{◌≡◌, ◌++◌, ◌+◌, ◌<◌, ◌≤◌, IfOk, MatchOption, OnOk, Some, filter, is_some, length, map, not, vec_capacity, vec_len};
+ghost use Rattle.ca_ids.specs.Table.{under, with_freed};
+ghost use Rattle.ca_model_world.specs.ServerEvents as world;
+ghost use Rattle.ca_model_world.specs.World.{grown};
+ghost use Rattle.ca_world_data.specs.Opening.{entries_in};
+ghost use Rattle.ca_world_data.specs.Reporting.{AreServed, IsServed, IsUnserved, Quits, Reports, ReportsAt, all_gone, gone_at, gone_of, waits};
+ghost use Rattle.ca_world_data.specs.Seen.{entry_of, joined_of, record_of};
+ghost use Rattle.ca_world_data.specs.ServerCuts.{HasRoomFor};
+
+use crate::closing::close_server;
+use crate::entries::reserve_entries;
+use crate::history::Entry;
+use crate::joined::Joined;
+use crate::server::{PutPlace, RecordSide, ServerSide};
+use ca_arena::Handle;
+use ca_server_core::for_histories::{ended_at, has_ended, places};
+use ca_server_core::{ServerCore, Step};
+use ca_wire::Pipe;
+use std::alloc::{AllocError, Global};
+
+/// Makes room in the log of a life for the withdrawal of all puts that wait for these records, and for so many more entries.
+pub fn reserve_reports(
+    logs: &mut Vec<Vec<Entry>>,
+    life: usize,
+    records: &[RecordSide],
+    more: usize,
+) -> Result<(), AllocError>
+    ensures same { entries_in logs.new.items ≡ entries_in logs.old.items }
+    ensures room { OnOk result (HasRoomFor (waits records.now + more) life logs.new.items) }
+{
+    let puts = count_waits(records)?;
+    let Some(entries) = puts.checked_add(more) else {
+        return Err(AllocError);
+    };
+    reserve_entries(logs, life, entries)
+}
+
+// How many puts wait for these records.
+fn count_waits(records: &[RecordSide]) -> Result<usize, AllocError>
+    ensures { IfOk result (λ n. n ≡ waits records.now) }
+{
+    let mut puts: usize = 0;
+    for record in records {
+        let Some(more) = puts.checked_add(record.waiting.len()) else {
+            return Err(AllocError);
+        };
+        puts = more;
+    }
+    Ok(puts)
+}
+
+/// A call of this server's core is over. Each end of a circuit that ended in it, and was not reported, is reported: its circuit ends, with the
+/// bytes that it left, and its puts that wait are withdrawn. There is room in the log.
+pub fn report_ends(
+    alloc: Global,
+    server: usize,
+    side: &mut ServerSide,
+    circuits: &mut Vec<Joined>,
+    logs: &mut Vec<Vec<Entry>>,
+)
+    requires room { HasRoomFor (waits side.old.records.items) side.old.life logs.old.items }
+    requires served { AreServed side.old.circuits.items (map joined_of circuits.old.items) server }
+    ensures { Reports
+        server
+        side.old
+        (map joined_of circuits.old.items)
+        (entries_in logs.old.items)
+        side.new
+        (map joined_of circuits.new.items)
+        (entries_in logs.new.items) }
+{
+    tell_gone(server, &side.core, circuits, &side.records, logs, side.life);
+    withdraw_gone(server, &side.core, circuits, &mut side.records);
+    close_gone(alloc, server, &mut side.core, &side.circuits, circuits);
+}
+
+// Whether the end of this circuit at the server has ended.
+fn is_gone(server: usize, core: &ServerCore, circuits: &[Joined], circuit: usize) -> bool
+    ensures { result ≡ gone_at server core.now (map joined_of circuits.now) circuit }
+{
+    if circuit >= circuits.len() {
+        return false;
+    }
+    ends_now(server, core, &circuits[circuit])
+}
+
+// The same of a circuit itself.
+fn ends_now(server: usize, core: &ServerCore, joined: &Joined) -> bool
+    ensures { result ≡ is_some (world.ends_by server core.now (joined_of joined.now)) }
+{
+    joined.server == server && joined.lists.server_open && has_ended(core, joined.at_server)
+}
+
+// Tells the log of a life that the puts which wait on circuits that ended are withdrawn.
+fn tell_gone(
+    server: usize,
+    core: &ServerCore,
+    circuits: &[Joined],
+    records: &[RecordSide],
+    logs: &mut Vec<Vec<Entry>>,
+    life: usize,
+)
+    requires { HasRoomFor (waits records.now) life logs.old.items }
+    ensures { entries_in logs.new.items
+        ≡ grown
+        life
+        (world.withdrawals (gone_at server core.now (map joined_of circuits.now)) (map record_of records.now))
+        (entries_in logs.old.items) }
+{
+    if life < logs.len() {
+        tell_in(server, core, circuits, records, &mut logs[life]);
+    }
+}
+
+// Tells the same in the log itself.
+fn tell_in(
+    server: usize,
+    core: &ServerCore,
+    circuits: &[Joined],
+    records: &[RecordSide],
+    log: &mut Vec<Entry>,
+)
+    requires { vec_len log.old + waits records.now ≤ vec_capacity log.old }
+    ensures { map entry_of log.new.items
+        ≡ map entry_of log.old.items
+        ++ all_gone (gone_at server core.now (map joined_of circuits.now)) records.now }
+{
+    for record in records {
+        tell_of(server, core, circuits, &record.waiting, log);
+    }
+}
+
+// Tells the same of the puts of one record.
+fn tell_of(
+    server: usize,
+    core: &ServerCore,
+    circuits: &[Joined],
+    waiting: &[PutPlace],
+    log: &mut Vec<Entry>,
+)
+    requires { vec_len log.old + length waiting.now ≤ vec_capacity log.old }
+    ensures told { map entry_of log.new.items
+        ≡ map entry_of log.old.items
+        ++ gone_of (gone_at server core.now (map joined_of circuits.now)) waiting.now }
+    ensures len { vec_len log.new ≤ vec_len log.old + length waiting.now }
+    ensures capacity { vec_capacity log.new ≡ vec_capacity log.old }
+{
+    for put in waiting {
+        if is_gone(server, core, circuits, put.circuit) {
+            log.push_reserved(Entry::Withdrawn(put.circuit, put.place));
+        }
+    }
+}
+
+// Withdraws the puts that wait on circuits that ended.
+fn withdraw_gone(server: usize, core: &ServerCore, circuits: &[Joined], records: &mut [RecordSide])
+    ensures { map record_of records.new
+        ≡ map
+        (world.without_puts (gone_at server core.now (map joined_of circuits.now)))
+        (map record_of records.old) }
+{
+    for record in records.iter_mut() {
+        withdraw_from(server, core, circuits, &mut record.waiting);
+    }
+}
+
+// Takes the puts on circuits that ended out.
+fn withdraw_from(server: usize, core: &ServerCore, circuits: &[Joined], waiting: &mut Vec<PutPlace>)
+    ensures { waiting.new.items
+        ≡ filter
+        (λ p. not (gone_at server core.now (map joined_of circuits.now) p.circuit))
+        waiting.old.items }
+{
+    waiting.retain(|put| !is_gone(server, core, circuits, put.circuit));
+}
+
+// Reports all ends that ended, and ends their circuits.
+fn close_gone(
+    alloc: Global,
+    server: usize,
+    core: &mut ServerCore,
+    numbers: &[usize],
+    circuits: &mut Vec<Joined>,
+)
+    requires { AreServed numbers.now (map joined_of circuits.old.items) server }
+    ensures core { core.new ≡ world.reported core.old }
+    ensures circuits { map joined_of circuits.new.items
+        ≡ map (world.ending (world.ends_by server core.old)) (map joined_of circuits.old.items) }
+{
+    for index in 0..places(core) {
+        close_at(alloc, server, core, numbers, circuits, index);
+    }
+}
+
+// Reports the end of this index, if it ended, and ends its circuit.
+fn close_at(
+    alloc: Global,
+    server: usize,
+    core: &mut ServerCore,
+    numbers: &[usize],
+    circuits: &mut Vec<Joined>,
+    index: usize,
+)
+    requires within { index < length core.old.circuits }
+    requires served { AreServed numbers.now (map joined_of circuits.old.items) server }
+    ensures { ReportsAt
+        index
+        server
+        core.old
+        (map joined_of circuits.old.items)
+        core.new
+        (map joined_of circuits.new.items) }
+{
+    let Some(circuit) = ended_at(core, index) else {
+        return;
+    };
+    let left = left_of(alloc, core, circuit);
+    let Some(number) = served_on(numbers, circuits, server, circuit) else {
+        return;
+    };
+    close_server(alloc, &mut circuits[number], left);
+}
+
+// Reports the end of this circuit, which has ended, and of which no put waits: what it left.
+fn left_of(alloc: Global, core: &mut ServerCore, circuit: Handle) -> Pipe
+    requires { Quits core.old circuit }
+    ensures left { world.left_by (under core.old.circuits circuit) ≡ Some result }
+    ensures core { core.new
+        ≡ record core.old { circuits = with_freed circuit core.old.circuits } }
+{
+    match core.step(circuit) {
+        Step::Closed(_, left) => left,
+        Step::Handled => Pipe::new(alloc),
+        Step::NeedBytes => Pipe::new(alloc),
+        Step::OutputFull => Pipe::new(alloc),
+    }
+}
+
+/// The number of the circuit that is open at this server under this handle, by the server's numbers.
+pub fn served_on(
+    numbers: &[usize],
+    circuits: &[Joined],
+    server: usize,
+    handle: Handle,
+) -> Option<usize>
+    requires { AreServed numbers.now (map joined_of circuits.now) server }
+    ensures { MatchOption result (IsUnserved (map joined_of circuits.now) server handle)
+        (IsServed (map joined_of circuits.now) server handle) }
+{
+    let place = handle.index as usize;
+    if place >= numbers.len() {
+        return None;
+    }
+    let number = numbers[place];
+    if number >= circuits.len() {
+        return None;
+    }
+    let joined = &circuits[number];
+    if joined.server != server {
+        return None;
+    }
+    if !joined.lists.server_open {
+        return None;
+    }
+    if joined.at_server.index != handle.index {
+        return None;
+    }
+    if joined.at_server.generation != handle.generation {
+        return None;
+    }
+    Some(number)
+}
