@@ -16,6 +16,8 @@ pub mod Entering
 pub mod Gone
 pub mod Serving
 pub mod Reported
+pub mod Numbers
+pub mod Counting
 pub mod Handed
 pub mod Accepted
 pub mod Going

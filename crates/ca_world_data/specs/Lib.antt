@@ -20,6 +20,8 @@ pub mod Restarts
 pub mod Withdrawing
 pub mod ServerCuts
 pub mod Reporting
+pub mod Numbering
+pub mod Posting
 pub mod Telling
 pub mod Handing
 pub mod Clears

@@ -1,5 +1,5 @@
 //! The logs of all lives of servers, by life. A life without a log has none that grows.
-ghost use Rattle.std.specs.Prelude.{◌≡◌, ◌++◌, ◌+◌, ◌≤◌, OnOk, length, map, vec_capacity, vec_len};
+ghost use Rattle.std.specs.Prelude.{ℕ, ◌≡◌, ◌++◌, ◌+◌, ◌≤◌, [], ◌∷◌, OnOk, length, map, vec_capacity, vec_len};
 ghost use Rattle.ca_model_world.specs.World.{grown};
 ghost use Rattle.ca_world_data.specs.Opening.{entries_in};
 ghost use Rattle.ca_world_data.specs.Seen.{entry_of};
@@ -41,5 +41,18 @@ fn push_all(log: &mut Vec<Entry>, entries: Vec<Entry>)
 {
     for entry in entries {
         log.push_reserved(entry);
+    }
+}
+
+/// Puts an entry behind those of a life's log, in which there is room.
+pub fn push_entry(logs: &mut Vec<Vec<Entry>>, life: usize, entry: Entry)
+    requires { HasRoomFor 1 life logs.old.items }
+    ensures logged { entries_in logs.new.items
+        ≡ grown life (entry_of entry ∷ []) (entries_in logs.old.items) }
+    ensures room { (n : ℕ)
+        → HasRoomFor (n + 1) life logs.old.items → HasRoomFor n life logs.new.items }
+{
+    if life < logs.len() {
+        logs[life].push_reserved(entry);
     }
 }

@@ -163,4 +163,4 @@ invariant_of-self c =
     let indexed : AreIndexed (client_numbers (slice_set cs i x')) (server_numbers (slice_set ss n y')) (map joined_of ks') =
     subst (λ (k : ℕ). AreIndexed (client_numbers (slice_set cs i x')) (server_numbers (slice_set ss k y')) (map joined_of ks')) (sym number)
     (accepts-indexed cs ss ks cl sl w.moment i x v s at f x' y' ks' cl' c.accept_on.result c.self.invariant.clients c.self.invariant.reached on c.self.invariant.indexed) in
-    all-stand w _ (Accept i) c.accept_on.result d c.self.invariant indexed
+    all-stand w _ (Accept i) tt c.accept_on.result d c.self.invariant indexed

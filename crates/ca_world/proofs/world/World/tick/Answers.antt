@@ -57,7 +57,7 @@ invariant_of-result c =
     let ss : List ServerSide = w.servers.items in
     let ks : List Joined = map joined_of c.tick_all.new.circuits.items in
     let cl : List (List Line) = lines_in c.tick_all.new.logs.items in
-    all-stand w _ (Tick c.args.moment) (Ok tt) (ticks-whole c.args.moment (seen w) (map client_of cs) cl ks tt le c.in-Ok.ensures.ticks) c.self.invariant
+    all-stand w _ (Tick c.args.moment) tt (Ok tt) (ticks-whole c.args.moment (seen w) (map client_of cs) cl ks tt le c.in-Ok.ensures.ticks) c.self.invariant
     (indexed-same (client_numbers w.clients.items) (client_numbers cs) (server_numbers ss) (server_numbers ss) ks ks c.tick_all.ensures.numbers refl refl
     (c.tick_all.ensures.indexed (client_numbers w.clients.items) (server_numbers ss) c.self.invariant.indexed))
 
