@@ -1,18 +1,9 @@
 -- Ends at a server that ended are reported one by one, by index: the core and the circuits in between.
-<<<<<<< HEAD
-use Rattle.std.proofs.Common.{◌≡◌, ℕ, zero, suc, ◌+◌, ◌<◌, ◌≤◌, ◌==◌, ◌&&◌, inl, inr, Bool, true, false, cond, List, [], ◌∷◌, length, nat_lt, Option, Some, None, refl, sym, ap, subst, ◌∙◌, arith}
-use Rattle.std.specs.Prelude.{if◌then◌else◌, is_some, map, option_map, slice_set, unwrap_or}
-use Rattle.std.proofs.lemmas.Bool.{and_parts, eq-eqb, eqb-true, lt-ltb, ltb-true}
-use Rattle.ca_arena.specs.declared.handle.Handle.{Handle}
-use Rattle.ca_arena.specs.Arena.{Place, blank, place_at, value_for}
-use Rattle.ca_arena.proofs.Places.{value_for-some}
-=======
 use Rattle.std.proofs.Common.{◌≡◌, ℕ, zero, suc, ◌+◌, ◌<◌, ◌≤◌, ◌==◌, ◌&&◌, inl, inr, Bool, true, false, List, [], ◌∷◌, length, nat_lt, Option, Some, None, refl, sym, ap, subst, ◌∙◌, arith}
 use Rattle.std.specs.Prelude.{if◌then◌else◌, is_some, map, option_map, slice_set, unwrap_or}
 use Rattle.std.proofs.lemmas.Bool.{and_parts, eq-eqb, eqb-true, lt-ltb, ltb-true}
 use Rattle.ca_arena.specs.declared.handle.Handle.{Handle}
 use Rattle.ca_arena.specs.Arena.{Place, place_at, value_for}
->>>>>>> fa300a7531a8ec81d1f3533d9850e006ea2236bd
 use Rattle.ca_ids.specs.Table.{Table, kept_of, under, with_all_freed, with_freed}
 use Rattle.ca_model_client.proofs.Tables.{one-at-index, under-at}
 use Rattle.ca_text.specs.Place.{At}
@@ -20,11 +11,7 @@ use Rattle.ca_text.proofs.Places.{At-map, At-mapped, At-within, some_is}
 use Rattle.ca_model.specs.Server.{Ended, Open, Server, ServerCircuit}
 use Rattle.ca_model_world.specs.ServerEvents.{ending, ends_by, left_by, reported, server_closed}
 use Rattle.ca_model_world.specs.World.{Joined}
-<<<<<<< HEAD
-use Rattle.ca_world_data.specs.Reporting.{AreServed, ClosesAt, IsEnded, IsServed, IsUnserved, ReportsAt}
-=======
 use Rattle.ca_world_data.specs.Reporting.{AreServed, ClosesAt, ReportsAt}
->>>>>>> fa300a7531a8ec81d1f3533d9850e006ea2236bd
 use Rattle.ca_world_data.proofs.Serving.{one-at-server}
 
 -- ---- the table

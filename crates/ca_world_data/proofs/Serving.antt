@@ -4,10 +4,7 @@ use Rattle.ca_arena.specs.declared.handle.Handle.{Handle}
 use Rattle.ca_text.specs.Place.{At}
 use Rattle.ca_text.proofs.Places.{At-one, At-within}
 use Rattle.ca_model_world.specs.World.{Joined}
-<<<<<<< HEAD
-=======
 use Rattle.ca_world_data.specs.Indexed.{AreIndexed, HasNumber}
->>>>>>> fa300a7531a8ec81d1f3533d9850e006ea2236bd
 use Rattle.ca_world_data.specs.Reporting.{AreServed, IsUnserved}
 
 module _ (numbers : List ℕ) (ks : List Joined) (server : ℕ) (h : Handle) (known : AreServed numbers ks server) where
@@ -39,8 +36,6 @@ pub one-at-server : (numbers : List ℕ) (ks : List Joined) (i : ℕ) → AreSer
     → a.at_server ≡ b.at_server → k ≡ l
 one-at-server numbers ks i h k l a b here there mine yours on off same =
     At-one numbers b.at_server.index k l (subst (λ (z : Handle). At numbers z.index k) same (h k a here mine on)) (h l b there yours off)
-<<<<<<< HEAD
-=======
 
 -- what one server has
 pub served-of : (cs ss : List (List ℕ)) (ks : List Joined) → AreIndexed cs ss ks → (i : ℕ) (own : List ℕ) → At ss i own → AreServed own ks i
@@ -48,4 +43,3 @@ served-of cs ss ks h i own at k j there mine on =
     let n : HasNumber ss j.server j.at_server k = h.servers k j there on in
     let is : n.own ≡ own = At-one ss i n.own own (subst (λ (z : ℕ). At ss z n.own) mine n.side) at in
     subst (λ (z : List ℕ). At z j.at_server.index k) is n.number
->>>>>>> fa300a7531a8ec81d1f3533d9850e006ea2236bd

@@ -1,8 +1,4 @@
-<<<<<<< HEAD
-use Rattle.std.proofs.Common.{◌<◌, ◌≡◌, ◌++◌, length, List, map, arith, sym, ap, ◌∙◌, Vec, Global}
-=======
 use Rattle.std.proofs.Common.{◌<◌, ◌++◌, length, List, map, arith, sym, ap, ◌∙◌, Vec, Global}
->>>>>>> fa300a7531a8ec81d1f3533d9850e006ea2236bd
 use Rattle.ca_text.specs.Place.{At}
 use Rattle.ca_model_world.specs.ServerEvents.{withdrawals}
 use Rattle.ca_world_data.specs.declared.history.Entry.{Entry}
