@@ -21,7 +21,6 @@ pub mod opening;
 pub mod payloads;
 pub mod replies;
 pub mod reporting;
-pub mod reporting;
 pub mod sending;
 pub mod server;
 pub mod settings;
