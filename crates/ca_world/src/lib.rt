@@ -6,6 +6,7 @@
 
 mod clear;
 mod client_restart;
+mod client_step;
 mod collect;
 mod config;
 mod cut_client;
