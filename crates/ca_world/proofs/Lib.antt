@@ -13,3 +13,4 @@ pub mod Collecting
 pub mod Farewells
 pub mod Clearings
 pub mod ClientCuttings
+pub mod Postings

@@ -13,6 +13,7 @@ mod cut_server;
 mod down;
 mod give_up;
 mod opens;
+mod post;
 mod read;
 mod server_datagram;
 mod server_restart;
