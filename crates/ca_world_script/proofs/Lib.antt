@@ -2,6 +2,6 @@ pub mod Index
 pub mod Same
 pub mod Lasts
 pub mod Heads
-pub mod Posts
-pub mod Kinds
-pub mod Clients
+pub mod ValueRefusals
+pub mod LineKinds
+pub mod ClientRefusals

@@ -2,7 +2,7 @@ use Rattle.ca_text.specs.declared.refusal.Refusal.{Refusal}
 use Rattle.ca_script.specs.Grammar.{Refuses}
 use Rattle.ca_script.proofs.Sayings.{handed-on}
 use Rattle.ca_world_script.specs.Lines.{SaysClient}
-use Rattle.ca_world_script.proofs.Clients.{client-unread}
+use Rattle.ca_world_script.proofs.ClientRefusals.{client-unread}
 use Rattle.ca_world_script.proofs.clients.read_client.Goals as goal
 
 pub returns-in_err-name_servers-clause-err : goal.returns-in_err-name_servers-clause-err

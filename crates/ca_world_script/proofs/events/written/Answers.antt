@@ -3,7 +3,7 @@ use Rattle.ca_script.specs.Grammar.{Refuses}
 use Rattle.ca_script.proofs.Refusals.{says-none}
 use Rattle.ca_script.proofs.Sayings.{handed-on}
 use Rattle.ca_world_script.specs.Written.{SaysWritten}
-use Rattle.ca_world_script.proofs.Posts.{written-unread, written-untyped}
+use Rattle.ca_world_script.proofs.ValueRefusals.{written-unread, written-untyped}
 use Rattle.ca_world_script.proofs.events.written.Goals as goal
 
 pub returns-in_err-base-clause-err : goal.returns-in_err-base-clause-err

@@ -3,7 +3,7 @@ use Rattle.ca_script.specs.Grammar.{Refuses}
 use Rattle.ca_script.proofs.Refusals.{says-none}
 use Rattle.ca_script.proofs.Sayings.{handed-on}
 use Rattle.ca_world_script.specs.Events.{SaysPost}
-use Rattle.ca_world_script.proofs.Posts.{post-masked, post-unread, post-untyped}
+use Rattle.ca_world_script.proofs.ValueRefusals.{post-masked, post-unread, post-untyped}
 use Rattle.ca_world_script.proofs.posts.read_post.Goals as goal
 
 pub returns-in_err-mask-2-clause-err : goal.returns-in_err-mask-2-clause-err

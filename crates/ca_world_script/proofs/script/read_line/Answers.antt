@@ -5,7 +5,7 @@ use Rattle.ca_script.specs.Grammar.{Refuses, parted}
 use Rattle.ca_script.proofs.Leading.{kind-refused}
 use Rattle.ca_script.proofs.Sayings.{handed-on}
 use Rattle.ca_world_script.specs.Scripts.{Adds, AddsAdd, AddsClient, AddsServer, reading}
-use Rattle.ca_world_script.proofs.Kinds.{event-refused, line-refused, of-add, of-client, of-server, one-verb, post-refused}
+use Rattle.ca_world_script.proofs.LineKinds.{event-refused, line-refused, of-add, of-client, of-server, one-verb, post-refused}
 use Rattle.ca_world_script.proofs.script.read_line.Goals as goal
 
 pub returns-in_err-first-clause-err : goal.returns-in_err-first-clause-err
