@@ -111,7 +111,12 @@ fn pump_end(alloc: Global, core: &mut ServerCore, joined: &mut Joined) -> Option
 fn tell_behind(alloc: Global, bytes: &[u8], waited: usize, joined: &mut Joined) -> usize
     requires within { waited ≤ length bytes.now }
     requires spelled { AreSpelled (drop waited bytes.now) }
-    ensures tells { TellsBehind waited bytes.now (joined_of joined.old) result (joined_of joined.new) }
+    ensures tells { TellsBehind
+        waited
+        bytes.now
+        (joined_of joined.old)
+        result
+        (joined_of joined.new) }
     ensures within { result ≤ length bytes.now }
 {
     waited + tell_updates(alloc, &bytes[waited..], joined)

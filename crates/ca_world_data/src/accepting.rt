@@ -1,13 +1,12 @@
 //! A circuit that a client wants is accepted by its server. All room is made first, since no core takes such a call back.
 ghost use Rattle.std.specs.Prelude.{◌≡◌, ◌<◌, ◌≤◌, ◌+◌, [], IfOk, OnOk, length, map, option_and_then, replicate, slice_set, vec_len};
 ghost use Rattle.ca_client_core.specs.ForAccepts.{connecting_sent, wanted_in_place};
-ghost use Rattle.ca_client_core.specs.ForHistories.{aim_of, sending_of};
+ghost use Rattle.ca_client_core.specs.ForHistories.{sending_of};
 ghost use Rattle.ca_queue.specs.Queue.{no_queue};
 ghost use Rattle.ca_text.specs.Limits.{circuit_queues};
 ghost use Rattle.ca_model.specs.Client.{farewell};
 ghost use Rattle.ca_model.specs.ClientCalls.{wanted};
 ghost use Rattle.ca_model.specs.Ends.{same_address};
-ghost use Rattle.ca_model_world.specs.ClientEvents as world;
 ghost use Rattle.ca_world_data.specs.Accepting.{
   AcceptsOn,
   ConnectsSide,
@@ -24,7 +23,6 @@ ghost use Rattle.ca_world_data.specs.Accepting.{
 ghost use Rattle.ca_world_data.specs.Logs.{HasRoom, lines_in};
 ghost use Rattle.ca_world_data.specs.Seen.{
   client_of,
-  intent_of,
   joined_of,
   names_of,
   queue_of,
@@ -35,15 +33,15 @@ ghost use Rattle.ca_world_data.specs.Speaking.{stamped};
 
 use crate::client::{ClientSide, Names};
 use crate::closing::close_client;
-use crate::history::{Ask, Cause, Intent, Line, Sent};
+use crate::history::{Cause, Intent, Line, Sent};
 use crate::joined::{Circuit, Joined};
 use crate::logs::reserve_lines;
-use crate::naming::{channel_number, meant_by};
+use crate::sending::intent_for;
 use crate::server::ServerSide;
 use crate::telling::tell_all;
 use ca_arena::Handle;
 use ca_client_core::for_accepts::{circuits_listed, sent_when_connected, wanted_at};
-use ca_client_core::for_histories::{Aim, Sending};
+use ca_client_core::for_histories::Sending;
 use ca_client_core::{Address, ClientCore, WantedCircuit};
 use ca_queue::{ListQueue, Queues};
 use ca_text::{ARENA_SLOTS, CIRCUIT_QUEUES, Refusal};
@@ -187,18 +185,6 @@ fn stamp(names: &Names, sending: Sending) -> Sent
     Sent {
         message: sending.message,
         intent: intent_for(names, sending.aim),
-    }
-}
-
-// What is meant by a message with this aim.
-fn intent_for(names: &Names, aim: Aim) -> Intent
-    ensures { intent_of result ≡ world.intent_of (names_of names.now) (aim_of aim) }
-{
-    match aim {
-        Aim::OfCircuit => Intent::OfCircuit,
-        Aim::Create(channel) => Intent::On(channel_number(names, channel), Ask::Create),
-        Aim::Clear(channel) => Intent::On(channel_number(names, channel), Ask::Clear),
-        Aim::Subscribe(_, subscription) => meant_by(&names.subscriptions, subscription),
     }
 }
 

@@ -16,7 +16,8 @@ pub fn client_lefts(
     core: &ClientCore,
     circuits: &[Joined],
 ) -> Result<Vec<Pipe>, AllocError>
-    ensures { IfOk result (λ all. all.items ≡ map (λ j. client_left client core.now (joined_of j)) circuits.now) }
+    ensures { IfOk result (λ all. all.items
+        ≡ map (λ j. client_left client core.now (joined_of j)) circuits.now) }
 {
     let mut all = Vec::new(alloc);
     for joined in circuits {
@@ -48,7 +49,8 @@ pub fn server_lefts(
     core: &ServerCore,
     circuits: &[Joined],
 ) -> Result<Vec<Pipe>, AllocError>
-    ensures { IfOk result (λ all. all.items ≡ map (λ j. server_left server core.now (joined_of j)) circuits.now) }
+    ensures { IfOk result (λ all. all.items
+        ≡ map (λ j. server_left server core.now (joined_of j)) circuits.now) }
 {
     let mut all = Vec::new(alloc);
     for joined in circuits {

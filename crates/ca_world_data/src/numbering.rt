@@ -91,7 +91,8 @@ fn number_all(core: &ServerCore, joined: &mut Joined, name: &[u8], mask: u16)
 // The same for the subscription at this place.
 fn number_next(core: &ServerCore, joined: &mut Joined, place: usize, name: &[u8], mask: u16)
     requires alike { IsAlike (under core.now.circuits joined.old.at_server) (joined_of joined.old) }
-    requires counts { (s : kept.Standing) → At joined.old.standing.items place s → s.posts < post_limit }
+    requires counts { (s : kept.Standing) → At joined.old.standing.items place s
+        → s.posts < post_limit }
     ensures numbers { joined_of joined.new
         ≡ fold
         with_number

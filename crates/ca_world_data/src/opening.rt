@@ -23,7 +23,8 @@ pub fn begin_clients(
     settings: Vec<ClientSetting>,
     servers: &[Address],
 ) -> Result<(Vec<ClientSide>, Vec<Vec<Line>>), AllocError>
-    ensures { IfOk result (λ all. BeginClients servers.now settings.items all.0.items all.1.items) }
+    ensures { IfOk result (λ all.
+        BeginClients servers.now settings.items all.0.items all.1.items) }
 {
     let mut clients = Vec::new(alloc);
     let mut logs = Vec::new(alloc);
@@ -67,7 +68,13 @@ fn put_client(
     setting: ClientSetting,
     servers: &[Address],
 ) -> Result<(), AllocError>
-    ensures { OnOk result (HasClients servers.now setting clients.old.items logs.old.items clients.new.items logs.new.items) }
+    ensures { OnOk result (HasClients
+        servers.now
+        setting
+        clients.old.items
+        logs.old.items
+        clients.new.items
+        logs.new.items) }
 {
     let life = clients.len();
     let side = begin_client(alloc, setting, servers, 0, life)?;
@@ -140,7 +147,12 @@ fn put_server(
     logs: &mut Vec<Vec<Entry>>,
     setting: ServerSetting,
 ) -> Result<(), AllocError>
-    ensures { OnOk result (HasServers setting servers.old.items logs.old.items servers.new.items logs.new.items) }
+    ensures { OnOk result (HasServers
+        setting
+        servers.old.items
+        logs.old.items
+        servers.new.items
+        logs.new.items) }
 {
     let life = servers.len();
     let log = begin_log(alloc, &setting.records)?;
@@ -218,7 +230,8 @@ pub fn begin_server_core(
 
 /// The records that a server begins with, by number.
 pub fn begin_records(alloc: Global, records: &Records) -> Result<Vec<RecordSide>, AllocError>
-    ensures { IfOk result (λ sides. map record_of sides.items ≡ numbered 0 record_begun records.now) }
+    ensures { IfOk result (λ sides.
+        map record_of sides.items ≡ numbered 0 record_begun records.now) }
 {
     let mut sides = Vec::new(alloc);
     for number in 0..records.len() {
@@ -256,7 +269,8 @@ fn rule_again(alloc: Global, rule: &RuleSetting) -> Result<Rule, AllocError>
 
 /// A word, if there is one.
 fn word_again(alloc: Global, word: &Option<Vec<u8>>) -> Result<Option<Vec<u8>>, AllocError>
-    ensures { IfOk result (λ copy. option_map (λ v. v.items) copy ≡ option_map (λ v. v.items) word.now) }
+    ensures { IfOk result (λ copy.
+        option_map (λ v. v.items) copy ≡ option_map (λ v. v.items) word.now) }
 {
     match word {
         None => Ok(None),
@@ -284,7 +298,12 @@ pub fn begin_parts(
     setting: &ServerSetting,
     moment: u64,
 ) -> Result<(ServerCore, Vec<RecordSide>, Vec<Entry>), AllocError>
-    ensures { IfOk result (λ b. BeginsServer moment setting.now b.0 (map record_of b.1.items) (map entry_of b.2.items)) }
+    ensures { IfOk result (λ b. BeginsServer
+        moment
+        setting.now
+        b.0
+        (map record_of b.1.items)
+        (map entry_of b.2.items)) }
 {
     let core = begin_server_core(alloc, setting, moment)?;
     let records = begin_records(alloc, &setting.records)?;
