@@ -21,3 +21,5 @@ pub mod Staying
 pub mod Pumpings
 pub mod Partings
 pub mod Moments
+pub mod ClientSteppings
+pub mod Postings

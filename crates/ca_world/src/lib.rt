@@ -7,6 +7,7 @@
 mod accept;
 mod clear;
 mod client_restart;
+mod client_step;
 mod collect;
 mod config;
 mod cut_client;
@@ -14,6 +15,7 @@ mod cut_server;
 mod down;
 mod give_up;
 mod opens;
+mod post;
 mod pump;
 mod read;
 mod server_datagram;

@@ -1,0 +1,136 @@
+ghost use Rattle.std.specs.Prelude.{◌+◌, map};
+ghost use Rattle.ca_dbr.specs.Elements.{elements};
+ghost use Rattle.ca_records.specs.Record.{unset};
+ghost use Rattle.ca_model_world.specs.Events as event;
+ghost use Rattle.ca_world_data.specs.Does.{Does};
+ghost use Rattle.ca_world_data.specs.Numbering.{AllAlike, AllMayCount};
+ghost use Rattle.ca_world_data.specs.Opening.{entries_in};
+ghost use Rattle.ca_world_data.specs.Posting.{PostsAt, TellsPost};
+ghost use Rattle.ca_world_data.specs.Reporting.{AreServed, waits};
+ghost use Rattle.ca_world_data.specs.Seen.{joined_of, stored_of};
+ghost use Rattle.ca_world_data.specs.ServerCuts.{HasRoomFor};
+
+use crate::world::World;
+use ca_dbr::{Meta, Value};
+use ca_text::{Mask, Refusal};
+use ca_world_data::entries::push_entry;
+use ca_world_data::history::{Entry, Stored};
+use ca_world_data::joined::Joined;
+use ca_world_data::numbering::{check_counts, number_of, post_numbers};
+use ca_world_data::payloads::value_again;
+use ca_world_data::reporting::{report_ends, reserve_reports};
+use ca_world_data::server::ServerSide;
+use std::alloc::Global;
+
+impl World {
+    /// A value is posted to a record of a server, with a mask. A post that the server refuses changes nothing.
+    pub fn post(
+        &mut self,
+        server: usize,
+        name: &[u8],
+        value: Value,
+        mask: Mask,
+    ) -> Result<(), Refusal>
+        ensures { Does
+            self.old
+            (event.Post server name.now (elements value) mask)
+            result
+            self.new }
+    {
+        value.know();
+        if server >= self.servers.len() {
+            return Err(Refusal::BadEvent);
+        }
+        post_at(
+            self.alloc,
+            server,
+            &mut self.servers[server],
+            &mut self.circuits,
+            &mut self.server_logs,
+            name,
+            value,
+            mask.bits(),
+        )
+    }
+}
+
+// A value is posted at this server. A post that its core refuses changes nothing.
+fn post_at(
+    alloc: Global,
+    server: usize,
+    side: &mut ServerSide,
+    circuits: &mut Vec<Joined>,
+    logs: &mut Vec<Vec<Entry>>,
+    name: &[u8],
+    value: Value,
+    mask: u16,
+) -> Result<(), Refusal>
+    requires served { AreServed
+        side.old.circuits.items
+        (map joined_of circuits.old.items)
+        server }
+    requires alike { AllAlike server side.old.core (map joined_of circuits.old.items) }
+    ensures { PostsAt
+        server
+        name.now
+        (record { value = elements value; meta = unset })
+        mask
+        side.old
+        (map joined_of circuits.old.items)
+        (entries_in logs.old.items)
+        result
+        side.new
+        (map joined_of circuits.new.items)
+        (entries_in logs.new.items) }
+{
+    let value_told = value_again(alloc, &value)?;
+    check_counts(circuits)?;
+    reserve_reports(logs, side.life, &side.records, 1)?;
+    match side.core.post(name, value, Meta::ZERO, mask) {
+        Ok(()) => {
+            let told = Stored {
+                value: value_told,
+                meta: Meta::ZERO,
+            };
+            tell_post(alloc, server, side, circuits, logs, name, told, mask);
+            Ok(())
+        }
+        Err(_) => Ok(()),
+    }
+}
+
+// The core of this server has the post: it goes into the log, its numbers wait, and ends that ended by it are reported.
+fn tell_post(
+    alloc: Global,
+    server: usize,
+    side: &mut ServerSide,
+    circuits: &mut Vec<Joined>,
+    logs: &mut Vec<Vec<Entry>>,
+    name: &[u8],
+    told: Stored,
+    mask: u16,
+)
+    requires served { AreServed
+        side.old.circuits.items
+        (map joined_of circuits.old.items)
+        server }
+    requires alike { AllAlike server side.old.core (map joined_of circuits.old.items) }
+    requires counts { AllMayCount circuits.old.items }
+    requires room { HasRoomFor (waits side.old.records.items + 1) side.old.life logs.old.items }
+    ensures { TellsPost
+        server
+        name.now
+        (stored_of told)
+        mask
+        side.old
+        (map joined_of circuits.old.items)
+        (entries_in logs.old.items)
+        side.new
+        (map joined_of circuits.new.items)
+        (entries_in logs.new.items) }
+{
+    let number = number_of(name, &side.records);
+    push_entry(logs, side.life, Entry::Posted(number, mask, told));
+    post_numbers(server, &side.core, circuits, name, mask);
+    report_ends(alloc, server, side, circuits, logs);
+}
