@@ -1,11 +1,12 @@
 -- Vocabulary: what whoever records histories asks of a client.
-use Rattle.std.specs.Prelude.{◌≡◌, Bool, List, Option, Some, None, map, option_and_then}
+use Rattle.std.specs.Prelude.{◌≡◌, ◌<◌, Bool, false, List, Option, Some, None, map, option_and_then}
 use Rattle.ca_arena.specs.declared.handle.Handle.{Handle}
 use Rattle.ca_model.specs.Client.{Client, Connection, connection_at}
 use Rattle.ca_text.specs.declared.command.Command.{Command}
 use Rattle.ca_monitor.specs.ReadRun.{sent_by_read}
 use Rattle.ca_model.specs.Answers as answer
-use Rattle.ca_model.specs.ClientCalls.{IsLive, LiveChannel, StandsAs}
+use Rattle.ca_model.specs.ClientCalls.{IsLive, LiveChannel, Shape, StandsAs, ask_fault}
+use Rattle.ca_text.specs.declared.refusal.Refusal.{Refusal}
 use Rattle.ca_model.specs.ClientEnds.{ClientSteps}
 use Rattle.ca_monitor.specs.Subscriptions.{Subscription, standing_under}
 use Rattle.ca_client_core.specs.declared.for_histories.LiveOn.{LiveOn}
@@ -23,6 +24,11 @@ LivesOn x h None = (l : LiveChannel) → IsLive x h l → ⊥
 abbrev pub AsksFor : Client → Handle → Option Asked → Type 0
 AsksFor x s (Some o) = (d : Subscription) × StandsAs x s d × (o.channel ≡ d.channel) × (o.data_type ≡ d.data_type) × (o.count ≡ d.count)
 AsksFor x s None = standing_under s x.subscriptions ≡ None
+
+-- Whatever ids are free, what is asked for on this channel is refused so; or it may be asked for while one is, and a message can say it.
+abbrev pub AsksWide : Client → Handle → Shape → Option Refusal → Type 0
+AsksWide x h a (Some e) = (full : Bool) → ask_fault x full h a ≡ Some e
+AsksWide x h a None = (ask_fault x false h a ≡ None) × (a.data_type < 65536) × (a.count < 4294967296)
 
 -- what a read on the circuit of this handle makes the client send, if it is connected
 abbrev pub flow_at : (more : Bool) → Client → Handle → Option Command

@@ -1,4 +1,4 @@
-ghost use Rattle.std.specs.Prelude.{◌≡◌, false};
+ghost use Rattle.std.specs.Prelude.{◌≡◌, ◌<◌, IfOk, None, false};
 ghost use Rattle.ca_client_core.specs.Calls.{live_ask_fault};
 ghost use Rattle.ca_client_core.specs.Lives.{MayAsk};
 
@@ -8,7 +8,7 @@ use ca_arena::Handle;
 use ca_text::Refusal;
 
 /// The greatest type of an image.
-const LAST_TYPE: u16 = 20;
+const LAST_TYPE: u64 = 20;
 
 impl ClientCore {
     // The live channel on which a read or a subscription may go out, while an id is free for it.
@@ -26,6 +26,23 @@ impl ClientCore {
             (record { data_type = data_type; count = count })
             result }
     {
+        self.askable_wide(channel, u64::from(data_type), u64::from(count))
+    }
+
+    // The same of a type and a count that may be greater than any that a message carries.
+    pub(crate) fn askable_wide(
+        &self,
+        channel: Handle,
+        data_type: u64,
+        count: u64,
+    ) -> Result<Live, Refusal>
+        ensures may { MayAsk
+            self.now
+            channel
+            (record { data_type = data_type; count = count })
+            result }
+        ensures fits { IfOk result (λ _. (data_type < 65536) × (count < 4294967296)) }
+    {
         let live = self.live(channel)?;
         match self.ask_fault(live, data_type, count) {
             Some(refusal) => Err(refusal),
@@ -34,10 +51,11 @@ impl ClientCore {
     }
 
     // Why a read or a subscription on a live channel is refused while an id is free for it.
-    fn ask_fault(&self, live: Live, data_type: u16, count: u32) -> Option<Refusal>
-        ensures { result
+    fn ask_fault(&self, live: Live, data_type: u64, count: u64) -> Option<Refusal>
+        ensures fault { result
             ≡ live_ask_fault self.now false live.circuit live.native.count live.rights
             (record { data_type = data_type; count = count }) }
+        ensures fits { result ≡ None → (data_type < 65536) × (count < 4294967296) }
     {
         if data_type > LAST_TYPE {
             return Some(Refusal::BadType);
@@ -45,7 +63,7 @@ impl ClientCore {
         if live.rights % 2 != 1 {
             return Some(Refusal::NoAccess);
         }
-        if count > live.native.count {
+        if count > u64::from(live.native.count) {
             return Some(Refusal::BadCount);
         }
         if self.is_over(live.circuit) {

@@ -1,10 +1,10 @@
 //! What whoever records histories asks of a client. No client needs these calls.
 ghost use Rattle.std.specs.Prelude.{◌≡◌, IfOk};
-ghost use Rattle.ca_client_core.specs.ForHistories.{AsksFor, LivesOn, SendsNext, flow_at};
+ghost use Rattle.ca_client_core.specs.ForHistories.{AsksFor, AsksWide, LivesOn, SendsNext, flow_at};
 
 use crate::client::ClientCore;
 use ca_arena::Handle;
-use ca_text::Command;
+use ca_text::{Command, Refusal};
 use ca_wire::Message;
 use std::alloc::AllocError;
 
@@ -48,6 +48,26 @@ pub fn live_on(core: &ClientCore, channel: Handle) -> Option<LiveOn>
             count: live.native.count,
         }),
         Err(_) => None,
+    }
+}
+
+/// Why a read or a subscription of so many elements of this type is refused while an id is free for it. Both may be greater than any that a
+/// message carries.
+pub fn ask_refusal(
+    core: &ClientCore,
+    channel: Handle,
+    data_type: u64,
+    count: u64,
+) -> Option<Refusal>
+    ensures { AsksWide
+        core.now
+        channel
+        (record { data_type = data_type; count = count })
+        result }
+{
+    match core.askable_wide(channel, data_type, count) {
+        Ok(_) => None,
+        Err(refusal) => Some(refusal),
     }
 }
 

@@ -5,7 +5,7 @@ use Rattle.ca_model.specs.ClientCalls.{Shape}
 use Rattle.ca_client_core.specs.Lives.{live_of}
 use Rattle.ca_client_core.proofs.Faults.{and_then, fault-live, live-at}
 use Rattle.ca_client_core.proofs.Requesting.{asks}
-use Rattle.ca_client_core.proofs.client.ClientCore.askable.Goals as goal
+use Rattle.ca_client_core.proofs.client.ClientCore.askable_wide.Goals as goal
 
 pub returns-in-Some : goal.returns-in-Some
 returns-in-Some c =
@@ -13,4 +13,4 @@ returns-in-Some c =
     let a : Shape = record { data_type = c.args.data_type; count = c.args.count } in
     let l = live_of c.in_ok-live.live in
     let s = standing_at x c.args.channel in
-    fault-live (and_then (asks x a) false refusal.ArenaFull) s l (live-at s l (sym c.in_ok-live.ensures)) ∙ sym c.ask_fault.ensures ∙ c.in-Some.is
+    record { may = fault-live (and_then (asks x a) false refusal.ArenaFull) s l (live-at s l (sym c.in_ok-live.ensures)) ∙ sym c.ask_fault.ensures.fault ∙ c.in-Some.is; fits = tt }
