@@ -25,9 +25,9 @@ abbrev pub AsksFor : Client → Handle → Option Asked → Type 0
 AsksFor x s (Some o) = (d : Subscription) × StandsAs x s d × (o.channel ≡ d.channel) × (o.data_type ≡ d.data_type) × (o.count ≡ d.count)
 AsksFor x s None = standing_under s x.subscriptions ≡ None
 
--- Whatever ids are free, what is asked for on this channel is refused so; or it may be asked for while one is, and a message can say it.
+-- What is asked for on this channel is refused so while an id is free; or it may be asked for, and a message can say it.
 abbrev pub AsksWide : Client → Handle → Shape → Option Refusal → Type 0
-AsksWide x h a (Some e) = (full : Bool) → ask_fault x full h a ≡ Some e
+AsksWide x h a (Some e) = ask_fault x false h a ≡ Some e
 AsksWide x h a None = (ask_fault x false h a ≡ None) × (a.data_type < 65536) × (a.count < 4294967296)
 
 -- what a read on the circuit of this handle makes the client send, if it is connected
