@@ -25,6 +25,7 @@ mod subscribe;
 mod tick;
 mod unsubscribe;
 mod up;
+mod wide;
 mod world;
 mod write;
 mod write_notify;

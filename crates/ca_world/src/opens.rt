@@ -5,6 +5,7 @@ ghost use Rattle.ca_world_data.specs.Logs.{lines_in};
 ghost use Rattle.ca_world_data.specs.Opens.{OpensOn};
 ghost use Rattle.ca_world_data.specs.Seen.{client_of};
 
+use crate::wide::priority_of;
 use crate::world::World;
 use ca_text::Refusal;
 use ca_world_data::client::ClientSide;
@@ -14,7 +15,7 @@ use std::alloc::Global;
 
 impl World {
     /// A client opens a channel of this name. A refusal of the call is a line of its log.
-    pub fn open(&mut self, client: usize, name: &[u8], priority: u16) -> Result<(), Refusal>
+    pub fn open(&mut self, client: usize, name: &[u8], priority: u64) -> Result<(), Refusal>
         ensures { Does self.old (event.Open client name.now priority) result self.new }
     {
         if client >= self.clients.len() {
@@ -33,6 +34,27 @@ impl World {
 }
 
 fn open_on(
+    alloc: Global,
+    moment: u64,
+    side: &mut ClientSide,
+    logs: &mut Vec<Vec<Line>>,
+    name: &[u8],
+    priority: u64,
+) -> Result<(), Refusal>
+    ensures opens { OpensOn
+        (record { name = name.now; priority = priority; now = moment })
+        (client_of side.old)
+        (lines_in logs.old.items)
+        result
+        (client_of side.new)
+        (lines_in logs.new.items) }
+    ensures kept { side.new.circuits.items ≡ side.old.circuits.items }
+{
+    open_carried(alloc, moment, side, logs, name, priority_of(priority))
+}
+
+// The same of a priority that the core takes.
+fn open_carried(
     alloc: Global,
     moment: u64,
     side: &mut ClientSide,

@@ -7,6 +7,7 @@ ghost use Rattle.ca_world_data.specs.Logs.{lines_in};
 ghost use Rattle.ca_world_data.specs.Reads.{ReadsOn};
 ghost use Rattle.ca_world_data.specs.Seen.{client_of, joined_of};
 
+use crate::wide::{carried, refuse_wide};
 use crate::world::World;
 use ca_text::Refusal;
 use ca_wire::read_request;
@@ -24,8 +25,8 @@ impl World {
         &mut self,
         client: usize,
         channel: usize,
-        data_type: u16,
-        count: u32,
+        data_type: u64,
+        count: u64,
     ) -> Result<(), Refusal>
         ensures { Does self.old (event.Read client channel data_type count) result self.new }
     {
@@ -46,6 +47,41 @@ impl World {
 }
 
 fn read_on(
+    alloc: Global,
+    client: usize,
+    side: &mut ClientSide,
+    circuits: &mut Vec<Joined>,
+    logs: &mut Vec<Vec<Line>>,
+    channel: usize,
+    data_type: u64,
+    count: u64,
+) -> Result<(), Refusal>
+    requires given { AreGiven (client_of side.old).names.requests side.old.core.requests }
+    requires numbered { AreNumbered
+        side.old.circuits.items
+        (map joined_of circuits.old.items)
+        client }
+    ensures reads { ReadsOn client channel
+        (record { data_type = data_type; count = count })
+        (client_of side.old)
+        (lines_in logs.old.items)
+        (map joined_of circuits.old.items)
+        result
+        (client_of side.new)
+        (lines_in logs.new.items)
+        (map joined_of circuits.new.items) }
+    ensures kept { side.new.circuits.items ≡ side.old.circuits.items }
+{
+    match carried(data_type, count) {
+        Some((data_type, count)) => read_carried(
+            alloc, client, side, circuits, logs, channel, data_type, count,
+        ),
+        None => refuse_wide(client, side, circuits, logs, channel, data_type, count),
+    }
+}
+
+// The same of a type and a count that a message carries.
+fn read_carried(
     alloc: Global,
     client: usize,
     side: &mut ClientSide,
