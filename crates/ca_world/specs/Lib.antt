@@ -3,3 +3,4 @@ pub mod Reported
 pub mod ServerPumps
 pub mod Halted
 pub mod Ticking
+pub mod Adding
