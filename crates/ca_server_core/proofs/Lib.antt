@@ -17,3 +17,4 @@ pub mod Added
 pub mod Removed
 pub mod Peeked
 pub mod Histories
+pub mod Ordered

@@ -1,8 +1,9 @@
 -- Vocabulary: what whoever records histories asks of a server.
-use Rattle.std.specs.Prelude.{ℕ, ◌≡◌, Bool, true, false, List, [], Option, Some, None}
+use Rattle.std.specs.Prelude.{ℕ, ◌≡◌, ◌<◌, ◌≤◌, Bool, true, false, List, [], Option, Some, None}
 use Rattle.ca_arena.specs.declared.handle.Handle.{Handle}
 use Rattle.ca_ids.specs.Table.{Table, under}
 use Rattle.ca_queue.specs.Circuit.{AreInOne, HasAt}
+use Rattle.ca_records.specs.Puts.{Record}
 use Rattle.ca_text.specs.Place.{At}
 use Rattle.ca_model.specs.Server.{Ended, Open, Server, ServerCircuit, Subscription, concerns, key_of}
 use Rattle.ca_model.specs.ServerSteps.{without_puts_of}
@@ -37,3 +38,13 @@ abbrev pub bytes_under : Option ServerCircuit → List ℕ
 bytes_under (Some (Open e)) = e.link.output
 bytes_under (Some (Ended w left)) = left
 bytes_under None = []
+
+-- no two of these records have one name
+abbrev pub AreNamedApart : List Record → Type 0
+AreNamedApart records = (i j : ℕ) (r s : Record) → At records i r → At records j s → r.state.name ≡ s.state.name → i ≡ j
+
+-- Of these records, if no two have one name, that of the first name comes before that of the other, or not.
+abbrev pub ComesBefore : List Record → (name other : List ℕ) → Bool → Type 0
+ComesBefore records name other before =
+    AreNamedApart records → (i j : ℕ) (r s : Record) → At records i r → At records j s → r.state.name ≡ name → s.state.name ≡ other
+    → (before ≡ true → i < j) × (before ≡ false → j ≤ i)

@@ -4,7 +4,7 @@ ghost use Rattle.ca_ids.specs.Table.{same_handle, under};
 ghost use Rattle.ca_records.specs.Puts.{withdrawn};
 ghost use Rattle.ca_records.specs.Store.{records_of};
 ghost use Rattle.ca_server_circuit.specs.Circuits.{is_open};
-ghost use Rattle.ca_server_core.specs.ForHistories.{ConcernsUnder, EndsAt, IsOverAt, bytes_under, is_over};
+ghost use Rattle.ca_server_core.specs.ForHistories.{ComesBefore, ConcernsUnder, EndsAt, IsOverAt, bytes_under, is_over};
 ghost use Rattle.ca_server_core.specs.Sound.{IsSound};
 
 use crate::server::ServerCore;
@@ -92,4 +92,17 @@ pub fn bytes_of(core: &ServerCore, circuit: Handle) -> &[u8]
         Some(found) => found.bytes(),
         None => &[],
     }
+}
+
+/// Whether the record of this name comes before the other in the order of the records.
+pub fn comes_before(core: &ServerCore, name: &[u8], other: &[u8]) -> bool
+    ensures { ComesBefore core.now.records name.now other.now result }
+{
+    let Some(place) = core.records.find(name) else {
+        return false;
+    };
+    let Some(next) = core.records.find(other) else {
+        return false;
+    };
+    place < next
 }

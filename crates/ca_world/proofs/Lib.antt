@@ -24,3 +24,4 @@ pub mod Moments
 pub mod ClientSteppings
 pub mod Postings
 pub mod Widths
+pub mod Additions

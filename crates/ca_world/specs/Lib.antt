@@ -4,3 +4,4 @@ pub mod ServerPumps
 pub mod Halted
 pub mod Ticking
 pub mod Wide
+pub mod Adding

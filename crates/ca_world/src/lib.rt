@@ -5,6 +5,7 @@
 #![tactic(auto)]
 
 mod accept;
+mod add;
 mod clear;
 mod client_restart;
 mod client_step;
