@@ -21,3 +21,4 @@ pub mod Staying
 pub mod Pumpings
 pub mod Partings
 pub mod Moments
+pub mod ClientSteppings

@@ -7,6 +7,7 @@
 mod accept;
 mod clear;
 mod client_restart;
+mod client_step;
 mod collect;
 mod config;
 mod cut_client;
