@@ -22,3 +22,4 @@ pub mod Pumpings
 pub mod Partings
 pub mod Moments
 pub mod ClientSteppings
+pub mod ClientHearings

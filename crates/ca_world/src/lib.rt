@@ -6,6 +6,7 @@
 
 mod accept;
 mod clear;
+mod client_datagram;
 mod client_restart;
 mod client_step;
 mod collect;
