@@ -1,5 +1,5 @@
 -- Room for messages on each circuit of a client.
-use Rattle.std.proofs.Common.{◌≡◌, ℕ, ◌+◌, ◌<◌, ◌≤◌, Bool, true, false, inl, inr, List, [], ◌∷◌, Option, Some, length, refl, sym, ap, subst, arith}
+use Rattle.std.proofs.Common.{◌≡◌, ℕ, ◌+◌, ◌<◌, ◌≤◌, Bool, true, false, inl, inr, List, [], ◌∷◌, Some, length, subst, arith}
 use Rattle.std.specs.Prelude.{cond, filter, map}
 use Rattle.std.proofs.lemmas.Bool.{cases_lt}
 use Rattle.ca_arena.specs.declared.handle.Handle.{Handle}
@@ -41,7 +41,7 @@ count-few : (c : Handle) (sent : List Sending) → count_on c sent ≤ length se
 count-few c [] = omega arith
 count-few c (s ∷ sent) = go (same_handle s.circuit c) (filter (λ (z : Sending). same_handle z.circuit c) sent) (count-few c sent)
   where
-    go : (b : Bool) (xs : List Sending) → length xs ≤ length sent → length (cond b (s ∷ xs) xs) ≤ length sent + 1
+    go : (b : Bool) (xs : List Sending) → length xs ≤ length sent → length (cond b (s ∷ xs) xs) ≤ length (s ∷ sent)
     go true xs few = omega (arith, few)
     go false xs few = omega (arith, few)
 
