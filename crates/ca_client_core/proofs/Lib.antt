@@ -21,6 +21,7 @@ pub mod Listing
 pub mod Finds
 pub mod Arriving
 pub mod Datagrams
+mod Sendings
 mod Aside
 mod Moments
 mod Ahead

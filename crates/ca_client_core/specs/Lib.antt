@@ -20,5 +20,6 @@ pub mod Silences
 pub mod NameSearches
 pub mod Ticked
 pub mod ForAccepts
+pub mod ForDatagrams
 pub mod Foretold
 pub mod Foretelling

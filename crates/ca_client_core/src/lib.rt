@@ -17,6 +17,7 @@ mod errors;
 mod finding;
 mod first;
 pub mod for_accepts;
+pub mod for_datagrams;
 pub mod for_histories;
 pub mod for_moments;
 mod foreseeing;

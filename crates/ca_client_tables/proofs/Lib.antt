@@ -15,3 +15,4 @@ pub mod Sifting
 pub mod Values
 pub mod Dues
 pub mod Foretold
+pub mod Noticed

@@ -16,3 +16,4 @@ pub mod Silences
 pub mod Packing
 pub mod Wanted
 pub mod Foretelling
+pub mod Noting

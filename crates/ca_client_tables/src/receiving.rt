@@ -73,7 +73,7 @@ pub fn receive_all(
 }
 
 // A message of a datagram from this address was received; the searches are still to follow. Without memory nothing changes.
-fn receive(
+pub(crate) fn receive(
     alloc: Global,
     channels: &mut HeldTable<Channel>,
     circuits: &mut HeldTable<Circuit>,

@@ -25,3 +25,4 @@ pub mod ClientSteppings
 pub mod Postings
 pub mod Widths
 pub mod Additions
+pub mod ClientHearings

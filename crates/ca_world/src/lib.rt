@@ -7,6 +7,7 @@
 mod accept;
 mod add;
 mod clear;
+mod client_datagram;
 mod client_restart;
 mod client_step;
 mod collect;

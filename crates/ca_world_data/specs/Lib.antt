@@ -24,6 +24,7 @@ pub mod Numbering
 pub mod Posting
 pub mod Telling
 pub mod Handing
+pub mod Hearing
 pub mod Clears
 pub mod ClientCuts
 pub mod Accepting

@@ -18,6 +18,10 @@ count_on c sent = length (filter (λ (s : Sending). same_handle s.circuit c) sen
 abbrev pub HasRoomForAll : (i : ℕ) → List Sending → List Opened → Type 0
 HasRoomForAll i sent ks = (p : ℕ) (s : Sending) → At sent p s → (k : ℕ) → IsAt (map joined_of ks) i s.circuit k → HasRoomUp (count_on s.circuit sent) (Some k) ks
 
+-- There is room for so many messages on each of the circuits of these numbers.
+abbrev pub HasRoomOnEach : (messages : ℕ) → (numbers : List ℕ) → List Opened → Type 0
+HasRoomOnEach n numbers ks = (p k : ℕ) → At numbers p k → HasRoomUp n (Some k) ks
+
 -- the message at this place goes on the circuit of one before it; or nothing is said
 abbrev pub IsRepeated : List Sending → (place : ℕ) → Bool → Type 0
 IsRepeated sent place true = (p : ℕ) × (before at : Sending) × (p < place) × At sent p before × At sent place at × (at.circuit ≡ before.circuit)

@@ -7,6 +7,7 @@ ghost use Rattle.ca_world_data.specs.Found.{AreNumbered};
 ghost use Rattle.ca_world_data.specs.Seen.{intent_of, joined_of, names_of, sent_of};
 ghost use Rattle.ca_world_data.specs.Sends.{
   HasRoomForAll,
+  HasRoomOnEach,
   IsRepeated,
   KeepsRoom,
   LeavesRoom,
@@ -41,6 +42,21 @@ pub fn reserve_sendings(
         let circuit = sendings[place].circuit;
         let number = circuit_of(numbers, circuits, client, circuit);
         reserve_on(circuits, number, number_on(circuit, sendings))?;
+    }
+    Ok(())
+}
+
+/// Makes room for so many more messages on each of the circuits of these numbers.
+pub fn reserve_on_each(
+    numbers: &[usize],
+    circuits: &mut Vec<Joined>,
+    messages: usize,
+) -> Result<(), AllocError>
+    ensures same { map joined_of circuits.new.items ≡ map joined_of circuits.old.items }
+    ensures room { OnOk result (HasRoomOnEach messages numbers.now circuits.new.items) }
+{
+    for place in 0..numbers.len() {
+        reserve_on(circuits, Some(numbers[place]), messages)?;
     }
     Ok(())
 }

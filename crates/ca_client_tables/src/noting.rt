@@ -1,0 +1,129 @@
+//! The messages of a datagram are received, and the CREATE_CHANs that they make a client send are noted.
+ghost use Rattle.std.specs.Prelude.{◌≡◌, ◌+◌, ◌≤◌, IfOk, vec_capacity, vec_len};
+ghost use Rattle.ca_client_tables.specs.Noting.{NotesAll, NotesOne, told_by};
+
+use crate::channel::Channel;
+use crate::circuit::Circuit;
+use crate::ends::Address;
+use crate::foretelling::{Creation, creation_by};
+use crate::receiving::{Received, receive};
+use crate::undoing::undo_all;
+use ca_arena::Handle;
+use ca_beacon::BeaconTable;
+use ca_ids::HeldTable;
+use ca_text::Command;
+use ca_wire::Message;
+use std::alloc::{AllocError, Global};
+
+/// What the messages of a datagram did, and the CREATE_CHANs that went out by them, in order.
+#[derive(Drop)]
+pub struct Noted {
+    /// What each message did.
+    pub done: Vec<Received>,
+    /// The CREATE_CHANs, at most one for each message.
+    pub sent: Vec<Creation>,
+}
+
+/// The messages of a datagram from this address were received, one after another, as by `receive_all`, and what they sent was noted.
+/// Without memory nothing changes.
+pub fn receive_all_noting(
+    alloc: Global,
+    channels: &mut HeldTable<Channel>,
+    circuits: &mut HeldTable<Circuit>,
+    order: &mut Vec<Handle>,
+    beacons: &mut BeaconTable,
+    from: Address,
+    messages: &[Message],
+) -> Result<Noted, AllocError>
+    ensures { NotesAll
+        (record {
+          channels = channels.old;
+          circuits = circuits.old;
+          order = order.old.items;
+          beacons = beacons.old;
+        })
+        from
+        messages.now
+        result
+        (record {
+          channels = channels.new;
+          circuits = circuits.new;
+          order = order.new.items;
+          beacons = beacons.new;
+        }) }
+{
+    let mut done = Vec::new(alloc);
+    let mut sent = Vec::new(alloc);
+    done.reserve(messages.len())?;
+    sent.reserve(messages.len())?;
+    for index in 0..messages.len() {
+        let message = &messages[index];
+        match receive_noting(
+            alloc, channels, circuits, order, beacons, from, message, &mut sent,
+        ) {
+            Ok(received) => done.push_reserved(received),
+            Err(_) => {
+                undo_all(channels, circuits, order, beacons, done);
+                return Err(AllocError);
+            }
+        }
+    }
+    Ok(Noted { done, sent })
+}
+
+// A message of a datagram from this address was received, and its CREATE_CHAN noted, for which there is room. Without memory nothing
+// changes.
+fn receive_noting(
+    alloc: Global,
+    channels: &mut HeldTable<Channel>,
+    circuits: &mut HeldTable<Circuit>,
+    order: &mut Vec<Handle>,
+    beacons: &mut BeaconTable,
+    from: Address,
+    message: &Message,
+    sent: &mut Vec<Creation>,
+) -> Result<Received, AllocError>
+    requires { vec_len sent.old + 1 ≤ vec_capacity sent.old }
+    ensures notes { NotesOne
+        (record {
+          channels = channels.old;
+          circuits = circuits.old;
+          order = order.old.items;
+          beacons = beacons.old;
+        })
+        from
+        message.now
+        sent.old.items
+        result
+        sent.new.items
+        (record {
+          channels = channels.new;
+          circuits = circuits.new;
+          order = order.new.items;
+          beacons = beacons.new;
+        }) }
+    ensures capacity { vec_capacity sent.new ≡ vec_capacity sent.old }
+{
+    let creation = sent_by(alloc, channels, circuits, from, message)?;
+    let received = receive(alloc, channels, circuits, order, beacons, from, message)?;
+    if let Some(creation) = creation {
+        sent.push_reserved(creation);
+    }
+    Ok(received)
+}
+
+// The CREATE_CHAN that a message of a datagram from this address makes the client send, if any.
+fn sent_by(
+    alloc: Global,
+    channels: &HeldTable<Channel>,
+    circuits: &HeldTable<Circuit>,
+    from: Address,
+    message: &Message,
+) -> Result<Option<Creation>, AllocError>
+    ensures { IfOk result (λ o. o ≡ told_by channels.now circuits.now from message.now) }
+{
+    if message.command() == Command::Search.number() {
+        return creation_by(alloc, channels, circuits, from, message);
+    }
+    Ok(None)
+}
