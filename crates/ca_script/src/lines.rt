@@ -24,7 +24,7 @@ pub(crate) fn read_client(alloc: Global, mut words: Words<'_>) -> Result<Named, 
 }
 
 /// `A.B.C.D:PORT`, after the line's first word: an IPv4 address and a port. Refused as BadText.
-pub(crate) fn read_server(mut words: Words<'_>) -> Result<(u32, u16), Refusal>
+pub fn read_server(mut words: Words<'_>) -> Result<(u32, u16), Refusal>
     ensures ok { IfOk result (λ p. SaysServer words.entry p.0 p.1) }
     ensures err { IfErr result (λ e.
         (e ≡ BadText) × ((address port : ℕ) → SaysServer words.entry address port → ⊥)) }
@@ -103,7 +103,7 @@ pub(crate) fn read_record(
 }
 
 /// Whether a put takes the record time, as a word says. Refused as BadText.
-fn slow_in(word: &[u8]) -> Result<bool, Refusal>
+pub fn slow_in(word: &[u8]) -> Result<bool, Refusal>
     ensures ok { IfOk result (λ slow. word.now ≡ slow_word slow) }
     ensures err { IfErr result (λ e.
         (e ≡ BadText) × ((slow : Bool) → word.now ≡ slow_word slow → ⊥)) }

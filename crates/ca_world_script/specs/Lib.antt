@@ -1,0 +1,6 @@
+pub mod Lines
+pub mod Types
+pub mod Events
+pub mod Scripts
+pub mod Index
+pub mod Written

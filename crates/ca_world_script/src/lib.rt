@@ -1,0 +1,15 @@
+//! Scripts of whole worlds read: their clients, their servers, and what is to happen. There is no IO here.
+#![tactic(auto)]
+
+mod clients;
+mod config;
+mod datagrams;
+mod events;
+mod posts;
+mod script;
+mod types;
+mod values;
+mod verb;
+
+pub use config::{ClientLine, ServerLine};
+pub use script::{Script, read_script};
