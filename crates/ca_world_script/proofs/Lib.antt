@@ -1,7 +1,7 @@
 pub mod Index
 pub mod Same
 pub mod Lasts
-pub mod Heads
+pub mod ServerLines
 pub mod ValueRefusals
 pub mod LineKinds
 pub mod ClientRefusals

@@ -5,13 +5,14 @@ use Rattle.std.specs.Str.{bytes_eq}
 use Rattle.ca_text.specs.declared.refusal.Refusal.{Refusal}
 use Rattle.ca_text.specs.declared.refusal.Refusal.TheVariants.{BadText}
 use Rattle.ca_model_world.specs.Events.{Event}
+use Rattle.ca_model_world.specs.World.{ServerSetting}
 use Rattle.ca_events.specs.Events.{event_of}
 use Rattle.ca_script.specs.Grammar.{Refuses}
-use Rattle.ca_script.specs.RecordFiles.{TakesLine, file_reading}
 use Rattle.ca_script.proofs.Alike.{behind-same}
 use Rattle.ca_script.proofs.Refusals.{NoWord, err-then, refuses-whole, says-none}
 use Rattle.ca_world_script.specs.Events.{Says, SaysPost, verb_word}
 use Rattle.ca_world_script.specs.Scripts.{Adds, AddsAdd, AddsClient, AddsEvent, AddsPost, AddsServer, AddsTo, Reading}
+use Rattle.ca_world_script.specs.Servers.{TakesLine}
 use Rattle.ca_world_script.specs.declared.verb.Verb.{Verb}
 use Rattle.ca_world_script.specs.declared.verb.Verb.TheVariants as verb
 
@@ -85,12 +86,12 @@ client-of a m words h = begins words h.behind (codes "client") h.are
 server-of : (a m : Reading) (words : List (List ℕ)) → AddsServer a words m → Of 2 words
 server-of a m words h = begins words h.behind (codes "server") h.are
 
-takes-of : (a m : _) (words : List (List ℕ)) → TakesLine a words m → Of 3 words
-takes-of a m words (inl h) = begins words h.rest (codes "record") h.are
-takes-of a m words (inr h) = begins words h.rest (codes "rule") h.are
+takes-of : (a m : ServerSetting) (words : List (List ℕ)) → TakesLine a words m → Of 3 words
+takes-of a m words (inl h) = begins words h.behind (codes "record") h.are
+takes-of a m words (inr h) = begins words h.behind (codes "rule") h.are
 
 to-of : (a m : Reading) (words : List (List ℕ)) → AddsTo a words m → Of 3 words
-to-of a m words h = takes-of (file_reading h.server.file) (file_reading h.next.file) words h.takes
+to-of a m words h = takes-of h.server h.next words h.takes
 
 event-of : (a m : Reading) (words : List (List ℕ)) → AddsEvent a words m → Of 0 words
 event-of a m words h = begins words h.behind (verb_word h.verb) h.are ∙ event-kind h.verb
@@ -178,9 +179,9 @@ no-line a words m nay (inl h) = nay (codes "client") h.behind h.are (omega arith
 no-line a words m nay (inr (inl h)) = nay (codes "server") h.behind h.are (omega arith)
 no-line a words m nay (inr (inr (inl h))) = by h.takes
   where
-    by : TakesLine (file_reading h.server.file) words (file_reading h.next.file) → ⊥
-    by (inl k) = nay (codes "record") k.rest k.are (omega arith)
-    by (inr k) = nay (codes "rule") k.rest k.are (omega arith)
+    by : TakesLine h.server words h.next → ⊥
+    by (inl k) = nay (codes "record") k.behind k.are (omega arith)
+    by (inr k) = nay (codes "rule") k.behind k.are (omega arith)
 no-line a words m nay (inr (inr (inr (inl h)))) = nay (verb_word h.verb) h.behind h.are (event-first h.verb)
 no-line a words m nay (inr (inr (inr (inr (inl h))))) = nay (codes "post") h.behind h.are (omega arith)
 no-line a words m nay (inr (inr (inr (inr (inr h))))) = nay (codes "add") h.behind h.are (omega arith)

@@ -14,7 +14,7 @@ use Rattle.ca_script.specs.Lines as lines
 use Rattle.ca_script.specs.Lines.{AreEach, SaysServer}
 use Rattle.ca_world_script.specs.Lines.{IsAddress}
 use Rattle.ca_world_script.specs.Types.{Added, HasType, IsRecorded}
-use Rattle.ca_world_script.specs.declared.config.ServerLine.{ServerLine}
+use Rattle.ca_model_world.specs.World.{ServerSetting}
 
 -- a word is one number at most
 pub one-number : (w v : List ℕ) (m n : ℕ) → w ≡ v → IsNumber w m → IsNumber v n → m ≡ n
@@ -57,18 +57,18 @@ same-addresses (w ∷ ws) (x ∷ xs) [] a b = absurd b
 same-addresses (w ∷ ws) (x ∷ xs) (y ∷ ys) a b = λ i. same-address w x y a.1 b.1 i ∷ same-addresses ws xs ys a.2 b.2 i
 
 -- the records of a server have one type under one name
-pub one-recorded : (servers : List ServerLine) (server : ℕ) (name : List ℕ) (b c : BaseType) → ((line : ServerLine) → At servers server line → AreApart line.file.records) → IsRecorded servers server name b → IsRecorded servers server name c → c ≡ b
+pub one-recorded : (servers : List ServerSetting) (server : ℕ) (name : List ℕ) (b c : BaseType) → ((line : ServerSetting) → At servers server line → AreApart line.records) → IsRecorded servers server name b → IsRecorded servers server name c → c ≡ b
 one-recorded servers server name b c apart x y =
     let line : y.line ≡ x.line = At-one servers server y.line x.line y.at x.at in
-    let there : At x.line.file.records y.place y.is.state = subst (λ (l : ServerLine). At l.file.records y.place y.is.state) line y.is.at in
+    let there : At x.line.records y.place y.is.state = subst (λ (l : ServerSetting). At l.records y.place y.is.state) line y.is.at in
     let place : y.place ≡ x.place = apart x.line x.at y.place x.place y.is.state x.is.state there x.is.at (y.is.named ∙ sym x.is.named) in
-    let state : y.is.state ≡ x.is.state = At-one x.line.file.records x.place y.is.state x.is.state (subst (λ (k : ℕ). At x.line.file.records k y.is.state) place there) x.is.at in
+    let state : y.is.state ≡ x.is.state = At-one x.line.records x.place y.is.state x.is.state (subst (λ (k : ℕ). At x.line.records k y.is.state) place there) x.is.at in
     sym y.typed ∙ ap (λ (r : RecordState). base_of r.value) state ∙ x.typed
 
-pub type-added : (servers : List ServerLine) (added : Added) (server : ℕ) (name : List ℕ) (b c : BaseType) → added server name ≡ Some b → HasType servers added server name c → c ≡ b
+pub type-added : (servers : List ServerSetting) (added : Added) (server : ℕ) (name : List ℕ) (b c : BaseType) → added server name ≡ Some b → HasType servers added server name c → c ≡ b
 type-added servers added server name b c is (inl h) = cc
 type-added servers added server name b c is (inr h) = absurd cc
 
-pub type-recorded : (servers : List ServerLine) (added : Added) (server : ℕ) (name : List ℕ) (c : BaseType) → added server name ≡ None → HasType servers added server name c → IsRecorded servers server name c
+pub type-recorded : (servers : List ServerSetting) (added : Added) (server : ℕ) (name : List ℕ) (c : BaseType) → added server name ≡ None → HasType servers added server name c → IsRecorded servers server name c
 type-recorded servers added server name c none (inl h) = absurd cc
 type-recorded servers added server name c none (inr h) = h.1

@@ -13,7 +13,7 @@ use Rattle.ca_script.proofs.Refusals.{refuses-whole}
 use Rattle.ca_world_script.specs.Events.{IsMask, SaysAdd, SaysPost}
 use Rattle.ca_world_script.specs.Types.{Added, HasType}
 use Rattle.ca_world_script.specs.Written.{SaysWritten}
-use Rattle.ca_world_script.specs.declared.config.ServerLine.{ServerLine}
+use Rattle.ca_model_world.specs.World.{ServerSetting}
 use Rattle.ca_world_script.proofs.Same.{one-number}
 
 -- the word of a number
@@ -60,13 +60,13 @@ written-unread words a b c client channel n t e first second third is nay =
 
 -- ---- posts
 
-record PostParts (words rest : List (List ℕ)) (name : List ℕ) (server mask : ℕ) (servers : List ServerLine) (added : Added) : Type 0 where
+record PostParts (words rest : List (List ℕ)) (name : List ℕ) (server mask : ℕ) (servers : List ServerSetting) (added : Added) : Type 0 where
   value : Elements
   bits : IsMask mask
   typed : HasType servers added server name (base_of value)
   reads : AreElements rest value
 
-post-parts : (words a b c : List (List ℕ)) (name : List ℕ) (server mask : ℕ) (servers : List ServerLine) (added : Added) (x : Event) → Heads words a server → a ≡ name ∷ b → Heads b c mask → SaysPost servers added words x → PostParts words c name server mask servers added
+post-parts : (words a b c : List (List ℕ)) (name : List ℕ) (server mask : ℕ) (servers : List ServerSetting) (added : Added) (x : Event) → Heads words a server → a ≡ name ∷ b → Heads b c mask → SaysPost servers added words x → PostParts words c name server mask servers added
 post-parts words a b c name server mask servers added x first second third h =
     let p : words ≡ first.0 ∷ a = first.1 in
     let s : b ≡ third.0 ∷ c = third.1 in
@@ -83,10 +83,10 @@ post-parts words a b c name server mask servers added x first second third h =
       reads = subst (λ (ws : List (List ℕ)). AreElements ws h.value) values h.reads;
     }
 
-pub post-masked : (words a b c : List (List ℕ)) (name : List ℕ) (server mask : ℕ) (servers : List ServerLine) (added : Added) → Heads words a server → a ≡ name ∷ b → Heads b c mask → (IsMask mask → ⊥) → (x : Event) → SaysPost servers added words x → ⊥
+pub post-masked : (words a b c : List (List ℕ)) (name : List ℕ) (server mask : ℕ) (servers : List ServerSetting) (added : Added) → Heads words a server → a ≡ name ∷ b → Heads b c mask → (IsMask mask → ⊥) → (x : Event) → SaysPost servers added words x → ⊥
 post-masked words a b c name server mask servers added first second third nay x h = nay (post-parts words a b c name server mask servers added x first second third h).bits
 
-pub post-untyped : (words a b c : List (List ℕ)) (name : List ℕ) (server mask : ℕ) (servers : List ServerLine) (added : Added) (e : Refusal) → Heads words a server → a ≡ name ∷ b → Heads b c mask → Refuses (HasType servers added server name) e → Refuses (SaysPost servers added words) e
+pub post-untyped : (words a b c : List (List ℕ)) (name : List ℕ) (server mask : ℕ) (servers : List ServerSetting) (added : Added) (e : Refusal) → Heads words a server → a ≡ name ∷ b → Heads b c mask → Refuses (HasType servers added server name) e → Refuses (SaysPost servers added words) e
 post-untyped words a b c name server mask servers added e first second third nay =
     refuses-whole (HasType servers added server name) (SaysPost servers added words) e
     (λ (x : Event) (h : SaysPost servers added words x).
@@ -94,7 +94,7 @@ post-untyped words a b c name server mask servers added e first second third nay
     (base_of parts.value, parts.typed))
     nay
 
-pub post-unread : (words a b c : List (List ℕ)) (name : List ℕ) (server mask : ℕ) (servers : List ServerLine) (added : Added) (t : BaseType) (e : Refusal) → Heads words a server → a ≡ name ∷ b → Heads b c mask → ((u : BaseType) → HasType servers added server name u → u ≡ t) → Refuses (λ (v : Elements). (base_of v ≡ t) × AreElements c v) e → Refuses (SaysPost servers added words) e
+pub post-unread : (words a b c : List (List ℕ)) (name : List ℕ) (server mask : ℕ) (servers : List ServerSetting) (added : Added) (t : BaseType) (e : Refusal) → Heads words a server → a ≡ name ∷ b → Heads b c mask → ((u : BaseType) → HasType servers added server name u → u ≡ t) → Refuses (λ (v : Elements). (base_of v ≡ t) × AreElements c v) e → Refuses (SaysPost servers added words) e
 post-unread words a b c name server mask servers added t e first second third only nay =
     refuses-whole (λ (v : Elements). (base_of v ≡ t) × AreElements c v) (SaysPost servers added words) e
     (λ (x : Event) (h : SaysPost servers added words x).

@@ -12,7 +12,7 @@ use Rattle.ca_script.specs.Grammar.{IsNumber}
 use Rattle.ca_script.specs.Lines.{AreElements, IsHex, slow_word, type_word}
 use Rattle.ca_world_script.specs.Lines.{IsAddress}
 use Rattle.ca_world_script.specs.Types.{Added, HasType}
-use Rattle.ca_world_script.specs.declared.config.ServerLine.{ServerLine}
+use Rattle.ca_model_world.specs.World.{ServerSetting}
 use Rattle.ca_world_script.specs.declared.verb.Verb.{Verb}
 use Rattle.ca_world_script.specs.declared.verb.Verb.TheVariants as verb
 
@@ -172,7 +172,7 @@ Says verb.Remove = Named event.Remove
 Says verb.Tick = One event.Tick
 
 -- `post S RECORD MASK V..`: the values are of the type that the last line above gives the record
-pub record SaysPost (servers : List ServerLine) (added : Added) (words : List (List ℕ)) (e : Event) : Type 0 where
+pub record SaysPost (servers : List ServerSetting) (added : Added) (words : List (List ℕ)) (e : Event) : Type 0 where
   pub first : List ℕ
   pub name : List ℕ
   pub third : List ℕ

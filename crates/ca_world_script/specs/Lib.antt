@@ -1,4 +1,5 @@
 pub mod Lines
+pub mod Servers
 pub mod Types
 pub mod Events
 pub mod Scripts

@@ -1,30 +1,30 @@
 -- Scripts: what their lines say, one after another.
-use Rattle.std.specs.Prelude.{ℕ, ◌≡◌, ◌⊎◌, ◌+◌, ⊤, false, List, [], ◌∷◌, ◌++◌, codes, length, slice_set}
+use Rattle.std.specs.Prelude.{ℕ, ◌≡◌, ◌⊎◌, ⊤, false, List, [], ◌∷◌, ◌++◌, codes}
 use Rattle.ca_dbr.specs.Elements.{base_of}
 use Rattle.ca_events.specs.Events.{event_of}
 use Rattle.ca_events.specs.declared.event.Event.{Event}
+use Rattle.ca_model.specs.Ends.{Address}
 use Rattle.ca_model_world.specs.Events as world
+use Rattle.ca_model_world.specs.World.{ClientSetting, ServerSetting}
 use Rattle.ca_records.specs.Record.{RecordState}
-use Rattle.ca_text.specs.Place.{At}
 use Rattle.ca_text.specs.declared.refusal.Refusal.{Refusal}
 use Rattle.ca_text.specs.declared.refusal.Refusal.TheVariants.{BadText, OutOfMemory}
 use Rattle.ca_script.specs.Grammar.{Lead, parted}
 use Rattle.ca_script.specs.Lines.{SaysServer}
-use Rattle.ca_script.specs.RecordFiles.{TakesLine, file_reading}
 use Rattle.ca_script.specs.Scripts.{lines_of}
-use Rattle.ca_world_script.specs.declared.config.ClientLine.{ClientLine}
-use Rattle.ca_world_script.specs.declared.config.ServerLine.{ServerLine}
 use Rattle.ca_world_script.specs.declared.script.Script.{Script}
 use Rattle.ca_world_script.specs.declared.verb.Verb.{Verb}
 use Rattle.ca_world_script.specs.Events.{Says, SaysAdd, SaysPost, verb_word}
-use Rattle.ca_world_script.specs.Lines.{SaysClient, is_taken}
+use Rattle.ca_world_data.specs.Settings.{is_taken}
+use Rattle.ca_world_script.specs.Lines.{SaysClient}
+use Rattle.ca_world_script.specs.Servers.{TakesLine, bare}
 use Rattle.ca_world_script.specs.Types as types
 use Rattle.ca_world_script.specs.Types.{Added, none_added}
 
 -- what has been read, and which types `add` lines named
 pub record Reading : Type 0 where
-  pub clients : List ClientLine
-  pub servers : List ServerLine
+  pub clients : List ClientSetting
+  pub servers : List ServerSetting
   pub events : List Event
   pub added : Added
 
@@ -37,34 +37,31 @@ nothing = record { clients = []; servers = []; events = []; added = none_added }
 -- a client, before all servers and events
 pub record AddsClient (old : Reading) (words : List (List ℕ)) (new : Reading) : Type 0 where
   pub behind : List (List ℕ)
-  pub client : ClientLine
+  pub client : ClientSetting
   pub are : words ≡ codes "client" ∷ behind
   pub says : SaysClient behind client
   pub early : (old.servers ≡ []) × (old.events ≡ [])
   pub after : new ≡ record old { clients = old.clients ++ client ∷ [] }
 
--- a server of an address of its own, before the events, still without records and rules
+-- a server at an address of its own, before the events, still without records and rules
 pub record AddsServer (old : Reading) (words : List (List ℕ)) (new : Reading) : Type 0 where
   pub behind : List (List ℕ)
-  pub server : ServerLine
+  pub address : Address
   pub are : words ≡ codes "server" ∷ behind
-  pub says : SaysServer behind server.address.host server.address.port
-  pub bare : (server.file.records ≡ []) × (server.file.rules.items ≡ [])
-  pub fresh : is_taken server.address old.servers ≡ false
+  pub says : SaysServer behind address.host address.port
+  pub fresh : is_taken address old.servers ≡ false
   pub early : old.events ≡ []
-  pub after : new ≡ record old { servers = old.servers ++ server ∷ [] }
+  pub after : new ≡ record old { servers = old.servers ++ bare address ∷ [] }
 
 -- a record or a rule of the last server, before the events
 pub record AddsTo (old : Reading) (words : List (List ℕ)) (new : Reading) : Type 0 where
-  pub place : ℕ
-  pub server : ServerLine
-  pub next : ServerLine
-  pub last : place + 1 ≡ length old.servers
-  pub at : At old.servers place server
-  pub takes : TakesLine (file_reading server.file) words (file_reading next.file)
-  pub same : next.address ≡ server.address
+  pub others : List ServerSetting
+  pub server : ServerSetting
+  pub next : ServerSetting
+  pub last : old.servers ≡ others ++ server ∷ []
+  pub takes : TakesLine server words next
   pub early : old.events ≡ []
-  pub after : new ≡ record old { servers = slice_set old.servers place next }
+  pub after : new ≡ record old { servers = others ++ next ∷ [] }
 
 -- an event
 pub record AddsEvent (old : Reading) (words : List (List ℕ)) (new : Reading) : Type 0 where

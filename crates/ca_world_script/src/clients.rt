@@ -3,12 +3,12 @@ ghost use Rattle.ca_text.specs.declared.refusal.Refusal.TheVariants.{BadText};
 ghost use Rattle.ca_model.specs.Ends as ends;
 ghost use Rattle.ca_script.specs.Grammar.{Refuses};
 ghost use Rattle.ca_script.specs.Lines.{AreEach};
-ghost use Rattle.ca_world_script.specs.Lines.{IsAddress, SaysClient, is_taken};
+ghost use Rattle.ca_world_script.specs.Lines.{IsAddress, SaysClient};
 
-use crate::config::{ClientLine, ServerLine};
-use ca_client_tables::{Address, count_names};
-use ca_script::{Words, are_carried, read_server};
-use ca_text::{ARENA_SLOTS, Refusal};
+use ca_client_core::Address;
+use ca_script::{Words, read_server};
+use ca_text::Refusal;
+use ca_world_data::settings::ClientSetting;
 use std::alloc::Global;
 
 // The address that a word is. Refused as BadText.
@@ -34,32 +34,17 @@ fn read_addresses(alloc: Global, mut words: Words<'_>) -> Result<Vec<Address>, R
 }
 
 // `USER HOST A.B.C.D:PORT ..`, after the line's first word. Refused as BadText, then as OutOfMemory.
-pub(crate) fn read_client(alloc: Global, mut words: Words<'_>) -> Result<ClientLine, Refusal>
+pub(crate) fn read_client(alloc: Global, mut words: Words<'_>) -> Result<ClientSetting, Refusal>
     ensures ok { IfOk result (λ c. SaysClient words.entry c) }
     ensures err { IfErr result (λ e. Refuses (SaysClient words.entry) e) }
 {
     let user = words.word()?;
     let host = words.word()?;
-    if !are_carried(user, host) {
-        return Err(Refusal::BadText);
-    }
     let name_servers = read_addresses(alloc, words)?;
-    if count_names(&name_servers) > ARENA_SLOTS {
-        return Err(Refusal::BadText);
-    }
     let user = Vec::from_slice(alloc, user)?;
     let host = Vec::from_slice(alloc, host)?;
-    Ok(ClientLine {
-        user,
-        host,
-        name_servers,
-    })
-}
-
-// Whether one of these servers has this address.
-pub(crate) fn has_address(servers: &[ServerLine], address: Address) -> bool
-    ensures { result ≡ is_taken address servers.now }
-{
-    servers.iter().any(|server| server.address.host == address.host
-        && server.address.port == address.port)
+    match ClientSetting::new(user, host, name_servers) {
+        Ok(client) => Ok(client),
+        Err(_) => Err(Refusal::BadText),
+    }
 }

@@ -10,6 +10,7 @@ use crate::values::end_in;
 use ca_events::Event;
 use ca_script::Words;
 use ca_text::Refusal;
+use hex::FromHexError;
 use std::alloc::Global;
 
 // `client C FROM HEX`, `server S FROM HEX`, after the verb. Refused as BadText, then as OutOfMemory.
@@ -46,7 +47,12 @@ fn bytes_in(alloc: Global, word: &[u8]) -> Result<Vec<u8>, Refusal>
 {
     match hex::decode(alloc, word) {
         Ok(bytes) => Ok(bytes),
-        Err(_) => Err(Refusal::BadText),
+        Err(why) => match why {
+            FromHexError::OutOfMemory => Err(Refusal::OutOfMemory),
+            FromHexError::InvalidHexCharacter { .. } => Err(Refusal::BadText),
+            FromHexError::OddLength => Err(Refusal::BadText),
+            FromHexError::InvalidStringLength => Err(Refusal::BadText),
+        },
     }
 }
 

@@ -2,14 +2,13 @@
 #![tactic(auto)]
 
 mod clients;
-mod config;
 mod datagrams;
 mod events;
 mod posts;
 mod script;
+mod servers;
 mod types;
 mod values;
 mod verb;
 
-pub use config::{ClientLine, ServerLine};
 pub use script::{Script, read_script};

@@ -8,19 +8,19 @@ ghost use Rattle.ca_world_script.specs.Events.{SaysAdd, SaysPost};
 ghost use Rattle.ca_world_script.specs.Types.{HasType, IsRecorded};
 ghost use Rattle.ca_world_script.specs.Written.{record_of};
 
-use crate::config::ServerLine;
 use crate::types::Types;
 use crate::values::mask_of;
 use ca_dbr::{BaseType, Value};
 use ca_events::Event;
 use ca_script::{Words, base_in, read_value, slow_in};
 use ca_text::Refusal;
+use ca_world_data::settings::ServerSetting;
 use std::alloc::Global;
 
 // `S RECORD MASK V..`, after the verb. Refused as BadText, then as OutOfMemory.
 pub(crate) fn read_post(
     alloc: Global,
-    servers: &[ServerLine],
+    servers: &[ServerSetting],
     types: &Types,
     mut words: Words<'_>,
 ) -> Result<Event, Refusal>
@@ -45,7 +45,7 @@ pub(crate) fn read_post(
 // The type of a record by the lines above. Refused as BadText, then as OutOfMemory.
 fn type_of(
     alloc: Global,
-    servers: &[ServerLine],
+    servers: &[ServerSetting],
     types: &Types,
     server: u64,
     name: &[u8],
@@ -66,7 +66,7 @@ fn type_of(
 }
 
 // The type of a record by the lines of its server.
-fn recorded(servers: &[ServerLine], server: u64, name: &[u8]) -> Option<BaseType>
+fn recorded(servers: &[ServerSetting], server: u64, name: &[u8]) -> Option<BaseType>
     ensures found { MatchOption result ((b : BaseType) → IsRecorded servers.now server name.now b → ⊥)
         (IsRecorded servers.now server name.now) }
     ensures only { IfSome result (λ b.
@@ -78,8 +78,8 @@ fn recorded(servers: &[ServerLine], server: u64, name: &[u8]) -> Option<BaseType
     let Some(line) = servers.get(place) else {
         return None;
     };
-    match line.file.records.find(name) {
-        Some(at) => Some(line.file.records.at(at).value().base_type()),
+    match line.records.find(name) {
+        Some(at) => Some(line.records.at(at).value().base_type()),
         None => None,
     }
 }

@@ -3,17 +3,18 @@ ghost use Rattle.ca_script.specs.Grammar.{Refuses, parted};
 ghost use Rattle.ca_world_script.specs.Scripts.{Adds, AddsAdd, AddsClient, AddsServer, AddsTo, RefusesScript, SaysScript, reading};
 ghost use Rattle.ca_world_script.specs.Types.{Added};
 
-use crate::clients::{has_address, read_client};
-use crate::config::{ClientLine, ServerLine};
+use crate::clients::read_client;
 use crate::events::read_event;
 use crate::posts::{Addition, read_addition, read_post};
+use crate::servers::with_line;
 use crate::types::Types;
 use crate::verb::Verb;
-use ca_client_tables::Address;
+use ca_client_core::Address;
 use ca_events::Event;
 use ca_records::Records;
-use ca_script::{RecordFile, Words, cut, is_word, read_server};
+use ca_script::{Words, cut, is_word, read_server};
 use ca_text::Refusal;
+use ca_world_data::settings::{ClientSetting, ServerSetting, has_address};
 use std::alloc::Global;
 
 const LINE_FEED: u8 = b'\n';
@@ -21,8 +22,8 @@ const LINE_FEED: u8 = b'\n';
 /// A world, and what is to happen to it.
 #[derive(Drop)]
 pub struct Script {
-    pub clients: Vec<ClientLine>,
-    pub servers: Vec<ServerLine>,
+    pub clients: Vec<ClientSetting>,
+    pub servers: Vec<ServerSetting>,
     pub events: Vec<Event>,
 }
 
@@ -117,11 +118,8 @@ fn add_server(alloc: Global, words: Words<'_>, script: &mut Script) -> Result<()
     if has_address(&script.servers, address) {
         return Err(Refusal::BadText);
     }
-    let file = RecordFile {
-        records: Records::new(alloc),
-        rules: Vec::new(alloc),
-    };
-    script.servers.push(ServerLine { address, file })?;
+    let bare = ServerSetting::new(address, Vec::new(alloc), Records::new(alloc));
+    script.servers.push(bare)?;
     Ok(())
 }
 
@@ -135,10 +133,12 @@ fn add_to(alloc: Global, line: &[u8], script: &mut Script) -> Result<(), Refusal
     if !script.events.is_empty() {
         return Err(Refusal::BadText);
     }
-    match script.servers.last_mut() {
-        None => Err(Refusal::BadText),
-        Some(server) => ca_script::read_line(alloc, line, &mut server.file),
-    }
+    let Some(server) = script.servers.pop() else {
+        return Err(Refusal::BadText);
+    };
+    let server = with_line(alloc, line, server)?;
+    script.servers.push(server)?;
+    Ok(())
 }
 
 // The addition of a record names its type.

@@ -2,7 +2,6 @@ ghost use Rattle.std.specs.Prelude.{◌≡◌, MatchOption, OnOk};
 ghost use Rattle.ca_dbr.specs.declared.data_type.BaseType.{BaseType};
 ghost use Rattle.ca_world_script.specs.Types.{Adds, HasType, none_added};
 
-use crate::config::ServerLine;
 use ca_dbr::BaseType;
 use indexmap::IndexMap;
 use std::alloc::{AllocError, Global};

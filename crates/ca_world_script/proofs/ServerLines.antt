@@ -1,0 +1,82 @@
+-- What lines of servers add, and what refuses them.
+use Rattle.std.proofs.Common.{◌≡◌, ◌<◌, ℕ, List, [], ◌∷◌, ◌++◌, length, refl, sym, ap, ◌∙◌, subst, arith, inl, inr}
+use Rattle.std.specs.Prelude.{Result, IfErr, IfOk, codes, map}
+use Rattle.std.proofs.lemmas.List.{map-append}
+use Rattle.ca_text.specs.declared.refusal.Refusal.{Refusal}
+use Rattle.ca_text.specs.declared.refusal.Refusal.TheVariants.{BadText}
+use Rattle.ca_model_world.specs.World.{ServerSetting}
+use Rattle.ca_records.specs.Record.{RecordState}
+use Rattle.ca_records.specs.Rules.{Rule}
+use Rattle.ca_script.specs.Grammar.{Refuses}
+use Rattle.ca_script.specs.Lines.{SaysRecord, SaysRule}
+use Rattle.ca_script.proofs.Alike.{apart, behind-same}
+use Rattle.ca_script.proofs.Refusals.{NoWord, refuses-whole, says-none}
+use Rattle.ca_world_script.specs.Scripts.{AddsTo, Reading}
+use Rattle.ca_world_script.specs.Servers.{TakesLine, TakesRecord, TakesRule}
+
+-- ---- the first word tells the kind
+
+pub of-record : (a m : ServerSetting) (rest words : List (List ℕ)) → words ≡ codes "record" ∷ rest → TakesLine a words m → TakesRecord a words m
+of-record a m rest words e (inl h) = h
+of-record a m rest words e (inr h) = absurd (apart (codes "record") (codes "rule") rest h.behind words (λ x. omega (arith, x)) e h.are)
+
+pub of-rule : (a m : ServerSetting) (rest words : List (List ℕ)) → words ≡ codes "rule" ∷ rest → TakesLine a words m → TakesRule a words m
+of-rule a m rest words e (inl h) = absurd (apart (codes "rule") (codes "record") rest h.behind words (λ x. omega (arith, x)) e h.are)
+of-rule a m rest words e (inr h) = h
+
+no-line : (old : ServerSetting) (words : List (List ℕ)) (new : ServerSetting) → NoWord words → TakesLine old words new → ⊥
+no-line old words new nay (inl h) = nay (codes "record") h.behind h.are (omega arith)
+no-line old words new nay (inr h) = nay (codes "rule") h.behind h.are (omega arith)
+
+-- a line whose first word is none, or is empty
+pub line-unread : (old : ServerSetting) (words : List (List ℕ)) (e : Refusal) → (e ≡ BadText) × NoWord words → Refuses (TakesLine old words) e
+line-unread old words e nay =
+    says-none (TakesLine old words) e nay.0 (λ (new : ServerSetting) (h : TakesLine old words new). no-line old words new nay.1 h)
+
+-- ---- records and rules
+
+pub record-unread : (old : ServerSetting) (words : List (List ℕ)) (e : Refusal) → Refuses (SaysRecord words old.records) e → Refuses (TakesRecord old (codes "record" ∷ words)) e
+record-unread old words e nay =
+    refuses-whole (SaysRecord words old.records) (TakesRecord old (codes "record" ∷ words)) e
+    (λ (new : ServerSetting) (h : TakesRecord old (codes "record" ∷ words) new).
+    let same : h.behind ≡ words = behind-same (codes "record") (codes "record") h.behind words (codes "record" ∷ words) h.are refl in
+    (h.records, subst (λ (ws : List (List ℕ)). SaysRecord ws old.records h.records) same h.says))
+    nay
+
+pub rule-unread : (old : ServerSetting) (words : List (List ℕ)) (e : Refusal) → Refuses (SaysRule words) e → Refuses (TakesRule old (codes "rule" ∷ words)) e
+rule-unread old words e nay =
+    refuses-whole (SaysRule words) (TakesRule old (codes "rule" ∷ words)) e
+    (λ (new : ServerSetting) (h : TakesRule old (codes "rule" ∷ words) new).
+    let same : h.behind ≡ words = behind-same (codes "rule") (codes "rule") h.behind words (codes "rule" ∷ words) h.are refl in
+    (h.rule, subst (λ (ws : List (List ℕ)). SaysRule ws h.rule) same h.says))
+    nay
+
+-- ---- the last server
+
+ending : {A : Type 0} → A → List A → A
+ending d [] = d
+ending d (x ∷ xs) = ending x xs
+
+ending-is : {A : Type 0} (d : A) (xs : List A) (x : A) → ending d (xs ++ x ∷ []) ≡ x
+ending-is d [] x = refl
+ending-is d (y ∷ xs) x = ending-is y xs x
+
+last-one : {A : Type 0} (xs ys : List A) (x y : A) → xs ++ x ∷ [] ≡ ys ++ y ∷ [] → x ≡ y
+last-one {A} xs ys x y e = sym (ending-is x xs x) ∙ ap (λ (zs : List A). ending x zs) e ∙ ending-is x ys y
+
+-- a line that the last server does not take
+pub line-refused : (old : Reading) (words : List (List ℕ)) (others : List ServerSetting) (server : ServerSetting) (e : Refusal) → old.servers ≡ others ++ server ∷ [] → Refuses (TakesLine server words) e → Refuses (AddsTo old words) e
+line-refused old words others server e last nay =
+    refuses-whole (TakesLine server words) (AddsTo old words) e
+    (λ (new : Reading) (h : AddsTo old words new).
+    let mine : h.server ≡ server = last-one h.others others h.server server (sym h.last ∙ last) in
+    (h.next, subst (λ (s : ServerSetting). TakesLine s words h.next) mine h.takes))
+    nay
+
+-- where there is no server
+pub line-alone : (old : Reading) (words : List (List ℕ)) (new : Reading) → old.servers ≡ [] → AddsTo old words new → ⊥
+line-alone old words new none h = nothing-last h.others h.server (sym none ∙ h.last)
+  where
+    nothing-last : (xs : List ServerSetting) (x : ServerSetting) → [] ≡ xs ++ x ∷ [] → ⊥
+    nothing-last [] x e = absurd cc
+    nothing-last (y ∷ ys) x e = absurd cc
