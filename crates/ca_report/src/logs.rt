@@ -92,7 +92,8 @@ fn put_noticed(intent: Intent, outcome: &Outcome, text: &mut Vec<u8>) -> Result<
             Ask::Request(kind, number) => match kind {
                 Kind::Write => {
                     put_count(b" write_refused ", channel as u64, text)?;
-                    put_status(outcome, text)
+                    put_status(outcome, text)?;
+                    Ok(())
                 }
                 Kind::Read => {
                     put_count(b" completed ", number as u64, text)?;

@@ -1,6 +1,6 @@
 -- What refuses the line of a client.
-use Rattle.std.proofs.Common.{◌≡◌, ◌<◌, ◌≤◌, ℕ, List, [], ◌∷◌, length, sym, ap, subst, arith}
-use Rattle.std.specs.Prelude.{Err}
+use Rattle.std.proofs.Common.{◌≡◌, ◌<◌, ◌≤◌, ℕ, List, [], ◌∷◌, length, sym, ap, ◌∙◌, subst, arith}
+use Rattle.std.specs.Prelude.{Ok, Err}
 use Rattle.ca_text.specs.Limits.{arena_slots}
 use Rattle.ca_text.specs.declared.refusal.Refusal.{Refusal}
 use Rattle.ca_text.specs.declared.refusal.Refusal.TheVariants as refusal
@@ -47,3 +47,17 @@ pub client-unfit : (words a names : List (List ℕ)) (user host u v : List ℕ) 
 client-unfit words a names user host u v items e first second said of_user of_host nay =
     unfit words a names user host items e first second said
     (subst (λ (p : Peer). MakesClient (record { peer = p; name_servers = items }) (Err e)) (λ i. record { user = of_user i; host = of_host i }) nay)
+
+-- the words that were read are this client
+pub client-said : (words a names : List (List ℕ)) (user host u v : List ℕ) (items : List Address) (made : ClientSetting) → (words ≡ user ∷ a) × (0 < length user) → (a ≡ host ∷ names) × (0 < length host) → AreEach IsAddress names items → u ≡ user → v ≡ host → MakesClient (record { peer = record { user = u; host = v }; name_servers = items }) (Ok made) → SaysClient words made
+client-said words a names user host u v items made first second said of_user of_host does =
+    let given : ClientSetting = record { peer = record { user = u; host = v }; name_servers = items } in
+    let here : SaysClient words given = record {
+      names = names;
+      are = first.0 ∙ ap (λ (ws : List (List ℕ)). user ∷ ws) second.0 ∙ (λ i. sym of_user i ∷ sym of_host i ∷ names);
+      some = (subst (λ (w : List ℕ). 0 < length w) (sym of_user) first.1, subst (λ (w : List ℕ). 0 < length w) (sym of_host) second.1);
+      fits = does.0.0;
+      addresses = said;
+      few = does.0.1;
+    } in
+    subst (λ (c : ClientSetting). SaysClient words c) (sym does.1) here

@@ -25,14 +25,14 @@ parts-done text left above r split none h =
 
 -- the next line says nothing
 pub script-refused : (text left line : List ℕ) (above below : List (List ℕ)) (r : Reading) (e : Refusal) → lines_of text ≡ above ++ lines_of left → lines_of left ≡ line ∷ below → AddsAll nothing above r → Refuses (Adds r (parted 32 line)) e → RefusesScript text e
-script-refused text left line above below r BadText split next h no = record {
+script-refused text left line above below r BadText split next h nay = record {
   above = above;
   line = line;
   below = below;
   r = r;
   are = split ∙ ap (λ (ls : List (List ℕ)). above ++ ls) next;
   reads = h;
-  none = no;
+  none = nay;
 }
-script-refused text left line above below r OutOfMemory split next h no = tt
-script-refused text left line above below r _ split next h no = absurd no
+script-refused text left line above below r OutOfMemory split next h nay = tt
+script-refused text left line above below r _ split next h nay = absurd nay

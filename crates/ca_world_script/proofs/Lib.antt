@@ -5,3 +5,5 @@ pub mod ServerLines
 pub mod ValueRefusals
 pub mod LineKinds
 pub mod ClientRefusals
+pub mod EventRefusals
+pub mod Eaches

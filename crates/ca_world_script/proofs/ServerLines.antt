@@ -53,7 +53,7 @@ rule-unread old words e nay =
 
 -- ---- the last server
 
-ending : {A : Type 0} → A → List A → A
+abbrev ending : {A : Type 0} → A → List A → A
 ending d [] = d
 ending d (x ∷ xs) = ending x xs
 

@@ -10,9 +10,8 @@ use Rattle.ca_records.specs.Record.{RecordState}
 use Rattle.ca_script.specs.Grammar.{IsNumber, Refuses}
 use Rattle.ca_script.specs.Lines.{AreElements, slow_word, type_word}
 use Rattle.ca_script.proofs.Refusals.{refuses-whole}
-use Rattle.ca_world_script.specs.Events.{IsMask, SaysAdd, SaysPost}
+use Rattle.ca_world_script.specs.Events.{IsMask, SaysAdd, SaysPost, SaysWritten}
 use Rattle.ca_world_script.specs.Types.{Added, HasType}
-use Rattle.ca_world_script.specs.Written.{SaysWritten}
 use Rattle.ca_model_world.specs.World.{ServerSetting}
 use Rattle.ca_world_script.proofs.Same.{one-number}
 
@@ -55,7 +54,7 @@ written-unread words a b c client channel n t e first second third is nay =
     refuses-whole (λ (v : Elements). (base_of v ≡ t) × AreElements c v) (SaysWritten words) e
     (λ (r : ℕ × ℕ × Elements) (h : SaysWritten words r).
     let parts = written-parts words a b c client channel n first second third r h in
-    (r.2, same-number (base_of r.2) t (parts.0 ∙ sym is), parts.1))
+    (r.2, (same-number (base_of r.2) t (parts.0 ∙ sym is), parts.1)))
     nay
 
 -- ---- posts
@@ -99,5 +98,5 @@ post-unread words a b c name server mask servers added t e first second third on
     refuses-whole (λ (v : Elements). (base_of v ≡ t) × AreElements c v) (SaysPost servers added words) e
     (λ (x : Event) (h : SaysPost servers added words x).
     let parts = post-parts words a b c name server mask servers added x first second third h in
-    (parts.value, only (base_of parts.value) parts.typed, parts.reads))
+    (parts.value, (only (base_of parts.value) parts.typed, parts.reads)))
     nay

@@ -1,5 +1,5 @@
 -- Vocabulary: the lines of events, after their first words.
-use Rattle.std.specs.Prelude.{ℕ, ◌≡◌, ◌<◌, Bool, true, false, if◌then◌else◌, List, [], ◌∷◌, length, codes}
+use Rattle.std.specs.Prelude.{ℕ, ⊥, ◌≡◌, ◌<◌, Bool, true, false, if◌then◌else◌, List, [], ◌∷◌, length, codes}
 use Rattle.ca_text.specs.Mask.{HasEvent}
 use Rattle.ca_dbr.specs.Elements.{Elements, base_of}
 use Rattle.ca_dbr.specs.Types.{base_number}
@@ -50,29 +50,6 @@ end_word false = codes "server"
 abbrev pub IsMask : ℕ → Type 0
 IsMask n = (n < 65536) × HasEvent n
 
--- one number
-pub record One (make : ℕ → Event) (words : List (List ℕ)) (e : Event) : Type 0 where
-  pub n : ℕ
-  pub are : AreNumbers words (n ∷ [])
-  pub is : e ≡ make n
-
--- two numbers
-pub record Two (make : (m n : ℕ) → Event) (words : List (List ℕ)) (e : Event) : Type 0 where
-  pub m : ℕ
-  pub n : ℕ
-  pub are : AreNumbers words (m ∷ n ∷ [])
-  pub is : e ≡ make m n
-
--- `finish S RECORD`, `remove S RECORD`: any word is a name here
-pub record Named (make : (server : ℕ) → (name : List ℕ) → Event) (words : List (List ℕ)) (e : Event) : Type 0 where
-  pub first : List ℕ
-  pub server : ℕ
-  pub name : List ℕ
-  pub are : words ≡ first ∷ name ∷ []
-  pub of : IsNumber first server
-  pub some : 0 < length name
-  pub is : e ≡ make server name
-
 -- `open C NAME PRIORITY`
 pub record SaysOpen (words : List (List ℕ)) (e : Event) : Type 0 where
   pub first : List ℕ
@@ -86,15 +63,6 @@ pub record SaysOpen (words : List (List ℕ)) (e : Event) : Type 0 where
   pub level : IsNumber last priority
   pub is : e ≡ event.Open client name priority
 
--- `read C CH TYPE COUNT`
-pub record SaysRead (words : List (List ℕ)) (e : Event) : Type 0 where
-  pub client : ℕ
-  pub channel : ℕ
-  pub data_type : ℕ
-  pub count : ℕ
-  pub are : AreNumbers words (client ∷ channel ∷ data_type ∷ count ∷ [])
-  pub is : e ≡ event.Read client channel data_type count
-
 -- `subscribe C CH TYPE COUNT MASK`
 pub record SaysSubscribe (words : List (List ℕ)) (e : Event) : Type 0 where
   pub client : ℕ
@@ -106,20 +74,23 @@ pub record SaysSubscribe (words : List (List ℕ)) (e : Event) : Type 0 where
   pub selects : IsMask mask
   pub is : e ≡ event.Subscribe client channel data_type count mask
 
--- `write C CH TYPE V..`, `write_notify C CH TYPE V..`: the values are of the type of this number
-pub record SaysWrite (make : (client channel : ℕ) → Elements → Event) (words : List (List ℕ)) (e : Event) : Type 0 where
+-- `finish S RECORD`, `remove S RECORD`: a server's number and a name, which may be any word
+pub record SaysNamed (words : List (List ℕ)) (r : ℕ × List ℕ) : Type 0 where
+  pub first : List ℕ
+  pub are : words ≡ first ∷ r.1 ∷ []
+  pub of : IsNumber first r.0
+  pub some : 0 < length r.1
+
+-- `write C CH TYPE V..`, `write_notify C CH TYPE V..`: the numbers of a client and a channel, and values of the type of this number
+pub record SaysWritten (words : List (List ℕ)) (r : ℕ × ℕ × Elements) : Type 0 where
   pub first : List ℕ
   pub second : List ℕ
   pub third : List ℕ
   pub values : List (List ℕ)
-  pub client : ℕ
-  pub channel : ℕ
-  pub value : Elements
   pub are : words ≡ first ∷ second ∷ third ∷ values
-  pub of : IsNumber first client × IsNumber second channel
-  pub kind : IsNumber third (base_number (base_of value))
-  pub reads : AreElements values value
-  pub is : e ≡ make client channel value
+  pub of : IsNumber first r.0 × IsNumber second r.1
+  pub kind : IsNumber third (base_number (base_of r.2))
+  pub reads : AreElements values r.2
 
 -- `dgram client C FROM HEX`, `dgram server S FROM HEX`
 pub record SaysDatagram (words : List (List ℕ)) (e : Event) : Type 0 where
@@ -148,28 +119,29 @@ pub record SaysCut (words : List (List ℕ)) (e : Event) : Type 0 where
 
 -- these words after this verb say this event
 abbrev pub Says : Verb → List (List ℕ) → Event → Type 0
-Says verb.Open = SaysOpen
-Says verb.Clear = Two event.Clear
-Says verb.Read = SaysRead
-Says verb.Write = SaysWrite event.Write
-Says verb.WriteNotify = SaysWrite event.WriteNotify
-Says verb.Subscribe = SaysSubscribe
-Says verb.Unsubscribe = Two event.Unsubscribe
-Says verb.Collect = Two event.Collect
-Says verb.GiveUp = Two event.GiveUp
-Says verb.Datagram = SaysDatagram
-Says verb.Accept = One event.Accept
-Says verb.Up = Two event.Up
-Says verb.Down = Two event.Down
-Says verb.ServerStep = One event.ServerStep
-Says verb.ClientStep = One event.ClientStep
-Says verb.Pump = One event.Pump
-Says verb.Cut = SaysCut
-Says verb.ClientRestart = One event.ClientRestart
-Says verb.ServerRestart = One event.ServerRestart
-Says verb.Finish = Named event.Finish
-Says verb.Remove = Named event.Remove
-Says verb.Tick = One event.Tick
+Says verb.Open words e = SaysOpen words e
+Says verb.Clear words (event.Clear client channel) = AreNumbers words (client ∷ channel ∷ [])
+Says verb.Read words (event.Read client channel data_type count) = AreNumbers words (client ∷ channel ∷ data_type ∷ count ∷ [])
+Says verb.Write words (event.Write client channel value) = SaysWritten words (client, channel, value)
+Says verb.WriteNotify words (event.WriteNotify client channel value) = SaysWritten words (client, channel, value)
+Says verb.Subscribe words e = SaysSubscribe words e
+Says verb.Unsubscribe words (event.Unsubscribe client subscription) = AreNumbers words (client ∷ subscription ∷ [])
+Says verb.Collect words (event.Collect client request) = AreNumbers words (client ∷ request ∷ [])
+Says verb.GiveUp words (event.GiveUp client request) = AreNumbers words (client ∷ request ∷ [])
+Says verb.Datagram words e = SaysDatagram words e
+Says verb.Accept words (event.Accept client) = AreNumbers words (client ∷ [])
+Says verb.Up words (event.Up circuit n) = AreNumbers words (circuit ∷ n ∷ [])
+Says verb.Down words (event.Down circuit n) = AreNumbers words (circuit ∷ n ∷ [])
+Says verb.ServerStep words (event.ServerStep circuit) = AreNumbers words (circuit ∷ [])
+Says verb.ClientStep words (event.ClientStep circuit) = AreNumbers words (circuit ∷ [])
+Says verb.Pump words (event.Pump circuit) = AreNumbers words (circuit ∷ [])
+Says verb.Cut words e = SaysCut words e
+Says verb.ClientRestart words (event.ClientRestart client) = AreNumbers words (client ∷ [])
+Says verb.ServerRestart words (event.ServerRestart server) = AreNumbers words (server ∷ [])
+Says verb.Finish words (event.Finish server name) = SaysNamed words (server, name)
+Says verb.Remove words (event.Remove server name) = SaysNamed words (server, name)
+Says verb.Tick words (event.Tick moment) = AreNumbers words (moment ∷ [])
+Says _ words _ = ⊥
 
 -- `post S RECORD MASK V..`: the values are of the type that the last line above gives the record
 pub record SaysPost (servers : List ServerSetting) (added : Added) (words : List (List ℕ)) (e : Event) : Type 0 where

@@ -4,8 +4,7 @@ ghost use Rattle.ca_dbr.specs.Elements.{Elements, elements};
 ghost use Rattle.ca_events.specs.Events.{event_of};
 ghost use Rattle.ca_model_world.specs.Events as event;
 ghost use Rattle.ca_script.specs.Grammar.{Refuses};
-ghost use Rattle.ca_world_script.specs.Events.{Named, Says, SaysOpen, SaysRead, SaysSubscribe, SaysWrite};
-ghost use Rattle.ca_world_script.specs.Written.{SaysNamed, SaysWritten};
+ghost use Rattle.ca_world_script.specs.Events.{Says, SaysNamed, SaysOpen, SaysSubscribe, SaysWritten};
 
 use crate::datagrams::{read_cut, read_datagram};
 use crate::values::{base_at, mask_of};

@@ -5,6 +5,7 @@ ghost use Rattle.ca_events.specs.Events.{event_of};
 ghost use Rattle.ca_records.specs.Record.{RecordState};
 ghost use Rattle.ca_script.specs.Grammar.{Refuses};
 ghost use Rattle.ca_world_script.specs.Events.{SaysAdd, SaysPost};
+ghost use Rattle.ca_world_script.specs.Index.{added_of};
 ghost use Rattle.ca_world_script.specs.Types.{HasType, IsRecorded};
 ghost use Rattle.ca_world_script.specs.Written.{record_of};
 
@@ -24,8 +25,8 @@ pub(crate) fn read_post(
     types: &Types,
     mut words: Words<'_>,
 ) -> Result<Event, Refusal>
-    ensures ok { IfOk result (λ e. SaysPost servers.now types.now words.entry (event_of e)) }
-    ensures err { IfErr result (λ e. Refuses (SaysPost servers.now types.now words.entry) e) }
+    ensures ok { IfOk result (λ e. SaysPost servers.now (added_of types.now) words.entry (event_of e)) }
+    ensures err { IfErr result (λ e. Refuses (SaysPost servers.now (added_of types.now) words.entry) e) }
 {
     let server = words.number()?;
     let name = words.word()?;
@@ -50,10 +51,10 @@ fn type_of(
     server: u64,
     name: &[u8],
 ) -> Result<BaseType, Refusal>
-    ensures ok { IfOk result (HasType servers.now types.now server name.now) }
+    ensures ok { IfOk result (HasType servers.now (added_of types.now) server name.now) }
     ensures only { IfOk result (λ b.
-        (c : BaseType) → HasType servers.now types.now server name.now c → c ≡ b) }
-    ensures err { IfErr result (Refuses (HasType servers.now types.now server name.now)) }
+        (c : BaseType) → HasType servers.now (added_of types.now) server name.now c → c ≡ b) }
+    ensures err { IfErr result (Refuses (HasType servers.now (added_of types.now) server name.now)) }
 {
     let key = Vec::from_slice(alloc, name)?;
     if let Some(base) = types.named(server, key) {

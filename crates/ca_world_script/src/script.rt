@@ -1,5 +1,6 @@
 ghost use Rattle.std.specs.Prelude.{◌≢◌, ◌∷◌, List, ℕ, IfErr, IfOk, OnErr, OnOk, codes, length};
 ghost use Rattle.ca_script.specs.Grammar.{Refuses, parted};
+ghost use Rattle.ca_world_script.specs.Index.{added_of};
 ghost use Rattle.ca_world_script.specs.Scripts.{Adds, AddsAdd, AddsClient, AddsServer, AddsTo, RefusesScript, SaysScript, reading};
 ghost use Rattle.ca_world_script.specs.Types.{Added};
 
@@ -56,10 +57,10 @@ fn read_line(
     script: &mut Script,
     types: &mut Types,
 ) -> Result<(), Refusal>
-    ensures ok { OnOk result (Adds (reading script.old types.old) (parted 32 line.now)
-        (reading script.new types.new)) }
+    ensures ok { OnOk result (Adds (reading script.old (added_of types.old)) (parted 32 line.now)
+        (reading script.new (added_of types.new))) }
     ensures err { IfErr result (λ e.
-        Refuses (Adds (reading script.old types.old) (parted 32 line.now)) e) }
+        Refuses (Adds (reading script.old (added_of types.old)) (parted 32 line.now)) e) }
 {
     let mut words = Words::new(line);
     let first = words.word()?;
@@ -148,10 +149,10 @@ fn add_addition(
     script: &mut Script,
     types: &mut Types,
 ) -> Result<(), Refusal>
-    ensures ok { OnOk result (AddsAdd (reading script.old types.old) (codes "add" ∷ words.entry)
-        (reading script.new types.new)) }
+    ensures ok { OnOk result (AddsAdd (reading script.old (added_of types.old)) (codes "add" ∷ words.entry)
+        (reading script.new (added_of types.new))) }
     ensures err { IfErr result (λ e.
-        Refuses (AddsAdd (reading script.old types.old) (codes "add" ∷ words.entry)) e) }
+        Refuses (AddsAdd (reading script.old (added_of types.old)) (codes "add" ∷ words.entry)) e) }
 {
     let addition = read_addition(alloc, words)?;
     let key = Vec::from_slice(alloc, &addition.name)?;

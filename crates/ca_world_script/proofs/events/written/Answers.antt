@@ -2,7 +2,8 @@ use Rattle.ca_text.specs.declared.refusal.Refusal.{Refusal}
 use Rattle.ca_script.specs.Grammar.{Refuses}
 use Rattle.ca_script.proofs.Refusals.{says-none}
 use Rattle.ca_script.proofs.Sayings.{handed-on}
-use Rattle.ca_world_script.specs.Written.{SaysWritten}
+use Rattle.ca_world_script.specs.Events.{SaysWritten}
+use Rattle.ca_world_script.proofs.EventRefusals.{written-unnumbered}
 use Rattle.ca_world_script.proofs.ValueRefusals.{written-unread, written-untyped}
 use Rattle.ca_world_script.proofs.events.written.Goals as goal
 
@@ -17,3 +18,8 @@ pub returns-in_err-value-clause-err : goal.returns-in_err-value-clause-err
 returns-in_err-value-clause-err c =
     handed-on c.from_residual-in_err-value.result c.in_err-value.field-0.0 (λ (e : Refusal). Refuses (SaysWritten c.args.words) e) c.from_residual-in_err-value.ensures.1
     (written-unread c.args.words _ _ _ _ _ _ c.in_ok-base.base c.in_err-value.field-0.0 c.in_ok-client.ensures.ok c.in_ok-channel.ensures.ok c.in_ok-number.ensures.ok c.in_ok-base.ensures.ok c.in_err-value.ensures.err)
+
+pub returns-in_err-number-clause-err : goal.returns-in_err-number-clause-err
+returns-in_err-number-clause-err c =
+    handed-on c.from_residual-in_err-number.result c.in_err-number.field-0.0 (λ (e : Refusal). Refuses (SaysWritten c.args.words) e) c.from_residual-in_err-number.ensures.1
+    (written-unnumbered c.args.words _ _ _ _ _ c.in_ok-client.ensures.ok.1 c.in_ok-channel.ensures.ok.1 c.in_err-number.ensures.err)

@@ -6,6 +6,5 @@ use Rattle.ca_world_script.proofs.types.Types.name.Goals as goal
 
 pub returns : goal.returns
 returns c =
-    subst (λ (old : Added). Adds c.args.server c.args.name.items c.args.base old (added_in (λ k. (k.0, k.1.items)) c.insert.new.self.entries)) c.self.view_is
-    (subst (λ es. Adds c.args.server c.args.name.items c.args.base (added_in (λ k. (k.0, k.1.items)) c.self.inside.named.entries) (added_in (λ k. (k.0, k.1.items)) es)) (sym c.in_ok-insert.ensures.entries)
-    (named-one (λ k. (k.0, k.1.items)) c.self.inside.named.entries (c.args.server, c.args.name) c.args.base))
+    subst (λ es. Adds c.args.server c.args.name.items c.args.base (added_in (λ k. (k.0, k.1.items)) c.args.self.now.named.entries) (added_in (λ k. (k.0, k.1.items)) es)) (sym c.in_ok-insert.ensures.entries)
+    (named-one (λ k. (k.0, k.1.items)) c.args.self.now.named.entries (c.args.server, c.args.name) c.args.base)
