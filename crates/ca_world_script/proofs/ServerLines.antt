@@ -1,5 +1,5 @@
 -- What lines of servers add, and what refuses them.
-use Rattle.std.proofs.Common.{◌≡◌, ◌<◌, ℕ, List, [], ◌∷◌, ◌++◌, length, refl, sym, ap, ◌∙◌, subst, arith, inl, inr}
+use Rattle.std.proofs.Common.{◌≡◌, ◌<◌, ℕ, Bool, true, false, List, [], ◌∷◌, ◌++◌, length, refl, sym, ap, ◌∙◌, subst, arith, inl, inr}
 use Rattle.std.specs.Prelude.{Result, IfErr, IfOk, codes, map}
 use Rattle.std.proofs.lemmas.List.{map-append}
 use Rattle.ca_text.specs.declared.refusal.Refusal.{Refusal}
@@ -11,7 +11,13 @@ use Rattle.ca_script.specs.Grammar.{Refuses}
 use Rattle.ca_script.specs.Lines.{SaysRecord, SaysRule}
 use Rattle.ca_script.proofs.Alike.{apart, behind-same}
 use Rattle.ca_script.proofs.Refusals.{NoWord, refuses-whole, says-none}
-use Rattle.ca_world_script.specs.Scripts.{AddsTo, Reading}
+use Rattle.ca_model.specs.Ends.{Address}
+use Rattle.ca_script.specs.Lines.{SaysServer}
+use Rattle.ca_world_data.specs.Settings.{is_taken}
+use Rattle.ca_world_script.proofs.Same.{same-server}
+use Rattle.ca_world_script.specs.Scripts.{AddsClient, AddsServer, AddsTo, Reading}
+use Rattle.ca_world_script.specs.Lines.{SaysClient}
+use Rattle.ca_model_world.specs.World.{ClientSetting}
 use Rattle.ca_world_script.specs.Servers.{TakesLine, TakesRecord, TakesRule}
 
 -- ---- the first word tells the kind
@@ -80,3 +86,33 @@ line-alone old words new none h = nothing-last h.others h.server (sym none ∙ h
     nothing-last : (xs : List ServerSetting) (x : ServerSetting) → [] ≡ xs ++ x ∷ [] → ⊥
     nothing-last [] x e = absurd cc
     nothing-last (y ∷ ys) x e = absurd cc
+
+-- ---- clients and servers
+
+pub client-refused : (old : Reading) (words : List (List ℕ)) (e : Refusal) → Refuses (SaysClient words) e → Refuses (AddsClient old (codes "client" ∷ words)) e
+client-refused old words e nay =
+    refuses-whole (SaysClient words) (AddsClient old (codes "client" ∷ words)) e
+    (λ (new : Reading) (h : AddsClient old (codes "client" ∷ words) new).
+    let same : h.behind ≡ words = behind-same (codes "client") (codes "client") h.behind words (codes "client" ∷ words) h.are refl in
+    (h.client, subst (λ (ws : List (List ℕ)). SaysClient ws h.client) same h.says))
+    nay
+
+pub server-unread : (old : Reading) (words : List (List ℕ)) (e : Refusal) → (e ≡ BadText) × ((host port : ℕ) → SaysServer words host port → ⊥) → Refuses (AddsServer old (codes "server" ∷ words)) e
+server-unread old words e nay =
+    says-none (AddsServer old (codes "server" ∷ words)) e nay.0
+    (λ (new : Reading) (h : AddsServer old (codes "server" ∷ words) new).
+    let same : h.behind ≡ words = behind-same (codes "server") (codes "server") h.behind words (codes "server" ∷ words) h.are refl in
+    nay.1 h.address.host h.address.port (subst (λ (ws : List (List ℕ)). SaysServer ws h.address.host h.address.port) same h.says))
+
+both-ways : (b : Bool) → b ≡ true → b ≡ false → ⊥
+both-ways true p q = absurd cc
+both-ways false p q = absurd cc
+
+-- another server has its address
+pub server-taken : (old : Reading) (words : List (List ℕ)) (a : Address) → SaysServer words a.host a.port → is_taken a old.servers ≡ true → (new : Reading) → AddsServer old (codes "server" ∷ words) new → ⊥
+server-taken old words a says taken new h =
+    let same : h.behind ≡ words = behind-same (codes "server") (codes "server") h.behind words (codes "server" ∷ words) h.are refl in
+    let mine = subst (λ (ws : List (List ℕ)). SaysServer ws h.address.host h.address.port) same h.says in
+    let parts = same-server words h.address.host h.address.port a.host a.port mine says in
+    let one : h.address ≡ a = (λ i. record { host = parts.0 i; port = parts.1 i }) in
+    both-ways (is_taken a old.servers) taken (subst (λ (b : Address). is_taken b old.servers ≡ false) one h.fresh)
