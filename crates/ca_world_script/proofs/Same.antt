@@ -22,7 +22,7 @@ one-number w v m n same a b =
     let there : IsNumber v m = subst (λ (x : List ℕ). IsNumber x m) same a in
     sym there.value ∙ b.value
 
-same-numbers : (ws : List (List ℕ)) (ms ns : List ℕ) → AreNumbers ws ms → AreNumbers ws ns → ms ≡ ns
+pub same-numbers : (ws : List (List ℕ)) (ms ns : List ℕ) → AreNumbers ws ms → AreNumbers ws ns → ms ≡ ns
 same-numbers [] [] [] a b = refl
 same-numbers [] [] (n ∷ ns) a b = absurd b
 same-numbers [] (m ∷ ms) ns a b = absurd a

@@ -1,5 +1,5 @@
 -- Vocabulary: the lines of events, after their first words.
-use Rattle.std.specs.Prelude.{ℕ, ⊥, ◌≡◌, ◌<◌, Bool, true, false, if◌then◌else◌, List, [], ◌∷◌, length, codes}
+use Rattle.std.specs.Prelude.{ℕ, ◌≡◌, ◌<◌, Bool, true, false, if◌then◌else◌, List, [], ◌∷◌, length, codes}
 use Rattle.ca_text.specs.Mask.{HasEvent}
 use Rattle.ca_dbr.specs.Elements.{Elements, base_of}
 use Rattle.ca_dbr.specs.Types.{base_number}
