@@ -1,5 +1,5 @@
 -- Words are one address, and a record has one type.
-use Rattle.std.proofs.Common.{◌≡◌, ℕ, ◌<◌, List, [], ◌∷◌, inl, inr, Option, Some, None, refl, sym, ap, ◌∙◌, subst}
+use Rattle.std.proofs.Common.{◌≡◌, ℕ, ◌<◌, ◌≤◌, arith, length, List, [], ◌∷◌, inl, inr, Option, Some, None, refl, sym, ap, ◌∙◌, subst}
 use Rattle.std.specs.Int.{from_be_bytes, w32}
 use Rattle.ca_dbr.specs.Elements.{base_of}
 use Rattle.ca_dbr.specs.declared.data_type.BaseType.{BaseType}
@@ -7,7 +7,7 @@ use Rattle.ca_model.specs.Ends.{Address}
 use Rattle.ca_records.specs.Records.{AreApart, IsServed, Names}
 use Rattle.ca_records.specs.Record.{RecordState}
 use Rattle.ca_text.specs.Place.{At}
-use Rattle.ca_text.proofs.Places.{At-one}
+use Rattle.ca_text.proofs.Places.{At-one, At-within}
 use Rattle.ca_script.specs.Events.{AreNumbers}
 use Rattle.ca_script.specs.Grammar.{IsNumber, parted}
 use Rattle.ca_script.specs.Lines as lines
@@ -91,3 +91,9 @@ none-recorded servers server name line records at same nay b y =
     let own : y.line ≡ line = At-one servers server y.line line y.at at in
     let mine : At records y.place y.is.state = subst (λ (rs : List RecordState). At rs y.place y.is.state) (ap (λ (l : ServerSetting). l.records) own ∙ same) y.is.at in
     nay (y.place, record { state = y.is.state; at = mine; named = y.is.named })
+
+-- there is no server of this number
+pub beyond-recorded : (servers : List ServerSetting) (server : ℕ) (name : List ℕ) → length servers ≤ server → (b : BaseType) → IsRecorded servers server name b → ⊥
+beyond-recorded servers server name far b y =
+    let within = At-within servers server y.line y.at in
+    absurd (omega (arith, far, within))

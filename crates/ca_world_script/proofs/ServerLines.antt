@@ -1,12 +1,10 @@
 -- What lines of servers add, and what refuses them.
 use Rattle.std.proofs.Common.{◌≡◌, ◌<◌, ℕ, Bool, true, false, List, [], ◌∷◌, ◌++◌, length, refl, sym, ap, ◌∙◌, subst, arith, inl, inr}
-use Rattle.std.specs.Prelude.{Result, IfErr, IfOk, codes, map}
-use Rattle.std.proofs.lemmas.List.{map-append}
+use Rattle.std.specs.Prelude.{Result, OnOk, codes}
 use Rattle.ca_text.specs.declared.refusal.Refusal.{Refusal}
 use Rattle.ca_text.specs.declared.refusal.Refusal.TheVariants.{BadText}
 use Rattle.ca_model_world.specs.World.{ServerSetting}
 use Rattle.ca_records.specs.Record.{RecordState}
-use Rattle.ca_records.specs.Rules.{Rule}
 use Rattle.ca_script.specs.Grammar.{Refuses}
 use Rattle.ca_script.specs.Lines.{SaysRecord, SaysRule}
 use Rattle.ca_script.proofs.Alike.{apart, behind-same}
@@ -15,7 +13,9 @@ use Rattle.ca_model.specs.Ends.{Address}
 use Rattle.ca_script.specs.Lines.{SaysServer}
 use Rattle.ca_world_data.specs.Settings.{is_taken}
 use Rattle.ca_world_script.proofs.Same.{same-server}
-use Rattle.ca_world_script.specs.Scripts.{AddsClient, AddsServer, AddsTo, Reading}
+use Rattle.ca_script.proofs.Heads.{ok-then}
+use Rattle.ca_world_script.specs.Events.{SaysAdd}
+use Rattle.ca_world_script.specs.Scripts.{Adds, AddsAdd, AddsClient, AddsServer, AddsTo, Reading}
 use Rattle.ca_world_script.specs.Lines.{SaysClient}
 use Rattle.ca_model_world.specs.World.{ClientSetting}
 use Rattle.ca_world_script.specs.Servers.{TakesLine, TakesRecord, TakesRule}
@@ -116,3 +116,26 @@ server-taken old words a says taken new h =
     let parts = same-server words h.address.host h.address.port a.host a.port mine says in
     let one : h.address ≡ a = (λ i. record { host = parts.0 i; port = parts.1 i }) in
     both-ways (is_taken a old.servers) taken (subst (λ (b : Address). is_taken b old.servers ≡ false) one h.fresh)
+
+pub addition-refused : (old : Reading) (words : List (List ℕ)) (e : Refusal) → Refuses (λ (p : ℕ × RecordState). SaysAdd words p.0 p.1) e → Refuses (AddsAdd old (codes "add" ∷ words)) e
+addition-refused old words e nay =
+    refuses-whole (λ (p : ℕ × RecordState). SaysAdd words p.0 p.1) (AddsAdd old (codes "add" ∷ words)) e
+    (λ (new : Reading) (h : AddsAdd old (codes "add" ∷ words) new).
+    let same : h.behind ≡ words = behind-same (codes "add") (codes "add") h.behind words (codes "add" ∷ words) h.are refl in
+    ((h.server, h.r), subst (λ (ws : List (List ℕ)). SaysAdd ws h.server h.r) same h.says))
+    nay
+
+-- a line of a kind that was taken
+pub kind-taken : {T : Type 0} (Kind : Reading → List (List ℕ) → Reading → Type 0) (word : List ℕ) → ((a m : Reading) (words : List (List ℕ)) → Kind a words m → Adds a words m) → (r : Result T Refusal) (old new : Reading) (words rest : List (List ℕ)) (first : List ℕ) → words ≡ first ∷ rest → first ≡ word → OnOk r (Kind old (word ∷ rest) new) → OnOk r (Adds old words new)
+kind-taken Kind word into r old new words rest first split is takes =
+    let are : word ∷ rest ≡ words = ap (λ (w : List ℕ). w ∷ rest) (sym is) ∙ sym split in
+    ok-then r (λ (h : Kind old (word ∷ rest) new). into old new words (subst (λ (ws : List (List ℕ)). Kind old ws new) are h)) takes
+
+pub as-client : (a m : Reading) (words : List (List ℕ)) → AddsClient a words m → Adds a words m
+as-client a m words h = inl h
+
+pub as-server : (a m : Reading) (words : List (List ℕ)) → AddsServer a words m → Adds a words m
+as-server a m words h = inr (inl h)
+
+pub to-taken : {T : Type 0} (r : Result T Refusal) (old new : Reading) (words : List (List ℕ)) → OnOk r (AddsTo old words new) → OnOk r (Adds old words new)
+to-taken r old new words takes = ok-then r (λ (h : AddsTo old words new). inr (inr (inl h))) takes

@@ -6,6 +6,7 @@ use Rattle.ca_dbr.specs.Types.{base_at, base_number}
 use Rattle.ca_dbr.specs.declared.data_type.BaseType.{BaseType}
 use Rattle.ca_dbr.specs.declared.data_type.BaseType.TheVariants as base
 use Rattle.ca_model_world.specs.Events.{Event}
+use Rattle.ca_model_world.specs.Events as event
 use Rattle.ca_records.specs.Record.{RecordState}
 use Rattle.ca_script.specs.Grammar.{IsNumber, Refuses}
 use Rattle.ca_script.specs.Lines.{AreElements, slow_word, type_word}
@@ -100,3 +101,23 @@ post-unread words a b c name server mask servers added t e first second third on
     let parts = post-parts words a b c name server mask servers added x first second third h in
     (parts.value, (only (base_of parts.value) parts.typed, parts.reads)))
     nay
+
+-- the words that were read are this post
+pub post-said : (words a b c : List (List ℕ)) (name items : List ℕ) (server mask bits : ℕ) (servers : List ServerSetting) (added : Added) (t : BaseType) (value : Elements) → Heads words a server → (a ≡ name ∷ b) × (0 < length name) → Heads b c mask → (bits ≡ mask) × IsMask mask → HasType servers added server name t → base_of value ≡ t → AreElements c value → items ≡ name → SaysPost servers added words (event.Post server items value bits)
+post-said words a b c name items server mask bits servers added t value first second third selects typed is reads same = record {
+  first = first.0;
+  name = name;
+  third = third.0;
+  values = c;
+  server = server;
+  mask = mask;
+  value = value;
+  are = first.1 ∙ ap (λ (ws : List (List ℕ)). first.0 ∷ ws) (second.0 ∙ ap (λ (ws : List (List ℕ)). name ∷ ws) third.1);
+  of = first.2;
+  some = second.1;
+  bits = third.2;
+  selects = selects.1;
+  typed = subst (λ (u : BaseType). HasType servers added server name u) (sym is) typed;
+  reads = reads;
+  is = (λ i. event.Post server (same i) value (selects.0 i));
+}

@@ -1,4 +1,5 @@
-ghost use Rattle.std.specs.Prelude.{◌≡◌, ℕ, List, IfErr, IfOk, IfSome, MatchOption};
+ghost use Rattle.std.specs.Prelude.{◌≡◌, ◌<◌, ℕ, List, IfErr, IfOk, IfSome, MatchOption, length};
+ghost use Rattle.ca_text.specs.Place.{At};
 ghost use Rattle.ca_text.specs.declared.refusal.Refusal.TheVariants.{BadText};
 ghost use Rattle.ca_dbr.specs.declared.data_type.BaseType.{BaseType};
 ghost use Rattle.ca_events.specs.Events.{event_of};
@@ -76,13 +77,22 @@ fn recorded(servers: &[ServerSetting], server: u64, name: &[u8]) -> Option<BaseT
     let Ok(place) = usize::try_from(server) else {
         return None;
     };
-    let Some(line) = servers.get(place) else {
+    if place >= servers.len() {
         return None;
-    };
+    }
+    let line = server_at(servers, place);
     match line.records.find(name) {
         Some(at) => Some(line.records.at(at).value().base_type()),
         None => None,
     }
+}
+
+// The server at this place.
+fn server_at(servers: &[ServerSetting], place: usize) -> &ServerSetting
+    requires { place < length servers.now }
+    ensures { At servers.now place result.now }
+{
+    &servers[place]
 }
 
 /// A record that is to be added to a server.

@@ -70,7 +70,10 @@ fn read_line(
     if is_word(first, "server") {
         return add_server(alloc, words, script);
     }
-    if is_word(first, "record") || is_word(first, "rule") {
+    if is_word(first, "record") {
+        return add_to(alloc, line, script);
+    }
+    if is_word(first, "rule") {
         return add_to(alloc, line, script);
     }
     if is_word(first, "post") {

@@ -7,8 +7,8 @@ use Rattle.ca_world_script.specs.Index.{added_of}
 use Rattle.ca_world_script.proofs.Lasts.{lead-more, parts-done, parts-on, script-refused}
 use Rattle.ca_world_script.proofs.script.read_script.Goals as goal
 
-pub loop-left-begins : goal.loop-left-begins
-loop-left-begins c = record { above = []; split = refl; leads = refl; some = λ h. h }
+pub loop-left-init : goal.loop-left-init
+loop-left-init c = record { above = []; split = refl; leads = refl; some = λ h. h }
 
 pub loop-left-preserved : goal.loop-left-preserved
 loop-left-preserved c =
