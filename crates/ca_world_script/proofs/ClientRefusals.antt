@@ -1,5 +1,5 @@
 -- What refuses the line of a client.
-use Rattle.std.proofs.Common.{◌≡◌, ◌<◌, ◌≤◌, ℕ, List, [], ◌∷◌, length, sym, ap, ◌∙◌, subst, arith}
+use Rattle.std.proofs.Common.{◌≡◌, ◌<◌, ◌≤◌, ℕ, List, ◌∷◌, length, sym, ap, ◌∙◌, subst, arith}
 use Rattle.std.specs.Prelude.{Ok, Err}
 use Rattle.ca_text.specs.Limits.{arena_slots}
 use Rattle.ca_text.specs.declared.refusal.Refusal.{Refusal}

@@ -1,11 +1,11 @@
 -- Lines in a row.
-use Rattle.std.proofs.Common.{◌≡◌, ◌<◌, ℕ, List, [], ◌∷◌, ◌++◌, length, refl, sym, ap, ◌∙◌, subst}
+use Rattle.std.proofs.Common.{◌≡◌, ℕ, List, [], ◌∷◌, ◌++◌, refl, sym, ap, ◌∙◌, subst}
 use Rattle.std.proofs.lemmas.List.{append-nil, append_assoc}
 use Rattle.ca_text.specs.declared.refusal.Refusal.{Refusal}
 use Rattle.ca_text.specs.declared.refusal.Refusal.TheVariants.{BadText, OutOfMemory}
 use Rattle.ca_script.specs.Grammar.{Lead, Refuses, parted}
 use Rattle.ca_script.specs.Scripts.{lines_of}
-use Rattle.ca_world_script.specs.Scripts.{Adds, AddsAll, IsNoScript, Reading, RefusesScript, nothing}
+use Rattle.ca_world_script.specs.Scripts.{Adds, AddsAll, Reading, RefusesScript, nothing}
 
 -- one line more
 pub lead-more : {S : Type 0} (Adds : S → List (List ℕ) → S → Type 0) (old mid new : S) (lines : List (List ℕ)) (line : List ℕ) → Lead Adds old lines mid → Adds mid (parted 32 line) new → Lead Adds old (lines ++ line ∷ []) new

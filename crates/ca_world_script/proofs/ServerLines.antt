@@ -1,5 +1,5 @@
 -- What lines of servers add, and what refuses them.
-use Rattle.std.proofs.Common.{◌≡◌, ◌<◌, ℕ, Bool, true, false, List, [], ◌∷◌, ◌++◌, length, refl, sym, ap, ◌∙◌, subst, arith, inl, inr}
+use Rattle.std.proofs.Common.{◌≡◌, ℕ, Bool, true, false, List, [], ◌∷◌, ◌++◌, refl, sym, ap, ◌∙◌, subst, arith, inl, inr}
 use Rattle.std.specs.Prelude.{Result, OnOk, codes}
 use Rattle.ca_text.specs.declared.refusal.Refusal.{Refusal}
 use Rattle.ca_text.specs.declared.refusal.Refusal.TheVariants.{BadText}
@@ -17,7 +17,6 @@ use Rattle.ca_script.proofs.Heads.{ok-then}
 use Rattle.ca_world_script.specs.Events.{SaysAdd}
 use Rattle.ca_world_script.specs.Scripts.{Adds, AddsAdd, AddsClient, AddsServer, AddsTo, Reading}
 use Rattle.ca_world_script.specs.Lines.{SaysClient}
-use Rattle.ca_model_world.specs.World.{ClientSetting}
 use Rattle.ca_world_script.specs.Servers.{TakesLine, TakesRecord, TakesRule}
 
 -- ---- the first word tells the kind

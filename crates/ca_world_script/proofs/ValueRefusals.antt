@@ -1,5 +1,5 @@
 -- What refuses a line that has values.
-use Rattle.std.proofs.Common.{◌≡◌, ◌<◌, ℕ, List, [], ◌∷◌, length, refl, sym, ap, ◌∙◌, subst}
+use Rattle.std.proofs.Common.{◌≡◌, ◌<◌, ℕ, List, ◌∷◌, length, refl, sym, ap, ◌∙◌, subst}
 use Rattle.ca_text.specs.declared.refusal.Refusal.{Refusal}
 use Rattle.ca_dbr.specs.Elements.{Elements, base_of}
 use Rattle.ca_dbr.specs.Types.{base_at, base_number}
@@ -7,11 +7,10 @@ use Rattle.ca_dbr.specs.declared.data_type.BaseType.{BaseType}
 use Rattle.ca_dbr.specs.declared.data_type.BaseType.TheVariants as base
 use Rattle.ca_model_world.specs.Events.{Event}
 use Rattle.ca_model_world.specs.Events as event
-use Rattle.ca_records.specs.Record.{RecordState}
 use Rattle.ca_script.specs.Grammar.{IsNumber, Refuses}
-use Rattle.ca_script.specs.Lines.{AreElements, slow_word, type_word}
+use Rattle.ca_script.specs.Lines.{AreElements}
 use Rattle.ca_script.proofs.Refusals.{refuses-whole}
-use Rattle.ca_world_script.specs.Events.{IsMask, SaysAdd, SaysPost, SaysWritten}
+use Rattle.ca_world_script.specs.Events.{IsMask, SaysPost, SaysWritten}
 use Rattle.ca_world_script.specs.Types.{Added, HasType}
 use Rattle.ca_model_world.specs.World.{ServerSetting}
 use Rattle.ca_world_script.proofs.Same.{one-number}

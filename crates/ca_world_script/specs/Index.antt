@@ -1,5 +1,5 @@
 -- Working: the types that `add` lines name, as a map has them.
-use Rattle.std.specs.Prelude.{ℕ, ◌==◌, ◌&&◌, List, Option}
+use Rattle.std.specs.Prelude.{ℕ, ◌==◌, ◌&&◌, List}
 use Rattle.std.specs.Map.{lookup}
 use Rattle.std.specs.Str.{bytes_eq}
 use Rattle.ca_dbr.specs.declared.data_type.BaseType.{BaseType}

@@ -30,7 +30,12 @@ impl Types {
     }
 
     // Names a type. Without memory it may be lost.
-    pub(crate) fn name(&mut self, server: u64, name: Vec<u8>, base: BaseType) -> Result<(), AllocError>
+    pub(crate) fn name(
+        &mut self,
+        server: u64,
+        name: Vec<u8>,
+        base: BaseType,
+    ) -> Result<(), AllocError>
         ensures { OnOk result (Adds server name.items base (added_of self.old) (added_of self.new)) }
     {
         self.named.insert((server, name), base)?;

@@ -1,5 +1,3 @@
-use Rattle.std.specs.Prelude.{Err, Ok}
-use Rattle.std.proofs.Common.{◌≡◌, sym, subst}
 use Rattle.ca_text.specs.declared.refusal.Refusal.{Refusal}
 use Rattle.ca_script.specs.Grammar.{Refuses}
 use Rattle.ca_script.proofs.Sayings.{handed-on}

@@ -1,6 +1,4 @@
-use Rattle.std.proofs.Common.{◌≡◌, ℕ, List, rules, subst}
-use Rattle.ca_model_world.specs.World.{ServerSetting}
-use Rattle.ca_records.specs.Record.{RecordState}
+use Rattle.std.proofs.Common.{◌≡◌, ℕ, rules, subst}
 use Rattle.ca_text.specs.Place.{At}
 use Rattle.ca_world_script.proofs.Same.{is-recorded, none-recorded, only-recorded}
 use Rattle.ca_world_script.proofs.posts.recorded.Goals as goal

@@ -1,7 +1,5 @@
 use Rattle.std.proofs.Common.{◌≡◌, None, rules}
-use Rattle.ca_dbr.specs.declared.data_type.BaseType.{BaseType}
 use Rattle.ca_world_script.specs.Index.{added_of}
-use Rattle.ca_world_script.specs.Types.{HasType}
 use Rattle.ca_world_script.proofs.Same.{type-recorded}
 use Rattle.ca_world_script.proofs.posts.type_of.Goals as goal
 

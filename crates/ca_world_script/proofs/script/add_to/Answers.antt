@@ -1,8 +1,7 @@
-use Rattle.std.proofs.Common.{◌≡◌, List, ◌∷◌, [], ◌++◌, rules}
+use Rattle.std.proofs.Common.{◌≡◌, ◌∷◌, [], ◌++◌, rules}
 use Rattle.ca_text.specs.declared.refusal.Refusal.{Refusal}
 use Rattle.ca_script.specs.Grammar.{Refuses, parted}
 use Rattle.ca_script.proofs.Sayings.{handed-on}
-use Rattle.ca_model_world.specs.World.{ServerSetting}
 use Rattle.ca_world_script.specs.Scripts.{AddsTo, reading}
 use Rattle.ca_world_script.proofs.ServerLines.{line-refused}
 use Rattle.ca_world_script.proofs.script.add_to.Goals as goal

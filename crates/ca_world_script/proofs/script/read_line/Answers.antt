@@ -8,7 +8,7 @@ use Rattle.ca_script.proofs.Leading.{kind-refused}
 use Rattle.ca_script.proofs.Sayings.{handed-on}
 use Rattle.ca_world_script.specs.Scripts.{Adds, AddsAdd, AddsClient, AddsServer, reading}
 use Rattle.ca_world_script.specs.Index.{added_of}
-use Rattle.ca_world_script.proofs.LineKinds.{event-refused, line-refused, of-add, of-client, of-server, one-verb, post-refused, to-refused}
+use Rattle.ca_world_script.proofs.LineKinds.{line-refused, of-add, of-client, of-server, post-refused, to-refused}
 use Rattle.ca_world_script.proofs.ServerLines.{as-client, as-server, kind-taken, to-taken}
 use Rattle.ca_world_script.proofs.script.read_line.Goals as goal
 

@@ -8,7 +8,13 @@ use Rattle.ca_world_script.proofs.Lasts.{lead-more, parts-done, parts-on, script
 use Rattle.ca_world_script.proofs.script.read_script.Goals as goal
 
 pub loop-left-init : goal.loop-left-init
-loop-left-init c = record { above = []; split = refl; leads = refl; some = λ h. h }
+loop-left-init c =
+    record {
+      above = [];
+      split = refl;
+      leads = λ i. record { clients = c.new.ensures.items i; servers = c.new-2.ensures.items i; events = c.new-3.ensures.items i; added = c.new-types.ensures i };
+      some = λ h. h;
+    }
 
 pub loop-left-preserved : goal.loop-left-preserved
 loop-left-preserved c =

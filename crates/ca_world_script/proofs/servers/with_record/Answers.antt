@@ -1,4 +1,4 @@
-use Rattle.std.proofs.Common.{◌≡◌, ℕ, List, ◌∷◌, ap, sym, subst}
+use Rattle.std.proofs.Common.{List, ◌∷◌, ap, subst}
 use Rattle.std.specs.Prelude.{codes}
 use Rattle.ca_text.specs.declared.refusal.Refusal.{Refusal}
 use Rattle.ca_script.specs.Grammar.{Refuses}

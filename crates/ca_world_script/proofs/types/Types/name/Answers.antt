@@ -1,6 +1,6 @@
-use Rattle.std.proofs.Common.{◌≡◌, sym, ap, ◌∙◌, subst}
+use Rattle.std.proofs.Common.{sym, subst}
 use Rattle.ca_world_script.specs.Index.{added_in}
-use Rattle.ca_world_script.specs.Types.{Added, Adds}
+use Rattle.ca_world_script.specs.Types.{Adds}
 use Rattle.ca_world_script.proofs.Index.{named-one}
 use Rattle.ca_world_script.proofs.types.Types.name.Goals as goal
 
