@@ -56,7 +56,7 @@ impl Named {
 }
 
 /// Whether messages can carry this user and this host.
-pub(crate) fn are_carried(user: &[u8], host: &[u8]) -> bool
+pub fn are_carried(user: &[u8], host: &[u8]) -> bool
     ensures { IsTrue result ↔ IsNamed (user.now, host.now) }
 {
     user.len() < PAYLOAD_LIMIT && host.len() < PAYLOAD_LIMIT

@@ -14,7 +14,7 @@ use std::alloc::Global;
 const PLUS: u8 = b'+';
 
 /// An element as a word of a line.
-trait Element: Copy + Drop {
+pub trait Element: Copy + Drop {
     ghost says: { List ℕ → Self → Type 0 };
 
     /// The element that a word is. Refused as BadText.
@@ -24,7 +24,7 @@ trait Element: Copy + Drop {
 }
 
 /// The base type that a word names. Refused as BadText.
-pub(crate) fn base_in(word: &[u8]) -> Result<BaseType, Refusal>
+pub fn base_in(word: &[u8]) -> Result<BaseType, Refusal>
     ensures ok { IfOk result (λ b. word.now ≡ type_word b) }
     ensures err { IfErr result (λ e.
         (e ≡ BadText) × ((b : BaseType) → word.now ≡ type_word b → ⊥)) }
@@ -54,7 +54,7 @@ pub(crate) fn base_in(word: &[u8]) -> Result<BaseType, Refusal>
 }
 
 /// The elements of this type that the words left are. Refused as BadText, then as OutOfMemory.
-pub(crate) fn read_value(alloc: Global, base: BaseType, words: Words<'_>) -> Result<Value, Refusal>
+pub fn read_value(alloc: Global, base: BaseType, words: Words<'_>) -> Result<Value, Refusal>
     ensures ok { IfOk result (λ v. AreElements words.entry (elements v)) }
     ensures base { IfOk result (λ v. base_of (elements v) ≡ base) }
     ensures err { IfErr result (λ e.
@@ -72,7 +72,7 @@ pub(crate) fn read_value(alloc: Global, base: BaseType, words: Words<'_>) -> Res
 }
 
 /// The elements that the words left are. Refused as BadText, then as OutOfMemory.
-fn read_all<E: Element>(alloc: Global, mut words: Words<'_>) -> Result<Vec<E>, Refusal>
+pub fn read_all<E: Element>(alloc: Global, mut words: Words<'_>) -> Result<Vec<E>, Refusal>
     ensures ok { IfOk result (λ v. AreEach E.says words.entry v.items) }
     ensures err { IfErr result (λ e. Refuses (AreEach E.says words.entry) e) }
 {

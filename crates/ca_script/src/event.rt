@@ -136,8 +136,8 @@ fn read_cut(mut words: Words<'_>) -> Result<Event, Refusal>
     Err(Refusal::BadText)
 }
 
-/// The number that these words are, all of them.
-fn one_number(mut words: Words<'_>) -> Result<u64, Refusal>
+/// The number that these words are, all of them. Refused as BadText.
+pub fn one_number(mut words: Words<'_>) -> Result<u64, Refusal>
     ensures ok { IfOk result (λ n. AreNumbers words.entry (n ∷ [])) }
     ensures err { IfErr result (λ e.
         (e ≡ BadText) × ((n : ℕ) → AreNumbers words.entry (n ∷ []) → ⊥)) }
@@ -147,8 +147,8 @@ fn one_number(mut words: Words<'_>) -> Result<u64, Refusal>
     Ok(number)
 }
 
-/// The two numbers that these words are.
-fn two_numbers(mut words: Words<'_>) -> Result<(u64, u64), Refusal>
+/// The two numbers that these words are. Refused as BadText.
+pub fn two_numbers(mut words: Words<'_>) -> Result<(u64, u64), Refusal>
     ensures ok { IfOk result (λ r. AreNumbers words.entry (r.0 ∷ r.1 ∷ [])) }
     ensures err { IfErr result (λ e.
         (e ≡ BadText) × ((m n : ℕ) → AreNumbers words.entry (m ∷ n ∷ []) → ⊥)) }
@@ -158,8 +158,8 @@ fn two_numbers(mut words: Words<'_>) -> Result<(u64, u64), Refusal>
     Ok((first, second))
 }
 
-/// The four numbers that these words are.
-fn four_numbers(mut words: Words<'_>) -> Result<(u64, u64, u64, u64), Refusal>
+/// The four numbers that these words are. Refused as BadText.
+pub fn four_numbers(mut words: Words<'_>) -> Result<(u64, u64, u64, u64), Refusal>
     ensures ok { IfOk result (λ r. AreNumbers words.entry (r.0 ∷ r.1 ∷ r.2 ∷ r.3 ∷ [])) }
     ensures err { IfErr result (λ e.
         (e ≡ BadText) × ((k l m n : ℕ) → AreNumbers words.entry (k ∷ l ∷ m ∷ n ∷ []) → ⊥)) }

@@ -24,7 +24,7 @@ pub(crate) fn read_client(alloc: Global, mut words: Words<'_>) -> Result<Named, 
 }
 
 /// `A.B.C.D:PORT`, after the line's first word: an IPv4 address and a port. Refused as BadText.
-pub(crate) fn read_server(mut words: Words<'_>) -> Result<(u32, u16), Refusal>
+pub fn read_server(mut words: Words<'_>) -> Result<(u32, u16), Refusal>
     ensures ok { IfOk result (λ p. SaysServer words.entry p.0 p.1) }
     ensures err { IfErr result (λ e.
         (e ≡ BadText) × ((address port : ℕ) → SaysServer words.entry address port → ⊥)) }
@@ -73,7 +73,7 @@ fn octet(parts: &mut Pieces<'_, 46>) -> Result<u8, Refusal>
 
 /// `NAME TYPE COUNT quick|slow V1 V2 ..`, after the line's first word: a record of a new name is defined. Refused as BadText, then
 /// as OutOfMemory, with no record defined.
-pub(crate) fn read_record(
+pub fn read_record(
     alloc: Global,
     mut words: Words<'_>,
     records: &mut Records,
@@ -103,7 +103,7 @@ pub(crate) fn read_record(
 }
 
 /// Whether a put takes the record time, as a word says. Refused as BadText.
-fn slow_in(word: &[u8]) -> Result<bool, Refusal>
+pub fn slow_in(word: &[u8]) -> Result<bool, Refusal>
     ensures ok { IfOk result (λ slow. word.now ≡ slow_word slow) }
     ensures err { IfErr result (λ e.
         (e ≡ BadText) × ((slow : Bool) → word.now ≡ slow_word slow → ⊥)) }
@@ -137,7 +137,7 @@ pub(crate) fn read_rule(alloc: Global, mut words: Words<'_>) -> Result<Rule, Ref
 }
 
 /// What a word of a rule stands for: none for everything.
-fn pattern(alloc: Global, word: &[u8]) -> Result<Option<Vec<u8>>, AllocError>
+pub fn pattern(alloc: Global, word: &[u8]) -> Result<Option<Vec<u8>>, AllocError>
     ensures { IfOk result (λ p. IsPattern word.now (option_map (λ v. v.items) p)) }
 {
     if is_word(word, "*") {
@@ -147,7 +147,7 @@ fn pattern(alloc: Global, word: &[u8]) -> Result<Option<Vec<u8>>, AllocError>
 }
 
 /// Whether a rule lets read and write, as a word says. Refused as BadText.
-fn rights_in(word: &[u8]) -> Result<(bool, bool), Refusal>
+pub fn rights_in(word: &[u8]) -> Result<(bool, bool), Refusal>
     ensures ok { IfOk result (λ r. word.now ≡ rights_word r.0 r.1) }
     ensures err { IfErr result (λ e.
         (e ≡ BadText) × ((reads writes : Bool) → word.now ≡ rights_word reads writes → ⊥)) }

@@ -37,8 +37,8 @@ pub fn read_records(alloc: Global, text: &[u8]) -> Result<RecordFile, Refusal>
     Ok(file)
 }
 
-/// Adds what one line says.
-fn read_line(alloc: Global, line: &[u8], file: &mut RecordFile) -> Result<(), Refusal>
+/// Adds what one line says. Refused as BadText, then as OutOfMemory.
+pub fn read_line(alloc: Global, line: &[u8], file: &mut RecordFile) -> Result<(), Refusal>
     ensures ok { OnOk result (TakesLine (file_reading file.old) (parted 32 line.now)
         (file_reading file.new)) }
     ensures err { IfErr result (λ e.

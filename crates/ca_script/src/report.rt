@@ -73,7 +73,8 @@ fn put_notice(notice: &Notice, text: &mut Vec<u8>) -> Result<(), Refusal>
     }
 }
 
-fn put_outcome(outcome: &Outcome, text: &mut Vec<u8>) -> Result<(), Refusal>
+/// Puts what became of a request at the end. Refused as OutOfMemory.
+pub fn put_outcome(outcome: &Outcome, text: &mut Vec<u8>) -> Result<(), Refusal>
     ensures ok { OnOk result (text.new.items ≡ text.old.items ++ outcome_text outcome.now) }
     ensures err { IfErr result (λ e. e ≡ OutOfMemory) }
 {
@@ -112,8 +113,8 @@ fn put_elements(value: &Value, bytes: &mut Vec<u8>) -> Result<(), Refusal>
     write_value(value.base_type().number(), value, &Meta::ZERO, bytes)
 }
 
-/// Puts a word and a decimal number at the end.
-fn put_count(word: &[u8], number: u64, text: &mut Vec<u8>) -> Result<(), Refusal>
+/// Puts a word and a decimal number at the end. Refused as OutOfMemory.
+pub fn put_count(word: &[u8], number: u64, text: &mut Vec<u8>) -> Result<(), Refusal>
     ensures ok { OnOk result (text.new.items ≡ text.old.items ++ counted word.now number) }
     ensures err { IfErr result (λ e. e ≡ OutOfMemory) }
 {
@@ -123,7 +124,8 @@ fn put_count(word: &[u8], number: u64, text: &mut Vec<u8>) -> Result<(), Refusal
     Ok(())
 }
 
-fn put(word: &[u8], text: &mut Vec<u8>) -> Result<(), Refusal>
+/// Puts a word at the end. Refused as OutOfMemory.
+pub fn put(word: &[u8], text: &mut Vec<u8>) -> Result<(), Refusal>
     ensures ok { OnOk result (text.new.items ≡ text.old.items ++ word.now) }
     ensures err { IfErr result (λ e. e ≡ OutOfMemory) }
 {

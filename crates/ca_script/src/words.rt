@@ -8,7 +8,7 @@ use memchr::memchr;
 use std::marker::Model;
 
 /// What stands before the first separator, and what stands after it, where there is one.
-pub(crate) fn cut<'a>(text: &'a [u8], separator: u8) -> (&'a [u8], Option<&'a [u8]>)
+pub fn cut<'a>(text: &'a [u8], separator: u8) -> (&'a [u8], Option<&'a [u8]>)
     ensures pieces { parted separator text.now
         ≡ result.0.now ∷ pieces_left separator (option_map (λ r. r.now) result.1) }
     ensures shorter { IfSome result.1 (λ r. length r.now < length text.now) }
@@ -21,12 +21,12 @@ pub(crate) fn cut<'a>(text: &'a [u8], separator: u8) -> (&'a [u8], Option<&'a [u
 
 /// The pieces of a text that were not taken yet. One separator parts them.
 #[derive(Drop)]
-pub(crate) struct Pieces<'a, const SEPARATOR: u8> {
+pub struct Pieces<'a, const SEPARATOR: u8> {
     rest: Option<&'a [u8]>,
 }
 
 /// The words of a line.
-pub(crate) type Words<'a> = Pieces<'a, 32>;
+pub type Words<'a> = Pieces<'a, 32>;
 
 impl<'a, const SEPARATOR: u8> Model for Pieces<'a, SEPARATOR> {
     ghost use Rattle.std.specs.Prelude.{ℕ, List, option_map};
@@ -39,14 +39,14 @@ impl<'a, const SEPARATOR: u8> Model for Pieces<'a, SEPARATOR> {
 
 impl<'a, const SEPARATOR: u8> Pieces<'a, SEPARATOR> {
     /// All pieces of a text.
-    pub(crate) fn new(text: &'a [u8]) -> Pieces<'a, SEPARATOR>
+    pub fn new(text: &'a [u8]) -> Pieces<'a, SEPARATOR>
         ensures { result ≡ parted SEPARATOR text.now }
     {
         Pieces { rest: Some(text) }
     }
 
     /// Whether none is left.
-    pub(crate) fn is_empty(&self) -> bool
+    pub fn is_empty(&self) -> bool
         ensures { IsTrue result ↔ (self.now ≡ []) }
     {
         match self.rest {
@@ -56,7 +56,7 @@ impl<'a, const SEPARATOR: u8> Pieces<'a, SEPARATOR> {
     }
 
     /// Takes the next piece, which has a byte at least. Refused as BadText if there is none.
-    pub(crate) fn word(&mut self) -> Result<&'a [u8], Refusal>
+    pub fn word(&mut self) -> Result<&'a [u8], Refusal>
         ensures ok { IfOk result (λ w. (self.old ≡ w.now ∷ self.new) × (0 < length w.now)) }
         ensures err { IfErr result (λ e.
             (e ≡ BadText)
@@ -74,7 +74,7 @@ impl<'a, const SEPARATOR: u8> Pieces<'a, SEPARATOR> {
     }
 
     /// Takes the next piece, which is a decimal number. Refused as BadText if there is none.
-    pub(crate) fn number(&mut self) -> Result<u64, Refusal>
+    pub fn number(&mut self) -> Result<u64, Refusal>
         ensures ok { IfOk result (λ n. (w : List ℕ) × (self.old ≡ w ∷ self.new) × IsNumber w n) }
         ensures err { IfErr result (λ e.
             (e ≡ BadText)
@@ -84,7 +84,7 @@ impl<'a, const SEPARATOR: u8> Pieces<'a, SEPARATOR> {
     }
 
     /// Refused as BadText if a piece is left.
-    pub(crate) fn end(&self) -> Result<(), Refusal>
+    pub fn end(&self) -> Result<(), Refusal>
         ensures ok { IfOk result (λ _. self.now ≡ []) }
         ensures err { IfErr result (λ e. (e ≡ BadText) × (self.now ≡ [] → ⊥)) }
     {
@@ -96,7 +96,7 @@ impl<'a, const SEPARATOR: u8> Pieces<'a, SEPARATOR> {
 }
 
 /// Whether a word is this one.
-pub(crate) fn is_word(word: &[u8], text: &str) -> bool
+pub fn is_word(word: &[u8], text: &str) -> bool
     ensures { IsTrue result ↔ (word.now ≡ text.now) }
 {
     word == text.as_bytes()

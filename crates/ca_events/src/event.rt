@@ -1,0 +1,165 @@
+ghost use Rattle.std.specs.Prelude.{◌<◌};
+ghost use Rattle.ca_text.specs.Mask.{HasEvent};
+ghost use Rattle.ca_events.specs.Events.{event_of};
+ghost use Rattle.ca_model_world.specs.Runs.{IsEvent};
+
+use ca_client_tables::Address;
+use ca_dbr::Value;
+use ca_text::Mask;
+
+/// What may happen to a world. Clients, servers and circuits are counted from 0, circuits in the order in which they were accepted; channels,
+/// requests and subscriptions by their client's accepted calls in its present life.
+#[derive(Drop)]
+pub enum Event {
+    /// A client opens a channel.
+    Open {
+        client: u64,
+        name: Vec<u8>,
+        priority: u64,
+    },
+    Clear {
+        client: u64,
+        channel: u64,
+    },
+    Read {
+        client: u64,
+        channel: u64,
+        data_type: u64,
+        count: u64,
+    },
+    /// A write without notification.
+    Write {
+        client: u64,
+        channel: u64,
+        value: Value,
+    },
+    WriteNotify {
+        client: u64,
+        channel: u64,
+        value: Value,
+    },
+    Subscribe {
+        client: u64,
+        channel: u64,
+        data_type: u64,
+        count: u64,
+        mask: Mask,
+    },
+    Unsubscribe {
+        client: u64,
+        subscription: u64,
+    },
+    /// The outcome of a request is collected.
+    Collect {
+        client: u64,
+        request: u64,
+    },
+    GiveUp {
+        client: u64,
+        request: u64,
+    },
+    /// These bytes come to a client as a datagram, from this address.
+    ClientDatagram {
+        client: u64,
+        from: Address,
+        bytes: Vec<u8>,
+    },
+    ServerDatagram {
+        server: u64,
+        from: Address,
+        bytes: Vec<u8>,
+    },
+    /// The first circuit that the client wants, and whose address has a server, is made.
+    Accept {
+        client: u64,
+    },
+    /// So many bytes of a circuit reach the server.
+    Up {
+        circuit: u64,
+        bytes: u64,
+    },
+    /// So many bytes of a circuit reach the client.
+    Down {
+        circuit: u64,
+        bytes: u64,
+    },
+    ServerStep {
+        circuit: u64,
+    },
+    ClientStep {
+        circuit: u64,
+    },
+    /// Updates leave the queues of a circuit.
+    Pump {
+        circuit: u64,
+    },
+    /// The end at the client is cut.
+    CutClient {
+        circuit: u64,
+    },
+    CutServer {
+        circuit: u64,
+    },
+    /// A client begins a new life.
+    ClientRestart {
+        client: u64,
+    },
+    ServerRestart {
+        server: u64,
+    },
+    /// A value is posted to a record of a server.
+    Post {
+        server: u64,
+        name: Vec<u8>,
+        value: Value,
+        mask: Mask,
+    },
+    /// A record's busy put is finished.
+    Finish {
+        server: u64,
+        name: Vec<u8>,
+    },
+    Remove {
+        server: u64,
+        name: Vec<u8>,
+    },
+    /// A record is added to a server's.
+    Add {
+        server: u64,
+        name: Vec<u8>,
+        count: u64,
+        slow: bool,
+        value: Value,
+    },
+    /// A moment is handed to all clients, in order.
+    Tick {
+        moment: u64,
+    },
+}
+
+impl Event {
+    /// Tells that it is well-formed. It does nothing.
+    pub fn know(&self)
+        ensures { IsEvent (event_of self.now) }
+    {
+        match self {
+            Event::Write { value, .. } => value.know(),
+            Event::WriteNotify { value, .. } => value.know(),
+            Event::Subscribe { mask, .. } => know_mask(*mask),
+            Event::Post { value, mask, .. } => {
+                value.know();
+                know_mask(*mask);
+            }
+            Event::Add { value, .. } => value.know(),
+            _ => {}
+        }
+    }
+}
+
+// Tells that a mask has a bit, and what else its type says. It does nothing.
+fn know_mask(mask: Mask)
+    ensures event { HasEvent mask }
+    ensures small { mask < 65536 }
+{
+    let _ = mask.bits();
+}

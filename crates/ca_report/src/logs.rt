@@ -1,0 +1,181 @@
+ghost use Rattle.std.specs.Prelude.{◌≡◌, ◌≢◌, ◌++◌, IfErr, OnErr, OnOk, Some, length, map};
+ghost use Rattle.ca_text.specs.declared.refusal.Refusal.TheVariants.{OutOfMemory};
+ghost use Rattle.ca_report.specs.Logs.{entry_text, found_text, is_shown, line_text, log_text, noticed_text, status_text, told_text, updated_text};
+ghost use Rattle.ca_world_data.specs.Seen.{intent_of, line_of};
+
+use ca_dbr::Outcome;
+use ca_script::{put, put_count, put_outcome};
+use ca_text::Refusal;
+use ca_world_data::history::{Ask, Intent, Kind, Line};
+
+/// Writes the lines of the log of a client's life. Refused as OutOfMemory only if it has an entry; the text is then as before.
+pub fn write_log(client: u64, log: &[Line], out: &mut Vec<u8>) -> Result<(), Refusal>
+    ensures ok { OnOk result (out.new.items
+        ≡ out.old.items ++ log_text client (map line_of log.now)) }
+    ensures err { IfErr result (λ e. (e ≡ OutOfMemory) × (out.new.items ≡ out.old.items)) }
+    ensures some { OnErr result (length log.now ≢ 0) }
+{
+    if log.is_empty() {
+        return Ok(());
+    }
+    let mut text = Vec::new(*out.allocator());
+    for line in log {
+        put_line(client, log, line, &mut text)?;
+    }
+    out.extend_from_slice(&text)?;
+    Ok(())
+}
+
+// Puts the line of one entry at the end, if it has one.
+fn put_line(client: u64, log: &[Line], line: &Line, text: &mut Vec<u8>) -> Result<(), Refusal>
+    ensures ok { OnOk result (text.new.items
+        ≡ text.old.items ++ line_text client (map line_of log.now) (line_of line.now)) }
+    ensures err { IfErr result (λ e. e ≡ OutOfMemory) }
+{
+    if !shows(line) {
+        return Ok(());
+    }
+    put_count(b"", client, text)?;
+    put_entry(log, line, text)?;
+    put(b"\n", text)
+}
+
+// Whether an entry has a line.
+fn shows(line: &Line) -> bool
+    ensures { result ≡ is_shown (line_of line.now) }
+{
+    match line {
+        Line::Opened(_, _) => false,
+        Line::Called(_, _) => false,
+        Line::Noticed(_, _) => true,
+        Line::Updated(_, _) => true,
+        Line::Refused(_) => true,
+        Line::Collected(_, _) => true,
+        Line::GaveUp(_, _) => true,
+    }
+}
+
+fn put_entry(log: &[Line], line: &Line, text: &mut Vec<u8>) -> Result<(), Refusal>
+    ensures ok { OnOk result (text.new.items
+        ≡ text.old.items ++ entry_text (map line_of log.now) (line_of line.now)) }
+    ensures err { IfErr result (λ e. e ≡ OutOfMemory) }
+{
+    match line {
+        Line::Opened(_, _) => Ok(()),
+        Line::Called(_, _) => Ok(()),
+        Line::Noticed(intent, outcome) => put_noticed(*intent, outcome, text),
+        Line::Updated(intent, outcome) => put_updated(*intent, outcome, text),
+        Line::Refused(refusal) => put_count(b" refused ", u64::from(refusal.number()), text),
+        Line::Collected(number, place) => {
+            put_count(b" collected ", *number as u64, text)?;
+            put_found(log, *place, text)
+        }
+        Line::GaveUp(number, place) => {
+            put_count(b" gave_up ", *number as u64, text)?;
+            put_found(log, *place, text)
+        }
+    }
+}
+
+fn put_noticed(intent: Intent, outcome: &Outcome, text: &mut Vec<u8>) -> Result<(), Refusal>
+    ensures ok { OnOk result (text.new.items
+        ≡ text.old.items ++ noticed_text (intent_of intent) outcome.now) }
+    ensures err { IfErr result (λ e. e ≡ OutOfMemory) }
+{
+    match intent {
+        Intent::OfCircuit => Ok(()),
+        Intent::On(channel, ask) => match ask {
+            Ask::Create => match outcome {
+                Outcome::Done => put_count(b" live ", channel as u64, text),
+                _ => put_count(b" lost ", channel as u64, text),
+            },
+            Ask::Request(kind, number) => match kind {
+                Kind::Write => {
+                    put_count(b" write_refused ", channel as u64, text)?;
+                    put_status(outcome, text)?;
+                    Ok(())
+                }
+                Kind::Read => {
+                    put_count(b" completed ", number as u64, text)?;
+                    put_outcome(outcome, text)
+                }
+                Kind::Put => {
+                    put_count(b" completed ", number as u64, text)?;
+                    put_outcome(outcome, text)
+                }
+            },
+            Ask::Subscribe(number) => {
+                put_count(b" ended ", number as u64, text)?;
+                put_status(outcome, text)
+            }
+            Ask::Clear => Ok(()),
+            Ask::Cancel(_) => Ok(()),
+        },
+    }
+}
+
+fn put_updated(intent: Intent, outcome: &Outcome, text: &mut Vec<u8>) -> Result<(), Refusal>
+    ensures ok { OnOk result (text.new.items
+        ≡ text.old.items ++ updated_text (intent_of intent) outcome.now) }
+    ensures err { IfErr result (λ e. e ≡ OutOfMemory) }
+{
+    match intent {
+        Intent::OfCircuit => Ok(()),
+        Intent::On(_, ask) => match ask {
+            Ask::Subscribe(number) => {
+                put_count(b" update ", number as u64, text)?;
+                put_outcome(outcome, text)
+            }
+            Ask::Create => Ok(()),
+            Ask::Clear => Ok(()),
+            Ask::Request(_, _) => Ok(()),
+            Ask::Cancel(_) => Ok(()),
+        },
+    }
+}
+
+// Puts a status by its number alone.
+fn put_status(outcome: &Outcome, text: &mut Vec<u8>) -> Result<(), Refusal>
+    ensures ok { OnOk result (text.new.items ≡ text.old.items ++ status_text outcome.now) }
+    ensures err { IfErr result (λ e. e ≡ OutOfMemory) }
+{
+    match outcome {
+        Outcome::Failed(status) => put_count(b" ", u64::from(status.number), text),
+        Outcome::Value(_, _) => put_outcome(outcome, text),
+        Outcome::Done => put_outcome(outcome, text),
+        Outcome::Unreadable(_) => put_outcome(outcome, text),
+        Outcome::Disconnected => put_outcome(outcome, text),
+    }
+}
+
+// Puts the outcome that the line at this place tells.
+fn put_found(log: &[Line], place: Option<usize>, text: &mut Vec<u8>) -> Result<(), Refusal>
+    ensures ok { OnOk result (text.new.items
+        ≡ text.old.items ++ found_text (map line_of log.now) place) }
+    ensures err { IfErr result (λ e. e ≡ OutOfMemory) }
+{
+    match place {
+        None => put(b" nothing", text),
+        Some(place) => match log.get(place) {
+            None => put(b" nothing", text),
+            Some(line) => put_told(line, text),
+        },
+    }
+}
+
+// Puts the outcome that a line tells.
+fn put_told(line: &Line, text: &mut Vec<u8>) -> Result<(), Refusal>
+    ensures ok { OnOk result (text.new.items
+        ≡ text.old.items ++ told_text (Some (line_of line.now))) }
+    ensures err { IfErr result (λ e. e ≡ OutOfMemory) }
+{
+    match line {
+        Line::Noticed(_, outcome) => put_outcome(outcome, text),
+        Line::Opened(_, _) => put(b" nothing", text),
+        Line::Called(_, _) => put(b" nothing", text),
+        Line::Updated(_, _) => put(b" nothing", text),
+        Line::Refused(_) => put(b" nothing", text),
+        Line::Collected(_, _) => put(b" nothing", text),
+        Line::GaveUp(_, _) => put(b" nothing", text),
+    }
+}

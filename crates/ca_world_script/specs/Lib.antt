@@ -1,0 +1,7 @@
+pub mod Lines
+pub mod Servers
+pub mod Types
+pub mod Events
+pub mod Scripts
+pub mod Index
+pub mod Written

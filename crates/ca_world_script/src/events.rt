@@ -1,0 +1,176 @@
+ghost use Rattle.std.specs.Prelude.{◌≡◌, ◌<◌, ℕ, List, IfErr, IfOk, length};
+ghost use Rattle.ca_text.specs.declared.refusal.Refusal.TheVariants.{BadText};
+ghost use Rattle.ca_dbr.specs.Elements.{Elements, elements};
+ghost use Rattle.ca_events.specs.Events.{event_of};
+ghost use Rattle.ca_model_world.specs.Events as event;
+ghost use Rattle.ca_script.specs.Grammar.{Refuses};
+ghost use Rattle.ca_world_script.specs.Events.{Says, SaysNamed, SaysOpen, SaysSubscribe, SaysWritten};
+
+use crate::datagrams::{read_cut, read_datagram};
+use crate::values::{base_at, mask_of};
+use crate::verb::Verb;
+use ca_dbr::Value;
+use ca_events::Event;
+use ca_script::{Words, four_numbers, one_number, read_value, two_numbers};
+use ca_text::Refusal;
+use std::alloc::Global;
+
+// Reads an event from the words after its verb. Refused as BadText, then as OutOfMemory.
+pub(crate) fn read_event(alloc: Global, verb: Verb, words: Words<'_>) -> Result<Event, Refusal>
+    ensures ok { IfOk result (λ e. Says verb words.entry (event_of e)) }
+    ensures err { IfErr result (λ e. Refuses (Says verb words.entry) e) }
+{
+    match verb {
+        Verb::Open => read_open(alloc, words),
+        Verb::Clear => {
+            let (client, channel) = two_numbers(words)?;
+            Ok(Event::Clear { client, channel })
+        }
+        Verb::Read => {
+            let (client, channel, data_type, count) = four_numbers(words)?;
+            Ok(Event::Read {
+                client,
+                channel,
+                data_type,
+                count,
+            })
+        }
+        Verb::Write => {
+            let (client, channel, value) = written(alloc, words)?;
+            Ok(Event::Write {
+                client,
+                channel,
+                value,
+            })
+        }
+        Verb::WriteNotify => {
+            let (client, channel, value) = written(alloc, words)?;
+            Ok(Event::WriteNotify {
+                client,
+                channel,
+                value,
+            })
+        }
+        Verb::Subscribe => read_subscribe(words),
+        Verb::Unsubscribe => {
+            let (client, subscription) = two_numbers(words)?;
+            Ok(Event::Unsubscribe {
+                client,
+                subscription,
+            })
+        }
+        Verb::Collect => {
+            let (client, request) = two_numbers(words)?;
+            Ok(Event::Collect { client, request })
+        }
+        Verb::GiveUp => {
+            let (client, request) = two_numbers(words)?;
+            Ok(Event::GiveUp { client, request })
+        }
+        Verb::Datagram => read_datagram(alloc, words),
+        Verb::Accept => {
+            let client = one_number(words)?;
+            Ok(Event::Accept { client })
+        }
+        Verb::Up => {
+            let (circuit, bytes) = two_numbers(words)?;
+            Ok(Event::Up { circuit, bytes })
+        }
+        Verb::Down => {
+            let (circuit, bytes) = two_numbers(words)?;
+            Ok(Event::Down { circuit, bytes })
+        }
+        Verb::ServerStep => {
+            let circuit = one_number(words)?;
+            Ok(Event::ServerStep { circuit })
+        }
+        Verb::ClientStep => {
+            let circuit = one_number(words)?;
+            Ok(Event::ClientStep { circuit })
+        }
+        Verb::Pump => {
+            let circuit = one_number(words)?;
+            Ok(Event::Pump { circuit })
+        }
+        Verb::Cut => read_cut(words),
+        Verb::ClientRestart => {
+            let client = one_number(words)?;
+            Ok(Event::ClientRestart { client })
+        }
+        Verb::ServerRestart => {
+            let server = one_number(words)?;
+            Ok(Event::ServerRestart { server })
+        }
+        Verb::Finish => {
+            let (server, name) = named(alloc, words)?;
+            Ok(Event::Finish { server, name })
+        }
+        Verb::Remove => {
+            let (server, name) = named(alloc, words)?;
+            Ok(Event::Remove { server, name })
+        }
+        Verb::Tick => {
+            let moment = one_number(words)?;
+            Ok(Event::Tick { moment })
+        }
+    }
+}
+
+// `C NAME PRIORITY`, after the verb.
+fn read_open(alloc: Global, mut words: Words<'_>) -> Result<Event, Refusal>
+    ensures ok { IfOk result (λ e. SaysOpen words.entry (event_of e)) }
+    ensures err { IfErr result (λ e. Refuses (SaysOpen words.entry) e) }
+{
+    let client = words.number()?;
+    let name = words.word()?;
+    let priority = words.number()?;
+    words.end()?;
+    let name = Vec::from_slice(alloc, name)?;
+    Ok(Event::Open {
+        client,
+        name,
+        priority,
+    })
+}
+
+// `C CH TYPE COUNT MASK`, after the verb.
+fn read_subscribe(mut words: Words<'_>) -> Result<Event, Refusal>
+    ensures ok { IfOk result (λ e. SaysSubscribe words.entry (event_of e)) }
+    ensures err { IfErr result (λ e. Refuses (SaysSubscribe words.entry) e) }
+{
+    let client = words.number()?;
+    let (channel, data_type, count, mask) = four_numbers(words)?;
+    let mask = mask_of(mask)?;
+    Ok(Event::Subscribe {
+        client,
+        channel,
+        data_type,
+        count,
+        mask,
+    })
+}
+
+// `C CH TYPE V..`, after the verb: the client, the channel and the value.
+fn written(alloc: Global, mut words: Words<'_>) -> Result<(u64, u64, Value), Refusal>
+    ensures ok { IfOk result (λ r. SaysWritten words.entry (r.0, r.1, elements r.2)) }
+    ensures err { IfErr result (λ e. Refuses (SaysWritten words.entry) e) }
+{
+    let client = words.number()?;
+    let channel = words.number()?;
+    let number = words.number()?;
+    let base = base_at(number)?;
+    let value = read_value(alloc, base, words)?;
+    Ok((client, channel, value))
+}
+
+// `S RECORD`, after the verb: the server and the name.
+fn named(alloc: Global, mut words: Words<'_>) -> Result<(u64, Vec<u8>), Refusal>
+    ensures ok { IfOk result (λ r. SaysNamed words.entry (r.0, r.1.items)) }
+    ensures err { IfErr result (λ e. Refuses (SaysNamed words.entry) e) }
+{
+    let server = words.number()?;
+    let name = words.word()?;
+    words.end()?;
+    let name = Vec::from_slice(alloc, name)?;
+    Ok((server, name))
+}
