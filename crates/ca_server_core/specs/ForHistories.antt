@@ -6,6 +6,7 @@ use Rattle.ca_queue.specs.Circuit.{AreInOne, HasAt}
 use Rattle.ca_text.specs.Place.{At}
 use Rattle.ca_model.specs.Server.{Ended, Open, Server, ServerCircuit, Subscription, concerns, key_of}
 use Rattle.ca_model.specs.ServerSteps.{without_puts_of}
+use Rattle.ca_server_circuit.specs.Concerned.{channels_on}
 
 -- the end of a circuit has ended in a call that did not report it
 abbrev pub is_over : Option ServerCircuit → Bool
@@ -37,3 +38,8 @@ abbrev pub bytes_under : Option ServerCircuit → List ℕ
 bytes_under (Some (Open e)) = e.link.output
 bytes_under (Some (Ended w left)) = left
 bytes_under None = []
+
+-- the SID and the CID of each channel to the record of this name at the open end under a handle, in order of index
+abbrev pub channels_under : (name : List ℕ) → Option ServerCircuit → List (ℕ × ℕ)
+channels_under name (Some c) = channels_on name c
+channels_under name None = []
