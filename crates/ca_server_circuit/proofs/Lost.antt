@@ -21,6 +21,7 @@ use Rattle.ca_model.specs.Server.{OpenChannel, ServerEnd, Subscription, key_of, 
 use Rattle.ca_model.specs.ServerCalls.{channels_of, disconnects, end_without, is_on, retired}
 use Rattle.ca_server_subscriptions.proofs.Sieves.{each-both, each-false, filter-all, filter-both}
 use Rattle.ca_server_subscriptions.specs.Subscribed.{Subscribed, is_of_sid, without_those}
+use Rattle.ca_server_circuit.specs.Concerned.{ids_of}
 use Rattle.ca_server_circuit.specs.Handling.{replied}
 use Rattle.ca_server_circuit.specs.Removing.{TellsSome, leading_at, leads_to, notices, retired_at, retired_in, without_at, without_channels, without_record}
 use Rattle.ca_server_circuit.specs.Subscribing.{events_of}
@@ -37,12 +38,12 @@ Listed = List (Handle × OpenChannel)
 abbrev pub first_of : List ℕ → ℕ → Channels → Listed
 first_of name n t = filter (leads_to name) (held (take n t))
 
-first-more : (name : List ℕ) (n : ℕ) (t : Channels) → n < length t → first_of name (n + 1) t ≡ first_of name n t ++ leading_at name n t
+pub first-more : (name : List ℕ) (n : ℕ) (t : Channels) → n < length t → first_of name (n + 1) t ≡ first_of name n t ++ leading_at name n t
 first-more name n t within =
     ap (λ (xs : Listed). filter (leads_to name) xs) (held-more t n within)
     ∙ filter-append (leads_to name) (held (take n t)) (option_to_list (held_at n (place_at t n)))
 
-first-all : (name : List ℕ) (n : ℕ) (t : Channels) → length t ≤ n → first_of name n t ≡ filter (leads_to name) (held t)
+pub first-all : (name : List ℕ) (n : ℕ) (t : Channels) → length t ≤ n → first_of name n t ≡ filter (leads_to name) (held t)
 first-all name n t past = ap (λ (u : Channels). filter (leads_to name) (held u)) (take_all n t past)
 
 held-split : (i n : ℕ) (t : Channels) → (rest : Listed) × (held_from i t ≡ held_from i (take n t) ++ rest)
@@ -61,6 +62,26 @@ first-part : (name : List ℕ) (n : ℕ) (t : Channels) → (rest : Listed) × (
 first-part name n t =
     let r = held-split 0 n t in
     (filter (leads_to name) r.0, ap (λ (xs : Listed). filter (leads_to name) xs) r.1 ∙ filter-append (leads_to name) (held (take n t)) r.0)
+
+-- ---- their ids
+
+-- those of the first n indices are listed
+abbrev pub Listed-to : List ℕ → ℕ → Channels → List (ℕ × ℕ) → Type 0
+Listed-to name n t all = all ≡ map ids_of (first_of name n t)
+
+pub listed-more : (name : List ℕ) (n : ℕ) (t : Channels) (all next : List (ℕ × ℕ)) → n < length t → Listed-to name n t all → next ≡ all ++ map ids_of (leading_at name n t) → Listed-to name (n + 1) t next
+listed-more name n t all next within so step =
+    step
+    ∙ ap (λ (xs : List (ℕ × ℕ)). xs ++ map ids_of (leading_at name n t)) so
+    ∙ sym (map-append ids_of (first_of name n t) (leading_at name n t))
+    ∙ ap (λ (cs : Listed). map ids_of cs) (sym (first-more name n t within))
+
+pub listed-all : (name : List ℕ) (n : ℕ) (e : ServerEnd) (all : List (ℕ × ℕ)) → length e.channels ≤ n → Listed-to name n e.channels all → all ≡ map ids_of (channels_of name e)
+listed-all name n e all past so = so ∙ ap (λ (cs : Listed). map ids_of cs) (first-all name n e.channels past)
+
+-- an index without such a channel adds nothing
+pub lists-none : (all : List (ℕ × ℕ)) (cs : Listed) → cs ≡ [] → all ≡ all ++ map ids_of cs
+lists-none all cs none = sym (ap (λ (xs : Listed). all ++ map ids_of xs) none ∙ append-nil all)
 
 -- ---- messages
 

@@ -5,7 +5,7 @@ ghost use Rattle.ca_model.specs.ServerSteps.{output_of};
 ghost use Rattle.ca_records.specs.Store.{IsThere, records_of};
 ghost use Rattle.ca_server_circuit.specs.Circuits.{CircuitIsSound, GivesAt, IsLive, SendsAt, circuit_of, is_open, watches};
 ghost use Rattle.ca_server_circuit.specs.Clearing.{ArePuts};
-ghost use Rattle.ca_server_circuit.specs.Concerned.{ConcernsOn, bytes_on};
+ghost use Rattle.ca_server_circuit.specs.Concerned.{ConcernsOn, bytes_on, channels_on};
 ghost use Rattle.ca_server_circuit.specs.Ending.{ArePutsAt, EndsAt, IsLeft, WithdrawsAll};
 ghost use Rattle.ca_server_circuit.specs.Finishing.{RepliesAt};
 ghost use Rattle.ca_server_circuit.specs.NextPut.{IsPutAt};
@@ -232,6 +232,17 @@ impl Circuit {
         match &self.state {
             State::Open(_) => self.out_bytes(),
             State::Ended(_, left) => left.bytes(),
+        }
+    }
+
+    /// The SID and the CID of each channel to the record of this name at its end, in order of index: none if that is not open. Only
+    /// whoever records histories needs it.
+    pub fn channels_to(&self, alloc: Global, name: &[u8]) -> Result<Vec<(u32, u32)>, AllocError>
+        ensures { IfOk result (λ all. all.items ≡ channels_on name.now self.now) }
+    {
+        match &self.state {
+            State::Open(end) => end.channels_to(name),
+            State::Ended(_, _) => Ok(Vec::new(alloc)),
         }
     }
 

@@ -18,6 +18,7 @@ mod ending;
 mod events;
 mod finishing;
 mod handle;
+mod leading;
 mod losing;
 mod names;
 mod next_put;

@@ -7,6 +7,7 @@ use Rattle.ca_records.specs.Puts.{Record}
 use Rattle.ca_text.specs.Place.{At}
 use Rattle.ca_model.specs.Server.{Ended, Open, Server, ServerCircuit, Subscription, concerns, key_of}
 use Rattle.ca_model.specs.ServerSteps.{without_puts_of}
+use Rattle.ca_server_circuit.specs.Concerned.{channels_on}
 
 -- the end of a circuit has ended in a call that did not report it
 abbrev pub is_over : Option ServerCircuit → Bool
@@ -48,3 +49,8 @@ abbrev pub ComesBefore : List Record → (name other : List ℕ) → Bool → Ty
 ComesBefore records name other before =
     AreNamedApart records → (i j : ℕ) (r s : Record) → At records i r → At records j s → r.state.name ≡ name → s.state.name ≡ other
     → (before ≡ true → i < j) × (before ≡ false → j ≤ i)
+
+-- the SID and the CID of each channel to the record of this name at the open end under a handle, in order of index
+abbrev pub channels_under : (name : List ℕ) → Option ServerCircuit → List (ℕ × ℕ)
+channels_under name (Some c) = channels_on name c
+channels_under name None = []

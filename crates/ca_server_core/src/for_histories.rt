@@ -1,10 +1,10 @@
 //! What whoever records histories asks of a server. No server needs these calls.
-ghost use Rattle.std.specs.Prelude.{◌≡◌, ◌<◌, false, length};
+ghost use Rattle.std.specs.Prelude.{◌≡◌, ◌<◌, IfOk, false, length};
 ghost use Rattle.ca_ids.specs.Table.{same_handle, under};
 ghost use Rattle.ca_records.specs.Puts.{withdrawn};
 ghost use Rattle.ca_records.specs.Store.{records_of};
 ghost use Rattle.ca_server_circuit.specs.Circuits.{is_open};
-ghost use Rattle.ca_server_core.specs.ForHistories.{ComesBefore, ConcernsUnder, EndsAt, IsOverAt, bytes_under, is_over};
+ghost use Rattle.ca_server_core.specs.ForHistories.{ComesBefore, ConcernsUnder, EndsAt, IsOverAt, bytes_under, channels_under, is_over};
 ghost use Rattle.ca_server_core.specs.Sound.{IsSound};
 
 use crate::server::ServerCore;
@@ -12,6 +12,7 @@ use ca_arena::Handle;
 use ca_ids::HeldTable;
 use ca_records::ServedRecords;
 use ca_server_circuit::Circuit;
+use std::alloc::AllocError;
 
 /// How many indices the handles of circuits had so far.
 pub fn places(core: &ServerCore) -> usize
@@ -105,4 +106,20 @@ pub fn comes_before(core: &ServerCore, name: &[u8], other: &[u8]) -> bool
         return false;
     };
     place < next
+}
+
+/// The SID and the CID of each channel to the record of this name on a circuit whose end is open, in order of index. A removal of the
+/// record sends a SERVER_DISCONN to each.
+pub fn channels_to(
+    core: &ServerCore,
+    circuit: Handle,
+    name: &[u8],
+) -> Result<Vec<(u32, u32)>, AllocError>
+    ensures { IfOk result (λ all.
+        all.items ≡ channels_under name.now (under core.now.circuits circuit)) }
+{
+    match core.circuits.by_handle(circuit) {
+        Some(found) => found.channels_to(core.alloc, name),
+        None => Ok(Vec::new(core.alloc)),
+    }
 }
