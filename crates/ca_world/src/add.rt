@@ -7,6 +7,7 @@ ghost use Rattle.ca_world_data.specs.Does.{Does};
 ghost use Rattle.ca_world_data.specs.Opening.{entries_in};
 ghost use Rattle.ca_world_data.specs.Seen.{record_of, server_of};
 
+use crate::wide::count_of;
 use crate::world::World;
 use ca_dbr::{Meta, Value};
 use ca_server_core::ServerCore;
@@ -24,7 +25,7 @@ impl World {
         &mut self,
         server: usize,
         name: &[u8],
-        count: u32,
+        count: u64,
         slow: bool,
         value: Value,
     ) -> Result<(), Refusal>
@@ -58,6 +59,35 @@ impl World {
 
 // A record is added to those of this server. What its core refuses changes nothing.
 fn add_at(
+    alloc: Global,
+    side: &mut ServerSide,
+    logs: &mut Vec<Vec<Entry>>,
+    name: &[u8],
+    count: u64,
+    slow: bool,
+    value: Value,
+) -> Result<(), Refusal>
+    requires { AreInOrder side.old.core.records (map record_of side.old.records.items) }
+    ensures adds { AddsAt
+        (record {
+          name = name.now;
+          count = count;
+          slow = slow;
+          value = elements value;
+          meta = unset;
+        })
+        (server_of side.old)
+        (entries_in logs.old.items)
+        result
+        (server_of side.new)
+        (entries_in logs.new.items) }
+    ensures kept { side.new.circuits.items ≡ side.old.circuits.items }
+{
+    add_counted(alloc, side, logs, name, count_of(count), slow, value)
+}
+
+// The same of a count that the core takes.
+fn add_counted(
     alloc: Global,
     side: &mut ServerSide,
     logs: &mut Vec<Vec<Entry>>,

@@ -1,6 +1,6 @@
 //! Numbers of a client's calls that are greater than any that a message carries: its core would refuse them.
 ghost use Rattle.std.specs.Prelude.{ℕ, ◌≡◌, map};
-ghost use Rattle.ca_world.specs.Wide.{Carries, IsPriority, IsWide};
+ghost use Rattle.ca_world.specs.Wide.{Carries, IsCount, IsPriority, IsWide};
 ghost use Rattle.ca_world_data.specs.Found.{AreNumbered};
 ghost use Rattle.ca_world_data.specs.Logs.{lines_in};
 ghost use Rattle.ca_world_data.specs.Reads.{ReadsOn};
@@ -23,6 +23,16 @@ pub(crate) fn priority_of(priority: u64) -> u16
         return 65_535;
     }
     priority as u16
+}
+
+/// The count of a record as the core takes it: one that is too great stays too great.
+pub(crate) fn count_of(count: u64) -> u32
+    ensures { IsCount count result }
+{
+    if count > 4_294_967_295 {
+        return 4_294_967_295;
+    }
+    count as u32
 }
 
 /// The type and the count as a message carries them, if one does.
