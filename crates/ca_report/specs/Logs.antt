@@ -1,5 +1,5 @@
 -- The lines of a report.
-use Rattle.std.specs.Prelude.{ℕ, Bool, true, false, if◌then◌else◌, List, [], ◌++◌, Option, Some, None, codes, decimal, slice_get}
+use Rattle.std.specs.Prelude.{ℕ, Bool, true, false, if◌then◌else◌, List, [], ◌++◌, Option, Some, None, codes, decimal, slice_get, unwrap_or}
 use Rattle.std.specs.List.{flat_map}
 use Rattle.ca_text.specs.Refusal.{refusal_number}
 use Rattle.ca_dbr.specs.declared.value.Outcome.{Outcome}
@@ -64,3 +64,11 @@ line_text client log line = if is_shown line then decimal client ++ (entry_text 
 -- the lines of a log
 abbrev pub log_text : ℕ → List Line → List ℕ
 log_text client log = flat_map (line_text client log) log
+
+-- the lines of a life of a client, by the logs of all lives
+abbrev pub life_text : ℕ → List (List Line) → ℕ → List ℕ
+life_text client logs life = log_text client (unwrap_or (slice_get logs life) [])
+
+-- the lines of a client: those of its lives, one after another
+abbrev pub lives_text : ℕ → List (List Line) → List ℕ → List ℕ
+lives_text client logs lives = flat_map (life_text client logs) lives

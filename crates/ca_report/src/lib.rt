@@ -3,4 +3,4 @@
 
 mod logs;
 
-pub use logs::write_log;
+pub use logs::{write_lives, write_log};

@@ -1,6 +1,8 @@
-ghost use Rattle.std.specs.Prelude.{◌≡◌, ◌≢◌, ◌++◌, IfErr, OnErr, OnOk, Some, length, map};
+ghost use Rattle.std.specs.Prelude.{◌≡◌, ◌≢◌, ◌<◌, ◌++◌, IfErr, OnErr, OnOk, Some, length, map};
 ghost use Rattle.ca_text.specs.declared.refusal.Refusal.TheVariants.{OutOfMemory};
-ghost use Rattle.ca_report.specs.Logs.{entry_text, found_text, is_shown, line_text, log_text, noticed_text, status_text, told_text, updated_text};
+ghost use Rattle.ca_text.specs.Place.{At};
+ghost use Rattle.ca_report.specs.Logs.{entry_text, found_text, is_shown, life_text, line_text, lives_text, log_text, noticed_text, status_text, told_text, updated_text};
+ghost use Rattle.ca_report.specs.Lives.{logs_of};
 ghost use Rattle.ca_world_data.specs.Seen.{intent_of, line_of};
 
 use ca_dbr::Outcome;
@@ -178,4 +180,46 @@ fn put_told(line: &Line, text: &mut Vec<u8>) -> Result<(), Refusal>
         Line::Collected(_, _) => put(b" nothing", text),
         Line::GaveUp(_, _) => put(b" nothing", text),
     }
+}
+
+/// Writes the lines of a client: those of its lives, in order, by the logs of all lives. Refused as OutOfMemory.
+pub fn write_lives(
+    client: u64,
+    lives: &[usize],
+    logs: &[Vec<Line>],
+    out: &mut Vec<u8>,
+) -> Result<(), Refusal>
+    ensures ok { OnOk result (out.new.items
+        ≡ out.old.items ++ lives_text client (logs_of logs.now) lives.now) }
+    ensures err { IfErr result (λ e. e ≡ OutOfMemory) }
+{
+    for life in lives {
+        write_life(client, *life, logs, out)?;
+    }
+    Ok(())
+}
+
+// Writes the lines of one life.
+fn write_life(
+    client: u64,
+    life: usize,
+    logs: &[Vec<Line>],
+    out: &mut Vec<u8>,
+) -> Result<(), Refusal>
+    ensures ok { OnOk result (out.new.items
+        ≡ out.old.items ++ life_text client (logs_of logs.now) life) }
+    ensures err { IfErr result (λ e. e ≡ OutOfMemory) }
+{
+    if life >= logs.len() {
+        return Ok(());
+    }
+    write_log(client, log_at(logs, life), out)
+}
+
+// The log of a life.
+fn log_at(logs: &[Vec<Line>], life: usize) -> &[Line]
+    requires { life < length logs.now }
+    ensures { At (logs_of logs.now) life (map line_of result.now) }
+{
+    &logs[life]
 }

@@ -26,8 +26,10 @@ pub(crate) fn read_post(
     types: &Types,
     mut words: Words<'_>,
 ) -> Result<Event, Refusal>
-    ensures ok { IfOk result (λ e. SaysPost servers.now (added_of types.now) words.entry (event_of e)) }
-    ensures err { IfErr result (λ e. Refuses (SaysPost servers.now (added_of types.now) words.entry) e) }
+    ensures ok { IfOk result (λ e.
+        SaysPost servers.now (added_of types.now) words.entry (event_of e)) }
+    ensures err { IfErr result (λ e.
+        Refuses (SaysPost servers.now (added_of types.now) words.entry) e) }
 {
     let server = words.number()?;
     let name = words.word()?;
@@ -55,7 +57,8 @@ fn type_of(
     ensures ok { IfOk result (HasType servers.now (added_of types.now) server name.now) }
     ensures only { IfOk result (λ b.
         (c : BaseType) → HasType servers.now (added_of types.now) server name.now c → c ≡ b) }
-    ensures err { IfErr result (Refuses (HasType servers.now (added_of types.now) server name.now)) }
+    ensures err { IfErr result
+        (Refuses (HasType servers.now (added_of types.now) server name.now)) }
 {
     let key = Vec::from_slice(alloc, name)?;
     if let Some(base) = types.named(server, key) {
@@ -69,7 +72,8 @@ fn type_of(
 
 // The type of a record by the lines of its server.
 fn recorded(servers: &[ServerSetting], server: u64, name: &[u8]) -> Option<BaseType>
-    ensures found { MatchOption result ((b : BaseType) → IsRecorded servers.now server name.now b → ⊥)
+    ensures found { MatchOption result
+        ((b : BaseType) → IsRecorded servers.now server name.now b → ⊥)
         (IsRecorded servers.now server name.now) }
     ensures only { IfSome result (λ b.
         (c : BaseType) → IsRecorded servers.now server name.now c → c ≡ b) }

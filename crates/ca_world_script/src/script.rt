@@ -94,7 +94,8 @@ fn read_line(
 
 // A client comes before all servers and events.
 fn add_client(alloc: Global, words: Words<'_>, script: &mut Script) -> Result<(), Refusal>
-    ensures ok { (added : Added) → OnOk result (AddsClient (reading script.old added) (codes "client" ∷ words.entry)
+    ensures ok { (added : Added) → OnOk result
+        (AddsClient (reading script.old added) (codes "client" ∷ words.entry)
         (reading script.new added)) }
     ensures err { (added : Added) → IfErr result (λ e.
         Refuses (AddsClient (reading script.old added) (codes "client" ∷ words.entry)) e) }
@@ -109,7 +110,8 @@ fn add_client(alloc: Global, words: Words<'_>, script: &mut Script) -> Result<()
 
 // A server of an address of its own comes before the events.
 fn add_server(alloc: Global, words: Words<'_>, script: &mut Script) -> Result<(), Refusal>
-    ensures ok { (added : Added) → OnOk result (AddsServer (reading script.old added) (codes "server" ∷ words.entry)
+    ensures ok { (added : Added) → OnOk result
+        (AddsServer (reading script.old added) (codes "server" ∷ words.entry)
         (reading script.new added)) }
     ensures err { (added : Added) → IfErr result (λ e.
         Refuses (AddsServer (reading script.old added) (codes "server" ∷ words.entry)) e) }
@@ -129,7 +131,8 @@ fn add_server(alloc: Global, words: Words<'_>, script: &mut Script) -> Result<()
 
 // A record or a rule comes after its server, and before the events.
 fn add_to(alloc: Global, line: &[u8], script: &mut Script) -> Result<(), Refusal>
-    ensures ok { (added : Added) → OnOk result (AddsTo (reading script.old added) (parted 32 line.now)
+    ensures ok { (added : Added) → OnOk result
+        (AddsTo (reading script.old added) (parted 32 line.now)
         (reading script.new added)) }
     ensures err { (added : Added) → IfErr result (λ e.
         Refuses (AddsTo (reading script.old added) (parted 32 line.now)) e) }
@@ -152,7 +155,8 @@ fn add_addition(
     script: &mut Script,
     types: &mut Types,
 ) -> Result<(), Refusal>
-    ensures ok { OnOk result (AddsAdd (reading script.old (added_of types.old)) (codes "add" ∷ words.entry)
+    ensures ok { OnOk result
+        (AddsAdd (reading script.old (added_of types.old)) (codes "add" ∷ words.entry)
         (reading script.new (added_of types.new))) }
     ensures err { IfErr result (λ e.
         Refuses (AddsAdd (reading script.old (added_of types.old)) (codes "add" ∷ words.entry)) e) }

@@ -36,7 +36,8 @@ fn with_record(
     server: ServerSetting,
 ) -> Result<ServerSetting, Refusal>
     ensures ok { IfOk result (λ s. TakesRecord server (codes "record" ∷ words.entry) s) }
-    ensures err { IfErr result (λ e. Refuses (TakesRecord server (codes "record" ∷ words.entry)) e) }
+    ensures err { IfErr result (λ e.
+        Refuses (TakesRecord server (codes "record" ∷ words.entry)) e) }
 {
     let ServerSetting {
         address,

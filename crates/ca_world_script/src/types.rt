@@ -36,7 +36,8 @@ impl Types {
         name: Vec<u8>,
         base: BaseType,
     ) -> Result<(), AllocError>
-        ensures { OnOk result (Adds server name.items base (added_of self.old) (added_of self.new)) }
+        ensures { OnOk result
+            (Adds server name.items base (added_of self.old) (added_of self.new)) }
     {
         self.named.insert((server, name), base)?;
         Ok(())
