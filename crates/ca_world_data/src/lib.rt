@@ -11,6 +11,7 @@ pub mod ends;
 pub mod entries;
 pub mod found;
 pub mod handing;
+pub mod handling;
 pub mod history;
 pub mod joined;
 pub mod lefts;
