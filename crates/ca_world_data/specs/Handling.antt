@@ -1,10 +1,14 @@
 -- Working: what a message that a server handled leaves on its circuit and in the records, as the statement's functions of its action.
-use Rattle.std.specs.Prelude.{ℕ, ◌≡◌, ◌+◌, ◌≤◌, ◌++◌, Bool, true, List, [], ◌∷◌, Some, map, vec_capacity, vec_len}
+use Rattle.std.specs.Prelude.{ℕ, ◌≡◌, ◌+◌, ◌≤◌, ◌++◌, Bool, true, List, [], ◌∷◌, Some, length, map, nat_le, not, vec_capacity, vec_len}
 use Rattle.std.specs.Str.{bytes_eq}
-use Rattle.ca_queue.specs.Queue.{switched}
+use Rattle.ca_queue.specs.declared.entry.SubKey.{SubKey}
+use Rattle.ca_queue.specs.Queue.{Queue, switched}
+use Rattle.ca_text.specs.Limits.{queue_subscriptions}
 use Rattle.ca_text.specs.Place.{At}
-use Rattle.ca_model.specs.History.{Step, Told}
+use Rattle.ca_model.specs.History.{Step, Told, Update}
+use Rattle.ca_model_world.specs.ServerEvents.{number_taken}
 use Rattle.ca_model_world.specs.World.{Joined, PutPlace, RecordSide}
+use Rattle.ca_world_data.specs.declared.history.Cause.{Cause as Written}
 use Rattle.ca_world_data.specs.declared.joined.Joined.{Joined as Opened}
 use Rattle.ca_world_data.specs.declared.server.RecordSide.{RecordSide as Kept}
 
@@ -22,6 +26,15 @@ with_handled step told j = record j { lists = record j.lists { down = j.lists.do
 -- a channel was created by the message at this place: `numbers_after` of the statement, for `Opens`
 abbrev pub with_creation : (sid place : ℕ) → Joined → Joined
 with_creation sid place j = record j { creations = j.creations ++ record { sid = sid; place = place } ∷ [] }
+
+-- a subscription began by the message at this place: `numbers_after` for `Adds`
+abbrev pub with_standing : SubKey → (place : ℕ) → Joined → Joined
+with_standing key place j =
+    record j { standing = j.standing ++ record { key = key; place = place; posts = 1 } ∷ []; queues = number_taken key (place, Update 0) j.queues }
+
+-- a queue has room for one more subscription
+abbrev pub has_room : Queue (ℕ × Written) × Bool → Bool
+has_room q = not (nat_le queue_subscriptions (length q.0.subscriptions))
 
 -- events are on or off: `numbers_after` for `Switches`
 abbrev pub with_switched : Bool → Joined → Joined

@@ -1,16 +1,21 @@
 //! What a message that a server handled leaves: its replies and its step on the circuit, the channels and subscriptions there, and the
 //! puts of the records. Where memory is needed, a call that lacks it changes nothing.
-ghost use Rattle.std.specs.Prelude.{◌≡◌, ◌+◌, ◌++◌, ◌≤◌, OnErr, OnOk, if◌then◌else◌, length, map, vec_capacity, vec_len};
+ghost use Rattle.std.specs.Prelude.{◌≡◌, ◌+◌, ◌++◌, ◌≤◌, OnErr, OnOk, false, true, if◌then◌else◌, length, map, vec_capacity, vec_len};
 ghost use Rattle.std.specs.Str.{bytes_eq};
-ghost use Rattle.ca_queue.specs.Queue.{switched};
+ghost use Rattle.ca_queue.specs.Circuit.{HasNone};
+ghost use Rattle.ca_queue.specs.Keys.{is_among};
+ghost use Rattle.ca_queue.specs.Queue.{added, posted, switched};
+ghost use Rattle.ca_model.specs.History as history;
+ghost use Rattle.ca_model_world.specs.ClientEvents.{place_of as place_in};
 ghost use Rattle.ca_model_world.specs.ServerEvents as world;
-ghost use Rattle.ca_world_data.specs.Handling.{HasRoomToNote, HaveRoomToWait, MayWait, made_busy, with_creation, with_handled, with_switched, with_waiting};
+ghost use Rattle.ca_world_data.specs.declared.history.Cause.TheVariants as cause;
+ghost use Rattle.ca_world_data.specs.Handling.{HasRoomToNote, has_room, with_standing, HaveRoomToWait, MayWait, made_busy, with_creation, with_handled, with_switched, with_waiting};
 ghost use Rattle.ca_world_data.specs.Seen.{joined_of, place_of, queue_of, record_of, step_of, told_of};
 
 use crate::history::{Cause, Step, Told};
-use crate::joined::{Creation, Joined};
+use crate::joined::{Creation, Joined, Standing};
 use crate::server::{PutPlace, RecordSide};
-use ca_queue::{ListQueue, Queues};
+use ca_queue::{ListQueue, Queues, SubKey};
 use std::alloc::AllocError;
 
 /// Makes room for so many replies to a message that is handled, and for its step.
@@ -68,6 +73,78 @@ fn switch_all(queues: &mut [ListQueue<(usize, Cause)>], on: bool)
 {
     for queue in queues.iter_mut() {
         queue.set_events(on);
+    }
+}
+
+/// A subscription, which no queue has, began by the message at this place: it stands, and its first number waits in the first queue with
+/// room.
+pub fn begin_standing(joined: &mut Joined, key: SubKey, place: usize) -> Result<(), AllocError>
+    requires { HasNone (map (λ q. queue_of q.0) joined.old.queues.items) key }
+    ensures ok { OnOk result (joined_of joined.new ≡ with_standing key place (joined_of joined.old)) }
+    ensures err { OnErr result (joined_of joined.new ≡ joined_of joined.old) }
+{
+    joined.standing.reserve(1)?;
+    take_number(&mut joined.queues, key, place)?;
+    joined.standing.push_reserved(Standing {
+        key,
+        place,
+        posts: 1,
+    });
+    Ok(())
+}
+
+// The first queue with room takes the subscription, and the number 0 of it.
+fn take_number(
+    queues: &mut Vec<ListQueue<(usize, Cause)>>,
+    key: SubKey,
+    place: usize,
+) -> Result<(), AllocError>
+    requires { HasNone (map (λ q. queue_of q.0) queues.old.items) key }
+    ensures ok { OnOk result (map (λ q. queue_of q.0) queues.new.items
+        ≡ world.number_taken
+        key
+        (place, history.Update 0)
+        (map (λ q. queue_of q.0) queues.old.items)) }
+    ensures err { OnErr result (map (λ q. queue_of q.0) queues.new.items
+        ≡ map (λ q. queue_of q.0) queues.old.items) }
+{
+    let at = first_with_room(queues);
+    if at < queues.len() {
+        begin_in(&mut queues[at], key, place)?;
+    }
+    Ok(())
+}
+
+// The place of the first queue with room, or how many there are.
+fn first_with_room(queues: &[ListQueue<(usize, Cause)>]) -> usize
+    ensures { result ≡ place_in has_room queues.now }
+{
+    for place in 0..queues.len() {
+        if !queues[place].is_full() {
+            return place;
+        }
+    }
+    queues.len()
+}
+
+// The queue, which has room, takes the subscription, and the number 0 of it.
+fn begin_in(
+    queue: &mut ListQueue<(usize, Cause)>,
+    key: SubKey,
+    place: usize,
+) -> Result<(), AllocError>
+    requires new { is_among key queue.old.0.subscriptions ≡ false }
+    requires room { has_room queue.old ≡ true }
+    ensures ok { OnOk result (queue.new.0
+        ≡ posted key (place, cause.Update 0) (added key queue.old.0)) }
+    ensures err { OnErr result (queue.new.0 ≡ queue.old.0) }
+{
+    match queue.add(key) {
+        Ok(()) => {
+            queue.post(key, (place, Cause::Update(0)));
+            Ok(())
+        }
+        Err(_) => Err(AllocError),
     }
 }
 
