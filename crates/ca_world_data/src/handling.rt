@@ -162,15 +162,15 @@ pub fn make_busy(records: &mut [RecordSide], name: &[u8], circuit: usize, place:
 }
 
 // The put makes the record busy, if it has this name.
-fn busy_if(record: &mut RecordSide, name: &[u8], put: PutPlace)
-    ensures { record_of record.new
+fn busy_if(side: &mut RecordSide, name: &[u8], put: PutPlace)
+    ensures { record_of side.new
         ≡ if◌then◌else◌
-        (bytes_eq record.old.name.items name.now)
-        (made_busy (place_of put) (record_of record.old))
-        (record_of record.old) }
+        (bytes_eq side.old.name.items name.now)
+        (made_busy (place_of put) (record_of side.old))
+        (record_of side.old) }
 {
-    if record.name.as_slice() == name {
-        record.busy = Some(put);
+    if side.name.as_slice() == name {
+        side.busy = Some(put);
     }
 }
 
@@ -186,12 +186,12 @@ pub fn reserve_waiting(records: &mut [RecordSide], name: &[u8]) -> Result<(), Al
 }
 
 // Makes room for one more put that waits for the record, if it has this name.
-fn reserve_if(record: &mut RecordSide, name: &[u8]) -> Result<(), AllocError>
-    ensures same { record_of record.new ≡ record_of record.old }
-    ensures room { OnOk result (MayWait name.now record.new) }
+fn reserve_if(side: &mut RecordSide, name: &[u8]) -> Result<(), AllocError>
+    ensures same { record_of side.new ≡ record_of side.old }
+    ensures room { OnOk result (MayWait name.now side.new) }
 {
-    if record.name.as_slice() == name {
-        record.waiting.reserve(1)?;
+    if side.name.as_slice() == name {
+        side.waiting.reserve(1)?;
     }
     Ok(())
 }
@@ -211,15 +211,15 @@ pub fn add_waiting(records: &mut [RecordSide], name: &[u8], circuit: usize, plac
 }
 
 // The put waits for the record, if it has this name. There is room for it.
-fn wait_if(record: &mut RecordSide, name: &[u8], put: PutPlace)
-    requires { MayWait name.now record.old }
-    ensures { record_of record.new
+fn wait_if(side: &mut RecordSide, name: &[u8], put: PutPlace)
+    requires { MayWait name.now side.old }
+    ensures { record_of side.new
         ≡ if◌then◌else◌
-        (bytes_eq record.old.name.items name.now)
-        (with_waiting (place_of put) (record_of record.old))
-        (record_of record.old) }
+        (bytes_eq side.old.name.items name.now)
+        (with_waiting (place_of put) (record_of side.old))
+        (record_of side.old) }
 {
-    if record.name.as_slice() == name {
-        record.waiting.push_reserved(put);
+    if side.name.as_slice() == name {
+        side.waiting.push_reserved(put);
     }
 }

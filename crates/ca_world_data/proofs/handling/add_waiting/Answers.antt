@@ -35,7 +35,7 @@ loop-record-preserved c =
             | inl here ↦ absurd (omega (arith, behind, here.0))
             | inr was ↦ c.loop-record.invariant.room k x (omega (arith, behind)) was.0
           ];
-      records = change-next record_of (if_named c.args.name.now (with_waiting (record { circuit = c.args.circuit; place = c.args.place }))) i rs r _ c.wait_if.new.record at c.record-item.is c.wait_if.ensures ∙ c.loop-record.invariant.records;
+      records = change-next record_of (if_named c.args.name.now (with_waiting (record { circuit = c.args.circuit; place = c.args.place }))) i rs r _ c.wait_if.new.side at c.record-item.is c.wait_if.ensures ∙ c.loop-record.invariant.records;
     }
 
 pub returns : goal.returns

@@ -16,7 +16,7 @@ loop-record-preserved c =
     let r : RecordSide = c.record-item.result in
     let within : i < length rs = omega (arith, c.loop-record-test.true) in
     let at : At rs i r = found rs i r r within c.record-item.is in
-    record { records = change-next record_of (if_named c.args.name.now (made_busy (record { circuit = c.args.circuit; place = c.args.place }))) i rs r _ c.busy_if.new.record at c.record-item.is c.busy_if.ensures ∙ c.loop-record.invariant.records }
+    record { records = change-next record_of (if_named c.args.name.now (made_busy (record { circuit = c.args.circuit; place = c.args.place }))) i rs r _ c.busy_if.new.side at c.record-item.is c.busy_if.ensures ∙ c.loop-record.invariant.records }
 
 pub returns : goal.returns
 returns c =

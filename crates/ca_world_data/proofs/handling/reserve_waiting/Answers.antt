@@ -17,7 +17,7 @@ returns-in_err-reserve_if-clause-same c =
     let r : RecordSide = c.record-item.result in
     let within : i < length rs = omega (arith, c.loop-record-test.true) in
     let at : At rs i r = found rs i r r within c.record-item.is in
-    let same : map record_of (slice_set rs i c.reserve_if.new.record) ≡ map record_of rs = same-next record_of i rs r _ c.reserve_if.new.record at c.record-item.is c.reserve_if.ensures.same in
+    let same : map record_of (slice_set rs i c.reserve_if.new.side) ≡ map record_of rs = same-next record_of i rs r _ c.reserve_if.new.side at c.record-item.is c.reserve_if.ensures.same in
     same ∙ c.loop-record.invariant.same
 
 pub loop-record-init : goal.loop-record-init
@@ -30,11 +30,11 @@ loop-record-preserved c =
     let r : RecordSide = c.record-item.result in
     let within : i < length rs = omega (arith, c.loop-record-test.true) in
     let at : At rs i r = found rs i r r within c.record-item.is in
-    let same : map record_of (slice_set rs i c.reserve_if.new.record) ≡ map record_of rs = same-next record_of i rs r _ c.reserve_if.new.record at c.record-item.is c.reserve_if.ensures.same in
+    let same : map record_of (slice_set rs i c.reserve_if.new.side) ≡ map record_of rs = same-next record_of i rs r _ c.reserve_if.new.side at c.record-item.is c.reserve_if.ensures.same in
     record {
       same = same ∙ c.loop-record.invariant.same;
       room = λ k x lt there.
-          elim (At-set rs i c.reserve_if.new.record k x there) [
+          elim (At-set rs i c.reserve_if.new.side k x there) [
             | inl here ↦ subst (MayWait c.args.name.now) (sym here.1) c.in_ok-reserve_if.ensures.room
             | inr was ↦
                 elim (leb_tells (suc k) i) [
