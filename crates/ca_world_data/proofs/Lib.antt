@@ -31,3 +31,4 @@ pub mod RepliesRead
 pub mod Steppings
 pub mod Tellings
 pub mod Each
+pub mod Handled

@@ -34,3 +34,4 @@ pub mod Silencing
 pub mod Ticks
 pub mod Replies
 pub mod ClientSteps
+pub mod Handling

@@ -12,6 +12,7 @@ pub mod entries;
 pub mod found;
 pub mod handing;
 pub mod hearing;
+pub mod handling;
 pub mod history;
 pub mod joined;
 pub mod lefts;
