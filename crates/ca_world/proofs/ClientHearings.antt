@@ -1,6 +1,6 @@
 -- What a datagram that comes to a client makes of a world.
-use Rattle.std.proofs.Common.{◌≡◌, ℕ, List, Result, Ok, Err, refl, sym, subst}
-use Rattle.std.specs.Prelude.{map, slice_set}
+use Rattle.std.proofs.Common.{ℕ, List, Result, Ok, Err, refl, sym, subst}
+use Rattle.std.specs.Prelude.{slice_set}
 use Rattle.ca_text.specs.declared.refusal.Refusal.{Refusal}
 use Rattle.ca_text.specs.declared.refusal.Refusal.TheVariants.{OutOfMemory}
 use Rattle.ca_text.specs.Place.{At}
