@@ -30,3 +30,4 @@ pub mod Acceptances
 pub mod RepliesRead
 pub mod Steppings
 pub mod Tellings
+pub mod Losings

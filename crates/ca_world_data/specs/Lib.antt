@@ -33,3 +33,4 @@ pub mod Silencing
 pub mod Ticks
 pub mod Replies
 pub mod ClientSteps
+pub mod Losing
