@@ -1,5 +1,5 @@
 -- Circuits lose a record that is removed, one after another.
-use Rattle.std.proofs.Common.{◌≡◌, ℕ, ◌+◌, ◌*◌, ◌-◌, ◌/◌, zero, suc, ◌<◌, ◌≤◌, ◌&&◌, ◌||◌, Bool, true, false, not, List, [], ◌∷◌, ◌++◌, length, filter, map, take, refl, sym, ap, subst, ◌∙◌, arith, inl, inr}
+use Rattle.std.proofs.Common.{◌≡◌, ℕ, ◌+◌, ◌*◌, ◌-◌, ◌/◌, zero, suc, ◌<◌, ◌≤◌, ◌&&◌, ◌||◌, Bool, true, false, not, List, [], ◌∷◌, ◌++◌, length, drop, filter, map, take, refl, sym, ap, subst, ◌∙◌, arith, inl, inr}
 use Rattle.std.specs.Prelude.{if◌then◌else◌, slice_set}
 use Rattle.std.specs.List.{fold}
 use Rattle.std.specs.Str.{bytes_eq}
@@ -71,7 +71,8 @@ ready-next R ks ls more i new x each long is one k j l there at = elim (At-set k
 pub sixteenths : (waited n all : ℕ) → waited + 16 * n ≡ all → (all - waited) / 16 ≡ n
 sixteenths waited n all is =
     let left : all - waited ≡ n * 16 = omega (arith, is) in
-    ap (λ (z : ℕ). z / 16) left ∙ mul-div_cancel n {16} (omega arith)
+    let some : 0 < 16 = omega arith in
+    ap (λ (z : ℕ). z / 16) left ∙ mul-div_cancel n some
 
 -- ---- queues
 
@@ -91,6 +92,32 @@ drops-next {E} gone key keys qs new is = ap (map (dropped gone keys)) is ∙ bot
     both : (qs : List (Queue E)) → map (dropped gone keys) (map (λ (q : Queue E). if gone key then cancelled key q else q) qs) ≡ map (dropped gone (key ∷ keys)) qs
     both [] = refl
     both (q ∷ qs) = ap (λ (t : List (Queue E)). dropped gone keys (if gone key then cancelled key q else q) ∷ t) (both qs)
+
+pub drops-none : {E : Type 0} (gone : SubKey → Bool) (qs : List (Queue E)) → map (dropped gone []) qs ≡ qs
+drops-none gone [] = refl
+drops-none gone (q ∷ qs) = ap (λ (t : List (Queue _)). q ∷ t) (drops-none gone qs)
+
+-- a row is passed: nothing is left of it
+pub drops-all : {E : Type 0} (gone : SubKey → Bool) (i : ℕ) (ss : List Standing) (qs : List (Queue E)) → length ss ≤ i → map (dropped gone (map (λ (s : Standing). s.key) (drop i ss))) qs ≡ qs
+drops-all {E} gone i ss qs over = ap (λ (rest : List Standing). map (dropped gone (map (λ (s : Standing). s.key) rest)) qs) (none i ss over) ∙ drops-none gone qs
+  where
+    none : (i : ℕ) (ss : List Standing) → length ss ≤ i → drop i ss ≡ []
+    none zero [] le = refl
+    none zero (s ∷ ss) le = absurd (omega (arith, le))
+    none (suc i) [] le = refl
+    none (suc i) (s ∷ ss) le = none i ss (omega (arith, le))
+
+-- the one at a place of a row
+pub drops-here : {E : Type 0} (gone : SubKey → Bool) (i : ℕ) (ss : List Standing) (s : Standing) (qs new : List (Queue E)) → At ss i s → new ≡ map (λ (q : Queue E). if gone s.key then cancelled s.key q else q) qs
+    → map (dropped gone (map (λ (x : Standing). x.key) (drop (i + 1) ss))) new ≡ map (dropped gone (map (λ (x : Standing). x.key) (drop i ss))) qs
+drops-here {E} gone i ss s qs new at is =
+    drops-next gone s.key (map (λ (x : Standing). x.key) (drop (i + 1) ss)) qs new is
+    ∙ ap (λ (rest : List Standing). map (dropped gone (map (λ (x : Standing). x.key) rest)) qs) (sym (here i ss at))
+  where
+    here : (i : ℕ) (ss : List Standing) → At ss i s → drop i ss ≡ s ∷ drop (i + 1) ss
+    here i [] at = absurd cc
+    here zero (x ∷ ss) at = ap (λ (z : Standing). z ∷ ss) (some_is x s at)
+    here (suc i) (x ∷ ss) at = (let e : suc i + 1 ≡ suc (i + 1) = omega arith in here i ss at ∙ ap (λ (k : ℕ). s ∷ drop k (x ∷ ss)) (sym e))
 
 pub cancels-it : {E : Type 0} (gone : SubKey → Bool) (key : SubKey) (qs new : List (Queue E)) → gone key ≡ true → new ≡ map (cancelled key) qs → new ≡ map (λ (q : Queue E). if gone key then cancelled key q else q) qs
 cancels-it {E} gone key qs new is so = so ∙ ap (λ (b : Bool). map (λ (q : Queue E). if b then cancelled key q else q) qs) (sym is)

@@ -34,3 +34,4 @@ pub mod Ticks
 pub mod Replies
 pub mod ClientSteps
 pub mod Losing
+pub mod Removing

@@ -1,5 +1,5 @@
 //! A record of a server is removed: the circuits with channels to it lose them, and it is served no more.
-ghost use Rattle.std.specs.Prelude.{ℕ, ◌≡◌, ◌≤◌, ◌+◌, ◌++◌, ◌<◌, IfOk, true, OnOk, filter, length, map, not, take, vec_capacity, vec_len};
+ghost use Rattle.std.specs.Prelude.{ℕ, ◌≡◌, ◌≤◌, ◌+◌, ◌++◌, ◌<◌, IfOk, true, OnOk, filter, if◌then◌else◌, length, map, not, take, vec_capacity, vec_len};
 ghost use Rattle.std.specs.Str.{bytes_eq};
 ghost use Rattle.ca_queue.specs.Queue.{cancelled};
 ghost use Rattle.ca_model_world.specs.ServerEvents as world;
@@ -181,11 +181,23 @@ fn cancel_lost(standing: &[Standing], queues: &mut [ListQueue<(usize, Cause)>], 
         (dropped (is_lost lost.now) (map (λ s. s.key) standing.now))
         (map (λ q. queue_of q.0) queues.old) }
 {
-    for one in standing {
-        if is_on(lost, one.key) {
-            cancel_in(queues, one.key);
-        }
+    for place in 0..standing.len() {
+        let one = standing[place];
+        cancel_on(queues, one.key, lost);
     }
+}
+
+// No queue has this subscription from now on, if it is on one of these channels.
+fn cancel_on(queues: &mut [ListQueue<(usize, Cause)>], key: SubKey, lost: &[(u32, u32)])
+    ensures { map (λ q. queue_of q.0) queues.new
+        ≡ map
+        (λ q. if is_lost lost.now key then cancelled key q else q)
+        (map (λ q. queue_of q.0) queues.old) }
+{
+    if !is_on(lost, key) {
+        return;
+    }
+    cancel_in(queues, key);
 }
 
 // Whether the key is that of a subscription on one of these channels.

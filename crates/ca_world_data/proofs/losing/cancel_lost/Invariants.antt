@@ -5,10 +5,10 @@ use Rattle.ca_world_data.proofs.Counting.{queue_in}
 use Rattle.ca_world_data.proofs.losing.cancel_lost.Given as goal
 
 -- with those that are left the queues have none of them
-abbrev pub invariant-loop-one : goal.invariant-loop-one
-invariant-loop-one l =
+abbrev pub invariant-loop-place : goal.invariant-loop-place
+invariant-loop-place l =
     record {
       queues :
-          map (dropped (is_lost l.lost) (map (λ (s : Standing). s.key) (drop l.one-index l.standing))) (map queue_in l.queues)
+          map (dropped (is_lost l.lost) (map (λ (s : Standing). s.key) (drop l.place l.standing))) (map queue_in l.queues)
           ≡ map (dropped (is_lost l.lost) (map (λ (s : Standing). s.key) l.standing)) (map queue_in l.initial.queues);
     }
