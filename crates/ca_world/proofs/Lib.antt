@@ -23,3 +23,4 @@ pub mod Partings
 pub mod Moments
 pub mod ClientSteppings
 pub mod Postings
+pub mod Removings

@@ -170,21 +170,10 @@ fn drop_lost(
         (dropped (is_lost lost.now) (map (λ s. s.key) standing.old.items))
         (map (λ q. queue_of q.0) queues.old) }
 {
-    cancel_lost(standing, queues, lost);
-    standing.retain(|one| !is_on(lost, one.key));
-}
-
-// No queue has those of these subscriptions that are on these channels from now on.
-fn cancel_lost(standing: &[Standing], queues: &mut [ListQueue<(usize, Cause)>], lost: &[(u32, u32)])
-    ensures { map (λ q. queue_of q.0) queues.new
-        ≡ map
-        (dropped (is_lost lost.now) (map (λ s. s.key) standing.now))
-        (map (λ q. queue_of q.0) queues.old) }
-{
     for place in 0..standing.len() {
-        let one = standing[place];
-        cancel_on(queues, one.key, lost);
+        cancel_on(queues, standing[place].key, lost);
     }
+    standing.retain(|one| !is_on(lost, one.key));
 }
 
 // No queue has this subscription from now on, if it is on one of these channels.
