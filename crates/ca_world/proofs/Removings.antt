@@ -1,6 +1,7 @@
 -- A record of a server is removed, from what its parts became.
 use Rattle.std.proofs.Common.{◌≡◌, ◌≢◌, ℕ, zero, suc, ◌+◌, ◌*◌, ◌≤◌, ◌==◌, ◌&&◌, inl, inr, Bool, true, false, not, List, [], ◌∷◌, ◌++◌, Option, Some, None, Result, Ok, Err, length, take, refl, sym, ap, subst, ◌∙◌, arith}
-use Rattle.std.specs.Prelude.{filter, if◌then◌else◌, map, option_map, slice_set}
+use Rattle.std.specs.Prelude.{Vec, filter, if◌then◌else◌, map, option_map, slice_set}
+use Rattle.std.specs.declared.alloc.Global.{Global}
 use Rattle.std.specs.List.{list_any}
 use Rattle.std.specs.Str.{bytes_eq}
 use Rattle.std.proofs.lemmas.Bool.{and_from, and_parts, eq-eqb, eqb-true}
@@ -36,14 +37,17 @@ use Rattle.ca_server_circuit.specs.Concerned.{ids_of}
 use Rattle.ca_server_core.specs.ForHistories.{bytes_under, channels_under}
 use Rattle.ca_world_data.specs.declared.client.ClientSide.{ClientSide}
 use Rattle.ca_world_data.specs.declared.joined.Joined.{Joined}
+use Rattle.ca_world_data.specs.declared.history.Entry.{Entry as Kept}
 use Rattle.ca_world_data.specs.declared.losing.Leading.{Leading}
+use Rattle.ca_world_data.specs.declared.server.RecordSide.{RecordSide}
 use Rattle.ca_world_data.specs.declared.server.ServerSide.{ServerSide}
 use Rattle.ca_world_data.specs.Does.{Does}
 use Rattle.ca_world_data.specs.Indexed.{AreIndexed, server_numbers}
 use Rattle.ca_world_data.specs.Losing.{AllMayLose, AllReady, AreLost, AreSeated, Disconnects, is_lost, lost_by, lost_told, without_lost}
 use Rattle.ca_world_data.specs.Removing.{AllSeated, Becomes, RemovesAt, TellsRemoval}
-use Rattle.ca_world_data.specs.Reporting.{AreServed}
-use Rattle.ca_world_data.specs.Seen.{client_of, joined_of, record_of, server_of}
+use Rattle.ca_world_data.specs.Reporting.{AreServed, waits}
+use Rattle.ca_world_data.specs.ServerCuts.{HasRoomFor}
+use Rattle.ca_world_data.specs.Seen.{client_of, joined_of, place_of, record_of, server_of}
 use Rattle.ca_world_data.proofs.Indexes.{KeepsEnds, ends-stay, indexed-map, indexed-same, numbers-set}
 use Rattle.ca_world_data.proofs.Worlds.{set-map, set-same, world_of}
 use Rattle.ca_world.specs.Whole.{IsReached}
@@ -255,6 +259,33 @@ removal-keeps i core name gone left j = go (j.server == i && j.lists.server_open
     go : (b : Bool) → KeepsEnds j (if b then without_standing (λ (key : SubKey). list_any (λ (c : Handle × OpenChannel). wire_of c.0 == key.sid) told) (record j { lists = record j.lists { down = j.lists.down ++ map (removal_told j.creations) told } }) else j)
     go true = record { client = refl; server = refl; at_client = refl; at_server = refl; closes = λ on. on; stops = λ on. on }
     go false = ends-stay j j refl
+
+-- ---- room in the log
+
+waits_in : List model.RecordSide → ℕ
+waits_in [] = 0
+waits_in (r ∷ rs) = length r.waiting + waits_in rs
+
+waits-seen : (rs : List RecordSide) → waits rs ≡ waits_in (map record_of rs)
+waits-seen [] = refl
+waits-seen (r ∷ rs) = (let rest = waits-seen rs in let here = length-map r.waiting.items place_of in omega (arith, rest, here))
+
+waits-fewer : (p : model.RecordSide → Bool) (rs : List model.RecordSide) → waits_in (filter p rs) ≤ waits_in rs
+waits-fewer p [] = omega arith
+waits-fewer p (r ∷ rs) = go (p r) (waits-fewer p rs)
+  where
+    go : (b : Bool) → waits_in (filter p rs) ≤ waits_in rs → waits_in (if b then r ∷ filter p rs else filter p rs) ≤ length r.waiting + waits_in rs
+    go true le = omega (arith, le)
+    go false le = omega (arith, le)
+
+-- there is room for what waits at the records that are left
+pub room-left : (life : ℕ) (logs : List (Vec Kept Global)) (p : model.RecordSide → Bool) (rs rest : List RecordSide) → map record_of rest ≡ filter p (map record_of rs) → HasRoomFor (waits rs) life logs → HasRoomFor (waits rest) life logs
+room-left life logs p rs rest is room log at =
+    let had = room log at in
+    let all = waits-seen rs in
+    let left = waits-seen rest ∙ ap waits_in is in
+    let few = waits-fewer p (map record_of rs) in
+    omega (arith, had, all, left, few)
 
 -- ---- a world after it
 
