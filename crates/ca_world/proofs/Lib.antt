@@ -8,6 +8,7 @@ pub mod Subscribing
 pub mod Cancellings
 pub mod Downward
 pub mod Reported
+pub mod Unstamped
 pub mod Cuttings
 pub mod Collecting
 pub mod Farewells

@@ -1,5 +1,6 @@
 pub mod Whole
 pub mod Reported
+pub mod Unstamped
 pub mod ServerPumps
 pub mod Halted
 pub mod Ticking
