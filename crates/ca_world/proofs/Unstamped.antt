@@ -1,10 +1,11 @@
 -- No event hands a stamp to a server.
-use Rattle.std.proofs.Common.{◌≡◌, ℕ, inl, inr, Bool, true, false, List, [], ◌∷◌, Option, Some, None, Ok, Err, refl, sym, ap, subst, ◌∙◌}
+use Rattle.std.proofs.Common.{◌≡◌, ℕ, inl, inr, Bool, true, false, List, [], ◌∷◌, length, Option, Some, None, Ok, Err, refl, sym, ap, subst, ◌∙◌}
 use Rattle.std.specs.Prelude.{Result, if◌then◌else◌, option_map, slice_get, slice_set, unwrap_or}
 use Rattle.std.specs.List.{FoldsTo}
 use Rattle.ca_arena.specs.declared.handle.Handle.{Handle}
 use Rattle.ca_records.specs.declared.puts.Put.{Put}
 use Rattle.ca_records.specs.Puts.{WaitingPut}
+use Rattle.ca_link.specs.Link.{with_rest}
 use Rattle.ca_text.specs.Place.{At}
 use Rattle.ca_text.proofs.Places.{At-set}
 use Rattle.ca_text.specs.declared.refusal.Refusal.{Refusal}
@@ -13,7 +14,7 @@ use Rattle.ca_model.specs.Answers as answer
 use Rattle.ca_model.specs.Client.{Client}
 use Rattle.ca_model.specs.ClientEnds.{handed_over}
 use Rattle.ca_wire.specs.Fields.{Fields}
-use Rattle.ca_model.specs.Due.{Action, Adds, Applies, Clears, Drops, Greets, Names, Opens, Switches, Waits}
+use Rattle.ca_model.specs.Due.{Action, Adds, Applies, Clears, Drops, Greets, Names, Nothing, Opens, Switches, Waits}
 use Rattle.ca_model.specs.Ends as why
 use Rattle.ca_model.specs.Server.{Server, ServerEnd}
 use Rattle.ca_model.specs.ServerCalls.{Finishes, Replies, after_next}
@@ -32,6 +33,7 @@ use Rattle.ca_world.proofs.Meanings.{at-numbered}
 -- ---- cores
 
 recorded-stamp : (y new : Server) (h : Handle) (e : ServerEnd) (m : Fields) (action : Action) → Records y h e m action new → new.stamp ≡ y.stamp
+recorded-stamp y new h e m Nothing r = ap (λ (z : Server). z.stamp) r
 recorded-stamp y new h e m Greets r = ap (λ (z : Server). z.stamp) r
 recorded-stamp y new h e m (Names p) r = ap (λ (z : Server). z.stamp) r
 recorded-stamp y new h e m (Opens c) r = ap (λ (z : Server). z.stamp) r
@@ -49,7 +51,7 @@ reached-stamp y new gone _ r = ap (λ (z : Server). z.stamp) r.1
 
 next-stamp : (y : Server) (h : Handle) (e : ServerEnd) (next : Next y h e) → next.after.stamp ≡ y.stamp
 next-stamp y h e next =
-    ap (λ (z : Server). z.stamp) next.handles.leaves ∙ recorded-stamp y next.handles.recorded h _ next.m next.action next.handles.records
+    ap (λ (z : Server). z.stamp) next.handles.leaves ∙ recorded-stamp y next.handles.recorded h (record e { link = with_rest next.rest e.link }) next.m next.action next.handles.records
 
 left-stamp : (y new : Server) (h : Handle) (e : ServerEnd) (next : Next y h e) (o : Option (Handle → Bool)) → LeftOf next o new → new.stamp ≡ y.stamp
 left-stamp y new h e next None is = ap (λ (z : Server). z.stamp) is
@@ -68,8 +70,8 @@ finish-stamp y new name sent (f, mid, replies, is) =
     ap (λ (z : Server). z.stamp) is ∙ next-applied-stamp name f.r.waiting f.gone mid ∙ replied-stamp _ mid f.p f.gone sent replies
 
 pumps-stamp : (y new : Server) (h : Handle) (us : List Update) → Pumps y h us new → new.stamp ≡ y.stamp
-pumps-stamp y new h us (inl (e, has, after, folds, inl r)) = ap (λ (z : Server). z.stamp) r.1
-pumps-stamp y new h us (inl (e, has, after, folds, inr r)) = ap (λ (z : Server). z.stamp) r.1
+pumps-stamp y new h us (inl (e, has, (after, folds, inl r))) = ap (λ (z : Server). z.stamp) r.1
+pumps-stamp y new h us (inl (e, has, (after, folds, inr r))) = ap (λ (z : Server). z.stamp) r.1
 pumps-stamp y new h us (inr r) = ap (λ (z : Server). z.stamp) r.2
 
 cuts-stamp : (y new : Server) (h : Handle) → Cuts y h new → new.stamp ≡ y.stamp
