@@ -9,6 +9,7 @@ pub mod Cancellings
 pub mod Downward
 pub mod Reported
 pub mod Unstamped
+pub mod Finishings
 pub mod Cuttings
 pub mod Collecting
 pub mod Farewells

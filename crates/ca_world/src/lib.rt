@@ -14,6 +14,7 @@ mod cut_client;
 mod cut_server;
 mod down;
 mod give_up;
+mod next_write;
 mod opens;
 mod post;
 mod pump;
