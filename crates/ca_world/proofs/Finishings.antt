@@ -1,5 +1,5 @@
 -- A put that waits, as the log of its server's life has it.
-use Rattle.std.proofs.Common.{◌≡◌, ℕ, List, Option, Some, map, option_map, refl, sym, ap, subst, ◌∙◌}
+use Rattle.std.proofs.Common.{◌≡◌, List, Option, Some, option_map, subst}
 use Rattle.ca_dbr.specs.Elements.{Elements}
 use Rattle.ca_model.specs.History as history
 use Rattle.ca_model_world.specs.World.{PutPlace}

@@ -77,6 +77,7 @@ pumps-stamp y new h us (inr r) = ap (λ (z : Server). z.stamp) r.2
 cuts-stamp : (y new : Server) (h : Handle) → Cuts y h new → new.stamp ≡ y.stamp
 cuts-stamp y new h (inl r) = ap (λ (z : Server). z.stamp) r.2
 cuts-stamp y new h (inr r) = ap (λ (z : Server). z.stamp) r.1
+
 -- ---- servers
 
 pub unstamped-set : (ys : List ServerSide) (i : ℕ) (y : ServerSide) → AllUnstamped ys → IsUnstamped y.core → AllUnstamped (slice_set ys i y)
