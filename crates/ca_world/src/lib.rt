@@ -13,6 +13,7 @@ mod config;
 mod cut_client;
 mod cut_server;
 mod down;
+mod finish;
 mod give_up;
 mod next_write;
 mod opens;
