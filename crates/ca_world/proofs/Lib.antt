@@ -26,3 +26,4 @@ pub mod Postings
 pub mod Widths
 pub mod Additions
 pub mod ClientHearings
+pub mod Removings

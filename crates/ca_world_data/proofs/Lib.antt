@@ -32,3 +32,4 @@ pub mod Steppings
 pub mod Tellings
 pub mod Each
 pub mod Handled
+pub mod Losings

@@ -35,3 +35,5 @@ pub mod Ticks
 pub mod Replies
 pub mod ClientSteps
 pub mod Handling
+pub mod Losing
+pub mod Removing

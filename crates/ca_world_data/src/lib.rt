@@ -17,6 +17,7 @@ pub mod history;
 pub mod joined;
 pub mod lefts;
 pub mod logs;
+pub mod losing;
 pub mod naming;
 pub mod numbering;
 pub mod opening;
