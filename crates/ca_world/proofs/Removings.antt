@@ -61,8 +61,8 @@ run-seated w i (s, es, ok, folds) k j there mine on =
     let holds = (run-follows s es None w ok runs k j seat.y seat.e log.0 there seat.at on seat.has (subst (λ (l : ℕ). At w.server_logs l log.0) seat.joins log.1)).holds in
     record {
       stand = λ n q key at has.
-        let d = At-mapped (queue_images _) holds.both n q (subst (λ (qs : List (Queue (ℕ × Cause))). At qs n q) holds.numbers_are at) in
-        holds.seats n d.0 key d.1 (ap (λ (z : Queue (ℕ × Cause)). is_among key z.subscriptions) (sym d.2) ∙ has);
+          let d = At-mapped (queue_images _) holds.both n q (subst (λ (qs : List (Queue (ℕ × Cause))). At qs n q) holds.numbers_are at) in
+          holds.seats n d.0 key d.1 (ap (λ (z : Queue (ℕ × Cause)). is_among key z.subscriptions) (sym d.2) ∙ has);
       known = λ n q x at waits. (serves.numbers k j there on q (n, at) x waits).0;
     }
 
