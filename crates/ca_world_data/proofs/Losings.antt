@@ -1,8 +1,9 @@
 -- Circuits lose a record that is removed, one after another.
-use Rattle.std.proofs.Common.{◌≡◌, ℕ, ◌+◌, ◌*◌, ◌-◌, ◌/◌, zero, suc, ◌<◌, ◌≤◌, ◌&&◌, ◌||◌, Bool, true, false, not, List, [], ◌∷◌, ◌++◌, length, drop, filter, map, take, refl, sym, ap, subst, ◌∙◌, arith, inl, inr}
+use Rattle.std.proofs.Common.{◌≡◌, ℕ, ◌+◌, ◌*◌, ◌-◌, ◌/◌, zero, suc, ◌<◌, ◌≤◌, ◌==◌, ◌&&◌, ◌||◌, Bool, true, false, not, List, [], ◌∷◌, ◌++◌, length, drop, filter, map, take, refl, sym, ap, subst, ◌∙◌, arith, inl, inr}
 use Rattle.std.specs.Prelude.{if◌then◌else◌, slice_set}
 use Rattle.std.specs.List.{fold}
 use Rattle.std.specs.Str.{bytes_eq}
+use Rattle.std.proofs.lemmas.Bool.{eq-eqb, eqb-true}
 use Rattle.std.proofs.Math.Nat.{mul-div_cancel}
 use Rattle.ca_queue.specs.declared.entry.SubKey.{SubKey}
 use Rattle.ca_queue.specs.Circuit.{queue_without, without_each}
@@ -19,10 +20,12 @@ use Rattle.ca_model_world.specs.World as model
 use Rattle.ca_server_subscriptions.proofs.Sieves.{filter-on, steps-sieve, without-sieve}
 use Rattle.ca_world_data.specs.declared.history.Cause.{Cause}
 use Rattle.ca_world_data.specs.declared.joined.Joined.{Joined}
+use Rattle.ca_world_data.specs.declared.joined.Creation.{Creation}
 use Rattle.ca_world_data.specs.declared.joined.Standing.{Standing}
 use Rattle.ca_world_data.specs.declared.losing.Leading.{Leading}
 use Rattle.ca_world_data.specs.declared.server.PutPlace.{PutPlace}
 use Rattle.ca_world_data.specs.declared.server.RecordSide.{RecordSide}
+use Rattle.ca_world_data.specs.Handling.{without_sid}
 use Rattle.ca_world_data.specs.Losing.{AreSeated, dropped, is_lost, lost_told, removed_all, withdrawn_entries, without_lost}
 use Rattle.ca_world_data.specs.Numbering.{keys_on}
 use Rattle.ca_world_data.specs.Seen.{cause_of, creation_of, joined_of, place_of, queue_of, record_of, standing_of, told_of}
@@ -129,6 +132,16 @@ cancels-none {E} gone key qs is = sym (ap (λ (b : Bool). map (λ (q : Queue E).
     all [] = refl
     all (q ∷ qs) = ap (λ (t : List (Queue E)). q ∷ t) (all qs)
 
+-- one of these keys is among them
+pub among-at : (keys : List SubKey) (i : ℕ) (k : SubKey) → At keys i k → is_among k keys ≡ true
+among-at [] i k at = absurd cc
+among-at (x ∷ keys) zero k at = ap (λ (b : Bool). b || is_among k keys) (subst (λ (z : SubKey). same k z ≡ true) (sym (some_is x k at)) (same_itself k))
+among-at (x ∷ keys) (suc i) k at = ap (λ (b : Bool). same k x || b) (among-at keys i k at) ∙ last (same k x)
+  where
+    last : (b : Bool) → (b || true) ≡ true
+    last true = refl
+    last false = refl
+
 -- the subscriptions of a row, all of which a queue has that stand in it, and no others wait there
 pub drops-without : {E : Type 0} (gone : SubKey → Bool) (keys : List SubKey) (q : Queue E) → ((k : SubKey) → is_among k q.subscriptions ≡ true → is_among k keys ≡ true)
     → ((w : SubKey × E) → In q.waiting w → is_among w.0 q.subscriptions ≡ true) → dropped gone keys q ≡ queue_without gone q
@@ -143,15 +156,6 @@ drops-without {E} gone keys q stand known =
     agree : (k : SubKey) → is_among k q.subscriptions ≡ true → (gone k && is_among k keys) ≡ (gone k && is_among k q.subscriptions)
     agree k has = ap (λ (b : Bool). gone k && b) (stand k has ∙ sym has)
 
-    among-at : (keys : List SubKey) (i : ℕ) (k : SubKey) → At keys i k → is_among k keys ≡ true
-    among-at [] i k at = absurd cc
-    among-at (x ∷ keys) zero k at = ap (λ (b : Bool). b || is_among k keys) (subst (λ (z : SubKey). same k z ≡ true) (sym (some_is x k at)) (same_itself k))
-    among-at (x ∷ keys) (suc i) k at = ap (λ (b : Bool). same k x || b) (among-at keys i k at) ∙ last (same k x)
-      where
-        last : (b : Bool) → (b || true) ≡ true
-        last true = refl
-        last false = refl
-
 pub each-dropped : {E : Type 0} (gone : SubKey → Bool) (keys : List SubKey) (qs : List (Queue E)) → ((n : ℕ) (q : Queue E) (k : SubKey) → At qs n q → is_among k q.subscriptions ≡ true → is_among k keys ≡ true)
     → ((n : ℕ) (q : Queue E) (w : SubKey × E) → At qs n q → In q.waiting w → is_among w.0 q.subscriptions ≡ true) → map (dropped gone keys) qs ≡ without_each gone qs
 each-dropped gone keys [] stand known = refl
@@ -160,9 +164,34 @@ each-dropped gone keys (q ∷ qs) stand known =
     let rest = each-dropped gone keys qs (λ n r k at has. stand (suc n) r k at has) (λ n r w at waits. known (suc n) r w at waits) in
     λ t. here t ∷ rest t
 
+-- one subscription is cancelled, and no others wait than those that the queue has
+pub one-cancelled : {E : Type 0} (key : SubKey) (q : Queue E) → ((w : SubKey × E) → In q.waiting w → is_among w.0 q.subscriptions ≡ true) → cancelled key q ≡ queue_without (same key) q
+one-cancelled {E} key q known =
+    (λ t. record {
+      waiting = filter-on (λ (w : SubKey × E). not (same key w.0)) (λ (w : SubKey × E). not (same key w.0 && is_among w.0 q.subscriptions)) q.waiting (λ i w at. ap not (agree w.0 (known w (i, at)))) t;
+      subscriptions = filter-on (λ (k : SubKey). not (same key k)) (λ (k : SubKey). not (same key k && is_among k q.subscriptions)) q.subscriptions (λ i k at. ap not (agree k (among-at q.subscriptions i k at))) t;
+      events_on = q.events_on;
+    })
+    ∙ sym (without-sieve (same key) q)
+  where
+    alone : (b : Bool) → b ≡ (b && true)
+    alone true = refl
+    alone false = refl
+
+    agree : (k : SubKey) → is_among k q.subscriptions ≡ true → same key k ≡ (same key k && is_among k q.subscriptions)
+    agree k has = alone (same key k) ∙ ap (λ (b : Bool). same key k && b) (sym has)
+
+pub each-cancelled : {E : Type 0} (key : SubKey) (qs : List (Queue E)) → ((n : ℕ) (q : Queue E) (w : SubKey × E) → At qs n q → In q.waiting w → is_among w.0 q.subscriptions ≡ true)
+    → map (cancelled key) qs ≡ without_each (same key) qs
+each-cancelled key [] known = refl
+each-cancelled key (q ∷ qs) known =
+    let here = one-cancelled key q (λ w waits. known 0 q w refl waits) in
+    let rest = each-cancelled key qs (λ n r w at waits. known (suc n) r w at waits) in
+    λ t. here t ∷ rest t
+
 -- ---- a circuit
 
-standing-left : (gone : SubKey → Bool) (ss : List Standing) → map standing_of (filter (λ (s : Standing). not (gone s.key)) ss) ≡ filter (λ (s : model.Standing). not (gone s.key)) (map standing_of ss)
+pub standing-left : (gone : SubKey → Bool) (ss : List Standing) → map standing_of (filter (λ (s : Standing). not (gone s.key)) ss) ≡ filter (λ (s : model.Standing). not (gone s.key)) (map standing_of ss)
 standing-left gone [] = refl
 standing-left gone (s ∷ ss) = go (gone s.key) (standing-left gone ss)
   where
@@ -190,6 +219,56 @@ loses-so j new lost seated down standing queues =
     let stands = ap (map standing_of) standing ∙ standing-left gone j.standing.items in
     let rows = queues ∙ ap (λ (ks : List SubKey). map (dropped gone ks) (joined_of j).queues) (keys-seen j.standing.items) ∙ each-dropped gone (keys_on (joined_of j)) (joined_of j).queues seated.stand seated.known in
     λ t. record (joined_of j) { lists = record (joined_of j).lists { down = down t }; standing = stands t; queues = rows t }
+
+-- a circuit without the subscriptions that a test names
+pub stands-no-more : (gone : SubKey → Bool) (j new : Joined) → map standing_of new.standing.items ≡ filter (λ (s : model.Standing). not (gone s.key)) (map standing_of j.standing.items)
+    → map (λ (q : Queue (ℕ × Cause) × Bool). queue_of q.0) new.queues.items ≡ without_each gone (map (λ (q : Queue (ℕ × Cause) × Bool). queue_of q.0) j.queues.items)
+    → joined_of (record j { standing = new.standing; queues = new.queues }) ≡ event.without_standing gone (joined_of j)
+stands-no-more gone j new stands rows = λ t. record (joined_of j) { standing = stands t; queues = rows t }
+
+pub creations-left : (sid : ℕ) (cs : List Creation) → map creation_of (filter (λ (c : Creation). not (c.sid == sid)) cs) ≡ filter (λ (c : model.Creation). not (c.sid == sid)) (map creation_of cs)
+creations-left sid [] = refl
+creations-left sid (c ∷ cs) = go (c.sid == sid) (creations-left sid cs)
+  where
+    kept : List Creation
+    kept = filter (λ (x : Creation). not (x.sid == sid)) cs
+
+    left : List model.Creation
+    left = filter (λ (x : model.Creation). not (x.sid == sid)) (map creation_of cs)
+
+    go : (b : Bool) → map creation_of kept ≡ left → map creation_of (if not b then c ∷ kept else kept) ≡ (if not b then creation_of c ∷ left else left)
+    go true same = same
+    go false same = ap (λ (t : List model.Creation). creation_of c ∷ t) same
+
+-- a circuit without the channel of a SID, and its subscriptions
+pub ends-channel : (sid cid : ℕ) (j new : Joined) → AreSeated (joined_of j)
+    → (standing : new.standing.items ≡ filter (λ (s : Standing). not (is_lost ((sid, cid) ∷ []) s.key)) j.standing.items)
+    → (queues : map (λ (q : Queue (ℕ × Cause) × Bool). queue_of q.0) new.queues.items ≡ map (dropped (is_lost ((sid, cid) ∷ [])) (map (λ (s : Standing). s.key) j.standing.items)) (map (λ (q : Queue (ℕ × Cause) × Bool). queue_of q.0) j.queues.items))
+    → (creations : new.creations.items ≡ filter (λ (c : Creation). not (c.sid == sid)) j.creations.items)
+    → joined_of (record j { creations = new.creations; standing = new.standing; queues = new.queues }) ≡ without_sid sid (joined_of j)
+ends-channel sid cid j new seated standing queues creations =
+    let lost : SubKey → Bool = is_lost ((sid, cid) ∷ []) in
+    let gone : SubKey → Bool = λ (k : SubKey). k.sid == sid in
+    let stands = ap (map standing_of) standing ∙ standing-left lost j.standing.items ∙ (λ t. filter (λ (s : model.Standing). not (one s.key t)) (map standing_of j.standing.items)) in
+    let rows = queues ∙ ap (λ (ks : List SubKey). map (dropped lost ks) (joined_of j).queues) (keys-seen j.standing.items)
+    ∙ each-dropped lost (keys_on (joined_of j)) (joined_of j).queues seated.stand seated.known ∙ (λ t. without_each (λ (k : SubKey). one k t) (joined_of j).queues) in
+    let made = ap (map creation_of) creations ∙ creations-left sid j.creations.items in
+    λ t. record (joined_of j) { creations = made t; standing = stands t; queues = rows t }
+  where
+    alone : (b : Bool) → (b || false) ≡ b
+    alone true = refl
+    alone false = refl
+
+    both : (a b : Bool) → (a ≡ true → b ≡ true) → (b ≡ true → a ≡ true) → a ≡ b
+    both true b to from = sym (to refl)
+    both false true to from = from refl
+    both false false to from = refl
+
+    turned : (a b : ℕ) → (a == b) ≡ (b == a)
+    turned a b = both (a == b) (b == a) (λ is. eq-eqb b a (sym (eqb-true a b is))) (λ is. eq-eqb a b (sym (eqb-true b a is)))
+
+    one : (k : SubKey) → is_lost ((sid, cid) ∷ []) k ≡ (k.sid == sid)
+    one k = alone (sid == k.sid) ∙ turned sid k.sid
 
 -- ---- logs
 

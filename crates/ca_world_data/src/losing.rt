@@ -158,7 +158,7 @@ fn created_at(sid: u32, creations: &[Creation]) -> usize
 }
 
 // Subscriptions on these channels are over, and their numbers wait no more.
-fn drop_lost(
+pub(crate) fn drop_lost(
     standing: &mut Vec<Standing>,
     queues: &mut [ListQueue<(usize, Cause)>],
     lost: &[(u32, u32)],
@@ -197,7 +197,7 @@ fn is_on(lost: &[(u32, u32)], key: SubKey) -> bool
 }
 
 // No queue has this subscription from now on.
-fn cancel_in(queues: &mut [ListQueue<(usize, Cause)>], key: SubKey)
+pub(crate) fn cancel_in(queues: &mut [ListQueue<(usize, Cause)>], key: SubKey)
     ensures { map (λ q. queue_of q.0) queues.new
         ≡ map (cancelled key) (map (λ q. queue_of q.0) queues.old) }
 {
