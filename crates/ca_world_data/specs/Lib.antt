@@ -37,3 +37,4 @@ pub mod ClientSteps
 pub mod Handling
 pub mod Losing
 pub mod Removing
+pub mod Parting

@@ -1,8 +1,7 @@
 -- Working: the puts that wait on a channel which a message clears, by what the core knows of each.
-use Rattle.std.specs.Prelude.{ℕ, ◌≡◌, Bool, not, List, [], Option, Some, None, map}
-use Rattle.std.specs.Cells.Allocators.{Global}
+use Rattle.std.specs.Prelude.{ℕ, ◌≡◌, Bool, not, List, [], Option, Some, None, Vec, length, map}
+use Rattle.std.specs.declared.alloc.Global.{Global}
 use Rattle.std.specs.List.{flat_map}
-use Rattle.std.specs.Vec.{Vec}
 use Rattle.ca_arena.specs.declared.handle.Handle.{Handle}
 use Rattle.ca_records.specs.declared.puts.Put.{Put}
 use Rattle.ca_records.specs.Puts.{Record, WaitingPut, record_named}
@@ -53,4 +52,4 @@ with_places f r = record r { waiting = f r }
 -- The records stand beside the core's: of each the core has the one of its name at the same place.
 pub record AreBeside (cs : List Record) (rs : List RecordSide) : Type 0 where
   pub each : (i : ℕ) (c : Record) (r : RecordSide) → At cs i c → At rs i r → record_named cs r.name ≡ Some c
-  pub long : Rattle.std.specs.Prelude.length cs ≡ Rattle.std.specs.Prelude.length rs
+  pub long : length cs ≡ length rs

@@ -21,6 +21,7 @@ pub mod losing;
 pub mod naming;
 pub mod numbering;
 pub mod opening;
+pub mod parting;
 pub mod payloads;
 pub mod replies;
 pub mod reporting;
