@@ -33,3 +33,4 @@ pub mod Tellings
 pub mod Each
 pub mod Handled
 pub mod Losings
+pub mod Parted

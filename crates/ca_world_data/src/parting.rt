@@ -1,11 +1,9 @@
 //! The puts that wait on a channel which a message clears leave their records, and the log has them as withdrawn.
-ghost use Rattle.std.specs.Prelude.{◌≡◌, ◌++◌, ◌==◌, ◌&&◌, IfOk, OnOk, length, map};
+ghost use Rattle.std.specs.Prelude.{◌≡◌, ◌++◌, IfOk, OnOk, map, not};
 ghost use Rattle.ca_ids.specs.Table.{same_handle};
-ghost use Rattle.ca_ids.specs.Wire.{wire_of};
 ghost use Rattle.ca_model_world.specs.ServerEvents as world;
-ghost use Rattle.ca_model_world.specs.World as model;
-ghost use Rattle.ca_world_data.specs.Parting.{all_gone, all_kept, gone_of, is_of, kept_of, places_in, with_places, withdrawn_at};
-ghost use Rattle.ca_world_data.specs.Seen.{entry_of, record_of};
+ghost use Rattle.ca_world_data.specs.Parting.{all_gone, all_kept, gone_of, kept_of, places_in, put_if, with_kept, withdrawn_at};
+ghost use Rattle.ca_world_data.specs.Seen.{entry_of, place_of, record_of};
 
 use crate::history::Entry;
 use crate::server::{PutPlace, RecordSide};
@@ -60,40 +58,58 @@ fn part_waiting(
         ++ map withdrawn_at (gone_of core.now circuit sid (record_of side.now))) }
 {
     let mut kept = Vec::new(alloc);
-    let mut place = 0;
-    while place < side.waiting.len() {
+    for place in 0..side.waiting.len() {
         let Some(put) = waiting_at(core, &side.name, place) else {
             return Ok(kept);
         };
-        let at = side.waiting[place];
-        if is_on_channel(put, circuit, sid) {
-            told.push(Entry::Withdrawn(at.circuit, at.place))?;
-        } else {
-            kept.push(at)?;
-        }
-        place += 1;
+        let gone = is_on_channel(put, circuit, sid);
+        put_aside(&mut kept, told, side.waiting[place], gone)?;
     }
     Ok(kept)
 }
 
-// Whether the put came on the channel of this SID on this circuit.
-fn is_on_channel(put: Put, circuit: Handle, sid: u32) -> bool
-    ensures { result ≡ is_of circuit sid put }
+// The put at this place is kept, or the log tells that it is withdrawn.
+fn put_aside(
+    kept: &mut Vec<PutPlace>,
+    told: &mut Vec<Entry>,
+    put: PutPlace,
+    gone: bool,
+) -> Result<(), AllocError>
+    ensures kept { OnOk result (places_in kept.new
+        ≡ places_in kept.old ++ put_if (not gone) (place_of put)) }
+    ensures told { OnOk result (map entry_of told.new.items
+        ≡ map entry_of told.old.items ++ map withdrawn_at (put_if gone (place_of put))) }
 {
-    let on = put.circuit.index == circuit.index && put.circuit.generation == circuit.generation;
-    on && WireId::of(put.channel).number() == sid
+    if gone {
+        told.push(Entry::Withdrawn(put.circuit, put.place))
+    } else {
+        kept.push(put)
+    }
 }
 
-/// The puts that wait for these records are from now on those that were kept.
+// Whether the put came on the channel of this SID on this circuit.
+fn is_on_channel(put: Put, circuit: Handle, sid: u32) -> bool
+    ensures { result ≡ world.is_of_channel circuit sid put }
+{
+    is_same(put.circuit, circuit) && WireId::of(put.channel).number() == sid
+}
+
+fn is_same(a: Handle, b: Handle) -> bool
+    ensures { result ≡ same_handle a b }
+{
+    a.index == b.index && a.generation == b.generation
+}
+
+/// The puts that wait for these records are from now on those that were kept of each.
 pub fn keep_waiting(records: &mut [RecordSide], kept: Vec<Vec<PutPlace>>)
-    requires { length kept.items ≡ length records.old }
-    ensures { (f : model.RecordSide → _)
-        → map places_in kept.items ≡ map f (map record_of records.old)
-        → map record_of records.new ≡ map (with_places f) (map record_of records.old) }
+    ensures { map record_of records.new
+        ≡ with_kept (map places_in kept.items) (map record_of records.old) }
 {
     let mut place = 0;
     for waiting in kept {
-        records[place].waiting = waiting;
-        place += 1;
+        if place < records.len() {
+            records[place].waiting = waiting;
+            place += 1;
+        }
     }
 }
