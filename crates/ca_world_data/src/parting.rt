@@ -81,10 +81,11 @@ fn put_aside(
         ≡ map entry_of told.old.items ++ map withdrawn_at (put_if gone (place_of put))) }
 {
     if gone {
-        told.push(Entry::Withdrawn(put.circuit, put.place))
+        told.push(Entry::Withdrawn(put.circuit, put.place))?;
     } else {
-        kept.push(put)
+        kept.push(put)?;
     }
+    Ok(())
 }
 
 // Whether the put came on the channel of this SID on this circuit.
