@@ -3,7 +3,7 @@ use Rattle.std.proofs.Common.{◌≡◌, ℕ, zero, suc, ◌+◌, ◌≤◌, Boo
 use Rattle.std.specs.Prelude.{Vec, if◌then◌else◌, option_map, slice_get, slice_set}
 use Rattle.std.specs.List.{flat_map}
 use Rattle.std.specs.declared.alloc.Global.{Global}
-use Rattle.std.proofs.lemmas.List.{append-nil}
+use Rattle.std.proofs.lemmas.List.{append-nil, append_assoc}
 use Rattle.ca_arena.specs.declared.handle.Handle.{Handle}
 use Rattle.ca_records.specs.declared.puts.Put.{Put}
 use Rattle.ca_records.specs.Puts.{Record, WaitingPut, record_named}
@@ -47,7 +47,7 @@ put-there (Some r) i b is = go (slice_get r.waiting i) refl is
   where
     go : (o : Option WaitingPut) → slice_get r.waiting i ≡ o → Some b ≡ option_map (λ (w : WaitingPut). w.put) o → (w : WaitingPut) × At r.waiting i w × (w.put ≡ b)
     go None e is = absurd cc
-    go (Some w) e is = (w, (e, some_is w.put b (sym is)))
+    go (Some w) e is = (w, e, some_is w.put b (sym is))
 
 nothing-there : (o : Option Record) (i : ℕ) → None ≡ put_in o i → drop i (puts_of o) ≡ []
 nothing-there None zero is = refl
@@ -66,8 +66,8 @@ pub aside-next : (test : Put → Bool) (o : Option Record) (ps : List PutPlace) 
 aside-next test o ps i b p is at =
     let there = put-there o i b is in
     let w : WaitingPut = there.0 in
-    ap (λ (x : Bool). put_if x p ++ rest) (ap test (sym there.1.1)) ∙ pick (test w.put)
-    ∙ sym (λ t. places_where test (drop-here (puts_of o) i w there.1.0 t) (drop-here ps i p at t))
+    ap (λ (x : Bool). put_if x p ++ rest) (ap test (sym there.2)) ∙ pick (test w.put)
+    ∙ sym (λ t. places_where test (drop-here (puts_of o) i w there.1 t) (drop-here ps i p at t))
   where
     rest : List PutPlace
     rest = places_where test (drop (i + 1) (puts_of o)) (drop (i + 1) ps)
@@ -75,6 +75,33 @@ aside-next test o ps i b p is at =
     pick : (x : Bool) → put_if x p ++ rest ≡ (if x then p ∷ rest else rest)
     pick true = refl
     pick false = refl
+
+-- the same behind those that were kept or told before
+pub aside-kept : (test : Put → Bool) (o : Option Record) (ps : List PutPlace) (i : ℕ) (b : Put) (p : PutPlace) (keep : Bool) (old new all : List PutPlace) → Some b ≡ put_in o i → At ps i p → keep ≡ test b
+    → new ≡ old ++ put_if keep p → old ++ places_where test (drop i (puts_of o)) (drop i ps) ≡ all → new ++ places_where test (drop (i + 1) (puts_of o)) (drop (i + 1) ps) ≡ all
+aside-kept test o ps i b p keep old new all is at so made before =
+    ap (λ (l : List PutPlace). l ++ rest) (made ∙ ap (λ (x : Bool). old ++ put_if x p) so)
+    ∙ append_assoc old (put_if (test b) p) rest
+    ∙ ap (λ (l : List PutPlace). old ++ l) (aside-next test o ps i b p is at)
+    ∙ before
+  where
+    rest : List PutPlace
+    rest = places_where test (drop (i + 1) (puts_of o)) (drop (i + 1) ps)
+
+joins : (ps qs : List PutPlace) → map withdrawn_at ps ++ map withdrawn_at qs ≡ map withdrawn_at (ps ++ qs)
+joins [] qs = refl
+joins (p ∷ ps) qs = ap (λ (t : List Entry). withdrawn_at p ∷ t) (joins ps qs)
+
+pub aside-told : (test : Put → Bool) (o : Option Record) (ps : List PutPlace) (i : ℕ) (b : Put) (p : PutPlace) (gone : Bool) (old new all : List Entry) → Some b ≡ put_in o i → At ps i p → gone ≡ test b
+    → new ≡ old ++ map withdrawn_at (put_if gone p) → old ++ map withdrawn_at (places_where test (drop i (puts_of o)) (drop i ps)) ≡ all → new ++ map withdrawn_at (places_where test (drop (i + 1) (puts_of o)) (drop (i + 1) ps)) ≡ all
+aside-told test o ps i b p gone old new all is at so made before =
+    ap (λ (l : List Entry). l ++ map withdrawn_at rest) (made ∙ ap (λ (x : Bool). old ++ map withdrawn_at (put_if x p)) so)
+    ∙ append_assoc old (map withdrawn_at (put_if (test b) p)) (map withdrawn_at rest)
+    ∙ ap (λ (l : List Entry). old ++ l) (joins (put_if (test b) p) rest ∙ ap (map withdrawn_at) (aside-next test o ps i b p is at))
+    ∙ before
+  where
+    rest : List PutPlace
+    rest = places_where test (drop (i + 1) (puts_of o)) (drop (i + 1) ps)
 
 -- the core knows of no more
 pub aside-none : (test : Put → Bool) (o : Option Record) (ps : List PutPlace) (i : ℕ) → None ≡ put_in o i → places_where test (drop i (puts_of o)) (drop i ps) ≡ []
@@ -87,6 +114,13 @@ aside-over test o ps i le = ap (places_where test (drop i (puts_of o))) (drop-ov
     none : (puts : List WaitingPut) → places_where test puts [] ≡ []
     none [] = refl
     none (p ∷ puts) = refl
+
+-- nothing is left behind those that were kept or told
+pub ends-kept : (kept rest all : List PutPlace) → rest ≡ [] → kept ++ rest ≡ all → kept ≡ all
+ends-kept kept rest all none is = sym (append-nil kept) ∙ ap (λ (l : List PutPlace). kept ++ l) (sym none) ∙ is
+
+pub ends-told : (told all : List Entry) (rest : List PutPlace) → rest ≡ [] → told ++ map withdrawn_at rest ≡ all → told ≡ all
+ends-told told all rest none is = sym (append-nil told) ∙ ap (λ (l : List PutPlace). told ++ map withdrawn_at l) (sym none) ∙ is
 
 -- ---- puts that are kept
 
@@ -145,10 +179,6 @@ module _ (core : Server) (h : Handle) (sid : ℕ) where
       let rest = beside-gone cs rs (λ i x y at there. each (suc i) x y at there) (omega (arith, long)) in
       (λ t. map withdrawn_at (places_where (is_of_channel h sid) (puts_of (each 0 c r refl refl t)) r.waiting) ++ rest t)
       ∙ joins (places_where (is_of_channel h sid) c.waiting r.waiting) (flat_map (λ (ps : List PutPlace). ps) (with_core (λ (x : Record) (y : RecordSide). places_where (is_of_channel h sid) x.waiting y.waiting) cs rs))
-    where
-      joins : (ps qs : List PutPlace) → map withdrawn_at ps ++ map withdrawn_at qs ≡ map withdrawn_at (ps ++ qs)
-      joins [] qs = refl
-      joins (p ∷ ps) qs = ap (λ (t : List Entry). withdrawn_at p ∷ t) (joins ps qs)
 
 -- the records without the puts of a channel, and what the log tells of these
 pub parts-kept : (core : Server) (h : Handle) (sid : ℕ) (rs : List RecordSide) → AreBeside core.records rs → with_kept (all_kept core h sid rs) rs ≡ with_core (without_channel h sid) core.records rs
