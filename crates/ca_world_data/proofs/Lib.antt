@@ -34,3 +34,4 @@ pub mod Each
 pub mod Handled
 pub mod Losings
 pub mod Parted
+pub mod Forthcoming

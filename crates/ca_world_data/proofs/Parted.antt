@@ -16,7 +16,7 @@ use Rattle.ca_model_world.specs.World.{PutPlace, RecordSide}
 use Rattle.ca_server_core.specs.ForHistories.{put_in}
 use Rattle.ca_world_data.specs.declared.server.PutPlace.{PutPlace as Kept}
 use Rattle.ca_world_data.specs.declared.server.RecordSide.{RecordSide as Side}
-use Rattle.ca_world_data.specs.Parting.{AreBeside, all_gone, all_kept, gone_of, kept_of, put_if, puts_of, with_kept, withdrawn_at}
+use Rattle.ca_world_data.specs.Parting.{AreBeside, all_gone, all_kept, gone_of, kept_of, places_in, put_if, puts_of, with_kept, withdrawn_at}
 use Rattle.ca_world_data.specs.Seen.{record_of}
 use Rattle.ca_world_data.proofs.Worlds.{set-map}
 
@@ -122,6 +122,34 @@ ends-kept kept rest all none is = sym (append-nil kept) ∙ ap (λ (l : List Put
 pub ends-told : (told all : List Entry) (rest : List PutPlace) → rest ≡ [] → told ++ map withdrawn_at rest ≡ all → told ≡ all
 ends-told told all rest none is = sym (append-nil told) ∙ ap (λ (l : List PutPlace). told ++ map withdrawn_at l) (sym none) ∙ is
 
+-- one more record
+pub parts-kept-next : (core : Server) (h : Handle) (sid : ℕ) (rs : List Side) (i : ℕ) (r : Side) (old new : List (Vec Kept Global)) (v : Vec Kept Global) (all : List (List PutPlace)) → At rs i r → new ≡ old ++ v ∷ []
+    → places_in v ≡ kept_of core h sid (record_of r) → map places_in old ++ all_kept core h sid (map record_of (drop i rs)) ≡ all → map places_in new ++ all_kept core h sid (map record_of (drop (i + 1) rs)) ≡ all
+parts-kept-next core h sid rs i r old new v all at more is before =
+    ap (λ (l : List (Vec Kept Global)). map places_in l ++ rest) more
+    ∙ behind old
+    ∙ ap (λ (ps : List PutPlace). map places_in old ++ ps ∷ rest) is
+    ∙ ap (λ (l : List Side). map places_in old ++ all_kept core h sid (map record_of l)) (sym (drop-here rs i r at))
+    ∙ before
+  where
+    rest : List (List PutPlace)
+    rest = all_kept core h sid (map record_of (drop (i + 1) rs))
+
+    behind : (l : List (Vec Kept Global)) → map places_in (l ++ v ∷ []) ++ rest ≡ map places_in l ++ places_in v ∷ rest
+    behind [] = refl
+    behind (x ∷ l) = ap (λ (t : List (List PutPlace)). places_in x ∷ t) (behind l)
+
+pub parts-told-next : (core : Server) (h : Handle) (sid : ℕ) (rs : List Side) (i : ℕ) (r : Side) (old new all : List Entry) → At rs i r → new ≡ old ++ map withdrawn_at (gone_of core h sid (record_of r))
+    → old ++ all_gone core h sid (map record_of (drop i rs)) ≡ all → new ++ all_gone core h sid (map record_of (drop (i + 1) rs)) ≡ all
+parts-told-next core h sid rs i r old new all at more before =
+    ap (λ (l : List Entry). l ++ rest) more
+    ∙ append_assoc old (map withdrawn_at (gone_of core h sid (record_of r))) rest
+    ∙ ap (λ (l : List Side). old ++ all_gone core h sid (map record_of l)) (sym (drop-here rs i r at))
+    ∙ before
+  where
+    rest : List Entry
+    rest = all_gone core h sid (map record_of (drop (i + 1) rs))
+
 -- ---- puts that are kept
 
 -- from this record on
@@ -153,10 +181,10 @@ kept-next (suc i) (x ∷ rs) r ps kept at =
 
 -- the same, of the records that are kept
 pub kept-step : (i : ℕ) (rs : List Side) (r : Side) (w : Vec Kept Global) (kept : List (List PutPlace)) → At rs i r
-    → kept_from (i + 1) kept (map record_of (slice_set rs i (record r { waiting = w }))) ≡ kept_from i (Rattle.ca_world_data.specs.Parting.places_in w ∷ kept) (map record_of rs)
+    → kept_from (i + 1) kept (map record_of (slice_set rs i (record r { waiting = w }))) ≡ kept_from i (places_in w ∷ kept) (map record_of rs)
 kept-step i rs r w kept at =
     ap (kept_from (i + 1) kept) (set-map record_of rs i (record r { waiting = w }))
-    ∙ kept-next i (map record_of rs) (record_of r) (Rattle.ca_world_data.specs.Parting.places_in w) kept (At-map record_of rs i r at)
+    ∙ kept-next i (map record_of rs) (record_of r) (places_in w) kept (At-map record_of rs i r at)
 
 -- ---- all records, as the statement has them
 

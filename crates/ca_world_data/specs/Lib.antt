@@ -38,3 +38,4 @@ pub mod Handling
 pub mod Losing
 pub mod Removing
 pub mod Parting
+pub mod Coming

@@ -7,6 +7,7 @@ pub mod cancelling;
 pub mod clearing;
 pub mod client;
 pub mod closing;
+pub mod coming;
 pub mod ends;
 pub mod entries;
 pub mod found;
