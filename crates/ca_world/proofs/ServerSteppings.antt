@@ -64,8 +64,8 @@ module _ (h : Handle) where
   handled-as y e taken next m (Applies name value busies) recorded has plain recs = absurd cc
   handled-as y e taken next m (Waits name value) recorded has plain recs =
       let w : WaitingPut = record { put = recs.0; value = value } in
-      let is : here recs.0 ≡ true = ap here recs.1.0.1.1 ∙ same-itself h in
-      ap (λ (z : Server). closed h (with_end h next z)) recs.1.1 ∙ ends-as y (with_record name (with_waiting w) y.records) e next has (waits-same name w is y.records)
+      let is : here recs.0 ≡ true = ap here recs.1.2 ∙ same-itself h in
+      ap (λ (z : Server). closed h (with_end h next z)) recs.2 ∙ ends-as y (with_record name (with_waiting w) y.records) e next has (waits-same name w is y.records)
   handled-as y e taken next m (Clears sid) recorded has plain recs =
       ap (λ (z : Server). closed h (with_end h next z)) recs
       ∙ ends-as y (withdrawn (λ (p : Put). same_handle p.circuit h && wire_of p.channel == sid) y.records) e next has (clears-same (λ (p : Put). same_handle p.circuit h && wire_of p.channel == sid) (λ p is. first (same_handle p.circuit h) (wire_of p.channel == sid) is) y.records)
