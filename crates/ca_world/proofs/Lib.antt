@@ -27,3 +27,4 @@ pub mod Widths
 pub mod Additions
 pub mod ClientHearings
 pub mod Removings
+pub mod ServerSteppings
