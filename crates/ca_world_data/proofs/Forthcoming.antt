@@ -56,7 +56,7 @@ module _ (m : Fields) (number count : ℕ) (bytes : List ℕ) (numbered : number
       go refusal.BadType other refused b e is reads = (let small = base_number-small b in absurd (omega (arith, small, is, refused)))
       go refusal.Short other refused b e is reads =
           let one : refused.0 ≡ plain b = is-plain b refused.0 (refused.1 ∙ is) in
-          refused.2.1 e blank (subst (λ (x : DataType). Reads x count bytes e blank) (sym one) reads)
+          refused.3 e blank (subst (λ (x : DataType). Reads x count bytes e blank) (sym one) reads)
       go refusal.OutOfMemory other refused b e is reads = other refl
       go _ other refused b e is reads = absurd refused
 
