@@ -1,16 +1,18 @@
-ghost use Rattle.std.specs.Prelude.{◌≡◌, ◌+◌, ◌<◌, Ok, length, is_some, map, option_map, vec_capacity, vec_len};
+ghost use Rattle.std.specs.Prelude.{ℕ, ◌≡◌, ◌+◌, ◌<◌, ◌++◌, [], ◌∷◌, List, MatchOption, Ok, map, option_map, vec_capacity, vec_len};
 ghost use Rattle.ca_dbr.specs.Elements.{elements};
 ghost use Rattle.ca_records.specs.declared.puts.Put as put;
 ghost use Rattle.ca_server_core.specs.ForHistories.{bytes_under};
 ghost use Rattle.ca_ids.specs.Table.{under};
 ghost use Rattle.ca_wire.specs.Fields.{Fields};
 ghost use Rattle.ca_arena.specs.declared.handle.Handle as handle;
+ghost use Rattle.ca_text.specs.Place.{At};
 ghost use Rattle.ca_model.specs.History as history;
 ghost use Rattle.ca_model.specs.ServerCalls.{Finishes};
 ghost use Rattle.ca_model_world.specs.Events as event;
 ghost use Rattle.ca_model_world.specs.ServerEvents.{about, finish_entry};
 ghost use Rattle.ca_model_world.specs.World.{grown};
 ghost use Rattle.ca_world.specs.Finishing.{AreBehind, Finished, FinishesAt, HasRoomOn, IsBusy, IsBusyOn, MayFinish, TellsFinish, applied_of, numbered, with_down};
+ghost use Rattle.ca_world_data.specs.declared.server.RecordSide as side;
 ghost use Rattle.ca_world_data.specs.Does.{Does};
 ghost use Rattle.ca_world_data.specs.Numbering.{AllAlike, AllMayCount};
 ghost use Rattle.ca_world_data.specs.Opening.{entries_in};
@@ -296,8 +298,8 @@ fn tell_reply(
 
 // The place of the record of this name.
 fn place_named(name: &[u8], records: &[RecordSide]) -> Option<usize>
-    ensures { MatchOption result tt
-        (λ place. (r : RecordSide) × At records.now place r × (r.name.items ≡ name.now)) }
+    ensures { MatchOption result (Unit {0})
+        (λ place. (r : side.RecordSide) × At records.now place r × (r.name.items ≡ name.now)) }
 {
     for place in 0..records.len() {
         if records[place].name.as_slice() == name {
