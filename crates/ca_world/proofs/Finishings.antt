@@ -252,7 +252,7 @@ module _ (w : model.World) (i : ℕ) (y : model.ServerSide) (name : List ℕ) (a
 
   -- the log of its life tells what the two records are
   agree-beside : (c : Record) (r : model.RecordSide) → IsBeside y.core y.records name c r → Agrees (IsPutOf w.circuits i) l.log c r
-  agree-beside c r (named, place, in_rs, is_name) =
+  agree-beside c r (named, (place, in_rs, is_name)) =
       let f = found (IsPutOf w.circuits i) l.log y.core.records y.records name c l.life.each named in
       let one : f.i ≡ place = others-apart y.records l.life.others f.i place f.r r f.in_rs in_rs (f.named ∙ sym is_name) in
       both-at (Agrees (IsPutOf w.circuits i) l.log) y.core.records y.records place c r l.life.each (subst (λ (n : ℕ). At y.core.records n c) one f.in_cs) in_rs
@@ -264,11 +264,11 @@ module _ (w : model.World) (i : ℕ) (y : model.ServerSide) (name : List ℕ) (a
       go : (ps : List PutPlace) (ws : List WaitingPut) (value : Option Elements) → Both (WaitsAs (IsPutOf w.circuits i) l.log r.number) ps ws → IsNext w.server_logs y.life ps value
           → option_map (λ (z : WaitingPut). z.value) (first_of ws) ≡ value
       go [] [] None both next = refl
-      go [] [] (Some v) both (log, there, p, first, rest) = absurd cc
+      go [] [] (Some v) both (log, there, (p, first, rest)) = absurd cc
       go [] (w ∷ ws) value both next = absurd both
       go (p ∷ ps) [] value both next = absurd both
       go (p ∷ ps) (x ∷ ws) None both next = absurd cc
-      go (p ∷ ps) (x ∷ ws) (Some v) both (log, there, q, first, (e, (n, in_log), r', v', e_is, v_is)) =
+      go (p ∷ ps) (x ∷ ws) (Some v) both (log, there, (q, first, (e, (n, in_log), (r', v', e_is, v_is)))) =
           let came = both.0.0 in
           let same_log : log ≡ l.log = At-one w.server_logs y.life log l.log there l.at in
           let same : q ≡ p = sym (some_is p q first) in
@@ -376,7 +376,7 @@ set-aside waits i core name p sent ks bare after last j c told at bare_is after_
 
 -- a property of circuits that the reply and the numbers keep
 module _ (p : PutPlace) (sent : List (Handle × Fields)) where
-  said : model.Joined → model.Joined
+  abbrev said : model.Joined → model.Joined
   said j = with_down (j.lists.down ++ about p.place history.Reply (map (λ (s : Handle × Fields). s.1) sent)) j
 
   said-keeps : (j : model.Joined) → KeepsEnds j (said j)
@@ -437,7 +437,7 @@ entries-next y r (Some w) (Some p) (Some v) bare is =
 -- both or neither
 pub next-both : (logs : List (List history.Entry)) (life : ℕ) (ps : List PutPlace) (value : Option Elements) → IsNext logs life ps value → is_some (first_of ps) ≡ is_some value
 next-both logs life [] None next = refl
-next-both logs life [] (Some v) (log, there, p, first, rest) = absurd cc
+next-both logs life [] (Some v) (log, there, (p, first, rest)) = absurd cc
 next-both logs life (p ∷ ps) None next = absurd cc
 next-both logs life (p ∷ ps) (Some v) next = refl
 
