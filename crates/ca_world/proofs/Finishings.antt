@@ -1,5 +1,5 @@
 -- A record's busy put is finished at a server, from what its parts became.
-use Rattle.std.proofs.Common.{◌≡◌, ◌∙◌, ℕ, zero, suc, ◌+◌, ◌<◌, ◌≤◌, inl, inr, Bool, true, false, List, [], ◌∷◌, ◌++◌, Option, Some, None, Result, Ok, Err, drop, length, refl, sym, ap, subst, arith}
+use Rattle.std.proofs.Common.{◌≡◌, ◌∙◌, ℕ, zero, suc, ◌+◌, ◌<◌, ◌≤◌, ◌==◌, ◌&&◌, inl, inr, Bool, true, false, List, [], ◌∷◌, ◌++◌, Option, Some, None, Result, Ok, Err, drop, length, refl, sym, ap, subst, arith}
 use Rattle.std.specs.Prelude.{◌⊎◌, if◌then◌else◌, is_some, map, option_map, slice_get, slice_set, unwrap_or}
 use Rattle.std.specs.List.{flat_map, fold}
 use Rattle.std.specs.Str.{bytes_eq}
@@ -11,7 +11,7 @@ use Rattle.ca_ids.specs.Table.{under}
 use Rattle.ca_queue.specs.declared.entry.SubKey.{SubKey}
 use Rattle.ca_queue.proofs.Circuits.{set-twice}
 use Rattle.ca_records.specs.declared.puts.Put.{Put}
-use Rattle.ca_records.specs.Puts.{Record, WaitingPut, record_named}
+use Rattle.ca_records.specs.Puts.{Record, WaitingPut, record_named, written_meta}
 use Rattle.ca_text.specs.declared.refusal.Refusal.{Refusal}
 use Rattle.ca_text.specs.declared.refusal.Refusal.TheVariants.{NotBusy, OutOfMemory, UnknownRecord}
 use Rattle.ca_text.specs.Place.{At}
@@ -28,7 +28,7 @@ use Rattle.ca_model.specs.ServerSteps.{reached, stored_now, write_mask}
 use Rattle.ca_model.specs.Speech.{In, Stored}
 use Rattle.ca_model_world.specs.Events as event
 use Rattle.ca_model_world.specs.Runs.{CanBe, IsServer}
-use Rattle.ca_model_world.specs.ServerEvents.{about, ending, ends_by, finish_entry, first_of, next_busy, next_entries, next_numbers, numbers_posted, replied_at, reported, server_after, with_number, with_record, withdrawals, without_puts}
+use Rattle.ca_model_world.specs.ServerEvents.{about, ending, ends_by, finish_entry, first_of, keys_concerned, next_busy, next_entries, next_numbers, numbers_posted, replied_at, reported, server_after, with_number, with_record, withdrawals, without_puts}
 use Rattle.ca_model_world.specs.World.{PutPlace, grown}
 use Rattle.ca_model_world.specs.World as model
 use Rattle.ca_laws_bytes.proofs.Fits.{empty-payload}
@@ -51,12 +51,13 @@ use Rattle.ca_world.proofs.Postings.{each-under, ending-keeps, fold-keeps, poste
 use Rattle.ca_world.proofs.Unstamped.{run-unstamped}
 use Rattle.ca_world_data.specs.declared.client.ClientSide.{ClientSide}
 use Rattle.ca_world_data.specs.declared.joined.Joined.{Joined}
+use Rattle.ca_world_data.specs.declared.server.RecordSide.{RecordSide as Held}
 use Rattle.ca_world_data.specs.declared.server.ServerSide.{ServerSide}
 use Rattle.ca_world_data.specs.Does.{Does}
 use Rattle.ca_world_data.specs.Indexed.{AreIndexed, server_numbers}
 use Rattle.ca_world_data.specs.Numbering.{AllAlike, IsAlike}
-use Rattle.ca_world_data.specs.Reporting.{AreServed, Reports, gone_at}
-use Rattle.ca_world_data.specs.Seen.{client_of, joined_of, record_of, server_of}
+use Rattle.ca_world_data.specs.Reporting.{AreServed, Reports, gone_at, waits}
+use Rattle.ca_world_data.specs.Seen.{client_of, joined_of, place_of, record_of, server_of}
 use Rattle.ca_world_data.proofs.Indexes.{KeepsEnds, ends-stay, indexed-circuit, indexed-map, indexed-same, numbers-set}
 use Rattle.ca_world_data.proofs.Worlds.{set-map, set-same, world_of}
 
@@ -197,30 +198,21 @@ same-down : (keys : List SubKey) (j : model.Joined) → (fold with_number j keys
 same-down [] j = refl
 same-down (key ∷ keys) j = same-down keys (with_number j key)
 
-down-twice : (d : List history.Told) (c : model.Joined) (o : Option model.Joined) → with_down d (with_down [] c) ≡ with_down d c
-down-twice d c o = refl
-
 map-same : {A : Type 0} (f : A → A) (xs : List A) → ((x : A) → f x ≡ x) → map f xs ≡ xs
 map-same f [] same = refl
 map-same f (x ∷ xs) same = (λ t. same x t ∷ map-same f xs same t)
 
--- the record of a server that is named
-pub record Known (y : Server) (name : List ℕ) : Type 0 where
-  pub c : Record
-  pub named : record_named y.records name ≡ Some c
-  pub b : Put
-  pub busy : c.busy ≡ Some b
-
 -- ---- refusals
 
-is-known : (y : Server) (name : List ℕ) → is_some (busy_value y name) ≡ true → Known y name
-is-known y name some = go (record_named y.records name) refl some
+-- a record whose busy value is known is busy
+pub is-busy : (y : Server) (name : List ℕ) (e : Elements) → busy_value y name ≡ Some e → (b : Put) × IsBusy y name b
+is-busy y name e some = go (record_named y.records name) refl some
   where
-    on : (c : Record) → record_named y.records name ≡ Some c → (o : Option Put) → c.busy ≡ o → is_some (if is_some o then Some c.state.value else None) ≡ true → Known y name
+    on : (c : Record) → record_named y.records name ≡ Some c → (o : Option Put) → c.busy ≡ o → (if is_some o then Some c.state.value else None) ≡ Some e → (b : Put) × IsBusy y name b
     on c named None busy some = absurd cc
-    on c named (Some b) busy some = record { c = c; named = named; b = b; busy = busy }
+    on c named (Some b) busy some = (b, record { c = c; named = named; busy = busy })
 
-    go : (o : Option Record) → record_named y.records name ≡ o → is_some (value_busy o) ≡ true → Known y name
+    go : (o : Option Record) → record_named y.records name ≡ o → value_busy o ≡ Some e → (b : Put) × IsBusy y name b
     go None named some = absurd cc
     go (Some c) named some = on c named c.busy refl some
 
@@ -260,7 +252,7 @@ module _ (w : model.World) (i : ℕ) (y : model.ServerSide) (name : List ℕ) (a
 
   -- the log of its life tells what the two records are
   agree-beside : (c : Record) (r : model.RecordSide) → IsBeside y.core y.records name c r → Agrees (IsPutOf w.circuits i) l.log c r
-  agree-beside c r (named, place, in_rs, is_name) =
+  agree-beside c r (named, (place, in_rs, is_name)) =
       let f = found (IsPutOf w.circuits i) l.log y.core.records y.records name c l.life.each named in
       let one : f.i ≡ place = others-apart y.records l.life.others f.i place f.r r f.in_rs in_rs (f.named ∙ sym is_name) in
       both-at (Agrees (IsPutOf w.circuits i) l.log) y.core.records y.records place c r l.life.each (subst (λ (n : ℕ). At y.core.records n c) one f.in_cs) in_rs
@@ -272,11 +264,11 @@ module _ (w : model.World) (i : ℕ) (y : model.ServerSide) (name : List ℕ) (a
       go : (ps : List PutPlace) (ws : List WaitingPut) (value : Option Elements) → Both (WaitsAs (IsPutOf w.circuits i) l.log r.number) ps ws → IsNext w.server_logs y.life ps value
           → option_map (λ (z : WaitingPut). z.value) (first_of ws) ≡ value
       go [] [] None both next = refl
-      go [] [] (Some v) both (log, there, p, first, rest) = absurd cc
+      go [] [] (Some v) both (log, there, (p, first, rest)) = absurd cc
       go [] (w ∷ ws) value both next = absurd both
       go (p ∷ ps) [] value both next = absurd both
       go (p ∷ ps) (x ∷ ws) None both next = absurd cc
-      go (p ∷ ps) (x ∷ ws) (Some v) both (log, there, q, first, (e, (n, in_log), r', v', e_is, v_is)) =
+      go (p ∷ ps) (x ∷ ws) (Some v) both (log, there, (q, first, (e, (n, in_log), (r', v', e_is, v_is)))) =
           let came = both.0.0 in
           let same_log : log ≡ l.log = At-one w.server_logs y.life log l.log there l.at in
           let same : q ≡ p = sym (some_is p q first) in
@@ -317,10 +309,10 @@ keeps-numbers false i core name j = ends-stay j j refl
 
 -- the circuit with other messages down has the same numbers
 down-posted : (d : List history.Told) (i : ℕ) (core : Server) (name : List ℕ) (j : model.Joined) → numbers_posted i core name write_mask (with_down d j) ≡ with_down d (numbers_posted i core name write_mask j)
-down-posted d i core name j = go (Rattle.std.specs.Prelude.◌&&◌ (Rattle.std.specs.Prelude.◌==◌ j.server i) j.lists.server_open)
+down-posted d i core name j = go (j.server == i && j.lists.server_open)
   where
     keys : List SubKey
-    keys = Rattle.ca_model_world.specs.ServerEvents.keys_concerned name write_mask (under core.circuits j.at_server)
+    keys = keys_concerned name write_mask (under core.circuits j.at_server)
 
     go : (b : Bool) → (if b then fold with_number (with_down d j) keys else with_down d j) ≡ with_down d (if b then fold with_number j keys else j)
     go true = down-number d keys j
@@ -331,10 +323,10 @@ down-numbers true d i core name j = down-posted d i core name j
 down-numbers false d i core name j = refl
 
 down-kept : (waits : Bool) (i : ℕ) (core : Server) (name : List ℕ) (j : model.Joined) → (if_waits waits i core name j).lists.down ≡ j.lists.down
-down-kept true i core name j = go (Rattle.std.specs.Prelude.◌&&◌ (Rattle.std.specs.Prelude.◌==◌ j.server i) j.lists.server_open)
+down-kept true i core name j = go (j.server == i && j.lists.server_open)
   where
     keys : List SubKey
-    keys = Rattle.ca_model_world.specs.ServerEvents.keys_concerned name write_mask (under core.circuits j.at_server)
+    keys = keys_concerned name write_mask (under core.circuits j.at_server)
 
     go : (b : Bool) → (if b then fold with_number j keys else j).lists.down ≡ j.lists.down
     go true = same-down keys j
@@ -354,9 +346,6 @@ alike-bare i core ks k j d at all n c there mine on = elim (At-set ks k (with_do
     bare None a = tt
     bare (Some (Ended cause left)) a = tt
     bare (Some (Open e)) a = record { keys = a.keys; apart = a.apart; queues = a.queues }
-
-at-map-set : {A : Type 0} (xs : List A) (k : ℕ) (x : A) → slice_get xs k ≡ Some x → At xs k x
-at-map-set xs k x is = is
 
 -- the reply on its circuit
 replied-there : (p : PutPlace) (sent : List (Handle × Fields)) (ks : List model.Joined) (j : model.Joined) → At ks p.circuit j
@@ -387,7 +376,7 @@ set-aside waits i core name p sent ks bare after last j c told at bare_is after_
 
 -- a property of circuits that the reply and the numbers keep
 module _ (p : PutPlace) (sent : List (Handle × Fields)) where
-  said : model.Joined → model.Joined
+  abbrev said : model.Joined → model.Joined
   said j = with_down (j.lists.down ++ about p.place history.Reply (map (λ (s : Handle × Fields). s.1) sent)) j
 
   said-keeps : (j : model.Joined) → KeepsEnds j (said j)
@@ -443,12 +432,12 @@ entries-next y r None (Some p) (Some v) bare is = absurd cc
 entries-next y r (Some w) None value bare is = refl
 entries-next y r (Some w) (Some p) None bare is = absurd cc
 entries-next y r (Some w) (Some p) (Some v) bare is =
-    (λ t. history.Applied p.circuit p.place r.number (record { value = some_is w.value v is (neg t); meta = Rattle.ca_records.specs.Puts.written_meta (sym bare t) }) true ∷ [])
+    (λ t. history.Applied p.circuit p.place r.number (record { value = sym (some_is w.value v is) t; meta = written_meta (sym bare t) }) true ∷ [])
 
 -- both or neither
 pub next-both : (logs : List (List history.Entry)) (life : ℕ) (ps : List PutPlace) (value : Option Elements) → IsNext logs life ps value → is_some (first_of ps) ≡ is_some value
 next-both logs life [] None next = refl
-next-both logs life [] (Some v) (log, there, p, first, rest) = absurd cc
+next-both logs life [] (Some v) (log, there, (p, first, rest)) = absurd cc
 next-both logs life (p ∷ ps) None next = absurd cc
 next-both logs life (p ∷ ps) (Some v) next = refl
 
@@ -457,3 +446,164 @@ next-both logs life (p ∷ ps) (Some v) next = refl
 abbrev waits_by : List model.RecordSide → ℕ
 waits_by [] = 0
 waits_by (r ∷ rs) = length r.waiting + waits_by rs
+
+waits-as : (rs : List Held) → waits rs ≡ waits_by (map record_of rs)
+waits-as [] = refl
+waits-as (r ∷ rs) = (λ t. sym (length-map r.waiting.items place_of) t + waits-as rs t)
+
+drop-one : {A : Type 0} (xs : List A) → length (drop 1 xs) ≤ length xs
+drop-one [] = omega arith
+drop-one (x ∷ xs) = omega arith
+
+waits-less : (name : List ℕ) (rs : List model.RecordSide) → waits_by (with_record name next_busy rs) ≤ waits_by rs
+waits-less name [] = omega arith
+waits-less name (r ∷ rs) = (let less = waits-less name rs in let here = one (bytes_eq r.name name) in omega (arith, less, here))
+  where
+    one : (b : Bool) → length (if b then next_busy r else r).waiting ≤ length r.waiting
+    one true = drop-one r.waiting
+    one false = omega arith
+
+-- no more wait than before
+pub waits-after : (name : List ℕ) (rs new : List Held) → map record_of new ≡ with_record name next_busy (map record_of rs)
+    → waits new ≤ waits rs
+waits-after name rs new is =
+    let was : waits rs ≡ waits_by (map record_of rs) = waits-as rs in
+    let now : waits new ≡ waits_by (with_record name next_busy (map record_of rs)) = waits-as new ∙ ap waits_by is in
+    let less = waits-less name (map record_of rs) in
+    omega (arith, was, now, less)
+
+-- ---- a server after it
+
+-- by the records and the log what was told is a finish
+pub told-ends : (i : ℕ) (name : List ℕ) (y y' : ServerSide) (ks ks' : List model.Joined) (logs logs' : List (List history.Entry)) (c : Record) (r : model.RecordSide) (p : PutPlace) (next : Option PutPlace) (value : Option Elements)
+    → IsBeside y.core (map record_of y.records.items) name c r → r.busy ≡ Some p → next ≡ first_of r.waiting → IsNext logs y.life r.waiting value → MayFinish name (server_of y) ks logs
+    → TellsFinish i name p r.number next value y ks logs y' ks' logs' → Ends i name y ks logs y' ks' logs'
+told-ends i name y y' ks ks' logs logs' c r p next value beside busy next_is is may told =
+    let first = may.next c r value beside is in
+    let both : is_some next ≡ is_some value = ap is_some next_is ∙ next-both logs y.life r.waiting value is in
+    let circuits : told.after ≡ replied_in p told.did.sent (map (next_numbers i y.core name c.waiting) ks) = told.did.circuits ∙ ap (replied_in p told.did.sent) (numbers-next i y.core name c.waiting next value ks first both) in
+    let entries : applied_of r.number next value ≡ next_entries (server_of y) r (first_of c.waiting) (first_of r.waiting) =
+    entries-next (server_of y) r (first_of c.waiting) next value may.unstamped first ∙ ap (next_entries (server_of y) r (first_of c.waiting)) next_is in
+    record {
+      sent = told.did.sent;
+      core = told.core;
+      finishes = told.did.finishes;
+      cr = c;
+      named = beside.0;
+      r = r;
+      at = beside.1;
+      p = p;
+      busy = busy;
+      mid = told.mid;
+      mid_is = told.mid_is;
+      numbers = told.numbers;
+      reports =
+          subst (λ (z : List model.Joined × List history.Entry). Reports i told.mid z.0 (grown y.life (finish_entry p ∷ z.1) logs) y' ks' logs') (λ t. (circuits t, entries t)) told.reports;
+    }
+
+-- ---- a world after it
+
+module _ (cs : List ClientSide) (ss : List ServerSide) (ks : List Joined) (cl : List (List history.Line)) (sl : List (List history.Entry)) (m : ℕ) (i : ℕ) (y : ServerSide) (at : At ss i y) (name : List ℕ) where
+  abbrev there : IsServer (world_of cs ss ks cl sl m) i
+  there = record { y = server_of y; at = At-map server_of ss i y at }
+
+  stay : (y' : ServerSide) (ks' : List Joined) (sl' : List (List history.Entry)) → y' ≡ y → map joined_of ks' ≡ map joined_of ks → sl' ≡ sl → world_of cs (slice_set ss i y') ks' cl sl' m ≡ world_of cs ss ks cl sl m
+  stay y' ks' sl' is_y is_k is_l =
+      (λ t. record { clients = map client_of cs; servers = map server_of (slice_set ss i (is_y t)); circuits = is_k t; client_logs = cl; server_logs = is_l t; moment = m })
+      ∙ (λ t. world_of cs (set-same ss i y at t) ks cl sl m)
+
+  -- the world once this server was the one that called, on these circuits
+  abbrev over : model.ServerSide → List model.Joined → List (List history.Entry) → model.World
+  over z js logs =
+      let gone : ℕ → Bool = gone_at i z.core js in
+      record {
+        clients = map client_of cs;
+        servers = slice_set (map server_of ss) i (record z { core = reported z.core; records = map (without_puts gone) z.records });
+        circuits = map (ending (ends_by i z.core)) js;
+        client_logs = cl;
+        server_logs = grown z.life (withdrawals gone z.records) logs;
+        moment = m;
+      }
+
+  ends-leave : (y' : ServerSide) (ks' : List Joined) (sl' : List (List history.Entry)) (d : Ends i name y (map joined_of ks) sl y' (map joined_of ks') sl')
+      → world_of cs (slice_set ss i y') ks' cl sl' m
+      ≡ server_after i (record (server_of y) { records = with_record name next_busy (map record_of y.records.items) }) (ends_by i d.core) d.core
+      (replied_at d.p d.sent (model.with_entries y.life (finish_entry d.p ∷ next_entries (server_of y) d.r (first_of d.cr.waiting) (first_of d.r.waiting)) (model.with_server i (record (server_of y) { records = with_record name next_busy (map record_of y.records.items) }) (record (world_of cs ss ks cl sl m) { circuits = map (next_numbers i y.core name d.cr.waiting) (map joined_of ks) }))))
+  ends-leave y' ks' sl' d =
+      let js : List model.Joined = map (next_numbers i y.core name d.cr.waiting) (map joined_of ks) in
+      let entries : List history.Entry = finish_entry d.p ∷ next_entries (server_of y) d.r (first_of d.cr.waiting) (first_of d.r.waiting) in
+      let side : model.ServerSide = record (server_of y) { records = with_record name next_busy (map record_of y.records.items) } in
+      let begun : model.World = model.with_entries y.life entries (model.with_server i side (record (world_of cs ss ks cl sl m) { circuits = js })) in
+      let all : List model.Joined = replied_in d.p d.sent js in
+      let logs : List (List history.Entry) = grown y.life entries sl in
+      let is : world_of cs (slice_set ss i y') ks' cl sl' m ≡ over (server_of d.mid) all logs = (λ t. record {
+        clients = map client_of cs;
+        servers = (set-map server_of ss i y' ∙ ap (slice_set (map server_of ss) i) d.reports.side) t;
+        circuits = d.reports.circuits t;
+        client_logs = cl;
+        server_logs = d.reports.logged t;
+        moment = m;
+      }) in
+      let last : model.ServerSide = record side { core = reported d.core; records = map (without_puts (gone_at i d.core all)) side.records } in
+      let twice : over (record side { core = d.core }) all logs ≡ server_after i side (ends_by i d.core) d.core (record begun { circuits = all }) =
+      (λ t. record {
+        clients = map client_of cs;
+        servers = sym (set-twice (map server_of ss) i side last) t;
+        circuits = map (ending (ends_by i d.core)) all;
+        client_logs = cl;
+        server_logs = grown y.life (withdrawals (gone_at i d.core all) side.records) logs;
+        moment = m;
+      }) in
+      is ∙ ap (λ (z : model.ServerSide). over z all logs) d.mid_is ∙ twice ∙ ap (server_after i side (ends_by i d.core) d.core) (sym (replied-is d.p d.sent begun))
+
+  pub finish-does : (y' : ServerSide) (ks' : List Joined) (sl' : List (List history.Entry)) (r : Result (Unit {0}) Refusal) → FinishesAt i name y (map joined_of ks) sl r y' (map joined_of ks') sl'
+      → Does (world_of cs ss ks cl sl m) (event.Finish i name) r (world_of cs (slice_set ss i y') ks' cl sl' m)
+  finish-does y' ks' sl' (Ok u) (inl d) = (
+    there,
+    inl (record {
+      sent = d.sent;
+      core = d.core;
+      finishes = d.finishes;
+      cr = d.cr;
+      named = d.named;
+      r = d.r;
+      at = d.at;
+      p = d.p;
+      busy = d.busy;
+      leaves = ends-leave y' ks' sl' d;
+    }),
+  )
+  finish-does y' ks' sl' (Ok u) (inr (e, refuses, is_y, is_k, is_l)) = (there, inr (e, refuses, stay y' ks' sl' is_y is_k is_l))
+  finish-does y' ks' sl' (Err OutOfMemory) (is_y, is_k, is_l) = (there, stay y' ks' sl' is_y is_k is_l)
+  finish-does y' ks' sl' (Err _) d = absurd d
+
+  -- circuits are found as before
+  indexed-still : (numbers : List (List ℕ)) (y' : ServerSide) (ks' : List Joined) → y' ≡ y → map joined_of ks' ≡ map joined_of ks → AreIndexed numbers (server_numbers ss) (map joined_of ks) → AreIndexed numbers (server_numbers (slice_set ss i y')) (map joined_of ks')
+  indexed-still numbers y' ks' is_y is_k h =
+      indexed-same numbers numbers (server_numbers ss) (server_numbers (slice_set ss i y')) (map joined_of ks) (map joined_of ks') refl (numbers-set (λ (z : ServerSide). z.circuits.items) ss i y y' at (ap (λ (z : ServerSide). z.circuits.items) is_y)) is_k h
+
+  next-keeps : (ws : List WaitingPut) (j : model.Joined) → KeepsEnds j (next_numbers i y.core name ws j)
+  next-keeps [] j = ends-stay j j refl
+  next-keeps (w ∷ ws) j = posted-keeps i y.core name write_mask j
+
+  pub finish-indexed : (numbers : List (List ℕ)) (y' : ServerSide) (ks' : List Joined) (sl' : List (List history.Entry)) (r : Result (Unit {0}) Refusal) → FinishesAt i name y (map joined_of ks) sl r y' (map joined_of ks') sl'
+      → AreIndexed numbers (server_numbers ss) (map joined_of ks) → AreIndexed numbers (server_numbers (slice_set ss i y')) (map joined_of ks')
+  finish-indexed numbers y' ks' sl' (Ok u) (inl d) h =
+      let js : List model.Joined = map joined_of ks in
+      let nexts : List model.Joined = map (next_numbers i y.core name d.cr.waiting) js in
+      let told : AreIndexed numbers (server_numbers ss) nexts = indexed-map numbers (server_numbers ss) js h (next_numbers i y.core name d.cr.waiting) (next-keeps d.cr.waiting) in
+      let said : AreIndexed numbers (server_numbers ss) (replied_in d.p d.sent nexts) = indexed-replied d.p d.sent numbers (server_numbers ss) nexts told in
+      indexed-same numbers numbers (server_numbers ss) (server_numbers (slice_set ss i y')) _ (map joined_of ks') refl
+      (numbers-set (λ (z : ServerSide). z.circuits.items) ss i y y' at (d.reports.numbers ∙ d.numbers))
+      d.reports.circuits
+      (indexed-map numbers (server_numbers ss) (replied_in d.p d.sent nexts) said (ending (ends_by i d.mid.core)) (ending-keeps (ends_by i d.mid.core)))
+  finish-indexed numbers y' ks' sl' (Ok u) (inr (e, refuses, is_y, is_k, is_l)) h = indexed-still numbers y' ks' is_y is_k h
+  finish-indexed numbers y' ks' sl' (Err OutOfMemory) (is_y, is_k, is_l) h = indexed-still numbers y' ks' is_y is_k h
+  finish-indexed numbers y' ks' sl' (Err _) d h = absurd d
+
+-- no server
+pub finish-none : (cs : List ClientSide) (ss : List ServerSide) (ks : List Joined) (cl : List (List history.Line)) (sl : List (List history.Entry)) (m i : ℕ) (name : List ℕ) → length ss ≤ i → CanBe (world_of cs ss ks cl sl m) (event.Finish i name) → ⊥
+finish-none cs ss ks cl sl m i name over can =
+    let d = At-mapped server_of ss i can.y can.at in
+    let within = At-within ss i d.0 d.1 in
+    absurd (omega (arith, within, over))

@@ -1,5 +1,5 @@
 -- Working: a record's busy put is finished at a server, and the next that waits is applied.
-use Rattle.std.specs.Prelude.{ℕ, ◌≡◌, ◌<◌, ◌+◌, ◌++◌, ◌⊎◌, Bool, List, [], ◌∷◌, Option, Some, None, Ok, Err, Result, Vec, if◌then◌else◌, is_some, length, map, option_map, slice_get, slice_set, unwrap_or, vec_capacity, vec_len}
+use Rattle.std.specs.Prelude.{ℕ, ◌≡◌, ◌<◌, ◌+◌, ◌++◌, ◌⊎◌, Bool, true, List, [], ◌∷◌, Option, Some, None, Ok, Err, Result, Vec, if◌then◌else◌, is_some, length, map, option_map, slice_get, slice_set, unwrap_or, vec_capacity, vec_len}
 use Rattle.std.specs.declared.alloc.Global.{Global}
 use Rattle.ca_arena.specs.declared.handle.Handle.{Handle}
 use Rattle.ca_dbr.specs.Elements.{Elements}

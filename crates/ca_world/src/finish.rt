@@ -1,16 +1,18 @@
-ghost use Rattle.std.specs.Prelude.{◌≡◌, ◌+◌, ◌<◌, Ok, length, is_some, map, option_map, vec_capacity, vec_len};
+ghost use Rattle.std.specs.Prelude.{ℕ, ◌≡◌, ◌+◌, ◌<◌, ◌++◌, [], ◌∷◌, List, MatchOption, Ok, map, option_map, vec_capacity, vec_len};
 ghost use Rattle.ca_dbr.specs.Elements.{elements};
-ghost use Rattle.ca_records.specs.declared.puts.Put as put;
+ghost use Rattle.ca_records.specs.declared.puts.Put as puts;
 ghost use Rattle.ca_server_core.specs.ForHistories.{bytes_under};
 ghost use Rattle.ca_ids.specs.Table.{under};
 ghost use Rattle.ca_wire.specs.Fields.{Fields};
 ghost use Rattle.ca_arena.specs.declared.handle.Handle as handle;
+ghost use Rattle.ca_text.specs.Place.{At};
 ghost use Rattle.ca_model.specs.History as history;
 ghost use Rattle.ca_model.specs.ServerCalls.{Finishes};
 ghost use Rattle.ca_model_world.specs.Events as event;
 ghost use Rattle.ca_model_world.specs.ServerEvents.{about, finish_entry};
 ghost use Rattle.ca_model_world.specs.World.{grown};
 ghost use Rattle.ca_world.specs.Finishing.{AreBehind, Finished, FinishesAt, HasRoomOn, IsBusy, IsBusyOn, MayFinish, TellsFinish, applied_of, numbered, with_down};
+ghost use Rattle.ca_world_data.specs.declared.server.RecordSide as side;
 ghost use Rattle.ca_world_data.specs.Does.{Does};
 ghost use Rattle.ca_world_data.specs.Numbering.{AllAlike, AllMayCount};
 ghost use Rattle.ca_world_data.specs.Opening.{entries_in};
@@ -135,6 +137,7 @@ fn tell_finish(
         put.circuit
         (map joined_of circuits.old.items) }
     requires counts { AllMayCount circuits.old.items }
+    requires within { put.circuit < vec_len circuits.old }
     requires space { HasRoomOn put.circuit circuits.old.items }
     requires room { HasRoomFor (waits side.old.records.items + 2) side.old.life logs.old.items }
     ensures { TellsFinish
@@ -216,6 +219,7 @@ fn finish_on(
     requires alike { AllAlike server core.old (map joined_of circuits.old.items) }
     requires busy { IsBusyOn core.old name.now put.circuit (map joined_of circuits.old.items) }
     requires counts { AllMayCount circuits.old.items }
+    requires within { put.circuit < vec_len circuits.old }
     requires space { HasRoomOn put.circuit circuits.old.items }
     ensures { Finished
         server
@@ -230,17 +234,34 @@ fn finish_on(
     let at_server = circuits[put.circuit].at_server;
     let waited = bytes_of(core, at_server).len();
     let mut down = take_down(alloc, &mut circuits[put.circuit]);
-    if waits {
-        post_numbers(server, core, circuits, name, WRITE_MASK);
-    }
+    post_next(server, core, circuits, name, waits);
     finish_core(core, name);
     tell_reply(alloc, core, at_server, &mut down, put.place, waited);
     give_down(&mut circuits[put.circuit], down);
 }
 
+// If a put is applied next, its numbers wait.
+fn post_next(
+    server: usize,
+    core: &ServerCore,
+    circuits: &mut Vec<Joined>,
+    name: &[u8],
+    waits: bool,
+)
+    requires alike { AllAlike server core.now (map joined_of circuits.old.items) }
+    requires counts { AllMayCount circuits.old.items }
+    ensures numbers { map joined_of circuits.new.items
+        ≡ numbered waits server core.now name.now (map joined_of circuits.old.items) }
+    ensures len { vec_len circuits.new ≡ vec_len circuits.old }
+{
+    if waits {
+        post_numbers(server, core, circuits, name, WRITE_MASK);
+    }
+}
+
 // The core finishes the busy put of this record, which is busy.
 fn finish_core(core: &mut ServerCore, name: &[u8])
-    requires { (b : put.Put) × IsBusy core.old name.now b }
+    requires { (b : puts.Put) × IsBusy core.old name.now b }
     ensures { (sent : List (handle.Handle × Fields)) × Finishes core.old name.now sent (Ok tt) core.new }
 {
     match core.finish(name) {
@@ -296,8 +317,8 @@ fn tell_reply(
 
 // The place of the record of this name.
 fn place_named(name: &[u8], records: &[RecordSide]) -> Option<usize>
-    ensures { MatchOption result tt
-        (λ place. (r : RecordSide) × At records.now place r × (r.name.items ≡ name.now)) }
+    ensures { MatchOption result (Unit {0})
+        (λ place. (r : side.RecordSide) × At records.now place r × (r.name.items ≡ name.now)) }
 {
     for place in 0..records.len() {
         if records[place].name.as_slice() == name {
