@@ -241,13 +241,7 @@ fn finish_on(
 }
 
 // If a put is applied next, its numbers wait.
-fn post_next(
-    server: usize,
-    core: &ServerCore,
-    circuits: &mut Vec<Joined>,
-    name: &[u8],
-    waits: bool,
-)
+fn post_next(server: usize, core: &ServerCore, circuits: &mut Vec<Joined>, name: &[u8], waits: bool)
     requires alike { AllAlike server core.now (map joined_of circuits.old.items) }
     requires counts { AllMayCount circuits.old.items }
     ensures numbers { map joined_of circuits.new.items
