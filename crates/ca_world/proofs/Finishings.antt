@@ -47,7 +47,7 @@ use Rattle.ca_server_core.specs.ForHistories.{bytes_under}
 use Rattle.ca_world.specs.Finishing.{AreBehind, Ends, Finished, FinishesAt, IsBeside, IsBusy, IsBusyOn, IsNext, MayFinish, NextIn, TellsFinish, TellsWait, WaitIn, WaitsIn, applied_of, numbered, replied_in, with_down}
 use Rattle.ca_world.specs.Whole.{IsReached}
 use Rattle.ca_world.proofs.Additions.{others-apart}
-use Rattle.ca_world.proofs.Postings.{each-under, ending-keeps, fold-keeps, posted-keeps}
+use Rattle.ca_world.proofs.Postings.{each-under, ending-keeps, posted-keeps, served-posted}
 use Rattle.ca_world.proofs.Unstamped.{run-unstamped}
 use Rattle.ca_world_data.specs.declared.client.ClientSide.{ClientSide}
 use Rattle.ca_world_data.specs.declared.joined.Joined.{Joined}
@@ -242,7 +242,7 @@ not-refused y core name sent e b d is = absurd d
 
 -- ---- in every run
 
-value-waits : history.Entry → Elements → Elements
+abbrev value-waits : history.Entry → Elements → Elements
 value-waits (history.Waits n k r v) e = v.value
 value-waits entry e = e
 
@@ -411,7 +411,7 @@ module _ (p : PutPlace) (sent : List (Handle × Fields)) where
 
 -- the server finds its circuits still, once numbers wait on them
 pub served-numbered : (waits : Bool) (i : ℕ) (core : Server) (name : List ℕ) (own : List ℕ) (ks : List model.Joined) → AreServed own ks i → AreServed own (numbered waits i core name ks) i
-served-numbered true i core name own ks served = Rattle.ca_world.proofs.Postings.served-posted i core name write_mask own ks served
+served-numbered true i core name own ks served = served-posted i core name write_mask own ks served
 served-numbered false i core name own ks served = served
 
 -- ---- the next put
