@@ -6,7 +6,9 @@ use Rattle.ca_ids.specs.Table.{Table, by_wire, held}
 use Rattle.ca_ids.specs.Wire.{wire_of}
 use Rattle.ca_link.specs.Link.{TakesFirst}
 use Rattle.ca_text.specs.declared.refusal.Refusal.{Refusal}
+use Rattle.ca_text.specs.Command.{command_number}
 use Rattle.ca_text.specs.Limits.{arena_slots}
+use Rattle.ca_text.specs.declared.command.Command.TheVariants as command
 use Rattle.ca_text.proofs.Places.{some_is}
 use Rattle.ca_wire.specs.Fields.{Fields}
 use Rattle.ca_wire.specs.Message.{header_of}
@@ -19,7 +21,7 @@ use Rattle.ca_wire.proofs.Messages.{one-again}
 use Rattle.ca_dgram.proofs.Readings.{fields_at, spells-fields_at}
 use Rattle.ca_model.specs.Server.{OpenChannel, ServerEnd}
 use Rattle.ca_model.specs.Speech.{In}
-use Rattle.ca_server_circuit.specs.NextPut.{PutsBy, PutsFirst}
+use Rattle.ca_server_circuit.specs.NextPut.{NamesBy, PutsBy, PutsFirst}
 use Rattle.ca_server_circuit.proofs.Tables.{listed-under, none-some, under-listed, under-wire, wire-under}
 
 -- ---- by SID
@@ -46,6 +48,11 @@ module _ (t : Table OpenChannel) (sid : ℕ) (few : length t ≤ arena_slots) wh
     where
       true-not-false : true ≡ false → ⊥
       true-not-false same = cc
+
+-- a header of a put with notification puts to what its SID stands for
+pub puts-named : (e : ServerEnd) (h : Header) (name : Option (List ℕ)) → h.command ≡ command_number command.WriteNotify → NamesBy e h.p1 name → PutsBy e h name
+puts-named e h (Some name) is named = (is, named.0, named.1)
+puts-named e h None is named = λ again. named
 
 -- ---- by the bytes that came
 

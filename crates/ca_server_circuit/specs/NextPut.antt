@@ -21,6 +21,18 @@ pub record PutsTo (e : ServerEnd) (m : Fields) (name : List ℕ) : Type 0 where
   pub channel : (c : Handle × OpenChannel) × HasSid e m c
   pub named : (c : Handle × OpenChannel) → HasSid e m c → c.1.name ≡ name
 
+-- The SID stands for an open channel whose record was not removed, which has this name; or for none.
+abbrev pub NamesBy : ServerEnd → (sid : ℕ) → Option (List ℕ) → Type 0
+NamesBy e sid (Some name) =
+    ((c : Handle × OpenChannel) × In (held e.channels) c × (wire_of c.0 ≡ sid) × (c.1.retired ≡ false))
+    × ((c : Handle × OpenChannel) → In (held e.channels) c → wire_of c.0 ≡ sid → c.1.retired ≡ false → c.1.name ≡ name)
+NamesBy e sid None = (c : Handle × OpenChannel) → In (held e.channels) c → wire_of c.0 ≡ sid → c.1.retired ≡ false → ⊥
+
+-- the same of a circuit, if its end is open
+abbrev pub NamesAt : ServerCircuit → (sid : ℕ) → Option (List ℕ) → Type 0
+NamesAt (Open e) sid name = NamesBy e sid name
+NamesAt (Ended w left) sid name = name ≡ None
+
 -- The same by a header of a put with notification: the open channels of its SID whose record was not removed have records of this name, and
 -- there is one; or there is none.
 abbrev pub PutsBy : ServerEnd → Header → Option (List ℕ) → Type 0

@@ -8,7 +8,7 @@ ghost use Rattle.ca_server_circuit.specs.Clearing.{ArePuts};
 ghost use Rattle.ca_server_circuit.specs.Concerned.{ConcernsOn, bytes_on, channels_on};
 ghost use Rattle.ca_server_circuit.specs.Ending.{ArePutsAt, EndsAt, IsLeft, WithdrawsAll};
 ghost use Rattle.ca_server_circuit.specs.Finishing.{RepliesAt};
-ghost use Rattle.ca_server_circuit.specs.NextPut.{IsPutAt};
+ghost use Rattle.ca_server_circuit.specs.NextPut.{IsPutAt, NamesAt};
 ghost use Rattle.ca_server_circuit.specs.Posting.{PostsAt};
 ghost use Rattle.ca_server_circuit.specs.Pumping.{PumpsAt};
 ghost use Rattle.ca_server_circuit.specs.Removing.{LosesAt, MayLose};
@@ -21,7 +21,7 @@ use crate::step::EndStep;
 use ca_arena::Handle;
 use ca_records::{Put, ServedRecords};
 use ca_text::Refusal;
-use ca_wire::Pipe;
+use ca_wire::{Pipe, Sid};
 use std::alloc::{AllocError, Global};
 use std::marker::Model;
 
@@ -263,6 +263,17 @@ impl Circuit {
         match &self.state {
             State::Open(end) => end.subscriptions.watches(name),
             State::Ended(_, _) => false,
+        }
+    }
+
+    /// The name of the record of the open channel of this SID, if that record was not removed: none if its end is not open. Only whoever
+    /// records histories needs it.
+    pub fn served_name(&self, sid: Sid) -> Option<&[u8]>
+        ensures { NamesAt self.now sid (option_map (λ t. t.now) result) }
+    {
+        match &self.state {
+            State::Open(end) => end.served_name(sid),
+            State::Ended(_, _) => None,
         }
     }
 

@@ -1,5 +1,5 @@
 ghost use Rattle.std.specs.Prelude.{option_map};
-ghost use Rattle.ca_server_circuit.specs.NextPut.{PutsBy, PutsFirst};
+ghost use Rattle.ca_server_circuit.specs.NextPut.{NamesBy, PutsBy, PutsFirst};
 
 use crate::end::End;
 use ca_text::Command;
@@ -24,7 +24,14 @@ impl End {
         if header.command != Command::WriteNotify.number() {
             return None;
         }
-        let Some((_, channel)) = self.channels.by_sid(Sid::new(header.p1)) else {
+        self.served_name(Sid::new(header.p1))
+    }
+
+    // The name of the record of the open channel of this SID, if that record was not removed.
+    pub(crate) fn served_name(&self, sid: Sid) -> Option<&[u8]>
+        ensures { NamesBy self.now sid (option_map (λ t. t.now) result) }
+    {
+        let Some((_, channel)) = self.channels.by_sid(sid) else {
             return None;
         };
         if channel.is_retired() {

@@ -1,9 +1,12 @@
 -- Vocabulary: what whoever records histories asks of a server.
-use Rattle.std.specs.Prelude.{ℕ, ◌≡◌, ◌<◌, ◌≤◌, Bool, true, false, List, [], Option, Some, None}
+use Rattle.std.specs.Prelude.{ℕ, ◌≡◌, ◌<◌, ◌≤◌, Bool, true, false, List, [], Option, Some, None, option_map, slice_get}
 use Rattle.ca_arena.specs.declared.handle.Handle.{Handle}
+use Rattle.ca_dbr.specs.Elements.{Elements}
 use Rattle.ca_ids.specs.Table.{Table, under}
 use Rattle.ca_queue.specs.Circuit.{AreInOne, HasAt}
-use Rattle.ca_records.specs.Puts.{Record}
+use Rattle.ca_records.specs.declared.puts.Put.{Put}
+use Rattle.ca_records.specs.Puts.{Record, WaitingPut}
+use Rattle.ca_server_circuit.specs.NextPut.{NamesAt}
 use Rattle.ca_text.specs.Place.{At}
 use Rattle.ca_model.specs.Server.{Ended, Open, Server, ServerCircuit, Subscription, concerns, key_of}
 use Rattle.ca_model.specs.ServerSteps.{without_puts_of}
@@ -54,3 +57,17 @@ ComesBefore records name other before =
 abbrev pub channels_under : (name : List ℕ) → Option ServerCircuit → List (ℕ × ℕ)
 channels_under name (Some c) = channels_on name c
 channels_under name None = []
+
+-- The SID stands for an open channel of this circuit whose record was not removed, which has this name; or for none.
+abbrev pub NamesUnder : Option ServerCircuit → (sid : ℕ) → Option (List ℕ) → Type 0
+NamesUnder (Some c) sid name = NamesAt c sid name
+NamesUnder None sid name = name ≡ None
+
+-- the value of a record, if it is there
+abbrev pub value_in : Option Record → Option Elements
+value_in r = option_map (λ (r : Record). r.state.value) r
+
+-- the put that waits for a record after n others, if there is one
+abbrev pub put_in : Option Record → (place : ℕ) → Option Put
+put_in (Some r) place = option_map (λ (w : WaitingPut). w.put) (slice_get r.waiting place)
+put_in None place = None

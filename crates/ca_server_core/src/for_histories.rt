@@ -1,17 +1,21 @@
 //! What whoever records histories asks of a server. No server needs these calls.
-ghost use Rattle.std.specs.Prelude.{◌≡◌, ◌<◌, IfOk, false, length};
+ghost use Rattle.std.specs.Prelude.{◌≡◌, ◌<◌, IfOk, false, length, option_map};
+ghost use Rattle.ca_dbr.specs.Elements.{elements};
 ghost use Rattle.ca_ids.specs.Table.{same_handle, under};
-ghost use Rattle.ca_records.specs.Puts.{withdrawn};
+ghost use Rattle.ca_records.specs.Puts.{record_named, withdrawn};
 ghost use Rattle.ca_records.specs.Store.{records_of};
 ghost use Rattle.ca_server_circuit.specs.Circuits.{is_open};
-ghost use Rattle.ca_server_core.specs.ForHistories.{ComesBefore, ConcernsUnder, EndsAt, IsOverAt, bytes_under, channels_under, is_over};
+ghost use Rattle.ca_server_core.specs.ForHistories.{ComesBefore, ConcernsUnder, EndsAt, IsOverAt, NamesUnder, bytes_under, channels_under, is_over, put_in, value_in};
 ghost use Rattle.ca_server_core.specs.Sound.{IsSound};
 
 use crate::server::ServerCore;
 use ca_arena::Handle;
+use ca_dbr::Value;
 use ca_ids::HeldTable;
-use ca_records::ServedRecords;
+use ca_records::for_histories::waiting_put;
+use ca_records::{Put, ServedRecords};
 use ca_server_circuit::Circuit;
+use ca_wire::Sid;
 use std::alloc::AllocError;
 
 /// How many indices the handles of circuits had so far.
@@ -122,4 +126,54 @@ pub fn channels_to(
         Some(found) => found.channels_to(core.alloc, name),
         None => Ok(Vec::new(core.alloc)),
     }
+}
+
+/// The name of the record of the open channel of this SID on a circuit, if that record was not removed. None if its end is not open.
+pub fn served_name(core: &ServerCore, circuit: Handle, sid: Sid) -> Option<&[u8]>
+    ensures { NamesUnder (under core.now.circuits circuit) sid (option_map (λ t. t.now) result) }
+{
+    match core.circuits.by_handle(circuit) {
+        Some(found) => found.served_name(sid),
+        None => None,
+    }
+}
+
+/// The value of the record of this name, if there is one.
+pub fn value_of<'a>(core: &'a ServerCore, name: &[u8]) -> Option<&'a Value>
+    ensures { option_map (λ v. elements v.now) result
+        ≡ value_in (record_named core.now.records name.now) }
+{
+    value_among(&core.records, name)
+}
+
+// The value of the record of this name.
+fn value_among<'a>(records: &'a ServedRecords, name: &[u8]) -> Option<&'a Value>
+    ensures { option_map (λ v. elements v.now) result
+        ≡ value_in (record_named (records_of records.now) name.now) }
+{
+    let Some(place) = records.find(name) else {
+        return None;
+    };
+    Some(records.at(place).state().value())
+}
+
+/// The put that waits for the record of this name after n others, if there is one.
+pub fn waiting_at(core: &ServerCore, name: &[u8], place: usize) -> Option<Put>
+    ensures { result ≡ put_in (record_named core.now.records name.now) place }
+{
+    waiting_among(&core.records, name, place)
+}
+
+// The put that waits for the record of this name after n others.
+fn waiting_among(records: &ServedRecords, name: &[u8], place: usize) -> Option<Put>
+    ensures { result ≡ put_in (record_named (records_of records.now) name.now) place }
+{
+    let Some(at) = records.find(name) else {
+        return None;
+    };
+    let served = records.at(at);
+    if place >= served.waits() {
+        return None;
+    }
+    Some(waiting_put(served, place))
 }

@@ -82,7 +82,7 @@ module _ {E : Type 0} where
       λ i. record { waiting = w i; subscriptions = s i; events_on = q.events_on }
 
   -- what the subscriptions of a list do, one by one
-  abbrev steps : Test → Queue E → List SubKey → Queue E
+  abbrev pub steps : Test → Queue E → List SubKey → Queue E
   steps gone q keys = fold (λ (r : Queue E) (k : SubKey). cond (gone k) (cancelled k r) r) q keys
 
   steps-next : (gone : Test) (x : SubKey) (keys : List SubKey) (q : Queue E) → ((r : Queue E) → steps gone r keys ≡ sieve (λ (k : SubKey). gone k && is_among k keys) r)
@@ -117,7 +117,7 @@ module _ {E : Type 0} where
       other k false true s g = refl
       other k false false s g = refl
 
-  steps-sieve : (gone : Test) (keys : List SubKey) (q : Queue E) → steps gone q keys ≡ sieve (λ (k : SubKey). gone k && is_among k keys) q
+  pub steps-sieve : (gone : Test) (keys : List SubKey) (q : Queue E) → steps gone q keys ≡ sieve (λ (k : SubKey). gone k && is_among k keys) q
   steps-sieve gone [] q = sym (sieve-none (λ (k : SubKey). gone k && false) q (λ k. by (gone k)))
     where
       by : (b : Bool) → (b && false) ≡ false

@@ -26,3 +26,5 @@ pub mod Postings
 pub mod Widths
 pub mod Additions
 pub mod ClientHearings
+pub mod Removings
+pub mod ServerSteppings

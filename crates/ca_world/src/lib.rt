@@ -20,6 +20,7 @@ mod opens;
 mod post;
 mod pump;
 mod read;
+mod remove;
 mod server_datagram;
 mod server_restart;
 mod stopped;

@@ -32,3 +32,6 @@ pub mod Steppings
 pub mod Tellings
 pub mod Each
 pub mod Handled
+pub mod Losings
+pub mod Parted
+pub mod Forthcoming

@@ -1,13 +1,13 @@
 -- Working: what a message that a server handled leaves on its circuit and in the records, as the statement's functions of its action.
-use Rattle.std.specs.Prelude.{ℕ, ◌≡◌, ◌+◌, ◌≤◌, ◌++◌, Bool, true, List, [], ◌∷◌, Some, length, map, nat_le, not, vec_capacity, vec_len}
+use Rattle.std.specs.Prelude.{ℕ, ◌≡◌, ◌+◌, ◌≤◌, ◌++◌, ◌==◌, Bool, true, List, [], ◌∷◌, Some, filter, length, map, nat_le, not, vec_capacity, vec_len}
 use Rattle.std.specs.Str.{bytes_eq}
 use Rattle.ca_queue.specs.declared.entry.SubKey.{SubKey}
 use Rattle.ca_queue.specs.Queue.{Queue, switched}
 use Rattle.ca_text.specs.Limits.{queue_subscriptions}
 use Rattle.ca_text.specs.Place.{At}
 use Rattle.ca_model.specs.History.{Step, Told, Update}
-use Rattle.ca_model_world.specs.ServerEvents.{number_taken}
-use Rattle.ca_model_world.specs.World.{Joined, PutPlace, RecordSide}
+use Rattle.ca_model_world.specs.ServerEvents.{number_taken, without_standing}
+use Rattle.ca_model_world.specs.World.{Creation, Joined, PutPlace, RecordSide}
 use Rattle.ca_world_data.specs.declared.history.Cause.{Cause as Written}
 use Rattle.ca_world_data.specs.declared.joined.Joined.{Joined as Opened}
 use Rattle.ca_world_data.specs.declared.server.RecordSide.{RecordSide as Kept}
@@ -39,6 +39,11 @@ has_room q = not (nat_le queue_subscriptions (length q.0.subscriptions))
 -- events are on or off: `numbers_after` for `Switches`
 abbrev pub with_switched : Bool → Joined → Joined
 with_switched on j = record j { queues = map (switched on) j.queues }
+
+-- the channel of this SID is over, and so are its subscriptions: `numbers_after` for `Clears`
+abbrev pub without_sid : (sid : ℕ) → Joined → Joined
+without_sid sid j =
+    without_standing (λ (k : SubKey). k.sid == sid) (record j { creations = filter (λ (c : Creation). not (c.sid == sid)) j.creations })
 
 -- ---- records
 

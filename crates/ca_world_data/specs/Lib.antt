@@ -35,3 +35,7 @@ pub mod Ticks
 pub mod Replies
 pub mod ClientSteps
 pub mod Handling
+pub mod Losing
+pub mod Removing
+pub mod Parting
+pub mod Coming

@@ -34,10 +34,25 @@ pub fn push_entries(logs: &mut Vec<Vec<Entry>>, life: usize, entries: Vec<Entry>
     }
 }
 
+/// The same. The room that there was for more is there still.
+pub fn push_some(logs: &mut Vec<Vec<Entry>>, life: usize, entries: Vec<Entry>)
+    requires { HasRoomFor (length entries.items) life logs.old.items }
+    ensures logged { entries_in logs.new.items
+        ≡ grown life (map entry_of entries.items) (entries_in logs.old.items) }
+    ensures room { (n : ℕ) → HasRoomFor (n + length entries.items) life logs.old.items
+        → HasRoomFor n life logs.new.items }
+{
+    if life < logs.len() {
+        push_all(&mut logs[life], entries);
+    }
+}
+
 // Puts entries behind others. There is room for them.
 fn push_all(log: &mut Vec<Entry>, entries: Vec<Entry>)
     requires { vec_len log.old + length entries.items ≤ vec_capacity log.old }
-    ensures { log.new.items ≡ log.old.items ++ entries.items }
+    ensures items { log.new.items ≡ log.old.items ++ entries.items }
+    ensures len { vec_len log.new ≡ vec_len log.old + length entries.items }
+    ensures capacity { vec_capacity log.new ≡ vec_capacity log.old }
 {
     for entry in entries {
         log.push_reserved(entry);

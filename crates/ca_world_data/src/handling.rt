@@ -3,17 +3,19 @@
 ghost use Rattle.std.specs.Prelude.{◌≡◌, ◌+◌, ◌++◌, ◌≤◌, OnErr, OnOk, false, true, if◌then◌else◌, length, map, vec_capacity, vec_len};
 ghost use Rattle.std.specs.Str.{bytes_eq};
 ghost use Rattle.ca_queue.specs.Circuit.{HasNone};
-ghost use Rattle.ca_queue.specs.Keys.{is_among};
+ghost use Rattle.ca_queue.specs.Keys.{is_among, same};
 ghost use Rattle.ca_queue.specs.Queue.{added, posted, switched};
 ghost use Rattle.ca_model.specs.History as history;
 ghost use Rattle.ca_model_world.specs.ClientEvents.{place_of as place_in};
 ghost use Rattle.ca_model_world.specs.ServerEvents as world;
 ghost use Rattle.ca_world_data.specs.declared.history.Cause.TheVariants as cause;
-ghost use Rattle.ca_world_data.specs.Handling.{HasRoomToNote, has_room, with_standing, HaveRoomToWait, MayWait, made_busy, with_creation, with_handled, with_switched, with_waiting};
+ghost use Rattle.ca_world_data.specs.Handling.{HasRoomToNote, has_room, with_standing, HaveRoomToWait, MayWait, made_busy, with_creation, with_handled, with_switched, with_waiting, without_sid};
+ghost use Rattle.ca_world_data.specs.Losing.{AreSeated};
 ghost use Rattle.ca_world_data.specs.Seen.{joined_of, place_of, queue_of, record_of, step_of, told_of};
 
 use crate::history::{Cause, Step, Told};
 use crate::joined::{Creation, Joined, Standing};
+use crate::losing::{cancel_in, drop_lost};
 use crate::server::{PutPlace, RecordSide};
 use ca_queue::{ListQueue, Queues, SubKey};
 use std::alloc::AllocError;
@@ -91,6 +93,33 @@ pub fn begin_standing(joined: &mut Joined, key: SubKey, place: usize) -> Result<
         posts: 1,
     });
     Ok(())
+}
+
+/// A subscription is over: it stands no more, and its numbers wait no more.
+pub fn end_standing(joined: &mut Joined, key: SubKey)
+    requires { AreSeated (joined_of joined.old) }
+    ensures { joined_of joined.new ≡ world.without_standing (same key) (joined_of joined.old) }
+{
+    cancel_in(&mut joined.queues, key);
+    joined.standing.retain(|one| !is_same(key, one.key));
+}
+
+// Whether both are one subscription.
+fn is_same(a: SubKey, b: SubKey) -> bool
+    ensures { result ≡ same a b }
+{
+    a.sid == b.sid && a.sub == b.sub
+}
+
+/// The channel of this SID is over, and so are its subscriptions.
+pub fn end_channel(joined: &mut Joined, sid: u32)
+    requires { AreSeated (joined_of joined.old) }
+    ensures { joined_of joined.new ≡ without_sid sid (joined_of joined.old) }
+{
+    // The CID is not looked at.
+    let ended = [(sid, 0)];
+    drop_lost(&mut joined.standing, &mut joined.queues, &ended);
+    joined.creations.retain(|creation| creation.sid != sid);
 }
 
 // The first queue with room takes the subscription, and the number 0 of it.

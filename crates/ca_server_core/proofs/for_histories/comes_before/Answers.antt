@@ -1,8 +1,6 @@
-use Rattle.std.proofs.Common.{◌≡◌, List, Option, None, ap, arith, false, subst, sym}
+use Rattle.std.proofs.Common.{false, subst}
 use Rattle.std.specs.Prelude.{nat_lt}
 use Rattle.std.proofs.lemmas.Bool.{ltb-false, ltb-true}
-use Rattle.ca_records.specs.Puts.{Record, record_named}
-use Rattle.ca_records.specs.Store.{records_of}
 use Rattle.ca_model.specs.Server.{Server}
 use Rattle.ca_server_core.specs.ForHistories.{ComesBefore}
 use Rattle.ca_server_core.proofs.Ordered.{less-before, most-before, named-some}

@@ -8,4 +8,6 @@ invariant-loop-entry l =
     record {
       entries : l.log.items ++ l.entry-iterator.rest.items ≡ l.initial.log.items ++ l.fn.entries.items;
       room : vec_len l.log + length l.entry-iterator.rest.items ≤ vec_capacity l.log;
+      len : vec_len l.log + length l.entry-iterator.rest.items ≡ vec_len l.initial.log + length l.fn.entries.items;
+      capacity : vec_capacity l.log ≡ vec_capacity l.initial.log;
     }

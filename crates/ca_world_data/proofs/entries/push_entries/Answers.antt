@@ -11,4 +11,4 @@ returns-then-life-len c =
     let log : Vec Entry Global = c.index_mut.result.now in
     let within : c.args.life < length logs = omega (arith, c.if-life-len.true, c.len.ensures) in
     let at : At logs c.args.life log = found logs c.args.life log log within c.index_mut.ensures.value in
-    grown-entries logs c.args.life log c.push_all.new.log c.args.entries.items at c.push_all.ensures
+    grown-entries logs c.args.life log c.push_all.new.log c.args.entries.items at c.push_all.ensures.items

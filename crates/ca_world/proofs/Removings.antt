@@ -1,0 +1,326 @@
+-- A record of a server is removed, from what its parts became.
+use Rattle.std.proofs.Common.{◌≡◌, ◌≢◌, ℕ, zero, suc, ◌+◌, ◌*◌, ◌≤◌, ◌==◌, ◌&&◌, inl, inr, Bool, true, false, not, List, [], ◌∷◌, ◌++◌, Option, Some, None, Result, Ok, Err, length, take, refl, sym, ap, subst, ◌∙◌, arith}
+use Rattle.std.specs.Prelude.{filter, if◌then◌else◌, map, option_map, slice_set}
+use Rattle.std.specs.List.{list_any}
+use Rattle.std.specs.Str.{bytes_eq}
+use Rattle.std.proofs.lemmas.Bool.{and_from, and_parts, eq-eqb, eqb-true}
+use Rattle.std.proofs.lemmas.List.{length-append, length-map}
+use Rattle.ca_arena.specs.declared.handle.Handle.{Handle}
+use Rattle.ca_ids.specs.Table.{Table, under}
+use Rattle.ca_ids.specs.Wire.{wire_of}
+use Rattle.ca_queue.specs.declared.entry.SubKey.{SubKey}
+use Rattle.ca_queue.specs.Images.{queue_images}
+use Rattle.ca_queue.specs.Keys.{is_among}
+use Rattle.ca_queue.specs.Queue.{Queue}
+use Rattle.ca_queue.proofs.Circuits.{set-twice}
+use Rattle.ca_text.specs.declared.refusal.Refusal.{Refusal}
+use Rattle.ca_text.specs.declared.refusal.Refusal.TheVariants.{OutOfMemory, UnknownRecord}
+use Rattle.ca_text.specs.Place.{At}
+use Rattle.ca_text.proofs.Places.{At-map, At-mapped, At-one, At-within}
+use Rattle.ca_wire.specs.Fields.{Fields}
+use Rattle.ca_wire.specs.Message.{spelled, spelling}
+use Rattle.ca_wire.specs.Messages.{disconnect}
+use Rattle.ca_model.specs.History.{Cause, Entry, Line, Told}
+use Rattle.ca_model.specs.Server.{Ended, Open, OpenChannel, Server, ServerCircuit, ServerEnd}
+use Rattle.ca_model.specs.ServerCalls.{Removes, channels_of, circuit_without, disconnects}
+use Rattle.ca_model.specs.Speech.{In}
+use Rattle.ca_model_world.specs.Events.{Remove}
+use Rattle.ca_model_world.specs.Runs.{CanBe, IsServer}
+use Rattle.ca_model_world.specs.ServerEvents.{disconnected_at, ending, ends_by, removal_entries, removal_told, removed_at, without_standing}
+use Rattle.ca_model_world.specs.World.{grown}
+use Rattle.ca_model_world.specs.World as model
+use Rattle.ca_laws_follows.proofs.Acted.{run-follows}
+use Rattle.ca_laws_held.proofs.StepWhole.{run-serves}
+use Rattle.ca_laws_kept.specs.Numbers.{AllNumbers}
+use Rattle.ca_server_circuit.specs.Concerned.{ids_of}
+use Rattle.ca_server_core.specs.ForHistories.{bytes_under, channels_under}
+use Rattle.ca_world_data.specs.declared.client.ClientSide.{ClientSide}
+use Rattle.ca_world_data.specs.declared.joined.Joined.{Joined}
+use Rattle.ca_world_data.specs.declared.losing.Leading.{Leading}
+use Rattle.ca_world_data.specs.declared.server.ServerSide.{ServerSide}
+use Rattle.ca_world_data.specs.Does.{Does}
+use Rattle.ca_world_data.specs.Indexed.{AreIndexed, server_numbers}
+use Rattle.ca_world_data.specs.Losing.{AllMayLose, AllReady, AreLost, AreSeated, Disconnects, is_lost, lost_by, lost_told, without_lost}
+use Rattle.ca_world_data.specs.Removing.{AllSeated, Becomes, RemovesAt, TellsRemoval}
+use Rattle.ca_world_data.specs.Reporting.{AreServed}
+use Rattle.ca_world_data.specs.Seen.{client_of, joined_of, record_of, server_of}
+use Rattle.ca_world_data.proofs.Indexes.{KeepsEnds, ends-stay, indexed-map, indexed-same, numbers-set}
+use Rattle.ca_world_data.proofs.Worlds.{set-map, set-same, world_of}
+use Rattle.ca_world.specs.Whole.{IsReached}
+use Rattle.ca_world.proofs.Postings.{each-under, ending-keeps}
+
+-- ---- what stands
+
+-- in every run the queues of an open circuit have the subscriptions that stand, and nothing waits there for others
+pub run-seated : (w : model.World) (i : ℕ) → IsReached w → AllSeated i w.circuits
+run-seated w i (s, es, ok, folds) k j there mine on =
+    let runs = (w, folds, refl) in
+    let serves = run-serves s es None w ok runs in
+    let seat = serves.stands.sound.seated.each k j there on in
+    let log = serves.stands.sound.within k j there in
+    let holds = (run-follows s es None w ok runs k j seat.y seat.e log.0 there seat.at on seat.has (subst (λ (l : ℕ). At w.server_logs l log.0) seat.joins log.1)).holds in
+    record {
+      stand = λ n q key at has.
+          let d = At-mapped (queue_images _) holds.both n q (subst (λ (qs : List (Queue (ℕ × Cause))). At qs n q) holds.numbers_are at) in
+          holds.seats n d.0 key d.1 (ap (λ (z : Queue (ℕ × Cause)). is_among key z.subscriptions) (sym d.2) ∙ has);
+      known = λ n q x at waits. (serves.numbers k j there on q (n, at) x waits).0;
+    }
+
+-- ---- one circuit
+
+-- what is lost is told as the statement has it
+told-same : (creations : List model.Creation) (cs : List (Handle × OpenChannel)) → map (lost_told creations) (map ids_of cs) ≡ map (removal_told creations) cs
+told-same creations [] = refl
+told-same creations (c ∷ cs) = ap (λ (t : List Told). removal_told creations c ∷ t) (told-same creations cs)
+
+over-same : (k : SubKey) (cs : List (Handle × OpenChannel)) → is_lost (map ids_of cs) k ≡ list_any (λ (c : Handle × OpenChannel). wire_of c.0 == k.sid) cs
+over-same k [] = refl
+over-same k (c ∷ cs) = go (wire_of c.0 == k.sid) (over-same k cs)
+  where
+    go : (b : Bool) → is_lost (map ids_of cs) k ≡ list_any (λ (c : Handle × OpenChannel). wire_of c.0 == k.sid) cs
+        → Rattle.std.proofs.Common.◌||◌ b (is_lost (map ids_of cs) k) ≡ Rattle.std.proofs.Common.◌||◌ b (list_any (λ (c : Handle × OpenChannel). wire_of c.0 == k.sid) cs)
+    go b same = ap (λ (x : Bool). Rattle.std.proofs.Common.◌||◌ b x) same
+
+without-same : (j : model.Joined) (cs : List (Handle × OpenChannel))
+    → without_lost (map ids_of cs) j ≡ without_standing (λ (k : SubKey). list_any (λ (c : Handle × OpenChannel). wire_of c.0 == k.sid) cs) (record j { lists = record j.lists { down = j.lists.down ++ map (removal_told j.creations) cs } })
+without-same j cs = λ t. without_standing (λ (k : SubKey). over-same k cs t) (record j { lists = record j.lists { down = j.lists.down ++ told-same j.creations cs t } })
+
+-- ---- bytes of SERVER_DISCONNs
+
+disconnect-size : (cid : ℕ) → length (spelling (disconnect cid)) ≡ 16
+disconnect-size cid = refl
+
+notices-size : (cs : List (Handle × OpenChannel)) → length (spelled (map (λ (c : Handle × OpenChannel). disconnect c.1.cid) cs)) ≡ 16 * length cs
+notices-size [] = refl
+notices-size (c ∷ cs) =
+    let rest = notices-size cs in
+    let both = length-append (spelling (disconnect c.1.cid)) (spelled (map (λ (x : Handle × OpenChannel). disconnect x.1.cid) cs)) in
+    omega (arith, both, disconnect-size c.1.cid, rest)
+
+take-map : {A B : Type 0} (f : A → B) (n : ℕ) (xs : List A) → take n (map f xs) ≡ map f (take n xs)
+take-map f zero xs = refl
+take-map f (suc n) [] = refl
+take-map f (suc n) (x ∷ xs) = ap (λ (t : List _). f x ∷ t) (take-map f n xs)
+
+take-long : {A : Type 0} (n : ℕ) (xs : List A) → take (length (take n xs)) xs ≡ take n xs
+take-long zero xs = refl
+take-long (suc n) [] = refl
+take-long (suc n) (x ∷ xs) = ap (λ (t : List _). x ∷ t) (take-long n xs)
+
+take-whole : {A : Type 0} (xs : List A) → take (length xs) xs ≡ xs
+take-whole [] = refl
+take-whole (x ∷ xs) = ap (λ (t : List _). x ∷ t) (take-whole xs)
+
+take-fewer : {A : Type 0} (n : ℕ) (xs : List A) → length (take n xs) ≤ length xs
+take-fewer zero xs = omega arith
+take-fewer (suc n) [] = omega arith
+take-fewer (suc n) (x ∷ xs) = (let rest = take-fewer n xs in omega (arith, rest))
+
+module _ (name : List ℕ) (gone : Handle → Bool) (left : Handle → ℕ) (y core : Server) (removes : Removes y name gone left (Ok tt) core) where
+  removed-under : (h : Handle) → under core.circuits h ≡ option_map (circuit_without name gone left h) (under y.circuits h)
+  removed-under h = ap (λ (z : Server). under z.circuits h) removes.2.2 ∙ each-under (circuit_without name gone left) y.circuits h
+
+  abbrev told_at : Handle → Option ServerCircuit → List (Handle × OpenChannel)
+  told_at h o = disconnected_at name gone left h o
+
+  -- the bytes that were added
+  sent-more : (h : Handle) (o : Option ServerCircuit) → length (bytes_under o) + 16 * length (told_at h o) ≡ length (bytes_under (option_map (circuit_without name gone left h) o))
+  sent-more h None = refl
+  sent-more h (Some (Ended cause bytes)) = omega arith
+  sent-more h (Some (Open e)) = go (gone h)
+    where
+      go : (b : Bool) → length e.link.output + 16 * length (if b then take (left h) (channels_of name e) else channels_of name e)
+          ≡ length (bytes_under (Some (if b then Ended Rattle.ca_model.specs.Ends.OutOfMemory (e.link.output ++ spelled (take (left h) (disconnects name e))) else Open (Rattle.ca_model.specs.ServerCalls.end_without name e))))
+      go true =
+          let some = notices-size (take (left h) (channels_of name e)) in
+          let same = ap (λ (ms : List Fields). length (spelled ms)) (take-map (λ (c : Handle × OpenChannel). disconnect c.1.cid) (left h) (channels_of name e)) in
+          let both = length-append e.link.output (spelled (take (left h) (disconnects name e))) in
+          omega (arith, some, same, both)
+      go false =
+          let all = notices-size (channels_of name e) in
+          let both = length-append e.link.output (spelled (disconnects name e)) in
+          omega (arith, all, both)
+
+  -- those that were told are a beginning of all
+  told-first : (h : Handle) (o : Option ServerCircuit) → take (length (told_at h o)) (channels_under name o) ≡ map ids_of (told_at h o)
+  told-first h None = refl
+  told-first h (Some (Ended cause bytes)) = refl
+  told-first h (Some (Open e)) = go (gone h)
+    where
+      cs : List (Handle × OpenChannel)
+      cs = channels_of name e
+
+      go : (b : Bool) → take (length (if b then take (left h) cs else cs)) (map ids_of cs) ≡ map ids_of (if b then take (left h) cs else cs)
+      go true = take-map ids_of (length (take (left h) cs)) cs ∙ ap (map ids_of) (take-long (left h) cs)
+      go false = take-map ids_of (length cs) cs ∙ ap (map ids_of) (take-whole cs)
+
+  told-few : (h : Handle) (o : Option ServerCircuit) → length (told_at h o) ≤ length (channels_under name o)
+  told-few h None = omega arith
+  told-few h (Some (Ended cause bytes)) = omega arith
+  told-few h (Some (Open e)) = go (gone h)
+    where
+      cs : List (Handle × OpenChannel)
+      cs = channels_of name e
+
+      go : (b : Bool) → length (if b then take (left h) cs else cs) ≤ length (map ids_of cs)
+      go true = (let few = take-fewer (left h) cs in let same = length-map cs ids_of in omega (arith, few, same))
+      go false = (let same = length-map cs ids_of in omega (arith, same))
+
+  module _ (i : ℕ) (ks : List Joined) (ls : List Leading) (ready : AllReady i y name ks ls) where
+    abbrev f : model.Joined → model.Joined
+    f = removed_at i y name gone left
+
+    led-here : (j : Joined) (l : Leading) → (l.channels.items, l.waited) ≡ Rattle.ca_world_data.specs.Losing.lead_at i y name (joined_of j) → (j.server == i && j.lists.server_open) ≡ true
+        → (l.channels.items, l.waited) ≡ (channels_under name (under y.circuits j.at_server), length (bytes_under (under y.circuits j.at_server)))
+    led-here j l led on = led ∙ ap (λ (b : Bool). if b then (channels_under name (under y.circuits j.at_server), length (bytes_under (under y.circuits j.at_server))) else ([], 0)) on
+
+    sent-here : (j : Joined) (l : Leading) → (l.channels.items, l.waited) ≡ Rattle.ca_world_data.specs.Losing.lead_at i y name (joined_of j) → (j.server == i && j.lists.server_open) ≡ true
+        → Disconnects core (joined_of j) l (length (told_at j.at_server (under y.circuits j.at_server)))
+    sent-here j l led on =
+        let h = j.at_server in
+        let o = under y.circuits h in
+        let is = led-here j l led on in
+        let waited : l.waited ≡ length (bytes_under o) = ap (λ (p : List (ℕ × ℕ) × ℕ). p.1) is in
+        let longs : length l.channels.items ≡ length (channels_under name o) = ap (λ (p : List (ℕ × ℕ) × ℕ). length p.0) is in
+        let more = sent-more h o in
+        let after : length (bytes_under (under core.circuits h)) ≡ length (bytes_under (option_map (circuit_without name gone left h) o)) = ap (λ (z : Option ServerCircuit). length (bytes_under z)) (removed-under h) in
+        let few = told-few h o in
+        (omega (arith, waited, more, after), omega (arith, few, longs))
+
+    pub are-lost : AreLost i core ks ls f
+    are-lost k j l n at led_at sent = go (j.server == i && j.lists.server_open) refl
+      where
+        h : Handle
+        h = j.at_server
+
+        o : Option ServerCircuit
+        o = under y.circuits h
+
+        led : (l.channels.items, l.waited) ≡ Rattle.ca_world_data.specs.Losing.lead_at i y name (joined_of j)
+        led = (ready.each k j l at led_at).led
+
+        changed : model.Joined
+        changed = without_standing (λ (key : SubKey). list_any (λ (c : Handle × OpenChannel). wire_of c.0 == key.sid) (told_at h o)) (record (joined_of j) { lists = record (joined_of j).lists { down = (joined_of j).lists.down ++ map (removal_told (joined_of j).creations) (told_at h o) } })
+
+        go : (b : Bool) → (j.server == i && j.lists.server_open) ≡ b → f (joined_of j) ≡ lost_by i l n (joined_of j)
+        go false off = ap (λ (b : Bool). if b then changed else joined_of j) off ∙ sym (ap (λ (b : Bool). if b then without_lost (take n l.channels.items) (joined_of j) else joined_of j) off)
+        go true on =
+            let parts = and_parts (j.server == i) j.lists.server_open on in
+            let d : Disconnects core (joined_of j) l n = sent (eqb-true j.server i parts.0) parts.1 in
+            let own = sent-here j l led on in
+            let many : n ≡ length (told_at h o) = omega (arith, d.0, own.0) in
+            let first : take n l.channels.items ≡ map ids_of (told_at h o) =
+            (λ t. take (many t) (ap (λ (p : List (ℕ × ℕ) × ℕ). p.0) (led-here j l led on) t)) ∙ told-first h o in
+            ap (λ (b : Bool). if b then changed else joined_of j) on
+            ∙ sym (without-same (joined_of j) (told_at h o))
+            ∙ ap (λ (cs : List (ℕ × ℕ)). without_lost cs (joined_of j)) (sym first)
+            ∙ sym (ap (λ (b : Bool). if b then without_lost (take n l.channels.items) (joined_of j) else joined_of j) on)
+
+    pub may-lose : AllSeated i (map joined_of ks) → AllMayLose i core ks ls
+    may-lose seated = record {
+      each = λ k j l at led_at. record {
+        sent = (length (told_at j.at_server (under y.circuits j.at_server)), λ mine on. sent-here j l (ready.each k j l at led_at).led (and_from (j.server == i) j.lists.server_open (eq-eqb j.server i mine) on));
+        room = (ready.each k j l at led_at).room;
+        seated = seated k (joined_of j) (At-map joined_of ks k j at);
+      };
+      long = ready.long;
+    }
+
+    lost-keeps : (j : model.Joined) → KeepsEnds j (f j)
+    lost-keeps j = go (j.server == i && j.lists.server_open)
+      where
+        told : List (Handle × OpenChannel)
+        told = told_at j.at_server (under y.circuits j.at_server)
+
+        go : (b : Bool) → KeepsEnds j (if b then without_standing (λ (key : SubKey). list_any (λ (c : Handle × OpenChannel). wire_of c.0 == key.sid) told) (record j { lists = record j.lists { down = j.lists.down ++ map (removal_told j.creations) told } }) else j)
+        go true = record { client = refl; server = refl; at_client = refl; at_server = refl; closes = λ on. on; stops = λ on. on }
+        go false = ends-stay j j refl
+
+    pub becomes : (own : List ℕ) (js : List model.Joined) → AreServed own js i → Becomes i core own ks js ls
+    becomes own js served = record { f = f; lost = are-lost; served = served-lost }
+      where
+        served-lost : AreServed own (map f js) i
+        served-lost k new there mine on =
+            let d = At-mapped f js k new there in
+            let keeps : KeepsEnds d.0 new = subst (λ (z : model.Joined). KeepsEnds d.0 z) (sym d.2) (lost-keeps d.0) in
+            subst (λ (h : Handle). At own h.index k) (sym keeps.at_server) (served k d.0 d.1 (sym keeps.server ∙ mine) (keeps.stops on))
+
+-- circuits keep their ends whatever is lost
+pub removal-keeps : (i : ℕ) (core : Server) (name : List ℕ) (gone : Handle → Bool) (left : Handle → ℕ) (j : model.Joined) → KeepsEnds j (removed_at i core name gone left j)
+removal-keeps i core name gone left j = go (j.server == i && j.lists.server_open)
+  where
+    told : List (Handle × OpenChannel)
+    told = disconnected_at name gone left j.at_server (under core.circuits j.at_server)
+
+    go : (b : Bool) → KeepsEnds j (if b then without_standing (λ (key : SubKey). list_any (λ (c : Handle × OpenChannel). wire_of c.0 == key.sid) told) (record j { lists = record j.lists { down = j.lists.down ++ map (removal_told j.creations) told } }) else j)
+    go true = record { client = refl; server = refl; at_client = refl; at_server = refl; closes = λ on. on; stops = λ on. on }
+    go false = ends-stay j j refl
+
+-- ---- a world after it
+
+module _ (cs : List ClientSide) (ss : List ServerSide) (ks : List Joined) (cl : List (List Line)) (sl : List (List Entry)) (m : ℕ) (i : ℕ) (y : ServerSide) (at : At ss i y) (name : List ℕ) where
+  abbrev there : IsServer (world_of cs ss ks cl sl m) i
+  there = record { y = server_of y; at = At-map server_of ss i y at }
+
+  stay : (y' : ServerSide) (ks' : List Joined) (sl' : List (List Entry)) → y' ≡ y → map joined_of ks' ≡ map joined_of ks → sl' ≡ sl → world_of cs (slice_set ss i y') ks' cl sl' m ≡ world_of cs ss ks cl sl m
+  stay y' ks' sl' is_y is_k is_l =
+      (λ t. record { clients = map client_of cs; servers = map server_of (slice_set ss i (is_y t)); circuits = is_k t; client_logs = cl; server_logs = is_l t; moment = m })
+      ∙ (λ t. world_of cs (set-same ss i y at t) ks cl sl m)
+
+  abbrev Did : ServerSide → List Joined → List (List Entry) → Result (Unit {0}) Refusal → Type 0
+  Did y' ks' sl' r = RemovesAt i name y (map joined_of ks) sl r y' (map joined_of ks') sl'
+
+  pub remove-does : (y' : ServerSide) (ks' : List Joined) (sl' : List (List Entry)) (r : Result (Unit {0}) Refusal) → Did y' ks' sl' r
+      → Does (world_of cs ss ks cl sl m) (Remove i name) r (world_of cs (slice_set ss i y') ks' cl sl' m)
+  remove-does y' ks' sl' (Ok u) (gone, left, core, inl (removes, did)) =
+      let js : List model.Joined = map joined_of ks in
+      let f : model.Joined → model.Joined = removed_at i y.core name gone left in
+      let rs : List model.RecordSide = filter (λ (r : model.RecordSide). not (bytes_eq r.name name)) (map record_of y.records.items) in
+      let quits : ℕ → Bool = Rattle.ca_model_world.specs.ServerEvents.ends_at (ends_by i core) (map f js) in
+      let side : server_of y' ≡ record (server_of y) { core = Rattle.ca_model_world.specs.ServerEvents.reported core; records = map (Rattle.ca_model_world.specs.ServerEvents.without_puts quits) rs } =
+      did.reports.side ∙ (λ t. record (server_of y) { core = Rattle.ca_model_world.specs.ServerEvents.reported core; records = map (Rattle.ca_model_world.specs.ServerEvents.without_puts quits) (did.records t) }) in
+      let mid : model.ServerSide = record (server_of y) { records = rs } in (
+        there,
+        (
+          gone,
+          left,
+          core,
+          inl (
+            removes,
+            λ t. record {
+              clients = map client_of cs;
+              servers = (set-map server_of ss i y' ∙ ap (slice_set (map server_of ss) i) side ∙ sym (set-twice (map server_of ss) i mid (record (server_of y) { core = Rattle.ca_model_world.specs.ServerEvents.reported core; records = map (Rattle.ca_model_world.specs.ServerEvents.without_puts quits) rs }))) t;
+              circuits = did.reports.circuits t;
+              client_logs = cl;
+              server_logs = (did.reports.logged ∙ (λ z. grown y.life (Rattle.ca_model_world.specs.ServerEvents.withdrawals quits (did.records z)) (grown y.life (removal_entries name (map record_of y.records.items)) sl))) t;
+              moment = m;
+            },
+          ),
+        ),
+      )
+  remove-does y' ks' sl' (Ok u) (gone, left, core, inr (removes, is_y, is_k, is_l)) = (there, (gone, left, core, inr (removes, stay y' ks' sl' is_y is_k is_l)))
+  remove-does y' ks' sl' (Err OutOfMemory) (is_y, is_k, is_l) = (there, stay y' ks' sl' is_y is_k is_l)
+  remove-does y' ks' sl' (Err _) d = absurd d
+
+  -- circuits are found as before
+  pub remove-indexed : (numbers : List (List ℕ)) (y' : ServerSide) (ks' : List Joined) (sl' : List (List Entry)) (r : Result (Unit {0}) Refusal) → Did y' ks' sl' r
+      → AreIndexed numbers (server_numbers ss) (map joined_of ks) → AreIndexed numbers (server_numbers (slice_set ss i y')) (map joined_of ks')
+  remove-indexed numbers y' ks' sl' (Ok u) (gone, left, core, inl (removes, did)) h =
+      let js : List model.Joined = map joined_of ks in
+      let f : model.Joined → model.Joined = removed_at i y.core name gone left in
+      indexed-same numbers numbers (server_numbers ss) (server_numbers (slice_set ss i y')) _ (map joined_of ks') refl
+      (numbers-set (λ (z : ServerSide). z.circuits.items) ss i y y' at did.reports.numbers)
+      did.reports.circuits
+      (indexed-map numbers (server_numbers ss) (map f js) (indexed-map numbers (server_numbers ss) js h f (removal-keeps i y.core name gone left)) (ending (ends_by i core)) (ending-keeps (ends_by i core)))
+  remove-indexed numbers y' ks' sl' (Ok u) (gone, left, core, inr (removes, is_y, is_k, is_l)) h =
+      indexed-same numbers numbers (server_numbers ss) (server_numbers (slice_set ss i y')) (map joined_of ks) (map joined_of ks') refl (numbers-set (λ (z : ServerSide). z.circuits.items) ss i y y' at (ap (λ (z : ServerSide). z.circuits.items) is_y)) is_k h
+  remove-indexed numbers y' ks' sl' (Err OutOfMemory) (is_y, is_k, is_l) h =
+      indexed-same numbers numbers (server_numbers ss) (server_numbers (slice_set ss i y')) (map joined_of ks) (map joined_of ks') refl (numbers-set (λ (z : ServerSide). z.circuits.items) ss i y y' at (ap (λ (z : ServerSide). z.circuits.items) is_y)) is_k h
+  remove-indexed numbers y' ks' sl' (Err _) d h = absurd d
+
+-- no server
+pub remove-none : (cs : List ClientSide) (ss : List ServerSide) (ks : List Joined) (cl : List (List Line)) (sl : List (List Entry)) (m i : ℕ) (name : List ℕ) → length ss ≤ i → CanBe (world_of cs ss ks cl sl m) (Remove i name) → ⊥
+remove-none cs ss ks cl sl m i name over can =
+    let d = At-mapped server_of ss i can.y can.at in
+    let within = At-within ss i d.0 d.1 in
+    absurd (omega (arith, within, over))

@@ -1,0 +1,121 @@
+ghost use Rattle.std.specs.Prelude.{◌≡◌, ◌+◌, length, map};
+ghost use Rattle.ca_model.specs.History as history;
+ghost use Rattle.ca_model_world.specs.Events as event;
+ghost use Rattle.ca_model_world.specs.World as model;
+ghost use Rattle.ca_world_data.specs.Does.{Does};
+ghost use Rattle.ca_world_data.specs.Losing.{AllMayLose, AreLost};
+ghost use Rattle.ca_world_data.specs.Opening.{entries_in};
+ghost use Rattle.ca_world_data.specs.Removing.{AllSeated, Becomes, RemovesAt, TellsRemoval};
+ghost use Rattle.ca_world_data.specs.Reporting.{AreServed, waits};
+ghost use Rattle.ca_world_data.specs.Seen.{entry_of, joined_of};
+ghost use Rattle.ca_world_data.specs.ServerCuts.{HasRoomFor};
+
+use crate::world::World;
+use ca_text::Refusal;
+use ca_world_data::entries::push_some;
+use ca_world_data::history::Entry;
+use ca_world_data::joined::Joined;
+use ca_world_data::losing::{Leading, forget_record, lose_all, prepare_losses, removal_entries};
+use ca_world_data::reporting::{report_ends, reserve_reports};
+use ca_world_data::server::ServerSide;
+use std::alloc::Global;
+
+impl World {
+    /// A record of a server is removed. A removal that the server refuses changes nothing.
+    pub fn remove(&mut self, server: usize, name: &[u8]) -> Result<(), Refusal>
+        ensures { Does self.old (event.Remove server name.now) result self.new }
+    {
+        if server >= self.servers.len() {
+            return Err(Refusal::BadEvent);
+        }
+        remove_at(
+            self.alloc,
+            server,
+            &mut self.servers[server],
+            &mut self.circuits,
+            &mut self.server_logs,
+            name,
+        )
+    }
+}
+
+// A record of this server is removed. A removal that its core refuses changes nothing.
+fn remove_at(
+    alloc: Global,
+    server: usize,
+    side: &mut ServerSide,
+    circuits: &mut Vec<Joined>,
+    logs: &mut Vec<Vec<Entry>>,
+    name: &[u8],
+) -> Result<(), Refusal>
+    requires served { AreServed
+        side.old.circuits.items
+        (map joined_of circuits.old.items)
+        server }
+    requires seated { AllSeated server (map joined_of circuits.old.items) }
+    ensures { RemovesAt
+        server
+        name.now
+        side.old
+        (map joined_of circuits.old.items)
+        (entries_in logs.old.items)
+        result
+        side.new
+        (map joined_of circuits.new.items)
+        (entries_in logs.new.items) }
+{
+    let told = removal_entries(alloc, name, &side.records)?;
+    let leading = prepare_losses(alloc, server, &side.core, circuits, name)?;
+    reserve_reports(logs, side.life, &side.records, told.len())?;
+    match side.core.remove_record(name) {
+        Ok(()) => {
+            tell_removal(alloc, server, side, circuits, logs, name, told, &leading);
+            Ok(())
+        }
+        Err(_) => Ok(()),
+    }
+}
+
+// The core of this server has no such record any more: that goes into the log, each circuit loses its channels to it, and ends that ended by
+// it are reported.
+fn tell_removal(
+    alloc: Global,
+    server: usize,
+    side: &mut ServerSide,
+    circuits: &mut Vec<Joined>,
+    logs: &mut Vec<Vec<Entry>>,
+    name: &[u8],
+    told: Vec<Entry>,
+    leading: &[Leading],
+)
+    requires becomes { Becomes
+        server
+        side.old.core
+        side.old.circuits.items
+        circuits.old.items
+        (map joined_of circuits.old.items)
+        leading.now }
+    requires may { AllMayLose server side.old.core circuits.old.items leading.now }
+    requires room { HasRoomFor
+        (waits side.old.records.items + length told.items)
+        side.old.life
+        logs.old.items }
+    ensures { (f : model.Joined → model.Joined)
+        → AreLost server side.old.core circuits.old.items leading.now f
+        → TellsRemoval
+        server
+        name.now
+        (map entry_of told.items)
+        f
+        side.old
+        (map joined_of circuits.old.items)
+        (entries_in logs.old.items)
+        side.new
+        (map joined_of circuits.new.items)
+        (entries_in logs.new.items) }
+{
+    push_some(logs, side.life, told);
+    lose_all(alloc, server, &side.core, circuits, leading);
+    forget_record(&mut side.records, name);
+    report_ends(alloc, server, side, circuits, logs);
+}
