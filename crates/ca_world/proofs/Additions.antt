@@ -187,7 +187,7 @@ lack-at name number [] lack k r at same = absurd cc
 lack-at name number (x ∷ rs) lack zero r at same = lack.0.0 (ap (λ (z : model.RecordSide). z.name) (some_is x r at) ∙ same)
 lack-at name number (x ∷ rs) lack (suc k) r at same = lack-at name number rs lack.1 k r at same
 
-others-apart : (rs : List model.RecordSide) → AreOthers rs → (i j : ℕ) (a b : model.RecordSide) → At rs i a → At rs j b → a.name ≡ b.name → i ≡ j
+pub others-apart : (rs : List model.RecordSide) → AreOthers rs → (i j : ℕ) (a b : model.RecordSide) → At rs i a → At rs j b → a.name ≡ b.name → i ≡ j
 others-apart [] others i j a b at to same = absurd cc
 others-apart (x ∷ rs) others zero zero a b at to same = refl
 others-apart (x ∷ rs) others zero (suc j) a b at to same = absurd (lack-at x.name x.number rs others.0 j b to (sym same ∙ sym (ap (λ (z : model.RecordSide). z.name) (some_is x a at))))

@@ -8,6 +8,8 @@ pub mod Subscribing
 pub mod Cancellings
 pub mod Downward
 pub mod Reported
+pub mod Unstamped
+pub mod Finishings
 pub mod Cuttings
 pub mod Collecting
 pub mod Farewells

@@ -74,7 +74,7 @@ run-alike w i y (s, es, ok, folds) at k j there mine on = go (under y.core.circu
 
 -- ---- the core after a post
 
-each-under : (f : Handle → ServerCircuit → ServerCircuit) (t : Table ServerCircuit) (h : Handle) → under (with_each f t) h ≡ option_map (f h) (under t h)
+pub each-under : (f : Handle → ServerCircuit → ServerCircuit) (t : Table ServerCircuit) (h : Handle) → under (with_each f t) h ≡ option_map (f h) (under t h)
 each-under f t h = go (under t h) (under (with_each f t) h) refl refl
   where
     go : (a b : Option ServerCircuit) → under t h ≡ a → under (with_each f t) h ≡ b → under (with_each f t) h ≡ option_map (f h) (under t h)
@@ -138,7 +138,7 @@ module _ (i : ℕ) (core : Server) (name : List ℕ) (mask : ℕ) where
   abbrev numbers : model.Joined → model.Joined
   numbers = numbers_posted i core name mask
 
-  posted-keeps : (j : model.Joined) → KeepsEnds j (numbers j)
+  pub posted-keeps : (j : model.Joined) → KeepsEnds j (numbers j)
   posted-keeps j = go (j.server == i && j.lists.server_open)
     where
       go : (b : Bool) → KeepsEnds j (if b then fold with_number j (keys_concerned name mask (under core.circuits j.at_server)) else j)
@@ -171,7 +171,7 @@ module _ (i : ℕ) (core : Server) (name : List ℕ) (mask : ℕ) where
 ending-by : (ends : model.Joined → Option (List ℕ)) (j : model.Joined) (o : Option (List ℕ)) → ends j ≡ o → ending ends j ≡ unwrap_or (option_map (λ (left : List ℕ). server_closed left j) o) j
 ending-by ends j o is = ap (λ (z : Option (List ℕ)). unwrap_or (option_map (λ (left : List ℕ). server_closed left j) z) j) is
 
-ending-keeps : (ends : model.Joined → Option (List ℕ)) (j : model.Joined) → KeepsEnds j (ending ends j)
+pub ending-keeps : (ends : model.Joined → Option (List ℕ)) (j : model.Joined) → KeepsEnds j (ending ends j)
 ending-keeps ends j = go (ends j)
   where
     go : (o : Option (List ℕ)) → KeepsEnds j (unwrap_or (option_map (λ (left : List ℕ). server_closed left j) o) j)

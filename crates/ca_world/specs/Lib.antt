@@ -1,5 +1,7 @@
 pub mod Whole
 pub mod Reported
+pub mod Unstamped
+pub mod Finishing
 pub mod ServerPumps
 pub mod Halted
 pub mod Ticking

@@ -1,0 +1,609 @@
+-- A record's busy put is finished at a server, from what its parts became.
+use Rattle.std.proofs.Common.{◌≡◌, ◌∙◌, ℕ, zero, suc, ◌+◌, ◌<◌, ◌≤◌, ◌==◌, ◌&&◌, inl, inr, Bool, true, false, List, [], ◌∷◌, ◌++◌, Option, Some, None, Result, Ok, Err, drop, length, refl, sym, ap, subst, arith}
+use Rattle.std.specs.Prelude.{◌⊎◌, if◌then◌else◌, is_some, map, option_map, slice_get, slice_set, unwrap_or}
+use Rattle.std.specs.List.{flat_map, fold}
+use Rattle.std.specs.Str.{bytes_eq}
+use Rattle.std.proofs.lemmas.List.{append-nil, append_assoc, length-append, length-map}
+use Rattle.std.proofs.lemmas.Slice.Eq.{bytes_eq-Decides}
+use Rattle.ca_arena.specs.declared.handle.Handle.{Handle}
+use Rattle.ca_dbr.specs.Elements.{Elements}
+use Rattle.ca_ids.specs.Table.{under}
+use Rattle.ca_queue.specs.declared.entry.SubKey.{SubKey}
+use Rattle.ca_queue.proofs.Circuits.{set-twice}
+use Rattle.ca_records.specs.declared.puts.Put.{Put}
+use Rattle.ca_records.specs.Puts.{Record, WaitingPut, record_named, written_meta}
+use Rattle.ca_text.specs.declared.refusal.Refusal.{Refusal}
+use Rattle.ca_text.specs.declared.refusal.Refusal.TheVariants.{NotBusy, OutOfMemory, UnknownRecord}
+use Rattle.ca_text.specs.Place.{At}
+use Rattle.ca_text.proofs.Places.{At-map, At-mapped, At-one, At-set, At-within, some_is}
+use Rattle.ca_wire.specs.Fields.{Fields}
+use Rattle.ca_wire.specs.Message.{IsMessage, spelled, spelling}
+use Rattle.ca_wire.proofs.Messages.{spelling-long}
+use Rattle.ca_wire.proofs.Padding.{message-of}
+use Rattle.ca_model.specs.Ends as why
+use Rattle.ca_model.specs.History as history
+use Rattle.ca_model.specs.Server.{Ended, Open, Server, ServerCircuit, ServerEnd}
+use Rattle.ca_model.specs.ServerCalls.{Finishes, Replies, after_next, finish_reply, lacking, with_finish, with_message}
+use Rattle.ca_model.specs.ServerSteps.{reached, stored_now, write_mask}
+use Rattle.ca_model.specs.Speech.{In, Stored}
+use Rattle.ca_model_world.specs.Events as event
+use Rattle.ca_model_world.specs.Runs.{CanBe, IsServer}
+use Rattle.ca_model_world.specs.ServerEvents.{about, ending, ends_by, finish_entry, first_of, keys_concerned, next_busy, next_entries, next_numbers, numbers_posted, replied_at, reported, server_after, with_number, with_record, withdrawals, without_puts}
+use Rattle.ca_model_world.specs.World.{PutPlace, grown}
+use Rattle.ca_model_world.specs.World as model
+use Rattle.ca_laws_bytes.proofs.Fits.{empty-payload}
+use Rattle.ca_laws_bytes.proofs.Runs as runs
+use Rattle.ca_laws_bytes.proofs.ServerEnds.{end-own}
+use Rattle.ca_laws_bytes.specs.ServerFits.{PutFits, ServersFit}
+use Rattle.ca_laws_writes.proofs.Events.{find-at, found}
+use Rattle.ca_laws_writes.proofs.Lists.{both-at}
+use Rattle.ca_laws_writes.specs.Agrees.{Agrees, IsBusyAs, WaitsAs}
+use Rattle.ca_laws_writes.specs.Both.{Both}
+use Rattle.ca_laws_writes.specs.Lives.{CameOn, IsPutOf, LostOn}
+use Rattle.ca_laws_writes.specs.Moves.{Lives}
+use Rattle.ca_laws_writes.specs.Once.{Once}
+use Rattle.ca_server_core.specs.Asking.{busy_value, value_busy}
+use Rattle.ca_server_core.specs.ForHistories.{bytes_under}
+use Rattle.ca_world.specs.Finishing.{AreBehind, Ends, Finished, FinishesAt, IsBeside, IsBusy, IsBusyOn, IsNext, MayFinish, NextIn, TellsFinish, TellsWait, WaitIn, WaitsIn, applied_of, numbered, replied_in, with_down}
+use Rattle.ca_world.specs.Whole.{IsReached}
+use Rattle.ca_world.proofs.Additions.{others-apart}
+use Rattle.ca_world.proofs.Postings.{each-under, ending-keeps, posted-keeps, served-posted}
+use Rattle.ca_world.proofs.Unstamped.{run-unstamped}
+use Rattle.ca_world_data.specs.declared.client.ClientSide.{ClientSide}
+use Rattle.ca_world_data.specs.declared.joined.Joined.{Joined}
+use Rattle.ca_world_data.specs.declared.server.RecordSide.{RecordSide as Held}
+use Rattle.ca_world_data.specs.declared.server.ServerSide.{ServerSide}
+use Rattle.ca_world_data.specs.Does.{Does}
+use Rattle.ca_world_data.specs.Indexed.{AreIndexed, server_numbers}
+use Rattle.ca_world_data.specs.Numbering.{AllAlike, IsAlike}
+use Rattle.ca_world_data.specs.Reporting.{AreServed, Reports, gone_at, waits}
+use Rattle.ca_world_data.specs.Seen.{client_of, joined_of, place_of, record_of, server_of}
+use Rattle.ca_world_data.proofs.Indexes.{KeepsEnds, ends-stay, indexed-circuit, indexed-map, indexed-same, numbers-set}
+use Rattle.ca_world_data.proofs.Worlds.{set-map, set-same, world_of}
+
+-- ---- the value of a put that waits
+
+-- what an entry tells, if a value was found
+pub wait-found : {A : Type 0} (f : A → Elements) (e : history.Entry) (p : PutPlace) (o : Option A) (v : A) → o ≡ Some v → WaitIn e p (option_map f o) → TellsWait e p (f v)
+wait-found f e p o v is tells = subst (λ (x : Option _). WaitIn e p (option_map f x)) is tells
+
+-- and a log
+pub waits-found : {A : Type 0} (f : A → Elements) (log : List history.Entry) (p : PutPlace) (o : Option A) (v : A) → o ≡ Some v → WaitsIn log p (option_map f o) → WaitsIn log p (Some (f v))
+waits-found f log p o v is tells = subst (λ (x : Option _). WaitsIn log p (option_map f x)) is tells
+
+-- ---- logs
+
+-- more entries behind others
+pub grown-twice : {A : Type 0} (life : ℕ) (some more : List A) (logs : List (List A)) → grown life more (grown life some logs) ≡ grown life (some ++ more) logs
+grown-twice life some more [] = refl
+grown-twice zero some more (l ∷ ls) = ap (λ (z : List _). z ∷ ls) (append_assoc l some more)
+grown-twice (suc n) some more (l ∷ ls) = ap (λ (z : List (List _)). l ∷ z) (grown-twice n some more ls)
+
+-- ---- the bytes of a circuit
+
+bytes-lacking : (gone : Handle → Bool) (h : Handle) (o : Option ServerCircuit) → bytes_under (option_map (lacking gone h) o) ≡ bytes_under o
+bytes-lacking gone h None = refl
+bytes-lacking gone h (Some (Ended w left)) = refl
+bytes-lacking gone h (Some (Open e)) = go (gone h)
+  where
+    go : (b : Bool) → bytes_under (Some (if b then Ended why.OutOfMemory e.link.output else Open e)) ≡ e.link.output
+    go true = refl
+    go false = refl
+
+bytes-reached : (name : List ℕ) (mask : ℕ) (v : Stored) (gone : Handle → Bool) (h : Handle) (o : Option ServerCircuit) → bytes_under (option_map (reached name mask v gone h) o) ≡ bytes_under o
+bytes-reached name mask v gone h None = refl
+bytes-reached name mask v gone h (Some (Ended w left)) = refl
+bytes-reached name mask v gone h (Some (Open e)) = go (gone h)
+  where
+    go : (b : Bool) → bytes_under (Some (if b then Ended why.OutOfMemory e.link.output else Open (Rattle.ca_model.specs.Server.with_post name mask v e))) ≡ e.link.output
+    go true = refl
+    go false = refl
+
+-- the next put leaves them as they are
+bytes-next : (name : List ℕ) (ws : List WaitingPut) (gone : Handle → Bool) (y : Server) (h : Handle) → bytes_under (under (after_next name ws gone y).circuits h) ≡ bytes_under (under y.circuits h)
+bytes-next name [] gone y h = ap bytes_under (each-under (lacking gone) y.circuits h) ∙ bytes-lacking gone h (under y.circuits h)
+bytes-next name (w ∷ ws) gone y h =
+    ap bytes_under (each-under (reached name write_mask (stored_now y w.value) gone) y.circuits h) ∙ bytes-reached name write_mask (stored_now y w.value) gone h (under y.circuits h)
+
+busy-one : (y : Server) (name : List ℕ) (r : Record) (p b : Put) → record_named y.records name ≡ Some r → r.busy ≡ Some p → IsBusy y name b → p ≡ b
+busy-one y name r p b named busy is =
+    let same : r ≡ is.c = some_is r is.c (sym named ∙ is.named) in
+    some_is p b (sym busy ∙ ap (λ (z : Record). z.busy) same ∙ is.busy)
+
+-- the reply stands behind what waited
+pub finish-behind : (y core : Server) (name : List ℕ) (sent : List (Handle × Fields)) (b : Put) → Finishes y name sent (Ok tt) core → IsBusy y name b → IsMessage (finish_reply b)
+    → AreBehind (length (bytes_under (under y.circuits b.circuit))) (bytes_under (under core.circuits b.circuit)) (map (λ (s : Handle × Fields). s.1) sent)
+finish-behind y core name sent b (f, mid, replies, core_is) is fits =
+    go (subst (λ (p : Put). Replies (with_finish name f.r y) p f.gone sent mid) (busy-one y name f.r f.p b f.named f.busy is) replies)
+  where
+    begun : List ℕ
+    begun = bytes_under (under y.circuits b.circuit)
+
+    last : bytes_under (under core.circuits b.circuit) ≡ bytes_under (under mid.circuits b.circuit)
+    last = ap (λ (z : Server). bytes_under (under z.circuits b.circuit)) core_is ∙ bytes-next name f.r.waiting f.gone mid b.circuit
+
+    bodies : List (Handle × Fields) → List Fields
+    bodies s = map (λ (z : Handle × Fields). z.1) s
+
+    go : Replies (with_finish name f.r y) b f.gone sent mid → AreBehind (length begun) (bytes_under (under core.circuits b.circuit)) (bodies sent)
+    go (inl (e, awaited, sent_is, mid_is)) =
+        let m : Fields = finish_reply b in
+        let there : under mid.circuits b.circuit ≡ Some (Open (record e { link = Rattle.ca_link.specs.Link.with_sent (m ∷ []) e.link })) =
+        ap (λ (z : Server). under z.circuits b.circuit) mid_is ∙ end-own (with_finish name f.r y) b.circuit e _ awaited.0 in
+        let here : e.link.output ≡ begun = sym (ap bytes_under awaited.0) in
+        record {
+          begun = begun;
+          long = refl;
+          are = last ∙ ap bytes_under there ∙ ap (λ (z : List ℕ). z ++ spelled (m ∷ [])) here ∙ sym (ap (λ (s : List (Handle × Fields)). begun ++ spelled (bodies s)) sent_is);
+          few = inr (m, ap bodies sent_is, fits, refl);
+        }
+    go (inr (why_not, sent_is, mid_is)) = record {
+      begun = begun;
+      long = refl;
+      are = last ∙ ap (λ (z : Server). bytes_under (under z.circuits b.circuit)) mid_is ∙ sym (append-nil begun) ∙ sym (ap (λ (s : List (Handle × Fields)). begun ++ spelled (bodies s)) sent_is);
+      few = inl (ap bodies sent_is);
+    }
+
+-- if no more bytes wait than before, none is behind
+pub none-behind : (waited : ℕ) (bytes : List ℕ) (ms : List Fields) → AreBehind waited bytes ms → length bytes ≤ waited → ms ≡ []
+none-behind waited bytes ms behind few = elim behind.few [
+  | inl none ↦ none
+  | inr one ↦
+      let are : bytes ≡ behind.begun ++ spelled (one.0 ∷ []) = behind.are ∙ ap (λ (z : List Fields). behind.begun ++ spelled z) one.1 in
+      let all : length bytes ≡ length behind.begun + length (spelled (one.0 ∷ [])) = ap length are ∙ length-append behind.begun (spelled (one.0 ∷ [])) in
+      let size : length (spelled (one.0 ∷ [])) ≡ length (spelling one.0) = ap length (append-nil (spelling one.0)) in
+      let long : 16 + length one.0.payload ≤ length (spelling one.0) = spelling-long one.0 in
+      let begun : length behind.begun ≡ waited = behind.long in
+      absurd (omega (arith, all, size, long, begun, few))
+]
+
+drop-begun : (xs ys : List ℕ) → drop (length xs) (xs ++ ys) ≡ ys
+drop-begun [] ys = refl
+drop-begun (x ∷ xs) ys = drop-begun xs ys
+
+-- else one is
+pub record OneBehind (waited : ℕ) (bytes : List ℕ) (ms : List Fields) : Type 0 where
+  pub m : Fields
+  pub is : ms ≡ m ∷ []
+  pub good : IsMessage m
+  pub bare : m.payload ≡ []
+  pub begins : drop waited bytes ≡ spelling m ++ []
+
+pub one-behind : (waited : ℕ) (bytes : List ℕ) (ms : List Fields) → AreBehind waited bytes ms → waited < length bytes → OneBehind waited bytes ms
+one-behind waited bytes ms behind more = elim behind.few [
+  | inl none ↦
+      let are : bytes ≡ behind.begun ++ [] = behind.are ∙ ap (λ (z : List Fields). behind.begun ++ spelled z) none in
+      let all : length bytes ≡ length behind.begun = ap length (are ∙ append-nil behind.begun) in
+      let begun : length behind.begun ≡ waited = behind.long in
+      absurd (omega (arith, all, begun, more))
+  | inr one ↦
+      let are : bytes ≡ behind.begun ++ spelled (one.0 ∷ []) = behind.are ∙ ap (λ (z : List Fields). behind.begun ++ spelled z) one.1 in
+      record {
+        m = one.0;
+        is = one.1;
+        good = one.2;
+        bare = one.3;
+        begins = (λ t. drop (sym behind.long t) (are t)) ∙ drop-begun behind.begun (spelled (one.0 ∷ []));
+      }
+]
+
+-- ---- circuits
+
+-- a circuit, whose messages down are others, has the same numbers
+down-number : (d : List history.Told) (keys : List SubKey) (j : model.Joined) → fold with_number (with_down d j) keys ≡ with_down d (fold with_number j keys)
+down-number d [] j = refl
+down-number d (key ∷ keys) j = down-number d keys (with_number j key)
+
+same-down : (keys : List SubKey) (j : model.Joined) → (fold with_number j keys).lists.down ≡ j.lists.down
+same-down [] j = refl
+same-down (key ∷ keys) j = same-down keys (with_number j key)
+
+map-same : {A : Type 0} (f : A → A) (xs : List A) → ((x : A) → f x ≡ x) → map f xs ≡ xs
+map-same f [] same = refl
+map-same f (x ∷ xs) same = (λ t. same x t ∷ map-same f xs same t)
+
+-- ---- refusals
+
+-- a record whose busy value is known is busy
+pub is-busy : (y : Server) (name : List ℕ) (e : Elements) → busy_value y name ≡ Some e → (b : Put) × IsBusy y name b
+is-busy y name e some = go (record_named y.records name) refl some
+  where
+    on : (c : Record) → record_named y.records name ≡ Some c → (o : Option Put) → c.busy ≡ o → (if is_some o then Some c.state.value else None) ≡ Some e → (b : Put) × IsBusy y name b
+    on c named None busy some = absurd cc
+    on c named (Some b) busy some = (b, record { c = c; named = named; busy = busy })
+
+    go : (o : Option Record) → record_named y.records name ≡ o → value_busy o ≡ Some e → (b : Put) × IsBusy y name b
+    go None named some = absurd cc
+    go (Some c) named some = on c named c.busy refl some
+
+-- a record that is not busy is refused
+pub refuses : (y : Server) (name : List ℕ) → busy_value y name ≡ None → (e : Refusal) × Finishes y name [] (Err e) y
+refuses y name none = go (record_named y.records name) refl none
+  where
+    on : (c : Record) → record_named y.records name ≡ Some c → (o : Option Put) → c.busy ≡ o → (if is_some o then Some c.state.value else None) ≡ None → (e : Refusal) × Finishes y name [] (Err e) y
+    on c named None busy none = (NotBusy, ((c, named, busy), refl, refl))
+    on c named (Some b) busy none = absurd cc
+
+    go : (o : Option Record) → record_named y.records name ≡ o → value_busy o ≡ None → (e : Refusal) × Finishes y name [] (Err e) y
+    go None named none = (UnknownRecord, (named, refl, refl))
+    go (Some c) named none = on c named c.busy refl none
+
+-- a record that is busy is not
+pub not-refused : (y core : Server) (name : List ℕ) (sent : List (Handle × Fields)) (e : Refusal) (b : Put) → Finishes y name sent (Err e) core → IsBusy y name b → ⊥
+not-refused y core name sent UnknownRecord b d is = absurd (none-some is.c (sym d.0 ∙ is.named))
+  where
+    none-some : (c : Record) → (let o : Option Record = None in o ≡ Some c) → ⊥
+    none-some c e = cc
+not-refused y core name sent NotBusy b d is = (let same : d.0.0 ≡ is.c = some_is d.0.0 is.c (sym d.0.1 ∙ is.named) in absurd (none-some b (sym d.0.2 ∙ ap (λ (z : Record). z.busy) same ∙ is.busy)))
+  where
+    none-some : (c : Put) → (let o : Option Put = None in o ≡ Some c) → ⊥
+    none-some c e = cc
+not-refused y core name sent e b d is = absurd d
+
+-- ---- in every run
+
+abbrev value-waits : history.Entry → Elements → Elements
+value-waits (history.Waits n k r v) e = v.value
+value-waits entry e = e
+
+module _ (w : model.World) (i : ℕ) (y : model.ServerSide) (name : List ℕ) (at_run : IsReached w) (fit : ServersFit w) (at : At w.servers i y) where
+  l : Lives w i y
+  l = (runs.reached w (at_run.0, at_run.1, None, at_run.2, (w, at_run.3, refl))).1.sound.writes.lives i y at
+
+  -- the log of its life tells what the two records are
+  agree-beside : (c : Record) (r : model.RecordSide) → IsBeside y.core y.records name c r → Agrees (IsPutOf w.circuits i) l.log c r
+  agree-beside c r (named, (place, in_rs, is_name)) =
+      let f = found (IsPutOf w.circuits i) l.log y.core.records y.records name c l.life.each named in
+      let one : f.i ≡ place = others-apart y.records l.life.others f.i place f.r r f.in_rs in_rs (f.named ∙ sym is_name) in
+      both-at (Agrees (IsPutOf w.circuits i) l.log) y.core.records y.records place c r l.life.each (subst (λ (n : ℕ). At y.core.records n c) one f.in_cs) in_rs
+
+  first-value : (c : Record) (r : model.RecordSide) (value : Option Elements) → Both (WaitsAs (IsPutOf w.circuits i) l.log r.number) r.waiting c.waiting → IsNext w.server_logs y.life r.waiting value
+      → option_map (λ (z : WaitingPut). z.value) (first_of c.waiting) ≡ value
+  first-value c r value = go r.waiting c.waiting value
+    where
+      go : (ps : List PutPlace) (ws : List WaitingPut) (value : Option Elements) → Both (WaitsAs (IsPutOf w.circuits i) l.log r.number) ps ws → IsNext w.server_logs y.life ps value
+          → option_map (λ (z : WaitingPut). z.value) (first_of ws) ≡ value
+      go [] [] None both next = refl
+      go [] [] (Some v) both (log, there, (p, first, rest)) = absurd cc
+      go [] (w ∷ ws) value both next = absurd both
+      go (p ∷ ps) [] value both next = absurd both
+      go (p ∷ ps) (x ∷ ws) None both next = absurd cc
+      go (p ∷ ps) (x ∷ ws) (Some v) both (log, there, (q, first, (e, (n, in_log), (r', v', e_is, v_is)))) =
+          let came = both.0.0 in
+          let same_log : log ≡ l.log = At-one w.server_logs y.life log l.log there l.at in
+          let same : q ≡ p = sym (some_is p q first) in
+          let in_life : At l.log n (history.Waits p.circuit p.place r' v') = subst (λ (z : List history.Entry × history.Entry). At z.0 n z.1) (λ t. (same_log t, (e_is ∙ (λ s. history.Waits (same s).circuit (same s).place r' v')) t)) in_log in
+          let once : Once (CameOn w.circuits y.life) (LostOn w.circuits) l.log = l.life.once in
+          let place : n ≡ came.came.0 = once.waits n came.came.0 p.circuit p.place r' r.number v' came.v in_life came.came.1 in
+          let is : history.Waits p.circuit p.place r' v' ≡ history.Waits p.circuit p.place r.number came.v =
+          At-one l.log n _ _ in_life (subst (λ (k : ℕ). At l.log k (history.Waits p.circuit p.place r.number came.v)) (sym place) came.came.1) in
+          ap (λ (z : Elements). Some z) (sym came.with_it ∙ sym (ap (λ (z : history.Entry). value-waits z v) is) ∙ v_is)
+
+  pub run-may-finish : MayFinish name y w.circuits w.server_logs
+  run-may-finish = record {
+    handle = λ c r b p j beside cb rb there.
+        let g = agree-beside c r beside in
+        let is : IsPutOf w.circuits i p b = subst (λ (z : Option PutPlace × Option Put). IsBusyAs (IsPutOf w.circuits i) z.0 z.1) (λ t. (rb t, cb t)) g.busy_as in
+        sym (is.handle ∙ ap (λ (z : model.Joined). z.at_server) (At-one w.circuits p.circuit is.c j is.on there));
+    fits = λ c b named cb.
+        let f = find-at (λ (r : Record). bytes_eq r.state.name name) y.core.records c named in
+        let p : PutFits b = ((fit.cores i y at).records f.0 c f.1).busy b cb in
+        message-of (finish_reply b) (omega arith) p.0 p.1 (omega arith) p.2 empty-payload;
+    next = λ c r value beside next. first-value c r value (agree-beside c r beside).each next;
+    unstamped = run-unstamped w at_run i y at;
+  }
+
+-- ---- circuits and their numbers
+
+-- what becomes of one circuit
+abbrev if_waits : Bool → (i : ℕ) → Server → (name : List ℕ) → model.Joined → model.Joined
+if_waits waits i core name j = if waits then numbers_posted i core name write_mask j else j
+
+numbered-map : (waits : Bool) (i : ℕ) (core : Server) (name : List ℕ) (ks : List model.Joined) → numbered waits i core name ks ≡ map (if_waits waits i core name) ks
+numbered-map true i core name ks = refl
+numbered-map false i core name ks = sym (map-same (λ j. j) ks (λ j. refl))
+
+keeps-numbers : (waits : Bool) (i : ℕ) (core : Server) (name : List ℕ) (j : model.Joined) → KeepsEnds j (if_waits waits i core name j)
+keeps-numbers true i core name j = posted-keeps i core name write_mask j
+keeps-numbers false i core name j = ends-stay j j refl
+
+-- the circuit with other messages down has the same numbers
+down-posted : (d : List history.Told) (i : ℕ) (core : Server) (name : List ℕ) (j : model.Joined) → numbers_posted i core name write_mask (with_down d j) ≡ with_down d (numbers_posted i core name write_mask j)
+down-posted d i core name j = go (j.server == i && j.lists.server_open)
+  where
+    keys : List SubKey
+    keys = keys_concerned name write_mask (under core.circuits j.at_server)
+
+    go : (b : Bool) → (if b then fold with_number (with_down d j) keys else with_down d j) ≡ with_down d (if b then fold with_number j keys else j)
+    go true = down-number d keys j
+    go false = refl
+
+down-numbers : (waits : Bool) (d : List history.Told) (i : ℕ) (core : Server) (name : List ℕ) (j : model.Joined) → if_waits waits i core name (with_down d j) ≡ with_down d (if_waits waits i core name j)
+down-numbers true d i core name j = down-posted d i core name j
+down-numbers false d i core name j = refl
+
+down-kept : (waits : Bool) (i : ℕ) (core : Server) (name : List ℕ) (j : model.Joined) → (if_waits waits i core name j).lists.down ≡ j.lists.down
+down-kept true i core name j = go (j.server == i && j.lists.server_open)
+  where
+    keys : List SubKey
+    keys = keys_concerned name write_mask (under core.circuits j.at_server)
+
+    go : (b : Bool) → (if b then fold with_number j keys else j).lists.down ≡ j.lists.down
+    go true = same-down keys j
+    go false = refl
+down-kept false i core name j = refl
+
+-- the circuits are alike still without messages on one of them
+alike-bare : (i : ℕ) (core : Server) (ks : List model.Joined) (k : ℕ) (j : model.Joined) (d : List history.Told) → At ks k j → AllAlike i core ks → AllAlike i core (slice_set ks k (with_down d j))
+alike-bare i core ks k j d at all n c there mine on = elim (At-set ks k (with_down d j) n c there) [
+  | inl here ↦
+      let a : IsAlike (under core.circuits j.at_server) j = all k j at (sym (ap (λ (z : model.Joined). z.server) here.1) ∙ mine) (sym (ap (λ (z : model.Joined). z.lists.server_open) here.1) ∙ on) in
+      subst (λ (z : model.Joined). IsAlike (under core.circuits z.at_server) z) (sym here.1) (bare (under core.circuits j.at_server) a)
+  | inr other ↦ all n c other.0 mine on
+]
+  where
+    bare : (o : Option ServerCircuit) → IsAlike o j → IsAlike o (with_down d j)
+    bare None a = tt
+    bare (Some (Ended cause left)) a = tt
+    bare (Some (Open e)) a = record { keys = a.keys; apart = a.apart; queues = a.queues }
+
+-- the reply on its circuit
+replied-there : (p : PutPlace) (sent : List (Handle × Fields)) (ks : List model.Joined) (j : model.Joined) → At ks p.circuit j
+    → replied_in p sent ks ≡ slice_set ks p.circuit (with_down (j.lists.down ++ about p.place history.Reply (map (λ (s : Handle × Fields). s.1) sent)) j)
+replied-there p sent ks j at = ap (λ (o : Option model.Joined). unwrap_or (option_map (λ (c : model.Joined). slice_set ks p.circuit (with_down (c.lists.down ++ about p.place history.Reply (map (λ (s : Handle × Fields). s.1) sent)) c)) o) ks) at
+
+-- Numbers wait on circuits, of which one has its messages held aside; it has them again, and the reply.
+pub set-aside : (waits : Bool) (i : ℕ) (core : Server) (name : List ℕ) (p : PutPlace) (sent : List (Handle × Fields)) (ks bare after last : List model.Joined) (j c : model.Joined) (told : List history.Told) → At ks p.circuit j
+    → bare ≡ slice_set ks p.circuit (with_down [] j) → after ≡ numbered waits i core name bare → At after p.circuit c → told ≡ j.lists.down ++ about p.place history.Reply (map (λ (s : Handle × Fields). s.1) sent)
+    → last ≡ slice_set after p.circuit (with_down told c) → last ≡ replied_in p sent (numbered waits i core name ks)
+set-aside waits i core name p sent ks bare after last j c told at bare_is after_is there told_is last_is =
+    let f : model.Joined → model.Joined = if_waits waits i core name in
+    let k : ℕ = p.circuit in
+    let reply : List history.Told = about p.place history.Reply (map (λ (s : Handle × Fields). s.1) sent) in
+    let is : after ≡ slice_set (map f ks) k (with_down [] (f j)) =
+    after_is ∙ numbered-map waits i core name bare ∙ ap (map f) bare_is ∙ set-map f ks k (with_down [] j) ∙ ap (slice_set (map f ks) k) (down-numbers waits [] i core name j) in
+    let mapped : At (map f ks) k (f j) = At-map f ks k j at in
+    let c_is : c ≡ with_down [] (f j) = At-one after k c (with_down [] (f j)) there (subst (λ (z : List model.Joined). At z k (with_down [] (f j))) (sym is) (set-there (map f ks) k (f j) (with_down [] (f j)) mapped)) in
+    last_is ∙ (λ t. slice_set (is t) k (with_down told (c_is t))) ∙ set-twice (map f ks) k (with_down [] (f j)) (with_down told (f j))
+    ∙ ap (λ (d : List history.Told). slice_set (map f ks) k (with_down d (f j))) (told_is ∙ ap (λ (d : List history.Told). d ++ reply) (sym (down-kept waits i core name j)))
+    ∙ sym (replied-there p sent (map f ks) (f j) mapped)
+    ∙ ap (replied_in p sent) (sym (numbered-map waits i core name ks))
+  where
+    set-there : {A : Type 0} (xs : List A) (n : ℕ) (x y : A) → At xs n x → At (slice_set xs n y) n y
+    set-there [] n x y at = absurd cc
+    set-there (z ∷ xs) zero x y at = refl
+    set-there (z ∷ xs) (suc n) x y at = set-there xs n x y at
+
+-- a property of circuits that the reply and the numbers keep
+module _ (p : PutPlace) (sent : List (Handle × Fields)) where
+  abbrev said : model.Joined → model.Joined
+  said j = with_down (j.lists.down ++ about p.place history.Reply (map (λ (s : Handle × Fields). s.1) sent)) j
+
+  said-keeps : (j : model.Joined) → KeepsEnds j (said j)
+  said-keeps j = record { client = refl; server = refl; at_client = refl; at_server = refl; closes = λ on. on; stops = λ on. on }
+
+  -- the server finds its circuits still
+  pub served-replied : (own : List ℕ) (i : ℕ) (ks : List model.Joined) → AreServed own ks i → AreServed own (replied_in p sent ks) i
+  served-replied own i ks served = go (slice_get ks p.circuit) refl
+    where
+      go : (o : Option model.Joined) → slice_get ks p.circuit ≡ o → AreServed own (unwrap_or (option_map (λ (j : model.Joined). slice_set ks p.circuit (said j)) o) ks) i
+      go None is = served
+      go (Some j) is = λ k c there mine on. elim (At-set ks p.circuit (said j) k c there) [
+        | inl here ↦
+            subst (λ (z : ℕ × Handle). At own z.1.index z.0) (λ t. (sym here.0 t, (sym here.1 t).at_server))
+            (served p.circuit j is (sym (ap (λ (z : model.Joined). z.server) here.1) ∙ mine) (sym (ap (λ (z : model.Joined). z.lists.server_open) here.1) ∙ on))
+        | inr other ↦ served k c other.0 mine on
+      ]
+
+  pub indexed-replied : (cs ss : List (List ℕ)) (ks : List model.Joined) → AreIndexed cs ss ks → AreIndexed cs ss (replied_in p sent ks)
+  indexed-replied cs ss ks h = go (slice_get ks p.circuit) refl
+    where
+      go : (o : Option model.Joined) → slice_get ks p.circuit ≡ o → AreIndexed cs ss (unwrap_or (option_map (λ (j : model.Joined). slice_set ks p.circuit (said j)) o) ks)
+      go None is = h
+      go (Some j) is = indexed-circuit cs ss ks h p.circuit j (said j) is (said-keeps j)
+
+  replied-is : (w : model.World) → replied_at p sent w ≡ record w { circuits = replied_in p sent w.circuits }
+  replied-is w = go (slice_get w.circuits p.circuit)
+    where
+      go : (o : Option model.Joined) → unwrap_or (option_map (λ (j : model.Joined). model.with_circuit p.circuit (said j) w) o) w ≡ record w { circuits = unwrap_or (option_map (λ (j : model.Joined). slice_set w.circuits p.circuit (said j)) o) w.circuits }
+      go None = refl
+      go (Some j) = refl
+
+-- the server finds its circuits still, once numbers wait on them
+pub served-numbered : (waits : Bool) (i : ℕ) (core : Server) (name : List ℕ) (own : List ℕ) (ks : List model.Joined) → AreServed own ks i → AreServed own (numbered waits i core name ks) i
+served-numbered true i core name own ks served = served-posted i core name write_mask own ks served
+served-numbered false i core name own ks served = served
+
+-- ---- the next put
+
+-- by the core's records, as by those beside them
+pub numbers-next : (i : ℕ) (core : Server) (name : List ℕ) (ws : List WaitingPut) (next : Option PutPlace) (value : Option Elements) (ks : List model.Joined) → option_map (λ (w : WaitingPut). w.value) (first_of ws) ≡ value → is_some next ≡ is_some value
+    → numbered (is_some next) i core name ks ≡ map (next_numbers i core name ws) ks
+numbers-next i core name [] next (Some v) ks is alike = absurd cc
+numbers-next i core name [] next None ks is alike = ap (λ (b : Bool). numbered b i core name ks) alike ∙ sym (map-same (next_numbers i core name []) ks (λ j. refl))
+numbers-next i core name (w ∷ ws) next None ks is alike = absurd cc
+numbers-next i core name (w ∷ ws) next (Some v) ks is alike = ap (λ (b : Bool). numbered b i core name ks) alike
+
+pub entries-next : (y : model.ServerSide) (r : model.RecordSide) (o : Option WaitingPut) (next : Option PutPlace) (value : Option Elements) → y.core.stamp ≡ record { seconds = 0; nanos = 0 } → option_map (λ (w : WaitingPut). w.value) o ≡ value
+    → applied_of r.number next value ≡ next_entries y r o next
+entries-next y r None None value bare is = refl
+entries-next y r None (Some p) None bare is = refl
+entries-next y r None (Some p) (Some v) bare is = absurd cc
+entries-next y r (Some w) None value bare is = refl
+entries-next y r (Some w) (Some p) None bare is = absurd cc
+entries-next y r (Some w) (Some p) (Some v) bare is =
+    (λ t. history.Applied p.circuit p.place r.number (record { value = sym (some_is w.value v is) t; meta = written_meta (sym bare t) }) true ∷ [])
+
+-- both or neither
+pub next-both : (logs : List (List history.Entry)) (life : ℕ) (ps : List PutPlace) (value : Option Elements) → IsNext logs life ps value → is_some (first_of ps) ≡ is_some value
+next-both logs life [] None next = refl
+next-both logs life [] (Some v) (log, there, (p, first, rest)) = absurd cc
+next-both logs life (p ∷ ps) None next = absurd cc
+next-both logs life (p ∷ ps) (Some v) next = refl
+
+-- ---- how many wait
+
+abbrev waits_by : List model.RecordSide → ℕ
+waits_by [] = 0
+waits_by (r ∷ rs) = length r.waiting + waits_by rs
+
+waits-as : (rs : List Held) → waits rs ≡ waits_by (map record_of rs)
+waits-as [] = refl
+waits-as (r ∷ rs) = (λ t. sym (length-map r.waiting.items place_of) t + waits-as rs t)
+
+drop-one : {A : Type 0} (xs : List A) → length (drop 1 xs) ≤ length xs
+drop-one [] = omega arith
+drop-one (x ∷ xs) = omega arith
+
+waits-less : (name : List ℕ) (rs : List model.RecordSide) → waits_by (with_record name next_busy rs) ≤ waits_by rs
+waits-less name [] = omega arith
+waits-less name (r ∷ rs) = (let less = waits-less name rs in let here = one (bytes_eq r.name name) in omega (arith, less, here))
+  where
+    one : (b : Bool) → length (if b then next_busy r else r).waiting ≤ length r.waiting
+    one true = drop-one r.waiting
+    one false = omega arith
+
+-- no more wait than before
+pub waits-after : (name : List ℕ) (rs new : List Held) → map record_of new ≡ with_record name next_busy (map record_of rs)
+    → waits new ≤ waits rs
+waits-after name rs new is =
+    let was : waits rs ≡ waits_by (map record_of rs) = waits-as rs in
+    let now : waits new ≡ waits_by (with_record name next_busy (map record_of rs)) = waits-as new ∙ ap waits_by is in
+    let less = waits-less name (map record_of rs) in
+    omega (arith, was, now, less)
+
+-- ---- a server after it
+
+-- by the records and the log what was told is a finish
+pub told-ends : (i : ℕ) (name : List ℕ) (y y' : ServerSide) (ks ks' : List model.Joined) (logs logs' : List (List history.Entry)) (c : Record) (r : model.RecordSide) (p : PutPlace) (next : Option PutPlace) (value : Option Elements)
+    → IsBeside y.core (map record_of y.records.items) name c r → r.busy ≡ Some p → next ≡ first_of r.waiting → IsNext logs y.life r.waiting value → MayFinish name (server_of y) ks logs
+    → TellsFinish i name p r.number next value y ks logs y' ks' logs' → Ends i name y ks logs y' ks' logs'
+told-ends i name y y' ks ks' logs logs' c r p next value beside busy next_is is may told =
+    let first = may.next c r value beside is in
+    let both : is_some next ≡ is_some value = ap is_some next_is ∙ next-both logs y.life r.waiting value is in
+    let circuits : told.after ≡ replied_in p told.did.sent (map (next_numbers i y.core name c.waiting) ks) = told.did.circuits ∙ ap (replied_in p told.did.sent) (numbers-next i y.core name c.waiting next value ks first both) in
+    let entries : applied_of r.number next value ≡ next_entries (server_of y) r (first_of c.waiting) (first_of r.waiting) =
+    entries-next (server_of y) r (first_of c.waiting) next value may.unstamped first ∙ ap (next_entries (server_of y) r (first_of c.waiting)) next_is in
+    record {
+      sent = told.did.sent;
+      core = told.core;
+      finishes = told.did.finishes;
+      cr = c;
+      named = beside.0;
+      r = r;
+      at = beside.1;
+      p = p;
+      busy = busy;
+      mid = told.mid;
+      mid_is = told.mid_is;
+      numbers = told.numbers;
+      reports =
+          subst (λ (z : List model.Joined × List history.Entry). Reports i told.mid z.0 (grown y.life (finish_entry p ∷ z.1) logs) y' ks' logs') (λ t. (circuits t, entries t)) told.reports;
+    }
+
+-- ---- a world after it
+
+module _ (cs : List ClientSide) (ss : List ServerSide) (ks : List Joined) (cl : List (List history.Line)) (sl : List (List history.Entry)) (m : ℕ) (i : ℕ) (y : ServerSide) (at : At ss i y) (name : List ℕ) where
+  abbrev there : IsServer (world_of cs ss ks cl sl m) i
+  there = record { y = server_of y; at = At-map server_of ss i y at }
+
+  stay : (y' : ServerSide) (ks' : List Joined) (sl' : List (List history.Entry)) → y' ≡ y → map joined_of ks' ≡ map joined_of ks → sl' ≡ sl → world_of cs (slice_set ss i y') ks' cl sl' m ≡ world_of cs ss ks cl sl m
+  stay y' ks' sl' is_y is_k is_l =
+      (λ t. record { clients = map client_of cs; servers = map server_of (slice_set ss i (is_y t)); circuits = is_k t; client_logs = cl; server_logs = is_l t; moment = m })
+      ∙ (λ t. world_of cs (set-same ss i y at t) ks cl sl m)
+
+  -- the world once this server was the one that called, on these circuits
+  abbrev over : model.ServerSide → List model.Joined → List (List history.Entry) → model.World
+  over z js logs =
+      let gone : ℕ → Bool = gone_at i z.core js in
+      record {
+        clients = map client_of cs;
+        servers = slice_set (map server_of ss) i (record z { core = reported z.core; records = map (without_puts gone) z.records });
+        circuits = map (ending (ends_by i z.core)) js;
+        client_logs = cl;
+        server_logs = grown z.life (withdrawals gone z.records) logs;
+        moment = m;
+      }
+
+  ends-leave : (y' : ServerSide) (ks' : List Joined) (sl' : List (List history.Entry)) (d : Ends i name y (map joined_of ks) sl y' (map joined_of ks') sl')
+      → world_of cs (slice_set ss i y') ks' cl sl' m
+      ≡ server_after i (record (server_of y) { records = with_record name next_busy (map record_of y.records.items) }) (ends_by i d.core) d.core
+      (replied_at d.p d.sent (model.with_entries y.life (finish_entry d.p ∷ next_entries (server_of y) d.r (first_of d.cr.waiting) (first_of d.r.waiting)) (model.with_server i (record (server_of y) { records = with_record name next_busy (map record_of y.records.items) }) (record (world_of cs ss ks cl sl m) { circuits = map (next_numbers i y.core name d.cr.waiting) (map joined_of ks) }))))
+  ends-leave y' ks' sl' d =
+      let js : List model.Joined = map (next_numbers i y.core name d.cr.waiting) (map joined_of ks) in
+      let entries : List history.Entry = finish_entry d.p ∷ next_entries (server_of y) d.r (first_of d.cr.waiting) (first_of d.r.waiting) in
+      let side : model.ServerSide = record (server_of y) { records = with_record name next_busy (map record_of y.records.items) } in
+      let begun : model.World = model.with_entries y.life entries (model.with_server i side (record (world_of cs ss ks cl sl m) { circuits = js })) in
+      let all : List model.Joined = replied_in d.p d.sent js in
+      let logs : List (List history.Entry) = grown y.life entries sl in
+      let is : world_of cs (slice_set ss i y') ks' cl sl' m ≡ over (server_of d.mid) all logs = (λ t. record {
+        clients = map client_of cs;
+        servers = (set-map server_of ss i y' ∙ ap (slice_set (map server_of ss) i) d.reports.side) t;
+        circuits = d.reports.circuits t;
+        client_logs = cl;
+        server_logs = d.reports.logged t;
+        moment = m;
+      }) in
+      let last : model.ServerSide = record side { core = reported d.core; records = map (without_puts (gone_at i d.core all)) side.records } in
+      let twice : over (record side { core = d.core }) all logs ≡ server_after i side (ends_by i d.core) d.core (record begun { circuits = all }) =
+      (λ t. record {
+        clients = map client_of cs;
+        servers = sym (set-twice (map server_of ss) i side last) t;
+        circuits = map (ending (ends_by i d.core)) all;
+        client_logs = cl;
+        server_logs = grown y.life (withdrawals (gone_at i d.core all) side.records) logs;
+        moment = m;
+      }) in
+      is ∙ ap (λ (z : model.ServerSide). over z all logs) d.mid_is ∙ twice ∙ ap (server_after i side (ends_by i d.core) d.core) (sym (replied-is d.p d.sent begun))
+
+  pub finish-does : (y' : ServerSide) (ks' : List Joined) (sl' : List (List history.Entry)) (r : Result (Unit {0}) Refusal) → FinishesAt i name y (map joined_of ks) sl r y' (map joined_of ks') sl'
+      → Does (world_of cs ss ks cl sl m) (event.Finish i name) r (world_of cs (slice_set ss i y') ks' cl sl' m)
+  finish-does y' ks' sl' (Ok u) (inl d) = (
+    there,
+    inl (record {
+      sent = d.sent;
+      core = d.core;
+      finishes = d.finishes;
+      cr = d.cr;
+      named = d.named;
+      r = d.r;
+      at = d.at;
+      p = d.p;
+      busy = d.busy;
+      leaves = ends-leave y' ks' sl' d;
+    }),
+  )
+  finish-does y' ks' sl' (Ok u) (inr (e, refuses, is_y, is_k, is_l)) = (there, inr (e, refuses, stay y' ks' sl' is_y is_k is_l))
+  finish-does y' ks' sl' (Err OutOfMemory) (is_y, is_k, is_l) = (there, stay y' ks' sl' is_y is_k is_l)
+  finish-does y' ks' sl' (Err _) d = absurd d
+
+  -- circuits are found as before
+  indexed-still : (numbers : List (List ℕ)) (y' : ServerSide) (ks' : List Joined) → y' ≡ y → map joined_of ks' ≡ map joined_of ks → AreIndexed numbers (server_numbers ss) (map joined_of ks) → AreIndexed numbers (server_numbers (slice_set ss i y')) (map joined_of ks')
+  indexed-still numbers y' ks' is_y is_k h =
+      indexed-same numbers numbers (server_numbers ss) (server_numbers (slice_set ss i y')) (map joined_of ks) (map joined_of ks') refl (numbers-set (λ (z : ServerSide). z.circuits.items) ss i y y' at (ap (λ (z : ServerSide). z.circuits.items) is_y)) is_k h
+
+  next-keeps : (ws : List WaitingPut) (j : model.Joined) → KeepsEnds j (next_numbers i y.core name ws j)
+  next-keeps [] j = ends-stay j j refl
+  next-keeps (w ∷ ws) j = posted-keeps i y.core name write_mask j
+
+  pub finish-indexed : (numbers : List (List ℕ)) (y' : ServerSide) (ks' : List Joined) (sl' : List (List history.Entry)) (r : Result (Unit {0}) Refusal) → FinishesAt i name y (map joined_of ks) sl r y' (map joined_of ks') sl'
+      → AreIndexed numbers (server_numbers ss) (map joined_of ks) → AreIndexed numbers (server_numbers (slice_set ss i y')) (map joined_of ks')
+  finish-indexed numbers y' ks' sl' (Ok u) (inl d) h =
+      let js : List model.Joined = map joined_of ks in
+      let nexts : List model.Joined = map (next_numbers i y.core name d.cr.waiting) js in
+      let told : AreIndexed numbers (server_numbers ss) nexts = indexed-map numbers (server_numbers ss) js h (next_numbers i y.core name d.cr.waiting) (next-keeps d.cr.waiting) in
+      let said : AreIndexed numbers (server_numbers ss) (replied_in d.p d.sent nexts) = indexed-replied d.p d.sent numbers (server_numbers ss) nexts told in
+      indexed-same numbers numbers (server_numbers ss) (server_numbers (slice_set ss i y')) _ (map joined_of ks') refl
+      (numbers-set (λ (z : ServerSide). z.circuits.items) ss i y y' at (d.reports.numbers ∙ d.numbers))
+      d.reports.circuits
+      (indexed-map numbers (server_numbers ss) (replied_in d.p d.sent nexts) said (ending (ends_by i d.mid.core)) (ending-keeps (ends_by i d.mid.core)))
+  finish-indexed numbers y' ks' sl' (Ok u) (inr (e, refuses, is_y, is_k, is_l)) h = indexed-still numbers y' ks' is_y is_k h
+  finish-indexed numbers y' ks' sl' (Err OutOfMemory) (is_y, is_k, is_l) h = indexed-still numbers y' ks' is_y is_k h
+  finish-indexed numbers y' ks' sl' (Err _) d h = absurd d
+
+-- no server
+pub finish-none : (cs : List ClientSide) (ss : List ServerSide) (ks : List Joined) (cl : List (List history.Line)) (sl : List (List history.Entry)) (m i : ℕ) (name : List ℕ) → length ss ≤ i → CanBe (world_of cs ss ks cl sl m) (event.Finish i name) → ⊥
+finish-none cs ss ks cl sl m i name over can =
+    let d = At-mapped server_of ss i can.y can.at in
+    let within = At-within ss i d.0 d.1 in
+    absurd (omega (arith, within, over))

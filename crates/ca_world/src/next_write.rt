@@ -1,0 +1,113 @@
+//! The put that waits first for a record: its value, as the log of its server's life has it, and the records once it makes its record busy.
+ghost use Rattle.std.specs.Prelude.{◌≡◌, IfOk, if◌then◌else◌, map, option_map};
+ghost use Rattle.std.specs.Str.{bytes_eq};
+ghost use Rattle.ca_dbr.specs.Elements.{elements};
+ghost use Rattle.ca_model_world.specs.ServerEvents as world;
+ghost use Rattle.ca_world.specs.Finishing.{IsNext, WaitIn, WaitsIn};
+ghost use Rattle.ca_world_data.specs.Opening.{entries_in};
+ghost use Rattle.ca_world_data.specs.Seen.{entry_of, place_of, record_of};
+
+use ca_dbr::Value;
+use ca_world_data::history::Entry;
+use ca_world_data::payloads::value_again;
+use ca_world_data::server::{PutPlace, RecordSide};
+use std::alloc::{AllocError, Global};
+
+/// The put that waits first for the record of this name makes it busy, or none does.
+pub(crate) fn next_records(records: &mut [RecordSide], name: &[u8])
+    ensures { map record_of records.new
+        ≡ world.with_record name.now world.next_busy (map record_of records.old) }
+{
+    for record in records.iter_mut() {
+        next_if(record, name);
+    }
+}
+
+// The same of this record, if it has the name.
+fn next_if(side: &mut RecordSide, name: &[u8])
+    ensures { record_of side.new
+        ≡ if bytes_eq (record_of side.old).name name.now
+        then world.next_busy (record_of side.old)
+        else record_of side.old }
+{
+    if side.name.as_slice() == name {
+        next_busy(side);
+    }
+}
+
+// The same of the record itself.
+fn next_busy(side: &mut RecordSide)
+    ensures { record_of side.new ≡ world.next_busy (record_of side.old) }
+{
+    side.busy = first_put(&side.waiting);
+    if side.waiting.len() > 0 {
+        side.waiting.remove(0);
+    }
+}
+
+/// The value of the first of these puts, which wait, by the log of a life. None if none waits.
+pub(crate) fn next_value(
+    alloc: Global,
+    logs: &[Vec<Entry>],
+    life: usize,
+    waiting: &[PutPlace],
+) -> Result<Option<Value>, AllocError>
+    ensures { IfOk result (λ v.
+        IsNext (entries_in logs.now) life (map place_of waiting.now) (option_map elements v)) }
+{
+    let Some(put) = first_put(waiting) else {
+        return Ok(None);
+    };
+    if life >= logs.len() {
+        return Err(AllocError);
+    }
+    let Some(value) = value_waiting(&logs[life], put) else {
+        return Err(AllocError);
+    };
+    let copy = value_again(alloc, value)?;
+    Ok(Some(copy))
+}
+
+/// The first of these puts, if there is one.
+pub(crate) fn first_put(waiting: &[PutPlace]) -> Option<PutPlace>
+    ensures { option_map place_of result ≡ world.first_of (map place_of waiting.now) }
+{
+    if waiting.len() == 0 {
+        return None;
+    }
+    Some(waiting[0])
+}
+
+// The value with which the put of this place came to wait.
+fn value_waiting<'a>(log: &'a [Entry], put: PutPlace) -> Option<&'a Value>
+    ensures { WaitsIn
+        (map entry_of log.now)
+        (place_of put)
+        (option_map (λ v. elements v.now) result) }
+{
+    for entry in log {
+        if let Some(value) = value_in(entry, put) {
+            return Some(value);
+        }
+    }
+    None
+}
+
+// The same, if this entry tells of it.
+fn value_in<'a>(entry: &'a Entry, put: PutPlace) -> Option<&'a Value>
+    ensures { WaitIn
+        (entry_of entry.now)
+        (place_of put)
+        (option_map (λ v. elements v.now) result) }
+{
+    match entry {
+        Entry::Waits(circuit, place, _, stored) => {
+            if *circuit == put.circuit && *place == put.place {
+                Some(&stored.value)
+            } else {
+                None
+            }
+        }
+        _ => None,
+    }
+}
