@@ -36,12 +36,12 @@ use Rattle.ca_server_circuit.specs.Concerned.{ids_of}
 use Rattle.ca_server_core.specs.ForHistories.{bytes_under, channels_under}
 use Rattle.ca_world_data.specs.declared.client.ClientSide.{ClientSide}
 use Rattle.ca_world_data.specs.declared.joined.Joined.{Joined}
-use Rattle.ca_world_data.specs.declared.losing.Leading.{Leading}
+use Rattle.ca_world_servers.specs.declared.losing.Leading.{Leading}
 use Rattle.ca_world_data.specs.declared.server.ServerSide.{ServerSide}
 use Rattle.ca_world_data.specs.Does.{Does}
 use Rattle.ca_world_data.specs.Indexed.{AreIndexed, server_numbers}
-use Rattle.ca_world_data.specs.Losing.{AllMayLose, AllReady, AreLost, AreSeated, Disconnects, is_lost, lost_by, lost_told, without_lost}
-use Rattle.ca_world_data.specs.Removing.{AllSeated, Becomes, RemovesAt, TellsRemoval}
+use Rattle.ca_world_servers.specs.Losing.{AllMayLose, AllReady, AreLost, AreSeated, Disconnects, is_lost, lost_by, lost_told, without_lost}
+use Rattle.ca_world_servers.specs.Removing.{AllSeated, Becomes, RemovesAt, TellsRemoval}
 use Rattle.ca_world_data.specs.Reporting.{AreServed}
 use Rattle.ca_world_data.specs.Seen.{client_of, joined_of, record_of, server_of}
 use Rattle.ca_world_data.proofs.Indexes.{KeepsEnds, ends-stay, indexed-map, indexed-same, numbers-set}
@@ -170,11 +170,11 @@ module _ (name : List ℕ) (gone : Handle → Bool) (left : Handle → ℕ) (y c
     abbrev f : model.Joined → model.Joined
     f = removed_at i y name gone left
 
-    led-here : (j : Joined) (l : Leading) → (l.channels.items, l.waited) ≡ Rattle.ca_world_data.specs.Losing.lead_at i y name (joined_of j) → (j.server == i && j.lists.server_open) ≡ true
+    led-here : (j : Joined) (l : Leading) → (l.channels.items, l.waited) ≡ Rattle.ca_world_servers.specs.Losing.lead_at i y name (joined_of j) → (j.server == i && j.lists.server_open) ≡ true
         → (l.channels.items, l.waited) ≡ (channels_under name (under y.circuits j.at_server), length (bytes_under (under y.circuits j.at_server)))
     led-here j l led on = led ∙ ap (λ (b : Bool). if b then (channels_under name (under y.circuits j.at_server), length (bytes_under (under y.circuits j.at_server))) else ([], 0)) on
 
-    sent-here : (j : Joined) (l : Leading) → (l.channels.items, l.waited) ≡ Rattle.ca_world_data.specs.Losing.lead_at i y name (joined_of j) → (j.server == i && j.lists.server_open) ≡ true
+    sent-here : (j : Joined) (l : Leading) → (l.channels.items, l.waited) ≡ Rattle.ca_world_servers.specs.Losing.lead_at i y name (joined_of j) → (j.server == i && j.lists.server_open) ≡ true
         → Disconnects core (joined_of j) l (length (told_at j.at_server (under y.circuits j.at_server)))
     sent-here j l led on =
         let h = j.at_server in
@@ -196,7 +196,7 @@ module _ (name : List ℕ) (gone : Handle → Bool) (left : Handle → ℕ) (y c
         o : Option ServerCircuit
         o = under y.circuits h
 
-        led : (l.channels.items, l.waited) ≡ Rattle.ca_world_data.specs.Losing.lead_at i y name (joined_of j)
+        led : (l.channels.items, l.waited) ≡ Rattle.ca_world_servers.specs.Losing.lead_at i y name (joined_of j)
         led = (ready.each k j l at led_at).led
 
         changed : model.Joined

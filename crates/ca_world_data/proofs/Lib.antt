@@ -31,7 +31,3 @@ pub mod RepliesRead
 pub mod Steppings
 pub mod Tellings
 pub mod Each
-pub mod Handled
-pub mod Losings
-pub mod Parted
-pub mod Forthcoming

@@ -34,8 +34,3 @@ pub mod Silencing
 pub mod Ticks
 pub mod Replies
 pub mod ClientSteps
-pub mod Handling
-pub mod Losing
-pub mod Removing
-pub mod Parting
-pub mod Coming

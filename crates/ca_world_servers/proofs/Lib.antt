@@ -1,0 +1,4 @@
+pub mod Handled
+pub mod Losings
+pub mod Parted
+pub mod Forthcoming

@@ -1,0 +1,5 @@
+pub mod Handling
+pub mod Losing
+pub mod Removing
+pub mod Parting
+pub mod Coming

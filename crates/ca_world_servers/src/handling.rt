@@ -1,0 +1,254 @@
+//! What a message that a server handled leaves: its replies and its step on the circuit, the channels and subscriptions there, and the
+//! puts of the records. Where memory is needed, a call that lacks it changes nothing.
+ghost use Rattle.std.specs.Prelude.{◌≡◌, ◌+◌, ◌++◌, ◌≤◌, OnErr, OnOk, false, true, if◌then◌else◌, length, map, vec_capacity, vec_len};
+ghost use Rattle.std.specs.Str.{bytes_eq};
+ghost use Rattle.ca_queue.specs.Circuit.{HasNone};
+ghost use Rattle.ca_queue.specs.Keys.{is_among, same};
+ghost use Rattle.ca_queue.specs.Queue.{added, posted, switched};
+ghost use Rattle.ca_model.specs.History as history;
+ghost use Rattle.ca_model_world.specs.ClientEvents.{place_of as place_in};
+ghost use Rattle.ca_model_world.specs.ServerEvents as world;
+ghost use Rattle.ca_world_data.specs.declared.history.Cause.TheVariants as cause;
+ghost use Rattle.ca_world_servers.specs.Handling.{HasRoomToNote, has_room, with_standing, HaveRoomToWait, MayWait, made_busy, with_creation, with_handled, with_switched, with_waiting, without_sid};
+ghost use Rattle.ca_world_servers.specs.Losing.{AreSeated};
+ghost use Rattle.ca_world_data.specs.Seen.{joined_of, place_of, queue_of, record_of, step_of, told_of};
+
+use ca_world_data::history::{Cause, Step, Told};
+use ca_world_data::joined::{Creation, Joined, Standing};
+use crate::losing::{cancel_in, drop_lost};
+use ca_world_data::server::{PutPlace, RecordSide};
+use ca_queue::{ListQueue, Queues, SubKey};
+use std::alloc::AllocError;
+
+/// Makes room for so many replies to a message that is handled, and for its step.
+pub fn reserve_handled(joined: &mut Joined, replies: usize) -> Result<(), AllocError>
+    ensures same { joined_of joined.new ≡ joined_of joined.old }
+    ensures creations { joined.new.creations ≡ joined.old.creations }
+    ensures standing { joined.new.standing ≡ joined.old.standing }
+    ensures queues { joined.new.queues ≡ joined.old.queues }
+    ensures room { OnOk result (HasRoomToNote replies joined.new) }
+{
+    joined.lists.down.reserve(replies)?;
+    joined.lists.handled.reserve(1)
+}
+
+/// The next message of the client was handled in this step, by these replies.
+pub fn note_handled(joined: &mut Joined, step: Step, replies: Vec<Told>)
+    requires { HasRoomToNote (length replies.items) joined.old }
+    ensures { joined_of joined.new
+        ≡ with_handled (step_of step) (map told_of replies.items) (joined_of joined.old) }
+{
+    push_all(&mut joined.lists.down, replies);
+    joined.lists.handled.push_reserved(step);
+}
+
+// Puts replies behind what was sent. There is room for them.
+fn push_all(down: &mut Vec<Told>, replies: Vec<Told>)
+    requires { vec_len down.old + length replies.items ≤ vec_capacity down.old }
+    ensures { down.new.items ≡ down.old.items ++ replies.items }
+{
+    for reply in replies {
+        down.push_reserved(reply);
+    }
+}
+
+/// A channel was created under this SID by the message at this place.
+pub fn begin_channel(joined: &mut Joined, sid: u32, place: usize) -> Result<(), AllocError>
+    ensures ok { OnOk result (joined_of joined.new ≡ with_creation sid place (joined_of joined.old)) }
+    ensures err { OnErr result (joined_of joined.new ≡ joined_of joined.old) }
+{
+    joined.creations.push(Creation { sid, place })?;
+    Ok(())
+}
+
+/// Events are turned on or off on a circuit.
+pub fn switch_events(joined: &mut Joined, on: bool)
+    ensures { joined_of joined.new ≡ with_switched on (joined_of joined.old) }
+{
+    switch_all(&mut joined.queues, on);
+}
+
+// Turns events on or off in all queues.
+fn switch_all(queues: &mut [ListQueue<(usize, Cause)>], on: bool)
+    ensures { map (λ q. queue_of q.0) queues.new
+        ≡ map (switched on) (map (λ q. queue_of q.0) queues.old) }
+{
+    for queue in queues.iter_mut() {
+        queue.set_events(on);
+    }
+}
+
+/// A subscription, which no queue has, began by the message at this place: it stands, and its first number waits in the first queue with
+/// room.
+pub fn begin_standing(joined: &mut Joined, key: SubKey, place: usize) -> Result<(), AllocError>
+    requires { HasNone (map (λ q. queue_of q.0) joined.old.queues.items) key }
+    ensures ok { OnOk result (joined_of joined.new ≡ with_standing key place (joined_of joined.old)) }
+    ensures err { OnErr result (joined_of joined.new ≡ joined_of joined.old) }
+{
+    joined.standing.reserve(1)?;
+    take_number(&mut joined.queues, key, place)?;
+    joined.standing.push_reserved(Standing {
+        key,
+        place,
+        posts: 1,
+    });
+    Ok(())
+}
+
+/// A subscription is over: it stands no more, and its numbers wait no more.
+pub fn end_standing(joined: &mut Joined, key: SubKey)
+    requires { AreSeated (joined_of joined.old) }
+    ensures { joined_of joined.new ≡ world.without_standing (same key) (joined_of joined.old) }
+{
+    cancel_in(&mut joined.queues, key);
+    joined.standing.retain(|one| !is_same(key, one.key));
+}
+
+// Whether both are one subscription.
+fn is_same(a: SubKey, b: SubKey) -> bool
+    ensures { result ≡ same a b }
+{
+    a.sid == b.sid && a.sub == b.sub
+}
+
+/// The channel of this SID is over, and so are its subscriptions.
+pub fn end_channel(joined: &mut Joined, sid: u32)
+    requires { AreSeated (joined_of joined.old) }
+    ensures { joined_of joined.new ≡ without_sid sid (joined_of joined.old) }
+{
+    // The CID is not looked at.
+    let ended = [(sid, 0)];
+    drop_lost(&mut joined.standing, &mut joined.queues, &ended);
+    joined.creations.retain(|creation| creation.sid != sid);
+}
+
+// The first queue with room takes the subscription, and the number 0 of it.
+fn take_number(
+    queues: &mut Vec<ListQueue<(usize, Cause)>>,
+    key: SubKey,
+    place: usize,
+) -> Result<(), AllocError>
+    requires { HasNone (map (λ q. queue_of q.0) queues.old.items) key }
+    ensures ok { OnOk result (map (λ q. queue_of q.0) queues.new.items
+        ≡ world.number_taken
+        key
+        (place, history.Update 0)
+        (map (λ q. queue_of q.0) queues.old.items)) }
+    ensures err { OnErr result (map (λ q. queue_of q.0) queues.new.items
+        ≡ map (λ q. queue_of q.0) queues.old.items) }
+{
+    let at = first_with_room(queues);
+    if at < queues.len() {
+        begin_in(&mut queues[at], key, place)?;
+    }
+    Ok(())
+}
+
+// The place of the first queue with room, or how many there are.
+fn first_with_room(queues: &[ListQueue<(usize, Cause)>]) -> usize
+    ensures { result ≡ place_in has_room queues.now }
+{
+    for place in 0..queues.len() {
+        if !queues[place].is_full() {
+            return place;
+        }
+    }
+    queues.len()
+}
+
+// The queue, which has room, takes the subscription, and the number 0 of it.
+fn begin_in(
+    queue: &mut ListQueue<(usize, Cause)>,
+    key: SubKey,
+    place: usize,
+) -> Result<(), AllocError>
+    requires new { is_among key queue.old.0.subscriptions ≡ false }
+    requires room { has_room queue.old ≡ true }
+    ensures ok { OnOk result (queue.new.0
+        ≡ posted key (place, cause.Update 0) (added key queue.old.0)) }
+    ensures err { OnErr result (queue.new.0 ≡ queue.old.0) }
+{
+    match queue.add(key) {
+        Ok(()) => {
+            queue.post(key, (place, Cause::Update(0)));
+            Ok(())
+        }
+        Err(_) => Err(AllocError),
+    }
+}
+
+/// The put at this place of this circuit makes the record of this name busy.
+pub fn make_busy(records: &mut [RecordSide], name: &[u8], circuit: usize, place: usize)
+    ensures { map record_of records.new
+        ≡ world.with_record
+        name.now
+        (made_busy (record { circuit = circuit; place = place }))
+        (map record_of records.old) }
+{
+    for record in records.iter_mut() {
+        busy_if(record, name, PutPlace { circuit, place });
+    }
+}
+
+// The put makes the record busy, if it has this name.
+fn busy_if(side: &mut RecordSide, name: &[u8], put: PutPlace)
+    ensures { record_of side.new
+        ≡ if◌then◌else◌
+        (bytes_eq side.old.name.items name.now)
+        (made_busy (place_of put) (record_of side.old))
+        (record_of side.old) }
+{
+    if side.name.as_slice() == name {
+        side.busy = Some(put);
+    }
+}
+
+/// Makes room for one more put that waits for the record of this name.
+pub fn reserve_waiting(records: &mut [RecordSide], name: &[u8]) -> Result<(), AllocError>
+    ensures same { map record_of records.new ≡ map record_of records.old }
+    ensures room { OnOk result (HaveRoomToWait name.now records.new) }
+{
+    for record in records.iter_mut() {
+        reserve_if(record, name)?;
+    }
+    Ok(())
+}
+
+// Makes room for one more put that waits for the record, if it has this name.
+fn reserve_if(side: &mut RecordSide, name: &[u8]) -> Result<(), AllocError>
+    ensures same { record_of side.new ≡ record_of side.old }
+    ensures room { OnOk result (MayWait name.now side.new) }
+{
+    if side.name.as_slice() == name {
+        side.waiting.reserve(1)?;
+    }
+    Ok(())
+}
+
+/// The put at this place of this circuit waits for the record of this name, which has room for it.
+pub fn add_waiting(records: &mut [RecordSide], name: &[u8], circuit: usize, place: usize)
+    requires { HaveRoomToWait name.now records.old }
+    ensures { map record_of records.new
+        ≡ world.with_record
+        name.now
+        (with_waiting (record { circuit = circuit; place = place }))
+        (map record_of records.old) }
+{
+    for record in records.iter_mut() {
+        wait_if(record, name, PutPlace { circuit, place });
+    }
+}
+
+// The put waits for the record, if it has this name. There is room for it.
+fn wait_if(side: &mut RecordSide, name: &[u8], put: PutPlace)
+    requires { MayWait name.now side.old }
+    ensures { record_of side.new
+        ≡ if◌then◌else◌
+        (bytes_eq side.old.name.items name.now)
+        (with_waiting (place_of put) (record_of side.old))
+        (record_of side.old) }
+{
+    if side.name.as_slice() == name {
+        side.waiting.push_reserved(put);
+    }
+}

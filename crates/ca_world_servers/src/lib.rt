@@ -1,0 +1,8 @@
+//! What a server's end does to a world: what a message that it handled leaves, the write that a message may be, the puts of a channel
+//! that is cleared, and a record that is removed.
+#![tactic(auto)]
+
+pub mod coming;
+pub mod handling;
+pub mod losing;
+pub mod parting;
