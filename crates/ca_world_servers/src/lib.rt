@@ -2,7 +2,10 @@
 //! that is cleared, and a record that is removed.
 #![tactic(auto)]
 
+pub mod ahead;
 pub mod coming;
+pub mod deeds;
+pub mod doing;
 pub mod handling;
 pub mod losing;
 pub mod parting;
