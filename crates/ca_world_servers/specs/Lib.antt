@@ -3,3 +3,4 @@ pub mod Losing
 pub mod Removing
 pub mod Parting
 pub mod Coming
+pub mod EndsWith
