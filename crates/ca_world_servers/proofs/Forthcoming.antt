@@ -1,6 +1,6 @@
 -- The write that a message may be, from what is read before its step.
-use Rattle.std.proofs.Common.{◌≡◌, ℕ, ◌+◌, ◌<◌, ◌^◌, Bool, true, false, List, [], ◌∷◌, Option, Some, None, Result, Ok, Err, refl, sym, ap, subst, ◌∙◌, arith, inl, inr}
-use Rattle.std.specs.Prelude.{◌==◌, find, if◌then◌else◌, map, option_map}
+use Rattle.std.proofs.Common.{◌≡◌, ℕ, ◌+◌, ◌<◌, Bool, true, false, List, [], ◌∷◌, Option, Some, None, Ok, Err, refl, sym, ap, subst, ◌∙◌, arith, inl, inr}
+use Rattle.std.specs.Prelude.{◌==◌, find, if◌then◌else◌, option_map}
 use Rattle.std.proofs.lemmas.Bool.{eqb-true}
 use Rattle.ca_arena.specs.declared.handle.Handle.{Handle}
 use Rattle.ca_dbr.specs.declared.data_type.BaseType.{BaseType}
@@ -130,8 +130,7 @@ module _ (core : Server) (h : Handle) (m : Fields) where
   -- the channel that is served is one of the end's
   served-seat : (e : ServerEnd) (c : Serves (knows core e) m.p1) → (x : Handle × OpenChannel) × In (held e.channels) x × (wire_of x.0 ≡ m.p1) × (x.1.retired ≡ false) × (c.channel.name ≡ x.1.name)
   served-seat e c =
-      let d = At-mapped known_channel (held e.channels) c.open_there.0 c.channel c.open_there.1 in
-      (
+      let d = At-mapped known_channel (held e.channels) c.open_there.0 c.channel c.open_there.1 in (
         d.0,
         (c.open_there.0, d.1),
         sym (ap (λ (k : KnownChannel). k.sid) d.2) ∙ c.under,

@@ -1,4 +1,4 @@
-use Rattle.std.proofs.Common.{◌≡◌, Option, Some, None, subst}
+use Rattle.std.proofs.Common.{Option, Some, None, subst}
 use Rattle.std.specs.Prelude.{option_map}
 use Rattle.ca_dbr.specs.Elements.{elements}
 use Rattle.ca_dbr.specs.declared.value.Value.{Value}
