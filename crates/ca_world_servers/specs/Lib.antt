@@ -4,3 +4,4 @@ pub mod Removing
 pub mod Parting
 pub mod Coming
 pub mod Deeds
+pub mod EndsWith
