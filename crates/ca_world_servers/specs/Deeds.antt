@@ -49,6 +49,12 @@ IsDeed Greets deed.Nothing = Unit {0}
 IsDeed (Names p) deed.Nothing = Unit {0}
 IsDeed action other = ⊥
 
+-- memory lacks for what a world has of a message only where a channel was created or a subscription began
+abbrev pub MayLackFor : Deed → Type 0
+MayLackFor (deed.Opens sid) = Unit {0}
+MayLackFor (deed.Adds key) = Unit {0}
+MayLackFor other = ⊥
+
 -- ---- what is known before
 
 -- the message is a write, with notification or without

@@ -1,13 +1,12 @@
 //! What a message that a server handled did beside its replies, as far as a world has it.
-ghost use Rattle.std.specs.Prelude.{◌≡◌, Bool, List, OnErr, OnOk, Option, map, option_map};
+ghost use Rattle.std.specs.Prelude.{◌≡◌, Bool, List, [], ◌∷◌, OnErr, OnOk, map};
 ghost use Rattle.ca_model.specs.Due.{Action, Due, Knows, key_in};
-ghost use Rattle.ca_model.specs.History as history;
 ghost use Rattle.ca_model_world.specs.ServerEvents.{numbers_after};
 ghost use Rattle.ca_queue.specs.Circuit.{HasNone};
 ghost use Rattle.ca_wire.specs.Fields.{Fields};
-ghost use Rattle.ca_world_data.specs.Seen.{joined_of, queue_of, told_of};
+ghost use Rattle.ca_world_data.specs.Seen.{joined_of, queue_of};
 ghost use Rattle.ca_world_servers.specs.declared.deeds.Deed.TheVariants as deed;
-ghost use Rattle.ca_world_servers.specs.Deeds.{IsDeed, busies_of, is_busy_in, is_wait, wrote_in};
+ghost use Rattle.ca_world_servers.specs.Deeds.{IsDeed, MayLackFor, busies_of, is_busy_in, is_wait, wrote_in};
 ghost use Rattle.ca_world_servers.specs.Losing.{AreSeated};
 
 use crate::handling::{begin_channel, begin_standing, end_channel, end_standing, switch_events};
@@ -74,7 +73,12 @@ pub fn deed_of(
 }
 
 // A CREATE_CHAN has two replies if a channel was created, and the second has its SID.
-fn opened(replies: &[Told]) -> Deed {
+fn opened(replies: &[Told]) -> Deed
+    ensures two { (a b : Fields) → map (λ t. t.message) replies.now ≡ a ∷ b ∷ []
+        → result ≡ deed.Opens b.p2 }
+    ensures one { (a : Fields) → map (λ t. t.message) replies.now ≡ a ∷ []
+        → result ≡ deed.Nothing }
+{
     if replies.len() == 2 {
         return Deed::Opens(replies[1].message.p2());
     }
@@ -82,7 +86,11 @@ fn opened(replies: &[Told]) -> Deed {
 }
 
 // An EVENT_ADD is replied to only if it is refused.
-fn began(key: SubKey, replies: &[Told]) -> Deed {
+fn began(key: SubKey, replies: &[Told]) -> Deed
+    ensures none { map (λ t. t.message) replies.now ≡ [] → result ≡ deed.Adds key }
+    ensures one { (a : Fields) → map (λ t. t.message) replies.now ≡ a ∷ []
+        → result ≡ deed.Nothing }
+{
     if replies.is_empty() {
         return Deed::Adds(key);
     }
@@ -98,6 +106,7 @@ pub fn tell_on(joined: &mut Joined, deed: Deed, place: usize) -> Result<(), Allo
         → IsDeed action deed
         → joined_of joined.new ≡ numbers_after place action (joined_of joined.old)) }
     ensures err { OnErr result (joined_of joined.new ≡ joined_of joined.old) }
+    ensures lacks { OnErr result (MayLackFor deed) }
     ensures still { (busies : Bool) → deed ≡ deed.Applies busies → joined.new ≡ joined.old }
 {
     match deed {
