@@ -3,3 +3,4 @@ pub mod Losings
 pub mod Parted
 pub mod Forthcoming
 pub mod Closings
+pub mod Done

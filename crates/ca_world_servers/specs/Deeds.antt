@@ -1,15 +1,20 @@
 -- Working: what a message did beside its replies, as far as a world has it, and what of it is known before its step.
-use Rattle.std.specs.Prelude.{ℕ, ◌≡◌, ◌⊎◌, ◌==◌, ◌&&◌, Bool, true, false, List, Option, Some, None, if◌then◌else◌, is_some, map, nat_lt, option_map, unwrap_or}
+use Rattle.std.specs.Prelude.{ℕ, ◌≡◌, ◌⊎◌, ◌==◌, ◌&&◌, Bool, true, false, List, [], ◌∷◌, Option, Some, None, if◌then◌else◌, is_some, map, nat_lt, option_map, unwrap_or}
 use Rattle.ca_arena.specs.declared.handle.Handle.{Handle}
+use Rattle.ca_dbr.specs.Elements.{elements}
 use Rattle.ca_records.specs.Puts.{Record, record_named}
+use Rattle.ca_records.specs.Record.{unset}
 use Rattle.ca_text.specs.Command.{command_number}
 use Rattle.ca_text.specs.declared.command.Command.TheVariants as command
+use Rattle.ca_text.specs.Place.{At}
 use Rattle.ca_wire.specs.Fields.{Fields}
 use Rattle.ca_model.specs.Due.{Action, Adds, Applies, Clears, Drops, Due, Greets, Names, Nothing, Opens, Switches, Waits, key_in}
 use Rattle.ca_model.specs.History.{Entry}
+use Rattle.ca_model.specs.History as history
 use Rattle.ca_model.specs.Server.{Server, ServerEnd, key_of}
-use Rattle.ca_model.specs.ServerSteps.{HasEnd, knows}
-use Rattle.ca_model_world.specs.ServerEvents.{logged_by, records_after, write_numbers}
+use Rattle.ca_model.specs.ServerSteps.{HasEnd, knows, write_mask}
+use Rattle.ca_model.specs.Speech.{Stored}
+use Rattle.ca_model_world.specs.ServerEvents.{logged_by, number_of, numbers_posted, records_after, with_record, write_numbers}
 use Rattle.ca_model_world.specs.World.{Joined, PutPlace, RecordSide, grown}
 use Rattle.ca_world_data.specs.declared.server.RecordSide.{RecordSide as Kept}
 use Rattle.ca_world_data.specs.declared.server.ServerSide.{ServerSide}
@@ -20,8 +25,8 @@ use Rattle.ca_world_servers.specs.declared.deeds.Deed.{Deed}
 use Rattle.ca_world_servers.specs.declared.deeds.Deed.TheVariants as deed
 use Rattle.ca_world_servers.specs.declared.parting.Parting.{Parting}
 use Rattle.ca_world_servers.specs.Coming.{Foresees}
-use Rattle.ca_world_servers.specs.Handling.{HaveRoomToWait}
-use Rattle.ca_world_servers.specs.Parting.{AreBeside, all_gone, all_kept, places_in}
+use Rattle.ca_world_servers.specs.Handling.{HaveRoomToWait, made_busy, with_waiting}
+use Rattle.ca_world_servers.specs.Parting.{AreBeside, all_gone, all_kept, places_in, with_kept}
 
 -- ---- what it did
 
@@ -102,8 +107,12 @@ abbrev pub MayWaitFor : Option Coming → List Kept → Type 0
 MayWaitFor (Some w) rs = HaveRoomToWait w.name.items rs
 MayWaitFor None rs = Unit {0}
 
+-- no two of these records have one name
+abbrev pub AreApart : List RecordSide → Type 0
+AreApart rs = (i j : ℕ) (a b : RecordSide) → At rs i a → At rs j b → a.name ≡ b.name → i ≡ j
+
 -- A server whose core was this handled a message on the circuit of this handle, which did this: the deed is what a world has of it, and the
--- write and the parting were foreseen. The records stand beside the core's, and no stamp was handed to it.
+-- write and the parting were foreseen. The records stand beside the core's, each with a name of its own, and no stamp was handed to it.
 pub record WasDone (before : Server) (h : Handle) (records : List RecordSide) (done : Deed) (write : Option Coming) (parting : Option Parting) (action : Action) : Type 0 where
   pub e : ServerEnd
   pub has : HasEnd before h e
@@ -113,4 +122,45 @@ pub record WasDone (before : Server) (h : Handle) (records : List RecordSide) (d
   pub is : IsDeed action done
   pub foreseen : IsForeseen before h records m write parting
   pub beside : AreBeside before.records records
+  pub apart : AreApart records
   pub unstamped : before.stamp ≡ record { seconds = 0; nanos = 0 }
+
+-- ---- what is told of each deed
+
+-- Of a server's records these are left, and its log has these entries more.
+pub record IsTold (records : List RecordSide) (told : List Entry) (y : ServerSide) (logs : List (List Entry)) (y' : ServerSide) (logs' : List (List Entry)) : Type 0 where
+  pub side : server_of y' ≡ record (server_of y) { records = records }
+  pub numbers : y'.circuits.items ≡ y.circuits.items
+  pub logged : logs' ≡ grown y.life told logs
+
+-- the value of a write as a world stores it: it has no stamp
+abbrev pub written : Coming → Stored
+written w = record { value = elements w.value; meta = unset }
+
+-- the records, of which a write makes the one of this name busy, or not
+abbrev pub busy_after : (busies : Bool) → (name : List ℕ) → PutPlace → List RecordSide → List RecordSide
+busy_after true name p records = with_record name (made_busy p) records
+busy_after false name p records = records
+
+-- a write is told: it is applied, and its numbers wait
+abbrev pub TellsWrite : (i : ℕ) → PutPlace → (busies : Bool) → Option Coming → ServerSide → List Joined → List (List Entry) → ServerSide → List Joined → List (List Entry) → Type 0
+TellsWrite i p busies (Some w) y ks logs y' ks' logs' =
+    IsTold (busy_after busies w.name.items p (map record_of y.records.items)) (history.Applied p.circuit p.place (number_of w.name.items (map record_of y.records.items)) (written w) busies ∷ []) y logs y' logs'
+    × (ks' ≡ map (numbers_posted i y.core w.name.items write_mask) ks)
+TellsWrite i p busies None y ks logs y' ks' logs' = Unit {0}
+
+-- a put is told that waits
+abbrev pub TellsWait : PutPlace → Option Coming → ServerSide → List (List Entry) → ServerSide → List (List Entry) → Type 0
+TellsWait p (Some w) y logs y' logs' =
+    IsTold (with_record w.name.items (with_waiting p) (map record_of y.records.items)) (history.Waits p.circuit p.place (number_of w.name.items (map record_of y.records.items)) (written w) ∷ []) y logs y' logs'
+TellsWait p None y logs y' logs' = Unit {0}
+
+-- the puts of a channel that is cleared are told withdrawn
+abbrev pub TellsClear : Option Parting → ServerSide → List (List Entry) → ServerSide → List (List Entry) → Type 0
+TellsClear (Some p) y logs y' logs' = IsTold (with_kept (map places_in p.kept.items) (map record_of y.records.items)) (map entry_of p.told.items) y logs y' logs'
+TellsClear None y logs y' logs' = Unit {0}
+
+-- what becomes of the puts of these records is known for a channel
+abbrev pub IsPartingOf : Option Parting → List RecordSide → Type 0
+IsPartingOf (Some p) records = (core : Server) × (h : Handle) × (sid : ℕ) × IsParting core h sid records p
+IsPartingOf None records = Unit {0}

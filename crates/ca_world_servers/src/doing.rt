@@ -1,5 +1,5 @@
 //! What a message did is told of the records of its server, in the log of its life and in the numbers that wait on its circuits.
-ghost use Rattle.std.specs.Prelude.{◌+◌, map};
+ghost use Rattle.std.specs.Prelude.{ℕ, ◌≡◌, ◌+◌, Bool, map};
 ghost use Rattle.ca_arena.specs.declared.handle.Handle as handle;
 ghost use Rattle.ca_model.specs.Due.{Action};
 ghost use Rattle.ca_model.specs.Server.{Server};
@@ -8,7 +8,8 @@ ghost use Rattle.ca_world_data.specs.Opening.{entries_in};
 ghost use Rattle.ca_world_data.specs.Reporting.{waits};
 ghost use Rattle.ca_world_data.specs.Seen.{joined_of, record_of};
 ghost use Rattle.ca_world_data.specs.ServerCuts.{HasRoomFor};
-ghost use Rattle.ca_world_servers.specs.Deeds.{MayWaitFor, TellsDeed, WasDone};
+ghost use Rattle.ca_world_servers.specs.declared.deeds.Deed.TheVariants as did;
+ghost use Rattle.ca_world_servers.specs.Deeds.{IsPartingOf, MayWaitFor, TellsClear, TellsDeed, TellsWait, TellsWrite, WasDone, busy_after};
 
 use crate::coming::Coming;
 use crate::deeds::Deed;
@@ -19,7 +20,7 @@ use ca_world_data::entries::{push_entry, push_some};
 use ca_world_data::history::{Entry, Stored};
 use ca_world_data::joined::Joined;
 use ca_world_data::numbering::{number_of, post_numbers};
-use ca_world_data::server::ServerSide;
+use ca_world_data::server::{RecordSide, ServerSide};
 
 // The mask of an applied write: VALUE and LOG.
 const WRITE_MASK: u16 = 3;
@@ -39,8 +40,10 @@ pub fn tell_deed(
 )
     requires done { (before : Server) × (h : handle.Handle) × (action : Action)
         × WasDone before h (map record_of side.old.records.items) deed write parting action }
-    requires alike { AllAlike server side.old.core (map joined_of circuits.old.items) }
-    requires counts { AllMayCount circuits.old.items }
+    requires alike { (busies : Bool) → deed ≡ did.Applies busies
+        → AllAlike server side.old.core (map joined_of circuits.old.items) }
+    requires counts { (busies : Bool) → deed ≡ did.Applies busies
+        → AllMayCount circuits.old.items }
     requires space { MayWaitFor write side.old.records.items }
     requires room { HasRoomFor (waits side.old.records.items + 2) side.old.life logs.old.items }
     ensures tells { (before : Server) (h : handle.Handle) (action : Action)
@@ -79,13 +82,32 @@ fn tell_write(
     logs: &mut Vec<Vec<Entry>>,
     write: Option<Coming>,
     busies: bool,
-) {
+)
+    requires alike { AllAlike server side.old.core (map joined_of circuits.old.items) }
+    requires counts { AllMayCount circuits.old.items }
+    requires room { HasRoomFor 1 side.old.life logs.old.items }
+    ensures tells { TellsWrite
+        server
+        (record { circuit = circuit; place = place })
+        busies
+        write
+        side.old
+        (map joined_of circuits.old.items)
+        (entries_in logs.old.items)
+        side.new
+        (map joined_of circuits.new.items)
+        (entries_in logs.new.items) }
+    ensures room { (n : ℕ)
+        → HasRoomFor (n + 1) side.old.life logs.old.items
+        → HasRoomFor n side.old.life logs.new.items }
+{
     let Some(write) = write else {
         return;
     };
-    let number = number_of(&write.name, &side.records);
+    let Coming { name, value } = write;
+    let number = number_of(&name, &side.records);
     let stored = Stored {
-        value: write.value,
+        value,
         meta: Meta::ZERO,
     };
     push_entry(
@@ -93,26 +115,52 @@ fn tell_write(
         side.life,
         Entry::Applied(circuit, place, number, stored, busies),
     );
-    if busies {
-        make_busy(&mut side.records, &write.name, circuit, place);
-    }
-    post_numbers(server, &side.core, circuits, &write.name, WRITE_MASK);
+    busy_if(&mut side.records, &name, circuit, place, busies);
+    post_numbers(server, &side.core, circuits, &name, WRITE_MASK);
 }
 
-// The put waits.
+// The put makes its record busy, or not.
+fn busy_if(records: &mut [RecordSide], name: &[u8], circuit: usize, place: usize, busies: bool)
+    ensures { map record_of records.new
+        ≡ busy_after
+        busies
+        name.now
+        (record { circuit = circuit; place = place })
+        (map record_of records.old) }
+{
+    if busies {
+        make_busy(records, name, circuit, place);
+    }
+}
+
+// The put waits. There is room for it.
 fn tell_wait(
     circuit: usize,
     place: usize,
     side: &mut ServerSide,
     logs: &mut Vec<Vec<Entry>>,
     write: Option<Coming>,
-) {
+)
+    requires space { MayWaitFor write side.old.records.items }
+    requires room { HasRoomFor 1 side.old.life logs.old.items }
+    ensures tells { TellsWait
+        (record { circuit = circuit; place = place })
+        write
+        side.old
+        (entries_in logs.old.items)
+        side.new
+        (entries_in logs.new.items) }
+    ensures room { (n : ℕ)
+        → HasRoomFor (n + 1) side.old.life logs.old.items
+        → HasRoomFor n side.old.life logs.new.items }
+{
     let Some(write) = write else {
         return;
     };
-    let number = number_of(&write.name, &side.records);
+    let Coming { name, value } = write;
+    let number = number_of(&name, &side.records);
     let stored = Stored {
-        value: write.value,
+        value,
         meta: Meta::ZERO,
     };
     push_entry(
@@ -120,14 +168,25 @@ fn tell_wait(
         side.life,
         Entry::Waits(circuit, place, number, stored),
     );
-    add_waiting(&mut side.records, &write.name, circuit, place);
+    add_waiting(&mut side.records, &name, circuit, place);
 }
 
 // The puts of the channel that is cleared leave their records.
-fn tell_clear(side: &mut ServerSide, logs: &mut Vec<Vec<Entry>>, parting: Option<Parting>) {
+fn tell_clear(side: &mut ServerSide, logs: &mut Vec<Vec<Entry>>, parting: Option<Parting>)
+    requires parts { IsPartingOf parting (map record_of side.old.records.items) }
+    requires room { HasRoomFor (waits side.old.records.items) side.old.life logs.old.items }
+    ensures tells { TellsClear
+        parting
+        side.old
+        (entries_in logs.old.items)
+        side.new
+        (entries_in logs.new.items) }
+    ensures room { HasRoomFor (waits side.new.records.items) side.new.life logs.new.items }
+{
     let Some(parting) = parting else {
         return;
     };
-    push_some(logs, side.life, parting.told);
-    keep_waiting(&mut side.records, parting.kept);
+    let Parting { kept, told } = parting;
+    push_some(logs, side.life, told);
+    keep_waiting(&mut side.records, kept);
 }
