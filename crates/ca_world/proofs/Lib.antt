@@ -30,3 +30,7 @@ pub mod Additions
 pub mod ClientHearings
 pub mod Removings
 pub mod ServerSteppings
+pub mod EndsClosed
+pub mod StepLaws
+pub mod StepLists
+pub mod StepNumbers

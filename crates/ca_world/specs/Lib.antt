@@ -7,3 +7,5 @@ pub mod Halted
 pub mod Ticking
 pub mod Wide
 pub mod Adding
+pub mod ServerStepping
+pub mod StepParts

@@ -25,6 +25,7 @@ mod read;
 mod remove;
 mod server_datagram;
 mod server_restart;
+mod server_step;
 mod stopped;
 mod subscribe;
 mod tick;
