@@ -11,7 +11,6 @@ use Rattle.ca_dbr.specs.Elements.{Elements}
 use Rattle.ca_dbr.specs.declared.data_type.DataType.{DataType}
 use Rattle.ca_ids.specs.Table.{same_handle}
 use Rattle.ca_ids.specs.Wire.{wire_of}
-use Rattle.ca_link.specs.Link.{with_rest}
 use Rattle.ca_queue.specs.Circuit.{HasNone}
 use Rattle.ca_queue.specs.declared.entry.SubKey.{SubKey}
 use Rattle.ca_queue.specs.Keys.{is_among, same}
@@ -365,16 +364,16 @@ and-is : (a b : Bool) → a ≡ true → a && b ≡ b
 and-is true b e = refl
 and-is false b e = absurd cc
 
-module _ (y : Server) (h : Handle) (e : ServerEnd) (m : Fields) (replies : List Fields) (recorded core : Server) (thins : Thins recorded core) (busy : Bool) (foreseen : (c : Serves (knows y e) m.p1) (v : Elements) → PutTaken (knows y e) m c v → busy ≡ busy_named core.records c.channel.name) where
+module _ (y : Server) (h : Handle) (e left : ServerEnd) (m : Fields) (replies : List Fields) (recorded core : Server) (thins : Thins recorded core) (busy : Bool) (foreseen : (c : Serves (knows y e) m.p1) (v : Elements) → PutTaken (knows y e) m c v → busy ≡ busy_named core.records c.channel.name) where
   -- the record that a put wrote was idle, and is busy if the put makes it so
-  busied : (name : List ℕ) (value : Elements) (busies : Bool) (c : Record) → Records y h e m (Applies name value busies) recorded → record_named y.records name ≡ Some c → is_some c.busy ≡ false → busy_named recorded.records name ≡ busies
+  busied : (name : List ℕ) (value : Elements) (busies : Bool) (c : Record) → Records y h left m (Applies name value busies) recorded → record_named y.records name ≡ Some c → is_some c.busy ≡ false → busy_named recorded.records name ≡ busies
   busied name value false c makes is idle =
       ap (λ (x : Server). busy_named x.records name) makes ∙ busy-with name (with_value value (written_meta y.stamp)) y.records c (λ r. refl) is ∙ idle
   busied name value true c makes is idle =
       ap (λ (x : Server). busy_named x.records name) makes.2
       ∙ busy-with name (λ (r : Record). record (with_value value (written_meta y.stamp) r) { busy = Some makes.0 }) y.records c (λ r. refl) is
 
-  busy-applied : (name : List ℕ) (value : Elements) (busies : Bool) → Due (knows y e) m replies (Applies name value busies) → Records y h e m (Applies name value busies) recorded → (m.command == command_number command.WriteNotify) && busy ≡ busies
+  busy-applied : (name : List ℕ) (value : Elements) (busies : Bool) → Due (knows y e) m replies (Applies name value busies) → Records y h left m (Applies name value busies) recorded → (m.command == command_number command.WriteNotify) && busy ≡ busies
   busy-applied name value busies due makes = due-cases (knows y e) m replies (Applies name value busies) ((m.command == command_number command.WriteNotify) && busy ≡ busies) due (record {
     nothing = λ is. absurd cc;
     greets = λ is. absurd cc;
@@ -426,28 +425,27 @@ writes-only k m replies name value busies due = due-cases k m replies (Applies n
 
 -- What was written at the step of a message, from the count and the busy records after it.
 module _ (y : Server) (h : Handle) (e : ServerEnd) (has : HasEnd y h e) (below : y.applied < applied_limit) (m : Fields) (write : Option Coming) (foreseen : IsWrite m → Foresees y h m write) where
-  wrote-thinned : (rest : List ℕ) (replies : List Fields) (did : Action) (recorded core : Server) → Due (knows y e) m replies did → Records y h (record e { link = with_rest rest e.link }) m did recorded → Thins recorded core → wrote_in core y.applied m.command write ≡ busies_of did
-  wrote-thinned rest replies did recorded core due makes thins =
-      written y h (record e { link = with_rest rest e.link }) m recorded core ((m.command == command_number command.WriteNotify) && is_busy_in core write) thins below did makes here
+  wrote-thinned : (left : ServerEnd) (replies : List Fields) (did : Action) (recorded core : Server) → Due (knows y e) m replies did → Records y h left m did recorded → Thins recorded core → wrote_in core y.applied m.command write ≡ busies_of did
+  wrote-thinned left replies did recorded core due makes thins =
+      written y h left m recorded core ((m.command == command_number command.WriteNotify) && is_busy_in core write) thins below did makes here
     where
       here : (name : List ℕ) (value : Elements) (busies : Bool) → did ≡ Applies name value busies → (m.command == command_number command.WriteNotify) && is_busy_in core write ≡ busies
       here name value busies is =
           let applies : Due (knows y e) m replies (Applies name value busies) = subst (λ (a : Action). Due (knows y e) m replies a) is due in
-          let made : Records y h (record e { link = with_rest rest e.link }) m (Applies name value busies) recorded = subst (λ (a : Action). Records y h (record e { link = with_rest rest e.link }) m a recorded) is makes in
+          let made : Records y h left m (Applies name value busies) recorded = subst (λ (a : Action). Records y h left m a recorded) is makes in
           let sees : Foresees y h m write = foreseen (writes-only (knows y e) m replies name value busies applies) in
-          busy-applied y h (record e { link = with_rest rest e.link }) m replies recorded core thins (is_busy_in core write) (λ c v taken. foreseen-busy y h e m write core has sees c v taken) name value busies applies made
+          busy-applied y h e left m replies recorded core thins (is_busy_in core write) (λ c v taken. foreseen-busy y h e m write core has sees c v taken) name value busies applies made
 
   -- a step that handled it
-  wrote-did : (rest : List ℕ) (replies : List Fields) (did : Action) (after : Server) (gone : Handle → Bool) (core : Server) → Handles y h (record e { link = with_rest rest e.link }) m replies did after → Reaches did gone after core → wrote_in core y.applied m.command write ≡ busies_of did
-  wrote-did rest replies did after gone core handles reaches =
-      wrote-thinned rest replies did handles.recorded core handles.due handles.records
-      (thins-handled y h (record e { link = with_rest rest e.link }) m replies did after handles gone core reaches)
+  wrote-did : (left : ServerEnd) (replies : List Fields) (did : Action) (after : Server) (gone : Handle → Bool) (core : Server) → Due (knows y e) m replies did → Handles y h left m replies did after → Reaches did gone after core → wrote_in core y.applied m.command write ≡ busies_of did
+  wrote-did left replies did after gone core due handles reaches =
+      wrote-thinned left replies did handles.recorded core due handles.records (thins-handled y h left m replies did after handles gone core reaches)
 
   -- or applied its write alone, and closed the end
-  wrote-closed : (rest : List ℕ) (replies : List Fields) (did : Action) (after : Server) (gone : Handle → Bool) (mid core : Server) → Handles y h (record e { link = with_rest rest e.link }) m replies did after → Reaches did gone after mid → core ≡ closed h mid → wrote_in core y.applied m.command write ≡ busies_of did
-  wrote-closed rest replies did after gone mid core handles reaches leaves =
-      wrote-thinned rest replies did handles.recorded core handles.due handles.records
-      (thins-then handles.recorded mid core (thins-handled y h (record e { link = with_rest rest e.link }) m replies did after handles gone mid reaches) (thins-closed h mid core leaves))
+  wrote-closed : (left : ServerEnd) (replies : List Fields) (did : Action) (after : Server) (gone : Handle → Bool) (mid core : Server) → Due (knows y e) m replies did → Handles y h left m replies did after → Reaches did gone after mid → core ≡ closed h mid → wrote_in core y.applied m.command write ≡ busies_of did
+  wrote-closed left replies did after gone mid core due handles reaches leaves =
+      wrote-thinned left replies did handles.recorded core due handles.records
+      (thins-then handles.recorded mid core (thins-handled y h left m replies did after handles gone mid reaches) (thins-closed h mid core leaves))
 
 -- or was not written, as its end closed
 lacks-none : (y : Server) (h : Handle) (mid core : Server) (number : ℕ) (write : Option Coming) → mid ≡ y → core ≡ closed h mid → (wrote_in core y.applied number write ≡ None) × (core.applied ≡ y.applied)
@@ -458,7 +456,7 @@ lacks-none y h mid core number write is leaves =
 -- What is read off a core after the step of a message that was handled.
 pub wrote-handled : (y : Server) (h : Handle) (e : ServerEnd) → HasEnd y h e → y.applied < applied_limit → (next : Next y h e) (gone : Handle → Bool) (core : Server) → Reaches next.action gone next.after core → (records : List RecordSide) (write : Option Coming) (parting : Option Parting) → IsForeseen y h records next.m write parting → wrote_in core y.applied next.m.command write ≡ busies_of next.action
 wrote-handled y h e has below next gone core reaches records write parting foreseen =
-    wrote-did y h e has below next.m write foreseen.writes next.rest next.replies next.action next.after gone core next.handles reaches
+    wrote-did y h e has below next.m write foreseen.writes _ next.replies next.action next.after gone core next.handles.due next.handles reaches
 
 -- what an end that closed out of memory left of its message's write
 abbrev pub left_written : Option (Handle → Bool) → Action → Option Bool
@@ -468,7 +466,7 @@ left_written (Some gone) did = busies_of did
 pub wrote-lacks : (y : Server) (h : Handle) (e : ServerEnd) → HasEnd y h e → y.applied < applied_limit → (next : Next y h e) (written : Option (Handle → Bool)) (mid core : Server) → LeftOf next written mid → core ≡ closed h mid → (records : List RecordSide) (write : Option Coming) (parting : Option Parting) → IsForeseen y h records next.m write parting → wrote_in core y.applied next.m.command write ≡ left_written written next.action
 wrote-lacks y h e has below next None mid core left leaves records write parting foreseen = (lacks-none y h mid core next.m.command write left leaves).0
 wrote-lacks y h e has below next (Some gone) mid core left leaves records write parting foreseen =
-    wrote-closed y h e has below next.m write foreseen.writes next.rest next.replies next.action next.after gone mid core next.handles left.1 leaves
+    wrote-closed y h e has below next.m write foreseen.writes _ next.replies next.action next.after gone mid core next.handles.due next.handles left.1 leaves
 
 -- and if it left nothing, nothing was counted
 pub counted-lacks : (y : Server) (h : Handle) (e : ServerEnd) (next : Next y h e) (mid core : Server) → LeftOf next None mid → core ≡ closed h mid → core.applied ≡ y.applied
@@ -549,7 +547,7 @@ module _ (y : Server) (h : Handle) (e : ServerEnd) (m : Fields) (replies : List 
 
 -- More puts wait after a message that was handled just if its put waits.
 pub waits-handled : (y : Server) (h : Handle) (e : ServerEnd) (next : Next y h e) (gone : Handle → Bool) (core : Server) → Reaches next.action gone next.after core → nat_lt (waiting y) (waiting core) ≡ is_wait next.action
-waits-handled y h e next gone core reaches = waits-did y h (record e { link = with_rest next.rest e.link }) next.m next.replies next.action next.after gone core next.handles reaches
+waits-handled y h e next gone core reaches = waits-did y h _ next.m next.replies next.action next.after gone core next.handles reaches
 
 -- ---- whether its subscription is new
 
