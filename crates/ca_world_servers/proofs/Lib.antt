@@ -4,3 +4,4 @@ pub mod Parted
 pub mod Forthcoming
 pub mod Closings
 pub mod Done
+pub mod Dealt
