@@ -1,5 +1,5 @@
 -- What a message that a server handled did, by what is read of the server before and after it.
-use Rattle.std.proofs.Common.{◌≡◌, ℕ, zero, suc, ◌+◌, ◌<◌, ◌≤◌, ◌⊎◌, inl, inr, Bool, true, false, cond, not, ◌&&◌, ◌||◌, eqb, eq-eqb, eqb-true, List, [], ◌∷◌, ◌++◌, length, length-append, map, Option, Some, None, refl, sym, ap, subst, ◌∙◌, arith, rules}
+use Rattle.std.proofs.Common.{◌≡◌, ℕ, zero, suc, ◌+◌, ◌<◌, ◌≤◌, ◌⊎◌, inl, inr, Bool, true, false, cond, not, ◌&&◌, ◌||◌, eqb, eq-eqb, eqb-true, List, [], ◌∷◌, length, length-append, map, Option, Some, None, refl, sym, ap, subst, ◌∙◌, arith, rules}
 use Rattle.std.specs.Prelude.{◌%◌, ◌*◌, ◌==◌, filter, is_some, min, nat_lt, option_map, unwrap_or}
 use Rattle.std.specs.List.{list_any}
 use Rattle.std.specs.Str.{bytes_eq}
@@ -28,7 +28,7 @@ use Rattle.ca_text.specs.Status.{add_fail, bad_count, no_convert, no_read_access
 use Rattle.ca_text.proofs.Places.{some_is}
 use Rattle.ca_wire.specs.Fields.{Fields}
 use Rattle.ca_wire.specs.Messages.{mask_in}
-use Rattle.ca_model.specs.Due.{Action, Adds, Applies, Clears, Drops, Due, Greets, KnownChannel, KnownRecord, Knows, Names, Nothing, Opens, PutTaken, Serves, Switches, Waits, fault_of_event, is_known, key_in, must_wait, named, rights_at, subscription_in}
+use Rattle.ca_model.specs.Due.{Action, Adds, Applies, Clears, Drops, Due, Greets, KnownChannel, KnownRecord, Knows, Names, Nothing, Opens, PutTaken, Serves, Switches, Waits, fault_of_event, is_known, key_in, must_wait, rights_at, subscription_in}
 use Rattle.ca_model.specs.Ends.{Peer}
 use Rattle.ca_model.specs.Faults.{subscribed_count, subscription_fault, too_many, type_of}
 use Rattle.ca_model.specs.Server.{Server, ServerEnd, Subscription, key_of}
@@ -180,7 +180,7 @@ named-with name f same [] = refl
 named-with name f same (r ∷ rs) = go (bytes_eq r.state.name name) refl (named-with name f same rs)
   where
     go : (b : Bool) → bytes_eq r.state.name name ≡ b → record_named (with_record name f rs) name ≡ option_map f (record_named rs name)
-      → named_or (bytes_eq (cond (bytes_eq r.state.name name) (f r) r).state.name name) (cond (bytes_eq r.state.name name) (f r) r) (record_named (with_record name f rs) name) ≡ option_map f (named_or (bytes_eq r.state.name name) r (record_named rs name))
+        → named_or (bytes_eq (cond (bytes_eq r.state.name name) (f r) r).state.name name) (cond (bytes_eq r.state.name name) (f r) r) (record_named (with_record name f rs) name) ≡ option_map f (named_or (bytes_eq r.state.name name) r (record_named rs name))
     go true e rest =
         subst (λ (b : Bool). named_or (bytes_eq (cond b (f r) r).state.name name) (cond b (f r) r) (record_named (with_record name f rs) name) ≡ option_map f (named_or b r (record_named rs name))) (sym e)
         (ap (λ (b : Bool). named_or b (f r) (record_named (with_record name f rs) name)) (ap (λ (n : List ℕ). bytes_eq n name) (same r) ∙ e))
@@ -193,7 +193,7 @@ named-without which name [] = refl
 named-without which name (r ∷ rs) = go (bytes_eq r.state.name name) (named-without which name rs)
   where
     go : (b : Bool) → record_named (withdrawn which rs) name ≡ option_map (without_puts which) (record_named rs name)
-      → named_or b (without_puts which r) (record_named (withdrawn which rs) name) ≡ option_map (without_puts which) (named_or b r (record_named rs name))
+        → named_or b (without_puts which r) (record_named (withdrawn which rs) name) ≡ option_map (without_puts which) (named_or b r (record_named rs name))
     go true rest = refl
     go false rest = rest
 

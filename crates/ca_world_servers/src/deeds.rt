@@ -10,8 +10,8 @@ ghost use Rattle.ca_world_servers.specs.declared.deeds.Deed.TheVariants as varia
 ghost use Rattle.ca_world_servers.specs.Deeds.{IsDeed, MayLackFor, busies_of, is_busy_in, is_wait, wrote_in};
 ghost use Rattle.ca_world_servers.specs.Losing.{AreSeated};
 
-use crate::handling::{begin_channel, begin_standing, end_channel, end_standing, switch_events};
 use crate::coming::Coming;
+use crate::handling::{begin_channel, begin_standing, end_channel, end_standing, switch_events};
 use ca_queue::SubKey;
 use ca_server_core::ServerCore;
 use ca_text::Command;
