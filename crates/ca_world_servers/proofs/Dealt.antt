@@ -1,5 +1,5 @@
 -- What a message that a server handled did, by what is read of the server before and after it.
-use Rattle.std.proofs.Common.{◌≡◌, ℕ, zero, suc, ◌+◌, ◌<◌, ◌≤◌, ◌⊎◌, inl, inr, Bool, true, false, cond, not, ◌&&◌, ◌||◌, eqb, eq-eqb, eqb-true, List, [], ◌∷◌, ◌++◌, length, length-append, map, Option, Some, None, refl, sym, ap, subst, ◌∙◌, arith, rules}
+use Rattle.std.proofs.Common.{◌≡◌, ℕ, zero, suc, ◌+◌, ◌<◌, ◌≤◌, ◌⊎◌, inl, inr, Bool, true, false, cond, not, ◌&&◌, ◌||◌, eqb, eq-eqb, eqb-true, List, [], ◌∷◌, length, length-append, map, Option, Some, None, refl, sym, ap, subst, ◌∙◌, arith, rules}
 use Rattle.std.specs.Prelude.{◌%◌, ◌*◌, ◌==◌, filter, is_some, min, nat_lt, option_map, unwrap_or}
 use Rattle.std.specs.List.{list_any}
 use Rattle.std.specs.Str.{bytes_eq}
@@ -13,7 +13,7 @@ use Rattle.ca_ids.specs.Table.{same_handle}
 use Rattle.ca_ids.specs.Wire.{wire_of}
 use Rattle.ca_queue.specs.Circuit.{HasNone}
 use Rattle.ca_queue.specs.declared.entry.SubKey.{SubKey}
-use Rattle.ca_queue.specs.Keys.{is_among, same}
+use Rattle.ca_queue.specs.Keys.{is_among}
 use Rattle.ca_records.specs.declared.puts.Put.{Put}
 use Rattle.ca_records.specs.Faults.{first_fault, lacks_conversion}
 use Rattle.ca_records.specs.Puts.{Record, WaitingPut, record_named, waiting_in, with_record, with_value, with_waiting, withdrawn, without_puts, written_meta}
@@ -28,13 +28,12 @@ use Rattle.ca_text.specs.Status.{add_fail, bad_count, no_convert, no_read_access
 use Rattle.ca_text.proofs.Places.{some_is}
 use Rattle.ca_wire.specs.Fields.{Fields}
 use Rattle.ca_wire.specs.Messages.{mask_in}
-use Rattle.ca_model.specs.Due.{Action, Adds, Applies, Clears, Drops, Due, Greets, KnownChannel, KnownRecord, Knows, Names, Nothing, Opens, PutTaken, Serves, Switches, Waits, fault_of_event, is_known, key_in, must_wait, named, rights_at, subscription_in}
+use Rattle.ca_model.specs.Due.{Action, Adds, Applies, Clears, Drops, Due, Greets, KnownChannel, KnownRecord, Knows, Names, Nothing, Opens, PutTaken, Serves, Switches, Waits, fault_of_event, is_known, key_in, must_wait, rights_at, subscription_in}
 use Rattle.ca_model.specs.Ends.{Peer}
 use Rattle.ca_model.specs.Faults.{subscribed_count, subscription_fault, too_many, type_of}
 use Rattle.ca_model.specs.Server.{Server, ServerEnd, Subscription, key_of}
 use Rattle.ca_model.specs.ServerCalls.{waiting}
 use Rattle.ca_model.specs.ServerSteps.{Handles, HasEnd, LeftOf, Next, Reaches, Records, closed, is_write, known_record, knows}
-use Rattle.ca_model_world.specs.ServerEvents.{numbers_after, without_standing}
 use Rattle.ca_model_world.specs.World.{Joined}
 use Rattle.ca_model_world.specs.World.{RecordSide}
 use Rattle.ca_world_data.specs.Numbering.{AreAlike, keys_on}
@@ -44,7 +43,6 @@ use Rattle.ca_world_servers.specs.Coming.{Foresees}
 use Rattle.ca_world_servers.specs.declared.deeds.Deed.{Deed}
 use Rattle.ca_world_servers.specs.declared.deeds.Deed.TheVariants as deed
 use Rattle.ca_world_servers.specs.Deeds.{IsDeed, IsForeseen, IsWrite, busies_of, is_busy_in, is_wait, wrote_in}
-use Rattle.ca_world_servers.specs.Handling.{with_creation, with_standing, with_switched, without_sid}
 use Rattle.ca_world_servers.specs.Losing.{AreSeated}
 
 -- ---- what is due, by what it does
@@ -182,7 +180,7 @@ named-with name f same [] = refl
 named-with name f same (r ∷ rs) = go (bytes_eq r.state.name name) refl (named-with name f same rs)
   where
     go : (b : Bool) → bytes_eq r.state.name name ≡ b → record_named (with_record name f rs) name ≡ option_map f (record_named rs name)
-      → named_or (bytes_eq (cond (bytes_eq r.state.name name) (f r) r).state.name name) (cond (bytes_eq r.state.name name) (f r) r) (record_named (with_record name f rs) name) ≡ option_map f (named_or (bytes_eq r.state.name name) r (record_named rs name))
+        → named_or (bytes_eq (cond (bytes_eq r.state.name name) (f r) r).state.name name) (cond (bytes_eq r.state.name name) (f r) r) (record_named (with_record name f rs) name) ≡ option_map f (named_or (bytes_eq r.state.name name) r (record_named rs name))
     go true e rest =
         subst (λ (b : Bool). named_or (bytes_eq (cond b (f r) r).state.name name) (cond b (f r) r) (record_named (with_record name f rs) name) ≡ option_map f (named_or b r (record_named rs name))) (sym e)
         (ap (λ (b : Bool). named_or b (f r) (record_named (with_record name f rs) name)) (ap (λ (n : List ℕ). bytes_eq n name) (same r) ∙ e))
@@ -195,7 +193,7 @@ named-without which name [] = refl
 named-without which name (r ∷ rs) = go (bytes_eq r.state.name name) (named-without which name rs)
   where
     go : (b : Bool) → record_named (withdrawn which rs) name ≡ option_map (without_puts which) (record_named rs name)
-      → named_or b (without_puts which r) (record_named (withdrawn which rs) name) ≡ option_map (without_puts which) (named_or b r (record_named rs name))
+        → named_or b (without_puts which r) (record_named (withdrawn which rs) name) ≡ option_map (without_puts which) (named_or b r (record_named rs name))
     go true rest = refl
     go false rest = rest
 
@@ -629,27 +627,3 @@ deed-written (Waits name value) busies is = absurd cc
 deed-written (Adds s) busies is = absurd cc
 deed-written (Drops key) busies is = absurd cc
 deed-written (Switches on) busies is = absurd cc
-
--- ---- what it does on its circuit
-
--- a circuit after a deed of its message at this place
-abbrev pub after_deed : (place : ℕ) → Deed → Joined → Joined
-after_deed place (deed.Opens sid) j = with_creation sid place j
-after_deed place (deed.Adds key) j = with_standing key place j
-after_deed place (deed.Clears sid) j = without_sid sid j
-after_deed place (deed.Drops key) j = without_standing (same key) j
-after_deed place (deed.Switches on) j = with_switched on j
-after_deed place other j = j
-
-pub numbers-told : (place : ℕ) (did : Action) (done : Deed) (j : Joined) → IsDeed did done → after_deed place done j ≡ numbers_after place did j
-numbers-told place (Opens c) (deed.Opens sid) j is = ap (λ (n : ℕ). with_creation n place j) (sym is)
-numbers-told place (Adds s) (deed.Adds key) j is = ap (λ (k : SubKey). with_standing k place j) (sym is)
-numbers-told place (Clears sid) (deed.Clears other) j is = ap (λ (n : ℕ). without_sid n j) (sym is)
-numbers-told place (Drops key) (deed.Drops other) j is = ap (λ (k : SubKey). without_standing (same k) j) (sym is)
-numbers-told place (Switches on) (deed.Switches other) j is = ap (λ (b : Bool). with_switched b j) (sym is)
-numbers-told place (Applies name value busies) (deed.Applies other) j is = refl
-numbers-told place (Waits name value) deed.Waits j is = refl
-numbers-told place Nothing deed.Nothing j is = refl
-numbers-told place Greets deed.Nothing j is = refl
-numbers-told place (Names p) deed.Nothing j is = refl
-numbers-told place _ _ j is = absurd is

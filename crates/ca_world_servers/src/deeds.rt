@@ -3,14 +3,15 @@ ghost use Rattle.std.specs.Prelude.{◌≡◌, Bool, List, [], ◌∷◌, OnErr,
 ghost use Rattle.ca_model.specs.Due.{Action, Due, Knows, key_in};
 ghost use Rattle.ca_model_world.specs.ServerEvents.{numbers_after};
 ghost use Rattle.ca_queue.specs.Circuit.{HasNone};
+ghost use Rattle.ca_queue.specs.declared.entry.SubKey as sub_key;
 ghost use Rattle.ca_wire.specs.Fields.{Fields};
 ghost use Rattle.ca_world_data.specs.Seen.{joined_of, queue_of};
-ghost use Rattle.ca_world_servers.specs.declared.deeds.Deed.TheVariants as deed;
+ghost use Rattle.ca_world_servers.specs.declared.deeds.Deed.TheVariants as variant;
 ghost use Rattle.ca_world_servers.specs.Deeds.{IsDeed, MayLackFor, busies_of, is_busy_in, is_wait, wrote_in};
 ghost use Rattle.ca_world_servers.specs.Losing.{AreSeated};
 
-use crate::handling::{begin_channel, begin_standing, end_channel, end_standing, switch_events};
 use crate::coming::Coming;
+use crate::handling::{begin_channel, begin_standing, end_channel, end_standing, switch_events};
 use ca_queue::SubKey;
 use ca_server_core::ServerCore;
 use ca_text::Command;
@@ -75,9 +76,9 @@ pub fn deed_of(
 // A CREATE_CHAN has two replies if a channel was created, and the second has its SID.
 fn opened(replies: &[Told]) -> Deed
     ensures two { (a b : Fields) → map (λ t. t.message) replies.now ≡ a ∷ b ∷ []
-        → result ≡ deed.Opens b.p2 }
+        → result ≡ variant.Opens b.p2 }
     ensures one { (a : Fields) → map (λ t. t.message) replies.now ≡ a ∷ []
-        → result ≡ deed.Nothing }
+        → result ≡ variant.Nothing }
 {
     if replies.len() == 2 {
         return Deed::Opens(replies[1].message.p2());
@@ -87,9 +88,9 @@ fn opened(replies: &[Told]) -> Deed
 
 // An EVENT_ADD is replied to only if it is refused.
 fn began(key: SubKey, replies: &[Told]) -> Deed
-    ensures none { map (λ t. t.message) replies.now ≡ [] → result ≡ deed.Adds key }
+    ensures none { map (λ t. t.message) replies.now ≡ [] → result ≡ variant.Adds key }
     ensures one { (a : Fields) → map (λ t. t.message) replies.now ≡ a ∷ []
-        → result ≡ deed.Nothing }
+        → result ≡ variant.Nothing }
 {
     if replies.is_empty() {
         return Deed::Adds(key);
@@ -100,14 +101,14 @@ fn began(key: SubKey, replies: &[Told]) -> Deed
 /// What the message at this place did, on the channels and subscriptions of its circuit. Without memory nothing changes.
 pub fn tell_on(joined: &mut Joined, deed: Deed, place: usize) -> Result<(), AllocError>
     requires seated { AreSeated (joined_of joined.old) }
-    requires new { (key : Rattle.ca_queue.specs.declared.entry.SubKey.SubKey)
-        → deed ≡ deed.Adds key → HasNone (map (λ q. queue_of q.0) joined.old.queues.items) key }
+    requires new { (key : sub_key.SubKey)
+        → deed ≡ variant.Adds key → HasNone (map (λ q. queue_of q.0) joined.old.queues.items) key }
     ensures ok { OnOk result ((action : Action)
         → IsDeed action deed
         → joined_of joined.new ≡ numbers_after place action (joined_of joined.old)) }
     ensures err { OnErr result (joined_of joined.new ≡ joined_of joined.old) }
     ensures lacks { OnErr result (MayLackFor deed) }
-    ensures still { (busies : Bool) → deed ≡ deed.Applies busies → joined.new ≡ joined.old }
+    ensures still { (busies : Bool) → deed ≡ variant.Applies busies → joined.new ≡ joined.old }
 {
     match deed {
         Deed::Opens(sid) => begin_channel(joined, sid, place),
