@@ -1,6 +1,6 @@
 -- What a message did is told of its server, from what was known before its step.
 use Rattle.std.proofs.Common.{◌≡◌, ℕ, zero, suc, ◌+◌, ◌≤◌, ◌⊎◌, inl, inr, Bool, true, false, cond, not, ◌||◌, eqb, eqb-true, List, [], ◌∷◌, ◌++◌, Option, Some, None, length, map, refl, sym, ap, subst, ◌∙◌, arith}
-use Rattle.std.specs.Prelude.{Vec, if◌then◌else◌, slice_get, slice_set, unwrap_or, vec_capacity, vec_len}
+use Rattle.std.specs.Prelude.{Vec, if◌then◌else◌}
 use Rattle.std.specs.declared.alloc.Global.{Global}
 use Rattle.std.specs.List.{list_any}
 use Rattle.std.specs.Str.{bytes_eq}
@@ -22,9 +22,9 @@ use Rattle.ca_model.specs.History.{Entry}
 use Rattle.ca_model.specs.History as history
 use Rattle.ca_model.specs.Server.{Server}
 use Rattle.ca_model.specs.ServerSteps.{knows, stored_now, write_mask}
-use Rattle.ca_model.specs.Speech.{Stored}
 use Rattle.ca_model_world.specs.ServerEvents.{is_of_channel, logged_by, number_of, numbers_posted, places_where, records_after, with_record, write_numbers}
 use Rattle.ca_model_world.specs.World.{Joined, PutPlace, RecordSide, grown}
+use Rattle.ca_model_world.specs.World as model
 use Rattle.ca_world_data.specs.declared.history.Entry.{Entry as Written}
 use Rattle.ca_world_data.specs.declared.server.RecordSide.{RecordSide as Kept}
 use Rattle.ca_world_data.specs.declared.server.ServerSide.{ServerSide}
@@ -36,9 +36,9 @@ use Rattle.ca_world_servers.specs.declared.deeds.Deed.{Deed}
 use Rattle.ca_world_servers.specs.declared.deeds.Deed.TheVariants as deed
 use Rattle.ca_world_servers.specs.declared.parting.Parting.{Parting}
 use Rattle.ca_world_servers.specs.Coming.{IsComing}
-use Rattle.ca_world_servers.specs.Deeds.{AreApart, IsDeed, IsParting, IsPartingOf, IsTold, IsWrite, TellsClear, TellsDeed, TellsWait, TellsWrite, WasDone, busy_after, written}
+use Rattle.ca_world_servers.specs.Deeds.{AreApart, IsParting, IsPartingOf, IsTold, IsWrite, TellsClear, TellsDeed, TellsWait, TellsWrite, WasDone, busy_after, written}
 use Rattle.ca_world_servers.specs.Handling.{made_busy, with_waiting}
-use Rattle.ca_world_servers.specs.Parting.{all_gone, all_kept, gone_of, kept_of, places_in, puts_of, with_kept, withdrawn_at}
+use Rattle.ca_world_servers.specs.Parting.{AreBeside, all_gone, all_kept, gone_of, kept_of, places_in, puts_of, with_kept, withdrawn_at}
 use Rattle.ca_world_servers.proofs.Parted.{parts-gone, parts-kept}
 
 -- ---- what a message is that does something
@@ -237,7 +237,7 @@ module _ (i : ℕ) (p : PutPlace) (before : Server) (h : Handle) (y : ServerSide
       }
 
   -- of a channel that is cleared
-  clear-told : (sid : ℕ) (q : Parting) (y' : ServerSide) (logs' : List (List Entry)) → IsParting before h sid records q → Rattle.ca_world_servers.specs.Parting.AreBeside before.records records
+  clear-told : (sid : ℕ) (q : Parting) (y' : ServerSide) (logs' : List (List Entry)) → IsParting before h sid records q → AreBeside before.records records
       → TellsClear (Some q) y logs y' logs' → TellsDeed i p before h (Clears sid) y ks logs y' ks logs'
   clear-told sid q y' logs' parts beside told = record {
     side = told.side ∙ (λ t. record (server_of y) { records = (ap (λ (kept : List (List PutPlace)). with_kept kept records) parts.kept ∙ parts-kept before h sid records beside) t });
@@ -302,6 +302,15 @@ parts-of core h sid rs p o is parts = subst (λ (z : Option Parting). IsPartingO
 pub parts-known : (before : Server) (h : Handle) (rs : List RecordSide) (write : Option Coming) (parting : Option Parting) (action : Action) (sid : ℕ) → WasDone before h rs (deed.Clears sid) write parting action → IsPartingOf parting rs
 parts-known before h rs write parting (Clears n) sid d = (let it = clears-as before h rs (deed.Clears sid) write parting n d in parts-of before h n rs it.0 parting it.1 it.2)
 parts-known before h rs write parting _ sid d = absurd d.is
+
+-- the write is known
+pub write-known : (before : Server) (h : Handle) (rs : List RecordSide) (write : Option Coming) (parting : Option Parting) (action : Action) (busies : Bool) → WasDone before h rs (deed.Applies busies) write parting action → (w : Coming) × (write ≡ Some w)
+write-known before h rs write parting (Applies name value b) busies d = (let it = applies-as before h rs (deed.Applies busies) write parting name value b d in (it.w, it.is))
+write-known before h rs write parting _ busies d = absurd d.is
+
+pub wait-known : (before : Server) (h : Handle) (rs : List RecordSide) (write : Option Coming) (parting : Option Parting) (action : Action) → WasDone before h rs deed.Waits write parting action → (w : Coming) × (write ≡ Some w)
+wait-known before h rs write parting (Waits name value) d = (let it = waits-as before h rs deed.Waits write parting name value d in (it.w, it.is))
+wait-known before h rs write parting _ d = absurd d.is
 
 -- ---- room
 
@@ -381,10 +390,10 @@ counts-parted core h sid (r ∷ rs) =
 
 -- by what is told, how many wait
 told-counts : (y y' : ServerSide) (rs : List RecordSide) (told : List Entry) (logs logs' : List (List Entry)) → IsTold rs told y logs y' logs' → waits y'.records.items ≡ waits_by rs
-told-counts y y' rs told logs logs' is = counts-as y'.records.items ∙ ap (λ (z : Rattle.ca_model_world.specs.World.ServerSide). waits_by z.records) is.side
+told-counts y y' rs told logs logs' is = counts-as y'.records.items ∙ ap (λ (z : model.ServerSide). waits_by z.records) is.side
 
 told-life : (y y' : ServerSide) (rs : List RecordSide) (told : List Entry) (logs logs' : List (List Entry)) → IsTold rs told y logs y' logs' → y'.life ≡ y.life
-told-life y y' rs told logs logs' is = ap (λ (z : Rattle.ca_model_world.specs.World.ServerSide). z.life) is.side
+told-life y y' rs told logs logs' is = ap (λ (z : model.ServerSide). z.life) is.side
 
 -- so many entries fit once a write was told
 abbrev After : (y y' : ServerSide) (logs logs' : List (Vec Written Global)) → Type 0
@@ -429,12 +438,10 @@ fits-told p y logs parts room =
     let was : waits y.records.items ≡ waits_by (map record_of y.records.items) = counts-as y.records.items in
     room-less y.life (length p.told.items) (waits y.records.items) logs (omega (arith, few, was)) room
 
-pub room-clear : (p : Parting) (y y' : ServerSide) (ls ls' : List (List Entry)) (logs logs' : List (Vec Written Global)) → IsPartingOf (Some p) (map record_of y.records.items) → TellsClear (Some p) y ls y' ls'
-    → HasRoomFor (waits y.records.items) y.life logs → ((n : ℕ) → HasRoomFor (n + length p.told.items) y.life logs → HasRoomFor n y.life logs') → HasRoomFor (waits y'.records.items) y'.life logs'
-room-clear p y y' ls ls' logs logs' parts told room after =
+pub room-clear : (p : Parting) (y : ServerSide) (rs : List Kept) (logs logs' : List (Vec Written Global)) → IsPartingOf (Some p) (map record_of y.records.items) → map record_of rs ≡ with_kept (map places_in p.kept.items) (map record_of y.records.items)
+    → HasRoomFor (waits y.records.items) y.life logs → ((n : ℕ) → HasRoomFor (n + length p.told.items) y.life logs → HasRoomFor n y.life logs') → HasRoomFor (waits rs) y.life logs'
+room-clear p y rs logs logs' parts kept room after =
     let few = parted-few (map record_of y.records.items) p parts in
     let was : waits y.records.items ≡ waits_by (map record_of y.records.items) = counts-as y.records.items in
-    let n : waits y'.records.items ≡ waits_by (with_kept (map places_in p.kept.items) (map record_of y.records.items)) = told-counts y y' _ _ ls ls' told in
-    let life : y'.life ≡ y.life = told-life y y' _ _ ls ls' told in
-    let there : HasRoomFor (waits y'.records.items + length p.told.items) y.life logs = room-less y.life (waits y'.records.items + length p.told.items) (waits y.records.items) logs (omega (arith, few, was, n)) room in
-    subst (λ (z : ℕ). HasRoomFor (waits y'.records.items) z logs') (sym life) (after (waits y'.records.items) there)
+    let left : waits rs ≡ waits_by (with_kept (map places_in p.kept.items) (map record_of y.records.items)) = counts-as rs ∙ ap waits_by kept in
+    after (waits rs) (room-less y.life (waits rs + length p.told.items) (waits y.records.items) logs (omega (arith, few, was, left)) room)
