@@ -3,6 +3,7 @@ ghost use Rattle.std.specs.Prelude.{◌≡◌, IfOk, OnOk, Some, map, true};
 ghost use Rattle.ca_text.specs.Command.{command_number};
 ghost use Rattle.ca_text.specs.declared.command.Command.TheVariants as command;
 ghost use Rattle.ca_world_data.specs.Seen.{record_of};
+ghost use Rattle.ca_world_servers.specs.declared.parting.Parting as part;
 ghost use Rattle.ca_world_servers.specs.Coming.{Foresees};
 ghost use Rattle.ca_world_servers.specs.Deeds.{IsAhead, IsParting, IsWrite, MayWaitFor};
 
@@ -104,7 +105,7 @@ fn look_clear(
 ) -> Result<Option<Parting>, AllocError>
     ensures { IfOk result (λ found.
         message.now.command ≡ command_number command.ClearChannel
-        → (p : Rattle.ca_world_servers.specs.declared.parting.Parting.Parting) × (found ≡ Some p)
+        → (p : part.Parting) × (found ≡ Some p)
         × IsParting core.now circuit message.now.p1 (map record_of records.now) p) }
 {
     if message.command() != Command::ClearChannel.number() {
