@@ -1,4 +1,4 @@
-use Rattle.std.proofs.Common.{ℕ, ◌+◌, ◌≤◌, List, map, subst, arith}
+use Rattle.std.proofs.Common.{◌+◌, ◌≤◌, List, map, subst, arith}
 use Rattle.ca_model.specs.History.{Entry}
 use Rattle.ca_model_world.specs.World.{Joined, PutPlace}
 use Rattle.ca_world_data.specs.declared.server.ServerSide.{ServerSide}
