@@ -34,3 +34,4 @@ pub mod EndsClosed
 pub mod StepLaws
 pub mod StepLists
 pub mod StepNumbers
+pub mod StepPrepared
