@@ -1,6 +1,6 @@
 -- What a message did, read off the core after its step and begun on its circuit.
-use Rattle.std.proofs.Common.{◌≡◌, ◌≢◌, ◌∙◌, ◌<◌, ◌≤◌, ◌+◌, ◌++◌, ℕ, Bool, true, false, cond, inl, inr, List, [], ◌∷◌, Option, drop, length, map, refl, sym, ap, subst, arith}
-use Rattle.std.specs.Prelude.{nat_lt, vec_capacity, vec_len}
+use Rattle.std.proofs.Common.{◌≡◌, ◌≢◌, ◌∙◌, ◌<◌, ◌≤◌, ◌+◌, ◌++◌, ℕ, Bool, true, false, cond, inl, inr, List, [], ◌∷◌, Option, drop, length, map, Result, Ok, Err, refl, sym, ap, subst, arith}
+use Rattle.std.specs.Prelude.{OnErr, nat_lt}
 use Rattle.std.proofs.lemmas.List.{append-nil, length-append, length-map}
 use Rattle.ca_arena.specs.declared.handle.Handle.{Handle}
 use Rattle.ca_ids.specs.Table.{under}
@@ -90,6 +90,11 @@ module _ (waited : ℕ) (bytes : List ℕ) (ms : List Fields) (behind : StandBeh
       omega (arith, more, size, empty)
 
 -- ---- memory
+
+-- what is so of an error whatever it is
+pub on-err : {A E : Type 0} {P : Type 0} (r : Result A E) → P → OnErr r P
+on-err (Ok x) p = tt
+on-err (Err e) p = p
 
 -- a message with replies needs memory
 pub replies-need : (m : Fields) (replies : List Fields) (action : Action) → replies ≢ [] → NeedsMemory m replies action
