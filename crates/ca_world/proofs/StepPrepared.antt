@@ -1,57 +1,31 @@
 -- What a message did, read off the core after its step and begun on its circuit.
-use Rattle.std.proofs.Common.{◌≡◌, ◌≢◌, ◌∙◌, ◌<◌, ◌≤◌, ◌+◌, ◌++◌, ℕ, Bool, true, false, cond, inl, inr, List, [], ◌∷◌, Option, drop, length, map, Result, Ok, Err, refl, sym, ap, subst, arith}
+use Rattle.std.proofs.Common.{◌≡◌, ◌≢◌, ◌∙◌, ◌<◌, ◌≤◌, ◌+◌, ◌++◌, ℕ, Bool, true, false, cond, inl, inr, List, [], ◌∷◌, Option, drop, length, map, Result, Ok, Err, refl, sym, ap, arith}
 use Rattle.std.specs.Prelude.{OnErr, nat_lt}
 use Rattle.std.proofs.lemmas.List.{append-nil, length-append, length-map}
-use Rattle.ca_arena.specs.declared.handle.Handle.{Handle}
 use Rattle.ca_ids.specs.Table.{under}
 use Rattle.ca_queue.specs.Circuit.{HasNone}
 use Rattle.ca_queue.specs.declared.entry.SubKey.{SubKey}
-use Rattle.ca_text.specs.Command.{command_number}
-use Rattle.ca_text.specs.declared.command.Command.TheVariants as command
-use Rattle.ca_text.specs.Place.{At}
-use Rattle.ca_text.proofs.Places.{At-mapped, At-one, At-within}
 use Rattle.ca_wire.specs.Fields.{Fields}
 use Rattle.ca_wire.specs.Message.{spelled, spelling}
 use Rattle.ca_wire.proofs.Messages.{spelling-long}
 use Rattle.ca_model.specs.Due.{Action, Adds, Applies, Clears, Drops, Due, Greets, KnownChannel, Knows, Names, Nothing, Opens, Switches, Waits, key_in}
 use Rattle.ca_model.specs.History as history
-use Rattle.ca_model.specs.Server.{Server, ServerCircuit}
+use Rattle.ca_model.specs.Server.{Server}
 use Rattle.ca_model.specs.ServerCalls.{waiting}
 use Rattle.ca_model.specs.ServerSteps.{NeedsMemory, output_of}
-use Rattle.ca_model_world.specs.ServerEvents.{about, numbers_after}
+use Rattle.ca_model_world.specs.ServerEvents.{about}
 use Rattle.ca_model_world.specs.World.{Joined, RecordSide}
 use Rattle.ca_laws_bytes.proofs.ServerEnds.{next-own, reaches-stays}
 use Rattle.ca_world.specs.declared.server_step.Counts.{Counts}
-use Rattle.ca_world.specs.ServerStepping.{with_lists}
-use Rattle.ca_world.specs.StepParts.{IsAheadOf, IsHandled, MayStep, StandBehind}
-use Rattle.ca_world_data.specs.declared.history.Sent.{Sent}
+use Rattle.ca_world.specs.StepParts.{IsHandled, MayStep, StandBehind}
 use Rattle.ca_world_data.specs.declared.history.Told.{Told}
-use Rattle.ca_world_data.specs.Seen.{sent_of, told_of}
+use Rattle.ca_world_data.specs.Seen.{told_of}
 use Rattle.ca_world_data.specs.Updates.{AreSpelled}
 use Rattle.ca_world_servers.specs.declared.ahead.Ahead.{Ahead}
 use Rattle.ca_world_servers.specs.declared.deeds.Deed.{Deed}
 use Rattle.ca_world_servers.specs.declared.deeds.Deed.TheVariants as deed
-use Rattle.ca_world_servers.specs.Deeds.{IsAhead, IsDeed, MayLackFor, busies_of, is_wait, wrote_in}
-use Rattle.ca_world_servers.specs.Losing.{AreSeated}
-use Rattle.ca_world_servers.proofs.Dealt.{Cases, deed-new, due-cases, waits-handled, wrote-handled}
-
--- ---- lists aside
-
--- what a message did is the same on a circuit with other lists
-pub numbers-lists-after : (d : List history.Told) (s : List history.Step) (place : ℕ) (action : Action) (j : Joined) → numbers_after place action (with_lists d s j) ≡ with_lists d s (numbers_after place action j)
-numbers-lists-after d s place (Applies name value busies) j = refl
-numbers-lists-after d s place (Waits name value) j = refl
-numbers-lists-after d s place (Clears sid) j = refl
-numbers-lists-after d s place Nothing j = refl
-numbers-lists-after d s place Greets j = refl
-numbers-lists-after d s place (Names p) j = refl
-numbers-lists-after d s place (Opens c) j = refl
-numbers-lists-after d s place (Adds a) j = refl
-numbers-lists-after d s place (Drops key) j = refl
-numbers-lists-after d s place (Switches on) j = refl
-
-pub seated-lists : (d : List history.Told) (s : List history.Step) (j : Joined) → AreSeated j → AreSeated (with_lists d s j)
-seated-lists d s j seated = record { stand = seated.stand; known = seated.known }
+use Rattle.ca_world_servers.specs.Deeds.{IsDeed, MayLackFor, busies_of, is_wait, wrote_in}
+use Rattle.ca_world_servers.proofs.Dealt.{deed-new, due-cases, waits-handled, wrote-handled}
 
 -- ---- bytes behind others
 
@@ -228,16 +202,3 @@ module _ (before core : Server) (i : ℕ) (j : Joined) (ks : List Joined) (rs : 
 
   pub handled-need : (done : Deed) → IsDeed d.next.action done → MayLackFor done → NeedsMemory d.next.m d.next.replies d.next.action
   handled-need done did lacks = lacks-need _ d.next.m d.next.replies d.next.action done d.next.handles.due did lacks
-
--- ---- the next message that came
-
--- of no message, if all were handled
-pub none-ahead : (core : Server) (j : Joined) (rs : List RecordSide) (a : Ahead) → length j.lists.up ≤ length j.lists.handled → IsAheadOf core j rs a
-none-ahead core j rs a over t at = absurd (let within : length j.lists.handled < length j.lists.up = At-within j.lists.up (length j.lists.handled) t at in omega (arith, over, within))
-
--- else of the one that stands there
-pub one-ahead : (core : Server) (j : Joined) (rs : List RecordSide) (a : Ahead) (place : ℕ) (ups : List Sent) (s : Sent) → j.lists.up ≡ map sent_of ups → place ≡ length j.lists.handled → At ups place s → IsAhead core j.at_server rs s.message a → IsAheadOf core j rs a
-one-ahead core j rs a place ups s are here at ahead t there =
-    let one = At-mapped sent_of ups place t (subst (λ (n : ℕ). At (map sent_of ups) n t) (sym here) (subst (λ (ts : List history.Sent). At ts (length j.lists.handled) t) are there)) in
-    let same : one.0 ≡ s = At-one ups place one.0 s one.1 at in
-    subst (λ (n : Fields). IsAhead core j.at_server rs n a) (sym (ap (λ (t : history.Sent). t.message) one.2 ∙ ap (λ (x : Sent). x.message) same)) ahead

@@ -1,9 +1,8 @@
-use Rattle.std.proofs.Common.{◌≡◌, ◌∙◌, ◌<◌, ℕ, [], List, length, map, sym, ap, subst, arith}
+use Rattle.std.proofs.Common.{◌≡◌, ◌∙◌, ◌<◌, ℕ, [], length, map, sym, ap, subst, arith}
 use Rattle.std.proofs.lemmas.List.{length-map}
 use Rattle.ca_ids.specs.Table.{under}
 use Rattle.ca_queue.specs.Circuit.{HasNone}
 use Rattle.ca_model.specs.History as history
-use Rattle.ca_model.specs.Server.{Server}
 use Rattle.ca_model.specs.ServerSteps.{output_of}
 use Rattle.ca_model_world.specs.ServerEvents.{about, numbers_after}
 use Rattle.ca_model_world.specs.World as model

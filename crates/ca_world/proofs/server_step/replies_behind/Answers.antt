@@ -1,4 +1,4 @@
-use Rattle.std.proofs.Common.{◌≡◌, ◌∙◌, ◌≤◌, ℕ, List, length, map, sym, ap, arith}
+use Rattle.std.proofs.Common.{◌∙◌, ◌≤◌, ℕ, List, length, map, sym, ap, arith}
 use Rattle.ca_ids.specs.Table.{under}
 use Rattle.ca_model.specs.History as history
 use Rattle.ca_model.specs.ServerSteps.{output_of}
