@@ -1,5 +1,5 @@
 -- What a message did, read off the core after its step and begun on its circuit.
-use Rattle.std.proofs.Common.{◌≡◌, ◌≢◌, ◌∙◌, ◌<◌, ◌≤◌, ◌+◌, ◌++◌, ℕ, Bool, true, false, cond, inl, inr, List, [], ◌∷◌, Option, drop, length, map, Result, Ok, Err, refl, sym, ap, arith}
+use Rattle.std.proofs.Common.{◌≡◌, ◌≢◌, ◌∙◌, ◌<◌, ◌≤◌, ◌+◌, ℕ, Bool, true, false, cond, inl, inr, List, [], ◌∷◌, Option, length, map, Result, Ok, Err, refl, sym, ap, arith}
 use Rattle.std.specs.Prelude.{OnErr, nat_lt}
 use Rattle.std.proofs.lemmas.List.{append-nil, length-append, length-map}
 use Rattle.ca_ids.specs.Table.{under}
@@ -20,7 +20,6 @@ use Rattle.ca_world.specs.declared.server_step.Counts.{Counts}
 use Rattle.ca_world.specs.StepParts.{IsHandled, MayStep, StandBehind}
 use Rattle.ca_world_data.specs.declared.history.Told.{Told}
 use Rattle.ca_world_data.specs.Seen.{told_of}
-use Rattle.ca_world_data.specs.Updates.{AreSpelled}
 use Rattle.ca_world_servers.specs.declared.ahead.Ahead.{Ahead}
 use Rattle.ca_world_servers.specs.declared.deeds.Deed.{Deed}
 use Rattle.ca_world_servers.specs.declared.deeds.Deed.TheVariants as deed
@@ -29,17 +28,7 @@ use Rattle.ca_world_servers.proofs.Dealt.{deed-new, due-cases, waits-handled, wr
 
 -- ---- bytes behind others
 
-drop-begun : (xs ys : List ℕ) → drop (length xs) (xs ++ ys) ≡ ys
-drop-begun [] ys = refl
-drop-begun (x ∷ xs) ys = drop-begun xs ys
-
 module _ (waited : ℕ) (bytes : List ℕ) (ms : List Fields) (behind : StandBehind waited bytes ms) where
-  pub behind-are : drop waited bytes ≡ spelled ms
-  behind-are = (λ t. drop (behind.long t) (behind.are t)) ∙ drop-begun behind.begun (spelled ms)
-
-  pub behind-spelled : AreSpelled (drop waited bytes)
-  behind-spelled = record { ms = ms; good = behind.good; are = behind-are }
-
   size : length bytes ≡ waited + length (spelled ms)
   size =
       let all : length bytes ≡ length behind.begun + length (spelled ms) = ap length behind.are ∙ length-append behind.begun (spelled ms) in

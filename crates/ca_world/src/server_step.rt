@@ -248,17 +248,20 @@ fn prepare(
     ahead: &Ahead,
     counts: Counts,
 ) -> Result<Prepared, AllocError>
-    requires was { (before : Server) × (i : ℕ) × (ks : List model.Joined) × (rs : List model.RecordSide)
+    requires was { (before : Server) × (i : ℕ)
+        × (ks : List model.Joined) × (rs : List model.RecordSide)
         × (m : MayStep i before (joined_of joined.old) ks rs ahead.now counts)
         × IsHandled before core.now joined.old.at_server m.e }
     requires room { HasRoomToNote 0 joined.old }
-    ensures ok { IfOk result (λ p. (before : Server) (i : ℕ) (ks : List model.Joined) (rs : List model.RecordSide)
+    ensures ok { IfOk result (λ p. (before : Server) (i : ℕ)
+        (ks : List model.Joined) (rs : List model.RecordSide)
         (m : MayStep i before (joined_of joined.old) ks rs ahead.now counts)
         (d : IsHandled before core.now joined.old.at_server m.e)
         → IsPrepared before m.e (joined_of joined.old) d.next p (joined_of joined.new)) }
     ensures aside { IfOk result (λ p. AreAside (joined_of joined.old) p) }
     ensures err { OnErr result (joined_of joined.new ≡ joined_of joined.old) }
-    ensures needs { OnErr result ((before : Server) (i : ℕ) (ks : List model.Joined) (rs : List model.RecordSide)
+    ensures needs { OnErr result ((before : Server) (i : ℕ)
+        (ks : List model.Joined) (rs : List model.RecordSide)
         (m : MayStep i before (joined_of joined.old) ks rs ahead.now counts)
         (d : IsHandled before core.now joined.old.at_server m.e)
         → NeedsMemory d.next.m d.next.replies d.next.action) }
@@ -294,7 +297,7 @@ fn replies_behind(
     Ok(all)
 }
 
-// Makes room for so many replies to a message that is handled, and for its step, for which there is room. Without replies no memory is needed.
+// Makes room for so many replies to a message that is handled, beside that for its step. Without replies no memory is needed.
 fn reserve_replies(joined: &mut Joined, replies: usize) -> Result<(), AllocError>
     requires { HasRoomToNote 0 joined.old }
     ensures same { joined_of joined.new ≡ joined_of joined.old }
@@ -310,7 +313,8 @@ fn reserve_replies(joined: &mut Joined, replies: usize) -> Result<(), AllocError
 
 // What the message did, by what is read off the core after its step.
 fn did_of(core: &ServerCore, ahead: &Ahead, counts: Counts, told: &[Told]) -> Deed
-    ensures { (before : Server) (i : ℕ) (j : model.Joined) (ks : List model.Joined) (rs : List model.RecordSide)
+    ensures { (before : Server) (i : ℕ) (j : model.Joined)
+        (ks : List model.Joined) (rs : List model.RecordSide)
         (m : MayStep i before j ks rs ahead.now counts)
         (d : IsHandled before core.now j.at_server m.e)
         (place : ℕ)
