@@ -21,6 +21,7 @@ use Rattle.ca_model_world.specs.World.{Joined, PutPlace, RecordSide, ServerSide 
 use Rattle.ca_world.specs.Unstamped.{IsUnstamped}
 use Rattle.ca_world_data.specs.declared.history.Told.{Told}
 use Rattle.ca_world_data.specs.declared.joined.Joined.{Joined as Opened}
+use Rattle.ca_world_data.specs.declared.server.RecordSide.{RecordSide as Held}
 use Rattle.ca_world_data.specs.declared.server.ServerSide.{ServerSide}
 use Rattle.ca_world_data.specs.Reporting.{Reports}
 use Rattle.ca_world_data.specs.Seen.{joined_of, record_of, server_of, told_of}
@@ -56,6 +57,11 @@ IsNext logs life ps (Some value) = (log : List history.Entry) × At logs life lo
 -- the record of this name, as the core has it and beside that
 abbrev pub IsBeside : Server → List RecordSide → (name : List ℕ) → Record → RecordSide → Type 0
 IsBeside y rs name c r = (record_named y.records name ≡ Some c) × ((place : ℕ) × At rs place r × (r.name ≡ name))
+
+-- the record of this name, if one was found
+abbrev pub IsFound : List Held → (name : List ℕ) → Option Held → Type 0
+IsFound rs name None = Unit {0}
+IsFound rs name (Some r) = (place : ℕ) × At rs place r × (r.name.items ≡ name)
 
 -- What holds of a record of this name, so that its busy put may be finished: the put came on the circuit of its handle, its reply is a
 -- message, the log tells the value of the put that waits first, and writes are stored with no stamp.
