@@ -1,4 +1,4 @@
-use Rattle.std.proofs.Common.{◌≡◌, ℕ, ◌<◌, List, length, arith}
+use Rattle.std.proofs.Common.{◌≡◌, ℕ, ◌<◌, List, length, subst, arith}
 use Rattle.std.specs.Prelude.{slice_set, vec_capacity, vec_len}
 use Rattle.ca_text.specs.Place.{At}
 use Rattle.ca_world.specs.Finishing.{HasRoomOn}
@@ -26,7 +26,7 @@ returns-clause-counts c =
     let j : Joined = c.index_mut.result.now in
     let within : k < length ks = omega (arith, c.requires) in
     let at : At ks k j = found ks k j j within c.index_mut.ensures.value in
-    on-ok c.reserve_down.result (AllMayCount (slice_set ks k c.reserve_down.new.joined)) (counts-set ks k j c.reserve_down.new.joined at c.reserve_down.ensures.standing c.in_ok-check_counts.ensures)
+    on-ok c.reserve_down.result (AllMayCount (slice_set ks k c.reserve_down.new.joined)) (counts-set ks k j c.reserve_down.new.joined at c.reserve_down.ensures.standing (subst AllMayCount c.deref.ensures.value c.in_ok-check_counts.ensures))
 
 pub returns-clause-space : goal.returns-clause-space
 returns-clause-space c =
