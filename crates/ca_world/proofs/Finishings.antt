@@ -1,11 +1,10 @@
 -- A record's busy put is finished at a server, from what its parts became.
 use Rattle.std.proofs.Common.{◌≡◌, ◌∙◌, ℕ, zero, suc, ◌+◌, ◌<◌, ◌≤◌, ◌==◌, ◌&&◌, inl, inr, Bool, true, false, List, [], ◌∷◌, ◌++◌, Option, Some, None, Result, Ok, Err, drop, length, refl, sym, ap, subst, arith}
-use Rattle.std.specs.Prelude.{◌⊎◌, OnOk, Vec, if◌then◌else◌, is_some, map, option_map, slice_get, slice_set, unwrap_or, vec_capacity, vec_len}
+use Rattle.std.specs.Prelude.{OnOk, Vec, if◌then◌else◌, is_some, map, option_map, slice_get, slice_set, unwrap_or, vec_capacity, vec_len}
 use Rattle.std.specs.declared.alloc.Global.{Global}
-use Rattle.std.specs.List.{flat_map, fold}
+use Rattle.std.specs.List.{fold}
 use Rattle.std.specs.Str.{bytes_eq}
 use Rattle.std.proofs.lemmas.List.{append-nil, append_assoc, length-append, length-map}
-use Rattle.std.proofs.lemmas.Slice.Eq.{bytes_eq-Decides}
 use Rattle.ca_arena.specs.declared.handle.Handle.{Handle}
 use Rattle.ca_dbr.specs.Elements.{Elements}
 use Rattle.ca_ids.specs.Table.{under}
@@ -25,9 +24,9 @@ use Rattle.ca_wire.proofs.Padding.{message-of}
 use Rattle.ca_model.specs.Ends as why
 use Rattle.ca_model.specs.History as history
 use Rattle.ca_model.specs.Server.{Ended, Open, Server, ServerCircuit, ServerEnd}
-use Rattle.ca_model.specs.ServerCalls.{Finishes, Replies, after_next, finish_reply, lacking, with_finish, with_message}
+use Rattle.ca_model.specs.ServerCalls.{Finishes, Replies, after_next, finish_reply, lacking, with_finish}
 use Rattle.ca_model.specs.ServerSteps.{reached, stored_now, write_mask}
-use Rattle.ca_model.specs.Speech.{In, Stored}
+use Rattle.ca_model.specs.Speech.{Stored}
 use Rattle.ca_model_world.specs.Events as event
 use Rattle.ca_model_world.specs.Runs.{CanBe, IsServer}
 use Rattle.ca_model_world.specs.ServerEvents.{about, ending, ends_by, finish_entry, first_of, keys_concerned, next_busy, next_entries, next_numbers, numbers_posted, replied_at, reported, server_after, with_number, with_record, withdrawals, without_puts}
@@ -46,7 +45,7 @@ use Rattle.ca_laws_writes.specs.Moves.{Lives}
 use Rattle.ca_laws_writes.specs.Once.{Once}
 use Rattle.ca_server_core.specs.Asking.{busy_value, value_busy}
 use Rattle.ca_server_core.specs.ForHistories.{bytes_under}
-use Rattle.ca_world.specs.Finishing.{AreBehind, Ends, Finished, FinishesAt, HasRoomOn, IsBeside, IsBusy, IsBusyOn, IsFound, IsNext, MayFinish, NextIn, TellsFinish, TellsWait, WaitIn, WaitsIn, applied_of, numbered, replied_in, with_down}
+use Rattle.ca_world.specs.Finishing.{AreBehind, Ends, Finished, FinishesAt, HasRoomOn, IsBeside, IsBusy, IsBusyOn, IsFound, IsNext, MayFinish, TellsFinish, TellsWait, WaitIn, WaitsIn, applied_of, numbered, replied_in, with_down}
 use Rattle.ca_world.specs.Whole.{IsReached}
 use Rattle.ca_world.proofs.Additions.{others-apart}
 use Rattle.ca_world.proofs.Postings.{each-under, ending-keeps, posted-keeps, served-posted}

@@ -1,6 +1,5 @@
 -- Working: a record's busy put is finished at a server, and the next that waits is applied.
-use Rattle.std.specs.Prelude.{ℕ, ◌≡◌, ◌<◌, ◌+◌, ◌++◌, ◌⊎◌, Bool, true, List, [], ◌∷◌, Option, Some, None, Ok, Err, Result, Vec, if◌then◌else◌, is_some, length, map, option_map, slice_get, slice_set, unwrap_or, vec_capacity, vec_len}
-use Rattle.std.specs.declared.alloc.Global.{Global}
+use Rattle.std.specs.Prelude.{ℕ, ◌≡◌, ◌<◌, ◌++◌, ◌⊎◌, Bool, true, List, [], ◌∷◌, Option, Some, None, Ok, Err, Result, if◌then◌else◌, is_some, length, map, option_map, slice_get, slice_set, unwrap_or, vec_capacity, vec_len}
 use Rattle.ca_arena.specs.declared.handle.Handle.{Handle}
 use Rattle.ca_dbr.specs.Elements.{Elements}
 use Rattle.ca_records.specs.Puts.{Record, WaitingPut, record_named}
@@ -19,12 +18,11 @@ use Rattle.ca_model.specs.Speech.{In, Stored}
 use Rattle.ca_model_world.specs.ServerEvents.{about, finish_entry, first_of, next_busy, next_entries, next_numbers, numbers_posted, with_record}
 use Rattle.ca_model_world.specs.World.{Joined, PutPlace, RecordSide, ServerSide as Side, grown}
 use Rattle.ca_world.specs.Unstamped.{IsUnstamped}
-use Rattle.ca_world_data.specs.declared.history.Told.{Told}
 use Rattle.ca_world_data.specs.declared.joined.Joined.{Joined as Opened}
 use Rattle.ca_world_data.specs.declared.server.RecordSide.{RecordSide as Held}
 use Rattle.ca_world_data.specs.declared.server.ServerSide.{ServerSide}
 use Rattle.ca_world_data.specs.Reporting.{Reports}
-use Rattle.ca_world_data.specs.Seen.{joined_of, record_of, server_of, told_of}
+use Rattle.ca_world_data.specs.Seen.{record_of, server_of}
 
 -- ---- the value of a put that waits
 

@@ -57,7 +57,8 @@ impl World {
     }
 }
 
-// A put is finished at this server. A finish that its core would refuse changes nothing.
+// A put is finished at this server. A finish that its core would refuse changes nothing. A record that is busy in the core is there beside it,
+// with the circuit of its put; were it not, that would be answered as if out of memory.
 fn finish_at(
     alloc: Global,
     server: usize,
@@ -135,7 +136,8 @@ fn reserve_finish(
 fn reserve_down(joined: &mut Joined) -> Result<(), AllocError>
     ensures same { joined_of joined.new ≡ joined_of joined.old }
     ensures standing { joined.new.standing ≡ joined.old.standing }
-    ensures room { OnOk result (vec_len joined.new.lists.down < vec_capacity joined.new.lists.down) }
+    ensures room { OnOk result (vec_len joined.new.lists.down
+        < vec_capacity joined.new.lists.down) }
 {
     joined.lists.down.reserve(1)
 }
@@ -283,7 +285,8 @@ fn post_next(server: usize, core: &ServerCore, circuits: &mut Vec<Joined>, name:
 // The core finishes the busy put of this record, which is busy.
 fn finish_core(core: &mut ServerCore, name: &[u8])
     requires { (b : puts.Put) × IsBusy core.old name.now b }
-    ensures { (sent : List (handle.Handle × Fields)) × Finishes core.old name.now sent (Ok tt) core.new }
+    ensures { (sent : List (handle.Handle × Fields))
+        × Finishes core.old name.now sent (Ok tt) core.new }
 {
     match core.finish(name) {
         Ok(()) => {}

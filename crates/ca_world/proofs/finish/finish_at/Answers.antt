@@ -1,9 +1,8 @@
-use Rattle.std.proofs.Common.{◌≡◌, ◌∙◌, ℕ, ◌<◌, inl, inr, Bool, true, false, not, List, Option, Some, length, map, refl, sym, ap, subst, arith}
+use Rattle.std.proofs.Common.{◌≡◌, ◌∙◌, ℕ, ◌<◌, inl, inr, true, false, not, List, Option, Some, length, map, refl, sym, ap, subst, arith}
 use Rattle.std.specs.Prelude.{Vec, is_some, option_map}
 use Rattle.std.specs.declared.alloc.Global.{Global}
 use Rattle.ca_dbr.specs.Elements.{Elements, elements}
 use Rattle.ca_records.specs.declared.puts.Put.{Put}
-use Rattle.ca_text.specs.Place.{At}
 use Rattle.ca_text.proofs.Places.{At-map}
 use Rattle.ca_model.specs.History as history
 use Rattle.ca_model_world.specs.ServerEvents.{first_of}

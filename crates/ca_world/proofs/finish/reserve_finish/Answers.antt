@@ -1,4 +1,4 @@
-use Rattle.std.proofs.Common.{◌≡◌, ℕ, ◌<◌, List, length, subst, arith}
+use Rattle.std.proofs.Common.{ℕ, ◌<◌, List, length, subst, arith}
 use Rattle.std.specs.Prelude.{slice_set, vec_capacity, vec_len}
 use Rattle.ca_text.specs.Place.{At}
 use Rattle.ca_world.specs.Finishing.{HasRoomOn}

@@ -2,7 +2,6 @@ use Rattle.std.proofs.Common.{◌≡◌, ◌∙◌, ℕ, Bool, List, map, refl, 
 use Rattle.std.specs.Prelude.{is_some, option_map}
 use Rattle.std.specs.Vec.{with_items}
 use Rattle.std.proofs.lemmas.List.{with_items_is}
-use Rattle.ca_dbr.specs.Elements.{elements}
 use Rattle.ca_model.specs.History as history
 use Rattle.ca_model_world.specs.ServerEvents.{next_busy, with_record}
 use Rattle.ca_model_world.specs.World as model
