@@ -1,4 +1,4 @@
-ghost use Rattle.std.specs.Prelude.{ℕ, ◌≡◌, ◌+◌, ◌<◌, ◌≤◌, ◌×◌, [], Bool, IfOk, List, OnErr, OnOk, Some, None, length, map, take, vec_capacity, vec_len};
+ghost use Rattle.std.specs.Prelude.{ℕ, ◌≡◌, ◌+◌, ◌<◌, ◌≤◌, [], Bool, IfOk, List, OnErr, OnOk, Some, None, length, map, take, vec_capacity, vec_len};
 ghost use Rattle.ca_arena.specs.declared.handle.Handle as handle;
 ghost use Rattle.ca_ids.specs.Table.{under};
 ghost use Rattle.ca_model.specs.Due.{Action};
@@ -20,7 +20,7 @@ ghost use Rattle.ca_world_data.specs.ServerCuts.{HasRoomFor, IsServing, cut_core
 ghost use Rattle.ca_world_servers.specs.declared.deeds.Deed.TheVariants as did;
 ghost use Rattle.ca_world_servers.specs.Deeds.{MayWaitFor, WasDone, wrote_in};
 ghost use Rattle.ca_world_servers.specs.EndsWith.{ReportsWith};
-ghost use Rattle.ca_world_servers.specs.Handling.{HasRoomToNote};
+ghost use Rattle.ca_world_servers.specs.Handling.{HasRoomToNote, with_handled};
 
 use crate::cut_server::cut_end;
 use crate::world::World;
@@ -396,8 +396,27 @@ fn note(
         logged,
         after,
     };
-    give_lists(&mut circuits[circuit], down, handled);
-    note_handled(&mut circuits[circuit], step, told);
+    note_on(&mut circuits[circuit], down, handled, step, told);
+}
+
+// The lists of the circuit are given back, and the message is noted as handled in this step, by these replies.
+fn note_on(
+    joined: &mut Joined,
+    down: Vec<Told>,
+    handled: Vec<Step>,
+    step: Step,
+    told: Vec<Told>,
+)
+    requires down { vec_len down + length told.items ≤ vec_capacity down }
+    requires handled { vec_len handled + 1 ≤ vec_capacity handled }
+    ensures { joined_of joined.new
+        ≡ with_handled
+        (step_of step)
+        (map told_of told.items)
+        (with_lists (map told_of down.items) (map step_of handled.items) (joined_of joined.old)) }
+{
+    give_lists(joined, down, handled);
+    note_handled(joined, step, told);
 }
 
 // How long the log of a life is.
