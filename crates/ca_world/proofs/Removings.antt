@@ -29,7 +29,6 @@ use Rattle.ca_model.specs.Ends as why
 use Rattle.ca_model.specs.History.{Cause, Entry, Line, Told}
 use Rattle.ca_model.specs.Server.{Ended, Open, OpenChannel, Server, ServerCircuit}
 use Rattle.ca_model.specs.ServerCalls.{Removes, channels_of, circuit_without, disconnects, end_without}
-use Rattle.ca_model.specs.Speech.{In}
 use Rattle.ca_model_world.specs.Events.{Remove}
 use Rattle.ca_model_world.specs.Runs.{CanBe, IsServer, Runs}
 use Rattle.ca_model_world.specs.ServerEvents.{disconnected_at, ending, ends_at, ends_by, removal_entries, removal_told, removed_at, reported, withdrawals, without_puts, without_standing}
