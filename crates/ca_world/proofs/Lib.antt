@@ -28,10 +28,12 @@ pub mod Postings
 pub mod Widths
 pub mod Additions
 pub mod ClientHearings
+pub mod Removings
+pub mod Seating
 pub mod ServerSteppings
 pub mod EndsClosed
 pub mod StepLaws
 pub mod StepLists
 pub mod StepNumbers
 pub mod StepNotes
-pub mod Removings
+pub mod StepWorlds
