@@ -1,5 +1,5 @@
 -- A record of a server is removed, from what its parts became.
-use Rattle.std.proofs.Common.{◌≡◌, ℕ, zero, suc, ◌+◌, ◌*◌, ◌≤◌, ◌==◌, ◌&&◌, ◌||◌, inl, inr, Bool, true, false, not, List, [], ◌∷◌, ◌++◌, Option, Some, None, Result, Ok, Err, length, take, refl, sym, ap, subst, ◌∙◌, arith}
+use Rattle.std.proofs.Common.{◌≡◌, ℕ, zero, suc, ◌+◌, ◌*◌, ◌<◌, ◌≤◌, ◌==◌, ◌&&◌, ◌||◌, inl, inr, Bool, true, false, not, List, [], ◌∷◌, ◌++◌, Option, Some, None, Result, Ok, Err, length, take, refl, sym, ap, subst, ◌∙◌, arith}
 use Rattle.std.specs.Prelude.{Vec, filter, if◌then◌else◌, map, option_map, slice_set}
 use Rattle.std.specs.declared.alloc.Global.{Global}
 use Rattle.std.specs.List.{list_any}
@@ -19,15 +19,18 @@ use Rattle.ca_text.specs.declared.refusal.Refusal.TheVariants.{OutOfMemory, Unkn
 use Rattle.ca_text.specs.Place.{At}
 use Rattle.ca_text.proofs.Places.{At-map, At-mapped, At-within}
 use Rattle.ca_wire.specs.Fields.{Fields}
-use Rattle.ca_wire.specs.Message.{spelled, spelling}
+use Rattle.ca_wire.specs.declared.header.Header.{Header}
+use Rattle.ca_wire.specs.Header.{header_spelling}
+use Rattle.ca_wire.specs.Message.{header_of, spelled, spelling}
 use Rattle.ca_wire.specs.Messages.{disconnect}
+use Rattle.ca_wire.proofs.Headers.{length-short, spelling-short}
+use Rattle.ca_wire.proofs.Messages.{length-spelling}
 use Rattle.ca_model.specs.Ends as why
 use Rattle.ca_model.specs.History.{Cause, Entry, Line, Told}
 use Rattle.ca_model.specs.Server.{Ended, Open, OpenChannel, Server, ServerCircuit}
 use Rattle.ca_model.specs.ServerCalls.{Removes, channels_of, circuit_without, disconnects, end_without}
-use Rattle.ca_model.specs.Speech.{In}
 use Rattle.ca_model_world.specs.Events.{Remove}
-use Rattle.ca_model_world.specs.Runs.{CanBe, IsServer}
+use Rattle.ca_model_world.specs.Runs.{CanBe, IsServer, Runs}
 use Rattle.ca_model_world.specs.ServerEvents.{disconnected_at, ending, ends_at, ends_by, removal_entries, removal_told, removed_at, reported, withdrawals, without_puts, without_standing}
 use Rattle.ca_model_world.specs.World.{grown}
 use Rattle.ca_model_world.specs.World as model
@@ -59,7 +62,7 @@ use Rattle.ca_world.proofs.Postings.{each-under, ending-keeps}
 -- in every run the queues of an open circuit have the subscriptions that stand, and nothing waits there for others
 pub run-seated : (w : model.World) (i : ℕ) → IsReached w → AllSeated i w.circuits
 run-seated w i (s, es, ok, folds) k j there mine on =
-    let runs = (w, folds, refl) in
+    let runs : Runs s es None w = (w, folds, refl) in
     let serves = run-serves s es None w ok runs in
     let seat = serves.stands.sound.seated.each k j there on in
     let log = serves.stands.sound.within k j there in
@@ -93,7 +96,11 @@ without-same j cs = λ t. without_standing (λ (k : SubKey). over-same k cs t) (
 -- ---- bytes of SERVER_DISCONNs
 
 disconnect-size : (cid : ℕ) → length (spelling (disconnect cid)) ≡ 16
-disconnect-size cid = refl
+disconnect-size cid =
+    let h : Header = header_of (disconnect cid) in
+    let few : 0 < 65535 = omega arith in
+    let short : length (header_spelling h) ≡ 16 = ap length (spelling-short h few few) ∙ length-short h in
+    length-spelling (disconnect cid) ∙ ap (λ (n : ℕ). n + length (disconnect cid).payload) short
 
 notices-size : (cs : List (Handle × OpenChannel)) → length (spelled (map (λ (c : Handle × OpenChannel). disconnect c.1.cid) cs)) ≡ 16 * length cs
 notices-size [] = refl
@@ -123,7 +130,7 @@ take-fewer (suc n) (x ∷ xs) = (let rest = take-fewer n xs in omega (arith, res
 
 module _ (name : List ℕ) (gone : Handle → Bool) (left : Handle → ℕ) (y core : Server) (removes : Removes y name gone left (Ok tt) core) where
   removed-under : (h : Handle) → under core.circuits h ≡ option_map (circuit_without name gone left h) (under y.circuits h)
-  removed-under h = ap (λ (z : Server). under z.circuits h) removes.2.2 ∙ each-under (circuit_without name gone left) y.circuits h
+  removed-under h = ap (λ (z : Server). under z.circuits h) removes.2 ∙ each-under (circuit_without name gone left) y.circuits h
 
   abbrev told_at : Handle → Option ServerCircuit → List (Handle × OpenChannel)
   told_at h o = disconnected_at name gone left h o
@@ -175,9 +182,13 @@ module _ (name : List ℕ) (gone : Handle → Bool) (left : Handle → ℕ) (y c
     abbrev f : model.Joined → model.Joined
     f = removed_at i y name gone left
 
+    -- what a circuit that is open at the server has to lose
+    abbrev leads : Joined → List (ℕ × ℕ) × ℕ
+    leads j = (channels_under name (under y.circuits j.at_server), length (bytes_under (under y.circuits j.at_server)))
+
     led-here : (j : Joined) (l : Leading) → (l.channels.items, l.waited) ≡ lead_at i y name (joined_of j) → (j.server == i && j.lists.server_open) ≡ true
-        → (l.channels.items, l.waited) ≡ (channels_under name (under y.circuits j.at_server), length (bytes_under (under y.circuits j.at_server)))
-    led-here j l led on = led ∙ ap (λ (b : Bool). if b then (channels_under name (under y.circuits j.at_server), length (bytes_under (under y.circuits j.at_server))) else ([], 0)) on
+        → (l.channels.items, l.waited) ≡ leads j
+    led-here j l led on = led ∙ ap (λ (b : Bool). if b then leads j else ([], 0)) on
 
     sent-here : (j : Joined) (l : Leading) → (l.channels.items, l.waited) ≡ lead_at i y name (joined_of j) → (j.server == i && j.lists.server_open) ≡ true
         → Disconnects core (joined_of j) l (length (told_at j.at_server (under y.circuits j.at_server)))
@@ -263,7 +274,7 @@ removal-keeps i core name gone left j = go (j.server == i && j.lists.server_open
 
 -- ---- room in the log
 
-waits_in : List model.RecordSide → ℕ
+abbrev waits_in : List model.RecordSide → ℕ
 waits_in [] = 0
 waits_in (r ∷ rs) = length r.waiting + waits_in rs
 

@@ -26,7 +26,7 @@ ghost use Rattle.ca_world_data.specs.ServerCuts.{HasRoomFor, IsServing, cut_core
 ghost use Rattle.ca_world_servers.specs.declared.deeds.Deed.TheVariants as did;
 ghost use Rattle.ca_world_servers.specs.Deeds.{IsDeed, MayLackFor, MayWaitFor, WasDone, wrote_in};
 ghost use Rattle.ca_world_servers.specs.EndsWith.{ReportsWith};
-ghost use Rattle.ca_world_servers.specs.Handling.{HasRoomToNote};
+ghost use Rattle.ca_world_servers.specs.Handling.{HasRoomToNote, with_handled};
 
 use crate::cut_server::cut_end;
 use crate::world::World;
@@ -215,28 +215,119 @@ fn step_end(
     let at = circuits[circuit].at_server;
     match side.core.step(at) {
         Did::Handled => {
-            match prepare(alloc, &side.core, &mut circuits[circuit], &ahead, counts) {
-                Ok(prepared) => {
-                    let Ahead { write, parting, .. } = ahead;
-                    note(
-                        alloc, circuit, server, side, circuits, logs, write, parting, prepared,
-                    );
-                }
-                Err(_) => {
-                    let left = cut_short(alloc, &mut side.core, at, counts.waited);
-                    close_stepped(
-                        alloc, circuit, server, side, circuits, logs, ahead, counts, at, left,
-                    );
-                }
-            }
+            tell_step(
+                alloc, circuit, server, side, circuits, logs, ahead, counts, at,
+            );
         }
         Did::Closed(_, left) => {
+            let Ahead {
+                command,
+                key: _key,
+                write,
+                parting,
+            } = ahead;
             close_stepped(
-                alloc, circuit, server, side, circuits, logs, ahead, counts, at, left,
+                alloc,
+                circuit,
+                server,
+                side,
+                circuits,
+                logs,
+                command,
+                write,
+                parting,
+                counts.applied,
+                at,
+                left,
             );
         }
         Did::NeedBytes => {}
         Did::OutputFull => {}
+    }
+}
+
+// A message was handled. If there is no memory for what it leaves, its end closes.
+fn tell_step(
+    alloc: Global,
+    circuit: usize,
+    server: usize,
+    side: &mut ServerSide,
+    circuits: &mut Vec<Joined>,
+    logs: &mut Vec<Vec<Entry>>,
+    ahead: Ahead,
+    counts: Counts,
+    at: Handle,
+)
+    requires within { circuit < vec_len circuits.old }
+    requires was { (before : Server) × (m : (j : model.Joined)
+        → At (map joined_of circuits.old.items) circuit j
+        → MayStep server before j (map joined_of circuits.old.items) (map record_of side.old.records.items) ahead counts)
+        × ((j : model.Joined) (there : At (map joined_of circuits.old.items) circuit j)
+        → (at ≡ j.at_server) × IsHandled before side.old.core j.at_server (m j there).e) }
+    requires served { AreServed
+        side.old.circuits.items
+        (map joined_of circuits.old.items)
+        server }
+    requires counts { AllMayCount circuits.old.items }
+    requires notes { (j : opened.Joined) → At circuits.old.items circuit j → HasRoomToNote 0 j }
+    requires space { MayWaitFor ahead.write side.old.records.items }
+    requires room { HasRoomFor (waits side.old.records.items + 2) side.old.life logs.old.items }
+    ensures steps { (before : Server) (j : model.Joined)
+        → At (map joined_of circuits.old.items) circuit j
+        → (m : MayStep server before j (map joined_of circuits.old.items) (map record_of side.old.records.items) ahead counts)
+        → IsHandled before side.old.core j.at_server m.e
+        → StepsAt
+        circuit
+        j
+        (record (server_of side.old) { core = before })
+        (map joined_of circuits.old.items)
+        (entries_in logs.old.items)
+        (server_of side.new)
+        (map joined_of circuits.new.items)
+        (entries_in logs.new.items) }
+    ensures numbers { side.new.circuits.items ≡ side.old.circuits.items }
+{
+    match prepare(
+        alloc,
+        &side.core,
+        &mut circuits[circuit],
+        &ahead,
+        counts,
+    ) {
+        Ok(prepared) => {
+            let Ahead {
+                command: _command,
+                key: _key,
+                write,
+                parting,
+            } = ahead;
+            note(
+                alloc, circuit, server, side, circuits, logs, write, parting, prepared,
+            );
+        }
+        Err(_) => {
+            let left = cut_short(alloc, &mut side.core, at, counts.waited);
+            let Ahead {
+                command,
+                key: _key,
+                write,
+                parting,
+            } = ahead;
+            close_stepped(
+                alloc,
+                circuit,
+                server,
+                side,
+                circuits,
+                logs,
+                command,
+                write,
+                parting,
+                counts.applied,
+                at,
+                left,
+            );
+        }
     }
 }
 
@@ -450,8 +541,27 @@ fn note(
         logged,
         after,
     };
-    give_lists(&mut circuits[circuit], down, handled);
-    note_handled(&mut circuits[circuit], step, told);
+    note_on(&mut circuits[circuit], down, handled, step, told);
+}
+
+// The lists of the circuit are given back, and the message is noted as handled in this step, by these replies.
+fn note_on(
+    joined: &mut Joined,
+    down: Vec<Told>,
+    handled: Vec<Step>,
+    step: Step,
+    told: Vec<Told>,
+)
+    requires down { vec_len down + length told.items ≤ vec_capacity down }
+    requires handled { vec_len handled + 1 ≤ vec_capacity handled }
+    ensures { joined_of joined.new
+        ≡ with_handled
+        (step_of step)
+        (map told_of told.items)
+        (with_lists (map told_of down.items) (map step_of handled.items) (joined_of joined.old)) }
+{
+    give_lists(joined, down, handled);
+    note_handled(joined, step, told);
 }
 
 // How long the log of a life is.
@@ -472,25 +582,27 @@ fn close_stepped(
     side: &mut ServerSide,
     circuits: &mut Vec<Joined>,
     logs: &mut Vec<Vec<Entry>>,
-    ahead: Ahead,
-    counts: Counts,
+    command: u16,
+    write: Option<Coming>,
+    parting: Option<Parting>,
+    applied: u64,
     at: Handle,
     left: Pipe,
 )
     requires within { circuit < vec_len circuits.old }
-    requires done { (busies : Bool) → wrote_in side.old.core counts.applied ahead.command ahead.write ≡ Some busies
+    requires done { (busies : Bool) → wrote_in side.old.core applied command write ≡ Some busies
         → (before : Server) × (h : handle.Handle) × (action : Action)
-        × WasDone before h (map record_of side.old.records.items) (did.Applies busies) ahead.write ahead.parting action }
-    requires alike { (busies : Bool) → wrote_in side.old.core counts.applied ahead.command ahead.write ≡ Some busies
+        × WasDone before h (map record_of side.old.records.items) (did.Applies busies) write parting action }
+    requires alike { (busies : Bool) → wrote_in side.old.core applied command write ≡ Some busies
         → AllAlike server side.old.core (map joined_of circuits.old.items) }
     requires counts { AllMayCount circuits.old.items }
     requires served { AreServed
         side.old.circuits.items
         (map joined_of circuits.old.items)
         server }
-    requires space { MayWaitFor ahead.write side.old.records.items }
+    requires space { MayWaitFor write side.old.records.items }
     requires room { HasRoomFor (waits side.old.records.items + 2) side.old.life logs.old.items }
-    ensures none { wrote_in side.old.core counts.applied ahead.command ahead.write ≡ None
+    ensures none { wrote_in side.old.core applied command write ≡ None
         → ReportsWith
         at
         left
@@ -501,10 +613,10 @@ fn close_stepped(
         side.new
         (map joined_of circuits.new.items)
         (entries_in logs.new.items) }
-    ensures some { (busies : Bool) (j : model.Joined) → wrote_in side.old.core counts.applied ahead.command ahead.write ≡ Some busies
+    ensures some { (busies : Bool) (j : model.Joined) → wrote_in side.old.core applied command write ≡ Some busies
         → At (map joined_of circuits.old.items) circuit j
         → (before : Server) (h : handle.Handle) (action : Action)
-        → WasDone before h (map record_of side.old.records.items) (did.Applies busies) ahead.write ahead.parting action
+        → WasDone before h (map record_of side.old.records.items) (did.Applies busies) write parting action
         → ClosesWith
         circuit
         server
@@ -522,9 +634,8 @@ fn close_stepped(
         (entries_in logs.new.items) }
 {
     let place = circuits[circuit].lists.handled.len();
-    let wrote = wrote_of(&side.core, counts.applied, ahead.command, &ahead.write);
+    let wrote = wrote_of(&side.core, applied, command, &write);
     if let Some(busies) = wrote {
-        let Ahead { write, parting, .. } = ahead;
         tell_deed(
             circuit,
             place,

@@ -14,16 +14,16 @@ tell_removal-requires-clause-becomes c =
     let ks : List Joined = (with_items c.args.circuits.now c.prepare_losses.new.circuits).items in
     let is : ks ≡ c.prepare_losses.new.circuits = with_items_is c.args.circuits.now c.prepare_losses.new.circuits (c.prepare_losses.auto.circuits ∙ c.deref_mut.ensures.len) in
     let same : map joined_of ks ≡ map joined_of c.args.circuits.now.items = ap (map joined_of) is ∙ c.prepare_losses.ensures.same ∙ ap (map joined_of) c.deref_mut.ensures.value in
-    removal-becomes c.args.server c.args.name.now c.in-Ok.ensures.0 c.in-Ok.ensures.1.0 c.args.side.now.core c.remove_record.new.self c.args.side.now.circuits.items ks c.prepare_losses.new.circuits c.deref-3.result.now c.in_ok-leading.leading.items (map joined_of c.args.circuits.now.items)
-    c.in-Ok.ensures.1.1 c.in_ok-leading.ensures.ready is c.deref-3.ensures.value same c.requires.served
+    removal-becomes c.args.server c.args.name.now c.in-Ok.ensures.0 c.in-Ok.ensures.1.0 c.args.side.now.core c.remove_record.new.self c.args.side.now.circuits.items ks c.prepare_losses.new.circuits c.deref-in-Ok.result.now c.in_ok-leading.leading.items (map joined_of c.args.circuits.now.items)
+    c.in-Ok.ensures.1.1 c.in_ok-leading.ensures.ready is c.deref-in-Ok.ensures.value same c.requires.served
 
 pub tell_removal-requires-clause-may : goal.tell_removal-requires-clause-may
 tell_removal-requires-clause-may c =
     let ks : List Joined = (with_items c.args.circuits.now c.prepare_losses.new.circuits).items in
     let is : ks ≡ c.prepare_losses.new.circuits = with_items_is c.args.circuits.now c.prepare_losses.new.circuits (c.prepare_losses.auto.circuits ∙ c.deref_mut.ensures.len) in
     let same : map joined_of ks ≡ map joined_of c.args.circuits.now.items = ap (map joined_of) is ∙ c.prepare_losses.ensures.same ∙ ap (map joined_of) c.deref_mut.ensures.value in
-    removal-may c.args.server c.args.name.now c.in-Ok.ensures.0 c.in-Ok.ensures.1.0 c.args.side.now.core c.remove_record.new.self ks c.prepare_losses.new.circuits c.deref-3.result.now c.in_ok-leading.leading.items (map joined_of c.args.circuits.now.items)
-    c.in-Ok.ensures.1.1 c.in_ok-leading.ensures.ready is c.deref-3.ensures.value same c.requires.seated
+    removal-may c.args.server c.args.name.now c.in-Ok.ensures.0 c.in-Ok.ensures.1.0 c.args.side.now.core c.remove_record.new.self ks c.prepare_losses.new.circuits c.deref-in-Ok.result.now c.in_ok-leading.leading.items (map joined_of c.args.circuits.now.items)
+    c.in-Ok.ensures.1.1 c.in_ok-leading.ensures.ready is c.deref-in-Ok.ensures.value same c.requires.seated
 
 pub returns-in-Ok : goal.returns-in-Ok
 returns-in-Ok c =
@@ -32,9 +32,9 @@ returns-in-Ok c =
     let is : ks ≡ c.prepare_losses.new.circuits = with_items_is c.args.circuits.now c.prepare_losses.new.circuits (c.prepare_losses.auto.circuits ∙ c.deref_mut.ensures.len) in
     let same : map joined_of ks ≡ map joined_of c.args.circuits.now.items = ap (map joined_of) is ∙ c.prepare_losses.ensures.same ∙ ap (map joined_of) c.deref_mut.ensures.value in
     let told : map entry_of c.in_ok-told.told.items ≡ removed_all c.args.name.now y.records.items = c.in_ok-told.ensures ∙ ap (λ (rs : List RecordSide). removed_all c.args.name.now rs) c.deref.ensures.value in
-    remove-told c.args.server c.args.name.now c.in-Ok.ensures.0 c.in-Ok.ensures.1.0 y c.tell_removal.new.side c.remove_record.new.self ks c.prepare_losses.new.circuits c.deref-3.result.now c.in_ok-leading.leading.items (map entry_of c.in_ok-told.told.items)
+    remove-told c.args.server c.args.name.now c.in-Ok.ensures.0 c.in-Ok.ensures.1.0 y c.tell_removal.new.side c.remove_record.new.self ks c.prepare_losses.new.circuits c.deref-in-Ok.result.now c.in_ok-leading.leading.items (map entry_of c.in_ok-told.told.items)
     (map joined_of c.args.circuits.now.items) (map joined_of c.tell_removal.new.circuits.items) (entries_in c.args.logs.now.items) (entries_in c.reserve_reports.new.logs.items) (entries_in c.tell_removal.new.logs.items)
-    c.in-Ok.ensures.1.1 c.in_ok-leading.ensures.ready is c.deref-3.ensures.value same told c.reserve_reports.ensures.same c.tell_removal.ensures
+    c.in-Ok.ensures.1.1 c.in_ok-leading.ensures.ready is c.deref-in-Ok.ensures.value same told c.reserve_reports.ensures.same c.tell_removal.ensures
 
 pub returns-in-Err : goal.returns-in-Err
 returns-in-Err c =
