@@ -30,3 +30,5 @@ pub mod Additions
 pub mod ClientHearings
 pub mod Removings
 pub mod ServerSteppings
+pub mod Ended
+pub mod Waits

@@ -7,3 +7,6 @@ pub mod Halted
 pub mod Ticking
 pub mod Wide
 pub mod Adding
+pub mod Stepping
+pub mod Running
+pub mod Waiting

@@ -6,6 +6,7 @@
 
 mod accept;
 mod add;
+mod circuits;
 mod clear;
 mod client_datagram;
 mod client_restart;
@@ -23,8 +24,10 @@ mod post;
 mod pump;
 mod read;
 mod remove;
+mod running;
 mod server_datagram;
 mod server_restart;
+mod step;
 mod stopped;
 mod subscribe;
 mod tick;
@@ -39,7 +42,10 @@ pub use ca_world_data::history::{
     Ask, Cause, Entry, Intent, Kind, Line, Recorded, Sent, Step, Stored, Told,
 };
 pub use ca_world_data::settings::{ClientSetting, RuleSetting, ServerSetting};
+pub use circuits::Way;
 pub use config::Config;
+pub use running::{Ran, run};
+pub use step::AfterEvent;
 pub use stopped::Stopped;
 pub use tick::AfterTick;
 pub use world::World;
