@@ -60,8 +60,8 @@ stops-same mid e w is = is
 
 -- or the beginning of a moment
 stops-within : (mid : World) (e : Event) (w : World) → Steps mid e (Stopped w) → StopsAt mid (Some e) w × CanBe w e
-stops-within mid (Tick moment) w (n, x, le, ticks, rest) =
-    (inr (n, x, le, ticks, rest), (let same : w.moment ≡ mid.moment = ticks-moment moment mid (range_with_len 0 n) w ticks in omega (arith, le, same)))
+stops-within mid (Tick moment) w (n, x, le, ticks, at, lacks) =
+    (inr (n, x, le, ticks, at, lacks), (let same : w.moment ≡ mid.moment = ticks-moment moment mid (range_with_len 0 n) w ticks in omega (arith, le, same)))
 stops-within mid e w d = absurd d
 
 -- ---- where a run ends
