@@ -33,15 +33,16 @@ pub fn run(config: Config, events: &[Event]) -> Result<Ran, AllocError>
         r.refusal
         r.world) }
 {
+    let many = events.len();
     let mut world = World::new(config)?;
-    for place in 0..events.len() {
+    for place in 0..many {
         match world.step(&events[place]) {
             AfterEvent::Done(next) => world = next,
             AfterEvent::Refused(last, refusal) => return Ok(ended(last.stop(), place, Some(refusal))),
             AfterEvent::Stopped(last) => return Ok(ended(last, place, Some(Refusal::OutOfMemory))),
         }
     }
-    Ok(ended(world.stop(), events.len(), None))
+    Ok(ended(world.stop(), many, None))
 }
 
 // How far a run went, and what is promised there.
