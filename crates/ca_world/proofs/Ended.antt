@@ -101,3 +101,9 @@ run-stopped s es n mid e w at folds d both =
     let within = At-within es n e at in
     let stops = stops-within mid e w d in
     run-at s es n (Some e) (Some OutOfMemory) w (omega (arith, within)) at (mid, folds, stops.0) stops.1 both
+
+-- as it is handed out
+pub run-as : (s : Setting) (es : List Event) (n n' : ℕ) (o o' : Option Refusal) (w w' : World) → n' ≡ n → o' ≡ o → w' ≡ w → (IsSafeWorld w × IsLegalWorld w → HasRun s es n o w) → IsSafeWorld w' → IsLegalWorld w' → HasRun s es n' o' w'
+run-as s es n n' o o' w w' is_n is_o is_w has safe legal =
+    subst (λ (z : ℕ × (Option Refusal × World)). HasRun s es z.0 z.1.0 z.1.1) (λ t. (sym is_n t, (sym is_o t, sym is_w t)))
+    (has (subst (λ (v : World). IsSafeWorld v) is_w safe, subst (λ (v : World). IsLegalWorld v) is_w legal))

@@ -38,8 +38,14 @@ pub fn run(config: Config, events: &[Event]) -> Result<Ran, AllocError>
     for place in 0..many {
         match world.step(&events[place]) {
             AfterEvent::Done(next) => world = next,
-            AfterEvent::Refused(last, refusal) => return Ok(ended(last.stop(), place, Some(refusal))),
-            AfterEvent::Stopped(last) => return Ok(ended(last, place, Some(Refusal::OutOfMemory))),
+            AfterEvent::Refused(last, refusal) => {
+                let why = Some(refusal);
+                return Ok(ended(last.stop(), place, why));
+            }
+            AfterEvent::Stopped(last) => {
+                let why = Some(Refusal::OutOfMemory);
+                return Ok(ended(last, place, why));
+            }
         }
     }
     Ok(ended(world.stop(), many, None))
