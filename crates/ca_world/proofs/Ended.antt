@@ -6,6 +6,7 @@ use Rattle.ca_text.specs.declared.refusal.Refusal.{Refusal}
 use Rattle.ca_text.specs.declared.refusal.Refusal.TheVariants.{BadEvent, OutOfMemory}
 use Rattle.ca_text.specs.Place.{At}
 use Rattle.ca_text.proofs.Places.{At-within, some_is}
+use Rattle.ca_events.specs.Events.{moment_of}
 use Rattle.ca_model_safe.specs.Worlds.{IsLegalWorld, IsSafeWorld}
 use Rattle.ca_model_world.specs.ClientEvents.{TicksOne}
 use Rattle.ca_model_world.specs.Events.{Event, Tick}
@@ -42,6 +43,12 @@ take-next (z ∷ xs) (suc i) x at = (let e : suc i + 1 ≡ suc (i + 1) = omega a
 pub ran-next : (s : Setting) (es : List Event) (n : ℕ) (w new : World) (e : Event) → At es n e → FoldsTo Happens (opening s) (take n es) w → Happens w e new → FoldsTo Happens (opening s) (take (n + 1) es) new
 ran-next s es n w new e at folds happens =
     subst (λ (xs : List Event). FoldsTo Happens (opening s) xs new) (sym (take-next es n e at)) (folds-snoc (take n es) (opening s) w new e folds happens)
+
+-- ---- moments
+
+pub moment-is : (e : Event) (moment : ℕ) → moment_of e ≡ Some moment → e ≡ Tick moment
+moment-is (Tick n) moment is = ap Tick (some_is n moment is)
+moment-is e moment is = absurd cc
 
 -- ---- the event at which a run stopped
 
