@@ -1,5 +1,6 @@
 -- Bytes that wait on a world's circuits, by the ends that were found.
 use Rattle.std.proofs.Common.{◌≡◌, ℕ, ◌<◌, true, List, length, map, sym, ap, subst, ◌∙◌, arith}
+use Rattle.std.specs.Prelude.{◌↔◌, IsTrue}
 use Rattle.std.proofs.lemmas.List.{length-map}
 use Rattle.ca_text.specs.Place.{At}
 use Rattle.ca_text.proofs.Places.{At-map, At-one, At-within}
@@ -98,3 +99,16 @@ module _ (cs : List ClientSide) (ss : List ServerSide) (ks : List Joined) (cl : 
           joins = joins cs ss ks cl sl m k j x.0 y at (subst (λ (z : Ends). At cs z.client x.0) is x.1) (subst (λ (z : Ends). At ss z.server y) is server);
           many = many;
         }
+
+    -- the same of a world that is seen so, with the way as a variable
+    pub receives-up : (v : model.World) (way : Way) → w ≡ v → way ≡ Up → IsTrue e.server_open ↔ Receives v k way
+    receives-up v way is way_is = subst (λ (z : model.World × Way). IsTrue e.server_open ↔ Receives z.0 k z.1) (λ t. (is t, sym way_is t)) (server-there, server-opened)
+
+    pub receives-down : (v : model.World) (way : Way) → w ≡ v → way ≡ Down → IsTrue e.client_open ↔ Receives v k way
+    receives-down v way is way_is = subst (λ (z : model.World × Way). IsTrue e.client_open ↔ Receives z.0 k z.1) (λ t. (is t, sym way_is t)) (client-there, client-opened)
+
+    pub waited-up : (v : model.World) (way : Way) → w ≡ v → way ≡ Up → (j : Joined) (x : ClientSide) (n : ℕ) → At ks k j → At cs e.client x → n ≡ length (waiting_up (client_of x) (joined_of j)) → Waits v k way n
+    waited-up v way is way_is j x n at client many = subst (λ (z : model.World × Way). Waits z.0 k z.1 n) (λ t. (is t, sym way_is t)) (waits-up j x n at client many)
+
+    pub waited-down : (v : model.World) (way : Way) → w ≡ v → way ≡ Down → (j : Joined) (y : ServerSide) (n : ℕ) → At ks k j → At ss e.server y → n ≡ length (waiting_down (server_of y) (joined_of j)) → Waits v k way n
+    waited-down v way is way_is j y n at server many = subst (λ (z : model.World × Way). Waits z.0 k z.1 n) (λ t. (is t, sym way_is t)) (waits-down j y n at server many)
