@@ -10,7 +10,7 @@ use Rattle.ca_events.specs.Events.{moment_of}
 use Rattle.ca_model_safe.specs.Worlds.{IsLegalWorld, IsSafeWorld}
 use Rattle.ca_model_world.specs.ClientEvents.{TicksOne}
 use Rattle.ca_model_world.specs.Events.{Event, Tick}
-use Rattle.ca_model_world.specs.Runs.{CanBe, Happens, Runs, StopsAt, TicksAll, TicksBefore}
+use Rattle.ca_model_world.specs.Runs.{CanBe, Happens, Runs, StopsAt, TicksAll}
 use Rattle.ca_model_world.specs.World.{Setting, World, opening}
 use Rattle.ca_laws_follows.proofs.Promised.{promised}
 use Rattle.ca_laws_held.proofs.Joint.{folds-snoc}

@@ -1,7 +1,5 @@
-use Rattle.std.proofs.Common.{ℕ, List, sym, subst, arith}
+use Rattle.std.proofs.Common.{ℕ, sym, subst, arith}
 use Rattle.ca_model_world.specs.World.{World}
-use Rattle.ca_world.specs.declared.circuits.Way.{Way}
-use Rattle.ca_world.specs.declared.circuits.Way.TheVariants.{Down, Up}
 use Rattle.ca_world.specs.Waiting.{Receives}
 use Rattle.ca_world_data.specs.Logs.{lines_in}
 use Rattle.ca_world_data.specs.Opening.{entries_in}
