@@ -38,3 +38,5 @@ pub mod StepNumbers
 pub mod StepPrepared
 pub mod StepNotes
 pub mod StepWorlds
+pub mod Ended
+pub mod Waits

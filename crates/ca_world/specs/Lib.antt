@@ -9,3 +9,6 @@ pub mod Wide
 pub mod Adding
 pub mod ServerStepping
 pub mod StepParts
+pub mod Stepping
+pub mod Running
+pub mod Waiting
