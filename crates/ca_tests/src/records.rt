@@ -1,10 +1,10 @@
+//! Records of a server, of which the Nth growth may be refused.
 use ca_arena::Handle;
 use ca_dbr::Value;
 use ca_records::{Begun, Put, ServedRecords};
 use ca_script::{RecordFile, read_records};
 use ca_text::Refusal;
 use std::alloc::Global;
-use std::test::Fail;
 
 /// TEMP, and SLOW, on which puts take time, each of one LONG; and rules.
 const FILE: &[u8] = b"record TEMP LONG 1 quick 21
@@ -89,18 +89,17 @@ fn own_int(alloc: Global, number: i16) -> Result<Value, Refusal> {
     }
 }
 
-// Run it too with the Nth growth refused, for each N from 1 to 26: `rt try --test --fail-alloc N`.
-#[test]
-fn refused_growth_of_a_file_is_out_of_memory(rt: HostRuntime) -> Result<(), Fail> {
-    let served = match served_of_file(rt.alloc()) {
-        Ok(served) => served,
-        Err(refusal) => {
-            assert!(rt; refusal == Refusal::OutOfMemory);
-            served_of_file(rt.alloc())?
-        }
-    };
-    assert!(rt; served.has(b"TEMP") && served.has(b"SLOW"));
-    Ok(())
+/// Whether the records of a file are made, and a growth that is refused is out of memory. It makes 26.
+pub(crate) fn refused_growth_of_a_file_is_out_of_memory(alloc: Global) -> Result<bool, Refusal> {
+    match served_of_file(alloc) {
+        Ok(served) => Ok(has_both(&served)),
+        Err(Refusal::OutOfMemory) => Ok(has_both(&served_of_file(alloc)?)),
+        Err(_) => Ok(false),
+    }
+}
+
+fn has_both(served: &ServedRecords) -> bool {
+    served.has(b"TEMP") & served.has(b"SLOW")
 }
 
 /// SLOW, on which puts take time, and the put that makes it busy.
@@ -114,39 +113,56 @@ fn busy_served(alloc: Global) -> Result<ServedRecords, Refusal> {
     Ok(served)
 }
 
-// Run it too with the Nth growth refused, for each N from 1 to 20: `rt try --test --fail-alloc N`.
-#[test]
-fn refused_growth_leaves_records(rt: HostRuntime) -> Result<(), Fail> {
-    let mut served = busy_served(rt.alloc())?;
-    let one = own_long(rt.alloc(), 1)?;
-    let waits = Some(put_of(1));
-    if let Err(refusal) = write(&mut served, b"SLOW", waits, own_int(rt.alloc(), 2)?) {
-        assert!(rt; refusal == Refusal::OutOfMemory);
-        assert!(rt; has(&served, b"SLOW", &one, true, 0));
-        write(&mut served, b"SLOW", waits, own_int(rt.alloc(), 2)?)?;
-    }
-    assert!(rt; has(&served, b"SLOW", &one, true, 1));
-    if let Err(refusal) = write(&mut served, b"SLOW", None, own_int(rt.alloc(), 3)?) {
-        assert!(rt; refusal == Refusal::OutOfMemory);
-        assert!(rt; has(&served, b"SLOW", &one, true, 1));
-        write(&mut served, b"SLOW", None, own_int(rt.alloc(), 3)?)?;
-    }
-    if let Err(refusal) = served.add(b"NEW", 1, false, own_long(rt.alloc(), 4)?) {
-        assert!(rt; refusal == Refusal::OutOfMemory && !served.has(b"NEW"));
-        served.add(b"NEW", 1, false, own_long(rt.alloc(), 4)?)?;
-    }
-    assert!(rt; has(&served, b"SLOW", &own_long(rt.alloc(), 3)?, true, 1));
-    assert!(rt; has(&served, b"NEW", &own_long(rt.alloc(), 4)?, false, 0));
-    Ok(())
+/// Whether a growth that is refused leaves records as they were. It makes 20.
+pub(crate) fn refused_growth_leaves_records(alloc: Global) -> Result<bool, Refusal> {
+    let mut served = busy_served(alloc)?;
+    let one = own_long(alloc, 1)?;
+    let waits = writes_two(alloc, &mut served, &one)?;
+    let plain = writes_three(alloc, &mut served, &one)?;
+    let added = adds_four(alloc, &mut served)?;
+    Ok(waits & plain & added & has_three_and_four(alloc, &served)?)
 }
 
-#[test]
-fn a_place_that_became_free_is_taken_first(rt: HostRuntime) -> Result<(), Fail> {
-    let mut served = served_of_file(rt.alloc())?;
-    assert!(rt; served.remove(b"TEMP") == Ok(0));
-    for (name, place) in [(b"A".as_slice(), 0), (b"B", 2)] {
-        let added = served.add(name, 1, false, long(rt.alloc(), 5)?);
-        assert!(rt; added == Ok(place));
+/// A put that waits: whether SLOW is as it was where its growth is refused, and else one waits.
+fn writes_two(alloc: Global, served: &mut ServedRecords, one: &Value) -> Result<bool, Refusal> {
+    let waits = Some(put_of(1));
+    let mut left = true;
+    if let Err(refusal) = write(served, b"SLOW", waits, own_int(alloc, 2)?) {
+        left = (refusal == Refusal::OutOfMemory) & has(served, b"SLOW", one, true, 0);
+        write(served, b"SLOW", waits, own_int(alloc, 2)?)?;
     }
-    Ok(())
+    Ok(left & has(served, b"SLOW", one, true, 1))
+}
+
+/// The same for a plain write.
+fn writes_three(alloc: Global, served: &mut ServedRecords, one: &Value) -> Result<bool, Refusal> {
+    let mut left = true;
+    if let Err(refusal) = write(served, b"SLOW", None, own_int(alloc, 3)?) {
+        left = (refusal == Refusal::OutOfMemory) & has(served, b"SLOW", one, true, 1);
+        write(served, b"SLOW", None, own_int(alloc, 3)?)?;
+    }
+    Ok(left)
+}
+
+/// The same for a record that is added.
+fn adds_four(alloc: Global, served: &mut ServedRecords) -> Result<bool, Refusal> {
+    let mut left = true;
+    if let Err(refusal) = served.add(b"NEW", 1, false, own_long(alloc, 4)?) {
+        left = (refusal == Refusal::OutOfMemory) & !served.has(b"NEW");
+        served.add(b"NEW", 1, false, own_long(alloc, 4)?)?;
+    }
+    Ok(left)
+}
+
+fn has_three_and_four(alloc: Global, served: &ServedRecords) -> Result<bool, Refusal> {
+    let three = has(served, b"SLOW", &own_long(alloc, 3)?, true, 1);
+    Ok(three & has(served, b"NEW", &own_long(alloc, 4)?, false, 0))
+}
+
+pub(crate) fn a_place_that_became_free_is_taken_first(alloc: Global) -> Result<bool, Refusal> {
+    let mut served = served_of_file(alloc)?;
+    let removed = served.remove(b"TEMP") == Ok(0);
+    let first = served.add(b"A", 1, false, long(alloc, 5)?) == Ok(0);
+    let second = served.add(b"B", 1, false, long(alloc, 5)?) == Ok(2);
+    Ok(removed & first & second)
 }
