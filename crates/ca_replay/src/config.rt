@@ -1,13 +1,22 @@
+ghost use Rattle.std.specs.Prelude.{◌≡◌, IfErr, IfOk};
+ghost use Rattle.ca_text.specs.declared.refusal.Refusal.TheVariants.{OutOfMemory};
+ghost use Rattle.ca_replay.specs.Settings.{AreFresh};
+
 use ca_text::Refusal;
 use ca_world::{ClientSetting, Config, ServerSetting};
 use std::alloc::Global;
 
-/// The world of these clients and servers. Refused as BadText if two servers have one address, and as OutOfMemory.
-pub fn config_of(
+// The clients and the servers of a world, which have addresses of their own. Refused as OutOfMemory.
+pub(crate) fn config_of(
     alloc: Global,
     clients: Vec<ClientSetting>,
     servers: Vec<ServerSetting>,
-) -> Result<Config, Refusal> {
+) -> Result<Config, Refusal>
+    requires { AreFresh servers.items }
+    ensures ok { IfOk result (λ c.
+        c ≡ record { clients = clients.items; servers = servers.items }) }
+    ensures err { IfErr result (λ e. e ≡ OutOfMemory) }
+{
     let mut config = Config::new(alloc);
     for client in clients {
         config.add_client(client)?;

@@ -5,6 +5,5 @@ mod lives;
 mod logs;
 mod report;
 
-pub use lives::{lives_of, restarted_by};
 pub use logs::{write_lives, write_log};
 pub use report::write_report;
