@@ -1,4 +1,5 @@
 -- Which events of the statement the program's events are.
+use Rattle.std.specs.Prelude.{ℕ, Option, Some, None}
 use Rattle.ca_dbr.specs.Elements.{elements}
 use Rattle.ca_events.specs.declared.event.Event.{Event}
 use Rattle.ca_events.specs.declared.event.Event.TheVariants as event
@@ -34,3 +35,8 @@ event_of (event.Remove server name) = world.Remove server name.items
 event_of (event.Add server name count slow v) =
     world.Add server (record { name = name.items; count = count; slow = slow; value = elements v; meta = unset })
 event_of (event.Tick moment) = world.Tick moment
+
+-- the moment that an event hands to all clients, if it does that
+abbrev pub moment_of : world.Event → Option ℕ
+moment_of (world.Tick moment) = Some moment
+moment_of e = None

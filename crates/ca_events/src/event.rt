@@ -1,6 +1,6 @@
-ghost use Rattle.std.specs.Prelude.{◌<◌};
+ghost use Rattle.std.specs.Prelude.{◌≡◌, ◌<◌};
 ghost use Rattle.ca_text.specs.Mask.{HasEvent};
-ghost use Rattle.ca_events.specs.Events.{event_of};
+ghost use Rattle.ca_events.specs.Events.{event_of, moment_of};
 ghost use Rattle.ca_model_world.specs.Runs.{IsEvent};
 
 use ca_client_tables::Address;
@@ -152,6 +152,16 @@ impl Event {
             }
             Event::Add { value, .. } => value.know(),
             _ => {}
+        }
+    }
+
+    /// The moment that it hands to all clients, if it does that.
+    pub fn moment(&self) -> Option<u64>
+        ensures { result ≡ moment_of (event_of self.now) }
+    {
+        match self {
+            Event::Tick { moment } => Some(*moment),
+            _ => None,
         }
     }
 }
