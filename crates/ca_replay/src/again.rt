@@ -1,4 +1,4 @@
-ghost use Rattle.std.specs.Prelude.{◌≡◌, IfOk, option_map};
+ghost use Rattle.std.specs.Prelude.{◌≡◌, IfOk, map, option_map};
 ghost use Rattle.ca_world_data.specs.Settings.{rule_of};
 
 use ca_world::{ClientSetting, RuleSetting, ServerSetting};
@@ -49,12 +49,20 @@ pub(crate) fn servers_again(
 fn server_again(alloc: Global, server: &ServerSetting) -> Result<ServerSetting, AllocError>
     ensures { IfOk result (λ y. y ≡ server.now) }
 {
-    let mut rules = Vec::new(alloc);
-    for rule in &server.rules {
-        rules.push(rule_again(alloc, rule)?)?;
-    }
+    let rules = rules_again(alloc, &server.rules)?;
     let records = server.records.copy()?;
     Ok(ServerSetting::new(server.address, rules, records))
+}
+
+// These rules again.
+fn rules_again(alloc: Global, rules: &[RuleSetting]) -> Result<Vec<RuleSetting>, AllocError>
+    ensures { IfOk result (λ all. map rule_of all.items ≡ map rule_of rules.now) }
+{
+    let mut all = Vec::new(alloc);
+    for rule in rules {
+        all.push(rule_again(alloc, rule)?)?;
+    }
+    Ok(all)
 }
 
 // The same rule again.

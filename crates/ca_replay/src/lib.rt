@@ -4,6 +4,6 @@
 mod again;
 mod config;
 mod draw;
-mod replay;
+mod replaying;
 
-pub use replay::replay;
+pub use replaying::replay;

@@ -3,7 +3,7 @@ ghost use Rattle.ca_text.specs.declared.refusal.Refusal.TheVariants.{OutOfMemory
 ghost use Rattle.ca_events.specs.Events.{event_of};
 ghost use Rattle.ca_world_script.specs.Scripts.{RefusesScript};
 ghost use Rattle.ca_replay.specs.Drawing.{DrawsAlong};
-ghost use Rattle.ca_replay.specs.Replayed.{Reported, Reports};
+ghost use Rattle.ca_replay.specs.Replayed.{AreRun, Reported, Reports};
 ghost use Rattle.ca_replay.specs.Settings.{AreFresh};
 
 use crate::again::{clients_again, servers_again};
@@ -31,12 +31,31 @@ pub fn replay(
         servers,
         events,
     } = read_script(alloc, script)?;
-    let events = match seed {
-        None => events,
-        Some(seed) => draw_in(alloc, &clients, &servers, events, seed)?,
-    };
+    let events = events_run(alloc, &clients, &servers, events, seed)?;
     let config = config_of(alloc, clients, servers)?;
     run_all(alloc, config, &events)
+}
+
+// The events that are run: those of a script, with those that the seed draws if there is one.
+fn events_run(
+    alloc: Global,
+    clients: &[ClientSetting],
+    servers: &[ServerSetting],
+    events: Vec<Event>,
+    seed: Option<u64>,
+) -> Result<Vec<Event>, Refusal>
+    requires { AreFresh servers.now }
+    ensures ok { IfOk result (λ all. AreRun
+        (record { clients = clients.now; servers = servers.now })
+        seed
+        (map event_of events.items)
+        (map event_of all.items)) }
+    ensures err { IfErr result (λ e. e ≡ OutOfMemory) }
+{
+    match seed {
+        None => Ok(events),
+        Some(seed) => draw_in(alloc, clients, servers, events, seed),
+    }
 }
 
 // The events of a script with those that a seed draws, in a world of these clients and servers.
