@@ -1,2 +1,3 @@
 mod Folding
 mod Fresh
+mod Goings
