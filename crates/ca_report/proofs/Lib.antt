@@ -1,1 +1,2 @@
+mod Ranges
 pub mod Tellings
