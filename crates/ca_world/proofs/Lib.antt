@@ -38,3 +38,4 @@ pub mod StepNumbers
 pub mod StepPrepared
 pub mod StepNotes
 pub mod StepWorlds
+pub mod StepClosed
