@@ -32,6 +32,7 @@ pub mod Removings
 pub mod Seating
 pub mod ServerSteppings
 pub mod EndsClosed
+pub mod StepFacts
 pub mod StepLaws
 pub mod StepLists
 pub mod StepNumbers
