@@ -1,5 +1,5 @@
 -- A message was handled, and what it did is told and noted: that is a step of its server's end.
-use Rattle.std.proofs.Common.{◌≡◌, ◌++◌, ◌==◌, ◌&&◌, ℕ, Bool, true, List, [], ◌∷◌, Option, Some, None, length, refl, sym, ap, subst, ◌∙◌, inl}
+use Rattle.std.proofs.Common.{◌≡◌, ◌++◌, ◌==◌, ◌&&◌, ℕ, true, List, [], ◌∷◌, Option, Some, None, length, refl, sym, ap, subst, ◌∙◌, inl}
 use Rattle.std.specs.Prelude.{map, option_map, slice_get, slice_set, unwrap_or}
 use Rattle.std.proofs.lemmas.List.{length-map}
 use Rattle.ca_arena.specs.declared.handle.Handle.{Handle}
@@ -12,15 +12,19 @@ use Rattle.ca_model.specs.History as history
 use Rattle.ca_model.specs.Server.{Server, ServerEnd}
 use Rattle.ca_model.specs.ServerSteps.{HasEnd}
 use Rattle.ca_model_world.specs.ServerEvents.{about, ending, ends_at, ends_by, handled_at, left_by, logged_by, numbers_after, records_after, reported, withdrawals, without_puts, write_numbers}
-use Rattle.ca_model_world.specs.World.{Joined, PutPlace, RecordSide, ServerSide as Side, grown, log_length}
+use Rattle.ca_model_world.specs.World.{Joined, RecordSide, ServerSide as Side, grown, log_length}
+use Rattle.ca_world.specs.declared.server_step.Counts.{Counts}
 use Rattle.ca_world.specs.declared.server_step.Prepared.{Prepared}
-use Rattle.ca_world.specs.ServerStepping.{HandlesAt, circuits_noted, put_place, with_lists}
-use Rattle.ca_world.specs.StepParts.{AreAside, IsHandled, IsPrepared, NotesAt}
+use Rattle.ca_world.specs.ServerStepping.{HandlesAt, StepsAt, put_place, with_lists}
+use Rattle.ca_world.specs.StepParts.{AreAside, IsHandled, IsPrepared, MayStep, NotesAt}
 use Rattle.ca_world_data.specs.declared.server.ServerSide.{ServerSide}
 use Rattle.ca_world_data.specs.Reporting.{gone_at}
 use Rattle.ca_world_data.specs.Seen.{record_of, server_of, step_of, told_of}
+use Rattle.ca_world_servers.specs.declared.ahead.Ahead.{Ahead}
+use Rattle.ca_world_servers.specs.Deeds.{WasDone}
 use Rattle.ca_world_servers.specs.Handling.{with_handled}
 use Rattle.ca_world.proofs.Downward.{at-set, set-set}
+use Rattle.ca_world.proofs.StepFacts.{was-done}
 use Rattle.ca_world.proofs.StepLists.{ending-aside, ending-lists, gone-aside, write-lists}
 use Rattle.ca_world.proofs.StepNumbers.{gone-agree, quits-by, writes-agree}
 
@@ -185,3 +189,17 @@ handled-at k j before y y' ks noted ks' logs logs' e d r new has at prepared asi
           prepared.told aside.down aside.handled (λ t. record { sent = sent t; logged = log_length y.life logs; after = log_length y.life logs' })
           n.over over n.x n.at;
     }
+
+-- The same of the circuit at that place, whatever it is called.
+pub step-handled : (k i : ℕ) (x : Joined) (before : Server) (y y' : ServerSide) (ks noted ks' : List Joined) (logs logs' : List (List history.Entry)) (rs : List RecordSide) (a : Ahead) (c : Counts) (r : Prepared) (new : Joined)
+    → At ks k x → ((m : MayStep i before x ks rs a c) (d : IsHandled before y.core x.at_server m.e) → IsPrepared before m.e x d.next r new) → AreAside x r → noted ≡ slice_set ks k new
+    → ((h : Handle) (action : Action) → WasDone before h rs r.deed a.write a.parting action → NotesAt k i before h action r y noted logs y' ks' logs')
+    → (j : Joined) → At ks k j → (m : MayStep i before j ks rs a c) → IsHandled before y.core j.at_server m.e
+    → StepsAt k j (record (server_of y) { core = before }) ks logs (server_of y') ks' logs'
+step-handled k i x before y y' ks noted ks' logs logs' rs a c r new here prepared aside is notes j at =
+    subst (λ (z : Joined). (m : MayStep i before z ks rs a c) → IsHandled before y.core z.at_server m.e → StepsAt k z (record (server_of y) { core = before }) ks logs (server_of y') ks' logs')
+    (At-one ks k x j here at)
+    (λ m d.
+        let p = prepared m d in
+        let n : NotesAt k i before x.at_server d.next.action r y noted logs y' ks' logs' = notes x.at_server d.next.action (was-done before y.core i x ks rs a c m d r.deed p.did) in
+        inl (handled-at k x before y y' ks noted ks' logs logs' m.e d r new m.has here p aside is (subst (λ (i : ℕ). NotesAt k i before x.at_server d.next.action r y noted logs y' ks' logs') (sym m.mine) n)))
