@@ -33,6 +33,7 @@ pub mod Seating
 pub mod ServerSteppings
 pub mod EndsClosed
 pub mod StepFacts
+pub mod StepHandled
 pub mod StepLaws
 pub mod StepLists
 pub mod StepNumbers
