@@ -1,36 +1,48 @@
 -- A step of a server's end, if the end closed in it: what is left, from what is told of it.
-use Rattle.std.proofs.Common.{◌≡◌, ℕ, zero, suc, ◌==◌, ◌&&◌, inl, inr, Bool, true, false, List, [], ◌∷◌, ◌++◌, Option, Some, None, length, refl, sym, ap, subst, ◌∙◌}
-use Rattle.std.specs.Prelude.{map, slice_set, take}
+use Rattle.std.proofs.Common.{◌≡◌, ◌≢◌, ℕ, zero, suc, ◌&&◌, inl, inr, Bool, true, false, nat_eq, List, [], ◌∷◌, ◌++◌, Option, Some, None, length, refl, sym, ap, subst, arith, ◌∙◌}
+use Rattle.std.specs.Prelude.{if◌then◌else◌, map, slice_set, take}
+use Rattle.std.proofs.lemmas.Bool.{le-ltb}
+use Rattle.std.proofs.lemmas.List.{append-nil}
 use Rattle.ca_arena.specs.declared.handle.Handle.{Handle}
 use Rattle.ca_ids.specs.Table.{same_handle, under, with_freed}
-use Rattle.ca_queue.specs.declared.entry.SubKey.{SubKey}
 use Rattle.ca_records.specs.declared.puts.Put.{Put}
+use Rattle.ca_text.specs.Command.{command_number}
+use Rattle.ca_text.specs.declared.command.Command.TheVariants as command
 use Rattle.ca_text.specs.Place.{At}
 use Rattle.ca_text.proofs.Places.{some_is}
+use Rattle.ca_wire.specs.Message.{spelled}
 use Rattle.ca_model.specs.Due.{Action, Adds, Applies, Clears, Drops, Greets, Names, Nothing, Opens, Switches, Waits}
 use Rattle.ca_model.specs.Ends as why
+use Rattle.ca_model.specs.Ends.{Why}
 use Rattle.ca_model.specs.History.{Entry}
 use Rattle.ca_model.specs.Server.{Ended, Open, Server, ServerCircuit, ServerEnd}
-use Rattle.ca_model.specs.ServerSteps.{HasEnd, LacksMemory, LeftOf, NeedsMemory, Next, closed, is_write, output_of}
+use Rattle.ca_model.specs.ServerSteps.{HasEnd, LacksMemory, LeftOf, NeedsMemory, Next, StepsOpen, closed, is_write, output_of}
+use Rattle.ca_model.specs.ServerSteps as stepped
 use Rattle.ca_model_client.proofs.Tables.{freed-back}
 use Rattle.ca_model_world.specs.ServerEvents.{ending, ends_at, ends_here, logged_by, numbers_after, records_after, reported, withdrawals, without_puts, write_numbers}
 use Rattle.ca_model_world.specs.World.{Joined, PutPlace, RecordSide, ServerSide, grown}
+use Rattle.ca_laws_bytes.proofs.ServerEnds.{next-own, reaches-stays}
 use Rattle.ca_server_core.proofs.Servers.{freed-changed}
+use Rattle.ca_world.proofs.EndsClosed.{ends-closed}
 use Rattle.ca_world.proofs.ServerSteppings.{clears-same, closed-same}
+use Rattle.ca_world.proofs.StepFacts.{alike-wrote}
 use Rattle.ca_world.proofs.StepNumbers.{gone-agree, quits-here, writes-agree}
-use Rattle.ca_world.specs.ServerStepping.{LacksAs, LacksAt, Quits, circuits_acted, logs_acted, put_place, records_acted}
-use Rattle.ca_world.specs.StepParts.{ClosesWith, IsHandled}
+use Rattle.ca_world.specs.ServerStepping.{BreaksAt, LacksAs, LacksAt, Quits, RestsAt, StepsAt, circuits_acted, logs_acted, records_acted}
+use Rattle.ca_world.specs.declared.server_step.Counts.{Counts}
+use Rattle.ca_world.specs.StepParts.{ClosesWith, IsHandled, MayStep}
 use Rattle.ca_world_data.specs.declared.server.ServerSide.{ServerSide as Side}
 use Rattle.ca_world_data.specs.Numbering.{AllAlike, IsAlike}
-use Rattle.ca_world_data.specs.Seen.{server_of}
+use Rattle.ca_world_data.specs.Seen.{record_of, server_of}
 use Rattle.ca_world_data.specs.ServerCuts.{cut_core}
-use Rattle.ca_world_servers.specs.Deeds.{TellsDeed, busies_of}
+use Rattle.ca_world_servers.specs.Deeds.{WasDone, busies_of, is_busy_in, wrote_in}
+use Rattle.ca_world_servers.specs.declared.ahead.Ahead.{Ahead}
+use Rattle.ca_world_servers.specs.declared.deeds.Deed.TheVariants as deed
 use Rattle.ca_world_servers.specs.EndsWith.{ReportsWith, ends_under}
-use Rattle.ca_world_servers.proofs.Dealt.{left_written}
+use Rattle.ca_world_servers.proofs.Dealt.{deed-written, left_written, wrote-lacks}
 
 -- ---- lists and actions
 
-set-same : {A : Type 0} (xs : List A) (k : ℕ) (x : A) → At xs k x → slice_set xs k x ≡ xs
+pub set-same : {A : Type 0} (xs : List A) (k : ℕ) (x : A) → At xs k x → slice_set xs k x ≡ xs
 set-same [] k x at = refl
 set-same (z ∷ xs) zero x at = ap (λ (v : _). v ∷ xs) (sym (some_is z x at))
 set-same (z ∷ xs) (suc k) x at = ap (λ (t : List _). z ∷ t) (set-same xs k x at)
@@ -60,6 +72,10 @@ written-busies (Opens c) is = absurd cc
 written-busies (Adds s) is = absurd cc
 written-busies (Drops key) is = absurd cc
 written-busies (Switches on) is = absurd cc
+
+take-first : {A : Type 0} (xs ys : List A) → take (length xs) (xs ++ ys) ≡ xs
+take-first [] ys = refl
+take-first (x ∷ xs) ys = ap (λ (t : List _). x ∷ t) (take-first xs ys)
 
 -- ---- what is left of the core
 
@@ -168,3 +184,166 @@ module _ (k i : ℕ) (j : Joined) (mine : j.server ≡ i) (before : Server) (e :
           (subst (λ (s : ServerSide). Left j.at_server e.link.output j.server s c.circuits c.told (server_of y') ks' logs') told.side there)) in
           quits-some k j before e has e.link.output (server_of y) ks at logs (server_of y') ks' logs' lacks.next gone lacks.mid left_of lacks.leaves
           (subst (λ (n : ℕ). Left j.at_server e.link.output j.server (record (server_of y) { records = R }) (map (write_numbers n y.core lacks.next.action) ks) (grown y.life (logged_by before j.at_server p lacks.next.action (server_of y).records) logs) (server_of y') ks' logs') (sym mine) at_told)
+
+-- ---- an end that lacks memory
+
+module _ (before core : Server) (i : ℕ) (j : Joined) (ks : List Joined) (rs : List RecordSide) (a : Ahead) (c : Counts) (m : MayStep i before j ks rs a c) (l : LacksMemory before j.at_server m.e core) where
+  -- whether its message wrote
+  lacks-wrote : wrote_in core c.applied a.command a.write ≡ left_written l.written l.next.action
+  lacks-wrote =
+      let ahead = m.ahead l.next in
+      (λ t. wrote_in core (m.counts.applied t) (ahead.command t) a.write)
+      ∙ wrote-lacks before j.at_server m.e m.has m.counts.few l.next l.written l.mid core l.left_is l.leaves rs a.write a.parting ahead.foreseen
+
+  lacks-busies : (busies : Bool) → wrote_in core c.applied a.command a.write ≡ Some busies → busies_of l.next.action ≡ Some busies
+  lacks-busies busies is = go l.written (sym lacks-wrote ∙ is)
+    where
+      go : (written : Option (Handle → Bool)) → left_written written l.next.action ≡ Some busies → busies_of l.next.action ≡ Some busies
+      go None is = absurd cc
+      go (Some gone) is = is
+
+  -- the write that is told then
+  pub lacks-done : (busies : Bool) → wrote_in core c.applied a.command a.write ≡ Some busies → WasDone before j.at_server rs (deed.Applies busies) a.write a.parting l.next.action
+  lacks-done busies is =
+      let ahead = m.ahead l.next in
+      record {
+        e = m.e;
+        has = m.has;
+        m = l.next.m;
+        replies = l.next.replies;
+        due = l.next.handles.due;
+        is = deed-written l.next.action busies (lacks-busies busies is);
+        foreseen = ahead.foreseen;
+        beside = m.beside;
+        apart = m.apart;
+        unstamped = m.unstamped;
+      }
+
+  pub lacks-alike : (busies : Bool) → wrote_in core c.applied a.command a.write ≡ Some busies → AllAlike i core ks
+  lacks-alike busies is = go l.written l.left_is (sym lacks-wrote ∙ is)
+    where
+      go : (written : Option (Handle → Bool)) → LeftOf l.next written l.mid → left_written written l.next.action ≡ Some busies → AllAlike i core ks
+      go None left is = absurd cc
+      go (Some gone) left is =
+          subst (λ (z : Server). AllAlike i z ks) (sym l.leaves)
+          (alike-closed i l.mid j.at_server ks (alike-wrote before j.at_server m.e m.has l.next gone l.mid left.1 left.0 i ks m.alike))
+
+-- ---- an end that closed
+
+-- what a step does at an open end
+pub open-steps : (y : Server) (h : Handle) (e : ServerEnd) (did : stepped.Stepped) (new : Server) → HasEnd y h e → stepped.Steps y h did new → StepsOpen y h e did new
+open-steps y h e did new has steps = subst (λ (o : Option ServerCircuit). stepped.StepsAt y h o did new) has steps
+
+pub handled-step : (y : Server) (h : Handle) (e : ServerEnd) (new : Server) → HasEnd y h e → stepped.Steps y h stepped.Handled new → IsHandled y new h e
+handled-step y h e new has steps = (let s = open-steps y h e stepped.Handled new has steps in record { next = s.0; gone = s.1; stays = s.2; reaches = s.3 })
+
+module _ (before core : Server) (i : ℕ) (j : Joined) (ks : List Joined) (rs : List RecordSide) (a : Ahead) (c : Counts) (m : MayStep i before j ks rs a c) where
+  -- a server as it was, but for an end that closed, did not write
+  unwritten : core ≡ closed j.at_server before → wrote_in core c.applied a.command a.write ≡ None
+  unwritten is =
+      let applied : core.applied ≡ c.applied = ap (λ (z : Server). z.applied) is ∙ sym m.counts.applied in
+      ap (λ (b : Bool). if b then Some (nat_eq a.command (command_number command.WriteNotify) && is_busy_in core a.write) else None) (le-ltb c.applied core.applied (omega (arith, applied)))
+
+  none-some : (b : Bool) → (let n : Option Bool = None in n ≡ Some b) → ⊥
+  none-some b e = cc
+
+  -- one that wrote closed out of memory
+  pub closed-wrote : (left : List ℕ) (cause : Why) → StepsOpen before j.at_server m.e (stepped.Closed cause left) core → (busies : Bool) → wrote_in core c.applied a.command a.write ≡ Some busies → LacksMemory before j.at_server m.e core
+  closed-wrote left why.OutOfMemory steps busies is = steps.1
+  closed-wrote left why.Misaligned steps busies is = absurd (none-some busies (sym (unwritten steps.3) ∙ is))
+  closed-wrote left why.TooLarge steps busies is = absurd (none-some busies (sym (unwritten steps.3) ∙ is))
+  closed-wrote left why.Silence steps busies is = absurd (none-some busies (sym (unwritten steps.3) ∙ is))
+  closed-wrote left why.Asked steps busies is = absurd (none-some busies (sym (unwritten steps.3) ∙ is))
+  closed-wrote left why.Cut steps busies is = absurd (none-some busies (sym (unwritten steps.3) ∙ is))
+
+-- ---- an end that closed, by what is told of it
+
+module _ (k i : ℕ) (before : Server) (j : Joined) (y : Side) (ks : List Joined) (at : At ks k j) (a : Ahead) (c : Counts) (m : MayStep i before j ks (map record_of y.records.items) a c) (h : Handle) (here : h ≡ j.at_server) (left : List ℕ) (zs : List Joined) (same : zs ≡ ks) (logs : List (List Entry)) (y' : Side) (ks' : List Joined) (logs' : List (List Entry))
+    (none : wrote_in y.core c.applied a.command a.write ≡ None → ReportsWith h left i y zs logs y' ks' logs')
+    (some : (busies : Bool) (x : Joined) → wrote_in y.core c.applied a.command a.write ≡ Some busies → At zs k x → (old : Server) (g : Handle) (action : Action) → WasDone old g (map record_of y.records.items) (deed.Applies busies) a.write a.parting action
+    → ClosesWith k i (length x.lists.handled) old g h action left y zs logs y' ks' logs') where
+  abbrev begun : ServerSide
+  begun = record (server_of y) { core = before }
+
+  -- out of memory
+  pub closed-lacks : left ≡ m.e.link.output → LacksMemory before j.at_server m.e y.core → LacksAt k j begun ks logs (server_of y') ks' logs'
+  closed-lacks left_is l =
+      lacks-at k i j m.mine before m.e m.has h here left left_is y ks at logs y' ks' logs' l (wrote_in y.core c.applied a.command a.write) (lacks-wrote before y.core i j ks (map record_of y.records.items) a c m l)
+      (λ is. subst (λ (xs : List Joined). ReportsWith h left i y xs logs y' ks' logs') same (none is))
+      (λ busies is. subst (λ (xs : List Joined). ClosesWith k i (length j.lists.handled) before j.at_server h l.next.action left y xs logs y' ks' logs') same
+      (some busies j is (subst (λ (xs : List Joined). At xs k j) (sym same) at) before j.at_server l.next.action (lacks-done before y.core i j ks (map record_of y.records.items) a c m l busies is)))
+
+  -- for another cause
+  closed-breaks : (cause : Why) → cause ≢ why.OutOfMemory → StepsOpen before j.at_server m.e (stepped.Closed cause left) (closed j.at_server before) → y.core ≡ closed j.at_server before → BreaksAt k j begun ks logs (server_of y') ks' logs'
+  closed-breaks cause other steps core = record {
+    e = m.e;
+    has = m.has;
+    cause = cause;
+    other = other;
+    left = left;
+    steps = steps;
+    quits =
+        subst (λ (f : Joined → Option (List ℕ)). Quits f (closed j.at_server before) begun begun.records ks logs (server_of y') ks' logs') (ends-closed j left j.server before)
+        (subst (λ (z : Server). Quits (ends_here j left j.server z) z begun begun.records ks logs (server_of y') ks' logs') core
+        (quits-none k j before m.e m.has left (server_of y) ks at logs (server_of y') ks' logs' reports));
+  }
+    where
+      reports : Left j.at_server left j.server (server_of y) ks logs (server_of y') ks' logs'
+      reports =
+          subst (λ (n : ℕ). Left j.at_server left n (server_of y) ks logs (server_of y') ks' logs') (sym m.mine)
+          (subst (λ (g : Handle). Left g left i (server_of y) ks logs (server_of y') ks' logs') here
+          (subst (λ (xs : List Joined). Left h left i (server_of y) xs logs (server_of y') ks' logs') same (left-of h left i y zs logs y' ks' logs' (none (unwritten before y.core i j ks (map record_of y.records.items) a c m core)))))
+
+  -- The end closed.
+  pub closed-at : (cause : Why) → StepsOpen before j.at_server m.e (stepped.Closed cause left) y.core → StepsAt k j begun ks logs (server_of y') ks' logs'
+  closed-at why.OutOfMemory steps = inr (inl (closed-lacks steps.0 steps.1))
+  closed-at why.Misaligned steps = inr (inr (inl (closed-breaks why.Misaligned (λ is. cc) (steps.0, steps.1, steps.2, refl) steps.3)))
+  closed-at why.TooLarge steps = inr (inr (inl (closed-breaks why.TooLarge (λ is. cc) (steps.0, steps.1, steps.2, refl) steps.3)))
+  closed-at why.Silence steps = inr (inr (inl (closed-breaks why.Silence (λ is. cc) (steps.0, steps.1, steps.2, refl) steps.3)))
+  closed-at why.Asked steps = inr (inr (inl (closed-breaks why.Asked (λ is. cc) (steps.0, steps.1, steps.2, refl) steps.3)))
+  closed-at why.Cut steps = inr (inr (inl (closed-breaks why.Cut (λ is. cc) (steps.0, steps.1, steps.2, refl) steps.3)))
+
+  -- The numbers of the server's circuits stay.
+  pub closed-numbers : ((busies : Bool) → wrote_in y.core c.applied a.command a.write ≡ Some busies → LacksMemory before j.at_server m.e y.core) → y'.circuits.items ≡ y.circuits.items
+  closed-numbers lacks = go (wrote_in y.core c.applied a.command a.write) refl
+    where
+      go : (o : Option Bool) → wrote_in y.core c.applied a.command a.write ≡ o → y'.circuits.items ≡ y.circuits.items
+      go None is = (none is).numbers
+      go (Some busies) is =
+          let l = lacks busies is in
+          let told = some busies j is (subst (λ (xs : List Joined). At xs k j) (sym same) at) before j.at_server l.next.action (lacks-done before y.core i j ks (map record_of y.records.items) a c m l busies is) in
+          told.reports.numbers ∙ told.done.numbers
+
+-- The end took no message.
+pub rests-at : (k : ℕ) (before : Server) (j : Joined) (y : ServerSide) (ks : List Joined) (logs : List (List Entry)) (e : ServerEnd) → HasEnd before j.at_server e → (full : Bool) → StepsOpen before j.at_server e (if full then stepped.OutputFull else stepped.NeedBytes) y.core
+    → StepsAt k j (record y { core = before }) ks logs y ks logs
+rests-at k before j y ks logs e has full steps = inr (inr (inr (go full steps)))
+  where
+    rests : (full : Bool) → StepsOpen before j.at_server e (if full then stepped.OutputFull else stepped.NeedBytes) before → y.core ≡ before → RestsAt j (record y { core = before }) ks logs y ks logs
+    rests full steps same = record { e = e; has = has; full = full; steps = steps; side = ap (λ (z : Server). record y { core = z }) same; circuits = refl; logged = refl }
+
+    go : (full : Bool) → StepsOpen before j.at_server e (if full then stepped.OutputFull else stepped.NeedBytes) y.core → RestsAt j (record y { core = before }) ks logs y ks logs
+    go true steps = rests true (steps.0, refl) steps.1
+    go false steps = rests false (steps.0, steps.1, steps.2, refl) steps.3
+
+-- ---- a message that was handled, for which there was no memory then
+
+module _ (before core : Server) (i : ℕ) (j : Joined) (ks : List Joined) (rs : List RecordSide) (a : Ahead) (c : Counts) (m : MayStep i before j ks rs a c) (d : IsHandled before core j.at_server m.e) where
+  -- its end is open still
+  pub handled-open : (f : ServerEnd) × HasEnd core j.at_server f
+  handled-open =
+      let own = next-own before j.at_server m.e m.has d.next in
+      let on = reaches-stays d.next.action d.gone d.next.after core d.reaches j.at_server d.stays own.0 own.1 in
+      (on.0, on.1)
+
+  -- of what waits there the first was there before
+  pub handled-left : take c.waited (output_of (under core.circuits j.at_server)) ≡ m.e.link.output
+  handled-left =
+      let own = next-own before j.at_server m.e m.has d.next in
+      let on = reaches-stays d.next.action d.gone d.next.after core d.reaches j.at_server d.stays own.0 own.1 in
+      let all : output_of (under core.circuits j.at_server) ≡ m.e.link.output ++ spelled d.next.replies = ap output_of on.1 ∙ on.3 ∙ append-nil own.0.link.output ∙ own.3 in
+      (λ t. take (m.counts.waited t) (all t)) ∙ take-first m.e.link.output (spelled d.next.replies)
+
+  pub handled-lacks : (new : Server) → new ≡ cut_core j.at_server core → NeedsMemory d.next.m d.next.replies d.next.action → LacksMemory before j.at_server m.e new
+  handled-lacks new is needs =
+      subst (LacksMemory before j.at_server m.e) (sym (is ∙ cut-closed core j.at_server handled-open.0 handled-open.1)) (lacks-handled before core j.at_server m.e m.has d needs)
