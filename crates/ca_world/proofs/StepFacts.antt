@@ -1,5 +1,5 @@
 -- What is known of the circuits once a message was handled: for what it did to be told, and for its end to close.
-use Rattle.std.proofs.Common.{◌≡◌, ℕ, ◌<◌, inl, inr, Bool, true, false, List, [], ◌∷◌, Option, Some, None, length, refl, sym, ap, subst, ◌∙◌}
+use Rattle.std.proofs.Common.{◌≡◌, ℕ, ◌<◌, inl, inr, Bool, true, false, List, [], ◌∷◌, Option, Some, None, refl, sym, ap, subst, ◌∙◌}
 use Rattle.std.specs.Prelude.{filter, if◌then◌else◌, map, option_map, slice_set}
 use Rattle.std.specs.List.{fold}
 use Rattle.ca_arena.specs.declared.handle.Handle.{Handle}
@@ -27,10 +27,9 @@ use Rattle.ca_world.specs.declared.server_step.Counts.{Counts}
 use Rattle.ca_world.specs.ServerStepping.{with_lists}
 use Rattle.ca_world.specs.StepParts.{IsHandled, MayStep}
 use Rattle.ca_world_data.specs.declared.joined.Joined.{Joined as Opened}
-use Rattle.ca_world_data.specs.declared.joined.Standing.{Standing as Kept}
 use Rattle.ca_world_data.specs.Numbering.{AllAlike, AllMayCount, AreAlike, IsAlike, keys_within, post_limit}
 use Rattle.ca_world_data.specs.Reporting.{AreServed}
-use Rattle.ca_world_data.specs.Seen.{joined_of, standing_of}
+use Rattle.ca_world_data.specs.Seen.{standing_of}
 use Rattle.ca_world_data.proofs.Indexes.{KeepsEnds}
 use Rattle.ca_world_servers.specs.declared.ahead.Ahead.{Ahead}
 use Rattle.ca_world_servers.specs.declared.deeds.Deed.{Deed}
