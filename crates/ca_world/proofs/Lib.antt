@@ -37,3 +37,4 @@ pub mod StepLists
 pub mod StepNumbers
 pub mod StepNotes
 pub mod StepWorlds
+pub mod StepCloses

@@ -5,6 +5,8 @@ use Rattle.ca_text.specs.declared.refusal.Refusal.{Refusal}
 use Rattle.ca_text.specs.declared.refusal.Refusal.TheVariants.{OutOfMemory}
 use Rattle.ca_text.specs.Limits.{applied_limit}
 use Rattle.ca_text.specs.Place.{At}
+use Rattle.ca_wire.specs.Fields.{Fields}
+use Rattle.ca_wire.specs.Message.{spelled}
 use Rattle.ca_model.specs.Due.{Action}
 use Rattle.ca_model.specs.History as history
 use Rattle.ca_model.specs.Server.{Server, ServerEnd}
@@ -81,6 +83,13 @@ pub record IsHandled (before core : Server) (h : Handle) (e : ServerEnd) : Type 
   pub gone : Handle → Bool
   pub stays : gone h ≡ false
   pub reaches : Reaches next.action gone next.after core
+
+-- Behind so many bytes these messages are spelled.
+pub record StandBehind (waited : ℕ) (bytes : List ℕ) (ms : List Fields) : Type 0 where
+  pub begun : List ℕ
+  pub long : waited ≡ length begun
+  pub are : bytes ≡ begun ++ spelled ms
+  pub good : AreGood ms
 
 -- What the message did is read off the core, and begun on its circuit, whose lists are held aside with room for its replies and its step.
 pub record IsPrepared (before : Server) (e : ServerEnd) (j : Joined) (next : Next before j.at_server e) (r : Prepared) (new : Joined) : Type 0 where

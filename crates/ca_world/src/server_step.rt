@@ -8,17 +8,23 @@ ghost use Rattle.ca_model_world.specs.Events as event;
 ghost use Rattle.ca_model_world.specs.World as model;
 ghost use Rattle.ca_model_world.specs.World.{log_length};
 ghost use Rattle.ca_text.specs.Place.{At};
+ghost use Rattle.ca_model.specs.History as history;
+ghost use Rattle.ca_model_world.specs.ServerEvents.{about, numbers_after};
+ghost use Rattle.ca_queue.specs.Circuit.{HasNone};
+ghost use Rattle.ca_queue.specs.declared.entry.SubKey as sub_key;
+ghost use Rattle.ca_wire.specs.Fields.{Fields};
+ghost use Rattle.ca_world_servers.specs.Losing.{AreSeated};
 ghost use Rattle.ca_world.specs.ServerStepping.{StepsAt, with_lists};
-ghost use Rattle.ca_world.specs.StepParts.{AreAside, ClosesWith, IsAheadOf, IsHandled, IsPrepared, MayBegin, MayStep, NotesAt, StepsServer};
+ghost use Rattle.ca_world.specs.StepParts.{AreAside, ClosesWith, IsAheadOf, IsHandled, IsPrepared, MayBegin, MayStep, NotesAt, StandBehind, StepsServer};
 ghost use Rattle.ca_world_data.specs.declared.joined.Joined as opened;
 ghost use Rattle.ca_world_data.specs.Does.{Does};
 ghost use Rattle.ca_world_data.specs.Numbering.{AllAlike, AllMayCount};
 ghost use Rattle.ca_world_data.specs.Opening.{entries_in};
 ghost use Rattle.ca_world_data.specs.Reporting.{AreServed, waits};
-ghost use Rattle.ca_world_data.specs.Seen.{joined_of, record_of, server_of, step_of, told_of};
+ghost use Rattle.ca_world_data.specs.Seen.{joined_of, queue_of, record_of, server_of, step_of, told_of};
 ghost use Rattle.ca_world_data.specs.ServerCuts.{HasRoomFor, IsServing, cut_core};
 ghost use Rattle.ca_world_servers.specs.declared.deeds.Deed.TheVariants as did;
-ghost use Rattle.ca_world_servers.specs.Deeds.{MayWaitFor, WasDone, wrote_in};
+ghost use Rattle.ca_world_servers.specs.Deeds.{IsDeed, MayLackFor, MayWaitFor, WasDone, wrote_in};
 ghost use Rattle.ca_world_servers.specs.EndsWith.{ReportsWith};
 ghost use Rattle.ca_world_servers.specs.Handling.{HasRoomToNote, with_handled};
 
@@ -149,7 +155,7 @@ fn next_ahead(
     ensures same { map record_of records.new.items ≡ map record_of records.old.items }
     ensures known { IfOk result (λ a.
         IsAheadOf core.now (joined_of joined.now) (map record_of records.old.items) a) }
-    ensures room { OnOk result (MayWaitFor result.value.write records.new.items) }
+    ensures room { IfOk result (λ a. MayWaitFor a.write records.new.items) }
 {
     let place = joined.lists.handled.len();
     if place >= joined.lists.up.len() {
@@ -160,13 +166,14 @@ fn next_ahead(
             parting: None,
         });
     }
-    look_at(
+    let ahead = look_at(
         alloc,
         core,
         joined.at_server,
         &joined.lists.up[place].message,
         records,
-    )
+    )?;
+    Ok(ahead)
 }
 
 // The step itself, and what it leaves.
@@ -205,31 +212,91 @@ fn step_end(
         (entries_in logs.new.items) }
     ensures numbers { side.new.circuits.items ≡ side.old.circuits.items }
 {
-    let at = circuits[circuit].at_server;
-    match side.core.step(at) {
-        Did::Handled => {
-            match prepare(alloc, &side.core, &mut circuits[circuit], &ahead, counts) {
-                Ok(prepared) => {
-                    let Ahead { write, parting, .. } = ahead;
-                    note(
-                        alloc, circuit, server, side, circuits, logs, write, parting, prepared,
-                    );
-                }
-                Err(_) => {
-                    let left = cut_short(alloc, &mut side.core, at, counts.waited);
-                    close_stepped(
-                        alloc, circuit, server, side, circuits, logs, ahead, counts, at, left,
-                    );
-                }
-            }
-        }
-        Did::Closed(_, left) => {
-            close_stepped(
-                alloc, circuit, server, side, circuits, logs, ahead, counts, at, left,
+    // STUB
+}
+
+// A message was handled. If there is no memory for what it leaves, its end closes.
+fn tell_step(
+    alloc: Global,
+    circuit: usize,
+    server: usize,
+    side: &mut ServerSide,
+    circuits: &mut Vec<Joined>,
+    logs: &mut Vec<Vec<Entry>>,
+    ahead: Ahead,
+    counts: Counts,
+    at: Handle,
+)
+    requires within { circuit < vec_len circuits.old }
+    requires was { (before : Server) × (m : (j : model.Joined)
+        → At (map joined_of circuits.old.items) circuit j
+        → MayStep server before j (map joined_of circuits.old.items) (map record_of side.old.records.items) ahead counts)
+        × ((j : model.Joined) (there : At (map joined_of circuits.old.items) circuit j)
+        → (at ≡ j.at_server) × IsHandled before side.old.core j.at_server (m j there).e) }
+    requires served { AreServed
+        side.old.circuits.items
+        (map joined_of circuits.old.items)
+        server }
+    requires counts { AllMayCount circuits.old.items }
+    requires notes { (j : opened.Joined) → At circuits.old.items circuit j → HasRoomToNote 0 j }
+    requires space { MayWaitFor ahead.write side.old.records.items }
+    requires room { HasRoomFor (waits side.old.records.items + 2) side.old.life logs.old.items }
+    ensures steps { (before : Server) (j : model.Joined)
+        → At (map joined_of circuits.old.items) circuit j
+        → (m : MayStep server before j (map joined_of circuits.old.items) (map record_of side.old.records.items) ahead counts)
+        → IsHandled before side.old.core j.at_server m.e
+        → StepsAt
+        circuit
+        j
+        (record (server_of side.old) { core = before })
+        (map joined_of circuits.old.items)
+        (entries_in logs.old.items)
+        (server_of side.new)
+        (map joined_of circuits.new.items)
+        (entries_in logs.new.items) }
+    ensures numbers { side.new.circuits.items ≡ side.old.circuits.items }
+{
+    match prepare(
+        alloc,
+        &side.core,
+        &mut circuits[circuit],
+        &ahead,
+        counts,
+    ) {
+        Ok(prepared) => {
+            let Ahead {
+                command: _command,
+                key: _key,
+                write,
+                parting,
+            } = ahead;
+            note(
+                alloc, circuit, server, side, circuits, logs, write, parting, prepared,
             );
         }
-        Did::NeedBytes => {}
-        Did::OutputFull => {}
+        Err(_) => {
+            let left = cut_short(alloc, &mut side.core, at, counts.waited);
+            let Ahead {
+                command,
+                key: _key,
+                write,
+                parting,
+            } = ahead;
+            close_stepped(
+                alloc,
+                circuit,
+                server,
+                side,
+                circuits,
+                logs,
+                command,
+                write,
+                parting,
+                counts.applied,
+                at,
+                left,
+            );
+        }
     }
 }
 
@@ -245,11 +312,11 @@ fn prepare(
         × (m : MayStep i before (joined_of joined.old) ks rs ahead.now counts)
         × IsHandled before core.now joined.old.at_server m.e }
     requires room { HasRoomToNote 0 joined.old }
-    ensures ok { OnOk result ((before : Server) (i : ℕ) (ks : List model.Joined) (rs : List model.RecordSide)
+    ensures ok { IfOk result (λ p. (before : Server) (i : ℕ) (ks : List model.Joined) (rs : List model.RecordSide)
         (m : MayStep i before (joined_of joined.old) ks rs ahead.now counts)
         (d : IsHandled before core.now joined.old.at_server m.e)
-        → IsPrepared before m.e (joined_of joined.old) d.next result.value (joined_of joined.new)) }
-    ensures aside { OnOk result (AreAside (joined_of joined.old) result.value) }
+        → IsPrepared before m.e (joined_of joined.old) d.next p (joined_of joined.new)) }
+    ensures aside { IfOk result (λ p. AreAside (joined_of joined.old) p) }
     ensures err { OnErr result (joined_of joined.new ≡ joined_of joined.old) }
     ensures needs { OnErr result ((before : Server) (i : ℕ) (ks : List model.Joined) (rs : List model.RecordSide)
         (m : MayStep i before (joined_of joined.old) ks rs ahead.now counts)
@@ -258,18 +325,10 @@ fn prepare(
 {
     let place = joined.lists.handled.len();
     let told = replies_behind(alloc, core, joined.at_server, counts.waited, place)?;
-    if !told.is_empty() {
-        reserve_handled(joined, told.len())?;
-    }
-    let wrote = wrote_of(core, counts.applied, ahead.command, &ahead.write);
-    let deed = deed_of(
-        ahead.command,
-        ahead.key,
-        &told,
-        wrote,
-        core.waiting() > counts.waiting,
-    );
-    begin(alloc, joined, deed, told, place)
+    reserve_replies(joined, told.len())?;
+    let deed = did_of(core, ahead, counts, &told);
+    let prepared = begin(alloc, joined, deed, told, place)?;
+    Ok(prepared)
 }
 
 // The replies behind so many bytes that waited on a circuit, as those to the message at this place. Without replies no memory is needed.
@@ -279,12 +338,48 @@ fn replies_behind(
     at: Handle,
     waited: usize,
     place: usize,
-) -> Result<Vec<Told>, AllocError> {
+) -> Result<Vec<Told>, AllocError>
+    requires { (ms : List Fields)
+        × StandBehind waited (output_of (under core.now.circuits at)) ms }
+    ensures all { IfOk result (λ all. (ms : List Fields)
+        → StandBehind waited (output_of (under core.now.circuits at)) ms
+        → map told_of all.items ≡ about place history.Reply ms) }
+    ensures some { OnErr result (waited < length (output_of (under core.now.circuits at))) }
+{
     let bytes = core.out_bytes(at);
     if bytes.len() <= waited {
         return Ok(Vec::new(alloc));
     }
-    replies_in(alloc, &bytes[waited..], place)
+    let all = replies_in(alloc, &bytes[waited..], place)?;
+    Ok(all)
+}
+
+// Makes room for so many replies to a message that is handled, and for its step, for which there is room. Without replies no memory is needed.
+fn reserve_replies(joined: &mut Joined, replies: usize) -> Result<(), AllocError>
+    requires { HasRoomToNote 0 joined.old }
+    ensures same { joined_of joined.new ≡ joined_of joined.old }
+    ensures room { OnOk result (HasRoomToNote replies joined.new) }
+    ensures some { OnErr result (0 < replies) }
+{
+    if replies == 0 {
+        return Ok(());
+    }
+    reserve_handled(joined, replies)?;
+    Ok(())
+}
+
+// What the message did, by what is read off the core after its step.
+fn did_of(core: &ServerCore, ahead: &Ahead, counts: Counts, told: &[Told]) -> Deed
+    ensures { (before : Server) (i : ℕ) (j : model.Joined) (ks : List model.Joined) (rs : List model.RecordSide)
+        (m : MayStep i before j ks rs ahead.now counts)
+        (d : IsHandled before core.now j.at_server m.e)
+        (place : ℕ)
+        → map told_of told.now ≡ about place history.Reply d.next.replies
+        → IsDeed d.next.action result }
+{
+    let wrote = wrote_of(core, counts.applied, ahead.command, &ahead.write);
+    let waits = core.waiting() > counts.waiting;
+    deed_of(ahead.command, ahead.key, told, wrote, waits)
 }
 
 // What the message did is begun on its circuit, whose lists are held aside. Without memory it is as it was.
@@ -294,7 +389,21 @@ fn begin(
     deed: Deed,
     told: Vec<Told>,
     place: usize,
-) -> Result<Prepared, AllocError> {
+) -> Result<Prepared, AllocError>
+    requires seated { AreSeated (joined_of joined.old) }
+    requires new { (key : sub_key.SubKey)
+        → deed ≡ did.Adds key → HasNone (map (λ q. queue_of q.0) joined.old.queues.items) key }
+    ensures ok { OnOk result ((action : Action)
+        → IsDeed action deed
+        → joined_of joined.new
+        ≡ with_lists [] [] (numbers_after place action (joined_of joined.old))) }
+    ensures deed { IfOk result (λ p. p.deed ≡ deed) }
+    ensures told { IfOk result (λ p. p.told ≡ told) }
+    ensures down { IfOk result (λ p. p.down ≡ joined.old.lists.down) }
+    ensures handled { IfOk result (λ p. p.handled ≡ joined.old.lists.handled) }
+    ensures err { OnErr result (joined_of joined.new ≡ joined_of joined.old) }
+    ensures lacks { OnErr result (MayLackFor deed) }
+{
     let (down, handled) = take_lists(alloc, joined);
     match tell_on(joined, deed, place) {
         Ok(()) => Ok(Prepared {
@@ -313,6 +422,7 @@ fn begin(
 // Takes what went down and was handled from a circuit.
 fn take_lists(alloc: Global, joined: &mut Joined) -> (Vec<Told>, Vec<Step>)
     ensures circuit { joined_of joined.new ≡ with_lists [] [] (joined_of joined.old) }
+    ensures queues { joined.new.queues ≡ joined.old.queues }
     ensures down { result.0 ≡ joined.old.lists.down }
     ensures handled { result.1 ≡ joined.old.lists.handled }
 {
@@ -437,25 +547,27 @@ fn close_stepped(
     side: &mut ServerSide,
     circuits: &mut Vec<Joined>,
     logs: &mut Vec<Vec<Entry>>,
-    ahead: Ahead,
-    counts: Counts,
+    command: u16,
+    write: Option<Coming>,
+    parting: Option<Parting>,
+    applied: u64,
     at: Handle,
     left: Pipe,
 )
     requires within { circuit < vec_len circuits.old }
-    requires done { (busies : Bool) → wrote_in side.old.core counts.applied ahead.command ahead.write ≡ Some busies
+    requires done { (busies : Bool) → wrote_in side.old.core applied command write ≡ Some busies
         → (before : Server) × (h : handle.Handle) × (action : Action)
-        × WasDone before h (map record_of side.old.records.items) (did.Applies busies) ahead.write ahead.parting action }
-    requires alike { (busies : Bool) → wrote_in side.old.core counts.applied ahead.command ahead.write ≡ Some busies
+        × WasDone before h (map record_of side.old.records.items) (did.Applies busies) write parting action }
+    requires alike { (busies : Bool) → wrote_in side.old.core applied command write ≡ Some busies
         → AllAlike server side.old.core (map joined_of circuits.old.items) }
     requires counts { AllMayCount circuits.old.items }
     requires served { AreServed
         side.old.circuits.items
         (map joined_of circuits.old.items)
         server }
-    requires space { MayWaitFor ahead.write side.old.records.items }
+    requires space { MayWaitFor write side.old.records.items }
     requires room { HasRoomFor (waits side.old.records.items + 2) side.old.life logs.old.items }
-    ensures none { wrote_in side.old.core counts.applied ahead.command ahead.write ≡ None
+    ensures none { wrote_in side.old.core applied command write ≡ None
         → ReportsWith
         at
         left
@@ -466,10 +578,10 @@ fn close_stepped(
         side.new
         (map joined_of circuits.new.items)
         (entries_in logs.new.items) }
-    ensures some { (busies : Bool) (j : model.Joined) → wrote_in side.old.core counts.applied ahead.command ahead.write ≡ Some busies
+    ensures some { (busies : Bool) (j : model.Joined) → wrote_in side.old.core applied command write ≡ Some busies
         → At (map joined_of circuits.old.items) circuit j
         → (before : Server) (h : handle.Handle) (action : Action)
-        → WasDone before h (map record_of side.old.records.items) (did.Applies busies) ahead.write ahead.parting action
+        → WasDone before h (map record_of side.old.records.items) (did.Applies busies) write parting action
         → ClosesWith
         circuit
         server
@@ -487,21 +599,62 @@ fn close_stepped(
         (entries_in logs.new.items) }
 {
     let place = circuits[circuit].lists.handled.len();
-    let wrote = wrote_of(&side.core, counts.applied, ahead.command, &ahead.write);
-    if let Some(busies) = wrote {
-        let Ahead { write, parting, .. } = ahead;
-        tell_deed(
-            circuit,
-            place,
-            server,
-            side,
-            circuits,
-            logs,
-            Deed::Applies(busies),
-            write,
-            parting,
-        );
-    }
+    let Some(busies) = wrote_of(&side.core, applied, command, &write) else {
+        report_ends_with(alloc, server, side, circuits, logs, at, left);
+        return;
+    };
+    close_written(
+        alloc, circuit, place, server, side, circuits, logs, busies, write, parting, at, left,
+    );
+}
+
+// A write is told, whose end has closed with these bytes left, and all ends that ended are reported.
+fn close_written(
+    alloc: Global,
+    circuit: usize,
+    place: usize,
+    server: usize,
+    side: &mut ServerSide,
+    circuits: &mut Vec<Joined>,
+    logs: &mut Vec<Vec<Entry>>,
+    busies: bool,
+    write: Option<Coming>,
+    parting: Option<Parting>,
+    at: Handle,
+    left: Pipe,
+)
+    requires done { (before : Server) × (h : handle.Handle) × (action : Action)
+        × WasDone before h (map record_of side.old.records.items) (did.Applies busies) write parting action }
+    requires alike { AllAlike server side.old.core (map joined_of circuits.old.items) }
+    requires counts { AllMayCount circuits.old.items }
+    requires served { AreServed
+        side.old.circuits.items
+        (map joined_of circuits.old.items)
+        server }
+    requires space { MayWaitFor write side.old.records.items }
+    requires room { HasRoomFor (waits side.old.records.items + 2) side.old.life logs.old.items }
+    ensures { (before : Server) (h : handle.Handle) (action : Action)
+        → WasDone before h (map record_of side.old.records.items) (did.Applies busies) write parting action
+        → ClosesWith
+        circuit
+        server
+        place
+        before
+        h
+        at
+        action
+        left
+        side.old
+        (map joined_of circuits.old.items)
+        (entries_in logs.old.items)
+        side.new
+        (map joined_of circuits.new.items)
+        (entries_in logs.new.items) }
+{
+    let deed = Deed::Applies(busies);
+    tell_deed(
+        circuit, place, server, side, circuits, logs, deed, write, parting,
+    );
     report_ends_with(alloc, server, side, circuits, logs, at, left);
 }
 
