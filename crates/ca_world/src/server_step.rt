@@ -3,6 +3,7 @@ ghost use Rattle.ca_arena.specs.declared.handle.Handle as handle;
 ghost use Rattle.ca_ids.specs.Table.{under};
 ghost use Rattle.ca_model.specs.Due.{Action};
 ghost use Rattle.ca_model.specs.Server.{Server, ServerEnd};
+ghost use Rattle.ca_model.specs.ServerCalls.{waiting};
 ghost use Rattle.ca_model.specs.ServerSteps.{HasEnd, NeedsMemory, output_of};
 ghost use Rattle.ca_model_world.specs.Events as event;
 ghost use Rattle.ca_model_world.specs.World as model;
@@ -132,17 +133,26 @@ fn step_at(
     )?;
     check_counts(circuits)?;
     reserve_reports(logs, side.life, &side.records, 2)?;
-    let counts = Counts {
-        waited: side.core.out_bytes(circuits[circuit].at_server).len(),
-        applied: side.core.applied(),
-        waiting: side.core.waiting(),
-    };
+    let counts = counts_of(&side.core, &circuits[circuit]);
     // The count of writes stays at its limit, so that a step there would not tell whether it wrote.
     if counts.applied >= APPLIED_LIMIT {
         return Err(Refusal::OutOfMemory);
     }
     step_end(alloc, circuit, server, side, circuits, logs, ahead, counts);
     Ok(())
+}
+
+// How much waits on a circuit, and how much was applied and waits at its server.
+fn counts_of(core: &ServerCore, joined: &Joined) -> Counts
+    ensures waited { result.waited ≡ length (output_of (under core.now.circuits joined.now.at_server)) }
+    ensures applied { result.applied ≡ core.now.applied }
+    ensures waits { result.waiting ≡ waiting core.now }
+{
+    Counts {
+        waited: core.out_bytes(joined.at_server).len(),
+        applied: core.applied(),
+        waiting: core.waiting(),
+    }
 }
 
 // What is known of the message of this circuit that is handled next, if it came.
