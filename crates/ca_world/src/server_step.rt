@@ -222,7 +222,38 @@ fn step_end(
         (entries_in logs.new.items) }
     ensures numbers { side.new.circuits.items ≡ side.old.circuits.items }
 {
-    // STUB
+    let at = circuits[circuit].at_server;
+    match side.core.step(at) {
+        Did::Handled => {
+            tell_step(
+                alloc, circuit, server, side, circuits, logs, ahead, counts, at,
+            );
+        }
+        Did::Closed(_, left) => {
+            let Ahead {
+                command,
+                key: _key,
+                write,
+                parting,
+            } = ahead;
+            close_stepped(
+                alloc,
+                circuit,
+                server,
+                side,
+                circuits,
+                logs,
+                command,
+                write,
+                parting,
+                counts.applied,
+                at,
+                left,
+            );
+        }
+        Did::NeedBytes => {}
+        Did::OutputFull => {}
+    }
 }
 
 // A message was handled. If there is no memory for what it leaves, its end closes.
