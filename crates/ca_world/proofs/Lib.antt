@@ -41,3 +41,4 @@ pub mod StepPrepared
 pub mod StepNotes
 pub mod StepWorlds
 pub mod StepClosed
+pub mod StepCloses
