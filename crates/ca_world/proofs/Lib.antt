@@ -32,6 +32,8 @@ pub mod Removings
 pub mod Seating
 pub mod ServerSteppings
 pub mod EndsClosed
+pub mod StepFacts
+pub mod StepHandled
 pub mod StepLaws
 pub mod StepLists
 pub mod StepNumbers
@@ -40,3 +42,5 @@ pub mod StepNotes
 pub mod StepWorlds
 pub mod Ended
 pub mod Waits
+pub mod StepClosed
+pub mod StepCloses
