@@ -1,3 +1,0 @@
-mod Folding
-mod Fresh
-mod Goings

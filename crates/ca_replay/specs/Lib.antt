@@ -1,4 +1,0 @@
-pub mod Drawing
-pub mod Replayed
-pub mod Settings
-pub mod Steps
