@@ -200,6 +200,6 @@ step-handled k i x before y y' ks noted ks' logs logs' rs a c r new here prepare
     subst (λ (z : Joined). (m : MayStep i before z ks rs a c) → IsHandled before y.core z.at_server m.e → StepsAt k z (record (server_of y) { core = before }) ks logs (server_of y') ks' logs')
     (At-one ks k x j here at)
     (λ m d.
-        let p = prepared m d in
-        let n : NotesAt k i before x.at_server d.next.action r y noted logs y' ks' logs' = notes x.at_server d.next.action (was-done before y.core i x ks rs a c m d r.deed p.did) in
-        inl (handled-at k x before y y' ks noted ks' logs logs' m.e d r new m.has here p aside is (subst (λ (i : ℕ). NotesAt k i before x.at_server d.next.action r y noted logs y' ks' logs') (sym m.mine) n)))
+    let p = prepared m d in
+    let n : NotesAt k i before x.at_server d.next.action r y noted logs y' ks' logs' = notes x.at_server d.next.action (was-done before y.core i x ks rs a c m d r.deed p.did) in
+    inl (handled-at k x before y y' ks noted ks' logs logs' m.e d r new m.has here p aside is (subst (λ (i : ℕ). NotesAt k i before x.at_server d.next.action r y noted logs y' ks' logs') (sym m.mine) n)))

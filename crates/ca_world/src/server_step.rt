@@ -125,12 +125,7 @@ fn step_at(
         (entries_in logs.new.items) }
 {
     reserve_handled(&mut circuits[circuit], 0)?;
-    let ahead = next_ahead(
-        alloc,
-        &side.core,
-        &circuits[circuit],
-        &mut side.records,
-    )?;
+    let ahead = next_ahead(alloc, &side.core, &circuits[circuit], &mut side.records)?;
     check_counts(circuits)?;
     reserve_reports(logs, side.life, &side.records, 2)?;
     let counts = counts_of(&side.core, &circuits[circuit]);
@@ -297,13 +292,7 @@ fn tell_step(
         (entries_in logs.new.items) }
     ensures numbers { side.new.circuits.items ≡ side.old.circuits.items }
 {
-    match prepare(
-        alloc,
-        &side.core,
-        &mut circuits[circuit],
-        &ahead,
-        counts,
-    ) {
+    match prepare(alloc, &side.core, &mut circuits[circuit], &ahead, counts) {
         Ok(prepared) => {
             let Ahead {
                 command: _command,
@@ -555,13 +544,7 @@ fn note(
 }
 
 // The lists of the circuit are given back, and the message is noted as handled in this step, by these replies.
-fn note_on(
-    joined: &mut Joined,
-    down: Vec<Told>,
-    handled: Vec<Step>,
-    step: Step,
-    told: Vec<Told>,
-)
+fn note_on(joined: &mut Joined, down: Vec<Told>, handled: Vec<Step>, step: Step, told: Vec<Told>)
     requires down { vec_len down + length told.items ≤ vec_capacity down }
     requires handled { vec_len handled + 1 ≤ vec_capacity handled }
     ensures { joined_of joined.new

@@ -138,6 +138,8 @@ returns c =
     let there : At ks k x = found ks k x x within c.index_mut.ensures.value in
     let joins : map joined_of (slice_set ks k new) ≡ map joined_of ks = numbers-set joined_of ks k x new there c.reserve_handled.ensures.same in
     let z : ServerSide = record y { records = c.next_ahead.new.records } in
-    let side : server_of z ≡ server_of y = ap (λ (rs : List model.RecordSide). record (server_of y) { records = rs }) c.next_ahead.ensures.same in
-    (c.step_end.ensures.numbers, steps-whole k (server_of y) (server_of z) (map joined_of ks) (map joined_of (slice_set ks k new)) (entries_in c.args.logs.now.items) (entries_in c.reserve_reports.new.logs.items)
-    (server_of c.step_end.new.side) (map joined_of c.step_end.new.circuits.items) (entries_in c.step_end.new.logs.items) side joins c.reserve_reports.ensures.same c.step_end.ensures.steps)
+    let side : server_of z ≡ server_of y = ap (λ (rs : List model.RecordSide). record (server_of y) { records = rs }) c.next_ahead.ensures.same in (
+      c.step_end.ensures.numbers,
+      steps-whole k (server_of y) (server_of z) (map joined_of ks) (map joined_of (slice_set ks k new)) (entries_in c.args.logs.now.items) (entries_in c.reserve_reports.new.logs.items)
+          (server_of c.step_end.new.side) (map joined_of c.step_end.new.circuits.items) (entries_in c.step_end.new.logs.items) side joins c.reserve_reports.ensures.same c.step_end.ensures.steps,
+    )

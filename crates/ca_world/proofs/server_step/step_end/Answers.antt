@@ -22,11 +22,14 @@ tell_step-requires-clause-was c =
     let ks : List model.Joined = map joined_of items in
     let within : k < length items = subst (λ (n : ℕ). k < n) c.args.circuits.now.ok.0 c.requires.within in
     let there : At ks k (joined_of x) = At-map joined_of items k x (found items k x x within c.index.ensures) in
-    let core : Server = c.args.side.now.core in
-    (core, c.requires.may, λ j here.
-    let one : joined_of x ≡ j = At-one ks k (joined_of x) j there here in
-    let m = c.requires.may j here in
-    (ap (λ (z : model.Joined). z.at_server) one, handled-step core j.at_server m.e c.step.new.self m.has (subst (λ (z : model.Joined). steps.Steps core z.at_server steps.Handled c.step.new.self) one c.in-Handled.ensures)))
+    let core : Server = c.args.side.now.core in (
+      core,
+      c.requires.may,
+      λ j here.
+          let one : joined_of x ≡ j = At-one ks k (joined_of x) j there here in
+          let m = c.requires.may j here in
+          (ap (λ (z : model.Joined). z.at_server) one, handled-step core j.at_server m.e c.step.new.self m.has (subst (λ (z : model.Joined). steps.Steps core z.at_server steps.Handled c.step.new.self) one c.in-Handled.ensures)),
+    )
 
 pub close_stepped-requires-clause-done : goal.close_stepped-requires-clause-done
 close_stepped-requires-clause-done c = λ busies is.
