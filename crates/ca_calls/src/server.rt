@@ -2,6 +2,7 @@
 
 use crate::answer::Answer;
 use crate::words::Words;
+use ca_arena::Handle;
 use ca_script::{RecordFile, read_records};
 use ca_server_core::{Cause, ServerCore, Step};
 use ca_text::Refusal;
@@ -27,7 +28,7 @@ pub fn call(
     answer: &mut Answer,
 ) -> Result<(), Refusal> {
     match call.as_bytes() {
-        b"accept" => answer.handle(core.accept()?),
+        b"accept" => accept(core, answer),
         b"give" => give(alloc, core, words),
         b"step" => step(core, words, answer),
         b"handle" => handle(alloc, core, words, answer),
@@ -55,10 +56,22 @@ fn call_on_records(
         b"datagram" => datagram(alloc, core, words, answer),
         b"beacon" => beacon(core, words, answer),
         b"stamp" => stamp(core, words),
-        b"applied" => answer.number(core.applied()),
-        b"waiting" => answer.number(core.waiting()),
+        b"applied" => count(core.applied(), answer),
+        b"waiting" => count(core.waiting(), answer),
         _ => Err(Refusal::BadText),
     }
+}
+
+/// `accept`.
+fn accept(core: &mut ServerCore, answer: &mut Answer) -> Result<(), Refusal> {
+    answer.handle(core.accept()?);
+    Ok(())
+}
+
+/// `applied` and `waiting`.
+fn count(number: u64, answer: &mut Answer) -> Result<(), Refusal> {
+    answer.number(number);
+    Ok(())
 }
 
 /// `give CIRCUIT BYTES`.
@@ -69,8 +82,14 @@ fn give(alloc: Global, core: &mut ServerCore, mut words: Words<'_>) -> Result<()
 
 /// `step CIRCUIT`.
 fn step(core: &mut ServerCore, mut words: Words<'_>, answer: &mut Answer) -> Result<(), Refusal> {
-    match core.step(words.handle()?) {
-        Step::Handled => Ok(()),
+    let step = core.step(words.handle()?);
+    tell_step(step, answer);
+    Ok(())
+}
+
+fn tell_step(step: Step, answer: &mut Answer) {
+    match step {
+        Step::Handled => {}
         Step::NeedBytes => answer.word("needs bytes"),
         Step::OutputFull => answer.word("output full"),
         Step::Closed(cause, left) => closed(cause, &left, answer),
@@ -86,18 +105,31 @@ fn handle(
 ) -> Result<(), Refusal> {
     let circuit = words.handle()?;
     core.give(circuit, &words.bytes(alloc)?)?;
+    if steps(core, circuit, answer) {
+        core.pump(circuit);
+        take_all(core, circuit, answer);
+    }
+    Ok(())
+}
+
+/// Whether all messages were handled.
+fn steps(core: &mut ServerCore, circuit: Handle, answer: &mut Answer) -> bool {
     for _ in 0..MESSAGES {
         match core.step(circuit) {
             Step::Handled => {}
             Step::NeedBytes => break,
-            Step::OutputFull => return answer.word("output full"),
-            Step::Closed(cause, left) => return closed(cause, &left, answer),
+            other => {
+                tell_step(other, answer);
+                return false;
+            }
         }
     }
-    core.pump(circuit);
-    answer.bytes(core.out_bytes(circuit))?;
+    true
+}
+
+fn take_all(core: &mut ServerCore, circuit: Handle, answer: &mut Answer) {
+    answer.bytes(core.out_bytes(circuit));
     core.sent(circuit, core.out_bytes(circuit).len());
-    Ok(())
 }
 
 /// `pump CIRCUIT`.
@@ -108,7 +140,8 @@ fn pump(core: &mut ServerCore, mut words: Words<'_>) -> Result<(), Refusal> {
 
 /// `out CIRCUIT`.
 fn out(core: &ServerCore, mut words: Words<'_>, answer: &mut Answer) -> Result<(), Refusal> {
-    answer.bytes(core.out_bytes(words.handle()?))
+    answer.bytes(core.out_bytes(words.handle()?));
+    Ok(())
 }
 
 /// `sent CIRCUIT N`. Not understood if fewer bytes wait.
@@ -124,11 +157,7 @@ fn sent(core: &mut ServerCore, mut words: Words<'_>) -> Result<(), Refusal> {
 
 /// `take CIRCUIT`: what is to be sent, which is then sent.
 fn take(core: &mut ServerCore, mut words: Words<'_>, answer: &mut Answer) -> Result<(), Refusal> {
-    let circuit = words.handle()?;
-    let bytes = core.out_bytes(circuit);
-    let n = bytes.len();
-    answer.bytes(bytes)?;
-    core.sent(circuit, n);
+    take_all(core, words.handle()?, answer);
     Ok(())
 }
 
@@ -173,8 +202,8 @@ fn datagram(
     answer: &mut Answer,
 ) -> Result<(), Refusal> {
     for reply in &core.datagram(&words.bytes(alloc)?)? {
-        answer.word("datagram")?;
-        answer.bytes(reply)?;
+        answer.word("datagram");
+        answer.bytes(reply);
     }
     Ok(())
 }
@@ -185,6 +214,7 @@ fn beacon(core: &mut ServerCore, mut words: Words<'_>, answer: &mut Answer) -> R
         Some(bytes) => answer.bytes(&bytes),
         None => answer.word("nothing"),
     }
+    Ok(())
 }
 
 /// `stamp SECONDS NANOS`.
@@ -195,14 +225,18 @@ fn stamp(core: &mut ServerCore, mut words: Words<'_>) -> Result<(), Refusal> {
 }
 
 /// The cause, and the bytes that are left.
-fn closed(cause: Cause, left: &Pipe, answer: &mut Answer) -> Result<(), Refusal> {
-    answer.word("closed")?;
-    answer.word(match cause {
+fn closed(cause: Cause, left: &Pipe, answer: &mut Answer) {
+    answer.word("closed");
+    answer.word(word_of(cause));
+    answer.word("left");
+    answer.bytes(left.bytes());
+}
+
+fn word_of(cause: Cause) -> &'static str {
+    match cause {
         Cause::OutOfMemory => "out of memory",
         Cause::Misaligned => "misaligned",
         Cause::TooLarge => "too large",
         Cause::Cut => "cut",
-    })?;
-    answer.word("left")?;
-    answer.bytes(left.bytes())
+    }
 }

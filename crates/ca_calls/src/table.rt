@@ -37,7 +37,7 @@ impl Table {
         answer.clear();
         if let Err(refusal) = self.do_line(line, answer) {
             answer.clear();
-            let _ = answer.refusal(refusal);
+            answer.refusal(refusal);
         }
     }
 
@@ -51,8 +51,11 @@ impl Table {
             b"repeat" => self.repeat(rest, answer),
             _ => self.call(call, rest, answer),
         }?;
+        if !answer.is_whole() {
+            return Err(Refusal::OutOfMemory);
+        }
         if answer.text().is_empty() {
-            return answer.word("ok");
+            answer.word("ok");
         }
         Ok(())
     }

@@ -5,25 +5,28 @@ use ca_text::{Mask, Refusal};
 use hex::FromHexError;
 use std::alloc::Global;
 use std::net::SocketAddrV4;
-use std::str::SplitWhitespace;
 
 /// The words of a line that were not taken yet. A word that is not what is asked for is refused as BadText.
-#[derive(Drop)]
+#[derive(Clone, Copy)]
 pub struct Words<'a> {
-    left: SplitWhitespace<'a>,
+    left: &'a str,
 }
 
 impl<'a> Words<'a> {
     /// All words of a line.
     pub fn new(line: &'a str) -> Words<'a> {
-        Words {
-            left: line.split_whitespace(),
-        }
+        Words { left: line }
     }
 
     /// The next word.
     pub fn word(&mut self) -> Result<&'a str, Refusal> {
-        self.left.next().ok_or(Refusal::BadText)
+        let line = self.left.trim_start();
+        let (word, left) = line.split_once(" ").unwrap_or((line, ""));
+        self.left = left;
+        if word.is_empty() {
+            return Err(Refusal::BadText);
+        }
+        Ok(word)
     }
 
     /// A number of 64 bits.
@@ -74,7 +77,7 @@ impl<'a> Words<'a> {
     /// The addresses that all words left are.
     pub fn addresses(self, alloc: Global) -> Result<Vec<Address>, Refusal> {
         let mut all = Vec::new(alloc);
-        for word in self.left {
+        for word in self.left.split_whitespace() {
             all.push(address_in(word)?)?;
         }
         Ok(all)
@@ -83,7 +86,7 @@ impl<'a> Words<'a> {
     /// The bytes that all words left are.
     pub fn bytes(self, alloc: Global) -> Result<Vec<u8>, Refusal> {
         let mut bytes = Vec::new(alloc);
-        for word in self.left {
+        for word in self.left.split_whitespace() {
             bytes.extend_from_slice(&decoded(alloc, word)?)?;
         }
         Ok(bytes)

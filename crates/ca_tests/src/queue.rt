@@ -1,6 +1,7 @@
+//! A queue of a circuit, of which the Nth growth may be refused.
 use ca_queue::{Entry, ListQueue, Queues, SubKey};
 use ca_text::Refusal;
-use std::test::Fail;
+use std::alloc::Global;
 
 const KEY: SubKey = SubKey {
     sid: 0x0001_0000,
@@ -12,15 +13,14 @@ const OTHER: SubKey = SubKey {
     sub: 0x0001_0001,
 };
 
-// Run it too with the Nth growth refused, for each N: `rt try --test --fail-alloc N`.
-#[test]
-fn refused_growth_changes_nothing(rt: HostRuntime) -> Result<(), Fail> {
-    let mut queue: ListQueue<Entry> = ListQueue::new(rt.alloc());
-    if let Err(refusal) = queue.add(KEY) {
-        assert!(rt; refusal == Refusal::OutOfMemory);
+/// Whether two keys go in, the first also after its growth was refused.
+pub(crate) fn refused_growth_changes_nothing(alloc: Global) -> Result<bool, Refusal> {
+    let mut queue: ListQueue<Entry> = ListQueue::new(alloc);
+    let refused = queue.add(KEY);
+    if refused.is_err() {
         queue.add(KEY)?;
     }
     queue.add(OTHER)?;
-    assert!(rt; queue.take().is_none());
-    Ok(())
+    let known = (refused == Ok(())) | (refused == Err(Refusal::OutOfMemory));
+    Ok(known & queue.take().is_none())
 }

@@ -1,10 +1,10 @@
 -- A record's busy put is finished at a server, from what its parts became.
 use Rattle.std.proofs.Common.{◌≡◌, ◌∙◌, ℕ, zero, suc, ◌+◌, ◌<◌, ◌≤◌, ◌==◌, ◌&&◌, inl, inr, Bool, true, false, List, [], ◌∷◌, ◌++◌, Option, Some, None, Result, Ok, Err, drop, length, refl, sym, ap, subst, arith}
-use Rattle.std.specs.Prelude.{◌⊎◌, if◌then◌else◌, is_some, map, option_map, slice_get, slice_set, unwrap_or}
-use Rattle.std.specs.List.{flat_map, fold}
+use Rattle.std.specs.Prelude.{OnOk, Vec, if◌then◌else◌, is_some, map, option_map, slice_get, slice_set, unwrap_or, vec_capacity, vec_len}
+use Rattle.std.specs.declared.alloc.Global.{Global}
+use Rattle.std.specs.List.{fold}
 use Rattle.std.specs.Str.{bytes_eq}
 use Rattle.std.proofs.lemmas.List.{append-nil, append_assoc, length-append, length-map}
-use Rattle.std.proofs.lemmas.Slice.Eq.{bytes_eq-Decides}
 use Rattle.ca_arena.specs.declared.handle.Handle.{Handle}
 use Rattle.ca_dbr.specs.Elements.{Elements}
 use Rattle.ca_ids.specs.Table.{under}
@@ -12,6 +12,7 @@ use Rattle.ca_queue.specs.declared.entry.SubKey.{SubKey}
 use Rattle.ca_queue.proofs.Circuits.{set-twice}
 use Rattle.ca_records.specs.declared.puts.Put.{Put}
 use Rattle.ca_records.specs.Puts.{Record, WaitingPut, record_named, written_meta}
+use Rattle.ca_records.specs.Record.{unset}
 use Rattle.ca_text.specs.declared.refusal.Refusal.{Refusal}
 use Rattle.ca_text.specs.declared.refusal.Refusal.TheVariants.{NotBusy, OutOfMemory, UnknownRecord}
 use Rattle.ca_text.specs.Place.{At}
@@ -23,9 +24,9 @@ use Rattle.ca_wire.proofs.Padding.{message-of}
 use Rattle.ca_model.specs.Ends as why
 use Rattle.ca_model.specs.History as history
 use Rattle.ca_model.specs.Server.{Ended, Open, Server, ServerCircuit, ServerEnd}
-use Rattle.ca_model.specs.ServerCalls.{Finishes, Replies, after_next, finish_reply, lacking, with_finish, with_message}
+use Rattle.ca_model.specs.ServerCalls.{Finishes, Replies, after_next, finish_reply, lacking, with_finish}
 use Rattle.ca_model.specs.ServerSteps.{reached, stored_now, write_mask}
-use Rattle.ca_model.specs.Speech.{In, Stored}
+use Rattle.ca_model.specs.Speech.{Stored}
 use Rattle.ca_model_world.specs.Events as event
 use Rattle.ca_model_world.specs.Runs.{CanBe, IsServer}
 use Rattle.ca_model_world.specs.ServerEvents.{about, ending, ends_by, finish_entry, first_of, keys_concerned, next_busy, next_entries, next_numbers, numbers_posted, replied_at, reported, server_after, with_number, with_record, withdrawals, without_puts}
@@ -44,20 +45,24 @@ use Rattle.ca_laws_writes.specs.Moves.{Lives}
 use Rattle.ca_laws_writes.specs.Once.{Once}
 use Rattle.ca_server_core.specs.Asking.{busy_value, value_busy}
 use Rattle.ca_server_core.specs.ForHistories.{bytes_under}
-use Rattle.ca_world.specs.Finishing.{AreBehind, Ends, Finished, FinishesAt, IsBeside, IsBusy, IsBusyOn, IsNext, MayFinish, NextIn, TellsFinish, TellsWait, WaitIn, WaitsIn, applied_of, numbered, replied_in, with_down}
+use Rattle.ca_world.specs.Finishing.{AreBehind, Ends, Finished, FinishesAt, HasRoomOn, IsBeside, IsBusy, IsBusyOn, IsFound, IsNext, MayFinish, TellsFinish, TellsWait, WaitIn, WaitsIn, applied_of, numbered, replied_in, with_down}
 use Rattle.ca_world.specs.Whole.{IsReached}
 use Rattle.ca_world.proofs.Additions.{others-apart}
 use Rattle.ca_world.proofs.Postings.{each-under, ending-keeps, posted-keeps, served-posted}
 use Rattle.ca_world.proofs.Unstamped.{run-unstamped}
 use Rattle.ca_world_data.specs.declared.client.ClientSide.{ClientSide}
+use Rattle.ca_world_data.specs.declared.history.Entry.{Entry}
 use Rattle.ca_world_data.specs.declared.joined.Joined.{Joined}
+use Rattle.ca_world_data.specs.declared.joined.Standing.{Standing}
+use Rattle.ca_world_data.specs.declared.server.PutPlace.{PutPlace as Came}
 use Rattle.ca_world_data.specs.declared.server.RecordSide.{RecordSide as Held}
 use Rattle.ca_world_data.specs.declared.server.ServerSide.{ServerSide}
 use Rattle.ca_world_data.specs.Does.{Does}
 use Rattle.ca_world_data.specs.Indexed.{AreIndexed, server_numbers}
-use Rattle.ca_world_data.specs.Numbering.{AllAlike, IsAlike}
+use Rattle.ca_world_data.specs.Numbering.{AllAlike, AllMayCount, IsAlike, MayCount}
 use Rattle.ca_world_data.specs.Reporting.{AreServed, Reports, gone_at, waits}
-use Rattle.ca_world_data.specs.Seen.{client_of, joined_of, place_of, record_of, server_of}
+use Rattle.ca_world_data.specs.Seen.{client_of, joined_of, place_of, record_of, server_of, told_of}
+use Rattle.ca_world_data.specs.ServerCuts.{HasRoomFor}
 use Rattle.ca_world_data.proofs.Indexes.{KeepsEnds, ends-stay, indexed-circuit, indexed-map, indexed-same, numbers-set}
 use Rattle.ca_world_data.proofs.Worlds.{set-map, set-same, world_of}
 
@@ -374,6 +379,65 @@ set-aside waits i core name p sent ks bare after last j c told at bare_is after_
     set-there (z ∷ xs) zero x y at = refl
     set-there (z ∷ xs) (suc n) x y at = set-there xs n x y at
 
+-- ---- circuits of the world
+
+-- one more post may be counted still, if the subscriptions of a circuit are as they were
+pub counts-set : (ks : List Joined) (k : ℕ) (j new : Joined) → At ks k j → new.standing ≡ j.standing → AllMayCount ks → AllMayCount (slice_set ks k new)
+counts-set ks k j new at same all n c there = elim (At-set ks k new n c there) [
+  | inl here ↦ subst (λ (z : Vec Standing Global). MayCount z.items) (sym (ap (λ (z : Joined). z.standing) here.1 ∙ same)) (all k j at)
+  | inr other ↦ all n c other.0
+]
+
+-- the circuit of this place has room now
+pub room-set : (ks : List Joined) (k : ℕ) (new : Joined) → vec_len new.lists.down < vec_capacity new.lists.down → HasRoomOn k (slice_set ks k new)
+room-set [] k new room j at = absurd cc
+room-set (x ∷ ks) zero new room j at = subst (λ (z : Joined). vec_len z.lists.down < vec_capacity z.lists.down) (some_is new j at) room
+room-set (x ∷ ks) (suc k) new room j at = room-set ks k new room j at
+
+-- what holds holds if a result is Ok
+pub on-ok : {A E : Type 0} (r : Result A E) (P : Type 0) → P → OnOk r P
+on-ok (Ok v) P p = p
+on-ok (Err e) P p = tt
+
+pub on-ok-then : {A E : Type 0} (r : Result A E) (P Q : Type 0) → (P → Q) → OnOk r P → OnOk r Q
+on-ok-then (Ok v) P Q f p = f p
+on-ok-then (Err e) P Q f p = tt
+
+-- room for as many entries is room for fewer
+pub entries-fewer : (n m life : ℕ) (logs : List (Vec Entry Global)) → m ≤ n → HasRoomFor n life logs → HasRoomFor m life logs
+entries-fewer n m life logs few room log at = (let had = room log at in omega (arith, had, few))
+
+-- the circuits, of which one has its messages down held aside
+pub bare-is : (ks : List Joined) (k : ℕ) (j new : Joined) → joined_of new ≡ with_down [] (joined_of j) → map joined_of (slice_set ks k new) ≡ slice_set (map joined_of ks) k (with_down [] (joined_of j))
+bare-is ks k j new is = set-map joined_of ks k new ∙ ap (slice_set (map joined_of ks) k) is
+
+-- they are alike still
+pub bare-alike : (i : ℕ) (core : Server) (ks : List Joined) (k : ℕ) (j new : Joined) → At ks k j → joined_of new ≡ with_down [] (joined_of j) → AllAlike i core (map joined_of ks) → AllAlike i core (map joined_of (slice_set ks k new))
+bare-alike i core ks k j new at is all =
+    subst (AllAlike i core) (sym (bare-is ks k j new is)) (alike-bare i core (map joined_of ks) k (joined_of j) [] (At-map joined_of ks k j at) all)
+
+-- on the circuit of the busy put the reply stands behind what waited
+pub reply-behind : (y core : Server) (name : List ℕ) (k waited : ℕ) (ks : List model.Joined) (j : model.Joined) (sent : List (Handle × Fields)) → IsBusyOn y name k ks → At ks k j → waited ≡ length (bytes_under (under y.circuits j.at_server)) → Finishes y name sent (Ok tt) core
+    → AreBehind waited (bytes_under (under core.circuits j.at_server)) (map (λ (s : Handle × Fields). s.1) sent)
+reply-behind y core name k waited ks j sent busy at long finishes =
+    let h : j.at_server ≡ busy.b.circuit = ap (λ (z : model.Joined). z.at_server) (At-one ks k j busy.j at busy.at) ∙ busy.handle in
+    let size : waited ≡ length (bytes_under (under y.circuits busy.b.circuit)) = long ∙ ap (λ (g : Handle). length (bytes_under (under y.circuits g))) h in
+    subst (λ (z : ℕ × Handle). AreBehind z.0 (bytes_under (under core.circuits z.1)) (map (λ (s : Handle × Fields). s.1) sent)) (λ t. (sym size t, sym h t)) (finish-behind y core name sent busy.b finishes busy.is busy.fits)
+
+-- What the core, the numbers and the reply leave is a finish.
+pub finished-on : (i : ℕ) (y core : Server) (name : List ℕ) (put : Came) (waits : Bool) (sent : List (Handle × Fields)) (ks after : List Joined) (j bare c last : Joined) (told : List history.Told) → Finishes y name sent (Ok tt) core
+    → At ks put.circuit j → joined_of bare ≡ with_down [] (joined_of j) → map joined_of after ≡ numbered waits i y name (map joined_of (slice_set ks put.circuit bare)) → At after put.circuit c
+    → told ≡ map told_of j.lists.down.items ++ about put.place history.Reply (map (λ (s : Handle × Fields). s.1) sent) → joined_of last ≡ with_down told (joined_of c)
+    → Finished i name (place_of put) waits y (map joined_of ks) core (map joined_of (slice_set after put.circuit last))
+finished-on i y core name put waits sent ks after j bare c last told finishes at bare_is after_is there told_is last_is = record {
+  sent = sent;
+  finishes = finishes;
+  circuits =
+      set-aside waits i y name (place_of put) sent (map joined_of ks) (map joined_of (slice_set ks put.circuit bare)) (map joined_of after) (map joined_of (slice_set after put.circuit last)) (joined_of j) (joined_of c) told
+      (At-map joined_of ks put.circuit j at) (bare-is ks put.circuit j bare bare_is) after_is (At-map joined_of after put.circuit c there) told_is
+      (set-map joined_of after put.circuit last ∙ ap (slice_set (map joined_of after) put.circuit) last_is);
+}
+
 -- a property of circuits that the reply and the numbers keep
 module _ (p : PutPlace) (sent : List (Handle × Fields)) where
   abbrev said : model.Joined → model.Joined
@@ -434,12 +498,25 @@ entries-next y r (Some w) (Some p) None bare is = absurd cc
 entries-next y r (Some w) (Some p) (Some v) bare is =
     (λ t. history.Applied p.circuit p.place r.number (record { value = sym (some_is w.value v is) t; meta = written_meta (sym bare t) }) true ∷ [])
 
+pub some-mapped : {A B : Type 0} (f : A → B) (o : Option A) → is_some (option_map f o) ≡ is_some o
+some-mapped f None = refl
+some-mapped f (Some x) = refl
+
 -- both or neither
 pub next-both : (logs : List (List history.Entry)) (life : ℕ) (ps : List PutPlace) (value : Option Elements) → IsNext logs life ps value → is_some (first_of ps) ≡ is_some value
 next-both logs life [] None next = refl
 next-both logs life [] (Some v) (log, there, (p, first, rest)) = absurd cc
 next-both logs life (p ∷ ps) None next = absurd cc
 next-both logs life (p ∷ ps) (Some v) next = refl
+
+-- a put that is applied next is told behind the finish
+pub entries-two : (life number : ℕ) (p first : model.PutPlace) (value : Elements) (next : Option model.PutPlace) (some : Option Elements) (was mid now : List (List history.Entry)) → next ≡ Some first → some ≡ Some value
+    → mid ≡ grown life (finish_entry p ∷ []) was → now ≡ grown life (history.Applied first.circuit first.place number (record { value = value; meta = unset }) true ∷ []) mid
+    → now ≡ grown life (finish_entry p ∷ applied_of number next some) was
+entries-two life number p first value next some was mid now is some_is mid_is now_is =
+    let last : history.Entry = history.Applied first.circuit first.place number (record { value = value; meta = unset }) true in
+    now_is ∙ ap (grown life (last ∷ [])) mid_is ∙ grown-twice life (finish_entry p ∷ []) (last ∷ []) was
+    ∙ (λ t. grown life (finish_entry p ∷ applied_of number (sym is t) (sym some_is t)) was)
 
 -- ---- how many wait
 
@@ -471,6 +548,28 @@ waits-after name rs new is =
     let now : waits new ≡ waits_by (with_record name next_busy (map record_of rs)) = waits-as new ∙ ap waits_by is in
     let less = waits-less name (map record_of rs) in
     omega (arith, was, now, less)
+
+-- ---- a record that is busy
+
+-- a record has a busy value, or none
+pub some-busy : {A : Type 0} (f : A → Elements) (o : Option A) (y : Server) (name : List ℕ) → option_map f o ≡ busy_value y name → is_some o ≡ true → (b : Put) × IsBusy y name b
+some-busy f None y name is has = absurd cc
+some-busy f (Some v) y name is has = is-busy y name (f v) (sym is)
+
+pub none-busy : {A : Type 0} (f : A → Elements) (o : Option A) (y : Server) (name : List ℕ) → option_map f o ≡ busy_value y name → is_some o ≡ false → busy_value y name ≡ None
+none-busy f None y name is has = sym is
+none-busy f (Some v) y name is has = absurd cc
+
+-- the record that was found stands beside the core's
+pub found-beside : (y : ServerSide) (rs : List Held) (name : List ℕ) (r : Held) (b : Put) (busy : IsBusy y.core name b) → rs ≡ y.records.items → IsFound rs name (Some r) → IsBeside y.core (map record_of y.records.items) name busy.c (record_of r)
+found-beside y rs name r b busy same (place, at, is) =
+    (busy.named, (place, subst (λ (z : List Held). At (map record_of z) place (record_of r)) same (At-map record_of rs place r at), is))
+
+-- its put came on this circuit
+pub busy-on : (y : ServerSide) (ks : List model.Joined) (logs : List (List history.Entry)) (name : List ℕ) (r : model.RecordSide) (p : model.PutPlace) (j : model.Joined) (b : Put) (busy : IsBusy y.core name b) → MayFinish name (server_of y) ks logs
+    → IsBeside y.core (map record_of y.records.items) name busy.c r → r.busy ≡ Some p → At ks p.circuit j → IsBusyOn y.core name p.circuit ks
+busy-on y ks logs name r p j b busy may beside is at =
+    record { b = b; is = busy; j = j; at = at; handle = may.handle busy.c r b p j beside busy.busy is at; fits = may.fits busy.c b busy.named busy.busy }
 
 -- ---- a server after it
 

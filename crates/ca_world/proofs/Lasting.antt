@@ -10,14 +10,14 @@ use Rattle.ca_laws_bytes.specs.ServerFits.{ServersFit}
 use Rattle.ca_laws_bytes.proofs.Runs.{events-stand, opening-stands}
 use Rattle.ca_laws_bytes.proofs.ServerSpeaking.{event-servers}
 use Rattle.ca_laws_held.specs.Quiet.{ClientsQuiet}
-use Rattle.ca_laws_held.proofs.Joint.{folds-snoc}
+use Rattle.ca_laws_held.proofs.Joint.{are-snoc, folds-snoc}
 use Rattle.ca_laws_held.proofs.Kept.{quiet-happens}
 use Rattle.ca_laws_runs.specs.Clients.{ClientsStand}
 use Rattle.ca_laws_runs.proofs.Events.{stands-happens}
 use Rattle.ca_world.specs.declared.world.World.TheInside.{Inside}
 use Rattle.ca_world_data.specs.Does.{Does}
 use Rattle.ca_world_data.specs.Indexed.{AreIndexed, client_numbers, server_numbers}
-use Rattle.ca_world.specs.Whole.{IsReached, Stands, seen}
+use Rattle.ca_world.specs.Whole.{CameAbout, IsReached, Stands, seen}
 use Rattle.ca_world_data.specs.Named.{AreMeant}
 use Rattle.ca_world_data.specs.Seen.{joined_of}
 use Rattle.ca_world.proofs.Meanings.{mean-happens}
@@ -50,6 +50,13 @@ reached-by w new e (Err OutOfMemory) d h = subst (λ (v : World). IsReached v) (
 reached-by w new e (Err BadEvent) d h = subst (λ (v : World). IsReached v) (sym d.1) h
 reached-by w new e (Err _) d h = absurd d
 
+-- well-formed ones do
+pub came-by : (w new : World) (e : Event) (r : Result (Unit {0}) Refusal) → Does w e r new → IsEvent e → CameAbout w → CameAbout new
+came-by w new e (Ok u) d fine (s, es, ok, are, folds) = (s, es ++ e ∷ [], ok, are-snoc es e are fine, folds-snoc es (opening s) w new e folds d)
+came-by w new e (Err OutOfMemory) d fine h = subst (λ (v : World). CameAbout v) (sym d.1) h
+came-by w new e (Err BadEvent) d fine h = subst (λ (v : World). CameAbout v) (sym d.1) h
+came-by w new e (Err _) d fine h = absurd d
+
 -- what servers send are messages
 pub fit-by : (w new : World) (e : Event) (r : Result (Unit {0}) Refusal) → Does w e r new → IsEvent e → IsReached w → ServersFit w → ServersFit new
 fit-by w new e (Ok u) d fine (s, es, ok, folds) f = event-servers s w new e ok fine (events-stand s es (opening s) w ok folds (opening-stands s ok)) d f
@@ -63,6 +70,7 @@ pub all-stand : (w new : Inside) (e : Event) → IsEvent e → (r : Result (Unit
 all-stand w new e fine r d s indexed = record {
   indexed = indexed;
   reached = reached-by (seen w) (seen new) e r d s.reached;
+  came_about = came-by (seen w) (seen new) e r d fine s.came_about;
   clients = stand-by (seen w) (seen new) e r d s.clients;
   quiet = quiet-by (seen w) (seen new) e r d s.clients s.quiet;
   named = mean-by (seen w) (seen new) e r d s.clients s.quiet s.named;

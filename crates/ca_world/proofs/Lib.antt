@@ -29,4 +29,14 @@ pub mod Widths
 pub mod Additions
 pub mod ClientHearings
 pub mod Removings
+pub mod Seating
 pub mod ServerSteppings
+pub mod EndsClosed
+pub mod StepLaws
+pub mod StepLists
+pub mod StepNumbers
+pub mod StepPrepared
+pub mod StepNotes
+pub mod StepWorlds
+pub mod Ended
+pub mod Waits

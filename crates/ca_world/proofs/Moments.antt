@@ -25,7 +25,7 @@ use Rattle.ca_world_data.proofs.Silences.{numbered-map}
 use Rattle.ca_world_data.proofs.Worlds.{set-map}
 use Rattle.ca_world.specs.Halted.{HasStopped}
 use Rattle.ca_world.specs.Ticking.{AllNumbered, AllTellFew, TicksSome, TicksTo, world_with}
-use Rattle.ca_world.specs.Whole.{IsReached}
+use Rattle.ca_world.specs.Whole.{CameAbout, IsReached}
 use Rattle.ca_world.proofs.Partings.{moment-tells}
 
 -- ---- lists
@@ -178,5 +178,5 @@ pub ticks-part : (moment : ℕ) (w : World) (cs' : List model.ClientSide) (cl' :
 ticks-part moment w cs' cl' ks' e le (n, x, at, lacks, ticks) = (n, x, le, ticks w.servers w.server_logs w.moment, at, lacks)
 
 -- a run stopped there
-pub has-stopped : (moment : ℕ) (w new : World) → IsReached w → TicksBefore moment w new → HasStopped new
-has-stopped moment w new (s, es, ok, folds) part = (s, es, moment, ok, (w, folds, inr part))
+pub has-stopped : (moment : ℕ) (w new : World) → CameAbout w → TicksBefore moment w new → HasStopped new
+has-stopped moment w new (s, es, ok, are, folds) part = (s, es, Some (Tick moment), ok, are, (w, folds, inr part))

@@ -1,12 +1,13 @@
 -- A record of a server is removed, from what its parts became.
-use Rattle.std.proofs.Common.{◌≡◌, ◌≢◌, ℕ, zero, suc, ◌+◌, ◌*◌, ◌≤◌, ◌==◌, ◌&&◌, inl, inr, Bool, true, false, not, List, [], ◌∷◌, ◌++◌, Option, Some, None, Result, Ok, Err, length, take, refl, sym, ap, subst, ◌∙◌, arith}
-use Rattle.std.specs.Prelude.{filter, if◌then◌else◌, map, option_map, slice_set}
+use Rattle.std.proofs.Common.{◌≡◌, ℕ, zero, suc, ◌+◌, ◌*◌, ◌<◌, ◌≤◌, ◌==◌, ◌&&◌, ◌||◌, inl, inr, Bool, true, false, not, List, [], ◌∷◌, ◌++◌, Option, Some, None, Result, Ok, Err, length, take, refl, sym, ap, subst, ◌∙◌, arith}
+use Rattle.std.specs.Prelude.{Vec, filter, if◌then◌else◌, map, option_map, slice_set}
+use Rattle.std.specs.declared.alloc.Global.{Global}
 use Rattle.std.specs.List.{list_any}
 use Rattle.std.specs.Str.{bytes_eq}
 use Rattle.std.proofs.lemmas.Bool.{and_from, and_parts, eq-eqb, eqb-true}
 use Rattle.std.proofs.lemmas.List.{length-append, length-map}
 use Rattle.ca_arena.specs.declared.handle.Handle.{Handle}
-use Rattle.ca_ids.specs.Table.{Table, under}
+use Rattle.ca_ids.specs.Table.{under}
 use Rattle.ca_ids.specs.Wire.{wire_of}
 use Rattle.ca_queue.specs.declared.entry.SubKey.{SubKey}
 use Rattle.ca_queue.specs.Images.{queue_images}
@@ -16,36 +17,43 @@ use Rattle.ca_queue.proofs.Circuits.{set-twice}
 use Rattle.ca_text.specs.declared.refusal.Refusal.{Refusal}
 use Rattle.ca_text.specs.declared.refusal.Refusal.TheVariants.{OutOfMemory, UnknownRecord}
 use Rattle.ca_text.specs.Place.{At}
-use Rattle.ca_text.proofs.Places.{At-map, At-mapped, At-one, At-within}
+use Rattle.ca_text.proofs.Places.{At-map, At-mapped, At-within}
 use Rattle.ca_wire.specs.Fields.{Fields}
-use Rattle.ca_wire.specs.Message.{spelled, spelling}
+use Rattle.ca_wire.specs.declared.header.Header.{Header}
+use Rattle.ca_wire.specs.Header.{header_spelling}
+use Rattle.ca_wire.specs.Message.{header_of, spelled, spelling}
 use Rattle.ca_wire.specs.Messages.{disconnect}
+use Rattle.ca_wire.proofs.Headers.{length-short, spelling-short}
+use Rattle.ca_wire.proofs.Messages.{length-spelling}
+use Rattle.ca_model.specs.Ends as why
 use Rattle.ca_model.specs.History.{Cause, Entry, Line, Told}
-use Rattle.ca_model.specs.Server.{Ended, Open, OpenChannel, Server, ServerCircuit, ServerEnd}
-use Rattle.ca_model.specs.ServerCalls.{Removes, channels_of, circuit_without, disconnects}
-use Rattle.ca_model.specs.Speech.{In}
+use Rattle.ca_model.specs.Server.{Ended, Open, OpenChannel, Server, ServerCircuit}
+use Rattle.ca_model.specs.ServerCalls.{Removes, channels_of, circuit_without, disconnects, end_without}
 use Rattle.ca_model_world.specs.Events.{Remove}
-use Rattle.ca_model_world.specs.Runs.{CanBe, IsServer}
-use Rattle.ca_model_world.specs.ServerEvents.{disconnected_at, ending, ends_by, removal_entries, removal_told, removed_at, without_standing}
+use Rattle.ca_model_world.specs.Runs.{CanBe, IsServer, Runs}
+use Rattle.ca_model_world.specs.ServerEvents.{disconnected_at, ending, ends_at, ends_by, removal_entries, removal_told, removed_at, reported, withdrawals, without_puts, without_standing}
 use Rattle.ca_model_world.specs.World.{grown}
 use Rattle.ca_model_world.specs.World as model
 use Rattle.ca_laws_follows.proofs.Acted.{run-follows}
 use Rattle.ca_laws_held.proofs.StepWhole.{run-serves}
-use Rattle.ca_laws_kept.specs.Numbers.{AllNumbers}
 use Rattle.ca_server_circuit.specs.Concerned.{ids_of}
 use Rattle.ca_server_core.specs.ForHistories.{bytes_under, channels_under}
 use Rattle.ca_world_data.specs.declared.client.ClientSide.{ClientSide}
+use Rattle.ca_world_data.specs.declared.history.Entry.{Entry as Kept}
 use Rattle.ca_world_data.specs.declared.joined.Joined.{Joined}
-use Rattle.ca_world_servers.specs.declared.losing.Leading.{Leading}
+use Rattle.ca_world_data.specs.declared.server.RecordSide.{RecordSide}
 use Rattle.ca_world_data.specs.declared.server.ServerSide.{ServerSide}
 use Rattle.ca_world_data.specs.Does.{Does}
 use Rattle.ca_world_data.specs.Indexed.{AreIndexed, server_numbers}
-use Rattle.ca_world_servers.specs.Losing.{AllMayLose, AllReady, AreLost, AreSeated, Disconnects, is_lost, lost_by, lost_told, without_lost}
-use Rattle.ca_world_servers.specs.Removing.{AllSeated, Becomes, RemovesAt, TellsRemoval}
-use Rattle.ca_world_data.specs.Reporting.{AreServed}
-use Rattle.ca_world_data.specs.Seen.{client_of, joined_of, record_of, server_of}
+use Rattle.ca_world_data.specs.Reporting.{AreServed, waits}
+use Rattle.ca_world_data.specs.Seen.{client_of, joined_of, place_of, record_of, server_of}
+use Rattle.ca_world_data.specs.ServerCuts.{HasRoomFor}
 use Rattle.ca_world_data.proofs.Indexes.{KeepsEnds, ends-stay, indexed-map, indexed-same, numbers-set}
 use Rattle.ca_world_data.proofs.Worlds.{set-map, set-same, world_of}
+use Rattle.ca_world_servers.specs.declared.losing.Leading.{Leading}
+use Rattle.ca_world_servers.specs.Losing.{AllMayLose, AllReady, AreLost, Disconnects, is_lost, lead_at, lost_by, lost_told, removed_all, without_lost}
+use Rattle.ca_world_servers.specs.Removing.{AllSeated, Becomes, RemovesAt, TellsRemoval}
+use Rattle.ca_world_servers.proofs.Losings.{removed-told}
 use Rattle.ca_world.specs.Whole.{IsReached}
 use Rattle.ca_world.proofs.Postings.{each-under, ending-keeps}
 
@@ -54,7 +62,7 @@ use Rattle.ca_world.proofs.Postings.{each-under, ending-keeps}
 -- in every run the queues of an open circuit have the subscriptions that stand, and nothing waits there for others
 pub run-seated : (w : model.World) (i : ℕ) → IsReached w → AllSeated i w.circuits
 run-seated w i (s, es, ok, folds) k j there mine on =
-    let runs = (w, folds, refl) in
+    let runs : Runs s es None w = (w, folds, refl) in
     let serves = run-serves s es None w ok runs in
     let seat = serves.stands.sound.seated.each k j there on in
     let log = serves.stands.sound.within k j there in
@@ -78,8 +86,8 @@ over-same k [] = refl
 over-same k (c ∷ cs) = go (wire_of c.0 == k.sid) (over-same k cs)
   where
     go : (b : Bool) → is_lost (map ids_of cs) k ≡ list_any (λ (c : Handle × OpenChannel). wire_of c.0 == k.sid) cs
-        → Rattle.std.proofs.Common.◌||◌ b (is_lost (map ids_of cs) k) ≡ Rattle.std.proofs.Common.◌||◌ b (list_any (λ (c : Handle × OpenChannel). wire_of c.0 == k.sid) cs)
-    go b same = ap (λ (x : Bool). Rattle.std.proofs.Common.◌||◌ b x) same
+        → (b || is_lost (map ids_of cs) k) ≡ (b || list_any (λ (c : Handle × OpenChannel). wire_of c.0 == k.sid) cs)
+    go b same = ap (λ (x : Bool). b || x) same
 
 without-same : (j : model.Joined) (cs : List (Handle × OpenChannel))
     → without_lost (map ids_of cs) j ≡ without_standing (λ (k : SubKey). list_any (λ (c : Handle × OpenChannel). wire_of c.0 == k.sid) cs) (record j { lists = record j.lists { down = j.lists.down ++ map (removal_told j.creations) cs } })
@@ -88,7 +96,11 @@ without-same j cs = λ t. without_standing (λ (k : SubKey). over-same k cs t) (
 -- ---- bytes of SERVER_DISCONNs
 
 disconnect-size : (cid : ℕ) → length (spelling (disconnect cid)) ≡ 16
-disconnect-size cid = refl
+disconnect-size cid =
+    let h : Header = header_of (disconnect cid) in
+    let few : 0 < 65535 = omega arith in
+    let short : length (header_spelling h) ≡ 16 = ap length (spelling-short h few few) ∙ length-short h in
+    length-spelling (disconnect cid) ∙ ap (λ (n : ℕ). n + length (disconnect cid).payload) short
 
 notices-size : (cs : List (Handle × OpenChannel)) → length (spelled (map (λ (c : Handle × OpenChannel). disconnect c.1.cid) cs)) ≡ 16 * length cs
 notices-size [] = refl
@@ -118,7 +130,7 @@ take-fewer (suc n) (x ∷ xs) = (let rest = take-fewer n xs in omega (arith, res
 
 module _ (name : List ℕ) (gone : Handle → Bool) (left : Handle → ℕ) (y core : Server) (removes : Removes y name gone left (Ok tt) core) where
   removed-under : (h : Handle) → under core.circuits h ≡ option_map (circuit_without name gone left h) (under y.circuits h)
-  removed-under h = ap (λ (z : Server). under z.circuits h) removes.2.2 ∙ each-under (circuit_without name gone left) y.circuits h
+  removed-under h = ap (λ (z : Server). under z.circuits h) removes.2 ∙ each-under (circuit_without name gone left) y.circuits h
 
   abbrev told_at : Handle → Option ServerCircuit → List (Handle × OpenChannel)
   told_at h o = disconnected_at name gone left h o
@@ -130,7 +142,7 @@ module _ (name : List ℕ) (gone : Handle → Bool) (left : Handle → ℕ) (y c
   sent-more h (Some (Open e)) = go (gone h)
     where
       go : (b : Bool) → length e.link.output + 16 * length (if b then take (left h) (channels_of name e) else channels_of name e)
-          ≡ length (bytes_under (Some (if b then Ended Rattle.ca_model.specs.Ends.OutOfMemory (e.link.output ++ spelled (take (left h) (disconnects name e))) else Open (Rattle.ca_model.specs.ServerCalls.end_without name e))))
+          ≡ length (bytes_under (Some (if b then Ended why.OutOfMemory (e.link.output ++ spelled (take (left h) (disconnects name e))) else Open (end_without name e))))
       go true =
           let some = notices-size (take (left h) (channels_of name e)) in
           let same = ap (λ (ms : List Fields). length (spelled ms)) (take-map (λ (c : Handle × OpenChannel). disconnect c.1.cid) (left h) (channels_of name e)) in
@@ -170,11 +182,15 @@ module _ (name : List ℕ) (gone : Handle → Bool) (left : Handle → ℕ) (y c
     abbrev f : model.Joined → model.Joined
     f = removed_at i y name gone left
 
-    led-here : (j : Joined) (l : Leading) → (l.channels.items, l.waited) ≡ Rattle.ca_world_servers.specs.Losing.lead_at i y name (joined_of j) → (j.server == i && j.lists.server_open) ≡ true
-        → (l.channels.items, l.waited) ≡ (channels_under name (under y.circuits j.at_server), length (bytes_under (under y.circuits j.at_server)))
-    led-here j l led on = led ∙ ap (λ (b : Bool). if b then (channels_under name (under y.circuits j.at_server), length (bytes_under (under y.circuits j.at_server))) else ([], 0)) on
+    -- what a circuit that is open at the server has to lose
+    abbrev leads : Joined → List (ℕ × ℕ) × ℕ
+    leads j = (channels_under name (under y.circuits j.at_server), length (bytes_under (under y.circuits j.at_server)))
 
-    sent-here : (j : Joined) (l : Leading) → (l.channels.items, l.waited) ≡ Rattle.ca_world_servers.specs.Losing.lead_at i y name (joined_of j) → (j.server == i && j.lists.server_open) ≡ true
+    led-here : (j : Joined) (l : Leading) → (l.channels.items, l.waited) ≡ lead_at i y name (joined_of j) → (j.server == i && j.lists.server_open) ≡ true
+        → (l.channels.items, l.waited) ≡ leads j
+    led-here j l led on = led ∙ ap (λ (b : Bool). if b then leads j else ([], 0)) on
+
+    sent-here : (j : Joined) (l : Leading) → (l.channels.items, l.waited) ≡ lead_at i y name (joined_of j) → (j.server == i && j.lists.server_open) ≡ true
         → Disconnects core (joined_of j) l (length (told_at j.at_server (under y.circuits j.at_server)))
     sent-here j l led on =
         let h = j.at_server in
@@ -196,7 +212,7 @@ module _ (name : List ℕ) (gone : Handle → Bool) (left : Handle → ℕ) (y c
         o : Option ServerCircuit
         o = under y.circuits h
 
-        led : (l.channels.items, l.waited) ≡ Rattle.ca_world_servers.specs.Losing.lead_at i y name (joined_of j)
+        led : (l.channels.items, l.waited) ≡ lead_at i y name (joined_of j)
         led = (ready.each k j l at led_at).led
 
         changed : model.Joined
@@ -256,6 +272,76 @@ removal-keeps i core name gone left j = go (j.server == i && j.lists.server_open
     go true = record { client = refl; server = refl; at_client = refl; at_server = refl; closes = λ on. on; stops = λ on. on }
     go false = ends-stay j j refl
 
+-- ---- room in the log
+
+abbrev waits_in : List model.RecordSide → ℕ
+waits_in [] = 0
+waits_in (r ∷ rs) = length r.waiting + waits_in rs
+
+waits-seen : (rs : List RecordSide) → waits rs ≡ waits_in (map record_of rs)
+waits-seen [] = refl
+waits-seen (r ∷ rs) = (let rest = waits-seen rs in let here = length-map r.waiting.items place_of in omega (arith, rest, here))
+
+waits-fewer : (p : model.RecordSide → Bool) (rs : List model.RecordSide) → waits_in (filter p rs) ≤ waits_in rs
+waits-fewer p [] = omega arith
+waits-fewer p (r ∷ rs) = go (p r) (waits-fewer p rs)
+  where
+    go : (b : Bool) → waits_in (filter p rs) ≤ waits_in rs → waits_in (if b then r ∷ filter p rs else filter p rs) ≤ length r.waiting + waits_in rs
+    go true le = omega (arith, le)
+    go false le = omega (arith, le)
+
+-- there is room for what waits at the records that are left
+pub room-left : (life : ℕ) (logs : List (Vec Kept Global)) (p : model.RecordSide → Bool) (rs rest : List RecordSide) → map record_of rest ≡ filter p (map record_of rs) → HasRoomFor (waits rs) life logs → HasRoomFor (waits rest) life logs
+room-left life logs p rs rest is room log at =
+    let had = room log at in
+    let all = waits-seen rs in
+    let left = waits-seen rest ∙ ap waits_in is in
+    let few = waits-fewer p (map record_of rs) in
+    omega (arith, had, all, left, few)
+
+-- ---- a server after it
+
+-- what was prepared of these circuits, of which the list is another
+ready-here : (i : ℕ) (core : Server) (name : List ℕ) (ks was : List Joined) (ls all : List Leading) → AllReady i core name was all → ks ≡ was → ls ≡ all → AllReady i core name ks ls
+ready-here i core name ks was ls all ready is_k is_l =
+    subst (λ (z : List Joined × List Leading). AllReady i core name z.0 z.1) (λ t. (sym is_k t, sym is_l t)) ready
+
+pub removal-becomes : (i : ℕ) (name : List ℕ) (gone : Handle → Bool) (left : Handle → ℕ) (y core : Server) (own : List ℕ) (ks was : List Joined) (ls all : List Leading) (js : List model.Joined)
+    → Removes y name gone left (Ok tt) core → AllReady i y name was all → ks ≡ was → ls ≡ all → map joined_of ks ≡ js → AreServed own js i
+    → Becomes i core own ks (map joined_of ks) ls
+removal-becomes i name gone left y core own ks was ls all js removes ready is_k is_l seen served =
+    becomes name gone left y core removes i ks ls (ready-here i y name ks was ls all ready is_k is_l) own (map joined_of ks)
+    (subst (λ (z : List model.Joined). AreServed own z i) (sym seen) served)
+
+pub removal-may : (i : ℕ) (name : List ℕ) (gone : Handle → Bool) (left : Handle → ℕ) (y core : Server) (ks was : List Joined) (ls all : List Leading) (js : List model.Joined)
+    → Removes y name gone left (Ok tt) core → AllReady i y name was all → ks ≡ was → ls ≡ all → map joined_of ks ≡ js → AllSeated i js
+    → AllMayLose i core ks ls
+removal-may i name gone left y core ks was ls all js removes ready is_k is_l seen seated =
+    may-lose name gone left y core removes i ks ls (ready-here i y name ks was ls all ready is_k is_l)
+    (subst (λ (z : List model.Joined). AllSeated i z) (sym seen) seated)
+
+pub remove-told : (i : ℕ) (name : List ℕ) (gone : Handle → Bool) (left : Handle → ℕ) (y y' : ServerSide) (core : Server) (ks was : List Joined) (ls all : List Leading) (told : List Entry) (js ks' : List model.Joined) (logs mid logs' : List (List Entry))
+    → Removes y.core name gone left (Ok tt) core → AllReady i y.core name was all → ks ≡ was → ls ≡ all → map joined_of ks ≡ js → told ≡ removed_all name y.records.items → mid ≡ logs
+    → ((f : model.Joined → model.Joined) → AreLost i core ks ls f → TellsRemoval i name told f (record y { core = core }) (map joined_of ks) mid y' ks' logs')
+    → RemovesAt i name y js logs (Ok tt) y' ks' logs'
+remove-told i name gone left y y' core ks was ls all told js ks' logs mid logs' removes ready is_k is_l seen is_told is_mid did =
+    let f : model.Joined → model.Joined = removed_at i y.core name gone left in
+    let lost : AreLost i core ks ls f = are-lost name gone left y.core core removes i ks ls (ready-here i y.core name ks was ls all ready is_k is_l) in
+    let entries : told ≡ removal_entries name (map record_of y.records.items) = is_told ∙ sym (removed-told name y.records.items) in (
+      gone,
+      left,
+      core,
+      inl (
+        removes,
+        subst (λ (z : List Entry × (List model.Joined × List (List Entry))). TellsRemoval i name z.0 f (record y { core = core }) z.1.0 z.1.1 y' ks' logs') (λ t. (entries t, (seen t, is_mid t))) (did f lost),
+      ),
+    )
+
+pub remove-kept : (i : ℕ) (name : List ℕ) (gone : Handle → Bool) (left : Handle → ℕ) (y : ServerSide) (core : Server) (js ks' : List model.Joined) (logs mid : List (List Entry)) (e : Refusal)
+    → Removes y.core name gone left (Err e) core → ks' ≡ js → mid ≡ logs → RemovesAt i name y js logs (Ok tt) (record y { core = core }) ks' mid
+remove-kept i name gone left y core js ks' logs mid UnknownRecord removes is_k is_l = (gone, left, core, inr (removes, (λ t. record y { core = removes.1 t }), is_k, is_l))
+remove-kept i name gone left y core js ks' logs mid _ removes is_k is_l = absurd removes
+
 -- ---- a world after it
 
 module _ (cs : List ClientSide) (ss : List ServerSide) (ks : List Joined) (cl : List (List Line)) (sl : List (List Entry)) (m : ℕ) (i : ℕ) (y : ServerSide) (at : At ss i y) (name : List ℕ) where
@@ -276,9 +362,9 @@ module _ (cs : List ClientSide) (ss : List ServerSide) (ks : List Joined) (cl : 
       let js : List model.Joined = map joined_of ks in
       let f : model.Joined → model.Joined = removed_at i y.core name gone left in
       let rs : List model.RecordSide = filter (λ (r : model.RecordSide). not (bytes_eq r.name name)) (map record_of y.records.items) in
-      let quits : ℕ → Bool = Rattle.ca_model_world.specs.ServerEvents.ends_at (ends_by i core) (map f js) in
-      let side : server_of y' ≡ record (server_of y) { core = Rattle.ca_model_world.specs.ServerEvents.reported core; records = map (Rattle.ca_model_world.specs.ServerEvents.without_puts quits) rs } =
-      did.reports.side ∙ (λ t. record (server_of y) { core = Rattle.ca_model_world.specs.ServerEvents.reported core; records = map (Rattle.ca_model_world.specs.ServerEvents.without_puts quits) (did.records t) }) in
+      let quits : ℕ → Bool = ends_at (ends_by i core) (map f js) in
+      let side : server_of y' ≡ record (server_of y) { core = reported core; records = map (without_puts quits) rs } =
+      did.reports.side ∙ (λ t. record (server_of y) { core = reported core; records = map (without_puts quits) (did.records t) }) in
       let mid : model.ServerSide = record (server_of y) { records = rs } in (
         there,
         (
@@ -289,10 +375,10 @@ module _ (cs : List ClientSide) (ss : List ServerSide) (ks : List Joined) (cl : 
             removes,
             λ t. record {
               clients = map client_of cs;
-              servers = (set-map server_of ss i y' ∙ ap (slice_set (map server_of ss) i) side ∙ sym (set-twice (map server_of ss) i mid (record (server_of y) { core = Rattle.ca_model_world.specs.ServerEvents.reported core; records = map (Rattle.ca_model_world.specs.ServerEvents.without_puts quits) rs }))) t;
+              servers = (set-map server_of ss i y' ∙ ap (slice_set (map server_of ss) i) side ∙ sym (set-twice (map server_of ss) i mid (record (server_of y) { core = reported core; records = map (without_puts quits) rs }))) t;
               circuits = did.reports.circuits t;
               client_logs = cl;
-              server_logs = (did.reports.logged ∙ (λ z. grown y.life (Rattle.ca_model_world.specs.ServerEvents.withdrawals quits (did.records z)) (grown y.life (removal_entries name (map record_of y.records.items)) sl))) t;
+              server_logs = (did.reports.logged ∙ (λ z. grown y.life (withdrawals quits (did.records z)) (grown y.life (removal_entries name (map record_of y.records.items)) sl))) t;
               moment = m;
             },
           ),

@@ -1,6 +1,5 @@
 -- Working: a record's busy put is finished at a server, and the next that waits is applied.
-use Rattle.std.specs.Prelude.{ℕ, ◌≡◌, ◌<◌, ◌+◌, ◌++◌, ◌⊎◌, Bool, true, List, [], ◌∷◌, Option, Some, None, Ok, Err, Result, Vec, if◌then◌else◌, is_some, length, map, option_map, slice_get, slice_set, unwrap_or, vec_capacity, vec_len}
-use Rattle.std.specs.declared.alloc.Global.{Global}
+use Rattle.std.specs.Prelude.{ℕ, ◌≡◌, ◌<◌, ◌++◌, ◌⊎◌, Bool, true, List, [], ◌∷◌, Option, Some, None, Ok, Err, Result, if◌then◌else◌, is_some, length, map, option_map, slice_get, slice_set, unwrap_or, vec_capacity, vec_len}
 use Rattle.ca_arena.specs.declared.handle.Handle.{Handle}
 use Rattle.ca_dbr.specs.Elements.{Elements}
 use Rattle.ca_records.specs.Puts.{Record, WaitingPut, record_named}
@@ -19,11 +18,11 @@ use Rattle.ca_model.specs.Speech.{In, Stored}
 use Rattle.ca_model_world.specs.ServerEvents.{about, finish_entry, first_of, next_busy, next_entries, next_numbers, numbers_posted, with_record}
 use Rattle.ca_model_world.specs.World.{Joined, PutPlace, RecordSide, ServerSide as Side, grown}
 use Rattle.ca_world.specs.Unstamped.{IsUnstamped}
-use Rattle.ca_world_data.specs.declared.history.Told.{Told}
 use Rattle.ca_world_data.specs.declared.joined.Joined.{Joined as Opened}
+use Rattle.ca_world_data.specs.declared.server.RecordSide.{RecordSide as Held}
 use Rattle.ca_world_data.specs.declared.server.ServerSide.{ServerSide}
 use Rattle.ca_world_data.specs.Reporting.{Reports}
-use Rattle.ca_world_data.specs.Seen.{joined_of, record_of, server_of, told_of}
+use Rattle.ca_world_data.specs.Seen.{record_of, server_of}
 
 -- ---- the value of a put that waits
 
@@ -56,6 +55,11 @@ IsNext logs life ps (Some value) = (log : List history.Entry) × At logs life lo
 -- the record of this name, as the core has it and beside that
 abbrev pub IsBeside : Server → List RecordSide → (name : List ℕ) → Record → RecordSide → Type 0
 IsBeside y rs name c r = (record_named y.records name ≡ Some c) × ((place : ℕ) × At rs place r × (r.name ≡ name))
+
+-- the record of this name, if one was found
+abbrev pub IsFound : List Held → (name : List ℕ) → Option Held → Type 0
+IsFound rs name None = Unit {0}
+IsFound rs name (Some r) = (place : ℕ) × At rs place r × (r.name.items ≡ name)
 
 -- What holds of a record of this name, so that its busy put may be finished: the put came on the circuit of its handle, its reply is a
 -- message, the log tells the value of the put that waits first, and writes are stored with no stamp.

@@ -1,7 +1,7 @@
--- Working: a world that stopped within a tick, as the statement has it.
-use Rattle.std.specs.Prelude.{ℕ, List, Some, map}
-use Rattle.ca_model_world.specs.Events.{Event, Tick}
-use Rattle.ca_model_world.specs.Runs.{Runs}
+-- Working: a world where a run ended, as the statement has it.
+use Rattle.std.specs.Prelude.{List, Option, map}
+use Rattle.ca_model_world.specs.Events.{Event}
+use Rattle.ca_model_world.specs.Runs.{AreEvents, Runs}
 use Rattle.ca_model_world.specs.World.{IsSetting, Setting, World}
 use Rattle.ca_world.specs.declared.stopped.Stopped.TheInside.{Inside}
 use Rattle.ca_world_data.specs.Seen.{client_of, entry_of, joined_of, line_of, server_of}
@@ -17,6 +17,6 @@ halted w = record {
   moment = w.moment;
 }
 
--- a run from a well-formed setting stopped in it, within a tick or before one
+-- a run of well-formed events from a well-formed setting ended in it
 abbrev pub HasStopped : World → Type 0
-HasStopped w = (s : Setting) × (es : List Event) × (moment : ℕ) × IsSetting s × Runs s es (Some (Tick moment)) w
+HasStopped w = (s : Setting) × (es : List Event) × (stopped : Option Event) × IsSetting s × AreEvents es × Runs s es stopped w

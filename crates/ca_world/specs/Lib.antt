@@ -7,3 +7,8 @@ pub mod Halted
 pub mod Ticking
 pub mod Wide
 pub mod Adding
+pub mod ServerStepping
+pub mod StepParts
+pub mod Stepping
+pub mod Running
+pub mod Waiting

@@ -2,7 +2,7 @@
 use Rattle.std.specs.Prelude.{List, map}
 use Rattle.std.specs.List.{FoldsTo}
 use Rattle.ca_model_world.specs.Events.{Event}
-use Rattle.ca_model_world.specs.Runs.{Happens}
+use Rattle.ca_model_world.specs.Runs.{AreEvents, Happens}
 use Rattle.ca_model_world.specs.World.{IsSetting, Setting, World, opening}
 use Rattle.ca_laws_bytes.specs.ServerFits.{ServersFit}
 use Rattle.ca_laws_held.specs.Quiet.{ClientsQuiet}
@@ -27,11 +27,16 @@ seen w = record {
 abbrev pub IsReached : World → Type 0
 IsReached w = (s : Setting) × (es : List Event) × IsSetting s × FoldsTo Happens (opening s) es w
 
--- What holds of a world at each moment: circuits are found by their handles; events lead to it; its clients stand, what they sent is as
--- their tables are, as in every run, and each handle means what stands beside it; what its servers send are messages.
+-- well-formed events lead to this world from a well-formed setting
+abbrev pub CameAbout : World → Type 0
+CameAbout w = (s : Setting) × (es : List Event) × IsSetting s × AreEvents es × FoldsTo Happens (opening s) es w
+
+-- What holds of a world at each moment: circuits are found by their handles; events lead to it, which are well-formed; its clients stand, what
+-- they sent is as their tables are, as in every run, and each handle means what stands beside it; what its servers send are messages.
 pub record Stands (w : Inside) : Type 0 where
   pub indexed : AreIndexed (client_numbers w.clients.items) (server_numbers w.servers.items) (map joined_of w.circuits.items)
   pub reached : IsReached (seen w)
+  pub came_about : CameAbout (seen w)
   pub clients : ClientsStand (seen w)
   pub quiet : ClientsQuiet (seen w)
   pub named : AreMeant (map client_of w.clients.items)

@@ -1,18 +1,16 @@
-ghost use Rattle.std.specs.Prelude.{ℕ, ◌≡◌, ◌+◌, ◌<◌, ◌++◌, [], ◌∷◌, List, MatchOption, Ok, map, option_map, vec_capacity, vec_len};
+ghost use Rattle.std.specs.Prelude.{ℕ, ◌≡◌, ◌+◌, ◌<◌, ◌++◌, [], ◌∷◌, List, Ok, OnOk, map, option_map, vec_capacity, vec_len};
 ghost use Rattle.ca_dbr.specs.Elements.{elements};
 ghost use Rattle.ca_records.specs.declared.puts.Put as puts;
 ghost use Rattle.ca_server_core.specs.ForHistories.{bytes_under};
 ghost use Rattle.ca_ids.specs.Table.{under};
 ghost use Rattle.ca_wire.specs.Fields.{Fields};
 ghost use Rattle.ca_arena.specs.declared.handle.Handle as handle;
-ghost use Rattle.ca_text.specs.Place.{At};
 ghost use Rattle.ca_model.specs.History as history;
 ghost use Rattle.ca_model.specs.ServerCalls.{Finishes};
 ghost use Rattle.ca_model_world.specs.Events as event;
 ghost use Rattle.ca_model_world.specs.ServerEvents.{about, finish_entry};
 ghost use Rattle.ca_model_world.specs.World.{grown};
-ghost use Rattle.ca_world.specs.Finishing.{AreBehind, Finished, FinishesAt, HasRoomOn, IsBusy, IsBusyOn, MayFinish, TellsFinish, applied_of, numbered, with_down};
-ghost use Rattle.ca_world_data.specs.declared.server.RecordSide as side;
+ghost use Rattle.ca_world.specs.Finishing.{AreBehind, Finished, FinishesAt, HasRoomOn, IsBusy, IsBusyOn, IsFound, MayFinish, TellsFinish, applied_of, numbered, with_down};
 ghost use Rattle.ca_world_data.specs.Does.{Does};
 ghost use Rattle.ca_world_data.specs.Numbering.{AllAlike, AllMayCount};
 ghost use Rattle.ca_world_data.specs.Opening.{entries_in};
@@ -34,7 +32,7 @@ use ca_world_data::joined::Joined;
 use ca_world_data::numbering::{check_counts, post_numbers};
 use ca_world_data::reporting::{report_ends, reserve_reports};
 use ca_world_data::server::{PutPlace, RecordSide, ServerSide};
-use std::alloc::Global;
+use std::alloc::{AllocError, Global};
 
 // The mask of an applied write: VALUE and LOG.
 const WRITE_MASK: u16 = 3;
@@ -59,7 +57,8 @@ impl World {
     }
 }
 
-// A put is finished at this server. A finish that its core would refuse changes nothing.
+// A put is finished at this server. A finish that its core would refuse changes nothing. A record that is busy in the core is there beside it,
+// with the circuit of its put; were it not, that would be answered as if out of memory.
 fn finish_at(
     alloc: Global,
     server: usize,
@@ -92,25 +91,55 @@ fn finish_at(
     if side.core.busy_value(name).is_none() {
         return Ok(());
     }
-    let Some(place) = place_named(name, &side.records) else {
+    let Some(found) = find_record(name, &side.records) else {
         return Err(Refusal::OutOfMemory);
     };
-    let Some(put) = side.records[place].busy else {
+    let Some(put) = found.busy else {
         return Err(Refusal::OutOfMemory);
     };
     if put.circuit >= circuits.len() {
         return Err(Refusal::OutOfMemory);
     }
-    let next = first_put(&side.records[place].waiting);
-    let value = next_value(alloc, logs, side.life, &side.records[place].waiting)?;
-    let number = side.records[place].number;
-    check_counts(circuits)?;
-    reserve_reports(logs, side.life, &side.records, 2)?;
-    circuits[put.circuit].lists.down.reserve(1)?;
+    let number = found.number;
+    let next = first_put(&found.waiting);
+    let value = next_value(alloc, logs, side.life, &found.waiting)?;
+    reserve_finish(put.circuit, &side.records, side.life, circuits, logs)?;
     tell_finish(
         alloc, server, side, circuits, logs, name, put, number, next, value,
     );
     Ok(())
+}
+
+// Makes room for all that a finish leaves: in the log of this life, and on this circuit for a reply. One more post may be counted for each
+// subscription.
+fn reserve_finish(
+    circuit: usize,
+    records: &[RecordSide],
+    life: usize,
+    circuits: &mut Vec<Joined>,
+    logs: &mut Vec<Vec<Entry>>,
+) -> Result<(), AllocError>
+    requires { circuit < vec_len circuits.old }
+    ensures same { map joined_of circuits.new.items ≡ map joined_of circuits.old.items }
+    ensures len { vec_len circuits.new ≡ vec_len circuits.old }
+    ensures logged { entries_in logs.new.items ≡ entries_in logs.old.items }
+    ensures counts { OnOk result (AllMayCount circuits.new.items) }
+    ensures space { OnOk result (HasRoomOn circuit circuits.new.items) }
+    ensures room { OnOk result (HasRoomFor (waits records.now + 2) life logs.new.items) }
+{
+    check_counts(circuits)?;
+    reserve_reports(logs, life, records, 2)?;
+    reserve_down(&mut circuits[circuit])
+}
+
+// Makes room for one more message down.
+fn reserve_down(joined: &mut Joined) -> Result<(), AllocError>
+    ensures same { joined_of joined.new ≡ joined_of joined.old }
+    ensures standing { joined.new.standing ≡ joined.old.standing }
+    ensures room { OnOk result (vec_len joined.new.lists.down
+        < vec_capacity joined.new.lists.down) }
+{
+    joined.lists.down.reserve(1)
 }
 
 // All of it, in room that was made.
@@ -256,7 +285,8 @@ fn post_next(server: usize, core: &ServerCore, circuits: &mut Vec<Joined>, name:
 // The core finishes the busy put of this record, which is busy.
 fn finish_core(core: &mut ServerCore, name: &[u8])
     requires { (b : puts.Put) × IsBusy core.old name.now b }
-    ensures { (sent : List (handle.Handle × Fields)) × Finishes core.old name.now sent (Ok tt) core.new }
+    ensures { (sent : List (handle.Handle × Fields))
+        × Finishes core.old name.now sent (Ok tt) core.new }
 {
     match core.finish(name) {
         Ok(()) => {}
@@ -309,14 +339,13 @@ fn tell_reply(
     });
 }
 
-// The place of the record of this name.
-fn place_named(name: &[u8], records: &[RecordSide]) -> Option<usize>
-    ensures { MatchOption result (Unit {0})
-        (λ place. (r : side.RecordSide) × At records.now place r × (r.name.items ≡ name.now)) }
+// The record of this name.
+fn find_record<'a>(name: &[u8], records: &'a [RecordSide]) -> Option<&'a RecordSide>
+    ensures { IsFound records.now name.now (option_map (λ r. r.now) result) }
 {
-    for place in 0..records.len() {
-        if records[place].name.as_slice() == name {
-            return Some(place);
+    for one in records {
+        if one.name.as_slice() == name {
+            return Some(one);
         }
     }
     None

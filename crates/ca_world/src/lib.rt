@@ -1,11 +1,10 @@
 //! A world of clients, servers and their circuits, run event by event over the real cores and their bytes. It keeps the
 //! histories of the circuits, and the logs of all lives, beside the cores.
-//!
-//! It is not complete: not all events are there yet.
 #![tactic(auto)]
 
 mod accept;
 mod add;
+mod circuits;
 mod clear;
 mod client_datagram;
 mod client_restart;
@@ -23,8 +22,11 @@ mod post;
 mod pump;
 mod read;
 mod remove;
+mod running;
 mod server_datagram;
 mod server_restart;
+mod server_step;
+mod step;
 mod stopped;
 mod subscribe;
 mod tick;
@@ -39,7 +41,10 @@ pub use ca_world_data::history::{
     Ask, Cause, Entry, Intent, Kind, Line, Recorded, Sent, Step, Stored, Told,
 };
 pub use ca_world_data::settings::{ClientSetting, RuleSetting, ServerSetting};
+pub use circuits::Way;
 pub use config::Config;
+pub use running::{Ran, run};
+pub use step::AfterEvent;
 pub use stopped::Stopped;
 pub use tick::AfterTick;
 pub use world::World;

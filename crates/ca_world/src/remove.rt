@@ -1,23 +1,22 @@
-ghost use Rattle.std.specs.Prelude.{◌≡◌, ◌+◌, length, map};
-ghost use Rattle.ca_model.specs.History as history;
+ghost use Rattle.std.specs.Prelude.{◌+◌, length, map};
 ghost use Rattle.ca_model_world.specs.Events as event;
 ghost use Rattle.ca_model_world.specs.World as model;
 ghost use Rattle.ca_world_data.specs.Does.{Does};
-ghost use Rattle.ca_world_servers.specs.Losing.{AllMayLose, AreLost};
 ghost use Rattle.ca_world_data.specs.Opening.{entries_in};
-ghost use Rattle.ca_world_servers.specs.Removing.{AllSeated, Becomes, RemovesAt, TellsRemoval};
 ghost use Rattle.ca_world_data.specs.Reporting.{AreServed, waits};
 ghost use Rattle.ca_world_data.specs.Seen.{entry_of, joined_of};
 ghost use Rattle.ca_world_data.specs.ServerCuts.{HasRoomFor};
+ghost use Rattle.ca_world_servers.specs.Losing.{AllMayLose, AreLost};
+ghost use Rattle.ca_world_servers.specs.Removing.{AllSeated, Becomes, RemovesAt, TellsRemoval};
 
 use crate::world::World;
 use ca_text::Refusal;
 use ca_world_data::entries::push_some;
 use ca_world_data::history::Entry;
 use ca_world_data::joined::Joined;
-use ca_world_servers::losing::{Leading, forget_record, lose_all, prepare_losses, removal_entries};
 use ca_world_data::reporting::{report_ends, reserve_reports};
 use ca_world_data::server::ServerSide;
+use ca_world_servers::losing::{Leading, forget_record, lose_all, prepare_losses, removal_entries};
 use std::alloc::Global;
 
 impl World {

@@ -1,11 +1,18 @@
+ghost use Rattle.std.specs.Prelude.{◌≡◌, map};
+ghost use Rattle.ca_model_safe.specs.Worlds.{IsLegalWorld, IsSafeWorld};
+ghost use Rattle.ca_world_data.specs.Logs.{lines_in};
+ghost use Rattle.ca_world_data.specs.Opening.{entries_in};
+ghost use Rattle.ca_world_data.specs.Seen.{client_of, joined_of, server_of};
+
+use crate::world::World;
 use ca_world_data::client::ClientSide;
 use ca_world_data::history::{Entry, Line};
 use ca_world_data::joined::Joined;
 use ca_world_data::server::ServerSide;
 use std::marker::Model;
 
-/// A world that stopped within a moment: the moment was handed to a beginning of its clients, and the next one had no memory for it. Nothing
-/// more happens in it.
+/// A world where a run has ended: after its last event, before one that was refused, or within a moment, which a beginning of its clients had
+/// and the next one had no memory for. Nothing more happens in it.
 #[derive(Drop)]
 pub struct Stopped {
     pub(crate) clients: Vec<ClientSide>,
@@ -32,4 +39,74 @@ impl Model for Stopped {
     ghost use Rattle.ca_world.specs.Halted.{HasStopped};
 
     ghost invariant = { λ w. HasStopped (halted w) };
+}
+
+impl World {
+    /// Ends the run here.
+    pub fn stop(self) -> Stopped
+        ensures { result ≡ self }
+    {
+        let World {
+            alloc: _,
+            clients,
+            servers,
+            circuits,
+            client_logs,
+            server_logs,
+            moment,
+        } = self;
+        Stopped {
+            clients,
+            servers,
+            circuits,
+            client_logs,
+            server_logs,
+            moment,
+        }
+    }
+}
+
+impl Stopped {
+    /// Tells that what happened in it is safe and legal, whatever it was. It does nothing.
+    pub fn know(&self)
+        ensures safe { IsSafeWorld self.now }
+        ensures legal { IsLegalWorld self.now }
+    {
+        let _ = &self.moment;
+    }
+
+    /// Its clients.
+    pub fn clients(&self) -> &[ClientSide]
+        ensures { map client_of result.now ≡ self.now.clients }
+    {
+        &self.clients
+    }
+
+    /// Its servers.
+    pub fn servers(&self) -> &[ServerSide]
+        ensures { map server_of result.now ≡ self.now.servers }
+    {
+        &self.servers
+    }
+
+    /// Its circuits, in the order in which they were accepted.
+    pub fn circuits(&self) -> &[Joined]
+        ensures { map joined_of result.now ≡ self.now.circuits }
+    {
+        &self.circuits
+    }
+
+    /// The logs of all lives of clients.
+    pub fn client_logs(&self) -> &[Vec<Line>]
+        ensures { lines_in result.now ≡ self.now.client_logs }
+    {
+        &self.client_logs
+    }
+
+    /// The logs of all lives of servers.
+    pub fn server_logs(&self) -> &[Vec<Entry>]
+        ensures { entries_in result.now ≡ self.now.server_logs }
+    {
+        &self.server_logs
+    }
 }

@@ -1,4 +1,5 @@
 ghost use Rattle.std.specs.Prelude.{◌≡◌, IfOk};
+ghost use Rattle.ca_model_safe.specs.Worlds.{IsLegalWorld, IsSafeWorld};
 ghost use Rattle.ca_model_world.specs.World.{IsSetting, opening};
 
 use crate::config::Config;
@@ -60,5 +61,12 @@ impl World {
             server_logs,
             moment: 0,
         })
+    }
+    /// Tells that what happened in it is safe and legal, whatever it was. It does nothing.
+    pub fn know(&self)
+        ensures safe { IsSafeWorld self.now }
+        ensures legal { IsLegalWorld self.now }
+    {
+        let _ = &self.moment;
     }
 }

@@ -1,20 +1,32 @@
 -- The write that a message may be, from what is read before its step.
-use Rattle.std.proofs.Common.{◌≡◌, ℕ, ◌+◌, ◌<◌, ◌^◌, Bool, true, false, List, [], Option, Some, None, Result, Ok, Err, refl, sym, ap, subst, ◌∙◌, arith, inl, inr}
-use Rattle.std.specs.Prelude.{map, option_map}
+use Rattle.std.proofs.Common.{◌≡◌, ℕ, ◌+◌, ◌<◌, Bool, true, false, List, [], ◌∷◌, Option, Some, None, Ok, Err, refl, sym, ap, subst, ◌∙◌, arith, inl, inr}
+use Rattle.std.specs.Prelude.{◌==◌, find, if◌then◌else◌, option_map}
+use Rattle.std.proofs.lemmas.Bool.{eqb-true}
 use Rattle.ca_arena.specs.declared.handle.Handle.{Handle}
 use Rattle.ca_dbr.specs.declared.data_type.BaseType.{BaseType}
 use Rattle.ca_dbr.specs.declared.data_type.DataType.{DataType}
 use Rattle.ca_dbr.specs.declared.data_type.Form.TheVariants as form
 use Rattle.ca_dbr.specs.declared.value.Meta.{Meta}
-use Rattle.ca_dbr.specs.Conversion.{converted}
-use Rattle.ca_dbr.specs.Elements.{Elements, base_of}
+use Rattle.ca_dbr.specs.Conversion.{Fails, converted}
+use Rattle.ca_dbr.specs.Elements.{Elements, base_of, elements}
 use Rattle.ca_dbr.specs.Reading.{ReadRefused, Reads, ReadsElements}
 use Rattle.ca_dbr.specs.Types.{base_number, type_number}
 use Rattle.ca_dbr.proofs.OneReading.{base_number-small, reads-one, type_number-one}
+use Rattle.ca_ids.specs.Table.{held, under}
+use Rattle.ca_ids.specs.Wire.{wire_of}
+use Rattle.ca_records.specs.Puts.{Record, record_named}
+use Rattle.ca_text.proofs.Places.{At-mapped, some_is}
 use Rattle.ca_text.specs.declared.refusal.Refusal.{Refusal}
 use Rattle.ca_text.specs.declared.refusal.Refusal.TheVariants as refusal
 use Rattle.ca_wire.specs.Fields.{Fields}
-use Rattle.ca_world_servers.specs.Coming.{GivesElements, GivesValue}
+use Rattle.ca_model.specs.Due.{KnownChannel, KnownRecord, Knows, PutTaken, Serves}
+use Rattle.ca_model.specs.Faults.{base_type_of, base_types}
+use Rattle.ca_model.specs.Server.{Open, OpenChannel, Server, ServerCircuit, ServerEnd}
+use Rattle.ca_model.specs.ServerSteps.{HasEnd, known_channel, known_record, knows}
+use Rattle.ca_model.specs.Speech.{In}
+use Rattle.ca_server_core.specs.ForHistories.{NamesUnder, value_in}
+use Rattle.ca_world_servers.specs.declared.coming.Coming.{Coming}
+use Rattle.ca_world_servers.specs.Coming.{Foresees, GivesElements, GivesValue}
 
 abbrev plain : BaseType → DataType
 plain b = record { base = b; form = form.Plain }
@@ -85,3 +97,78 @@ value-failed m base g r gives fails b e v based reads is =
     let both : converted g base ≡ Ok v = subst (λ (x : Elements). converted x base ≡ Ok v) (sym same) is in
     let there = sym fails ∙ both in
     absurd cc
+
+-- what is refused for another reason than want of memory gives nothing
+pub value-refused : (m : Fields) (base : BaseType) (g : Elements) (r : Refusal) → GivesElements m (Some g) → (r ≡ refusal.OutOfMemory → ⊥) → Fails (converted g base) r → GivesValue m base None
+value-refused m base g r gives other (inl fails) = value-failed m base g r gives fails
+value-refused m base g r gives other (inr short) = absurd (other short.0)
+
+-- ---- writes
+
+-- what a search finds passes its test
+find-holds : {A : Type 0} (test : A → Bool) (xs : List A) (x : A) → find test xs ≡ Some x → test x ≡ true
+find-holds test [] x e = absurd cc
+find-holds test (y ∷ ys) x e = go (test y) refl (find-holds test ys x) e
+  where
+    go : (b : Bool) → test y ≡ b → (find test ys ≡ Some x → test x ≡ true) → (if b then Some y else find test ys) ≡ Some x → test x ≡ true
+    go true is later e = subst (λ (z : _). test z ≡ true) (some_is y x e) is
+    go false is later e = later e
+
+typed-number : (n : ℕ) (b : BaseType) → base_type_of n ≡ Some b → base_number b ≡ n
+typed-number n b is = eqb-true (base_number b) n (find-holds (λ (c : BaseType). base_number c == n) base_types b is)
+
+-- a write that is taken writes what its message gives
+taken-gives : (m : Fields) (base : BaseType) (found : Option Elements) → GivesValue m base found → (k : Knows) (c : Serves k m.p1) (v : Elements) → PutTaken k m c v → base_of c.known.state.value ≡ base → found ≡ Some v
+taken-gives m base found gives k c v taken is =
+    gives taken.reads.base taken.elements v (typed-number m.data_type taken.reads.base taken.reads.typed) taken.reads.reads (subst (λ (b : BaseType). converted taken.elements b ≡ Ok v) is taken.is)
+
+value-known : (o : Option Record) (k : KnownRecord) → option_map known_record o ≡ Some k → value_in o ≡ Some k.state.value
+value-known None k is = absurd cc
+value-known (Some r) k is = ap (λ (z : KnownRecord). Some z.state.value) (some_is (known_record r) k is)
+
+module _ (core : Server) (h : Handle) (m : Fields) where
+  -- the channel that is served is one of the end's
+  served-seat : (e : ServerEnd) (c : Serves (knows core e) m.p1) → (x : Handle × OpenChannel) × In (held e.channels) x × (wire_of x.0 ≡ m.p1) × (x.1.retired ≡ false) × (c.channel.name ≡ x.1.name)
+  served-seat e c =
+      let d = At-mapped known_channel (held e.channels) c.open_there.0 c.channel c.open_there.1 in (
+        d.0,
+        (c.open_there.0, d.1),
+        sym (ap (λ (k : KnownChannel). k.sid) d.2) ∙ c.under,
+        sym (ap (λ (k : KnownChannel). k.retired) d.2) ∙ c.there,
+        ap (λ (k : KnownChannel). k.name) d.2,
+      )
+
+  -- no channel is served
+  pub none-named : NamesUnder (under core.circuits h) m.p1 None → Foresees core h m None
+  none-named none e has c v taken =
+      let here : NamesUnder (Some (Open e)) m.p1 None = subst (λ (o : Option ServerCircuit). NamesUnder o m.p1 None) has none in
+      let s = served-seat e c in
+      here s.0 s.1 s.2 s.3
+
+  -- it is to the record of this name
+  module _ (name : List ℕ) (named : NamesUnder (under core.circuits h) m.p1 (Some name)) where
+    served-name : (e : ServerEnd) → HasEnd core h e → (c : Serves (knows core e) m.p1) → c.channel.name ≡ name
+    served-name e has c =
+        let here : NamesUnder (Some (Open e)) m.p1 (Some name) = subst (λ (o : Option ServerCircuit). NamesUnder o m.p1 (Some name)) has named in
+        let s = served-seat e c in
+        s.4 ∙ here.1 s.0 s.1 s.2 s.3
+
+    served-value : (e : ServerEnd) → HasEnd core h e → (c : Serves (knows core e) m.p1) → value_in (record_named core.records name) ≡ Some c.known.state.value
+    served-value e has c =
+        value-known (record_named core.records name) c.known (ap (λ (n : List ℕ). option_map known_record (record_named core.records n)) (sym (served-name e has c)) ∙ c.named)
+
+    -- the record is not there
+    pub none-valued : (let none : Option Elements = None in none ≡ value_in (record_named core.records name)) → Foresees core h m None
+    none-valued none e has c v taken = (let there = served-value e has c in absurd cc)
+
+    -- it has this value
+    module _ (value : Elements) (valued : Some value ≡ value_in (record_named core.records name)) where
+      based : (e : ServerEnd) → HasEnd core h e → (c : Serves (knows core e) m.p1) → base_of c.known.state.value ≡ base_of value
+      based e has c = ap base_of (sym (some_is value c.known.state.value (valued ∙ served-value e has c)))
+
+      pub none-given : GivesValue m (base_of value) None → Foresees core h m None
+      none-given gives e has c v taken = (let wrong = taken-gives m (base_of value) None gives (knows core e) c v taken (based e has c) in absurd cc)
+
+      pub write-given : (w : Coming) → w.name.items ≡ name → GivesValue m (base_of value) (Some (elements w.value)) → Foresees core h m (Some w)
+      write-given w is gives e has c v taken =
+          (served-name e has c ∙ sym is, sym (some_is (elements w.value) v (taken-gives m (base_of value) (Some (elements w.value)) gives (knows core e) c v taken (based e has c))))

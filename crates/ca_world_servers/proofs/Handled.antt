@@ -1,5 +1,5 @@
 -- What a handled message changes of each queue or record, one by one.
-use Rattle.std.proofs.Common.{◌≡◌, ℕ, zero, suc, ◌+◌, ◌<◌, ◌≤◌, inl, inr, Bool, true, false, not, List, [], ◌∷◌, length, refl, sym, ap, subst, ◌∙◌, arith}
+use Rattle.std.proofs.Common.{◌≡◌, ℕ, suc, ◌+◌, ◌≤◌, inl, inr, Bool, true, false, not, List, [], ◌∷◌, length, refl, sym, ap, subst, ◌∙◌, arith}
 use Rattle.std.specs.Prelude.{Err, Ok, OnErr, Result, if◌then◌else◌, map, nat_le, nat_lt, slice_set}
 use Rattle.std.specs.Str.{bytes_eq}
 use Rattle.std.proofs.lemmas.Bool.Decides.{leb_tells}
@@ -17,11 +17,11 @@ use Rattle.ca_model_world.specs.ServerEvents.{number_taken}
 use Rattle.ca_model_world.specs.World.{RecordSide}
 use Rattle.ca_world_data.specs.declared.history.Cause.{Cause}
 use Rattle.ca_world_data.specs.declared.history.Cause.TheVariants as cause
-use Rattle.ca_world_servers.specs.Handling.{has_room}
 use Rattle.ca_world_data.specs.Seen.{cause_of, queue_of}
 use Rattle.ca_world_data.proofs.Counting.{queue_in}
 use Rattle.ca_world_data.proofs.Gone.{from-here, map_from}
 use Rattle.ca_world_data.proofs.Worlds.{set-map, set-same}
+use Rattle.ca_world_servers.specs.Handling.{has_room}
 
 abbrev Q : Type 0
 Q = Queue (ℕ × history.Cause)

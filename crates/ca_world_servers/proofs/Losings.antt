@@ -1,7 +1,6 @@
 -- Circuits lose a record that is removed, one after another.
-use Rattle.std.proofs.Common.{◌≡◌, ℕ, ◌+◌, ◌*◌, ◌-◌, ◌/◌, zero, suc, ◌<◌, ◌≤◌, ◌==◌, ◌&&◌, ◌||◌, Bool, true, false, not, List, [], ◌∷◌, ◌++◌, length, drop, filter, map, take, refl, sym, ap, subst, ◌∙◌, arith, inl, inr}
+use Rattle.std.proofs.Common.{◌≡◌, ℕ, ◌+◌, ◌*◌, ◌-◌, ◌/◌, zero, suc, ◌<◌, ◌≤◌, ◌==◌, ◌&&◌, ◌||◌, Bool, true, false, not, List, [], ◌∷◌, ◌++◌, length, drop, filter, map, refl, sym, ap, subst, ◌∙◌, arith, inl, inr}
 use Rattle.std.specs.Prelude.{if◌then◌else◌, slice_set}
-use Rattle.std.specs.List.{fold}
 use Rattle.std.specs.Str.{bytes_eq}
 use Rattle.std.proofs.lemmas.Bool.{eq-eqb, eqb-true}
 use Rattle.std.proofs.Math.Nat.{mul-div_cancel}
@@ -22,16 +21,16 @@ use Rattle.ca_world_data.specs.declared.history.Cause.{Cause}
 use Rattle.ca_world_data.specs.declared.joined.Joined.{Joined}
 use Rattle.ca_world_data.specs.declared.joined.Creation.{Creation}
 use Rattle.ca_world_data.specs.declared.joined.Standing.{Standing}
-use Rattle.ca_world_servers.specs.declared.losing.Leading.{Leading}
 use Rattle.ca_world_data.specs.declared.server.PutPlace.{PutPlace}
 use Rattle.ca_world_data.specs.declared.server.RecordSide.{RecordSide}
-use Rattle.ca_world_servers.specs.Handling.{without_sid}
-use Rattle.ca_world_servers.specs.Losing.{AreSeated, dropped, is_lost, lost_told, removed_all, withdrawn_entries, without_lost}
 use Rattle.ca_world_data.specs.Numbering.{keys_on}
 use Rattle.ca_world_data.specs.Seen.{cause_of, creation_of, joined_of, place_of, queue_of, record_of, standing_of, told_of}
 use Rattle.ca_world_data.proofs.Counting.{queue_in}
 use Rattle.ca_world_data.proofs.Gone.{from-here, map_from}
 use Rattle.ca_world_data.proofs.Worlds.{set-map, set-same}
+use Rattle.ca_world_servers.specs.declared.losing.Leading.{Leading}
+use Rattle.ca_world_servers.specs.Handling.{without_sid}
+use Rattle.ca_world_servers.specs.Losing.{AreSeated, dropped, is_lost, lost_told, removed_all, withdrawn_entries, without_lost}
 
 -- ---- records
 

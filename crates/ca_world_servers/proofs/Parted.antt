@@ -16,9 +16,9 @@ use Rattle.ca_model_world.specs.World.{PutPlace, RecordSide}
 use Rattle.ca_server_core.specs.ForHistories.{put_in}
 use Rattle.ca_world_data.specs.declared.server.PutPlace.{PutPlace as Kept}
 use Rattle.ca_world_data.specs.declared.server.RecordSide.{RecordSide as Side}
-use Rattle.ca_world_servers.specs.Parting.{AreBeside, all_gone, all_kept, gone_of, kept_of, places_in, put_if, puts_of, with_kept, withdrawn_at}
 use Rattle.ca_world_data.specs.Seen.{record_of}
 use Rattle.ca_world_data.proofs.Worlds.{set-map}
+use Rattle.ca_world_servers.specs.Parting.{AreBeside, all_gone, all_kept, gone_of, kept_of, places_in, put_if, puts_of, with_kept, withdrawn_at}
 
 -- ---- a place of a list
 

@@ -1,9 +1,9 @@
 -- Working: the write that a message may be, known before the step that handles it.
-use Rattle.std.specs.Prelude.{ℕ, ◌≡◌, Option, Some, None, Ok}
+use Rattle.std.specs.Prelude.{◌≡◌, Option, Some, None, Ok}
 use Rattle.ca_arena.specs.declared.handle.Handle.{Handle}
 use Rattle.ca_dbr.specs.declared.data_type.BaseType.{BaseType}
 use Rattle.ca_dbr.specs.Conversion.{converted}
-use Rattle.ca_dbr.specs.Elements.{Elements, base_of, elements}
+use Rattle.ca_dbr.specs.Elements.{Elements, elements}
 use Rattle.ca_dbr.specs.Reading.{ReadsElements}
 use Rattle.ca_dbr.specs.Types.{base_number}
 use Rattle.ca_wire.specs.Fields.{Fields}

@@ -15,11 +15,11 @@ use Rattle.ca_model_world.specs.ServerEvents.{created_at, without_standing}
 use Rattle.ca_model_world.specs.World.{Creation, Joined}
 use Rattle.ca_server_core.specs.ForHistories.{bytes_under, channels_under}
 use Rattle.ca_world_data.specs.declared.joined.Joined.{Joined as Opened}
-use Rattle.ca_world_servers.specs.declared.losing.Leading.{Leading}
 use Rattle.ca_world_data.specs.declared.server.PutPlace.{PutPlace}
 use Rattle.ca_world_data.specs.declared.server.RecordSide.{RecordSide}
 use Rattle.ca_world_data.specs.Numbering.{keys_on}
 use Rattle.ca_world_data.specs.Seen.{joined_of}
+use Rattle.ca_world_servers.specs.declared.losing.Leading.{Leading}
 
 -- ---- one circuit, of whose channels these are lost, each as its SID and its CID
 

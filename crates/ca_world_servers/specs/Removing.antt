@@ -13,12 +13,12 @@ use Rattle.ca_model_world.specs.ServerEvents.{removal_entries, removed_at}
 use Rattle.ca_model_world.specs.World.{Joined, grown}
 use Rattle.ca_model_world.specs.World as model
 use Rattle.ca_world_data.specs.declared.joined.Joined.{Joined as Opened}
-use Rattle.ca_world_servers.specs.declared.losing.Leading.{Leading}
 use Rattle.ca_world_data.specs.declared.server.RecordSide.{RecordSide}
 use Rattle.ca_world_data.specs.declared.server.ServerSide.{ServerSide}
-use Rattle.ca_world_servers.specs.Losing.{AreLost, AreSeated}
 use Rattle.ca_world_data.specs.Reporting.{AreServed, Reports}
 use Rattle.ca_world_data.specs.Seen.{record_of}
+use Rattle.ca_world_servers.specs.declared.losing.Leading.{Leading}
+use Rattle.ca_world_servers.specs.Losing.{AreLost, AreSeated}
 
 -- the queues of each circuit that is open at server i have the subscriptions that stand
 abbrev pub AllSeated : (i : ℕ) → List Joined → Type 0

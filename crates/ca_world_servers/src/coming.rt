@@ -42,11 +42,7 @@ pub fn coming_write(
 }
 
 // The value that a put of this message writes to a record of this type. None if it is not read, or not converted.
-fn value_in(
-    alloc: Global,
-    message: &Message,
-    base: BaseType,
-) -> Result<Option<Value>, AllocError>
+fn value_in(alloc: Global, message: &Message, base: BaseType) -> Result<Option<Value>, AllocError>
     ensures { IfOk result (λ found. GivesValue message.now base (option_map elements found)) }
 {
     let Some(given) = elements_in(alloc, message)? else {

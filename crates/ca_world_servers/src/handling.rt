@@ -9,15 +9,15 @@ ghost use Rattle.ca_model.specs.History as history;
 ghost use Rattle.ca_model_world.specs.ClientEvents.{place_of as place_in};
 ghost use Rattle.ca_model_world.specs.ServerEvents as world;
 ghost use Rattle.ca_world_data.specs.declared.history.Cause.TheVariants as cause;
+ghost use Rattle.ca_world_data.specs.Seen.{joined_of, place_of, queue_of, record_of, step_of, told_of};
 ghost use Rattle.ca_world_servers.specs.Handling.{HasRoomToNote, has_room, with_standing, HaveRoomToWait, MayWait, made_busy, with_creation, with_handled, with_switched, with_waiting, without_sid};
 ghost use Rattle.ca_world_servers.specs.Losing.{AreSeated};
-ghost use Rattle.ca_world_data.specs.Seen.{joined_of, place_of, queue_of, record_of, step_of, told_of};
 
+use crate::losing::{cancel_in, drop_lost};
+use ca_queue::{ListQueue, Queues, SubKey};
 use ca_world_data::history::{Cause, Step, Told};
 use ca_world_data::joined::{Creation, Joined, Standing};
-use crate::losing::{cancel_in, drop_lost};
 use ca_world_data::server::{PutPlace, RecordSide};
-use ca_queue::{ListQueue, Queues, SubKey};
 use std::alloc::AllocError;
 
 /// Makes room for so many replies to a message that is handled, and for its step.

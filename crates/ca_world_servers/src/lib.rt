@@ -1,8 +1,12 @@
 //! What a server's end does to a world: what a message that it handled leaves, the write that a message may be, the puts of a channel
-//! that is cleared, and a record that is removed.
+//! that is cleared, an end that a step closed, and a record that is removed.
 #![tactic(auto)]
 
+pub mod ahead;
 pub mod coming;
+pub mod deeds;
+pub mod doing;
+pub mod ends_with;
 pub mod handling;
 pub mod losing;
 pub mod parting;

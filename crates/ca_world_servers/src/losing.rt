@@ -4,16 +4,16 @@ ghost use Rattle.std.specs.Str.{bytes_eq};
 ghost use Rattle.ca_queue.specs.Queue.{cancelled};
 ghost use Rattle.ca_model_world.specs.ServerEvents as world;
 ghost use Rattle.ca_model_world.specs.World as model;
+ghost use Rattle.ca_world_data.specs.Seen.{creation_of, entry_of, joined_of, queue_of, record_of, told_of};
 ghost use Rattle.ca_world_servers.specs.Losing.{AllMayLose, AllReady, AreLost, AreSeated, IsReady, MayLose, Disconnects, dropped, is_lost, lead_at, lost_by, lost_told, removed_all, withdrawn_entries, without_lost};
-ghost use Rattle.ca_world_data.specs.Seen.{creation_of, entry_of, joined_of, queue_of, record_of, standing_of, told_of};
 
-use ca_world_data::history::{Cause, Entry, Told};
-use ca_world_data::joined::{Creation, Joined, Standing};
-use ca_world_data::server::{PutPlace, RecordSide};
 use ca_queue::{ListQueue, Queues, SubKey};
 use ca_server_core::ServerCore;
 use ca_server_core::for_histories::{bytes_of, channels_to};
 use ca_wire::{Cid, disconnect};
+use ca_world_data::history::{Cause, Entry, Told};
+use ca_world_data::joined::{Creation, Joined, Standing};
+use ca_world_data::server::{PutPlace, RecordSide};
 use std::alloc::{AllocError, Global};
 
 /// The channels to a record at a circuit's open end at its server, each as its SID and its CID, and how many bytes wait to be sent there.

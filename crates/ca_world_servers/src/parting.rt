@@ -2,16 +2,16 @@
 ghost use Rattle.std.specs.Prelude.{◌≡◌, ◌++◌, IfOk, OnOk, map, not};
 ghost use Rattle.ca_ids.specs.Table.{same_handle};
 ghost use Rattle.ca_model_world.specs.ServerEvents as world;
-ghost use Rattle.ca_world_servers.specs.Parting.{all_gone, all_kept, gone_of, kept_of, places_in, put_if, with_kept, withdrawn_at};
 ghost use Rattle.ca_world_data.specs.Seen.{entry_of, place_of, record_of};
+ghost use Rattle.ca_world_servers.specs.Parting.{all_gone, all_kept, gone_of, kept_of, places_in, put_if, with_kept, withdrawn_at};
 
-use ca_world_data::history::Entry;
-use ca_world_data::server::{PutPlace, RecordSide};
 use ca_arena::Handle;
 use ca_ids::WireId;
 use ca_records::Put;
 use ca_server_core::ServerCore;
 use ca_server_core::for_histories::waiting_at;
+use ca_world_data::history::Entry;
+use ca_world_data::server::{PutPlace, RecordSide};
 use std::alloc::{AllocError, Global};
 
 /// What becomes of the puts that wait if a channel is cleared: those that each record keeps, and what the log tells of the others.

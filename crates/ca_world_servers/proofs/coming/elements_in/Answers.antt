@@ -1,4 +1,4 @@
-use Rattle.std.proofs.Common.{◌≡◌, ℕ, ◌∙◌}
+use Rattle.std.proofs.Common.{◌≡◌, ◌∙◌}
 use Rattle.ca_dbr.specs.Elements.{elements}
 use Rattle.ca_world_servers.proofs.Forthcoming.{gives-none, gives-read, gives-untyped}
 use Rattle.ca_world_servers.proofs.coming.elements_in.Goals as goal

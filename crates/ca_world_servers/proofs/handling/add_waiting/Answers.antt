@@ -3,11 +3,11 @@ use Rattle.std.proofs.lemmas.List.{length-map}
 use Rattle.ca_text.specs.Place.{At}
 use Rattle.ca_text.proofs.Places.{At-set}
 use Rattle.ca_world_data.specs.declared.server.RecordSide.{RecordSide}
-use Rattle.ca_world_servers.specs.Handling.{MayWait, with_waiting}
 use Rattle.ca_world_data.specs.Seen.{record_of}
 use Rattle.ca_world_data.proofs.Gone.{from-over}
-use Rattle.ca_world_servers.proofs.Handled.{change-next, if_named}
 use Rattle.ca_world_data.proofs.Worlds.{found}
+use Rattle.ca_world_servers.specs.Handling.{MayWait, with_waiting}
+use Rattle.ca_world_servers.proofs.Handled.{change-next, if_named}
 use Rattle.ca_world_servers.proofs.handling.add_waiting.Goals as goal
 
 pub wait_if-requires : goal.wait_if-requires

@@ -2,9 +2,9 @@ use Rattle.std.proofs.Common.{◌≡◌, ◌≤◌, ℕ, map}
 use Rattle.ca_model_world.specs.ServerEvents.{with_record}
 use Rattle.ca_text.specs.Place.{At}
 use Rattle.ca_world_data.specs.declared.server.RecordSide.{RecordSide}
-use Rattle.ca_world_servers.specs.Handling.{MayWait, with_waiting}
 use Rattle.ca_world_data.specs.Seen.{record_of}
 use Rattle.ca_world_data.proofs.Gone.{map_from}
+use Rattle.ca_world_servers.specs.Handling.{MayWait, with_waiting}
 use Rattle.ca_world_servers.proofs.Handled.{if_named}
 use Rattle.ca_world_servers.proofs.handling.add_waiting.Given as goal
 

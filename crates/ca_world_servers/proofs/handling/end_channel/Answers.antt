@@ -5,8 +5,8 @@ use Rattle.std.proofs.lemmas.List.{with_items_is}
 use Rattle.ca_world_data.specs.declared.joined.Creation.{Creation}
 use Rattle.ca_world_data.specs.declared.joined.Joined.{Joined}
 use Rattle.ca_world_data.specs.declared.joined.Standing.{Standing}
-use Rattle.ca_world_servers.specs.Losing.{dropped, is_lost}
 use Rattle.ca_world_data.proofs.Counting.{queue_in}
+use Rattle.ca_world_servers.specs.Losing.{dropped, is_lost}
 use Rattle.ca_world_servers.proofs.Losings.{ends-channel}
 use Rattle.ca_world_servers.proofs.handling.end_channel.Goals as goal
 

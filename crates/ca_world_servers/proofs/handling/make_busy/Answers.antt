@@ -2,11 +2,11 @@ use Rattle.std.proofs.Common.{ℕ, ◌<◌, ◌≤◌, length, List, map, sym, a
 use Rattle.std.proofs.lemmas.List.{length-map}
 use Rattle.ca_text.specs.Place.{At}
 use Rattle.ca_world_data.specs.declared.server.RecordSide.{RecordSide}
-use Rattle.ca_world_servers.specs.Handling.{made_busy}
 use Rattle.ca_world_data.specs.Seen.{record_of}
 use Rattle.ca_world_data.proofs.Gone.{from-over}
-use Rattle.ca_world_servers.proofs.Handled.{change-next, if_named}
 use Rattle.ca_world_data.proofs.Worlds.{found}
+use Rattle.ca_world_servers.specs.Handling.{made_busy}
+use Rattle.ca_world_servers.proofs.Handled.{change-next, if_named}
 use Rattle.ca_world_servers.proofs.handling.make_busy.Goals as goal
 
 pub loop-record-preserved : goal.loop-record-preserved

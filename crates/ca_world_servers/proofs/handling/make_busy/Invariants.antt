@@ -1,8 +1,8 @@
 use Rattle.std.proofs.Common.{◌≡◌, map}
 use Rattle.ca_model_world.specs.ServerEvents.{with_record}
-use Rattle.ca_world_servers.specs.Handling.{made_busy}
 use Rattle.ca_world_data.specs.Seen.{record_of}
 use Rattle.ca_world_data.proofs.Gone.{map_from}
+use Rattle.ca_world_servers.specs.Handling.{made_busy}
 use Rattle.ca_world_servers.proofs.Handled.{if_named}
 use Rattle.ca_world_servers.proofs.handling.make_busy.Given as goal
 

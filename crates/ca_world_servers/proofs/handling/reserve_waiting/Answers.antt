@@ -1,13 +1,13 @@
-use Rattle.std.proofs.Common.{◌≡◌, ℕ, suc, ◌<◌, ◌≤◌, inl, inr, length, List, map, refl, sym, ap, subst, ◌∙◌, arith}
+use Rattle.std.proofs.Common.{◌≡◌, ℕ, suc, ◌<◌, inl, inr, length, List, map, refl, sym, subst, ◌∙◌, arith}
 use Rattle.std.specs.Prelude.{slice_set}
 use Rattle.std.proofs.lemmas.Bool.Decides.{leb_tells}
 use Rattle.ca_text.specs.Place.{At}
 use Rattle.ca_text.proofs.Places.{At-set, At-within}
 use Rattle.ca_world_data.specs.declared.server.RecordSide.{RecordSide}
-use Rattle.ca_world_servers.specs.Handling.{MayWait}
 use Rattle.ca_world_data.specs.Seen.{record_of}
-use Rattle.ca_world_servers.proofs.Handled.{on-err, same-next}
 use Rattle.ca_world_data.proofs.Worlds.{found}
+use Rattle.ca_world_servers.specs.Handling.{MayWait}
+use Rattle.ca_world_servers.proofs.Handled.{same-next}
 use Rattle.ca_world_servers.proofs.handling.reserve_waiting.Goals as goal
 
 pub returns-in_err-reserve_if-clause-same : goal.returns-in_err-reserve_if-clause-same

@@ -1,8 +1,8 @@
 use Rattle.std.proofs.Common.{◌≡◌, ◌<◌, ℕ, map}
 use Rattle.ca_text.specs.Place.{At}
 use Rattle.ca_world_data.specs.declared.server.RecordSide.{RecordSide}
-use Rattle.ca_world_servers.specs.Handling.{MayWait}
 use Rattle.ca_world_data.specs.Seen.{record_of}
+use Rattle.ca_world_servers.specs.Handling.{MayWait}
 use Rattle.ca_world_servers.proofs.handling.reserve_waiting.Given as goal
 
 -- nothing has changed, and those before this place have room

@@ -6,8 +6,8 @@ use Rattle.ca_world_data.specs.declared.history.Cause.{Cause}
 use Rattle.ca_world_data.specs.Seen.{queue_of}
 use Rattle.ca_world_data.proofs.Counting.{queue_in}
 use Rattle.ca_world_data.proofs.Gone.{from-over}
-use Rattle.ca_world_servers.proofs.Handled.{change-next}
 use Rattle.ca_world_data.proofs.Worlds.{found}
+use Rattle.ca_world_servers.proofs.Handled.{change-next}
 use Rattle.ca_world_servers.proofs.handling.switch_all.Goals as goal
 
 pub loop-queue-preserved : goal.loop-queue-preserved

@@ -5,11 +5,11 @@ use Rattle.ca_text.specs.Place.{At}
 use Rattle.ca_model.specs.History as history
 use Rattle.ca_model_world.specs.ClientEvents.{place_of}
 use Rattle.ca_world_data.specs.declared.history.Cause.{Cause}
-use Rattle.ca_world_servers.specs.Handling.{has_room}
 use Rattle.ca_world_data.specs.Seen.{queue_of}
 use Rattle.ca_world_data.proofs.Counting.{queue_in}
-use Rattle.ca_world_servers.proofs.Handled.{begun-images, first-takes, none-has, none-takes, on-err, room-there, same-next}
 use Rattle.ca_world_data.proofs.Worlds.{found}
+use Rattle.ca_world_servers.specs.Handling.{has_room}
+use Rattle.ca_world_servers.proofs.Handled.{begun-images, first-takes, none-has, none-takes, on-err, room-there, same-next}
 use Rattle.ca_world_servers.proofs.handling.take_number.Goals as goal
 
 pub begin_in-requires-clause-new : goal.begin_in-requires-clause-new

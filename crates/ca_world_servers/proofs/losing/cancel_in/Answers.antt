@@ -1,11 +1,11 @@
-use Rattle.std.proofs.Common.{◌<◌, ◌≤◌, ◌∙◌, length, List, map, slice_index_or, refl, sym, arith}
+use Rattle.std.proofs.Common.{◌<◌, ◌≤◌, ◌∙◌, length, map, slice_index_or, refl, sym, arith}
 use Rattle.std.proofs.lemmas.List.{length-map}
 use Rattle.ca_queue.specs.Queue.{cancelled}
 use Rattle.ca_text.specs.Place.{At}
 use Rattle.ca_world_data.proofs.Counting.{queue_in}
 use Rattle.ca_world_data.proofs.Gone.{from-over}
-use Rattle.ca_world_servers.proofs.Losings.{cancels-next}
 use Rattle.ca_world_data.proofs.Worlds.{found}
+use Rattle.ca_world_servers.proofs.Losings.{cancels-next}
 use Rattle.ca_world_servers.proofs.losing.cancel_in.Goals as goal
 
 pub loop-queue-preserved : goal.loop-queue-preserved

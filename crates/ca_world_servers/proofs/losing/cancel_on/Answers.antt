@@ -1,6 +1,6 @@
-use Rattle.std.proofs.Common.{map, sym, ◌∙◌, rules}
-use Rattle.ca_world_servers.specs.Losing.{is_lost}
+use Rattle.std.proofs.Common.{map, rules}
 use Rattle.ca_world_data.proofs.Counting.{queue_in}
+use Rattle.ca_world_servers.specs.Losing.{is_lost}
 use Rattle.ca_world_servers.proofs.Losings.{cancels-it, cancels-none}
 use Rattle.ca_world_servers.proofs.losing.cancel_on.Goals as goal
 

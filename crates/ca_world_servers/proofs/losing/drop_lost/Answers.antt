@@ -2,10 +2,10 @@ use Rattle.std.proofs.Common.{◌<◌, ◌≤◌, ◌∙◌, length, List, map, 
 use Rattle.std.proofs.lemmas.Fn.{filter_same}
 use Rattle.ca_text.specs.Place.{At}
 use Rattle.ca_world_data.specs.declared.joined.Standing.{Standing}
-use Rattle.ca_world_servers.specs.Losing.{is_lost}
 use Rattle.ca_world_data.proofs.Counting.{queue_in}
-use Rattle.ca_world_servers.proofs.Losings.{drops-all, drops-here}
 use Rattle.ca_world_data.proofs.Worlds.{found}
+use Rattle.ca_world_servers.specs.Losing.{is_lost}
+use Rattle.ca_world_servers.proofs.Losings.{drops-all, drops-here}
 use Rattle.ca_world_servers.proofs.losing.drop_lost.Goals as goal
 
 pub loop-place-preserved : goal.loop-place-preserved

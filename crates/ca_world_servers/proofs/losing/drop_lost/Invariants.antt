@@ -1,7 +1,7 @@
 use Rattle.std.proofs.Common.{◌≡◌, drop, map}
 use Rattle.ca_world_data.specs.declared.joined.Standing.{Standing}
-use Rattle.ca_world_servers.specs.Losing.{dropped, is_lost}
 use Rattle.ca_world_data.proofs.Counting.{queue_in}
+use Rattle.ca_world_servers.specs.Losing.{dropped, is_lost}
 use Rattle.ca_world_servers.proofs.losing.drop_lost.Given as goal
 
 -- with those that are left the queues have none of them

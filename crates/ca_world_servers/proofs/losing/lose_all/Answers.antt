@@ -3,11 +3,11 @@ use Rattle.std.proofs.lemmas.List.{length-map}
 use Rattle.ca_text.specs.Place.{At}
 use Rattle.ca_text.proofs.Places.{At-set, At-within}
 use Rattle.ca_world_data.specs.declared.joined.Joined.{Joined}
-use Rattle.ca_world_servers.specs.declared.losing.Leading.{Leading}
 use Rattle.ca_world_data.specs.Seen.{joined_of}
 use Rattle.ca_world_data.proofs.Counting.{each-next}
 use Rattle.ca_world_data.proofs.Gone.{from-over}
 use Rattle.ca_world_data.proofs.Worlds.{found}
+use Rattle.ca_world_servers.specs.declared.losing.Leading.{Leading}
 use Rattle.ca_world_servers.proofs.losing.lose_all.Goals as goal
 
 pub lose_on-requires : goal.lose_on-requires

@@ -2,9 +2,9 @@ use Rattle.std.proofs.Common.{◌≡◌, ◌≤◌, ℕ, map}
 use Rattle.ca_text.specs.Place.{At}
 use Rattle.ca_model_world.specs.World as model
 use Rattle.ca_world_data.specs.declared.joined.Joined.{Joined}
-use Rattle.ca_world_servers.specs.Losing.{AreLost}
 use Rattle.ca_world_data.specs.Seen.{joined_of}
 use Rattle.ca_world_data.proofs.Gone.{map_from}
+use Rattle.ca_world_servers.specs.Losing.{AreLost}
 use Rattle.ca_world_servers.proofs.losing.lose_all.Given as goal
 
 -- with those that are left all have lost theirs, and those are as they were

@@ -4,9 +4,9 @@ use Rattle.std.proofs.lemmas.List.{with_items_is}
 use Rattle.ca_world_data.specs.declared.joined.Creation.{Creation}
 use Rattle.ca_world_data.specs.declared.joined.Joined.{Joined}
 use Rattle.ca_world_data.specs.declared.joined.Standing.{Standing}
-use Rattle.ca_world_servers.specs.Losing.{dropped, is_lost, lost_told, without_lost}
 use Rattle.ca_world_data.specs.Seen.{creation_of, joined_of, told_of}
 use Rattle.ca_world_data.proofs.Counting.{queue_in}
+use Rattle.ca_world_servers.specs.Losing.{dropped, is_lost, lost_told, without_lost}
 use Rattle.ca_world_servers.proofs.Losings.{loses-so, sixteenths}
 use Rattle.ca_world_servers.proofs.losing.lose_open.Goals as goal
 

@@ -1,9 +1,9 @@
 use Rattle.std.proofs.Common.{◌∙◌, ◌<◌, length, List, slice_index_or, refl, arith}
 use Rattle.ca_text.specs.Place.{At}
 use Rattle.ca_world_data.specs.declared.joined.Joined.{Joined}
+use Rattle.ca_world_data.proofs.Worlds.{found}
 use Rattle.ca_world_servers.specs.Losing.{IsReady}
 use Rattle.ca_world_servers.proofs.Losings.{ready-next, same-set}
-use Rattle.ca_world_data.proofs.Worlds.{found}
 use Rattle.ca_world_servers.proofs.losing.prepare_losses.Goals as goal
 
 pub returns-in_err-prepare_loss-clause-same : goal.returns-in_err-prepare_loss-clause-same

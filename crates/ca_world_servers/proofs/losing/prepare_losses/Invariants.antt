@@ -1,9 +1,9 @@
 use Rattle.std.proofs.Common.{◌≡◌, ℕ, length, map}
 use Rattle.ca_text.specs.Place.{At}
 use Rattle.ca_world_data.specs.declared.joined.Joined.{Joined}
+use Rattle.ca_world_data.specs.Seen.{joined_of}
 use Rattle.ca_world_servers.specs.declared.losing.Leading.{Leading}
 use Rattle.ca_world_servers.specs.Losing.{IsReady}
-use Rattle.ca_world_data.specs.Seen.{joined_of}
 use Rattle.ca_world_servers.proofs.losing.prepare_losses.Given as goal
 
 -- all are as they were, and those before this place are ready

@@ -1,6 +1,6 @@
 use Rattle.std.proofs.Common.{◌≡◌, ◌++◌, drop, map}
-use Rattle.ca_world_servers.specs.Losing.{removed_all}
 use Rattle.ca_world_data.specs.Seen.{entry_of}
+use Rattle.ca_world_servers.specs.Losing.{removed_all}
 use Rattle.ca_world_servers.proofs.losing.removal_entries.Given as goal
 
 -- the records that are left make up the rest

@@ -1,7 +1,7 @@
 use Rattle.std.proofs.Common.{◌≡◌, ◌≤◌, ◌+◌, ◌++◌, drop, length, map}
 use Rattle.std.specs.Prelude.{vec_capacity, vec_len}
-use Rattle.ca_world_servers.specs.Losing.{lost_told}
 use Rattle.ca_world_data.specs.Seen.{creation_of, told_of}
+use Rattle.ca_world_servers.specs.Losing.{lost_told}
 use Rattle.ca_world_servers.proofs.losing.tell_lost.Given as goal
 
 -- the channels that are left make up the rest, and there is room for them

@@ -1,6 +1,6 @@
 use Rattle.std.proofs.Common.{◌≡◌, ◌++◌, drop, map}
-use Rattle.ca_world_servers.specs.Losing.{withdrawn_entries}
 use Rattle.ca_world_data.specs.Seen.{entry_of}
+use Rattle.ca_world_servers.specs.Losing.{withdrawn_entries}
 use Rattle.ca_world_servers.proofs.losing.tell_withdrawn.Given as goal
 
 -- the puts that are left make up the rest

@@ -6,10 +6,10 @@ use Rattle.std.proofs.lemmas.List.{length-map, nil_from_length}
 use Rattle.ca_text.specs.Place.{At}
 use Rattle.ca_world_data.specs.declared.server.PutPlace.{PutPlace}
 use Rattle.ca_world_data.specs.declared.server.RecordSide.{RecordSide}
-use Rattle.ca_world_servers.specs.Parting.{places_in}
 use Rattle.ca_world_data.specs.Seen.{record_of}
-use Rattle.ca_world_servers.proofs.Parted.{kept-none, kept-over, kept-step, kept_from}
 use Rattle.ca_world_data.proofs.Worlds.{found}
+use Rattle.ca_world_servers.specs.Parting.{places_in}
+use Rattle.ca_world_servers.proofs.Parted.{kept-none, kept-over, kept-step, kept_from}
 use Rattle.ca_world_servers.proofs.parting.keep_waiting.Goals as goal
 
 pub loop-waiting-preserved-then-place-records : goal.loop-waiting-preserved-then-place-records

@@ -1,6 +1,6 @@
 use Rattle.std.proofs.Common.{◌≡◌, map}
-use Rattle.ca_world_servers.specs.Parting.{places_in, with_kept}
 use Rattle.ca_world_data.specs.Seen.{record_of}
+use Rattle.ca_world_servers.specs.Parting.{places_in, with_kept}
 use Rattle.ca_world_servers.proofs.Parted.{kept_from}
 use Rattle.ca_world_servers.proofs.parting.keep_waiting.Given as goal
 

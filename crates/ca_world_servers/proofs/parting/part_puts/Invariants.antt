@@ -1,6 +1,6 @@
 use Rattle.std.proofs.Common.{◌≡◌, ◌++◌, drop, map}
-use Rattle.ca_world_servers.specs.Parting.{all_gone, all_kept, places_in}
 use Rattle.ca_world_data.specs.Seen.{entry_of, record_of}
+use Rattle.ca_world_servers.specs.Parting.{all_gone, all_kept, places_in}
 use Rattle.ca_world_servers.proofs.parting.part_puts.Given as goal
 
 -- the records that are left make up the rest

@@ -7,8 +7,8 @@ use Rattle.ca_text.proofs.Places.{At-map}
 use Rattle.ca_server_core.specs.ForHistories.{put_in}
 use Rattle.ca_world_data.specs.declared.server.PutPlace.{PutPlace}
 use Rattle.ca_world_data.specs.Seen.{place_of}
-use Rattle.ca_world_servers.proofs.Parted.{aside-kept, aside-none, aside-over, aside-told, ends-kept, ends-told}
 use Rattle.ca_world_data.proofs.Worlds.{found}
+use Rattle.ca_world_servers.proofs.Parted.{aside-kept, aside-none, aside-over, aside-told, ends-kept, ends-told}
 use Rattle.ca_world_servers.proofs.parting.part_waiting.Goals as goal
 
 pub loop-place-preserved : goal.loop-place-preserved

@@ -9,7 +9,7 @@ use Rattle.ca_laws_held.proofs.Kept.{quiet-opening}
 use Rattle.ca_laws_runs.specs.Clients.{ClientsStand}
 use Rattle.ca_laws_runs.proofs.Events.{stands-opening}
 use Rattle.ca_world_data.specs.Indexed.{AreIndexed, client_numbers, server_numbers}
-use Rattle.ca_world.specs.Whole.{IsReached}
+use Rattle.ca_world.specs.Whole.{CameAbout, IsReached}
 use Rattle.ca_world_data.specs.Named.{AreMeant}
 use Rattle.ca_world_data.specs.Seen.{joined_of}
 use Rattle.ca_world.proofs.Meanings.{mean-opening}
@@ -32,6 +32,7 @@ invariant_of-result c =
       indexed = subst (λ (z : List Joined). AreIndexed (client_numbers c.in_ok-clients.clients.items) (server_numbers c.in_ok-servers.servers.items) z) (sym none)
           (record { clients = λ k j at on. absurd cc; servers = λ k j at on. absurd cc });
       reached = subst (λ (z : model.World). IsReached z) (sym is) (s, [], c.config.invariant, refl);
+      came_about = subst (λ (z : model.World). CameAbout z) (sym is) (s, [], c.config.invariant, (λ i e at. absurd cc), refl);
       clients = subst (λ (z : model.World). ClientsStand z) (sym is) (stands-opening s);
       quiet = subst (λ (z : model.World). ClientsQuiet z) (sym is) (quiet-opening s);
       named = subst (λ (z : model.World). AreMeant z.clients) (sym is) (mean-opening s);

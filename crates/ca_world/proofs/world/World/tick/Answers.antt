@@ -68,5 +68,5 @@ invariant_of-result-in-Err c =
     let cs : List ClientSide = c.tick_all.new.clients.items in
     let ks : List Joined = map joined_of c.tick_all.new.circuits.items in
     let cl : List (List Line) = lines_in c.tick_all.new.logs.items in
-    has-stopped c.args.moment (seen w) (world_with (map client_of cs) (map server_of w.servers.items) ks cl (entries_in w.server_logs.items) w.moment) c.self.invariant.reached
+    has-stopped c.args.moment (seen w) (world_with (map client_of cs) (map server_of w.servers.items) ks cl (entries_in w.server_logs.items) w.moment) c.self.invariant.came_about
     (ticks-part c.args.moment (seen w) (map client_of cs) cl ks _ le c.in-Err.ensures.ticks)

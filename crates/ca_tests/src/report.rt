@@ -1,0 +1,35 @@
+//! The lines of a report that no case of the program has.
+use ca_dbr::Outcome;
+use ca_script::{write_end, write_log};
+use ca_small_model::{Logged, Notice};
+use ca_text::{Refusal, Status};
+use std::alloc::Global;
+
+pub(crate) fn lines_are_written(alloc: Global) -> Result<bool, Refusal> {
+    let log = [
+        Logged::Told(Notice::Live(0)),
+        Logged::Told(Notice::Completed(2, Outcome::Done)),
+        Logged::Told(Notice::Completed(3, Outcome::Failed(Status { number: 410 }))),
+        Logged::Told(Notice::Completed(4, Outcome::Unreadable(Refusal::Short))),
+        Logged::Told(Notice::Completed(5, Outcome::Disconnected)),
+        Logged::Told(Notice::Lost(1)),
+        Logged::Refused(Refusal::BadPriority),
+    ];
+    has_lines(alloc, &log)
+}
+
+fn has_lines(alloc: Global, log: &[Logged]) -> Result<bool, Refusal> {
+    let mut out = Vec::new(alloc);
+    write_log(0, log, &mut out)?;
+    write_end(18, &mut out)?;
+    let wanted = b"0 live 0
+0 completed 2 done
+0 completed 3 status 410
+0 completed 4 unreadable 5
+0 completed 5 disconnected
+0 lost 1
+0 refused 25
+events 18
+";
+    Ok(out.as_slice() == wanted.as_slice())
+}

@@ -1,0 +1,67 @@
+use Rattle.std.proofs.Common.{◌≡◌, ◌∙◌, ℕ, ◌<◌, inl, inr, true, false, not, List, Option, Some, length, map, refl, sym, ap, subst, arith}
+use Rattle.std.specs.Prelude.{Vec, is_some, option_map}
+use Rattle.std.specs.declared.alloc.Global.{Global}
+use Rattle.ca_dbr.specs.Elements.{Elements, elements}
+use Rattle.ca_records.specs.declared.puts.Put.{Put}
+use Rattle.ca_text.proofs.Places.{At-map}
+use Rattle.ca_model.specs.History as history
+use Rattle.ca_model_world.specs.ServerEvents.{first_of}
+use Rattle.ca_model_world.specs.World as model
+use Rattle.ca_world.specs.Finishing.{IsBeside, IsBusy, IsBusyOn, IsNext, TellsFinish}
+use Rattle.ca_world_data.specs.declared.history.Entry.{Entry}
+use Rattle.ca_world_data.specs.declared.joined.Joined.{Joined}
+use Rattle.ca_world_data.specs.declared.server.PutPlace.{PutPlace}
+use Rattle.ca_world_data.specs.declared.server.RecordSide.{RecordSide}
+use Rattle.ca_world_data.specs.declared.server.ServerSide.{ServerSide}
+use Rattle.ca_world_data.specs.Opening.{entries_in}
+use Rattle.ca_world_data.specs.Seen.{joined_of, place_of, record_of}
+use Rattle.ca_world_data.proofs.Worlds.{one-at}
+use Rattle.ca_world.proofs.Finishings.{busy-on, found-beside, none-busy, refuses, some-busy, told-ends}
+use Rattle.ca_world.proofs.finish.finish_at.Goals as goal
+
+pub returns-then-is_none : goal.returns-then-is_none
+returns-then-is_none c =
+    let has : is_some c.busy_value.result ≡ false = c.is_none.ensures ∙ ap not c.if-is_none.true in
+    let d = refuses c.args.side.now.core c.args.name.now (none-busy (λ v. elements v.now) c.busy_value.result c.args.side.now.core c.args.name.now c.busy_value.ensures has) in
+    inr (d.0, d.1, refl, refl, refl)
+
+pub tell_finish-requires-clause-busy : goal.tell_finish-requires-clause-busy
+tell_finish-requires-clause-busy c =
+    let y : ServerSide = c.args.side.now in
+    let name : List ℕ = c.args.name.now in
+    let ks : List Joined = c.args.circuits.now.items in
+    let r : RecordSide = c.in-Some.found.now in
+    let p : PutPlace = c.in-Some-busy.put in
+    let has : is_some c.busy_value.result ≡ true = c.is_none.ensures ∙ ap not c.if-is_none.false in
+    let b : (z : Put) × IsBusy y.core name z = some-busy (λ v. elements v.now) c.busy_value.result y.core name c.busy_value.ensures has in
+    let beside : IsBeside y.core (map record_of y.records.items) name b.1.c (record_of r) = found-beside y c.deref.result.now name r b.0 b.1 c.deref.ensures.value c.in-Some.ensures in
+    let busy : option_map place_of r.busy ≡ Some (place_of p) = ap (option_map place_of) c.in-Some-busy.is in
+    let within : p.circuit < length ks = omega (arith, c.if-put-len.false, c.len.ensures) in
+    let j = one-at ks p.circuit within in
+    subst (λ (js : List model.Joined). IsBusyOn y.core name p.circuit js) (sym c.reserve_finish.ensures.same)
+    (busy-on y (map joined_of ks) (entries_in c.args.logs.now.items) name (record_of r) (place_of p) (joined_of j.0) b.0 b.1 c.requires.may beside busy (At-map joined_of ks p.circuit j.0 j.1))
+
+pub returns : goal.returns
+returns c =
+    let y : ServerSide = c.args.side.now in
+    let y' : ServerSide = c.tell_finish.new.side in
+    let i : ℕ = c.args.server in
+    let name : List ℕ = c.args.name.now in
+    let ks : List model.Joined = map joined_of c.args.circuits.now.items in
+    let ks' : List model.Joined = map joined_of c.tell_finish.new.circuits.items in
+    let logs : List (List history.Entry) = entries_in c.args.logs.now.items in
+    let logs' : List (List history.Entry) = entries_in c.tell_finish.new.logs.items in
+    let r : RecordSide = c.in-Some.found.now in
+    let p : PutPlace = c.in-Some-busy.put in
+    let next : Option model.PutPlace = option_map place_of c.first_put-next.result in
+    let value : Option Elements = option_map elements c.in_ok-value.value in
+    let has : is_some c.busy_value.result ≡ true = c.is_none.ensures ∙ ap not c.if-is_none.false in
+    let b : (z : Put) × IsBusy y.core name z = some-busy (λ v. elements v.now) c.busy_value.result y.core name c.busy_value.ensures has in
+    let beside : IsBeside y.core (map record_of y.records.items) name b.1.c (record_of r) = found-beside y c.deref.result.now name r b.0 b.1 c.deref.ensures.value c.in-Some.ensures in
+    let busy : option_map place_of r.busy ≡ Some (place_of p) = ap (option_map place_of) c.in-Some-busy.is in
+    let next_is : next ≡ first_of (map place_of r.waiting.items) = c.first_put-next.ensures ∙ ap (λ (ps : List PutPlace). first_of (map place_of ps)) c.deref-2.ensures.value in
+    let is : IsNext logs y.life (map place_of r.waiting.items) value =
+    subst (λ (z : List (Vec Entry Global) × List PutPlace). IsNext (entries_in z.0) y.life (map place_of z.1) value) (λ t. (c.deref-3.ensures.value t, c.deref-4.ensures.value t)) c.in_ok-value.ensures in
+    let told : TellsFinish i name (place_of p) r.number next value y ks logs y' ks' logs' =
+    subst (λ (z : List model.Joined × List (List history.Entry)). TellsFinish i name (place_of p) r.number next value y z.0 z.1 y' ks' logs') (λ t. (c.reserve_finish.ensures.same t, c.reserve_finish.ensures.logged t)) c.tell_finish.ensures in
+    inl (told-ends i name y y' ks ks' logs logs' b.1.c (record_of r) (place_of p) next value beside busy next_is is c.requires.may told)

@@ -1,0 +1,29 @@
+-- Vocabulary: the bytes that wait on the circuits of a world, and the ends that may receive them.
+use Rattle.std.specs.Prelude.{ℕ, ◌≡◌, List, length}
+use Rattle.ca_model_world.specs.ClientEvents.{waiting_down, waiting_up}
+use Rattle.ca_model_world.specs.Runs.{HasClientEnd, HasServerEnd}
+use Rattle.ca_model_world.specs.World.{ClientSide, Joined, Joins, ServerSide, World}
+use Rattle.ca_world.specs.declared.circuits.Way.{Way}
+use Rattle.ca_world.specs.declared.circuits.Way.TheVariants.{Down, Up}
+
+-- the bytes that wait for the server of a circuit, or for its client
+abbrev pub waiting_for : Way → Joined → ClientSide → ServerSide → List ℕ
+waiting_for Up j x y = waiting_up x j
+waiting_for Down j x y = waiting_down y j
+
+-- so many wait on circuit k
+pub record Waits (w : World) (k : ℕ) (way : Way) (n : ℕ) : Type 0 where
+  pub j : Joined
+  pub x : ClientSide
+  pub y : ServerSide
+  pub joins : Joins w k j x y
+  pub many : n ≡ length (waiting_for way j x y)
+
+-- there is no circuit k
+abbrev pub IsNoCircuit : World → (k : ℕ) → Type 0
+IsNoCircuit w k = (j : Joined) (x : ClientSide) (y : ServerSide) → Joins w k j x y → ⊥
+
+-- the end of circuit k that these bytes reach is open
+abbrev pub Receives : World → (k : ℕ) → Way → Type 0
+Receives w k Up = HasServerEnd w k
+Receives w k Down = HasClientEnd w k

@@ -1,0 +1,30 @@
+use Rattle.std.proofs.Common.{◌≡◌, List, map, subst, sym, Vec, Global}
+use Rattle.ca_model_world.specs.ServerEvents.{withdrawals, without_puts}
+use Rattle.ca_model_world.specs.World.{grown}
+use Rattle.ca_model_world.specs.World as model
+use Rattle.ca_world_data.specs.declared.joined.Joined.{Joined}
+use Rattle.ca_world_data.specs.declared.server.RecordSide.{RecordSide}
+use Rattle.ca_world_data.specs.declared.server.ServerSide.{ServerSide}
+use Rattle.ca_world_data.specs.Opening.{entries_in}
+use Rattle.ca_world_data.specs.Reporting.{AreServed}
+use Rattle.ca_world_data.specs.Seen.{joined_of, record_of}
+use Rattle.ca_world_servers.specs.EndsWith.{gone_with}
+use Rattle.ca_world_servers.proofs.Closings.{reports-all, served-still}
+use Rattle.ca_world_servers.proofs.ends_with.report_ends_with.Goals as goal
+
+pub report_ends-requires-clause-served : goal.report_ends-requires-clause-served
+report_ends-requires-clause-served c =
+    let ks : List model.Joined = map joined_of c.args.circuits.now.items in
+    subst (λ (js : List model.Joined). AreServed c.args.side.now.circuits.items js c.args.server) (sym c.close_under.ensures)
+    (served-still c.args.handle c.args.server c.args.left c.args.side.now.circuits.items ks c.requires.served)
+
+pub returns : goal.returns
+returns c =
+    let y : ServerSide = c.args.side.now in
+    let rest : Vec RecordSide Global = c.withdraw_all.new.records in
+    let logged : entries_in c.withdraw_all.new.logs.items ≡ grown y.life (withdrawals (gone_with c.args.handle c.args.server y.core (map joined_of c.args.circuits.now.items)) (map record_of y.records.items)) (entries_in c.args.logs.now.items) =
+    subst (λ (ls : List Joined). entries_in c.withdraw_all.new.logs.items ≡ grown y.life (withdrawals (gone_with c.args.handle c.args.server y.core (map joined_of ls)) (map record_of y.records.items)) (entries_in c.args.logs.now.items)) c.deref.ensures.value c.withdraw_all.ensures.logged in
+    let kept : map record_of rest.items ≡ map (without_puts (gone_with c.args.handle c.args.server y.core (map joined_of c.args.circuits.now.items))) (map record_of y.records.items) =
+    subst (λ (ls : List Joined). map record_of rest.items ≡ map (without_puts (gone_with c.args.handle c.args.server y.core (map joined_of ls))) (map record_of y.records.items)) c.deref.ensures.value c.withdraw_all.ensures.kept in
+    reports-all c.args.handle c.args.left c.args.server y rest (map joined_of c.args.circuits.now.items) (map joined_of c.close_under.new.circuits.items) (entries_in c.args.logs.now.items) (entries_in c.withdraw_all.new.logs.items)
+    c.report_ends.new.side (map joined_of c.report_ends.new.circuits.items) (entries_in c.report_ends.new.logs.items) logged kept c.close_under.ensures c.report_ends.ensures
