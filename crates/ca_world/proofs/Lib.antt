@@ -40,3 +40,4 @@ pub mod StepNotes
 pub mod StepWorlds
 pub mod Ended
 pub mod Waits
+pub mod StepCloses

@@ -3,6 +3,7 @@ ghost use Rattle.ca_arena.specs.declared.handle.Handle as handle;
 ghost use Rattle.ca_ids.specs.Table.{under};
 ghost use Rattle.ca_model.specs.Due.{Action};
 ghost use Rattle.ca_model.specs.Server.{Server, ServerEnd};
+ghost use Rattle.ca_model.specs.ServerCalls.{waiting};
 ghost use Rattle.ca_model.specs.ServerSteps.{HasEnd, NeedsMemory, output_of};
 ghost use Rattle.ca_model_world.specs.Events as event;
 ghost use Rattle.ca_model_world.specs.World as model;
@@ -132,17 +133,26 @@ fn step_at(
     )?;
     check_counts(circuits)?;
     reserve_reports(logs, side.life, &side.records, 2)?;
-    let counts = Counts {
-        waited: side.core.out_bytes(circuits[circuit].at_server).len(),
-        applied: side.core.applied(),
-        waiting: side.core.waiting(),
-    };
+    let counts = counts_of(&side.core, &circuits[circuit]);
     // The count of writes stays at its limit, so that a step there would not tell whether it wrote.
     if counts.applied >= APPLIED_LIMIT {
         return Err(Refusal::OutOfMemory);
     }
     step_end(alloc, circuit, server, side, circuits, logs, ahead, counts);
     Ok(())
+}
+
+// How much waits on a circuit, and how much was applied and waits at its server.
+fn counts_of(core: &ServerCore, joined: &Joined) -> Counts
+    ensures waited { result.waited ≡ length (output_of (under core.now.circuits joined.now.at_server)) }
+    ensures applied { result.applied ≡ core.now.applied }
+    ensures waits { result.waiting ≡ waiting core.now }
+{
+    Counts {
+        waited: core.out_bytes(joined.at_server).len(),
+        applied: core.applied(),
+        waiting: core.waiting(),
+    }
 }
 
 // What is known of the message of this circuit that is handled next, if it came.
@@ -634,20 +644,62 @@ fn close_stepped(
         (entries_in logs.new.items) }
 {
     let place = circuits[circuit].lists.handled.len();
-    let wrote = wrote_of(&side.core, applied, command, &write);
-    if let Some(busies) = wrote {
-        tell_deed(
-            circuit,
-            place,
-            server,
-            side,
-            circuits,
-            logs,
-            Deed::Applies(busies),
-            write,
-            parting,
-        );
-    }
+    let Some(busies) = wrote_of(&side.core, applied, command, &write) else {
+        report_ends_with(alloc, server, side, circuits, logs, at, left);
+        return;
+    };
+    close_written(
+        alloc, circuit, place, server, side, circuits, logs, busies, write, parting, at, left,
+    );
+}
+
+// A write is told, whose end has closed with these bytes left, and all ends that ended are reported.
+fn close_written(
+    alloc: Global,
+    circuit: usize,
+    place: usize,
+    server: usize,
+    side: &mut ServerSide,
+    circuits: &mut Vec<Joined>,
+    logs: &mut Vec<Vec<Entry>>,
+    busies: bool,
+    write: Option<Coming>,
+    parting: Option<Parting>,
+    at: Handle,
+    left: Pipe,
+)
+    requires done { (before : Server) × (h : handle.Handle) × (action : Action)
+        × WasDone before h (map record_of side.old.records.items) (did.Applies busies) write parting action }
+    requires alike { AllAlike server side.old.core (map joined_of circuits.old.items) }
+    requires counts { AllMayCount circuits.old.items }
+    requires served { AreServed
+        side.old.circuits.items
+        (map joined_of circuits.old.items)
+        server }
+    requires space { MayWaitFor write side.old.records.items }
+    requires room { HasRoomFor (waits side.old.records.items + 2) side.old.life logs.old.items }
+    ensures { (before : Server) (h : handle.Handle) (action : Action)
+        → WasDone before h (map record_of side.old.records.items) (did.Applies busies) write parting action
+        → ClosesWith
+        circuit
+        server
+        place
+        before
+        h
+        at
+        action
+        left
+        side.old
+        (map joined_of circuits.old.items)
+        (entries_in logs.old.items)
+        side.new
+        (map joined_of circuits.new.items)
+        (entries_in logs.new.items) }
+{
+    let deed = Deed::Applies(busies);
+    tell_deed(
+        circuit, place, server, side, circuits, logs, deed, write, parting,
+    );
     report_ends_with(alloc, server, side, circuits, logs, at, left);
 }
 

@@ -1,0 +1,143 @@
+use Rattle.std.proofs.Common.{◌≡◌, ℕ, ◌<◌, List, length, refl, sym, ap, subst, ◌∙◌}
+use Rattle.std.specs.Prelude.{map, slice_set}
+use Rattle.ca_ids.specs.Table.{under}
+use Rattle.ca_text.specs.Place.{At}
+use Rattle.ca_text.proofs.Places.{At-map, At-one}
+use Rattle.ca_model.specs.ServerSteps.{output_of}
+use Rattle.ca_model_world.specs.World as model
+use Rattle.ca_world_data.specs.declared.joined.Joined.{Joined}
+use Rattle.ca_world_data.specs.declared.server.ServerSide.{ServerSide}
+use Rattle.ca_world_data.specs.Opening.{entries_in}
+use Rattle.ca_world_data.specs.Reporting.{AreServed}
+use Rattle.ca_world_data.specs.Seen.{joined_of, record_of, server_of}
+use Rattle.ca_world_data.proofs.Indexes.{numbers-set}
+use Rattle.ca_world_data.proofs.Worlds.{found}
+use Rattle.ca_world_servers.specs.Handling.{HasRoomToNote}
+use Rattle.ca_world.specs.StepParts.{IsAheadOf}
+use Rattle.ca_world.proofs.Downward.{at-set}
+use Rattle.ca_world.proofs.StepCloses.{lacks-kept, may-step, read-one, steps-whole}
+use Rattle.ca_world.proofs.server_step.step_at.Goals as goal
+
+pub returns-in_err-reserve_handled : goal.returns-in_err-reserve_handled
+returns-in_err-reserve_handled c =
+    let y : ServerSide = c.args.side.now in
+    let k : ℕ = c.args.circuit in
+    let ks : List Joined = c.args.circuits.now.items in
+    let x : Joined = c.index_mut.result.now in
+    let new : Joined = c.reserve_handled.new.joined in
+    let within : k < length ks = subst (λ (n : ℕ). k < n) c.args.circuits.now.ok.0 c.requires.within in
+    let there : At ks k x = found ks k x x within c.index_mut.ensures.value in
+    let joins : map joined_of (slice_set ks k new) ≡ map joined_of ks = numbers-set joined_of ks k x new there c.reserve_handled.ensures.same in
+    let logs = entries_in c.args.logs.now.items in
+    lacks-kept k y y (map joined_of ks) (map joined_of (slice_set ks k new)) logs logs c.from_residual.result c.from_residual.ensures.1 refl refl joins refl
+
+pub returns-in_err-ahead : goal.returns-in_err-ahead
+returns-in_err-ahead c =
+    let y : ServerSide = c.args.side.now in
+    let k : ℕ = c.args.circuit in
+    let ks : List Joined = c.args.circuits.now.items in
+    let x : Joined = c.index_mut.result.now in
+    let new : Joined = c.reserve_handled.new.joined in
+    let within : k < length ks = subst (λ (n : ℕ). k < n) c.args.circuits.now.ok.0 c.requires.within in
+    let there : At ks k x = found ks k x x within c.index_mut.ensures.value in
+    let joins : map joined_of (slice_set ks k new) ≡ map joined_of ks = numbers-set joined_of ks k x new there c.reserve_handled.ensures.same in
+    let z : ServerSide = record y { records = c.next_ahead.new.records } in
+    let side : server_of z ≡ server_of y = ap (λ (rs : List model.RecordSide). record (server_of y) { records = rs }) c.next_ahead.ensures.same in
+    let logs = entries_in c.args.logs.now.items in
+    lacks-kept k y z (map joined_of ks) (map joined_of (slice_set ks k new)) logs logs c.from_residual-in_err-ahead.result c.from_residual-in_err-ahead.ensures.1 side refl joins refl
+
+pub returns-in_err-check_counts : goal.returns-in_err-check_counts
+returns-in_err-check_counts c =
+    let y : ServerSide = c.args.side.now in
+    let k : ℕ = c.args.circuit in
+    let ks : List Joined = c.args.circuits.now.items in
+    let x : Joined = c.index_mut.result.now in
+    let new : Joined = c.reserve_handled.new.joined in
+    let within : k < length ks = subst (λ (n : ℕ). k < n) c.args.circuits.now.ok.0 c.requires.within in
+    let there : At ks k x = found ks k x x within c.index_mut.ensures.value in
+    let joins : map joined_of (slice_set ks k new) ≡ map joined_of ks = numbers-set joined_of ks k x new there c.reserve_handled.ensures.same in
+    let z : ServerSide = record y { records = c.next_ahead.new.records } in
+    let side : server_of z ≡ server_of y = ap (λ (rs : List model.RecordSide). record (server_of y) { records = rs }) c.next_ahead.ensures.same in
+    let logs = entries_in c.args.logs.now.items in
+    lacks-kept k y z (map joined_of ks) (map joined_of (slice_set ks k new)) logs logs c.from_residual-in_err-check_counts.result c.from_residual-in_err-check_counts.ensures.1 side refl joins refl
+
+pub returns-in_err-reserve_reports : goal.returns-in_err-reserve_reports
+returns-in_err-reserve_reports c =
+    let y : ServerSide = c.args.side.now in
+    let k : ℕ = c.args.circuit in
+    let ks : List Joined = c.args.circuits.now.items in
+    let x : Joined = c.index_mut.result.now in
+    let new : Joined = c.reserve_handled.new.joined in
+    let within : k < length ks = subst (λ (n : ℕ). k < n) c.args.circuits.now.ok.0 c.requires.within in
+    let there : At ks k x = found ks k x x within c.index_mut.ensures.value in
+    let joins : map joined_of (slice_set ks k new) ≡ map joined_of ks = numbers-set joined_of ks k x new there c.reserve_handled.ensures.same in
+    let z : ServerSide = record y { records = c.next_ahead.new.records } in
+    let side : server_of z ≡ server_of y = ap (λ (rs : List model.RecordSide). record (server_of y) { records = rs }) c.next_ahead.ensures.same in
+    lacks-kept k y z (map joined_of ks) (map joined_of (slice_set ks k new)) (entries_in c.args.logs.now.items) (entries_in c.reserve_reports.new.logs.items) c.from_residual-in_err-reserve_reports.result c.from_residual-in_err-reserve_reports.ensures.1 side refl joins c.reserve_reports.ensures.same
+
+pub returns-then-counts-ge-APPLIED_LIMIT : goal.returns-then-counts-ge-APPLIED_LIMIT
+returns-then-counts-ge-APPLIED_LIMIT c =
+    let y : ServerSide = c.args.side.now in
+    let k : ℕ = c.args.circuit in
+    let ks : List Joined = c.args.circuits.now.items in
+    let x : Joined = c.index_mut.result.now in
+    let new : Joined = c.reserve_handled.new.joined in
+    let within : k < length ks = subst (λ (n : ℕ). k < n) c.args.circuits.now.ok.0 c.requires.within in
+    let there : At ks k x = found ks k x x within c.index_mut.ensures.value in
+    let joins : map joined_of (slice_set ks k new) ≡ map joined_of ks = numbers-set joined_of ks k x new there c.reserve_handled.ensures.same in
+    let side = ap (λ (rs : List model.RecordSide). record (server_of y) { records = rs }) c.next_ahead.ensures.same in
+    (side, refl, joins, c.reserve_reports.ensures.same)
+
+pub step_end-requires-clause-may : goal.step_end-requires-clause-may
+step_end-requires-clause-may c =
+    let y : ServerSide = c.args.side.now in
+    let k : ℕ = c.args.circuit in
+    let ks : List Joined = c.args.circuits.now.items in
+    let x : Joined = c.index_mut.result.now in
+    let new : Joined = c.reserve_handled.new.joined in
+    let within : k < length ks = subst (λ (n : ℕ). k < n) c.args.circuits.now.ok.0 c.requires.within in
+    let there : At ks k x = found ks k x x within c.index_mut.ensures.value in
+    let joins : map joined_of (slice_set ks k new) ≡ map joined_of ks = numbers-set joined_of ks k x new there c.reserve_handled.ensures.same in
+    let first : c.index.result.now ≡ new = read-one ks k x new c.index.result.now _ there c.index.ensures in
+    let second : c.index-2.result.now ≡ new = read-one ks k x new c.index-2.result.now _ there c.index-2.ensures in
+    let known = subst (λ (j : Joined). IsAheadOf y.core (joined_of j) (map record_of y.records.items) c.in_ok-ahead.ahead) first c.in_ok-ahead.ensures.known in
+    let waited = c.counts_of-counts.ensures.waited ∙ ap (λ (j : Joined). length (output_of (under y.core.circuits j.at_server))) second in
+    may-step c.args.server k y.core (map joined_of ks) (map joined_of (slice_set ks k new)) (map record_of y.records.items) (map record_of c.next_ahead.new.records.items) (joined_of new) c.in_ok-ahead.ahead c.counts_of-counts.result
+    joins c.next_ahead.ensures.same (At-map joined_of (slice_set ks k new) k new (at-set ks k x new there)) c.requires.may known waited c.counts_of-counts.ensures.applied c.if-counts-ge-APPLIED_LIMIT.false c.counts_of-counts.ensures.waits
+
+pub step_end-requires-clause-served : goal.step_end-requires-clause-served
+step_end-requires-clause-served c =
+    let y : ServerSide = c.args.side.now in
+    let k : ℕ = c.args.circuit in
+    let ks : List Joined = c.args.circuits.now.items in
+    let x : Joined = c.index_mut.result.now in
+    let new : Joined = c.reserve_handled.new.joined in
+    let within : k < length ks = subst (λ (n : ℕ). k < n) c.args.circuits.now.ok.0 c.requires.within in
+    let there : At ks k x = found ks k x x within c.index_mut.ensures.value in
+    let joins : map joined_of (slice_set ks k new) ≡ map joined_of ks = numbers-set joined_of ks k x new there c.reserve_handled.ensures.same in
+    subst (λ (js : List model.Joined). AreServed y.circuits.items js c.args.server) (sym joins) c.requires.served
+
+pub step_end-requires-clause-notes : goal.step_end-requires-clause-notes
+step_end-requires-clause-notes c = λ j at.
+    let k : ℕ = c.args.circuit in
+    let ks : List Joined = c.args.circuits.now.items in
+    let x : Joined = c.index_mut.result.now in
+    let new : Joined = c.reserve_handled.new.joined in
+    let within : k < length ks = subst (λ (n : ℕ). k < n) c.args.circuits.now.ok.0 c.requires.within in
+    let there : At ks k x = found ks k x x within c.index_mut.ensures.value in
+    subst (λ (z : Joined). HasRoomToNote 0 z) (At-one (slice_set ks k new) k new j (at-set ks k x new there) at) c.in_ok-reserve_handled.ensures.room
+
+pub returns : goal.returns
+returns c =
+    let y : ServerSide = c.args.side.now in
+    let k : ℕ = c.args.circuit in
+    let ks : List Joined = c.args.circuits.now.items in
+    let x : Joined = c.index_mut.result.now in
+    let new : Joined = c.reserve_handled.new.joined in
+    let within : k < length ks = subst (λ (n : ℕ). k < n) c.args.circuits.now.ok.0 c.requires.within in
+    let there : At ks k x = found ks k x x within c.index_mut.ensures.value in
+    let joins : map joined_of (slice_set ks k new) ≡ map joined_of ks = numbers-set joined_of ks k x new there c.reserve_handled.ensures.same in
+    let z : ServerSide = record y { records = c.next_ahead.new.records } in
+    let side : server_of z ≡ server_of y = ap (λ (rs : List model.RecordSide). record (server_of y) { records = rs }) c.next_ahead.ensures.same in
+    (c.step_end.ensures.numbers, steps-whole k (server_of y) (server_of z) (map joined_of ks) (map joined_of (slice_set ks k new)) (entries_in c.args.logs.now.items) (entries_in c.reserve_reports.new.logs.items)
+    (server_of c.step_end.new.side) (map joined_of c.step_end.new.circuits.items) (entries_in c.step_end.new.logs.items) side joins c.reserve_reports.ensures.same c.step_end.ensures.steps)
