@@ -32,6 +32,8 @@ pub mod Removings
 pub mod Seating
 pub mod ServerSteppings
 pub mod EndsClosed
+pub mod StepFacts
+pub mod StepHandled
 pub mod StepLaws
 pub mod StepLists
 pub mod StepNumbers

@@ -144,7 +144,7 @@ reach-keys name mask v gone a b is g stays = go (under a.circuits g) refl
             ap (keys_concerned name mask) (now ∙ ap (λ (x : Bool). Some (if x then Ended why.OutOfMemory e.link.output else Open (with_post name mask v e))) is') ∙ sym (ap (keys_concerned name mask) was)
 
 -- what a server's circuits are once a message wrote
-wrote-circuits : (y : Server) (h : Handle) (taken : ServerEnd) (m : Fields) (replies : List Fields) (name : List ℕ) (value : Elements) (busies : Bool) (after : Server) → Handles y h taken m replies (Applies name value busies) after
+pub wrote-circuits : (y : Server) (h : Handle) (taken : ServerEnd) (m : Fields) (replies : List Fields) (name : List ℕ) (value : Elements) (busies : Bool) (after : Server) → Handles y h taken m replies (Applies name value busies) after
     → after.circuits ≡ with_changed (λ (c : ServerCircuit). Open (record taken { link = with_sent replies taken.link })) h y.circuits
 wrote-circuits y h taken m replies name value busies after handles =
     ap (λ (z : Server). z.circuits) handles.leaves ∙ go busies handles.acted handles.recorded handles.acts handles.records

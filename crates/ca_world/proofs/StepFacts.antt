@@ -1,0 +1,219 @@
+-- What is known of the circuits once a message was handled: for what it did to be told, and for its end to close.
+use Rattle.std.proofs.Common.{◌≡◌, ℕ, ◌<◌, inl, inr, Bool, true, false, List, [], ◌∷◌, Option, Some, None, length, refl, sym, ap, subst, ◌∙◌}
+use Rattle.std.specs.Prelude.{filter, if◌then◌else◌, map, option_map, slice_set}
+use Rattle.std.specs.List.{fold}
+use Rattle.ca_arena.specs.declared.handle.Handle.{Handle}
+use Rattle.ca_ids.specs.Table.{Table, under, with_changed}
+use Rattle.ca_link.specs.Link.{with_rest, with_sent}
+use Rattle.ca_queue.specs.declared.entry.SubKey.{SubKey}
+use Rattle.ca_queue.specs.Circuit.{queue_posted}
+use Rattle.ca_queue.specs.Keys.{is_among}
+use Rattle.ca_queue.specs.Queue.{Queue, posted}
+use Rattle.ca_text.specs.Place.{At}
+use Rattle.ca_text.proofs.Places.{At-map, At-mapped, At-set}
+use Rattle.ca_model.specs.Due.{Action, Adds, Applies, Clears, Drops, Greets, Names, Nothing, Opens, Switches, Waits}
+use Rattle.ca_model.specs.Ends as why
+use Rattle.ca_model.specs.History.{Step, Told}
+use Rattle.ca_model.specs.Server.{Ended, Open, Server, ServerCircuit, ServerEnd, Subscription, concerns, key_of, with_post}
+use Rattle.ca_model.specs.ServerSteps.{Handles, HasEnd, Reaches, is_write, reached, stored_now, write_mask}
+use Rattle.ca_model.specs.Speech.{Stored}
+use Rattle.ca_model_client.proofs.Handles.{handle-or}
+use Rattle.ca_model_client.proofs.Placed.{under-other}
+use Rattle.ca_model_client.proofs.Tables.{changed-own}
+use Rattle.ca_model_world.specs.ServerEvents.{numbers_after}
+use Rattle.ca_model_world.specs.World as model
+use Rattle.ca_model_world.specs.World.{Joined, RecordSide}
+use Rattle.ca_world.specs.declared.server_step.Counts.{Counts}
+use Rattle.ca_world.specs.ServerStepping.{with_lists}
+use Rattle.ca_world.specs.StepParts.{IsHandled, MayStep}
+use Rattle.ca_world_data.specs.declared.joined.Joined.{Joined as Opened}
+use Rattle.ca_world_data.specs.declared.joined.Standing.{Standing as Kept}
+use Rattle.ca_world_data.specs.Numbering.{AllAlike, AllMayCount, AreAlike, IsAlike, keys_within, post_limit}
+use Rattle.ca_world_data.specs.Reporting.{AreServed}
+use Rattle.ca_world_data.specs.Seen.{joined_of, standing_of}
+use Rattle.ca_world_data.proofs.Indexes.{KeepsEnds}
+use Rattle.ca_world_servers.specs.declared.ahead.Ahead.{Ahead}
+use Rattle.ca_world_servers.specs.declared.deeds.Deed.{Deed}
+use Rattle.ca_world_servers.specs.declared.deeds.Deed.TheVariants as deed
+use Rattle.ca_world_servers.specs.Deeds.{IsDeed, WasDone}
+use Rattle.ca_world.proofs.StepNumbers.{each-under, wrote-circuits}
+
+-- ---- by the action
+
+-- a write that is applied at once
+pub applies-writes : (action : Action) (done : Deed) (busies : Bool) → IsDeed action done → done ≡ deed.Applies busies → is_write action ≡ true
+applies-writes action done busies is applies = go action (subst (IsDeed action) applies is)
+  where
+    go : (action : Action) → IsDeed action (deed.Applies busies) → is_write action ≡ true
+    go (Applies name value b) is = refl
+    go (Waits name value) is = absurd is
+    go (Clears sid) is = absurd is
+    go Nothing is = absurd is
+    go Greets is = absurd is
+    go (Names p) is = absurd is
+    go (Opens c) is = absurd is
+    go (Adds s) is = absurd is
+    go (Drops key) is = absurd is
+    go (Switches on) is = absurd is
+
+-- does nothing to its own circuit beside the numbers
+pub write-same : (place : ℕ) (action : Action) (j : Joined) → is_write action ≡ true → numbers_after place action j ≡ j
+write-same place (Applies name value b) j is = refl
+write-same place (Waits name value) j is = refl
+write-same place Nothing j is = refl
+write-same place Greets j is = refl
+write-same place (Names p) j is = refl
+write-same place (Clears sid) j is = absurd cc
+write-same place (Opens c) j is = absurd cc
+write-same place (Adds s) j is = absurd cc
+write-same place (Drops key) j is = absurd cc
+write-same place (Switches on) j is = absurd cc
+
+-- ---- ends beside their circuits
+
+-- an end with the same subscriptions and queues
+as-alike : (e next : ServerEnd) (j : Joined) → next.subscriptions ≡ e.subscriptions → next.queues ≡ e.queues → AreAlike e j → AreAlike next j
+as-alike e next j subs queues a =
+    record { keys = ap (map key_of) subs ∙ a.keys; apart = a.apart; queues = a.queues ∙ sym (ap keys_within queues) }
+
+changed-alike : (y : Server) (h : Handle) (e next : ServerEnd) → HasEnd y h e → next.subscriptions ≡ e.subscriptions → next.queues ≡ e.queues → (j : Joined) → IsAlike (under y.circuits j.at_server) j
+    → IsAlike (under (with_changed (λ (c : ServerCircuit). Open next) h y.circuits) j.at_server) j
+changed-alike y h e next has subs queues j alike = elim (handle-or j.at_server h) [
+  | inr other ↦ subst (λ (o : Option ServerCircuit). IsAlike o j) (sym (under-other (λ (c : ServerCircuit). Open next) y.circuits h j.at_server other)) alike
+  | inl same ↦
+      let here : IsAlike (under y.circuits h) j = subst (λ (x : Handle). IsAlike (under y.circuits x) j) same alike in
+      let was : AreAlike e j = subst (λ (o : Option ServerCircuit). IsAlike o j) has here in
+      let now : IsAlike (under (with_changed (λ (c : ServerCircuit). Open next) h y.circuits) h) j =
+      subst (λ (o : Option ServerCircuit). IsAlike o j) (sym (changed-own (λ (c : ServerCircuit). Open next) y.circuits h (Open e) has)) (as-alike e next j subs queues was) in
+      subst (λ (x : Handle). IsAlike (under (with_changed (λ (c : ServerCircuit). Open next) h y.circuits) x) j) (sym same) now
+]
+
+module _ (name : List ℕ) (mask : ℕ) (v : Stored) (gone : Handle → Bool) where
+  within-posted : (key : SubKey) (qs : List (Queue Stored)) → keys_within (map (queue_posted key v) qs) ≡ keys_within qs
+  within-posted key [] = refl
+  within-posted key (q ∷ qs) = (λ t. one (is_among key q.subscriptions) t ∷ within-posted key qs t)
+    where
+      one : (b : Bool) → (if b then posted key v q else q).subscriptions ≡ q.subscriptions
+      one true = refl
+      one false = refl
+
+  within-all : (ss : List Subscription) (qs : List (Queue Stored)) → keys_within (fold (λ (rs : List (Queue Stored)) (s : Subscription). map (queue_posted (key_of s) v) rs) qs ss) ≡ keys_within qs
+  within-all [] qs = refl
+  within-all (s ∷ ss) qs = within-all ss (map (queue_posted (key_of s) v) qs) ∙ within-posted (key_of s) qs
+
+  -- a post that reaches an end
+  reached-alike : (h : Handle) (o : Option ServerCircuit) (j : Joined) → IsAlike o j → IsAlike (option_map (reached name mask v gone h) o) j
+  reached-alike h None j a = tt
+  reached-alike h (Some (Ended cause left)) j a = tt
+  reached-alike h (Some (Open e)) j a = go (gone h)
+    where
+      go : (b : Bool) → IsAlike (Some (if b then Ended why.OutOfMemory e.link.output else Open (with_post name mask v e))) j
+      go true = tt
+      go false = record { keys = a.keys; apart = a.apart; queues = a.queues ∙ sym (within-all (filter (concerns name mask) e.subscriptions) e.queues) }
+
+-- a circuit with other lists
+lists-alike : (d : List Told) (s : List Step) (o : Option ServerCircuit) (j : Joined) → IsAlike o j → IsAlike o (with_lists d s j)
+lists-alike d s None j a = tt
+lists-alike d s (Some (Ended cause left)) j a = tt
+lists-alike d s (Some (Open e)) j a = record { keys = a.keys; apart = a.apart; queues = a.queues }
+
+pub alike-set : (d : List Told) (s : List Step) (i : ℕ) (core : Server) (ks : List Joined) (k : ℕ) (j : Joined) → At ks k j → AllAlike i core ks → AllAlike i core (slice_set ks k (with_lists d s j))
+alike-set d s i core ks k j at all n g there mine on = elim (At-set ks k (with_lists d s j) n g there) [
+  | inr old ↦ all n g old.0 mine on
+  | inl is ↦
+      let was : IsAlike (under core.circuits j.at_server) j = all k j at (ap (λ (z : Joined). z.server) (sym is.1) ∙ mine) (ap (λ (z : Joined). z.lists.server_open) (sym is.1) ∙ on) in
+      subst (λ (z : Joined). IsAlike (under core.circuits z.at_server) z) (sym is.1) (lists-alike d s (under core.circuits j.at_server) j was)
+]
+
+-- ---- a message that was handled
+
+module _ (before core : Server) (i : ℕ) (j : Joined) (ks : List Joined) (rs : List RecordSide) (a : Ahead) (c : Counts) (m : MayStep i before j ks rs a c) (d : IsHandled before core j.at_server m.e) where
+  -- what it did
+  pub was-done : (done : Deed) → IsDeed d.next.action done → WasDone before j.at_server rs done a.write a.parting d.next.action
+  was-done done is =
+      let ahead = m.ahead d.next in
+      record {
+        e = m.e;
+        has = m.has;
+        m = d.next.m;
+        replies = d.next.replies;
+        due = d.next.handles.due;
+        is = is;
+        foreseen = ahead.foreseen;
+        beside = m.beside;
+        apart = m.apart;
+        unstamped = m.unstamped;
+      }
+
+  -- The same subscriptions stand at the ends and on the circuits, once its write reached them.
+  pub alike-core : is_write d.next.action ≡ true → AllAlike i core ks
+  alike-core wrote = go d.next.action d.next.handles d.reaches wrote
+    where
+      taken : ServerEnd
+      taken = record m.e { link = with_rest d.next.rest m.e.link }
+
+      now : ServerEnd
+      now = record taken { link = with_sent d.next.replies taken.link }
+
+      go : (action : Action) → Handles before j.at_server taken d.next.m d.next.replies action d.next.after → Reaches action d.gone d.next.after core → is_write action ≡ true → AllAlike i core ks
+      go (Applies name value busies) handles reaches wrote = λ n g there mine on.
+          let v : Stored = stored_now d.next.after value in
+          let is : under d.next.after.circuits g.at_server ≡ under (with_changed (λ (c : ServerCircuit). Open now) j.at_server before.circuits) g.at_server =
+          ap (λ (t : Table ServerCircuit). under t g.at_server) (wrote-circuits before j.at_server taken d.next.m d.next.replies name value busies d.next.after handles) in
+          let after : IsAlike (under d.next.after.circuits g.at_server) g =
+          subst (λ (o : Option ServerCircuit). IsAlike o g) (sym is) (changed-alike before j.at_server m.e now m.has refl refl g (m.alike n g there mine on)) in
+          subst (λ (o : Option ServerCircuit). IsAlike o g)
+          (sym (ap (λ (z : Server). under z.circuits g.at_server) reaches.1 ∙ each-under (reached name write_mask v d.gone) d.next.after.circuits g.at_server))
+          (reached-alike name write_mask v d.gone g.at_server (under d.next.after.circuits g.at_server) g after)
+      go (Waits name value) handles reaches wrote = absurd cc
+      go (Clears sid) handles reaches wrote = absurd cc
+      go Nothing handles reaches wrote = absurd cc
+      go Greets handles reaches wrote = absurd cc
+      go (Names p) handles reaches wrote = absurd cc
+      go (Opens c) handles reaches wrote = absurd cc
+      go (Adds s) handles reaches wrote = absurd cc
+      go (Drops key) handles reaches wrote = absurd cc
+      go (Switches on) handles reaches wrote = absurd cc
+
+  -- with the lists of its circuit aside
+  pub alike-after : (done : Deed) → IsDeed d.next.action done → (busies : Bool) → done ≡ deed.Applies busies → (k place : ℕ) → At ks k j → AllAlike i core (slice_set ks k (with_lists [] [] (numbers_after place d.next.action j)))
+  alike-after done is busies applies k place at =
+      let wrote : is_write d.next.action ≡ true = applies-writes d.next.action done busies is applies in
+      subst (λ (z : Joined). AllAlike i core (slice_set ks k (with_lists [] [] z))) (sym (write-same place d.next.action j wrote)) (alike-set [] [] i core ks k j at (alike-core wrote))
+
+-- ---- one circuit of many
+
+-- one more post may be counted still
+pub counts-set : (items : List Opened) (k : ℕ) (old new : Opened) → At items k old → map standing_of new.standing.items ≡ map standing_of old.standing.items → AllMayCount items → AllMayCount (slice_set items k new)
+counts-set items k old new at same all n g there p s here = elim (At-set items k new n g there) [
+  | inr was ↦ all n g was.0 p s here
+  | inl is ↦
+      let mine : At new.standing.items p s = subst (λ (z : Opened). At z.standing.items p s) is.1 here in
+      let seen : At (map standing_of old.standing.items) p (standing_of s) =
+      subst (λ (ss : List model.Standing). At ss p (standing_of s)) same (At-map standing_of new.standing.items p s mine) in
+      let m = At-mapped standing_of old.standing.items p (standing_of s) seen in
+      subst (λ (n : ℕ). n < post_limit) (sym (ap (λ (z : model.Standing). z.posts) m.2)) (all k old at p m.0 m.1)
+]
+
+-- what a message does to its circuit, whose lists are aside, leaves its ends
+pub keeps-noted : (place : ℕ) (action : Action) (j : Joined) → KeepsEnds j (with_lists [] [] (numbers_after place action j))
+keeps-noted place (Applies name value b) j = record { client = refl; server = refl; at_client = refl; at_server = refl; closes = λ on. on; stops = λ on. on }
+keeps-noted place (Waits name value) j = record { client = refl; server = refl; at_client = refl; at_server = refl; closes = λ on. on; stops = λ on. on }
+keeps-noted place (Clears sid) j = record { client = refl; server = refl; at_client = refl; at_server = refl; closes = λ on. on; stops = λ on. on }
+keeps-noted place Nothing j = record { client = refl; server = refl; at_client = refl; at_server = refl; closes = λ on. on; stops = λ on. on }
+keeps-noted place Greets j = record { client = refl; server = refl; at_client = refl; at_server = refl; closes = λ on. on; stops = λ on. on }
+keeps-noted place (Names p) j = record { client = refl; server = refl; at_client = refl; at_server = refl; closes = λ on. on; stops = λ on. on }
+keeps-noted place (Opens c) j = record { client = refl; server = refl; at_client = refl; at_server = refl; closes = λ on. on; stops = λ on. on }
+keeps-noted place (Adds s) j = record { client = refl; server = refl; at_client = refl; at_server = refl; closes = λ on. on; stops = λ on. on }
+keeps-noted place (Drops key) j = record { client = refl; server = refl; at_client = refl; at_server = refl; closes = λ on. on; stops = λ on. on }
+keeps-noted place (Switches on) j = record { client = refl; server = refl; at_client = refl; at_server = refl; closes = λ on. on; stops = λ on. on }
+
+-- the server finds its circuits still
+pub served-set : (own : List ℕ) (ks : List Joined) (i : ℕ) (k : ℕ) (j new : Joined) → At ks k j → KeepsEnds j new → AreServed own ks i → AreServed own (slice_set ks k new) i
+served-set own ks i k j new at keeps served n g there mine on = elim (At-set ks k new n g there) [
+  | inr old ↦ served n g old.0 mine on
+  | inl is ↦
+      let here : At own j.at_server.index k =
+      served k j at (sym keeps.server ∙ ap (λ (z : Joined). z.server) (sym is.1) ∙ mine) (keeps.stops (ap (λ (z : Joined). z.lists.server_open) (sym is.1) ∙ on)) in
+      subst (λ (z : ℕ × Handle). At own z.1.index z.0) (λ t. (sym is.0 t, sym (ap (λ (z : Joined). z.at_server) is.1 ∙ keeps.at_server) t)) here
+]
