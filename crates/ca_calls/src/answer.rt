@@ -2,7 +2,7 @@ use ca_arena::Handle;
 use ca_client_core::{Address, Notice, Notices};
 use ca_dbr::{Meta, Outcome, Value, write_value};
 use ca_text::{Refusal, Status};
-use std::alloc::{AllocError, Global};
+use std::alloc::Global;
 use std::net::Ipv4Addr;
 
 /// More bytes than these are not written in full.
@@ -11,12 +11,11 @@ const WRITTEN: usize = 1024;
 /// More notices than these are not written.
 const NOTICES: u32 = 100_000;
 
-/// An answer as text: words in one line. One for which memory was short lacks words, and says so at the end.
+/// An answer as text: words in one line.
 #[derive(Drop)]
 pub struct Answer {
     alloc: Global,
     text: String,
-    is_whole: bool,
 }
 
 impl Answer {
@@ -25,7 +24,6 @@ impl Answer {
         Answer {
             alloc,
             text: String::new(alloc),
-            is_whole: true,
         }
     }
 
@@ -34,167 +32,146 @@ impl Answer {
         self.text.as_str()
     }
 
-    /// Whether there was memory for all words.
-    pub fn is_whole(&self) -> bool {
-        self.is_whole
-    }
-
     /// Begins anew.
     pub fn clear(&mut self) {
         self.text.clear();
-        self.is_whole = true;
-    }
-
-    fn add(&mut self, text: &str) {
-        if self.text.push_str(text).is_err() {
-            self.is_whole = false;
-        }
     }
 
     /// Adds a word, after a space if it is not the first.
-    pub fn word(&mut self, word: &str) {
+    pub fn word(&mut self, word: &str) -> Result<(), Refusal> {
         if !self.text.is_empty() {
-            self.add(" ");
+            self.text.push_str(" ")?;
         }
-        self.add(word);
-    }
-
-    fn made(&mut self, made: Result<String, AllocError>) {
-        match made {
-            Ok(word) => self.word(word.as_str()),
-            Err(_) => self.is_whole = false,
-        }
+        self.text.push_str(word)?;
+        Ok(())
     }
 
     /// Adds a number, in decimal.
-    pub fn number(&mut self, number: u64) {
-        self.made(format!(in self.alloc; "{number}"));
+    pub fn number(&mut self, number: u64) -> Result<(), Refusal> {
+        self.word(format!(in self.alloc; "{number}")?.as_str())
     }
 
     /// Adds that the call was refused, and by what.
-    pub fn refusal(&mut self, refusal: Refusal) {
-        self.made(format!(in self.alloc; "refused {refusal}"));
+    pub fn refusal(&mut self, refusal: Refusal) -> Result<(), Refusal> {
+        self.word(format!(in self.alloc; "refused {refusal}")?.as_str())
     }
 
     /// Adds a status, by its number.
-    pub fn status(&mut self, status: Status) {
-        self.number(u64::from(status.number));
+    pub fn status(&mut self, status: Status) -> Result<(), Refusal> {
+        self.number(u64::from(status.number))
     }
 
     /// A handle as `INDEX.GENERATION`.
-    pub fn handle(&mut self, handle: Handle) {
+    pub fn handle(&mut self, handle: Handle) -> Result<(), Refusal> {
         let Handle { index, generation } = handle;
-        self.made(format!(in self.alloc; "{index}.{generation}"));
+        self.word(format!(in self.alloc; "{index}.{generation}")?.as_str())
     }
 
     /// A word, and a handle.
-    pub fn of(&mut self, word: &str, handle: Handle) {
-        self.word(word);
-        self.handle(handle);
+    pub fn of(&mut self, word: &str, handle: Handle) -> Result<(), Refusal> {
+        self.word(word)?;
+        self.handle(handle)
     }
 
     /// An address as `A.B.C.D:PORT`.
-    pub fn address(&mut self, address: Address) {
+    pub fn address(&mut self, address: Address) -> Result<(), Refusal> {
         let host = Ipv4Addr::from_bits(address.host);
         let port = address.port;
-        self.made(format!(in self.alloc; "{host}:{port}"));
+        self.word(format!(in self.alloc; "{host}:{port}")?.as_str())
     }
 
     /// Bytes in words of 8, or of many how many there are and the first.
-    pub fn bytes(&mut self, bytes: &[u8]) {
+    pub fn bytes(&mut self, bytes: &[u8]) -> Result<(), Refusal> {
         if bytes.len() <= WRITTEN {
             return self.all_bytes(bytes);
         }
-        self.number(bytes.len() as u64);
-        self.word("bytes");
-        self.all_bytes(bytes.get(..64).unwrap_or(bytes));
+        self.number(bytes.len() as u64)?;
+        self.word("bytes")?;
+        self.all_bytes(bytes.get(..64).unwrap_or(bytes))
     }
 
-    fn all_bytes(&mut self, bytes: &[u8]) {
+    fn all_bytes(&mut self, bytes: &[u8]) -> Result<(), Refusal> {
         if bytes.is_empty() {
             return self.word("nothing");
         }
         for piece in bytes.chunks(8) {
-            self.made(hex::encode(self.alloc, piece));
+            self.word(hex::encode(self.alloc, piece)?.as_str())?;
         }
+        Ok(())
     }
 
-    fn value(&mut self, value: &Value, meta: &Meta) {
+    fn value(&mut self, value: &Value, meta: &Meta) -> Result<(), Refusal> {
         let base = value.base_type().number();
-        self.number(u64::from(base));
-        self.number(value.count() as u64);
-        self.image(base, value);
-        if *meta != Meta::ZERO {
-            self.meta(meta);
-        }
-    }
-
-    fn image(&mut self, base: u16, value: &Value) {
+        self.number(u64::from(base))?;
+        self.number(value.count() as u64)?;
         let mut image = Vec::new(self.alloc);
-        match write_value(base, value, &Meta::ZERO, &mut image) {
-            Ok(()) => self.bytes(&image),
-            Err(_) => self.is_whole = false,
+        write_value(base, value, &Meta::ZERO, &mut image)?;
+        self.bytes(&image)?;
+        if *meta == Meta::ZERO {
+            return Ok(());
         }
+        self.meta(meta)
     }
 
-    fn meta(&mut self, meta: &Meta) {
-        self.word("at");
-        self.number(u64::from(meta.status));
-        self.number(u64::from(meta.severity));
-        self.number(u64::from(meta.seconds));
-        self.number(u64::from(meta.nanos));
+    fn meta(&mut self, meta: &Meta) -> Result<(), Refusal> {
+        self.word("at")?;
+        self.number(u64::from(meta.status))?;
+        self.number(u64::from(meta.severity))?;
+        self.number(u64::from(meta.seconds))?;
+        self.number(u64::from(meta.nanos))
     }
 
-    fn outcome(&mut self, outcome: &Outcome) {
+    fn outcome(&mut self, outcome: &Outcome) -> Result<(), Refusal> {
         match outcome {
             Outcome::Value(value, meta) => {
-                self.word("value");
-                self.value(value, meta);
+                self.word("value")?;
+                self.value(value, meta)
             }
             Outcome::Done => self.word("done"),
             Outcome::Failed(status) => {
-                self.word("failed");
-                self.status(*status);
+                self.word("failed")?;
+                self.status(*status)
             }
             Outcome::Unreadable(refusal) => {
-                self.word("unreadable");
-                self.refusal(*refusal);
+                self.word("unreadable")?;
+                self.refusal(*refusal)
             }
             Outcome::Disconnected => self.word("disconnected"),
         }
     }
 
-    fn notice(&mut self, notice: &Notice) {
+    fn notice(&mut self, notice: &Notice) -> Result<(), Refusal> {
         match notice {
             Notice::Live(channel) => self.of("live", *channel),
             Notice::Lost(channel) => self.of("lost", *channel),
             Notice::Completed(request, outcome) => {
-                self.of("completed", *request);
-                self.outcome(outcome);
+                self.of("completed", *request)?;
+                self.outcome(outcome)
             }
             Notice::Update(subscription, outcome) => {
-                self.of("update", *subscription);
-                self.outcome(outcome);
+                self.of("update", *subscription)?;
+                self.outcome(outcome)
             }
             Notice::SubscriptionEnded(subscription, status) => {
-                self.of("ended", *subscription);
-                self.status(*status);
+                self.of("ended", *subscription)?;
+                self.status(*status)
             }
             Notice::WriteRefused(channel, status) => {
-                self.of("write-refused", *channel);
-                self.status(*status);
+                self.of("write-refused", *channel)?;
+                self.status(*status)
             }
         }
     }
 
     /// Notices in order, with a comma after each.
-    pub fn notices(&mut self, notices: &mut Notices) {
+    pub fn notices(&mut self, mut notices: Notices) -> Result<(), Refusal> {
         for _ in 0..NOTICES {
             let Some(notice) = notices.next() else {
                 break;
             };
-            self.notice(&notice);
-            self.add(",");
+            self.notice(&notice)?;
+            self.text.push_str(",")?;
         }
+        Ok(())
     }
 }

@@ -2,8 +2,7 @@
 
 use crate::answer::Answer;
 use crate::words::Words;
-use ca_arena::Handle;
-use ca_client_core::{ChannelState, ClientCore, Closing, Datagram, Left, Stepped, Ticked, Why};
+use ca_client_core::{ChannelState, ClientCore, Closing, Left, Stepped, Ticked, Why};
 use ca_text::Refusal;
 use std::alloc::Global;
 
@@ -14,20 +13,12 @@ const MESSAGES: u32 = 100_000;
 pub fn begin(alloc: Global, line: &str) -> Result<ClientCore, Refusal> {
     let (line, names) = line.split_once(" names").unwrap_or((line, ""));
     let mut words = Words::new(line);
-    let user = words.word()?.as_bytes();
-    let host = words.word()?.as_bytes();
+    let user = Vec::from_slice(alloc, words.word()?.as_bytes())?;
+    let host = Vec::from_slice(alloc, words.word()?.as_bytes())?;
     let now = words.number()?;
-    let names = Words::new(names).addresses(alloc)?;
     let servers = words.addresses(alloc)?;
-    let user = Vec::from_slice(alloc, user)?;
-    ClientCore::new(
-        alloc,
-        user,
-        Vec::from_slice(alloc, host)?,
-        servers,
-        &names,
-        now,
-    )
+    let names = Words::new(names).addresses(alloc)?;
+    ClientCore::new(alloc, user, host, servers, &names, now)
 }
 
 /// Makes a call.
@@ -86,26 +77,20 @@ fn open(core: &mut ClientCore, mut words: Words<'_>, answer: &mut Answer) -> Res
     } else {
         name
     };
-    answer.handle(core.open(name, priority, now)?);
-    Ok(())
+    answer.handle(core.open(name, priority, now)?)
 }
 
 /// `state CHANNEL`.
 fn state(core: &ClientCore, mut words: Words<'_>, answer: &mut Answer) -> Result<(), Refusal> {
-    tell_state(core.channel_state(words.handle()?)?, answer);
-    Ok(())
-}
-
-fn tell_state(state: ChannelState, answer: &mut Answer) {
-    match state {
+    match core.channel_state(words.handle()?)? {
         ChannelState::Searching => answer.word("searching"),
         ChannelState::Connecting => answer.word("connecting"),
         ChannelState::Creating => answer.word("creating"),
         ChannelState::Live(data_type, count, rights) => {
-            answer.word("live");
-            answer.number(u64::from(data_type));
-            answer.number(u64::from(count));
-            answer.number(u64::from(rights));
+            answer.word("live")?;
+            answer.number(u64::from(data_type))?;
+            answer.number(u64::from(count))?;
+            answer.number(u64::from(rights))
         }
         ChannelState::Leaving => answer.word("leaving"),
     }
@@ -115,8 +100,7 @@ fn tell_state(state: ChannelState, answer: &mut Answer) {
 fn read(core: &mut ClientCore, mut words: Words<'_>, answer: &mut Answer) -> Result<(), Refusal> {
     let channel = words.handle()?;
     let data_type = words.short()?;
-    answer.handle(core.read(channel, data_type, words.count()?)?);
-    Ok(())
+    answer.handle(core.read(channel, data_type, words.count()?)?)
 }
 
 /// `write CHANNEL TYPE COUNT BYTES`.
@@ -135,8 +119,7 @@ fn write_notify(
 ) -> Result<(), Refusal> {
     let channel = words.handle()?;
     let (value, _) = words.value(alloc)?;
-    answer.handle(core.write_notify(channel, &value)?);
-    Ok(())
+    answer.handle(core.write_notify(channel, &value)?)
 }
 
 /// `subscribe CHANNEL TYPE COUNT MASK`.
@@ -148,8 +131,7 @@ fn subscribe(
     let channel = words.handle()?;
     let data_type = words.short()?;
     let count = words.count()?;
-    answer.handle(core.subscribe(channel, data_type, count, words.mask()?)?);
-    Ok(())
+    answer.handle(core.subscribe(channel, data_type, count, words.mask()?)?)
 }
 
 /// `unsubscribe SUBSCRIPTION`.
@@ -159,16 +141,15 @@ fn unsubscribe(core: &mut ClientCore, mut words: Words<'_>) -> Result<(), Refusa
 
 /// `clear CHANNEL`.
 fn clear(core: &mut ClientCore, mut words: Words<'_>, answer: &mut Answer) -> Result<(), Refusal> {
-    answer.notices(&mut core.clear(words.handle()?)?);
-    Ok(())
+    answer.notices(core.clear(words.handle()?)?)
 }
 
 /// `wanted`.
 fn wanted(core: &ClientCore, answer: &mut Answer) -> Result<(), Refusal> {
     for found in &core.wanted()? {
-        answer.handle(found.circuit);
-        answer.address(found.address);
-        answer.number(u64::from(found.priority));
+        answer.handle(found.circuit)?;
+        answer.address(found.address)?;
+        answer.number(u64::from(found.priority))?;
     }
     Ok(())
 }
@@ -179,10 +160,10 @@ fn connected(
     mut words: Words<'_>,
     answer: &mut Answer,
 ) -> Result<(), Refusal> {
-    if let Some(closing) = core.connected(words.handle()?) {
-        closed(closing, answer);
+    match core.connected(words.handle()?) {
+        None => Ok(()),
+        Some(closing) => closed(closing, answer),
     }
-    Ok(())
 }
 
 /// `give CIRCUIT BYTES`, or `give_more` if bytes are left to be read.
@@ -198,14 +179,8 @@ fn give(
 
 /// `step CIRCUIT`.
 fn step(core: &mut ClientCore, mut words: Words<'_>, answer: &mut Answer) -> Result<(), Refusal> {
-    let stepped = core.step(words.handle()?);
-    tell_step(stepped, answer);
-    Ok(())
-}
-
-fn tell_step(stepped: Stepped, answer: &mut Answer) {
-    match stepped {
-        Stepped::Notices(mut notices) => answer.notices(&mut notices),
+    match core.step(words.handle()?) {
+        Stepped::Notices(notices) => answer.notices(notices),
         Stepped::NeedBytes => answer.word("needs bytes"),
         Stepped::Closed(closing) => closed(closing, answer),
     }
@@ -220,36 +195,21 @@ fn hear(
 ) -> Result<(), Refusal> {
     let circuit = words.handle()?;
     core.give(circuit, &words.bytes(alloc)?, false)?;
-    if steps(core, circuit, answer) {
-        take_all(core, circuit, answer);
-    }
-    Ok(())
-}
-
-/// Whether the circuit is there still.
-fn steps(core: &mut ClientCore, circuit: Handle, answer: &mut Answer) -> bool {
     for _ in 0..MESSAGES {
         match core.step(circuit) {
-            Stepped::Notices(mut notices) => answer.notices(&mut notices),
+            Stepped::Notices(notices) => answer.notices(notices)?,
             Stepped::NeedBytes => break,
-            Stepped::Closed(closing) => {
-                closed(closing, answer);
-                return false;
-            }
+            Stepped::Closed(closing) => return closed(closing, answer),
         }
     }
-    true
-}
-
-fn take_all(core: &mut ClientCore, circuit: Handle, answer: &mut Answer) {
-    answer.bytes(core.out_bytes(circuit));
+    answer.bytes(core.out_bytes(circuit))?;
     core.sent(circuit, core.out_bytes(circuit).len());
+    Ok(())
 }
 
 /// `out CIRCUIT`.
 fn out(core: &ClientCore, mut words: Words<'_>, answer: &mut Answer) -> Result<(), Refusal> {
-    answer.bytes(core.out_bytes(words.handle()?));
-    Ok(())
+    answer.bytes(core.out_bytes(words.handle()?))
 }
 
 /// `sent CIRCUIT N`. Not understood if fewer bytes wait.
@@ -265,20 +225,22 @@ fn sent(core: &mut ClientCore, mut words: Words<'_>) -> Result<(), Refusal> {
 
 /// `take CIRCUIT`: what is to be sent, which is then sent.
 fn take(core: &mut ClientCore, mut words: Words<'_>, answer: &mut Answer) -> Result<(), Refusal> {
-    take_all(core, words.handle()?, answer);
+    let circuit = words.handle()?;
+    let bytes = core.out_bytes(circuit);
+    let n = bytes.len();
+    answer.bytes(bytes)?;
+    core.sent(circuit, n);
     Ok(())
 }
 
 /// `cut CIRCUIT`.
 fn cut(core: &mut ClientCore, mut words: Words<'_>, answer: &mut Answer) -> Result<(), Refusal> {
-    closed(core.cut(words.handle()?), answer);
-    Ok(())
+    closed(core.cut(words.handle()?), answer)
 }
 
 /// `close CIRCUIT`.
 fn close(core: &mut ClientCore, mut words: Words<'_>, answer: &mut Answer) -> Result<(), Refusal> {
-    closed(core.close(words.handle()?), answer);
-    Ok(())
+    closed(core.close(words.handle()?), answer)
 }
 
 /// `datagram NOW FROM BYTES`.
@@ -294,39 +256,37 @@ fn tick(core: &mut ClientCore, mut words: Words<'_>, answer: &mut Answer) -> Res
         datagrams,
         closings,
     } = core.tick(words.number()?)?;
-    ended(closings, answer);
-    searches(&datagrams, answer);
+    for closing in closings {
+        left(closing, answer)?;
+    }
+    for datagram in &datagrams {
+        answer.word("to")?;
+        answer.address(datagram.to)?;
+        answer.bytes(&datagram.bytes)?;
+    }
     Ok(())
 }
 
-fn searches(datagrams: &[Datagram], answer: &mut Answer) {
-    for datagram in datagrams {
-        answer.word("to");
-        answer.address(datagram.to);
-        answer.bytes(&datagram.bytes);
-    }
-}
-
-fn ended(closings: Vec<Left>, answer: &mut Answer) {
-    for closing in closings {
-        left(closing, answer);
-    }
-}
-
-fn left(mut closing: Left, answer: &mut Answer) {
-    answer.of("silent", closing.circuit);
-    answer.notices(&mut closing.notices);
-    answer.word("left");
-    answer.bytes(closing.bytes.bytes());
+fn left(closing: Left, answer: &mut Answer) -> Result<(), Refusal> {
+    let Left {
+        circuit,
+        notices,
+        bytes,
+    } = closing;
+    answer.of("silent", circuit)?;
+    answer.notices(notices)?;
+    answer.word("left")?;
+    answer.bytes(bytes.bytes())
 }
 
 /// Why, the notices, and the bytes that are left.
-fn closed(mut closing: Closing, answer: &mut Answer) {
-    answer.word("closed");
-    answer.word(word_of(closing.why));
-    answer.notices(&mut closing.notices);
-    answer.word("left");
-    answer.bytes(closing.left.bytes());
+fn closed(closing: Closing, answer: &mut Answer) -> Result<(), Refusal> {
+    let Closing { why, notices, left } = closing;
+    answer.word("closed")?;
+    answer.word(word_of(why))?;
+    answer.notices(notices)?;
+    answer.word("left")?;
+    answer.bytes(left.bytes())
 }
 
 fn word_of(why: Why) -> &'static str {

@@ -2,7 +2,6 @@
 
 use crate::answer::Answer;
 use crate::words::Words;
-use ca_arena::Handle;
 use ca_script::{RecordFile, read_records};
 use ca_server_core::{Cause, ServerCore, Step};
 use ca_text::Refusal;
@@ -28,7 +27,7 @@ pub fn call(
     answer: &mut Answer,
 ) -> Result<(), Refusal> {
     match call.as_bytes() {
-        b"accept" => accept(core, answer),
+        b"accept" => answer.handle(core.accept()?),
         b"give" => give(alloc, core, words),
         b"step" => step(core, words, answer),
         b"handle" => handle(alloc, core, words, answer),
@@ -56,22 +55,10 @@ fn call_on_records(
         b"datagram" => datagram(alloc, core, words, answer),
         b"beacon" => beacon(core, words, answer),
         b"stamp" => stamp(core, words),
-        b"applied" => count(core.applied(), answer),
-        b"waiting" => count(core.waiting(), answer),
+        b"applied" => answer.number(core.applied()),
+        b"waiting" => answer.number(core.waiting()),
         _ => Err(Refusal::BadText),
     }
-}
-
-/// `accept`.
-fn accept(core: &mut ServerCore, answer: &mut Answer) -> Result<(), Refusal> {
-    answer.handle(core.accept()?);
-    Ok(())
-}
-
-/// `applied` and `waiting`.
-fn count(number: u64, answer: &mut Answer) -> Result<(), Refusal> {
-    answer.number(number);
-    Ok(())
 }
 
 /// `give CIRCUIT BYTES`.
@@ -82,14 +69,8 @@ fn give(alloc: Global, core: &mut ServerCore, mut words: Words<'_>) -> Result<()
 
 /// `step CIRCUIT`.
 fn step(core: &mut ServerCore, mut words: Words<'_>, answer: &mut Answer) -> Result<(), Refusal> {
-    let step = core.step(words.handle()?);
-    tell_step(step, answer);
-    Ok(())
-}
-
-fn tell_step(step: Step, answer: &mut Answer) {
-    match step {
-        Step::Handled => {}
+    match core.step(words.handle()?) {
+        Step::Handled => Ok(()),
         Step::NeedBytes => answer.word("needs bytes"),
         Step::OutputFull => answer.word("output full"),
         Step::Closed(cause, left) => closed(cause, &left, answer),
@@ -105,31 +86,18 @@ fn handle(
 ) -> Result<(), Refusal> {
     let circuit = words.handle()?;
     core.give(circuit, &words.bytes(alloc)?)?;
-    if steps(core, circuit, answer) {
-        core.pump(circuit);
-        take_all(core, circuit, answer);
-    }
-    Ok(())
-}
-
-/// Whether all messages were handled.
-fn steps(core: &mut ServerCore, circuit: Handle, answer: &mut Answer) -> bool {
     for _ in 0..MESSAGES {
         match core.step(circuit) {
             Step::Handled => {}
             Step::NeedBytes => break,
-            other => {
-                tell_step(other, answer);
-                return false;
-            }
+            Step::OutputFull => return answer.word("output full"),
+            Step::Closed(cause, left) => return closed(cause, &left, answer),
         }
     }
-    true
-}
-
-fn take_all(core: &mut ServerCore, circuit: Handle, answer: &mut Answer) {
-    answer.bytes(core.out_bytes(circuit));
+    core.pump(circuit);
+    answer.bytes(core.out_bytes(circuit))?;
     core.sent(circuit, core.out_bytes(circuit).len());
+    Ok(())
 }
 
 /// `pump CIRCUIT`.
@@ -140,8 +108,7 @@ fn pump(core: &mut ServerCore, mut words: Words<'_>) -> Result<(), Refusal> {
 
 /// `out CIRCUIT`.
 fn out(core: &ServerCore, mut words: Words<'_>, answer: &mut Answer) -> Result<(), Refusal> {
-    answer.bytes(core.out_bytes(words.handle()?));
-    Ok(())
+    answer.bytes(core.out_bytes(words.handle()?))
 }
 
 /// `sent CIRCUIT N`. Not understood if fewer bytes wait.
@@ -157,7 +124,11 @@ fn sent(core: &mut ServerCore, mut words: Words<'_>) -> Result<(), Refusal> {
 
 /// `take CIRCUIT`: what is to be sent, which is then sent.
 fn take(core: &mut ServerCore, mut words: Words<'_>, answer: &mut Answer) -> Result<(), Refusal> {
-    take_all(core, words.handle()?, answer);
+    let circuit = words.handle()?;
+    let bytes = core.out_bytes(circuit);
+    let n = bytes.len();
+    answer.bytes(bytes)?;
+    core.sent(circuit, n);
     Ok(())
 }
 
@@ -202,8 +173,8 @@ fn datagram(
     answer: &mut Answer,
 ) -> Result<(), Refusal> {
     for reply in &core.datagram(&words.bytes(alloc)?)? {
-        answer.word("datagram");
-        answer.bytes(reply);
+        answer.word("datagram")?;
+        answer.bytes(reply)?;
     }
     Ok(())
 }
@@ -214,7 +185,6 @@ fn beacon(core: &mut ServerCore, mut words: Words<'_>, answer: &mut Answer) -> R
         Some(bytes) => answer.bytes(&bytes),
         None => answer.word("nothing"),
     }
-    Ok(())
 }
 
 /// `stamp SECONDS NANOS`.
@@ -225,18 +195,14 @@ fn stamp(core: &mut ServerCore, mut words: Words<'_>) -> Result<(), Refusal> {
 }
 
 /// The cause, and the bytes that are left.
-fn closed(cause: Cause, left: &Pipe, answer: &mut Answer) {
-    answer.word("closed");
-    answer.word(word_of(cause));
-    answer.word("left");
-    answer.bytes(left.bytes());
-}
-
-fn word_of(cause: Cause) -> &'static str {
-    match cause {
+fn closed(cause: Cause, left: &Pipe, answer: &mut Answer) -> Result<(), Refusal> {
+    answer.word("closed")?;
+    answer.word(match cause {
         Cause::OutOfMemory => "out of memory",
         Cause::Misaligned => "misaligned",
         Cause::TooLarge => "too large",
         Cause::Cut => "cut",
-    }
+    })?;
+    answer.word("left")?;
+    answer.bytes(left.bytes())
 }

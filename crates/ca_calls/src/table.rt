@@ -37,7 +37,7 @@ impl Table {
         answer.clear();
         if let Err(refusal) = self.do_line(line, answer) {
             answer.clear();
-            answer.refusal(refusal);
+            let _ = answer.refusal(refusal);
         }
     }
 
@@ -51,11 +51,8 @@ impl Table {
             b"repeat" => self.repeat(rest, answer),
             _ => self.call(call, rest, answer),
         }?;
-        if !answer.is_whole() {
-            return Err(Refusal::OutOfMemory);
-        }
         if answer.text().is_empty() {
-            answer.word("ok");
+            return answer.word("ok");
         }
         Ok(())
     }

@@ -5,28 +5,25 @@ use ca_text::{Mask, Refusal};
 use hex::FromHexError;
 use std::alloc::Global;
 use std::net::SocketAddrV4;
+use std::str::SplitWhitespace;
 
 /// The words of a line that were not taken yet. A word that is not what is asked for is refused as BadText.
-#[derive(Clone, Copy)]
+#[derive(Drop)]
 pub struct Words<'a> {
-    left: &'a str,
+    left: SplitWhitespace<'a>,
 }
 
 impl<'a> Words<'a> {
     /// All words of a line.
     pub fn new(line: &'a str) -> Words<'a> {
-        Words { left: line }
+        Words {
+            left: line.split_whitespace(),
+        }
     }
 
     /// The next word.
     pub fn word(&mut self) -> Result<&'a str, Refusal> {
-        let line = self.left.trim_start();
-        let (word, left) = line.split_once(" ").unwrap_or((line, ""));
-        self.left = left;
-        if word.is_empty() {
-            return Err(Refusal::BadText);
-        }
-        Ok(word)
+        self.left.next().ok_or(Refusal::BadText)
     }
 
     /// A number of 64 bits.
@@ -77,7 +74,7 @@ impl<'a> Words<'a> {
     /// The addresses that all words left are.
     pub fn addresses(self, alloc: Global) -> Result<Vec<Address>, Refusal> {
         let mut all = Vec::new(alloc);
-        for word in self.left.split_whitespace() {
+        for word in self.left {
             all.push(address_in(word)?)?;
         }
         Ok(all)
@@ -86,7 +83,7 @@ impl<'a> Words<'a> {
     /// The bytes that all words left are.
     pub fn bytes(self, alloc: Global) -> Result<Vec<u8>, Refusal> {
         let mut bytes = Vec::new(alloc);
-        for word in self.left.split_whitespace() {
+        for word in self.left {
             bytes.extend_from_slice(&decoded(alloc, word)?)?;
         }
         Ok(bytes)

@@ -174,39 +174,6 @@ fn prepared<L: Ledger, D: Device, R: Net>(
     shared: &Arc<Shared<L, D>>,
     stream: TcpStream,
 ) -> Result<(Accepted<L, D>, Waker), Refusal> {
-    let done = Arc::new(alloc, AtomicBool::new(false))?;
-    let (line, waker) = line_of(rt, alloc, stream, &done)?;
-    let accepted = Accepted {
-        shared: Arc::try_clone(shared)?,
-        line,
-        done,
-    };
-    Ok((accepted, waker))
-}
-
-fn line_of<R: Net>(
-    rt: &R,
-    alloc: Global,
-    stream: TcpStream,
-    done: &Arc<AtomicBool>,
-) -> Result<(Line, Waker), Refusal> {
-    let events = Events::with_capacity(alloc, 4)?;
-    let input = vec![in alloc; 0; ROOM]?;
-    let output = Vec::with_capacity(alloc, ROOM)?;
-    let (stream, poll, waker) = registered(rt, stream)?;
-    let line = Line {
-        stream,
-        poll,
-        events,
-        input,
-        output,
-        written: 0,
-        done: Arc::try_clone(done)?,
-    };
-    Ok((line, waker))
-}
-
-fn registered<R: Net>(rt: &R, stream: TcpStream) -> Result<(TcpStream, Poll, Waker), Refusal> {
     if stream.set_nodelay(true).is_err() {
         return Err(Refusal::Device);
     }
@@ -220,7 +187,22 @@ fn registered<R: Net>(rt: &R, stream: TcpStream) -> Result<(TcpStream, Poll, Wak
     else {
         return Err(Refusal::Device);
     };
-    Ok((stream, poll, waker))
+    let done = Arc::new(alloc, AtomicBool::new(false))?;
+    let line = Line {
+        stream,
+        poll,
+        events: Events::with_capacity(alloc, 4)?,
+        input: vec![in alloc; 0; ROOM]?,
+        output: Vec::with_capacity(alloc, ROOM)?,
+        written: 0,
+        done: Arc::try_clone(&done)?,
+    };
+    let accepted = Accepted {
+        shared: Arc::try_clone(shared)?,
+        line,
+        done,
+    };
+    Ok((accepted, waker))
 }
 
 /// What a thread waits at, and what wakes it.

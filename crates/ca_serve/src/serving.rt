@@ -16,7 +16,7 @@ use std::alloc::Global;
 use std::marker::Brand;
 use std::net;
 use std::net::{Net, SocketAddr};
-use std::sync::ledger::{Blank, Ledger, Share};
+use std::sync::ledger::{Blank, Ledger};
 use std::sync::{Arc, Wait};
 use std::thread::{JoinHandle, Threads};
 use std::time::Clock;
@@ -79,43 +79,33 @@ fn serve_as<
     requires all { blank.parts ≡ 2 ^ 64 - 1 }
 {
     let port = port_of(&places)?;
-    let (mut door, desk, accepting, answering) = opened(&rt, alloc, places)?;
     let (book, mut all) = blank.open::<L>();
     let state = State::new(book, port, moment_now(&rt), records, rules)?;
-    let shared = Shared::new(alloc, state, accepting, answering, device);
-    let shared = Arc::new(alloc, shared)?;
-    serve_over(rt, alloc, &shared, &mut door, desk, circuits, &mut all)
-}
-
-// Serves over what is there now.
-fn serve_over<
-    L: Ledger + Send + Sync + 'static,
-    D: Device + Send + Sync + 'static,
-    R: Threads + Wait + Clock + Net + Copy + Send + 'static,
->(
-    rt: R,
-    alloc: Global,
-    shared: &Arc<Shared<L, D>>,
-    door: &mut Door,
-    desk: Desk,
-    circuits: Option<u64>,
-    all: &mut Share<L>,
-) -> Result<u64, Refusal>
-    requires parts { all.old.parts ≡ L.parts }
-    requires all { all.old.parts ≡ 2 ^ 64 - 1 }
-{
-    let mut helpers = Vec::new(alloc);
-    let helped = start_helpers(rt, shared, desk, &mut helpers);
+    let (mut door, desk, accepting, answering) = opened(&rt, alloc, places)?;
+    let shared = Arc::new(
+        alloc,
+        Shared::new(alloc, state, accepting, answering, device),
+    )?;
+    let mut helpers = Vec::with_capacity(alloc, 4)?;
+    let helped = start_helpers(rt, &shared, desk, &mut helpers);
     if helped.is_err() {
         shared.end(&rt);
     }
     let mut running = Vec::new(alloc);
-    accept_all(rt, alloc, shared, door, circuits, &mut running, all);
+    accept_all(
+        rt,
+        alloc,
+        &shared,
+        &mut door,
+        circuits,
+        &mut running,
+        &mut all,
+    );
     shared.end(&rt);
-    join_all(&rt, &mut running, all);
+    join_all(&rt, &mut running, &mut all);
     join_helpers(&rt, &mut helpers);
     helped?;
-    Ok(shared.locked.lock(&rt).state.audit(all))
+    Ok(shared.locked.lock(&rt).state.audit(&mut all))
 }
 
 // The port of the listener. No call of either socket waits from here on.
@@ -142,17 +132,6 @@ fn opened<R: Net>(
         datagrams,
         beacons,
     } = places;
-    let (desk, answering) = desk_of(rt, alloc, datagrams, beacons)?;
-    let (door, accepting) = door_of(rt, alloc, listener)?;
-    Ok((door, desk, accepting, answering))
-}
-
-fn door_of<R: Net>(
-    rt: &R,
-    alloc: Global,
-    listener: net::TcpListener,
-) -> Result<(Door, Waker), Refusal> {
-    let events = Events::with_capacity(alloc, 4)?;
     let (poll, accepting) = new_poll(rt)?;
     let mut listener = TcpListener::from_std(listener);
     let Ok(()) = poll
@@ -164,20 +143,9 @@ fn door_of<R: Net>(
     let door = Door {
         listener,
         poll,
-        events,
+        events: Events::with_capacity(alloc, 4)?,
         spare: Poll::new(rt).ok(),
     };
-    Ok((door, accepting))
-}
-
-fn desk_of<R: Net>(
-    rt: &R,
-    alloc: Global,
-    datagrams: net::UdpSocket,
-    beacons: SocketAddr,
-) -> Result<(Desk, Waker), Refusal> {
-    let events = Events::with_capacity(alloc, 4)?;
-    let buffer = vec![in alloc; 0; DATAGRAM]?;
     let (poll, answering) = new_poll(rt)?;
     let mut socket = UdpSocket::from_std(datagrams);
     let Ok(()) = poll
@@ -189,11 +157,11 @@ fn desk_of<R: Net>(
     let desk = Desk {
         socket,
         poll,
-        events,
-        buffer,
+        events: Events::with_capacity(alloc, 4)?,
+        buffer: vec![in alloc; 0; DATAGRAM]?,
         beacons,
     };
-    Ok((desk, answering))
+    Ok((door, desk, accepting, answering))
 }
 
 // Starts the thread for datagrams, the one for updates and two processing threads.
@@ -208,10 +176,10 @@ fn start_helpers<
     helpers: &mut Vec<JoinHandle<()>>,
 ) -> Result<(), Refusal> {
     helpers.reserve(4)?;
-    helpers.push_reserved(start_datagrams(rt, shared, desk)?);
-    helpers.push_reserved(start_updater(rt, shared)?);
-    helpers.push_reserved(start_processor(rt, shared)?);
-    helpers.push_reserved(start_processor(rt, shared)?);
+    helpers.push_reserved(start_datagrams(rt, Arc::try_clone(shared)?, desk)?);
+    helpers.push_reserved(start_updater(rt, Arc::try_clone(shared)?)?);
+    helpers.push_reserved(start_processor(rt, Arc::try_clone(shared)?)?);
+    helpers.push_reserved(start_processor(rt, Arc::try_clone(shared)?)?);
     Ok(())
 }
 
@@ -219,8 +187,7 @@ fn start_processor<
     L: Ledger + Send + Sync + 'static,
     D: Device + Send + Sync + 'static,
     R: Threads + Wait + Clock + Copy + Send + 'static,
->(rt: R, shared: &Arc<Shared<L, D>>) -> Result<JoinHandle<()>, Refusal> {
-    let shared = Arc::try_clone(shared)?;
+>(rt: R, shared: Arc<Shared<L, D>>) -> Result<JoinHandle<()>, Refusal> {
     started(rt, Processor { shared })
 }
 
@@ -228,8 +195,7 @@ fn start_datagrams<
     L: Ledger + Send + Sync + 'static,
     D: Device + Send + Sync + 'static,
     R: Threads + Wait + Clock + Copy + Send + 'static,
->(rt: R, shared: &Arc<Shared<L, D>>, desk: Desk) -> Result<JoinHandle<()>, Refusal> {
-    let shared = Arc::try_clone(shared)?;
+>(rt: R, shared: Arc<Shared<L, D>>, desk: Desk) -> Result<JoinHandle<()>, Refusal> {
     started(rt, Datagrams { shared, desk })
 }
 
@@ -237,8 +203,7 @@ fn start_updater<
     L: Ledger + Send + Sync + 'static,
     D: Device + Send + Sync + 'static,
     R: Threads + Wait + Clock + Copy + Send + 'static,
->(rt: R, shared: &Arc<Shared<L, D>>) -> Result<JoinHandle<()>, Refusal> {
-    let shared = Arc::try_clone(shared)?;
+>(rt: R, shared: Arc<Shared<L, D>>) -> Result<JoinHandle<()>, Refusal> {
     started(rt, Updater { shared })
 }
 

@@ -1,40 +1,30 @@
-//! An arena, of which the Nth growth may be refused.
 use ca_arena::{Arena, Handle};
 use ca_text::Refusal;
-use std::alloc::Global;
+use std::test::Fail;
 
 const fn handle(index: u16, generation: u32) -> Handle {
     Handle { index, generation }
 }
 
-/// Whether 200 values go in, each under the next handle, and a growth that is refused changes nothing.
-pub(crate) fn refused_growth_changes_nothing(alloc: Global) -> bool {
-    let mut arena = Arena::new(alloc);
-    for index in 0..200u16 {
-        if !goes_in(&mut arena, index) {
-            return false;
-        }
+// Run it too with the Nth growth refused, for each N: `rt try --test --fail-alloc N`.
+#[test]
+fn refused_growth_changes_nothing(rt: HostRuntime) -> Result<(), Fail> {
+    let mut arena = Arena::new(rt.alloc());
+    for index in 0..200 {
+        let free = arena.free_slots();
+        let given = match arena.insert(index) {
+            Ok(given) => given,
+            Err(refused) => {
+                assert!(rt; refused == (index, Refusal::OutOfMemory));
+                assert!(rt; arena.len() == usize::from(index));
+                assert!(rt; arena.free_slots() == free);
+                for before in 0..index {
+                    assert!(rt; arena.get(handle(before, 1)).copied() == Some(before));
+                }
+                arena.insert(index)?
+            }
+        };
+        assert!(rt; given == handle(index, 1));
     }
-    true
-}
-
-fn goes_in(arena: &mut Arena<u16>, index: u16) -> bool {
-    let free = arena.free_slots();
-    match arena.insert(index) {
-        Ok(given) => given == handle(index, 1),
-        Err(refused) => {
-            refused == (index, Refusal::OutOfMemory)
-                && is_as_before(arena, index, free)
-                && arena.insert(index) == Ok(handle(index, 1))
-        }
-    }
-}
-
-fn is_as_before(arena: &Arena<u16>, index: u16, free: usize) -> bool {
-    for before in 0..index {
-        if arena.get(handle(before, 1)).copied() != Some(before) {
-            return false;
-        }
-    }
-    (arena.len() == usize::from(index)) & (arena.free_slots() == free)
+    Ok(())
 }

@@ -1,7 +1,6 @@
-//! A queue of a circuit, of which the Nth growth may be refused.
 use ca_queue::{Entry, ListQueue, Queues, SubKey};
 use ca_text::Refusal;
-use std::alloc::Global;
+use std::test::Fail;
 
 const KEY: SubKey = SubKey {
     sid: 0x0001_0000,
@@ -13,14 +12,15 @@ const OTHER: SubKey = SubKey {
     sub: 0x0001_0001,
 };
 
-/// Whether two keys go in, the first also after its growth was refused.
-pub(crate) fn refused_growth_changes_nothing(alloc: Global) -> Result<bool, Refusal> {
-    let mut queue: ListQueue<Entry> = ListQueue::new(alloc);
-    let refused = queue.add(KEY);
-    if refused.is_err() {
+// Run it too with the Nth growth refused, for each N: `rt try --test --fail-alloc N`.
+#[test]
+fn refused_growth_changes_nothing(rt: HostRuntime) -> Result<(), Fail> {
+    let mut queue: ListQueue<Entry> = ListQueue::new(rt.alloc());
+    if let Err(refusal) = queue.add(KEY) {
+        assert!(rt; refusal == Refusal::OutOfMemory);
         queue.add(KEY)?;
     }
     queue.add(OTHER)?;
-    let known = (refused == Ok(())) | (refused == Err(Refusal::OutOfMemory));
-    Ok(known & queue.take().is_none())
+    assert!(rt; queue.take().is_none());
+    Ok(())
 }

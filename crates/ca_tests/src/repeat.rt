@@ -1,7 +1,6 @@
-//! A repeater's core: which members get a datagram.
 use ca_repeat::{Address, Outgoing, RepeaterCore};
-use ca_text::Refusal;
-use std::alloc::Global;
+use std::process::Abort;
+use std::test::Fail;
 
 /// A beacon that names no address, and the same with the address 127.0.0.1.
 const BLANK: &[u8] = b"\x00\x0d\x00\x00\x00\x0d\x13\xc8\0\0\0\x07\0\0\0\0";
@@ -19,73 +18,53 @@ const fn local(port: u16) -> Address {
     }
 }
 
-/// Whether a datagram from this address goes to the members at these ports, in this order, as these bytes.
-fn goes_to(
-    repeater: &mut RepeaterCore,
-    from: Address,
-    datagram: &[u8],
-    ports: &[u16],
-    bytes: &[u8],
-) -> Result<bool, Refusal> {
-    let sends = repeater.receive(from, datagram)?;
-    Ok(are_to(&sends, ports, bytes))
-}
-
-fn are_to(sends: &[Outgoing], ports: &[u16], bytes: &[u8]) -> bool {
+/// These bytes go to the members at these ports, in this order.
+fn go_to<R: Abort>(rt: &R, sends: &[Outgoing], ports: &[u16], bytes: &[u8]) {
+    assert!(rt; sends.len() == ports.len());
     for (sent, port) in sends.iter().zip(ports) {
-        if sent.to() != local(*port) || sent.bytes() != bytes {
-            return false;
-        }
+        assert!(rt; sent.to() == local(*port));
+        assert!(rt; sent.bytes() == bytes);
     }
-    sends.len() == ports.len()
 }
 
-/// Whether a datagram from this address goes to so many.
-fn goes_to_many(
-    repeater: &mut RepeaterCore,
-    from: Address,
-    datagram: &[u8],
-    many: usize,
-) -> Result<bool, Refusal> {
-    let sends = repeater.receive(from, datagram)?;
-    Ok(sends.len() == many)
-}
-
-pub(crate) fn a_beacon_goes_to_the_others(alloc: Global) -> Result<bool, Refusal> {
-    let mut repeater = RepeaterCore::new(alloc);
-    let confirmed = goes_to(&mut repeater, local(40_000), REGISTER, &[40_000], CONFIRM)?
-        & goes_to(&mut repeater, local(40_001), REGISTER, &[40_001], CONFIRM)?
-        & goes_to(&mut repeater, local(40_002), REGISTER, &[40_002], CONFIRM)?;
-    let others = [40_001, 40_002];
-    let passed = goes_to(&mut repeater, local(40_000), BLANK, &others, FILLED)?
-        & goes_to(&mut repeater, local(40_000), FILLED, &others, FILLED)?;
+#[test]
+fn a_beacon_goes_to_the_others(rt: HostRuntime) -> Result<(), Fail> {
+    let mut repeater = RepeaterCore::new(rt.alloc());
+    for port in [40_000u16, 40_001, 40_002] {
+        let sends = repeater.receive(local(port), REGISTER)?;
+        go_to(&rt, &sends, &[port], CONFIRM);
+    }
+    for datagram in [BLANK, FILLED] {
+        let sends = repeater.receive(local(40_000), datagram)?;
+        go_to(&rt, &sends, &[40_001, 40_002], FILLED);
+    }
     repeater.refused(local(40_001));
-    Ok(confirmed & passed & goes_to(&mut repeater, local(40_000), BLANK, &[40_002], FILLED)?)
+    let sends = repeater.receive(local(40_000), BLANK)?;
+    go_to(&rt, &sends, &[40_002], FILLED);
+    Ok(())
 }
 
-pub(crate) fn a_65th_member_gets_nothing(alloc: Global) -> Result<bool, Refusal> {
-    let mut repeater = RepeaterCore::new(alloc);
+#[test]
+fn a_65th_member_gets_nothing(rt: HostRuntime) -> Result<(), Fail> {
+    let mut repeater = RepeaterCore::new(rt.alloc());
     for port in 1..=64u16 {
-        if !goes_to_many(&mut repeater, local(port), b"", 1)? {
-            return Ok(false);
-        }
+        assert!(rt; repeater.receive(local(port), b"")?.len() == 1);
     }
-    Ok(
-        goes_to_many(&mut repeater, local(65), b"", 0)?
-            & goes_to_many(&mut repeater, local(64), b"", 1)?
-            & goes_to_many(&mut repeater, local(65), BLANK, 64)?,
-    )
+    assert!(rt; repeater.receive(local(65), b"")?.is_empty());
+    assert!(rt; repeater.receive(local(64), b"")?.len() == 1);
+    assert!(rt; repeater.receive(local(65), BLANK)?.len() == 64);
+    Ok(())
 }
 
-pub(crate) fn an_address_elsewhere_registers_nobody(alloc: Global) -> Result<bool, Refusal> {
-    let mut repeater = RepeaterCore::new(alloc);
+#[test]
+fn an_address_elsewhere_registers_nobody(rt: HostRuntime) -> Result<(), Fail> {
+    let mut repeater = RepeaterCore::new(rt.alloc());
     let elsewhere = Address {
         ip: 0x0a00_0001,
         port: 40_000,
     };
-    Ok(
-        goes_to_many(&mut repeater, elsewhere, REGISTER, 0)?
-            & goes_to_many(&mut repeater, local(1), b"", 1)?
-            & goes_to_many(&mut repeater, elsewhere, BLANK, 1)?,
-    )
+    assert!(rt; repeater.receive(elsewhere, REGISTER)?.is_empty());
+    assert!(rt; repeater.receive(local(1), b"")?.len() == 1);
+    assert!(rt; repeater.receive(elsewhere, BLANK)?.len() == 1);
+    Ok(())
 }
