@@ -6,9 +6,9 @@ use Rattle.ca_model_world.specs.World.{ServerSetting}
 use Rattle.ca_script.specs.Grammar.{Lead, parted}
 use Rattle.ca_script.specs.Scripts.{lines_of}
 use Rattle.ca_text.specs.Place.{At}
-use Rattle.ca_text.proofs.Places.{At-after, At-append, At-last, At-snoc, At-within}
+use Rattle.ca_text.proofs.Places.{At-after, At-append, At-snoc, At-within}
 use Rattle.ca_world_data.specs.Settings.{is_taken}
-use Rattle.ca_world_script.specs.Scripts.{Adds, AddsTo, Reading, SaysScript, nothing, reading}
+use Rattle.ca_world_script.specs.Scripts.{Adds, Reading, SaysScript, nothing, reading}
 use Rattle.ca_world_script.specs.Servers.{TakesLine, bare}
 use Rattle.ca_world_script.specs.declared.script.Script.{Script}
 use Rattle.ca_replay.specs.Settings.{AreFresh}

@@ -1,11 +1,11 @@
 -- One event more along a script, and what a run's parts give together.
-use Rattle.std.proofs.Common.{◌≡◌, ◌⊎◌, inl, inr, ℕ, Bool, true, false, List, [], ◌∷◌, ◌++◌, Option, Some, None, Result, Ok, Err, length, take, map, append_assoc, refl, sym, ap, ◌∙◌, subst}
+use Rattle.std.proofs.Common.{◌≡◌, inl, inr, ℕ, Bool, true, false, List, [], ◌∷◌, ◌++◌, Option, Some, None, Result, Ok, Err, length, map, append_assoc, refl, sym, ap, ◌∙◌, subst}
 use Rattle.std.specs.Prelude.{IfOk}
 use Rattle.std.proofs.lemmas.List.{length-map, map-append}
 use Rattle.rand_core.specs.Stream.{Stream}
 use Rattle.ca_model.specs.History.{Line}
 use Rattle.ca_model_world.specs.Events.{Event}
-use Rattle.ca_model_world.specs.Runs.{CanBe, Happens}
+use Rattle.ca_model_world.specs.Runs.{Happens}
 use Rattle.ca_model_world.specs.World.{ServerSetting, Setting, World}
 use Rattle.ca_events.specs.Events.{event_of}
 use Rattle.ca_report.specs.Whole.{report_text}
@@ -15,7 +15,7 @@ use Rattle.ca_world_data.specs.Does.{Does}
 use Rattle.ca_world_data.specs.Settings.{AddsServer, is_taken}
 use Rattle.ca_world_script.specs.Scripts.{SaysScript}
 use Rattle.ca_world_script.specs.declared.script.Script.{Script}
-use Rattle.ca_replay.specs.Drawing.{Along, Drawn, DrawsSome, GoesAlong, GoesOn, HappensThenDraws, draws}
+use Rattle.ca_replay.specs.Drawing.{Drawn, DrawsSome, GoesAlong, GoesOn, HappensThenDraws, draws}
 use Rattle.ca_replay.specs.Replayed.{AreRun, Reported, Reports}
 use Rattle.ca_replay.specs.Settings.{AreFresh, setting_of}
 use Rattle.ca_replay.proofs.Fresh.{fresh-next}

@@ -1,6 +1,5 @@
 -- Working: how far a drawing is, by the parts of the program.
 use Rattle.std.specs.Prelude.{List, Option, map}
-use Rattle.std.specs.declared.alloc.Global.{Global}
 use Rattle.ca_drawing.specs.Drawn.{numbers}
 use Rattle.ca_events.specs.Events.{event_of}
 use Rattle.ca_events.specs.declared.event.Event.{Event}

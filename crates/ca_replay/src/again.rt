@@ -83,7 +83,8 @@ fn rule_again(alloc: Global, rule: &RuleSetting) -> Result<RuleSetting, AllocErr
 
 // The same name again, if there is one.
 fn name_again(alloc: Global, name: &Option<Vec<u8>>) -> Result<Option<Vec<u8>>, AllocError>
-    ensures { IfOk result (λ n. option_map (λ v. v.items) n ≡ option_map (λ v. v.items) name.now) }
+    ensures { IfOk result (λ n.
+        option_map (λ v. v.items) n ≡ option_map (λ v. v.items) name.now) }
 {
     match name {
         None => Ok(None),

@@ -1,4 +1,4 @@
-use Rattle.std.proofs.Common.{map, refl, sym}
+use Rattle.std.proofs.Common.{refl, sym}
 use Rattle.std.proofs.lemmas.List.{take-map}
 use Rattle.ca_events.specs.Events.{event_of}
 use Rattle.ca_world_data.specs.Seen.{client_of}
