@@ -42,4 +42,5 @@ pub mod StepNotes
 pub mod StepWorlds
 pub mod Ended
 pub mod Waits
+pub mod StepClosed
 pub mod StepCloses

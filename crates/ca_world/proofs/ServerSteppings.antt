@@ -51,7 +51,7 @@ module _ (h : Handle) where
       go false is same = (λ t. if stays p then p ∷ same t else same t)
 
   -- some puts of this circuit wait no more
-  clears-same : (f : Put → Bool) → ((p : Put) → f p ≡ true → here p ≡ true) → (rs : List Record) → withdrawn here (withdrawn f rs) ≡ withdrawn here rs
+  pub clears-same : (f : Put → Bool) → ((p : Put) → f p ≡ true → here p ≡ true) → (rs : List Record) → withdrawn here (withdrawn f rs) ≡ withdrawn here rs
   clears-same f within [] = refl
   clears-same f within (r ∷ rs) = (λ t. record r { waiting = fewer f within r.waiting t } ∷ clears-same f within rs t)
 

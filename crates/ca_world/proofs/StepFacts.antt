@@ -1,5 +1,5 @@
 -- What is known of the circuits once a message was handled: for what it did to be told, and for its end to close.
-use Rattle.std.proofs.Common.{◌≡◌, ℕ, ◌<◌, inl, inr, Bool, true, false, List, [], ◌∷◌, Option, Some, None, length, refl, sym, ap, subst, ◌∙◌}
+use Rattle.std.proofs.Common.{◌≡◌, ℕ, ◌<◌, inl, inr, Bool, true, false, List, [], ◌∷◌, Option, Some, None, refl, sym, ap, subst, ◌∙◌}
 use Rattle.std.specs.Prelude.{filter, if◌then◌else◌, map, option_map, slice_set}
 use Rattle.std.specs.List.{fold}
 use Rattle.ca_arena.specs.declared.handle.Handle.{Handle}
@@ -15,7 +15,7 @@ use Rattle.ca_model.specs.Due.{Action, Adds, Applies, Clears, Drops, Greets, Nam
 use Rattle.ca_model.specs.Ends as why
 use Rattle.ca_model.specs.History.{Step, Told}
 use Rattle.ca_model.specs.Server.{Ended, Open, Server, ServerCircuit, ServerEnd, Subscription, concerns, key_of, with_post}
-use Rattle.ca_model.specs.ServerSteps.{Handles, HasEnd, Reaches, is_write, reached, stored_now, write_mask}
+use Rattle.ca_model.specs.ServerSteps.{Handles, HasEnd, Next, Reaches, is_write, reached, stored_now, write_mask}
 use Rattle.ca_model.specs.Speech.{Stored}
 use Rattle.ca_model_client.proofs.Handles.{handle-or}
 use Rattle.ca_model_client.proofs.Placed.{under-other}
@@ -27,10 +27,9 @@ use Rattle.ca_world.specs.declared.server_step.Counts.{Counts}
 use Rattle.ca_world.specs.ServerStepping.{with_lists}
 use Rattle.ca_world.specs.StepParts.{IsHandled, MayStep}
 use Rattle.ca_world_data.specs.declared.joined.Joined.{Joined as Opened}
-use Rattle.ca_world_data.specs.declared.joined.Standing.{Standing as Kept}
 use Rattle.ca_world_data.specs.Numbering.{AllAlike, AllMayCount, AreAlike, IsAlike, keys_within, post_limit}
 use Rattle.ca_world_data.specs.Reporting.{AreServed}
-use Rattle.ca_world_data.specs.Seen.{joined_of, standing_of}
+use Rattle.ca_world_data.specs.Seen.{standing_of}
 use Rattle.ca_world_data.proofs.Indexes.{KeepsEnds}
 use Rattle.ca_world_servers.specs.declared.ahead.Ahead.{Ahead}
 use Rattle.ca_world_servers.specs.declared.deeds.Deed.{Deed}
@@ -125,6 +124,37 @@ alike-set d s i core ks k j at all n g there mine on = elim (At-set ks k (with_l
       subst (λ (z : Joined). IsAlike (under core.circuits z.at_server) z) (sym is.1) (lists-alike d s (under core.circuits j.at_server) j was)
 ]
 
+-- The same subscriptions stand at the ends and on the circuits, once a message's write reached them.
+pub alike-wrote : (y : Server) (h : Handle) (e : ServerEnd) → HasEnd y h e → (next : Next y h e) (gone : Handle → Bool) (core : Server) → Reaches next.action gone next.after core → is_write next.action ≡ true
+    → (i : ℕ) (ks : List Joined) → AllAlike i y ks → AllAlike i core ks
+alike-wrote y h e has next gone core reaches wrote i ks alike = go next.action next.handles reaches wrote
+  where
+    taken : ServerEnd
+    taken = record e { link = with_rest next.rest e.link }
+
+    now : ServerEnd
+    now = record taken { link = with_sent next.replies taken.link }
+
+    go : (action : Action) → Handles y h taken next.m next.replies action next.after → Reaches action gone next.after core → is_write action ≡ true → AllAlike i core ks
+    go (Applies name value busies) handles reaches wrote = λ n g there mine on.
+        let v : Stored = stored_now next.after value in
+        let is : under next.after.circuits g.at_server ≡ under (with_changed (λ (c : ServerCircuit). Open now) h y.circuits) g.at_server =
+        ap (λ (t : Table ServerCircuit). under t g.at_server) (wrote-circuits y h taken next.m next.replies name value busies next.after handles) in
+        let after : IsAlike (under next.after.circuits g.at_server) g =
+        subst (λ (o : Option ServerCircuit). IsAlike o g) (sym is) (changed-alike y h e now has refl refl g (alike n g there mine on)) in
+        subst (λ (o : Option ServerCircuit). IsAlike o g)
+        (sym (ap (λ (z : Server). under z.circuits g.at_server) reaches.1 ∙ each-under (reached name write_mask v gone) next.after.circuits g.at_server))
+        (reached-alike name write_mask v gone g.at_server (under next.after.circuits g.at_server) g after)
+    go (Waits name value) handles reaches wrote = absurd cc
+    go (Clears sid) handles reaches wrote = absurd cc
+    go Nothing handles reaches wrote = absurd cc
+    go Greets handles reaches wrote = absurd cc
+    go (Names p) handles reaches wrote = absurd cc
+    go (Opens c) handles reaches wrote = absurd cc
+    go (Adds s) handles reaches wrote = absurd cc
+    go (Drops key) handles reaches wrote = absurd cc
+    go (Switches on) handles reaches wrote = absurd cc
+
 -- ---- a message that was handled
 
 module _ (before core : Server) (i : ℕ) (j : Joined) (ks : List Joined) (rs : List RecordSide) (a : Ahead) (c : Counts) (m : MayStep i before j ks rs a c) (d : IsHandled before core j.at_server m.e) where
@@ -145,35 +175,9 @@ module _ (before core : Server) (i : ℕ) (j : Joined) (ks : List Joined) (rs : 
         unstamped = m.unstamped;
       }
 
-  -- The same subscriptions stand at the ends and on the circuits, once its write reached them.
+  -- the same subscriptions stand at the ends and on the circuits, once its write reached them
   pub alike-core : is_write d.next.action ≡ true → AllAlike i core ks
-  alike-core wrote = go d.next.action d.next.handles d.reaches wrote
-    where
-      taken : ServerEnd
-      taken = record m.e { link = with_rest d.next.rest m.e.link }
-
-      now : ServerEnd
-      now = record taken { link = with_sent d.next.replies taken.link }
-
-      go : (action : Action) → Handles before j.at_server taken d.next.m d.next.replies action d.next.after → Reaches action d.gone d.next.after core → is_write action ≡ true → AllAlike i core ks
-      go (Applies name value busies) handles reaches wrote = λ n g there mine on.
-          let v : Stored = stored_now d.next.after value in
-          let is : under d.next.after.circuits g.at_server ≡ under (with_changed (λ (c : ServerCircuit). Open now) j.at_server before.circuits) g.at_server =
-          ap (λ (t : Table ServerCircuit). under t g.at_server) (wrote-circuits before j.at_server taken d.next.m d.next.replies name value busies d.next.after handles) in
-          let after : IsAlike (under d.next.after.circuits g.at_server) g =
-          subst (λ (o : Option ServerCircuit). IsAlike o g) (sym is) (changed-alike before j.at_server m.e now m.has refl refl g (m.alike n g there mine on)) in
-          subst (λ (o : Option ServerCircuit). IsAlike o g)
-          (sym (ap (λ (z : Server). under z.circuits g.at_server) reaches.1 ∙ each-under (reached name write_mask v d.gone) d.next.after.circuits g.at_server))
-          (reached-alike name write_mask v d.gone g.at_server (under d.next.after.circuits g.at_server) g after)
-      go (Waits name value) handles reaches wrote = absurd cc
-      go (Clears sid) handles reaches wrote = absurd cc
-      go Nothing handles reaches wrote = absurd cc
-      go Greets handles reaches wrote = absurd cc
-      go (Names p) handles reaches wrote = absurd cc
-      go (Opens c) handles reaches wrote = absurd cc
-      go (Adds s) handles reaches wrote = absurd cc
-      go (Drops key) handles reaches wrote = absurd cc
-      go (Switches on) handles reaches wrote = absurd cc
+  alike-core wrote = alike-wrote before j.at_server m.e m.has d.next d.gone core d.reaches wrote i ks m.alike
 
   -- with the lists of its circuit aside
   pub alike-after : (done : Deed) → IsDeed d.next.action done → (busies : Bool) → done ≡ deed.Applies busies → (k place : ℕ) → At ks k j → AllAlike i core (slice_set ks k (with_lists [] [] (numbers_after place d.next.action j)))
