@@ -1,18 +1,13 @@
-//! The lines `get`, `put` and `monitor` against a server in the same process: each line, what it says, and its status are in `stdout`.
-#![tactic(auto)]
-
-ghost use Rattle.std.specs.Prelude.{◌<◌, ◌^◌};
-
+//! The lines `get`, `put` and `monitor` against a server in the same process: each line, what it says, and its status.
+use crate::ends::{Prompt, bound, say};
 use ca::standing_records;
-use ca_dbr::Value;
 use ca_link::Writer;
 use ca_records::Records;
-use ca_serve::{Device, Places, serve};
+use ca_serve::{Places, serve};
 use ca_text::Refusal;
 use std::alloc::Global;
 use std::io::Write;
-use std::net::{Ipv4Addr, Net, SocketAddr, TcpListener, TcpStream, UdpSocket};
-use std::process::ExitCode;
+use std::net::{Net, SocketAddr, TcpListener, TcpStream};
 use std::rt::Files;
 use std::sync::Wait;
 use std::thread;
@@ -35,24 +30,8 @@ const LINES: [&str; 9] = [
 /// The circuits after which the server ends.
 const CIRCUITS: u64 = 8;
 
-/// A device that has nothing to do.
-#[derive(Clone, Copy, Drop)]
-struct Prompt;
-
-impl Device for Prompt {
-    fn process(&self, _record: &[u8], _value: &Value) {}
-}
-
-fn main(rt: HostRuntime) -> ExitCode {
-    let mut out = rt.stdout();
-    let mut err = rt.stdout();
-    match both_ends(rt, rt.alloc(), &mut out, &mut err) {
-        Ok(()) => ExitCode::SUCCESS,
-        Err(_) => ExitCode::FAILURE,
-    }
-}
-
-fn both_ends<
+/// The server in a thread of its own, and the lines against it.
+pub(crate) fn both_ends<
     R: Threads
         + Wait
         + Clock
@@ -68,30 +47,6 @@ fn both_ends<
     let records = standing_records(alloc)?;
     let (places, address) = bound(&rt)?;
     serve_and_ask(rt, alloc, records, places, address, out, err)
-}
-
-fn bound<R: Net<Stream = TcpStream, Listener = TcpListener>>(
-    rt: &R,
-) -> Result<(Places, SocketAddr), Refusal> {
-    let any = SocketAddr::from((Ipv4Addr::LOCALHOST, 0));
-    let Ok(listener) = TcpListener::bind(rt, any) else {
-        return Err(Refusal::Device);
-    };
-    let Ok(address) = listener.local_addr() else {
-        return Err(Refusal::Device);
-    };
-    let Ok(datagrams) = UdpSocket::bind(rt, address) else {
-        return Err(Refusal::Device);
-    };
-    let beacons = SocketAddr::from((Ipv4Addr::LOCALHOST, 5065));
-    Ok((
-        Places {
-            listener,
-            datagrams,
-            beacons,
-        },
-        address,
-    ))
 }
 
 fn serve_and_ask<
@@ -173,13 +128,6 @@ fn ask<
 >(rt: R, alloc: Global, words: &[String], out: &mut W, err: &mut E) -> u8 {
     let mut sink = Writer::new(out);
     ca_tools::run(rt, alloc, words, &mut sink, err)
-}
-
-fn say<W: Write>(out: &mut W, what: &str, text: &str) -> Result<(), Refusal> {
-    match writeln!(out, "{what} {text}") {
-        Ok(()) => Ok(()),
-        Err(_) => Err(Refusal::Device),
-    }
 }
 
 /// The words of a line, and then where the server is.

@@ -1,7 +1,6 @@
 //! A client whose callers are four threads, against a server in the same process. All 1,024 tickets are outstanding at once, 256 for each caller: one
-//! request more is refused, and each caller collects the outcomes of its own tickets, once. What came of it is `stdout`.
-#![tactic(auto)]
-
+//! request more is refused, and each caller collects the outcomes of its own tickets, once.
+use crate::ends::{Prompt, bound, tell};
 use ca_arena::Handle;
 use ca_board::Ticket;
 use ca_client::Caller;
@@ -9,12 +8,11 @@ use ca_client_context::{Context, Engine, Nobody, Setting, Work, start};
 use ca_client_core::Address;
 use ca_dbr::{Outcome, Value};
 use ca_records::Records;
-use ca_serve::{Device, Places, serve};
+use ca_serve::serve;
 use ca_text::Refusal;
 use std::alloc::Global;
 use std::io::Write;
-use std::net::{Ipv4Addr, Net, SocketAddr, TcpListener, TcpStream, UdpSocket};
-use std::process::ExitCode;
+use std::net::{Ipv4Addr, Net, SocketAddr, TcpListener, TcpStream};
 use std::sync::atomic::{AtomicU64, Ordering};
 use std::sync::{Arc, Wait};
 use std::thread;
@@ -27,24 +25,8 @@ const TURNS: u64 = 100_000;
 /// The tickets of a caller.
 const EACH: u32 = 256;
 
-/// The server's device, which has nothing to do.
-#[derive(Clone, Copy, Drop)]
-struct Prompt;
-
-impl Device for Prompt {
-    fn process(&self, _record: &[u8], _value: &Value) {}
-}
-
-fn main(rt: HostRuntime) -> ExitCode {
-    let mut out = rt.stdout();
-    match both_ends(rt, rt.alloc(), &mut out) {
-        Ok(()) => ExitCode::SUCCESS,
-        Err(_) => ExitCode::FAILURE,
-    }
-}
-
 /// The server in a thread of its own, which ends when the client's circuit is closed.
-fn both_ends<
+pub(crate) fn both_ends<
     R: Threads
         + Wait
         + Clock
@@ -71,40 +53,18 @@ fn both_ends<
     let Ok(server) = spawned else {
         return Err(Refusal::Device);
     };
-    let talked = use_client(rt, alloc, address, out);
+    let talked = use_client(rt, alloc, address_of(address), out);
     let served = server.join(&rt);
     talked?;
     served?;
     Ok(())
 }
 
-/// The server's sockets, on one port of the system's choice, and where searches go.
-fn bound<R: Net<Stream = TcpStream, Listener = TcpListener>>(
-    rt: &R,
-) -> Result<(Places, Address), Refusal> {
-    let any = SocketAddr::from((Ipv4Addr::LOCALHOST, 0));
-    let Ok(listener) = TcpListener::bind(rt, any) else {
-        return Err(Refusal::Device);
-    };
-    let Ok(local) = listener.local_addr() else {
-        return Err(Refusal::Device);
-    };
-    let Ok(datagrams) = UdpSocket::bind(rt, local) else {
-        return Err(Refusal::Device);
-    };
-    let address = Address {
+fn address_of(server: SocketAddr) -> Address {
+    Address {
         host: Ipv4Addr::LOCALHOST.to_bits(),
-        port: local.port(),
-    };
-    let beacons = SocketAddr::from((Ipv4Addr::LOCALHOST, 5065));
-    Ok((
-        Places {
-            listener,
-            datagrams,
-            beacons,
-        },
-        address,
-    ))
+        port: server.port(),
+    }
 }
 
 /// The record WAVE, of as many LONGs as there are tickets.
@@ -184,7 +144,7 @@ fn talk<R: Threads + Wait + Clock + Copy + Send + 'static, W: Write>(
     let parts = all_parts(&rt, alloc, context, wave, &right)?;
     one_more(&rt, context, wave, out)?;
     collected(rt, alloc, parts)?;
-    say(out, "collected", right.load(Ordering::SeqCst))?;
+    tell(out, "collected", right.load(Ordering::SeqCst))?;
     one_more(&rt, context, wave, out)
 }
 
@@ -200,13 +160,6 @@ fn one_more<R: Wait, W: Write>(
         Err(refusal) => writeln!(out, "one more: refused {refusal}"),
     };
     match said {
-        Ok(()) => Ok(()),
-        Err(_) => Err(Refusal::Device),
-    }
-}
-
-fn say<W: Write>(out: &mut W, what: &str, number: u64) -> Result<(), Refusal> {
-    match writeln!(out, "{what}: {number}") {
         Ok(()) => Ok(()),
         Err(_) => Err(Refusal::Device),
     }
