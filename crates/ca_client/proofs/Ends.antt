@@ -10,12 +10,12 @@ use Rattle.ca_model.specs.Client.{Channel, Client, ClientCircuit, Clearing, Conn
 use Rattle.ca_model.specs.Client as client
 use Rattle.ca_model.specs.ClientCalls.{all_over, cleared, unsubscribed_all, unwanted}
 use Rattle.ca_model.specs.ClientEnds.{is_connecting}
-use Rattle.ca_model_client.specs.Placed.{IsPlaced, was_live}
-use Rattle.ca_model_client.proofs.Handles.{same-is}
-use Rattle.ca_model_client.proofs.Placed.{bare-never}
-use Rattle.ca_model_client.proofs.Standings.{fails-anywhere, fails-searched, found-standing}
-use Rattle.ca_model_client.proofs.Tables.{all-freed-back, one-value}
-use Rattle.ca_model_client.specs.Placed.{IsBare}
+use Rattle.ca_model.specs.Placed.{IsPlaced, was_live}
+use Rattle.ca_model.proofs.Handles.{same-is}
+use Rattle.ca_model.proofs.Placed.{bare-never}
+use Rattle.ca_model.proofs.Standings.{fails-anywhere, fails-searched, found-standing}
+use Rattle.ca_model.proofs.Tables.{all-freed-back, one-value}
+use Rattle.ca_model.specs.Placed.{IsBare}
 use Rattle.ca_client.specs.Awaited.{IsListed, Waits, completions}
 use Rattle.ca_client.proofs.Waiting.{Same, Told, listed-fewer, listed-same, not-open, open-back, over-waits, same-itself, same-then, told-ended, told-on, waits-same}
 

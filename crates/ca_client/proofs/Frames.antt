@@ -16,10 +16,10 @@ use Rattle.ca_model.specs.ClientCalls.{ClientOpens, ClientSubscribes, ClientUnsu
 use Rattle.ca_model.specs.ClientEnds.{Arrival, ClientReceives, Receives, ReceivesAll, beacon_heard}
 use Rattle.ca_model.specs.ClientEnds as ends
 use Rattle.ca_model.specs.Hears.{Effect, FindsAt, PutsOn, doing, found_at, put_on, searched_by}
-use Rattle.ca_model_client.specs.Placed.{IsPlaced}
-use Rattle.ca_model_client.proofs.Changes.{keeps-unsubscribed, placed-opened, placed-subscribed}
-use Rattle.ca_model_client.proofs.Hearing.{all-received, keeps-moment}
-use Rattle.ca_model_client.proofs.Placed.{keeps-sending}
+use Rattle.ca_model.specs.Placed.{IsPlaced}
+use Rattle.ca_model.proofs.Changes.{keeps-unsubscribed, placed-opened, placed-subscribed}
+use Rattle.ca_model.proofs.Hearing.{all-received, keeps-moment}
+use Rattle.ca_model.proofs.Placed.{keeps-sending}
 use Rattle.ca_client.specs.Awaited.{IsState}
 use Rattle.ca_client.proofs.Settled.{state-same}
 use Rattle.ca_client.proofs.Waiting.{Same, same-itself, same-sending, same-then}

@@ -11,8 +11,8 @@ use Rattle.ca_board.specs.Views.{CoreView}
 use Rattle.ca_ids.specs.Table.{Table, under}
 use Rattle.ca_model.specs.Client.{Client}
 use Rattle.ca_model.specs.ClientEnds.{ClientBegins, ClientSetting, new_client}
-use Rattle.ca_model_client.specs.Placed.{IsPlaced}
-use Rattle.ca_model_client.proofs.Tables.{under-at}
+use Rattle.ca_model.specs.Placed.{IsPlaced}
+use Rattle.ca_model.proofs.Tables.{under-at}
 use Rattle.ca_client.specs.Awaited.{AreAwaited, IsListed, IsState, Waits}
 use Rattle.ca_client.specs.Calls.{HasNotBegun}
 

@@ -11,8 +11,8 @@ use Rattle.ca_link.specs.Link.{with_handed}
 use Rattle.ca_model.specs.Answers.{Sending}
 use Rattle.ca_model.specs.Client.{Client, Connection, connection_at, on_connection, sending}
 use Rattle.ca_model.specs.ClientEnds.{ClientGives, GivesOn, flow_sent, given, handed_over}
-use Rattle.ca_model_client.specs.Placed.{IsPlaced}
-use Rattle.ca_model_client.proofs.Changes.{given-keeps, handed-keeps}
+use Rattle.ca_model.specs.Placed.{IsPlaced}
+use Rattle.ca_model.proofs.Changes.{given-keeps, handed-keeps}
 use Rattle.ca_client.specs.Awaited.{IsState}
 use Rattle.ca_client.proofs.Settled.{state-same}
 use Rattle.ca_client.proofs.Waiting.{Same, same-itself, same-sending}

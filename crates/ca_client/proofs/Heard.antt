@@ -15,7 +15,7 @@ use Rattle.ca_model.specs.Ends.{Address}
 use Rattle.ca_model.specs.Client.{Channel, Client, ClientCircuit, Clearing, Connecting, Connection, Creating, Doomed, Leaving, Live, On, Phase, channel_on, circuit_to, disconnections, found_on, searched_again, sending, with_requests, with_standing, without_channel}
 use Rattle.ca_model.specs.Hears.{Answers, Completes, Effect, Fails, FindsAt, Hears, PutsOn, Updates, any_failed, becomes, clear_answered, confirmed, created, doing, failed, failing, found_at, heard_by, left, put_on, request_failed, rights_told, searched_by, subscription_failed, with_circuit, without_drained, without_request, without_subscription, write_failed}
 use Rattle.ca_model.specs.Hears as hears
-use Rattle.ca_model_client.proofs.Tables.{all-freed-back}
+use Rattle.ca_model.proofs.Tables.{all-freed-back}
 use Rattle.ca_client.specs.Awaited.{IsListed, completions}
 use Rattle.ca_client.proofs.Waiting.{Same, Told, answered-there, freed-waits, listed-fewer, over-waits, same-itself, same-sending, told-ended, told-on, told-one, told-quiet, told-same}
 

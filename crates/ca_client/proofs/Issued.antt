@@ -17,9 +17,9 @@ use Rattle.ca_requests.specs.Requests as requests
 use Rattle.ca_model.specs.Answers.{Sending}
 use Rattle.ca_model.specs.Client.{Client, sending}
 use Rattle.ca_model.specs.ClientCalls.{ClientPuts, ClientReads, IsLive, LiveChannel, Shape, issued, put_sent, read_sent}
-use Rattle.ca_model_client.specs.Placed.{IsPlaced}
-use Rattle.ca_model_client.proofs.Changes.{placed-issued}
-use Rattle.ca_model_client.proofs.Placed.{keeps-sending}
+use Rattle.ca_model.specs.Placed.{IsPlaced}
+use Rattle.ca_model.proofs.Changes.{placed-issued}
+use Rattle.ca_model.proofs.Placed.{keeps-sending}
 use Rattle.ca_client.specs.declared.ask.Request.{Request}
 use Rattle.ca_client.specs.declared.ask.Request.TheVariants as request
 use Rattle.ca_client.specs.Awaited.{IsState, Waits}

@@ -16,11 +16,11 @@ use Rattle.ca_model.specs.Client.{Client, ClientCircuit, Connection, connection_
 use Rattle.ca_model.specs.ClientCalls.{ClientClears, cleared, clearing_sent}
 use Rattle.ca_model.specs.ClientEnds.{ClientConnects, ClientSteps, ConnectsOn, EndsFor, StepsOn, after_taking, begun, creations, gone, set_up, unconnected}
 use Rattle.ca_model.specs.Hears.{Effect}
-use Rattle.ca_model_client.specs.Placed.{IsPlaced}
-use Rattle.ca_model_client.proofs.Changes.{keeps-cleared}
-use Rattle.ca_model_client.proofs.Hearing.{keeps-begun, keeps-heard}
-use Rattle.ca_model_client.proofs.Letting.{ends-ended}
-use Rattle.ca_model_client.proofs.Placed.{keeps-on, keeps-sending}
+use Rattle.ca_model.specs.Placed.{IsPlaced}
+use Rattle.ca_model.proofs.Changes.{keeps-cleared}
+use Rattle.ca_model.proofs.Hearing.{keeps-begun, keeps-heard}
+use Rattle.ca_model.proofs.Letting.{ends-ended}
+use Rattle.ca_model.proofs.Placed.{keeps-on, keeps-sending}
 use Rattle.ca_client.specs.Awaited.{AreFirst, Completion, Fillable, FillsAll, IsListed, IsState, Waits, completed, completions, others}
 use Rattle.ca_client.proofs.Ends.{told-clear, told-end}
 use Rattle.ca_client.proofs.Heard.{told-heard}

@@ -16,14 +16,14 @@ use Rattle.ca_model.specs.Answers.{Lost, Notice, Sending, Ticked}
 use Rattle.ca_model.specs.Client.{Client, Connection, channels_on, connection_at, ended, farewell, is_live, later, on_connection, sending}
 use Rattle.ca_model.specs.ClientCalls.{is_over}
 use Rattle.ca_model.specs.ClientEnds.{ClientTicks, Ticking, all_searched_on, circuits_ticked, due, is_name_connected, of_circuit, searches_made, searches_on, ticks, ticks_as, with_sending}
-use Rattle.ca_model_client.specs.Placed.{IsPlaced}
+use Rattle.ca_model.specs.Placed.{IsPlaced}
 use Rattle.atomic_table.specs.Seated.{TableId}
 use Rattle.ca_board.specs.declared.ticket.Ticket.{Ticket}
 use Rattle.ca_board.specs.Views.{CoreView}
-use Rattle.ca_model_client.proofs.Changes.{keeps-searches}
-use Rattle.ca_model_client.proofs.Hearing.{keeps-moment}
-use Rattle.ca_model_client.proofs.Letting.{ends-ended}
-use Rattle.ca_model_client.proofs.Placed.{Keeps, keeps-on, keeps-sending}
+use Rattle.ca_model.proofs.Changes.{keeps-searches}
+use Rattle.ca_model.proofs.Hearing.{keeps-moment}
+use Rattle.ca_model.proofs.Letting.{ends-ended}
+use Rattle.ca_model.proofs.Placed.{Keeps, keeps-on, keeps-sending}
 use Rattle.ca_client.specs.Awaited.{Completion, Fillable, FillsAll, IsListed, IsState, Waits, completion, completions, others}
 use Rattle.ca_client.proofs.Ends.{no-losses, told-end}
 use Rattle.ca_client.proofs.Lists.{ends, others-all, others-first, told-ends}

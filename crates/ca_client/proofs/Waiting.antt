@@ -9,7 +9,7 @@ use Rattle.ca_ids.specs.Table.{MayGive, Table, by_wire, under, with_freed, with_
 use Rattle.ca_requests.specs.Requests.{Draining, Open, Request, Stage, answered_by, asks_on, channel_over, command_of, is_open, is_open_in, over_on, was_sent_on}
 use Rattle.ca_model.specs.Answers.{Completed, Notice, Sending}
 use Rattle.ca_model.specs.Client.{Client, disconnections, sending, with_one_sent}
-use Rattle.ca_model_client.proofs.Tables.{all-back, freed-back, given-none, held-back, held-other, held-own, one-value, wire-under}
+use Rattle.ca_model.proofs.Tables.{all-back, freed-back, given-none, held-back, held-other, held-own, one-value, wire-under}
 use Rattle.ca_client.specs.Awaited.{Among, AreApart, AreFirst, Completion, IsListed, Waits, completions}
 use Rattle.ca_client.proofs.Lists.{among-filter, among-last, apart-filter, apart-last, ends, told-ends}
 use Rattle.ca_client.proofs.Tickets.{But, Leaves, Tells}

@@ -12,7 +12,7 @@ use Rattle.ca_ids.specs.Table.{under}
 use Rattle.ca_requests.specs.Requests.{Open, Request}
 use Rattle.ca_model.specs.Answers.{Completed, Notice}
 use Rattle.ca_model.specs.Client.{Client}
-use Rattle.ca_model_client.specs.Placed.{IsPlaced}
+use Rattle.ca_model.specs.Placed.{IsPlaced}
 
 -- What lies under the lock: the client, the core's seat at the board, and the table of tickets, by the indices of requests.
 pub record StateView : Type 0 where

@@ -15,11 +15,11 @@ use Rattle.ca_search.specs.Searcher.{with_one, without}
 use Rattle.ca_search.specs.Searches as search
 use Rattle.ca_model.specs.Client.{Channel, Client, ClientCircuit, On, Phase, Searching, Standing, channels_on, disconnected, ended, is_cleared, is_on_in, phase_on, without_circuit}
 use Rattle.ca_model.specs.ClientEnds.{Ticking, due, echoes, falls_silent, ticks}
-use Rattle.ca_model_client.proofs.Handles.{same-is, same-itself, same-not}
-use Rattle.ca_model_client.proofs.Letting.{ended-back}
-use Rattle.ca_model_client.proofs.Placed.{options-agree, under-other}
-use Rattle.ca_model_client.proofs.Standings.{at-filter-map, on-circuit}
-use Rattle.ca_model_client.proofs.Tables.{AreApart, changed-few, changed-own, freed-few, held-apart, under-wire, wire-under}
+use Rattle.ca_model.proofs.Handles.{same-is, same-itself, same-not}
+use Rattle.ca_model.proofs.Letting.{ended-back}
+use Rattle.ca_model.proofs.Placed.{options-agree, under-other}
+use Rattle.ca_model.proofs.Standings.{at-filter-map, on-circuit}
+use Rattle.ca_model.proofs.Tables.{AreApart, changed-few, changed-own, freed-few, held-apart, under-wire, wire-under}
 use Rattle.ca_client_tables.specs.Ahead.{Once, due_after, is_due_after, is_in, sought_by, sought_in}
 use Rattle.ca_client_tables.specs.Ending.{Sought, again, gone, is_kept, named_by, sought}
 use Rattle.ca_client_core.specs.Moments.{all_echoed, all_ended, asks_in, echo_step, end_step, is_close, is_echo_due, is_silent, silent_of}

@@ -4,7 +4,7 @@ use Rattle.ca_ids.specs.Table.{Table}
 use Rattle.ca_requests.specs.Calls.{Issued, MayIssue}
 use Rattle.ca_monitor.specs.Subscriptions.{Subscription}
 use Rattle.ca_model.specs.Client.{Channel, Client, ClientCircuit}
-use Rattle.ca_model_client.specs.Placed.{ArePlaced, WasLiveIn, was_live}
+use Rattle.ca_model.specs.Placed.{ArePlaced, WasLiveIn, was_live}
 use Rattle.ca_client_core.proofs.Listing.{connected-there, on-standing, one-handle}
 use Rattle.ca_client_tables.proofs.Finds.{plain}
 

@@ -13,7 +13,7 @@ use Rattle.ca_model.specs.ClientEnds.{Receives, ReceivesAll, beacon_heard, beaco
 use Rattle.ca_model.specs.ClientEnds as receives
 use Rattle.ca_model.specs.Ends.{Address}
 use Rattle.ca_model.specs.Hears.{Effect, Finds, FindsAt, PutsOn, found_at, put_on, searched_by, with_circuit}
-use Rattle.ca_model_client.proofs.Hearing.{keeps-finds, received-keeps}
+use Rattle.ca_model.proofs.Hearing.{keeps-finds, received-keeps}
 use Rattle.ca_client_tables.specs.Listed.{AreListed}
 use Rattle.ca_client_tables.specs.Sound.{HasCid, IsClient, IsSound}
 use Rattle.ca_client_tables.proofs.Ended.{client-again}

@@ -5,8 +5,8 @@ use Rattle.ca_arena.specs.declared.handle.Handle.{Handle}
 use Rattle.ca_arena.specs.Arena.{Place}
 use Rattle.ca_ids.specs.Table.{Table, under, with_changed, with_freed}
 use Rattle.ca_model.specs.Client.{Client, ClientCircuit, Connection, channels_ended, channels_on, connection_at, disconnected, ended, is_cleared, let_go, on_connection, searched_again, without_circuit, without_ids}
-use Rattle.ca_model_client.proofs.Placed.{options-agree, under-other}
-use Rattle.ca_model_client.proofs.Tables.{freed-back, freed-other, one-at-index}
+use Rattle.ca_model.proofs.Placed.{options-agree, under-other}
+use Rattle.ca_model.proofs.Tables.{freed-back, freed-other, one-at-index}
 use Rattle.ca_client_tables.specs.Ending.{Sought, again, gone, is_kept, sought}
 use Rattle.ca_client_tables.proofs.Circuits.{changed-found, found-changed}
 use Rattle.ca_client_tables.proofs.Ended.{fold-again, fold-gone, with_sought}

@@ -14,11 +14,11 @@ use Rattle.ca_model.specs.Client.{Channel, Client, ClientCircuit, Native, On, Ph
 use Rattle.ca_model.specs.Client as phase
 use Rattle.ca_model.specs.ClientCalls.{ClientClears, LiveChannel, cleared, clearing_sent, unsubscribed_all, unwanted}
 use Rattle.ca_model.specs.ClientEnds.{is_connecting}
-use Rattle.ca_model_client.specs.Placed.{IsBare, IsPlaced, was_live}
-use Rattle.ca_model_client.proofs.Handles.{same-is}
-use Rattle.ca_model_client.proofs.Placed.{bare-never}
-use Rattle.ca_model_client.proofs.Standings.{fails-anywhere, fails-searched, found-standing, never-cleared}
-use Rattle.ca_model_client.proofs.Tables.{all-freed-back, one-value}
+use Rattle.ca_model.specs.Placed.{IsBare, IsPlaced, was_live}
+use Rattle.ca_model.proofs.Handles.{same-is}
+use Rattle.ca_model.proofs.Placed.{bare-never}
+use Rattle.ca_model.proofs.Standings.{fails-anywhere, fails-searched, found-standing, never-cleared}
+use Rattle.ca_model.proofs.Tables.{all-freed-back, one-value}
 use Rattle.ca_client_core.specs.Clearing.{ClearsLive}
 use Rattle.ca_client_core.specs.Turns.{MayTurn, WasLiveOn}
 use Rattle.ca_client_core.proofs.Endings.{circuits_left, order_left}

@@ -7,11 +7,11 @@ use Rattle.ca_requests.specs.Requests.{Request}
 use Rattle.ca_monitor.specs.Subscriptions.{Subscription}
 use Rattle.ca_model.specs.Client.{Channel, Client, ClientCircuit, Connection, Creating, On, Standing, is_live, is_on_in, phase_on}
 use Rattle.ca_model.specs.ClientEnds.{begun, creating, is_connecting, new_connection}
-use Rattle.ca_model_client.specs.Placed.{ArePlaced, IsPlaced}
-use Rattle.ca_model_client.proofs.Hearing.{keeps-begun}
-use Rattle.ca_model_client.proofs.Handles.{handle-or}
-use Rattle.ca_model_client.proofs.Placed.{placed-linked, under-other}
-use Rattle.ca_model_client.proofs.Tables.{all-back, changed-own}
+use Rattle.ca_model.specs.Placed.{ArePlaced, IsPlaced}
+use Rattle.ca_model.proofs.Hearing.{keeps-begun}
+use Rattle.ca_model.proofs.Handles.{handle-or}
+use Rattle.ca_model.proofs.Placed.{placed-linked, under-other}
+use Rattle.ca_model.proofs.Tables.{all-back, changed-own}
 use Rattle.ca_client_tables.specs.Listed.{AreListed}
 use Rattle.ca_client_core.proofs.Listing.{listed-thin}
 use Rattle.ca_client_tables.proofs.Finds.{plain}

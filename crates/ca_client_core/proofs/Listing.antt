@@ -14,11 +14,11 @@ use Rattle.ca_model.specs.Answers.{Closing}
 use Rattle.ca_model.specs.Ends.{Why}
 use Rattle.ca_model.specs.Client.{Channel, Client, ClientCircuit, Connecting, Connection, Creating, Clearing, Doomed, Leaving, Live, Native, On, Phase, Searching, Standing, channel_on, channels_ended, channels_on, closing, disconnections, farewell, is_live, is_on_in, out_bytes, phase_on, without_ids}
 use Rattle.ca_model.specs.ClientEnds.{is_connecting}
-use Rattle.ca_model_client.specs.Placed.{IsPlaced, was_live}
-use Rattle.ca_model_client.proofs.Handles.{same-is, same-itself}
-use Rattle.ca_model_client.proofs.Letting.{ended-back}
-use Rattle.ca_model_client.proofs.Standings.{channel-on, is-on, on-circuit, on-one}
-use Rattle.ca_model_client.proofs.Tables.{changed-back, freed-back, handle-is, held-back, one-value}
+use Rattle.ca_model.specs.Placed.{IsPlaced, was_live}
+use Rattle.ca_model.proofs.Handles.{same-is, same-itself}
+use Rattle.ca_model.proofs.Letting.{ended-back}
+use Rattle.ca_model.proofs.Standings.{channel-on, is-on, on-circuit, on-one}
+use Rattle.ca_model.proofs.Tables.{changed-back, freed-back, handle-is, held-back, one-value}
 use Rattle.ca_client_tables.specs.Ending.{EndsAll, Sought, named_in, sought}
 use Rattle.ca_client_tables.specs.Listed.{AreListed, Has, KeepsAll, is_live_in, list_at, lives_in}
 use Rattle.ca_client_core.specs.Notices.{told_by}

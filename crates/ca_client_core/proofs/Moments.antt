@@ -16,8 +16,8 @@ use Rattle.ca_model.specs.Answers.{Sending}
 use Rattle.ca_model.specs.Client.{Client, ClientCircuit, Connection, connection_at, disconnected, ended, farewell, on_connection, out_bytes, without_circuit}
 use Rattle.ca_model.specs.ClientCalls.{is_over}
 use Rattle.ca_model.specs.ClientEnds.{Ticking, all_searched_on, echoes, falls_silent, is_name_connected, of_circuit, searches_on, ticks, ticks_as, with_sending}
-use Rattle.ca_model_client.proofs.Handles.{handle-or, same-not}
-use Rattle.ca_model_client.proofs.Placed.{under-other}
+use Rattle.ca_model.proofs.Handles.{handle-or, same-not}
+use Rattle.ca_model.proofs.Placed.{under-other}
 use Rattle.ca_client_core.specs.Moments.{all_echoed, all_ended, all_searched, asks_in, echo_step, end_step, is_close, is_echo, is_echo_due, is_searched_on, is_silent, search_step, silent_of}
 use Rattle.ca_client_core.proofs.Aside.{circuit-past, connection-own, connection-past, ended-gone, ended-is, ended-moment, ended-on, ended-own, ended-past, ended_but}
 use Rattle.ca_client_tables.proofs.Circuits.{found-changed}

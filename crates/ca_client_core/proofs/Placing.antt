@@ -23,13 +23,13 @@ use Rattle.ca_model.specs.ClientCalls.{all_over}
 use Rattle.ca_model.specs.ClientEnds.{is_connecting}
 use Rattle.ca_model.specs.Hears.{Effect, doing, without_drained}
 use Rattle.ca_model.specs.Hears as hears
-use Rattle.ca_model_client.specs.Placed.{ArePlaced, IsBare, IsBareIn, IsPlaced, WasLive, WasLiveIn, was_live}
-use Rattle.ca_model_client.proofs.Changes.{freed-keeps, keeps-phase, keeps-staged, over-keeps, placed-opened, placed-subscribed}
-use Rattle.ca_model_client.proofs.Handles.{handle-or}
-use Rattle.ca_model_client.proofs.Hearing.{bare-so, drained-bare, keeps-request}
-use Rattle.ca_model_client.proofs.Placed.{keeps-again, keeps-gone, keeps-then, placed-linked, under-other}
-use Rattle.ca_model_client.proofs.Standings.{channel-on, found-standing, is-on}
-use Rattle.ca_model_client.proofs.Tables.{changed-own, held-back}
+use Rattle.ca_model.specs.Placed.{ArePlaced, IsBare, IsBareIn, IsPlaced, WasLive, WasLiveIn, was_live}
+use Rattle.ca_model.proofs.Changes.{freed-keeps, keeps-phase, keeps-staged, over-keeps, placed-opened, placed-subscribed}
+use Rattle.ca_model.proofs.Handles.{handle-or}
+use Rattle.ca_model.proofs.Hearing.{bare-so, drained-bare, keeps-request}
+use Rattle.ca_model.proofs.Placed.{keeps-again, keeps-gone, keeps-then, placed-linked, under-other}
+use Rattle.ca_model.proofs.Standings.{channel-on, found-standing, is-on}
+use Rattle.ca_model.proofs.Tables.{changed-own, held-back}
 use Rattle.ca_client_tables.specs.Ends.{GivesAt, GivesOn}
 use Rattle.ca_client_tables.specs.Forms.{phase_of}
 use Rattle.ca_client_core.specs.Hearing.{HearsReplyTo, completed, found_as}

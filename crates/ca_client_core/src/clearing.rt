@@ -6,7 +6,7 @@ ghost use Rattle.ca_model.specs.Client.{On, connection_at, disconnections, with_
 ghost use Rattle.ca_model.specs.ClientCalls.{ClientClears, all_over, unsubscribed_all, unwanted};
 ghost use Rattle.ca_client_core.specs.Clearing.{ClearsLive};
 ghost use Rattle.ca_client_core.specs.Turns.{MayTurn, WasLiveOn};
-ghost use Rattle.ca_model_client.specs.Placed.{IsBare};
+ghost use Rattle.ca_model.specs.Placed.{IsBare};
 
 use crate::client::ClientCore;
 use crate::notices::Notices;

@@ -8,7 +8,7 @@ ghost use Rattle.ca_client_tables.specs.Forms.{native_of, phase_of};
 ghost use Rattle.ca_client_core.specs.Hearing.{HearsReply, found_as};
 ghost use Rattle.ca_client_tables.specs.Listed.{is_live_in};
 ghost use Rattle.ca_client_core.specs.Turns.{MayTurn};
-ghost use Rattle.ca_model_client.specs.Placed.{IsBare};
+ghost use Rattle.ca_model.specs.Placed.{IsBare};
 
 use crate::client::ClientCore;
 use ca_arena::Handle;

@@ -2,7 +2,7 @@ ghost use Rattle.std.specs.Prelude.{◌≡◌};
 ghost use Rattle.ca_requests.specs.Forms.{asked_of};
 ghost use Rattle.ca_client_core.specs.Asks.{Asks, IssuesOr};
 ghost use Rattle.ca_client_tables.specs.Ends.{cut_back};
-ghost use Rattle.ca_model_client.specs.Placed.{WasLive};
+ghost use Rattle.ca_model.specs.Placed.{WasLive};
 
 use crate::client::ClientCore;
 use ca_arena::Handle;

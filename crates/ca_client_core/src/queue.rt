@@ -2,7 +2,7 @@ ghost use Rattle.std.specs.Prelude.{◌≡◌, ◌∷◌, [], OnErr, OnOk, optio
 ghost use Rattle.ca_link.specs.Link.{with_sent};
 ghost use Rattle.ca_model.specs.Client.{on_connection, standing_at};
 ghost use Rattle.ca_model.specs.ClientCalls.{is_over};
-ghost use Rattle.ca_model_client.specs.Placed.{IsPlaced};
+ghost use Rattle.ca_model.specs.Placed.{IsPlaced};
 ghost use Rattle.ca_client_tables.specs.Forms.{standing_of};
 
 use crate::client::ClientCore;

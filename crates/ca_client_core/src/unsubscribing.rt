@@ -2,7 +2,7 @@ ghost use Rattle.std.specs.Prelude.{◌≡◌, List, Ok, Some};
 ghost use Rattle.ca_ids.specs.Table.{with_freed};
 ghost use Rattle.ca_monitor.specs.Subscriptions.{standing_under};
 ghost use Rattle.ca_client_core.specs.Calls.{CancelsOn};
-ghost use Rattle.ca_model_client.specs.Placed.{WasLive};
+ghost use Rattle.ca_model.specs.Placed.{WasLive};
 ghost use Rattle.ca_model.specs.Answers.{Sending};
 ghost use Rattle.ca_model.specs.ClientCalls.{ClientUnsubscribes};
 

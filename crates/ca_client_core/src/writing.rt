@@ -10,7 +10,7 @@ ghost use Rattle.ca_requests.specs.Requests.{Put};
 ghost use Rattle.ca_model.specs.Answers.{Sending};
 ghost use Rattle.ca_model.specs.ClientCalls.{ClientPuts, ClientWrites, is_misfit};
 ghost use Rattle.ca_client_core.specs.Asks.{Asks};
-ghost use Rattle.ca_model_client.specs.Placed.{WasLive};
+ghost use Rattle.ca_model.specs.Placed.{WasLive};
 ghost use Rattle.ca_client_tables.specs.Forms.{native_of};
 
 use crate::client::ClientCore;

@@ -16,7 +16,7 @@ use Rattle.ca_wire.specs.Messages.{create_request}
 use Rattle.ca_model.specs.Client.{Channel, Client, ClientCircuit, Connecting, Creating, On, Searching, Standing, found_on, new_circuit}
 use Rattle.ca_model.specs.Ends.{Address}
 use Rattle.ca_model.specs.Hears.{Effect, Finds, found_at, with_circuit}
-use Rattle.ca_model_client.proofs.Standings.{searched-is}
+use Rattle.ca_model.proofs.Standings.{searched-is}
 use Rattle.ca_client_tables.specs.Ends.{with_message, cut_in, left_at, queued}
 use Rattle.ca_client_tables.specs.Finding.{CreatesIn, FindsIn, FindsNewIn, Tables, circuit_in, found_undone, paused_for, searched_in, stood, tables_of, with_tables}
 use Rattle.ca_client_tables.specs.declared.finding.Found.{Found}

@@ -5,7 +5,7 @@ use Rattle.ca_text.specs.Place.{At}
 use Rattle.ca_arena.specs.declared.handle.Handle.{Handle}
 use Rattle.ca_ids.specs.Table.{Table, held_at, held_from, same_handle}
 use Rattle.ca_model.specs.Client.{Channel, Phase, is_on_in}
-use Rattle.ca_model_client.proofs.Handles.{same-is, same-itself}
+use Rattle.ca_model.proofs.Handles.{same-is, same-itself}
 use Rattle.std.specs.List.{dedup, dedup_from}
 use Rattle.std.specs.List.Sorted.{IsPermutation}
 use Rattle.std.proofs.lemmas.List.{length-append}

@@ -8,7 +8,7 @@ use Rattle.ca_ids.specs.Wire.{wire_of}
 use Rattle.ca_requests.specs.Requests.{Request}
 use Rattle.ca_monitor.specs.Subscriptions.{Subscription}
 use Rattle.ca_model.specs.Client.{Channel, ClientCircuit}
-use Rattle.ca_model_client.specs.Placed.{ArePlaced}
+use Rattle.ca_model.specs.Placed.{ArePlaced}
 use Rattle.ca_search.specs.Searches as search
 use Rattle.ca_client_tables.specs.Listed.{AreListed}
 

@@ -3,7 +3,7 @@ use Rattle.std.specs.Prelude.{ℕ, Option, Some, None}
 use Rattle.ca_dbr.specs.Elements.{elements}
 use Rattle.ca_events.specs.declared.event.Event.{Event}
 use Rattle.ca_events.specs.declared.event.Event.TheVariants as event
-use Rattle.ca_model_world.specs.Events as world
+use Rattle.ca_model.specs.Events as world
 use Rattle.ca_records.specs.Record.{unset}
 
 -- an event as the statement has it

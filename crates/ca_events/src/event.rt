@@ -1,7 +1,7 @@
 ghost use Rattle.std.specs.Prelude.{◌≡◌, ◌<◌};
 ghost use Rattle.ca_text.specs.Mask.{HasEvent};
 ghost use Rattle.ca_events.specs.Events.{event_of, moment_of};
-ghost use Rattle.ca_model_world.specs.Runs.{IsEvent};
+ghost use Rattle.ca_model.specs.Runs.{IsEvent};
 
 use ca_client_tables::Address;
 use ca_dbr::Value;

@@ -1,103 +1,105 @@
--- A step of a server's end that handles a message: what is held of its circuit and of the others stays so.
-use Rattle.std.proofs.Common.{◌≡◌, ℕ, Bool, true, false, ◌&&◌, cond, eqb, List, [], ◌∷◌, length, refl, sym, ◌∙◌, subst}
-use Rattle.std.specs.Prelude.{map}
+-- A step of a server's end that handles a message: its circuit, and the records of its server, after it.
+use Rattle.std.proofs.Common.{◌≡◌, ℕ, ◌+◌, Bool, true, false, cond, ◌&&◌, eqb, List, [], ◌∷◌, length, Option, Some, None, refl, sym, ap, subst, ◌∙◌}
+use Rattle.std.specs.Prelude.{map, option_map, slice_get, slice_set, unwrap_or}
 use Rattle.std.specs.List.{fold}
-use Rattle.ca_text.specs.Place.{At}
-use Rattle.ca_text.proofs.Places.{At-map}
-use Rattle.ca_arena.specs.declared.handle.Handle.{Handle}
 use Rattle.ca_ids.specs.Table.{under}
 use Rattle.ca_queue.specs.declared.entry.SubKey.{SubKey}
-use Rattle.ca_text.specs.declared.command.Command.TheVariants as command
-use Rattle.ca_wire.specs.Fields.{Fields}
-use Rattle.ca_wire.specs.Header.{HeaderFits}
-use Rattle.ca_wire.specs.Message.{header_of}
-use Rattle.ca_model.specs.Speech.{Is}
-use Rattle.ca_model.specs.Client.{Client}
-use Rattle.ca_model.specs.Due.{Action, Adds, Applies, Clears, Drops, Due, Greets, Knows, Names, Nothing, Opens, Switches, Waits}
-use Rattle.ca_model.specs.History.{Circuit, Sent, Step}
+use Rattle.ca_queue.specs.Keys.{same}
+use Rattle.ca_text.specs.Place.{At}
+use Rattle.ca_text.proofs.Places.{At-map, At-mapped, At-one}
+use Rattle.ca_model.specs.Due.{Action, Adds, Applies, Clears, Drops, Opens, Switches}
+use Rattle.ca_model.specs.Due as action
+use Rattle.ca_model.specs.History.{Step}
 use Rattle.ca_model.specs.Server.{Server}
-use Rattle.ca_model_world.specs.ServerEvents.{handled_at, keys_concerned, numbers_after, numbers_posted, with_number, write_numbers}
-use Rattle.ca_model_world.specs.World.{ClientSide, Joined, World, with_circuit}
-use Rattle.ca_model_world.specs.World as world
-use Rattle.ca_laws_circuit.specs.Flows.{IsCidOf}
-use Rattle.ca_laws_circuit.specs.Replies.{IsCidAt}
-use Rattle.ca_laws_circuit.proofs.Answering.{due-answers}
-use Rattle.ca_laws_circuit.proofs.Steps.{flows-step, holds-step}
-use Rattle.ca_laws_runs.specs.Circuit.{HeldAt, HeldOn, IsNext}
+use Rattle.ca_model.specs.Speech.{In}
+use Rattle.ca_model.specs.ServerEvents.{StepHandles, acted, ending, ends_at, ends_by, handled_at, keys_concerned, logged, numbers_after, records_after, reported, server_after, side_of, with_number, without_puts, write_numbers}
+use Rattle.ca_model.specs.World.{Joined, PutPlace, ServerSide, Standing, World, with_circuit}
+use Rattle.ca_laws_parts.proofs.Midway.{set-here}
+use Rattle.ca_laws_parts.proofs.Seats.{open-still}
 
--- ---- what changes no list
+module _ (w new : World) (k : ℕ) (j : Joined) (y : ServerSide) (f : StepHandles w k j y new) where
+  abbrev pub place : ℕ
+  place = length j.lists.handled
 
--- Both circuits have the same lists, client and handle there.
-abbrev pub Like : (j next : Joined) → Type 0
-Like j next = (next.lists ≡ j.lists) × (next.at_client ≡ j.at_client) × (next.client ≡ j.client)
+  abbrev pub own : PutPlace
+  own = record { circuit = k; place = place }
 
-pub like-held : (kept : List ℕ) (n : world.Names) (x : Client) (j next : Joined) → Like j next → HeldOn kept n x j → HeldOn kept n x next
-like-held kept n x j next like h =
-    let start : HeldOn kept n x (record next { lists = j.lists; at_client = j.at_client }) = record { flows = h.flows; cids = h.cids; holds = h.holds } in
-    subst (λ (p : Circuit × Handle). HeldOn kept n x (record next { lists = p.0; at_client = p.1 })) (λ i. (sym like.0 i, sym like.1 i)) start
+  abbrev pub did : Action
+  did = (f.steps.0).action
 
-like-then : (a b c : Joined) → Like a b → Like b c → Like a c
-like-then a b c p q = (q.0 ∙ p.0, q.1 ∙ p.1, q.2 ∙ p.2)
+  abbrev pub mid : World
+  mid = acted k j y did w
 
-all-numbers : (keys : List SubKey) (j : Joined) → Like j (fold with_number j keys)
-all-numbers [] j = (refl, refl, refl)
-all-numbers (key ∷ keys) j = like-then j (with_number j key) (fold with_number (with_number j key) keys) (refl, refl, refl) (all-numbers keys (with_number j key))
+  abbrev pub after : World
+  after = server_after j.server (side_of j.server y mid) (ends_by j.server f.core) f.core mid
 
-pub posted-like : (i : ℕ) (core : Server) (name : List ℕ) (mask : ℕ) (j : Joined) → Like j (numbers_posted i core name mask j)
-posted-like i core name mask j = go (eqb j.server i && j.lists.server_open)
+  abbrev pub moved : Joined
+  moved = write_numbers j.server y.core did (numbers_after place did j)
+
+  abbrev pub last : Joined
+  last = ending (ends_by j.server f.core) moved
+
+  abbrev pub step : Step
+  step = record { sent = length j.lists.down; logged = logged y w; after = logged y after }
+
+  -- its records by place: those after the message, but for what circuits that ended withdrew
+  pub sides-are : At w.servers j.server y → (z : ServerSide) → At new.servers j.server z → z.records ≡ map (without_puts (ends_at (ends_by j.server f.core) mid.circuits)) (records_after y.core j.at_server own did y.records)
+  sides-are at z there =
+      let side : ServerSide = record y { records = records_after y.core j.at_server own did y.records } in
+      let next : ServerSide → ServerSide = λ (x : ServerSide). record x { core = reported f.core; records = map (without_puts (ends_at (ends_by j.server f.core) mid.circuits)) x.records } in
+      let side_is : side_of j.server y mid ≡ side = ap (λ (o : Option ServerSide). unwrap_or o y) (set-here w.servers j.server y side at) in
+      let there_after : At after.servers j.server z = subst (λ (l : List ServerSide). At l j.server z) (ap (λ (v : World). v.servers) f.leaves ∙ noted (slice_get after.circuits k)) there in
+      let z_is : z ≡ next (side_of j.server y mid) = At-one after.servers j.server z (next (side_of j.server y mid)) there_after (set-here mid.servers j.server side (next (side_of j.server y mid)) (set-here w.servers j.server y side at)) in
+      ap (λ (x : ServerSide). x.records) (z_is ∙ ap next side_is)
+    where
+      noted : (o : Option Joined) → (unwrap_or (option_map (λ (c : Joined). with_circuit k (handled_at place step (f.steps.0).replies c) after) o) after).servers ≡ after.servers
+      noted None = refl
+      noted (Some c) = refl
+
+  -- its circuit, if that is open still
+  pub circuit-is : At w.circuits k j → (d : Joined) → At new.circuits k d → d.lists.server_open ≡ true → d ≡ handled_at place step (f.steps.0).replies moved
+  circuit-is on d at opened =
+      let there : At after.circuits k last =
+      At-map (ending (ends_by j.server f.core)) mid.circuits k moved
+      (At-map (write_numbers j.server y.core did) (slice_set w.circuits k (numbers_after place did j)) k (numbers_after place did j) (set-here w.circuits k j (numbers_after place did j) on)) in
+      let noted : Joined = handled_at place step (f.steps.0).replies last in
+      let new_is : new ≡ with_circuit k noted after = f.leaves ∙ ap (λ (o : Option Joined). unwrap_or (option_map (λ (c : Joined). with_circuit k (handled_at place step (f.steps.0).replies c) after) o) after) there in
+      let d_is : d ≡ noted = At-one (slice_set after.circuits k noted) k d noted (subst (λ (v : World). At v.circuits k d) new_is at) (set-here after.circuits k last noted there) in
+      let still = open-still (ends_by j.server f.core) moved last refl (ap (λ (z : Joined). z.lists.server_open) (sym d_is) ∙ opened) in
+      d_is ∙ ap (λ (z : Joined). handled_at place step (f.steps.0).replies z) still.1
+
+-- ---- what stands and is open after numbers were told
+
+pub numbered-standing : (c : Joined) (keys : List SubKey) (s : Standing) → In (fold with_number c keys).standing s → (t : Standing) × In c.standing t × (t.place ≡ s.place)
+numbered-standing c [] s at = (s, at, refl)
+numbered-standing c (key ∷ keys) s at =
+    let r = numbered-standing (with_number c key) keys s at in
+    let x = At-mapped (λ (t : Standing). cond (same key t.key) (record t { posts = t.posts + 1 }) t) c.standing r.1.0 r.0 r.1.1 in
+    (x.0, (r.1.0, x.1), sym (ap (λ (t : Standing). t.place) x.2 ∙ one x.0 (same key x.0.key)) ∙ r.2)
   where
-    go : (b : Bool) → Like j (cond b (fold with_number j (keys_concerned name mask (under core.circuits j.at_server))) j)
-    go true = all-numbers (keys_concerned name mask (under core.circuits j.at_server)) j
-    go false = (refl, refl, refl)
+    one : (t : Standing) (b : Bool) → (cond b (record t { posts = t.posts + 1 }) t).place ≡ t.place
+    one t true = refl
+    one t false = refl
 
-pub writes-like : (i : ℕ) (core : Server) (action : Action) (j : Joined) → Like j (write_numbers i core action j)
-writes-like i core (Applies name value busies) j = posted-like i core name 3 j
-writes-like i core Nothing j = (refl, refl, refl)
-writes-like i core Greets j = (refl, refl, refl)
-writes-like i core (Names peer) j = (refl, refl, refl)
-writes-like i core (Opens channel) j = (refl, refl, refl)
-writes-like i core (Clears sid) j = (refl, refl, refl)
-writes-like i core (Waits name value) j = (refl, refl, refl)
-writes-like i core (Adds s) j = (refl, refl, refl)
-writes-like i core (Drops key) j = (refl, refl, refl)
-writes-like i core (Switches on) j = (refl, refl, refl)
+numbered-creations : (c : Joined) (keys : List SubKey) → (fold with_number c keys).creations ≡ c.creations
+numbered-creations c [] = refl
+numbered-creations c (key ∷ keys) = numbered-creations (with_number c key) keys
 
-pub numbers-like : (place : ℕ) (action : Action) (j : Joined) → Like j (numbers_after place action j)
-numbers-like place (Applies name value busies) j = (refl, refl, refl)
-numbers-like place Nothing j = (refl, refl, refl)
-numbers-like place Greets j = (refl, refl, refl)
-numbers-like place (Names peer) j = (refl, refl, refl)
-numbers-like place (Opens channel) j = (refl, refl, refl)
-numbers-like place (Clears sid) j = (refl, refl, refl)
-numbers-like place (Waits name value) j = (refl, refl, refl)
-numbers-like place (Adds s) j = (refl, refl, refl)
-numbers-like place (Drops key) j = (refl, refl, refl)
-numbers-like place (Switches on) j = (refl, refl, refl)
+pub written-parts : (i : ℕ) (core : Server) (did : Action) (c : Joined) → ((write_numbers i core did c).creations ≡ c.creations) × ((s : Standing) → In (write_numbers i core did c).standing s → (t : Standing) × In c.standing t × (t.place ≡ s.place))
+written-parts i core (Applies name value busies) c = go (eqb c.server i && c.lists.server_open)
+  where
+    keys : List SubKey
+    keys = keys_concerned name 3 (under core.circuits c.at_server)
 
-pub mapped-held : (kept : List ℕ) (w : World) (l : ℕ) (f : Joined → Joined) → ((j : Joined) → Like j (f j)) → HeldAt kept w l → HeldAt kept (record w { circuits = map f w.circuits }) l
-mapped-held kept w l f like held =
-    let j : Joined = held.0 in (
-      f j,
-      held.1,
-      At-map f w.circuits l j held.2,
-      subst (λ (c : ℕ). At w.clients c held.1) (sym (like j).2) held.3,
-      like-held kept held.1.names held.1.core j (f j) (like j) held.4,
-    )
-
--- ---- the message is handled
-
--- what is held of the circuit after the step
-pub handled-held : (kept now : List ℕ) (n : world.Names) (x : Client) (j : Joined) (h : Step) (k : Knows) (m : Fields) (replies : List Fields) (action : Action) → Due k m replies action → IsNext kept now j.lists k m replies → HeldOn kept n x j
-    → HeldOn now n x (handled_at (length j.lists.handled) h replies j)
-handled-held kept now n x j h k m replies action due next held =
-    let c : Circuit = j.lists in
-    let s : Sent = next.s in
-    let answers =
-    due-answers c now s k replies action next.at (held.flows.asked (length c.handled) s next.at) (subst (λ (f : Fields). HeaderFits (header_of f)) (sym next.is) next.fits)
-    (subst (λ (f : Fields). Due k f replies action) (sym next.is) due)
-    (subst (λ (f : Fields). Is command.Write f → (cid : ℕ) → IsCidAt k f.p1 cid → IsCidOf c.up (length c.handled) s.intent cid) (sym next.is) next.writes) next.gone next.over in
-    record {
-      flows = flows-step kept now c h s replies next.at next.were answers held.flows;
-      cids = held.cids;
-      holds = λ o. holds-step kept now j.at_client n x c h s replies next.at next.were answers (held.holds o);
-    }
+    go : (b : Bool) → ((cond b (fold with_number c keys) c).creations ≡ c.creations) × ((s : Standing) → In (cond b (fold with_number c keys) c).standing s → (t : Standing) × In c.standing t × (t.place ≡ s.place))
+    go true = (numbered-creations c keys, numbered-standing c keys)
+    go false = (refl, λ s at. (s, at, refl))
+written-parts i core (action.Waits name value) c = (refl, λ s at. (s, at, refl))
+written-parts i core (action.Clears sid) c = (refl, λ s at. (s, at, refl))
+written-parts i core action.Nothing c = (refl, λ s at. (s, at, refl))
+written-parts i core action.Greets c = (refl, λ s at. (s, at, refl))
+written-parts i core (action.Names x) c = (refl, λ s at. (s, at, refl))
+written-parts i core (action.Opens x) c = (refl, λ s at. (s, at, refl))
+written-parts i core (action.Adds x) c = (refl, λ s at. (s, at, refl))
+written-parts i core (action.Drops x) c = (refl, λ s at. (s, at, refl))
+written-parts i core (action.Switches x) c = (refl, λ s at. (s, at, refl))

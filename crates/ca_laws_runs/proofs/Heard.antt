@@ -1,231 +1,218 @@
--- A message that a client reads: what it does to the client's tables, and what it sends, on its own circuit and seen from others.
-use Rattle.std.proofs.Common.{◌≡◌, ℕ, zero, suc, true, false, ◌&&◌, List, [], ◌∷◌, Option, Some, None, refl, sym, ap, ◌∙◌, subst, arith}
-use Rattle.std.specs.Prelude.{map, option_map, unwrap_or}
+-- What a message that a client reads is about, by what was sent on its circuit.
+use Rattle.std.proofs.Common.{◌≡◌, ℕ, ◌<◌, ◌≤◌, inl, inr, true, false, ◌&&◌, List, length, Option, Some, None, refl, sym, ap, ◌∙◌, subst, arith}
+use Rattle.std.specs.Prelude.{option_map, unwrap_or}
+use Rattle.std.proofs.lemmas.Bool.{both_ways, or_left}
+use Rattle.ca_text.specs.Command.{command_number}
 use Rattle.ca_text.specs.declared.command.Command.TheVariants as command
 use Rattle.ca_text.specs.Place.{At}
-use Rattle.ca_text.proofs.Places.{At-mapped}
+use Rattle.ca_text.proofs.Places.{At-one, some_is}
 use Rattle.ca_arena.specs.declared.handle.Handle.{Handle}
-use Rattle.ca_ids.specs.Table.{held, same_handle}
-use Rattle.ca_monitor.specs.Subscriptions.{Subscription, is_to, standing_to, stands_in}
-use Rattle.ca_requests.specs.Requests.{Draining, Open, Request, Stage, answered_by, was_sent_on}
-use Rattle.ca_requests.specs.Requests as request
+use Rattle.ca_ids.specs.Table.{under}
+use Rattle.ca_ids.specs.Wire.{wire_of}
+use Rattle.ca_monitor.specs.Subscriptions.{Cancelled, Ended, Stage, Stands, Subscription, confirmed_by, drains_in, is_cancelled_in, stands_in}
+use Rattle.ca_requests.specs.Meaning.{QuotesHeader}
+use Rattle.ca_wire.specs.declared.header.Header.{Header}
 use Rattle.ca_wire.specs.Fields.{Fields}
-use Rattle.ca_model.specs.Answers.{Notice, Sending}
-use Rattle.ca_model.specs.Client.{Client, Clearing, Connecting, Creating, Doomed, Leaving, Live, On, Phase, channel_on, searched_again, sending, with_requests, with_standing, without_channel}
-use Rattle.ca_model.specs.ClientCalls.{clear_sent, event_add_sent}
-use Rattle.ca_model.specs.Hears.{Effect, clear_answered, created, doing, event_adds, failed, left, native_in, rights_told, without_drained}
-use Rattle.ca_model.specs.History.{Circuit, Intent, Sent, Step}
+use Rattle.ca_model.specs.Client.{Clearing, Client, Connecting, Creating, Doomed, Leaving, Live, Phase, channel_on, is_on_in}
+use Rattle.ca_model.specs.Hears.{heard_by}
+use Rattle.ca_model.specs.History.{Ask, Cancel, Circuit, Clear, Create, Intent, Kind, On, Put, Read, Sent, Subscribe, Told, Write}
 use Rattle.ca_model.specs.History as history
-use Rattle.ca_model.specs.Speech.{Is}
-use Rattle.ca_model_world.specs.ClientEvents.{channel_number, intent_of}
-use Rattle.ca_model_world.specs.World.{Names}
-use Rattle.ca_laws_circuit.specs.Flows.{Awaits, Flows, MaySendAll, with_all_sent, with_heard, with_sent}
-use Rattle.ca_laws_circuit.specs.Held.{HoldAlike, Holds, MeanToSubscribe, clear_of, event_add_of, is_asked, is_subscribed}
-use Rattle.ca_model_client.specs.Placed.{Attached}
-use Rattle.ca_laws_circuit.proofs.Alike.{client-itself, holds-alike, restood}
-use Rattle.ca_laws_circuit.proofs.Answered.{answered-heard}
-use Rattle.ca_laws_circuit.proofs.Ended.{failure-heard}
-use Rattle.ca_laws_circuit.proofs.Ends.{answered-elsewhere, gone-elsewhere, phase-elsewhere}
-use Rattle.ca_laws_circuit.proofs.Heard.{holds-heard, removal-heard}
-use Rattle.ca_model_client.proofs.Standings.{channel-on}
-use Rattle.ca_laws_circuit.proofs.Lives.{doomed-heard, live-heard}
-use Rattle.ca_laws_circuit.proofs.Many.{none-sent}
-use Rattle.ca_laws_circuit.proofs.Marks.{at-filter}
-use Rattle.ca_laws_circuit.proofs.Others.{left-elsewhere, passes-alike}
-use Rattle.ca_model_client.proofs.Tables.{held-under}
-use Rattle.ca_laws_runs.specs.Circuit.{IsKnown, stamped}
+use Rattle.ca_model.specs.Speech.{Cid, Gives, Ioid, Is, Speaks, SubId}
+use Rattle.ca_model.specs.Channels.{Suits, named}
+use Rattle.ca_model.specs.Placed.{was_live}
+use Rattle.ca_model.proofs.Handles.{same-is}
+use Rattle.ca_model.proofs.Standings.{channel-on}
+use Rattle.ca_model.proofs.Thinner.{three-ways}
+use Rattle.ca_model.specs.ClientEvents.{channel_number, meant_by}
+use Rattle.ca_model.specs.World.{Names}
+use Rattle.ca_laws_parts.specs.Flows.{Awaits, Flows}
+use Rattle.ca_laws_parts.specs.Held.{Holds, OnChannels, has_id, is_subscribed}
+use Rattle.ca_laws_parts.proofs.Ended.{confirmed-is}
+use Rattle.ca_laws_parts.proofs.Flows.{given-now}
+use Rattle.ca_laws_parts.proofs.Refused.{heard-is, sub-named}
+use Rattle.ca_laws_parts.proofs.Settled.{read-means}
+use Rattle.ca_laws_parts.specs.Circuit.{AreCids, IsLastCancel, IsQuiet}
+use Rattle.ca_laws_parts.proofs.RunsSending.{channel-named}
+use Rattle.ca_laws_runs.specs.Quiet.{IsAskedAt, IsBeingCancelled, IsBeingCleared, IsBeingCreated, IsNamedIn, NoCancel, NoneAfter, PhaseIn, Quiet, StageIn, Tidy}
+use Rattle.ca_laws_runs.proofs.Phases.{same-number}
+use Rattle.ca_laws_runs.proofs.Phased.{standing-stage}
+use Rattle.ca_laws_runs.proofs.Says.{asked-at, subscribed-at}
 
--- ---- many messages on one circuit
+-- ---- requests and subscriptions are on the channels that the core has for them
 
-AllOn : (on : Handle) → List Sending → Type 0
-AllOn on ss = (i : ℕ) (s : Sending) → At ss i s → s.circuit ≡ on
+no-name : (number : ℕ) → let a : Option ℕ = None in let b : Option ℕ = Some number in a ≡ b → ⊥
+no-name number e = cc
 
--- What a message did: what it sent, on the circuit on which it was read, and the client before that waits there; what other circuits see
--- of it, which is nothing; and that on its own it may be sent and what is held stays so.
-pub record Did (kept : List ℕ) (on : Handle) (n : Names) (x : Client) (c : Circuit) (g : Step) (e : Effect) : Type 0 where
-  pub sends : List Sending
-  pub z : Client
-  pub core_is : e.core ≡ sending sends z
-  pub sent_is : e.sent ≡ sends
-  pub all_on : (i : ℕ) (s : Sending) → At sends i s → s.circuit ≡ on
-  pub no_creates : (i : ℕ) (s : Sent) (channel : ℕ) → At (map (stamped n) sends) i s → s.intent ≡ history.On channel history.Create → ⊥
-  pub far : (other : Handle) → same_handle on other ≡ false → HoldAlike other x z
-  pub near : Flows (Awaits c kept) c → Holds (Awaits c kept) on n x c
-      → MaySendAll (Awaits c kept) (with_heard g c) (map (stamped n) sends) × Holds (Awaits c kept) on n (sending sends z) (with_all_sent (map (stamped n) sends) (with_heard g c))
+-- what gives an IOID and means this number has its name
+pub request-named : (n : Names) (m : Fields) (id number : ℕ) (intent : Intent) → Suits intent m → Gives m (Ioid id) → named (Ioid id) intent ≡ Some number → IsNamedIn n intent → (q : Handle) × At n.requests number (q, intent)
+request-named n m id number (On a (history.Request Read k)) suits gives is name = (name.0, subst (λ (z : ℕ). At n.requests z (name.0, On a (history.Request Read k))) (some_is k number is) name.1)
+request-named n m id number (On a (history.Request Put k)) suits gives is name = (name.0, subst (λ (z : ℕ). At n.requests z (name.0, On a (history.Request Put k))) (some_is k number is) name.1)
+request-named n m id number (On a (history.Request Write k)) suits gives is name = elim gives.0 [
+  | inl reads ↦ absurd (let e : ◌≡◌ {A = ℕ} 4 15 = sym suits ∙ reads in omega (arith, e))
+  | inr puts ↦ absurd (let e : ◌≡◌ {A = ℕ} 4 19 = sym suits ∙ puts in omega (arith, e))
+]
+request-named n m id number (On a (Subscribe k)) suits gives is name = absurd (no-name number is)
+request-named n m id number (On a (Cancel k)) suits gives is name = absurd (no-name number is)
+request-named n m id number (On a Create) suits gives is name = absurd (no-name number is)
+request-named n m id number (On a Clear) suits gives is name = absurd (no-name number is)
+request-named n m id number history.OfCircuit suits gives is name = absurd (no-name number is)
 
-module _ (kept : List ℕ) (on : Handle) (n : Names) (x : Client) (c : Circuit) (g : Step) where
-  -- nothing was sent
-  pub quiet : (z : Client) (notices : List Notice) (e : Effect) → e ≡ doing [] notices z → ((other : Handle) → same_handle on other ≡ false → HoldAlike other x z)
-      → (Flows (Awaits c kept) c → Holds (Awaits c kept) on n x c → Holds (Awaits c kept) on n z (with_heard g c)) → Did kept on n x c g e
-  quiet z notices e is far near = record {
-    sends = [];
-    z = z;
-    core_is = ap (λ (w : Effect). w.core) is;
-    sent_is = ap (λ (w : Effect). w.sent) is;
-    all_on = λ i s at. absurd cc;
-    no_creates = λ i s channel at creates. absurd cc;
-    far = far;
-    near = λ f h. (tt, none-sent (Holds (Awaits c kept) on n z) (with_heard g c) (near f h));
-  }
+abbrev intent-of-pair : Handle × Intent → Intent
+intent-of-pair e = e.1
 
-  -- nothing changed
-  pub nothing : (notices : List Notice) (e : Effect) → e ≡ doing [] notices x → Did kept on n x c g e
-  nothing notices e is = quiet x notices e is (λ other differ. client-itself other x) (λ f h. holds-heard (Awaits c kept) on n x c g h)
+pub own-so : (n : Names) (x : Client) (on : Handle) (c : Circuit) → Tidy n x → Quiet n x on c.up → ((k : ℕ) (s : Sent) → At c.up k s → Suits s.intent s.message) → OnChannels n x c
+own-so n x on c t quiet asked = record {
+  requests = λ p number s q r at gives there is meant.
+      let w = t.requests q r there in
+      let m_is : w.1 ≡ number = some_is w.1 number (ap (named (Ioid (wire_of q))) (sym w.3) ∙ meant) in
+      let mine = asked-at n x q (channel_number n r.channel) w.1 w.0 t w.3 in
+      let other = request-named n s.message (wire_of q) number s.intent (asked p s at) gives is (quiet.named p s at) in
+      let one = At-one n.requests number (q, On (channel_number n r.channel) (history.Request w.0 w.1)) (other.0, s.intent) (subst (λ (z : ℕ). At n.requests z (q, On (channel_number n r.channel) (history.Request w.0 w.1))) m_is mine) other.1 in
+      (history.Request w.0 w.1, ap intent-of-pair (sym one));
+  subscriptions = λ p number s g d at there is meant.
+      let w = t.subscriptions g d there in
+      let m_is : w.0 ≡ number = some_is w.0 number (ap (named (SubId (wire_of g))) (sym w.2) ∙ meant) in
+      let mine : At n.subscriptions number (g, On (channel_number n d.channel) (Subscribe w.0)) =
+      subst (λ (z : ℕ). At n.subscriptions z (g, On (channel_number n d.channel) (Subscribe w.0))) m_is (subscribed-at n x g (channel_number n d.channel) w.0 t w.2) in
+      elim (sub-named (wire_of g) s.intent number is) [
+        | inl adds ↦
+            let name : IsNamedIn n (On adds.0 (Subscribe number)) = subst (λ (i : Intent). IsNamedIn n i) adds.1 (quiet.named p s at) in
+            let one = At-one n.subscriptions number (g, On (channel_number n d.channel) (Subscribe w.0)) (name.0, On adds.0 (Subscribe number)) mine name.1 in
+            let a : channel_number n d.channel ≡ adds.0 = same-number (channel_number n d.channel) adds.0 (Subscribe w.0) (Subscribe number) (ap intent-of-pair one) in
+            (Subscribe number, adds.1 ∙ ap (λ (z : ℕ). On z (Subscribe number)) (sym a))
+        | inr cancels ↦
+            let name : IsNamedIn n (On cancels.0 (Cancel number)) = subst (λ (i : Intent). IsNamedIn n i) cancels.1 (quiet.named p s at) in
+            let one = At-one n.subscriptions number (g, On (channel_number n d.channel) (Subscribe w.0)) (name.0, On cancels.0 (Subscribe number)) mine name.1 in
+            let a : channel_number n d.channel ≡ cancels.0 = same-number (channel_number n d.channel) cancels.0 (Subscribe w.0) (Subscribe number) (ap intent-of-pair one) in
+            (Cancel number, cancels.1 ∙ ap (λ (z : ℕ). On z (Cancel number)) (sym a))
+      ];
+}
 
-  -- the CLEAR_CHANNEL of a channel was sent
-  cleared-one : (sid : ℕ) (h : Handle) (z : Client) (notices : List Notice) (e : Effect) → e ≡ doing (clear_sent on sid h ∷ []) notices z → ((other : Handle) → same_handle on other ≡ false → HoldAlike other x z)
-      → (Flows (Awaits c kept) c → Holds (Awaits c kept) on n x c → MaySendAll (Awaits c kept) (with_heard g c) (clear_of n sid h ∷ []) × Holds (Awaits c kept) on n (sending (clear_sent on sid h ∷ []) z) (with_sent (clear_of n sid h) (with_heard g c))) → Did kept on n x c g e
-  cleared-one sid h z notices e is far near = record {
-    sends = clear_sent on sid h ∷ [];
-    z = z;
-    core_is = ap (λ (w : Effect). w.core) is;
-    sent_is = ap (λ (w : Effect). w.sent) is;
-    all_on = one;
-    no_creates = none;
-    far = far;
-    near = near;
-  }
+-- ---- a message that finds a channel or a subscription
+
+module _ (kept : List ℕ) (n : Names) (x : Client) (on : Handle) (c : Circuit) (t : Told) (s : Sent) (tidy : Tidy n x) (quiet : Quiet n x on c.up) (flows : Flows (Awaits c kept) c) (cids : AreCids n c) (holds : Holds (Awaits c kept) on n x c)
+    (at : At c.down (length c.heard) t) (sent : At c.up t.place s) where
+  -- its channel was created last before what it is about
+  pub created-before : (cid : ℕ) (h : Handle) (p : Phase) (k : ℕ) → channel_on x on cid ≡ Some (h, p) → Speaks t.message (Cid cid) → IsAskedAt c.up k (channel_number n h) Create → k ≤ t.place
+  created-before cid h p k found speaks created =
+      let ch = channel-on x on cid h p found in
+      let means = given-now c (length c.heard) t.place (Cid cid) (let le : length c.heard ≤ length c.heard = omega arith in le) (flows.own (length c.heard) t (Cid cid) at speaks) in
+      let r = cids k (channel_number n h) created.0 created.1 created.2 in
+      let wire : created.0.message.p1 ≡ cid = r.2 ∙ ap wire_of (channel-named n h r.0 r.1) ∙ ch.2 in
+      let gives : Gives created.0.message (Cid cid) = (subst (λ (i : Intent). Suits i created.0.message) created.2 (flows.asked k created.0 created.1), wire) in
+      elim (three-ways k means.0) [
+        | inl lt ↦ (let le : means.0 ≤ t.place = means.4 in omega (arith, lt, le))
+        | inr (inl same) ↦ (let le : means.0 ≤ t.place = means.4 in omega (arith, same, le))
+        | inr (inr lt) ↦ absurd (means.3.4 k created.0 lt created.1 gives)
+      ]
+
+  pub phase-so : (cid : ℕ) (h : Handle) (p : Phase) → channel_on x on cid ≡ Some (h, p) → PhaseIn c.up (channel_number n h) p
+  phase-so cid h p found = (let ch = channel-on x on cid h p found in quiet.channels h ch.0 ch.1 p ch.3)
+
+  quiet-from : (k number : ℕ) → k ≤ t.place → NoneAfter c.up k number → IsQuiet c t.place number
+  quiet-from k number le none l r ask lt place is = none l r ask (omega (arith, le, lt)) place is
+
+  not-both : (number : ℕ) → On number Create ≡ On number Clear → ⊥
+  not-both number e = cc
+
+  -- a CLEAR_CHANNEL
+  pub cleared-so : (cid : ℕ) (h : Handle) (p : Phase) → (let a : Phase = p in let b : Phase = Connecting in a ≡ b → ⊥) → channel_on x on cid ≡ Some (h, p) → Speaks t.message (Cid cid) → s.intent ≡ On (channel_number n h) Clear → IsQuiet c t.place (channel_number n h)
+  cleared-so cid h p other found speaks clears = by p other found (phase-so cid h p found)
     where
-      one : (i : ℕ) (s : Sending) → At (clear_sent on sid h ∷ []) i s → s.circuit ≡ on
-      one zero s at = ap (λ (o : Option Sending). unwrap_or (option_map (λ (w : Sending). w.circuit) o) on) (sym at)
-      one (suc i) s at = absurd cc
+      number : ℕ
+      number = channel_number n h
 
-      not-create : (a b : ℕ) → history.On a history.Clear ≡ history.On b history.Create → ⊥
-      not-create a b e = cc
+      after : (k : ℕ) → IsAskedAt c.up k (channel_number n h) Create → k ≤ t.place → k < t.place
+      after k created le = elim (three-ways k t.place) [
+        | inl lt ↦ lt
+        | inr (inl same) ↦
+            let one : created.0 ≡ s = At-one c.up t.place created.0 s (subst (λ (z : ℕ). At c.up z created.0) same created.1) sent in
+            absurd (not-both (channel_number n h) (sym created.2 ∙ ap (λ (z : Sent). z.intent) one ∙ clears))
+        | inr (inr lt) ↦ absurd (omega (arith, lt, le))
+      ]
 
-      none : (i : ℕ) (s : Sent) (channel : ℕ) → At (map (stamped n) (clear_sent on sid h ∷ [])) i s → s.intent ≡ history.On channel history.Create → ⊥
-      none zero s channel at creates =
-          not-create (channel_number n h) channel
-          (ap (λ (o : Option Sent). unwrap_or (option_map (λ (w : Sent). w.intent) o) (history.On (channel_number n h) history.Clear)) at ∙ creates)
-      none (suc i) s channel at creates = absurd cc
+      being-created : (p : Phase) → channel_on x on cid ≡ Some (h, p) → IsBeingCreated c.up (channel_number n h) → IsQuiet c t.place (channel_number n h)
+      being-created p found b = quiet-from b.0 (channel_number n h) (created-before cid h p b.0 found speaks b.1) b.2
 
-  -- ---- channels, each by its CID
+      being-cleared : (p : Phase) → channel_on x on cid ≡ Some (h, p) → IsBeingCleared c.up (channel_number n h) → IsQuiet c t.place (channel_number n h)
+      being-cleared p found b = elim (b.5 t.place s Clear (after b.0 b.2 (created-before cid h p b.0 found speaks b.2)) sent clears) [
+        | inl same ↦ quiet-from b.1 (channel_number n h) (omega (arith, same)) b.4
+        | inr used ↦ absurd used
+      ]
 
-  -- ACCESS_RIGHTS
-  pub rights-did : (m : Fields) (e : Effect) (o : Option (Handle × Phase)) → channel_on x on m.p1 ≡ o → e ≡ rights_told x on m o → Did kept on n x c g e
-  rights-did m e None at is = nothing [] e is
-  rights-did m e (Some (h, Connecting)) at is = nothing [] e is
-  rights-did m e (Some (h, Leaving)) at is = nothing [] e is
-  rights-did m e (Some (h, Clearing)) at is = nothing [] e is
-  rights-did m e (Some (h, Doomed)) at is = nothing [] e is
-  rights-did m e (Some (h, Creating rights)) at is =
-      let found = channel-on x on m.p1 h (Creating rights) at in
-      let alike : (other : Handle) → HoldAlike other x (with_standing (On on (Creating m.p2)) h x) =
-      λ other. restood other x h (On on (Creating m.p2)) found.0 found.1 (passes-alike is_asked other on found.0 (Creating rights) (Creating m.p2) found.3 refl) (passes-alike is_subscribed other on found.0 (Creating rights) (Creating m.p2) found.3 refl) in
-      let z : Client = with_standing (On on (Creating m.p2)) h x in
-      quiet z [] e is (λ other differ. alike other) (λ f holds. holds-alike (Awaits c kept) on n x z (with_heard g c) (alike on) (holds-heard (Awaits c kept) on n x c g holds))
-  rights-did m e (Some (h, Live native rights)) at is =
-      let found = channel-on x on m.p1 h (Live native rights) at in
-      let alike : (other : Handle) → HoldAlike other x (with_standing (On on (Live native m.p2)) h x) =
-      λ other. restood other x h (On on (Live native m.p2)) found.0 found.1 (passes-alike is_asked other on found.0 (Live native rights) (Live native m.p2) found.3 refl) (passes-alike is_subscribed other on found.0 (Live native rights) (Live native m.p2) found.3 refl) in
-      let z : Client = with_standing (On on (Live native m.p2)) h x in
-      quiet z [] e is (λ other differ. alike other) (λ f holds. holds-alike (Awaits c kept) on n x z (with_heard g c) (alike on) (holds-heard (Awaits c kept) on n x c g holds))
+      by : (p : Phase) → (let a : Phase = p in let b : Phase = Connecting in a ≡ b → ⊥) → channel_on x on cid ≡ Some (h, p) → PhaseIn c.up (channel_number n h) p → IsQuiet c t.place (channel_number n h)
+      by Connecting other found b = absurd (other refl)
+      by (Creating rights) other found b = being-created (Creating rights) found b
+      by Doomed other found b = being-created Doomed found b
+      by (Live native rights) other found b = absurd (b.2 t.place s Clear (after b.0 b.1 (created-before cid h (Live native rights) b.0 found speaks b.1)) sent clears)
+      by Leaving other found b = being-cleared Leaving found b
+      by Clearing other found b = being-cleared Clearing found b
 
-  -- SERVER_DISCONN
-  pub left-did : (m : Fields) (e : Effect) (o : Option (Handle × Phase)) → channel_on x on m.p1 ≡ o → e ≡ left x on o → Did kept on n x c g e
-  left-did m e None at is = nothing [] e is
-  left-did m e (Some (h, Connecting)) at is = nothing [] e is
-  left-did m e (Some (h, Creating rights)) at is = nothing [] e is
-  left-did m e (Some (h, Leaving)) at is = nothing [] e is
-  left-did m e (Some (h, Clearing)) at is = nothing [] e is
-  left-did m e (Some (h, Doomed)) at is = nothing [] e is
-  left-did m e (Some (h, Live native rights)) at is =
-      let found = channel-on x on m.p1 h (Live native rights) at in
-      cleared-one native.sid h (with_standing (On on Leaving) h (with_requests (request.channel_over h x.requests) x)) _ e is
-      (λ other differ. left-elsewhere other x h on found.0 (Live native rights) found.1 found.3 differ)
-      (λ f holds. (let r = removal-heard (Awaits c kept) on n x c g m.p1 h native rights holds at in ((r.0, tt), r.1)))
-
-  -- CREATE_CHAN: the EVENT_ADDs of the channel's subscriptions
-  adds-stamped : (sid : ℕ) (es : List (Handle × Subscription)) → map (stamped n) (map (λ (w : Handle × Subscription). event_add_sent on sid w.0 w.1) es) ≡ map (event_add_of n sid) es
-  adds-stamped sid [] = refl
-  adds-stamped sid (w ∷ es) = ap (λ (l : List Sent). event_add_of n sid w ∷ l) (adds-stamped sid es)
-
-  no-add-creates : MeanToSubscribe n x.subscriptions → (sid : ℕ) (h : Handle) (i : ℕ) (s : Sent) (channel : ℕ) → At (map (stamped n) (event_adds on sid h x)) i s → s.intent ≡ history.On channel history.Create → ⊥
-  no-add-creates meant sid h i s channel at creates =
-      let was = At-mapped (stamped n) (event_adds on sid h x) i s at in
-      let made = At-mapped (λ (w : Handle × Subscription). event_add_sent on sid w.0 w.1) (standing_to h x.subscriptions) i was.0 was.1 in
-      let kept_in = at-filter (λ (w : Handle × Subscription). is_to h w.1 && stands_in w.1.stage) (held x.subscriptions) i made.0 made.1 in
-      let m = meant made.0.0 made.0.1 (held-under x.subscriptions kept_in.0 made.0 kept_in.1) in
-      not-create m.0 channel m.1 (sym m.2 ∙ sym (ap (λ (w : Sending). intent_of n w.aim) made.2) ∙ sym (ap (λ (w : Sent). w.intent) was.2) ∙ creates)
+  -- a CREATE_CH_FAIL, of a channel that was not created there
+  pub failed-so : (cid : ℕ) (h : Handle) (p : Phase) → (let a : Phase = p in let b : Phase = Connecting in a ≡ b → ⊥) → was_live p ≡ false → channel_on x on cid ≡ Some (h, p) → Speaks t.message (Cid cid) → IsQuiet c t.place (channel_number n h)
+  failed-so cid h p other bare found speaks = by p other bare found (phase-so cid h p found)
     where
-      not-create : (a b k : ℕ) → history.On a (history.Subscribe k) ≡ history.On b history.Create → ⊥
-      not-create a b k e = cc
+      by : (p : Phase) → (let a : Phase = p in let b : Phase = Connecting in a ≡ b → ⊥) → was_live p ≡ false → channel_on x on cid ≡ Some (h, p) → PhaseIn c.up (channel_number n h) p → IsQuiet c t.place (channel_number n h)
+      by Connecting other bare found b = absurd (other refl)
+      by (Creating rights) other bare found b = quiet-from b.0 (channel_number n h) (created-before cid h (Creating rights) b.0 found speaks b.1) b.2
+      by Doomed other bare found b = quiet-from b.0 (channel_number n h) (created-before cid h Doomed b.0 found speaks b.1) b.2
+      by (Live native rights) other bare found b = absurd (both_ways true bare refl)
+      by Leaving other bare found b = absurd (both_ways true bare refl)
+      by Clearing other bare found b = absurd (both_ways true bare refl)
 
-  pub created-did : MeanToSubscribe n x.subscriptions → (m : Fields) (e : Effect) (o : Option (Handle × Phase)) → channel_on x on m.p1 ≡ o → e ≡ created x on m o → Did kept on n x c g e
-  created-did meant m e None at is = nothing [] e is
-  created-did meant m e (Some (h, Connecting)) at is = nothing [] e is
-  created-did meant m e (Some (h, Leaving)) at is = nothing [] e is
-  created-did meant m e (Some (h, Clearing)) at is = nothing [] e is
-  created-did meant m e (Some (h, Live native rights)) at is = nothing [] e is
-  created-did meant m e (Some (h, Doomed)) at is =
-      let found = channel-on x on m.p1 h Doomed at in
-      cleared-one m.p2 h (with_standing (On on Clearing) h x) [] e is
-      (λ other differ. phase-elsewhere on other h x found.0 Doomed Clearing differ found.1 found.3)
-      (λ f holds. (let r = doomed-heard (Awaits c kept) on n x c g m.p1 h m.p2 holds at in ((r.0, tt), r.1)))
-  created-did meant m e (Some (h, Creating rights)) at is =
-      let found = channel-on x on m.p1 h (Creating rights) at in
-      let z : Client = with_standing (On on (Live (native_in m) rights)) h x in
-      let sends : List Sending = event_adds on m.p2 h x in
-      let stamps : map (stamped n) sends ≡ map (event_add_of n m.p2) (standing_to h x.subscriptions) = adds-stamped m.p2 (standing_to h x.subscriptions) in
-      record {
-        sends = sends;
-        z = z;
-        core_is = ap (λ (w : Effect). w.core) is;
-        sent_is = ap (λ (w : Effect). w.sent) is;
-        all_on = λ i s at. (let was = At-mapped (λ (w : Handle × Subscription). event_add_sent on m.p2 w.0 w.1) (standing_to h x.subscriptions) i s at in ap (λ (w : Sending). w.circuit) was.2);
-        no_creates = no-add-creates meant m.p2 h;
-        far = λ other differ. phase-elsewhere on other h x found.0 (Creating rights) (Live (native_in m) rights) differ found.1 found.3;
-        near = λ f holds.
-            subst (λ (l : List Sent). MaySendAll (Awaits c kept) (with_heard g c) l × Holds (Awaits c kept) on n (sending sends z) (with_all_sent l (with_heard g c))) (sym stamps)
-            (live-heard (Awaits c kept) on n x c g m.p1 h m.p2 (native_in m) rights rights meant holds at);
-      }
+  -- what it says of a subscription is of that number
+  pub number-so : (g : Handle) (d : Subscription) (number : ℕ) → under x.subscriptions g ≡ Some d → has_id x.channels on d ≡ true → Speaks t.message (SubId (wire_of g)) → meant_by n.subscriptions g ≡ On (channel_number n d.channel) (Subscribe number) → named (SubId (wire_of g)) s.intent ≡ Some number
+  number-so g d number there has speaks meant =
+      let own = holds.subscriptions.own g d there has in
+      let means = read-means (Awaits c kept) c t (SubId (wire_of g)) own.0 own.1 flows at speaks own.2 in
+      let same : means.0 ≡ s = At-one c.up t.place means.0 s means.1 sent in
+      sym (ap (λ (z : Sent). named (SubId (wire_of g)) z.intent) same) ∙ means.2 ∙ sym own.3 ∙ ap (named (SubId (wire_of g))) meant
 
-  -- a message that is no access rights, no SERVER_DISCONN and no EVENT_ADD is a reply
-  replies : (m : Fields) (k : IsKnown n x on c m) (a : ℕ) → m.command ≡ a → (22 ≡ a → ⊥) → (27 ≡ a → ⊥) → (1 ≡ a → ⊥) → k.t.cause ≡ history.Reply
-  replies m k a is no22 no27 no1 = k.reply (λ e. no22 (sym e ∙ is)) (λ e. no27 (sym e ∙ is)) (λ e. absurd (no1 (sym e ∙ is)))
+  cancelled-stage : (stage : Stage) → is_cancelled_in on stage ≡ true → stage ≡ Cancelled on
+  cancelled-stage Stands is = absurd (both_ways false refl is)
+  cancelled-stage (Cancelled o) is = ap (λ (z : Handle). Cancelled z) (same-is o on is)
+  cancelled-stage (Ended o) is = absurd (both_ways false refl is)
 
-  failure-of : (m : Fields) (h : Handle) (p : Phase) → Is command.CreateChannelFail m → IsKnown n x on c m → channel_on x on m.p1 ≡ Some (h, p) → is_asked p ≡ true → is_subscribed p ≡ false → Flows (Awaits c kept) c → Holds (Awaits c kept) on n x c
-      → Holds (Awaits c kept) on n (without_channel x h) (with_heard g c) × Holds (Awaits c kept) on n (searched_again x h) (with_heard g c)
-  failure-of m h p fails k at asked bare f holds =
-      let own = k.failed h p fails at in
-      failure-heard (Awaits c kept) on n x c g k.t k.s h p f holds k.at (replies m k 26 fails (λ e. omega (arith, e)) (λ e. omega (arith, e)) (λ e. omega (arith, e)))
-      (subst (λ (w : Fields). Is command.CreateChannelFail w) (sym k.is) fails) k.there own.0 own.1 (subst (λ (w : Fields). channel_on x on w.p1 ≡ Some (h, p)) (sym k.is) at) asked bare
+  drains : (stage : Stage) → is_cancelled_in on stage ≡ true → drains_in on stage ≡ true
+  drains Stands is = is
+  drains (Cancelled o) is = is
+  drains (Ended o) is = absurd (both_ways false refl is)
 
-  answer-of : (m : Fields) (h : Handle) (p : Phase) → Is command.ClearChannel m → IsKnown n x on c m → channel_on x on m.p2 ≡ Some (h, p) → is_asked p ≡ true → Flows (Awaits c kept) c → Holds (Awaits c kept) on n x c
-      → Holds (Awaits c kept) on n (without_channel (without_drained on h x) h) (with_heard g c) × Holds (Awaits c kept) on n (searched_again (without_drained on h x) h) (with_heard g c)
-  answer-of m h p clears k at asked f holds =
-      let own = k.cleared h p clears at in
-      answered-heard (Awaits c kept) on n x c g k.t k.s h p f holds k.own k.at (replies m k 12 clears (λ e. omega (arith, e)) (λ e. omega (arith, e)) (λ e. omega (arith, e)))
-      k.there own.0 own.1 (subst (λ (w : Fields). channel_on x on w.p2 ≡ Some (h, p)) (sym k.is) at) asked
+  no-subscribe : (a b m k : ℕ) → On a (Cancel m) ≡ On b (Subscribe k) → ⊥
+  no-subscribe a b m k e = cc
 
-  -- CREATE_CH_FAIL
-  pub failed-did : (m : Fields) (e : Effect) (o : Option (Handle × Phase)) → Is command.CreateChannelFail m → IsKnown n x on c m → channel_on x on m.p1 ≡ o → e ≡ failed x o → Did kept on n x c g e
-  failed-did m e None fails k at is = nothing [] e is
-  failed-did m e (Some (h, Connecting)) fails k at is = nothing [] e is
-  failed-did m e (Some (h, Live native rights)) fails k at is = nothing [] e is
-  failed-did m e (Some (h, Leaving)) fails k at is = nothing [] e is
-  failed-did m e (Some (h, Clearing)) fails k at is = nothing [] e is
-  failed-did m e (Some (h, Creating rights)) fails k at is =
-      let found = channel-on x on m.p1 h (Creating rights) at in
-      quiet (searched_again x h) [] e is (λ other differ. (gone-elsewhere on other h x found.0 (Creating rights) differ found.1 found.3).1)
-      (λ f holds. (failure-of m h (Creating rights) fails k at refl refl f holds).1)
-  failed-did m e (Some (h, Doomed)) fails k at is =
-      let found = channel-on x on m.p1 h Doomed at in
-      quiet (without_channel x h) [] e is (λ other differ. (gone-elsewhere on other h x found.0 Doomed differ found.1 found.3).0)
-      (λ f holds. (failure-of m h Doomed fails k at refl refl f holds).0)
+  -- the confirmation of an EVENT_CANCEL
+  pub confirms-so : (q : Handle) (channel number : ℕ) → Is command.EventAdd t.message → confirmed_by on t.message.p2 x.subscriptions ≡ Some q → s.intent ≡ On channel (Cancel number) → IsLastCancel c t.place (SubId (wire_of q)) number
+  confirms-so q channel number adds finds cancels =
+      let found = confirmed-is on t.message.p2 x.subscriptions q finds in
+      let d : Subscription = found.0 in
+      let w = tidy.subscriptions q d found.1 in
+      let has : has_id x.channels on d ≡ true = or_left (drains_in on d.stage) (stands_in d.stage && unwrap_or (option_map (is_on_in is_subscribed on) (under x.channels d.channel)) false) (drains d.stage found.3) in
+      let speaks : Speaks t.message (SubId (wire_of q)) = inl (adds, sym found.2) in
+      let m_is : w.0 ≡ number = some_is w.0 number (sym (number-so q d w.0 found.1 has speaks w.2) ∙ ap (named (SubId (wire_of q))) cancels) in
+      let stage : StageIn on c.up w.0 (Cancelled on) = subst (λ (z : Stage). StageIn on c.up w.0 z) (cancelled-stage d.stage found.3) (quiet.subscriptions q d (channel_number n d.channel) w.0 found.1 w.2) in
+      let being : IsBeingCancelled c.up number = subst (λ (z : ℕ). IsBeingCancelled c.up z) m_is (stage refl) in
+      let here : t.place ≡ being.0 = being.2 t.place channel s sent cancels in
+      λ p r place is. elim (sub-named (wire_of q) r.intent number is) [
+        | inl subscribes ↦ inl ((let lt : p < being.0 = being.1 p subscribes.0 r place subscribes.1 in omega (arith, lt, here)), subscribes)
+        | inr again ↦ inr (being.2 p again.0 r place again.1 ∙ sym here)
+      ]
 
-  -- CLEAR_CHANNEL
-  pub answered-did : Attached x → (m : Fields) (e : Effect) (o : Option (Handle × Phase)) → Is command.ClearChannel m → IsKnown n x on c m → channel_on x on m.p2 ≡ o → e ≡ clear_answered x on o → Did kept on n x c g e
-  answered-did attached m e None clears k at is = nothing [] e is
-  answered-did attached m e (Some (h, Connecting)) clears k at is = nothing [] e is
-  answered-did attached m e (Some (h, Live native rights)) clears k at is = nothing [] e is
-  answered-did attached m e (Some (h, Creating rights)) clears k at is = nothing [] e is
-  answered-did attached m e (Some (h, Doomed)) clears k at is = nothing [] e is
-  answered-did attached m e (Some (h, Clearing)) clears k at is =
-      let found = channel-on x on m.p2 h Clearing at in
-      quiet (without_channel (without_drained on h x) h) [] e is (λ other differ. (answered-elsewhere on other h x found.0 Clearing differ attached found.1 found.3).0)
-      (λ f holds. (answer-of m h Clearing clears k at refl f holds).0)
-  answered-did attached m e (Some (h, Leaving)) clears k at is =
-      let found = channel-on x on m.p2 h Leaving at in
-      quiet (searched_again (without_drained on h x) h) [] e is (λ other differ. (answered-elsewhere on other h x found.0 Leaving differ attached found.1 found.3).1)
-      (λ f holds. (answer-of m h Leaving clears k at refl f holds).1)
+  -- an ERROR that refuses a subscription
+  pub refuses-so : (h : Header) (q : Handle) → Is command.Error t.message → QuotesHeader t.message h → h.command ≡ command_number command.EventAdd → heard_by x on h.p2 ≡ Some q
+      → (number : ℕ) × Is command.EventAdd s.message × (named (SubId (wire_of q)) (meant_by n.subscriptions q) ≡ Some number) × ((p : ℕ) (r : Sent) (a : ℕ) → At c.up p r → r.intent ≡ On a (Cancel number) → ⊥)
+  refuses-so h q is quotes adds finds =
+      let found = heard-is x on h.p2 q finds in
+      let d : Subscription = found.0 in
+      let w = tidy.subscriptions q d found.1 in
+      let none : NoCancel c.up w.0 = subst (λ (z : Stage). StageIn on c.up w.0 z) (standing-stage d.stage found.3) (quiet.subscriptions q d (channel_number n d.channel) w.0 found.1 w.2) in
+      let speaks : Speaks t.message (SubId (wire_of q)) = subst (λ (z : ℕ). Speaks t.message (SubId z)) (sym found.2) (inr (is, (h, quotes.head, quotes.text, quotes.spells, quotes.parts, (adds, refl)))) in
+      let said = number-so q d w.0 found.1 found.4 speaks w.2 in (
+        w.0,
+        elim (sub-named (wire_of q) s.intent w.0 said) [
+          | inl subscribes ↦ subst (λ (i : Intent). Suits i s.message) subscribes.1 (flows.asked t.place s sent)
+          | inr cancels ↦ absurd (none t.place cancels.0 s sent cancels.1)
+        ],
+        ap (named (SubId (wire_of q))) w.2,
+        λ p r a place cancels. none p a r place cancels,
+      )

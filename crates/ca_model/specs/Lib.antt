@@ -15,3 +15,15 @@ pub mod ChannelState
 pub mod ClientCalls
 pub mod Hears
 pub mod ClientEnds
+pub mod Placed
+pub mod Events
+pub mod World
+pub mod ServerEvents
+pub mod ClientEvents
+pub mod Runs
+pub mod Posts
+pub mod Channels
+pub mod Headline
+pub mod Legal
+pub mod Known
+pub mod Worlds

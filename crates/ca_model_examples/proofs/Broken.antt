@@ -6,8 +6,8 @@ use Rattle.ca_dbr.specs.declared.value.Outcome.{Outcome}
 use Rattle.ca_records.specs.Record.{RecordState}
 use Rattle.ca_model.specs.Speech.{Gives, In, Ioid, Stored}
 use Rattle.ca_model.specs.History.{Cancel, Circuit, On, Request, Read, Write, Subscribe, Entry, Line, Sent, Told, Update, Added, Applied, Removed, Called, Opened}
-use Rattle.ca_model_safe.specs.Headline.{Acted, ActsOnRecord, IsBadChannel}
-use Rattle.ca_model_safe.specs.Legal.{Legal, LegalCircuit}
+use Rattle.ca_model.specs.Headline.{Acted, ActsOnRecord, IsBadChannel}
+use Rattle.ca_model.specs.Legal.{Legal, LegalCircuit}
 use Rattle.ca_requests.specs.Meaning.{Means}
 use Rattle.ca_model.specs.Updates.{Shows}
 use Rattle.ca_model_examples.specs.Worlds.{AnyDue, Unsafe, adding, created_told, creating, long, reading, step, temp}

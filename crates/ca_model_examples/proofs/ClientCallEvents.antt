@@ -2,7 +2,7 @@
 use Rattle.std.proofs.Common.{◌≡◌, ℕ, inl, inr, refl, subst, arith, rules, List, [], ◌∷◌}
 use Rattle.std.specs.Prelude.{Some, None, slice_get}
 use Rattle.ca_text.proofs.Places.{some_is}
-use Rattle.ca_model_world.specs.World.{ClientSide}
+use Rattle.ca_model.specs.World.{ClientSide}
 use Rattle.ca_model.specs.History as history
 use Rattle.ca_model.specs.History.{Line}
 use Rattle.ca_model.specs.Client.{On}

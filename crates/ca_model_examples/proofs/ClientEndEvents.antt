@@ -13,10 +13,10 @@ use Rattle.ca_model.specs.Hears as hears
 use Rattle.ca_model.specs.Hears.{becomes}
 use Rattle.ca_wire.proofs.Fronts.{no-header, none-below}
 use Rattle.ca_wire.specs.Stream.{NoneBegins}
-use Rattle.ca_model_world.specs.ClientEvents.{waiting_up}
-use Rattle.ca_model_world.specs.Events as event
-use Rattle.ca_model_world.specs.Runs.{CanBe, HasClientEnd}
-use Rattle.ca_model_world.specs.World.{ClientSide, Joined, World}
+use Rattle.ca_model.specs.ClientEvents.{waiting_up}
+use Rattle.ca_model.specs.Events as event
+use Rattle.ca_model.specs.Runs.{CanBe, HasClientEnd}
+use Rattle.ca_model.specs.World.{ClientSide, Joined, World}
 use Rattle.ca_model_examples.specs.ClientRows.{alive, first, found, greeted}
 use Rattle.ca_model_examples.specs.ClientCallEvents.{anna_side, joined, names, server}
 use Rattle.ca_model_examples.specs.ClientEndEvents.{AboutPlace, AcceptMakes, CutEnds, DatagramFinds, DownMoves, NoticeLines, RestartForgets, StepHears, TickEnds, TickStops, UpMoves, put_reply, reply_of_search, with_output}

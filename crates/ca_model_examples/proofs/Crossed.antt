@@ -7,10 +7,10 @@ use Rattle.ca_dbr.specs.declared.value.Outcome.TheVariants as outcome
 use Rattle.ca_wire.specs.Fields.{Fields}
 use Rattle.ca_model.specs.Speech.{Cid, In, Stored}
 use Rattle.ca_model.specs.History.{Circuit, Intent, On, OfCircuit, Create, Line, Entry, Opened, Called, Noticed, Updated, Subscribe, Request, Put, Sent, Told, Update, Added, Applied, Finished, Withdrawn, Clear, Cancel}
-use Rattle.ca_model_safe.specs.Channels.{AreSteps, IsApplied, IsHeld, IsRequest, Joins, OfCircuits, OfClients, Stands, Suits}
-use Rattle.ca_model_safe.specs.Headline.{ActsOnRecord, AnswersOwn, CompletesOnce, FollowsRecord, NotTwice, Reads, Safe, Sees}
-use Rattle.ca_model_safe.specs.Legal.{Legal}
-use Rattle.ca_model_safe.specs.Known.{IsDue, IsSafe}
+use Rattle.ca_model.specs.Channels.{AreSteps, IsApplied, IsHeld, IsRequest, Joins, OfCircuits, OfClients, Stands, Suits}
+use Rattle.ca_model.specs.Headline.{ActsOnRecord, AnswersOwn, CompletesOnce, FollowsRecord, NotTwice, Reads, Safe, Sees}
+use Rattle.ca_model.specs.Legal.{Legal}
+use Rattle.ca_model.specs.Known.{IsDue, IsSafe}
 use Rattle.ca_requests.specs.Meaning.{Means}
 use Rattle.ca_model.specs.Updates.{Shows}
 use Rattle.ca_model_examples.specs.Worlds.{AnyDue, adding, ports, rules, temp, temp_name}

@@ -10,10 +10,10 @@ use Rattle.ca_wire.specs.Header.{extended_header, header_spelling, number16, num
 use Rattle.ca_wire.specs.Message.{spelling}
 use Rattle.ca_wire.proofs.Fronts.{no-header, none-below}
 use Rattle.ca_wire.specs.Stream.{NoneBegins}
-use Rattle.ca_model_world.specs.Events as event
-use Rattle.ca_model_world.specs.Runs.{CanBe}
-use Rattle.ca_model_world.specs.World.{Joined, ServerSide, World}
-use Rattle.ca_model_world.specs.ClientEvents.{waiting_down}
+use Rattle.ca_model.specs.Events as event
+use Rattle.ca_model.specs.Runs.{CanBe}
+use Rattle.ca_model.specs.World.{Joined, ServerSide, World}
+use Rattle.ca_model.specs.ClientEvents.{waiting_down}
 use Rattle.ca_model_examples.specs.ClientRows.{alive, anna, first, greeted}
 use Rattle.ca_model_examples.specs.ClientCallEvents.{server}
 use Rattle.ca_model_examples.specs.ClientEndEvents.{between, link_of, server_with}

@@ -12,12 +12,12 @@ use Rattle.ca_dbr.specs.Elements as E
 use Rattle.ca_model.specs.Speech.{Stored}
 use Rattle.ca_wire.specs.Messages.{mask_in}
 use Rattle.ca_model.specs.History.{Circuit, Intent, On, Create, Request, Subscribe, Put, Line, Entry, Sent, Told, Step, Added, Finished, Withdrawn, Reply, Update, Cause, Called, Noticed, Updated}
-use Rattle.ca_model_safe.specs.Channels.{IsApplied, IsLost, IsRequest, IsUse, Joins, OfCircuits, OfClients, Stands, updates}
-use Rattle.ca_model_safe.specs.Headline.{ActsOnRecord, AnswersOwn, CompletesOnce, Follows, FollowsRecord, LosesLive, NotTwice, Reads, Sees}
-use Rattle.ca_model_safe.specs.Known.{IsSafe}
-use Rattle.ca_model_safe.specs.Legal.{IsSent, Legal, LegalCircuit}
+use Rattle.ca_model.specs.Channels.{IsApplied, IsLost, IsRequest, IsUse, Joins, OfCircuits, OfClients, Stands, updates}
+use Rattle.ca_model.specs.Headline.{ActsOnRecord, AnswersOwn, CompletesOnce, Follows, FollowsRecord, LosesLive, NotTwice, Reads, Sees}
+use Rattle.ca_model.specs.Known.{IsSafe}
+use Rattle.ca_model.specs.Legal.{IsSent, Legal, LegalCircuit}
 use Rattle.ca_requests.specs.Meaning.{Means}
-use Rattle.ca_model_safe.specs.Posts.{matching}
+use Rattle.ca_model.specs.Posts.{matching}
 use Rattle.ca_model.specs.Updates.{Shows}
 use Rattle.ca_model_examples.specs.Worlds.{adding, created_told, creating, long, ports, rules, step}
 use Rattle.ca_model_examples.specs.Safe.{first_update}

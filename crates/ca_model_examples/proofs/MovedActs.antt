@@ -7,8 +7,8 @@ use Rattle.ca_dbr.specs.declared.value.Outcome.{Outcome}
 use Rattle.ca_dbr.specs.declared.value.Outcome.TheVariants as outcome
 use Rattle.ca_model.specs.Speech.{Clears, Creates}
 use Rattle.ca_model.specs.History.{Circuit, On, Create, Line, Entry, Opened, Sent, Told, Added, Removed, Reply}
-use Rattle.ca_model_safe.specs.Channels.{IsNamed, IsOpen, IsUse, KeepNames, Meant, before}
-use Rattle.ca_model_safe.specs.Headline.{Acted, ActsOnRecord}
+use Rattle.ca_model.specs.Channels.{IsNamed, IsOpen, IsUse, KeepNames, Meant, before}
+use Rattle.ca_model.specs.Headline.{Acted, ActsOnRecord}
 use Rattle.ca_requests.specs.Meaning.{Means}
 use Rattle.ca_model.specs.Updates.{Shows}
 use Rattle.ca_model_examples.specs.Worlds.{adding, created_told, creating, rights_told, step}

@@ -3,8 +3,8 @@ use Rattle.std.proofs.Common.{◌≡◌, ℕ, List, [], ◌∷◌, refl, ap}
 use Rattle.std.specs.Prelude.{true, false, Bool, Some, None, take}
 use Rattle.ca_model.specs.Due.{Adds, Opens, subscription_in}
 use Rattle.ca_model.specs.History.{Circuit, Entry, Added, Applied}
-use Rattle.ca_model_safe.specs.Channels.{Has, before}
-use Rattle.ca_model_safe.specs.Known.{AreJust, IsChannel, IsNow}
+use Rattle.ca_model.specs.Channels.{Has, before}
+use Rattle.ca_model.specs.Known.{AreJust, IsChannel, IsNow}
 use Rattle.ca_model_examples.specs.Worlds.{adding, created_told, creating, long, rights_told, step, temp_name}
 use Rattle.ca_model_examples.specs.Moved.{moved, moved_entries, valued}
 use Rattle.ca_model_examples.proofs.Lists.{at-take, each-at, none-at, one-at}

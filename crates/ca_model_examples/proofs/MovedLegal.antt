@@ -9,8 +9,8 @@ use Rattle.ca_wire.specs.Fields.{Fields}
 use Rattle.ca_model.specs.Speech.{Cid, Creates, Gives, Id, In, Ioid, Is, SubId}
 use Rattle.ca_model.specs.Sends.{Conduct, HasChannel, IsConnected, IsFree, IsOnChannel, IsOpenAt, LegalClient, LegalServer, ReadsBetween, SameIndex}
 use Rattle.ca_model.specs.History.{Noticed, Circuit, On, Create, Line, Called, Clear, Cancel, Subscribe, Sent, Step}
-use Rattle.ca_model_safe.specs.Channels.{IsHeld, Meant}
-use Rattle.ca_model_safe.specs.Legal.{BecomesLive, LegalCircuit, client_conduct, server_conduct}
+use Rattle.ca_model.specs.Channels.{IsHeld, Meant}
+use Rattle.ca_model.specs.Legal.{BecomesLive, LegalCircuit, client_conduct, server_conduct}
 use Rattle.ca_model_examples.specs.Worlds.{adding, created_told, creating, step}
 use Rattle.ca_model_examples.specs.Moved.{moved, moved_entries, moved_lines}
 use Rattle.ca_model_examples.proofs.Lists.{each-at, at-take}

@@ -13,7 +13,7 @@ use Rattle.ca_wire.specs.Fields.{Fields}
 use Rattle.ca_wire.specs.Messages.{bare}
 use Rattle.ca_model.specs.Updates.{Shows}
 use Rattle.ca_model.specs.History.{On, Subscribe, Circuit, Entry, Line, Told, Added, Finished, Removed, Called, Update}
-use Rattle.ca_model_safe.specs.Headline.{AnswersOwn, Reads}
+use Rattle.ca_model.specs.Headline.{AnswersOwn, Reads}
 use Rattle.ca_requests.specs.Meaning.{Means}
 use Rattle.ca_model_examples.specs.Safe.{AnyMeans}
 use Rattle.ca_model_examples.specs.Unsafe.{live_circuit, live_lines, put_lines, temp_there, unanswered}

@@ -9,9 +9,9 @@ use Rattle.ca_wire.specs.Messages.{failed_reply, text_in}
 use Rattle.ca_model.specs.Due.{Action, IsNotCreated, KnownChannel, KnownRecord, Knows}
 use Rattle.ca_model.specs.History.{Circuit, Reply, Sent}
 use Rattle.ca_model.specs.Updates.{Shows}
-use Rattle.ca_model_safe.specs.Channels.{Has, IsReply, before}
-use Rattle.ca_model_safe.specs.Headline.{AnswersOwn}
-use Rattle.ca_model_safe.specs.Known.{IsChannel, IsDue, IsRecordOf, Knew}
+use Rattle.ca_model.specs.Channels.{Has, IsReply, before}
+use Rattle.ca_model.specs.Headline.{AnswersOwn}
+use Rattle.ca_model.specs.Known.{IsChannel, IsDue, IsRecordOf, Knew}
 use Rattle.ca_requests.specs.Meaning.{Means}
 use Rattle.ca_model_examples.specs.Unsafe.{UnsafeAsDue, creation_refused, refused_creation, temp_there}
 use Rattle.ca_model_examples.specs.Worlds.{creating, ports, reply, rules, step, temp, temp_name}

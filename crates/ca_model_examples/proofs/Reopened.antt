@@ -9,8 +9,8 @@ use Rattle.ca_wire.specs.Fields.{Fields}
 use Rattle.ca_model.specs.Speech.{Cid, Clears, Creates, Gives, Id, In, Ioid, Is, SubId}
 use Rattle.ca_model.specs.Sends.{Conduct, HasChannel, IsConnected, IsDisconnect, IsFree, IsOnChannel, IsOpenAt, LegalClient, LegalServer, ReadsBetween, SameIndex}
 use Rattle.ca_model.specs.History.{Noticed, Circuit, Intent, On, OfCircuit, Create, Line, Entry, Called, Subscribe, Sent, Told, Step, Removed, Removal}
-use Rattle.ca_model_safe.specs.Channels.{Created, IsHeld, Joins, Meant, OfCircuits, OfClients}
-use Rattle.ca_model_safe.specs.Legal.{BecomesLive, IsSent, Legal, LegalCircuit, client_conduct, server_conduct}
+use Rattle.ca_model.specs.Channels.{Created, IsHeld, Joins, Meant, OfCircuits, OfClients}
+use Rattle.ca_model.specs.Legal.{BecomesLive, IsSent, Legal, LegalCircuit, client_conduct, server_conduct}
 use Rattle.ca_model_examples.specs.Worlds.{adding, clearing, created_told, creating, disconnected, step}
 use Rattle.ca_model_examples.specs.Safe.{reopened, reopened_entries, reopened_lines, reopened_world}
 use Rattle.ca_model_examples.proofs.Lists.{each-at, at-take, at-take-within, one-at}

@@ -8,8 +8,8 @@ use Rattle.ca_model.specs.Due.{Adds, Opens, subscription_in}
 use Rattle.ca_model.specs.Due as action
 use Rattle.ca_model.specs.Speech.{In}
 use Rattle.ca_model.specs.History.{On, Subscribe, Entry, Sent, Step, Removed, Applied}
-use Rattle.ca_model_safe.specs.Channels.{Has, IsOpen, before}
-use Rattle.ca_model_safe.specs.Known.{IsChannel, IsKey, IsNow, IsWithdrawal}
+use Rattle.ca_model.specs.Channels.{Has, IsOpen, before}
+use Rattle.ca_model.specs.Known.{IsChannel, IsKey, IsNow, IsWithdrawal}
 use Rattle.ca_model_examples.specs.Worlds.{adding, clearing, created_told, creating, long, rights_told, step, temp, temp_name}
 use Rattle.ca_model_examples.specs.Safe.{reopened, reopened_entries}
 use Rattle.ca_model_examples.proofs.Lists.{at-take, at-take-within, each-at, none-at}

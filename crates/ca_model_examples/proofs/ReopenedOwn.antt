@@ -8,8 +8,8 @@ use Rattle.ca_dbr.specs.declared.value.Outcome.{Outcome}
 use Rattle.ca_wire.specs.Fields.{Fields}
 use Rattle.ca_model.specs.Speech.{Cid, Clears, Gives, Heads, Id, Ioid, Is, Speaks, SubId}
 use Rattle.ca_model.specs.History.{Sent, Told, Step, Reply, Removal}
-use Rattle.ca_model_safe.specs.Channels.{AreSteps, IsReply, IsUncleared, Suits}
-use Rattle.ca_model_safe.specs.Headline.{Answered, AnswersOwn, HasCause, TakesOwn}
+use Rattle.ca_model.specs.Channels.{AreSteps, IsReply, IsUncleared, Suits}
+use Rattle.ca_model.specs.Headline.{Answered, AnswersOwn, HasCause, TakesOwn}
 use Rattle.ca_requests.specs.Meaning.{Means}
 use Rattle.ca_model.specs.Updates.{Shows}
 use Rattle.ca_model_examples.specs.Worlds.{adding, clearing, created_told, creating, disconnected, rights_told, step}

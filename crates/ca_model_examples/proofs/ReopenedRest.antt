@@ -12,11 +12,11 @@ use Rattle.ca_dbr.specs.Elements as E
 use Rattle.ca_model.specs.Speech.{In, Stored}
 use Rattle.ca_wire.specs.Messages.{mask_in}
 use Rattle.ca_model.specs.History.{Circuit, Intent, On, OfCircuit, Create, Request, Subscribe, Put, Line, Entry, Sent, Told, Step, Added, Applied, Finished, Withdrawn, Removed, Clear, Reply, Update, Cause, Called, Noticed, Updated}
-use Rattle.ca_model_safe.specs.Channels.{IsApplied, IsLost, IsOpen, IsRequest, IsUse, Stands, before, updates}
-use Rattle.ca_model_safe.specs.Headline.{ActsOnRecord, AnswersOwn, CompletesOnce, Follows, FollowsRecord, LosesLive, NotTwice, Reads, Sees}
-use Rattle.ca_model_safe.specs.Known.{IsSafe}
+use Rattle.ca_model.specs.Channels.{IsApplied, IsLost, IsOpen, IsRequest, IsUse, Stands, before, updates}
+use Rattle.ca_model.specs.Headline.{ActsOnRecord, AnswersOwn, CompletesOnce, Follows, FollowsRecord, LosesLive, NotTwice, Reads, Sees}
+use Rattle.ca_model.specs.Known.{IsSafe}
 use Rattle.ca_requests.specs.Meaning.{Means}
-use Rattle.ca_model_safe.specs.Posts.{matching}
+use Rattle.ca_model.specs.Posts.{matching}
 use Rattle.ca_model.specs.Updates.{Shows}
 use Rattle.ca_model_examples.specs.Worlds.{adding, clearing, created_told, creating, disconnected, long, ports, reply, rules, step}
 use Rattle.ca_model_examples.specs.Safe.{first_update, reopened, reopened_entries, reopened_lines, reopened_world}

@@ -9,8 +9,8 @@ use Rattle.ca_wire.specs.Fields.{Fields}
 use Rattle.ca_records.specs.Record.{RecordState}
 use Rattle.ca_model.specs.Speech.{Clears, Creates, In}
 use Rattle.ca_model.specs.History.{Ask, Circuit, Intent, On, OfCircuit, Create, Line, Entry, Opened, Sent, Told, Added, Removed, Clear, Reply}
-use Rattle.ca_model_safe.specs.Channels.{Has, IsNamed, IsOpen, IsUse, KeepNames, before}
-use Rattle.ca_model_safe.specs.Headline.{Acted, ActsOnRecord}
+use Rattle.ca_model.specs.Channels.{Has, IsNamed, IsOpen, IsUse, KeepNames, before}
+use Rattle.ca_model.specs.Headline.{Acted, ActsOnRecord}
 use Rattle.ca_requests.specs.Meaning.{Means}
 use Rattle.ca_model.specs.Updates.{Shows}
 use Rattle.ca_model_examples.specs.Worlds.{adding, clearing, created_told, creating, long, reply, rights_told, step, temp, temp_name}

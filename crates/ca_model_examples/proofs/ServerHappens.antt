@@ -24,11 +24,11 @@ use Rattle.ca_model.specs.Server.{ServerEnd}
 use Rattle.ca_model.specs.ServerSteps.{HasEnd, Leaves, Next, Pumps, Rests, Update, knows}
 use Rattle.ca_model.specs.ServerSteps as stepped
 use Rattle.ca_model.specs.Speech.{Stored}
-use Rattle.ca_model_world.specs.Events as event
-use Rattle.ca_model_world.specs.Runs.{CanBe, HasServerEnd, IsServer}
-use Rattle.ca_model_world.specs.ClientEvents.{waiting_up}
+use Rattle.ca_model.specs.Events as event
+use Rattle.ca_model.specs.Runs.{CanBe, HasServerEnd, IsServer}
+use Rattle.ca_model.specs.ClientEvents.{waiting_up}
 use Rattle.ca_text.specs.Name.{IsName}
-use Rattle.ca_model_world.specs.World.{ClientSide, Joined, World}
+use Rattle.ca_model.specs.World.{ClientSide, Joined, World}
 use Rattle.ca_records.specs.Record.{HoldsValue}
 use Rattle.ca_model_examples.specs.ServerRows.{wave}
 use Rattle.ca_model_examples.specs.DueReplies.{v22}

@@ -16,8 +16,8 @@ use Rattle.ca_model.specs.Due.{Action, Adds, Clears, Due, EventDue, IsCreated, K
 use Rattle.ca_model.specs.Speech.{In, Is, name_in}
 use Rattle.ca_wire.specs.Messages.{cleared_reply}
 use Rattle.ca_model.specs.History.{On, Subscribe, Circuit, Entry, Sent, Added, Removed}
-use Rattle.ca_model_safe.specs.Channels.{IsOpen}
-use Rattle.ca_model_safe.specs.Known.{AreJust, IsChannel, IsDue, IsEarly, IsKey, IsRecordOf, Knew, has_created}
+use Rattle.ca_model.specs.Channels.{IsOpen}
+use Rattle.ca_model.specs.Known.{AreJust, IsChannel, IsDue, IsEarly, IsKey, IsRecordOf, Knew, has_created}
 use Rattle.ca_model_examples.specs.Worlds.{adding, created_told, creating, long, ports, rights_told, rules, temp, temp_name}
 use Rattle.ca_model_examples.proofs.Lists.{Each, each-at, none-at, one-at}
 

@@ -5,8 +5,8 @@ use Rattle.ca_text.specs.Place.{At}
 use Rattle.ca_records.specs.Record.{RecordState}
 use Rattle.ca_model.specs.Speech.{In}
 use Rattle.ca_model.specs.History.{Entry, Line, Sent, Told, Added, Removed, Opened}
-use Rattle.ca_model_safe.specs.Channels.{Has, IsNamed, IsOpen, IsUnread, IsUse, KeepNames}
-use Rattle.ca_model_safe.specs.Headline.{ActsOnRecord}
+use Rattle.ca_model.specs.Channels.{Has, IsNamed, IsOpen, IsUnread, IsUse, KeepNames}
+use Rattle.ca_model.specs.Headline.{ActsOnRecord}
 use Rattle.ca_requests.specs.Meaning.{Means}
 use Rattle.ca_model.specs.Updates.{Shows}
 use Rattle.ca_model_examples.specs.Worlds.{AnyDue, created_told, creating, disconnected, step, temp, temp_name}

@@ -15,8 +15,8 @@ use Rattle.ca_dbr.specs.Shown.{shown}
 use Rattle.ca_wire.specs.Fields.{Fields}
 use Rattle.ca_model.specs.Speech.{In, Is, Stored}
 use Rattle.ca_model.specs.History.{Cause, Reply, Removal, Circuit, Entry, Line, Sent, Told, Step, Added, Removed, Applied, Waits, Finished, Clear, Intent, On, Request, Read, Subscribe, Called, Update}
-use Rattle.ca_model_safe.specs.Channels.{IsFinished, IsReply, Lasts, OfCircuits}
-use Rattle.ca_model_safe.specs.Headline.{Acted, ActsOnRecord, Answered, AnswersOwn, IsBadChannel}
+use Rattle.ca_model.specs.Channels.{IsFinished, IsReply, Lasts, OfCircuits}
+use Rattle.ca_model.specs.Headline.{Acted, ActsOnRecord, Answered, AnswersOwn, IsBadChannel}
 use Rattle.ca_requests.specs.Meaning.{Means}
 use Rattle.ca_model.specs.Updates.{Shows, update_in}
 use Rattle.ca_model_examples.specs.Worlds.{AnyDue, Unsafe, adding, clearing, created_told, creating, disconnected, long, put_told, putting, reading, step, temp, world}

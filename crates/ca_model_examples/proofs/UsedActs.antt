@@ -10,8 +10,8 @@ use Rattle.ca_wire.specs.Fields.{Fields}
 use Rattle.ca_records.specs.Record.{RecordState}
 use Rattle.ca_model.specs.Speech.{Clears, Creates, In, Is}
 use Rattle.ca_model.specs.History.{Ask, Create, Intent, On, OfCircuit, Circuit, Entry, Line, Sent, Told, Added, Removed, Opened}
-use Rattle.ca_model_safe.specs.Channels.{IsNamed, IsOpen, KeepNames, before}
-use Rattle.ca_model_safe.specs.Headline.{Acted, ActsOnRecord}
+use Rattle.ca_model.specs.Channels.{IsNamed, IsOpen, KeepNames, before}
+use Rattle.ca_model.specs.Headline.{Acted, ActsOnRecord}
 use Rattle.ca_requests.specs.Meaning.{Means}
 use Rattle.ca_model.specs.Updates.{Shows}
 use Rattle.ca_model_examples.specs.Worlds.{adding, created_told, creating, putting, reading, step, temp}

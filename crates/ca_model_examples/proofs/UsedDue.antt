@@ -9,8 +9,8 @@ use Rattle.ca_dbr.specs.Elements as E
 use Rattle.ca_dbr.specs.Elements.{longs}
 use Rattle.ca_model.specs.Due.{Adds, Applies, Nothing, Opens, PutDue, ReadDue, subscription_in}
 use Rattle.ca_model.specs.History.{Entry, Step, Added, Applied}
-use Rattle.ca_model_safe.specs.Channels.{Has, IsOpen, before}
-use Rattle.ca_model_safe.specs.Known.{AreJust, IsChannel, IsNow, IsSafe}
+use Rattle.ca_model.specs.Channels.{Has, IsOpen, before}
+use Rattle.ca_model.specs.Known.{AreJust, IsChannel, IsNow, IsSafe}
 use Rattle.ca_model_examples.specs.Worlds.{adding, created_told, creating, long, ports, put_told, putting, reading, rights_told, rules, step, temp, temp_name}
 use Rattle.ca_model_examples.specs.Safe.{used, used_entries, used_world}
 use Rattle.ca_model_examples.proofs.Lists.{each-at, at-take, none-at}

@@ -8,8 +8,8 @@ use Rattle.ca_dbr.specs.Elements.{Elements, longs}
 use Rattle.ca_wire.specs.Fields.{Fields}
 use Rattle.ca_model.specs.Speech.{In, Stored}
 use Rattle.ca_model.specs.History.{Create, Clear, Request, Subscribe, Read, Put, Intent, On, OfCircuit, Reply, Circuit, Entry, Line, Sent, Added, Applied, Finished, Withdrawn, Called, Noticed, Updated}
-use Rattle.ca_model_safe.specs.Channels.{IsApplied, IsOwnWrite, IsRequest, IsUse, Lasts, Stands, updates}
-use Rattle.ca_model_safe.specs.Headline.{CompletesOnce, NotTwice, Reads}
+use Rattle.ca_model.specs.Channels.{IsApplied, IsOwnWrite, IsRequest, IsUse, Lasts, Stands, updates}
+use Rattle.ca_model.specs.Headline.{CompletesOnce, NotTwice, Reads}
 use Rattle.ca_requests.specs.Meaning.{Means}
 use Rattle.ca_model.specs.Updates.{Shows}
 use Rattle.ca_model_examples.specs.Worlds.{created_told, creating, long, put_told, putting, reading, step, temp}
@@ -88,7 +88,7 @@ module _
   abbrev Bears : ℕ → Intent → Outcome → Type 0
   Bears i intent o =
       ((by : Reads Due Shows Means used_world 0 used_lines i intent o) × (by.t.cause ≡ Reply))
-      ⊎ ((o ≡ outcome.Disconnected) × Rattle.ca_model_safe.specs.Channels.IsLost used_world 0 used_lines i intent)
+      ⊎ ((o ≡ outcome.Disconnected) × Rattle.ca_model.specs.Channels.IsLost used_world 0 used_lines i intent)
 
   live-told : Bears 1 (On 0 Create) outcome.Done
   live-told = inl (

@@ -9,10 +9,10 @@ use Rattle.ca_dbr.specs.Elements as E
 use Rattle.ca_wire.specs.Fields.{Fields}
 use Rattle.ca_wire.specs.Messages.{mask_in}
 use Rattle.ca_model.specs.History.{Intent, On, Subscribe, Cause, Reply, Removal, Update, Circuit, Entry, Line, Sent, Told, Step, Added, Applied, Updated}
-use Rattle.ca_model_safe.specs.Channels.{Joins, OfCircuits, OfClients, before, updates}
-use Rattle.ca_model_safe.specs.Headline.{ActsOnRecord, AnswersOwn, CompletesOnce, Follows, FollowsRecord, Safe, Sees}
+use Rattle.ca_model.specs.Channels.{Joins, OfCircuits, OfClients, before, updates}
+use Rattle.ca_model.specs.Headline.{ActsOnRecord, AnswersOwn, CompletesOnce, Follows, FollowsRecord, Safe, Sees}
 use Rattle.ca_requests.specs.Meaning.{Means}
-use Rattle.ca_model_safe.specs.Posts.{matching}
+use Rattle.ca_model.specs.Posts.{matching}
 use Rattle.ca_model.specs.Updates.{Shows}
 use Rattle.ca_model_examples.specs.Worlds.{adding, created_told, creating, long, put_told, putting, reading, rights_told, step}
 use Rattle.ca_model_examples.specs.Safe.{used, used_entries, used_lines, used_world}

@@ -10,8 +10,8 @@ use Rattle.ca_model.specs.Due.{Applies, Opens, Waits, PutDue}
 use Rattle.ca_model.specs.Speech.{Creates}
 use Rattle.ca_model.specs.History.{Create, Circuit, Entry, Sent, Told, Step, Added, Applied, Finished}
 use Rattle.ca_model.specs.History as history
-use Rattle.ca_model_safe.specs.Channels.{Has, IsOpen, before}
-use Rattle.ca_model_safe.specs.Known.{AreJust, IsChannel, IsNow}
+use Rattle.ca_model.specs.Channels.{Has, IsOpen, before}
+use Rattle.ca_model.specs.Known.{AreJust, IsChannel, IsNow}
 use Rattle.ca_model_examples.specs.Worlds.{created_told, creating, long, put_told, putting, rights_told, step, temp_name}
 use Rattle.ca_model_examples.specs.Waited.{slow_temp, waited, waited_entries}
 use Rattle.ca_model_examples.proofs.Lists.{each-at, at-take, none-at}

@@ -7,8 +7,8 @@ use Rattle.ca_wire.specs.Fields.{Fields}
 use Rattle.ca_model.specs.Speech.{Cid, Creates, Gives, Id, Ioid, Is, SubId}
 use Rattle.ca_model.specs.Sends.{Conduct, HasChannel, IsDisconnect, IsOnChannel, LegalClient, LegalServer, ReadsBetween, SameIndex}
 use Rattle.ca_model.specs.History.{On, Line, Called, Subscribe, Sent}
-use Rattle.ca_model_safe.specs.Channels.{Meant}
-use Rattle.ca_model_safe.specs.Legal.{IsSent, Legal, LegalCircuit, client_conduct, server_conduct}
+use Rattle.ca_model.specs.Channels.{Meant}
+use Rattle.ca_model.specs.Legal.{IsSent, Legal, LegalCircuit, client_conduct, server_conduct}
 use Rattle.ca_model_examples.specs.Worlds.{created_told, creating}
 use Rattle.ca_model_examples.specs.Waited.{waited, waited_entries, waited_lines, waited_world}
 use Rattle.ca_model_examples.proofs.Lists.{each-at, at-take, none-at}

@@ -7,9 +7,9 @@ use Rattle.ca_dbr.specs.declared.value.Outcome.TheVariants as outcome
 use Rattle.ca_dbr.specs.Elements.{Elements, longs}
 use Rattle.ca_model.specs.Speech.{In, Stored}
 use Rattle.ca_model.specs.History.{Circuit, Intent, On, OfCircuit, Create, Request, Subscribe, Put, Line, Entry, Sent, Applied, Withdrawn, Finished, Clear, Reply, Called, Noticed, Updated}
-use Rattle.ca_model_safe.specs.Channels.{IsApplied, IsBusyUntil, IsLost, IsOwnWrite, IsUse, Joins, OfCircuits, OfClients, Stands}
-use Rattle.ca_model_safe.specs.Headline.{ActsOnRecord, AnswersOwn, CompletesOnce, FollowsRecord, NotTwice, Reads, Sees}
-use Rattle.ca_model_safe.specs.Known.{IsSafe}
+use Rattle.ca_model.specs.Channels.{IsApplied, IsBusyUntil, IsLost, IsOwnWrite, IsUse, Joins, OfCircuits, OfClients, Stands}
+use Rattle.ca_model.specs.Headline.{ActsOnRecord, AnswersOwn, CompletesOnce, FollowsRecord, NotTwice, Reads, Sees}
+use Rattle.ca_model.specs.Known.{IsSafe}
 use Rattle.ca_requests.specs.Meaning.{Means}
 use Rattle.ca_model.specs.Updates.{Shows}
 use Rattle.ca_model_examples.specs.Worlds.{created_told, creating, long, ports, putting, rules, step}

@@ -14,10 +14,10 @@ use Rattle.ca_model.specs.ClientCalls.{issued, opened, put_sent, write_sent}
 use Rattle.ca_model.specs.History.{Ask, Cancel, Clear, Create, Intent, Line, Put, Read, Request, Sent, Subscribe, Write}
 use Rattle.ca_model.specs.History as history
 use Rattle.ca_requests.specs.Requests as request
-use Rattle.ca_model_world.specs.Events.{Event}
-use Rattle.ca_model_world.specs.Events as event
-use Rattle.ca_model_world.specs.Runs.{CanBe, Happens}
-use Rattle.ca_model_world.specs.World.{ClientSide, Joined, Names, ServerSide, World, server_begun}
+use Rattle.ca_model.specs.Events.{Event}
+use Rattle.ca_model.specs.Events as event
+use Rattle.ca_model.specs.Runs.{CanBe, Happens}
+use Rattle.ca_model.specs.World.{ClientSide, Joined, Names, ServerSide, World, server_begun}
 use Rattle.ca_model_examples.specs.Worlds as worlds
 use Rattle.ca_model_examples.specs.ClientRows.{alive, anna, first, home, live_temp, reading, second, subscribed, cancelled, cleared_live, temp}
 

@@ -14,10 +14,10 @@ use Rattle.ca_model.specs.Hears.{without_request}
 use Rattle.ca_model.specs.History.{Create, Intent, Line, OfCircuit, Put, Read, Reply, Request, Sent, Step, Subscribe, Write}
 use Rattle.ca_model.specs.History as history
 use Rattle.ca_model.specs.Server.{Open, ServerCircuit, new_end}
-use Rattle.ca_model_world.specs.ClientEvents.{about_at, lines_of}
-use Rattle.ca_model_world.specs.Events as event
-use Rattle.ca_model_world.specs.Runs.{Happens, TicksBefore}
-use Rattle.ca_model_world.specs.World.{ClientSide, Joined, Names, ServerSide, World, no_names}
+use Rattle.ca_model.specs.ClientEvents.{about_at, lines_of}
+use Rattle.ca_model.specs.Events as event
+use Rattle.ca_model.specs.Runs.{Happens, TicksBefore}
+use Rattle.ca_model.specs.World.{ClientSide, Joined, Names, ServerSide, World, no_names}
 use Rattle.ca_model_examples.specs.ClientRows.{alive, anna, first, found, greeted, home, reading, second, temp, with_temp}
 use Rattle.ca_model_examples.specs.ClientCallEvents.{CanNot, anna_side, joined, live, names, old, on_temp, opened_line, put, read_done, server, with_read, world}
 

@@ -14,9 +14,9 @@ use Rattle.ca_model.specs.Server.{Server}
 use Rattle.ca_records.specs.Calls.{PostFault}
 use Rattle.ca_model.specs.ServerCalls.{Posts, disconnects}
 use Rattle.ca_model.specs.Updates.{update_count}
-use Rattle.ca_model_world.specs.Events as event
-use Rattle.ca_model_world.specs.Runs.{CanBe, Happens}
-use Rattle.ca_model_world.specs.World.{World}
+use Rattle.ca_model.specs.Events as event
+use Rattle.ca_model.specs.Runs.{CanBe, Happens}
+use Rattle.ca_model.specs.World.{World}
 use Rattle.ca_model_examples.specs.ClientRows.{alive, anna, first, greeted, home, leaving, second, subscribed, to_temp}
 use Rattle.ca_model_examples.specs.ClientCallEvents.{CanNot, anna_side, joined, live, names, server, world}
 use Rattle.ca_model_examples.specs.ClientEndEvents.{accepted, between, link_of, put_reply, server_with, wanting, with_output}

@@ -6,7 +6,7 @@ use Rattle.ca_wire.specs.Fields.{Fields}
 use Rattle.ca_wire.specs.Messages.{bare}
 use Rattle.ca_model.specs.Updates.{Shows}
 use Rattle.ca_model.specs.History.{Subscribe, On, Update, Circuit, Entry, Added, Applied, Finished, Removed, Line, Updated, World}
-use Rattle.ca_model_safe.specs.Headline.{Safe, Sees}
+use Rattle.ca_model.specs.Headline.{Safe, Sees}
 use Rattle.ca_requests.specs.Meaning.{Means}
 use Rattle.ca_model_examples.specs.Safe.{AnyMeans}
 use Rattle.ca_model_examples.specs.Unsafe.{live_circuit, live_lines, put_lines, temp_there, unanswered}

@@ -8,7 +8,7 @@ use Rattle.ca_wire.specs.Messages.{create_request, update, value_reply}
 use Rattle.ca_text.specs.Status.{normal}
 use Rattle.ca_model.specs.History.{Create, Request, Subscribe, Read, Put, On, Update, Told, Circuit, Entry, Added, Applied, Removed, Line, Called, Noticed, Opened, Updated, World}
 use Rattle.ca_model.specs.Updates.{Shows}
-use Rattle.ca_model_safe.specs.Headline.{Sees}
+use Rattle.ca_model.specs.Headline.{Sees}
 use Rattle.ca_model_examples.specs.Worlds.{AnyDue, adding, circuit, clearing, created_told, creating, disconnected, long, put_told, putting, reading, reply, rights_told, step, temp, temp_name, world}
 
 -- A channel to TEMP is created; a put of 22 is done, and its caller knows; a read is answered with 22, and an update that shows 22 is

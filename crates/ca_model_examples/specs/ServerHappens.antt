@@ -8,10 +8,10 @@ use Rattle.ca_wire.specs.Message.{spelled, spelling}
 use Rattle.ca_wire.specs.Messages.{disconnect, put_request, search_request, update, version_request}
 use Rattle.ca_model.specs.History.{Added, Applied, Cause, Entry, Finished, Posted, Removal, Removed, Told, Update, Withdrawn}
 use Rattle.ca_model.specs.Server.{Open}
-use Rattle.ca_model_world.specs.Events.{Event}
-use Rattle.ca_model_world.specs.Events as event
-use Rattle.ca_model_world.specs.Runs.{CanBe, Happens}
-use Rattle.ca_model_world.specs.World.{Joined, RecordSide, World, server_begun}
+use Rattle.ca_model.specs.Events.{Event}
+use Rattle.ca_model.specs.Events as event
+use Rattle.ca_model.specs.Runs.{CanBe, Happens}
+use Rattle.ca_model.specs.World.{Joined, RecordSide, World, server_begun}
 use Rattle.ca_records.specs.Puts.{Record, new_record}
 use Rattle.ca_model_examples.specs.ServerRows.{slow, slow_name, wave}
 use Rattle.ca_model_examples.specs.ServerWorld.{at, before, core_of, creations, end_0, end_1, end_of, entry_2, first, free, given, handled, joined, joined_0, joined_1, link, lists, number_2, on_temp, put_by, queues, second, setting, side_of, sides_before, slow_busy, slow_key, slow_now, slow_open, slow_side, standing, temp_key, temp_now, temp_open, temp_side, waits_by, world_of, written}

@@ -14,7 +14,7 @@ use Rattle.ca_wire.specs.Messages.{version_reply}
 use Rattle.ca_model.specs.History.{Cause, Circuit, Entry, Added, Step, Told, Update}
 use Rattle.ca_model.specs.Server.{Open, OpenChannel, Server, ServerCircuit, ServerEnd, Subscription}
 use Rattle.ca_model.specs.Speech.{Stored}
-use Rattle.ca_model_world.specs.World.{ClientSide, Creation, Joined, PutPlace, RecordSide, ServerSetting, ServerSide, Standing, World, client_begun}
+use Rattle.ca_model.specs.World.{ClientSide, Creation, Joined, PutPlace, RecordSide, ServerSetting, ServerSide, Standing, World, client_begun}
 use Rattle.ca_model_examples.specs.ServerRows.{slow, slow_name}
 use Rattle.ca_model_examples.specs.Worlds.{long, reply, step, temp, temp_name}
 

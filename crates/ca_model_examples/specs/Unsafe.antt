@@ -9,8 +9,8 @@ use Rattle.ca_wire.specs.Messages.{error_reply, failed_reply, put_request, statu
 use Rattle.ca_model.specs.Speech.{Is, Stored}
 use Rattle.ca_model.specs.Updates.{Shows}
 use Rattle.ca_model.specs.History.{Clear, Create, Request, Subscribe, Read, Put, Write, On, Update, Sent, Told, Step, Circuit, Entry, Added, Applied, Finished, Removed, Waits, Withdrawn, Line, Called, Noticed, Opened, World}
-use Rattle.ca_model_safe.specs.Headline.{Follows, Safe}
-use Rattle.ca_model_safe.specs.Known.{IsSafe}
+use Rattle.ca_model.specs.Headline.{Follows, Safe}
+use Rattle.ca_model.specs.Known.{IsSafe}
 use Rattle.ca_requests.specs.Meaning.{Means}
 use Rattle.ca_model_examples.specs.Worlds.{AnyDue, adding, circuit, clearing, created_told, creating, disconnected, long, ports, put_told, putting, reading, reply, rules, step, temp, temp_name, wanted, world}
 

@@ -10,7 +10,7 @@ use Rattle.ca_wire.specs.declared.requests.Wanted.{Wanted}
 use Rattle.ca_wire.specs.Messages.{clear_request, create_request, created_reply, disconnect, event_add_request, put_request, read_request, rights_reply, status_reply}
 use Rattle.ca_model.specs.Speech.{Stored}
 use Rattle.ca_model.specs.History.{Create, Clear, Request, Subscribe, Read, Put, On, Reply, Removal, Sent, Told, Step, Circuit, Entry, Line, World}
-use Rattle.ca_model_safe.specs.Headline.{Safe}
+use Rattle.ca_model.specs.Headline.{Safe}
 use Rattle.ca_requests.specs.Meaning.{Means}
 use Rattle.ca_model.specs.Updates.{Shows}
 

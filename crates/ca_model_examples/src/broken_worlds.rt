@@ -1,7 +1,7 @@
 ghost use Rattle.std.specs.Prelude.{◌∷◌, []};
 ghost use Rattle.ca_dbr.specs.declared.value.Outcome.{Outcome};
 ghost use Rattle.ca_model.specs.Speech.{Stored};
-ghost use Rattle.ca_model_safe.specs.Legal.{Legal};
+ghost use Rattle.ca_model.specs.Legal.{Legal};
 ghost use Rattle.ca_model_examples.specs.Worlds.{Unsafe};
 ghost use Rattle.ca_model_examples.specs.Unsafe.{FollowsNot, updated};
 ghost use Rattle.ca_model_examples.specs.Broken.{added_cancelled, added_twice, called_twice, completed_twice, disconnected_twice, disconnected_uncreated, done_unapplied, failed_applied, finished_twice, heard_unsent, lost_before_live, misasked, read_of_other_name, read_uncreated, read_unsent, refused_too_soon, removed_untold, reply_of_other, subscribed_unsent, update_refused, update_unsent};

@@ -1,8 +1,8 @@
 ghost use Rattle.ca_dbr.specs.declared.value.Outcome.{Outcome};
 ghost use Rattle.ca_wire.specs.Fields.{Fields};
-ghost use Rattle.ca_model_safe.specs.Known.{IsSafe};
-ghost use Rattle.ca_model_safe.specs.Headline.{ActsOnRecord};
-ghost use Rattle.ca_model_safe.specs.Legal.{Legal};
+ghost use Rattle.ca_model.specs.Known.{IsSafe};
+ghost use Rattle.ca_model.specs.Headline.{ActsOnRecord};
+ghost use Rattle.ca_model.specs.Legal.{Legal};
 ghost use Rattle.ca_requests.specs.Meaning.{Means};
 ghost use Rattle.ca_model.specs.Updates.{Shows};
 ghost use Rattle.ca_model_examples.specs.Worlds.{AnyDue, ports, rules};

@@ -2,8 +2,8 @@
 use Rattle.std.specs.Prelude.{ℕ, ◌+◌, ◌==◌, ◌++◌, if◌then◌else◌, List, [], ◌∷◌, length}
 use Rattle.std.specs.List.{flat_map, range_with_len}
 use Rattle.ca_model.specs.History.{Line}
-use Rattle.ca_model_world.specs.Events.{Event}
-use Rattle.ca_model_world.specs.Events as event
+use Rattle.ca_model.specs.Events.{Event}
+use Rattle.ca_model.specs.Events as event
 use Rattle.ca_report.specs.Logs.{lives_text}
 use Rattle.ca_script.specs.Report.{end_text}
 

@@ -17,18 +17,18 @@ use Rattle.ca_model.specs.ClientEnds.{ClientConnects, ConnectsOn, unconnected}
 use Rattle.ca_model.specs.History.{Entry, Line, OfCircuit, Sent}
 use Rattle.ca_model.specs.Server.{Open}
 use Rattle.ca_model.specs.ServerSteps.{HasEnd}
-use Rattle.ca_model_client.proofs.Tables.{given-none, one-at-index}
-use Rattle.ca_model_world.specs.ClientEvents.{HappensAccept, WantsFirst, client_closed, connected_as, lines_of, new_circuit, sent_on, told_by}
-use Rattle.ca_model_world.specs.Events.{Accept}
-use Rattle.ca_model_world.specs.Runs.{CanAccept, CanBe}
-use Rattle.ca_model_world.specs.World.{Names, grown, with_server}
-use Rattle.ca_model_world.specs.World as model
-use Rattle.ca_laws_held.specs.Quiet.{ClientsQuiet}
-use Rattle.ca_laws_runs.specs.Clients.{ClientsStand}
-use Rattle.ca_laws_runs.proofs.Accepts.{sent-here}
-use Rattle.ca_laws_runs.proofs.ClientsMore.{wanted-there}
-use Rattle.ca_laws_runs.proofs.Steps.{all-here, none-here}
-use Rattle.ca_laws_writes.specs.Seats.{HasSeat}
+use Rattle.ca_model.proofs.Tables.{given-none, one-at-index}
+use Rattle.ca_model.specs.ClientEvents.{HappensAccept, WantsFirst, client_closed, connected_as, lines_of, new_circuit, sent_on, told_by}
+use Rattle.ca_model.specs.Events.{Accept}
+use Rattle.ca_model.specs.Runs.{CanAccept, CanBe}
+use Rattle.ca_model.specs.World.{Names, grown, with_server}
+use Rattle.ca_model.specs.World as model
+use Rattle.ca_laws_runs.specs.Quiet.{ClientsQuiet}
+use Rattle.ca_laws_parts.specs.Clients.{ClientsStand}
+use Rattle.ca_laws_parts.proofs.Accepts.{sent-here}
+use Rattle.ca_laws_parts.proofs.ClientsMore.{wanted-there}
+use Rattle.ca_laws_parts.proofs.RunsSteps.{all-here, none-here}
+use Rattle.ca_laws_parts.specs.Seats.{HasSeat}
 use Rattle.ca_world_data.specs.declared.client.ClientSide.{ClientSide}
 use Rattle.ca_world_data.specs.declared.history.Line as real
 use Rattle.ca_world_data.specs.declared.joined.Joined.{Joined}

@@ -11,14 +11,14 @@ use Rattle.ca_text.proofs.Places.{At-map, At-mapped, At-within, some_is}
 use Rattle.ca_model.specs.History.{Entry, Line}
 use Rattle.ca_model.specs.Server.{Server}
 use Rattle.ca_model.specs.ServerCalls.{AddsRecord}
-use Rattle.ca_model_world.specs.Events.{Add}
-use Rattle.ca_model_world.specs.Runs.{CanBe, IsServer}
-use Rattle.ca_model_world.specs.World.{record_begun}
-use Rattle.ca_model_world.specs.World as model
-use Rattle.ca_laws_writes.specs.Agrees.{Agrees, AreOthers, Lack}
-use Rattle.ca_laws_writes.specs.Lives.{IsPutOf}
-use Rattle.ca_laws_writes.specs.Both.{Both}
-use Rattle.ca_laws_bytes.proofs.Runs.{reached}
+use Rattle.ca_model.specs.Events.{Add}
+use Rattle.ca_model.specs.Runs.{CanBe, IsServer}
+use Rattle.ca_model.specs.World.{record_begun}
+use Rattle.ca_model.specs.World as model
+use Rattle.ca_laws_parts.specs.Agrees.{Agrees, AreOthers, Lack}
+use Rattle.ca_laws_parts.specs.Lives.{IsPutOf}
+use Rattle.ca_laws_parts.specs.Both.{Both}
+use Rattle.ca_laws_parts.proofs.BytesRuns.{reached}
 use Rattle.ca_server_core.specs.ForHistories.{AreNamedApart, ComesBefore}
 use Rattle.ca_server_core.proofs.Ordered.{named-some}
 use Rattle.ca_world_data.specs.declared.client.ClientSide.{ClientSide}

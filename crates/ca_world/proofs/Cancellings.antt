@@ -14,11 +14,11 @@ use Rattle.ca_model.specs.Client.{Clearing, Client, Connecting, Creating, Doomed
 use Rattle.ca_model.specs.ClientCalls.{ClientUnsubscribes, StandsAs, cancel_sent, event_cancel_sent}
 use Rattle.ca_model.specs.History.{Called, Intent, Line}
 use Rattle.ca_model.specs.History as history
-use Rattle.ca_model_world.specs.ClientEvents.{cancelled, meant_by}
-use Rattle.ca_model_world.specs.Events.{Unsubscribe}
-use Rattle.ca_model_world.specs.Runs.{HadSubscription}
-use Rattle.ca_model_world.specs.World.{ClientSide, Joined, Names, grown}
-use Rattle.ca_model_world.specs.World as model
+use Rattle.ca_model.specs.ClientEvents.{cancelled, meant_by}
+use Rattle.ca_model.specs.Events.{Unsubscribe}
+use Rattle.ca_model.specs.Runs.{HadSubscription}
+use Rattle.ca_model.specs.World.{ClientSide, Joined, Names, grown}
+use Rattle.ca_model.specs.World as model
 use Rattle.ca_world_data.specs.declared.cancelling.Cancelling.{Cancelling}
 use Rattle.ca_world_data.specs.declared.client.ClientSide as real
 use Rattle.ca_world_data.specs.Does.{Does}

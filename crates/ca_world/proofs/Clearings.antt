@@ -13,10 +13,10 @@ use Rattle.ca_model.specs.Client.{Clearing, Client, Connecting, Creating, Doomed
 use Rattle.ca_model.specs.ClientCalls.{ClientClears, clear_sent, clearing_sent}
 use Rattle.ca_model.specs.History.{Line}
 use Rattle.ca_model.specs.History as history
-use Rattle.ca_model_world.specs.ClientEvents.{channel_number}
-use Rattle.ca_model_world.specs.Events.{Clear}
-use Rattle.ca_model_world.specs.World.{ClientSide, Joined, Names, grown}
-use Rattle.ca_model_world.specs.World as model
+use Rattle.ca_model.specs.ClientEvents.{channel_number}
+use Rattle.ca_model.specs.Events.{Clear}
+use Rattle.ca_model.specs.World.{ClientSide, Joined, Names, grown}
+use Rattle.ca_model.specs.World as model
 use Rattle.ca_world_data.specs.declared.history.Line.{Line as Written}
 use Rattle.ca_world_data.specs.declared.way.Way.{Way}
 use Rattle.ca_world_data.specs.Clears.{ClearsAs, ClearsOn, IsClearWay, clear_lines}

@@ -8,11 +8,11 @@ use Rattle.ca_text.specs.Place.{At}
 use Rattle.ca_text.proofs.Places.{At-map, At-one}
 use Rattle.ca_model.specs.Client.{farewell}
 use Rattle.ca_model.specs.History.{Entry, Line, OfCircuit}
-use Rattle.ca_model_world.specs.ClientEvents.{client_closed, lines_of}
-use Rattle.ca_model_world.specs.Events.{CutClient}
-use Rattle.ca_model_world.specs.Runs.{CanBe, HasClientEnd}
-use Rattle.ca_model_world.specs.World as model
-use Rattle.ca_laws_held.specs.Quiet.{ClientsQuiet}
+use Rattle.ca_model.specs.ClientEvents.{client_closed, lines_of}
+use Rattle.ca_model.specs.Events.{CutClient}
+use Rattle.ca_model.specs.Runs.{CanBe, HasClientEnd}
+use Rattle.ca_model.specs.World as model
+use Rattle.ca_laws_runs.specs.Quiet.{ClientsQuiet}
 use Rattle.ca_world_data.specs.declared.client.ClientSide.{ClientSide}
 use Rattle.ca_world_data.specs.declared.ends.Ends.{Ends}
 use Rattle.ca_world_data.specs.declared.joined.Joined.{Joined}

@@ -6,8 +6,8 @@ use Rattle.ca_text.specs.declared.refusal.Refusal.TheVariants.{OutOfMemory}
 use Rattle.ca_text.specs.Place.{At}
 use Rattle.ca_model.specs.ClientEnds.{Arrival}
 use Rattle.ca_model.specs.Ends.{Address}
-use Rattle.ca_model_world.specs.Events.{ClientDatagram}
-use Rattle.ca_model_world.specs.World.{ClientSide, Joined, World}
+use Rattle.ca_model.specs.Events.{ClientDatagram}
+use Rattle.ca_model.specs.World.{ClientSide, Joined, World}
 use Rattle.ca_world_data.specs.Does.{Does}
 use Rattle.ca_world_data.specs.Hearing.{HearsDatagram}
 use Rattle.ca_world_data.specs.Indexed.{AreIndexed}

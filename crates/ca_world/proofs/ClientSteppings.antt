@@ -25,13 +25,13 @@ use Rattle.ca_model.specs.Ends.{Address}
 use Rattle.ca_model.specs.Hears.{Answers, Completes, Effect, Fails, FindsAt, Hears, PutsOn, Updates, any_failed, clear_answered, confirmed, created, failed, failing, found_at, heard_by, left, put_on, request_failed, rights_told, searched_by, subscription_failed, write_failed}
 use Rattle.ca_model.specs.Hears as hears
 use Rattle.ca_model.specs.History.{Entry, Intent, Line, OfCircuit, Step}
-use Rattle.ca_model_world.specs.ClientEvents.{about_at, client_closed, client_stepped, heard_in, lines_of}
-use Rattle.ca_model_world.specs.Events.{ClientStep}
-use Rattle.ca_model_world.specs.Runs.{CanBe, HasClientEnd}
-use Rattle.ca_model_world.specs.World.{ClientSide, Joined, ServerSide, grown, log_length, with_circuit}
-use Rattle.ca_model_world.specs.World as model
-use Rattle.ca_laws_held.specs.OrderSteps.{HaveLives}
-use Rattle.ca_laws_held.proofs.OrderKeeps.{run-lives}
+use Rattle.ca_model.specs.ClientEvents.{about_at, client_closed, client_stepped, heard_in, lines_of}
+use Rattle.ca_model.specs.Events.{ClientStep}
+use Rattle.ca_model.specs.Runs.{CanBe, HasClientEnd}
+use Rattle.ca_model.specs.World.{ClientSide, Joined, ServerSide, grown, log_length, with_circuit}
+use Rattle.ca_model.specs.World as model
+use Rattle.ca_laws_runs.specs.OrderSteps.{HaveLives}
+use Rattle.ca_laws_runs.proofs.OrderKeeps.{run-lives}
 use Rattle.ca_world_data.specs.declared.client.ClientSide as real
 use Rattle.ca_world_data.specs.declared.ends.Ends.{Ends}
 use Rattle.ca_world_data.specs.declared.history.Line.{Line as Written}

@@ -8,9 +8,9 @@ use Rattle.ca_text.specs.declared.refusal.Refusal.TheVariants.{BadEvent, OutOfMe
 use Rattle.ca_text.specs.Place.{At}
 use Rattle.ca_text.proofs.Places.{At-map, At-mapped, At-one}
 use Rattle.ca_model.specs.History.{Collected, GaveUp, Intent, Line}
-use Rattle.ca_model_world.specs.Events.{Collect, GiveUp}
-use Rattle.ca_model_world.specs.Runs.{HadRequest}
-use Rattle.ca_model_world.specs.World.{ClientSide, World, grown}
+use Rattle.ca_model.specs.Events.{Collect, GiveUp}
+use Rattle.ca_model.specs.Runs.{HadRequest}
+use Rattle.ca_model.specs.World.{ClientSide, World, grown}
 use Rattle.ca_world_data.specs.Does.{Does}
 use Rattle.ca_world_data.specs.declared.client.ClientSide as real
 use Rattle.ca_world_data.specs.declared.history.Line.{Line as Written}

@@ -5,8 +5,8 @@ use Rattle.std.proofs.lemmas.Bool.{and_from, and_parts, eq-eqb, eqb-true}
 use Rattle.ca_arena.specs.declared.handle.Handle.{Handle}
 use Rattle.ca_arena.specs.Arena.{Place}
 use Rattle.ca_ids.specs.Table.{Table, kept_of, under, with_all_freed, with_changed, with_freed}
-use Rattle.ca_model_client.proofs.Placed.{under-other}
-use Rattle.ca_model_client.proofs.Tables.{under-at}
+use Rattle.ca_model.proofs.Placed.{under-other}
+use Rattle.ca_model.proofs.Tables.{under-at}
 use Rattle.ca_queue.proofs.Circuits.{filter-twice}
 use Rattle.ca_records.specs.declared.puts.Put.{Put}
 use Rattle.ca_records.specs.Puts.{Record, WaitingPut, withdrawn}
@@ -19,15 +19,15 @@ use Rattle.ca_model.specs.History.{Entry, Line}
 use Rattle.ca_model.specs.Server.{Ended, Open, Server, ServerCircuit, ServerEnd}
 use Rattle.ca_model.specs.ServerSteps.{Cuts, HasEnd, Steps, StepsAt, closed, ended, output_of}
 use Rattle.ca_model.specs.ServerSteps as steps
-use Rattle.ca_model_world.specs.Events.{CutServer}
-use Rattle.ca_model_world.specs.Runs.{CanBe, HasServerEnd}
-use Rattle.ca_model_world.specs.ServerEvents.{ending, ends_at, ends_by, left_by, reported, server_closed, withdrawals, without_puts}
-use Rattle.ca_model_world.specs.World.{Setting, grown, opening}
-use Rattle.ca_model_world.specs.World as model
-use Rattle.ca_laws_bytes.proofs.Runs.{events-stand, opening-stands}
-use Rattle.ca_laws_bytes.proofs.ServerEnds.{ended-own}
-use Rattle.ca_laws_bytes.specs.Runs as bytes
-use Rattle.ca_laws_writes.specs.Seats.{HasSeat, Seated}
+use Rattle.ca_model.specs.Events.{CutServer}
+use Rattle.ca_model.specs.Runs.{CanBe, HasServerEnd}
+use Rattle.ca_model.specs.ServerEvents.{ending, ends_at, ends_by, left_by, reported, server_closed, withdrawals, without_puts}
+use Rattle.ca_model.specs.World.{Setting, grown, opening}
+use Rattle.ca_model.specs.World as model
+use Rattle.ca_laws_parts.proofs.BytesRuns.{events-stand, opening-stands}
+use Rattle.ca_laws_parts.proofs.ServerEnds.{ended-own}
+use Rattle.ca_laws_parts.specs.Runs as bytes
+use Rattle.ca_laws_parts.specs.Seats.{HasSeat, Seated}
 use Rattle.ca_world_data.specs.declared.client.ClientSide.{ClientSide}
 use Rattle.ca_world_data.specs.declared.ends.Ends.{Ends}
 use Rattle.ca_world_data.specs.declared.joined.Joined.{Joined}

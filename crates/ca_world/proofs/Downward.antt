@@ -17,11 +17,11 @@ use Rattle.ca_model.specs.Client.{Client, Connection, connection_at}
 use Rattle.ca_model.specs.ClientEnds.{ClientGives, GivesOn, of_circuit}
 use Rattle.ca_model.specs.History.{Entry, Line, Sent}
 use Rattle.ca_model.specs.ServerSteps.{output_of}
-use Rattle.ca_model_world.specs.ClientEvents.{DownTaken, waiting_down}
-use Rattle.ca_model_world.specs.Events.{Down}
-use Rattle.ca_model_world.specs.Runs.{CanBe, HasClientEnd}
-use Rattle.ca_model_world.specs.World.{Names, grown, with_circuit, with_server}
-use Rattle.ca_model_world.specs.World as model
+use Rattle.ca_model.specs.ClientEvents.{DownTaken, waiting_down}
+use Rattle.ca_model.specs.Events.{Down}
+use Rattle.ca_model.specs.Runs.{CanBe, HasClientEnd}
+use Rattle.ca_model.specs.World.{Names, grown, with_circuit, with_server}
+use Rattle.ca_model.specs.World as model
 use Rattle.ca_world_data.specs.declared.client.ClientSide.{ClientSide}
 use Rattle.ca_world_data.specs.declared.ends.Ends.{Ends}
 use Rattle.ca_world_data.specs.declared.joined.Joined.{Joined}

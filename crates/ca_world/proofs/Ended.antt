@@ -7,13 +7,13 @@ use Rattle.ca_text.specs.declared.refusal.Refusal.TheVariants.{BadEvent, OutOfMe
 use Rattle.ca_text.specs.Place.{At}
 use Rattle.ca_text.proofs.Places.{At-within, some_is}
 use Rattle.ca_events.specs.Events.{moment_of}
-use Rattle.ca_model_safe.specs.Worlds.{IsLegalWorld, IsSafeWorld}
-use Rattle.ca_model_world.specs.ClientEvents.{TicksOne}
-use Rattle.ca_model_world.specs.Events.{Event, Tick}
-use Rattle.ca_model_world.specs.Runs.{CanBe, Happens, Runs, StopsAt, TicksAll}
-use Rattle.ca_model_world.specs.World.{Setting, World, opening}
-use Rattle.ca_laws_follows.proofs.Promised.{promised}
-use Rattle.ca_laws_held.proofs.Joint.{folds-snoc}
+use Rattle.ca_model.specs.Worlds.{IsLegalWorld, IsSafeWorld}
+use Rattle.ca_model.specs.ClientEvents.{TicksOne}
+use Rattle.ca_model.specs.Events.{Event, Tick}
+use Rattle.ca_model.specs.Runs.{CanBe, Happens, Runs, StopsAt, TicksAll}
+use Rattle.ca_model.specs.World.{Setting, World, opening}
+use Rattle.ca_laws_runs.proofs.Promised.{promised}
+use Rattle.ca_laws_runs.proofs.Joint.{folds-snoc}
 use Rattle.ca_world.specs.declared.step.AfterEvent.TheVariants.{Stopped}
 use Rattle.ca_world_data.specs.Does.{Does}
 use Rattle.ca_world.specs.Halted.{HasStopped}

@@ -5,8 +5,8 @@ use Rattle.std.proofs.lemmas.Bool.{and_from, and_parts, eq-eqb, eqb-true}
 use Rattle.ca_arena.specs.declared.handle.Handle.{Handle}
 use Rattle.ca_arena.specs.Arena.{Place}
 use Rattle.ca_ids.specs.Table.{Table, kept_of, under, with_all_freed, with_changed, with_freed}
-use Rattle.ca_model_client.proofs.Placed.{under-other}
-use Rattle.ca_model_client.proofs.Tables.{under-at}
+use Rattle.ca_model.proofs.Placed.{under-other}
+use Rattle.ca_model.proofs.Tables.{under-at}
 use Rattle.ca_queue.proofs.Circuits.{filter-twice}
 use Rattle.ca_records.specs.declared.puts.Put.{Put}
 use Rattle.ca_records.specs.Puts.{Record, WaitingPut, withdrawn}
@@ -15,9 +15,9 @@ use Rattle.ca_text.proofs.Places.{At-or, some_is}
 use Rattle.ca_model.specs.Ends as why
 use Rattle.ca_model.specs.Server.{Ended, Open, Server, ServerCircuit, ServerEnd}
 use Rattle.ca_model.specs.ServerSteps.{HasEnd, closed, ended}
-use Rattle.ca_model_world.specs.ServerEvents.{ending, ends_at, ends_by, left_by, reported, server_closed}
-use Rattle.ca_model_world.specs.World as model
-use Rattle.ca_laws_bytes.proofs.ServerEnds.{ended-own}
+use Rattle.ca_model.specs.ServerEvents.{ending, ends_at, ends_by, left_by, reported, server_closed}
+use Rattle.ca_model.specs.World as model
+use Rattle.ca_laws_parts.proofs.ServerEnds.{ended-own}
 use Rattle.ca_world.specs.Reported.{HasReported, IsReportedTable}
 use Rattle.ca_world.proofs.Downward.{set-set}
 use Rattle.ca_world_data.proofs.Worlds.{set-map}

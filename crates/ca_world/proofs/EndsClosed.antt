@@ -5,10 +5,10 @@ use Rattle.ca_arena.specs.declared.handle.Handle.{Handle}
 use Rattle.ca_ids.specs.Table.{Table, same_handle, under, with_freed}
 use Rattle.ca_model.specs.Server.{Server, ServerCircuit}
 use Rattle.ca_model.specs.ServerSteps.{closed}
-use Rattle.ca_model_client.proofs.Handles.{same-itself}
-use Rattle.ca_model_client.proofs.Tables.{freed-back, freed-other}
-use Rattle.ca_model_world.specs.ServerEvents.{ends_by, ends_here, left_by}
-use Rattle.ca_model_world.specs.World.{Joined}
+use Rattle.ca_model.proofs.Handles.{same-itself}
+use Rattle.ca_model.proofs.Tables.{freed-back, freed-other}
+use Rattle.ca_model.specs.ServerEvents.{ends_by, ends_here, left_by}
+use Rattle.ca_model.specs.World.{Joined}
 
 -- what is under another handle
 pub freed-as : (t : Table ServerCircuit) (g h : Handle) → (g ≡ h → ⊥) → under (with_freed h t) g ≡ under t g

@@ -13,13 +13,13 @@ use Rattle.ca_model.specs.Answers as notice
 use Rattle.ca_model.specs.Client.{Channel, Client, channels_on, disconnections, farewell, is_live, is_on_in}
 use Rattle.ca_model.specs.History.{Intent, OfCircuit, On}
 use Rattle.ca_model.specs.History as history
-use Rattle.ca_model_client.proofs.Handles.{same-is}
-use Rattle.ca_model_client.proofs.Tables.{AreApart, find-at, held-apart, held-under}
-use Rattle.ca_model_world.specs.ClientEvents.{channel_number, meant_by}
-use Rattle.ca_model_world.specs.World.{ClientSide, Names, World}
-use Rattle.ca_laws_held.specs.Quiet.{ClientsQuiet, IsRequestOn, Tidy}
-use Rattle.ca_laws_held.proofs.OnceTold.{AreIssued}
-use Rattle.ca_laws_held.proofs.OnceNoticedRuns.{told-runs}
+use Rattle.ca_model.proofs.Handles.{same-is}
+use Rattle.ca_model.proofs.Tables.{AreApart, find-at, held-apart, held-under}
+use Rattle.ca_model.specs.ClientEvents.{channel_number, meant_by}
+use Rattle.ca_model.specs.World.{ClientSide, Names, World}
+use Rattle.ca_laws_runs.specs.Quiet.{ClientsQuiet, IsRequestOn, Tidy}
+use Rattle.ca_laws_runs.proofs.OnceTold.{AreIssued}
+use Rattle.ca_laws_runs.proofs.OnceNoticedRuns.{told-runs}
 use Rattle.ca_world.specs.Whole.{IsReached}
 
 -- ---- lists

@@ -27,22 +27,22 @@ use Rattle.ca_model.specs.Server.{Ended, Open, Server, ServerCircuit, ServerEnd}
 use Rattle.ca_model.specs.ServerCalls.{Finishes, Replies, after_next, finish_reply, lacking, with_finish}
 use Rattle.ca_model.specs.ServerSteps.{reached, stored_now, write_mask}
 use Rattle.ca_model.specs.Speech.{Stored}
-use Rattle.ca_model_world.specs.Events as event
-use Rattle.ca_model_world.specs.Runs.{CanBe, IsServer}
-use Rattle.ca_model_world.specs.ServerEvents.{about, ending, ends_by, finish_entry, first_of, keys_concerned, next_busy, next_entries, next_numbers, numbers_posted, replied_at, reported, server_after, with_number, with_record, withdrawals, without_puts}
-use Rattle.ca_model_world.specs.World.{PutPlace, grown}
-use Rattle.ca_model_world.specs.World as model
-use Rattle.ca_laws_bytes.proofs.Fits.{empty-payload}
-use Rattle.ca_laws_bytes.proofs.Runs as runs
-use Rattle.ca_laws_bytes.proofs.ServerEnds.{end-own}
-use Rattle.ca_laws_bytes.specs.ServerFits.{PutFits, ServersFit}
-use Rattle.ca_laws_writes.proofs.Events.{find-at, found}
-use Rattle.ca_laws_writes.proofs.Lists.{both-at}
-use Rattle.ca_laws_writes.specs.Agrees.{Agrees, IsBusyAs, WaitsAs}
-use Rattle.ca_laws_writes.specs.Both.{Both}
-use Rattle.ca_laws_writes.specs.Lives.{CameOn, IsPutOf, LostOn}
-use Rattle.ca_laws_writes.specs.Moves.{Lives}
-use Rattle.ca_laws_writes.specs.Once.{Once}
+use Rattle.ca_model.specs.Events as event
+use Rattle.ca_model.specs.Runs.{CanBe, IsServer}
+use Rattle.ca_model.specs.ServerEvents.{about, ending, ends_by, finish_entry, first_of, keys_concerned, next_busy, next_entries, next_numbers, numbers_posted, replied_at, reported, server_after, with_number, with_record, withdrawals, without_puts}
+use Rattle.ca_model.specs.World.{PutPlace, grown}
+use Rattle.ca_model.specs.World as model
+use Rattle.ca_laws_parts.proofs.Fits.{empty-payload}
+use Rattle.ca_laws_parts.proofs.BytesRuns as runs
+use Rattle.ca_laws_parts.proofs.ServerEnds.{end-own}
+use Rattle.ca_laws_parts.specs.ServerFits.{PutFits, ServersFit}
+use Rattle.ca_laws_parts.proofs.WritesEvents.{find-at, found}
+use Rattle.ca_laws_parts.proofs.WritesLists.{both-at}
+use Rattle.ca_laws_parts.specs.Agrees.{Agrees, IsBusyAs, WaitsAs}
+use Rattle.ca_laws_parts.specs.Both.{Both}
+use Rattle.ca_laws_parts.specs.Lives.{CameOn, IsPutOf, LostOn}
+use Rattle.ca_laws_parts.specs.Moves.{Lives}
+use Rattle.ca_laws_parts.specs.Once.{Once}
 use Rattle.ca_server_core.specs.Asking.{busy_value, value_busy}
 use Rattle.ca_server_core.specs.ForHistories.{bytes_under}
 use Rattle.ca_world.specs.Finishing.{AreBehind, Ends, Finished, FinishesAt, HasRoomOn, IsBeside, IsBusy, IsBusyOn, IsFound, IsNext, MayFinish, TellsFinish, TellsWait, WaitIn, WaitsIn, applied_of, numbered, replied_in, with_down}

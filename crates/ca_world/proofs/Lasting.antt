@@ -3,17 +3,17 @@ use Rattle.std.proofs.Common.{Result, Ok, Err, [], ◌∷◌, ◌++◌, sym, sub
 use Rattle.std.specs.Prelude.{map}
 use Rattle.ca_text.specs.declared.refusal.Refusal.{Refusal}
 use Rattle.ca_text.specs.declared.refusal.Refusal.TheVariants.{BadEvent, OutOfMemory}
-use Rattle.ca_model_world.specs.Events.{Event}
-use Rattle.ca_model_world.specs.Runs.{IsEvent}
-use Rattle.ca_model_world.specs.World.{World, opening}
-use Rattle.ca_laws_bytes.specs.ServerFits.{ServersFit}
-use Rattle.ca_laws_bytes.proofs.Runs.{events-stand, opening-stands}
-use Rattle.ca_laws_bytes.proofs.ServerSpeaking.{event-servers}
-use Rattle.ca_laws_held.specs.Quiet.{ClientsQuiet}
-use Rattle.ca_laws_held.proofs.Joint.{are-snoc, folds-snoc}
-use Rattle.ca_laws_held.proofs.Kept.{quiet-happens}
-use Rattle.ca_laws_runs.specs.Clients.{ClientsStand}
-use Rattle.ca_laws_runs.proofs.Events.{stands-happens}
+use Rattle.ca_model.specs.Events.{Event}
+use Rattle.ca_model.specs.Runs.{IsEvent}
+use Rattle.ca_model.specs.World.{World, opening}
+use Rattle.ca_laws_parts.specs.ServerFits.{ServersFit}
+use Rattle.ca_laws_parts.proofs.BytesRuns.{events-stand, opening-stands}
+use Rattle.ca_laws_parts.proofs.ServerSpeaking.{event-servers}
+use Rattle.ca_laws_runs.specs.Quiet.{ClientsQuiet}
+use Rattle.ca_laws_runs.proofs.Joint.{are-snoc, folds-snoc}
+use Rattle.ca_laws_runs.proofs.Kept.{quiet-happens}
+use Rattle.ca_laws_parts.specs.Clients.{ClientsStand}
+use Rattle.ca_laws_parts.proofs.RunsEvents.{stands-happens}
 use Rattle.ca_world.specs.declared.world.World.TheInside.{Inside}
 use Rattle.ca_world_data.specs.Does.{Does}
 use Rattle.ca_world_data.specs.Indexed.{AreIndexed, client_numbers, server_numbers}

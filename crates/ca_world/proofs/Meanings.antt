@@ -17,18 +17,18 @@ use Rattle.ca_model.specs.Ends as why
 use Rattle.ca_model.specs.History.{Ask, Intent, On}
 use Rattle.ca_model.specs.History as history
 use Rattle.ca_model.specs.ServerSteps as server
-use Rattle.ca_model_world.specs.ClientEvents.{DownTaken, TicksOne, client_stepped, meant_by, with_request}
-use Rattle.ca_model_world.specs.Events.{Event}
-use Rattle.ca_model_world.specs.Events as event
-use Rattle.ca_model_world.specs.Runs.{Happens, clients_below}
-use Rattle.ca_model_world.specs.ServerEvents.{HappensFinish, ServerStepped, unsaid}
-use Rattle.ca_model_world.specs.World.{ClientSide, Joined, Names, ServerSide, Setting, World, addresses, client_begun, numbered, opening, with_circuit, with_client}
-use Rattle.ca_laws_circuit.proofs.Calls.{meant-own}
-use Rattle.ca_laws_circuit.specs.Held.{IsNew}
-use Rattle.ca_laws_held.proofs.Issued.{meant-still}
-use Rattle.ca_laws_held.specs.Quiet.{ClientsQuiet}
-use Rattle.ca_laws_runs.specs.Clients.{ClientsStand}
-use Rattle.ca_laws_runs.proofs.Sending.{new-name}
+use Rattle.ca_model.specs.ClientEvents.{DownTaken, TicksOne, client_stepped, meant_by, with_request}
+use Rattle.ca_model.specs.Events.{Event}
+use Rattle.ca_model.specs.Events as event
+use Rattle.ca_model.specs.Runs.{Happens, clients_below}
+use Rattle.ca_model.specs.ServerEvents.{HappensFinish, ServerStepped, unsaid}
+use Rattle.ca_model.specs.World.{ClientSide, Joined, Names, ServerSide, Setting, World, addresses, client_begun, numbered, opening, with_circuit, with_client}
+use Rattle.ca_laws_parts.proofs.CircuitCalls.{meant-own}
+use Rattle.ca_laws_parts.specs.Held.{IsNew}
+use Rattle.ca_laws_runs.proofs.Issued.{meant-still}
+use Rattle.ca_laws_runs.specs.Quiet.{ClientsQuiet}
+use Rattle.ca_laws_parts.specs.Clients.{ClientsStand}
+use Rattle.ca_laws_parts.proofs.RunsSending.{new-name}
 use Rattle.ca_world_data.specs.Named.{AreMeant, IsMeant, MeanTheirs}
 
 -- ---- names

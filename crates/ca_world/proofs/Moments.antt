@@ -8,12 +8,12 @@ use Rattle.ca_text.specs.Place.{At}
 use Rattle.ca_text.proofs.Places.{At-map, At-set}
 use Rattle.ca_model.specs.Answers.{Left, Sending}
 use Rattle.ca_model.specs.History.{Entry, Line}
-use Rattle.ca_model_world.specs.ClientEvents.{TicksOne, after_tick, client_closed, left_silent}
-use Rattle.ca_model_world.specs.Events.{Tick}
-use Rattle.ca_model_world.specs.Runs.{Happens, TicksAll, TicksBefore, clients_below}
-use Rattle.ca_model_world.specs.World as model
-use Rattle.ca_model_world.specs.World.{Joined, World}
-use Rattle.ca_laws_held.specs.Quiet.{ClientsQuiet}
+use Rattle.ca_model.specs.ClientEvents.{TicksOne, after_tick, client_closed, left_silent}
+use Rattle.ca_model.specs.Events.{Tick}
+use Rattle.ca_model.specs.Runs.{Happens, TicksAll, TicksBefore, clients_below}
+use Rattle.ca_model.specs.World as model
+use Rattle.ca_model.specs.World.{Joined, World}
+use Rattle.ca_laws_runs.specs.Quiet.{ClientsQuiet}
 use Rattle.ca_world_data.specs.declared.client.ClientSide.{ClientSide}
 use Rattle.ca_world_data.specs.Found.{AreNumbered}
 use Rattle.ca_world_data.specs.Indexed.{AreIndexed, client_numbers}

@@ -11,13 +11,13 @@ use Rattle.ca_model.specs.Answers as notice
 use Rattle.ca_model.specs.Client.{Client}
 use Rattle.ca_model.specs.ClientEnds.{circuits_ticked}
 use Rattle.ca_model.specs.History.{Intent}
-use Rattle.ca_model_client.proofs.Thinner.{three-ways}
-use Rattle.ca_model_world.specs.ClientEvents.{channel_number, meant_by}
-use Rattle.ca_model_world.specs.World.{ClientSide, Names, World}
-use Rattle.ca_laws_held.specs.Quiet.{ClientsQuiet, IsRequestOn, Tidy}
-use Rattle.ca_laws_held.proofs.Farewell.{FromFarewell, PartsIn, ticked-apart, ticked-parts}
-use Rattle.ca_laws_held.proofs.OnceOver.{told-ticked}
-use Rattle.ca_laws_held.proofs.OnceTold.{AreIssued}
+use Rattle.ca_model.proofs.Thinner.{three-ways}
+use Rattle.ca_model.specs.ClientEvents.{channel_number, meant_by}
+use Rattle.ca_model.specs.World.{ClientSide, Names, World}
+use Rattle.ca_laws_runs.specs.Quiet.{ClientsQuiet, IsRequestOn, Tidy}
+use Rattle.ca_laws_runs.proofs.Farewell.{FromFarewell, PartsIn, ticked-apart, ticked-parts}
+use Rattle.ca_laws_runs.proofs.OnceOver.{told-ticked}
+use Rattle.ca_laws_runs.proofs.OnceTold.{AreIssued}
 use Rattle.ca_world_data.specs.Ticks.{TellsFew}
 use Rattle.ca_world.specs.Whole.{IsReached}
 use Rattle.ca_world.proofs.Farewells.{meant-there, no-more, run-issued}

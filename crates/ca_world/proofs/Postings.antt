@@ -22,16 +22,16 @@ use Rattle.ca_model.specs.Server.{Ended, Open, Server, ServerCircuit, ServerEnd,
 use Rattle.ca_model.specs.ServerCalls.{Posts}
 use Rattle.ca_model.specs.ServerSteps.{reached}
 use Rattle.ca_model.specs.Speech.{Stored}
-use Rattle.ca_model_world.specs.Events.{Post}
-use Rattle.ca_model_world.specs.Runs.{CanBe, IsServer}
-use Rattle.ca_model_world.specs.ServerEvents.{ending, ends_by, keys_concerned, left_by, numbers_posted, posted_entry, reported, server_closed, withdrawals, with_number, without_puts}
-use Rattle.ca_model_world.specs.World.{grown}
-use Rattle.ca_model_world.specs.World as model
-use Rattle.ca_laws_bytes.proofs.Runs.{reached-in-step}
-use Rattle.ca_laws_bytes.proofs.ServerFits.{each-changed}
-use Rattle.ca_laws_updates.specs.InStep.{EndInStep, number_in, value_in}
-use Rattle.ca_laws_writes.proofs.Cores.{each-there}
-use Rattle.ca_laws_writes.specs.Steps.{AllInStep}
+use Rattle.ca_model.specs.Events.{Post}
+use Rattle.ca_model.specs.Runs.{CanBe, IsServer}
+use Rattle.ca_model.specs.ServerEvents.{ending, ends_by, keys_concerned, left_by, numbers_posted, posted_entry, reported, server_closed, withdrawals, with_number, without_puts}
+use Rattle.ca_model.specs.World.{grown}
+use Rattle.ca_model.specs.World as model
+use Rattle.ca_laws_parts.proofs.BytesRuns.{reached-in-step}
+use Rattle.ca_laws_parts.proofs.ServerFits.{each-changed}
+use Rattle.ca_laws_parts.specs.InStep.{EndInStep, number_in, value_in}
+use Rattle.ca_laws_parts.proofs.Cores.{each-there}
+use Rattle.ca_laws_parts.specs.WritesSteps.{AllInStep}
 use Rattle.ca_world_data.specs.declared.client.ClientSide.{ClientSide}
 use Rattle.ca_world_data.specs.declared.joined.Joined.{Joined}
 use Rattle.ca_world_data.specs.declared.server.ServerSide.{ServerSide}

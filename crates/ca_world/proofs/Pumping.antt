@@ -13,8 +13,8 @@ use Rattle.ca_model.specs.Ends as why
 use Rattle.ca_model.specs.Server.{Ended, Open, Server, ServerCircuit, ServerEnd}
 use Rattle.ca_model.specs.ServerSteps.{HasEnd, Leaves, Pumps, Rests, Steps, StepsAt, Update, closed, ended, output_of, with_end}
 use Rattle.ca_model.specs.ServerSteps as steps
-use Rattle.ca_model_world.specs.World as model
-use Rattle.ca_laws_bytes.proofs.ServerEnds.{end-own, ended-own, leaves-all}
+use Rattle.ca_model.specs.World as model
+use Rattle.ca_laws_parts.proofs.ServerEnds.{end-own, ended-own, leaves-all}
 use Rattle.ca_server_circuit.specs.Circuits.{is_open}
 use Rattle.ca_world_data.specs.ServerCuts.{IsServing, cut_core, left_in}
 use Rattle.ca_world_data.specs.Updates.{AreGood, AreSpelled, TellsOne, TellsSome}

@@ -12,18 +12,18 @@ use Rattle.ca_model.specs.Ends as why
 use Rattle.ca_model.specs.History.{Entry, Line}
 use Rattle.ca_model.specs.Server.{Server, ServerEnd}
 use Rattle.ca_model.specs.ServerSteps.{HasEnd, Update, ended, with_end}
-use Rattle.ca_model_world.specs.Events.{Pump}
-use Rattle.ca_model_world.specs.Runs.{CanBe, Happens, HasServerEnd}
-use Rattle.ca_model_world.specs.ServerEvents.{ending, ends_at, ends_by, reported, server_closed, stamped, withdrawals, without_puts}
-use Rattle.ca_model_world.specs.World.{grown, with_circuit}
-use Rattle.ca_model_world.specs.World as model
-use Rattle.ca_laws_bytes.proofs.Runs.{reached-in-step}
-use Rattle.ca_laws_bytes.proofs.ServerEvents.{stamped-tells}
-use Rattle.ca_laws_bytes.proofs.ServerCalls.{pumps-fits}
-use Rattle.ca_laws_bytes.specs.ServerFits.{ServersFit}
-use Rattle.ca_laws_updates.specs.InStep.{InStep}
-use Rattle.ca_laws_writes.specs.Seats.{Seated}
-use Rattle.ca_laws_writes.specs.Steps.{AllInStep}
+use Rattle.ca_model.specs.Events.{Pump}
+use Rattle.ca_model.specs.Runs.{CanBe, Happens, HasServerEnd}
+use Rattle.ca_model.specs.ServerEvents.{ending, ends_at, ends_by, reported, server_closed, stamped, withdrawals, without_puts}
+use Rattle.ca_model.specs.World.{grown, with_circuit}
+use Rattle.ca_model.specs.World as model
+use Rattle.ca_laws_parts.proofs.BytesRuns.{reached-in-step}
+use Rattle.ca_laws_parts.proofs.ServerEvents.{stamped-tells}
+use Rattle.ca_laws_parts.proofs.BytesServerCalls.{pumps-fits}
+use Rattle.ca_laws_parts.specs.ServerFits.{ServersFit}
+use Rattle.ca_laws_parts.specs.InStep.{InStep}
+use Rattle.ca_laws_parts.specs.Seats.{Seated}
+use Rattle.ca_laws_parts.specs.WritesSteps.{AllInStep}
 use Rattle.ca_world_data.specs.declared.client.ClientSide.{ClientSide}
 use Rattle.ca_world_data.specs.declared.ends.Ends.{Ends}
 use Rattle.ca_world_data.specs.declared.joined.Joined.{Joined}

@@ -16,13 +16,13 @@ use Rattle.ca_model.specs.Client.{Client}
 use Rattle.ca_model.specs.ClientCalls.{ClientPuts, LiveChannel, put_sent}
 use Rattle.ca_model.specs.History.{Called, Intent, Line}
 use Rattle.ca_model.specs.History as history
-use Rattle.ca_model_world.specs.ClientEvents.{intent_of}
-use Rattle.ca_model_world.specs.Events.{WriteNotify}
-use Rattle.ca_model_world.specs.World.{ClientSide, Joined, Names, grown}
-use Rattle.ca_model_world.specs.World as model
-use Rattle.ca_laws_circuit.proofs.Calls.{meant-own}
-use Rattle.ca_laws_runs.specs.Circuit.{AreGiven}
-use Rattle.ca_laws_runs.proofs.Sending.{new-name}
+use Rattle.ca_model.specs.ClientEvents.{intent_of}
+use Rattle.ca_model.specs.Events.{WriteNotify}
+use Rattle.ca_model.specs.World.{ClientSide, Joined, Names, grown}
+use Rattle.ca_model.specs.World as model
+use Rattle.ca_laws_parts.proofs.CircuitCalls.{meant-own}
+use Rattle.ca_laws_parts.specs.Circuit.{AreGiven}
+use Rattle.ca_laws_parts.proofs.RunsSending.{new-name}
 use Rattle.ca_world_data.specs.declared.way.Way.{Way}
 use Rattle.ca_world_data.specs.Found.{AreNumbered}
 use Rattle.ca_world_data.specs.Indexed.{AreIndexed}

@@ -29,13 +29,13 @@ use Rattle.ca_model.specs.Ends as why
 use Rattle.ca_model.specs.History.{Cause, Entry, Line, Told}
 use Rattle.ca_model.specs.Server.{Ended, Open, OpenChannel, Server, ServerCircuit}
 use Rattle.ca_model.specs.ServerCalls.{Removes, channels_of, circuit_without, disconnects, end_without}
-use Rattle.ca_model_world.specs.Events.{Remove}
-use Rattle.ca_model_world.specs.Runs.{CanBe, IsServer, Runs}
-use Rattle.ca_model_world.specs.ServerEvents.{disconnected_at, ending, ends_at, ends_by, removal_entries, removal_told, removed_at, reported, withdrawals, without_puts, without_standing}
-use Rattle.ca_model_world.specs.World.{grown}
-use Rattle.ca_model_world.specs.World as model
-use Rattle.ca_laws_follows.proofs.Acted.{run-follows}
-use Rattle.ca_laws_held.proofs.StepWhole.{run-serves}
+use Rattle.ca_model.specs.Events.{Remove}
+use Rattle.ca_model.specs.Runs.{CanBe, IsServer, Runs}
+use Rattle.ca_model.specs.ServerEvents.{disconnected_at, ending, ends_at, ends_by, removal_entries, removal_told, removed_at, reported, withdrawals, without_puts, without_standing}
+use Rattle.ca_model.specs.World.{grown}
+use Rattle.ca_model.specs.World as model
+use Rattle.ca_laws_runs.proofs.Acted.{run-follows}
+use Rattle.ca_laws_runs.proofs.StepWhole.{run-serves}
 use Rattle.ca_server_circuit.specs.Concerned.{ids_of}
 use Rattle.ca_server_core.specs.ForHistories.{bytes_under, channels_under}
 use Rattle.ca_world_data.specs.declared.client.ClientSide.{ClientSide}

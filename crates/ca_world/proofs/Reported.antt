@@ -17,12 +17,12 @@ use Rattle.ca_model.specs.Ends as why
 use Rattle.ca_model.specs.Server.{Ended, Open, Server, ServerCircuit, ServerEnd}
 use Rattle.ca_model.specs.ServerSteps.{Accepts, Gives, Sends}
 use Rattle.ca_model.specs.ServerSteps as server
-use Rattle.ca_model_world.specs.ClientEvents.{DownTaken, TicksOne, client_stepped}
-use Rattle.ca_model_world.specs.Events.{Event}
-use Rattle.ca_model_world.specs.Events as event
-use Rattle.ca_model_world.specs.Runs.{Happens, clients_below}
-use Rattle.ca_model_world.specs.ServerEvents.{HappensFinish, ServerStepped, left_by, reported, unsaid}
-use Rattle.ca_model_world.specs.World.{ClientSide, Joined, ServerSide, Setting, World, opening, server_begun, with_circuit, with_client}
+use Rattle.ca_model.specs.ClientEvents.{DownTaken, TicksOne, client_stepped}
+use Rattle.ca_model.specs.Events.{Event}
+use Rattle.ca_model.specs.Events as event
+use Rattle.ca_model.specs.Runs.{Happens, clients_below}
+use Rattle.ca_model.specs.ServerEvents.{HappensFinish, ServerStepped, left_by, reported, unsaid}
+use Rattle.ca_model.specs.World.{ClientSide, Joined, ServerSide, Setting, World, opening, server_begun, with_circuit, with_client}
 use Rattle.ca_world.specs.Reported.{AllReported, HasReported, IsReportedTable}
 use Rattle.ca_world.proofs.Meanings.{at-numbered}
 

@@ -6,10 +6,10 @@ use Rattle.ca_queue.specs.Queue.{Queue}
 use Rattle.ca_text.specs.Place.{At}
 use Rattle.ca_text.proofs.Places.{At-mapped}
 use Rattle.ca_model.specs.History.{Cause}
-use Rattle.ca_model_world.specs.Runs.{Runs}
-use Rattle.ca_model_world.specs.World as model
-use Rattle.ca_laws_follows.proofs.Acted.{run-follows}
-use Rattle.ca_laws_held.proofs.StepWhole.{run-serves}
+use Rattle.ca_model.specs.Runs.{Runs}
+use Rattle.ca_model.specs.World as model
+use Rattle.ca_laws_runs.proofs.Acted.{run-follows}
+use Rattle.ca_laws_runs.proofs.StepWhole.{run-serves}
 use Rattle.ca_world_servers.specs.Removing.{AllSeated}
 use Rattle.ca_world.specs.Whole.{IsReached}
 

@@ -12,7 +12,7 @@ use Rattle.ca_wire.specs.Fields.{Fields}
 use Rattle.ca_model.specs.Due.{Action, Adds, Applies, Clears, Drops, Greets, Names, Nothing, Opens, Switches, Waits}
 use Rattle.ca_model.specs.Server.{Open, Server, ServerEnd}
 use Rattle.ca_model.specs.ServerSteps.{Handles, HasEnd, Reaches, Records, closed, is_write, with_end}
-use Rattle.ca_model_client.proofs.Handles.{same-itself}
+use Rattle.ca_model.proofs.Handles.{same-itself}
 use Rattle.ca_server_core.proofs.Servers.{freed-changed}
 
 module _ (h : Handle) where

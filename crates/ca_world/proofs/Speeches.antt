@@ -12,15 +12,15 @@ use Rattle.ca_model.specs.Client as phase
 use Rattle.ca_model.specs.ClientCalls.{IsLive, LiveChannel}
 use Rattle.ca_model.specs.History.{Line}
 use Rattle.ca_model.specs.History as history
-use Rattle.ca_model_world.specs.ClientEvents.{Called, client_after}
-use Rattle.ca_model_world.specs.Runs.{HadChannel, IsEvent}
-use Rattle.ca_model_world.specs.World.{grown}
-use Rattle.ca_model_world.specs.World as model
+use Rattle.ca_model.specs.ClientEvents.{Called, client_after}
+use Rattle.ca_model.specs.Runs.{HadChannel, IsEvent}
+use Rattle.ca_model.specs.World.{grown}
+use Rattle.ca_model.specs.World as model
 use Rattle.ca_world_data.specs.declared.client.ClientSide.{ClientSide}
 use Rattle.ca_world.specs.declared.world.World.TheInside.{Inside}
-use Rattle.ca_model_world.specs.Events.{Event}
-use Rattle.ca_laws_held.specs.Quiet.{Tidy}
-use Rattle.ca_laws_runs.specs.Client.{IsSound}
+use Rattle.ca_model.specs.Events.{Event}
+use Rattle.ca_laws_runs.specs.Quiet.{Tidy}
+use Rattle.ca_laws_parts.specs.Client.{IsSound}
 use Rattle.ca_world_data.specs.Does.{Does}
 use Rattle.ca_world_data.specs.Found.{AreNumbered}
 use Rattle.ca_world_data.specs.Logs.{Notes}

@@ -14,10 +14,10 @@ use Rattle.ca_model.specs.History.{Cause, Reply}
 use Rattle.ca_model.specs.Server.{ServerEnd, key_of}
 use Rattle.ca_model.specs.ServerSteps.{Leaves, Update}
 use Rattle.ca_model.specs.Speech.{Stored}
-use Rattle.ca_model_world.specs.ServerEvents.{front_number, stamped}
-use Rattle.ca_model_world.specs.World.{Joined}
-use Rattle.ca_laws_updates.specs.InStep.{InStep, Numbered, number_in, value_in}
-use Rattle.ca_laws_updates.proofs.InStep.{step-pumped}
+use Rattle.ca_model.specs.ServerEvents.{front_number, stamped}
+use Rattle.ca_model.specs.World.{Joined}
+use Rattle.ca_laws_parts.specs.InStep.{InStep, Numbered, number_in, value_in}
+use Rattle.ca_laws_parts.proofs.InStep.{step-pumped}
 use Rattle.ca_world_data.specs.Updates.{TellsOne}
 use Rattle.ca_world_data.proofs.UpdatesTold.{rest-images}
 use Rattle.ca_world.specs.ServerPumps.{shown_by}

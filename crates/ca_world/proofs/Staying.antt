@@ -7,8 +7,8 @@ use Rattle.ca_ids.specs.Table.{under}
 use Rattle.ca_model.specs.History.{Entry}
 use Rattle.ca_model.specs.History as entry
 use Rattle.ca_model.specs.Server.{Server}
-use Rattle.ca_model_world.specs.ServerEvents.{ending, ends_at, ends_by, left_by, reported, server_after, withdrawals, without_puts}
-use Rattle.ca_model_world.specs.World.{Joined, PutPlace, RecordSide, ServerSide, World, grown, with_entries, with_server}
+use Rattle.ca_model.specs.ServerEvents.{ending, ends_at, ends_by, left_by, reported, server_after, withdrawals, without_puts}
+use Rattle.ca_model.specs.World.{Joined, PutPlace, RecordSide, ServerSide, World, grown, with_entries, with_server}
 use Rattle.ca_world.specs.Reported.{HasReported}
 use Rattle.ca_world.proofs.Endings.{freed-none, none-under}
 

@@ -18,10 +18,10 @@ use Rattle.ca_model.specs.History.{Entry}
 use Rattle.ca_model.specs.Server.{Ended, Open, Server, ServerCircuit, ServerEnd}
 use Rattle.ca_model.specs.ServerSteps.{HasEnd, LacksMemory, LeftOf, NeedsMemory, Next, StepsOpen, closed, is_write, output_of}
 use Rattle.ca_model.specs.ServerSteps as stepped
-use Rattle.ca_model_client.proofs.Tables.{freed-back}
-use Rattle.ca_model_world.specs.ServerEvents.{ending, ends_at, ends_here, logged_by, numbers_after, records_after, reported, withdrawals, without_puts, write_numbers}
-use Rattle.ca_model_world.specs.World.{Joined, PutPlace, RecordSide, ServerSide, grown}
-use Rattle.ca_laws_bytes.proofs.ServerEnds.{next-own, reaches-stays}
+use Rattle.ca_model.proofs.Tables.{freed-back}
+use Rattle.ca_model.specs.ServerEvents.{ending, ends_at, ends_here, logged_by, numbers_after, records_after, reported, withdrawals, without_puts, write_numbers}
+use Rattle.ca_model.specs.World.{Joined, PutPlace, RecordSide, ServerSide, grown}
+use Rattle.ca_laws_parts.proofs.ServerEnds.{next-own, reaches-stays}
 use Rattle.ca_server_core.proofs.Servers.{freed-changed}
 use Rattle.ca_world.proofs.EndsClosed.{ends-closed}
 use Rattle.ca_world.proofs.ServerSteppings.{clears-same, closed-same}

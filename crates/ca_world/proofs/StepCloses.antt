@@ -13,7 +13,7 @@ use Rattle.ca_model.specs.History.{Entry}
 use Rattle.ca_model.specs.Server.{Server, ServerCircuit}
 use Rattle.ca_model.specs.ServerCalls.{waiting}
 use Rattle.ca_model.specs.ServerSteps.{output_of}
-use Rattle.ca_model_world.specs.World as model
+use Rattle.ca_model.specs.World as model
 use Rattle.ca_world_data.specs.declared.joined.Joined.{Joined}
 use Rattle.ca_world_data.specs.declared.server.ServerSide.{ServerSide}
 use Rattle.ca_world_data.specs.Seen.{joined_of, server_of, step_of}

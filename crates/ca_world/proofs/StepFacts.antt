@@ -17,12 +17,12 @@ use Rattle.ca_model.specs.History.{Step, Told}
 use Rattle.ca_model.specs.Server.{Ended, Open, Server, ServerCircuit, ServerEnd, Subscription, concerns, key_of, with_post}
 use Rattle.ca_model.specs.ServerSteps.{Handles, HasEnd, Next, Reaches, is_write, reached, stored_now, write_mask}
 use Rattle.ca_model.specs.Speech.{Stored}
-use Rattle.ca_model_client.proofs.Handles.{handle-or}
-use Rattle.ca_model_client.proofs.Placed.{under-other}
-use Rattle.ca_model_client.proofs.Tables.{changed-own}
-use Rattle.ca_model_world.specs.ServerEvents.{numbers_after}
-use Rattle.ca_model_world.specs.World as model
-use Rattle.ca_model_world.specs.World.{Joined, RecordSide}
+use Rattle.ca_model.proofs.Handles.{handle-or}
+use Rattle.ca_model.proofs.Placed.{under-other}
+use Rattle.ca_model.proofs.Tables.{changed-own}
+use Rattle.ca_model.specs.ServerEvents.{numbers_after}
+use Rattle.ca_model.specs.World as model
+use Rattle.ca_model.specs.World.{Joined, RecordSide}
 use Rattle.ca_world.specs.declared.server_step.Counts.{Counts}
 use Rattle.ca_world.specs.ServerStepping.{with_lists}
 use Rattle.ca_world.specs.StepParts.{IsHandled, MayStep}

@@ -11,8 +11,8 @@ use Rattle.ca_model.specs.Due.{Action, Adds, Applies, Clears, Drops, Greets, Nam
 use Rattle.ca_model.specs.History as history
 use Rattle.ca_model.specs.Server.{Server, ServerEnd}
 use Rattle.ca_model.specs.ServerSteps.{HasEnd}
-use Rattle.ca_model_world.specs.ServerEvents.{about, ending, ends_at, ends_by, handled_at, left_by, logged_by, numbers_after, records_after, reported, withdrawals, without_puts, write_numbers}
-use Rattle.ca_model_world.specs.World.{Joined, RecordSide, ServerSide as Side, grown, log_length}
+use Rattle.ca_model.specs.ServerEvents.{about, ending, ends_at, ends_by, handled_at, left_by, logged_by, numbers_after, records_after, reported, withdrawals, without_puts, write_numbers}
+use Rattle.ca_model.specs.World.{Joined, RecordSide, ServerSide as Side, grown, log_length}
 use Rattle.ca_world.specs.declared.server_step.Counts.{Counts}
 use Rattle.ca_world.specs.declared.server_step.Prepared.{Prepared}
 use Rattle.ca_world.specs.ServerStepping.{HandlesAt, StepsAt, put_place, with_lists}

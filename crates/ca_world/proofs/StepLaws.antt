@@ -14,8 +14,8 @@ use Rattle.ca_model.specs.History.{Entry, Step, Told}
 use Rattle.ca_model.specs.Server.{Server, ServerEnd}
 use Rattle.ca_model.specs.ServerSteps.{HasEnd, LacksMemory, StepsOpen, closed, write_mask}
 use Rattle.ca_model.specs.ServerSteps as stepped
-use Rattle.ca_model_world.specs.ServerEvents.{HappensServerStep, StepHandles, StepLacks, acted, ending, ends_at, ends_by, ends_here, handled_at, keys_concerned, noted, numbers_after, numbers_posted, reported, server_after, server_closed, side_of, unsaid, withdrawals, with_number, without_puts, write_numbers}
-use Rattle.ca_model_world.specs.World.{Joined, RecordSide, ServerSide, World, grown, log_length}
+use Rattle.ca_model.specs.ServerEvents.{HappensServerStep, StepHandles, StepLacks, acted, ending, ends_at, ends_by, ends_here, handled_at, keys_concerned, noted, numbers_after, numbers_posted, reported, server_after, server_closed, side_of, unsaid, withdrawals, with_number, without_puts, write_numbers}
+use Rattle.ca_model.specs.World.{Joined, RecordSide, ServerSide, World, grown, log_length}
 use Rattle.ca_world.specs.ServerStepping.{BreaksAt, HandlesAt, LacksAs, LacksAt, Quits, RestsAt, StepsAt, circuits_acted, circuits_noted, logs_acted, records_acted}
 
 -- ---- lists

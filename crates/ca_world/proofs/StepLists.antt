@@ -10,8 +10,8 @@ use Rattle.ca_model.specs.Due.{Action, Adds, Applies, Clears, Drops, Greets, Nam
 use Rattle.ca_model.specs.History.{Step, Told}
 use Rattle.ca_model.specs.Server.{Server}
 use Rattle.ca_model.specs.ServerSteps.{write_mask}
-use Rattle.ca_model_world.specs.ServerEvents.{ending, ends_at, ends_by, keys_concerned, numbers_posted, server_closed, with_number, write_numbers}
-use Rattle.ca_model_world.specs.World.{Joined}
+use Rattle.ca_model.specs.ServerEvents.{ending, ends_at, ends_by, keys_concerned, numbers_posted, server_closed, with_number, write_numbers}
+use Rattle.ca_model.specs.World.{Joined}
 use Rattle.ca_world.specs.ServerStepping.{with_lists}
 
 -- an end ends as well with other lists

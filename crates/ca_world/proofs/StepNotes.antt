@@ -9,8 +9,8 @@ use Rattle.ca_text.proofs.Places.{At-mapped}
 use Rattle.ca_model.specs.Due.{Action, Adds, Applies, Clears, Drops, Greets, Names, Nothing, Opens, Switches, Waits}
 use Rattle.ca_model.specs.Server.{Server}
 use Rattle.ca_model.specs.ServerSteps.{write_mask}
-use Rattle.ca_model_world.specs.ServerEvents.{write_numbers}
-use Rattle.ca_model_world.specs.World as model
+use Rattle.ca_model.specs.ServerEvents.{write_numbers}
+use Rattle.ca_model.specs.World as model
 use Rattle.ca_world_data.specs.declared.joined.Joined.{Joined}
 use Rattle.ca_world_data.specs.Reporting.{AreServed}
 use Rattle.ca_world_data.specs.Seen.{joined_of}

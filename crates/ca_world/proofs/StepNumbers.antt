@@ -6,9 +6,9 @@ use Rattle.std.proofs.lemmas.Bool.{and_parts}
 use Rattle.ca_arena.specs.declared.handle.Handle.{Handle}
 use Rattle.ca_dbr.specs.Elements.{Elements}
 use Rattle.ca_ids.specs.Table.{Table, same_handle, under, with_changed, with_each}
-use Rattle.ca_model_client.proofs.Handles.{handle-or, not-same, same-itself}
-use Rattle.ca_model_client.proofs.Placed.{under-other}
-use Rattle.ca_model_client.proofs.Tables.{changed-own}
+use Rattle.ca_model.proofs.Handles.{handle-or, not-same, same-itself}
+use Rattle.ca_model.proofs.Placed.{under-other}
+use Rattle.ca_model.proofs.Tables.{changed-own}
 use Rattle.ca_link.specs.Link.{with_sent}
 use Rattle.ca_queue.specs.declared.entry.SubKey.{SubKey}
 use Rattle.ca_wire.specs.Fields.{Fields}
@@ -17,10 +17,10 @@ use Rattle.ca_model.specs.Ends as why
 use Rattle.ca_model.specs.Server.{Ended, Open, Server, ServerCircuit, ServerEnd, Subscription, concerns, key_of, with_post}
 use Rattle.ca_model.specs.ServerSteps.{Acts, Handles, HasEnd, Reaches, Records, after_post, closed, reached, stored_now, write_mask}
 use Rattle.ca_model.specs.Speech.{Stored}
-use Rattle.ca_model_world.specs.ServerEvents.{ending, ends_at, ends_by, ends_here, keys_concerned, left_by, numbers_posted, server_closed, with_number, write_numbers}
-use Rattle.ca_model_world.specs.World.{Joined}
-use Rattle.ca_laws_bytes.proofs.ServerFits.{each-changed}
-use Rattle.ca_laws_writes.proofs.Cores.{each-there}
+use Rattle.ca_model.specs.ServerEvents.{ending, ends_at, ends_by, ends_here, keys_concerned, left_by, numbers_posted, server_closed, with_number, write_numbers}
+use Rattle.ca_model.specs.World.{Joined}
+use Rattle.ca_laws_parts.proofs.ServerFits.{each-changed}
+use Rattle.ca_laws_parts.proofs.Cores.{each-there}
 use Rattle.ca_world.proofs.EndsClosed.{ends-closed, freed-as}
 
 -- ---- tables

@@ -13,9 +13,9 @@ use Rattle.ca_model.specs.History as history
 use Rattle.ca_model.specs.Server.{Server}
 use Rattle.ca_model.specs.ServerCalls.{waiting}
 use Rattle.ca_model.specs.ServerSteps.{NeedsMemory, output_of}
-use Rattle.ca_model_world.specs.ServerEvents.{about}
-use Rattle.ca_model_world.specs.World.{Joined, RecordSide}
-use Rattle.ca_laws_bytes.proofs.ServerEnds.{next-own, reaches-stays}
+use Rattle.ca_model.specs.ServerEvents.{about}
+use Rattle.ca_model.specs.World.{Joined, RecordSide}
+use Rattle.ca_laws_parts.proofs.ServerEnds.{next-own, reaches-stays}
 use Rattle.ca_world.specs.declared.server_step.Counts.{Counts}
 use Rattle.ca_world.specs.StepParts.{IsHandled, MayStep, StandBehind}
 use Rattle.ca_world_data.specs.declared.history.Told.{Told}

@@ -15,16 +15,16 @@ use Rattle.ca_model.specs.Due.{Action, Adds, Applies, Clears, Drops, Opens, Swit
 use Rattle.ca_model.specs.History.{Entry, Line, Step}
 use Rattle.ca_model.specs.Server.{Server, ServerCircuit, ServerEnd}
 use Rattle.ca_model.specs.ServerSteps.{HasEnd, closed, write_mask}
-use Rattle.ca_model_world.specs.Events.{ServerStep}
-use Rattle.ca_model_world.specs.Runs.{HasServerEnd}
-use Rattle.ca_model_world.specs.ServerEvents.{HappensServerStep, ending, ends_by, ends_here, handled_at, numbers_after, write_numbers}
-use Rattle.ca_model_world.specs.World as model
-use Rattle.ca_model_client.proofs.Tables.{at-find, find-at}
-use Rattle.ca_laws_bytes.proofs.Runs.{takes-sent}
-use Rattle.ca_laws_bytes.proofs.Runs as runs
-use Rattle.ca_laws_bytes.proofs.ServerCalls.{next-fits}
-use Rattle.ca_laws_bytes.specs.ServerFits.{ServersFit}
-use Rattle.ca_laws_writes.specs.Moves.{Lives}
+use Rattle.ca_model.specs.Events.{ServerStep}
+use Rattle.ca_model.specs.Runs.{HasServerEnd}
+use Rattle.ca_model.specs.ServerEvents.{HappensServerStep, ending, ends_by, ends_here, handled_at, numbers_after, write_numbers}
+use Rattle.ca_model.specs.World as model
+use Rattle.ca_model.proofs.Tables.{at-find, find-at}
+use Rattle.ca_laws_parts.proofs.BytesRuns.{takes-sent}
+use Rattle.ca_laws_parts.proofs.BytesRuns as runs
+use Rattle.ca_laws_parts.proofs.BytesServerCalls.{next-fits}
+use Rattle.ca_laws_parts.specs.ServerFits.{ServersFit}
+use Rattle.ca_laws_parts.specs.Moves.{Lives}
 use Rattle.ca_server_core.specs.ForHistories.{AreNamedApart}
 use Rattle.ca_world_data.specs.declared.client.ClientSide.{ClientSide}
 use Rattle.ca_world_data.specs.declared.ends.Ends.{Ends}

@@ -20,12 +20,12 @@ use Rattle.ca_model.specs.Server.{Server, ServerEnd}
 use Rattle.ca_model.specs.ServerCalls.{Finishes, Replies, after_next}
 use Rattle.ca_model.specs.ServerSteps.{Accepts, Cuts, Gives, LeftOf, Next, Pumps, Reaches, Records, Sends, Update}
 use Rattle.ca_model.specs.ServerSteps as server
-use Rattle.ca_model_world.specs.ClientEvents.{DownTaken, TicksOne, client_stepped}
-use Rattle.ca_model_world.specs.Events.{Event}
-use Rattle.ca_model_world.specs.Events as event
-use Rattle.ca_model_world.specs.Runs.{Happens, clients_below}
-use Rattle.ca_model_world.specs.ServerEvents.{HappensFinish, ServerStepped, unsaid}
-use Rattle.ca_model_world.specs.World.{ClientSide, Joined, ServerSide, Setting, World, opening, server_begun, with_circuit, with_client}
+use Rattle.ca_model.specs.ClientEvents.{DownTaken, TicksOne, client_stepped}
+use Rattle.ca_model.specs.Events.{Event}
+use Rattle.ca_model.specs.Events as event
+use Rattle.ca_model.specs.Runs.{Happens, clients_below}
+use Rattle.ca_model.specs.ServerEvents.{HappensFinish, ServerStepped, unsaid}
+use Rattle.ca_model.specs.World.{ClientSide, Joined, ServerSide, Setting, World, opening, server_begun, with_circuit, with_client}
 use Rattle.ca_world.specs.Unstamped.{AllUnstamped, IsUnstamped}
 use Rattle.ca_world.specs.Whole.{IsReached}
 use Rattle.ca_world.proofs.Meanings.{at-numbered}

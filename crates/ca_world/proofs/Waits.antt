@@ -5,9 +5,9 @@ use Rattle.std.proofs.lemmas.List.{length-map}
 use Rattle.ca_text.specs.Place.{At}
 use Rattle.ca_text.proofs.Places.{At-map, At-one, At-within}
 use Rattle.ca_model.specs.History.{Entry, Line}
-use Rattle.ca_model_world.specs.ClientEvents.{waiting_down, waiting_up}
-use Rattle.ca_model_world.specs.Runs.{HasClientEnd, HasServerEnd, IsServer}
-use Rattle.ca_model_world.specs.World as model
+use Rattle.ca_model.specs.ClientEvents.{waiting_down, waiting_up}
+use Rattle.ca_model.specs.Runs.{HasClientEnd, HasServerEnd, IsServer}
+use Rattle.ca_model.specs.World as model
 use Rattle.ca_world.specs.declared.circuits.Way.{Way}
 use Rattle.ca_world.specs.declared.circuits.Way.TheVariants.{Down, Up}
 use Rattle.ca_world.specs.Waiting.{IsNoCircuit, Receives, Waits}

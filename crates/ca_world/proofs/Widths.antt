@@ -11,7 +11,7 @@ use Rattle.ca_model.specs.Server.{Server}
 use Rattle.ca_model.specs.ServerCalls.{AddsRecord}
 use Rattle.ca_records.specs.Puts.{record_named}
 use Rattle.ca_records.specs.Record.{RecordState}
-use Rattle.ca_model_world.specs.World.{ClientSide, ServerSide}
+use Rattle.ca_model.specs.World.{ClientSide, ServerSide}
 use Rattle.ca_world_data.specs.Opens.{OpenDone, OpenRefused, OpensOn}
 use Rattle.ca_world.specs.Adding.{AddsAt}
 use Rattle.ca_world.specs.Wide.{IsCount, IsPriority, IsWide}

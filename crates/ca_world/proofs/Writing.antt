@@ -14,9 +14,9 @@ use Rattle.ca_model.specs.Client.{Client}
 use Rattle.ca_model.specs.ClientCalls.{ClientWrites, LiveChannel, write_sent}
 use Rattle.ca_model.specs.History.{Called, Intent, Line, On, Request}
 use Rattle.ca_model.specs.History as history
-use Rattle.ca_model_world.specs.Events.{Write}
-use Rattle.ca_model_world.specs.World.{ClientSide, Joined, Names, grown}
-use Rattle.ca_model_world.specs.World as model
+use Rattle.ca_model.specs.Events.{Write}
+use Rattle.ca_model.specs.World.{ClientSide, Joined, Names, grown}
+use Rattle.ca_model.specs.World as model
 use Rattle.ca_world_data.specs.declared.way.Way.{Way}
 use Rattle.ca_world_data.specs.Found.{AreNumbered}
 use Rattle.ca_world_data.specs.Indexed.{AreIndexed}

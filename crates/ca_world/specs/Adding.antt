@@ -8,7 +8,7 @@ use Rattle.ca_model.specs.History.{Entry}
 use Rattle.ca_model.specs.History as entry
 use Rattle.ca_model.specs.Server.{Server}
 use Rattle.ca_model.specs.ServerCalls.{AddsRecord}
-use Rattle.ca_model_world.specs.World.{RecordSide, ServerSide, grown, record_begun}
+use Rattle.ca_model.specs.World.{RecordSide, ServerSide, grown, record_begun}
 use Rattle.ca_server_core.specs.ForHistories.{AreNamedApart}
 
 -- the records of a core and those beside it have the same names, in one order

@@ -15,8 +15,8 @@ use Rattle.ca_model.specs.Server.{Server}
 use Rattle.ca_model.specs.ServerCalls.{Finishes, finish_reply}
 use Rattle.ca_model.specs.ServerSteps.{write_mask}
 use Rattle.ca_model.specs.Speech.{In, Stored}
-use Rattle.ca_model_world.specs.ServerEvents.{about, finish_entry, first_of, next_busy, next_entries, next_numbers, numbers_posted, with_record}
-use Rattle.ca_model_world.specs.World.{Joined, PutPlace, RecordSide, ServerSide as Side, grown}
+use Rattle.ca_model.specs.ServerEvents.{about, finish_entry, first_of, next_busy, next_entries, next_numbers, numbers_posted, with_record}
+use Rattle.ca_model.specs.World.{Joined, PutPlace, RecordSide, ServerSide as Side, grown}
 use Rattle.ca_world.specs.Unstamped.{IsUnstamped}
 use Rattle.ca_world_data.specs.declared.joined.Joined.{Joined as Opened}
 use Rattle.ca_world_data.specs.declared.server.RecordSide.{RecordSide as Held}

@@ -1,8 +1,8 @@
 -- Working: a world where a run ended, as the statement has it.
 use Rattle.std.specs.Prelude.{List, Option, map}
-use Rattle.ca_model_world.specs.Events.{Event}
-use Rattle.ca_model_world.specs.Runs.{AreEvents, Runs}
-use Rattle.ca_model_world.specs.World.{IsSetting, Setting, World}
+use Rattle.ca_model.specs.Events.{Event}
+use Rattle.ca_model.specs.Runs.{AreEvents, Runs}
+use Rattle.ca_model.specs.World.{IsSetting, Setting, World}
 use Rattle.ca_world.specs.declared.stopped.Stopped.TheInside.{Inside}
 use Rattle.ca_world_data.specs.Seen.{client_of, entry_of, joined_of, line_of, server_of}
 

@@ -4,8 +4,8 @@ use Rattle.ca_arena.specs.Arena.{Place}
 use Rattle.ca_ids.specs.Table.{Table}
 use Rattle.ca_text.specs.Place.{At}
 use Rattle.ca_model.specs.Server.{Server, ServerCircuit}
-use Rattle.ca_model_world.specs.ServerEvents.{left_by}
-use Rattle.ca_model_world.specs.World.{ServerSide}
+use Rattle.ca_model.specs.ServerEvents.{left_by}
+use Rattle.ca_model.specs.World.{ServerSide}
 
 -- no circuit has an end that ended and was not reported
 abbrev pub IsReportedTable : Table ServerCircuit → Type 0

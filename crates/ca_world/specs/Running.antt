@@ -2,10 +2,10 @@
 use Rattle.std.specs.Prelude.{ℕ, ◌≤◌, List, Option, Some, None, length, slice_get, take}
 use Rattle.ca_text.specs.declared.refusal.Refusal.{Refusal}
 use Rattle.ca_text.specs.declared.refusal.Refusal.TheVariants.{BadEvent, OutOfMemory}
-use Rattle.ca_model_safe.specs.Worlds.{IsLegalWorld, IsSafeWorld}
-use Rattle.ca_model_world.specs.Events.{Event}
-use Rattle.ca_model_world.specs.Runs.{CanBe, Runs}
-use Rattle.ca_model_world.specs.World.{Setting, World}
+use Rattle.ca_model.specs.Worlds.{IsLegalWorld, IsSafeWorld}
+use Rattle.ca_model.specs.Events.{Event}
+use Rattle.ca_model.specs.Runs.{CanBe, Runs}
+use Rattle.ca_model.specs.World.{Setting, World}
 
 -- Why a run ended in this world: no event was left; or the next one cannot be done there; or it can, and there was no memory for it.
 abbrev pub EndsBefore : World → (next : Option Event) → Option Refusal → Type 0

@@ -8,9 +8,9 @@ use Rattle.ca_model.specs.Ends as why
 use Rattle.ca_model.specs.History as history
 use Rattle.ca_model.specs.Server.{Server, ServerEnd}
 use Rattle.ca_model.specs.ServerSteps.{HasEnd, Leaves, Pumps, Rests, Update, closed, ended, with_end}
-use Rattle.ca_model_world.specs.ServerEvents.{server_closed, without_puts}
-use Rattle.ca_model_world.specs.World.{grown}
-use Rattle.ca_model_world.specs.World as model
+use Rattle.ca_model.specs.ServerEvents.{server_closed, without_puts}
+use Rattle.ca_model.specs.World.{grown}
+use Rattle.ca_model.specs.World as model
 use Rattle.ca_world_data.specs.declared.joined.Joined.{Joined}
 use Rattle.ca_world_data.specs.declared.server.ServerSide.{ServerSide}
 use Rattle.ca_world_data.specs.Seen.{joined_of, record_of, server_of}

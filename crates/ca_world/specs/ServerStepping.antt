@@ -9,8 +9,8 @@ use Rattle.ca_model.specs.History.{Entry, Step, Told}
 use Rattle.ca_model.specs.Server.{Server, ServerEnd}
 use Rattle.ca_model.specs.ServerSteps.{HasEnd, LacksMemory, Next, StepsOpen, closed}
 use Rattle.ca_model.specs.ServerSteps as stepped
-use Rattle.ca_model_world.specs.ServerEvents.{ending, ends_at, ends_by, ends_here, handled_at, logged_by, numbers_after, records_after, reported, withdrawals, without_puts, write_numbers}
-use Rattle.ca_model_world.specs.World.{Joined, PutPlace, RecordSide, ServerSide, grown, log_length}
+use Rattle.ca_model.specs.ServerEvents.{ending, ends_at, ends_by, ends_here, handled_at, logged_by, numbers_after, records_after, reported, withdrawals, without_puts, write_numbers}
+use Rattle.ca_model.specs.World.{Joined, PutPlace, RecordSide, ServerSide, grown, log_length}
 
 -- A call of a server is over, with this core and these records: these ends of circuits end, and their puts that wait are withdrawn.
 pub record Quits (ends : Joined → Option (List ℕ)) (core : Server) (y : ServerSide) (rs : List RecordSide) (ks : List Joined) (logs : List (List Entry)) (y' : ServerSide) (ks' : List Joined) (logs' : List (List Entry)) : Type 0 where

@@ -12,8 +12,8 @@ use Rattle.ca_model.specs.History as history
 use Rattle.ca_model.specs.Server.{Server, ServerEnd}
 use Rattle.ca_model.specs.ServerCalls.{waiting}
 use Rattle.ca_model.specs.ServerSteps.{HasEnd, NeedsMemory, Next, Reaches}
-use Rattle.ca_model_world.specs.ServerEvents.{about, logged_by, numbers_after, records_after, write_numbers}
-use Rattle.ca_model_world.specs.World.{Joined, PutPlace, RecordSide, ServerSide as Side, grown, log_length}
+use Rattle.ca_model.specs.ServerEvents.{about, logged_by, numbers_after, records_after, write_numbers}
+use Rattle.ca_model.specs.World.{Joined, PutPlace, RecordSide, ServerSide as Side, grown, log_length}
 use Rattle.ca_world.specs.ServerStepping.{StepsAt, with_lists}
 use Rattle.ca_world.specs.declared.server_step.Counts.{Counts}
 use Rattle.ca_world.specs.declared.server_step.Prepared.{Prepared}

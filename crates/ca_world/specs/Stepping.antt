@@ -1,8 +1,8 @@
 -- Vocabulary: what a step of a world gives.
 use Rattle.std.specs.Prelude.{Err}
-use Rattle.ca_model_world.specs.Events.{Event, Tick}
-use Rattle.ca_model_world.specs.Runs.{Happens, TicksBefore}
-use Rattle.ca_model_world.specs.World.{World}
+use Rattle.ca_model.specs.Events.{Event, Tick}
+use Rattle.ca_model.specs.Runs.{Happens, TicksBefore}
+use Rattle.ca_model.specs.World.{World}
 use Rattle.ca_world.specs.declared.step.AfterEvent.{AfterEvent}
 use Rattle.ca_world.specs.declared.step.AfterEvent.TheVariants.{Done, Refused, Stopped}
 use Rattle.ca_world_data.specs.Does.{Does}

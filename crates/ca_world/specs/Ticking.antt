@@ -5,10 +5,10 @@ use Rattle.ca_text.specs.declared.refusal.Refusal.TheVariants.{OutOfMemory}
 use Rattle.ca_text.specs.Place.{At}
 use Rattle.ca_model.specs.ClientEnds.{ClientTicks}
 use Rattle.ca_model.specs.History.{Entry, Line}
-use Rattle.ca_model_world.specs.Events.{Tick}
-use Rattle.ca_model_world.specs.Runs.{CanBe, Happens, TicksAll, TicksBefore, clients_below}
-use Rattle.ca_model_world.specs.World as model
-use Rattle.ca_model_world.specs.World.{World}
+use Rattle.ca_model.specs.Events.{Tick}
+use Rattle.ca_model.specs.Runs.{CanBe, Happens, TicksAll, TicksBefore, clients_below}
+use Rattle.ca_model.specs.World as model
+use Rattle.ca_model.specs.World.{World}
 use Rattle.ca_world.specs.declared.tick.AfterTick.{AfterTick}
 use Rattle.ca_world.specs.declared.tick.AfterTick.TheVariants.{Back, Done, Stopped}
 use Rattle.ca_world_data.specs.declared.client.ClientSide.{ClientSide}

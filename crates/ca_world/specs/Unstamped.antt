@@ -2,7 +2,7 @@
 use Rattle.std.specs.Prelude.{ℕ, ◌≡◌, List}
 use Rattle.ca_text.specs.Place.{At}
 use Rattle.ca_model.specs.Server.{Server}
-use Rattle.ca_model_world.specs.World.{ServerSide}
+use Rattle.ca_model.specs.World.{ServerSide}
 
 -- no stamp was handed to a server: its writes are stored with none
 abbrev pub IsUnstamped : Server → Type 0

@@ -1,8 +1,8 @@
 -- Vocabulary: the bytes that wait on the circuits of a world, and the ends that may receive them.
 use Rattle.std.specs.Prelude.{ℕ, ◌≡◌, List, length}
-use Rattle.ca_model_world.specs.ClientEvents.{waiting_down, waiting_up}
-use Rattle.ca_model_world.specs.Runs.{HasClientEnd, HasServerEnd}
-use Rattle.ca_model_world.specs.World.{ClientSide, Joined, Joins, ServerSide, World}
+use Rattle.ca_model.specs.ClientEvents.{waiting_down, waiting_up}
+use Rattle.ca_model.specs.Runs.{HasClientEnd, HasServerEnd}
+use Rattle.ca_model.specs.World.{ClientSide, Joined, Joins, ServerSide, World}
 use Rattle.ca_world.specs.declared.circuits.Way.{Way}
 use Rattle.ca_world.specs.declared.circuits.Way.TheVariants.{Down, Up}
 

@@ -1,12 +1,12 @@
 -- Working: a world as the statement has it, and what holds of it at each moment.
 use Rattle.std.specs.Prelude.{List, map}
 use Rattle.std.specs.List.{FoldsTo}
-use Rattle.ca_model_world.specs.Events.{Event}
-use Rattle.ca_model_world.specs.Runs.{AreEvents, Happens}
-use Rattle.ca_model_world.specs.World.{IsSetting, Setting, World, opening}
-use Rattle.ca_laws_bytes.specs.ServerFits.{ServersFit}
-use Rattle.ca_laws_held.specs.Quiet.{ClientsQuiet}
-use Rattle.ca_laws_runs.specs.Clients.{ClientsStand}
+use Rattle.ca_model.specs.Events.{Event}
+use Rattle.ca_model.specs.Runs.{AreEvents, Happens}
+use Rattle.ca_model.specs.World.{IsSetting, Setting, World, opening}
+use Rattle.ca_laws_parts.specs.ServerFits.{ServersFit}
+use Rattle.ca_laws_runs.specs.Quiet.{ClientsQuiet}
+use Rattle.ca_laws_parts.specs.Clients.{ClientsStand}
 use Rattle.ca_world.specs.declared.world.World.TheInside.{Inside}
 use Rattle.ca_world_data.specs.Indexed.{AreIndexed, client_numbers, server_numbers}
 use Rattle.ca_world_data.specs.Named.{AreMeant}

@@ -1,7 +1,7 @@
 ghost use Rattle.std.specs.Prelude.{ℕ, ◌≡◌, ◌<◌, ◌≤◌, IfOk, None, [], insert, length, map, vec_capacity, vec_len};
 ghost use Rattle.ca_dbr.specs.Elements.{elements};
 ghost use Rattle.ca_records.specs.Record.{unset};
-ghost use Rattle.ca_model_world.specs.Events as event;
+ghost use Rattle.ca_model.specs.Events as event;
 ghost use Rattle.ca_world.specs.Adding.{AddsAt, AreInOrder, Settles, StandsBehind};
 ghost use Rattle.ca_world_data.specs.Does.{Does};
 ghost use Rattle.ca_world_data.specs.Opening.{entries_in};

@@ -1,5 +1,5 @@
 ghost use Rattle.std.specs.Prelude.{◌≡◌, ◌↔◌, IsTrue, MatchOption, length};
-ghost use Rattle.ca_model_world.specs.ClientEvents.{waiting_down, waiting_up};
+ghost use Rattle.ca_model.specs.ClientEvents.{waiting_down, waiting_up};
 ghost use Rattle.ca_world.specs.Waiting.{IsNoCircuit, Receives, Waits};
 ghost use Rattle.ca_world_data.specs.Seen.{client_of, joined_of, server_of};
 

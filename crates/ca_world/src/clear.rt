@@ -1,5 +1,5 @@
 ghost use Rattle.std.specs.Prelude.{◌≡◌, map};
-ghost use Rattle.ca_model_world.specs.Events as event;
+ghost use Rattle.ca_model.specs.Events as event;
 ghost use Rattle.ca_world_data.specs.Clears.{ClearsOn, TellFew};
 ghost use Rattle.ca_world_data.specs.Does.{Does};
 ghost use Rattle.ca_world_data.specs.Found.{AreNumbered};

@@ -1,6 +1,6 @@
 ghost use Rattle.std.specs.Prelude.{◌≡◌, []};
-ghost use Rattle.ca_model_world.specs.Events as event;
-ghost use Rattle.ca_model_world.specs.World.{no_names};
+ghost use Rattle.ca_model.specs.Events as event;
+ghost use Rattle.ca_model.specs.World.{no_names};
 ghost use Rattle.ca_world_data.specs.Does.{Does};
 ghost use Rattle.ca_world_data.specs.Restarts.{RestartsClient};
 ghost use Rattle.ca_world_data.specs.Seen.{client_of};

@@ -1,5 +1,5 @@
 ghost use Rattle.ca_model.specs.History.{Collected};
-ghost use Rattle.ca_model_world.specs.Events as event;
+ghost use Rattle.ca_model.specs.Events as event;
 ghost use Rattle.ca_world_data.specs.Does.{Does};
 ghost use Rattle.ca_world_data.specs.Handing.{HandsOver};
 ghost use Rattle.ca_world_data.specs.Logs.{lines_in};

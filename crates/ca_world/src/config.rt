@@ -14,7 +14,7 @@ pub struct Config {
 }
 
 impl Model for Config {
-    ghost use Rattle.ca_model_world.specs.World.{IsSetting, Setting};
+    ghost use Rattle.ca_model.specs.World.{IsSetting, Setting};
 
     ghost Value = { Setting };
 

@@ -1,7 +1,7 @@
 ghost use Rattle.std.specs.Prelude.{◌≡◌};
 ghost use Rattle.ca_ids.specs.Table.{under};
 ghost use Rattle.ca_model.specs.ServerSteps.{output_of};
-ghost use Rattle.ca_model_world.specs.Events as event;
+ghost use Rattle.ca_model.specs.Events as event;
 ghost use Rattle.ca_server_core.specs.Serving.{stepped};
 ghost use Rattle.ca_world_data.specs.Does.{Does};
 ghost use Rattle.ca_world_data.specs.Opening.{entries_in};

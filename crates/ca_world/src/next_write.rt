@@ -2,7 +2,7 @@
 ghost use Rattle.std.specs.Prelude.{◌≡◌, IfOk, if◌then◌else◌, map, option_map};
 ghost use Rattle.std.specs.Str.{bytes_eq};
 ghost use Rattle.ca_dbr.specs.Elements.{elements};
-ghost use Rattle.ca_model_world.specs.ServerEvents as world;
+ghost use Rattle.ca_model.specs.ServerEvents as world;
 ghost use Rattle.ca_world.specs.Finishing.{IsNext, WaitIn, WaitsIn};
 ghost use Rattle.ca_world_data.specs.Opening.{entries_in};
 ghost use Rattle.ca_world_data.specs.Seen.{entry_of, place_of, record_of};

@@ -1,6 +1,6 @@
 ghost use Rattle.std.specs.Prelude.{◌+◌, length, map};
-ghost use Rattle.ca_model_world.specs.Events as event;
-ghost use Rattle.ca_model_world.specs.World as model;
+ghost use Rattle.ca_model.specs.Events as event;
+ghost use Rattle.ca_model.specs.World as model;
 ghost use Rattle.ca_world_data.specs.Does.{Does};
 ghost use Rattle.ca_world_data.specs.Opening.{entries_in};
 ghost use Rattle.ca_world_data.specs.Reporting.{AreServed, waits};

@@ -1,6 +1,6 @@
 ghost use Rattle.std.specs.Prelude.{◌≡◌, IfOk, map};
 ghost use Rattle.ca_events.specs.Events.{event_of};
-ghost use Rattle.ca_model_safe.specs.Worlds.{IsLegalWorld, IsSafeWorld};
+ghost use Rattle.ca_model.specs.Worlds.{IsLegalWorld, IsSafeWorld};
 ghost use Rattle.ca_world.specs.Running.{HasRun};
 
 use crate::config::Config;

@@ -2,9 +2,9 @@ ghost use Rattle.std.specs.Prelude.{◌≡◌, ◌↔◌, ℕ, IfOk, IsTrue, Non
 ghost use Rattle.ca_dbr.specs.Elements.{elements};
 ghost use Rattle.ca_events.specs.Events.{event_of, moment_of};
 ghost use Rattle.ca_records.specs.Record.{unset};
-ghost use Rattle.ca_model_world.specs.Events as event;
-ghost use Rattle.ca_model_world.specs.Runs.{IsServer};
-ghost use Rattle.ca_model_world.specs.World as model;
+ghost use Rattle.ca_model.specs.Events as event;
+ghost use Rattle.ca_model.specs.Runs.{IsServer};
+ghost use Rattle.ca_model.specs.World as model;
 ghost use Rattle.ca_world.specs.Stepping.{Steps};
 ghost use Rattle.ca_world.specs.Ticking.{Ticks};
 ghost use Rattle.ca_world_data.specs.Does.{Does};

@@ -1,5 +1,5 @@
 ghost use Rattle.std.specs.Prelude.{◌≡◌, map};
-ghost use Rattle.ca_model_safe.specs.Worlds.{IsLegalWorld, IsSafeWorld};
+ghost use Rattle.ca_model.specs.Worlds.{IsLegalWorld, IsSafeWorld};
 ghost use Rattle.ca_world_data.specs.Logs.{lines_in};
 ghost use Rattle.ca_world_data.specs.Opening.{entries_in};
 ghost use Rattle.ca_world_data.specs.Seen.{client_of, joined_of, server_of};
@@ -24,7 +24,7 @@ pub struct Stopped {
 }
 
 impl Model for Stopped {
-    ghost use Rattle.ca_model_world.specs.World.{World as Seen};
+    ghost use Rattle.ca_model.specs.World.{World as Seen};
     ghost use Rattle.ca_world.specs.Halted.{halted};
 
     ghost Value = { Seen };

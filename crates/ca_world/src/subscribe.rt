@@ -1,6 +1,6 @@
 ghost use Rattle.std.specs.Prelude.{◌≡◌, map};
-ghost use Rattle.ca_model_world.specs.Events as event;
-ghost use Rattle.ca_laws_runs.specs.Circuit.{AreGiven};
+ghost use Rattle.ca_model.specs.Events as event;
+ghost use Rattle.ca_laws_parts.specs.Circuit.{AreGiven};
 ghost use Rattle.ca_world_data.specs.Does.{Does};
 ghost use Rattle.ca_world_data.specs.Found.{AreNumbered};
 ghost use Rattle.ca_world_data.specs.Logs.{lines_in};

@@ -1,4 +1,4 @@
-ghost use Rattle.ca_model_world.specs.Events as event;
+ghost use Rattle.ca_model.specs.Events as event;
 ghost use Rattle.ca_world_data.specs.Does.{Does};
 ghost use Rattle.ca_world_data.specs.Ups.{HandsUp, LeavesUp};
 

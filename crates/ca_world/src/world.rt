@@ -1,6 +1,6 @@
 ghost use Rattle.std.specs.Prelude.{◌≡◌, IfOk};
-ghost use Rattle.ca_model_safe.specs.Worlds.{IsLegalWorld, IsSafeWorld};
-ghost use Rattle.ca_model_world.specs.World.{IsSetting, opening};
+ghost use Rattle.ca_model.specs.Worlds.{IsLegalWorld, IsSafeWorld};
+ghost use Rattle.ca_model.specs.World.{IsSetting, opening};
 
 use crate::config::Config;
 use ca_world_data::client::ClientSide;
@@ -25,7 +25,7 @@ pub struct World {
 }
 
 impl Model for World {
-    ghost use Rattle.ca_model_world.specs.World.{World as Seen};
+    ghost use Rattle.ca_model.specs.World.{World as Seen};
     ghost use Rattle.ca_world.specs.Whole.{seen};
 
     ghost Value = { Seen };

@@ -16,9 +16,9 @@ use Rattle.ca_model.specs.History.{OfCircuit, Sent}
 use Rattle.ca_model.specs.History as history
 use Rattle.ca_model.specs.Server.{Server}
 use Rattle.ca_model.specs.ServerSteps.{Accepts}
-use Rattle.ca_model_world.specs.ClientEvents.{client_closed, lines_of}
-use Rattle.ca_model_world.specs.World.{grown}
-use Rattle.ca_model_world.specs.World as model
+use Rattle.ca_model.specs.ClientEvents.{client_closed, lines_of}
+use Rattle.ca_model.specs.World.{grown}
+use Rattle.ca_model.specs.World as model
 use Rattle.ca_world_data.specs.declared.client.ClientSide.{ClientSide}
 use Rattle.ca_world_data.specs.declared.history.Line.{Line}
 use Rattle.ca_world_data.specs.declared.joined.Joined.{Joined}

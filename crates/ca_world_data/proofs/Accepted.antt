@@ -7,7 +7,7 @@ use Rattle.ca_text.specs.Place.{At}
 use Rattle.ca_text.proofs.Places.{some_is}
 use Rattle.ca_model.specs.ClientCalls.{WantedCircuit}
 use Rattle.ca_model.specs.Ends.{Address, same_address}
-use Rattle.ca_model_world.specs.ClientEvents.{place_of}
+use Rattle.ca_model.specs.ClientEvents.{place_of}
 use Rattle.ca_world_data.specs.declared.server.ServerSide.{ServerSide}
 use Rattle.ca_world_data.specs.Accepting.{first_served, first_there, served, server_at}
 use Rattle.ca_world_data.proofs.Openings.{drop-next}

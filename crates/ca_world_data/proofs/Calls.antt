@@ -12,11 +12,11 @@ use Rattle.ca_model.specs.Client.{Client}
 use Rattle.ca_model.specs.ClientCalls.{ClientOpens, Opening}
 use Rattle.ca_model.specs.History.{Entry}
 use Rattle.ca_model.specs.History as history
-use Rattle.ca_model_world.specs.ClientEvents.{client_after, sent_on}
-use Rattle.ca_model_world.specs.Events.{Open}
-use Rattle.ca_model_world.specs.Runs.{CanBe, IsClient}
-use Rattle.ca_model_world.specs.World.{grown}
-use Rattle.ca_model_world.specs.World as model
+use Rattle.ca_model.specs.ClientEvents.{client_after, sent_on}
+use Rattle.ca_model.specs.Events.{Open}
+use Rattle.ca_model.specs.Runs.{CanBe, IsClient}
+use Rattle.ca_model.specs.World.{grown}
+use Rattle.ca_model.specs.World as model
 use Rattle.ca_world_data.specs.declared.history.Line.{Line}
 use Rattle.ca_world_data.specs.Does.{Does}
 use Rattle.ca_world_data.specs.Logs.{HasRoom, lines_in}
@@ -109,5 +109,5 @@ opens w i name priority x x' logs (Err _) at d = absurd d
 pub no-client : (w : model.World) (i : ℕ) → length w.clients ≤ i → IsClient w i → ⊥
 no-client w i over can = (let within = At-within w.clients i can.x can.at in omega (arith, over, within))
 
-pub no-server : (w : model.World) (i : ℕ) → length w.servers ≤ i → Rattle.ca_model_world.specs.Runs.IsServer w i → ⊥
+pub no-server : (w : model.World) (i : ℕ) → length w.servers ≤ i → Rattle.ca_model.specs.Runs.IsServer w i → ⊥
 no-server w i over can = (let within = At-within w.servers i can.y can.at in omega (arith, over, within))

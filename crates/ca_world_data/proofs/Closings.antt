@@ -7,7 +7,7 @@ use Rattle.ca_world_data.specs.declared.joined.Joined.{Joined as Opened}
 use Rattle.ca_world_data.specs.Closing.{with_lefts}
 use Rattle.ca_world_data.specs.Seen.{joined_of}
 use Rattle.ca_world_data.proofs.Worlds.{set-map}
-use Rattle.ca_model_world.specs.World.{Joined}
+use Rattle.ca_model.specs.World.{Joined}
 
 -- ---- a walk over circuits with what is left
 

@@ -12,8 +12,8 @@ use Rattle.ca_text.proofs.Places.{At-map, At-mapped, At-one, At-set, At-within}
 use Rattle.ca_model.specs.History as history
 use Rattle.ca_model.specs.Server.{Ended, Open, ServerCircuit, ServerEnd, Subscription, concerns, key_of}
 use Rattle.ca_model.specs.Speech.{Stored}
-use Rattle.ca_model_world.specs.ServerEvents.{with_number}
-use Rattle.ca_model_world.specs.World.{Joined, Standing}
+use Rattle.ca_model.specs.ServerEvents.{with_number}
+use Rattle.ca_model.specs.World.{Joined, Standing}
 use Rattle.ca_server_core.specs.ForHistories.{ConcernsUnder}
 use Rattle.ca_world_data.specs.declared.history.Cause.{Cause}
 use Rattle.ca_world_data.specs.declared.history.Cause.TheVariants as cause

@@ -6,7 +6,7 @@ use Rattle.std.proofs.lemmas.List.{map-append}
 use Rattle.ca_text.specs.Place.{At}
 use Rattle.ca_text.proofs.Places.{At-map, At-within, some_is}
 use Rattle.ca_model.specs.History as history
-use Rattle.ca_model_world.specs.World.{grown}
+use Rattle.ca_model.specs.World.{grown}
 use Rattle.ca_world_data.specs.declared.history.Entry.{Entry}
 use Rattle.ca_world_data.specs.declared.history.Line.{Line}
 use Rattle.ca_world_data.specs.Logs.{lines_in}

@@ -9,9 +9,9 @@ use Rattle.ca_text.specs.Place.{At}
 use Rattle.ca_text.proofs.Places.{At-map, At-mapped, At-one, At-set, At-set-other, At-within, some_is}
 use Rattle.ca_model.specs.Answers as answer
 use Rattle.ca_model.specs.History as history
-use Rattle.ca_model_world.specs.ClientEvents.{sent_on}
-use Rattle.ca_model_world.specs.World as model
-use Rattle.ca_model_world.specs.World.{Joined}
+use Rattle.ca_model.specs.ClientEvents.{sent_on}
+use Rattle.ca_model.specs.World as model
+use Rattle.ca_model.specs.World.{Joined}
 use Rattle.ca_client_core.specs.declared.for_histories.Sending.{Sending}
 use Rattle.ca_client_core.specs.ForHistories.{sending_of}
 use Rattle.ca_world_data.specs.declared.joined.Joined.{Joined as Opened}

@@ -7,7 +7,7 @@ use Rattle.ca_dbr.specs.declared.value.Outcome.{Outcome}
 use Rattle.ca_text.specs.Place.{At}
 use Rattle.ca_text.proofs.Places.{At-map, At-mapped}
 use Rattle.ca_model.specs.History as history
-use Rattle.ca_model_world.specs.ClientEvents.{HandsOut, hands_out}
+use Rattle.ca_model.specs.ClientEvents.{HandsOut, hands_out}
 use Rattle.ca_world_data.specs.declared.history.Ask.{Ask}
 use Rattle.ca_world_data.specs.declared.history.Ask.TheVariants as ask
 use Rattle.ca_world_data.specs.declared.history.Intent.{Intent}

@@ -13,8 +13,8 @@ use Rattle.ca_model.specs.Answers.{Sending, Ticked}
 use Rattle.ca_model.specs.Client.{Client}
 use Rattle.ca_model.specs.ClientEnds.{ClientTicks, Ticking, all_searched_on, circuits_ticked, due, is_name_connected, searches_made}
 use Rattle.ca_model.specs.History.{Line, OfCircuit}
-use Rattle.ca_model_world.specs.ClientEvents.{after_tick, lines_of}
-use Rattle.ca_model_world.specs.World.{ClientSide, Joined, Names, grown}
+use Rattle.ca_model.specs.ClientEvents.{after_tick, lines_of}
+use Rattle.ca_model.specs.World.{ClientSide, Joined, Names, grown}
 use Rattle.ca_world_data.specs.Found.{AreNumbered}
 use Rattle.ca_world_data.specs.Speaking.{sent_up}
 use Rattle.ca_world_data.specs.Ticks.{TicksClient}

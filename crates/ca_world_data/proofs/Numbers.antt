@@ -13,8 +13,8 @@ use Rattle.ca_text.specs.Place.{At}
 use Rattle.ca_text.proofs.Places.{some_is}
 use Rattle.ca_model.specs.History.{Cause, Update}
 use Rattle.ca_model.specs.Server.{Ended, Open, ServerCircuit, ServerEnd, Subscription, concerns, key_of}
-use Rattle.ca_model_world.specs.ServerEvents.{keys_concerned, with_number}
-use Rattle.ca_model_world.specs.World.{Joined, Standing}
+use Rattle.ca_model.specs.ServerEvents.{keys_concerned, with_number}
+use Rattle.ca_model.specs.World.{Joined, Standing}
 use Rattle.ca_world_data.specs.Numbering.{AreAlike, IsAlike, keys_at, keys_on, keys_to, keys_within}
 
 abbrev Q : Type 0

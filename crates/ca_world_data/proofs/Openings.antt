@@ -4,7 +4,7 @@ use Rattle.std.specs.Prelude.{map}
 use Rattle.std.proofs.lemmas.List.{map-append}
 use Rattle.ca_text.specs.Place.{At}
 use Rattle.ca_text.proofs.Places.{some_is}
-use Rattle.ca_model_world.specs.World.{numbered}
+use Rattle.ca_model.specs.World.{numbered}
 
 -- what stands at a place is the first of those from there on
 pub drop-next : {A : Type 0} (xs : List A) (i : ℕ) (x : A) → At xs i x → drop i xs ≡ x ∷ drop (i + 1) xs

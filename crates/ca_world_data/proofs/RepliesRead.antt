@@ -6,7 +6,7 @@ use Rattle.ca_wire.specs.Fields.{Fields}
 use Rattle.ca_wire.specs.Message.{IsMessage, spelled, spelling}
 use Rattle.ca_wire.proofs.Messages.{spelling-long}
 use Rattle.ca_model.specs.History.{Reply, Told}
-use Rattle.ca_model_world.specs.ServerEvents.{about}
+use Rattle.ca_model.specs.ServerEvents.{about}
 use Rattle.ca_world_data.specs.Replies.{RepliesSome}
 use Rattle.ca_world_data.specs.Updates.{AreGood, BeginsSpelled, ReadsFirst}
 use Rattle.ca_world_data.proofs.UpdatesTold.{begins-behind, good-rest, spelled-both, spelled-rest}

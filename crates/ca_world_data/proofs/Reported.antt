@@ -5,12 +5,12 @@ use Rattle.std.proofs.lemmas.Bool.{and_parts, eq-eqb, eqb-true, lt-ltb, ltb-true
 use Rattle.ca_arena.specs.declared.handle.Handle.{Handle}
 use Rattle.ca_arena.specs.Arena.{Place, place_at, value_for}
 use Rattle.ca_ids.specs.Table.{Table, kept_of, under, with_all_freed, with_freed}
-use Rattle.ca_model_client.proofs.Tables.{one-at-index, under-at}
+use Rattle.ca_model.proofs.Tables.{one-at-index, under-at}
 use Rattle.ca_text.specs.Place.{At}
 use Rattle.ca_text.proofs.Places.{At-map, At-mapped, At-within, some_is}
 use Rattle.ca_model.specs.Server.{Ended, Open, Server, ServerCircuit}
-use Rattle.ca_model_world.specs.ServerEvents.{ending, ends_by, left_by, reported, server_closed}
-use Rattle.ca_model_world.specs.World.{Joined}
+use Rattle.ca_model.specs.ServerEvents.{ending, ends_by, left_by, reported, server_closed}
+use Rattle.ca_model.specs.World.{Joined}
 use Rattle.ca_world_data.specs.Reporting.{AreServed, ClosesAt, ReportsAt}
 use Rattle.ca_world_data.proofs.Serving.{one-at-server}
 

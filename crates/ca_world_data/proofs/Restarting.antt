@@ -15,11 +15,11 @@ use Rattle.ca_model.specs.Ends.{Address}
 use Rattle.ca_model.specs.History.{Entry}
 use Rattle.ca_model.specs.Server.{Server}
 use Rattle.ca_model.specs.ServerSteps.{output_of}
-use Rattle.ca_model_world.specs.ClientEvents.{client_closed, client_gone}
-use Rattle.ca_model_world.specs.Events.{ClientRestart, ServerRestart}
-use Rattle.ca_model_world.specs.ServerEvents.{ending, ends_untold, server_closed}
-use Rattle.ca_model_world.specs.World.{addresses, client_begun, server_begun}
-use Rattle.ca_model_world.specs.World as model
+use Rattle.ca_model.specs.ClientEvents.{client_closed, client_gone}
+use Rattle.ca_model.specs.Events.{ClientRestart, ServerRestart}
+use Rattle.ca_model.specs.ServerEvents.{ending, ends_untold, server_closed}
+use Rattle.ca_model.specs.World.{addresses, client_begun, server_begun}
+use Rattle.ca_model.specs.World as model
 use Rattle.ca_world_data.specs.declared.client.ClientSide.{ClientSide}
 use Rattle.ca_world_data.specs.declared.history.Entry as real
 use Rattle.ca_world_data.specs.declared.history.Line as spoken

@@ -9,9 +9,9 @@ use Rattle.ca_text.specs.Place.{At}
 use Rattle.ca_text.proofs.Places.{some_is}
 use Rattle.ca_model.specs.Answers.{Sending}
 use Rattle.ca_model.specs.History as history
-use Rattle.ca_model_world.specs.ClientEvents.{sent_on}
-use Rattle.ca_model_world.specs.World as model
-use Rattle.ca_model_world.specs.World.{Joined}
+use Rattle.ca_model.specs.ClientEvents.{sent_on}
+use Rattle.ca_model.specs.World as model
+use Rattle.ca_model.specs.World.{Joined}
 use Rattle.ca_world_data.specs.Found.{AreNumbered, IsAt, IsNowhere}
 use Rattle.ca_world_data.specs.Speaking.{GoesBy, GoesUp, sent_up, stamped, with_up}
 use Rattle.ca_world_data.proofs.Indexes.{one-at-client}

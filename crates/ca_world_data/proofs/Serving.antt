@@ -3,7 +3,7 @@ use Rattle.std.proofs.Common.{◌≡◌, ℕ, ◌≤◌, true, List, length, sub
 use Rattle.ca_arena.specs.declared.handle.Handle.{Handle}
 use Rattle.ca_text.specs.Place.{At}
 use Rattle.ca_text.proofs.Places.{At-one, At-within}
-use Rattle.ca_model_world.specs.World.{Joined}
+use Rattle.ca_model.specs.World.{Joined}
 use Rattle.ca_world_data.specs.Indexed.{AreIndexed, HasNumber}
 use Rattle.ca_world_data.specs.Reporting.{AreServed, IsUnserved}
 

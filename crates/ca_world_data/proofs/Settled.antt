@@ -4,7 +4,7 @@ use Rattle.std.proofs.lemmas.Bool.{and_from, both_ways, eq-eqb}
 use Rattle.ca_text.specs.Place.{At}
 use Rattle.ca_text.proofs.Places.{At-snoc, some_is}
 use Rattle.ca_model.specs.Ends.{Address, same_address}
-use Rattle.ca_model_world.specs.World.{ClientSetting, IsSetting, ServerSetting, Setting}
+use Rattle.ca_model.specs.World.{ClientSetting, IsSetting, ServerSetting, Setting}
 use Rattle.ca_world_data.specs.Settings.{IsClient, IsServer, is_taken}
 
 -- ---- one client more

@@ -12,8 +12,8 @@ use Rattle.ca_client_core.specs.declared.ticking.Left.{Left as Silent}
 use Rattle.ca_client_core.specs.Ticked.{left_of, lefts_of, notices_of}
 use Rattle.ca_model.specs.Answers.{Left, Notice}
 use Rattle.ca_model.specs.History as history
-use Rattle.ca_model_world.specs.ClientEvents.{after_tick, client_closed, line_of, lines_of}
-use Rattle.ca_model_world.specs.World.{Joined, Names, grown}
+use Rattle.ca_model.specs.ClientEvents.{after_tick, client_closed, line_of, lines_of}
+use Rattle.ca_model.specs.World.{Joined, Names, grown}
 use Rattle.ca_world_data.specs.declared.history.Line.{Line}
 use Rattle.ca_world_data.specs.declared.joined.Joined.{Joined as Opened}
 use Rattle.ca_world_data.specs.Found.{AreNumbered, IsAt, IsNowhere}

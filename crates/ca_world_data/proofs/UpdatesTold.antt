@@ -15,7 +15,7 @@ use Rattle.ca_queue.proofs.Circuits.{set-map}
 use Rattle.ca_wire.specs.Fields.{Fields}
 use Rattle.ca_wire.specs.Message.{IsMessage, spelled, spelling}
 use Rattle.ca_wire.proofs.Messages.{spelling-long}
-use Rattle.ca_model_world.specs.World.{Joined}
+use Rattle.ca_model.specs.World.{Joined}
 use Rattle.ca_world_data.specs.Updates.{AreGood, AreSpelled, BeginsSpelled, TellsOne, TellsSome}
 
 -- ---- queues of other entries

@@ -10,11 +10,11 @@ use Rattle.ca_model.specs.Client.{out_bytes}
 use Rattle.ca_model.specs.ClientEnds.{handed_over}
 use Rattle.ca_model.specs.History.{Entry, Line}
 use Rattle.ca_model.specs.ServerSteps.{Gives}
-use Rattle.ca_model_world.specs.ClientEvents.{up_taken, waiting_up}
-use Rattle.ca_model_world.specs.Events.{Up}
-use Rattle.ca_model_world.specs.Runs.{CanBe, HasServerEnd}
-use Rattle.ca_model_world.specs.World.{with_circuit, with_client, with_server}
-use Rattle.ca_model_world.specs.World as model
+use Rattle.ca_model.specs.ClientEvents.{up_taken, waiting_up}
+use Rattle.ca_model.specs.Events.{Up}
+use Rattle.ca_model.specs.Runs.{CanBe, HasServerEnd}
+use Rattle.ca_model.specs.World.{with_circuit, with_client, with_server}
+use Rattle.ca_model.specs.World as model
 use Rattle.ca_world_data.specs.declared.client.ClientSide.{ClientSide}
 use Rattle.ca_world_data.specs.declared.joined.Joined.{Joined}
 use Rattle.ca_world_data.specs.declared.server.ServerSide.{ServerSide}

@@ -5,7 +5,7 @@ use Rattle.ca_monitor.specs.Subscriptions.{Subscription}
 use Rattle.ca_text.proofs.Places.{some_is}
 use Rattle.ca_model.specs.Client.{Clearing, Client, Connecting, Creating, Doomed, Leaving, Live, On, Searching, Standing, standing_at}
 use Rattle.ca_model.specs.ClientCalls.{IsLive, LiveChannel, StandsAs}
-use Rattle.ca_model_world.specs.World.{Joined}
+use Rattle.ca_model.specs.World.{Joined}
 use Rattle.ca_world_data.specs.declared.cancelling.Cancelling.{Cancelling}
 use Rattle.ca_world_data.specs.declared.way.Way.{Way}
 use Rattle.ca_world_data.specs.Clears.{ClearsAs, IsClearWay}

@@ -7,8 +7,8 @@ use Rattle.ca_text.specs.Place.{At}
 use Rattle.ca_text.proofs.Places.{At-map, some_is}
 use Rattle.ca_model.specs.History.{Entry}
 use Rattle.ca_model.specs.History as history
-use Rattle.ca_model_world.specs.ServerEvents.{withdrawals, without_puts}
-use Rattle.ca_model_world.specs.World as model
+use Rattle.ca_model.specs.ServerEvents.{withdrawals, without_puts}
+use Rattle.ca_model.specs.World as model
 use Rattle.ca_world_data.specs.declared.server.PutPlace.{PutPlace}
 use Rattle.ca_world_data.specs.declared.server.RecordSide.{RecordSide}
 use Rattle.ca_world_data.specs.Seen.{place_of, record_of}

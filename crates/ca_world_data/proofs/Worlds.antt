@@ -6,7 +6,7 @@ use Rattle.std.proofs.lemmas.Option.{slice_get-get_or}
 use Rattle.ca_text.specs.Place.{At}
 use Rattle.ca_text.proofs.Places.{At-map, At-mapped, At-one, At-within, some_is}
 use Rattle.ca_model.specs.History.{Entry, Line}
-use Rattle.ca_model_world.specs.World as model
+use Rattle.ca_model.specs.World as model
 use Rattle.ca_world_data.specs.declared.client.ClientSide.{ClientSide}
 use Rattle.ca_world_data.specs.declared.ends.Ends.{Ends}
 use Rattle.ca_world_data.specs.declared.joined.Joined.{Joined}

@@ -14,9 +14,9 @@ use Rattle.ca_model.specs.ClientEnds.{ClientConnects}
 use Rattle.ca_model.specs.Ends.{Address, same_address}
 use Rattle.ca_model.specs.History as history
 use Rattle.ca_model.specs.ServerSteps.{Accepts}
-use Rattle.ca_model_world.specs.ClientEvents.{connected_as, lines_of, new_circuit, place_of, told_by}
-use Rattle.ca_model_world.specs.World.{grown}
-use Rattle.ca_model_world.specs.World as model
+use Rattle.ca_model.specs.ClientEvents.{connected_as, lines_of, new_circuit, place_of, told_by}
+use Rattle.ca_model.specs.World.{grown}
+use Rattle.ca_model.specs.World as model
 use Rattle.ca_world_data.specs.declared.client.ClientSide.{ClientSide}
 use Rattle.ca_world_data.specs.declared.history.Line.{Line}
 use Rattle.ca_world_data.specs.declared.joined.Joined.{Joined}

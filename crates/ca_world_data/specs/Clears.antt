@@ -10,7 +10,7 @@ use Rattle.ca_model.specs.Client.{Client, Live, On, Standing, disconnections, st
 use Rattle.ca_model.specs.ClientCalls.{ClientClears}
 use Rattle.ca_model.specs.History.{Called, Line}
 use Rattle.ca_model.specs.History as history
-use Rattle.ca_model_world.specs.World.{ClientSide, Joined}
+use Rattle.ca_model.specs.World.{ClientSide, Joined}
 use Rattle.ca_world_data.specs.declared.client.ClientSide as real
 use Rattle.ca_world_data.specs.declared.history.Line.{Line as Written}
 use Rattle.ca_world_data.specs.declared.joined.Joined.{Joined as Opened}

@@ -5,8 +5,8 @@ use Rattle.ca_text.specs.declared.refusal.Refusal.TheVariants.{OutOfMemory}
 use Rattle.ca_model.specs.Answers.{Closing, Sending}
 use Rattle.ca_model.specs.ClientEnds.{ClientCuts}
 use Rattle.ca_model.specs.History.{Line, OfCircuit}
-use Rattle.ca_model_world.specs.ClientEvents.{client_closed, lines_of}
-use Rattle.ca_model_world.specs.World.{ClientSide, Joined, grown}
+use Rattle.ca_model.specs.ClientEvents.{client_closed, lines_of}
+use Rattle.ca_model.specs.World.{ClientSide, Joined, grown}
 
 -- The end at the client of a circuit is cut: it leaves what waited, and what it told is in the log.
 abbrev pub CutsClient : ClientSide → Joined → List (List Line) → Result (Unit {0}) Refusal → ClientSide → Joined → List (List Line) → Type 0

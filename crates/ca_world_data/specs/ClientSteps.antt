@@ -12,8 +12,8 @@ use Rattle.ca_model.specs.Answers as answer
 use Rattle.ca_model.specs.Client.{Client}
 use Rattle.ca_model.specs.ClientEnds.{ClientSteps}
 use Rattle.ca_model.specs.History.{Line, OfCircuit, Step}
-use Rattle.ca_model_world.specs.ClientEvents.{about_at, client_closed, heard_in, lines_of}
-use Rattle.ca_model_world.specs.World.{ClientSide, Joined, grown, log_length}
+use Rattle.ca_model.specs.ClientEvents.{about_at, client_closed, heard_in, lines_of}
+use Rattle.ca_model.specs.World.{ClientSide, Joined, grown, log_length}
 use Rattle.ca_world_data.specs.declared.client.ClientSide as real
 use Rattle.ca_world_data.specs.declared.history.Intent.{Intent}
 use Rattle.ca_world_data.specs.declared.history.Line.{Line as Written}

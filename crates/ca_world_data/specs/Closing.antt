@@ -4,9 +4,9 @@ use Rattle.ca_ids.specs.Table.{under}
 use Rattle.ca_model.specs.Client.{Client, out_bytes}
 use Rattle.ca_model.specs.Server.{Server}
 use Rattle.ca_model.specs.ServerSteps.{output_of}
-use Rattle.ca_model_world.specs.ClientEvents.{client_closed}
-use Rattle.ca_model_world.specs.ServerEvents.{server_closed}
-use Rattle.ca_model_world.specs.World.{Joined}
+use Rattle.ca_model.specs.ClientEvents.{client_closed}
+use Rattle.ca_model.specs.ServerEvents.{server_closed}
+use Rattle.ca_model.specs.World.{Joined}
 
 -- what the open end of a circuit at client i leaves, or at server i
 abbrev pub client_left : (i : ℕ) → Client → Joined → List ℕ

@@ -2,9 +2,9 @@
 use Rattle.std.specs.Prelude.{◌≡◌, Result, Ok, Err}
 use Rattle.ca_text.specs.declared.refusal.Refusal.{Refusal}
 use Rattle.ca_text.specs.declared.refusal.Refusal.TheVariants.{BadEvent, OutOfMemory}
-use Rattle.ca_model_world.specs.Events.{Event}
-use Rattle.ca_model_world.specs.Runs.{CanBe, Happens}
-use Rattle.ca_model_world.specs.World.{World}
+use Rattle.ca_model.specs.Events.{Event}
+use Rattle.ca_model.specs.Runs.{CanBe, Happens}
+use Rattle.ca_model.specs.World.{World}
 
 -- From old the event happened and left new; or there was no memory for it, though it can be done; or it cannot be done. A refusal
 -- changes nothing.

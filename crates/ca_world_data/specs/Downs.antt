@@ -11,7 +11,7 @@ use Rattle.ca_model.specs.Answers.{Sending}
 use Rattle.ca_model.specs.ClientEnds.{ClientGives}
 use Rattle.ca_model.specs.History.{OfCircuit, Sent}
 use Rattle.ca_model.specs.ServerSteps.{Sends, output_of}
-use Rattle.ca_model_world.specs.World as model
+use Rattle.ca_model.specs.World as model
 use Rattle.ca_world_data.specs.declared.client.ClientSide.{ClientSide}
 use Rattle.ca_world_data.specs.declared.joined.Joined.{Joined}
 use Rattle.ca_world_data.specs.declared.server.ServerSide.{ServerSide}

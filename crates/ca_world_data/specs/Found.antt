@@ -2,7 +2,7 @@
 use Rattle.std.specs.Prelude.{ℕ, ◌≡◌, true, List}
 use Rattle.ca_arena.specs.declared.handle.Handle.{Handle}
 use Rattle.ca_text.specs.Place.{At}
-use Rattle.ca_model_world.specs.World.{Joined}
+use Rattle.ca_model.specs.World.{Joined}
 
 -- by the index of its handle the client has the number of each circuit that is open at its end
 abbrev pub AreNumbered : List ℕ → List Joined → (client : ℕ) → Type 0

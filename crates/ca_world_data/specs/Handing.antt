@@ -7,8 +7,8 @@ use Rattle.ca_text.specs.declared.refusal.Refusal.{Refusal}
 use Rattle.ca_text.specs.declared.refusal.Refusal.TheVariants.{BadEvent, OutOfMemory}
 use Rattle.ca_text.specs.Place.{At}
 use Rattle.ca_model.specs.History as history
-use Rattle.ca_model_world.specs.ClientEvents.{HandsOut}
-use Rattle.ca_model_world.specs.World.{ClientSide, grown}
+use Rattle.ca_model.specs.ClientEvents.{HandsOut}
+use Rattle.ca_model.specs.World.{ClientSide, grown}
 use Rattle.ca_world_data.specs.declared.client.ClientSide as real
 use Rattle.ca_world_data.specs.declared.history.Intent.{Intent}
 use Rattle.ca_world_data.specs.declared.history.Line.{Line}

@@ -4,7 +4,7 @@ use Rattle.ca_text.specs.declared.refusal.Refusal.{Refusal}
 use Rattle.ca_text.specs.declared.refusal.Refusal.TheVariants.{OutOfMemory}
 use Rattle.ca_model.specs.Answers.{Sending}
 use Rattle.ca_model.specs.ClientEnds.{Arrival, ClientReceives}
-use Rattle.ca_model_world.specs.World.{ClientSide, Joined}
+use Rattle.ca_model.specs.World.{ClientSide, Joined}
 use Rattle.ca_world_data.specs.Speaking.{sent_up}
 
 -- Client i took the datagram, and what it sent went up its circuits; or it had no memory for it, and nothing is changed.

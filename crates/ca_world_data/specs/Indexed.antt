@@ -2,7 +2,7 @@
 use Rattle.std.specs.Prelude.{ℕ, ◌≡◌, true, List, map}
 use Rattle.ca_arena.specs.declared.handle.Handle.{Handle}
 use Rattle.ca_text.specs.Place.{At}
-use Rattle.ca_model_world.specs.World.{Joined}
+use Rattle.ca_model.specs.World.{Joined}
 use Rattle.ca_world_data.specs.declared.client.ClientSide.{ClientSide}
 use Rattle.ca_world_data.specs.declared.server.ServerSide.{ServerSide}
 

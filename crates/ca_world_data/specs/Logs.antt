@@ -5,7 +5,7 @@ use Rattle.ca_text.specs.declared.refusal.Refusal.{Refusal}
 use Rattle.ca_text.specs.declared.refusal.Refusal.TheVariants.{OutOfMemory}
 use Rattle.ca_text.specs.Place.{At}
 use Rattle.ca_model.specs.History as history
-use Rattle.ca_model_world.specs.World.{grown}
+use Rattle.ca_model.specs.World.{grown}
 use Rattle.ca_world_data.specs.declared.history.Line.{Line}
 use Rattle.ca_world_data.specs.Seen.{line_of}
 

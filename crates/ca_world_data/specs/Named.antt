@@ -3,8 +3,8 @@ use Rattle.std.specs.Prelude.{ℕ, ◌≡◌, List}
 use Rattle.ca_arena.specs.declared.handle.Handle.{Handle}
 use Rattle.ca_model.specs.History.{Intent}
 use Rattle.ca_text.specs.Place.{At}
-use Rattle.ca_model_world.specs.ClientEvents.{meant_by}
-use Rattle.ca_model_world.specs.World.{ClientSide, Names}
+use Rattle.ca_model.specs.ClientEvents.{meant_by}
+use Rattle.ca_model.specs.World.{ClientSide, Names}
 
 -- each handle means what stands beside it, so that none is named twice with another intent
 abbrev pub MeanTheirs : List (Handle × Intent) → Type 0

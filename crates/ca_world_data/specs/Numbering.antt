@@ -7,7 +7,7 @@ use Rattle.ca_queue.specs.Queue.{Queue, posted}
 use Rattle.ca_text.specs.Place.{At}
 use Rattle.ca_model.specs.History.{Cause, Update}
 use Rattle.ca_model.specs.Server.{Open, Server, ServerCircuit, ServerEnd, concerns, key_of}
-use Rattle.ca_model_world.specs.World.{Joined, Standing}
+use Rattle.ca_model.specs.World.{Joined, Standing}
 use Rattle.ca_world_data.specs.declared.history.Cause.{Cause as Written}
 use Rattle.ca_world_data.specs.declared.joined.Joined.{Joined as Opened}
 use Rattle.ca_world_data.specs.declared.joined.Standing.{Standing as Kept}

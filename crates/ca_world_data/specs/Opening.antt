@@ -3,7 +3,7 @@ use Rattle.std.specs.Prelude.{◌≡◌, ◌++◌, List, [], ◌∷◌, Vec, len
 use Rattle.std.specs.declared.alloc.Global.{Global}
 use Rattle.ca_model.specs.Ends.{Address}
 use Rattle.ca_model.specs.History as history
-use Rattle.ca_model_world.specs.World.{ClientSetting, ServerSetting, client_begun, log_begun, numbered, server_begun}
+use Rattle.ca_model.specs.World.{ClientSetting, ServerSetting, client_begun, log_begun, numbered, server_begun}
 use Rattle.ca_world_data.specs.declared.client.ClientSide.{ClientSide}
 use Rattle.ca_world_data.specs.declared.history.Entry.{Entry}
 use Rattle.ca_world_data.specs.declared.history.Line.{Line}

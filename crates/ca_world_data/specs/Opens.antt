@@ -6,7 +6,7 @@ use Rattle.ca_text.specs.declared.refusal.Refusal.TheVariants.{OutOfMemory}
 use Rattle.ca_model.specs.ClientCalls.{ClientOpens, Opening}
 use Rattle.ca_model.specs.History.{Line}
 use Rattle.ca_model.specs.History as history
-use Rattle.ca_model_world.specs.World.{ClientSide, grown}
+use Rattle.ca_model.specs.World.{ClientSide, grown}
 
 -- refused, and that is in the log
 pub record OpenRefused (a : Opening) (x : ClientSide) (logs : List (List Line)) (x' : ClientSide) (logs' : List (List Line)) : Type 0 where

@@ -7,8 +7,8 @@ use Rattle.ca_model.specs.History.{Entry}
 use Rattle.ca_model.specs.Server.{Server}
 use Rattle.ca_model.specs.ServerCalls.{Posts}
 use Rattle.ca_model.specs.Speech.{Stored}
-use Rattle.ca_model_world.specs.ServerEvents.{numbers_posted, posted_entry}
-use Rattle.ca_model_world.specs.World.{Joined, grown}
+use Rattle.ca_model.specs.ServerEvents.{numbers_posted, posted_entry}
+use Rattle.ca_model.specs.World.{Joined, grown}
 use Rattle.ca_world_data.specs.declared.server.ServerSide.{ServerSide}
 use Rattle.ca_world_data.specs.Reporting.{Reports}
 use Rattle.ca_world_data.specs.Seen.{server_of}

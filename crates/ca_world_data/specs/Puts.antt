@@ -7,8 +7,8 @@ use Rattle.ca_text.specs.Place.{At}
 use Rattle.ca_model.specs.ClientCalls.{ClientPuts, ClientWrites}
 use Rattle.ca_model.specs.History.{Called, Intent, Line, On, Request}
 use Rattle.ca_model.specs.History as history
-use Rattle.ca_model_world.specs.ClientEvents.{channel_number, with_request}
-use Rattle.ca_model_world.specs.World.{ClientSide, Joined, Names}
+use Rattle.ca_model.specs.ClientEvents.{channel_number, with_request}
+use Rattle.ca_model.specs.World.{ClientSide, Joined, Names}
 use Rattle.ca_world_data.specs.Speaking.{CallsOn}
 
 -- ---- with notification

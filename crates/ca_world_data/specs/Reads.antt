@@ -6,8 +6,8 @@ use Rattle.ca_text.specs.Place.{At}
 use Rattle.ca_model.specs.ClientCalls.{ClientReads, Shape}
 use Rattle.ca_model.specs.History.{Called, Line, On, Request}
 use Rattle.ca_model.specs.History as history
-use Rattle.ca_model_world.specs.ClientEvents.{with_request}
-use Rattle.ca_model_world.specs.World.{ClientSide, Joined, Names}
+use Rattle.ca_model.specs.ClientEvents.{with_request}
+use Rattle.ca_model.specs.World.{ClientSide, Joined, Names}
 use Rattle.ca_world_data.specs.Speaking.{CallsOn}
 
 -- the names with a read more on this channel

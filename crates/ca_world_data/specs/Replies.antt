@@ -3,7 +3,7 @@ use Rattle.std.specs.Prelude.{ℕ, ◌≡◌, ◌++◌, List, length}
 use Rattle.ca_wire.specs.Fields.{Fields}
 use Rattle.ca_wire.specs.Message.{spelled}
 use Rattle.ca_model.specs.History.{Reply, Told}
-use Rattle.ca_model_world.specs.ServerEvents.{about}
+use Rattle.ca_model.specs.ServerEvents.{about}
 use Rattle.ca_world_data.specs.Updates.{AreGood}
 
 -- These are the messages that the bytes are, as replies about the client's message at this place.

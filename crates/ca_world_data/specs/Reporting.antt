@@ -6,8 +6,8 @@ use Rattle.ca_text.specs.Place.{At}
 use Rattle.ca_model.specs.History as history
 use Rattle.ca_model.specs.Server.{Server}
 use Rattle.ca_model.specs.ServerSteps.{without_puts_of}
-use Rattle.ca_model_world.specs.ServerEvents.{ending, ends_at, ends_by, left_by, reported, server_closed, withdrawals, without_puts}
-use Rattle.ca_model_world.specs.World.{Joined, grown}
+use Rattle.ca_model.specs.ServerEvents.{ending, ends_at, ends_by, left_by, reported, server_closed, withdrawals, without_puts}
+use Rattle.ca_model.specs.World.{Joined, grown}
 use Rattle.ca_world_data.specs.declared.server.PutPlace.{PutPlace}
 use Rattle.ca_world_data.specs.declared.server.RecordSide.{RecordSide}
 use Rattle.ca_world_data.specs.declared.server.ServerSide.{ServerSide}

@@ -6,7 +6,7 @@ use Rattle.ca_text.specs.declared.refusal.Refusal.TheVariants.{OutOfMemory}
 use Rattle.ca_model.specs.Ends.{Address}
 use Rattle.ca_model.specs.History as history
 use Rattle.ca_model.specs.Server.{Server, new_server}
-use Rattle.ca_model_world.specs.World.{RecordSide, ServerSetting, client_begun, log_begun, numbered, record_begun, server_begun}
+use Rattle.ca_model.specs.World.{RecordSide, ServerSetting, client_begun, log_begun, numbered, record_begun, server_begun}
 use Rattle.ca_world_data.specs.declared.client.ClientSide.{ClientSide}
 use Rattle.ca_world_data.specs.declared.history.Entry.{Entry}
 use Rattle.ca_world_data.specs.declared.history.Line.{Line}

@@ -7,7 +7,7 @@ use Rattle.ca_queue.specs.Queue.{Queue}
 use Rattle.ca_records.specs.Record.{RecordState}
 use Rattle.ca_model.specs.History as history
 use Rattle.ca_model.specs.Speech as speech
-use Rattle.ca_model_world.specs.World as model
+use Rattle.ca_model.specs.World as model
 use Rattle.ca_world_data.specs.declared.client.ClientSide.{ClientSide}
 use Rattle.ca_world_data.specs.declared.client.Names.{Names}
 use Rattle.ca_world_data.specs.declared.history.Ask.{Ask}

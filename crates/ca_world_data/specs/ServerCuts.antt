@@ -11,8 +11,8 @@ use Rattle.ca_model.specs.History as history
 use Rattle.ca_model.specs.Server.{Server, ServerEnd}
 use Rattle.ca_model.specs.ServerSteps.{HasEnd, Stepped, closed, ended, output_of}
 use Rattle.ca_model.specs.ServerSteps as steps
-use Rattle.ca_model_world.specs.ServerEvents.{server_closed, without_puts}
-use Rattle.ca_model_world.specs.World.{grown}
+use Rattle.ca_model.specs.ServerEvents.{server_closed, without_puts}
+use Rattle.ca_model.specs.World.{grown}
 use Rattle.ca_world_data.specs.declared.history.Entry.{Entry}
 use Rattle.ca_world_data.specs.declared.joined.Joined.{Joined}
 use Rattle.ca_world_data.specs.declared.server.ServerSide.{ServerSide}

@@ -11,7 +11,7 @@ use Rattle.ca_text.specs.Limits.{arena_slots}
 use Rattle.ca_text.specs.Place.{At}
 use Rattle.ca_model.specs.ClientEnds.{distinct}
 use Rattle.ca_model.specs.Ends.{Address, NamesFit, same_address}
-use Rattle.ca_model_world.specs.World.{ClientSetting, ServerSetting, Setting}
+use Rattle.ca_model.specs.World.{ClientSetting, ServerSetting, Setting}
 use Rattle.ca_world_data.specs.declared.settings.RuleSetting.{RuleSetting}
 
 -- names fit into a message, and name servers into a table

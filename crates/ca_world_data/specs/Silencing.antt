@@ -3,8 +3,8 @@ use Rattle.std.specs.Prelude.{ℕ, ◌≡◌, ◌==◌, ◌&&◌, List, Option, 
 use Rattle.ca_ids.specs.Table.{same_handle}
 use Rattle.ca_text.specs.Place.{At}
 use Rattle.ca_model.specs.Answers.{Left}
-use Rattle.ca_model_world.specs.ClientEvents.{client_closed}
-use Rattle.ca_model_world.specs.World.{Joined}
+use Rattle.ca_model.specs.ClientEvents.{client_closed}
+use Rattle.ca_model.specs.World.{Joined}
 
 -- the circuit, whose open end at client i has ended, if it is the one that left this
 abbrev pub silenced : (i : ℕ) → Left → Joined → Joined

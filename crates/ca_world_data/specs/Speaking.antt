@@ -9,8 +9,8 @@ use Rattle.ca_model.specs.Answers.{Sending}
 use Rattle.ca_model.specs.Client.{Client}
 use Rattle.ca_model.specs.ClientCalls.{IsLive, LiveChannel}
 use Rattle.ca_model.specs.History as history
-use Rattle.ca_model_world.specs.ClientEvents.{intent_of, sent_on}
-use Rattle.ca_model_world.specs.World.{ClientSide, Joined, Names, grown}
+use Rattle.ca_model.specs.ClientEvents.{intent_of, sent_on}
+use Rattle.ca_model.specs.World.{ClientSide, Joined, Names, grown}
 use Rattle.ca_world_data.specs.declared.client.ClientSide as real
 use Rattle.ca_world_data.specs.declared.history.Line.{Line}
 use Rattle.ca_world_data.specs.declared.joined.Joined.{Joined as Opened}

@@ -6,7 +6,7 @@ use Rattle.ca_text.specs.Place.{At}
 use Rattle.ca_model.specs.ClientCalls.{ClientSubscribes, Shape}
 use Rattle.ca_model.specs.History.{Called, Intent, Line, On}
 use Rattle.ca_model.specs.History as history
-use Rattle.ca_model_world.specs.World.{ClientSide, Joined, Names}
+use Rattle.ca_model.specs.World.{ClientSide, Joined, Names}
 use Rattle.ca_world_data.specs.Speaking.{CallsOn}
 
 -- what is meant by the next subscription to this channel

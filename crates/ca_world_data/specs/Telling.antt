@@ -3,8 +3,8 @@ use Rattle.std.specs.Prelude.{ℕ, ◌∷◌, List}
 use Rattle.ca_model.specs.Answers.{Notice}
 use Rattle.ca_model.specs.History.{Intent, Line, OfCircuit, On}
 use Rattle.ca_model.specs.History as history
-use Rattle.ca_model_world.specs.ClientEvents.{lines_of}
-use Rattle.ca_model_world.specs.World.{Names}
+use Rattle.ca_model.specs.ClientEvents.{lines_of}
+use Rattle.ca_model.specs.World.{Names}
 
 -- that the channel of this number was to be created
 abbrev pub created_as : ℕ → Intent

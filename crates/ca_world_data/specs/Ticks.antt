@@ -5,8 +5,8 @@ use Rattle.ca_text.specs.declared.refusal.Refusal.TheVariants.{OutOfMemory}
 use Rattle.ca_model.specs.Answers.{Sending, Ticked}
 use Rattle.ca_model.specs.ClientEnds.{ClientTicks, circuits_ticked}
 use Rattle.ca_model.specs.History.{Line, OfCircuit}
-use Rattle.ca_model_world.specs.ClientEvents.{after_tick, lines_of}
-use Rattle.ca_model_world.specs.World.{ClientSide, Joined, grown}
+use Rattle.ca_model.specs.ClientEvents.{after_tick, lines_of}
+use Rattle.ca_model.specs.World.{ClientSide, Joined, grown}
 use Rattle.ca_world_data.specs.Speaking.{sent_up}
 
 -- The moment was handed to client i: what it sent went up its circuits, and ends that fell silent have ended; or it had no memory for it.

@@ -9,8 +9,8 @@ use Rattle.ca_text.specs.Place.{At}
 use Rattle.ca_model.specs.Client.{Client, Live, On, Standing, standing_at}
 use Rattle.ca_model.specs.ClientCalls.{ClientUnsubscribes, StandsAs, wanted_by}
 use Rattle.ca_model.specs.History.{Called, Intent, Line}
-use Rattle.ca_model_world.specs.ClientEvents.{cancelled}
-use Rattle.ca_model_world.specs.World.{ClientSide, Joined}
+use Rattle.ca_model.specs.ClientEvents.{cancelled}
+use Rattle.ca_model.specs.World.{ClientSide, Joined}
 use Rattle.ca_world_data.specs.declared.cancelling.Cancelling.{Cancelling}
 use Rattle.ca_world_data.specs.declared.client.ClientSide as real
 use Rattle.ca_world_data.specs.declared.history.Intent.{Intent as Meant}

@@ -9,7 +9,7 @@ use Rattle.ca_text.specs.Place.{At}
 use Rattle.ca_wire.specs.Fields.{Fields}
 use Rattle.ca_wire.specs.Message.{IsMessage, spelled, spelling}
 use Rattle.ca_model.specs.History.{Cause}
-use Rattle.ca_model_world.specs.World.{Joined}
+use Rattle.ca_model.specs.World.{Joined}
 
 -- ---- bytes
 

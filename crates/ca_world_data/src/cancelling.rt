@@ -1,6 +1,6 @@
 //! Where an EVENT_CANCEL goes, with room for what a call leaves in the histories.
 ghost use Rattle.std.specs.Prelude.{◌≡◌, MatchResult, map};
-ghost use Rattle.ca_model_world.specs.ClientEvents as world;
+ghost use Rattle.ca_model.specs.ClientEvents as world;
 ghost use Rattle.ca_world_data.specs.Found.{AreNumbered};
 ghost use Rattle.ca_world_data.specs.Logs.{lines_in};
 ghost use Rattle.ca_world_data.specs.Seen.{intent_of, joined_of};

@@ -1,7 +1,7 @@
 //! Ends that end with bytes left.
 ghost use Rattle.std.specs.Prelude.{◌≡◌, map};
-ghost use Rattle.ca_model_world.specs.ClientEvents.{client_closed};
-ghost use Rattle.ca_model_world.specs.ServerEvents.{server_closed};
+ghost use Rattle.ca_model.specs.ClientEvents.{client_closed};
+ghost use Rattle.ca_model.specs.ServerEvents.{server_closed};
 ghost use Rattle.ca_world_data.specs.Closing.{client_over, server_over, with_lefts};
 ghost use Rattle.ca_world_data.specs.Seen.{joined_of};
 

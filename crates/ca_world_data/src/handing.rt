@@ -1,7 +1,7 @@
 //! What became of a request, as a client's log tells it, for whoever collects it.
 ghost use Rattle.std.specs.Prelude.{◌≡◌, MatchResult, map};
 ghost use Rattle.std.specs.List.{list_any};
-ghost use Rattle.ca_model_world.specs.ClientEvents.{HandsOut, hands_out};
+ghost use Rattle.ca_model.specs.ClientEvents.{HandsOut, hands_out};
 ghost use Rattle.ca_world_data.specs.Handing.{IfSame, IsReadyToHand, IsUnasked, Tells, ToldAt, log_of};
 ghost use Rattle.ca_world_data.specs.Logs.{lines_in};
 ghost use Rattle.ca_world_data.specs.Seen.{intent_of, line_of};

@@ -1,6 +1,6 @@
 //! The logs of all lives, by life. A life without a log has none that grows.
 ghost use Rattle.std.specs.Prelude.{◌≡◌, [], ◌∷◌, OnOk};
-ghost use Rattle.ca_model_world.specs.World.{grown};
+ghost use Rattle.ca_model.specs.World.{grown};
 ghost use Rattle.ca_world_data.specs.Logs.{HasRoom, Notes, lines_in};
 ghost use Rattle.ca_world_data.specs.Seen.{line_of};
 

@@ -2,7 +2,7 @@
 ghost use Rattle.std.specs.Prelude.{◌≡◌, map};
 ghost use Rattle.ca_client_core.specs.Notices.{notice_of};
 ghost use Rattle.ca_ids.specs.Table.{same_handle};
-ghost use Rattle.ca_model_world.specs.ClientEvents as world;
+ghost use Rattle.ca_model.specs.ClientEvents as world;
 ghost use Rattle.ca_world_data.specs.Seen.{intent_of, line_of, named_of, names_of};
 ghost use Rattle.ca_world_data.specs.Telling.{created_as};
 

@@ -1,5 +1,5 @@
 ghost use Rattle.std.specs.Prelude.{◌≡◌, [], IfOk, OnOk, length, map, option_map};
-ghost use Rattle.ca_model_world.specs.World.{addresses, client_begun, no_names, numbered, record_begun, server_begun};
+ghost use Rattle.ca_model.specs.World.{addresses, client_begun, no_names, numbered, record_begun, server_begun};
 ghost use Rattle.ca_model.specs.ClientEnds.{new_client};
 ghost use Rattle.ca_model.specs.History.{Added};
 ghost use Rattle.ca_model.specs.Server.{new_server};

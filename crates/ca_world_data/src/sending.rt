@@ -2,7 +2,7 @@
 ghost use Rattle.std.specs.Prelude.{◌≡◌, ◌+◌, ◌≤◌, OnOk, map, vec_capacity, vec_len};
 ghost use Rattle.ca_client_core.specs.ForHistories.{aim_of, sending_of};
 ghost use Rattle.ca_ids.specs.Table.{same_handle};
-ghost use Rattle.ca_model_world.specs.ClientEvents as world;
+ghost use Rattle.ca_model.specs.ClientEvents as world;
 ghost use Rattle.ca_world_data.specs.Found.{AreNumbered};
 ghost use Rattle.ca_world_data.specs.Seen.{intent_of, joined_of, names_of, sent_of};
 ghost use Rattle.ca_world_data.specs.Sends.{

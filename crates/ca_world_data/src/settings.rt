@@ -18,7 +18,7 @@ pub struct ClientSetting {
 }
 
 impl Model for ClientSetting {
-    ghost use Rattle.ca_model_world.specs.World as world;
+    ghost use Rattle.ca_model.specs.World as world;
 
     ghost Value = { world.ClientSetting };
 
@@ -54,7 +54,7 @@ pub struct ServerSetting {
 }
 
 impl Model for ServerSetting {
-    ghost use Rattle.ca_model_world.specs.World as world;
+    ghost use Rattle.ca_model.specs.World as world;
 
     ghost Value = { world.ServerSetting };
 

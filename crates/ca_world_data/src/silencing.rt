@@ -2,8 +2,8 @@
 ghost use Rattle.std.specs.Prelude.{◌≡◌, ◌+◌, ℕ, length, map};
 ghost use Rattle.ca_client_core.specs.Ticked.{left_of, lefts_of, notices_of};
 ghost use Rattle.ca_model.specs.History.{OfCircuit};
-ghost use Rattle.ca_model_world.specs.ClientEvents.{after_tick, lines_of};
-ghost use Rattle.ca_model_world.specs.World.{grown};
+ghost use Rattle.ca_model.specs.ClientEvents.{after_tick, lines_of};
+ghost use Rattle.ca_model.specs.World.{grown};
 ghost use Rattle.ca_world_data.specs.Found.{AreNumbered};
 ghost use Rattle.ca_world_data.specs.Logs.{HasRoom, lines_in};
 ghost use Rattle.ca_world_data.specs.Seen.{joined_of, names_of};

@@ -1,7 +1,7 @@
 //! What a client's core reports goes into the log of its life, in which there is room.
 ghost use Rattle.std.specs.Prelude.{◌≡◌, ◌++◌, ◌+◌, ◌≤◌, ℕ, length, map, vec_capacity, vec_len};
-ghost use Rattle.ca_model_world.specs.ClientEvents as world;
-ghost use Rattle.ca_model_world.specs.World.{grown};
+ghost use Rattle.ca_model.specs.ClientEvents as world;
+ghost use Rattle.ca_model.specs.World.{grown};
 ghost use Rattle.ca_world_data.specs.Logs.{HasRoom, lines_in};
 ghost use Rattle.ca_world_data.specs.Seen.{intent_of, line_of, names_of};
 ghost use Rattle.ca_world_data.specs.Telling.{call_lines};

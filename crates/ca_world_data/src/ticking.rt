@@ -3,8 +3,8 @@ ghost use Rattle.std.specs.Prelude.{◌≡◌, ◌≢◌, ◌+◌, ◌≤◌, []
 ghost use Rattle.ca_client_core.specs.ForHistories.{sending_of};
 ghost use Rattle.ca_client_core.specs.Ticked.{lefts_of, notices_of};
 ghost use Rattle.ca_model.specs.History.{OfCircuit};
-ghost use Rattle.ca_model_world.specs.ClientEvents.{after_tick, lines_of};
-ghost use Rattle.ca_model_world.specs.World.{grown};
+ghost use Rattle.ca_model.specs.ClientEvents.{after_tick, lines_of};
+ghost use Rattle.ca_model.specs.World.{grown};
 ghost use Rattle.ca_world_data.specs.Found.{AreNumbered};
 ghost use Rattle.ca_world_data.specs.Logs.{HasRoom, lines_in};
 ghost use Rattle.ca_world_data.specs.Seen.{client_of, joined_of, names_of};

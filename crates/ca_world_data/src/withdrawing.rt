@@ -1,6 +1,6 @@
 //! The puts that wait on a circuit whose end at its server ends.
 ghost use Rattle.std.specs.Prelude.{◌≡◌, ◌++◌, ◌==◌, IfOk, OnOk, filter, map, not};
-ghost use Rattle.ca_model_world.specs.ServerEvents.{without_puts};
+ghost use Rattle.ca_model.specs.ServerEvents.{without_puts};
 ghost use Rattle.ca_world_data.specs.Seen.{entry_of, record_of};
 ghost use Rattle.ca_world_data.specs.Withdrawing.{all_withdrawn, withdrawn_of};
 

@@ -6,7 +6,7 @@ use Rattle.ca_text.specs.declared.refusal.Refusal.{Refusal}
 use Rattle.ca_text.specs.declared.refusal.Refusal.TheVariants as refusal
 use Rattle.ca_model.specs.ClientEnds.{distinct}
 use Rattle.ca_model.specs.Ends.{Address, NamesFit, Peer}
-use Rattle.ca_model_world.specs.World.{ClientSetting}
+use Rattle.ca_model.specs.World.{ClientSetting}
 use Rattle.ca_script.specs.Grammar.{Refuses}
 use Rattle.ca_script.specs.Lines.{AreEach}
 use Rattle.ca_script.proofs.Refusals.{refuses-whole}

@@ -3,7 +3,7 @@ use Rattle.std.proofs.Common.{◌≡◌, ◌<◌, ℕ, Bool, true, false, List, 
 use Rattle.ca_text.specs.declared.refusal.Refusal.{Refusal}
 use Rattle.ca_text.specs.declared.refusal.Refusal.TheVariants.{BadText}
 use Rattle.ca_model.specs.Ends.{Address}
-use Rattle.ca_model_world.specs.Events.{Event}
+use Rattle.ca_model.specs.Events.{Event}
 use Rattle.ca_records.specs.Record.{RecordState}
 use Rattle.ca_script.specs.Events.{AreNumbers}
 use Rattle.ca_script.specs.Grammar.{IsNumber, Refuses}

@@ -4,7 +4,7 @@ use Rattle.std.specs.Prelude.{Result, IfErr, if◌then◌else◌, codes}
 use Rattle.std.specs.Str.{bytes_eq}
 use Rattle.ca_text.specs.declared.refusal.Refusal.{Refusal}
 use Rattle.ca_text.specs.declared.refusal.Refusal.TheVariants.{BadText}
-use Rattle.ca_model_world.specs.World.{ServerSetting}
+use Rattle.ca_model.specs.World.{ServerSetting}
 use Rattle.ca_events.specs.Events.{event_of}
 use Rattle.ca_script.specs.Grammar.{Refuses}
 use Rattle.ca_script.proofs.Alike.{behind-same}

@@ -14,7 +14,7 @@ use Rattle.ca_script.specs.Lines as lines
 use Rattle.ca_script.specs.Lines.{AreEach, SaysServer}
 use Rattle.ca_world_script.specs.Lines.{IsAddress}
 use Rattle.ca_world_script.specs.Types.{Added, HasType, IsRecorded}
-use Rattle.ca_model_world.specs.World.{ServerSetting}
+use Rattle.ca_model.specs.World.{ServerSetting}
 
 -- a word is one number at most
 pub one-number : (w v : List ℕ) (m n : ℕ) → w ≡ v → IsNumber w m → IsNumber v n → m ≡ n

@@ -5,14 +5,14 @@ use Rattle.ca_dbr.specs.Elements.{Elements, base_of}
 use Rattle.ca_dbr.specs.Types.{base_at, base_number}
 use Rattle.ca_dbr.specs.declared.data_type.BaseType.{BaseType}
 use Rattle.ca_dbr.specs.declared.data_type.BaseType.TheVariants as base
-use Rattle.ca_model_world.specs.Events.{Event}
-use Rattle.ca_model_world.specs.Events as event
+use Rattle.ca_model.specs.Events.{Event}
+use Rattle.ca_model.specs.Events as event
 use Rattle.ca_script.specs.Grammar.{IsNumber, Refuses}
 use Rattle.ca_script.specs.Lines.{AreElements}
 use Rattle.ca_script.proofs.Refusals.{refuses-whole}
 use Rattle.ca_world_script.specs.Events.{IsMask, SaysPost, SaysWritten}
 use Rattle.ca_world_script.specs.Types.{Added, HasType}
-use Rattle.ca_model_world.specs.World.{ServerSetting}
+use Rattle.ca_model.specs.World.{ServerSetting}
 use Rattle.ca_world_script.proofs.Same.{one-number}
 
 -- the word of a number

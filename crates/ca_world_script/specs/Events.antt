@@ -4,15 +4,15 @@ use Rattle.ca_text.specs.Mask.{HasEvent}
 use Rattle.ca_dbr.specs.Elements.{Elements, base_of}
 use Rattle.ca_dbr.specs.Types.{base_number}
 use Rattle.ca_model.specs.Ends.{Address}
-use Rattle.ca_model_world.specs.Events.{Event}
-use Rattle.ca_model_world.specs.Events as event
+use Rattle.ca_model.specs.Events.{Event}
+use Rattle.ca_model.specs.Events as event
 use Rattle.ca_records.specs.Record.{RecordState, unset}
 use Rattle.ca_script.specs.Events.{AreNumbers}
 use Rattle.ca_script.specs.Grammar.{IsNumber}
 use Rattle.ca_script.specs.Lines.{AreElements, IsHex, slow_word, type_word}
 use Rattle.ca_world_script.specs.Lines.{IsAddress}
 use Rattle.ca_world_script.specs.Types.{Added, HasType}
-use Rattle.ca_model_world.specs.World.{ServerSetting}
+use Rattle.ca_model.specs.World.{ServerSetting}
 use Rattle.ca_world_script.specs.declared.verb.Verb.{Verb}
 use Rattle.ca_world_script.specs.declared.verb.Verb.TheVariants as verb
 

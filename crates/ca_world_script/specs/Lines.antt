@@ -3,7 +3,7 @@ use Rattle.std.specs.Prelude.{ℕ, ◌≡◌, ◌<◌, ◌≤◌, List, ◌∷�
 use Rattle.ca_text.specs.Limits.{arena_slots}
 use Rattle.ca_model.specs.ClientEnds.{distinct}
 use Rattle.ca_model.specs.Ends.{Address, NamesFit}
-use Rattle.ca_model_world.specs.World.{ClientSetting}
+use Rattle.ca_model.specs.World.{ClientSetting}
 use Rattle.ca_script.specs.Grammar.{parted}
 use Rattle.ca_script.specs.Lines.{AreEach, SaysServer}
 

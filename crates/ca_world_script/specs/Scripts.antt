@@ -4,8 +4,8 @@ use Rattle.ca_dbr.specs.Elements.{base_of}
 use Rattle.ca_events.specs.Events.{event_of}
 use Rattle.ca_events.specs.declared.event.Event.{Event}
 use Rattle.ca_model.specs.Ends.{Address}
-use Rattle.ca_model_world.specs.Events as world
-use Rattle.ca_model_world.specs.World.{ClientSetting, ServerSetting}
+use Rattle.ca_model.specs.Events as world
+use Rattle.ca_model.specs.World.{ClientSetting, ServerSetting}
 use Rattle.ca_records.specs.Record.{RecordState}
 use Rattle.ca_text.specs.declared.refusal.Refusal.{Refusal}
 use Rattle.ca_text.specs.declared.refusal.Refusal.TheVariants.{BadText, OutOfMemory}

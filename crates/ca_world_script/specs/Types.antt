@@ -4,7 +4,7 @@ use Rattle.ca_dbr.specs.Elements.{base_of}
 use Rattle.ca_dbr.specs.declared.data_type.BaseType.{BaseType}
 use Rattle.ca_records.specs.Records.{Names}
 use Rattle.ca_text.specs.Place.{At}
-use Rattle.ca_model_world.specs.World.{ServerSetting}
+use Rattle.ca_model.specs.World.{ServerSetting}
 
 -- the type that the last `add` line names for a record of a server, if there is one
 abbrev pub Added : Type 0

@@ -2,7 +2,7 @@ ghost use Rattle.std.specs.Prelude.{◌≡◌, ◌<◌, ℕ, List, IfErr, IfOk, 
 ghost use Rattle.ca_text.specs.declared.refusal.Refusal.TheVariants.{BadText};
 ghost use Rattle.ca_dbr.specs.Elements.{Elements, elements};
 ghost use Rattle.ca_events.specs.Events.{event_of};
-ghost use Rattle.ca_model_world.specs.Events as event;
+ghost use Rattle.ca_model.specs.Events as event;
 ghost use Rattle.ca_script.specs.Grammar.{Refuses};
 ghost use Rattle.ca_world_script.specs.Events.{Says, SaysNamed, SaysOpen, SaysSubscribe, SaysWritten};
 

@@ -12,9 +12,9 @@ use Rattle.ca_text.proofs.Places.{At-mapped, some_is}
 use Rattle.ca_model.specs.History.{Entry}
 use Rattle.ca_model.specs.History as history
 use Rattle.ca_model.specs.Server.{Server}
-use Rattle.ca_model_world.specs.ServerEvents.{ending, ends_at, ends_by, left_by, reported, server_closed, withdrawals, without_puts}
-use Rattle.ca_model_world.specs.World.{Joined, grown}
-use Rattle.ca_model_world.specs.World as model
+use Rattle.ca_model.specs.ServerEvents.{ending, ends_at, ends_by, left_by, reported, server_closed, withdrawals, without_puts}
+use Rattle.ca_model.specs.World.{Joined, grown}
+use Rattle.ca_model.specs.World as model
 use Rattle.ca_world_data.specs.declared.history.Entry.{Entry as Written}
 use Rattle.ca_world_data.specs.declared.server.PutPlace.{PutPlace}
 use Rattle.ca_world_data.specs.declared.server.RecordSide.{RecordSide}

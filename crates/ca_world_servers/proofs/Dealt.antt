@@ -34,8 +34,8 @@ use Rattle.ca_model.specs.Faults.{subscribed_count, subscription_fault, too_many
 use Rattle.ca_model.specs.Server.{Server, ServerEnd, Subscription, key_of}
 use Rattle.ca_model.specs.ServerCalls.{waiting}
 use Rattle.ca_model.specs.ServerSteps.{Handles, HasEnd, LeftOf, Next, Reaches, Records, closed, is_write, known_record, knows}
-use Rattle.ca_model_world.specs.World.{Joined}
-use Rattle.ca_model_world.specs.World.{RecordSide}
+use Rattle.ca_model.specs.World.{Joined}
+use Rattle.ca_model.specs.World.{RecordSide}
 use Rattle.ca_world_data.specs.Numbering.{AreAlike, keys_on}
 use Rattle.ca_world_servers.specs.declared.coming.Coming.{Coming}
 use Rattle.ca_world_servers.specs.declared.parting.Parting.{Parting}

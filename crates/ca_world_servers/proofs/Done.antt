@@ -22,9 +22,9 @@ use Rattle.ca_model.specs.History.{Entry}
 use Rattle.ca_model.specs.History as history
 use Rattle.ca_model.specs.Server.{Server}
 use Rattle.ca_model.specs.ServerSteps.{knows, stored_now, write_mask}
-use Rattle.ca_model_world.specs.ServerEvents.{is_of_channel, logged_by, number_of, numbers_posted, places_where, records_after, with_record, write_numbers}
-use Rattle.ca_model_world.specs.World.{Joined, PutPlace, RecordSide, grown}
-use Rattle.ca_model_world.specs.World as model
+use Rattle.ca_model.specs.ServerEvents.{is_of_channel, logged_by, number_of, numbers_posted, places_where, records_after, with_record, write_numbers}
+use Rattle.ca_model.specs.World.{Joined, PutPlace, RecordSide, grown}
+use Rattle.ca_model.specs.World as model
 use Rattle.ca_world_data.specs.declared.history.Entry.{Entry as Written}
 use Rattle.ca_world_data.specs.declared.server.RecordSide.{RecordSide as Kept}
 use Rattle.ca_world_data.specs.declared.server.ServerSide.{ServerSide}

@@ -12,9 +12,9 @@ use Rattle.ca_text.specs.Limits.{queue_subscriptions}
 use Rattle.ca_text.specs.Place.{At}
 use Rattle.ca_text.proofs.Places.{At-map, some_is}
 use Rattle.ca_model.specs.History as history
-use Rattle.ca_model_world.specs.ClientEvents.{place_of}
-use Rattle.ca_model_world.specs.ServerEvents.{number_taken}
-use Rattle.ca_model_world.specs.World.{RecordSide}
+use Rattle.ca_model.specs.ClientEvents.{place_of}
+use Rattle.ca_model.specs.ServerEvents.{number_taken}
+use Rattle.ca_model.specs.World.{RecordSide}
 use Rattle.ca_world_data.specs.declared.history.Cause.{Cause}
 use Rattle.ca_world_data.specs.declared.history.Cause.TheVariants as cause
 use Rattle.ca_world_data.specs.Seen.{cause_of, queue_of}

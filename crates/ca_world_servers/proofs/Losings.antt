@@ -14,8 +14,8 @@ use Rattle.ca_text.specs.Place.{At}
 use Rattle.ca_text.proofs.Places.{At-map, At-set, At-snoc, At-within, some_is}
 use Rattle.ca_model.specs.History as history
 use Rattle.ca_model.specs.Speech.{In}
-use Rattle.ca_model_world.specs.ServerEvents as event
-use Rattle.ca_model_world.specs.World as model
+use Rattle.ca_model.specs.ServerEvents as event
+use Rattle.ca_model.specs.World as model
 use Rattle.ca_server_subscriptions.proofs.Sieves.{filter-on, steps-sieve, without-sieve}
 use Rattle.ca_world_data.specs.declared.history.Cause.{Cause}
 use Rattle.ca_world_data.specs.declared.joined.Joined.{Joined}

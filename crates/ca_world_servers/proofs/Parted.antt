@@ -11,8 +11,8 @@ use Rattle.ca_text.specs.Place.{At}
 use Rattle.ca_text.proofs.Places.{At-map, some_is}
 use Rattle.ca_model.specs.History.{Entry}
 use Rattle.ca_model.specs.Server.{Server}
-use Rattle.ca_model_world.specs.ServerEvents.{channel_withdrawals, is_of_channel, places_where, with_core, without_channel}
-use Rattle.ca_model_world.specs.World.{PutPlace, RecordSide}
+use Rattle.ca_model.specs.ServerEvents.{channel_withdrawals, is_of_channel, places_where, with_core, without_channel}
+use Rattle.ca_model.specs.World.{PutPlace, RecordSide}
 use Rattle.ca_server_core.specs.ForHistories.{put_in}
 use Rattle.ca_world_data.specs.declared.server.PutPlace.{PutPlace as Kept}
 use Rattle.ca_world_data.specs.declared.server.RecordSide.{RecordSide as Side}

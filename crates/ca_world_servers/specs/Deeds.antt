@@ -14,8 +14,8 @@ use Rattle.ca_model.specs.History as history
 use Rattle.ca_model.specs.Server.{Server, ServerEnd, key_of}
 use Rattle.ca_model.specs.ServerSteps.{HasEnd, knows, write_mask}
 use Rattle.ca_model.specs.Speech.{Stored}
-use Rattle.ca_model_world.specs.ServerEvents.{logged_by, number_of, numbers_posted, records_after, with_record, write_numbers}
-use Rattle.ca_model_world.specs.World.{Joined, PutPlace, RecordSide, grown}
+use Rattle.ca_model.specs.ServerEvents.{logged_by, number_of, numbers_posted, records_after, with_record, write_numbers}
+use Rattle.ca_model.specs.World.{Joined, PutPlace, RecordSide, grown}
 use Rattle.ca_world_data.specs.declared.server.RecordSide.{RecordSide as Kept}
 use Rattle.ca_world_data.specs.declared.server.ServerSide.{ServerSide}
 use Rattle.ca_world_data.specs.Seen.{entry_of, record_of, server_of}

@@ -4,8 +4,8 @@ use Rattle.ca_arena.specs.declared.handle.Handle.{Handle}
 use Rattle.ca_ids.specs.Table.{same_handle}
 use Rattle.ca_model.specs.History.{Entry}
 use Rattle.ca_model.specs.Server.{Server}
-use Rattle.ca_model_world.specs.ServerEvents.{ending, ends_at, ends_by, reported, server_closed, withdrawals, without_puts}
-use Rattle.ca_model_world.specs.World.{Joined, grown}
+use Rattle.ca_model.specs.ServerEvents.{ending, ends_at, ends_by, reported, server_closed, withdrawals, without_puts}
+use Rattle.ca_model.specs.World.{Joined, grown}
 use Rattle.ca_world_data.specs.declared.server.ServerSide.{ServerSide}
 use Rattle.ca_world_data.specs.Seen.{record_of, server_of}
 

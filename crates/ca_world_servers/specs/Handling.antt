@@ -6,8 +6,8 @@ use Rattle.ca_queue.specs.Queue.{Queue, switched}
 use Rattle.ca_text.specs.Limits.{queue_subscriptions}
 use Rattle.ca_text.specs.Place.{At}
 use Rattle.ca_model.specs.History.{Step, Told, Update}
-use Rattle.ca_model_world.specs.ServerEvents.{number_taken, without_standing}
-use Rattle.ca_model_world.specs.World.{Creation, Joined, PutPlace, RecordSide}
+use Rattle.ca_model.specs.ServerEvents.{number_taken, without_standing}
+use Rattle.ca_model.specs.World.{Creation, Joined, PutPlace, RecordSide}
 use Rattle.ca_world_data.specs.declared.history.Cause.{Cause as Written}
 use Rattle.ca_world_data.specs.declared.joined.Joined.{Joined as Opened}
 use Rattle.ca_world_data.specs.declared.server.RecordSide.{RecordSide as Kept}

@@ -11,8 +11,8 @@ use Rattle.ca_wire.specs.Messages.{disconnect}
 use Rattle.ca_model.specs.History.{Cause, Entry, Removal, Removed, Told, Withdrawn}
 use Rattle.ca_model.specs.Server.{Server}
 use Rattle.ca_model.specs.Speech.{In}
-use Rattle.ca_model_world.specs.ServerEvents.{created_at, without_standing}
-use Rattle.ca_model_world.specs.World.{Creation, Joined}
+use Rattle.ca_model.specs.ServerEvents.{created_at, without_standing}
+use Rattle.ca_model.specs.World.{Creation, Joined}
 use Rattle.ca_server_core.specs.ForHistories.{bytes_under, channels_under}
 use Rattle.ca_world_data.specs.declared.joined.Joined.{Joined as Opened}
 use Rattle.ca_world_data.specs.declared.server.PutPlace.{PutPlace}

@@ -7,8 +7,8 @@ use Rattle.ca_records.specs.Puts.{Record, WaitingPut, record_named}
 use Rattle.ca_text.specs.Place.{At}
 use Rattle.ca_model.specs.History.{Entry, Withdrawn}
 use Rattle.ca_model.specs.Server.{Server}
-use Rattle.ca_model_world.specs.ServerEvents.{is_of_channel, places_where}
-use Rattle.ca_model_world.specs.World.{PutPlace, RecordSide}
+use Rattle.ca_model.specs.ServerEvents.{is_of_channel, places_where}
+use Rattle.ca_model.specs.World.{PutPlace, RecordSide}
 use Rattle.ca_world_data.specs.declared.server.PutPlace.{PutPlace as Kept}
 use Rattle.ca_world_data.specs.Seen.{place_of}
 

@@ -9,9 +9,9 @@ use Rattle.ca_text.specs.Place.{At}
 use Rattle.ca_model.specs.History.{Entry}
 use Rattle.ca_model.specs.Server.{Server}
 use Rattle.ca_model.specs.ServerCalls.{Removes}
-use Rattle.ca_model_world.specs.ServerEvents.{removal_entries, removed_at}
-use Rattle.ca_model_world.specs.World.{Joined, grown}
-use Rattle.ca_model_world.specs.World as model
+use Rattle.ca_model.specs.ServerEvents.{removal_entries, removed_at}
+use Rattle.ca_model.specs.World.{Joined, grown}
+use Rattle.ca_model.specs.World as model
 use Rattle.ca_world_data.specs.declared.joined.Joined.{Joined as Opened}
 use Rattle.ca_world_data.specs.declared.server.RecordSide.{RecordSide}
 use Rattle.ca_world_data.specs.declared.server.ServerSide.{ServerSide}

@@ -1,7 +1,7 @@
 //! What a message that a server handled did beside its replies, as far as a world has it.
 ghost use Rattle.std.specs.Prelude.{◌≡◌, Bool, List, [], ◌∷◌, OnErr, OnOk, map};
 ghost use Rattle.ca_model.specs.Due.{Action, Due, Knows, key_in};
-ghost use Rattle.ca_model_world.specs.ServerEvents.{numbers_after};
+ghost use Rattle.ca_model.specs.ServerEvents.{numbers_after};
 ghost use Rattle.ca_queue.specs.Circuit.{HasNone};
 ghost use Rattle.ca_queue.specs.declared.entry.SubKey as sub_key;
 ghost use Rattle.ca_wire.specs.Fields.{Fields};

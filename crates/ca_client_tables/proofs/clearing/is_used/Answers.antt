@@ -2,7 +2,7 @@ use Rattle.std.proofs.Common.{◌∙◌, ◌++◌, [], List, ap, arith, length, 
 use Rattle.ca_arena.specs.declared.handle.Handle.{Handle}
 use Rattle.ca_ids.specs.Table.{Table}
 use Rattle.ca_model.specs.Client.{Channel}
-use Rattle.ca_model_client.proofs.Letting.{listed-there}
+use Rattle.ca_model.proofs.Letting.{listed-there}
 use Rattle.ca_client_tables.specs.Ending.{is_any, gone, gone_at, named_at, named_in}
 use Rattle.ca_client_tables.proofs.Listing.{some-length}
 use Rattle.ca_client_tables.proofs.Ended.{named-more, under-at}

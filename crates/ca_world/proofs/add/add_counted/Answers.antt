@@ -3,8 +3,8 @@ use Rattle.ca_dbr.specs.Elements.{elements}
 use Rattle.ca_records.specs.Record.{RecordState, unset}
 use Rattle.ca_model.specs.History as entry
 use Rattle.ca_model.specs.Server.{Server}
-use Rattle.ca_model_world.specs.World.{grown, record_begun}
-use Rattle.ca_model_world.specs.World as model
+use Rattle.ca_model.specs.World.{grown, record_begun}
+use Rattle.ca_model.specs.World as model
 use Rattle.ca_world_data.specs.declared.server.RecordSide.{RecordSide}
 use Rattle.ca_world_data.specs.declared.server.ServerSide.{ServerSide}
 use Rattle.ca_world_data.specs.Opening.{entries_in}

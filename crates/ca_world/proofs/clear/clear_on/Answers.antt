@@ -6,8 +6,8 @@ use Rattle.ca_ids.specs.Wire.{wire_of}
 use Rattle.ca_wire.specs.Messages.{clear_request}
 use Rattle.ca_model.specs.History.{Line}
 use Rattle.ca_model.specs.History as history
-use Rattle.ca_model_world.specs.World.{Joined}
-use Rattle.ca_model_world.specs.World as model
+use Rattle.ca_model.specs.World.{Joined}
+use Rattle.ca_model.specs.World as model
 use Rattle.ca_world_data.specs.declared.client.ClientSide.{ClientSide}
 use Rattle.ca_world_data.specs.declared.way.Way.{Way}
 use Rattle.ca_world_data.specs.Logs.{lines_in}

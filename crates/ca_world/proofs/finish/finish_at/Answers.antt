@@ -5,8 +5,8 @@ use Rattle.ca_dbr.specs.Elements.{Elements, elements}
 use Rattle.ca_records.specs.declared.puts.Put.{Put}
 use Rattle.ca_text.proofs.Places.{At-map}
 use Rattle.ca_model.specs.History as history
-use Rattle.ca_model_world.specs.ServerEvents.{first_of}
-use Rattle.ca_model_world.specs.World as model
+use Rattle.ca_model.specs.ServerEvents.{first_of}
+use Rattle.ca_model.specs.World as model
 use Rattle.ca_world.specs.Finishing.{IsBeside, IsBusy, IsBusyOn, IsNext, TellsFinish}
 use Rattle.ca_world_data.specs.declared.history.Entry.{Entry}
 use Rattle.ca_world_data.specs.declared.joined.Joined.{Joined}

@@ -7,7 +7,7 @@ use Rattle.ca_text.specs.Place.{At}
 use Rattle.ca_text.proofs.Places.{At-map}
 use Rattle.ca_wire.specs.Fields.{Fields}
 use Rattle.ca_model.specs.History as history
-use Rattle.ca_model_world.specs.ServerEvents.{about}
+use Rattle.ca_model.specs.ServerEvents.{about}
 use Rattle.ca_server_core.specs.ForHistories.{bytes_under}
 use Rattle.ca_world.specs.Finishing.{AreBehind}
 use Rattle.ca_world_data.specs.declared.history.Told.{Told}

@@ -3,8 +3,8 @@ use Rattle.std.specs.Prelude.{is_some, option_map}
 use Rattle.std.specs.Vec.{with_items}
 use Rattle.std.proofs.lemmas.List.{with_items_is}
 use Rattle.ca_model.specs.History as history
-use Rattle.ca_model_world.specs.ServerEvents.{next_busy, with_record}
-use Rattle.ca_model_world.specs.World as model
+use Rattle.ca_model.specs.ServerEvents.{next_busy, with_record}
+use Rattle.ca_model.specs.World as model
 use Rattle.ca_world.specs.Finishing.{Finished, numbered}
 use Rattle.ca_world_data.specs.declared.server.RecordSide.{RecordSide}
 use Rattle.ca_world_data.specs.declared.server.ServerSide.{ServerSide}

@@ -3,7 +3,7 @@ use Rattle.std.proofs.lemmas.List.{append-nil}
 use Rattle.ca_ids.specs.Table.{under}
 use Rattle.ca_wire.specs.Fields.{Fields}
 use Rattle.ca_model.specs.History as history
-use Rattle.ca_model_world.specs.ServerEvents.{about}
+use Rattle.ca_model.specs.ServerEvents.{about}
 use Rattle.ca_server_core.specs.ForHistories.{bytes_under}
 use Rattle.ca_world_data.specs.Seen.{told_of}
 use Rattle.ca_world.proofs.Finishings.{none-behind}

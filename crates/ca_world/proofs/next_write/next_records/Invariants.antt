@@ -1,7 +1,7 @@
 use Rattle.std.proofs.Common.{◌≡◌, map}
 use Rattle.std.specs.Prelude.{if◌then◌else◌}
 use Rattle.std.specs.Str.{bytes_eq}
-use Rattle.ca_model_world.specs.ServerEvents.{next_busy, with_record}
+use Rattle.ca_model.specs.ServerEvents.{next_busy, with_record}
 use Rattle.ca_world_data.specs.Seen.{record_of}
 use Rattle.ca_world_data.proofs.Gone.{map_from}
 use Rattle.ca_world.proofs.next_write.next_records.Given as goal

@@ -2,9 +2,9 @@ use Rattle.std.proofs.Common.{◌≡◌, ℕ, [], ◌∷◌, List, map, sym, ap,
 use Rattle.std.specs.Vec.{with_items}
 use Rattle.std.proofs.lemmas.List.{with_items_is}
 use Rattle.ca_model.specs.History as history
-use Rattle.ca_model_world.specs.ServerEvents.{number_of, numbers_posted, posted_entry}
-use Rattle.ca_model_world.specs.World as model
-use Rattle.ca_model_world.specs.World.{grown}
+use Rattle.ca_model.specs.ServerEvents.{number_of, numbers_posted, posted_entry}
+use Rattle.ca_model.specs.World as model
+use Rattle.ca_model.specs.World.{grown}
 use Rattle.ca_world_data.specs.declared.joined.Joined.{Joined}
 use Rattle.ca_world_data.specs.declared.server.RecordSide.{RecordSide}
 use Rattle.ca_world_data.specs.Opening.{entries_in}

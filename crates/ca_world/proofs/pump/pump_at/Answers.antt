@@ -2,9 +2,9 @@ use Rattle.std.proofs.Common.{◌≡◌, ℕ, ◌==◌, List, inr, refl, ap, ◌
 use Rattle.std.specs.Prelude.{map}
 use Rattle.std.specs.Vec.{with_items}
 use Rattle.std.proofs.lemmas.List.{with_items_is}
-use Rattle.ca_model_world.specs.ServerEvents.{without_puts}
-use Rattle.ca_model_world.specs.World.{grown}
-use Rattle.ca_model_world.specs.World as model
+use Rattle.ca_model.specs.ServerEvents.{without_puts}
+use Rattle.ca_model.specs.World.{grown}
+use Rattle.ca_model.specs.World as model
 use Rattle.ca_world_data.specs.declared.server.RecordSide.{RecordSide}
 use Rattle.ca_world_data.specs.declared.server.ServerSide.{ServerSide}
 use Rattle.ca_world_data.specs.Seen.{entry_of, joined_of, record_of, server_of}

@@ -1,7 +1,7 @@
 use Rattle.std.proofs.Common.{ℕ, List, length, take, sym, ap, ◌∙◌, arith}
 use Rattle.ca_model.specs.Server.{Server}
 use Rattle.ca_model.specs.ServerSteps.{Update}
-use Rattle.ca_model_world.specs.World as model
+use Rattle.ca_model.specs.World as model
 use Rattle.ca_server_core.specs.Serving.{stepped}
 use Rattle.ca_world_data.specs.Seen.{joined_of}
 use Rattle.ca_world.proofs.Pumping.{Ending, Resting, open-all, open-part, open-spelled, open-within, over-spelled, over-told, over-within, pumped-open, pumped-over}

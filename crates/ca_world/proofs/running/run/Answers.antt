@@ -5,7 +5,7 @@ use Rattle.ca_events.specs.Events.{event_of}
 use Rattle.ca_text.specs.declared.refusal.Refusal.TheVariants.{OutOfMemory}
 use Rattle.ca_text.specs.Place.{At}
 use Rattle.ca_text.proofs.Places.{At-map}
-use Rattle.ca_model_world.specs.Events as model
+use Rattle.ca_model.specs.Events as model
 use Rattle.ca_world_data.proofs.Worlds.{found}
 use Rattle.ca_world.proofs.Ended.{ran-next, run-all, run-as, run-refused, run-stopped}
 use Rattle.ca_world.proofs.running.run.Goals as goal

@@ -1,8 +1,8 @@
 use Rattle.std.specs.Prelude.{map, take}
 use Rattle.std.specs.List.{FoldsTo}
 use Rattle.ca_events.specs.Events.{event_of}
-use Rattle.ca_model_world.specs.Runs.{Happens}
-use Rattle.ca_model_world.specs.World.{opening}
+use Rattle.ca_model.specs.Runs.{Happens}
+use Rattle.ca_model.specs.World.{opening}
 use Rattle.ca_world.proofs.running.run.Given as goal
 
 -- the events before this one lead to the world

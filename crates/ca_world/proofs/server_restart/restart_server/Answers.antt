@@ -1,5 +1,5 @@
 use Rattle.std.proofs.Common.{◌≡◌, length, List, arith, ap, map, ◌∙◌}
-use Rattle.ca_model_world.specs.World.{log_begun}
+use Rattle.ca_model.specs.World.{log_begun}
 use Rattle.ca_world_data.specs.declared.joined.Joined.{Joined}
 use Rattle.ca_world_data.specs.Closing.{server_left, server_over, with_lefts}
 use Rattle.ca_world_data.specs.Seen.{joined_of}

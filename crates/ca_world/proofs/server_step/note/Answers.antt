@@ -3,9 +3,9 @@ use Rattle.std.specs.Prelude.{map, slice_set}
 use Rattle.ca_text.specs.Place.{At}
 use Rattle.ca_text.proofs.Places.{At-map}
 use Rattle.ca_model.specs.History as history
-use Rattle.ca_model_world.specs.ServerEvents.{ending, ends_by, write_numbers}
-use Rattle.ca_model_world.specs.World as model
-use Rattle.ca_model_world.specs.World.{log_length}
+use Rattle.ca_model.specs.ServerEvents.{ending, ends_by, write_numbers}
+use Rattle.ca_model.specs.World as model
+use Rattle.ca_model.specs.World.{log_length}
 use Rattle.ca_world_data.specs.declared.joined.Joined.{Joined}
 use Rattle.ca_world_data.specs.Opening.{entries_in}
 use Rattle.ca_world_data.specs.Seen.{joined_of, step_of, told_of}

@@ -4,8 +4,8 @@ use Rattle.ca_ids.specs.Table.{under}
 use Rattle.ca_queue.specs.Circuit.{HasNone}
 use Rattle.ca_model.specs.History as history
 use Rattle.ca_model.specs.ServerSteps.{output_of}
-use Rattle.ca_model_world.specs.ServerEvents.{about, numbers_after}
-use Rattle.ca_model_world.specs.World as model
+use Rattle.ca_model.specs.ServerEvents.{about, numbers_after}
+use Rattle.ca_model.specs.World as model
 use Rattle.ca_world.specs.ServerStepping.{with_lists}
 use Rattle.ca_world_data.specs.Seen.{joined_of, step_of, told_of}
 use Rattle.ca_world_servers.specs.Deeds.{IsDeed}

@@ -2,7 +2,7 @@ use Rattle.std.proofs.Common.{◌∙◌, ◌≤◌, ℕ, List, length, map, sym,
 use Rattle.ca_ids.specs.Table.{under}
 use Rattle.ca_model.specs.History as history
 use Rattle.ca_model.specs.ServerSteps.{output_of}
-use Rattle.ca_model_world.specs.ServerEvents.{about}
+use Rattle.ca_model.specs.ServerEvents.{about}
 use Rattle.ca_world_data.specs.Seen.{told_of}
 use Rattle.ca_world.proofs.StepPrepared.{none-behind}
 use Rattle.ca_world.proofs.server_step.replies_behind.Goals as goal

@@ -4,7 +4,7 @@ use Rattle.ca_text.specs.Place.{At}
 use Rattle.ca_text.proofs.Places.{At-map, At-one}
 use Rattle.ca_model.specs.Server.{Server}
 use Rattle.ca_model.specs.ServerSteps as steps
-use Rattle.ca_model_world.specs.World as model
+use Rattle.ca_model.specs.World as model
 use Rattle.ca_server_circuit.specs.Stepping.{why_is}
 use Rattle.ca_world_data.specs.declared.joined.Joined.{Joined}
 use Rattle.ca_world_data.specs.declared.server.ServerSide.{ServerSide}

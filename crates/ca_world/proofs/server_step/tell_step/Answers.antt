@@ -6,8 +6,8 @@ use Rattle.ca_text.specs.Place.{At}
 use Rattle.ca_text.proofs.Places.{At-map, At-one}
 use Rattle.ca_model.specs.Server.{Server}
 use Rattle.ca_model.specs.ServerSteps.{NeedsMemory, output_of}
-use Rattle.ca_model_world.specs.ServerEvents.{numbers_after}
-use Rattle.ca_model_world.specs.World as model
+use Rattle.ca_model.specs.ServerEvents.{numbers_after}
+use Rattle.ca_model.specs.World as model
 use Rattle.ca_world.specs.ServerStepping.{with_lists}
 use Rattle.ca_world.specs.StepParts.{IsHandled, MayStep}
 use Rattle.ca_world_data.specs.declared.server.ServerSide.{ServerSide}

@@ -1,6 +1,6 @@
 use Rattle.std.proofs.Common.{◌∙◌, ℕ, ◌<◌, List, arith, length, map, sym, subst}
 use Rattle.ca_text.specs.Place.{At}
-use Rattle.ca_model_world.specs.World.{Joined}
+use Rattle.ca_model.specs.World.{Joined}
 use Rattle.ca_world_data.specs.declared.client.ClientSide.{ClientSide}
 use Rattle.ca_world_data.specs.Indexed.{AreIndexed}
 use Rattle.ca_world_data.specs.Logs.{lines_in}

@@ -5,8 +5,8 @@ use Rattle.ca_text.specs.Place.{At}
 use Rattle.ca_text.proofs.Places.{At-map}
 use Rattle.ca_model.specs.History.{Called, Intent, Line}
 use Rattle.ca_model.specs.History as history
-use Rattle.ca_model_world.specs.World.{Joined, grown}
-use Rattle.ca_model_world.specs.World as model
+use Rattle.ca_model.specs.World.{Joined, grown}
+use Rattle.ca_model.specs.World as model
 use Rattle.ca_server_core.proofs.Posted.{same-error}
 use Rattle.ca_world_data.specs.declared.cancelling.Cancelling.{Cancelling}
 use Rattle.ca_world_data.specs.declared.client.ClientSide.{ClientSide}

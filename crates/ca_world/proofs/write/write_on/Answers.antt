@@ -9,8 +9,8 @@ use Rattle.ca_text.specs.declared.command.Command.TheVariants as command
 use Rattle.ca_world_data.proofs.Fitting.{put-fits}
 use Rattle.ca_model.specs.History.{Called, Line, On, Request}
 use Rattle.ca_model.specs.History as history
-use Rattle.ca_model_world.specs.World.{Joined, grown}
-use Rattle.ca_model_world.specs.World as model
+use Rattle.ca_model.specs.World.{Joined, grown}
+use Rattle.ca_model.specs.World as model
 use Rattle.ca_world_data.specs.declared.client.ClientSide.{ClientSide}
 use Rattle.ca_world_data.specs.declared.way.Way.{Way}
 use Rattle.ca_world_data.specs.Logs.{lines_in}

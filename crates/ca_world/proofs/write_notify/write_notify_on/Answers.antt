@@ -14,9 +14,9 @@ use Rattle.ca_wire.specs.declared.requests.Wanted.{Wanted}
 use Rattle.ca_world_data.proofs.Fitting.{put-fits}
 use Rattle.ca_model.specs.History.{Called, Line, On, Request}
 use Rattle.ca_model.specs.History as history
-use Rattle.ca_model_world.specs.World.{Joined, grown}
-use Rattle.ca_model_world.specs.World as model
-use Rattle.ca_laws_runs.specs.Circuit.{AreGiven}
+use Rattle.ca_model.specs.World.{Joined, grown}
+use Rattle.ca_model.specs.World as model
+use Rattle.ca_laws_parts.specs.Circuit.{AreGiven}
 use Rattle.ca_world_data.specs.declared.client.ClientSide.{ClientSide}
 use Rattle.ca_world_data.specs.declared.way.Way.{Way}
 use Rattle.ca_world_data.specs.Logs.{lines_in}

@@ -1,7 +1,7 @@
 use Rattle.std.proofs.Common.{◌<◌, length, List, arith, map, sym, ap, subst, ◌∙◌, Vec, Global}
 use Rattle.ca_text.specs.Place.{At}
 use Rattle.ca_model.specs.History as history
-use Rattle.ca_model_world.specs.ClientEvents.{HandsOut}
+use Rattle.ca_model.specs.ClientEvents.{HandsOut}
 use Rattle.ca_world_data.specs.declared.history.Line.{Line}
 use Rattle.ca_world_data.specs.Seen.{intent_of, line_of}
 use Rattle.ca_world_data.proofs.Handed.{log-here}

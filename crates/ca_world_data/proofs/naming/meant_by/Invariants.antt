@@ -1,5 +1,5 @@
 use Rattle.std.proofs.Common.{◌≡◌, drop, map}
-use Rattle.ca_model_world.specs.ClientEvents.{meant_by}
+use Rattle.ca_model.specs.ClientEvents.{meant_by}
 use Rattle.ca_world_data.specs.Seen.{named_of}
 use Rattle.ca_world_data.proofs.naming.meant_by.Given as goal
 

@@ -1,6 +1,6 @@
 use Rattle.std.proofs.Common.{◌≡◌, ◌+◌, drop}
 use Rattle.ca_ids.specs.Table.{same_handle}
-use Rattle.ca_model_world.specs.ClientEvents.{place_of}
+use Rattle.ca_model.specs.ClientEvents.{place_of}
 use Rattle.ca_world_data.proofs.naming.place_in.Given as goal
 
 -- the place is among those that are left

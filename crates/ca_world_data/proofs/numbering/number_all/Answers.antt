@@ -3,8 +3,8 @@ use Rattle.std.specs.List.{fold}
 use Rattle.std.proofs.lemmas.List.{length-map}
 use Rattle.ca_arena.specs.declared.handle.Handle.{Handle}
 use Rattle.ca_ids.specs.Table.{under}
-use Rattle.ca_model_world.specs.ServerEvents.{with_number}
-use Rattle.ca_model_world.specs.World as model
+use Rattle.ca_model.specs.ServerEvents.{with_number}
+use Rattle.ca_model.specs.World as model
 use Rattle.ca_world_data.specs.Numbering.{IsAlike, keys_at, keys_to}
 use Rattle.ca_world_data.specs.Seen.{joined_of, standing_of}
 use Rattle.ca_world_data.proofs.Numbers.{alike-still, numbers-all, numbers-next, numbers-none, same-server}

@@ -2,7 +2,7 @@ use Rattle.std.proofs.Common.{◌≡◌, ◌≤◌, ℕ}
 use Rattle.std.specs.List.{fold}
 use Rattle.ca_ids.specs.Table.{under}
 use Rattle.ca_text.specs.Place.{At}
-use Rattle.ca_model_world.specs.ServerEvents.{with_number}
+use Rattle.ca_model.specs.ServerEvents.{with_number}
 use Rattle.ca_world_data.specs.declared.joined.Standing.{Standing}
 use Rattle.ca_world_data.specs.Numbering.{keys_to}
 use Rattle.ca_world_data.specs.Seen.{joined_of}

@@ -1,5 +1,5 @@
 use Rattle.std.proofs.Common.{◌≡◌, drop, map}
-use Rattle.ca_model_world.specs.ServerEvents.{number_of}
+use Rattle.ca_model.specs.ServerEvents.{number_of}
 use Rattle.ca_world_data.specs.Seen.{record_of}
 use Rattle.ca_world_data.proofs.numbering.number_of.Given as goal
 

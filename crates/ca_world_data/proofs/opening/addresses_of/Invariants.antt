@@ -1,5 +1,5 @@
 use Rattle.std.proofs.Common.{◌≡◌, ◌++◌, drop}
-use Rattle.ca_model_world.specs.World.{addresses}
+use Rattle.ca_model.specs.World.{addresses}
 use Rattle.ca_world_data.proofs.opening.addresses_of.Given as goal
 
 -- the addresses of those that are left make up the rest

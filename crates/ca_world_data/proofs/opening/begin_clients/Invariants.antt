@@ -1,5 +1,5 @@
 use Rattle.std.proofs.Common.{◌≡◌, ◌++◌, [], length, map}
-use Rattle.ca_model_world.specs.World.{ClientSetting, client_begun, numbered}
+use Rattle.ca_model.specs.World.{ClientSetting, client_begun, numbered}
 use Rattle.ca_world_data.specs.Logs.{lines_in}
 use Rattle.ca_world_data.specs.Seen.{client_of}
 use Rattle.ca_world_data.proofs.opening.begin_clients.Given as goal

@@ -1,6 +1,6 @@
 use Rattle.std.proofs.Common.{◌≡◌, ◌++◌, drop, map}
 use Rattle.ca_model.specs.History.{Added}
-use Rattle.ca_model_world.specs.World.{numbered}
+use Rattle.ca_model.specs.World.{numbered}
 use Rattle.ca_world_data.specs.Seen.{entry_of}
 use Rattle.ca_world_data.proofs.opening.begin_log.Given as goal
 

@@ -1,6 +1,6 @@
 use Rattle.std.proofs.Common.{◌≡◌, ℕ, None, map, ◌∙◌}
 use Rattle.ca_records.specs.Record.{RecordState}
-use Rattle.ca_model_world.specs.World.{record_begun}
+use Rattle.ca_model.specs.World.{record_begun}
 use Rattle.ca_world_data.specs.declared.server.RecordSide.{RecordSide}
 use Rattle.ca_world_data.specs.Seen.{place_of, record_of}
 use Rattle.ca_world_data.proofs.Openings.{begun-next}

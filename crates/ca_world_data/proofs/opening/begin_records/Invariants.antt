@@ -1,5 +1,5 @@
 use Rattle.std.proofs.Common.{◌≡◌, ◌++◌, drop, map}
-use Rattle.ca_model_world.specs.World.{numbered, record_begun}
+use Rattle.ca_model.specs.World.{numbered, record_begun}
 use Rattle.ca_world_data.specs.Seen.{record_of}
 use Rattle.ca_world_data.proofs.opening.begin_records.Given as goal
 

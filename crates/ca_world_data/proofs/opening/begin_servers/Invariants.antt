@@ -1,5 +1,5 @@
 use Rattle.std.proofs.Common.{◌≡◌, ◌++◌, length, map}
-use Rattle.ca_model_world.specs.World.{log_begun, numbered, server_begun}
+use Rattle.ca_model.specs.World.{log_begun, numbered, server_begun}
 use Rattle.ca_world_data.specs.Opening.{entries_in}
 use Rattle.ca_world_data.specs.Seen.{server_of}
 use Rattle.ca_world_data.proofs.opening.begin_servers.Given as goal

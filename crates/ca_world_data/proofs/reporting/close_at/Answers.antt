@@ -3,7 +3,7 @@ use Rattle.std.specs.Prelude.{slice_set}
 use Rattle.std.proofs.lemmas.List.{length-map}
 use Rattle.ca_text.specs.Place.{At}
 use Rattle.ca_text.proofs.Places.{At-map, At-one, At-within}
-use Rattle.ca_model_world.specs.ServerEvents.{server_closed}
+use Rattle.ca_model.specs.ServerEvents.{server_closed}
 use Rattle.ca_world_data.specs.declared.joined.Joined.{Joined}
 use Rattle.ca_world_data.specs.Reporting.{IsEnded, IsServed, IsUnserved}
 use Rattle.ca_world_data.specs.Seen.{joined_of}

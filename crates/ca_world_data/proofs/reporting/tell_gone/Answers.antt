@@ -1,6 +1,6 @@
 use Rattle.std.proofs.Common.{◌<◌, ◌++◌, length, List, map, arith, sym, ap, ◌∙◌, Vec, Global}
 use Rattle.ca_text.specs.Place.{At}
-use Rattle.ca_model_world.specs.ServerEvents.{withdrawals}
+use Rattle.ca_model.specs.ServerEvents.{withdrawals}
 use Rattle.ca_world_data.specs.declared.history.Entry.{Entry}
 use Rattle.ca_world_data.specs.Reporting.{gone_at}
 use Rattle.ca_world_data.specs.Seen.{entry_of, joined_of, record_of}

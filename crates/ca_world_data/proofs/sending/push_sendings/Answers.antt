@@ -4,7 +4,7 @@ use Rattle.std.proofs.lemmas.List.{nil_from_length}
 use Rattle.ca_client_core.specs.declared.for_histories.Sending.{Sending}
 use Rattle.ca_client_core.specs.ForHistories.{sending_of}
 use Rattle.ca_model.specs.History as history
-use Rattle.ca_model_world.specs.World as model
+use Rattle.ca_model.specs.World as model
 use Rattle.ca_world_data.specs.declared.joined.Joined.{Joined}
 use Rattle.ca_world_data.specs.Seen.{joined_of, names_of}
 use Rattle.ca_world_data.specs.Sends.{HasRoomForAll}

@@ -4,8 +4,8 @@ use Rattle.std.proofs.lemmas.List.{nil_from_length}
 use Rattle.ca_client_core.specs.declared.ticking.Left.{Left}
 use Rattle.ca_client_core.specs.Ticked.{left_of, lefts_of, notices_of}
 use Rattle.ca_model.specs.History.{OfCircuit}
-use Rattle.ca_model_world.specs.ClientEvents.{after_tick, lines_of}
-use Rattle.ca_model_world.specs.World.{Joined, Names, grown}
+use Rattle.ca_model.specs.ClientEvents.{after_tick, lines_of}
+use Rattle.ca_model.specs.World.{Joined, Names, grown}
 use Rattle.ca_world_data.specs.Found.{AreNumbered}
 use Rattle.ca_world_data.specs.Logs.{HasRoom, lines_in}
 use Rattle.ca_world_data.specs.Seen.{joined_of, names_of}

@@ -1,8 +1,8 @@
 use Rattle.std.proofs.Common.{◌≡◌, length, map}
 use Rattle.ca_client_core.specs.Ticked.{lefts_of, notices_of}
 use Rattle.ca_model.specs.History.{OfCircuit}
-use Rattle.ca_model_world.specs.ClientEvents.{after_tick, lines_of}
-use Rattle.ca_model_world.specs.World.{grown}
+use Rattle.ca_model.specs.ClientEvents.{after_tick, lines_of}
+use Rattle.ca_model.specs.World.{grown}
 use Rattle.ca_world_data.specs.Found.{AreNumbered}
 use Rattle.ca_world_data.specs.Logs.{HasRoom, lines_in}
 use Rattle.ca_world_data.specs.Seen.{joined_of, names_of}

@@ -3,9 +3,9 @@ use Rattle.std.specs.Prelude.{slice_set}
 use Rattle.ca_text.specs.Place.{At}
 use Rattle.ca_model.specs.Answers.{Closing}
 use Rattle.ca_model.specs.History.{OfCircuit}
-use Rattle.ca_model_world.specs.ClientEvents.{client_closed, lines_of}
-use Rattle.ca_model_world.specs.World.{grown}
-use Rattle.ca_model_world.specs.World as model
+use Rattle.ca_model.specs.ClientEvents.{client_closed, lines_of}
+use Rattle.ca_model.specs.World.{grown}
+use Rattle.ca_model.specs.World as model
 use Rattle.ca_world_data.specs.declared.joined.Joined.{Joined}
 use Rattle.ca_world_data.specs.Logs.{lines_in}
 use Rattle.ca_world_data.specs.Seen.{joined_of, names_of}

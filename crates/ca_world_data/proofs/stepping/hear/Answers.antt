@@ -6,9 +6,9 @@ use Rattle.ca_client_core.specs.declared.for_histories.Sending.{Sending}
 use Rattle.ca_client_core.specs.ForHistories.{sending_of}
 use Rattle.ca_text.specs.Place.{At}
 use Rattle.ca_text.proofs.Places.{At-map, At-one}
-use Rattle.ca_model_world.specs.ClientEvents.{about_at}
-use Rattle.ca_model_world.specs.World.{log_length}
-use Rattle.ca_model_world.specs.World as model
+use Rattle.ca_model.specs.ClientEvents.{about_at}
+use Rattle.ca_model.specs.World.{log_length}
+use Rattle.ca_model.specs.World as model
 use Rattle.ca_world_data.specs.declared.history.Line.{Line}
 use Rattle.ca_world_data.specs.declared.joined.Joined.{Joined}
 use Rattle.ca_world_data.specs.ClientSteps.{IsHeard, step_at}

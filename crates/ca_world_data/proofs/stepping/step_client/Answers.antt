@@ -7,7 +7,7 @@ use Rattle.ca_text.proofs.Places.{At-map}
 use Rattle.ca_model.specs.Answers.{Sending}
 use Rattle.ca_model.specs.Answers as answer
 use Rattle.ca_model.specs.Client.{Client}
-use Rattle.ca_model_world.specs.World as model
+use Rattle.ca_model.specs.World as model
 use Rattle.ca_world_data.specs.declared.history.Line.{Line}
 use Rattle.ca_world_data.specs.declared.joined.Joined.{Joined}
 use Rattle.ca_world_data.specs.ClientSteps.{LeavesStepped}

@@ -1,6 +1,6 @@
 use Rattle.std.proofs.Common.{◌≡◌, ◌≤◌, ◌+◌, ◌++◌, length, map}
 use Rattle.std.specs.Prelude.{vec_capacity, vec_len}
-use Rattle.ca_model_world.specs.ClientEvents.{lines_of}
+use Rattle.ca_model.specs.ClientEvents.{lines_of}
 use Rattle.ca_world_data.specs.Seen.{intent_of, line_of, names_of}
 use Rattle.ca_world_data.proofs.telling.tell_in.Given as goal
 

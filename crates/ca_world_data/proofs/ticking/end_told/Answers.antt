@@ -2,8 +2,8 @@ use Rattle.std.proofs.Common.{◌≡◌, ◌∙◌, [], List, map, sym, ap}
 use Rattle.ca_client_core.specs.Ticked.{lefts_of, notices_of}
 use Rattle.ca_model.specs.Answers.{Left, Notice}
 use Rattle.ca_model.specs.History.{OfCircuit}
-use Rattle.ca_model_world.specs.ClientEvents.{after_tick, lines_of}
-use Rattle.ca_model_world.specs.World.{Joined, Names, grown}
+use Rattle.ca_model.specs.ClientEvents.{after_tick, lines_of}
+use Rattle.ca_model.specs.World.{Joined, Names, grown}
 use Rattle.ca_world_data.specs.Logs.{lines_in}
 use Rattle.ca_world_data.specs.Seen.{joined_of, names_of}
 use Rattle.ca_world_data.proofs.Silences.{grown-nil, nothing-told, silent-none}

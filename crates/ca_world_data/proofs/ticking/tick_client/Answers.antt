@@ -6,8 +6,8 @@ use Rattle.ca_model.specs.Answers.{Ticked}
 use Rattle.ca_model.specs.Client.{Client}
 use Rattle.ca_model.specs.ClientEnds.{ClientTicks}
 use Rattle.ca_model.specs.History.{OfCircuit}
-use Rattle.ca_model_world.specs.ClientEvents.{after_tick, lines_of}
-use Rattle.ca_model_world.specs.World.{Joined, grown}
+use Rattle.ca_model.specs.ClientEvents.{after_tick, lines_of}
+use Rattle.ca_model.specs.World.{Joined, grown}
 use Rattle.ca_world_data.specs.declared.client.ClientSide.{ClientSide}
 use Rattle.ca_world_data.specs.Logs.{lines_in}
 use Rattle.ca_world_data.specs.Seen.{client_of, joined_of, named_of}

@@ -1,7 +1,7 @@
 use Rattle.std.proofs.Common.{◌≡◌, ℕ, ◌+◌, ◌-◌, ◌<◌, ◌≤◌, ◌++◌, List, length, drop, take, sym, ap, subst, ◌∙◌, arith}
 use Rattle.std.proofs.lemmas.List.{length-drop, take_all}
 use Rattle.ca_wire.specs.Message.{spelled}
-use Rattle.ca_model_world.specs.World as model
+use Rattle.ca_model.specs.World as model
 use Rattle.ca_world_data.specs.Seen.{joined_of}
 use Rattle.ca_world_data.specs.Updates.{AreGood, BeginsSpelled, TellsSome}
 use Rattle.ca_world_data.proofs.UpdatesTold.{begins-behind, next-some, some-more, some-within}

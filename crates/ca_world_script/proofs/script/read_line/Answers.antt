@@ -1,6 +1,6 @@
 use Rattle.std.specs.Prelude.{codes}
 use Rattle.std.proofs.Common.{◌∙◌, List, inl, inr, sym, subst, rules}
-use Rattle.ca_model_world.specs.World.{ServerSetting}
+use Rattle.ca_model.specs.World.{ServerSetting}
 use Rattle.ca_world_script.specs.Events.{SaysPost}
 use Rattle.ca_text.specs.declared.refusal.Refusal.{Refusal}
 use Rattle.ca_script.specs.Grammar.{Refuses, parted}

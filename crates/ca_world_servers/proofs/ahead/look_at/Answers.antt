@@ -1,5 +1,5 @@
 use Rattle.std.proofs.Common.{◌≡◌, List, Some, subst}
-use Rattle.ca_model_world.specs.World.{RecordSide}
+use Rattle.ca_model.specs.World.{RecordSide}
 use Rattle.ca_world_servers.specs.declared.parting.Parting.{Parting}
 use Rattle.ca_world_servers.specs.Deeds.{IsParting}
 use Rattle.ca_world_servers.proofs.ahead.look_at.Goals as goal

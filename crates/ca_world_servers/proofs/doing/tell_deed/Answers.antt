@@ -1,6 +1,6 @@
 use Rattle.std.proofs.Common.{◌+◌, ◌≤◌, List, map, subst, arith}
 use Rattle.ca_model.specs.History.{Entry}
-use Rattle.ca_model_world.specs.World.{Joined, PutPlace}
+use Rattle.ca_model.specs.World.{Joined, PutPlace}
 use Rattle.ca_world_data.specs.declared.server.ServerSide.{ServerSide}
 use Rattle.ca_world_data.specs.Opening.{entries_in}
 use Rattle.ca_world_data.specs.Reporting.{waits}

@@ -1,7 +1,7 @@
 use Rattle.std.proofs.Common.{◌≡◌, List, map, subst, sym, Vec, Global}
-use Rattle.ca_model_world.specs.ServerEvents.{withdrawals, without_puts}
-use Rattle.ca_model_world.specs.World.{grown}
-use Rattle.ca_model_world.specs.World as model
+use Rattle.ca_model.specs.ServerEvents.{withdrawals, without_puts}
+use Rattle.ca_model.specs.World.{grown}
+use Rattle.ca_model.specs.World as model
 use Rattle.ca_world_data.specs.declared.joined.Joined.{Joined}
 use Rattle.ca_world_data.specs.declared.server.RecordSide.{RecordSide}
 use Rattle.ca_world_data.specs.declared.server.ServerSide.{ServerSide}

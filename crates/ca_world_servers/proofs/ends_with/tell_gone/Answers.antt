@@ -2,7 +2,7 @@ use Rattle.std.proofs.Common.{◌≡◌, ℕ, ◌<◌, ◌≤◌, ◌+◌, ◌++
 use Rattle.std.specs.Prelude.{vec_capacity, vec_len}
 use Rattle.ca_text.specs.Place.{At}
 use Rattle.ca_model.specs.History.{Entry as Logged}
-use Rattle.ca_model_world.specs.ServerEvents.{withdrawals}
+use Rattle.ca_model.specs.ServerEvents.{withdrawals}
 use Rattle.ca_world_data.specs.declared.history.Entry.{Entry}
 use Rattle.ca_world_data.specs.Reporting.{all_gone, waits}
 use Rattle.ca_world_data.specs.Seen.{entry_of, joined_of, record_of}

@@ -1,6 +1,6 @@
 use Rattle.std.proofs.Common.{◌≡◌, ℕ, ◌≤◌, ◌+◌, Bool, List, length, map, sym, subst, ◌∙◌, Vec, Global}
 use Rattle.std.proofs.lemmas.List.{with_items_is}
-use Rattle.ca_model_world.specs.ServerEvents.{without_puts}
+use Rattle.ca_model.specs.ServerEvents.{without_puts}
 use Rattle.ca_world_data.specs.declared.server.RecordSide.{RecordSide}
 use Rattle.ca_world_data.specs.Reporting.{all_gone, waits}
 use Rattle.ca_world_data.specs.Seen.{joined_of, record_of}

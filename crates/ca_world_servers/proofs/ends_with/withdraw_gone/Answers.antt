@@ -1,7 +1,7 @@
 use Rattle.std.proofs.Common.{ℕ, ◌<◌, ◌≤◌, length, List, map, sym, arith, ◌∙◌}
 use Rattle.std.proofs.lemmas.List.{length-map}
 use Rattle.ca_text.specs.Place.{At}
-use Rattle.ca_model_world.specs.ServerEvents.{without_puts}
+use Rattle.ca_model.specs.ServerEvents.{without_puts}
 use Rattle.ca_world_data.specs.declared.server.RecordSide.{RecordSide}
 use Rattle.ca_world_data.specs.Seen.{joined_of, record_of}
 use Rattle.ca_world_data.proofs.Gone.{from-over, gone-next}

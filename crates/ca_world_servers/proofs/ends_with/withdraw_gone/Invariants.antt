@@ -1,5 +1,5 @@
 use Rattle.std.proofs.Common.{◌≡◌, map}
-use Rattle.ca_model_world.specs.ServerEvents.{without_puts}
+use Rattle.ca_model.specs.ServerEvents.{without_puts}
 use Rattle.ca_world_data.specs.Seen.{joined_of, record_of}
 use Rattle.ca_world_data.proofs.Gone.{map_from}
 use Rattle.ca_world_servers.specs.EndsWith.{gone_with}

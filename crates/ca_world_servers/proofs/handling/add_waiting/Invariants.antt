@@ -1,5 +1,5 @@
 use Rattle.std.proofs.Common.{◌≡◌, ◌≤◌, ℕ, map}
-use Rattle.ca_model_world.specs.ServerEvents.{with_record}
+use Rattle.ca_model.specs.ServerEvents.{with_record}
 use Rattle.ca_text.specs.Place.{At}
 use Rattle.ca_world_data.specs.declared.server.RecordSide.{RecordSide}
 use Rattle.ca_world_data.specs.Seen.{record_of}

@@ -1,5 +1,5 @@
 use Rattle.std.proofs.Common.{◌≡◌, ◌+◌, drop}
-use Rattle.ca_model_world.specs.ClientEvents.{place_of}
+use Rattle.ca_model.specs.ClientEvents.{place_of}
 use Rattle.ca_world_servers.specs.Handling.{has_room}
 use Rattle.ca_world_servers.proofs.handling.first_with_room.Given as goal
 

@@ -1,5 +1,5 @@
 use Rattle.std.proofs.Common.{◌≡◌, map}
-use Rattle.ca_model_world.specs.ServerEvents.{with_record}
+use Rattle.ca_model.specs.ServerEvents.{with_record}
 use Rattle.ca_world_data.specs.Seen.{record_of}
 use Rattle.ca_world_data.proofs.Gone.{map_from}
 use Rattle.ca_world_servers.specs.Handling.{made_busy}

@@ -3,7 +3,7 @@ use Rattle.std.specs.Prelude.{slice_set}
 use Rattle.ca_queue.specs.Queue.{Queue}
 use Rattle.ca_text.specs.Place.{At}
 use Rattle.ca_model.specs.History as history
-use Rattle.ca_model_world.specs.ClientEvents.{place_of}
+use Rattle.ca_model.specs.ClientEvents.{place_of}
 use Rattle.ca_world_data.specs.declared.history.Cause.{Cause}
 use Rattle.ca_world_data.specs.Seen.{queue_of}
 use Rattle.ca_world_data.proofs.Counting.{queue_in}

@@ -1,5 +1,5 @@
 use Rattle.std.proofs.Common.{◌≡◌, drop, map}
-use Rattle.ca_model_world.specs.ServerEvents.{created_at}
+use Rattle.ca_model.specs.ServerEvents.{created_at}
 use Rattle.ca_world_data.specs.Seen.{creation_of}
 use Rattle.ca_world_servers.proofs.losing.created_at.Given as goal
 

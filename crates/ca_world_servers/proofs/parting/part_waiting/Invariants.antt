@@ -1,7 +1,7 @@
 use Rattle.std.proofs.Common.{◌≡◌, ◌++◌, drop, map, not}
 use Rattle.ca_records.specs.declared.puts.Put.{Put}
 use Rattle.ca_records.specs.Puts.{record_named}
-use Rattle.ca_model_world.specs.ServerEvents.{is_of_channel, places_where}
+use Rattle.ca_model.specs.ServerEvents.{is_of_channel, places_where}
 use Rattle.ca_world_data.specs.Seen.{entry_of, place_of, record_of}
 use Rattle.ca_world_servers.specs.Parting.{gone_of, kept_of, places_in, puts_of, withdrawn_at}
 use Rattle.ca_world_servers.proofs.parting.part_waiting.Given as goal

@@ -2,7 +2,7 @@ use Rattle.std.proofs.Common.{◌≡◌, ◌∙◌, refl, sym, ap, subst, length
 use Rattle.std.specs.Arc.{arc_value}
 use Rattle.ca_board.specs.Views.{CoreView}
 use Rattle.ca_text.specs.Limits.{arena_slots}
-use Rattle.ca_model_client.specs.Placed.{IsPlaced}
+use Rattle.ca_model.specs.Placed.{IsPlaced}
 use Rattle.ca_text.specs.declared.refusal.Refusal.TheVariants.{OutOfMemory}
 use Rattle.ca_client.proofs.Fresh.{lacks, state-new}
 use Rattle.ca_client.proofs.state.State.new.Goals as goal

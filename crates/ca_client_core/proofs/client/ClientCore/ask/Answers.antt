@@ -2,7 +2,7 @@ use Rattle.std.proofs.Common.{ap, length, subst, sym}
 use Rattle.ca_requests.specs.Forms.{asked_of}
 use Rattle.ca_client_core.proofs.Requesting.{asks-or}
 use Rattle.ca_model.specs.Client.{Client}
-use Rattle.ca_model_client.specs.Placed.{WasLive}
+use Rattle.ca_model.specs.Placed.{WasLive}
 use Rattle.ca_client_core.proofs.client.ClientCore.ask.Goals as goal
 
 pub returns : goal.returns

@@ -2,8 +2,8 @@ use Rattle.std.proofs.Common.{◌∙◌, ap, sym, subst, ◌≡◌, Some, refl}
 use Rattle.ca_monitor.specs.Subscriptions.{Cancelled, Subscription, standing_under}
 use Rattle.ca_ids.specs.Table.{Table, under}
 use Rattle.ca_model.specs.Client.{Channel, Client}
-use Rattle.ca_model_client.specs.Placed.{WasLiveIn}
-use Rattle.ca_model_client.proofs.Standings.{stands-as}
+use Rattle.ca_model.specs.Placed.{WasLiveIn}
+use Rattle.ca_model.proofs.Standings.{stands-as}
 use Rattle.ca_client_core.proofs.Cancelling.{comes-to}
 use Rattle.ca_client_core.proofs.Placing.{queued-tables, sound-staged}
 use Rattle.ca_client_core.proofs.client.ClientCore.cancel.Goals as goal

@@ -3,8 +3,8 @@ use Rattle.ca_arena.specs.declared.handle.Handle.{Handle}
 use Rattle.ca_model.specs.Answers.{Closing}
 use Rattle.ca_client_tables.specs.Closings.{why_is}
 use Rattle.ca_model.specs.Client.{Client, closing, ended, is_live}
-use Rattle.ca_model_client.specs.Placed.{IsPlaced}
-use Rattle.ca_model_client.proofs.Letting.{ends-ended}
+use Rattle.ca_model.specs.Placed.{IsPlaced}
+use Rattle.ca_model.proofs.Letting.{ends-ended}
 use Rattle.ca_client_tables.specs.Ending.{Sought, named_in, sought}
 use Rattle.ca_client_core.proofs.Listing.{closing-gone, closing-told, ended-listed, room-for}
 use Rattle.ca_client_core.proofs.Endings.{ends-so, left_with}

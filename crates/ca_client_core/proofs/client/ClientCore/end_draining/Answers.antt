@@ -3,8 +3,8 @@ use Rattle.ca_requests.specs.Calls.{Issued}
 use Rattle.ca_requests.specs.Requests.{Request}
 use Rattle.ca_ids.specs.Table.{Table}
 use Rattle.ca_monitor.specs.Subscriptions.{Subscription}
-use Rattle.ca_model_client.specs.Placed.{ArePlaced}
-use Rattle.ca_model_client.proofs.Hearing.{drained-keeps}
+use Rattle.ca_model.specs.Placed.{ArePlaced}
+use Rattle.ca_model.proofs.Hearing.{drained-keeps}
 use Rattle.ca_client_tables.proofs.Finds.{plain}
 use Rattle.ca_client_core.proofs.client.ClientCore.end_draining.Goals as goal
 

@@ -1,6 +1,6 @@
 use Rattle.std.proofs.Common.{subst, sym}
-use Rattle.ca_model_client.specs.Placed.{ArePlaced}
-use Rattle.ca_model_client.proofs.Changes.{unsubscribed-keeps}
+use Rattle.ca_model.specs.Placed.{ArePlaced}
+use Rattle.ca_model.proofs.Changes.{unsubscribed-keeps}
 use Rattle.ca_client_tables.proofs.Finds.{plain}
 use Rattle.ca_client_core.proofs.client.ClientCore.free_subscriptions.Goals as goal
 

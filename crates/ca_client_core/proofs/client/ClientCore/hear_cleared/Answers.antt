@@ -2,7 +2,7 @@ use Rattle.std.proofs.Common.{◌≡◌, Some, ap, ◌∙◌, subst, sym}
 use Rattle.ca_model.specs.Client as phase
 use Rattle.ca_model.specs.Client.{Client, channel_on}
 use Rattle.ca_client_tables.specs.declared.channel.Phase.{Phase}
-use Rattle.ca_model_client.specs.Placed.{IsBare}
+use Rattle.ca_model.specs.Placed.{IsBare}
 use Rattle.ca_client_core.proofs.Placing.{drained-found, found-on-circuit}
 use Rattle.ca_client_core.proofs.client.ClientCore.hear_cleared.Goals as goal
 

@@ -2,7 +2,7 @@ use Rattle.std.proofs.Common.{ap, sym, subst}
 use Rattle.ca_model.specs.Client.{Client}
 use Rattle.ca_requests.specs.Calls.{Issued}
 use Rattle.ca_requests.specs.Forms.{asked_of}
-use Rattle.ca_model_client.specs.Placed.{WasLive}
+use Rattle.ca_model.specs.Placed.{WasLive}
 use Rattle.ca_client_core.proofs.Alone.{may-issue}
 use Rattle.ca_client_core.proofs.Placing.{sound-issued}
 use Rattle.ca_client_core.proofs.client.ClientCore.issue_or_cut.Goals as goal

@@ -1,6 +1,6 @@
 use Rattle.std.proofs.Common.{subst}
 use Rattle.ca_model.specs.Client.{Client}
-use Rattle.ca_model_client.specs.Placed.{IsPlaced}
+use Rattle.ca_model.specs.Placed.{IsPlaced}
 use Rattle.ca_client_core.proofs.client.ClientCore.know.Goals as goal
 
 pub returns : goal.returns

@@ -6,8 +6,8 @@ use Rattle.ca_requests.specs.Requests.{Request}
 use Rattle.ca_wire.specs.Fields.{Fields}
 use Rattle.ca_wire.specs.Messages.{clear_request}
 use Rattle.ca_model.specs.Client.{Client}
-use Rattle.ca_model_client.specs.Placed.{ArePlaced}
-use Rattle.ca_model_client.proofs.Changes.{over-requests}
+use Rattle.ca_model.specs.Placed.{ArePlaced}
+use Rattle.ca_model.proofs.Changes.{over-requests}
 use Rattle.ca_client_tables.specs.Ends.{with_message}
 use Rattle.ca_client_tables.proofs.Finds.{plain}
 use Rattle.ca_client_core.proofs.Queued.{left-behind, told-left}

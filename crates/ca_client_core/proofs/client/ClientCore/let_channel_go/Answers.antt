@@ -1,6 +1,6 @@
 use Rattle.std.proofs.Common.{subst, sym}
 use Rattle.ca_model.specs.Client.{Client}
-use Rattle.ca_model_client.specs.Placed.{IsBare}
+use Rattle.ca_model.specs.Placed.{IsBare}
 use Rattle.ca_client_core.proofs.Cleared.{bare-freed}
 use Rattle.ca_client_core.proofs.client.ClientCore.let_channel_go.Goals as goal
 

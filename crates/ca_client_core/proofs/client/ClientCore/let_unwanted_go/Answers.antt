@@ -2,8 +2,8 @@ use Rattle.std.proofs.Common.{◌≡◌, ◌∙◌, Some, ap, not, subst, sym, t
 use Rattle.std.specs.Prelude.{is_none}
 use Rattle.ca_model.specs.Client.{Client, connection_at}
 use Rattle.ca_model.specs.ClientCalls.{unwanted}
-use Rattle.ca_model_client.specs.Placed.{IsPlaced}
-use Rattle.ca_model_client.proofs.Letting.{keeps-unwanted}
+use Rattle.ca_model.specs.Placed.{IsPlaced}
+use Rattle.ca_model.proofs.Letting.{keeps-unwanted}
 use Rattle.ca_client_core.proofs.Cleared.{unwanted-there}
 use Rattle.ca_client_core.proofs.client.ClientCore.let_unwanted_go.Goals as goal
 

@@ -8,7 +8,7 @@ use Rattle.ca_client_core.specs.Lives.{live_of}
 use Rattle.ca_client_core.specs.Puts.{put_message}
 use Rattle.ca_client_core.proofs.Requesting.{asks-or}
 use Rattle.ca_model.specs.Client.{Client}
-use Rattle.ca_model_client.specs.Placed.{WasLive}
+use Rattle.ca_model.specs.Placed.{WasLive}
 use Rattle.ca_client_core.proofs.client.ClientCore.put.Goals as goal
 
 pub returns : goal.returns

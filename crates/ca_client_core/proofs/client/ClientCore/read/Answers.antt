@@ -10,7 +10,7 @@ use Rattle.ca_model.specs.ClientCalls.{ClientReads, Shape, read_sent}
 use Rattle.ca_client_core.specs.Lives.{live_of}
 use Rattle.ca_client_core.proofs.Faults.{same-error}
 use Rattle.ca_client_core.proofs.Requesting.{reads-done, reads-full, reads-not, reads-out}
-use Rattle.ca_model_client.proofs.Changes.{live-there}
+use Rattle.ca_model.proofs.Changes.{live-there}
 use Rattle.ca_client_core.proofs.client.ClientCore.read.Goals as goal
 
 pub returns-in_err-live : goal.returns-in_err-live

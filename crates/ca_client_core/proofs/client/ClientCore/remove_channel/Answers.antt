@@ -6,7 +6,7 @@ use Rattle.ca_search.specs.Searches as search
 use Rattle.ca_search.proofs.Entries.{held, one-removed}
 use Rattle.ca_model.specs.Client.{Channel, Client, without_channel}
 use Rattle.ca_client_tables.proofs.Ended.{client-gone}
-use Rattle.ca_model_client.specs.Placed.{IsBare}
+use Rattle.ca_model.specs.Placed.{IsBare}
 use Rattle.ca_client_core.proofs.Placing.{placed-gone}
 use Rattle.ca_client_core.proofs.Listing.{listed-gone}
 use Rattle.ca_client_core.proofs.client.ClientCore.remove_channel.Goals as goal

@@ -4,7 +4,7 @@ use Rattle.ca_search.specs.Searcher.{with_one}
 use Rattle.ca_search.specs.Searches.{resumed}
 use Rattle.ca_model.specs.Client.{Channel, Searching, Client}
 use Rattle.ca_client_tables.proofs.Ended.{client-again}
-use Rattle.ca_model_client.specs.Placed.{IsBare}
+use Rattle.ca_model.specs.Placed.{IsBare}
 use Rattle.ca_client_core.proofs.Placing.{placed-again}
 use Rattle.ca_client_core.proofs.Listing.{listed-not}
 use Rattle.ca_client_core.proofs.client.ClientCore.seek_again.Goals as goal

@@ -10,7 +10,7 @@ use Rattle.ca_client_tables.specs.declared.channel.Standing.TheVariants as stand
 use Rattle.ca_client_tables.specs.declared.channel.Phase.{Phase}
 use Rattle.ca_client_tables.specs.Forms.{native_of, standing_of}
 use Rattle.ca_client_core.proofs.Cancelling.{cancelled-live, cancelled-there, comes-to}
-use Rattle.ca_model_client.proofs.Standings.{stands-as}
+use Rattle.ca_model.proofs.Standings.{stands-as}
 use Rattle.ca_client_core.proofs.Placing.{live-at, sound-staged}
 use Rattle.ca_client_core.proofs.client.ClientCore.unsubscribe.Goals as goal
 

@@ -10,7 +10,7 @@ use Rattle.ca_model.specs.ClientCalls.{ClientPuts}
 use Rattle.ca_client_core.specs.Lives.{live_of}
 use Rattle.ca_client_core.proofs.Faults.{same-error}
 use Rattle.ca_client_core.proofs.Putting.{puts-done, puts-full, puts-not, puts-out}
-use Rattle.ca_model_client.proofs.Changes.{live-there}
+use Rattle.ca_model.proofs.Changes.{live-there}
 use Rattle.ca_client_core.proofs.client.ClientCore.write_notify.Goals as goal
 
 pub returns-in_err-live : goal.returns-in_err-live

@@ -1,5 +1,5 @@
 use Rattle.std.proofs.Common.{List, subst, sym}
-use Rattle.ca_model_world.specs.World.{ClientSetting, IsSetting}
+use Rattle.ca_model.specs.World.{ClientSetting, IsSetting}
 use Rattle.ca_world_data.proofs.Settled.{client-more}
 use Rattle.ca_world.proofs.config.Config.add_client.Goals as goal
 

@@ -1,5 +1,5 @@
 use Rattle.std.proofs.Common.{◌≡◌, ◌∙◌, false, List, ap, subst, sym}
-use Rattle.ca_model_world.specs.World.{IsSetting, ServerSetting, Setting}
+use Rattle.ca_model.specs.World.{IsSetting, ServerSetting, Setting}
 use Rattle.ca_world_data.specs.Settings.{IsServer, is_taken}
 use Rattle.ca_world_data.proofs.Settled.{server-more}
 use Rattle.ca_world.proofs.config.Config.add_server.Goals as goal

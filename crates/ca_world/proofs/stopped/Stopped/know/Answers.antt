@@ -1,6 +1,6 @@
 use Rattle.std.proofs.Common.{subst}
-use Rattle.ca_model_safe.specs.Worlds.{IsLegalWorld, IsSafeWorld}
-use Rattle.ca_model_world.specs.World.{World}
+use Rattle.ca_model.specs.Worlds.{IsLegalWorld, IsSafeWorld}
+use Rattle.ca_model.specs.World.{World}
 use Rattle.ca_world.specs.Halted.{halted}
 use Rattle.ca_world.proofs.Ended.{stopped-promised}
 use Rattle.ca_world.proofs.stopped.Stopped.know.Goals as goal

@@ -6,9 +6,9 @@ use Rattle.ca_text.proofs.Places.{At-one, At-within}
 use Rattle.ca_model.specs.Client.{farewell}
 use Rattle.ca_model.specs.ClientCalls.{WantedCircuit, wanted}
 use Rattle.ca_model.specs.History as history
-use Rattle.ca_model_world.specs.Events.{Accept}
-use Rattle.ca_model_world.specs.Runs.{CanBe}
-use Rattle.ca_model_world.specs.World.{World}
+use Rattle.ca_model.specs.Events.{Accept}
+use Rattle.ca_model.specs.Runs.{CanBe}
+use Rattle.ca_model.specs.World.{World}
 use Rattle.ca_world_data.specs.declared.client.ClientSide.{ClientSide}
 use Rattle.ca_world_data.specs.declared.history.Line.{Line}
 use Rattle.ca_world_data.specs.declared.joined.Joined.{Joined}

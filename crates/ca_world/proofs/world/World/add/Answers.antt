@@ -5,8 +5,8 @@ use Rattle.ca_records.specs.Record.{RecordState, unset}
 use Rattle.ca_text.specs.Place.{At}
 use Rattle.ca_text.proofs.Places.{At-map}
 use Rattle.ca_model.specs.History as history
-use Rattle.ca_model_world.specs.Events.{Add}
-use Rattle.ca_model_world.specs.World.{World}
+use Rattle.ca_model.specs.Events.{Add}
+use Rattle.ca_model.specs.World.{World}
 use Rattle.ca_world_data.specs.declared.client.ClientSide.{ClientSide}
 use Rattle.ca_world_data.specs.declared.joined.Joined.{Joined}
 use Rattle.ca_world_data.specs.declared.server.ServerSide.{ServerSide}

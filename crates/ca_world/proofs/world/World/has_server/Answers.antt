@@ -1,6 +1,6 @@
 use Rattle.std.proofs.Common.{ℕ, ◌<◌, sym, subst, arith, lt-ltb, ltb-true}
-use Rattle.ca_model_world.specs.Runs.{IsServer}
-use Rattle.ca_model_world.specs.World.{World}
+use Rattle.ca_model.specs.Runs.{IsServer}
+use Rattle.ca_model.specs.World.{World}
 use Rattle.ca_world_data.specs.Logs.{lines_in}
 use Rattle.ca_world_data.specs.Opening.{entries_in}
 use Rattle.ca_world.proofs.Waits.{server-here, server-within}

@@ -1,13 +1,13 @@
 use Rattle.std.proofs.Common.{◌≡◌, List, [], map, ap, refl, sym, subst, ◌∙◌}
 use Rattle.ca_model.specs.Ends.{Address}
-use Rattle.ca_model_world.specs.World.{Joined, Setting, addresses, client_begun, numbered, opening}
-use Rattle.ca_model_world.specs.World as model
-use Rattle.ca_laws_bytes.specs.ServerFits.{ServersFit}
-use Rattle.ca_laws_bytes.proofs.ServerSpeaking.{opening-servers}
-use Rattle.ca_laws_held.specs.Quiet.{ClientsQuiet}
-use Rattle.ca_laws_held.proofs.Kept.{quiet-opening}
-use Rattle.ca_laws_runs.specs.Clients.{ClientsStand}
-use Rattle.ca_laws_runs.proofs.Events.{stands-opening}
+use Rattle.ca_model.specs.World.{Joined, Setting, addresses, client_begun, numbered, opening}
+use Rattle.ca_model.specs.World as model
+use Rattle.ca_laws_parts.specs.ServerFits.{ServersFit}
+use Rattle.ca_laws_parts.proofs.ServerSpeaking.{opening-servers}
+use Rattle.ca_laws_runs.specs.Quiet.{ClientsQuiet}
+use Rattle.ca_laws_runs.proofs.Kept.{quiet-opening}
+use Rattle.ca_laws_parts.specs.Clients.{ClientsStand}
+use Rattle.ca_laws_parts.proofs.RunsEvents.{stands-opening}
 use Rattle.ca_world_data.specs.Indexed.{AreIndexed, client_numbers, server_numbers}
 use Rattle.ca_world.specs.Whole.{CameAbout, IsReached}
 use Rattle.ca_world_data.specs.Named.{AreMeant}

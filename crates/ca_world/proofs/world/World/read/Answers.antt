@@ -3,8 +3,8 @@ use Rattle.std.specs.Prelude.{map, slice_set}
 use Rattle.ca_text.specs.Place.{At}
 use Rattle.ca_text.proofs.Places.{At-map}
 use Rattle.ca_model.specs.ClientCalls.{Shape}
-use Rattle.ca_model_world.specs.Events.{Read}
-use Rattle.ca_model_world.specs.World as model
+use Rattle.ca_model.specs.Events.{Read}
+use Rattle.ca_model.specs.World as model
 use Rattle.ca_world_data.specs.declared.client.ClientSide.{ClientSide}
 use Rattle.ca_world_data.specs.Does.{Does}
 use Rattle.ca_world_data.specs.Logs.{lines_in}

@@ -1,5 +1,5 @@
 use Rattle.std.proofs.Common.{ℕ, sym, subst, arith}
-use Rattle.ca_model_world.specs.World.{World}
+use Rattle.ca_model.specs.World.{World}
 use Rattle.ca_world.specs.Waiting.{Receives}
 use Rattle.ca_world_data.specs.Logs.{lines_in}
 use Rattle.ca_world_data.specs.Opening.{entries_in}

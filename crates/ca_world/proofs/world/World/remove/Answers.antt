@@ -2,8 +2,8 @@ use Rattle.std.proofs.Common.{ℕ, ◌<◌, length, List, arith, subst}
 use Rattle.std.specs.Prelude.{map, slice_set}
 use Rattle.ca_text.specs.Place.{At}
 use Rattle.ca_text.proofs.Places.{At-map}
-use Rattle.ca_model_world.specs.Events.{Remove}
-use Rattle.ca_model_world.specs.World.{World}
+use Rattle.ca_model.specs.Events.{Remove}
+use Rattle.ca_model.specs.World.{World}
 use Rattle.ca_model.specs.History as history
 use Rattle.ca_world_data.specs.declared.client.ClientSide.{ClientSide}
 use Rattle.ca_world_data.specs.declared.joined.Joined.{Joined}

@@ -1,9 +1,9 @@
 use Rattle.std.proofs.Common.{◌≡◌, ◌<◌, length, List, map, refl, subst, arith}
 use Rattle.ca_text.specs.Place.{At}
 use Rattle.ca_text.proofs.Places.{At-map}
-use Rattle.ca_model_world.specs.Events.{ServerDatagram}
-use Rattle.ca_model_world.specs.Runs.{Happens, IsServer}
-use Rattle.ca_model_world.specs.World.{World}
+use Rattle.ca_model.specs.Events.{ServerDatagram}
+use Rattle.ca_model.specs.Runs.{Happens, IsServer}
+use Rattle.ca_model.specs.World.{World}
 use Rattle.ca_world_data.specs.declared.server.ServerSide.{ServerSide}
 use Rattle.ca_world_data.specs.Seen.{server_of}
 use Rattle.ca_world_data.proofs.Worlds.{found}

@@ -1,8 +1,8 @@
 use Rattle.std.proofs.Common.{ℕ, ◌<◌, length, List, arith, subst, Vec, Global}
 use Rattle.std.specs.Prelude.{slice_set}
 use Rattle.ca_text.specs.Place.{At}
-use Rattle.ca_model_world.specs.Events.{ServerRestart}
-use Rattle.ca_model_world.specs.World.{World}
+use Rattle.ca_model.specs.Events.{ServerRestart}
+use Rattle.ca_model.specs.World.{World}
 use Rattle.ca_world_data.specs.declared.client.ClientSide.{ClientSide}
 use Rattle.ca_world_data.specs.declared.history.Entry.{Entry}
 use Rattle.ca_world_data.specs.declared.history.Line.{Line}

@@ -3,9 +3,9 @@ use Rattle.std.specs.Prelude.{map, slice_set}
 use Rattle.ca_text.specs.Place.{At}
 use Rattle.ca_text.proofs.Places.{At-map, At-within}
 use Rattle.ca_model.specs.History.{Line}
-use Rattle.ca_model_world.specs.Events.{ServerStep}
-use Rattle.ca_model_world.specs.Runs.{CanBe}
-use Rattle.ca_model_world.specs.World.{World}
+use Rattle.ca_model.specs.Events.{ServerStep}
+use Rattle.ca_model.specs.Runs.{CanBe}
+use Rattle.ca_model.specs.World.{World}
 use Rattle.ca_model.specs.History as history
 use Rattle.ca_world_data.specs.declared.client.ClientSide.{ClientSide}
 use Rattle.ca_world_data.specs.declared.ends.Ends.{Ends}

@@ -1,6 +1,6 @@
 use Rattle.std.proofs.Common.{sym, subst}
 use Rattle.ca_events.specs.Events.{event_of}
-use Rattle.ca_model_world.specs.Events.{Event}
+use Rattle.ca_model.specs.Events.{Event}
 use Rattle.ca_world.specs.Stepping.{Steps}
 use Rattle.ca_world.proofs.Ended.{moment-is}
 use Rattle.ca_world.proofs.world.World.step.Goals as goal

@@ -1,8 +1,8 @@
 use Rattle.std.proofs.Common.{◌≤◌, List, Ok, map, refl, ap, subst, arith}
 use Rattle.ca_model.specs.History.{Line}
-use Rattle.ca_model_world.specs.Events.{Tick}
-use Rattle.ca_model_world.specs.Runs.{Happens, TicksBefore}
-use Rattle.ca_model_world.specs.World.{Joined, World}
+use Rattle.ca_model.specs.Events.{Tick}
+use Rattle.ca_model.specs.Runs.{Happens, TicksBefore}
+use Rattle.ca_model.specs.World.{Joined, World}
 use Rattle.ca_world_data.specs.declared.client.ClientSide.{ClientSide}
 use Rattle.ca_world_data.specs.declared.server.ServerSide.{ServerSide}
 use Rattle.ca_world_data.specs.Indexed.{client_numbers, server_numbers}

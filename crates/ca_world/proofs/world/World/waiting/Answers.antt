@@ -1,7 +1,7 @@
 use Rattle.std.proofs.Common.{ℕ, ◌<◌, List, length, subst, arith}
 use Rattle.ca_text.specs.Place.{At}
 use Rattle.ca_text.proofs.Places.{At-within}
-use Rattle.ca_model_world.specs.World.{World}
+use Rattle.ca_model.specs.World.{World}
 use Rattle.ca_world.specs.Waiting.{IsNoCircuit}
 use Rattle.ca_world_data.specs.declared.client.ClientSide.{ClientSide}
 use Rattle.ca_world_data.specs.declared.joined.Joined.{Joined}

@@ -1,5 +1,0 @@
-use Rattle.ca_laws_calls.proofs.ClientCalls.{clients-send-legally}
-use Rattle.ca_laws_calls.proofs.clients.what_a_client_sends_is_legal.Goals as goal
-
-pub returns : goal.returns
-returns c = clients-send-legally

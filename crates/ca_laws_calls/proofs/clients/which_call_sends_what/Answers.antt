@@ -1,5 +1,0 @@
-use Rattle.ca_laws_calls.proofs.Saying.{adds-sent, requests-once}
-use Rattle.ca_laws_calls.proofs.clients.which_call_sends_what.Goals as goal
-
-pub returns : goal.returns
-returns c = record { requests = requests-once; subscriptions = adds-sent }

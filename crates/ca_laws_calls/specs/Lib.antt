@@ -1,3 +1,0 @@
-pub mod Conduct
-pub mod ClientRows
-pub mod ClientSends

@@ -1,5 +1,0 @@
-use Rattle.ca_laws_circuit.proofs.Sids.{acts-on-own, one-live, sids-handled, sids-heard, sids-new, sids-sent, sids-told}
-use Rattle.ca_laws_circuit.proofs.laws.sids_mean_their_channel.Goals as goal
-
-pub returns : goal.returns
-returns c = record { new = sids-new; sent = sids-sent; read = sids-heard; handled = sids-handled; told = sids-told; one = one-live; acts = acts-on-own }

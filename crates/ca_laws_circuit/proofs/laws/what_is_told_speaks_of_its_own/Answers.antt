@@ -1,5 +1,0 @@
-use Rattle.ca_laws_circuit.proofs.Told.{finish-speaks, removal-speaks, reply-speaks, update-speaks}
-use Rattle.ca_laws_circuit.proofs.laws.what_is_told_speaks_of_its_own.Goals as goal
-
-pub returns : goal.returns
-returns c = record { reply = reply-speaks; finish = finish-speaks; removal = removal-speaks; update = update-speaks }

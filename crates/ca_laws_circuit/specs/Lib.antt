@@ -1,5 +1,0 @@
-pub mod Flows
-pub mod Replies
-pub mod Held
-pub mod Sids
-pub mod Steps

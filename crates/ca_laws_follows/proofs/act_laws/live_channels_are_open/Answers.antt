@@ -1,5 +1,0 @@
-use Rattle.ca_laws_follows.proofs.ActsLive.{run-live}
-use Rattle.ca_laws_follows.proofs.act_laws.live_channels_are_open.Goals as goal
-
-pub returns : goal.returns
-returns c = run-live

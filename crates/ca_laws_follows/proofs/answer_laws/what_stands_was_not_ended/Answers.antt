@@ -1,5 +1,0 @@
-use Rattle.ca_laws_follows.proofs.KnewStands.{run-unended}
-use Rattle.ca_laws_follows.proofs.answer_laws.what_stands_was_not_ended.Goals as goal
-
-pub returns : goal.returns
-returns c = run-unended

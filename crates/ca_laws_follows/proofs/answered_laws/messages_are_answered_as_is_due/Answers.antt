@@ -1,5 +1,0 @@
-use Rattle.ca_laws_follows.proofs.DueRuns.{run-due}
-use Rattle.ca_laws_follows.proofs.answered_laws.messages_are_answered_as_is_due.Goals as goal
-
-pub returns : goal.returns
-returns c = run-due

@@ -1,5 +1,0 @@
-use Rattle.ca_laws_follows.proofs.KnewFull.{run-know-full}
-use Rattle.ca_laws_follows.proofs.full_laws.servers_know_when_they_are_full.Goals as goal
-
-pub returns : goal.returns
-returns c = run-know-full

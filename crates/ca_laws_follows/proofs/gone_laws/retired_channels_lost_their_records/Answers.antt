@@ -1,5 +1,0 @@
-use Rattle.ca_laws_follows.proofs.GoneRetired.{run-gone}
-use Rattle.ca_laws_follows.proofs.gone_laws.retired_channels_lost_their_records.Goals as goal
-
-pub returns : goal.returns
-returns c = run-gone

@@ -1,5 +1,0 @@
-use Rattle.ca_laws_follows.proofs.FaceRuns.{run-settings}
-use Rattle.ca_laws_follows.proofs.knew_laws.servers_keep_their_settings.Goals as goal
-
-pub returns : goal.returns
-returns c = run-settings

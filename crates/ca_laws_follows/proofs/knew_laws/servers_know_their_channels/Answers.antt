@@ -1,5 +1,0 @@
-use Rattle.ca_laws_follows.proofs.KnewListsRuns.{run-know-channels}
-use Rattle.ca_laws_follows.proofs.knew_laws.servers_know_their_channels.Goals as goal
-
-pub returns : goal.returns
-returns c = run-know-channels

@@ -1,5 +1,0 @@
-use Rattle.ca_laws_follows.proofs.Whole.{run-stand}
-use Rattle.ca_laws_follows.proofs.laws.listed_records_are_there.Goals as goal
-
-pub returns : goal.returns
-returns c s es stopped w ok runs = (run-stand s es stopped w ok runs).listed

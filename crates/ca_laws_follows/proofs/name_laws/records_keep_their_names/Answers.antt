@@ -1,5 +1,0 @@
-use Rattle.ca_laws_follows.proofs.NamesEvents.{run-keep}
-use Rattle.ca_laws_follows.proofs.name_laws.records_keep_their_names.Goals as goal
-
-pub returns : goal.returns
-returns c = run-keep

@@ -1,5 +1,0 @@
-use Rattle.ca_laws_follows.proofs.Promised.{run-answers-own}
-use Rattle.ca_laws_follows.proofs.promise_laws.each_answer_is_its_own_requests.Goals as goal
-
-pub returns : goal.returns
-returns c = run-answers-own

@@ -1,5 +1,0 @@
-use Rattle.ca_laws_follows.proofs.AnsweredWhole.{run-are-answered}
-use Rattle.ca_laws_follows.proofs.promise_laws.each_message_is_answered.Goals as goal
-
-pub returns : goal.returns
-returns c = run-are-answered

@@ -1,5 +1,0 @@
-use Rattle.ca_laws_follows.proofs.Promised.{promised}
-use Rattle.ca_laws_follows.proofs.promise_laws.runs_are_safe.Goals as goal
-
-pub returns : goal.returns
-returns c = promised

@@ -1,5 +1,0 @@
-use Rattle.ca_laws_follows.proofs.ActsRefused.{run-retired}
-use Rattle.ca_laws_follows.proofs.refused_laws.bad_channels_lost_their_records.Goals as goal
-
-pub returns : goal.returns
-returns c = run-retired

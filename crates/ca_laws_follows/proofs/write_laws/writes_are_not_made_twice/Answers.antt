@@ -1,5 +1,0 @@
-use Rattle.ca_laws_follows.proofs.OwnWrites.{run-not-twice}
-use Rattle.ca_laws_follows.proofs.write_laws.writes_are_not_made_twice.Goals as goal
-
-pub returns : goal.returns
-returns c = run-not-twice

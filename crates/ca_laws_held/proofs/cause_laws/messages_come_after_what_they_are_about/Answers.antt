@@ -1,5 +1,0 @@
-use Rattle.ca_laws_held.proofs.CauseKeeps.{run-come-after}
-use Rattle.ca_laws_held.proofs.cause_laws.messages_come_after_what_they_are_about.Goals as goal
-
-pub returns : goal.returns
-returns c = run-come-after

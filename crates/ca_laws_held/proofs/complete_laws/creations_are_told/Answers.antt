@@ -1,5 +1,0 @@
-use Rattle.ca_laws_held.proofs.ToldCreated.{run-creations}
-use Rattle.ca_laws_held.proofs.complete_laws.creations_are_told.Goals as goal
-
-pub returns : goal.returns
-returns c = run-creations

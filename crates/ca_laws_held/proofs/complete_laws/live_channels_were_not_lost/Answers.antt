@@ -1,5 +1,0 @@
-use Rattle.ca_laws_held.proofs.LostLast.{run-none-lost}
-use Rattle.ca_laws_held.proofs.complete_laws.live_channels_were_not_lost.Goals as goal
-
-pub returns : goal.returns
-returns c = run-none-lost

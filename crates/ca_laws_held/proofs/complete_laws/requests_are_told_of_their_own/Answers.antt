@@ -1,5 +1,0 @@
-use Rattle.ca_laws_held.proofs.ToldWhole.{run-requests}
-use Rattle.ca_laws_held.proofs.complete_laws.requests_are_told_of_their_own.Goals as goal
-
-pub returns : goal.returns
-returns c = run-requests

@@ -1,5 +1,0 @@
-use Rattle.ca_laws_held.proofs.ToldTwice.{run-told-once}
-use Rattle.ca_laws_held.proofs.complete_laws.uses_are_told_of_once.Goals as goal
-
-pub returns : goal.returns
-returns c = run-told-once

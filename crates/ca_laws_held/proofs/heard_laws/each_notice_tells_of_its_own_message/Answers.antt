@@ -1,5 +1,0 @@
-use Rattle.ca_laws_held.proofs.Whole.{after-tells}
-use Rattle.ca_laws_held.proofs.heard_laws.each_notice_tells_of_its_own_message.Goals as goal
-
-pub returns : goal.returns
-returns c = after-tells

@@ -1,5 +1,0 @@
-use Rattle.ca_laws_held.proofs.LegalIds.{run-ids}
-use Rattle.ca_laws_held.proofs.id_laws.clients_give_free_ids.Goals as goal
-
-pub returns : goal.returns
-returns c = run-ids

@@ -1,5 +1,0 @@
-use Rattle.ca_laws_held.proofs.Joint.{run-held}
-use Rattle.ca_laws_held.proofs.laws.all_circuits_are_held.Goals as goal
-
-pub returns : goal.returns
-returns c = run-held

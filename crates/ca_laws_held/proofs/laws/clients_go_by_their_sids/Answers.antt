@@ -1,5 +1,0 @@
-use Rattle.ca_laws_held.proofs.Joint.{run-says, run-sided}
-use Rattle.ca_laws_held.proofs.laws.clients_go_by_their_sids.Goals as goal
-
-pub returns : goal.returns
-returns c = record { says = run-says; sides = run-sided }

@@ -1,5 +1,0 @@
-use Rattle.ca_laws_held.proofs.Joint.{run-asked, run-takes}
-use Rattle.ca_laws_held.proofs.laws.messages_mean_their_own.Goals as goal
-
-pub returns : goal.returns
-returns c = record { asked = run-asked; own = run-takes }

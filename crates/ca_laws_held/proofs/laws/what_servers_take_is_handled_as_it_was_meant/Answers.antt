@@ -1,5 +1,0 @@
-use Rattle.ca_laws_held.proofs.Joint.{run-known}
-use Rattle.ca_laws_held.proofs.laws.what_servers_take_is_handled_as_it_was_meant.Goals as goal
-
-pub returns : goal.returns
-returns c = run-known

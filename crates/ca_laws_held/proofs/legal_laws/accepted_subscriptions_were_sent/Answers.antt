@@ -1,5 +1,0 @@
-use Rattle.ca_laws_held.proofs.OnceSentRuns.{is-sent}
-use Rattle.ca_laws_held.proofs.legal_laws.accepted_subscriptions_were_sent.Goals as goal
-
-pub returns : goal.returns
-returns c = is-sent

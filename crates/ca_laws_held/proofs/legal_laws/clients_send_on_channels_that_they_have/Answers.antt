@@ -1,5 +1,0 @@
-use Rattle.ca_laws_held.proofs.LegalRead.{run-channels}
-use Rattle.ca_laws_held.proofs.legal_laws.clients_send_on_channels_that_they_have.Goals as goal
-
-pub returns : goal.returns
-returns c = run-channels

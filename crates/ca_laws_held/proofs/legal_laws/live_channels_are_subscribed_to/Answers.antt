@@ -1,5 +1,0 @@
-use Rattle.ca_laws_held.proofs.AddsAnew.{run-adds-anew}
-use Rattle.ca_laws_held.proofs.legal_laws.live_channels_are_subscribed_to.Goals as goal
-
-pub returns : goal.returns
-returns c = run-adds-anew

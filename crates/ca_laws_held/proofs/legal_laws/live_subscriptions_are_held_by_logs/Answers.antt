@@ -1,5 +1,0 @@
-use Rattle.ca_laws_held.proofs.HeldLogs.{run-held-logs}
-use Rattle.ca_laws_held.proofs.legal_laws.live_subscriptions_are_held_by_logs.Goals as goal
-
-pub returns : goal.returns
-returns c = run-held-logs

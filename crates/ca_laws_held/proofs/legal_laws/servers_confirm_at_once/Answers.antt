@@ -1,5 +1,0 @@
-use Rattle.ca_laws_held.proofs.LegalServers.{run-confirms}
-use Rattle.ca_laws_held.proofs.legal_laws.servers_confirm_at_once.Goals as goal
-
-pub returns : goal.returns
-returns c = run-confirms

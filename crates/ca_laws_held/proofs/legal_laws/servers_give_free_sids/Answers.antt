@@ -1,5 +1,0 @@
-use Rattle.ca_laws_held.proofs.LegalServers.{run-gives-sids}
-use Rattle.ca_laws_held.proofs.legal_laws.servers_give_free_sids.Goals as goal
-
-pub returns : goal.returns
-returns c = run-gives-sids

@@ -1,5 +1,0 @@
-use Rattle.ca_laws_held.proofs.HeldAdds.{run-adds-held}
-use Rattle.ca_laws_held.proofs.legal_laws.subscriptions_were_held_as_they_were_added.Goals as goal
-
-pub returns : goal.returns
-returns c = run-adds-held

@@ -1,5 +1,0 @@
-use Rattle.ca_laws_held.proofs.OnceRuns.{called-once}
-use Rattle.ca_laws_held.proofs.once_laws.a_call_is_accepted_once.Goals as goal
-
-pub returns : goal.returns
-returns c = called-once

@@ -1,5 +1,0 @@
-use Rattle.ca_laws_held.proofs.OnceNoticedRuns.{tells-once}
-use Rattle.ca_laws_held.proofs.once_laws.what_is_awaited_is_told_once.Goals as goal
-
-pub returns : goal.returns
-returns c = tells-once

@@ -1,5 +1,0 @@
-use Rattle.ca_laws_held.proofs.OrderKeeps.{run-lives}
-use Rattle.ca_laws_held.proofs.order_laws.circuits_join_lives.Goals as goal
-
-pub returns : goal.returns
-returns c = run-lives

@@ -1,5 +1,0 @@
-use Rattle.ca_laws_held.proofs.OrderKeeps.{run-server-steps}
-use Rattle.ca_laws_held.proofs.order_laws.steps_of_servers_are_in_order.Goals as goal
-
-pub returns : goal.returns
-returns c = run-server-steps

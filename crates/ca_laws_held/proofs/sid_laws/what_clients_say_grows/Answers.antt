@@ -1,5 +1,0 @@
-use Rattle.ca_laws_held.proofs.SidGrows.{before-past, between-sent, between-told, under-sent, under-told}
-use Rattle.ca_laws_held.proofs.sid_laws.what_clients_say_grows.Goals as goal
-
-pub returns : goal.returns
-returns c = record { past = before-past; sent = under-sent; created = between-sent; told = under-told; answered = between-told }

@@ -1,5 +1,0 @@
-use Rattle.ca_laws_held.proofs.StepWhole.{reached-others}
-use Rattle.ca_laws_held.proofs.step_laws.events_keep_what_is_held.Goals as goal
-
-pub returns : goal.returns
-returns c = reached-others

@@ -1,5 +1,0 @@
-use Rattle.ca_laws_held.proofs.StepWhole.{event-serves, opening-serves, run-serves}
-use Rattle.ca_laws_held.proofs.step_laws.puts_came_on_their_channels.Goals as goal
-
-pub returns : goal.returns
-returns c = record { begins = opening-serves; event = event-serves; run = run-serves }

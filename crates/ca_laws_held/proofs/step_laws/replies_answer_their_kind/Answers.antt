@@ -1,5 +1,0 @@
-use Rattle.ca_laws_held.proofs.Replied.{reached-answer}
-use Rattle.ca_laws_held.proofs.step_laws.replies_answer_their_kind.Goals as goal
-
-pub returns : goal.returns
-returns c = reached-answer

@@ -1,5 +1,0 @@
-use Rattle.ca_laws_held.proofs.StepWhole.{reached-awaited}
-use Rattle.ca_laws_held.proofs.step_laws.what_is_awaited_is_kept.Goals as goal
-
-pub returns : goal.returns
-returns c = reached-awaited

@@ -1,6 +1,0 @@
-use Rattle.ca_laws_held.proofs.ToldRuns.{run-updates-own}
-use Rattle.ca_laws_held.proofs.told_laws.updates_are_told_of_their_own.Goals as goal
-
--- src/told_laws.rt:11:1
-pub returns : goal.returns
-returns c = run-updates-own

@@ -1,5 +1,0 @@
-use Rattle.ca_laws_kept.proofs.Runs.{channels-event, channels-run, opening-channels}
-use Rattle.ca_laws_kept.proofs.kept.channels_are_those_that_were_created.Goals as goal
-
-pub returns : goal.returns
-returns c = record { begins = opening-channels; event = channels-event; run = channels-run }

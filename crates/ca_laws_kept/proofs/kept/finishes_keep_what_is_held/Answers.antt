@@ -1,5 +1,0 @@
-use Rattle.ca_laws_kept.proofs.Finishes.{finish-keeps-held}
-use Rattle.ca_laws_kept.proofs.kept.finishes_keep_what_is_held.Goals as goal
-
-pub returns : goal.returns
-returns c = finish-keeps-held

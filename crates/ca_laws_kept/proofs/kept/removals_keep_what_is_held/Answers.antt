@@ -1,5 +1,0 @@
-use Rattle.ca_laws_kept.proofs.Removals.{remove-keeps-held}
-use Rattle.ca_laws_kept.proofs.kept.removals_keep_what_is_held.Goals as goal
-
-pub returns : goal.returns
-returns c = remove-keeps-held

@@ -1,5 +1,0 @@
-use Rattle.ca_laws_kept.proofs.Thins.{kept-from}
-use Rattle.ca_laws_kept.proofs.kept.what_is_kept_was_kept.Goals as goal
-
-pub returns : goal.returns
-returns c = kept-from

@@ -1,0 +1,132 @@
+-- The events of a server keep that what clients called was sent.
+use Rattle.std.proofs.Common.{◌≡◌, ℕ, inl, inr, Bool, true, false, ◌&&◌, cond, eqb, List, [], ◌∷◌, ◌++◌, length, Option, Some, None, refl, sym, subst}
+use Rattle.std.specs.List.{list_any}
+use Rattle.ca_ids.specs.Wire.{wire_of}
+use Rattle.ca_queue.specs.declared.entry.SubKey.{SubKey}
+use Rattle.std.specs.Str.{bytes_eq}
+use Rattle.std.specs.Prelude.{filter, map, not, option_map, slice_get, slice_set, unwrap_or}
+use Rattle.ca_text.specs.Place.{At}
+use Rattle.ca_arena.specs.declared.handle.Handle.{Handle}
+use Rattle.ca_dbr.specs.Elements.{Elements}
+use Rattle.ca_ids.specs.Table.{under}
+use Rattle.ca_records.specs.Puts.{WaitingPut}
+use Rattle.ca_records.specs.Record.{RecordState}
+use Rattle.ca_wire.specs.Fields.{Fields}
+use Rattle.ca_model.specs.Due.{Action}
+use Rattle.ca_model.specs.Ends as why
+use Rattle.ca_model.specs.History.{Reply}
+use Rattle.ca_model.specs.Server.{OpenChannel}
+use Rattle.ca_model.specs.ServerSteps.{Closed, Handled, NeedBytes, OutputFull, Stepped, Update, closed, write_mask}
+use Rattle.ca_model.specs.ServerEvents.{HappensAdd, HappensCutServer, HappensFinish, HappensPost, HappensPump, HappensRemove, HappensServerRestart, HappensServerStep, ServerStepped, about, acted, disconnected_at, ending, ends_by, ends_here, ends_untold, handled_at, logged, next_busy, next_numbers, numbers_after, numbers_posted, removal_told, removed_at, replied_at, server_after, side_of, stamped, unsaid, with_record, without_standing, write_numbers}
+use Rattle.ca_model.specs.World.{Joined, RecordSide, ServerSide, World, with_circuit, with_entries, with_server}
+use Rattle.ca_laws_parts.proofs.Handled.{numbers-like, posted-like, writes-like}
+use Rattle.ca_laws_runs.proofs.OnceSent.{IsSameEnd, SentStand, all-map, all-same, all-set, all-then, sent-same, sent-server, same-end, same-ending, same-like, same-then}
+
+plain : (a j : Joined) → j.client ≡ a.client → j.at_client ≡ a.at_client → j.lists.client ≡ a.lists.client → j.lists.client_open ≡ a.lists.client_open → j.lists.up ≡ a.lists.up → IsSameEnd a j
+plain a j client handle life opens up = record { client = client; handle = handle; life = life; opens = opens; up = up }
+
+-- a circuit is noted, or changed where it stands
+sent-at : (w : World) (k : ℕ) (f : Joined → Joined) → ((a : Joined) → IsSameEnd a (f a)) → SentStand w → SentStand (unwrap_or (option_map (λ (c : Joined). with_circuit k (f c) w) (slice_get w.circuits k)) w)
+sent-at w k f ends s = go (slice_get w.circuits k) refl
+  where
+    go : (o : Option Joined) → slice_get w.circuits k ≡ o → SentStand (unwrap_or (option_map (λ (c : Joined). with_circuit k (f c) w) o) w)
+    go None is = s
+    go (Some c) is = sent-same w (with_circuit k (f c) w) refl refl (all-set k c (f c) w.circuits is (ends c)) s
+
+module _ (w new : World) (k : ℕ) (j : Joined) (y : ServerSide) (at : At w.circuits k j) (s : SentStand w) where
+  sent-acted : (action : Action) → SentStand (acted k j y action w)
+  sent-acted action =
+      let here : List Joined = slice_set w.circuits k (numbers_after (length j.lists.handled) action j) in
+      sent-same w (acted k j y action w) refl refl
+      (all-then w.circuits here (map (write_numbers j.server y.core action) here)
+      (all-set k j (numbers_after (length j.lists.handled) action j) w.circuits at (same-like j _ (numbers-like (length j.lists.handled) action j)))
+      (all-map (write_numbers j.server y.core action) here (λ a. same-like a _ (writes-like j.server y.core action a)))) s
+
+  sent-unsaid : (action : Action) (o : Option (Handle → Bool)) → SentStand (unsaid k j y action o w)
+  sent-unsaid action None = s
+  sent-unsaid action (Some gone) = sent-acted action
+
+  sent-stepped : (did : Stepped) → ServerStepped w k j y did new → SentStand new
+  sent-stepped Handled steps =
+      let mid : World = acted k j y (steps.steps.0).action w in
+      let after : World = server_after j.server (side_of j.server y mid) (ends_by j.server steps.core) steps.core mid in
+      subst (λ (v : World). SentStand v) (sym steps.leaves)
+      (sent-at after k (handled_at (length j.lists.handled) (record { sent = length j.lists.down; logged = logged y w; after = logged y after }) (steps.steps.0).replies) (λ a. plain a _ refl refl refl refl refl)
+      (sent-server mid j.server (side_of j.server y mid) (ends_by j.server steps.core) steps.core (sent-acted (steps.steps.0).action)))
+  sent-stepped NeedBytes steps = subst (λ (v : World). SentStand v) (sym steps.3) s
+  sent-stepped OutputFull steps = subst (λ (v : World). SentStand v) (sym steps.3) s
+  sent-stepped (Closed why.OutOfMemory left) steps =
+      let mid : World = unsaid k j y steps.lacks.next.action steps.lacks.written w in
+      subst (λ (v : World). SentStand v) (sym steps.leaves)
+      (sent-server mid j.server (side_of j.server y mid) (ends_here j left j.server steps.core) steps.core (sent-unsaid steps.lacks.next.action steps.lacks.written))
+  sent-stepped (Closed cause left) steps =
+      subst (λ (v : World). SentStand v) (sym steps.3) (sent-server w j.server y (ends_here j left j.server y.core) (closed j.at_server y.core) s)
+
+  pub sent-server-step : HappensServerStep w k j y new → SentStand new
+  sent-server-step happens = sent-stepped happens.0 happens.1
+
+  stamped-end : (us : List Update) (a : Joined) → IsSameEnd a (stamped us a)
+  stamped-end [] a = same-end a
+  stamped-end (u ∷ us) a = same-then a (stamped (u ∷ []) a) (stamped us (stamped (u ∷ []) a)) (plain a (stamped (u ∷ []) a) refl refl refl refl refl) (stamped-end us (stamped (u ∷ []) a))
+
+  pub sent-pump : HappensPump w k j y new → SentStand new
+  sent-pump happens =
+      let mid : World = with_circuit k (stamped happens.updates j) w in
+      subst (λ (v : World). SentStand v) (sym happens.leaves)
+      (sent-server mid j.server y (ends_by j.server happens.core) happens.core
+      (sent-same w mid refl refl (all-set k j (stamped happens.updates j) w.circuits at (stamped-end happens.updates j)) s))
+
+  pub sent-cut-server : HappensCutServer w k j y new → SentStand new
+  sent-cut-server happens = subst (λ (v : World). SentStand v) (sym happens.leaves) (sent-server w j.server y (ends_by j.server happens.core) happens.core s)
+
+module _ (w new : World) (i : ℕ) (y : ServerSide) (s : SentStand w) where
+  pub sent-post : (name : List ℕ) (e : Elements) (mask : ℕ) → HappensPost w i y name e mask new → SentStand new
+  sent-post name e mask happens = elim happens.2 [
+    | inr refusal ↦ subst (λ (v : World). SentStand v) (sym refusal.3) s
+    | inl did ↦
+        let posted : World = record w { circuits = map (numbers_posted i y.core name mask) w.circuits } in
+        let mid : World = with_entries y.life _ posted in
+        subst (λ (v : World). SentStand v) (sym did.1)
+        (sent-server mid i y (ends_by i happens.1) happens.1 (sent-same w mid refl refl (all-map (numbers_posted i y.core name mask) w.circuits (λ a. same-like a _ (posted-like i y.core name mask a))) s))
+  ]
+
+  next-end : (name : List ℕ) (ps : List WaitingPut) (a : Joined) → IsSameEnd a (next_numbers i y.core name ps a)
+  next-end name [] a = same-end a
+  next-end name (p ∷ ps) a = same-like a _ (posted-like i y.core name write_mask a)
+
+  pub sent-finish : (name : List ℕ) → HappensFinish w i y name new → SentStand new
+  sent-finish name happens = elim happens [
+    | inr refusal ↦ subst (λ (v : World). SentStand v) (sym refusal.2) s
+    | inl did ↦
+        let side : ServerSide = record y { records = with_record name next_busy y.records } in
+        let mid : World = with_entries y.life _ (with_server i side (record w { circuits = map (next_numbers i y.core name did.cr.waiting) w.circuits })) in
+        subst (λ (v : World). SentStand v) (sym did.leaves)
+        (sent-server (replied_at did.p did.sent mid) i side (ends_by i did.core) did.core
+        (sent-at mid did.p.circuit (λ (a : Joined). record a { lists = record a.lists { down = a.lists.down ++ about did.p.place Reply (map (λ (m : Handle × Fields). m.1) did.sent) } }) (λ a. plain a _ refl refl refl refl refl)
+        (sent-same w mid refl refl (all-map (next_numbers i y.core name did.cr.waiting) w.circuits (next-end name did.cr.waiting)) s)))
+  ]
+
+  removed-end : (name : List ℕ) (gone : Handle → Bool) (left : Handle → ℕ) (a : Joined) → IsSameEnd a (removed_at i y.core name gone left a)
+  removed-end name gone left a = go (eqb a.server i && a.lists.server_open)
+    where
+      go : (b : Bool) → IsSameEnd a (cond b (without_standing (λ (k : SubKey). list_any (λ (c : Handle × OpenChannel). eqb (wire_of c.0) k.sid) (disconnected_at name gone left a.at_server (under y.core.circuits a.at_server))) (record a { lists = record a.lists { down = a.lists.down ++ map (removal_told a.creations) (disconnected_at name gone left a.at_server (under y.core.circuits a.at_server)) } })) a)
+      go true = plain a _ refl refl refl refl refl
+      go false = same-end a
+
+  pub sent-remove : (name : List ℕ) → HappensRemove w i y name new → SentStand new
+  sent-remove name happens = elim happens.3 [
+    | inr refusal ↦ subst (λ (v : World). SentStand v) (sym refusal.1) s
+    | inl did ↦
+        let side : ServerSide = record y { records = filter (λ (r : RecordSide). not (bytes_eq r.name name)) y.records } in
+        subst (λ (v : World). SentStand v) (sym did.1)
+        (sent-server _ i side (ends_by i happens.2) happens.2 (sent-same w _ refl refl (all-map (removed_at i y.core name happens.0 happens.1) w.circuits (removed-end name happens.0 happens.1)) s))
+  ]
+
+  pub sent-add : (r : RecordState) → HappensAdd w i y r new → SentStand new
+  sent-add r happens = elim happens.2 [
+    | inr refusal ↦ subst (λ (v : World). SentStand v) (sym refusal.3) s
+    | inl did ↦ subst (λ (v : World). SentStand v) (sym did.1) (sent-same w _ refl refl (all-same w.circuits) s)
+  ]
+
+  pub sent-server-restart : HappensServerRestart w i y new → SentStand new
+  sent-server-restart happens = subst (λ (v : World). SentStand v) (sym happens) (sent-same w _ refl refl (all-map (ending (ends_untold i y.core)) w.circuits (same-ending (ends_untold i y.core))) s)

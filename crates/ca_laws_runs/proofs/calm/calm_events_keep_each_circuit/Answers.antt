@@ -1,5 +1,0 @@
-use Rattle.ca_laws_runs.proofs.CalmEvents.{keeps-calm}
-use Rattle.ca_laws_runs.proofs.calm.calm_events_keep_each_circuit.Goals as goal
-
-pub returns : goal.returns
-returns c = keeps-calm

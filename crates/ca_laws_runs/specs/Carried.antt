@@ -1,0 +1,67 @@
+-- Working: what the puts and plain writes of clients carry is what their callers gave, and the record that each was applied to has the name of the
+-- caller's channel.
+use Rattle.std.specs.Prelude.{ℕ, ◌≡◌, List, Some}
+use Rattle.ca_dbr.specs.Elements.{Elements, IsValue, base_of, bytes_of, count_of}
+use Rattle.ca_dbr.specs.Types.{base_number}
+use Rattle.ca_records.specs.Record.{RecordState}
+use Rattle.ca_text.specs.Place.{At}
+use Rattle.ca_wire.specs.Fields.{Fields, padded}
+use Rattle.ca_model.specs.History.{Added, Applied, Ask, Called, Entry, Intent, Line, On, Opened, Put, Request, Sent, Waits, Write}
+use Rattle.ca_model.specs.Speech.{In}
+use Rattle.ca_model.specs.World.{Joined, World}
+
+-- ---- what clients send
+
+-- an intent to put, or to write
+abbrev pub IsWrite : Intent → Type 0
+IsWrite (On channel (Request Put number)) = Unit {0}
+IsWrite (On channel (Request Write number)) = Unit {0}
+IsWrite intent = ⊥
+
+-- The message has these elements: their type, how many they are, and their bytes.
+pub record Carries (m : Fields) (e : Elements) : Type 0 where
+  pub typed : m.data_type ≡ base_number (base_of e)
+  pub counted : m.count ≡ count_of e
+  pub payload : m.payload ≡ padded (bytes_of e)
+
+-- By these lines what the message is meant for was called with a value, which the message carries.
+pub record IsCarried (x : List Line) (s : Sent) : Type 0 where
+  pub given : Elements
+  pub called : In x (Called s.intent (Some given))
+  pub valued : IsValue given
+  pub carries : Carries s.message given
+
+-- So it is of each put and each plain write that was sent, by the log of its client's life.
+abbrev pub AllCarried : World → Type 0
+AllCarried w = (n k : ℕ) (c : Joined) (s : Sent) (x : List Line) → At w.circuits n c → At c.lists.up k s → At w.client_logs c.lists.client x
+    → IsWrite s.intent → IsCarried x s
+
+-- ---- what servers log
+
+-- The entry tells that the write at place k of circuit n waits for record r, or was applied to it.
+abbrev pub IsWriteTo : (n k r : ℕ) → Entry → Type 0
+IsWriteTo n k r (Waits m l q v) = (m ≡ n) × (l ≡ k) × (q ≡ r)
+IsWriteTo n k r (Applied m l q v busies) = (m ≡ n) × (l ≡ k) × (q ≡ r)
+IsWriteTo n k r entry = ⊥
+
+-- Record r of this log was added under the name under which the channel was opened that the message at place k of circuit n is meant for.
+pub record IsTitled (w : World) (n k r : ℕ) (y : List Entry) : Type 0 where
+  pub c : Joined
+  pub on : At w.circuits n c
+  pub x : List Line
+  pub lines : At w.client_logs c.lists.client x
+  pub s : Sent
+  pub sent : At c.lists.up k s
+  pub channel : ℕ
+  pub ask : Ask
+  pub meant : s.intent ≡ On channel ask
+  pub state : RecordState
+  pub opened : In x (Opened channel state.name)
+  pub added : In y (Added r state)
+
+-- So it is of each write of which the log of any life of a server tells, as the world has the circuits and the logs of clients.
+abbrev pub LogTitled : World → List Entry → Type 0
+LogTitled w y = (n k r : ℕ) (e : Entry) → In y e → IsWriteTo n k r e → IsTitled w n k r y
+
+abbrev pub AllTitled : World → Type 0
+AllTitled w = (life : ℕ) (y : List Entry) → At w.server_logs life y → LogTitled w y

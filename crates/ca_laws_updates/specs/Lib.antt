@@ -1,4 +1,0 @@
-pub mod Subsequence
-pub mod Seen
-pub mod Rising
-pub mod InStep

@@ -1,5 +1,0 @@
-use Rattle.ca_laws_writes.proofs.Told.{due-done, due-failed}
-use Rattle.ca_laws_writes.proofs.laws.due_replies_say_what_is_done.Goals as goal
-
-pub returns : goal.returns
-returns c = record { done = due-done; failed = due-failed }
