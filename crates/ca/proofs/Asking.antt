@@ -8,7 +8,7 @@ use Rattle.ca.specs.declared.replay.line.ReplayLine.{ReplayLine}
 use Rattle.ca.specs.AnswerWords.{IsWanted, Wants, file_in}
 use Rattle.ca.specs.Lines.{IsLine}
 use Rattle.ca.specs.RepeaterWords.{Asks, IsAsked}
-use Rattle.ca.specs.ReplayWords.{IsNamed, NamesFile}
+use Rattle.ca.specs.ReplayWords.{IsNamed, Names}
 
 -- a number that tells the first words of lines apart
 abbrev mark : List Text → ℕ
@@ -45,12 +45,12 @@ repeater-none words rest r are none is (Repeater line) asks =
     (subst (λ (x : Option RepeaterLine). IsAsked rest x) is none) line (subst (λ (t : List Text). Asks t line) (tail-is (sym asks.1 ∙ are)) asks.2)
 repeater-none words rest r are none is (Replay line) asks = no-repeater-replay words rest asks.0 are asks.1
 
--- words after `replay` that name no file
+-- words after `replay` that name nothing
 pub replay-none : (words rest : List Text) (r : Option ReplayLine) → words ≡ codes "replay" ∷ rest → IsNamed rest r → r ≡ None → IsLine words None
 replay-none words rest r are none is (Answer line) asks = no-answer-replay words asks.0 rest asks.1 are
 replay-none words rest r are none is (Repeater line) asks = no-repeater-replay words asks.0 rest asks.1 are
 replay-none words rest r are none is (Replay line) asks =
-    (subst (λ (x : Option ReplayLine). IsNamed rest x) is none) line.file.now (subst (λ (t : List Text). NamesFile t line.file.now) (tail-is (sym asks.1 ∙ are)) asks.2)
+    (subst (λ (x : Option ReplayLine). IsNamed rest x) is none) line.file.now line.seed (subst (λ (t : List Text). Names t line.file.now line.seed) (tail-is (sym asks.1 ∙ are)) asks.2)
 
 -- another first word
 pub other-none : (words : List Text) → ((rest : List Text) → words ≡ codes "answer" ∷ rest → ⊥) → ((rest : List Text) → words ≡ codes "repeater" ∷ rest → ⊥) → ((rest : List Text) → words ≡ codes "replay" ∷ rest → ⊥) → IsLine words None

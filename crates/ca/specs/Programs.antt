@@ -22,7 +22,7 @@ module _ {S K : Type 0} (gives : S → List ℕ → S → Type 0) (takes : K →
   abbrev pub Does : Option Line → Type 0
   Does (Some (Answer line)) = Answers gives takes calls calls' faults faults' s0 s k0 k (file_in line) status
   Does (Some (Repeater line)) = (s ≡ s0) × ((line.port ≡ 0 → ⊥) → k ≡ k0) × RepeatsAnywhere line status
-  Does (Some (Replay line)) = (s ≡ s0) × (((k ≡ k0) × (status ≡ 1)) ⊎ ((script : List ℕ) × ReplaysTo takes faults' script k0 k status))
+  Does (Some (Replay line)) = (s ≡ s0) × (((k ≡ k0) × (status ≡ 1)) ⊎ ((script : List ℕ) × ReplaysTo takes faults' script line.seed k0 k status))
   Does None = Leaves gives takes calls calls' faults faults' s0 s k0 k status not_understood_status
 
   -- What the words ask for was done; or there was no memory to read them.

@@ -16,7 +16,7 @@ pub enum Line<'a> {
     Answer(AnswerLine<'a>),
     /// `repeater`: hands datagrams on among the host's clients.
     Repeater(RepeaterLine),
-    /// `replay`: does a script's events in a world, and prints the report.
+    /// `replay`: runs a script's events in a world, and prints the report.
     Replay(ReplayLine<'a>),
 }
 

@@ -38,7 +38,7 @@ pub fn run<R: Net + Files, S: Source, K: Sink, W: Write>(
             repeater_bound(alloc, Socket::bind(system, line.port), line, sink, err)
         }
         Ok(Some(Line::Replay(line))) => {
-            replay_file(alloc, File::open(system, line.file), sink, err)
+            replay_file(alloc, File::open(system, line.file), line.seed, sink, err)
         }
         Ok(None) => not_understood(err),
         Err(refusal) => report(Err(refusal), err),

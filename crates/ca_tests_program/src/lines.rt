@@ -5,8 +5,8 @@ const fn answer(records: Option<&'static str>) -> Line<'static> {
     Line::Answer(AnswerLine { records })
 }
 
-const fn replay(file: &'static str) -> Line<'static> {
-    Line::Replay(ReplayLine { file })
+const fn replay(file: &'static str, seed: Option<u64>) -> Line<'static> {
+    Line::Replay(ReplayLine { file, seed })
 }
 
 const fn repeater(port: u16, datagrams: Option<u64>) -> Line<'static> {
@@ -17,16 +17,23 @@ const fn repeater(port: u16, datagrams: Option<u64>) -> Line<'static> {
 #[test]
 fn lines_are_read(rt: HostRuntime) -> Result<(), Fail> {
     let both = repeater(40_000, Some(7));
-    let rows: [(&[&str], Line<'static>); 12] = [
+    let rows: [(&[&str], Line<'static>); 13] = [
         (&["answer"], answer(None)),
         (&["answer", "--records", "file"], answer(Some("file"))),
         (&["answer", "--records=a file"], answer(Some("a file"))),
-        (&["replay", "script"], replay("script")),
+        (&["replay", "script"], replay("script", None)),
         (
             &["replay", "a folder/a script"],
-            replay("a folder/a script"),
+            replay("a folder/a script", None),
         ),
-        (&["replay", "replay"], replay("replay")),
+        (
+            &["replay", "replay", "--seed", "18446744073709551615"],
+            replay("replay", Some(u64::MAX)),
+        ),
+        (
+            &["replay", "--seed=007", "script"],
+            replay("script", Some(7)),
+        ),
         (&["repeater"], repeater(5_065, None)),
         (&["repeater", "--port", "0"], repeater(0, None)),
         (&["repeater", "--port=065535"], repeater(65_535, None)),

@@ -1,0 +1,4 @@
+pub mod Drawing
+pub mod Replayed
+pub mod Settings
+pub mod Steps

@@ -1,5 +1,0 @@
-pub mod Opens
-pub mod Steps
-pub mod Serving
-pub mod Fits
-pub mod Replying

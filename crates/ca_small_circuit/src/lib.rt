@@ -1,2 +1,0 @@
-//! Laws over one circuit's two lists.
-#![tactic(auto)]

@@ -1,7 +1,0 @@
-use Rattle.std.proofs.Common.{◌≡◌, ◌++◌, take, drop}
-use Rattle.std.specs.Prelude.{map}
-use Rattle.ca_small_model.specs.Client.{unlinked_one}
-use Rattle.ca_small_client.proofs.lists.unlink.Given as goal
-
-abbrev pub invariant-loop-channel : goal.invariant-loop-channel
-invariant-loop-channel l = l.channels ≡ map (unlinked_one l.priority) (take l.channel-index l.initial.channels) ++ drop l.channel-index l.initial.channels

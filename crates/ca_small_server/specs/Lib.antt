@@ -1,6 +1,0 @@
-pub mod Calls
-pub mod Channels
-pub mod End
-pub mod Seats
-pub mod Sizes
-pub mod Steps
