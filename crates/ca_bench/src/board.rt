@@ -100,7 +100,8 @@ fn board_callers<R: Threads + Wait + Sync>(
     Ok(())
 }
 
-/// The core's thread: fills each ticket below this generation, and ends when each cell has come to it.
+/// The core's thread: fills each ticket below this generation, and ends when each cell has come to
+/// it.
 fn feed<R: Wait>(rt: &R, board: &Board, mut core: CoreSeat, rounds: u32)
     requires { core.board ≡ board.now }
 {

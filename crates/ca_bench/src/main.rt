@@ -1,5 +1,5 @@
-//! Rounds of calls, to be timed from outside: `ca_bench WHAT SIZE ROUNDS`, where a board and a queue have no size: it is not
-//! read. Without words it does nothing.
+//! Rounds of calls, to be timed from outside: `ca_bench WHAT SIZE ROUNDS`. The size of a board or a
+//! queue is not used. Without words it does nothing.
 #![tactic(auto)]
 
 mod board;

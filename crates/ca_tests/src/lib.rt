@@ -1,5 +1,6 @@
-//! The tests of the libraries, a module for each, in a crate of their own: a crate with tests is proved a second time, with them, and
-//! this one has nothing else to prove. What a core shows of streams, tables and values is a line of `tools/calls/by-hand`.
+//! The tests of the libraries, a module for each, in a crate of their own: a crate with tests is
+//! proved a second time, with them, and this one has nothing else to prove. What a core shows of
+//! streams, tables and values is a line of `tools/calls/by-hand`.
 #![tactic(auto)]
 
 #[cfg(test)]

@@ -1,4 +1,5 @@
-//! What the two ends of one process need: the server's sockets, its device, and what is said of them.
+//! What the two ends of one process need: the server's sockets, its device, and what is said of
+//! them.
 use ca_dbr::Value;
 use ca_serve::{Device, Places};
 use ca_text::Refusal;

@@ -1,4 +1,5 @@
-//! A server whose device holds a put until a read on another circuit was answered, and two clients of it, in one process.
+//! A server whose device holds a put until a read on another circuit was answered, and two clients
+//! of it, in one process.
 use crate::ends::{bound, say_whether, tell};
 use ca_dbr::Value;
 use ca_records::Records;
@@ -111,7 +112,8 @@ fn records(alloc: Global) -> Result<Records, Refusal> {
     Ok(records)
 }
 
-/// A put on one circuit, which the device holds; a read on another; and then the put is let go, and its circuit reads.
+/// A put on one circuit, which the device holds; a read on another; and then the put is let go, and
+/// its circuit reads.
 fn talk<R: Net<Stream = TcpStream, Listener = TcpListener>, W: Write>(
     rt: &R,
     signs: &Signs,

@@ -1,5 +1,5 @@
-//! Both ends in one process, in threads: a server whose device holds a put, the lines `get`, `put` and `monitor` against a server, and four
-//! callers of one client. What came of each is `stdout`.
+//! Both ends in one process, in threads: a server whose device holds a put, the lines `get`, `put`
+//! and `monitor` against a server, and four callers of one client. What came of each is `stdout`.
 #![tactic(auto)]
 
 mod callers;

@@ -1,4 +1,5 @@
-//! The lines `get`, `put` and `monitor` against a server in the same process: each line, what it says, and its status.
+//! The lines `get`, `put` and `monitor` against a server in the same process: each line, what it
+//! says, and its status.
 ghost use Rattle.std.specs.Prelude.{◌<◌, ◌^◌};
 
 use crate::ends::{Prompt, bound, say};
