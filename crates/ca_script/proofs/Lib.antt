@@ -5,8 +5,6 @@ pub mod Sayings
 pub mod Heads
 pub mod Elements
 pub mod Refusals
-pub mod Alike
-pub mod Following
 pub mod ElementRefusals
 pub mod LineRefusals
 pub mod Leading
