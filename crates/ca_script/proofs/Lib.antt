@@ -1,5 +1,5 @@
 pub mod Partings
-pub mod Numbers
+pub mod Numerals
 pub mod Plain
 pub mod Sayings
 pub mod Heads
