@@ -8,5 +8,4 @@ pub mod ReplayWords
 pub mod Replaying
 pub mod Runs
 pub mod Standing
-pub mod Status
 pub mod Words

@@ -1,11 +1,10 @@
 -- What the replay of a script comes to: its events are run in a world, and the world's report goes to a sink.
 use Rattle.std.specs.Prelude.{ℕ, ◌≡◌, ◌<◌, ◌⊎◌, List, Option, None, Some, Result, Ok, Err, take}
-use Rattle.ca_replay.specs.Replayed.{Reported}
+use Rattle.ca_replay.specs.Replayed.{IsNotRead, Reported}
 use Rattle.ca_text.specs.declared.refusal.Refusal.{Refusal}
 use Rattle.ca_text.specs.declared.refusal.Refusal.TheVariants.{BadEvent, BadText, Device, OutOfMemory}
-use Rattle.ca_world_script.specs.Scripts.{IsNoScript}
 use Rattle.ca.specs.Files.{Gives}
-use Rattle.ca.specs.Status.{status_of}
+use Rattle.ca_outcome.specs.Status.{status_of}
 
 -- how a run that stopped so ended
 abbrev pub ended : Option Refusal → Result (Unit {0}) Refusal
@@ -26,7 +25,7 @@ module _ {K : Type 0} (takes : K → List ℕ → K → Type 0) (faults : K → 
   -- `Device` where the sink failed.
   abbrev pub Replays : Result (Unit {0}) Refusal → Type 0
   Replays (Ok _) = Tells None
-  Replays (Err BadText) = (k ≡ k0) × IsNoScript script
+  Replays (Err BadText) = (k ≡ k0) × IsNotRead script
   Replays (Err BadEvent) = Tells (Some BadEvent)
   Replays (Err OutOfMemory) = (k ≡ k0) ⊎ Tells (Some OutOfMemory)
   Replays (Err Device) = BreaksOff

@@ -4,7 +4,6 @@
 mod answer;
 mod file;
 mod line;
-mod outcome;
 mod program;
 mod repeater;
 mod replay;
@@ -12,7 +11,6 @@ mod words;
 
 pub use answer::{AnswerLine, answer_file, answer_run, serve, standing_records};
 pub use line::{Line, read_line};
-pub use outcome::{not_understood, report};
 pub use program::run;
 pub use repeater::{Datagrams, RepeaterLine, Socket, repeat, repeater_bound, repeater_run};
 pub use replay::{ReplayLine, replay_file, replay_run};

@@ -3,10 +3,10 @@ ghost use Rattle.ca.specs.Programs.{Ends};
 
 use crate::answer::{answer_file, answer_run};
 use crate::line::{Line, read_line};
-use crate::outcome::{not_understood, report};
 use crate::repeater::{Socket, repeater_bound};
 use crate::replay::replay_file;
 use ca_link::{Sink, Source};
+use ca_outcome::{not_understood, report};
 use std::alloc::Global;
 use std::fs::File;
 use std::io::Write;

@@ -26,8 +26,8 @@ fn main(rt: HostRuntime) -> ExitCode {
                 )
             }
         }
-        Ok(None) => ca::not_understood(&mut err),
-        Err(refusal) => ca::report(Err(refusal), &mut err),
+        Ok(None) => ca_outcome::not_understood(&mut err),
+        Err(refusal) => ca_outcome::report(Err(refusal), &mut err),
     };
     ExitCode::from(status)
 }

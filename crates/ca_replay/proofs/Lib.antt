@@ -1,3 +1,4 @@
 mod Folding
 mod Fresh
 mod Goings
+pub mod Stops

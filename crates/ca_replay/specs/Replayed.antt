@@ -6,7 +6,7 @@ use Rattle.ca_model.specs.World.{Setting, World}
 use Rattle.ca_report.specs.Whole.{report_text}
 use Rattle.ca_text.specs.declared.refusal.Refusal.{Refusal}
 use Rattle.ca_world.specs.Running.{HasRun}
-use Rattle.ca_world_script.specs.Scripts.{SaysScript}
+use Rattle.ca_world_script.specs.Scripts.{IsNoScript, SaysScript}
 use Rattle.ca_world_script.specs.declared.script.Script.{Script}
 use Rattle.ca_replay.specs.Drawing.{DrawsAlong}
 use Rattle.ca_replay.specs.Settings.{setting_of}
@@ -31,3 +31,7 @@ pub record Reported (text : List ℕ) (seed : Option ℕ) (stop : Option Refusal
   pub says : SaysScript text s
   pub events : AreRun (setting_of s) seed (map event_of s.events.items) es
   pub reports : Reports (setting_of s) es stop report
+
+-- The text says no script: a line of it is not understood.
+abbrev pub IsNotRead : List ℕ → Type 0
+IsNotRead text = IsNoScript text

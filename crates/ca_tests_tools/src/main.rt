@@ -3,10 +3,9 @@
 
 ghost use Rattle.std.specs.Prelude.{◌<◌, ◌^◌};
 
-use ca::standing_records;
 use ca_dbr::Value;
 use ca_link::Writer;
-use ca_records::Records;
+use ca_script::{RecordFile, read_records};
 use ca_serve::{Device, Places, serve};
 use ca_text::Refusal;
 use std::alloc::Global;
@@ -34,6 +33,13 @@ const LINES: [&str; 9] = [
 
 /// The circuits after which the server ends.
 const CIRCUITS: u64 = 8;
+
+/// The records that are served.
+const RECORDS: &[u8] = b"record TEMP LONG 1 quick 21
+record SETP LONG 1 quick 0
+record GAIN DOUBLE 1 quick 3ff0000000000000
+record NOTE STRING 1 quick OK
+";
 
 /// A device that has nothing to do.
 #[derive(Clone, Copy, Drop)]
@@ -65,9 +71,9 @@ fn both_ends<
     W: Write,
     E: Write,
 >(rt: R, alloc: Global, out: &mut W, err: &mut E) -> Result<(), Refusal> {
-    let records = standing_records(alloc)?;
+    let file = read_records(alloc, RECORDS)?;
     let (places, address) = bound(&rt)?;
-    serve_and_ask(rt, alloc, records, places, address, out, err)
+    serve_and_ask(rt, alloc, file, places, address, out, err)
 }
 
 fn bound<R: Net<Stream = TcpStream, Listener = TcpListener>>(
@@ -109,22 +115,15 @@ fn serve_and_ask<
 >(
     rt: R,
     alloc: Global,
-    records: Records,
+    file: RecordFile,
     places: Places,
     address: SocketAddr,
     out: &mut W,
     err: &mut E,
 ) -> Result<(), Refusal> {
     let spawned = thread::spawn(&rt, move || {
-        serve(
-            rt,
-            alloc,
-            places,
-            &records,
-            Vec::new(alloc),
-            Prompt,
-            Some(CIRCUITS),
-        )
+        let RecordFile { records, rules } = file;
+        serve(rt, alloc, places, &records, rules, Prompt, Some(CIRCUITS))
     });
     let Ok(server) = spawned else {
         return Err(Refusal::Device);

@@ -6,9 +6,9 @@ ghost use Rattle.ca.specs.Runs.{RunsFrom, RunsTo, Says, Serves};
 
 use crate::answer::standing::standing_records;
 use crate::file::bytes_of;
-use crate::outcome::report;
 use ca_answer::answer_stream;
 use ca_link::{Sink, Source};
+use ca_outcome::report;
 use ca_script::{RecordFile, read_records};
 use ca_text::Refusal;
 use std::alloc::Global;

@@ -1,8 +1,8 @@
 ghost use Rattle.std.specs.Prelude.{◌≡◌, ◌<◌, ◌^◌};
 ghost use Rattle.ca.specs.Replaying.{Replays, ReplaysTo, ended};
 
-use crate::outcome::report as tell;
 use ca_link::Sink;
+use ca_outcome::report as tell;
 use ca_replay::replay as replayed;
 use ca_text::Refusal;
 use std::alloc::Global;
