@@ -13,7 +13,8 @@ use std::io::Write;
 use std::net::Net;
 use std::rt::Files;
 
-/// Runs the program on the words after its name, and returns the exit status.
+/// Runs the program on the words after its name, and returns the exit status. Refusals go to `err`, and how far a long run is, if that is a
+/// terminal.
 pub fn run<R: Net + Files, S: Source, K: Sink, W: Write>(
     system: &R,
     alloc: Global,
@@ -21,6 +22,7 @@ pub fn run<R: Net + Files, S: Source, K: Sink, W: Write>(
     source: &mut S,
     sink: &mut K,
     err: &mut W,
+    is_terminal: bool,
 ) -> u8
     requires source_calls { S.call_count source.old < 2 ^ 63 }
     requires source_faults { S.fault_count source.old < 2 ^ 63 }
@@ -38,7 +40,14 @@ pub fn run<R: Net + Files, S: Source, K: Sink, W: Write>(
             repeater_bound(alloc, Socket::bind(system, line.port), line, sink, err)
         }
         Ok(Some(Line::Replay(line))) => {
-            replay_file(alloc, File::open(system, line.file), line.seed, sink, err)
+            replay_file(
+                alloc,
+                File::open(system, line.file),
+                line.seed,
+                sink,
+                err,
+                is_terminal,
+            )
         }
         Ok(None) => not_understood(err),
         Err(refusal) => report(Err(refusal), err),

@@ -1,26 +1,13 @@
-//! Laws of updates: what the numbers of a subscription's updates say of what its subscriber saw,
-//! and what a queue does to them.
+//! Laws of the parts of a world: what each call, message and event keeps of one circuit, of the records and the log of a
+//! server, of the updates of a subscription, and of the bytes between two ends; and what one core alone sends.
 //!
-//! Laws of writes: the records of a server beside the log of its life, in which each write is
-//! applied once and as it came.
-//!
-//! Laws of one circuit: what the ids in flight mean as its two lists grow, and what a client's
-//! tables hold of it.
-//!
-//! Laws of one core alone, with any peer: over any row of its calls, with any answers and any bytes that
-//! come, what it sends is legal, said by the ids in its messages. And what each call of a client leaves
-//! of the ids that it holds on a circuit.
-//!
-//! Laws of runs: what each event of a world keeps, from the laws of its parts.
-//!
-//! Laws of what a server keeps for a circuit: for which of a client's messages it may still send
-//! others, and that what is held of the circuit stays so by that.
-//!
-//! Laws of bytes: what an end of a circuit takes next is the next message that was sent to it; and so
-//! what is promised of writes holds after every run.
-//!
-//! The law of one server's core alone, with any peer: over any row of its calls, with any answers and any
-//! bytes that come, what it sends is legal, said by the ids in its messages.
+//! - Updates: what their numbers say of what a subscriber saw, and what a queue does to them.
+//! - Writes: the records of a server beside the log of its life, in which each write is applied once and as it came.
+//! - One circuit: what the ids in flight mean as its two lists grow, what a client's tables hold of it, and for which of a
+//!   client's messages a server may still send others; and that each event keeps it.
+//! - Bytes: what an end of a circuit takes next is the next message that was sent to it.
+//! - One core alone, with any peer: over any row of its calls, with any answers and any bytes that come, what it sends is
+//!   legal, said by the ids in its messages.
 #![tactic(auto)]
 
 mod bytes;

@@ -2,10 +2,14 @@
 #![tactic(auto)]
 
 use ca_link::{Reader, Writer};
+use ca_outcome::{not_understood, report};
 use ca_text::Refusal;
 use std::env;
 use std::io::ErrorKind;
 use std::process::ExitCode;
+
+/// The number of standard error among the files of a process.
+const STANDARD_ERROR: i32 = 2;
 
 fn main(rt: HostRuntime) -> ExitCode {
     let mut err = rt.stderr();
@@ -23,11 +27,12 @@ fn main(rt: HostRuntime) -> ExitCode {
                     &mut Reader::new(rt.stdin()),
                     &mut sink,
                     &mut err,
+                    libc::isatty(STANDARD_ERROR) == 1,
                 )
             }
         }
-        Ok(None) => ca_outcome::not_understood(&mut err),
-        Err(refusal) => ca_outcome::report(Err(refusal), &mut err),
+        Ok(None) => not_understood(&mut err),
+        Err(refusal) => report(Err(refusal), &mut err),
     };
     ExitCode::from(status)
 }

@@ -1,9 +1,10 @@
-//! A script replayed over the real cores: its world, its events with those that a seed draws, and the report. There is no IO here.
+//! A script replayed over the real cores: its world, its events with those that a seed draws, and the report.
 #![tactic(auto)]
 
 mod again;
 mod config;
 mod draw;
 mod replaying;
+mod telling;
 
 pub use replaying::replay;

@@ -9,19 +9,23 @@ ghost use Rattle.ca_replay.specs.Settings.{AreFresh};
 use crate::again::{clients_again, servers_again};
 use crate::config::config_of;
 use crate::draw::draw;
+use crate::telling::Telling;
 use ca_events::Event;
 use ca_report::write_report;
 use ca_text::Refusal;
-use ca_world::{ClientSetting, Config, ServerSetting, run};
+use ca_world::{ClientSetting, Config, Progress, ServerSetting, run_telling};
 use ca_world_script::{Script, read_script};
 use std::alloc::Global;
+use std::io::Write;
 
 /// Runs the events of a script in its world, with those that a seed draws: the report, and why the run stopped before the last event, if it did.
-/// Refused as BadText if a line of the script is not understood, and as OutOfMemory.
-pub fn replay(
+/// A long run tells on `err` how far it is, if that is a terminal. Refused as BadText if a line of the script is not understood, and as OutOfMemory.
+pub fn replay<W: Write>(
     alloc: Global,
     script: &[u8],
     seed: Option<u64>,
+    err: &mut W,
+    is_terminal: bool,
 ) -> Result<(Vec<u8>, Option<Refusal>), Refusal>
     ensures ok { IfOk result (λ r. Reported script.now seed r.1 r.0.items) }
     ensures err { IfErr result (RefusesScript script.now) }
@@ -33,7 +37,7 @@ pub fn replay(
     } = read_script(alloc, script)?;
     let events = events_run(alloc, &clients, &servers, events, seed)?;
     let config = config_of(alloc, clients, servers)?;
-    run_all(alloc, config, &events)
+    run_all(alloc, config, &events, &mut Telling { err, is_terminal })
 }
 
 // The events that are run: those of a script, with those that the seed draws if there is one.
@@ -81,16 +85,17 @@ fn draw_in(
 }
 
 // Runs events: the report, and why the run stopped, if it did.
-fn run_all(
+fn run_all<P: Progress>(
     alloc: Global,
     config: Config,
     events: &[Event],
+    progress: &mut P,
 ) -> Result<(Vec<u8>, Option<Refusal>), Refusal>
     ensures ok { IfOk result (λ r.
         Reports config (map event_of events.now) r.1 r.0.items) }
     ensures err { IfErr result (λ e. e ≡ OutOfMemory) }
 {
-    let ran = run(config, events)?;
+    let ran = run_telling(config, events, progress)?;
     let mut text = Vec::new(alloc);
     write_report(
         ran.world.clients().len(),

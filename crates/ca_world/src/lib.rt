@@ -43,7 +43,7 @@ pub use ca_world_data::history::{
 pub use ca_world_data::settings::{ClientSetting, RuleSetting, ServerSetting};
 pub use circuits::Way;
 pub use config::Config;
-pub use running::{Ran, run};
+pub use running::{Progress, Ran, run, run_telling};
 pub use step::AfterEvent;
 pub use stopped::Stopped;
 pub use tick::AfterTick;

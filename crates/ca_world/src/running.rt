@@ -22,10 +22,39 @@ pub struct Ran {
     pub refusal: Option<Refusal>,
 }
 
+/// Is told how far a run is.
+pub trait Progress {
+    /// The run has done so many of all its events.
+    fn has_done(&mut self, done: usize, all: usize);
+}
+
+// Tells nobody.
+struct Silence;
+
+impl Progress for Silence {
+    fn has_done(&mut self, _done: usize, _all: usize) {}
+}
+
 /// Runs events in order over the real cores, from the world before any event, as far as they can be done and memory allows.
 ///
 /// Whatever the events are, the world where the run ended is safe, and legal. Refused if there was no memory for the world before any event.
 pub fn run(config: Config, events: &[Event]) -> Result<Ran, AllocError>
+    ensures { IfOk result (λ r. HasRun
+        config
+        (map event_of events.now)
+        r.done
+        r.refusal
+        r.world) }
+{
+    run_telling(config, events, &mut Silence)
+}
+
+/// `run`, which tells after each event how far it is.
+pub fn run_telling<P: Progress>(
+    config: Config,
+    events: &[Event],
+    progress: &mut P,
+) -> Result<Ran, AllocError>
     ensures { IfOk result (λ r. HasRun
         config
         (map event_of events.now)
@@ -47,6 +76,7 @@ pub fn run(config: Config, events: &[Event]) -> Result<Ran, AllocError>
                 return Ok(ended(last, place, why));
             }
         }
+        progress.has_done(place + 1, many);
     }
     Ok(ended(world.stop(), many, None))
 }

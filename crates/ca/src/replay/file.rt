@@ -17,13 +17,14 @@ pub fn replay_file<F: Read + Drop, K: Sink, W: Write>(
     seed: Option<u64>,
     sink: &mut K,
     err: &mut W,
+    is_terminal: bool,
 ) -> u8
     requires sink_calls { K.call_count sink.old < 2 ^ 63 }
     requires sink_faults { K.fault_count sink.old < 2 ^ 63 }
     ensures { ReplaysFrom F.remaining K.takes K.fault_count file seed sink.old sink.new result }
 {
     match bytes_of(alloc, file) {
-        Ok(script) => replay_run(alloc, &script, seed, sink, err),
+        Ok(script) => replay_run(alloc, &script, seed, sink, err, is_terminal),
         Err(refusal) => report(Err(refusal), err),
     }
 }

@@ -8,7 +8,7 @@ use Rattle.ca_text.proofs.Places.{At-map}
 use Rattle.ca_model.specs.Events as model
 use Rattle.ca_world_data.proofs.Worlds.{found}
 use Rattle.ca_world.proofs.Ended.{ran-next, run-all, run-as, run-refused, run-stopped}
-use Rattle.ca_world.proofs.running.run.Goals as goal
+use Rattle.ca_world.proofs.running.run_telling.Goals as goal
 
 pub returns-in-Refused : goal.returns-in-Refused
 returns-in-Refused c =
