@@ -7,6 +7,6 @@
 //! that are connected or wanted.
 #![tactic(auto)]
 
-mod placed;
+mod laws;
 
-pub use placed::a_client_stays_placed;
+pub use laws::a_client_stays_placed;
