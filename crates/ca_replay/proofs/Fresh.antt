@@ -3,8 +3,7 @@ use Rattle.std.proofs.Common.{◌≡◌, ◌≤◌, ◌<◌, ◌⊎◌, inl, inr
 use Rattle.std.proofs.Math.Seq.{take-append_seam}
 use Rattle.std.proofs.lemmas.List.{take-append-le}
 use Rattle.ca_model.specs.World.{ServerSetting}
-use Rattle.ca_script.specs.Grammar.{Lead, parted}
-use Rattle.ca_script.specs.Scripts.{lines_of}
+use Rattle.ca_script.specs.Grammar.{Lead, lines_of, parted}
 use Rattle.ca_text.specs.Place.{At}
 use Rattle.ca_text.proofs.Places.{At-after, At-append, At-snoc, At-within}
 use Rattle.ca_world_data.specs.Settings.{is_taken}

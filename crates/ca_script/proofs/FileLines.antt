@@ -1,16 +1,22 @@
 -- What the lines of a record file say together. What may come next hangs on the names of the records that were read.
-use Rattle.std.proofs.Common.{◌≡◌, ◌<◌, ℕ, List, [], ◌∷◌, ◌++◌, length, get_or, refl, sym, ap, ◌∙◌, subst, arith, inl, inr}
+use Rattle.std.proofs.Common.{◌≡◌, ℕ, List, [], ◌∷◌, ◌++◌, get_or, refl, sym, ap, ◌∙◌, subst, arith, inl, inr}
 use Rattle.std.specs.Prelude.{Result, IfErr, OnOk, codes, map}
 use Rattle.std.proofs.lemmas.List.{map-append}
 use Rattle.ca_text.specs.declared.refusal.Refusal.{Refusal}
 use Rattle.ca_text.specs.declared.refusal.Refusal.TheVariants.{BadText}
+use Rattle.ca_text.specs.Place.{At}
+use Rattle.ca_text.proofs.Places.{At-map, At-mapped}
 use Rattle.ca_records.specs.Record.{RecordState}
+use Rattle.ca_records.specs.Records.{IsServed}
 use Rattle.ca_script.specs.Grammar.{Refuses}
 use Rattle.ca_script.specs.Lines.{SaysRecord, SaysRule}
 use Rattle.ca_script.specs.RecordFiles.{FileReading, TakesLine, TakesRecord, TakesRule}
-use Rattle.ca_script.proofs.Alike.{apart, behind-same, name_of, names-more, says-too}
 use Rattle.ca_script.proofs.Heads.{ok-then}
 use Rattle.ca_script.proofs.Refusals.{NoWord, err-then, refuses-whole, says-none}
+use Rattle.ca_script.proofs.Sayings.{apart, behind-same}
+
+abbrev name_of : RecordState → List ℕ
+name_of r = r.name
 
 abbrev pub names_read : FileReading → List (List ℕ)
 names_read f = map name_of f.records
@@ -18,6 +24,32 @@ names_read f = map name_of f.records
 -- records of the same names
 abbrev pub SameNames : FileReading → FileReading → Type 0
 SameNames a b = names_read a ≡ names_read b
+
+-- a name that is served where these names are
+served-too : (a b : List RecordState) (name : List ℕ) → map name_of a ≡ map name_of b → IsServed b name → IsServed a name
+served-too a b name same (place, is) =
+    let there : At (map name_of b) place is.state.name = At-map name_of b place is.state is.at in
+    let here : At (map name_of a) place is.state.name = subst (λ (xs : List (List ℕ)). At xs place is.state.name) (sym same) there in
+    let found = At-mapped name_of a place is.state.name here in
+    (place, record { state = found.0; at = found.1; named = sym found.2 ∙ is.named })
+
+-- the names after a record more
+names-more : (old new : List RecordState) (words : List (List ℕ)) (h : SaysRecord words old new) → map name_of new ≡ map name_of old ++ h.r.name ∷ []
+names-more old new words h = ap (λ (rs : List RecordState). map name_of rs) h.after ∙ map-append name_of old (h.r ∷ [])
+
+says-too : (a b new : List RecordState) (words : List (List ℕ)) → map name_of a ≡ map name_of b → (h : SaysRecord words a new) → SaysRecord words b (b ++ h.r ∷ [])
+says-too a b new words same h = record {
+  r = h.r;
+  number = h.number;
+  values = h.values;
+  are = h.are;
+  count = h.count;
+  elements = h.elements;
+  meta = h.meta;
+  is = h.is;
+  fresh = λ (s : IsServed b h.r.name). h.fresh (served-too a b h.r.name same s);
+  after = refl;
+}
 
 -- ---- from the same names, the same words lead to the same names
 

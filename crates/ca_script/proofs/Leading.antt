@@ -2,8 +2,7 @@
 use Rattle.std.proofs.Common.{◌≡◌, ℕ, List, [], ◌∷◌, refl, sym, ap, ◌∙◌, subst}
 use Rattle.std.specs.Prelude.{Result, IfErr}
 use Rattle.ca_text.specs.declared.refusal.Refusal.{Refusal}
-use Rattle.ca_script.specs.Grammar.{Lead, Refuses, parted}
-use Rattle.ca_script.specs.Scripts.{lines_of}
+use Rattle.ca_script.specs.Grammar.{Lead, Refuses, lines_of, parted}
 use Rattle.ca_script.proofs.Heads.{lines-none}
 use Rattle.ca_script.proofs.Refusals.{err-then, refuses-whole}
 

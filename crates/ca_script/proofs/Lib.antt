@@ -1,12 +1,10 @@
 pub mod Partings
-pub mod Numbers
+pub mod Numerals
 pub mod Plain
 pub mod Sayings
 pub mod Heads
 pub mod Elements
 pub mod Refusals
-pub mod Alike
-pub mod Following
 pub mod ElementRefusals
 pub mod LineRefusals
 pub mod Leading

@@ -10,8 +10,7 @@ use Rattle.ca_dbr.specs.declared.data_type.BaseType.TheVariants as base
 use Rattle.ca_dbr.specs.Elements.{Elements, strings, ints, floats, enums, chars, longs, doubles, base_of, count_of}
 use Rattle.ca_records.specs.Record.{HoldsValue, RecordState, unset}
 use Rattle.ca_records.specs.Records.{Defines}
-use Rattle.ca_script.specs.Events.{AreNumbers}
-use Rattle.ca_script.specs.Grammar.{IsNumber, parted}
+use Rattle.ca_script.specs.Grammar.{AreNumbers, IsNumber, parted}
 use Rattle.ca_script.specs.Lines.{AreEach, AreElements, IsAddress, IsChar, IsDouble, IsEnum, IsFloat, IsInt, IsLong, IsString, SaysRecord, SaysServer, slow_word, type_word}
 use Rattle.ca_script.proofs.Refusals.{NoWord}
 use Rattle.ca_script.proofs.Sayings.{behind-first, no-numbers}

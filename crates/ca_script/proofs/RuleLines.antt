@@ -1,8 +1,7 @@
 -- Which words of a line are no rule.
 use Rattle.std.proofs.Common.{◌≡◌, ◌<◌, ℕ, Bool, true, false, List, [], ◌∷◌, Option, length, subst, sym, arith}
 use Rattle.ca_records.specs.Rules.{Rule}
-use Rattle.ca_script.specs.Lines.{IsPattern, SaysRule, rights_word}
-use Rattle.ca_script.specs.Setting.{IsNamed}
+use Rattle.ca_script.specs.Lines.{IsNamed, IsPattern, SaysRule, rights_word}
 use Rattle.ca_script.proofs.Refusals.{NoWord}
 
 rights-is-some : (reads writes : Bool) → 0 < length (rights_word reads writes)

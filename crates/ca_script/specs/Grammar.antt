@@ -19,15 +19,29 @@ abbrev pub pieces_left : ℕ → Option (List ℕ) → List (List ℕ)
 pieces_left separator None = []
 pieces_left separator (Some text) = parted separator text
 
--- the words of what is left of a line: spaces part them
-abbrev pub words_left : Option (List ℕ) → List (List ℕ)
-words_left rest = pieces_left 32 rest
+-- no line stands after the last line feed
+abbrev pub whole_lines : List (List ℕ) → List (List ℕ)
+whole_lines [] = []
+whole_lines ([] ∷ []) = []
+whole_lines ((x ∷ xs) ∷ []) = (x ∷ xs) ∷ []
+whole_lines (line ∷ next ∷ lines) = line ∷ whole_lines (next ∷ lines)
+
+-- the lines of a text: each ends with a line feed, the last one with it or without
+abbrev pub lines_of : List ℕ → List (List ℕ)
+lines_of text = whole_lines (parted 10 text)
 
 -- a word is a decimal number: digits alone, and at least one; it has at most 64 bits
 pub record IsNumber (word : List ℕ) (n : ℕ) : Type 0 where
   pub digits : IsNumeral 10 word
   pub value : digits_value 10 word ≡ n
   pub fits : n < 2 ^ 64
+
+-- these words are these numbers, one each
+abbrev pub AreNumbers : List (List ℕ) → List ℕ → Type 0
+AreNumbers [] [] = ⊤
+AreNumbers [] (n ∷ ns) = ⊥
+AreNumbers (w ∷ ws) [] = ⊥
+AreNumbers (w ∷ ws) (n ∷ ns) = IsNumber w n × AreNumbers ws ns
 
 -- Lines in a row lead from old to new, each as the relation says of its words.
 abbrev pub Lead : {S : Type 0} → (S → List (List ℕ) → S → Type 0) → S → List (List ℕ) → S → Type 0

@@ -3,22 +3,14 @@ use Rattle.std.specs.Prelude.{ℕ, ℤ, pos, ◌≡◌, ◌<◌, ◌≤◌, ◌-
 use Rattle.std.specs.Int.{from_be_bytes, w16, w32}
 use Rattle.std.specs.Str.Parse.{IsNumeral, signed_digits_value, without_leading_sign}
 use Rattle.hex.specs.Hex.{decode_of}
+use Rattle.ca_text.specs.Limits.{payload_limit}
 use Rattle.ca_dbr.specs.declared.data_type.BaseType.{BaseType}
 use Rattle.ca_dbr.specs.declared.data_type.BaseType.TheVariants as base
 use Rattle.ca_dbr.specs.Elements.{Elements, strings, ints, floats, enums, chars, longs, doubles, base_of, bytes_4, bytes_8}
 use Rattle.ca_records.specs.Record.{IsRecord, RecordState, unset}
 use Rattle.ca_records.specs.Records.{IsServed}
 use Rattle.ca_records.specs.Rules.{Rule}
-use Rattle.ca_script.specs.Events.{AreNumbers}
-use Rattle.ca_script.specs.Grammar.{IsNumber, parted}
-use Rattle.ca_script.specs.Setting.{IsNamed}
-
--- `client USER HOST`
-pub record SaysClient (words : List (List ℕ)) (c : List ℕ × List ℕ) : Type 0 where
-  pub are : words ≡ c.0 ∷ c.1 ∷ []
-  pub user : 0 < length c.0
-  pub host : 0 < length c.1
-  pub fits : IsNamed c
+use Rattle.ca_script.specs.Grammar.{AreNumbers, IsNumber, parted}
 
 -- four numbers below 256, separated by dots: the bytes of an address, the highest first
 pub record IsAddress (text : List ℕ) (address : ℕ) : Type 0 where
@@ -116,6 +108,10 @@ pub record SaysRecord (words : List (List ℕ)) (old new : List RecordState) : T
   pub is : IsRecord r
   pub fresh : IsServed old r.name → ⊥
   pub after : new ≡ old ++ r ∷ []
+
+-- a user and a host of which messages can be made
+abbrev pub IsNamed : List ℕ × List ℕ → Type 0
+IsNamed c = (length c.0 < payload_limit) × (length c.1 < payload_limit)
 
 -- what a word of a rule stands for: `*` for everything, another word for itself
 abbrev pub IsPattern : List ℕ → Option (List ℕ) → Type 0

@@ -3,9 +3,8 @@ use Rattle.std.specs.Prelude.{ℕ, ◌≡◌, ◌⊎◌, List, [], ◌∷◌, �
 use Rattle.ca_records.specs.Record.{RecordState}
 use Rattle.ca_records.specs.Rules.{Rule}
 use Rattle.ca_script.specs.declared.record_file.RecordFile.{RecordFile}
-use Rattle.ca_script.specs.Grammar.{Lead}
+use Rattle.ca_script.specs.Grammar.{Lead, lines_of}
 use Rattle.ca_script.specs.Lines.{SaysRecord, SaysRule}
-use Rattle.ca_script.specs.Scripts.{lines_of}
 
 -- what has been read: records and rules, in order
 pub record FileReading : Type 0 where

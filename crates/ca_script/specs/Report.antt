@@ -1,16 +1,11 @@
--- The lines of a report.
+-- The words of a report.
 use Rattle.std.specs.Prelude.{ℕ, List, ◌++◌, codes, decimal}
-use Rattle.std.specs.List.{flat_map}
 use Rattle.hex.specs.Hex.{encode_lower}
 use Rattle.ca_text.specs.Refusal.{refusal_number}
 use Rattle.ca_dbr.specs.declared.value.Outcome.{Outcome}
 use Rattle.ca_dbr.specs.declared.value.Outcome.TheVariants as outcome
 use Rattle.ca_dbr.specs.Elements.{Elements, base_of, bytes_of, count_of, elements}
 use Rattle.ca_dbr.specs.Types.{base_number}
-use Rattle.ca_small_model.specs.declared.data.Logged.{Logged}
-use Rattle.ca_small_model.specs.declared.data.Logged.TheVariants as logged
-use Rattle.ca_small_model.specs.declared.data.Notice.{Notice}
-use Rattle.ca_small_model.specs.declared.data.Notice.TheVariants as notice
 
 -- a word and a number: the number stands after a space
 abbrev pub counted : List ℕ → ℕ → List ℕ
@@ -28,22 +23,6 @@ outcome_text (outcome.Failed status) = counted (codes " status ") status.number
 outcome_text (outcome.Unreadable refusal) = counted (codes " unreadable ") (refusal_number refusal)
 outcome_text outcome.Disconnected = codes " disconnected"
 
--- what a client told
-abbrev pub notice_text : Notice → List ℕ
-notice_text (notice.Live channel) = counted (codes " live ") channel
-notice_text (notice.Lost channel) = counted (codes " lost ") channel
-notice_text (notice.Completed request outcome) = counted (codes " completed ") request ++ outcome_text outcome
-
-abbrev pub entry_text : Logged → List ℕ
-entry_text (logged.Told n) = notice_text n
-entry_text (logged.Refused refusal) = counted (codes " refused ") (refusal_number refusal)
-
--- a line: the client's number, what happened, and a line feed
-abbrev pub line_text : ℕ → Logged → List ℕ
-line_text client entry = decimal client ++ (entry_text entry ++ codes "\n")
-
-abbrev pub log_text : ℕ → List Logged → List ℕ
-log_text client log = flat_map (λ entry. line_text client entry) log
-
+-- the last line: how many events were done
 abbrev pub end_text : ℕ → List ℕ
 end_text events = counted (codes "events ") events ++ codes "\n"

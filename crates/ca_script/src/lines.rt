@@ -1,27 +1,13 @@
-ghost use Rattle.std.specs.Prelude.{◌≡◌, ◌<◌, ◌∷◌, ℕ, Bool, List, IfErr, IfOk, OnOk, option_map};
+ghost use Rattle.std.specs.Prelude.{◌≡◌, ◌↔◌, ◌<◌, ◌∷◌, ℕ, Bool, List, IfErr, IfOk, IsTrue, OnOk, option_map};
 ghost use Rattle.ca_text.specs.declared.refusal.Refusal.TheVariants.{BadText};
 ghost use Rattle.ca_script.specs.Grammar.{IsNumber, Refuses};
-ghost use Rattle.ca_script.specs.Lines.{IsAddress, IsPattern, SaysClient, SaysRecord, SaysRule, SaysServer, rights_word, slow_word};
+ghost use Rattle.ca_script.specs.Lines.{IsAddress, IsNamed, IsPattern, SaysRecord, SaysRule, SaysServer, rights_word, slow_word};
 
-use crate::config::{Named, are_carried};
 use crate::element::{base_in, read_value};
 use crate::words::{Pieces, Words, is_word};
 use ca_records::{Records, Rule};
-use ca_text::Refusal;
+use ca_text::{PAYLOAD_LIMIT, Refusal};
 use std::alloc::{AllocError, Global};
-
-/// `USER HOST`, after the line's first word. Refused as BadText, then as OutOfMemory.
-pub(crate) fn read_client(alloc: Global, mut words: Words<'_>) -> Result<Named, Refusal>
-    ensures ok { IfOk result (λ n. SaysClient words.entry n) }
-    ensures err { IfErr result (λ e. Refuses (SaysClient words.entry) e) }
-{
-    let user = words.word()?;
-    let host = words.word()?;
-    words.end()?;
-    let user = Vec::from_slice(alloc, user)?;
-    let host = Vec::from_slice(alloc, host)?;
-    Named::new(user, host)
-}
 
 /// `A.B.C.D:PORT`, after the line's first word: an IPv4 address and a port. Refused as BadText.
 pub fn read_server(mut words: Words<'_>) -> Result<(u32, u16), Refusal>
@@ -134,6 +120,13 @@ pub(crate) fn read_rule(alloc: Global, mut words: Words<'_>) -> Result<Rule, Ref
     let host = pattern(alloc, host)?;
     let name = pattern(alloc, name)?;
     Ok(Rule::new(user, host, name, reads, writes))
+}
+
+/// Whether messages can carry this user and this host.
+pub fn are_carried(user: &[u8], host: &[u8]) -> bool
+    ensures { IsTrue result ↔ IsNamed (user.now, host.now) }
+{
+    user.len() < PAYLOAD_LIMIT && host.len() < PAYLOAD_LIMIT
 }
 
 /// What a word of a rule stands for: none for everything.

@@ -1,30 +1,12 @@
-ghost use Rattle.std.specs.Prelude.{◌≡◌, ◌≢◌, ◌++◌, length, IfErr, OnErr, OnOk, codes, decimal};
+ghost use Rattle.std.specs.Prelude.{◌≡◌, ◌++◌, IfErr, OnOk, codes, decimal};
 ghost use Rattle.hex.specs.Hex.{encode_lower};
 ghost use Rattle.ca_text.specs.declared.refusal.Refusal.TheVariants.{OutOfMemory};
 ghost use Rattle.ca_dbr.specs.Elements.{bytes_of, elements};
-ghost use Rattle.ca_script.specs.Report.{counted, end_text, entry_text, line_text, log_text, notice_text, outcome_text, value_text};
+ghost use Rattle.ca_script.specs.Report.{counted, end_text, outcome_text, value_text};
 
 use ca_dbr::{Meta, Outcome, Value, write_value};
-use ca_small_model::{Logged, Notice};
 use ca_text::Refusal;
 use itoa::Buffer;
-
-/// Writes a line for each entry of a client's log. Refused as OutOfMemory only if it has one; the text is then as before.
-pub fn write_log(client: u64, log: &[Logged], out: &mut Vec<u8>) -> Result<(), Refusal>
-    ensures ok { OnOk result (out.new.items ≡ out.old.items ++ log_text client log.now) }
-    ensures err { IfErr result (λ e. (e ≡ OutOfMemory) × (out.new.items ≡ out.old.items)) }
-    ensures some { OnErr result (length log.now ≢ 0) }
-{
-    if log.is_empty() {
-        return Ok(());
-    }
-    let mut text = Vec::new(*out.allocator());
-    for entry in log {
-        put_line(client, entry, &mut text)?;
-    }
-    out.extend_from_slice(&text)?;
-    Ok(())
-}
 
 /// Writes the last line of a report: how many events were done. Refused as OutOfMemory; the text is then as before.
 pub fn write_end(events: u64, out: &mut Vec<u8>) -> Result<(), Refusal>
@@ -36,41 +18,6 @@ pub fn write_end(events: u64, out: &mut Vec<u8>) -> Result<(), Refusal>
     text.extend_from_slice(b"\n")?;
     out.extend_from_slice(&text)?;
     Ok(())
-}
-
-/// Puts the line of one entry at the end.
-fn put_line(client: u64, entry: &Logged, text: &mut Vec<u8>) -> Result<(), Refusal>
-    ensures ok { OnOk result (text.new.items ≡ text.old.items ++ line_text client entry.now) }
-    ensures err { IfErr result (λ e. e ≡ OutOfMemory) }
-{
-    put_count(b"", client, text)?;
-    put_entry(entry, text)?;
-    text.extend_from_slice(b"\n")?;
-    Ok(())
-}
-
-fn put_entry(entry: &Logged, text: &mut Vec<u8>) -> Result<(), Refusal>
-    ensures ok { OnOk result (text.new.items ≡ text.old.items ++ entry_text entry.now) }
-    ensures err { IfErr result (λ e. e ≡ OutOfMemory) }
-{
-    match entry {
-        Logged::Told(notice) => put_notice(notice, text),
-        Logged::Refused(refusal) => put_count(b" refused ", u64::from(refusal.number()), text),
-    }
-}
-
-fn put_notice(notice: &Notice, text: &mut Vec<u8>) -> Result<(), Refusal>
-    ensures ok { OnOk result (text.new.items ≡ text.old.items ++ notice_text notice.now) }
-    ensures err { IfErr result (λ e. e ≡ OutOfMemory) }
-{
-    match notice {
-        Notice::Live(channel) => put_count(b" live ", *channel, text),
-        Notice::Lost(channel) => put_count(b" lost ", *channel, text),
-        Notice::Completed(request, outcome) => {
-            put_count(b" completed ", *request, text)?;
-            put_outcome(outcome, text)
-        }
-    }
 }
 
 /// Puts what became of a request at the end. Refused as OutOfMemory.

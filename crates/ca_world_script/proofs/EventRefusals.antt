@@ -5,8 +5,7 @@ use Rattle.ca_text.specs.declared.refusal.Refusal.TheVariants.{BadText}
 use Rattle.ca_model.specs.Ends.{Address}
 use Rattle.ca_model.specs.Events.{Event}
 use Rattle.ca_records.specs.Record.{RecordState}
-use Rattle.ca_script.specs.Events.{AreNumbers}
-use Rattle.ca_script.specs.Grammar.{IsNumber, Refuses}
+use Rattle.ca_script.specs.Grammar.{AreNumbers, IsNumber, Refuses}
 use Rattle.ca_script.specs.Lines.{slow_word, type_word}
 use Rattle.ca_dbr.specs.Elements.{base_of}
 use Rattle.ca_dbr.specs.declared.data_type.BaseType.{BaseType}

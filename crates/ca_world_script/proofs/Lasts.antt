@@ -3,8 +3,7 @@ use Rattle.std.proofs.Common.{◌≡◌, ℕ, List, [], ◌∷◌, ◌++◌, ref
 use Rattle.std.proofs.lemmas.List.{append-nil, append_assoc}
 use Rattle.ca_text.specs.declared.refusal.Refusal.{Refusal}
 use Rattle.ca_text.specs.declared.refusal.Refusal.TheVariants.{BadText, OutOfMemory}
-use Rattle.ca_script.specs.Grammar.{Lead, Refuses, parted}
-use Rattle.ca_script.specs.Scripts.{lines_of}
+use Rattle.ca_script.specs.Grammar.{Lead, Refuses, lines_of, parted}
 use Rattle.ca_world_script.specs.Scripts.{Adds, AddsAll, Reading, RefusesScript, nothing}
 
 -- one line more

@@ -7,7 +7,7 @@ use Rattle.ca_text.specs.declared.refusal.Refusal.TheVariants.{BadText}
 use Rattle.ca_model.specs.World.{ServerSetting}
 use Rattle.ca_events.specs.Events.{event_of}
 use Rattle.ca_script.specs.Grammar.{Refuses}
-use Rattle.ca_script.proofs.Alike.{behind-same}
+use Rattle.ca_script.proofs.Sayings.{behind-same}
 use Rattle.ca_script.proofs.Refusals.{NoWord, err-then, refuses-whole, says-none}
 use Rattle.ca_world_script.specs.Events.{Says, SaysPost, verb_word}
 use Rattle.ca_world_script.specs.Scripts.{Adds, AddsAdd, AddsClient, AddsEvent, AddsPost, AddsServer, AddsTo, Reading}

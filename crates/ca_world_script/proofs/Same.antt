@@ -8,8 +8,7 @@ use Rattle.ca_records.specs.Records.{AreApart, IsServed, Names}
 use Rattle.ca_records.specs.Record.{RecordState}
 use Rattle.ca_text.specs.Place.{At}
 use Rattle.ca_text.proofs.Places.{At-one, At-within}
-use Rattle.ca_script.specs.Events.{AreNumbers}
-use Rattle.ca_script.specs.Grammar.{IsNumber, parted}
+use Rattle.ca_script.specs.Grammar.{AreNumbers, IsNumber, parted}
 use Rattle.ca_script.specs.Lines as lines
 use Rattle.ca_script.specs.Lines.{AreEach, SaysServer}
 use Rattle.ca_world_script.specs.Lines.{IsAddress}

@@ -6,11 +6,10 @@ use Rattle.ca_text.specs.declared.refusal.Refusal.TheVariants.{BadText}
 use Rattle.ca_model.specs.World.{ServerSetting}
 use Rattle.ca_records.specs.Record.{RecordState}
 use Rattle.ca_script.specs.Grammar.{Refuses}
-use Rattle.ca_script.specs.Lines.{SaysRecord, SaysRule}
-use Rattle.ca_script.proofs.Alike.{apart, behind-same}
+use Rattle.ca_script.specs.Lines.{SaysRecord, SaysRule, SaysServer}
+use Rattle.ca_script.proofs.Sayings.{apart, behind-same}
 use Rattle.ca_script.proofs.Refusals.{NoWord, refuses-whole, says-none}
 use Rattle.ca_model.specs.Ends.{Address}
-use Rattle.ca_script.specs.Lines.{SaysServer}
 use Rattle.ca_world_data.specs.Settings.{is_taken}
 use Rattle.ca_world_script.proofs.Same.{same-server}
 use Rattle.ca_script.proofs.Heads.{ok-then}

@@ -7,8 +7,7 @@ use Rattle.ca_model.specs.Ends.{Address}
 use Rattle.ca_model.specs.Events.{Event}
 use Rattle.ca_model.specs.Events as event
 use Rattle.ca_records.specs.Record.{RecordState, unset}
-use Rattle.ca_script.specs.Events.{AreNumbers}
-use Rattle.ca_script.specs.Grammar.{IsNumber}
+use Rattle.ca_script.specs.Grammar.{AreNumbers, IsNumber}
 use Rattle.ca_script.specs.Lines.{AreElements, IsHex, slow_word, type_word}
 use Rattle.ca_world_script.specs.Lines.{IsAddress}
 use Rattle.ca_world_script.specs.Types.{Added, HasType}

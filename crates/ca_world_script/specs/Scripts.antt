@@ -9,9 +9,8 @@ use Rattle.ca_model.specs.World.{ClientSetting, ServerSetting}
 use Rattle.ca_records.specs.Record.{RecordState}
 use Rattle.ca_text.specs.declared.refusal.Refusal.{Refusal}
 use Rattle.ca_text.specs.declared.refusal.Refusal.TheVariants.{BadText, OutOfMemory}
-use Rattle.ca_script.specs.Grammar.{Lead, parted}
+use Rattle.ca_script.specs.Grammar.{Lead, lines_of, parted}
 use Rattle.ca_script.specs.Lines.{SaysServer}
-use Rattle.ca_script.specs.Scripts.{lines_of}
 use Rattle.ca_world_script.specs.declared.script.Script.{Script}
 use Rattle.ca_world_script.specs.declared.verb.Verb.{Verb}
 use Rattle.ca_world_script.specs.Events.{Says, SaysAdd, SaysPost, verb_word}

@@ -1,4 +1,4 @@
-use Rattle.ca_script.proofs.Numbers.{numeral-is-text}
+use Rattle.ca_script.proofs.Numerals.{numeral-is-text}
 use Rattle.ca_script.proofs.decimals.decimal.Goals as goal
 
 pub returns-in_default : goal.returns-in_default

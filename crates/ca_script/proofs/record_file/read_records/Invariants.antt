@@ -1,7 +1,6 @@
 use Rattle.std.proofs.Common.{◌<◌, length}
-use Rattle.ca_script.specs.Grammar.{Lead}
+use Rattle.ca_script.specs.Grammar.{Lead, lines_of}
 use Rattle.ca_script.specs.RecordFiles.{FileReading, SaysFile, TakesLine, file_reading}
-use Rattle.ca_script.specs.Scripts.{lines_of}
 use Rattle.ca_script.proofs.record_file.read_records.Given as goal
 
 -- What the lines left lead to, all lines lead to; and where all lines can be read, those left can.

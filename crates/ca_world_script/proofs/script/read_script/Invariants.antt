@@ -1,5 +1,5 @@
 use Rattle.std.proofs.Common.{◌≡◌, ◌<◌, ℕ, List, ◌++◌, length}
-use Rattle.ca_script.specs.Scripts.{lines_of}
+use Rattle.ca_script.specs.Grammar.{lines_of}
 use Rattle.ca_world_script.specs.Scripts.{AddsAll, nothing, reading}
 use Rattle.ca_world_script.specs.Index.{added_of}
 use Rattle.ca_world_script.proofs.script.read_script.Given as goal

@@ -1,8 +1,7 @@
 use Rattle.std.proofs.Common.{rules, refl}
 use Rattle.ca_text.specs.declared.refusal.Refusal.{Refusal}
 use Rattle.ca_script.specs.Grammar.{Refuses}
-use Rattle.ca_script.specs.Lines.{SaysRule}
-use Rattle.ca_script.specs.Setting.{IsNamed}
+use Rattle.ca_script.specs.Lines.{IsNamed, SaysRule}
 use Rattle.ca_world_data.specs.Settings.{rule_of}
 use Rattle.ca_script.proofs.Refusals.{says-none}
 use Rattle.ca_script.proofs.RuleLines.{no-rights-word, rule-said}

@@ -1,9 +1,9 @@
 use Rattle.std.proofs.Common.{◌≡◌, ℕ, [], ◌∷◌}
 use Rattle.ca_text.specs.declared.refusal.Refusal.{Refusal}
 use Rattle.ca_text.specs.declared.refusal.Refusal.TheVariants.{BadText}
-use Rattle.ca_script.specs.Events.{AreNumbers}
+use Rattle.ca_script.specs.Grammar.{AreNumbers}
 use Rattle.ca_script.proofs.Sayings.{behind-first, handed-on, none-first}
-use Rattle.ca_script.proofs.event.four_numbers.Goals as goal
+use Rattle.ca_script.proofs.numbers.four_numbers.Goals as goal
 
 pub returns-in_err-first-clause-err : goal.returns-in_err-first-clause-err
 returns-in_err-first-clause-err c =

@@ -1,9 +1,9 @@
 use Rattle.std.proofs.Common.{◌≡◌, ℕ, [], ◌∷◌}
 use Rattle.ca_text.specs.declared.refusal.Refusal.{Refusal}
 use Rattle.ca_text.specs.declared.refusal.Refusal.TheVariants.{BadText}
-use Rattle.ca_script.specs.Events.{AreNumbers}
+use Rattle.ca_script.specs.Grammar.{AreNumbers}
 use Rattle.ca_script.proofs.Sayings.{behind-first, handed-on, no-numbers, none-first}
-use Rattle.ca_script.proofs.event.one_number.Goals as goal
+use Rattle.ca_script.proofs.numbers.one_number.Goals as goal
 
 pub returns-in_err-number-clause-err : goal.returns-in_err-number-clause-err
 returns-in_err-number-clause-err c =
