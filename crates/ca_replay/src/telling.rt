@@ -5,6 +5,7 @@ use std::io::Write;
 const LINE: usize = 100_000;
 
 /// Writes a line of progress now and then, if somebody looks.
+#[derive(Drop)]
 pub struct Telling<'a, W> {
     /// Where the lines go.
     pub err: &'a mut W,

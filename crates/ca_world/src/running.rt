@@ -29,6 +29,7 @@ pub trait Progress {
 }
 
 // Tells nobody.
+#[derive(Drop)]
 struct Silence;
 
 impl Progress for Silence {
