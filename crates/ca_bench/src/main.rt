@@ -1,6 +1,8 @@
-//! Rounds of calls, to be timed from outside: `ca_bench WHAT SIZE ROUNDS`. Without words it does nothing.
+//! Rounds of calls, to be timed from outside: `ca_bench WHAT SIZE ROUNDS`. The size of a board or a
+//! queue is not used. Without words it does nothing.
 #![tactic(auto)]
 
+mod board;
 mod records;
 
 use ca_dbr::{Meta, Value, read_value, write_value};
@@ -11,6 +13,8 @@ use ca_wire::{Ioid, Message, Sid, Wanted, put_request};
 use std::alloc::Global;
 use std::env;
 use std::process::ExitCode;
+use std::sync::Wait;
+use std::thread::Threads;
 
 /// The number of the type DOUBLE.
 const DOUBLE: u16 = 6;
@@ -26,18 +30,24 @@ const META: Meta = Meta {
 };
 
 fn main(rt: HostRuntime) -> ExitCode {
-    match run(&rt) {
+    let Ok(words) = words_of(&rt) else {
+        return ExitCode::FAILURE;
+    };
+    match run(&rt, rt.alloc(), &words) {
         Ok(()) => ExitCode::SUCCESS,
         Err(_) => ExitCode::FAILURE,
     }
 }
 
-fn run(rt: &HostRuntime) -> Result<(), Refusal> {
-    let words: Vec<String> = match env::args(rt) {
-        Ok(words) => words.skip(1).collect(rt.alloc())?,
-        Err(_) => return Err(Refusal::Device),
-    };
-    let [what, size, rounds] = words.as_slice() else {
+fn words_of(rt: &HostRuntime) -> Result<Vec<String>, Refusal> {
+    match env::args(rt) {
+        Ok(words) => Ok(words.skip(1).collect(rt.alloc())?),
+        Err(_) => Err(Refusal::Device),
+    }
+}
+
+fn run<R: Threads + Wait + Sync>(rt: &R, alloc: Global, words: &[String]) -> Result<(), Refusal> {
+    let [what, size, rounds] = words else {
         return if words.is_empty() {
             Ok(())
         } else {
@@ -45,12 +55,18 @@ fn run(rt: &HostRuntime) -> Result<(), Refusal> {
         };
     };
     match (size.as_str().parse::<u32>(), rounds.as_str().parse::<u32>()) {
-        (Ok(size), Ok(rounds)) => measured(rt.alloc(), what.as_str(), size, rounds),
+        (Ok(size), Ok(rounds)) => measured(rt, alloc, what.as_str(), size, rounds),
         _ => Err(Refusal::BadText),
     }
 }
 
-fn measured(alloc: Global, what: &str, size: u32, rounds: u32) -> Result<(), Refusal> {
+fn measured<R: Threads + Wait + Sync>(
+    rt: &R,
+    alloc: Global,
+    what: &str,
+    size: u32,
+    rounds: u32,
+) -> Result<(), Refusal> {
     match what.as_bytes() {
         b"ids" => ids(alloc, size, rounds),
         b"write-doubles" => writes(alloc, DOUBLE, &doubles(alloc, size)?, rounds),
@@ -61,7 +77,7 @@ fn measured(alloc: Global, what: &str, size: u32, rounds: u32) -> Result<(), Ref
         b"parts" => parts(alloc, size as usize, rounds),
         b"puts" => records::puts(alloc, size, rounds),
         b"posts" => records::posts(alloc, size, rounds),
-        _ => Err(Refusal::BadText),
+        _ => board::measured(rt, alloc, what, rounds),
     }
 }
 

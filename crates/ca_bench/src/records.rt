@@ -18,7 +18,8 @@ const PUT: Put = Put {
     ioid: 0,
 };
 
-/// Rounds of a put with notification to one of n records, which is found by its name, and of the put's finish.
+/// Rounds of a put with notification to one of n records, which is found by its name, and of the
+/// put's finish.
 pub fn puts(alloc: Global, count: u32, rounds: u32) -> Result<(), Refusal> {
     let mut served = served(alloc, count)?;
     let name = name_of(alloc, count / 2)?;

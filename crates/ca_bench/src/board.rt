@@ -1,7 +1,4 @@
-//! Rounds of a board, and of a queue under a lock, to be timed from outside: `ca_bench_board WHAT ROUNDS`. Without words it
-//! does nothing.
-#![tactic(auto)]
-
+//! Rounds of a board, and of a queue under a lock.
 ghost use Rattle.std.specs.Prelude.{◌≡◌, ◌≤◌, ◌<◌};
 
 use ca_board::{Board, CallerSeat, CoreSeat, Ticket};
@@ -9,74 +6,26 @@ use ca_dbr::Outcome;
 use ca_text::{BOARD_CELLS, Refusal};
 use std::alloc::Global;
 use std::collections::VecDeque;
-use std::process::ExitCode;
 use std::sync::{Mutex, Wait};
+use std::thread;
 use std::thread::Threads;
-use std::{env, thread};
 
 /// The cells of each of the four callers.
 const EACH: usize = 256;
 
-/// What is measured.
-#[derive(Clone, Copy, PartialEq)]
-enum Course {
-    Nothing,
-    Board,
-    Queue,
-    BoardCallers,
-    QueueCallers,
-}
-
-fn main(rt: HostRuntime) -> ExitCode {
-    let Ok((what, rounds)) = asked(&rt) else {
-        return ExitCode::FAILURE;
-    };
-    match run(&rt, rt.alloc(), what, rounds) {
-        Ok(()) => ExitCode::SUCCESS,
-        Err(_) => ExitCode::FAILURE,
-    }
-}
-
-fn asked(rt: &HostRuntime) -> Result<(Course, u32), Refusal> {
-    let words: Vec<String> = match env::args(rt) {
-        Ok(words) => words.skip(1).collect(rt.alloc())?,
-        Err(_) => return Err(Refusal::Device),
-    };
-    let [what, rounds] = words.as_slice() else {
-        return if words.is_empty() {
-            Ok((Course::Nothing, 0))
-        } else {
-            Err(Refusal::BadText)
-        };
-    };
-    match (named(what.as_str()), rounds.as_str().parse::<u32>()) {
-        (Some(what), Ok(rounds)) => Ok((what, rounds)),
-        _ => Err(Refusal::BadText),
-    }
-}
-
-fn named(what: &str) -> Option<Course> {
-    match what.as_bytes() {
-        b"board" => Some(Course::Board),
-        b"queue" => Some(Course::Queue),
-        b"board-callers" => Some(Course::BoardCallers),
-        b"queue-callers" => Some(Course::QueueCallers),
-        _ => None,
-    }
-}
-
-fn run<R: Threads + Wait + Sync>(
+/// Rounds of one of four kinds.
+pub(crate) fn measured<R: Threads + Wait + Sync>(
     rt: &R,
     alloc: Global,
-    what: Course,
+    what: &str,
     rounds: u32,
 ) -> Result<(), Refusal> {
-    match what {
-        Course::Nothing => Ok(()),
-        Course::Board => board_rounds(alloc, rounds),
-        Course::Queue => queue_rounds(rt, alloc, rounds),
-        Course::BoardCallers => board_callers(rt, alloc, rounds),
-        Course::QueueCallers => queue_callers(rt, alloc, rounds),
+    match what.as_bytes() {
+        b"board" => board_rounds(alloc, rounds),
+        b"queue" => queue_rounds(rt, alloc, rounds),
+        b"board-callers" => board_callers(rt, alloc, rounds),
+        b"queue-callers" => queue_callers(rt, alloc, rounds),
+        _ => Err(Refusal::BadText),
     }
 }
 
@@ -151,7 +100,8 @@ fn board_callers<R: Threads + Wait + Sync>(
     Ok(())
 }
 
-/// The core's thread: fills each ticket below this generation, and ends when each cell has come to it.
+/// The core's thread: fills each ticket below this generation, and ends when each cell has come to
+/// it.
 fn feed<R: Wait>(rt: &R, board: &Board, mut core: CoreSeat, rounds: u32)
     requires { core.board ≡ board.now }
 {
