@@ -11,7 +11,7 @@ use Rattle.ca_world.proofs.Ended.{ran-next, run-all, run-as, run-refused, run-st
 use Rattle.ca_world.proofs.running.run_telling.Goals as goal
 
 pub returns-in-Refused : goal.returns-in-Refused
-returns-in-Refused c =
+returns-in-Refused g c =
     let e : Event = c.index-events-place.result in
     let es : List model.Event = map event_of c.args.events.now in
     let n : ℕ = c.loop-place.place in
@@ -21,7 +21,7 @@ returns-in-Refused c =
     c.ended.ensures.safe c.ended.ensures.legal
 
 pub returns-in-Stopped : goal.returns-in-Stopped
-returns-in-Stopped c =
+returns-in-Stopped g c =
     let e : Event = c.index-events-place.result in
     let es : List model.Event = map event_of c.args.events.now in
     let n : ℕ = c.loop-place.place in
@@ -32,7 +32,7 @@ returns-in-Stopped c =
     r.ensures.safe r.ensures.legal
 
 pub loop-place-preserved : goal.loop-place-preserved
-loop-place-preserved c =
+loop-place-preserved g c =
     let e : Event = c.index-events-place.result in
     let es : List model.Event = map event_of c.args.events.now in
     let n : ℕ = c.loop-place.place in
@@ -40,7 +40,7 @@ loop-place-preserved c =
     ran-next c.args.config es n c.loop-place.world c.in-Done.next (event_of e) at c.loop-place.invariant c.in-Done.ensures
 
 pub returns : goal.returns
-returns c =
+returns g c =
     let es : List model.Event = map event_of c.args.events.now in
     let n : ℕ = c.loop-place.place in
     let all : n ≡ length c.args.events.now = omega (arith, c.loop-place-test.false, c.loop-place.auto.place-end) in

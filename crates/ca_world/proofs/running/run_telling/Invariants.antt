@@ -7,4 +7,4 @@ use Rattle.ca_world.proofs.running.run_telling.Given as goal
 
 -- the events before this one lead to the world
 abbrev pub invariant-loop-place : goal.invariant-loop-place
-invariant-loop-place l = FoldsTo Happens (opening l.fn.config) (take l.place (map event_of l.events)) l.world
+invariant-loop-place g l = FoldsTo Happens (opening l.fn.config) (take l.place (map event_of l.events)) l.world
