@@ -28,7 +28,6 @@ mod Ahead
 mod Asked
 mod Marked
 mod Passing
-mod Quieted
 mod Prepared
 mod Rounds
 mod Alone

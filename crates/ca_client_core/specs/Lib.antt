@@ -18,7 +18,6 @@ pub mod Moments
 pub mod Marks
 pub mod Silences
 pub mod NameSearches
-pub mod Quiet
 pub mod Ticked
 pub mod ForAccepts
 pub mod ForDatagrams

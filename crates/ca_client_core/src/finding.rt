@@ -3,8 +3,7 @@ ghost use Rattle.std.specs.Prelude.{◌<◌};
 ghost use Rattle.ca_client_core.specs.Hearing.{FindsOr};
 
 use crate::client::ClientCore;
-use crate::searches::pause_found;
-use ca_client_tables::{Address, find};
+use ca_client_tables::{Address, find, pause_found};
 use ca_wire::Message;
 use std::alloc::AllocError;
 

@@ -6,8 +6,7 @@ ghost use Rattle.ca_client_core.specs.ForHistories.{sending_of};
 
 use crate::client::ClientCore;
 use crate::for_histories::{Aim, Sending};
-use crate::searches::settle;
-use ca_client_tables::{Address, Creation, Noted, receive_all_noting};
+use ca_client_tables::{Address, Creation, Noted, receive_all_noting, settle};
 use ca_dgram::Datagram;
 use std::alloc::AllocError;
 

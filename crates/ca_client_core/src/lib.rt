@@ -37,7 +37,6 @@ mod output;
 mod queue;
 mod reading;
 mod receiving;
-mod searches;
 mod silences;
 mod stepping;
 mod subscribing;

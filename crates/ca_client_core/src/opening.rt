@@ -29,14 +29,17 @@ impl ClientCore {
         }
         let own = Vec::from_slice(self.alloc, name.bytes())?;
         let searched = Vec::from_slice(self.alloc, name.bytes())?;
-        self.searches.reserve()?;
+        self.searches.reserve(1)?;
         let handle = match self.channels.open(Channel::new(own, priority)) {
             Ok(handle) => handle,
             Err((_, refusal)) => return Err(refusal),
         };
         let moment = self.moment.max(now);
         let cid = WireId::of(handle).number();
-        self.searches.insert(cid, Place::new(searched, moment));
+        match self.searches.insert(cid, Place::new(searched, moment)) {
+            Ok(_) => {}
+            Err(_) => unreachable!(),
+        }
         self.moment = moment;
         Ok(handle)
     }
