@@ -6,7 +6,7 @@ use Rattle.ca_replay.proofs.Goings.{report-is}
 use Rattle.ca_replay.proofs.replaying.run_all.Goals as goal
 
 pub returns-clause-ok : goal.returns-clause-ok
-returns-clause-ok c =
+returns-clause-ok g c =
     record {
       done = c.in_ok-ran.ran.done;
       w = c.in_ok-ran.ran.world;
