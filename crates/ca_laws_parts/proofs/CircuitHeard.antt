@@ -17,7 +17,7 @@ use Rattle.ca_model.specs.Client.{Channel, Client, Leaving, Live, Native, On, ch
 use Rattle.ca_model.specs.ClientCalls.{clear_sent}
 use Rattle.ca_model.specs.Hears.{without_request}
 use Rattle.ca_model.specs.Speech.{Cid, Ioid, SubId, Gives, Is, Speaks}
-use Rattle.ca_model.specs.History.{Ask, Circuit, Intent, Reply, Sent, Step, Told}
+use Rattle.ca_model.specs.History.{Circuit, Intent, Reply, Sent, Step, Told}
 use Rattle.ca_model.specs.History as history
 use Rattle.ca_model.specs.Channels.{Suits, named}
 use Rattle.ca_model.specs.ClientEvents.{channel_number, meant_by}

@@ -24,7 +24,7 @@ use Rattle.ca_model.specs.Answers.{Closed, Closing, NeedBytes, Notice, Notices, 
 use Rattle.ca_model.specs.Answers as answers
 use Rattle.ca_model.specs.Client.{Channel, Clearing, Client, ClientCircuit, Connecting, Connection, Creating, Doomed, Leaving, Live, On, Phase, is_live, connection_at, ended, later, on_connection, sending}
 use Rattle.ca_model.specs.ClientCalls.{ClientClears, ClientOpens, ClientPuts, ClientReads, ClientSubscribes, ClientUnsubscribes, ClientWrites, IsUnchanged, Opening, Shape, is_over, opened, put_sent, read_sent, write_sent}
-use Rattle.ca_model.specs.ClientEnds.{ClientBegins, ClientConnects, ClientSetting, ConnectsOn, GivesOn, Receives, ReceivesAll, StepsOn, Takes, Ticking, after_taking, all_searched_on, beacon_heard, begun, circuits_ticked, due, flow_sent, given, handed_over, is_name_connected, new_client, of_circuit, searches_made, searches_on, ticks, ticks_as, unconnected, with_sending}
+use Rattle.ca_model.specs.ClientEnds.{ClientSetting, ConnectsOn, GivesOn, Receives, ReceivesAll, StepsOn, Takes, Ticking, after_taking, all_searched_on, beacon_heard, begun, circuits_ticked, due, flow_sent, given, handed_over, is_name_connected, new_client, of_circuit, searches_made, searches_on, ticks, ticks_as, unconnected, with_sending}
 use Rattle.ca_model.specs.ClientEnds as ends
 use Rattle.ca_model.specs.Ends.{Address}
 use Rattle.ca_model.specs.Hears.{Effect, Hears, found_at}
@@ -38,7 +38,7 @@ use Rattle.ca_model.proofs.Tables.{place, under-at}
 use Rattle.ca_arena.specs.Arena.{Place}
 use Rattle.ca_ids.specs.Wire.{wire_of}
 use Rattle.ca_text.proofs.Places.{At-within, some_is}
-use Rattle.ca_laws_parts.specs.ClientRows.{Alone, Call, ClientsSendLegally, Does, Leads, Reads, Rows, before_sending, sent_on}
+use Rattle.ca_laws_parts.specs.ClientRows.{Alone, Call, ClientsSendLegally, Does, Leads, Reads, before_sending, sent_on}
 use Rattle.ca_laws_parts.specs.ClientRows as call
 use Rattle.ca_laws_parts.specs.Conduct.{nothing_done, with_all_sent, with_read}
 use Rattle.ca_laws_parts.proofs.CallsAsking.{few-thins, sound-cleared, sound-issued, sound-opened, sound-subscribed, sound-unsubscribed, sound-written}

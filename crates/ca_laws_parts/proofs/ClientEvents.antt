@@ -13,7 +13,7 @@ use Rattle.ca_text.specs.declared.refusal.Refusal.{Refusal}
 use Rattle.ca_wire.specs.Fields.{Fields}
 use Rattle.ca_model.specs.Answers.{Closed, Closing, NeedBytes, Notices, Sending, Stepped}
 use Rattle.ca_model.specs.Client.{Client, Connection, connection_at, ended, later, out_bytes}
-use Rattle.ca_model.specs.ClientEnds.{EndsFor, Receives, ReceivesAll, StepsOn, after_taking}
+use Rattle.ca_model.specs.ClientEnds.{Receives, ReceivesAll, StepsOn, after_taking}
 use Rattle.ca_model.specs.ClientEnds as ends
 use Rattle.ca_model.specs.Ends.{Address}
 use Rattle.ca_model.specs.Hears.{Effect}

@@ -17,7 +17,7 @@ use Rattle.ca_model.specs.Answers.{Closing, Left, Sending}
 use Rattle.ca_model.specs.Answers as answer
 use Rattle.ca_model.specs.Client.{Client, ClientCircuit, Connection, connection_at, ended, later, on_connection, out_bytes, sending}
 use Rattle.ca_model.specs.ClientCalls.{WantedCircuit, is_over, wanted, wanted_as}
-use Rattle.ca_model.specs.ClientEnds.{ConnectsOn, Receives, ReceivesAll, Ticking, all_searched_on, beacon_heard, begun, circuits_ticked, creations, due, echoes, falls_silent, is_name_connected, of_circuit, searches_made, searches_on, set_up, ticked, ticks, ticks_as, unconnected, with_sending}
+use Rattle.ca_model.specs.ClientEnds.{ConnectsOn, Ticking, all_searched_on, begun, circuits_ticked, creations, due, echoes, falls_silent, is_name_connected, of_circuit, searches_made, searches_on, set_up, ticks, ticks_as, unconnected, with_sending}
 use Rattle.ca_model.specs.ClientEnds as ends
 use Rattle.ca_model.specs.Ends.{Address}
 use Rattle.ca_model.specs.History as history

@@ -8,7 +8,7 @@ use Rattle.ca_text.specs.Place.{At}
 use Rattle.ca_text.proofs.Places.{some_is}
 use Rattle.ca_wire.specs.Fields.{Fields}
 use Rattle.ca_wire.specs.Messages.{bare, cancel_reply, cleared_reply, error_reply, failed_reply, not_found_reply, search_reply, status_reply, text_in, version_reply}
-use Rattle.ca_model.specs.Due.{Action, Due, IsCreated, Knows, Serves, is_known, key_in, must_wait, named, subscription_in}
+use Rattle.ca_model.specs.Due.{Action, Due, IsCreated, Knows, Serves, is_known, key_in, must_wait, subscription_in}
 use Rattle.ca_model.specs.Due as action
 use Rattle.ca_model.specs.Ends.{Peer}
 use Rattle.ca_laws_parts.proofs.Doing.{any-of, commands, each-at, known-or}

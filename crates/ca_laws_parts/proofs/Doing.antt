@@ -7,7 +7,7 @@ use Rattle.ca_text.specs.declared.command.Command.TheVariants as command
 use Rattle.ca_text.specs.Place.{At}
 use Rattle.ca_text.proofs.Places.{some_is}
 use Rattle.ca_dbr.specs.Elements.{Elements}
-use Rattle.ca_model.specs.Due.{Action, Applies, Due, Knows, Names, Nothing, PutDue, Serves, WriteDue, is_known, must_wait, named}
+use Rattle.ca_model.specs.Due.{Action, Applies, Due, Knows, Names, Nothing, PutDue, WriteDue, is_known, must_wait, named}
 use Rattle.ca_model.specs.Due as action
 use Rattle.ca_model.specs.Ends.{Peer}
 use Rattle.ca_model.specs.Speech.{Is}

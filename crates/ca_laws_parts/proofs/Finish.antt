@@ -14,7 +14,7 @@ use Rattle.ca_model.specs.Server.{Open, Server, ServerEnd}
 use Rattle.ca_model.specs.ServerCalls.{Replies, after_next, finish_reply, with_finish}
 use Rattle.ca_model.specs.ServerSteps.{HasEnd}
 use Rattle.ca_model.specs.History.{Reply, Told}
-use Rattle.ca_model.specs.ServerEvents.{Finished, HappensFinish, about, ends_by, finish_entry, first_of, next_busy, next_entries, next_numbers, replied_at}
+use Rattle.ca_model.specs.ServerEvents.{Finished, HappensFinish, about, ends_by, next_busy, next_numbers, replied_at}
 use Rattle.ca_model.specs.ServerEvents as event
 use Rattle.ca_model.specs.World.{Joined, PutPlace, ServerSide, Setting, World, with_circuit}
 use Rattle.ca_model.proofs.Handles.{handle-or}

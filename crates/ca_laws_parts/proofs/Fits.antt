@@ -5,7 +5,7 @@ use Rattle.std.proofs.lemmas.List.{length-append}
 use Rattle.ca_arena.specs.declared.handle.Handle.{Handle}
 use Rattle.ca_ids.specs.Table.{MayGive, Table, under, with_all, with_all_freed, with_changed, with_freed, with_held}
 use Rattle.ca_ids.specs.Wire.{wire_of}
-use Rattle.ca_monitor.specs.Subscriptions.{Stage, Subscription, is_to}
+use Rattle.ca_monitor.specs.Subscriptions.{Subscription, is_to}
 use Rattle.ca_monitor.specs.Subscriptions as monitor
 use Rattle.ca_search.specs.Searcher.{with_one, without}
 use Rattle.ca_search.specs.Searcher as searcher

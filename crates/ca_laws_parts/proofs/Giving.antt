@@ -18,14 +18,14 @@ use Rattle.ca_link.specs.Link.{kept}
 use Rattle.ca_monitor.specs.ReadRun.{after_read, asked_between, sent_by_read}
 use Rattle.ca_monitor.specs.Subscriptions.{Subscription, confirmed_by, drains_in, is_to, standing_to, stands_in}
 use Rattle.ca_requests.specs.Calls.{new_request}
-use Rattle.ca_requests.specs.Requests.{Asked, Request, answered_by, command_of, was_sent_on}
+use Rattle.ca_requests.specs.Requests.{Asked, Request, answered_by, command_of}
 use Rattle.ca_requests.specs.Requests as request
 use Rattle.ca_search.specs.Searches as search
 use Rattle.ca_wire.specs.declared.header.Header.{Header}
 use Rattle.ca_wire.specs.Fields.{Fields}
 use Rattle.ca_wire.specs.Messages.{bare, name_request, search_request, version_request}
 use Rattle.ca_model.specs.Answers.{Closing, Notice, Sending}
-use Rattle.ca_model.specs.Client.{Channel, Client, ClientCircuit, Clearing, Connecting, Connection, Creating, Doomed, Leaving, Live, On, Phase, Searching, Standing, channel_on, circuit_to, connection_at, found_on, is_on_in, later, on_connection, phase_on, sending, with_standing}
+use Rattle.ca_model.specs.Client.{Channel, Client, ClientCircuit, Clearing, Connecting, Connection, Creating, Doomed, Leaving, Live, On, Phase, Searching, Standing, channel_on, circuit_to, connection_at, found_on, is_on_in, later, phase_on, sending, with_standing}
 use Rattle.ca_model.specs.Client as phase
 use Rattle.ca_model.specs.ClientCalls.{LiveChannel, cancel_sent, clear_sent, clearing_sent, event_add_sent, event_cancel_sent, is_over, issued, write_sent}
 use Rattle.ca_model.specs.ClientEnds.{ConnectsOn, GivesOn, Receives, ReceivesAll, Ticking, all_searched_on, begun, circuits_ticked, creating, creations, due, flow_sent, is_connecting, is_name_connected, of_circuit, searches_made, searches_on, set_up, ticks, ticks_as, with_sending}

@@ -17,7 +17,7 @@ use Rattle.ca_model.specs.Due.{Action, Adds, Applies, Clears, Drops, Due, Greets
 use Rattle.ca_model.specs.History.{Circuit, Sent, Step}
 use Rattle.ca_model.specs.Server.{Server}
 use Rattle.ca_model.specs.ServerEvents.{handled_at, keys_concerned, numbers_after, numbers_posted, with_number, write_numbers}
-use Rattle.ca_model.specs.World.{ClientSide, Joined, World, with_circuit}
+use Rattle.ca_model.specs.World.{Joined, World}
 use Rattle.ca_model.specs.World as world
 use Rattle.ca_laws_parts.specs.Flows.{IsCidOf}
 use Rattle.ca_laws_parts.specs.Replies.{IsCidAt}

@@ -14,7 +14,7 @@ use Rattle.ca_wire.specs.Fields.{Fields}
 use Rattle.ca_wire.specs.Messages.{cancel_reply, cleared_reply, created_reply, rights_reply, text_in}
 use Rattle.ca_dbr.specs.Types.{base_number}
 use Rattle.ca_queue.specs.Keys.{same}
-use Rattle.ca_model.specs.Due.{Action, IsCreated, KnownChannel, Knows, Serves, key_in, rights_at, subscription_in}
+use Rattle.ca_model.specs.Due.{Action, IsCreated, Serves, key_in, rights_at, subscription_in}
 use Rattle.ca_model.specs.Due as action
 use Rattle.ca_model.specs.Sends.{Conduct, LegalServer}
 use Rattle.ca_model.specs.Server.{OpenChannel, Server, ServerEnd, Subscription, key_of}
@@ -25,7 +25,7 @@ use Rattle.ca_laws_parts.specs.ServerFits.{ServerFits}
 use Rattle.ca_laws_parts.specs.Conduct.{with_all_sent, with_read}
 use Rattle.ca_laws_parts.proofs.Growing.{IsTold, read-there, told-read, told-sent}
 use Rattle.ca_laws_parts.proofs.Carried.{Carries}
-use Rattle.ca_laws_parts.proofs.Dealing.{AreMute, Deals, IsCalm, deal, marks, one-mute}
+use Rattle.ca_laws_parts.proofs.Dealing.{AreMute, Deals, IsCalm, marks, one-mute}
 use Rattle.ca_laws_parts.proofs.Dealing as dealing
 use Rattle.ca_laws_parts.proofs.EndKnown.{EndKnown, end-created, end-sent, heard-add, heard-cancel, heard-clear, heard-quiet}
 use Rattle.ca_laws_parts.proofs.Spoken.{legal-read, legal-sent, still-reads}

@@ -11,7 +11,7 @@ use Rattle.ca_wire.specs.Fields.{Fields}
 use Rattle.ca_model.specs.Due.{Due}
 use Rattle.ca_model.specs.Ends as why
 use Rattle.ca_model.specs.Server.{Server, ServerEnd}
-use Rattle.ca_model.specs.ServerSteps.{HasEnd, Next, Records, Stepped, closed, knows, with_end}
+use Rattle.ca_model.specs.ServerSteps.{HasEnd, Next, Records, Stepped, knows}
 use Rattle.ca_model.specs.ServerSteps as stepped
 use Rattle.ca_model.specs.ServerEvents.{ServerStepped, StepHandles, ends_by, reported}
 use Rattle.ca_model.specs.World.{Joined, ServerSide, Setting, World}

@@ -4,7 +4,7 @@ use Rattle.std.specs.Prelude.{filter, option_and_then, option_map}
 use Rattle.ca_arena.specs.declared.handle.Handle.{Handle}
 use Rattle.ca_ids.specs.Table.{by_wire, held, same_handle, under, with_freed}
 use Rattle.ca_ids.specs.Wire.{wire_of}
-use Rattle.ca_monitor.specs.Subscriptions.{Cancelled, Ended, Stage, Subscription, is_to, standing_to, stands_in, with_stage}
+use Rattle.ca_monitor.specs.Subscriptions.{Stage, Subscription, is_to, standing_to, stands_in}
 use Rattle.ca_monitor.specs.Subscriptions as monitor
 use Rattle.ca_requests.specs.Requests.{Request, answered_by}
 use Rattle.ca_requests.specs.Requests as request
@@ -19,7 +19,7 @@ use Rattle.ca_wire.specs.Message.{IsMessage}
 use Rattle.ca_model.specs.Answers.{Notice, Sending}
 use Rattle.ca_model.specs.Client.{Channel, Client, ClientCircuit, Clearing, Connecting, Connection, Creating, Doomed, Leaving, Live, Native, On, Phase, Searching, Standing, channel_on, circuit_to, found_on, new_circuit, phase_on, searched_again, with_requests, with_standing, without_channel}
 use Rattle.ca_laws_parts.specs.Held.{AreFew}
-use Rattle.ca_model.proofs.Tables.{find-at, held-under}
+use Rattle.ca_model.proofs.Tables.{held-under}
 use Rattle.ca_laws_parts.specs.Speaks.{SendsMessages, ChannelFits, CircuitFits, ClientFits, SpeaksWell, SubscriptionFits}
 use Rattle.ca_laws_parts.proofs.Fits.{fits-circuits, fits-like, fits-sending, found-fits, gone-fits, holds-all-freed, holds-freed, holds-held, never-live, none-sent, not-clearing, one-more, searched-fits, standing-fits, subscriptions-fit, wire-under}
 use Rattle.ca_laws_parts.proofs.Speaks.{add-good, clear-good, create-good}

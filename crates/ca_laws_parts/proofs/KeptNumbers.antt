@@ -11,7 +11,7 @@ use Rattle.ca_queue.proofs.Keys.{among_push, among_without, same_is, same_itself
 use Rattle.ca_text.specs.Limits.{circuit_queues, queue_subscriptions}
 use Rattle.ca_text.specs.Place.{At}
 use Rattle.ca_text.proofs.Places.{some_is, At-set}
-use Rattle.ca_model.specs.Due.{Action, Adds, Applies, Clears, Drops, Due, Opens, Switches}
+use Rattle.ca_model.specs.Due.{Action, Adds, Applies, Clears, Drops, Opens, Switches}
 use Rattle.ca_model.specs.Due as action
 use Rattle.ca_model.specs.History.{Cause, Reply, Update}
 use Rattle.ca_model.specs.Server.{ServerEnd, concerns, key_of}

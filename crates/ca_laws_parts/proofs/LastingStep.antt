@@ -21,7 +21,7 @@ use Rattle.ca_model.specs.ServerCalls.{Replies, after_next, finish_reply, lackin
 use Rattle.ca_model.specs.ServerSteps.{Acts, HasEnd, LeftOf, Next, Reaches, Stepped, closed, is_write, knows, stored_now, with_end, write_mask}
 use Rattle.ca_model.specs.ServerSteps as stepped
 use Rattle.ca_model.specs.History.{Sent, Step}
-use Rattle.ca_model.specs.ServerEvents.{Finished, HappensFinish, HappensServerStep, ServerStepped, StepHandles, StepLacks, about, acted, ending, ends_at, ends_by, ends_here, handled_at, logged, next_busy, next_numbers, numbers_after, numbers_posted, replied_at, reported, server_after, side_of, unsaid, with_number, without_puts, write_numbers}
+use Rattle.ca_model.specs.ServerEvents.{Finished, HappensFinish, ServerStepped, StepHandles, StepLacks, acted, ending, ends_at, ends_by, ends_here, handled_at, logged, next_busy, next_numbers, numbers_after, numbers_posted, replied_at, reported, server_after, side_of, unsaid, with_number, without_puts, write_numbers}
 use Rattle.ca_model.specs.ServerEvents as event
 use Rattle.ca_model.specs.World.{Joined, PutPlace, ServerSide, World, with_circuit}
 use Rattle.ca_laws_parts.specs.Moves.{finish_told}

@@ -9,7 +9,7 @@ use Rattle.ca_records.specs.declared.puts.Put.{Put}
 use Rattle.ca_records.specs.Puts.{Record, WaitingPut, withdrawn, without_puts}
 use Rattle.ca_model.specs.Speech.{In}
 use Rattle.ca_model.specs.History.{Entry, Applied, Removed, Waits, Withdrawn}
-use Rattle.ca_model.specs.ServerEvents.{channel_withdrawals, places_where, removal_entries, with_core, withdrawals}
+use Rattle.ca_model.specs.ServerEvents.{channel_withdrawals, places_where, with_core, withdrawals}
 use Rattle.ca_model.specs.ServerEvents as event
 use Rattle.ca_model.specs.World.{PutPlace, RecordSide}
 use Rattle.ca_laws_parts.specs.Both.{Both}

@@ -18,7 +18,7 @@ use Rattle.ca_model.specs.Answers.{Notice, Sending}
 use Rattle.ca_model.specs.Client.{Channel, Client, ClientCircuit, Connection, Clearing, Connecting, Creating, Doomed, Leaving, Live, On, Phase, Searching, Standing, channel_on, channels_ended, channels_on, connection_at, disconnected, ended, found_on, is_cleared, let_go, on_connection, searched_again, sending, standing_at, with_one_sent, without_channel, without_circuit, without_ids}
 use Rattle.ca_model.specs.ClientCalls.{ClientClears, ClientOpens, ClientPuts, ClientReads, ClientSubscribes, ClientUnsubscribes, ClientWrites, Does, Opening, Shape, cleared, unsubscribed, unsubscribed_all, unwanted}
 use Rattle.ca_model.specs.Ends.{Address}
-use Rattle.ca_model.specs.Hears.{Answers, Completes, Effect, FindsAt, Hears, PutsOn, Updates, any_failed, becomes, clear_answered, confirmed, create_sent, created, doing, failed, failing, heard_by, left, put_on, request_failed, rights_told, subscription_failed, with_circuit, write_failed}
+use Rattle.ca_model.specs.Hears.{Answers, Completes, Effect, FindsAt, Hears, PutsOn, Updates, any_failed, clear_answered, confirmed, create_sent, created, doing, failed, failing, heard_by, left, put_on, request_failed, rights_told, subscription_failed, with_circuit, write_failed}
 use Rattle.ca_model.specs.Hears as hears
 use Rattle.ca_model.proofs.Standings.{found-standing}
 use Rattle.ca_model.proofs.Handles.{not-same, same-is}

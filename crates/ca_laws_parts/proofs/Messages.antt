@@ -9,7 +9,7 @@ use Rattle.ca_text.specs.declared.command.Command.TheVariants as command
 use Rattle.ca_text.specs.Place.{At}
 use Rattle.ca_text.proofs.Places.{At-mapped}
 use Rattle.ca_wire.specs.Fields.{Fields}
-use Rattle.ca_model.specs.Due.{Action, Adds, Applies, Clears, Drops, Due, Opens, Switches, key_in, subscription_in}
+use Rattle.ca_model.specs.Due.{Action, Adds, Applies, Clears, Drops, Due, Opens, Switches, key_in}
 use Rattle.ca_model.specs.Due as action
 use Rattle.ca_model.specs.History.{Sent, Step}
 use Rattle.ca_model.specs.Server.{OpenChannel, Server, ServerEnd, concerns, key_of}

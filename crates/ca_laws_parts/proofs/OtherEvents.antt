@@ -10,7 +10,7 @@ use Rattle.ca_records.specs.Record.{RecordState, unset}
 use Rattle.ca_model.specs.Answers.{Sending}
 use Rattle.ca_model.specs.Client.{Channel, Client, Searching, is_on_in}
 use Rattle.ca_model.specs.ClientCalls.{Opening, opened}
-use Rattle.ca_model.specs.History.{Circuit, Create, Intent, Line, On}
+use Rattle.ca_model.specs.History.{Circuit, Intent, Line}
 use Rattle.ca_model.specs.History as history
 use Rattle.ca_model.specs.ClientEvents.{HappensHandingOut, HappensOpen, Outcomes, place_of}
 use Rattle.ca_model.specs.ServerEvents.{HappensAdd, HappensPost, HappensServerRestart, ending, ends_by, ends_untold, numbers_posted, posted_entry}

@@ -11,7 +11,7 @@ use Rattle.ca_model.specs.Due.{Action, Applies}
 use Rattle.ca_model.specs.Due as action
 use Rattle.ca_model.specs.Server.{Server}
 use Rattle.ca_model.specs.Speech.{In}
-use Rattle.ca_model.specs.ServerEvents.{next_busy, records_after, reported, server_after, without_puts}
+use Rattle.ca_model.specs.ServerEvents.{next_busy, records_after, server_after, without_puts}
 use Rattle.ca_model.specs.ServerEvents as event
 use Rattle.ca_model.specs.World.{Joined, PutPlace, RecordSide, ServerSide, World, numbered, record_begun}
 use Rattle.ca_laws_parts.specs.Kept.{put_places, puts_of}

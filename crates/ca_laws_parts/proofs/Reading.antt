@@ -19,7 +19,7 @@ use Rattle.ca_wire.specs.Fields.{Fields}
 use Rattle.ca_model.specs.Answers.{Sending}
 use Rattle.ca_model.specs.Client.{Channel, Clearing, Client, Connecting, Creating, Doomed, Leaving, Live, Native, On, Phase, Standing, channel_on, is_live, phase_on, searched_again, sending, with_requests, with_standing, without_channel}
 use Rattle.ca_model.specs.ClientCalls.{clear_sent, event_add_sent}
-use Rattle.ca_model.specs.Hears.{Answers, Completes, Effect, Fails, Hears, Updates, any_failed, becomes, clear_answered, confirmed, created, doing, event_adds, failed, heard_by, left, native_in, request_failed, rights_told, subscription_failed, understood, without_drained, without_request, without_subscription, write_failed}
+use Rattle.ca_model.specs.Hears.{Answers, Completes, Effect, Fails, Hears, Updates, any_failed, becomes, clear_answered, confirmed, created, event_adds, failed, heard_by, left, native_in, request_failed, rights_told, subscription_failed, understood, without_drained, without_request, without_subscription, write_failed}
 use Rattle.ca_model.specs.Hears as hears
 use Rattle.ca_model.specs.Sends.{Conduct, HasChannel, IsDisconnect, IsFree}
 use Rattle.ca_model.specs.Speech.{Creates, Gives, Id, Is}

@@ -13,7 +13,7 @@ use Rattle.ca_monitor.specs.Subscriptions.{Subscription, drains_in, stands_in}
 use Rattle.ca_model.specs.Client.{Channel, Client, Clearing, Connecting, Creating, Doomed, Leaving, Live, On, Phase, Searching, Standing, is_live, is_on_in}
 use Rattle.ca_model.specs.Hears.{heard_by, is_live_on, without_subscription}
 use Rattle.ca_model.specs.Speech.{Id, SubId, Gives, Is, Speaks}
-use Rattle.ca_model.specs.History.{Ask, Circuit, Intent, Reply, Sent, Step, Told}
+use Rattle.ca_model.specs.History.{Circuit, Intent, Reply, Sent, Step, Told}
 use Rattle.ca_model.specs.History as history
 use Rattle.ca_model.specs.Channels.{Suits, named}
 use Rattle.ca_model.specs.ClientEvents.{meant_by}

@@ -13,11 +13,11 @@ use Rattle.ca_model.specs.Due.{Action}
 use Rattle.ca_model.specs.Ends as why
 use Rattle.ca_model.specs.Server.{Server}
 use Rattle.ca_model.specs.ServerCalls.{Replies, finish_reply, with_finish}
-use Rattle.ca_model.specs.ServerSteps.{Next, Records, Stepped, closed, knows}
+use Rattle.ca_model.specs.ServerSteps.{Stepped, closed}
 use Rattle.ca_model.specs.ServerSteps as stepped
 use Rattle.ca_model.specs.Speech.{In}
 use Rattle.ca_model.specs.History.{Applied, Entry, Reply, Told}
-use Rattle.ca_model.specs.ServerEvents.{Finished, HappensFinish, ServerStepped, StepHandles, StepLacks, about, acted, ending, ends_at, ends_by, ends_here, finish_entry, first_of, logged_by, next_busy, next_entries, next_numbers, numbers_after, replied_at, server_after, side_of, unsaid, withdrawals, write_numbers}
+use Rattle.ca_model.specs.ServerEvents.{Finished, HappensFinish, ServerStepped, StepLacks, about, acted, ending, ends_at, ends_by, ends_here, finish_entry, first_of, logged_by, next_busy, next_entries, next_numbers, numbers_after, replied_at, server_after, side_of, unsaid, withdrawals, write_numbers}
 use Rattle.ca_model.specs.ServerEvents as event
 use Rattle.ca_model.specs.World.{Joined, PutPlace, ServerSide, Setting, World, with_circuit}
 use Rattle.ca_laws_parts.specs.Agrees.{Agrees, IsBusyBy, IsBusyWith}

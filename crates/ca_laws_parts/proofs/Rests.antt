@@ -6,22 +6,22 @@ use Rattle.ca_text.specs.Command.{command_number}
 use Rattle.ca_arena.specs.declared.handle.Handle.{Handle}
 use Rattle.ca_ids.specs.Table.{Table, same_handle, under, with_changed, with_freed}
 use Rattle.ca_ids.specs.Wire.{wire_of}
-use Rattle.ca_monitor.specs.Subscriptions.{Stage, Stands, Subscription, confirmed_by, drains_in, is_cancelled_in, is_to, stage_over, stands_in, with_stage}
+use Rattle.ca_monitor.specs.Subscriptions.{Stage, Stands, Subscription, confirmed_by, drains_in, is_cancelled_in, is_to, stands_in}
 use Rattle.ca_monitor.specs.Subscriptions as monitor
 use Rattle.ca_requests.specs.Meaning.{QuotesHeader}
-use Rattle.ca_requests.specs.Requests.{Asked, Request, answered_by, asks_on, command_of, was_sent_on}
+use Rattle.ca_requests.specs.Requests.{Request, answered_by, asks_on, command_of, was_sent_on}
 use Rattle.ca_requests.specs.Requests as request
 use Rattle.ca_text.specs.declared.command.Command.TheVariants as command
 use Rattle.ca_wire.specs.declared.header.Header.{Header}
 use Rattle.ca_wire.specs.Fields.{Fields}
 use Rattle.ca_wire.specs.Messages.{bare}
 use Rattle.ca_model.specs.Answers.{Notice, Sending}
-use Rattle.ca_model.specs.Client.{Channel, Client, ClientCircuit, Clearing, Connecting, Connection, Creating, Doomed, Leaving, Live, Native, On, Phase, Searching, Standing, channel_on, channels_ended, channels_on, circuit_to, connection_at, disconnected, ended, found_on, is_cleared, is_live, is_on_in, later, let_go, on_connection, out_bytes, phase_on, searched_again, sending, standing_at, with_one_sent, with_requests, with_standing, without_channel, without_circuit, without_ids}
+use Rattle.ca_model.specs.Client.{Channel, Client, ClientCircuit, Clearing, Connecting, Connection, Creating, Doomed, Leaving, Live, On, Phase, Searching, Standing, channel_on, circuit_to, found_on, is_on_in, searched_again, sending, with_one_sent, with_requests, with_standing, without_channel}
 use Rattle.ca_model.specs.Client as phase
-use Rattle.ca_model.specs.ClientEnds.{ConnectsOn, GivesOn, Receives, ReceivesAll, Ticking, all_searched_on, beacon_heard, begun, circuits_ticked, creating, creations, due, flow_sent, given, handed_over, is_connecting, is_name_connected, of_circuit, searches_made, searches_on, set_up, ticks, ticks_as, with_sending}
+use Rattle.ca_model.specs.ClientEnds.{Receives, ReceivesAll, beacon_heard}
 use Rattle.ca_model.specs.ClientEnds as ends
 use Rattle.ca_model.specs.Ends.{Address}
-use Rattle.ca_model.specs.Hears.{Answers, Completes, Effect, Fails, FindsAt, Hears, PutsOn, Updates, any_failed, becomes, clear_answered, confirmed, created, doing, failed, found_at, heard_by, left, put_on, request_failed, rights_told, searched_by, subscription_failed, with_circuit, without_drained, without_request, without_subscription, write_failed}
+use Rattle.ca_model.specs.Hears.{Answers, Completes, Effect, Fails, FindsAt, Hears, PutsOn, Updates, any_failed, clear_answered, confirmed, created, doing, failed, found_at, heard_by, left, put_on, request_failed, rights_told, searched_by, subscription_failed, with_circuit, without_drained, without_request, without_subscription, write_failed}
 use Rattle.ca_model.specs.Hears as hears
 use Rattle.ca_model.specs.Speech.{Is}
 use Rattle.ca_model.specs.Placed.{Attached, was_live}

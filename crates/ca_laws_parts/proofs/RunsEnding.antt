@@ -9,7 +9,7 @@ use Rattle.ca_requests.specs.Requests.{was_sent_on}
 use Rattle.ca_model.specs.Answers.{Notice, Sending}
 use Rattle.ca_model.specs.Client.{Channel, Client, Clearing, Connecting, Creating, Doomed, Leaving, Live, On, Phase, Searching, Standing, is_cleared, is_on_in, phase_on, sending, standing_at, standing_unless_cleared}
 use Rattle.ca_model.specs.ClientCalls.{ClientClears, ClientUnsubscribes, cancel_sent, clear_sent, cleared, clearing_sent, event_cancel_sent, unsubscribed}
-use Rattle.ca_model.specs.History.{Circuit, Intent, Sent}
+use Rattle.ca_model.specs.History.{Intent}
 use Rattle.ca_model.specs.History as history
 use Rattle.ca_model.specs.Channels.{Suits}
 use Rattle.ca_model.specs.ClientEvents.{cancelled, channel_number}

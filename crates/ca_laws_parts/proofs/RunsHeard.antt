@@ -7,14 +7,13 @@ use Rattle.ca_text.proofs.Places.{At-mapped}
 use Rattle.ca_arena.specs.declared.handle.Handle.{Handle}
 use Rattle.ca_ids.specs.Table.{held, same_handle}
 use Rattle.ca_monitor.specs.Subscriptions.{Subscription, is_to, standing_to, stands_in}
-use Rattle.ca_requests.specs.Requests.{Draining, Open, Request, Stage, answered_by, was_sent_on}
 use Rattle.ca_requests.specs.Requests as request
 use Rattle.ca_wire.specs.Fields.{Fields}
 use Rattle.ca_model.specs.Answers.{Notice, Sending}
 use Rattle.ca_model.specs.Client.{Client, Clearing, Connecting, Creating, Doomed, Leaving, Live, On, Phase, channel_on, searched_again, sending, with_requests, with_standing, without_channel}
 use Rattle.ca_model.specs.ClientCalls.{clear_sent, event_add_sent}
 use Rattle.ca_model.specs.Hears.{Effect, clear_answered, created, doing, event_adds, failed, left, native_in, rights_told, without_drained}
-use Rattle.ca_model.specs.History.{Circuit, Intent, Sent, Step}
+use Rattle.ca_model.specs.History.{Circuit, Sent, Step}
 use Rattle.ca_model.specs.History as history
 use Rattle.ca_model.specs.Speech.{Is}
 use Rattle.ca_model.specs.ClientEvents.{channel_number, intent_of}

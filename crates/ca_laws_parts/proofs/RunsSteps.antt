@@ -10,7 +10,7 @@ use Rattle.ca_ids.specs.Table.{same_handle}
 use Rattle.ca_model.specs.Answers.{Sending}
 use Rattle.ca_model.specs.Client.{Client, sending}
 use Rattle.ca_model.specs.Hears.{Effect}
-use Rattle.ca_model.specs.History.{Circuit, Intent, Sent, Step}
+use Rattle.ca_model.specs.History.{Circuit, Sent, Step}
 use Rattle.ca_model.specs.History as history
 use Rattle.ca_model.specs.ClientEvents.{heard_in}
 use Rattle.ca_model.specs.World.{Joined, Names}

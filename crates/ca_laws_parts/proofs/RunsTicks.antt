@@ -20,7 +20,7 @@ use Rattle.ca_model.specs.Answers as answer
 use Rattle.ca_model.specs.Client.{Client, Connection, connection_at, later, on_connection, out_bytes, sending}
 use Rattle.ca_model.specs.ClientCalls.{is_over}
 use Rattle.ca_model.specs.ClientEnds.{Ticking, all_searched_on, circuits_ticked, due, is_name_connected, of_circuit, searches_made, searches_on, ticks, ticks_as, with_sending}
-use Rattle.ca_model.specs.History.{Circuit, Sent}
+use Rattle.ca_model.specs.History.{Sent}
 use Rattle.ca_model.specs.History as history
 use Rattle.ca_model.specs.Channels.{Suits}
 use Rattle.ca_model.specs.ClientEvents.{TicksOne, after_tick, client_closed}

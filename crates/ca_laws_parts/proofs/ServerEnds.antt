@@ -18,7 +18,7 @@ use Rattle.ca_model.specs.Ends.{Why}
 use Rattle.ca_model.specs.Ends as why
 use Rattle.ca_model.specs.Server.{Ended, Open, Server, ServerCircuit, ServerEnd, with_post}
 use Rattle.ca_model.specs.ServerCalls.{after_next, circuit_without, disconnects, end_without, finish_reply, lacking, with_message}
-use Rattle.ca_model.specs.ServerSteps.{Acts, HasEnd, LeftOf, Next, Pumps, Reaches, Update, after_post, counted, ended, reached, stored_now, with_end, write_mask}
+use Rattle.ca_model.specs.ServerSteps.{Acts, HasEnd, Next, Reaches, Update, after_post, counted, ended, reached, stored_now, with_end, write_mask}
 use Rattle.ca_model.specs.ServerSteps as steps
 use Rattle.ca_model.specs.Speech.{Stored}
 use Rattle.ca_model.proofs.Tables.{changed-other, changed-own}

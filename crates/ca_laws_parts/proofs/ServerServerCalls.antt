@@ -24,8 +24,8 @@ use Rattle.ca_model.specs.Ends.{Why}
 use Rattle.ca_model.specs.Ends as why
 use Rattle.ca_model.specs.Sends.{Conduct, LegalServer}
 use Rattle.ca_model.specs.Server.{Ended, Open, OpenChannel, Server, ServerCircuit, ServerEnd, Subscription, new_end, new_server, with_post}
-use Rattle.ca_model.specs.ServerCalls.{Finishes, Posts, Removes, Replies, after_next, circuit_without, disconnects, end_without, finish_reply, stamped, with_finish, with_message}
-use Rattle.ca_model.specs.ServerSteps.{Accepts, Cuts, Gives, HasEnd, Handled, LacksMemory, LeftOf, Next, Pumps, Reaches, Sends, Stepped, Steps, StepsAt, StepsOpen, Update, after_post, closed, ended, reached, knows, with_end}
+use Rattle.ca_model.specs.ServerCalls.{Finishes, Posts, Removes, Replies, after_next, circuit_without, disconnects, end_without, finish_reply, with_finish}
+use Rattle.ca_model.specs.ServerSteps.{Accepts, Cuts, Gives, HasEnd, Handled, LacksMemory, LeftOf, Next, Pumps, Reaches, Sends, Stepped, StepsAt, StepsOpen, Update, after_post, closed, ended, reached, knows, with_end}
 use Rattle.ca_model.specs.ServerSteps as stepped
 use Rattle.ca_model.specs.ServerCalls as calls
 use Rattle.ca_model.specs.Speech.{In, Is, Stored}
@@ -38,7 +38,7 @@ use Rattle.ca_laws_parts.proofs.ServerFits.{changed-fits, each-changed, post-fit
 use Rattle.ca_laws_parts.proofs.Marks.{at-filter}
 use Rattle.ca_laws_parts.specs.Conduct.{nothing_done, with_all_sent, with_read}
 use Rattle.ca_laws_parts.proofs.Growing.{IsTold, told-read, told-sent}
-use Rattle.ca_laws_parts.specs.ServerRows.{Alone, Call, Did, Does, IsCall, IsSetting, Leads, Rows, ServerSetting, ServersSendLegally, StepDoes, before, nothing, of_ok, on_circuit, only_sent, removal_sent}
+use Rattle.ca_laws_parts.specs.ServerRows.{Alone, Call, Did, Does, IsCall, Leads, ServersSendLegally, StepDoes, before, nothing, of_ok, on_circuit, only_sent, removal_sent}
 use Rattle.ca_laws_parts.specs.ServerRows as call
 use Rattle.ca_laws_parts.proofs.Carried.{Carries, carries-closed, carries-end, carries-ended, carries-itself, carries-next, carries-post, carries-reaches, carries-same, carries-then, records-circuits}
 use Rattle.ca_laws_parts.proofs.Dealing.{AreMute, deal, marks}

@@ -15,7 +15,7 @@ use Rattle.ca_model.specs.ServerSteps.{Records, knows}
 use Rattle.ca_model.specs.Speech.{In}
 use Rattle.ca_model.specs.History.{Entry, Sent, Step}
 use Rattle.ca_model.specs.History as history
-use Rattle.ca_model.specs.ServerEvents.{acted, ending, ends_at, ends_by, handled_at, left_by, logged_by, noted, numbers_after, places_where, records_after, reported, server_after, side_of, with_core, withdrawals, write_numbers}
+use Rattle.ca_model.specs.ServerEvents.{acted, ending, ends_at, ends_by, handled_at, logged_by, noted, numbers_after, records_after, reported, server_after, side_of, withdrawals, write_numbers}
 use Rattle.ca_model.specs.ServerEvents as event
 use Rattle.ca_model.specs.World.{Joined, PutPlace, RecordSide, ServerSide, Setting, World, log_length, with_circuit}
 use Rattle.ca_laws_parts.specs.Agrees.{Agrees, LoseAll, TestsAgree, WaitsAs}

@@ -13,7 +13,7 @@ use Rattle.ca_model.specs.Answers.{Sending}
 use Rattle.ca_model.specs.Client.{Channel, Client, is_on_in, sending}
 use Rattle.ca_model.specs.ClientCalls.{Shape, new_subscription}
 use Rattle.ca_model.specs.Speech.{Id, Cid, Ioid, SubId, Gives, Is}
-use Rattle.ca_model.specs.History.{Ask, Circuit, Intent, Sent}
+use Rattle.ca_model.specs.History.{Circuit, Intent, Sent}
 use Rattle.ca_model.specs.History as history
 use Rattle.ca_model.specs.Channels.{Suits, named}
 use Rattle.ca_model.specs.ClientEvents.{cancelled, meant_by}

@@ -9,14 +9,14 @@ use Rattle.ca_text.proofs.Places.{some_is, At-mapped, At-one, At-set, At-set-oth
 use Rattle.ca_ids.specs.Table.{under}
 use Rattle.ca_records.specs.declared.puts.Put.{Put}
 use Rattle.ca_records.specs.Puts.{Record, WaitingPut}
-use Rattle.ca_model.specs.Due.{Action, Applies, Due}
+use Rattle.ca_model.specs.Due.{Action, Applies}
 use Rattle.ca_model.specs.Due as action
 use Rattle.ca_model.specs.Server.{Server}
 use Rattle.ca_model.specs.ServerSteps.{stored_now}
 use Rattle.ca_model.specs.Speech.{In}
-use Rattle.ca_model.specs.History.{Entry, Sent, Step}
+use Rattle.ca_model.specs.History.{Entry}
 use Rattle.ca_model.specs.History as history
-use Rattle.ca_model.specs.ServerEvents.{acted, ending, ends_at, ends_by, handled_at, left_by, logged_by, noted, numbers_after, places_where, records_after, reported, server_after, side_of, with_core, withdrawals, write_numbers}
+use Rattle.ca_model.specs.ServerEvents.{ends_by, left_by, logged_by, numbers_after, places_where, records_after, with_core, write_numbers}
 use Rattle.ca_model.specs.ServerEvents as event
 use Rattle.ca_model.specs.World.{Joined, PutPlace, RecordSide}
 use Rattle.ca_laws_parts.specs.Once.{write_in}

@@ -11,7 +11,7 @@ use Rattle.ca_records.specs.declared.puts.Put.{Put}
 use Rattle.ca_records.specs.Puts.{Record, WaitingPut, with_record, with_value, with_waiting}
 use Rattle.ca_model.specs.Speech.{In, Stored}
 use Rattle.ca_model.specs.History.{Entry, Added, Applied, Finished, Posted, Waits, Withdrawn}
-use Rattle.ca_model.specs.ServerEvents.{first_of, next_busy, number_of}
+use Rattle.ca_model.specs.ServerEvents.{number_of}
 use Rattle.ca_model.specs.ServerEvents as event
 use Rattle.ca_model.specs.World.{PutPlace, RecordSide}
 use Rattle.ca_laws_parts.specs.Both.{Both}

@@ -3,7 +3,7 @@ use Rattle.std.proofs.Common.{◌≡◌, ℕ, zero, suc, ◌<◌, ◌⊎◌, inl
 use Rattle.ca_text.specs.Place.{At}
 use Rattle.ca_text.proofs.Places.{some_is, At-one, At-parts, At-within}
 use Rattle.ca_model.specs.Speech.{In}
-use Rattle.ca_model.specs.History.{Entry, Step}
+use Rattle.ca_model.specs.History.{Entry}
 use Rattle.ca_model.specs.History as history
 use Rattle.ca_model.specs.World.{Joined, PutPlace, ServerSide, World}
 use Rattle.ca_laws_parts.specs.Once.{Once, write_in}

@@ -1,47 +1,34 @@
-//! Laws of updates: what the numbers of a subscription's updates say of what its subscriber saw,
-//! and what a queue does to them.
+//! Laws of the parts of a world: what each call, message and event keeps of one circuit, of the records and the log of a
+//! server, of the updates of a subscription, and of the bytes between two ends; and what one core alone sends.
 //!
-//! Laws of writes: the records of a server beside the log of its life, in which each write is
-//! applied once and as it came.
-//!
-//! Laws of one circuit: what the ids in flight mean as its two lists grow, and what a client's
-//! tables hold of it.
-//!
-//! Laws of one core alone, with any peer: over any row of its calls, with any answers and any bytes that
-//! come, what it sends is legal, said by the ids in its messages. And what each call of a client leaves
-//! of the ids that it holds on a circuit.
-//!
-//! Laws of runs: what each event of a world keeps, from the laws of its parts.
-//!
-//! Laws of what a server keeps for a circuit: for which of a client's messages it may still send
-//! others, and that what is held of the circuit stays so by that.
-//!
-//! Laws of bytes: what an end of a circuit takes next is the next message that was sent to it; and so
-//! what is promised of writes holds after every run.
-//!
-//! The law of one server's core alone, with any peer: over any row of its calls, with any answers and any
-//! bytes that come, what it sends is legal, said by the ids in its messages.
+//! - Updates: what their numbers say of what a subscriber saw, and what a queue does to them.
+//! - Writes: the records of a server beside the log of its life, in which each write is applied once and as it came.
+//! - One circuit: what the ids in flight mean as its two lists grow, what a client's tables hold of it, and for which of a
+//!   client's messages a server may still send others; and that each event keeps it.
+//! - Bytes: what an end of a circuit takes next is the next message that was sent to it.
+//! - One core alone, with any peer: over any row of its calls, with any answers and any bytes that come, what it sends is
+//!   legal, said by the ids in its messages.
 #![tactic(auto)]
 
-mod bytes;
+mod byte_laws;
 mod calm;
-mod channels;
+mod channel_laws;
 mod circuit;
 mod circuits;
 mod client_calls;
-mod clients;
+mod client_laws;
 mod kept;
-mod others;
+mod other_laws;
 mod sending;
 mod server_calls;
-mod updates;
-mod writes;
+mod update_laws;
+mod write_laws;
 mod writes_in_runs;
 mod written;
 
-pub use bytes::{a_client_sends_messages, bytes_are_messages_in_runs, ends_take_what_was_sent};
+pub use byte_laws::{a_client_sends_messages, bytes_are_messages_in_runs, ends_take_what_was_sent};
 pub use calm::calm_events_keep_each_circuit;
-pub use channels::{
+pub use channel_laws::{
     a_clear_before_live_keeps_what_is_held, a_created_channel_keeps_what_is_held,
     a_new_circuit_holds_what_it_creates, a_refusal_keeps_what_is_held,
     a_servers_events_keep_what_is_held, a_write_keeps_what_is_held,
@@ -61,20 +48,20 @@ pub use circuits::{
 pub use client_calls::{
     a_clients_steps_are_those_of_rows, what_a_client_sends_is_legal, which_call_sends_what,
 };
-pub use clients::clients_stand_in_runs;
+pub use client_laws::clients_stand_in_runs;
 pub use kept::{
     calm_events_keep_what_is_held, channels_are_those_that_were_created,
     finishes_keep_what_is_held, removals_keep_what_is_held, steps_keep_what_others_hold,
     updates_keep_what_is_held, what_is_kept_was_kept, what_stands_came_by_messages,
 };
-pub use others::{a_clients_life_keeps_each_circuit, quiet_events_keep_each_circuit};
+pub use other_laws::{a_clients_life_keeps_each_circuit, quiet_events_keep_each_circuit};
 pub use sending::{a_server_sends_messages, servers_send_messages_in_runs};
 pub use server_calls::{a_servers_steps_are_those_of_rows, what_a_server_sends_is_legal};
-pub use updates::{
+pub use update_laws::{
     a_queue_keeps_numbers_rising, a_subscriber_sees_posts, a_subsequence_begins_with_one,
     an_end_and_its_circuit_stay_in_step, values_and_numbers_stay_in_step,
 };
-pub use writes::{
+pub use write_laws::{
     a_log_has_each_write_once, a_message_keeps_records_and_log, due_replies_say_what_is_done,
     ends_of_circuits_withdraw_puts, events_at_a_server_keep_writes, no_write_is_applied_twice,
     records_agree_with_their_log, what_a_reply_says_stays_so, writes_stay_as_a_world_goes_on,

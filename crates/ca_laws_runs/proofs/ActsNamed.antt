@@ -15,7 +15,7 @@ use Rattle.ca_model.specs.Answers.{Aim, Notice, Sending}
 use Rattle.ca_model.specs.Answers as aim
 use Rattle.ca_model.specs.Client.{Channel, Client, Searching}
 use Rattle.ca_model.specs.ClientCalls.{ClientOpens, Opening, opened}
-use Rattle.ca_model.specs.History.{Ask, Circuit, Create, Intent, Line, On, OfCircuit, Opened, Sent, Subscribe}
+use Rattle.ca_model.specs.History.{Create, Intent, Line, On, OfCircuit, Opened, Sent, Subscribe}
 use Rattle.ca_model.specs.History as history
 use Rattle.ca_model.specs.Speech.{In, name_in}
 use Rattle.ca_model.proofs.Tables.{held-back, length-more}

@@ -13,7 +13,7 @@ use Rattle.ca_ids.specs.Wire.{wire_of}
 use Rattle.ca_monitor.specs.Subscriptions.{Subscription, is_to, standing_to, stands_in}
 use Rattle.ca_wire.specs.Fields.{Fields}
 use Rattle.ca_model.specs.Answers.{Sending}
-use Rattle.ca_model.specs.Client.{Channel, Client, Clearing, Connecting, Creating, Doomed, Leaving, Live, Phase, channel_on, is_cleared, is_on_in, sending, with_standing}
+use Rattle.ca_model.specs.Client.{Channel, Client, Clearing, Connecting, Creating, Doomed, Leaving, Live, Phase, channel_on, is_cleared, is_on_in, with_standing}
 use Rattle.ca_model.specs.Client as client
 use Rattle.ca_model.specs.ClientCalls.{event_add_sent}
 use Rattle.ca_model.specs.ClientEnds.{after_taking}

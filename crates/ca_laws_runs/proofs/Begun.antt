@@ -18,7 +18,7 @@ use Rattle.ca_text.proofs.Places.{some_is, At-map, At-mapped, At-parts}
 use Rattle.ca_model.specs.History.{Entry, Removal, Removed, Sent, Step, Told, Update, Withdrawn}
 use Rattle.ca_model.specs.Server.{OpenChannel, ServerEnd, Subscription, key_of, new_end}
 use Rattle.ca_model.specs.ServerCalls.{channels_of, end_without, is_on, retired}
-use Rattle.ca_model.specs.ServerSteps.{Acts, Leaves, known_channel, knows, without_channel}
+use Rattle.ca_model.specs.ServerSteps.{Leaves}
 use Rattle.ca_model.specs.ServerSteps as stepped
 use Rattle.ca_model.specs.Posts.{matching, post_in}
 use Rattle.ca_model.specs.ServerEvents.{number_of, removal_entries, removal_told, stamped}

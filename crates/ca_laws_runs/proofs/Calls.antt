@@ -19,7 +19,7 @@ use Rattle.ca_model.specs.ClientEnds.{GivesOn, Receives, ReceivesAll, beacon_hea
 use Rattle.ca_model.specs.ClientEnds as ends
 use Rattle.ca_model.specs.Ends.{Address}
 use Rattle.ca_model.specs.Hears.{Effect, FindsAt, PutsOn, create_sent, found_at, put_on, searched_by, with_circuit}
-use Rattle.ca_model.specs.History.{Ask, Cancel, Clear, Create, Intent, Kind, Put, Read, Sent, Subscribe, Write}
+use Rattle.ca_model.specs.History.{Ask, Cancel, Intent, Kind, Put, Read, Sent, Subscribe, Write}
 use Rattle.ca_model.specs.History as history
 use Rattle.ca_model.specs.Speech.{sid_in}
 use Rattle.ca_model.proofs.Handles.{same-is, same-itself}

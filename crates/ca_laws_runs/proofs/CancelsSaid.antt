@@ -21,7 +21,7 @@ use Rattle.ca_model.specs.Answers as aim
 use Rattle.ca_model.specs.Client.{Channel, Client, ClientCircuit, Clearing, Connecting, Connection, Creating, Doomed, Leaving, Live, On, Phase, Searching, Standing, channel_on, circuit_to, connection_at, is_on_in, later, out_bytes, standing_at}
 use Rattle.ca_model.specs.Client as phase
 use Rattle.ca_model.specs.ClientCalls.{cancel_sent, clear_sent, clearing_sent, event_add_sent, event_cancel_sent}
-use Rattle.ca_model.specs.ClientEnds.{ConnectsOn, GivesOn, Receives, ReceivesAll, StepsOn, after_taking, circuits_ticked, creations, flow_sent, handed_over, is_connecting, of_circuit, searches_made, set_up}
+use Rattle.ca_model.specs.ClientEnds.{ConnectsOn, GivesOn, Receives, ReceivesAll, StepsOn, after_taking, creations, flow_sent, handed_over, is_connecting, of_circuit, set_up}
 use Rattle.ca_model.specs.ClientEnds as ends
 use Rattle.ca_model.specs.Ends.{Address}
 use Rattle.ca_model.specs.Hears.{Answers, Completes, Effect, Fails, FindsAt, Hears, PutsOn, Updates, any_failed, becomes, clear_answered, confirmed, create_sent, created, doing, event_adds, failed, failing, found_at, heard_by, left, put_on, request_failed, rights_told, searched_by, subscription_failed, write_failed}

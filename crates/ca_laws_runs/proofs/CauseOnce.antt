@@ -12,7 +12,7 @@ use Rattle.ca_text.specs.Place.{At}
 use Rattle.ca_text.proofs.Places.{some_is, At-mapped, At-one, At-parts, At-set, At-snoc}
 use Rattle.ca_wire.specs.Fields.{Fields}
 use Rattle.ca_model.specs.Answers.{Closing}
-use Rattle.ca_model.specs.Due.{Action, Adds, Applies, Clears, Drops, Due, KnownChannel, Opens, Switches}
+use Rattle.ca_model.specs.Due.{Action, Adds, Applies, Clears, Drops, KnownChannel, Opens, Switches}
 use Rattle.ca_model.specs.Due as action
 use Rattle.ca_model.specs.History.{Circuit, Removal, Reply, Step, Told}
 use Rattle.ca_model.specs.Server.{Open, OpenChannel, Server, ServerCircuit, ServerEnd, concerns, key_of}

@@ -16,7 +16,7 @@ use Rattle.ca_model.specs.ServerSteps.{HasEnd, Pumps}
 use Rattle.ca_model.specs.Speech.{Creates, In, name_in}
 use Rattle.ca_model.specs.Channels.{Created, Has, IsCleared}
 use Rattle.ca_model.specs.Headline.{HasCause}
-use Rattle.ca_model.specs.ServerEvents.{HappensPump, StepHandles, about, acted, disconnected_at, ends_at, ends_by, handled_at, noted, removal_entries, removal_told, server_after, side_of, stamped, withdrawals}
+use Rattle.ca_model.specs.ServerEvents.{HappensPump, about, disconnected_at, ends_at, ends_by, noted, removal_entries, removal_told, server_after, withdrawals}
 use Rattle.ca_model.specs.ServerEvents as server
 use Rattle.ca_model.specs.World.{Creation, Joined, RecordSide, ServerSide, Setting, Standing, World, circuit_of}
 use Rattle.ca_laws_parts.specs.Channels.{ChannelsOn, has_sid}

@@ -19,14 +19,14 @@ use Rattle.ca_model.specs.Due as action
 use Rattle.ca_model.specs.Ends as why
 use Rattle.ca_model.specs.History.{Circuit, Collected, GaveUp, Reply, Step, Told}
 use Rattle.ca_model.specs.Server.{OpenChannel, Server, Subscription}
-use Rattle.ca_model.specs.ServerSteps.{Stepped, Update, closed}
+use Rattle.ca_model.specs.ServerSteps.{Stepped, closed}
 use Rattle.ca_model.specs.ServerSteps as stepped
 use Rattle.ca_model.specs.Speech.{In}
 use Rattle.ca_model.specs.ClientEvents.{DownTaken, HappensDown, up_taken}
 use Rattle.ca_model.specs.Events.{Event}
 use Rattle.ca_model.specs.Events as event
 use Rattle.ca_model.specs.Runs.{CanBe, Happens, Leaves, clients_below}
-use Rattle.ca_model.specs.ServerEvents.{HappensAdd, HappensFinish, HappensPost, HappensPump, HappensRemove, ServerStepped, StepHandles, about, acted, disconnected_at, ending, ends_by, ends_here, handled_at, keys_concerned, next_numbers, noted, numbers_after, numbers_posted, removal_told, removed_at, replied_at, server_after, server_closed, side_of, stamped, unsaid, with_number, without_standing, write_numbers}
+use Rattle.ca_model.specs.ServerEvents.{HappensAdd, HappensPost, HappensPump, ServerStepped, StepHandles, about, acted, disconnected_at, ending, ends_by, ends_here, handled_at, keys_concerned, next_numbers, noted, numbers_after, numbers_posted, removal_told, removed_at, replied_at, server_after, server_closed, side_of, stamped, unsaid, with_number, without_standing, write_numbers}
 use Rattle.ca_model.specs.ServerEvents as server
 use Rattle.ca_model.specs.World.{ClientSide, Joined, RecordSide, ServerSide, Standing, World, with_circuit}
 use Rattle.ca_laws_parts.specs.Later.{stamped_told}

@@ -16,7 +16,7 @@ use Rattle.ca_wire.specs.declared.requests.Wanted.{Wanted}
 use Rattle.ca_wire.specs.Fields.{Fields}
 use Rattle.ca_model.specs.Answers.{Closing}
 use Rattle.ca_model.specs.Due.{Due}
-use Rattle.ca_model.specs.History.{Cause, Circuit, Entry, Line, On, Removal, Reply, Sent, Step, Subscribe, Told, Update}
+use Rattle.ca_model.specs.History.{Cause, Circuit, Entry, On, Removal, Reply, Sent, Step, Subscribe, Told, Update}
 use Rattle.ca_model.specs.History as history
 use Rattle.ca_model.specs.Server.{Server, ServerEnd}
 use Rattle.ca_model.specs.ServerSteps.{Stepped, knows}
@@ -29,7 +29,7 @@ use Rattle.ca_model.specs.ClientEvents.{HappensAccept, WantsFirst, connected_as,
 use Rattle.ca_model.specs.Events.{Event}
 use Rattle.ca_model.specs.Events as event
 use Rattle.ca_model.specs.Runs.{Happens, Runs, StopsAt, clients_below}
-use Rattle.ca_model.specs.ServerEvents.{HappensFinish, HappensRemove, ServerStepped, StepHandles, about, acted, ends_by, handled_at, noted, server_after, side_of}
+use Rattle.ca_model.specs.ServerEvents.{HappensFinish, HappensRemove, ServerStepped, StepHandles, about, acted, ends_by, handled_at, server_after, side_of}
 use Rattle.ca_model.specs.ServerEvents as server
 use Rattle.ca_model.specs.World.{ClientSide, IsSetting, Joined, RecordSide, ServerSide, Setting, Standing, World, circuit_of, opening, with_circuit}
 use Rattle.ca_laws_runs.proofs.CauseGrows as places

@@ -17,7 +17,7 @@ use Rattle.ca_model.specs.ClientEvents.{DownTaken, HappensAccept, HappensDown, W
 use Rattle.ca_model.specs.Events.{Event}
 use Rattle.ca_model.specs.Events as event
 use Rattle.ca_model.specs.Runs.{CanBe, Leaves, clients_below}
-use Rattle.ca_model.specs.ServerEvents.{Finished, HappensFinish, HappensPost, HappensRemove, ServerStepped, acted, ending, ends_by, ends_here, handled_at, noted, numbers_after, server_after, side_of, unsaid, write_numbers}
+use Rattle.ca_model.specs.ServerEvents.{HappensFinish, HappensPost, HappensRemove, ServerStepped, acted, ending, ends_by, ends_here, handled_at, noted, numbers_after, server_after, side_of, unsaid, write_numbers}
 use Rattle.ca_model.specs.ServerEvents as server
 use Rattle.ca_model.specs.World.{ClientSide, Joined, RecordSide, ServerSide, World, with_circuit}
 use Rattle.ca_laws_parts.specs.Moves.{finish_told, post_told, removal_told}

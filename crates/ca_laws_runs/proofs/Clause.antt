@@ -30,7 +30,7 @@ use Rattle.ca_model.specs.Known.{IsDue}
 use Rattle.ca_requests.specs.Meaning as meaning
 use Rattle.ca_laws_runs.specs.Clause.{StandingFollow}
 use Rattle.ca_laws_runs.specs.Follows.{AllFollow, Follows, Stands, posts_by}
-use Rattle.ca_laws_runs.specs.Holds.{Counts, Holds, number_for, sent_numbers, stamp_of}
+use Rattle.ca_laws_runs.specs.Holds.{Counts, sent_numbers, stamp_of}
 use Rattle.ca_laws_runs.specs.Holds as number
 use Rattle.ca_laws_runs.proofs.Counting.{key-once, rising-below}
 use Rattle.ca_laws_runs.proofs.PostFollowing.{logged-is}

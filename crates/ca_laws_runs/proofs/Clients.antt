@@ -13,12 +13,12 @@ use Rattle.ca_link.specs.Link.{with_handed}
 use Rattle.ca_text.specs.declared.command.Command.{Command}
 use Rattle.ca_wire.specs.Messages.{bare}
 use Rattle.ca_model.specs.Answers.{Closing, Sending}
-use Rattle.ca_model.specs.Client.{Channel, Client, ClientCircuit, Connection, Live, On, connection_at, ended, is_on_in, on_connection, sending}
+use Rattle.ca_model.specs.Client.{Client, Connection, On, connection_at, ended, on_connection}
 use Rattle.ca_model.specs.Client as client
 use Rattle.ca_model.specs.ClientEnds.{GivesOn, flow_sent, handed_over, of_circuit}
 use Rattle.ca_model.specs.Ends.{Address}
 use Rattle.ca_model.specs.Hears.{Effect}
-use Rattle.ca_model.specs.History.{Circuit, Create, Intent, Line, Sent, Step}
+use Rattle.ca_model.specs.History.{Circuit, Create, Intent, Sent}
 use Rattle.ca_model.specs.History as history
 use Rattle.ca_model.proofs.Handles.{same-itself}
 use Rattle.ca_model.proofs.Standings.{stands-as}

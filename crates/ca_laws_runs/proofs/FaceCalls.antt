@@ -17,7 +17,7 @@ use Rattle.ca_model.specs.Ends.{Why}
 use Rattle.ca_model.specs.Ends as why
 use Rattle.ca_model.specs.Server.{Ended, Open, Server, ServerCircuit, ServerEnd, new_end, with_post}
 use Rattle.ca_model.specs.ServerCalls.{AddsRecord, Finishes, Posts, Removes, Replies, after_next, circuit_without, disconnects, end_without, lacking, with_finish}
-use Rattle.ca_model.specs.ServerSteps.{Accepts, Cuts, Gives, HasEnd, LeftOf, Next, Pumps, Reaches, Records, Sends, Update, after_post, closed, ended, reached, with_end}
+use Rattle.ca_model.specs.ServerSteps.{Accepts, Cuts, Gives, HasEnd, Next, Pumps, Reaches, Records, Sends, Update, after_post, closed, ended, reached, with_end}
 use Rattle.ca_model.specs.ServerSteps as steps
 use Rattle.ca_model.specs.Speech.{Stored}
 use Rattle.ca_model.specs.ServerEvents.{left_by, reported}

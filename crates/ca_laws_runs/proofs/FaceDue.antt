@@ -10,7 +10,7 @@ use Rattle.ca_text.specs.Status.{normal}
 use Rattle.ca_text.proofs.Places.{some_is}
 use Rattle.ca_wire.specs.Fields.{Fields}
 use Rattle.ca_wire.specs.Messages.{bare, cancel_reply, cleared_reply, created_reply, error_reply, failed_reply, not_found_reply, search_reply, status_reply, text_in, version_reply}
-use Rattle.ca_model.specs.Due.{Action, Adds, Applies, Clears, Drops, Due, IsCreated, KnownChannel, Knows, Names, Nothing, Opens, Switches, is_known, must_wait, named}
+use Rattle.ca_model.specs.Due.{Action, Adds, Applies, Clears, Drops, Due, KnownChannel, Knows, Names, Nothing, Opens, Switches, is_known, must_wait, named}
 use Rattle.ca_model.specs.Due as action
 use Rattle.ca_model.specs.Speech.{In, Is}
 use Rattle.ca_laws_parts.proofs.Doing.{any-of, commands, each-at, known-or}

@@ -22,7 +22,7 @@ use Rattle.ca_model.specs.ClientEvents.{HappensAccept, WantsFirst, connected_as,
 use Rattle.ca_model.specs.Events.{Event}
 use Rattle.ca_model.specs.Events as event
 use Rattle.ca_model.specs.Runs.{Happens, Runs, StopsAt, clients_below}
-use Rattle.ca_model.specs.ServerEvents.{HappensFinish, HappensPump, HappensRemove, ServerStepped, StepHandles, about, ends_by, handled_at, numbers_after, removal_told, server_after, stamped, with_number}
+use Rattle.ca_model.specs.ServerEvents.{HappensFinish, HappensPump, HappensRemove, ServerStepped, StepHandles, about, handled_at, numbers_after, removal_told, stamped, with_number}
 use Rattle.ca_model.specs.ServerEvents as server
 use Rattle.ca_model.specs.World.{ClientSide, IsSetting, Joined, ServerSide, Setting, World, opening, server_begun}
 use Rattle.ca_laws_parts.specs.Later.{stamped_told}

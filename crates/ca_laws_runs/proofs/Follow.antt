@@ -22,7 +22,7 @@ use Rattle.ca_model.specs.ClientEvents.{HappensAccept, HappensDown, WantsFirst}
 use Rattle.ca_model.specs.Events.{Event}
 use Rattle.ca_model.specs.Events as event
 use Rattle.ca_model.specs.Runs.{CanBe, Leaves, clients_below}
-use Rattle.ca_model.specs.ServerEvents.{Finished, HappensAdd, HappensFinish, HappensPost, HappensRemove, ServerStepped, acted, ends_by, ends_here, next_busy, noted, records_after, replied_at, reported, server_after, side_of, unsaid, without_puts}
+use Rattle.ca_model.specs.ServerEvents.{HappensAdd, HappensFinish, HappensPost, HappensRemove, ServerStepped, acted, ends_by, ends_here, next_busy, noted, records_after, replied_at, reported, server_after, side_of, unsaid, without_puts}
 use Rattle.ca_model.specs.ServerEvents as server
 use Rattle.ca_model.specs.World.{ClientSide, Joined, PutPlace, RecordSide, ServerSide, World, record_begun, server_begun, with_circuit}
 use Rattle.ca_laws_parts.specs.Moves.{Lives, finish_told, post_told, removal_told}

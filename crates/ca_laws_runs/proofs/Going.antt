@@ -9,7 +9,7 @@ use Rattle.ca_arena.specs.declared.handle.Handle.{Handle}
 use Rattle.ca_dbr.specs.Elements.{Elements}
 use Rattle.ca_ids.specs.Table.{MayGive, Table, under, with_held}
 use Rattle.ca_requests.specs.Calls.{new_request}
-use Rattle.ca_requests.specs.Requests.{Asked, Request, is_open_in}
+use Rattle.ca_requests.specs.Requests.{Asked, Request}
 use Rattle.ca_requests.specs.Requests as request
 use Rattle.ca_model.specs.Answers.{Closed, NeedBytes, Notices, Sending, Stepped}
 use Rattle.ca_model.specs.Client.{Channel, Client, ClientCircuit, Connection, Live, On, Standing, connection_at, later, sending, standing_at}

@@ -15,7 +15,7 @@ use Rattle.ca_wire.specs.declared.header.Header.{Header}
 use Rattle.ca_wire.specs.Fields.{Fields}
 use Rattle.ca_model.specs.Client.{Clearing, Client, Connecting, Creating, Doomed, Leaving, Live, Phase, channel_on, is_on_in}
 use Rattle.ca_model.specs.Hears.{heard_by}
-use Rattle.ca_model.specs.History.{Ask, Cancel, Circuit, Clear, Create, Intent, Kind, On, Put, Read, Sent, Subscribe, Told, Write}
+use Rattle.ca_model.specs.History.{Cancel, Circuit, Clear, Create, Intent, On, Put, Read, Sent, Subscribe, Told, Write}
 use Rattle.ca_model.specs.History as history
 use Rattle.ca_model.specs.Speech.{Cid, Gives, Ioid, Is, Speaks, SubId}
 use Rattle.ca_model.specs.Channels.{Suits, named}

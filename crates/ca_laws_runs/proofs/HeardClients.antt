@@ -13,7 +13,7 @@ use Rattle.ca_dbr.specs.Elements.{Elements}
 use Rattle.ca_link.specs.Link.{with_handed}
 use Rattle.ca_wire.specs.Messages.{bare}
 use Rattle.ca_ids.specs.Table.{same_handle}
-use Rattle.ca_model.specs.Answers.{Closed, Closing, Left, NeedBytes, Notice, Notices, Sending, Stepped}
+use Rattle.ca_model.specs.Answers.{Closed, Closing, Left, NeedBytes, Notices, Sending, Stepped}
 use Rattle.ca_model.specs.Answers as answer
 use Rattle.ca_model.specs.Client.{Client, ClientCircuit, Connection, connection_at, ended, on_connection, out_bytes, sending}
 use Rattle.ca_model.specs.ClientEnds.{ConnectsOn, GivesOn, StepsOn, after_taking, flow_sent, given, handed_over, of_circuit}

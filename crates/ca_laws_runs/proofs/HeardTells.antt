@@ -19,9 +19,9 @@ use Rattle.ca_model.specs.Answers.{Notice}
 use Rattle.ca_model.specs.Answers as notice
 use Rattle.ca_model.specs.Client.{Channel, Clearing, Client, ClientCircuit, Connecting, Connection, Creating, Doomed, Leaving, Live, Phase, channel_on, circuit_to, disconnections}
 use Rattle.ca_model.specs.Ends.{Address}
-use Rattle.ca_model.specs.Hears.{Answers, Completes, Effect, Fails, FindsAt, Hears, PutsOn, Updates, any_failed, becomes, clear_answered, confirmed, created, doing, failed, found_at, heard_by, left, put_on, request_failed, rights_told, searched_by, subscription_failed, write_failed}
+use Rattle.ca_model.specs.Hears.{Answers, Completes, Effect, Fails, FindsAt, Hears, PutsOn, Updates, any_failed, clear_answered, confirmed, created, failed, found_at, heard_by, left, put_on, request_failed, rights_told, searched_by, subscription_failed, write_failed}
 use Rattle.ca_model.specs.Hears as hears
-use Rattle.ca_model.specs.History.{Ask, Cancel, Circuit, Create, Intent, On, Sent, Subscribe, Told}
+use Rattle.ca_model.specs.History.{Circuit, Create, Intent, On, Sent, Subscribe, Told}
 use Rattle.ca_model.specs.History as history
 use Rattle.ca_model.specs.Speech.{Cid, Gives, Ioid, Is, Speaks, SubId}
 use Rattle.ca_model.specs.Channels.{named}

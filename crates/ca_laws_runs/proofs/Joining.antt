@@ -27,7 +27,7 @@ use Rattle.ca_model.specs.ClientEvents.{about_at, DownTaken, HappensAccept, Happ
 use Rattle.ca_model.specs.Events.{Event}
 use Rattle.ca_model.specs.Events as event
 use Rattle.ca_model.specs.Runs.{CanBe, Happens, Leaves, TicksAll, clients_below}
-use Rattle.ca_model.specs.ServerEvents.{HappensFinish, HappensPost, HappensRemove, ServerStepped, StepHandles, acted, ending, ends_by, ends_here, handled_at, keys_concerned, next_numbers, noted, numbers_after, numbers_posted, removed_at, replied_at, server_after, server_closed, side_of, stamped, unsaid, with_number, write_numbers}
+use Rattle.ca_model.specs.ServerEvents.{HappensFinish, HappensPost, HappensRemove, ServerStepped, acted, ending, ends_by, ends_here, handled_at, keys_concerned, next_numbers, noted, numbers_after, numbers_posted, removed_at, replied_at, server_after, server_closed, side_of, stamped, unsaid, with_number, write_numbers}
 use Rattle.ca_model.specs.ServerEvents as server
 use Rattle.ca_model.specs.World.{ClientSetting, ClientSide, Joined, Names, PutPlace, RecordSide, ServerSide, Setting, World, log_length, opening, with_circuit, with_client, with_lines}
 use Rattle.ca_laws_parts.proofs.Handled.{numbers-like, writes-like}

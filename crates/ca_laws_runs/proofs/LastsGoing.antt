@@ -9,7 +9,7 @@ use Rattle.ca_arena.specs.declared.handle.Handle.{Handle}
 use Rattle.ca_dbr.specs.declared.value.Outcome.{Outcome}
 use Rattle.ca_dbr.specs.declared.value.Outcome.TheVariants as outcome
 use Rattle.ca_dbr.specs.Elements.{Elements}
-use Rattle.ca_model.specs.Answers.{Closed, NeedBytes, Notice, Notices, Sending, Stepped}
+use Rattle.ca_model.specs.Answers.{Closed, NeedBytes, Notices, Sending, Stepped}
 use Rattle.ca_model.specs.Answers as notice
 use Rattle.ca_model.specs.Client.{Client, ClientCircuit, Connection, Standing, connection_at, later, standing_at}
 use Rattle.ca_model.specs.ClientCalls.{cancel_sent, write_sent}

@@ -27,7 +27,7 @@ use Rattle.ca_model.specs.ClientEvents.{HappensAccept, HappensDown, WantsFirst}
 use Rattle.ca_model.specs.Events.{Event}
 use Rattle.ca_model.specs.Events as event
 use Rattle.ca_model.specs.Runs.{CanBe, Happens, Leaves, clients_below}
-use Rattle.ca_model.specs.ServerEvents.{HappensAdd, HappensFinish, HappensPost, HappensRemove, ServerStepped, acted, ends_at, ends_by, ends_here, next_busy, noted, records_after, replied_at, reported, server_after, side_of, unsaid, without_puts}
+use Rattle.ca_model.specs.ServerEvents.{HappensAdd, HappensFinish, HappensPost, HappensRemove, ServerStepped, acted, ends_at, ends_by, ends_here, next_busy, noted, records_after, replied_at, server_after, side_of, unsaid, without_puts}
 use Rattle.ca_model.specs.ServerEvents as server
 use Rattle.ca_model.specs.World.{ClientSide, IsSetting, Joined, PutPlace, RecordSide, ServerSide, Setting, World, opening, record_begun, server_begun, with_circuit}
 use Rattle.ca_laws_parts.proofs.Puts.{In-mapped}

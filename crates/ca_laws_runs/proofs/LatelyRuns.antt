@@ -14,7 +14,7 @@ use Rattle.ca_text.proofs.Places.{some_is, At-after, At-append, At-back, At-map,
 use Rattle.ca_wire.specs.Fields.{Fields}
 use Rattle.ca_wire.specs.Messages.{status_reply}
 use Rattle.ca_model.specs.Answers.{Closing}
-use Rattle.ca_model.specs.Due.{Action, Applies, Due, KnownRecord, Knows, PutDue, late_reply, must_wait}
+use Rattle.ca_model.specs.Due.{Action, Applies, Due, KnownRecord, Knows, PutDue, must_wait}
 use Rattle.ca_model.specs.Due as action
 use Rattle.ca_model.specs.Ends.{Why}
 use Rattle.ca_model.specs.History.{Applied, Cause, Entry, Finished, Removal, Reply, Sent, Step, Told, Waits, Withdrawn}
@@ -27,7 +27,7 @@ use Rattle.ca_model.specs.ClientEvents.{HappensAccept, WantsFirst, connected_as,
 use Rattle.ca_model.specs.Events.{Event}
 use Rattle.ca_model.specs.Events as event
 use Rattle.ca_model.specs.Runs.{Happens, Runs, StopsAt, clients_below}
-use Rattle.ca_model.specs.ServerEvents.{HappensFinish, HappensPump, HappensRemove, ServerStepped, StepHandles, about, acted, ending, ends_at, ends_by, finish_entry, first_of, handled_at, left_by, logged_by, next_entries, next_numbers, removal_told, replied_at, reported, server_after, side_of, withdrawals}
+use Rattle.ca_model.specs.ServerEvents.{HappensFinish, HappensPump, HappensRemove, ServerStepped, StepHandles, about, acted, ending, ends_at, ends_by, finish_entry, first_of, handled_at, left_by, logged_by, next_entries, next_numbers, removal_told, replied_at, server_after, side_of, withdrawals}
 use Rattle.ca_model.specs.ServerEvents as server
 use Rattle.ca_model.specs.World.{ClientSide, IsSetting, Joined, PutPlace, RecordSide, ServerSide, Setting, Standing, World, opening, with_circuit}
 use Rattle.ca_laws_parts.specs.Later.{IsLater, stamped_told}

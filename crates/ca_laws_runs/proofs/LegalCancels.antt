@@ -12,7 +12,7 @@ use Rattle.ca_ids.specs.Wire.{wire_of}
 use Rattle.ca_monitor.specs.Subscriptions.{Stage, Subscription, drains_in, stands_in}
 use Rattle.ca_wire.specs.Fields.{Fields}
 use Rattle.ca_model.specs.Client.{Channel, Live, is_on_in}
-use Rattle.ca_model.specs.History.{Ask, Cancel, Circuit, Create, Intent, Kind, Line, On, Sent, Step, Subscribe, Told}
+use Rattle.ca_model.specs.History.{Ask, Cancel, Circuit, Create, Intent, On, Sent, Subscribe, Told}
 use Rattle.ca_model.specs.History as history
 use Rattle.ca_model.specs.Speech.{Gives, Is, SubId, sid_in}
 use Rattle.ca_model.proofs.Standings.{is-on}

@@ -34,7 +34,7 @@ use Rattle.ca_model.specs.Events as event
 use Rattle.ca_model.specs.Runs.{Happens, clients_below}
 use Rattle.ca_model.specs.World.{ClientSide, Joined, Names, ServerSide, World, log_length, with_circuit, with_client, with_server}
 use Rattle.ca_laws_parts.specs.Runs.{HearsSent}
-use Rattle.ca_laws_parts.specs.Held.{has_id, is_subscribed, with_request, with_subscription}
+use Rattle.ca_laws_parts.specs.Held.{is_subscribed, with_request, with_subscription}
 use Rattle.ca_laws_parts.specs.Held as circuit_held
 use Rattle.ca_laws_parts.specs.Circuit.{sent_to, stamped}
 use Rattle.ca_laws_parts.specs.Clients.{ClientsStand}

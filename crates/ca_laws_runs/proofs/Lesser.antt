@@ -3,12 +3,12 @@ use Rattle.std.proofs.Common.{◌≡◌, ℕ, inl, inr, Bool, true, false, ◌&&
 use Rattle.std.specs.Prelude.{◌==◌, fold, length, not, option_map, unwrap_or}
 use Rattle.ca_arena.specs.declared.handle.Handle.{Handle}
 use Rattle.ca_ids.specs.Table.{Table, under, with_all_freed}
-use Rattle.ca_monitor.specs.Subscriptions.{Cancelled, Ended, Stage, Stands, Subscription, drains_in, is_to, stage_over, with_stage}
+use Rattle.ca_monitor.specs.Subscriptions.{Cancelled, Ended, Stage, Stands, Subscription, drains_in, is_to, stage_over}
 use Rattle.ca_monitor.specs.Subscriptions as monitor
 use Rattle.ca_requests.specs.Requests.{Request, asks_on, was_sent_on}
 use Rattle.ca_requests.specs.Requests as request
 use Rattle.ca_model.specs.Answers.{Sending}
-use Rattle.ca_model.specs.Client.{Channel, Client, ClientCircuit, Clearing, Connecting, Connection, Creating, Doomed, Leaving, Live, On, Phase, Searching, Standing, channels_ended, channels_on, ended, is_cleared, let_go, on_connection, searched_again, sending, with_one_sent, with_requests, with_standing, without_channel, without_circuit, without_ids}
+use Rattle.ca_model.specs.Client.{Channel, Client, ClientCircuit, Connection, On, Phase, Searching, Standing, channels_ended, channels_on, ended, is_cleared, let_go, on_connection, searched_again, sending, with_one_sent, with_requests, with_standing, without_channel, without_circuit, without_ids}
 use Rattle.ca_model.specs.Client as phase
 use Rattle.ca_model.specs.ClientCalls.{all_over, unwanted}
 use Rattle.ca_model.specs.Hears.{without_drained}

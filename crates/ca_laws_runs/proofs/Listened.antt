@@ -20,11 +20,11 @@ use Rattle.ca_model.specs.Answers.{Notice, Sending}
 use Rattle.ca_model.specs.Ends.{Address}
 use Rattle.ca_model.specs.Client.{Channel, Client, ClientCircuit, Clearing, Connecting, Connection, Creating, Doomed, Leaving, Live, On, Phase, channel_on, circuit_to, connection_at, found_on, later, new_circuit, on_connection, searched_again, sending, with_requests, with_standing, without_channel}
 use Rattle.ca_model.specs.ClientCalls.{clear_sent, event_add_sent, is_over}
-use Rattle.ca_model.specs.ClientEnds.{Receives, ReceivesAll, Ticking, all_searched_on, beacon_heard, circuits_ticked, due, echoes, falls_silent, is_name_connected, of_circuit, searches_made, searches_on, ticks, ticks_as, with_sending}
+use Rattle.ca_model.specs.ClientEnds.{Receives, ReceivesAll, Ticking, all_searched_on, beacon_heard, circuits_ticked, due, falls_silent, is_name_connected, of_circuit, searches_made, searches_on, ticks, ticks_as, with_sending}
 use Rattle.ca_model.specs.ClientEnds as ends
-use Rattle.ca_model.specs.Hears.{Answers, Completes, Effect, Fails, Finds, FindsAt, Hears, PutsOn, Updates, any_failed, becomes, clear_answered, confirmed, create_sent, created, doing, event_adds, failed, found_at, heard_by, left, native_in, put_on, request_failed, rights_told, searched_by, subscription_failed, with_circuit, without_drained, without_request, without_subscription, write_failed}
+use Rattle.ca_model.specs.Hears.{Answers, Completes, Effect, Fails, FindsAt, Hears, PutsOn, Updates, any_failed, clear_answered, confirmed, create_sent, created, doing, event_adds, failed, found_at, heard_by, left, native_in, put_on, request_failed, rights_told, searched_by, subscription_failed, with_circuit, without_drained, without_request, without_subscription, write_failed}
 use Rattle.ca_model.specs.Hears as hears
-use Rattle.ca_model.specs.History.{Clear, Create, Intent, Sent, Subscribe}
+use Rattle.ca_model.specs.History.{Clear, Create, Sent, Subscribe}
 use Rattle.ca_model.specs.History as history
 use Rattle.ca_model.proofs.Handles.{same-is}
 use Rattle.ca_model.proofs.Standings.{channel-on, searched-is}

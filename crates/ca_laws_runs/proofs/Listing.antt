@@ -22,7 +22,7 @@ use Rattle.ca_model.specs.ClientEvents.{DownTaken, up_taken}
 use Rattle.ca_model.specs.Events.{Event}
 use Rattle.ca_model.specs.Events as event
 use Rattle.ca_model.specs.Runs.{CanBe, Happens, Leaves, clients_below}
-use Rattle.ca_model.specs.ServerEvents.{HappensAdd, HappensFinish, HappensPost, HappensRemove, HappensServerRestart, ServerStepped, StepHandles, StepLacks, acted, ends_at, ends_by, ends_here, finish_entry, first_of, handled_at, logged_by, next_busy, next_entries, noted, posted_entry, records_after, removal_entries, replied_at, server_after, side_of, unsaid, withdrawals, without_puts}
+use Rattle.ca_model.specs.ServerEvents.{HappensAdd, HappensFinish, HappensPost, HappensRemove, HappensServerRestart, ServerStepped, acted, ends_at, ends_by, ends_here, finish_entry, first_of, handled_at, logged_by, next_busy, next_entries, noted, posted_entry, records_after, removal_entries, replied_at, server_after, side_of, unsaid, withdrawals, without_puts}
 use Rattle.ca_model.specs.ServerEvents as server
 use Rattle.ca_model.specs.World.{Joined, PutPlace, RecordSide, ServerSide, ServerSetting, Setting, World, grown, log_begun, numbered, opening, record_begun, server_begun, with_circuit, with_entries, with_server}
 use Rattle.ca_laws_parts.specs.Agrees.{Agrees}

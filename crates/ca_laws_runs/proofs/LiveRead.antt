@@ -14,12 +14,12 @@ use Rattle.ca_text.specs.declared.command.Command.TheVariants as command
 use Rattle.ca_text.specs.Place.{At}
 use Rattle.ca_text.proofs.Places.{At-append, At-last, At-mapped, At-one, At-or, At-set, At-snoc, At-within}
 use Rattle.ca_wire.specs.Fields.{Fields}
-use Rattle.ca_model.specs.Answers.{Notice, Sending}
+use Rattle.ca_model.specs.Answers.{Sending}
 use Rattle.ca_model.specs.Answers as answer
 use Rattle.ca_model.specs.Client.{Channel, Client, Connection, Live, Phase, channel_on, connection_at, phase_on}
 use Rattle.ca_model.specs.ClientCalls.{clear_sent}
 use Rattle.ca_model.specs.ClientEnds.{StepsOn, after_taking}
-use Rattle.ca_model.specs.Hears.{Effect, Hears, doing, left}
+use Rattle.ca_model.specs.Hears.{Effect, Hears, left}
 use Rattle.ca_model.specs.Hears as hears
 use Rattle.ca_model.specs.History.{Circuit, Create, Intent, On, Removal, Reply, Sent, Step, Told}
 use Rattle.ca_model.specs.History as history

@@ -24,7 +24,7 @@ use Rattle.ca_model.specs.ServerSteps.{Acts, HasEnd, LeftOf, Next, Reaches, Reco
 use Rattle.ca_model.specs.ServerSteps as stepped
 use Rattle.ca_model.specs.History.{Applied, Entry, Sent, Step}
 use Rattle.ca_model.specs.Speech.{In}
-use Rattle.ca_model.specs.ServerEvents.{Finished, HappensFinish, HappensServerStep, ServerStepped, StepHandles, StepLacks, about, acted, channel_withdrawals, ending, ends_at, ends_by, ends_here, finish_entry, first_of, handled_at, logged, logged_by, next_busy, next_entries, next_numbers, number_of, numbers_after, numbers_posted, places_where, is_of_channel, records_after, replied_at, reported, server_after, side_of, unsaid, with_core, with_number, noted, withdrawals, without_channel, without_puts, write_numbers}
+use Rattle.ca_model.specs.ServerEvents.{Finished, HappensFinish, ServerStepped, StepHandles, StepLacks, acted, ending, ends_at, ends_by, ends_here, finish_entry, first_of, handled_at, logged, logged_by, next_busy, next_entries, next_numbers, number_of, numbers_after, numbers_posted, places_where, is_of_channel, records_after, replied_at, reported, server_after, side_of, unsaid, with_core, with_number, noted, withdrawals, without_channel, without_puts, write_numbers}
 use Rattle.ca_model.specs.ServerEvents as event
 use Rattle.ca_model.specs.World.{Joined, PutPlace, RecordSide, ServerSide, World, with_circuit}
 use Rattle.ca_laws_parts.specs.Agrees.{Agrees, AreOthers, WaitsAs}

@@ -16,7 +16,7 @@ use Rattle.ca_model.specs.Answers as notice
 use Rattle.ca_model.specs.Client.{Live}
 use Rattle.ca_model.specs.ClientEnds.{after_taking}
 use Rattle.ca_model.specs.Hears.{Effect}
-use Rattle.ca_model.specs.History.{Ask, Called, Clear, Create, Intent, Kind, Line, Noticed, OfCircuit, On, Removal, Sent, Step, Told}
+use Rattle.ca_model.specs.History.{Ask, Called, Clear, Create, Intent, Line, Noticed, OfCircuit, On, Removal, Sent, Step, Told}
 use Rattle.ca_model.specs.History as history
 use Rattle.ca_model.specs.Speech.{Cid, In, Is, Speaks}
 use Rattle.ca_model.specs.Channels.{IsLost, Suits}

@@ -20,7 +20,7 @@ use Rattle.ca_model.specs.Client.{Channel, Client, ClientCircuit, Connection, Li
 use Rattle.ca_model.specs.ClientCalls.{is_over}
 use Rattle.ca_model.specs.ClientEnds.{ConnectsOn, Ticking, all_searched_on, begun, circuits_ticked, creations, due, is_connecting, is_name_connected, of_circuit, searches_made, searches_on, set_up, ticks, ticks_as, with_sending}
 use Rattle.ca_model.specs.Hears.{create_sent}
-use Rattle.ca_model.specs.History.{Ask, Circuit, Create, Intent, Line, Sent, Step, Told}
+use Rattle.ca_model.specs.History.{Ask, Create, Line, Sent, Step, Told}
 use Rattle.ca_model.specs.History as history
 use Rattle.ca_model.specs.Placed.{IsPlaced}
 use Rattle.ca_model.proofs.Handles.{not-same}

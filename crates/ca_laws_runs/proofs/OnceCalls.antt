@@ -12,7 +12,7 @@ use Rattle.ca_model.specs.Answers.{Aim, Notice, Sending}
 use Rattle.ca_model.specs.Answers as aim
 use Rattle.ca_model.specs.Client.{Channel, Client, Clearing, Connecting, Creating, Doomed, Leaving, Live, On, Searching, Standing, connection_at, sending, standing_at, with_standing, without_channel}
 use Rattle.ca_model.specs.ClientCalls.{ClientClears, ClientOpens, ClientPuts, ClientReads, ClientSubscribes, ClientUnsubscribes, ClientWrites, IsLive, LiveChannel, Opening, Shape, all_over, cancel_sent, clear_sent, cleared, clearing_sent, event_add_sent, event_cancel_sent, issued, new_subscription, opened, put_sent, read_sent, unsubscribed, unsubscribed_all, unwanted, write_sent}
-use Rattle.ca_model.specs.History.{Called, Cancel, Clear, Create, Intent, Kind, Line, Put, Read, Subscribe, Write}
+use Rattle.ca_model.specs.History.{Called, Cancel, Clear, Create, Intent, Line, Put, Read, Subscribe, Write}
 use Rattle.ca_model.specs.History as history
 use Rattle.ca_model.specs.Channels.{IsRequest, IsUse}
 use Rattle.ca_model.specs.Placed.{IsPlaced, WasGiven}

@@ -29,7 +29,7 @@ use Rattle.ca_laws_parts.specs.Circuit.{AreGiven}
 use Rattle.ca_laws_parts.proofs.RunsSending.{not-given}
 use Rattle.ca_laws_runs.specs.Once.{IsAwaited}
 use Rattle.ca_laws_runs.specs.Quiet.{IsAnswered, Tidy}
-use Rattle.ca_laws_runs.proofs.OnceTold.{AreIssued, Asks, IsOnce, IsOpenBy, StandsBy, Told, asks-sending}
+use Rattle.ca_laws_runs.proofs.OnceTold.{AreIssued, Asks, IsOpenBy, StandsBy, Told, asks-sending}
 use Rattle.ca_laws_runs.proofs.OnceLess.{less-sending}
 use Rattle.ca_laws_runs.proofs.OnceTold as once
 

@@ -7,7 +7,7 @@ use Rattle.ca_arena.specs.declared.handle.Handle.{Handle}
 use Rattle.ca_dbr.specs.declared.value.Outcome.{Outcome}
 use Rattle.ca_dbr.specs.declared.value.Outcome.TheVariants as outcome
 use Rattle.ca_ids.specs.Table.{under}
-use Rattle.ca_monitor.specs.Subscriptions.{Subscription, confirmed_by}
+use Rattle.ca_monitor.specs.Subscriptions.{confirmed_by}
 use Rattle.ca_monitor.specs.Subscriptions as monitor
 use Rattle.ca_requests.specs.Requests.{Request, answered_by, asks_on, is_open_in}
 use Rattle.ca_requests.specs.Requests as request

@@ -24,7 +24,7 @@ use Rattle.ca_model.specs.Ends.{Address}
 use Rattle.ca_model.specs.Client.{Channel, Client, ClientCircuit, Clearing, Connecting, Connection, Creating, Doomed, Leaving, Live, On, Phase, Searching, Standing, channels_ended, channels_on, connection_at, disconnected, disconnections, ended, farewell, is_cleared, is_live, later, let_go, on_connection, phase_on, searched_again, sending, standing_at, with_standing, without_channel, without_circuit, without_ids}
 use Rattle.ca_model.specs.Client as client
 use Rattle.ca_model.specs.ClientCalls.{all_over, cleared, clearing_sent, is_over, unsubscribed_all, unwanted}
-use Rattle.ca_model.specs.ClientEnds.{ConnectsOn, GivesOn, Receives, ReceivesAll, Ticking, all_searched_on, beacon_heard, begun, circuits_ticked, creations, due, echoes, falls_silent, flow_sent, given, handed_over, is_name_connected, of_circuit, searches_made, searches_on, set_up, ticks, ticks_as, with_sending}
+use Rattle.ca_model.specs.ClientEnds.{ConnectsOn, GivesOn, Receives, ReceivesAll, Ticking, all_searched_on, beacon_heard, begun, circuits_ticked, creations, due, flow_sent, given, handed_over, is_name_connected, of_circuit, searches_made, searches_on, set_up, ticks, ticks_as, with_sending}
 use Rattle.ca_model.specs.ClientEnds as ends
 use Rattle.ca_model.specs.Hears.{Effect, becomes, found_at, searched_by}
 use Rattle.ca_model.specs.Placed.{Attached, was_live}

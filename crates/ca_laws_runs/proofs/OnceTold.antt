@@ -9,7 +9,7 @@ use Rattle.ca_dbr.specs.declared.value.Outcome.{Outcome}
 use Rattle.ca_dbr.specs.declared.value.Outcome.TheVariants as outcome
 use Rattle.ca_ids.specs.Table.{Table, under, with_all_freed, with_freed}
 use Rattle.ca_monitor.specs.Subscriptions.{Subscription, stands_in}
-use Rattle.ca_requests.specs.Requests.{Request, answered_by, asks_on, in_order_of_issue, is_open, is_open_in}
+use Rattle.ca_requests.specs.Requests.{Request, asks_on, in_order_of_issue, is_open, is_open_in}
 use Rattle.ca_requests.specs.Requests as request
 use Rattle.ca_text.specs.declared.status.Status.{Status}
 use Rattle.ca_model.specs.Answers.{Notice, Sending}

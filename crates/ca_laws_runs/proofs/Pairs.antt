@@ -3,7 +3,7 @@ use Rattle.std.proofs.Common.{◌≡◌, ℕ, zero, suc, ◌⊎◌, inl, inr, Bo
 use Rattle.std.specs.Prelude.{drop, filter, map, take}
 use Rattle.std.specs.Str.{bytes_eq}
 use Rattle.ca_records.specs.declared.puts.Put.{Put}
-use Rattle.ca_records.specs.Puts.{Record, WaitingPut, new_record, removed, with_record, withdrawn}
+use Rattle.ca_records.specs.Puts.{Record, WaitingPut, new_record, with_record, withdrawn}
 use Rattle.ca_records.specs.Puts as puts
 use Rattle.ca_records.specs.Record.{RecordState}
 use Rattle.ca_text.specs.Place.{At}

@@ -9,7 +9,7 @@ use Rattle.ca_dbr.specs.Elements.{Elements}
 use Rattle.ca_dbr.specs.declared.value.Outcome.TheVariants as outcome
 use Rattle.ca_ids.specs.Table.{same_handle, under}
 use Rattle.ca_requests.specs.Requests.{asks_on}
-use Rattle.ca_model.specs.Answers.{Closed, Closing, Left, NeedBytes, Notice, Notices, Sending, Stepped}
+use Rattle.ca_model.specs.Answers.{Closed, Closing, Left, Notice, Sending}
 use Rattle.ca_model.specs.Answers as notice
 use Rattle.ca_model.specs.Client.{Client, ClientCircuit, Connection, Live, connection_at, disconnections, farewell}
 use Rattle.ca_model.specs.ClientEnds.{ConnectsOn, StepsOn, circuits_ticked}

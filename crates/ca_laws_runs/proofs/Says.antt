@@ -12,7 +12,7 @@ use Rattle.ca_ids.specs.Wire.{wire_of}
 use Rattle.ca_monitor.specs.Subscriptions.{Stage, Stands, Subscription}
 use Rattle.ca_model.specs.Answers.{Sending}
 use Rattle.ca_model.specs.Client.{Channel, Client, Live, Native, On, Phase}
-use Rattle.ca_model.specs.History.{Ask, Cancel, Clear, Create, Intent, Kind, Put, Read, Sent, Subscribe, Write}
+use Rattle.ca_model.specs.History.{Ask, Cancel, Intent, Kind, Sent, Subscribe}
 use Rattle.ca_model.specs.History as history
 use Rattle.ca_model.proofs.Handles.{handle-or, same-is, same-itself}
 use Rattle.ca_model.proofs.Tables.{find-at, one-value}

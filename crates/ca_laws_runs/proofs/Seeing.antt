@@ -21,7 +21,7 @@ use Rattle.ca_model.specs.Client.{Channel, Client, Live, is_live, is_on_in}
 use Rattle.ca_model.specs.ClientEnds.{after_taking}
 use Rattle.ca_model.specs.Hears.{Effect, Hears, Updates, heard_by, is_live_on, understood}
 use Rattle.ca_model.specs.Hears as hears
-use Rattle.ca_model.specs.History.{Ask, Cancel, Cause, Clear, Create, Intent, Line, On, Reply, Request, Sent, Step, Subscribe, Told, Update, Updated}
+use Rattle.ca_model.specs.History.{Ask, Cancel, Clear, Create, Intent, Line, On, Reply, Request, Sent, Step, Subscribe, Told, Update, Updated}
 use Rattle.ca_model.specs.History as history
 use Rattle.ca_model.specs.Speech.{Cid, Is, Speaks, SubId, sid_in}
 use Rattle.ca_model.specs.Channels.{AreSteps, Suits, named}

@@ -28,7 +28,7 @@ use Rattle.ca_model.specs.ClientEvents.{DownTaken, HappensAccept, HappensDown, W
 use Rattle.ca_model.specs.Events.{Event}
 use Rattle.ca_model.specs.Events as event
 use Rattle.ca_model.specs.Runs.{CanBe, Happens, Leaves as LeavesBy, clients_below}
-use Rattle.ca_model.specs.ServerEvents.{HappensAdd, HappensFinish, HappensPost, HappensPump, HappensRemove, ServerStepped, StepHandles, about, acted, disconnected_at, ending, ends_by, ends_here, front_number, handled_at, keys_concerned, next_numbers, noted, numbers_after, numbers_posted, removal_told, removed_at, replied_at, server_after, server_closed, side_of, stamped, unsaid, with_number, without_standing, write_numbers}
+use Rattle.ca_model.specs.ServerEvents.{HappensAdd, HappensFinish, HappensPost, HappensRemove, ServerStepped, about, acted, disconnected_at, ending, ends_by, ends_here, handled_at, keys_concerned, next_numbers, noted, numbers_after, numbers_posted, removal_told, removed_at, replied_at, server_after, server_closed, side_of, unsaid, with_number, without_standing, write_numbers}
 use Rattle.ca_model.specs.ServerEvents as server
 use Rattle.ca_model.specs.World.{ClientSide, Joined, RecordSide, ServerSide, World, with_circuit}
 use Rattle.ca_laws_parts.proofs.Handled.{numbers-like}

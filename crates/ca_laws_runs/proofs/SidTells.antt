@@ -28,7 +28,7 @@ use Rattle.ca_model.specs.ClientEvents.{DownTaken, HappensDown, up_taken}
 use Rattle.ca_model.specs.Events.{Event}
 use Rattle.ca_model.specs.Events as event
 use Rattle.ca_model.specs.Runs.{CanBe, Happens, Leaves, clients_below}
-use Rattle.ca_model.specs.ServerEvents.{HappensFinish, HappensPost, HappensRemove, ServerStepped, StepHandles, about, acted, disconnected_at, ending, ends_by, ends_here, handled_at, noted, numbers_after, server_after, server_closed, side_of, unsaid, write_numbers}
+use Rattle.ca_model.specs.ServerEvents.{HappensFinish, HappensPost, HappensRemove, ServerStepped, StepHandles, about, acted, disconnected_at, ending, ends_by, ends_here, handled_at, numbers_after, server_after, server_closed, side_of, unsaid, write_numbers}
 use Rattle.ca_model.specs.ServerEvents as server
 use Rattle.ca_model.specs.World.{ClientSide, Joined, PutPlace, RecordSide, ServerSide, World, with_circuit}
 use Rattle.ca_laws_parts.proofs.Since.{stamped-parts}

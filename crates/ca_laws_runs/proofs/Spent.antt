@@ -9,7 +9,7 @@ use Rattle.ca_ids.specs.Wire.{wire_of}
 use Rattle.ca_requests.specs.Calls.{new_request}
 use Rattle.ca_requests.specs.Requests.{Request, is_open_in, was_sent_on}
 use Rattle.ca_model.specs.Client.{Live, connection_at}
-use Rattle.ca_model.specs.History.{Ask, Create, Intent, Kind, Line, On, Sent, Step, Told}
+use Rattle.ca_model.specs.History.{Ask, Create, Intent, Kind, On, Sent, Step, Told}
 use Rattle.ca_model.specs.History as history
 use Rattle.ca_model.specs.Speech.{Ioid}
 use Rattle.ca_model.specs.Channels.{IsRequest, named}

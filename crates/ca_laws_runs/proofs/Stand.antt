@@ -30,7 +30,7 @@ use Rattle.ca_model.specs.Speech.{In, Is, sid_in}
 use Rattle.ca_model.specs.Events.{Event}
 use Rattle.ca_model.specs.Events as event
 use Rattle.ca_model.specs.Runs.{Happens, HasServerEnd}
-use Rattle.ca_model.specs.ServerEvents.{ServerStepped, acted, ending, ends_by, ends_here, front_number, numbers_after, records_after, reported, server_after, side_of, stamped, unsaid, with_number, without_puts, write_numbers}
+use Rattle.ca_model.specs.ServerEvents.{ServerStepped, acted, ending, ends_by, ends_here, front_number, numbers_after, records_after, server_after, side_of, stamped, unsaid, with_number, without_puts, write_numbers}
 use Rattle.ca_model.specs.ServerEvents as server
 use Rattle.ca_model.specs.World.{Creation, IsSetting, Joined, PutPlace, RecordSide, ServerSide, Setting, World}
 use Rattle.ca_laws_parts.specs.Agrees.{Agrees, WaitsAs}

@@ -11,7 +11,7 @@ use Rattle.ca_link.specs.declared.keep.Keep.TheVariants.{Close, Echo, Idle}
 use Rattle.ca_link.specs.Link.{kept, with_handed}
 use Rattle.ca_monitor.specs.Subscriptions.{Stage, Subscription, confirmed_by, drains_in, is_to, stage_over, standing_to, stands_in, with_stage}
 use Rattle.ca_monitor.specs.Subscriptions as monitor
-use Rattle.ca_requests.specs.Requests.{Request, answered_by, asks_on, was_sent_on}
+use Rattle.ca_requests.specs.Requests.{Request, answered_by}
 use Rattle.ca_requests.specs.Requests as request
 use Rattle.ca_search.specs.Searches as search
 use Rattle.ca_text.specs.declared.command.Command.TheVariants as command
@@ -20,10 +20,10 @@ use Rattle.ca_wire.specs.Fields.{Fields}
 use Rattle.ca_wire.specs.Messages.{bare, search_request}
 use Rattle.ca_model.specs.Answers.{Closing, Notice, Sending}
 use Rattle.ca_model.specs.Answers as aim
-use Rattle.ca_model.specs.Client.{Channel, Client, ClientCircuit, Clearing, Connecting, Connection, Creating, Doomed, Leaving, Live, Native, On, Phase, Searching, Standing, channel_on, channels_ended, channels_on, circuit_to, connection_at, disconnected, ended, found_on, is_cleared, is_live, later, let_go, on_connection, searched_again, sending, standing_at, with_one_sent, with_requests, with_standing, without_channel, without_circuit, without_ids}
+use Rattle.ca_model.specs.Client.{Channel, Client, ClientCircuit, Clearing, Connecting, Connection, Creating, Doomed, Leaving, Live, On, Phase, Searching, Standing, channel_on, channels_ended, channels_on, circuit_to, connection_at, disconnected, ended, found_on, is_cleared, is_live, later, let_go, on_connection, searched_again, sending, with_one_sent, with_requests, with_standing, without_channel, without_circuit, without_ids}
 use Rattle.ca_model.specs.Client as phase
 use Rattle.ca_model.specs.ClientCalls.{ClientOpens, ClientSubscribes, LiveChannel, Opening, Shape, all_over, cleared, clearing_sent, event_add_sent, is_over, new_subscription, opened, unsubscribed, unsubscribed_all, unwanted}
-use Rattle.ca_model.specs.ClientEnds.{ConnectsOn, GivesOn, Receives, ReceivesAll, Ticking, all_searched_on, beacon_heard, begun, circuits_ticked, creations, due, echoes, falls_silent, flow_sent, given, handed_over, is_name_connected, of_circuit, searches_made, searches_on, set_up, ticks, ticks_as, with_sending}
+use Rattle.ca_model.specs.ClientEnds.{ConnectsOn, GivesOn, Receives, ReceivesAll, Ticking, all_searched_on, beacon_heard, begun, circuits_ticked, creations, due, flow_sent, given, handed_over, is_name_connected, of_circuit, searches_made, searches_on, set_up, ticks, ticks_as, with_sending}
 use Rattle.ca_model.specs.ClientEnds as ends
 use Rattle.ca_model.specs.Ends.{Address}
 use Rattle.ca_model.specs.Hears.{Answers, Completes, Effect, Fails, FindsAt, Hears, PutsOn, Updates, any_failed, becomes, clear_answered, confirmed, created, doing, event_adds, failed, found_at, heard_by, left, native_in, put_on, request_failed, rights_told, searched_by, subscription_failed, with_circuit, without_drained, without_request, without_subscription, write_failed}

@@ -14,7 +14,7 @@ use Rattle.ca_model.specs.Answers as notice
 use Rattle.ca_model.specs.Client.{Client}
 use Rattle.ca_model.specs.ClientEnds.{after_taking}
 use Rattle.ca_model.specs.Hears.{Effect}
-use Rattle.ca_model.specs.History.{Create, Intent, Line, Noticed, On, Reply, Sent}
+use Rattle.ca_model.specs.History.{Create, Intent, Line, Noticed, On, Sent}
 use Rattle.ca_model.specs.History as history
 use Rattle.ca_model.specs.Channels.{IsRequest}
 use Rattle.ca_model.specs.ClientEvents.{about_at, channel_number, line_of, meant_by, write_number}

@@ -18,7 +18,7 @@ use Rattle.ca_model.specs.Answers as notice
 use Rattle.ca_model.specs.Client.{Channel, Client, Clearing, Connecting, Connection, Creating, Doomed, Leaving, Live, On, Phase, Searching, Standing, connection_at, is_on_in, phase_on}
 use Rattle.ca_model.specs.ClientEnds.{StepsOn, after_taking}
 use Rattle.ca_model.specs.Hears.{Effect, Hears}
-use Rattle.ca_model.specs.History.{Called, Cancel, Cause, Circuit, Clear, Intent, Line, Removal, Reply, Sent, Step, Subscribe, Told, Update, Updated, Noticed}
+use Rattle.ca_model.specs.History.{Cancel, Cause, Clear, Intent, Line, Removal, Reply, Sent, Step, Subscribe, Told, Update, Updated, Noticed}
 use Rattle.ca_model.specs.History as history
 use Rattle.ca_model.specs.Channels.{IsHeld, Suits}
 use Rattle.ca_model.specs.ClientEvents.{about_at, heard_in, line_of, channel_number, meant_by}

@@ -7,7 +7,7 @@ use Rattle.ca_text.specs.declared.command.Command.TheVariants as command
 use Rattle.ca_text.specs.declared.status.Status.{Status}
 use Rattle.ca_text.specs.Place.{At}
 use Rattle.ca_text.proofs.Places.{At-one}
-use Rattle.ca_model.specs.History.{Circuit, Intent, Line, Noticed, On, Reply, Sent, Step, Told}
+use Rattle.ca_model.specs.History.{Intent, Line, Noticed, On, Sent, Step, Told}
 use Rattle.ca_model.specs.History as history
 use Rattle.ca_model.specs.Speech.{Cid, Id, Ioid, Is, Speaks}
 use Rattle.ca_model.specs.Channels.{IsRequest, IsUse, Suits}

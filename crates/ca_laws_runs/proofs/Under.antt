@@ -8,7 +8,7 @@ use Rattle.ca_text.specs.Place.{At}
 use Rattle.ca_text.proofs.Places.{At-map, At-mapped, At-one}
 use Rattle.ca_wire.specs.Fields.{Fields}
 use Rattle.ca_model.specs.Due.{KnownChannel}
-use Rattle.ca_model.specs.History.{Ask, Cancel, Circuit, Clear, Create, Intent, On, Put, Read, Request, Reply, Sent, Subscribe, Told, Write}
+use Rattle.ca_model.specs.History.{Ask, Cancel, Clear, Create, Intent, On, Put, Read, Request, Sent, Subscribe, Told, Write}
 use Rattle.ca_model.specs.History as history
 use Rattle.ca_model.specs.Server.{ServerEnd}
 use Rattle.ca_model.specs.ServerSteps.{known_channel, knows}

@@ -1,11 +1,9 @@
-//! What is held of all circuits, over every run: what servers keep for circuits, the ids in flight, the
-//! clients' tables and the SIDs under which clients speak. Below it: what clients sent and read, what
-//! became of the channels that servers created, on which channels servers' puts came, that what they
-//! await to send is kept, and that what is held of each circuit stays so as they step.
+//! Laws of runs: every run is safe and legal (`runs_are_safe`), and what that stands on.
 //!
-//! Laws of posts and subscriptions over every run: what a server counts for a subscription, and the
-//! numbers of its updates, by the log of the server's life; and the updates of each EVENT_ADD that was
-//! accepted follow its record, also once its subscription or its circuit has ended.
+//! First what is held of all circuits, over every run: the ids in flight, the clients' tables, the SIDs under which clients
+//! speak, what servers keep for circuits, and what became of each message. Then how all that follows the log of a server's
+//! life: what a server counts for a subscription, the numbers of its updates, which record each message acts on; and the
+//! clauses of the promise, one by one.
 #![tactic(auto)]
 
 mod act_laws;

@@ -1,20 +1,12 @@
-//! What a client and a server of Channel Access are, and what each of their calls leaves: histories, messages, due replies.
+//! The statement: what clients, servers and their circuits are, what may happen to them, and when that is safe and legal.
 //!
-//! Definitions alone: both cores' contracts cite them, and so does the world that both make.
-//!
-//! What holds of a client at each moment, by the definitions of its calls alone: its requests and subscriptions are where its channels
-//! were live, and its channels are on circuits that are connected or wanted.
-//!
-//! What may happen to a world of clients, servers and their circuits, event by event, whatever datagrams come, whenever circuits are
-//! cut and whoever restarts.
-//!
-//! Definitions alone: the laws on runs and the world's own code are to stand on them.
-//!
-//! The heart of the statement: when what happened between clients and servers is safe, and what each may send.
-//!
-//! Definitions alone: the laws on runs are to promise them.
+//! From below: histories, messages and due replies; what each call of a client and of a server leaves (both cores' contracts
+//! cite it); the events of a world and its runs, whatever datagrams come, whenever circuits are cut and whoever restarts; and
+//! the promise itself. They are definitions alone. One law is here, since the client's core stands on it: in a client, by the
+//! definitions of its calls, requests and subscriptions are where its channels were live, and its channels are on circuits
+//! that are connected or wanted.
 #![tactic(auto)]
 
-mod placed;
+mod laws;
 
-pub use placed::a_client_stays_placed;
+pub use laws::a_client_stays_placed;

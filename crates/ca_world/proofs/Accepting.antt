@@ -21,7 +21,7 @@ use Rattle.ca_model.proofs.Tables.{given-none, one-at-index}
 use Rattle.ca_model.specs.ClientEvents.{HappensAccept, WantsFirst, client_closed, connected_as, lines_of, new_circuit, sent_on, told_by}
 use Rattle.ca_model.specs.Events.{Accept}
 use Rattle.ca_model.specs.Runs.{CanAccept, CanBe}
-use Rattle.ca_model.specs.World.{Names, grown, with_server}
+use Rattle.ca_model.specs.World.{Names}
 use Rattle.ca_model.specs.World as model
 use Rattle.ca_laws_runs.specs.Quiet.{ClientsQuiet}
 use Rattle.ca_laws_parts.specs.Clients.{ClientsStand}

@@ -13,7 +13,6 @@ use Rattle.ca_model.specs.Server.{Server}
 use Rattle.ca_model.specs.ServerCalls.{AddsRecord}
 use Rattle.ca_model.specs.Events.{Add}
 use Rattle.ca_model.specs.Runs.{CanBe, IsServer}
-use Rattle.ca_model.specs.World.{record_begun}
 use Rattle.ca_model.specs.World as model
 use Rattle.ca_laws_parts.specs.Agrees.{Agrees, AreOthers, Lack}
 use Rattle.ca_laws_parts.specs.Lives.{IsPutOf}

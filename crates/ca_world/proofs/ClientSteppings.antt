@@ -1,34 +1,24 @@
 -- What a step of a client's end makes of a world.
-use Rattle.std.proofs.Common.{◌≡◌, ◌⊎◌, ℕ, ◌+◌, ◌<◌, ◌≤◌, ◌==◌, Bool, true, false, inl, inr, List, [], ◌∷◌, ◌++◌, Option, Some, None, Result, Ok, Err, length, refl, sym, ap, subst, ◌∙◌, arith}
+use Rattle.std.proofs.Common.{◌≡◌, ◌⊎◌, ℕ, ◌+◌, ◌<◌, ◌≤◌, ◌==◌, true, false, List, [], ◌∷◌, ◌++◌, Option, Some, None, Result, Ok, Err, length, refl, sym, ap, subst, ◌∙◌, arith}
 use Rattle.std.specs.Prelude.{if◌then◌else◌, map, slice_set, Vec}
 use Rattle.std.specs.declared.alloc.Global.{Global}
-use Rattle.std.proofs.lemmas.List.{length-append, length-map}
+use Rattle.std.proofs.lemmas.List.{length-map}
 use Rattle.ca_arena.specs.declared.handle.Handle.{Handle}
-use Rattle.ca_dbr.specs.declared.value.Outcome.TheVariants as outcome
-use Rattle.ca_requests.specs.Requests.{Request, Stage, answered_by, asks_on}
-use Rattle.ca_requests.specs.Requests as request
-use Rattle.ca_monitor.specs.Subscriptions.{confirmed_by}
-use Rattle.ca_text.specs.Command.{command_number}
-use Rattle.ca_text.specs.declared.command.Command.TheVariants as command
 use Rattle.ca_text.specs.declared.refusal.Refusal.{Refusal}
 use Rattle.ca_text.specs.declared.refusal.Refusal.TheVariants.{OutOfMemory}
 use Rattle.ca_text.specs.Place.{At}
-use Rattle.ca_text.proofs.Places.{At-map, At-one}
-use Rattle.ca_wire.specs.declared.header.Header.{Header}
-use Rattle.ca_wire.specs.Fields.{Fields}
-use Rattle.ca_model.specs.Answers.{Closing, Notice, Sending, Stepped}
+use Rattle.ca_text.proofs.Places.{At-map}
+use Rattle.ca_model.specs.Answers.{Sending, Stepped}
 use Rattle.ca_model.specs.Answers as notice
-use Rattle.ca_model.specs.Client.{Channel, Client, ClientCircuit, Clearing, Connecting, Connection, Creating, Doomed, Leaving, Live, Phase, channel_on, circuit_to, connection_at, disconnections, farewell}
+use Rattle.ca_model.specs.Client.{Client, Connection, connection_at}
 use Rattle.ca_model.specs.ClientEnds.{ClientSteps}
 use Rattle.ca_model.specs.ClientEnds as client
-use Rattle.ca_model.specs.Ends.{Address}
-use Rattle.ca_model.specs.Hears.{Answers, Completes, Effect, Fails, FindsAt, Hears, PutsOn, Updates, any_failed, clear_answered, confirmed, created, failed, failing, found_at, heard_by, left, put_on, request_failed, rights_told, searched_by, subscription_failed, write_failed}
-use Rattle.ca_model.specs.Hears as hears
-use Rattle.ca_model.specs.History.{Entry, Intent, Line, OfCircuit, Step}
-use Rattle.ca_model.specs.ClientEvents.{about_at, client_closed, client_stepped, heard_in, lines_of}
+use Rattle.ca_model.specs.Hears.{left}
+use Rattle.ca_model.specs.History.{Entry, Line, OfCircuit, Step}
+use Rattle.ca_model.specs.ClientEvents.{client_closed, client_stepped, heard_in, lines_of}
 use Rattle.ca_model.specs.Events.{ClientStep}
 use Rattle.ca_model.specs.Runs.{CanBe, HasClientEnd}
-use Rattle.ca_model.specs.World.{ClientSide, Joined, ServerSide, grown, log_length, with_circuit}
+use Rattle.ca_model.specs.World.{ClientSide, Joined, ServerSide, with_circuit}
 use Rattle.ca_model.specs.World as model
 use Rattle.ca_laws_runs.specs.OrderSteps.{HaveLives}
 use Rattle.ca_laws_runs.proofs.OrderKeeps.{run-lives}
@@ -41,7 +31,7 @@ use Rattle.ca_world_data.specs.ClientSteps.{LeavesStepped, StepsClient, StepsOn,
 use Rattle.ca_world_data.specs.Does.{Does}
 use Rattle.ca_world_data.specs.Ends.{AreEnds, NoEnds}
 use Rattle.ca_world_data.specs.Indexed.{AreIndexed}
-use Rattle.ca_world_data.specs.Logs.{HasRoom, lines_in}
+use Rattle.ca_world_data.specs.Logs.{lines_in}
 use Rattle.ca_world_data.specs.Seen.{client_of, joined_of, line_of, named_of, server_of}
 use Rattle.ca_world_data.specs.Speaking.{sent_up}
 use Rattle.ca_world_data.proofs.Calls.{after-quiet}

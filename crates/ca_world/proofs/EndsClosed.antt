@@ -1,5 +1,5 @@
 -- Which ends of circuits end beside one that is closed, by the core after that as by the one before it.
-use Rattle.std.proofs.Common.{◌≡◌, ℕ, ◌==◌, ◌&&◌, Bool, true, false, List, Option, Some, None, refl, sym, ap, subst, ◌∙◌}
+use Rattle.std.proofs.Common.{◌≡◌, ℕ, ◌==◌, ◌&&◌, Bool, true, false, List, Option, Some, None, refl, sym, ap, ◌∙◌}
 use Rattle.std.specs.Prelude.{if◌then◌else◌}
 use Rattle.ca_arena.specs.declared.handle.Handle.{Handle}
 use Rattle.ca_ids.specs.Table.{Table, same_handle, under, with_freed}
@@ -7,7 +7,7 @@ use Rattle.ca_model.specs.Server.{Server, ServerCircuit}
 use Rattle.ca_model.specs.ServerSteps.{closed}
 use Rattle.ca_model.proofs.Handles.{same-itself}
 use Rattle.ca_model.proofs.Tables.{freed-back, freed-other}
-use Rattle.ca_model.specs.ServerEvents.{ends_by, ends_here, left_by}
+use Rattle.ca_model.specs.ServerEvents.{ends_here, left_by}
 use Rattle.ca_model.specs.World.{Joined}
 
 -- what is under another handle

@@ -8,7 +8,6 @@ use Rattle.ca_ids.specs.Table.{held, same_handle}
 use Rattle.ca_requests.specs.Requests.{asks_on, in_order_of_issue, is_open, was_sent_on}
 use Rattle.ca_text.specs.Place.{At}
 use Rattle.ca_text.proofs.Places.{At-one, At-within, some_is}
-use Rattle.ca_model.specs.Answers.{Notice}
 use Rattle.ca_model.specs.Answers as notice
 use Rattle.ca_model.specs.Client.{Channel, Client, channels_on, disconnections, farewell, is_live, is_on_in}
 use Rattle.ca_model.specs.History.{Intent, OfCircuit, On}

@@ -23,7 +23,7 @@ use Rattle.ca_wire.proofs.Messages.{spelling-long}
 use Rattle.ca_wire.proofs.Padding.{message-of}
 use Rattle.ca_model.specs.Ends as why
 use Rattle.ca_model.specs.History as history
-use Rattle.ca_model.specs.Server.{Ended, Open, Server, ServerCircuit, ServerEnd}
+use Rattle.ca_model.specs.Server.{Ended, Open, Server, ServerCircuit}
 use Rattle.ca_model.specs.ServerCalls.{Finishes, Replies, after_next, finish_reply, lacking, with_finish}
 use Rattle.ca_model.specs.ServerSteps.{reached, stored_now, write_mask}
 use Rattle.ca_model.specs.Speech.{Stored}

@@ -4,7 +4,6 @@ use Rattle.std.specs.Prelude.{filter, if◌then◌else◌, is_some, map, option_
 use Rattle.std.specs.List.{flat_map}
 use Rattle.std.proofs.lemmas.List.{append-nil}
 use Rattle.ca_ids.specs.Table.{under}
-use Rattle.ca_model.specs.History.{Entry}
 use Rattle.ca_model.specs.History as entry
 use Rattle.ca_model.specs.Server.{Server}
 use Rattle.ca_model.specs.ServerEvents.{ending, ends_at, ends_by, left_by, reported, server_after, withdrawals, without_puts}

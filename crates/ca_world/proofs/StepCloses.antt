@@ -1,5 +1,5 @@
 -- A step of a server's end: what is known when it begins, and where its message stands.
-use Rattle.std.proofs.Common.{◌≡◌, ℕ, ◌<◌, Bool, List, Option, Some, None, Result, Ok, Err, length, get_or, refl, sym, ap, subst, ◌∙◌}
+use Rattle.std.proofs.Common.{◌≡◌, ℕ, ◌<◌, Bool, List, Option, Some, Result, Ok, Err, length, get_or, sym, ap, subst, ◌∙◌}
 use Rattle.std.specs.Prelude.{IsErrAnd, map, slice_set, vec_len}
 use Rattle.std.proofs.lemmas.List.{length-map}
 use Rattle.ca_ids.specs.Table.{under}

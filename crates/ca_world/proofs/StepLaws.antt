@@ -1,22 +1,20 @@
 -- A step of a server's end: the world, from what its parts became.
 use Rattle.std.proofs.Common.{◌≡◌, ℕ, zero, suc, ◌+◌, ◌==◌, ◌&&◌, inl, inr, Bool, true, false, List, [], ◌∷◌, ◌++◌, Option, Some, None, length, refl, sym, ap, subst, ◌∙◌}
-use Rattle.std.specs.Prelude.{◌≢◌, if◌then◌else◌, is_some, map, option_map, slice_get, slice_set, unwrap_or}
-use Rattle.std.specs.List.{fold}
+use Rattle.std.specs.Prelude.{◌≢◌, if◌then◌else◌, map, option_map, slice_get, slice_set, unwrap_or}
 use Rattle.ca_arena.specs.declared.handle.Handle.{Handle}
-use Rattle.ca_queue.specs.declared.entry.SubKey.{SubKey}
 use Rattle.ca_text.specs.Place.{At}
 use Rattle.ca_text.proofs.Places.{some_is}
 use Rattle.ca_wire.specs.Fields.{Fields}
-use Rattle.ca_model.specs.Due.{Action, Adds, Applies, Clears, Drops, Greets, Names, Nothing, Opens, Switches, Waits}
+use Rattle.ca_model.specs.Due.{Action}
 use Rattle.ca_model.specs.Ends.{Why}
 use Rattle.ca_model.specs.Ends as why
-use Rattle.ca_model.specs.History.{Entry, Step, Told}
-use Rattle.ca_model.specs.Server.{Server, ServerEnd}
-use Rattle.ca_model.specs.ServerSteps.{HasEnd, LacksMemory, StepsOpen, closed, write_mask}
+use Rattle.ca_model.specs.History.{Entry, Step}
+use Rattle.ca_model.specs.Server.{Server}
+use Rattle.ca_model.specs.ServerSteps.{StepsOpen, closed}
 use Rattle.ca_model.specs.ServerSteps as stepped
-use Rattle.ca_model.specs.ServerEvents.{HappensServerStep, StepHandles, StepLacks, acted, ending, ends_at, ends_by, ends_here, handled_at, keys_concerned, noted, numbers_after, numbers_posted, reported, server_after, server_closed, side_of, unsaid, withdrawals, with_number, without_puts, write_numbers}
-use Rattle.ca_model.specs.World.{Joined, RecordSide, ServerSide, World, grown, log_length}
-use Rattle.ca_world.specs.ServerStepping.{BreaksAt, HandlesAt, LacksAs, LacksAt, Quits, RestsAt, StepsAt, circuits_acted, circuits_noted, logs_acted, records_acted}
+use Rattle.ca_model.specs.ServerEvents.{HappensServerStep, StepHandles, StepLacks, acted, ends_at, ends_by, ends_here, handled_at, noted, reported, server_after, side_of, unsaid, without_puts}
+use Rattle.ca_model.specs.World.{Joined, ServerSide, World, log_length}
+use Rattle.ca_world.specs.ServerStepping.{BreaksAt, HandlesAt, LacksAs, LacksAt, Quits, RestsAt, StepsAt, circuits_acted, logs_acted, records_acted}
 
 -- ---- lists
 

@@ -1,6 +1,6 @@
 -- What a message does to other circuits, and how ends end, whatever went down and was handled on the circuit that handled it.
-use Rattle.std.proofs.Common.{◌≡◌, ℕ, zero, suc, ◌==◌, ◌&&◌, Bool, true, false, List, [], ◌∷◌, Option, Some, None, refl, sym, ap, subst, ◌∙◌}
-use Rattle.std.specs.Prelude.{if◌then◌else◌, is_some, map, option_map, slice_get, slice_set, unwrap_or}
+use Rattle.std.proofs.Common.{◌≡◌, ℕ, zero, suc, ◌==◌, ◌&&◌, Bool, true, false, List, [], ◌∷◌, Option, Some, None, refl, sym, ap, ◌∙◌}
+use Rattle.std.specs.Prelude.{if◌then◌else◌, is_some, map, option_map, slice_set, unwrap_or}
 use Rattle.std.specs.List.{fold}
 use Rattle.ca_ids.specs.Table.{under}
 use Rattle.ca_queue.specs.declared.entry.SubKey.{SubKey}

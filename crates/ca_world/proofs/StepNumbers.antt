@@ -2,11 +2,10 @@
 use Rattle.std.proofs.Common.{◌≡◌, ℕ, zero, suc, ◌==◌, ◌&&◌, Bool, true, false, List, [], ◌∷◌, Option, Some, None, refl, sym, ap, subst, ◌∙◌, inl, inr}
 use Rattle.std.specs.Prelude.{filter, if◌then◌else◌, is_some, map, option_map, unwrap_or}
 use Rattle.std.specs.List.{fold}
-use Rattle.std.proofs.lemmas.Bool.{and_parts}
 use Rattle.ca_arena.specs.declared.handle.Handle.{Handle}
 use Rattle.ca_dbr.specs.Elements.{Elements}
 use Rattle.ca_ids.specs.Table.{Table, same_handle, under, with_changed, with_each}
-use Rattle.ca_model.proofs.Handles.{handle-or, not-same, same-itself}
+use Rattle.ca_model.proofs.Handles.{handle-or, not-same}
 use Rattle.ca_model.proofs.Placed.{under-other}
 use Rattle.ca_model.proofs.Tables.{changed-own}
 use Rattle.ca_link.specs.Link.{with_sent}

@@ -5,14 +5,14 @@ use Rattle.ca_text.specs.Limits.{channel_name_limit, element_limit, priority_lim
 use Rattle.ca_text.specs.declared.refusal.Refusal.{Refusal}
 use Rattle.ca_text.specs.declared.refusal.Refusal.TheVariants as refusal
 use Rattle.ca_model.specs.Client.{Client}
-use Rattle.ca_model.specs.ClientCalls.{ClientOpens, MayOpen, Opening, Shape}
+use Rattle.ca_model.specs.ClientCalls.{ClientOpens, Opening, Shape}
 use Rattle.ca_model.specs.History.{Entry, Line}
 use Rattle.ca_model.specs.Server.{Server}
 use Rattle.ca_model.specs.ServerCalls.{AddsRecord}
 use Rattle.ca_records.specs.Puts.{record_named}
 use Rattle.ca_records.specs.Record.{RecordState}
 use Rattle.ca_model.specs.World.{ClientSide, ServerSide}
-use Rattle.ca_world_data.specs.Opens.{OpenDone, OpenRefused, OpensOn}
+use Rattle.ca_world_data.specs.Opens.{OpensOn}
 use Rattle.ca_world.specs.Adding.{AddsAt}
 use Rattle.ca_world.specs.Wide.{IsCount, IsPriority, IsWide}
 

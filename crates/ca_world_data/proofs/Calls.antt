@@ -10,11 +10,10 @@ use Rattle.ca_text.proofs.Places.{At-map, At-within, some_is}
 use Rattle.ca_model.specs.Answers.{Sending}
 use Rattle.ca_model.specs.Client.{Client}
 use Rattle.ca_model.specs.ClientCalls.{ClientOpens, Opening}
-use Rattle.ca_model.specs.History.{Entry}
 use Rattle.ca_model.specs.History as history
 use Rattle.ca_model.specs.ClientEvents.{client_after, sent_on}
 use Rattle.ca_model.specs.Events.{Open}
-use Rattle.ca_model.specs.Runs.{CanBe, IsClient}
+use Rattle.ca_model.specs.Runs.{IsClient}
 use Rattle.ca_model.specs.World.{grown}
 use Rattle.ca_model.specs.World as model
 use Rattle.ca_world_data.specs.declared.history.Line.{Line}

@@ -1,9 +1,8 @@
 -- Updates that go down, one by one.
-use Rattle.std.proofs.Common.{◌≡◌, ℕ, zero, suc, ◌+◌, ◌<◌, ◌≤◌, List, [], ◌∷◌, ◌++◌, length, drop, map, None, Option, Some, refl, sym, ap, subst, ◌∙◌, append_assoc, arith}
+use Rattle.std.proofs.Common.{◌≡◌, ℕ, suc, ◌+◌, ◌<◌, ◌≤◌, List, [], ◌∷◌, ◌++◌, length, drop, map, None, Option, Some, refl, sym, ap, subst, ◌∙◌, append_assoc, arith}
 use Rattle.std.specs.List.{FoldsTo}
 use Rattle.std.specs.Prelude.{slice_set}
-use Rattle.std.proofs.lemmas.List.{append-nil, drop_at, length-append, length-map}
-use Rattle.ca_text.specs.Place.{At}
+use Rattle.std.proofs.lemmas.List.{append-nil, drop_at, length-append}
 use Rattle.ca_text.proofs.Places.{At-map, At-mapped}
 use Rattle.ca_queue.specs.declared.entry.SubKey.{SubKey}
 use Rattle.ca_queue.specs.Circuit.{RestBefore, Takes}
@@ -16,7 +15,7 @@ use Rattle.ca_wire.specs.Fields.{Fields}
 use Rattle.ca_wire.specs.Message.{IsMessage, spelled, spelling}
 use Rattle.ca_wire.proofs.Messages.{spelling-long}
 use Rattle.ca_model.specs.World.{Joined}
-use Rattle.ca_world_data.specs.Updates.{AreGood, AreSpelled, BeginsSpelled, TellsOne, TellsSome}
+use Rattle.ca_world_data.specs.Updates.{AreGood, BeginsSpelled, TellsOne, TellsSome}
 
 -- ---- queues of other entries
 

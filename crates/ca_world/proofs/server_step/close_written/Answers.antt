@@ -1,4 +1,4 @@
-use Rattle.std.proofs.Common.{◌≡◌, List}
+use Rattle.std.proofs.Common.{◌≡◌}
 use Rattle.std.specs.Prelude.{map}
 use Rattle.ca_world_data.specs.Opening.{entries_in}
 use Rattle.ca_world_data.specs.Seen.{joined_of}

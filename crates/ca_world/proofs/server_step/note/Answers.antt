@@ -1,6 +1,5 @@
 use Rattle.std.proofs.Common.{◌≡◌, ℕ, ◌<◌, List, length, ap, subst, ◌∙◌}
 use Rattle.std.specs.Prelude.{map, slice_set}
-use Rattle.ca_text.specs.Place.{At}
 use Rattle.ca_text.proofs.Places.{At-map}
 use Rattle.ca_model.specs.History as history
 use Rattle.ca_model.specs.ServerEvents.{ending, ends_by, write_numbers}

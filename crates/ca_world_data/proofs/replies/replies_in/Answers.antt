@@ -1,13 +1,12 @@
-use Rattle.std.proofs.Common.{◌≡◌, ℕ, ◌+◌, ◌-◌, ◌<◌, ◌≤◌, ◌++◌, List, [], ◌∷◌, length, drop, map, take, refl, sym, ap, subst, ◌∙◌, arith}
+use Rattle.std.proofs.Common.{◌≡◌, ℕ, ◌+◌, ◌-◌, ◌<◌, ◌≤◌, ◌++◌, List, [], ◌∷◌, length, drop, map, take, sym, ap, subst, ◌∙◌, arith}
 use Rattle.std.proofs.lemmas.List.{length-drop, map-append, take_all}
-use Rattle.ca_wire.specs.Message.{spelling}
 use Rattle.ca_wire.proofs.Messages.{spelling-long}
 use Rattle.ca_world_data.specs.declared.history.Cause.TheVariants.{Reply}
 use Rattle.ca_world_data.specs.declared.history.Told.{Told}
 use Rattle.ca_world_data.specs.Replies.{RepliesSome}
 use Rattle.ca_world_data.specs.Seen.{told_of}
 use Rattle.ca_world_data.specs.Updates.{BeginsSpelled, ReadsFirst}
-use Rattle.ca_world_data.proofs.RepliesRead.{replies-all, replies-begin, replies-more, replies-next, replies-within}
+use Rattle.ca_world_data.proofs.RepliesRead.{replies-all, replies-more, replies-next, replies-within}
 use Rattle.ca_world_data.proofs.replies.replies_in.Goals as goal
 
 -- the slice from a place on

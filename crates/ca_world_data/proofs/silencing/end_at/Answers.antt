@@ -1,4 +1,4 @@
-use Rattle.std.proofs.Common.{◌<◌, Some, List, length, arith, subst, sym}
+use Rattle.std.proofs.Common.{◌<◌, List, length, arith, subst, sym}
 use Rattle.std.specs.Prelude.{map, slice_set}
 use Rattle.ca_text.specs.Place.{At}
 use Rattle.ca_world_data.specs.declared.joined.Joined.{Joined}

@@ -2,7 +2,6 @@ use Rattle.std.proofs.Common.{◌≡◌, ℕ, ◌<◌, List, ap, arith, length, 
 use Rattle.std.specs.Prelude.{Vec}
 use Rattle.std.specs.declared.alloc.Global.{Global}
 use Rattle.std.proofs.lemmas.List.{length-map}
-use Rattle.ca_client_core.specs.declared.for_histories.Sending.{Sending}
 use Rattle.ca_client_core.specs.ForHistories.{sending_of}
 use Rattle.ca_text.specs.Place.{At}
 use Rattle.ca_text.proofs.Places.{At-map, At-one}
@@ -15,7 +14,6 @@ use Rattle.ca_world_data.specs.ClientSteps.{IsHeard, step_at}
 use Rattle.ca_world_data.specs.Found.{AreNumbered}
 use Rattle.ca_world_data.specs.Logs.{lines_in}
 use Rattle.ca_world_data.specs.Seen.{client_of, intent_of, joined_of, line_of}
-use Rattle.ca_world_data.specs.Sends.{HasRoomForAll}
 use Rattle.ca_world_data.proofs.Steppings.{all-kept, heard-at, heard-leaves, heard-numbered}
 use Rattle.ca_world_data.proofs.Worlds.{found}
 use Rattle.ca_world_data.proofs.stepping.hear.Goals as goal

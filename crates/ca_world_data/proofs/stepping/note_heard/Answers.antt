@@ -1,4 +1,4 @@
-use Rattle.std.proofs.Common.{List, ap, refl, sym, arith}
+use Rattle.std.proofs.Common.{List, ap, sym, arith}
 use Rattle.std.specs.Prelude.{vec_capacity, vec_len}
 use Rattle.ca_text.specs.Place.{At}
 use Rattle.ca_world_data.specs.declared.joined.Joined.{Joined}

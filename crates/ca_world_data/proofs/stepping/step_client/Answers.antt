@@ -1,22 +1,17 @@
-use Rattle.std.proofs.Common.{◌≡◌, ℕ, ◌<◌, ◌+◌, ◌≤◌, List, [], length, map, refl, sym, ap, subst, ◌∙◌, arith}
-use Rattle.std.specs.Prelude.{Vec}
-use Rattle.std.specs.declared.alloc.Global.{Global}
+use Rattle.std.proofs.Common.{◌≡◌, ℕ, ◌<◌, ◌+◌, ◌≤◌, List, [], length, map, refl, sym, subst, ◌∙◌, arith}
 use Rattle.ca_client_core.specs.ForHistories.{sending_of}
 use Rattle.ca_text.specs.Place.{At}
 use Rattle.ca_text.proofs.Places.{At-map}
 use Rattle.ca_model.specs.Answers.{Sending}
 use Rattle.ca_model.specs.Answers as answer
-use Rattle.ca_model.specs.Client.{Client}
 use Rattle.ca_model.specs.World as model
-use Rattle.ca_world_data.specs.declared.history.Line.{Line}
 use Rattle.ca_world_data.specs.declared.joined.Joined.{Joined}
 use Rattle.ca_world_data.specs.ClientSteps.{LeavesStepped}
 use Rattle.ca_world_data.specs.Found.{AreNumbered}
-use Rattle.ca_world_data.specs.Logs.{HasRoom, lines_in}
+use Rattle.ca_world_data.specs.Logs.{lines_in}
 use Rattle.ca_world_data.specs.Seen.{client_of, joined_of}
 use Rattle.ca_world_data.proofs.Steppings.{as-many, as-many-circuits, room-told, stepped-on}
 use Rattle.ca_world_data.proofs.Worlds.{found}
-use Rattle.ca_world_data.proofs.Tellings.{step-tells}
 use Rattle.ca_world_data.proofs.stepping.step_client.Goals as goal
 
 pub index-requires : goal.index-requires

@@ -1,4 +1,4 @@
-use Rattle.std.proofs.Common.{◌≡◌, ◌++◌, [], ◌∷◌, ap, sym, ◌∙◌}
+use Rattle.std.proofs.Common.{◌≡◌, ◌++◌, [], ◌∷◌, ap, ◌∙◌}
 use Rattle.ca_wire.specs.Message.{spelling}
 use Rattle.ca_wire.specs.Fields.{Fields}
 use Rattle.std.proofs.Common.{length}

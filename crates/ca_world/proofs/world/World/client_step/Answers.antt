@@ -1,7 +1,7 @@
-use Rattle.std.proofs.Common.{◌≡◌, ℕ, ◌<◌, length, List, None, refl, ap, arith, subst, sym, ◌∙◌}
+use Rattle.std.proofs.Common.{◌≡◌, ℕ, ◌<◌, length, List, refl, arith, subst, ◌∙◌}
 use Rattle.std.specs.Prelude.{map, slice_set}
 use Rattle.ca_text.specs.Place.{At}
-use Rattle.ca_text.proofs.Places.{At-map, At-within}
+use Rattle.ca_text.proofs.Places.{At-within}
 use Rattle.ca_model.specs.Events.{ClientStep}
 use Rattle.ca_model.specs.Runs.{CanBe}
 use Rattle.ca_model.specs.World as model

@@ -1,5 +1,0 @@
-use Rattle.ca_laws_parts.proofs.Seen.{safe-sees}
-use Rattle.ca_laws_parts.proofs.updates.a_subscriber_sees_posts.Goals as goal
-
-pub returns : goal.returns
-returns c = safe-sees
