@@ -1,7 +1,6 @@
 //! Rounds of calls, to be timed from outside: `ca_bench WHAT SIZE ROUNDS`. Without words it does nothing.
 #![tactic(auto)]
 
-mod arenas;
 mod records;
 
 use ca_dbr::{Meta, Value, read_value, write_value};
@@ -59,8 +58,6 @@ fn measured(alloc: Global, what: &str, size: u32, rounds: u32) -> Result<(), Ref
         b"read-doubles" => reads(alloc, DOUBLE, &doubles(alloc, size)?, size, rounds),
         b"read-strings" => reads(alloc, STRING, &strings(alloc, size)?, size, rounds),
         b"copy" => copies(alloc, size as usize, rounds),
-        b"arena" => arenas::arenas(alloc, size, rounds),
-        b"slab" => arenas::slabs(alloc, size, rounds),
         b"parts" => parts(alloc, size as usize, rounds),
         b"puts" => records::puts(alloc, size, rounds),
         b"posts" => records::posts(alloc, size, rounds),
