@@ -12,7 +12,7 @@ use crate::server::ServerCore;
 use ca_arena::Handle;
 use ca_ids::HeldTable;
 use ca_records::ServedRecords;
-use ca_server_circuit::{Cause, Circuit, EndStep};
+use ca_server_circuit::{Cause, Circuit, Effect, EndStep};
 use ca_text::APPLIED_LIMIT;
 use ca_wire::Pipe;
 use std::alloc::Global;
@@ -43,6 +43,7 @@ impl ServerCore {
     {
         let waited = self.out_bytes(circuit).len();
         match step_on(self.port, &mut self.circuits, &mut self.records, circuit) {
+            Some(EndStep::Handled(Effect::Quiet)) => Step::Handled,
             Some(EndStep::Handled(effect)) => {
                 self.applied = more_applied(self.applied, effect.is_write());
                 follow(
