@@ -38,7 +38,7 @@ const CIRCUITS: u64 = 8;
 const RECORDS: &[u8] = b"record TEMP LONG 1 quick 21
 record SETP LONG 1 quick 0
 record GAIN DOUBLE 1 quick 3ff0000000000000
-record NOTE STRING 1 quick OK
+record NOTE STRING 1 quick 4f4b
 ";
 
 /// A device that has nothing to do.
