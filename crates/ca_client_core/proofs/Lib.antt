@@ -28,6 +28,7 @@ mod Ahead
 mod Asked
 mod Marked
 mod Passing
+mod Quieted
 mod Prepared
 mod Rounds
 mod Alone

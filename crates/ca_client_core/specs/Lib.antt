@@ -18,6 +18,7 @@ pub mod Moments
 pub mod Marks
 pub mod Silences
 pub mod NameSearches
+pub mod Quiet
 pub mod Ticked
 pub mod ForAccepts
 pub mod ForDatagrams

@@ -2,13 +2,13 @@ ghost use Rattle.std.specs.Prelude.{◌<◌};
 ghost use Rattle.ca_model.specs.ClientEnds.{ClientBegins};
 
 use crate::client::ClientCore;
+use crate::searches::Searches;
 use ca_beacon::BeaconTable;
 use ca_client_tables::{Address, count_names, name_circuits};
 use ca_ids::HeldTable;
 use ca_monitor::Monitors;
 use ca_requests::Requests;
 use ca_text::{ARENA_SLOTS, PAYLOAD_LIMIT, Refusal};
-use indexmap::IndexMap;
 use std::alloc::Global;
 
 impl ClientCore {
@@ -56,7 +56,7 @@ impl ClientCore {
             circuits,
             lives: Vec::new(alloc),
             order,
-            searches: IndexMap::new(alloc),
+            searches: Searches::new(alloc),
             beacons: BeaconTable::new(alloc),
         })
     }

@@ -1,11 +1,10 @@
+use crate::searches::Searches;
 use ca_arena::Handle;
 use ca_beacon::BeaconTable;
 use ca_client_tables::{Address, Channel, Circuit, LiveChannels};
 use ca_ids::HeldTable;
 use ca_monitor::Monitors;
 use ca_requests::Requests;
-use ca_search::Place;
-use indexmap::IndexMap;
 use std::alloc::Global;
 use std::marker::Model;
 
@@ -30,7 +29,7 @@ pub struct ClientCore {
     /// The circuits of name servers, in the order of their list, then the others, in the order in which they came to be wanted.
     pub(crate) order: Vec<Handle>,
     /// The channels that are searched for, or were found, by CID, in the order in which they were opened.
-    pub(crate) searches: IndexMap<u32, Place>,
+    pub(crate) searches: Searches,
     pub(crate) beacons: BeaconTable,
 }
 

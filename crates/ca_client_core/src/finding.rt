@@ -3,7 +3,8 @@ ghost use Rattle.std.specs.Prelude.{◌<◌};
 ghost use Rattle.ca_client_core.specs.Hearing.{FindsOr};
 
 use crate::client::ClientCore;
-use ca_client_tables::{Address, find, pause_found};
+use crate::searches::pause_found;
+use ca_client_tables::{Address, find};
 use ca_wire::Message;
 use std::alloc::AllocError;
 

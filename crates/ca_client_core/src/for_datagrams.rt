@@ -6,7 +6,8 @@ ghost use Rattle.ca_client_core.specs.ForHistories.{sending_of};
 
 use crate::client::ClientCore;
 use crate::for_histories::{Aim, Sending};
-use ca_client_tables::{Address, Creation, Noted, receive_all_noting, settle};
+use crate::searches::settle;
+use ca_client_tables::{Address, Creation, Noted, receive_all_noting};
 use ca_dgram::Datagram;
 use std::alloc::AllocError;
 

@@ -4,9 +4,9 @@ ghost use Rattle.ca_text.specs.Limits.{arena_slots};
 ghost use Rattle.ca_client_tables.specs.Ahead.{Once, due_after, is_in};
 
 use crate::client::ClientCore;
+use crate::searches::{due_in, find_after};
 use ca_arena::Handle;
-use ca_client_tables::find_after;
-use ca_search::{Search, due_in};
+use ca_search::Search;
 use std::alloc::AllocError;
 
 impl ClientCore {
@@ -38,6 +38,6 @@ impl ClientCore {
         ensures once { Once self.now.searches }
     {
         self.channels.know_places();
-        let _count = self.searches.len();
+        self.searches.know_once();
     }
 }

@@ -11,8 +11,9 @@ ghost use Rattle.ca_client_core.specs.Turns.{MayTurn};
 ghost use Rattle.ca_model.specs.Placed.{IsBare};
 
 use crate::client::ClientCore;
+use crate::searches::resume;
 use ca_arena::Handle;
-use ca_client_tables::{Native, Phase, Standing, bring_back, note_live, resume, set_standing};
+use ca_client_tables::{Native, Phase, Standing, bring_back, note_live, set_standing};
 use ca_dbr::Outcome;
 use ca_ids::WireId;
 use ca_wire::Message;
@@ -181,7 +182,7 @@ impl ClientCore {
         ensures { self.new ≡ without_channel self.old channel }
     {
         let _ = self.channels.free(channel);
-        self.searches.shift_remove(&WireId::of(channel).number());
+        self.searches.remove(WireId::of(channel).number());
     }
 
     // The ids of a channel whose clear is answered drain no more.

@@ -37,6 +37,7 @@ mod output;
 mod queue;
 mod reading;
 mod receiving;
+mod searches;
 mod silences;
 mod stepping;
 mod subscribing;

@@ -29,17 +29,14 @@ impl ClientCore {
         }
         let own = Vec::from_slice(self.alloc, name.bytes())?;
         let searched = Vec::from_slice(self.alloc, name.bytes())?;
-        self.searches.reserve(1)?;
+        self.searches.reserve()?;
         let handle = match self.channels.open(Channel::new(own, priority)) {
             Ok(handle) => handle,
             Err((_, refusal)) => return Err(refusal),
         };
         let moment = self.moment.max(now);
         let cid = WireId::of(handle).number();
-        match self.searches.insert(cid, Place::new(searched, moment)) {
-            Ok(_) => {}
-            Err(_) => unreachable!(),
-        }
+        self.searches.insert(cid, Place::new(searched, moment));
         self.moment = moment;
         Ok(handle)
     }

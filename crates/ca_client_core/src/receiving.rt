@@ -4,7 +4,8 @@ ghost use Rattle.ca_model.specs.Answers.{Sending};
 ghost use Rattle.ca_model.specs.ClientEnds.{ClientReceives};
 
 use crate::client::ClientCore;
-use ca_client_tables::{Address, receive_all, settle};
+use crate::searches::settle;
+use ca_client_tables::{Address, receive_all};
 use ca_dgram::Datagram;
 use ca_text::Refusal;
 

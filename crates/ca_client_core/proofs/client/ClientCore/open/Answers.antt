@@ -1,9 +1,7 @@
-use Rattle.std.proofs.Common.{◌≡◌, ◌++◌, ◌∷◌, ◌∙◌, ℕ, List, [], Some, ap, false, Ok, nat_eq, refl, subst, sym}
+use Rattle.std.proofs.Common.{◌≡◌, ◌++◌, ◌∷◌, ◌∙◌, ℕ, List, [], Some, ap, Ok, refl, subst, sym}
 use Rattle.ca_search.specs.Clock.{fresh}
 use Rattle.ca_search.specs.Searcher.{holds}
 use Rattle.ca_search.specs.Searches as search
-use Rattle.ca_search.proofs.Entries.{not-held}
-use Rattle.indexmap.proofs.CallerLemmas.{insert_entry-new}
 use Rattle.ca_ids.specs.Table.{with_held}
 use Rattle.ca_ids.specs.Wire.{wire_of}
 use Rattle.ca_model.specs.Client.{Channel, Client, Searching}
@@ -14,17 +12,20 @@ use Rattle.ca_client_core.proofs.Placing.{placed-held, refused-same}
 use Rattle.ca_client_core.proofs.Listing.{listed-opened}
 use Rattle.ca_client_core.proofs.client.ClientCore.open.Goals as goal
 
+pub insert-requires-clause-fresh : goal.insert-requires-clause-fresh
+insert-requires-clause-fresh c =
+    let q = c.in-Ok.handle in
+    let cid : c.number-cid.result ≡ wire_of q = c.number-cid.ensures ∙ c.of.ensures in
+    ap (λ (n : ℕ). holds n c.reserve.new.self.entries) cid
+    ∙ ap (holds (wire_of q)) c.in_ok-reserve.ensures.entries
+    ∙ searched-fresh c.self.inside.channels c.self.inside.searches.entries q c.in-Ok.ensures.0 c.self.invariant.client.searched
+
 pub invariant_of-self-2 : goal.invariant_of-self-2
 invariant_of-self-2 c =
     let q = c.in-Ok.handle in
     let cid : c.number-cid.result ≡ wire_of q = c.number-cid.ensures ∙ c.of.ensures in
-    let fresh_here : holds c.number-cid.result c.reserve.new.self.entries ≡ false =
-    ap (λ (n : ℕ). holds n c.reserve.new.self.entries) cid
-    ∙ ap (holds (wire_of q)) c.in_ok-reserve.ensures.entries
-    ∙ searched-fresh c.self.inside.channels c.self.inside.searches.entries q c.in-Ok.ensures.0 c.self.invariant.client.searched in
     let more : c.insert.new.self.entries ≡ c.self.inside.searches.entries ++ (wire_of q, c.new-2.result) ∷ [] =
-    c.in-Ok-insert.ensures.entries
-    ∙ insert_entry-new nat_eq c.reserve.new.self c.number-cid.result c.new-2.result (not-held c.number-cid.result c.reserve.new.self.entries fresh_here)
+    c.insert.ensures
     ∙ ap (λ (es : List (ℕ × search.Channel)). es ++ (c.number-cid.result, c.new-2.result) ∷ []) c.in_ok-reserve.ensures.entries
     ∙ ap (λ (n : ℕ). c.self.inside.searches.entries ++ (n, c.new-2.result) ∷ []) cid in
     let kept = client-opened c.self.inside.channels c.open.new.self c.self.inside.searches.entries c.insert.new.self.entries q c.new.result c.new-2.result c.in-Ok.ensures.0 c.in-Ok.ensures.1 more c.self.invariant.client in
@@ -40,10 +41,6 @@ returns c =
     let q = c.in-Ok.handle in
     let cid : c.number-cid.result ≡ wire_of q = c.number-cid.ensures ∙ c.of.ensures in
     let a : Opening = record { name = c.args.name.now; priority = c.args.priority; now = c.args.now } in
-    let fresh_here : holds c.number-cid.result c.reserve.new.self.entries ≡ false =
-    ap (λ (n : ℕ). holds n c.reserve.new.self.entries) cid
-    ∙ ap (holds (wire_of q)) c.in_ok-reserve.ensures.entries
-    ∙ searched-fresh c.self.inside.channels c.self.inside.searches.entries q c.in-Ok.ensures.0 c.self.invariant.client.searched in
     let named : c.in_ok-own.own.items ≡ c.args.name.now = c.in_ok-own.ensures.items ∙ c.bytes.ensures.bytes ∙ c.in_ok-name.ensures.0 in
     let also : c.in_ok-searched.searched.items ≡ c.args.name.now = c.in_ok-searched.ensures.items ∙ c.bytes-2.ensures.bytes ∙ c.in_ok-name.ensures.0 in
     let channel : c.new.result ≡ record { name = c.args.name.now; priority = c.args.priority; standing = Searching } =
@@ -51,8 +48,7 @@ returns c =
     let place : c.new-2.result ≡ record { name = c.args.name.now; clock = Some (fresh c.max-moment.result) } =
     c.new-2.ensures ∙ ap (λ (n : List ℕ). let d : search.Channel = record { name = n; clock = Some (fresh c.max-moment.result) } in d) also in
     let more : c.insert.new.self.entries ≡ c.self.inside.searches.entries ++ (wire_of q, record { name = c.args.name.now; clock = Some (fresh c.max-moment.result) }) ∷ [] =
-    c.in-Ok-insert.ensures.entries
-    ∙ insert_entry-new nat_eq c.reserve.new.self c.number-cid.result c.new-2.result (not-held c.number-cid.result c.reserve.new.self.entries fresh_here)
+    c.insert.ensures
     ∙ ap (λ (es : List (ℕ × search.Channel)). es ++ (c.number-cid.result, c.new-2.result) ∷ []) c.in_ok-reserve.ensures.entries
     ∙ ap (λ (n : ℕ). c.self.inside.searches.entries ++ (n, c.new-2.result) ∷ []) cid
     ∙ ap (λ (d : search.Channel). c.self.inside.searches.entries ++ (wire_of q, d) ∷ []) place in

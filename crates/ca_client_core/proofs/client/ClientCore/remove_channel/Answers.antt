@@ -1,9 +1,8 @@
-use Rattle.std.proofs.Common.{◌≡◌, ◌∙◌, ℕ, List, ap, false, is_some, subst, sym}
+use Rattle.std.proofs.Common.{◌≡◌, ◌∙◌, ℕ, List, ap, false, subst, sym}
 use Rattle.ca_ids.specs.Table.{Table, with_freed}
 use Rattle.ca_ids.specs.Wire.{wire_of}
 use Rattle.ca_search.specs.Searcher.{holds, without}
 use Rattle.ca_search.specs.Searches as search
-use Rattle.ca_search.proofs.Entries.{held, one-removed}
 use Rattle.ca_model.specs.Client.{Channel, Client, without_channel}
 use Rattle.ca_client_tables.proofs.Ended.{client-gone}
 use Rattle.ca_model.specs.Placed.{IsBare}
@@ -16,11 +15,11 @@ invariant_of-self c =
     let h = c.args.channel in
     let i = c.self.inside in
     let es = i.searches.entries in
-    let ns = c.shift_remove.new.self.entries in
+    let ns = c.remove.new.self.entries in
     let cid : c.number.result ≡ wire_of h = c.number.ensures ∙ c.of.ensures in
-    let out : ns ≡ without (wire_of h) es = c.shift_remove.ensures.entries ∙ one-removed c.number.result es ∙ ap (λ (n : ℕ). without n es) cid in
+    let out : ns ≡ without (wire_of h) es = c.remove.ensures.entries ∙ ap (λ (n : ℕ). without n es) cid in
     let none : holds (wire_of h) ns ≡ false =
-    ap (λ (n : ℕ). holds n ns) (sym cid) ∙ sym (held c.number.result ns) ∙ ap is_some c.shift_remove.ensures.updates.1 in
+    ap (λ (n : ℕ). holds n ns) (sym cid) ∙ c.remove.ensures.out in
     record {
       client = client-gone i.channels c.free.new.self es ns h c.free.ensures.after out none c.self.invariant.client;
       placed =
@@ -33,9 +32,9 @@ returns c =
     let h = c.args.channel in
     let i = c.self.inside in
     let es = i.searches.entries in
-    let ns = c.shift_remove.new.self.entries in
+    let ns = c.remove.new.self.entries in
     let cid : c.number.result ≡ wire_of h = c.number.ensures ∙ c.of.ensures in
-    let out : ns ≡ without (wire_of h) es = c.shift_remove.ensures.entries ∙ one-removed c.number.result es ∙ ap (λ (n : ℕ). without n es) cid in
+    let out : ns ≡ without (wire_of h) es = c.remove.ensures.entries ∙ ap (λ (n : ℕ). without n es) cid in
     let x : Client = record {
       peer = record { user = i.user.items; host = i.host.items };
       servers = i.servers.items;
