@@ -13,7 +13,7 @@ ghost use Rattle.ca_client_core.specs.Quiet.{AreQuiet, IsQuiet, is_anomaly};
 
 use ca_arena::Handle;
 use ca_client_tables::{Channel, Received};
-use ca_ids::{HeldTable, WireId};
+use ca_ids::HeldTable;
 use ca_search::{Place, Search};
 use indexmap::IndexMap;
 use std::alloc::{AllocError, Global};
