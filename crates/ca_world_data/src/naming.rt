@@ -3,6 +3,7 @@ ghost use Rattle.std.specs.Prelude.{◌≡◌, map};
 ghost use Rattle.ca_client_core.specs.Notices.{notice_of};
 ghost use Rattle.ca_ids.specs.Table.{same_handle};
 ghost use Rattle.ca_model.specs.ClientEvents as world;
+ghost use Rattle.ca_world_data.specs.Named.{IsMeant, MeanTheirs};
 ghost use Rattle.ca_world_data.specs.Seen.{intent_of, line_of, named_of, names_of};
 ghost use Rattle.ca_world_data.specs.Telling.{created_as};
 
@@ -44,6 +45,20 @@ pub fn meant_by(named: &[(Handle, Intent)], handle: Handle) -> Intent
     Intent::OfCircuit
 }
 
+// The same, by the place at which the handle may be named. Where it is not, all places are looked at.
+fn meant_near(named: &[(Handle, Intent)], place: usize, handle: Handle) -> Intent
+    requires { MeanTheirs (map named_of named.now) }
+    ensures { intent_of result ≡ world.meant_by (map named_of named.now) handle }
+{
+    if place < named.len() {
+        let (near, is) = named[place];
+        if is_same(near, handle) {
+            return is;
+        }
+    }
+    meant_by(named, handle)
+}
+
 fn is_same(a: Handle, b: Handle) -> bool
     ensures { result ≡ same_handle a b }
 {
@@ -67,6 +82,39 @@ fn write_number(meant: Intent) -> usize
             Ask::Cancel(_) => 0,
         },
         Intent::OfCircuit => 0,
+    }
+}
+
+// The number of the request or the subscription that was meant so.
+fn number_in(meant: Intent) -> usize {
+    match meant {
+        Intent::On(_, ask) => match ask {
+            Ask::Request(_, number) => number,
+            Ask::Subscribe(number) => number,
+            Ask::Create => 0,
+            Ask::Clear => 0,
+            Ask::Cancel(_) => 0,
+        },
+        Intent::OfCircuit => 0,
+    }
+}
+
+/// `line_for`, which looks first at the name that the message was about.
+pub fn line_heard(names: &Names, about: Intent, notice: Notice) -> Line
+    requires { IsMeant (names_of names.now) }
+    ensures { line_of result
+        ≡ world.line_of (intent_of about) (names_of names.now) (notice_of notice) }
+{
+    match notice {
+        Notice::Completed(request, outcome) => {
+            let meant = meant_near(&names.requests, number_in(about), request);
+            Line::Noticed(meant, outcome)
+        }
+        Notice::Update(subscription, outcome) => {
+            let meant = meant_near(&names.subscriptions, number_in(about), subscription);
+            Line::Updated(meant, outcome)
+        }
+        other => line_for(names, about, other),
     }
 }
 

@@ -6,6 +6,7 @@ ghost use Rattle.ca_model.specs.World.{log_length};
 ghost use Rattle.ca_world_data.specs.ClientSteps.{EndsOn, HasRoomHeard, HearsOn, IsAbout, IsHeard, IsReadyToStep, StepsOn, TellsFew};
 ghost use Rattle.ca_world_data.specs.Found.{AreNumbered};
 ghost use Rattle.ca_world_data.specs.Logs.{HasRoom, lines_in};
+ghost use Rattle.ca_world_data.specs.Named.{IsMeant};
 ghost use Rattle.ca_world_data.specs.Seen.{client_of, joined_of};
 ghost use Rattle.ca_world_data.specs.Sends.{HasRoomForAll, KeepsRoom};
 
@@ -15,7 +16,7 @@ use crate::history::{Intent, Line, Step};
 use crate::joined::Joined;
 use crate::logs::reserve_lines;
 use crate::sending::{push_sendings, reserve_sendings};
-use crate::telling::tell_all;
+use crate::telling::{tell_all, tell_heard};
 use ca_client_core::for_histories::{Sending, sent_by_step};
 use ca_client_core::{Closing, Notices, Stepped};
 use ca_text::Refusal;
@@ -53,6 +54,7 @@ pub fn step_client(
         (map joined_of circuits.old.items)
         client }
     requires lives { side.old.life < length logs.old.items }
+    requires meant { IsMeant (client_of side.old).names }
     requires few { TellsFew
         (length side.old.names.requests.items + length side.old.names.channels.items + 1)
         circuit
@@ -101,6 +103,7 @@ fn hear(
         (map joined_of circuits.old.items)
         client }
     requires lives { side.now.life < length logs.old.items }
+    requires meant { IsMeant (client_of side.now).names }
     requires lines { HasRoom (length notices) side.now.life logs.old.items }
     requires messages { HasRoomForAll client sent.items circuits.old.items }
     requires heard { HasRoomHeard circuit circuits.old.items }
@@ -117,7 +120,7 @@ fn hear(
 {
     let about = about_next(&circuits[circuit]);
     let logged = lines_logged(logs, side.life);
-    tell_all(logs, side.life, about, &side.names, notices);
+    tell_heard(logs, side.life, about, &side.names, notices);
     let after = lines_logged(logs, side.life);
     note_heard(circuits, circuit, logged, after);
     push_sendings(client, &side.circuits, &side.names, circuits, sent);

@@ -3,12 +3,13 @@ ghost use Rattle.std.specs.Prelude.{◌≡◌, ◌++◌, ◌+◌, ◌≤◌, ℕ
 ghost use Rattle.ca_model.specs.ClientEvents as world;
 ghost use Rattle.ca_model.specs.World.{grown};
 ghost use Rattle.ca_world_data.specs.Logs.{HasRoom, lines_in};
+ghost use Rattle.ca_world_data.specs.Named.{IsMeant};
 ghost use Rattle.ca_world_data.specs.Seen.{intent_of, line_of, names_of};
 ghost use Rattle.ca_world_data.specs.Telling.{call_lines};
 
 use crate::client::Names;
 use crate::history::{Intent, Line};
-use crate::naming::line_for;
+use crate::naming::{line_for, line_heard};
 use ca_client_core::Notices;
 
 /// Puts these notices into the log, where the message that the client read was about one that was meant so.
@@ -30,6 +31,41 @@ pub fn tell_all(
 {
     if life < logs.len() {
         tell_in(&mut logs[life], about, names, notices);
+    }
+}
+
+/// The same of a client whose handles mean what stands beside them: what the message was about is looked at first.
+pub fn tell_heard(
+    logs: &mut Vec<Vec<Line>>,
+    life: usize,
+    about: Intent,
+    names: &Names,
+    notices: Notices,
+)
+    requires meant { IsMeant (names_of names.now) }
+    requires lines { HasRoom (length notices) life logs.old.items }
+    ensures { lines_in logs.new.items
+        ≡ grown
+        life
+        (world.lines_of (intent_of about) (names_of names.now) notices)
+        (lines_in logs.old.items) }
+{
+    if life < logs.len() {
+        heard_in(&mut logs[life], about, names, notices);
+    }
+}
+
+// The same in the log itself.
+fn heard_in(log: &mut Vec<Line>, about: Intent, names: &Names, notices: Notices)
+    requires meant { IsMeant (names_of names.now) }
+    requires lines { vec_len log.old + length notices ≤ vec_capacity log.old }
+    ensures { map line_of log.new.items
+        ≡ map line_of log.old.items
+        ++ world.lines_of (intent_of about) (names_of names.now) notices }
+{
+    let mut notices = notices;
+    while let Some(notice) = notices.next() {
+        log.push_reserved(line_heard(names, about, notice));
     }
 }
 

@@ -60,5 +60,5 @@ returns c =
     (let is : joined_of j ≡ d = At-one seen k (joined_of j) d at there in
     let meant : intent_of c.about_next-about.result ≡ about_at d.lists (length d.lists.heard) =
     c.about_next-about.ensures ∙ ap (λ (z : model.Joined). about_at z.lists (length z.lists.heard)) is in
-    heard-leaves i k x d c.args.notices (map sending_of c.args.sent.items) (lines_in c.args.logs.now.items) (lines_in c.tell_all.new.logs.items) seen (map joined_of c.note_heard.new.circuits.items) (map joined_of c.push_sendings.new.circuits.items)
-    (intent_of c.about_next-about.result) c.lines_logged-logged.result c.lines_logged-after.result there meant was c.tell_all.ensures.told now within c.note_heard.ensures.heard c.push_sendings.ensures)
+    heard-leaves i k x d c.args.notices (map sending_of c.args.sent.items) (lines_in c.args.logs.now.items) (lines_in c.tell_heard.new.logs.items) seen (map joined_of c.note_heard.new.circuits.items) (map joined_of c.push_sendings.new.circuits.items)
+    (intent_of c.about_next-about.result) c.lines_logged-logged.result c.lines_logged-after.result there meant was c.tell_heard.ensures now within c.note_heard.ensures.heard c.push_sendings.ensures)

@@ -28,6 +28,9 @@ hear-requires-clause-numbered c = subst (λ (z : List model.Joined). AreNumbered
 pub hear-requires-clause-lives : goal.hear-requires-clause-lives
 hear-requires-clause-lives c = as-many c.args.logs.now.items c.prepare_step.new.logs.items c.args.side.now.life c.prepare_step.ensures.logs c.requires.lives
 
+pub hear-requires-clause-meant : goal.hear-requires-clause-meant
+hear-requires-clause-meant c = c.requires.meant
+
 pub hear-requires-clause-lines : goal.hear-requires-clause-lines
 hear-requires-clause-lines c =
     let k : ℕ = c.args.circuit in
