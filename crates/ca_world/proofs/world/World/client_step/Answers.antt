@@ -1,7 +1,7 @@
 use Rattle.std.proofs.Common.{◌≡◌, ℕ, ◌<◌, length, List, refl, arith, subst, ◌∙◌}
 use Rattle.std.specs.Prelude.{map, slice_set}
 use Rattle.ca_text.specs.Place.{At}
-use Rattle.ca_text.proofs.Places.{At-within}
+use Rattle.ca_text.proofs.Places.{At-map, At-within}
 use Rattle.ca_model.specs.Events.{ClientStep}
 use Rattle.ca_model.specs.Runs.{CanBe}
 use Rattle.ca_model.specs.World as model
@@ -68,6 +68,18 @@ step_client-requires-clause-lives c =
     let x : ClientSide = c.index_mut.result.now in
     let client : At cs e.client x = found cs e.client x x (ends-client (length cs) (length ss) ks c.args.circuit e a) c.index_mut.ensures.value in
     here-lives w e.client x client c.self.invariant
+
+pub step_client-requires-clause-meant : goal.step_client-requires-clause-meant
+step_client-requires-clause-meant c =
+    let w = c.self.inside in
+    let cs : List ClientSide = w.clients.items in
+    let ss : List ServerSide = w.servers.items in
+    let ks : List Joined = w.circuits.items in
+    let e : Ends = c.in-Some.ends in
+    let a = ends-here cs ss ks c.deref.result.now c.len.result c.len-2.result c.args.circuit e (omega (arith, c.len.ensures)) (omega (arith, c.len-2.ensures)) c.deref.ensures.value c.in-Some.ensures in
+    let x : ClientSide = c.index_mut.result.now in
+    let client : At cs e.client x = found cs e.client x x (ends-client (length cs) (length ss) ks c.args.circuit e a) c.index_mut.ensures.value in
+    c.self.invariant.named e.client (client_of x) (At-map client_of cs e.client x client)
 
 pub step_client-requires-clause-few : goal.step_client-requires-clause-few
 step_client-requires-clause-few c =
