@@ -37,14 +37,30 @@ impl Verb {
         ensures { MatchOption result ((v : Verb) → verb_word v ≡ word.now → ⊥)
             (λ v. verb_word v ≡ word.now) }
     {
+        // Those that a script has most stand first.
+        if is_word(word, "up") {
+            return Some(Verb::Up);
+        }
+        if is_word(word, "sstep") {
+            return Some(Verb::ServerStep);
+        }
+        if is_word(word, "down") {
+            return Some(Verb::Down);
+        }
+        if is_word(word, "cstep") {
+            return Some(Verb::ClientStep);
+        }
+        if is_word(word, "pump") {
+            return Some(Verb::Pump);
+        }
+        if is_word(word, "read") {
+            return Some(Verb::Read);
+        }
         if is_word(word, "open") {
             return Some(Verb::Open);
         }
         if is_word(word, "clear") {
             return Some(Verb::Clear);
-        }
-        if is_word(word, "read") {
-            return Some(Verb::Read);
         }
         if is_word(word, "write") {
             return Some(Verb::Write);
@@ -69,21 +85,6 @@ impl Verb {
         }
         if is_word(word, "accept") {
             return Some(Verb::Accept);
-        }
-        if is_word(word, "up") {
-            return Some(Verb::Up);
-        }
-        if is_word(word, "down") {
-            return Some(Verb::Down);
-        }
-        if is_word(word, "sstep") {
-            return Some(Verb::ServerStep);
-        }
-        if is_word(word, "cstep") {
-            return Some(Verb::ClientStep);
-        }
-        if is_word(word, "pump") {
-            return Some(Verb::Pump);
         }
         if is_word(word, "cut") {
             return Some(Verb::Cut);
