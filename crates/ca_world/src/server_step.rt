@@ -24,6 +24,7 @@ ghost use Rattle.ca_world_data.specs.Opening.{entries_in};
 ghost use Rattle.ca_world_data.specs.Reporting.{AreServed, waits};
 ghost use Rattle.ca_world_data.specs.Seen.{joined_of, queue_of, record_of, server_of, step_of, told_of};
 ghost use Rattle.ca_world_data.specs.ServerCuts.{HasRoomFor, IsServing, cut_core};
+ghost use Rattle.ca_world_servers.specs.declared.coming.Coming as coming;
 ghost use Rattle.ca_world_servers.specs.declared.deeds.Deed.TheVariants as did;
 ghost use Rattle.ca_world_servers.specs.Deeds.{IsDeed, MayLackFor, MayWaitFor, WasDone, wrote_in};
 ghost use Rattle.ca_world_servers.specs.EndsWith.{ReportsWith};
@@ -126,7 +127,7 @@ fn step_at(
 {
     reserve_handled(&mut circuits[circuit], 0)?;
     let ahead = next_ahead(alloc, &side.core, &circuits[circuit], &mut side.records)?;
-    check_counts(circuits)?;
+    check_write(circuits, &ahead.write)?;
     reserve_reports(logs, side.life, &side.records, 2)?;
     let counts = counts_of(&side.core, &circuits[circuit]);
     // The count of writes stays at its limit, so that a step there would not tell whether it wrote.
@@ -135,6 +136,16 @@ fn step_at(
     }
     step_end(alloc, circuit, server, side, circuits, logs, ahead, counts);
     Ok(())
+}
+
+// Whether one more post can be counted for each subscription that stands, where a message writes.
+fn check_write(circuits: &[Joined], write: &Option<Coming>) -> Result<(), AllocError>
+    ensures { OnOk result ((w : coming.Coming) → write.now ≡ Some w → AllMayCount circuits.now) }
+{
+    match write {
+        Some(_) => check_counts(circuits),
+        None => Ok(()),
+    }
 }
 
 // How much waits on a circuit, and how much was applied and waits at its server.
@@ -200,7 +211,7 @@ fn step_end(
         side.old.circuits.items
         (map joined_of circuits.old.items)
         server }
-    requires counts { AllMayCount circuits.old.items }
+    requires counts { (w : coming.Coming) → ahead.write ≡ Some w → AllMayCount circuits.old.items }
     requires notes { (j : opened.Joined) → At circuits.old.items circuit j → HasRoomToNote 0 j }
     requires space { MayWaitFor ahead.write side.old.records.items }
     requires room { HasRoomFor (waits side.old.records.items + 2) side.old.life logs.old.items }
@@ -273,7 +284,7 @@ fn tell_step(
         side.old.circuits.items
         (map joined_of circuits.old.items)
         server }
-    requires counts { AllMayCount circuits.old.items }
+    requires counts { (w : coming.Coming) → ahead.write ≡ Some w → AllMayCount circuits.old.items }
     requires notes { (j : opened.Joined) → At circuits.old.items circuit j → HasRoomToNote 0 j }
     requires space { MayWaitFor ahead.write side.old.records.items }
     requires room { HasRoomFor (waits side.old.records.items + 2) side.old.life logs.old.items }
@@ -588,7 +599,8 @@ fn close_stepped(
         × WasDone before h (map record_of side.old.records.items) (did.Applies busies) write parting action }
     requires alike { (busies : Bool) → wrote_in side.old.core applied command write ≡ Some busies
         → AllAlike server side.old.core (map joined_of circuits.old.items) }
-    requires counts { AllMayCount circuits.old.items }
+    requires counts { (busies : Bool) → wrote_in side.old.core applied command write ≡ Some busies
+        → AllMayCount circuits.old.items }
     requires served { AreServed
         side.old.circuits.items
         (map joined_of circuits.old.items)

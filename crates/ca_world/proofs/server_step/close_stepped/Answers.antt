@@ -14,6 +14,9 @@ use Rattle.ca_world.proofs.server_step.close_stepped.Goals as goal
 pub close_written-requires-clause-alike : goal.close_written-requires-clause-alike
 close_written-requires-clause-alike c = c.requires.alike c.in-Some.busies (sym c.wrote_of.ensures ∙ c.in-Some.is)
 
+pub close_written-requires-clause-counts : goal.close_written-requires-clause-counts
+close_written-requires-clause-counts c = c.requires.counts c.in-Some.busies (sym c.wrote_of.ensures ∙ c.in-Some.is)
+
 pub returns-clause-some : goal.returns-clause-some
 returns-clause-some c = λ busies j is at before h action was.
     let y = c.args.side.now in

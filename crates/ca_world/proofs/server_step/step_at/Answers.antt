@@ -46,8 +46,8 @@ returns-in_err-ahead c =
     let logs = entries_in c.args.logs.now.items in
     lacks-kept k y z (map joined_of ks) (map joined_of (slice_set ks k new)) logs logs c.from_residual-in_err-ahead.result c.from_residual-in_err-ahead.ensures.1 side refl joins refl
 
-pub returns-in_err-check_counts : goal.returns-in_err-check_counts
-returns-in_err-check_counts c =
+pub returns-in_err-check_write : goal.returns-in_err-check_write
+returns-in_err-check_write c =
     let y : ServerSide = c.args.side.now in
     let k : ℕ = c.args.circuit in
     let ks : List Joined = c.args.circuits.now.items in
@@ -59,7 +59,7 @@ returns-in_err-check_counts c =
     let z : ServerSide = record y { records = c.next_ahead.new.records } in
     let side : server_of z ≡ server_of y = ap (λ (rs : List model.RecordSide). record (server_of y) { records = rs }) c.next_ahead.ensures.same in
     let logs = entries_in c.args.logs.now.items in
-    lacks-kept k y z (map joined_of ks) (map joined_of (slice_set ks k new)) logs logs c.from_residual-in_err-check_counts.result c.from_residual-in_err-check_counts.ensures.1 side refl joins refl
+    lacks-kept k y z (map joined_of ks) (map joined_of (slice_set ks k new)) logs logs c.from_residual-in_err-check_write.result c.from_residual-in_err-check_write.ensures.1 side refl joins refl
 
 pub returns-in_err-reserve_reports : goal.returns-in_err-reserve_reports
 returns-in_err-reserve_reports c =

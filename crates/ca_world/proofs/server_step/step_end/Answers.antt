@@ -11,6 +11,7 @@ use Rattle.ca_world_data.specs.declared.server.ServerSide.{ServerSide}
 use Rattle.ca_world_data.specs.Opening.{entries_in}
 use Rattle.ca_world_data.specs.Seen.{joined_of, record_of, server_of}
 use Rattle.ca_world_data.proofs.Worlds.{found}
+use Rattle.ca_world_servers.proofs.Done.{write-known}
 use Rattle.ca_world.proofs.StepClosed.{closed-at, closed-numbers, closed-wrote, handled-step, lacks-alike, lacks-done, open-steps, rests-at}
 use Rattle.ca_world.proofs.server_step.step_end.Goals as goal
 
@@ -46,6 +47,25 @@ close_stepped-requires-clause-done c = λ busies is.
     let wrote = closed-wrote core c.step.new.self c.args.server (joined_of x) ks rs c.args.ahead c.args.counts m c.in-Closed.left (why_is c.in-Closed.field-0) did in
     let l = wrote busies is in
     (core, x.at_server, l.next.action, lacks-done core c.step.new.self c.args.server (joined_of x) ks rs c.args.ahead c.args.counts m l busies is)
+
+pub close_stepped-requires-clause-counts : goal.close_stepped-requires-clause-counts
+close_stepped-requires-clause-counts c = λ busies is.
+    let items : List Joined = c.args.circuits.now.items in
+    let k : ℕ = c.args.circuit in
+    let x : Joined = c.index.result.now in
+    let ks : List model.Joined = map joined_of items in
+    let rs : List model.RecordSide = map record_of c.args.side.now.records.items in
+    let within : k < length items = subst (λ (n : ℕ). k < n) c.args.circuits.now.ok.0 c.requires.within in
+    let there : At ks k (joined_of x) = At-map joined_of items k x (found items k x x within c.index.ensures) in
+    let core : Server = c.args.side.now.core in
+    let m = c.requires.may (joined_of x) there in
+    let did = open-steps core x.at_server m.e (steps.Closed (why_is c.in-Closed.field-0) c.in-Closed.left) c.step.new.self m.has c.in-Closed.ensures in
+    let wrote = closed-wrote core c.step.new.self c.args.server (joined_of x) ks rs c.args.ahead c.args.counts m c.in-Closed.left (why_is c.in-Closed.field-0) did in
+    let l = wrote busies is in
+    let known =
+    write-known core x.at_server rs c.args.ahead.write c.args.ahead.parting l.next.action busies
+    (lacks-done core c.step.new.self c.args.server (joined_of x) ks rs c.args.ahead c.args.counts m l busies is) in
+    c.requires.counts known.0 known.1
 
 pub close_stepped-requires-clause-alike : goal.close_stepped-requires-clause-alike
 close_stepped-requires-clause-alike c = λ busies is.

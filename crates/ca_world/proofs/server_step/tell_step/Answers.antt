@@ -18,6 +18,9 @@ use Rattle.ca_world_data.specs.Opening.{entries_in}
 use Rattle.ca_world_data.specs.Reporting.{AreServed}
 use Rattle.ca_world_data.specs.Seen.{joined_of, record_of, step_of}
 use Rattle.ca_world_data.proofs.Worlds.{found, set-map}
+use Rattle.ca_world_servers.specs.declared.deeds.Deed.{Deed}
+use Rattle.ca_world_servers.specs.Deeds.{WasDone}
+use Rattle.ca_world_servers.proofs.Done.{write-known}
 use Rattle.ca_world.proofs.StepClosed.{closed-lacks, closed-numbers, handled-lacks, handled-left, handled-open, lacks-alike, lacks-done, set-same}
 use Rattle.ca_world.proofs.StepFacts.{alike-after, applies-writes, counts-set, keeps-noted, served-set, was-done, write-same}
 use Rattle.ca_world.proofs.StepHandled.{step-handled}
@@ -88,9 +91,12 @@ note-requires-clause-counts c = λ busies applies.
     let m = w.1 (joined_of x) there in
     let d = w.2 (joined_of x) there in
     let p = c.in-Ok.ensures.ok w.0 c.args.server ks rs m d.1 in
+    let known =
+    write-known w.0 x.at_server rs c.args.ahead.write c.args.ahead.parting d.1.next.action busies
+    (subst (λ (z : Deed). WasDone w.0 x.at_server rs z c.args.ahead.write c.args.ahead.parting d.1.next.action) applies (was-done w.0 c.args.side.now.core c.args.server (joined_of x) ks rs c.args.ahead c.args.counts m d.1 c.in-Ok.prepared.deed p.did)) in
     counts-set items k x new at
     (ap (λ (z : model.Joined). z.standing) (p.circuit ∙ ap (with_lists [] []) (write-same _ d.1.next.action (joined_of x) (applies-writes d.1.next.action c.in-Ok.prepared.deed busies p.did applies))))
-    c.requires.counts
+    (c.requires.counts known.0 known.1)
 
 pub note-requires-clause-served : goal.note-requires-clause-served
 note-requires-clause-served c =
@@ -191,12 +197,24 @@ close_stepped-requires-clause-alike c = λ busies is.
     subst (AllAlike c.args.server c.cut_short-left.new.core) (sym same) (lacks-alike w.0 c.cut_short-left.new.core c.args.server (joined_of x) ks rs c.args.ahead c.args.counts m l busies is)
 
 pub close_stepped-requires-clause-counts : goal.close_stepped-requires-clause-counts
-close_stepped-requires-clause-counts c =
+close_stepped-requires-clause-counts c = λ busies is.
     let items : List Joined = c.args.circuits.now.items in
     let k : ℕ = c.args.circuit in
     let x : Joined = c.index_mut.result.now in
+    let ks : List model.Joined = map joined_of items in
+    let rs : List model.RecordSide = map record_of c.args.side.now.records.items in
     let within : k < length items = subst (λ (n : ℕ). k < n) c.args.circuits.now.ok.0 c.requires.within in
-    counts-set items k x c.prepare.new.joined (found items k x x within c.index_mut.ensures.value) (ap (λ (z : model.Joined). z.standing) c.in-Err.ensures.err) c.requires.counts
+    let there : At ks k (joined_of x) = At-map joined_of items k x (found items k x x within c.index_mut.ensures.value) in
+    let w = c.requires.was in
+    let m = w.1 (joined_of x) there in
+    let d = w.2 (joined_of x) there in
+    let l =
+    handled-lacks w.0 c.args.side.now.core c.args.server (joined_of x) ks rs c.args.ahead c.args.counts m d.1 c.cut_short-left.new.core
+    (c.cut_short-left.ensures.core ∙ ap (λ (h : Handle). cut_core h c.args.side.now.core) d.0) (c.in-Err.ensures.needs w.0 c.args.server ks rs m d.1) in
+    let known =
+    write-known w.0 x.at_server rs c.args.ahead.write c.args.ahead.parting l.next.action busies
+    (lacks-done w.0 c.cut_short-left.new.core c.args.server (joined_of x) ks rs c.args.ahead c.args.counts m l busies is) in
+    counts-set items k x c.prepare.new.joined (found items k x x within c.index_mut.ensures.value) (ap (λ (z : model.Joined). z.standing) c.in-Err.ensures.err) (c.requires.counts known.0 known.1)
 
 pub close_stepped-requires-clause-served : goal.close_stepped-requires-clause-served
 close_stepped-requires-clause-served c =
