@@ -228,9 +228,9 @@ pub(crate) fn put_all<E: Element>(items: &[E], out: &mut Vec<u8>)
     }
 }
 
-/// Reads n elements from the front.
+/// Reads n elements from the front, into this room, of which nothing else is left.
 pub(crate) fn read_all<E: Element>(
-    alloc: Global,
+    room: Vec<E>,
     count: usize,
     bytes: &[u8],
 ) -> Result<Vec<E>, AllocError>
@@ -241,7 +241,9 @@ pub(crate) fn read_all<E: Element>(
     ensures fits { IfOk result (λ v. All E.fits v.items) }
     ensures some { OnErr result (count ≢ 0) }
 {
-    let mut items = Vec::with_capacity(alloc, count)?;
+    let mut items = room;
+    items.clear();
+    items.reserve(count)?;
     let mut rest = bytes;
     for _ in 0..count {
         let (front, behind) = rest.split_at(E::SIZE);

@@ -55,9 +55,10 @@ fn read_text(bytes: &[u8]) -> [u8; 40]
     text
 }
 
-/// The elements at the front.
+/// The elements at the front. They take the memory of a value of their type, if one is given.
 fn read_elements(
     alloc: Global,
+    room: Option<Value>,
     base: BaseType,
     count: u32,
     bytes: &[u8],
@@ -69,17 +70,18 @@ fn read_elements(
     let count = count as usize;
     match base {
         BaseType::String if count == 1 => {
-            let mut items = Vec::new(alloc);
+            let mut items = texts_in(alloc, room);
+            items.clear();
             items.push(read_text(bytes))?;
             Ok(Value::Strings(items))
         }
-        BaseType::String => Ok(Value::Strings(read_all(alloc, count, bytes)?)),
-        BaseType::Int => Ok(Value::Ints(read_all(alloc, count, bytes)?)),
-        BaseType::Float => Ok(Value::Floats(read_all(alloc, count, bytes)?)),
-        BaseType::Enum => Ok(Value::Enums(read_all(alloc, count, bytes)?)),
-        BaseType::Char => Ok(Value::Chars(read_all(alloc, count, bytes)?)),
-        BaseType::Long => Ok(Value::Longs(read_all(alloc, count, bytes)?)),
-        BaseType::Double => Ok(Value::Doubles(read_all(alloc, count, bytes)?)),
+        BaseType::String => Ok(Value::Strings(read_all(texts_in(alloc, room), count, bytes)?)),
+        BaseType::Int => Ok(Value::Ints(read_all(ints_in(alloc, room), count, bytes)?)),
+        BaseType::Float => Ok(Value::Floats(read_all(floats_in(alloc, room), count, bytes)?)),
+        BaseType::Enum => Ok(Value::Enums(read_all(enums_in(alloc, room), count, bytes)?)),
+        BaseType::Char => Ok(Value::Chars(read_all(chars_in(alloc, room), count, bytes)?)),
+        BaseType::Long => Ok(Value::Longs(read_all(longs_in(alloc, room), count, bytes)?)),
+        BaseType::Double => Ok(Value::Doubles(read_all(doubles_in(alloc, room), count, bytes)?)),
     }
 }
 
@@ -98,6 +100,21 @@ pub fn read_value(
         (t : DataType) × (type_number t ≡ number) × Reads t count bytes.now (elements r.0) r.1) }
     ensures refused { IfErr result (ReadRefused number count bytes.now) }
 {
+    read_value_into(alloc, None, number, count, bytes)
+}
+
+/// The same into the memory of a value that is used no more, if there is one and its elements are of that type.
+pub fn read_value_into(
+    alloc: Global,
+    room: Option<Value>,
+    number: u16,
+    count: u32,
+    bytes: &[u8],
+) -> Result<(Value, Meta), Refusal>
+    ensures read { IfOk result (λ r.
+        (t : DataType) × (type_number t ≡ number) × Reads t count bytes.now (elements r.0) r.1) }
+    ensures refused { IfErr result (ReadRefused number count bytes.now) }
+{
     let data_type = match DataType::of(number) {
         None => return Err(Refusal::BadType),
         Some(data_type) => data_type,
@@ -107,6 +124,62 @@ pub fn read_value(
         return Err(Refusal::Short);
     }
     let meta = read_meta(data_type.form, bytes);
-    let value = read_elements(alloc, data_type.base, count, &bytes[front..])?;
+    let value = read_elements(alloc, room, data_type.base, count, &bytes[front..])?;
     Ok((value, meta))
+}
+
+// The memory of a value of texts, or none yet.
+fn texts_in(alloc: Global, room: Option<Value>) -> Vec<[u8; 40]> {
+    match room {
+        Some(Value::Strings(items)) => items,
+        _ => Vec::new(alloc),
+    }
+}
+
+// The memory of a value of INTs, or none yet.
+fn ints_in(alloc: Global, room: Option<Value>) -> Vec<i16> {
+    match room {
+        Some(Value::Ints(items)) => items,
+        _ => Vec::new(alloc),
+    }
+}
+
+// The memory of a value of FLOATs, or none yet.
+fn floats_in(alloc: Global, room: Option<Value>) -> Vec<u32> {
+    match room {
+        Some(Value::Floats(items)) => items,
+        _ => Vec::new(alloc),
+    }
+}
+
+// The memory of a value of ENUMs, or none yet.
+fn enums_in(alloc: Global, room: Option<Value>) -> Vec<u16> {
+    match room {
+        Some(Value::Enums(items)) => items,
+        _ => Vec::new(alloc),
+    }
+}
+
+// The memory of a value of CHARs, or none yet.
+fn chars_in(alloc: Global, room: Option<Value>) -> Vec<u8> {
+    match room {
+        Some(Value::Chars(items)) => items,
+        _ => Vec::new(alloc),
+    }
+}
+
+// The memory of a value of LONGs, or none yet.
+fn longs_in(alloc: Global, room: Option<Value>) -> Vec<i32> {
+    match room {
+        Some(Value::Longs(items)) => items,
+        _ => Vec::new(alloc),
+    }
+}
+
+// The memory of a value of DOUBLEs, or none yet.
+fn doubles_in(alloc: Global, room: Option<Value>) -> Vec<u64> {
+    match room {
+        Some(Value::Doubles(items)) => items,
+        _ => Vec::new(alloc),
+    }
 }

@@ -2,7 +2,7 @@ use Rattle.std.proofs.Common.{◌+◌, drop, ap, ◌∙◌, arith}
 use Rattle.std.proofs.lemmas.List.{take_rest}
 use Rattle.ca_dbr.proofs.Readings.{reads_parts, reads_long}
 use Rattle.ca_dbr.specs.Reading.{IsLong}
-use Rattle.ca_dbr.proofs.reading.read_value.Goals as goal
+use Rattle.ca_dbr.proofs.reading.read_value_into.Goals as goal
 
 pub returns-then-bytes-front-clause-refused : goal.returns-then-bytes-front-clause-refused
 returns-then-bytes-front-clause-refused c =
