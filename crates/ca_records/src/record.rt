@@ -10,6 +10,7 @@ use ca_dbr::{Meta, Value};
 use ca_text::{ELEMENT_LIMIT, RecordName, Refusal};
 use std::alloc::{AllocError, Global};
 use std::marker::Model;
+use std::mem;
 
 /// A record: a name, the greatest element count, whether a put takes it time, and a value with its metadata.
 #[derive(Debug, Drop)]
@@ -81,14 +82,14 @@ impl Record {
         Ok(Record::new(name, self.count, self.slow, value, self.meta))
     }
 
-    // Sets the value and what goes with it.
-    pub(crate) fn set(&mut self, value: Value, meta: Meta)
+    // Sets the value and what goes with it. Hands out the value before.
+    pub(crate) fn set(&mut self, value: Value, meta: Meta) -> Value
         requires { HoldsValue self.old.count (elements value) }
         ensures { self.new ≡ record self.old { value = elements value; meta = meta } }
     {
         Value::know(&value);
-        self.value = value;
         self.meta = meta;
+        mem::replace(&mut self.value, value)
     }
 
     // Whether it may have this value by a post: of its type, with one element to the greatest count.

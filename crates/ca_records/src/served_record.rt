@@ -23,6 +23,8 @@ pub struct ServedRecord {
     record: Record,
     busy: Option<Put>,
     waiting: VecDeque<Waiter>,
+    // The value before this one: its memory is for the next.
+    spare: Option<Value>,
 }
 
 impl Model for ServedRecord {
@@ -48,6 +50,7 @@ impl ServedRecord {
             record: state,
             busy: None,
             waiting: VecDeque::new(alloc),
+            spare: None,
         }
     }
 
@@ -170,7 +173,14 @@ impl ServedRecord {
         requires { IsFit self.old.state (elements value) }
         ensures { self.new ≡ with_value (elements value) meta self.old }
     {
-        self.record.set(value, meta);
+        self.spare = Some(self.record.set(value, meta));
+    }
+
+    // The value before this one, if its memory was not asked for yet.
+    pub(crate) fn take_spare(&mut self) -> Option<Value>
+        ensures { self.new ≡ self.old }
+    {
+        self.spare.take()
     }
 
     // Ends the busy put, and applies the next one that waits.

@@ -22,6 +22,8 @@ pub struct ServedRecords {
     // The place that became free last.
     pub(crate) free: Option<usize>,
     pub(crate) places: HashMap<Vec<u8>, usize>,
+    // Where a write was begun last: a record that is named next is mostly there. The name decides.
+    pub(crate) recent: usize,
     // How many puts wait for all records.
     pub(crate) waiting: usize,
     pub(crate) rules: Vec<Rule>,
@@ -58,6 +60,7 @@ impl ServedRecords {
             slots: Vec::new(alloc),
             free: None,
             places: HashMap::new(alloc),
+            recent: 0,
             waiting: 0,
             rules,
             stamp: Stamp {

@@ -31,7 +31,16 @@ impl ServedRecords {
             .record_mut()
             .begin(put, value, stamp, is_countable);
         self.waiting += more_waiting(&begun);
+        self.recent = place;
         begun
+    }
+
+    /// A value that the record at this place had and has no more, if there is one: its memory may hold the next.
+    pub fn take_spare(&mut self, place: usize) -> Option<Value>
+        requires { IsThere self.old place }
+        ensures { self.new ≡ self.old }
+    {
+        self.slots[place].record_mut().take_spare()
     }
 
     /// Ends the busy put of the record of this name, and applies the next one that waits. It does not allocate.
@@ -40,7 +49,7 @@ impl ServedRecords {
     pub fn finish(&mut self, name: &[u8]) -> Result<Finished, Refusal>
         ensures { Finishes self.old name.now result self.new }
     {
-        let Some(place) = self.find(name) else {
+        let Some(place) = self.find_near(self.recent, name) else {
             return Err(Refusal::UnknownRecord);
         };
         let stamp = self.stamp;
