@@ -3,7 +3,7 @@ ghost use Rattle.ca_dbr.specs.Reading.{least_size};
 ghost use Rattle.ca_records.specs.Store.{IsThere};
 ghost use Rattle.ca_server_circuit.specs.Putting.{IsGiven, WritesTo};
 
-use ca_dbr::{BaseType, Value, read_value};
+use ca_dbr::{BaseType, Value, read_value_into};
 use ca_records::{Begun, Put, Record, ServedRecords};
 use ca_text::{Refusal, Status};
 use ca_wire::Message;
@@ -33,7 +33,8 @@ pub(crate) fn begin(
         WritesTo records.old place rights put message.now begun records.new) }
     ensures err { OnErr result (records.new ≡ records.old) }
 {
-    match read_elements(alloc, records.at(place).state(), rights, message)? {
+    let room = records.take_spare(place);
+    match read_elements(alloc, room, records.at(place).state(), rights, message)? {
         Given::Fault(status) => Ok(Begun::Refused(status)),
         Given::Elements(value) => {
             let begun = records.begin_write(place, put, value)?;
@@ -42,9 +43,11 @@ pub(crate) fn begin(
     }
 }
 
-/// The elements of a put to this record under these rights, or its first fault before they are read.
+/// The elements of a put to this record under these rights, or its first fault before they are read. They may take the memory of a value that
+/// is used no more.
 fn read_elements(
     alloc: Global,
+    room: Option<Value>,
     of: &Record,
     rights: u32,
     message: &Message,
@@ -67,7 +70,7 @@ fn read_elements(
     if message.payload().len() < least_size(base, count) {
         return Ok(Given::Fault(Status::BADCOUNT));
     }
-    match read_value(alloc, base.number(), count, message.payload()) {
+    match read_value_into(alloc, room, base.number(), count, message.payload()) {
         Ok((value, _)) => Ok(Given::Elements(value)),
         Err(refusal) => match refusal {
             Refusal::OutOfMemory => Err(AllocError),
