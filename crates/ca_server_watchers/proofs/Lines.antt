@@ -187,6 +187,10 @@ module _ {K : Type 0} (bytes : K → List ℕ) where
   pub unwatched : (name : List ℕ) (es : Lines) → (let none : Option (List Handle) = None in lookup (λ k. bytes_eq name (bytes k)) es ≡ none) → watching (lines_in bytes es) name ≡ []
   unwatched name es is = ap (λ (o : Option (List Handle)). unwrap_or o []) (looked name es ∙ is)
 
+  pub unlisted : (name : List ℕ) (es : Lines) → length es ≡ 0 → watching (lines_in bytes es) name ≡ []
+  unlisted name [] none = refl
+  unlisted name (e ∷ es) none = absurd (omega (arith, none))
+
   -- what one name has is not what another has
   apart : (name other key : List ℕ) → bytes_eq other name ≡ false → bytes_eq name key ≡ true → bytes_eq other key ≡ false
   apart name other key miss hit = subst (λ (k : List ℕ). bytes_eq other k ≡ false) ((bytes_eq-Decides name key).0 hit) miss

@@ -38,6 +38,10 @@ impl Watchers {
         ensures count { result ≡ length (watching self.now name.now) }
         ensures apart { AreApart (watching self.now name.now) }
     {
+        // Then no name need be hashed.
+        if self.lines.is_empty() {
+            return 0;
+        }
         match self.lines.get(name) {
             Some(line) => line.len(),
             None => 0,
