@@ -1,5 +1,13 @@
 pub mod Arena
+pub mod Block
+pub mod BlockLending
+pub mod Cells
+pub mod Filled
 pub mod Sound
+pub mod Stored
+pub mod StoredLayout
+pub mod StoredLending
 pub mod Traces
 pub mod Layout
 pub mod Lending
+pub mod Ownership

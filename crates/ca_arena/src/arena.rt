@@ -1,15 +1,15 @@
-ghost use Rattle.std.specs.Prelude.{◌≡◌, ◌+◌, ◌-◌, ◌<◌, ◌==◌, ◌↔◌, ℕ, IsTrue, IsNone, IsSome, IfOk, OnOk, Some, None, if◌then◌else◌, length, option_copied, []};
+ghost use Rattle.std.specs.Prelude.{◌≡◌, ◌+◌, ◌-◌, ◌<◌, ◌==◌, ◌↔◌, ℕ, IsTrue, IfOk, OnOk, Some, None, if◌then◌else◌, length, option_copied, []};
 ghost use Rattle.std.specs.Option.{option_copied_mut};
 ghost use Rattle.std.specs.Borrow.{sem};
 ghost use Rattle.ca_text.specs.Limits.{last_generation};
 ghost use Rattle.ca_arena.specs.Sound.{IsSound};
 ghost use Rattle.ca_arena.specs.Arena.{empty, find, live_count, free_slots, IsLive, Inserts, InsertsAt, Removes, IsFresh, IsFirstFrom, IsHandleAt, next_handle, taken_back, walk_start};
 
+use crate::blocks::Blocks;
 use crate::handle::Handle;
 use ca_text::{ARENA_SLOTS, LAST_GENERATION, Refusal};
 use std::alloc::Global;
 use std::marker::Model;
-use std::mem;
 
 /// Values under handles, at most 65,536 at a time.
 ///
@@ -17,18 +17,12 @@ use std::mem;
 /// next generation; at its last generation it is retired.
 #[derive(Drop)]
 pub struct Arena<T> {
-    slots: Vec<Slot<T>>,
-    // The indices that are free again. The one freed last stands at the end.
+    // The values, and the generation given last at each index.
+    blocks: Blocks<T>,
+    // The indices that are free again. The one freed last stands at the end. It has room for each index with memory.
     freed: Vec<u16>,
     // How many indices are never given again.
     retired: usize,
-}
-
-// What stands at an index: the generation given last, and the value, until it is removed.
-#[derive(Drop)]
-struct Slot<T> {
-    generation: u32,
-    value: Option<T>,
 }
 
 impl<T> Model for Arena<T> {
@@ -41,10 +35,10 @@ impl<T> Model for Arena<T> {
 
     ghost use Rattle.ca_arena.specs.Layout.{contents_of, IsLaidOut};
 
-    ghost view = { λ a. contents_of a.slots.items a.freed.items };
+    ghost view = { λ a. contents_of a.blocks.places a.freed.items };
 
     ghost invariant = { λ a.
-        IsLaidOut a.slots.items a.freed.items a.retired (vec_capacity a.freed) };
+        IsLaidOut a.blocks.places a.freed.items a.retired a.blocks.room (vec_capacity a.freed) };
 }
 
 impl<T> Arena<T> {
@@ -55,7 +49,7 @@ impl<T> Arena<T> {
         ensures { result ≡ empty }
     {
         Arena {
-            slots: Vec::new(alloc),
+            blocks: Blocks::new(alloc),
             freed: Vec::new(alloc),
             retired: 0,
         }
@@ -66,7 +60,7 @@ impl<T> Arena<T> {
         ensures count { result ≡ live_count self.now.given }
         ensures sound { IsSound self.now }
     {
-        self.slots.len() - self.freed.len() - self.retired
+        self.blocks.len() - self.freed.len() - self.retired
     }
 
     /// Whether there is no value.
@@ -80,7 +74,7 @@ impl<T> Arena<T> {
     pub fn free_slots(&self) -> usize
         ensures { result ≡ free_slots self.now }
     {
-        self.freed.len() + (ARENA_SLOTS - self.slots.len())
+        self.freed.len() + (ARENA_SLOTS - self.blocks.len())
     }
 
     /// The handle that `insert` gives next. None if no index is free.
@@ -100,12 +94,12 @@ impl<T> Arena<T> {
     {
         match self.freed.last() {
             None => Handle {
-                index: self.slots.len() as u16,
+                index: self.blocks.len() as u16,
                 generation: 1,
             },
             Some(freed) => {
                 let index = *freed;
-                let generation = self.slots[usize::from(index)].generation + 1;
+                let generation = self.blocks.generation(usize::from(index)) + 1;
                 Handle { index, generation }
             }
         }
@@ -115,10 +109,11 @@ impl<T> Arena<T> {
     pub fn get(&self, handle: Handle) -> Option<&T>
         ensures { option_copied result ≡ find self.now handle }
     {
-        match self.slots.get(usize::from(handle.index)) {
-            Some(slot) if slot.generation == handle.generation => slot.value.as_ref(),
-            _ => None,
+        let index = usize::from(handle.index);
+        if self.blocks.generation(index) != handle.generation {
+            return None;
         }
+        self.blocks.lend(index)
     }
 
     /// The value of this handle for writing, unless it is stale.
@@ -138,7 +133,7 @@ impl<T> Arena<T> {
         ensures* writes_back { sem 𝓛 (lends_live T.row self.entry handle result) }
         ensures value { find self.old handle ≡ Some result.now }
     {
-        self.slots[usize::from(handle.index)].value_mut()
+        self.blocks.lend_mut(usize::from(handle.index))
     }
 
     /// The live handle with the least index, or with the least one above that of `after`.
@@ -149,12 +144,11 @@ impl<T> Arena<T> {
             Some(handle) => usize::from(handle.index) + 1,
             None => 0,
         };
-        for index in start..self.slots.len() {
-            let slot = &self.slots[index];
-            if slot.value.is_some() {
+        for index in start..self.blocks.len() {
+            if self.blocks.is_filled(index) {
                 return Some(Handle {
                     index: index as u16,
-                    generation: slot.generation,
+                    generation: self.blocks.generation(index),
                 });
             }
         }
@@ -166,13 +160,14 @@ impl<T> Arena<T> {
         ensures found { IsHandleAt self.now index result }
         ensures sound { IsSound self.now }
     {
-        match self.slots.get(usize::from(index)) {
-            Some(slot) if slot.value.is_some() => Some(Handle {
-                index,
-                generation: slot.generation,
-            }),
-            _ => None,
+        let place = usize::from(index);
+        if !self.blocks.is_filled(place) {
+            return None;
         }
+        Some(Handle {
+            index,
+            generation: self.blocks.generation(place),
+        })
     }
 
     /// Puts `value` under a handle that was never given before.
@@ -186,9 +181,9 @@ impl<T> Arena<T> {
         match self.freed.pop() {
             None => self.append(value),
             Some(index) => {
-                let slot = &mut self.slots[usize::from(index)];
-                slot.fill(value);
-                let generation = slot.generation;
+                let place = usize::from(index);
+                let generation = self.blocks.generation(place) + 1;
+                self.blocks.write(place, generation, value);
                 Ok(Handle { index, generation })
             }
         }
@@ -217,23 +212,21 @@ impl<T> Arena<T> {
     }
 
     // `insert` at the first index that was never given. It makes all room before it changes anything.
+    #[inline(never)]
     fn append(&mut self, value: T) -> Result<Handle, (T, Refusal)>
         requires { self.old.freed ≡ [] }
         ensures inserts { Inserts self.old value result self.new }
         ensures fresh { IfOk result (IsFresh self.old) }
         ensures sound { IsSound self.new }
     {
-        let index = self.slots.len();
+        let index = self.blocks.len();
         if index == ARENA_SLOTS {
             return Err((value, Refusal::ArenaFull));
         }
-        if self.freed.reserve(index + 1).is_err() || self.slots.reserve(1).is_err() {
+        if self.blocks.make_room(&mut self.freed).is_err() {
             return Err((value, Refusal::OutOfMemory));
         }
-        self.slots.push_reserved(Slot {
-            generation: 1,
-            value: Some(value),
-        });
+        self.blocks.push(value);
         Ok(Handle {
             index: index as u16,
             generation: 1,
@@ -249,7 +242,9 @@ impl<T> Arena<T> {
         if !self.is_live(handle) {
             return Err(Refusal::StaleHandle);
         }
-        let value = self.slots[usize::from(handle.index)].vacate();
+        let value = self
+            .blocks
+            .take_out(usize::from(handle.index), handle.generation);
         if handle.generation == LAST_GENERATION {
             self.retired += 1;
             return Ok(value);
@@ -267,13 +262,13 @@ impl<T> Arena<T> {
         ensures after { self.new ≡ taken_back self.old handle given }
         ensures sound { IsSound self.new }
     {
-        if usize::from(handle.index) == given {
-            return match self.slots.pop() {
-                Some(slot) => slot.into_value(),
-                None => unreachable!(),
-            };
+        let index = usize::from(handle.index);
+        if index == given {
+            return self.blocks.pop(index);
         }
-        let value = self.slots[usize::from(handle.index)].unfill();
+        let value = self
+            .blocks
+            .take_out(index, handle.generation.saturating_sub(1));
         self.freed.push_reserved(handle.index);
         value
     }
@@ -282,70 +277,5 @@ impl<T> Arena<T> {
         ensures { IsTrue result ↔ IsLive self.now handle }
     {
         self.get(handle).is_some()
-    }
-}
-
-impl<T> Slot<T> {
-    ghost use Rattle.ca_arena.specs.Lending.{lends_filled};
-
-    // Puts a value there, in the next generation.
-    fn fill(&mut self, value: T)
-        requires vacant { IsNone self.old.value }
-        requires lasting { self.old.generation < last_generation }
-        ensures { self.new ≡ record { generation = self.old.generation + 1; value = Some value } }
-    {
-        self.generation += 1;
-        match mem::replace(&mut self.value, Some(value)) {
-            None => {}
-            Some(_) => unreachable!(),
-        }
-    }
-
-    // The value for writing.
-    fn value_mut(&mut self) -> &mut T
-        requires { IsSome self.old.value }
-        ensures* writes_back { sem 𝓛 (lends_filled T.row self.entry result) }
-        ensures value { self.old.value ≡ Some result.now }
-    {
-        match &mut self.value {
-            Some(value) => value,
-            None => unreachable!(),
-        }
-    }
-
-    // Takes the value out.
-    fn vacate(&mut self) -> T
-        requires { IsSome self.old.value }
-        ensures value { self.old.value ≡ Some result }
-        ensures vacant { self.new ≡ record { generation = self.old.generation; value = None } }
-    {
-        match self.value.take() {
-            Some(value) => value,
-            None => unreachable!(),
-        }
-    }
-
-    // Takes the value out, as if the slot had not been filled.
-    fn unfill(&mut self) -> T
-        requires { IsSome self.old.value }
-        ensures value { self.old.value ≡ Some result }
-        ensures vacant { self.new
-            ≡ record { generation = self.old.generation - 1; value = None } }
-    {
-        let value = self.vacate();
-        self.generation = self.generation.saturating_sub(1);
-        value
-    }
-
-    // The value that is there.
-    fn into_value(self) -> T
-        requires { IsSome self.value }
-        ensures { self.value ≡ Some result }
-    {
-        let Slot { value, .. } = self;
-        match value {
-            Some(value) => value,
-            None => unreachable!(),
-        }
     }
 }

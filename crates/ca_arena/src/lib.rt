@@ -5,6 +5,9 @@
 #![tactic(auto)]
 
 mod arena;
+mod block;
+mod blocks;
+mod cells;
 mod handle;
 mod laws;
 
