@@ -212,7 +212,6 @@ impl<T> Arena<T> {
     }
 
     // `insert` at the first index that was never given. It makes all room before it changes anything.
-    #[inline(never)]
     fn append(&mut self, value: T) -> Result<Handle, (T, Refusal)>
         requires { self.old.freed ≡ [] }
         ensures inserts { Inserts self.old value result self.new }

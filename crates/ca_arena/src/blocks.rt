@@ -148,6 +148,7 @@ impl<T> Blocks<T> {
 
     // Makes a block where each place was given, and the room for its marks, and in `freed` for its indices. It makes all room before
     // it changes anything.
+    #[inline(never)]
     pub(crate) fn make_room(&mut self, freed: &mut Vec<u16>) -> Result<(), AllocError>
         requires { (freed.old.items ≡ []) × (self.old.room ≤ vec_capacity freed.old) }
         ensures places { self.new.places ≡ self.old.places }

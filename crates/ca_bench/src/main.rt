@@ -3,6 +3,7 @@
 #![tactic(auto)]
 
 mod board;
+mod arenas;
 mod records;
 
 use ca_dbr::{Meta, Value, read_value, write_value};
@@ -74,6 +75,8 @@ fn measured<R: Threads + Wait + Sync>(
         b"read-doubles" => reads(alloc, DOUBLE, &doubles(alloc, size)?, size, rounds),
         b"read-strings" => reads(alloc, STRING, &strings(alloc, size)?, size, rounds),
         b"copy" => copies(alloc, size as usize, rounds),
+        b"arena" => arenas::arenas(alloc, size, rounds),
+        b"slab" => arenas::slabs(alloc, size, rounds),
         b"parts" => parts(alloc, size as usize, rounds),
         b"puts" => records::puts(alloc, size, rounds),
         b"posts" => records::posts(alloc, size, rounds),
