@@ -34,7 +34,10 @@ fn refused_growth_changes_nothing(rt: HostRuntime) -> Result<(), Fail> {
             Ok(given) => given,
             Err(refused) => {
                 assert!(rt; refused == (index, Refusal::OutOfMemory));
-                assert!(rt; index % 64 == 0, "memory is asked for only where a block is made");
+                assert!(rt;
+                    index % 64 == 0,
+                    "memory is asked for only where a block is made"
+                );
                 assert!(rt; arena.len() == usize::from(index));
                 assert!(rt; arena.free_slots() == free);
                 for before in 0..index {
