@@ -28,6 +28,10 @@ use Rattle.ca_client.specs.Awaited.{FillsAll, StateView, completions, others}
 abbrev pub OnlyRecycled : CoreView → CoreView → Type 0
 OnlyRecycled v w = (w.board ≡ v.board) × (w.arms ≡ v.arms) × (w.fills ≡ v.fills) × (w.refused ≡ v.refused)
 
+-- a cell was armed after some recycles, or each is in use
+abbrev pub HasArmedOne : CoreView → Result Ticket Refusal → CoreView → Type 0
+HasArmedOne old result new = (mid : CoreView) × OnlyRecycled old mid × HasArmed mid result new
+
 -- what the core answers to a request, and leaves
 abbrev pub HasIssued : Client → Request → Result Handle Refusal → Client → Type 0
 HasIssued old (request.Read h data_type count) result new =

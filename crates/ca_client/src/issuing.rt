@@ -1,5 +1,5 @@
 ghost use Rattle.std.specs.Prelude.{◌≡◌};
-ghost use Rattle.ca_client.specs.Calls.{HasIssued, HasIssuedUnderLock, OnlyRecycled};
+ghost use Rattle.ca_client.specs.Calls.{HasArmedOne, HasIssued, HasIssuedUnderLock, OnlyRecycled};
 
 use crate::ask::Request;
 use crate::state::State;
@@ -25,8 +25,7 @@ pub fn issue_under_lock(
         seat,
         tickets,
     } = state;
-    recycle_all(board, seat);
-    let ticket = board.arm(seat)?;
+    let ticket = arm(board, seat)?;
     let handle = match issue(core, request) {
         Ok(handle) => handle,
         Err(refusal) => {
@@ -37,6 +36,18 @@ pub fn issue_under_lock(
     };
     tickets[usize::from(handle.index)] = ticket;
     Ok((handle, ticket))
+}
+
+// Arms a cell. Only if none is free are those freed whose tickets have ended.
+fn arm(board: &Board, seat: &mut CoreSeat) -> Result<Ticket, Refusal>
+    requires { seat.old.board ≡ board.now }
+    ensures { HasArmedOne seat.old result seat.new }
+{
+    if let Ok(ticket) = board.arm(seat) {
+        return Ok(ticket);
+    }
+    recycle_all(board, seat);
+    board.arm(seat)
 }
 
 // Makes the core's call.
