@@ -25,7 +25,7 @@ pub fn issue_under_lock(
         seat,
         tickets,
     } = state;
-    let ticket = arm(board, seat)?;
+    let ticket = arm_one(board, seat)?;
     let handle = match issue(core, request) {
         Ok(handle) => handle,
         Err(refusal) => {
@@ -39,15 +39,17 @@ pub fn issue_under_lock(
 }
 
 // Arms a cell. Only if none is free are those freed whose tickets have ended.
-fn arm(board: &Board, seat: &mut CoreSeat) -> Result<Ticket, Refusal>
+fn arm_one(board: &Board, seat: &mut CoreSeat) -> Result<Ticket, Refusal>
     requires { seat.old.board ≡ board.now }
     ensures { HasArmedOne seat.old result seat.new }
 {
-    if let Ok(ticket) = board.arm(seat) {
-        return Ok(ticket);
+    match board.arm(seat) {
+        Ok(ticket) => Ok(ticket),
+        Err(_) => {
+            recycle_all(board, seat);
+            board.arm(seat)
+        }
     }
-    recycle_all(board, seat);
-    board.arm(seat)
 }
 
 // Makes the core's call.

@@ -12,31 +12,35 @@ use Rattle.ca_client.proofs.issuing.issue_under_lock.Goals as goal
 pub invariant_of-state : goal.invariant_of-state
 invariant_of-state c =
     let s = c.state.inside in
-    subst (λ (v : CoreView). IsState s.core v (arc_value s.board) s.tickets.items) (sym c.in_err-ticket.ensures.1)
-    (state-recycled s.core s.seat c.recycle_all.new.seat (arc_value s.board) s.tickets.items c.state.invariant c.recycle_all.ensures)
+    let f = c.in_err-ticket.ensures in
+    subst (λ (v : CoreView). IsState s.core v (arc_value s.board) s.tickets.items) (sym f.2.1)
+    (state-recycled s.core s.seat f.0 (arc_value s.board) s.tickets.items c.state.invariant f.1)
 
 pub invariant_of-state-in-Err : goal.invariant_of-state-in-Err
 invariant_of-state-in-Err c =
     let s = c.state.inside in
-    let r = recycled_more c.arm.new.core c.arm.new.core c.recycle.new.core c.in_ok-ticket.ticket.cell c.recycle.result (refl, refl, refl, refl) c.recycle.ensures.freed c.recycle.ensures.kept in
+    let r = recycled_more c.arm_one.new.seat c.arm_one.new.seat c.recycle.new.core c.in_ok-ticket.ticket.cell c.recycle.result (refl, refl, refl, refl) c.recycle.ensures.freed c.recycle.ensures.kept in
+    let f = c.in_ok-ticket.ensures in
     subst (λ (x : Client). IsState x c.recycle.new.core (arc_value s.board) s.tickets.items) (sym (issued-refused s.core c.args.request.now c.in-Err.refusal c.issue.new.core c.in-Err.ensures))
-    (state-refused s.core s.seat c.recycle_all.new.seat c.arm.new.core c.recycle.new.core (arc_value s.board) s.tickets.items c.in_ok-ticket.ticket c.state.invariant c.recycle_all.ensures c.in_ok-ticket.ensures.0 r)
+    (state-refused s.core s.seat f.0 c.arm_one.new.seat c.recycle.new.core (arc_value s.board) s.tickets.items c.in_ok-ticket.ticket c.state.invariant f.1 f.2.0 r)
 
 pub returns-in-Err : goal.returns-in-Err
 returns-in-Err c =
-    let r = recycled_more c.arm.new.core c.arm.new.core c.recycle.new.core c.in_ok-ticket.ticket.cell c.recycle.result (refl, refl, refl, refl) c.recycle.ensures.freed c.recycle.ensures.kept in
+    let r = recycled_more c.arm_one.new.seat c.arm_one.new.seat c.recycle.new.core c.in_ok-ticket.ticket.cell c.recycle.result (refl, refl, refl, refl) c.recycle.ensures.freed c.recycle.ensures.kept in
+    let f = c.in_ok-ticket.ensures in
     subst (λ (v : StateView). HasIssuedUnderLock v c.args.caller.now c.args.request.now (Err c.in-Err.refusal) (record { core = c.issue.new.core; seat = c.recycle.new.core; tickets = c.state.inside.tickets.items }) c.give_up.new.caller) c.state.view_is (
       refl,
       issued-refused c.state.inside.core c.args.request.now c.in-Err.refusal c.issue.new.core c.in-Err.ensures,
       (
-        c.recycle_all.new.seat,
-        c.recycle_all.ensures,
-        inr (c.in_ok-ticket.ticket, c.arm.new.core, c.give_up.result, c.in_ok-ticket.ensures, c.in-Err.ensures, c.give_up.ensures, r),
+        f.0,
+        f.1,
+        inr (c.in_ok-ticket.ticket, c.arm_one.new.seat, c.give_up.result, f.2, c.in-Err.ensures, c.give_up.ensures, r),
       ),
     )
 
 pub invariant_of-state-2 : goal.invariant_of-state-2
 invariant_of-state-2 c =
     let s = c.state.inside in
-    subst (λ (n : ℕ). IsState c.issue.new.core c.arm.new.core (arc_value s.board) (slice_set s.tickets.items n c.in_ok-ticket.ticket)) (sym c.from.ensures)
-    (state-issued s.core s.seat c.recycle_all.new.seat c.arm.new.core (arc_value s.board) s.tickets.items c.in_ok-ticket.ticket c.args.request.now c.in-Ok.handle c.issue.new.core c.state.invariant c.recycle_all.ensures c.in_ok-ticket.ensures.0 c.in_ok-ticket.ensures.1.0 c.in_ok-ticket.ensures.2 c.in-Ok.ensures)
+    let f = c.in_ok-ticket.ensures in
+    subst (λ (n : ℕ). IsState c.issue.new.core c.arm_one.new.seat (arc_value s.board) (slice_set s.tickets.items n c.in_ok-ticket.ticket)) (sym c.from.ensures)
+    (state-issued s.core s.seat f.0 c.arm_one.new.seat (arc_value s.board) s.tickets.items c.in_ok-ticket.ticket c.args.request.now c.in-Ok.handle c.issue.new.core c.state.invariant f.1 f.2.0 f.2.1.0 f.2.2 c.in-Ok.ensures)
