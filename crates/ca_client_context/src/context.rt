@@ -177,7 +177,7 @@ impl<L: Listener> Context<L> {
 
     /// Waits for the outcome of a ticket, for at most so many turns of the thread of input and output.
     ///
-    /// A turn takes 10 ms if nothing comes, and less if bytes come or a thread calls: so it is no measure of time on a busy client.
+    /// A turn takes 10 ms if nothing comes, and less if messages come: so it is no measure of time on a busy client.
     pub fn wait<R: Wait>(
         &self,
         rt: &R,
@@ -186,6 +186,9 @@ impl<L: Listener> Context<L> {
         turns: u64,
     ) -> Option<Outcome> {
         for _ in 0..turns {
+            if let Some(outcome) = self.collect(caller, ticket) {
+                return Some(outcome);
+            }
             let seen = self.shared.turns(rt);
             if let Some(outcome) = self.collect(caller, ticket) {
                 return Some(outcome);

@@ -71,6 +71,8 @@ impl<N: Net + Drop, L: Listener> Work for Engine<N, L> {
             began,
         } = self;
         let mut busy = false;
+        // When those that wait were last told that a turn is over.
+        let mut passed = 0;
         for _ in rt.forever() {
             let wait = if busy { 0 } else { TURN };
             let _ = poll.poll(&mut events, Some(Duration::from_millis(wait)));
@@ -89,7 +91,11 @@ impl<N: Net + Drop, L: Listener> Work for Engine<N, L> {
             }
             drop(guard);
             tell_all(&mut ears, &mut told);
-            shared.pass(rt, ending);
+            // A turn that brought nothing ends no wait: it has sent what callers ask.
+            if busy || ending || now.saturating_sub(passed) >= TURN {
+                passed = now;
+                shared.pass(rt, ending);
+            }
             if ending {
                 break;
             }
@@ -105,7 +111,7 @@ pub(crate) fn moment<R: Clock>(rt: &R, start: &Instant) -> u64 {
     }
 }
 
-// One turn, under the lock. It says whether there may be more to do at once.
+// One turn, under the lock. It says whether messages came or circuits ended: then there may be more to do at once.
 fn turn<N: Net, L: Listener>(
     net: &N,
     locked: &mut Locked<L>,
@@ -119,9 +125,9 @@ fn turn<N: Net, L: Listener>(
 ) -> bool {
     ears.follow(&mut locked.changes);
     hear(&mut locked.desk, datagrams, now);
-    tick(&mut locked.desk, datagrams, links, now);
+    let ended = tick(&mut locked.desk, datagrams, links, now);
     connect(net, &mut locked.desk, poll, links, tries, now);
-    serve(&mut locked.desk, links, told)
+    serve(&mut locked.desk, links, told) || ended
 }
 
 // Search replies and beacons.
@@ -137,10 +143,10 @@ fn hear(desk: &mut Desk, datagrams: &UdpSocket, now: u64) {
     }
 }
 
-// A moment: its searches are sent, and circuits that were silent too long are let go.
-fn tick(desk: &mut Desk, datagrams: &UdpSocket, links: &mut Vec<Link>, now: u64) {
+// A moment: its searches are sent, and circuits that were silent too long are let go. It says whether there were any.
+fn tick(desk: &mut Desk, datagrams: &UdpSocket, links: &mut Vec<Link>, now: u64) -> bool {
     let Answer::Ticked(ticked) = desk.step(Ask::Tick(now)) else {
-        return;
+        return false;
     };
     let Ticked {
         datagrams: searches,
@@ -155,6 +161,7 @@ fn tick(desk: &mut Desk, datagrams: &UdpSocket, links: &mut Vec<Link>, now: u64)
     for index in 0..closings.len() {
         forget(links, closings[index].circuit);
     }
+    !closings.is_empty()
 }
 
 // Tells the listeners, in order.

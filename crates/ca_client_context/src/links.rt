@@ -156,7 +156,8 @@ fn reach<R: Net>(rt: &R, poll: &Poll, wanted: WantedCircuit) -> Option<Link> {
     })
 }
 
-// Moves the bytes of all circuits, and reads their messages. It says whether there may be more to do at once.
+// Moves the bytes of all circuits, and reads their messages. It says whether messages came or circuits ended: then there may be more to do at
+// once.
 pub(crate) fn serve(desk: &mut Desk, links: &mut Vec<Link>, told: &mut Vec<Told>) -> bool {
     let mut busy = false;
     for turn in 0..links.len() {
@@ -165,7 +166,10 @@ pub(crate) fn serve(desk: &mut Desk, links: &mut Vec<Link>, told: &mut Vec<Told>
         match serve_at(desk, links, index, told) {
             Served::Idle => {}
             Served::Busy => busy = true,
-            Served::Over => forget_at(links, index),
+            Served::Over => {
+                forget_at(links, index);
+                busy = true;
+            }
         }
     }
     busy

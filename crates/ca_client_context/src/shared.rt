@@ -13,7 +13,7 @@ pub(crate) struct Locked<L: Listener> {
     pub(crate) ending: bool,
 }
 
-// How often the thread of input and output went round, and whether it has ended.
+// How many turns of the thread of input and output are over, and whether it has ended.
 #[derive(Drop)]
 pub(crate) struct Gate {
     pub(crate) turns: u64,
