@@ -1,4 +1,5 @@
-/* Reads of TEMP by threads over libca: client_threads CALLERS READS WINDOW prints the microseconds that all reads took.
+/* Reads of TEMP by threads over libca: client_threads CALLERS READS WINDOW prints the microseconds that so many reads by each caller took, from
+ * when the channel was connected, with so many outstanding at each.
  *
  * One caller reads by ca_array_get and ca_pend_io. Several share a context, and each has a group of its own, by ca_sg_array_get and ca_sg_block,
  * since ca_pend_io waits for the reads of all threads. What libca exports is declared here: Debian's package of it has no headers. */
@@ -75,7 +76,7 @@ int main(int argc, char **argv)
     int callers = argc == 4 ? atoi(argv[1]) : 0;
     if (callers < 1 || callers > 64)
         return 2;
-    each = atol(argv[2]) / callers;
+    each = atol(argv[2]);
     window = atol(argv[3]);
     check(ca_context_create(callers > 1), "context");
     context = ca_current_context();

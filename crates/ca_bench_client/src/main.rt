@@ -1,5 +1,5 @@
-//! Reads by callers in threads, to be timed: `ca_bench_client read PORT CALLERS READS WINDOW` prints the microseconds that all reads took, and
-//! `ca_bench_client serve` prints the port for searches and serves TEMP for ever. Without words it does nothing.
+//! Reads by callers in threads, to be timed: `ca_bench_client PORT CALLERS READS WINDOW` prints the microseconds that so many reads of TEMP by each
+//! caller took, from when the channel was live, with so many outstanding at each. Without these words it does nothing.
 #![tactic(auto)]
 
 use ca_arena::Handle;
@@ -7,14 +7,11 @@ use ca_board::Ticket;
 use ca_client::Caller;
 use ca_client_context::{Context, Engine, Nobody, Setting, Work, start};
 use ca_client_core::Address;
-use ca_dbr::Value;
-use ca_records::Records;
-use ca_serve::{Device, Places, serve};
 use ca_text::Refusal;
 use std::alloc::Global;
 use std::env;
 use std::io::Write;
-use std::net::{Ipv4Addr, Net, SocketAddr, TcpListener, TcpStream, UdpSocket};
+use std::net::{Ipv4Addr, Net, TcpListener, TcpStream};
 use std::process::ExitCode;
 use std::sync::atomic::{AtomicU64, Ordering};
 use std::sync::{Arc, Wait};
@@ -24,15 +21,7 @@ use std::time::{Clock, Instant};
 /// Waits for at most so many turns.
 const TURNS: u64 = 1_000_000;
 
-/// A device that has nothing to do.
-#[derive(Clone, Copy, Drop)]
-struct Prompt;
-
-impl Device for Prompt {
-    fn process(&self, _record: &[u8], _value: &Value) {}
-}
-
-/// What is measured: at this port, by so many callers, so many reads in all, with so many outstanding at each caller.
+/// What is measured: at this port, by so many callers, so many reads each, with so many outstanding at each.
 #[derive(Clone, Copy)]
 struct Course {
     port: u16,
@@ -71,17 +60,14 @@ fn run<
         + 'static,
     W: Write,
 >(rt: R, alloc: Global, words: &[String], out: &mut W) -> Result<(), Refusal> {
-    if words.is_empty() {
-        return Ok(());
-    }
     match course(words) {
         Some(course) => measure(rt, alloc, course, out),
-        None => supply(rt, alloc, out),
+        None => Ok(()),
     }
 }
 
 fn course(words: &[String]) -> Option<Course> {
-    let [_, port, callers, reads, window] = words else {
+    let [port, callers, reads, window] = words else {
         return None;
     };
     Some(Course {
@@ -173,7 +159,7 @@ fn timed<R: Threads + Wait + Clock + Copy + Send + 'static>(
     let Ok(took) = began.elapsed(&rt) else {
         return Err(Refusal::Device);
     };
-    if read.load(Ordering::SeqCst) != course.reads / course.callers.max(1) * course.callers {
+    if read.load(Ordering::SeqCst) != course.reads.saturating_mul(course.callers) {
         return Err(Refusal::Disconnected);
     }
     Ok(took.as_micros())
@@ -193,7 +179,7 @@ fn start_all<R: Threads + Wait + Clock + Copy + Send + 'static>(
             alloc,
             context: Arc::try_clone(context)?,
             channel,
-            reads: course.reads / course.callers.max(1),
+            reads: course.reads,
             window: course.window,
             read: Arc::try_clone(read)?,
         };
@@ -250,55 +236,4 @@ fn collect_all<R: Wait>(
     }
     tickets.clear();
     Ok(())
-}
-
-fn supply<
-    R: Threads
-        + Wait
-        + Clock
-        + Net<Stream = TcpStream, Listener = TcpListener>
-        + Copy
-        + Drop
-        + Send
-        + 'static,
-    W: Write,
->(rt: R, alloc: Global, out: &mut W) -> Result<(), Refusal> {
-    let records = records(alloc)?;
-    let (places, port) = bound(&rt)?;
-    if writeln!(out, "{port}").is_err() {
-        return Err(Refusal::Device);
-    }
-    serve(rt, alloc, places, &records, Vec::new(alloc), Prompt, None)?;
-    Ok(())
-}
-
-fn records(alloc: Global) -> Result<Records, Refusal> {
-    let mut records = Records::new(alloc);
-    if !records.has(b"TEMP") {
-        records.define(b"TEMP", 1, false, Value::Longs(vec![in alloc; 21]?))?;
-    }
-    Ok(records)
-}
-
-fn bound<R: Net<Stream = TcpStream, Listener = TcpListener>>(
-    rt: &R,
-) -> Result<(Places, u16), Refusal> {
-    let any = SocketAddr::from((Ipv4Addr::LOCALHOST, 0));
-    let Ok(listener) = TcpListener::bind(rt, any) else {
-        return Err(Refusal::Device);
-    };
-    let Ok(local) = listener.local_addr() else {
-        return Err(Refusal::Device);
-    };
-    let Ok(datagrams) = UdpSocket::bind(rt, local) else {
-        return Err(Refusal::Device);
-    };
-    Ok((
-        Places {
-            listener,
-            datagrams,
-            beacons: SocketAddr::from((Ipv4Addr::LOCALHOST, 5065)),
-        },
-        local.port(),
-    ))
 }

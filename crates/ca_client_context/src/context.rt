@@ -71,11 +71,15 @@ impl<L: Listener> Context<L> {
         self.shared.locked.lock(rt).desk.caller()
     }
 
-    /// The outcome of a ticket, if it is there. It waits for nobody.
+    /// The outcome of a ticket, if it is there. It waits for nobody. If it is not there, requests that wait to be sent go out.
     pub fn collect(&self, caller: &mut Caller, ticket: Ticket) -> Option<Outcome>
         ensures { HasCollected caller.old ticket result caller.new }
     {
-        caller.collect(ticket)
+        let outcome = caller.collect(ticket);
+        if outcome.is_none() {
+            self.shared.flush();
+        }
+        outcome
     }
 
     /// Ends a ticket: its outcome, if that was there already. It waits for nobody.
@@ -99,6 +103,8 @@ impl<L: Listener> Context<L> {
     }
 
     /// Asks for the value of a channel. Refused as NoCell if too many requests are in flight, and then as `ClientCore::read`.
+    ///
+    /// Requests go out once a caller looks for an outcome, and 10 ms later at the latest: so many that are made at once share a few writes.
     pub fn get<R: Wait>(
         &self,
         rt: &R,
@@ -122,7 +128,7 @@ impl<L: Listener> Context<L> {
 
     fn issue<R: Wait>(&self, rt: &R, request: &Request) -> Result<Ticket, Refusal> {
         let issued = self.shared.locked.lock(rt).desk.issue(request);
-        self.wake();
+        self.shared.ask();
         let (_, ticket) = issued?;
         Ok(ticket)
     }

@@ -31,6 +31,8 @@ pub(crate) struct Shared<L: Listener> {
     pub(crate) waker: Waker,
     // 1 if the thread of input and output may be waiting, and was not woken since.
     asleep: AtomicU64,
+    // 1 if requests were made for which it was not woken, and which it may not have sent.
+    asked: AtomicU64,
 }
 
 impl<L: Listener> Shared<L> {
@@ -45,12 +47,26 @@ impl<L: Listener> Shared<L> {
             moved: Condvar::new(),
             waker,
             asleep: AtomicU64::new(0),
+            asked: AtomicU64::new(0),
         }
     }
 
     // The thread of input and output is about to wait. It says so while it has the lock, so that whoever has it next wakes it.
     pub(crate) fn doze(&self) {
+        self.asked.store(0, Ordering::SeqCst);
         self.asleep.store(1, Ordering::SeqCst);
+    }
+
+    // A request was made, which goes out with the next turn.
+    pub(crate) fn ask(&self) {
+        self.asked.store(1, Ordering::SeqCst);
+    }
+
+    // Has the requests go out at once: somebody looks for an outcome.
+    pub(crate) fn flush(&self) {
+        if self.asked.swap(0, Ordering::SeqCst) == 1 {
+            self.wake();
+        }
     }
 
     // Ends its wait, once for all that was changed under the lock meanwhile.
