@@ -1,5 +1,5 @@
-/* Counts the allocations of each thread, if it is preloaded: at the end of the thread's program, that is when the program first writes to its standard
- * output, it prints a line for each thread to standard error, in the order of their first calls: mallocs (with reallocs), and frees. */
+/* Counts the allocations of each thread, if it is preloaded. When the program first writes to its standard output, which is at its end, a line for each
+ * thread goes to standard error, in the order of their first calls: mallocs, with reallocs, and frees. */
 #define _GNU_SOURCE
 #include <stdio.h>
 #include <stdlib.h>
@@ -16,7 +16,7 @@ extern void __libc_free(void *old);
 static struct {
     long mallocs, frees;
 } counts[MOST];
-static int used;
+static int used, told;
 static __thread int mine = -1;
 
 static int place(void)
@@ -56,7 +56,7 @@ void free(void *old)
 
 ssize_t write(int file, const void *bytes, size_t count)
 {
-    if (file == 1)
+    if (file == 1 && !__sync_fetch_and_add(&told, 1))
         for (int i = 0; i < used && i < MOST; i++)
             fprintf(stderr, "%ld %ld\n", counts[i].mallocs, counts[i].frees);
     return syscall(SYS_write, file, bytes, count);

@@ -1,7 +1,13 @@
 //! A client whose callers are four threads, against a server in the same process. All 1,024 tickets are outstanding at once, 256 for each caller: one
 //! request more is refused, and each caller collects the outcomes of its own tickets, once. What came of it is `stdout`.
+//!
+//! With the words PORT CALLERS READS WINDOW it prints instead the microseconds that so many reads of TEMP by each caller took, with so many outstanding
+//! at each, from when the channel was live.
 #![tactic(auto)]
 
+mod timing;
+
+use crate::timing::{course, measure};
 use ca_arena::Handle;
 use ca_board::Ticket;
 use ca_client::Caller;
@@ -17,9 +23,9 @@ use std::net::{Ipv4Addr, Net, SocketAddr, TcpListener, TcpStream, UdpSocket};
 use std::process::ExitCode;
 use std::sync::atomic::{AtomicU64, Ordering};
 use std::sync::{Arc, Wait};
-use std::thread;
 use std::thread::{JoinHandle, Threads};
 use std::time::Clock;
+use std::{env, thread};
 
 /// Waits for at most so many turns, which is long on an idle machine.
 const TURNS: u64 = 100_000;
@@ -37,9 +43,23 @@ impl Device for Prompt {
 
 fn main(rt: HostRuntime) -> ExitCode {
     let mut out = rt.stdout();
-    match both_ends(rt, rt.alloc(), &mut out) {
+    let done = match words(&rt) {
+        Ok(words) => match course(words.as_slice()) {
+            Some(course) => measure(rt, rt.alloc(), course, &mut out),
+            None => both_ends(rt, rt.alloc(), &mut out),
+        },
+        Err(refusal) => Err(refusal),
+    };
+    match done {
         Ok(()) => ExitCode::SUCCESS,
         Err(_) => ExitCode::FAILURE,
+    }
+}
+
+fn words(rt: &HostRuntime) -> Result<Vec<String>, Refusal> {
+    match env::args(rt) {
+        Ok(words) => Ok(words.skip(1).collect(rt.alloc())?),
+        Err(_) => Err(Refusal::Device),
     }
 }
 

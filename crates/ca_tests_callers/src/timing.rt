@@ -1,18 +1,14 @@
-//! Reads by callers in threads, to be timed: `ca_bench_client PORT CALLERS READS WINDOW` prints the microseconds that so many reads of TEMP by each
-//! caller took, from when the channel was live, with so many outstanding at each. Without these words it does nothing.
-#![tactic(auto)]
-
+//! Reads by callers in threads, timed: what `bench/client_threads` runs.
+use crate::setting;
 use ca_arena::Handle;
 use ca_board::Ticket;
 use ca_client::Caller;
-use ca_client_context::{Context, Engine, Nobody, Setting, Work, start};
+use ca_client_context::{Context, Engine, Nobody, Work, start};
 use ca_client_core::Address;
 use ca_text::Refusal;
 use std::alloc::Global;
-use std::env;
 use std::io::Write;
 use std::net::{Ipv4Addr, Net, TcpListener, TcpStream};
-use std::process::ExitCode;
 use std::sync::atomic::{AtomicU64, Ordering};
 use std::sync::{Arc, Wait};
 use std::thread::{JoinHandle, Threads};
@@ -21,52 +17,17 @@ use std::time::{Clock, Instant};
 /// Waits for at most so many turns.
 const TURNS: u64 = 1_000_000;
 
-/// What is measured: at this port, by so many callers, so many reads each, with so many outstanding at each.
+/// What is measured: at this port, by so many callers, so many reads of TEMP each, with so many outstanding at each.
 #[derive(Clone, Copy)]
-struct Course {
+pub(crate) struct Course {
     port: u16,
     callers: u64,
     reads: u64,
     window: usize,
 }
 
-fn main(rt: HostRuntime) -> ExitCode {
-    let mut out = rt.stdout();
-    let done = match words(&rt) {
-        Ok(words) => run(rt, rt.alloc(), words.as_slice(), &mut out),
-        Err(refusal) => Err(refusal),
-    };
-    match done {
-        Ok(()) => ExitCode::SUCCESS,
-        Err(_) => ExitCode::FAILURE,
-    }
-}
-
-fn words(rt: &HostRuntime) -> Result<Vec<String>, Refusal> {
-    match env::args(rt) {
-        Ok(words) => Ok(words.skip(1).collect(rt.alloc())?),
-        Err(_) => Err(Refusal::Device),
-    }
-}
-
-fn run<
-    R: Threads
-        + Wait
-        + Clock
-        + Net<Stream = TcpStream, Listener = TcpListener>
-        + Copy
-        + Drop
-        + Send
-        + 'static,
-    W: Write,
->(rt: R, alloc: Global, words: &[String], out: &mut W) -> Result<(), Refusal> {
-    match course(words) {
-        Some(course) => measure(rt, alloc, course, out),
-        None => Ok(()),
-    }
-}
-
-fn course(words: &[String]) -> Option<Course> {
+/// What the words ask for, if they ask for it.
+pub(crate) fn course(words: &[String]) -> Option<Course> {
     let [port, callers, reads, window] = words else {
         return None;
     };
@@ -78,7 +39,8 @@ fn course(words: &[String]) -> Option<Course> {
     })
 }
 
-fn measure<
+/// Prints the microseconds that all reads took.
+pub(crate) fn measure<
     R: Threads
         + Wait
         + Clock
@@ -89,24 +51,14 @@ fn measure<
         + 'static,
     W: Write,
 >(rt: R, alloc: Global, course: Course, out: &mut W) -> Result<(), Refusal> {
-    let setting = setting(alloc, course.port)?;
+    let server = Address {
+        host: Ipv4Addr::LOCALHOST.to_bits(),
+        port: course.port,
+    };
+    let setting = setting(alloc, server)?;
     let (context, engine) = Context::new(rt, alloc, setting)?;
     let context = Arc::new(alloc, context)?;
     measure_beside(rt, alloc, &context, engine, course, out)
-}
-
-fn setting(alloc: Global, port: u16) -> Result<Setting, Refusal> {
-    let server = Address {
-        host: Ipv4Addr::LOCALHOST.to_bits(),
-        port,
-    };
-    Ok(Setting {
-        user: Vec::from_slice(alloc, b"ca")?,
-        host: Vec::from_slice(alloc, b"localhost")?,
-        servers: Vec::from_slice(alloc, &[server])?,
-        names: Vec::new(alloc),
-        repeater: None,
-    })
 }
 
 fn measure_beside<
@@ -175,7 +127,7 @@ fn start_all<R: Threads + Wait + Clock + Copy + Send + 'static>(
 ) -> Result<Vec<JoinHandle<()>>, Refusal> {
     let mut threads = Vec::new(alloc);
     for _ in 0..course.callers {
-        let part = Part {
+        let reader = Reader {
             alloc,
             context: Arc::try_clone(context)?,
             channel,
@@ -183,14 +135,14 @@ fn start_all<R: Threads + Wait + Clock + Copy + Send + 'static>(
             window: course.window,
             read: Arc::try_clone(read)?,
         };
-        threads.push(start(rt, part)?)?;
+        threads.push(start(rt, reader)?)?;
     }
     Ok(threads)
 }
 
-/// A caller's part of the reads.
+/// A caller, with its part of the reads.
 #[derive(Drop)]
-struct Part {
+struct Reader {
     alloc: Global,
     context: Arc<Context<Nobody>>,
     channel: Handle,
@@ -199,7 +151,7 @@ struct Part {
     read: Arc<AtomicU64>,
 }
 
-impl Work for Part {
+impl Work for Reader {
     fn run<R: Wait + Clock>(self, rt: &R) {
         let reads = self.reads;
         if read_all(rt, &self).is_ok() {
@@ -209,18 +161,18 @@ impl Work for Part {
 }
 
 // So many reads, of which a window's are outstanding at once.
-fn read_all<R: Wait>(rt: &R, part: &Part) -> Result<(), Refusal> {
-    let mut caller = part.context.caller(rt)?;
-    let mut tickets = Vec::new(part.alloc);
-    tickets.reserve(part.window)?;
-    for _ in 0..part.reads {
-        let ticket = part.context.get(rt, part.channel, 5, 1)?;
+fn read_all<R: Wait>(rt: &R, reader: &Reader) -> Result<(), Refusal> {
+    let mut caller = reader.context.caller(rt)?;
+    let mut tickets = Vec::new(reader.alloc);
+    tickets.reserve(reader.window)?;
+    for _ in 0..reader.reads {
+        let ticket = reader.context.get(rt, reader.channel, 5, 1)?;
         tickets.push(ticket)?;
-        if tickets.len() >= part.window {
-            collect_all(rt, &part.context, &mut caller, &mut tickets)?;
+        if tickets.len() >= reader.window {
+            collect_all(rt, &reader.context, &mut caller, &mut tickets)?;
         }
     }
-    collect_all(rt, &part.context, &mut caller, &mut tickets)
+    collect_all(rt, &reader.context, &mut caller, &mut tickets)
 }
 
 fn collect_all<R: Wait>(
