@@ -7,7 +7,7 @@
 
 mod timing;
 
-use crate::timing::{course, measure};
+use crate::timing::{measure, read_words};
 use ca_arena::Handle;
 use ca_board::Ticket;
 use ca_client::Caller;
@@ -44,7 +44,7 @@ impl Device for Prompt {
 fn main(rt: HostRuntime) -> ExitCode {
     let mut out = rt.stdout();
     let done = match words(&rt) {
-        Ok(words) => match course(words.as_slice()) {
+        Ok(words) => match read_words(words.as_slice()) {
             Some(course) => measure(rt, rt.alloc(), course, &mut out),
             None => both_ends(rt, rt.alloc(), &mut out),
         },

@@ -27,7 +27,7 @@ pub(crate) struct Course {
 }
 
 /// What the words ask for, if they ask for it.
-pub(crate) fn course(words: &[String]) -> Option<Course> {
+pub(crate) fn read_words(words: &[String]) -> Option<Course> {
     let [port, callers, reads, window] = words else {
         return None;
     };
