@@ -2,8 +2,8 @@
 //! queue is not used. Without words it does nothing.
 #![tactic(auto)]
 
-mod board;
 mod arenas;
+mod board;
 mod records;
 
 use ca_dbr::{Meta, Value, read_value, write_value};
