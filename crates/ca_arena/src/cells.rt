@@ -1,4 +1,5 @@
-//! The block, as Rust's `[MaybeUninit<T>]`: a row of places, each empty or holding a value.
+//! The block, as Rust's `[MaybeUninit<T>]`: a row of places, each empty or holding a value. It follows the kit's
+//! `circular_buffer` (BSD-3-Clause; its notice is in `LICENSE`).
 ghost use Rattle.std.specs.Prelude.{◌≡◌, ℕ, ◌<◌, List, Option, Some, None, length, replicate, get_or, slice_set, IfOk, ⊤};
 ghost use Rattle.std.specs.Borrow.{sem};
 ghost use Rattle.std.specs.Vec.Ownership.{FitsInBlock};
